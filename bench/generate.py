@@ -1,0 +1,134 @@
+#!/usr/bin/env python3
+"""Writes large inputs for `chrrep run` on standard output.
+
+    generate.py rules               a program text of 64 rules of full size, which have names of 10 bytes
+    generate.py names               a program text of rules of full size, which have names of 32 bytes
+    generate.py clauses             a program text of many short clauses
+    generate.py comments            a program text of a few rules and long comments
+    generate.py layout              a program text of a few rules and long layout
+    generate.py items               a program text with one clause of many items
+    generate.py symbols             a program text with one clause of many symbols (it is refused)
+    generate.py tells N [--show]    a program without rules, and N operations of one atom each
+    generate.py wide N [--show]     a program without rules, and N operations of 64 atoms each
+    generate.py minimum N           a program with one rule, N operations of one atom each, of which one atom stays, and a `show`
+    generate.py renames N           a program with one rule, N operations of one atom each, each of which takes a step, and a `show`
+    generate.py paths N             a program with one rule, N operations of one atom each, which all stay, and a `show`
+
+Each program text has at most 65,536 bytes, and nearly as many.
+"""
+
+import sys
+
+TEXT_LIMIT = 65536
+SYMBOL_LIMIT = 64
+RULE_LIMIT = 64
+FEW_RULES = ":- chr_constraint a/1, b/1.\na(X), a(X) <=> b(X).\nb(X) \\ b(Y) <=> X < Y | true.\n"
+
+
+def repeated(start, piece, end=""):
+    """As many copies of the piece between start and end as the limit of a text allows."""
+    room = TEXT_LIMIT - len(start) - len(end)
+    return start + piece * (room // len(piece)) + end
+
+
+def joined(start, pieces, end):
+    """As many of the pieces, joined by commas, between start and end as the limit of a text allows."""
+    taken = []
+    room = TEXT_LIMIT - len(start) - len(end)
+    for piece in pieces:
+        room -= len(piece) + 1
+        if room < 0:
+            break
+        taken.append(piece)
+    return start + ",".join(taken) + end
+
+
+def atom(name, terms):
+    return f"{name}({','.join(terms)})"
+
+
+def full_rule(label, heads, light, variables):
+    """A rule of four heads, eight comparisons and eight body atoms, all with four arguments."""
+    places = [atom(name, variables[4 * k:4 * k + 4]) for k, name in enumerate(heads)]
+    guard = ", ".join(f"{variables[2 * k]} =< {variables[2 * k + 1]}" for k in range(8))
+    body = ", ".join(atom(light, variables[k:k + 4]) for k in range(8))
+    return f"{label} @ {places[0]} \\ {', '.join(places[1:])} <=> {guard} | {body}.\n"
+
+
+def full_rules(length):
+    """As many rules of full size as the limits allow, with names and variables of so many bytes, and a comment to fill the text."""
+    symbols = [f"s{k}".ljust(length, "x") for k in range(SYMBOL_LIMIT)]
+    variables = [f"V{k}".ljust(length, "x") for k in range(16)]
+    text = ":- chr_constraint " + ", ".join(f"{name}/4" for name in symbols) + ".\n"
+    # the last symbol weighs 1 and the others 100, so that each rule lowers the weight
+    for name in symbols[:-1]:
+        text += f":- chr_weight {name}/4 = 100.\n"
+    for place in range(RULE_LIMIT):
+        # no rule has the light symbol in its heads
+        heads = [symbols[(place + k) % (SYMBOL_LIMIT - 1)] for k in range(4)]
+        rule = full_rule(f"r{place}".ljust(length, "x"), heads, symbols[-1], variables)
+        if len(text) + len(rule) > TEXT_LIMIT:
+            break
+        text += rule
+    return text + "%" * (TEXT_LIMIT - len(text))
+
+
+def tells(count, atoms):
+    yield ":- chr_constraint a/1.\n---\n"
+    for number in range(count):
+        told = ",".join(f'["a",{number * atoms + k}]' for k in range(atoms))
+        yield f'["tell",1,[1,{number}],[{told}]]\n'
+
+
+def with_rule(clauses, atom, count):
+    """A program, an operation for each number below the count, of the atom that it makes, and a `show`."""
+    yield clauses + "\n---\n"
+    for number in range(count):
+        yield f'["tell",1,[1,{number}],[{atom(number)}]]\n'
+    yield '["show",1]\n'
+
+
+RULED = {
+    "minimum": (
+        ":- chr_constraint min/1.\nm @ min(X) \\ min(Y) <=> X =< Y | true.",
+        lambda number: f'["min",{number * 7919 % 1000003}]',
+    ),
+    "renames": (
+        ":- chr_constraint a/1, b/1.\n:- chr_weight a/1 = 2.\na(X) <=> b(X).",
+        lambda number: f'["a",{number}]',
+    ),
+    "paths": (
+        ":- chr_constraint path/3.\npath(X,Y,D) \\ path(X,Y,E) <=> D =< E | true.",
+        lambda number: f'["path",{number},{number + 1},1]',
+    ),
+}
+
+TEXTS = {
+    "rules": lambda: full_rules(10),
+    "names": lambda: full_rules(32),
+    "clauses": lambda: repeated("", ":- use_module(library(chr)).\n"),
+    "comments": lambda: repeated(FEW_RULES, "% a comment. With stops, and more\n"),
+    "layout": lambda: repeated(FEW_RULES, " \t\r\n"),
+    "items": lambda: joined(":- chr_constraint a/0. a <=> ", iter(lambda: "true", None), ".\n"),
+    "symbols": lambda: joined(":- chr_constraint ", (f"s{k}/0" for k in range(TEXT_LIMIT)), ".\n"),
+}
+
+
+def main(words):
+    show = ["[\"show\",1]\n"] if words[-1:] == ["--show"] else []
+    words = words[:-1] if show else words
+    if len(words) == 1 and words[0] in TEXTS and not show:
+        sys.stdout.write(TEXTS[words[0]]())
+    elif len(words) == 2 and words[0] in ("tells", "wide") and words[1].isdigit():
+        sys.stdout.writelines(tells(int(words[1]), 1 if words[0] == "tells" else 64))
+        sys.stdout.writelines(show)
+    elif len(words) == 2 and words[0] in RULED and words[1].isdigit() and not show:
+        sys.stdout.writelines(with_rule(*RULED[words[0]], int(words[1])))
+    else:
+        sys.stderr.write(__doc__)
+        return 2
+    return 0
+
+
+if __name__ == "__main__":
+    sys.exit(main(sys.argv[1:]))

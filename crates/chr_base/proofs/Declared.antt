@@ -1,0 +1,277 @@
+-- The declarations as the symbol table has them.
+use Rattle.std.proofs.Common.{◌≡◌, ℕ, zero, suc, ◌+◌, ◌<◌, ◌≤◌, Bool, true, false, cond, List, [], ◌∷◌, ◌++◌, length, refl, sym, ap, ◌∙◌, arith, inl, inr, ◌⊎◌, length-append}
+use Rattle.std.specs.Prelude.{not, nat_lt, nat_le, nat_eq, position, Option, Some, None, ◌&&◌, ◌||◌, slice_get, IsTrue, Result, Ok, Err, OnOk, OnErr, option_map, IsSome}
+use Rattle.std.specs.Borrow.{Bor}
+use Rattle.std.specs.Map.Iter.{deref_pair}
+use Rattle.std.specs.List.{position_or_len, list_all, list_any}
+use Rattle.std.specs.Map.{keys_of}
+use mathlib.Core.Bool.{true≢false}
+use Rattle.std.specs.Str.{bytes_eq}
+use Rattle.std.proofs.lemmas.Bool.{eqb-true, eq-eqb}
+use Rattle.std.proofs.lemmas.List.Folds.{list_any-append}
+use Rattle.indexmap.specs.IndexMap.{insert_entry}
+use Rattle.std.proofs.lemmas.Slice.Eq.{bytes_eq-Decides}
+use Rattle.chr_base.specs.declared.rule.Rule.{Rule}
+use Rattle.chr_base.specs.declared.term.Pattern.{Pattern}
+use Rattle.std.proofs.lemmas.Bool.Decides.{nat_tests}
+use Rattle.chr_base.specs.declared.program.Symbol.{Symbol}
+use Rattle.chr_base.specs.ProgramTests.{Declaration, declared, declarations_in, declares, is_in_range, is_program, are_distinct, fits, takes, is_declared}
+
+pub length-declarations : (es : List (Symbol × ℕ)) → length (declarations_in es) ≡ length es
+length-declarations [] = refl
+length-declarations (e ∷ es) = ap suc (length-declarations es)
+
+pub length-keys : (es : List (Symbol × ℕ)) → length (keys_of es) ≡ length es
+length-keys [] = refl
+length-keys (e ∷ es) = ap suc (length-keys es)
+
+-- a key passes the table's test just where its declaration is that of the name and number of arguments
+abbrev pub SameTest : (Symbol → Bool) → List ℕ → ℕ → Type 0
+SameTest test name arity = (k : Symbol) → test k ≡ (bytes_eq name k.name.bytes && nat_eq arity k.arity)
+
+places : (test : Symbol → Bool) (name : List ℕ) (arity : ℕ) → SameTest test name arity → (es : List (Symbol × ℕ)) → position_or_len test (keys_of es) ≡ position_or_len (declares name arity) (declarations_in es)
+places test name arity same [] = refl
+places test name arity same (e ∷ es) = let h = same e.0 in let more = places test name arity same es in λ i. cond (not (h i)) (1 + more i) 0
+
+pub position-keys : (test : Symbol → Bool) (name : List ℕ) (arity : ℕ) → SameTest test name arity → (es : List (Symbol × ℕ)) → position test (keys_of es) ≡ position (declares name arity) (declarations_in es)
+position-keys test name arity same es =
+    let p = places test name arity same es in
+    let l : length (keys_of es) ≡ length (declarations_in es) = length-keys es ∙ sym (length-declarations es) in
+    λ i. cond (nat_lt (p i) (l i)) (Some (p i)) None
+
+-- ---- no declaration has a name or a number of arguments that is too long
+
+pub first_true : (a b : Bool) → (a && b) ≡ true → a ≡ true
+first_true true b h = refl
+first_true false b h = h
+
+pub second_true : (a b : Bool) → (a && b) ≡ true → b ≡ true
+second_true true b h = h
+second_true false b h = absurd (true≢false (sym h))
+
+pub both_true : (a b : Bool) → a ≡ true → b ≡ true → (a && b) ≡ true
+both_true true b h g = g
+both_true false b h g = absurd (true≢false (sym h))
+
+pub le_from : (a b : ℕ) → nat_le a b ≡ true → a ≤ b
+le_from a b h = grind (arith, nat_tests)
+
+pub to_le : (a b : ℕ) → a ≤ b → nat_le a b ≡ true
+to_le a b h = grind (arith, nat_tests)
+
+is_same_name : (xs ys : List ℕ) → bytes_eq xs ys ≡ true → xs ≡ ys
+is_same_name xs ys h = (bytes_eq-Decides xs ys).0 h
+
+name_fits : (d : Declaration) → is_in_range d ≡ true → (length d.name ≤ 32) × (d.arity ≤ 4)
+name_fits d h =
+    let a : (nat_le (length d.name) 32 && nat_le d.arity 4) ≡ true = first_true _ (nat_le 1 d.weight) (first_true _ (nat_le d.weight 1000000) h) in
+    (le_from _ _ (first_true _ (nat_le d.arity 4) a), le_from _ _ (second_true (nat_le (length d.name) 32) _ a))
+
+too_long : (name : List ℕ) (arity : ℕ) (d : Declaration) → is_in_range d ≡ true → (32 < length name) ⊎ (4 < arity) → declares name arity d ≡ false
+too_long name arity d r long = by (declares name arity d) refl
+  where
+    by : (b : Bool) → declares name arity d ≡ b → declares name arity d ≡ false
+    by false e = e
+    by true e =
+        let n : name ≡ d.name = is_same_name name d.name (first_true _ _ e) in
+        let a : arity ≡ d.arity = eqb-true arity d.arity (second_true (bytes_eq name d.name) _ e) in
+        let f = name_fits d r in
+        let l = ap length n in
+        absurd (elim long as (λ _. ⊥) [ inl h ↦ omega (arith, l, f, h) | inr h ↦ omega (arith, a, f, h) ])
+
+none_long : (name : List ℕ) (arity : ℕ) (ds : List Declaration) → list_all is_in_range ds ≡ true → (32 < length name) ⊎ (4 < arity) → position_or_len (declares name arity) ds ≡ length ds
+none_long name arity [] r long = refl
+none_long name arity (d ∷ ds) r long =
+    let e = too_long name arity d (first_true _ (list_all is_in_range ds) r) long in
+    let more = none_long name arity ds (second_true (is_in_range d) _ r) long in
+    rw e (omega (arith, more))
+
+no_place : (p : Declaration → Bool) (ds : List Declaration) → position_or_len p ds ≡ length ds → position p ds ≡ None
+no_place p ds h = let e : nat_lt (position_or_len p ds) (length ds) ≡ false = grind (arith, nat_tests) in rw e refl
+
+-- ---- what a program keeps, part by part
+
+pub record Keeps (ds : List Declaration) (rs : List Rule) : Type 0 where
+  pub symbols : length ds ≤ 64
+  pub rules : length rs ≤ 64
+  pub ranges : list_all is_in_range ds ≡ true
+  pub distinct : are_distinct ds ≡ true
+  pub fitting : list_all (fits ds) rs ≡ true
+
+pub kept_by : (ds : List Declaration) (rs : List Rule) → IsTrue (is_program ds rs) → Keeps ds rs
+kept_by ds rs h =
+    let a : (nat_le (length ds) 64 && nat_le (length rs) 64 && list_all is_in_range ds && are_distinct ds) ≡ true = first_true _ (list_all (fits ds) rs) h in
+    let b : (nat_le (length ds) 64 && nat_le (length rs) 64 && list_all is_in_range ds) ≡ true = first_true _ (are_distinct ds) a in
+    let c : (nat_le (length ds) 64 && nat_le (length rs) 64) ≡ true = first_true _ (list_all is_in_range ds) b in
+    record {
+      symbols = le_from _ _ (first_true _ (nat_le (length rs) 64) c);
+      rules = le_from _ _ (second_true (nat_le (length ds) 64) _ c);
+      ranges = second_true (nat_le (length ds) 64 && nat_le (length rs) 64) _ b;
+      distinct = second_true (nat_le (length ds) 64 && nat_le (length rs) 64 && list_all is_in_range ds) _ a;
+      fitting = second_true (nat_le (length ds) 64 && nat_le (length rs) 64 && list_all is_in_range ds && are_distinct ds) _ h;
+    }
+
+pub keep : (ds : List Declaration) (rs : List Rule) → Keeps ds rs → IsTrue (is_program ds rs)
+keep ds rs k =
+    both_true _ _ (both_true _ _ (both_true _ _ (both_true _ _ (to_le _ _ k.symbols) (to_le _ _ k.rules)) k.ranges) k.distinct) k.fitting
+
+pub not_declared_long : (ds : List Declaration) (rs : List Rule) (name : List ℕ) (arity : ℕ) → IsTrue (is_program ds rs) → (32 < length name) ⊎ (4 < arity) → position (declares name arity) ds ≡ None
+not_declared_long ds rs name arity h long = no_place _ ds (none_long name arity ds (kept_by ds rs h).ranges long)
+
+-- ---- one more rule
+
+list_all-push : {A : Type 0} (p : A → Bool) (xs : List A) (x : A) → list_all p xs ≡ true → p x ≡ true → list_all p (xs ++ x ∷ []) ≡ true
+list_all-push p [] x h g = both_true _ _ g refl
+list_all-push p (y ∷ ys) x h g = both_true _ _ (first_true (p y) (list_all p ys) h) (list_all-push p ys x (second_true (p y) _ h) g)
+
+pub rule_pushed : (ds : List Declaration) (rs qs : List Rule) (r : Rule) → qs ≡ rs ++ r ∷ [] → IsTrue (is_program ds rs) → length rs < 64 → IsTrue (fits ds r) → IsTrue (is_program ds qs)
+rule_pushed ds rs qs r e h l g =
+    let k = kept_by ds rs h in
+    let more : length qs ≤ 64 = let a = ap length e in let b = length-append rs (r ∷ []) in omega (arith, a, b, l) in
+    keep ds qs record { symbols = k.symbols; rules = more; ranges = k.ranges; distinct = k.distinct; fitting = rw e (list_all-push (fits ds) rs r k.fitting g) }
+
+-- ---- one more declaration
+
+takes_more : (ds : List Declaration) (d : Declaration) (i n : ℕ) → takes (slice_get ds i) n ≡ true → takes (slice_get (ds ++ d ∷ []) i) n ≡ true
+takes_more [] d i n h = absurd (true≢false (sym h))
+takes_more (c ∷ ds) d zero n h = h
+takes_more (c ∷ ds) d (suc i) n h = takes_more ds d i n h
+
+declared_more : (ds : List Declaration) (d : Declaration) (ps : List Pattern) → list_all (is_declared ds) ps ≡ true → list_all (is_declared (ds ++ d ∷ [])) ps ≡ true
+declared_more ds d [] h = refl
+declared_more ds d (p ∷ ps) h =
+    both_true _ _ (takes_more ds d p.symbol.0 _ (first_true (is_declared ds p) (list_all (is_declared ds) ps) h)) (declared_more ds d ps (second_true (is_declared ds p) _ h))
+
+fits_more : (ds : List Declaration) (d : Declaration) (rs : List Rule) → list_all (fits ds) rs ≡ true → list_all (fits (ds ++ d ∷ [])) rs ≡ true
+fits_more ds d [] h = refl
+fits_more ds d (r ∷ rs) h =
+    let one : fits ds r ≡ true = first_true _ (list_all (fits ds) rs) h in
+    let heads : (list_all (is_declared ds) r.kept.items && list_all (is_declared ds) r.removed.items) ≡ true = first_true _ (list_all (is_declared ds) r.body.items) one in
+    both_true _ _
+    (both_true _ _
+    (both_true _ _ (declared_more ds d r.kept.items (first_true _ (list_all (is_declared ds) r.removed.items) heads)) (declared_more ds d r.removed.items (second_true (list_all (is_declared ds) r.kept.items) _ heads)))
+    (declared_more ds d r.body.items (second_true (list_all (is_declared ds) r.kept.items && list_all (is_declared ds) r.removed.items) _ one)))
+    (fits_more ds d rs (second_true (fits ds r) _ h))
+
+-- not declared yet: nothing passes
+passes_none : (p : Declaration → Bool) (ds : List Declaration) → position p ds ≡ None → list_any p ds ≡ false
+passes_none p ds h = by (nat_lt (position_or_len p ds) (length ds)) refl h
+  where
+    search : (es : List Declaration) → length es ≤ position_or_len p es → list_any p es ≡ false
+    search [] l = refl
+    search (e ∷ es) l = at (p e) refl l (search es)
+      where
+        at : (b : Bool) → p e ≡ b → suc (length es) ≤ cond (not (p e)) (1 + position_or_len p es) 0 → (length es ≤ position_or_len p es → list_any p es ≡ false) → (p e || list_any p es) ≡ false
+        at true q l more = absurd (let m : suc (length es) ≤ 0 = rw q at l in omega (arith, m))
+        at false q l more = rw q (more (let m : suc (length es) ≤ 1 + position_or_len p es = rw q at l in omega (arith, m)))
+
+    by : (b : Bool) → nat_lt (position_or_len p ds) (length ds) ≡ b → cond (nat_lt (position_or_len p ds) (length ds)) (Some (position_or_len p ds)) None ≡ None → list_any p ds ≡ false
+    by true e h = absurd (let m : ◌≡◌ {A = Option ℕ} (Some (position_or_len p ds)) None = rw e at h in cc)
+    by false e h = search ds (grind (arith, nat_tests))
+
+-- a place that is found is one
+pub place_within : {A : Type 0} (p : A → Bool) (xs : List A) (i : ℕ) → position p xs ≡ Some i → i < length xs
+place_within p xs i h = by (nat_lt (position_or_len p xs) (length xs)) refl h
+  where
+    by : (b : Bool) → nat_lt (position_or_len p xs) (length xs) ≡ b → cond (nat_lt (position_or_len p xs) (length xs)) (Some (position_or_len p xs)) None ≡ Some i → i < length xs
+    by true e h = let m : ◌≡◌ {A = Option ℕ} (Some (position_or_len p xs)) (Some i) = rw e at h in let n : position_or_len p xs ≡ i = cc in let l : position_or_len p xs < length xs = grind (arith, nat_tests) in omega (arith, n, l)
+    by false e h = absurd (let m : ◌≡◌ {A = Option ℕ} None (Some i) = rw e at h in cc)
+
+pub key_within : (test : Symbol → Bool) (es : List (Symbol × ℕ)) (rs : List Rule) (i : ℕ) → IsTrue (is_program (declarations_in es) rs) → position test (keys_of es) ≡ Some i → i < 64
+key_within test es rs i h e =
+    let a = place_within test (keys_of es) i e in let b = length-keys es in let c = length-declarations es in let d = (kept_by _ rs h).symbols in omega (arith, a, b, c, d)
+
+-- the table with one more symbol
+pub declared_last : (test : Symbol → Symbol → Bool) (k : Symbol) (w : ℕ) → SameTest (test k) k.name.bytes k.arity → (es : List (Symbol × ℕ)) → list_any (declares k.name.bytes k.arity) (declarations_in es) ≡ false
+    → declarations_in (insert_entry test es k w) ≡ declarations_in es ++ declared (k, w) ∷ []
+declared_last test k w same [] h = refl
+declared_last test k w same (e ∷ es) h = by (declares k.name.bytes k.arity (declared e)) refl h (declared_last test k w same es)
+  where
+    by : (b : Bool) → declares k.name.bytes k.arity (declared e) ≡ b → (declares k.name.bytes k.arity (declared e) || list_any (declares k.name.bytes k.arity) (declarations_in es)) ≡ false
+        → (list_any (declares k.name.bytes k.arity) (declarations_in es) ≡ false → declarations_in (insert_entry test es k w) ≡ declarations_in es ++ declared (k, w) ∷ [])
+        → declarations_in (insert_entry test (e ∷ es) k w) ≡ declared e ∷ (declarations_in es ++ declared (k, w) ∷ [])
+    by true q h more = absurd (let m : true ≡ false = rw q at h in true≢false m)
+    by false q h more = let t : test k e.0 ≡ false = same e.0 ∙ q in rw t (ap (λ ds. declared e ∷ ds) (more (let m : list_any (declares k.name.bytes k.arity) (declarations_in es) ≡ false = rw q at h in m)))
+
+distinct_more : (ds : List Declaration) (d : Declaration) → are_distinct ds ≡ true → list_any (declares d.name d.arity) ds ≡ false → are_distinct (ds ++ d ∷ []) ≡ true
+distinct_more [] d h g = refl
+distinct_more (c ∷ ds) d h g =
+    both_true _ _ (apart (list_any (declares c.name c.arity) ds) refl (first_true _ (are_distinct ds) h)) (distinct_more ds d (second_true (not (list_any (declares c.name c.arity) ds)) _ h) (rest (declares d.name d.arity c) g))
+  where
+    rest : (b : Bool) → (b || list_any (declares d.name d.arity) ds) ≡ false → list_any (declares d.name d.arity) ds ≡ false
+    rest true g = absurd (true≢false g)
+    rest false g = g
+
+    turned : declares d.name d.arity c ≡ false → declares c.name c.arity d ≡ false
+    turned e = by (declares c.name c.arity d) refl
+      where
+        by : (b : Bool) → declares c.name c.arity d ≡ b → declares c.name c.arity d ≡ false
+        by false q = q
+        by true q =
+            let n : c.name ≡ d.name = is_same_name c.name d.name (first_true _ _ q) in
+            let a : c.arity ≡ d.arity = eqb-true c.arity d.arity (second_true (bytes_eq c.name d.name) _ q) in
+            absurd (true≢false (sym (both_true _ _ ((bytes_eq-Decides d.name c.name).1 (sym n)) (eq-eqb d.arity c.arity (sym a))) ∙ e))
+
+    front : (b : Bool) → (b || list_any (declares d.name d.arity) ds) ≡ false → b ≡ false
+    front true g = absurd (true≢false g)
+    front false g = refl
+
+    apart : (b : Bool) → list_any (declares c.name c.arity) ds ≡ b → not b ≡ true → not (list_any (declares c.name c.arity) (ds ++ d ∷ [])) ≡ true
+    apart true e q = absurd (true≢false (sym q))
+    apart false e q = rw (list_any-append (declares c.name c.arity) ds (d ∷ []), e, turned (front (declares d.name d.arity c) g)) refl
+
+pub symbol_pushed : (ds cs : List Declaration) (rs : List Rule) (d : Declaration) → cs ≡ ds ++ d ∷ [] → IsTrue (is_program ds rs) → length ds < 64 → is_in_range d ≡ true → position (declares d.name d.arity) ds ≡ None → IsTrue (is_program cs rs)
+symbol_pushed ds cs rs d e h l r new =
+    let k = kept_by ds rs h in
+    let most : length cs ≤ 64 = let a = ap length e in let b = length-append ds (d ∷ []) in omega (arith, a, b, l) in
+    keep cs rs record {
+      symbols = most;
+      rules = k.rules;
+      ranges = rw e (list_all-push is_in_range ds d k.ranges r);
+      distinct = rw e (distinct_more ds d k.distinct (passes_none _ ds new));
+      fitting = rw e (fits_more ds d rs k.fitting);
+    }
+
+pub new_in_range : (name : List ℕ) (arity : ℕ) → length name ≤ 32 → arity ≤ 4 → is_in_range record { name = name; arity = arity; weight = 1 } ≡ true
+new_in_range name arity l a = both_true _ _ (both_true _ _ (both_true _ _ (to_le _ _ l) (to_le _ _ a)) refl) refl
+
+pub not_declared : (ds : List Declaration) (name : List ℕ) (arity : ℕ) → position (declares name arity) ds ≡ None → list_any (declares name arity) ds ≡ false
+not_declared ds name arity h = passes_none _ ds h
+
+-- what adding a symbol leaves of the invariant, whether memory was there or not
+pub after_adding : {E : Type 0} (ds cs : List Declaration) (rs : List Rule) (name : List ℕ) (arity : ℕ) (n : List ℕ) (a : ℕ) (r : Result (Unit {0}) E) → n ≡ name → a ≡ arity
+    → OnOk r (cs ≡ ds ++ record { name = n; arity = a; weight = 1 } ∷ []) → OnErr r (cs ≡ ds)
+    → IsTrue (is_program ds rs) → length ds < 64 → length name ≤ 32 → arity ≤ 4 → position (declares name arity) ds ≡ None → IsTrue (is_program cs rs)
+after_adding ds cs rs name arity n a (Ok x) p q e f h l u v new =
+    symbol_pushed ds cs rs record { name = name; arity = arity; weight = 1 } (e ∙ (λ i. ds ++ record { name = p i; arity = q i; weight = 1 } ∷ [])) h l (new_in_range name arity u v) new
+after_adding ds cs rs name arity n a (Err x) p q e f h l u v new = rw f h
+
+pub slice_get-declarations : (es : List (Symbol × ℕ)) (i : ℕ) → slice_get (declarations_in es) i ≡ option_map declared (slice_get es i)
+slice_get-declarations [] i = refl
+slice_get-declarations (e ∷ es) zero = refl
+slice_get-declarations (e ∷ es) (suc i) = slice_get-declarations es i
+
+-- what the table has at a place is the declaration there
+pub found : (r : Option (Bor Symbol × Bor ℕ)) (es : List (Symbol × ℕ)) (i : ℕ) → option_map deref_pair r ≡ slice_get es i → option_map (λ p. declared (p.0.now, p.1.now)) r ≡ slice_get (declarations_in es) i
+found r es i h = by r ∙ ap (option_map declared) h ∙ sym (slice_get-declarations es i)
+  where
+    by : (r : Option (Bor Symbol × Bor ℕ)) → option_map (λ p. declared (p.0.now, p.1.now)) r ≡ option_map declared (option_map deref_pair r)
+    by None = refl
+    by (Some p) = refl
+
+pub is_there : {A B : Type 0} (f : A → B) (r : Option A) (xs : List B) (i : ℕ) → option_map f r ≡ slice_get xs i → i < length xs → IsSome r
+is_there f (Some x) xs i h l = refl
+is_there f None [] i h l = absurd (omega arith)
+is_there f None (x ∷ xs) zero h l = absurd (let m : ◌≡◌ {A = Option _} None (Some x) = h in cc)
+is_there f None (x ∷ xs) (suc i) h l = is_there f None xs i h (omega arith)
+
+pub takes_found : (o : Option (Bor Symbol × Bor ℕ)) (d : Option Declaration) (n : ℕ) → option_map (λ p. declared (p.0.now, p.1.now)) o ≡ d → takes (option_map (λ p. declared (p.0.now, p.1.now)) o) n ≡ takes d n
+takes_found o d n h = ap (λ x. takes x n) h
+
+-- what is declared has few arguments
+pub few_arguments : (ds : List Declaration) (rs : List Rule) (name : List ℕ) (n i : ℕ) → IsTrue (is_program ds rs) → Some i ≡ position (declares name n) ds → n ≤ 4
+few_arguments ds rs name n i h e = by (nat_le n 4) refl
+  where
+    by : (b : Bool) → nat_le n 4 ≡ b → n ≤ 4
+    by true q = le_from n 4 q
+    by false q = absurd (let m : ◌≡◌ {A = Option ℕ} (Some i) None = e ∙ not_declared_long ds rs name n h (inr (grind (arith, nat_tests))) in cc)

@@ -1,0 +1,13 @@
+pub mod Counts
+pub mod Subsequences
+pub mod SameAtoms
+pub mod SameRules
+pub mod SamePrograms
+pub mod Edits
+pub mod Places
+pub mod Firing
+pub mod Ordered
+pub mod Sorting
+pub mod Declared
+pub mod Weighing
+pub mod Printing

@@ -1,0 +1,168 @@
+-- The instance of a rule that given heads make: the valuation that they give the variables, and the laws that it is the only one.
+--     value_among ps as x        the value of x at its first place in the patterns ps, where the atoms `as` stand for them
+--     valuation ps as        that value for each variable (0 for one that has none)
+--     HasInstance r heads        some valuation makes the rule's heads these atoms, and its guard true
+--     fires r heads        the same as a test
+use Rattle.std.specs.Prelude.{◌≡◌, ℕ, ℤ, pos, Bool, true, false, ◌&&◌, ◌||◌, cond, List, [], ◌∷◌, map, nat_eq, Some, None, Option, length, ◌+◌, nat_lt, nat_le}
+use Rattle.std.specs.Option.{unwrap_or, option_or}
+use Rattle.std.specs.List.{list_any, list_all}
+use Rattle.std.proofs.Common.{refl, sym, ap, subst, ◌∙◌}
+use mathlib.Core.Bool.{true≢false}
+use Rattle.std.proofs.lemmas.Bool.{eqb-true, eq-eqb}
+use Rattle.std.specs.Ordering.{int_cmp, eq_by_cmp}
+use Rattle.std.specs.Cmp.{tied_itself}
+use Rattle.chr_base.specs.declared.atom.Atom.{Atom}
+use Rattle.chr_base.specs.declared.term.Term.{Term}
+use Rattle.chr_base.specs.declared.term.Term.TheVariants.{Variable, Constant}
+use Rattle.chr_base.specs.declared.term.Comparison.{Comparison}
+use Rattle.chr_base.specs.declared.term.Pattern.{Pattern}
+use Rattle.chr_base.specs.declared.rule.Rule.{Rule}
+use Rattle.chr_base.specs.Atoms.{atom_cmp, atom_total, same_is}
+use Rattle.chr_base.specs.RuleTests.{is_variable, occurs, is_known, is_closed, is_numbered}
+use Rattle.chr_base.specs.Rules.{Valuation, HasInstance, term_value, atom_at, atoms_at, guard_holds, heads_at, heads_of, compares}
+
+abbrev pub first_value : List Term → List ℤ → ℕ → Option ℤ
+first_value [] zs x = None
+first_value (t ∷ ts) [] x = None
+first_value (t ∷ ts) (z ∷ zs) x = cond (is_variable x t) (Some z) (first_value ts zs x)
+
+abbrev pub value_among : List Pattern → List Atom → ℕ → Option ℤ
+value_among [] as' x = None
+value_among (p ∷ ps) [] x = None
+value_among (p ∷ ps) (a ∷ as') x = option_or (first_value p.args.items a.args.items x) (value_among ps as' x)
+
+abbrev pub valuation : List Pattern → List Atom → Valuation
+valuation ps as' x = unwrap_or (value_among ps as' x) (pos 0)
+
+-- the patterns come out as these atoms, place by place
+abbrev pub agree : Valuation → List Pattern → List Atom → Bool
+agree v [] [] = true
+agree v [] (a ∷ as') = false
+agree v (p ∷ ps) [] = false
+agree v (p ∷ ps) (a ∷ as') = eq_by_cmp atom_cmp (atom_at v p) a && agree v ps as'
+
+abbrev pub fires : Rule → List Atom → Bool
+fires r heads = agree (valuation (heads_of r) heads) (heads_of r) heads && guard_holds (valuation (heads_of r) heads) r.guard.items
+
+-- two valuations agree on the variables of these patterns
+abbrev pub SameOn : List Pattern → Valuation → Valuation → Type 0
+SameOn ps v w = (x : ℕ) → occurs x ps ≡ true → v x ≡ w x
+
+both_true : (a b : Bool) → a ≡ true → b ≡ true → (a && b) ≡ true
+both_true true b h g = g
+both_true false b h g = absurd (true≢false (sym h))
+
+pub first_true : (a b : Bool) → (a && b) ≡ true → a ≡ true
+first_true true b h = refl
+first_true false b h = h
+
+pub second_true : (a b : Bool) → (a && b) ≡ true → b ≡ true
+second_true true b h = h
+second_true false b h = absurd (true≢false (sym h))
+
+pub same_value : (ps : List Pattern) (v w : Valuation) (t : Term) → SameOn ps v w → is_known ps t ≡ true → term_value v t ≡ term_value w t
+same_value ps v w (Variable x) h k = h x k
+same_value ps v w (Constant c) h k = refl
+
+same_values : (ps : List Pattern) (v w : Valuation) (ts : List Term) → SameOn ps v w → list_all (is_known ps) ts ≡ true → map (term_value v) ts ≡ map (term_value w) ts
+same_values ps v w [] h k = refl
+same_values ps v w (t ∷ ts) h k = λ i. same_value ps v w t h (first_true _ _ k) i ∷ same_values ps v w ts h (second_true _ _ k) i
+
+pub same_atoms : (ps qs : List Pattern) (v w : Valuation) → SameOn ps v w → list_all (λ p. list_all (is_known ps) p.args.items) qs ≡ true → atoms_at v qs ≡ atoms_at w qs
+same_atoms ps [] v w h k = refl
+same_atoms ps (q ∷ qs) v w h k = λ i. record { symbol = q.symbol; args = record { items = same_values ps v w q.args.items h (first_true _ _ k) i } } ∷ same_atoms ps qs v w h (second_true _ _ k) i
+
+pub same_guard : (ps : List Pattern) (v w : Valuation) (cs : List Comparison) → SameOn ps v w → list_all (λ c. is_known ps c.left && is_known ps c.right) cs ≡ true → guard_holds v cs ≡ guard_holds w cs
+same_guard ps v w [] h k = refl
+same_guard ps v w (c ∷ cs) h k =
+    let here : (is_known ps c.left && is_known ps c.right) ≡ true = first_true _ _ k in
+    let more : list_all (λ c. is_known ps c.left && is_known ps c.right) cs ≡ true = second_true (is_known ps c.left && is_known ps c.right) _ k in
+    let one = same_value ps v w c.left h (first_true _ _ here) in
+    let two = same_value ps v w c.right h (second_true (is_known ps c.left) _ here) in
+    let rest = same_guard ps v w cs h more in
+    λ i. compares c.cmp (int_cmp (one i) (two i)) && rest i
+
+-- the heads of an instance give each variable that stands in them its value
+first_value_at : (w : Valuation) (ts : List Term) (x : ℕ) → first_value ts (map (term_value w) ts) x ≡ cond (list_any (is_variable x) ts) (Some (w x)) None
+first_value_at w [] x = refl
+first_value_at w (Constant c ∷ ts) x = first_value_at w ts x
+first_value_at w (Variable y ∷ ts) x = by (nat_eq x y) refl (first_value_at w ts x)
+  where
+    by : (b : Bool) → nat_eq x y ≡ b → first_value ts (map (term_value w) ts) x ≡ cond (list_any (is_variable x) ts) (Some (w x)) None
+        → cond (nat_eq x y) (Some (w y)) (first_value ts (map (term_value w) ts) x) ≡ cond (nat_eq x y || list_any (is_variable x) ts) (Some (w x)) None
+    by true e more = rw e (ap (λ z. Some (w z)) (sym (eqb-true x y e)))
+    by false e more = rw e more
+
+value_at : (w : Valuation) (ps : List Pattern) (x : ℕ) → value_among ps (atoms_at w ps) x ≡ cond (occurs x ps) (Some (w x)) None
+value_at w [] x = refl
+value_at w (p ∷ ps) x = rw (first_value_at w p.args.items x) (by (list_any (is_variable x) p.args.items) (value_at w ps x))
+  where
+    by : (b : Bool) → value_among ps (atoms_at w ps) x ≡ cond (occurs x ps) (Some (w x)) None
+        → option_or (cond b (Some (w x)) None) (value_among ps (atoms_at w ps) x) ≡ cond (b || occurs x ps) (Some (w x)) None
+    by true more = refl
+    by false more = more
+
+pub valuation_at : (w : Valuation) (ps : List Pattern) → SameOn ps (valuation ps (atoms_at w ps)) w
+valuation_at w ps x o = ap (λ m. unwrap_or m (pos 0)) (value_at w ps x ∙ ap (λ b. cond b (Some (w x)) None) o)
+
+-- each variable of these patterns is known in them
+known_terms : (ps : List Pattern) (ts : List Term) → ((x : ℕ) → list_any (is_variable x) ts ≡ true → occurs x ps ≡ true) → list_all (is_known ps) ts ≡ true
+known_terms ps [] h = refl
+known_terms ps (Constant c ∷ ts) h = known_terms ps ts h
+known_terms ps (Variable y ∷ ts) h =
+    both_true _ _ (h y (let e : nat_eq y y ≡ true = eq-eqb y y refl in rw e refl)) (known_terms ps ts (λ x o. h x (later x o)))
+  where
+    later : (x : ℕ) → list_any (is_variable x) ts ≡ true → (nat_eq x y || list_any (is_variable x) ts) ≡ true
+    later x o = elim (nat_eq x y) as (λ b. (b || list_any (is_variable x) ts) ≡ true) [ true ↦ refl | false ↦ o ]
+
+known_among : (ps qs : List Pattern) → ((x : ℕ) → occurs x qs ≡ true → occurs x ps ≡ true) → list_all (λ p. list_all (is_known ps) p.args.items) qs ≡ true
+known_among ps [] h = refl
+known_among ps (q ∷ qs) h =
+    both_true _ _ (known_terms ps q.args.items (λ x o. h x (let e : list_any (is_variable x) q.args.items ≡ true = o in rw e refl)))
+    (known_among ps qs (λ x o. h x (elim (list_any (is_variable x) q.args.items) as (λ b. (b || occurs x qs) ≡ true) [ true ↦ refl | false ↦ o ])))
+
+pub known_itself : (ps : List Pattern) → list_all (λ p. list_all (is_known ps) p.args.items) ps ≡ true
+known_itself ps = known_among ps ps (λ x o. o)
+
+agree_sound : (v : Valuation) (ps : List Pattern) (as' : List Atom) → agree v ps as' ≡ true → atoms_at v ps ≡ as'
+agree_sound v [] [] h = refl
+agree_sound v [] (a ∷ as') h = absurd (true≢false (sym h))
+agree_sound v (p ∷ ps) [] h = absurd (true≢false (sym h))
+agree_sound v (p ∷ ps) (a ∷ as') h = λ i. same_is (atom_at v p) a (first_true _ _ h) i ∷ agree_sound v ps as' (second_true _ _ h) i
+
+agree_itself : (v : Valuation) (ps : List Pattern) → agree v ps (atoms_at v ps) ≡ true
+agree_itself v [] = refl
+agree_itself v (p ∷ ps) = both_true _ _ (by (atom_at v p)) (agree_itself v ps)
+  where
+    by : (a : Atom) → eq_by_cmp atom_cmp a a ≡ true
+    by a = rw (tied_itself atom_total a) refl
+
+pub fires_sound : (r : Rule) (heads : List Atom) → fires r heads ≡ true → HasInstance r heads
+fires_sound r heads h = (valuation (heads_of r) heads, agree_sound _ (heads_of r) heads (first_true _ _ h), second_true _ _ h)
+
+-- The valuation that the heads give is that of the instance, on the rule's variables.
+pub the_valuation : (r : Rule) (heads : List Atom) (w : Valuation) → heads_at w r ≡ heads → SameOn (heads_of r) (valuation (heads_of r) heads) w
+the_valuation r heads w e = subst (λ as'. SameOn (heads_of r) (valuation (heads_of r) as') w) e (valuation_at w (heads_of r))
+
+closed_rule : (r : Rule) → is_closed (heads_of r) r.guard.items r.body.items ≡ true
+closed_rule r =
+    let some : (nat_lt 0 (length r.removed.items) && nat_le (length r.kept.items + length r.removed.items) 4) && is_closed (heads_of r) r.guard.items r.body.items ≡ true = first_true _ (is_numbered (heads_of r)) r.well_formed in
+    second_true (nat_lt 0 (length r.removed.items) && nat_le (length r.kept.items + length r.removed.items) 4) _ some
+
+pub guard_known : (r : Rule) → list_all (λ c. is_known (heads_of r) c.left && is_known (heads_of r) c.right) r.guard.items ≡ true
+guard_known r = first_true _ (list_all (λ p. list_all (is_known (heads_of r)) p.args.items) r.body.items) (closed_rule r)
+
+pub body_known : (r : Rule) → list_all (λ p. list_all (is_known (heads_of r)) p.args.items) r.body.items ≡ true
+body_known r = second_true (list_all (λ c. is_known (heads_of r) c.left && is_known (heads_of r) c.right) r.guard.items) _ (closed_rule r)
+
+pub fires_complete : (r : Rule) (heads : List Atom) → HasInstance r heads → fires r heads ≡ true
+fires_complete r heads h =
+    let same = the_valuation r heads h.0 h.1 in
+    let heads_are : atoms_at (valuation (heads_of r) heads) (heads_of r) ≡ heads = same_atoms (heads_of r) (heads_of r) _ h.0 same (known_itself (heads_of r)) ∙ h.1 in
+    both_true (agree (valuation (heads_of r) heads) (heads_of r) heads) (guard_holds (valuation (heads_of r) heads) r.guard.items)
+    (subst (λ as'. agree (valuation (heads_of r) heads) (heads_of r) as' ≡ true) heads_are (agree_itself (valuation (heads_of r) heads) (heads_of r)))
+    (same_guard (heads_of r) _ h.0 r.guard.items same (guard_known r) ∙ h.2)
+
+-- the body is the same under each valuation that makes these heads
+pub body_is : (r : Rule) (heads : List Atom) (w : Valuation) → heads_at w r ≡ heads → atoms_at (valuation (heads_of r) heads) r.body.items ≡ atoms_at w r.body.items
+body_is r heads w e = same_atoms (heads_of r) r.body.items _ w (the_valuation r heads w e) (body_known r)

@@ -1,0 +1,14 @@
+pub mod FinBag
+pub mod Subsequences
+pub mod Places
+pub mod Rewriting
+pub mod Atoms
+pub mod Stores
+pub mod RuleTests
+pub mod Rules
+pub mod StepLaws
+pub mod Instances
+pub mod ProgramTests
+pub mod Programs
+pub mod Sameness
+pub mod Texts

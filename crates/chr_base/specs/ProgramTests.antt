@@ -1,0 +1,57 @@
+-- What every program keeps, as tests over its declarations and rules.
+--     Declaration        a declared symbol: its name as bytes, its number of arguments and its weight
+--     is_declared ds p        the pattern's symbol is declared with as many arguments
+--     fits ds r        each pattern of the rule is declared
+--     is_program ds rs        all that a program keeps
+use Rattle.std.specs.Prelude.{ℕ, zero, suc, Bool, true, false, not, ◌&&◌, nat_eq, nat_le, List, [], ◌∷◌, length, Option, Some, None, slice_get}
+use Rattle.std.specs.List.{list_all, list_any}
+use Rattle.std.specs.Str.{bytes_eq}
+use Rattle.chr_base.specs.declared.term.Pattern.{Pattern}
+use Rattle.chr_base.specs.declared.rule.Rule.{Rule}
+use Rattle.chr_base.specs.declared.program.Symbol.{Symbol}
+
+pub record Declaration : Type 0 where
+  pub name : List ℕ
+  pub arity : ℕ
+  pub weight : ℕ
+
+-- an entry of the symbol table as a declaration
+abbrev pub declared : Symbol × ℕ → Declaration
+declared e = record { name = e.0.name.bytes; arity = e.0.arity; weight = e.1 }
+
+abbrev pub declarations_in : List (Symbol × ℕ) → List Declaration
+declarations_in [] = []
+declarations_in (e ∷ es) = declared e ∷ declarations_in es
+
+-- the declarations, the one at place i with another weight
+abbrev pub with_weight : List Declaration → ℕ → ℕ → List Declaration
+with_weight [] i w = []
+with_weight (d ∷ ds) zero w = record d { weight = w } ∷ ds
+with_weight (d ∷ ds) (suc i) w = d ∷ with_weight ds i w
+
+-- the declaration is that of this name and number of arguments
+abbrev pub declares : List ℕ → ℕ → Declaration → Bool
+declares name arity d = bytes_eq name d.name && nat_eq arity d.arity
+
+-- the symbol at this place takes that many arguments
+abbrev pub takes : Option Declaration → ℕ → Bool
+takes None n = false
+takes (Some d) n = nat_eq d.arity n
+
+abbrev pub is_declared : List Declaration → Pattern → Bool
+is_declared ds p = takes (slice_get ds p.symbol.0) (length p.args.items)
+
+abbrev pub fits : List Declaration → Rule → Bool
+fits ds r = list_all (is_declared ds) r.kept.items && list_all (is_declared ds) r.removed.items && list_all (is_declared ds) r.body.items
+
+-- no two declarations are of one name and number of arguments
+abbrev pub are_distinct : List Declaration → Bool
+are_distinct [] = true
+are_distinct (d ∷ ds) = not (list_any (declares d.name d.arity) ds) && are_distinct ds
+
+abbrev pub is_in_range : Declaration → Bool
+is_in_range d = nat_le (length d.name) 32 && nat_le d.arity 4 && nat_le 1 d.weight && nat_le d.weight 1000000
+
+abbrev pub is_program : List Declaration → List Rule → Bool
+is_program ds rs =
+    nat_le (length ds) 64 && nat_le (length rs) 64 && list_all is_in_range ds && are_distinct ds && list_all (fits ds) rs

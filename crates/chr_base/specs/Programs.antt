@@ -1,0 +1,21 @@
+-- What a program is seen as.
+--     declarations p, rules_of p        its declarations and its rules, each in order
+--     declares_atom ds a        the atom's symbol is declared with that many arguments
+--     atom_in ds name zs        the atom of this name with these arguments, where it is declared
+use Rattle.std.specs.Prelude.{ℤ, ℕ, Bool, List, length, slice_get, position, Option, option_map}
+use Rattle.chr_base.specs.declared.atom.Atom.{Atom}
+use Rattle.chr_base.specs.declared.rule.Rule.{Rule}
+use Rattle.chr_base.specs.declared.program.Program.{Program}
+use Rattle.chr_base.specs.ProgramTests.{Declaration, declarations_in, takes, declares}
+
+abbrev pub declarations : Program → List Declaration
+declarations p = declarations_in p.symbols.entries
+
+abbrev pub rules_of : Program → List Rule
+rules_of p = p.rules.items
+
+abbrev pub declares_atom : List Declaration → Atom → Bool
+declares_atom ds a = takes (slice_get ds a.symbol.0) (length a.args.items)
+
+abbrev pub atom_in : List Declaration → List ℕ → List ℤ → Option Atom
+atom_in ds name zs = option_map (λ i. record { symbol = record { 0 = i }; args = record { items = zs } }) (position (declares name (length zs)) ds)

@@ -1,0 +1,46 @@
+-- What every rule keeps, as tests over its parts.
+--     occurs x ps        the variable x stands in one of the patterns
+--     is_closed        each variable of guard and body stands in a head
+--     is_numbered        the variables of the heads are 1, 2, .. by first occurrence
+--     is_rule        these, and 1 to 4 heads of which one at least is removed
+use Rattle.std.specs.Prelude.{ℕ, ◌+◌, Bool, true, false, ◌&&◌, cond, nat_eq, nat_le, nat_lt, List, [], ◌∷◌, ◌++◌, length, Option, Some, None, is_some}
+use Rattle.std.specs.List.{list_all, list_any}
+use Rattle.chr_base.specs.declared.term.Term.{Term}
+use Rattle.chr_base.specs.declared.term.Term.TheVariants.{Variable, Constant}
+use Rattle.chr_base.specs.declared.term.Comparison.{Comparison}
+use Rattle.chr_base.specs.declared.term.Pattern.{Pattern}
+
+abbrev pub is_variable : ℕ → Term → Bool
+is_variable x (Variable y) = nat_eq x y
+is_variable x (Constant c) = false
+
+-- the variable stands in one of these patterns
+abbrev pub occurs : ℕ → List Pattern → Bool
+occurs x ps = list_any (λ p. list_any (is_variable x) p.args.items) ps
+
+-- a constant, or a variable of the heads
+abbrev pub is_known : List Pattern → Term → Bool
+is_known heads (Variable x) = occurs x heads
+is_known heads (Constant c) = true
+
+abbrev pub is_closed : List Pattern → List Comparison → List Pattern → Bool
+is_closed heads guard body =
+    list_all (λ c. is_known heads c.left && is_known heads c.right) guard && list_all (λ p. list_all (is_known heads) p.args.items) body
+
+-- all terms of these patterns, in their order
+abbrev pub terms_of : List Pattern → List Term
+terms_of [] = []
+terms_of (p ∷ ps) = p.args.items ++ terms_of ps
+
+-- the number of variables, where each is at most one more than those before it
+abbrev pub numbered : ℕ → List Term → Option ℕ
+numbered n [] = Some n
+numbered n (Constant c ∷ ts) = numbered n ts
+numbered n (Variable x ∷ ts) = cond (nat_eq x (n + 1)) (numbered (n + 1) ts) (cond (nat_lt 0 x && nat_le x n) (numbered n ts) None)
+
+abbrev pub is_numbered : List Pattern → Bool
+is_numbered heads = is_some (numbered 0 (terms_of heads))
+
+abbrev pub is_rule : List Pattern → List Pattern → List Comparison → List Pattern → Bool
+is_rule kept removed guard body =
+    nat_lt 0 (length removed) && nat_le (length kept + length removed) 4 && is_closed (kept ++ removed) guard body && is_numbered (kept ++ removed)

@@ -1,0 +1,47 @@
+//! Symbols and atoms.
+ghost use Rattle.std.specs.Prelude.{◌≡◌};
+ghost use Rattle.std.specs.Ordering.{eq_by_cmp, is_gt};
+ghost use Rattle.chr_base.specs.Atoms.{atom_cmp};
+
+use arrayvec::ArrayVec;
+
+/// A symbol of a program: its place, from 0, in the order of declaration.
+#[derive(Clone, Copy, Debug, Default, PartialEq, Eq, PartialOrd, Ord)]
+pub struct SymbolId(pub u16);
+
+/// A ground atom: a symbol applied to values. Atoms are ordered by symbol, and then by their arguments, the first first.
+#[derive(Clone, Debug, Default, PartialEq, Eq, PartialOrd, Ord, Drop)]
+pub struct Atom {
+    pub symbol: SymbolId,
+    pub args: ArrayVec<i64, 4>,
+}
+
+impl Atom {
+    /// Whether this atom comes after the other.
+    pub fn is_after(&self, other: &Atom) -> bool
+        ensures { result ≡ is_gt (atom_cmp self.now other.now) }
+    {
+        self.cmp(other).is_gt()
+    }
+
+    /// Whether the two are one atom.
+    pub fn is_same(&self, other: &Atom) -> bool
+        ensures { result ≡ eq_by_cmp atom_cmp self.now other.now }
+    {
+        self.cmp(other).is_eq()
+    }
+
+    /// An equal atom. It takes no memory.
+    pub fn copy(&self) -> Atom
+        ensures { result ≡ self.now }
+    {
+        let mut args = ArrayVec::new();
+        for value in self.args.as_slice() {
+            args.push(*value);
+        }
+        Atom {
+            symbol: self.symbol,
+            args,
+        }
+    }
+}

@@ -1,0 +1,17 @@
+//! Terms, atoms, rules, programs and multisets of atoms of Constraint Handling Rules.
+#![tactic(auto)]
+
+pub mod atom;
+pub mod bag;
+pub mod derivation;
+mod matching;
+pub mod program;
+pub mod rule;
+pub mod term;
+pub mod text;
+
+/// A value: a signed 64-bit whole number.
+pub type Value = i64;
+
+#[cfg(test)]
+mod tests;

@@ -1,0 +1,252 @@
+//! Programs: declared symbols with their weights, and rules.
+ghost use Rattle.std.specs.Prelude.{◌≡◌, ◌≤◌, ◌++◌, [], ◌∷◌, IsTrue, None, OnOk, OnErr, position, length};
+ghost use Rattle.chr_base.specs.ProgramTests.{declarations_in, declares, is_program, with_weight};
+
+use crate::atom::{Atom, SymbolId};
+use crate::rule::Rule;
+use arrayvec::{ArrayString, ArrayVec};
+use indexmap::IndexMap;
+use std::alloc::{AllocError, AllocFailed, Global};
+
+/// A name with a number of arguments.
+#[derive(Clone, Debug, PartialEq, Eq, Hash, Drop)]
+struct Symbol {
+    name: ArrayString<32>,
+    arity: u8,
+}
+
+/// The greatest number of declared symbols, and of rules.
+pub const MOST: usize = 64;
+
+/// The weight of a symbol for which none is declared.
+pub const DEFAULT_WEIGHT: u32 = 1;
+
+/// A program: its declared symbols in order, each with its weight, and its rules in order.
+///
+/// It has at most 64 symbols, no two of one name and arity, each of at most 4 arguments and with a weight from 1 to
+/// 1,000,000; and at most 64 rules, each atom of which is declared with as many arguments.
+#[derive(Drop)]
+pub struct Program {
+    symbols: IndexMap<Symbol, u32>,
+    rules: Vec<Rule>,
+    ghost well_formed: { IsTrue (is_program (declarations_in symbols.entries) rules.items) },
+}
+
+impl Symbol {
+    ghost use Rattle.std.specs.Prelude.{◌≡◌, ◌<◌, ◌≤◌, ◌⊎◌, IfSome, IfNone, length};
+
+    /// The symbol of a name and a number of arguments that can be declared.
+    fn of(name: &str, arity: usize) -> Symbol
+        requires name { length name.now ≤ 32 }
+        requires arity { arity ≤ 4 }
+        ensures name { result.name.bytes ≡ name.now }
+        ensures arity { result.arity ≡ arity }
+    {
+        let mut bytes = ArrayString::new();
+        bytes.push_str(name);
+        Symbol {
+            name: bytes,
+            arity: arity as u8,
+        }
+    }
+
+    /// None where the name or the number of arguments is greater than any that can be declared.
+    fn new(name: &str, arity: usize) -> Option<Symbol>
+        ensures name { IfSome result (λ s. s.name.bytes ≡ name.now) }
+        ensures arity { IfSome result (λ s. s.arity ≡ arity) }
+        ensures none { IfNone result ((32 < length name.now) ⊎ (4 < arity)) }
+    {
+        let arity = u8::try_from(arity).ok()?;
+        let name = ArrayString::from(name).ok()?;
+        Some(Symbol { name, arity })
+    }
+}
+
+/// The values in an array.
+fn array_of(values: &[i64]) -> ArrayVec<i64, 4>
+    requires { length values.now ≤ 4 }
+    ensures { result.items ≡ values.now }
+{
+    let mut array = ArrayVec::new();
+    for value in values {
+        array.push(*value);
+    }
+    array
+}
+
+/// Puts a new symbol last, with the default weight.
+fn add_symbol(symbols: &mut IndexMap<Symbol, u32>, symbol: Symbol) -> Result<(), AllocError>
+    requires new { position (declares symbol.name.bytes symbol.arity) (declarations_in symbols.old.entries) ≡ None }
+    ensures ok { OnOk result (declarations_in symbols.new.entries ≡ declarations_in symbols.old.entries ++ record { name = symbol.name.bytes; arity = symbol.arity; weight = 1 } ∷ []) }
+    ensures err { OnErr result (declarations_in symbols.new.entries ≡ declarations_in symbols.old.entries) }
+{
+    symbols.insert(symbol, DEFAULT_WEIGHT)?;
+    Ok(())
+}
+
+/// Changes the weight at a place.
+#[tactic(auto, using(crate::proofs::Weighing::weighed, crate::proofs::Weighing::nothing_there))]
+fn put_weight(symbols: &mut IndexMap<Symbol, u32>, place: usize, weight: u32)
+    ensures { declarations_in symbols.new.entries ≡ with_weight (declarations_in symbols.old.entries) place weight }
+{
+    match symbols.get_index_mut(place) {
+        Some(value) => *value = weight,
+        None => {}
+    }
+}
+
+impl Program {
+    ghost use Rattle.std.specs.Prelude.{◌≡◌, ◌<◌, ◌≤◌, ◌++◌, ◌↔◌, [], ◌∷◌, IsTrue, Some, None, OnOk, OnErr, IfOk, IfSome, option_map, position, length, slice_get};
+    ghost use Rattle.chr_base.specs.ProgramTests.{Declaration, declared, declares, fits, with_weight};
+    ghost use Rattle.chr_base.specs.Programs.{declarations, rules_of, declares_atom, atom_in};
+    ghost use Rattle.chr_base.specs.Sameness.{AreSame};
+    ghost use Rattle.chr_base.specs.Texts.{name_of};
+
+    /// The program without symbols and rules.
+    pub fn empty(alloc: Global) -> Program
+        ensures symbols { declarations result ≡ [] }
+        ensures rules { rules_of result ≡ [] }
+    {
+        Program {
+            symbols: IndexMap::new(alloc),
+            rules: Vec::new(alloc),
+        }
+    }
+
+    /// The symbol that is declared with this name and number of arguments.
+    pub fn symbol(&self, name: &str, arity: usize) -> Option<SymbolId>
+        ensures { option_map (λ s. s.0) result ≡ position (declares name.now arity) (declarations self.now) }
+    {
+        let symbol = Symbol::new(name, arity)?;
+        let place = self.symbols.get_index_of(&symbol)?;
+        Some(SymbolId(place as u16))
+    }
+
+    /// The atom with this name and these arguments, where the program declares it.
+    pub fn atom(&self, name: &str, args: &[i64]) -> Option<Atom>
+        ensures { result ≡ atom_in (declarations self.now) name.now args.now }
+    {
+        let symbol = self.symbol(name, args.len())?;
+        Some(Atom {
+            symbol,
+            args: array_of(args),
+        })
+    }
+
+    /// Declares one more symbol, of weight 1.
+    pub fn declare(&mut self, name: &str, arity: usize) -> Result<(), AllocError>
+        requires room { length (declarations self.old) < 64 }
+        requires name { length name.now ≤ 32 }
+        requires arity { arity ≤ 4 }
+        requires new { position (declares name.now arity) (declarations self.old) ≡ None }
+        ensures ok { OnOk result (declarations self.new ≡ declarations self.old ++ record { name = name.now; arity = arity; weight = 1 } ∷ []) }
+        ensures err { OnErr result (declarations self.new ≡ declarations self.old) }
+        ensures rules { rules_of self.new ≡ rules_of self.old }
+    {
+        let symbol = Symbol::of(name, arity);
+        add_symbol(&mut self.symbols, symbol)
+    }
+
+    /// Gives a symbol another weight.
+    pub fn set_weight(&mut self, symbol: SymbolId, weight: u32)
+        requires symbol { symbol.0 < length (declarations self.old) }
+        requires least { 1 ≤ weight }
+        requires most { weight ≤ 1000000 }
+        ensures symbols { declarations self.new ≡ with_weight (declarations self.old) symbol.0 weight }
+        ensures rules { rules_of self.new ≡ rules_of self.old }
+    {
+        put_weight(&mut self.symbols, usize::from(symbol.0), weight);
+    }
+
+    /// Adds a rule at the end.
+    pub fn push_rule(&mut self, rule: Rule) -> Result<(), AllocError>
+        requires room { length (rules_of self.old) < 64 }
+        requires declared { IsTrue (fits (declarations self.old) rule) }
+        ensures ok { OnOk result (rules_of self.new ≡ rules_of self.old ++ rule ∷ []) }
+        ensures err { OnErr result (rules_of self.new ≡ rules_of self.old) }
+        ensures symbols { declarations self.new ≡ declarations self.old }
+    {
+        self.rules.push(rule)?;
+        Ok(())
+    }
+
+    /// The rules, in order.
+    pub fn rules(&self) -> &[Rule]
+        ensures { result.now ≡ rules_of self.now }
+    {
+        &self.rules
+    }
+
+    /// The number of declared symbols. They are `SymbolId(0)`, `SymbolId(1)`, .. in the order of their declaration.
+    pub fn symbols(&self) -> usize
+        ensures { result ≡ length (declarations self.now) }
+    {
+        self.symbols.as_slice().len()
+    }
+
+    /// The name of a symbol.
+    pub fn name_of(&self, symbol: SymbolId) -> &str
+        requires { symbol.0 < length (declarations self.now) }
+        ensures { Some result.now ≡ option_map (λ d. d.name) (slice_get (declarations self.now) symbol.0) }
+    {
+        self.entry(symbol).0.name.as_str()
+    }
+
+    /// The name of an atom's symbol, or no text where it isn't declared.
+    pub(crate) fn name_or_none(&self, atom: &Atom) -> &str
+        ensures { result.now ≡ name_of (declarations self.now) atom.now }
+    {
+        match self.find(atom.symbol) {
+            Some((symbol, _)) => symbol.name.as_str(),
+            None => "",
+        }
+    }
+
+    /// The number of arguments of a symbol.
+    pub fn arity_of(&self, symbol: SymbolId) -> usize
+        requires { symbol.0 < length (declarations self.now) }
+        ensures { Some result ≡ option_map (λ d. d.arity) (slice_get (declarations self.now) symbol.0) }
+    {
+        usize::from(self.entry(symbol).0.arity)
+    }
+
+    /// The weight of a symbol, from 1 to 1,000,000.
+    pub fn weight_of(&self, symbol: SymbolId) -> u32
+        requires { symbol.0 < length (declarations self.now) }
+        ensures { Some result ≡ option_map (λ d. d.weight) (slice_get (declarations self.now) symbol.0) }
+    {
+        *self.entry(symbol).1
+    }
+
+    /// A symbol in the table, with its weight.
+    fn find(&self, symbol: SymbolId) -> Option<(&Symbol, &u32)>
+        ensures { option_map (λ p. declared (p.0.now, p.1.now)) result ≡ slice_get (declarations self.now) symbol.0 }
+    {
+        self.symbols.get_index(usize::from(symbol.0))
+    }
+
+    /// The entry of a symbol that is there.
+    fn entry(&self, symbol: SymbolId) -> (&Symbol, &u32)
+        requires { symbol.0 < length (declarations self.now) }
+        ensures { Some (declared (result.0.now, result.1.now)) ≡ slice_get (declarations self.now) symbol.0 }
+    {
+        self.find(symbol).unwrap()
+    }
+
+    /// Whether the program declares the atom's symbol with as many arguments as the atom has.
+    pub fn declares(&self, atom: &Atom) -> bool
+        ensures { result ≡ declares_atom (declarations self.now) atom.now }
+    {
+        match self.find(atom.symbol) {
+            Some((symbol, _)) => usize::from(symbol.arity) == atom.args.len(),
+            None => false,
+        }
+    }
+    /// Whether the two programs have the same symbols with the same weights, and the same rules, each in the same order.
+    pub fn is_same(&self, other: &Program) -> bool
+        ensures { IsTrue result ↔ AreSame self.now other.now }
+    {
+        self.symbols.as_slice() == other.symbols.as_slice()
+            && self.rules.as_slice() == other.rules.as_slice()
+    }
+}

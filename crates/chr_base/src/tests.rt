@@ -1,0 +1,227 @@
+ghost use Rattle.std.specs.Prelude.{◌≡◌, ◌≤◌, [], ◌∷◌, IsTrue, codes, length};
+ghost use Rattle.chr_base.specs.ProgramTests.{fits};
+
+use crate::atom::{Atom, SymbolId};
+use crate::bag::Bag;
+use crate::derivation::Step;
+use crate::program::Program;
+use crate::rule::Rule;
+use crate::term::{Cmp, Comparison, Pattern, Term};
+use crate::text::store_text;
+use arrayvec::ArrayVec;
+use std::alloc::{AllocError, Global};
+use std::process::Abort;
+use std::test::Fail;
+
+fn atom(symbol: u16, values: &[i64]) -> Atom {
+    let mut args = ArrayVec::new();
+    for value in values {
+        let _ = args.try_push(*value);
+    }
+    Atom {
+        symbol: SymbolId(symbol),
+        args,
+    }
+}
+
+/// Symbols `min/1`, `a/0` and `a/2`, in this order, without rules.
+fn three_symbols(rt: &impl Abort, alloc: Global) -> Result<Program, AllocError> {
+    let mut program = Program::empty(alloc);
+    if program.symbol("min", 1).is_none() && program.symbols() < 64 {
+        program.declare("min", 1)?;
+    }
+    assert_eq!(rt; program.symbols(), 1);
+    if program.symbol("a", 0).is_none() && program.symbols() < 64 {
+        program.declare("a", 0)?;
+    }
+    if program.symbol("a", 2).is_none() && program.symbols() < 64 {
+        program.declare("a", 2)?;
+    }
+    Ok(program)
+}
+
+#[test]
+fn declarations(rt: HostRuntime) -> Result<(), Fail> {
+    let mut program = three_symbols(&rt, rt.alloc())?;
+    assert_eq!(rt; program.symbols(), 3);
+    assert_eq!(rt; program.symbol("a", 2), Some(SymbolId(2)));
+    assert_eq!(rt; program.symbol("a", 1), None);
+    assert_eq!(rt;
+        program.symbol("a_name_that_is_longer_than_any_32", 1),
+        None
+    );
+    assert_eq!(rt; program.name_of(SymbolId(0)), "min");
+    assert_eq!(rt; program.arity_of(SymbolId(2)), 2);
+    assert_eq!(rt; program.weight_of(SymbolId(1)), 1);
+    program.set_weight(SymbolId(1), 1_000_000);
+    assert_eq!(rt; program.symbols(), 3);
+    assert_eq!(rt; program.weight_of(SymbolId(1)), 1_000_000);
+    assert_eq!(rt; program.weight_of(SymbolId(2)), 1);
+    assert!(rt; program.declares(&atom(2, &[4, 5])));
+    assert!(rt; !program.declares(&atom(2, &[4])));
+    assert!(rt; !program.declares(&atom(3, &[])));
+    Ok(())
+}
+
+#[test]
+fn bags(rt: HostRuntime) -> Result<(), Fail> {
+    let alloc = rt.alloc();
+    let mut atoms = Vec::new(alloc);
+    for value in [5, -1, 5] {
+        atoms.push(atom(0, &[value]))?;
+    }
+    let mut bag = Bag::of(atoms)?;
+    assert_eq!(rt; bag.len(), 3);
+    assert!(rt; bag.atoms() == [atom(0, &[-1]), atom(0, &[5]), atom(0, &[5])].as_slice());
+    let copy = bag.copy(alloc)?;
+    assert!(rt; bag.is_same(&copy));
+    bag.add(atom(0, &[2]))?;
+    assert!(rt; !bag.is_same(&copy));
+    bag.union(&copy)?;
+    assert_eq!(rt; bag.len(), 7);
+    assert!(rt; !bag.remove_all(&[atom(0, &[2]), atom(0, &[2])]));
+    assert_eq!(rt; bag.len(), 7);
+    assert!(rt; bag.remove_all(&[atom(0, &[5]), atom(0, &[2]), atom(0, &[5])]));
+    assert!(rt;
+        bag.atoms() == [atom(0, &[-1]), atom(0, &[-1]), atom(0, &[5]), atom(0, &[5])].as_slice()
+    );
+    assert!(rt; !bag.is_empty());
+    assert!(rt; Bag::new(alloc).is_empty());
+    Ok(())
+}
+
+#[test]
+fn texts(rt: HostRuntime) -> Result<(), Fail> {
+    let alloc = rt.alloc();
+    let program = three_symbols(&rt, alloc)?;
+    let mut bag = Bag::new(alloc);
+    assert_eq!(rt; store_text(alloc, &program, &bag)?.as_str(), "true");
+    bag.add(atom(0, &[3]))?;
+    bag.add(atom(2, &[-9223372036854775808, 7]))?;
+    bag.add(atom(0, &[-3]))?;
+    bag.add(atom(1, &[]))?;
+    bag.add(atom(0, &[3]))?;
+    let text = store_text(alloc, &program, &bag)?;
+    assert_eq!(rt;
+        text.as_str(),
+        "a, a(-9223372036854775808,7), min(-3), min(3), min(3)"
+    );
+    Ok(())
+}
+
+fn pattern(symbol: u16, terms: &[Term]) -> Pattern
+    requires { length terms.now ≤ 4 }
+    ensures symbol { result.symbol.0 ≡ symbol }
+    ensures args { result.args.items ≡ terms.now }
+{
+    let mut args = ArrayVec::new();
+    for term in terms {
+        args.push(*term);
+    }
+    Pattern {
+        symbol: SymbolId(symbol),
+        args,
+    }
+}
+
+/// `p(X, X, 3) \ q(Y) <=> X cmp Y | r(Y, X), r(8, X)`, where `p`, `q` and `r` are the first, second and third symbol.
+fn two_heads(cmp: Cmp) -> Rule
+    ensures { IsTrue (fits (record { name = codes "p"; arity = 3; weight = 1 } ∷ record { name = codes "q"; arity = 1; weight = 1 } ∷ record { name = codes "r"; arity = 2; weight = 1 } ∷ []) result) }
+{
+    let x = Term::Variable(1);
+    let y = Term::Variable(2);
+    let mut kept = ArrayVec::new();
+    kept.push(pattern(0, &[x, x, Term::Constant(3)]));
+    let mut removed = ArrayVec::new();
+    removed.push(pattern(1, &[y]));
+    let mut guard = ArrayVec::new();
+    guard.push(Comparison {
+        left: x,
+        cmp,
+        right: y,
+    });
+    let mut body = ArrayVec::new();
+    body.push(pattern(2, &[y, x]));
+    body.push(pattern(2, &[Term::Constant(8), x]));
+    Rule {
+        name: None,
+        kept,
+        removed,
+        guard,
+        body,
+    }
+}
+
+#[test]
+fn comparisons(rt: HostRuntime) {
+    for (cmp, below, equal, above) in [
+        (Cmp::Less, true, false, false),
+        (Cmp::AtMost, true, true, false),
+        (Cmp::Greater, false, false, true),
+        (Cmp::AtLeast, false, true, true),
+        (Cmp::Equal, false, true, false),
+        (Cmp::NotEqual, true, false, true),
+    ] {
+        let rule = two_heads(cmp);
+        assert_eq!(rt; rule.fires(&[atom(0, &[-2, -2, 3]), atom(1, &[5])]), below);
+        assert_eq!(rt; rule.fires(&[atom(0, &[5, 5, 3]), atom(1, &[5])]), equal);
+        assert_eq!(rt; rule.fires(&[atom(0, &[7, 7, 3]), atom(1, &[5])]), above);
+    }
+}
+
+#[test]
+fn instances(rt: HostRuntime) {
+    let rule = two_heads(Cmp::Less);
+    assert_eq!(rt; rule.places(), 2);
+    assert!(rt; !rule.fires(&[atom(0, &[2, 4, 3]), atom(1, &[9])]));
+    assert!(rt; !rule.fires(&[atom(0, &[2, 2, 4]), atom(1, &[9])]));
+    assert!(rt; !rule.fires(&[atom(1, &[9]), atom(0, &[2, 2, 3])]));
+    assert!(rt; !rule.fires(&[atom(0, &[2, 2, 3])]));
+    let heads = [atom(0, &[2, 2, 3]), atom(1, &[9])];
+    assert!(rt; rule.fires(&heads));
+    if rule.fires(&heads) {
+        let body = rule.body_of(&heads);
+        assert!(rt; body.as_slice() == [atom(2, &[9, 2]), atom(2, &[8, 2])].as_slice());
+    }
+}
+
+/// `p/3` with this weight, `q/1` and `r/2`, with the one rule `two_heads(cmp)`.
+fn one_rule(alloc: Global, cmp: Cmp, weight: u32) -> Result<Program, AllocError>
+    requires least { 1 ≤ weight }
+    requires most { weight ≤ 1000000 }
+{
+    let mut program = Program::empty(alloc);
+    program.declare("p", 3)?;
+    program.declare("q", 1)?;
+    program.declare("r", 2)?;
+    program.push_rule(two_heads(cmp))?;
+    program.set_weight(SymbolId(0), weight);
+    Ok(program)
+}
+
+#[test]
+fn programs(rt: HostRuntime) -> Result<(), Fail> {
+    let alloc = rt.alloc();
+    let program = one_rule(alloc, Cmp::Less, 5)?;
+    assert!(rt; program.rules() == [two_heads(Cmp::Less)].as_slice());
+    assert_eq!(rt; program.atom("r", &[-1, 4]), Some(atom(2, &[-1, 4])));
+    assert_eq!(rt; program.atom("r", &[-1]), None);
+    assert_eq!(rt; program.atom("s", &[-1, 4]), None);
+    assert!(rt; program.is_same(&one_rule(alloc, Cmp::Less, 5)?));
+    assert!(rt; !program.is_same(&one_rule(alloc, Cmp::AtMost, 5)?));
+    assert!(rt; !program.is_same(&one_rule(alloc, Cmp::Less, 6)?));
+    assert!(rt; two_heads(Cmp::Less).is_same(&two_heads(Cmp::Less)));
+    assert!(rt; !two_heads(Cmp::Less).is_same(&two_heads(Cmp::Equal)));
+    Ok(())
+}
+
+#[test]
+fn steps(rt: HostRuntime) {
+    let mut heads = ArrayVec::new();
+    heads.push(atom(0, &[2, 2, 3]));
+    heads.push(atom(1, &[9]));
+    let step = Step { rule: 7, heads };
+    let copy = step.copy();
+    assert_eq!(rt; copy.rule, 7);
+    assert!(rt; copy.heads.as_slice() == [atom(0, &[2, 2, 3]), atom(1, &[9])].as_slice());
+}

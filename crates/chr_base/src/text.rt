@@ -1,0 +1,90 @@
+//! Atoms and stores as text.
+ghost use Rattle.std.specs.Prelude.{◌≡◌, ◌++◌, IfOk, OnOk, string_bytes};
+ghost use Rattle.chr_base.specs.Programs.{declarations};
+ghost use Rattle.chr_base.specs.Texts.{name_of, print_cmp, in_print_order, more_values, values_text, atom_text, more_atoms, atoms_text, store_text};
+
+use crate::atom::Atom;
+use crate::bag::{Bag, push_copies};
+use crate::program::Program;
+use std::alloc::{AllocError, Global};
+use std::cmp::Ordering;
+use std::fmt::Write;
+
+/// The order in which atoms are printed: by the bytes of the name, then by the number of arguments, then by the arguments as
+/// numbers, the first first.
+fn print_order(program: &Program, left: &Atom, right: &Atom) -> Ordering
+    ensures { result ≡ print_cmp (declarations program.now) left.now right.now }
+{
+    program
+        .name_or_none(left)
+        .as_bytes()
+        .cmp(program.name_or_none(right).as_bytes())
+        .then(left.args.len().cmp(&right.args.len()))
+        .then(left.args.as_slice().cmp(right.args.as_slice()))
+        .then(left.symbol.0.cmp(&right.symbol.0))
+}
+
+/// The atoms in the order in which they are printed.
+fn in_print_order(alloc: Global, program: &Program, bag: &Bag) -> Result<Vec<Atom>, AllocError>
+    ensures { IfOk result (λ v. v.items ≡ in_print_order (declarations program.now) bag.now) }
+{
+    let mut atoms = Vec::new(alloc);
+    push_copies(&mut atoms, bag.atoms())?;
+    atoms.sort_unstable_by(|left, right| print_order(program, left, right));
+    Ok(atoms)
+}
+
+fn push_more_values(out: &mut String, values: &[i64]) -> Result<(), AllocError>
+    ensures { OnOk result (string_bytes out.new ≡ string_bytes out.old ++ more_values values.now) }
+{
+    for value in values {
+        write!(out, ",{value}")?;
+    }
+    Ok(())
+}
+
+fn push_atom(out: &mut String, program: &Program, atom: &Atom) -> Result<(), AllocError>
+    ensures { OnOk result (string_bytes out.new ≡ string_bytes out.old ++ atom_text (declarations program.now) atom.now) }
+{
+    out.push_str(program.name_or_none(atom))?;
+    if let Some((first, rest)) = atom.args.as_slice().split_first() {
+        write!(out, "({first}")?;
+        push_more_values(out, rest)?;
+        out.push_str(")")?;
+    }
+    Ok(())
+}
+
+fn push_more_atoms(out: &mut String, program: &Program, atoms: &[Atom]) -> Result<(), AllocError>
+    ensures { OnOk result (string_bytes out.new ≡ string_bytes out.old ++ more_atoms (declarations program.now) atoms.now) }
+{
+    for atom in atoms {
+        out.push_str(", ")?;
+        push_atom(out, program, atom)?;
+    }
+    Ok(())
+}
+
+fn atoms_text(alloc: Global, program: &Program, atoms: &[Atom]) -> Result<String, AllocError>
+    ensures { IfOk result (λ s. string_bytes s ≡ atoms_text (declarations program.now) atoms.now) }
+{
+    let mut out = String::new(alloc);
+    match atoms.split_first() {
+        None => out.push_str("true")?,
+        Some((first, rest)) => {
+            push_atom(&mut out, program, first)?;
+            push_more_atoms(&mut out, program, rest)?;
+        }
+    }
+    Ok(out)
+}
+
+/// The text of a store: its atoms in order, by name, number of arguments and arguments, joined by `, `; `true` for the empty
+/// one. An atom prints as its name and, where it has arguments, these in parentheses, joined by commas. Of an atom that the
+/// program doesn't declare the name is left out.
+pub fn store_text(alloc: Global, program: &Program, bag: &Bag) -> Result<String, AllocError>
+    ensures { IfOk result (λ s. string_bytes s ≡ store_text (declarations program.now) bag.now) }
+{
+    let atoms = in_print_order(alloc, program, bag)?;
+    atoms_text(alloc, program, &atoms)
+}

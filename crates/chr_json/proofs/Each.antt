@@ -1,0 +1,41 @@
+-- Going over a list, one element after another.
+use Rattle.std.proofs.Common.{◌≡◌, ℕ, ◌+◌, ◌<◌, ◌≤◌, List, [], ◌∷◌, ◌++◌, length, map, drop, get_or, Option, Some, None, option_map, option_and_then, refl, sym, ap, ◌∙◌, append_assoc, append-nil}
+use Rattle.std.proofs.lemmas.List.{drop_more, drop_all}
+use Rattle.serde_json.specs.Data.{Data}
+use Rattle.serde_json.specs.View.{items_of}
+use Rattle.chr_json.specs.Values.{listed, each}
+
+pub listed-items_of : (ds : List Data) → listed (items_of ds) ≡ ds
+listed-items_of [] = refl
+listed-items_of (d ∷ ds) = ap (λ l. d ∷ l) (listed-items_of ds)
+
+-- what was found so far, before what is still found
+abbrev pub front : {B : Type 0} → List B → Option (List B) → Option (List B)
+front ys o = option_map (λ zs. ys ++ zs) o
+
+pub front_nil : {B : Type 0} (o : Option (List B)) → front [] o ≡ o
+front_nil None = refl
+front_nil (Some x) = refl
+
+pub front_push : {B : Type 0} (ys : List B) (y : B) (o : Option (List B)) → front ys (option_map (λ zs. y ∷ zs) o) ≡ front (ys ++ y ∷ []) o
+front_push ys y None = refl
+front_push ys y (Some zs) = ap Some (sym (append_assoc ys (y ∷ []) zs))
+
+-- the k-th element is read
+pub front_step : {A B C : Type 0} (f : B → Option C) (v : A → B) (xs : List A) (k : ℕ) (x : A) (y : C) (ys : List C) → k < length xs → x ≡ get_or xs k x → f (v x) ≡ Some y
+    → front ys (each f (map v (drop k xs))) ≡ front (ys ++ y ∷ []) (each f (map v (drop (k + 1) xs)))
+front_step f v xs k x y ys within is_x read =
+    ap (λ l. front ys (each f (map v l))) (drop_more xs k x within ∙ ap (λ z. z ∷ drop (k + 1) xs) (sym is_x))
+    ∙ ap (λ o. front ys (option_and_then (λ y. option_map (λ zs. y ∷ zs) (each f (map v (drop (k + 1) xs)))) o)) read
+    ∙ front_push ys y (each f (map v (drop (k + 1) xs)))
+
+-- the k-th element is not one
+pub front_stop : {A B C : Type 0} (f : B → Option C) (v : A → B) (xs : List A) (k : ℕ) (x : A) (ys : List C) → k < length xs → x ≡ get_or xs k x → f (v x) ≡ None
+    → front ys (each f (map v (drop k xs))) ≡ None
+front_stop f v xs k x ys within is_x read =
+    ap (λ l. front ys (each f (map v l))) (drop_more xs k x within ∙ ap (λ z. z ∷ drop (k + 1) xs) (sym is_x))
+    ∙ ap (λ o. front ys (option_and_then (λ y. option_map (λ zs. y ∷ zs) (each f (map v (drop (k + 1) xs)))) o)) read
+
+pub front_end : {A B C : Type 0} (f : B → Option C) (v : A → B) (xs : List A) (k : ℕ) (ys : List C) → length xs ≤ k
+    → front ys (each f (map v (drop k xs))) ≡ Some ys
+front_end f v xs k ys past = ap (λ l. front ys (each f (map v l))) (drop_all k xs past) ∙ ap Some (append-nil ys)

@@ -1,0 +1,5 @@
+pub mod Values
+pub mod Commands
+pub mod Printed
+pub mod Lines
+pub mod Reads

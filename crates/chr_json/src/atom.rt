@@ -1,0 +1,79 @@
+//! Atoms as a line spells them.
+
+ghost use Rattle.std.specs.Prelude.{◌≡◌, IfOk, length, map, vec_len};
+ghost use Rattle.serde_json.specs.View.{view as data_of};
+ghost use Rattle.chr_json.specs.Values.{each, integer_of};
+ghost use Rattle.chr_json.specs.Commands.{IsOperationLength, atom_of, atoms_of};
+ghost use Rattle.chr_json.specs.Reads.{Gives, atom_view};
+
+use crate::fault::LineFault;
+use crate::value::elements;
+use serde_json::Value;
+use std::alloc::Global;
+
+/// The most atoms that one operation has.
+const MAX_ATOMS: usize = 64;
+
+/// A name and its arguments, as a line spells them.
+#[derive(Debug, PartialEq, Drop)]
+pub struct RawAtom {
+    /// Any text, in UTF-8.
+    pub name: String,
+    /// Any number of arguments.
+    pub args: Vec<i64>,
+}
+
+/// Whole numbers of 64 bits with a sign.
+fn integers(alloc: Global, values: &[Value]) -> Result<Vec<i64>, LineFault>
+    ensures { Gives (λ v. v.items) result (each integer_of (map data_of values.now)) }
+{
+    let mut found = Vec::new(alloc);
+    for value in values {
+        let Some(number) = value.as_i64() else {
+            return Err(LineFault::Shape);
+        };
+        found.push(number)?;
+    }
+    Ok(found)
+}
+
+/// An array of a name and arguments.
+fn atom(alloc: Global, value: &Value) -> Result<RawAtom, LineFault>
+    ensures { Gives atom_view result (atom_of (data_of value.now)) }
+{
+    let Some([first, rest @ ..]) = elements(value) else {
+        return Err(LineFault::Shape);
+    };
+    let Some(name) = first.as_str() else {
+        return Err(LineFault::Shape);
+    };
+    let name = String::from_str(alloc, name)?;
+    let args = integers(alloc, rest)?;
+    Ok(RawAtom { name, args })
+}
+
+/// One atom after another.
+fn atom_list(alloc: Global, values: &[Value]) -> Result<Vec<RawAtom>, LineFault>
+    ensures read { Gives (λ v. map atom_view v.items) result (each atom_of (map data_of values.now)) }
+    ensures length { IfOk result (λ v. vec_len v ≡ length values.now) }
+{
+    let mut found = Vec::new(alloc);
+    for value in values {
+        found.push(atom(alloc, value)?)?;
+    }
+    Ok(found)
+}
+
+/// An array of 1 to 64 atoms.
+pub fn atoms(alloc: Global, value: &Value) -> Result<Vec<RawAtom>, LineFault>
+    ensures read { Gives (λ v. map atom_view v.items) result (atoms_of (data_of value.now)) }
+    ensures sized { IfOk result (λ v. IsOperationLength (vec_len v)) }
+{
+    let Some(values) = elements(value) else {
+        return Err(LineFault::Shape);
+    };
+    if values.is_empty() || values.len() > MAX_ATOMS {
+        return Err(LineFault::Shape);
+    }
+    atom_list(alloc, values)
+}

@@ -1,0 +1,191 @@
+//! Lines.
+
+ghost use Rattle.std.specs.Prelude.{◌≡◌, IfOk};
+ghost use Rattle.chr_json.specs.Lines.{is_blank_line};
+ghost use Rattle.chr_json.specs.Values.{json_in};
+ghost use Rattle.chr_json.specs.Reads.{GivesLine, GivesValue, IsSized, line_said};
+
+use crate::command::{Command, command_in};
+use crate::fault::LineFault;
+use serde_json::{Category, Value};
+use std::alloc::Global;
+
+/// The most bytes that a line has, without its end.
+pub const MAX_LINE: usize = 1_048_576;
+
+/// Whether a line has spaces and tabs alone, or nothing. Such a line is no command, however long.
+pub fn is_blank(line: &[u8]) -> bool
+    ensures { result ≡ is_blank_line line.now }
+{
+    line.iter().all(|byte| *byte == b' ' || *byte == b'\t')
+}
+
+/// The JSON value of the bytes.
+fn value_in(alloc: Global, line: &[u8]) -> Result<Value, LineFault>
+    ensures { GivesValue result (json_in line.now) }
+{
+    match Value::from_slice(alloc, line) {
+        Ok(value) => Ok(value),
+        Err(e) => match e.classify() {
+            Category::Memory => Err(LineFault::Memory),
+            _ => Err(LineFault::BadLine),
+        },
+    }
+}
+
+/// The command of a line, which comes without its end.
+///
+/// # Errors
+///
+/// `BadLine` where the line has more than [`MAX_LINE`] bytes or is no JSON value, `Shape` where
+/// its value is no command, and `Memory` where no memory was left.
+pub fn read_line(alloc: Global, line: &[u8]) -> Result<Command, LineFault>
+    ensures read { GivesLine result (line_said line.now) }
+    ensures sized { IfOk result IsSized }
+{
+    if line.len() > MAX_LINE {
+        return Err(LineFault::BadLine);
+    }
+    let value = value_in(alloc, line)?;
+    command_in(alloc, &value)
+}
+
+#[cfg(test)]
+mod tests {
+    use super::*;
+    use crate::atom::RawAtom;
+    use crate::command::commands_are_read;
+    use std::alloc::AllocError;
+    use std::test::Fail;
+
+    /// An atom with one argument.
+    fn atom(alloc: Global, name: &str, argument: i64) -> Result<RawAtom, AllocError> {
+        let name = String::from_str(alloc, name)?;
+        let mut args = Vec::new(alloc);
+        args.push(argument)?;
+        Ok(RawAtom { name, args })
+    }
+
+    #[test]
+    fn commands_are_given(rt: HostRuntime) -> Result<(), Fail> {
+        let alloc = rt.alloc();
+        let mut atoms = Vec::new(alloc);
+        atoms.push(atom(alloc, "a", 2)?)?;
+        atoms.push(atom(alloc, "a", -9223372036854775808)?)?;
+        let tell = Command::Tell {
+            replica: 1,
+            origin: 4294967295,
+            number: 18446744073709551615,
+            atoms,
+        };
+        let line =
+            b" [\"t\\u0065ll\",1,[4294967295,18446744073709551615],[[\"a\",2],[\"a\",-9223372036854775808]]]\t";
+        assert_eq!(rt; read_line(alloc, line.as_slice()), Ok(tell));
+        let show = Command::Show { replica: 0 };
+        assert_eq!(rt; read_line(alloc, b"[\"show\",0]".as_slice()), Ok(show));
+        commands_are_read();
+        Ok(())
+    }
+
+    #[test]
+    fn other_values_are_no_commands(rt: HostRuntime) -> Result<(), Fail> {
+        let alloc = rt.alloc();
+        let lines = [
+            "[]",
+            "{\"a\":1}",
+            "[\"show\"]",
+            "[\"show\",1.0]",
+            "[\"show\",-1]",
+            "[\"show\",1,2]",
+            "[\"Show\",1]",
+            "[\"tell\",1,[1,1],[]]",
+            "[\"tell\",1,[1,1],[[]]]",
+            "[\"tell\",1,[1,1],[[1]]]",
+            "[\"tell\",1,[1],[[\"a\",0]]]",
+            "[\"tell\",1,[1,1],[[\"min\",9223372036854775808]]]",
+            "[\"tell\",1,[4294967296,1],[[\"a\",0]]]",
+            "[\"sync\",1,2]",
+        ];
+        for line in lines {
+            assert_eq!(rt;
+                read_line(alloc, line.as_bytes()).err(),
+                Some(LineFault::Shape),
+                "at {line}"
+            );
+        }
+        Ok(())
+    }
+
+    #[test]
+    fn other_bytes_are_no_values(rt: HostRuntime) -> Result<(), Fail> {
+        let alloc = rt.alloc();
+        for line in [
+            "",
+            "[\"show\",1",
+            "[\"show\",1] x",
+            "{\"tell\":1",
+            "[\"show\",1e400]",
+        ] {
+            assert_eq!(rt;
+                read_line(alloc, line.as_bytes()).err(),
+                Some(LineFault::BadLine),
+                "at {line}"
+            );
+        }
+        assert_eq!(rt;
+            read_line(alloc, b"[\"\xff\",1]".as_slice()).err(),
+            Some(LineFault::BadLine)
+        );
+        Ok(())
+    }
+
+    #[test]
+    fn lines_end_at_their_limit(rt: HostRuntime) -> Result<(), Fail> {
+        let alloc = rt.alloc();
+        let mut line = Vec::new(alloc);
+        line.extend_from_slice(b"[\"show\",1]")?;
+        line.resize(MAX_LINE, b' ')?;
+        assert_eq!(rt; read_line(alloc, &line), Ok(Command::Show { replica: 1 }));
+        line.push(b' ')?;
+        assert_eq!(rt; read_line(alloc, &line).err(), Some(LineFault::BadLine));
+        Ok(())
+    }
+
+    #[test]
+    fn operations_end_at_their_limit(rt: HostRuntime) -> Result<(), Fail> {
+        let alloc = rt.alloc();
+        for (more, fits) in [(63usize, true), (64, false)] {
+            let mut line = String::from_str(alloc, "[\"tell\",1,[1,1],[[\"a\"]")?;
+            for _ in 0..more {
+                line.push_str(",[\"a\"]")?;
+            }
+            line.push_str("]]")?;
+            assert_eq!(rt;
+                read_line(alloc, line.as_bytes()).is_ok(),
+                fits,
+                "with {more} more"
+            );
+        }
+        Ok(())
+    }
+
+    #[test]
+    fn values_end_at_their_depth(rt: HostRuntime) -> Result<(), Fail> {
+        let alloc = rt.alloc();
+        for (depth, fault) in [(127usize, LineFault::Shape), (200, LineFault::BadLine)] {
+            let mut line = Vec::new(alloc);
+            line.resize(depth, b'[')?;
+            line.resize(2 * depth, b']')?;
+            assert_eq!(rt; read_line(alloc, &line).err(), Some(fault), "{depth} deep");
+        }
+        Ok(())
+    }
+
+    #[test]
+    fn blank_lines_are_seen(rt: HostRuntime) {
+        assert_eq!(rt; is_blank(b""), true);
+        assert_eq!(rt; is_blank(b" \t "), true);
+        assert_eq!(rt; is_blank(b" \r"), false);
+        assert_eq!(rt; is_blank(b"[]"), false);
+    }
+}

@@ -1,0 +1,108 @@
+-- The laws of exchange.
+use Rattle.std.specs.Prelude.{◌≡◌, ◌≢◌, ℕ, zero, suc, Bool, true, false, not, ◌&&◌, T, List, [], ◌∷◌, Some, None, Option, cond, slice_get, take}
+use Rattle.std.specs.Option.{option_or, is_some, unwrap_or, IsSomeAnd}
+use Rattle.std.proofs.Common.{refl, sym, ap, ◌∙◌, subst, ⊎_elim, inl, inr}
+use mathlib.Core.Bool.{true≢false}
+use mathlib.Core.Logic.{◌⊎◌}
+use Rattle.std.specs.declared.cmp.Ordering.{Ordering}
+use Rattle.std.specs.declared.cmp.Ordering.TheVariants as order
+use Rattle.std.specs.Ordering.{eq_by_cmp, is_eq, is_lt}
+use Rattle.std.specs.Cmp.{tied_itself, eq_by_cmp_equiv}
+use Rattle.std.specs.FinMap as map
+use Rattle.std.specs.FinMap.{find, is_sorted}
+use Rattle.std.specs.FinMap.Entries.{below_all, find-where_key, is_sorted-where_key}
+use Rattle.chr_base.specs.Stores.{Store}
+use Rattle.chr_ops.specs.declared.id.OpId.{OpId}
+use Rattle.chr_ops.specs.declared.range.IdRange.{IdRange}
+use Rattle.chr_ops.specs.Ids.{id_cmp, id_total, id_exact}
+use Rattle.chr_ops.specs.Operations.{Operation, Operations}
+use Rattle.chr_ops.specs.Joins.{union}
+use Rattle.chr_ops.specs.Summaries.{covers, lacking}
+use Rattle.chr_ops.specs.Exchange as law
+use Rattle.chr_ops.proofs.Unions.{get-union}
+
+flip : (b : Bool) (x : Option Store) → cond (not b) x None ≡ cond b None x
+flip true x = refl
+flip false x = refl
+
+find-lacking : (n : Operations) (rs : List IdRange) (q : OpId) → find id_cmp q (lacking n rs) ≡ cond (covers rs q) None (map.get n q)
+find-lacking n rs q =
+    find-where_key id_cmp (λ k. not (covers rs k)) q (λ x t. ap (λ k. not (covers rs k)) (sym (id_exact q x t))) (map.entries n)
+    ∙ flip (covers rs q) (find id_cmp q (map.entries n)) ∙ ap (cond (covers rs q) None) (sym (map.get-entries n q))
+
+pub lacked : law.LackedLaw
+lacked m n rs just q = find-lacking n rs q ∙ ap (λ b. cond b None (map.get n q)) (just q)
+
+either : (x y : Option Store) → option_or x (cond (is_some x) None y) ≡ option_or x y
+either None y = refl
+either (Some s) y = refl
+
+pub exchange : law.ExchangeLaw
+exchange m n rs just = map.same_map id_total id_exact _ _ (λ q.
+    get-union m (lacking n rs) q ∙ ap (option_or (map.get m q)) (lacked m n rs just q) ∙ either (map.get m q) (map.get n q)
+    ∙ ap (option_or (map.get m q)) (map.get-entries n q) ∙ sym (get-union m (map.entries n) q))
+
+one_or_other : (x y : Option Store) → ((s t : Store) → x ≡ Some s → y ≡ Some t → s ≡ t) → option_or x y ≡ option_or y x
+one_or_other None None h = refl
+one_or_other None (Some t) h = refl
+one_or_other (Some s) None h = refl
+one_or_other (Some s) (Some t) h = ap Some (h s t refl refl)
+
+pub one_union : law.OneUnionLaw
+one_union m n one = map.same_map id_total id_exact _ _ (λ q.
+    get-union m (map.entries n) q ∙ ap (option_or (map.get m q)) (sym (map.get-entries n q)) ∙ one_or_other (map.get m q) (map.get n q) (one q)
+    ∙ ap (option_or (map.get n q)) (map.get-entries m q) ∙ sym (get-union n (map.entries m) q))
+
+second : (a b : Bool) → T (a && b) → T b
+second true b h = h
+second false b h = absurd h
+
+first : (a b : Bool) → T (a && b) → T a
+first true b h = tt
+first false b h = h
+
+apart : (r : Ordering) → T (is_lt r) → is_eq r ≡ false
+apart order.Less h = refl
+apart order.Equal h = absurd h
+apart order.Greater h = refl
+
+later_differs : (k : OpId) (es : List Operation) (i : ℕ) (o : Operation) → T (below_all id_cmp k es) → slice_get es i ≡ Some o → eq_by_cmp id_cmp k o.0 ≡ false
+later_differs k [] i o h e = absurd (true≢false (sym (ap is_some e)))
+later_differs k (x ∷ es) zero o h e = ap (λ y. eq_by_cmp id_cmp k y.0) (sym (ap (λ u. unwrap_or u x) e)) ∙ apart (id_cmp k x.0) (first _ _ h)
+later_differs k (x ∷ es) (suc i) o h e = later_differs k es i o (second _ _ h) e
+
+-- in a list in order an operation is what is found under its id
+place_finds : (es : List Operation) (i : ℕ) (o : Operation) → T (is_sorted id_cmp es) → slice_get es i ≡ Some o → find id_cmp o.0 es ≡ Some o.1
+place_finds [] i o h e = absurd (true≢false (sym (ap is_some e)))
+place_finds (x ∷ es) zero o h e =
+    let same : x ≡ o = ap (λ u. unwrap_or u x) e in
+    ap (λ y. find id_cmp y.0 (x ∷ es)) (sym same) ∙ ap (λ r. cond (is_eq r) (Some x.1) (find id_cmp x.0 es)) (tied_itself id_total x.0) ∙ ap (λ y. Some y.1) same
+place_finds (x ∷ es) (suc i) o h e =
+    ap (λ b. cond b (Some x.1) (find id_cmp o.0 es)) ((eq_by_cmp_equiv id_total).symm o.0 x.0 ∙ later_differs x.0 es i o (first _ _ h) e) ∙ place_finds es i o (second _ _ h) e
+
+-- a front finds what the whole list finds, or nothing
+front_finds : (es : List Operation) (i : ℕ) (q : OpId) → (find id_cmp q (take i es) ≡ None) ⊎ (find id_cmp q (take i es) ≡ find id_cmp q es)
+front_finds [] zero q = inl refl
+front_finds [] (suc i) q = inl refl
+front_finds (x ∷ es) zero q = inl refl
+front_finds (x ∷ es) (suc i) q =
+    elim (eq_by_cmp id_cmp q x.0) as (λ b. (cond b (Some x.1) (find id_cmp q (take i es)) ≡ None) ⊎ (cond b (Some x.1) (find id_cmp q (take i es)) ≡ cond b (Some x.1) (find id_cmp q es))) [
+      | true ↦ inr refl
+      | false ↦ front_finds es i q
+    ]
+
+no_other : (x : Option Store) (s : Store) → (x ≡ None) ⊎ (x ≡ Some s) → ¬ (IsSomeAnd x (λ t. t ≢ s))
+no_other x s (inl e) h = subst (λ y. IsSomeAnd y (λ t. t ≢ s)) e h
+no_other x s (inr e) h = subst (λ y. IsSomeAnd y (λ t. t ≢ s)) e h refl
+
+none_held : (x y : Option Store) (s : Store) → cond (is_some x) None y ≡ Some s → x ≡ None
+none_held None y s h = refl
+none_held (Some t) y s h = absurd (true≢false (sym (ap is_some h)))
+
+pub no_clash : law.NoClashLaw
+no_clash m n rs just i id (o, at, e, held) =
+    let sorted = is_sorted-where_key id_cmp (λ k. not (covers rs k)) (map.entries n) (map.entries_sorted n) in
+    let found = place_finds (lacking n rs) i o sorted at in
+    let new = none_held (map.get m o.0) (map.get n o.0) o.1 (sym (lacked m n rs just o.0) ∙ found) in
+    let got = get-union m (take i (lacking n rs)) o.0 ∙ ap (λ x. option_or x (find id_cmp o.0 (take i (lacking n rs)))) new in
+    no_other (map.get (union m (take i (lacking n rs))) o.0) o.1 (⊎_elim (λ none. inl (got ∙ none)) (λ same. inr (got ∙ same ∙ found)) (front_finds (lacking n rs) i o.0)) held

@@ -1,0 +1,11 @@
+pub mod Sizes
+pub mod Told
+pub mod Entries
+pub mod Keeping
+pub mod Unions
+pub mod JoinSteps
+pub mod Merged
+pub mod MergeSteps
+pub mod WalkSteps
+pub mod Lacked
+pub mod FreshSteps

@@ -1,0 +1,31 @@
+-- Ranges on their way into a summary, in the order of their beginnings.
+--     StartsBy        a range begins no later than another
+--     AllStartBy        each of a list does
+--     range_cmp        the order of ranges: by origin, beginning and end
+--     single        the range of one id
+--     IsMerged        what is left of ranges when the next one is merged with them
+use Rattle.std.specs.Prelude.{◌≡◌, ◌≤◌, ◌||◌, List}
+use Rattle.std.specs.List.{AllByRecursion}
+use Rattle.std.specs.declared.cmp.Ordering.{Ordering}
+use Rattle.std.specs.Ordering.{nat_cmp, ordering_then}
+use Rattle.chr_ops.specs.declared.id.OpId.{OpId}
+use Rattle.chr_ops.specs.declared.range.IdRange.{IdRange}
+use Rattle.chr_ops.specs.Summaries.{in_range, covers, IsApart}
+
+abbrev pub StartsBy : IdRange → IdRange → Type 0
+StartsBy r s = (r.origin ≤ s.origin) × (r.origin ≡ s.origin → r.lo ≤ s.lo)
+
+abbrev pub AllStartBy : List IdRange → IdRange → Type 0
+AllStartBy rs s = AllByRecursion (λ r. StartsBy r s) rs
+
+-- they cover the same with the next one, stay apart, and begin no later than what comes after it
+pub record IsMerged (old : List IdRange) (next : IdRange) (new : List IdRange) : Type 0 where
+  pub apart : IsApart new
+  pub covering : (id : OpId) → covers new id ≡ (covers old id || in_range next id)
+  pub in_order : (later : IdRange) → StartsBy next later → AllStartBy old later → AllStartBy new later
+
+abbrev pub range_cmp : IdRange → IdRange → Ordering
+range_cmp r s = ordering_then (nat_cmp r.origin s.origin) (ordering_then (nat_cmp r.lo s.lo) (nat_cmp r.hi s.hi))
+
+abbrev pub single : OpId → IdRange
+single id = record { origin = id.origin; lo = id.number; hi = id.number }

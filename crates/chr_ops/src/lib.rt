@@ -1,0 +1,25 @@
+//! The facts that replicas exchange: operations with ids, kept once however often they come.
+#![tactic(auto)]
+
+mod exchange;
+mod fault;
+mod fresh;
+mod id;
+mod joining;
+mod lacking;
+mod merging;
+mod op;
+mod op_set;
+mod range;
+mod summary;
+
+pub use exchange::exchange_laws;
+pub use fault::{AddFault, Added};
+pub use id::OpId;
+pub use op::Op;
+pub use op_set::OpSet;
+pub use range::IdRange;
+pub use summary::Summary;
+
+#[cfg(test)]
+mod tests;

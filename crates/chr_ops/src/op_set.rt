@@ -1,0 +1,159 @@
+//! Operation sets.
+ghost use Rattle.std.specs.Prelude.{◌≡◌, ◌+◌, ◌<◌, ◌≤◌, ◌↔◌, IfOk, IsErrOf, OnOk, OnErr, Ok, option_copied};
+ghost use Rattle.std.specs.FinMap as map;
+ghost use Rattle.chr_base.specs.FinBag.{◌⊕◌};
+ghost use Rattle.chr_base.specs.Stores.{size};
+ghost use Rattle.chr_ops.specs.declared.id.OpId.{OpId as OpIdValue};
+ghost use Rattle.chr_ops.specs.Operations.{told_store, told_atoms, told_limit, sum_of, IsNew, IsHeld, IsHeldOtherwise};
+ghost use Rattle.chr_ops.specs.Joins.{union, fresh, Agrees, IsFirstClash, IsOverLimit};
+ghost use Rattle.chr_ops.specs.Summaries.{CoversJust, lacking};
+
+use crate::fault::{AddFault, Added};
+use crate::fresh::fresh_atoms;
+use crate::id::OpId;
+use crate::joining::{MAX_TOLD, bag_of, insert_bag, take_in_room, withdraw};
+use crate::lacking::lacked;
+use crate::merging::merge_ids;
+use crate::op::Op;
+use crate::summary::Summary;
+use chr_base::bag::Bag;
+use std::alloc::{AllocError, Global};
+use std::collections::BTreeMap;
+use std::marker::Model;
+
+/// A set of operations that holds one bag for an id and tells at most 1,000,000 atoms.
+#[derive(Drop)]
+pub struct OpSet {
+    held: BTreeMap<OpId, Bag>,
+    told: u64,
+}
+
+impl Model for OpSet {
+    ghost use Rattle.std.specs.FinMap as map;
+    ghost use Rattle.chr_base.specs.FinBag as bag;
+    ghost use Rattle.chr_base.specs.Atoms.{coded_atom};
+    ghost use Rattle.chr_ops.specs.Ids.{coded_id};
+    ghost use Rattle.chr_ops.specs.Operations.{Operations, operations_of};
+    ghost use Rattle.chr_ops.specs.Kept.{IsKept};
+
+    ghost Value = { Operations };
+
+    ghost coded = { map.code coded_id (bag.code coded_atom) };
+
+    ghost view = { λ s. operations_of s.held.entries };
+
+    ghost invariant = { λ s. IsKept s.told (operations_of s.held.entries) };
+}
+
+impl OpSet {
+    /// The set of no operation.
+    pub fn new(alloc: Global) -> Self
+        ensures { result ≡ map.empty }
+    {
+        OpSet {
+            held: BTreeMap::new(alloc),
+            told: 0,
+        }
+    }
+
+    /// The number of told atoms.
+    pub fn told(&self) -> u64
+        ensures told { result ≡ told_atoms self.now }
+        ensures within { result ≤ told_limit }
+    {
+        self.told
+    }
+
+    /// The bag of an id. It takes no memory.
+    pub fn get(&self, id: OpId) -> Option<&Bag>
+        ensures { option_copied result ≡ map.get self.now id }
+    {
+        bag_of(&self.held, id)
+    }
+
+    /// Adds an operation. `Again` is answered at the full limit as well.
+    ///
+    /// # Errors
+    /// `Clash` where the id stands for another bag; `Full` where the operation is new, and more than 1,000,000 atoms would
+    /// be told; `Memory`. Each of them leaves the set as it was.
+    pub fn add(&mut self, op: Op) -> Result<Added, AddFault>
+        ensures new { result ≡ Ok Added.New
+            → IsNew self.old op × (self.new ≡ map.insert self.old op.0 op.1) }
+        ensures told { result ≡ Ok Added.New → told_store self.new ≡ told_store self.old ⊕ op.1 }
+        ensures again { (result ≡ Ok Added.Again) ↔ IsHeld self.old op }
+        ensures kept { result ≡ Ok Added.Again → self.new ≡ self.old }
+        ensures clash { (id : OpIdValue) → IsErrOf result (AddFault.Clash id)
+            ↔ ((id ≡ op.0) × IsHeldOtherwise self.old op) }
+        ensures full { IsErrOf result AddFault.Full
+            ↔ (IsNew self.old op × (told_limit < told_atoms self.old + size op.1)) }
+        ensures err { OnErr result (self.new ≡ self.old) }
+    {
+        let (id, bag) = op.into_parts();
+        if let Some(held) = self.get(id) {
+            return if held.is_same(&bag) {
+                Ok(Added::Again)
+            } else {
+                Err(AddFault::Clash(id))
+            };
+        }
+        let atoms = bag.len() as u64;
+        if atoms > MAX_TOLD - self.told {
+            return Err(AddFault::Full);
+        }
+        insert_bag(&mut self.held, id, bag)?;
+        self.told += atoms;
+        Ok(Added::New)
+    }
+
+    /// Adds all of these operations, or none, and answers how many of them are new. The list may repeat an equal operation.
+    ///
+    /// # Errors
+    /// `Clash` with the first id that stands for another bag in the set or earlier in the list; else `Full` where more than
+    /// 1,000,000 atoms would be told; `Memory`. Each of them leaves the set as it was.
+    pub fn join(&mut self, alloc: Global, ops: &[Op]) -> Result<u64, AddFault>
+        ensures union { OnOk result (self.new ≡ union self.old ops.now) }
+        ensures count { IfOk result (λ n. n + map.len self.old ≡ map.len self.new) }
+        ensures told { OnOk result (told_store self.new
+            ≡ told_store self.old ⊕ sum_of (fresh self.old ops.now)) }
+        ensures agrees { OnOk result (Agrees self.old ops.now) }
+        ensures clash { (id : OpIdValue) → IsErrOf result (AddFault.Clash id)
+            → IsFirstClash self.old ops.now id }
+        ensures full { IsErrOf result AddFault.Full
+            → Agrees self.old ops.now × IsOverLimit self.old ops.now }
+        ensures err { OnErr result (self.new ≡ self.old) }
+    {
+        let mut fresh = Vec::new(alloc);
+        match take_in_room(&mut self.held, &mut fresh, alloc, ops, self.told) {
+            Ok(told) => {
+                self.told = told;
+                Ok(fresh.len() as u64)
+            }
+            Err(fault) => {
+                withdraw(&mut self.held, &fresh);
+                Err(fault)
+            }
+        }
+    }
+
+    /// A summary that covers just the ids of the set.
+    pub fn summary(&self, alloc: Global) -> Result<Summary, AllocError>
+        ensures { IfOk result (λ summary. CoversJust summary self.now) }
+    {
+        Ok(Summary::of_merged(merge_ids(alloc, &self.held)?))
+    }
+
+    /// Copies of the operations whose ids a summary does not cover, in the order of ids.
+    pub fn lacks(&self, alloc: Global, summary: &Summary) -> Result<Vec<Op>, AllocError>
+        ensures { IfOk result (λ ops. ops.items ≡ lacking self.now summary.now) }
+    {
+        lacked(alloc, &self.held, summary.ranges())
+    }
+
+    /// The atoms of those of a list's operations that are new to the set, each operation once: what a join of the list
+    /// adds to what is told.
+    pub fn fresh_atoms(&self, alloc: Global, ops: &[Op]) -> Result<Bag, AllocError>
+        ensures { IfOk result (λ bag. bag ≡ sum_of (fresh self.now ops.now)) }
+    {
+        Bag::of(fresh_atoms(alloc, &self.held, ops)?)
+    }
+}

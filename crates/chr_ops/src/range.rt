@@ -1,0 +1,37 @@
+//! Ranges of ids.
+ghost use Rattle.std.specs.Prelude.{◌≡◌, ◌+◌, ◌≤◌, ◌↔◌, IsTrue};
+ghost use Rattle.chr_ops.specs.Summaries.{in_range};
+ghost use Rattle.chr_ops.specs.Walks.{ends_before};
+
+use crate::id::OpId;
+
+/// The ids of one origin with numbers from `lo` to `hi`, both included.
+#[derive(Clone, Copy, Debug, PartialEq, Eq, PartialOrd, Ord)]
+pub struct IdRange {
+    pub origin: u32,
+    pub lo: u64,
+    pub hi: u64,
+}
+
+impl IdRange {
+    /// Whether it has an id.
+    pub fn has(&self, id: OpId) -> bool
+        ensures { result ≡ in_range self.now id }
+    {
+        self.origin == id.origin && self.lo <= id.number && id.number <= self.hi
+    }
+
+    /// Whether it ends before an id.
+    pub(crate) fn ends_before(&self, id: OpId) -> bool
+        ensures { result ≡ ends_before self.now id }
+    {
+        self.origin < id.origin || (self.origin == id.origin && self.hi < id.number)
+    }
+
+    /// Whether the other begins in this one or right behind it.
+    pub(crate) fn reaches(&self, next: &IdRange) -> bool
+        ensures { IsTrue result ↔ ((self.now.origin ≡ next.now.origin) × (next.now.lo ≤ self.now.hi + 1)) }
+    {
+        self.origin == next.origin && next.lo <= self.hi.saturating_add(1)
+    }
+}

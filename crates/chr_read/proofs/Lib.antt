@@ -1,0 +1,16 @@
+pub mod Numbers
+pub mod Names
+pub mod SeenSymbols
+pub mod Lengths
+pub mod Positions
+pub mod Booleans
+pub mod Numbering
+pub mod Resolved
+pub mod Declarable
+pub mod FaultLess
+pub mod FormsRead
+pub mod ClauseByClause
+pub mod LeastFaults
+pub mod TextsRead
+pub mod NamesText
+pub mod OneNumber

@@ -1,0 +1,8 @@
+use Rattle.std.proofs.Common.{◌≡◌, map, drop, option_map}
+use Rattle.std.specs.List.{list_any}
+use Rattle.chr_syntax.specs.Views.{atom_view, rule_view}
+use Rattle.chr_read.specs.Faults.{present, atom_unbound}
+use Rattle.chr_read.proofs.binding.body_unbound.Given as goal
+
+abbrev pub invariant-loop-item : goal.invariant-loop-item
+invariant-loop-item l = list_any (atom_unbound (rule_view l.rule)) (present (map (option_map atom_view) (drop l.item-index l.item-items))) ≡ list_any (atom_unbound (rule_view l.rule)) (present (map (option_map atom_view) l.item-items))

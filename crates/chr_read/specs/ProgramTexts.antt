@@ -1,0 +1,79 @@
+-- The texts that are programs, and what is wrong with the others, in the grammar's own words.
+use Rattle.std.specs.Prelude.{◌≡◌, ◌≤◌, ◌<◌, ◌+◌, ◌↔◌, ℕ, List, [], ◌∷◌, ◌++◌, length, true, false, Result, Ok, Err}
+use Rattle.std.specs.List.{list_all}
+use Rattle.chr_base.specs.declared.program.Program.{Program}
+use Rattle.chr_syntax.specs.Bytes.{is_layout, is_text, pieces, without_comments}
+use Rattle.chr_syntax.specs.Clauses.{Form}
+use Rattle.chr_syntax.specs.Lexemes.{AreClause}
+use Rattle.chr_read.specs.declared.fault.Fault.{Fault}
+use Rattle.chr_read.specs.declared.fault.Fault.TheVariants as fault
+use Rattle.chr_read.specs.declared.fault.ReadFault.{ReadFault}
+use Rattle.chr_read.specs.declared.fault.ReadFault.TheVariants.{TooLong, Bad, Memory}
+use Rattle.chr_read.specs.Numbers.{number_of_fault}
+use Rattle.chr_read.specs.Meanings.{Meaning, Progress, nothing, meaning_of}
+use Rattle.chr_read.specs.Faults.{fault_test}
+use Rattle.chr_read.specs.Reading.{with_form, text_read}
+
+-- ---- clauses
+
+-- The clause has this fault, after what the clauses before it made. The faults of forms are looked for only where it has one.
+abbrev pub HasFault : Progress → List ℕ → Fault → Type 0
+HasFault q c fault.BadByte = is_text c ≡ false
+HasFault q c fault.Syntax = (f : Form) → ¬ (AreClause f c)
+HasFault q c fault.Unended = ⊥
+HasFault q c n = (f : Form) × AreClause f c × (fault_test n q f ≡ true)
+
+-- what stands after the last full stop has this fault
+abbrev pub HasRestFault : List ℕ → Fault → Type 0
+HasRestFault c fault.BadByte = is_text c ≡ false
+HasRestFault c fault.Unended = list_all is_layout c ≡ false
+HasRestFault c n = ⊥
+
+-- of these faults, the one with the least number
+abbrev pub IsLeast : (Fault → Type 0) → Fault → Type 0
+IsLeast Has n = Has n × ((m : Fault) → Has m → number_of_fault n ≤ number_of_fault m)
+
+-- clauses one after another, each of some form and without a fault, lead from q to r
+abbrev pub Makes : Progress → List (List ℕ) → Progress → Type 0
+Makes q [] r = q ≡ r
+Makes q (c ∷ cs) r = (f : Form) × AreClause f c × ((n : Fault) → ¬ (HasFault q c n)) × Makes (with_form q f) cs r
+
+-- ---- texts
+
+abbrev pub IsShort : List ℕ → Type 0
+IsShort text = length text ≤ 65536
+
+-- The text is a program of this meaning: clauses without faults, and layout alone after the last full stop.
+abbrev pub IsProgramText : List ℕ → Meaning → Type 0
+IsProgramText text m = IsShort text × (cs : List (List ℕ)) × (rest : List ℕ) × (q : Progress)
+    × (pieces (without_comments text) ≡ cs ++ rest ∷ []) × Makes nothing cs q × ((n : Fault) → ¬ (HasRestFault rest n)) × (m ≡ q.meaning)
+
+-- the least fault of a clause, or of the rest where nothing stands after it
+abbrev pub IsLeastAt : List (List ℕ) → Progress → List ℕ → Fault → Type 0
+IsLeastAt [] q c n = IsLeast (HasRestFault c) n
+IsLeastAt (d ∷ ds) q c n = IsLeast (HasFault q c) n
+
+-- The text is refused with the fault n at the clause k: the clauses before it have no faults, and n is its least.
+abbrev pub IsRefusedText : List ℕ → Fault → ℕ → Type 0
+IsRefusedText text n k = IsShort text × (before : List (List ℕ)) × (c : List ℕ) × (after : List (List ℕ)) × (q : Progress)
+    × (pieces (without_comments text) ≡ before ++ c ∷ after) × (k ≡ length before + 1) × Makes nothing before q × IsLeastAt after q c n
+
+-- an answer says what the text is, unless memory ran out
+abbrev pub IsAnswer : List ℕ → Result Program ReadFault → Type 0
+IsAnswer text (Ok p) = IsProgramText text (meaning_of p)
+IsAnswer text (Err TooLong) = 65536 < length text
+IsAnswer text (Err (Bad n k)) = IsRefusedText text n k
+IsAnswer text (Err Memory) = Unit {0}
+
+-- ---- the laws
+
+-- what is read as a program is one, and each program is read
+abbrev pub ProgramsAreRead : Type 0
+ProgramsAreRead = (text : List ℕ) (m : Meaning) → text_read text ≡ Ok m ↔ IsProgramText text m
+
+-- what is refused is refused rightly, and each such text is refused
+abbrev pub BadTextsAreRefused : Type 0
+BadTextsAreRefused = (text : List ℕ) (n : Fault) (k : ℕ) → text_read text ≡ Err (Bad n k) ↔ IsRefusedText text n k
+
+abbrev pub LongTextsAreRefused : Type 0
+LongTextsAreRefused = (text : List ℕ) → text_read text ≡ Err TooLong ↔ 65536 < length text

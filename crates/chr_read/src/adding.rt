@@ -1,0 +1,125 @@
+//! What a clause without faults adds to a program.
+
+ghost use Rattle.std.specs.Prelude.{◌≡◌, ◌<◌, ◌++◌, [], ◌∷◌, map, option_map, length, Some, None, Option, OnOk, IfOk, IsTrue, true, false, unwrap_or};
+ghost use Rattle.chr_base.specs.Programs.{declarations, rules_of};
+ghost use Rattle.chr_base.specs.ProgramTests.{with_weight};
+ghost use Rattle.chr_base.specs.RuleTests.{is_rule};
+ghost use Rattle.chr_syntax.specs.Clauses.{weight, rule};
+ghost use Rattle.chr_syntax.specs.Grammar.{IsForm};
+ghost use Rattle.chr_syntax.specs.Views.{symbol_view, rule_view, clause_view};
+ghost use Rattle.chr_read.specs.Adding.{can_declare, can_declare_all};
+ghost use Rattle.chr_read.specs.Faults.{rule_over, rule_unbound, fault_in};
+ghost use Rattle.chr_read.specs.Meanings.{rule_data};
+ghost use Rattle.chr_read.specs.Reading.{declared_symbol, with_symbols, with_rule, with_form};
+ghost use Rattle.chr_read.specs.Resolving.{resolved};
+ghost use Rattle.chr_read.specs.Views.{progress_of};
+
+use crate::number::{arity_of, weight_of};
+use crate::reader::Reader;
+use crate::resolve::{body, guard, heads, label};
+use crate::symbols::{name_in, place_of_symbol};
+use arrayvec::{ArrayString, ArrayVec};
+use chr_base::program::Program;
+use chr_base::rule::Rule;
+use chr_base::term::{Comparison, Pattern};
+use chr_syntax::{RawClause, RawRule, RawSymbol};
+use std::alloc::{AllocError, Global};
+
+/// Declares a symbol.
+fn add_symbol(program: &mut Program, symbol: &RawSymbol<'_>) -> Result<(), AllocError>
+    requires { can_declare (declarations program.old) (symbol_view symbol.now) ≡ true }
+    ensures symbols { OnOk result (declarations program.new ≡ declarations program.old ++ declared_symbol (symbol_view symbol.now) ∷ []) }
+    ensures rules { rules_of program.new ≡ rules_of program.old }
+{
+    let name = name_in(symbol.name).unwrap();
+    let arity = arity_of(symbol.arity).unwrap();
+    program.declare(name, arity)
+}
+
+/// Declares these symbols, one after another.
+fn add_symbols(program: &mut Program, symbols: &[RawSymbol<'_>]) -> Result<(), AllocError>
+    requires { can_declare_all (declarations program.old) (map symbol_view symbols.now) ≡ true }
+    ensures symbols { OnOk result (declarations program.new ≡ declarations program.old ++ map declared_symbol (map symbol_view symbols.now)) }
+    ensures rules { rules_of program.new ≡ rules_of program.old }
+{
+    for symbol in symbols {
+        add_symbol(program, symbol)?;
+    }
+    Ok(())
+}
+
+/// Gives a symbol its weight, and notes that it has one.
+fn add_weight(reader: &mut Reader, symbol: &RawSymbol<'_>, digits: &[u8]) -> Result<(), AllocError>
+    requires { fault_in (progress_of reader.old) (weight (symbol_view symbol.now) digits.now) ≡ None }
+    ensures { OnOk result (progress_of reader.new ≡ with_form (progress_of reader.old) (weight (symbol_view symbol.now) digits.now)) }
+{
+    let place = place_of_symbol(&reader.program, symbol).unwrap();
+    let weight = weight_of(digits).unwrap();
+    reader.weighed.push(place)?;
+    reader.program.set_weight(place, weight);
+    Ok(())
+}
+
+/// A rule of these parts.
+fn make_rule(
+    name: Option<ArrayString<32>>,
+    kept: ArrayVec<Pattern, 4>,
+    removed: ArrayVec<Pattern, 4>,
+    guard: ArrayVec<Comparison, 8>,
+    body: ArrayVec<Pattern, 8>,
+) -> Rule
+    requires { IsTrue (is_rule kept.items removed.items guard.items body.items) }
+    ensures { rule_data result ≡ record { name = option_map (λ n. n.bytes) name; kept = kept.items; removed = removed.items; guard = guard.items; body = body.items } }
+{
+    Rule {
+        name,
+        kept,
+        removed,
+        guard,
+        body,
+    }
+}
+
+/// The rule that a rule as written is.
+fn resolved(alloc: Global, program: &Program, raw: &RawRule<'_>) -> Result<Rule, AllocError>
+    requires over { rule_over (rule_view raw.now) ≡ false }
+    requires unbound { rule_unbound (rule_view raw.now) ≡ false }
+    requires some { 0 < length (rule_view raw.now).removed }
+    ensures { IfOk result (λ r. rule_data r ≡ resolved (declarations program.now) (rule_view raw.now)) }
+{
+    let mut names = Vec::new(alloc);
+    let kept = heads(program, &mut names, &raw.kept)?;
+    let removed = heads(program, &mut names, &raw.removed)?;
+    let guard = guard(&names, &raw.guard);
+    let body = body(program, &names, &raw.body);
+    Ok(make_rule(label(raw.label), kept, removed, guard, body))
+}
+
+/// Adds a rule.
+fn add_rule(alloc: Global, reader: &mut Reader, raw: &RawRule<'_>) -> Result<(), AllocError>
+    requires none { fault_in (progress_of reader.old) (rule (rule_view raw.now)) ≡ None }
+    requires some { 0 < length (rule_view raw.now).removed }
+    ensures { OnOk result (progress_of reader.new ≡ with_rule (progress_of reader.old) (rule_view raw.now)) }
+{
+    let rule = resolved(alloc, &reader.program, raw)?;
+    reader.program.push_rule(rule)
+}
+
+/// Adds what a clause without faults says.
+pub fn add_clause(
+    alloc: Global,
+    reader: &mut Reader,
+    clause: &RawClause<'_>,
+) -> Result<(), AllocError>
+    requires none { fault_in (progress_of reader.old) (clause_view clause.now) ≡ None }
+    requires form { IsForm (clause_view clause.now) }
+    ensures { OnOk result (progress_of reader.new ≡ with_form (progress_of reader.old) (clause_view clause.now)) }
+{
+    match clause {
+        RawClause::UseModule => Ok(()),
+        RawClause::Declare(symbols) => add_symbols(&mut reader.program, symbols),
+        RawClause::Weight { symbol, weight } => add_weight(reader, symbol, weight),
+        RawClause::Rule(rule) => add_rule(alloc, reader, rule),
+        RawClause::Propagation(_) => Ok(()),
+    }
+}

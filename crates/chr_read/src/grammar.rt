@@ -1,0 +1,24 @@
+//! What the program of a text is, as laws above the functions that read it.
+
+ghost use Rattle.chr_read.specs.NamesOfForms.{NamesAreText};
+ghost use Rattle.chr_read.specs.Numberings.{HeadsAreOneList, OneNumberIsOneVariable};
+ghost use Rattle.chr_read.specs.ProgramTexts.{BadTextsAreRefused, LongTextsAreRefused, ProgramsAreRead};
+
+/// A text is read as a program exactly where its clauses have forms without faults, and refused exactly with the least fault of
+/// its first bad clause, or because it is too long.
+pub fn programs_are_read()
+    ensures programs { ProgramsAreRead }
+    ensures refused { BadTextsAreRefused }
+    ensures long { LongTextsAreRefused }
+{}
+
+/// The names of each clause are text, so of them only their lengths are limited.
+pub fn names_are_text()
+    ensures { NamesAreText }
+{}
+
+/// Two places of a rule's heads have one number exactly where they have one variable, which is not `_`.
+pub fn variables_are_numbered()
+    ensures list { HeadsAreOneList }
+    ensures same { OneNumberIsOneVariable }
+{}

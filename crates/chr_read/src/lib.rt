@@ -1,0 +1,20 @@
+//! The program of a text.
+#![tactic(auto)]
+
+mod adding;
+mod binding;
+mod doubles;
+mod fault;
+mod faults;
+mod grammar;
+mod limits;
+mod number;
+mod reader;
+mod resolve;
+mod symbols;
+#[cfg(test)]
+mod tests;
+
+pub use fault::{Fault, ReadFault};
+pub use grammar::{names_are_text, programs_are_read, variables_are_numbered};
+pub use reader::read;

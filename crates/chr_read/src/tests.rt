@@ -1,0 +1,358 @@
+use crate::{Fault, ReadFault, read};
+use chr_base::atom::SymbolId;
+use chr_base::program::Program;
+use chr_base::term::{Cmp, Term};
+use std::alloc::{AllocError, Global};
+use std::fmt::Write;
+use std::test::Fail;
+
+#[derive(Debug, PartialEq, Eq, Drop)]
+enum Outcome {
+    /// How many symbols and rules it has.
+    Program(usize, usize),
+    /// The fault's number, and the clause.
+    Bad(u8, usize),
+    TooLong,
+}
+
+fn outcome_of(alloc: Global, text: &[u8]) -> Result<Outcome, AllocError> {
+    match read(alloc, text) {
+        Ok(program) => Ok(Outcome::Program(program.symbols(), program.rules().len())),
+        Err(ReadFault::Bad { fault, clause }) => Ok(Outcome::Bad(fault.number(), clause)),
+        Err(ReadFault::TooLong) => Ok(Outcome::TooLong),
+        Err(ReadFault::Memory) => Err(AllocError),
+    }
+}
+
+#[test]
+fn programs(rt: HostRuntime) -> Result<(), Fail> {
+    let alloc = rt.alloc();
+    for (text, symbols, rules) in [
+        ("", 0, 0),
+        ("% a. b\n", 0, 0),
+        (" \t\r\n", 0, 0),
+        ("% \u{e9}", 0, 0),
+        (
+            ":-use_module(library(chr)).:-use_module ( library ( chr ) ) .",
+            0,
+            0,
+        ),
+        (
+            ":- chr_constraint coin/0, note/0. coin, coin <=> note.",
+            2,
+            1,
+        ),
+        (":- chr_constraint a/1, b/1. a(X), a(X) <=> b(X).", 2, 1),
+        (":- chr_constraint coin/0, note/0. coin <=> note.", 2, 1),
+        (":- chr_constraint a/1. a(X) <=> X == 1 | true.", 1, 1),
+        (
+            ":- chr_constraint a/1. a(-9223372036854775808) <=> true.",
+            1,
+            1,
+        ),
+        (
+            ":- chr_constraint a/1. a(9223372036854775807) <=> true.",
+            1,
+            1,
+        ),
+        (
+            ":- chr_constraint a/1. a(00000000000000000000000000001) <=> true.",
+            1,
+            1,
+        ),
+        (":-chr_constraint min/1.m@min(X)\\min(Y)<=>X=<Y|true.", 1, 1),
+        (":- chr_constraint a/0, a/1, a/2.", 3, 0),
+        (":- chr_constraint a/4.", 1, 0),
+        (":- chr_constraint a/0004, a/00.", 2, 0),
+        (
+            ":- chr_constraint a234567890123456789012345678901x/0.",
+            1,
+            0,
+        ),
+        (
+            ":- chr_constraint a/1. a(X234567890123456789012345678901x) <=> true.",
+            1,
+            1,
+        ),
+        (
+            ":- chr_constraint a/0. x234567890123456789012345678901y @ a <=> true.",
+            1,
+            1,
+        ),
+        (":- chr_constraint a/0. a, a, a, a <=> true.", 1, 1),
+        (":- chr_constraint a/0. a, a \\ a, a <=> true.", 1, 1),
+        (
+            ":- chr_constraint a/0. a <=> a, a, a, a, true, a, a, a, a, true.",
+            1,
+            1,
+        ),
+        (
+            ":- chr_constraint a/1. a(X) <=> X<1, X<2, X<3, X<4, true, X<5, X<6, X<7, X<8 | true.",
+            1,
+            1,
+        ),
+        (
+            ":- chr_constraint a/0. a <=> true, true | true, true.",
+            1,
+            1,
+        ),
+        (":- chr_constraint a/1. a(_X) <=> a(_X).", 1, 1),
+        (":- chr_constraint a/1. a(__) <=> a(__).", 1, 1),
+        (":- chr_constraint a/2. a(_,_) <=> true.", 1, 1),
+        (":- chr_constraint a/1. a(X) <=> X<-3 | true.", 1, 1),
+        (":- chr_constraint a/0. :- chr_weight a/0 = 1000000.", 1, 0),
+        (
+            ":- chr_constraint a/0, a/1. :- chr_weight a/0 = 2. :- chr_weight a/1 = 2.",
+            2,
+            0,
+        ),
+        (
+            ":- chr_constraint a/0. a <=> true. :- chr_weight a/00 = 0003.",
+            1,
+            1,
+        ),
+        (
+            ":- chr_constraint a/0. r @ a <=> true. r @ a <=> true.",
+            1,
+            2,
+        ),
+        (
+            ":- chr_constraint chr/0, chr_weight/1. chr <=> chr_weight(1).",
+            2,
+            1,
+        ),
+        (
+            ":- chr_constraint a/0. % a <=> b.\na <=> true. % \u{7}.",
+            1,
+            1,
+        ),
+    ] {
+        assert_eq!(rt;
+            outcome_of(alloc, text.as_bytes())?,
+            Outcome::Program(symbols, rules),
+            "{text}"
+        );
+    }
+    Ok(())
+}
+
+#[test]
+fn faults_of_directives(rt: HostRuntime) -> Result<(), Fail> {
+    let alloc = rt.alloc();
+    for (text, fault, clause) in [
+        (".", 3, 1),
+        ("\u{7}.", 1, 1),
+        (". \u{7}.", 3, 1),
+        (":- chr_constraint a/0. \u{e9}", 1, 2),
+        ("a", 11, 1),
+        (":- chr_constraint a/0", 11, 1),
+        (":- chr_constraint a/0. $", 11, 2),
+        (":- chr_constraint a/0. $.", 3, 2),
+        (":- chr_constraint a/1, a/1.", 6, 1),
+        (":- chr_constraint a/0, a/00.", 6, 1),
+        (":- chr_constraint a/9, a/09.", 6, 1),
+        (":- chr_constraint a/0. :- chr_constraint b/1, a/0.", 6, 2),
+        (":- chr_constraint a/5.", 7, 1),
+        (":- chr_constraint a/9, a/8.", 7, 1),
+        (":- chr_constraint a/256.", 7, 1),
+        (":- chr_constraint a/18446744073709551616.", 7, 1),
+        (
+            ":- chr_constraint a234567890123456789012345678901xy/0.",
+            7,
+            1,
+        ),
+        (":- chr_constraint a/0. :- chr_weight a/0 = 0.", 10, 2),
+        (":- chr_constraint a/0. :- chr_weight a/0 = -1.", 10, 2),
+        (":- chr_constraint a/0. :- chr_weight a/0 = 1000001.", 10, 2),
+        (
+            ":- chr_constraint a/0. :- chr_weight a/0 = 9223372036854775808.",
+            9,
+            2,
+        ),
+        (
+            ":- chr_constraint a/0. :- chr_weight a/0 = 1. :- chr_weight a/0 = 1.",
+            10,
+            3,
+        ),
+        (":- chr_constraint a/0. :- chr_weight b/0 = 1.", 5, 2),
+        (":- chr_constraint a/0. :- chr_weight a/1 = 1.", 5, 2),
+        (
+            ":- chr_constraint a/0. :- chr_weight a/5 = 99999999999999999999.",
+            5,
+            2,
+        ),
+        (":- chr_weight a/0 = 1. :- chr_constraint a/0.", 5, 1),
+        (":- chr_constraint true/0.", 3, 1),
+        (":- chr_constraint a/-1.", 3, 1),
+    ] {
+        assert_eq!(rt;
+            outcome_of(alloc, text.as_bytes())?,
+            Outcome::Bad(fault, clause),
+            "{text}"
+        );
+    }
+    Ok(())
+}
+
+#[test]
+fn faults_of_rules(rt: HostRuntime) -> Result<(), Fail> {
+    let alloc = rt.alloc();
+    for (rule, fault) in [
+        ("a(X) <=> X = 1 | true", 3),
+        ("a <=> fail", 3),
+        ("true <=> a", 3),
+        ("a(1.0) <=> true", 3),
+        ("a(X) <=> X<=3 | true", 3),
+        ("a(X) <=> X-3 | true", 3),
+        ("a ==> true", 4),
+        ("x ==> x(Y)", 4),
+        ("a(X) <=> b(X)", 5),
+        ("a <=> a(1,2)", 5),
+        ("b \\ a <=> true", 5),
+        ("a, a, a, a, b <=> true", 5),
+        ("a <=> a, a, a, a, a, a, a, a, a, a(Y), b", 5),
+        ("b234567890123456789012345678901xy <=> true", 5),
+        ("a, a, a, a, a <=> true", 7),
+        ("a, a \\ a, a, a <=> true", 7),
+        ("a <=> a, a, a, a, a, a, a, a, a", 7),
+        (
+            "a(X) <=> X<1, X<2, X<3, X<4, X<5, X<6, X<7, X<8, X<9 | true",
+            7,
+        ),
+        ("a(X234567890123456789012345678901xy) <=> true", 7),
+        ("a <=> X234567890123456789012345678901xy < 1 | true", 7),
+        ("x234567890123456789012345678901yz @ a <=> true", 7),
+        ("a(X) <=> Y > 1 | true", 8),
+        ("a(X) <=> a(Y)", 8),
+        ("a(_) <=> a(_)", 8),
+        ("a(_) <=> 1 < _ | true", 8),
+        ("a(9223372036854775808) <=> a(Y)", 8),
+        ("a(9223372036854775808) <=> true", 9),
+        ("a(X) <=> X > -9223372036854775809 | true", 9),
+        ("a <=> a(100000000000000000000000000000000000000000)", 9),
+    ] {
+        let text = format!(in alloc; ":- chr_constraint a/0, a/1. {rule}. \u{7}.")?;
+        assert_eq!(rt;
+            outcome_of(alloc, text.as_bytes())?,
+            Outcome::Bad(fault, 2),
+            "{rule}"
+        );
+    }
+    Ok(())
+}
+
+#[test]
+fn sixty_four_symbols_and_rules(rt: HostRuntime) -> Result<(), Fail> {
+    let alloc = rt.alloc();
+    let mut text = String::from_str(alloc, ":- chr_constraint a0/0")?;
+    for i in 1..64 {
+        write!(text, ", a{i}/0")?;
+    }
+    let many = format!(in alloc; "{text}, b/0.")?;
+    text.push_str(".")?;
+    assert_eq!(rt;
+        outcome_of(alloc, text.as_bytes())?,
+        Outcome::Program(64, 0)
+    );
+    assert_eq!(rt; outcome_of(alloc, many.as_bytes())?, Outcome::Bad(7, 1));
+    let more = format!(in alloc; "{text} :- chr_constraint b/0.")?;
+    assert_eq!(rt; outcome_of(alloc, more.as_bytes())?, Outcome::Bad(7, 2));
+    for _ in 0..64 {
+        text.push_str("a0 <=> true.")?;
+    }
+    assert_eq!(rt;
+        outcome_of(alloc, text.as_bytes())?,
+        Outcome::Program(64, 64)
+    );
+    text.push_str("a0 <=> true.")?;
+    assert_eq!(rt; outcome_of(alloc, text.as_bytes())?, Outcome::Bad(7, 66));
+    Ok(())
+}
+
+#[test]
+fn the_longest_text(rt: HostRuntime) -> Result<(), Fail> {
+    let alloc = rt.alloc();
+    let mut text = Vec::new(alloc);
+    for _ in 0..65_536 {
+        text.push(b' ')?;
+    }
+    assert_eq!(rt; outcome_of(alloc, &text)?, Outcome::Program(0, 0));
+    text.push(7)?;
+    assert_eq!(rt; outcome_of(alloc, &text)?, Outcome::TooLong);
+    Ok(())
+}
+
+fn parts(program: &Program) -> bool {
+    let [rule] = program.rules() else {
+        return false;
+    };
+    let ([kept], [removed], [first, second], [body]) = (
+        rule.kept.as_slice(),
+        rule.removed.as_slice(),
+        rule.guard.as_slice(),
+        rule.body.as_slice(),
+    ) else {
+        return false;
+    };
+    rule.name.is_some()
+        && kept.symbol == SymbolId(0)
+        && kept.args.as_slice() == [Term::Variable(1), Term::Variable(2)].as_slice()
+        && removed.symbol == SymbolId(0)
+        && removed.args.as_slice() == [Term::Variable(3), Term::Constant(-3)].as_slice()
+        && first.left == Term::Variable(1)
+        && first.cmp == Cmp::AtLeast
+        && first.right == Term::Constant(-5)
+        && second.left == Term::Variable(3)
+        && second.cmp == Cmp::NotEqual
+        && second.right == Term::Variable(1)
+        && body.symbol == SymbolId(1)
+        && body.args.is_empty()
+}
+
+#[test]
+fn a_rule_with_all_parts(rt: HostRuntime) -> Result<(), Fail> {
+    let alloc = rt.alloc();
+    let text = ":- use_module(library(chr)). :- chr_constraint p/2, q/0. :- chr_weight p/2 = 007.
+r @ p(X,_) \\ p(Y,-03) <=> true, X >= -5, Y =\\= X | true, q.";
+    match read(alloc, text.as_bytes()) {
+        Ok(program) => {
+            assert!(rt; parts(&program));
+            assert_eq!(rt; program.symbols(), 2);
+            if program.symbols() == 2 {
+                assert_eq!(rt; program.weight_of(SymbolId(0)), 7);
+                assert_eq!(rt; program.weight_of(SymbolId(1)), 1);
+            }
+        }
+        Err(ReadFault::Memory) => return Err(Fail::from(AllocError)),
+        Err(_) => assert!(rt; false),
+    }
+    Ok(())
+}
+
+fn args_of(program: &Program) -> bool {
+    let [rule] = program.rules() else {
+        return false;
+    };
+    let [first, second] = rule.removed.as_slice() else {
+        return false;
+    };
+    first.args.as_slice() == [Term::Variable(1), Term::Variable(2)].as_slice()
+        && second.args.as_slice() == [Term::Variable(3), Term::Variable(1)].as_slice()
+}
+
+#[test]
+fn each_underscore_is_a_variable(rt: HostRuntime) -> Result<(), Fail> {
+    let alloc = rt.alloc();
+    match read(alloc, b":- chr_constraint p/2. p(X,_), p(_,X) <=> true.") {
+        Ok(program) => assert!(rt; args_of(&program)),
+        Err(ReadFault::Memory) => return Err(Fail::from(AllocError)),
+        Err(_) => assert!(rt; false),
+    }
+    Ok(())
+}
+
+#[test]
+fn numbers_of_faults(rt: HostRuntime) {
+    assert_eq!(rt; Fault::BadByte.number(), 1);
+    assert_eq!(rt; Fault::Unended.number(), 11);
+}

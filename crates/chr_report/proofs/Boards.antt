@@ -1,0 +1,82 @@
+-- The board's pool and what was told.
+use Rattle.std.proofs.Common.{◌≡◌, ℕ, suc, List, [], ◌∷◌, length, refl, sym, ap, ◌∙◌, arith}
+use Rattle.std.specs.Prelude.{◌≢◌, Option, Some, None, IfSome, option_map, option_and_then}
+use Rattle.std.specs.Option.{IsSomeAnd}
+use Rattle.chr_base.specs.ProgramTests.{Declaration}
+use Rattle.chr_base.specs.Texts.{store_text}
+use Rattle.chr_ops.specs.Operations.{Operation, Operations, told_store, IsHeldOtherwise}
+use Rattle.chr_ops.specs.Operations.{IsOperationBag}
+use Rattle.chr_json.specs.Commands.{Word, IsOperationLength}
+use Rattle.chr_json.specs.Values.{each}
+use Rattle.chr_report.specs.Replies.{refused}
+use Rattle.chr_report.specs.Answers.{atom_of, atoms_of, AnswersTell, AnswersShow}
+use Rattle.chr_base.specs.declared.rule.Rule.{Rule}
+use Rattle.chr_base.specs.declared.atom.Atom.{Atom}
+use Rattle.chr_base.specs.declared.program.Program.{Program}
+use Rattle.chr_base.specs.FinBag as bag
+use Rattle.chr_base.specs.FinBag.{◌⊕◌, total}
+use Rattle.chr_base.specs.Stores.{Store, store_of, store_of-items, size, weight_store_of}
+use Rattle.chr_base.specs.Rules.{Step}
+use Rattle.chr_base.specs.Programs.{rules_of}
+use Rattle.chr_base.specs.Rewriting.{Reaches, reaches_on, IsNormalForm}
+use Rattle.chr_rewrite.specs.Pools.{TookSteps}
+use Rattle.chr_rewrite.specs.PoolLaws.{reaches_more, took_reaches}
+
+-- nothing told, nothing in the pool
+pub nothing_reached : (rules : List Rule) (s t : Store) → s ≡ bag.empty → t ≡ bag.empty → Reaches (Step rules) s t
+nothing_reached rules s t e f = (0, e ∙ sym f)
+
+-- what is told goes into the pool as well
+pub told_reached : (rules : List Rule) (s s' t t' more again : Store) → Reaches (Step rules) s t → s' ≡ s ⊕ more → again ≡ more → t' ≡ t ⊕ again → Reaches (Step rules) s' t'
+told_reached rules s s' t t' more again r e f g =
+    let h : t' ≡ t ⊕ more = g ∙ ap (λ x. t ⊕ x) f in
+    rw (e, h) (reaches_more rules s t more r)
+
+-- an id that stands for another bag
+pub clash_answered : (old new : Operations) (op : Operation) → IsHeldOtherwise old op → new ≡ old → AnswersTell old op (refused 33) new
+clash_answered old new op held same = record {
+  again = λ h. absurd (let k : IsSomeAnd (Some op.1) (λ b. b ≢ op.1) = rw h at held in k refl);
+  clash = λ _. (refl, same);
+  full = λ h _. absurd (let k : IsSomeAnd {T = Store} None (λ b. b ≢ op.1) = rw h at held in k);
+  told = λ h _. absurd (let k : IsSomeAnd {T = Store} None (λ b. b ≢ op.1) = rw h at held in k);
+}
+
+-- resting the pool
+pub rested_reached : (p : Program) (n : ℕ) (s t u : Store) → Reaches (Step (rules_of p)) s t → TookSteps p n t u → Reaches (Step (rules_of p)) s u
+rested_reached p n s t u r h = reaches_on (Step (rules_of p)) s t u r (took_reaches p n t u h)
+
+-- what is shown
+pub shown : (ds : List Declaration) (rules : List Rule) (old : Operations) (r : ℕ) (t : Store) (text : List ℕ) → r ≡ 1 → IsNormalForm (Step rules) (told_store old) t → text ≡ store_text ds t → (new : Operations) → new ≡ old → AnswersShow ds rules old r text new
+shown ds rules old r t text e n f new g = rw e (record { store = t; normal_form = n; text_is = f }, g)
+
+-- the atoms that were kept are the operation's
+pub kept_atoms : {I : Type 0} (xs : List Atom) (t b : Store) (o : Option (I × Store)) (op : I × Store) (i : I) → xs ≡ bag.items t → t ≡ b → o ≡ Some op → IfSome o (λ x. x ≡ (i, b)) → store_of xs ≡ op.1
+kept_atoms xs t b o op i e f g h =
+    let k : IfSome (Some op) (λ x. x ≡ (i, b)) = rw g at h in
+    ap store_of e ∙ store_of-items t ∙ f ∙ sym (ap (λ x. x.1) k)
+
+-- ---- as many atoms as words
+
+length-each : {A B : Type 0} (f : A → Option B) (xs : List A) (ys : List B) → each f xs ≡ Some ys → length ys ≡ length xs
+length-each f [] ys h = ap length (let e : ys ≡ [] = cc in e)
+length-each f (x ∷ xs) ys h = by (f x) refl (each f xs) refl h (length-each f xs)
+  where
+    by : (o : Option _) → f x ≡ o → (p : Option (List _)) → each f xs ≡ p → option_and_then (λ y. option_map (λ zs. y ∷ zs) p) o ≡ Some ys → ((zs : List _) → each f xs ≡ Some zs → length zs ≡ length xs) → length ys ≡ suc (length xs)
+    by None q p r h more = absurd (let e : ◌≡◌ {A = Option (List _)} None (Some ys) = h in cc)
+    by (Some y) q None r h more = absurd (let e : ◌≡◌ {A = Option (List _)} None (Some ys) = h in cc)
+    by (Some y) q (Some zs) r h more = let e : y ∷ zs ≡ ys = cc in ap length (sym e) ∙ ap suc (more zs r)
+
+length_total : (xs : List Atom) → length xs ≡ total (λ _. 1) xs
+length_total [] = refl
+length_total (x ∷ xs) = let h = length_total xs in omega (arith, h)
+
+size-of : (xs : List Atom) → size (store_of xs) ≡ length xs
+size-of xs =
+    length_total (bag.items (store_of xs)) ∙ sym (bag.sum_over-items (λ _. 1) (store_of xs)) ∙ weight_store_of (λ _. 1) xs ∙ sym (length_total xs)
+
+-- what a line tells has as many atoms as the line
+pub told_size : (ds : List Declaration) (ws : List Word) (xs : List Atom) → Some xs ≡ atoms_of ds ws → IsOperationLength (length ws) → IsOperationBag (store_of xs)
+told_size ds ws xs e h =
+    let n = length-each (atom_of ds) ws xs (sym e) in
+    let s = size-of xs in
+    (omega (arith, n, s, h), omega (arith, n, s, h))

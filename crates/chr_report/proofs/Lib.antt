@@ -1,0 +1,5 @@
+pub mod LineLaws
+pub mod Boards
+pub mod Continuing
+pub mod Cutting
+pub mod Outcomes

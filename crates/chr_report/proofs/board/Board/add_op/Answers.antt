@@ -1,0 +1,16 @@
+use Rattle.std.proofs.Common.{refl}
+use Rattle.chr_base.specs.Programs.{rules_of}
+use Rattle.chr_weights.specs.WeighedPrograms.{program_of}
+use Rattle.chr_ops.specs.Operations.{told_store}
+use Rattle.chr_report.proofs.Boards.{told_reached, clash_answered}
+use Rattle.chr_report.proofs.board.Board.add_op.Goals as goal
+
+pub returns-in_ok-insert-in-Ok-New-clause-reached : goal.returns-in_ok-insert-in-Ok-New-clause-reached
+returns-in_ok-insert-in-Ok-New-clause-reached c =
+    let e = rw c.in-Ok-New.field-0-is at c.in-Ok-New.ensures in
+    told_reached (rules_of (program_of c.args.self.now.weighed)) (told_store c.args.self.now.ops) _ c.args.self.now.pool _ c.args.op.1 _ c.requires.reached (e.told refl) c.requires.atoms c.in_ok-insert-in-Ok-New.ensures.ok
+
+pub returns-in-Err-Clash-clause-answer : goal.returns-in-Err-Clash-clause-answer
+returns-in-Err-Clash-clause-answer c =
+    let e = rw c.in-Err-Clash.field-0-is at c.in-Err-Clash.ensures in
+    clash_answered c.args.self.now.ops _ c.args.op ((e.clash c.in-Err-Clash.field-0-0).0 refl).1 e.err

@@ -1,0 +1,67 @@
+-- What a run writes for an input: the verdict, and for a program that lowers the answers of its command lines.
+--     fault_text        the line of a text that is no program
+--     IsFirstNotLowered        the first rule whose removed heads do not outweigh its body, with both weights
+--     IsOutput        the output and its status: `accepted` where a program was read that lowers
+use Rattle.std.specs.Prelude.{◌≡◌, ℕ, ◌+◌, ◌-◌, ◌<◌, ◌≤◌, List, [], ◌∷◌, ◌++◌, Some, Result, Ok, Err, slice_get, codes, length}
+use Rattle.std.specs.Fmt.{decimal}
+use Rattle.std.specs.FinMap as map
+use Rattle.chr_base.specs.declared.rule.Rule.{Rule}
+use Rattle.chr_base.specs.declared.program.Program.{Program}
+use Rattle.chr_base.specs.FinBag.{total}
+use Rattle.chr_base.specs.Rules.{Valuation, atoms_at}
+use Rattle.chr_base.specs.StepLaws.{RuleLowers}
+use Rattle.chr_base.specs.Programs.{declarations, rules_of}
+use Rattle.chr_weights.specs.Weights.{weight_in, ProgramLowers}
+use Rattle.chr_read.specs.Meanings.{Meaning, meaning_of}
+use Rattle.chr_read.specs.Numbers.{number_of_fault}
+use Rattle.chr_read.specs.Reading.{text_read}
+use Rattle.chr_read.specs.declared.fault.ReadFault.{ReadFault}
+use Rattle.chr_read.specs.declared.fault.ReadFault.TheVariants as fault
+use Rattle.chr_report.specs.declared.running.Status.{Status}
+use Rattle.chr_report.specs.declared.running.Status.TheVariants.{Accepted, Refused}
+use Rattle.chr_report.specs.Lines.{lines, text_of, commands_of}
+use Rattle.chr_report.specs.Answers.{AnswersAll}
+
+abbrev pub fault_text : ReadFault → List ℕ
+fault_text fault.TooLong = codes "refused 2"
+fault_text (fault.Bad f k) = codes "refused " ++ decimal (number_of_fault f) ++ codes ": clause " ++ decimal k
+fault_text fault.Memory = []
+
+pub record IsFirstNotLowered (p : Program) (i before after : ℕ) : Type 0 where
+  pub first : 0 < i
+  pub within : i ≤ length (rules_of p)
+  pub earlier : (j : ℕ) (r : Rule) → j + 1 < i → slice_get (rules_of p) j ≡ Some r → RuleLowers (weight_in p) r
+  pub weight_before : (r : Rule) (v : Valuation) → slice_get (rules_of p) (i - 1) ≡ Some r → before ≡ total (weight_in p) (atoms_at v r.removed.items)
+  pub weight_after : (r : Rule) (v : Valuation) → slice_get (rules_of p) (i - 1) ≡ Some r → after ≡ total (weight_in p) (atoms_at v r.body.items)
+  pub not_lowered : before ≤ after
+
+abbrev pub not_lowered_text : ℕ → ℕ → ℕ → List ℕ
+not_lowered_text i before after = codes "refused 20: rule " ++ decimal i ++ codes "; before " ++ decimal before ++ codes "; after " ++ decimal after
+
+abbrev pub weighed_text : ℕ → List ℕ
+weighed_text n = codes "weighed: rules " ++ decimal n
+
+pub record IsRefused (p : Program) (out : List ℕ) : Type 0 where
+  pub rule : ℕ
+  pub before : ℕ
+  pub after : ℕ
+  pub first : IsFirstNotLowered p rule before after
+  pub out_is : out ≡ not_lowered_text rule before after ++ 10 ∷ []
+
+-- a replica that was told nothing answers the commands
+pub record IsAnswered (p : Program) (commands : List (List ℕ)) (out : List ℕ) : Type 0 where
+  pub lowers : ProgramLowers p
+  pub answers : List ℕ
+  pub answered : AnswersAll (declarations p) (rules_of p) commands map.empty answers
+  pub out_is : out ≡ weighed_text (length (rules_of p)) ++ 10 ∷ answers
+
+abbrev pub IsProgramOutput : Program → List (List ℕ) → Status → List ℕ → Type 0
+IsProgramOutput p commands Accepted out = IsAnswered p commands out
+IsProgramOutput p commands Refused out = IsRefused p out
+
+abbrev pub IsReadOutput : Result Meaning ReadFault → List (List ℕ) → Status → List ℕ → Type 0
+IsReadOutput (Ok m) commands status out = (p : Program) × (meaning_of p ≡ m) × IsProgramOutput p commands status out
+IsReadOutput (Err e) commands status out = (status ≡ Refused) × (out ≡ fault_text e ++ 10 ∷ [])
+
+abbrev pub IsOutput : List ℕ → Status → List ℕ → Type 0
+IsOutput input status out = IsReadOutput (text_read (text_of (lines input))) (commands_of (lines input)) status out

@@ -1,0 +1,70 @@
+//! Command lines answered one after another.
+ghost use Rattle.std.specs.Prelude.{◌≡◌, OnOk, string_bytes};
+ghost use Rattle.chr_base.specs.Programs.{declarations, rules_of};
+ghost use Rattle.chr_base.specs.Rules.{Step};
+ghost use Rattle.chr_base.specs.Rewriting.{Reaches};
+ghost use Rattle.chr_ops.specs.Operations.{told_store};
+ghost use Rattle.chr_weights.specs.WeighedPrograms.{program_of};
+ghost use Rattle.chr_report.specs.Lines.{lines, without_return};
+ghost use Rattle.chr_report.specs.OptionalLines.{command_lines};
+ghost use Rattle.chr_report.specs.Answered.{AnswersLine, AnswersRest};
+
+use crate::board::Board;
+use crate::input::{next_line, without_return};
+use crate::reply::push_reply;
+use chr_json::is_blank;
+use std::alloc::{AllocError, Global};
+
+/// Answers a line, which comes without its end, unless it is blank.
+fn answer_line(
+    alloc: Global,
+    board: &mut Board,
+    line: &[u8],
+    out: &mut String,
+) -> Result<(), AllocError>
+    requires { Reaches (Step (rules_of (program_of board.old.weighed))) (told_store board.old.ops) board.old.pool }
+    ensures reached { OnOk result (Reaches (Step (rules_of (program_of board.old.weighed))) (told_store board.new.ops) board.new.pool) }
+    ensures program { board.new.weighed ≡ board.old.weighed }
+    ensures answer { OnOk result (AnswersLine (declarations (program_of board.old.weighed)) (rules_of (program_of board.old.weighed)) board.old.ops line.now (string_bytes out.old) board.new.ops (string_bytes out.new)) }
+{
+    if is_blank(line) {
+        return Ok(());
+    }
+    let reply = board.reply(alloc, line)?;
+    push_reply(out, &reply)
+}
+
+/// Answers all lines of the input.
+fn answer_lines(
+    alloc: Global,
+    board: &mut Board,
+    input: &[u8],
+    out: &mut String,
+) -> Result<(), AllocError>
+    requires { Reaches (Step (rules_of (program_of board.old.weighed))) (told_store board.old.ops) board.old.pool }
+    ensures { OnOk result (AnswersRest (declarations (program_of board.old.weighed)) (rules_of (program_of board.old.weighed)) (lines input.now) board.old.ops (string_bytes out.old) (string_bytes out.new)) }
+{
+    let mut next = Some(input);
+    while let Some(rest) = next {
+        let (line, more) = next_line(rest);
+        answer_line(alloc, board, without_return(line), out)?;
+        next = more;
+    }
+    Ok(())
+}
+
+/// Answers all commands, where there are any.
+pub(crate) fn answer_commands(
+    alloc: Global,
+    board: &mut Board,
+    commands: Option<&[u8]>,
+    out: &mut String,
+) -> Result<(), AllocError>
+    requires { Reaches (Step (rules_of (program_of board.old.weighed))) (told_store board.old.ops) board.old.pool }
+    ensures { OnOk result (AnswersRest (declarations (program_of board.old.weighed)) (rules_of (program_of board.old.weighed)) (command_lines commands.entry) board.old.ops (string_bytes out.old) (string_bytes out.new)) }
+{
+    match commands {
+        Some(input) => answer_lines(alloc, board, input, out),
+        None => Ok(()),
+    }
+}

@@ -1,0 +1,176 @@
+//! The one replica: its operations, and the pool that is reached from what they tell.
+ghost use Rattle.std.specs.Prelude.{◌≡◌, ◌≤◌, IfOk, OnOk, length, map, option_map};
+ghost use Rattle.std.specs.FinMap as finite;
+ghost use Rattle.chr_base.specs.Stores.{store_of};
+ghost use Rattle.chr_base.specs.Programs.{declarations, rules_of};
+ghost use Rattle.chr_base.specs.Rules.{Step};
+ghost use Rattle.chr_base.specs.Rewriting.{Reaches, IsNormalForm};
+ghost use Rattle.chr_json.specs.Commands.{IsOperationLength};
+ghost use Rattle.chr_json.specs.Reads.{atom_view};
+ghost use Rattle.chr_ops.specs.Operations.{told_store, IsOperationBag};
+ghost use Rattle.chr_weights.specs.WeighedPrograms.{program_of};
+ghost use Rattle.chr_report.specs.Answers.{atoms_of, Answers, AnswersShow, AnswersTell, AnswersAtoms};
+ghost use Rattle.chr_report.specs.ReplyTexts.{reply_text};
+
+use crate::reply::{Refusal, Reply};
+use chr_base::atom::Atom;
+use chr_base::bag::Bag;
+use chr_base::program::Program;
+use chr_base::text::store_text;
+use chr_json::{Command, LineFault, RawAtom, read_line};
+use chr_ops::{AddFault, Added, Op, OpId, OpSet};
+use chr_rewrite::list::ListPool;
+use chr_rewrite::pool::Pool;
+use chr_rewrite::resting::rest;
+use chr_weights::Weighed;
+use std::alloc::{AllocError, Global};
+
+/// A replica of a program. Its pool is a store that the told atoms reach.
+#[derive(Drop)]
+pub(crate) struct Board {
+    pub weighed: Weighed,
+    pub ops: OpSet,
+    pub pool: ListPool,
+}
+
+/// The atoms of a line. None where the program doesn't declare one of them.
+fn resolve(
+    alloc: Global,
+    program: &Program,
+    words: &[RawAtom],
+) -> Result<Option<Vec<Atom>>, AllocError>
+    ensures { IfOk result (λ found. option_map (λ v. v.items) found ≡ atoms_of (declarations program.now) (map atom_view words.now)) }
+{
+    let mut atoms = Vec::new(alloc);
+    for word in words {
+        let Some(atom) = program.atom(word.name.as_str(), &word.args) else {
+            return Ok(None);
+        };
+        atoms.push(atom)?;
+    }
+    Ok(Some(atoms))
+}
+
+impl Board {
+    /// The replica that was told nothing.
+    pub(crate) fn new(alloc: Global, weighed: Weighed) -> Board
+        ensures reached { Reaches (Step (rules_of (program_of result.weighed))) (told_store result.ops) result.pool }
+        ensures program { result.weighed ≡ weighed }
+        ensures operations { result.ops ≡ finite.empty }
+    {
+        Board {
+            weighed,
+            ops: OpSet::new(alloc),
+            pool: ListPool::new(alloc),
+        }
+    }
+
+    /// Rests the pool.
+    fn rest(&mut self) -> Result<(), AllocError>
+        requires { Reaches (Step (rules_of (program_of self.old.weighed))) (told_store self.old.ops) self.old.pool }
+        ensures rested { OnOk result (IsNormalForm (Step (rules_of (program_of self.old.weighed))) (told_store self.old.ops) self.new.pool) }
+        ensures program { self.new.weighed ≡ self.old.weighed }
+        ensures operations { self.new.ops ≡ self.old.ops }
+    {
+        match rest(&self.weighed, &mut self.pool) {
+            Ok(_) => Ok(()),
+            Err(_) => Err(AllocError),
+        }
+    }
+
+    /// Rests the pool and shows it.
+    fn show(&mut self, alloc: Global, replica: u64) -> Result<Reply, AllocError>
+        requires { Reaches (Step (rules_of (program_of self.old.weighed))) (told_store self.old.ops) self.old.pool }
+        ensures reached { OnOk result (Reaches (Step (rules_of (program_of self.old.weighed))) (told_store self.new.ops) self.new.pool) }
+        ensures program { self.new.weighed ≡ self.old.weighed }
+        ensures answer { IfOk result (λ reply. AnswersShow (declarations (program_of self.old.weighed)) (rules_of (program_of self.old.weighed)) self.old.ops replica (reply_text reply) self.new.ops) }
+    {
+        if replica != 1 {
+            return Ok(Reply::Refused(Refusal::NoReplica));
+        }
+        self.rest()?;
+        let bag = self.pool.bag(alloc)?;
+        let text = store_text(alloc, self.weighed.program(), &bag)?;
+        Ok(Reply::Store(text))
+    }
+
+    /// Tells the replica an operation.
+    fn tell(
+        &mut self,
+        alloc: Global,
+        replica: u64,
+        id: OpId,
+        words: &[RawAtom],
+    ) -> Result<Reply, AllocError>
+        requires reached { Reaches (Step (rules_of (program_of self.old.weighed))) (told_store self.old.ops) self.old.pool }
+        requires sized { IsOperationLength (length words.now) }
+        ensures reached { OnOk result (Reaches (Step (rules_of (program_of self.old.weighed))) (told_store self.new.ops) self.new.pool) }
+        ensures program { self.new.weighed ≡ self.old.weighed }
+        ensures answer { IfOk result (λ reply. AnswersAtoms self.old.ops replica id.origin id.number (atoms_of (declarations (program_of self.old.weighed)) (map atom_view words.now)) (reply_text reply) self.new.ops) }
+    {
+        let Some(atoms) = resolve(alloc, self.weighed.program(), words)? else {
+            return Ok(Reply::Refused(Refusal::UnknownSymbol));
+        };
+        if replica != 1 {
+            return Ok(Reply::Refused(Refusal::NoReplica));
+        }
+        self.add(alloc, id, atoms)
+    }
+
+    /// Does what a line says, which comes without its end, and answers it.
+    pub(crate) fn reply(&mut self, alloc: Global, line: &[u8]) -> Result<Reply, AllocError>
+        requires { Reaches (Step (rules_of (program_of self.old.weighed))) (told_store self.old.ops) self.old.pool }
+        ensures reached { OnOk result (Reaches (Step (rules_of (program_of self.old.weighed))) (told_store self.new.ops) self.new.pool) }
+        ensures program { self.new.weighed ≡ self.old.weighed }
+        ensures answer { IfOk result (λ reply. Answers (declarations (program_of self.old.weighed)) (rules_of (program_of self.old.weighed)) self.old.ops line.now (reply_text reply) self.new.ops) }
+    {
+        match read_line(alloc, line) {
+            Ok(Command::Show { replica }) => self.show(alloc, replica),
+            Ok(
+                Command::Tell {
+                    replica,
+                    origin,
+                    number,
+                    atoms,
+                },
+            ) => self.tell(alloc, replica, OpId { origin, number }, &atoms),
+            Err(LineFault::BadLine) => Ok(Reply::Refused(Refusal::BadLine)),
+            Err(LineFault::Shape) => Ok(Reply::Refused(Refusal::Shape)),
+            Err(LineFault::Memory) => Err(AllocError),
+        }
+    }
+
+    /// Adds an operation of these atoms.
+    fn add(&mut self, alloc: Global, id: OpId, atoms: Vec<Atom>) -> Result<Reply, AllocError>
+        requires reached { Reaches (Step (rules_of (program_of self.old.weighed))) (told_store self.old.ops) self.old.pool }
+        requires sized { IsOperationBag (store_of atoms.items) }
+        ensures reached { OnOk result (Reaches (Step (rules_of (program_of self.old.weighed))) (told_store self.new.ops) self.new.pool) }
+        ensures program { self.new.weighed ≡ self.old.weighed }
+        ensures answer { IfOk result (λ reply. AnswersTell self.old.ops (id, store_of atoms.items) (reply_text reply) self.new.ops) }
+    {
+        let bag = Bag::of(atoms)?;
+        let told = bag.copy(alloc)?;
+        let op = Op::of(id, bag).unwrap();
+        self.add_op(op, told.atoms())
+    }
+
+    /// Adds an operation of these atoms.
+    fn add_op(&mut self, op: Op, atoms: &[Atom]) -> Result<Reply, AllocError>
+        requires reached { Reaches (Step (rules_of (program_of self.old.weighed))) (told_store self.old.ops) self.old.pool }
+        requires atoms { store_of atoms.now ≡ op.1 }
+        ensures reached { OnOk result (Reaches (Step (rules_of (program_of self.old.weighed))) (told_store self.new.ops) self.new.pool) }
+        ensures program { self.new.weighed ≡ self.old.weighed }
+        ensures answer { IfOk result (λ reply. AnswersTell self.old.ops op (reply_text reply) self.new.ops) }
+    {
+        match self.ops.add(op) {
+            Ok(Added::New) => {
+                self.pool.insert(atoms)?;
+                Ok(Reply::Told)
+            }
+            Ok(Added::Again) => Ok(Reply::Again),
+            Err(AddFault::Clash(_)) => Ok(Reply::Refused(Refusal::Clash)),
+            Err(AddFault::Full) => Ok(Reply::Refused(Refusal::Full)),
+            Err(AddFault::Memory) => Err(AllocError),
+        }
+    }
+}

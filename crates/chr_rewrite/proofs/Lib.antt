@@ -1,0 +1,5 @@
+pub mod Choosing
+pub mod Searching
+pub mod Counting
+pub mod Stepping
+pub mod StepCounts

@@ -1,0 +1,41 @@
+-- Counting the steps that a pool takes.
+use Rattle.std.specs.Prelude.{◌≡◌, ℕ, ◌+◌, ◌-◌, ◌^◌, ◌<◌, min, List, length, get_or, Option, Some, None, IsTrue, IfSome, is_some, ◌↔◌, true, false}
+use Rattle.std.proofs.Common.{refl, sym, subst, arith}
+use mathlib.Core.Bool.{true≢false}
+use Rattle.std.proofs.lemmas.Option.{slice_get_read}
+use Rattle.chr_base.specs.declared.atom.Atom.{Atom}
+use Rattle.chr_base.specs.declared.rule.Rule.{Rule}
+use Rattle.chr_base.specs.declared.program.Program.{Program}
+use Rattle.chr_base.specs.FinBag.{IsWithin, ◌⊕◌, ◌⊖◌}
+use Rattle.chr_base.specs.Stores.{Store, store_of}
+use Rattle.chr_base.specs.Rules.{Step, HasInstance, atoms_at}
+use Rattle.chr_base.specs.Programs.{rules_of}
+use Rattle.chr_base.specs.StepLaws.{step_lowers}
+use Rattle.chr_base.specs.Rewriting.{IsAtRest, Runs-append, Runs-lowers}
+use Rattle.chr_weights.specs.Weights.{weight_in, store_weight, ProgramLowers}
+use Rattle.chr_rewrite.specs.Pools.{TookSteps}
+
+pub one_lowers : (p : Program) (rules : List Rule) (s t : Store) → ProgramLowers p → rules ≡ rules_of p → Step rules s t → store_weight p t < store_weight p s
+one_lowers p rules s t lowers same st = step_lowers (weight_in p) (rules_of p) lowers s t (subst (λ rs. Step rs s t) same st)
+
+pub none_yet : (p : Program) (s : Store) → TookSteps p 0 s s
+none_yet p s = (0, refl, refl, omega arith)
+
+pub one_more : (p : Program) (rules : List Rule) (n k : ℕ) (s t u : Store) → ProgramLowers p → rules ≡ rules_of p → TookSteps p n s t → Step rules t u → k ≡ min (n + 1) (2 ^ 64 - 1) → TookSteps p k s u
+one_more p rules n k s t u lowers same h st e =
+    let is = h.1 in
+    let st' = subst (λ rs. Step rs t u) same st in
+    let r = Runs-append (Step (rules_of p)) h.0 1 s t u h.2 (u, st', refl) in
+    (h.0 + 1, omega (arith, is, e), r, Runs-lowers (Step (rules_of p)) (store_weight p) (step_lowers (weight_in p) (rules_of p) lowers) (h.0 + 1) s u r)
+
+-- heads that are there make a step
+pub heads_step : (rules : List Rule) (i : ℕ) (r : Rule) (heads : List Atom) (s : Store) → i < length rules → r ≡ get_or rules i r → HasInstance r heads → IsWithin (store_of heads) s → IsAtRest (Step rules) s → ⊥
+heads_step rules i r heads s l is h w rest =
+    rest ((s ⊖ store_of (atoms_at h.0 r.removed.items)) ⊕ store_of (atoms_at h.0 r.body.items))
+    (i, r, h.0, slice_get_read rules (length rules) i r refl l is, record { guard = h.2; there = rw h.1 w; after = refl })
+
+-- what was found makes a step
+pub found_step : {A : Type 0} (items : A → List Atom) (rules : List Rule) (i : ℕ) (r : Rule) (o : Option A) (s : Store) → i < length rules → r ≡ get_or rules i r → IfSome o (λ a. HasInstance r (items a)) → IfSome o (λ a. IsWithin (store_of (items a)) s)
+    → is_some o ≡ true → IsTrue false ↔ IsAtRest (Step rules) s
+found_step items rules i r None s l is h w e = absurd (true≢false (sym e))
+found_step items rules i r (Some a) s l is h w e = ((λ f. absurd (true≢false (sym f))), λ rest. absurd (heads_step rules i r (items a) s l is h w rest))

@@ -1,0 +1,37 @@
+-- Atoms chosen from a list by their indices.
+--     atom_of items i        the atom at the index i
+--     picked items is        the atoms at these indices, in their order
+--     is_choice items taken is        the indices are within the list, all different, and none of them is among those taken
+--     has_shape_at r n a        the pattern at the head place n, counted from 0, and the atom have one symbol and as many arguments
+--     NoCompletion r items is        no choice that goes on from these indices makes an instance of the rule r
+use Rattle.std.specs.Prelude.{ℕ, Bool, true, not, ◌&&◌, List, [], ◌∷◌, ◌++◌, map, length, get_or, nat_eq, nat_lt, IsTrue}
+use Rattle.std.specs.List.{list_any}
+use Rattle.chr_base.specs.declared.atom.Atom.{Atom}
+use Rattle.chr_base.specs.declared.term.Pattern.{Pattern}
+use Rattle.chr_base.specs.declared.rule.Rule.{Rule}
+use Rattle.chr_base.specs.Rules.{HasInstance, heads_of}
+
+abbrev pub no_atom : Atom
+no_atom = record { symbol = record { 0 = 0 }; args = record { items = [] } }
+
+abbrev pub atom_of : List Atom → ℕ → Atom
+atom_of items i = get_or items i no_atom
+
+abbrev pub picked : List Atom → List ℕ → List Atom
+picked items is = map (atom_of items) is
+
+abbrev pub is_choice : List Atom → List ℕ → List ℕ → Bool
+is_choice items taken [] = true
+is_choice items taken (i ∷ is) = nat_lt i (length items) && not (list_any (λ j. nat_eq j i) taken) && is_choice items (taken ++ i ∷ []) is
+
+abbrev pub NoCompletion : Rule → List Atom → List ℕ → Type 0
+NoCompletion r items is = (js : List ℕ) → IsTrue (is_choice items is js) → HasInstance r (picked items (is ++ js)) → ⊥
+
+abbrev pub has_shape : Pattern → Atom → Bool
+has_shape p a = nat_eq p.symbol.0 a.symbol.0 && nat_eq (length p.args.items) (length a.args.items)
+
+abbrev pub no_pattern : Pattern
+no_pattern = record { symbol = record { 0 = 0 }; args = record { items = [] } }
+
+abbrev pub has_shape_at : Rule → ℕ → Atom → Bool
+has_shape_at r n a = has_shape (get_or (heads_of r) n no_pattern) a

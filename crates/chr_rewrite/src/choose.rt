@@ -1,0 +1,77 @@
+//! The search for an instance of a rule among the atoms of a list.
+ghost use Rattle.std.specs.Prelude.{◌≡◌, ◌<◌, ◌≤◌, ◌&&◌, [], IfSome, IfNone, IsTrue, length, nat_eq, get_or};
+ghost use Rattle.std.specs.Bool.{OnTrue, OnFalse};
+ghost use Rattle.chr_base.specs.FinBag.{IsWithin};
+ghost use Rattle.chr_base.specs.Stores.{store_of};
+ghost use Rattle.chr_base.specs.Rules.{heads_of, HasInstance};
+ghost use Rattle.chr_rewrite.specs.Choices.{picked, is_choice, NoCompletion, has_shape_at};
+ghost use Rattle.chr_rewrite.specs.Pools.{HasNoStep};
+
+use arrayvec::ArrayVec;
+use chr_base::atom::Atom;
+use chr_base::rule::Rule;
+
+/// Whether the atom has the symbol and the number of arguments of the pattern at a head place.
+fn has_shape_at(rule: &Rule, place: usize, atom: &Atom) -> bool
+    requires { place < length (heads_of rule.now) }
+    ensures { result ≡ has_shape_at rule.now place atom.now }
+{
+    let pattern = if place < rule.kept.len() {
+        &rule.kept[place]
+    } else {
+        &rule.removed[place - rule.kept.len()]
+    };
+    pattern.symbol.0 == atom.symbol.0 && pattern.args.len() == atom.args.len()
+}
+
+/// The atoms at these indices.
+fn atoms_at(items: &[Atom], indices: &[usize]) -> ArrayVec<Atom, 4>
+    requires choice { IsTrue (is_choice items.now [] indices.now) }
+    requires room { length indices.now ≤ 4 }
+    ensures { result.items ≡ picked items.now indices.now }
+{
+    let mut atoms = ArrayVec::new();
+    for i in indices {
+        atoms.push(items[*i].copy());
+    }
+    atoms
+}
+
+/// Goes on from the indices that are chosen, one for each of the first head places, to an instance of the rule.
+fn complete(rule: &Rule, items: &[Atom], chosen: &mut ArrayVec<usize, 4>) -> bool
+    requires choice { IsTrue (is_choice items.now [] chosen.old.items) }
+    requires room { length chosen.old.items ≤ length (heads_of rule.now) }
+    ensures choice { IsTrue (is_choice items.now [] chosen.new.items) }
+    ensures found { OnTrue result (HasInstance rule.now (picked items.now chosen.new.items)) }
+    ensures none { OnFalse result (NoCompletion rule.now items.now chosen.old.items) }
+    ensures same { OnFalse result (chosen.new.items ≡ chosen.old.items) }
+{
+    let place = chosen.len();
+    if place == rule.places() {
+        return rule.fires(&atoms_at(items, chosen));
+    }
+    for (i, item) in items.iter().enumerate() {
+        if has_shape_at(rule, place, item) && !chosen.contains(&i) {
+            chosen.push(i);
+            if complete(rule, items, chosen) {
+                return true;
+            }
+            chosen.pop();
+        }
+    }
+    false
+}
+
+/// The heads, in place order, of an instance of the rule among these atoms.
+pub(crate) fn find_instance(rule: &Rule, items: &[Atom]) -> Option<ArrayVec<Atom, 4>>
+    ensures instance { IfSome result (λ heads. HasInstance rule.now heads.items) }
+    ensures there { IfSome result (λ heads. IsWithin (store_of heads.items) (store_of items.now)) }
+    ensures none { IfNone result (HasNoStep rule.now (store_of items.now)) }
+{
+    let mut chosen = ArrayVec::new();
+    if complete(rule, items, &mut chosen) {
+        Some(atoms_at(items, &chosen))
+    } else {
+        None
+    }
+}

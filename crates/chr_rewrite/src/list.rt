@@ -1,0 +1,84 @@
+//! A pool that is a plain list.
+ghost use Rattle.std.specs.Prelude.{◌≡◌};
+ghost use Rattle.chr_base.specs.FinBag as bag;
+
+use crate::choose::find_instance;
+use crate::edits::{push_all, take_all};
+use crate::pool::Pool;
+use arrayvec::ArrayVec;
+use chr_base::atom::Atom;
+use chr_base::bag::Bag;
+use chr_base::rule::Rule;
+use std::alloc::{AllocError, Global};
+use std::marker::Model;
+
+/// Atoms in a list, in any order. An insertion costs as much as the atoms inserted; the other calls search the list.
+#[derive(Drop)]
+pub struct ListPool {
+    items: Vec<Atom>,
+}
+
+impl Model for ListPool {
+    ghost use Rattle.chr_base.specs.FinBag.{of_list, code};
+    ghost use Rattle.chr_base.specs.Atoms.{Store, coded_atom};
+
+    ghost Value = { Store };
+
+    ghost coded = { code coded_atom };
+
+    ghost view = { λ p. of_list p.items.items };
+}
+
+impl ListPool {
+    /// The empty one.
+    pub fn new(alloc: Global) -> Self
+        ensures { result ≡ bag.empty }
+    {
+        ListPool {
+            items: Vec::new(alloc),
+        }
+    }
+}
+
+impl Pool for ListPool {
+    ghost contents = { λ s. s };
+
+    fn find(&self, rule: &Rule) -> Option<ArrayVec<Atom, 4>> {
+        find_instance(rule, &self.items)
+    }
+
+    fn fire(&mut self, rule: &Rule, heads: &[Atom]) -> Result<(), AllocError> {
+        let body = rule.body_of(heads);
+        self.items.reserve(body.len())?;
+        let (_, removed) = heads.split_at(rule.kept.len());
+        take_all(&mut self.items, removed);
+        push_all(&mut self.items, &body);
+        Ok(())
+    }
+
+    fn insert(&mut self, atoms: &[Atom]) -> Result<(), AllocError> {
+        self.items.reserve(atoms.len())?;
+        push_all(&mut self.items, atoms);
+        Ok(())
+    }
+
+    fn remove(&mut self, atoms: &[Atom]) -> bool {
+        take_all(&mut self.items, atoms)
+    }
+
+    fn bag(&self, alloc: Global) -> Result<Bag, AllocError> {
+        let mut atoms = Vec::with_capacity(alloc, self.items.len())?;
+        push_all(&mut atoms, &self.items);
+        Bag::of(atoms)
+    }
+
+    fn step(&mut self, rules: &[Rule]) -> Result<bool, AllocError> {
+        for rule in rules {
+            if let Some(heads) = self.find(rule) {
+                self.fire(rule, &heads)?;
+                return Ok(true);
+            }
+        }
+        Ok(false)
+    }
+}

@@ -1,0 +1,56 @@
+//! Stores in which rules are applied.
+ghost use Rattle.std.specs.Prelude.{◌≡◌, ◌↔◌, IfOk, IfSome, IfNone, IsTrue, OnOk, OnErr};
+ghost use Rattle.std.specs.Bool.{OnTrue, OnFalse};
+ghost use Rattle.chr_base.specs.FinBag.{◌⊕◌, ◌⊖◌, IsWithin};
+ghost use Rattle.chr_base.specs.Stores.{Store, store_of};
+ghost use Rattle.chr_base.specs.Rules.{Step, HasInstance};
+ghost use Rattle.chr_base.specs.Rewriting.{IsAtRest};
+ghost use Rattle.chr_rewrite.specs.Pools.{StepOn, HasNoStep};
+
+use arrayvec::ArrayVec;
+use chr_base::atom::Atom;
+use chr_base::bag::Bag;
+use chr_base::rule::Rule;
+use std::alloc::{AllocError, Global};
+
+/// A store in which rules are applied: a multiset of atoms, however they are kept.
+pub trait Pool {
+    ghost contents: { Self → Store };
+
+    /// The heads, in place order, of an instance of the rule that is in the pool. None only where there is none. It takes
+    /// no memory.
+    fn find(&self, rule: &Rule) -> Option<ArrayVec<Atom, 4>>
+        ensures instance { IfSome result (λ heads. HasInstance rule.now heads.items) }
+        ensures there { IfSome result (λ heads. IsWithin (store_of heads.items) (contents self.now)) }
+        ensures none { IfNone result (HasNoStep rule.now (contents self.now)) };
+
+    /// One step by the instance with these heads. Where memory is refused nothing changes.
+    fn fire(&mut self, rule: &Rule, heads: &[Atom]) -> Result<(), AllocError>
+        requires instance { HasInstance rule.now heads.now }
+        requires there { IsWithin (store_of heads.now) (contents self.old) }
+        ensures ok { OnOk result (StepOn rule.now heads.now (contents self.old) (contents self.new)) }
+        ensures err { OnErr result (contents self.new ≡ contents self.old) };
+
+    /// Puts all of these atoms in. Where memory is refused nothing changes.
+    fn insert(&mut self, atoms: &[Atom]) -> Result<(), AllocError>
+        ensures ok { OnOk result (contents self.new ≡ contents self.old ⊕ store_of atoms.now) }
+        ensures err { OnErr result (contents self.new ≡ contents self.old) };
+
+    /// Takes all of these atoms out, or none where as a multiset they are not there. It takes no memory.
+    fn remove(&mut self, atoms: &[Atom]) -> bool
+        ensures there { IsTrue result ↔ IsWithin (store_of atoms.now) (contents self.old) }
+        ensures taken { OnTrue result (contents self.new ≡ contents self.old ⊖ store_of atoms.now) }
+        ensures kept { OnFalse result (contents self.new ≡ contents self.old) };
+
+    /// The atoms as a bag.
+    fn bag(&self, alloc: Global) -> Result<Bag, AllocError>
+        ensures { IfOk result (λ b. b ≡ contents self.now) };
+
+    /// One step of some rule. False, and nothing changes, where the pool is at rest; where memory is refused nothing
+    /// changes either.
+    fn step(&mut self, rules: &[Rule]) -> Result<bool, AllocError>
+        ensures stepped { IfOk result (λ stepped. OnTrue stepped (Step rules.now (contents self.old) (contents self.new))) }
+        ensures same { IfOk result (λ stepped. OnFalse stepped (contents self.new ≡ contents self.old)) }
+        ensures rests { IfOk result (λ stepped. OnFalse stepped (IsAtRest (Step rules.now) (contents self.old))) }
+        ensures err { OnErr result (contents self.new ≡ contents self.old) };
+}

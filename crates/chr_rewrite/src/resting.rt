@@ -1,0 +1,46 @@
+//! Resting a pool under a program that lowers.
+ghost use Rattle.std.specs.Prelude.{◌↔◌, IfOk, IfErr, IsTrue, OnOk};
+ghost use Rattle.chr_base.specs.Rules.{Step};
+ghost use Rattle.chr_base.specs.Programs.{rules_of};
+ghost use Rattle.chr_base.specs.Rewriting.{IsAtRest};
+ghost use Rattle.chr_weights.specs.WeighedPrograms.{program_of};
+ghost use Rattle.chr_rewrite.specs.Pools.{TookSteps};
+
+use crate::pool::Pool;
+use chr_weights::Weighed;
+
+/// Memory was refused after this many whole steps, or where it is the greatest u64, after that many or more.
+#[derive(Clone, Copy, Debug, PartialEq, Eq)]
+pub struct Stopped {
+    pub steps: u64,
+}
+
+/// Takes steps of the program until the pool is at rest. It answers their number, which stays at the greatest u64. Where
+/// memory is refused, the steps taken so far stand.
+pub fn rest<P: Pool>(weighed: &Weighed, pool: &mut P) -> Result<u64, Stopped>
+    ensures ok { IfOk result (λ n. TookSteps (program_of weighed.now) n (P.contents pool.old) (P.contents pool.new)) }
+    ensures rests { OnOk result (IsAtRest (Step (rules_of (program_of weighed.now))) (P.contents pool.new)) }
+    ensures stopped { IfErr result (λ e. TookSteps (program_of weighed.now) e.steps (P.contents pool.old) (P.contents pool.new)) }
+{
+    let rules = weighed.program().rules();
+    let mut steps: u64 = 0;
+    loop {
+        match pool.step(rules) {
+            Ok(true) => steps = steps.saturating_add(1),
+            Ok(false) => return Ok(steps),
+            Err(_) => return Err(Stopped { steps }),
+        }
+    }
+}
+
+/// Whether no rule of the program has a step in the pool. It takes no memory.
+pub fn at_rest<P: Pool>(weighed: &Weighed, pool: &P) -> bool
+    ensures { IsTrue result ↔ IsAtRest (Step (rules_of (program_of weighed.now))) (P.contents pool.now) }
+{
+    for rule in weighed.program().rules() {
+        if pool.find(rule).is_some() {
+            return false;
+        }
+    }
+    true
+}

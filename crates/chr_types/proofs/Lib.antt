@@ -1,0 +1,13 @@
+pub mod Bases
+pub mod ByValue
+pub mod Unique
+pub mod Sliding
+pub mod Existence
+pub mod Holes
+pub mod Enumeration
+pub mod Candidates
+pub mod Theorem
+pub mod OneList
+pub mod TooMany
+pub mod Ways
+pub mod Steps

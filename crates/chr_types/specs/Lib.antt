@@ -1,0 +1,4 @@
+pub mod OrderTypes
+pub mod Representatives
+pub mod Refusals
+pub mod Search

@@ -1,0 +1,17 @@
+//! The order types of 64-bit values among constants.
+//!
+//! A list of values, one for each class, has an order type: how each value compares with each other value and with each
+//! constant. [`types`] lists all order types that some 64-bit values show, each by one list of values.
+#![tactic(auto)]
+
+mod fault;
+mod listing;
+mod order_type;
+mod places;
+mod search;
+#[cfg(test)]
+mod tests;
+
+pub use fault::TypesFault;
+pub use listing::types;
+pub use order_type::OrderType;

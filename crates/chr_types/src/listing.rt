@@ -1,0 +1,43 @@
+//! All order types.
+ghost use Rattle.std.specs.Prelude.{◌≡◌, ◌≤◌, IfOk, IfErr, vec_len};
+ghost use Rattle.chr_types.specs.OrderTypes.{Rises, MoreTypesThan};
+ghost use Rattle.chr_types.specs.Representatives.{AreTypes};
+ghost use Rattle.chr_types.specs.Refusals.{WhereTooMany};
+
+use crate::fault::TypesFault;
+use crate::order_type::OrderType;
+use crate::places::all_places;
+use crate::search::add_lists;
+use std::alloc::Global;
+
+/// From this number of classes on there are more order types than any limit: with the first class at one value, each
+/// other class can be equal to it or greater.
+const TOO_MANY_CLASSES: usize = 65;
+
+/// All order types of so many classes among the constants, each by its representative, in lexicographic order.
+///
+/// The constants rise, each greater than the one before. There may be any number of classes, and any limit. The search
+/// stops once the limit is passed, and keeps no more than the listed types and the prefix that it is at.
+///
+/// # Errors
+/// `TooMany` exactly where there are more order types than the limit, `Memory` where there is no memory left.
+pub fn types(
+    alloc: Global,
+    classes: usize,
+    constants: &[i64],
+    limit: usize,
+) -> Result<Vec<OrderType>, TypesFault>
+    requires rising { Rises constants.now }
+    ensures types { IfOk result (λ ts. AreTypes classes constants.now ts.items) }
+    ensures within { IfOk result (λ ts. vec_len ts ≤ limit) }
+    ensures no_more { IfOk result (λ _. MoreTypesThan limit classes constants.now → ⊥) }
+    ensures many { IfErr result (λ e. WhereTooMany e (MoreTypesThan limit classes constants.now)) }
+{
+    if classes >= TOO_MANY_CLASSES {
+        return Err(TypesFault::TooMany);
+    }
+    let places = all_places(alloc, classes, constants)?;
+    let mut found = Vec::new(alloc);
+    add_lists(alloc, &places, classes, &[], &[], limit, &mut found)?;
+    Ok(found)
+}
