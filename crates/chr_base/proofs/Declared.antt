@@ -15,6 +15,7 @@ use Rattle.chr_base.specs.declared.rule.Rule.{Rule}
 use Rattle.chr_base.specs.declared.term.Pattern.{Pattern}
 use Rattle.std.proofs.lemmas.Bool.Decides.{nat_tests}
 use Rattle.chr_base.specs.declared.program.Symbol.{Symbol}
+use Rattle.chr_base.specs.Names.{is_name}
 use Rattle.chr_base.specs.ProgramTests.{Declaration, declared, declarations_in, declares, is_in_range, is_program, are_distinct, fits, takes, is_declared}
 
 pub length-declarations : (es : List (Symbol × ℕ)) → length (declarations_in es) ≡ length es
@@ -64,8 +65,8 @@ is_same_name xs ys h = (bytes_eq-Decides xs ys).0 h
 
 name_fits : (d : Declaration) → is_in_range d ≡ true → (length d.name ≤ 32) × (d.arity ≤ 4)
 name_fits d h =
-    let a : (nat_le (length d.name) 32 && nat_le d.arity 4) ≡ true = first_true _ (nat_le 1 d.weight) (first_true _ (nat_le d.weight 1000000) h) in
-    (le_from _ _ (first_true _ (nat_le d.arity 4) a), le_from _ _ (second_true (nat_le (length d.name) 32) _ a))
+    let a : (is_name d.name && nat_le (length d.name) 32 && nat_le d.arity 4) ≡ true = first_true _ (nat_le 1 d.weight) (first_true _ (nat_le d.weight 1000000) h) in
+    (le_from _ _ (second_true (is_name d.name) _ (first_true _ (nat_le d.arity 4) a)), le_from _ _ (second_true (is_name d.name && nat_le (length d.name) 32) _ a))
 
 too_long : (name : List ℕ) (arity : ℕ) (d : Declaration) → is_in_range d ≡ true → (32 < length name) ⊎ (4 < arity) → declares name arity d ≡ false
 too_long name arity d r long = by (declares name arity d) refl
@@ -232,8 +233,8 @@ symbol_pushed ds cs rs d e h l r new =
       fitting = rw e (fits_more ds d rs k.fitting);
     }
 
-pub new_in_range : (name : List ℕ) (arity : ℕ) → length name ≤ 32 → arity ≤ 4 → is_in_range record { name = name; arity = arity; weight = 1 } ≡ true
-new_in_range name arity l a = both_true _ _ (both_true _ _ (both_true _ _ (to_le _ _ l) (to_le _ _ a)) refl) refl
+pub new_in_range : (name : List ℕ) (arity : ℕ) → IsTrue (is_name name) → length name ≤ 32 → arity ≤ 4 → is_in_range record { name = name; arity = arity; weight = 1 } ≡ true
+new_in_range name arity w l a = both_true _ _ (both_true _ _ (both_true _ _ (both_true _ _ w (to_le _ _ l)) (to_le _ _ a)) refl) refl
 
 pub not_declared : (ds : List Declaration) (name : List ℕ) (arity : ℕ) → position (declares name arity) ds ≡ None → list_any (declares name arity) ds ≡ false
 not_declared ds name arity h = passes_none _ ds h
@@ -241,10 +242,10 @@ not_declared ds name arity h = passes_none _ ds h
 -- what adding a symbol leaves of the invariant, whether memory was there or not
 pub after_adding : {E : Type 0} (ds cs : List Declaration) (rs : List Rule) (name : List ℕ) (arity : ℕ) (n : List ℕ) (a : ℕ) (r : Result (Unit {0}) E) → n ≡ name → a ≡ arity
     → OnOk r (cs ≡ ds ++ record { name = n; arity = a; weight = 1 } ∷ []) → OnErr r (cs ≡ ds)
-    → IsTrue (is_program ds rs) → length ds < 64 → length name ≤ 32 → arity ≤ 4 → position (declares name arity) ds ≡ None → IsTrue (is_program cs rs)
-after_adding ds cs rs name arity n a (Ok x) p q e f h l u v new =
-    symbol_pushed ds cs rs record { name = name; arity = arity; weight = 1 } (e ∙ (λ i. ds ++ record { name = p i; arity = q i; weight = 1 } ∷ [])) h l (new_in_range name arity u v) new
-after_adding ds cs rs name arity n a (Err x) p q e f h l u v new = rw f h
+    → IsTrue (is_program ds rs) → length ds < 64 → IsTrue (is_name name) → length name ≤ 32 → arity ≤ 4 → position (declares name arity) ds ≡ None → IsTrue (is_program cs rs)
+after_adding ds cs rs name arity n a (Ok x) p q e f h l w u v new =
+    symbol_pushed ds cs rs record { name = name; arity = arity; weight = 1 } (e ∙ (λ i. ds ++ record { name = p i; arity = q i; weight = 1 } ∷ [])) h l (new_in_range name arity w u v) new
+after_adding ds cs rs name arity n a (Err x) p q e f h l w u v new = rw f h
 
 pub slice_get-declarations : (es : List (Symbol × ℕ)) (i : ℕ) → slice_get (declarations_in es) i ≡ option_map declared (slice_get es i)
 slice_get-declarations [] i = refl

@@ -4,7 +4,7 @@
 --     HasInstance r heads        some valuation makes the rule's heads these atoms, and its guard true
 --     fires r heads        the same as a test
 use Rattle.std.specs.Prelude.{◌≡◌, ℕ, ℤ, pos, Bool, true, false, ◌&&◌, ◌||◌, cond, List, [], ◌∷◌, map, nat_eq, Some, None, Option, length, ◌+◌, nat_lt, nat_le}
-use Rattle.std.specs.Option.{unwrap_or, option_or}
+use Rattle.std.specs.Option.{unwrap_or, option_map, option_or}
 use Rattle.std.specs.List.{list_any, list_all}
 use Rattle.std.proofs.Common.{refl, sym, ap, subst, ◌∙◌}
 use mathlib.Core.Bool.{true≢false}
@@ -18,7 +18,8 @@ use Rattle.chr_base.specs.declared.term.Comparison.{Comparison}
 use Rattle.chr_base.specs.declared.term.Pattern.{Pattern}
 use Rattle.chr_base.specs.declared.rule.Rule.{Rule}
 use Rattle.chr_base.specs.Atoms.{atom_cmp, atom_total, same_is}
-use Rattle.chr_base.specs.RuleTests.{is_variable, occurs, is_known, is_closed, is_numbered}
+use Rattle.chr_base.specs.RuleTests.{is_variable, occurs, is_known, is_closed, is_numbered, is_valued, are_valued, is_in_bounds}
+use Rattle.chr_base.specs.Names.{is_label}
 use Rattle.chr_base.specs.Rules.{Valuation, HasInstance, term_value, atom_at, atoms_at, guard_holds, heads_at, heads_of, compares}
 
 abbrev pub first_value : List Term → List ℤ → ℕ → Option ℤ
@@ -144,10 +145,42 @@ fires_sound r heads h = (valuation (heads_of r) heads, agree_sound _ (heads_of r
 pub the_valuation : (r : Rule) (heads : List Atom) (w : Valuation) → heads_at w r ≡ heads → SameOn (heads_of r) (valuation (heads_of r) heads) w
 the_valuation r heads w e = subst (λ as'. SameOn (heads_of r) (valuation (heads_of r) as') w) e (valuation_at w (heads_of r))
 
-closed_rule : (r : Rule) → is_closed (heads_of r) r.guard.items r.body.items ≡ true
-closed_rule r =
-    let some : (nat_lt 0 (length r.removed.items) && nat_le (length r.kept.items + length r.removed.items) 4) && is_closed (heads_of r) r.guard.items r.body.items ≡ true = first_true _ (is_numbered (heads_of r)) r.well_formed in
-    second_true (nat_lt 0 (length r.removed.items) && nat_le (length r.kept.items + length r.removed.items) 4) _ some
+-- ---- what every rule keeps, part by part
+
+module _ (r : Rule) where
+  abbrev sized : Bool
+  sized = nat_lt 0 (length r.removed.items) && nat_le (length r.kept.items + length r.removed.items) 4
+
+  abbrev shape : Bool
+  shape = sized && is_closed (heads_of r) r.guard.items r.body.items && is_numbered (heads_of r)
+
+  shaped : shape ≡ true
+  shaped = r.well_formed
+
+  pub sized_rule : sized ≡ true
+  sized_rule = first_true _ (is_closed (heads_of r) r.guard.items r.body.items) (first_true _ (is_numbered (heads_of r)) shaped)
+
+  pub closed_rule : is_closed (heads_of r) r.guard.items r.body.items ≡ true
+  closed_rule = second_true sized _ (first_true _ (is_numbered (heads_of r)) shaped)
+
+  pub numbered_rule : is_numbered (heads_of r) ≡ true
+  numbered_rule = second_true (sized && is_closed (heads_of r) r.guard.items r.body.items) _ shaped
+
+  abbrev few : Bool
+  few = is_label (option_map (λ n. n.bytes) r.name) && nat_le (length r.guard.items) 8 && nat_le (length r.body.items) 8
+
+  abbrev constants : Bool
+  constants = are_valued (heads_of r) && list_all (λ c. is_valued c.left && is_valued c.right) r.guard.items && are_valued r.body.items
+
+  opened : (few && constants) ≡ true
+  unfolding is_in_bounds
+  opened = r.bounded
+
+  pub few_rule : few ≡ true
+  few_rule = first_true _ constants opened
+
+  pub valued_rule : constants ≡ true
+  valued_rule = second_true few _ opened
 
 pub guard_known : (r : Rule) → list_all (λ c. is_known (heads_of r) c.left && is_known (heads_of r) c.right) r.guard.items ≡ true
 guard_known r = first_true _ (list_all (λ p. list_all (is_known (heads_of r)) p.args.items) r.body.items) (closed_rule r)

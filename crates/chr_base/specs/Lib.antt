@@ -4,6 +4,8 @@ pub mod Places
 pub mod Rewriting
 pub mod Atoms
 pub mod Stores
+pub mod Values
+pub mod Names
 pub mod RuleTests
 pub mod Rules
 pub mod StepLaws

@@ -9,6 +9,7 @@ use Rattle.std.specs.Str.{bytes_eq}
 use Rattle.chr_base.specs.declared.term.Pattern.{Pattern}
 use Rattle.chr_base.specs.declared.rule.Rule.{Rule}
 use Rattle.chr_base.specs.declared.program.Symbol.{Symbol}
+use Rattle.chr_base.specs.Names.{is_name}
 
 pub record Declaration : Type 0 where
   pub name : List ℕ
@@ -49,8 +50,9 @@ abbrev pub are_distinct : List Declaration → Bool
 are_distinct [] = true
 are_distinct (d ∷ ds) = not (list_any (declares d.name d.arity) ds) && are_distinct ds
 
+-- what a declaration's parts may be
 abbrev pub is_in_range : Declaration → Bool
-is_in_range d = nat_le (length d.name) 32 && nat_le d.arity 4 && nat_le 1 d.weight && nat_le d.weight 1000000
+is_in_range d = is_name d.name && nat_le (length d.name) 32 && nat_le d.arity 4 && nat_le 1 d.weight && nat_le d.weight 1000000
 
 abbrev pub is_program : List Declaration → List Rule → Bool
 is_program ds rs =

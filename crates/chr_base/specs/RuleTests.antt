@@ -3,12 +3,15 @@
 --     is_closed        each variable of guard and body stands in a head
 --     is_numbered        the variables of the heads are 1, 2, .. by first occurrence
 --     is_rule        these, and 1 to 4 heads of which one at least is removed
+--     is_in_bounds        the name is one, there are at most 8 comparisons and 8 atoms in the body, and each constant is a value
 use Rattle.std.specs.Prelude.{ℕ, ◌+◌, Bool, true, false, ◌&&◌, cond, nat_eq, nat_le, nat_lt, List, [], ◌∷◌, ◌++◌, length, Option, Some, None, is_some}
 use Rattle.std.specs.List.{list_all, list_any}
 use Rattle.chr_base.specs.declared.term.Term.{Term}
 use Rattle.chr_base.specs.declared.term.Term.TheVariants.{Variable, Constant}
 use Rattle.chr_base.specs.declared.term.Comparison.{Comparison}
 use Rattle.chr_base.specs.declared.term.Pattern.{Pattern}
+use Rattle.chr_base.specs.Values.{is_value}
+use Rattle.chr_base.specs.Names.{is_label}
 
 abbrev pub is_variable : ℕ → Term → Bool
 is_variable x (Variable y) = nat_eq x y
@@ -40,6 +43,20 @@ numbered n (Variable x ∷ ts) = cond (nat_eq x (n + 1)) (numbered (n + 1) ts) (
 
 abbrev pub is_numbered : List Pattern → Bool
 is_numbered heads = is_some (numbered 0 (terms_of heads))
+
+-- a variable, or a constant that is a value
+abbrev pub is_valued : Term → Bool
+is_valued (Variable x) = true
+is_valued (Constant c) = is_value c
+
+abbrev pub are_valued : List Pattern → Bool
+are_valued ps = list_all (λ p. list_all is_valued p.args.items) ps
+
+-- The name is one, there are at most 8 comparisons and 8 atoms in the body, and each constant is a value. It computes only
+-- where it is unfolded.
+unfoldable pub is_in_bounds : Option (List ℕ) → List Pattern → List Comparison → List Pattern → Bool
+is_in_bounds name heads guard body =
+    is_label name && nat_le (length guard) 8 && nat_le (length body) 8 && (are_valued heads && list_all (λ c. is_valued c.left && is_valued c.right) guard && are_valued body)
 
 abbrev pub is_rule : List Pattern → List Pattern → List Comparison → List Pattern → Bool
 is_rule kept removed guard body =

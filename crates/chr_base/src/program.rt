@@ -24,7 +24,8 @@ pub const DEFAULT_WEIGHT: u32 = 1;
 /// A program: its declared symbols in order, each with its weight, and its rules in order.
 ///
 /// It has at most 64 symbols, no two of one name and arity, each of at most 4 arguments and with a weight from 1 to
-/// 1,000,000; and at most 64 rules, each atom of which is declared with as many arguments.
+/// 1,000,000, whose names are a lower-case letter, then letters, digits and underscores, and no reserved word; and at most
+/// 64 rules, each atom of which is declared with as many arguments.
 #[derive(Drop)]
 pub struct Program {
     symbols: IndexMap<Symbol, u32>,
@@ -99,6 +100,7 @@ impl Program {
     ghost use Rattle.std.specs.Prelude.{◌≡◌, ◌<◌, ◌≤◌, ◌++◌, ◌↔◌, [], ◌∷◌, IsTrue, Some, None, OnOk, OnErr, IfOk, IfSome, option_map, position, length, slice_get};
     ghost use Rattle.chr_base.specs.ProgramTests.{Declaration, declared, declares, fits, with_weight};
     ghost use Rattle.chr_base.specs.Programs.{declarations, rules_of, declares_atom, atom_in};
+    ghost use Rattle.chr_base.specs.Names.{is_name};
     ghost use Rattle.chr_base.specs.Sameness.{AreSame};
     ghost use Rattle.chr_base.specs.Texts.{name_of};
 
@@ -137,6 +139,7 @@ impl Program {
     pub fn declare(&mut self, name: &str, arity: usize) -> Result<(), AllocError>
         requires room { length (declarations self.old) < 64 }
         requires name { length name.now ≤ 32 }
+        requires word { IsTrue (is_name name.now) }
         requires arity { arity ≤ 4 }
         requires new { position (declares name.now arity) (declarations self.old) ≡ None }
         ensures ok { OnOk result (declarations self.new ≡ declarations self.old ++ record { name = name.now; arity = arity; weight = 1 } ∷ []) }

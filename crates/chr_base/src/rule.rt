@@ -1,6 +1,6 @@
 //! Rules.
-ghost use Rattle.std.specs.Prelude.{IsTrue};
-ghost use Rattle.chr_base.specs.RuleTests.{is_rule};
+ghost use Rattle.std.specs.Prelude.{◌++◌, IsTrue, option_map};
+ghost use Rattle.chr_base.specs.RuleTests.{is_in_bounds, is_rule};
 
 use crate::atom::Atom;
 use crate::matching::value_among;
@@ -11,7 +11,8 @@ use arrayvec::{ArrayString, ArrayVec};
 /// `kept \ removed <=> guard | body` (Frühwirth 2009).
 ///
 /// It has 1 to 4 heads, at least one of them removed; its variables are numbered from 1 by first occurrence in the
-/// heads, kept ones first; each variable of guard and body stands in a head.
+/// heads, kept ones first; each variable of guard and body stands in a head. Its constants are values, and its name is a
+/// name of the grammar: a lower-case letter, then letters, digits and underscores, and no reserved word.
 #[derive(Debug, PartialEq, Eq, Drop)]
 pub struct Rule {
     pub name: Option<ArrayString<32>>,
@@ -20,6 +21,7 @@ pub struct Rule {
     pub guard: ArrayVec<Comparison, 8>,
     pub body: ArrayVec<Pattern, 8>,
     pub ghost well_formed: { IsTrue (is_rule kept.items removed.items guard.items body.items) },
+    pub ghost bounded: { IsTrue (is_in_bounds (option_map (λ n. n.bytes) name) (kept.items ++ removed.items) guard.items body.items) },
 }
 
 impl Rule {

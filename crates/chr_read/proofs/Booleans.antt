@@ -32,3 +32,15 @@ pub all_pass : {A B : Type 0} (p : A → Bool) (f : A → B) (q : B → Bool) �
 all_pass p f q good [] h = refl
 all_pass p f q good (x ∷ xs) h =
     let n = neither _ _ h in both _ _ (good x n.0) (all_pass p f q good xs n.1)
+
+pub or_left : (a b : Bool) → a ≡ true → (a || b) ≡ true
+or_left true b h = refl
+or_left false b h = absurd (false≢true h)
+
+pub none_of : (a b : Bool) → a ≡ false → b ≡ false → (a || b) ≡ false
+none_of true b h g = absurd (false≢true (sym h))
+none_of false b h g = g
+
+pub is_not : (b : Bool) → not b ≡ true → b ≡ false
+is_not true h = absurd (false≢true h)
+is_not false h = refl

@@ -14,3 +14,14 @@ pub mod LeastFaults
 pub mod TextsRead
 pub mod NamesText
 pub mod OneNumber
+pub mod Written
+pub mod WrittenForms
+pub mod Decimals
+pub mod WrittenTokens
+pub mod PlainBytes
+pub mod EndedTexts
+pub mod DeclarationsBack
+pub mod NumberedNames
+pub mod RulesBack
+pub mod RoundTrip
+pub mod OneMeaning

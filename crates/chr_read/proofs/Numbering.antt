@@ -76,7 +76,7 @@ numbers ds kept removed =
 
 -- ---- each number up to the last occurs
 
-occurs_terms : (x : ℕ) (ps : List Pattern) → list_any (rules.is_variable x) (terms_of ps) ≡ occurs x ps
+pub occurs_terms : (x : ℕ) (ps : List Pattern) → list_any (rules.is_variable x) (terms_of ps) ≡ occurs x ps
 occurs_terms x [] = refl
 occurs_terms x (p ∷ ps) = list_any-append (rules.is_variable x) p.args.items (terms_of ps) ∙ ap (λ b. list_any (rules.is_variable x) p.args.items || b) (occurs_terms x ps)
 

@@ -12,7 +12,7 @@ use Rattle.std.specs.Str.{IsUtf8, IsAscii}
 use Rattle.std.specs.Str.Parse.{ParsesSigned, digits_value, starts_with_minus}
 use Rattle.chr_read.specs.Numbers.{is_digit, is_numeral, unsigned, signed, number_of}
 
-own : IsNumeralModel (λ ds. list_all is_digit ds ≡ true) (digits_value 10)
+pub own : IsNumeralModel (λ ds. list_all is_digit ds ≡ true) (digits_value 10)
 own = numerals_by_value _ (search rules)
 
 -- a value that comes just where a test passes

@@ -1,16 +1,24 @@
 -- A rule without faults is a rule when it is resolved.
-use Rattle.std.proofs.Common.{◌≡◌, ℕ, suc, ◌+◌, ◌<◌, List, [], ◌∷◌, ◌++◌, length, map, Bool, true, false, not, cond, ◌||◌, ◌&&◌, nat_lt, nat_le, Option, Some, None, is_some, is_none, position, slice_get, unwrap_or, refl, sym, ap, ◌∙◌, arith}
+use Rattle.std.proofs.Common.{◌≡◌, subst, ℕ, zero, suc, ◌+◌, ◌<◌, List, [], ◌∷◌, ◌++◌, length, map, Bool, true, false, not, cond, ◌||◌, ◌&&◌, nat_lt, nat_le, Option, Some, None, is_some, is_none, position, slice_get, unwrap_or, refl, sym, ap, ◌∙◌, arith}
 use Rattle.std.proofs.lemmas.Bool.{false≢true}
 use Rattle.std.proofs.lemmas.Bool.Decides.{nat_tests}
 use Rattle.std.proofs.lemmas.List.{length-map}
-use Rattle.std.proofs.lemmas.Option.{none-some}
+use Rattle.std.proofs.lemmas.Option.{none-some, same_Some}
+use Rattle.std.specs.Prelude.{ℤ, pos, negsuc, neg_ℤ, int_le, ◌^◌, ◌-◌, option_to_list}
+use Rattle.std.specs.Str.{is_utf8}
+use Rattle.std.specs.Str.Parse.{digits_value, starts_with_minus}
 use Rattle.std.specs.List.{list_all}
 use Rattle.chr_base.specs.declared.term.Pattern.{Pattern}
 use Rattle.chr_base.specs.declared.term.Term as base
 use Rattle.chr_base.specs.declared.rule.Rule as base_rule
 use Rattle.chr_base.specs.ProgramTests.{Declaration, declares, takes, is_declared, fits}
-use Rattle.chr_base.specs.RuleTests.{is_known, is_closed, is_rule}
-use Rattle.chr_syntax.specs.Clauses.{Term, Atom, Comparison, Rule, variable, number}
+use Rattle.chr_base.specs.Values.{is_value}
+use Rattle.chr_base.specs.Names as names
+use Rattle.chr_base.specs.Names.{is_label}
+use Rattle.chr_read.specs.NamesOfForms.{names_of_atoms, has_names}
+use Rattle.chr_base.specs.RuleTests.{is_known, is_closed, is_valued, are_valued, is_in_bounds, is_rule}
+use Rattle.chr_read.specs.Numbers.{is_numeral, unsigned, signed, number_of}
+use Rattle.chr_syntax.specs.Clauses.{Term, Atom, Comparison, Rule, variable, number, rule}
 use Rattle.chr_read.specs.Faults.{present, is_name, place_of_atom, is_undeclared, any_undeclared, rule_undeclared, lists_over, label_over, parts_over, rule_over, is_anonymous, stands_in, is_bound, term_unbound, comparison_unbound, atom_unbound, rule_unbound}
 use Rattle.chr_read.specs.Meanings.{RuleData, rule_data}
 use Rattle.chr_read.specs.Resolving.{Names, variable_of, term_in, head_terms, after_term, after_terms, pattern, heads, after_heads, body_atom, comparison_in, names_of, resolved}
@@ -44,6 +52,67 @@ bound_is_met r w h =
     by true e named g = stays_heads w (after_heads [] r.kept) r.removed (met_heads w [] r.kept named e)
     by false e named g = met_heads w (after_heads [] r.kept) r.removed named g
 
+-- ---- its name is one
+
+pub label_is : (r : Rule) → rule_over r ≡ false → has_names (rule r) ≡ true → is_label r.label ≡ true
+label_is r over named =
+    let o = (neither (label_over r.label) (parts_over r) (neither (lists_over r) (label_over r.label || parts_over r) over).1).0 in
+    by r.label o (front (option_to_list r.label) (names_of_atoms r.kept ++ (names_of_atoms r.removed ++ names_of_atoms (present r.body))) named)
+  where
+    front : (xs ys : List (List ℕ)) → list_all names.is_name (xs ++ ys) ≡ true → list_all names.is_name xs ≡ true
+    front [] ys h = refl
+    front (x ∷ xs) ys h = let e = each (names.is_name x) (list_all names.is_name (xs ++ ys)) h in both _ _ e.0 (front xs ys e.1)
+
+    by : (label : Option (List ℕ)) → label_over label ≡ false → list_all names.is_name (option_to_list label) ≡ true → is_label label ≡ true
+    by None o h = refl
+    by (Some w) o h = both _ _ (each (names.is_name w) true h).0 (each (is_utf8 w) (nat_le (length w) 32) (not_is (is_name w) o)).1
+
+-- ---- constants are values
+
+value_of_sign : (b : Bool) (n : ℕ) (z : ℤ) → signed b n ≡ Some z → is_value z ≡ true
+value_of_sign true n z h = by n (nat_le n (2 ^ 63)) refl h
+  where
+    by : (n : ℕ) (t : Bool) → nat_le n (2 ^ 63) ≡ t → cond t (Some (neg_ℤ (pos n))) None ≡ Some z → is_value z ≡ true
+    by n false e h = absurd (none-some z h)
+    by zero true e h = subst (λ x. is_value x ≡ true) (same_Some _ _ h) refl
+    by (suc m) true e h = subst (λ x. is_value x ≡ true) (same_Some _ _ h) (both (int_le (neg_ℤ (pos (2 ^ 63))) (negsuc m)) (int_le (negsuc m) (pos (2 ^ 63 - 1))) (let k : nat_le m 9223372036854775807 ≡ true = grind (arith, nat_tests) in k) refl)
+value_of_sign false n z h = by (nat_lt n (2 ^ 63)) refl h
+  where
+    by : (t : Bool) → nat_lt n (2 ^ 63) ≡ t → cond t (Some (pos n)) None ≡ Some z → is_value z ≡ true
+    by false e h = absurd (none-some z h)
+    by true e h = subst (λ x. is_value x ≡ true) (same_Some _ _ h) (both (int_le (neg_ℤ (pos (2 ^ 63))) (pos n)) (int_le (pos n) (pos (2 ^ 63 - 1))) refl (let k : nat_le n 9223372036854775807 ≡ true = grind (arith, nat_tests) in k))
+
+number_valued : (w : List ℕ) → is_value (unwrap_or (number_of w) (pos 0)) ≡ true
+number_valued w = by (is_numeral (unsigned w)) refl
+  where
+    at : (o : Option ℤ) → ((z : ℤ) → o ≡ Some z → is_value z ≡ true) → is_value (unwrap_or o (pos 0)) ≡ true
+    at None f = refl
+    at (Some z) f = f z refl
+
+    by : (t : Bool) → is_numeral (unsigned w) ≡ t → is_value (unwrap_or (cond t (signed (starts_with_minus w) (digits_value 10 (unsigned w))) None) (pos 0)) ≡ true
+    by false e = refl
+    by true e = at _ (value_of_sign (starts_with_minus w) (digits_value 10 (unsigned w)))
+
+term_valued : (names : Names) (t : Term) → is_valued (term_in names t) ≡ true
+term_valued names (variable w) = refl
+term_valued names (number w) = number_valued w
+
+all_map : {A B : Type 0} (q : B → Bool) (f : A → B) → ((x : A) → q (f x) ≡ true) → (xs : List A) → list_all q (map f xs) ≡ true
+all_map q f good [] = refl
+all_map q f good (x ∷ xs) = both _ _ (good x) (all_map q f good xs)
+
+head_valued : (names : Names) (ts : List Term) → list_all is_valued (head_terms names ts) ≡ true
+head_valued names [] = refl
+head_valued names (t ∷ ts) = both _ _ (term_valued names t) (head_valued (after_term names t) ts)
+
+heads_valued : (ds : List Declaration) (names : Names) (atoms : List Atom) → are_valued (heads ds names atoms) ≡ true
+heads_valued ds names [] = refl
+heads_valued ds names (a ∷ atoms) = both _ _ (head_valued names a.args) (heads_valued ds (after_terms names a.args) atoms)
+
+are_valued-append : (ps qs : List Pattern) → are_valued ps ≡ true → are_valued qs ≡ true → are_valued (ps ++ qs) ≡ true
+are_valued-append [] qs h g = g
+are_valued-append (p ∷ ps) qs h g = let e = each (list_all is_valued p.args.items) (are_valued ps) h in both _ _ e.0 (are_valued-append ps qs e.1 g)
+
 module _ (ds : List Declaration) (r : Rule) where
   abbrev all_heads : List Pattern
   all_heads = heads ds [] r.kept ++ heads ds (after_heads [] r.kept) r.removed
@@ -76,6 +145,21 @@ module _ (ds : List Declaration) (r : Rule) where
       let b = heads_length ds (after_heads [] r.kept) r.removed in
       grind (arith, nat_tests)
 
+  few_items : rule_over r ≡ false → (nat_le (length (resolved ds r).guard) 8 && nat_le (length (resolved ds r).body) 8) ≡ true
+  few_items h =
+      let lists = (neither (lists_over r) (label_over r.label || parts_over r) h).0 in
+      let over = neither (nat_lt 8 (length (present r.guard))) (nat_lt 8 (length (present r.body))) (neither (nat_lt 4 (length r.kept + length r.removed)) _ lists).1 in
+      both (nat_le (length (resolved ds r).guard) 8) (nat_le (length (resolved ds r).body) 8)
+      (let a = length-map (present r.guard) (comparison_in (names_of r)) in let b = over.0 in grind (arith, nat_tests))
+      (let a = length-map (present r.body) (body_atom ds (names_of r)) in let b = over.1 in grind (arith, nat_tests))
+
+  valued : (are_valued all_heads && list_all (λ c. is_valued c.left && is_valued c.right) (resolved ds r).guard && are_valued (resolved ds r).body) ≡ true
+  valued =
+      both _ _
+      (both _ _ (are_valued-append (heads ds [] r.kept) (heads ds (after_heads [] r.kept) r.removed) (heads_valued ds [] r.kept) (heads_valued ds (after_heads [] r.kept) r.removed))
+      (all_map _ _ (λ c. both _ _ (term_valued (names_of r) c.left) (term_valued (names_of r) c.right)) (present r.guard)))
+      (all_map _ _ (λ a. all_map is_valued (term_in (names_of r)) (term_valued (names_of r)) a.args) (present r.body))
+
   some_head : 0 < length r.removed → nat_lt 0 (length (resolved ds r).removed) ≡ true
   some_head h = let b = heads_length ds (after_heads [] r.kept) r.removed in grind (arith, nat_tests)
 
@@ -83,6 +167,10 @@ module _ (ds : List Declaration) (r : Rule) where
       → is_rule (resolved ds r).kept (resolved ds r).removed (resolved ds r).guard (resolved ds r).body ≡ true
   resolved_is_rule over unbound some =
       both _ _ (both _ _ (both _ _ (some_head some) (few_heads over)) (closed unbound)) (ap is_some (numbers ds r.kept r.removed))
+
+  pub resolved_in_bounds : rule_over r ≡ false → has_names (rule r) ≡ true → is_in_bounds (resolved ds r).name all_heads (resolved ds r).guard (resolved ds r).body ≡ true
+  unfolding is_in_bounds
+  resolved_in_bounds over named = let few = each _ _ (few_items over) in both _ _ (both _ _ (both _ _ (label_is r over named) few.0) few.1) valued
 
 -- ---- its atoms are declared
 
@@ -116,5 +204,5 @@ fits_resolved ds r h =
     (all_pass (is_undeclared ds) (body_atom ds (names_of r)) (is_declared ds)
     (λ a e. declared_pattern ds a (map (term_in (names_of r)) a.args) (length-map a.args (term_in (names_of r))) e) (present r.body) m.1)
 
-pub resolved_fits : (ds : List Declaration) (r : Rule) (rule : base_rule.Rule) → rule_data rule ≡ resolved ds r → rule_undeclared ds r ≡ false → fits ds rule ≡ true
-resolved_fits ds r rule is h = ap (fits_so ds) is ∙ fits_resolved ds r h
+pub resolved_fits : (ds : List Declaration) (r : Rule) (made : base_rule.Rule) → rule_data made ≡ resolved ds r → rule_undeclared ds r ≡ false → fits ds made ≡ true
+resolved_fits ds r made is h = ap (fits_so ds) is ∙ fits_resolved ds r h

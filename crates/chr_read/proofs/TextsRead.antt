@@ -108,7 +108,7 @@ text_means text = by (nat_le (length text) 65536) refl
     by true is = read_pieces text (grind (arith, nat_tests))
     by false is = grind (arith, nat_tests)
 
-short_read : (text : List ℕ) → IsShort text → text_read text ≡ meaning_in (pieces_read 1 nothing (pieces (without_comments text)))
+pub short_read : (text : List ℕ) → IsShort text → text_read text ≡ meaning_in (pieces_read 1 nothing (pieces (without_comments text)))
 unfolding text_read
 short_read text short =
     let e : nat_le (length text) 65536 ≡ true = grind (arith, nat_tests) in

@@ -9,3 +9,5 @@ pub mod Adding
 pub mod ProgramTexts
 pub mod NamesOfForms
 pub mod Numberings
+pub mod CanonicalTexts
+pub mod RoundTrips

@@ -1,9 +1,10 @@
--- The names of a clause, and that they are text.
-use Rattle.std.specs.Prelude.{◌≡◌, ℕ, List, [], ◌∷◌, ◌++◌, map, true, option_to_list}
-use Rattle.std.specs.List.{AllByRecursion}
+-- The names of a clause: that they are text, and names of a program.
+use Rattle.std.specs.Prelude.{◌≡◌, ℕ, List, [], ◌∷◌, ◌++◌, map, Bool, true, option_to_list}
+use Rattle.std.specs.List.{AllByRecursion, list_all}
 use Rattle.std.specs.Str.{is_utf8}
 use Rattle.chr_syntax.specs.Clauses.{Atom, Form, use_module, declare, weight, rule, propagation}
 use Rattle.chr_syntax.specs.Lexemes.{AreClause}
+use Rattle.chr_base.specs.Names.{is_name}
 use Rattle.chr_read.specs.Faults.{present}
 
 abbrev pub names_of_atoms : List Atom → List (List ℕ)
@@ -20,3 +21,10 @@ names_in (propagation r) = option_to_list r.label ++ (names_of_atoms r.removed +
 -- the names of every clause are text
 abbrev pub NamesAreText : Type 0
 NamesAreText = (f : Form) (c : List ℕ) → AreClause f c → AllByRecursion (λ w. is_utf8 w ≡ true) (names_in f)
+
+abbrev pub has_names : Form → Bool
+has_names f = list_all is_name (names_in f)
+
+-- the names of every clause are names of symbols and rules
+abbrev pub NamesAreNames : Type 0
+NamesAreNames = (f : Form) (c : List ℕ) → AreClause f c → has_names f ≡ true

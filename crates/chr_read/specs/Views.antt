@@ -2,7 +2,9 @@
 use Rattle.std.specs.Borrow.{Bor}
 use Rattle.std.specs.Prelude.{ℕ, List, map}
 use Rattle.chr_base.specs.declared.atom.SymbolId.{SymbolId}
+use Rattle.chr_base.specs.ProgramTests.{Declaration}
 use Rattle.chr_read.specs.declared.reader.Reader.{Reader}
+use Rattle.chr_read.specs.declared.writer.Declared.{Declared}
 use Rattle.chr_read.specs.Meanings.{Progress, meaning_of}
 
 -- slices of bytes
@@ -14,3 +16,6 @@ places_view symbols = map (λ s. s.0) symbols
 
 abbrev pub progress_of : Reader → Progress
 progress_of r = record { meaning = meaning_of r.program; weighed = places_view r.weighed.items }
+
+abbrev pub declared_view : Declared → Declaration
+declared_view d = record { name = d.name.now; arity = d.arity; weight = d.weight }

@@ -1,15 +1,18 @@
 //! What a clause without faults adds to a program.
 
+ghost use Rattle.std.specs.List.{list_all};
 ghost use Rattle.std.specs.Prelude.{◌≡◌, ◌<◌, ◌++◌, [], ◌∷◌, map, option_map, length, Some, None, Option, OnOk, IfOk, IsTrue, true, false, unwrap_or};
 ghost use Rattle.chr_base.specs.Programs.{declarations, rules_of};
 ghost use Rattle.chr_base.specs.ProgramTests.{with_weight};
-ghost use Rattle.chr_base.specs.RuleTests.{is_rule};
-ghost use Rattle.chr_syntax.specs.Clauses.{weight, rule};
+ghost use Rattle.chr_base.specs.RuleTests.{is_in_bounds, is_rule};
+ghost use Rattle.chr_base.specs.Names.{is_name};
+ghost use Rattle.chr_syntax.specs.Clauses.{declare, weight, rule};
 ghost use Rattle.chr_syntax.specs.Grammar.{IsForm};
 ghost use Rattle.chr_syntax.specs.Views.{symbol_view, rule_view, clause_view};
 ghost use Rattle.chr_read.specs.Adding.{can_declare, can_declare_all};
 ghost use Rattle.chr_read.specs.Faults.{rule_over, rule_unbound, fault_in};
 ghost use Rattle.chr_read.specs.Meanings.{rule_data};
+ghost use Rattle.chr_read.specs.NamesOfForms.{has_names};
 ghost use Rattle.chr_read.specs.Reading.{declared_symbol, with_symbols, with_rule, with_form};
 ghost use Rattle.chr_read.specs.Resolving.{resolved};
 ghost use Rattle.chr_read.specs.Views.{progress_of};
@@ -27,7 +30,8 @@ use std::alloc::{AllocError, Global};
 
 /// Declares a symbol.
 fn add_symbol(program: &mut Program, symbol: &RawSymbol<'_>) -> Result<(), AllocError>
-    requires { can_declare (declarations program.old) (symbol_view symbol.now) ≡ true }
+    requires can { can_declare (declarations program.old) (symbol_view symbol.now) ≡ true }
+    requires word { is_name symbol.now.name.now ≡ true }
     ensures symbols { OnOk result (declarations program.new ≡ declarations program.old ++ declared_symbol (symbol_view symbol.now) ∷ []) }
     ensures rules { rules_of program.new ≡ rules_of program.old }
 {
@@ -38,7 +42,8 @@ fn add_symbol(program: &mut Program, symbol: &RawSymbol<'_>) -> Result<(), Alloc
 
 /// Declares these symbols, one after another.
 fn add_symbols(program: &mut Program, symbols: &[RawSymbol<'_>]) -> Result<(), AllocError>
-    requires { can_declare_all (declarations program.old) (map symbol_view symbols.now) ≡ true }
+    requires can { can_declare_all (declarations program.old) (map symbol_view symbols.now) ≡ true }
+    requires words { has_names (declare (map symbol_view symbols.now)) ≡ true }
     ensures symbols { OnOk result (declarations program.new ≡ declarations program.old ++ map declared_symbol (map symbol_view symbols.now)) }
     ensures rules { rules_of program.new ≡ rules_of program.old }
 {
@@ -68,7 +73,8 @@ fn make_rule(
     guard: ArrayVec<Comparison, 8>,
     body: ArrayVec<Pattern, 8>,
 ) -> Rule
-    requires { IsTrue (is_rule kept.items removed.items guard.items body.items) }
+    requires parts { IsTrue (is_rule kept.items removed.items guard.items body.items) }
+    requires bounds { IsTrue (is_in_bounds (option_map (λ n. n.bytes) name) (kept.items ++ removed.items) guard.items body.items) }
     ensures { rule_data result ≡ record { name = option_map (λ n. n.bytes) name; kept = kept.items; removed = removed.items; guard = guard.items; body = body.items } }
 {
     Rule {
@@ -85,6 +91,7 @@ fn resolved(alloc: Global, program: &Program, raw: &RawRule<'_>) -> Result<Rule,
     requires over { rule_over (rule_view raw.now) ≡ false }
     requires unbound { rule_unbound (rule_view raw.now) ≡ false }
     requires some { 0 < length (rule_view raw.now).removed }
+    requires names { has_names (rule (rule_view raw.now)) ≡ true }
     ensures { IfOk result (λ r. rule_data r ≡ resolved (declarations program.now) (rule_view raw.now)) }
 {
     let mut names = Vec::new(alloc);
@@ -99,6 +106,7 @@ fn resolved(alloc: Global, program: &Program, raw: &RawRule<'_>) -> Result<Rule,
 fn add_rule(alloc: Global, reader: &mut Reader, raw: &RawRule<'_>) -> Result<(), AllocError>
     requires none { fault_in (progress_of reader.old) (rule (rule_view raw.now)) ≡ None }
     requires some { 0 < length (rule_view raw.now).removed }
+    requires names { has_names (rule (rule_view raw.now)) ≡ true }
     ensures { OnOk result (progress_of reader.new ≡ with_rule (progress_of reader.old) (rule_view raw.now)) }
 {
     let rule = resolved(alloc, &reader.program, raw)?;
@@ -113,6 +121,7 @@ pub fn add_clause(
 ) -> Result<(), AllocError>
     requires none { fault_in (progress_of reader.old) (clause_view clause.now) ≡ None }
     requires form { IsForm (clause_view clause.now) }
+    requires names { has_names (clause_view clause.now) ≡ true }
     ensures { OnOk result (progress_of reader.new ≡ with_form (progress_of reader.old) (clause_view clause.now)) }
 {
     match clause {

@@ -1,4 +1,4 @@
-//! The program of a text.
+//! The program of a text, and the text of a program.
 #![tactic(auto)]
 
 mod adding;
@@ -14,7 +14,9 @@ mod resolve;
 mod symbols;
 #[cfg(test)]
 mod tests;
+mod writer;
 
 pub use fault::{Fault, ReadFault};
-pub use grammar::{names_are_text, programs_are_read, variables_are_numbered};
+pub use grammar::{names_are_text, programs_are_read, programs_come_back, variables_are_numbered};
 pub use reader::read;
+pub use writer::write;

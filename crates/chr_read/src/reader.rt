@@ -1,10 +1,11 @@
 //! What the clauses of a text make, one after another.
 
-ghost use Rattle.std.specs.Prelude.{◌≡◌, Option, Some};
+ghost use Rattle.std.specs.Prelude.{◌≡◌, Option, Some, true};
 ghost use Rattle.chr_syntax.specs.Grammar.{IsForm};
 ghost use Rattle.chr_syntax.specs.Views.{clause_view};
 ghost use Rattle.chr_syntax.specs.Bytes.{pieces};
 ghost use Rattle.chr_read.specs.Meanings.{Progress, nothing};
+ghost use Rattle.chr_read.specs.NamesOfForms.{has_names};
 ghost use Rattle.chr_read.specs.Reading.{clause_read, formed, ended, rest_read, pieces_read, text_read};
 ghost use Rattle.chr_read.specs.Outcomes.{ClauseGives, ClausesGive, IsReadAs};
 ghost use Rattle.chr_read.specs.ProgramTexts.{IsAnswer};
@@ -60,7 +61,8 @@ fn start(alloc: Global) -> Reader
 /// Adds a clause that has a form, unless it has a fault.
 #[tactic(auto, unfolding(crate::specs::Reading::clause_read))]
 fn read_form(alloc: Global, reader: &mut Reader, clause: &RawClause<'_>) -> Result<(), Stop>
-    requires { IsForm (clause_view clause.now) }
+    requires form { IsForm (clause_view clause.now) }
+    requires names { has_names (clause_view clause.now) ≡ true }
     ensures { ClauseGives result (progress_of reader.new) (formed (progress_of reader.old) (Some (clause_view clause.now))) }
 {
     if let Some(fault) = fault_in(alloc, reader, clause)? {
@@ -71,7 +73,7 @@ fn read_form(alloc: Global, reader: &mut Reader, clause: &RawClause<'_>) -> Resu
 }
 
 /// Reads a clause, after what stands before it.
-#[tactic(auto, using(crate::proofs::FormsRead::form_is), unfolding(crate::specs::Reading::clause_read))]
+#[tactic(auto, using(crate::proofs::FormsRead::form_is, crate::proofs::FormsRead::names_are), unfolding(crate::specs::Reading::clause_read))]
 fn read_clause(alloc: Global, reader: &mut Reader, bytes: &[u8]) -> Result<(), Stop>
     ensures { ClauseGives result (progress_of reader.new) (clause_read (progress_of reader.old) bytes.now) }
 {

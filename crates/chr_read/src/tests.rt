@@ -1,4 +1,4 @@
-use crate::{Fault, ReadFault, read};
+use crate::{Fault, ReadFault, read, write};
 use chr_base::atom::SymbolId;
 use chr_base::program::Program;
 use chr_base::term::{Cmp, Term};
@@ -355,4 +355,75 @@ fn each_underscore_is_a_variable(rt: HostRuntime) -> Result<(), Fail> {
 fn numbers_of_faults(rt: HostRuntime) {
     assert_eq!(rt; Fault::BadByte.number(), 1);
     assert_eq!(rt; Fault::Unended.number(), 11);
+}
+
+/// The canonical text of what is read from this text, where it is a program.
+fn rewritten(alloc: Global, text: &[u8]) -> Result<String, AllocError> {
+    match read(alloc, text) {
+        Ok(program) => write(alloc, &program),
+        Err(_) => String::from_str(alloc, "no program"),
+    }
+}
+
+#[test]
+fn canonical_texts(rt: HostRuntime) -> Result<(), Fail> {
+    let alloc = rt.alloc();
+    for (text, canonical) in [
+        ("", ""),
+        ("% nothing\n", ""),
+        (
+            ":-chr_constraint min/1.m@min(X)\\min(Y)<=>X=<Y|true.",
+            ":- chr_constraint min/1.\nm @ min(V1) \\ min(V2) <=> V1 =< V2 | true.\n",
+        ),
+        (
+            ":- use_module(library(chr)).\n:- chr_constraint a/1, b/0. a(X) <=> X == 1 | b, true, b. b, b <=> true | b.",
+            ":- chr_constraint a/1, b/0.\na(V1) <=> V1 =:= 1 | b, b.\nb, b <=> b.\n",
+        ),
+        (
+            ":- chr_constraint a/0, b/2. :- chr_weight b/2 = 7. :- chr_constraint c/04. :- chr_weight a/0 = 1. :- chr_weight c/4 = 01000000.",
+            ":- chr_constraint a/0, b/2, c/4.\n:- chr_weight b/2 = 7.\n:- chr_weight c/4 = 1000000.\n",
+        ),
+        (
+            ":- chr_constraint p/3, q/0. p(_, Y, -9223372036854775808), q <=> Y < 0, 007 >= Y, Y > -1, 3 =< Y, Y =\\= 5, Y \\== 6, Y =:= 9223372036854775807 | p(Y, Y, 4).",
+            ":- chr_constraint p/3, q/0.\np(V1,V2,-9223372036854775808), q <=> V2 < 0, 7 >= V2, V2 > -1, 3 =< V2, V2 =\\= 5, V2 =\\= 6, V2 =:= 9223372036854775807 | p(V2,V2,4).\n",
+        ),
+    ] {
+        assert_eq!(rt; rewritten(alloc, text.as_bytes())?.as_str(), canonical);
+    }
+    Ok(())
+}
+
+/// Whether the text is that of a program, and its canonical text that of the same.
+fn comes_back(alloc: Global, text: &[u8]) -> Result<bool, AllocError> {
+    let Ok(program) = read(alloc, text) else {
+        return Ok(false);
+    };
+    let canonical = write(alloc, &program)?;
+    let Ok(again) = read(alloc, canonical.as_bytes()) else {
+        return Ok(false);
+    };
+    Ok(again.is_same(&program) && write(alloc, &again)?.as_str() == canonical.as_str())
+}
+
+#[test]
+fn programs_come_back(rt: HostRuntime) -> Result<(), Fail> {
+    let alloc = rt.alloc();
+    for text in [
+        "",
+        ":- chr_constraint coin/0, note/0. coin, coin <=> note.",
+        ":- chr_constraint a/1, b/1. a(X), a(X) <=> b(X).",
+        ":- chr_constraint a/1. a(X) <=> X == 1 | true.",
+        ":- chr_constraint a/1. a(-9223372036854775808) <=> true.",
+        ":- chr_constraint a/1. a(9223372036854775807) <=> true.",
+        ":-chr_constraint min/1.m@min(X)\\min(Y)<=>X=<Y|true.",
+        ":- chr_constraint a/0, a/1, a/2, a/3, a/4.",
+        ":- chr_constraint a234567890123456789012345678901x/0. :- chr_weight a234567890123456789012345678901x/0 = 1000000.",
+        ":- chr_constraint a/0. x234567890123456789012345678901y @ a <=> true.",
+        ":- chr_constraint a/2, b/4. a(_,X), b(Y,_,X,Z) \\ a(Z,_), a(_,_) <=> X < Y, Z =\\= 4, 3 >= X | b(X,Y,Z,-5), a(0,0).",
+        ":- chr_constraint e/2. :- chr_weight e/2 = 3. a @ e(X,Y) \\ e(X,Z) <=> Y =< Z | true. a @ e(1,2) <=> true.",
+        ":- chr_constraint truex/0, failing/0. truex @ truex <=> failing, failing, failing, failing, failing, failing, failing, failing.",
+    ] {
+        assert!(rt; comes_back(alloc, text.as_bytes())?);
+    }
+    Ok(())
 }

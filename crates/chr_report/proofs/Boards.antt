@@ -1,5 +1,5 @@
 -- The board's pool and what was told.
-use Rattle.std.proofs.Common.{◌≡◌, ℕ, suc, List, [], ◌∷◌, length, refl, sym, ap, ◌∙◌, arith}
+use Rattle.std.proofs.Common.{◌≡◌, ℕ, suc, List, [], ◌∷◌, length, refl, sym, ap, subst, ◌∙◌, arith}
 use Rattle.std.specs.Prelude.{◌≢◌, Option, Some, None, IfSome, option_map, option_and_then}
 use Rattle.std.specs.Option.{IsSomeAnd}
 use Rattle.chr_base.specs.ProgramTests.{Declaration}
@@ -12,13 +12,17 @@ use Rattle.chr_report.specs.Replies.{refused}
 use Rattle.chr_report.specs.Answers.{atom_of, atoms_of, AnswersTell, AnswersShow}
 use Rattle.chr_base.specs.declared.rule.Rule.{Rule}
 use Rattle.chr_base.specs.declared.atom.Atom.{Atom}
-use Rattle.chr_base.specs.declared.program.Program.{Program}
+use Rattle.chr_weights.specs.declared.weighed.Weighed.{Weighed}
+use Rattle.chr_weights.specs.WeighedPrograms.{program_of}
+use Rattle.chr_join.specs.declared.accepted.Accepted.{Accepted}
+use Rattle.chr_join.specs.AcceptedPrograms.{weighed_of}
+use Rattle.chr_report.specs.Boards.{program_in}
 use Rattle.chr_base.specs.FinBag as bag
 use Rattle.chr_base.specs.FinBag.{◌⊕◌, total}
 use Rattle.chr_base.specs.Stores.{Store, store_of, store_of-items, size, weight_store_of}
 use Rattle.chr_base.specs.Rules.{Step}
 use Rattle.chr_base.specs.Programs.{rules_of}
-use Rattle.chr_base.specs.Rewriting.{Reaches, reaches_on, IsNormalForm}
+use Rattle.chr_base.specs.Rewriting.{Reaches, reaches_on, IsAtRest, IsNormalForm}
 use Rattle.chr_rewrite.specs.Pools.{TookSteps}
 use Rattle.chr_rewrite.specs.PoolLaws.{reaches_more, took_reaches}
 
@@ -41,9 +45,12 @@ clash_answered old new op held same = record {
   told = λ h _. absurd (let k : IsSomeAnd {T = Store} None (λ b. b ≢ op.1) = rw h at held in k);
 }
 
--- resting the pool
-pub rested_reached : (p : Program) (n : ℕ) (s t u : Store) → Reaches (Step (rules_of p)) s t → TookSteps p n t u → Reaches (Step (rules_of p)) s u
-rested_reached p n s t u r h = reaches_on (Step (rules_of p)) s t u r (took_reaches p n t u h)
+-- resting the pool by the board's program
+pub rested : (a : Accepted) (w : Weighed) (n : ℕ) (s t u : Store) → w ≡ weighed_of a → Reaches (Step (rules_of (program_in a))) s t → TookSteps (program_of w) n t u → IsAtRest (Step (rules_of (program_of w))) u → IsNormalForm (Step (rules_of (program_in a))) s u
+rested a w n s t u e r took rests = (
+  reaches_on (Step (rules_of (program_in a))) s t u r (took_reaches (program_in a) n t u (subst (λ v. TookSteps (program_of v) n t u) e took)),
+  subst (λ v. IsAtRest (Step (rules_of (program_of v))) u) e rests,
+)
 
 -- what is shown
 pub shown : (ds : List Declaration) (rules : List Rule) (old : Operations) (r : ℕ) (t : Store) (text : List ℕ) → r ≡ 1 → IsNormalForm (Step rules) (told_store old) t → text ≡ store_text ds t → (new : Operations) → new ≡ old → AnswersShow ds rules old r text new

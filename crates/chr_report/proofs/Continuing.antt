@@ -6,8 +6,8 @@ use Rattle.chr_base.specs.Rules.{Step}
 use Rattle.chr_base.specs.Rewriting.{Reaches}
 use Rattle.chr_base.specs.Programs.{declarations, rules_of}
 use Rattle.chr_ops.specs.Operations.{told_store}
-use Rattle.chr_weights.specs.declared.weighed.Weighed.{Weighed}
-use Rattle.chr_weights.specs.WeighedPrograms.{program_of}
+use Rattle.chr_join.specs.declared.accepted.Accepted.{Accepted}
+use Rattle.chr_report.specs.Boards.{program_in}
 use Rattle.std.specs.Borrow.{Bor}
 use Rattle.std.specs.Bool.{MatchBool}
 use Rattle.chr_base.specs.declared.rule.Rule.{Rule}
@@ -58,28 +58,28 @@ left_more rest line None h g = h
 left_more rest line (Some r) h g = g
 
 -- what holds at the next turn
-pub record Turn (w : Weighed) (all : List (List ℕ)) (start : Operations) (before : List ℕ) (v : Weighed) (next : Option (Bor (List ℕ))) (now : Operations) (pool : Store) (out : List ℕ) : Type 0 where
+pub record Turn (w : Accepted) (all : List (List ℕ)) (start : Operations) (before : List ℕ) (v : Accepted) (next : Option (Bor (List ℕ))) (now : Operations) (pool : Store) (out : List ℕ) : Type 0 where
   pub program : v ≡ w
-  pub reached : Reaches (Step (rules_of (program_of w))) (told_store now) pool
-  pub answered : Continues (declarations (program_of w)) (rules_of (program_of w)) all start before (left next) now out
+  pub reached : Reaches (Step (rules_of (program_in w))) (told_store now) pool
+  pub answered : Continues (declarations (program_in w)) (rules_of (program_in w)) all start before (left next) now out
 
-pub one_more : (w : Weighed) (all : List (List ℕ)) (start : Operations) (before : List ℕ) (v x : Weighed) (next : Option (Bor (List ℕ))) (rest : Bor (List ℕ)) (line stripped : List ℕ) (more : Option (Bor (List ℕ))) (old new : Operations) (pool again : Store) (out longer : List ℕ)
-    → v ≡ w → Continues (declarations (program_of w)) (rules_of (program_of w)) all start before (left next) old out → next ≡ Some rest
+pub one_more : (w : Accepted) (all : List (List ℕ)) (start : Operations) (before : List ℕ) (v x : Accepted) (next : Option (Bor (List ℕ))) (rest : Bor (List ℕ)) (line stripped : List ℕ) (more : Option (Bor (List ℕ))) (old new : Operations) (pool again : Store) (out longer : List ℕ)
+    → v ≡ w → Continues (declarations (program_in w)) (rules_of (program_in w)) all start before (left next) old out → next ≡ Some rest
     → IfNone more (lines rest.now ≡ line ∷ []) → IfSome more (λ r. lines rest.now ≡ line ∷ lines r.now) → stripped ≡ without_return line
-    → Reaches (Step (rules_of (program_of v))) (told_store new) again → x ≡ v
-    → AnswersLine (declarations (program_of v)) (rules_of (program_of v)) old stripped out new longer
+    → Reaches (Step (rules_of (program_in v))) (told_store new) again → x ≡ v
+    → AnswersLine (declarations (program_in v)) (rules_of (program_in v)) old stripped out new longer
     → Turn w all start before x more new again longer
 one_more w all start before v x next rest line stripped more old new pool again out longer e h is last further strip reached same answers = record {
   program = same ∙ e;
-  reached = subst (λ u. Reaches (Step (rules_of (program_of u))) (told_store new) again) e reached;
+  reached = subst (λ u. Reaches (Step (rules_of (program_in u))) (told_store new) again) e reached;
   answered =
-      goes_on (declarations (program_of w)) (rules_of (program_of w)) all start before line (left more) old out new longer
-      (subst (λ ls. Continues (declarations (program_of w)) (rules_of (program_of w)) all start before ls old out) (ap left is ∙ left_more rest.now line more last further) h)
-      (subst (λ l. AnswersLine (declarations (program_of w)) (rules_of (program_of w)) old l out new longer) strip
-      (subst (λ u. AnswersLine (declarations (program_of u)) (rules_of (program_of u)) old stripped out new longer) e answers));
+      goes_on (declarations (program_in w)) (rules_of (program_in w)) all start before line (left more) old out new longer
+      (subst (λ ls. Continues (declarations (program_in w)) (rules_of (program_in w)) all start before ls old out) (ap left is ∙ left_more rest.now line more last further) h)
+      (subst (λ l. AnswersLine (declarations (program_in w)) (rules_of (program_in w)) old l out new longer) strip
+      (subst (λ u. AnswersLine (declarations (program_in u)) (rules_of (program_in u)) old stripped out new longer) e answers));
 }
 
-pub all_answered : (w : Weighed) (all : List (List ℕ)) (start : Operations) (before : List ℕ) (next : Option (Bor (List ℕ))) (now : Operations) (out : List ℕ) → Continues (declarations (program_of w)) (rules_of (program_of w)) all start before (left next) now out → next ≡ None
-    → AnswersRest (declarations (program_of w)) (rules_of (program_of w)) all start before out
+pub all_answered : (w : Accepted) (all : List (List ℕ)) (start : Operations) (before : List ℕ) (next : Option (Bor (List ℕ))) (now : Operations) (out : List ℕ) → Continues (declarations (program_in w)) (rules_of (program_in w)) all start before (left next) now out → next ≡ None
+    → AnswersRest (declarations (program_in w)) (rules_of (program_in w)) all start before out
 all_answered w all start before next now out h e =
-    ends _ _ all start before now out (subst (λ ls. Continues (declarations (program_of w)) (rules_of (program_of w)) all start before ls now out) (ap left e) h)
+    ends _ _ all start before now out (subst (λ ls. Continues (declarations (program_in w)) (rules_of (program_in w)) all start before ls now out) (ap left e) h)

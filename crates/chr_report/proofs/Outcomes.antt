@@ -1,5 +1,5 @@
 -- The parts of a run's output put together.
-use Rattle.std.proofs.Common.{◌≡◌, ℕ, List, [], ◌∷◌, ◌++◌, length, refl, sym, ap, ◌∙◌, subst, append_assoc, append-nil, inr}
+use Rattle.std.proofs.Common.{◌≡◌, ℕ, List, [], ◌∷◌, ◌++◌, length, refl, sym, ap, ◌∙◌, subst, append_assoc, append-nil, ◌⊎◌, inr}
 use Rattle.std.specs.Prelude.{Option, Some, None, Result, Ok, Err, IfSome, IfNone, IfOk, ◌≢◌}
 use Rattle.std.specs.Borrow.{Bor}
 use Rattle.std.specs.FinMap as finmap
@@ -8,9 +8,13 @@ use Rattle.chr_base.specs.declared.program.Program.{Program}
 use Rattle.chr_base.specs.Programs.{declarations, rules_of}
 use Rattle.chr_weights.specs.declared.weighed.Weighed.{Weighed}
 use Rattle.chr_weights.specs.WeighedPrograms.{program_of}
+use Rattle.chr_join.specs.declared.accepted.Accepted.{Accepted}
+use Rattle.chr_join.specs.declared.refused.Cause.{Cause}
+use Rattle.chr_join.specs.AcceptedPrograms.{weighed_of, cases_of}
+use Rattle.chr_join.specs.Verdicts.{IsAccepted}
+use Rattle.chr_join.specs.Explanations.{IsRefusal}
 use Rattle.chr_base.specs.declared.rule.Rule.{Rule}
 use Rattle.chr_base.specs.ProgramTests.{Declaration}
-use Rattle.chr_weights.specs.Weights.{ProgramLowers}
 use Rattle.chr_ops.specs.Operations.{Operations}
 use Rattle.chr_read.specs.Meanings.{Meaning, meaning_of}
 use Rattle.chr_read.specs.Reading.{text_read}
@@ -19,11 +23,14 @@ use Rattle.chr_read.specs.declared.fault.ReadFault.TheVariants as fault
 use Rattle.chr_read.specs.Outcomes.{IsReadAs}
 use Rattle.chr_report.specs.declared.running.Status.TheVariants.{Refused}
 use Rattle.chr_report.specs.declared.running.Status.{Status}
+use Rattle.chr_device.specs.declared.words.Verb.{Verb}
+use Rattle.chr_report.specs.Boards.{program_in}
+use Rattle.chr_report.specs.Commands.{asked}
 use Rattle.chr_report.specs.Lines.{lines, text_of, commands_of}
 use Rattle.chr_report.specs.Answers.{AnswersAll}
 use Rattle.chr_report.specs.Answered.{AnswersRest}
 use Rattle.chr_report.specs.OptionalLines.{command_lines}
-use Rattle.chr_report.specs.Outputs.{IsOutput, IsReadOutput, IsProgramOutput, IsAnswered, weighed_text, fault_text}
+use Rattle.chr_report.specs.Outputs.{IsOutput, IsReadOutput, IsProgramOutput, IsAnswered, IsRefusedByWeights, IsRefusedByOverlaps, IsCauseLine, accepted_text, fault_text}
 use Rattle.chr_report.specs.Written.{WritesBeginning}
 
 -- the commands after the text
@@ -32,16 +39,16 @@ commands_are input None h g = g
 commands_are input (Some s) h g = h
 
 -- what was read decides
-pub output_is : (input text : List ℕ) (ls : List (List ℕ)) (r : Result Meaning ReadFault) (status : Status) (out : List ℕ) → text ≡ text_of (lines input) → commands_of (lines input) ≡ ls → text_read text ≡ r → IsReadOutput r ls status out → IsOutput input status out
-output_is input text ls r status out e f g h =
-    subst (λ x. IsReadOutput x (commands_of (lines input)) status out) (sym g ∙ ap text_read e)
+pub output_is : (verb : Verb) (input text : List ℕ) (ls : List (List ℕ)) (r : Result Meaning ReadFault) (status : Status) (out : List ℕ) → text ≡ text_of (lines input) → asked verb (commands_of (lines input)) ≡ ls → text_read text ≡ r → IsReadOutput r ls status out → IsOutput verb input status out
+output_is verb input text ls r status out e f g h =
+    subst (λ x. IsReadOutput x (asked verb (commands_of (lines input))) status out) (sym g ∙ ap text_read e)
     (subst (λ cs. IsReadOutput r cs status out) (sym f) h)
 
 -- a failed write leaves a beginning
-pub part_written : (old new r : Option (List ℕ)) (items bytes out : List ℕ) (status : Status) → IfSome r (λ t. items ≡ t) → IsOutput items status out → bytes ≡ out → AppendsPart old new bytes → IfSome r (WritesBeginning old new)
-part_written old new None items bytes out status h o e a = tt
-part_written old new (Some t) items bytes out status h o e a =
-    inr (status, out, subst (λ i. IsOutput i status out) h o, subst (AppendsPart old new) e a)
+pub part_written : (old new r : Option (List ℕ)) (verb : Verb) (items bytes out : List ℕ) (status : Status) → IfSome r (λ t. items ≡ t) → IsOutput verb items status out → bytes ≡ out → AppendsPart old new bytes → IfSome r (WritesBeginning old new verb)
+part_written old new None verb items bytes out status h o e a = tt
+part_written old new (Some t) verb items bytes out status h o e a =
+    inr (status, out, subst (λ i. IsOutput verb i status out) h o, subst (AppendsPart old new) e a)
 
 -- no lines, no answers
 pub nothing_to_answer : (ds : List Declaration) (rules : List Rule) (commands : Option (Bor (List ℕ))) (old : Operations) (before : List ℕ) → commands ≡ None → AnswersRest ds rules (command_lines commands) old before before
@@ -49,26 +56,32 @@ nothing_to_answer ds rules commands old before e =
     rw e (let r : AnswersRest ds rules [] old before before = record { out = []; answers = refl; out_is = sym (append-nil before) } in r)
 
 -- the verdict's line and the answers
-pub program_answered : (w v : Weighed) (ls : List (List ℕ)) (n : ℕ) (start : Operations) (before out : List ℕ) → ProgramLowers (program_of w) → v ≡ w → n ≡ length (rules_of (program_of w)) → before ≡ weighed_text n ++ 10 ∷ [] → start ≡ finmap.empty
-    → AnswersRest (declarations (program_of v)) (rules_of (program_of v)) ls start before out → IsAnswered (program_of w) ls out
-program_answered w v ls n start before out lowers e f g h a =
-    let b : AnswersRest (declarations (program_of w)) (rules_of (program_of w)) ls start before out = subst (λ u. AnswersRest (declarations (program_of u)) (rules_of (program_of u)) ls start before out) e a in
+pub program_answered : (a b : Accepted) (ls : List (List ℕ)) (n m : ℕ) (start : Operations) (before out : List ℕ) → IsAccepted (rules_of (program_in a)) (cases_of a) → b ≡ a → n ≡ length (rules_of (program_in a)) → m ≡ cases_of a → before ≡ accepted_text n m ++ 10 ∷ [] → start ≡ finmap.empty
+    → AnswersRest (declarations (program_in b)) (rules_of (program_in b)) ls start before out → IsAnswered (program_in a) ls out
+program_answered a b ls n m start before out accepted e f q g h r =
+    let k : AnswersRest (declarations (program_in a)) (rules_of (program_in a)) ls start before out = subst (λ u. AnswersRest (declarations (program_in u)) (rules_of (program_in u)) ls start before out) e r in
     record {
-      lowers = lowers;
-      answers = b.out;
-      answered = subst (λ o. AnswersAll (declarations (program_of w)) (rules_of (program_of w)) ls o b.out) h b.answers;
-      out_is = b.out_is ∙ ap (λ x. x ++ b.out) (g ∙ ap (λ k. weighed_text k ++ 10 ∷ []) f) ∙ append_assoc (weighed_text (length (rules_of (program_of w)))) (10 ∷ []) b.out;
+      lowers = (weighed_of a).lowers;
+      cases = cases_of a;
+      accepted = accepted;
+      answers = k.out;
+      answered = subst (λ o. AnswersAll (declarations (program_in a)) (rules_of (program_in a)) ls o k.out) h k.answers;
+      out_is = k.out_is ∙ ap (λ x. x ++ k.out) (g ∙ (λ i. accepted_text (f i) (q i) ++ 10 ∷ [])) ∙ append_assoc (accepted_text (length (rules_of (program_in a))) (cases_of a)) (10 ∷ []) k.out;
     }
 
+-- a program that is refused
+pub refused_by : (p : Program) (ls : List (List ℕ)) (status : Status) (out line : List ℕ) → status ≡ Refused → out ≡ line → IsRefusedByWeights p line ⊎ IsRefusedByOverlaps p line → IsProgramOutput p ls status out
+refused_by p ls status out line e f h = rw (e, f) h
+
 -- a text that is no program
-pub refused_output : (input text : List ℕ) (ls : List (List ℕ)) (e : ReadFault) (out : List ℕ) → text ≡ text_of (lines input) → commands_of (lines input) ≡ ls → IsReadAs (Err e) (text_read text) → e ≢ fault.Memory → out ≡ fault_text e ++ 10 ∷ [] → IsOutput input Refused out
-refused_output input text ls fault.Memory out e f g n h = absurd (n refl)
-refused_output input text ls fault.TooLong out e f g n h = output_is input text ls (Err fault.TooLong) Refused out e f g (refl, h)
-refused_output input text ls (fault.Bad x k) out e f g n h = output_is input text ls (Err (fault.Bad x k)) Refused out e f g (refl, h)
+pub refused_output : (verb : Verb) (status : Status) (input text : List ℕ) (ls : List (List ℕ)) (e : ReadFault) (out : List ℕ) → text ≡ text_of (lines input) → asked verb (commands_of (lines input)) ≡ ls → IsReadAs (Err e) (text_read text) → e ≢ fault.Memory → status ≡ Refused → out ≡ fault_text e ++ 10 ∷ [] → IsOutput verb input status out
+refused_output verb status input text ls fault.Memory out e f g n r h = absurd (n refl)
+refused_output verb status input text ls fault.TooLong out e f g n r h = output_is verb input text ls (Err fault.TooLong) status out e f g (r, h)
+refused_output verb status input text ls (fault.Bad x k) out e f g n r h = output_is verb input text ls (Err (fault.Bad x k)) status out e f g (r, h)
 
 -- a program
-pub read_output : (input text : List ℕ) (ls : List (List ℕ)) (p : Program) (status : Status) (out : List ℕ) → text ≡ text_of (lines input) → commands_of (lines input) ≡ ls → text_read text ≡ Ok (meaning_of p) → IsProgramOutput p ls status out → IsOutput input status out
-read_output input text ls p status out e f g h = output_is input text ls (Ok (meaning_of p)) status out e f g (p, refl, h)
+pub read_output : (verb : Verb) (input text : List ℕ) (ls : List (List ℕ)) (p : Program) (status : Status) (out : List ℕ) → text ≡ text_of (lines input) → asked verb (commands_of (lines input)) ≡ ls → text_read text ≡ Ok (meaning_of p) → IsProgramOutput p ls status out → IsOutput verb input status out
+read_output verb input text ls p status out e f g h = output_is verb input text ls (Ok (meaning_of p)) status out e f g (p, refl, h)
 
 pub if_ok : {A E : Type 0} {P Q : A → Type 0} (r : Result A E) → ((x : A) → P x → Q x) → IfOk r P → IfOk r Q
 if_ok (Ok x) f h = f x h

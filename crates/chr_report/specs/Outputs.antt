@@ -1,8 +1,10 @@
--- What a run writes for an input: the verdict, and for a program that lowers the answers of its command lines.
+-- What is written for an input: the verdict, and by a run of an accepted program the answers of its command lines.
 --     fault_text        the line of a text that is no program
 --     IsFirstNotLowered        the first rule whose removed heads do not outweigh its body, with both weights
---     IsOutput        the output and its status: `accepted` where a program was read that lowers
-use Rattle.std.specs.Prelude.{◌≡◌, ℕ, ◌+◌, ◌-◌, ◌<◌, ◌≤◌, List, [], ◌∷◌, ◌++◌, Some, Result, Ok, Err, slice_get, codes, length}
+--     IsRefusedByWeights, IsRefusedByOverlaps        the line of a program with such a rule;  of one that lowers, and has a failing case or too many order types
+--     IsAnswered        the number of cases of a program of which none fails, and the answers
+--     IsOutput        the output and its status: `accepted` where no case of the program fails
+use Rattle.std.specs.Prelude.{◌≡◌, ℕ, ◌+◌, ◌-◌, ◌<◌, ◌≤◌, ◌⊎◌, List, [], ◌∷◌, ◌++◌, Some, Result, Ok, Err, slice_get, codes, length}
 use Rattle.std.specs.Fmt.{decimal}
 use Rattle.std.specs.FinMap as map
 use Rattle.chr_base.specs.declared.rule.Rule.{Rule}
@@ -12,15 +14,22 @@ use Rattle.chr_base.specs.Rules.{Valuation, atoms_at}
 use Rattle.chr_base.specs.StepLaws.{RuleLowers}
 use Rattle.chr_base.specs.Programs.{declarations, rules_of}
 use Rattle.chr_weights.specs.Weights.{weight_in, ProgramLowers}
+use Rattle.chr_join.specs.declared.refused.Cause.{Cause}
+use Rattle.chr_join.specs.declared.refused.Cause.TheVariants as cause
+use Rattle.chr_join.specs.Verdicts.{IsAccepted}
+use Rattle.chr_join.specs.Explanations.{IsRefusal}
 use Rattle.chr_read.specs.Meanings.{Meaning, meaning_of}
 use Rattle.chr_read.specs.Numbers.{number_of_fault}
 use Rattle.chr_read.specs.Reading.{text_read}
 use Rattle.chr_read.specs.declared.fault.ReadFault.{ReadFault}
 use Rattle.chr_read.specs.declared.fault.ReadFault.TheVariants as fault
+use Rattle.chr_device.specs.declared.words.Verb.{Verb}
 use Rattle.chr_report.specs.declared.running.Status.{Status}
 use Rattle.chr_report.specs.declared.running.Status.TheVariants.{Accepted, Refused}
 use Rattle.chr_report.specs.Lines.{lines, text_of, commands_of}
+use Rattle.chr_report.specs.Commands.{asked}
 use Rattle.chr_report.specs.Answers.{AnswersAll}
+use Rattle.chr_report.specs.Overlaps.{failure_text, too_many_text}
 
 abbrev pub fault_text : ReadFault → List ℕ
 fault_text fault.TooLong = codes "refused 2"
@@ -38,30 +47,44 @@ pub record IsFirstNotLowered (p : Program) (i before after : ℕ) : Type 0 where
 abbrev pub not_lowered_text : ℕ → ℕ → ℕ → List ℕ
 not_lowered_text i before after = codes "refused 20: rule " ++ decimal i ++ codes "; before " ++ decimal before ++ codes "; after " ++ decimal after
 
-abbrev pub weighed_text : ℕ → List ℕ
-weighed_text n = codes "weighed: rules " ++ decimal n
+abbrev pub accepted_text : ℕ → ℕ → List ℕ
+accepted_text rules cases = codes "accepted: rules " ++ decimal rules ++ codes ", cases " ++ decimal cases
 
-pub record IsRefused (p : Program) (out : List ℕ) : Type 0 where
+pub record IsRefusedByWeights (p : Program) (out : List ℕ) : Type 0 where
   pub rule : ℕ
   pub before : ℕ
   pub after : ℕ
   pub first : IsFirstNotLowered p rule before after
   pub out_is : out ≡ not_lowered_text rule before after ++ 10 ∷ []
 
+-- want of memory is no verdict
+abbrev pub IsCauseLine : Program → Cause → List ℕ → Type 0
+IsCauseLine p (cause.Fails f) out = out ≡ failure_text (declarations p) f ++ 10 ∷ []
+IsCauseLine p (cause.TooMany t) out = out ≡ too_many_text t ++ 10 ∷ []
+IsCauseLine p cause.Memory out = ⊥
+
+pub record IsRefusedByOverlaps (p : Program) (out : List ℕ) : Type 0 where
+  pub lowers : ProgramLowers p
+  pub cause : Cause
+  pub first : IsRefusal (rules_of p) cause
+  pub line : IsCauseLine p cause out
+
 -- a replica that was told nothing answers the commands
 pub record IsAnswered (p : Program) (commands : List (List ℕ)) (out : List ℕ) : Type 0 where
   pub lowers : ProgramLowers p
+  pub cases : ℕ
+  pub accepted : IsAccepted (rules_of p) cases
   pub answers : List ℕ
   pub answered : AnswersAll (declarations p) (rules_of p) commands map.empty answers
-  pub out_is : out ≡ weighed_text (length (rules_of p)) ++ 10 ∷ answers
+  pub out_is : out ≡ accepted_text (length (rules_of p)) cases ++ 10 ∷ answers
 
 abbrev pub IsProgramOutput : Program → List (List ℕ) → Status → List ℕ → Type 0
 IsProgramOutput p commands Accepted out = IsAnswered p commands out
-IsProgramOutput p commands Refused out = IsRefused p out
+IsProgramOutput p commands Refused out = IsRefusedByWeights p out ⊎ IsRefusedByOverlaps p out
 
 abbrev pub IsReadOutput : Result Meaning ReadFault → List (List ℕ) → Status → List ℕ → Type 0
 IsReadOutput (Ok m) commands status out = (p : Program) × (meaning_of p ≡ m) × IsProgramOutput p commands status out
 IsReadOutput (Err e) commands status out = (status ≡ Refused) × (out ≡ fault_text e ++ 10 ∷ [])
 
-abbrev pub IsOutput : List ℕ → Status → List ℕ → Type 0
-IsOutput input status out = IsReadOutput (text_read (text_of (lines input))) (commands_of (lines input)) status out
+abbrev pub IsOutput : Verb → List ℕ → Status → List ℕ → Type 0
+IsOutput verb input status out = IsReadOutput (text_read (text_of (lines input))) (asked verb (commands_of (lines input))) status out

@@ -4,7 +4,7 @@ ghost use Rattle.chr_base.specs.Programs.{declarations, rules_of};
 ghost use Rattle.chr_base.specs.Rules.{Step};
 ghost use Rattle.chr_base.specs.Rewriting.{Reaches};
 ghost use Rattle.chr_ops.specs.Operations.{told_store};
-ghost use Rattle.chr_weights.specs.WeighedPrograms.{program_of};
+ghost use Rattle.chr_report.specs.Boards.{program_in};
 ghost use Rattle.chr_report.specs.Lines.{lines, without_return};
 ghost use Rattle.chr_report.specs.OptionalLines.{command_lines};
 ghost use Rattle.chr_report.specs.Answered.{AnswersLine, AnswersRest};
@@ -22,10 +22,10 @@ fn answer_line(
     line: &[u8],
     out: &mut String,
 ) -> Result<(), AllocError>
-    requires { Reaches (Step (rules_of (program_of board.old.weighed))) (told_store board.old.ops) board.old.pool }
-    ensures reached { OnOk result (Reaches (Step (rules_of (program_of board.old.weighed))) (told_store board.new.ops) board.new.pool) }
-    ensures program { board.new.weighed ≡ board.old.weighed }
-    ensures answer { OnOk result (AnswersLine (declarations (program_of board.old.weighed)) (rules_of (program_of board.old.weighed)) board.old.ops line.now (string_bytes out.old) board.new.ops (string_bytes out.new)) }
+    requires { Reaches (Step (rules_of (program_in board.old.accepted))) (told_store board.old.ops) board.old.pool }
+    ensures reached { OnOk result (Reaches (Step (rules_of (program_in board.old.accepted))) (told_store board.new.ops) board.new.pool) }
+    ensures program { board.new.accepted ≡ board.old.accepted }
+    ensures answer { OnOk result (AnswersLine (declarations (program_in board.old.accepted)) (rules_of (program_in board.old.accepted)) board.old.ops line.now (string_bytes out.old) board.new.ops (string_bytes out.new)) }
 {
     if is_blank(line) {
         return Ok(());
@@ -41,8 +41,8 @@ fn answer_lines(
     input: &[u8],
     out: &mut String,
 ) -> Result<(), AllocError>
-    requires { Reaches (Step (rules_of (program_of board.old.weighed))) (told_store board.old.ops) board.old.pool }
-    ensures { OnOk result (AnswersRest (declarations (program_of board.old.weighed)) (rules_of (program_of board.old.weighed)) (lines input.now) board.old.ops (string_bytes out.old) (string_bytes out.new)) }
+    requires { Reaches (Step (rules_of (program_in board.old.accepted))) (told_store board.old.ops) board.old.pool }
+    ensures { OnOk result (AnswersRest (declarations (program_in board.old.accepted)) (rules_of (program_in board.old.accepted)) (lines input.now) board.old.ops (string_bytes out.old) (string_bytes out.new)) }
 {
     let mut next = Some(input);
     while let Some(rest) = next {
@@ -60,8 +60,8 @@ pub(crate) fn answer_commands(
     commands: Option<&[u8]>,
     out: &mut String,
 ) -> Result<(), AllocError>
-    requires { Reaches (Step (rules_of (program_of board.old.weighed))) (told_store board.old.ops) board.old.pool }
-    ensures { OnOk result (AnswersRest (declarations (program_of board.old.weighed)) (rules_of (program_of board.old.weighed)) (command_lines commands.entry) board.old.ops (string_bytes out.old) (string_bytes out.new)) }
+    requires { Reaches (Step (rules_of (program_in board.old.accepted))) (told_store board.old.ops) board.old.pool }
+    ensures { OnOk result (AnswersRest (declarations (program_in board.old.accepted)) (rules_of (program_in board.old.accepted)) (command_lines commands.entry) board.old.ops (string_bytes out.old) (string_bytes out.new)) }
 {
     match commands {
         Some(input) => answer_lines(alloc, board, input, out),

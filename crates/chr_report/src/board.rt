@@ -8,7 +8,7 @@ ghost use Rattle.chr_base.specs.Rewriting.{Reaches, IsNormalForm};
 ghost use Rattle.chr_json.specs.Commands.{IsOperationLength};
 ghost use Rattle.chr_json.specs.Reads.{atom_view};
 ghost use Rattle.chr_ops.specs.Operations.{told_store, IsOperationBag};
-ghost use Rattle.chr_weights.specs.WeighedPrograms.{program_of};
+ghost use Rattle.chr_report.specs.Boards.{program_in};
 ghost use Rattle.chr_report.specs.Answers.{atoms_of, Answers, AnswersShow, AnswersTell, AnswersAtoms};
 ghost use Rattle.chr_report.specs.ReplyTexts.{reply_text};
 
@@ -17,18 +17,18 @@ use chr_base::atom::Atom;
 use chr_base::bag::Bag;
 use chr_base::program::Program;
 use chr_base::text::store_text;
+use chr_join::Accepted;
 use chr_json::{Command, LineFault, RawAtom, read_line};
 use chr_ops::{AddFault, Added, Op, OpId, OpSet};
 use chr_rewrite::list::ListPool;
 use chr_rewrite::pool::Pool;
 use chr_rewrite::resting::rest;
-use chr_weights::Weighed;
 use std::alloc::{AllocError, Global};
 
-/// A replica of a program. Its pool is a store that the told atoms reach.
+/// A replica of an accepted program. Its pool is a store that the told atoms reach.
 #[derive(Drop)]
 pub(crate) struct Board {
-    pub weighed: Weighed,
+    pub accepted: Accepted,
     pub ops: OpSet,
     pub pool: ListPool,
 }
@@ -53,13 +53,13 @@ fn resolve(
 
 impl Board {
     /// The replica that was told nothing.
-    pub(crate) fn new(alloc: Global, weighed: Weighed) -> Board
-        ensures reached { Reaches (Step (rules_of (program_of result.weighed))) (told_store result.ops) result.pool }
-        ensures program { result.weighed ≡ weighed }
+    pub(crate) fn new(alloc: Global, accepted: Accepted) -> Board
+        ensures reached { Reaches (Step (rules_of (program_in result.accepted))) (told_store result.ops) result.pool }
+        ensures program { result.accepted ≡ accepted }
         ensures operations { result.ops ≡ finite.empty }
     {
         Board {
-            weighed,
+            accepted,
             ops: OpSet::new(alloc),
             pool: ListPool::new(alloc),
         }
@@ -67,12 +67,12 @@ impl Board {
 
     /// Rests the pool.
     fn rest(&mut self) -> Result<(), AllocError>
-        requires { Reaches (Step (rules_of (program_of self.old.weighed))) (told_store self.old.ops) self.old.pool }
-        ensures rested { OnOk result (IsNormalForm (Step (rules_of (program_of self.old.weighed))) (told_store self.old.ops) self.new.pool) }
-        ensures program { self.new.weighed ≡ self.old.weighed }
+        requires { Reaches (Step (rules_of (program_in self.old.accepted))) (told_store self.old.ops) self.old.pool }
+        ensures rested { OnOk result (IsNormalForm (Step (rules_of (program_in self.old.accepted))) (told_store self.old.ops) self.new.pool) }
+        ensures program { self.new.accepted ≡ self.old.accepted }
         ensures operations { self.new.ops ≡ self.old.ops }
     {
-        match rest(&self.weighed, &mut self.pool) {
+        match rest(self.accepted.weighed(), &mut self.pool) {
             Ok(_) => Ok(()),
             Err(_) => Err(AllocError),
         }
@@ -80,17 +80,17 @@ impl Board {
 
     /// Rests the pool and shows it.
     fn show(&mut self, alloc: Global, replica: u64) -> Result<Reply, AllocError>
-        requires { Reaches (Step (rules_of (program_of self.old.weighed))) (told_store self.old.ops) self.old.pool }
-        ensures reached { OnOk result (Reaches (Step (rules_of (program_of self.old.weighed))) (told_store self.new.ops) self.new.pool) }
-        ensures program { self.new.weighed ≡ self.old.weighed }
-        ensures answer { IfOk result (λ reply. AnswersShow (declarations (program_of self.old.weighed)) (rules_of (program_of self.old.weighed)) self.old.ops replica (reply_text reply) self.new.ops) }
+        requires { Reaches (Step (rules_of (program_in self.old.accepted))) (told_store self.old.ops) self.old.pool }
+        ensures reached { OnOk result (Reaches (Step (rules_of (program_in self.old.accepted))) (told_store self.new.ops) self.new.pool) }
+        ensures program { self.new.accepted ≡ self.old.accepted }
+        ensures answer { IfOk result (λ reply. AnswersShow (declarations (program_in self.old.accepted)) (rules_of (program_in self.old.accepted)) self.old.ops replica (reply_text reply) self.new.ops) }
     {
         if replica != 1 {
             return Ok(Reply::Refused(Refusal::NoReplica));
         }
         self.rest()?;
         let bag = self.pool.bag(alloc)?;
-        let text = store_text(alloc, self.weighed.program(), &bag)?;
+        let text = store_text(alloc, self.accepted.program(), &bag)?;
         Ok(Reply::Store(text))
     }
 
@@ -102,13 +102,13 @@ impl Board {
         id: OpId,
         words: &[RawAtom],
     ) -> Result<Reply, AllocError>
-        requires reached { Reaches (Step (rules_of (program_of self.old.weighed))) (told_store self.old.ops) self.old.pool }
+        requires reached { Reaches (Step (rules_of (program_in self.old.accepted))) (told_store self.old.ops) self.old.pool }
         requires sized { IsOperationLength (length words.now) }
-        ensures reached { OnOk result (Reaches (Step (rules_of (program_of self.old.weighed))) (told_store self.new.ops) self.new.pool) }
-        ensures program { self.new.weighed ≡ self.old.weighed }
-        ensures answer { IfOk result (λ reply. AnswersAtoms self.old.ops replica id.origin id.number (atoms_of (declarations (program_of self.old.weighed)) (map atom_view words.now)) (reply_text reply) self.new.ops) }
+        ensures reached { OnOk result (Reaches (Step (rules_of (program_in self.old.accepted))) (told_store self.new.ops) self.new.pool) }
+        ensures program { self.new.accepted ≡ self.old.accepted }
+        ensures answer { IfOk result (λ reply. AnswersAtoms self.old.ops replica id.origin id.number (atoms_of (declarations (program_in self.old.accepted)) (map atom_view words.now)) (reply_text reply) self.new.ops) }
     {
-        let Some(atoms) = resolve(alloc, self.weighed.program(), words)? else {
+        let Some(atoms) = resolve(alloc, self.accepted.program(), words)? else {
             return Ok(Reply::Refused(Refusal::UnknownSymbol));
         };
         if replica != 1 {
@@ -119,10 +119,10 @@ impl Board {
 
     /// Does what a line says, which comes without its end, and answers it.
     pub(crate) fn reply(&mut self, alloc: Global, line: &[u8]) -> Result<Reply, AllocError>
-        requires { Reaches (Step (rules_of (program_of self.old.weighed))) (told_store self.old.ops) self.old.pool }
-        ensures reached { OnOk result (Reaches (Step (rules_of (program_of self.old.weighed))) (told_store self.new.ops) self.new.pool) }
-        ensures program { self.new.weighed ≡ self.old.weighed }
-        ensures answer { IfOk result (λ reply. Answers (declarations (program_of self.old.weighed)) (rules_of (program_of self.old.weighed)) self.old.ops line.now (reply_text reply) self.new.ops) }
+        requires { Reaches (Step (rules_of (program_in self.old.accepted))) (told_store self.old.ops) self.old.pool }
+        ensures reached { OnOk result (Reaches (Step (rules_of (program_in self.old.accepted))) (told_store self.new.ops) self.new.pool) }
+        ensures program { self.new.accepted ≡ self.old.accepted }
+        ensures answer { IfOk result (λ reply. Answers (declarations (program_in self.old.accepted)) (rules_of (program_in self.old.accepted)) self.old.ops line.now (reply_text reply) self.new.ops) }
     {
         match read_line(alloc, line) {
             Ok(Command::Show { replica }) => self.show(alloc, replica),
@@ -142,10 +142,10 @@ impl Board {
 
     /// Adds an operation of these atoms.
     fn add(&mut self, alloc: Global, id: OpId, atoms: Vec<Atom>) -> Result<Reply, AllocError>
-        requires reached { Reaches (Step (rules_of (program_of self.old.weighed))) (told_store self.old.ops) self.old.pool }
+        requires reached { Reaches (Step (rules_of (program_in self.old.accepted))) (told_store self.old.ops) self.old.pool }
         requires sized { IsOperationBag (store_of atoms.items) }
-        ensures reached { OnOk result (Reaches (Step (rules_of (program_of self.old.weighed))) (told_store self.new.ops) self.new.pool) }
-        ensures program { self.new.weighed ≡ self.old.weighed }
+        ensures reached { OnOk result (Reaches (Step (rules_of (program_in self.old.accepted))) (told_store self.new.ops) self.new.pool) }
+        ensures program { self.new.accepted ≡ self.old.accepted }
         ensures answer { IfOk result (λ reply. AnswersTell self.old.ops (id, store_of atoms.items) (reply_text reply) self.new.ops) }
     {
         let bag = Bag::of(atoms)?;
@@ -156,10 +156,10 @@ impl Board {
 
     /// Adds an operation of these atoms.
     fn add_op(&mut self, op: Op, atoms: &[Atom]) -> Result<Reply, AllocError>
-        requires reached { Reaches (Step (rules_of (program_of self.old.weighed))) (told_store self.old.ops) self.old.pool }
+        requires reached { Reaches (Step (rules_of (program_in self.old.accepted))) (told_store self.old.ops) self.old.pool }
         requires atoms { store_of atoms.now ≡ op.1 }
-        ensures reached { OnOk result (Reaches (Step (rules_of (program_of self.old.weighed))) (told_store self.new.ops) self.new.pool) }
-        ensures program { self.new.weighed ≡ self.old.weighed }
+        ensures reached { OnOk result (Reaches (Step (rules_of (program_in self.old.accepted))) (told_store self.new.ops) self.new.pool) }
+        ensures program { self.new.accepted ≡ self.old.accepted }
         ensures answer { IfOk result (λ reply. AnswersTell self.old.ops op (reply_text reply) self.new.ops) }
     {
         match self.ops.add(op) {

@@ -1,6 +1,10 @@
 //! The program text and the command lines of an input.
 ghost use Rattle.std.specs.Prelude.{◌≡◌, ◌<◌, ◌≤◌, [], ◌∷◌, ◌++◌, IfSome, IfNone, length};
 ghost use Rattle.chr_report.specs.Lines.{lines, without_return, is_divider, text_of, commands_of, line_len};
+ghost use Rattle.chr_report.specs.Commands.{asked};
+ghost use Rattle.chr_report.specs.OptionalLines.{command_lines};
+
+use chr_device::Verb;
 
 fn line_len(bytes: &[u8]) -> usize
     ensures value { result ≡ line_len bytes.now }
@@ -59,4 +63,14 @@ pub(crate) fn split(input: &[u8]) -> (&[u8], Option<&[u8]>)
         next = more;
     }
     (input, None)
+}
+
+/// The commands that are to be answered: a check answers none.
+pub(crate) fn asked(verb: Verb, commands: Option<&[u8]>) -> Option<&[u8]>
+    ensures { command_lines result ≡ asked verb (command_lines commands.entry) }
+{
+    match verb {
+        Verb::Check => None,
+        Verb::Run => commands,
+    }
 }

@@ -1,9 +1,11 @@
-//! Runs of a program over its command lines, from bytes to bytes.
+//! Checks of a program, and runs over its command lines, from bytes to bytes.
 #![tactic(auto)]
 
 mod answering;
 mod board;
 mod input;
+mod laws;
+mod one_text;
 mod reply;
 mod running;
 #[cfg(test)]
@@ -11,5 +13,7 @@ mod tests;
 mod verdict;
 
 pub use chr_device::{RunFault, Settings, Verb, Watched, WordsFault, read_words};
+pub use laws::checks_begin_runs;
+pub use one_text::answers_are_one;
 pub use reply::Refusal;
 pub use running::{Status, run};

@@ -1,25 +1,31 @@
-//! Runs, from the bytes of an input to the bytes of its output.
+//! Checks and runs, from the bytes of an input to the bytes of its output.
 ghost use Rattle.std.specs.Prelude.{◌≡◌, ◌⊎◌, false, true, IfOk, IfSome, IsErrOf, OnErr, OnOk, string_bytes};
 ghost use Rattle.chr_device.specs.Devices.{inner_of, has_failed};
 ghost use Rattle.chr_device.specs.Settings.{IsPlain};
 ghost use Rattle.chr_device.specs.declared.fault.RunFault.TheVariants.{Device, Memory};
+ghost use Rattle.chr_base.specs.Programs.{rules_of};
 ghost use Rattle.chr_weights.specs.WeighedPrograms.{program_of};
+ghost use Rattle.chr_join.specs.AcceptedPrograms.{cases_of};
+ghost use Rattle.chr_join.specs.Verdicts.{IsAccepted};
+ghost use Rattle.chr_report.specs.declared.running.Status.TheVariants.{Refused};
+ghost use Rattle.chr_report.specs.Boards.{program_in};
 ghost use Rattle.chr_report.specs.OptionalLines.{command_lines};
 ghost use Rattle.chr_report.specs.Outputs.{IsOutput, IsProgramOutput, IsAnswered};
 ghost use Rattle.chr_report.specs.Written.{WritesOutput, WritesBeginning};
 
 use crate::answering::answer_commands;
 use crate::board::Board;
-use crate::input::split;
-use crate::verdict::{fault_line, not_lowered_line, weighed_line};
+use crate::input::{asked, split};
+use crate::verdict::{accepted_line, fault_line, not_lowered_line, refusal_line};
 use chr_base::program::Program;
-use chr_device::{RunFault, Settings, Watched, read_all, write_whole};
+use chr_device::{RunFault, Settings, Verb, Watched, read_all, write_whole};
+use chr_join::{Accepted, accept};
 use chr_read::read;
 use chr_weights::{Weighed, weigh};
 use std::alloc::{AllocError, Global};
 use std::io::{Read, Write};
 
-/// Whether a program was read in which each rule lowers the weight.
+/// Whether a program was read and accepted: each of its rules lowers the weight, and no case of two rules that meet fails.
 #[derive(Clone, Copy, Debug, PartialEq, Eq)]
 pub enum Status {
     Accepted,
@@ -33,19 +39,56 @@ struct Output {
     text: String,
 }
 
+impl Output {
+    /// The verdict on a program that is refused, or on a text that is no program.
+    fn refused(text: String) -> Output
+        ensures status { result.status ≡ Refused }
+        ensures text { result.text ≡ text }
+    {
+        Output {
+            status: Status::Refused,
+            text,
+        }
+    }
+}
+
 /// The verdict's line, and the answers of a replica that was told nothing to the commands.
 fn answer_program(
     alloc: Global,
-    weighed: Weighed,
+    accepted: Accepted,
     commands: Option<&[u8]>,
 ) -> Result<String, AllocError>
-    ensures { IfOk result (λ s. IsAnswered (program_of weighed) (command_lines commands.entry) (string_bytes s)) }
+    requires { IsAccepted (rules_of (program_in accepted)) (cases_of accepted) }
+    ensures { IfOk result (λ s. IsAnswered (program_in accepted) (command_lines commands.entry) (string_bytes s)) }
 {
-    let rules = weighed.program().rules().len();
-    let mut text = weighed_line(alloc, rules)?;
-    let mut board = Board::new(alloc, weighed);
+    let rules = accepted.program().rules().len();
+    let mut text = accepted_line(alloc, rules, accepted.cases())?;
+    let mut board = Board::new(alloc, accepted);
     answer_commands(alloc, &mut board, commands, &mut text)?;
     Ok(text)
+}
+
+/// The output for a program in which each rule lowers the weight.
+fn weighed_output(
+    alloc: Global,
+    weighed: Weighed,
+    commands: Option<&[u8]>,
+) -> Result<Output, AllocError>
+    ensures { IfOk result (λ o. IsProgramOutput (program_of weighed) (command_lines commands.entry) o.status (string_bytes o.text)) }
+{
+    match accept(alloc, weighed) {
+        Ok(accepted) => {
+            let text = answer_program(alloc, accepted, commands)?;
+            Ok(Output {
+                status: Status::Accepted,
+                text,
+            })
+        }
+        Err(refused) => {
+            let line = refusal_line(alloc, refused.weighed.program(), &refused.cause)?;
+            Ok(Output::refused(line))
+        }
+    }
 }
 
 fn program_output(
@@ -56,42 +99,30 @@ fn program_output(
     ensures { IfOk result (λ o. IsProgramOutput program (command_lines commands.entry) o.status (string_bytes o.text)) }
 {
     match weigh(program) {
-        Ok(weighed) => {
-            let text = answer_program(alloc, weighed, commands)?;
-            Ok(Output {
-                status: Status::Accepted,
-                text,
-            })
-        }
+        Ok(weighed) => weighed_output(alloc, weighed, commands),
         Err(fault) => {
-            let text = not_lowered_line(alloc, &fault)?;
-            Ok(Output {
-                status: Status::Refused,
-                text,
-            })
+            let line = not_lowered_line(alloc, &fault)?;
+            Ok(Output::refused(line))
         }
     }
 }
 
 /// The whole output for an input.
-fn output_of(alloc: Global, input: &[u8]) -> Result<Output, AllocError>
-    ensures { IfOk result (λ o. IsOutput input.now o.status (string_bytes o.text)) }
+fn output_of(alloc: Global, verb: Verb, input: &[u8]) -> Result<Output, AllocError>
+    ensures { IfOk result (λ o. IsOutput verb input.now o.status (string_bytes o.text)) }
 {
     let (text, commands) = split(input);
     match read(alloc, text) {
-        Ok(program) => program_output(alloc, program, commands),
+        Ok(program) => program_output(alloc, program, asked(verb, commands)),
         Err(fault) => {
-            let text = fault_line(alloc, &fault)?;
-            Ok(Output {
-                status: Status::Refused,
-                text,
-            })
+            let line = fault_line(alloc, &fault)?;
+            Ok(Output::refused(line))
         }
     }
 }
 
-/// Reads all of the input, and then writes its output: the verdict on the program text, and for a program that is not refused
-/// the answer line of each command.
+/// Reads all of the input, and then writes its output: the verdict on the program text, and by `Verb::Run` for an accepted
+/// program the answer line of each command.
 ///
 /// # Errors
 ///
@@ -107,15 +138,15 @@ pub fn run<R: Read, W: Write>(
     requires writes { has_failed writer.old ≡ false }
     requires plain { IsPlain settings }
     ensures ok { IfOk result (λ status. IfSome (R.remaining (inner_of reader.old)) (λ input.
-        WritesOutput (W.contents (inner_of writer.old)) (W.contents (inner_of writer.new)) input status)) }
+        WritesOutput (W.contents (inner_of writer.old)) (W.contents (inner_of writer.new)) settings.command input status)) }
     ensures err { OnErr result (IfSome (R.remaining (inner_of reader.old)) (λ input.
-        WritesBeginning (W.contents (inner_of writer.old)) (W.contents (inner_of writer.new)) input)) }
+        WritesBeginning (W.contents (inner_of writer.old)) (W.contents (inner_of writer.new)) settings.command input)) }
     ensures whole { OnOk result ((has_failed reader.new ≡ false) × (has_failed writer.new ≡ false)) }
     ensures device { IsErrOf result Device → (has_failed reader.new ≡ true) ⊎ (has_failed writer.new ≡ true) }
     ensures memory { IsErrOf result Memory → (has_failed reader.new ≡ false) × (has_failed writer.new ≡ false) }
 {
     let input = read_all(alloc, reader)?;
-    let output = output_of(alloc, &input)?;
+    let output = output_of(alloc, settings.command, &input)?;
     match write_whole(writer, output.text.as_bytes()) {
         Ok(()) => Ok(output.status),
         Err(fault) => Err(fault),

@@ -5,12 +5,13 @@ mod lines;
 mod programs;
 mod refusals;
 mod stores;
+mod verdicts;
 
 use crate::{RunFault, Settings, Status, Verb, Watched, run};
 use std::alloc::{AllocError, Global};
 use std::process::Abort;
 
-/// Each number is 1.
+/// A run. Each number is 1.
 const PLAIN: Settings = Settings {
     command: Verb::Run,
     replicas: 1,
@@ -21,25 +22,50 @@ const PLAIN: Settings = Settings {
 /// More than any test writes, so that a writer over memory never fails.
 const ROOM: usize = 131_072;
 
-/// The status of a run over the input, and all that was written.
-fn outcome(alloc: Global, input: &[u8]) -> Result<(Status, Vec<u8>), RunFault> {
+/// The status for the input, and all that was written.
+fn outcome(alloc: Global, command: Verb, input: &[u8]) -> Result<(Status, Vec<u8>), RunFault> {
     let mut reader = Watched::of(input);
     let mut writer = Watched::of(Vec::with_capacity(alloc, ROOM)?);
-    let status = run(alloc, &mut reader, &mut writer, PLAIN)?;
+    let settings = Settings { command, ..PLAIN };
+    let status = run(alloc, &mut reader, &mut writer, settings)?;
     Ok((status, writer.into_inner()))
 }
 
-/// Compares all that is written for an input. A program is accepted where the first line says that it was weighed.
-fn expect(rt: &impl Abort, alloc: Global, input: &[u8], output: &str) -> Result<(), RunFault> {
-    let status = if output.starts_with("weighed: ") {
+/// The first line, with its end.
+fn first_line(output: &str) -> &[u8] {
+    let bytes = output.as_bytes();
+    let length = bytes.iter().take_while(|byte| **byte != b'\n').count();
+    &bytes[..bytes.len().min(length.saturating_add(1))]
+}
+
+/// Compares all that is written for an input, of which a run writes the whole output and a check the first line. A program is
+/// accepted where that line says so.
+fn expect_by(
+    rt: &impl Abort,
+    alloc: Global,
+    command: Verb,
+    input: &[u8],
+    output: &str,
+) -> Result<(), RunFault> {
+    let expected = match command {
+        Verb::Run => output.as_bytes(),
+        Verb::Check => first_line(output),
+    };
+    let status = if output.starts_with("accepted: ") {
         Status::Accepted
     } else {
         Status::Refused
     };
-    let (found, written) = outcome(alloc, input)?;
-    assert_eq!(rt; written.as_slice(), output.as_bytes(), "{output}");
-    assert_eq!(rt; found, status, "{output}");
+    let (found, written) = outcome(alloc, command, input)?;
+    assert_eq!(rt; written.as_slice(), expected, "{command:?}: {output}");
+    assert_eq!(rt; found, status, "{command:?}: {output}");
     Ok(())
+}
+
+/// Compares what a run and a check write for an input.
+fn expect(rt: &impl Abort, alloc: Global, input: &[u8], output: &str) -> Result<(), RunFault> {
+    expect_by(rt, alloc, Verb::Run, input, output)?;
+    expect_by(rt, alloc, Verb::Check, input, output)
 }
 
 /// A program text, the line `---` and the lines.

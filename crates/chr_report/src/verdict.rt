@@ -1,8 +1,14 @@
 //! The lines of verdicts.
 ghost use Rattle.std.specs.Prelude.{◌≡◌, ◌++◌, [], ◌∷◌, ◌≢◌, IfOk, OnOk, string_bytes};
 ghost use Rattle.chr_read.specs.declared.fault.ReadFault.TheVariants.{Memory};
-ghost use Rattle.chr_report.specs.Outputs.{fault_text, not_lowered_text, weighed_text};
+ghost use Rattle.chr_base.specs.Programs.{declarations};
+ghost use Rattle.chr_report.specs.Outputs.{fault_text, not_lowered_text, accepted_text, IsCauseLine};
+ghost use Rattle.chr_report.specs.Overlaps.{more_entries, matching_text, overlap_text, failure_text, too_many_text};
 
+use chr_base::program::Program;
+use chr_base::text::store_text;
+use chr_join::{Cause, Failure, TooMany};
+use chr_overlaps::Overlap;
 use chr_read::ReadFault;
 use chr_weights::NotLowered;
 use std::alloc::{AllocError, Global};
@@ -40,11 +46,83 @@ pub(crate) fn not_lowered_line(alloc: Global, fault: &NotLowered) -> Result<Stri
     Ok(text)
 }
 
-/// The line of a program that lowers.
-pub(crate) fn weighed_line(alloc: Global, rules: usize) -> Result<String, AllocError>
-    ensures { IfOk result (λ s. string_bytes s ≡ weighed_text rules ++ 10 ∷ []) }
+/// The line of a program of which no case fails.
+pub(crate) fn accepted_line(alloc: Global, rules: usize, cases: u64) -> Result<String, AllocError>
+    ensures { IfOk result (λ s. string_bytes s ≡ accepted_text rules cases ++ 10 ∷ []) }
 {
     let mut text = String::new(alloc);
-    write!(text, "weighed: rules {rules}\n")?;
+    write!(text, "accepted: rules {rules}, cases {cases}\n")?;
+    Ok(text)
+}
+
+fn push_more_entries(out: &mut String, entries: &[u8]) -> Result<(), AllocError>
+    ensures { OnOk result (string_bytes out.new ≡ string_bytes out.old ++ more_entries entries.now) }
+{
+    for entry in entries {
+        write!(out, ",{entry}")?;
+    }
+    Ok(())
+}
+
+fn push_matching(out: &mut String, matching: &[u8]) -> Result<(), AllocError>
+    ensures { OnOk result (string_bytes out.new ≡ string_bytes out.old ++ matching_text matching.now) }
+{
+    out.push_str("(")?;
+    if let Some((first, rest)) = matching.split_first() {
+        write!(out, "{first}")?;
+        push_more_entries(out, rest)?;
+    }
+    out.push_str(")")
+}
+
+fn push_overlap(out: &mut String, overlap: &Overlap) -> Result<(), AllocError>
+    ensures { OnOk result (string_bytes out.new ≡ string_bytes out.old ++ overlap_text overlap.now) }
+{
+    let first = overlap.first;
+    let second = overlap.second;
+    write!(out, "rules {first} {second}; matching ")?;
+    push_matching(out, overlap.matching.as_slice())
+}
+
+/// The line of a program with a case that fails, without its end.
+fn failure_text(alloc: Global, program: &Program, failure: &Failure) -> Result<String, AllocError>
+    ensures { IfOk result (λ s. string_bytes s ≡ failure_text (declarations program.now) failure.now) }
+{
+    let store = store_text(alloc, program, &failure.left.start)?;
+    let left = store_text(alloc, program, &failure.left_end)?;
+    let right = store_text(alloc, program, &failure.right_end)?;
+    let mut text = String::new(alloc);
+    text.push_str("refused 21: ")?;
+    push_overlap(&mut text, &failure.overlap)?;
+    write!(text, "; store {store}; left {left}; right {right}")?;
+    Ok(text)
+}
+
+/// The line of a program with an overlap of too many order types, without its end.
+fn too_many_text(alloc: Global, too_many: &TooMany) -> Result<String, AllocError>
+    ensures { IfOk result (λ s. string_bytes s ≡ too_many_text too_many.now) }
+{
+    let classes = too_many.classes;
+    let mut text = String::new(alloc);
+    text.push_str("refused 22: ")?;
+    push_overlap(&mut text, &too_many.overlap)?;
+    write!(text, "; classes {classes}")?;
+    Ok(text)
+}
+
+/// The line of a program that lowers and is refused.
+pub(crate) fn refusal_line(
+    alloc: Global,
+    program: &Program,
+    cause: &Cause,
+) -> Result<String, AllocError>
+    ensures { IfOk result (λ s. IsCauseLine program.now cause.now (string_bytes s)) }
+{
+    let mut text = match cause {
+        Cause::Fails(failure) => failure_text(alloc, program, failure)?,
+        Cause::TooMany(too_many) => too_many_text(alloc, too_many)?,
+        Cause::Memory => return Err(AllocError),
+    };
+    text.push_str("\n")?;
     Ok(text)
 }

@@ -27,11 +27,11 @@ not_false true h = absurd (true≢false h)
 not_false false h = refl
 
 -- whether the index is among those taken
-abbrev is_taken : ℕ → List ℕ → Bool
+abbrev pub is_taken : ℕ → List ℕ → Bool
 is_taken i taken = list_any (λ j. nat_eq j i) taken
 
 -- how often an atom stands in the list at indices, counted from n, that are not taken
-abbrev free_from : ℕ → List ℕ → List Atom → Atom → ℕ
+abbrev pub free_from : ℕ → List ℕ → List Atom → Atom → ℕ
 free_from n taken [] q = 0
 free_from n taken (x ∷ xs) q = cond (is_taken n taken) 0 (cond (eq_by_cmp atom_cmp q x) 1 0) + free_from (suc n) taken xs q
 
@@ -57,7 +57,7 @@ free_beyond n i taken (x ∷ xs) q h =
     other false false ne = refl
 
 -- the index that is taken takes its atom
-free_taken : (n i : ℕ) (taken : List ℕ) (xs : List Atom) (d q : Atom) → i < length xs → is_taken (n + i) taken ≡ false
+pub free_taken : (n i : ℕ) (taken : List ℕ) (xs : List Atom) (d q : Atom) → i < length xs → is_taken (n + i) taken ≡ false
     → cond (eq_by_cmp atom_cmp q (get_or xs i d)) 1 0 + free_from n (taken ++ (n + i) ∷ []) xs q ≡ free_from n taken xs q
 free_taken n i taken [] d q h g = absurd (omega (arith, h))
 free_taken n zero taken (x ∷ xs) d q h g =
@@ -111,7 +111,7 @@ choice_within items taken (i ∷ is) q h =
     let more = choice_within items (taken ++ i ∷ []) is q rest in
     omega (arith, here', more)
 
-counts_itself : (a : Atom) (xs : List Atom) → count_in atom_cmp a (a ∷ xs) ≡ 1 + count_in atom_cmp a xs
+pub counts_itself : (a : Atom) (xs : List Atom) → count_in atom_cmp a (a ∷ xs) ≡ 1 + count_in atom_cmp a xs
 counts_itself a xs = rw (tied_itself atom_total a) refl
 
 -- what is free can be chosen

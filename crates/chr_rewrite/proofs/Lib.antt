@@ -3,3 +3,5 @@ pub mod Searching
 pub mod Counting
 pub mod Stepping
 pub mod StepCounts
+pub mod Earliest
+pub mod Deriving

@@ -1,6 +1,6 @@
 -- From what a pool finds and does to the steps of a program.
-use Rattle.std.specs.Prelude.{◌≡◌, ℕ, ◌+◌, ◌<◌, List, [], ◌∷◌, ◌++◌, length, get_or, drop}
-use Rattle.std.proofs.Common.{refl, sym, ap, subst, ◌∙◌, arith, length-append}
+use Rattle.std.specs.Prelude.{◌≡◌, ℕ, ◌+◌, ◌<◌, List, ◌++◌, length, get_or, drop}
+use Rattle.std.proofs.Common.{refl, ap, subst, ◌∙◌, arith, length-append}
 use Rattle.std.proofs.lemmas.Option.{slice_get_read, slice_get_within, get_or_from_slice_get}
 use Rattle.chr_base.specs.declared.atom.Atom.{Atom}
 use Rattle.chr_base.specs.declared.rule.Rule.{Rule}
@@ -8,9 +8,10 @@ use Rattle.chr_base.specs.Atoms.{atom_cmp}
 use Rattle.chr_base.specs.FinBag.{count_in, IsWithin, ◌⊕◌, ◌⊖◌}
 use Rattle.chr_base.specs.Stores.{Store, store_of, store_of-append}
 use Rattle.chr_base.specs.Rules.{Step, StepBy, HasInstance, Valuation, heads_of, heads_at, atoms_at, atom_at}
-use Rattle.chr_base.specs.StepLaws.{map-append, length-map, removed_there}
+use Rattle.chr_base.specs.StepLaws.{length-map, removed_there}
 use Rattle.chr_base.specs.Rewriting.{IsAtRest}
 use Rattle.chr_rewrite.specs.Pools.{StepOn, HasNoStep}
+use Rattle.chr_rewrite.specs.PlainLaws.{removed_heads}
 use Rattle.chr_rewrite.proofs.Counting.{store_less}
 
 -- an instance has one atom for each head place
@@ -20,16 +21,6 @@ heads_length r heads h =
     let b = length-map (atom_at h.0) (heads_of r) in
     let c = length-append r.kept.items r.removed.items in
     omega (arith, a, b, c)
-
--- the removed heads come after the kept ones
-pub removed_heads : (r : Rule) (heads : List Atom) (v : _) → heads_at v r ≡ heads → drop (length r.kept.items) heads ≡ atoms_at v r.removed.items
-removed_heads r heads v e =
-    ap (drop (length r.kept.items)) (sym e ∙ map-append (atom_at v) r.kept.items r.removed.items)
-    ∙ ap (λ n. drop n (atoms_at v r.kept.items ++ atoms_at v r.removed.items)) (sym (length-map (atom_at v) r.kept.items)) ∙ dropped (atoms_at v r.kept.items) (atoms_at v r.removed.items)
-  where
-    dropped : (xs ys : List Atom) → drop (length xs) (xs ++ ys) ≡ ys
-    dropped [] ys = refl
-    dropped (x ∷ xs) ys = dropped xs ys
 
 -- the removed heads are there, as the heads are
 pub removed_within : (r : Rule) (heads : List Atom) (s : Store) → HasInstance r heads → IsWithin (store_of heads) s → IsWithin (store_of (drop (length r.kept.items) heads)) s

@@ -4,8 +4,12 @@
 --     is_choice items taken is        the indices are within the list, all different, and none of them is among those taken
 --     has_shape_at r n a        the pattern at the head place n, counted from 0, and the atom have one symbol and as many arguments
 --     NoCompletion r items is        no choice that goes on from these indices makes an instance of the rule r
-use Rattle.std.specs.Prelude.{ℕ, Bool, true, not, ◌&&◌, List, [], ◌∷◌, ◌++◌, map, length, get_or, nat_eq, nat_lt, IsTrue}
+--     IsFirstChoice r items is js        the choice js goes on from the indices is, and none that does and comes before it makes an instance
+use Rattle.std.specs.Prelude.{◌≡◌, ℕ, Bool, true, not, ◌&&◌, List, [], ◌∷◌, ◌++◌, map, length, get_or, nat_eq, nat_lt, IsTrue}
 use Rattle.std.specs.List.{list_any}
+use Rattle.std.specs.declared.cmp.Ordering.TheVariants.{Less}
+use Rattle.std.specs.Ordering.{nat_cmp}
+use Rattle.std.specs.Cmp.Lexicographic.{slice_cmp}
 use Rattle.chr_base.specs.declared.atom.Atom.{Atom}
 use Rattle.chr_base.specs.declared.term.Pattern.{Pattern}
 use Rattle.chr_base.specs.declared.rule.Rule.{Rule}
@@ -26,6 +30,11 @@ is_choice items taken (i ∷ is) = nat_lt i (length items) && not (list_any (λ 
 
 abbrev pub NoCompletion : Rule → List Atom → List ℕ → Type 0
 NoCompletion r items is = (js : List ℕ) → IsTrue (is_choice items is js) → HasInstance r (picked items (is ++ js)) → ⊥
+
+pub record IsFirstChoice (r : Rule) (items : List Atom) (is js : List ℕ) : Type 0 where
+  pub more : List ℕ
+  pub whole : js ≡ is ++ more
+  pub none : (ks : List ℕ) → slice_cmp nat_cmp ks more ≡ Less → IsTrue (is_choice items is ks) → HasInstance r (picked items (is ++ ks)) → ⊥
 
 abbrev pub has_shape : Pattern → Atom → Bool
 has_shape p a = nat_eq p.symbol.0 a.symbol.0 && nat_eq (length p.args.items) (length a.args.items)

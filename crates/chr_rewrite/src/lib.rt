@@ -1,10 +1,12 @@
-//! Pools, which are stores in which rules are applied, and resting them.
+//! Pools, which are stores in which rules are applied, resting them, and derivations step by step.
 #![tactic(auto)]
 
 mod choose;
 mod edits;
 pub mod list;
+pub mod plain;
 pub mod pool;
+pub mod replay;
 pub mod resting;
 #[cfg(test)]
 mod tests;

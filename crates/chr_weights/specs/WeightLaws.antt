@@ -10,13 +10,14 @@ use Rattle.chr_base.specs.declared.program.Program.{Program}
 use Rattle.chr_base.specs.FinBag.{total, items, sum_over-items}
 use Rattle.chr_base.specs.Stores.{Store}
 use Rattle.chr_base.specs.Instances.{first_true, second_true}
+use Rattle.chr_base.specs.Names.{is_name}
 use Rattle.chr_base.specs.ProgramTests.{Declaration, is_in_range, are_distinct, fits}
 use Rattle.chr_base.specs.Programs.{declarations, rules_of}
 use Rattle.chr_weights.specs.Weights.{declared_weight, weight_in, store_weight}
 
 in_range_at_most : (d : Declaration) (n : ℕ) → is_in_range d ≡ true → cond (nat_eq d.arity n) d.weight 0 ≤ 1000000
 in_range_at_most d n h =
-    let w : nat_le d.weight 1000000 ≡ true = second_true (nat_le (length d.name) 32 && nat_le d.arity 4 && nat_le 1 d.weight) _ h in
+    let w : nat_le d.weight 1000000 ≡ true = second_true (is_name d.name && nat_le (length d.name) 32 && nat_le d.arity 4 && nat_le 1 d.weight) _ h in
     let m : d.weight ≤ 1000000 = grind (arith, nat_tests) in
     elim (nat_eq d.arity n) as (λ b. cond b d.weight 0 ≤ 1000000) [ true ↦ m | false ↦ omega arith ]
 

@@ -21,6 +21,7 @@ fn plain(symbol: u16) -> Pattern
 }
 
 /// The rule that turns one plain atom into another.
+#[tactic(auto, unfolding(chr_base::specs::RuleTests::is_in_bounds))]
 fn turn(from: u16, to: u16) -> Rule
     ensures kept { result.kept.items ≡ [] }
     ensures removed { result.removed.items ≡ record { symbol = record { 0 = from }; args = record { items = [] } } ∷ [] }

@@ -1,5 +1,5 @@
-//! `chrrep run`: reads a program of Constraint Handling Rules and command lines from standard input, and writes a verdict and
-//! one answer line a command.
+//! `chrrep check` reads a program of Constraint Handling Rules from standard input, and writes a verdict. `chrrep run` reads
+//! command lines as well, and writes one answer line a command after it, where the program is accepted.
 //!
 //! It ends with 0 where the program was accepted, 1 where it was refused, 2 for words that are no command (their text and that
 //! of help go to standard error), 3 where a device failed and 4 for want of memory.

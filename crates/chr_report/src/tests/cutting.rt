@@ -7,14 +7,20 @@ use std::test::Fail;
 fn dividers(rt: HostRuntime) -> Result<(), Fail> {
     let alloc = rt.alloc();
     for (input, output) in [
-        ("---", "weighed: rules 0\n"),
-        ("---\r", "weighed: rules 0\n"),
-        ("---\n[\"show\",1]", "weighed: rules 0\ntrue\n"),
-        (":- chr_constraint a/0.\n---", "weighed: rules 0\n"),
-        (":- chr_constraint a/0.\n---\n", "weighed: rules 0\n"),
+        ("---", "accepted: rules 0, cases 0\n"),
+        ("---\r", "accepted: rules 0, cases 0\n"),
+        ("---\n[\"show\",1]", "accepted: rules 0, cases 0\ntrue\n"),
+        (
+            ":- chr_constraint a/0.\n---",
+            "accepted: rules 0, cases 0\n",
+        ),
+        (
+            ":- chr_constraint a/0.\n---\n",
+            "accepted: rules 0, cases 0\n",
+        ),
         (
             ":- chr_constraint a/0.\n---\n---\n[\"show\",1]\n",
-            "weighed: rules 0\nrefused 30\ntrue\n",
+            "accepted: rules 0, cases 0\nrefused 30\ntrue\n",
         ),
         // no line `---`
         ("[\"show\",1]\n", "refused 11: clause 1\n"),
@@ -43,7 +49,10 @@ fn dividers(rt: HostRuntime) -> Result<(), Fail> {
             ":- chr_constraint a/0. a <=>\n---\ntrue.\n",
             "refused 11: clause 2\n",
         ),
-        ("% a\n---\n[\"show\",1]\n", "weighed: rules 0\ntrue\n"),
+        (
+            "% a\n---\n[\"show\",1]\n",
+            "accepted: rules 0, cases 0\ntrue\n",
+        ),
     ] {
         expect(&rt, alloc, input.as_bytes(), output)?;
     }
@@ -56,24 +65,30 @@ fn line_ends(rt: HostRuntime) -> Result<(), Fail> {
     for (input, output) in [
         (
             ":- chr_constraint coin/0, note/0.\r\ncoin, coin <=> note.\r\n---\r\n[\"tell\",1,[1,1],[[\"coin\"],[\"coin\"]]]\r\n[\"show\",1]\r\n",
-            "weighed: rules 1\ntold\nnote\n",
+            "accepted: rules 1, cases 6\ntold\nnote\n",
         ),
-        ("---\n[\"show\",1]\r", "weighed: rules 0\ntrue\n"),
+        ("---\n[\"show\",1]\r", "accepted: rules 0, cases 0\ntrue\n"),
         // a carriage return within a line is layout of JSON
-        ("---\n[\"show\",1]\r\r\n", "weighed: rules 0\ntrue\n"),
-        ("---\n\r[\"show\",\r1]\n", "weighed: rules 0\ntrue\n"),
+        (
+            "---\n[\"show\",1]\r\r\n",
+            "accepted: rules 0, cases 0\ntrue\n",
+        ),
+        (
+            "---\n\r[\"show\",\r1]\n",
+            "accepted: rules 0, cases 0\ntrue\n",
+        ),
         // blank lines have no answer
         (
             "---\n\n\r\n \t \n\t\r\n \r\n\n[\"show\",1]\n\n",
-            "weighed: rules 0\ntrue\n",
+            "accepted: rules 0, cases 0\ntrue\n",
         ),
-        ("---\n\r", "weighed: rules 0\n"),
-        ("---\n ", "weighed: rules 0\n"),
+        ("---\n\r", "accepted: rules 0, cases 0\n"),
+        ("---\n ", "accepted: rules 0, cases 0\n"),
         // only one carriage return belongs to the end
-        ("---\n\r\r\n", "weighed: rules 0\nrefused 30\n"),
-        ("---\n\r \n", "weighed: rules 0\nrefused 30\n"),
-        ("---\n\u{a0}\n", "weighed: rules 0\nrefused 30\n"),
-        ("---\n\u{c}\n", "weighed: rules 0\nrefused 30\n"),
+        ("---\n\r\r\n", "accepted: rules 0, cases 0\nrefused 30\n"),
+        ("---\n\r \n", "accepted: rules 0, cases 0\nrefused 30\n"),
+        ("---\n\u{a0}\n", "accepted: rules 0, cases 0\nrefused 30\n"),
+        ("---\n\u{c}\n", "accepted: rules 0, cases 0\nrefused 30\n"),
     ] {
         expect(&rt, alloc, input.as_bytes(), output)?;
     }
@@ -101,27 +116,32 @@ fn long_lines(rt: HostRuntime) -> Result<(), Fail> {
             "[\"show\",1]",
             1_048_566,
             "\n[\"show\",1]\n",
-            "weighed: rules 0\ntrue\ntrue\n",
+            "accepted: rules 0, cases 0\ntrue\ntrue\n",
         ),
         (
             "[\"show\",1]",
             1_048_567,
             "\n[\"show\",1]\n",
-            "weighed: rules 0\nrefused 30\ntrue\n",
+            "accepted: rules 0, cases 0\nrefused 30\ntrue\n",
         ),
         (
             "[\"show\",1]",
             1_048_566,
             "\r\n",
-            "weighed: rules 0\ntrue\n",
+            "accepted: rules 0, cases 0\ntrue\n",
         ),
         (
             "[\"show\",1]",
             1_048_567,
             "",
-            "weighed: rules 0\nrefused 30\n",
+            "accepted: rules 0, cases 0\nrefused 30\n",
         ),
-        ("", 1_048_577, "\n[\"show\",1]", "weighed: rules 0\ntrue\n"),
+        (
+            "",
+            1_048_577,
+            "\n[\"show\",1]",
+            "accepted: rules 0, cases 0\ntrue\n",
+        ),
     ] {
         let input = long_line(alloc, start, spaces, end)?;
         expect(&rt, alloc, input.as_bytes(), output)?;

@@ -7,7 +7,7 @@ use std::test::Fail;
 const INPUT: &[u8] =
     b":- chr_constraint a/0.\n---\n[\"tell\",1,[1,1],[[\"a\"]]]\n[\"show\",1]\nx\n";
 
-const OUTPUT: &[u8] = b"weighed: rules 0\ntold\na\nrefused 30\n";
+const OUTPUT: &[u8] = b"accepted: rules 0, cases 0\ntold\na\nrefused 30\n";
 
 #[test]
 fn a_byte_a_call(rt: HostRuntime) -> Result<(), Fail> {

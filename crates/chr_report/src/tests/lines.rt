@@ -13,7 +13,7 @@ fn forms_that_are_read(rt: HostRuntime) -> Result<(), Fail> {
         "[\"t\\u0065ll\",1,[0,0],[[\"m\\u0069n\",5]]]",
     ] {
         let lines = [line, "[\"show\",1]", "[\"sh\\u006fw\",1]"];
-        let output = "weighed: rules 0\ntold\nmin(5)\nmin(5)\n";
+        let output = "accepted: rules 0, cases 0\ntold\nmin(5)\nmin(5)\n";
         expect_answers(&rt, alloc, ":- chr_constraint min/1.", &lines, output)?;
     }
     Ok(())
@@ -39,7 +39,7 @@ fn bad_lines(rt: HostRuntime) -> Result<(), Fail> {
         "[\"show\",1e400]",
         "[\"show\",1] % all",
     ] {
-        let output = "weighed: rules 0\nrefused 30\ntrue\n";
+        let output = "accepted: rules 0, cases 0\nrefused 30\ntrue\n";
         expect_answers(&rt, alloc, "", &[line, "[\"show\",1]"], output)?;
     }
     let bytes = b"---\n\"\xff\"\n[\"\xc3\",1]\n[\"show\",1]\n";
@@ -47,7 +47,7 @@ fn bad_lines(rt: HostRuntime) -> Result<(), Fail> {
         &rt,
         alloc,
         bytes,
-        "weighed: rules 0\nrefused 30\nrefused 30\ntrue\n",
+        "accepted: rules 0, cases 0\nrefused 30\nrefused 30\ntrue\n",
     )?;
     Ok(())
 }
@@ -77,7 +77,7 @@ fn other_shapes(rt: HostRuntime) -> Result<(), Fail> {
         "[\"lacks\",1,[]]",
         "[\"merge\",1,[]]",
     ] {
-        let output = "weighed: rules 0\nrefused 31\ntrue\n";
+        let output = "accepted: rules 0, cases 0\nrefused 31\ntrue\n";
         expect_answers(&rt, alloc, "", &[line, "[\"show\",1]"], output)?;
     }
     Ok(())
@@ -106,7 +106,7 @@ fn other_shapes_of_tell(rt: HostRuntime) -> Result<(), Fail> {
         "[\"tell\",1,[1,1],[[\"min\",5],[\"min\",null]]]",
         "[\"tell\",1,[1,1],{\"min\":5}]",
     ] {
-        let output = "weighed: rules 0\nrefused 31\ntrue\n";
+        let output = "accepted: rules 0, cases 0\nrefused 31\ntrue\n";
         let lines = [line, "[\"show\",1]"];
         expect_answers(&rt, alloc, ":- chr_constraint min/1.", &lines, output)?;
     }
@@ -130,8 +130,8 @@ fn nested(alloc: Global, depth: usize) -> Result<String, AllocError> {
 fn nesting(rt: HostRuntime) -> Result<(), Fail> {
     let alloc = rt.alloc();
     for (depth, output) in [
-        (127, "weighed: rules 0\nrefused 31\ntrue\n"),
-        (128, "weighed: rules 0\nrefused 30\ntrue\n"),
+        (127, "accepted: rules 0, cases 0\nrefused 31\ntrue\n"),
+        (128, "accepted: rules 0, cases 0\nrefused 30\ntrue\n"),
     ] {
         let line = nested(alloc, depth)?;
         expect_answers(&rt, alloc, "", &[line.as_str(), "[\"show\",1]"], output)?;

@@ -1,6 +1,6 @@
 //! Lines that are refused, and change nothing.
-use super::{expect, input_of};
-use crate::Refusal;
+use super::{expect, expect_by, input_of};
+use crate::{Refusal, Verb};
 use std::alloc::{AllocError, Global};
 use std::fmt::Write;
 use std::test::Fail;
@@ -52,7 +52,7 @@ fn nothing_changes(rt: HostRuntime) -> Result<(), Fail> {
         let mut output = String::new(alloc);
         write!(
             output,
-            "weighed: rules 0\ntold\nmin(7)\nrefused {number}\nmin(7)\nagain\ntold\nmin(7), min(8)\n"
+            "accepted: rules 0, cases 0\ntold\nmin(7)\nrefused {number}\nmin(7)\nagain\ntold\nmin(7), min(8)\n"
         )?;
         expect(&rt, alloc, input.as_bytes(), output.as_str())?;
     }
@@ -96,7 +96,7 @@ fn large_operations(rt: HostRuntime) -> Result<(), Fail> {
         &rt,
         alloc,
         input.as_bytes(),
-        "weighed: rules 0\ntold\nrefused 31\n",
+        "accepted: rules 0, cases 0\ntold\nrefused 31\n",
     )?;
     Ok(())
 }
@@ -116,7 +116,7 @@ fn told_limit(rt: HostRuntime) -> Result<(), Fail> {
     let alloc = rt.alloc();
     let mut input = input_of(alloc, ":- chr_constraint a/0.", &[])?;
     let mut output = String::new(alloc);
-    output.push_str("weighed: rules 0\n")?;
+    output.push_str("accepted: rules 0, cases 0\n")?;
     fill(&mut input, &mut output, 15_624)?;
     for (number, atoms, answer) in [
         (20_000, 63, "told\n"),
@@ -129,6 +129,6 @@ fn told_limit(rt: HostRuntime) -> Result<(), Fail> {
         push_tell(&mut input, number, atoms)?;
         output.push_str(answer)?;
     }
-    expect(&rt, alloc, input.as_bytes(), output.as_str())?;
+    expect_by(&rt, alloc, Verb::Run, input.as_bytes(), output.as_str())?;
     Ok(())
 }

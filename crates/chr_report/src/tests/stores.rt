@@ -12,7 +12,7 @@ fn rested(rt: HostRuntime) -> Result<(), Fail> {
         (
             ":- chr_constraint coin/0, note/0.\ncoin, coin <=> note.",
             [five, "[\"show\",1]"],
-            "weighed: rules 1\ntold\ncoin, note, note\n",
+            "accepted: rules 1, cases 6\ntold\ncoin, note, note\n",
         ),
         (
             ":- chr_constraint a/1, b/1.\na(X), a(X) <=> b(X).",
@@ -20,7 +20,7 @@ fn rested(rt: HostRuntime) -> Result<(), Fail> {
                 "[\"tell\",1,[1,1],[[\"a\",1],[\"a\",2],[\"a\",1],[\"a\",2],[\"a\",1]]]",
                 "[\"show\",1]",
             ],
-            "weighed: rules 1\ntold\na(1), b(1), b(2)\n",
+            "accepted: rules 1, cases 6\ntold\na(1), b(1), b(2)\n",
         ),
         (
             MINIMUM,
@@ -28,7 +28,7 @@ fn rested(rt: HostRuntime) -> Result<(), Fail> {
                 "[\"tell\",1,[1,1],[[\"min\",4],[\"min\",4]]]",
                 "[\"show\",1]",
             ],
-            "weighed: rules 1\ntold\nmin(4)\n",
+            "accepted: rules 1, cases 17\ntold\nmin(4)\n",
         ),
         (
             MINIMUM,
@@ -36,7 +36,7 @@ fn rested(rt: HostRuntime) -> Result<(), Fail> {
                 "[\"tell\",1,[1,1],[[\"min\",5],[\"min\",-3],[\"min\",9]]]",
                 "[\"show\",1]",
             ],
-            "weighed: rules 1\ntold\nmin(-3)\n",
+            "accepted: rules 1, cases 17\ntold\nmin(-3)\n",
         ),
         (
             ":- chr_constraint xor/1. xor(X), xor(X) <=> xor(0). xor(1) \\ xor(0) <=> true.",
@@ -44,7 +44,7 @@ fn rested(rt: HostRuntime) -> Result<(), Fail> {
                 "[\"tell\",1,[1,1],[[\"xor\",1],[\"xor\",1],[\"xor\",0],[\"xor\",1]]]",
                 "[\"show\",1]",
             ],
-            "weighed: rules 2\ntold\nxor(1)\n",
+            "accepted: rules 2, cases 30\ntold\nxor(1)\n",
         ),
         (
             ":- chr_constraint big/1. big(X) <=> X > 9223372036854775807 | true.",
@@ -52,13 +52,13 @@ fn rested(rt: HostRuntime) -> Result<(), Fail> {
                 "[\"tell\",1,[1,1],[[\"big\",9223372036854775807]]]",
                 "[\"show\",1]",
             ],
-            "weighed: rules 1\ntold\nbig(9223372036854775807)\n",
+            "accepted: rules 1, cases 0\ntold\nbig(9223372036854775807)\n",
         ),
         // nothing was told
         (
             ":- chr_constraint a/0.",
             ["[\"show\",1]", "[\"show\",1]"],
-            "weighed: rules 0\ntrue\ntrue\n",
+            "accepted: rules 0, cases 0\ntrue\ntrue\n",
         ),
     ] {
         expect_answers(&rt, alloc, text, &lines, output)?;
@@ -79,7 +79,7 @@ fn operations(rt: HostRuntime) -> Result<(), Fail> {
                 "[\"tell\",1,[1,2],[[\"a\",5]]]",
                 "[\"show\",1]",
             ],
-            "weighed: rules 1\ntold\na(5)\ntold\na(5)\n",
+            "accepted: rules 1, cases 5\ntold\na(5)\ntold\na(5)\n",
         ),
         (
             MINIMUM,
@@ -89,7 +89,7 @@ fn operations(rt: HostRuntime) -> Result<(), Fail> {
                 "[\"tell\",1,[1,1],[[\"min\",6],[\"min\",5]]]",
                 "[\"tell\",1,[1,1],[[\"min\",5]]]",
             ],
-            "weighed: rules 1\ntold\nagain\nagain\nrefused 33\n",
+            "accepted: rules 1, cases 17\ntold\nagain\nagain\nrefused 33\n",
         ),
         // what was told again is there once
         (
@@ -100,7 +100,7 @@ fn operations(rt: HostRuntime) -> Result<(), Fail> {
                 "[\"tell\",1,[4294967295,18446744073709551615],[[\"a\",7]]]",
                 "[\"show\",1]",
             ],
-            "weighed: rules 0\ntold\nagain\ntold\na(7), a(7)\n",
+            "accepted: rules 0, cases 0\ntold\nagain\ntold\na(7), a(7)\n",
         ),
         // by name, then by number of arguments, then by the arguments
         (
@@ -111,7 +111,7 @@ fn operations(rt: HostRuntime) -> Result<(), Fail> {
                 "[\"show\",1]",
                 "[\"show\",1]",
             ],
-            "weighed: rules 0\ntold\ntold\na, a(-2), a(9), a(10), a(0,1), b\na, a(-2), a(9), a(10), a(0,1), b\n",
+            "accepted: rules 0, cases 0\ntold\ntold\na, a(-2), a(9), a(10), a(0,1), b\na, a(-2), a(9), a(10), a(0,1), b\n",
         ),
     ] {
         expect_answers(&rt, alloc, text, &lines, output)?;

@@ -1,4 +1,9 @@
-use Rattle.chr_base.specs.Programs.{declarations}
+use Rattle.std.proofs.Common.{◌≡◌, ◌<◌, List, length, map, false, nat_le, arith}
+use Rattle.std.proofs.lemmas.Bool.Decides.{nat_tests}
+use Rattle.std.proofs.lemmas.List.{length-map}
+use Rattle.chr_base.specs.declared.rule.Rule.{Rule}
+use Rattle.chr_read.specs.Meanings.{rule_data}
+use Rattle.chr_base.specs.Programs.{declarations, rules_of}
 use Rattle.chr_syntax.specs.Views.{rule_view}
 use Rattle.chr_read.specs.Views.{progress_of}
 use Rattle.chr_read.proofs.FaultLess.{rule_faultless}
@@ -10,3 +15,12 @@ push_rule-requires-clause-declared c =
     let ds = declarations c.args.reader.now.program in
     let r = rule_view c.args.raw.now in
     resolved_fits ds r c.in_ok-rule.rule c.in_ok-rule.ensures (rule_faultless (progress_of c.args.reader.now) r c.requires.none).0
+
+pub push_rule-requires-clause-room : goal.push_rule-requires-clause-room
+push_rule-requires-clause-room c =
+    let rs = rules_of c.args.reader.now.program in
+    let few = (rule_faultless (progress_of c.args.reader.now) (rule_view c.args.raw.now) c.requires.none).1 in
+    room rs few
+  where
+    room : (rs : List Rule) → nat_le 64 (length (map rule_data rs)) ≡ false → length rs < 64
+    room rs h = let l = length-map rs rule_data in grind (arith, nat_tests)

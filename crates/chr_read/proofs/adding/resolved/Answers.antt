@@ -3,7 +3,7 @@ use Rattle.chr_base.specs.Programs.{declarations}
 use Rattle.chr_syntax.specs.Views.{rule_view}
 use Rattle.chr_read.specs.Resolving.{after_heads, resolved}
 use Rattle.chr_read.specs.Views.{names_view}
-use Rattle.chr_read.proofs.Resolved.{resolved_is_rule}
+use Rattle.chr_read.proofs.Resolved.{resolved_is_rule, resolved_in_bounds}
 use Rattle.chr_read.proofs.adding.resolved.Goals as goal
 
 pub make_rule-requires : goal.make_rule-requires
@@ -16,7 +16,10 @@ make_rule-requires c =
     let second : names_view c.heads-2.new.names.items ≡ after_heads (after_heads [] r.kept) r.removed = rw first at (rw c.deref-2.ensures.value at c.in_ok-removed.ensures.names) in
     let g : c.guard-guard.result.items ≡ (resolved ds r).guard = rw second at (rw (c.deref-3.ensures.value, c.deref-4.ensures.value) at c.guard-guard.ensures) in
     let b : c.body-body.result.items ≡ (resolved ds r).body = rw second at (rw (c.deref-5.ensures.value, c.deref-6.ensures.value) at c.body-body.ensures) in
-    rw (k, m, g, b) (resolved_is_rule ds r c.requires.over c.requires.unbound c.requires.some)
+    record {
+      parts = rw (k, m, g, b) (resolved_is_rule ds r c.requires.over c.requires.unbound c.requires.some);
+      bounds = rw (c.label.ensures, k, m, g, b) (resolved_in_bounds ds r c.requires.over c.requires.names);
+    }
 
 pub returns : goal.returns
 returns c =

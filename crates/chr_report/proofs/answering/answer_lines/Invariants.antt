@@ -4,16 +4,16 @@ use Rattle.chr_base.specs.Programs.{declarations, rules_of}
 use Rattle.chr_base.specs.Rules.{Step}
 use Rattle.chr_base.specs.Rewriting.{Reaches}
 use Rattle.chr_ops.specs.Operations.{told_store}
-use Rattle.chr_weights.specs.WeighedPrograms.{program_of}
+use Rattle.chr_report.specs.Boards.{program_in}
 use Rattle.chr_report.specs.Lines.{lines}
 use Rattle.chr_report.proofs.Continuing.{left, left_size, Continues}
 use Rattle.chr_report.proofs.answering.answer_lines.Given as goal
 
 abbrev pub invariant-loop-next : goal.invariant-loop-next
 invariant-loop-next l = record {
-  program : l.board.weighed ≡ l.fn.board.weighed;
-  reached : Reaches (Step (rules_of (program_of l.fn.board.weighed))) (told_store l.board.ops) l.board.pool;
-  answered : Continues (declarations (program_of l.fn.board.weighed)) (rules_of (program_of l.fn.board.weighed)) (lines l.fn.input) l.fn.board.ops (string_bytes l.fn.out) (left l.next) l.board.ops (string_bytes l.out);
+  program : l.board.accepted ≡ l.fn.board.accepted;
+  reached : Reaches (Step (rules_of (program_in l.fn.board.accepted))) (told_store l.board.ops) l.board.pool;
+  answered : Continues (declarations (program_in l.fn.board.accepted)) (rules_of (program_in l.fn.board.accepted)) (lines l.fn.input) l.fn.board.ops (string_bytes l.fn.out) (left l.next) l.board.ops (string_bytes l.out);
 }
 
 abbrev pub decreases-loop-next : goal.decreases-loop-next

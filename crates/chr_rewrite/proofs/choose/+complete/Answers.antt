@@ -2,6 +2,8 @@ use Rattle.std.proofs.Common.{arith, sym, ap, ◌∙◌, length, refl}
 use Rattle.std.specs.List.{list_any}
 use Rattle.std.specs.Prelude.{nat_eq}
 use Rattle.chr_rewrite.proofs.Searching.{tried_chosen, tried_taken, shape_missed, all_tried, dropped, next_choice, place_left}
+use Rattle.std.proofs.lemmas.Bool.{OnTrue_from}
+use Rattle.chr_rewrite.proofs.Earliest.{first_itself, first_of_next}
 use Rattle.chr_rewrite.proofs.choose.+complete.Goals as goal
 use Rattle.chr_rewrite.proofs.choose.+complete.Goals.{then-has_shape_at+then-not-contains+else-complete, else-has_shape_at, else-has_shape_at-via-then-has_shape_at+else-not-contains, else-has_shape_at-via-else-has_shape_at}
 
@@ -37,3 +39,11 @@ loop-i-preserved t c = record {
 
 pub returns-clause-none : goal.returns-clause-none
 returns-clause-none t c = all_tried c.args.rule.now c.args.items.now c.args.chosen.now.items c.loop-i.i-counter c.loop-i.invariant.none (omega arith) (λ e. c.if-place-places.false (c.len-place.ensures.value ∙ e ∙ sym c.places.ensures.places))
+
+pub returns-then-place-places-clause-first : goal.returns-then-place-places-clause-first
+returns-then-place-places-clause-first t c = OnTrue_from c.fires.result _ (λ _. first_itself c.args.rule.now c.args.items.now c.args.chosen.now.items)
+
+pub returns-then-complete-clause-first : goal.returns-then-complete-clause-first
+returns-then-complete-clause-first t c =
+    first_of_next c.args.rule.now c.args.items.now c.args.chosen.now.items c.complete.new.chosen.items c.loop-i.i-counter c.loop-i.invariant.none (λ e. c.if-place-places.false (c.len-place.ensures.value ∙ e ∙ sym c.places.ensures.places))
+    (rw (c.push.ensures.items, c.loop-i.invariant.same) at c.if-complete.ensures.first)

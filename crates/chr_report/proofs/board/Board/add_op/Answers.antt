@@ -1,6 +1,6 @@
 use Rattle.std.proofs.Common.{refl}
 use Rattle.chr_base.specs.Programs.{rules_of}
-use Rattle.chr_weights.specs.WeighedPrograms.{program_of}
+use Rattle.chr_report.specs.Boards.{program_in}
 use Rattle.chr_ops.specs.Operations.{told_store}
 use Rattle.chr_report.proofs.Boards.{told_reached, clash_answered}
 use Rattle.chr_report.proofs.board.Board.add_op.Goals as goal
@@ -8,7 +8,7 @@ use Rattle.chr_report.proofs.board.Board.add_op.Goals as goal
 pub returns-in_ok-insert-in-Ok-New-clause-reached : goal.returns-in_ok-insert-in-Ok-New-clause-reached
 returns-in_ok-insert-in-Ok-New-clause-reached c =
     let e = rw c.in-Ok-New.field-0-is at c.in-Ok-New.ensures in
-    told_reached (rules_of (program_of c.args.self.now.weighed)) (told_store c.args.self.now.ops) _ c.args.self.now.pool _ c.args.op.1 _ c.requires.reached (e.told refl) c.requires.atoms c.in_ok-insert-in-Ok-New.ensures.ok
+    told_reached (rules_of (program_in c.args.self.now.accepted)) (told_store c.args.self.now.ops) _ c.args.self.now.pool _ c.args.op.1 _ c.requires.reached (e.told refl) c.requires.atoms c.in_ok-insert-in-Ok-New.ensures.ok
 
 pub returns-in-Err-Clash-clause-answer : goal.returns-in-Err-Clash-clause-answer
 returns-in-Err-Clash-clause-answer c =

@@ -1,0 +1,10 @@
+pub mod Rising
+pub mod Images
+pub mod Carried
+pub mod Peaks
+pub mod PeaksJoin
+pub mod Deciding
+pub mod Confluent
+pub mod Joints
+pub mod Frees
+pub mod Listed

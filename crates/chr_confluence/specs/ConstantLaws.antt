@@ -1,0 +1,53 @@
+-- The constants of every rule are 64-bit values: its type keeps that.
+use Rattle.std.specs.Prelude.{◌≡◌, Bool, true, ◌&&◌, List, [], ◌∷◌, ◌++◌, ◌⊎◌}
+use Rattle.std.specs.List.{list_all}
+use Rattle.std.proofs.Common.{inl, inr, subst, ap, sym, ◌∙◌}
+use Rattle.chr_base.specs.declared.term.Term.{Term}
+use Rattle.chr_base.specs.declared.term.Term.TheVariants.{Constant}
+use Rattle.chr_base.specs.declared.term.Comparison.{Comparison}
+use Rattle.chr_base.specs.declared.term.Pattern.{Pattern}
+use Rattle.chr_base.specs.declared.rule.Rule.{Rule}
+use Rattle.chr_base.specs.RuleTests.{terms_of, is_valued, are_valued}
+use Rattle.chr_base.specs.Rules.{heads_of}
+use Rattle.chr_base.specs.Instances.{first_true, second_true, valued_rule}
+use Rattle.chr_types.specs.OrderTypes.{In}
+use Rattle.chr_confluence.specs.Members.{in_either}
+use Rattle.chr_confluence.specs.Representatives.{guard_terms, rule_terms}
+use Rattle.chr_confluence.specs.Constants.{ConstantsFit}
+
+in_terms : (ts : List Term) (t : Term) → list_all is_valued ts ≡ true → In t ts → is_valued t ≡ true
+in_terms [] t h i = absurd i
+in_terms (x ∷ ts) t h (inl e) = ap is_valued e ∙ first_true _ (list_all is_valued ts) h
+in_terms (x ∷ ts) t h (inr i) = in_terms ts t (second_true (is_valued x) _ h) i
+
+in_patterns : (ps : List Pattern) (t : Term) → are_valued ps ≡ true → In t (terms_of ps) → is_valued t ≡ true
+in_patterns [] t h i = absurd i
+in_patterns (p ∷ ps) t h i =
+    elim (in_either t p.args.items (terms_of ps) i) as (λ _. is_valued t ≡ true) [
+      | inl j ↦ in_terms p.args.items t (first_true _ (are_valued ps) h) j
+      | inr j ↦ in_patterns ps t (second_true (list_all is_valued p.args.items) _ h) j
+    ]
+
+abbrev guard_valued : List Comparison → Bool
+guard_valued cs = list_all (λ c. is_valued c.left && is_valued c.right) cs
+
+in_guard : (cs : List Comparison) (t : Term) → guard_valued cs ≡ true → In t (guard_terms cs) → is_valued t ≡ true
+in_guard [] t h i = absurd i
+in_guard (c ∷ cs) t h (inl e) = ap is_valued e ∙ first_true _ (is_valued c.right) (first_true _ (guard_valued cs) h)
+in_guard (c ∷ cs) t h (inr (inl e)) = ap is_valued e ∙ second_true (is_valued c.left) _ (first_true _ (guard_valued cs) h)
+in_guard (c ∷ cs) t h (inr (inr i)) = in_guard cs t (second_true (is_valued c.left && is_valued c.right) _ h) i
+
+in_rule : (r : Rule) (t : Term) → In t (rule_terms r) → is_valued t ≡ true
+in_rule r t i =
+    let v = valued_rule r in
+    let some = first_true (are_valued (heads_of r) && guard_valued r.guard.items) (are_valued r.body.items) v in
+    elim (in_either t (terms_of (heads_of r) ++ guard_terms r.guard.items) (terms_of r.body.items) i) as (λ _. is_valued t ≡ true) [
+      | inl j ↦ elim (in_either t (terms_of (heads_of r)) (guard_terms r.guard.items) j) as (λ _. is_valued t ≡ true) [
+        | inl k ↦ in_patterns (heads_of r) t (first_true _ (guard_valued r.guard.items) some) k
+        | inr k ↦ in_guard r.guard.items t (second_true (are_valued (heads_of r)) _ some) k
+      ]
+      | inr j ↦ in_patterns r.body.items t (second_true (are_valued (heads_of r) && guard_valued r.guard.items) _ v) j
+    ]
+
+pub constants_fit : (rules : List Rule) → ConstantsFit rules
+constants_fit rules c h = in_rule h.1 (Constant c) h.3

@@ -1,0 +1,50 @@
+//! The laws of steps and of confluence. Each is a function that takes nothing and computes nothing: its contract is the law.
+ghost use Rattle.chr_confluence.specs.Laws.{InstancesGrow, StepsGrow, StepsRise, ValuesStay, TypesRise, PeaksCommuteOrOverlap, LeftSideIsStep, RightSideIsStep, StoresRest, PeaksMakeConfluent, CasesMakePeaksJoin, CasesMakeConfluent, DifferentEndsRefute, FailingCaseRefutes, PartsReach, PartsDetermine};
+
+/// Monotonicity: a step in a store is a step with the same effect in every larger store (Frühwirth 2009).
+pub fn grow()
+    ensures instances { InstancesGrow }
+    ensures steps { StepsGrow }
+{}
+
+/// Rising maps. A map that keeps the order of the values in a set, and fixes the constants of a rule, which are in it,
+/// carries each step of that rule on a store of such values to a step. And each list of 64-bit values is the image of
+/// the one that represents its order type, by such a map.
+pub fn rising()
+    ensures steps { StepsRise }
+    ensures values { ValuesStay }
+    ensures types { TypesRise }
+{}
+
+/// Peaks. Of two steps from one store either each is still possible after the other, with one end for both ways, or the
+/// store holds a case of their instances: heads of both, matched so that a removed one is among the matched (after the
+/// critical pairs of Abdennadher, Frühwirth and Meuss 1999).
+pub fn peak()
+    ensures peaks { PeaksCommuteOrOverlap }
+    ensures left { LeftSideIsStep }
+    ensures right { RightSideIsStep }
+{}
+
+/// Newman's lemma, for rules that lower a weight and whose constants are 64-bit values: where the ends of any two steps
+/// from one store of such values reach a common store, any two normal forms of one such store are equal (Newman 1942).
+pub fn newman()
+    ensures rests { StoresRest }
+    ensures confluent { PeaksMakeConfluent }
+{}
+
+/// Confluence by cases: rules that lower a weight are confluent where the sides of each of their cases reach a common
+/// store (after Abdennadher, Frühwirth and Meuss 1999). Two normal forms that differ, behind two steps from one store or
+/// behind the two sides of a case, show that they are not.
+pub fn confluence()
+    ensures peaks { CasesMakePeaksJoin }
+    ensures confluent { CasesMakeConfluent }
+    ensures refuted { DifferentEndsRefute }
+    ensures failing { FailingCaseRefutes }
+{}
+
+/// Parts: the normal forms of parts of a store, summed and rested, give a normal form of the whole, and for confluent
+/// rules its only one.
+pub fn parts()
+    ensures reached { PartsReach }
+    ensures determined { PartsDetermine }
+{}

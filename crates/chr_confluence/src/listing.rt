@@ -1,0 +1,37 @@
+//! Why the listed cases suffice. Nothing here computes: the contracts are the laws.
+ghost use Rattle.chr_confluence.specs.Solutions.{SolveIsExact, OneSolution, TermsStand};
+ghost use Rattle.chr_confluence.specs.Listed.{ListedSuffice, EveryCaseIsListed, ListedAreCases, ListedHaveValues, ListedMakeConfluent, FailingListedRefutes};
+
+/// The classes of variables that equations join. Joining the classes of both sides, one equation after the other, gives
+/// just the classes on which the valuations that meet the equations are constant, and none where no valuation meets
+/// them. The equations determine the classes, each named by its constant or else its first variable, and each term that
+/// stands for another variable stands in the equations.
+pub fn classes()
+    ensures solve { SolveIsExact }
+    ensures one { OneSolution }
+    ensures stand { TermsStand }
+{}
+
+/// The listed cases of an overlap are those at the representatives of its order types at which both guards hold, and of
+/// an overlap whose equations no valuation meets there are none.
+///
+/// They suffice: where the sides of each reach a common store, so do those of every case of 64-bit values, since every
+/// such case is made of a listed one by a map that keeps the order of its values and fixes the rules' constants. And
+/// none is listed that isn't a case of 64-bit values.
+///
+/// That finitely many overlaps suffice is the critical pair argument of Abdennadher, Frühwirth and Meuss 1999. That
+/// finitely many values do, with guards that compare 64-bit numbers and so leave gaps of few whole numbers between
+/// constants, is added here.
+pub fn listed_cases()
+    ensures suffice { ListedSuffice }
+    ensures every { EveryCaseIsListed }
+    ensures cases { ListedAreCases }
+    ensures values { ListedHaveValues }
+{}
+
+/// So for rules that lower a weight the listed cases decide confluence: the rules are confluent where each listed case
+/// joins, and are not where the sides of one have different normal forms.
+pub fn listed_confluence()
+    ensures confluent { ListedMakeConfluent }
+    ensures failing { FailingListedRefutes }
+{}

@@ -1,0 +1,5 @@
+pub mod Sides
+pub mod Verdicts
+pub mod AcceptedPrograms
+pub mod Explanations
+pub mod Once

@@ -1,0 +1,17 @@
+//! Which programs are accepted: those in which no overlap of rules has a case whose sides end in different stores
+//! (after Abdennadher, Frühwirth and Meuss 1999).
+#![tactic(auto)]
+
+mod accepted;
+mod checking;
+pub mod laws;
+mod once;
+mod refused;
+mod sides;
+#[cfg(test)]
+mod tests;
+
+pub use accepted::Accepted;
+pub use checking::accept;
+pub use once::verdict_is_one;
+pub use refused::{Cause, Failure, Refused, TooMany};

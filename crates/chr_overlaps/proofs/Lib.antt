@@ -1,0 +1,13 @@
+pub mod Touching
+pub mod Steps
+pub mod Members
+pub mod Entries
+pub mod Theorem
+pub mod Numbering
+pub mod Tabled
+pub mod Bounds
+pub mod Solutions
+pub mod HeadsAt
+pub mod Gathered
+pub mod Kept
+pub mod OneList

@@ -1,0 +1,36 @@
+-- The list of all overlaps of a program's rules.
+--     IsOverlapOf rules o        the overlap o is one of these rules
+--     overlap_cmp o p        their order: by the first rule, then the second, then the matching entry by entry
+--     AreOverlaps rules os        os are all overlaps of these rules, each once, in this order
+use Rattle.std.specs.Prelude.{◌≡◌, ℕ, ◌+◌, List, [], ◌∷◌}
+use Rattle.std.specs.declared.cmp.Ordering.{Ordering}
+use Rattle.std.specs.declared.cmp.Ordering.TheVariants.{Less}
+use Rattle.std.specs.Ordering.{nat_cmp}
+use Rattle.std.specs.Cmp.Lexicographic.{slice_cmp}
+use Rattle.chr_base.specs.declared.rule.Rule.{Rule}
+use Rattle.chr_types.specs.OrderTypes.{In}
+use Rattle.chr_confluence.specs.Overlaps.{IsOverlap}
+use Rattle.chr_overlaps.specs.declared.overlap.Overlap.{Overlap}
+
+-- an overlap of the rules at the places i and j, which are counted from 0
+abbrev pub IsOverlapAt : List Rule → ℕ → ℕ → Overlap → Type 0
+IsOverlapAt rules i j o = (o.first ≡ i + 1) × (o.second ≡ j + 1) × IsOverlap rules i j o.matching.items
+
+abbrev pub IsOverlapOf : List Rule → Overlap → Type 0
+IsOverlapOf rules o = (i : ℕ) × (j : ℕ) × IsOverlapAt rules i j o
+
+abbrev pub entries : Overlap → List ℕ
+entries o = o.first ∷ o.second ∷ o.matching.items
+
+abbrev pub overlap_cmp : Overlap → Overlap → Ordering
+overlap_cmp o p = slice_cmp nat_cmp (entries o) (entries p)
+
+-- each stands before all after it
+abbrev pub OverlapsRise : List Overlap → Type 0
+OverlapsRise [] = Unit {0}
+OverlapsRise (o ∷ os) = ((p : Overlap) → In p os → overlap_cmp o p ≡ Less) × OverlapsRise os
+
+pub record AreOverlaps (rules : List Rule) (os : List Overlap) : Type 0 where
+  pub each : (o : Overlap) → In o os → IsOverlapOf rules o
+  pub all : (i j : ℕ) (m : List ℕ) → IsOverlap rules i j m → (o : Overlap) × In o os × (o.first ≡ i + 1) × (o.second ≡ j + 1) × (o.matching.items ≡ m)
+  pub rise : OverlapsRise os

@@ -1,0 +1,201 @@
+//! The cases of an overlap.
+ghost use Rattle.std.specs.Prelude.{◌≡◌, ◌+◌, ◌-◌, ◌<◌, ◌≤◌, ◌++◌, ℕ, Some, None, cond, IfOk, IfErr, OnOk, length, map, nat_eq, slice_get};
+ghost use Rattle.std.specs.List.{filter};
+ghost use Rattle.chr_base.specs.Programs.{rules_of};
+ghost use Rattle.chr_base.specs.Stores.{store_of};
+ghost use Rattle.chr_weights.specs.WeighedPrograms.{program_of};
+ghost use Rattle.chr_confluence.specs.Matchings.{names, left_over, case_atoms};
+ghost use Rattle.chr_confluence.specs.Representatives.{AreConstants, guards_hold};
+ghost use Rattle.chr_overlaps.specs.CaseLists.{case_at, AreCases, IsTooMany};
+ghost use Rattle.chr_overlaps.specs.OverlapLists.{IsOverlapOf};
+ghost use Rattle.chr_overlaps.specs.Refusals.{WhereTooMany};
+ghost use Rattle.chr_overlaps.specs.Unifiers.{classes_of, IsUnified};
+
+use crate::constants::constants;
+use crate::fault::CaseFault;
+use crate::instances::instances;
+use crate::overlap::Overlap;
+use crate::unify::{Unified, unify};
+use chr_base::atom::Atom;
+use chr_base::bag::Bag;
+use chr_base::derivation::Step;
+use chr_base::rule::Rule;
+use chr_types::{OrderType, TypesFault, types};
+use chr_weights::Weighed;
+use std::alloc::{AllocError, Global};
+
+/// The greatest number of order types of an overlap that has a list of cases.
+pub const TYPES_LIMIT: usize = 50_000;
+
+/// A case of an overlap: a store in which both rules fire on the atoms that the matched heads share.
+#[derive(Drop)]
+pub struct Case {
+    /// Both head instances, the matched atoms once.
+    pub store: Bag,
+    /// The first rule's step.
+    pub left: Step,
+    /// The second rule's step.
+    pub right: Step,
+}
+
+/// Whether an entry of a matching names the place, counted from 0.
+fn is_at(entry: u8, place: usize) -> bool
+    ensures { result ≡ nat_eq (place + 1) entry }
+{
+    entry > 0 && usize::from(entry) - 1 == place
+}
+
+/// Whether the matching names the place, counted from 0, of the second rule.
+fn is_matched(matching: &[u8], place: usize) -> bool
+    ensures { result ≡ names matching.now (place + 1) }
+{
+    for entry in matching {
+        if is_at(*entry, place) {
+            return true;
+        }
+    }
+    false
+}
+
+/// Adds the atoms at places that are not matched.
+fn push_unmatched(atoms: &mut Vec<Atom>, heads: &[Atom], matching: &[u8]) -> Result<(), AllocError>
+    ensures { OnOk result (atoms.new.items ≡ atoms.old.items ++ left_over matching.now 0 heads.now) }
+{
+    for (place, atom) in heads.iter().enumerate() {
+        if !is_matched(matching, place) {
+            atoms.push(atom.copy())?;
+        }
+    }
+    Ok(())
+}
+
+/// Both rules' heads, the matched ones once.
+fn case_store(
+    alloc: Global,
+    left: &[Atom],
+    right: &[Atom],
+    matching: &[u8],
+) -> Result<Bag, AllocError>
+    ensures { IfOk result (λ store. store ≡ store_of (case_atoms left.now right.now matching.now)) }
+{
+    let mut atoms = Vec::with_capacity(alloc, 8)?;
+    for atom in left {
+        atoms.push(atom.copy())?;
+    }
+    push_unmatched(&mut atoms, right, matching)?;
+    Bag::of(atoms)
+}
+
+/// The case at a representative, where both guards hold under it.
+fn case_at(
+    alloc: Global,
+    overlap: &Overlap,
+    first: &Rule,
+    second: &Rule,
+    unified: &Unified,
+    values: &[i64],
+) -> Result<Option<Case>, AllocError>
+    requires { IsUnified first.now second.now unified.now }
+    ensures { IfOk result (λ found. found ≡ cond (guards_hold (classes_of unified.now) first.now second.now values.now) (Some (case_at overlap.now first.now second.now (classes_of unified.now) values.now)) None) }
+{
+    let left = instances(&unified.free, values, &unified.first);
+    if !first.fires(&left) {
+        return Ok(None);
+    }
+    let right = instances(&unified.free, values, &unified.second);
+    if !second.fires(&right) {
+        return Ok(None);
+    }
+    let store = case_store(alloc, &left, &right, &overlap.matching)?;
+    Ok(Some(Case {
+        store,
+        left: Step {
+            rule: overlap.first,
+            heads: left,
+        },
+        right: Step {
+            rule: overlap.second,
+            heads: right,
+        },
+    }))
+}
+
+/// The cases at these representatives, in their order.
+fn cases_at(
+    alloc: Global,
+    overlap: &Overlap,
+    first: &Rule,
+    second: &Rule,
+    unified: &Unified,
+    representatives: &[OrderType],
+) -> Result<Vec<Case>, AllocError>
+    requires { IsUnified first.now second.now unified.now }
+    ensures { IfOk result (λ cases. cases.items ≡ map (case_at overlap.now first.now second.now (classes_of unified.now)) (filter (guards_hold (classes_of unified.now) first.now second.now) representatives.now)) }
+{
+    let mut cases = Vec::new(alloc);
+    for one in representatives {
+        let values = one.representative();
+        if let Some(case) = case_at(alloc, overlap, first, second, unified, values)? {
+            cases.push(case)?;
+        }
+    }
+    Ok(cases)
+}
+
+/// The rule of a number.
+fn rule_of(weighed: &Weighed, number: u32) -> &Rule
+    requires some { 0 < number }
+    requires within { number ≤ length (rules_of (program_of weighed.now)) }
+    ensures { slice_get (rules_of (program_of weighed.now)) (number - 1) ≡ Some result.now }
+{
+    &weighed.program().rules()[number as usize - 1]
+}
+
+/// The cases of an overlap, among these constants of the program's rules: for each representative of an order type under
+/// which both guards hold, in order, the store of both head instances and both steps.
+///
+/// An overlap in which two constants would have to be one has no cases.
+///
+/// # Errors
+/// `TooMany` exactly where there are more than 50,000 order types, whether the guards hold or not; `Memory` where there
+/// is no memory left.
+pub fn cases_among(
+    alloc: Global,
+    weighed: &Weighed,
+    overlap: &Overlap,
+    constants: &[i64],
+) -> Result<Vec<Case>, CaseFault>
+    requires overlap { IsOverlapOf (rules_of (program_of weighed.now)) overlap.now }
+    requires constants { AreConstants (rules_of (program_of weighed.now)) constants.now }
+    ensures cases { IfOk result (λ cases. AreCases (rules_of (program_of weighed.now)) overlap.now cases.items) }
+    ensures no_more { IfOk result (λ _. (n : ℕ) → IsTooMany (rules_of (program_of weighed.now)) overlap.now n → ⊥) }
+    ensures many { IfErr result (λ e. WhereTooMany e (IsTooMany (rules_of (program_of weighed.now)) overlap.now)) }
+{
+    let first = rule_of(weighed, overlap.first);
+    let second = rule_of(weighed, overlap.second);
+    let Some(unified) = unify(first, second, &overlap.matching) else {
+        return Ok(Vec::new(alloc));
+    };
+    let classes = unified.free.len();
+    match types(alloc, classes, constants, TYPES_LIMIT) {
+        Ok(types) => Ok(cases_at(alloc, overlap, first, second, &unified, &types)?),
+        Err(TypesFault::TooMany) => Err(CaseFault::TooMany { classes }),
+        Err(TypesFault::Memory) => Err(CaseFault::Memory),
+    }
+}
+
+/// The cases of an overlap: for each representative of an order type under which both guards hold, in order, the store of
+/// both head instances and both steps.
+///
+/// # Errors
+/// `TooMany` exactly where there are more than 50,000 order types, whether the guards hold or not; `Memory` where there
+/// is no memory left.
+pub fn cases(alloc: Global, weighed: &Weighed, overlap: &Overlap) -> Result<Vec<Case>, CaseFault>
+    requires { IsOverlapOf (rules_of (program_of weighed.now)) overlap.now }
+    ensures cases { IfOk result (λ cases. AreCases (rules_of (program_of weighed.now)) overlap.now cases.items) }
+    ensures no_more { IfOk result (λ _. (n : ℕ) → IsTooMany (rules_of (program_of weighed.now)) overlap.now n → ⊥) }
+    ensures many { IfErr result (λ e. WhereTooMany e (IsTooMany (rules_of (program_of weighed.now)) overlap.now)) }
+{
+    let constants = constants(alloc, weighed.program().rules())?;
+    cases_among(alloc, weighed, overlap, &constants)
+}

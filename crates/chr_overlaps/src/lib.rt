@@ -1,0 +1,18 @@
+//! Overlaps of rules, and their cases.
+#![tactic(auto)]
+
+pub mod cases;
+mod classes;
+pub mod constants;
+mod fault;
+mod heads;
+mod instances;
+mod listing;
+mod overlap;
+#[cfg(test)]
+mod tests;
+mod unify;
+
+pub use fault::CaseFault;
+pub use listing::overlaps;
+pub use overlap::Overlap;

@@ -1,0 +1,122 @@
+//! All overlaps of a program's rules.
+ghost use Rattle.std.specs.Prelude.{◌≡◌, ◌<◌, ◌≤◌, ◌+◌, ◌++◌, OnOk, IfOk, length, get_or, drop, nat_lt};
+ghost use Rattle.std.specs.List.{list_any};
+ghost use Rattle.chr_base.specs.Programs.{rules_of};
+ghost use Rattle.chr_base.specs.Rules.{heads_of};
+ghost use Rattle.chr_weights.specs.WeighedPrograms.{program_of};
+ghost use Rattle.chr_confluence.specs.Matchings.{touches};
+ghost use Rattle.chr_confluence.specs.Overlaps.{no_pattern};
+ghost use Rattle.chr_overlaps.specs.OverlapLists.{AreOverlaps};
+ghost use Rattle.chr_overlaps.specs.Listing.{same_symbol, may_follow, overlaps_behind, overlaps_of_rule};
+
+use crate::overlap::Overlap;
+use arrayvec::ArrayVec;
+use chr_base::rule::Rule;
+use chr_base::term::Pattern;
+use chr_weights::Weighed;
+use std::alloc::{AllocError, Global};
+
+/// Whether the patterns have one symbol, with as many arguments.
+fn has_same_symbol(first: &Pattern, second: &Pattern) -> bool
+    ensures { result ≡ same_symbol first.now second.now }
+{
+    first.symbol.0 == second.symbol.0 && first.args.len() == second.args.len()
+}
+
+/// The pattern at a head place, which is counted from 0.
+fn head(rule: &Rule, place: usize) -> &Pattern
+    requires { place < length (heads_of rule.now) }
+    ensures { result.now ≡ get_or (heads_of rule.now) place no_pattern }
+{
+    if place < rule.kept.len() {
+        &rule.kept[place]
+    } else {
+        &rule.removed[place - rule.kept.len()]
+    }
+}
+
+/// Whether the next place can have this entry: 0, or a place of the second rule that has the same symbol and isn't
+/// matched yet.
+fn may_follow(first: &Rule, second: &Rule, begun: &[u8], entry: u8) -> bool
+    requires left { length begun.now < length (heads_of first.now) }
+    requires there { entry ≤ length (heads_of second.now) }
+    ensures { result ≡ may_follow (heads_of second.now) begun.now (get_or (heads_of first.now) (length begun.now) no_pattern) entry }
+{
+    if entry == 0 {
+        return true;
+    }
+    let place = usize::from(entry) - 1;
+    !begun.contains(&entry) && has_same_symbol(head(first, begun.len()), head(second, place))
+}
+
+/// Whether an entry is greater than this.
+fn has_greater(entries: &[u8], most: usize) -> bool
+    ensures { result ≡ list_any (nat_lt most) entries.now }
+{
+    entries.iter().any(|entry| usize::from(*entry) > most)
+}
+
+/// Whether a matched place is removed in one of the two rules.
+#[tactic(auto, using(crate::proofs::Touching::touches_by_parts))]
+fn touches(first: &Rule, second: &Rule, matching: &[u8]) -> bool
+    requires { length matching.now ≡ length (heads_of first.now) }
+    ensures { result ≡ touches (length first.now.kept.items) (length second.now.kept.items) matching.now }
+{
+    let (kept, removed) = matching.split_at(first.kept.len());
+    has_greater(kept, second.kept.len()) || has_greater(removed, 0)
+}
+
+/// Adds the overlaps of two rules that begin like this one, in lexicographic order.
+fn add_overlaps(
+    first: &Rule,
+    second: &Rule,
+    begun: &Overlap,
+    found: &mut Vec<Overlap>,
+) -> Result<(), AllocError>
+    requires { length begun.now.matching.items ≤ length (heads_of first.now) }
+    ensures { OnOk result (found.new.items ≡ found.old.items ++ overlaps_behind first.now second.now (drop (length begun.now.matching.items) (heads_of first.now)) begun.now) }
+{
+    if begun.matching.len() == first.places() {
+        if touches(first, second, &begun.matching) {
+            found.push(begun.copy())?;
+        }
+        return Ok(());
+    }
+    let entries = second.places() as u8 + 1;
+    for entry in 0..entries {
+        if may_follow(first, second, &begun.matching, entry) {
+            add_overlaps(first, second, &begun.with(entry), found)?;
+        }
+    }
+    Ok(())
+}
+
+/// Adds the overlaps of a rule with its own copy and with each rule after it.
+fn add_overlaps_of(rules: &[Rule], place: usize, found: &mut Vec<Overlap>) -> Result<(), AllocError>
+    requires there { place < length rules.now }
+    requires few { length rules.now ≤ 64 }
+    ensures { OnOk result (found.new.items ≡ found.old.items ++ overlaps_of_rule rules.now place) }
+{
+    for other in place..rules.len() {
+        let begun = Overlap {
+            first: place as u32 + 1,
+            second: other as u32 + 1,
+            matching: ArrayVec::new(),
+        };
+        add_overlaps(&rules[place], &rules[other], &begun, found)?;
+    }
+    Ok(())
+}
+
+/// All overlaps of the program's rules, by first rule, second rule and matching: every way in which heads of a rule
+/// match heads of a later rule, or of its own renamed copy, of which at least one is removed.
+pub fn overlaps(alloc: Global, weighed: &Weighed) -> Result<Vec<Overlap>, AllocError>
+    ensures { IfOk result (λ os. AreOverlaps (rules_of (program_of weighed.now)) os.items) }
+{
+    let rules = weighed.program().rules();
+    let mut found = Vec::new(alloc);
+    for place in 0..rules.len() {
+        add_overlaps_of(rules, place, &mut found)?;
+    }
+    Ok(found)
+}

@@ -1,0 +1,101 @@
+//! The heads of two rules, made one at matched places.
+ghost use Rattle.std.specs.Prelude.{◌≡◌, ◌+◌, ◌-◌, ◌<◌, IfNone, IfSome, Some, None, cond, get_or, length, map};
+ghost use Rattle.chr_base.specs.Rules.{heads_of};
+ghost use Rattle.chr_confluence.specs.Classes.{Solves, HasNone};
+ghost use Rattle.chr_confluence.specs.Overlaps.{SameSymbols, variables_of, shifted, term_pairs, equations, equations_of, no_pattern};
+ghost use Rattle.chr_confluence.specs.Solving.{solve};
+ghost use Rattle.chr_overlaps.specs.Tables.{class_in, class_pattern};
+ghost use Rattle.chr_overlaps.specs.Unifiers.{classes_of, IsUnified};
+
+use crate::classes::Classes;
+use crate::heads::{head_at, variables};
+use arrayvec::ArrayVec;
+use chr_base::rule::Rule;
+use chr_base::term::Pattern;
+
+/// The heads of two rules under the most general unifier of matched places: each term is a constant, or the first variable
+/// of its class. The variables of the second rule are numbered on from those of the first.
+#[derive(Drop)]
+pub(crate) struct Unified {
+    pub(crate) classes: Classes,
+    pub(crate) first: ArrayVec<Pattern, 4>,
+    pub(crate) second: ArrayVec<Pattern, 4>,
+    /// The classes that are bound to no constant, each by its first variable, rising.
+    pub(crate) free: ArrayVec<u8, 32>,
+}
+
+/// Makes the arguments at two matched places agree. False where two constants would be one.
+fn join_at(
+    classes: &mut Classes,
+    first: &Rule,
+    second: &Rule,
+    shift: u8,
+    place: usize,
+    matched: usize,
+) -> bool
+    requires shift { shift ≡ variables_of first.now }
+    requires table { length classes.old.terms.items ≡ variables_of first.now + variables_of second.now + 1 }
+    requires place { place < length (heads_of first.now) }
+    requires matched { matched < length (heads_of second.now) }
+    ensures classes { cond result (Some (class_in classes.new.terms.items)) None ≡ solve (class_in classes.old.terms.items) (term_pairs (get_or (heads_of first.now) place no_pattern).args.items (map (shifted shift) (get_or (heads_of second.now) matched no_pattern).args.items)) }
+    ensures len { length classes.new.terms.items ≡ length classes.old.terms.items }
+{
+    let left = head_at(first, place);
+    let right = head_at(second, matched);
+    classes.join_terms(&left.args, shift, &right.args)
+}
+
+/// Makes the arguments at all matched places agree. False where two constants would be one.
+fn join_heads(
+    classes: &mut Classes,
+    first: &Rule,
+    second: &Rule,
+    shift: u8,
+    matching: &[u8],
+) -> bool
+    requires symbols { SameSymbols (heads_of second.now) matching.now (heads_of first.now) }
+    requires shift { shift ≡ variables_of first.now }
+    requires table { length classes.old.terms.items ≡ variables_of first.now + variables_of second.now + 1 }
+    ensures classes { cond result (Some (class_in classes.new.terms.items)) None ≡ solve (class_in classes.old.terms.items) (equations shift (heads_of second.now) matching.now (heads_of first.now)) }
+    ensures len { length classes.new.terms.items ≡ length classes.old.terms.items }
+{
+    for (place, entry) in matching.iter().enumerate() {
+        let entry = usize::from(*entry);
+        if entry > 0 && !join_at(classes, first, second, shift, place, entry - 1) {
+            return false;
+        }
+    }
+    true
+}
+
+/// The heads of a rule with each term's class.
+fn class_heads(classes: &Classes, rule: &Rule, shift: u8) -> ArrayVec<Pattern, 4>
+    requires { shift + variables_of rule.now < length classes.now.terms.items }
+    ensures { result.items ≡ map (class_pattern (class_in classes.now.terms.items) shift) (heads_of rule.now) }
+{
+    let mut heads = ArrayVec::new();
+    for place in 0..rule.places() {
+        heads.push(classes.class_pattern(shift, head_at(rule, place)));
+    }
+    heads
+}
+
+/// Makes matched places agree, where one unifier of them all exists: None where two constants would be one.
+pub(crate) fn unify(first: &Rule, second: &Rule, matching: &[u8]) -> Option<Unified>
+    requires { SameSymbols (heads_of second.now) matching.now (heads_of first.now) }
+    ensures none { IfNone result (HasNone (equations_of first.now second.now matching.now)) }
+    ensures solves { IfSome result (λ u. Solves (classes_of u) (equations_of first.now second.now matching.now)) }
+    ensures unified { IfSome result (λ u. IsUnified first.now second.now u) }
+{
+    let shift = variables(first);
+    let mut classes = Classes::single(shift + variables(second));
+    if !join_heads(&mut classes, first, second, shift, matching) {
+        return None;
+    }
+    Some(Unified {
+        first: class_heads(&classes, first, 0),
+        second: class_heads(&classes, second, shift),
+        free: classes.free(),
+        classes,
+    })
+}

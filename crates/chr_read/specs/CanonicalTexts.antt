@@ -1,0 +1,110 @@
+-- The canonical text of a program: its clauses in a fixed order and layout, each ended by a full stop and a line feed.
+--     clauses ds rs        the clauses, without their ends: all declarations in one, a weight for each symbol whose weight isn't 1, and the rules
+--     canonical ds rs        the text
+use Rattle.std.specs.Prelude.{ℕ, ◌==◌, if◌then◌else◌, List, [], ◌∷◌, ◌++◌, map, Option, Some, None, option_map, codes, decimal, slice_get}
+use Rattle.std.specs.Option.{option_map_or}
+use Rattle.std.specs.Fmt.{signed_decimal}
+use Rattle.chr_base.specs.declared.term.Term.{Term}
+use Rattle.chr_base.specs.declared.term.Term.TheVariants.{Variable, Constant}
+use Rattle.chr_base.specs.declared.term.Cmp.{Cmp}
+use Rattle.chr_base.specs.declared.term.Cmp.TheVariants as cmp
+use Rattle.chr_base.specs.declared.term.Comparison.{Comparison}
+use Rattle.chr_base.specs.declared.term.Pattern.{Pattern}
+use Rattle.chr_base.specs.declared.rule.Rule.{Rule}
+use Rattle.chr_base.specs.ProgramTests.{Declaration}
+
+-- ---- lists
+
+-- the text of each, with the separator before it
+abbrev pub more : {A : Type 0} → List ℕ → (A → List ℕ) → List A → List ℕ
+more separator f [] = []
+more separator f (x ∷ xs) = separator ++ (f x ++ more separator f xs)
+
+-- the text of each, with the separator between
+abbrev pub joined : {A : Type 0} → List ℕ → (A → List ℕ) → List A → List ℕ
+joined separator f [] = []
+joined separator f (x ∷ xs) = f x ++ more separator f xs
+
+-- ---- atoms and comparisons
+
+abbrev pub term_text : Term → List ℕ
+term_text (Variable x) = codes "V" ++ decimal x
+term_text (Constant c) = signed_decimal c
+
+abbrev pub args_text : List Term → List ℕ
+args_text [] = []
+args_text (t ∷ ts) = codes "(" ++ (joined (codes ",") term_text (t ∷ ts) ++ codes ")")
+
+abbrev pub name_at : List Declaration → ℕ → List ℕ
+name_at ds i = option_map_or (λ d. d.name) (slice_get ds i) []
+
+abbrev pub pattern_text : List Declaration → Pattern → List ℕ
+pattern_text ds p = name_at ds p.symbol.0 ++ args_text p.args.items
+
+abbrev pub patterns_text : List Declaration → List Pattern → List ℕ
+patterns_text ds ps = joined (codes ", ") (pattern_text ds) ps
+
+abbrev pub cmp_text : Cmp → List ℕ
+cmp_text cmp.Less = codes "<"
+cmp_text cmp.AtMost = codes "=<"
+cmp_text cmp.Greater = codes ">"
+cmp_text cmp.AtLeast = codes ">="
+cmp_text cmp.Equal = codes "=:="
+cmp_text cmp.NotEqual = codes "=\\="
+
+abbrev pub comparison_text : Comparison → List ℕ
+comparison_text c = term_text c.left ++ (codes " " ++ (cmp_text c.cmp ++ (codes " " ++ term_text c.right)))
+
+-- ---- rules
+
+abbrev pub label_text : Option (List ℕ) → List ℕ
+label_text None = []
+label_text (Some w) = w ++ codes " @ "
+
+abbrev pub kept_text : List Declaration → List Pattern → List ℕ
+kept_text ds [] = []
+kept_text ds (p ∷ ps) = patterns_text ds (p ∷ ps) ++ codes " \\ "
+
+abbrev pub guard_text : List Comparison → List ℕ
+guard_text [] = []
+guard_text (c ∷ cs) = joined (codes ", ") comparison_text (c ∷ cs) ++ codes " | "
+
+abbrev pub body_text : List Declaration → List Pattern → List ℕ
+body_text ds [] = codes "true"
+body_text ds (p ∷ ps) = patterns_text ds (p ∷ ps)
+
+abbrev pub rule_clause : List Declaration → Rule → List ℕ
+rule_clause ds r =
+    label_text (option_map (λ n. n.bytes) r.name)
+    ++ (kept_text ds r.kept.items ++ (patterns_text ds r.removed.items ++ (codes " <=> " ++ (guard_text r.guard.items ++ body_text ds r.body.items))))
+
+-- ---- declarations
+
+abbrev pub symbol_text : Declaration → List ℕ
+symbol_text d = d.name ++ (codes "/" ++ decimal d.arity)
+
+-- one clause, where there are symbols
+abbrev pub declaration_clauses : List Declaration → List (List ℕ)
+declaration_clauses [] = []
+declaration_clauses (d ∷ ds) = (codes ":- chr_constraint " ++ joined (codes ", ") symbol_text (d ∷ ds)) ∷ []
+
+abbrev pub weight_clause : Declaration → List ℕ
+weight_clause d = codes ":- chr_weight " ++ (symbol_text d ++ (codes " = " ++ decimal d.weight))
+
+-- one for each symbol whose weight isn't 1
+abbrev pub weight_clauses : List Declaration → List (List ℕ)
+weight_clauses [] = []
+weight_clauses (d ∷ ds) = if d.weight == 1 then weight_clauses ds else weight_clause d ∷ weight_clauses ds
+
+-- ---- the text
+
+abbrev pub clauses : List Declaration → List Rule → List (List ℕ)
+clauses ds rs = declaration_clauses ds ++ (weight_clauses ds ++ map (rule_clause ds) rs)
+
+-- each clause with its full stop and line feed
+abbrev pub ended : List (List ℕ) → List ℕ
+ended [] = []
+ended (c ∷ cs) = c ++ (codes ".\n" ++ ended cs)
+
+abbrev pub canonical : List Declaration → List Rule → List ℕ
+canonical ds rs = ended (clauses ds rs)

@@ -1,0 +1,8 @@
+use Rattle.chr_report.proofs.OneText as shown
+use Rattle.chr_report.proofs.one_text.answers_are_one.Goals as goal
+
+pub returns-clause-answers : goal.returns-clause-answers
+returns-clause-answers c = shown.answers_are_one
+
+pub returns-clause-first : goal.returns-clause-first
+returns-clause-first c = shown.first_answers_are_one

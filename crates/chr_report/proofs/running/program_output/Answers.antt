@@ -1,0 +1,17 @@
+use Rattle.std.proofs.Common.{ap, inl}
+use Rattle.std.specs.Prelude.{string_bytes}
+use Rattle.chr_report.proofs.Outcomes.{refused_by}
+use Rattle.chr_report.proofs.running.program_output.Goals as goal
+
+pub returns-in_ok-line-in-Err : goal.returns-in_ok-line-in-Err
+returns-in_ok-line-in-Err c =
+    let fault = c.in-Err.fault in
+    let h = c.in-Err.ensures in
+    refused_by c.args.program _ _ _ (string_bytes c.in_ok-line-in-Err.line) c.refused.ensures.status (ap string_bytes c.refused.ensures.text)
+    (inl (record {
+      rule = fault.rule;
+      before = fault.before;
+      after = fault.after;
+      first = record { first = h.rule.0; within = h.rule.1; earlier = h.earlier; weight_before = h.before; weight_after = h.after; not_lowered = h.not_lowered };
+      out_is = c.in_ok-line-in-Err.ensures;
+    }))

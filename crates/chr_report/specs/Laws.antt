@@ -1,0 +1,9 @@
+-- What a check and a run have in common.
+use Rattle.std.specs.Prelude.{◌≡◌, ℕ, List, ◌++◌}
+use Rattle.chr_device.specs.declared.words.Verb.TheVariants.{Check, Run}
+use Rattle.chr_report.specs.declared.running.Status.{Status}
+use Rattle.chr_report.specs.Outputs.{IsOutput}
+
+-- what a run writes is what a check of the same input writes, and then the answers; their statuses are one
+abbrev pub ChecksBeginRuns : Type 0
+ChecksBeginRuns = (input : List ℕ) (status : Status) (out : List ℕ) → IsOutput Run input status out → (verdict : List ℕ) × (answers : List ℕ) × (out ≡ verdict ++ answers) × IsOutput Check input status verdict

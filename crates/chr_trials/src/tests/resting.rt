@@ -1,0 +1,190 @@
+//! Stores of accepted programs end as `rest` ends them, whatever steps are chosen and whatever parts are rested first.
+use crate::tests::definitions::{Heads, after_step, instances, steps};
+use crate::tests::order_types::{constants, values};
+use crate::tests::random::Random;
+use crate::tests::texts::program_text;
+use crate::tests::verdicts::weighed_of;
+use arrayvec::ArrayVec;
+use chr_base::atom::{Atom, SymbolId};
+use chr_base::bag::Bag;
+use chr_base::derivation::Derivation;
+use chr_join::accept;
+use chr_rewrite::list::ListPool;
+use chr_rewrite::pool::Pool;
+use chr_rewrite::replay::replay;
+use chr_rewrite::resting::rest;
+use chr_weights::Weighed;
+use std::alloc::{AllocError, Global};
+use std::process::Abort;
+use std::test::Fail;
+
+/// More steps than any store of these tests has weight.
+const MOST_STEPS: usize = 1_000;
+
+/// The number of stores of each program.
+const STORES: usize = 20;
+
+/// One of the symbols, with its number of arguments.
+fn symbol(random: &mut Random) -> (SymbolId, usize) {
+    match random.below(6) {
+        0 => (SymbolId(0), 0),
+        1 => (SymbolId(1), 0),
+        2 => (SymbolId(2), 1),
+        3 => (SymbolId(3), 1),
+        _ => (SymbolId(4), 2),
+    }
+}
+
+/// An atom of one of the symbols, by these values.
+fn atom(random: &mut Random, values: &[i64]) -> Atom {
+    let (symbol, arity) = symbol(random);
+    let mut args = ArrayVec::new();
+    for _ in 0..arity {
+        let value = values.get(random.below(values.len().max(1))).copied();
+        let _ = args.try_push(value.unwrap_or(0));
+    }
+    Atom { symbol, args }
+}
+
+/// The heads of some of these instances, on which rules fire, and some atoms more.
+fn store(
+    alloc: Global,
+    random: &mut Random,
+    values: &[i64],
+    instances: &[Heads],
+) -> Result<Bag, AllocError> {
+    let mut store = Bag::new(alloc);
+    for _ in 0..random.below(4) + 1 {
+        if let Some(heads) = instances.get(random.below(instances.len().max(1))) {
+            for atom in heads.as_slice() {
+                store.add(atom.copy())?;
+            }
+        }
+    }
+    for _ in 0..random.below(4) {
+        store.add(atom(random, values))?;
+    }
+    Ok(store)
+}
+
+/// The end of `rest`.
+fn rested(alloc: Global, weighed: &Weighed, store: &Bag) -> Result<Bag, Fail> {
+    let mut pool = ListPool::new(alloc);
+    pool.insert(store.atoms())?;
+    rest(weighed, &mut pool)?;
+    Ok(pool.bag(alloc)?)
+}
+
+/// Steps chosen at random until there is none.
+fn random_steps(
+    alloc: Global,
+    random: &mut Random,
+    weighed: &Weighed,
+    store: &Bag,
+) -> Result<Derivation, Fail> {
+    let rules = weighed.program().rules();
+    let start = store.copy(alloc)?;
+    let mut now = store.copy(alloc)?;
+    let mut taken = Vec::new(alloc);
+    for _ in 0..MOST_STEPS {
+        let choices = steps(alloc, rules, &now)?;
+        let Some(step) = choices.get(random.below(choices.len().max(1))) else {
+            return Ok(Derivation {
+                start,
+                steps: taken,
+            });
+        };
+        now = after_step(alloc, rules, step, &now)?;
+        taken.push(step.copy())?;
+    }
+    Err("no end")?
+}
+
+/// The end of the whole, where first up to three parts of the store are rested by themselves.
+fn rested_by_parts(
+    alloc: Global,
+    random: &mut Random,
+    weighed: &Weighed,
+    store: &Bag,
+) -> Result<Bag, Fail> {
+    let mut parts = [Bag::new(alloc), Bag::new(alloc), Bag::new(alloc)];
+    for atom in store.atoms() {
+        parts[random.below(3)].add(atom.copy())?;
+    }
+    let mut merged = Bag::new(alloc);
+    for part in &parts {
+        merged.union(&rested(alloc, weighed, part)?)?;
+    }
+    rested(alloc, weighed, &merged)
+}
+
+/// What came of one store: the number of steps, and whether all ends were one.
+#[derive(Drop)]
+struct Trial {
+    steps: usize,
+    is_one_end: bool,
+}
+
+fn run_trial(
+    alloc: Global,
+    random: &mut Random,
+    weighed: &Weighed,
+    store: &Bag,
+) -> Result<Trial, Fail> {
+    let end = rested(alloc, weighed, store)?;
+    let chosen = random_steps(alloc, random, weighed, store)?;
+    let chosen_end = replay(alloc, weighed, &chosen)?;
+    let parts_end = rested_by_parts(alloc, random, weighed, store)?;
+    Ok(Trial {
+        steps: chosen.steps.len(),
+        is_one_end: chosen_end.is_same(&end) && parts_end.is_same(&end),
+    })
+}
+
+/// Adds trials with stores of a program, by values in and around its constants.
+fn push_trials(
+    alloc: Global,
+    random: &mut Random,
+    weighed: &Weighed,
+    trials: &mut Vec<Trial>,
+) -> Result<(), Fail> {
+    let rules = weighed.program().rules();
+    let values = values(alloc, &constants(alloc, rules)?, 2)?;
+    let mut all = Vec::new(alloc);
+    for rule in rules {
+        all.append(&mut instances(alloc, rule, &values)?)?;
+    }
+    for _ in 0..STORES {
+        let store = store(alloc, random, &values, &all)?;
+        trials.push(run_trial(alloc, random, weighed, &store)?)?;
+    }
+    Ok(())
+}
+
+#[test]
+fn stores_end_as_rest_ends_them(rt: HostRuntime) -> Result<(), Fail> {
+    let alloc = rt.alloc();
+    let mut random = Random::new(6);
+    let mut of_accepted = Vec::new(alloc);
+    let mut of_refused = Vec::new(alloc);
+    for _ in 0..400 {
+        let text = program_text(alloc, &mut random)?;
+        let Some(weighed) = weighed_of(alloc, &text) else {
+            continue;
+        };
+        match accept(alloc, weighed) {
+            Ok(accepted) => {
+                push_trials(alloc, &mut random, accepted.weighed(), &mut of_accepted)?;
+                assert!(rt; of_accepted.iter().all(|trial| trial.is_one_end), "{text}");
+            }
+            Err(refused) => {
+                push_trials(alloc, &mut random, &refused.weighed, &mut of_refused)?;
+            }
+        }
+    }
+    let long = of_accepted.iter().filter(|trial| trial.steps > 2).count();
+    assert!(rt; long >= 300, "{long} with more than two steps");
+    let torn = of_refused.iter().filter(|trial| !trial.is_one_end).count();
+    assert!(rt; torn >= 50, "{torn} with more than one end");
+    Ok(())
+}
