@@ -6,3 +6,4 @@ pub mod Cutting
 pub mod Outcomes
 pub mod OneTextValues
 pub mod OneText
+pub mod OneOutput

@@ -11,3 +11,4 @@ pub mod Outputs
 pub mod OptionalLines
 pub mod Written
 pub mod OneText
+pub mod OneOutput
