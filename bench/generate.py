@@ -8,13 +8,17 @@
     generate.py layout              a program text of a few rules and long layout
     generate.py items               a program text with one clause of many items
     generate.py symbols             a program text with one clause of many symbols (it is refused)
+    generate.py dominated           a short program with an overlap of four variables
+    generate.py near                a short program with an overlap of 47,293 order types, which is nearly the limit
+    generate.py ordered             the same with a guard that holds in few of them
+    generate.py over                a short program with an overlap of too many order types (it is refused)
     generate.py tells N [--show]    a program without rules, and N operations of one atom each
     generate.py wide N [--show]     a program without rules, and N operations of 64 atoms each
     generate.py minimum N           a program with one rule, N operations of one atom each, of which one atom stays, and a `show`
     generate.py renames N           a program with one rule, N operations of one atom each, each of which takes a step, and a `show`
     generate.py paths N             a program with one rule, N operations of one atom each, which all stay, and a `show`
 
-Each program text has at most 65,536 bytes, and nearly as many.
+Of the program texts those above `dominated` have at most 65,536 bytes, and nearly as many.
 """
 
 import sys
@@ -111,6 +115,10 @@ TEXTS = {
     "layout": lambda: repeated(FEW_RULES, " \t\r\n"),
     "items": lambda: joined(":- chr_constraint a/0. a <=> ", iter(lambda: "true", None), ".\n"),
     "symbols": lambda: joined(":- chr_constraint ", (f"s{k}/0" for k in range(TEXT_LIMIT)), ".\n"),
+    "dominated": lambda: ":- chr_constraint p/2.\np(A,B) \\ p(C,D) <=> A < C | true.\n",
+    "near": lambda: ":- chr_constraint p/3, q/1.\np(A,B,C) \\ q(D) <=> true.\n",
+    "ordered": lambda: ":- chr_constraint p/3, q/1.\np(A,B,C) \\ q(D) <=> A < B, B < C, C < D | true.\n",
+    "over": lambda: ":- chr_constraint p/4, q/1, s/0.\np(A,B,C,D), q(E) <=> s.\n",
 }
 
 

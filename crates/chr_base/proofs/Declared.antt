@@ -7,7 +7,7 @@ use Rattle.std.specs.List.{position_or_len, list_all, list_any}
 use Rattle.std.specs.Map.{keys_of}
 use mathlib.Core.Bool.{true≢false}
 use Rattle.std.specs.Str.{bytes_eq}
-use Rattle.std.proofs.lemmas.Bool.{eqb-true, eq-eqb}
+use Rattle.std.proofs.lemmas.Bool.{eqb-true, eq-eqb, and_from}
 use Rattle.std.proofs.lemmas.List.Folds.{list_any-append}
 use Rattle.indexmap.specs.IndexMap.{insert_entry}
 use Rattle.std.proofs.lemmas.Slice.Eq.{bytes_eq-Decides}
@@ -17,6 +17,7 @@ use Rattle.std.proofs.lemmas.Bool.Decides.{nat_tests}
 use Rattle.chr_base.specs.declared.program.Symbol.{Symbol}
 use Rattle.chr_base.specs.Names.{is_name}
 use Rattle.chr_base.specs.ProgramTests.{Declaration, declared, declarations_in, declares, is_in_range, is_program, are_distinct, fits, takes, is_declared}
+use Rattle.chr_base.specs.Instances.{first_true, second_true}
 
 pub length-declarations : (es : List (Symbol × ℕ)) → length (declarations_in es) ≡ length es
 length-declarations [] = refl
@@ -41,18 +42,6 @@ position-keys test name arity same es =
     λ i. cond (nat_lt (p i) (l i)) (Some (p i)) None
 
 -- ---- no declaration has a name or a number of arguments that is too long
-
-pub first_true : (a b : Bool) → (a && b) ≡ true → a ≡ true
-first_true true b h = refl
-first_true false b h = h
-
-pub second_true : (a b : Bool) → (a && b) ≡ true → b ≡ true
-second_true true b h = h
-second_true false b h = absurd (true≢false (sym h))
-
-pub both_true : (a b : Bool) → a ≡ true → b ≡ true → (a && b) ≡ true
-both_true true b h g = g
-both_true false b h g = absurd (true≢false (sym h))
 
 pub le_from : (a b : ℕ) → nat_le a b ≡ true → a ≤ b
 le_from a b h = grind (arith, nat_tests)
@@ -114,7 +103,7 @@ kept_by ds rs h =
 
 pub keep : (ds : List Declaration) (rs : List Rule) → Keeps ds rs → IsTrue (is_program ds rs)
 keep ds rs k =
-    both_true _ _ (both_true _ _ (both_true _ _ (both_true _ _ (to_le _ _ k.symbols) (to_le _ _ k.rules)) k.ranges) k.distinct) k.fitting
+    and_from _ _ (and_from _ _ (and_from _ _ (and_from _ _ (to_le _ _ k.symbols) (to_le _ _ k.rules)) k.ranges) k.distinct) k.fitting
 
 pub not_declared_long : (ds : List Declaration) (rs : List Rule) (name : List ℕ) (arity : ℕ) → IsTrue (is_program ds rs) → (32 < length name) ⊎ (4 < arity) → position (declares name arity) ds ≡ None
 not_declared_long ds rs name arity h long = no_place _ ds (none_long name arity ds (kept_by ds rs h).ranges long)
@@ -122,8 +111,8 @@ not_declared_long ds rs name arity h long = no_place _ ds (none_long name arity 
 -- ---- one more rule
 
 list_all-push : {A : Type 0} (p : A → Bool) (xs : List A) (x : A) → list_all p xs ≡ true → p x ≡ true → list_all p (xs ++ x ∷ []) ≡ true
-list_all-push p [] x h g = both_true _ _ g refl
-list_all-push p (y ∷ ys) x h g = both_true _ _ (first_true (p y) (list_all p ys) h) (list_all-push p ys x (second_true (p y) _ h) g)
+list_all-push p [] x h g = and_from _ _ g refl
+list_all-push p (y ∷ ys) x h g = and_from _ _ (first_true (p y) (list_all p ys) h) (list_all-push p ys x (second_true (p y) _ h) g)
 
 pub rule_pushed : (ds : List Declaration) (rs qs : List Rule) (r : Rule) → qs ≡ rs ++ r ∷ [] → IsTrue (is_program ds rs) → length rs < 64 → IsTrue (fits ds r) → IsTrue (is_program ds qs)
 rule_pushed ds rs qs r e h l g =
@@ -141,16 +130,16 @@ takes_more (c ∷ ds) d (suc i) n h = takes_more ds d i n h
 declared_more : (ds : List Declaration) (d : Declaration) (ps : List Pattern) → list_all (is_declared ds) ps ≡ true → list_all (is_declared (ds ++ d ∷ [])) ps ≡ true
 declared_more ds d [] h = refl
 declared_more ds d (p ∷ ps) h =
-    both_true _ _ (takes_more ds d p.symbol.0 _ (first_true (is_declared ds p) (list_all (is_declared ds) ps) h)) (declared_more ds d ps (second_true (is_declared ds p) _ h))
+    and_from _ _ (takes_more ds d p.symbol.0 _ (first_true (is_declared ds p) (list_all (is_declared ds) ps) h)) (declared_more ds d ps (second_true (is_declared ds p) _ h))
 
 fits_more : (ds : List Declaration) (d : Declaration) (rs : List Rule) → list_all (fits ds) rs ≡ true → list_all (fits (ds ++ d ∷ [])) rs ≡ true
 fits_more ds d [] h = refl
 fits_more ds d (r ∷ rs) h =
     let one : fits ds r ≡ true = first_true _ (list_all (fits ds) rs) h in
     let heads : (list_all (is_declared ds) r.kept.items && list_all (is_declared ds) r.removed.items) ≡ true = first_true _ (list_all (is_declared ds) r.body.items) one in
-    both_true _ _
-    (both_true _ _
-    (both_true _ _ (declared_more ds d r.kept.items (first_true _ (list_all (is_declared ds) r.removed.items) heads)) (declared_more ds d r.removed.items (second_true (list_all (is_declared ds) r.kept.items) _ heads)))
+    and_from _ _
+    (and_from _ _
+    (and_from _ _ (declared_more ds d r.kept.items (first_true _ (list_all (is_declared ds) r.removed.items) heads)) (declared_more ds d r.removed.items (second_true (list_all (is_declared ds) r.kept.items) _ heads)))
     (declared_more ds d r.body.items (second_true (list_all (is_declared ds) r.kept.items && list_all (is_declared ds) r.removed.items) _ one)))
     (fits_more ds d rs (second_true (fits ds r) _ h))
 
@@ -197,7 +186,7 @@ declared_last test k w same (e ∷ es) h = by (declares k.name.bytes k.arity (de
 distinct_more : (ds : List Declaration) (d : Declaration) → are_distinct ds ≡ true → list_any (declares d.name d.arity) ds ≡ false → are_distinct (ds ++ d ∷ []) ≡ true
 distinct_more [] d h g = refl
 distinct_more (c ∷ ds) d h g =
-    both_true _ _ (apart (list_any (declares c.name c.arity) ds) refl (first_true _ (are_distinct ds) h)) (distinct_more ds d (second_true (not (list_any (declares c.name c.arity) ds)) _ h) (rest (declares d.name d.arity c) g))
+    and_from _ _ (apart (list_any (declares c.name c.arity) ds) refl (first_true _ (are_distinct ds) h)) (distinct_more ds d (second_true (not (list_any (declares c.name c.arity) ds)) _ h) (rest (declares d.name d.arity c) g))
   where
     rest : (b : Bool) → (b || list_any (declares d.name d.arity) ds) ≡ false → list_any (declares d.name d.arity) ds ≡ false
     rest true g = absurd (true≢false g)
@@ -211,7 +200,7 @@ distinct_more (c ∷ ds) d h g =
         by true q =
             let n : c.name ≡ d.name = is_same_name c.name d.name (first_true _ _ q) in
             let a : c.arity ≡ d.arity = eqb-true c.arity d.arity (second_true (bytes_eq c.name d.name) _ q) in
-            absurd (true≢false (sym (both_true _ _ ((bytes_eq-Decides d.name c.name).1 (sym n)) (eq-eqb d.arity c.arity (sym a))) ∙ e))
+            absurd (true≢false (sym (and_from _ _ ((bytes_eq-Decides d.name c.name).1 (sym n)) (eq-eqb d.arity c.arity (sym a))) ∙ e))
 
     front : (b : Bool) → (b || list_any (declares d.name d.arity) ds) ≡ false → b ≡ false
     front true g = absurd (true≢false g)
@@ -234,7 +223,7 @@ symbol_pushed ds cs rs d e h l r new =
     }
 
 pub new_in_range : (name : List ℕ) (arity : ℕ) → IsTrue (is_name name) → length name ≤ 32 → arity ≤ 4 → is_in_range record { name = name; arity = arity; weight = 1 } ≡ true
-new_in_range name arity w l a = both_true _ _ (both_true _ _ (both_true _ _ (both_true _ _ w (to_le _ _ l)) (to_le _ _ a)) refl) refl
+new_in_range name arity w l a = and_from _ _ (and_from _ _ (and_from _ _ (and_from _ _ w (to_le _ _ l)) (to_le _ _ a)) refl) refl
 
 pub not_declared : (ds : List Declaration) (name : List ℕ) (arity : ℕ) → position (declares name arity) ds ≡ None → list_any (declares name arity) ds ≡ false
 not_declared ds name arity h = passes_none _ ds h

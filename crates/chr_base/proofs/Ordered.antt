@@ -1,6 +1,6 @@
 -- Sorted lists of any kind, in a total order in which only equal items tie.
-use Rattle.std.proofs.Common.{◌≡◌, suc, ◌+◌, Bool, true, false, cond, List, [], ◌∷◌, refl, sym, ap, ◌∙◌, arith}
-use Rattle.std.specs.Prelude.{IsTrue, not, ◌&&◌}
+use Rattle.std.proofs.Common.{◌≡◌, suc, ◌+◌, true, false, cond, List, [], ◌∷◌, refl, sym, ap, ◌∙◌, arith}
+use Rattle.std.specs.Prelude.{IsTrue, not}
 use mathlib.Core.Bool.{true≢false}
 use Rattle.std.specs.List.Sorted.{IsSorted, IsPermutation}
 use Rattle.std.proofs.lemmas.List.Sorted.{sum_by-IsPermutation}
@@ -9,16 +9,10 @@ use Rattle.std.specs.declared.cmp.Ordering.TheVariants as order
 use Rattle.std.specs.Ordering.{is_lt, is_gt, eq_by_cmp, ordering_reverse}
 use Rattle.std.specs.Cmp.{IsTotalOrder}
 use Rattle.std.specs.FinMap.{IsAntisymmetric}
+use Rattle.std.proofs.lemmas.Bool.{and_from}
 use Rattle.chr_base.specs.FinBag as bag
 use Rattle.chr_base.specs.FinBag.{is_rising, none_below, none_below_further, total_is, is_true, from_true}
-
-both_true : (a b : Bool) → a ≡ true → b ≡ true → (a && b) ≡ true
-both_true true b h g = g
-both_true false b h g = absurd (true≢false (sym h))
-
-first_true : (a b : Bool) → (a && b) ≡ true → a ≡ true
-first_true true b h = refl
-first_true false b h = h
+use Rattle.chr_base.specs.Instances.{first_true}
 
 module _ {K : Type 0} {R : K → K → Ordering} (o : IsTotalOrder R) where
   before : (x y : K) → is_lt (R y x) ≡ false → is_gt (R x y) ≡ false
@@ -37,7 +31,7 @@ module _ {K : Type 0} {R : K → K → Ordering} (o : IsTotalOrder R) where
       let more : is_rising R (y ∷ ys) ≡ true = rising_from_sorted (y ∷ ys) (λ k d l g. let e : suc k + 1 ≡ suc (k + 1) = omega arith in rw e at (h (suc k) d (omega arith) (omega (arith, g)))) in
       let step : is_gt (R x y) ≡ false = before x y (h 0 x (omega arith) (omega arith)) in
       let far : none_below R x ys ≡ true = is_true _ (none_below_further R o x y ys step (from_true _ (first_true (none_below R y ys) _ more))) in
-      both_true (none_below R x (y ∷ ys)) _ (both_true (not (is_gt (R x y))) _ (rw step refl) far) more
+      and_from (none_below R x (y ∷ ys)) _ (and_from (not (is_gt (R x y))) _ (rw step refl) far) more
 
   module _ (exact : IsAntisymmetric R) where
     -- another order, the same multiset

@@ -1,11 +1,12 @@
 -- What the tests of equality of rules say.
-use Rattle.std.proofs.Common.{◌≡◌, ℕ, Bool, true, false, List, refl, sym, ap, subst, ◌∙◌, rules}
+use Rattle.std.proofs.Common.{◌≡◌, ℕ, Bool, true, List, refl, sym, ap, subst, ◌∙◌, rules}
 use Rattle.std.specs.Prelude.{◌&&◌, Option, Some, None, option_map, nat_eq}
 use Rattle.std.specs.Bool.{Decides}
 use Rattle.std.specs.Option.{option_eq}
 use Rattle.std.specs.Cmp.Lexicographic.{pointwise, pointwise_decides}
 use mathlib.Core.Bool.{true≢false}
 use Rattle.std.specs.Cmp.{unsigned_Decides, signed_Decides}
+use Rattle.std.proofs.lemmas.Bool.{and_from}
 use Rattle.arrayvec.specs.declared.array_string.ArrayString.{ArrayString}
 use Rattle.chr_base.specs.contracts.term.TermPartialEq.TheImpl.{eq-value}
 use Rattle.chr_base.specs.contracts.term.CmpPartialEq.TheImpl as cmp
@@ -19,18 +20,7 @@ use Rattle.chr_base.specs.declared.term.Comparison.{Comparison}
 use Rattle.chr_base.specs.declared.term.Pattern.{Pattern}
 use Rattle.chr_base.specs.declared.rule.Rule.{Rule}
 use Rattle.chr_base.specs.Sameness.{parts_of}
-
-first_true : (a b : Bool) → (a && b) ≡ true → a ≡ true
-first_true true b h = refl
-first_true false b h = h
-
-second_true : (a b : Bool) → (a && b) ≡ true → b ≡ true
-second_true true b h = h
-second_true false b h = absurd (true≢false (sym h))
-
-both_true : (a b : Bool) → a ≡ true → b ≡ true → (a && b) ≡ true
-both_true true b h g = g
-both_true false b h g = absurd (true≢false (sym h))
+use Rattle.chr_base.specs.Instances.{first_true, second_true}
 
 term_same : (a b : Term) → eq-value.it a b ≡ true → a ≡ b
 term_same (Variable x) (Variable y) h = ap Variable ((unsigned_Decides x y).0 h)
@@ -50,7 +40,7 @@ pattern_decides a b = (
   λ h. (let n : a.symbol.0 ≡ b.symbol.0 = (unsigned_Decides a.symbol.0 b.symbol.0).0 (first_true _ (pointwise eq-value.it a.args.items b.args.items) h) in
       let l : a.args.items ≡ b.args.items = (pointwise_decides term_decides a.args.items b.args.items).0 (second_true (nat_eq a.symbol.0 b.symbol.0) _ h) in
       λ i. record { symbol = record { 0 = n i }; args = record { items = l i } }),
-  λ e. both_true _ _ ((unsigned_Decides a.symbol.0 b.symbol.0).1 (ap (λ p. p.symbol.0) e)) ((pointwise_decides term_decides a.args.items b.args.items).1 (ap (λ p. p.args.items) e)),
+  λ e. and_from _ _ ((unsigned_Decides a.symbol.0 b.symbol.0).1 (ap (λ p. p.symbol.0) e)) ((pointwise_decides term_decides a.args.items b.args.items).1 (ap (λ p. p.args.items) e)),
 )
 
 names_decide : (m n : Option (ArrayString 32)) → Decides (option_eq (λ x y. pointwise nat_eq x.bytes y.bytes) m n) (option_map (λ x. x.bytes) m ≡ option_map (λ x. x.bytes) n)
@@ -80,11 +70,11 @@ comparison_decides a b = (
       let m = (sign_decides a.cmp b.cmp).0 (first_true (cmp.eq-value.it a.cmp b.cmp) _ rest) in
       let r = (term_decides a.right b.right).0 (second_true (cmp.eq-value.it a.cmp b.cmp) _ rest) in
       λ i. record { left = l i; cmp = m i; right = r i }),
-  λ e. both_true _ _ ((term_decides a.left b.left).1 (ap (λ c. c.left) e)) (both_true _ _ ((sign_decides a.cmp b.cmp).1 (ap (λ c. c.cmp) e)) ((term_decides a.right b.right).1 (ap (λ c. c.right) e))),
+  λ e. and_from _ _ ((term_decides a.left b.left).1 (ap (λ c. c.left) e)) (and_from _ _ ((sign_decides a.cmp b.cmp).1 (ap (λ c. c.cmp) e)) ((term_decides a.right b.right).1 (ap (λ c. c.right) e))),
 )
 
 pub both_decide : {A B : Type 0} (a b : Bool) → Decides a A → Decides b B → Decides (a && b) (A × B)
-both_decide a b p q = (λ h. (p.0 (first_true a b h), q.0 (second_true a b h)), λ w. both_true a b (p.1 w.0) (q.1 w.1))
+both_decide a b p q = (λ h. (p.0 (first_true a b h), q.0 (second_true a b h)), λ w. and_from a b (p.1 w.0) (q.1 w.1))
 
 pub parts_decide : (P : Pattern → Pattern → Bool) (C : Comparison → Comparison → Bool) → ((a b : Pattern) → Decides (P a b) (a ≡ b)) → ((a b : Comparison) → Decides (C a b) (a ≡ b))
     → (r s : Rule) (b : Bool) → b ≡ (option_eq (λ m n. pointwise nat_eq m.bytes n.bytes) r.name s.name && (pointwise P r.kept.items s.kept.items && (pointwise P r.removed.items s.removed.items && (pointwise C r.guard.items s.guard.items && pointwise P r.body.items s.body.items))))

@@ -1,16 +1,17 @@
 -- What sorting makes of a list of atoms.
-use Rattle.std.proofs.Common.{◌≡◌, suc, ◌+◌, Bool, true, false, List, [], ◌∷◌, ◌++◌, length, refl, sym, ap, subst, ◌∙◌, arith}
-use Rattle.std.specs.Prelude.{IsTrue, ◌&&◌, ◌↔◌, nat_eq}
+use Rattle.std.proofs.Common.{◌≡◌, suc, ◌+◌, Bool, true, List, [], ◌∷◌, ◌++◌, length, refl, sym, ap, subst, ◌∙◌, arith}
+use Rattle.std.specs.Prelude.{IsTrue, ◌↔◌, nat_eq}
 use Rattle.std.specs.List.Sorted.{IsSorted, IsPermutation}
 use Rattle.std.specs.Ordering.{eq_by_cmp}
 use Rattle.std.specs.Cmp.{tied_itself}
-use Rattle.std.proofs.lemmas.Bool.{eqb-true}
+use Rattle.std.proofs.lemmas.Bool.{eqb-true, and_from}
 use Rattle.chr_base.specs.declared.atom.Atom.{Atom}
 use Rattle.chr_base.specs.Atoms.{atom_cmp, atom_total, atom_exact, same_is, are_same}
 use Rattle.chr_base.specs.Stores.{Store, store_of, store_of-items, store_of-append}
 use Rattle.chr_base.specs.FinBag as bag
 use Rattle.chr_base.proofs.Ordered as ordered
 use Rattle.chr_base.specs.FinBag.{◌⊕◌, is_rising, none_below, none_below_further, total, total_is, is_true, from_true}
+use Rattle.chr_base.specs.Instances.{first_true, second_true}
 use mathlib.Core.Bool.{true≢false}
 
 -- another order, the same multiset
@@ -19,14 +20,6 @@ same_multiset xs ys p = ordered.same_multiset atom_total atom_exact xs ys p
 
 pub rising_from_sorted : (xs : List Atom) → IsSorted atom_cmp xs → IsTrue (is_rising atom_cmp xs)
 rising_from_sorted xs h = ordered.rising_from_sorted atom_total xs h
-
-both_true : (a b : Bool) → a ≡ true → b ≡ true → (a && b) ≡ true
-both_true true b h g = g
-both_true false b h g = absurd (true≢false (sym h))
-
-first_true : (a b : Bool) → (a && b) ≡ true → a ≡ true
-first_true true b h = refl
-first_true false b h = h
 
 -- the items of a list in order
 pub items_in_order : (xs : List Atom) → IsTrue (is_rising atom_cmp xs) → bag.items (store_of xs) ≡ xs
@@ -55,10 +48,6 @@ listed_empty (x ∷ xs) b e = (λ h. absurd (omega (arith, eqb-true (suc (length
 pub empty_or_not : (s : Store) (b : Bool) → b ≡ nat_eq (length (bag.items s)) 0 → IsTrue b ↔ (s ≡ bag.empty)
 empty_or_not s b e = subst (λ t. IsTrue b ↔ (t ≡ bag.empty)) (store_of-items s) (listed_empty (bag.items s) b e)
 
-second_true : (a b : Bool) → (a && b) ≡ true → b ≡ true
-second_true true b h = h
-second_true false b h = absurd (true≢false (sym h))
-
 are_same_sound : (xs ys : List Atom) → are_same xs ys ≡ true → xs ≡ ys
 are_same_sound [] [] h = refl
 are_same_sound [] (y ∷ ys) h = absurd (true≢false (sym h))
@@ -67,7 +56,7 @@ are_same_sound (x ∷ xs) (y ∷ ys) h = λ i. same_is x y (first_true _ _ h) i 
 
 are_same_itself : (xs : List Atom) → are_same xs xs ≡ true
 are_same_itself [] = refl
-are_same_itself (x ∷ xs) = both_true _ _ (let e : eq_by_cmp atom_cmp x x ≡ true = rw (tied_itself atom_total x) refl in e) (are_same_itself xs)
+are_same_itself (x ∷ xs) = and_from _ _ (let e : eq_by_cmp atom_cmp x x ≡ true = rw (tied_itself atom_total x) refl in e) (are_same_itself xs)
 
 pub same_or_not : (xs ys us vs : List Atom) (b : Bool) → us ≡ xs → vs ≡ ys → IsTrue (is_rising atom_cmp xs) → IsTrue (is_rising atom_cmp ys) → b ≡ are_same us vs → IsTrue b ↔ (store_of xs ≡ store_of ys)
 same_or_not xs ys us vs b e f h g k = (

@@ -3,12 +3,14 @@ use Rattle.std.proofs.Common.{◌≡◌, ℕ, zero, suc, ◌≤◌, true, List, 
 use Rattle.std.specs.Prelude.{not, nat_le, ◌&&◌, ◌||◌, slice_get, IsTrue, Option, Some, None}
 use Rattle.std.specs.Map.{values_of}
 use Rattle.std.specs.List.{list_all, list_any}
+use Rattle.std.proofs.lemmas.Bool.{and_from}
 use Rattle.indexmap.specs.Layout.{set_value_at}
 use Rattle.chr_base.specs.declared.program.Symbol.{Symbol}
 use Rattle.chr_base.specs.declared.rule.Rule.{Rule}
 use Rattle.chr_base.specs.declared.term.Pattern.{Pattern}
 use Rattle.chr_base.specs.ProgramTests.{Declaration, declared, declarations_in, with_weight, declares, is_in_range, is_program, are_distinct, fits, takes, is_declared}
-use Rattle.chr_base.proofs.Declared.{kept_by, keep, first_true, second_true, both_true, to_le}
+use Rattle.chr_base.proofs.Declared.{kept_by, keep, to_le}
+use Rattle.chr_base.specs.Instances.{first_true, second_true}
 
 pub weighed : (es : List (Symbol × ℕ)) (i w : ℕ) → declarations_in (set_value_at es i w) ≡ with_weight (declarations_in es) i w
 weighed [] i w = refl
@@ -24,8 +26,8 @@ ranges_with_weight : (ds : List Declaration) (i w : ℕ) → 1 ≤ w → w ≤ 1
 ranges_with_weight [] i w l m h = refl
 ranges_with_weight (d ∷ ds) zero w l m h =
     let here : is_in_range d ≡ true = first_true _ (list_all is_in_range ds) h in
-    both_true _ _ (both_true _ _ (both_true _ _ (first_true _ (nat_le 1 d.weight) (first_true _ (nat_le d.weight 1000000) here)) (to_le _ _ l)) (to_le _ _ m)) (second_true (is_in_range d) _ h)
-ranges_with_weight (d ∷ ds) (suc i) w l m h = both_true _ _ (first_true _ (list_all is_in_range ds) h) (ranges_with_weight ds i w l m (second_true (is_in_range d) _ h))
+    and_from _ _ (and_from _ _ (and_from _ _ (first_true _ (nat_le 1 d.weight) (first_true _ (nat_le d.weight 1000000) here)) (to_le _ _ l)) (to_le _ _ m)) (second_true (is_in_range d) _ h)
+ranges_with_weight (d ∷ ds) (suc i) w l m h = and_from _ _ (first_true _ (list_all is_in_range ds) h) (ranges_with_weight ds i w l m (second_true (is_in_range d) _ h))
 
 any_with_weight : (n : List ℕ) (a : ℕ) (ds : List Declaration) (i w : ℕ) → list_any (declares n a) (with_weight ds i w) ≡ list_any (declares n a) ds
 any_with_weight n a [] i w = refl

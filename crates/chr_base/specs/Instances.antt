@@ -8,7 +8,7 @@ use Rattle.std.specs.Option.{unwrap_or, option_map, option_or}
 use Rattle.std.specs.List.{list_any, list_all}
 use Rattle.std.proofs.Common.{refl, sym, ap, subst, ◌∙◌}
 use mathlib.Core.Bool.{true≢false}
-use Rattle.std.proofs.lemmas.Bool.{eqb-true, eq-eqb}
+use Rattle.std.proofs.lemmas.Bool.{eqb-true, eq-eqb, and_from}
 use Rattle.std.specs.Ordering.{int_cmp, eq_by_cmp}
 use Rattle.std.specs.Cmp.{tied_itself}
 use Rattle.chr_base.specs.declared.atom.Atom.{Atom}
@@ -48,10 +48,6 @@ fires r heads = agree (valuation (heads_of r) heads) (heads_of r) heads && guard
 -- two valuations agree on the variables of these patterns
 abbrev pub SameOn : List Pattern → Valuation → Valuation → Type 0
 SameOn ps v w = (x : ℕ) → occurs x ps ≡ true → v x ≡ w x
-
-both_true : (a b : Bool) → a ≡ true → b ≡ true → (a && b) ≡ true
-both_true true b h g = g
-both_true false b h g = absurd (true≢false (sym h))
 
 pub first_true : (a b : Bool) → (a && b) ≡ true → a ≡ true
 first_true true b h = refl
@@ -111,7 +107,7 @@ known_terms : (ps : List Pattern) (ts : List Term) → ((x : ℕ) → list_any (
 known_terms ps [] h = refl
 known_terms ps (Constant c ∷ ts) h = known_terms ps ts h
 known_terms ps (Variable y ∷ ts) h =
-    both_true _ _ (h y (let e : nat_eq y y ≡ true = eq-eqb y y refl in rw e refl)) (known_terms ps ts (λ x o. h x (later x o)))
+    and_from _ _ (h y (let e : nat_eq y y ≡ true = eq-eqb y y refl in rw e refl)) (known_terms ps ts (λ x o. h x (later x o)))
   where
     later : (x : ℕ) → list_any (is_variable x) ts ≡ true → (nat_eq x y || list_any (is_variable x) ts) ≡ true
     later x o = elim (nat_eq x y) as (λ b. (b || list_any (is_variable x) ts) ≡ true) [ true ↦ refl | false ↦ o ]
@@ -119,7 +115,7 @@ known_terms ps (Variable y ∷ ts) h =
 known_among : (ps qs : List Pattern) → ((x : ℕ) → occurs x qs ≡ true → occurs x ps ≡ true) → list_all (λ p. list_all (is_known ps) p.args.items) qs ≡ true
 known_among ps [] h = refl
 known_among ps (q ∷ qs) h =
-    both_true _ _ (known_terms ps q.args.items (λ x o. h x (let e : list_any (is_variable x) q.args.items ≡ true = o in rw e refl)))
+    and_from _ _ (known_terms ps q.args.items (λ x o. h x (let e : list_any (is_variable x) q.args.items ≡ true = o in rw e refl)))
     (known_among ps qs (λ x o. h x (elim (list_any (is_variable x) q.args.items) as (λ b. (b || occurs x qs) ≡ true) [ true ↦ refl | false ↦ o ])))
 
 pub known_itself : (ps : List Pattern) → list_all (λ p. list_all (is_known ps) p.args.items) ps ≡ true
@@ -133,7 +129,7 @@ agree_sound v (p ∷ ps) (a ∷ as') h = λ i. same_is (atom_at v p) a (first_tr
 
 agree_itself : (v : Valuation) (ps : List Pattern) → agree v ps (atoms_at v ps) ≡ true
 agree_itself v [] = refl
-agree_itself v (p ∷ ps) = both_true _ _ (by (atom_at v p)) (agree_itself v ps)
+agree_itself v (p ∷ ps) = and_from _ _ (by (atom_at v p)) (agree_itself v ps)
   where
     by : (a : Atom) → eq_by_cmp atom_cmp a a ≡ true
     by a = rw (tied_itself atom_total a) refl
@@ -192,7 +188,7 @@ pub fires_complete : (r : Rule) (heads : List Atom) → HasInstance r heads → 
 fires_complete r heads h =
     let same = the_valuation r heads h.0 h.1 in
     let heads_are : atoms_at (valuation (heads_of r) heads) (heads_of r) ≡ heads = same_atoms (heads_of r) (heads_of r) _ h.0 same (known_itself (heads_of r)) ∙ h.1 in
-    both_true (agree (valuation (heads_of r) heads) (heads_of r) heads) (guard_holds (valuation (heads_of r) heads) r.guard.items)
+    and_from (agree (valuation (heads_of r) heads) (heads_of r) heads) (guard_holds (valuation (heads_of r) heads) r.guard.items)
     (subst (λ as'. agree (valuation (heads_of r) heads) (heads_of r) as' ≡ true) heads_are (agree_itself (valuation (heads_of r) heads) (heads_of r)))
     (same_guard (heads_of r) _ h.0 r.guard.items same (guard_known r) ∙ h.2)
 

@@ -1,5 +1,5 @@
 -- Instances of rules, and the steps of a program on stores.
-use Rattle.std.specs.Prelude.{◌≡◌, ℕ, ℤ, Bool, List, ◌++◌, map, Some, slice_get, IsTrue}
+use Rattle.std.specs.Prelude.{◌≡◌, ℕ, ℤ, Bool, List, [], ◌++◌, map, Some, slice_get, IsTrue}
 use Rattle.std.specs.declared.cmp.Ordering.{Ordering}
 use Rattle.std.specs.Ordering.{int_cmp, is_lt, is_le, is_gt, is_ge, is_eq, is_ne}
 use Rattle.std.specs.List.{list_all}
@@ -46,6 +46,10 @@ guard_holds v cs = list_all (comparison_holds v) cs
 -- the heads of a rule, in place order
 abbrev pub heads_of : Rule → List Pattern
 heads_of r = r.kept.items ++ r.removed.items
+
+-- what is read past the last head
+abbrev pub no_pattern : Pattern
+no_pattern = record { symbol = record { 0 = 0 }; args = record { items = [] } }
 
 -- the heads of an instance, in place order
 abbrev pub heads_at : Valuation → Rule → List Atom

@@ -25,8 +25,8 @@ pub struct Rule {
 }
 
 impl Rule {
-    ghost use Rattle.std.specs.Prelude.{◌≡◌, ◌<◌, ◌≤◌, ◌+◌, ◌↔◌, IsTrue, length, List, [], ◌∷◌, ◌++◌};
-    ghost use Rattle.chr_base.specs.Rules.{heads_of, heads_at, atoms_at, atom_at, term_value, comparison_holds, guard_holds, HasInstance, Valuation};
+    ghost use Rattle.std.specs.Prelude.{◌≡◌, ◌<◌, ◌≤◌, ◌+◌, ◌↔◌, IsTrue, length, get_or, List, [], ◌∷◌, ◌++◌};
+    ghost use Rattle.chr_base.specs.Rules.{heads_of, no_pattern, heads_at, atoms_at, atom_at, term_value, comparison_holds, guard_holds, HasInstance, Valuation};
     ghost use Rattle.chr_base.specs.Instances.{value_among, valuation, agree};
     ghost use Rattle.chr_base.specs.Sameness.{parts_of};
 
@@ -37,6 +37,18 @@ impl Rule {
         ensures most { result ≤ 4 }
     {
         self.kept.len() + self.removed.len()
+    }
+
+    /// The head at a place, counted from 0. Kept heads come before removed ones.
+    pub fn head_at(&self, place: usize) -> &Pattern
+        requires { place < length (heads_of self.now) }
+        ensures { result.now ≡ get_or (heads_of self.now) place no_pattern }
+    {
+        if place < self.kept.len() {
+            &self.kept[place]
+        } else {
+            &self.removed[place - self.kept.len()]
+        }
     }
 
     /// The value at a variable's first place in the heads.
@@ -153,6 +165,7 @@ impl Rule {
         }
         body
     }
+
     /// Whether the two have the same name, heads, guard and body.
     pub fn is_same(&self, other: &Rule) -> bool
         ensures { IsTrue result ↔ (parts_of self.now ≡ parts_of other.now) }

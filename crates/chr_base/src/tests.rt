@@ -173,7 +173,12 @@ fn comparisons(rt: HostRuntime) {
 #[test]
 fn instances(rt: HostRuntime) {
     let rule = two_heads(Cmp::Less);
-    assert_eq!(rt; rule.places(), 2);
+    let places = rule.places();
+    assert_eq!(rt; places, 2);
+    if places == 2 {
+        assert_eq!(rt; rule.head_at(0).symbol, SymbolId(0));
+        assert_eq!(rt; rule.head_at(1).symbol, SymbolId(1));
+    }
     assert!(rt; !rule.fires(&[atom(0, &[2, 4, 3]), atom(1, &[9])]));
     assert!(rt; !rule.fires(&[atom(0, &[2, 2, 4]), atom(1, &[9])]));
     assert!(rt; !rule.fires(&[atom(1, &[9]), atom(0, &[2, 2, 3])]));

@@ -21,7 +21,7 @@ use Rattle.chr_base.specs.FinBag.{◌⊕◌, ◌⊖◌, IsWithin, count_in, item
 use Rattle.chr_base.specs.Places.{within_each}
 use Rattle.chr_base.specs.Rewriting.{StepsOrRests, Stays}
 use Rattle.chr_confluence.specs.Values.{is_value, HasValues}
-use Rattle.chr_confluence.specs.Constants.{ConstantsFit}
+use Rattle.chr_confluence.specs.ConstantLaws.{constants_fit}
 use Rattle.chr_confluence.proofs.Rising.{values_kept}
 
 abbrev chosen : List Atom → List (List Atom) → List (List Atom)
@@ -116,6 +116,6 @@ steps_or_rests (r ∷ rules) s =
     later zero x v e u st no_step rest = no_step v u (subst (λ y. StepBy y v s u) (let k : x ≡ r = cc in k) st)
     later (suc i) x v e u st no_step rest = rest u (i, x, v, e, st)
 
--- steps of rules whose constants are 64-bit values stay within these
-pub values_stay : (rules : List Rule) → ConstantsFit rules → Stays (Step rules) HasValues
-values_stay rules fit s t each h = values_kept (λ x. x) is_value h.1 h.2 s t (λ c i. (fit c (h.0, h.1, h.3, i), refl)) each h.4
+-- steps stay within 64-bit values, since the constants of rules are such
+pub values_stay : (rules : List Rule) → Stays (Step rules) HasValues
+values_stay rules s t each h = values_kept (λ x. x) is_value h.1 h.2 s t (λ c i. (constants_fit rules c (h.0, h.1, h.3, i), refl)) each h.4

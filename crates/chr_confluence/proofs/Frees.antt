@@ -9,11 +9,11 @@ use Rattle.chr_base.specs.declared.term.Term.TheVariants.{Variable, Constant}
 use Rattle.chr_base.specs.declared.term.Pattern.{Pattern}
 use Rattle.chr_base.specs.declared.rule.Rule.{Rule}
 use Rattle.chr_base.specs.RuleTests.{terms_of}
-use Rattle.chr_base.specs.Rules.{Valuation, term_value, heads_of}
+use Rattle.chr_base.specs.Rules.{Valuation, term_value, heads_of, no_pattern}
 use Rattle.chr_base.specs.StepLaws.{length-map}
 use Rattle.chr_types.specs.OrderTypes.{In, SameType, pairs}
 use Rattle.chr_confluence.specs.Classes.{Class, IsConstantOn, Solves, is_own}
-use Rattle.chr_confluence.specs.Overlaps.{variables_of, shifted, term_pairs, no_pattern, equations, equations_of}
+use Rattle.chr_confluence.specs.Overlaps.{variables_of, shifted, term_pairs, equations, equations_of}
 use Rattle.chr_confluence.specs.Representatives.{IsConstantOf, AreConstants, guard_terms, free_classes, beside, at_classes}
 use Rattle.chr_confluence.specs.Solving.{same_variable}
 use Rattle.chr_confluence.specs.Solutions.{sides, terms_stand}

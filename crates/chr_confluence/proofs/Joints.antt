@@ -13,13 +13,13 @@ use Rattle.chr_base.specs.declared.term.Term.TheVariants.{Variable, Constant}
 use Rattle.chr_base.specs.declared.term.Pattern.{Pattern}
 use Rattle.chr_base.specs.declared.rule.Rule.{Rule}
 use Rattle.chr_base.specs.RuleTests.{terms_of}
-use Rattle.chr_base.specs.Rules.{Valuation, term_value, atom_at, atoms_at, heads_of}
+use Rattle.chr_base.specs.Rules.{Valuation, term_value, atom_at, atoms_at, heads_of, no_pattern}
 use Rattle.chr_base.specs.StepLaws.{map-append, length-map}
 use Rattle.chr_types.specs.OrderTypes.{In}
 use Rattle.chr_confluence.specs.Matchings.{Agrees, Matches, touches}
 use Rattle.chr_confluence.specs.Cases.{IsCase, both_heads}
 use Rattle.chr_confluence.specs.Classes.{Meets}
-use Rattle.chr_confluence.specs.Overlaps.{SameSymbols, IsMatching, variables_of, shifted, joint, term_pairs, no_pattern, equations, equations_of}
+use Rattle.chr_confluence.specs.Overlaps.{SameSymbols, IsMatching, variables_of, shifted, joint, term_pairs, equations, equations_of}
 use Rattle.chr_confluence.specs.Members.{in_first, in_second}
 use Rattle.chr_confluence.specs.Numbered.{head_variable}
 

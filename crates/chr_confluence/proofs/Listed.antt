@@ -22,7 +22,7 @@ use Rattle.chr_confluence.specs.Cases.{IsCase, both_heads, case_store, side}
 use Rattle.chr_confluence.specs.Classes.{Class, IsConstantOn, Solves, Meets}
 use Rattle.chr_confluence.specs.Overlaps.{variables_of, joint, equations_of}
 use Rattle.chr_confluence.specs.Representatives.{AreConstants, AreRepresentatives, free_classes, beside, left_at, right_at, guards_hold}
-use Rattle.chr_confluence.specs.Constants.{ConstantsFit}
+use Rattle.chr_confluence.specs.ConstantLaws.{constants_fit}
 use Rattle.chr_confluence.specs.Confluence.{not_confluent}
 use Rattle.chr_confluence.specs.Rising.{KeepsOrder, FixesRule, rename, rename_atom}
 use Rattle.chr_confluence.specs.Images.{image, among}
@@ -223,33 +223,33 @@ is_value_of x h =
     let high : int_le x (pos (2 ^ 63 - 1)) ≡ true = grind (arith, ints, b) in
     and_from _ _ low high
 
-module _ (rules : List Rule) (fit : ConstantsFit rules) (i j : ℕ) (r1 r2 : Rule) (at1 : slice_get rules i ≡ Some r1) (at2 : slice_get rules j ≡ Some r2) (m : List ℕ) (σ : Class) (rs : List (List ℤ)) (solves : Solves σ (equations_of r1 r2 m)) (reps : AreRepresentatives rules r1 r2 σ rs) (zs : List ℤ) (listed : In zs rs) where
+module _ (rules : List Rule) (i j : ℕ) (r1 r2 : Rule) (at1 : slice_get rules i ≡ Some r1) (at2 : slice_get rules j ≡ Some r2) (m : List ℕ) (σ : Class) (rs : List (List ℤ)) (solves : Solves σ (equations_of r1 r2 m)) (reps : AreRepresentatives rules r1 r2 σ rs) (zs : List ℤ) (listed : In zs rs) where
   listed_value : (x : ℕ) → 0 < x → x ≤ variables_of r1 + variables_of r2 → is_value (left_at σ r1 r2 zs x) ≡ true
   listed_value x l g = let stated = reps.2.stated zs listed in elim (classified rules i j r1 r2 at1 at2 m σ solves x l g) as (λ _. is_value (left_at σ r1 r2 zs x) ≡ true) [
-    | inl h ↦ ap is_value (ap (term_value (beside (free_classes σ r1 r2) zs)) h.1) ∙ fit h.0 h.2
+    | inl h ↦ ap is_value (ap (term_value (beside (free_classes σ r1 r2) zs)) h.1) ∙ constants_fit rules h.0 h.2
     | inr h ↦ ap is_value (ap (term_value (beside (free_classes σ r1 r2) zs)) h.1)
         ∙ is_value_of (beside (free_classes σ r1 r2) zs h.0) (stated.1.values (beside (free_classes σ r1 r2) zs h.0) (beside_in (free_classes σ r1 r2) zs h.0 (sym stated.0) h.2))
   ]
 
   left_terms : (t : Term) → In t (terms_of (heads_of r1)) → is_value (term_value (left_at σ r1 r2 zs) t) ≡ true
   left_terms (Variable x) h = let b = head_variable r1 x h in let l = b.1 in listed_value x b.0 (omega (arith, l))
-  left_terms (Constant c) h = fit c (head_constant rules i r1 at1 c h)
+  left_terms (Constant c) h = constants_fit rules c (head_constant rules i r1 at1 c h)
 
   right_terms : (t : Term) → In t (terms_of (heads_of r2)) → is_value (term_value (right_at σ r1 r2 zs) t) ≡ true
   right_terms (Variable x) h = let b = head_variable r2 x h in let l = b.0 in let g = b.1 in listed_value (variables_of r1 + x) (omega (arith, l)) (omega (arith, g))
-  right_terms (Constant c) h = fit c (head_constant rules j r2 at2 c h)
+  right_terms (Constant c) h = constants_fit rules c (head_constant rules j r2 at2 c h)
 
   listed_store_values : HasValues (listed_store σ r1 r2 m zs)
   listed_store_values = case_in is_value r1 r2 m (left_at σ r1 r2 zs) (right_at σ r1 r2 zs) (atoms_in is_value (left_at σ r1 r2 zs) (heads_of r1) left_terms) (atoms_in is_value (right_at σ r1 r2 zs) (heads_of r2) right_terms)
 
 pub listed_values : ListedHaveValues
-listed_values rules fit i j r1 r2 at1 at2 m σ rs solves reps zs listed = listed_store_values rules fit i j r1 r2 at1 at2 m σ rs solves reps zs listed
+listed_values rules i j r1 r2 at1 at2 m σ rs solves reps zs listed = listed_store_values rules i j r1 r2 at1 at2 m σ rs solves reps zs listed
 
 pub listed_confluent : ListedMakeConfluent
-listed_confluent rules w lower fit listed = confluent rules w lower fit (peaks_join (atom_in is_value) rules (listed_suffice rules listed))
+listed_confluent rules w lower listed = confluent rules w lower (peaks_join (atom_in is_value) rules (listed_suffice rules listed))
 
 pub failing_listed : FailingListedRefutes
-failing_listed rules fit i j r1 r2 at1 at2 m is σ rs solves reps zs listed guards a b x y differ =
+failing_listed rules i j r1 r2 at1 at2 m is σ rs solves reps zs listed guards a b x y differ =
     let case = listed_case r1 r2 m is σ solves zs guards in
-    not_confluent rules (listed_store σ r1 r2 m zs) (left_side σ r1 r2 m zs) (right_side σ r1 r2 m zs) a b (listed_values rules fit i j r1 r2 at1 at2 m σ rs solves reps zs listed)
+    not_confluent rules (listed_store σ r1 r2 m zs) (left_side σ r1 r2 m zs) (right_side σ r1 r2 m zs) a b (listed_values rules i j r1 r2 at1 at2 m σ rs solves reps zs listed)
     (i, r1, left_at σ r1 r2 zs, at1, left_step r1 r2 m _ _ case) (j, r2, right_at σ r1 r2 zs, at2, right_step r1 r2 m _ _ case) x y differ

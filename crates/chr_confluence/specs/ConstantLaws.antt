@@ -1,7 +1,8 @@
--- The constants of every rule are 64-bit values: its type keeps that.
-use Rattle.std.specs.Prelude.{◌≡◌, Bool, true, ◌&&◌, List, [], ◌∷◌, ◌++◌, ◌⊎◌}
+-- The constants of every rule are 64-bit values: its type keeps that. And rules have one rising list of constants.
+use Rattle.std.specs.Prelude.{◌≡◌, ℤ, ◌<ℤ◌, Bool, true, ◌&&◌, List, [], ◌∷◌, ◌++◌}
 use Rattle.std.specs.List.{list_all}
-use Rattle.std.proofs.Common.{inl, inr, subst, ap, sym, ◌∙◌}
+use Rattle.std.proofs.Common.{inl, inr, ap, ◌∙◌, arith}
+use Rattle.std.proofs.lemmas.Int.{ints}
 use Rattle.chr_base.specs.declared.term.Term.{Term}
 use Rattle.chr_base.specs.declared.term.Term.TheVariants.{Constant}
 use Rattle.chr_base.specs.declared.term.Comparison.{Comparison}
@@ -11,9 +12,13 @@ use Rattle.chr_base.specs.RuleTests.{terms_of, is_valued, are_valued}
 use Rattle.chr_base.specs.Rules.{heads_of}
 use Rattle.chr_base.specs.Instances.{first_true, second_true, valued_rule}
 use Rattle.chr_types.specs.OrderTypes.{In}
+use Rattle.chr_types.specs.RisingLists.{same_members}
 use Rattle.chr_confluence.specs.Members.{in_either}
-use Rattle.chr_confluence.specs.Representatives.{guard_terms, rule_terms}
-use Rattle.chr_confluence.specs.Constants.{ConstantsFit}
+use Rattle.chr_confluence.specs.Representatives.{IsConstantOf, AreConstants, guard_terms, rule_terms}
+use Rattle.chr_confluence.specs.Values.{is_value}
+
+abbrev pub ConstantsFit : List Rule → Type 0
+ConstantsFit rules = (c : ℤ) → IsConstantOf rules c → is_value c ≡ true
 
 in_terms : (ts : List Term) (t : Term) → list_all is_valued ts ≡ true → In t ts → is_valued t ≡ true
 in_terms [] t h i = absurd i
@@ -51,3 +56,8 @@ in_rule r t i =
 
 pub constants_fit : (rules : List Rule) → ConstantsFit rules
 constants_fit rules c h = in_rule h.1 (Constant c) h.3
+
+pub one_constants : (rules : List Rule) (cs ds : List ℤ) → AreConstants rules cs → AreConstants rules ds → cs ≡ ds
+one_constants rules cs ds a b =
+    same_members {A = ℤ} ◌<ℤ◌ (λ c h. omega (arith, ints, h)) (λ c d e h g. omega (arith, ints, h, g)) cs ds a.rise b.rise
+    (λ c i. b.all c (a.stand c i)) (λ c i. a.all c (b.stand c i))

@@ -13,7 +13,6 @@ use Rattle.chr_types.specs.Representatives.{AreTypes}
 use Rattle.chr_confluence.specs.Values.{is_value, atom_in, Each, HasValues}
 use Rattle.chr_confluence.specs.Cases.{side, IsCase, case_store, CasesJoin, Confluent}
 use Rattle.chr_confluence.specs.Representatives.{rule_terms}
-use Rattle.chr_confluence.specs.Constants.{ConstantsFit}
 use Rattle.chr_confluence.specs.Rising.{KeepsOrder, FixesRule, rename}
 use Rattle.chr_confluence.specs.Images.{among}
 use Rattle.chr_confluence.specs.Peaks.{Commute, HoldsCase}
@@ -71,14 +70,14 @@ StoresRest = (rules : List Rule) (w : Atom → ℕ) → RulesLower w rules → (
 
 -- Newman's lemma at stores of 64-bit values
 abbrev pub PeaksMakeConfluent : Type 0
-PeaksMakeConfluent = (rules : List Rule) (w : Atom → ℕ) → RulesLower w rules → ConstantsFit rules → PeaksJoin (Step rules) HasValues → Confluent rules
+PeaksMakeConfluent = (rules : List Rule) (w : Atom → ℕ) → RulesLower w rules → PeaksJoin (Step rules) HasValues → Confluent rules
 
 -- where the sides of each case join, the ends of any two steps from one store do
 abbrev pub CasesMakePeaksJoin : Type 0
 CasesMakePeaksJoin = (rules : List Rule) → CasesJoin (atom_in is_value) rules → PeaksJoin (Step rules) HasValues
 
 abbrev pub CasesMakeConfluent : Type 0
-CasesMakeConfluent = (rules : List Rule) (w : Atom → ℕ) → RulesLower w rules → ConstantsFit rules → CasesJoin (atom_in is_value) rules → Confluent rules
+CasesMakeConfluent = (rules : List Rule) (w : Atom → ℕ) → RulesLower w rules → CasesJoin (atom_in is_value) rules → Confluent rules
 
 -- two normal forms that differ, of the ends of two steps from one store of 64-bit values, refute confluence
 abbrev pub DifferentEndsRefute : Type 0

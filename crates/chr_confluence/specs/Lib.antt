@@ -5,7 +5,6 @@ pub mod Classes
 pub mod Overlaps
 pub mod Representatives
 pub mod Members
-pub mod Constants
 pub mod Rising
 pub mod Images
 pub mod Peaks

@@ -16,7 +16,6 @@ use Rattle.chr_confluence.specs.Cases.{IsCase, both_heads, case_store, side, Cas
 use Rattle.chr_confluence.specs.Classes.{Class, Solves, HasNone}
 use Rattle.chr_confluence.specs.Overlaps.{IsMatching, equations_of}
 use Rattle.chr_confluence.specs.Representatives.{AreRepresentatives, left_at, right_at, guards_hold}
-use Rattle.chr_confluence.specs.Constants.{ConstantsFit}
 use Rattle.chr_confluence.specs.Confluence.{RulesLower}
 use Rattle.chr_confluence.specs.Rising.{KeepsOrder, FixesRule, rename, rename_atom}
 
@@ -78,16 +77,16 @@ ListedAreCases =
 -- of 64-bit values, where the rules' constants are
 abbrev pub ListedHaveValues : Type 0
 ListedHaveValues =
-    (rules : List Rule) → ConstantsFit rules → (i j : ℕ) (r1 r2 : Rule) → slice_get rules i ≡ Some r1 → slice_get rules j ≡ Some r2 → (m : List ℕ) (σ : Class) (rs : List (List ℤ)) → Solves σ (equations_of r1 r2 m)
+    (rules : List Rule) (i j : ℕ) (r1 r2 : Rule) → slice_get rules i ≡ Some r1 → slice_get rules j ≡ Some r2 → (m : List ℕ) (σ : Class) (rs : List (List ℤ)) → Solves σ (equations_of r1 r2 m)
     → AreRepresentatives rules r1 r2 σ rs → (zs : List ℤ) → In zs rs → HasValues (listed_store σ r1 r2 m zs)
 
 -- So rules that lower a weight are confluent where the listed cases join.
 abbrev pub ListedMakeConfluent : Type 0
-ListedMakeConfluent = (rules : List Rule) (w : Atom → ℕ) → RulesLower w rules → ConstantsFit rules → ListedJoin rules → Confluent rules
+ListedMakeConfluent = (rules : List Rule) (w : Atom → ℕ) → RulesLower w rules → ListedJoin rules → Confluent rules
 
 -- And a listed case refutes confluence, where its sides have normal forms that differ.
 abbrev pub FailingListedRefutes : Type 0
 FailingListedRefutes =
-    (rules : List Rule) → ConstantsFit rules → (i j : ℕ) (r1 r2 : Rule) → slice_get rules i ≡ Some r1 → slice_get rules j ≡ Some r2 → (m : List ℕ) → IsMatching r1 r2 m → (σ : Class) (rs : List (List ℤ))
+    (rules : List Rule) (i j : ℕ) (r1 r2 : Rule) → slice_get rules i ≡ Some r1 → slice_get rules j ≡ Some r2 → (m : List ℕ) → IsMatching r1 r2 m → (σ : Class) (rs : List (List ℤ))
     → Solves σ (equations_of r1 r2 m) → AreRepresentatives rules r1 r2 σ rs → (zs : List ℤ) → In zs rs → guards_hold σ r1 r2 zs ≡ true → (a b : Store) → IsNormalForm (Step rules) (left_side σ r1 r2 m zs) a
     → IsNormalForm (Step rules) (right_side σ r1 r2 m zs) b → (a ≡ b → ⊥) → Confluent rules → ⊥

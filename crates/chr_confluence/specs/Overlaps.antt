@@ -10,7 +10,7 @@ use Rattle.chr_base.specs.declared.term.Term.TheVariants.{Variable, Constant}
 use Rattle.chr_base.specs.declared.term.Pattern.{Pattern}
 use Rattle.chr_base.specs.declared.rule.Rule.{Rule}
 use Rattle.chr_base.specs.RuleTests.{numbered, terms_of}
-use Rattle.chr_base.specs.Rules.{Valuation, heads_of}
+use Rattle.chr_base.specs.Rules.{Valuation, heads_of, no_pattern}
 use Rattle.chr_confluence.specs.Matchings.{AreApart, touches}
 
 abbrev pub SameSymbols : List Pattern → List ℕ → List Pattern → Type 0
@@ -51,9 +51,6 @@ abbrev pub term_pairs : List Term → List Term → List (Term × Term)
 term_pairs (t ∷ ts) (u ∷ us) = (t, u) ∷ term_pairs ts us
 term_pairs [] us = []
 term_pairs (t ∷ ts) [] = []
-
-abbrev pub no_pattern : Pattern
-no_pattern = record { symbol = record { 0 = 0 }; args = record { items = [] } }
 
 -- argument by argument, for each matched place
 abbrev pub equations : ℕ → List Pattern → List ℕ → List Pattern → List (Term × Term)

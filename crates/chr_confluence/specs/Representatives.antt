@@ -1,5 +1,6 @@
 -- The representatives of an overlap: a value for each free class, and the valuations that these make.
---     IsConstantOf rules c        the constant stands in a head, a guard or a body of some rule
+--     HasConstant r c        the constant stands in a head, the guard or the body of the rule
+--     IsConstantOf rules c        it does in some rule
 --     AreConstants rules cs        cs are these constants, rising
 --     free_classes σ r1 r2        the classes of the joint variables that are bound to no constant, in the order of first occurrence
 --     at_classes σ fs zs        the joint valuation that gives each free class of fs its value of zs
@@ -25,8 +26,11 @@ guard_terms (c ∷ cs) = c.left ∷ c.right ∷ guard_terms cs
 abbrev pub rule_terms : Rule → List Term
 rule_terms r = terms_of (heads_of r) ++ guard_terms r.guard.items ++ terms_of r.body.items
 
+abbrev pub HasConstant : Rule → ℤ → Type 0
+HasConstant r c = In (Constant c) (rule_terms r)
+
 abbrev pub IsConstantOf : List Rule → ℤ → Type 0
-IsConstantOf rules c = (i : ℕ) × (r : Rule) × (slice_get rules i ≡ Some r) × In (Constant c) (rule_terms r)
+IsConstantOf rules c = (i : ℕ) × (r : Rule) × (slice_get rules i ≡ Some r) × HasConstant r c
 
 pub record AreConstants (rules : List Rule) (cs : List ℤ) : Type 0 where
   pub rise : Rises cs

@@ -25,8 +25,8 @@ pub fn peak()
     ensures right { RightSideIsStep }
 {}
 
-/// Newman's lemma, for rules that lower a weight and whose constants are 64-bit values: where the ends of any two steps
-/// from one store of such values reach a common store, any two normal forms of one such store are equal (Newman 1942).
+/// Newman's lemma, for rules that lower a weight: where the ends of any two steps from one store of 64-bit values reach a
+/// common store, any two normal forms of one such store are equal (Newman 1942).
 pub fn newman()
     ensures rests { StoresRest }
     ensures confluent { PeaksMakeConfluent }

@@ -1,12 +1,11 @@
 -- Each step of a listed case is an instance in the case's store.
-use Rattle.std.specs.Prelude.{◌≡◌, ℕ, zero, suc, ℤ, ◌+◌, ◌-◌, ◌<◌, Bool, true, false, cond, List, [], ◌∷◌, map, Option, Some, None, slice_get}
+use Rattle.std.specs.Prelude.{◌≡◌, ℕ, zero, suc, ◌-◌, Bool, true, false, cond, List, [], ◌∷◌, map, Some, None, slice_get}
 use Rattle.std.specs.List.{filter}
 use Rattle.std.proofs.Common.{refl, sym, ap, subst, ◌∙◌, arith, ◌⊎◌, inl, inr}
+use Rattle.std.proofs.lemmas.Option.{same_Some}
 use Rattle.chr_base.specs.declared.rule.Rule.{Rule}
-use Rattle.chr_base.specs.Rules.{HasInstance}
 use Rattle.chr_rewrite.specs.Plain.{IsStepAt}
 use Rattle.chr_types.specs.OrderTypes.{In}
-use Rattle.chr_confluence.specs.Cases.{IsCase}
 use Rattle.chr_confluence.specs.Classes.{HasNone}
 use Rattle.chr_confluence.specs.Overlaps.{IsMatching, equations_of}
 use Rattle.chr_confluence.specs.Representatives.{left_at, right_at, guards_hold}
@@ -33,12 +32,9 @@ matching_at rules o r1 r2 h e g =
     let i = h.0 in let j = h.1 in let a = h.2.0 in let b = h.2.1 in let is = h.2.2 in
     let place1 : o.first - 1 ≡ i = omega (arith, a) in
     let place2 : o.second - 1 ≡ j = omega (arith, b) in
-    let same1 : is.rule1 ≡ r1 = one rules i is.rule1 r1 is.first (subst (λ n. slice_get rules n ≡ Some r1) place1 e) in
-    let same2 : is.rule2 ≡ r2 = one rules j is.rule2 r2 is.second (subst (λ n. slice_get rules n ≡ Some r2) place2 g) in
+    let same1 : is.rule1 ≡ r1 = same_Some _ _ (sym is.first ∙ subst (λ n. slice_get rules n ≡ Some r1) place1 e) in
+    let same2 : is.rule2 ≡ r2 = same_Some _ _ (sym is.second ∙ subst (λ n. slice_get rules n ≡ Some r2) place2 g) in
     subst (λ r. IsMatching r1 r o.matching.items) same2 (subst (λ r. IsMatching r is.rule2 o.matching.items) same1 is.matching)
-  where
-    one : (rules : List Rule) (n : ℕ) (x y : Rule) → slice_get rules n ≡ Some x → slice_get rules n ≡ Some y → x ≡ y
-    one rules n x y h g = cc
 
 -- what the laws say of cases
 pub record CaseLaws : Type 0 where

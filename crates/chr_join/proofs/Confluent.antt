@@ -1,36 +1,32 @@
 -- An accepted program is confluent, and one that is refused with a failing case is not.
-use Rattle.std.specs.Prelude.{◌≡◌, ℕ, zero, suc, ℤ, ◌+◌, ◌-◌, ◌≤◌, Bool, true, false, cond, List, [], ◌∷◌, ◌++◌, map, Option, Some, None, slice_get, ◌⊎◌}
+use Rattle.std.specs.Prelude.{◌≡◌, ℕ, zero, suc, ◌-◌, Bool, true, false, cond, List, [], ◌∷◌, map, Some, None, slice_get, ◌⊎◌}
 use Rattle.std.specs.List.{filter}
 use Rattle.std.proofs.Common.{refl, sym, ap, subst, ◌∙◌, arith, inl, inr}
+use Rattle.std.proofs.lemmas.Option.{same_Some}
 use Rattle.chr_base.specs.declared.rule.Rule.{Rule}
 use Rattle.chr_base.specs.declared.derivation.Step.{Step as StepValue}
-use Rattle.chr_base.specs.declared.program.Program.{Program}
-use Rattle.chr_base.specs.Programs.{rules_of}
-use Rattle.chr_weights.specs.Weights.{weight_in, ProgramLowers}
 use Rattle.chr_base.specs.Stores.{Store}
-use Rattle.chr_base.specs.Rules.{Step, StepBy, Valuation, heads_at}
-use Rattle.chr_base.specs.Rewriting.{Join, IsNormalForm}
+use Rattle.chr_base.specs.Rules.{StepBy, Valuation, heads_at}
 use Rattle.chr_rewrite.specs.Pools.{StepOn}
 use Rattle.chr_rewrite.specs.Plain.{Takes, PlainRuns}
 use Rattle.chr_rewrite.specs.PlainLaws.{StepOn-once, plain_reaches, plain_normal}
 use Rattle.chr_types.specs.OrderTypes.{In}
 use Rattle.chr_confluence.specs.Cases.{side, Confluent}
 use Rattle.chr_confluence.specs.Classes.{HasNone}
-use Rattle.chr_confluence.specs.Overlaps.{IsOverlap, IsMatching, equations_of}
+use Rattle.chr_confluence.specs.Overlaps.{IsMatching, equations_of}
 use Rattle.chr_confluence.specs.Representatives.{left_at, right_at, guards_hold}
-use Rattle.chr_confluence.specs.Laws.{LeftSideIsStep, RightSideIsStep}
-use Rattle.chr_confluence.specs.Listed.{ListedAreCases, ListedJoin, OverlapJoins, ListedMakeConfluent, FailingListedRefutes}
-use Rattle.chr_confluence.specs.ConstantLaws.{constants_fit}
+use Rattle.chr_confluence.specs.Listed.{ListedJoin, OverlapJoins, ListedMakeConfluent, FailingListedRefutes}
 use Rattle.chr_overlaps.specs.declared.overlap.Overlap.{Overlap}
 use Rattle.chr_overlaps.specs.declared.cases.Case.{Case}
 use Rattle.chr_overlaps.specs.OverlapLists.{IsOverlapOf}
-use Rattle.chr_overlaps.specs.CaseLists.{AreCases, AreListed, case_at}
-use Rattle.chr_join.specs.Sides.{SideEnds, Joins}
+use Rattle.chr_overlaps.specs.CaseLists.{AreListed, case_at}
+use Rattle.chr_join.specs.Sides.{Joins}
 use Rattle.chr_join.specs.Verdicts.{CasesJoin, AllJoin, IsAccepted}
 use Rattle.chr_join.specs.declared.refused.Failure.{Failure}
 use Rattle.chr_join.specs.declared.refused.Cause.{Cause}
 use Rattle.chr_join.specs.declared.refused.Cause.TheVariants as cause
 use Rattle.chr_join.specs.Explanations.{Explains, IsRefusal, IsFailing}
+use Rattle.chr_join.specs.Once.{AcceptedAreConfluent}
 use Rattle.chr_join.proofs.CaseSteps.{CaseLaws, picked, matching_at}
 use Rattle.chr_join.proofs.Verdicts.{in_at}
 
@@ -54,13 +50,10 @@ joined_in rules (p ∷ os) n o h (inr i) = joined_in rules os h.1 o h.3 i
 -- the side of a listed case is where its step leads
 side_taken : (rules : List Rule) (s u : Store) (st : StepValue) (r : Rule) (v : Valuation) → slice_get rules (st.rule - 1) ≡ Some r → st.heads.items ≡ heads_at v r → StepBy r v s (side r v s) → Takes rules st s u → u ≡ side r v s
 side_taken rules s u st r v named heads step taken =
-    let same : taken.0.rule ≡ r = one rules (st.rule - 1) taken.0.rule r taken.0.named named in
+    let same : taken.0.rule ≡ r = same_Some _ _ (sym taken.0.named ∙ named) in
     let on : StepOn r st.heads.items s u = subst (λ x. StepOn x st.heads.items s u) same taken.1 in
     let mine : StepOn r st.heads.items s (side r v s) = (v, sym heads, step) in
     StepOn-once r st.heads.items s u (side r v s) on mine
-  where
-    one : (rules : List Rule) (n : ℕ) (x y : Rule) → slice_get rules n ≡ Some x → slice_get rules n ≡ Some y → x ≡ y
-    one rules n x y h g = cc
 
 listed_joins : CaseLaws → (rules : List Rule) (o : Overlap) (r1 r2 : Rule) (m : List ℕ) → slice_get rules (o.first - 1) ≡ Some r1 → slice_get rules (o.second - 1) ≡ Some r2 → o.matching.items ≡ m → IsMatching r1 r2 m
     → (cs : List Case) → AreListed rules o r1 r2 cs → ((k : ℕ) (c : Case) → slice_get cs k ≡ Some c → Joins rules c) → OverlapJoins rules r1 r2 m
@@ -89,20 +82,17 @@ pub accepted_joins : CaseLaws → (rules : List Rule) (n : ℕ) → IsAccepted r
 accepted_joins laws rules n h i j r1 r2 first second ordered m is =
     let found = h.listed.all i j m (record { rule1 = r1; rule2 = r2; first = first; second = second; ordered = ordered; matching = is }) in
     let o = found.0 in
-    let joined = joined_in rules h.overlaps h.cases o h.join found.1 in
+    let joined = joined_in rules h.overlaps n o h.join found.1 in
     let a = found.2 in let b = found.3 in
     let place1 : i ≡ o.first - 1 = omega (arith, a) in
     let place2 : j ≡ o.second - 1 = omega (arith, b) in
     by o joined.1 (subst (λ n. slice_get rules n ≡ Some r1) place1 first) (subst (λ n. slice_get rules n ≡ Some r2) place2 second) found.4
   where
-    one : (rules : List Rule) (n : ℕ) (x y : Rule) → slice_get rules n ≡ Some x → slice_get rules n ≡ Some y → x ≡ y
-    one rules n x y h g = cc
-
     by : (o : Overlap) {k : ℕ} → CasesJoin rules o k → slice_get rules (o.first - 1) ≡ Some r1 → slice_get rules (o.second - 1) ≡ Some r2 → o.matching.items ≡ m → OverlapJoins rules r1 r2 m
     by o cj f s e =
         let are = cj.listed in
-        let same1 = one rules (o.first - 1) are.rule1 r1 are.first f in
-        let same2 = one rules (o.second - 1) are.rule2 r2 are.second s in
+        let same1 = same_Some _ _ (sym are.first ∙ f) in
+        let same2 = same_Some _ _ (sym are.second ∙ s) in
         elim (subst (λ r. (HasNone (equations_of r1 r o.matching.items) × (cj.cases ≡ [])) ⊎ AreListed rules o r1 r cj.cases) same2
         (subst (λ r. (HasNone (equations_of r are.rule2 o.matching.items) × (cj.cases ≡ [])) ⊎ AreListed rules o r are.rule2 cj.cases) same1 are.listed)) as (λ _. OverlapJoins rules r1 r2 m) [
           | inl none ↦ inl (subst (λ m. HasNone (equations_of r1 r2 m)) e none.0)
@@ -110,8 +100,8 @@ accepted_joins laws rules n h i j r1 r2 first second ordered m is =
         ]
 
 -- Accepted rules that lower a weight are confluent.
-pub accepted_confluent : ListedMakeConfluent → CaseLaws → (p : Program) (n : ℕ) → ProgramLowers p → IsAccepted (rules_of p) n → Confluent (rules_of p)
-accepted_confluent law laws p n lowers h = law (rules_of p) (weight_in p) lowers (constants_fit (rules_of p)) (accepted_joins laws (rules_of p) n h)
+pub accepted_confluent : ListedMakeConfluent → CaseLaws → AcceptedAreConfluent
+accepted_confluent law laws rules w n lowers h = law rules w lowers (accepted_joins laws rules n h)
 
 -- A case that fails refutes confluence.
 pub failing_refutes : FailingListedRefutes → CaseLaws → (rules : List Rule) (f : Failure) → IsRefusal rules (cause.Fails f) → Confluent rules → ⊥
@@ -134,7 +124,7 @@ failing_refutes law laws rules f h = by h.1.1.listed.listed
         let e = subst (λ y. Explains rules y f) (sym at.3) h.1.2 in
         let left = side_taken rules x.store e.left_ends.0 x.left r1 v1 are.first refl (laws.left r1 r2 m v1 v2 case) e.left_ends.1 in
         let right = side_taken rules x.store e.right_ends.0 x.right r2 v2 are.second refl (laws.right r1 r2 m v1 v2 case) e.right_ends.1 in
-        law rules (constants_fit rules) (f.overlap.first - 1) (f.overlap.second - 1) r1 r2 are.first are.second m is l.classes l.representatives l.solves l.types zs at.1 at.2 f.left_end f.right_end
+        law rules (f.overlap.first - 1) (f.overlap.second - 1) r1 r2 are.first are.second m is l.classes l.representatives l.solves l.types zs at.1 at.2 f.left_end f.right_end
         (plain_normal rules e.left_rest _ f.left_end (subst (λ y. PlainRuns rules e.left_rest y f.left_end) left e.left_ends.2))
         (plain_normal rules e.right_rest _ f.right_end (subst (λ y. PlainRuns rules e.right_rest y f.right_end) right e.right_ends.2)) e.differ
 

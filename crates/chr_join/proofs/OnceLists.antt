@@ -1,59 +1,30 @@
 -- Rules have one list of overlaps, and an overlap has one list of cases, or else too many order types.
-use Rattle.std.specs.Prelude.{◌≡◌, ℕ, ℤ, pos, ◌-◌, ◌<ℤ◌, List, [], ◌∷◌, ◌⊎◌, length, map, Some, slice_get}
+use Rattle.std.specs.Prelude.{◌≡◌, ℕ, pos, ◌-◌, List, [], ◌⊎◌, length, map, Some, slice_get}
 use Rattle.std.specs.List.{filter}
-use Rattle.std.proofs.Common.{refl, sym, ap, subst, ◌∙◌, arith, inl, inr}
-use Rattle.std.proofs.lemmas.Int.{ints}
+use Rattle.std.proofs.Common.{sym, ap, subst, ◌∙◌, inl, inr}
+use Rattle.std.proofs.lemmas.Option.{same_Some}
 use mathlib.Core.Bool.{true≢false}
 use Rattle.std.specs.Ordering.{is_lt}
 use Rattle.std.specs.declared.cmp.Ordering.TheVariants.{Less}
 use Rattle.std.proofs.lemmas.Cmp.{nat_list_cmp_total, tied_itself}
 use Rattle.chr_base.specs.declared.term.Term.{Term}
 use Rattle.chr_base.specs.declared.rule.Rule.{Rule}
-use Rattle.chr_types.specs.OrderTypes.{In, Rises, MoreTypesThan}
+use Rattle.chr_types.specs.OrderTypes.{In, MoreTypesThan}
+use Rattle.chr_types.specs.RisingLists.{same_members}
 use Rattle.chr_types.specs.Representatives.{AreTypes}
 use Rattle.chr_types.proofs.OneList.{one_list}
 use Rattle.chr_types.proofs.TooMany.{not_more}
 use Rattle.chr_confluence.specs.Classes.{Class, Solves, HasNone}
 use Rattle.chr_confluence.specs.Overlaps.{equations_of}
-use Rattle.chr_confluence.specs.Representatives.{AreConstants, AreRepresentatives, free_classes, guards_hold}
+use Rattle.chr_confluence.specs.Representatives.{AreRepresentatives, free_classes, guards_hold}
+use Rattle.chr_confluence.specs.ConstantLaws.{one_constants}
 use Rattle.chr_confluence.specs.Solutions.{spread, spread_constant, one_solution}
 use Rattle.chr_overlaps.specs.declared.overlap.Overlap.{Overlap}
 use Rattle.chr_overlaps.specs.declared.cases.Case.{Case}
-use Rattle.chr_overlaps.specs.OverlapLists.{overlap_cmp, entries, OverlapsRise, AreOverlaps}
+use Rattle.chr_overlaps.specs.OverlapLists.{overlap_cmp, entries, AreOverlaps}
 use Rattle.chr_overlaps.specs.CaseLists.{types_limit, case_at, AreListed, AreCases, IsTooMany}
 
--- ---- lists that rise
-
--- each stands before all after it
-abbrev RisesBy : {A : Type 0} → (A → A → Type 0) → List A → Type 0
-RisesBy Before [] = Unit {0}
-RisesBy {A} Before (x ∷ xs) = ((y : A) → In y xs → Before x y) × RisesBy Before xs
-
-module _ {A : Type 0} (Before : A → A → Type 0) (never : (x : A) → Before x x → ⊥) (trans : (x y z : A) → Before x y → Before y z → Before x z) where
-  -- two rising lists with the same members are equal
-  same_members : (xs ys : List A) → RisesBy Before xs → RisesBy Before ys → ((x : A) → In x xs → In x ys) → ((y : A) → In y ys → In y xs) → xs ≡ ys
-  same_members [] [] h g to from = refl
-  same_members [] (y ∷ ys) h g to from = absurd (from y (inl refl))
-  same_members (x ∷ xs) [] h g to from = absurd (to x (inl refl))
-  same_members (x ∷ xs) (y ∷ ys) h g to from = λ t. first t ∷ same_members xs ys h.1 g.1 rest_to rest_from t
-    where
-      first : x ≡ y
-      first = elim (to x (inl refl)) as (λ _. x ≡ y) [
-        | inl e ↦ e
-        | inr i ↦ elim (from y (inl refl)) as (λ _. x ≡ y) [ inl e ↦ sym e | inr j ↦ absurd (never x (trans x y x (h.0 y j) (g.0 x i))) ]
-      ]
-
-      rest_to : (z : A) → In z xs → In z ys
-      rest_to z i = elim (to z (inr i)) as (λ _. In z ys) [ inl e ↦ absurd (never z (subst (λ w. Before w z) (first ∙ sym e) (h.0 z i))) | inr j ↦ j ]
-
-      rest_from : (z : A) → In z ys → In z xs
-      rest_from z i = elim (from z (inr i)) as (λ _. In z xs) [ inl e ↦ absurd (never z (subst (λ w. Before w z) (sym first ∙ sym e) (g.0 z i))) | inr j ↦ j ]
-
 -- ---- overlaps
-
-overlaps_rise : (os : List Overlap) → OverlapsRise os → RisesBy (λ o p. overlap_cmp o p ≡ Less) os
-overlaps_rise [] h = tt
-overlaps_rise (o ∷ os) h = (h.0, overlaps_rise os h.1)
 
 same_overlap : (o p : Overlap) → o.first ≡ p.first → o.second ≡ p.second → o.matching.items ≡ p.matching.items → o ≡ p
 same_overlap o p first second matching = λ t. record { first = first t; second = second t; matching = record { items = matching t } }
@@ -63,7 +34,7 @@ one_overlaps rules os ps a b =
     same_members {A = Overlap} (λ o p. overlap_cmp o p ≡ Less)
     (λ o h. true≢false (sym (ap is_lt h) ∙ ap is_lt (tied_itself nat_list_cmp_total (entries o))))
     (λ o p q h g. nat_list_cmp_total.trans (entries o) (entries p) (entries q) h g)
-    os ps (overlaps_rise os a.rise) (overlaps_rise ps b.rise) (over os ps a b) (over ps os b a)
+    os ps a.rise b.rise (over os ps a b) (over ps os b a)
   where
     over : (os ps : List Overlap) → AreOverlaps rules os → AreOverlaps rules ps → (o : Overlap) → In o os → In o ps
     over os ps a b o i =
@@ -71,21 +42,7 @@ one_overlaps rules os ps a b =
         let there = b.all is.0 is.1 o.matching.items is.2.2 in
         subst (λ p. In p ps) (same_overlap there.0 o (there.2 ∙ sym is.2.0) (there.3 ∙ sym is.2.1) there.4) there.1
 
--- ---- constants
-
-constants_rise : (cs : List ℤ) → Rises cs → RisesBy (λ c d. c <ℤ d) cs
-constants_rise [] h = tt
-constants_rise (c ∷ cs) h = (h.0, constants_rise cs h.1)
-
-one_constants : (rules : List Rule) (cs ds : List ℤ) → AreConstants rules cs → AreConstants rules ds → cs ≡ ds
-one_constants rules cs ds a b =
-    same_members {A = ℤ} (λ c d. c <ℤ d) (λ c h. omega (arith, ints, h)) (λ c d e h g. omega (arith, ints, h, g)) cs ds (constants_rise cs a.rise) (constants_rise ds b.rise)
-    (λ c i. b.all c (a.stand c i)) (λ c i. a.all c (b.stand c i))
-
 -- ---- cases
-
-pub same_place : {A : Type 0} (xs : List A) (k : ℕ) (x y : A) → slice_get xs k ≡ Some x → slice_get xs k ≡ Some y → x ≡ y
-same_place xs k x y h g = cc
 
 -- classes that solve equations show a valuation that meets them
 solved_meet : (σ : Class) (es : List (Term × Term)) → Solves σ es → HasNone es → ⊥
@@ -109,8 +66,8 @@ Listed rules o r1 r2 cs = (HasNone (equations_of r1 r2 o.matching.items) × (cs 
 -- the listing at these rules, which are those of the overlap
 listed_at : (rules : List Rule) (o : Overlap) (cs : List Case) (r1 r2 : Rule) → slice_get rules (o.first - 1) ≡ Some r1 → slice_get rules (o.second - 1) ≡ Some r2 → AreCases rules o cs → Listed rules o r1 r2 cs
 listed_at rules o cs r1 r2 first second are =
-    subst (λ r. Listed rules o r1 r cs) (same_place rules (o.second - 1) are.rule2 r2 are.second second)
-    (subst (λ r. Listed rules o r are.rule2 cs) (same_place rules (o.first - 1) are.rule1 r1 are.first first) are.listed)
+    subst (λ r. Listed rules o r1 r cs) (same_Some _ _ (sym are.second ∙ second))
+    (subst (λ r. Listed rules o r are.rule2 cs) (same_Some _ _ (sym are.first ∙ first)) are.listed)
 
 pub one_cases : (rules : List Rule) (o : Overlap) (cs ds : List Case) → AreCases rules o cs → AreCases rules o ds → cs ≡ ds
 one_cases rules o cs ds a b = by (listed_at rules o cs b.rule1 b.rule2 b.first b.second a) b.listed
@@ -139,10 +96,10 @@ pub one_number : (rules : List Rule) (o : Overlap) (n m : ℕ) → IsTooMany rul
 one_number rules o n m a b = a.number ∙ (λ t. length (free_classes (classes t) (one t) (two t))) ∙ sym b.number
   where
     one : a.rule1 ≡ b.rule1
-    one = same_place rules (o.first - 1) a.rule1 b.rule1 a.first b.first
+    one = same_Some a.rule1 b.rule1 (sym a.first ∙ b.first)
 
     two : a.rule2 ≡ b.rule2
-    two = same_place rules (o.second - 1) a.rule2 b.rule2 a.second b.second
+    two = same_Some a.rule2 b.rule2 (sym a.second ∙ b.second)
 
     mine : Solves a.classes (equations_of b.rule1 b.rule2 o.matching.items)
     mine = subst (λ r. Solves a.classes (equations_of b.rule1 r o.matching.items)) two (subst (λ r. Solves a.classes (equations_of r a.rule2 o.matching.items)) one a.solves)

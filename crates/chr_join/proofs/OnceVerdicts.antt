@@ -1,12 +1,9 @@
 -- Rules have one verdict.
-use Rattle.std.specs.Prelude.{◌≡◌, ℕ, zero, suc, ◌+◌, ◌-◌, ◌^◌, ◌<◌, List, [], ◌∷◌, length, min, Some, None, slice_get}
+use Rattle.std.specs.Prelude.{◌≡◌, ℕ, zero, suc, ◌+◌, ◌<◌, List, [], ◌∷◌, length, Some, None, slice_get}
 use Rattle.std.proofs.Common.{sym, ap, subst, ◌∙◌, arith, inl, inr}
 use Rattle.std.proofs.lemmas.Bool.{cases_lt}
+use Rattle.std.proofs.lemmas.Option.{same_Some}
 use Rattle.chr_base.specs.declared.rule.Rule.{Rule}
-use Rattle.chr_base.specs.declared.derivation.Step.{Step}
-use Rattle.chr_base.specs.Stores.{Store}
-use Rattle.chr_rewrite.specs.Plain.{PlainRuns}
-use Rattle.chr_rewrite.specs.PlainLaws.{Takes-once, plain_once}
 use Rattle.chr_overlaps.specs.declared.overlap.Overlap.{Overlap}
 use Rattle.chr_overlaps.specs.declared.cases.Case.{Case}
 use Rattle.chr_overlaps.specs.CaseLists.{IsTooMany}
@@ -14,19 +11,14 @@ use Rattle.chr_join.specs.declared.refused.Failure.{Failure}
 use Rattle.chr_join.specs.declared.refused.TooMany.{TooMany}
 use Rattle.chr_join.specs.declared.refused.Cause.{Cause}
 use Rattle.chr_join.specs.declared.refused.Cause.TheVariants as cause
-use Rattle.chr_join.specs.Sides.{SideEnds, Joins}
+use Rattle.chr_join.specs.Sides.{Joins}
 use Rattle.chr_join.specs.Verdicts.{CasesJoin, AllJoin, IsFirst, IsFirstCase}
 use Rattle.chr_join.specs.Explanations.{Explains, IsRefusal}
 use Rattle.chr_join.specs.Once.{IsOfMemory, SameFailure, AcceptedOnce, RefusedOnce, NeverBoth}
-use Rattle.chr_join.proofs.OnceLists.{same_place, one_overlaps, one_cases, cases_or_many, one_number}
+use Rattle.chr_join.proofs.SideSteps.{side_once}
+use Rattle.chr_join.proofs.OnceLists.{one_overlaps, one_cases, cases_or_many, one_number}
 
 -- ---- sides
-
--- a side has one derivation
-side_once : (rules : List Rule) (s : Store) (st : Step) (xs ys : List Step) (t u : Store) → SideEnds rules s st xs t → SideEnds rules s st ys u → (xs ≡ ys) × (t ≡ u)
-side_once rules s st xs ys t u h g =
-    let same = Takes-once rules st s h.0 g.0 h.1 g.1 in
-    plain_once rules xs ys g.0 t u (subst (λ x. PlainRuns rules xs x t) same h.2) g.2
 
 joins_or_fails : (rules : List Rule) (c : Case) (f : Failure) → Joins rules c → Explains rules c f → ⊥
 joins_or_fails rules c f j e =
@@ -58,7 +50,7 @@ first_once P xs i j x y at_i at_j before_i before_j not_x not_y =
       | inl l ↦ absurd (not_x (before_j i x l at_i))
       | inr g ↦ elim (cases_lt j i) as (λ _. x ≡ y) [
         | inl l ↦ absurd (not_y (before_i j y l at_j))
-        | inr l ↦ (let e : i ≡ j = omega (arith, g, l) in same_place xs j x y (subst (λ k. slice_get xs k ≡ Some x) e at_i) at_j)
+        | inr l ↦ (let e : i ≡ j = omega (arith, g, l) in same_Some x y (sym at_i ∙ ap (slice_get xs) e ∙ at_j))
       ]
     ]
 
@@ -106,8 +98,7 @@ joined_at rules (p ∷ os) n (suc k) o h e = joined_at rules os h.1 k o h.3 e
 pub accepted_once : AcceptedOnce
 accepted_once rules n m a b =
     let same = one_overlaps rules a.overlaps b.overlaps a.listed b.listed in
-    let total = one_total rules b.overlaps a.cases b.cases (subst (λ os. AllJoin rules os a.cases) same a.join) b.join in
-    a.number ∙ ap (λ k. min k (2 ^ 64 - 1)) total ∙ sym b.number
+    one_total rules b.overlaps n m (subst (λ os. AllJoin rules os n) same a.join) b.join
 
 -- ---- refused rules
 
@@ -117,7 +108,7 @@ never_both rules n e a h = by e h
     joined : (o : Overlap) → IsFirst rules o → (m : ℕ) × CasesJoin rules o m
     joined o first =
         let same = one_overlaps rules first.overlaps a.overlaps first.listed a.listed in
-        joined_at rules a.overlaps a.cases first.place o a.join (subst (λ os. slice_get os first.place ≡ Some o) same first.there)
+        joined_at rules a.overlaps n first.place o a.join (subst (λ os. slice_get os first.place ≡ Some o) same first.there)
 
     by : (e : Cause) → IsRefusal rules e → IsOfMemory e
     by (cause.Fails f) h = fails_unjoined rules f.overlap h.1.0 f h.1.1 h.1.2 (joined f.overlap h.0)

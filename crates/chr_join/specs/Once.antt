@@ -5,12 +5,16 @@
 --     AcceptedOnce        accepted rules have one number of cases
 --     RefusedOnce        rules that are refused have one cause, but for want of memory
 --     NeverBoth        accepted rules are refused for want of memory alone
+--     AcceptedAreConfluent        accepted rules that lower a weight are confluent
 use Rattle.std.specs.Prelude.{◌≡◌, ℕ, List}
+use Rattle.chr_base.specs.declared.atom.Atom.{Atom}
 use Rattle.chr_base.specs.declared.rule.Rule.{Rule}
 use Rattle.chr_join.specs.declared.refused.Failure.{Failure}
 use Rattle.chr_join.specs.declared.refused.Cause.{Cause}
 use Rattle.chr_join.specs.declared.refused.Cause.TheVariants as cause
 use Rattle.chr_join.specs.Verdicts.{IsAccepted}
+use Rattle.chr_confluence.specs.Cases.{Confluent}
+use Rattle.chr_confluence.specs.Confluence.{RulesLower}
 use Rattle.chr_join.specs.Explanations.{IsRefusal}
 
 abbrev pub IsOfMemory : Cause → Type 0
@@ -47,3 +51,6 @@ RefusedOnce = (rules : List Rule) (e g : Cause) → IsRefusal rules e → IsRefu
 
 abbrev pub NeverBoth : Type 0
 NeverBoth = (rules : List Rule) (n : ℕ) (e : Cause) → IsAccepted rules n → IsRefusal rules e → IsOfMemory e
+
+abbrev pub AcceptedAreConfluent : Type 0
+AcceptedAreConfluent = (rules : List Rule) (w : Atom → ℕ) (n : ℕ) → RulesLower w rules → IsAccepted rules n → Confluent rules

@@ -6,7 +6,7 @@ use Rattle.std.specs.Prelude.{◌≡◌, List}
 use Rattle.chr_base.specs.declared.rule.Rule.{Rule}
 use Rattle.chr_base.specs.declared.derivation.Step.{Step}
 use Rattle.chr_base.specs.Stores.{Store}
-use Rattle.chr_rewrite.specs.Plain.{IsStepAt, Takes, PlainRuns}
+use Rattle.chr_rewrite.specs.Plain.{Takes, PlainRuns}
 use Rattle.chr_overlaps.specs.declared.cases.Case.{Case}
 
 abbrev pub SideEnds : List Rule → Store → Step → List Step → Store → Type 0

@@ -1,10 +1,10 @@
 -- The verdict on a program: overlaps are taken in order, and in each its cases in order.
 --     CasesJoin rules o n        each case of the overlap o joins, and there are n
 --     AllJoin rules os n        so it is with each of these overlaps, and there are n cases in all
---     IsAccepted rules n        so it is with all overlaps of the rules
+--     IsAccepted rules n        so it is with all overlaps of the rules, and they have n cases in all
 --     IsFirst rules o        o is an overlap of the rules, and each case of those before it joins
 --     IsFirstCase rules o c        c is a case of the overlap o, and each of its cases before c joins
-use Rattle.std.specs.Prelude.{◌≡◌, ℕ, ◌+◌, ◌-◌, ◌^◌, ◌<◌, List, [], ◌∷◌, length, min, Some, slice_get}
+use Rattle.std.specs.Prelude.{◌≡◌, ℕ, ◌+◌, ◌<◌, List, [], ◌∷◌, length, Some, slice_get}
 use Rattle.chr_base.specs.declared.rule.Rule.{Rule}
 use Rattle.chr_overlaps.specs.declared.overlap.Overlap.{Overlap}
 use Rattle.chr_overlaps.specs.declared.cases.Case.{Case}
@@ -22,13 +22,10 @@ abbrev pub AllJoin : List Rule → List Overlap → ℕ → Type 0
 AllJoin rules [] n = n ≡ 0
 AllJoin rules (o ∷ os) n = (k : ℕ) × (m : ℕ) × CasesJoin rules o k × AllJoin rules os m × (n ≡ k + m)
 
--- The number stays at the greatest of 64 bits.
 pub record IsAccepted (rules : List Rule) (n : ℕ) : Type 0 where
   pub overlaps : List Overlap
-  pub cases : ℕ
   pub listed : AreOverlaps rules overlaps
-  pub join : AllJoin rules overlaps cases
-  pub number : n ≡ min cases (2 ^ 64 - 1)
+  pub join : AllJoin rules overlaps n
 
 pub record IsFirst (rules : List Rule) (o : Overlap) : Type 0 where
   pub overlaps : List Overlap

@@ -5,9 +5,8 @@ ghost use Rattle.chr_confluence.specs.Cases.{Confluent};
 ghost use Rattle.chr_confluence.specs.Confluence.{Confluent-prop};
 ghost use Rattle.chr_join.specs.Verdicts.{IsAccepted};
 
+use crate::once::accepted_are_confluent;
 use chr_base::program::Program;
-use chr_confluence::laws::peak;
-use chr_confluence::listing::{listed_cases, listed_confluence};
 use chr_weights::Weighed;
 
 /// A program that lowers, and of whose overlaps no case fails. So it is confluent: a store of 64-bit values has one
@@ -30,9 +29,7 @@ impl Accepted {
         ensures weighed { weighed_of result ≡ weighed }
         ensures cases { cases_of result ≡ cases }
     {
-        peak();
-        listed_cases();
-        listed_confluence();
+        accepted_are_confluent();
         Accepted { weighed, cases }
     }
 
@@ -51,7 +48,7 @@ impl Accepted {
         self.weighed.program()
     }
 
-    /// The number of all cases of its overlaps. It stays at the greatest u64.
+    /// The number of all cases of its overlaps.
     pub fn cases(&self) -> u64
         ensures { result ≡ cases_of self.now }
     {

@@ -11,7 +11,7 @@ ghost use Rattle.chr_overlaps.specs.CaseLists.{AreCases};
 ghost use Rattle.chr_join.specs.AcceptedPrograms.{weighed_of, cases_of};
 ghost use Rattle.chr_join.specs.Sides.{Joins, Fails};
 ghost use Rattle.chr_join.specs.Verdicts.{CasesJoin, IsAccepted, IsFirstCase};
-ghost use Rattle.chr_join.specs.Explanations.{Explains, RefusesAt, IsRefusal, IsFailing};
+ghost use Rattle.chr_join.specs.Explanations.{Explains, RefusesAt, IsRefusal, IsFailing, FailingReplays};
 
 use crate::accepted::Accepted;
 use crate::refused::{Cause, Failure, Refused, TooMany};
@@ -114,7 +114,7 @@ fn check_all(alloc: Global, weighed: &Weighed) -> Result<u64, Cause>
     let mut total: u64 = 0;
     for overlap in &overlaps {
         match check_overlap(alloc, weighed, overlap, &constants) {
-            Ok(cases) => total = total.saturating_add(cases as u64),
+            Ok(cases) => total += cases as u64,
             Err(cause) => return Err(cause),
         }
     }
@@ -134,6 +134,7 @@ pub fn accept(alloc: Global, weighed: Weighed) -> Result<Accepted, Refused>
     ensures accepted { IfOk result (λ a. IsAccepted (rules_of (program_of weighed)) (cases_of a)) }
     ensures handed_back { IfErr result (λ e. e.weighed ≡ weighed) }
     ensures refused { IfErr result (λ e. IsRefusal (rules_of (program_of weighed)) e.cause) }
+    ensures replays { IfErr result (λ e. FailingReplays (rules_of (program_of weighed)) e.cause) }
     ensures confluent { OnOk result (Confluent (rules_of (program_of weighed))) }
     ensures not_confluent { IfErr result (λ e. IsFailing e.cause → Confluent (rules_of (program_of weighed)) → ⊥) }
 {

@@ -13,5 +13,5 @@ mod tests;
 
 pub use accepted::Accepted;
 pub use checking::accept;
-pub use once::verdict_is_one;
+pub use once::{accepted_are_confluent, verdict_is_one};
 pub use refused::{Cause, Failure, Refused, TooMany};

@@ -6,11 +6,11 @@ use Rattle.chr_base.specs.declared.term.Term.{Term}
 use Rattle.chr_base.specs.declared.term.Term.TheVariants.{Variable, Constant}
 use Rattle.chr_base.specs.declared.term.Pattern.{Pattern}
 use Rattle.chr_base.specs.declared.rule.Rule.{Rule}
-use Rattle.chr_base.specs.Rules.{heads_of}
+use Rattle.chr_base.specs.Rules.{heads_of, no_pattern}
 use Rattle.chr_base.specs.RuleTests.{terms_of}
 use Rattle.chr_types.specs.OrderTypes.{In}
 use Rattle.chr_confluence.specs.Members.{in_first, in_second}
-use Rattle.chr_confluence.specs.Overlaps.{variables_of, shifted, no_pattern}
+use Rattle.chr_confluence.specs.Overlaps.{variables_of, shifted}
 use Rattle.chr_confluence.specs.Numbered.{head_variable}
 use Rattle.chr_overlaps.specs.Tables.{are_below}
 

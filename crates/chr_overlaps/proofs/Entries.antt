@@ -1,13 +1,14 @@
 -- One entry of a matching: when it may stand behind others.
-use Rattle.std.specs.Prelude.{◌≡◌, ℕ, zero, suc, ◌+◌, ◌<◌, Bool, true, false, not, ◌&&◌, ◌||◌, nat_eq, List, [], ◌∷◌, ◌++◌, length, get_or, Some, slice_get}
+use Rattle.std.specs.Prelude.{◌≡◌, ℕ, zero, suc, ◌+◌, ◌<◌, true, false, not, ◌&&◌, ◌||◌, nat_eq, List, [], ◌∷◌, ◌++◌, length, get_or, Some, slice_get}
 use Rattle.std.proofs.Common.{refl, sym, ap, ◌∙◌, arith, eqb-true, eq-eqb}
-use mathlib.Core.Bool.{true≢false}
 use Rattle.std.proofs.lemmas.Bool.Decides.{nat_tests}
 use Rattle.std.proofs.lemmas.List.Folds.{list_any-append}
 use Rattle.std.proofs.lemmas.Option.{slice_get-get_or, get_or_from_slice_get, slice_get_within}
+use Rattle.std.proofs.lemmas.Bool.{and_parts, not-true, or_parts}
 use Rattle.chr_base.specs.declared.term.Pattern.{Pattern}
+use Rattle.chr_base.specs.Rules.{no_pattern}
 use Rattle.chr_confluence.specs.Matchings.{names, AreApart}
-use Rattle.chr_confluence.specs.Overlaps.{SameSymbols, no_pattern}
+use Rattle.chr_confluence.specs.Overlaps.{SameSymbols}
 use Rattle.chr_overlaps.specs.Listing.{same_symbol, may_follow}
 
 -- the entry is 0, or a place that m does not name
@@ -32,26 +33,14 @@ pub symbol_within : (qs : List Pattern) (p : Pattern) (e : ℕ) → HasSymbol qs
 symbol_within qs p zero h = omega arith
 symbol_within qs p (suc k) h = let l = slice_get_within qs k h.0 h.1 in omega (arith, l)
 
-both : (a b : Bool) → (a && b) ≡ true → (a ≡ true) × (b ≡ true)
-both true b h = (refl, h)
-both false b h = absurd (true≢false (sym h))
-
-not_false : (b : Bool) → not b ≡ true → b ≡ false
-not_false true h = absurd (true≢false (sym h))
-not_false false h = refl
-
-neither : (a b : Bool) → (a || b) ≡ false → (a ≡ false) × (b ≡ false)
-neither true b h = absurd (true≢false h)
-neither false b h = (refl, h)
-
 -- what the test says
 pub follows_means : (qs : List Pattern) (m : List ℕ) (p : Pattern) (e : ℕ) → e < length qs + 1 → may_follow qs m p e ≡ true → IsNew m e × HasSymbol qs p e
 follows_means qs m p zero l h = (tt, tt)
 follows_means qs m p (suc k) l h =
     let q : Pattern = get_or qs k no_pattern in
-    let parts = both (not (names m (suc k))) (same_symbol p q) h in
-    let same = both (nat_eq p.symbol.0 q.symbol.0) (nat_eq (length p.args.items) (length q.args.items)) parts.1 in
-    (not_false (names m (suc k)) parts.0, (q, slice_get-get_or qs k no_pattern (omega arith), eqb-true p.symbol.0 q.symbol.0 same.0, eqb-true (length p.args.items) (length q.args.items) same.1))
+    let parts = and_parts (not (names m (suc k))) (same_symbol p q) h in
+    let same = and_parts (nat_eq p.symbol.0 q.symbol.0) (nat_eq (length p.args.items) (length q.args.items)) parts.1 in
+    (not-true (names m (suc k)) parts.0, (q, slice_get-get_or qs k no_pattern (omega arith), eqb-true p.symbol.0 q.symbol.0 same.0, eqb-true (length p.args.items) (length q.args.items) same.1))
 
 pub means_follows : (qs : List Pattern) (m : List ℕ) (p : Pattern) (e : ℕ) → IsNew m e → HasSymbol qs p e → may_follow qs m p e ≡ true
 means_follows qs m p zero n h = refl
@@ -73,16 +62,16 @@ names_more : (m : List ℕ) (p e : ℕ) → names m p ≡ false → nat_eq p e �
 names_more m p e h g = list_any-append (nat_eq p) m (e ∷ []) ∙ ap (λ b. b || (nat_eq p e || false)) h ∙ ap (λ b. b || false) g
 
 names_less : (m t : List ℕ) (p e : ℕ) → names (m ++ e ∷ t) p ≡ false → nat_eq p e ≡ false
-names_less m t p e h = (neither (nat_eq p e) (names t p) (neither (names m p) (names (e ∷ t) p) (sym (list_any-append (nat_eq p) m (e ∷ t)) ∙ h)).1).0
+names_less m t p e h = (or_parts (nat_eq p e) (names t p) (or_parts (names m p) (names (e ∷ t) p) (sym (list_any-append (nat_eq p) m (e ∷ t)) ∙ h)).1).0
 
 -- a list that names no place twice, with a new entry at its end
 pub apart_more : (m : List ℕ) (e : ℕ) → AreApart m → IsNew m e → AreApart (m ++ e ∷ [])
 apart_more [] zero a n = tt
 apart_more [] (suc k) a n = (refl, tt)
 apart_more (zero ∷ m) zero a n = apart_more m zero a tt
-apart_more (zero ∷ m) (suc k) a n = apart_more m (suc k) a (neither (nat_eq (suc k) 0) (names m (suc k)) n).1
+apart_more (zero ∷ m) (suc k) a n = apart_more m (suc k) a (or_parts (nat_eq (suc k) 0) (names m (suc k)) n).1
 apart_more (suc l ∷ m) zero a n = (names_more m (suc l) 0 a.0 (zero_other l), apart_more m zero a.1 tt)
-apart_more (suc l ∷ m) (suc k) a n = (names_more m (suc l) (suc k) a.0 (other_way (suc k) (suc l) (neither (nat_eq (suc k) (suc l)) (names m (suc k)) n).0), apart_more m (suc k) a.1 (neither (nat_eq (suc k) (suc l)) (names m (suc k)) n).1)
+apart_more (suc l ∷ m) (suc k) a n = (names_more m (suc l) (suc k) a.0 (other_way (suc k) (suc l) (or_parts (nat_eq (suc k) (suc l)) (names m (suc k)) n).0), apart_more m (suc k) a.1 (or_parts (nat_eq (suc k) (suc l)) (names m (suc k)) n).1)
 
 -- in such a list each entry is new behind those before it
 pub new_there : (m t : List ℕ) (e : ℕ) → AreApart (m ++ e ∷ t) → IsNew m e

@@ -11,3 +11,4 @@ pub mod HeadsAt
 pub mod Gathered
 pub mod Kept
 pub mod OneList
+pub mod Few

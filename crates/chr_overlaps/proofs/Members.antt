@@ -1,5 +1,5 @@
 -- What stands in a list that is put together from others, and when such a list of overlaps rises.
-use Rattle.std.specs.Prelude.{◌≡◌, ℕ, zero, suc, ◌+◌, ◌<◌, ◌≤◌, Bool, true, false, cond, List, [], ◌∷◌, ◌++◌, ◌⊎◌}
+use Rattle.std.specs.Prelude.{◌≡◌, ℕ, zero, suc, ◌+◌, ◌<◌, ◌≤◌, Bool, true, false, cond, List, [], ◌∷◌, ◌++◌}
 use Rattle.std.specs.List.{flat_map, range_with_len}
 use Rattle.std.specs.declared.cmp.Ordering.TheVariants.{Less}
 use Rattle.std.specs.Ordering.{nat_cmp, ordering_then}
@@ -9,22 +9,9 @@ use Rattle.std.proofs.lemmas.Cmp.{nat_cmp_total}
 use Rattle.std.proofs.lemmas.Bool.{cases_lt}
 use Rattle.std.proofs.Common.{refl, sym, ap, subst, ◌∙◌, inl, inr, arith}
 use Rattle.chr_types.specs.OrderTypes.{In}
+use Rattle.chr_confluence.specs.Members.{in_first, in_second, in_either}
 use Rattle.chr_overlaps.specs.declared.overlap.Overlap.{Overlap}
 use Rattle.chr_overlaps.specs.OverlapLists.{overlap_cmp, OverlapsRise}
-
-in_either : {A : Type 0} (x : A) (xs ys : List A) → In x (xs ++ ys) → In x xs ⊎ In x ys
-in_either x [] ys i = inr i
-in_either x (z ∷ xs) ys (inl e) = inl (inl e)
-in_either x (z ∷ xs) ys (inr i) = elim (in_either x xs ys i) as (λ _. In x (z ∷ xs) ⊎ In x ys) [ inl j ↦ inl (inr j) | inr j ↦ inr j ]
-
-in_first : {A : Type 0} (x : A) (xs ys : List A) → In x xs → In x (xs ++ ys)
-in_first x [] ys i = elim i [ ]
-in_first x (z ∷ xs) ys (inl e) = inl e
-in_first x (z ∷ xs) ys (inr i) = inr (in_first x xs ys i)
-
-in_second : {A : Type 0} (x : A) (xs ys : List A) → In x ys → In x (xs ++ ys)
-in_second x [] ys i = i
-in_second x (z ∷ xs) ys i = inr (in_second x xs ys i)
 
 pub in_some : {A : Type 0} (x : A) (f : ℕ → List A) (ks : List ℕ) → In x (flat_map f ks) → (k : ℕ) × In k ks × In x (f k)
 in_some x f [] i = elim i [ ]

@@ -6,8 +6,9 @@ use Rattle.std.proofs.lemmas.List.{drop_all}
 use Rattle.std.proofs.lemmas.Option.{slice_get_within}
 use Rattle.chr_base.specs.declared.term.Term.{Term}
 use Rattle.chr_base.specs.declared.term.Pattern.{Pattern}
+use Rattle.chr_base.specs.Rules.{no_pattern}
 use Rattle.chr_confluence.specs.Classes.{Class, Solves, HasNone}
-use Rattle.chr_confluence.specs.Overlaps.{SameSymbols, shifted, term_pairs, equations, no_pattern}
+use Rattle.chr_confluence.specs.Overlaps.{SameSymbols, shifted, term_pairs, equations}
 use Rattle.chr_confluence.specs.Solving.{single, class_of, joined, solve, Solved, solved}
 
 solve-append : (σ : Class) (es fs : List (Term × Term)) → solve σ (es ++ fs) ≡ option_and_then (λ τ. solve τ fs) (solve σ es)

@@ -5,8 +5,7 @@ use Rattle.std.proofs.Common.{refl, sym, ap, ◌∙◌, arith, append-nil, drop-
 use Rattle.std.proofs.lemmas.List.{flat_map_more}
 use Rattle.std.proofs.lemmas.Option.{slice_get_read}
 use Rattle.chr_base.specs.declared.rule.Rule.{Rule}
-use Rattle.chr_base.specs.Rules.{heads_of}
-use Rattle.chr_confluence.specs.Overlaps.{no_pattern}
+use Rattle.chr_base.specs.Rules.{heads_of, no_pattern}
 use Rattle.chr_overlaps.specs.declared.overlap.Overlap.{Overlap}
 use Rattle.chr_overlaps.specs.Listing.{may_follow, with_entry, going_on, overlaps_behind, begun, overlaps_at, overlaps_of_pair}
 

@@ -7,9 +7,8 @@ use Rattle.std.specs.Prelude.{ℕ, zero, suc, ◌+◌, ◌-◌, Bool, true, not,
 use Rattle.std.specs.List.{flat_map, range_with_len}
 use Rattle.chr_base.specs.declared.term.Pattern.{Pattern}
 use Rattle.chr_base.specs.declared.rule.Rule.{Rule}
-use Rattle.chr_base.specs.Rules.{heads_of}
+use Rattle.chr_base.specs.Rules.{heads_of, no_pattern}
 use Rattle.chr_confluence.specs.Matchings.{names, touches}
-use Rattle.chr_confluence.specs.Overlaps.{no_pattern}
 use Rattle.chr_overlaps.specs.declared.overlap.Overlap.{Overlap}
 
 abbrev pub same_symbol : Pattern → Pattern → Bool

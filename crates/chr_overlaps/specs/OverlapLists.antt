@@ -2,13 +2,13 @@
 --     IsOverlapOf rules o        the overlap o is one of these rules
 --     overlap_cmp o p        their order: by the first rule, then the second, then the matching entry by entry
 --     AreOverlaps rules os        os are all overlaps of these rules, each once, in this order
-use Rattle.std.specs.Prelude.{◌≡◌, ℕ, ◌+◌, List, [], ◌∷◌}
+use Rattle.std.specs.Prelude.{◌≡◌, ℕ, ◌+◌, List, ◌∷◌}
 use Rattle.std.specs.declared.cmp.Ordering.{Ordering}
 use Rattle.std.specs.declared.cmp.Ordering.TheVariants.{Less}
 use Rattle.std.specs.Ordering.{nat_cmp}
 use Rattle.std.specs.Cmp.Lexicographic.{slice_cmp}
 use Rattle.chr_base.specs.declared.rule.Rule.{Rule}
-use Rattle.chr_types.specs.OrderTypes.{In}
+use Rattle.chr_types.specs.OrderTypes.{In, RisesBy}
 use Rattle.chr_confluence.specs.Overlaps.{IsOverlap}
 use Rattle.chr_overlaps.specs.declared.overlap.Overlap.{Overlap}
 
@@ -25,10 +25,8 @@ entries o = o.first ∷ o.second ∷ o.matching.items
 abbrev pub overlap_cmp : Overlap → Overlap → Ordering
 overlap_cmp o p = slice_cmp nat_cmp (entries o) (entries p)
 
--- each stands before all after it
 abbrev pub OverlapsRise : List Overlap → Type 0
-OverlapsRise [] = Unit {0}
-OverlapsRise (o ∷ os) = ((p : Overlap) → In p os → overlap_cmp o p ≡ Less) × OverlapsRise os
+OverlapsRise = RisesBy (λ o p. overlap_cmp o p ≡ Less)
 
 pub record AreOverlaps (rules : List Rule) (os : List Overlap) : Type 0 where
   pub each : (o : Overlap) → In o os → IsOverlapOf rules o

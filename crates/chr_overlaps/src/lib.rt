@@ -5,9 +5,9 @@ pub mod cases;
 mod classes;
 pub mod constants;
 mod fault;
-mod heads;
 mod instances;
 mod listing;
+mod numbered;
 mod overlap;
 #[cfg(test)]
 mod tests;

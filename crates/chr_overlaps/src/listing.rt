@@ -2,10 +2,9 @@
 ghost use Rattle.std.specs.Prelude.{◌≡◌, ◌<◌, ◌≤◌, ◌+◌, ◌++◌, OnOk, IfOk, length, get_or, drop, nat_lt};
 ghost use Rattle.std.specs.List.{list_any};
 ghost use Rattle.chr_base.specs.Programs.{rules_of};
-ghost use Rattle.chr_base.specs.Rules.{heads_of};
+ghost use Rattle.chr_base.specs.Rules.{heads_of, no_pattern};
 ghost use Rattle.chr_weights.specs.WeighedPrograms.{program_of};
 ghost use Rattle.chr_confluence.specs.Matchings.{touches};
-ghost use Rattle.chr_confluence.specs.Overlaps.{no_pattern};
 ghost use Rattle.chr_overlaps.specs.OverlapLists.{AreOverlaps};
 ghost use Rattle.chr_overlaps.specs.Listing.{same_symbol, may_follow, overlaps_behind, overlaps_of_rule};
 
@@ -23,18 +22,6 @@ fn has_same_symbol(first: &Pattern, second: &Pattern) -> bool
     first.symbol.0 == second.symbol.0 && first.args.len() == second.args.len()
 }
 
-/// The pattern at a head place, which is counted from 0.
-fn head(rule: &Rule, place: usize) -> &Pattern
-    requires { place < length (heads_of rule.now) }
-    ensures { result.now ≡ get_or (heads_of rule.now) place no_pattern }
-{
-    if place < rule.kept.len() {
-        &rule.kept[place]
-    } else {
-        &rule.removed[place - rule.kept.len()]
-    }
-}
-
 /// Whether the next place can have this entry: 0, or a place of the second rule that has the same symbol and isn't
 /// matched yet.
 fn may_follow(first: &Rule, second: &Rule, begun: &[u8], entry: u8) -> bool
@@ -46,7 +33,7 @@ fn may_follow(first: &Rule, second: &Rule, begun: &[u8], entry: u8) -> bool
         return true;
     }
     let place = usize::from(entry) - 1;
-    !begun.contains(&entry) && has_same_symbol(head(first, begun.len()), head(second, place))
+    !begun.contains(&entry) && has_same_symbol(first.head_at(begun.len()), second.head_at(place))
 }
 
 /// Whether an entry is greater than this.
@@ -109,9 +96,11 @@ fn add_overlaps_of(rules: &[Rule], place: usize, found: &mut Vec<Overlap>) -> Re
 }
 
 /// All overlaps of the program's rules, by first rule, second rule and matching: every way in which heads of a rule
-/// match heads of a later rule, or of its own renamed copy, of which at least one is removed.
+/// match heads of a later rule, or of its own renamed copy, of which at least one is removed. There are at most
+/// 64 * 64 * 5 ^ 4 of them.
 pub fn overlaps(alloc: Global, weighed: &Weighed) -> Result<Vec<Overlap>, AllocError>
-    ensures { IfOk result (λ os. AreOverlaps (rules_of (program_of weighed.now)) os.items) }
+    ensures overlaps { IfOk result (λ os. AreOverlaps (rules_of (program_of weighed.now)) os.items) }
+    ensures few { IfOk result (λ os. length os.items ≤ 2560000) }
 {
     let rules = weighed.program().rules();
     let mut found = Vec::new(alloc);

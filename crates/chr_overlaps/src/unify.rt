@@ -1,14 +1,14 @@
 //! The heads of two rules, made one at matched places.
 ghost use Rattle.std.specs.Prelude.{◌≡◌, ◌+◌, ◌-◌, ◌<◌, IfNone, IfSome, Some, None, cond, get_or, length, map};
-ghost use Rattle.chr_base.specs.Rules.{heads_of};
+ghost use Rattle.chr_base.specs.Rules.{heads_of, no_pattern};
 ghost use Rattle.chr_confluence.specs.Classes.{Solves, HasNone};
-ghost use Rattle.chr_confluence.specs.Overlaps.{SameSymbols, variables_of, shifted, term_pairs, equations, equations_of, no_pattern};
+ghost use Rattle.chr_confluence.specs.Overlaps.{SameSymbols, variables_of, shifted, term_pairs, equations, equations_of};
 ghost use Rattle.chr_confluence.specs.Solving.{solve};
 ghost use Rattle.chr_overlaps.specs.Tables.{class_in, class_pattern};
 ghost use Rattle.chr_overlaps.specs.Unifiers.{classes_of, IsUnified};
 
 use crate::classes::Classes;
-use crate::heads::{head_at, variables};
+use crate::numbered::variables;
 use arrayvec::ArrayVec;
 use chr_base::rule::Rule;
 use chr_base::term::Pattern;
@@ -40,8 +40,8 @@ fn join_at(
     ensures classes { cond result (Some (class_in classes.new.terms.items)) None ≡ solve (class_in classes.old.terms.items) (term_pairs (get_or (heads_of first.now) place no_pattern).args.items (map (shifted shift) (get_or (heads_of second.now) matched no_pattern).args.items)) }
     ensures len { length classes.new.terms.items ≡ length classes.old.terms.items }
 {
-    let left = head_at(first, place);
-    let right = head_at(second, matched);
+    let left = first.head_at(place);
+    let right = second.head_at(matched);
     classes.join_terms(&left.args, shift, &right.args)
 }
 
@@ -75,7 +75,7 @@ fn class_heads(classes: &Classes, rule: &Rule, shift: u8) -> ArrayVec<Pattern, 4
 {
     let mut heads = ArrayVec::new();
     for place in 0..rule.places() {
-        heads.push(classes.class_pattern(shift, head_at(rule, place)));
+        heads.push(classes.class_pattern(shift, rule.head_at(place)));
     }
     heads
 }

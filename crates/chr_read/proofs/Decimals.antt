@@ -6,12 +6,12 @@ use Rattle.std.specs.List.{list_all}
 use Rattle.std.specs.Str.Parse.{digits_value}
 use Rattle.std.proofs.lemmas.Bool.Decides.{nat_tests}
 use Rattle.std.proofs.lemmas.Fmt.{decimal_nonempty, decimal_digit, digits_decimal, digits_value-decimal}
+use Rattle.std.proofs.lemmas.Bool.{and_from, and_parts}
 use Rattle.chr_base.specs.Values.{is_value}
 use Rattle.chr_syntax.specs.Lexemes.{IsDigits, IsNumber}
 use Rattle.chr_read.specs.Numbers.{is_digit, is_numeral, signed, number_of, arity_of, as_weight, weight_of}
 use Rattle.chr_read.proofs.Numbers.{own}
 use Rattle.chr_read.proofs.PlainBytes.{from_test}
-use Rattle.chr_read.proofs.Booleans.{both, each}
 
 -- ---- digits
 
@@ -32,10 +32,10 @@ decimal_number n h = are_number (decimal n) (decimal_nonempty n h) (decimal_digi
 -- ---- values
 
 pub value_pos : (n : ℕ) → is_value (pos n) ≡ true → n < 2 ^ 63
-value_pos n h = let e : nat_le n 9223372036854775807 ≡ true = (each (int_le (neg_ℤ (pos (2 ^ 63))) (pos n)) _ h).1 in grind (arith, nat_tests)
+value_pos n h = let e : nat_le n 9223372036854775807 ≡ true = (and_parts (int_le (neg_ℤ (pos (2 ^ 63))) (pos n)) _ h).1 in grind (arith, nat_tests)
 
 pub value_neg : (n : ℕ) → is_value (negsuc n) ≡ true → n < 2 ^ 63
-value_neg n h = let e : nat_le n 9223372036854775807 ≡ true = (each (int_le (neg_ℤ (pos (2 ^ 63))) (negsuc n)) _ h).0 in grind (arith, nat_tests)
+value_neg n h = let e : nat_le n 9223372036854775807 ≡ true = (and_parts (int_le (neg_ℤ (pos (2 ^ 63))) (negsuc n)) _ h).0 in grind (arith, nat_tests)
 
 pub signed_number : (z : ℤ) → is_value z ≡ true → IsNumber (signed_decimal z)
 signed_number (pos n) h = let l = value_pos n h in decimal_number n (omega (arith, l))
@@ -43,12 +43,12 @@ signed_number (negsuc n) h =
     let l = value_neg n h in let m : suc n < 2 ^ 64 = omega (arith, l) in inr (refl, are_digits (decimal (suc n)) (decimal_nonempty (suc n) m) (decimal_digits (suc n) m))
 
 numeral : (w : List ℕ) → 0 < length w → list_all is_digit w ≡ true → is_numeral w ≡ true
-numeral w l h = both (nat_lt 0 (length w)) _ (grind (arith, nat_tests)) h
+numeral w l h = and_from (nat_lt 0 (length w)) _ (grind (arith, nat_tests)) h
 
 plain_read : (w : List ℕ) (n : ℕ) → 0 < length w → list_all is_digit w ≡ true → digits_value 10 w ≡ n → n < 2 ^ 63 → number_of w ≡ Some (pos n)
 plain_read [] n l h v small = absurd (omega arith)
 plain_read (b ∷ bs) n l h v small =
-    let d = (each (is_digit b) (list_all is_digit bs) h).0 in
+    let d = (and_parts (is_digit b) (list_all is_digit bs) h).0 in
     let no_minus : (b == 45) ≡ false = grind (arith, nat_tests) in
     let fits : nat_lt n (2 ^ 63) ≡ true = grind (arith, nat_tests) in
     ap (λ m. cond (is_numeral (cond m bs (b ∷ bs))) (signed m (digits_value 10 (cond m bs (b ∷ bs)))) None) no_minus
@@ -83,4 +83,4 @@ pub weight_back : (n : ℕ) → 1 ≤ n → n ≤ 1000000 → weight_of (decimal
 weight_back n l h =
     let a : nat_le 1 n ≡ true = grind (arith, nat_tests) in
     let b : nat_le n 1000000 ≡ true = grind (arith, nat_tests) in
-    ap (option_and_then as_weight) (weight_number n h) ∙ ap (λ t. cond t (Some n) None) (both (nat_le 1 n) (nat_le n 1000000) a b)
+    ap (option_and_then as_weight) (weight_number n h) ∙ ap (λ t. cond t (Some n) None) (and_from (nat_le 1 n) (nat_le n 1000000) a b)

@@ -1,6 +1,6 @@
 -- Symbols that are not declared twice can be declared one after another.
 use Rattle.std.proofs.Common.{◌≡◌, ℕ, ◌+◌, ◌-◌, ◌≤◌, List, [], ◌∷◌, ◌++◌, length, Bool, true, false, not, cond, ◌||◌, ◌&&◌, nat_lt, nat_le, nat_eq, Option, Some, None, is_some, is_none, unwrap_or, option_and_then, position, refl, sym, ap, ◌∙◌, length-append, arith}
-use Rattle.std.proofs.lemmas.Bool.{false≢true}
+use Rattle.std.proofs.lemmas.Bool.{false≢true, or_parts, and_from, and_parts}
 use Rattle.std.proofs.lemmas.Bool.Decides.{nat_tests}
 use Rattle.std.proofs.lemmas.List.Folds.{list_any-append}
 use Rattle.std.proofs.lemmas.Option.{none-some, same_Some}
@@ -14,7 +14,6 @@ use Rattle.chr_read.specs.Faults.{is_name, place_of, is_known, same_symbol, come
 use Rattle.chr_read.specs.Reading.{declared_symbol}
 use Rattle.chr_read.specs.Adding.{can_declare_all}
 use Rattle.chr_read.proofs.Positions.{position_any}
-use Rattle.chr_read.proofs.Booleans.{neither, both, each}
 
 -- ---- an arity has one list of digits without leading zeros
 
@@ -30,7 +29,7 @@ small_digits (b ∷ []) n h = by (nat_le 49 b && nat_le b 52) refl h
     by false e h = absurd (none-some n h)
     by true e h =
         let is = same_Some _ _ h in
-        let low : 49 ≤ b = let p = (each (nat_le 49 b) (nat_le b 52) e).0 in grind (arith, nat_tests) in
+        let low : 49 ≤ b = let p = (and_parts (nat_le 49 b) (nat_le b 52) e).0 in grind (arith, nat_tests) in
         let more : nat_eq n 0 ≡ false = grind (arith, nat_tests) in
         let back : b ≡ 48 + n = omega (arith, is, low) in
         ap (λ x. x ∷ []) back ∙ sym (ap (λ t. cond t [] ((48 + n) ∷ [])) more)
@@ -50,12 +49,12 @@ differs s t n some is other = by (declares t.name n (declared_symbol s)) refl
     same None e f names arities = absurd (false≢true (sym f))
     same (Some m) e f names arities =
         let is_n : m ≡ n = grind (arith, nat_tests) in
-        both _ _ (equal_bytes s.name t.name (sym ((bytes_eq-Decides t.name s.name).0 names))) (equal_bytes _ _ (same_digits s.arity t.arity n (e ∙ ap Some is_n) is))
+        and_from _ _ (equal_bytes s.name t.name (sym ((bytes_eq-Decides t.name s.name).0 names))) (equal_bytes _ _ (same_digits s.arity t.arity n (e ∙ ap Some is_n) is))
 
     by : (b : Bool) → declares t.name n (declared_symbol s) ≡ b → b ≡ false
     by false e = refl
     by true e =
-        let parts = each (bytes_eq t.name s.name) _ e in
+        let parts = and_parts (bytes_eq t.name s.name) _ e in
         absurd (false≢true (sym other ∙ same (arity_of s.arity) refl some parts.0 parts.1))
 
 known_more : (ds : List Declaration) (s t : Symbol) → is_none (arity_of s.arity) ≡ false → same_symbol s t ≡ false → is_known ds t ≡ false → is_known (ds ++ declared_symbol s ∷ []) t ≡ false
@@ -77,30 +76,30 @@ known_more ds s t some other h = by (arity_of t.arity) refl h
 all_known_more : (ds : List Declaration) (s : Symbol) (ts : List Symbol) → is_none (arity_of s.arity) ≡ false → list_any (same_symbol s) ts ≡ false → list_any (is_known ds) ts ≡ false → list_any (is_known (ds ++ declared_symbol s ∷ [])) ts ≡ false
 all_known_more ds s [] some other h = refl
 all_known_more ds s (t ∷ ts) some other h =
-    let n = neither (same_symbol s t) _ other in
-    let m = neither (is_known ds t) _ h in
+    let n = or_parts (same_symbol s t) _ other in
+    let m = or_parts (is_known ds t) _ h in
     ap (λ b. b || list_any (is_known (ds ++ declared_symbol s ∷ [])) ts) (known_more ds s t some n.0 m.0) ∙ all_known_more ds s ts some n.1 m.1
 
 -- ---- symbols that differ from those seen
 
 seen_differs : (front back : List Symbol) (s t : Symbol) → list_any (λ e. same_symbol e t) (front ++ s ∷ back) ≡ false → same_symbol s t ≡ false
-seen_differs [] back s t h = (neither _ _ h).0
-seen_differs (f ∷ front) back s t h = seen_differs front back s t (neither _ _ h).1
+seen_differs [] back s t h = (or_parts _ _ h).0
+seen_differs (f ∷ front) back s t h = seen_differs front back s t (or_parts _ _ h).1
 
 none_again : (front back : List Symbol) (s : Symbol) (ts : List Symbol) → comes_again (front ++ s ∷ back) ts ≡ false → list_any (same_symbol s) ts ≡ false
 none_again front back s [] h = refl
 none_again front back s (t ∷ ts) h =
-    let n = neither _ _ h in
+    let n = or_parts _ _ h in
     ap (λ b. b || list_any (same_symbol s) ts) (seen_differs front back s t n.0) ∙ none_again (t ∷ front) back s ts n.1
 
 pub can_all : (ds : List Declaration) (seen ss : List Symbol) → nat_lt 64 (length ds + length ss) ≡ false → list_any symbol_over ss ≡ false → list_any (is_known ds) ss ≡ false → comes_again seen ss ≡ false → can_declare_all ds ss ≡ true
 can_all ds seen [] room over known again = refl
 can_all ds seen (s ∷ ss) room over known again =
-    let o = neither (symbol_over s) _ over in
-    let k = neither (is_known ds s) _ known in
-    let g = neither (list_any (λ e. same_symbol e s) seen) (comes_again (s ∷ seen) ss) again in
+    let o = or_parts (symbol_over s) _ over in
+    let k = or_parts (is_known ds s) _ known in
+    let g = or_parts (list_any (λ e. same_symbol e s) seen) (comes_again (s ∷ seen) ss) again in
     let below : nat_lt (length ds) 64 ≡ true = grind (arith, nat_tests) in
     let longer = length-append ds (declared_symbol s ∷ []) in
     let more : nat_lt 64 (length (ds ++ declared_symbol s ∷ []) + length ss) ≡ false = grind (arith, nat_tests) in
-    both _ _ (both _ _ (both _ _ below (ap not o.0)) (ap not k.0))
-    (can_all (ds ++ declared_symbol s ∷ []) (s ∷ seen) ss more o.1 (all_known_more ds s ss (neither _ _ o.0).1 (none_again [] seen s ss g.1) k.1) g.1)
+    and_from _ _ (and_from _ _ (and_from _ _ below (ap not o.0)) (ap not k.0))
+    (can_all (ds ++ declared_symbol s ∷ []) (s ∷ seen) ss more o.1 (all_known_more ds s ss (or_parts _ _ o.0).1 (none_again [] seen s ss g.1) k.1) g.1)

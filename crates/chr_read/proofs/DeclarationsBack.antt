@@ -3,7 +3,7 @@ use Rattle.std.proofs.Common.{◌≡◌, ℕ, suc, ◌+◌, ◌≤◌, List, [],
 use Rattle.std.specs.Prelude.{decimal}
 use Rattle.std.specs.List.{list_any, list_all}
 use Rattle.std.specs.Str.{bytes_eq, is_utf8}
-use Rattle.std.proofs.lemmas.Bool.{false≢true, eqb-true, eq-eqb}
+use Rattle.std.proofs.lemmas.Bool.{false≢true, eqb-true, eq-eqb, or_parts, and_from, and_parts, or_from, not-true}
 use Rattle.std.proofs.lemmas.Bool.Decides.{nat_tests}
 use Rattle.std.proofs.lemmas.List.{length-map}
 use Rattle.std.proofs.lemmas.List.Folds.{list_any-append}
@@ -16,7 +16,6 @@ use Rattle.chr_read.specs.Numbers.{arity_of, weight_of, number_of, without_zeros
 use Rattle.chr_read.specs.Meanings.{RuleData, Progress, nothing}
 use Rattle.chr_read.specs.Faults.{is_name, place_of, place_of_symbol, is_known, same_symbol, comes_again, declared_twice, symbol_over, is_among, weight_bad, fault_in}
 use Rattle.chr_read.specs.Reading.{declared_symbol, with_form}
-use Rattle.chr_read.proofs.Booleans.{neither, both, each, none_of, is_not}
 use Rattle.chr_read.proofs.Decimals.{arity_back, weight_back, weight_number}
 use Rattle.chr_read.proofs.EndedTexts.{after, AreFaultless}
 use Rattle.chr_read.proofs.NamesText.{name_text}
@@ -49,31 +48,31 @@ le a b h = grind (arith, nat_tests)
 
 pub in_range : (d : Declaration) → is_in_range d ≡ true → InRange d
 in_range d h =
-    let a = each (base.is_name d.name && nat_le (length d.name) 32 && nat_le d.arity 4 && nat_le 1 d.weight) (nat_le d.weight 1000000) h in
-    let b = each (base.is_name d.name && nat_le (length d.name) 32 && nat_le d.arity 4) (nat_le 1 d.weight) a.0 in
-    let c = each (base.is_name d.name && nat_le (length d.name) 32) (nat_le d.arity 4) b.0 in
-    let e = each (base.is_name d.name) (nat_le (length d.name) 32) c.0 in
+    let a = and_parts (base.is_name d.name && nat_le (length d.name) 32 && nat_le d.arity 4 && nat_le 1 d.weight) (nat_le d.weight 1000000) h in
+    let b = and_parts (base.is_name d.name && nat_le (length d.name) 32 && nat_le d.arity 4) (nat_le 1 d.weight) a.0 in
+    let c = and_parts (base.is_name d.name && nat_le (length d.name) 32) (nat_le d.arity 4) b.0 in
+    let e = and_parts (base.is_name d.name) (nat_le (length d.name) 32) c.0 in
     record { name = e.0; short = le _ _ e.1; arity = le _ _ c.1; least = le _ _ b.1; most = le _ _ a.1 }
 
 pub name_is_word : (w : List ℕ) → base.is_name w ≡ true → IsWord is_lower w
-name_is_word w h = by w (each (base.is_word w) _ h).0
+name_is_word w h = by w (and_parts (base.is_word w) _ h).0
   where
     by : (w : List ℕ) → base.is_word w ≡ true → IsWord is_lower w
     by [] h = absurd (false≢true h)
-    by (b ∷ bs) h = let e = each (base.is_lower b) (list_all base.is_word_byte bs) h in (e.0, from_test is_word_byte bs e.1)
+    by (b ∷ bs) h = let e = and_parts (base.is_lower b) (list_all base.is_word_byte bs) h in (e.0, from_test is_word_byte bs e.1)
 
 pub name_is_unreserved : (w : List ℕ) → base.is_name w ≡ true → base.is_reserved w ≡ false
-name_is_unreserved w h = is_not (base.is_reserved w) (each (base.is_word w) (not (base.is_reserved w)) h).1
+name_is_unreserved w h = not-true (base.is_reserved w) (and_parts (base.is_word w) (not (base.is_reserved w)) h).1
 
 pub name_is : (w : List ℕ) → base.is_name w ≡ true → length w ≤ 32 → is_name w ≡ true
-name_is w h l = both (is_utf8 w) (nat_le (length w) 32) (name_text w (name_is_word w h)) (grind (arith, nat_tests))
+name_is w h l = and_from (is_utf8 w) (nat_le (length w) 32) (name_text w (name_is_word w h)) (grind (arith, nat_tests))
 
 -- ---- places
 
 pub place_skip : {A : Type 0} (p : A → Bool) (xs : List A) (y : A) (ys : List A) → list_any p xs ≡ false → p y ≡ true → place p (xs ++ y ∷ ys) ≡ Some (length xs)
 place_skip p [] y ys h g = ap (λ b. cond b (Some 0) (option_map suc (place p ys))) g
 place_skip p (x ∷ xs) y ys h g =
-    let n = neither (p x) (list_any p xs) h in
+    let n = or_parts (p x) (list_any p xs) h in
     ap (λ b. cond b (Some 0) (option_map suc (place p (xs ++ y ∷ ys)))) n.0 ∙ ap (option_map suc) (place_skip p xs y ys n.1 g)
 
 pub turned : (a b : Declaration) → declares a.name a.arity b ≡ false → declares b.name b.arity a ≡ false
@@ -82,13 +81,13 @@ turned a b h = by (declares b.name b.arity a) refl
     by : (t : Bool) → declares b.name b.arity a ≡ t → declares b.name b.arity a ≡ false
     by false e = e
     by true e =
-        let p = each (bytes_eq b.name a.name) (nat_eq b.arity a.arity) e in
+        let p = and_parts (bytes_eq b.name a.name) (nat_eq b.arity a.arity) e in
         let n : a.name ≡ b.name = sym (same_bytes b.name a.name p.0) in
         let same : bytes_eq a.name b.name ≡ true = subst (λ w. bytes_eq a.name w ≡ true) n (itself a.name) in
-        absurd (false≢true (sym h ∙ both (bytes_eq a.name b.name) _ same (eq-eqb a.arity b.arity (sym (eqb-true b.arity a.arity p.1)))))
+        absurd (false≢true (sym h ∙ and_from (bytes_eq a.name b.name) _ same (eq-eqb a.arity b.arity (sym (eqb-true b.arity a.arity p.1)))))
 
 pub declares_itself : (d : Declaration) → declares d.name d.arity d ≡ true
-declares_itself d = both (bytes_eq d.name d.name) (nat_eq d.arity d.arity) (itself d.name) (eq-eqb d.arity d.arity refl)
+declares_itself d = and_from (bytes_eq d.name d.name) (nat_eq d.arity d.arity) (itself d.name) (eq-eqb d.arity d.arity refl)
 
 -- ---- one clause declares all
 
@@ -108,7 +107,7 @@ unknown s = by (arity_of s.arity)
 
 none_known : (ss : List Symbol) → list_any (is_known []) ss ≡ false
 none_known [] = refl
-none_known (s ∷ ss) = none_of (is_known [] s) (list_any (is_known []) ss) (unknown s) (none_known ss)
+none_known (s ∷ ss) = or_from (is_known [] s) (list_any (is_known []) ss) (unknown s) (none_known ss)
 
 other_symbol : (a b : Declaration) → a.arity ≤ 4 → b.arity ≤ 4 → declares a.name a.arity b ≡ false → same_symbol (written_symbol a) (written_symbol b) ≡ false
 other_symbol a b l m h = by (same_symbol (written_symbol a) (written_symbol b)) refl
@@ -116,10 +115,10 @@ other_symbol a b l m h = by (same_symbol (written_symbol a) (written_symbol b)) 
     by : (t : Bool) → same_symbol (written_symbol a) (written_symbol b) ≡ t → same_symbol (written_symbol a) (written_symbol b) ≡ false
     by false e = e
     by true e =
-        let p = each (bytes_eq a.name b.name) (bytes_eq (without_zeros (decimal a.arity)) (without_zeros (decimal b.arity))) e in
+        let p = and_parts (bytes_eq a.name b.name) (bytes_eq (without_zeros (decimal a.arity)) (without_zeros (decimal b.arity))) e in
         let digits = same_bytes (without_zeros (decimal a.arity)) (without_zeros (decimal b.arity)) p.1 in
         let arity : a.arity ≡ b.arity = same_Some a.arity b.arity (sym (arity_back a.arity l) ∙ ap small digits ∙ arity_back b.arity m) in
-        absurd (false≢true (sym h ∙ both (bytes_eq a.name b.name) _ p.0 (eq-eqb a.arity b.arity arity)))
+        absurd (false≢true (sym h ∙ and_from (bytes_eq a.name b.name) _ p.0 (eq-eqb a.arity b.arity arity)))
 
 -- those that came are none of these
 abbrev AreApart : List Declaration → List Declaration → Type 0
@@ -129,31 +128,31 @@ AreApart (e ∷ es) ds = (list_any (declares e.name e.arity) ds ≡ false) × (e
 none_seen : (es : List Declaration) (d : Declaration) (ds : List Declaration) → d.arity ≤ 4 → AreApart es (d ∷ ds) → (list_any (λ e. same_symbol e (written_symbol d)) (map written_symbol es) ≡ false) × AreApart es ds
 none_seen [] d ds l h = (refl, tt)
 none_seen (e ∷ es) d ds l h =
-    let n = neither (declares e.name e.arity d) (list_any (declares e.name e.arity) ds) h.0 in
+    let n = or_parts (declares e.name e.arity d) (list_any (declares e.name e.arity) ds) h.0 in
     let m = none_seen es d ds l h.2 in
-    (none_of (same_symbol (written_symbol e) (written_symbol d)) _ (other_symbol e d h.1 l n.0) m.0, (n.1, h.1, m.1))
+    (or_from (same_symbol (written_symbol e) (written_symbol d)) _ (other_symbol e d h.1 l n.0) m.0, (n.1, h.1, m.1))
 
 none_again : (es ds : List Declaration) → AreApart es ds → list_all is_in_range ds ≡ true → are_distinct ds ≡ true → comes_again (map written_symbol es) (map written_symbol ds) ≡ false
 none_again es [] h r u = refl
 none_again es (d ∷ ds) h r u =
-    let range = each (is_in_range d) (list_all is_in_range ds) r in
+    let range = and_parts (is_in_range d) (list_all is_in_range ds) r in
     let few = (in_range d range.0).arity in
     let first = none_seen es d ds few h in
-    let distinct = each (not (list_any (declares d.name d.arity) ds)) (are_distinct ds) u in
-    none_of (list_any (λ e. same_symbol e (written_symbol d)) (map written_symbol es)) _ first.0
-    (none_again (d ∷ es) ds (is_not (list_any (declares d.name d.arity) ds) distinct.0, few, first.1) range.1 distinct.1)
+    let distinct = and_parts (not (list_any (declares d.name d.arity) ds)) (are_distinct ds) u in
+    or_from (list_any (λ e. same_symbol e (written_symbol d)) (map written_symbol es)) _ first.0
+    (none_again (d ∷ es) ds (not-true (list_any (declares d.name d.arity) ds) distinct.0, few, first.1) range.1 distinct.1)
 
 none_over : (ds : List Declaration) → list_all is_in_range ds ≡ true → list_any symbol_over (map written_symbol ds) ≡ false
 none_over [] h = refl
 none_over (d ∷ ds) h =
-    let e = each (is_in_range d) (list_all is_in_range ds) h in
+    let e = and_parts (is_in_range d) (list_all is_in_range ds) h in
     let r = in_range d e.0 in
-    none_of (symbol_over (written_symbol d)) _ (none_of (not (is_name d.name)) _ (ap not (name_is d.name r.name r.short)) (ap is_none (arity_back d.arity r.arity))) (none_over ds e.1)
+    or_from (symbol_over (written_symbol d)) _ (or_from (not (is_name d.name)) _ (ap not (name_is d.name r.name r.short)) (ap is_none (arity_back d.arity r.arity))) (none_over ds e.1)
 
 all_declared : (ds : List Declaration) → list_all is_in_range ds ≡ true → map declared_symbol (map written_symbol ds) ≡ map plain ds
 all_declared [] h = refl
 all_declared (d ∷ ds) h =
-    let e = each (is_in_range d) (list_all is_in_range ds) h in
+    let e = and_parts (is_in_range d) (list_all is_in_range ds) h in
     let a = ap (λ o. unwrap_or o 0) (arity_back d.arity (in_range d e.0).arity) in
     let more = all_declared ds e.1 in
     λ i. record { name = d.name; arity = a i; weight = 1 } ∷ more i
@@ -165,8 +164,8 @@ declarations_back (d ∷ ds) l r u =
     let ss = map written_symbol (d ∷ ds) in
     let long = length-map (d ∷ ds) written_symbol in
     let room : nat_lt 64 (0 + length ss) ≡ false = grind (arith, nat_tests) in
-    let twice = none_of (list_any (is_known []) ss) (comes_again [] ss) (none_known ss) (none_again [] (d ∷ ds) tt r u) in
-    let over = none_of (nat_lt 64 (0 + length ss)) (list_any symbol_over ss) room (none_over (d ∷ ds) r) in
+    let twice = or_from (list_any (is_known []) ss) (comes_again [] ss) (none_known ss) (none_again [] (d ∷ ds) tt r u) in
+    let over = or_from (nat_lt 64 (0 + length ss)) (list_any symbol_over ss) room (none_over (d ∷ ds) r) in
     ((pass (declared_twice [] ss) _ _ twice (pass (nat_lt 64 (0 + length ss) || list_any symbol_over ss) _ _ over refl), tt), ap (λ x. state x [] []) (all_declared (d ∷ ds) r))
 
 -- ---- a clause for each weight
@@ -174,9 +173,9 @@ declarations_back (d ∷ ds) l r u =
 apart : (pre : List Declaration) (d : Declaration) (ds : List Declaration) → are_distinct (pre ++ d ∷ ds) ≡ true → list_any (declares d.name d.arity) pre ≡ false
 apart [] d ds h = refl
 apart (e ∷ pre) d ds h =
-    let p = each (not (list_any (declares e.name e.arity) (pre ++ d ∷ ds))) (are_distinct (pre ++ d ∷ ds)) h in
-    let n = neither (list_any (declares e.name e.arity) pre) _ (sym (list_any-append (declares e.name e.arity) pre (d ∷ ds)) ∙ is_not _ p.0) in
-    none_of (declares d.name d.arity e) _ (turned e d (neither (declares e.name e.arity d) _ n.1).0) (apart pre d ds p.1)
+    let p = and_parts (not (list_any (declares e.name e.arity) (pre ++ d ∷ ds))) (are_distinct (pre ++ d ∷ ds)) h in
+    let n = or_parts (list_any (declares e.name e.arity) pre) _ (sym (list_any-append (declares e.name e.arity) pre (d ∷ ds)) ∙ not-true _ p.0) in
+    or_from (declares d.name d.arity e) _ (turned e d (or_parts (declares e.name e.arity d) _ n.1).0) (apart pre d ds p.1)
 
 weight_at : (pre : List Declaration) (d : Declaration) (ds : List Declaration) (w : ℕ) → with_weight (pre ++ d ∷ ds) (length pre) w ≡ pre ++ record d { weight = w } ∷ ds
 weight_at [] d ds w = refl
@@ -196,7 +195,7 @@ AreBefore ws n = (i : ℕ) → n ≤ i → list_any (nat_eq i) ws ≡ false
 one_more : (ws : List ℕ) (n : ℕ) → AreBefore ws n → AreBefore (ws ++ n ∷ []) (n + 1)
 one_more ws n h i l =
     let e : nat_eq i n ≡ false = grind (arith, nat_tests) in
-    list_any-append (nat_eq i) ws (n ∷ []) ∙ none_of (list_any (nat_eq i) ws) _ (h i (omega (arith, l))) (none_of (nat_eq i n) false e refl)
+    list_any-append (nat_eq i) ws (n ∷ []) ∙ or_from (list_any (nat_eq i) ws) _ (h i (omega (arith, l))) (or_from (nat_eq i n) false e refl)
 
 still : (ws : List ℕ) (n : ℕ) → AreBefore ws n → AreBefore ws (n + 1)
 still ws n h i l = h i (omega (arith, l))
@@ -212,7 +211,7 @@ weights_from pre (d ∷ rest) ws b r u =
     (weights_from (pre ++ d ∷ []) rest vs c range.1 (subst (λ l. are_distinct l ≡ true) (sym (append_assoc pre (d ∷ []) rest)) u)))
   where
     range : (is_in_range d ≡ true) × (list_all is_in_range rest ≡ true)
-    range = each (is_in_range d) (list_all is_in_range rest) r
+    range = and_parts (is_in_range d) (list_all is_in_range rest) r
 
     good : InRange d
     good = in_range d range.0
@@ -231,7 +230,7 @@ weights_from pre (d ∷ rest) ws b r u =
         pass (is_none (place_of_symbol here (written_symbol d))) _ _ (ap is_none placed)
         (pass (is_none (number_of (decimal d.weight))) _ _ (ap is_none (weight_number d.weight good.most))
         (pass (weight_bad (state here [] ws) (written_symbol d) (decimal d.weight)) _ _
-        (none_of (is_none (weight_of (decimal d.weight))) _ (ap is_none (weight_back d.weight good.least good.most)) (ap (is_among ws) placed ∙ b (length pre) (omega arith))) refl))
+        (or_from (is_none (weight_of (decimal d.weight))) _ (ap is_none (weight_back d.weight good.least good.most)) (ap (is_among ws) placed ∙ b (length pre) (omega arith))) refl))
 
     made : with_form (state here [] ws) (weight (written_symbol d) (decimal d.weight)) ≡ state ((pre ++ d ∷ []) ++ map plain rest) [] (ws ++ length pre ∷ [])
     made =

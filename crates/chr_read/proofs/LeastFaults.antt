@@ -1,6 +1,6 @@
 -- The fault of a clause that is found is its least.
 use Rattle.std.proofs.Common.{◌≡◌, ◌≤◌, ℕ, List, [], ◌∷◌, Bool, true, false, cond, ◌&&◌, ◌⊎◌, inl, inr, nat_le, nat_eq, Option, Some, None, Result, Ok, Err, refl, sym, ap, ◌∙◌, subst, arith}
-use Rattle.std.proofs.lemmas.Bool.{false≢true}
+use Rattle.std.proofs.lemmas.Bool.{false≢true, and_parts}
 use Rattle.std.proofs.lemmas.Bool.Decides.{nat_tests}
 use Rattle.std.proofs.lemmas.Option.{none-some, same_Some}
 use Rattle.std.specs.List.{list_all}
@@ -17,7 +17,6 @@ use Rattle.chr_read.specs.Meanings.{Progress}
 use Rattle.chr_read.specs.Faults.{fault_test, by_number, first_of, fault_in}
 use Rattle.chr_read.specs.Reading.{with_form, checked, formed, clause_read, ended, fault_of_rest, rest_read}
 use Rattle.chr_read.specs.ProgramTexts.{HasFault, HasRestFault, IsLeast}
-use Rattle.chr_read.proofs.Booleans.{each}
 
 -- ---- answers
 
@@ -85,16 +84,16 @@ Among m (n ∷ ns) = (m ≡ n) ⊎ Among m ns
 below_each : (n m : Fault) (ns : List Fault) → below n ns ≡ true → Among m ns → number_of_fault n ≤ number_of_fault m
 below_each n m [] h a = absurd a
 below_each n m (x ∷ xs) h a =
-    let p = each (nat_le (number_of_fault n) (number_of_fault x)) (below n xs) h in
+    let p = and_parts (nat_le (number_of_fault n) (number_of_fault x)) (below n xs) h in
     elim a [ inl e ↦ let k = ap number_of_fault e in grind (arith, nat_tests) | inr b ↦ below_each n m xs p.1 b ]
 
 first_least : (p : Fault → Bool) (ns : List Fault) (n : Fault) → rising ns ≡ true → first_of p ns ≡ Some n
     → (p n ≡ true) × ((m : Fault) → Among m ns → p m ≡ true → number_of_fault n ≤ number_of_fault m)
 first_least p [] n r h = absurd (none-some n h)
-first_least p (x ∷ xs) n r h = by (p x) refl h (first_least p xs n (each (below x xs) (rising xs) r).1)
+first_least p (x ∷ xs) n r h = by (p x) refl h (first_least p xs n (and_parts (below x xs) (rising xs) r).1)
   where
     at_front : (p x ≡ true) → (m : Fault) → Among m (x ∷ xs) → p m ≡ true → number_of_fault x ≤ number_of_fault m
-    at_front e m a pm = elim a [ inl s ↦ let k = ap number_of_fault s in omega (arith, k) | inr b ↦ below_each x m xs (each (below x xs) (rising xs) r).0 b ]
+    at_front e m a pm = elim a [ inl s ↦ let k = ap number_of_fault s in omega (arith, k) | inr b ↦ below_each x m xs (and_parts (below x xs) (rising xs) r).0 b ]
 
     by : (b : Bool) → p x ≡ b → cond b (Some x) (first_of p xs) ≡ Some n
         → (first_of p xs ≡ Some n → (p n ≡ true) × ((m : Fault) → Among m xs → p m ≡ true → number_of_fault n ≤ number_of_fault m))

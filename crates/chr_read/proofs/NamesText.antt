@@ -5,6 +5,7 @@ use Rattle.std.proofs.lemmas.Str.{IsUtf8-from_ascii, is_utf8-from_IsUtf8}
 use Rattle.std.proofs.lemmas.Str.Ascii.{IsAscii-cons, IsAscii-nil}
 use Rattle.std.specs.List.{AllByRecursion, list_all}
 use Rattle.std.specs.Str.{is_utf8, IsAscii}
+use Rattle.std.proofs.lemmas.Bool.{and_from}
 use Rattle.chr_base.specs.Names as base
 use Rattle.chr_syntax.specs.declared.token.Sign.TheVariants as s
 use Rattle.chr_syntax.specs.Tokens.{Tok, name, variable, number, compare, sign, is_lower, is_word_byte}
@@ -14,7 +15,6 @@ use Rattle.chr_syntax.specs.Lexemes.{AllAre, IsWord, IsLexeme, AreTokens}
 use Rattle.chr_read.specs.Faults.{present}
 use Rattle.chr_read.specs.NamesOfForms.{names_of_atoms, names_in, NamesAreText, NamesAreNames}
 use Rattle.chr_syntax.proofs.Cuts.{all_append}
-use Rattle.chr_read.proofs.Booleans.{both}
 use Rattle.chr_read.proofs.PlainBytes.{to_test}
 
 abbrev pub IsText : List ℕ → Type 0
@@ -135,7 +135,7 @@ names_text f c h = form_text IsText name_text f (tokens_text IsText name_text (s
 
 name_word : (w : List ℕ) → IsWord is_lower w → base.is_word w ≡ true
 name_word [] h = absurd h
-name_word (b ∷ bs) h = both _ _ h.0 (to_test is_word_byte bs h.1)
+name_word (b ∷ bs) h = and_from _ _ h.0 (to_test is_word_byte bs h.1)
 
 abbrev IsWordName : List ℕ → Type 0
 IsWordName w = base.is_word w ≡ true
@@ -178,7 +178,7 @@ form_unreserved (propagation r) h =
 
 words_names : (ws : List (List ℕ)) → AllByRecursion IsWordName ws → AllUnreserved ws → list_all base.is_name ws ≡ true
 words_names [] h g = refl
-words_names (w ∷ ws) h g = both _ _ (both _ _ h.0 (ap not g.0)) (words_names ws h.1 g.1)
+words_names (w ∷ ws) h g = and_from _ _ (and_from _ _ h.0 (ap not g.0)) (words_names ws h.1 g.1)
 
 pub names_names : NamesAreNames
 names_names f c h = words_names (names_in f) (form_text IsWordName name_word f (tokens_text IsWordName name_word (spelled f) c h.0)) (form_unreserved f h.1)

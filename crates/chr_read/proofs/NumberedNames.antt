@@ -3,7 +3,7 @@ use Rattle.std.proofs.Common.{◌≡◌, ℕ, zero, suc, ◌+◌, ◌-◌, ◌^�
 use Rattle.std.specs.Prelude.{pos, codes, decimal}
 use Rattle.std.specs.List.{list_any, AllByRecursion}
 use Rattle.std.specs.Str.{bytes_eq}
-use Rattle.std.proofs.lemmas.Bool.{eqb-true}
+use Rattle.std.proofs.lemmas.Bool.{eqb-true, and_parts, or_from}
 use Rattle.std.proofs.lemmas.Bool.Decides.{nat_tests}
 use Rattle.std.proofs.lemmas.Fmt.{decimal_injective}
 use Rattle.std.proofs.lemmas.List.Folds.{list_any-append}
@@ -13,7 +13,6 @@ use Rattle.chr_base.specs.declared.term.Term.TheVariants.{Variable, Constant}
 use Rattle.chr_base.specs.RuleTests.{numbered}
 use Rattle.chr_read.specs.Faults.{is_anonymous}
 use Rattle.chr_read.specs.Resolving.{Names, met_at, variable_of, with_variable, head_terms, after_terms}
-use Rattle.chr_read.proofs.Booleans.{each, none_of}
 use Rattle.chr_read.proofs.Decimals.{number_back}
 use Rattle.chr_read.proofs.DeclarationsBack.{place_skip}
 use Rattle.chr_read.proofs.Numbering.{same_bytes, itself}
@@ -51,8 +50,8 @@ not_named : (x n : ℕ) → x < 2 ^ 64 → n < x → list_any (bytes_eq (variabl
 not_named x zero l h = refl
 not_named x (suc n) l h =
     list_any-append (bytes_eq (variable_name x)) (first_names n) (variable_name (suc n) ∷ [])
-    ∙ none_of (list_any (bytes_eq (variable_name x)) (first_names n)) _ (not_named x n l (omega (arith, h)))
-    (none_of (bytes_eq (variable_name x) (variable_name (suc n))) false (other_name x (suc n) l (omega (arith, h, l)) (λ e. omega (arith, h, e))) refl)
+    ∙ or_from (list_any (bytes_eq (variable_name x)) (first_names n)) _ (not_named x n l (omega (arith, h)))
+    (or_from (bytes_eq (variable_name x) (variable_name (suc n))) false (other_name x (suc n) l (omega (arith, h, l)) (λ e. omega (arith, h, e))) refl)
 
 place_front : {A : Type 0} (p : A → Bool) (xs ys : List A) (i : ℕ) → place p xs ≡ Some i → place p (xs ++ ys) ≡ Some i
 place_front p [] ys i h = absurd (none-some i h)
@@ -126,7 +125,7 @@ one_number m n x ts l k h more = by (nat_eq x (m + 1)) refl h
     old : (t : Bool) → (nat_lt 0 x && nat_le x m) ≡ t → cond t (numbered m ts) None ≡ Some n → Numbers m (Variable x ∷ ts) n
     old false e g = absurd (none-some n g)
     old true e g =
-        let p = each (nat_lt 0 x) (nat_le x m) e in
+        let p = and_parts (nat_lt 0 x) (nat_le x m) e in
         let p0 = p.0 in let p1 = p.1 in
         is_old (x - 1) (let some : 0 < x = grind (arith, nat_tests) in omega (arith, some)) (grind (arith, nat_tests)) g
 

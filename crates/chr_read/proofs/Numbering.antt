@@ -1,6 +1,6 @@
 -- The numbers of variables: what is numbered by first occurrence, and which variables occur.
 use Rattle.std.proofs.Common.{◌≡◌, ℕ, ◌+◌, ◌<◌, ◌≤◌, List, [], ◌∷◌, ◌++◌, length, Bool, true, false, cond, ◌||◌, ◌&&◌, nat_lt, nat_le, nat_eq, Option, Some, None, is_some, unwrap_or, position, refl, sym, ap, ◌∙◌, subst, append_assoc, append-nil, length-append, arith}
-use Rattle.std.proofs.lemmas.Bool.{false≢true}
+use Rattle.std.proofs.lemmas.Bool.{false≢true, and_from, or_right}
 use Rattle.std.proofs.lemmas.Bool.Decides.{nat_tests}
 use Rattle.std.proofs.lemmas.List.Folds.{list_any-append}
 use Rattle.std.proofs.lemmas.Option.{none-some, same_Some}
@@ -17,7 +17,6 @@ use Rattle.chr_syntax.specs.Clauses.{Term, Atom, variable, number}
 use Rattle.chr_read.specs.Faults.{is_anonymous, is_variable, stands_in}
 use Rattle.chr_read.specs.Resolving.{Names, met_at, variable_of, with_variable, head_terms, after_terms, heads, after_heads}
 use Rattle.chr_read.proofs.Positions.{position_within, position_any}
-use Rattle.chr_read.proofs.Booleans.{both, or_true}
 
 -- ---- the variables of the heads are numbered
 
@@ -50,7 +49,7 @@ one_variable names w rest = by (met_at names w) refl
         let e : nat_eq (i + 1) (length names + 1) ≡ false = grind (arith, nat_tests) in
         let g : nat_lt 0 (i + 1) ≡ true = grind (arith, nat_tests) in
         let k : nat_le (i + 1) (length names) ≡ true = grind (arith, nat_tests) in
-        let f : (nat_lt 0 (i + 1) && nat_le (i + 1) (length names)) ≡ true = both _ _ g k in
+        let f : (nat_lt 0 (i + 1) && nat_le (i + 1) (length names)) ≡ true = and_from _ _ g k in
         ap (λ b. cond b (numbered (length names + 1) rest) (cond (nat_lt 0 (i + 1) && nat_le (i + 1) (length names)) (numbered (length names) rest) None)) e ∙ ap (λ b. cond b (numbered (length names) rest) None) f
 
 numbered_terms : (names : Names) (ts : List Term) (rest : List base.Term) → numbered (length names) (head_terms names ts ++ rest) ≡ numbered (length (after_terms names ts)) rest
@@ -89,10 +88,10 @@ all_occur m n (Variable y ∷ ts) h x above below = first (nat_eq y (m + 1)) ref
     is_next true is e after =
         let same : nat_eq x y ≡ true = grind (arith, nat_tests) in ap (λ b. b || list_any (rules.is_variable x) ts) same
     is_next false is e after =
-        let later : m + 1 < x = grind (arith, nat_tests) in or_true (nat_eq x y) _ (after later)
+        let later : m + 1 < x = grind (arith, nat_tests) in or_right (nat_eq x y) _ (after later)
 
     old : (b : Bool) → cond b (numbered m ts) None ≡ Some n → (numbered m ts ≡ Some n → list_any (rules.is_variable x) ts ≡ true) → (nat_eq x y || list_any (rules.is_variable x) ts) ≡ true
-    old true h further = or_true (nat_eq x y) _ (further h)
+    old true h further = or_right (nat_eq x y) _ (further h)
     old false h further = absurd (none-some n h)
 
     first : (b : Bool) → nat_eq y (m + 1) ≡ b → cond b (numbered (m + 1) ts) (cond (nat_lt 0 y && nat_le y m) (numbered m ts) None) ≡ Some n
@@ -133,7 +132,7 @@ met w names named = by (is_some (met_at names w)) known
 
     by : (b : Bool) → b ≡ has w names → has w (cond b names (names ++ w ∷ [])) ≡ true
     by true e = sym e
-    by false e = list_any-append (bytes_eq w) names (w ∷ []) ∙ or_true (has w names) _ (ap (λ b. b || false) (itself w))
+    by false e = list_any-append (bytes_eq w) names (w ∷ []) ∙ or_right (has w names) _ (ap (λ b. b || false) (itself w))
 
 stays_after : (w : List ℕ) (names : Names) (ts : List Term) → has w names ≡ true → has w (after_terms names ts) ≡ true
 stays_after w names [] h = h

@@ -3,6 +3,7 @@ use Rattle.std.proofs.Common.{◌≡◌, ℕ, ◌≤◌, List, [], ◌∷◌, �
 use Rattle.std.specs.Prelude.{codes}
 use Rattle.std.specs.List.{list_all}
 use Rattle.std.proofs.lemmas.Bool.Decides.{nat_tests}
+use Rattle.std.proofs.lemmas.Bool.{and_from, and_parts, or_right, or_left, not-true}
 use Rattle.chr_syntax.specs.declared.clause.Comparator.{Comparator}
 use Rattle.chr_syntax.specs.declared.clause.Comparator.TheVariants as c
 use Rattle.chr_syntax.specs.declared.token.Sign.{Sign}
@@ -13,7 +14,6 @@ use Rattle.chr_syntax.specs.Texts.{HasNo}
 use Rattle.chr_syntax.specs.Lexemes.{AllAre, IsNumber, IsComparator, sign_text, IsLexeme, AreTokens}
 use Rattle.chr_syntax.proofs.Cuts.{all_append}
 use Rattle.chr_syntax.proofs.Lexemes.{lower_word, variable_word, digit_bounds}
-use Rattle.chr_read.proofs.Booleans.{both, each, or_true, or_left, is_not}
 
 abbrev pub is_plain : ℕ → Bool
 is_plain b = is_text_byte b && (not (b == 37) && not (b == 46))
@@ -24,7 +24,7 @@ plain_between b l h =
     let high : nat_le b 126 ≡ true = grind (arith, nat_tests) in
     let p : (b == 37) ≡ false = grind (arith, nat_tests) in
     let q : (b == 46) ≡ false = grind (arith, nat_tests) in
-    both (is_text_byte b) _ (or_true (is_layout b) _ (both (nat_le 32 b) _ low high)) (both (not (b == 37)) _ (ap not p) (ap not q))
+    and_from (is_text_byte b) _ (or_right (is_layout b) _ (and_from (nat_le 32 b) _ low high)) (and_from (not (b == 37)) _ (ap not p) (ap not q))
 
 word_low : (b : ℕ) → is_word_byte b ≡ true → 47 ≤ b
 word_low b h = grind (arith, nat_tests)
@@ -46,7 +46,7 @@ layout_plain b h =
     let l = layout_low b h in
     let p : (b == 37) ≡ false = grind (arith, nat_tests) in
     let q : (b == 46) ≡ false = grind (arith, nat_tests) in
-    both (is_text_byte b) _ (or_left (is_layout b) _ h) (both (not (b == 37)) _ (ap not p) (ap not q))
+    and_from (is_text_byte b) _ (or_left (is_layout b) _ h) (and_from (not (b == 37)) _ (ap not p) (ap not q))
 
 pub all_so : (p q : ℕ → Bool) → ((b : ℕ) → p b ≡ true → q b ≡ true) → (bs : List ℕ) → AllAre p bs → AllAre q bs
 all_so p q f [] h = tt
@@ -54,11 +54,11 @@ all_so p q f (b ∷ bs) h = (f b h.0, all_so p q f bs h.1)
 
 pub from_test : (p : ℕ → Bool) (bs : List ℕ) → list_all p bs ≡ true → AllAre p bs
 from_test p [] h = tt
-from_test p (b ∷ bs) h = let e = each (p b) (list_all p bs) h in (e.0, from_test p bs e.1)
+from_test p (b ∷ bs) h = let e = and_parts (p b) (list_all p bs) h in (e.0, from_test p bs e.1)
 
 pub to_test : (p : ℕ → Bool) (bs : List ℕ) → AllAre p bs → list_all p bs ≡ true
 to_test p [] h = refl
-to_test p (b ∷ bs) h = both (p b) _ h.0 (to_test p bs h.1)
+to_test p (b ∷ bs) h = and_from (p b) _ h.0 (to_test p bs h.1)
 
 literal : (w v : List ℕ) → w ≡ v → list_all is_plain v ≡ true → AllAre is_plain w
 literal w v e h = subst (AllAre is_plain) (sym e) (from_test is_plain v h)
@@ -112,12 +112,12 @@ tokens_plain (t ∷ ts) bs h =
 
 pub no_percent : (bs : List ℕ) → AllAre is_plain bs → HasNo percent bs
 no_percent [] h = tt
-no_percent (b ∷ bs) h = (is_not (b == 37) (each (not (b == 37)) (not (b == 46)) (each (is_text_byte b) _ h.0).1).0, no_percent bs h.1)
+no_percent (b ∷ bs) h = (not-true (b == 37) (and_parts (not (b == 37)) (not (b == 46)) (and_parts (is_text_byte b) _ h.0).1).0, no_percent bs h.1)
 
 pub no_stop : (bs : List ℕ) → AllAre is_plain bs → HasNo full_stop bs
 no_stop [] h = tt
-no_stop (b ∷ bs) h = (is_not (b == 46) (each (not (b == 37)) (not (b == 46)) (each (is_text_byte b) _ h.0).1).1, no_stop bs h.1)
+no_stop (b ∷ bs) h = (not-true (b == 46) (and_parts (not (b == 37)) (not (b == 46)) (and_parts (is_text_byte b) _ h.0).1).1, no_stop bs h.1)
 
 pub all_text : (bs : List ℕ) → AllAre is_plain bs → is_text bs ≡ true
 all_text [] h = refl
-all_text (b ∷ bs) h = both (is_text_byte b) _ (each (is_text_byte b) _ h.0).0 (all_text bs h.1)
+all_text (b ∷ bs) h = and_from (is_text_byte b) _ (and_parts (is_text_byte b) _ h.0).0 (all_text bs h.1)

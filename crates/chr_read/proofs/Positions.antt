@@ -1,6 +1,6 @@
 -- The first place at which a test passes.
-use Rattle.std.proofs.Common.{◌≡◌, ℕ, suc, ◌+◌, ◌<◌, List, [], ◌∷◌, length, Bool, true, false, not, cond, ◌||◌, ◌&&◌, nat_lt, nat_eq, Option, Some, None, option_map, is_some, position, refl, sym, ap, ◌∙◌, subst, arith}
-use Rattle.std.proofs.lemmas.Bool.{false≢true}
+use Rattle.std.proofs.Common.{◌≡◌, ℕ, suc, ◌+◌, ◌<◌, List, [], ◌∷◌, length, Bool, true, false, not, cond, ◌||◌, nat_lt, nat_eq, Option, Some, None, option_map, is_some, position, refl, sym, ap, ◌∙◌, subst, arith}
+use Rattle.std.proofs.lemmas.Bool.{false≢true, and_parts}
 use Rattle.std.proofs.lemmas.Bool.Decides.{nat_tests}
 use Rattle.std.proofs.lemmas.Option.{none-some, same_Some}
 use Rattle.std.specs.List.{list_any, position_or_len, slice_get}
@@ -75,14 +75,10 @@ bound p (x ∷ xs) i h = by (p x) (place p xs) refl h (bound p xs)
 pub position_within : {A : Type 0} (p : A → Bool) (xs : List A) (i : ℕ) → position p xs ≡ Some i → i < length xs
 position_within p xs i h = bound p xs i (sym (position_is p xs) ∙ h)
 
-second : (a b : Bool) → (a && b) ≡ true → b ≡ true
-second true b h = h
-second false b h = absurd (false≢true h)
-
 -- a declared symbol takes as many arguments as it was looked up with
 pub declared_takes : (w : List ℕ) (n : ℕ) (ds : List Declaration) (i : ℕ) → position (declares w n) ds ≡ Some i → takes (slice_get ds i) n ≡ true
 declared_takes w n ds i h =
-    at_place (declares w n) (λ o. takes o n ≡ true) ds i (λ d good. takes_so d (second (bytes_eq w d.name) (nat_eq n d.arity) good)) (sym (position_is (declares w n) ds) ∙ h)
+    at_place (declares w n) (λ o. takes o n ≡ true) ds i (λ d good. takes_so d (and_parts (bytes_eq w d.name) (nat_eq n d.arity) good).1) (sym (position_is (declares w n) ds) ∙ h)
   where
     takes_so : (d : Declaration) → nat_eq n d.arity ≡ true → nat_eq d.arity n ≡ true
     takes_so d e = grind (arith, nat_tests)

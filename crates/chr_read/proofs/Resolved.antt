@@ -1,6 +1,6 @@
 -- A rule without faults is a rule when it is resolved.
 use Rattle.std.proofs.Common.{◌≡◌, subst, ℕ, zero, suc, ◌+◌, ◌<◌, List, [], ◌∷◌, ◌++◌, length, map, Bool, true, false, not, cond, ◌||◌, ◌&&◌, nat_lt, nat_le, Option, Some, None, is_some, is_none, position, slice_get, unwrap_or, refl, sym, ap, ◌∙◌, arith}
-use Rattle.std.proofs.lemmas.Bool.{false≢true}
+use Rattle.std.proofs.lemmas.Bool.{false≢true, or_parts, and_from, and_parts, not-false}
 use Rattle.std.proofs.lemmas.Bool.Decides.{nat_tests}
 use Rattle.std.proofs.lemmas.List.{length-map}
 use Rattle.std.proofs.lemmas.Option.{none-some, same_Some}
@@ -24,7 +24,7 @@ use Rattle.chr_read.specs.Meanings.{RuleData, rule_data}
 use Rattle.chr_read.specs.Resolving.{Names, variable_of, term_in, head_terms, after_term, after_terms, pattern, heads, after_heads, body_atom, comparison_in, names_of, resolved}
 use Rattle.chr_read.proofs.Numbering.{numbers, occurs_in, has, met_heads, stays_heads, in_range}
 use Rattle.chr_read.proofs.Positions.{declared_takes}
-use Rattle.chr_read.proofs.Booleans.{neither, both, each, not_is, all_pass}
+use Rattle.chr_read.proofs.Booleans.{all_pass}
 
 -- ---- lengths
 
@@ -40,7 +40,7 @@ heads_length ds names (a ∷ atoms) = ap (λ n. suc n) (heads_length ds (after_t
 
 bound_is_met : (r : Rule) (w : List ℕ) → is_bound r w ≡ true → (is_anonymous w ≡ false) × (has w (names_of r) ≡ true)
 bound_is_met r w h =
-    let parts = each (not (is_anonymous w)) (stands_in w r.kept || stands_in w r.removed) h in
+    let parts = and_parts (not (is_anonymous w)) (stands_in w r.kept || stands_in w r.removed) h in
     let named = named_is (is_anonymous w) parts.0 in
     (named, by (stands_in w r.kept) refl named parts.1)
   where
@@ -56,16 +56,16 @@ bound_is_met r w h =
 
 pub label_is : (r : Rule) → rule_over r ≡ false → has_names (rule r) ≡ true → is_label r.label ≡ true
 label_is r over named =
-    let o = (neither (label_over r.label) (parts_over r) (neither (lists_over r) (label_over r.label || parts_over r) over).1).0 in
+    let o = (or_parts (label_over r.label) (parts_over r) (or_parts (lists_over r) (label_over r.label || parts_over r) over).1).0 in
     by r.label o (front (option_to_list r.label) (names_of_atoms r.kept ++ (names_of_atoms r.removed ++ names_of_atoms (present r.body))) named)
   where
     front : (xs ys : List (List ℕ)) → list_all names.is_name (xs ++ ys) ≡ true → list_all names.is_name xs ≡ true
     front [] ys h = refl
-    front (x ∷ xs) ys h = let e = each (names.is_name x) (list_all names.is_name (xs ++ ys)) h in both _ _ e.0 (front xs ys e.1)
+    front (x ∷ xs) ys h = let e = and_parts (names.is_name x) (list_all names.is_name (xs ++ ys)) h in and_from _ _ e.0 (front xs ys e.1)
 
     by : (label : Option (List ℕ)) → label_over label ≡ false → list_all names.is_name (option_to_list label) ≡ true → is_label label ≡ true
     by None o h = refl
-    by (Some w) o h = both _ _ (each (names.is_name w) true h).0 (each (is_utf8 w) (nat_le (length w) 32) (not_is (is_name w) o)).1
+    by (Some w) o h = and_from _ _ (and_parts (names.is_name w) true h).0 (and_parts (is_utf8 w) (nat_le (length w) 32) (not-false (is_name w) o)).1
 
 -- ---- constants are values
 
@@ -75,12 +75,12 @@ value_of_sign true n z h = by n (nat_le n (2 ^ 63)) refl h
     by : (n : ℕ) (t : Bool) → nat_le n (2 ^ 63) ≡ t → cond t (Some (neg_ℤ (pos n))) None ≡ Some z → is_value z ≡ true
     by n false e h = absurd (none-some z h)
     by zero true e h = subst (λ x. is_value x ≡ true) (same_Some _ _ h) refl
-    by (suc m) true e h = subst (λ x. is_value x ≡ true) (same_Some _ _ h) (both (int_le (neg_ℤ (pos (2 ^ 63))) (negsuc m)) (int_le (negsuc m) (pos (2 ^ 63 - 1))) (let k : nat_le m 9223372036854775807 ≡ true = grind (arith, nat_tests) in k) refl)
+    by (suc m) true e h = subst (λ x. is_value x ≡ true) (same_Some _ _ h) (and_from (int_le (neg_ℤ (pos (2 ^ 63))) (negsuc m)) (int_le (negsuc m) (pos (2 ^ 63 - 1))) (let k : nat_le m 9223372036854775807 ≡ true = grind (arith, nat_tests) in k) refl)
 value_of_sign false n z h = by (nat_lt n (2 ^ 63)) refl h
   where
     by : (t : Bool) → nat_lt n (2 ^ 63) ≡ t → cond t (Some (pos n)) None ≡ Some z → is_value z ≡ true
     by false e h = absurd (none-some z h)
-    by true e h = subst (λ x. is_value x ≡ true) (same_Some _ _ h) (both (int_le (neg_ℤ (pos (2 ^ 63))) (pos n)) (int_le (pos n) (pos (2 ^ 63 - 1))) refl (let k : nat_le n 9223372036854775807 ≡ true = grind (arith, nat_tests) in k))
+    by true e h = subst (λ x. is_value x ≡ true) (same_Some _ _ h) (and_from (int_le (neg_ℤ (pos (2 ^ 63))) (pos n)) (int_le (pos n) (pos (2 ^ 63 - 1))) refl (let k : nat_le n 9223372036854775807 ≡ true = grind (arith, nat_tests) in k))
 
 number_valued : (w : List ℕ) → is_value (unwrap_or (number_of w) (pos 0)) ≡ true
 number_valued w = by (is_numeral (unsigned w)) refl
@@ -99,19 +99,19 @@ term_valued names (number w) = number_valued w
 
 all_map : {A B : Type 0} (q : B → Bool) (f : A → B) → ((x : A) → q (f x) ≡ true) → (xs : List A) → list_all q (map f xs) ≡ true
 all_map q f good [] = refl
-all_map q f good (x ∷ xs) = both _ _ (good x) (all_map q f good xs)
+all_map q f good (x ∷ xs) = and_from _ _ (good x) (all_map q f good xs)
 
 head_valued : (names : Names) (ts : List Term) → list_all is_valued (head_terms names ts) ≡ true
 head_valued names [] = refl
-head_valued names (t ∷ ts) = both _ _ (term_valued names t) (head_valued (after_term names t) ts)
+head_valued names (t ∷ ts) = and_from _ _ (term_valued names t) (head_valued (after_term names t) ts)
 
 heads_valued : (ds : List Declaration) (names : Names) (atoms : List Atom) → are_valued (heads ds names atoms) ≡ true
 heads_valued ds names [] = refl
-heads_valued ds names (a ∷ atoms) = both _ _ (head_valued names a.args) (heads_valued ds (after_terms names a.args) atoms)
+heads_valued ds names (a ∷ atoms) = and_from _ _ (head_valued names a.args) (heads_valued ds (after_terms names a.args) atoms)
 
 are_valued-append : (ps qs : List Pattern) → are_valued ps ≡ true → are_valued qs ≡ true → are_valued (ps ++ qs) ≡ true
 are_valued-append [] qs h g = g
-are_valued-append (p ∷ ps) qs h g = let e = each (list_all is_valued p.args.items) (are_valued ps) h in both _ _ e.0 (are_valued-append ps qs e.1 g)
+are_valued-append (p ∷ ps) qs h g = let e = and_parts (list_all is_valued p.args.items) (are_valued ps) h in and_from _ _ e.0 (are_valued-append ps qs e.1 g)
 
 module _ (ds : List Declaration) (r : Rule) where
   abbrev all_heads : List Pattern
@@ -120,44 +120,44 @@ module _ (ds : List Declaration) (r : Rule) where
   known_term : (t : Term) → term_unbound r t ≡ false → is_known all_heads (term_in (names_of r) t) ≡ true
   known_term (number w) h = refl
   known_term (variable w) h =
-      let met = bound_is_met r w (not_is (is_bound r w) h) in
+      let met = bound_is_met r w (not-false (is_bound r w) h) in
       let range = in_range w (names_of r) met.0 met.1 in
       occurs_in all_heads (length (names_of r)) (numbers ds r.kept r.removed) (variable_of (names_of r) w) range.0 range.1
 
   known_comparison : (c : Comparison) → comparison_unbound r c ≡ false → (is_known all_heads (comparison_in (names_of r) c).left && is_known all_heads (comparison_in (names_of r) c).right) ≡ true
-  known_comparison c h = let n = neither _ _ h in both _ _ (known_term c.left n.0) (known_term c.right n.1)
+  known_comparison c h = let n = or_parts _ _ h in and_from _ _ (known_term c.left n.0) (known_term c.right n.1)
 
   known_atom : (a : Atom) → atom_unbound r a ≡ false → list_all (is_known all_heads) (body_atom ds (names_of r) a).args.items ≡ true
   known_atom a h = all_pass (term_unbound r) (term_in (names_of r)) (is_known all_heads) known_term a.args h
 
   closed : rule_unbound r ≡ false → is_closed all_heads (resolved ds r).guard (resolved ds r).body ≡ true
   closed h =
-      let n = neither _ _ h in
-      both _ _
+      let n = or_parts _ _ h in
+      and_from _ _
       (all_pass (comparison_unbound r) (comparison_in (names_of r)) (λ c. is_known all_heads c.left && is_known all_heads c.right) known_comparison (present r.guard) n.0)
       (all_pass (atom_unbound r) (body_atom ds (names_of r)) (λ p. list_all (is_known all_heads) p.args.items) known_atom (present r.body) n.1)
 
   few_heads : rule_over r ≡ false → nat_le (length (resolved ds r).kept + length (resolved ds r).removed) 4 ≡ true
   few_heads h =
-      let lists = (neither (lists_over r) (label_over r.label || parts_over r) h).0 in
-      let over = (neither (nat_lt 4 (length r.kept + length r.removed)) (nat_lt 8 (length (present r.guard)) || nat_lt 8 (length (present r.body))) lists).0 in
+      let lists = (or_parts (lists_over r) (label_over r.label || parts_over r) h).0 in
+      let over = (or_parts (nat_lt 4 (length r.kept + length r.removed)) (nat_lt 8 (length (present r.guard)) || nat_lt 8 (length (present r.body))) lists).0 in
       let a = heads_length ds [] r.kept in
       let b = heads_length ds (after_heads [] r.kept) r.removed in
       grind (arith, nat_tests)
 
   few_items : rule_over r ≡ false → (nat_le (length (resolved ds r).guard) 8 && nat_le (length (resolved ds r).body) 8) ≡ true
   few_items h =
-      let lists = (neither (lists_over r) (label_over r.label || parts_over r) h).0 in
-      let over = neither (nat_lt 8 (length (present r.guard))) (nat_lt 8 (length (present r.body))) (neither (nat_lt 4 (length r.kept + length r.removed)) _ lists).1 in
-      both (nat_le (length (resolved ds r).guard) 8) (nat_le (length (resolved ds r).body) 8)
+      let lists = (or_parts (lists_over r) (label_over r.label || parts_over r) h).0 in
+      let over = or_parts (nat_lt 8 (length (present r.guard))) (nat_lt 8 (length (present r.body))) (or_parts (nat_lt 4 (length r.kept + length r.removed)) _ lists).1 in
+      and_from (nat_le (length (resolved ds r).guard) 8) (nat_le (length (resolved ds r).body) 8)
       (let a = length-map (present r.guard) (comparison_in (names_of r)) in let b = over.0 in grind (arith, nat_tests))
       (let a = length-map (present r.body) (body_atom ds (names_of r)) in let b = over.1 in grind (arith, nat_tests))
 
   valued : (are_valued all_heads && list_all (λ c. is_valued c.left && is_valued c.right) (resolved ds r).guard && are_valued (resolved ds r).body) ≡ true
   valued =
-      both _ _
-      (both _ _ (are_valued-append (heads ds [] r.kept) (heads ds (after_heads [] r.kept) r.removed) (heads_valued ds [] r.kept) (heads_valued ds (after_heads [] r.kept) r.removed))
-      (all_map _ _ (λ c. both _ _ (term_valued (names_of r) c.left) (term_valued (names_of r) c.right)) (present r.guard)))
+      and_from _ _
+      (and_from _ _ (are_valued-append (heads ds [] r.kept) (heads ds (after_heads [] r.kept) r.removed) (heads_valued ds [] r.kept) (heads_valued ds (after_heads [] r.kept) r.removed))
+      (all_map _ _ (λ c. and_from _ _ (term_valued (names_of r) c.left) (term_valued (names_of r) c.right)) (present r.guard)))
       (all_map _ _ (λ a. all_map is_valued (term_in (names_of r)) (term_valued (names_of r)) a.args) (present r.body))
 
   some_head : 0 < length r.removed → nat_lt 0 (length (resolved ds r).removed) ≡ true
@@ -166,11 +166,11 @@ module _ (ds : List Declaration) (r : Rule) where
   pub resolved_is_rule : rule_over r ≡ false → rule_unbound r ≡ false → 0 < length r.removed
       → is_rule (resolved ds r).kept (resolved ds r).removed (resolved ds r).guard (resolved ds r).body ≡ true
   resolved_is_rule over unbound some =
-      both _ _ (both _ _ (both _ _ (some_head some) (few_heads over)) (closed unbound)) (ap is_some (numbers ds r.kept r.removed))
+      and_from _ _ (and_from _ _ (and_from _ _ (some_head some) (few_heads over)) (closed unbound)) (ap is_some (numbers ds r.kept r.removed))
 
   pub resolved_in_bounds : rule_over r ≡ false → has_names (rule r) ≡ true → is_in_bounds (resolved ds r).name all_heads (resolved ds r).guard (resolved ds r).body ≡ true
   unfolding is_in_bounds
-  resolved_in_bounds over named = let few = each _ _ (few_items over) in both _ _ (both _ _ (both _ _ (label_is r over named) few.0) few.1) valued
+  resolved_in_bounds over named = let few = and_parts _ _ (few_items over) in and_from _ _ (and_from _ _ (and_from _ _ (label_is r over named) few.0) few.1) valued
 
 -- ---- its atoms are declared
 
@@ -190,17 +190,17 @@ declared_pattern ds a ts long h = by (place_of_atom ds a) refl h
 heads_declared : (ds : List Declaration) (names : Names) (atoms : List Atom) → any_undeclared ds atoms ≡ false → list_all (is_declared ds) (heads ds names atoms) ≡ true
 heads_declared ds names [] h = refl
 heads_declared ds names (a ∷ atoms) h =
-    let n = neither _ _ h in
-    both _ _ (declared_pattern ds a (head_terms names a.args) (head_terms_length names a.args) n.0) (heads_declared ds (after_terms names a.args) atoms n.1)
+    let n = or_parts _ _ h in
+    and_from _ _ (declared_pattern ds a (head_terms names a.args) (head_terms_length names a.args) n.0) (heads_declared ds (after_terms names a.args) atoms n.1)
 
 abbrev fits_so : List Declaration → RuleData → Bool
 fits_so ds d = list_all (is_declared ds) d.kept && list_all (is_declared ds) d.removed && list_all (is_declared ds) d.body
 
 fits_resolved : (ds : List Declaration) (r : Rule) → rule_undeclared ds r ≡ false → fits_so ds (resolved ds r) ≡ true
 fits_resolved ds r h =
-    let n = neither (any_undeclared ds r.kept) _ h in
-    let m = neither (any_undeclared ds r.removed) _ n.1 in
-    both _ _ (both _ _ (heads_declared ds [] r.kept n.0) (heads_declared ds (after_heads [] r.kept) r.removed m.0))
+    let n = or_parts (any_undeclared ds r.kept) _ h in
+    let m = or_parts (any_undeclared ds r.removed) _ n.1 in
+    and_from _ _ (and_from _ _ (heads_declared ds [] r.kept n.0) (heads_declared ds (after_heads [] r.kept) r.removed m.0))
     (all_pass (is_undeclared ds) (body_atom ds (names_of r)) (is_declared ds)
     (λ a e. declared_pattern ds a (map (term_in (names_of r)) a.args) (length-map a.args (term_in (names_of r))) e) (present r.body) m.1)
 

@@ -3,7 +3,7 @@ use Rattle.std.proofs.Common.{◌≡◌, ℕ, ◌+◌, ◌<◌, ◌≤◌, List,
 use Rattle.std.specs.Prelude.{decimal}
 use Rattle.std.specs.List.{list_any, list_all, AllByRecursion}
 use Rattle.std.specs.Str.{bytes_eq}
-use Rattle.std.proofs.lemmas.Bool.{false≢true, eqb-true}
+use Rattle.std.proofs.lemmas.Bool.{false≢true, eqb-true, and_from, and_parts, or_right, or_left, or_from}
 use Rattle.std.proofs.lemmas.Bool.Decides.{nat_tests}
 use Rattle.std.proofs.lemmas.List.{length-map}
 use Rattle.std.proofs.lemmas.List.Folds.{list_any-append}
@@ -34,7 +34,6 @@ use Rattle.chr_read.specs.Faults.{present, is_name, any_undeclared, is_undeclare
 use Rattle.chr_read.specs.Faults as faults
 use Rattle.chr_read.specs.Reading.{with_form, meaning_in, pieces_read, text_read}
 use Rattle.chr_read.specs.Resolving.{after_heads, heads, body_atom, comparison_in, names_of, resolved}
-use Rattle.chr_read.proofs.Booleans.{both, each, or_true, or_left, none_of}
 use Rattle.chr_read.proofs.Decimals.{decimal_digits}
 use Rattle.chr_read.proofs.DeclarationsBack.{pass, state, InRange, in_range, name_is_word, name_is_unreserved, name_is, plain, declarations_back, weights_back}
 use Rattle.chr_read.proofs.EndedTexts.{AreClauses, clauses_append, after, AreFaultless, after_append, faultless_append, no_comments, ended_read}
@@ -63,67 +62,67 @@ some_of (Some n) h = (n, refl)
 
 valued_terms : (ps : List Pattern) → are_valued ps ≡ true → list_all is_valued (terms_of ps) ≡ true
 valued_terms [] h = refl
-valued_terms (p ∷ ps) h = let e = each (list_all is_valued p.args.items) (are_valued ps) h in chain p.args.items (terms_of ps) e.0 (valued_terms ps e.1)
+valued_terms (p ∷ ps) h = let e = and_parts (list_all is_valued p.args.items) (are_valued ps) h in chain p.args.items (terms_of ps) e.0 (valued_terms ps e.1)
   where
     chain : (xs ys : List base.Term) → list_all is_valued xs ≡ true → list_all is_valued ys ≡ true → list_all is_valued (xs ++ ys) ≡ true
     chain [] ys h g = g
-    chain (x ∷ xs) ys h g = let e = each (is_valued x) (list_all is_valued xs) h in both (is_valued x) _ e.0 (chain xs ys e.1 g)
+    chain (x ∷ xs) ys h g = let e = and_parts (is_valued x) (list_all is_valued xs) h in and_from (is_valued x) _ e.0 (chain xs ys e.1 g)
 
 few_terms : (ds : List Declaration) (ps : List Pattern) → list_all is_in_range ds ≡ true → list_all (is_declared ds) ps ≡ true → length (terms_of ps) ≤ length ps + length ps + length ps + length ps
 few_terms ds [] r h = omega arith
 few_terms ds (p ∷ ps) r h =
-    let e = each (is_declared ds p) (list_all (is_declared ds) ps) h in
+    let e = and_parts (is_declared ds p) (list_all (is_declared ds) ps) h in
     let q = placed ds p r e.0 in
     let a = length-append p.args.items (terms_of ps) in let b = few_terms ds ps r e.1 in let t = q.takes in let s = q.range.arity in
     omega (arith, a, b, t, s)
 
 declared_both : (ds : List Declaration) (ps qs : List Pattern) → list_all (is_declared ds) ps ≡ true → list_all (is_declared ds) qs ≡ true → list_all (is_declared ds) (ps ++ qs) ≡ true
 declared_both ds [] qs h g = g
-declared_both ds (p ∷ ps) qs h g = let e = each (is_declared ds p) (list_all (is_declared ds) ps) h in both (is_declared ds p) _ e.0 (declared_both ds ps qs e.1 g)
+declared_both ds (p ∷ ps) qs h g = let e = and_parts (is_declared ds p) (list_all (is_declared ds) ps) h in and_from (is_declared ds p) _ e.0 (declared_both ds ps qs e.1 g)
 
 -- the heads
 head_atoms : (ds : List Declaration) (n : ℕ) (ps : List Pattern) → list_all is_in_range ds ≡ true → list_all (is_declared ds) ps ≡ true → AllByRecursion (Good n) (terms_of ps) → AllByRecursion (GoodAtom ds n) ps
 head_atoms ds n [] r h g = tt
 head_atoms ds n (p ∷ ps) r h g =
-    let e = each (is_declared ds p) (list_all (is_declared ds) ps) h in
+    let e = and_parts (is_declared ds p) (list_all (is_declared ds) ps) h in
     (record { placed = placed ds p r e.0; args = front (Good n) p.args.items (terms_of ps) g }, head_atoms ds n ps r e.1 (back (Good n) p.args.items (terms_of ps) g))
 
 -- the body
 body_terms : (n : ℕ) (hs : List Pattern) → AllByRecursion (Good n) (terms_of hs) → (ts : List base.Term) → list_all (is_known hs) ts ≡ true → list_all is_valued ts ≡ true → AllByRecursion (Good n) ts
 body_terms n hs g [] k v = tt
 body_terms n hs g (t ∷ ts) k v =
-    let a = each (is_known hs t) (list_all (is_known hs) ts) k in let b = each (is_valued t) (list_all is_valued ts) v in (good_term n hs g t a.0 b.0, body_terms n hs g ts a.1 b.1)
+    let a = and_parts (is_known hs t) (list_all (is_known hs) ts) k in let b = and_parts (is_valued t) (list_all is_valued ts) v in (good_term n hs g t a.0 b.0, body_terms n hs g ts a.1 b.1)
 
 body_atoms : (ds : List Declaration) (n : ℕ) (hs ps : List Pattern) → list_all is_in_range ds ≡ true → AllByRecursion (Good n) (terms_of hs) → list_all (is_declared ds) ps ≡ true
     → list_all (λ p. list_all (is_known hs) p.args.items) ps ≡ true → are_valued ps ≡ true → AllByRecursion (GoodAtom ds n) ps
 body_atoms ds n hs [] r g h k v = tt
 body_atoms ds n hs (p ∷ ps) r g h k v =
-    let e = each (is_declared ds p) (list_all (is_declared ds) ps) h in
-    let a = each (list_all (is_known hs) p.args.items) (list_all (λ p. list_all (is_known hs) p.args.items) ps) k in
-    let b = each (list_all is_valued p.args.items) (are_valued ps) v in
+    let e = and_parts (is_declared ds p) (list_all (is_declared ds) ps) h in
+    let a = and_parts (list_all (is_known hs) p.args.items) (list_all (λ p. list_all (is_known hs) p.args.items) ps) k in
+    let b = and_parts (list_all is_valued p.args.items) (are_valued ps) v in
     (record { placed = placed ds p r e.0; args = body_terms n hs g p.args.items a.0 b.0 }, body_atoms ds n hs ps r g e.1 a.1 b.1)
 
 guard_terms : (n : ℕ) (hs : List Pattern) → AllByRecursion (Good n) (terms_of hs) → (cs : List base_comparison.Comparison)
     → list_all (λ c. is_known hs c.left && is_known hs c.right) cs ≡ true → list_all (λ c. is_valued c.left && is_valued c.right) cs ≡ true → AllByRecursion (GoodComparison n) cs
 guard_terms n hs g [] k v = tt
 guard_terms n hs g (c ∷ cs) k v =
-    let a = each (is_known hs c.left && is_known hs c.right) (list_all (λ c. is_known hs c.left && is_known hs c.right) cs) k in
-    let b = each (is_valued c.left && is_valued c.right) (list_all (λ c. is_valued c.left && is_valued c.right) cs) v in
-    let x = each (is_known hs c.left) (is_known hs c.right) a.0 in let y = each (is_valued c.left) (is_valued c.right) b.0 in
+    let a = and_parts (is_known hs c.left && is_known hs c.right) (list_all (λ c. is_known hs c.left && is_known hs c.right) cs) k in
+    let b = and_parts (is_valued c.left && is_valued c.right) (list_all (λ c. is_valued c.left && is_valued c.right) cs) v in
+    let x = and_parts (is_known hs c.left) (is_known hs c.right) a.0 in let y = and_parts (is_valued c.left) (is_valued c.right) b.0 in
     (record { left = good_term n hs g c.left x.0 y.0; right = good_term n hs g c.right x.1 y.1 }, guard_terms n hs g cs a.1 b.1)
 
 good_rule : (ds : List Declaration) (r : base_rule.Rule) → list_all is_in_range ds ≡ true → fits ds r ≡ true → GoodRule ds r
 good_rule ds r range fit =
     let hs = heads_of r in
-    let f = each (list_all (is_declared ds) r.kept.items && list_all (is_declared ds) r.removed.items) (list_all (is_declared ds) r.body.items) fit in
-    let g = each (list_all (is_declared ds) r.kept.items) (list_all (is_declared ds) r.removed.items) f.0 in
-    let v = each (are_valued hs && list_all (λ c. is_valued c.left && is_valued c.right) r.guard.items) (are_valued r.body.items) (valued_rule r) in
-    let w = each (are_valued hs) (list_all (λ c. is_valued c.left && is_valued c.right) r.guard.items) v.0 in
-    let k = each (list_all (λ c. is_known hs c.left && is_known hs c.right) r.guard.items) (list_all (λ p. list_all (is_known hs) p.args.items) r.body.items) (closed_rule r) in
+    let f = and_parts (list_all (is_declared ds) r.kept.items && list_all (is_declared ds) r.removed.items) (list_all (is_declared ds) r.body.items) fit in
+    let g = and_parts (list_all (is_declared ds) r.kept.items) (list_all (is_declared ds) r.removed.items) f.0 in
+    let v = and_parts (are_valued hs && list_all (λ c. is_valued c.left && is_valued c.right) r.guard.items) (are_valued r.body.items) (valued_rule r) in
+    let w = and_parts (are_valued hs) (list_all (λ c. is_valued c.left && is_valued c.right) r.guard.items) v.0 in
+    let k = and_parts (list_all (λ c. is_known hs c.left && is_known hs c.right) r.guard.items) (list_all (λ p. list_all (is_known hs) p.args.items) r.body.items) (closed_rule r) in
     let s = some_of (numbered 0 (terms_of hs)) (numbered_rule r) in
     let b = bounds 0 s.0 (terms_of hs) s.1 (valued_terms hs w.0) in
     let good = b.good in
-    let z = (each (nat_lt 0 (length r.removed.items)) (nat_le (length r.kept.items + length r.removed.items) 4) (sized_rule r)).1 in
+    let z = (and_parts (nat_lt 0 (length r.removed.items)) (nat_le (length r.kept.items + length r.removed.items) 4) (sized_rule r)).1 in
     let heads : length hs ≤ 4 = (let a = length-append r.kept.items r.removed.items in let c : length r.kept.items + length r.removed.items ≤ 4 = grind (arith, nat_tests) in omega (arith, a, c)) in
     let most = few_terms ds hs range (declared_both ds r.kept.items r.removed.items g.0 g.1) in
     let split : AllByRecursion (Good s.0) (terms_of r.kept.items ++ terms_of r.removed.items) = subst (AllByRecursion (Good s.0)) (terms_append r.kept.items r.removed.items) good in
@@ -141,7 +140,7 @@ good_rule ds r range fit =
 
 either_any : (a b : Bool) → (a || b) ≡ true → (c d : Bool) → (a ≡ true → c ≡ true) → (b ≡ true → d ≡ true) → (c || d) ≡ true
 either_any true b h c d f g = or_left c d (f refl)
-either_any false b h c d f g = or_true c d (g h)
+either_any false b h c d f g = or_right c d (g h)
 
 term_stands : (x : ℕ) (t : base.Term) → rules.is_variable x t ≡ true → faults.is_variable (variable_name x) (written_term t) ≡ true
 term_stands x (Variable y) h = subst (λ z. bytes_eq (variable_name x) (variable_name z) ≡ true) (eqb-true x y h) (itself (variable_name x))
@@ -167,8 +166,8 @@ module _ (ds : List Declaration) (r : base_rule.Rule) (u : are_distinct ds ≡ t
 
   undeclared : rule_undeclared ds w ≡ false
   undeclared =
-      none_of (any_undeclared ds w.kept) _ (none_pass (is_undeclared ds) (written_atom ds) (GoodAtom ds g.n) (atom_declared ds g.n u) r.kept.items g.kept)
-      (none_of (any_undeclared ds w.removed) _ (none_pass (is_undeclared ds) (written_atom ds) (GoodAtom ds g.n) (atom_declared ds g.n u) r.removed.items g.removed)
+      or_from (any_undeclared ds w.kept) _ (none_pass (is_undeclared ds) (written_atom ds) (GoodAtom ds g.n) (atom_declared ds g.n u) r.kept.items g.kept)
+      (or_from (any_undeclared ds w.removed) _ (none_pass (is_undeclared ds) (written_atom ds) (GoodAtom ds g.n) (atom_declared ds g.n u) r.removed.items g.removed)
       (ap (any_undeclared ds) (present_body ds r.body.items) ∙ none_pass (is_undeclared ds) (written_atom ds) (GoodAtom ds g.n) (atom_declared ds g.n u) r.body.items g.body))
 
   comparisons : present w.guard ≡ map written_comparison r.guard.items
@@ -179,44 +178,44 @@ module _ (ds : List Declaration) (r : base_rule.Rule) (u : are_distinct ds ≡ t
 
   limits : (labelled ≡ true) × (length r.guard.items ≤ 8) × (length r.body.items ≤ 8)
   limits =
-      let a = each (labelled && nat_le (length r.guard.items) 8) (nat_le (length r.body.items) 8) (few_rule r) in
-      let b = each labelled (nat_le (length r.guard.items) 8) a.0 in
+      let a = and_parts (labelled && nat_le (length r.guard.items) 8) (nat_le (length r.body.items) 8) (few_rule r) in
+      let b = and_parts labelled (nat_le (length r.guard.items) 8) a.0 in
       (b.0, (let b1 = b.1 in grind (arith, nat_tests)), (let a1 = a.1 in grind (arith, nat_tests)))
 
   few_lists : lists_over w ≡ false
   few_lists =
-      let z = (each (nat_lt 0 (length r.removed.items)) (nat_le (length r.kept.items + length r.removed.items) 4) (sized_rule r)).1 in
+      let z = (and_parts (nat_lt 0 (length r.removed.items)) (nat_le (length r.kept.items + length r.removed.items) 4) (sized_rule r)).1 in
       let k = length-map r.kept.items (written_atom ds) in
       let m = length-map r.removed.items (written_atom ds) in
       let c : length (present w.guard) ≤ 8 = (let e = ap length comparisons in let f = length-map r.guard.items written_comparison in let l = limits.1 in omega (arith, e, f, l)) in
       let b : length (present w.body) ≤ 8 = (let e = ap length (present_body ds r.body.items) in let f = length-map r.body.items (written_atom ds) in let l = limits.2 in omega (arith, e, f, l)) in
-      none_of (nat_lt 4 (length w.kept + length w.removed)) _ (grind (arith, nat_tests))
-      (none_of (nat_lt 8 (length (present w.guard))) (nat_lt 8 (length (present w.body))) (grind (arith, nat_tests)) (grind (arith, nat_tests)))
+      or_from (nat_lt 4 (length w.kept + length w.removed)) _ (grind (arith, nat_tests))
+      (or_from (nat_lt 8 (length (present w.guard))) (nat_lt 8 (length (present w.body))) (grind (arith, nat_tests)) (grind (arith, nat_tests)))
 
   label_short : (o : Option (List ℕ)) → names.is_label o ≡ true → label_over o ≡ false
   label_short None h = refl
   label_short (Some v) h =
-      let e = each (names.is_name v) (nat_le (length v) 32) h in let l : length v ≤ 32 = (let e1 = e.1 in grind (arith, nat_tests)) in ap not (name_is v e.0 l)
+      let e = and_parts (names.is_name v) (nat_le (length v) 32) h in let l : length v ≤ 32 = (let e1 = e.1 in grind (arith, nat_tests)) in ap not (name_is v e.0 l)
 
   few_parts : parts_over w ≡ false
   few_parts =
-      let over = λ (c : base_comparison.Comparison) (h : GoodComparison g.n c). none_of _ _ (within g.n g.few c.left h.left) (within g.n g.few c.right h.right) in
-      none_of (list_any atom_over w.kept) _ (none_pass atom_over (written_atom ds) (GoodAtom ds g.n) (atom_within ds g.n g.few) r.kept.items g.kept)
-      (none_of (list_any atom_over w.removed) _ (none_pass atom_over (written_atom ds) (GoodAtom ds g.n) (atom_within ds g.n g.few) r.removed.items g.removed)
-      (none_of (list_any comparison_over (present w.guard)) _ (ap (list_any comparison_over) comparisons ∙ none_pass comparison_over written_comparison (GoodComparison g.n) over r.guard.items g.guard)
+      let over = λ (c : base_comparison.Comparison) (h : GoodComparison g.n c). or_from _ _ (within g.n g.few c.left h.left) (within g.n g.few c.right h.right) in
+      or_from (list_any atom_over w.kept) _ (none_pass atom_over (written_atom ds) (GoodAtom ds g.n) (atom_within ds g.n g.few) r.kept.items g.kept)
+      (or_from (list_any atom_over w.removed) _ (none_pass atom_over (written_atom ds) (GoodAtom ds g.n) (atom_within ds g.n g.few) r.removed.items g.removed)
+      (or_from (list_any comparison_over (present w.guard)) _ (ap (list_any comparison_over) comparisons ∙ none_pass comparison_over written_comparison (GoodComparison g.n) over r.guard.items g.guard)
       (ap (list_any atom_over) (present_body ds r.body.items) ∙ none_pass atom_over (written_atom ds) (GoodAtom ds g.n) (atom_within ds g.n g.few) r.body.items g.body)))
 
   not_over : rule_over w ≡ false
-  not_over = none_of (lists_over w) _ few_lists (none_of (label_over w.label) _ (label_short (option_map (λ n. n.bytes) r.name) limits.0) few_parts)
+  not_over = or_from (lists_over w) _ few_lists (or_from (label_over w.label) _ (label_short (option_map (λ n. n.bytes) r.name) limits.0) few_parts)
 
   not_unbound : rule_unbound w ≡ false
   not_unbound =
       let hs = heads_of r in
-      let k = each (list_all (λ c. is_known hs c.left && is_known hs c.right) r.guard.items) (list_all (λ p. list_all (is_known hs) p.args.items) r.body.items) (closed_rule r) in
-      none_of (list_any (comparison_unbound w) (present w.guard)) _
+      let k = and_parts (list_all (λ c. is_known hs c.left && is_known hs c.right) r.guard.items) (list_all (λ p. list_all (is_known hs) p.args.items) r.body.items) (closed_rule r) in
+      or_from (list_any (comparison_unbound w) (present w.guard)) _
       (ap (list_any (comparison_unbound w)) comparisons
       ∙ none_pass (comparison_unbound w) written_comparison (λ c. (is_known hs c.left && is_known hs c.right) ≡ true)
-      (λ c h. (let e = each (is_known hs c.left) (is_known hs c.right) h in none_of _ _ (term_bound ds r c.left e.0) (term_bound ds r c.right e.1))) r.guard.items
+      (λ c h. (let e = and_parts (is_known hs c.left) (is_known hs c.right) h in or_from _ _ (term_bound ds r c.left e.0) (term_bound ds r c.right e.1))) r.guard.items
       (tested (λ c. is_known hs c.left && is_known hs c.right) (λ c. (is_known hs c.left && is_known hs c.right) ≡ true) (λ c h. h) r.guard.items k.0))
       (ap (list_any (atom_unbound w)) (present_body ds r.body.items)
       ∙ none_pass (atom_unbound w) (written_atom ds) (λ p. list_all (is_known hs) p.args.items ≡ true)
@@ -225,17 +224,17 @@ module _ (ds : List Declaration) (r : base_rule.Rule) (u : are_distinct ds ≡ t
 
   not_outside : rule_outside w ≡ false
   not_outside =
-      let out = λ (c : base_comparison.Comparison) (h : GoodComparison g.n c). none_of _ _ (inside g.n c.left h.left) (inside g.n c.right h.right) in
-      none_of (list_any atom_outside w.kept) _ (none_pass atom_outside (written_atom ds) (GoodAtom ds g.n) (atom_inside ds g.n) r.kept.items g.kept)
-      (none_of (list_any atom_outside w.removed) _ (none_pass atom_outside (written_atom ds) (GoodAtom ds g.n) (atom_inside ds g.n) r.removed.items g.removed)
-      (none_of (list_any comparison_outside (present w.guard)) _ (ap (list_any comparison_outside) comparisons ∙ none_pass comparison_outside written_comparison (GoodComparison g.n) out r.guard.items g.guard)
+      let out = λ (c : base_comparison.Comparison) (h : GoodComparison g.n c). or_from _ _ (inside g.n c.left h.left) (inside g.n c.right h.right) in
+      or_from (list_any atom_outside w.kept) _ (none_pass atom_outside (written_atom ds) (GoodAtom ds g.n) (atom_inside ds g.n) r.kept.items g.kept)
+      (or_from (list_any atom_outside w.removed) _ (none_pass atom_outside (written_atom ds) (GoodAtom ds g.n) (atom_inside ds g.n) r.removed.items g.removed)
+      (or_from (list_any comparison_outside (present w.guard)) _ (ap (list_any comparison_outside) comparisons ∙ none_pass comparison_outside written_comparison (GoodComparison g.n) out r.guard.items g.guard)
       (ap (list_any atom_outside) (present_body ds r.body.items) ∙ none_pass atom_outside (written_atom ds) (GoodAtom ds g.n) (atom_inside ds g.n) r.body.items g.body)))
 
   rule_faultless : (q : Progress) → q.meaning.declarations ≡ ds → length q.meaning.rules < 64 → fault_in q (rule w) ≡ None
   rule_faultless q is l =
       let room : nat_le 64 (length q.meaning.rules) ≡ false = grind (arith, nat_tests) in
       pass (rule_undeclared q.meaning.declarations w) _ _ (ap (λ d. rule_undeclared d w) is ∙ undeclared)
-      (pass (nat_le 64 (length q.meaning.rules) || rule_over w) _ _ (none_of (nat_le 64 (length q.meaning.rules)) _ room not_over)
+      (pass (nat_le 64 (length q.meaning.rules) || rule_over w) _ _ (or_from (nat_le 64 (length q.meaning.rules)) _ room not_over)
       (pass (rule_unbound w) _ _ not_unbound (pass (rule_outside w) _ _ not_outside refl)))
 
   -- ---- it is resolved to the rule
@@ -243,7 +242,7 @@ module _ (ds : List Declaration) (r : base_rule.Rule) (u : are_distinct ds ≡ t
   rule_back : resolved ds w ≡ rule_data r
   rule_back =
       let s = numbered_split 0 g.n (terms_of r.kept.items) (terms_of r.removed.items) (ap (numbered 0) (sym (terms_append r.kept.items r.removed.items)) ∙ g.count) in
-      let v = (each (are_valued (heads_of r)) (list_all (λ c. is_valued c.left && is_valued c.right) r.guard.items) (each (are_valued (heads_of r) && list_all (λ c. is_valued c.left && is_valued c.right) r.guard.items) (are_valued r.body.items) (valued_rule r)).0).0 in
+      let v = (and_parts (are_valued (heads_of r)) (list_all (λ c. is_valued c.left && is_valued c.right) r.guard.items) (and_parts (are_valued (heads_of r) && list_all (λ c. is_valued c.left && is_valued c.right) r.guard.items) (are_valued r.body.items) (valued_rule r)).0).0 in
       let vs = valued_parts r.kept.items r.removed.items v in
       let b = (bounds s.0 g.n (terms_of r.removed.items) s.2 (valued_terms r.removed.items vs.1)).least in
       let few : s.0 ≤ 16 = (let f = g.few in omega (arith, b, f)) in
@@ -261,7 +260,7 @@ module _ (ds : List Declaration) (r : base_rule.Rule) (u : are_distinct ds ≡ t
       valued_parts : (ps qs : List Pattern) → are_valued (ps ++ qs) ≡ true → (are_valued ps ≡ true) × (are_valued qs ≡ true)
       valued_parts [] qs h = (refl, h)
       valued_parts (p ∷ ps) qs h =
-          let e = each (list_all is_valued p.args.items) (are_valued (ps ++ qs)) h in let m = valued_parts ps qs e.1 in (both (list_all is_valued p.args.items) _ e.0 m.0, m.1)
+          let e = and_parts (list_all is_valued p.args.items) (are_valued (ps ++ qs)) h in let m = valued_parts ps qs e.1 in (and_from (list_all is_valued p.args.items) _ e.0 m.0, m.1)
 
       fewer : (n : ℕ) (ps : List Pattern) → AllByRecursion (GoodAtom ds g.n) ps → AllByRecursion (Good n) (terms_of ps) → AllByRecursion (GoodAtom ds n) ps
       fewer n [] h t = tt
@@ -276,13 +275,13 @@ module _ (ds : List Declaration) (r : base_rule.Rule) (u : are_distinct ds ≡ t
   rule_form = (
     label_form (option_map (λ n. n.bytes) r.name) limits.0,
     mapped (written_atom ds) (GoodAtom ds g.n) IsAtom (atom_form ds g.n) r.kept.items g.kept,
-    some_mapped r.removed.items (let z = (each (nat_lt 0 (length r.removed.items)) (nat_le (length r.kept.items + length r.removed.items) 4) (sized_rule r)).0 in grind (arith, nat_tests)) g.removed,
+    some_mapped r.removed.items (let z = (and_parts (nat_lt 0 (length r.removed.items)) (nat_le (length r.kept.items + length r.removed.items) 4) (sized_rule r)).0 in grind (arith, nat_tests)) g.removed,
     body_form r.body.items g.body,
   )
     where
       label_form : (o : Option (List ℕ)) → names.is_label o ≡ true → IsLabel o
       label_form None h = tt
-      label_form (Some v) h = name_is_unreserved v (each (names.is_name v) (nat_le (length v) 32) h).0
+      label_form (Some v) h = name_is_unreserved v (and_parts (names.is_name v) (nat_le (length v) 32) h).0
 
       mapped : {A B : Type 0} (f : A → B) (P : A → Type 0) (Q : B → Type 0) → ((x : A) → P x → Q (f x)) → (xs : List A) → AllByRecursion P xs → AllByRecursion Q (map f xs)
       mapped f P Q h [] a = tt
@@ -300,7 +299,7 @@ module _ (ds : List Declaration) (r : base_rule.Rule) (u : are_distinct ds ≡ t
   rule_writable = record {
     label = λ v e. label_word (option_map (λ n. n.bytes) r.name) v e limits.0;
     kept = each_so (GoodAtom ds g.n) _ (atom_writable ds g.n g.few) r.kept.items g.kept;
-    some = (let z = (each (nat_lt 0 (length r.removed.items)) (nat_le (length r.kept.items + length r.removed.items) 4) (sized_rule r)).0 in grind (arith, nat_tests));
+    some = (let z = (and_parts (nat_lt 0 (length r.removed.items)) (nat_le (length r.kept.items + length r.removed.items) 4) (sized_rule r)).0 in grind (arith, nat_tests));
     removed = each_so (GoodAtom ds g.n) _ (atom_writable ds g.n g.few) r.removed.items g.removed;
     guard = each_so (GoodComparison g.n) IsWritableComparison (λ c h. record { left = writable g.n g.few c.left h.left; right = writable g.n g.few c.right h.right }) r.guard.items g.guard;
     body = each_so (GoodAtom ds g.n) _ (atom_writable ds g.n g.few) r.body.items g.body;
@@ -308,14 +307,14 @@ module _ (ds : List Declaration) (r : base_rule.Rule) (u : are_distinct ds ≡ t
     where
       label_word : (o : Option (List ℕ)) (v : List ℕ) → o ≡ Some v → names.is_label o ≡ true → IsWord is_lower v
       label_word None v e h = absurd (none-some v e)
-      label_word (Some x) v e h = subst (IsWord is_lower) (same_Some x v e) (name_is_word x (each (names.is_name x) (nat_le (length x) 32) h).0)
+      label_word (Some x) v e h = subst (IsWord is_lower) (same_Some x v e) (name_is_word x (and_parts (names.is_name x) (nat_le (length x) 32) h).0)
 
 -- ---- all rules
 
 rules_clauses : (ds : List Declaration) (rs : List base_rule.Rule) → list_all is_in_range ds ≡ true → are_distinct ds ≡ true → list_all (fits ds) rs ≡ true → AreClauses (map (rule_clause ds) rs) (rule_forms ds rs)
 rules_clauses ds [] range u h = tt
 rules_clauses ds (r ∷ rs) range u h =
-    let e = each (fits ds r) (list_all (fits ds) rs) h in let g = good_rule ds r range e.0 in
+    let e = and_parts (fits ds r) (list_all (fits ds) rs) h in let g = good_rule ds r range e.0 in
     (rule_tokens ds r (rule_writable ds r u g), rule_form ds r u g, rules_clauses ds rs range u e.1)
 
 abbrev Ruled : List Declaration → List RuleData → List ℕ → List base_rule.Rule → Type 0
@@ -324,7 +323,7 @@ Ruled ds made ws rs = AreFaultless (state ds made ws) (rule_forms ds rs) × (aft
 rules_back : (ds : List Declaration) (made : List RuleData) (ws : List ℕ) (rs : List base_rule.Rule) → list_all is_in_range ds ≡ true → are_distinct ds ≡ true → list_all (fits ds) rs ≡ true → length made + length rs ≤ 64 → Ruled ds made ws rs
 rules_back ds made ws [] range u h l = (tt, ap (λ x. state ds x ws) (sym (append-nil made)))
 rules_back ds made ws (r ∷ rs) range u h l =
-    let e = each (fits ds r) (list_all (fits ds) rs) h in
+    let e = and_parts (fits ds r) (list_all (fits ds) rs) h in
     let g = good_rule ds r range e.0 in
     let a = length-append made (rule_data r ∷ []) in
     let more = rules_back ds (made ++ rule_data r ∷ []) ws rs range u e.1 (omega (arith, a, l)) in
@@ -339,7 +338,7 @@ rules_back ds made ws (r ∷ rs) range u h l =
 digits_are_positive : (w : List ℕ) → list_all is_digit w ≡ true → is_negative w ≡ false
 digits_are_positive [] h = refl
 digits_are_positive (b ∷ bs) h =
-    let d = (each (is_digit b) (list_all is_digit bs) h).0 in let n : nat_eq 45 b ≡ false = grind (arith, nat_tests) in ap (λ t. t && true) n
+    let d = (and_parts (is_digit b) (list_all is_digit bs) h).0 in let n : nat_eq 45 b ≡ false = grind (arith, nat_tests) in ap (λ t. t && true) n
 
 symbol_form : (d : Declaration) → InRange d → IsSymbol (written_symbol d)
 symbol_form d r = let a = r.arity in (name_is_unreserved d.name r.name, digits_are_positive (decimal d.arity) (decimal_digits d.arity (omega (arith, a))))
@@ -353,12 +352,12 @@ declaration_is (d ∷ ds) h = (declaration_tokens d ds (tested is_in_range IsWri
   where
     symbols : (ds : List Declaration) → list_all is_in_range ds ≡ true → AllByRecursion IsSymbol (map written_symbol ds)
     symbols [] h = tt
-    symbols (d ∷ ds) h = let e = each (is_in_range d) (list_all is_in_range ds) h in (symbol_form d (in_range d e.0), symbols ds e.1)
+    symbols (d ∷ ds) h = let e = and_parts (is_in_range d) (list_all is_in_range ds) h in (symbol_form d (in_range d e.0), symbols ds e.1)
 
 weights_are : (ds : List Declaration) → list_all is_in_range ds ≡ true → AreClauses (weight_clauses ds) (weight_forms ds)
 weights_are [] h = tt
 weights_are (d ∷ ds) h =
-    let e = each (is_in_range d) (list_all is_in_range ds) h in let r = in_range d e.0 in let m = r.most in
+    let e = and_parts (is_in_range d) (list_all is_in_range ds) h in let r = in_range d e.0 in let m = r.most in
     by (d.weight == 1) (weight_tokens d (symbol_writable d r) (omega (arith, m)), symbol_form d r) (weights_are ds e.1)
   where
     by : (t : Bool) → (tokens_of (weight_clause d) ≡ Some (spelled (weight (written_symbol d) (decimal d.weight)))) × IsForm (weight (written_symbol d) (decimal d.weight)) → AreClauses (weight_clauses ds) (weight_forms ds)
@@ -371,10 +370,10 @@ weights_are (d ∷ ds) h =
 pub round_trip : (p : Program) → length (canonical (declarations p) (rules_of p)) ≤ 65536 → text_read (canonical (declarations p) (rules_of p)) ≡ Ok (meaning_of p)
 round_trip p short =
     let ds = declarations p in let rs = rules_of p in
-    let a = each (nat_le (length ds) 64 && nat_le (length rs) 64 && list_all is_in_range ds && are_distinct ds) (list_all (fits ds) rs) p.well_formed in
-    let b = each (nat_le (length ds) 64 && nat_le (length rs) 64 && list_all is_in_range ds) (are_distinct ds) a.0 in
-    let c = each (nat_le (length ds) 64 && nat_le (length rs) 64) (list_all is_in_range ds) b.0 in
-    let e = each (nat_le (length ds) 64) (nat_le (length rs) 64) c.0 in
+    let a = and_parts (nat_le (length ds) 64 && nat_le (length rs) 64 && list_all is_in_range ds && are_distinct ds) (list_all (fits ds) rs) p.well_formed in
+    let b = and_parts (nat_le (length ds) 64 && nat_le (length rs) 64 && list_all is_in_range ds) (are_distinct ds) a.0 in
+    let c = and_parts (nat_le (length ds) 64 && nat_le (length rs) 64) (list_all is_in_range ds) b.0 in
+    let e = and_parts (nat_le (length ds) 64) (nat_le (length rs) 64) c.0 in
     let few : length ds ≤ 64 = (let e0 = e.0 in grind (arith, nat_tests)) in
     let few_rules : 0 + length rs ≤ 64 = (let e1 = e.1 in grind (arith, nat_tests)) in
     let range = c.1 in let u = b.1 in

@@ -3,7 +3,7 @@ use Rattle.std.proofs.Common.{◌≡◌, ℕ, zero, suc, ◌+◌, ◌<◌, ◌�
 use Rattle.std.specs.Prelude.{pos, codes, decimal}
 use Rattle.std.specs.Option.{option_map_or}
 use Rattle.std.specs.List.{list_any, list_all, AllByRecursion}
-use Rattle.std.proofs.lemmas.Bool.{false≢true, eqb-true}
+use Rattle.std.proofs.lemmas.Bool.{false≢true, eqb-true, or_parts, and_parts, or_right, or_left, or_from, not-true}
 use Rattle.std.proofs.lemmas.Bool.Decides.{nat_tests}
 use Rattle.std.proofs.lemmas.Fmt.{length-decimal-le_succ}
 use Rattle.std.proofs.lemmas.List.{length-map}
@@ -25,7 +25,6 @@ use Rattle.chr_syntax.specs.Lexemes.{IsWord}
 use Rattle.chr_read.specs.CanonicalTexts.{name_at}
 use Rattle.chr_read.specs.Faults.{present, is_name, place_of, place_of_atom, is_undeclared, term_over, atom_over, term_outside, atom_outside}
 use Rattle.chr_read.specs.Resolving.{term_in, heads, after_heads, body_atom, cmp_of, comparison_in}
-use Rattle.chr_read.proofs.Booleans.{neither, each, or_true, or_left, none_of, is_not}
 use Rattle.chr_read.proofs.Decimals.{number_back}
 use Rattle.chr_read.proofs.DeclarationsBack.{InRange, in_range, name_is_word, name_is_unreserved, name_is, turned, declares_itself}
 use Rattle.chr_read.proofs.NumberedNames.{first_names, variable_back, terms_back}
@@ -42,11 +41,11 @@ each_so P Q f (x ∷ xs) h = (f x h.0, each_so P Q f xs h.1)
 
 pub tested : {A : Type 0} (p : A → Bool) (Q : A → Type 0) → ((x : A) → p x ≡ true → Q x) → (xs : List A) → list_all p xs ≡ true → AllByRecursion Q xs
 tested p Q f [] h = tt
-tested p Q f (x ∷ xs) h = let e = each (p x) (list_all p xs) h in (f x e.0, tested p Q f xs e.1)
+tested p Q f (x ∷ xs) h = let e = and_parts (p x) (list_all p xs) h in (f x e.0, tested p Q f xs e.1)
 
 pub none_pass : {A B : Type 0} (p : B → Bool) (f : A → B) (Q : A → Type 0) → ((x : A) → Q x → p (f x) ≡ false) → (xs : List A) → AllByRecursion Q xs → list_any p (map f xs) ≡ false
 none_pass p f Q good [] h = refl
-none_pass p f Q good (x ∷ xs) h = none_of (p (f x)) _ (good x h.0) (none_pass p f Q good xs h.1)
+none_pass p f Q good (x ∷ xs) h = or_from (p (f x)) _ (good x h.0) (none_pass p f Q good xs h.1)
 
 pub any_pass : {A B : Type 0} (p : A → Bool) (q : B → Bool) (f : A → B) → ((x : A) → p x ≡ true → q (f x) ≡ true) → (xs : List A) → list_any p xs ≡ true → list_any q (map f xs) ≡ true
 any_pass p q f good [] h = h
@@ -54,7 +53,7 @@ any_pass p q f good (x ∷ xs) h = by (p x) refl h (any_pass p q f good xs)
   where
     by : (b : Bool) → p x ≡ b → (b || list_any p xs) ≡ true → (list_any p xs ≡ true → list_any q (map f xs) ≡ true) → (q (f x) || list_any q (map f xs)) ≡ true
     by true e h more = or_left (q (f x)) _ (good x e)
-    by false e h more = or_true (q (f x)) _ (more h)
+    by false e h more = or_right (q (f x)) _ (more h)
 
 pub same_each : {A B : Type 0} (g : B → A) (f : A → B) (Q : A → Type 0) → ((x : A) → Q x → g (f x) ≡ x) → (xs : List A) → AllByRecursion Q xs → map g (map f xs) ≡ xs
 same_each g f Q back [] h = refl
@@ -78,8 +77,8 @@ pub record Placed (ds : List Declaration) (p : Pattern) : Type 0 where
 
 range_at : (ds : List Declaration) (i : ℕ) (d : Declaration) → list_all is_in_range ds ≡ true → slice_get ds i ≡ Some d → is_in_range d ≡ true
 range_at [] i d h g = absurd (none-some d g)
-range_at (e ∷ ds) zero d h g = subst (λ x. is_in_range x ≡ true) (same_Some e d g) (each (is_in_range e) (list_all is_in_range ds) h).0
-range_at (e ∷ ds) (suc i) d h g = range_at ds i d (each (is_in_range e) (list_all is_in_range ds) h).1 g
+range_at (e ∷ ds) zero d h g = subst (λ x. is_in_range x ≡ true) (same_Some e d g) (and_parts (is_in_range e) (list_all is_in_range ds) h).0
+range_at (e ∷ ds) (suc i) d h g = range_at ds i d (and_parts (is_in_range e) (list_all is_in_range ds) h).1 g
 
 pub placed : (ds : List Declaration) (p : Pattern) → list_all is_in_range ds ≡ true → is_declared ds p ≡ true → Placed ds p
 placed ds p r h = by (slice_get ds p.symbol.0) refl h
@@ -90,15 +89,15 @@ placed ds p r h = by (slice_get ds p.symbol.0) refl h
 
 any_there : (p : Declaration → Bool) (ds : List Declaration) (i : ℕ) (d : Declaration) → list_any p ds ≡ false → slice_get ds i ≡ Some d → p d ≡ false
 any_there p [] i d h g = absurd (none-some d g)
-any_there p (e ∷ ds) zero d h g = subst (λ x. p x ≡ false) (same_Some e d g) (neither (p e) (list_any p ds) h).0
-any_there p (e ∷ ds) (suc i) d h g = any_there p ds i d (neither (p e) (list_any p ds) h).1 g
+any_there p (e ∷ ds) zero d h g = subst (λ x. p x ≡ false) (same_Some e d g) (or_parts (p e) (list_any p ds) h).0
+any_there p (e ∷ ds) (suc i) d h g = any_there p ds i d (or_parts (p e) (list_any p ds) h).1 g
 
 place_at : (ds : List Declaration) (i : ℕ) (d : Declaration) → are_distinct ds ≡ true → slice_get ds i ≡ Some d → place (declares d.name d.arity) ds ≡ Some i
 place_at [] i d h g = absurd (none-some d g)
 place_at (e ∷ ds) zero d h g = ap (λ b. cond b (Some 0) (option_map suc (place (declares d.name d.arity) ds))) (subst (λ x. declares d.name d.arity x ≡ true) (sym (same_Some e d g)) (declares_itself d))
 place_at (e ∷ ds) (suc i) d h g =
-    let u = each (not (list_any (declares e.name e.arity) ds)) (are_distinct ds) h in
-    let other = turned e d (any_there (declares e.name e.arity) ds i d (is_not _ u.0) g) in
+    let u = and_parts (not (list_any (declares e.name e.arity) ds)) (are_distinct ds) h in
+    let other = turned e d (any_there (declares e.name e.arity) ds i d (not-true _ u.0) g) in
     ap (λ b. cond b (Some 0) (option_map suc (place (declares d.name d.arity) ds))) other ∙ ap (option_map suc) (place_at ds i d u.1 g)
 
 name_here : (ds : List Declaration) (p : Pattern) (q : Placed ds p) → name_at ds p.symbol.0 ≡ q.d.name
@@ -160,7 +159,7 @@ pub record Bounds (m n : ℕ) (ts : List base.Term) : Type 0 where
 pub bounds : (m n : ℕ) (ts : List base.Term) → numbered m ts ≡ Some n → list_all is_valued ts ≡ true → Bounds m n ts
 bounds m n [] h v = let e = same_Some m n h in record { least = omega (arith, e); most = omega (arith, e); good = tt }
 bounds m n (Constant c ∷ ts) h v =
-    let e = each (is_value c) (list_all is_valued ts) v in let b = bounds m n ts h e.1 in record { least = b.least; most = (let k = b.most in omega (arith, k)); good = (e.0, b.good) }
+    let e = and_parts (is_value c) (list_all is_valued ts) v in let b = bounds m n ts h e.1 in record { least = b.least; most = (let k = b.most in omega (arith, k)); good = (e.0, b.good) }
 bounds m n (Variable x ∷ ts) h v = by (nat_eq x (m + 1)) (nat_lt 0 x && nat_le x m) refl refl h (λ k g. bounds k n ts g v)
   where
     by : (s t : Bool) → nat_eq x (m + 1) ≡ s → (nat_lt 0 x && nat_le x m) ≡ t → cond s (numbered (m + 1) ts) (cond t (numbered m ts) None) ≡ Some n
@@ -169,7 +168,7 @@ bounds m n (Variable x ∷ ts) h v = by (nat_eq x (m + 1)) (nat_lt 0 x && nat_le
         let b = more (m + 1) h in let is = eqb-true x (m + 1) e in let l = b.least in let k = b.most in
         record { least = omega (arith, l); most = omega (arith, k); good = ((omega (arith, is), omega (arith, is, l)), b.good) }
     by false true e g h more =
-        let b = more m h in let p = each (nat_lt 0 x) (nat_le x m) g in let l = b.least in let k = b.most in
+        let b = more m h in let p = and_parts (nat_lt 0 x) (nat_le x m) g in let l = b.least in let k = b.most in
         let some : 0 < x = (let p0 = p.0 in grind (arith, nat_tests)) in let below : x ≤ m = (let p1 = p.1 in grind (arith, nat_tests)) in
         record { least = l; most = omega (arith, k); good = ((some, omega (arith, below, l)), b.good) }
     by false false e g h more = absurd (none-some n h)
@@ -201,8 +200,8 @@ pub atom_within : (ds : List Declaration) (n : ℕ) → n ≤ 16 → (p : Patter
 atom_within ds n l p h =
     let q = h.placed in
     let few : nat_lt 4 (length (map written_term p.args.items)) ≡ false = (let a = length-map p.args.items written_term in let b = q.takes in let c = q.range.arity in grind (arith, nat_tests)) in
-    none_of (not (is_name (name_at ds p.symbol.0))) _ (ap (λ w. not (is_name w)) (name_here ds p q) ∙ ap not (name_is q.d.name q.range.name q.range.short))
-    (none_of (nat_lt 4 (length (map written_term p.args.items))) _ few (none_pass term_over written_term (Good n) (within n l) p.args.items h.args))
+    or_from (not (is_name (name_at ds p.symbol.0))) _ (ap (λ w. not (is_name w)) (name_here ds p q) ∙ ap not (name_is q.d.name q.range.name q.range.short))
+    (or_from (nat_lt 4 (length (map written_term p.args.items))) _ few (none_pass term_over written_term (Good n) (within n l) p.args.items h.args))
 
 pub atom_inside : (ds : List Declaration) (n : ℕ) (p : Pattern) → GoodAtom ds n p → atom_outside (written_atom ds p) ≡ false
 atom_inside ds n p h = none_pass term_outside written_term (Good n) (inside n) p.args.items h.args
@@ -241,7 +240,7 @@ heads_back ds m n (p ∷ ps) l k u h v e =
   where
     valued_back : (xs ys : List base.Term) → list_all is_valued (xs ++ ys) ≡ true → list_all is_valued ys ≡ true
     valued_back [] ys h = h
-    valued_back (x ∷ xs) ys h = valued_back xs ys (each (is_valued x) (list_all is_valued (xs ++ ys)) h).1
+    valued_back (x ∷ xs) ys h = valued_back xs ys (and_parts (is_valued x) (list_all is_valued (xs ++ ys)) h).1
 
 -- ---- comparisons
 

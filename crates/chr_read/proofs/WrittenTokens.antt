@@ -3,6 +3,7 @@ use Rattle.std.proofs.Common.{◌≡◌, ℕ, ◌^◌, ◌<◌, List, [], ◌∷
 use Rattle.std.specs.Prelude.{codes, decimal}
 use Rattle.std.specs.Fmt.{signed_decimal}
 use Rattle.std.specs.List.{prefix_len, AllByRecursion}
+use Rattle.std.proofs.lemmas.Bool.{or_right, or_left}
 use Rattle.chr_base.specs.declared.term.Term as base
 use Rattle.chr_base.specs.declared.term.Term.TheVariants.{Variable, Constant}
 use Rattle.chr_base.specs.declared.term.Cmp.{Cmp}
@@ -22,7 +23,6 @@ use Rattle.chr_syntax.specs.Lexemes.{AllAre, IsWord, IsLexeme}
 use Rattle.chr_syntax.specs.Printing.{EndsBefore}
 use Rattle.chr_syntax.proofs.Printing.{written_read, layout_goes}
 use Rattle.chr_read.specs.CanonicalTexts.{more, joined, term_text, args_text, name_at, pattern_text, patterns_text, cmp_text, comparison_text, label_text, kept_text, guard_text, body_text, rule_clause, symbol_text, weight_clause}
-use Rattle.chr_read.proofs.Booleans.{or_true, or_left}
 use Rattle.chr_read.proofs.PlainBytes.{from_test}
 use Rattle.chr_read.proofs.Decimals.{decimal_digits, decimal_number, signed_number}
 use Rattle.chr_read.proofs.WrittenForms.{written_term, written_atom, comparator_of, written_comparison, written_body, written_rule, written_symbol}
@@ -71,7 +71,7 @@ spaced_sign x w rest l e = layout_goes (codes " ") (w ++ (codes " " ++ rest)) (r
 
 digits_words : (w : List ℕ) → AllAre is_digit w → AllAre is_word_byte w
 digits_words [] h = tt
-digits_words (b ∷ bs) h = (or_true (is_lower b) _ (or_true (is_upper b) _ (or_left (is_digit b) (b == 95) h.0)), digits_words bs h.1)
+digits_words (b ∷ bs) h = (or_right (is_lower b) _ (or_right (is_upper b) _ (or_left (is_digit b) (b == 95) h.0)), digits_words bs h.1)
 
 abbrev pub IsWritable : base.Term → Type 0
 IsWritable (Variable x) = x < 2 ^ 64

@@ -6,4 +6,6 @@ pub mod Cutting
 pub mod Outcomes
 pub mod OneTextValues
 pub mod OneText
+pub mod UnnamedRules
+pub mod UnnamedVerdicts
 pub mod OneOutput

@@ -1,35 +1,37 @@
--- The output of a program is determined.
-use Rattle.std.specs.Prelude.{◌≡◌, ℕ, ℤ, pos, zero, suc, ◌+◌, ◌-◌, ◌<◌, ◌≤◌, ◌⊎◌, List, [], ◌∷◌, ◌++◌, Option, Some, None, slice_get, length, codes}
+-- The output for an input is determined.
+use Rattle.std.specs.Prelude.{◌≡◌, ℕ, pos, zero, suc, ◌-◌, ◌<◌, ◌⊎◌, List, [], ◌∷◌, ◌++◌, map, Result, Ok, Err, Some, slice_get, length, codes}
+use Rattle.std.specs.Fmt.{decimal}
 use Rattle.std.proofs.Common.{refl, sym, ap, subst, ◌∙◌, arith, inl, inr}
 use Rattle.std.proofs.lemmas.Bool.{cases_lt}
 use Rattle.chr_base.specs.declared.rule.Rule.{Rule}
 use Rattle.chr_base.specs.declared.program.Program.{Program}
-use Rattle.chr_base.specs.FinBag.{total}
-use Rattle.chr_base.specs.Rules.{Valuation, atoms_at}
+use Rattle.chr_base.specs.Rules.{Valuation}
 use Rattle.chr_base.specs.StepLaws.{RuleLowers}
+use Rattle.chr_base.specs.ProgramTests.{Declaration}
 use Rattle.chr_base.specs.Programs.{declarations, rules_of}
-use Rattle.chr_weights.specs.Weights.{weight_in, ProgramLowers}
-use Rattle.chr_confluence.specs.Cases.{Confluent}
-use Rattle.chr_confluence.specs.Listed.{ListedMakeConfluent}
+use Rattle.chr_base.specs.Texts.{store_text}
+use Rattle.chr_weights.specs.Weights.{weight_by}
+use Rattle.chr_confluence.specs.Confluence.{RulesLower}
 use Rattle.chr_join.specs.declared.refused.Cause.{Cause}
 use Rattle.chr_join.specs.declared.refused.Cause.TheVariants as cause
-use Rattle.chr_join.specs.Verdicts.{IsAccepted}
-use Rattle.chr_join.specs.Explanations.{IsRefusal}
-use Rattle.chr_join.specs.Once.{IsOfMemory, SameRefusal, AcceptedOnce, RefusedOnce, NeverBoth}
-use Rattle.chr_join.proofs.CaseSteps.{CaseLaws}
-use Rattle.chr_join.proofs.Confluent.{accepted_confluent}
+use Rattle.chr_join.specs.Once.{IsOfMemory, SameRefusal, AcceptedOnce, RefusedOnce, NeverBoth, AcceptedAreConfluent}
+use Rattle.chr_read.specs.Meanings.{Meaning, meaning_of}
+use Rattle.chr_read.specs.Reading.{text_read}
+use Rattle.chr_read.specs.declared.fault.ReadFault.{ReadFault}
 use Rattle.chr_report.specs.declared.running.Status.{Status}
 use Rattle.chr_report.specs.declared.running.Status.TheVariants.{Accepted, Refused}
+use Rattle.chr_report.specs.Commands.{asked}
+use Rattle.chr_report.specs.Lines.{lines, text_of, commands_of}
 use Rattle.chr_report.specs.OneText.{FirstAnswersAreOne}
-use Rattle.chr_report.specs.Outputs.{IsFirstNotLowered, not_lowered_text, accepted_text, IsRefusedByWeights, IsCauseLine, IsRefusedByOverlaps, IsAnswered, IsProgramOutput}
-use Rattle.chr_report.specs.Overlaps.{failure_text, too_many_text, overlap_text}
-use Rattle.chr_base.specs.Texts.{store_text}
-use Rattle.std.specs.Fmt.{decimal}
+use Rattle.chr_report.specs.OneOutput.{OutputsAreOne}
+use Rattle.chr_report.specs.Outputs.{IsFirstNotLowered, not_lowered_text, accepted_text, IsRefusedByWeights, IsCauseLine, IsRefusedByOverlaps, IsAnswered, IsRulesOutput, IsProgramOutput, IsReadOutput}
+use Rattle.chr_report.specs.Overlaps.{overlap_text}
+use Rattle.chr_report.proofs.UnnamedRules.{unnamed, all_unnamed}
+use Rattle.chr_report.proofs.UnnamedVerdicts.{output_unnamed}
 
 -- what the crates below say of verdicts and answers
 pub record VerdictLaws : Type 0 where
-  pub confluent : ListedMakeConfluent
-  pub cases : CaseLaws
+  pub confluent : AcceptedAreConfluent
   pub accepted : AcceptedOnce
   pub refused : RefusedOnce
   pub either : NeverBoth
@@ -43,76 +45,92 @@ rule_at [] i l = absurd (omega arith)
 rule_at (r ∷ rules) zero l = (r, refl)
 rule_at (r ∷ rules) (suc i) l = rule_at rules i (omega (arith, l))
 
--- the rule that is told doesn't lower
-not_lowered : (p : Program) (i b a : ℕ) → IsFirstNotLowered p i b a → (r : Rule) → slice_get (rules_of p) (i - 1) ≡ Some r → RuleLowers (weight_in p) r → ⊥
-not_lowered p i b a h r e lowers =
-    let x = h.weight_before r zeros e in let y = h.weight_after r zeros e in let z = lowers zeros in let w = h.not_lowered in
-    omega (arith, x, y, z, w)
+module _ (ds : List Declaration) (rules : List Rule) where
+  -- the rule that is told doesn't lower
+  not_lowered : (i b a : ℕ) → IsFirstNotLowered ds rules i b a → (r : Rule) → slice_get rules (i - 1) ≡ Some r → RuleLowers (weight_by ds) r → ⊥
+  not_lowered i b a h r e lowers =
+      let x = h.weight_before r zeros e in let y = h.weight_after r zeros e in let z = lowers zeros in let w = h.not_lowered in
+      omega (arith, x, y, z, w)
 
-told_rule : (p : Program) (i b a : ℕ) → IsFirstNotLowered p i b a → (r : Rule) × (slice_get (rules_of p) (i - 1) ≡ Some r)
-told_rule p i b a h = let f = h.first in let w = h.within in rule_at (rules_of p) (i - 1) (omega (arith, f, w))
+  told_rule : (i b a : ℕ) → IsFirstNotLowered ds rules i b a → (r : Rule) × (slice_get rules (i - 1) ≡ Some r)
+  told_rule i b a h = let f = h.first in let w = h.within in rule_at rules (i - 1) (omega (arith, f, w))
 
-not_both : (p : Program) (i b a : ℕ) → IsFirstNotLowered p i b a → ProgramLowers p → ⊥
-not_both p i b a h lowers = let r = told_rule p i b a h in not_lowered p i b a h r.0 r.1 (lowers (i - 1) r.0 r.1)
+  not_both : (i b a : ℕ) → IsFirstNotLowered ds rules i b a → RulesLower (weight_by ds) rules → ⊥
+  not_both i b a h lowers = let r = told_rule i b a h in not_lowered i b a h r.0 r.1 (lowers (i - 1) r.0 r.1)
 
-not_later : (p : Program) (i b a j d c : ℕ) → IsFirstNotLowered p i b a → IsFirstNotLowered p j d c → i < j → ⊥
-not_later p i b a j d c h g l =
-    let r = told_rule p i b a h in
-    let f = h.first in
-    not_lowered p i b a h r.0 r.1 (g.earlier (i - 1) r.0 (omega (arith, f, l)) r.1)
+  not_later : (i b a j d c : ℕ) → IsFirstNotLowered ds rules i b a → IsFirstNotLowered ds rules j d c → i < j → ⊥
+  not_later i b a j d c h g l =
+      let r = told_rule i b a h in
+      let f = h.first in
+      not_lowered i b a h r.0 r.1 (g.earlier (i - 1) r.0 (omega (arith, f, l)) r.1)
 
-one_rule : (p : Program) (i b a j d c : ℕ) → IsFirstNotLowered p i b a → IsFirstNotLowered p j d c → i ≡ j
-one_rule p i b a j d c h g =
-    elim (cases_lt i j) as (λ _. i ≡ j) [
-      | inl l ↦ absurd (not_later p i b a j d c h g l)
-      | inr m ↦ elim (cases_lt j i) as (λ _. i ≡ j) [ inl l ↦ absurd (not_later p j d c i b a g h l) | inr n ↦ omega (arith, m, n) ]
-    ]
+  one_rule : (i b a j d c : ℕ) → IsFirstNotLowered ds rules i b a → IsFirstNotLowered ds rules j d c → i ≡ j
+  one_rule i b a j d c h g =
+      elim (cases_lt i j) as (λ _. i ≡ j) [
+        | inl l ↦ absurd (not_later i b a j d c h g l)
+        | inr m ↦ elim (cases_lt j i) as (λ _. i ≡ j) [ inl l ↦ absurd (not_later j d c i b a g h l) | inr n ↦ omega (arith, m, n) ]
+      ]
 
-by_weights : (p : Program) (out out' : List ℕ) → IsRefusedByWeights p out → IsRefusedByWeights p out' → out ≡ out'
-by_weights p out out' h g =
-    let i = one_rule p h.rule h.before h.after g.rule g.before g.after h.first g.first in
-    let r = told_rule p h.rule h.before h.after h.first in
-    let e : slice_get (rules_of p) (g.rule - 1) ≡ Some r.0 = subst (λ n. slice_get (rules_of p) (n - 1) ≡ Some r.0) i r.1 in
-    let b : h.before ≡ g.before = h.first.weight_before r.0 zeros r.1 ∙ sym (g.first.weight_before r.0 zeros e) in
-    let a : h.after ≡ g.after = h.first.weight_after r.0 zeros r.1 ∙ sym (g.first.weight_after r.0 zeros e) in
-    h.out_is ∙ (λ k. not_lowered_text (i k) (b k) (a k) ++ 10 ∷ []) ∙ sym g.out_is
+  by_weights : (out out' : List ℕ) → IsRefusedByWeights ds rules out → IsRefusedByWeights ds rules out' → out ≡ out'
+  by_weights out out' h g =
+      let i = one_rule h.rule h.before h.after g.rule g.before g.after h.first g.first in
+      let r = told_rule h.rule h.before h.after h.first in
+      let e : slice_get rules (g.rule - 1) ≡ Some r.0 = subst (λ n. slice_get rules (n - 1) ≡ Some r.0) i r.1 in
+      let b : h.before ≡ g.before = h.first.weight_before r.0 zeros r.1 ∙ sym (g.first.weight_before r.0 zeros e) in
+      let a : h.after ≡ g.after = h.first.weight_after r.0 zeros r.1 ∙ sym (g.first.weight_after r.0 zeros e) in
+      h.out_is ∙ (λ k. not_lowered_text (i k) (b k) (a k) ++ 10 ∷ []) ∙ sym g.out_is
 
-one_line : (p : Program) (e g : Cause) (out out' : List ℕ) → SameRefusal e g → IsCauseLine p e out → IsCauseLine p g out' → out ≡ out'
-one_line p (cause.Fails f) (cause.Fails g) out out' s h k =
-    h ∙ (λ i. (codes "refused 21: " ++ overlap_text (s.overlap i) ++ codes "; store " ++ store_text (declarations p) (s.left_start i) ++ codes "; left " ++ store_text (declarations p) (s.left_end i) ++ codes "; right " ++ store_text (declarations p) (s.right_end i)) ++ 10 ∷ []) ∙ sym k
-one_line p (cause.Fails f) (cause.TooMany t) out out' s h k = absurd s
-one_line p (cause.Fails f) cause.Memory out out' s h k = absurd s
-one_line p (cause.TooMany t) (cause.Fails g) out out' s h k = absurd s
-one_line p (cause.TooMany t) (cause.TooMany u) out out' s h k =
-    h ∙ (λ i. (codes "refused 22: " ++ overlap_text (s.0 i) ++ codes "; classes " ++ decimal (s.1 i)) ++ 10 ∷ []) ∙ sym k
-one_line p (cause.TooMany t) cause.Memory out out' s h k = absurd s
-one_line p cause.Memory g out out' s h k = absurd h
+  one_line : (e g : Cause) (out out' : List ℕ) → SameRefusal e g → IsCauseLine ds e out → IsCauseLine ds g out' → out ≡ out'
+  one_line (cause.Fails f) (cause.Fails g) out out' s h k =
+      h ∙ (λ i. (codes "refused 21: " ++ overlap_text (s.overlap i) ++ codes "; store " ++ store_text ds (s.left_start i) ++ codes "; left " ++ store_text ds (s.left_end i) ++ codes "; right " ++ store_text ds (s.right_end i)) ++ 10 ∷ []) ∙ sym k
+  one_line (cause.Fails f) (cause.TooMany t) out out' s h k = absurd s
+  one_line (cause.Fails f) cause.Memory out out' s h k = absurd s
+  one_line (cause.TooMany t) (cause.Fails g) out out' s h k = absurd s
+  one_line (cause.TooMany t) (cause.TooMany u) out out' s h k =
+      h ∙ (λ i. (codes "refused 22: " ++ overlap_text (s.0 i) ++ codes "; classes " ++ decimal (s.1 i)) ++ 10 ∷ []) ∙ sym k
+  one_line (cause.TooMany t) cause.Memory out out' s h k = absurd s
+  one_line cause.Memory g out out' s h k = absurd h
 
-no_memory : (p : Program) (e : Cause) (out : List ℕ) → IsCauseLine p e out → IsOfMemory e → ⊥
-no_memory p (cause.Fails f) out h m = m
-no_memory p (cause.TooMany t) out h m = m
-no_memory p cause.Memory out h m = h
+  no_memory : (e : Cause) (out : List ℕ) → IsCauseLine ds e out → IsOfMemory e → ⊥
+  no_memory (cause.Fails f) out h m = m
+  no_memory (cause.TooMany t) out h m = m
+  no_memory cause.Memory out h m = h
 
-by_overlaps : VerdictLaws → (p : Program) (out out' : List ℕ) → IsRefusedByOverlaps p out → IsRefusedByOverlaps p out' → out ≡ out'
-by_overlaps laws p out out' h g =
-    one_line p h.cause g.cause out out' (laws.refused (rules_of p) h.cause g.cause h.first g.first (no_memory p h.cause out h.line) (no_memory p g.cause out' g.line)) h.line g.line
+  by_overlaps : VerdictLaws → (out out' : List ℕ) → IsRefusedByOverlaps ds rules out → IsRefusedByOverlaps ds rules out' → out ≡ out'
+  by_overlaps laws out out' h g =
+      one_line h.cause g.cause out out' (laws.refused rules h.cause g.cause h.first g.first (no_memory h.cause out h.line) (no_memory g.cause out' g.line)) h.line g.line
 
-one_answer : VerdictLaws → (p : Program) (commands : List (List ℕ)) (out out' : List ℕ) → IsAnswered p commands out → IsAnswered p commands out' → out ≡ out'
-one_answer laws p commands out out' h g =
-    let n = laws.accepted (rules_of p) h.cases g.cases h.accepted g.accepted in
-    let confluent = accepted_confluent laws.confluent laws.cases p h.cases h.lowers h.accepted in
-    let t = laws.answers (declarations p) (rules_of p) confluent commands h.answers g.answers h.answered g.answered in
-    h.out_is ∙ (λ i. accepted_text (length (rules_of p)) (n i) ++ 10 ∷ t i) ∙ sym g.out_is
+  one_answer : VerdictLaws → (commands : List (List ℕ)) (out out' : List ℕ) → IsAnswered ds rules commands out → IsAnswered ds rules commands out' → out ≡ out'
+  one_answer laws commands out out' h g =
+      let n = laws.accepted rules h.cases g.cases h.accepted g.accepted in
+      let confluent = laws.confluent rules (weight_by ds) h.cases h.lowers h.accepted in
+      let t = laws.answers ds rules confluent commands h.answers g.answers h.answered g.answered in
+      h.out_is ∙ (λ i. accepted_text (length rules) (n i) ++ 10 ∷ t i) ∙ sym g.out_is
 
-never_both : VerdictLaws → (p : Program) (commands : List (List ℕ)) (out out' : List ℕ) → IsAnswered p commands out → IsRefusedByWeights p out' ⊎ IsRefusedByOverlaps p out' → ⊥
-never_both laws p commands out out' h (inl w) = not_both p w.rule w.before w.after w.first h.lowers
-never_both laws p commands out out' h (inr o) = no_memory p o.cause out' o.line (laws.either (rules_of p) h.cases o.cause h.accepted o.first)
+  never_both : VerdictLaws → (commands : List (List ℕ)) (out out' : List ℕ) → IsAnswered ds rules commands out → IsRefusedByWeights ds rules out' ⊎ IsRefusedByOverlaps ds rules out' → ⊥
+  never_both laws commands out out' h (inl w) = not_both w.rule w.before w.after w.first h.lowers
+  never_both laws commands out out' h (inr o) = no_memory o.cause out' o.line (laws.either rules h.cases o.cause h.accepted o.first)
 
-pub one_output : VerdictLaws → (p : Program) (commands : List (List ℕ)) (s s' : Status) (out out' : List ℕ) → IsProgramOutput p commands s out → IsProgramOutput p commands s' out' → (s ≡ s') × (out ≡ out')
-one_output laws p commands Accepted Accepted out out' h g = (refl, one_answer laws p commands out out' h g)
-one_output laws p commands Accepted Refused out out' h g = absurd (never_both laws p commands out out' h g)
-one_output laws p commands Refused Accepted out out' h g = absurd (never_both laws p commands out' out g h)
-one_output laws p commands Refused Refused out out' (inl h) (inl g) = (refl, by_weights p out out' h g)
-one_output laws p commands Refused Refused out out' (inl h) (inr g) = absurd (not_both p h.rule h.before h.after h.first g.lowers)
-one_output laws p commands Refused Refused out out' (inr h) (inl g) = absurd (not_both p g.rule g.before g.after g.first h.lowers)
-one_output laws p commands Refused Refused out out' (inr h) (inr g) = (refl, by_overlaps laws p out out' h g)
+  rules_output : VerdictLaws → (commands : List (List ℕ)) (s s' : Status) (out out' : List ℕ) → IsRulesOutput ds rules commands s out → IsRulesOutput ds rules commands s' out' → (s ≡ s') × (out ≡ out')
+  rules_output laws commands Accepted Accepted out out' h g = (refl, one_answer laws commands out out' h g)
+  rules_output laws commands Accepted Refused out out' h g = absurd (never_both laws commands out out' h g)
+  rules_output laws commands Refused Accepted out out' h g = absurd (never_both laws commands out' out g h)
+  rules_output laws commands Refused Refused out out' (inl h) (inl g) = (refl, by_weights out out' h g)
+  rules_output laws commands Refused Refused out out' (inl h) (inr g) = absurd (not_both h.rule h.before h.after h.first g.lowers)
+  rules_output laws commands Refused Refused out out' (inr h) (inl g) = absurd (not_both g.rule g.before g.after g.first h.lowers)
+  rules_output laws commands Refused Refused out out' (inr h) (inr g) = (refl, by_overlaps laws out out' h g)
+
+-- programs of one meaning
+same_output : VerdictLaws → (p q : Program) → meaning_of p ≡ meaning_of q → (commands : List (List ℕ)) (s s' : Status) (out out' : List ℕ) → IsProgramOutput p commands s out → IsProgramOutput q commands s' out' → (s ≡ s') × (out ≡ out')
+same_output laws p q e commands s s' out out' h g =
+    rules_output (declarations q) (map unnamed (rules_of q)) laws commands s s' out out'
+    (subst (λ rs. IsRulesOutput (declarations q) rs commands s out) (all_unnamed (rules_of p) (rules_of q) (ap (λ m. m.rules) e))
+    (subst (λ ds. IsRulesOutput ds (map unnamed (rules_of p)) commands s out) (ap (λ m. m.declarations) e) (output_unnamed (declarations p) (rules_of p) commands s out h)))
+    (output_unnamed (declarations q) (rules_of q) commands s' out' g)
+
+one_read : VerdictLaws → (r : Result Meaning ReadFault) (commands : List (List ℕ)) (s s' : Status) (out out' : List ℕ) → IsReadOutput r commands s out → IsReadOutput r commands s' out' → (s ≡ s') × (out ≡ out')
+one_read laws (Ok m) commands s s' out out' h g = same_output laws h.0 g.0 (h.1 ∙ sym g.1) commands s s' out out' h.2 g.2
+one_read laws (Err e) commands s s' out out' h g = (h.0 ∙ sym g.0, h.1 ∙ sym g.1)
+
+pub one_output : VerdictLaws → OutputsAreOne
+one_output laws verb input s s' out out' h g = one_read laws (text_read (text_of (lines input))) (asked verb (commands_of (lines input))) s s' out out' h g

@@ -6,13 +6,9 @@ use Rattle.std.specs.FinMap as finmap
 use Rattle.chr_device.specs.Devices.{AppendsPart}
 use Rattle.chr_base.specs.declared.program.Program.{Program}
 use Rattle.chr_base.specs.Programs.{declarations, rules_of}
-use Rattle.chr_weights.specs.declared.weighed.Weighed.{Weighed}
-use Rattle.chr_weights.specs.WeighedPrograms.{program_of}
 use Rattle.chr_join.specs.declared.accepted.Accepted.{Accepted}
-use Rattle.chr_join.specs.declared.refused.Cause.{Cause}
 use Rattle.chr_join.specs.AcceptedPrograms.{weighed_of, cases_of}
 use Rattle.chr_join.specs.Verdicts.{IsAccepted}
-use Rattle.chr_join.specs.Explanations.{IsRefusal}
 use Rattle.chr_base.specs.declared.rule.Rule.{Rule}
 use Rattle.chr_base.specs.ProgramTests.{Declaration}
 use Rattle.chr_ops.specs.Operations.{Operations}
@@ -30,7 +26,7 @@ use Rattle.chr_report.specs.Lines.{lines, text_of, commands_of}
 use Rattle.chr_report.specs.Answers.{AnswersAll}
 use Rattle.chr_report.specs.Answered.{AnswersRest}
 use Rattle.chr_report.specs.OptionalLines.{command_lines}
-use Rattle.chr_report.specs.Outputs.{IsOutput, IsReadOutput, IsProgramOutput, IsAnswered, IsRefusedByWeights, IsRefusedByOverlaps, IsCauseLine, accepted_text, fault_text}
+use Rattle.chr_report.specs.Outputs.{IsOutput, IsReadOutput, IsProgramOutput, IsAnswered, IsRefusedByWeights, IsRefusedByOverlaps, accepted_text, fault_text}
 use Rattle.chr_report.specs.Written.{WritesBeginning}
 
 -- the commands after the text
@@ -57,7 +53,7 @@ nothing_to_answer ds rules commands old before e =
 
 -- the verdict's line and the answers
 pub program_answered : (a b : Accepted) (ls : List (List ℕ)) (n m : ℕ) (start : Operations) (before out : List ℕ) → IsAccepted (rules_of (program_in a)) (cases_of a) → b ≡ a → n ≡ length (rules_of (program_in a)) → m ≡ cases_of a → before ≡ accepted_text n m ++ 10 ∷ [] → start ≡ finmap.empty
-    → AnswersRest (declarations (program_in b)) (rules_of (program_in b)) ls start before out → IsAnswered (program_in a) ls out
+    → AnswersRest (declarations (program_in b)) (rules_of (program_in b)) ls start before out → IsAnswered (declarations (program_in a)) (rules_of (program_in a)) ls out
 program_answered a b ls n m start before out accepted e f q g h r =
     let k : AnswersRest (declarations (program_in a)) (rules_of (program_in a)) ls start before out = subst (λ u. AnswersRest (declarations (program_in u)) (rules_of (program_in u)) ls start before out) e r in
     record {
@@ -70,7 +66,7 @@ program_answered a b ls n m start before out accepted e f q g h r =
     }
 
 -- a program that is refused
-pub refused_by : (p : Program) (ls : List (List ℕ)) (status : Status) (out line : List ℕ) → status ≡ Refused → out ≡ line → IsRefusedByWeights p line ⊎ IsRefusedByOverlaps p line → IsProgramOutput p ls status out
+pub refused_by : (p : Program) (ls : List (List ℕ)) (status : Status) (out line : List ℕ) → status ≡ Refused → out ≡ line → IsRefusedByWeights (declarations p) (rules_of p) line ⊎ IsRefusedByOverlaps (declarations p) (rules_of p) line → IsProgramOutput p ls status out
 refused_by p ls status out line e f h = rw (e, f) h
 
 -- a text that is no program

@@ -1,11 +1,11 @@
--- A program has one output for the same commands.
---     OutputsAreOne        two outputs of one program for the same command lines have one status and are one text
+-- An input has one output.
+--     OutputsAreOne        two outputs for the same bytes have one status and are one text
 use Rattle.std.specs.Prelude.{◌≡◌, ℕ, List}
-use Rattle.chr_base.specs.declared.program.Program.{Program}
+use Rattle.chr_device.specs.declared.words.Verb.{Verb}
 use Rattle.chr_report.specs.declared.running.Status.{Status}
-use Rattle.chr_report.specs.Outputs.{IsProgramOutput}
+use Rattle.chr_report.specs.Outputs.{IsOutput}
 
 abbrev pub OutputsAreOne : Type 0
 OutputsAreOne =
-    (p : Program) (commands : List (List ℕ)) (status status' : Status) (out out' : List ℕ) → IsProgramOutput p commands status out → IsProgramOutput p commands status' out'
+    (verb : Verb) (input : List ℕ) (status status' : Status) (out out' : List ℕ) → IsOutput verb input status out → IsOutput verb input status' out'
     → (status ≡ status') × (out ≡ out')

@@ -3,6 +3,7 @@
 --     IsFirstNotLowered        the first rule whose removed heads do not outweigh its body, with both weights
 --     IsRefusedByWeights, IsRefusedByOverlaps        the line of a program with such a rule;  of one that lowers, and has a failing case or too many order types
 --     IsAnswered        the number of cases of a program of which none fails, and the answers
+--     IsRulesOutput, IsProgramOutput        what is written for rules;  for a program
 --     IsOutput        the output and its status: `accepted` where no case of the program fails
 use Rattle.std.specs.Prelude.{◌≡◌, ℕ, ◌+◌, ◌-◌, ◌<◌, ◌≤◌, ◌⊎◌, List, [], ◌∷◌, ◌++◌, Some, Result, Ok, Err, slice_get, codes, length}
 use Rattle.std.specs.Fmt.{decimal}
@@ -12,8 +13,10 @@ use Rattle.chr_base.specs.declared.program.Program.{Program}
 use Rattle.chr_base.specs.FinBag.{total}
 use Rattle.chr_base.specs.Rules.{Valuation, atoms_at}
 use Rattle.chr_base.specs.StepLaws.{RuleLowers}
+use Rattle.chr_base.specs.ProgramTests.{Declaration}
 use Rattle.chr_base.specs.Programs.{declarations, rules_of}
-use Rattle.chr_weights.specs.Weights.{weight_in, ProgramLowers}
+use Rattle.chr_weights.specs.Weights.{weight_by}
+use Rattle.chr_confluence.specs.Confluence.{RulesLower}
 use Rattle.chr_join.specs.declared.refused.Cause.{Cause}
 use Rattle.chr_join.specs.declared.refused.Cause.TheVariants as cause
 use Rattle.chr_join.specs.Verdicts.{IsAccepted}
@@ -36,12 +39,12 @@ fault_text fault.TooLong = codes "refused 2"
 fault_text (fault.Bad f k) = codes "refused " ++ decimal (number_of_fault f) ++ codes ": clause " ++ decimal k
 fault_text fault.Memory = []
 
-pub record IsFirstNotLowered (p : Program) (i before after : ℕ) : Type 0 where
+pub record IsFirstNotLowered (ds : List Declaration) (rules : List Rule) (i before after : ℕ) : Type 0 where
   pub first : 0 < i
-  pub within : i ≤ length (rules_of p)
-  pub earlier : (j : ℕ) (r : Rule) → j + 1 < i → slice_get (rules_of p) j ≡ Some r → RuleLowers (weight_in p) r
-  pub weight_before : (r : Rule) (v : Valuation) → slice_get (rules_of p) (i - 1) ≡ Some r → before ≡ total (weight_in p) (atoms_at v r.removed.items)
-  pub weight_after : (r : Rule) (v : Valuation) → slice_get (rules_of p) (i - 1) ≡ Some r → after ≡ total (weight_in p) (atoms_at v r.body.items)
+  pub within : i ≤ length rules
+  pub earlier : (j : ℕ) (r : Rule) → j + 1 < i → slice_get rules j ≡ Some r → RuleLowers (weight_by ds) r
+  pub weight_before : (r : Rule) (v : Valuation) → slice_get rules (i - 1) ≡ Some r → before ≡ total (weight_by ds) (atoms_at v r.removed.items)
+  pub weight_after : (r : Rule) (v : Valuation) → slice_get rules (i - 1) ≡ Some r → after ≡ total (weight_by ds) (atoms_at v r.body.items)
   pub not_lowered : before ≤ after
 
 abbrev pub not_lowered_text : ℕ → ℕ → ℕ → List ℕ
@@ -50,37 +53,40 @@ not_lowered_text i before after = codes "refused 20: rule " ++ decimal i ++ code
 abbrev pub accepted_text : ℕ → ℕ → List ℕ
 accepted_text rules cases = codes "accepted: rules " ++ decimal rules ++ codes ", cases " ++ decimal cases
 
-pub record IsRefusedByWeights (p : Program) (out : List ℕ) : Type 0 where
+pub record IsRefusedByWeights (ds : List Declaration) (rules : List Rule) (out : List ℕ) : Type 0 where
   pub rule : ℕ
   pub before : ℕ
   pub after : ℕ
-  pub first : IsFirstNotLowered p rule before after
+  pub first : IsFirstNotLowered ds rules rule before after
   pub out_is : out ≡ not_lowered_text rule before after ++ 10 ∷ []
 
 -- want of memory is no verdict
-abbrev pub IsCauseLine : Program → Cause → List ℕ → Type 0
-IsCauseLine p (cause.Fails f) out = out ≡ failure_text (declarations p) f ++ 10 ∷ []
-IsCauseLine p (cause.TooMany t) out = out ≡ too_many_text t ++ 10 ∷ []
-IsCauseLine p cause.Memory out = ⊥
+abbrev pub IsCauseLine : List Declaration → Cause → List ℕ → Type 0
+IsCauseLine ds (cause.Fails f) out = out ≡ failure_text ds f ++ 10 ∷ []
+IsCauseLine ds (cause.TooMany t) out = out ≡ too_many_text t ++ 10 ∷ []
+IsCauseLine ds cause.Memory out = ⊥
 
-pub record IsRefusedByOverlaps (p : Program) (out : List ℕ) : Type 0 where
-  pub lowers : ProgramLowers p
+pub record IsRefusedByOverlaps (ds : List Declaration) (rules : List Rule) (out : List ℕ) : Type 0 where
+  pub lowers : RulesLower (weight_by ds) rules
   pub cause : Cause
-  pub first : IsRefusal (rules_of p) cause
-  pub line : IsCauseLine p cause out
+  pub first : IsRefusal rules cause
+  pub line : IsCauseLine ds cause out
 
 -- a replica that was told nothing answers the commands
-pub record IsAnswered (p : Program) (commands : List (List ℕ)) (out : List ℕ) : Type 0 where
-  pub lowers : ProgramLowers p
+pub record IsAnswered (ds : List Declaration) (rules : List Rule) (commands : List (List ℕ)) (out : List ℕ) : Type 0 where
+  pub lowers : RulesLower (weight_by ds) rules
   pub cases : ℕ
-  pub accepted : IsAccepted (rules_of p) cases
+  pub accepted : IsAccepted rules cases
   pub answers : List ℕ
-  pub answered : AnswersAll (declarations p) (rules_of p) commands map.empty answers
-  pub out_is : out ≡ accepted_text (length (rules_of p)) cases ++ 10 ∷ answers
+  pub answered : AnswersAll ds rules commands map.empty answers
+  pub out_is : out ≡ accepted_text (length rules) cases ++ 10 ∷ answers
+
+abbrev pub IsRulesOutput : List Declaration → List Rule → List (List ℕ) → Status → List ℕ → Type 0
+IsRulesOutput ds rules commands Accepted out = IsAnswered ds rules commands out
+IsRulesOutput ds rules commands Refused out = IsRefusedByWeights ds rules out ⊎ IsRefusedByOverlaps ds rules out
 
 abbrev pub IsProgramOutput : Program → List (List ℕ) → Status → List ℕ → Type 0
-IsProgramOutput p commands Accepted out = IsAnswered p commands out
-IsProgramOutput p commands Refused out = IsRefusedByWeights p out ⊎ IsRefusedByOverlaps p out
+IsProgramOutput p commands status out = IsRulesOutput (declarations p) (rules_of p) commands status out
 
 abbrev pub IsReadOutput : Result Meaning ReadFault → List (List ℕ) → Status → List ℕ → Type 0
 IsReadOutput (Ok m) commands status out = (p : Program) × (meaning_of p ≡ m) × IsProgramOutput p commands status out

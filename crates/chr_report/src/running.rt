@@ -3,7 +3,7 @@ ghost use Rattle.std.specs.Prelude.{◌≡◌, ◌⊎◌, false, true, IfOk, IfS
 ghost use Rattle.chr_device.specs.Devices.{inner_of, has_failed};
 ghost use Rattle.chr_device.specs.Settings.{IsPlain};
 ghost use Rattle.chr_device.specs.declared.fault.RunFault.TheVariants.{Device, Memory};
-ghost use Rattle.chr_base.specs.Programs.{rules_of};
+ghost use Rattle.chr_base.specs.Programs.{declarations, rules_of};
 ghost use Rattle.chr_weights.specs.WeighedPrograms.{program_of};
 ghost use Rattle.chr_join.specs.AcceptedPrograms.{cases_of};
 ghost use Rattle.chr_join.specs.Verdicts.{IsAccepted};
@@ -59,7 +59,7 @@ fn answer_program(
     commands: Option<&[u8]>,
 ) -> Result<String, AllocError>
     requires { IsAccepted (rules_of (program_in accepted)) (cases_of accepted) }
-    ensures { IfOk result (λ s. IsAnswered (program_in accepted) (command_lines commands.entry) (string_bytes s)) }
+    ensures { IfOk result (λ s. IsAnswered (declarations (program_in accepted)) (rules_of (program_in accepted)) (command_lines commands.entry) (string_bytes s)) }
 {
     let rules = accepted.program().rules().len();
     let mut text = accepted_line(alloc, rules, accepted.cases())?;

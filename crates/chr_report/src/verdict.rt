@@ -116,7 +116,7 @@ pub(crate) fn refusal_line(
     program: &Program,
     cause: &Cause,
 ) -> Result<String, AllocError>
-    ensures { IfOk result (λ s. IsCauseLine program.now cause.now (string_bytes s)) }
+    ensures { IfOk result (λ s. IsCauseLine (declarations program.now) cause.now (string_bytes s)) }
 {
     let mut text = match cause {
         Cause::Fails(failure) => failure_text(alloc, program, failure)?,

@@ -2,29 +2,17 @@
 use Rattle.std.specs.Prelude.{◌≡◌, ℕ, zero, suc, ◌+◌, ◌<◌, ◌≤◌, Bool, true, false, not, ◌&&◌, ◌||◌, cond, List, [], ◌∷◌, ◌++◌, length, get_or, nat_eq, nat_lt, IsTrue}
 use Rattle.std.specs.List.{list_any}
 use Rattle.std.proofs.Common.{refl, sym, ap, subst, ◌∙◌, arith, eqb-true, eq-eqb, take, append_assoc}
-use mathlib.Core.Bool.{true≢false}
 use Rattle.std.specs.Ordering.{eq_by_cmp}
 use Rattle.std.specs.Cmp.{tied_itself}
 use Rattle.std.proofs.lemmas.Bool.Decides.{nat_tests}
 use Rattle.std.proofs.lemmas.List.Folds.{list_any-append}
 use Rattle.std.proofs.lemmas.List.{map_more, get_or_default, append-nil}
+use Rattle.std.proofs.lemmas.Bool.{and_from, not-true, not_from_false}
 use Rattle.chr_base.specs.declared.atom.Atom.{Atom}
 use Rattle.chr_base.specs.Instances.{first_true, second_true}
 use Rattle.chr_base.specs.Atoms.{atom_cmp, atom_total, same_is}
 use Rattle.chr_base.specs.FinBag.{count_in}
 use Rattle.chr_rewrite.specs.Choices.{no_atom, atom_of, picked, is_choice}
-
-pub both_true : (a b : Bool) → a ≡ true → b ≡ true → (a && b) ≡ true
-both_true true b h g = g
-both_true false b h g = absurd (true≢false (sym h))
-
-pub not_true : (a : Bool) → not a ≡ true → a ≡ false
-not_true true h = absurd (true≢false (sym h))
-not_true false h = refl
-
-pub not_false : (a : Bool) → a ≡ false → not a ≡ true
-not_false true h = absurd (true≢false h)
-not_false false h = refl
 
 -- whether the index is among those taken
 abbrev pub is_taken : ℕ → List ℕ → Bool
@@ -103,7 +91,7 @@ choice_within items taken (i ∷ is) q h =
     let two : (nat_lt i (length items) && not (is_taken i taken)) ≡ true = first_true _ (is_choice items (taken ++ i ∷ []) is) h in
     let rest : is_choice items (taken ++ i ∷ []) is ≡ true = second_true (nat_lt i (length items) && not (is_taken i taken)) _ h in
     let l : nat_lt i (length items) ≡ true = first_true _ (not (is_taken i taken)) two in
-    let fresh : is_taken i taken ≡ false = not_true _ (second_true (nat_lt i (length items)) _ two) in
+    let fresh : is_taken i taken ≡ false = not-true _ (second_true (nat_lt i (length items)) _ two) in
     let within : i < length items = grind (arith, nat_tests) in
     let here = free_taken 0 i taken items no_atom q within (let z : 0 + i ≡ i = omega arith in ap (λ m. is_taken m taken) z ∙ fresh) in
     let z : 0 + i ≡ i = omega arith in
@@ -130,7 +118,7 @@ choose items taken (a ∷ heads) h =
     let l : cond (eq_by_cmp atom_cmp q (atom_of items w.0)) 1 0 + count_in atom_cmp q heads ≤ free_from 0 taken items q = rw (← is) (h q) in
     omega (arith, here', l))) in
     let within : nat_lt w.0 (length items) ≡ true = (let l = w.1 in grind (arith, nat_tests)) in
-    (w.0 ∷ more.0, both_true (nat_lt w.0 (length items) && not (is_taken w.0 taken)) (is_choice items (taken ++ w.0 ∷ []) more.0) (both_true _ _ within (not_false _ fresh)) more.1, (λ k. sym is k ∷ more.2 k))
+    (w.0 ∷ more.0, and_from (nat_lt w.0 (length items) && not (is_taken w.0 taken)) (is_choice items (taken ++ w.0 ∷ []) more.0) (and_from _ _ within (not_from_false _ fresh)) more.1, (λ k. sym is k ∷ more.2 k))
 
 -- each index of a choice is within the list
 pub choice_index : (items : List Atom) (taken is : List ℕ) (n : ℕ) → is_choice items taken is ≡ true → n < length is → get_or is n 0 < length items
@@ -153,7 +141,7 @@ pub choice_more : (items : List Atom) (taken is : List ℕ) (i : ℕ) → is_cho
 choice_more items taken [] i h l f =
     let f' : is_taken i taken ≡ false = subst (λ xs. is_taken i xs ≡ false) (append-nil taken) f in
     let within : nat_lt i (length items) ≡ true = grind (arith, nat_tests) in
-    both_true _ _ (both_true _ _ within (not_false _ f')) refl
+    and_from _ _ (and_from _ _ within (not_from_false _ f')) refl
 choice_more items taken (j ∷ is) i h l f =
-    both_true _ _ (first_true _ (is_choice items (taken ++ j ∷ []) is) h)
+    and_from _ _ (first_true _ (is_choice items (taken ++ j ∷ []) is) h)
     (choice_more items (taken ++ j ∷ []) is i (second_true (nat_lt j (length items) && not (is_taken j taken)) _ h) l (subst (λ xs. is_taken i xs ≡ false) (sym (append_assoc taken (j ∷ []) is)) f))

@@ -8,6 +8,7 @@ use Rattle.std.specs.Cmp.Lexicographic.{slice_cmp}
 use Rattle.std.proofs.Common.{refl, sym, ap, subst, ◌∙◌, arith, append_assoc, length-append}
 use Rattle.std.proofs.lemmas.List.{append-nil}
 use Rattle.std.proofs.lemmas.Bool.Decides.{nat_tests}
+use Rattle.std.proofs.lemmas.Bool.{and_from, not-true}
 use mathlib.Core.Bool.{true≢false}
 use Rattle.chr_base.specs.declared.atom.Atom.{Atom}
 use Rattle.chr_base.specs.declared.rule.Rule.{Rule}
@@ -18,7 +19,7 @@ use Rattle.chr_base.specs.Stores.{store_of}
 use Rattle.chr_base.specs.Rules.{HasInstance, heads_of}
 use Rattle.chr_rewrite.specs.Choices.{no_atom, atom_of, picked, is_choice, IsFirstChoice}
 use Rattle.chr_rewrite.specs.Plain.{IsLeastTuple}
-use Rattle.chr_rewrite.proofs.Choosing.{both_true, not_true, choose, free_from, free_none, free_taken, is_taken}
+use Rattle.chr_rewrite.proofs.Choosing.{choose, free_from, free_none, free_taken, is_taken}
 use Rattle.chr_rewrite.proofs.Searching.{NoneBelow, instance_places}
 
 -- no item of the list comes before x
@@ -73,13 +74,13 @@ chosen_before items taken (i ∷ is) (a ∷ heads) rising c e free =
     later equal w =
         let same = atom_exact a (atom_of items i) equal in
         let f : nat_cmp i i ≡ Equal = tied_itself nat_cmp_total i in
-        (i ∷ w.0, both_true (nat_lt i (length items) && not (is_taken i taken)) (is_choice items (taken ++ i ∷ []) w.0) two w.1, (λ k. sym same k ∷ w.2 k), ap (λ o. ordering_then o (slice_cmp nat_cmp w.0 is)) f ∙ w.3)
+        (i ∷ w.0, and_from (nat_lt i (length items) && not (is_taken i taken)) (is_choice items (taken ++ i ∷ []) w.0) two w.1, (λ k. sym same k ∷ w.2 k), ap (λ o. ordering_then o (slice_cmp nat_cmp w.0 is)) f ∙ w.3)
 
     left : atom_cmp a (atom_of items i) ≡ Equal → (q : Atom) → count_in atom_cmp q heads ≤ free_from 0 (taken ++ i ∷ []) items q
     left equal q =
         let same = atom_exact a (atom_of items i) equal in
         let z : 0 + i ≡ i = omega arith in
-        let fresh : is_taken i taken ≡ false = not_true _ (second_true (nat_lt i (length items)) _ two) in
+        let fresh : is_taken i taken ≡ false = not-true _ (second_true (nat_lt i (length items)) _ two) in
         let here = free_taken 0 i taken items no_atom q (index_within items taken is i c) (ap (λ m. is_taken m taken) z ∙ fresh) in
         let here' : cond (eq_by_cmp atom_cmp q (atom_of items i)) 1 0 + free_from 0 (taken ++ i ∷ []) items q ≡ free_from 0 taken items q = rw z at here in
         let l : cond (eq_by_cmp atom_cmp q (atom_of items i)) 1 0 + count_in atom_cmp q heads ≤ free_from 0 taken items q = rw (← same) (free q) in

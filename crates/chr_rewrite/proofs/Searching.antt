@@ -6,18 +6,19 @@ use Rattle.std.proofs.lemmas.Bool.Decides.{nat_tests}
 use Rattle.std.specs.List.{list_any}
 use Rattle.std.proofs.Math.Seq.{take-append_seam}
 use Rattle.std.proofs.lemmas.List.{get_or-map, get_or_default, append-nil}
+use Rattle.std.proofs.lemmas.Bool.{not-true, and_from}
 use Rattle.chr_base.specs.declared.atom.Atom.{Atom}
 use Rattle.chr_base.specs.declared.term.Pattern.{Pattern}
 use Rattle.chr_base.specs.declared.rule.Rule.{Rule}
 use Rattle.chr_base.specs.Atoms.{atom_total}
 use Rattle.chr_base.specs.FinBag.{IsWithin, within_lists, lists_within}
 use Rattle.chr_base.specs.Stores.{store_of}
-use Rattle.chr_base.specs.Rules.{HasInstance, Valuation, heads_of, heads_at, atom_at, term_value}
+use Rattle.chr_base.specs.Rules.{HasInstance, Valuation, heads_of, heads_at, atom_at, term_value, no_pattern}
 use Rattle.chr_base.specs.StepLaws.{length-map}
 use Rattle.chr_base.specs.Instances.{first_true, second_true}
-use Rattle.chr_rewrite.specs.Choices.{no_atom, no_pattern, has_shape, has_shape_at, atom_of, picked, is_choice, NoCompletion}
+use Rattle.chr_rewrite.specs.Choices.{no_atom, has_shape, has_shape_at, atom_of, picked, is_choice, NoCompletion}
 use Rattle.chr_rewrite.specs.Pools.{HasNoStep}
-use Rattle.chr_rewrite.proofs.Choosing.{choice_within, choice_more, choose, free_none, not_true, both_true}
+use Rattle.chr_rewrite.proofs.Choosing.{choice_within, choice_more, choose, free_none}
 
 -- the atoms of a choice are there
 pub choice_there : (items : List Atom) (is : List ℕ) → IsTrue (is_choice items [] is) → IsWithin (store_of (picked items is)) (store_of items)
@@ -75,10 +76,10 @@ tried_chosen r items is n none no_more =
 pub tried_taken : (r : Rule) (items : List Atom) (is : List ℕ) (n : ℕ) → NoneBelow r items is n → list_any (λ j. nat_eq j n) is ≡ true → NoneBelow r items is (n + 1)
 tried_taken r items is n none taken =
     one_more r items is n none (λ js c h. (let two : (nat_lt n (length items) && not (list_any (λ j. nat_eq j n) is)) ≡ true = first_true _ (is_choice items (is ++ n ∷ []) js) c in
-    true≢false (sym taken ∙ not_true _ (second_true (nat_lt n (length items)) _ two))))
+    true≢false (sym taken ∙ not-true _ (second_true (nat_lt n (length items)) _ two))))
 
 instance_shape : (v : Valuation) (p : Pattern) → has_shape p (atom_at v p) ≡ true
-instance_shape v p = both_true _ _ (eq-eqb p.symbol.0 p.symbol.0 refl) (eq-eqb (length p.args.items) _ (sym (length-map (term_value v) p.args.items)))
+instance_shape v p = and_from _ _ (eq-eqb p.symbol.0 p.symbol.0 refl) (eq-eqb (length p.args.items) _ (sym (length-map (term_value v) p.args.items)))
 
 -- the atom at a place of the choice
 at_seam : (items : List Atom) (is : List ℕ) (n : ℕ) (js : List ℕ) → get_or (picked items (is ++ n ∷ js)) (length is) no_atom ≡ atom_of items n

@@ -13,7 +13,7 @@ use Rattle.std.specs.Cmp.Lexicographic.{slice_cmp}
 use Rattle.chr_base.specs.declared.atom.Atom.{Atom}
 use Rattle.chr_base.specs.declared.term.Pattern.{Pattern}
 use Rattle.chr_base.specs.declared.rule.Rule.{Rule}
-use Rattle.chr_base.specs.Rules.{HasInstance, heads_of}
+use Rattle.chr_base.specs.Rules.{HasInstance, heads_of, no_pattern}
 
 abbrev pub no_atom : Atom
 no_atom = record { symbol = record { 0 = 0 }; args = record { items = [] } }
@@ -38,9 +38,6 @@ pub record IsFirstChoice (r : Rule) (items : List Atom) (is js : List ℕ) : Typ
 
 abbrev pub has_shape : Pattern → Atom → Bool
 has_shape p a = nat_eq p.symbol.0 a.symbol.0 && nat_eq (length p.args.items) (length a.args.items)
-
-abbrev pub no_pattern : Pattern
-no_pattern = record { symbol = record { 0 = 0 }; args = record { items = [] } }
 
 abbrev pub has_shape_at : Rule → ℕ → Atom → Bool
 has_shape_at r n a = has_shape (get_or (heads_of r) n no_pattern) a

@@ -18,11 +18,7 @@ fn has_shape_at(rule: &Rule, place: usize, atom: &Atom) -> bool
     requires { place < length (heads_of rule.now) }
     ensures { result ≡ has_shape_at rule.now place atom.now }
 {
-    let pattern = if place < rule.kept.len() {
-        &rule.kept[place]
-    } else {
-        &rule.removed[place - rule.kept.len()]
-    };
+    let pattern = rule.head_at(place);
     pattern.symbol.0 == atom.symbol.0 && pattern.args.len() == atom.args.len()
 }
 

@@ -1,4 +1,5 @@
 pub mod OrderTypes
+pub mod RisingLists
 pub mod Representatives
 pub mod Refusals
 pub mod Search

@@ -9,7 +9,7 @@ pub returns-clause-peaks : goal.returns-clause-peaks
 returns-clause-peaks c = λ rules cases. peaks_join (atom_in is_value) rules cases
 
 pub returns-clause-confluent : goal.returns-clause-confluent
-returns-clause-confluent c = λ rules w lower fit cases. confluent rules w lower fit (peaks_join (atom_in is_value) rules cases)
+returns-clause-confluent c = λ rules w lower cases. confluent rules w lower (peaks_join (atom_in is_value) rules cases)
 
 pub returns-clause-refuted : goal.returns-clause-refuted
 returns-clause-refuted c = λ rules s t u a b values h g x y differ. not_confluent rules s t u a b values h g x y differ

@@ -3,8 +3,7 @@ use Rattle.chr_report.proofs.one_text.outputs_are_one.Goals as goal
 
 pub returns : goal.returns
 returns c = one_output (record {
-  confluent = c.listed_confluence.ensures.confluent;
-  cases = record { cases = c.listed_cases.ensures.cases; left = c.peak.ensures.left; right = c.peak.ensures.right };
+  confluent = c.accepted_are_confluent.ensures;
   accepted = c.verdict_is_one.ensures.accepted;
   refused = c.verdict_is_one.ensures.refused;
   either = c.verdict_is_one.ensures.either;

@@ -1,23 +1,10 @@
-//! The heads of a rule, and its variables.
-ghost use Rattle.std.specs.Prelude.{◌≡◌, ◌+◌, ◌*◌, ◌<◌, ◌≤◌, Some, IsSome, get_or, length};
-ghost use Rattle.chr_base.specs.Rules.{heads_of};
-ghost use Rattle.chr_base.specs.RuleTests.{numbered, terms_of};
-ghost use Rattle.chr_confluence.specs.Overlaps.{variables_of, no_pattern};
+//! The number of a rule's variables.
+ghost use Rattle.std.specs.Prelude.{◌≡◌, ◌+◌, ◌*◌, ◌≤◌, Some, IsSome, length};
+ghost use Rattle.chr_base.specs.RuleTests.{numbered};
+ghost use Rattle.chr_confluence.specs.Overlaps.{variables_of};
 
 use chr_base::rule::Rule;
 use chr_base::term::{Pattern, Term};
-
-/// The head at a place, counted from 0. Kept heads come before removed ones.
-pub(crate) fn head_at(rule: &Rule, place: usize) -> &Pattern
-    requires { place < length (heads_of rule.now) }
-    ensures { result.now ≡ get_or (heads_of rule.now) place no_pattern }
-{
-    if place < rule.kept.len() {
-        &rule.kept[place]
-    } else {
-        &rule.removed[place - rule.kept.len()]
-    }
-}
 
 /// The number of variables after these terms, where so many were there before.
 fn count_in_terms(before: u8, terms: &[Term]) -> u8
@@ -42,7 +29,7 @@ pub(crate) fn variables(rule: &Rule) -> u8
 {
     let mut count = 0;
     for place in 0..rule.places() {
-        count = count_in_terms(count, &head_at(rule, place).args);
+        count = count_in_terms(count, &rule.head_at(place).args);
     }
     count
 }

@@ -1,7 +1,7 @@
 use Rattle.std.proofs.Common.{◌≡◌, ◌*◌, ◌≤◌, drop}
 use Rattle.chr_base.specs.Rules.{heads_of}
 use Rattle.chr_base.specs.RuleTests.{numbered, terms_of}
-use Rattle.chr_overlaps.proofs.heads.variables.Given as goal
+use Rattle.chr_overlaps.proofs.numbered.variables.Given as goal
 
 abbrev pub invariant-loop-place : goal.invariant-loop-place
 invariant-loop-place l = record {

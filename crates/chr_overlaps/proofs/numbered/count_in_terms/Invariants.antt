@@ -1,6 +1,6 @@
 use Rattle.std.proofs.Common.{◌≡◌, ◌+◌, ◌≤◌, drop}
 use Rattle.chr_base.specs.RuleTests.{numbered}
-use Rattle.chr_overlaps.proofs.heads.count_in_terms.Given as goal
+use Rattle.chr_overlaps.proofs.numbered.count_in_terms.Given as goal
 
 abbrev pub invariant-loop-term : goal.invariant-loop-term
 invariant-loop-term l = record {

@@ -1,8 +1,7 @@
 use Rattle.std.proofs.Common.{◌≡◌, ◌<◌, length, get_or, ap, ◌∙◌, arith}
-use Rattle.chr_base.specs.Rules.{heads_of}
-use Rattle.chr_confluence.specs.Overlaps.{no_pattern}
+use Rattle.chr_base.specs.Rules.{heads_of, no_pattern}
 use Rattle.chr_overlaps.proofs.Numbering.{place_numbered, place_counted}
-use Rattle.chr_overlaps.proofs.heads.variables.Goals as goal
+use Rattle.chr_overlaps.proofs.numbered.variables.Goals as goal
 
 pub count_in_terms-count-requires-clause-numbered : goal.count_in_terms-count-requires-clause-numbered
 count_in_terms-count-requires-clause-numbered c =

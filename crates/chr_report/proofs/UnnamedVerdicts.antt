@@ -1,0 +1,217 @@
+-- What is written for rules is what is written for them without their names.
+use Rattle.std.specs.Prelude.{◌≡◌, ℕ, ◌-◌, ◌≤◌, ◌⊎◌, Bool, true, false, List, [], ◌∷◌, ◌++◌, map, Result, Ok, Err, nat_eq}
+use Rattle.std.specs.Bool.{MatchBool}
+use Rattle.std.specs.FinMap as finite
+use Rattle.std.proofs.Common.{sym, ap, subst, ◌∙◌, inl, inr}
+use Rattle.std.proofs.lemmas.List.{length-map}
+use Rattle.chr_base.specs.declared.atom.Atom.{Atom}
+use Rattle.chr_base.specs.declared.rule.Rule.{Rule}
+use Rattle.chr_base.specs.declared.derivation.Step.{Step as StepValue}
+use Rattle.chr_base.specs.FinBag.{total}
+use Rattle.chr_base.specs.Rules.{atoms_at}
+use Rattle.chr_base.specs.StepLaws.{RuleLowers}
+use Rattle.chr_base.specs.Stores.{Store}
+use Rattle.chr_base.specs.ProgramTests.{Declaration}
+use Rattle.chr_weights.specs.Weights.{weight_by}
+use Rattle.chr_confluence.specs.Overlaps.{equations_of}
+use Rattle.chr_confluence.specs.Classes.{HasNone}
+use Rattle.chr_confluence.specs.Confluence.{RulesLower}
+use Rattle.chr_rewrite.specs.Pools.{HasNoStep}
+use Rattle.chr_rewrite.specs.Plain.{IsStepAt, Takes, IsLeastStep, PlainSteps, PlainRuns}
+use Rattle.chr_overlaps.specs.declared.overlap.Overlap.{Overlap}
+use Rattle.chr_overlaps.specs.declared.cases.Case.{Case}
+use Rattle.chr_overlaps.specs.OverlapLists.{AreOverlaps}
+use Rattle.chr_overlaps.specs.CaseLists.{AreListed, AreCases, IsTooMany}
+use Rattle.chr_join.specs.declared.refused.Failure.{Failure}
+use Rattle.chr_join.specs.declared.refused.Cause.{Cause}
+use Rattle.chr_join.specs.declared.refused.Cause.TheVariants as cause
+use Rattle.chr_join.specs.Sides.{SideEnds, Joins}
+use Rattle.chr_join.specs.Verdicts.{CasesJoin, AllJoin, IsAccepted, IsFirst, IsFirstCase}
+use Rattle.chr_join.specs.Explanations.{Explains, IsRefusal}
+use Rattle.chr_ops.specs.Operations.{Operations, told_store}
+use Rattle.chr_json.specs.Commands.{Said, show, tell}
+use Rattle.chr_json.specs.Lines.{is_blank_line}
+use Rattle.chr_json.specs.Reads.{line_said}
+use Rattle.chr_json.specs.declared.fault.LineFault.{LineFault}
+use Rattle.chr_report.specs.declared.running.Status.{Status}
+use Rattle.chr_report.specs.declared.running.Status.TheVariants.{Accepted, Refused}
+use Rattle.chr_report.specs.Lines.{without_return}
+use Rattle.chr_report.specs.Answers.{ShowsNormalForm, AnswersShow, AnswersRead, AnswersFirst, AnswersAll, Refuses}
+use Rattle.chr_report.specs.Outputs.{IsFirstNotLowered, accepted_text, IsAnswered, IsRulesOutput}
+use Rattle.chr_report.proofs.UnnamedRules.{unnamed, at_unnamed, from_unnamed, by_unnamed, rest_unnamed, normal_unnamed, overlap_unnamed, overlap_named, constants_unnamed}
+
+module _ (rules : List Rule) where
+  abbrev bare : List Rule
+  bare = map unnamed rules
+
+  -- ---- derivations
+
+  abbrev step_at : (s : Store) (st : StepValue) → IsStepAt rules s st → IsStepAt bare s st
+  step_at s st h = record { rule = unnamed h.rule; numbered = h.numbered; named = at_unnamed rules (st.rule - 1) h.rule h.named; instance = h.instance; there = h.there }
+
+  takes : (s t : Store) (st : StepValue) → Takes rules st s t → Takes bare st s t
+  takes s t st h = (step_at s st h.0, (h.1.0, h.1.1, by_unnamed h.0.rule h.1.0 s t h.1.2))
+
+  no_step : (r : Rule) (s : Store) → HasNoStep r s → HasNoStep (unnamed r) s
+  no_step r s h v t step = h v t (record { guard = step.guard; there = step.there; after = step.after })
+
+  least_step : (s : Store) (st : StepValue) → IsLeastStep rules s st → IsLeastStep bare s st
+  least_step s st h = record {
+    at = step_at s st h.at;
+    least_rule = λ i x l e. (let r = from_unnamed rules i x e in subst (λ y. HasNoStep y s) r.2 (no_step r.0 s (h.least_rule i r.0 l r.1)));
+    least_heads = h.least_heads;
+  }
+
+  plain_steps : (steps : List StepValue) (s t : Store) → PlainSteps rules steps s t → PlainSteps bare steps s t
+  plain_steps [] s t h = h
+  plain_steps (st ∷ steps) s t h = (h.0, least_step s st h.1, takes s h.0 st h.2, plain_steps steps h.0 t h.3)
+
+  plain_runs : (steps : List StepValue) (s t : Store) → PlainRuns rules steps s t → PlainRuns bare steps s t
+  plain_runs steps s t h = (plain_steps steps s t h.0, rest_unnamed rules t h.1)
+
+  side_ends : (s t : Store) (st : StepValue) (steps : List StepValue) → SideEnds rules s st steps t → SideEnds bare s st steps t
+  side_ends s t st steps h = (h.0, takes s h.0 st h.1, plain_runs steps h.0 t h.2)
+
+  joins : (c : Case) → Joins rules c → Joins bare c
+  joins c h = record { left = h.left; right = h.right; end = h.end; left_ends = side_ends c.store h.end c.left h.left h.left_ends; right_ends = side_ends c.store h.end c.right h.right h.right_ends }
+
+  -- ---- overlaps and cases
+
+  are_overlaps : (os : List Overlap) → AreOverlaps rules os → AreOverlaps bare os
+  are_overlaps os h = record {
+    each = λ o i. (let is = h.each o i in (is.0, is.1, (is.2.0, is.2.1, overlap_unnamed rules is.0 is.1 o.matching.items is.2.2)));
+    all = λ i j m is. h.all i j m (overlap_named rules i j m is);
+    rise = h.rise;
+  }
+
+  are_listed : (o : Overlap) (r1 r2 : Rule) (cs : List Case) → AreListed rules o r1 r2 cs → AreListed bare o (unnamed r1) (unnamed r2) cs
+  are_listed o r1 r2 cs h = record {
+    classes = h.classes;
+    representatives = h.representatives;
+    solves = h.solves;
+    types = (h.types.0, constants_unnamed rules h.types.0 h.types.1, h.types.2);
+    within = h.within;
+    cases_are = h.cases_are;
+  }
+
+  are_cases : (o : Overlap) (cs : List Case) → AreCases rules o cs → AreCases bare o cs
+  are_cases o cs h = record {
+    rule1 = unnamed h.rule1;
+    rule2 = unnamed h.rule2;
+    first = at_unnamed rules (o.first - 1) h.rule1 h.first;
+    second = at_unnamed rules (o.second - 1) h.rule2 h.second;
+    listed = elim h.listed as (λ _. (HasNone (equations_of h.rule1 h.rule2 o.matching.items) × (cs ≡ [])) ⊎ AreListed bare o (unnamed h.rule1) (unnamed h.rule2) cs) [ inl n ↦ inl n | inr l ↦ inr (are_listed o h.rule1 h.rule2 cs l) ];
+  }
+
+  too_many : (o : Overlap) (n : ℕ) → IsTooMany rules o n → IsTooMany bare o n
+  too_many o n h = record {
+    rule1 = unnamed h.rule1;
+    rule2 = unnamed h.rule2;
+    first = at_unnamed rules (o.first - 1) h.rule1 h.first;
+    second = at_unnamed rules (o.second - 1) h.rule2 h.second;
+    classes = h.classes;
+    solves = h.solves;
+    number = h.number;
+    constants = h.constants;
+    are_constants = constants_unnamed rules h.constants h.are_constants;
+    more = h.more;
+  }
+
+  -- ---- verdicts
+
+  cases_join : (o : Overlap) (n : ℕ) → CasesJoin rules o n → CasesJoin bare o n
+  cases_join o n h = record { cases = h.cases; listed = are_cases o h.cases h.listed; join = λ k c e. joins c (h.join k c e); number = h.number }
+
+  all_join : (os : List Overlap) (n : ℕ) → AllJoin rules os n → AllJoin bare os n
+  all_join [] n h = h
+  all_join (o ∷ os) n h = (h.0, h.1, cases_join o h.0 h.2, all_join os h.1 h.3, h.4)
+
+  is_accepted : (n : ℕ) → IsAccepted rules n → IsAccepted bare n
+  is_accepted n h = record { overlaps = h.overlaps; listed = are_overlaps h.overlaps h.listed; join = all_join h.overlaps n h.join }
+
+  is_first : (o : Overlap) → IsFirst rules o → IsFirst bare o
+  is_first o h = record { overlaps = h.overlaps; place = h.place; listed = are_overlaps h.overlaps h.listed; there = h.there; earlier = λ k p l e. (let j = h.earlier k p l e in (j.0, cases_join p j.0 j.1)) }
+
+  is_first_case : (o : Overlap) (c : Case) → IsFirstCase rules o c → IsFirstCase bare o c
+  is_first_case o c h = record { cases = h.cases; place = h.place; listed = are_cases o h.cases h.listed; there = h.there; earlier = λ k x l e. joins x (h.earlier k x l e) }
+
+  explains : (c : Case) (f : Failure) → Explains rules c f → Explains bare c f
+  explains c f h = record {
+    left_start = h.left_start;
+    left_rest = h.left_rest;
+    left_steps = h.left_steps;
+    left_ends = side_ends c.store f.left_end c.left h.left_rest h.left_ends;
+    right_start = h.right_start;
+    right_rest = h.right_rest;
+    right_steps = h.right_steps;
+    right_ends = side_ends c.store f.right_end c.right h.right_rest h.right_ends;
+    differ = h.differ;
+  }
+
+  is_refusal : (e : Cause) → IsRefusal rules e → IsRefusal bare e
+  is_refusal (cause.Fails f) h = (is_first f.overlap h.0, (h.1.0, is_first_case f.overlap h.1.0 h.1.1, explains h.1.0 f h.1.2))
+  is_refusal (cause.TooMany t) h = (is_first t.overlap h.0, too_many t.overlap t.classes h.1)
+  is_refusal cause.Memory h = h
+
+  lower : (w : Atom → ℕ) → RulesLower w rules → RulesLower w bare
+  lower w h i x e = let r = from_unnamed rules i x e in subst (RuleLowers w) r.2 (h i r.0 r.1)
+
+  -- ---- outputs
+
+  module _ (ds : List Declaration) where
+    first_not_lowered : (i b a : ℕ) → IsFirstNotLowered ds rules i b a → IsFirstNotLowered ds bare i b a
+    first_not_lowered i b a h = record {
+      first = h.first;
+      within = subst (λ n. i ≤ n) (sym (length-map rules unnamed)) h.within;
+      earlier = λ j x l e. (let r = from_unnamed rules j x e in subst (RuleLowers (weight_by ds)) r.2 (h.earlier j r.0 l r.1));
+      weight_before = λ x v e. (let r = from_unnamed rules (i - 1) x e in subst (λ y. b ≡ total (weight_by ds) (atoms_at v y.removed.items)) r.2 (h.weight_before r.0 v r.1));
+      weight_after = λ x v e. (let r = from_unnamed rules (i - 1) x e in subst (λ y. a ≡ total (weight_by ds) (atoms_at v y.body.items)) r.2 (h.weight_after r.0 v r.1));
+      not_lowered = h.not_lowered;
+    }
+
+    shows : (told : Store) (text : List ℕ) → ShowsNormalForm ds rules told text → ShowsNormalForm ds bare told text
+    shows told text h = record { store = h.store; normal_form = normal_unnamed rules told h.store h.normal_form; text_is = h.text_is }
+
+    answers_show : (old : Operations) (r : ℕ) (text : List ℕ) (new : Operations) → AnswersShow ds rules old r text new → AnswersShow ds bare old r text new
+    answers_show old r text new h = by (nat_eq r 1) h
+      where
+        by : (b : Bool) → MatchBool b (ShowsNormalForm ds rules (told_store old) text × (new ≡ old)) (Refuses 35 old text new) → MatchBool b (ShowsNormalForm ds bare (told_store old) text × (new ≡ old)) (Refuses 35 old text new)
+        by true h = (shows (told_store old) text h.0, h.1)
+        by false h = h
+
+    answers_read : (old : Operations) (said : Result Said LineFault) (text : List ℕ) (new : Operations) → AnswersRead ds rules old said text new → AnswersRead ds bare old said text new
+    answers_read old (Ok (show r)) text new h = answers_show old r text new h
+    answers_read old (Ok (tell r o n ws)) text new h = h
+    answers_read old (Err e) text new h = h
+
+    answers_all : (ls : List (List ℕ)) (old : Operations) (out : List ℕ) → AnswersAll ds rules ls old out → AnswersAll ds bare ls old out
+    answers_all [] old out h = h
+    answers_all (l ∷ ls) old out h = by (is_blank_line (without_return l)) h (answers_all ls)
+      where
+        by : (b : Bool) → MatchBool b (AnswersAll ds rules ls old out) (AnswersFirst ds rules old (without_return l) out (AnswersAll ds rules ls))
+            → ((now : Operations) (rest : List ℕ) → AnswersAll ds rules ls now rest → AnswersAll ds bare ls now rest)
+            → MatchBool b (AnswersAll ds bare ls old out) (AnswersFirst ds bare old (without_return l) out (AnswersAll ds bare ls))
+        by true h more = more old out h
+        by false h more = record {
+          text = h.text;
+          new = h.new;
+          rest = h.rest;
+          answers = answers_read old (line_said (without_return l)) h.text h.new h.answers;
+          more = more h.new h.rest h.more;
+          out_is = h.out_is;
+        }
+
+    answered : (commands : List (List ℕ)) (out : List ℕ) → IsAnswered ds rules commands out → IsAnswered ds bare commands out
+    answered commands out h = record {
+      lowers = lower (weight_by ds) h.lowers;
+      cases = h.cases;
+      accepted = is_accepted h.cases h.accepted;
+      answers = h.answers;
+      answered = answers_all commands finite.empty h.answers h.answered;
+      out_is = h.out_is ∙ ap (λ n. accepted_text n h.cases ++ 10 ∷ h.answers) (sym (length-map rules unnamed));
+    }
+
+pub output_unnamed : (ds : List Declaration) (rules : List Rule) (commands : List (List ℕ)) (status : Status) (out : List ℕ) → IsRulesOutput ds rules commands status out → IsRulesOutput ds (map unnamed rules) commands status out
+output_unnamed ds rules commands Accepted out h = answered rules ds commands out h
+output_unnamed ds rules commands Refused out (inl h) = inl (record { rule = h.rule; before = h.before; after = h.after; first = first_not_lowered rules ds h.rule h.before h.after h.first; out_is = h.out_is })
+output_unnamed ds rules commands Refused out (inr h) = inr (record { lowers = lower rules (weight_by ds) h.lowers; cause = h.cause; first = is_refusal rules h.cause h.first; line = h.line })
