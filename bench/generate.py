@@ -8,10 +8,11 @@
     generate.py layout              a program text of a few rules and long layout
     generate.py items               a program text with one clause of many items
     generate.py symbols             a program text with one clause of many symbols (it is refused)
-    generate.py dominated           a short program with an overlap of four variables
+    generate.py dominated           a short program with overlaps of up to six free classes
     generate.py near                a short program with an overlap of 47,293 order types, which is nearly the limit
     generate.py ordered             the same with a guard that holds in few of them
     generate.py over                a short program with an overlap of too many order types (it is refused)
+    generate.py constants           the same with rules of 2,520 constants beside it (it is refused)
     generate.py tells N [--show]    a program without rules, and N operations of one atom each
     generate.py wide N [--show]     a program without rules, and N operations of 64 atoms each
     generate.py minimum N           a program with one rule, N operations of one atom each, of which one atom stays, and a `show`
@@ -77,6 +78,20 @@ def full_rules(length):
     return text + "%" * (TEXT_LIMIT - len(text))
 
 
+def constant_rule(place):
+    """A rule of 40 constants that no other rule has."""
+    constants = iter(range(1000 + 40 * place, 1040 + 40 * place))
+    guard = ", ".join(f"V > {next(constants)}" for k in range(8))
+    body = ", ".join(f"b({next(constants)},{next(constants)},{next(constants)},{next(constants)})" for k in range(8))
+    return f"a(V) <=> {guard} | {body}.\n"
+
+
+def many_constants():
+    """A rule with an overlap of nine variables, and as many rules with constants as there may be."""
+    text = ":- chr_constraint p/4, q/1, s/0, a/1, b/4.\n:- chr_weight a/1 = 9.\np(A,B,C,D), q(E) <=> s.\n"
+    return text + "".join(constant_rule(place) for place in range(RULE_LIMIT - 1))
+
+
 def tells(count, atoms):
     yield ":- chr_constraint a/1.\n---\n"
     for number in range(count):
@@ -119,6 +134,7 @@ TEXTS = {
     "near": lambda: ":- chr_constraint p/3, q/1.\np(A,B,C) \\ q(D) <=> true.\n",
     "ordered": lambda: ":- chr_constraint p/3, q/1.\np(A,B,C) \\ q(D) <=> A < B, B < C, C < D | true.\n",
     "over": lambda: ":- chr_constraint p/4, q/1, s/0.\np(A,B,C,D), q(E) <=> s.\n",
+    "constants": many_constants,
 }
 
 

@@ -17,7 +17,7 @@ use Rattle.chr_base.specs.FinBag as bag
 abbrev pub name_of : List Declaration → Atom → List ℕ
 name_of ds a = option_map_or (λ d. d.name) (slice_get ds a.symbol.0) []
 
--- symbols that have no name come last, by their place, so that only equal atoms tie
+-- The symbol's place is compared last, so that only equal atoms tie. Atoms that are not declared come first, since they have no name.
 abbrev pub print_cmp : List Declaration → Atom → Atom → Ordering
 print_cmp ds a b =
     ordering_then (slice_cmp nat_cmp (name_of ds a) (name_of ds b))

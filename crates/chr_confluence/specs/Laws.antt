@@ -12,6 +12,7 @@ use Rattle.chr_types.specs.OrderTypes.{In, AreValues, pairs}
 use Rattle.chr_types.specs.Representatives.{AreTypes}
 use Rattle.chr_confluence.specs.Values.{is_value, atom_in, Each, HasValues}
 use Rattle.chr_confluence.specs.Cases.{side, IsCase, case_store, CasesJoin, Confluent}
+use Rattle.chr_confluence.specs.Overlaps.{IsMatching}
 use Rattle.chr_confluence.specs.Representatives.{rule_terms}
 use Rattle.chr_confluence.specs.Rising.{KeepsOrder, FixesRule, rename}
 use Rattle.chr_confluence.specs.Images.{among}
@@ -52,6 +53,10 @@ TypesRise =
 abbrev pub PeaksCommuteOrOverlap : Type 0
 PeaksCommuteOrOverlap =
     (r1 r2 : Rule) (v1 v2 : Valuation) (s t u : Store) → StepBy r1 v1 s t → StepBy r2 v2 s u → Commute r1 r2 v1 v2 t u ⊎ HoldsCase r1 r2 v1 v2 s
+
+-- and the matching of a case is one of those that are listed
+abbrev pub CasesAreMatched : Type 0
+CasesAreMatched = (r1 r2 : Rule) (m : List ℕ) (v1 v2 : Valuation) → IsCase r1 r2 m v1 v2 → IsMatching r1 r2 m
 
 -- both sides of a case are one step from its store
 abbrev pub LeftSideIsStep : Type 0

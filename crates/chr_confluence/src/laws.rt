@@ -1,5 +1,5 @@
 //! The laws of steps and of confluence. Each is a function that takes nothing and computes nothing: its contract is the law.
-ghost use Rattle.chr_confluence.specs.Laws.{InstancesGrow, StepsGrow, StepsRise, ValuesStay, TypesRise, PeaksCommuteOrOverlap, LeftSideIsStep, RightSideIsStep, StoresRest, PeaksMakeConfluent, CasesMakePeaksJoin, CasesMakeConfluent, DifferentEndsRefute, FailingCaseRefutes, PartsReach, PartsDetermine};
+ghost use Rattle.chr_confluence.specs.Laws.{InstancesGrow, StepsGrow, StepsRise, ValuesStay, TypesRise, PeaksCommuteOrOverlap, CasesAreMatched, LeftSideIsStep, RightSideIsStep, StoresRest, PeaksMakeConfluent, CasesMakePeaksJoin, CasesMakeConfluent, DifferentEndsRefute, FailingCaseRefutes, PartsReach, PartsDetermine};
 
 /// Monotonicity: a step in a store is a step with the same effect in every larger store (Frühwirth 2009).
 pub fn grow()
@@ -17,10 +17,11 @@ pub fn rising()
 {}
 
 /// Peaks. Of two steps from one store either each is still possible after the other, with one end for both ways, or the
-/// store holds a case of their instances: heads of both, matched so that a removed one is among the matched (after the
-/// critical pairs of Abdennadher, Frühwirth and Meuss 1999).
+/// store holds a case of their instances: heads of both, matched so that a removed one is among the matched, as overlaps
+/// are (after the critical pairs of Abdennadher, Frühwirth and Meuss 1999).
 pub fn peak()
     ensures peaks { PeaksCommuteOrOverlap }
+    ensures matched { CasesAreMatched }
     ensures left { LeftSideIsStep }
     ensures right { RightSideIsStep }
 {}

@@ -130,5 +130,5 @@ failing_refutes law laws rules f h = by h.1.1.listed.listed
 
 pub refusal_refutes : FailingListedRefutes → CaseLaws → (rules : List Rule) (e : Cause) → IsRefusal rules e → IsFailing e → Confluent rules → ⊥
 refusal_refutes law laws rules (cause.Fails f) h g = failing_refutes law laws rules f h
-refusal_refutes law laws rules (cause.TooMany t) h g = absurd g
+refusal_refutes law laws rules (cause.TooManyTypes t) h g = absurd g
 refusal_refutes law laws rules cause.Memory h g = absurd g

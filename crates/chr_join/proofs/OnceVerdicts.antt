@@ -8,7 +8,7 @@ use Rattle.chr_overlaps.specs.declared.overlap.Overlap.{Overlap}
 use Rattle.chr_overlaps.specs.declared.cases.Case.{Case}
 use Rattle.chr_overlaps.specs.CaseLists.{IsTooMany}
 use Rattle.chr_join.specs.declared.refused.Failure.{Failure}
-use Rattle.chr_join.specs.declared.refused.TooMany.{TooMany}
+use Rattle.chr_join.specs.declared.refused.TooManyTypes.{TooManyTypes}
 use Rattle.chr_join.specs.declared.refused.Cause.{Cause}
 use Rattle.chr_join.specs.declared.refused.Cause.TheVariants as cause
 use Rattle.chr_join.specs.Sides.{Joins}
@@ -112,7 +112,7 @@ never_both rules n e a h = by e h
 
     by : (e : Cause) → IsRefusal rules e → IsOfMemory e
     by (cause.Fails f) h = fails_unjoined rules f.overlap h.1.0 f h.1.1 h.1.2 (joined f.overlap h.0)
-    by (cause.TooMany t) h = many_unjoined rules t.overlap t.classes h.1 (joined t.overlap h.0)
+    by (cause.TooManyTypes t) h = many_unjoined rules t.overlap t.classes h.1 (joined t.overlap h.0)
     by cause.Memory h = tt
 
 fails_once : (rules : List Rule) (f g : Failure) → IsRefusal rules (cause.Fails f) → IsRefusal rules (cause.Fails g) → SameFailure f g
@@ -122,22 +122,22 @@ fails_once rules f g h k =
     let case = one_first_case rules g.overlap h.1.0 k.1.0 first k.1.1 (λ j. joins_or_fails rules h.1.0 f j h.1.2) (λ j. joins_or_fails rules k.1.0 g j k.1.2) in
     one_explanation rules k.1.0 f g overlap (subst (λ c. Explains rules c f) case h.1.2) k.1.2
 
-fails_or_many : (rules : List Rule) (f : Failure) (t : TooMany) → IsRefusal rules (cause.Fails f) → IsRefusal rules (cause.TooMany t) → ⊥
+fails_or_many : (rules : List Rule) (f : Failure) (t : TooManyTypes) → IsRefusal rules (cause.Fails f) → IsRefusal rules (cause.TooManyTypes t) → ⊥
 fails_or_many rules f t h k =
     let overlap = one_first rules f.overlap t.overlap h.0 k.0 (fails_unjoined rules f.overlap h.1.0 f h.1.1 h.1.2) (many_unjoined rules t.overlap t.classes k.1) in
     let first : IsFirstCase rules t.overlap h.1.0 = subst (λ o. IsFirstCase rules o h.1.0) overlap h.1.1 in
     cases_or_many rules t.overlap first.cases t.classes first.listed k.1
 
-many_once : (rules : List Rule) (t u : TooMany) → IsRefusal rules (cause.TooMany t) → IsRefusal rules (cause.TooMany u) → (t.overlap ≡ u.overlap) × (t.classes ≡ u.classes)
+many_once : (rules : List Rule) (t u : TooManyTypes) → IsRefusal rules (cause.TooManyTypes t) → IsRefusal rules (cause.TooManyTypes u) → (t.overlap ≡ u.overlap) × (t.classes ≡ u.classes)
 many_once rules t u h k =
     let overlap = one_first rules t.overlap u.overlap h.0 k.0 (many_unjoined rules t.overlap t.classes h.1) (many_unjoined rules u.overlap u.classes k.1) in
     (overlap, one_number rules u.overlap t.classes u.classes (subst (λ o. IsTooMany rules o t.classes) overlap h.1) k.1)
 
 pub refused_once : RefusedOnce
 refused_once rules (cause.Fails f) (cause.Fails g) h k _ _ = fails_once rules f g h k
-refused_once rules (cause.Fails f) (cause.TooMany t) h k _ _ = fails_or_many rules f t h k
+refused_once rules (cause.Fails f) (cause.TooManyTypes t) h k _ _ = fails_or_many rules f t h k
 refused_once rules (cause.Fails f) cause.Memory h k _ n = n tt
-refused_once rules (cause.TooMany t) (cause.Fails g) h k _ _ = fails_or_many rules g t k h
-refused_once rules (cause.TooMany t) (cause.TooMany u) h k _ _ = many_once rules t u h k
-refused_once rules (cause.TooMany t) cause.Memory h k _ n = n tt
+refused_once rules (cause.TooManyTypes t) (cause.Fails g) h k _ _ = fails_or_many rules g t k h
+refused_once rules (cause.TooManyTypes t) (cause.TooManyTypes u) h k _ _ = many_once rules t u h k
+refused_once rules (cause.TooManyTypes t) cause.Memory h k _ n = n tt
 refused_once rules cause.Memory g h k n _ = absurd (n tt)

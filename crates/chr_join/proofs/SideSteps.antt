@@ -1,6 +1,6 @@
 -- From single steps and plain derivations to the sides of cases.
 use Rattle.std.specs.Prelude.{◌≡◌, ◌-◌, List, ◌∷◌, Result, Ok, Err, IfOk, get_or}
-use Rattle.std.proofs.Common.{sym, subst, ◌∙◌}
+use Rattle.std.proofs.Common.{refl, sym, subst, ◌∙◌}
 use Rattle.std.proofs.lemmas.Option.{get_or_from_slice_get}
 use Rattle.chr_base.specs.declared.atom.Atom.{Atom}
 use Rattle.chr_base.specs.declared.rule.Rule.{Rule}
@@ -17,10 +17,15 @@ use Rattle.chr_join.specs.Explanations.{Explains, IsRefusal, FailingReplays}
 use Rattle.chr_overlaps.specs.declared.cases.Case.{Case}
 use Rattle.chr_join.specs.Sides.{SideEnds, Joins, Fails}
 
-pub takes : (rules listed : List Rule) (st : Step) (s s' t : Store) (r : Rule) (heads : List Atom) → IsStepAt rules s st → listed ≡ rules → r ≡ get_or listed (st.rule - 1) r → heads ≡ st.heads.items → s' ≡ s → StepOn r heads s' t → Takes rules st s t
+takes : (rules listed : List Rule) (st : Step) (s s' t : Store) (r : Rule) (heads : List Atom) → IsStepAt rules s st → listed ≡ rules → r ≡ get_or listed (st.rule - 1) r → heads ≡ st.heads.items → s' ≡ s → StepOn r heads s' t → Takes rules st s t
 takes rules listed st s s' t r heads at same is heads_are stores step =
     let rule : r ≡ at.rule = is ∙ (λ i. get_or (same i) (st.rule - 1) r) ∙ get_or_from_slice_get rules (st.rule - 1) at.rule r at.named in
     (at, subst (λ x. StepOn x st.heads.items s t) rule (subst (λ x. StepOn r st.heads.items x t) stores (subst (λ hs. StepOn r hs s' t) heads_are step)))
+
+pub taken : {E : Type 0} (rules listed : List Rule) (st : Step) (s : Store) (result : Result Store E) (r : Rule) (heads : List Atom) → IsStepAt rules s st → listed ≡ rules → r ≡ get_or listed (st.rule - 1) r → heads ≡ st.heads.items
+    → IfOk result (StepOn r heads s) → IfOk result (λ t. Takes rules st s t)
+taken rules listed st s (Ok t) r heads at same is heads_are step = takes rules listed st s s t r heads at same is heads_are refl step
+taken rules listed st s (Err e) r heads at same is heads_are step = tt
 
 pub ended : {E : Type 0} (rules : List Rule) (s u : Store) (st : Step) (r : Result Store E) → Takes rules st s u → IfOk r (λ end. (steps : List Step) × PlainRuns rules steps u end) → IfOk r (λ end. (steps : List Step) × SideEnds rules s st steps end)
 ended rules s u st (Ok t) h p = (p.0, (u, h, p.1))
@@ -70,5 +75,5 @@ failing_replays rules (cause.Fails f) h =
       right_rests = x.right_ends.2.1;
       differ = x.differ;
     }
-failing_replays rules (cause.TooMany t) h = tt
+failing_replays rules (cause.TooManyTypes t) h = tt
 failing_replays rules cause.Memory h = tt

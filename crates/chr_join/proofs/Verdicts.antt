@@ -84,5 +84,5 @@ first_at rules os i o n are h l e = record { overlaps = os; place = i; listed = 
 pub refusal_at : (rules : List Rule) (o : Overlap) (e : Cause) → IsFirst rules o → RefusesAt rules o e → IsRefusal rules e
 refusal_at rules o (cause.Fails f) first h =
     (subst (IsFirst rules) (sym h.0) first, (h.1.0, subst (λ x. IsFirstCase rules x h.1.0) (sym h.0) h.1.1, h.1.2))
-refusal_at rules o (cause.TooMany t) first h = (subst (IsFirst rules) (sym h.0) first, subst (λ x. IsTooMany rules x t.classes) (sym h.0) h.1)
+refusal_at rules o (cause.TooManyTypes t) first h = (subst (IsFirst rules) (sym h.0) first, subst (λ x. IsTooMany rules x t.classes) (sym h.0) h.1)
 refusal_at rules o cause.Memory first h = tt

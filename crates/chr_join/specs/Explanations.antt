@@ -32,17 +32,17 @@ pub record Explains (rules : List Rule) (c : Case) (f : Failure) : Type 0 where
 
 abbrev pub RefusesAt : List Rule → Overlap → Cause → Type 0
 RefusesAt rules o (cause.Fails f) = (f.overlap ≡ o) × ((c : Case) × IsFirstCase rules o c × Explains rules c f)
-RefusesAt rules o (cause.TooMany t) = (t.overlap ≡ o) × IsTooMany rules o t.classes
+RefusesAt rules o (cause.TooManyTypes t) = (t.overlap ≡ o) × IsTooMany rules o t.classes
 RefusesAt rules o cause.Memory = Unit {0}
 
 abbrev pub IsRefusal : List Rule → Cause → Type 0
 IsRefusal rules (cause.Fails f) = IsFirst rules f.overlap × ((c : Case) × IsFirstCase rules f.overlap c × Explains rules c f)
-IsRefusal rules (cause.TooMany t) = IsFirst rules t.overlap × IsTooMany rules t.overlap t.classes
+IsRefusal rules (cause.TooManyTypes t) = IsFirst rules t.overlap × IsTooMany rules t.overlap t.classes
 IsRefusal rules cause.Memory = Unit {0}
 
 abbrev pub IsFailing : Cause → Type 0
 IsFailing (cause.Fails f) = Unit {0}
-IsFailing (cause.TooMany t) = ⊥
+IsFailing (cause.TooManyTypes t) = ⊥
 IsFailing cause.Memory = ⊥
 
 -- The two derivations of a case that fails start at one store, and replay to two different stores at rest.
@@ -56,5 +56,5 @@ pub record ReplaysApart (rules : List Rule) (f : Failure) : Type 0 where
 
 abbrev pub FailingReplays : List Rule → Cause → Type 0
 FailingReplays rules (cause.Fails f) = ReplaysApart rules f
-FailingReplays rules (cause.TooMany t) = Unit {0}
+FailingReplays rules (cause.TooManyTypes t) = Unit {0}
 FailingReplays rules cause.Memory = Unit {0}

@@ -19,7 +19,7 @@ use Rattle.chr_join.specs.Explanations.{IsRefusal}
 
 abbrev pub IsOfMemory : Cause → Type 0
 IsOfMemory (cause.Fails f) = ⊥
-IsOfMemory (cause.TooMany t) = ⊥
+IsOfMemory (cause.TooManyTypes t) = ⊥
 IsOfMemory cause.Memory = Unit {0}
 
 pub record SameFailure (f g : Failure) : Type 0 where
@@ -34,13 +34,13 @@ pub record SameFailure (f g : Failure) : Type 0 where
 
 abbrev pub SameRefusal : Cause → Cause → Type 0
 SameRefusal (cause.Fails f) (cause.Fails g) = SameFailure f g
-SameRefusal (cause.Fails f) (cause.TooMany t) = ⊥
+SameRefusal (cause.Fails f) (cause.TooManyTypes t) = ⊥
 SameRefusal (cause.Fails f) cause.Memory = ⊥
-SameRefusal (cause.TooMany t) (cause.Fails g) = ⊥
-SameRefusal (cause.TooMany t) (cause.TooMany u) = (t.overlap ≡ u.overlap) × (t.classes ≡ u.classes)
-SameRefusal (cause.TooMany t) cause.Memory = ⊥
+SameRefusal (cause.TooManyTypes t) (cause.Fails g) = ⊥
+SameRefusal (cause.TooManyTypes t) (cause.TooManyTypes u) = (t.overlap ≡ u.overlap) × (t.classes ≡ u.classes)
+SameRefusal (cause.TooManyTypes t) cause.Memory = ⊥
 SameRefusal cause.Memory (cause.Fails g) = ⊥
-SameRefusal cause.Memory (cause.TooMany u) = ⊥
+SameRefusal cause.Memory (cause.TooManyTypes u) = ⊥
 SameRefusal cause.Memory cause.Memory = Unit {0}
 
 abbrev pub AcceptedOnce : Type 0

@@ -50,7 +50,8 @@ impl Accepted {
 
     /// The number of all cases of its overlaps.
     pub fn cases(&self) -> u64
-        ensures { result ≡ cases_of self.now }
+        ensures number { result ≡ cases_of self.now }
+        ensures accepted { ∥ IsAccepted (rules_of (program_of (weighed_of self.now))) result ∥₁ }
     {
         self.cases
     }

@@ -14,7 +14,7 @@ ghost use Rattle.chr_join.specs.Verdicts.{CasesJoin, IsAccepted, IsFirstCase};
 ghost use Rattle.chr_join.specs.Explanations.{Explains, RefusesAt, IsRefusal, IsFailing, FailingReplays};
 
 use crate::accepted::Accepted;
-use crate::refused::{Cause, Failure, Refused, TooMany};
+use crate::refused::{Cause, Failure, Refused, TooManyTypes};
 use crate::sides::{different_ends, side};
 use chr_base::bag::Bag;
 use chr_confluence::laws::peak;
@@ -89,8 +89,8 @@ fn check_overlap(
 {
     let cases = match cases_among(alloc, weighed, overlap, constants) {
         Ok(cases) => cases,
-        Err(CaseFault::TooMany { classes }) => {
-            return Err(Cause::TooMany(TooMany {
+        Err(CaseFault::TooManyTypes { classes }) => {
+            return Err(Cause::TooManyTypes(TooManyTypes {
                 overlap: overlap.copy(),
                 classes,
             }));

@@ -14,4 +14,4 @@ mod tests;
 pub use accepted::Accepted;
 pub use checking::accept;
 pub use once::{accepted_are_confluent, verdict_is_one};
-pub use refused::{Cause, Failure, Refused, TooMany};
+pub use refused::{Cause, Failure, Refused, TooManyTypes};

@@ -25,7 +25,7 @@ pub struct Failure {
 
 /// An overlap with more than 50,000 order types.
 #[derive(Debug, Drop)]
-pub struct TooMany {
+pub struct TooManyTypes {
     pub overlap: Overlap,
     /// The number of its free classes.
     pub classes: usize,
@@ -37,7 +37,7 @@ pub enum Cause {
     /// A case whose sides end in different stores: the program is not confluent.
     Fails(Failure),
     /// An overlap with too many order types.
-    TooMany(TooMany),
+    TooManyTypes(TooManyTypes),
     /// There is not enough memory.
     Memory,
 }

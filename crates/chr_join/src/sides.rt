@@ -10,7 +10,7 @@ ghost use Rattle.chr_join.specs.Sides.{SideEnds, Joins, Fails};
 use chr_base::bag::Bag;
 use chr_base::derivation::{Derivation, Step};
 use chr_overlaps::cases::Case;
-use chr_rewrite::plain::{fire, plain_end, plain_rest};
+use chr_rewrite::plain::{fired, plain_end, plain_rest};
 use chr_weights::Weighed;
 use std::alloc::{AllocError, Global};
 
@@ -20,9 +20,7 @@ fn after(alloc: Global, weighed: &Weighed, store: &Bag, step: &Step) -> Result<B
     ensures { IfOk result (λ t. Takes (rules_of (program_of weighed.now)) step.now store.now t) }
 {
     let rule = &weighed.program().rules()[step.rule as usize - 1];
-    let mut after = store.copy(alloc)?;
-    fire(rule, &step.heads, &mut after)?;
-    Ok(after)
+    fired(alloc, rule, &step.heads, store)
 }
 
 /// Where the plain derivation ends that begins with a step.

@@ -1,5 +1,6 @@
-ghost use Rattle.std.specs.Prelude.{◌≡◌, [], ◌∷◌};
+ghost use Rattle.std.specs.Prelude.{◌≡◌, [], ◌∷◌, IsTrue, codes};
 ghost use Rattle.chr_base.specs.declared.term.Term.TheVariants.{Variable as IsVariable};
+ghost use Rattle.chr_base.specs.ProgramTests.{fits};
 
 use crate::{Accepted, Cause, Refused, accept};
 use arrayvec::ArrayVec;
@@ -8,9 +9,12 @@ use chr_base::bag::Bag;
 use chr_base::program::Program;
 use chr_base::rule::Rule;
 use chr_base::term::{Cmp, Comparison, Pattern, Term};
+use chr_rewrite::list::ListPool;
 use chr_rewrite::plain::plain_end;
+use chr_rewrite::pool::Pool;
 use chr_rewrite::replay::replay;
-use chr_weights::weigh;
+use chr_rewrite::resting::rest;
+use chr_weights::{Weighed, weigh};
 use std::alloc::{AllocError, Global};
 use std::test::Fail;
 
@@ -101,6 +105,62 @@ fn least() -> Rule
         guard,
         body: ArrayVec::new(),
     }
+}
+
+/// `p(A,B,C,D)`.
+fn of_four() -> Pattern
+    ensures { result ≡ record { symbol = record { 0 = 0 }; args = record { items = IsVariable 1 ∷ IsVariable 2 ∷ IsVariable 3 ∷ IsVariable 4 ∷ [] } } }
+{
+    let mut args = ArrayVec::new();
+    args.push(Term::Variable(1));
+    args.push(Term::Variable(2));
+    args.push(Term::Variable(3));
+    args.push(Term::Variable(4));
+    Pattern {
+        symbol: SymbolId(0),
+        args,
+    }
+}
+
+/// `q(E)`.
+fn of_fifth() -> Pattern
+    ensures { result ≡ record { symbol = record { 0 = 1 }; args = record { items = IsVariable 5 ∷ [] } } }
+{
+    let mut args = ArrayVec::new();
+    args.push(Term::Variable(5));
+    Pattern {
+        symbol: SymbolId(1),
+        args,
+    }
+}
+
+/// `p(A,B,C,D), q(E) <=> s.`
+#[tactic(auto, unfolding(chr_base::specs::RuleTests::is_in_bounds))]
+fn five_variables() -> Rule
+    ensures { IsTrue (fits (record { name = codes "p"; arity = 4; weight = 1 } ∷ record { name = codes "q"; arity = 1; weight = 1 } ∷ record { name = codes "s"; arity = 0; weight = 1 } ∷ []) result) }
+{
+    let mut removed = ArrayVec::new();
+    removed.push(of_four());
+    removed.push(of_fifth());
+    let mut body = ArrayVec::new();
+    body.push(plain(2));
+    Rule {
+        name: None,
+        kept: ArrayVec::new(),
+        removed,
+        guard: ArrayVec::new(),
+        body,
+    }
+}
+
+/// A program with too many order types.
+fn many_types(alloc: Global) -> Result<Program, AllocError> {
+    let mut program = Program::empty(alloc);
+    program.declare("p", 4)?;
+    program.declare("q", 1)?;
+    program.declare("s", 0)?;
+    program.push_rule(five_variables())?;
+    Ok(program)
 }
 
 /// What becomes of a program.
@@ -204,6 +264,52 @@ fn a_throw_has_two_ends(rt: HostRuntime) -> Result<(), Fail> {
     Ok(())
 }
 
+/// The first overlap shares `q`. It has nine free classes, and these have 7,087,261 order types.
+#[test]
+fn too_many_order_types_are_refused(rt: HostRuntime) -> Result<(), Fail> {
+    let alloc = rt.alloc();
+    let Ok(weighed) = weigh(many_types(alloc)?) else {
+        assert!(rt; false, "the program lowers");
+        return Ok(());
+    };
+    let Err(refused) = accept(alloc, weighed) else {
+        assert!(rt; false, "the program is refused");
+        return Ok(());
+    };
+    let Cause::TooManyTypes(many) = &refused.cause else {
+        assert!(rt; false, "it is refused with an overlap");
+        return Ok(());
+    };
+    assert_eq!(rt; (many.overlap.first, many.overlap.second), (1, 1));
+    assert_eq!(rt; many.overlap.matching.as_slice(), [0, 2].as_slice());
+    assert_eq!(rt; many.classes, 9);
+    assert!(rt; refused.weighed.program().is_same(&many_types(alloc)?));
+    Ok(())
+}
+
+/// The end of `rest`.
+fn rested(alloc: Global, weighed: &Weighed, store: &Bag) -> Result<Bag, Fail> {
+    let mut pool = ListPool::new(alloc);
+    pool.insert(store.atoms())?;
+    rest(weighed, &mut pool)?;
+    Ok(pool.bag(alloc)?)
+}
+
+/// How a store is rested: by its plain derivation, or by `rest` in a list.
+#[derive(Clone, Copy)]
+enum Way {
+    Plain,
+    List,
+}
+
+/// The end of a store.
+fn end_by(alloc: Global, way: Way, weighed: &Weighed, store: &Bag) -> Result<Bag, Fail> {
+    match way {
+        Way::Plain => Ok(plain_end(alloc, weighed, store)?),
+        Way::List => rested(alloc, weighed, store),
+    }
+}
+
 /// `min(5), min(9)` and `min(7), min(3)` rest to `min(5)` and `min(3)`, and these to `min(3)`.
 #[test]
 fn parts_are_rested_and_merged(rt: HostRuntime) -> Result<(), Fail> {
@@ -214,12 +320,15 @@ fn parts_are_rested_and_merged(rt: HostRuntime) -> Result<(), Fail> {
         return Ok(());
     };
     assert_eq!(rt; accepted.cases(), 17);
-    let mut merged = plain_end(alloc, accepted.weighed(), &store(alloc, &[5, 9])?)?;
-    assert!(rt; merged.is_same(&store(alloc, &[5])?));
-    let other = plain_end(alloc, accepted.weighed(), &store(alloc, &[7, 3])?)?;
-    assert!(rt; other.is_same(&store(alloc, &[3])?));
-    merged.union(&other)?;
-    let end = plain_end(alloc, accepted.weighed(), &merged)?;
-    assert!(rt; end.is_same(&store(alloc, &[3])?));
+    let weighed = accepted.weighed();
+    for way in [Way::Plain, Way::List] {
+        let mut merged = end_by(alloc, way, weighed, &store(alloc, &[5, 9])?)?;
+        assert!(rt; merged.is_same(&store(alloc, &[5])?));
+        let other = end_by(alloc, way, weighed, &store(alloc, &[7, 3])?)?;
+        assert!(rt; other.is_same(&store(alloc, &[3])?));
+        merged.union(&other)?;
+        let end = end_by(alloc, way, weighed, &merged)?;
+        assert!(rt; end.is_same(&store(alloc, &[3])?));
+    }
     Ok(())
 }

@@ -157,7 +157,7 @@ fn rule_of(weighed: &Weighed, number: u32) -> &Rule
 /// An overlap in which two constants would have to be one has no cases.
 ///
 /// # Errors
-/// `TooMany` exactly where there are more than 50,000 order types, whether the guards hold or not; `Memory` where there
+/// `TooManyTypes` exactly where there are more than 50,000 order types, whether the guards hold or not; `Memory` where there
 /// is no memory left.
 pub fn cases_among(
     alloc: Global,
@@ -179,7 +179,7 @@ pub fn cases_among(
     let classes = unified.free.len();
     match types(alloc, classes, constants, TYPES_LIMIT) {
         Ok(types) => Ok(cases_at(alloc, overlap, first, second, &unified, &types)?),
-        Err(TypesFault::TooMany) => Err(CaseFault::TooMany { classes }),
+        Err(TypesFault::TooManyTypes) => Err(CaseFault::TooManyTypes { classes }),
         Err(TypesFault::Memory) => Err(CaseFault::Memory),
     }
 }
@@ -188,7 +188,7 @@ pub fn cases_among(
 /// both head instances and both steps.
 ///
 /// # Errors
-/// `TooMany` exactly where there are more than 50,000 order types, whether the guards hold or not; `Memory` where there
+/// `TooManyTypes` exactly where there are more than 50,000 order types, whether the guards hold or not; `Memory` where there
 /// is no memory left.
 pub fn cases(alloc: Global, weighed: &Weighed, overlap: &Overlap) -> Result<Vec<Case>, CaseFault>
     requires { IsOverlapOf (rules_of (program_of weighed.now)) overlap.now }

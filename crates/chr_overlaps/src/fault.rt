@@ -9,7 +9,7 @@ use thiserror::Error;
 pub enum CaseFault {
     /// There are more order types than the limit.
     #[error("there are more order types of {classes} classes than the limit")]
-    TooMany {
+    TooManyTypes {
         /// The number of classes that are bound to no constant.
         classes: usize,
     },

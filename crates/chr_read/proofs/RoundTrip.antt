@@ -41,7 +41,8 @@ use Rattle.chr_read.proofs.NamesText.{front, back}
 use Rattle.chr_read.proofs.NumberedNames.{first_names, variable_name}
 use Rattle.chr_read.proofs.Numbering.{itself, terms_append}
 use Rattle.chr_read.proofs.RulesBack.{each_so, tested, none_pass, any_pass, same_each, present_map, present_body, placed, Good, writable, within, inside, bounds, numbered_split, good_term, GoodAtom, atom_within, atom_inside, atom_declared, atom_writable, atom_form, body_atom_back, heads_back, GoodComparison, comparison_back}
-use Rattle.chr_read.proofs.TextsRead.{short_read}
+use Rattle.chr_read.specs.RoundTrips.{ProgramsComeBack}
+use Rattle.chr_read.proofs.TextsRead.{programs, short_read}
 use Rattle.chr_read.proofs.WrittenForms.{written_term, written_atom, written_comparison, written_body, written_rule, written_symbol, declaration_forms, weight_forms, rule_forms}
 use Rattle.chr_read.proofs.WrittenTokens.{IsWritableComparison, IsWritableRule, IsWritableSymbol, rule_tokens, declaration_tokens, weight_tokens}
 
@@ -367,8 +368,8 @@ weights_are (d ∷ ds) h =
 
 -- ---- the text
 
-pub round_trip : (p : Program) → length (canonical (declarations p) (rules_of p)) ≤ 65536 → text_read (canonical (declarations p) (rules_of p)) ≡ Ok (meaning_of p)
-round_trip p short =
+comes_back : (p : Program) → length (canonical (declarations p) (rules_of p)) ≤ 65536 → text_read (canonical (declarations p) (rules_of p)) ≡ Ok (meaning_of p)
+comes_back p short =
     let ds = declarations p in let rs = rules_of p in
     let a = and_parts (nat_le (length ds) 64 && nat_le (length rs) 64 && list_all is_in_range ds && are_distinct ds) (list_all (fits ds) rs) p.well_formed in
     let b = and_parts (nat_le (length ds) 64 && nat_le (length rs) 64 && list_all is_in_range ds) (are_distinct ds) a.0 in
@@ -391,3 +392,6 @@ round_trip p short =
     = after_append nothing (declaration_forms ds) later ∙ ap (λ q. after q later) first.1 ∙ after_append (state (map plain ds) [] []) (weight_forms ds) (rule_forms ds rs) ∙ ap (λ q. after q (rule_forms ds rs)) second.2 ∙ third.1 in
     short_read (canonical ds rs) short ∙ ap (λ t. meaning_in (pieces_read 1 nothing (pieces t))) (no_comments (clauses ds rs) forms are)
     ∙ ap meaning_in (ended_read false 1 nothing (clauses ds rs) forms are faultless) ∙ ap (λ q. Ok q.meaning) end
+
+pub round_trip : ProgramsComeBack
+round_trip p short = (programs (canonical (declarations p) (rules_of p)) (meaning_of p)).0 (comes_back p short)

@@ -1,15 +1,11 @@
 -- The verdict alone.
-use Rattle.std.proofs.Common.{◌≡◌, ℕ, List, [], ◌∷◌, ◌++◌, length, refl, sym, ◌∙◌, append_assoc, append-nil}
-use Rattle.std.specs.Prelude.{Result, Ok, Err}
+use Rattle.std.proofs.Common.{◌≡◌, ℕ, List, [], ◌∷◌, ◌++◌, length, refl, sym, ◌∙◌, append_assoc, append-nil, inl, inr}
 use Rattle.chr_base.specs.declared.program.Program.{Program}
 use Rattle.chr_base.specs.Programs.{rules_of}
-use Rattle.chr_read.specs.Meanings.{Meaning}
-use Rattle.chr_read.specs.Reading.{text_read}
-use Rattle.chr_read.specs.declared.fault.ReadFault.{ReadFault}
 use Rattle.chr_report.specs.declared.running.Status.{Status}
 use Rattle.chr_report.specs.declared.running.Status.TheVariants.{Accepted, Refused}
 use Rattle.chr_report.specs.Lines.{lines, text_of, commands_of}
-use Rattle.chr_report.specs.Outputs.{IsProgramOutput, IsReadOutput, accepted_text}
+use Rattle.chr_report.specs.Outputs.{IsProgramOutput, IsTextOutput, accepted_text}
 use Rattle.chr_report.specs.Laws.{ChecksBeginRuns}
 
 -- an output, of which the first part is one without commands
@@ -22,9 +18,9 @@ program_begins p ls Accepted out h =
     (line ++ 10 ∷ [], h.answers, h.out_is ∙ sym (append_assoc line (10 ∷ []) h.answers), record { lowers = h.lowers; cases = h.cases; accepted = h.accepted; answers = []; answered = refl; out_is = refl })
 program_begins p ls Refused out h = (out, [], sym (append-nil out), h)
 
-read_begins : (r : Result Meaning ReadFault) (ls : List (List ℕ)) (status : Status) (out : List ℕ) → IsReadOutput r ls status out → Begins (IsReadOutput r [] status) out
-read_begins (Ok m) ls status out h = let b = program_begins h.0 ls status out h.2 in (b.0, b.1, b.2, (h.0, h.1, b.3))
-read_begins (Err e) ls status out h = (out, [], sym (append-nil out), h)
+text_begins : (text : List ℕ) (ls : List (List ℕ)) (status : Status) (out : List ℕ) → IsTextOutput text ls status out → Begins (IsTextOutput text [] status) out
+text_begins text ls status out (inl h) = let b = program_begins h.program ls status out h.output in (b.0, b.1, b.2, inl (record { program = h.program; meant = h.meant; output = b.3 }))
+text_begins text ls status out (inr h) = (out, [], sym (append-nil out), inr h)
 
 pub checks_begin_runs : ChecksBeginRuns
-checks_begin_runs input status out h = read_begins (text_read (text_of (lines input))) (commands_of (lines input)) status out h
+checks_begin_runs input status out h = text_begins (text_of (lines input)) (commands_of (lines input)) status out h

@@ -16,21 +16,26 @@ use Rattle.chr_join.specs.declared.refused.Cause.{Cause}
 use Rattle.chr_join.specs.declared.refused.Cause.TheVariants as cause
 use Rattle.chr_join.specs.Once.{IsOfMemory, SameRefusal, AcceptedOnce, RefusedOnce, NeverBoth, AcceptedAreConfluent}
 use Rattle.chr_read.specs.Meanings.{Meaning, meaning_of}
+use Rattle.chr_read.specs.ProgramTexts.{ProgramsAreRead, BadTextsAreRefused, LongTextsAreRefused}
 use Rattle.chr_read.specs.Reading.{text_read}
 use Rattle.chr_read.specs.declared.fault.ReadFault.{ReadFault}
+use Rattle.chr_read.specs.declared.fault.ReadFault.TheVariants as fault
 use Rattle.chr_report.specs.declared.running.Status.{Status}
 use Rattle.chr_report.specs.declared.running.Status.TheVariants.{Accepted, Refused}
 use Rattle.chr_report.specs.Commands.{asked}
 use Rattle.chr_report.specs.Lines.{lines, text_of, commands_of}
 use Rattle.chr_report.specs.OneText.{FirstAnswersAreOne}
 use Rattle.chr_report.specs.OneOutput.{OutputsAreOne}
-use Rattle.chr_report.specs.Outputs.{IsFirstNotLowered, not_lowered_text, accepted_text, IsRefusedByWeights, IsCauseLine, IsRefusedByOverlaps, IsAnswered, IsRulesOutput, IsProgramOutput, IsReadOutput}
+use Rattle.chr_report.specs.Outputs.{IsFirstNotLowered, not_lowered_text, accepted_text, IsRefusedByWeights, IsCauseLine, IsRefusedByOverlaps, IsAnswered, IsRulesOutput, IsProgramOutput, HasTextFault, IsTextOutput, fault_text}
 use Rattle.chr_report.specs.Overlaps.{overlap_text}
 use Rattle.chr_report.proofs.UnnamedRules.{unnamed, all_unnamed}
 use Rattle.chr_report.proofs.UnnamedVerdicts.{output_unnamed}
 
--- what the crates below say of verdicts and answers
+-- what the crates below say of texts, verdicts and answers
 pub record VerdictLaws : Type 0 where
+  pub programs : ProgramsAreRead
+  pub bad : BadTextsAreRefused
+  pub long : LongTextsAreRefused
   pub confluent : AcceptedAreConfluent
   pub accepted : AcceptedOnce
   pub refused : RefusedOnce
@@ -83,17 +88,17 @@ module _ (ds : List Declaration) (rules : List Rule) where
   one_line : (e g : Cause) (out out' : List ℕ) → SameRefusal e g → IsCauseLine ds e out → IsCauseLine ds g out' → out ≡ out'
   one_line (cause.Fails f) (cause.Fails g) out out' s h k =
       h ∙ (λ i. (codes "refused 21: " ++ overlap_text (s.overlap i) ++ codes "; store " ++ store_text ds (s.left_start i) ++ codes "; left " ++ store_text ds (s.left_end i) ++ codes "; right " ++ store_text ds (s.right_end i)) ++ 10 ∷ []) ∙ sym k
-  one_line (cause.Fails f) (cause.TooMany t) out out' s h k = absurd s
+  one_line (cause.Fails f) (cause.TooManyTypes t) out out' s h k = absurd s
   one_line (cause.Fails f) cause.Memory out out' s h k = absurd s
-  one_line (cause.TooMany t) (cause.Fails g) out out' s h k = absurd s
-  one_line (cause.TooMany t) (cause.TooMany u) out out' s h k =
+  one_line (cause.TooManyTypes t) (cause.Fails g) out out' s h k = absurd s
+  one_line (cause.TooManyTypes t) (cause.TooManyTypes u) out out' s h k =
       h ∙ (λ i. (codes "refused 22: " ++ overlap_text (s.0 i) ++ codes "; classes " ++ decimal (s.1 i)) ++ 10 ∷ []) ∙ sym k
-  one_line (cause.TooMany t) cause.Memory out out' s h k = absurd s
+  one_line (cause.TooManyTypes t) cause.Memory out out' s h k = absurd s
   one_line cause.Memory g out out' s h k = absurd h
 
   no_memory : (e : Cause) (out : List ℕ) → IsCauseLine ds e out → IsOfMemory e → ⊥
   no_memory (cause.Fails f) out h m = m
-  no_memory (cause.TooMany t) out h m = m
+  no_memory (cause.TooManyTypes t) out h m = m
   no_memory cause.Memory out h m = h
 
   by_overlaps : VerdictLaws → (out out' : List ℕ) → IsRefusedByOverlaps ds rules out → IsRefusedByOverlaps ds rules out' → out ≡ out'
@@ -128,9 +133,24 @@ same_output laws p q e commands s s' out out' h g =
     (subst (λ ds. IsRulesOutput ds (map unnamed (rules_of p)) commands s out) (ap (λ m. m.declarations) e) (output_unnamed (declarations p) (rules_of p) commands s out h)))
     (output_unnamed (declarations q) (rules_of q) commands s' out' g)
 
-one_read : VerdictLaws → (r : Result Meaning ReadFault) (commands : List (List ℕ)) (s s' : Status) (out out' : List ℕ) → IsReadOutput r commands s out → IsReadOutput r commands s' out' → (s ≡ s') × (out ≡ out')
-one_read laws (Ok m) commands s s' out out' h g = same_output laws h.0 g.0 (h.1 ∙ sym g.1) commands s s' out out' h.2 g.2
-one_read laws (Err e) commands s s' out out' h g = (h.0 ∙ sym g.0, h.1 ∙ sym g.1)
+-- what a text is, is determined
+read_as_bad : VerdictLaws → (text : List ℕ) (e : ReadFault) → HasTextFault text e → text_read text ≡ Err e
+read_as_bad laws text fault.TooLong h = (laws.long text).1 h
+read_as_bad laws text (fault.Bad n k) h = (laws.bad text n k).1 h
+read_as_bad laws text fault.Memory h = absurd h
+
+one_of_text : VerdictLaws → (text : List ℕ) (commands : List (List ℕ)) (s s' : Status) (out out' : List ℕ) → IsTextOutput text commands s out → IsTextOutput text commands s' out' → (s ≡ s') × (out ≡ out')
+one_of_text laws text commands s s' out out' (inl h) (inl g) =
+    let e : ◌≡◌ {A = Result Meaning ReadFault} (Ok (meaning_of h.program)) (Ok (meaning_of g.program)) = sym ((laws.programs text (meaning_of h.program)).1 h.meant) ∙ (laws.programs text (meaning_of g.program)).1 g.meant in
+    same_output laws h.program g.program (let same : meaning_of h.program ≡ meaning_of g.program = cc in same) commands s s' out out' h.output g.output
+one_of_text laws text commands s s' out out' (inl h) (inr g) =
+    absurd (let e : ◌≡◌ {A = Result Meaning ReadFault} (Ok (meaning_of h.program)) (Err g.fault) = sym ((laws.programs text (meaning_of h.program)).1 h.meant) ∙ read_as_bad laws text g.fault g.has in cc)
+one_of_text laws text commands s s' out out' (inr h) (inl g) =
+    absurd (let e : ◌≡◌ {A = Result Meaning ReadFault} (Ok (meaning_of g.program)) (Err h.fault) = sym ((laws.programs text (meaning_of g.program)).1 g.meant) ∙ read_as_bad laws text h.fault h.has in cc)
+one_of_text laws text commands s s' out out' (inr h) (inr g) =
+    let e : ◌≡◌ {A = Result Meaning ReadFault} (Err h.fault) (Err g.fault) = sym (read_as_bad laws text h.fault h.has) ∙ read_as_bad laws text g.fault g.has in
+    let same : h.fault ≡ g.fault = cc in
+    (h.refused ∙ sym g.refused, h.out_is ∙ ap (λ f. fault_text f ++ 10 ∷ []) same ∙ sym g.out_is)
 
 pub one_output : VerdictLaws → OutputsAreOne
-one_output laws verb input s s' out out' h g = one_read laws (text_read (text_of (lines input))) (asked verb (commands_of (lines input))) s s' out out' h g
+one_output laws verb input s s' out out' h g = one_of_text laws (text_of (lines input)) (asked verb (commands_of (lines input))) s s' out out' h g

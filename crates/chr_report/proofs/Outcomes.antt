@@ -1,8 +1,9 @@
 -- The parts of a run's output put together.
-use Rattle.std.proofs.Common.{◌≡◌, ℕ, List, [], ◌∷◌, ◌++◌, length, refl, sym, ap, ◌∙◌, subst, append_assoc, append-nil, ◌⊎◌, inr}
+use Rattle.std.proofs.Common.{◌≡◌, ℕ, List, [], ◌∷◌, ◌++◌, length, refl, sym, ap, ◌∙◌, subst, append_assoc, append-nil, ◌⊎◌, inl, inr}
 use Rattle.std.specs.Prelude.{Option, Some, None, Result, Ok, Err, IfSome, IfNone, IfOk, ◌≢◌}
 use Rattle.std.specs.Borrow.{Bor}
 use Rattle.std.specs.FinMap as finmap
+use Rattle.std.specs.Io.KnownBytes.{Appends}
 use Rattle.chr_device.specs.Devices.{AppendsPart}
 use Rattle.chr_base.specs.declared.program.Program.{Program}
 use Rattle.chr_base.specs.Programs.{declarations, rules_of}
@@ -12,11 +13,10 @@ use Rattle.chr_join.specs.Verdicts.{IsAccepted}
 use Rattle.chr_base.specs.declared.rule.Rule.{Rule}
 use Rattle.chr_base.specs.ProgramTests.{Declaration}
 use Rattle.chr_ops.specs.Operations.{Operations}
-use Rattle.chr_read.specs.Meanings.{Meaning, meaning_of}
-use Rattle.chr_read.specs.Reading.{text_read}
+use Rattle.chr_read.specs.Meanings.{meaning_of}
+use Rattle.chr_read.specs.ProgramTexts.{IsProgramText, IsAnswer}
 use Rattle.chr_read.specs.declared.fault.ReadFault.{ReadFault}
 use Rattle.chr_read.specs.declared.fault.ReadFault.TheVariants as fault
-use Rattle.chr_read.specs.Outcomes.{IsReadAs}
 use Rattle.chr_report.specs.declared.running.Status.TheVariants.{Refused}
 use Rattle.chr_report.specs.declared.running.Status.{Status}
 use Rattle.chr_device.specs.declared.words.Verb.{Verb}
@@ -26,19 +26,24 @@ use Rattle.chr_report.specs.Lines.{lines, text_of, commands_of}
 use Rattle.chr_report.specs.Answers.{AnswersAll}
 use Rattle.chr_report.specs.Answered.{AnswersRest}
 use Rattle.chr_report.specs.OptionalLines.{command_lines}
-use Rattle.chr_report.specs.Outputs.{IsOutput, IsReadOutput, IsProgramOutput, IsAnswered, IsRefusedByWeights, IsRefusedByOverlaps, accepted_text, fault_text}
-use Rattle.chr_report.specs.Written.{WritesBeginning}
+use Rattle.chr_report.specs.Outputs.{HasTextFault, IsOutput, IsTextOutput, IsProgramOutput, IsAnswered, IsRefusedByWeights, IsRefusedByOverlaps, accepted_text, fault_text}
+use Rattle.chr_report.specs.Written.{WritesOutput, WritesBeginning}
 
 -- the commands after the text
 pub commands_are : (input : List ℕ) (commands : Option (Bor (List ℕ))) → IfSome commands (λ rest. commands_of (lines input) ≡ lines rest.now) → IfNone commands (commands_of (lines input) ≡ []) → commands_of (lines input) ≡ command_lines commands
 commands_are input None h g = g
 commands_are input (Some s) h g = h
 
--- what was read decides
-pub output_is : (verb : Verb) (input text : List ℕ) (ls : List (List ℕ)) (r : Result Meaning ReadFault) (status : Status) (out : List ℕ) → text ≡ text_of (lines input) → asked verb (commands_of (lines input)) ≡ ls → text_read text ≡ r → IsReadOutput r ls status out → IsOutput verb input status out
-output_is verb input text ls r status out e f g h =
-    subst (λ x. IsReadOutput x (asked verb (commands_of (lines input))) status out) (sym g ∙ ap text_read e)
-    (subst (λ cs. IsReadOutput r cs status out) (sym f) h)
+-- what the text is decides
+output_is : (verb : Verb) (input text : List ℕ) (ls : List (List ℕ)) (status : Status) (out : List ℕ) → text ≡ text_of (lines input) → asked verb (commands_of (lines input)) ≡ ls → IsTextOutput text ls status out → IsOutput verb input status out
+output_is verb input text ls status out e f h =
+    subst (λ x. IsTextOutput x (asked verb (commands_of (lines input))) status out) e
+    (subst (λ cs. IsTextOutput text cs status out) (sym f) h)
+
+-- a whole write leaves all
+pub whole_written : (old new r : Option (List ℕ)) (verb : Verb) (items bytes out : List ℕ) (status : Status) → IfSome r (λ t. items ≡ t) → IsOutput verb items status out → bytes ≡ out → Appends old new bytes → IfSome r (λ t. WritesOutput old new verb t status)
+whole_written old new None verb items bytes out status h o e a = tt
+whole_written old new (Some t) verb items bytes out status h o e a = (out, subst (λ i. IsOutput verb i status out) h o, subst (Appends old new) e a)
 
 -- a failed write leaves a beginning
 pub part_written : (old new r : Option (List ℕ)) (verb : Verb) (items bytes out : List ℕ) (status : Status) → IfSome r (λ t. items ≡ t) → IsOutput verb items status out → bytes ≡ out → AppendsPart old new bytes → IfSome r (WritesBeginning old new verb)
@@ -70,14 +75,17 @@ pub refused_by : (p : Program) (ls : List (List ℕ)) (status : Status) (out lin
 refused_by p ls status out line e f h = rw (e, f) h
 
 -- a text that is no program
-pub refused_output : (verb : Verb) (status : Status) (input text : List ℕ) (ls : List (List ℕ)) (e : ReadFault) (out : List ℕ) → text ≡ text_of (lines input) → asked verb (commands_of (lines input)) ≡ ls → IsReadAs (Err e) (text_read text) → e ≢ fault.Memory → status ≡ Refused → out ≡ fault_text e ++ 10 ∷ [] → IsOutput verb input status out
-refused_output verb status input text ls fault.Memory out e f g n r h = absurd (n refl)
-refused_output verb status input text ls fault.TooLong out e f g n r h = output_is verb input text ls (Err fault.TooLong) status out e f g (r, h)
-refused_output verb status input text ls (fault.Bad x k) out e f g n r h = output_is verb input text ls (Err (fault.Bad x k)) status out e f g (r, h)
+pub refused_output : (verb : Verb) (status : Status) (input text : List ℕ) (ls : List (List ℕ)) (e : ReadFault) (out : List ℕ) → text ≡ text_of (lines input) → asked verb (commands_of (lines input)) ≡ ls → IsAnswer text (Err e) → e ≢ fault.Memory → status ≡ Refused → out ≡ fault_text e ++ 10 ∷ [] → IsOutput verb input status out
+refused_output verb status input text ls e out e1 f g n r h = output_is verb input text ls status out e1 f (inr (record { fault = e; has = has e g n; refused = r; out_is = h }))
+  where
+    has : (e : ReadFault) → IsAnswer text (Err e) → e ≢ fault.Memory → HasTextFault text e
+    has fault.Memory g n = absurd (n refl)
+    has fault.TooLong g n = g
+    has (fault.Bad x k) g n = g
 
 -- a program
-pub read_output : (verb : Verb) (input text : List ℕ) (ls : List (List ℕ)) (p : Program) (status : Status) (out : List ℕ) → text ≡ text_of (lines input) → asked verb (commands_of (lines input)) ≡ ls → text_read text ≡ Ok (meaning_of p) → IsProgramOutput p ls status out → IsOutput verb input status out
-read_output verb input text ls p status out e f g h = output_is verb input text ls (Ok (meaning_of p)) status out e f g (p, refl, h)
+pub read_output : (verb : Verb) (input text : List ℕ) (ls : List (List ℕ)) (p : Program) (status : Status) (out : List ℕ) → text ≡ text_of (lines input) → asked verb (commands_of (lines input)) ≡ ls → IsProgramText text (meaning_of p) → IsProgramOutput p ls status out → IsOutput verb input status out
+read_output verb input text ls p status out e f g h = output_is verb input text ls status out e f (inl (record { program = p; meant = g; output = h }))
 
 pub if_ok : {A E : Type 0} {P Q : A → Type 0} (r : Result A E) → ((x : A) → P x → Q x) → IfOk r P → IfOk r Q
 if_ok (Ok x) f h = f x h

@@ -150,7 +150,7 @@ module _ (rules : List Rule) where
 
   is_refusal : (e : Cause) → IsRefusal rules e → IsRefusal bare e
   is_refusal (cause.Fails f) h = (is_first f.overlap h.0, (h.1.0, is_first_case f.overlap h.1.0 h.1.1, explains h.1.0 f h.1.2))
-  is_refusal (cause.TooMany t) h = (is_first t.overlap h.0, too_many t.overlap t.classes h.1)
+  is_refusal (cause.TooManyTypes t) h = (is_first t.overlap h.0, too_many t.overlap t.classes h.1)
   is_refusal cause.Memory h = h
 
   lower : (w : Atom → ℕ) → RulesLower w rules → RulesLower w bare

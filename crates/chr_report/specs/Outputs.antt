@@ -5,7 +5,7 @@
 --     IsAnswered        the number of cases of a program of which none fails, and the answers
 --     IsRulesOutput, IsProgramOutput        what is written for rules;  for a program
 --     IsOutput        the output and its status: `accepted` where no case of the program fails
-use Rattle.std.specs.Prelude.{◌≡◌, ℕ, ◌+◌, ◌-◌, ◌<◌, ◌≤◌, ◌⊎◌, List, [], ◌∷◌, ◌++◌, Some, Result, Ok, Err, slice_get, codes, length}
+use Rattle.std.specs.Prelude.{◌≡◌, ℕ, ◌+◌, ◌-◌, ◌<◌, ◌≤◌, ◌⊎◌, List, [], ◌∷◌, ◌++◌, Some, slice_get, codes, length}
 use Rattle.std.specs.Fmt.{decimal}
 use Rattle.std.specs.FinMap as map
 use Rattle.chr_base.specs.declared.rule.Rule.{Rule}
@@ -21,9 +21,9 @@ use Rattle.chr_join.specs.declared.refused.Cause.{Cause}
 use Rattle.chr_join.specs.declared.refused.Cause.TheVariants as cause
 use Rattle.chr_join.specs.Verdicts.{IsAccepted}
 use Rattle.chr_join.specs.Explanations.{IsRefusal}
-use Rattle.chr_read.specs.Meanings.{Meaning, meaning_of}
+use Rattle.chr_read.specs.Meanings.{meaning_of}
 use Rattle.chr_read.specs.Numbers.{number_of_fault}
-use Rattle.chr_read.specs.Reading.{text_read}
+use Rattle.chr_read.specs.ProgramTexts.{IsProgramText, IsRefusedText}
 use Rattle.chr_read.specs.declared.fault.ReadFault.{ReadFault}
 use Rattle.chr_read.specs.declared.fault.ReadFault.TheVariants as fault
 use Rattle.chr_device.specs.declared.words.Verb.{Verb}
@@ -63,7 +63,7 @@ pub record IsRefusedByWeights (ds : List Declaration) (rules : List Rule) (out :
 -- want of memory is no verdict
 abbrev pub IsCauseLine : List Declaration → Cause → List ℕ → Type 0
 IsCauseLine ds (cause.Fails f) out = out ≡ failure_text ds f ++ 10 ∷ []
-IsCauseLine ds (cause.TooMany t) out = out ≡ too_many_text t ++ 10 ∷ []
+IsCauseLine ds (cause.TooManyTypes t) out = out ≡ too_many_text t ++ 10 ∷ []
 IsCauseLine ds cause.Memory out = ⊥
 
 pub record IsRefusedByOverlaps (ds : List Declaration) (rules : List Rule) (out : List ℕ) : Type 0 where
@@ -88,9 +88,25 @@ IsRulesOutput ds rules commands Refused out = IsRefusedByWeights ds rules out �
 abbrev pub IsProgramOutput : Program → List (List ℕ) → Status → List ℕ → Type 0
 IsProgramOutput p commands status out = IsRulesOutput (declarations p) (rules_of p) commands status out
 
-abbrev pub IsReadOutput : Result Meaning ReadFault → List (List ℕ) → Status → List ℕ → Type 0
-IsReadOutput (Ok m) commands status out = (p : Program) × (meaning_of p ≡ m) × IsProgramOutput p commands status out
-IsReadOutput (Err e) commands status out = (status ≡ Refused) × (out ≡ fault_text e ++ 10 ∷ [])
+-- want of memory says nothing of the text
+abbrev pub HasTextFault : List ℕ → ReadFault → Type 0
+HasTextFault text fault.TooLong = 65536 < length text
+HasTextFault text (fault.Bad f k) = IsRefusedText text f k
+HasTextFault text fault.Memory = ⊥
+
+pub record IsProgramTextOutput (text : List ℕ) (commands : List (List ℕ)) (status : Status) (out : List ℕ) : Type 0 where
+  pub program : Program
+  pub meant : IsProgramText text (meaning_of program)
+  pub output : IsProgramOutput program commands status out
+
+pub record IsBadTextOutput (text : List ℕ) (status : Status) (out : List ℕ) : Type 0 where
+  pub fault : ReadFault
+  pub has : HasTextFault text fault
+  pub refused : status ≡ Refused
+  pub out_is : out ≡ fault_text fault ++ 10 ∷ []
+
+abbrev pub IsTextOutput : List ℕ → List (List ℕ) → Status → List ℕ → Type 0
+IsTextOutput text commands status out = IsProgramTextOutput text commands status out ⊎ IsBadTextOutput text status out
 
 abbrev pub IsOutput : Verb → List ℕ → Status → List ℕ → Type 0
-IsOutput verb input status out = IsReadOutput (text_read (text_of (lines input))) (asked verb (commands_of (lines input))) status out
+IsOutput verb input status out = IsTextOutput (text_of (lines input)) (asked verb (commands_of (lines input))) status out

@@ -8,7 +8,7 @@ use Rattle.chr_base.specs.ProgramTests.{Declaration}
 use Rattle.chr_base.specs.Texts.{store_text}
 use Rattle.chr_overlaps.specs.declared.overlap.Overlap.{Overlap}
 use Rattle.chr_join.specs.declared.refused.Failure.{Failure}
-use Rattle.chr_join.specs.declared.refused.TooMany.{TooMany}
+use Rattle.chr_join.specs.declared.refused.TooManyTypes.{TooManyTypes}
 
 -- entries with a comma before each
 abbrev pub more_entries : List ℕ → List ℕ
@@ -28,5 +28,5 @@ overlap_text o = codes "rules " ++ decimal o.first ++ codes " " ++ decimal o.sec
 abbrev pub failure_text : List Declaration → Failure → List ℕ
 failure_text ds f = codes "refused 21: " ++ overlap_text f.overlap ++ codes "; store " ++ store_text ds f.left.start ++ codes "; left " ++ store_text ds f.left_end ++ codes "; right " ++ store_text ds f.right_end
 
-abbrev pub too_many_text : TooMany → List ℕ
+abbrev pub too_many_text : TooManyTypes → List ℕ
 too_many_text t = codes "refused 22: " ++ overlap_text t.overlap ++ codes "; classes " ++ decimal t.classes

@@ -3,6 +3,7 @@ ghost use Rattle.chr_report.specs.OneOutput.{OutputsAreOne};
 ghost use Rattle.chr_report.specs.OneText.{AnswersAreOne, FirstAnswersAreOne};
 
 use chr_join::{accepted_are_confluent, verdict_is_one};
+use chr_read::programs_are_read;
 
 /// Answers are one text. For a confluent program two texts that both answer the same command lines are equal, where all
 /// that the replica was told before them are 64-bit values, and so where it was told nothing.
@@ -16,6 +17,7 @@ pub fn answers_are_one()
 pub fn outputs_are_one()
     ensures { OutputsAreOne }
 {
+    programs_are_read();
     accepted_are_confluent();
     verdict_is_one();
     answers_are_one();

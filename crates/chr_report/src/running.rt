@@ -25,7 +25,7 @@ use chr_weights::{Weighed, weigh};
 use std::alloc::{AllocError, Global};
 use std::io::{Read, Write};
 
-/// Whether a program was read and accepted: each of its rules lowers the weight, and no case of two rules that meet fails.
+/// Whether a program was read and accepted: each of its rules lowers the weight, and each case of each overlap joins.
 #[derive(Clone, Copy, Debug, PartialEq, Eq)]
 pub enum Status {
     Accepted,

@@ -7,7 +7,7 @@ ghost use Rattle.chr_report.specs.Overlaps.{more_entries, matching_text, overlap
 
 use chr_base::program::Program;
 use chr_base::text::store_text;
-use chr_join::{Cause, Failure, TooMany};
+use chr_join::{Cause, Failure, TooManyTypes};
 use chr_overlaps::Overlap;
 use chr_read::ReadFault;
 use chr_weights::NotLowered;
@@ -99,7 +99,7 @@ fn failure_text(alloc: Global, program: &Program, failure: &Failure) -> Result<S
 }
 
 /// The line of a program with an overlap of too many order types, without its end.
-fn too_many_text(alloc: Global, too_many: &TooMany) -> Result<String, AllocError>
+fn too_many_text(alloc: Global, too_many: &TooManyTypes) -> Result<String, AllocError>
     ensures { IfOk result (λ s. string_bytes s ≡ too_many_text too_many.now) }
 {
     let classes = too_many.classes;
@@ -120,7 +120,7 @@ pub(crate) fn refusal_line(
 {
     let mut text = match cause {
         Cause::Fails(failure) => failure_text(alloc, program, failure)?,
-        Cause::TooMany(too_many) => too_many_text(alloc, too_many)?,
+        Cause::TooManyTypes(too_many) => too_many_text(alloc, too_many)?,
         Cause::Memory => return Err(AllocError),
     };
     text.push_str("\n")?;

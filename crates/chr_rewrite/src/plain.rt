@@ -29,7 +29,7 @@ pub(crate) fn add_all(bag: &mut Bag, atoms: &[Atom]) -> Result<(), AllocError>
 }
 
 /// One step by the instance with these heads. Where memory is refused, the bag is lost.
-pub fn fire(rule: &Rule, heads: &[Atom], bag: &mut Bag) -> Result<(), AllocError>
+pub(crate) fn fire(rule: &Rule, heads: &[Atom], bag: &mut Bag) -> Result<(), AllocError>
     requires instance { HasInstance rule.now heads.now }
     requires there { IsWithin (store_of heads.now) bag.old }
     ensures { OnOk result (StepOn rule.now heads.now bag.old bag.new) }
@@ -37,6 +37,17 @@ pub fn fire(rule: &Rule, heads: &[Atom], bag: &mut Bag) -> Result<(), AllocError
     let (_, removed) = heads.split_at(rule.kept.len());
     bag.remove_all(removed);
     add_all(bag, &rule.body_of(heads))
+}
+
+/// The bag after one step by the instance with these heads.
+pub fn fired(alloc: Global, rule: &Rule, heads: &[Atom], bag: &Bag) -> Result<Bag, AllocError>
+    requires instance { HasInstance rule.now heads.now }
+    requires there { IsWithin (store_of heads.now) bag.now }
+    ensures { IfOk result (StepOn rule.now heads.now bag.now) }
+{
+    let mut after = bag.copy(alloc)?;
+    fire(rule, heads, &mut after)?;
+    Ok(after)
 }
 
 /// The least step at the bag, where some rule has one.

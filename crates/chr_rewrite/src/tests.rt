@@ -3,7 +3,7 @@ ghost use Rattle.chr_base.specs.declared.term.Term.TheVariants.{Variable as IsVa
 ghost use Rattle.chr_base.specs.declared.term.Cmp.TheVariants.{AtMost as IsAtMost};
 
 use crate::list::ListPool;
-use crate::plain::{plain_end, plain_rest};
+use crate::plain::{fired, plain_end, plain_rest};
 use crate::pool::Pool;
 use crate::replay::{ReplayFault, replay};
 use crate::resting::{at_rest, rest};
@@ -155,6 +155,9 @@ fn pools(rt: HostRuntime) -> Result<(), Fail> {
         panic!(rt; "nothing found");
     };
     assert!(rt; heads.as_slice() == [atom(3), atom(9)].as_slice());
+    let before = pool.bag(alloc)?;
+    let after = fired(alloc, &rule, &heads, &before)?;
+    assert!(rt; after.atoms() == [atom(3)].as_slice());
     pool.fire(&rule, &heads)?;
     assert!(rt; pool.find(&rule).is_none());
     assert!(rt; pool.bag(alloc)?.atoms() == [atom(3)].as_slice());

@@ -9,5 +9,6 @@ pub mod Candidates
 pub mod Theorem
 pub mod OneList
 pub mod TooMany
+pub mod ConstantLists
 pub mod Ways
 pub mod Steps

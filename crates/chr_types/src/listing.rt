@@ -1,5 +1,6 @@
 //! All order types.
-ghost use Rattle.std.specs.Prelude.{◌≡◌, ◌≤◌, IfOk, IfErr, vec_len};
+ghost use Rattle.std.specs.Prelude.{◌≡◌, ◌<◌, ◌≤◌, ◌^◌, IfOk, IfErr, vec_len};
+ghost use Rattle.std.specs.Bool.{OnTrue};
 ghost use Rattle.chr_types.specs.OrderTypes.{Rises, MoreTypesThan};
 ghost use Rattle.chr_types.specs.Representatives.{AreTypes};
 ghost use Rattle.chr_types.specs.Refusals.{WhereTooMany};
@@ -14,13 +15,24 @@ use std::alloc::Global;
 /// other class can be equal to it or greater.
 const TOO_MANY_CLASSES: usize = 65;
 
+/// Whether the lists of so many constants alone are more than the limit. Each has an order type of its own.
+fn has_more_lists(constants: usize, classes: usize, limit: usize) -> bool
+    ensures { OnTrue result (limit < constants ^ classes) }
+{
+    let mut lists: usize = 1;
+    for _class in 0..classes {
+        lists = lists.saturating_mul(constants);
+    }
+    lists > limit
+}
+
 /// All order types of so many classes among the constants, each by its representative, in lexicographic order.
 ///
 /// The constants rise, each greater than the one before. There may be any number of classes, and any limit. The search
 /// stops once the limit is passed, and keeps no more than the listed types and the prefix that it is at.
 ///
 /// # Errors
-/// `TooMany` exactly where there are more order types than the limit, `Memory` where there is no memory left.
+/// `TooManyTypes` exactly where there are more order types than the limit, `Memory` where there is no memory left.
 pub fn types(
     alloc: Global,
     classes: usize,
@@ -34,9 +46,13 @@ pub fn types(
     ensures many { IfErr result (λ e. WhereTooMany e (MoreTypesThan limit classes constants.now)) }
 {
     if classes >= TOO_MANY_CLASSES {
-        return Err(TypesFault::TooMany);
+        return Err(TypesFault::TooManyTypes);
     }
     let places = all_places(alloc, classes, constants)?;
+    // The search goes through all places for each value of a list, so it is not begun where it can't come to its end.
+    if has_more_lists(constants.len(), classes, limit) {
+        return Err(TypesFault::TooManyTypes);
+    }
     let mut found = Vec::new(alloc);
     add_lists(alloc, &places, classes, &[], &[], limit, &mut found)?;
     Ok(found)

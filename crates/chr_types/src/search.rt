@@ -107,7 +107,7 @@ fn holes_after(
 /// Adds the lists that begin with the prefix and go on with so many more values, in lexicographic order.
 ///
 /// # Errors
-/// `TooMany` where there would be more than the limit, and some may be added then.
+/// `TooManyTypes` where there would be more than the limit, and some may be added then.
 pub(crate) fn add_lists(
     alloc: Global,
     places: &[Place],
@@ -124,7 +124,7 @@ pub(crate) fn add_lists(
 {
     if left == 0 {
         if found.len() >= limit {
-            return Err(TypesFault::TooMany);
+            return Err(TypesFault::TooManyTypes);
         }
         let values = Vec::from_slice(alloc, prefix)?;
         found.push(OrderType { values })?;

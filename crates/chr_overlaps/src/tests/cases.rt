@@ -142,16 +142,19 @@ fn cases_at(
     cases(alloc, weighed, &found[place])
 }
 
-/// Asserts that the overlaps have so many cases, in order.
-fn expect_counts(
+/// Asserts that these are the overlaps, each by its rules and its matching, and that they have so many cases.
+fn expect_counts<const N: usize>(
     rt: &impl Abort,
     alloc: Global,
     program: Program,
-    expected: &[usize],
+    expected: &[(u32, u32, [u8; N], usize)],
 ) -> Result<(), CaseFault> {
     let (found, all) = all_cases(alloc, &weighed(rt, program))?;
     assert_eq!(rt; found.len(), expected.len());
-    for (list, number) in all.iter().zip(expected) {
+    let counted = found.iter().zip(all.iter());
+    for ((overlap, list), (first, second, matching, number)) in counted.zip(expected) {
+        assert_eq!(rt; (overlap.first, overlap.second), (*first, *second));
+        assert!(rt; overlap.matching.as_slice() == matching.as_slice());
         assert_eq!(rt; list.len(), *number);
     }
     Ok(())
@@ -176,7 +179,46 @@ fn minimum(rt: HostRuntime) -> Result<(), Fail> {
     let mut program = Program::empty(alloc);
     program.declare("min", 1)?;
     program.push_rule(least())?;
-    expect_counts(&rt, alloc, program, &[4, 6, 2, 4, 1])?;
+    let expected = [
+        (1, 1, [0, 1], 4),
+        (1, 1, [0, 2], 6),
+        (1, 1, [1, 2], 2),
+        (1, 1, [2, 0], 4),
+        (1, 1, [2, 1], 1),
+    ];
+    expect_counts(&rt, alloc, program, &expected)?;
+    Ok(())
+}
+
+/// `min(X) \ min(Y) <=> true.`
+#[tactic(auto, unfolding(chr_base::specs::RuleTests::is_in_bounds))]
+fn any_two() -> Rule
+    ensures { IsTrue (fits (record { name = codes "min"; arity = 1; weight = 1 } ∷ []) result) }
+{
+    rule(
+        one(pattern(0, &[X])),
+        one(pattern(0, &[Y])),
+        ArrayVec::new(),
+        ArrayVec::new(),
+    )
+}
+
+/// Without a guard each order type is a case, so the counts tell the numbers of free classes: three classes have 13 order
+/// types, and two have 3.
+#[test]
+fn free_classes(rt: HostRuntime) -> Result<(), Fail> {
+    let alloc = rt.alloc();
+    let mut program = Program::empty(alloc);
+    program.declare("min", 1)?;
+    program.push_rule(any_two())?;
+    let expected = [
+        (1, 1, [0, 1], 13),
+        (1, 1, [0, 2], 13),
+        (1, 1, [1, 2], 3),
+        (1, 1, [2, 0], 13),
+        (1, 1, [2, 1], 3),
+    ];
+    expect_counts(&rt, alloc, program, &expected)?;
     Ok(())
 }
 
@@ -214,15 +256,25 @@ fn exclusive_or(rt: HostRuntime) -> Result<(), Fail> {
     program.declare("xor", 1)?;
     program.push_rule(equal_bits())?;
     program.push_rule(different_bits())?;
-    let own = [4, 4, 4, 4, 4, 4];
-    let between = [1, 1, 1, 0, 1, 0];
-    let second = [0, 1, 1, 0, 0];
-    let mut expected = Vec::new(alloc);
-    for numbers in [own.as_slice(), between.as_slice(), second.as_slice()] {
-        for number in numbers {
-            expected.push(*number)?;
-        }
-    }
+    let expected = [
+        (1, 1, [0, 1], 4),
+        (1, 1, [0, 2], 4),
+        (1, 1, [1, 0], 4),
+        (1, 1, [1, 2], 4),
+        (1, 1, [2, 0], 4),
+        (1, 1, [2, 1], 4),
+        (1, 2, [0, 1], 1),
+        (1, 2, [0, 2], 1),
+        (1, 2, [1, 0], 1),
+        (1, 2, [1, 2], 0),
+        (1, 2, [2, 0], 1),
+        (1, 2, [2, 1], 0),
+        (2, 2, [0, 1], 0),
+        (2, 2, [0, 2], 1),
+        (2, 2, [1, 2], 1),
+        (2, 2, [2, 0], 0),
+        (2, 2, [2, 1], 0),
+    ];
     expect_counts(&rt, alloc, program, &expected)?;
     Ok(())
 }
@@ -246,7 +298,14 @@ fn paths(rt: HostRuntime) -> Result<(), Fail> {
     let mut program = Program::empty(alloc);
     program.declare("path", 3)?;
     program.push_rule(shortest())?;
-    expect_counts(&rt, alloc, program, &[132, 220, 44, 132, 13])?;
+    let expected = [
+        (1, 1, [0, 1], 132),
+        (1, 1, [0, 2], 220),
+        (1, 1, [1, 2], 44),
+        (1, 1, [2, 0], 132),
+        (1, 1, [2, 1], 13),
+    ];
+    expect_counts(&rt, alloc, program, &expected)?;
     Ok(())
 }
 
@@ -269,7 +328,14 @@ fn pairs(rt: HostRuntime) -> Result<(), Fail> {
     let mut program = Program::empty(alloc);
     program.declare("p", 2)?;
     program.push_rule(least_first())?;
-    expect_counts(&rt, alloc, program, &[535, 1303, 31, 535, 0])?;
+    let expected = [
+        (1, 1, [0, 1], 535),
+        (1, 1, [0, 2], 1303),
+        (1, 1, [1, 2], 31),
+        (1, 1, [2, 0], 535),
+        (1, 1, [2, 1], 0),
+    ];
+    expect_counts(&rt, alloc, program, &expected)?;
     Ok(())
 }
 
@@ -363,7 +429,8 @@ fn two_rules(alloc: Global, first: Rule, second: Rule) -> Result<Program, AllocE
 fn gaps(rt: HostRuntime) -> Result<(), Fail> {
     let alloc = rt.alloc();
     let narrow = two_rules(alloc, q_below_five(), r_below_five())?;
-    expect_counts(&rt, alloc, narrow, &[0, 0, 0])?;
+    let expected = [(1, 1, [1], 0), (1, 2, [1], 0), (2, 2, [1], 0)];
+    expect_counts(&rt, alloc, narrow, &expected)?;
     let wide = weighed(&rt, two_rules(alloc, q_below_six(), r_below_six())?);
     let (found, all) = all_cases(alloc, &wide)?;
     assert_eq!(rt; found.len(), 3);
@@ -409,7 +476,7 @@ fn too_many(rt: HostRuntime) -> Result<(), Fail> {
     program.push_rule(five_variables())?;
     let weighed = weighed(&rt, program);
     match cases_at(&rt, alloc, &weighed, 0) {
-        Err(CaseFault::TooMany { classes }) => assert_eq!(rt; classes, 9),
+        Err(CaseFault::TooManyTypes { classes }) => assert_eq!(rt; classes, 9),
         _ => panic!(rt; "not too many"),
     }
     assert_eq!(rt; TYPES_LIMIT, 50_000);
@@ -529,7 +596,14 @@ fn duplicates(rt: HostRuntime) -> Result<(), Fail> {
     let mut program = Program::empty(alloc);
     program.declare("a", 1)?;
     program.push_rule(duplicate())?;
-    expect_counts(&rt, alloc, program, &[1, 1, 1, 1, 1])?;
+    let expected = [
+        (1, 1, [0, 1], 1),
+        (1, 1, [0, 2], 1),
+        (1, 1, [1, 2], 1),
+        (1, 1, [2, 0], 1),
+        (1, 1, [2, 1], 1),
+    ];
+    expect_counts(&rt, alloc, program, &expected)?;
     Ok(())
 }
 
@@ -553,7 +627,15 @@ fn coins(rt: HostRuntime) -> Result<(), Fail> {
     program.declare("coin", 0)?;
     program.declare("note", 0)?;
     program.push_rule(change())?;
-    expect_counts(&rt, alloc, program, &[1, 1, 1, 1, 1, 1])?;
+    let expected = [
+        (1, 1, [0, 1], 1),
+        (1, 1, [0, 2], 1),
+        (1, 1, [1, 0], 1),
+        (1, 1, [1, 2], 1),
+        (1, 1, [2, 0], 1),
+        (1, 1, [2, 1], 1),
+    ];
+    expect_counts(&rt, alloc, program, &expected)?;
     Ok(())
 }
 

@@ -1,15 +1,22 @@
 //! Instances, steps, plain derivations, overlaps and cases, each by trying all that can be tried.
+//!
+//! Nothing here asks the checked crates whether a rule fires, what its body is or what a store has left: a verdict of
+//! theirs is compared with this one.
+use crate::tests::order_types::arguments;
 use arrayvec::ArrayVec;
 use chr_base::atom::Atom;
 use chr_base::bag::Bag;
 use chr_base::derivation::{Derivation, Step};
 use chr_base::rule::Rule;
-use chr_base::term::{Pattern, Term};
+use chr_base::term::{Cmp, Comparison, Pattern, Term};
 use std::alloc::{AllocError, Global};
 use std::test::Fail;
 
 /// The head atoms of an instance, in place order.
 pub type Heads = ArrayVec<Atom, 4>;
+
+/// The body atoms of an instance.
+type Body = ArrayVec<Atom, 8>;
 
 /// More steps than any store of these tests has weight.
 const MOST_STEPS: usize = 1_000;
@@ -53,10 +60,15 @@ fn head(rule: &Rule, place: usize) -> Option<&Pattern> {
     }
 }
 
+/// The number of a rule's head places.
+fn places(rule: &Rule) -> usize {
+    rule.kept.len().saturating_add(rule.removed.len())
+}
+
 /// The number of a rule's variables.
 pub fn variables(rule: &Rule) -> usize {
     let mut most = 0;
-    for place in 0..rule.places() {
+    for place in 0..places(rule) {
         if let Some(pattern) = head(rule, place) {
             for term in pattern.args.as_slice() {
                 if let Term::Variable(variable) = term {
@@ -93,7 +105,7 @@ fn atom_at(pattern: &Pattern, values: &[i64], valuation: &[usize]) -> Atom {
 
 fn heads_at(rule: &Rule, values: &[i64], valuation: &[usize]) -> Heads {
     let mut heads = Heads::new();
-    for place in 0..rule.places() {
+    for place in 0..places(rule) {
         if let Some(pattern) = head(rule, place) {
             let _ = heads.try_push(atom_at(pattern, values, valuation));
         }
@@ -101,16 +113,116 @@ fn heads_at(rule: &Rule, values: &[i64], valuation: &[usize]) -> Heads {
     heads
 }
 
+fn body_at(rule: &Rule, values: &[i64], valuation: &[usize]) -> Body {
+    let mut body = Body::new();
+    for pattern in rule.body.as_slice() {
+        let _ = body.try_push(atom_at(pattern, values, valuation));
+    }
+    body
+}
+
+fn holds(comparison: &Comparison, values: &[i64], valuation: &[usize]) -> bool {
+    let left = value(&comparison.left, values, valuation);
+    let right = value(&comparison.right, values, valuation);
+    match comparison.cmp {
+        Cmp::Less => left < right,
+        Cmp::AtMost => left <= right,
+        Cmp::Greater => left > right,
+        Cmp::AtLeast => left >= right,
+        Cmp::Equal => left == right,
+        Cmp::NotEqual => left != right,
+    }
+}
+
+fn guard_holds(rule: &Rule, values: &[i64], valuation: &[usize]) -> bool {
+    rule.guard
+        .iter()
+        .all(|comparison| holds(comparison, values, valuation))
+}
+
 /// The heads of all instances of a rule by these values, in the lexicographic order of the valuations.
 pub fn instances(alloc: Global, rule: &Rule, values: &[i64]) -> Result<Vec<Heads>, AllocError> {
     let mut found = Vec::new(alloc);
     for valuation in &tuples(alloc, values.len(), variables(rule))? {
-        let heads = heads_at(rule, values, valuation);
-        if rule.fires(&heads) {
-            found.push(heads)?;
+        if guard_holds(rule, values, valuation) {
+            found.push(heads_at(rule, values, valuation))?;
         }
     }
     Ok(found)
+}
+
+/// Whether these atoms have the symbols of the rule's heads. Only such atoms are worth a search for a valuation.
+fn have_symbols(rule: &Rule, atoms: &[Atom]) -> bool {
+    atoms.len() == places(rule)
+        && atoms.iter().enumerate().all(|(place, atom)| {
+            head(rule, place).is_some_and(|pattern| pattern.symbol == atom.symbol)
+        })
+}
+
+/// The values that stand in atoms, each once.
+fn values_of(alloc: Global, atoms: &[Atom]) -> Result<Vec<i64>, AllocError> {
+    let mut values = arguments(alloc, &[atoms])?;
+    values.sort_unstable();
+    values.dedup();
+    Ok(values)
+}
+
+/// The body of the rule's instance with these heads, where some valuation makes them its heads and its guard true. Each
+/// variable stands in a head, so no other values come into question.
+fn body_with(alloc: Global, rule: &Rule, heads: &[Atom]) -> Result<Option<Body>, AllocError> {
+    if !have_symbols(rule, heads) {
+        return Ok(None);
+    }
+    let values = values_of(alloc, heads)?;
+    for valuation in &tuples(alloc, values.len(), variables(rule))? {
+        if heads_at(rule, &values, valuation).as_slice() == heads
+            && guard_holds(rule, &values, valuation)
+        {
+            return Ok(Some(body_at(rule, &values, valuation)));
+        }
+    }
+    Ok(None)
+}
+
+/// The place of an atom in a list.
+fn place_of(atoms: &[Atom], atom: &Atom) -> Option<usize> {
+    atoms.iter().position(|other| other == atom)
+}
+
+/// The atoms at all places but one.
+fn without(alloc: Global, atoms: &[Atom], place: usize) -> Result<Vec<Atom>, AllocError> {
+    let mut left = Vec::new(alloc);
+    for (i, atom) in atoms.iter().enumerate() {
+        if i != place {
+            left.push(atom.copy())?;
+        }
+    }
+    Ok(left)
+}
+
+/// Adds copies of the first atoms.
+fn push_copies(atoms: &mut Vec<Atom>, more: &[Atom], count: usize) -> Result<(), AllocError> {
+    for atom in more.iter().take(count) {
+        atoms.push(atom.copy())?;
+    }
+    Ok(())
+}
+
+/// The atoms of a store that are left when these are taken out, one for one; None where they aren't all there.
+fn without_all(
+    alloc: Global,
+    store: &Bag,
+    taken: &[Atom],
+) -> Result<Option<Vec<Atom>>, AllocError> {
+    let mut left = Vec::new(alloc);
+    push_copies(&mut left, store.atoms(), store.len())?;
+    for atom in taken {
+        let Some(place) = place_of(&left, atom) else {
+            return Ok(None);
+        };
+        left = without(alloc, &left, place)?;
+    }
+    Ok(Some(left))
 }
 
 /// The store after a step by these heads, where the store has an instance with them.
@@ -120,23 +232,19 @@ fn after(
     heads: &[Atom],
     store: &Bag,
 ) -> Result<Option<Bag>, AllocError> {
-    let mut next = store.copy(alloc)?;
-    if !rule.fires(heads) || !next.remove_all(heads) {
+    let Some(body) = body_with(alloc, rule, heads)? else {
         return Ok(None);
-    }
-    for (place, atom) in heads.iter().enumerate() {
-        if place < rule.kept.len() {
-            next.add(atom.copy())?;
-        }
-    }
-    for atom in rule.body_of(heads).as_slice() {
-        next.add(atom.copy())?;
-    }
-    Ok(Some(next))
+    };
+    let Some(mut atoms) = without_all(alloc, store, heads)? else {
+        return Ok(None);
+    };
+    push_copies(&mut atoms, heads, rule.kept.len())?;
+    push_copies(&mut atoms, &body, body.len())?;
+    Ok(Some(Bag::of(atoms)?))
 }
 
-/// The heads of a rule's instance by the atoms at these indices, where it is one and they are different.
-fn instance_at(rule: &Rule, atoms: &[Atom], indices: &[usize]) -> Option<Heads> {
+/// The atoms at these indices, where they are different.
+fn atoms_at(atoms: &[Atom], indices: &[usize]) -> Option<Heads> {
     let mut heads = Heads::new();
     for (i, index) in indices.iter().enumerate() {
         if indices.iter().take(i).any(|earlier| earlier == index) {
@@ -144,19 +252,29 @@ fn instance_at(rule: &Rule, atoms: &[Atom], indices: &[usize]) -> Option<Heads> 
         }
         let _ = heads.try_push(atoms.get(*index)?.copy());
     }
-    if rule.fires(&heads) {
-        Some(heads)
-    } else {
-        None
-    }
+    Some(heads)
+}
+
+/// The heads of a rule's instance by the atoms at these indices, where it is one and they are different.
+fn instance_at(
+    alloc: Global,
+    rule: &Rule,
+    atoms: &[Atom],
+    indices: &[usize],
+) -> Result<Option<Heads>, AllocError> {
+    let Some(heads) = atoms_at(atoms, indices) else {
+        return Ok(None);
+    };
+    let body = body_with(alloc, rule, &heads)?;
+    Ok(body.map(|_| heads))
 }
 
 /// All steps that a store has: by rule, and for each rule by the tuple of head atoms.
 pub fn steps(alloc: Global, rules: &[Rule], store: &Bag) -> Result<Vec<Step>, AllocError> {
     let mut found = Vec::new(alloc);
     for (i, rule) in rules.iter().enumerate() {
-        for indices in &tuples(alloc, store.len(), rule.places())? {
-            if let Some(heads) = instance_at(rule, store.atoms(), indices) {
+        for indices in &tuples(alloc, store.len(), places(rule))? {
+            if let Some(heads) = instance_at(alloc, rule, store.atoms(), indices)? {
                 found.push(Step {
                     rule: number(i),
                     heads,
@@ -170,8 +288,8 @@ pub fn steps(alloc: Global, rules: &[Rule], store: &Bag) -> Result<Vec<Step>, Al
 /// The first step that a store has.
 fn first_step(alloc: Global, rules: &[Rule], store: &Bag) -> Result<Option<Step>, AllocError> {
     for (i, rule) in rules.iter().enumerate() {
-        for indices in &tuples(alloc, store.len(), rule.places())? {
-            if let Some(heads) = instance_at(rule, store.atoms(), indices) {
+        for indices in &tuples(alloc, store.len(), places(rule))? {
+            if let Some(heads) = instance_at(alloc, rule, store.atoms(), indices)? {
                 return Ok(Some(Step {
                     rule: number(i),
                     heads,
@@ -255,7 +373,7 @@ fn push_overlaps<'a>(
     second: &'a Rule,
     found: &mut Vec<Overlapping<'a>>,
 ) -> Result<(), AllocError> {
-    for matching in tuples(alloc, second.places() + 1, first.places())? {
+    for matching in tuples(alloc, places(second).saturating_add(1), places(first))? {
         if is_matching(first, second, &matching) {
             found.push(Overlapping {
                 numbers,
@@ -282,13 +400,20 @@ pub fn overlaps(alloc: Global, rules: &[Rule]) -> Result<Vec<Overlapping<'_>>, A
     Ok(found)
 }
 
+/// Whether one atom stands at both places.
+fn are_one(first: Option<&Atom>, second: Option<&Atom>) -> bool {
+    match (first, second) {
+        (Some(first), Some(second)) => first == second,
+        _ => false,
+    }
+}
+
 /// Whether two instances agree on matched places.
 pub fn agree(matching: &[usize], first: &[Atom], second: &[Atom]) -> bool {
     for (place, entry) in matching.iter().enumerate() {
         if let Some(matched) = entry.checked_sub(1) {
-            match (first.get(place), second.get(matched)) {
-                (Some(left), Some(right)) if left.is_same(right) => {}
-                _ => return false,
+            if !are_one(first.get(place), second.get(matched)) {
+                return false;
             }
         }
     }

@@ -141,30 +141,32 @@ fn run_trial(
     })
 }
 
-/// Adds trials with stores of a program, by values in and around its constants.
-fn push_trials(
-    alloc: Global,
-    random: &mut Random,
-    weighed: &Weighed,
-    trials: &mut Vec<Trial>,
-) -> Result<(), Fail> {
+/// Trials with stores of a program, by values in and around its constants.
+fn trials(alloc: Global, random: &mut Random, weighed: &Weighed) -> Result<Vec<Trial>, Fail> {
     let rules = weighed.program().rules();
     let values = values(alloc, &constants(alloc, rules)?, 2)?;
     let mut all = Vec::new(alloc);
     for rule in rules {
         all.append(&mut instances(alloc, rule, &values)?)?;
     }
+    let mut trials = Vec::new(alloc);
     for _ in 0..STORES {
         let store = store(alloc, random, &values, &all)?;
         trials.push(run_trial(alloc, random, weighed, &store)?)?;
     }
-    Ok(())
+    Ok(trials)
+}
+
+/// Whether there were steps from some store.
+fn have_steps(trials: &[Trial]) -> bool {
+    trials.iter().any(|trial| trial.steps > 0)
 }
 
 #[test]
 fn stores_end_as_rest_ends_them(rt: HostRuntime) -> Result<(), Fail> {
     let alloc = rt.alloc();
     let mut random = Random::new(6);
+    let mut programs: usize = 0;
     let mut of_accepted = Vec::new(alloc);
     let mut of_refused = Vec::new(alloc);
     for _ in 0..400 {
@@ -174,14 +176,17 @@ fn stores_end_as_rest_ends_them(rt: HostRuntime) -> Result<(), Fail> {
         };
         match accept(alloc, weighed) {
             Ok(accepted) => {
-                push_trials(alloc, &mut random, accepted.weighed(), &mut of_accepted)?;
-                assert!(rt; of_accepted.iter().all(|trial| trial.is_one_end), "{text}");
+                let mut trials = trials(alloc, &mut random, accepted.weighed())?;
+                assert!(rt; trials.iter().all(|trial| trial.is_one_end), "{text}");
+                programs = programs.saturating_add(usize::from(have_steps(&trials)));
+                of_accepted.append(&mut trials)?;
             }
             Err(refused) => {
-                push_trials(alloc, &mut random, &refused.weighed, &mut of_refused)?;
+                of_refused.append(&mut trials(alloc, &mut random, &refused.weighed)?)?;
             }
         }
     }
+    assert!(rt; programs >= 12, "{programs} accepted programs with steps");
     let long = of_accepted.iter().filter(|trial| trial.steps > 2).count();
     assert!(rt; long >= 300, "{long} with more than two steps");
     let torn = of_refused.iter().filter(|trial| !trial.is_one_end).count();

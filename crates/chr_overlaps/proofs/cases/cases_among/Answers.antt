@@ -51,13 +51,13 @@ returns-in_ok-cases_at-in-Ok-clause-no_more c =
     let none : MoreTypesThan types_limit (length u.free.items) cs → ⊥ = λ m. c.in-Ok.ensures.no_more (subst (λ (n : ℕ). MoreTypesThan types_limit n cs) (sym c.len-classes.ensures.value) m) in
     λ n. not_too_many (rules_of (program_of c.args.weighed.now)) c.args.overlap.now r1 r2 u cs n c.rule_of-first.ensures c.rule_of-second.ensures c.requires.constants solves c.in-Some.ensures.unified none
 
-pub returns-in-Err-TooMany-clause-many : goal.returns-in-Err-TooMany-clause-many
-returns-in-Err-TooMany-clause-many c =
+pub returns-in-Err-TooManyTypes-clause-many : goal.returns-in-Err-TooManyTypes-clause-many
+returns-in-Err-TooManyTypes-clause-many c =
     let r1 = c.rule_of-first.result.now in
     let r2 = c.rule_of-second.result.now in
     let u = c.in-Some.unified in
     let cs = c.args.constants.now in
     let solves : Solves (classes_of u) (equations_of r1 r2 c.args.overlap.now.matching.items) = subst (λ (m : List ℕ). Solves (classes_of u) (equations_of r1 r2 m)) c.deref.ensures.0 c.in-Some.ensures.solves in
-    let many : MoreTypesThan types_limit c.len-classes.result cs = subst (λ (e : TypesFault). WhereTooMany e (MoreTypesThan types_limit c.len-classes.result cs)) c.in-Err-TooMany.field-0-is c.in-Err-TooMany.ensures.many in
+    let many : MoreTypesThan types_limit c.len-classes.result cs = subst (λ (e : TypesFault). WhereTooMany e (MoreTypesThan types_limit c.len-classes.result cs)) c.in-Err-TooManyTypes.field-0-is c.in-Err-TooManyTypes.ensures.many in
     let more : MoreTypesThan types_limit (length u.free.items) cs = subst (λ (n : ℕ). MoreTypesThan types_limit n cs) c.len-classes.ensures.value many in
     too_many (rules_of (program_of c.args.weighed.now)) c.args.overlap.now r1 r2 u cs c.len-classes.result c.rule_of-first.ensures c.rule_of-second.ensures c.requires.constants solves c.in-Some.ensures.unified (c.len-classes.ensures.value, more)

@@ -6,5 +6,5 @@ use Rattle.chr_overlaps.proofs.tests.cases.all_cases.Goals as goal
 
 pub cases_among-requires-clause-overlap : goal.cases_among-requires-clause-overlap
 cases_among-requires-clause-overlap c =
-    c.in_ok-found.ensures.each c.index.result.now
+    c.in_ok-found.ensures.overlaps.each c.index.result.now
     (subst (λ (o : Overlap). In o c.in_ok-found.found.items) (sym c.index.ensures) (in_at c.in_ok-found.found.items c.loop-i.i c.index.result.now (omega arith)))

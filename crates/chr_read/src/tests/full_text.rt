@@ -1,0 +1,104 @@
+//! A program with as many parts as one may have, in a text as long as one may be.
+use super::{comes_back, rewritten};
+use std::alloc::{AllocError, Global};
+use std::fmt::Write;
+use std::test::Fail;
+
+/// The names of the symbols, and of the rules, end with the numbers from here.
+const FIRST: u64 = 10;
+/// Up to here.
+const END: u64 = 74;
+
+fn push_declarations(text: &mut String) -> Result<(), AllocError> {
+    write!(text, ":- chr_constraint named_constraint_{FIRST}/4")?;
+    for number in FIRST + 1..END {
+        write!(text, ", named_constraint_{number}/4")?;
+    }
+    text.push_str(".\n")?;
+    Ok(())
+}
+
+fn push_weights(text: &mut String) -> Result<(), AllocError> {
+    for number in FIRST..END {
+        write!(
+            text,
+            ":- chr_weight named_constraint_{number}/4 = {number}.\n"
+        )?;
+    }
+    Ok(())
+}
+
+/// The heads of a rule hold 16 variables, and each symbol twice.
+fn push_heads(text: &mut String, one: u64, other: u64) -> Result<(), AllocError> {
+    write!(text, "rule_with_many_parts_{one} @ ")?;
+    write!(text, "named_constraint_{one}(V1,V2,V3,V4), ")?;
+    write!(text, "named_constraint_{other}(V5,V6,V7,V8) \\ ")?;
+    write!(text, "named_constraint_{one}(V9,V10,V11,V12), ")?;
+    write!(text, "named_constraint_{other}(V13,V14,V15,V16) <=> ")
+}
+
+fn push_guard(text: &mut String, one: u64) -> Result<(), AllocError> {
+    write!(text, "-92233720368547757{one} < V1")?;
+    for (sign, variable) in [
+        ("=<", 2),
+        (">", 3),
+        (">=", 4),
+        ("=:=", 5),
+        ("=\\=", 6),
+        ("<", 7),
+        (">=", 8),
+    ] {
+        write!(text, ", -92233720368547757{one} {sign} V{variable}")?;
+    }
+    text.push_str(" | ")
+}
+
+fn push_body(text: &mut String, one: u64, other: u64) -> Result<(), AllocError> {
+    for (before, first, last) in [
+        ("", 1, 9),
+        (", ", 2, 10),
+        (", ", 3, 11),
+        (", ", 4, 12),
+        (", ", 5, 13),
+        (", ", 6, 14),
+        (", ", 7, 15),
+        (", ", 8, 16),
+    ] {
+        write!(text, "{before}named_constraint_{other}(V{first},")?;
+        write!(
+            text,
+            "92233720368547757{one},-92233720368547757{other},V{last})"
+        )?;
+    }
+    text.push_str(".\n")
+}
+
+/// The text is canonical.
+fn full_program(alloc: Global) -> Result<String, AllocError> {
+    let mut text = String::new(alloc);
+    push_declarations(&mut text)?;
+    push_weights(&mut text)?;
+    for one in FIRST..END {
+        let other = if one + 1 < END { one + 1 } else { FIRST };
+        push_heads(&mut text, one, other)?;
+        push_guard(&mut text, one)?;
+        push_body(&mut text, one, other)?;
+    }
+    Ok(text)
+}
+
+#[test]
+fn a_full_program(rt: HostRuntime) -> Result<(), Fail> {
+    let alloc = rt.alloc();
+    let canonical = full_program(alloc)?;
+    assert!(rt; 65_000 < canonical.len() && canonical.len() <= 65_536);
+    let mut text = String::from_str(alloc, canonical.as_str())?;
+    for _ in canonical.len()..65_536 {
+        text.push_str(" ")?;
+    }
+    assert_eq!(rt; text.len(), 65_536);
+    let found = rewritten(alloc, text.as_bytes())?;
+    assert!(rt; found.as_str() == canonical.as_str());
+    assert!(rt; comes_back(alloc, text.as_bytes())?);
+    Ok(())
+}
