@@ -1,0 +1,4 @@
+pub mod Masks
+pub mod Signed
+pub mod Blocks
+pub mod Runs
