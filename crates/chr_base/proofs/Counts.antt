@@ -2,9 +2,11 @@
 use Rattle.std.proofs.Common.{◌≡◌, ℕ, ◌+◌, ◌-◌, ◌<◌, ap, true, false, cond, List, length, get_or, take, arith, refl}
 use Rattle.std.specs.Ordering.{eq_by_cmp}
 use Rattle.chr_base.specs.declared.atom.Atom.{Atom}
-use Rattle.chr_base.specs.Atoms.{atom_cmp, atom_total}
-use Rattle.chr_base.specs.FinBag.{count_in, without, count_in-without}
-use Rattle.chr_base.specs.Places.{count_in_more}
+use Rattle.chr_base.specs.Atoms.{atom_cmp}
+use Rattle.chr_base.proofs.Atoms.{atom_total}
+use Rattle.chr_base.specs.FinBag.{count_in, without}
+use Rattle.chr_base.proofs.FinBags.{count_in-without}
+use Rattle.chr_base.proofs.ListEdits.{count_in_more}
 
 pub more : (q : Atom) (xs : List Atom) (i : ℕ) (d : Atom) → i < length xs
     → count_in atom_cmp q (take (i + 1) xs) ≡ cond (eq_by_cmp atom_cmp q (get_or xs i d)) 1 0 + count_in atom_cmp q (take i xs)

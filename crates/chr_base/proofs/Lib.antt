@@ -1,3 +1,13 @@
+pub mod FinBags
+pub mod Atoms
+pub mod Stores
+pub mod Each
+pub mod Rewriting
+pub mod Steps
+pub mod Instances
+pub mod Multisets
+pub mod SameSteps
+pub mod ListEdits
 pub mod Counts
 pub mod Subsequences
 pub mod SameAtoms

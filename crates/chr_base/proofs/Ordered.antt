@@ -9,10 +9,11 @@ use Rattle.std.specs.declared.cmp.Ordering.TheVariants as order
 use Rattle.std.specs.Ordering.{is_lt, is_gt, eq_by_cmp, ordering_reverse}
 use Rattle.std.specs.Cmp.{IsTotalOrder}
 use Rattle.std.specs.FinMap.{IsAntisymmetric}
-use Rattle.std.proofs.lemmas.Bool.{and_from}
+use Rattle.std.proofs.lemmas.Bool.{and_from, and_parts}
 use Rattle.chr_base.specs.FinBag as bag
-use Rattle.chr_base.specs.FinBag.{is_rising, none_below, none_below_further, total_is, is_true, from_true}
-use Rattle.chr_base.specs.Instances.{first_true}
+use Rattle.chr_base.proofs.FinBags as bag_laws
+use Rattle.chr_base.specs.FinBag.{is_rising, none_below}
+use Rattle.chr_base.proofs.FinBags.{none_below_further, total_is, is_true, from_true}
 
 module _ {K : Type 0} {R : K → K → Ordering} (o : IsTotalOrder R) where
   before : (x y : K) → is_lt (R y x) ≡ false → is_gt (R x y) ≡ false
@@ -30,19 +31,19 @@ module _ {K : Type 0} {R : K → K → Ordering} (o : IsTotalOrder R) where
   rising_from_sorted (x ∷ y ∷ ys) h =
       let more : is_rising R (y ∷ ys) ≡ true = rising_from_sorted (y ∷ ys) (λ k d l g. let e : suc k + 1 ≡ suc (k + 1) = omega arith in rw e at (h (suc k) d (omega arith) (omega (arith, g)))) in
       let step : is_gt (R x y) ≡ false = before x y (h 0 x (omega arith) (omega arith)) in
-      let far : none_below R x ys ≡ true = is_true _ (none_below_further R o x y ys step (from_true _ (first_true (none_below R y ys) _ more))) in
+      let far : none_below R x ys ≡ true = is_true _ (none_below_further R o x y ys step (from_true _ ((and_parts (none_below R y ys) _ more).0))) in
       and_from (none_below R x (y ∷ ys)) _ (and_from (not (is_gt (R x y))) _ (rw step refl) far) more
 
   module _ (exact : IsAntisymmetric R) where
     -- another order, the same multiset
     pub same_multiset : (xs ys : List K) → IsPermutation xs ys → bag.of_list {R = R} ys ≡ bag.of_list xs
-    same_multiset xs ys p = bag.same_bag o exact _ _ (λ q.
-        bag.count-of_list o ys q
+    same_multiset xs ys p = bag_laws.same_bag o exact _ _ (λ q.
+        bag_laws.count-of_list o ys q
         ∙ total_is (λ x. cond (eq_by_cmp R q x) 1 0) ys
         ∙ sum_by-IsPermutation (λ x. cond (eq_by_cmp R q x) 1 0) xs ys p
         ∙ sym (total_is (λ x. cond (eq_by_cmp R q x) 1 0) xs)
-        ∙ sym (bag.count-of_list o xs q))
+        ∙ sym (bag_laws.count-of_list o xs q))
 
     -- sorted, it is the list in order
     pub in_order : (xs ys : List K) → IsPermutation xs ys → IsSorted R ys → ys ≡ bag.items (bag.of_list {R = R} xs)
-    in_order xs ys p s = sym (bag.items-of_list o exact ys (from_true _ (rising_from_sorted ys s))) ∙ ap bag.items (same_multiset xs ys p)
+    in_order xs ys p s = sym (bag_laws.items-of_list o exact ys (from_true _ (rising_from_sorted ys s))) ∙ ap bag.items (same_multiset xs ys p)

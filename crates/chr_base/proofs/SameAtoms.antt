@@ -4,7 +4,8 @@ use Rattle.std.specs.Prelude.{◌&&◌}
 use Rattle.std.proofs.lemmas.List.{drop_all}
 use Rattle.std.specs.Ordering.{eq_by_cmp}
 use Rattle.chr_base.specs.declared.atom.Atom.{Atom}
-use Rattle.chr_base.specs.Atoms.{atom_cmp, are_same}
+use Rattle.chr_base.specs.Atoms.{atom_cmp}
+use Rattle.chr_base.specs.working.AtomLists.{are_same}
 
 -- lists of different lengths are not the same
 pub other_lengths : (xs ys : List Atom) → (length xs ≡ length ys → ⊥) → false ≡ are_same xs ys

@@ -4,14 +4,18 @@ use Rattle.std.specs.Prelude.{IsTrue, ◌↔◌, nat_eq}
 use Rattle.std.specs.List.Sorted.{IsSorted, IsPermutation}
 use Rattle.std.specs.Ordering.{eq_by_cmp}
 use Rattle.std.specs.Cmp.{tied_itself}
-use Rattle.std.proofs.lemmas.Bool.{eqb-true, and_from}
+use Rattle.std.proofs.lemmas.Bool.{eqb-true, and_from, and_parts}
 use Rattle.chr_base.specs.declared.atom.Atom.{Atom}
-use Rattle.chr_base.specs.Atoms.{atom_cmp, atom_total, atom_exact, same_is, are_same}
-use Rattle.chr_base.specs.Stores.{Store, store_of, store_of-items, store_of-append}
+use Rattle.chr_base.specs.Atoms.{atom_cmp}
+use Rattle.chr_base.proofs.Atoms.{atom_total, atom_exact, same_is}
+use Rattle.chr_base.specs.working.AtomLists.{are_same}
+use Rattle.chr_base.specs.Stores.{Store, store_of}
+use Rattle.chr_base.proofs.Stores.{store_of-items, store_of-append}
 use Rattle.chr_base.specs.FinBag as bag
+use Rattle.chr_base.proofs.FinBags as bag_laws
 use Rattle.chr_base.proofs.Ordered as ordered
-use Rattle.chr_base.specs.FinBag.{◌⊕◌, is_rising, none_below, none_below_further, total, total_is, is_true, from_true}
-use Rattle.chr_base.specs.Instances.{first_true, second_true}
+use Rattle.chr_base.specs.FinBag.{◌⊕◌, is_rising, none_below, total}
+use Rattle.chr_base.proofs.FinBags.{none_below_further, total_is, is_true, from_true}
 use mathlib.Core.Bool.{true≢false}
 
 -- another order, the same multiset
@@ -23,7 +27,7 @@ rising_from_sorted xs h = ordered.rising_from_sorted atom_total xs h
 
 -- the items of a list in order
 pub items_in_order : (xs : List Atom) → IsTrue (is_rising atom_cmp xs) → bag.items (store_of xs) ≡ xs
-items_in_order xs h = bag.items-of_list atom_total atom_exact xs (from_true _ h)
+items_in_order xs h = bag_laws.items-of_list atom_total atom_exact xs (from_true _ h)
 
 -- two lists in order are one where their multisets are
 pub one_list : (xs ys : List Atom) → IsTrue (is_rising atom_cmp xs) → IsTrue (is_rising atom_cmp ys) → (xs ≡ ys → store_of xs ≡ store_of ys) × (store_of xs ≡ store_of ys → xs ≡ ys)
@@ -36,13 +40,13 @@ total_ones (y ∷ ys) = let h = total_ones ys in omega (arith, h)
 not_empty : (x : Atom) (xs : List Atom) → store_of (x ∷ xs) ≡ bag.empty → length xs + 1 ≡ 0
 not_empty x xs h =
     let a = ap (bag.sum_over (λ y. 1)) h in
-    let b = bag.sum_over-of_list atom_total (λ y. 1) (x ∷ xs) in
-    let c = bag.sum_over-empty atom_cmp (λ y. 1) in
+    let b = bag_laws.sum_over-of_list atom_total (λ y. 1) (x ∷ xs) in
+    let c = bag_laws.sum_over-empty atom_cmp (λ y. 1) in
     let d = total_ones xs in
     omega (arith, a, b, c, d)
 
 listed_empty : (xs : List Atom) (b : Bool) → b ≡ nat_eq (length xs) 0 → IsTrue b ↔ (store_of xs ≡ bag.empty)
-listed_empty [] b e = (λ _. bag.of_list-none atom_cmp, λ _. e)
+listed_empty [] b e = (λ _. bag_laws.of_list-none atom_cmp, λ _. e)
 listed_empty (x ∷ xs) b e = (λ h. absurd (omega (arith, eqb-true (suc (length xs)) 0 (sym e ∙ h))), λ h. absurd (omega (arith, not_empty x xs h)))
 
 pub empty_or_not : (s : Store) (b : Bool) → b ≡ nat_eq (length (bag.items s)) 0 → IsTrue b ↔ (s ≡ bag.empty)
@@ -52,7 +56,7 @@ are_same_sound : (xs ys : List Atom) → are_same xs ys ≡ true → xs ≡ ys
 are_same_sound [] [] h = refl
 are_same_sound [] (y ∷ ys) h = absurd (true≢false (sym h))
 are_same_sound (x ∷ xs) [] h = absurd (true≢false (sym h))
-are_same_sound (x ∷ xs) (y ∷ ys) h = λ i. same_is x y (first_true _ _ h) i ∷ are_same_sound xs ys (second_true (eq_by_cmp atom_cmp x y) _ h) i
+are_same_sound (x ∷ xs) (y ∷ ys) h = λ i. same_is x y ((and_parts _ _ h).0) i ∷ are_same_sound xs ys ((and_parts (eq_by_cmp atom_cmp x y) _ h).1) i
 
 are_same_itself : (xs : List Atom) → are_same xs xs ≡ true
 are_same_itself [] = refl

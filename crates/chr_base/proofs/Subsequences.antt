@@ -10,21 +10,11 @@ use Rattle.std.specs.declared.cmp.Ordering.{Ordering}
 use Rattle.std.specs.declared.cmp.Ordering.TheVariants.{Less, Equal, Greater}
 use Rattle.std.specs.Ordering.{is_gt, is_eq, eq_by_cmp, ordering_reverse}
 use Rattle.chr_base.specs.declared.atom.Atom.{Atom}
-use Rattle.chr_base.specs.Atoms.{atom_cmp, atom_total, atom_exact, same_is}
-use Rattle.chr_base.specs.FinBag.{count_in, is_rising, none_below, none_below_further, absent, counts_itself, of_list, of_list_less, ◌⊖◌, is_true, from_true}
-use Rattle.chr_base.specs.Subsequences.{is_subsequence, without_subsequence}
-
-both : (a b : Bool) → T a → T b → T (a && b)
-both true b p q = q
-both false b p q = absurd p
-
-first : (a b : Bool) → T (a && b) → T a
-first true b p = tt
-first false b p = p
-
-second : (a b : Bool) → T (a && b) → T b
-second true b p = p
-second false b p = absurd p
+use Rattle.chr_base.specs.Atoms.{atom_cmp}
+use Rattle.chr_base.proofs.Atoms.{atom_total, atom_exact, same_is}
+use Rattle.chr_base.specs.FinBag.{count_in, is_rising, none_below, of_list, ◌⊖◌}
+use Rattle.chr_base.proofs.FinBags.{none_below_further, absent, counts_itself, of_list_less, both, first, second, is_true, from_true}
+use Rattle.chr_base.specs.working.Subsequences.{is_subsequence, without_subsequence}
 
 -- what stands within and what is left are the whole
 pub counts_without : (xs ys : List Atom) → is_subsequence atom_cmp xs ys ≡ true → (q : Atom) → count_in atom_cmp q (without_subsequence atom_cmp xs ys) + count_in atom_cmp q ys ≡ count_in atom_cmp q xs

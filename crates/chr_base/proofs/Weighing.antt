@@ -3,14 +3,14 @@ use Rattle.std.proofs.Common.{◌≡◌, ℕ, zero, suc, ◌≤◌, true, List, 
 use Rattle.std.specs.Prelude.{not, nat_le, ◌&&◌, ◌||◌, slice_get, IsTrue, Option, Some, None}
 use Rattle.std.specs.Map.{values_of}
 use Rattle.std.specs.List.{list_all, list_any}
-use Rattle.std.proofs.lemmas.Bool.{and_from}
+use Rattle.std.proofs.lemmas.Bool.{and_from, and_parts}
 use Rattle.indexmap.specs.Layout.{set_value_at}
+use Rattle.chr_base.specs.declared.limits.TheConstants.{MAX_WEIGHT}
 use Rattle.chr_base.specs.declared.program.Symbol.{Symbol}
 use Rattle.chr_base.specs.declared.rule.Rule.{Rule}
 use Rattle.chr_base.specs.declared.term.Pattern.{Pattern}
 use Rattle.chr_base.specs.ProgramTests.{Declaration, declared, declarations_in, with_weight, declares, is_in_range, is_program, are_distinct, fits, takes, is_declared}
 use Rattle.chr_base.proofs.Declared.{kept_by, keep, to_le}
-use Rattle.chr_base.specs.Instances.{first_true, second_true}
 
 pub weighed : (es : List (Symbol × ℕ)) (i w : ℕ) → declarations_in (set_value_at es i w) ≡ with_weight (declarations_in es) i w
 weighed [] i w = refl
@@ -22,12 +22,12 @@ length-with_weight [] i w = refl
 length-with_weight (d ∷ ds) zero w = refl
 length-with_weight (d ∷ ds) (suc i) w = ap suc (length-with_weight ds i w)
 
-ranges_with_weight : (ds : List Declaration) (i w : ℕ) → 1 ≤ w → w ≤ 1000000 → list_all is_in_range ds ≡ true → list_all is_in_range (with_weight ds i w) ≡ true
+ranges_with_weight : (ds : List Declaration) (i w : ℕ) → 1 ≤ w → w ≤ MAX_WEIGHT → list_all is_in_range ds ≡ true → list_all is_in_range (with_weight ds i w) ≡ true
 ranges_with_weight [] i w l m h = refl
 ranges_with_weight (d ∷ ds) zero w l m h =
-    let here : is_in_range d ≡ true = first_true _ (list_all is_in_range ds) h in
-    and_from _ _ (and_from _ _ (and_from _ _ (first_true _ (nat_le 1 d.weight) (first_true _ (nat_le d.weight 1000000) here)) (to_le _ _ l)) (to_le _ _ m)) (second_true (is_in_range d) _ h)
-ranges_with_weight (d ∷ ds) (suc i) w l m h = and_from _ _ (first_true _ (list_all is_in_range ds) h) (ranges_with_weight ds i w l m (second_true (is_in_range d) _ h))
+    let here : is_in_range d ≡ true = (and_parts _ (list_all is_in_range ds) h).0 in
+    and_from _ _ (and_from _ _ (and_from _ _ ((and_parts _ (nat_le 1 d.weight) ((and_parts _ (nat_le d.weight MAX_WEIGHT) here).0)).0) (to_le _ _ l)) (to_le _ _ m)) ((and_parts (is_in_range d) _ h).1)
+ranges_with_weight (d ∷ ds) (suc i) w l m h = and_from _ _ ((and_parts _ (list_all is_in_range ds) h).0) (ranges_with_weight ds i w l m ((and_parts (is_in_range d) _ h).1))
 
 any_with_weight : (n : List ℕ) (a : ℕ) (ds : List Declaration) (i w : ℕ) → list_any (declares n a) (with_weight ds i w) ≡ list_any (declares n a) ds
 any_with_weight n a [] i w = refl
@@ -56,7 +56,7 @@ fits_with_weight ds i w (r ∷ rs) =
     let a = declared_with_weight ds i w r.kept.items in let b = declared_with_weight ds i w r.removed.items in let c = declared_with_weight ds i w r.body.items in let d = fits_with_weight ds i w rs in
     λ j. (a j && b j && c j) && d j
 
-pub still_program : (ds cs : List Declaration) (rs : List Rule) (i w : ℕ) → cs ≡ with_weight ds i w → 1 ≤ w → w ≤ 1000000 → IsTrue (is_program ds rs) → IsTrue (is_program cs rs)
+pub still_program : (ds cs : List Declaration) (rs : List Rule) (i w : ℕ) → cs ≡ with_weight ds i w → 1 ≤ w → w ≤ MAX_WEIGHT → IsTrue (is_program ds rs) → IsTrue (is_program cs rs)
 still_program ds cs rs i w e l m h =
     let k = kept_by ds rs h in
     let n = length-with_weight ds i w in

@@ -1,63 +1,13 @@
--- A finite multiset as a value: the list of its items, in the order R. So two with the same counts are equal.
---     FinBag R, code        of items in the order R;  its code, from that of the items
---     empty, count, items, len        how often an item stands in it;  the items in order, repeats repeated
---     of_list, plus, minus, one        the multiset of a list;  the sum;  the difference, which stops at none
---     IsWithin s t        no item stands in s more often than in t
---     same_bag        where only equal items tie, two multisets with the same counts are equal
-use Rattle.std.specs.Prelude.{◌≡◌, ℕ, ◌+◌, ◌-◌, ◌≤◌, Bool, true, false, cond, not, ◌&&◌, T, List, [], ◌∷◌, ◌++◌, length}
-use Rattle.std.specs.List.{sum_by}
-use Rattle.std.proofs.lemmas.List.Recursion.{is_sum_by}
-use Rattle.std.specs.Coded.{Coded, coded_list}
-use base.Stored.{coded_via}
-use mathlib.Core.HLevel.{Σ_prop_path}
-use lib.Dec.{T_prop}
-use Rattle.std.proofs.Common.{refl, sym, ap, subst, ◌∙◌, arith}
+-- Finite multisets: the list of the items in an order, so that two with the same counts are equal.
+use Rattle.std.specs.Prelude.{◌≡◌, ℕ, ◌+◌, ◌≤◌, Bool, true, false, not, ◌&&◌, T, List, [], ◌∷◌, ◌++◌, length, if◌then◌else◌}
+use Rattle.std.proofs.Common.{refl, sym, subst}
 use Rattle.std.specs.declared.cmp.Ordering.{Ordering}
-use Rattle.std.specs.declared.cmp.Ordering.TheVariants.{Less, Equal, Greater}
-use Rattle.std.specs.Ordering.{is_eq, is_gt, ordering_reverse, eq_by_cmp}
-use Rattle.std.specs.Cmp.{IsTotalOrder, tied_itself, alike_right, upto}
-use Rattle.std.specs.FinMap.{IsAntisymmetric}
+use Rattle.std.specs.Ordering.{is_gt, eq_by_cmp}
 
-both : (a b : Bool) → T a → T b → T (a && b)
-both true b p q = q
-both false b p q = p
-
-first : (a b : Bool) → T (a && b) → T a
-first true b p = tt
-first false b p = p
-
-second : (a b : Bool) → T (a && b) → T b
-second true b p = p
-second false b p = absurd p
-
-pub is_true : (b : Bool) → T b → b ≡ true
-is_true true p = refl
-is_true false p = absurd p
-
-pub from_true : (b : Bool) → b ≡ true → T b
-from_true b e = subst T (sym e) tt
-
-not_gt : (o : Ordering) → T (not (is_gt o)) → is_gt o ≡ false
-not_gt Less p = refl
-not_gt Equal p = refl
-not_gt Greater p = absurd p
-
-eq_is : (o : Ordering) → is_eq o ≡ true → o ≡ Equal
-eq_is Less p = absurd (subst T (sym p) tt)
-eq_is Equal p = refl
-eq_is Greater p = absurd (subst T (sym p) tt)
-
--- a sum over a list, from its front: std's `sum_by`
+-- a number for each item, summed over a list
 abbrev pub total : {K : Type 0} → (K → ℕ) → List K → ℕ
 total f [] = 0
 total f (x ∷ xs) = f x + total f xs
-
-pub total_is : {K : Type 0} (f : K → ℕ) (xs : List K) → total f xs ≡ sum_by f xs
-total_is f = is_sum_by (total f) f refl (λ _ _. refl)
-
-pub total-append : {K : Type 0} (f : K → ℕ) (xs ys : List K) → total f (xs ++ ys) ≡ total f xs + total f ys
-total-append f [] ys = omega arith
-total-append f (x ∷ xs) ys = let h = total-append f xs ys in omega (arith, h)
 
 module _ {K : Type 0} (R : K → K → Ordering) where
   -- no item of the list comes before x
@@ -65,319 +15,82 @@ module _ {K : Type 0} (R : K → K → Ordering) where
   none_below x [] = true
   none_below x (y ∷ ys) = not (is_gt (R x y)) && none_below x ys
 
-  -- whether the items never fall
+  -- the items never fall
   abbrev pub is_rising : List K → Bool
   is_rising [] = true
   is_rising (x ∷ xs) = none_below x xs && is_rising xs
 
-  -- one more item, before the first that does not come before it
+  -- one item more, before the first that it does not come after
   abbrev pub put : K → List K → List K
   put k [] = k ∷ []
-  put k (e ∷ es) = cond (is_gt (R k e)) (e ∷ put k es) (k ∷ e ∷ es)
+  put k (e ∷ es) = if is_gt (R k e) then e ∷ put k es else k ∷ e ∷ es
 
-  abbrev pub put_all : List K → List K → List K
-  put_all [] es = es
-  put_all (k ∷ ks) es = put k (put_all ks es)
+  -- the items in order
+  abbrev pub insertion_sort : List K → List K
+  insertion_sort [] = []
+  insertion_sort (k ∷ ks) = put k (insertion_sort ks)
 
   -- one item less, where it stands there
   abbrev pub without : K → List K → List K
   without k [] = []
-  without k (e ∷ es) = cond (eq_by_cmp R k e) es (e ∷ without k es)
+  without k (e ∷ es) = if eq_by_cmp R k e then es else e ∷ without k es
 
+  -- each of these items less, where it stands there
   abbrev pub without_all : List K → List K → List K
   without_all [] es = es
   without_all (k ∷ ks) es = without k (without_all ks es)
 
+  -- how often an item stands in a list
   abbrev pub count_in : K → List K → ℕ
-  count_in q xs = total (λ x. cond (eq_by_cmp R q x) 1 0) xs
-
-  none_below_put : (x k : K) (es : List K) → T (not (is_gt (R x k))) → T (none_below x es) → T (none_below x (put k es))
-  none_below_put x k [] p h = both _ _ p tt
-  none_below_put x k (e ∷ es) p h =
-      elim (is_gt (R k e)) as (λ b. T (none_below x (cond b (e ∷ put k es) (k ∷ e ∷ es)))) [
-        | true ↦ both _ _ (first _ _ h) (none_below_put x k es p (second _ _ h))
-        | false ↦ both _ _ p h
-      ]
-
-  none_below_without : (x k : K) (es : List K) → T (none_below x es) → T (none_below x (without k es))
-  none_below_without x k [] h = tt
-  none_below_without x k (e ∷ es) h =
-      elim (eq_by_cmp R k e) as (λ b. T (none_below x (cond b es (e ∷ without k es)))) [
-        | true ↦ second _ _ h
-        | false ↦ both _ _ (first _ _ h) (none_below_without x k es (second _ _ h))
-      ]
-
-  pub is_rising-without : (k : K) (es : List K) → T (is_rising es) → T (is_rising (without k es))
-  is_rising-without k [] h = tt
-  is_rising-without k (e ∷ es) h =
-      elim (eq_by_cmp R k e) as (λ b. T (is_rising (cond b es (e ∷ without k es)))) [
-        | true ↦ second _ _ h
-        | false ↦ both _ _ (none_below_without e k es (first _ _ h)) (is_rising-without k es (second _ _ h))
-      ]
-
-  pub is_rising-without_all : (ks es : List K) → T (is_rising es) → T (is_rising (without_all ks es))
-  is_rising-without_all [] es h = h
-  is_rising-without_all (k ∷ ks) es h = is_rising-without k _ (is_rising-without_all ks es h)
-
-  -- a sum does not see the order
-  pub total-put : (f : K → ℕ) (k : K) (es : List K) → total f (put k es) ≡ f k + total f es
-  total-put f k [] = refl
-  total-put f k (e ∷ es) =
-      elim (is_gt (R k e)) as (λ b. total f (cond b (e ∷ put k es) (k ∷ e ∷ es)) ≡ f k + (f e + total f es)) [
-        | true ↦ let h = total-put f k es in omega (arith, h)
-        | false ↦ refl
-      ]
-
-  pub total-put_all : (f : K → ℕ) (ks es : List K) → total f (put_all ks es) ≡ total f ks + total f es
-  total-put_all f [] es = omega arith
-  total-put_all f (k ∷ ks) es = let h = total-put_all f ks es in let g = total-put f k (put_all ks es) in omega (arith, h, g)
-
-  module _ (o : IsTotalOrder R) where
-    turned : (k e : K) → is_gt (R k e) ≡ true → T (not (is_gt (R e k)))
-    turned k e h = subst (λ r. T (not (is_gt r))) (sym (o.antisymm e k)) (back (R k e) h)
-      where
-        back : (r : Ordering) → is_gt r ≡ true → T (not (is_gt (ordering_reverse r)))
-        back Less p = absurd (subst T (sym p) tt)
-        back Equal p = tt
-        back Greater p = tt
-
-    pub none_below_further : (x y : K) (es : List K) → is_gt (R x y) ≡ false → T (none_below y es) → T (none_below x es)
-    none_below_further x y [] p h = tt
-    none_below_further x y (e ∷ es) p h =
-        both _ _ (subst (λ b. T (not b)) (sym (upto o x y e p (not_gt _ (first _ _ h)))) tt) (none_below_further x y es p (second _ _ h))
-
-    pub is_rising-put : (k : K) (es : List K) → T (is_rising es) → T (is_rising (put k es))
-    is_rising-put k [] h = tt
-    is_rising-put k (e ∷ es) h =
-        elim (is_gt (R k e)) as (λ b. is_gt (R k e) ≡ b → T (is_rising (cond b (e ∷ put k es) (k ∷ e ∷ es)))) [
-          | true ↦ λ p. both _ _ (none_below_put e k es (turned k e p) (first _ _ h)) (is_rising-put k es (second _ _ h))
-          | false ↦ λ p. both _ _ (both _ _ (subst (λ b. T (not b)) (sym p) tt) (none_below_further k e es p (first _ _ h))) h
-        ] refl
-
-    pub is_rising-put_all : (ks es : List K) → T (is_rising es) → T (is_rising (put_all ks es))
-    is_rising-put_all [] es h = h
-    is_rising-put_all (k ∷ ks) es h = is_rising-put k _ (is_rising-put_all ks es h)
-
-    pub count_in-without : (q k : K) (es : List K) → count_in q (without k es) ≡ count_in q es - cond (eq_by_cmp R q k) 1 0
-    count_in-without q k [] = omega arith
-    count_in-without q k (e ∷ es) =
-        elim (eq_by_cmp R k e) as (λ b. eq_by_cmp R k e ≡ b → count_in q (cond b es (e ∷ without k es)) ≡ (cond (eq_by_cmp R q e) 1 0 + count_in q es) - cond (eq_by_cmp R q k) 1 0) [
-          | true ↦ λ p. rw (ap is_eq (alike_right o k e q (eq_is _ p))) (omega arith)
-          | false ↦ λ p. apart p (count_in-without q k es)
-        ] refl
-      where
-        apart : eq_by_cmp R k e ≡ false → count_in q (without k es) ≡ count_in q es - cond (eq_by_cmp R q k) 1 0
-            → cond (eq_by_cmp R q e) 1 0 + count_in q (without k es) ≡ (cond (eq_by_cmp R q e) 1 0 + count_in q es) - cond (eq_by_cmp R q k) 1 0
-        apart p h =
-            elim (eq_by_cmp R q k) as (λ b. eq_by_cmp R q k ≡ b → count_in q (without k es) ≡ count_in q es - cond b 1 0 → cond (eq_by_cmp R q e) 1 0 + count_in q (without k es) ≡ (cond (eq_by_cmp R q e) 1 0 + count_in q es) - cond b 1 0) [
-              | true ↦ λ t h. rw (ap is_eq (o.congr q k e (eq_is _ t)), p) (rw h (omega arith))
-              | false ↦ λ t h. rw h (omega arith)
-            ] refl h
-
-    -- where x comes before y, and no item of the list does, x is not in the list
-    pub absent : (x y : K) (ys : List K) → R x y ≡ Less → T (none_below y ys) → count_in x ys ≡ 0
-    absent x y [] p h = refl
-    absent x y (z ∷ ys) p h =
-        let below : R x z ≡ Less = step (R y z) refl (first _ _ h) in
-        let rest : count_in x ys ≡ 0 = absent x y ys p (second _ _ h) in
-        rw below (omega (arith, rest))
-      where
-        step : (r : Ordering) → R y z ≡ r → T (not (is_gt r)) → R x z ≡ Less
-        step Less e g = o.trans x y z p e
-        step Equal e g = sym (alike_right o y z x e) ∙ p
-        step Greater e g = absurd g
-
-    pub counts_itself : (x : K) (xs : List K) → count_in x (x ∷ xs) ≡ 1 + count_in x xs
-    counts_itself x xs = rw (tied_itself o x) refl
-
-    module _ (same : IsAntisymmetric R) where
-      pub same_lists : (xs ys : List K) → T (is_rising xs) → T (is_rising ys) → ((q : K) → count_in q xs ≡ count_in q ys) → xs ≡ ys
-      same_lists [] [] h g is = refl
-      same_lists [] (y ∷ ys) h g is = absurd (let e = is y ∙ counts_itself y ys in omega (arith, e))
-      same_lists (x ∷ xs) [] h g is = absurd (let e = sym (is x) ∙ counts_itself x xs in omega (arith, e))
-      same_lists (x ∷ xs) (y ∷ ys) h g is = by (R x y) refl (λ rest. same_lists xs ys (second _ _ h) (second _ _ g) rest)
-        where
-          gone : (x y : K) (xs ys : List K) → R x y ≡ Less → T (none_below y ys) → count_in x (x ∷ xs) ≡ count_in x (y ∷ ys) → ⊥
-          gone x y xs ys p g e =
-              let c = absent x y ys p g in
-              let a : count_in x (y ∷ ys) ≡ 0 = rw p (omega (arith, c)) in
-              let b = counts_itself x xs in
-              omega (arith, a, b, e)
-
-          by : (r : Ordering) → R x y ≡ r → (((q : K) → count_in q xs ≡ count_in q ys) → xs ≡ ys) → x ∷ xs ≡ y ∷ ys
-          by Less p more = absurd (gone x y xs ys p (first _ _ g) (is x))
-          by Greater p more = absurd (gone y x ys xs (o.antisymm y x ∙ ap ordering_reverse p) (first _ _ h) (sym (is y)))
-          by Equal p more =
-              let e : x ≡ y = same x y p in
-              let rest : (q : K) → count_in q xs ≡ count_in q ys = λ q. (let h = is q ∙ ap (λ z. cond (eq_by_cmp R q z) 1 0 + count_in q ys) (sym e) in omega (arith, h)) in
-              λ i. e i ∷ more rest i
+  count_in q xs = total (λ x. if eq_by_cmp R q x then 1 else 0) xs
 
 pub record FinBag {K : Type 0} (R : K → K → Ordering) : Type 0 where
-  list : List K
-  sorted : T (is_rising R list)
+  pub list : List K
+  pub sorted : T (is_rising R list)
 
 module _ {K : Type 0} {R : K → K → Ordering} where
-  -- in order
-  pub items : FinBag R → List K
+  -- in order, one that occurs more than once as often as it does
+  unfoldable pub items : FinBag R → List K
   items s = s.list
 
-  pub items_rise : (s : FinBag R) → T (is_rising R (items s))
-  unfolding items
-  items_rise s = s.sorted
-
-  pub same_items : (s t : FinBag R) → items s ≡ items t → s ≡ t
-  unfolding items
-  same_items s t e =
-      let pairs : ◌≡◌ {A = (es : List K) × T (is_rising R es)} (s.list, s.sorted) (t.list, t.sorted) = Σ_prop_path (λ es. T_prop _) e in
-      λ i. record { list = (pairs i).0; sorted = (pairs i).1 }
-
-  abbrev pub code : Coded K → Coded (FinBag R)
-  code k = coded_via (coded_list k) items same_items
-
-  pub empty : FinBag R
+  unfoldable pub empty : FinBag R
   empty = record { list = []; sorted = tt }
 
-  -- an order that is not total may leave a list out of order, and then the bag is the one given
-  checked : (es : List K) (b : Bool) → is_rising R es ≡ b → FinBag R → FinBag R
-  checked es true e m = record { list = es; sorted = subst T (sym e) tt }
-  checked es false e m = m
+  -- the multiset with these items, where they never fall
+  unfoldable pub rising_bag : (es : List K) (b : Bool) → is_rising R es ≡ b → FinBag R
+  rising_bag es true e = record { list = es; sorted = subst T (sym e) tt }
+  rising_bag es false e = empty
 
-  items-checked : (es : List K) (b : Bool) (e : is_rising R es ≡ b) (m : FinBag R) → T b → items (checked es b e m) ≡ es
-  unfolding items checked
-  items-checked es true e m h = refl
-  items-checked es false e m h = absurd h
+  -- the multiset of these items; an order that is not total may leave them out of order, and then the empty one
+  unfoldable pub of_list : List K → FinBag R
+  of_list ks = rising_bag (insertion_sort R ks) (is_rising R (insertion_sort R ks)) refl
 
   -- how often an item stands in it
-  pub count : FinBag R → K → ℕ
+  unfoldable pub count : FinBag R → K → ℕ
   count s q = count_in R q (items s)
 
+  -- the number of items
   abbrev pub len : FinBag R → ℕ
   len s = length (items s)
 
   -- one item more
-  pub add : FinBag R → K → FinBag R
-  add s k = checked (put R k (items s)) _ refl s
+  unfoldable pub add : FinBag R → K → FinBag R
+  add s k = of_list (k ∷ items s)
 
-  -- one item less, where it stands there
-  pub remove_one : FinBag R → K → FinBag R
-  remove_one s k = record { list = without R k (items s); sorted = is_rising-without R k (items s) (items_rise s) }
-
-  pub of_list : List K → FinBag R
-  of_list ks = checked (put_all R ks []) _ refl empty
-
+  -- the sum
   infixl 6 ◌⊕◌
-  pub ◌⊕◌ : FinBag R → FinBag R → FinBag R
-  s ⊕ t = checked (put_all R (items t) (items s)) _ refl s
+  unfoldable pub ◌⊕◌ : FinBag R → FinBag R → FinBag R
+  s ⊕ t = of_list (items s ++ items t)
 
+  -- the difference, in which an item stands as often as it does in s more than in t
   infixl 6 ◌⊖◌
-  pub ◌⊖◌ : FinBag R → FinBag R → FinBag R
-  s ⊖ t = record { list = without_all R (items t) (items s); sorted = is_rising-without_all R (items t) (items s) (items_rise s) }
+  unfoldable pub ◌⊖◌ : FinBag R → FinBag R → FinBag R
+  s ⊖ t = of_list (without_all R (items t) (items s))
 
   -- no item stands in s more often than in t
   abbrev pub IsWithin : FinBag R → FinBag R → Type 0
   IsWithin s t = (q : K) → count s q ≤ count t q
 
-  -- the sum of a number for each item
-  pub sum_over : (K → ℕ) → FinBag R → ℕ
+  -- a number for each item, summed
+  unfoldable pub sum_over : (K → ℕ) → FinBag R → ℕ
   sum_over f s = total f (items s)
-
-  pub count-items : (s : FinBag R) (q : K) → count s q ≡ count_in R q (items s)
-  unfolding count
-  count-items s q = refl
-
-  pub sum_over-items : (f : K → ℕ) (s : FinBag R) → sum_over f s ≡ total f (items s)
-  unfolding sum_over
-  sum_over-items f s = refl
-
-module _ {K : Type 0} (R : K → K → Ordering) where
-  pub count-empty : (q : K) → count (empty {R = R}) q ≡ 0
-  unfolding count items empty
-  count-empty q = refl
-
-  pub sum_over-empty : (f : K → ℕ) → sum_over f (empty {R = R}) ≡ 0
-  unfolding sum_over items empty
-  sum_over-empty f = refl
-
-  pub of_list-none : of_list {R = R} [] ≡ empty
-  unfolding of_list items empty
-  of_list-none = same_items _ _ (items-checked [] true refl empty tt)
-
-module _ {K : Type 0} {R : K → K → Ordering} (o : IsTotalOrder R) where
-  items-add : (s : FinBag R) (k : K) → items (add s k) ≡ put R k (items s)
-  unfolding add
-  items-add s k = items-checked _ _ refl s (is_rising-put R o k (items s) (items_rise s))
-
-  items-⊕ : (s t : FinBag R) → items (s ⊕ t) ≡ put_all R (items t) (items s)
-  unfolding ◌⊕◌
-  items-⊕ s t = items-checked _ _ refl s (is_rising-put_all R o (items t) (items s) (items_rise s))
-
-  items-of_list_put : (xs : List K) → items (of_list {R = R} xs) ≡ put_all R xs []
-  unfolding of_list
-  items-of_list_put xs = items-checked _ _ refl empty (is_rising-put_all R o xs [] tt)
-
-  pub count-add : (s : FinBag R) (k q : K) → count (add s k) q ≡ cond (eq_by_cmp R q k) 1 0 + count s q
-  unfolding count
-  count-add s k q = ap (count_in R q) (items-add s k) ∙ total-put R _ k (items s)
-
-  pub count-⊕ : (s t : FinBag R) (q : K) → count (s ⊕ t) q ≡ count s q + count t q
-  unfolding count
-  count-⊕ s t q = let e = ap (count_in R q) (items-⊕ s t) in let f = total-put_all R (λ x. cond (eq_by_cmp R q x) 1 0) (items t) (items s) in omega (arith, e, f)
-
-  pub count-of_list : (xs : List K) (q : K) → count (of_list {R = R} xs) q ≡ count_in R q xs
-  unfolding count
-  count-of_list xs q = let e = ap (count_in R q) (items-of_list_put xs) in let f = total-put_all R (λ x. cond (eq_by_cmp R q x) 1 0) xs [] in omega (arith, e, f)
-
-  pub sum_over-add : (f : K → ℕ) (s : FinBag R) (k : K) → sum_over f (add s k) ≡ f k + sum_over f s
-  unfolding sum_over
-  sum_over-add f s k = ap (total f) (items-add s k) ∙ total-put R f k (items s)
-
-  pub sum_over-⊕ : (f : K → ℕ) (s t : FinBag R) → sum_over f (s ⊕ t) ≡ sum_over f s + sum_over f t
-  unfolding sum_over
-  sum_over-⊕ f s t = let e = ap (total f) (items-⊕ s t) in let g = total-put_all R f (items t) (items s) in omega (arith, e, g)
-
-  pub sum_over-of_list : (f : K → ℕ) (xs : List K) → sum_over f (of_list {R = R} xs) ≡ total f xs
-  unfolding sum_over
-  sum_over-of_list f xs = let e = ap (total f) (items-of_list_put xs) in let g = total-put_all R f xs [] in omega (arith, e, g)
-
-  count_in-without_all : (q : K) (ks es : List K) → count_in R q (without_all R ks es) ≡ count_in R q es - count_in R q ks
-  count_in-without_all q [] es = omega arith
-  count_in-without_all q (k ∷ ks) es = let h = count_in-without_all q ks es in let g = count_in-without R o q k (without_all R ks es) in omega (arith, h, g)
-
-  pub count-⊖ : (s t : FinBag R) (q : K) → count (s ⊖ t) q ≡ count s q - count t q
-  unfolding count items ◌⊖◌
-  count-⊖ s t q = count_in-without_all q t.list s.list
-
-  pub count-remove_one : (s : FinBag R) (k q : K) → count (remove_one s k) q ≡ count s q - cond (eq_by_cmp R q k) 1 0
-  unfolding count items remove_one
-  count-remove_one s k q = count_in-without R o q k s.list
-
-  module _ (same : IsAntisymmetric R) where
-    pub same_bag : (s t : FinBag R) → ((q : K) → count s q ≡ count t q) → s ≡ t
-    unfolding count
-    same_bag s t is = same_items s t (same_lists R o same (items s) (items t) (items_rise s) (items_rise t) is)
-
-    pub of_list-items : (s : FinBag R) → of_list (items s) ≡ s
-    unfolding count
-    of_list-items s = same_bag _ _ (λ q. count-of_list (items s) q)
-
-    pub items-of_list : (xs : List K) → T (is_rising R xs) → items (of_list {R = R} xs) ≡ xs
-    unfolding count
-    items-of_list xs h = same_lists R o same _ _ (items_rise _) h (λ q. count-of_list xs q)
-
-    pub of_list-put : (k : K) (xs : List K) → of_list {R = R} (put R k xs) ≡ add (of_list xs) k
-    of_list-put k xs = same_bag _ _ (λ q. (let a = count-of_list (put R k xs) q in let b = total-put R (λ x. cond (eq_by_cmp R q x) 1 0) k xs in
-        let c = count-add (of_list xs) k q in let d = count-of_list xs q in omega (arith, a, b, c, d)))
-
-    pub of_list-append : (xs ys : List K) → of_list {R = R} (xs ++ ys) ≡ of_list xs ⊕ of_list ys
-    of_list-append xs ys = same_bag _ _ (λ q. (let a = count-of_list (xs ++ ys) q in let b = total-append (λ x. cond (eq_by_cmp R q x) 1 0) xs ys in
-        let c = count-⊕ (of_list xs) (of_list ys) q in let d = count-of_list xs q in let e = count-of_list ys q in omega (arith, a, b, c, d, e)))
-
-    pub of_list_less : (xs ys zs : List K) → ((q : K) → count_in R q zs ≡ count_in R q xs - count_in R q ys) → of_list {R = R} zs ≡ of_list xs ⊖ of_list ys
-    of_list_less xs ys zs h = same_bag _ _ (λ q. (let a = count-of_list xs q in let b = count-of_list ys q in let c = count-of_list zs q in
-        let d = count-⊖ (of_list xs) (of_list ys) q in let e = h q in omega (arith, a, b, c, d, e)))
-
-  pub within_lists : (xs ys : List K) → ((q : K) → count_in R q xs ≤ count_in R q ys) → IsWithin (of_list {R = R} xs) (of_list ys)
-  within_lists xs ys h q = let a = count-of_list xs q in let b = count-of_list ys q in let c = h q in omega (arith, a, b, c)
-
-  pub lists_within : (xs ys : List K) → IsWithin (of_list {R = R} xs) (of_list ys) → (q : K) → count_in R q xs ≤ count_in R q ys
-  lists_within xs ys h q = let a = count-of_list xs q in let b = count-of_list ys q in let c = h q in omega (arith, a, b, c)

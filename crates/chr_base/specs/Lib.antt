@@ -1,6 +1,4 @@
 pub mod FinBag
-pub mod Subsequences
-pub mod Places
 pub mod Rewriting
 pub mod Atoms
 pub mod Stores
@@ -8,9 +6,9 @@ pub mod Values
 pub mod Names
 pub mod RuleTests
 pub mod Rules
-pub mod StepLaws
-pub mod Instances
 pub mod ProgramTests
 pub mod Programs
 pub mod Sameness
 pub mod Texts
+pub mod Laws
+pub mod working

@@ -2,6 +2,7 @@
 use Rattle.std.specs.Prelude.{ℕ, List, [], ◌∷◌, length, Bool, true, false, not, ◌&&◌, ◌||◌, ◌==◌, nat_le, Option, Some, None, codes}
 use Rattle.std.specs.List.{list_all}
 use Rattle.std.specs.Str.{bytes_eq}
+use Rattle.chr_base.specs.declared.limits.TheConstants.{MAX_NAME}
 
 abbrev pub is_lower : ℕ → Bool
 is_lower b = nat_le 97 b && nat_le b 122
@@ -26,7 +27,7 @@ is_reserved w = bytes_eq w (codes "true") || (bytes_eq w (codes "fail") || bytes
 abbrev pub is_name : List ℕ → Bool
 is_name w = is_word w && not (is_reserved w)
 
--- a name of at most 32 bytes, where there is one
+-- a name of at most MAX_NAME bytes, where there is one
 abbrev pub is_label : Option (List ℕ) → Bool
 is_label None = true
-is_label (Some w) = is_name w && nat_le (length w) 32
+is_label (Some w) = is_name w && nat_le (length w) MAX_NAME

@@ -1,20 +1,22 @@
 -- What every program keeps, as tests over its declarations and rules.
---     Declaration        a declared symbol: its name as bytes, its number of arguments and its weight
---     is_declared ds p        the pattern's symbol is declared with as many arguments
---     fits ds r        each pattern of the rule is declared
---     is_program ds rs        all that a program keeps
 use Rattle.std.specs.Prelude.{ℕ, zero, suc, Bool, true, false, not, ◌&&◌, nat_eq, nat_le, List, [], ◌∷◌, length, Option, Some, None, slice_get}
 use Rattle.std.specs.List.{list_all, list_any}
 use Rattle.std.specs.Str.{bytes_eq}
+use Rattle.chr_base.specs.declared.limits.TheConstants.{MAX_ARITY, MAX_NAME, MAX_RULES, MAX_SYMBOLS, MAX_WEIGHT}
 use Rattle.chr_base.specs.declared.term.Pattern.{Pattern}
 use Rattle.chr_base.specs.declared.rule.Rule.{Rule}
 use Rattle.chr_base.specs.declared.program.Symbol.{Symbol}
 use Rattle.chr_base.specs.Names.{is_name}
 
+-- a declared symbol: its name as bytes, its number of arguments and its weight
 pub record Declaration : Type 0 where
   pub name : List ℕ
   pub arity : ℕ
   pub weight : ℕ
+
+-- a declaration of weight 1
+abbrev pub new_declaration : List ℕ → ℕ → Declaration
+new_declaration name arity = record { name = name; arity = arity; weight = 1 }
 
 -- an entry of the symbol table as a declaration
 abbrev pub declared : Symbol × ℕ → Declaration
@@ -39,11 +41,15 @@ abbrev pub takes : Option Declaration → ℕ → Bool
 takes None n = false
 takes (Some d) n = nat_eq d.arity n
 
+-- the pattern's symbol is declared with as many arguments
 abbrev pub is_declared : List Declaration → Pattern → Bool
 is_declared ds p = takes (slice_get ds p.symbol.0) (length p.args.items)
 
+-- each pattern of the rule is declared
 abbrev pub fits : List Declaration → Rule → Bool
-fits ds r = list_all (is_declared ds) r.kept.items && list_all (is_declared ds) r.removed.items && list_all (is_declared ds) r.body.items
+fits ds r =
+    list_all (is_declared ds) r.kept.items && list_all (is_declared ds) r.removed.items
+    && list_all (is_declared ds) r.body.items
 
 -- no two declarations are of one name and number of arguments
 abbrev pub are_distinct : List Declaration → Bool
@@ -52,8 +58,12 @@ are_distinct (d ∷ ds) = not (list_any (declares d.name d.arity) ds) && are_dis
 
 -- what a declaration's parts may be
 abbrev pub is_in_range : Declaration → Bool
-is_in_range d = is_name d.name && nat_le (length d.name) 32 && nat_le d.arity 4 && nat_le 1 d.weight && nat_le d.weight 1000000
+is_in_range d =
+    is_name d.name && nat_le (length d.name) MAX_NAME && nat_le d.arity MAX_ARITY && nat_le 1 d.weight
+    && nat_le d.weight MAX_WEIGHT
 
+-- all that a program keeps
 abbrev pub is_program : List Declaration → List Rule → Bool
 is_program ds rs =
-    nat_le (length ds) 64 && nat_le (length rs) 64 && list_all is_in_range ds && are_distinct ds && list_all (fits ds) rs
+    nat_le (length ds) MAX_SYMBOLS && nat_le (length rs) MAX_RULES && list_all is_in_range ds && are_distinct ds
+    && list_all (fits ds) rs

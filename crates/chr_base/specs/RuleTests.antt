@@ -1,11 +1,7 @@
 -- What every rule keeps, as tests over its parts.
---     occurs x ps        the variable x stands in one of the patterns
---     is_closed        each variable of guard and body stands in a head
---     is_numbered        the variables of the heads are 1, 2, .. by first occurrence
---     is_rule        these, and 1 to 4 heads of which one at least is removed
---     is_in_bounds        the name is one, there are at most 8 comparisons and 8 atoms in the body, and each constant is a value
-use Rattle.std.specs.Prelude.{ℕ, ◌+◌, Bool, true, false, ◌&&◌, cond, nat_eq, nat_le, nat_lt, List, [], ◌∷◌, ◌++◌, length, Option, Some, None, is_some}
+use Rattle.std.specs.Prelude.{ℕ, ◌+◌, Bool, true, false, ◌&&◌, if◌then◌else◌, nat_eq, nat_le, nat_lt, List, [], ◌∷◌, ◌++◌, length, Option, Some, None, is_some}
 use Rattle.std.specs.List.{list_all, list_any}
+use Rattle.chr_base.specs.declared.limits.TheConstants.{MAX_BODY, MAX_COMPARISONS, MAX_HEADS}
 use Rattle.chr_base.specs.declared.term.Term.{Term}
 use Rattle.chr_base.specs.declared.term.Term.TheVariants.{Variable, Constant}
 use Rattle.chr_base.specs.declared.term.Comparison.{Comparison}
@@ -13,6 +9,7 @@ use Rattle.chr_base.specs.declared.term.Pattern.{Pattern}
 use Rattle.chr_base.specs.Values.{is_value}
 use Rattle.chr_base.specs.Names.{is_label}
 
+-- the term is this variable
 abbrev pub is_variable : ℕ → Term → Bool
 is_variable x (Variable y) = nat_eq x y
 is_variable x (Constant c) = false
@@ -22,13 +19,15 @@ abbrev pub occurs : ℕ → List Pattern → Bool
 occurs x ps = list_any (λ p. list_any (is_variable x) p.args.items) ps
 
 -- a constant, or a variable of the heads
-abbrev pub is_known : List Pattern → Term → Bool
-is_known heads (Variable x) = occurs x heads
-is_known heads (Constant c) = true
+abbrev pub is_bound_in : List Pattern → Term → Bool
+is_bound_in heads (Variable x) = occurs x heads
+is_bound_in heads (Constant c) = true
 
+-- each variable of guard and body stands in a head
 abbrev pub is_closed : List Pattern → List Comparison → List Pattern → Bool
 is_closed heads guard body =
-    list_all (λ c. is_known heads c.left && is_known heads c.right) guard && list_all (λ p. list_all (is_known heads) p.args.items) body
+    list_all (λ c. is_bound_in heads c.left && is_bound_in heads c.right) guard
+    && list_all (λ p. list_all (is_bound_in heads) p.args.items) body
 
 -- all terms of these patterns, in their order
 abbrev pub terms_of : List Pattern → List Term
@@ -39,8 +38,10 @@ terms_of (p ∷ ps) = p.args.items ++ terms_of ps
 abbrev pub numbered : ℕ → List Term → Option ℕ
 numbered n [] = Some n
 numbered n (Constant c ∷ ts) = numbered n ts
-numbered n (Variable x ∷ ts) = cond (nat_eq x (n + 1)) (numbered (n + 1) ts) (cond (nat_lt 0 x && nat_le x n) (numbered n ts) None)
+numbered n (Variable x ∷ ts) =
+    if nat_eq x (n + 1) then numbered (n + 1) ts else (if nat_lt 0 x && nat_le x n then numbered n ts else None)
 
+-- the variables of the heads are 1, 2, .. by first occurrence
 abbrev pub is_numbered : List Pattern → Bool
 is_numbered heads = is_some (numbered 0 (terms_of heads))
 
@@ -49,15 +50,19 @@ abbrev pub is_valued : Term → Bool
 is_valued (Variable x) = true
 is_valued (Constant c) = is_value c
 
+-- each constant of these patterns is a value
 abbrev pub are_valued : List Pattern → Bool
 are_valued ps = list_all (λ p. list_all is_valued p.args.items) ps
 
--- The name is one, there are at most 8 comparisons and 8 atoms in the body, and each constant is a value. It computes only
--- where it is unfolded.
+-- The name is one, there are at most MAX_COMPARISONS comparisons and MAX_BODY atoms in the body, and each constant is a
+-- value. It computes only where it is unfolded.
 unfoldable pub is_in_bounds : Option (List ℕ) → List Pattern → List Comparison → List Pattern → Bool
 is_in_bounds name heads guard body =
-    is_label name && nat_le (length guard) 8 && nat_le (length body) 8 && (are_valued heads && list_all (λ c. is_valued c.left && is_valued c.right) guard && are_valued body)
+    is_label name && nat_le (length guard) MAX_COMPARISONS && nat_le (length body) MAX_BODY
+    && (are_valued heads && list_all (λ c. is_valued c.left && is_valued c.right) guard && are_valued body)
 
+-- at least one head is removed, there are at most MAX_HEADS heads, and all variables are those of the heads, numbered
 abbrev pub is_rule : List Pattern → List Pattern → List Comparison → List Pattern → Bool
 is_rule kept removed guard body =
-    nat_lt 0 (length removed) && nat_le (length kept + length removed) 4 && is_closed (kept ++ removed) guard body && is_numbered (kept ++ removed)
+    nat_lt 0 (length removed) && nat_le (length kept + length removed) MAX_HEADS
+    && is_closed (kept ++ removed) guard body && is_numbered (kept ++ removed)

@@ -1,5 +1,5 @@
 -- Instances of rules, and the steps of a program on stores.
-use Rattle.std.specs.Prelude.{◌≡◌, ℕ, ℤ, Bool, List, [], ◌++◌, map, Some, slice_get, IsTrue}
+use Rattle.std.specs.Prelude.{◌≡◌, ℕ, ℤ, Bool, List, [], ◌++◌, map, Some, slice_get, IsTrue, ◌<◌}
 use Rattle.std.specs.declared.cmp.Ordering.{Ordering}
 use Rattle.std.specs.Ordering.{int_cmp, is_lt, is_le, is_gt, is_ge, is_eq, is_ne}
 use Rattle.std.specs.List.{list_all}
@@ -12,7 +12,7 @@ use Rattle.chr_base.specs.declared.term.Comparison.{Comparison}
 use Rattle.chr_base.specs.declared.term.Pattern.{Pattern}
 use Rattle.chr_base.specs.declared.rule.Rule.{Rule}
 use Rattle.chr_base.specs.Stores.{Store, store_of}
-use Rattle.chr_base.specs.FinBag.{◌⊕◌, ◌⊖◌, IsWithin}
+use Rattle.chr_base.specs.FinBag.{◌⊕◌, ◌⊖◌, IsWithin, total}
 
 -- a value for each variable
 abbrev pub Valuation : Type 0
@@ -59,7 +59,8 @@ heads_at v r = atoms_at v (heads_of r)
 abbrev pub HasInstance : Rule → List Atom → Type 0
 HasInstance r heads = (v : Valuation) × (heads_at v r ≡ heads) × IsTrue (guard_holds v r.guard.items)
 
--- A step by this rule under this valuation: the heads are there and the guard holds. The removed heads leave, and the body comes in.
+-- A step by this rule under this valuation: the heads are there and the guard holds. The removed heads leave, and the
+-- body comes in.
 pub record StepBy (r : Rule) (v : Valuation) (s t : Store) : Type 0 where
   pub guard : IsTrue (guard_holds v r.guard.items)
   pub there : IsWithin (store_of (heads_at v r)) s
@@ -68,3 +69,7 @@ pub record StepBy (r : Rule) (v : Valuation) (s t : Store) : Type 0 where
 -- a step by some instance of some rule
 abbrev pub Step : List Rule → Store → Store → Type 0
 Step rules s t = (i : ℕ) × (r : Rule) × (v : Valuation) × (slice_get rules i ≡ Some r) × StepBy r v s t
+
+-- under every valuation the removed heads weigh more than the body
+abbrev pub RuleLowers : (Atom → ℕ) → Rule → Type 0
+RuleLowers w r = (v : Valuation) → total w (atoms_at v r.body.items) < total w (atoms_at v r.removed.items)

@@ -1,14 +1,13 @@
--- Stores: the words and laws of `FinBag` at atoms.
-use Rattle.std.specs.Prelude.{◌≡◌, ℕ, ◌+◌, ◌-◌, List, ◌++◌}
-use Rattle.std.proofs.Common.{ap, arith}
+-- Stores, which are finite multisets of atoms.
+use Rattle.std.specs.Prelude.{ℕ, List}
 use Rattle.chr_base.specs.declared.atom.Atom.{Atom}
-use Rattle.chr_base.specs.Atoms.{atom_cmp, atom_total, atom_exact}
+use Rattle.chr_base.specs.Atoms.{atom_cmp}
 use Rattle.chr_base.specs.FinBag as bag
-use Rattle.chr_base.specs.FinBag.{◌⊕◌, ◌⊖◌, total}
 
 abbrev pub Store : Type 0
 Store = bag.FinBag atom_cmp
 
+-- the store of these atoms
 abbrev pub store_of : List Atom → Store
 store_of xs = bag.of_list xs
 
@@ -16,67 +15,10 @@ store_of xs = bag.of_list xs
 abbrev pub size : Store → ℕ
 size s = bag.len s
 
+-- how often an atom stands in the store
 abbrev pub count : Store → Atom → ℕ
 count s q = bag.count s q
 
-pub count_plus : (s t : Store) (q : Atom) → count (s ⊕ t) q ≡ count s q + count t q
-count_plus s t q = bag.count-⊕ atom_total s t q
-
-pub count_minus : (s t : Store) (q : Atom) → count (s ⊖ t) q ≡ count s q - count t q
-count_minus s t q = bag.count-⊖ atom_total s t q
-
-pub count_empty : (q : Atom) → count bag.empty q ≡ 0
-count_empty q = bag.count-empty atom_cmp q
-
--- stores with the same counts are one
-pub same_store : (s t : Store) → ((q : Atom) → count s q ≡ count t q) → s ≡ t
-same_store s t h = bag.same_bag atom_total atom_exact s t h
-
-pub store_of-append : (xs ys : List Atom) → store_of (xs ++ ys) ≡ store_of xs ⊕ store_of ys
-store_of-append xs ys = bag.of_list-append atom_total atom_exact xs ys
-
-pub store_of-items : (s : Store) → store_of (bag.items s) ≡ s
-store_of-items s = bag.of_list-items atom_total atom_exact s
-
-pub plus_comm : (s t : Store) → s ⊕ t ≡ t ⊕ s
-plus_comm s t = same_store _ _ (λ q. simp count_plus (omega arith))
-
-pub plus_assoc : (s t u : Store) → (s ⊕ t) ⊕ u ≡ s ⊕ (t ⊕ u)
-plus_assoc s t u = same_store _ _ (λ q. simp count_plus (omega arith))
-
-pub plus_empty : (s : Store) → s ⊕ bag.empty ≡ s
-plus_empty s = same_store _ _ (λ q. simp (count_plus, count_empty) (omega arith))
-
--- what is within a store and the rest make it up
-pub split : (s t : Store) → bag.IsWithin t s → (s ⊖ t) ⊕ t ≡ s
-split s t h = same_store _ _ (λ q. (let w = h q in simp (count_plus, count_minus) (omega (arith, w))))
-
-pub plus_minus : (s t : Store) → (s ⊕ t) ⊖ t ≡ s
-plus_minus s t = same_store _ _ (λ q. simp (count_plus, count_minus) (omega arith))
-
-pub within_plus : (s t : Store) → bag.IsWithin s (s ⊕ t)
-within_plus s t q = simp count_plus (omega arith)
-
-pub within_more : (r s t : Store) → bag.IsWithin r s → bag.IsWithin r (s ⊕ t)
-within_more r s t h q = let w = h q in simp count_plus (omega (arith, w))
-
--- a part may leave and another come in before or after more is there
-pub exchange_plus : (s r b t : Store) → bag.IsWithin r s → ((s ⊕ t) ⊖ r) ⊕ b ≡ ((s ⊖ r) ⊕ b) ⊕ t
-exchange_plus s r b t h = same_store _ _ (λ q. (let w = h q in simp (count_plus, count_minus) (omega (arith, w))))
-
--- the weight of a store
+-- the weights of the atoms summed
 abbrev pub weight_of : (Atom → ℕ) → Store → ℕ
 weight_of w s = bag.sum_over w s
-
-pub weight_plus : (w : Atom → ℕ) (s t : Store) → weight_of w (s ⊕ t) ≡ weight_of w s + weight_of w t
-weight_plus w s t = bag.sum_over-⊕ atom_total w s t
-
-pub weight_exchange : (w : Atom → ℕ) (s r b : Store) → bag.IsWithin r s → weight_of w ((s ⊖ r) ⊕ b) + weight_of w r ≡ weight_of w s + weight_of w b
-weight_exchange w s r b h =
-    let a = weight_plus w (s ⊖ r) b in
-    let e = weight_plus w (s ⊖ r) r in
-    let f = ap (weight_of w) (split s r h) in
-    omega (arith, a, e, f)
-
-pub weight_store_of : (w : Atom → ℕ) (xs : List Atom) → weight_of w (store_of xs) ≡ total w xs
-weight_store_of w xs = bag.sum_over-of_list atom_total w xs

@@ -3,13 +3,14 @@ ghost use Rattle.std.specs.Prelude.{◌≡◌};
 
 use crate::atom::Atom;
 use crate::bag::Bag;
+use crate::limits::MAX_HEADS;
 use arrayvec::ArrayVec;
 
 /// One step: a rule, numbered from 1, and the head atoms of its instance in place order.
 #[derive(Debug, PartialEq, Eq, Drop)]
 pub struct Step {
     pub rule: u32,
-    pub heads: ArrayVec<Atom, 4>,
+    pub heads: ArrayVec<Atom, MAX_HEADS>,
 }
 
 /// A first store, and the steps that are taken from there.

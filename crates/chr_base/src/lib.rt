@@ -4,11 +4,15 @@
 pub mod atom;
 pub mod bag;
 pub mod derivation;
+pub mod laws;
+pub mod limits;
+pub mod lists;
 mod matching;
 pub mod program;
 pub mod rule;
 pub mod term;
 pub mod text;
+mod values;
 
 /// A value: a signed 64-bit whole number.
 pub type Value = i64;

@@ -1,6 +1,6 @@
 //! Patterns matched with atoms, place by place.
 ghost use Rattle.std.specs.Prelude.{◌≡◌, ◌<◌, ◌≤◌, length};
-ghost use Rattle.chr_base.specs.Instances.{first_value, value_among};
+ghost use Rattle.chr_base.specs.working.Instances.{first_value, value_among};
 
 use crate::atom::Atom;
 use crate::term::{Pattern, Term};

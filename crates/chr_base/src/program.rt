@@ -1,8 +1,9 @@
 //! Programs: declared symbols with their weights, and rules.
 ghost use Rattle.std.specs.Prelude.{◌≡◌, ◌≤◌, ◌++◌, [], ◌∷◌, IsTrue, None, OnOk, OnErr, position, length};
-ghost use Rattle.chr_base.specs.ProgramTests.{declarations_in, declares, is_program, with_weight};
+ghost use Rattle.chr_base.specs.ProgramTests.{declarations_in, declares, is_program, new_declaration, with_weight};
 
 use crate::atom::{Atom, SymbolId};
+use crate::limits::{MAX_ARITY, MAX_NAME, MAX_RULES, MAX_SYMBOLS, MAX_WEIGHT};
 use crate::rule::Rule;
 use arrayvec::{ArrayString, ArrayVec};
 use indexmap::IndexMap;
@@ -11,21 +12,18 @@ use std::alloc::{AllocError, AllocFailed, Global};
 /// A name with a number of arguments.
 #[derive(Clone, Debug, PartialEq, Eq, Hash, Drop)]
 struct Symbol {
-    name: ArrayString<32>,
+    name: ArrayString<MAX_NAME>,
     arity: u8,
 }
-
-/// The greatest number of declared symbols, and of rules.
-pub const MOST: usize = 64;
 
 /// The weight of a symbol for which none is declared.
 pub const DEFAULT_WEIGHT: u32 = 1;
 
 /// A program: its declared symbols in order, each with its weight, and its rules in order.
 ///
-/// It has at most 64 symbols, no two of one name and arity, each of at most 4 arguments and with a weight from 1 to
-/// 1,000,000, whose names are a lower-case letter, then letters, digits and underscores, and no reserved word; and at most
-/// 64 rules, each atom of which is declared with as many arguments.
+/// It has at most `MAX_SYMBOLS` symbols, no two of one name and arity, each of at most `MAX_ARITY` arguments and with a weight from 1 to
+/// `MAX_WEIGHT`, whose names are a lower-case letter, then letters, digits and underscores, and no reserved word; and at most
+/// `MAX_RULES` rules, each atom of which is declared with as many arguments.
 #[derive(Drop)]
 pub struct Program {
     symbols: IndexMap<Symbol, u32>,
@@ -38,8 +36,8 @@ impl Symbol {
 
     /// The symbol of a name and a number of arguments that can be declared.
     fn of(name: &str, arity: usize) -> Symbol
-        requires name { length name.now ≤ 32 }
-        requires arity { arity ≤ 4 }
+        requires name { length name.now ≤ MAX_NAME }
+        requires arity { arity ≤ MAX_ARITY }
         ensures name { result.name.bytes ≡ name.now }
         ensures arity { result.arity ≡ arity }
     {
@@ -55,7 +53,7 @@ impl Symbol {
     fn new(name: &str, arity: usize) -> Option<Symbol>
         ensures name { IfSome result (λ s. s.name.bytes ≡ name.now) }
         ensures arity { IfSome result (λ s. s.arity ≡ arity) }
-        ensures none { IfNone result ((32 < length name.now) ⊎ (4 < arity)) }
+        ensures none { IfNone result ((MAX_NAME < length name.now) ⊎ (MAX_ARITY < arity)) }
     {
         let arity = u8::try_from(arity).ok()?;
         let name = ArrayString::from(name).ok()?;
@@ -64,8 +62,8 @@ impl Symbol {
 }
 
 /// The values in an array.
-fn array_of(values: &[i64]) -> ArrayVec<i64, 4>
-    requires { length values.now ≤ 4 }
+fn array_of(values: &[i64]) -> ArrayVec<i64, MAX_ARITY>
+    requires { length values.now ≤ MAX_ARITY }
     ensures { result.items ≡ values.now }
 {
     let mut array = ArrayVec::new();
@@ -78,7 +76,8 @@ fn array_of(values: &[i64]) -> ArrayVec<i64, 4>
 /// Puts a new symbol last, with the default weight.
 fn add_symbol(symbols: &mut IndexMap<Symbol, u32>, symbol: Symbol) -> Result<(), AllocError>
     requires new { position (declares symbol.name.bytes symbol.arity) (declarations_in symbols.old.entries) ≡ None }
-    ensures ok { OnOk result (declarations_in symbols.new.entries ≡ declarations_in symbols.old.entries ++ record { name = symbol.name.bytes; arity = symbol.arity; weight = 1 } ∷ []) }
+    ensures ok { OnOk result (declarations_in symbols.new.entries
+        ≡ declarations_in symbols.old.entries ++ new_declaration symbol.name.bytes symbol.arity ∷ []) }
     ensures err { OnErr result (declarations_in symbols.new.entries ≡ declarations_in symbols.old.entries) }
 {
     symbols.insert(symbol, DEFAULT_WEIGHT)?;
@@ -98,8 +97,8 @@ fn put_weight(symbols: &mut IndexMap<Symbol, u32>, place: usize, weight: u32)
 
 impl Program {
     ghost use Rattle.std.specs.Prelude.{◌≡◌, ◌<◌, ◌≤◌, ◌++◌, ◌↔◌, [], ◌∷◌, IsTrue, Some, None, OnOk, OnErr, IfOk, IfSome, option_map, position, length, slice_get};
-    ghost use Rattle.chr_base.specs.ProgramTests.{Declaration, declared, declares, fits, with_weight};
-    ghost use Rattle.chr_base.specs.Programs.{declarations, rules_of, declares_atom, atom_in};
+    ghost use Rattle.chr_base.specs.ProgramTests.{Declaration, declared, declares, fits, new_declaration, with_weight};
+    ghost use Rattle.chr_base.specs.Programs.{declarations, rules_of, declares_atom, declared_atom};
     ghost use Rattle.chr_base.specs.Names.{is_name};
     ghost use Rattle.chr_base.specs.Sameness.{AreSame};
     ghost use Rattle.chr_base.specs.Texts.{name_of};
@@ -126,7 +125,7 @@ impl Program {
 
     /// The atom with this name and these arguments, where the program declares it.
     pub fn atom(&self, name: &str, args: &[i64]) -> Option<Atom>
-        ensures { result ≡ atom_in (declarations self.now) name.now args.now }
+        ensures { result ≡ declared_atom (declarations self.now) name.now args.now }
     {
         let symbol = self.symbol(name, args.len())?;
         Some(Atom {
@@ -137,12 +136,13 @@ impl Program {
 
     /// Declares one more symbol, of weight 1.
     pub fn declare(&mut self, name: &str, arity: usize) -> Result<(), AllocError>
-        requires room { length (declarations self.old) < 64 }
-        requires name { length name.now ≤ 32 }
+        requires room { length (declarations self.old) < MAX_SYMBOLS }
+        requires name { length name.now ≤ MAX_NAME }
         requires word { IsTrue (is_name name.now) }
-        requires arity { arity ≤ 4 }
+        requires arity { arity ≤ MAX_ARITY }
         requires new { position (declares name.now arity) (declarations self.old) ≡ None }
-        ensures ok { OnOk result (declarations self.new ≡ declarations self.old ++ record { name = name.now; arity = arity; weight = 1 } ∷ []) }
+        ensures ok { OnOk result (declarations self.new
+            ≡ declarations self.old ++ new_declaration name.now arity ∷ []) }
         ensures err { OnErr result (declarations self.new ≡ declarations self.old) }
         ensures rules { rules_of self.new ≡ rules_of self.old }
     {
@@ -154,7 +154,7 @@ impl Program {
     pub fn set_weight(&mut self, symbol: SymbolId, weight: u32)
         requires symbol { symbol.0 < length (declarations self.old) }
         requires least { 1 ≤ weight }
-        requires most { weight ≤ 1000000 }
+        requires most { weight ≤ MAX_WEIGHT }
         ensures symbols { declarations self.new ≡ with_weight (declarations self.old) symbol.0 weight }
         ensures rules { rules_of self.new ≡ rules_of self.old }
     {
@@ -163,7 +163,7 @@ impl Program {
 
     /// Adds a rule at the end.
     pub fn push_rule(&mut self, rule: Rule) -> Result<(), AllocError>
-        requires room { length (rules_of self.old) < 64 }
+        requires room { length (rules_of self.old) < MAX_RULES }
         requires declared { IsTrue (fits (declarations self.old) rule) }
         ensures ok { OnOk result (rules_of self.new ≡ rules_of self.old ++ rule ∷ []) }
         ensures err { OnErr result (rules_of self.new ≡ rules_of self.old) }
@@ -213,7 +213,7 @@ impl Program {
         usize::from(self.entry(symbol).0.arity)
     }
 
-    /// The weight of a symbol, from 1 to 1,000,000.
+    /// The weight of a symbol, from 1 to `MAX_WEIGHT`.
     pub fn weight_of(&self, symbol: SymbolId) -> u32
         requires { symbol.0 < length (declarations self.now) }
         ensures { Some result ≡ option_map (λ d. d.weight) (slice_get (declarations self.now) symbol.0) }
@@ -245,6 +245,20 @@ impl Program {
             None => false,
         }
     }
+
+    /// An equal program.
+    pub fn copy(&self, alloc: Global) -> Result<Program, AllocError>
+        ensures symbols { IfOk result (λ p. declarations p ≡ declarations self.now) }
+        ensures rules { IfOk result (λ p. rules_of p ≡ rules_of self.now) }
+    {
+        let symbols = self.symbols.clone()?;
+        let mut rules = Vec::with_capacity(alloc, self.rules.len())?;
+        for rule in self.rules.as_slice() {
+            rules.push(rule.copy())?;
+        }
+        Ok(Program { symbols, rules })
+    }
+
     /// Whether the two programs have the same symbols with the same weights, and the same rules, each in the same order.
     pub fn is_same(&self, other: &Program) -> bool
         ensures { IsTrue result ↔ AreSame self.now other.now }

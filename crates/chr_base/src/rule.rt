@@ -1,8 +1,9 @@
 //! Rules.
-ghost use Rattle.std.specs.Prelude.{◌++◌, IsTrue, option_map};
+ghost use Rattle.std.specs.Prelude.{◌≡◌, ◌++◌, IsTrue, option_map};
 ghost use Rattle.chr_base.specs.RuleTests.{is_in_bounds, is_rule};
 
 use crate::atom::Atom;
+use crate::limits::{MAX_BODY, MAX_COMPARISONS, MAX_HEADS, MAX_NAME};
 use crate::matching::value_among;
 use crate::term::{Cmp, Comparison, Pattern, Term};
 use arrayvec::{ArrayString, ArrayVec};
@@ -10,31 +11,43 @@ use arrayvec::{ArrayString, ArrayVec};
 /// A rule. Where `kept` is empty it is a simplification `removed <=> guard | body`, else a simpagation
 /// `kept \ removed <=> guard | body` (Frühwirth 2009).
 ///
-/// It has 1 to 4 heads, at least one of them removed; its variables are numbered from 1 by first occurrence in the
+/// It has 1 to `MAX_HEADS` heads, at least one of them removed; its variables are numbered from 1 by first occurrence in the
 /// heads, kept ones first; each variable of guard and body stands in a head. Its constants are values, and its name is a
 /// name of the grammar: a lower-case letter, then letters, digits and underscores, and no reserved word.
 #[derive(Debug, PartialEq, Eq, Drop)]
 pub struct Rule {
-    pub name: Option<ArrayString<32>>,
-    pub kept: ArrayVec<Pattern, 4>,
-    pub removed: ArrayVec<Pattern, 4>,
-    pub guard: ArrayVec<Comparison, 8>,
-    pub body: ArrayVec<Pattern, 8>,
+    pub name: Option<ArrayString<MAX_NAME>>,
+    pub kept: ArrayVec<Pattern, MAX_HEADS>,
+    pub removed: ArrayVec<Pattern, MAX_HEADS>,
+    pub guard: ArrayVec<Comparison, MAX_COMPARISONS>,
+    pub body: ArrayVec<Pattern, MAX_BODY>,
     pub ghost well_formed: { IsTrue (is_rule kept.items removed.items guard.items body.items) },
-    pub ghost bounded: { IsTrue (is_in_bounds (option_map (λ n. n.bytes) name) (kept.items ++ removed.items) guard.items body.items) },
+    pub ghost bounded: { IsTrue (is_in_bounds
+        (option_map (λ n. n.bytes) name) (kept.items ++ removed.items) guard.items body.items) },
+}
+
+/// Copies of these patterns.
+fn copies_of<const CAP: usize>(patterns: &ArrayVec<Pattern, CAP>) -> ArrayVec<Pattern, CAP>
+    ensures { result.items ≡ patterns.now.items }
+{
+    let mut copies = ArrayVec::new();
+    for pattern in patterns.as_slice() {
+        copies.push(pattern.copy());
+    }
+    copies
 }
 
 impl Rule {
     ghost use Rattle.std.specs.Prelude.{◌≡◌, ◌<◌, ◌≤◌, ◌+◌, ◌↔◌, IsTrue, length, get_or, List, [], ◌∷◌, ◌++◌};
     ghost use Rattle.chr_base.specs.Rules.{heads_of, no_pattern, heads_at, atoms_at, atom_at, term_value, comparison_holds, guard_holds, HasInstance, Valuation};
-    ghost use Rattle.chr_base.specs.Instances.{value_among, valuation, agree};
+    ghost use Rattle.chr_base.specs.working.Instances.{value_among, valuation, agree};
     ghost use Rattle.chr_base.specs.Sameness.{parts_of};
 
-    /// The number of head places, from 1 to 4. Kept heads come before removed ones.
+    /// The number of head places, from 1 to `MAX_HEADS`. Kept heads come before removed ones.
     pub fn places(&self) -> usize
         ensures places { result ≡ length (heads_of self.now) }
         ensures some { 0 < result }
-        ensures most { result ≤ 4 }
+        ensures most { result ≤ MAX_HEADS }
     {
         self.kept.len() + self.removed.len()
     }
@@ -155,7 +168,7 @@ impl Rule {
     }
 
     /// The body of the instance with these heads. Each valuation that makes these heads makes this body.
-    pub fn body_of(&self, heads: &[Atom]) -> ArrayVec<Atom, 8>
+    pub fn body_of(&self, heads: &[Atom]) -> ArrayVec<Atom, MAX_BODY>
         requires { HasInstance self.now heads.now }
         ensures { (v : Valuation) → heads_at v self.now ≡ heads.now → result.items ≡ atoms_at v self.now.body.items }
     {
@@ -164,6 +177,23 @@ impl Rule {
             body.push(self.instance_of(heads, pattern));
         }
         body
+    }
+
+    /// An equal rule. It takes no memory.
+    pub fn copy(&self) -> Rule
+        ensures { result ≡ self.now }
+    {
+        let mut guard = ArrayVec::new();
+        for comparison in self.guard.as_slice() {
+            guard.push(*comparison);
+        }
+        Rule {
+            name: self.name,
+            kept: copies_of(&self.kept),
+            removed: copies_of(&self.removed),
+            guard,
+            body: copies_of(&self.body),
+        }
     }
 
     /// Whether the two have the same name, heads, guard and body.

@@ -4,6 +4,7 @@ ghost use Rattle.chr_base.specs.declared.term.Term.TheVariants.{Constant};
 ghost use Rattle.chr_base.specs.declared.term.Cmp.TheVariants.{Equal};
 
 use crate::atom::SymbolId;
+use crate::limits::MAX_ARITY;
 use arrayvec::ArrayVec;
 
 /// An argument in a rule: a variable, numbered from 1 by first occurrence in the rule's heads, or a constant.
@@ -56,5 +57,21 @@ impl Default for Comparison {
 #[derive(Clone, Debug, Default, PartialEq, Eq, Drop)]
 pub struct Pattern {
     pub symbol: SymbolId,
-    pub args: ArrayVec<Term, 4>,
+    pub args: ArrayVec<Term, MAX_ARITY>,
+}
+
+impl Pattern {
+    /// An equal pattern. It takes no memory.
+    pub fn copy(&self) -> Pattern
+        ensures { result ≡ self.now }
+    {
+        let mut args = ArrayVec::new();
+        for term in self.args.as_slice() {
+            args.push(*term);
+        }
+        Pattern {
+            symbol: self.symbol,
+            args,
+        }
+    }
 }

@@ -4,6 +4,7 @@ ghost use Rattle.chr_base.specs.ProgramTests.{fits};
 use crate::atom::{Atom, SymbolId};
 use crate::bag::Bag;
 use crate::derivation::Step;
+use crate::limits::{MAX_ARITY, MAX_SYMBOLS, MAX_WEIGHT};
 use crate::program::Program;
 use crate::rule::Rule;
 use crate::term::{Cmp, Comparison, Pattern, Term};
@@ -27,14 +28,14 @@ fn atom(symbol: u16, values: &[i64]) -> Atom {
 /// Symbols `min/1`, `a/0` and `a/2`, in this order, without rules.
 fn three_symbols(rt: &impl Abort, alloc: Global) -> Result<Program, AllocError> {
     let mut program = Program::empty(alloc);
-    if program.symbol("min", 1).is_none() && program.symbols() < 64 {
+    if program.symbol("min", 1).is_none() && program.symbols() < MAX_SYMBOLS {
         program.declare("min", 1)?;
     }
     assert_eq!(rt; program.symbols(), 1);
-    if program.symbol("a", 0).is_none() && program.symbols() < 64 {
+    if program.symbol("a", 0).is_none() && program.symbols() < MAX_SYMBOLS {
         program.declare("a", 0)?;
     }
-    if program.symbol("a", 2).is_none() && program.symbols() < 64 {
+    if program.symbol("a", 2).is_none() && program.symbols() < MAX_SYMBOLS {
         program.declare("a", 2)?;
     }
     Ok(program)
@@ -53,9 +54,9 @@ fn declarations(rt: HostRuntime) -> Result<(), Fail> {
     assert_eq!(rt; program.name_of(SymbolId(0)), "min");
     assert_eq!(rt; program.arity_of(SymbolId(2)), 2);
     assert_eq!(rt; program.weight_of(SymbolId(1)), 1);
-    program.set_weight(SymbolId(1), 1_000_000);
+    program.set_weight(SymbolId(1), MAX_WEIGHT);
     assert_eq!(rt; program.symbols(), 3);
-    assert_eq!(rt; program.weight_of(SymbolId(1)), 1_000_000);
+    assert_eq!(rt; program.weight_of(SymbolId(1)), MAX_WEIGHT);
     assert_eq!(rt; program.weight_of(SymbolId(2)), 1);
     assert!(rt; program.declares(&atom(2, &[4, 5])));
     assert!(rt; !program.declares(&atom(2, &[4])));
@@ -110,7 +111,7 @@ fn texts(rt: HostRuntime) -> Result<(), Fail> {
 }
 
 fn pattern(symbol: u16, terms: &[Term]) -> Pattern
-    requires { length terms.now ≤ 4 }
+    requires { length terms.now ≤ MAX_ARITY }
     ensures symbol { result.symbol.0 ≡ symbol }
     ensures args { result.args.items ≡ terms.now }
 {
@@ -194,7 +195,7 @@ fn instances(rt: HostRuntime) {
 /// `p/3` with this weight, `q/1` and `r/2`, with the one rule `two_heads(cmp)`.
 fn one_rule(alloc: Global, cmp: Cmp, weight: u32) -> Result<Program, AllocError>
     requires least { 1 ≤ weight }
-    requires most { weight ≤ 1000000 }
+    requires most { weight ≤ MAX_WEIGHT }
 {
     let mut program = Program::empty(alloc);
     program.declare("p", 3)?;
@@ -218,6 +219,8 @@ fn programs(rt: HostRuntime) -> Result<(), Fail> {
     assert!(rt; !program.is_same(&one_rule(alloc, Cmp::Less, 6)?));
     assert!(rt; two_heads(Cmp::Less).is_same(&two_heads(Cmp::Less)));
     assert!(rt; !two_heads(Cmp::Less).is_same(&two_heads(Cmp::Equal)));
+    assert!(rt; two_heads(Cmp::Less).copy().is_same(&two_heads(Cmp::Less)));
+    assert!(rt; program.copy(alloc)?.is_same(&program));
     Ok(())
 }
 
@@ -230,4 +233,20 @@ fn steps(rt: HostRuntime) {
     let copy = step.copy();
     assert_eq!(rt; copy.rule, 7);
     assert!(rt; copy.heads.as_slice() == [atom(0, &[2, 2, 3]), atom(1, &[9])].as_slice());
+}
+
+/// Atoms that no program declares: of one symbol, with different numbers of arguments.
+#[test]
+fn fewer_arguments_first(rt: HostRuntime) -> Result<(), Fail> {
+    let alloc = rt.alloc();
+    let mut bag = Bag::new(alloc);
+    bag.add(atom(0, &[1, 2]))?;
+    bag.add(atom(0, &[3]))?;
+    bag.add(atom(1, &[]))?;
+    let sorted = [atom(0, &[3]), atom(0, &[1, 2]), atom(1, &[])];
+    assert!(rt; bag.atoms() == sorted.as_slice());
+    let unsorted = vec![in alloc; atom(1, &[]), atom(0, &[1, 2]), atom(0, &[3])]?;
+    assert!(rt; Bag::of(unsorted)?.atoms() == sorted.as_slice());
+    bag.has_values();
+    Ok(())
 }

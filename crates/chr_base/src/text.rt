@@ -4,14 +4,15 @@ ghost use Rattle.chr_base.specs.Programs.{declarations};
 ghost use Rattle.chr_base.specs.Texts.{name_of, print_cmp, in_print_order, more_values, values_text, atom_text, more_atoms, atoms_text, store_text};
 
 use crate::atom::Atom;
-use crate::bag::{Bag, push_copies};
+use crate::bag::Bag;
+use crate::lists::push_copies;
 use crate::program::Program;
 use std::alloc::{AllocError, Global};
 use std::cmp::Ordering;
 use std::fmt::Write;
 
-/// The order in which atoms are printed: by the bytes of the name, then by the number of arguments, then by the arguments as
-/// numbers, the first first.
+/// The order in which atoms are printed: by the bytes of the name, then by the number of arguments, then by the
+/// arguments as numbers, the first first.
 fn print_order(program: &Program, left: &Atom, right: &Atom) -> Ordering
     ensures { result ≡ print_cmp (declarations program.now) left.now right.now }
 {
@@ -44,7 +45,8 @@ fn push_more_values(out: &mut String, values: &[i64]) -> Result<(), AllocError>
 }
 
 fn push_atom(out: &mut String, program: &Program, atom: &Atom) -> Result<(), AllocError>
-    ensures { OnOk result (string_bytes out.new ≡ string_bytes out.old ++ atom_text (declarations program.now) atom.now) }
+    ensures { OnOk result (string_bytes out.new
+        ≡ string_bytes out.old ++ atom_text (declarations program.now) atom.now) }
 {
     out.push_str(program.name_or_none(atom))?;
     if let Some((first, rest)) = atom.args.as_slice().split_first() {
@@ -56,7 +58,8 @@ fn push_atom(out: &mut String, program: &Program, atom: &Atom) -> Result<(), All
 }
 
 fn push_more_atoms(out: &mut String, program: &Program, atoms: &[Atom]) -> Result<(), AllocError>
-    ensures { OnOk result (string_bytes out.new ≡ string_bytes out.old ++ more_atoms (declarations program.now) atoms.now) }
+    ensures { OnOk result (string_bytes out.new
+        ≡ string_bytes out.old ++ more_atoms (declarations program.now) atoms.now) }
 {
     for atom in atoms {
         out.push_str(", ")?;

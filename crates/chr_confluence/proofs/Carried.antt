@@ -1,4 +1,5 @@
 -- A case at one choice of values, carried to another of the same order.
+use Rattle.std.proofs.lemmas.Bool.{and_parts}
 use Rattle.std.specs.Prelude.{◌≡◌, ℕ, zero, suc, ℤ, Bool, true, false, ◌&&◌, cond, List, [], ◌∷◌, ◌++◌, Some, slice_get, map}
 use Rattle.std.specs.List.{list_all}
 use Rattle.std.proofs.Common.{refl, sym, ap, ◌∙◌}
@@ -7,30 +8,30 @@ use Rattle.chr_base.specs.declared.atom.Atom.{Atom}
 use Rattle.chr_base.specs.declared.term.Pattern.{Pattern}
 use Rattle.chr_base.specs.declared.rule.Rule.{Rule}
 use Rattle.chr_base.specs.Stores.{Store, store_of}
-use Rattle.chr_base.specs.RuleTests.{is_known}
+use Rattle.chr_base.specs.RuleTests.{is_bound_in}
 use Rattle.chr_base.specs.Rules.{Step, Valuation, atoms_at, heads_of}
-use Rattle.chr_base.specs.Instances.{SameOn, same_atoms, first_true, second_true, known_itself, body_known}
-use Rattle.chr_base.specs.StepLaws.{map-append}
+use Rattle.chr_base.proofs.Instances.{SameOn, same_atoms, known_itself, body_known}
+use Rattle.std.proofs.lemmas.List.{map-append}
 use Rattle.chr_base.specs.FinBag.{◌⊕◌, ◌⊖◌, IsWithin}
-use Rattle.chr_base.specs.Rewriting.{Runs, Reaches, Join}
-use Rattle.chr_confluence.specs.Values.{Each, atom_in}
+use Rattle.chr_base.specs.Rewriting.{Runs, Reaches, AreJoinable}
+use Rattle.chr_base.specs.Values.{Each, args_in}
 use Rattle.chr_confluence.specs.Matchings.{names, left_over}
 use Rattle.chr_confluence.specs.Cases.{side, both_heads, case_store}
 use Rattle.chr_confluence.specs.Rising.{KeepsOrder, FixesRule, rename, rename_atom}
 use Rattle.chr_confluence.proofs.Rising.{rename_list, rename_plus, rename_minus, rising, values_kept, atoms_move, fixes_kept, fixes_removed, fixes_body}
 
 abbrev AreKnown : Rule → List Pattern → Type 0
-AreKnown r ps = list_all (λ p. list_all (is_known (heads_of r)) p.args.items) ps ≡ true
+AreKnown r ps = list_all (λ p. list_all (is_bound_in (heads_of r)) p.args.items) ps ≡ true
 
 -- the variables of kept and of removed heads are variables of the heads
-both_known : (r : Rule) → (list_all (λ p. list_all (is_known (heads_of r)) p.args.items) r.kept.items && list_all (λ p. list_all (is_known (heads_of r)) p.args.items) r.removed.items) ≡ true
-both_known r = sym (list_all-append (λ p. list_all (is_known (heads_of r)) p.args.items) r.kept.items r.removed.items) ∙ known_itself (heads_of r)
+both_known : (r : Rule) → (list_all (λ p. list_all (is_bound_in (heads_of r)) p.args.items) r.kept.items && list_all (λ p. list_all (is_bound_in (heads_of r)) p.args.items) r.removed.items) ≡ true
+both_known r = sym (list_all-append (λ p. list_all (is_bound_in (heads_of r)) p.args.items) r.kept.items r.removed.items) ∙ known_itself (heads_of r)
 
 pub kept_known : (r : Rule) → AreKnown r r.kept.items
-kept_known r = first_true _ (list_all (λ p. list_all (is_known (heads_of r)) p.args.items) r.removed.items) (both_known r)
+kept_known r = (and_parts _ (list_all (λ p. list_all (is_bound_in (heads_of r)) p.args.items) r.removed.items) (both_known r)).0
 
 pub removed_known : (r : Rule) → AreKnown r r.removed.items
-removed_known r = second_true (list_all (λ p. list_all (is_known (heads_of r)) p.args.items) r.kept.items) _ (both_known r)
+removed_known r = (and_parts (list_all (λ p. list_all (is_bound_in (heads_of r)) p.args.items) r.kept.items) _ (both_known r)).1
 
 left_over_map : (g : Atom → Atom) (m : List ℕ) (k : ℕ) (bs : List Atom) → left_over m k (map g bs) ≡ map g (left_over m k bs)
 left_over_map g m k [] = refl
@@ -58,7 +59,7 @@ module _ (f : ℤ → ℤ) (d : ℤ → Bool) where
       rename_plus f _ _ ∙ (λ i. (rename_minus f _ c inside ∙ (λ j. e j ⊖ removed j)) i ⊕ body i)
 
   module _ (keeps : KeepsOrder f d) (rules : List Rule) (fixes : (i : ℕ) (r : Rule) → slice_get rules i ≡ Some r → FixesRule f d r) where
-    Runs-carried : (n : ℕ) (s t : Store) → Each (atom_in d) s → Runs (Step rules) n s t → Runs (Step rules) n (rename f s) (rename f t)
+    Runs-carried : (n : ℕ) (s t : Store) → Each (args_in d) s → Runs (Step rules) n s t → Runs (Step rules) n (rename f s) (rename f t)
     Runs-carried zero s t e r = ap (rename f) r
     Runs-carried (suc n) s t e r =
         let st = r.1 in
@@ -68,10 +69,10 @@ module _ (f : ℤ → ℤ) (d : ℤ → Bool) where
           Runs-carried n r.0 t (values_kept f d st.1 st.2 s r.0 fixed e st.4) r.2,
         )
 
-    pub reaches_carried : (s t : Store) → Each (atom_in d) s → Reaches (Step rules) s t → Reaches (Step rules) (rename f s) (rename f t)
+    pub reaches_carried : (s t : Store) → Each (args_in d) s → Reaches (Step rules) s t → Reaches (Step rules) (rename f s) (rename f t)
     reaches_carried s t e r = (r.0, Runs-carried r.0 s t e r.1)
 
-    pub join_carried : (s t : Store) → Each (atom_in d) s → Each (atom_in d) t → Join (Step rules) s t → Join (Step rules) (rename f s) (rename f t)
+    pub join_carried : (s t : Store) → Each (args_in d) s → Each (args_in d) t → AreJoinable (Step rules) s t → AreJoinable (Step rules) (rename f s) (rename f t)
     join_carried s t e g j = (rename f j.0, reaches_carried s j.0 e j.1, reaches_carried t j.0 g j.2)
 
 pub case_carried : (f : ℤ → ℤ) (r1 r2 : Rule) (m : List ℕ) (v1 v2 w1 w2 : Valuation) → map (rename_atom f) (both_heads r1 w1) ≡ both_heads r1 v1

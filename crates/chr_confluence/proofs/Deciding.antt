@@ -1,28 +1,25 @@
--- A store has a step or is at rest: each tuple of its atoms is tried. And steps keep 64-bit values.
---     tuples n xs        every tuple of n of these atoms
---     applies r s heads        the atoms are the heads of an instance, and stand in the store
+-- A store has a step or is at rest: each tuple of its atoms is tried.
 use Rattle.std.specs.Prelude.{◌≡◌, ℕ, zero, suc, ◌+◌, ◌<◌, Bool, true, false, ◌&&◌, ◌||◌, cond, List, [], ◌∷◌, ◌++◌, map, length, get_or, Some, None, slice_get, nat_le}
 use Rattle.std.specs.List.{list_all, list_any}
 use Rattle.std.proofs.Common.{refl, sym, ap, subst, ◌∙◌, arith, inl, inr, ◌⊎◌}
 use mathlib.Core.Bool.{true≢false}
-use Rattle.std.proofs.lemmas.Bool.{and_from, or_left, or_right, leb-true, le-leb}
+use Rattle.std.proofs.lemmas.Bool.{and_from, or_left, or_right, leb-true, le-leb, and_parts}
 use Rattle.std.proofs.lemmas.List.Folds.{list_any-append}
 use Rattle.std.specs.Ordering.{eq_by_cmp}
 use Rattle.std.specs.Cmp.{tied_itself}
 use Rattle.chr_base.specs.declared.atom.Atom.{Atom}
 use Rattle.chr_base.specs.declared.rule.Rule.{Rule}
-use Rattle.chr_base.specs.Atoms.{atom_cmp, atom_total, same_is}
+use Rattle.chr_base.specs.Atoms.{atom_cmp}
+use Rattle.chr_base.proofs.Atoms.{atom_total, same_is}
 use Rattle.chr_base.specs.Stores.{Store, store_of, count}
 use Rattle.chr_base.specs.Rules.{Step, StepBy, Valuation, atom_at, atoms_at, heads_at, heads_of}
-use Rattle.chr_base.specs.StepLaws.{length-map}
-use Rattle.chr_base.specs.Instances.{fires, fires_sound, fires_complete, first_true, second_true}
-use Rattle.chr_base.specs.FinBag as bag
+use Rattle.std.proofs.lemmas.List.{length-map}
+use Rattle.chr_base.specs.working.Instances.{fires}
+use Rattle.chr_base.proofs.Instances.{fires_sound, fires_complete}
+use Rattle.chr_base.proofs.FinBags as bag_laws
 use Rattle.chr_base.specs.FinBag.{◌⊕◌, ◌⊖◌, IsWithin, count_in, items}
-use Rattle.chr_base.specs.Places.{within_each}
-use Rattle.chr_base.specs.Rewriting.{StepsOrRests, Stays}
-use Rattle.chr_confluence.specs.Values.{is_value, HasValues}
-use Rattle.chr_confluence.specs.ConstantLaws.{constants_fit}
-use Rattle.chr_confluence.proofs.Rising.{values_kept}
+use Rattle.chr_base.proofs.ListEdits.{within_each}
+use Rattle.chr_base.specs.Rewriting.{StepsOrRests}
 
 abbrev chosen : List Atom → List (List Atom) → List (List Atom)
 chosen [] ts = []
@@ -65,8 +62,8 @@ found_one p (x ∷ xs) h = elim (p x) as (λ b. p x ≡ b → (b || list_any p x
 
 all_at : {A : Type 0} (p : A → Bool) (xs : List A) → list_all p xs ≡ true → (i : ℕ) (d : A) → i < length xs → p (get_or xs i d) ≡ true
 all_at p [] h i d l = absurd (omega arith)
-all_at p (x ∷ xs) h zero d l = first_true _ _ h
-all_at p (x ∷ xs) h (suc i) d l = all_at p xs (second_true _ _ h) i d (omega arith)
+all_at p (x ∷ xs) h zero d l = (and_parts _ _ h).0
+all_at p (x ∷ xs) h (suc i) d l = all_at p xs ((and_parts _ _ h).1) i d (omega arith)
 
 all_of : {A : Type 0} (p : A → Bool) (xs : List A) → ((x : A) → p x ≡ true) → list_all p xs ≡ true
 all_of p [] h = refl
@@ -74,13 +71,13 @@ all_of p (x ∷ xs) h = and_from _ _ (h x) (all_of p xs h)
 
 within_sound : (heads : List Atom) (s : Store) → is_within heads s ≡ true → IsWithin (store_of heads) s
 within_sound heads s h q =
-    let a = bag.count-of_list atom_total heads q in
-    let b = bag.count-items s q in
-    let c = within_each atom_cmp atom_total heads (items s) (λ i d l. (let x = leb-true _ _ (all_at (λ a. nat_le (count_in atom_cmp a heads) (count s a)) heads h i d l) in let y = bag.count-items s (get_or heads i d) in omega (arith, x, y))) q in
+    let a = bag_laws.count-of_list atom_total heads q in
+    let b = bag_laws.count-items s q in
+    let c = within_each atom_cmp atom_total heads (items s) (λ i d l. (let x = leb-true _ _ (all_at (λ a. nat_le (count_in atom_cmp a heads) (count s a)) heads h i d l) in let y = bag_laws.count-items s (get_or heads i d) in omega (arith, x, y))) q in
     omega (arith, a, b, c)
 
 within_complete : (heads : List Atom) (s : Store) → IsWithin (store_of heads) s → is_within heads s ≡ true
-within_complete heads s h = all_of _ heads (λ q. le-leb _ _ (let a = bag.count-of_list atom_total heads q in let b = h q in omega (arith, a, b)))
+within_complete heads s h = all_of _ heads (λ q. le-leb _ _ (let a = bag_laws.count-of_list atom_total heads q in let b = h q in omega (arith, a, b)))
 
 -- a rule has a step, or none
 decide_rule : (r : Rule) (s : Store) → ((v : Valuation) × (t : Store) × StepBy r v s t) ⊎ ((v : Valuation) (t : Store) → StepBy r v s t → ⊥)
@@ -89,14 +86,14 @@ decide_rule r s = by (list_any (applies r s) (tuples (length (heads_of r)) (item
     by : (b : Bool) → list_any (applies r s) (tuples (length (heads_of r)) (items s)) ≡ b → ((v : Valuation) × (t : Store) × StepBy r v s t) ⊎ ((v : Valuation) (t : Store) → StepBy r v s t → ⊥)
     by true e =
         let f = found_one (applies r s) _ e in
-        let i = fires_sound r f.0 (first_true _ _ f.1) in
-        inl (i.0, (s ⊖ store_of (atoms_at i.0 r.removed.items)) ⊕ store_of (atoms_at i.0 r.body.items), record { guard = i.2; there = rw i.1 (within_sound f.0 s (second_true (fires r f.0) _ f.1)); after = refl })
+        let i = fires_sound r f.0 ((and_parts _ _ f.1).0) in
+        inl (i.0, (s ⊖ store_of (atoms_at i.0 r.removed.items)) ⊕ store_of (atoms_at i.0 r.body.items), record { guard = i.2; there = rw i.1 (within_sound f.0 s ((and_parts (fires r f.0) _ f.1).1)); after = refl })
     by false e = inr (λ v t st.
         (let heads = heads_at v r in
         let p : applies r s heads ≡ true = and_from _ _ (fires_complete r heads (v, refl, st.guard)) (within_complete heads s st.there) in
-        let among : (q : Atom) → 0 < count_in atom_cmp q heads → 0 < count_in atom_cmp q (items s) = λ q l. (let a = bag.count-of_list atom_total heads q in let b = bag.count-items s q in let c = st.there q in omega (arith, a, b, c, l)) in
+        let among : (q : Atom) → 0 < count_in atom_cmp q heads → 0 < count_in atom_cmp q (items s) = λ q l. (let a = bag_laws.count-of_list atom_total heads q in let b = bag_laws.count-items s q in let c = st.there q in omega (arith, a, b, c, l)) in
         let found = any_tuples (applies r s) heads (items s) among p in
-        true≢false (sym found ∙ ap (λ n. list_any (applies r s) (tuples n (items s))) (length-map (atom_at v) (heads_of r)) ∙ e)))
+        true≢false (sym found ∙ ap (λ n. list_any (applies r s) (tuples n (items s))) (length-map (heads_of r) (atom_at v)) ∙ e)))
 
 pub steps_or_rests : (rules : List Rule) → StepsOrRests (Step rules)
 steps_or_rests [] s = inr (λ u h. none h.1 h.3)
@@ -115,7 +112,3 @@ steps_or_rests (r ∷ rules) s =
     later : (i : ℕ) (x : Rule) (v : Valuation) → slice_get (r ∷ rules) i ≡ Some x → (u : Store) → StepBy x v s u → ((v : Valuation) (t : Store) → StepBy r v s t → ⊥) → ((u : Store) → Step rules s u → ⊥) → ⊥
     later zero x v e u st no_step rest = no_step v u (subst (λ y. StepBy y v s u) (let k : x ≡ r = cc in k) st)
     later (suc i) x v e u st no_step rest = rest u (i, x, v, e, st)
-
--- steps stay within 64-bit values, since the constants of rules are such
-pub values_stay : (rules : List Rule) → Stays (Step rules) HasValues
-values_stay rules s t each h = values_kept (λ x. x) is_value h.1 h.2 s t (λ c i. (constants_fit rules c (h.0, h.1, h.3, i), refl)) each h.4

@@ -4,42 +4,40 @@ use Rattle.std.specs.List.{list_any}
 use Rattle.std.proofs.Common.{refl, sym, ap, subst, ◌∙◌, inl, inr, arith}
 use mathlib.Core.Bool.{true≢false}
 use Rattle.std.proofs.lemmas.Bool.{or_left, or_right}
-use Rattle.std.proofs.lemmas.Bool.Decides.{Decides-int_eq}
 use Rattle.std.specs.Ordering.{int_cmp, int_eq, ordering_reverse}
 use Rattle.std.specs.Cmp.{tied_itself, int_cmp_total}
 use Rattle.std.specs.FinMap.{int_cmp-IsAntisymmetric}
 use Rattle.chr_base.specs.declared.rule.Rule.{Rule}
 use Rattle.chr_types.specs.OrderTypes.{In, SameType, AreValues, pairs}
 use Rattle.chr_types.specs.Representatives.{AreTypes}
-use Rattle.chr_confluence.specs.Representatives.{AreConstants}
-use Rattle.chr_confluence.specs.Rising.{KeepsOrder, FixesRule}
-use Rattle.chr_confluence.specs.Images.{image, among}
+use Rattle.chr_types.proofs.Holes.{same_yes, yes_same}
+use Rattle.chr_confluence.specs.Constants.{AreConstants}
+use Rattle.chr_confluence.specs.Rising.{KeepsOrder, FixesRule, among}
 
-same_int_is : (x y : ℤ) → int_eq x y ≡ true → x ≡ y
-same_int_is x y h = (Decides-int_eq x y).0 h
-
-same_int_itself : (x y : ℤ) → x ≡ y → int_eq x y ≡ true
-same_int_itself x y e = (Decides-int_eq x y).1 e
+-- the value at the place of x in the other list, and else x
+abbrev pub image : List (ℤ × ℤ) → ℤ → ℤ
+image [] x = x
+image (p ∷ ps) x = cond (int_eq x p.0) p.1 (image ps x)
 
 in_constants : (x : ℤ) (cs : List ℤ) → list_any (int_eq x) cs ≡ true → In x cs
 in_constants x [] h = absurd (true≢false (sym h))
 in_constants x (c ∷ cs) h =
-    elim (int_eq x c) as (λ b. int_eq x c ≡ b → (b || list_any (int_eq x) cs) ≡ true → (x ≡ c) ⊎ In x cs) [ true ↦ λ e _. inl (same_int_is x c e) | false ↦ λ e h. inr (in_constants x cs h) ] refl h
+    elim (int_eq x c) as (λ b. int_eq x c ≡ b → (b || list_any (int_eq x) cs) ≡ true → (x ≡ c) ⊎ In x cs) [ true ↦ λ e _. inl (same_yes x c e) | false ↦ λ e h. inr (in_constants x cs h) ] refl h
 
 any_constant : (x : ℤ) (cs : List ℤ) → In x cs → list_any (int_eq x) cs ≡ true
 any_constant x [] h = absurd h
-any_constant x (c ∷ cs) (inl e) = or_left _ _ (same_int_itself x c e)
+any_constant x (c ∷ cs) (inl e) = or_left _ _ (yes_same x c e)
 any_constant x (c ∷ cs) (inr h) = or_right (int_eq x c) _ (any_constant x cs h)
 
 any_pair : (p : ℤ × ℤ) (ps : List (ℤ × ℤ)) → In p ps → list_any (λ q. int_eq p.0 q.0) ps ≡ true
 any_pair p [] h = absurd h
-any_pair p (q ∷ ps) (inl e) = or_left _ _ (same_int_itself p.0 q.0 (ap (λ (r : ℤ × ℤ). r.0) e))
+any_pair p (q ∷ ps) (inl e) = or_left _ _ (yes_same p.0 q.0 (ap (λ (r : ℤ × ℤ). r.0) e))
 any_pair p (q ∷ ps) (inr h) = or_right (int_eq p.0 q.0) _ (any_pair p ps h)
 
 image_in : (x : ℤ) (qs : List (ℤ × ℤ)) → (In (x, image qs x) qs) ⊎ ((image qs x ≡ x) × (list_any (λ p. int_eq x p.0) qs ≡ false))
 image_in x [] = inr (refl, refl)
 image_in x (q ∷ qs) = elim (int_eq x q.0) as (λ b. int_eq x q.0 ≡ b → (((x, cond b q.1 (image qs x)) ≡ q) ⊎ In (x, cond b q.1 (image qs x)) qs) ⊎ ((cond b q.1 (image qs x) ≡ x) × ((b || list_any (λ p. int_eq x p.0) qs) ≡ false))) [
-  | true ↦ λ e. inl (inl (λ i. (same_int_is x q.0 e i, q.1)))
+  | true ↦ λ e. inl (inl (λ i. (same_yes x q.0 e i, q.1)))
   | false ↦ λ e. elim (image_in x qs) as (λ _. (((x, image qs x) ≡ q) ⊎ In (x, image qs x) qs) ⊎ ((image qs x ≡ x) × (list_any (λ p. int_eq x p.0) qs ≡ false))) [ inl h ↦ inl (inr h) | inr h ↦ inr h ]
 ] refl
 

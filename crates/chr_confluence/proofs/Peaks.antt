@@ -5,13 +5,15 @@ use Rattle.std.specs.Prelude.{◌≡◌, ℕ, zero, suc, ◌+◌, ◌≤◌, max
 use Rattle.std.proofs.Common.{refl, sym, ap, subst, ◌∙◌, arith, inl, inr, ◌⊎◌}
 use Rattle.std.proofs.lemmas.Bool.{eqb-true, eq-eqb, or_left, or_right, or_from, or_parts}
 use Rattle.std.proofs.lemmas.Bool.Decides.{nat_tests}
-use mathlib.Core.Bool.{true≢false}
+use mathlib.Core.Bool.{true≢false, or-false}
 use Rattle.std.specs.Ordering.{eq_by_cmp, is_eq}
 use Rattle.std.specs.Cmp.{tied_itself}
 use Rattle.chr_base.specs.declared.atom.Atom.{Atom}
-use Rattle.chr_base.specs.Atoms.{atom_cmp, atom_total, same_is}
-use Rattle.chr_base.specs.FinBag.{count_in, total-append}
-use Rattle.chr_confluence.specs.Matchings.{names, Agrees, AreApart, left_over, touches, Matches}
+use Rattle.chr_base.specs.Atoms.{atom_cmp}
+use Rattle.chr_base.proofs.Atoms.{atom_total, same_is}
+use Rattle.chr_base.specs.FinBag.{count_in}
+use Rattle.chr_base.proofs.FinBags.{total-append}
+use Rattle.chr_confluence.specs.Matchings.{names, MatchedAreEqual, IsInjective, left_over, matches_removed, Matches}
 
 -- the matched ones of as
 abbrev matched : List ℕ → List Atom → List Atom
@@ -114,10 +116,6 @@ names_taken bs used (a ∷ as') p =
     let e = place_for used a 0 bs in
     names_taken bs (e ∷ used) as' p ∙ sym (or_assoc (nat_eq p e) (names (greedy bs (e ∷ used) as') p) (names used p))
 
-or_none : (a : Bool) → (a || false) ≡ a
-or_none true = refl
-or_none false = refl
-
 -- a used place is not taken again
 not_again : (bs : List Atom) (used : List ℕ) (as' : List Atom) (p : ℕ) → names used (suc p) ≡ true → names (greedy bs used as') (suc p) ≡ false
 not_again bs used [] p h = refl
@@ -131,19 +129,19 @@ not_again bs used (a ∷ as') p h = or_from _ _ (by (place_for used a 0 bs) refl
         by2 false e f = refl
         by2 true e f = absurd (true≢false (sym h ∙ ap (names used) (eqb-true _ _ e) ∙ f.free))
 
-greedy_apart : (bs : List Atom) (used : List ℕ) (as' : List Atom) → AreApart (greedy bs used as')
+greedy_apart : (bs : List Atom) (used : List ℕ) (as' : List Atom) → IsInjective (greedy bs used as')
 greedy_apart bs used [] = tt
 greedy_apart bs used (a ∷ as') = by (place_for used a 0 bs) (greedy bs (place_for used a 0 bs ∷ used) as') (greedy_apart bs (place_for used a 0 bs ∷ used) as') (λ p h. not_again bs (place_for used a 0 bs ∷ used) as' p (or_left _ _ (eq-eqb _ _ (sym h))))
   where
-    by : (e : ℕ) (m : List ℕ) → AreApart m → ((p : ℕ) → e ≡ suc p → names m (suc p) ≡ false) → AreApart (e ∷ m)
+    by : (e : ℕ) (m : List ℕ) → IsInjective m → ((p : ℕ) → e ≡ suc p → names m (suc p) ≡ false) → IsInjective (e ∷ m)
     by zero m h g = h
     by (suc p) m h g = (g p refl, h)
 
-greedy_agrees : (bs : List Atom) (used : List ℕ) (as' : List Atom) → Agrees bs (greedy bs used as') as'
+greedy_agrees : (bs : List Atom) (used : List ℕ) (as' : List Atom) → MatchedAreEqual bs (greedy bs used as') as'
 greedy_agrees bs used [] = tt
 greedy_agrees bs used (a ∷ as') = by (place_for used a 0 bs) refl (greedy bs (place_for used a 0 bs ∷ used) as') (greedy_agrees bs (place_for used a 0 bs ∷ used) as')
   where
-    by : (e : ℕ) → place_for used a 0 bs ≡ e → (m : List ℕ) → Agrees bs m as' → Agrees bs (e ∷ m) (a ∷ as')
+    by : (e : ℕ) → place_for used a 0 bs ≡ e → (m : List ℕ) → MatchedAreEqual bs m as' → MatchedAreEqual bs (e ∷ m) (a ∷ as')
     by zero h m g = g
     by (suc p) h m g = (let f = place_found used a 0 bs p h in let j : f.j ≡ p = (let i = f.is in omega (arith, i)) in subst (λ x. slice_get bs x ≡ Some a) j f.at, g)
 
@@ -194,7 +192,7 @@ none_named k [] = refl
 none_named k (b ∷ bs) = ap (λ xs. b ∷ xs) (none_named (suc k) bs)
 
 -- each list's atoms stand among the first list's and those that are left over
-pub second_there : (bs : List Atom) (m : List ℕ) (as' : List Atom) (q : Atom) → Agrees bs m as' → count_of q bs ≤ count_of q as' + count_of q (left_over m 0 bs)
+pub second_there : (bs : List Atom) (m : List ℕ) (as' : List Atom) (q : Atom) → MatchedAreEqual bs m as' → count_of q bs ≤ count_of q as' + count_of q (left_over m 0 bs)
 second_there bs [] [] q h = let e = ap (count_of q) (none_named 0 bs) in omega (arith, e)
 second_there bs [] (a ∷ as') q h = absurd h
 second_there bs (e ∷ m) [] q h = absurd h
@@ -203,20 +201,20 @@ second_there bs (zero ∷ m) (a ∷ as') q h =
 second_there bs (suc p ∷ m) (a ∷ as') q h =
     let more = second_there bs m as' q h.1 in let one = one_out m p 0 p bs a q (omega arith) h.0 in omega (arith, more, one)
 
-none_matched : (m : List ℕ) (rs : List Atom) (n2 : ℕ) (q : Atom) → touches zero n2 m ≡ false → count_of q (matched m rs) ≡ 0
+none_matched : (m : List ℕ) (rs : List Atom) (n2 : ℕ) (q : Atom) → matches_removed zero n2 m ≡ false → count_of q (matched m rs) ≡ 0
 none_matched [] rs n2 q h = refl
 none_matched (e ∷ m) [] n2 q h = refl
 none_matched (zero ∷ m) (r ∷ rs) n2 q h = none_matched m rs n2 q h
 none_matched (suc p ∷ m) (r ∷ rs) n2 q h = absurd (true≢false h)
 
-matched_kept : (m : List ℕ) (ks rs : List Atom) (n2 : ℕ) (q : Atom) → touches (length ks) n2 m ≡ false → count_of q (matched m (ks ++ rs)) ≤ count_of q ks
+matched_kept : (m : List ℕ) (ks rs : List Atom) (n2 : ℕ) (q : Atom) → matches_removed (length ks) n2 m ≡ false → count_of q (matched m (ks ++ rs)) ≤ count_of q ks
 matched_kept m [] rs n2 q h = let e = none_matched m rs n2 q h in omega (arith, e)
 matched_kept [] (k ∷ ks) rs n2 q h = omega arith
 matched_kept (zero ∷ m) (k ∷ ks) rs n2 q h = let more = matched_kept m ks rs n2 q h in omega (arith, more)
-matched_kept (suc p ∷ m) (k ∷ ks) rs n2 q h = let more = matched_kept m ks rs n2 q (or_parts (nat_lt n2 (suc p)) (touches (length ks) n2 m) h).1 in omega (arith, more)
+matched_kept (suc p ∷ m) (k ∷ ks) rs n2 q h = let more = matched_kept m ks rs n2 q (or_parts (nat_lt n2 (suc p)) (matches_removed (length ks) n2 m) h).1 in omega (arith, more)
 
 -- no place past the kept ones is named
-not_named : (n n2 : ℕ) (m : List ℕ) (p : ℕ) → touches n n2 m ≡ false → n2 ≤ p → names m (suc p) ≡ false
+not_named : (n n2 : ℕ) (m : List ℕ) (p : ℕ) → matches_removed n n2 m ≡ false → n2 ≤ p → names m (suc p) ≡ false
 not_named n n2 [] p h l = refl
 not_named zero n2 (zero ∷ m) p h l = or_from _ _ (grind (arith, nat_tests)) (not_named zero n2 m p h l)
 not_named (suc n) n2 (zero ∷ m) p h l = or_from _ _ (grind (arith, nat_tests)) (not_named n n2 m p h l)
@@ -241,12 +239,12 @@ module _ (ks1 rs1 ks2 rs2 : List Atom) where
   best = greedy (ks2 ++ rs2) [] (ks1 ++ rs1)
 
   left_best : left_over (taken (ks2 ++ rs2) [] (ks1 ++ rs1)) 0 (ks2 ++ rs2) ≡ left_over best 0 (ks2 ++ rs2)
-  left_best = left_over_same _ _ 0 (ks2 ++ rs2) (λ p. names_taken (ks2 ++ rs2) [] (ks1 ++ rs1) p ∙ or_none _)
+  left_best = left_over_same _ _ 0 (ks2 ++ rs2) (λ p. names_taken (ks2 ++ rs2) [] (ks1 ++ rs1) p ∙ or-false _)
 
-  -- Either a matching touches a removed head, and what it covers is no more than the greater of both, or each can lose the removed heads of the other and still have its own.
+  -- Either a matching matches_removed a removed head, and what it covers is no more than the greater of both, or each can lose the removed heads of the other and still have its own.
   pub touching_or_apart : ((m : List ℕ) × Matches ks1 rs1 ks2 rs2 m × ((q : Atom) → count_of q (ks1 ++ rs1) + count_of q (left_over m 0 (ks2 ++ rs2)) ≤ max (count_of q (ks1 ++ rs1)) (count_of q (ks2 ++ rs2))))
       ⊎ ((q : Atom) → (count_of q (ks2 ++ rs2) + count_of q rs1 ≤ max (count_of q (ks1 ++ rs1)) (count_of q (ks2 ++ rs2))) × (count_of q (ks1 ++ rs1) + count_of q rs2 ≤ max (count_of q (ks1 ++ rs1)) (count_of q (ks2 ++ rs2))))
-  touching_or_apart = by (touches (length ks1) (length ks2) best) refl
+  touching_or_apart = by (matches_removed (length ks1) (length ks2) best) refl
     where
       within : (q : Atom) → count_of q (ks1 ++ rs1) + count_of q (left_over best 0 (ks2 ++ rs2)) ≤ max (count_of q (ks1 ++ rs1)) (count_of q (ks2 ++ rs2))
       within q =
@@ -255,7 +253,7 @@ module _ (ks1 rs1 ks2 rs2 : List Atom) where
           let c = ap (count_of q) (none_named 0 (ks2 ++ rs2)) in
           omega (arith, a, b, c)
 
-      by : (x : Bool) → touches (length ks1) (length ks2) best ≡ x
+      by : (x : Bool) → matches_removed (length ks1) (length ks2) best ≡ x
           → ((m : List ℕ) × Matches ks1 rs1 ks2 rs2 m × ((q : Atom) → count_of q (ks1 ++ rs1) + count_of q (left_over m 0 (ks2 ++ rs2)) ≤ max (count_of q (ks1 ++ rs1)) (count_of q (ks2 ++ rs2))))
           ⊎ ((q : Atom) → (count_of q (ks2 ++ rs2) + count_of q rs1 ≤ max (count_of q (ks1 ++ rs1)) (count_of q (ks2 ++ rs2))) × (count_of q (ks1 ++ rs1) + count_of q rs2 ≤ max (count_of q (ks1 ++ rs1)) (count_of q (ks2 ++ rs2))))
       by true h = inl (best, record { agrees = greedy_agrees (ks2 ++ rs2) [] (ks1 ++ rs1); apart = greedy_apart (ks2 ++ rs2) [] (ks1 ++ rs1); touching = h }, within)

@@ -1,68 +1,31 @@
 -- A map of values that keeps their order on a set of values, and fixes the constants, carries steps to steps.
-use Rattle.std.specs.Prelude.{◌≡◌, ℕ, zero, suc, ℤ, ◌+◌, ◌<◌, Bool, true, false, ◌&&◌, ◌||◌, cond, nat_eq, List, [], ◌∷◌, ◌++◌, map}
+use Rattle.std.specs.Prelude.{◌≡◌, ℕ, ℤ, ◌+◌, Bool, true, false, ◌&&◌, ◌||◌, cond, nat_eq, List, [], ◌∷◌, ◌++◌, map}
 use Rattle.std.specs.List.{list_all, list_any}
-use Rattle.std.proofs.Common.{refl, sym, ap, subst, ◌∙◌, arith, inl, inr, ◌⊎◌}
+use Rattle.std.proofs.Common.{refl, sym, ap, subst, ◌∙◌, arith, inl, inr}
 use mathlib.Core.Bool.{true≢false}
-use Rattle.std.proofs.lemmas.Bool.{eqb-true, and_from}
-use Rattle.std.specs.declared.cmp.Ordering.TheVariants as order
-use Rattle.std.specs.Ordering.{int_cmp, eq_by_cmp, is_eq}
-use Rattle.std.specs.Cmp.{tied_itself}
+use Rattle.std.proofs.lemmas.Bool.{eqb-true, and_from, and_parts}
+use Rattle.std.specs.Ordering.{int_cmp, eq_by_cmp}
 use Rattle.chr_base.specs.declared.atom.Atom.{Atom}
 use Rattle.chr_base.specs.declared.term.Term.{Term}
 use Rattle.chr_base.specs.declared.term.Term.TheVariants.{Variable, Constant}
 use Rattle.chr_base.specs.declared.term.Comparison.{Comparison}
 use Rattle.chr_base.specs.declared.term.Pattern.{Pattern}
 use Rattle.chr_base.specs.declared.rule.Rule.{Rule}
-use Rattle.chr_base.specs.Atoms.{atom_cmp, atom_total, atom_exact}
-use Rattle.chr_base.specs.Stores.{Store, store_of, count, count_plus, count_minus, same_store, split}
-use Rattle.chr_base.specs.RuleTests.{is_variable, occurs, is_known, terms_of}
-use Rattle.chr_base.specs.Instances.{first_true, second_true, guard_known, body_known}
+use Rattle.chr_base.specs.Atoms.{atom_cmp}
+use Rattle.chr_base.proofs.Atoms.{atom_total}
+use Rattle.chr_base.specs.Stores.{Store, store_of, count}
+use Rattle.chr_base.proofs.Stores.{count_plus, count_minus, same_store, split}
+use Rattle.chr_base.specs.RuleTests.{is_variable, occurs, is_bound_in, terms_of}
+use Rattle.chr_base.proofs.Instances.{guard_known, body_known}
 use Rattle.chr_base.specs.Rules.{StepBy, Valuation, term_value, atoms_at, compares, guard_holds, heads_at, heads_of}
-use Rattle.chr_base.specs.StepLaws.{removed_there}
-use Rattle.chr_base.specs.FinBag as bag
-use Rattle.chr_base.specs.FinBag.{◌⊕◌, ◌⊖◌, IsWithin, total, count_in, items, sum_over}
-use Rattle.chr_confluence.specs.Values.{Each, atom_in}
-use Rattle.chr_confluence.specs.Representatives.{guard_terms}
+use Rattle.chr_base.proofs.Steps.{removed_there}
+use Rattle.chr_base.proofs.FinBags as bag_laws
+use Rattle.chr_base.specs.FinBag.{◌⊕◌, ◌⊖◌, IsWithin, total, items, sum_over}
+use Rattle.chr_base.specs.Values.{Each, args_in}
+use Rattle.chr_confluence.specs.Constants.{guard_terms}
 use Rattle.chr_confluence.specs.Rising.{KeepsOrder, FixesTerms, FixesRule, rename_atom, rename}
-use Rattle.chr_confluence.specs.Members.{in_first, in_second}
-
--- ---- what holds of each atom of a store
-
-in_list : (p : Atom → Bool) (xs : List Atom) → list_all p xs ≡ true → (q : Atom) → 0 < count_in atom_cmp q xs → p q ≡ true
-in_list p [] h q g = absurd (omega arith)
-in_list p (x ∷ xs) h q g =
-    elim (atom_cmp q x) as (λ r. atom_cmp q x ≡ r → 0 < cond (is_eq r) 1 0 + count_in atom_cmp q xs → p q ≡ true) [
-      | order.Less ↦ λ e g. in_list p xs (second_true _ _ h) q (omega (arith, g))
-      | order.Equal ↦ λ e g. rw (atom_exact q x e) (first_true _ _ h)
-      | order.Greater ↦ λ e g. in_list p xs (second_true _ _ h) q (omega (arith, g))
-    ] refl g
-
-pub each_of_list : (p : Atom → Bool) (xs : List Atom) → list_all p xs ≡ true → Each p (store_of xs)
-each_of_list p xs h q g = let e = bag.count-of_list atom_total xs q in in_list p xs h q (omega (arith, e, g))
-
-listed_each : (p : Atom → Bool) (xs : List Atom) → ((q : Atom) → 0 < count_in atom_cmp q xs → p q ≡ true) → list_all p xs ≡ true
-listed_each p [] h = refl
-listed_each p (x ∷ xs) h =
-    let one : cond (eq_by_cmp atom_cmp x x) 1 0 + count_in atom_cmp x xs ≡ 1 + count_in atom_cmp x xs = rw (tied_itself atom_total x) refl in
-    and_from _ _ (h x (omega (arith, one))) (listed_each p xs (λ q g. h q (omega (arith, g))))
-
-pub list_of_each : (p : Atom → Bool) (xs : List Atom) → Each p (store_of xs) → list_all p xs ≡ true
-list_of_each p xs h = listed_each p xs (λ q g. (let e = bag.count-of_list atom_total xs q in h q (omega (arith, e, g))))
-
-pub each_within : (p : Atom → Bool) (r s : Store) → IsWithin r s → Each p s → Each p r
-each_within p r s w h q g = let l = w q in h q (omega (arith, l, g))
-
-some_left : (a b : ℕ) → 0 < a + b → (0 < a) ⊎ (0 < b)
-some_left zero b h = inr (omega (arith, h))
-some_left (suc a) b h = inl (omega arith)
-
-pub each_plus : (p : Atom → Bool) (s t : Store) → Each p s → Each p t → Each p (s ⊕ t)
-each_plus p s t h k q g =
-    let e = count_plus s t q in
-    elim (some_left (count s q) (count t q) (omega (arith, e, g))) as (λ _. p q ≡ true) [ inl l ↦ h q l | inr l ↦ k q l ]
-
-pub each_minus : (p : Atom → Bool) (s t : Store) → Each p s → Each p (s ⊖ t)
-each_minus p s t h q g = let e = count_minus s t q in h q (omega (arith, e, g))
+use Rattle.chr_types.proofs.Members.{in_first, in_second}
+use Rattle.chr_base.proofs.Each.{each_of_list, list_of_each, each_within, each_plus, each_minus}
 
 -- ---- renamed stores
 
@@ -72,17 +35,17 @@ total-map g h [] = refl
 total-map g h (x ∷ xs) = ap (λ n. g (h x) + n) (total-map g h xs)
 
 count_renamed : (f : ℤ → ℤ) (s : Store) (q : Atom) → count (rename f s) q ≡ sum_over (λ x. cond (eq_by_cmp atom_cmp q (rename_atom f x)) 1 0) s
-count_renamed f s q = bag.count-of_list atom_total (map (rename_atom f) (items s)) q ∙ total-map _ (rename_atom f) (items s) ∙ sym (bag.sum_over-items _ s)
+count_renamed f s q = bag_laws.count-of_list atom_total (map (rename_atom f) (items s)) q ∙ total-map _ (rename_atom f) (items s) ∙ sym (bag_laws.sum_over-items _ s)
 
 pub rename_plus : (f : ℤ → ℤ) (s t : Store) → rename f (s ⊕ t) ≡ rename f s ⊕ rename f t
 rename_plus f s t = same_store _ _ (λ q.
     (let a = count_renamed f (s ⊕ t) q in let b = count_renamed f s q in let c = count_renamed f t q in
-    let d = bag.sum_over-⊕ atom_total (λ x. cond (eq_by_cmp atom_cmp q (rename_atom f x)) 1 0) s t in
+    let d = bag_laws.sum_over-⊕ atom_total (λ x. cond (eq_by_cmp atom_cmp q (rename_atom f x)) 1 0) s t in
     let e = count_plus (rename f s) (rename f t) q in omega (arith, a, b, c, d, e)))
 
 pub rename_list : (f : ℤ → ℤ) (xs : List Atom) → rename f (store_of xs) ≡ store_of (map (rename_atom f) xs)
 rename_list f xs = same_store _ _ (λ q.
-    count_renamed f (store_of xs) q ∙ bag.sum_over-of_list atom_total _ xs ∙ sym (total-map _ (rename_atom f) xs) ∙ sym (bag.count-of_list atom_total (map (rename_atom f) xs) q))
+    count_renamed f (store_of xs) q ∙ bag_laws.sum_over-of_list atom_total _ xs ∙ sym (total-map _ (rename_atom f) xs) ∙ sym (bag_laws.count-of_list atom_total (map (rename_atom f) xs) q))
 
 pub rename_within : (f : ℤ → ℤ) (r s : Store) → IsWithin r s → IsWithin (rename f r) (rename f s)
 rename_within f r s h q =
@@ -99,7 +62,7 @@ rename_minus f r s h = same_store _ _ (λ q.
 
 -- ---- rules
 
-terms_of-append : (ps qs : List Pattern) → terms_of (ps ++ qs) ≡ terms_of ps ++ terms_of qs
+pub terms_of-append : (ps qs : List Pattern) → terms_of (ps ++ qs) ≡ terms_of ps ++ terms_of qs
 terms_of-append [] qs = refl
 terms_of-append (p ∷ ps) qs = ap (λ ts. p.args.items ++ ts) (terms_of-append ps qs) ∙ sym (append_assoc p.args.items (terms_of ps) (terms_of qs))
   where
@@ -152,61 +115,61 @@ module _ (f : ℤ → ℤ) (d : ℤ → Bool) where
 
   value_found : (v : Valuation) (x : ℕ) (ts : List Term) → list_any (is_variable x) ts ≡ true → list_all d (map (term_value v) ts) ≡ true → d (v x) ≡ true
   value_found v x [] h g = absurd (true≢false (sym h))
-  value_found v x (Constant c ∷ ts) h g = value_found v x ts h (second_true _ _ g)
+  value_found v x (Constant c ∷ ts) h g = value_found v x ts h ((and_parts _ _ g).1)
   value_found v x (Variable y ∷ ts) h g =
       elim (nat_eq x y) as (λ b. nat_eq x y ≡ b → (b || list_any (is_variable x) ts) ≡ true → d (v x) ≡ true) [
-        | true ↦ λ e _. (let same : x ≡ y = eqb-true x y e in rw same (first_true _ _ g))
-        | false ↦ λ e h. value_found v x ts h (second_true _ _ g)
+        | true ↦ λ e _. (let same : x ≡ y = eqb-true x y e in rw same ((and_parts _ _ g).0))
+        | false ↦ λ e h. value_found v x ts h ((and_parts _ _ g).1)
       ] refl h
 
-  pub pattern_found : (v : Valuation) (x : ℕ) (ps : List Pattern) → occurs x ps ≡ true → list_all (atom_in d) (atoms_at v ps) ≡ true → d (v x) ≡ true
+  pub pattern_found : (v : Valuation) (x : ℕ) (ps : List Pattern) → occurs x ps ≡ true → list_all (args_in d) (atoms_at v ps) ≡ true → d (v x) ≡ true
   pattern_found v x [] h g = absurd (true≢false (sym h))
   pattern_found v x (p ∷ ps) h g =
       elim (list_any (is_variable x) p.args.items) as (λ b. list_any (is_variable x) p.args.items ≡ b → (b || occurs x ps) ≡ true → d (v x) ≡ true) [
-        | true ↦ λ e _. value_found v x p.args.items e (first_true _ _ g)
-        | false ↦ λ e h. pattern_found v x ps h (second_true _ _ g)
+        | true ↦ λ e _. value_found v x p.args.items e ((and_parts _ _ g).0)
+        | false ↦ λ e h. pattern_found v x ps h ((and_parts _ _ g).1)
       ] refl h
 
-  known_in : (v : Valuation) (ps : List Pattern) (t : Term) → list_all (atom_in d) (atoms_at v ps) ≡ true → is_known ps t ≡ true → FixesTerm t → d (term_value v t) ≡ true
+  known_in : (v : Valuation) (ps : List Pattern) (t : Term) → list_all (args_in d) (atoms_at v ps) ≡ true → is_bound_in ps t ≡ true → FixesTerm t → d (term_value v t) ≡ true
   known_in v ps (Variable x) g k h = pattern_found v x ps k g
   known_in v ps (Constant c) g k h = (h c refl).0
 
   module _ (keeps : KeepsOrder f d) where
-    pub guard_moves : (v : Valuation) (ps : List Pattern) (cs : List Comparison) → list_all (atom_in d) (atoms_at v ps) ≡ true
-        → list_all (λ c. is_known ps c.left && is_known ps c.right) cs ≡ true → FixesTerms f d (guard_terms cs) → guard_holds (λ x. f (v x)) cs ≡ guard_holds v cs
+    pub guard_moves : (v : Valuation) (ps : List Pattern) (cs : List Comparison) → list_all (args_in d) (atoms_at v ps) ≡ true
+        → list_all (λ c. is_bound_in ps c.left && is_bound_in ps c.right) cs ≡ true → FixesTerms f d (guard_terms cs) → guard_holds (λ x. f (v x)) cs ≡ guard_holds v cs
     guard_moves v ps [] g k h = refl
     guard_moves v ps (c ∷ cs) g k h =
-        let here : (is_known ps c.left && is_known ps c.right) ≡ true = first_true _ _ k in
-        let more : list_all (λ c. is_known ps c.left && is_known ps c.right) cs ≡ true = second_true (is_known ps c.left && is_known ps c.right) _ k in
+        let here : (is_bound_in ps c.left && is_bound_in ps c.right) ≡ true = (and_parts _ _ k).0 in
+        let more : list_all (λ c. is_bound_in ps c.left && is_bound_in ps c.right) cs ≡ true = (and_parts (is_bound_in ps c.left && is_bound_in ps c.right) _ k).1 in
         let left : FixesTerm c.left = λ x e. h x (inl e) in
         let right : FixesTerm c.right = λ x e. h x (inr (inl e)) in
         let order : int_cmp (term_value (λ x. f (v x)) c.left) (term_value (λ x. f (v x)) c.right) ≡ int_cmp (term_value v c.left) (term_value v c.right) =
         (λ i. int_cmp (value_moves v c.left left i) (value_moves v c.right right i))
-        ∙ keeps _ _ (known_in v ps c.left g (first_true _ _ here) left) (known_in v ps c.right g (second_true (is_known ps c.left) _ here) right) in
+        ∙ keeps _ _ (known_in v ps c.left g ((and_parts _ _ here).0) left) (known_in v ps c.right g ((and_parts (is_bound_in ps c.left) _ here).1) right) in
         let rest = guard_moves v ps cs g more (λ x i. h x (inr (inr i))) in
         λ i. compares c.cmp (order i) && rest i
 
-  body_in : (v : Valuation) (ps qs : List Pattern) → list_all (atom_in d) (atoms_at v ps) ≡ true → list_all (λ p. list_all (is_known ps) p.args.items) qs ≡ true → FixesTerms f d (terms_of qs)
-      → list_all (atom_in d) (atoms_at v qs) ≡ true
+  body_in : (v : Valuation) (ps qs : List Pattern) → list_all (args_in d) (atoms_at v ps) ≡ true → list_all (λ p. list_all (is_bound_in ps) p.args.items) qs ≡ true → FixesTerms f d (terms_of qs)
+      → list_all (args_in d) (atoms_at v qs) ≡ true
   body_in v ps [] g k h = refl
   body_in v ps (q ∷ qs) g k h =
-      and_from _ _ (terms_in q.args.items (first_true _ _ k) (fixes_left q.args.items (terms_of qs) h)) (body_in v ps qs g (second_true (list_all (is_known ps) q.args.items) _ k) (fixes_right q.args.items (terms_of qs) h))
+      and_from _ _ (terms_in q.args.items ((and_parts _ _ k).0) (fixes_left q.args.items (terms_of qs) h)) (body_in v ps qs g ((and_parts (list_all (is_bound_in ps) q.args.items) _ k).1) (fixes_right q.args.items (terms_of qs) h))
     where
-      terms_in : (ts : List Term) → list_all (is_known ps) ts ≡ true → FixesTerms f d ts → list_all d (map (term_value v) ts) ≡ true
+      terms_in : (ts : List Term) → list_all (is_bound_in ps) ts ≡ true → FixesTerms f d ts → list_all d (map (term_value v) ts) ≡ true
       terms_in [] k h = refl
-      terms_in (t ∷ ts) k h = and_from _ _ (known_in v ps t g (first_true _ _ k) (λ c e. h c (inl e))) (terms_in ts (second_true (is_known ps t) _ k) (λ c i. h c (inr i)))
+      terms_in (t ∷ ts) k h = and_from _ _ (known_in v ps t g ((and_parts _ _ k).0) (λ c e. h c (inl e))) (terms_in ts ((and_parts (is_bound_in ps t) _ k).1) (λ c i. h c (inr i)))
 
-  heads_in : (r : Rule) (v : Valuation) (s t : Store) → Each (atom_in d) s → StepBy r v s t → list_all (atom_in d) (heads_at v r) ≡ true
-  heads_in r v s t each st = list_of_each (atom_in d) (heads_at v r) (each_within (atom_in d) _ s st.there each)
+  heads_in : (r : Rule) (v : Valuation) (s t : Store) → Each (args_in d) s → StepBy r v s t → list_all (args_in d) (heads_at v r) ≡ true
+  heads_in r v s t each st = list_of_each (args_in d) (heads_at v r) (each_within (args_in d) _ s st.there each)
 
   -- a step brings in no value that is neither in the store nor a constant of the rule
-  pub values_kept : (r : Rule) (v : Valuation) (s t : Store) → FixesRule f d r → Each (atom_in d) s → StepBy r v s t → Each (atom_in d) t
+  pub values_kept : (r : Rule) (v : Valuation) (s t : Store) → FixesRule f d r → Each (args_in d) s → StepBy r v s t → Each (args_in d) t
   values_kept r v s t fixes each st =
-      rw st.after (each_plus (atom_in d) _ _ (each_minus (atom_in d) s _ each)
-      (each_of_list (atom_in d) _ (body_in v (heads_of r) r.body.items (heads_in r v s t each st) (body_known r) (fixes_body r fixes))))
+      rw st.after (each_plus (args_in d) _ _ (each_minus (args_in d) s _ each)
+      (each_of_list (args_in d) _ (body_in v (heads_of r) r.body.items (heads_in r v s t each st) (body_known r) (fixes_body r fixes))))
 
   -- a step from a store with values in the set is a step between the renamed stores
-  pub rising : KeepsOrder f d → (r : Rule) (v : Valuation) (s t : Store) → FixesRule f d r → Each (atom_in d) s → StepBy r v s t → StepBy r (λ x. f (v x)) (rename f s) (rename f t)
+  pub rising : KeepsOrder f d → (r : Rule) (v : Valuation) (s t : Store) → FixesRule f d r → Each (args_in d) s → StepBy r v s t → StepBy r (λ x. f (v x)) (rename f s) (rename f t)
   rising keeps r v s t fixes each st =
       let removed = removed_there r v s st.there in
       let there : IsWithin (store_of (heads_at (λ x. f (v x)) r)) (rename f s) =

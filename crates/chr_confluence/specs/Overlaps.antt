@@ -1,31 +1,32 @@
 -- Overlaps of two rules of a program, and the equations that matched heads make.
---     SameSymbols qs m ps        matched places have one symbol
---     IsMatching r1 r2 m        a matching of the heads of two rules, of which a matched place is removed in one of them
---     IsOverlap rules i j m        such a matching of the rules at the places i and j, the second not before the first
---     equations_of r1 r2 m        what makes the matched places agree, in joint variables: those of the first rule, and then those of the second
-use Rattle.std.specs.Prelude.{◌≡◌, ℕ, zero, suc, ◌+◌, ◌-◌, ◌≤◌, true, cond, nat_le, List, [], ◌∷◌, ◌++◌, map, length, Some, slice_get, get_or}
+use Rattle.std.specs.Prelude.{◌≡◌, ℕ, zero, suc, ◌+◌, ◌≤◌, true, List, [], ◌∷◌, ◌++◌, map, length, Some, slice_get, get_or}
 use Rattle.std.specs.Option.{unwrap_or}
 use Rattle.chr_base.specs.declared.term.Term.{Term}
 use Rattle.chr_base.specs.declared.term.Term.TheVariants.{Variable, Constant}
 use Rattle.chr_base.specs.declared.term.Pattern.{Pattern}
 use Rattle.chr_base.specs.declared.rule.Rule.{Rule}
 use Rattle.chr_base.specs.RuleTests.{numbered, terms_of}
-use Rattle.chr_base.specs.Rules.{Valuation, heads_of, no_pattern}
-use Rattle.chr_confluence.specs.Matchings.{AreApart, touches}
+use Rattle.chr_base.specs.Rules.{heads_of, no_pattern}
+use Rattle.chr_confluence.specs.Matchings.{IsInjective, matches_removed}
+use Rattle.std.specs.Prelude.{⊤}
 
+-- heads at matched places have one symbol, and so many arguments
 abbrev pub SameSymbols : List Pattern → List ℕ → List Pattern → Type 0
-SameSymbols qs [] [] = Unit {0}
+SameSymbols qs [] [] = ⊤
 SameSymbols qs [] (p ∷ ps) = ⊥
 SameSymbols qs (e ∷ m) [] = ⊥
 SameSymbols qs (zero ∷ m) (p ∷ ps) = SameSymbols qs m ps
 SameSymbols qs (suc k ∷ m) (p ∷ ps) =
-    ((q : Pattern) × (slice_get qs k ≡ Some q) × (p.symbol.0 ≡ q.symbol.0) × (length p.args.items ≡ length q.args.items)) × SameSymbols qs m ps
+    ((q : Pattern) × (slice_get qs k ≡ Some q) × (p.symbol.0 ≡ q.symbol.0) × (length p.args.items ≡ length q.args.items))
+    × SameSymbols qs m ps
 
+-- a matching of the heads of two rules, of which a matched one is removed in its rule
 pub record IsMatching (r1 r2 : Rule) (m : List ℕ) : Type 0 where
   pub symbols : SameSymbols (heads_of r2) m (heads_of r1)
-  pub apart : AreApart m
-  pub touching : touches (length r1.kept.items) (length r2.kept.items) m ≡ true
+  pub apart : IsInjective m
+  pub touching : matches_removed (length r1.kept.items) (length r2.kept.items) m ≡ true
 
+-- such a matching of the rules at the places i and j, the second not before the first
 pub record IsOverlap (rules : List Rule) (i j : ℕ) (m : List ℕ) : Type 0 where
   pub rule1 : Rule
   pub rule2 : Rule
@@ -38,15 +39,12 @@ pub record IsOverlap (rules : List Rule) (i j : ℕ) (m : List ℕ) : Type 0 whe
 abbrev pub variables_of : Rule → ℕ
 variables_of r = unwrap_or (numbered 0 (terms_of (heads_of r))) 0
 
--- a term of the second rule, in joint variables
-abbrev pub shifted : ℕ → Term → Term
-shifted k (Variable x) = Variable (k + x)
-shifted k (Constant c) = Constant c
+-- a term of the second rule, renamed apart from the first rule, which has k variables
+abbrev pub renamed_apart : ℕ → Term → Term
+renamed_apart k (Variable x) = Variable (k + x)
+renamed_apart k (Constant c) = Constant c
 
--- one valuation of the joint variables, from one of each rule
-abbrev pub joint : ℕ → Valuation → Valuation → Valuation
-joint k v1 v2 x = cond (nat_le x k) (v1 x) (v2 (x - k))
-
+-- an equation for each place of both lists
 abbrev pub term_pairs : List Term → List Term → List (Term × Term)
 term_pairs (t ∷ ts) (u ∷ us) = (t, u) ∷ term_pairs ts us
 term_pairs [] us = []
@@ -57,7 +55,9 @@ abbrev pub equations : ℕ → List Pattern → List ℕ → List Pattern → Li
 equations k qs [] ps = []
 equations k qs (e ∷ m) [] = []
 equations k qs (zero ∷ m) (p ∷ ps) = equations k qs m ps
-equations k qs (suc e ∷ m) (p ∷ ps) = term_pairs p.args.items (map (shifted k) (get_or qs e no_pattern).args.items) ++ equations k qs m ps
+equations k qs (suc e ∷ m) (p ∷ ps) =
+    term_pairs p.args.items (map (renamed_apart k) (get_or qs e no_pattern).args.items) ++ equations k qs m ps
 
+-- what makes the matched heads of the two rules equal
 abbrev pub equations_of : Rule → Rule → List ℕ → List (Term × Term)
 equations_of r1 r2 m = equations (variables_of r1) (heads_of r2) m (heads_of r1)

@@ -1,10 +1,18 @@
 //! The laws of steps and of confluence. Each is a function that takes nothing and computes nothing: its contract is the law.
-ghost use Rattle.chr_confluence.specs.Laws.{InstancesGrow, StepsGrow, StepsRise, ValuesStay, TypesRise, PeaksCommuteOrOverlap, CasesAreMatched, LeftSideIsStep, RightSideIsStep, StoresRest, PeaksMakeConfluent, CasesMakePeaksJoin, CasesMakeConfluent, DifferentEndsRefute, FailingCaseRefutes, PartsReach, PartsDetermine};
+ghost use Rattle.chr_confluence.specs.laws.Grow.{InstancesGrow, StepsGrow, ReachingGrows};
+ghost use Rattle.chr_confluence.specs.laws.Rising.{StepsRise, ValuesStay, TypesRise};
+ghost use Rattle.chr_confluence.specs.laws.Peaks.{PeaksCommuteOrOverlap, CasesAreMatched, LeftSideIsStep, RightSideIsStep};
+ghost use Rattle.chr_confluence.specs.laws.Newman.{NormalFormsExist, LocalConfluenceSuffices};
+ghost use Rattle.chr_confluence.specs.laws.Joinability.{ConfluentAreJoinable, JoinableAreConfluent};
+ghost use Rattle.chr_confluence.specs.laws.Cases.{StepsKeepValues, LocallyConfluentAreConfluent, CasesMakeLocallyConfluent, CasesMakeConfluent, DifferentEndsRefute, FailingCaseRefutes};
+ghost use Rattle.chr_confluence.specs.laws.Parts.{PartsReach, PartsDetermine};
 
-/// Monotonicity: a step in a store is a step with the same effect in every larger store (Frühwirth 2009).
+/// Monotonicity: a step in a store is a step with the same effect in every larger store, and so goes on a run
+/// (Frühwirth 2009).
 pub fn grow()
     ensures instances { InstancesGrow }
     ensures steps { StepsGrow }
+    ensures runs { ReachingGrows }
 {}
 
 /// Rising maps. A map that keeps the order of the values in a set, and fixes the constants of a rule, which are in it,
@@ -26,21 +34,31 @@ pub fn peak()
     ensures right { RightSideIsStep }
 {}
 
-/// Newman's lemma, for rules that lower a weight: where the ends of any two steps from one store of 64-bit values reach a
-/// common store, any two normal forms of one such store are equal (Newman 1942).
+/// Newman's lemma, for rules that lower a weight, and for the stores that pass a test which steps keep: where the ends of
+/// any two steps from one such store are joinable, any two normal forms of one such store are equal (Newman 1942).
 pub fn newman()
-    ensures rests { StoresRest }
-    ensures confluent { PeaksMakeConfluent }
+    ensures rests { NormalFormsExist }
+    ensures confluent { LocalConfluenceSuffices }
 {}
 
-/// Confluence by cases: rules that lower a weight are confluent where the sides of each of their cases reach a common
-/// store (after Abdennadher, Frühwirth and Meuss 1999). Two normal forms that differ, behind two steps from one store or
+/// Confluence by cases: steps keep 64-bit values, and rules that lower a weight are confluent where the sides of each of
+/// their cases are joinable (after Abdennadher, Frühwirth and Meuss 1999). Two normal forms that differ, behind two steps from one store or
 /// behind the two sides of a case, show that they are not.
 pub fn confluence()
-    ensures peaks { CasesMakePeaksJoin }
+    ensures stay { StepsKeepValues }
+    ensures local { LocallyConfluentAreConfluent }
+    ensures peaks { CasesMakeLocallyConfluent }
     ensures confluent { CasesMakeConfluent }
     ensures refuted { DifferentEndsRefute }
     ensures failing { FailingCaseRefutes }
+{}
+
+/// Confluence in the usual sense. For rules that lower a weight each store of 64-bit values has one normal form just where
+/// any two stores that one such store reaches are joinable (as Abdennadher, Frühwirth and Meuss 1999 and Frühwirth 2009
+/// say it).
+pub fn joinability()
+    ensures joinable { ConfluentAreJoinable }
+    ensures confluent { JoinableAreConfluent }
 {}
 
 /// Parts: the normal forms of parts of a store, summed and rested, give a normal form of the whole, and for confluent

@@ -1,14 +1,13 @@
 //! Why the listed cases suffice. Nothing here computes: the contracts are the laws.
-ghost use Rattle.chr_confluence.specs.Solutions.{SolveIsExact, OneSolution, TermsStand};
-ghost use Rattle.chr_confluence.specs.Listed.{ListedSuffice, EveryCaseIsListed, ListedAreCases, ListedHaveValues, ListedMakeConfluent, FailingListedRefutes};
+ghost use Rattle.chr_confluence.specs.laws.Unification.{UnifiersExist, OneUnifier, TermsStand};
+ghost use Rattle.chr_confluence.specs.laws.ListedCases.{ListedSuffice, EveryCaseIsListed, ListedAreCases, ListedHaveValues, ListedMakeConfluent, FailingListedRefutes};
 
-/// The classes of variables that equations join. Joining the classes of both sides, one equation after the other, gives
-/// just the classes on which the valuations that meet the equations are constant, and none where no valuation meets
-/// them. The equations determine the classes, each named by its constant or else its first variable, and each term that
-/// stands for another variable stands in the equations.
+/// Unification. Equations have a most general unifier, or no unifier. They determine it: each variable goes to the constant
+/// of its class, or else to the first variable of its class. And each term that stands for another variable stands in the
+/// equations.
 pub fn classes()
-    ensures solve { SolveIsExact }
-    ensures one { OneSolution }
+    ensures exist { UnifiersExist }
+    ensures one { OneUnifier }
     ensures stand { TermsStand }
 {}
 

@@ -1,30 +1,20 @@
 -- Each step of a listed case is an instance in the case's store.
-use Rattle.std.specs.Prelude.{◌≡◌, ℕ, zero, suc, ◌-◌, Bool, true, false, cond, List, [], ◌∷◌, map, Some, None, slice_get}
-use Rattle.std.specs.List.{filter}
-use Rattle.std.proofs.Common.{refl, sym, ap, subst, ◌∙◌, arith, ◌⊎◌, inl, inr}
+use Rattle.std.specs.Prelude.{◌≡◌, ◌-◌, List, [], Some, slice_get}
+use Rattle.std.proofs.Common.{refl, sym, subst, ◌∙◌, arith, ◌⊎◌, inl, inr}
 use Rattle.std.proofs.lemmas.Option.{same_Some}
 use Rattle.chr_base.specs.declared.rule.Rule.{Rule}
-use Rattle.chr_rewrite.specs.Plain.{IsStepAt}
+use Rattle.chr_rewrite.specs.Derivations.{IsApplicable}
 use Rattle.chr_types.specs.OrderTypes.{In}
-use Rattle.chr_confluence.specs.Classes.{HasNone}
+use Rattle.chr_confluence.specs.Unifiers.{HasNoUnifier}
 use Rattle.chr_confluence.specs.Overlaps.{IsMatching, equations_of}
 use Rattle.chr_confluence.specs.Representatives.{left_at, right_at, guards_hold}
-use Rattle.chr_confluence.specs.Laws.{LeftSideIsStep, RightSideIsStep}
-use Rattle.chr_confluence.specs.Listed.{ListedAreCases}
+use Rattle.chr_confluence.specs.laws.Peaks.{LeftSideIsStep, RightSideIsStep}
+use Rattle.chr_confluence.specs.laws.ListedCases.{ListedAreCases}
 use Rattle.chr_overlaps.specs.declared.overlap.Overlap.{Overlap}
 use Rattle.chr_overlaps.specs.declared.cases.Case.{Case}
 use Rattle.chr_overlaps.specs.OverlapLists.{IsOverlapOf}
 use Rattle.chr_overlaps.specs.CaseLists.{AreCases, AreListed, case_at}
-
--- what stands in a mapped and filtered list comes from a passing element
-pub picked : {A B : Type 0} (f : A → B) (p : A → Bool) (xs : List A) (k : ℕ) (y : B) → slice_get (map f (filter p xs)) k ≡ Some y → (x : A) × In x xs × (p x ≡ true) × (f x ≡ y)
-picked f p [] k y h = absurd (let e : None ≡ Some y = h in cc)
-picked f p (x ∷ xs) k y h = by (p x) refl k h (picked f p xs)
-  where
-    by : (b : Bool) → p x ≡ b → (k : ℕ) → slice_get (map f (cond b (x ∷ filter p xs) (filter p xs))) k ≡ Some y → ((k : ℕ) (y : _) → slice_get (map f (filter p xs)) k ≡ Some y → (z : _) × In z xs × (p z ≡ true) × (f z ≡ y)) → (z : _) × In z (x ∷ xs) × (p z ≡ true) × (f z ≡ y)
-    by true e zero h more = (x, inl refl, e, let q : Some (f x) ≡ Some y = h in cc)
-    by true e (suc k) h more = let m = more k y h in (m.0, inr m.1, m.2, m.3)
-    by false e k h more = let m = more k y h in (m.0, inr m.1, m.2, m.3)
+use Rattle.chr_join.proofs.Lists.{picked}
 
 -- the overlap's matching is one of the rules at its places
 pub matching_at : (rules : List Rule) (o : Overlap) (r1 r2 : Rule) → IsOverlapOf rules o → slice_get rules (o.first - 1) ≡ Some r1 → slice_get rules (o.second - 1) ≡ Some r2 → IsMatching r1 r2 o.matching.items
@@ -42,24 +32,21 @@ pub record CaseLaws : Type 0 where
   pub left : LeftSideIsStep
   pub right : RightSideIsStep
 
-pub case_steps : CaseLaws → (rules : List Rule) (o : Overlap) (cs : List Case) → IsOverlapOf rules o → AreCases rules o cs → (k : ℕ) (c : Case) → slice_get cs k ≡ Some c → IsStepAt rules c.store c.left × IsStepAt rules c.store c.right
-case_steps laws rules o cs h is k c e = by is.listed
+pub case_steps : CaseLaws → (rules : List Rule) (o : Overlap) (cs : List Case) → IsOverlapOf rules o → AreCases rules o cs → (c : Case) → In c cs → IsApplicable rules c.store c.left × IsApplicable rules c.store c.right
+case_steps laws rules o cs h is c i = by is.listed
   where
-    none : [] ≡ cs → ⊥
-    none q = let a : None ≡ Some c = ap (λ xs. slice_get xs k) q ∙ e in cc
-
-    by : (HasNone (equations_of is.rule1 is.rule2 o.matching.items) × (cs ≡ [])) ⊎ AreListed rules o is.rule1 is.rule2 cs → IsStepAt rules c.store c.left × IsStepAt rules c.store c.right
-    by (inl n) = absurd (none (sym n.1))
+    by : (HasNoUnifier (equations_of is.rule1 is.rule2 o.matching.items) × (cs ≡ [])) ⊎ AreListed rules o is.rule1 is.rule2 cs → IsApplicable rules c.store c.left × IsApplicable rules c.store c.right
+    by (inl n) = absurd (subst (In c) n.1 i)
     by (inr l) =
         let r1 = is.rule1 in let r2 = is.rule2 in let m = o.matching.items in
-        let at = picked (case_at o r1 r2 l.classes) (guards_hold l.classes r1 r2) l.representatives k c (ap (λ xs. slice_get xs k) (sym l.cases_are) ∙ e) in
+        let at = picked (case_at o r1 r2 l.classes) (guards_hold l.classes r1 r2) l.representatives c (subst (In c) l.cases_are i) in
         let v1 = left_at l.classes r1 r2 at.0 in
         let v2 = right_at l.classes r1 r2 at.0 in
         let case = laws.cases r1 r2 m (matching_at rules o r1 r2 h is.first is.second) l.classes l.solves at.0 at.2 in
         let left = laws.left r1 r2 m v1 v2 case in
         let right = laws.right r1 r2 m v1 v2 case in
         let a = h.2.0 in let b = h.2.1 in
-        subst (λ x. IsStepAt rules x.store x.left × IsStepAt rules x.store x.right) at.3 (
+        subst (λ x. IsApplicable rules x.store x.left × IsApplicable rules x.store x.right) at.3 (
           record { rule = r1; numbered = omega (arith, a); named = is.first; instance = (v1, refl, left.guard); there = left.there },
           record { rule = r2; numbered = omega (arith, b); named = is.second; instance = (v2, refl, right.guard); there = right.there },
         )

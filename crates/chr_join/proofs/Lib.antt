@@ -1,6 +1,6 @@
 pub mod SideSteps
 pub mod CaseSteps
-pub mod Walking
+pub mod Lists
 pub mod Verdicts
 pub mod Confluent
 pub mod OnceLists

@@ -1,30 +1,19 @@
 -- The verdict as a walk over the overlaps finds it.
-use Rattle.std.specs.Prelude.{◌≡◌, ℕ, zero, suc, ◌+◌, ◌*◌, ◌^◌, ◌<◌, ◌≤◌, ◌⊎◌, Bool, true, false, cond, List, [], ◌∷◌, ◌++◌, Some, None, length, take, get_or, slice_get}
-use Rattle.std.specs.List.{filter}
+use Rattle.std.specs.Prelude.{◌≡◌, ℕ, zero, suc, ◌+◌, ◌*◌, ◌^◌, ◌<◌, ◌≤◌, ◌⊎◌, Bool, true, false, cond, List, [], ◌∷◌, ◌++◌, length, take, drop, get_or}
+use Rattle.std.specs.List.{All, filter}
 use Rattle.std.proofs.Common.{refl, sym, ap, subst, ◌∙◌, arith, inl, inr, length-take-le}
 use Rattle.std.proofs.lemmas.List.{take_more, length-map}
-use Rattle.std.proofs.lemmas.Option.{slice_get_read}
 use Rattle.chr_base.specs.declared.rule.Rule.{Rule}
 use Rattle.chr_types.specs.OrderTypes.{In}
 use Rattle.chr_overlaps.specs.declared.overlap.Overlap.{Overlap}
-use Rattle.chr_overlaps.specs.OverlapLists.{AreOverlaps, IsOverlapOf}
-use Rattle.chr_confluence.specs.Classes.{HasNone}
+use Rattle.chr_overlaps.specs.OverlapLists.{AreOverlaps}
+use Rattle.chr_confluence.specs.Unifiers.{HasNoUnifier}
 use Rattle.chr_confluence.specs.Overlaps.{equations_of}
 use Rattle.chr_confluence.specs.Representatives.{guards_hold}
-use Rattle.chr_overlaps.specs.CaseLists.{types_limit, case_at, AreListed, IsTooMany}
-use Rattle.chr_join.specs.declared.refused.Cause.{Cause}
-use Rattle.chr_join.specs.declared.refused.Cause.TheVariants as cause
-use Rattle.chr_join.specs.Verdicts.{CasesJoin, AllJoin, IsFirst, IsFirstCase}
-use Rattle.chr_join.specs.Explanations.{RefusesAt, IsRefusal}
-
-pub in_at : {A : Type 0} (xs : List A) (k : ℕ) (x : A) → slice_get xs k ≡ Some x → In x xs
-in_at [] k x h = absurd (let e : None ≡ Some x = h in cc)
-in_at (y ∷ ys) zero x h = inl (let e : Some y ≡ Some x = h in cc)
-in_at (y ∷ ys) (suc k) x h = inr (in_at ys k x h)
-
--- the overlap at a place is one of the rules
-pub overlap_at : (rules : List Rule) (os : List Overlap) (k : ℕ) (o : Overlap) → AreOverlaps rules os → k < length os → o ≡ get_or os k o → IsOverlapOf rules o
-overlap_at rules os k o are l e = are.each o (in_at os k o (slice_get_read os (length os) k o refl l e))
+use Rattle.chr_overlaps.specs.declared.cases.TheConstants.{MAX_TYPES}
+use Rattle.chr_overlaps.specs.CaseLists.{case_at, AreListed}
+use Rattle.chr_join.specs.Verdicts.{HasJoinableCases, HaveJoinableCases, IsFirst}
+use Rattle.chr_join.proofs.Lists.{split_at, all_in}
 
 filter_few : {A : Type 0} (p : A → Bool) (xs : List A) → length (filter p xs) ≤ length xs
 filter_few p [] = omega arith
@@ -34,19 +23,19 @@ filter_few p (x ∷ xs) = by (p x) (filter_few p xs)
     by true l = omega (arith, l)
     by false l = omega (arith, l)
 
-all_join_more : (rules : List Rule) (os : List Overlap) (o : Overlap) (n k : ℕ) → AllJoin rules os n → CasesJoin rules o k → AllJoin rules (os ++ o ∷ []) (n + k)
-all_join_more rules [] o n k h c = (k, 0, c, refl, omega (arith, h))
-all_join_more rules (p ∷ os) o n k h c = let e = h.4 in (h.0, h.1 + k, h.2, all_join_more rules os o h.1 k h.3 c, omega (arith, e))
+more_joinable : (rules : List Rule) (os : List Overlap) (o : Overlap) (n k : ℕ) → HaveJoinableCases rules os n → HasJoinableCases rules o k → HaveJoinableCases rules (os ++ o ∷ []) (n + k)
+more_joinable rules [] o n k h c = (k, 0, c, refl, omega (arith, h))
+more_joinable rules (p ∷ os) o n k h c = let e = h.4 in (h.0, h.1 + k, h.2, more_joinable rules os o h.1 k h.3 c, omega (arith, e))
 
-pub joined_more : (rules : List Rule) (os : List Overlap) (i : ℕ) (o : Overlap) (total k : ℕ) → i < length os → o ≡ get_or os i o → AllJoin rules (take i os) total → CasesJoin rules o k → AllJoin rules (take (i + 1) os) (total + k)
-joined_more rules os i o total k l e h c =
-    subst (λ xs. AllJoin rules xs (total + k)) (sym (take_more os i o l ∙ ap (λ x. take i os ++ x ∷ []) (sym e))) (all_join_more rules (take i os) o total k h c)
+pub joinable_more : (rules : List Rule) (os : List Overlap) (i : ℕ) (o : Overlap) (total k : ℕ) → i < length os → o ≡ get_or os i o → HaveJoinableCases rules (take i os) total → HasJoinableCases rules o k → HaveJoinableCases rules (take (i + 1) os) (total + k)
+joinable_more rules os i o total k l e h c =
+    subst (λ xs. HaveJoinableCases rules xs (total + k)) (sym (take_more os i o l ∙ ap (λ x. take i os ++ x ∷ []) (sym e))) (more_joinable rules (take i os) o total k h c)
 
 -- an overlap that has a list of cases has no more of them than order types
-few_cases : (rules : List Rule) (o : Overlap) (n : ℕ) → CasesJoin rules o n → n ≤ types_limit
+few_cases : (rules : List Rule) (o : Overlap) (n : ℕ) → HasJoinableCases rules o n → n ≤ MAX_TYPES
 few_cases rules o n h = by h.listed.listed
   where
-    by : (HasNone (equations_of h.listed.rule1 h.listed.rule2 o.matching.items) × (h.cases ≡ [])) ⊎ AreListed rules o h.listed.rule1 h.listed.rule2 h.cases → n ≤ types_limit
+    by : (HasNoUnifier (equations_of h.listed.rule1 h.listed.rule2 o.matching.items) × (h.cases ≡ [])) ⊎ AreListed rules o h.listed.rule1 h.listed.rule2 h.cases → n ≤ MAX_TYPES
     by (inl x) = let k = h.number in let none = ap length x.1 in omega (arith, k, none)
     by (inr x) =
         let number = h.number in
@@ -56,7 +45,7 @@ few_cases rules o n h = by h.listed.listed
         let within = x.within in
         omega (arith, number, are, mapped, passed, within)
 
-all_few : (rules : List Rule) (os : List Overlap) (n : ℕ) → AllJoin rules os n → n ≤ length os * types_limit
+all_few : (rules : List Rule) (os : List Overlap) (n : ℕ) → HaveJoinableCases rules os n → n ≤ length os * MAX_TYPES
 all_few rules [] n h = omega (arith, h)
 all_few rules (o ∷ os) n h =
     let here = few_cases rules o h.0 h.2 in
@@ -65,24 +54,26 @@ all_few rules (o ∷ os) n h =
     omega (arith, here, rest, sum)
 
 -- so the number of all cases has 64 bits
-pub total_fits : (rules : List Rule) (os : List Overlap) (i : ℕ) (o : Overlap) (total k : ℕ) → length os ≤ 2560000 → i < length os → AllJoin rules (take i os) total → CasesJoin rules o k → total + k < 2 ^ 64
+pub total_fits : (rules : List Rule) (os : List Overlap) (i : ℕ) (o : Overlap) (total k : ℕ) → length os ≤ 2560000 → i < length os → HaveJoinableCases rules (take i os) total → HasJoinableCases rules o k → total + k < 2 ^ 64
 total_fits rules os i o total k few l h c =
     let all = all_few rules (take i os) total h in
     let here = few_cases rules o k c in
     let taken = length-take-le i os (omega (arith, l)) in
     omega (arith, all, here, taken, few, l)
 
-earlier_join : (rules : List Rule) (os : List Overlap) (i n : ℕ) → AllJoin rules (take i os) n → (k : ℕ) (p : Overlap) → k < i → slice_get os k ≡ Some p → (m : ℕ) × CasesJoin rules p m
-earlier_join rules [] i n h k p l e = absurd (let q : None ≡ Some p = e in cc)
-earlier_join rules (o ∷ os) zero n h k p l e = absurd (omega (arith, l))
-earlier_join rules (o ∷ os) (suc i) n h zero p l e = (h.0, subst (λ x. CasesJoin rules x h.0) (let q : Some o ≡ Some p = e in cc) h.2)
-earlier_join rules (o ∷ os) (suc i) n h (suc k) p l e = earlier_join rules os i h.1 h.3 k p (omega (arith, l)) e
+each_joinable : (rules : List Rule) (os : List Overlap) (n : ℕ) → HaveJoinableCases rules os n → All (λ p. (m : ℕ) × HasJoinableCases rules p m) os
+each_joinable rules [] n h k d l = absurd (omega (arith, l))
+each_joinable rules (o ∷ os) n h zero d l = (h.0, h.2)
+each_joinable rules (o ∷ os) n h (suc k) d l = each_joinable rules os h.1 h.3 k d (omega (arith, l))
 
-pub first_at : (rules : List Rule) (os : List Overlap) (i : ℕ) (o : Overlap) (n : ℕ) → AreOverlaps rules os → AllJoin rules (take i os) n → i < length os → o ≡ get_or os i o → IsFirst rules o
-first_at rules os i o n are h l e = record { overlaps = os; place = i; listed = are; there = slice_get_read os (length os) i o refl l e; earlier = earlier_join rules os i n h }
+-- each of the overlaps has joinable cases
+pub joinable_in : (rules : List Rule) (os : List Overlap) (n : ℕ) (o : Overlap) → HaveJoinableCases rules os n → In o os → (m : ℕ) × HasJoinableCases rules o m
+joinable_in rules os n o h = all_in (λ p. (m : ℕ) × HasJoinableCases rules p m) os o (each_joinable rules os n h)
 
-pub refusal_at : (rules : List Rule) (o : Overlap) (e : Cause) → IsFirst rules o → RefusesAt rules o e → IsRefusal rules e
-refusal_at rules o (cause.Fails f) first h =
-    (subst (IsFirst rules) (sym h.0) first, (h.1.0, subst (λ x. IsFirstCase rules x h.1.0) (sym h.0) h.1.1, h.1.2))
-refusal_at rules o (cause.TooManyTypes t) first h = (subst (IsFirst rules) (sym h.0) first, subst (λ x. IsTooMany rules x t.classes) (sym h.0) h.1)
-refusal_at rules o cause.Memory first h = tt
+pub first_at : (rules : List Rule) (os : List Overlap) (i : ℕ) (o : Overlap) (n : ℕ) → AreOverlaps rules os → HaveJoinableCases rules (take i os) n → i < length os → o ≡ get_or os i o → IsFirst rules o
+first_at rules os i o n are h l e = record {
+  before = take i os;
+  after = drop (i + 1) os;
+  listed = subst (AreOverlaps rules) (sym (split_at os i o l e)) are;
+  joinable = each_joinable rules (take i os) n h;
+}

@@ -1,12 +1,19 @@
 -- What an accepted program is seen as.
---     weighed_of a        its program, with the weights
---     cases_of a        the number of all cases
 use Rattle.std.specs.Prelude.{ℕ}
+use Rattle.std.specs.Arc.{arc_value}
+use Rattle.chr_base.specs.declared.program.Program.{Program}
 use Rattle.chr_weights.specs.declared.weighed.Weighed.{Weighed}
+use Rattle.chr_weights.specs.WeighedPrograms.{program_of}
 use Rattle.chr_join.specs.declared.accepted.Accepted.{Accepted}
 
+-- its program with the weights
 abbrev pub weighed_of : Accepted → Weighed
-weighed_of a = a.weighed
+weighed_of a = arc_value a.weighed
 
+-- its program
+abbrev pub program_in : Accepted → Program
+program_in a = program_of (weighed_of a)
+
+-- the number of all cases
 abbrev pub cases_of : Accepted → ℕ
 cases_of a = a.cases

@@ -1,60 +1,58 @@
 -- What a refusal tells.
---     Explains rules c f        f has the two derivations of a case that fails: each begins with its own rule's step, and goes on with the plain derivation of that side
---     RefusesAt rules o e        e is a true cause at the overlap o
---     IsFailing e        the cause is a case that fails
---     FailingReplays rules e        of a case that fails, both derivations replay, to two different stores at rest
---     IsRefusal rules e        e is the first cause there is, overlap by overlap and case by case
-use Rattle.std.specs.Prelude.{◌≡◌, List, ◌∷◌}
+use Rattle.std.specs.Prelude.{◌≡◌, List, ◌∷◌, ⊤}
 use Rattle.chr_base.specs.declared.rule.Rule.{Rule}
+use Rattle.chr_base.specs.declared.derivation.Derivation.{Derivation}
 use Rattle.chr_base.specs.declared.derivation.Step.{Step}
+use Rattle.chr_base.specs.Stores.{Store}
 use Rattle.chr_base.specs.Rules.{Step as RuleStep}
 use Rattle.chr_base.specs.Rewriting.{IsAtRest}
-use Rattle.chr_rewrite.specs.Plain.{Replays}
-use Rattle.chr_overlaps.specs.declared.overlap.Overlap.{Overlap}
+use Rattle.chr_rewrite.specs.Derivations.{IsDerivation}
 use Rattle.chr_overlaps.specs.declared.cases.Case.{Case}
 use Rattle.chr_overlaps.specs.CaseLists.{IsTooMany}
 use Rattle.chr_join.specs.declared.refused.Failure.{Failure}
 use Rattle.chr_join.specs.declared.refused.Cause.{Cause}
 use Rattle.chr_join.specs.declared.refused.Cause.TheVariants as cause
-use Rattle.chr_join.specs.Sides.{SideEnds}
+use Rattle.chr_join.specs.Sides.{IsSideComputation}
 use Rattle.chr_join.specs.Verdicts.{IsFirst, IsFirstCase}
 
+-- The derivation d starts at s with the step st, goes on with the plain derivation, and ends in t.
+pub record IsSideOf (rules : List Rule) (s : Store) (st : Step) (d : Derivation) (t : Store) : Type 0 where
+  pub start : d.start ≡ s
+  pub rest : List Step
+  pub steps : d.steps.items ≡ st ∷ rest
+  pub runs : IsSideComputation rules s st rest t
+
+-- f has the derivations of both sides of the case c, which end in different stores.
 pub record Explains (rules : List Rule) (c : Case) (f : Failure) : Type 0 where
-  pub left_start : f.left.start ≡ c.store
-  pub left_rest : List Step
-  pub left_steps : f.left.steps.items ≡ c.left ∷ left_rest
-  pub left_ends : SideEnds rules c.store c.left left_rest f.left_end
-  pub right_start : f.right.start ≡ c.store
-  pub right_rest : List Step
-  pub right_steps : f.right.steps.items ≡ c.right ∷ right_rest
-  pub right_ends : SideEnds rules c.store c.right right_rest f.right_end
-  pub differ : f.left_end ≡ f.right_end → ⊥
+  pub left : IsSideOf rules c.store c.left f.left f.left_end
+  pub right : IsSideOf rules c.store c.right f.right f.right_end
+  pub differ : ¬ (f.left_end ≡ f.right_end)
 
-abbrev pub RefusesAt : List Rule → Overlap → Cause → Type 0
-RefusesAt rules o (cause.Fails f) = (f.overlap ≡ o) × ((c : Case) × IsFirstCase rules o c × Explains rules c f)
-RefusesAt rules o (cause.TooManyTypes t) = (t.overlap ≡ o) × IsTooMany rules o t.classes
-RefusesAt rules o cause.Memory = Unit {0}
+-- f explains the first case of its overlap that is not joinable.
+pub record ExplainsFirst (rules : List Rule) (f : Failure) : Type 0 where
+  pub case : Case
+  pub first : IsFirstCase rules f.overlap case
+  pub explains : Explains rules case f
 
+-- The cause is the first there is, overlap by overlap and case by case.
 abbrev pub IsRefusal : List Rule → Cause → Type 0
-IsRefusal rules (cause.Fails f) = IsFirst rules f.overlap × ((c : Case) × IsFirstCase rules f.overlap c × Explains rules c f)
+IsRefusal rules (cause.Fails f) = IsFirst rules f.overlap × ExplainsFirst rules f
 IsRefusal rules (cause.TooManyTypes t) = IsFirst rules t.overlap × IsTooMany rules t.overlap t.classes
-IsRefusal rules cause.Memory = Unit {0}
+IsRefusal rules cause.Memory = ⊤
 
-abbrev pub IsFailing : Cause → Type 0
-IsFailing (cause.Fails f) = Unit {0}
-IsFailing (cause.TooManyTypes t) = ⊥
-IsFailing cause.Memory = ⊥
+-- P holds of what a case that fails is told by, if that is the cause.
+abbrev pub IfFails : Cause → (Failure → Type 0) → Type 0
+IfFails (cause.Fails f) P = P f
+IfFails (cause.TooManyTypes t) P = ⊤
+IfFails cause.Memory P = ⊤
 
--- The two derivations of a case that fails start at one store, and replay to two different stores at rest.
+-- The derivation replays to t, which is at rest.
+abbrev pub ReplaysToRest : List Rule → Derivation → Store → Type 0
+ReplaysToRest rules d t = IsDerivation rules d.steps.items d.start t × IsAtRest (RuleStep rules) t
+
+-- Both derivations start at one store, and replay to two different stores at rest.
 pub record ReplaysApart (rules : List Rule) (f : Failure) : Type 0 where
   pub start : f.left.start ≡ f.right.start
-  pub left : Replays rules f.left.steps.items f.left.start f.left_end
-  pub left_rests : IsAtRest (RuleStep rules) f.left_end
-  pub right : Replays rules f.right.steps.items f.right.start f.right_end
-  pub right_rests : IsAtRest (RuleStep rules) f.right_end
-  pub differ : f.left_end ≡ f.right_end → ⊥
-
-abbrev pub FailingReplays : List Rule → Cause → Type 0
-FailingReplays rules (cause.Fails f) = ReplaysApart rules f
-FailingReplays rules (cause.TooManyTypes t) = Unit {0}
-FailingReplays rules cause.Memory = Unit {0}
+  pub left : ReplaysToRest rules f.left f.left_end
+  pub right : ReplaysToRest rules f.right f.right_end
+  pub differ : ¬ (f.left_end ≡ f.right_end)

@@ -3,3 +3,4 @@ pub mod Verdicts
 pub mod AcceptedPrograms
 pub mod Explanations
 pub mod Once
+pub mod working

@@ -1,49 +1,59 @@
 //! Accepted programs.
+ghost use Rattle.std.specs.Arc.{arc_value};
 ghost use Rattle.chr_base.specs.Programs.{rules_of};
-ghost use Rattle.chr_weights.specs.WeighedPrograms.{program_of};
-ghost use Rattle.chr_confluence.specs.Cases.{Confluent};
-ghost use Rattle.chr_confluence.specs.Confluence.{Confluent-prop};
+ghost use Rattle.chr_weights.specs.WeighedPrograms.{rules_in};
+ghost use Rattle.chr_confluence.specs.Confluence.{Confluent};
+ghost use Rattle.chr_confluence.proofs.Refuting.{Confluent-prop};
 ghost use Rattle.chr_join.specs.Verdicts.{IsAccepted};
 
 use crate::once::accepted_are_confluent;
 use chr_base::program::Program;
 use chr_weights::Weighed;
+use std::alloc::{AllocFailed, Global};
+use std::sync::Arc;
 
 /// A program that lowers, and of whose overlaps no case fails. So it is confluent: a store of 64-bit values has one
 /// normal form, however the rules are applied.
 #[derive(Drop)]
 pub struct Accepted {
-    weighed: Weighed,
+    weighed: Arc<Weighed>,
     cases: u64,
-    ghost accepted: { ∥ IsAccepted (rules_of (program_of weighed)) cases ∥₁ },
-    ghost confluent: { Confluent (rules_of (program_of weighed)) } by { Confluent-prop (rules_of (program_of weighed)) },
+    ghost accepted: { ∥ IsAccepted (rules_in (arc_value weighed)) cases ∥₁ },
+    ghost confluent: { Confluent (rules_in (arc_value weighed)) } by { Confluent-prop (rules_in (arc_value weighed)) },
 }
 
 impl Accepted {
-    ghost use Rattle.std.specs.Prelude.{◌≡◌};
-    ghost use Rattle.chr_join.specs.AcceptedPrograms.{weighed_of, cases_of};
+    ghost use Rattle.std.specs.Prelude.{◌≡◌, IfOk, IfErr};
+    ghost use Rattle.chr_join.specs.AcceptedPrograms.{weighed_of, program_in, cases_of};
 
-    /// A program of whose overlaps no case fails, with the number of all cases.
-    pub(crate) fn new(weighed: Weighed, cases: u64) -> Accepted
-        requires { IsAccepted (rules_of (program_of weighed)) cases }
-        ensures weighed { weighed_of result ≡ weighed }
-        ensures cases { cases_of result ≡ cases }
+    /// A program of whose overlaps no case fails, with the number of all cases. Where memory is refused, the program is
+    /// handed back.
+    pub(crate) fn new(
+        alloc: Global,
+        weighed: Weighed,
+        cases: u64,
+    ) -> Result<Accepted, AllocFailed<Weighed>>
+        requires { IsAccepted (rules_in weighed) cases }
+        ensures weighed { IfOk result (λ a. weighed_of a ≡ weighed) }
+        ensures cases { IfOk result (λ a. cases_of a ≡ cases) }
+        ensures handed_back { IfErr result (λ e. e.value ≡ weighed) }
     {
         accepted_are_confluent();
-        Accepted { weighed, cases }
+        let weighed = Arc::new(alloc, weighed)?;
+        Ok(Accepted { weighed, cases })
     }
 
     /// The program with its weights.
     pub fn weighed(&self) -> &Weighed
         ensures weighed { result.now ≡ weighed_of self.now }
-        ensures confluent { Confluent (rules_of (program_of result.now)) }
+        ensures confluent { Confluent (rules_in result.now) }
     {
         &self.weighed
     }
 
     /// The program.
     pub fn program(&self) -> &Program
-        ensures { result.now ≡ program_of (weighed_of self.now) }
+        ensures { result.now ≡ program_in self.now }
     {
         self.weighed.program()
     }
@@ -51,7 +61,7 @@ impl Accepted {
     /// The number of all cases of its overlaps.
     pub fn cases(&self) -> u64
         ensures number { result ≡ cases_of self.now }
-        ensures accepted { ∥ IsAccepted (rules_of (program_of (weighed_of self.now))) result ∥₁ }
+        ensures accepted { ∥ IsAccepted (rules_of (program_in self.now)) result ∥₁ }
     {
         self.cases
     }

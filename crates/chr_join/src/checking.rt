@@ -1,17 +1,16 @@
 //! The verdict on a program, overlap by overlap and case by case.
-ghost use Rattle.std.specs.Prelude.{◌≡◌, ◌<◌, ℕ, Some, IfOk, IfErr, OnOk, IfSome, IfNone, slice_get};
-ghost use Rattle.chr_base.specs.Programs.{rules_of};
-ghost use Rattle.chr_rewrite.specs.Plain.{IsStepAt};
-ghost use Rattle.chr_weights.specs.WeighedPrograms.{program_of};
-ghost use Rattle.chr_confluence.specs.Cases.{Confluent};
-ghost use Rattle.chr_confluence.specs.Representatives.{AreConstants};
-ghost use Rattle.chr_overlaps.specs.declared.cases.Case.{Case as CaseValue};
+ghost use Rattle.std.specs.Prelude.{◌≡◌, IfOk, IfErr, OnOk, IfSome, IfNone};
+ghost use Rattle.std.specs.List.{All};
+ghost use Rattle.chr_weights.specs.WeighedPrograms.{rules_in};
+ghost use Rattle.chr_confluence.specs.Confluence.{Confluent};
+ghost use Rattle.chr_confluence.specs.Constants.{AreConstants};
 ghost use Rattle.chr_overlaps.specs.OverlapLists.{IsOverlapOf};
 ghost use Rattle.chr_overlaps.specs.CaseLists.{AreCases};
 ghost use Rattle.chr_join.specs.AcceptedPrograms.{weighed_of, cases_of};
-ghost use Rattle.chr_join.specs.Sides.{Joins, Fails};
-ghost use Rattle.chr_join.specs.Verdicts.{CasesJoin, IsAccepted, IsFirstCase};
-ghost use Rattle.chr_join.specs.Explanations.{Explains, RefusesAt, IsRefusal, IsFailing, FailingReplays};
+ghost use Rattle.chr_join.specs.Sides.{IsJoinable};
+ghost use Rattle.chr_join.specs.Verdicts.{HasJoinableCases, IsAccepted};
+ghost use Rattle.chr_join.specs.Explanations.{Explains, ExplainsFirst, IsRefusal, IfFails, ReplaysApart};
+ghost use Rattle.chr_join.specs.working.Checking.{EndApart, RefusesAt};
 
 use crate::accepted::Accepted;
 use crate::refused::{Cause, Failure, Refused, TooManyTypes};
@@ -33,11 +32,9 @@ fn explained(
     case: &Case,
     ends: (Bag, Bag),
 ) -> Result<Failure, AllocError>
-    requires left { IsStepAt (rules_of (program_of weighed.now)) case.now.store case.now.left }
-    requires right { IsStepAt (rules_of (program_of weighed.now)) case.now.store case.now.right }
-    requires fails { Fails (rules_of (program_of weighed.now)) case.now ends.0 ends.1 }
+    requires { EndApart (rules_in weighed.now) case.now ends }
     ensures overlap { IfOk result (λ f. f.overlap ≡ overlap.now) }
-    ensures explains { IfOk result (λ f. Explains (rules_of (program_of weighed.now)) case.now f) }
+    ensures explains { IfOk result (λ f. Explains (rules_in weighed.now) case.now f) }
 {
     let left = side(alloc, weighed, &case.store, &case.left)?;
     let right = side(alloc, weighed, &case.store, &case.right)?;
@@ -58,11 +55,11 @@ fn first_failing(
     overlap: &Overlap,
     cases: &[Case],
 ) -> Result<Option<Failure>, AllocError>
-    requires overlap { IsOverlapOf (rules_of (program_of weighed.now)) overlap.now }
-    requires cases { AreCases (rules_of (program_of weighed.now)) overlap.now cases.now }
-    ensures join { IfOk result (λ found. IfNone found ((k : ℕ) (c : CaseValue) → slice_get cases.now k ≡ Some c → Joins (rules_of (program_of weighed.now)) c)) }
+    requires overlap { IsOverlapOf (rules_in weighed.now) overlap.now }
+    requires cases { AreCases (rules_in weighed.now) overlap.now cases.now }
+    ensures joinable { IfOk result (λ found. IfNone found (All (IsJoinable (rules_in weighed.now)) cases.now)) }
     ensures overlap { IfOk result (λ found. IfSome found (λ f. f.overlap ≡ overlap.now)) }
-    ensures fails { IfOk result (λ found. IfSome found (λ f. (c : CaseValue) × IsFirstCase (rules_of (program_of weighed.now)) overlap.now c × Explains (rules_of (program_of weighed.now)) c f)) }
+    ensures fails { IfOk result (λ found. IfSome found (ExplainsFirst (rules_in weighed.now))) }
 {
     listed_cases();
     peak();
@@ -75,17 +72,17 @@ fn first_failing(
     Ok(None)
 }
 
-/// The number of cases of an overlap, where all of them join.
+/// The number of cases of an overlap, where all of them are joinable.
 fn check_overlap(
     alloc: Global,
     weighed: &Weighed,
     overlap: &Overlap,
     constants: &[i64],
 ) -> Result<usize, Cause>
-    requires overlap { IsOverlapOf (rules_of (program_of weighed.now)) overlap.now }
-    requires constants { AreConstants (rules_of (program_of weighed.now)) constants.now }
-    ensures ok { IfOk result (CasesJoin (rules_of (program_of weighed.now)) overlap.now) }
-    ensures err { IfErr result (RefusesAt (rules_of (program_of weighed.now)) overlap.now) }
+    requires overlap { IsOverlapOf (rules_in weighed.now) overlap.now }
+    requires constants { AreConstants (rules_in weighed.now) constants.now }
+    ensures ok { IfOk result (HasJoinableCases (rules_in weighed.now) overlap.now) }
+    ensures err { IfErr result (RefusesAt (rules_in weighed.now) overlap.now) }
 {
     let cases = match cases_among(alloc, weighed, overlap, constants) {
         Ok(cases) => cases,
@@ -104,10 +101,10 @@ fn check_overlap(
     }
 }
 
-/// The number of all cases, where all of them join.
+/// The number of all cases, where all of them are joinable.
 fn check_all(alloc: Global, weighed: &Weighed) -> Result<u64, Cause>
-    ensures ok { IfOk result (IsAccepted (rules_of (program_of weighed.now))) }
-    ensures err { IfErr result (IsRefusal (rules_of (program_of weighed.now))) }
+    ensures ok { IfOk result (IsAccepted (rules_in weighed.now)) }
+    ensures err { IfErr result (IsRefusal (rules_in weighed.now)) }
 {
     let constants = constants(alloc, weighed.program().rules())?;
     let overlaps = overlaps(alloc, weighed)?;
@@ -122,27 +119,33 @@ fn check_all(alloc: Global, weighed: &Weighed) -> Result<u64, Cause>
 }
 
 /// Accepts a program of which no case fails. A case is a least store in which two rules, or a rule twice, can fire on
-/// shared atoms; it fails where the plain derivations of its two sides end in different stores (after Abdennadher, Frühwirth
-/// and Meuss 1999).
+/// shared atoms; it fails where the plain derivations of its two sides end in different stores (after Abdennadher,
+/// Frühwirth and Meuss 1999).
 ///
 /// # Errors
 ///
-/// The program is handed back with the first cause there is, where overlaps and in each its cases are taken in order: a case
-/// that fails, with its two derivations; an overlap of more than 50,000 order types; or want of memory.
+/// The program is handed back with the first cause there is, where overlaps and in each its cases are taken in order: a
+/// case that fails, with its two derivations; an overlap of more than 50,000 order types; or want of memory.
 pub fn accept(alloc: Global, weighed: Weighed) -> Result<Accepted, Refused>
     ensures program { IfOk result (λ a. weighed_of a ≡ weighed) }
-    ensures accepted { IfOk result (λ a. IsAccepted (rules_of (program_of weighed)) (cases_of a)) }
+    ensures accepted { IfOk result (λ a. IsAccepted (rules_in weighed) (cases_of a)) }
     ensures handed_back { IfErr result (λ e. e.weighed ≡ weighed) }
-    ensures refused { IfErr result (λ e. IsRefusal (rules_of (program_of weighed)) e.cause) }
-    ensures replays { IfErr result (λ e. FailingReplays (rules_of (program_of weighed)) e.cause) }
-    ensures confluent { OnOk result (Confluent (rules_of (program_of weighed))) }
-    ensures not_confluent { IfErr result (λ e. IsFailing e.cause → Confluent (rules_of (program_of weighed)) → ⊥) }
+    ensures refused { IfErr result (λ e. IsRefusal (rules_in weighed) e.cause) }
+    ensures replays { IfErr result (λ e. IfFails e.cause (ReplaysApart (rules_in weighed))) }
+    ensures confluent { OnOk result (Confluent (rules_in weighed)) }
+    ensures not_confluent { IfErr result (λ e. IfFails e.cause (λ _. ¬ (Confluent (rules_in weighed)))) }
 {
     peak();
     listed_cases();
     listed_confluence();
     match check_all(alloc, &weighed) {
-        Ok(cases) => Ok(Accepted::new(weighed, cases)),
+        Ok(cases) => match Accepted::new(alloc, weighed, cases) {
+            Ok(accepted) => Ok(accepted),
+            Err(failed) => Err(Refused {
+                weighed: failed.value,
+                cause: Cause::Memory,
+            }),
+        },
         Err(cause) => Err(Refused { weighed, cause }),
     }
 }

@@ -8,8 +8,6 @@ pub mod laws;
 mod once;
 mod refused;
 mod sides;
-#[cfg(test)]
-mod tests;
 
 pub use accepted::Accepted;
 pub use checking::accept;

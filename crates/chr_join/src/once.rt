@@ -13,7 +13,8 @@ pub fn verdict_is_one()
     ensures either { NeverBoth }
 {}
 
-/// Rules of which no case fails, and which lower a weight, are confluent (after Abdennadher, Frühwirth and Meuss 1999).
+/// Rules of which no case fails, and which lower a weight, are confluent (after Abdennadher, Frühwirth and Meuss
+/// 1999).
 pub fn accepted_are_confluent()
     ensures { AcceptedAreConfluent }
 {

@@ -7,8 +7,8 @@ use chr_overlaps::Overlap;
 use chr_weights::Weighed;
 use std::alloc::AllocError;
 
-/// The first case that fails, and its two derivations. Each begins at the case's store with its own rule's step, and goes
-/// on with the plain derivation of that side.
+/// The first case that fails, and its two derivations. Each begins at the case's store with its own rule's step, and
+/// goes on with the plain derivation of that side.
 #[derive(Drop)]
 pub struct Failure {
     /// The overlap of the case.

@@ -1,11 +1,11 @@
 //! The two sides of a case.
-ghost use Rattle.std.specs.Prelude.{◌≡◌, ◌∷◌, List, IfOk, IfSome, IfNone};
-ghost use Rattle.chr_base.specs.declared.derivation.Step.{Step as StepValue};
+ghost use Rattle.std.specs.Prelude.{◌≡◌, IfOk, IfSome, IfNone};
 ghost use Rattle.chr_base.specs.Stores.{Store};
-ghost use Rattle.chr_base.specs.Programs.{rules_of};
-ghost use Rattle.chr_rewrite.specs.Plain.{IsStepAt, Takes};
-ghost use Rattle.chr_weights.specs.WeighedPrograms.{program_of};
-ghost use Rattle.chr_join.specs.Sides.{SideEnds, Joins, Fails};
+ghost use Rattle.chr_rewrite.specs.Derivations.{IsApplicable, LeadsTo};
+ghost use Rattle.chr_weights.specs.WeighedPrograms.{rules_in};
+ghost use Rattle.chr_join.specs.Sides.{SideEnds, IsJoinable};
+ghost use Rattle.chr_join.specs.Explanations.{IsSideOf};
+ghost use Rattle.chr_join.specs.working.Checking.{EndApart};
 
 use chr_base::bag::Bag;
 use chr_base::derivation::{Derivation, Step};
@@ -16,8 +16,8 @@ use std::alloc::{AllocError, Global};
 
 /// The store after a step.
 fn after(alloc: Global, weighed: &Weighed, store: &Bag, step: &Step) -> Result<Bag, AllocError>
-    requires { IsStepAt (rules_of (program_of weighed.now)) store.now step.now }
-    ensures { IfOk result (λ t. Takes (rules_of (program_of weighed.now)) step.now store.now t) }
+    requires { IsApplicable (rules_in weighed.now) store.now step.now }
+    ensures { IfOk result (λ t. LeadsTo (rules_in weighed.now) step.now store.now t) }
 {
     let rule = &weighed.program().rules()[step.rule as usize - 1];
     fired(alloc, rule, &step.heads, store)
@@ -25,8 +25,8 @@ fn after(alloc: Global, weighed: &Weighed, store: &Bag, step: &Step) -> Result<B
 
 /// Where the plain derivation ends that begins with a step.
 fn side_end(alloc: Global, weighed: &Weighed, store: &Bag, step: &Step) -> Result<Bag, AllocError>
-    requires { IsStepAt (rules_of (program_of weighed.now)) store.now step.now }
-    ensures { IfOk result (λ end. (steps : List StepValue) × SideEnds (rules_of (program_of weighed.now)) store.now step.now steps end) }
+    requires { IsApplicable (rules_in weighed.now) store.now step.now }
+    ensures { IfOk result (SideEnds (rules_in weighed.now) store.now step.now) }
 {
     let after = after(alloc, weighed, store, step)?;
     plain_end(alloc, weighed, &after)
@@ -39,9 +39,8 @@ pub(crate) fn side(
     store: &Bag,
     step: &Step,
 ) -> Result<Derivation, AllocError>
-    requires { IsStepAt (rules_of (program_of weighed.now)) store.now step.now }
-    ensures start { IfOk result (λ d. d.start ≡ store.now) }
-    ensures steps { IfOk result (λ d. (steps : List StepValue) × (end : Store) × (d.steps.items ≡ step.now ∷ steps) × SideEnds (rules_of (program_of weighed.now)) store.now step.now steps end) }
+    requires { IsApplicable (rules_in weighed.now) store.now step.now }
+    ensures { IfOk result (λ d. (end : Store) × IsSideOf (rules_in weighed.now) store.now step.now d end) }
 {
     let after = after(alloc, weighed, store, step)?;
     let start = store.copy(alloc)?;
@@ -56,10 +55,10 @@ pub(crate) fn different_ends(
     weighed: &Weighed,
     case: &Case,
 ) -> Result<Option<(Bag, Bag)>, AllocError>
-    requires left { IsStepAt (rules_of (program_of weighed.now)) case.now.store case.now.left }
-    requires right { IsStepAt (rules_of (program_of weighed.now)) case.now.store case.now.right }
-    ensures joins { IfOk result (λ ends. IfNone ends (Joins (rules_of (program_of weighed.now)) case.now)) }
-    ensures fails { IfOk result (λ ends. IfSome ends (λ e. Fails (rules_of (program_of weighed.now)) case.now e.0 e.1)) }
+    requires left { IsApplicable (rules_in weighed.now) case.now.store case.now.left }
+    requires right { IsApplicable (rules_in weighed.now) case.now.store case.now.right }
+    ensures joinable { IfOk result (λ ends. IfNone ends (IsJoinable (rules_in weighed.now) case.now)) }
+    ensures differ { IfOk result (λ ends. IfSome ends (EndApart (rules_in weighed.now) case.now)) }
 {
     let left = side_end(alloc, weighed, &case.store, &case.left)?;
     let right = side_end(alloc, weighed, &case.store, &case.right)?;

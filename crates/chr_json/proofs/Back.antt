@@ -6,9 +6,10 @@ use Rattle.std.proofs.lemmas.List.{length-map}
 use Rattle.std.proofs.lemmas.Bool.Decides.{nat_tests}
 use Rattle.serde_json.specs.Data.{Data, string, array}
 use Rattle.serde_json.specs.View.{items_of}
+use Rattle.chr_json.specs.declared.limits.TheConstants.{MAX_OPERATION}
 use Rattle.chr_json.specs.Values.{each, integer_of, origin_of}
-use Rattle.chr_json.specs.Commands.{Word, show, tell, atom_in, atom_of, atoms_in, atoms_of, id_of}
-use Rattle.chr_json.specs.Printed.{natural_data, argument_data, atom_data, atoms_data, IsWord, CommandsAreRead}
+use Rattle.chr_json.specs.Commands.{NamedAtom, show, tell, named_atom_from, named_atom_of, named_atoms_from, named_atoms_of, id_of}
+use Rattle.chr_json.specs.Printed.{natural_data, argument_data, atom_data, atoms_data, ArgumentsFit, CommandsAreRead}
 use Rattle.chr_json.proofs.Each.{listed-items_of}
 
 integer_back : (z : ℤ) → FitsSigned w64 z → integer_of (argument_data z) ≡ Some z
@@ -25,19 +26,19 @@ each_back f g P one (x ∷ xs) h =
     ap (λ o. option_and_then (λ y. option_map (λ ys. y ∷ ys) (each f (map g xs))) o) (one x h.0)
     ∙ ap (λ o. option_map (λ ys. x ∷ ys) o) (each_back f g P one xs h.1)
 
-atom_back : (w : Word) → IsWord w → atom_of (atom_data w) ≡ Some w
+atom_back : (w : NamedAtom) → ArgumentsFit w → named_atom_of (atom_data w) ≡ Some w
 atom_back w h =
-    ap (λ l. atom_in l) (listed-items_of (string w.name ∷ map argument_data w.args))
+    ap (λ l. named_atom_from l) (listed-items_of (string w.name ∷ map argument_data w.args))
     ∙ ap (λ o. option_map (λ zs. record { name = w.name; args = zs }) o) (each_back integer_of argument_data (FitsSigned w64) integer_back w.args h)
 
-count_back : (ws : List Word) → 1 ≤ length ws → length ws ≤ 64 → nat_le 1 (length (map atom_data ws)) && nat_le (length (map atom_data ws)) 64 ≡ true
+count_back : (ws : List NamedAtom) → 1 ≤ length ws → length ws ≤ MAX_OPERATION → nat_le 1 (length (map atom_data ws)) && nat_le (length (map atom_data ws)) MAX_OPERATION ≡ true
 count_back ws low high = rw length-map (grind (arith, nat_tests))
 
-atoms_back : (ws : List Word) → 1 ≤ length ws → length ws ≤ 64 → AllByRecursion IsWord ws → atoms_of (atoms_data ws) ≡ Some ws
+atoms_back : (ws : List NamedAtom) → 1 ≤ length ws → length ws ≤ MAX_OPERATION → AllByRecursion ArgumentsFit ws → named_atoms_of (atoms_data ws) ≡ Some ws
 atoms_back ws low high h =
-    ap atoms_in (listed-items_of (map atom_data ws))
-    ∙ ap (λ b. cond b (each atom_of (map atom_data ws)) None) (count_back ws low high)
-    ∙ each_back atom_of atom_data IsWord atom_back ws h
+    ap named_atoms_from (listed-items_of (map atom_data ws))
+    ∙ ap (λ b. cond b (each named_atom_of (map atom_data ws)) None) (count_back ws low high)
+    ∙ each_back named_atom_of atom_data ArgumentsFit atom_back ws h
 
 id_back : (o n : ℕ) → o < 2 ^ 32 → id_of (array (items_of (natural_data o ∷ natural_data n ∷ []))) ≡ Some (o, n)
 id_back o n h = ap (option_and_then (λ x. Some (x, n))) (origin_back o h)
@@ -45,5 +46,5 @@ id_back o n h = ap (option_and_then (λ x. Some (x, n))) (origin_back o h)
 pub commands_back : CommandsAreRead
 commands_back (show r) h = refl
 commands_back (tell r o n ws) h =
-    ap (λ p. option_and_then (λ q. option_map (λ xs. tell r q.0 q.1 xs) (atoms_of (atoms_data ws))) p) (id_back o n h.0)
-    ∙ ap (option_map (tell r o n)) (atoms_back ws h.1 h.2 h.3)
+    ap (λ p. option_and_then (λ q. option_map (λ xs. tell r q.0 q.1 xs) (named_atoms_of (atoms_data ws))) p) (id_back o n h.0)
+    ∙ ap (option_map (tell r o n)) (atoms_back ws h.1.0 h.1.1 h.2)

@@ -1,6 +1,6 @@
 -- Going over a list, one element after another.
-use Rattle.std.proofs.Common.{◌≡◌, ℕ, ◌+◌, ◌<◌, ◌≤◌, List, [], ◌∷◌, ◌++◌, length, map, drop, get_or, Option, Some, None, option_map, option_and_then, refl, sym, ap, ◌∙◌, append_assoc, append-nil}
-use Rattle.std.proofs.lemmas.List.{drop_more, drop_all}
+use Rattle.std.proofs.Common.{◌≡◌, ℕ, ◌+◌, ◌<◌, List, [], ◌∷◌, ◌++◌, length, map, drop, get_or, Option, Some, None, option_map, option_and_then, refl, sym, ap, ◌∙◌, append_assoc}
+use Rattle.std.proofs.lemmas.List.{drop_more}
 use Rattle.serde_json.specs.Data.{Data}
 use Rattle.serde_json.specs.View.{items_of}
 use Rattle.chr_json.specs.Values.{listed, each}
@@ -28,14 +28,3 @@ front_step f v xs k x y ys within is_x read =
     ap (λ l. front ys (each f (map v l))) (drop_more xs k x within ∙ ap (λ z. z ∷ drop (k + 1) xs) (sym is_x))
     ∙ ap (λ o. front ys (option_and_then (λ y. option_map (λ zs. y ∷ zs) (each f (map v (drop (k + 1) xs)))) o)) read
     ∙ front_push ys y (each f (map v (drop (k + 1) xs)))
-
--- the k-th element is not one
-pub front_stop : {A B C : Type 0} (f : B → Option C) (v : A → B) (xs : List A) (k : ℕ) (x : A) (ys : List C) → k < length xs → x ≡ get_or xs k x → f (v x) ≡ None
-    → front ys (each f (map v (drop k xs))) ≡ None
-front_stop f v xs k x ys within is_x read =
-    ap (λ l. front ys (each f (map v l))) (drop_more xs k x within ∙ ap (λ z. z ∷ drop (k + 1) xs) (sym is_x))
-    ∙ ap (λ o. front ys (option_and_then (λ y. option_map (λ zs. y ∷ zs) (each f (map v (drop (k + 1) xs)))) o)) read
-
-pub front_end : {A B C : Type 0} (f : B → Option C) (v : A → B) (xs : List A) (k : ℕ) (ys : List C) → length xs ≤ k
-    → front ys (each f (map v (drop k xs))) ≡ Some ys
-front_end f v xs k ys past = ap (λ l. front ys (each f (map v l))) (drop_all k xs past) ∙ ap Some (append-nil ys)

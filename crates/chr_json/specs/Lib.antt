@@ -3,4 +3,4 @@ pub mod Commands
 pub mod Printed
 pub mod Lines
 pub mod Reads
-pub mod Ranges
+pub mod working

@@ -39,5 +39,5 @@ abbrev pub origin_of : Data → Option ℕ
 origin_of d = option_and_then within_32_bits (natural_of d)
 
 -- whether the value is this text
-abbrev pub is_word : List ℕ → Data → Bool
-is_word name d = option_map_or (λ s. bytes_eq s name) (as_str d) false
+abbrev pub is_string : List ℕ → Data → Bool
+is_string name d = option_map_or (λ s. bytes_eq s name) (as_str d) false

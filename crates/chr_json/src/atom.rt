@@ -3,16 +3,15 @@
 ghost use Rattle.std.specs.Prelude.{◌≡◌, IfOk, length, map, vec_len};
 ghost use Rattle.serde_json.specs.View.{view as data_of};
 ghost use Rattle.chr_json.specs.Values.{each, integer_of};
-ghost use Rattle.chr_json.specs.Commands.{IsOperationLength, atom_of, atoms_of};
-ghost use Rattle.chr_json.specs.Reads.{Gives, atom_view};
+ghost use Rattle.chr_json.specs.Commands.{IsOperationLength, named_atom_of, named_atoms_of};
+ghost use Rattle.chr_json.specs.Reads.{raw_atom_view};
+ghost use Rattle.chr_json.specs.working.Parts.{GivesPart};
 
 use crate::fault::LineFault;
+use crate::limits::MAX_OPERATION;
 use crate::value::elements;
 use serde_json::Value;
 use std::alloc::Global;
-
-/// The most atoms that one operation has.
-const MAX_ATOMS: usize = 64;
 
 /// A name and its arguments, as a line spells them.
 #[derive(Debug, PartialEq, Drop)]
@@ -25,7 +24,7 @@ pub struct RawAtom {
 
 /// Whole numbers of 64 bits with a sign.
 fn integers(alloc: Global, values: &[Value]) -> Result<Vec<i64>, LineFault>
-    ensures { Gives (λ v. v.items) result (each integer_of (map data_of values.now)) }
+    ensures { GivesPart (λ v. v.items) result (each integer_of (map data_of values.now)) }
 {
     let mut found = Vec::new(alloc);
     for value in values {
@@ -39,7 +38,7 @@ fn integers(alloc: Global, values: &[Value]) -> Result<Vec<i64>, LineFault>
 
 /// An array of a name and arguments.
 fn atom(alloc: Global, value: &Value) -> Result<RawAtom, LineFault>
-    ensures { Gives atom_view result (atom_of (data_of value.now)) }
+    ensures { GivesPart raw_atom_view result (named_atom_of (data_of value.now)) }
 {
     let Some([first, rest @ ..]) = elements(value) else {
         return Err(LineFault::Shape);
@@ -54,7 +53,7 @@ fn atom(alloc: Global, value: &Value) -> Result<RawAtom, LineFault>
 
 /// One atom after another.
 fn atom_list(alloc: Global, values: &[Value]) -> Result<Vec<RawAtom>, LineFault>
-    ensures read { Gives (λ v. map atom_view v.items) result (each atom_of (map data_of values.now)) }
+    ensures read { GivesPart (λ v. map raw_atom_view v.items) result (each named_atom_of (map data_of values.now)) }
     ensures length { IfOk result (λ v. vec_len v ≡ length values.now) }
 {
     let mut found = Vec::new(alloc);
@@ -64,15 +63,15 @@ fn atom_list(alloc: Global, values: &[Value]) -> Result<Vec<RawAtom>, LineFault>
     Ok(found)
 }
 
-/// An array of 1 to 64 atoms.
+/// An array of 1 to [`MAX_OPERATION`] atoms.
 pub fn atoms(alloc: Global, value: &Value) -> Result<Vec<RawAtom>, LineFault>
-    ensures read { Gives (λ v. map atom_view v.items) result (atoms_of (data_of value.now)) }
+    ensures read { GivesPart (λ v. map raw_atom_view v.items) result (named_atoms_of (data_of value.now)) }
     ensures sized { IfOk result (λ v. IsOperationLength (vec_len v)) }
 {
     let Some(values) = elements(value) else {
         return Err(LineFault::Shape);
     };
-    if values.is_empty() || values.len() > MAX_ATOMS {
+    if values.is_empty() || values.len() > MAX_OPERATION {
         return Err(LineFault::Shape);
     }
     atom_list(alloc, values)

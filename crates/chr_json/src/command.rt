@@ -4,11 +4,12 @@ ghost use Rattle.std.specs.Prelude.{◌≡◌, IfOk};
 ghost use Rattle.serde_json.specs.View.{view as data_of};
 ghost use Rattle.chr_json.specs.Commands.{id_of, tell_of, show_of, command_of};
 ghost use Rattle.chr_json.specs.Printed.{CommandsAreRead};
-ghost use Rattle.chr_json.specs.Reads.{Gives, IsSized, command_view};
+ghost use Rattle.chr_json.specs.Reads.{IsSized, command_view};
+ghost use Rattle.chr_json.specs.working.Parts.{GivesPart};
 
 use crate::atom::{RawAtom, atoms};
 use crate::fault::LineFault;
-use crate::value::{elements, is_text, origin};
+use crate::value::{elements, is_string, origin};
 use serde_json::Value;
 use std::alloc::Global;
 
@@ -23,7 +24,7 @@ pub enum Command {
         origin: u32,
         /// The operation's number at its origin.
         number: u64,
-        /// 1 to 64 atoms, in the line's order.
+        /// 1 to [`MAX_OPERATION`](crate::MAX_OPERATION) atoms, in the line's order.
         atoms: Vec<RawAtom>,
     },
     /// Show a replica's store.
@@ -44,7 +45,7 @@ fn id(value: &Value) -> Option<(u32, u64)>
 }
 
 fn show(replica: &Value) -> Result<Command, LineFault>
-    ensures read { Gives command_view result (show_of (data_of replica.now)) }
+    ensures read { GivesPart command_view result (show_of (data_of replica.now)) }
     ensures sized { IfOk result IsSized }
 {
     let Some(replica) = replica.as_u64() else {
@@ -54,7 +55,7 @@ fn show(replica: &Value) -> Result<Command, LineFault>
 }
 
 fn tell(alloc: Global, replica: &Value, name: &Value, values: &Value) -> Result<Command, LineFault>
-    ensures read { Gives command_view result
+    ensures read { GivesPart command_view result
         (tell_of (data_of replica.now) (data_of name.now) (data_of values.now)) }
     ensures sized { IfOk result IsSized }
 {
@@ -75,18 +76,18 @@ fn tell(alloc: Global, replica: &Value, name: &Value, values: &Value) -> Result<
 
 /// The command that a value is.
 pub fn command_in(alloc: Global, value: &Value) -> Result<Command, LineFault>
-    ensures read { Gives command_view result (command_of (data_of value.now)) }
+    ensures read { GivesPart command_view result (command_of (data_of value.now)) }
     ensures sized { IfOk result IsSized }
 {
     match elements(value) {
         Some([word, replica]) => {
-            if !is_text(word, "show") {
+            if !is_string(word, "show") {
                 return Err(LineFault::Shape);
             }
             show(replica)
         }
         Some([word, replica, id, atoms]) => {
-            if !is_text(word, "tell") {
+            if !is_string(word, "tell") {
                 return Err(LineFault::Shape);
             }
             tell(alloc, replica, id, atoms)

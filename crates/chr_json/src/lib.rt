@@ -7,10 +7,12 @@
 mod atom;
 mod command;
 mod fault;
+mod limits;
 mod line;
 mod value;
 
 pub use atom::RawAtom;
 pub use command::{Command, commands_are_read};
 pub use fault::LineFault;
-pub use line::{MAX_LINE, is_blank, read_line};
+pub use limits::{MAX_LINE, MAX_OPERATION, MAX_ORIGIN};
+pub use line::{is_blank, read_line};

@@ -1,17 +1,18 @@
 //! Lines.
 
-ghost use Rattle.std.specs.Prelude.{◌≡◌, IfOk};
+ghost use Rattle.std.specs.Prelude.{◌≡◌, ◌<◌, length, Err, IfOk};
 ghost use Rattle.chr_json.specs.Lines.{is_blank_line};
 ghost use Rattle.chr_json.specs.Values.{json_in};
-ghost use Rattle.chr_json.specs.Reads.{GivesLine, GivesValue, IsSized, line_said};
+ghost use Rattle.chr_json.specs.Reads.{GivesLine, IsSized, line_said};
+ghost use Rattle.chr_json.specs.working.Parts.{GivesValue};
+ghost use Rattle.chr_json.specs.declared.limits.TheConstants.{MAX_LINE};
+ghost use Rattle.chr_json.specs.declared.fault.LineFault.TheVariants.{BadLine};
 
 use crate::command::{Command, command_in};
 use crate::fault::LineFault;
+use crate::limits::MAX_LINE;
 use serde_json::{Category, Value};
 use std::alloc::Global;
-
-/// The most bytes that a line has, without its end.
-pub const MAX_LINE: usize = 1_048_576;
 
 /// Whether a line has spaces and tabs alone, or nothing. Such a line is no command, however long.
 pub fn is_blank(line: &[u8]) -> bool
@@ -37,10 +38,11 @@ fn value_in(alloc: Global, line: &[u8]) -> Result<Value, LineFault>
 ///
 /// # Errors
 ///
-/// `BadLine` where the line has more than [`MAX_LINE`] bytes or is no JSON value, `Shape` where
+/// `BadLine` where the line has more than [`MAX_LINE`] bytes, which needs no memory, or is no JSON value, `Shape` where
 /// its value is no command, and `Memory` where no memory was left.
 pub fn read_line(alloc: Global, line: &[u8]) -> Result<Command, LineFault>
     ensures read { GivesLine result (line_said line.now) }
+    ensures long { MAX_LINE < length line.now → result ≡ Err BadLine }
     ensures sized { IfOk result IsSized }
 {
     if line.len() > MAX_LINE {

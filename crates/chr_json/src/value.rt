@@ -2,8 +2,9 @@
 
 ghost use Rattle.std.specs.Prelude.{◌≡◌, map, option_map};
 ghost use Rattle.serde_json.specs.View.{view as data_of};
-ghost use Rattle.chr_json.specs.Values.{elements, origin_of, is_word};
+ghost use Rattle.chr_json.specs.Values.{elements, origin_of, is_string};
 
+use crate::limits::MAX_ORIGIN;
 use serde_json::Value;
 
 /// The elements of an array.
@@ -14,12 +15,12 @@ pub fn elements(value: &Value) -> Option<&[Value]>
     Some(items.as_slice())
 }
 
-/// A whole number from 0 to 4294967295.
+/// A whole number from 0 to [`MAX_ORIGIN`].
 pub fn origin(value: &Value) -> Option<u32>
     ensures { result ≡ origin_of (data_of value.now) }
 {
     let number = value.as_u64()?;
-    if number <= 0xffff_ffff {
+    if number <= MAX_ORIGIN {
         Some(number as u32)
     } else {
         None
@@ -27,8 +28,8 @@ pub fn origin(value: &Value) -> Option<u32>
 }
 
 /// Whether the value is this text.
-pub fn is_text(value: &Value, text: &str) -> bool
-    ensures { result ≡ is_word text.now (data_of value.now) }
+pub fn is_string(value: &Value, text: &str) -> bool
+    ensures { result ≡ is_string text.now (data_of value.now) }
 {
     match value.as_str() {
         Some(found) => found == text,

@@ -7,17 +7,21 @@ use Rattle.std.specs.Cmp.{eq_by_cmp_equiv}
 use Rattle.std.specs.BTreeSet as set
 use Rattle.std.specs.BTreeSet.{BTreeSet}
 use Rattle.std.proofs.Common.{refl, sym, ap, ◌∙◌, get_or, take}
+use Rattle.std.proofs.Math.Bool.{or-false}
 use Rattle.std.proofs.lemmas.List.{take_more}
 use Rattle.std.specs.Ordering.{eq_by_cmp}
 use Rattle.std.specs.FinMap as map
 use Rattle.chr_base.specs.declared.atom.Atom.{Atom}
 use Rattle.chr_base.specs.FinBag as bag
 use Rattle.chr_base.specs.FinBag.{◌⊕◌}
-use Rattle.chr_base.specs.Stores.{Store, store_of, store_of-append, store_of-items, plus_empty, plus_assoc, plus_comm}
+use Rattle.chr_base.specs.Stores.{Store, store_of}
+use Rattle.chr_base.proofs.Stores.{store_of-append, store_of-items, plus_empty, plus_assoc, plus_comm}
 use Rattle.chr_ops.specs.declared.id.OpId.{OpId}
-use Rattle.chr_ops.specs.Ids.{id_cmp, id_total}
+use Rattle.chr_ops.specs.Ids.{id_cmp}
+use Rattle.chr_ops.proofs.IdOrder.{id_total}
 use Rattle.chr_ops.specs.Operations.{Operation, Operations, sum_of}
-use Rattle.chr_ops.specs.Joins.{union, fresh, is_known}
+use Rattle.chr_ops.specs.Joins.{union, fresh}
+use Rattle.chr_ops.specs.working.Joining.{is_held_or_seen}
 use Rattle.chr_ops.proofs.Unions.{get-union, union_none, union_more, union_held, union_new}
 
 known_or : (x : Option Store) (here : Bool) (s : Store) → is_some (option_or x (cond here (Some s) None)) ≡ (is_some x || here)
@@ -72,7 +76,7 @@ noted false false new false e = e
 
 -- an id that is put among the others
 pub known_noted : (m : Operations) (old new : BTreeSet OpId) (id : OpId) → ((q : OpId) → set.contains id_cmp new q ≡ cond (eq_by_cmp id_cmp id q) true (set.contains id_cmp old q))
-    → (q : OpId) → is_known m new q ≡ (is_known m old q || eq_by_cmp id_cmp q id)
+    → (q : OpId) → is_held_or_seen m new q ≡ (is_held_or_seen m old q || eq_by_cmp id_cmp q id)
 known_noted m old new id h q =
     noted (map.contains_key m q) (set.contains id_cmp old q) (set.contains id_cmp new q) (eq_by_cmp id_cmp q id)
     (h q ∙ ap (λ b. cond b true (set.contains id_cmp old q)) ((eq_by_cmp_equiv id_total).symm id q))
@@ -81,8 +85,8 @@ module _ (m : Operations) (ops : List Operation) (i : ℕ) (o : Operation) (ther
   next : take (i + 1) ops ≡ take i ops ++ o ∷ []
   next = take_more ops i o there ∙ ap (λ y. take i ops ++ y ∷ []) (sym is)
 
-  pub known_more : (old new : BTreeSet OpId) → ((q : OpId) → map.contains_key (union m (take i ops)) q ≡ is_known m old q) → ((q : OpId) → is_known m new q ≡ (is_known m old q || eq_by_cmp id_cmp q o.0))
-      → (q : OpId) → map.contains_key (union m (take (i + 1) ops)) q ≡ is_known m new q
+  pub known_more : (old new : BTreeSet OpId) → ((q : OpId) → map.contains_key (union m (take i ops)) q ≡ is_held_or_seen m old q) → ((q : OpId) → is_held_or_seen m new q ≡ (is_held_or_seen m old q || eq_by_cmp id_cmp q o.0))
+      → (q : OpId) → map.contains_key (union m (take (i + 1) ops)) q ≡ is_held_or_seen m new q
   known_more old new h g q =
       ap (λ os. map.contains_key (union m os) q) next ∙ known_push m (take i ops) o q ∙ ap (λ b. b || eq_by_cmp id_cmp q o.0) (h q) ∙ sym (g q)
 
@@ -97,10 +101,6 @@ module _ (m : Operations) (ops : List Operation) (i : ℕ) (o : Operation) (ther
   pub atoms_kept : (atoms : List Atom) → store_of atoms ≡ sum_of (fresh m (take i ops)) → map.contains_key (union m (take i ops)) o.0 ≡ true → store_of atoms ≡ sum_of (fresh m (take (i + 1) ops))
   atoms_kept atoms h k = sym (sum_more true atoms h k ∙ plus_empty (store_of atoms))
 
-known_none : (a : Bool) → a ≡ (a || false)
-known_none true = refl
-known_none false = refl
-
-pub known_first : (m : Operations) (seen : BTreeSet OpId) → seen.keys ≡ [] → (q : OpId) → map.contains_key (union m []) q ≡ is_known m seen q
+pub known_first : (m : Operations) (seen : BTreeSet OpId) → seen.keys ≡ [] → (q : OpId) → map.contains_key (union m []) q ≡ is_held_or_seen m seen q
 known_first m seen none q =
-    ap (λ n. map.contains_key n q) (union_none m) ∙ known_none (map.contains_key m q) ∙ ap (λ ks. map.contains_key m q || list_any (eq_by_cmp id_cmp q) ks) (sym none)
+    ap (λ n. map.contains_key n q) (union_none m) ∙ sym (or-false (map.contains_key m q)) ∙ ap (λ ks. map.contains_key m q || list_any (eq_by_cmp id_cmp q) ks) (sym none)

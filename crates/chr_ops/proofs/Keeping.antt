@@ -1,32 +1,31 @@
 -- What keeps an operation set's facts.
 use Rattle.std.specs.Prelude.{◌≡◌, ℕ, ◌+◌, ◌≤◌, Some, None, cond, true, false, Bool}
 use Rattle.std.proofs.Common.{sym, ap, ◌∙◌, subst, arith}
-use mathlib.Core.Bool.{true≢false}
-use Rattle.std.specs.Option.{is_some, unwrap_or}
+use Rattle.std.proofs.lemmas.Option.{none-some}
+use Rattle.std.specs.Option.{unwrap_or}
 use Rattle.std.specs.Ordering.{eq_by_cmp}
 use Rattle.std.specs.FinMap as map
 use Rattle.chr_base.specs.Stores.{Store, size}
 use Rattle.chr_ops.specs.declared.id.OpId.{OpId}
-use Rattle.chr_ops.specs.Ids.{id_cmp, id_total}
-use Rattle.chr_ops.specs.Operations.{Operations, IsOperationBag, told_store, told_limit}
-use Rattle.chr_ops.specs.Kept.{IsKept, AreSized}
+use Rattle.chr_ops.specs.Ids.{id_cmp}
+use Rattle.chr_ops.proofs.IdOrder.{id_total}
+use Rattle.chr_ops.specs.declared.limits.TheConstants.{MAX_TOLD}
+use Rattle.chr_ops.specs.Operations.{Operations, IsOperationBag, told_store}
+use Rattle.chr_ops.specs.working.Kept.{IsKept, AreOperationBags}
 use Rattle.chr_ops.proofs.Sizes.{size_plus, size_empty}
 use Rattle.chr_ops.proofs.Told.{told_store-insert, told_store-empty}
-
-no_value : {X : Type 0} (s : X) → None ≡ Some s → ⊥
-no_value s e = true≢false (sym (ap is_some e))
 
 pub kept_empty : IsKept 0 map.empty
 kept_empty = record {
   counted = sym (ap size told_store-empty ∙ size_empty);
   within = omega arith;
-  sized = λ q s h. absurd (no_value s (sym (map.get-empty id_cmp q) ∙ h));
+  sized = λ q s h. absurd (none-some s (sym (map.get-empty id_cmp q) ∙ h));
 }
 
 pub size_inserted : (m : Operations) (k : OpId) (v : Store) → map.get m k ≡ None → size (told_store (map.insert m k v)) ≡ size (told_store m) + size v
 size_inserted m k v new = ap size (told_store-insert m k v new) ∙ size_plus (told_store m) v
 
-pub sized_inserted : (m : Operations) (k : OpId) (v : Store) → IsOperationBag v → AreSized m → AreSized (map.insert m k v)
+pub sized_inserted : (m : Operations) (k : OpId) (v : Store) → IsOperationBag v → AreOperationBags m → AreOperationBags (map.insert m k v)
 sized_inserted m k v sized h q s g = by (eq_by_cmp id_cmp q k) (sym (map.get-insert id_total m k v q) ∙ g)
   where
     by : (b : Bool) → cond b (Some v) (map.get m q) ≡ Some s → IsOperationBag s
@@ -34,7 +33,7 @@ sized_inserted m k v sized h q s g = by (eq_by_cmp id_cmp q k) (sym (map.get-ins
     by false e = h q s e
 
 -- one that it does not hold joins it, where there is room
-pub kept_insert : (told : ℕ) (m : Operations) (k : OpId) (v : Store) → IsKept told m → map.get m k ≡ None → IsOperationBag v → told + size v ≤ told_limit → IsKept (told + size v) (map.insert m k v)
+pub kept_insert : (told : ℕ) (m : Operations) (k : OpId) (v : Store) → IsKept told m → map.get m k ≡ None → IsOperationBag v → told + size v ≤ MAX_TOLD → IsKept (told + size v) (map.insert m k v)
 kept_insert told m k v h new sized room = record {
   counted = ap (λ n. n + size v) h.counted ∙ sym (size_inserted m k v new);
   within = room;

@@ -1,5 +1,5 @@
 -- The laws of exchange.
-use Rattle.std.specs.Prelude.{◌≡◌, ◌≢◌, ℕ, zero, suc, Bool, true, false, not, ◌&&◌, T, List, [], ◌∷◌, Some, None, Option, cond, slice_get, take}
+use Rattle.std.specs.Prelude.{◌≡◌, ◌≢◌, ℕ, zero, suc, Bool, true, false, not, T, List, [], ◌∷◌, Some, None, Option, cond, slice_get, take}
 use Rattle.std.specs.Option.{option_or, is_some, unwrap_or, IsSomeAnd}
 use Rattle.std.proofs.Common.{refl, sym, ap, ◌∙◌, subst, ⊎_elim, inl, inr}
 use mathlib.Core.Bool.{true≢false}
@@ -14,11 +14,13 @@ use Rattle.std.specs.FinMap.Entries.{below_all, find-where_key, is_sorted-where_
 use Rattle.chr_base.specs.Stores.{Store}
 use Rattle.chr_ops.specs.declared.id.OpId.{OpId}
 use Rattle.chr_ops.specs.declared.range.IdRange.{IdRange}
-use Rattle.chr_ops.specs.Ids.{id_cmp, id_total, id_exact}
+use Rattle.chr_ops.specs.Ids.{id_cmp}
+use Rattle.chr_ops.proofs.IdOrder.{id_total, id_exact}
 use Rattle.chr_ops.specs.Operations.{Operation, Operations}
 use Rattle.chr_ops.specs.Joins.{union}
 use Rattle.chr_ops.specs.Summaries.{covers, lacking}
 use Rattle.chr_ops.specs.Exchange as law
+use Rattle.chr_base.proofs.FinBags.{first, second}
 use Rattle.chr_ops.proofs.Unions.{get-union}
 
 flip : (b : Bool) (x : Option Store) → cond (not b) x None ≡ cond b None x
@@ -52,14 +54,6 @@ pub one_union : law.OneUnionLaw
 one_union m n one = map.same_map id_total id_exact _ _ (λ q.
     get-union m (map.entries n) q ∙ ap (option_or (map.get m q)) (sym (map.get-entries n q)) ∙ one_or_other (map.get m q) (map.get n q) (one q)
     ∙ ap (option_or (map.get n q)) (map.get-entries m q) ∙ sym (get-union n (map.entries m) q))
-
-second : (a b : Bool) → T (a && b) → T b
-second true b h = h
-second false b h = absurd h
-
-first : (a b : Bool) → T (a && b) → T a
-first true b h = tt
-first false b h = h
 
 apart : (r : Ordering) → T (is_lt r) → is_eq r ≡ false
 apart order.Less h = refl

@@ -1,7 +1,9 @@
+pub mod IdOrder
 pub mod Sizes
 pub mod Told
-pub mod Entries
+pub mod EntryLists
 pub mod Keeping
+pub mod ToldValues
 pub mod Unions
 pub mod JoinSteps
 pub mod Merged

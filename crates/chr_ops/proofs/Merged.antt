@@ -3,12 +3,13 @@ use Rattle.std.specs.Prelude.{◌≡◌, ℕ, ◌+◌, ◌≤◌, Bool, true, fa
 use Rattle.std.proofs.Common.{refl, sym, ap, ◌∙◌, arith, ⊎_elim}
 use Rattle.std.specs.List.{AllByRecursion}
 use Rattle.std.proofs.lemmas.List.Folds.{list_any-append}
+use Rattle.std.proofs.Math.Bool.{or-false}
 use Rattle.std.proofs.lemmas.Bool.{cases_lt}
 use Rattle.std.proofs.lemmas.Bool.Decides.{nat_tests}
 use Rattle.chr_ops.specs.declared.id.OpId.{OpId}
 use Rattle.chr_ops.specs.declared.range.IdRange.{IdRange}
 use Rattle.chr_ops.specs.Summaries.{in_range, covers, IsBefore, IsApart}
-use Rattle.chr_ops.specs.Merging.{StartsBy, AllStartBy, IsMerged}
+use Rattle.chr_ops.specs.working.Merging.{StartsBy, AllStartBy, IsMerged}
 
 all_push : (P : IdRange → Type 0) (rs : List IdRange) (x : IdRange) → AllByRecursion P rs → P x → AllByRecursion P (rs ++ x ∷ [])
 all_push P [] x h p = (p, tt)
@@ -53,11 +54,6 @@ before_further r s t h l g = (
 hull_has : (o l h m k i n : ℕ) → l ≤ m → m ≤ h + 1 → (o == i && nat_le l n && nat_le n (max h k)) ≡ ((o == i && nat_le l n && nat_le n h) || (o == i && nat_le m n && nat_le n k))
 hull_has o l h m k i n a b = grind (arith, nat_tests)
 
-last_or : (a b : Bool) → (a || (b || false)) ≡ (a || b)
-last_or true b = refl
-last_or false true = refl
-last_or false false = refl
-
 regroup : (a b c d : Bool) → c ≡ (b || d) → (a || (c || false)) ≡ ((a || (b || false)) || d)
 regroup true b c d e = refl
 regroup false true c d e = ap (λ x. x || false) e
@@ -67,7 +63,7 @@ regroup false false c false e = ap (λ x. x || false) e
 pub merged_first : (next : IdRange) → next.lo ≤ next.hi → IsMerged [] next (next ∷ [])
 merged_first next l = record {
   apart = (l, tt, tt);
-  covering = λ id. last_or false (in_range next id);
+  covering = λ id. or-false (in_range next id);
   in_order = λ later h _. (h, tt);
 }
 
@@ -95,6 +91,6 @@ module _ (front : List IdRange) (last next : IdRange) (apart : IsApart (front ++
       let before : IsBefore last next = (first.0, λ same. ⊎_elim (λ less. less) (λ more. absurd (far (same, more))) (cases_lt (last.hi + 1) next.lo)) in
       record {
         apart = apart_push (front ++ last ∷ []) next apart (all_push (λ r. IsBefore r next) front last (all_map (λ r. IsBefore r last) (λ r. IsBefore r next) front (λ r h. before_further r last next h parts.2 before) parts.1) before) range;
-        covering = λ id. covers_push (front ++ last ∷ []) next id ∙ last_or (covers (front ++ last ∷ []) id) (in_range next id);
+        covering = λ id. covers_push (front ++ last ∷ []) next id ∙ ap (λ b. covers (front ++ last ∷ []) id || b) (or-false (in_range next id));
         in_order = λ later h g. all_push (λ r. StartsBy r later) (front ++ last ∷ []) next g h;
       }

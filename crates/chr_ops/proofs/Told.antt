@@ -11,9 +11,11 @@ use Rattle.std.specs.FinMap.{find, put}
 use Rattle.std.specs.FinMap.Entries.{by_order}
 use Rattle.chr_base.specs.FinBag as bag
 use Rattle.chr_base.specs.FinBag.{◌⊕◌}
-use Rattle.chr_base.specs.Stores.{Store, plus_comm, plus_assoc}
+use Rattle.chr_base.specs.Stores.{Store}
+use Rattle.chr_base.proofs.Stores.{plus_comm, plus_assoc}
 use Rattle.chr_ops.specs.declared.id.OpId.{OpId}
-use Rattle.chr_ops.specs.Ids.{id_cmp, id_total}
+use Rattle.chr_ops.specs.Ids.{id_cmp}
+use Rattle.chr_ops.proofs.IdOrder.{id_total}
 use Rattle.chr_ops.specs.Operations.{Operation, Operations, sum_of, told_store}
 
 swap_front : (s t u : Store) → s ⊕ (t ⊕ u) ≡ t ⊕ (s ⊕ u)

@@ -8,21 +8,21 @@ use Rattle.std.proofs.lemmas.List.Folds.{list_any-append}
 use Rattle.std.specs.Ordering.{eq_by_cmp}
 use Rattle.std.specs.FinMap as map
 use Rattle.std.specs.FinMap.{find}
-use Rattle.chr_base.specs.Stores.{Store, plus_assoc, plus_empty}
+use Rattle.chr_base.specs.Stores.{Store}
+use Rattle.chr_base.proofs.Places.{option_or_assoc}
+use Rattle.chr_base.proofs.Stores.{plus_assoc, plus_empty}
 use Rattle.chr_base.specs.FinBag.{◌⊕◌}
 use Rattle.chr_ops.specs.declared.id.OpId.{OpId}
-use Rattle.chr_ops.specs.Ids.{id_cmp, id_total, id_exact, same_id}
+use Rattle.chr_ops.specs.Ids.{id_cmp}
+use Rattle.chr_ops.proofs.IdOrder.{id_total, id_exact, same_id}
 use Rattle.chr_ops.specs.Operations.{Operation, Operations, sum_of, told_store}
-use Rattle.chr_ops.specs.Joins.{union, fresh, IsWithout}
+use Rattle.chr_ops.specs.Joins.{union, fresh}
+use Rattle.chr_ops.specs.working.Joining.{IsWithout}
 use Rattle.chr_ops.proofs.Told.{told_store-insert}
 
 or_none : {X : Type 0} (x : Option X) → option_or x None ≡ x
 or_none None = refl
 or_none (Some x) = refl
-
-or_three : {X : Type 0} (x y z : Option X) → option_or (option_or x y) z ≡ option_or x (option_or y z)
-or_three None y z = refl
-or_three (Some x) y z = refl
 
 find-append : (es os : List Operation) (q : OpId) → find id_cmp q (es ++ os) ≡ option_or (find id_cmp q es) (find id_cmp q os)
 find-append [] os q = refl
@@ -42,7 +42,7 @@ union_none m = map.same_map id_total id_exact _ _ (λ q. get-union m [] q ∙ or
 pub union_more : (m : Operations) (os ps : List Operation) → union (union m os) ps ≡ union m (os ++ ps)
 union_more m os ps = map.same_map id_total id_exact _ _ (λ q.
     get-union (union m os) ps q ∙ ap (λ x. option_or x (find id_cmp q ps)) (get-union m os q)
-    ∙ or_three (map.get m q) (find id_cmp q os) (find id_cmp q ps)
+    ∙ option_or_assoc (map.get m q) (find id_cmp q os) (find id_cmp q ps)
     ∙ ap (option_or (map.get m q)) (sym (find-append os ps q)) ∙ sym (get-union m (os ++ ps) q))
 
 -- an operation that is held changes nothing

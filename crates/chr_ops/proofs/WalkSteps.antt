@@ -13,7 +13,7 @@ use Rattle.chr_ops.specs.declared.range.IdRange.{IdRange}
 use Rattle.chr_ops.specs.Ids.{id_cmp}
 use Rattle.chr_ops.specs.Operations.{Operation}
 use Rattle.chr_ops.specs.Summaries.{in_range, covers, IsBefore, IsApart}
-use Rattle.chr_ops.specs.Walks.{ends_before, rest_from, first_has}
+use Rattle.chr_ops.specs.working.Walks.{ends_before, rest_from, first_has}
 
 -- the one id is the other or comes before it
 abbrev IsFrom : OpId → OpId → Type 0

@@ -5,16 +5,17 @@ ghost use Rattle.chr_base.specs.FinBag as bag;
 ghost use Rattle.chr_base.specs.Stores.{store_of};
 ghost use Rattle.chr_ops.specs.declared.id.OpId.{OpId as OpIdValue};
 ghost use Rattle.chr_ops.specs.Ids.{id_cmp};
-ghost use Rattle.chr_ops.specs.Operations.{operations_of, sum_of};
-ghost use Rattle.chr_ops.specs.Joins.{fresh, is_known};
+ghost use Rattle.chr_ops.specs.Operations.{sum_of};
+ghost use Rattle.chr_ops.specs.Joins.{fresh};
+ghost use Rattle.chr_ops.specs.working.Joining.{is_held_or_seen};
 
+use crate::entries::Entries;
 use crate::id::OpId;
-use crate::joining::bag_of;
 use crate::op::Op;
 use chr_base::atom::Atom;
 use chr_base::bag::Bag;
 use std::alloc::{AllocError, Global};
-use std::collections::{BTreeMap, BTreeSet};
+use std::collections::BTreeSet;
 
 /// Adds copies of a bag's atoms at the end.
 fn push_atoms(atoms: &mut Vec<Atom>, added: &Bag) -> Result<(), AllocError>
@@ -26,29 +27,25 @@ fn push_atoms(atoms: &mut Vec<Atom>, added: &Bag) -> Result<(), AllocError>
     Ok(())
 }
 
-/// Whether an id is new to a tree and to a set. From then on it is in one of them.
-fn take_note(
-    held: &BTreeMap<OpId, Bag>,
-    seen: &mut BTreeSet<OpId>,
-    id: OpId,
-) -> Result<bool, AllocError>
-    ensures fresh { IfOk result (λ new. new ≡ not (is_known (operations_of held.now.entries) seen.old id)) }
-    ensures known { OnOk result ((q : OpIdValue) →
-        is_known (operations_of held.now.entries) seen.new q ≡ (is_known (operations_of held.now.entries) seen.old q || eq_by_cmp id_cmp q id)) }
+/// Whether an id is new to a set and to some ids. From then on it is in one of them.
+fn take_note(held: &Entries, seen: &mut BTreeSet<OpId>, id: OpId) -> Result<bool, AllocError>
+    ensures fresh { IfOk result (λ new. new ≡ not (is_held_or_seen held.now seen.old id)) }
+    ensures known { OnOk result ((q : OpIdValue) → is_held_or_seen held.now seen.new q
+        ≡ (is_held_or_seen held.now seen.old q || eq_by_cmp id_cmp q id)) }
 {
-    if bag_of(held, id).is_some() {
+    if held.get(id).is_some() {
         return Ok(false);
     }
     Ok(seen.insert(id)?)
 }
 
-/// Copies of the atoms of those of these operations that are new to a tree, each operation once.
+/// Copies of the atoms of those of these operations that are new to a set, each operation once.
 pub(crate) fn fresh_atoms(
     alloc: Global,
-    held: &BTreeMap<OpId, Bag>,
+    held: &Entries,
     ops: &[Op],
 ) -> Result<Vec<Atom>, AllocError>
-    ensures { IfOk result (λ atoms. store_of atoms.items ≡ sum_of (fresh (operations_of held.now.entries) ops.now)) }
+    ensures { IfOk result (λ atoms. store_of atoms.items ≡ sum_of (fresh held.now ops.now)) }
 {
     let mut seen = BTreeSet::new(alloc);
     let mut atoms = Vec::new(alloc);

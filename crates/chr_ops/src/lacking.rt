@@ -1,16 +1,14 @@
 //! The operations that a summary does not cover.
 ghost use Rattle.std.specs.Prelude.{◌≡◌, IfOk};
-ghost use Rattle.chr_ops.specs.Operations.{operations_of};
-ghost use Rattle.chr_ops.specs.Kept.{AreSized};
+ghost use Rattle.chr_ops.specs.working.Kept.{AreOperationBags};
 ghost use Rattle.chr_ops.specs.Summaries.{lacking, IsApart};
-ghost use Rattle.chr_ops.specs.Walks.{rest_from, first_has};
+ghost use Rattle.chr_ops.specs.working.Walks.{rest_from, first_has};
 
+use crate::entries::Entries;
 use crate::id::OpId;
 use crate::op::Op;
 use crate::range::IdRange;
-use chr_base::bag::Bag;
 use std::alloc::{AllocError, Global};
-use std::collections::BTreeMap;
 
 /// The ranges from the first that does not end before an id.
 fn skip_ended(ranges: &[IdRange], id: OpId) -> &[IdRange]
@@ -36,22 +34,22 @@ fn begins_with(ranges: &[IdRange], id: OpId) -> bool
     }
 }
 
-/// Copies of the operations of a tree whose ids the ranges do not cover, in the order of ids.
+/// Copies of the operations of a set whose ids the ranges do not cover, in the order of ids.
 pub(crate) fn lacked(
     alloc: Global,
-    held: &BTreeMap<OpId, Bag>,
+    held: &Entries,
     ranges: &[IdRange],
 ) -> Result<Vec<Op>, AllocError>
-    requires sized { AreSized (operations_of held.now.entries) }
+    requires sized { AreOperationBags held.now }
     requires apart { IsApart ranges.now }
-    ensures { IfOk result (λ ops. ops.items ≡ lacking (operations_of held.now.entries) ranges.now) }
+    ensures { IfOk result (λ ops. ops.items ≡ lacking held.now ranges.now) }
 {
     let mut rest = ranges;
     let mut ops = Vec::new(alloc);
-    for (id, bag) in held {
-        rest = skip_ended(rest, *id);
-        if !begins_with(rest, *id) {
-            ops.push(Op::with_bag(alloc, *id, bag)?)?;
+    for (id, bag) in held.iter() {
+        rest = skip_ended(rest, id);
+        if !begins_with(rest, id) {
+            ops.push(Op::with_bag(alloc, id, bag)?)?;
         }
     }
     Ok(ops)

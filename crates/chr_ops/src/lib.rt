@@ -1,12 +1,14 @@
 //! The facts that replicas exchange: operations with ids, kept once however often they come.
 #![tactic(auto)]
 
+mod entries;
 mod exchange;
 mod fault;
 mod fresh;
 mod id;
 mod joining;
 mod lacking;
+mod limits;
 mod merging;
 mod op;
 mod op_set;
@@ -16,6 +18,7 @@ mod summary;
 pub use exchange::exchange_laws;
 pub use fault::{AddFault, Added};
 pub use id::OpId;
+pub use limits::{MAX_OPERATION, MAX_TOLD};
 pub use op::Op;
 pub use op_set::OpSet;
 pub use range::IdRange;

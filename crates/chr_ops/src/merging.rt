@@ -2,15 +2,12 @@
 ghost use Rattle.std.specs.Prelude.{◌≡◌, ◌≤◌, All, IfOk, OnOk};
 ghost use Rattle.std.specs.List.Sorted.{IsSorted};
 ghost use Rattle.chr_ops.specs.declared.id.OpId.{OpId as OpIdValue};
-ghost use Rattle.chr_ops.specs.Operations.{operations_of};
 ghost use Rattle.chr_ops.specs.Summaries.{covers, CoversJust, IsApart};
-ghost use Rattle.chr_ops.specs.Merging.{AllStartBy, IsMerged, range_cmp};
+ghost use Rattle.chr_ops.specs.working.Merging.{AllStartBy, IsMerged, range_cmp};
 
-use crate::id::OpId;
+use crate::entries::Entries;
 use crate::range::IdRange;
-use chr_base::bag::Bag;
 use std::alloc::{AllocError, Global};
-use std::collections::BTreeMap;
 
 /// Adds a range that begins no earlier than those that are there: as part of the last one, where it touches it.
 fn push_range(merged: &mut Vec<IdRange>, next: IdRange) -> Result<(), AllocError>
@@ -48,16 +45,13 @@ pub(crate) fn merge_ranges(alloc: Global, ranges: &[IdRange]) -> Result<Vec<IdRa
     Ok(merged)
 }
 
-/// The ranges that cover just the ids of a tree.
-pub(crate) fn merge_ids(
-    alloc: Global,
-    held: &BTreeMap<OpId, Bag>,
-) -> Result<Vec<IdRange>, AllocError>
+/// The ranges that cover just the ids of a set.
+pub(crate) fn merge_ids(alloc: Global, held: &Entries) -> Result<Vec<IdRange>, AllocError>
     ensures apart { IfOk result (λ merged. IsApart merged.items) }
-    ensures covers { IfOk result (λ merged. CoversJust merged.items (operations_of held.now.entries)) }
+    ensures covers { IfOk result (λ merged. CoversJust merged.items held.now) }
 {
     let mut merged = Vec::new(alloc);
-    for id in held.keys() {
+    for (id, _bag) in held.iter() {
         let range = IdRange {
             origin: id.origin,
             lo: id.number,

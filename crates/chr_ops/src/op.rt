@@ -1,16 +1,15 @@
 //! Operations.
 ghost use Rattle.std.specs.Prelude.{◌≡◌, ◌≤◌, ◌↔◌, IfOk, IfSome, IsSome};
-ghost use Rattle.chr_ops.specs.Operations.{IsOperationBag};
+ghost use Rattle.chr_ops.specs.Operations.{HasOperationSize, IsOperationBag};
+ghost use Rattle.chr_base.specs.Values.{HasValues};
 
 use crate::id::OpId;
+use crate::limits::MAX_OPERATION;
 use chr_base::bag::Bag;
 use std::alloc::{AllocError, Global};
 use std::marker::Model;
 
-/// The most atoms of an operation.
-const MAX_ATOMS: usize = 64;
-
-/// An operation: an id, and the bag of 1 to 64 atoms that it tells.
+/// An operation: an id, and the bag of 1 to [`MAX_OPERATION`] atoms that it tells.
 #[derive(Drop)]
 pub struct Op {
     id: OpId,
@@ -19,9 +18,9 @@ pub struct Op {
 
 impl Model for Op {
     ghost use Rattle.std.specs.Coded.{coded×};
-    ghost use Rattle.chr_base.specs.FinBag.{code};
-    ghost use Rattle.chr_base.specs.Atoms.{coded_atom};
-    ghost use Rattle.chr_ops.specs.Ids.{coded_id};
+    ghost use Rattle.chr_base.specs.working.Codes.{code};
+    ghost use Rattle.chr_base.specs.working.Codes.{coded_atom};
+    ghost use Rattle.chr_ops.specs.working.Codes.{coded_id};
     ghost use Rattle.chr_ops.specs.Operations.{Operation, IsOperationBag};
 
     ghost Value = { Operation };
@@ -34,13 +33,16 @@ impl Model for Op {
 }
 
 impl Op {
-    /// The operation of an id and a bag, where the bag has 1 to 64 atoms. It takes no memory.
+    /// The operation of an id and a bag, where the bag has 1 to [`MAX_OPERATION`] atoms. Its arguments are values of 64
+    /// bits, which the operation keeps by its type. It takes no memory.
     pub fn of(id: OpId, bag: Bag) -> Option<Op>
-        ensures sized { IsSome result ↔ IsOperationBag bag }
+        ensures sized { IsSome result ↔ HasOperationSize bag }
+        ensures values { HasValues bag }
         ensures op { IfSome result (λ op. op ≡ (id, bag)) }
     {
+        bag.has_values();
         let atoms = bag.len();
-        if 1 <= atoms && atoms <= MAX_ATOMS {
+        if 1 <= atoms && atoms <= MAX_OPERATION {
             Some(Op { id, bag })
         } else {
             None

@@ -3,46 +3,49 @@ ghost use Rattle.std.specs.Prelude.{◌≡◌, ◌+◌, ◌<◌, ◌≤◌, ◌�
 ghost use Rattle.std.specs.FinMap as map;
 ghost use Rattle.chr_base.specs.FinBag.{◌⊕◌};
 ghost use Rattle.chr_base.specs.Stores.{size};
+ghost use Rattle.chr_base.specs.Values.{HasValues};
 ghost use Rattle.chr_ops.specs.declared.id.OpId.{OpId as OpIdValue};
-ghost use Rattle.chr_ops.specs.Operations.{told_store, told_atoms, told_limit, sum_of, IsNew, IsHeld, IsHeldOtherwise};
-ghost use Rattle.chr_ops.specs.Joins.{union, fresh, Agrees, IsFirstClash, IsOverLimit};
+ghost use Rattle.chr_ops.specs.Operations.{told_store, told_atoms, sum_of, IsNew, IsHeld, IsHeldOtherwise};
+ghost use Rattle.chr_ops.specs.Joins.{union, fresh, HasNoClash, IsFirstClash, IsOverLimit};
 ghost use Rattle.chr_ops.specs.Summaries.{CoversJust, lacking};
 
+use crate::entries::Entries;
 use crate::fault::{AddFault, Added};
 use crate::fresh::fresh_atoms;
 use crate::id::OpId;
-use crate::joining::{MAX_TOLD, bag_of, insert_bag, take_in_room, withdraw};
+use crate::joining::{take_in_room, withdraw};
 use crate::lacking::lacked;
+use crate::limits::MAX_TOLD;
 use crate::merging::merge_ids;
 use crate::op::Op;
 use crate::summary::Summary;
 use chr_base::bag::Bag;
 use std::alloc::{AllocError, Global};
-use std::collections::BTreeMap;
 use std::marker::Model;
 
-/// A set of operations that holds one bag for an id and tells at most 1,000,000 atoms.
+/// A set of operations that holds one bag for an id and tells at most [`MAX_TOLD`] atoms.
 #[derive(Drop)]
 pub struct OpSet {
-    held: BTreeMap<OpId, Bag>,
+    held: Entries,
     told: u64,
 }
 
 impl Model for OpSet {
     ghost use Rattle.std.specs.FinMap as map;
     ghost use Rattle.chr_base.specs.FinBag as bag;
-    ghost use Rattle.chr_base.specs.Atoms.{coded_atom};
-    ghost use Rattle.chr_ops.specs.Ids.{coded_id};
-    ghost use Rattle.chr_ops.specs.Operations.{Operations, operations_of};
-    ghost use Rattle.chr_ops.specs.Kept.{IsKept};
+    ghost use Rattle.chr_base.specs.working.Codes as bag_codes;
+    ghost use Rattle.chr_base.specs.working.Codes.{coded_atom};
+    ghost use Rattle.chr_ops.specs.working.Codes.{coded_id};
+    ghost use Rattle.chr_ops.specs.Operations.{Operations};
+    ghost use Rattle.chr_ops.specs.working.Kept.{IsKept};
 
     ghost Value = { Operations };
 
-    ghost coded = { map.code coded_id (bag.code coded_atom) };
+    ghost coded = { map.code coded_id (bag_codes.code coded_atom) };
 
-    ghost view = { λ s. operations_of s.held.entries };
+    ghost view = { λ s. s.held };
 
-    ghost invariant = { λ s. IsKept s.told (operations_of s.held.entries) };
+    ghost invariant = { λ s. IsKept s.told s.held };
 }
 
 impl OpSet {
@@ -51,7 +54,7 @@ impl OpSet {
         ensures { result ≡ map.empty }
     {
         OpSet {
-            held: BTreeMap::new(alloc),
+            held: Entries::new(alloc),
             told: 0,
         }
     }
@@ -59,23 +62,31 @@ impl OpSet {
     /// The number of told atoms.
     pub fn told(&self) -> u64
         ensures told { result ≡ told_atoms self.now }
-        ensures within { result ≤ told_limit }
+        ensures within { result ≤ MAX_TOLD }
     {
         self.told
+    }
+
+    /// The arguments of the told atoms are values of 64 bits, as those of each operation are. It does nothing but look
+    /// into the set, for its contract.
+    pub fn told_has_values(&self)
+        ensures { HasValues (told_store self.now) }
+    {
+        let _told = self.told;
     }
 
     /// The bag of an id. It takes no memory.
     pub fn get(&self, id: OpId) -> Option<&Bag>
         ensures { option_copied result ≡ map.get self.now id }
     {
-        bag_of(&self.held, id)
+        self.held.get(id)
     }
 
     /// Adds an operation. `Again` is answered at the full limit as well.
     ///
     /// # Errors
-    /// `Clash` where the id stands for another bag; `Full` where the operation is new, and more than 1,000,000 atoms would
-    /// be told; `Memory`. Each of them leaves the set as it was.
+    /// `Clash` where the id stands for another bag; `Full` where the operation is new, and more than [`MAX_TOLD`] atoms
+    /// would be told; `Memory`. Each of them leaves the set as it was.
     pub fn add(&mut self, op: Op) -> Result<Added, AddFault>
         ensures new { result ≡ Ok Added.New
             → IsNew self.old op × (self.new ≡ map.insert self.old op.0 op.1) }
@@ -85,7 +96,7 @@ impl OpSet {
         ensures clash { (id : OpIdValue) → IsErrOf result (AddFault.Clash id)
             ↔ ((id ≡ op.0) × IsHeldOtherwise self.old op) }
         ensures full { IsErrOf result AddFault.Full
-            ↔ (IsNew self.old op × (told_limit < told_atoms self.old + size op.1)) }
+            ↔ (IsNew self.old op × (MAX_TOLD < told_atoms self.old + size op.1)) }
         ensures err { OnErr result (self.new ≡ self.old) }
     {
         let (id, bag) = op.into_parts();
@@ -100,26 +111,27 @@ impl OpSet {
         if atoms > MAX_TOLD - self.told {
             return Err(AddFault::Full);
         }
-        insert_bag(&mut self.held, id, bag)?;
+        self.held.insert(id, bag)?;
         self.told += atoms;
         Ok(Added::New)
     }
 
-    /// Adds all of these operations, or none, and answers how many of them are new. The list may repeat an equal operation.
+    /// Adds all of these operations, or none, and answers how many of them are new. The list may repeat an equal
+    /// operation.
     ///
     /// # Errors
-    /// `Clash` with the first id that stands for another bag in the set or earlier in the list; else `Full` where more than
-    /// 1,000,000 atoms would be told; `Memory`. Each of them leaves the set as it was.
+    /// `Clash` with the first id that stands for another bag in the set or earlier in the list; else `Full` where more
+    /// than [`MAX_TOLD`] atoms would be told; `Memory`. Each of them leaves the set as it was.
     pub fn join(&mut self, alloc: Global, ops: &[Op]) -> Result<u64, AddFault>
         ensures union { OnOk result (self.new ≡ union self.old ops.now) }
         ensures count { IfOk result (λ n. n + map.len self.old ≡ map.len self.new) }
         ensures told { OnOk result (told_store self.new
             ≡ told_store self.old ⊕ sum_of (fresh self.old ops.now)) }
-        ensures agrees { OnOk result (Agrees self.old ops.now) }
+        ensures no_clash { OnOk result (HasNoClash self.old ops.now) }
         ensures clash { (id : OpIdValue) → IsErrOf result (AddFault.Clash id)
             → IsFirstClash self.old ops.now id }
         ensures full { IsErrOf result AddFault.Full
-            → Agrees self.old ops.now × IsOverLimit self.old ops.now }
+            → HasNoClash self.old ops.now × IsOverLimit self.old ops.now }
         ensures err { OnErr result (self.new ≡ self.old) }
     {
         let mut fresh = Vec::new(alloc);

@@ -1,7 +1,7 @@
 //! Ranges of ids.
 ghost use Rattle.std.specs.Prelude.{◌≡◌, ◌+◌, ◌≤◌, ◌↔◌, IsTrue};
 ghost use Rattle.chr_ops.specs.Summaries.{in_range};
-ghost use Rattle.chr_ops.specs.Walks.{ends_before};
+ghost use Rattle.chr_ops.specs.working.Walks.{ends_before};
 
 use crate::id::OpId;
 

@@ -5,7 +5,7 @@ ghost use Rattle.chr_ops.specs.Summaries.{covers, IsApart};
 
 use crate::merging::merge_ranges;
 use crate::range::IdRange;
-use std::alloc::AllocError;
+use std::alloc::{AllocError, Global};
 use std::marker::Model;
 
 /// The ids that some ranges cover. The ranges are kept as long as possible, so that no two touch.
@@ -18,7 +18,8 @@ impl Model for Summary {
     ghost use Rattle.std.specs.Prelude.{List};
     ghost use Rattle.std.specs.Coded.{coded_list};
     ghost use Rattle.chr_ops.specs.declared.range.IdRange.{IdRange};
-    ghost use Rattle.chr_ops.specs.Summaries.{IsApart, coded_range};
+    ghost use Rattle.chr_ops.specs.Summaries.{IsApart};
+    ghost use Rattle.chr_ops.specs.working.Codes.{coded_range};
 
     ghost Value = { List IdRange };
 
@@ -47,6 +48,15 @@ impl Summary {
         ensures apart { IsApart self.now }
     {
         &self.ranges
+    }
+
+    /// An equal summary.
+    pub fn copy(&self, alloc: Global) -> Result<Summary, AllocError>
+        ensures { IfOk result (λ summary. summary ≡ self.now) }
+    {
+        let mut ranges = Vec::new(alloc);
+        ranges.extend_from_slice(self.ranges())?;
+        Ok(Summary { ranges })
     }
 
     /// The ids of ranges that are merged.

@@ -112,6 +112,8 @@ fn summaries_and_what_is_lacked(rt: HostRuntime) -> Result<(), Fail> {
     let summary = set.summary(alloc)?;
     let whole = [range(0, 5, 5), range(1, 0, 1), range(1, GREATEST, GREATEST)];
     assert_eq!(rt; summary.ranges(), whole.as_slice());
+    assert_eq!(rt; summary.copy(alloc)?.ranges(), whole.as_slice());
+    set.told_has_values();
     assert!(rt; set.lacks(alloc, &summary)?.is_empty());
     let middle = summary_of(vec![in alloc; range(1, 1, 1)]?)?;
     let lacked = ids_of(alloc, &set.lacks(alloc, &middle)?)?;

@@ -7,9 +7,9 @@ use Rattle.std.proofs.lemmas.Option.{slice_get-get_or, get_or_from_slice_get, sl
 use Rattle.std.proofs.lemmas.Bool.{and_parts, not-true, or_parts}
 use Rattle.chr_base.specs.declared.term.Pattern.{Pattern}
 use Rattle.chr_base.specs.Rules.{no_pattern}
-use Rattle.chr_confluence.specs.Matchings.{names, AreApart}
+use Rattle.chr_confluence.specs.Matchings.{names, IsInjective}
 use Rattle.chr_confluence.specs.Overlaps.{SameSymbols}
-use Rattle.chr_overlaps.specs.Listing.{same_symbol, may_follow}
+use Rattle.chr_overlaps.specs.working.Listing.{has_same_symbol, may_follow}
 
 -- the entry is 0, or a place that m does not name
 abbrev pub IsNew : List ℕ → ℕ → Type 0
@@ -38,7 +38,7 @@ pub follows_means : (qs : List Pattern) (m : List ℕ) (p : Pattern) (e : ℕ) �
 follows_means qs m p zero l h = (tt, tt)
 follows_means qs m p (suc k) l h =
     let q : Pattern = get_or qs k no_pattern in
-    let parts = and_parts (not (names m (suc k))) (same_symbol p q) h in
+    let parts = and_parts (not (names m (suc k))) (has_same_symbol p q) h in
     let same = and_parts (nat_eq p.symbol.0 q.symbol.0) (nat_eq (length p.args.items) (length q.args.items)) parts.1 in
     (not-true (names m (suc k)) parts.0, (q, slice_get-get_or qs k no_pattern (omega arith), eqb-true p.symbol.0 q.symbol.0 same.0, eqb-true (length p.args.items) (length q.args.items) same.1))
 
@@ -49,7 +49,7 @@ means_follows qs m p (suc k) n h =
     let at : get_or qs k no_pattern ≡ q = get_or_from_slice_get qs k q no_pattern h.1 in
     let s : nat_eq p.symbol.0 q.symbol.0 ≡ true = eq-eqb p.symbol.0 q.symbol.0 h.2 in
     let a : nat_eq (length p.args.items) (length q.args.items) ≡ true = eq-eqb (length p.args.items) (length q.args.items) h.3 in
-    ap (λ b. not b && same_symbol p (get_or qs k no_pattern)) n ∙ ap (λ (x : Pattern). same_symbol p x) at ∙ ap (λ b. b && nat_eq (length p.args.items) (length q.args.items)) s ∙ a
+    ap (λ b. not b && has_same_symbol p (get_or qs k no_pattern)) n ∙ ap (λ (x : Pattern). has_same_symbol p x) at ∙ ap (λ b. b && nat_eq (length p.args.items) (length q.args.items)) s ∙ a
 
 -- two different places
 other_way : (k l : ℕ) → nat_eq k l ≡ false → nat_eq l k ≡ false
@@ -65,7 +65,7 @@ names_less : (m t : List ℕ) (p e : ℕ) → names (m ++ e ∷ t) p ≡ false �
 names_less m t p e h = (or_parts (nat_eq p e) (names t p) (or_parts (names m p) (names (e ∷ t) p) (sym (list_any-append (nat_eq p) m (e ∷ t)) ∙ h)).1).0
 
 -- a list that names no place twice, with a new entry at its end
-pub apart_more : (m : List ℕ) (e : ℕ) → AreApart m → IsNew m e → AreApart (m ++ e ∷ [])
+pub apart_more : (m : List ℕ) (e : ℕ) → IsInjective m → IsNew m e → IsInjective (m ++ e ∷ [])
 apart_more [] zero a n = tt
 apart_more [] (suc k) a n = (refl, tt)
 apart_more (zero ∷ m) zero a n = apart_more m zero a tt
@@ -74,7 +74,7 @@ apart_more (suc l ∷ m) zero a n = (names_more m (suc l) 0 a.0 (zero_other l), 
 apart_more (suc l ∷ m) (suc k) a n = (names_more m (suc l) (suc k) a.0 (other_way (suc k) (suc l) (or_parts (nat_eq (suc k) (suc l)) (names m (suc k)) n).0), apart_more m (suc k) a.1 (or_parts (nat_eq (suc k) (suc l)) (names m (suc k)) n).1)
 
 -- in such a list each entry is new behind those before it
-pub new_there : (m t : List ℕ) (e : ℕ) → AreApart (m ++ e ∷ t) → IsNew m e
+pub new_there : (m t : List ℕ) (e : ℕ) → IsInjective (m ++ e ∷ t) → IsNew m e
 new_there m t zero a = tt
 new_there [] t (suc k) a = refl
 new_there (zero ∷ m) t (suc k) a = ap (λ b. b || names m (suc k)) (zero_other k) ∙ new_there m t (suc k) a

@@ -10,9 +10,10 @@ use Rattle.chr_base.specs.declared.term.Comparison.{Comparison}
 use Rattle.chr_base.specs.declared.rule.Rule.{Rule}
 use Rattle.chr_base.specs.RuleTests.{terms_of}
 use Rattle.chr_types.specs.OrderTypes.{In, Rises, IsValue}
-use Rattle.chr_confluence.specs.Members.{in_first, in_second, in_either}
-use Rattle.chr_confluence.specs.Representatives.{AreConstants, guard_terms, rule_terms}
-use Rattle.chr_overlaps.specs.Gathering.{AreConstantsIn, Gathers, all_terms}
+use Rattle.chr_types.proofs.Members.{in_first, in_second, in_either}
+use Rattle.chr_confluence.specs.Constants.{AreConstants, guard_terms, rule_terms}
+use Rattle.chr_confluence.proofs.Rising.{terms_of-append}
+use Rattle.chr_overlaps.specs.working.Gathering.{AreConstantsIn, Gathers, all_terms}
 
 pub in_at : {A : Type 0} (zs : List A) (i : ℕ) (d : A) → i < length zs → In (get_or zs i d) zs
 in_at [] i d l = absurd (omega (arith, l))
@@ -50,9 +51,6 @@ rises_inserted (x ∷ cs) (suc i) c r b a l = (
   rises_inserted cs i c r.1 (λ k h. b (suc k) (omega (arith, h))) (λ h. a (omega (arith, h))) (omega (arith, l)),
 )
 
-same_constant : (c d : ℤ) → Constant c ≡ Constant d → c ≡ d
-same_constant c d e = cc
-
 pub constant_there : (cs : List ℤ) (c : ℤ) → In c cs → Gathers (Constant c ∷ []) cs cs
 constant_there cs c h before is = record {
   rise = is.rise;
@@ -60,7 +58,7 @@ constant_there cs c h before is = record {
   stand = λ d j. in_first (Constant d) before (Constant c ∷ []) (is.stand d j);
   all = λ d j. elim (in_either (Constant d) before (Constant c ∷ []) j) as (λ _. In d cs) [
     | inl k ↦ is.all d k
-    | inr k ↦ elim k as (λ _. In d cs) [ inl e ↦ subst (λ z. In z cs) (sym (same_constant d c e)) h | inr n ↦ absurd n ]
+    | inr k ↦ elim k as (λ _. In d cs) [ inl e ↦ (let q : Constant d ≡ Constant c = e in let same : c ≡ d = cc in subst (λ z. In z cs) same h) | inr n ↦ absurd n ]
   ];
 }
 
@@ -75,7 +73,7 @@ constant_inserted cs ds i c v l b a e before is =
       ];
       all = λ d j. elim (in_either (Constant d) before (Constant c ∷ []) j) as (λ _. In d (insert cs i c)) [
         | inl k ↦ still_in cs i c d (is.all d k)
-        | inr k ↦ elim k as (λ _. In d (insert cs i c)) [ inl f ↦ subst (λ z. In z (insert cs i c)) (sym (same_constant d c f)) (inserted_in cs i c l) | inr n ↦ absurd n ]
+        | inr k ↦ elim k as (λ _. In d (insert cs i c)) [ inl f ↦ (let q : Constant d ≡ Constant c = f in let same : c ≡ d = cc in subst (λ z. In z (insert cs i c)) same (inserted_in cs i c l)) | inr n ↦ absurd n ]
       ];
     })
 
@@ -97,16 +95,9 @@ pub term_passed : (t : Term) (cs : List ℤ) → ((c : ℤ) → t ≡ Constant c
 term_passed (Variable x) cs n = variable_passed x cs
 term_passed (Constant c) cs n = absurd (n c refl)
 
-pub nothing_gathered : (cs : List ℤ) → Gathers [] cs cs
-nothing_gathered cs before is = subst (λ ts. AreConstantsIn ts cs) (sym (append-nil before)) is
-
 -- from one list of terms, and then from another
 pub gathered_both : (ts us : List Term) (cs ds es : List ℤ) → Gathers ts cs ds → Gathers us ds es → Gathers (ts ++ us) cs es
 gathered_both ts us cs ds es g h before is = subst (λ xs. AreConstantsIn xs es) (append_assoc before ts us) (h (before ++ ts) (g before is))
-
-pub terms_of-append : (ps qs : List Pattern) → terms_of (ps ++ qs) ≡ terms_of ps ++ terms_of qs
-terms_of-append [] qs = refl
-terms_of-append (p ∷ ps) qs = ap (λ ts. p.args.items ++ ts) (terms_of-append ps qs) ∙ sym (append_assoc p.args.items (terms_of ps) (terms_of qs))
 
 guard_terms-append : (as' bs : List Comparison) → guard_terms (as' ++ bs) ≡ guard_terms as' ++ guard_terms bs
 guard_terms-append [] bs = refl

@@ -9,7 +9,8 @@ use Rattle.std.proofs.lemmas.Cmp.{nat_cmp_total}
 use Rattle.std.proofs.lemmas.Bool.{cases_lt}
 use Rattle.std.proofs.Common.{refl, sym, ap, subst, ◌∙◌, inl, inr, arith}
 use Rattle.chr_types.specs.OrderTypes.{In}
-use Rattle.chr_confluence.specs.Members.{in_first, in_second, in_either}
+use Rattle.chr_types.proofs.Members.{in_first, in_second, in_either}
+use Rattle.chr_confluence.proofs.Frees.{range_in}
 use Rattle.chr_overlaps.specs.declared.overlap.Overlap.{Overlap}
 use Rattle.chr_overlaps.specs.OverlapLists.{overlap_cmp, OverlapsRise}
 
@@ -24,23 +25,6 @@ pub in_all : {A : Type 0} (x : A) (f : ℕ → List A) (k : ℕ) (ks : List ℕ)
 in_all x f k [] i j = elim i [ ]
 in_all x f k (l ∷ ks) (inl e) j = in_first x (f l) (flat_map f ks) (subst (λ n. In x (f n)) e j)
 in_all x f k (l ∷ ks) (inr i) j = in_second x (f l) (flat_map f ks) (in_all x f k ks i j)
-
-pub in_cond : {A : Type 0} (x : A) (b : Bool) (xs : List A) → In x (cond b xs []) → (b ≡ true) × In x xs
-in_cond x true xs i = (refl, i)
-in_cond x false xs i = elim i [ ]
-
--- the numbers of a range
-pub in_range : (a n k : ℕ) → a ≤ k → k < a + n → In k (range_with_len a n)
-in_range a zero k l h = absurd (omega arith)
-in_range a (suc n) k l h = elim (cases_lt a k) as (λ _. In k (a ∷ range_with_len (a + 1) n)) [
-  | inl g ↦ inr (in_range (a + 1) n k (omega arith) (omega arith))
-  | inr g ↦ inl (omega arith)
-]
-
-pub range_bounds : (a n k : ℕ) → In k (range_with_len a n) → (a ≤ k) × (k < a + n)
-range_bounds a zero k i = elim i [ ]
-range_bounds a (suc n) k (inl e) = (omega arith, omega arith)
-range_bounds a (suc n) k (inr i) = let m = range_bounds (a + 1) n k i in (omega (arith, m), omega (arith, m))
 
 -- ---- order
 
@@ -60,7 +44,7 @@ pub all_rise : (f : ℕ → List Overlap) (a n : ℕ) → ((k : ℕ) → Overlap
     → OverlapsRise (flat_map f (range_with_len a n))
 all_rise f a zero each less = tt
 all_rise f a (suc n) each less = rise_append (f a) (flat_map f (range_with_len (a + 1) n)) (each a) (all_rise f (a + 1) n each less)
-    (λ x y i j. (let m = in_some y f (range_with_len (a + 1) n) j in let b = range_bounds (a + 1) n m.0 m.1 in less a m.0 x y (omega (arith, b)) i m.2))
+    (λ x y i j. (let m = in_some y f (range_with_len (a + 1) n) j in let b = range_in (a + 1) n m.0 m.1 in less a m.0 x y (omega (arith, b)) i m.2))
 
 pub cond_rises : (b : Bool) (xs : List Overlap) → OverlapsRise xs → OverlapsRise (cond b xs [])
 cond_rises true xs h = h

@@ -9,7 +9,7 @@ use Rattle.chr_base.specs.declared.term.Pattern.{Pattern}
 use Rattle.chr_base.specs.declared.rule.Rule.{Rule}
 use Rattle.chr_base.specs.Rules.{heads_of, no_pattern}
 use Rattle.chr_base.specs.RuleTests.{numbered, terms_of}
-use Rattle.chr_base.specs.Instances.{numbered_rule}
+use Rattle.chr_base.proofs.Instances.{numbered_rule}
 
 pub numbered-append : (n : ℕ) (ts us : List Term) → numbered n (ts ++ us) ≡ option_and_then (λ m. numbered m us) (numbered n ts)
 numbered-append n [] us = refl

@@ -1,21 +1,21 @@
 -- Equations solved place by place.
-use Rattle.std.specs.Prelude.{◌≡◌, ℕ, zero, suc, ◌+◌, ◌-◌, ◌<◌, ◌≤◌, List, [], ◌∷◌, ◌++◌, length, get_or, drop, map, Option, Some, None}
+use Rattle.std.specs.Prelude.{◌≡◌, ℕ, zero, suc, ◌+◌, ◌-◌, ◌<◌, List, [], ◌∷◌, ◌++◌, length, get_or, drop, map, Option, Some, None}
 use Rattle.std.specs.Option.{option_and_then}
 use Rattle.std.proofs.Common.{refl, sym, ap, subst, ◌∙◌, arith}
-use Rattle.std.proofs.lemmas.List.{drop_all}
 use Rattle.std.proofs.lemmas.Option.{slice_get_within}
 use Rattle.chr_base.specs.declared.term.Term.{Term}
 use Rattle.chr_base.specs.declared.term.Pattern.{Pattern}
 use Rattle.chr_base.specs.Rules.{no_pattern}
-use Rattle.chr_confluence.specs.Classes.{Class, Solves, HasNone}
-use Rattle.chr_confluence.specs.Overlaps.{SameSymbols, shifted, term_pairs, equations}
-use Rattle.chr_confluence.specs.Solving.{single, class_of, joined, solve, Solved, solved}
+use Rattle.chr_confluence.specs.Unifiers.{Substitution, IsMostGeneralUnifier, HasNoUnifier}
+use Rattle.chr_confluence.specs.Overlaps.{SameSymbols, renamed_apart, term_pairs, equations}
+use Rattle.chr_confluence.specs.working.Solving.{identity_substitution, class_of, unify_terms, solve, Solved}
+use Rattle.chr_confluence.proofs.Solving.{solved}
 
-solve-append : (σ : Class) (es fs : List (Term × Term)) → solve σ (es ++ fs) ≡ option_and_then (λ τ. solve τ fs) (solve σ es)
+solve-append : (σ : Substitution) (es fs : List (Term × Term)) → solve σ (es ++ fs) ≡ option_and_then (λ τ. solve τ fs) (solve σ es)
 solve-append σ [] fs = refl
-solve-append σ (e ∷ es) fs = by (joined σ (class_of σ e.0) (class_of σ e.1)) (λ τ. solve-append τ es fs)
+solve-append σ (e ∷ es) fs = by (unify_terms σ (class_of σ e.0) (class_of σ e.1)) (λ τ. solve-append τ es fs)
   where
-    by : (o : Option Class) → ((τ : Class) → solve τ (es ++ fs) ≡ option_and_then (λ ρ. solve ρ fs) (solve τ es))
+    by : (o : Option Substitution) → ((τ : Substitution) → solve τ (es ++ fs) ≡ option_and_then (λ ρ. solve ρ fs) (solve τ es))
         → option_and_then (λ τ. solve τ (es ++ fs)) o ≡ option_and_then (λ τ. solve τ fs) (option_and_then (λ τ. solve τ es) o)
     by None more = refl
     by (Some τ) more = more τ
@@ -26,7 +26,7 @@ rest_of k qs m ps i = equations k qs (drop i m) (drop i ps)
 
 -- those of one matched place
 abbrev pub pairs_at : ℕ → List Pattern → List ℕ → List Pattern → ℕ → List (Term × Term)
-pairs_at k qs m ps i = term_pairs (get_or ps i no_pattern).args.items (map (shifted k) (get_or qs (get_or m i 0 - 1) no_pattern).args.items)
+pairs_at k qs m ps i = term_pairs (get_or ps i no_pattern).args.items (map (renamed_apart k) (get_or qs (get_or m i 0 - 1) no_pattern).args.items)
 
 -- each matched place is there in both lists
 pub places_there : (qs : List Pattern) (m : List ℕ) (ps : List Pattern) (i : ℕ) → SameSymbols qs m ps → i < length m → (i < length ps) × (0 < get_or m i 0 → get_or m i 0 - 1 < length qs)
@@ -54,24 +54,21 @@ rest_matched k qs (d ∷ m) [] i l h e = absurd (omega (arith, h))
 rest_matched k qs (zero ∷ m) (p ∷ ps) zero l h e = absurd (omega (arith, e))
 rest_matched k qs (suc d ∷ m) (p ∷ ps) zero l h e =
     let z : d ≡ suc d - 1 = omega arith in
-    ap (λ x. term_pairs p.args.items (map (shifted k) (get_or qs x no_pattern).args.items) ++ equations k qs m ps) z
+    ap (λ x. term_pairs p.args.items (map (renamed_apart k) (get_or qs x no_pattern).args.items) ++ equations k qs m ps) z
 rest_matched k qs (d ∷ m) (p ∷ ps) (suc i) l h e =
     let z : suc (i + 1) ≡ suc i + 1 = omega arith in
     subst (λ j. rest_of k qs m ps i ≡ pairs_at k qs m ps i ++ rest_of k qs (d ∷ m) (p ∷ ps) j) z (rest_matched k qs m ps i (omega (arith, l)) (omega (arith, h)) e)
 
-pub rest_none : (k : ℕ) (qs : List Pattern) (m : List ℕ) (ps : List Pattern) (i : ℕ) → length m ≤ i → rest_of k qs m ps i ≡ []
-rest_none k qs m ps i l = ap (λ ds. equations k qs ds (drop i ps)) (drop_all i m l)
-
 -- the first equations are solved, or can't be
-pub solved_first : (σ τ : Class) (es fs : List (Term × Term)) → Some τ ≡ solve σ es → solve σ (es ++ fs) ≡ solve τ fs
+pub solved_first : (σ τ : Substitution) (es fs : List (Term × Term)) → Some τ ≡ solve σ es → solve σ (es ++ fs) ≡ solve τ fs
 solved_first σ τ es fs e = solve-append σ es fs ∙ ap (option_and_then (λ ρ. solve ρ fs)) (sym e)
 
-pub first_clash : (σ : Class) (es fs : List (Term × Term)) → None ≡ solve σ es → solve σ (es ++ fs) ≡ None
+pub first_clash : (σ : Substitution) (es fs : List (Term × Term)) → None ≡ solve σ es → solve σ (es ++ fs) ≡ None
 first_clash σ es fs e = solve-append σ es fs ∙ ap (option_and_then (λ ρ. solve ρ fs)) (sym e)
 
 -- what the answer means
-pub none_solve : (es : List (Term × Term)) → solve single es ≡ None → HasNone es
+pub none_solve : (es : List (Term × Term)) → solve identity_substitution es ≡ None → HasNoUnifier es
 none_solve es e = subst (Solved es) e (solved es)
 
-pub some_solve : (es : List (Term × Term)) (σ : Class) → solve single es ≡ Some σ → Solves σ es
+pub some_solve : (es : List (Term × Term)) (σ : Substitution) → solve identity_substitution es ≡ Some σ → IsMostGeneralUnifier σ es
 some_solve es σ e = subst (Solved es) e (solved es)

@@ -7,7 +7,7 @@ use Rattle.std.proofs.lemmas.Option.{slice_get_read}
 use Rattle.chr_base.specs.declared.rule.Rule.{Rule}
 use Rattle.chr_base.specs.Rules.{heads_of, no_pattern}
 use Rattle.chr_overlaps.specs.declared.overlap.Overlap.{Overlap}
-use Rattle.chr_overlaps.specs.Listing.{may_follow, with_entry, going_on, overlaps_behind, begun, overlaps_at, overlaps_of_pair}
+use Rattle.chr_overlaps.specs.working.Listing.{may_follow, with_entry, going_on, overlaps_behind, begun, overlaps_at, overlaps_of_pair}
 
 range_more : (a n : ℕ) → range_with_len a (n + 1) ≡ range_with_len a n ++ (a + n) ∷ []
 range_more a zero = let e : a ≡ a + 0 = omega arith in λ i. e i ∷ []
@@ -50,12 +50,6 @@ entry_follows r s o longer m e b l same is t =
 pub entry_not : (r s : Rule) (o : Overlap) (m : List ℕ) (e : ℕ) (b : Bool) → m ≡ o.matching.items → b ≡ follows r s m e → b ≡ false → next r s o e ≡ []
 entry_not r s o m e b same is t =
     ap (λ b. cond b (overlaps_behind r s (drop (length o.matching.items + 1) (heads_of r)) (with_entry o e)) []) (sym (ap (λ k. follows r s k e) same) ∙ sym is ∙ t)
-
--- after the last entry these are all
-pub all_entries : (r s : Rule) (o : Overlap) (old found : List Overlap) (e : ℕ) → length o.matching.items < length (heads_of r) → e ≡ length (heads_of s) + 1
-    → found ≡ old ++ flat_map (next r s o) (range_with_len 0 e)
-    → found ≡ old ++ overlaps_behind r s (drop (length o.matching.items) (heads_of r)) o
-all_entries r s o old found e l k h = h ∙ ap (λ n. old ++ flat_map (next r s o) (range_with_len 0 n)) k ∙ ap (λ xs. old ++ xs) (sym (by_next r s o l))
 
 -- the overlaps of one pair
 pub pair_added : (rules : List Rule) (i j : ℕ) (r s : Rule) (o : Overlap) → i < length rules → j < length rules → r ≡ get_or rules i r → s ≡ get_or rules j s

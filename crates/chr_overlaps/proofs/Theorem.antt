@@ -7,12 +7,14 @@ use Rattle.chr_base.specs.declared.term.Pattern.{Pattern}
 use Rattle.chr_base.specs.declared.rule.Rule.{Rule}
 use Rattle.chr_base.specs.Rules.{heads_of}
 use Rattle.chr_types.specs.OrderTypes.{In}
-use Rattle.chr_confluence.specs.Matchings.{AreApart, touches}
+use Rattle.chr_confluence.specs.Matchings.{IsInjective, matches_removed}
 use Rattle.chr_confluence.specs.Overlaps.{SameSymbols, IsMatching, IsOverlap}
+use Rattle.chr_types.proofs.Enumeration.{if_in}
+use Rattle.chr_confluence.proofs.Frees.{in_range, range_in}
 use Rattle.chr_overlaps.specs.declared.overlap.Overlap.{Overlap}
 use Rattle.chr_overlaps.specs.OverlapLists.{IsOverlapOf, overlap_cmp, OverlapsRise, AreOverlaps}
-use Rattle.chr_overlaps.specs.Listing.{may_follow, with_entry, going_on, overlaps_behind, begun, overlaps_at, overlaps_of_pair, overlaps_of_rule, all_overlaps}
-use Rattle.chr_overlaps.proofs.Members.{in_some, in_all, in_cond, in_range, range_bounds, less_at, all_rise, cond_rises}
+use Rattle.chr_overlaps.specs.working.Listing.{may_follow, with_entry, going_on, overlaps_behind, begun, overlaps_at, overlaps_of_pair, overlaps_of_rule, all_overlaps}
+use Rattle.chr_overlaps.proofs.Members.{in_some, in_all, less_at, all_rise, cond_rises}
 use Rattle.chr_overlaps.proofs.Entries.{IsNew, symbols_more, symbols_first, symbol_within, follows_means, means_follows, apart_more, new_there}
 
 abbrev with_entries : Overlap → List ℕ → Overlap
@@ -30,7 +32,7 @@ module _ (r s : Rule) where
   range = range_with_len 0 (length (heads_of s) + 1)
 
   abbrev is_touching : Overlap → Bool
-  is_touching o = touches (length r.kept.items) (length s.kept.items) o.matching.items
+  is_touching o = matches_removed (length r.kept.items) (length s.kept.items) o.matching.items
 
   -- x is o with further entries
   pub record GoesOn (ps : List Pattern) (o x : Overlap) : Type 0 where
@@ -41,13 +43,13 @@ module _ (r s : Rule) where
 
   pub shape : (ps : List Pattern) (o x : Overlap) → In x (overlaps_behind r s ps o) → GoesOn ps o x
   shape [] o x i =
-      let m = in_cond x (is_touching o) (o ∷ []) i in
+      let m = if_in x (is_touching o) (o ∷ []) i in
       let e : x ≡ o = elim m.1 as (λ _. x ≡ o) [ inl e ↦ e | inr n ↦ absurd n ] in
       record { entries = []; same = e ∙ sym (no_more_entries o); symbols = tt; touching = ap is_touching e ∙ m.0 }
   shape (p ∷ ps) o x i =
       let m = in_some x (going_on (overlaps_behind r s ps) (heads_of s) o p) range i in
-      let b = range_bounds 0 (length (heads_of s) + 1) m.0 m.1 in
-      let c = in_cond x (may_follow (heads_of s) o.matching.items p m.0) (overlaps_behind r s ps (with_entry o m.0)) m.2 in
+      let b = range_in 0 (length (heads_of s) + 1) m.0 m.1 in
+      let c = if_in x (may_follow (heads_of s) o.matching.items p m.0) (overlaps_behind r s ps (with_entry o m.0)) m.2 in
       let f = follows_means (heads_of s) o.matching.items p m.0 (omega (arith, b)) c.0 in
       let g = shape ps (with_entry o m.0) x c.1 in
       record {
@@ -58,19 +60,19 @@ module _ (r s : Rule) where
       }
 
   -- none names a place twice, where o does not
-  pub apart : (ps : List Pattern) (o x : Overlap) → AreApart o.matching.items → In x (overlaps_behind r s ps o) → AreApart x.matching.items
+  pub apart : (ps : List Pattern) (o x : Overlap) → IsInjective o.matching.items → In x (overlaps_behind r s ps o) → IsInjective x.matching.items
   apart [] o x a i =
-      let m = in_cond x (is_touching o) (o ∷ []) i in
-      elim m.1 as (λ _. AreApart x.matching.items) [ inl e ↦ subst (λ (y : Overlap). AreApart y.matching.items) (sym e) a | inr n ↦ absurd n ]
+      let m = if_in x (is_touching o) (o ∷ []) i in
+      elim m.1 as (λ _. IsInjective x.matching.items) [ inl e ↦ subst (λ (y : Overlap). IsInjective y.matching.items) (sym e) a | inr n ↦ absurd n ]
   apart (p ∷ ps) o x a i =
       let m = in_some x (going_on (overlaps_behind r s ps) (heads_of s) o p) range i in
-      let b = range_bounds 0 (length (heads_of s) + 1) m.0 m.1 in
-      let c = in_cond x (may_follow (heads_of s) o.matching.items p m.0) (overlaps_behind r s ps (with_entry o m.0)) m.2 in
+      let b = range_in 0 (length (heads_of s) + 1) m.0 m.1 in
+      let c = if_in x (may_follow (heads_of s) o.matching.items p m.0) (overlaps_behind r s ps (with_entry o m.0)) m.2 in
       let f = follows_means (heads_of s) o.matching.items p m.0 (omega (arith, b)) c.0 in
       apart ps (with_entry o m.0) x (apart_more o.matching.items m.0 a f.0) c.1
 
   -- none is missing
-  pub complete : (ps : List Pattern) (o : Overlap) (t : List ℕ) → SameSymbols (heads_of s) t ps → AreApart (o.matching.items ++ t) → is_touching (with_entries o t) ≡ true
+  pub complete : (ps : List Pattern) (o : Overlap) (t : List ℕ) → SameSymbols (heads_of s) t ps → IsInjective (o.matching.items ++ t) → is_touching (with_entries o t) ≡ true
       → In (with_entries o t) (overlaps_behind r s ps o)
   complete [] o [] h a g =
       let e = no_more_entries o in
@@ -84,7 +86,7 @@ module _ (r s : Rule) where
       let f : may_follow (heads_of s) o.matching.items p e ≡ true = means_follows (heads_of s) o.matching.items p e new parts.0 in
       let w = symbol_within (heads_of s) p e parts.0 in
       let q = append_assoc o.matching.items (e ∷ []) t in
-      let more : In (with_entries (with_entry o e) t) (overlaps_behind r s ps (with_entry o e)) = complete ps (with_entry o e) t parts.1 (subst AreApart (sym q) a) (ap is_touching (one_more_entry o e t) ∙ g) in
+      let more : In (with_entries (with_entry o e) t) (overlaps_behind r s ps (with_entry o e)) = complete ps (with_entry o e) t parts.1 (subst IsInjective (sym q) a) (ap is_touching (one_more_entry o e t) ∙ g) in
       let there : In (with_entries o (e ∷ t)) (overlaps_behind r s ps (with_entry o e)) = subst (λ (y : Overlap). In y (overlaps_behind r s ps (with_entry o e))) (one_more_entry o e t) more in
       in_all (with_entries o (e ∷ t)) (going_on (overlaps_behind r s ps) (heads_of s) o p) e range (in_range 0 (length (heads_of s) + 1) e (omega arith) (omega (arith, w)))
       (subst (λ b. In (with_entries o (e ∷ t)) (cond b (overlaps_behind r s ps (with_entry o e)) [])) (sym f) there)
@@ -93,8 +95,8 @@ module _ (r s : Rule) where
   rising [] o = cond_rises (is_touching o) (o ∷ []) ((λ p i. elim i [ ]), tt)
   rising (p ∷ ps) o = all_rise (going_on (overlaps_behind r s ps) (heads_of s) o p) 0 (length (heads_of s) + 1)
       (λ e. cond_rises (may_follow (heads_of s) o.matching.items p e) (overlaps_behind r s ps (with_entry o e)) (rising ps (with_entry o e)))
-      (λ d e x y l i j. (let a = shape ps (with_entry o d) x (in_cond x (may_follow (heads_of s) o.matching.items p d) (overlaps_behind r s ps (with_entry o d)) i).1 in
-      let b = shape ps (with_entry o e) y (in_cond y (may_follow (heads_of s) o.matching.items p e) (overlaps_behind r s ps (with_entry o e)) j).1 in
+      (λ d e x y l i j. (let a = shape ps (with_entry o d) x (if_in x (may_follow (heads_of s) o.matching.items p d) (overlaps_behind r s ps (with_entry o d)) i).1 in
+      let b = shape ps (with_entry o e) y (if_in y (may_follow (heads_of s) o.matching.items p e) (overlaps_behind r s ps (with_entry o e)) j).1 in
       (λ k. overlap_cmp ((a.same ∙ one_more_entry o d a.entries) k) ((b.same ∙ one_more_entry o e b.entries) k)) ∙ less_at (o.first ∷ o.second ∷ o.matching.items) a.entries b.entries d e l))
 
 -- x is an overlap of the rules a and b, which stand at the places i and j
@@ -122,8 +124,8 @@ of_pair i j (Some r) (Some s) x h =
       same = g.same;
       matching = record {
         symbols = g.symbols;
-        apart = subst (λ (y : Overlap). AreApart y.matching.items) g.same a;
-        touching = subst (λ (y : Overlap). touches (length r.kept.items) (length s.kept.items) y.matching.items ≡ true) g.same g.touching;
+        apart = subst (λ (y : Overlap). IsInjective y.matching.items) g.same a;
+        touching = subst (λ (y : Overlap). matches_removed (length r.kept.items) (length s.kept.items) y.matching.items ≡ true) g.same g.touching;
       };
     }
 
@@ -145,7 +147,7 @@ module _ (rules : List Rule) where
   in_rule : (i : ℕ) (x : Overlap) → In x (overlaps_of_rule rules i) → OfRule i x
   in_rule i x h =
       let m = in_some x (overlaps_of_pair rules i) (range_with_len i (length rules - i)) h in
-      record { place = m.0; after = (range_bounds i (length rules - i) m.0 m.1).0; pair = in_pair i m.0 x m.2 }
+      record { place = m.0; after = (range_in i (length rules - i) m.0 m.1).0; pair = in_pair i m.0 x m.2 }
 
   each : (x : Overlap) → In x (all_overlaps rules) → IsOverlapOf rules x
   each x h =
@@ -184,7 +186,11 @@ module _ (rules : List Rule) where
       (λ k. overlap_cmp (a.same k) (b.same k)) ∙ less_at [] ((v.place + 1) ∷ a.entries) ((w.place + 1) ∷ b.entries) (d + 1) (e + 1) (omega arith)))
 
   are_overlaps : AreOverlaps rules (all_overlaps rules)
-  are_overlaps = record { each = each; all = λ i j m o. (with_entries (begun i j) m, listed i j m o, refl, refl, refl); rise = rise }
+  are_overlaps = record {
+    each = each;
+    all = λ o h. subst (λ (p : Overlap). In p (all_overlaps rules)) (λ k. record { first = sym h.2.0 k; second = sym h.2.1 k; matching = o.matching }) (listed h.0 h.1 o.matching.items h.2.2);
+    rise = rise;
+  }
 
 -- at the end of the loop over the rules
 pub all_listed : (rules of_program : List Rule) (n : ℕ) (found : List Overlap) → rules ≡ of_program → n ≡ length rules → found ≡ flat_map (overlaps_of_rule rules) (range_with_len 0 n) → AreOverlaps of_program found

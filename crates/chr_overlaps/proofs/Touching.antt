@@ -2,14 +2,11 @@
 use Rattle.std.specs.Prelude.{◌≡◌, ℕ, zero, suc, Bool, true, false, ◌||◌, nat_lt, List, [], ◌∷◌}
 use Rattle.std.specs.List.{list_any}
 use Rattle.std.proofs.Common.{refl, sym, ap, ◌∙◌, arith, take, drop}
+use Rattle.std.proofs.Math.Bool.{or_assoc}
 use Rattle.std.proofs.lemmas.Bool.Decides.{nat_tests}
-use Rattle.chr_confluence.specs.Matchings.{touches}
+use Rattle.chr_confluence.specs.Matchings.{matches_removed}
 
-or_assoc : (a b c : Bool) → (a || (b || c)) ≡ ((a || b) || c)
-or_assoc true b c = refl
-or_assoc false b c = refl
-
-pub touches_by_parts : (n k : ℕ) (m : List ℕ) → touches n k m ≡ (list_any (nat_lt k) (take n m) || list_any (nat_lt 0) (drop n m))
+pub touches_by_parts : (n k : ℕ) (m : List ℕ) → matches_removed n k m ≡ (list_any (nat_lt k) (take n m) || list_any (nat_lt 0) (drop n m))
 touches_by_parts zero k [] = refl
 touches_by_parts (suc n) k [] = refl
 touches_by_parts zero k (zero ∷ m) = touches_by_parts zero k m
@@ -18,4 +15,4 @@ touches_by_parts (suc n) k (zero ∷ m) =
     let e : nat_lt k 0 ≡ false = grind (arith, nat_tests) in
     touches_by_parts n k m ∙ ap (λ b. (b || list_any (nat_lt k) (take n m)) || list_any (nat_lt 0) (drop n m)) (sym e)
 touches_by_parts (suc n) k (suc p ∷ m) =
-    ap (λ b. nat_lt k (suc p) || b) (touches_by_parts n k m) ∙ or_assoc (nat_lt k (suc p)) (list_any (nat_lt k) (take n m)) (list_any (nat_lt 0) (drop n m))
+    ap (λ b. nat_lt k (suc p) || b) (touches_by_parts n k m) ∙ sym (or_assoc (nat_lt k (suc p)) (list_any (nat_lt k) (take n m)) (list_any (nat_lt 0) (drop n m)))

@@ -1,7 +1,4 @@
 -- The list of all overlaps of a program's rules.
---     IsOverlapOf rules o        the overlap o is one of these rules
---     overlap_cmp o p        their order: by the first rule, then the second, then the matching entry by entry
---     AreOverlaps rules os        os are all overlaps of these rules, each once, in this order
 use Rattle.std.specs.Prelude.{◌≡◌, ℕ, ◌+◌, List, ◌∷◌}
 use Rattle.std.specs.declared.cmp.Ordering.{Ordering}
 use Rattle.std.specs.declared.cmp.Ordering.TheVariants.{Less}
@@ -16,9 +13,11 @@ use Rattle.chr_overlaps.specs.declared.overlap.Overlap.{Overlap}
 abbrev pub IsOverlapAt : List Rule → ℕ → ℕ → Overlap → Type 0
 IsOverlapAt rules i j o = (o.first ≡ i + 1) × (o.second ≡ j + 1) × IsOverlap rules i j o.matching.items
 
+-- an overlap of these rules
 abbrev pub IsOverlapOf : List Rule → Overlap → Type 0
 IsOverlapOf rules o = (i : ℕ) × (j : ℕ) × IsOverlapAt rules i j o
 
+-- the numbers by which overlaps are ordered: the first rule, the second, and the matching entry by entry
 abbrev pub entries : Overlap → List ℕ
 entries o = o.first ∷ o.second ∷ o.matching.items
 
@@ -28,7 +27,8 @@ overlap_cmp o p = slice_cmp nat_cmp (entries o) (entries p)
 abbrev pub OverlapsRise : List Overlap → Type 0
 OverlapsRise = RisesBy (λ o p. overlap_cmp o p ≡ Less)
 
+-- all overlaps of these rules, each once, in order
 pub record AreOverlaps (rules : List Rule) (os : List Overlap) : Type 0 where
   pub each : (o : Overlap) → In o os → IsOverlapOf rules o
-  pub all : (i j : ℕ) (m : List ℕ) → IsOverlap rules i j m → (o : Overlap) × In o os × (o.first ≡ i + 1) × (o.second ≡ j + 1) × (o.matching.items ≡ m)
+  pub all : (o : Overlap) → IsOverlapOf rules o → In o os
   pub rise : OverlapsRise os

@@ -1,15 +1,19 @@
 //! The cases of an overlap.
-ghost use Rattle.std.specs.Prelude.{◌≡◌, ◌+◌, ◌-◌, ◌<◌, ◌≤◌, ◌++◌, ℕ, Some, None, cond, IfOk, IfErr, OnOk, length, map, nat_eq, slice_get};
+ghost use Rattle.std.specs.Prelude.{◌≡◌, if◌then◌else◌, ◌+◌, ◌-◌, ◌<◌, ◌≤◌, ◌++◌, ℕ, [], Some, None, IfOk, IfErr, IsOkAnd, OnOk, length, map, nat_eq, slice_get};
 ghost use Rattle.std.specs.List.{filter};
+ghost use Rattle.chr_base.specs.declared.rule.Rule.{Rule as RuleValue};
 ghost use Rattle.chr_base.specs.Programs.{rules_of};
 ghost use Rattle.chr_base.specs.Stores.{store_of};
 ghost use Rattle.chr_weights.specs.WeighedPrograms.{program_of};
 ghost use Rattle.chr_confluence.specs.Matchings.{names, left_over, case_atoms};
-ghost use Rattle.chr_confluence.specs.Representatives.{AreConstants, guards_hold};
+ghost use Rattle.chr_confluence.specs.Unifiers.{HasNoUnifier};
+ghost use Rattle.chr_confluence.specs.Overlaps.{equations_of};
+ghost use Rattle.chr_confluence.specs.Constants.{AreConstants};
+ghost use Rattle.chr_confluence.specs.Representatives.{guards_hold};
 ghost use Rattle.chr_overlaps.specs.CaseLists.{case_at, AreCases, IsTooMany};
 ghost use Rattle.chr_overlaps.specs.OverlapLists.{IsOverlapOf};
-ghost use Rattle.chr_overlaps.specs.Refusals.{WhereTooMany};
-ghost use Rattle.chr_overlaps.specs.Unifiers.{classes_of, IsUnified};
+ghost use Rattle.chr_overlaps.specs.Refusals.{IfTooManyTypes};
+ghost use Rattle.chr_overlaps.specs.working.Unifiers.{classes_of, IsUnified};
 
 use crate::constants::constants;
 use crate::fault::CaseFault;
@@ -25,9 +29,10 @@ use chr_weights::Weighed;
 use std::alloc::{AllocError, Global};
 
 /// The greatest number of order types of an overlap that has a list of cases.
-pub const TYPES_LIMIT: usize = 50_000;
+pub const MAX_TYPES: usize = 50_000;
 
-/// A case of an overlap: a store in which both rules fire on the atoms that the matched heads share.
+/// A case of an overlap: a store in which both rules fire on the atoms that the matched heads share. The two steps lead
+/// from it to a critical pair.
 #[derive(Drop)]
 pub struct Case {
     /// Both head instances, the matched atoms once.
@@ -78,7 +83,7 @@ fn case_store(
 ) -> Result<Bag, AllocError>
     ensures { IfOk result (λ store. store ≡ store_of (case_atoms left.now right.now matching.now)) }
 {
-    let mut atoms = Vec::with_capacity(alloc, 8)?;
+    let mut atoms = Vec::with_capacity(alloc, left.len() + right.len())?;
     for atom in left {
         atoms.push(atom.copy())?;
     }
@@ -96,7 +101,10 @@ fn case_at(
     values: &[i64],
 ) -> Result<Option<Case>, AllocError>
     requires { IsUnified first.now second.now unified.now }
-    ensures { IfOk result (λ found. found ≡ cond (guards_hold (classes_of unified.now) first.now second.now values.now) (Some (case_at overlap.now first.now second.now (classes_of unified.now) values.now)) None) }
+    ensures { IfOk result (λ found. found ≡
+        (if guards_hold (classes_of unified.now) first.now second.now values.now
+        then Some (case_at overlap.now first.now second.now (classes_of unified.now) values.now)
+        else None)) }
 {
     let left = instances(&unified.free, values, &unified.first);
     if !first.fires(&left) {
@@ -130,7 +138,9 @@ fn cases_at(
     representatives: &[OrderType],
 ) -> Result<Vec<Case>, AllocError>
     requires { IsUnified first.now second.now unified.now }
-    ensures { IfOk result (λ cases. cases.items ≡ map (case_at overlap.now first.now second.now (classes_of unified.now)) (filter (guards_hold (classes_of unified.now) first.now second.now) representatives.now)) }
+    ensures { IfOk result (λ cases. cases.items ≡
+        map (case_at overlap.now first.now second.now (classes_of unified.now))
+        (filter (guards_hold (classes_of unified.now) first.now second.now) representatives.now)) }
 {
     let mut cases = Vec::new(alloc);
     for one in representatives {
@@ -151,14 +161,14 @@ fn rule_of(weighed: &Weighed, number: u32) -> &Rule
     &weighed.program().rules()[number as usize - 1]
 }
 
-/// The cases of an overlap, among these constants of the program's rules: for each representative of an order type under
-/// which both guards hold, in order, the store of both head instances and both steps.
+/// The cases of an overlap, among these constants of the program's rules: for each representative of an order type
+/// under which both guards hold, in order, the store of both head instances and both steps.
 ///
-/// An overlap in which two constants would have to be one has no cases.
+/// An overlap in which two constants would have to be one has no cases. This is told without memory.
 ///
 /// # Errors
-/// `TooManyTypes` exactly where there are more than 50,000 order types, whether the guards hold or not; `Memory` where there
-/// is no memory left.
+/// `TooManyTypes` exactly where there are more than `MAX_TYPES` order types, whether the guards hold or not; `Memory`
+/// where there is no memory left.
 pub fn cases_among(
     alloc: Global,
     weighed: &Weighed,
@@ -167,9 +177,17 @@ pub fn cases_among(
 ) -> Result<Vec<Case>, CaseFault>
     requires overlap { IsOverlapOf (rules_of (program_of weighed.now)) overlap.now }
     requires constants { AreConstants (rules_of (program_of weighed.now)) constants.now }
-    ensures cases { IfOk result (λ cases. AreCases (rules_of (program_of weighed.now)) overlap.now cases.items) }
-    ensures no_more { IfOk result (λ _. (n : ℕ) → IsTooMany (rules_of (program_of weighed.now)) overlap.now n → ⊥) }
-    ensures many { IfErr result (λ e. WhereTooMany e (IsTooMany (rules_of (program_of weighed.now)) overlap.now)) }
+    ensures cases { IfOk result (λ cases.
+        AreCases (rules_of (program_of weighed.now)) overlap.now cases.items) }
+    ensures no_more { IfOk result (λ _.
+        (n : ℕ) → ¬ IsTooMany (rules_of (program_of weighed.now)) overlap.now n) }
+    ensures many { IfErr result (λ e.
+        IfTooManyTypes e (IsTooMany (rules_of (program_of weighed.now)) overlap.now)) }
+    ensures none { (r1 r2 : RuleValue) →
+        slice_get (rules_of (program_of weighed.now)) (overlap.now.first - 1) ≡ Some r1 →
+        slice_get (rules_of (program_of weighed.now)) (overlap.now.second - 1) ≡ Some r2 →
+        HasNoUnifier (equations_of r1 r2 overlap.now.matching.items) →
+        IsOkAnd result (λ cases. cases.items ≡ []) }
 {
     let first = rule_of(weighed, overlap.first);
     let second = rule_of(weighed, overlap.second);
@@ -177,24 +195,27 @@ pub fn cases_among(
         return Ok(Vec::new(alloc));
     };
     let classes = unified.free.len();
-    match types(alloc, classes, constants, TYPES_LIMIT) {
+    match types(alloc, classes, constants, MAX_TYPES) {
         Ok(types) => Ok(cases_at(alloc, overlap, first, second, &unified, &types)?),
         Err(TypesFault::TooManyTypes) => Err(CaseFault::TooManyTypes { classes }),
         Err(TypesFault::Memory) => Err(CaseFault::Memory),
     }
 }
 
-/// The cases of an overlap: for each representative of an order type under which both guards hold, in order, the store of
-/// both head instances and both steps.
+/// The cases of an overlap: for each representative of an order type under which both guards hold, in order, the store
+/// of both head instances and both steps.
 ///
 /// # Errors
-/// `TooManyTypes` exactly where there are more than 50,000 order types, whether the guards hold or not; `Memory` where there
-/// is no memory left.
+/// `TooManyTypes` exactly where there are more than `MAX_TYPES` order types, whether the guards hold or not; `Memory`
+/// where there is no memory left.
 pub fn cases(alloc: Global, weighed: &Weighed, overlap: &Overlap) -> Result<Vec<Case>, CaseFault>
     requires { IsOverlapOf (rules_of (program_of weighed.now)) overlap.now }
-    ensures cases { IfOk result (λ cases. AreCases (rules_of (program_of weighed.now)) overlap.now cases.items) }
-    ensures no_more { IfOk result (λ _. (n : ℕ) → IsTooMany (rules_of (program_of weighed.now)) overlap.now n → ⊥) }
-    ensures many { IfErr result (λ e. WhereTooMany e (IsTooMany (rules_of (program_of weighed.now)) overlap.now)) }
+    ensures cases { IfOk result (λ cases.
+        AreCases (rules_of (program_of weighed.now)) overlap.now cases.items) }
+    ensures no_more { IfOk result (λ _.
+        (n : ℕ) → ¬ IsTooMany (rules_of (program_of weighed.now)) overlap.now n) }
+    ensures many { IfErr result (λ e.
+        IfTooManyTypes e (IsTooMany (rules_of (program_of weighed.now)) overlap.now)) }
 {
     let constants = constants(alloc, weighed.program().rules())?;
     cases_among(alloc, weighed, overlap, &constants)

@@ -1,21 +1,29 @@
 //! The classes into which equations join variables.
-ghost use Rattle.std.specs.Prelude.{◌≡◌, ◌+◌, ◌-◌, ◌<◌, ◌≤◌, ℕ, Some, None, cond, length, map, true};
+ghost use Rattle.std.specs.Prelude.{◌≡◌, if◌then◌else◌, ◌+◌, ◌-◌, ◌^◌, ◌<◌, ◌≤◌, ℕ, Some, None, length, map, true};
 ghost use Rattle.std.specs.List.{filter, range_with_len};
-ghost use Rattle.chr_confluence.specs.Classes.{is_own};
-ghost use Rattle.chr_confluence.specs.Overlaps.{shifted, term_pairs};
-ghost use Rattle.chr_confluence.specs.Solving.{single, class_of, put_term, join, joined, solve};
-ghost use Rattle.chr_overlaps.specs.Tables.{class_in, is_below, are_below, class_pattern};
+ghost use Rattle.chr_base.specs.RuleTests.{is_variable};
+ghost use Rattle.chr_confluence.specs.Overlaps.{renamed_apart, term_pairs};
+ghost use Rattle.chr_confluence.specs.working.Solving.{identity_substitution, class_of, put_term, put_everywhere, unify_terms, solve};
+ghost use Rattle.chr_overlaps.specs.declared.classes.TheConstants.{MAX_JOINT_VARIABLES, TABLE_LEN};
+ghost use Rattle.chr_overlaps.specs.working.Tables.{class_in, is_below, are_below, class_pattern};
 
 use arrayvec::ArrayVec;
+use chr_base::limits::MAX_VARIABLES;
 use chr_base::term::{Pattern, Term};
+
+/// The greatest number of variables of two rules.
+pub(crate) const MAX_JOINT_VARIABLES: usize = 2 * MAX_VARIABLES;
+
+/// An entry for each of them, and the one at 0.
+const TABLE_LEN: usize = MAX_JOINT_VARIABLES + 1;
 
 /// The class of each variable, by its number: the constant that the class is bound to, or its first variable.
 ///
 /// Variables are numbered from 1, so the entry at 0 stands for nothing.
 #[derive(Drop)]
 pub(crate) struct Classes {
-    pub(crate) terms: ArrayVec<Term, 33>,
-    ghost few: { length terms.items ≤ 33 },
+    pub(crate) terms: ArrayVec<Term, TABLE_LEN>,
+    ghost few: { length terms.items ≤ TABLE_LEN },
     ghost below: { are_below (length terms.items) terms.items ≡ true },
 }
 
@@ -30,9 +38,9 @@ fn replaced(term: Term, variable: u8, other: Term) -> Term
 }
 
 /// The term with its variable's number raised.
-fn shifted(shift: u8, term: Term) -> Term
-    requires { is_below 256 (shifted shift term) ≡ true }
-    ensures { result ≡ shifted shift term }
+fn renamed_apart(shift: u8, term: Term) -> Term
+    requires { is_below (2 ^ 8) (renamed_apart shift term) ≡ true }
+    ensures { result ≡ renamed_apart shift term }
 {
     match term {
         Term::Variable(x) => Term::Variable(shift + x),
@@ -42,9 +50,9 @@ fn shifted(shift: u8, term: Term) -> Term
 
 impl Classes {
     /// The variables up to the last, each alone.
-    pub(crate) fn single(last: u8) -> Classes
-        requires { last ≤ 32 }
-        ensures classes { class_in result.terms.items ≡ single }
+    pub(crate) fn identity(last: u8) -> Classes
+        requires { last ≤ MAX_JOINT_VARIABLES }
+        ensures classes { class_in result.terms.items ≡ identity_substitution }
         ensures len { length result.terms.items ≡ last + 1 }
     {
         let mut terms = ArrayVec::new();
@@ -70,7 +78,7 @@ impl Classes {
     fn put(&mut self, variable: u8, term: Term)
         requires variable { variable < length self.old.terms.items }
         requires term { is_below (length self.old.terms.items) term ≡ true }
-        ensures classes { class_in self.new.terms.items ≡ join variable term (class_in self.old.terms.items) }
+        ensures classes { class_in self.new.terms.items ≡ put_everywhere variable term (class_in self.old.terms.items) }
         ensures len { length self.new.terms.items ≡ length self.old.terms.items }
     {
         let mut terms = ArrayVec::new();
@@ -84,7 +92,9 @@ impl Classes {
     fn join(&mut self, left: Term, right: Term) -> bool
         requires left { is_below (length self.old.terms.items) left ≡ true }
         requires right { is_below (length self.old.terms.items) right ≡ true }
-        ensures classes { cond result (Some (class_in self.new.terms.items)) None ≡ joined (class_in self.old.terms.items) (class_of (class_in self.old.terms.items) left) (class_of (class_in self.old.terms.items) right) }
+        ensures classes { (if result then Some (class_in self.new.terms.items) else None) ≡
+            unify_terms (class_in self.old.terms.items)
+            (class_of (class_in self.old.terms.items) left) (class_of (class_in self.old.terms.items) right) }
         ensures len { length self.new.terms.items ≡ length self.old.terms.items }
     {
         match (self.class_of(left), self.class_of(right)) {
@@ -96,11 +106,12 @@ impl Classes {
         true
     }
 
-    /// Makes one class of those of the terms at each place, where the variables of the second list are shifted.
+    /// Makes one class of those of the terms at each place, where the variables of the second list are renamed apart.
     pub(crate) fn join_terms(&mut self, left: &[Term], shift: u8, right: &[Term]) -> bool
         requires left { are_below (length self.old.terms.items) left.now ≡ true }
-        requires right { are_below (length self.old.terms.items) (map (shifted shift) right.now) ≡ true }
-        ensures classes { cond result (Some (class_in self.new.terms.items)) None ≡ solve (class_in self.old.terms.items) (term_pairs left.now (map (shifted shift) right.now)) }
+        requires right { are_below (length self.old.terms.items) (map (renamed_apart shift) right.now) ≡ true }
+        ensures classes { (if result then Some (class_in self.new.terms.items) else None) ≡
+            solve (class_in self.old.terms.items) (term_pairs left.now (map (renamed_apart shift) right.now)) }
         ensures len { length self.new.terms.items ≡ length self.old.terms.items }
     {
         let [one, left @ ..] = left else {
@@ -109,12 +120,14 @@ impl Classes {
         let [other, right @ ..] = right else {
             return true;
         };
-        self.join(*one, shifted(shift, *other)) && self.join_terms(left, shift, right)
+        self.join(*one, renamed_apart(shift, *other)) && self.join_terms(left, shift, right)
     }
 
     /// The classes that are bound to no constant, each by its first variable, rising.
-    pub(crate) fn free(&self) -> ArrayVec<u8, 32>
-        ensures { result.items ≡ filter (λ x. is_own x (class_in self.now.terms.items x)) (range_with_len 1 (length self.now.terms.items - 1)) }
+    pub(crate) fn free(&self) -> ArrayVec<u8, MAX_JOINT_VARIABLES>
+        ensures { result.items ≡
+            filter (λ x. is_variable x (class_in self.now.terms.items x))
+            (range_with_len 1 (length self.now.terms.items - 1)) }
     {
         let mut free = ArrayVec::new();
         for variable in 1..self.terms.len() as u8 {
@@ -128,7 +141,7 @@ impl Classes {
     /// Whether the variable stands for its class.
     fn is_own(&self, variable: u8) -> bool
         requires { variable < length self.now.terms.items }
-        ensures { result ≡ is_own variable (class_in self.now.terms.items variable) }
+        ensures { result ≡ is_variable variable (class_in self.now.terms.items variable) }
     {
         match self.terms[usize::from(variable)] {
             Term::Variable(first) => first == variable,
@@ -136,14 +149,14 @@ impl Classes {
         }
     }
 
-    /// The pattern with each term's class, where its variables are shifted.
+    /// The pattern with each term's class, where its variables are renamed apart.
     pub(crate) fn class_pattern(&self, shift: u8, pattern: &Pattern) -> Pattern
-        requires { are_below (length self.now.terms.items) (map (shifted shift) pattern.now.args.items) ≡ true }
+        requires { are_below (length self.now.terms.items) (map (renamed_apart shift) pattern.now.args.items) ≡ true }
         ensures { result ≡ class_pattern (class_in self.now.terms.items) shift pattern.now }
     {
         let mut args = ArrayVec::new();
         for term in pattern.args.as_slice() {
-            args.push(self.class_of(shifted(shift, *term)));
+            args.push(self.class_of(renamed_apart(shift, *term)));
         }
         Pattern {
             symbol: pattern.symbol,

@@ -3,8 +3,8 @@ ghost use Rattle.std.specs.Prelude.{◌≡◌, ◌<◌, ◌≤◌, ◌<ℤ◌, �
 ghost use Rattle.chr_base.specs.declared.term.Term.TheVariants.{Constant};
 ghost use Rattle.chr_base.specs.RuleTests.{terms_of};
 ghost use Rattle.chr_types.specs.OrderTypes.{In, AreValues};
-ghost use Rattle.chr_confluence.specs.Representatives.{AreConstants, guard_terms, rule_terms};
-ghost use Rattle.chr_overlaps.specs.Gathering.{Gathers};
+ghost use Rattle.chr_confluence.specs.Constants.{AreConstants, guard_terms, rule_terms};
+ghost use Rattle.chr_overlaps.specs.working.Gathering.{Gathers};
 
 use chr_base::rule::Rule;
 use chr_base::term::{Comparison, Pattern, Term};

@@ -1,15 +1,16 @@
 //! Heads at the values of their classes.
 ghost use Rattle.std.specs.Prelude.{◌≡◌, ◌≤◌, length};
 ghost use Rattle.chr_base.specs.Rules.{term_value, atom_at, atoms_at};
-ghost use Rattle.chr_confluence.specs.Representatives.{beside};
+ghost use Rattle.chr_confluence.specs.Representatives.{assignment};
 
 use arrayvec::ArrayVec;
 use chr_base::atom::Atom;
+use chr_base::limits::MAX_HEADS;
 use chr_base::term::{Pattern, Term};
 
 /// The value at a variable's place among the classes, 0 where it is none of them.
-fn beside(classes: &[u8], values: &[i64], variable: u8) -> i64
-    ensures { result ≡ beside classes.now values.now variable }
+fn assignment(classes: &[u8], values: &[i64], variable: u8) -> i64
+    ensures { result ≡ assignment classes.now values.now variable }
 {
     let [class, classes @ ..] = classes else {
         return 0;
@@ -20,23 +21,23 @@ fn beside(classes: &[u8], values: &[i64], variable: u8) -> i64
     if variable == *class {
         *value
     } else {
-        beside(classes, values, variable)
+        assignment(classes, values, variable)
     }
 }
 
 /// The value of a term, where each class has its value.
 fn value_of(classes: &[u8], values: &[i64], term: &Term) -> i64
-    ensures { result ≡ term_value (beside classes.now values.now) term.now }
+    ensures { result ≡ term_value (assignment classes.now values.now) term.now }
 {
     match term {
-        Term::Variable(variable) => beside(classes, values, *variable),
+        Term::Variable(variable) => assignment(classes, values, *variable),
         Term::Constant(value) => *value,
     }
 }
 
 /// The atom that a pattern is, where each class has its value.
 fn instance(classes: &[u8], values: &[i64], pattern: &Pattern) -> Atom
-    ensures { result ≡ atom_at (beside classes.now values.now) pattern.now }
+    ensures { result ≡ atom_at (assignment classes.now values.now) pattern.now }
 {
     let mut args = ArrayVec::new();
     for term in pattern.args.as_slice() {
@@ -52,9 +53,9 @@ fn instance(classes: &[u8], values: &[i64], pattern: &Pattern) -> Atom
 pub(crate) fn instances(
     classes: &[u8],
     values: &[i64],
-    heads: &ArrayVec<Pattern, 4>,
-) -> ArrayVec<Atom, 4>
-    ensures { result.items ≡ atoms_at (beside classes.now values.now) heads.now.items }
+    heads: &ArrayVec<Pattern, MAX_HEADS>,
+) -> ArrayVec<Atom, MAX_HEADS>
+    ensures { result.items ≡ atoms_at (assignment classes.now values.now) heads.now.items }
 {
     let mut atoms = ArrayVec::new();
     for head in heads.as_slice() {

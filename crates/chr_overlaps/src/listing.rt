@@ -1,12 +1,13 @@
 //! All overlaps of a program's rules.
-ghost use Rattle.std.specs.Prelude.{◌≡◌, ◌<◌, ◌≤◌, ◌+◌, ◌++◌, OnOk, IfOk, length, get_or, drop, nat_lt};
+ghost use Rattle.std.specs.Prelude.{◌≡◌, ◌<◌, ◌≤◌, ◌+◌, ◌*◌, ◌^◌, ◌++◌, OnOk, IfOk, length, get_or, drop, nat_lt};
 ghost use Rattle.std.specs.List.{list_any};
+ghost use Rattle.chr_base.specs.declared.limits.TheConstants.{MAX_HEADS, MAX_RULES};
 ghost use Rattle.chr_base.specs.Programs.{rules_of};
 ghost use Rattle.chr_base.specs.Rules.{heads_of, no_pattern};
 ghost use Rattle.chr_weights.specs.WeighedPrograms.{program_of};
-ghost use Rattle.chr_confluence.specs.Matchings.{touches};
+ghost use Rattle.chr_confluence.specs.Matchings.{matches_removed};
 ghost use Rattle.chr_overlaps.specs.OverlapLists.{AreOverlaps};
-ghost use Rattle.chr_overlaps.specs.Listing.{same_symbol, may_follow, overlaps_behind, overlaps_of_rule};
+ghost use Rattle.chr_overlaps.specs.working.Listing.{has_same_symbol, may_follow, overlaps_behind, overlaps_of_rule};
 
 use crate::overlap::Overlap;
 use arrayvec::ArrayVec;
@@ -17,7 +18,7 @@ use std::alloc::{AllocError, Global};
 
 /// Whether the patterns have one symbol, with as many arguments.
 fn has_same_symbol(first: &Pattern, second: &Pattern) -> bool
-    ensures { result ≡ same_symbol first.now second.now }
+    ensures { result ≡ has_same_symbol first.now second.now }
 {
     first.symbol.0 == second.symbol.0 && first.args.len() == second.args.len()
 }
@@ -27,7 +28,9 @@ fn has_same_symbol(first: &Pattern, second: &Pattern) -> bool
 fn may_follow(first: &Rule, second: &Rule, begun: &[u8], entry: u8) -> bool
     requires left { length begun.now < length (heads_of first.now) }
     requires there { entry ≤ length (heads_of second.now) }
-    ensures { result ≡ may_follow (heads_of second.now) begun.now (get_or (heads_of first.now) (length begun.now) no_pattern) entry }
+    ensures { result ≡
+        may_follow (heads_of second.now) begun.now
+        (get_or (heads_of first.now) (length begun.now) no_pattern) entry }
 {
     if entry == 0 {
         return true;
@@ -45,9 +48,9 @@ fn has_greater(entries: &[u8], most: usize) -> bool
 
 /// Whether a matched place is removed in one of the two rules.
 #[tactic(auto, using(crate::proofs::Touching::touches_by_parts))]
-fn touches(first: &Rule, second: &Rule, matching: &[u8]) -> bool
+fn matches_removed(first: &Rule, second: &Rule, matching: &[u8]) -> bool
     requires { length matching.now ≡ length (heads_of first.now) }
-    ensures { result ≡ touches (length first.now.kept.items) (length second.now.kept.items) matching.now }
+    ensures { result ≡ matches_removed (length first.now.kept.items) (length second.now.kept.items) matching.now }
 {
     let (kept, removed) = matching.split_at(first.kept.len());
     has_greater(kept, second.kept.len()) || has_greater(removed, 0)
@@ -61,10 +64,12 @@ fn add_overlaps(
     found: &mut Vec<Overlap>,
 ) -> Result<(), AllocError>
     requires { length begun.now.matching.items ≤ length (heads_of first.now) }
-    ensures { OnOk result (found.new.items ≡ found.old.items ++ overlaps_behind first.now second.now (drop (length begun.now.matching.items) (heads_of first.now)) begun.now) }
+    ensures { OnOk result (found.new.items ≡ found.old.items ++
+        overlaps_behind first.now second.now
+        (drop (length begun.now.matching.items) (heads_of first.now)) begun.now) }
 {
     if begun.matching.len() == first.places() {
-        if touches(first, second, &begun.matching) {
+        if matches_removed(first, second, &begun.matching) {
             found.push(begun.copy())?;
         }
         return Ok(());
@@ -81,7 +86,7 @@ fn add_overlaps(
 /// Adds the overlaps of a rule with its own copy and with each rule after it.
 fn add_overlaps_of(rules: &[Rule], place: usize, found: &mut Vec<Overlap>) -> Result<(), AllocError>
     requires there { place < length rules.now }
-    requires few { length rules.now ≤ 64 }
+    requires few { length rules.now ≤ MAX_RULES }
     ensures { OnOk result (found.new.items ≡ found.old.items ++ overlaps_of_rule rules.now place) }
 {
     for other in place..rules.len() {
@@ -96,11 +101,11 @@ fn add_overlaps_of(rules: &[Rule], place: usize, found: &mut Vec<Overlap>) -> Re
 }
 
 /// All overlaps of the program's rules, by first rule, second rule and matching: every way in which heads of a rule
-/// match heads of a later rule, or of its own renamed copy, of which at least one is removed. There are at most
-/// 64 * 64 * 5 ^ 4 of them.
+/// match heads of a later rule, or of its own renamed copy, of which at least one is removed.
 pub fn overlaps(alloc: Global, weighed: &Weighed) -> Result<Vec<Overlap>, AllocError>
     ensures overlaps { IfOk result (λ os. AreOverlaps (rules_of (program_of weighed.now)) os.items) }
-    ensures few { IfOk result (λ os. length os.items ≤ 2560000) }
+    // each head of the one rule has an entry: none, or a place of the other
+    ensures few { IfOk result (λ os. length os.items ≤ MAX_RULES * MAX_RULES * (MAX_HEADS + 1) ^ MAX_HEADS) }
 {
     let rules = weighed.program().rules();
     let mut found = Vec::new(alloc);

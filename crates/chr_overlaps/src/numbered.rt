@@ -1,5 +1,6 @@
 //! The number of a rule's variables.
-ghost use Rattle.std.specs.Prelude.{◌≡◌, ◌+◌, ◌*◌, ◌≤◌, Some, IsSome, length};
+ghost use Rattle.std.specs.Prelude.{◌≡◌, ◌+◌, ◌*◌, ◌^◌, ◌<◌, ◌≤◌, Some, IsSome, length};
+ghost use Rattle.chr_base.specs.declared.limits.TheConstants.{MAX_ARITY, MAX_VARIABLES};
 ghost use Rattle.chr_base.specs.RuleTests.{numbered};
 ghost use Rattle.chr_confluence.specs.Overlaps.{variables_of};
 
@@ -8,7 +9,7 @@ use chr_base::term::{Pattern, Term};
 
 /// The number of variables after these terms, where so many were there before.
 fn count_in_terms(before: u8, terms: &[Term]) -> u8
-    requires room { before + length terms.now ≤ 255 }
+    requires room { before + length terms.now < 2 ^ 8 }
     requires numbered { IsSome (numbered before terms.now) }
     ensures number { numbered before terms.now ≡ Some result }
     ensures most { result ≤ before + length terms.now }
@@ -25,7 +26,7 @@ fn count_in_terms(before: u8, terms: &[Term]) -> u8
 /// The number of variables of a rule, which are 1, 2, .. up to it.
 pub(crate) fn variables(rule: &Rule) -> u8
     ensures number { result ≡ variables_of rule.now }
-    ensures most { result ≤ 16 }
+    ensures most { result ≤ MAX_VARIABLES }
 {
     let mut count = 0;
     for place in 0..rule.places() {

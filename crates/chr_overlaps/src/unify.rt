@@ -1,27 +1,28 @@
 //! The heads of two rules, made one at matched places.
-ghost use Rattle.std.specs.Prelude.{◌≡◌, ◌+◌, ◌-◌, ◌<◌, IfNone, IfSome, Some, None, cond, get_or, length, map};
+ghost use Rattle.std.specs.Prelude.{◌≡◌, if◌then◌else◌, ◌+◌, ◌-◌, ◌<◌, IfNone, IfSome, Some, None, get_or, length, map};
 ghost use Rattle.chr_base.specs.Rules.{heads_of, no_pattern};
-ghost use Rattle.chr_confluence.specs.Classes.{Solves, HasNone};
-ghost use Rattle.chr_confluence.specs.Overlaps.{SameSymbols, variables_of, shifted, term_pairs, equations, equations_of};
-ghost use Rattle.chr_confluence.specs.Solving.{solve};
-ghost use Rattle.chr_overlaps.specs.Tables.{class_in, class_pattern};
-ghost use Rattle.chr_overlaps.specs.Unifiers.{classes_of, IsUnified};
+ghost use Rattle.chr_confluence.specs.Unifiers.{IsMostGeneralUnifier, HasNoUnifier};
+ghost use Rattle.chr_confluence.specs.Overlaps.{SameSymbols, variables_of, renamed_apart, term_pairs, equations, equations_of};
+ghost use Rattle.chr_confluence.specs.working.Solving.{solve};
+ghost use Rattle.chr_overlaps.specs.working.Tables.{class_in, class_pattern};
+ghost use Rattle.chr_overlaps.specs.working.Unifiers.{classes_of, IsUnified};
 
-use crate::classes::Classes;
+use crate::classes::{Classes, MAX_JOINT_VARIABLES};
 use crate::numbered::variables;
 use arrayvec::ArrayVec;
+use chr_base::limits::MAX_HEADS;
 use chr_base::rule::Rule;
 use chr_base::term::Pattern;
 
-/// The heads of two rules under the most general unifier of matched places: each term is a constant, or the first variable
-/// of its class. The variables of the second rule are numbered on from those of the first.
+/// The heads of two rules under the most general unifier of matched places: each term is a constant, or the first
+/// variable of its class. The variables of the second rule are numbered on from those of the first.
 #[derive(Drop)]
 pub(crate) struct Unified {
     pub(crate) classes: Classes,
-    pub(crate) first: ArrayVec<Pattern, 4>,
-    pub(crate) second: ArrayVec<Pattern, 4>,
+    pub(crate) first: ArrayVec<Pattern, MAX_HEADS>,
+    pub(crate) second: ArrayVec<Pattern, MAX_HEADS>,
     /// The classes that are bound to no constant, each by its first variable, rising.
-    pub(crate) free: ArrayVec<u8, 32>,
+    pub(crate) free: ArrayVec<u8, MAX_JOINT_VARIABLES>,
 }
 
 /// Makes the arguments at two matched places agree. False where two constants would be one.
@@ -37,7 +38,10 @@ fn join_at(
     requires table { length classes.old.terms.items ≡ variables_of first.now + variables_of second.now + 1 }
     requires place { place < length (heads_of first.now) }
     requires matched { matched < length (heads_of second.now) }
-    ensures classes { cond result (Some (class_in classes.new.terms.items)) None ≡ solve (class_in classes.old.terms.items) (term_pairs (get_or (heads_of first.now) place no_pattern).args.items (map (shifted shift) (get_or (heads_of second.now) matched no_pattern).args.items)) }
+    ensures classes { (if result then Some (class_in classes.new.terms.items) else None) ≡
+        solve (class_in classes.old.terms.items)
+        (term_pairs (get_or (heads_of first.now) place no_pattern).args.items
+        (map (renamed_apart shift) (get_or (heads_of second.now) matched no_pattern).args.items)) }
     ensures len { length classes.new.terms.items ≡ length classes.old.terms.items }
 {
     let left = first.head_at(place);
@@ -56,7 +60,9 @@ fn join_heads(
     requires symbols { SameSymbols (heads_of second.now) matching.now (heads_of first.now) }
     requires shift { shift ≡ variables_of first.now }
     requires table { length classes.old.terms.items ≡ variables_of first.now + variables_of second.now + 1 }
-    ensures classes { cond result (Some (class_in classes.new.terms.items)) None ≡ solve (class_in classes.old.terms.items) (equations shift (heads_of second.now) matching.now (heads_of first.now)) }
+    ensures classes { (if result then Some (class_in classes.new.terms.items) else None) ≡
+        solve (class_in classes.old.terms.items)
+        (equations shift (heads_of second.now) matching.now (heads_of first.now)) }
     ensures len { length classes.new.terms.items ≡ length classes.old.terms.items }
 {
     for (place, entry) in matching.iter().enumerate() {
@@ -69,7 +75,7 @@ fn join_heads(
 }
 
 /// The heads of a rule with each term's class.
-fn class_heads(classes: &Classes, rule: &Rule, shift: u8) -> ArrayVec<Pattern, 4>
+fn class_heads(classes: &Classes, rule: &Rule, shift: u8) -> ArrayVec<Pattern, MAX_HEADS>
     requires { shift + variables_of rule.now < length classes.now.terms.items }
     ensures { result.items ≡ map (class_pattern (class_in classes.now.terms.items) shift) (heads_of rule.now) }
 {
@@ -83,12 +89,12 @@ fn class_heads(classes: &Classes, rule: &Rule, shift: u8) -> ArrayVec<Pattern, 4
 /// Makes matched places agree, where one unifier of them all exists: None where two constants would be one.
 pub(crate) fn unify(first: &Rule, second: &Rule, matching: &[u8]) -> Option<Unified>
     requires { SameSymbols (heads_of second.now) matching.now (heads_of first.now) }
-    ensures none { IfNone result (HasNone (equations_of first.now second.now matching.now)) }
-    ensures solves { IfSome result (λ u. Solves (classes_of u) (equations_of first.now second.now matching.now)) }
+    ensures none { IfNone result (HasNoUnifier (equations_of first.now second.now matching.now)) }
+    ensures solves { IfSome result (λ u. IsMostGeneralUnifier (classes_of u) (equations_of first.now second.now matching.now)) }
     ensures unified { IfSome result (λ u. IsUnified first.now second.now u) }
 {
     let shift = variables(first);
-    let mut classes = Classes::single(shift + variables(second));
+    let mut classes = Classes::identity(shift + variables(second));
     if !join_heads(&mut classes, first, second, shift, matching) {
         return None;
     }

@@ -9,7 +9,8 @@ use Rattle.std.proofs.lemmas.Fmt.{decimal_nonempty, decimal_digit, digits_decima
 use Rattle.std.proofs.lemmas.Bool.{and_from, and_parts}
 use Rattle.chr_base.specs.Values.{is_value}
 use Rattle.chr_syntax.specs.Lexemes.{IsDigits, IsNumber}
-use Rattle.chr_read.specs.Numbers.{is_digit, is_numeral, signed, number_of, arity_of, as_weight, weight_of}
+use Rattle.chr_base.specs.Names.{is_digit}
+use Rattle.chr_read.specs.Numbers.{is_numeral, signed, number_of, arity_of, as_weight, weight_named_by}
 use Rattle.chr_read.proofs.Numbers.{own}
 use Rattle.chr_read.proofs.PlainBytes.{from_test}
 
@@ -79,7 +80,7 @@ arity_back n h = ap arity_of (decimal_digit n (omega (arith, h))) ∙ by n h
 pub weight_number : (n : ℕ) → n ≤ 1000000 → number_of (decimal n) ≡ Some (pos n)
 weight_number n h = let m : n < 2 ^ 64 = omega (arith, h) in plain_read (decimal n) n (decimal_nonempty n m) (decimal_digits n m) (digits_value-decimal own n m) (omega (arith, h))
 
-pub weight_back : (n : ℕ) → 1 ≤ n → n ≤ 1000000 → weight_of (decimal n) ≡ Some n
+pub weight_back : (n : ℕ) → 1 ≤ n → n ≤ 1000000 → weight_named_by (decimal n) ≡ Some n
 weight_back n l h =
     let a : nat_le 1 n ≡ true = grind (arith, nat_tests) in
     let b : nat_le n 1000000 ≡ true = grind (arith, nat_tests) in

@@ -10,9 +10,10 @@ use Rattle.std.specs.Str.{bytes_eq}
 use Rattle.chr_base.specs.ProgramTests.{Declaration, declares}
 use Rattle.chr_syntax.specs.Clauses.{Symbol}
 use Rattle.chr_read.specs.Numbers.{without_zeros, small, arity_of}
-use Rattle.chr_read.specs.Faults.{is_name, place_of, is_known, same_symbol, comes_again, symbol_over}
+use Rattle.chr_read.specs.working.RuleParts.{place_of, is_declared_already, comes_again}
+use Rattle.chr_read.specs.Faults.{is_same_symbol, symbol_over}
 use Rattle.chr_read.specs.Reading.{declared_symbol}
-use Rattle.chr_read.specs.Adding.{can_declare_all}
+use Rattle.chr_read.specs.working.Adding.{can_declare_all}
 use Rattle.chr_read.proofs.Positions.{position_any}
 
 -- ---- an arity has one list of digits without leading zeros
@@ -42,10 +43,10 @@ equal_bytes v w e = (bytes_eq-Decides v w).1 e
 
 -- ---- one more symbol
 
-differs : (s t : Symbol) (n : ℕ) → is_none (arity_of s.arity) ≡ false → arity_of t.arity ≡ Some n → same_symbol s t ≡ false → declares t.name n (declared_symbol s) ≡ false
+differs : (s t : Symbol) (n : ℕ) → is_none (arity_of s.arity) ≡ false → arity_of t.arity ≡ Some n → is_same_symbol s t ≡ false → declares t.name n (declared_symbol s) ≡ false
 differs s t n some is other = by (declares t.name n (declared_symbol s)) refl
   where
-    same : (o : Option ℕ) → arity_of s.arity ≡ o → is_none o ≡ false → bytes_eq t.name s.name ≡ true → nat_eq n (unwrap_or o 0) ≡ true → same_symbol s t ≡ true
+    same : (o : Option ℕ) → arity_of s.arity ≡ o → is_none o ≡ false → bytes_eq t.name s.name ≡ true → nat_eq n (unwrap_or o 0) ≡ true → is_same_symbol s t ≡ true
     same None e f names arities = absurd (false≢true (sym f))
     same (Some m) e f names arities =
         let is_n : m ≡ n = grind (arith, nat_tests) in
@@ -57,12 +58,12 @@ differs s t n some is other = by (declares t.name n (declared_symbol s)) refl
         let parts = and_parts (bytes_eq t.name s.name) _ e in
         absurd (false≢true (sym other ∙ same (arity_of s.arity) refl some parts.0 parts.1))
 
-known_more : (ds : List Declaration) (s t : Symbol) → is_none (arity_of s.arity) ≡ false → same_symbol s t ≡ false → is_known ds t ≡ false → is_known (ds ++ declared_symbol s ∷ []) t ≡ false
+known_more : (ds : List Declaration) (s t : Symbol) → is_none (arity_of s.arity) ≡ false → is_same_symbol s t ≡ false → is_declared_already ds t ≡ false → is_declared_already (ds ++ declared_symbol s ∷ []) t ≡ false
 known_more ds s t some other h = by (arity_of t.arity) refl h
   where
-    at : (b : Bool) (n : ℕ) → declares t.name n (declared_symbol s) ≡ false → is_some (cond b (position (declares t.name n) ds) None) ≡ false → is_some (cond b (position (declares t.name n) (ds ++ declared_symbol s ∷ [])) None) ≡ false
-    at false n fresh h = refl
-    at true n fresh h =
+    at : (n : ℕ) → declares t.name n (declared_symbol s) ≡ false → is_some (position (declares t.name n) ds) ≡ false
+        → is_some (position (declares t.name n) (ds ++ declared_symbol s ∷ [])) ≡ false
+    at n fresh h =
         position_any (declares t.name n) (ds ++ declared_symbol s ∷ []) ∙ list_any-append (declares t.name n) ds (declared_symbol s ∷ [])
         ∙ ap (λ b. b || (declares t.name n (declared_symbol s) || false)) (sym (position_any (declares t.name n) ds) ∙ h)
         ∙ ap (λ b. b || false) fresh
@@ -70,34 +71,33 @@ known_more ds s t some other h = by (arity_of t.arity) refl h
     by : (o : Option ℕ) → arity_of t.arity ≡ o → is_some (option_and_then (place_of ds t.name) o) ≡ false → is_some (option_and_then (place_of (ds ++ declared_symbol s ∷ []) t.name) (arity_of t.arity)) ≡ false
     by None is h = ap (λ o. is_some (option_and_then (place_of (ds ++ declared_symbol s ∷ []) t.name) o)) is
     by (Some n) is h =
-        ap (λ o. is_some (option_and_then (place_of (ds ++ declared_symbol s ∷ []) t.name) o)) is
-        ∙ at (is_name t.name) n (differs s t n some is other) h
+        ap (λ o. is_some (option_and_then (place_of (ds ++ declared_symbol s ∷ []) t.name) o)) is ∙ at n (differs s t n some is other) h
 
-all_known_more : (ds : List Declaration) (s : Symbol) (ts : List Symbol) → is_none (arity_of s.arity) ≡ false → list_any (same_symbol s) ts ≡ false → list_any (is_known ds) ts ≡ false → list_any (is_known (ds ++ declared_symbol s ∷ [])) ts ≡ false
+all_known_more : (ds : List Declaration) (s : Symbol) (ts : List Symbol) → is_none (arity_of s.arity) ≡ false → list_any (is_same_symbol s) ts ≡ false → list_any (is_declared_already ds) ts ≡ false → list_any (is_declared_already (ds ++ declared_symbol s ∷ [])) ts ≡ false
 all_known_more ds s [] some other h = refl
 all_known_more ds s (t ∷ ts) some other h =
-    let n = or_parts (same_symbol s t) _ other in
-    let m = or_parts (is_known ds t) _ h in
-    ap (λ b. b || list_any (is_known (ds ++ declared_symbol s ∷ [])) ts) (known_more ds s t some n.0 m.0) ∙ all_known_more ds s ts some n.1 m.1
+    let n = or_parts (is_same_symbol s t) _ other in
+    let m = or_parts (is_declared_already ds t) _ h in
+    ap (λ b. b || list_any (is_declared_already (ds ++ declared_symbol s ∷ [])) ts) (known_more ds s t some n.0 m.0) ∙ all_known_more ds s ts some n.1 m.1
 
 -- ---- symbols that differ from those seen
 
-seen_differs : (front back : List Symbol) (s t : Symbol) → list_any (λ e. same_symbol e t) (front ++ s ∷ back) ≡ false → same_symbol s t ≡ false
+seen_differs : (front back : List Symbol) (s t : Symbol) → list_any (λ e. is_same_symbol e t) (front ++ s ∷ back) ≡ false → is_same_symbol s t ≡ false
 seen_differs [] back s t h = (or_parts _ _ h).0
 seen_differs (f ∷ front) back s t h = seen_differs front back s t (or_parts _ _ h).1
 
-none_again : (front back : List Symbol) (s : Symbol) (ts : List Symbol) → comes_again (front ++ s ∷ back) ts ≡ false → list_any (same_symbol s) ts ≡ false
+none_again : (front back : List Symbol) (s : Symbol) (ts : List Symbol) → comes_again (front ++ s ∷ back) ts ≡ false → list_any (is_same_symbol s) ts ≡ false
 none_again front back s [] h = refl
 none_again front back s (t ∷ ts) h =
     let n = or_parts _ _ h in
-    ap (λ b. b || list_any (same_symbol s) ts) (seen_differs front back s t n.0) ∙ none_again (t ∷ front) back s ts n.1
+    ap (λ b. b || list_any (is_same_symbol s) ts) (seen_differs front back s t n.0) ∙ none_again (t ∷ front) back s ts n.1
 
-pub can_all : (ds : List Declaration) (seen ss : List Symbol) → nat_lt 64 (length ds + length ss) ≡ false → list_any symbol_over ss ≡ false → list_any (is_known ds) ss ≡ false → comes_again seen ss ≡ false → can_declare_all ds ss ≡ true
+pub can_all : (ds : List Declaration) (seen ss : List Symbol) → nat_lt 64 (length ds + length ss) ≡ false → list_any symbol_over ss ≡ false → list_any (is_declared_already ds) ss ≡ false → comes_again seen ss ≡ false → can_declare_all ds ss ≡ true
 can_all ds seen [] room over known again = refl
 can_all ds seen (s ∷ ss) room over known again =
     let o = or_parts (symbol_over s) _ over in
-    let k = or_parts (is_known ds s) _ known in
-    let g = or_parts (list_any (λ e. same_symbol e s) seen) (comes_again (s ∷ seen) ss) again in
+    let k = or_parts (is_declared_already ds s) _ known in
+    let g = or_parts (list_any (λ e. is_same_symbol e s) seen) (comes_again (s ∷ seen) ss) again in
     let below : nat_lt (length ds) 64 ≡ true = grind (arith, nat_tests) in
     let longer = length-append ds (declared_symbol s ∷ []) in
     let more : nat_lt 64 (length (ds ++ declared_symbol s ∷ []) + length ss) ≡ false = grind (arith, nat_tests) in

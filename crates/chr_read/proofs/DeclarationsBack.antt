@@ -3,30 +3,35 @@ use Rattle.std.proofs.Common.{◌≡◌, ℕ, suc, ◌+◌, ◌≤◌, List, [],
 use Rattle.std.specs.Prelude.{decimal}
 use Rattle.std.specs.List.{list_any, list_all}
 use Rattle.std.specs.Str.{bytes_eq, is_utf8}
-use Rattle.std.proofs.lemmas.Bool.{false≢true, eqb-true, eq-eqb, or_parts, and_from, and_parts, or_from, not-true}
+use Rattle.std.proofs.lemmas.Bool.{false≢true, leb-true, eqb-true, eq-eqb, or_parts, and_from, and_parts, or_from, not-true}
 use Rattle.std.proofs.lemmas.Bool.Decides.{nat_tests}
 use Rattle.std.proofs.lemmas.List.{length-map}
 use Rattle.std.proofs.lemmas.List.Folds.{list_any-append}
 use Rattle.std.proofs.lemmas.Option.{same_Some}
+use Rattle.std.proofs.lemmas.Slice.Eq.{bytes_eq-Decides}
 use Rattle.chr_base.specs.Names as base
 use Rattle.chr_base.specs.ProgramTests.{Declaration, with_weight, declares, are_distinct, is_in_range}
 use Rattle.chr_syntax.specs.Clauses.{Symbol, weight}
 use Rattle.chr_read.specs.declared.fault.Fault.{Fault}
-use Rattle.chr_read.specs.Numbers.{arity_of, weight_of, number_of, without_zeros, small}
-use Rattle.chr_read.specs.Meanings.{RuleData, Progress, nothing}
-use Rattle.chr_read.specs.Faults.{is_name, place_of, place_of_symbol, is_known, same_symbol, comes_again, declared_twice, symbol_over, is_among, weight_bad, fault_in}
+use Rattle.chr_read.specs.Numbers.{arity_of, weight_named_by, number_of, without_zeros, small}
+use Rattle.chr_base.specs.Sameness.{Parts}
+use Rattle.chr_read.specs.Meanings.{Progress, nothing}
+use Rattle.chr_read.specs.Faults.{is_long, place_of_symbol, comes_twice, is_same_symbol, symbol_over}
+use Rattle.chr_read.specs.working.RuleParts.{place_of, is_among, is_declared_already, comes_again, declared_twice, weight_bad}
+use Rattle.chr_read.specs.working.TextsRead.{fault_in}
 use Rattle.chr_read.specs.Reading.{declared_symbol, with_form}
 use Rattle.chr_read.proofs.Decimals.{arity_back, weight_back, weight_number}
 use Rattle.chr_read.proofs.EndedTexts.{after, AreFaultless}
 use Rattle.chr_read.proofs.NamesText.{name_text}
-use Rattle.chr_read.proofs.Numbering.{same_bytes, itself}
+use Rattle.chr_read.proofs.Numbering.{itself}
 use Rattle.chr_read.proofs.PlainBytes.{from_test}
 use Rattle.chr_read.proofs.Positions.{place, position_is}
+use Rattle.chr_read.proofs.RuleParts.{twice_is}
 use Rattle.chr_read.proofs.WrittenForms.{written_symbol, declaration_forms, weight_forms}
-use Rattle.chr_syntax.specs.Tokens.{is_lower, is_word_byte}
+use Rattle.chr_base.specs.Names.{is_lower, is_word_byte}
 use Rattle.chr_syntax.specs.Lexemes.{IsWord}
 
-abbrev pub state : List Declaration → List RuleData → List ℕ → Progress
+abbrev pub state : List Declaration → List Parts → List ℕ → Progress
 state ds rs ws = record { meaning = record { declarations = ds; rules = rs }; weighed = ws }
 
 -- a test that doesn't pass names no fault
@@ -43,16 +48,13 @@ pub record InRange (d : Declaration) : Type 0 where
   pub least : 1 ≤ d.weight
   pub most : d.weight ≤ 1000000
 
-le : (a b : ℕ) → nat_le a b ≡ true → a ≤ b
-le a b h = grind (arith, nat_tests)
-
 pub in_range : (d : Declaration) → is_in_range d ≡ true → InRange d
 in_range d h =
     let a = and_parts (base.is_name d.name && nat_le (length d.name) 32 && nat_le d.arity 4 && nat_le 1 d.weight) (nat_le d.weight 1000000) h in
     let b = and_parts (base.is_name d.name && nat_le (length d.name) 32 && nat_le d.arity 4) (nat_le 1 d.weight) a.0 in
     let c = and_parts (base.is_name d.name && nat_le (length d.name) 32) (nat_le d.arity 4) b.0 in
     let e = and_parts (base.is_name d.name) (nat_le (length d.name) 32) c.0 in
-    record { name = e.0; short = le _ _ e.1; arity = le _ _ c.1; least = le _ _ b.1; most = le _ _ a.1 }
+    record { name = e.0; short = leb-true _ _ e.1; arity = leb-true _ _ c.1; least = leb-true _ _ b.1; most = leb-true _ _ a.1 }
 
 pub name_is_word : (w : List ℕ) → base.is_name w ≡ true → IsWord is_lower w
 name_is_word w h = by w (and_parts (base.is_word w) _ h).0
@@ -64,8 +66,8 @@ name_is_word w h = by w (and_parts (base.is_word w) _ h).0
 pub name_is_unreserved : (w : List ℕ) → base.is_name w ≡ true → base.is_reserved w ≡ false
 name_is_unreserved w h = not-true (base.is_reserved w) (and_parts (base.is_word w) (not (base.is_reserved w)) h).1
 
-pub name_is : (w : List ℕ) → base.is_name w ≡ true → length w ≤ 32 → is_name w ≡ true
-name_is w h l = and_from (is_utf8 w) (nat_le (length w) 32) (name_text w (name_is_word w h)) (grind (arith, nat_tests))
+pub name_is_short : (w : List ℕ) → length w ≤ 32 → is_long w ≡ false
+name_is_short w l = grind (arith, nat_tests)
 
 -- ---- places
 
@@ -82,7 +84,7 @@ turned a b h = by (declares b.name b.arity a) refl
     by false e = e
     by true e =
         let p = and_parts (bytes_eq b.name a.name) (nat_eq b.arity a.arity) e in
-        let n : a.name ≡ b.name = sym (same_bytes b.name a.name p.0) in
+        let n : a.name ≡ b.name = sym ((bytes_eq-Decides b.name a.name).0 p.0) in
         let same : bytes_eq a.name b.name ≡ true = subst (λ w. bytes_eq a.name w ≡ true) n (itself a.name) in
         absurd (false≢true (sym h ∙ and_from (bytes_eq a.name b.name) _ same (eq-eqb a.arity b.arity (sym (eqb-true b.arity a.arity p.1)))))
 
@@ -94,29 +96,25 @@ declares_itself d = and_from (bytes_eq d.name d.name) (nat_eq d.arity d.arity) (
 abbrev pub plain : Declaration → Declaration
 plain d = record { name = d.name; arity = d.arity; weight = 1 }
 
-unknown : (s : Symbol) → is_known [] s ≡ false
+unknown : (s : Symbol) → is_declared_already [] s ≡ false
 unknown s = by (arity_of s.arity)
   where
-    at : (b : Bool) (n : ℕ) → is_some (cond b (position (declares s.name n) []) None) ≡ false
-    at true n = ap is_some (position_is (declares s.name n) [])
-    at false n = refl
-
     by : (o : Option ℕ) → is_some (option_and_then (place_of [] s.name) o) ≡ false
     by None = refl
-    by (Some n) = at (is_name s.name) n
+    by (Some n) = ap is_some (position_is (declares s.name n) [])
 
-none_known : (ss : List Symbol) → list_any (is_known []) ss ≡ false
+none_known : (ss : List Symbol) → list_any (is_declared_already []) ss ≡ false
 none_known [] = refl
-none_known (s ∷ ss) = or_from (is_known [] s) (list_any (is_known []) ss) (unknown s) (none_known ss)
+none_known (s ∷ ss) = or_from (is_declared_already [] s) (list_any (is_declared_already []) ss) (unknown s) (none_known ss)
 
-other_symbol : (a b : Declaration) → a.arity ≤ 4 → b.arity ≤ 4 → declares a.name a.arity b ≡ false → same_symbol (written_symbol a) (written_symbol b) ≡ false
-other_symbol a b l m h = by (same_symbol (written_symbol a) (written_symbol b)) refl
+other_symbol : (a b : Declaration) → a.arity ≤ 4 → b.arity ≤ 4 → declares a.name a.arity b ≡ false → is_same_symbol (written_symbol a) (written_symbol b) ≡ false
+other_symbol a b l m h = by (is_same_symbol (written_symbol a) (written_symbol b)) refl
   where
-    by : (t : Bool) → same_symbol (written_symbol a) (written_symbol b) ≡ t → same_symbol (written_symbol a) (written_symbol b) ≡ false
+    by : (t : Bool) → is_same_symbol (written_symbol a) (written_symbol b) ≡ t → is_same_symbol (written_symbol a) (written_symbol b) ≡ false
     by false e = e
     by true e =
         let p = and_parts (bytes_eq a.name b.name) (bytes_eq (without_zeros (decimal a.arity)) (without_zeros (decimal b.arity))) e in
-        let digits = same_bytes (without_zeros (decimal a.arity)) (without_zeros (decimal b.arity)) p.1 in
+        let digits = (bytes_eq-Decides (without_zeros (decimal a.arity)) (without_zeros (decimal b.arity))).0 p.1 in
         let arity : a.arity ≡ b.arity = same_Some a.arity b.arity (sym (arity_back a.arity l) ∙ ap small digits ∙ arity_back b.arity m) in
         absurd (false≢true (sym h ∙ and_from (bytes_eq a.name b.name) _ p.0 (eq-eqb a.arity b.arity arity)))
 
@@ -125,12 +123,12 @@ abbrev AreApart : List Declaration → List Declaration → Type 0
 AreApart [] ds = Unit {0}
 AreApart (e ∷ es) ds = (list_any (declares e.name e.arity) ds ≡ false) × (e.arity ≤ 4) × AreApart es ds
 
-none_seen : (es : List Declaration) (d : Declaration) (ds : List Declaration) → d.arity ≤ 4 → AreApart es (d ∷ ds) → (list_any (λ e. same_symbol e (written_symbol d)) (map written_symbol es) ≡ false) × AreApart es ds
+none_seen : (es : List Declaration) (d : Declaration) (ds : List Declaration) → d.arity ≤ 4 → AreApart es (d ∷ ds) → (list_any (λ e. is_same_symbol e (written_symbol d)) (map written_symbol es) ≡ false) × AreApart es ds
 none_seen [] d ds l h = (refl, tt)
 none_seen (e ∷ es) d ds l h =
     let n = or_parts (declares e.name e.arity d) (list_any (declares e.name e.arity) ds) h.0 in
     let m = none_seen es d ds l h.2 in
-    (or_from (same_symbol (written_symbol e) (written_symbol d)) _ (other_symbol e d h.1 l n.0) m.0, (n.1, h.1, m.1))
+    (or_from (is_same_symbol (written_symbol e) (written_symbol d)) _ (other_symbol e d h.1 l n.0) m.0, (n.1, h.1, m.1))
 
 none_again : (es ds : List Declaration) → AreApart es ds → list_all is_in_range ds ≡ true → are_distinct ds ≡ true → comes_again (map written_symbol es) (map written_symbol ds) ≡ false
 none_again es [] h r u = refl
@@ -139,7 +137,7 @@ none_again es (d ∷ ds) h r u =
     let few = (in_range d range.0).arity in
     let first = none_seen es d ds few h in
     let distinct = and_parts (not (list_any (declares d.name d.arity) ds)) (are_distinct ds) u in
-    or_from (list_any (λ e. same_symbol e (written_symbol d)) (map written_symbol es)) _ first.0
+    or_from (list_any (λ e. is_same_symbol e (written_symbol d)) (map written_symbol es)) _ first.0
     (none_again (d ∷ es) ds (not-true (list_any (declares d.name d.arity) ds) distinct.0, few, first.1) range.1 distinct.1)
 
 none_over : (ds : List Declaration) → list_all is_in_range ds ≡ true → list_any symbol_over (map written_symbol ds) ≡ false
@@ -147,7 +145,7 @@ none_over [] h = refl
 none_over (d ∷ ds) h =
     let e = and_parts (is_in_range d) (list_all is_in_range ds) h in
     let r = in_range d e.0 in
-    or_from (symbol_over (written_symbol d)) _ (or_from (not (is_name d.name)) _ (ap not (name_is d.name r.name r.short)) (ap is_none (arity_back d.arity r.arity))) (none_over ds e.1)
+    or_from (symbol_over (written_symbol d)) _ (or_from (is_long d.name) _ (name_is_short d.name r.short) (ap is_none (arity_back d.arity r.arity))) (none_over ds e.1)
 
 all_declared : (ds : List Declaration) → list_all is_in_range ds ≡ true → map declared_symbol (map written_symbol ds) ≡ map plain ds
 all_declared [] h = refl
@@ -164,9 +162,9 @@ declarations_back (d ∷ ds) l r u =
     let ss = map written_symbol (d ∷ ds) in
     let long = length-map (d ∷ ds) written_symbol in
     let room : nat_lt 64 (0 + length ss) ≡ false = grind (arith, nat_tests) in
-    let twice = or_from (list_any (is_known []) ss) (comes_again [] ss) (none_known ss) (none_again [] (d ∷ ds) tt r u) in
+    let twice = or_from (list_any (is_declared_already []) ss) (comes_twice ss) (none_known ss) (sym (twice_is ss) ∙ none_again [] (d ∷ ds) tt r u) in
     let over = or_from (nat_lt 64 (0 + length ss)) (list_any symbol_over ss) room (none_over (d ∷ ds) r) in
-    ((pass (declared_twice [] ss) _ _ twice (pass (nat_lt 64 (0 + length ss) || list_any symbol_over ss) _ _ over refl), tt), ap (λ x. state x [] []) (all_declared (d ∷ ds) r))
+    ((pass (list_any (is_declared_already []) ss || comes_twice ss) _ _ twice (pass (nat_lt 64 (0 + length ss) || list_any symbol_over ss) _ _ over refl), tt), ap (λ x. state x [] []) (all_declared (d ∷ ds) r))
 
 -- ---- a clause for each weight
 
@@ -185,7 +183,6 @@ symbol_place : (pre : List Declaration) (d : Declaration) (ds : List Declaration
     → place_of_symbol (pre ++ plain d ∷ ds) (written_symbol d) ≡ Some (length pre)
 symbol_place pre d ds r h =
     ap (option_and_then (place_of (pre ++ plain d ∷ ds) d.name)) (arity_back d.arity r.arity)
-    ∙ ap (λ b. cond b (position (declares d.name d.arity) (pre ++ plain d ∷ ds)) None) (name_is d.name r.name r.short)
     ∙ position_is (declares d.name d.arity) (pre ++ plain d ∷ ds) ∙ place_skip (declares d.name d.arity) pre (plain d) ds h (declares_itself d)
 
 -- the places that have had a weight come before these
@@ -230,7 +227,7 @@ weights_from pre (d ∷ rest) ws b r u =
         pass (is_none (place_of_symbol here (written_symbol d))) _ _ (ap is_none placed)
         (pass (is_none (number_of (decimal d.weight))) _ _ (ap is_none (weight_number d.weight good.most))
         (pass (weight_bad (state here [] ws) (written_symbol d) (decimal d.weight)) _ _
-        (or_from (is_none (weight_of (decimal d.weight))) _ (ap is_none (weight_back d.weight good.least good.most)) (ap (is_among ws) placed ∙ b (length pre) (omega arith))) refl))
+        (or_from (is_none (weight_named_by (decimal d.weight))) _ (ap is_none (weight_back d.weight good.least good.most)) (ap (is_among ws) placed ∙ b (length pre) (omega arith))) refl))
 
     made : with_form (state here [] ws) (weight (written_symbol d) (decimal d.weight)) ≡ state ((pre ++ d ∷ []) ++ map plain rest) [] (ws ++ length pre ∷ [])
     made =

@@ -1,10 +1,10 @@
 -- A text of clauses, each ended by a full stop and a line feed, is read clause by clause.
 use Rattle.std.proofs.Common.{◌≡◌, ℕ, ◌+◌, List, [], ◌∷◌, ◌++◌, Bool, true, false, cond, ◌==◌, Some, None, Ok, Err, option_and_then, refl, sym, ap, ◌∙◌, append_assoc, append-nil}
 use Rattle.std.specs.Prelude.{codes}
-use Rattle.chr_syntax.specs.Bytes.{is_layout, is_text, onto_first, pieces, percent, full_stop, without_comments}
+use Rattle.chr_syntax.specs.Bytes.{is_layout, is_text, pieces, percent, full_stop, without_comments}
 use Rattle.chr_syntax.specs.Clauses.{Form}
-use Rattle.chr_syntax.specs.Tokens.{tokens_of}
-use Rattle.chr_syntax.specs.Forms.{form_in, clause_of}
+use Rattle.chr_syntax.specs.working.Tokens.{tokens_of}
+use Rattle.chr_syntax.specs.working.Forms.{form_in, clause_of}
 use Rattle.chr_syntax.specs.Grammar.{spelled, IsForm}
 use Rattle.chr_syntax.specs.Texts.{HasNo}
 use Rattle.chr_syntax.specs.Lexemes.{AllAre}
@@ -12,12 +12,12 @@ use Rattle.chr_syntax.proofs.Cuts.{all_append}
 use Rattle.chr_syntax.proofs.FormsRead.{forms_read}
 use Rattle.chr_syntax.proofs.Lexed.{found_are}
 use Rattle.chr_syntax.proofs.Printing.{layout_goes}
-use Rattle.chr_syntax.proofs.Texts.{plain_stay}
+use Rattle.chr_syntax.proofs.Texts.{plain_stay, first_piece}
 use Rattle.chr_read.specs.declared.fault.Fault.TheVariants as fault
-use Rattle.chr_read.specs.CanonicalTexts.{ended}
+use Rattle.chr_read.specs.CanonicalTexts.{ended_clauses}
 use Rattle.chr_read.specs.Meanings.{Progress}
-use Rattle.chr_read.specs.Faults.{fault_in}
-use Rattle.chr_read.specs.Reading.{with_form, checked, formed, clause_read, rest_read, pieces_read}
+use Rattle.chr_read.specs.working.TextsRead.{fault_in, checked, formed, clause_read, rest_read, pieces_read}
+use Rattle.chr_read.specs.Reading.{with_form}
 use Rattle.chr_read.proofs.ClauseByClause.{good_clause}
 use Rattle.chr_read.proofs.PlainBytes.{is_plain, tokens_plain, no_percent, no_stop, all_text}
 
@@ -57,22 +57,16 @@ plain_clause c f h = tokens_plain (spelled f) c (found_are c (spelled f) h)
 
 -- ---- no comments
 
-ended_plain : (cs : List (List ℕ)) (fs : List Form) → AreClauses cs fs → HasNo percent (ended cs)
+ended_plain : (cs : List (List ℕ)) (fs : List Form) → AreClauses cs fs → HasNo percent (ended_clauses cs)
 ended_plain [] [] h = tt
 ended_plain [] (f ∷ fs) h = absurd h
 ended_plain (c ∷ cs) [] h = absurd h
 ended_plain (c ∷ cs) (f ∷ fs) h =
     let P : ℕ → Type 0 = λ b. (b == percent) ≡ false in
-    all_append P c (codes ".\n" ++ ended cs) (no_percent c (plain_clause c f h.0)) (refl, (refl, ended_plain cs fs h.2))
+    all_append P c (codes ".\n" ++ ended_clauses cs) (no_percent c (plain_clause c f h.0)) (refl, (refl, ended_plain cs fs h.2))
 
-pub no_comments : (cs : List (List ℕ)) (fs : List Form) → AreClauses cs fs → without_comments (ended cs) ≡ ended cs
-no_comments cs fs h = ap without_comments (sym (append-nil (ended cs))) ∙ plain_stay (ended cs) [] (ended_plain cs fs h) ∙ append-nil (ended cs)
-
--- ---- pieces
-
-pub first_piece : (c rest : List ℕ) → HasNo full_stop c → pieces (c ++ (full_stop ∷ rest)) ≡ c ∷ pieces rest
-first_piece [] rest h = refl
-first_piece (b ∷ bs) rest h = ap (λ t. cond t ([] ∷ pieces (bs ++ (full_stop ∷ rest))) (onto_first b (pieces (bs ++ (full_stop ∷ rest))))) h.0 ∙ ap (onto_first b) (first_piece bs rest h.1)
+pub no_comments : (cs : List (List ℕ)) (fs : List Form) → AreClauses cs fs → without_comments (ended_clauses cs) ≡ ended_clauses cs
+no_comments cs fs h = ap without_comments (sym (append-nil (ended_clauses cs))) ∙ plain_stay (ended_clauses cs) [] (ended_plain cs fs h) ∙ append-nil (ended_clauses cs)
 
 -- ---- clauses
 
@@ -99,7 +93,7 @@ unfolding rest_read
 at_end true k q = refl
 at_end false k q = refl
 
-pub ended_read : (b : Bool) (k : ℕ) (q : Progress) (cs : List (List ℕ)) (fs : List Form) → AreClauses cs fs → AreFaultless q fs → pieces_read k q (pieces (lead b ++ ended cs)) ≡ Ok (after q fs)
+pub ended_read : (b : Bool) (k : ℕ) (q : Progress) (cs : List (List ℕ)) (fs : List Form) → AreClauses cs fs → AreFaultless q fs → pieces_read k q (pieces (lead b ++ ended_clauses cs)) ≡ Ok (after q fs)
 ended_read b k q [] [] h g = at_end b k q
 ended_read b k q [] (f ∷ fs) h g = absurd h
 ended_read b k q (c ∷ cs) [] h g = absurd h
@@ -108,6 +102,6 @@ ended_read b k q (c ∷ cs) (f ∷ fs) h g =
     let P : ℕ → Type 0 = λ x. is_plain x ≡ true in
     let plain : AllAre is_plain bytes = all_append P (lead b) c (lead_plain b) (plain_clause c f h.0) in
     let good = clause_good q bytes f (all_text bytes plain) (layout_goes (lead b) c (lead_layout b) ∙ h.0) h.1 g.0 in
-    ap (λ t. pieces_read k q (pieces t)) (sym (append_assoc (lead b) c (codes ".\n" ++ ended cs)))
-    ∙ ap (pieces_read k q) (first_piece bytes (codes "\n" ++ ended cs) (no_stop bytes plain))
-    ∙ good_clause k q (with_form q f) bytes (codes "\n" ++ ended cs) good ∙ ended_read true (k + 1) (with_form q f) cs fs h.2 g.1
+    ap (λ t. pieces_read k q (pieces t)) (sym (append_assoc (lead b) c (codes ".\n" ++ ended_clauses cs)))
+    ∙ ap (pieces_read k q) (first_piece bytes (codes "\n" ++ ended_clauses cs) (no_stop bytes plain))
+    ∙ good_clause k q (with_form q f) bytes (codes "\n" ++ ended_clauses cs) good ∙ ended_read true (k + 1) (with_form q f) cs fs h.2 g.1

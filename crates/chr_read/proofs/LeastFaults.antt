@@ -6,16 +6,18 @@ use Rattle.std.proofs.lemmas.Option.{none-some, same_Some}
 use Rattle.std.specs.List.{list_all}
 use Rattle.chr_syntax.specs.Bytes.{is_layout, is_text}
 use Rattle.chr_syntax.specs.Clauses.{Form}
-use Rattle.chr_syntax.specs.Forms.{clause_of}
+use Rattle.chr_syntax.specs.working.Forms.{clause_of}
 use Rattle.chr_syntax.specs.Lexemes.{AreClause}
 use Rattle.chr_syntax.proofs.Lexed.{read_is, clauses_read}
 use Rattle.chr_syntax.specs.declared.fault.RestFault.TheVariants as rest
+use Rattle.chr_syntax.proofs.Laws.{none_fits}
 use Rattle.chr_read.specs.declared.fault.Fault.{Fault}
 use Rattle.chr_read.specs.declared.fault.Fault.TheVariants as fault
 use Rattle.chr_read.specs.Numbers.{number_of_fault}
 use Rattle.chr_read.specs.Meanings.{Progress}
-use Rattle.chr_read.specs.Faults.{fault_test, by_number, first_of, fault_in}
-use Rattle.chr_read.specs.Reading.{with_form, checked, formed, clause_read, ended, fault_of_rest, rest_read}
+use Rattle.chr_read.specs.Faults.{fault_test}
+use Rattle.chr_read.specs.working.TextsRead.{by_number, first_of, fault_in, checked, formed, clause_read, with_rest, fault_of_rest, rest_read}
+use Rattle.chr_read.specs.Reading.{with_form}
 use Rattle.chr_read.specs.ProgramTexts.{HasFault, HasRestFault, IsLeast}
 
 -- ---- answers
@@ -200,9 +202,6 @@ abbrev pub ClauseMeans : Progress → List ℕ → Result Progress Fault → Typ
 ClauseMeans q c (Ok r) = (f : Form) × AreClause f c × ((n : Fault) → ¬ (HasFault q c n)) × (with_form q f ≡ r)
 ClauseMeans q c (Err n) = IsLeast (HasFault q c) n
 
-no_form : (c : List ℕ) → clause_of c ≡ None → (f : Form) → ¬ (AreClause f c)
-no_form c is f a = none-some f (sym is ∙ clauses_read c f a)
-
 with_fault : (q : Progress) (c : List ℕ) (f : Form) → is_text c ≡ true → AreClause f c → ClauseMeans q c (checked q f (fault_in q f))
 with_fault q c f text a = by (fault_in q f) refl
   where
@@ -216,7 +215,7 @@ clause_means q c = by (is_text c) refl (clause_of c) refl
   where
     by : (b : Bool) → is_text c ≡ b → (o : Option Form) → clause_of c ≡ o → ClauseMeans q c (cond b (formed q o) (Err fault.BadByte))
     by false text o is = (text, λ m h. at_least_one m)
-    by true text None is = (no_form c is, at_least_three q c text)
+    by true text None is = (none_fits c is, at_least_three q c text)
     by true text (Some f) is = with_fault q c f text (read_is c f is)
 
 pub good : (q : Progress) (c : List ℕ) (f : Form) → AreClause f c → ((n : Fault) → ¬ (HasFault q c n)) → clause_read q c ≡ Ok (with_form q f)
@@ -267,7 +266,7 @@ pub rest_means : (q : Progress) (c : List ℕ) → RestMeans q c (rest_read q c)
 unfolding rest_read
 rest_means q c = by (is_text c) refl (list_all is_layout c) refl
   where
-    by : (b : Bool) → is_text c ≡ b → (l : Bool) → list_all is_layout c ≡ l → RestMeans q c (ended q (fault_of_rest (cond b (cond l None (Some rest.Unended)) (Some rest.BadByte))))
+    by : (b : Bool) → is_text c ≡ b → (l : Bool) → list_all is_layout c ≡ l → RestMeans q c (with_rest q (fault_of_rest (cond b (cond l None (Some rest.Unended)) (Some rest.BadByte))))
     by false text l is = (text, λ m h. at_least_one m)
     by true text true is = (no_rest_fault c text is, refl)
     by true text false is = (is, unended_least c text)

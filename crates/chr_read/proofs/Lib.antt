@@ -1,6 +1,7 @@
 pub mod Numbers
 pub mod Names
 pub mod SeenSymbols
+pub mod RuleParts
 pub mod Lengths
 pub mod Positions
 pub mod Booleans
@@ -24,4 +25,4 @@ pub mod DeclarationsBack
 pub mod NumberedNames
 pub mod RulesBack
 pub mod RoundTrip
-pub mod OneMeaning
+pub mod OneAnswer

@@ -8,10 +8,13 @@ use Rattle.std.specs.Str.{is_utf8, IsAscii}
 use Rattle.std.proofs.lemmas.Bool.{and_from}
 use Rattle.chr_base.specs.Names as base
 use Rattle.chr_syntax.specs.declared.token.Sign.TheVariants as s
-use Rattle.chr_syntax.specs.Tokens.{Tok, name, variable, number, compare, sign, is_lower, is_word_byte}
+use Rattle.chr_syntax.specs.Tokens.{Tok, name, variable, number, compare, sign}
+use Rattle.chr_base.specs.Names.{is_lower, is_word_byte}
 use Rattle.chr_syntax.specs.Clauses.{Atom, Symbol, Comparison, Form, use_module, declare, weight, rule, propagation}
-use Rattle.chr_syntax.specs.Grammar.{IsName, IsLabel, IsAtom, IsItem, IsSymbol, IsSome, IsForm, joined, spelled_list, spelled_atom, spelled_atoms, spelled_item, spelled_body, spelled_comparison, spelled_heads, spelled_right, spelled_label, spelled_symbol, spelled}
+use Rattle.chr_syntax.specs.Grammar.{IsUnreserved, IsSymbol, OneOrMore, IsForm, with_commas, spelled_list, spelled_atom, spelled_item, spelled_comparison, spelled_heads, spelled_right, spelled_label, spelled_symbol, spelled}
+use Rattle.chr_syntax.specs.working.Spellings.{spelled_atoms, IsLabel, IsAtom, IsItem, spelled_body}
 use Rattle.chr_syntax.specs.Lexemes.{AllAre, IsWord, IsLexeme, AreTokens}
+use Rattle.chr_syntax.proofs.Spelled.{all_some}
 use Rattle.chr_read.specs.Faults.{present}
 use Rattle.chr_read.specs.NamesOfForms.{names_of_atoms, names_in, NamesAreText, NamesAreNames}
 use Rattle.chr_syntax.proofs.Cuts.{all_append}
@@ -70,7 +73,7 @@ module _ (P : List ℕ → Type 0) (good : (w : List ℕ) → IsWord is_lower w 
   tokens_text [] bs h = tt
   tokens_text (t ∷ ts) bs h = (token_text t h.1 h.5, tokens_text ts h.2 h.7)
 
-  each_text : (ls : List (List Tok)) → AllText (joined ls) → AllByRecursion AllText ls
+  each_text : (ls : List (List Tok)) → AllText (with_commas ls) → AllByRecursion AllText ls
   each_text [] h = tt
   each_text (x ∷ []) h = (h, tt)
   each_text (x ∷ y ∷ ys) h = (front IsTextToken x _ h, each_text (y ∷ ys) (back IsTextToken x _ h).1)
@@ -141,15 +144,11 @@ abbrev IsWordName : List ℕ → Type 0
 IsWordName w = base.is_word w ≡ true
 
 abbrev AllUnreserved : List (List ℕ) → Type 0
-AllUnreserved ws = AllByRecursion IsName ws
+AllUnreserved ws = AllByRecursion IsUnreserved ws
 
 atoms_unreserved : (atoms : List Atom) → AllByRecursion IsAtom atoms → AllUnreserved (names_of_atoms atoms)
 atoms_unreserved [] h = tt
 atoms_unreserved (a ∷ atoms) h = (h.0, atoms_unreserved atoms h.1)
-
-some_each : {A : Type 0} (Q : A → Type 0) (xs : List A) → IsSome Q xs → AllByRecursion Q xs
-some_each Q [] h = absurd h
-some_each Q (x ∷ xs) h = h
 
 items_unreserved : (items : List (Option Atom)) → AllByRecursion IsItem items → AllUnreserved (names_of_atoms (present items))
 items_unreserved [] h = tt
@@ -166,15 +165,15 @@ label_unreserved (Some w) h = (h, tt)
 
 form_unreserved : (f : Form) → IsForm f → AllUnreserved (names_in f)
 form_unreserved use_module h = tt
-form_unreserved (declare ss) h = symbols_unreserved ss (some_each IsSymbol ss h)
+form_unreserved (declare ss) h = symbols_unreserved ss (all_some IsSymbol ss h)
 form_unreserved (weight d w) h = (h.0, tt)
 form_unreserved (rule r) h =
-    all_append IsName (option_to_list r.label) _ (label_unreserved r.label h.0)
-    (all_append IsName (names_of_atoms r.kept) _ (atoms_unreserved r.kept h.1)
-    (all_append IsName (names_of_atoms r.removed) _ (atoms_unreserved r.removed (some_each IsAtom r.removed h.2)) (items_unreserved r.body (some_each IsItem r.body h.3))))
+    all_append IsUnreserved (option_to_list r.label) _ (label_unreserved r.label h.0)
+    (all_append IsUnreserved (names_of_atoms r.kept) _ (atoms_unreserved r.kept h.1)
+    (all_append IsUnreserved (names_of_atoms r.removed) _ (atoms_unreserved r.removed (all_some IsAtom r.removed h.2)) (items_unreserved r.body (all_some IsItem r.body h.3))))
 form_unreserved (propagation r) h =
-    all_append IsName (option_to_list r.label) _ (label_unreserved r.label h.0.0)
-    (all_append IsName (names_of_atoms r.removed) _ (atoms_unreserved r.removed (some_each IsAtom r.removed h.0.2)) (items_unreserved r.body (some_each IsItem r.body h.0.3)))
+    all_append IsUnreserved (option_to_list r.label) _ (label_unreserved r.label h.0.0)
+    (all_append IsUnreserved (names_of_atoms r.removed) _ (atoms_unreserved r.removed (all_some IsAtom r.removed h.0.2)) (items_unreserved r.body (all_some IsItem r.body h.0.3)))
 
 words_names : (ws : List (List ℕ)) → AllByRecursion IsWordName ws → AllUnreserved ws → list_all base.is_name ws ≡ true
 words_names [] h g = refl

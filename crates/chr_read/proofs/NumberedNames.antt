@@ -8,14 +8,16 @@ use Rattle.std.proofs.lemmas.Bool.Decides.{nat_tests}
 use Rattle.std.proofs.lemmas.Fmt.{decimal_injective}
 use Rattle.std.proofs.lemmas.List.Folds.{list_any-append}
 use Rattle.std.proofs.lemmas.Option.{none-some, same_Some}
+use Rattle.std.proofs.lemmas.Slice.Eq.{bytes_eq-Decides}
 use Rattle.chr_base.specs.declared.term.Term as base
 use Rattle.chr_base.specs.declared.term.Term.TheVariants.{Variable, Constant}
 use Rattle.chr_base.specs.RuleTests.{numbered}
 use Rattle.chr_read.specs.Faults.{is_anonymous}
-use Rattle.chr_read.specs.Resolving.{Names, met_at, variable_of, with_variable, head_terms, after_terms}
+use Rattle.chr_read.specs.working.RuleParts.{Names, with_variable}
+use Rattle.chr_read.specs.Resolving.{met_at, variable_of, head_terms, after_terms}
 use Rattle.chr_read.proofs.Decimals.{number_back}
 use Rattle.chr_read.proofs.DeclarationsBack.{place_skip}
-use Rattle.chr_read.proofs.Numbering.{same_bytes, itself}
+use Rattle.chr_read.proofs.Numbering.{itself}
 use Rattle.chr_read.proofs.Positions.{place, position_is, no_position}
 use Rattle.chr_read.proofs.WrittenForms.{written_term}
 use Rattle.chr_read.proofs.WrittenTokens.{IsWritable}
@@ -44,7 +46,7 @@ other_name x y l m ne = by (bytes_eq (variable_name x) (variable_name y)) refl
   where
     by : (t : Bool) → bytes_eq (variable_name x) (variable_name y) ≡ t → bytes_eq (variable_name x) (variable_name y) ≡ false
     by false e = e
-    by true e = absurd (ne (decimal_injective x y l m (tail_same x y (same_bytes (variable_name x) (variable_name y) e))))
+    by true e = absurd (ne (decimal_injective x y l m (tail_same x y ((bytes_eq-Decides (variable_name x) (variable_name y)).0 e))))
 
 not_named : (x n : ℕ) → x < 2 ^ 64 → n < x → list_any (bytes_eq (variable_name x)) (first_names n) ≡ false
 not_named x zero l h = refl

@@ -14,9 +14,11 @@ use Rattle.chr_base.specs.ProgramTests.{Declaration}
 use Rattle.chr_base.specs.RuleTests as rules
 use Rattle.chr_base.specs.RuleTests.{occurs, terms_of, numbered, is_numbered}
 use Rattle.chr_syntax.specs.Clauses.{Term, Atom, variable, number}
-use Rattle.chr_read.specs.Faults.{is_anonymous, is_variable, stands_in}
-use Rattle.chr_read.specs.Resolving.{Names, met_at, variable_of, with_variable, head_terms, after_terms, heads, after_heads}
-use Rattle.chr_read.proofs.Positions.{position_within, position_any}
+use Rattle.chr_read.specs.Faults.{is_anonymous, is_named}
+use Rattle.chr_read.specs.working.RuleParts.{stands_in, Names, with_variable}
+use Rattle.chr_read.specs.Resolving.{met_at, variable_of, head_terms, after_terms, heads, after_heads}
+use Rattle.chr_base.proofs.Declared.{place_within}
+use Rattle.chr_read.proofs.Positions.{position_any}
 
 -- ---- the variables of the heads are numbered
 
@@ -29,7 +31,7 @@ met_within names w i h = by (is_anonymous w) h
   where
     by : (b : Bool) → cond b None (position (bytes_eq w) names) ≡ Some i → i < length names
     by true e = absurd (none-some i e)
-    by false e = position_within (bytes_eq w) names i e
+    by false e = place_within (bytes_eq w) names i e
 
 -- one step of the numbering, at a variable
 one_variable : (names : Names) (w : List ℕ) (rest : List base.Term)
@@ -105,9 +107,6 @@ occurs_in ps n h x above below = sym (occurs_terms x ps) ∙ all_occur 0 n (term
 
 -- ---- a variable that stands in the heads is met
 
-pub same_bytes : (v w : List ℕ) → bytes_eq v w ≡ true → v ≡ w
-same_bytes v w h = (bytes_eq-Decides v w).0 h
-
 pub itself : (w : List ℕ) → bytes_eq w w ≡ true
 itself w = (bytes_eq-Decides w w).1 refl
 
@@ -139,15 +138,15 @@ stays_after w names [] h = h
 stays_after w names (variable v ∷ ts) h = stays_after w (with_variable names v) ts (stays w v names h)
 stays_after w names (number v ∷ ts) h = stays_after w names ts h
 
-met_after : (w : List ℕ) (names : Names) (ts : List Term) → is_anonymous w ≡ false → list_any (is_variable w) ts ≡ true → has w (after_terms names ts) ≡ true
+met_after : (w : List ℕ) (names : Names) (ts : List Term) → is_anonymous w ≡ false → list_any (is_named w) ts ≡ true → has w (after_terms names ts) ≡ true
 met_after w names [] named h = absurd (false≢true h)
 met_after w names (number v ∷ ts) named h = met_after w names ts named h
 met_after w names (variable v ∷ ts) named h = by (bytes_eq w v) refl h (met_after w (with_variable names v) ts named)
   where
-    by : (b : Bool) → bytes_eq w v ≡ b → (b || list_any (is_variable w) ts) ≡ true → (list_any (is_variable w) ts ≡ true → has w (after_terms (with_variable names v) ts) ≡ true) → has w (after_terms (with_variable names v) ts) ≡ true
+    by : (b : Bool) → bytes_eq w v ≡ b → (b || list_any (is_named w) ts) ≡ true → (list_any (is_named w) ts ≡ true → has w (after_terms (with_variable names v) ts) ≡ true) → has w (after_terms (with_variable names v) ts) ≡ true
     by true e h further =
         let P : List ℕ → Type 0 = λ u. has w (with_variable names u) ≡ true in
-        stays_after w (with_variable names v) ts (subst P (same_bytes w v e) (met w names named))
+        stays_after w (with_variable names v) ts (subst P ((bytes_eq-Decides w v).0 e) (met w names named))
     by false e h further = further h
 
 pub stays_heads : (w : List ℕ) (names : Names) (atoms : List Atom) → has w names ≡ true → has w (after_heads names atoms) ≡ true
@@ -156,9 +155,9 @@ stays_heads w names (a ∷ atoms) h = stays_heads w (after_terms names a.args) a
 
 pub met_heads : (w : List ℕ) (names : Names) (atoms : List Atom) → is_anonymous w ≡ false → stands_in w atoms ≡ true → has w (after_heads names atoms) ≡ true
 met_heads w names [] named h = absurd (false≢true h)
-met_heads w names (a ∷ atoms) named h = by (list_any (is_variable w) a.args) refl h (met_heads w (after_terms names a.args) atoms named)
+met_heads w names (a ∷ atoms) named h = by (list_any (is_named w) a.args) refl h (met_heads w (after_terms names a.args) atoms named)
   where
-    by : (b : Bool) → list_any (is_variable w) a.args ≡ b → (b || stands_in w atoms) ≡ true → (stands_in w atoms ≡ true → has w (after_heads (after_terms names a.args) atoms) ≡ true) → has w (after_heads (after_terms names a.args) atoms) ≡ true
+    by : (b : Bool) → list_any (is_named w) a.args ≡ b → (b || stands_in w atoms) ≡ true → (stands_in w atoms ≡ true → has w (after_heads (after_terms names a.args) atoms) ≡ true) → has w (after_heads (after_terms names a.args) atoms) ≡ true
     by true e h further = stays_heads w (after_terms names a.args) atoms (met_after w names a.args named e)
     by false e h further = further h
 

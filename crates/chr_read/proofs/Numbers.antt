@@ -10,7 +10,8 @@ use Rattle.std.specs.List.{list_all}
 use Rattle.std.specs.Result.{OkIff, result_ok}
 use Rattle.std.specs.Str.{IsUtf8, IsAscii}
 use Rattle.std.specs.Str.Parse.{ParsesSigned, digits_value, starts_with_minus}
-use Rattle.chr_read.specs.Numbers.{is_digit, is_numeral, unsigned, signed, number_of}
+use Rattle.chr_base.specs.Names.{is_digit}
+use Rattle.chr_read.specs.Numbers.{is_numeral, unsigned, signed, number_of}
 
 pub own : IsNumeralModel (λ ds. list_all is_digit ds ≡ true) (digits_value 10)
 own = numerals_by_value _ (search rules)

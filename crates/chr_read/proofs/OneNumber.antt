@@ -2,13 +2,15 @@
 use Rattle.std.proofs.Common.{◌≡◌, ℕ, zero, suc, ◌+◌, ◌<◌, List, [], ◌∷◌, ◌++◌, length, Bool, true, false, cond, Option, Some, None, option_map, is_some, unwrap_or, position, slice_get, refl, sym, ap, ◌∙◌, append_assoc, append-nil, length-append, arith}
 use Rattle.std.proofs.lemmas.Option.{none-some, same_Some}
 use Rattle.std.specs.Str.{bytes_eq}
+use Rattle.std.proofs.lemmas.Slice.Eq.{bytes_eq-Decides}
 use Rattle.chr_base.specs.ProgramTests.{Declaration}
 use Rattle.chr_base.specs.RuleTests.{terms_of}
 use Rattle.chr_syntax.specs.Clauses.{Term, Atom, variable, number}
-use Rattle.chr_read.specs.Faults.{is_anonymous}
-use Rattle.chr_read.specs.Resolving.{Names, met_at, variable_of, with_variable, term_in, after_term, head_terms, after_terms, heads, after_heads}
-use Rattle.chr_read.specs.Numberings.{terms_in, HeadsAreOneList, OneNumberIsOneVariable}
-use Rattle.chr_read.proofs.Numbering.{terms_append, same_bytes, itself, met_within}
+use Rattle.chr_read.specs.Faults.{is_anonymous, args_of}
+use Rattle.chr_read.specs.working.RuleParts.{Names, with_variable}
+use Rattle.chr_read.specs.Resolving.{met_at, variable_of, resolved_term, after_term, head_terms, after_terms, heads, after_heads}
+use Rattle.chr_read.specs.Numberings.{HeadsAreOneList, OneNumberIsOneVariable}
+use Rattle.chr_read.proofs.Numbering.{terms_append, itself, met_within}
 use Rattle.chr_read.proofs.Positions.{place, position_is, found_at}
 
 -- ---- lists of terms
@@ -19,23 +21,23 @@ after_append names (x ∷ xs) ys = after_append (after_term names x) xs ys
 
 terms_appended : (names : Names) (xs ys : List Term) → head_terms names (xs ++ ys) ≡ head_terms names xs ++ head_terms (after_terms names xs) ys
 terms_appended names [] ys = refl
-terms_appended names (x ∷ xs) ys = ap (λ l. term_in names x ∷ l) (terms_appended (after_term names x) xs ys)
+terms_appended names (x ∷ xs) ys = ap (λ l. resolved_term names x ∷ l) (terms_appended (after_term names x) xs ys)
 
-after_heads_is : (names : Names) (atoms : List Atom) → after_heads names atoms ≡ after_terms names (terms_in atoms)
+after_heads_is : (names : Names) (atoms : List Atom) → after_heads names atoms ≡ after_terms names (args_of atoms)
 after_heads_is names [] = refl
-after_heads_is names (a ∷ atoms) = after_heads_is (after_terms names a.args) atoms ∙ sym (after_append names a.args (terms_in atoms))
+after_heads_is names (a ∷ atoms) = after_heads_is (after_terms names a.args) atoms ∙ sym (after_append names a.args (args_of atoms))
 
-heads_list : (ds : List Declaration) (names : Names) (atoms : List Atom) → terms_of (heads ds names atoms) ≡ head_terms names (terms_in atoms)
+heads_list : (ds : List Declaration) (names : Names) (atoms : List Atom) → terms_of (heads ds names atoms) ≡ head_terms names (args_of atoms)
 heads_list ds names [] = refl
 heads_list ds names (a ∷ atoms) =
-    ap (λ l. head_terms names a.args ++ l) (heads_list ds (after_terms names a.args) atoms) ∙ sym (terms_appended names a.args (terms_in atoms))
+    ap (λ l. head_terms names a.args ++ l) (heads_list ds (after_terms names a.args) atoms) ∙ sym (terms_appended names a.args (args_of atoms))
 
 pub one_list : HeadsAreOneList
 one_list ds kept removed =
     terms_append (heads ds [] kept) (heads ds (after_heads [] kept) removed)
     ∙ ap (λ l. l ++ terms_of (heads ds (after_heads [] kept) removed)) (heads_list ds [] kept)
-    ∙ ap (λ l. head_terms [] (terms_in kept) ++ l) (heads_list ds (after_heads [] kept) removed ∙ ap (λ n. head_terms n (terms_in removed)) (after_heads_is [] kept))
-    ∙ sym (terms_appended [] (terms_in kept) (terms_in removed))
+    ∙ ap (λ l. head_terms [] (args_of kept) ++ l) (heads_list ds (after_heads [] kept) removed ∙ ap (λ n. head_terms n (args_of removed)) (after_heads_is [] kept))
+    ∙ sym (terms_appended [] (args_of kept) (args_of removed))
 
 -- ---- names only grow
 
@@ -93,7 +95,7 @@ not_anonymous names w i h = by (is_anonymous w) refl h
 met_is : (names : Names) (w : List ℕ) (i : ℕ) → met_at names w ≡ Some i → slice_get names i ≡ Some w
 met_is names w i h =
     let f = found_at (bytes_eq w) names i (not_anonymous names w i h).1 in
-    f.1 ∙ ap Some (sym (same_bytes w f.0 f.2))
+    f.1 ∙ ap Some (sym ((bytes_eq-Decides w f.0).0 f.2))
 
 -- the name at the number's place, once it is met
 stands : (names : Names) (v : List ℕ) → (k : ℕ) × (variable_of names v ≡ k + 1) × (slice_get (with_variable names v) k ≡ Some v) × (k < length (with_variable names v))

@@ -9,7 +9,8 @@ use Rattle.chr_syntax.specs.declared.clause.Comparator.TheVariants as c
 use Rattle.chr_syntax.specs.declared.token.Sign.{Sign}
 use Rattle.chr_syntax.specs.declared.token.Sign.TheVariants as s
 use Rattle.chr_syntax.specs.Bytes.{is_layout, is_text_byte, is_text, percent, full_stop}
-use Rattle.chr_syntax.specs.Tokens.{Tok, name, variable, number, compare, sign, is_digit, is_word_byte}
+use Rattle.chr_syntax.specs.Tokens.{Tok, name, variable, number, compare, sign}
+use Rattle.chr_base.specs.Names.{is_digit, is_word_byte}
 use Rattle.chr_syntax.specs.Texts.{HasNo}
 use Rattle.chr_syntax.specs.Lexemes.{AllAre, IsNumber, IsComparator, sign_text, IsLexeme, AreTokens}
 use Rattle.chr_syntax.proofs.Cuts.{all_append}

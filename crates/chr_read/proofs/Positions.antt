@@ -63,18 +63,6 @@ at_place {A = A} p Q (x ∷ xs) i good h = by (p x) refl h (λ k is. at_place p 
     by true is e further = let P : ℕ → Type 0 = λ n. Q (slice_get (x ∷ xs) n) in subst P (same_Some _ _ e) (good x is)
     by false is e further = later (place p xs) refl e further
 
-bound : {A : Type 0} (p : A → Bool) (xs : List A) (i : ℕ) → place p xs ≡ Some i → i < length xs
-bound p [] i h = absurd (none-some i h)
-bound p (x ∷ xs) i h = by (p x) (place p xs) refl h (bound p xs)
-  where
-    by : (b : Bool) (o : Option ℕ) → place p xs ≡ o → cond b (Some 0) (option_map suc o) ≡ Some i → ((k : ℕ) → place p xs ≡ Some k → k < length xs) → i < suc (length xs)
-    by true o is e further = omega (arith, same_Some _ _ e)
-    by false None is e further = absurd (none-some i e)
-    by false (Some k) is e further = omega (arith, same_Some _ _ e, further k is)
-
-pub position_within : {A : Type 0} (p : A → Bool) (xs : List A) (i : ℕ) → position p xs ≡ Some i → i < length xs
-position_within p xs i h = bound p xs i (sym (position_is p xs) ∙ h)
-
 -- a declared symbol takes as many arguments as it was looked up with
 pub declared_takes : (w : List ℕ) (n : ℕ) (ds : List Declaration) (i : ℕ) → position (declares w n) ds ≡ Some i → takes (slice_get ds i) n ≡ true
 declared_takes w n ds i h =

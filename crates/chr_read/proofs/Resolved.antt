@@ -16,12 +16,13 @@ use Rattle.chr_base.specs.Values.{is_value}
 use Rattle.chr_base.specs.Names as names
 use Rattle.chr_base.specs.Names.{is_label}
 use Rattle.chr_read.specs.NamesOfForms.{names_of_atoms, has_names}
-use Rattle.chr_base.specs.RuleTests.{is_known, is_closed, is_valued, are_valued, is_in_bounds, is_rule}
+use Rattle.chr_base.specs.RuleTests.{is_bound_in, is_closed, is_valued, are_valued, is_in_bounds, is_rule}
 use Rattle.chr_read.specs.Numbers.{is_numeral, unsigned, signed, number_of}
 use Rattle.chr_syntax.specs.Clauses.{Term, Atom, Comparison, Rule, variable, number, rule}
-use Rattle.chr_read.specs.Faults.{present, is_name, place_of_atom, is_undeclared, any_undeclared, rule_undeclared, lists_over, label_over, parts_over, rule_over, is_anonymous, stands_in, is_bound, term_unbound, comparison_unbound, atom_unbound, rule_unbound}
-use Rattle.chr_read.specs.Meanings.{RuleData, rule_data}
-use Rattle.chr_read.specs.Resolving.{Names, variable_of, term_in, head_terms, after_term, after_terms, pattern, heads, after_heads, body_atom, comparison_in, names_of, resolved}
+use Rattle.chr_read.specs.Faults.{present, is_undeclared, is_anonymous}
+use Rattle.chr_read.specs.working.RuleParts.{place_of_atom, any_undeclared, rule_undeclared, has_long_lists, label_over, parts_over, some_part_over, stands_in, is_bound, term_unbound, comparison_unbound, atom_unbound, rule_unbound, Names}
+use Rattle.chr_base.specs.Sameness.{Parts, parts_of}
+use Rattle.chr_read.specs.Resolving.{variable_of, resolved_term, head_terms, after_term, after_terms, pattern, heads, after_heads, body_atom, resolved_comparison, names_of, resolved}
 use Rattle.chr_read.proofs.Numbering.{numbers, occurs_in, has, met_heads, stays_heads, in_range}
 use Rattle.chr_read.proofs.Positions.{declared_takes}
 use Rattle.chr_read.proofs.Booleans.{all_pass}
@@ -54,9 +55,9 @@ bound_is_met r w h =
 
 -- ---- its name is one
 
-pub label_is : (r : Rule) → rule_over r ≡ false → has_names (rule r) ≡ true → is_label r.label ≡ true
+pub label_is : (r : Rule) → some_part_over r ≡ false → has_names (rule r) ≡ true → is_label r.label ≡ true
 label_is r over named =
-    let o = (or_parts (label_over r.label) (parts_over r) (or_parts (lists_over r) (label_over r.label || parts_over r) over).1).0 in
+    let o = (or_parts (label_over r.label) (parts_over r) (or_parts (has_long_lists r) (label_over r.label || parts_over r) over).1).0 in
     by r.label o (front (option_to_list r.label) (names_of_atoms r.kept ++ (names_of_atoms r.removed ++ names_of_atoms (present r.body))) named)
   where
     front : (xs ys : List (List ℕ)) → list_all names.is_name (xs ++ ys) ≡ true → list_all names.is_name xs ≡ true
@@ -65,7 +66,7 @@ label_is r over named =
 
     by : (label : Option (List ℕ)) → label_over label ≡ false → list_all names.is_name (option_to_list label) ≡ true → is_label label ≡ true
     by None o h = refl
-    by (Some w) o h = and_from _ _ (and_parts (names.is_name w) true h).0 (and_parts (is_utf8 w) (nat_le (length w) 32) (not-false (is_name w) o)).1
+    by (Some w) o h = and_from _ _ (and_parts (names.is_name w) true h).0 (grind (arith, nat_tests))
 
 -- ---- constants are values
 
@@ -93,7 +94,7 @@ number_valued w = by (is_numeral (unsigned w)) refl
     by false e = refl
     by true e = at _ (value_of_sign (starts_with_minus w) (digits_value 10 (unsigned w)))
 
-term_valued : (names : Names) (t : Term) → is_valued (term_in names t) ≡ true
+term_valued : (names : Names) (t : Term) → is_valued (resolved_term names t) ≡ true
 term_valued names (variable w) = refl
 term_valued names (number w) = number_valued w
 
@@ -117,40 +118,40 @@ module _ (ds : List Declaration) (r : Rule) where
   abbrev all_heads : List Pattern
   all_heads = heads ds [] r.kept ++ heads ds (after_heads [] r.kept) r.removed
 
-  known_term : (t : Term) → term_unbound r t ≡ false → is_known all_heads (term_in (names_of r) t) ≡ true
+  known_term : (t : Term) → term_unbound r t ≡ false → is_bound_in all_heads (resolved_term (names_of r) t) ≡ true
   known_term (number w) h = refl
   known_term (variable w) h =
       let met = bound_is_met r w (not-false (is_bound r w) h) in
       let range = in_range w (names_of r) met.0 met.1 in
       occurs_in all_heads (length (names_of r)) (numbers ds r.kept r.removed) (variable_of (names_of r) w) range.0 range.1
 
-  known_comparison : (c : Comparison) → comparison_unbound r c ≡ false → (is_known all_heads (comparison_in (names_of r) c).left && is_known all_heads (comparison_in (names_of r) c).right) ≡ true
+  known_comparison : (c : Comparison) → comparison_unbound r c ≡ false → (is_bound_in all_heads (resolved_comparison (names_of r) c).left && is_bound_in all_heads (resolved_comparison (names_of r) c).right) ≡ true
   known_comparison c h = let n = or_parts _ _ h in and_from _ _ (known_term c.left n.0) (known_term c.right n.1)
 
-  known_atom : (a : Atom) → atom_unbound r a ≡ false → list_all (is_known all_heads) (body_atom ds (names_of r) a).args.items ≡ true
-  known_atom a h = all_pass (term_unbound r) (term_in (names_of r)) (is_known all_heads) known_term a.args h
+  known_atom : (a : Atom) → atom_unbound r a ≡ false → list_all (is_bound_in all_heads) (body_atom ds (names_of r) a).args.items ≡ true
+  known_atom a h = all_pass (term_unbound r) (resolved_term (names_of r)) (is_bound_in all_heads) known_term a.args h
 
   closed : rule_unbound r ≡ false → is_closed all_heads (resolved ds r).guard (resolved ds r).body ≡ true
   closed h =
       let n = or_parts _ _ h in
       and_from _ _
-      (all_pass (comparison_unbound r) (comparison_in (names_of r)) (λ c. is_known all_heads c.left && is_known all_heads c.right) known_comparison (present r.guard) n.0)
-      (all_pass (atom_unbound r) (body_atom ds (names_of r)) (λ p. list_all (is_known all_heads) p.args.items) known_atom (present r.body) n.1)
+      (all_pass (comparison_unbound r) (resolved_comparison (names_of r)) (λ c. is_bound_in all_heads c.left && is_bound_in all_heads c.right) known_comparison (present r.guard) n.0)
+      (all_pass (atom_unbound r) (body_atom ds (names_of r)) (λ p. list_all (is_bound_in all_heads) p.args.items) known_atom (present r.body) n.1)
 
-  few_heads : rule_over r ≡ false → nat_le (length (resolved ds r).kept + length (resolved ds r).removed) 4 ≡ true
+  few_heads : some_part_over r ≡ false → nat_le (length (resolved ds r).kept + length (resolved ds r).removed) 4 ≡ true
   few_heads h =
-      let lists = (or_parts (lists_over r) (label_over r.label || parts_over r) h).0 in
+      let lists = (or_parts (has_long_lists r) (label_over r.label || parts_over r) h).0 in
       let over = (or_parts (nat_lt 4 (length r.kept + length r.removed)) (nat_lt 8 (length (present r.guard)) || nat_lt 8 (length (present r.body))) lists).0 in
       let a = heads_length ds [] r.kept in
       let b = heads_length ds (after_heads [] r.kept) r.removed in
       grind (arith, nat_tests)
 
-  few_items : rule_over r ≡ false → (nat_le (length (resolved ds r).guard) 8 && nat_le (length (resolved ds r).body) 8) ≡ true
+  few_items : some_part_over r ≡ false → (nat_le (length (resolved ds r).guard) 8 && nat_le (length (resolved ds r).body) 8) ≡ true
   few_items h =
-      let lists = (or_parts (lists_over r) (label_over r.label || parts_over r) h).0 in
+      let lists = (or_parts (has_long_lists r) (label_over r.label || parts_over r) h).0 in
       let over = or_parts (nat_lt 8 (length (present r.guard))) (nat_lt 8 (length (present r.body))) (or_parts (nat_lt 4 (length r.kept + length r.removed)) _ lists).1 in
       and_from (nat_le (length (resolved ds r).guard) 8) (nat_le (length (resolved ds r).body) 8)
-      (let a = length-map (present r.guard) (comparison_in (names_of r)) in let b = over.0 in grind (arith, nat_tests))
+      (let a = length-map (present r.guard) (resolved_comparison (names_of r)) in let b = over.0 in grind (arith, nat_tests))
       (let a = length-map (present r.body) (body_atom ds (names_of r)) in let b = over.1 in grind (arith, nat_tests))
 
   valued : (are_valued all_heads && list_all (λ c. is_valued c.left && is_valued c.right) (resolved ds r).guard && are_valued (resolved ds r).body) ≡ true
@@ -158,17 +159,17 @@ module _ (ds : List Declaration) (r : Rule) where
       and_from _ _
       (and_from _ _ (are_valued-append (heads ds [] r.kept) (heads ds (after_heads [] r.kept) r.removed) (heads_valued ds [] r.kept) (heads_valued ds (after_heads [] r.kept) r.removed))
       (all_map _ _ (λ c. and_from _ _ (term_valued (names_of r) c.left) (term_valued (names_of r) c.right)) (present r.guard)))
-      (all_map _ _ (λ a. all_map is_valued (term_in (names_of r)) (term_valued (names_of r)) a.args) (present r.body))
+      (all_map _ _ (λ a. all_map is_valued (resolved_term (names_of r)) (term_valued (names_of r)) a.args) (present r.body))
 
   some_head : 0 < length r.removed → nat_lt 0 (length (resolved ds r).removed) ≡ true
   some_head h = let b = heads_length ds (after_heads [] r.kept) r.removed in grind (arith, nat_tests)
 
-  pub resolved_is_rule : rule_over r ≡ false → rule_unbound r ≡ false → 0 < length r.removed
+  pub resolved_is_rule : some_part_over r ≡ false → rule_unbound r ≡ false → 0 < length r.removed
       → is_rule (resolved ds r).kept (resolved ds r).removed (resolved ds r).guard (resolved ds r).body ≡ true
   resolved_is_rule over unbound some =
       and_from _ _ (and_from _ _ (and_from _ _ (some_head some) (few_heads over)) (closed unbound)) (ap is_some (numbers ds r.kept r.removed))
 
-  pub resolved_in_bounds : rule_over r ≡ false → has_names (rule r) ≡ true → is_in_bounds (resolved ds r).name all_heads (resolved ds r).guard (resolved ds r).body ≡ true
+  pub resolved_in_bounds : some_part_over r ≡ false → has_names (rule r) ≡ true → is_in_bounds (resolved ds r).name all_heads (resolved ds r).guard (resolved ds r).body ≡ true
   unfolding is_in_bounds
   resolved_in_bounds over named = let few = and_parts _ _ (few_items over) in and_from _ _ (and_from _ _ (and_from _ _ (label_is r over named) few.0) few.1) valued
 
@@ -177,15 +178,11 @@ module _ (ds : List Declaration) (r : Rule) where
 declared_pattern : (ds : List Declaration) (a : Atom) (ts : List base.Term) → length ts ≡ length a.args → is_undeclared ds a ≡ false → is_declared ds (pattern ds a ts) ≡ true
 declared_pattern ds a ts long h = by (place_of_atom ds a) refl h
   where
-    found : (b : Bool) (i : ℕ) → cond b (position (declares a.name (length a.args)) ds) None ≡ Some i → position (declares a.name (length a.args)) ds ≡ Some i
-    found true i e = e
-    found false i e = absurd (none-some i e)
-
     by : (o : Option ℕ) → place_of_atom ds a ≡ o → is_none o ≡ false → is_declared ds (pattern ds a ts) ≡ true
     by None is e = absurd (false≢true (sym e))
     by (Some i) is e =
         ap (λ p. takes (slice_get ds (unwrap_or p 0)) (length ts)) is ∙ ap (takes (slice_get ds i)) long
-        ∙ declared_takes a.name (length a.args) ds i (found (is_name a.name) i is)
+        ∙ declared_takes a.name (length a.args) ds i is
 
 heads_declared : (ds : List Declaration) (names : Names) (atoms : List Atom) → any_undeclared ds atoms ≡ false → list_all (is_declared ds) (heads ds names atoms) ≡ true
 heads_declared ds names [] h = refl
@@ -193,7 +190,7 @@ heads_declared ds names (a ∷ atoms) h =
     let n = or_parts _ _ h in
     and_from _ _ (declared_pattern ds a (head_terms names a.args) (head_terms_length names a.args) n.0) (heads_declared ds (after_terms names a.args) atoms n.1)
 
-abbrev fits_so : List Declaration → RuleData → Bool
+abbrev fits_so : List Declaration → Parts → Bool
 fits_so ds d = list_all (is_declared ds) d.kept && list_all (is_declared ds) d.removed && list_all (is_declared ds) d.body
 
 fits_resolved : (ds : List Declaration) (r : Rule) → rule_undeclared ds r ≡ false → fits_so ds (resolved ds r) ≡ true
@@ -202,7 +199,7 @@ fits_resolved ds r h =
     let m = or_parts (any_undeclared ds r.removed) _ n.1 in
     and_from _ _ (and_from _ _ (heads_declared ds [] r.kept n.0) (heads_declared ds (after_heads [] r.kept) r.removed m.0))
     (all_pass (is_undeclared ds) (body_atom ds (names_of r)) (is_declared ds)
-    (λ a e. declared_pattern ds a (map (term_in (names_of r)) a.args) (length-map a.args (term_in (names_of r))) e) (present r.body) m.1)
+    (λ a e. declared_pattern ds a (map (resolved_term (names_of r)) a.args) (length-map a.args (resolved_term (names_of r))) e) (present r.body) m.1)
 
-pub resolved_fits : (ds : List Declaration) (r : Rule) (made : base_rule.Rule) → rule_data made ≡ resolved ds r → rule_undeclared ds r ≡ false → fits ds made ≡ true
+pub resolved_fits : (ds : List Declaration) (r : Rule) (made : base_rule.Rule) → parts_of made ≡ resolved ds r → rule_undeclared ds r ≡ false → fits ds made ≡ true
 resolved_fits ds r made is h = ap (fits_so ds) is ∙ fits_resolved ds r h

@@ -8,6 +8,7 @@ use Rattle.std.proofs.lemmas.Bool.Decides.{nat_tests}
 use Rattle.std.proofs.lemmas.List.{length-map}
 use Rattle.std.proofs.lemmas.List.Folds.{list_any-append}
 use Rattle.std.proofs.lemmas.Option.{none-some, same_Some}
+use Rattle.std.specs.Str.Parse.{starts_with_minus}
 use Rattle.chr_base.specs.declared.term.Term as base
 use Rattle.chr_base.specs.declared.term.Term.TheVariants.{Variable, Constant}
 use Rattle.chr_base.specs.declared.term.Comparison as base_comparison
@@ -16,29 +17,33 @@ use Rattle.chr_base.specs.declared.rule.Rule as base_rule
 use Rattle.chr_base.specs.declared.program.Program.{Program}
 use Rattle.chr_base.specs.Names as names
 use Rattle.chr_base.specs.RuleTests as rules
-use Rattle.chr_base.specs.RuleTests.{occurs, is_known, is_closed, terms_of, numbered, is_numbered, is_valued, are_valued}
+use Rattle.chr_base.specs.RuleTests.{occurs, is_bound_in, is_closed, terms_of, numbered, is_numbered, is_valued, are_valued}
 use Rattle.chr_base.specs.Rules.{heads_of}
-use Rattle.chr_base.specs.Instances.{sized_rule, closed_rule, numbered_rule, few_rule, valued_rule}
+use Rattle.chr_base.proofs.Instances.{sized_rule, closed_rule, numbered_rule, few_rule, valued_rule}
 use Rattle.chr_base.specs.Programs.{declarations, rules_of}
 use Rattle.chr_base.specs.ProgramTests.{Declaration, is_declared, fits, are_distinct, is_in_range}
 use Rattle.chr_syntax.specs.Clauses.{Rule, weight, rule}
-use Rattle.chr_syntax.specs.Grammar.{spelled, IsLabel, IsAtom, IsItem, IsSymbol, IsSome, IsForm}
-use Rattle.chr_syntax.specs.Forms.{is_negative}
+use Rattle.chr_syntax.specs.Grammar.{spelled, IsSymbol, OneOrMore, IsForm}
+use Rattle.chr_syntax.specs.working.Spellings.{IsLabel, IsAtom, IsItem}
 use Rattle.chr_syntax.specs.Bytes.{pieces}
-use Rattle.chr_syntax.specs.Tokens.{is_lower, tokens_of}
+use Rattle.chr_base.specs.Names.{is_lower, is_digit}
+use Rattle.chr_syntax.specs.working.Tokens.{tokens_of}
 use Rattle.chr_syntax.specs.Lexemes.{IsWord}
 use Rattle.chr_read.specs.CanonicalTexts.{declaration_clauses, weight_clause, weight_clauses, rule_clause, clauses, canonical}
-use Rattle.chr_read.specs.Meanings.{RuleData, Progress, nothing, rule_data, meaning_of}
-use Rattle.chr_read.specs.Numbers.{is_digit}
-use Rattle.chr_read.specs.Faults.{present, is_name, any_undeclared, is_undeclared, rule_undeclared, atom_over, comparison_over, label_over, lists_over, parts_over, rule_over, is_anonymous, stands_in, is_bound, term_unbound, atom_unbound, comparison_unbound, rule_unbound, atom_outside, comparison_outside, rule_outside, fault_in}
+use Rattle.chr_base.specs.Sameness.{Parts, parts_of}
+use Rattle.chr_read.specs.Meanings.{Progress, nothing, meaning_of}
+use Rattle.chr_read.specs.Faults.{present, is_undeclared, is_anonymous, rule_atoms, right_terms, written_terms as terms_in, rule_over, is_unbound, is_outside}
+use Rattle.chr_read.specs.working.RuleParts.{any_undeclared, rule_undeclared, parts_of_atom_over, comparison_over, label_over, has_long_lists, parts_over, some_part_over, stands_in, is_bound, term_unbound, atom_unbound, comparison_unbound, rule_unbound, atom_outside, comparison_outside, rule_outside}
+use Rattle.chr_read.specs.working.TextsRead.{fault_in, meaning_in, pieces_read, text_read}
 use Rattle.chr_read.specs.Faults as faults
-use Rattle.chr_read.specs.Reading.{with_form, meaning_in, pieces_read, text_read}
-use Rattle.chr_read.specs.Resolving.{after_heads, heads, body_atom, comparison_in, names_of, resolved}
+use Rattle.chr_read.specs.Reading.{with_form}
+use Rattle.chr_read.specs.Resolving.{after_heads, heads, body_atom, resolved_comparison, names_of, resolved}
 use Rattle.chr_read.proofs.Decimals.{decimal_digits}
-use Rattle.chr_read.proofs.DeclarationsBack.{pass, state, InRange, in_range, name_is_word, name_is_unreserved, name_is, plain, declarations_back, weights_back}
+use Rattle.chr_read.proofs.DeclarationsBack.{pass, state, InRange, in_range, name_is_word, name_is_unreserved, name_is_short, plain, declarations_back, weights_back}
 use Rattle.chr_read.proofs.EndedTexts.{AreClauses, clauses_append, after, AreFaultless, after_append, faultless_append, no_comments, ended_read}
 use Rattle.chr_read.proofs.NamesText.{front, back}
 use Rattle.chr_read.proofs.NumberedNames.{first_names, variable_name}
+use Rattle.chr_read.proofs.RuleParts.{undeclared_is, over_is, unbound_is, outside_is}
 use Rattle.chr_read.proofs.Numbering.{itself, terms_append}
 use Rattle.chr_read.proofs.RulesBack.{each_so, tested, none_pass, any_pass, same_each, present_map, present_body, placed, Good, writable, within, inside, bounds, numbered_split, good_term, GoodAtom, atom_within, atom_inside, atom_declared, atom_writable, atom_form, body_atom_back, heads_back, GoodComparison, comparison_back}
 use Rattle.chr_read.specs.RoundTrips.{ProgramsComeBack}
@@ -89,27 +94,27 @@ head_atoms ds n (p ∷ ps) r h g =
     (record { placed = placed ds p r e.0; args = front (Good n) p.args.items (terms_of ps) g }, head_atoms ds n ps r e.1 (back (Good n) p.args.items (terms_of ps) g))
 
 -- the body
-body_terms : (n : ℕ) (hs : List Pattern) → AllByRecursion (Good n) (terms_of hs) → (ts : List base.Term) → list_all (is_known hs) ts ≡ true → list_all is_valued ts ≡ true → AllByRecursion (Good n) ts
+body_terms : (n : ℕ) (hs : List Pattern) → AllByRecursion (Good n) (terms_of hs) → (ts : List base.Term) → list_all (is_bound_in hs) ts ≡ true → list_all is_valued ts ≡ true → AllByRecursion (Good n) ts
 body_terms n hs g [] k v = tt
 body_terms n hs g (t ∷ ts) k v =
-    let a = and_parts (is_known hs t) (list_all (is_known hs) ts) k in let b = and_parts (is_valued t) (list_all is_valued ts) v in (good_term n hs g t a.0 b.0, body_terms n hs g ts a.1 b.1)
+    let a = and_parts (is_bound_in hs t) (list_all (is_bound_in hs) ts) k in let b = and_parts (is_valued t) (list_all is_valued ts) v in (good_term n hs g t a.0 b.0, body_terms n hs g ts a.1 b.1)
 
 body_atoms : (ds : List Declaration) (n : ℕ) (hs ps : List Pattern) → list_all is_in_range ds ≡ true → AllByRecursion (Good n) (terms_of hs) → list_all (is_declared ds) ps ≡ true
-    → list_all (λ p. list_all (is_known hs) p.args.items) ps ≡ true → are_valued ps ≡ true → AllByRecursion (GoodAtom ds n) ps
+    → list_all (λ p. list_all (is_bound_in hs) p.args.items) ps ≡ true → are_valued ps ≡ true → AllByRecursion (GoodAtom ds n) ps
 body_atoms ds n hs [] r g h k v = tt
 body_atoms ds n hs (p ∷ ps) r g h k v =
     let e = and_parts (is_declared ds p) (list_all (is_declared ds) ps) h in
-    let a = and_parts (list_all (is_known hs) p.args.items) (list_all (λ p. list_all (is_known hs) p.args.items) ps) k in
+    let a = and_parts (list_all (is_bound_in hs) p.args.items) (list_all (λ p. list_all (is_bound_in hs) p.args.items) ps) k in
     let b = and_parts (list_all is_valued p.args.items) (are_valued ps) v in
     (record { placed = placed ds p r e.0; args = body_terms n hs g p.args.items a.0 b.0 }, body_atoms ds n hs ps r g e.1 a.1 b.1)
 
 guard_terms : (n : ℕ) (hs : List Pattern) → AllByRecursion (Good n) (terms_of hs) → (cs : List base_comparison.Comparison)
-    → list_all (λ c. is_known hs c.left && is_known hs c.right) cs ≡ true → list_all (λ c. is_valued c.left && is_valued c.right) cs ≡ true → AllByRecursion (GoodComparison n) cs
+    → list_all (λ c. is_bound_in hs c.left && is_bound_in hs c.right) cs ≡ true → list_all (λ c. is_valued c.left && is_valued c.right) cs ≡ true → AllByRecursion (GoodComparison n) cs
 guard_terms n hs g [] k v = tt
 guard_terms n hs g (c ∷ cs) k v =
-    let a = and_parts (is_known hs c.left && is_known hs c.right) (list_all (λ c. is_known hs c.left && is_known hs c.right) cs) k in
+    let a = and_parts (is_bound_in hs c.left && is_bound_in hs c.right) (list_all (λ c. is_bound_in hs c.left && is_bound_in hs c.right) cs) k in
     let b = and_parts (is_valued c.left && is_valued c.right) (list_all (λ c. is_valued c.left && is_valued c.right) cs) v in
-    let x = and_parts (is_known hs c.left) (is_known hs c.right) a.0 in let y = and_parts (is_valued c.left) (is_valued c.right) b.0 in
+    let x = and_parts (is_bound_in hs c.left) (is_bound_in hs c.right) a.0 in let y = and_parts (is_valued c.left) (is_valued c.right) b.0 in
     (record { left = good_term n hs g c.left x.0 y.0; right = good_term n hs g c.right x.1 y.1 }, guard_terms n hs g cs a.1 b.1)
 
 good_rule : (ds : List Declaration) (r : base_rule.Rule) → list_all is_in_range ds ≡ true → fits ds r ≡ true → GoodRule ds r
@@ -119,7 +124,7 @@ good_rule ds r range fit =
     let g = and_parts (list_all (is_declared ds) r.kept.items) (list_all (is_declared ds) r.removed.items) f.0 in
     let v = and_parts (are_valued hs && list_all (λ c. is_valued c.left && is_valued c.right) r.guard.items) (are_valued r.body.items) (valued_rule r) in
     let w = and_parts (are_valued hs) (list_all (λ c. is_valued c.left && is_valued c.right) r.guard.items) v.0 in
-    let k = and_parts (list_all (λ c. is_known hs c.left && is_known hs c.right) r.guard.items) (list_all (λ p. list_all (is_known hs) p.args.items) r.body.items) (closed_rule r) in
+    let k = and_parts (list_all (λ c. is_bound_in hs c.left && is_bound_in hs c.right) r.guard.items) (list_all (λ p. list_all (is_bound_in hs) p.args.items) r.body.items) (closed_rule r) in
     let s = some_of (numbered 0 (terms_of hs)) (numbered_rule r) in
     let b = bounds 0 s.0 (terms_of hs) s.1 (valued_terms hs w.0) in
     let good = b.good in
@@ -143,16 +148,16 @@ either_any : (a b : Bool) → (a || b) ≡ true → (c d : Bool) → (a ≡ true
 either_any true b h c d f g = or_left c d (f refl)
 either_any false b h c d f g = or_right c d (g h)
 
-term_stands : (x : ℕ) (t : base.Term) → rules.is_variable x t ≡ true → faults.is_variable (variable_name x) (written_term t) ≡ true
+term_stands : (x : ℕ) (t : base.Term) → rules.is_variable x t ≡ true → faults.is_named (variable_name x) (written_term t) ≡ true
 term_stands x (Variable y) h = subst (λ z. bytes_eq (variable_name x) (variable_name z) ≡ true) (eqb-true x y h) (itself (variable_name x))
 term_stands x (Constant c) h = h
 
 stands : (ds : List Declaration) (x : ℕ) (ps : List Pattern) → occurs x ps ≡ true → stands_in (variable_name x) (map (written_atom ds) ps) ≡ true
 stands ds x ps h =
-    any_pass (λ p. list_any (rules.is_variable x) p.args.items) (λ a. list_any (faults.is_variable (variable_name x)) a.args) (written_atom ds)
-    (λ p g. any_pass (rules.is_variable x) (faults.is_variable (variable_name x)) written_term (term_stands x) p.args.items g) ps h
+    any_pass (λ p. list_any (rules.is_variable x) p.args.items) (λ a. list_any (faults.is_named (variable_name x)) a.args) (written_atom ds)
+    (λ p g. any_pass (rules.is_variable x) (faults.is_named (variable_name x)) written_term (term_stands x) p.args.items g) ps h
 
-term_bound : (ds : List Declaration) (r : base_rule.Rule) (t : base.Term) → is_known (heads_of r) t ≡ true → term_unbound (written_rule ds r) (written_term t) ≡ false
+term_bound : (ds : List Declaration) (r : base_rule.Rule) (t : base.Term) → is_bound_in (heads_of r) t ≡ true → term_unbound (written_rule ds r) (written_term t) ≡ false
 term_bound ds r (Variable x) h =
     let w = written_rule ds r in
     ap not (either_any (occurs x r.kept.items) (occurs x r.removed.items) (sym (list_any-append (λ p. list_any (rules.is_variable x) p.args.items) r.kept.items r.removed.items) ∙ h)
@@ -183,7 +188,7 @@ module _ (ds : List Declaration) (r : base_rule.Rule) (u : are_distinct ds ≡ t
       let b = and_parts labelled (nat_le (length r.guard.items) 8) a.0 in
       (b.0, (let b1 = b.1 in grind (arith, nat_tests)), (let a1 = a.1 in grind (arith, nat_tests)))
 
-  few_lists : lists_over w ≡ false
+  few_lists : has_long_lists w ≡ false
   few_lists =
       let z = (and_parts (nat_lt 0 (length r.removed.items)) (nat_le (length r.kept.items + length r.removed.items) 4) (sized_rule r)).1 in
       let k = length-map r.kept.items (written_atom ds) in
@@ -195,33 +200,32 @@ module _ (ds : List Declaration) (r : base_rule.Rule) (u : are_distinct ds ≡ t
 
   label_short : (o : Option (List ℕ)) → names.is_label o ≡ true → label_over o ≡ false
   label_short None h = refl
-  label_short (Some v) h =
-      let e = and_parts (names.is_name v) (nat_le (length v) 32) h in let l : length v ≤ 32 = (let e1 = e.1 in grind (arith, nat_tests)) in ap not (name_is v e.0 l)
+  label_short (Some v) h = name_is_short v (let e1 = (and_parts (names.is_name v) (nat_le (length v) 32) h).1 in grind (arith, nat_tests))
 
   few_parts : parts_over w ≡ false
   few_parts =
       let over = λ (c : base_comparison.Comparison) (h : GoodComparison g.n c). or_from _ _ (within g.n g.few c.left h.left) (within g.n g.few c.right h.right) in
-      or_from (list_any atom_over w.kept) _ (none_pass atom_over (written_atom ds) (GoodAtom ds g.n) (atom_within ds g.n g.few) r.kept.items g.kept)
-      (or_from (list_any atom_over w.removed) _ (none_pass atom_over (written_atom ds) (GoodAtom ds g.n) (atom_within ds g.n g.few) r.removed.items g.removed)
+      or_from (list_any parts_of_atom_over w.kept) _ (none_pass parts_of_atom_over (written_atom ds) (GoodAtom ds g.n) (atom_within ds g.n g.few) r.kept.items g.kept)
+      (or_from (list_any parts_of_atom_over w.removed) _ (none_pass parts_of_atom_over (written_atom ds) (GoodAtom ds g.n) (atom_within ds g.n g.few) r.removed.items g.removed)
       (or_from (list_any comparison_over (present w.guard)) _ (ap (list_any comparison_over) comparisons ∙ none_pass comparison_over written_comparison (GoodComparison g.n) over r.guard.items g.guard)
-      (ap (list_any atom_over) (present_body ds r.body.items) ∙ none_pass atom_over (written_atom ds) (GoodAtom ds g.n) (atom_within ds g.n g.few) r.body.items g.body)))
+      (ap (list_any parts_of_atom_over) (present_body ds r.body.items) ∙ none_pass parts_of_atom_over (written_atom ds) (GoodAtom ds g.n) (atom_within ds g.n g.few) r.body.items g.body)))
 
-  not_over : rule_over w ≡ false
-  not_over = or_from (lists_over w) _ few_lists (or_from (label_over w.label) _ (label_short (option_map (λ n. n.bytes) r.name) limits.0) few_parts)
+  not_over : some_part_over w ≡ false
+  not_over = or_from (has_long_lists w) _ few_lists (or_from (label_over w.label) _ (label_short (option_map (λ n. n.bytes) r.name) limits.0) few_parts)
 
   not_unbound : rule_unbound w ≡ false
   not_unbound =
       let hs = heads_of r in
-      let k = and_parts (list_all (λ c. is_known hs c.left && is_known hs c.right) r.guard.items) (list_all (λ p. list_all (is_known hs) p.args.items) r.body.items) (closed_rule r) in
+      let k = and_parts (list_all (λ c. is_bound_in hs c.left && is_bound_in hs c.right) r.guard.items) (list_all (λ p. list_all (is_bound_in hs) p.args.items) r.body.items) (closed_rule r) in
       or_from (list_any (comparison_unbound w) (present w.guard)) _
       (ap (list_any (comparison_unbound w)) comparisons
-      ∙ none_pass (comparison_unbound w) written_comparison (λ c. (is_known hs c.left && is_known hs c.right) ≡ true)
-      (λ c h. (let e = and_parts (is_known hs c.left) (is_known hs c.right) h in or_from _ _ (term_bound ds r c.left e.0) (term_bound ds r c.right e.1))) r.guard.items
-      (tested (λ c. is_known hs c.left && is_known hs c.right) (λ c. (is_known hs c.left && is_known hs c.right) ≡ true) (λ c h. h) r.guard.items k.0))
+      ∙ none_pass (comparison_unbound w) written_comparison (λ c. (is_bound_in hs c.left && is_bound_in hs c.right) ≡ true)
+      (λ c h. (let e = and_parts (is_bound_in hs c.left) (is_bound_in hs c.right) h in or_from _ _ (term_bound ds r c.left e.0) (term_bound ds r c.right e.1))) r.guard.items
+      (tested (λ c. is_bound_in hs c.left && is_bound_in hs c.right) (λ c. (is_bound_in hs c.left && is_bound_in hs c.right) ≡ true) (λ c h. h) r.guard.items k.0))
       (ap (list_any (atom_unbound w)) (present_body ds r.body.items)
-      ∙ none_pass (atom_unbound w) (written_atom ds) (λ p. list_all (is_known hs) p.args.items ≡ true)
-      (λ p h. none_pass (term_unbound w) written_term (λ t. is_known hs t ≡ true) (term_bound ds r) p.args.items (tested (is_known hs) (λ t. is_known hs t ≡ true) (λ t e. e) p.args.items h)) r.body.items
-      (tested (λ p. list_all (is_known hs) p.args.items) (λ p. list_all (is_known hs) p.args.items ≡ true) (λ p h. h) r.body.items k.1))
+      ∙ none_pass (atom_unbound w) (written_atom ds) (λ p. list_all (is_bound_in hs) p.args.items ≡ true)
+      (λ p h. none_pass (term_unbound w) written_term (λ t. is_bound_in hs t ≡ true) (term_bound ds r) p.args.items (tested (is_bound_in hs) (λ t. is_bound_in hs t ≡ true) (λ t e. e) p.args.items h)) r.body.items
+      (tested (λ p. list_all (is_bound_in hs) p.args.items) (λ p. list_all (is_bound_in hs) p.args.items ≡ true) (λ p h. h) r.body.items k.1))
 
   not_outside : rule_outside w ≡ false
   not_outside =
@@ -234,13 +238,13 @@ module _ (ds : List Declaration) (r : base_rule.Rule) (u : are_distinct ds ≡ t
   rule_faultless : (q : Progress) → q.meaning.declarations ≡ ds → length q.meaning.rules < 64 → fault_in q (rule w) ≡ None
   rule_faultless q is l =
       let room : nat_le 64 (length q.meaning.rules) ≡ false = grind (arith, nat_tests) in
-      pass (rule_undeclared q.meaning.declarations w) _ _ (ap (λ d. rule_undeclared d w) is ∙ undeclared)
-      (pass (nat_le 64 (length q.meaning.rules) || rule_over w) _ _ (or_from (nat_le 64 (length q.meaning.rules)) _ room not_over)
-      (pass (rule_unbound w) _ _ not_unbound (pass (rule_outside w) _ _ not_outside refl)))
+      pass (list_any (is_undeclared q.meaning.declarations) (rule_atoms w)) _ _ (sym (undeclared_is q.meaning.declarations w) ∙ ap (λ d. rule_undeclared d w) is ∙ undeclared)
+      (pass (nat_le 64 (length q.meaning.rules) || rule_over w) _ _ (or_from (nat_le 64 (length q.meaning.rules)) _ room (sym (over_is w) ∙ not_over))
+      (pass (list_any (is_unbound w) (right_terms w)) _ _ (sym (unbound_is w) ∙ not_unbound) (pass (list_any is_outside (terms_in w)) _ _ (sym (outside_is w) ∙ not_outside) refl)))
 
   -- ---- it is resolved to the rule
 
-  rule_back : resolved ds w ≡ rule_data r
+  rule_back : resolved ds w ≡ parts_of r
   rule_back =
       let s = numbered_split 0 g.n (terms_of r.kept.items) (terms_of r.removed.items) (ap (numbered 0) (sym (terms_append r.kept.items r.removed.items)) ∙ g.count) in
       let v = (and_parts (are_valued (heads_of r)) (list_all (λ c. is_valued c.left && is_valued c.right) r.guard.items) (and_parts (are_valued (heads_of r) && list_all (λ c. is_valued c.left && is_valued c.right) r.guard.items) (are_valued r.body.items) (valued_rule r)).0).0 in
@@ -252,8 +256,8 @@ module _ (ds : List Declaration) (r : base_rule.Rule) (u : are_distinct ds ≡ t
       let m = heads_back ds s.0 g.n r.removed.items g.few few u g.removed (valued_terms r.removed.items vs.1) s.2 in
       let removed : heads ds (after_heads [] w.kept) w.removed ≡ r.removed.items = ap (λ ns. heads ds ns w.removed) k.1 ∙ m.0 in
       let all : names_of w ≡ first_names g.n = ap (λ ns. after_heads ns w.removed) k.1 ∙ m.1 in
-      let guard : map (comparison_in (names_of w)) (present w.guard) ≡ r.guard.items
-      = (λ i. map (comparison_in (all i)) (comparisons i)) ∙ same_each (comparison_in (first_names g.n)) written_comparison (GoodComparison g.n) (comparison_back g.n g.few) r.guard.items g.guard in
+      let guard : map (resolved_comparison (names_of w)) (present w.guard) ≡ r.guard.items
+      = (λ i. map (resolved_comparison (all i)) (comparisons i)) ∙ same_each (resolved_comparison (first_names g.n)) written_comparison (GoodComparison g.n) (comparison_back g.n g.few) r.guard.items g.guard in
       let body : map (body_atom ds (names_of w)) (present w.body) ≡ r.body.items
       = (λ i. map (body_atom ds (all i)) (present_body ds r.body.items i)) ∙ same_each (body_atom ds (first_names g.n)) (written_atom ds) (GoodAtom ds g.n) (body_atom_back ds g.n g.few u) r.body.items g.body in
       λ i. record { name = option_map (λ n. n.bytes) r.name; kept = k.0 i; removed = removed i; guard = guard i; body = body i }
@@ -288,11 +292,11 @@ module _ (ds : List Declaration) (r : base_rule.Rule) (u : are_distinct ds ≡ t
       mapped f P Q h [] a = tt
       mapped f P Q h (x ∷ xs) a = (h x a.0, mapped f P Q h xs a.1)
 
-      some_mapped : (ps : List Pattern) → 0 < length ps → AllByRecursion (GoodAtom ds g.n) ps → IsSome IsAtom (map (written_atom ds) ps)
+      some_mapped : (ps : List Pattern) → 0 < length ps → AllByRecursion (GoodAtom ds g.n) ps → OneOrMore IsAtom (map (written_atom ds) ps)
       some_mapped [] l h = absurd (omega arith)
       some_mapped (p ∷ ps) l h = mapped (written_atom ds) (GoodAtom ds g.n) IsAtom (atom_form ds g.n) (p ∷ ps) h
 
-      body_form : (ps : List Pattern) → AllByRecursion (GoodAtom ds g.n) ps → IsSome IsItem (written_body ds ps)
+      body_form : (ps : List Pattern) → AllByRecursion (GoodAtom ds g.n) ps → OneOrMore IsItem (written_body ds ps)
       body_form [] h = (tt, tt)
       body_form (p ∷ ps) h = mapped (λ a. Some (written_atom ds a)) (GoodAtom ds g.n) IsItem (atom_form ds g.n) (p ∷ ps) h
 
@@ -318,28 +322,28 @@ rules_clauses ds (r ∷ rs) range u h =
     let e = and_parts (fits ds r) (list_all (fits ds) rs) h in let g = good_rule ds r range e.0 in
     (rule_tokens ds r (rule_writable ds r u g), rule_form ds r u g, rules_clauses ds rs range u e.1)
 
-abbrev Ruled : List Declaration → List RuleData → List ℕ → List base_rule.Rule → Type 0
-Ruled ds made ws rs = AreFaultless (state ds made ws) (rule_forms ds rs) × (after (state ds made ws) (rule_forms ds rs) ≡ state ds (made ++ map rule_data rs) ws)
+abbrev Ruled : List Declaration → List Parts → List ℕ → List base_rule.Rule → Type 0
+Ruled ds made ws rs = AreFaultless (state ds made ws) (rule_forms ds rs) × (after (state ds made ws) (rule_forms ds rs) ≡ state ds (made ++ map parts_of rs) ws)
 
-rules_back : (ds : List Declaration) (made : List RuleData) (ws : List ℕ) (rs : List base_rule.Rule) → list_all is_in_range ds ≡ true → are_distinct ds ≡ true → list_all (fits ds) rs ≡ true → length made + length rs ≤ 64 → Ruled ds made ws rs
+rules_back : (ds : List Declaration) (made : List Parts) (ws : List ℕ) (rs : List base_rule.Rule) → list_all is_in_range ds ≡ true → are_distinct ds ≡ true → list_all (fits ds) rs ≡ true → length made + length rs ≤ 64 → Ruled ds made ws rs
 rules_back ds made ws [] range u h l = (tt, ap (λ x. state ds x ws) (sym (append-nil made)))
 rules_back ds made ws (r ∷ rs) range u h l =
     let e = and_parts (fits ds r) (list_all (fits ds) rs) h in
     let g = good_rule ds r range e.0 in
-    let a = length-append made (rule_data r ∷ []) in
-    let more = rules_back ds (made ++ rule_data r ∷ []) ws rs range u e.1 (omega (arith, a, l)) in
-    let step : state ds (made ++ rule_data r ∷ []) ws ≡ with_form (state ds made ws) (rule (written_rule ds r)) = ap (λ x. state ds (made ++ x ∷ []) ws) (sym (rule_back ds r u g)) in
+    let a = length-append made (parts_of r ∷ []) in
+    let more = rules_back ds (made ++ parts_of r ∷ []) ws rs range u e.1 (omega (arith, a, l)) in
+    let step : state ds (made ++ parts_of r ∷ []) ws ≡ with_form (state ds made ws) (rule (written_rule ds r)) = ap (λ x. state ds (made ++ x ∷ []) ws) (sym (rule_back ds r u g)) in
     let faultless = rule_faultless ds r u g (state ds made ws) refl (omega (arith, l)) in (
       (faultless, subst (λ q. AreFaultless q (rule_forms ds rs)) step more.0),
-      ap (λ q. after q (rule_forms ds rs)) (sym step) ∙ more.1 ∙ ap (λ x. state ds x ws) (append_assoc made (rule_data r ∷ []) (map rule_data rs)),
+      ap (λ q. after q (rule_forms ds rs)) (sym step) ∙ more.1 ∙ ap (λ x. state ds x ws) (append_assoc made (parts_of r ∷ []) (map parts_of rs)),
     )
 
 -- ---- all declarations
 
-digits_are_positive : (w : List ℕ) → list_all is_digit w ≡ true → is_negative w ≡ false
+digits_are_positive : (w : List ℕ) → list_all is_digit w ≡ true → starts_with_minus w ≡ false
 digits_are_positive [] h = refl
 digits_are_positive (b ∷ bs) h =
-    let d = (and_parts (is_digit b) (list_all is_digit bs) h).0 in let n : nat_eq 45 b ≡ false = grind (arith, nat_tests) in ap (λ t. t && true) n
+    let d = (and_parts (is_digit b) (list_all is_digit bs) h).0 in let n : (b == 45) ≡ false = grind (arith, nat_tests) in n
 
 symbol_form : (d : Declaration) → InRange d → IsSymbol (written_symbol d)
 symbol_form d r = let a = r.arity in (name_is_unreserved d.name r.name, digits_are_positive (decimal d.arity) (decimal_digits d.arity (omega (arith, a))))
@@ -388,7 +392,7 @@ comes_back p short =
     let faultless = faultless_append nothing (declaration_forms ds) later first.0
     (subst (λ q. AreFaultless q later) (sym first.1)
     (faultless_append (state (map plain ds) [] []) (weight_forms ds) (rule_forms ds rs) second.0 (subst (λ q. AreFaultless q (rule_forms ds rs)) (sym second.2) third.0))) in
-    let end : after nothing forms ≡ state ds (map rule_data rs) second.1
+    let end : after nothing forms ≡ state ds (map parts_of rs) second.1
     = after_append nothing (declaration_forms ds) later ∙ ap (λ q. after q later) first.1 ∙ after_append (state (map plain ds) [] []) (weight_forms ds) (rule_forms ds rs) ∙ ap (λ q. after q (rule_forms ds rs)) second.2 ∙ third.1 in
     short_read (canonical ds rs) short ∙ ap (λ t. meaning_in (pieces_read 1 nothing (pieces t))) (no_comments (clauses ds rs) forms are)
     ∙ ap meaning_in (ended_read false 1 nothing (clauses ds rs) forms are faultless) ∙ ap (λ q. Ok q.meaning) end

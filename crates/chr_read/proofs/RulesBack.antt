@@ -17,16 +17,17 @@ use Rattle.chr_base.specs.declared.term.Pattern.{Pattern}
 use Rattle.chr_base.specs.Names as names
 use Rattle.chr_base.specs.Values.{is_value}
 use Rattle.chr_base.specs.RuleTests as rules
-use Rattle.chr_base.specs.RuleTests.{occurs, is_known, is_closed, terms_of, numbered, is_valued, are_valued}
+use Rattle.chr_base.specs.RuleTests.{occurs, is_bound_in, is_closed, terms_of, numbered, is_valued, are_valued}
 use Rattle.chr_base.specs.ProgramTests.{Declaration, declares, takes, is_declared, are_distinct, is_in_range}
-use Rattle.chr_syntax.specs.Grammar.{IsAtom}
-use Rattle.chr_syntax.specs.Tokens.{is_lower}
+use Rattle.chr_syntax.specs.working.Spellings.{IsAtom}
+use Rattle.chr_base.specs.Names.{is_lower}
 use Rattle.chr_syntax.specs.Lexemes.{IsWord}
 use Rattle.chr_read.specs.CanonicalTexts.{name_at}
-use Rattle.chr_read.specs.Faults.{present, is_name, place_of, place_of_atom, is_undeclared, term_over, atom_over, term_outside, atom_outside}
-use Rattle.chr_read.specs.Resolving.{term_in, heads, after_heads, body_atom, cmp_of, comparison_in}
+use Rattle.chr_read.specs.Faults.{present, is_long, atom_over, is_undeclared, is_long_variable, is_outside}
+use Rattle.chr_read.specs.working.RuleParts.{place_of, place_of_atom, parts_of_atom_over, atom_outside}
+use Rattle.chr_read.specs.Resolving.{resolved_term, heads, after_heads, body_atom, cmp_of, resolved_comparison}
 use Rattle.chr_read.proofs.Decimals.{number_back}
-use Rattle.chr_read.proofs.DeclarationsBack.{InRange, in_range, name_is_word, name_is_unreserved, name_is, turned, declares_itself}
+use Rattle.chr_read.proofs.DeclarationsBack.{InRange, in_range, name_is_word, name_is_unreserved, name_is_short, turned, declares_itself}
 use Rattle.chr_read.proofs.NumberedNames.{first_names, variable_back, terms_back}
 use Rattle.chr_read.proofs.Numbering.{occurs_terms}
 use Rattle.chr_read.proofs.Positions.{place, position_is}
@@ -107,8 +108,7 @@ atom_place : (ds : List Declaration) (p : Pattern) → are_distinct ds ≡ true 
 atom_place ds p u q =
     let name = name_here ds p q in
     let count = length-map p.args.items written_term ∙ q.takes in
-    (λ i. place_of ds (name i) (count i)) ∙ ap (λ b. cond b (position (declares q.d.name q.d.arity) ds) None) (name_is q.d.name q.range.name q.range.short)
-    ∙ position_is (declares q.d.name q.d.arity) ds ∙ place_at ds p.symbol.0 q.d u q.there
+    (λ i. place_of ds (name i) (count i)) ∙ position_is (declares q.d.name q.d.arity) ds ∙ place_at ds p.symbol.0 q.d u q.there
 
 -- ---- terms
 
@@ -121,18 +121,18 @@ pub writable : (n : ℕ) → n ≤ 16 → (t : base.Term) → Good n t → IsWri
 writable n l (Variable x) h = omega (arith, l, h)
 writable n l (Constant c) h = h
 
-pub within : (n : ℕ) → n ≤ 16 → (t : base.Term) → Good n t → term_over (written_term t) ≡ false
+pub within : (n : ℕ) → n ≤ 16 → (t : base.Term) → Good n t → is_long_variable (written_term t) ≡ false
 within n l (Variable x) h = let a = length-decimal-le_succ x (omega (arith, l, h)) in short (decimal x) (omega (arith, a, l, h))
   where
     short : (w : List ℕ) → length w ≤ 17 → nat_lt 32 (length (codes "V" ++ w)) ≡ false
     short w h = grind (arith, nat_tests)
 within n l (Constant c) h = refl
 
-pub inside : (n : ℕ) (t : base.Term) → Good n t → term_outside (written_term t) ≡ false
+pub inside : (n : ℕ) (t : base.Term) → Good n t → is_outside (written_term t) ≡ false
 inside n (Variable x) h = refl
 inside n (Constant c) h = ap is_none (number_back c h)
 
-term_back : (n : ℕ) → n ≤ 16 → (t : base.Term) → Good n t → term_in (first_names n) (written_term t) ≡ t
+term_back : (n : ℕ) → n ≤ 16 → (t : base.Term) → Good n t → resolved_term (first_names n) (written_term t) ≡ t
 term_back n l (Variable zero) h = absurd (omega (arith, h))
 term_back n l (Variable (suc x)) h = ap Variable (variable_back x n (omega (arith, h)) (omega (arith, l)))
 term_back n l (Constant c) h = ap (λ o. Constant (unwrap_or o (pos 0))) (number_back c h)
@@ -186,7 +186,7 @@ occurring n x (t ∷ ts) h g = by t h.0 g (occurring n x ts h.1)
     by (Variable y) k g more = at y (nat_eq x y) refl k g more
     by (Constant c) k g more = more g
 
-pub good_term : (n : ℕ) (ps : List Pattern) → AllByRecursion (Good n) (terms_of ps) → (t : base.Term) → is_known ps t ≡ true → is_valued t ≡ true → Good n t
+pub good_term : (n : ℕ) (ps : List Pattern) → AllByRecursion (Good n) (terms_of ps) → (t : base.Term) → is_bound_in ps t ≡ true → is_valued t ≡ true → Good n t
 good_term n ps h (Variable x) k v = occurring n x (terms_of ps) h (occurs_terms x ps ∙ k)
 good_term n ps h (Constant c) k v = v
 
@@ -196,15 +196,16 @@ pub record GoodAtom (ds : List Declaration) (n : ℕ) (p : Pattern) : Type 0 whe
   pub placed : Placed ds p
   pub args : AllByRecursion (Good n) p.args.items
 
-pub atom_within : (ds : List Declaration) (n : ℕ) → n ≤ 16 → (p : Pattern) → GoodAtom ds n p → atom_over (written_atom ds p) ≡ false
+pub atom_within : (ds : List Declaration) (n : ℕ) → n ≤ 16 → (p : Pattern) → GoodAtom ds n p → parts_of_atom_over (written_atom ds p) ≡ false
 atom_within ds n l p h =
     let q = h.placed in
     let few : nat_lt 4 (length (map written_term p.args.items)) ≡ false = (let a = length-map p.args.items written_term in let b = q.takes in let c = q.range.arity in grind (arith, nat_tests)) in
-    or_from (not (is_name (name_at ds p.symbol.0))) _ (ap (λ w. not (is_name w)) (name_here ds p q) ∙ ap not (name_is q.d.name q.range.name q.range.short))
-    (or_from (nat_lt 4 (length (map written_term p.args.items))) _ few (none_pass term_over written_term (Good n) (within n l) p.args.items h.args))
+    let short = ap is_long (name_here ds p q) ∙ name_is_short q.d.name q.range.short in
+    or_from (atom_over (written_atom ds p)) _ (or_from (is_long (name_at ds p.symbol.0)) _ short few)
+    (none_pass is_long_variable written_term (Good n) (within n l) p.args.items h.args)
 
 pub atom_inside : (ds : List Declaration) (n : ℕ) (p : Pattern) → GoodAtom ds n p → atom_outside (written_atom ds p) ≡ false
-atom_inside ds n p h = none_pass term_outside written_term (Good n) (inside n) p.args.items h.args
+atom_inside ds n p h = none_pass is_outside written_term (Good n) (inside n) p.args.items h.args
 
 pub atom_declared : (ds : List Declaration) (n : ℕ) → are_distinct ds ≡ true → (p : Pattern) → GoodAtom ds n p → is_undeclared ds (written_atom ds p) ≡ false
 atom_declared ds n u p h = ap is_none (atom_place ds p u h.placed)
@@ -221,7 +222,7 @@ atom_form ds n p h = subst (λ w. names.is_reserved w ≡ false) (sym (name_here
 pub body_atom_back : (ds : List Declaration) (n : ℕ) → n ≤ 16 → are_distinct ds ≡ true → (p : Pattern) → GoodAtom ds n p → body_atom ds (first_names n) (written_atom ds p) ≡ p
 body_atom_back ds n l u p h =
     let symbol = ap (λ o. unwrap_or o 0) (atom_place ds p u h.placed) in
-    let args = same_each (term_in (first_names n)) written_term (Good n) (term_back n l) p.args.items h.args in
+    let args = same_each (resolved_term (first_names n)) written_term (Good n) (term_back n l) p.args.items h.args in
     λ i. record { symbol = record { 0 = symbol i }; args = record { items = args i } }
 
 pub heads_back : (ds : List Declaration) (m n : ℕ) (ps : List Pattern) → n ≤ 16 → m ≤ 16 → are_distinct ds ≡ true → AllByRecursion (GoodAtom ds n) ps → list_all is_valued (terms_of ps) ≡ true → numbered m (terms_of ps) ≡ Some n
@@ -256,5 +257,5 @@ cmp_back cmp.AtLeast = refl
 cmp_back cmp.Equal = refl
 cmp_back cmp.NotEqual = refl
 
-pub comparison_back : (n : ℕ) → n ≤ 16 → (c : base_comparison.Comparison) → GoodComparison n c → comparison_in (first_names n) (written_comparison c) ≡ c
+pub comparison_back : (n : ℕ) → n ≤ 16 → (c : base_comparison.Comparison) → GoodComparison n c → resolved_comparison (first_names n) (written_comparison c) ≡ c
 comparison_back n l c h = let a = term_back n l c.left h.left in let b = term_back n l c.right h.right in let o = cmp_back c.cmp in λ i. record { left = a i; cmp = o i; right = b i }

@@ -6,7 +6,7 @@ use Rattle.std.specs.List.{list_any}
 use Rattle.std.specs.Str.{bytes_eq}
 use Rattle.chr_syntax.specs.Clauses.{Symbol}
 use Rattle.chr_read.specs.Numbers.{without_zeros}
-use Rattle.chr_read.specs.Faults.{comes_again}
+use Rattle.chr_read.specs.working.RuleParts.{comes_again}
 
 abbrev pub Key : Type 0
 Key = Bor (List ℕ) × Bor (List ℕ)

@@ -9,10 +9,11 @@ use Rattle.chr_read.specs.declared.fault.Fault.{Fault}
 use Rattle.chr_read.specs.declared.fault.ReadFault.{ReadFault}
 use Rattle.chr_read.specs.declared.fault.ReadFault.TheVariants.{TooLong, Bad, Memory}
 use Rattle.chr_read.specs.Meanings.{Meaning, Progress, nothing, meaning_of}
-use Rattle.chr_read.specs.Reading.{with_form, clause_read, rest_read, in_clause, pieces_read, meaning_in, text_read, ◌>>=◌}
-use Rattle.chr_read.specs.ProgramTexts.{HasFault, HasRestFault, Makes, IsShort, IsProgramText, IsLeastAt, IsRefusedText, ProgramsAreRead, IsAnswer, BadTextsAreRefused, LongTextsAreRefused}
-use Rattle.chr_read.specs.Outcomes.{IsReadAs}
-use Rattle.chr_read.proofs.ClauseByClause.{some_piece}
+use Rattle.chr_read.specs.Reading.{with_form}
+use Rattle.chr_read.specs.working.TextsRead.{clause_read, rest_read, in_clause, pieces_read, meaning_in, text_read, ◌>>=◌, ProgramsAreRead, BadTextsAreRefused, LongTextsAreRefused}
+use Rattle.chr_read.specs.ProgramTexts.{HasFault, HasRestFault, Makes, IsShort, IsProgramText, IsLeastAt, IsRefusedText, IsAnswer}
+use Rattle.chr_read.specs.working.Outcomes.{IsReadAs}
+use Rattle.chr_syntax.proofs.Texts.{some_piece}
 use Rattle.chr_read.proofs.LeastFaults.{ClauseMeans, clause_means, RestMeans, rest_means, good, bad, good_rest, bad_rest}
 
 abbrev pub Pieces : Type 0
@@ -142,8 +143,8 @@ long text = (
 
 -- ---- answers
 
-pub answers : (text : List ℕ) (r : Result Program ReadFault) → IsReadAs r (text_read text) → IsAnswer text r
-answers text (Ok p) h = (programs text (meaning_of p)).0 h
-answers text (Err TooLong) h = (long text).0 h
-answers text (Err Memory) h = tt
-answers text (Err (Bad n k)) h = (refused text n k).0 h
+pub answers : (text : List ℕ) (r : Result Program ReadFault) → IsReadAs r (text_read text) → (r ≡ Err Memory → IsShort text) → IsAnswer text r
+answers text (Ok p) h short = (programs text (meaning_of p)).0 h
+answers text (Err TooLong) h short = (long text).0 h
+answers text (Err Memory) h short = short refl
+answers text (Err (Bad n k)) h short = (refused text n k).0 h

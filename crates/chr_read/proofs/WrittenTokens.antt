@@ -15,14 +15,17 @@ use Rattle.chr_base.specs.Values.{is_value}
 use Rattle.chr_base.specs.ProgramTests.{Declaration}
 use Rattle.chr_syntax.specs.declared.token.Sign.{Sign}
 use Rattle.chr_syntax.specs.declared.token.Sign.TheVariants as s
-use Rattle.chr_syntax.specs.Tokens.{Tok, name, variable, number, compare, sign, is_digit, is_lower, is_upper, is_word_byte, tokens_of, tokens_after}
+use Rattle.chr_syntax.specs.Tokens.{Tok, name, variable, number, compare, sign}
+use Rattle.chr_base.specs.Names.{is_digit, is_lower, is_upper, is_word_byte}
+use Rattle.chr_syntax.specs.working.Tokens.{tokens_of, tokens_after}
 use Rattle.chr_syntax.specs.Clauses.{Atom, Comparison, declare, weight, rule}
 use Rattle.chr_syntax.specs.Grammar as grammar
-use Rattle.chr_syntax.specs.Grammar.{in_parentheses, term_token, spelled_list, spelled_term, spelled_args, spelled_atom, spelled_atoms, spelled_comparison, spelled_item, spelled_heads, spelled_body, spelled_right, spelled_label, spelled_symbol, spelled}
+use Rattle.chr_syntax.specs.Grammar.{in_parentheses, term_token, spelled_list, spelled_args, spelled_atom, spelled_comparison, spelled_item, spelled_heads, spelled_right, spelled_label, spelled_symbol, spelled}
+use Rattle.chr_syntax.specs.working.Spellings.{spelled_atoms, spelled_term, spelled_body}
 use Rattle.chr_syntax.specs.Lexemes.{AllAre, IsWord, IsLexeme}
 use Rattle.chr_syntax.specs.Printing.{EndsBefore}
 use Rattle.chr_syntax.proofs.Printing.{written_read, layout_goes}
-use Rattle.chr_read.specs.CanonicalTexts.{more, joined, term_text, args_text, name_at, pattern_text, patterns_text, cmp_text, comparison_text, label_text, kept_text, guard_text, body_text, rule_clause, symbol_text, weight_clause}
+use Rattle.chr_read.specs.CanonicalTexts.{more, separated, term_text, args_text, name_at, pattern_text, patterns_text, cmp_text, comparison_text, label_text, kept_text, guard_text, body_text, rule_clause, symbol_text, weight_clause}
 use Rattle.chr_read.proofs.PlainBytes.{from_test}
 use Rattle.chr_read.proofs.Decimals.{decimal_digits, decimal_number, signed_number}
 use Rattle.chr_read.proofs.WrittenForms.{written_term, written_atom, comparator_of, written_comparison, written_body, written_rule, written_symbol}
@@ -93,7 +96,7 @@ module _ {A : Type 0} (separator : List ℕ) (comma : (rest : List ℕ) → toke
   more_tokens [] = []
   more_tokens (x ∷ xs) = sign s.Comma ∷ (g x ++ more_tokens xs)
 
-  spelled_more : (x : A) (xs : List A) → grammar.joined (map g (x ∷ xs)) ≡ g x ++ more_tokens xs
+  spelled_more : (x : A) (xs : List A) → grammar.with_commas (map g (x ∷ xs)) ≡ g x ++ more_tokens xs
   unfolding more_tokens
   spelled_more x [] = sym (append-nil (g x))
   spelled_more x (y ∷ ys) = ap (λ l. g x ++ (sign s.Comma ∷ l)) (spelled_more y ys)
@@ -109,7 +112,7 @@ module _ {A : Type 0} (separator : List ℕ) (comma : (rest : List ℕ) → toke
       two separator (f x ++ more separator f xs) rest (sign s.Comma ∷ []) (g x ++ more_tokens xs) (comma ((f x ++ more separator f xs) ++ rest))
       (two (f x) (more separator f xs) rest (g x) (more_tokens xs) (reads x h.0 (more separator f xs ++ rest) (more_parted xs rest p)) (more_reads xs h.1 rest p))
 
-  pub list_reads : (x : A) (xs : List A) → AllByRecursion Good (x ∷ xs) → Reads (joined separator f (x ∷ xs)) (grammar.joined (map g (x ∷ xs)))
+  pub list_reads : (x : A) (xs : List A) → AllByRecursion Good (x ∷ xs) → Reads (separated separator f (x ∷ xs)) (grammar.with_commas (map g (x ∷ xs)))
   list_reads x xs h rest p =
       two (f x) (more separator f xs) rest (g x) (more_tokens xs) (reads x h.0 (more separator f xs ++ rest) (more_parted xs rest p)) (more_reads xs h.1 rest p)
       ∙ ap (λ ts. onto ts (tokens_of rest)) (sym (spelled_more x xs))
@@ -132,12 +135,12 @@ args_reads : (ts : List base.Term) → AllByRecursion IsWritable ts → Reads (a
 args_reads [] h rest p = onto_none (tokens_of rest)
 args_reads (t ∷ ts) h rest p =
     let inner = spelled_list spelled_term (map written_term (t ∷ ts)) in
-    let list = joined (codes ",") term_text (t ∷ ts) in
+    let list = separated (codes ",") term_text (t ∷ ts) in
     let same = map_twice spelled_term written_term (t ∷ ts) in
     two (codes "(") (list ++ codes ")") rest (sign s.Open ∷ []) (inner ++ sign s.Close ∷ []) (one (sign s.Open) (codes "(") ((list ++ codes ")") ++ rest) refl tt)
     (two list (codes ")") rest inner (sign s.Close ∷ [])
     (list_reads (codes ",") comma_reads comma_parts term_text (λ t. term_token (written_term t) ∷ []) IsWritable term_reads t ts h (codes ")" ++ rest) record { word = refl; digit = refl }
-    ∙ ap (λ l. onto (grammar.joined l) (tokens_of (codes ")" ++ rest))) (sym same))
+    ∙ ap (λ l. onto (grammar.with_commas l) (tokens_of (codes ")" ++ rest))) (sym same))
     (one (sign s.Close) (codes ")") rest refl tt))
 
 args_parted : (ts : List base.Term) (rest : List ℕ) → IsParted rest → IsParted (args_text ts ++ rest)
@@ -157,7 +160,7 @@ atom_reads ds a h rest p =
 atoms_reads : (ds : List Declaration) (a : Pattern) (as' : List Pattern) → AllByRecursion (IsWritableAtom ds) (a ∷ as') → Reads (patterns_text ds (a ∷ as')) (spelled_atoms (map (written_atom ds) (a ∷ as')))
 atoms_reads ds a as' h rest p =
     list_reads (codes ", ") comma_space_reads comma_space_parts (pattern_text ds) (λ a. spelled_atom (written_atom ds a)) (IsWritableAtom ds) (atom_reads ds) a as' h rest p
-    ∙ ap (λ l. onto (grammar.joined l) (tokens_of rest)) (sym (map_twice spelled_atom (written_atom ds) (a ∷ as')))
+    ∙ ap (λ l. onto (grammar.with_commas l) (tokens_of rest)) (sym (map_twice spelled_atom (written_atom ds) (a ∷ as')))
 
 -- ---- comparisons
 
@@ -217,11 +220,11 @@ guard_reads : (cs : List base_comparison.Comparison) → AllByRecursion IsWritab
 unfolding guard_tokens
 guard_reads [] h rest = onto_none (tokens_of rest)
 guard_reads (c ∷ cs) h rest =
-    let list = joined (codes ", ") comparison_text (c ∷ cs) in
+    let list = separated (codes ", ") comparison_text (c ∷ cs) in
     let items = map (λ c. Some (written_comparison c)) (c ∷ cs) in
     two list (codes " | ") rest (spelled_list (spelled_item spelled_comparison) items) (sign s.Bar ∷ [])
     (list_reads (codes ", ") comma_space_reads comma_space_parts comparison_text (λ c. spelled_comparison (written_comparison c)) IsWritableComparison comparison_reads c cs h (codes " | " ++ rest) record { word = refl; digit = refl }
-    ∙ ap (λ l. onto (grammar.joined l) (tokens_of (codes " | " ++ rest))) (sym (map_twice (spelled_item spelled_comparison) (λ c. Some (written_comparison c)) (c ∷ cs))))
+    ∙ ap (λ l. onto (grammar.with_commas l) (tokens_of (codes " | " ++ rest))) (sym (map_twice (spelled_item spelled_comparison) (λ c. Some (written_comparison c)) (c ∷ cs))))
     (spaced_sign s.Bar (codes "|") rest refl tt)
 
 right_is : (guard : List (Option Comparison)) (body : List (Option Atom)) → guard_tokens guard ++ spelled_body body ≡ spelled_right guard body
@@ -233,7 +236,7 @@ body_reads : (ds : List Declaration) (ps : List Pattern) → AllByRecursion (IsW
 body_reads ds [] h rest p = one (name (codes "true")) (codes "true") rest (refl, (refl, (refl, (refl, (refl, tt))))) p.word
 body_reads ds (a ∷ as') h rest p =
     list_reads (codes ", ") comma_space_reads comma_space_parts (pattern_text ds) (λ a. spelled_atom (written_atom ds a)) (IsWritableAtom ds) (atom_reads ds) a as' h rest p
-    ∙ ap (λ l. onto (grammar.joined l) (tokens_of rest)) (sym (map_twice (spelled_item spelled_atom) (λ a. Some (written_atom ds a)) (a ∷ as')))
+    ∙ ap (λ l. onto (grammar.with_commas l) (tokens_of rest)) (sym (map_twice (spelled_item spelled_atom) (λ a. Some (written_atom ds a)) (a ∷ as')))
 
 pub record IsWritableRule (ds : List Declaration) (r : base_rule.Rule) : Type 0 where
   pub label : (w : List ℕ) → option_map (λ n. n.bytes) r.name ≡ Some w → IsWord is_lower w
@@ -289,13 +292,13 @@ directive_reads b w l h rest =
     (two (codes " ") ((b ∷ w) ++ codes " ") rest [] (name (b ∷ w) ∷ []) (space (((b ∷ w) ++ codes " ") ++ rest))
     (two (b ∷ w) (codes " ") rest (name (b ∷ w) ∷ []) [] (one (name (b ∷ w)) (b ∷ w) (codes " " ++ rest) (refl, (l, h)) refl) (space rest)))
 
-declaration_reads : (d : Declaration) (ds : List Declaration) → AllByRecursion IsWritableSymbol (d ∷ ds) → Reads (codes ":- chr_constraint " ++ joined (codes ", ") symbol_text (d ∷ ds)) (spelled (declare (map written_symbol (d ∷ ds))))
+declaration_reads : (d : Declaration) (ds : List Declaration) → AllByRecursion IsWritableSymbol (d ∷ ds) → Reads (codes ":- chr_constraint " ++ separated (codes ", ") symbol_text (d ∷ ds)) (spelled (declare (map written_symbol (d ∷ ds))))
 declaration_reads d ds h rest p =
-    let list = joined (codes ", ") symbol_text (d ∷ ds) in
+    let list = separated (codes ", ") symbol_text (d ∷ ds) in
     two (codes ":- chr_constraint ") list rest (sign s.Directive ∷ name (codes "chr_constraint") ∷ []) (spelled_list spelled_symbol (map written_symbol (d ∷ ds)))
     (directive_reads 99 (codes "hr_constraint") refl (from_test is_word_byte (codes "hr_constraint") refl) (list ++ rest))
     (list_reads (codes ", ") comma_space_reads comma_space_parts symbol_text (λ d. spelled_symbol (written_symbol d)) IsWritableSymbol symbol_reads d ds h rest p
-    ∙ ap (λ l. onto (grammar.joined l) (tokens_of rest)) (sym (map_twice spelled_symbol written_symbol (d ∷ ds))))
+    ∙ ap (λ l. onto (grammar.with_commas l) (tokens_of rest)) (sym (map_twice spelled_symbol written_symbol (d ∷ ds))))
 
 weight_reads : (d : Declaration) → IsWritableSymbol d → d.weight < 2 ^ 64 → Reads (weight_clause d) (spelled (weight (written_symbol d) (decimal d.weight)))
 weight_reads d h l rest p =
@@ -319,7 +322,7 @@ pub rule_tokens : (ds : List Declaration) (r : base_rule.Rule) → IsWritableRul
 rule_tokens ds r h = whole_reads (rule_clause ds r) (spelled (rule (written_rule ds r))) (rule_reads ds r h)
 
 pub declaration_tokens : (d : Declaration) (ds : List Declaration) → AllByRecursion IsWritableSymbol (d ∷ ds)
-    → tokens_of (codes ":- chr_constraint " ++ joined (codes ", ") symbol_text (d ∷ ds)) ≡ Some (spelled (declare (map written_symbol (d ∷ ds))))
+    → tokens_of (codes ":- chr_constraint " ++ separated (codes ", ") symbol_text (d ∷ ds)) ≡ Some (spelled (declare (map written_symbol (d ∷ ds))))
 declaration_tokens d ds h = whole_reads _ (spelled (declare (map written_symbol (d ∷ ds)))) (declaration_reads d ds h)
 
 pub weight_tokens : (d : Declaration) → IsWritableSymbol d → d.weight < 2 ^ 64 → tokens_of (weight_clause d) ≡ Some (spelled (weight (written_symbol d) (decimal d.weight)))

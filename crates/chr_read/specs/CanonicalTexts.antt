@@ -1,6 +1,4 @@
--- The canonical text of a program: its clauses in a fixed order and layout, each ended by a full stop and a line feed.
---     clauses ds rs        the clauses, without their ends: all declarations in one, a weight for each symbol whose weight isn't 1, and the rules
---     canonical ds rs        the text
+-- The canonical text of a program: its clauses in a fixed order and layout, each with a full stop and a line feed.
 use Rattle.std.specs.Prelude.{ℕ, ◌==◌, if◌then◌else◌, List, [], ◌∷◌, ◌++◌, map, Option, Some, None, option_map, codes, decimal, slice_get}
 use Rattle.std.specs.Option.{option_map_or}
 use Rattle.std.specs.Fmt.{signed_decimal}
@@ -21,9 +19,9 @@ more separator f [] = []
 more separator f (x ∷ xs) = separator ++ (f x ++ more separator f xs)
 
 -- the text of each, with the separator between
-abbrev pub joined : {A : Type 0} → List ℕ → (A → List ℕ) → List A → List ℕ
-joined separator f [] = []
-joined separator f (x ∷ xs) = f x ++ more separator f xs
+abbrev pub separated : {A : Type 0} → List ℕ → (A → List ℕ) → List A → List ℕ
+separated separator f [] = []
+separated separator f (x ∷ xs) = f x ++ more separator f xs
 
 -- ---- atoms and comparisons
 
@@ -33,7 +31,7 @@ term_text (Constant c) = signed_decimal c
 
 abbrev pub args_text : List Term → List ℕ
 args_text [] = []
-args_text (t ∷ ts) = codes "(" ++ (joined (codes ",") term_text (t ∷ ts) ++ codes ")")
+args_text (t ∷ ts) = codes "(" ++ (separated (codes ",") term_text (t ∷ ts) ++ codes ")")
 
 abbrev pub name_at : List Declaration → ℕ → List ℕ
 name_at ds i = option_map_or (λ d. d.name) (slice_get ds i) []
@@ -42,7 +40,7 @@ abbrev pub pattern_text : List Declaration → Pattern → List ℕ
 pattern_text ds p = name_at ds p.symbol.0 ++ args_text p.args.items
 
 abbrev pub patterns_text : List Declaration → List Pattern → List ℕ
-patterns_text ds ps = joined (codes ", ") (pattern_text ds) ps
+patterns_text ds ps = separated (codes ", ") (pattern_text ds) ps
 
 abbrev pub cmp_text : Cmp → List ℕ
 cmp_text cmp.Less = codes "<"
@@ -67,7 +65,7 @@ kept_text ds (p ∷ ps) = patterns_text ds (p ∷ ps) ++ codes " \\ "
 
 abbrev pub guard_text : List Comparison → List ℕ
 guard_text [] = []
-guard_text (c ∷ cs) = joined (codes ", ") comparison_text (c ∷ cs) ++ codes " | "
+guard_text (c ∷ cs) = separated (codes ", ") comparison_text (c ∷ cs) ++ codes " | "
 
 abbrev pub body_text : List Declaration → List Pattern → List ℕ
 body_text ds [] = codes "true"
@@ -86,7 +84,7 @@ symbol_text d = d.name ++ (codes "/" ++ decimal d.arity)
 -- one clause, where there are symbols
 abbrev pub declaration_clauses : List Declaration → List (List ℕ)
 declaration_clauses [] = []
-declaration_clauses (d ∷ ds) = (codes ":- chr_constraint " ++ joined (codes ", ") symbol_text (d ∷ ds)) ∷ []
+declaration_clauses (d ∷ ds) = (codes ":- chr_constraint " ++ separated (codes ", ") symbol_text (d ∷ ds)) ∷ []
 
 abbrev pub weight_clause : Declaration → List ℕ
 weight_clause d = codes ":- chr_weight " ++ (symbol_text d ++ (codes " = " ++ decimal d.weight))
@@ -98,13 +96,14 @@ weight_clauses (d ∷ ds) = if d.weight == 1 then weight_clauses ds else weight_
 
 -- ---- the text
 
+-- the clauses, without their ends: all declarations in one, a weight for each symbol whose weight isn't 1, and the rules
 abbrev pub clauses : List Declaration → List Rule → List (List ℕ)
 clauses ds rs = declaration_clauses ds ++ (weight_clauses ds ++ map (rule_clause ds) rs)
 
 -- each clause with its full stop and line feed
-abbrev pub ended : List (List ℕ) → List ℕ
-ended [] = []
-ended (c ∷ cs) = c ++ (codes ".\n" ++ ended cs)
+abbrev pub ended_clauses : List (List ℕ) → List ℕ
+ended_clauses [] = []
+ended_clauses (c ∷ cs) = c ++ (codes ".\n" ++ ended_clauses cs)
 
 abbrev pub canonical : List Declaration → List Rule → List ℕ
-canonical ds rs = ended (clauses ds rs)
+canonical ds rs = ended_clauses (clauses ds rs)

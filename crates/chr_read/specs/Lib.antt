@@ -2,12 +2,10 @@ pub mod Numbers
 pub mod Meanings
 pub mod Faults
 pub mod Resolving
-pub mod Views
 pub mod Reading
-pub mod Outcomes
-pub mod Adding
 pub mod ProgramTexts
 pub mod NamesOfForms
 pub mod Numberings
 pub mod CanonicalTexts
 pub mod RoundTrips
+pub mod working

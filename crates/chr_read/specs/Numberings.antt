@@ -3,18 +3,13 @@ use Rattle.std.specs.Prelude.{◌≡◌, ◌↔◌, ℕ, List, [], ◌∷◌, �
 use Rattle.chr_base.specs.RuleTests.{terms_of}
 use Rattle.chr_base.specs.ProgramTests.{Declaration}
 use Rattle.chr_syntax.specs.Clauses.{Term, Atom, variable}
-use Rattle.chr_read.specs.Faults.{is_anonymous}
+use Rattle.chr_read.specs.Faults.{args_of, is_anonymous}
 use Rattle.chr_read.specs.Resolving.{variable_of, head_terms, after_terms, heads, after_heads}
-
--- the terms of these atoms, in their order
-abbrev pub terms_in : List Atom → List Term
-terms_in [] = []
-terms_in (a ∷ atoms) = a.args ++ terms_in atoms
 
 -- the terms of the heads are numbered as one list, kept heads first
 abbrev pub HeadsAreOneList : Type 0
 HeadsAreOneList = (ds : List Declaration) (kept removed : List Atom)
-    → terms_of (heads ds [] kept ++ heads ds (after_heads [] kept) removed) ≡ head_terms [] (terms_in kept ++ terms_in removed)
+    → terms_of (heads ds [] kept ++ heads ds (after_heads [] kept) removed) ≡ head_terms [] (args_of kept ++ args_of removed)
 
 -- the number of the variable w where it stands after these terms
 abbrev pub number_at : List Term → List ℕ → ℕ

@@ -1,7 +1,9 @@
 -- Numbers of a text: arities, arguments, weights, and the numbers of faults.
-use Rattle.std.specs.Prelude.{ℕ, ◌-◌, ◌^◌, ℤ, pos, negsuc, neg_ℤ, List, [], ◌∷◌, length, drop, Bool, true, false, ◌&&◌, ◌==◌, nat_le, nat_lt, if◌then◌else◌, Option, Some, None, option_and_then}
+use Rattle.std.specs.Prelude.{ℕ, ◌+◌, ◌-◌, ◌^◌, ℤ, pos, negsuc, neg_ℤ, List, [], ◌∷◌, length, drop, Bool, true, false, ◌&&◌, ◌==◌, nat_le, nat_lt, if◌then◌else◌, Option, Some, None, option_and_then}
 use Rattle.std.specs.List.{list_all, prefix_len}
 use Rattle.std.specs.Str.Parse.{digits_value, starts_with_minus}
+use Rattle.chr_base.specs.declared.limits.TheConstants.{MAX_ARITY, MAX_WEIGHT}
+use Rattle.chr_base.specs.Names.{is_digit}
 use Rattle.chr_read.specs.declared.fault.Fault.{Fault}
 use Rattle.chr_read.specs.declared.fault.Fault.TheVariants as fault
 
@@ -19,27 +21,21 @@ number_of_fault fault.Unended = 11
 
 -- ---- arities
 
-abbrev pub is_zero : ℕ → Bool
-is_zero b = b == 48
-
 -- digits without leading zeros
 abbrev pub without_zeros : List ℕ → List ℕ
-without_zeros digits = drop (prefix_len is_zero digits) digits
+without_zeros digits = drop (prefix_len (λ b. b == 48) digits) digits
 
--- the value of digits without leading zeros, where it is at most 4
+-- the value of digits without leading zeros, where it is at most MAX_ARITY
 abbrev pub small : List ℕ → Option ℕ
 small [] = Some 0
-small (b ∷ []) = if nat_le 49 b && nat_le b 52 then Some (b - 48) else None
+small (b ∷ []) = if nat_le 49 b && nat_le b (48 + MAX_ARITY) then Some (b - 48) else None
 small (b ∷ c ∷ bs) = None
 
--- the number of arguments that digits name, where it is at most 4
+-- the number of arguments that digits name, where it is at most MAX_ARITY
 abbrev pub arity_of : List ℕ → Option ℕ
 arity_of digits = small (without_zeros digits)
 
 -- ---- values
-
-abbrev pub is_digit : ℕ → Bool
-is_digit b = nat_le 48 b && nat_le b 57
 
 -- one digit or more
 abbrev pub is_numeral : List ℕ → Bool
@@ -61,9 +57,9 @@ number_of w = if is_numeral (unsigned w) then signed (starts_with_minus w) (digi
 -- ---- weights
 
 abbrev pub as_weight : ℤ → Option ℕ
-as_weight (pos n) = if nat_le 1 n && nat_le n 1000000 then Some n else None
+as_weight (pos n) = if nat_le 1 n && nat_le n MAX_WEIGHT then Some n else None
 as_weight (negsuc n) = None
 
--- the weight that digits name, where it is from 1 to 1,000,000
-abbrev pub weight_of : List ℕ → Option ℕ
-weight_of w = option_and_then as_weight (number_of w)
+-- the weight that digits name, where it is from 1 to MAX_WEIGHT
+abbrev pub weight_named_by : List ℕ → Option ℕ
+weight_named_by w = option_and_then as_weight (number_of w)

@@ -1,10 +1,11 @@
 -- The texts that are programs, and what is wrong with the others, in the grammar's own words.
-use Rattle.std.specs.Prelude.{◌≡◌, ◌≤◌, ◌<◌, ◌+◌, ◌↔◌, ℕ, List, [], ◌∷◌, ◌++◌, length, true, false, Result, Ok, Err}
-use Rattle.std.specs.List.{list_all}
+use Rattle.std.specs.Prelude.{◌≡◌, ◌≤◌, ◌<◌, ◌+◌, ◌⊎◌, ℕ, List, [], ◌∷◌, ◌++◌, length, true, false, Result, Ok, Err}
+use Rattle.std.specs.List.{list_all, slice_split}
 use Rattle.chr_base.specs.declared.program.Program.{Program}
-use Rattle.chr_syntax.specs.Bytes.{is_layout, is_text, pieces, without_comments}
+use Rattle.chr_syntax.specs.Bytes.{is_layout, is_stop, is_text, without_comments}
 use Rattle.chr_syntax.specs.Clauses.{Form}
 use Rattle.chr_syntax.specs.Lexemes.{AreClause}
+use Rattle.chr_read.specs.declared.reader.TheConstants.{MAX_TEXT}
 use Rattle.chr_read.specs.declared.fault.Fault.{Fault}
 use Rattle.chr_read.specs.declared.fault.Fault.TheVariants as fault
 use Rattle.chr_read.specs.declared.fault.ReadFault.{ReadFault}
@@ -12,7 +13,7 @@ use Rattle.chr_read.specs.declared.fault.ReadFault.TheVariants.{TooLong, Bad, Me
 use Rattle.chr_read.specs.Numbers.{number_of_fault}
 use Rattle.chr_read.specs.Meanings.{Meaning, Progress, nothing, meaning_of}
 use Rattle.chr_read.specs.Faults.{fault_test}
-use Rattle.chr_read.specs.Reading.{with_form, text_read}
+use Rattle.chr_read.specs.Reading.{with_form}
 
 -- ---- clauses
 
@@ -41,12 +42,12 @@ Makes q (c ∷ cs) r = (f : Form) × AreClause f c × ((n : Fault) → ¬ (HasFa
 -- ---- texts
 
 abbrev pub IsShort : List ℕ → Type 0
-IsShort text = length text ≤ 65536
+IsShort text = length text ≤ MAX_TEXT
 
 -- The text is a program of this meaning: clauses without faults, and layout alone after the last full stop.
 abbrev pub IsProgramText : List ℕ → Meaning → Type 0
 IsProgramText text m = IsShort text × (cs : List (List ℕ)) × (rest : List ℕ) × (q : Progress)
-    × (pieces (without_comments text) ≡ cs ++ rest ∷ []) × Makes nothing cs q × ((n : Fault) → ¬ (HasRestFault rest n)) × (m ≡ q.meaning)
+    × (slice_split is_stop (without_comments text) ≡ cs ++ rest ∷ []) × Makes nothing cs q × ((n : Fault) → ¬ (HasRestFault rest n)) × (m ≡ q.meaning)
 
 -- the least fault of a clause, or of the rest where nothing stands after it
 abbrev pub IsLeastAt : List (List ℕ) → Progress → List ℕ → Fault → Type 0
@@ -56,24 +57,25 @@ IsLeastAt (d ∷ ds) q c n = IsLeast (HasFault q c) n
 -- The text is refused with the fault n at the clause k: the clauses before it have no faults, and n is its least.
 abbrev pub IsRefusedText : List ℕ → Fault → ℕ → Type 0
 IsRefusedText text n k = IsShort text × (before : List (List ℕ)) × (c : List ℕ) × (after : List (List ℕ)) × (q : Progress)
-    × (pieces (without_comments text) ≡ before ++ c ∷ after) × (k ≡ length before + 1) × Makes nothing before q × IsLeastAt after q c n
+    × (slice_split is_stop (without_comments text) ≡ before ++ c ∷ after) × (k ≡ length before + 1) × Makes nothing before q × IsLeastAt after q c n
 
--- an answer says what the text is, unless memory ran out
+-- an answer says what the text is, and where memory ran out that it is short
 abbrev pub IsAnswer : List ℕ → Result Program ReadFault → Type 0
 IsAnswer text (Ok p) = IsProgramText text (meaning_of p)
-IsAnswer text (Err TooLong) = 65536 < length text
+IsAnswer text (Err TooLong) = MAX_TEXT < length text
 IsAnswer text (Err (Bad n k)) = IsRefusedText text n k
-IsAnswer text (Err Memory) = Unit {0}
+IsAnswer text (Err Memory) = IsShort text
 
--- ---- the laws
+-- ---- a text has one answer
 
--- what is read as a program is one, and each program is read
-abbrev pub ProgramsAreRead : Type 0
-ProgramsAreRead = (text : List ℕ) (m : Meaning) → text_read text ≡ Ok m ↔ IsProgramText text m
+abbrev pub TextsHaveSomeAnswer : Type 0
+TextsHaveSomeAnswer = (text : List ℕ) → ((m : Meaning) × IsProgramText text m) ⊎ ((n : Fault) × (k : ℕ) × IsRefusedText text n k) ⊎ (MAX_TEXT < length text)
 
--- what is refused is refused rightly, and each such text is refused
-abbrev pub BadTextsAreRefused : Type 0
-BadTextsAreRefused = (text : List ℕ) (n : Fault) (k : ℕ) → text_read text ≡ Err (Bad n k) ↔ IsRefusedText text n k
+abbrev pub ProgramsHaveOneMeaning : Type 0
+ProgramsHaveOneMeaning = (text : List ℕ) (m n : Meaning) → IsProgramText text m → IsProgramText text n → m ≡ n
 
-abbrev pub LongTextsAreRefused : Type 0
-LongTextsAreRefused = (text : List ℕ) → text_read text ≡ Err TooLong ↔ 65536 < length text
+abbrev pub RefusedTextsAreNoPrograms : Type 0
+RefusedTextsAreNoPrograms = (text : List ℕ) (m : Meaning) (n : Fault) (k : ℕ) → IsProgramText text m → ¬ (IsRefusedText text n k)
+
+abbrev pub TextsHaveOneFault : Type 0
+TextsHaveOneFault = (text : List ℕ) (n m : Fault) (k j : ℕ) → IsRefusedText text n k → IsRefusedText text m j → (n ≡ m) × (k ≡ j)

@@ -9,19 +9,21 @@ ghost use Rattle.chr_base.specs.Names.{is_name};
 ghost use Rattle.chr_syntax.specs.Clauses.{declare, weight, rule};
 ghost use Rattle.chr_syntax.specs.Grammar.{IsForm};
 ghost use Rattle.chr_syntax.specs.Views.{symbol_view, rule_view, clause_view};
-ghost use Rattle.chr_read.specs.Adding.{can_declare, can_declare_all};
-ghost use Rattle.chr_read.specs.Faults.{rule_over, rule_unbound, fault_in};
-ghost use Rattle.chr_read.specs.Meanings.{rule_data};
+ghost use Rattle.chr_read.specs.working.Adding.{can_declare, can_declare_all};
+ghost use Rattle.chr_read.specs.working.RuleParts.{some_part_over, rule_unbound};
+ghost use Rattle.chr_read.specs.working.TextsRead.{fault_in};
+ghost use Rattle.chr_base.specs.Sameness.{parts_of};
 ghost use Rattle.chr_read.specs.NamesOfForms.{has_names};
-ghost use Rattle.chr_read.specs.Reading.{declared_symbol, with_symbols, with_rule, with_form};
+ghost use Rattle.chr_read.specs.Reading.{declared_symbol, with_form};
 ghost use Rattle.chr_read.specs.Resolving.{resolved};
-ghost use Rattle.chr_read.specs.Views.{progress_of};
+ghost use Rattle.chr_read.specs.working.Views.{progress_of};
 
-use crate::number::{arity_of, weight_of};
-use crate::reader::Reader;
+use crate::number::{arity_of, weight_named_by};
+use crate::progress::Reader;
 use crate::resolve::{body, guard, heads, label};
 use crate::symbols::{name_in, place_of_symbol};
 use arrayvec::{ArrayString, ArrayVec};
+use chr_base::limits::{MAX_BODY, MAX_COMPARISONS, MAX_HEADS, MAX_NAME};
 use chr_base::program::Program;
 use chr_base::rule::Rule;
 use chr_base::term::{Comparison, Pattern};
@@ -29,6 +31,7 @@ use chr_syntax::{RawClause, RawRule, RawSymbol};
 use std::alloc::{AllocError, Global};
 
 /// Declares a symbol.
+#[tactic(auto, using(crate::proofs::Names::name_is_text))]
 fn add_symbol(program: &mut Program, symbol: &RawSymbol<'_>) -> Result<(), AllocError>
     requires can { can_declare (declarations program.old) (symbol_view symbol.now) ≡ true }
     requires word { is_name symbol.now.name.now ≡ true }
@@ -59,7 +62,7 @@ fn add_weight(reader: &mut Reader, symbol: &RawSymbol<'_>, digits: &[u8]) -> Res
     ensures { OnOk result (progress_of reader.new ≡ with_form (progress_of reader.old) (weight (symbol_view symbol.now) digits.now)) }
 {
     let place = place_of_symbol(&reader.program, symbol).unwrap();
-    let weight = weight_of(digits).unwrap();
+    let weight = weight_named_by(digits).unwrap();
     reader.weighed.push(place)?;
     reader.program.set_weight(place, weight);
     Ok(())
@@ -67,15 +70,15 @@ fn add_weight(reader: &mut Reader, symbol: &RawSymbol<'_>, digits: &[u8]) -> Res
 
 /// A rule of these parts.
 fn make_rule(
-    name: Option<ArrayString<32>>,
-    kept: ArrayVec<Pattern, 4>,
-    removed: ArrayVec<Pattern, 4>,
-    guard: ArrayVec<Comparison, 8>,
-    body: ArrayVec<Pattern, 8>,
+    name: Option<ArrayString<MAX_NAME>>,
+    kept: ArrayVec<Pattern, MAX_HEADS>,
+    removed: ArrayVec<Pattern, MAX_HEADS>,
+    guard: ArrayVec<Comparison, MAX_COMPARISONS>,
+    body: ArrayVec<Pattern, MAX_BODY>,
 ) -> Rule
     requires parts { IsTrue (is_rule kept.items removed.items guard.items body.items) }
     requires bounds { IsTrue (is_in_bounds (option_map (λ n. n.bytes) name) (kept.items ++ removed.items) guard.items body.items) }
-    ensures { rule_data result ≡ record { name = option_map (λ n. n.bytes) name; kept = kept.items; removed = removed.items; guard = guard.items; body = body.items } }
+    ensures { parts_of result ≡ record { name = option_map (λ n. n.bytes) name; kept = kept.items; removed = removed.items; guard = guard.items; body = body.items } }
 {
     Rule {
         name,
@@ -88,11 +91,11 @@ fn make_rule(
 
 /// The rule that a rule as written is.
 fn resolved(alloc: Global, program: &Program, raw: &RawRule<'_>) -> Result<Rule, AllocError>
-    requires over { rule_over (rule_view raw.now) ≡ false }
+    requires over { some_part_over (rule_view raw.now) ≡ false }
     requires unbound { rule_unbound (rule_view raw.now) ≡ false }
     requires some { 0 < length (rule_view raw.now).removed }
     requires names { has_names (rule (rule_view raw.now)) ≡ true }
-    ensures { IfOk result (λ r. rule_data r ≡ resolved (declarations program.now) (rule_view raw.now)) }
+    ensures { IfOk result (λ r. parts_of r ≡ resolved (declarations program.now) (rule_view raw.now)) }
 {
     let mut names = Vec::new(alloc);
     let kept = heads(program, &mut names, &raw.kept)?;
@@ -107,7 +110,7 @@ fn add_rule(alloc: Global, reader: &mut Reader, raw: &RawRule<'_>) -> Result<(),
     requires none { fault_in (progress_of reader.old) (rule (rule_view raw.now)) ≡ None }
     requires some { 0 < length (rule_view raw.now).removed }
     requires names { has_names (rule (rule_view raw.now)) ≡ true }
-    ensures { OnOk result (progress_of reader.new ≡ with_rule (progress_of reader.old) (rule_view raw.now)) }
+    ensures { OnOk result (progress_of reader.new ≡ with_form (progress_of reader.old) (rule (rule_view raw.now))) }
 {
     let rule = resolved(alloc, &reader.program, raw)?;
     reader.program.push_rule(rule)

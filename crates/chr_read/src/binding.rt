@@ -3,7 +3,8 @@
 ghost use Rattle.std.specs.Prelude.{◌≡◌, option_map, map};
 ghost use Rattle.std.specs.List.{list_any};
 ghost use Rattle.chr_syntax.specs.Views.{term_view, atom_view, comparison_view, rule_view};
-ghost use Rattle.chr_read.specs.Faults.{present, is_anonymous, is_variable, stands_in, is_bound, term_unbound, atom_unbound, comparison_unbound, rule_unbound};
+ghost use Rattle.chr_read.specs.Faults.{present, is_anonymous, is_named};
+ghost use Rattle.chr_read.specs.working.RuleParts.{stands_in, is_bound, term_unbound, atom_unbound, comparison_unbound, rule_unbound};
 
 use chr_syntax::{RawAtom, RawComparison, RawRule, RawTerm};
 
@@ -14,8 +15,8 @@ pub fn is_anonymous(name: &[u8]) -> bool
     name == b"_".as_slice()
 }
 
-fn is_variable(name: &[u8], term: &RawTerm<'_>) -> bool
-    ensures { result ≡ is_variable name.now (term_view term.now) }
+fn is_named(name: &[u8], term: &RawTerm<'_>) -> bool
+    ensures { result ≡ is_named name.now (term_view term.now) }
 {
     match term {
         RawTerm::Variable(other) => name == *other,
@@ -24,10 +25,10 @@ fn is_variable(name: &[u8], term: &RawTerm<'_>) -> bool
 }
 
 fn stands_among(name: &[u8], terms: &[RawTerm<'_>]) -> bool
-    ensures { result ≡ list_any (is_variable name.now) (map term_view terms.now) }
+    ensures { result ≡ list_any (is_named name.now) (map term_view terms.now) }
 {
     for term in terms {
-        if is_variable(name, term) {
+        if is_named(name, term) {
             return true;
         }
     }

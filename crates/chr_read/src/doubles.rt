@@ -2,7 +2,7 @@
 
 ghost use Rattle.std.specs.Prelude.{◌≡◌, map, [], IfOk};
 ghost use Rattle.chr_syntax.specs.Views.{symbol_view};
-ghost use Rattle.chr_read.specs.Faults.{comes_again};
+ghost use Rattle.chr_read.specs.working.RuleParts.{comes_again};
 
 use crate::number::without_zeros;
 use chr_syntax::RawSymbol;

@@ -4,18 +4,20 @@ ghost use Rattle.std.specs.Prelude.{◌≡◌, ◌+◌, nat_lt, nat_le, map, len
 ghost use Rattle.chr_base.specs.Programs.{declarations};
 ghost use Rattle.chr_syntax.specs.Clauses.{declare, weight, rule};
 ghost use Rattle.chr_syntax.specs.Views.{symbol_view, rule_view, clause_view};
-ghost use Rattle.chr_read.specs.Faults.{is_among, declared_twice, weight_bad, fault_in};
-ghost use Rattle.chr_read.specs.Views.{places_view, progress_of};
+ghost use Rattle.chr_read.specs.working.RuleParts.{is_among, declared_twice, weight_bad};
+ghost use Rattle.chr_read.specs.working.TextsRead.{fault_in};
+ghost use Rattle.chr_read.specs.working.Views.{places_view, progress_of};
 
 use crate::binding::rule_unbound;
 use crate::doubles::comes_again;
 use crate::fault::Fault;
-use crate::limits::{rule_outside, rule_over, symbols_over};
-use crate::number::{number_of, weight_of};
-use crate::reader::Reader;
+use crate::limits::{rule_outside, some_part_over, symbols_over};
+use crate::number::{number_of, weight_named_by};
+use crate::progress::Reader;
 use crate::symbols::{any_known, place_of_symbol, rule_undeclared};
 use chr_base::atom::SymbolId;
-use chr_base::program::{MOST, Program};
+use chr_base::limits::{MAX_RULES, MAX_SYMBOLS};
+use chr_base::program::Program;
 use chr_syntax::{RawClause, RawRule, RawSymbol};
 use std::alloc::{AllocError, Global};
 
@@ -34,10 +36,10 @@ fn declared_twice(
 
 /// Whether so many more symbols are too many.
 fn has_no_room(program: &Program, more: usize) -> bool
-    ensures { result ≡ nat_lt 64 (length (declarations program.now) + more) }
+    ensures { result ≡ nat_lt MAX_SYMBOLS (length (declarations program.now) + more) }
 {
     let symbols = program.symbols();
-    MOST < symbols || MOST - symbols < more
+    MAX_SYMBOLS < symbols || MAX_SYMBOLS - symbols < more
 }
 
 fn declare_fault(
@@ -73,7 +75,7 @@ fn is_among(symbols: &[SymbolId], symbol: Option<SymbolId>) -> bool
 fn weight_bad(reader: &Reader, symbol: &RawSymbol<'_>, digits: &[u8]) -> bool
     ensures { result ≡ weight_bad (progress_of reader.now) (symbol_view symbol.now) digits.now }
 {
-    weight_of(digits).is_none()
+    weight_named_by(digits).is_none()
         || is_among(&reader.weighed, place_of_symbol(&reader.program, symbol))
 }
 
@@ -92,11 +94,11 @@ fn weight_fault(reader: &Reader, symbol: &RawSymbol<'_>, digits: &[u8]) -> Optio
 }
 
 /// Whether there are as many rules as there may be.
-#[tactic(auto, using(crate::proofs::Lengths::length_of_map, crate::proofs::Declarable::can_all, crate::proofs::Resolved::resolved_fits))]
+#[tactic(auto, using(crate::proofs::Lengths::length_of_map))]
 fn is_full(reader: &Reader) -> bool
-    ensures { result ≡ nat_le 64 (length (progress_of reader.now).meaning.rules) }
+    ensures { result ≡ nat_le MAX_RULES (length (progress_of reader.now).meaning.rules) }
 {
-    MOST <= reader.program.rules().len()
+    MAX_RULES <= reader.program.rules().len()
 }
 
 fn rule_fault(reader: &Reader, raw: &RawRule<'_>) -> Option<Fault>
@@ -104,7 +106,7 @@ fn rule_fault(reader: &Reader, raw: &RawRule<'_>) -> Option<Fault>
 {
     if rule_undeclared(&reader.program, raw) {
         Some(Fault::Undeclared)
-    } else if is_full(reader) || rule_over(raw) {
+    } else if is_full(reader) || some_part_over(raw) {
         Some(Fault::Limit)
     } else if rule_unbound(raw) {
         Some(Fault::Unbound)

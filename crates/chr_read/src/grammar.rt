@@ -2,16 +2,8 @@
 
 ghost use Rattle.chr_read.specs.NamesOfForms.{NamesAreNames, NamesAreText};
 ghost use Rattle.chr_read.specs.Numberings.{HeadsAreOneList, OneNumberIsOneVariable};
-ghost use Rattle.chr_read.specs.RoundTrips.{OneMeaningIsOneProgram, ProgramsComeBack};
-ghost use Rattle.chr_read.specs.ProgramTexts.{BadTextsAreRefused, LongTextsAreRefused, ProgramsAreRead};
-
-/// A text is read as a program exactly where its clauses have forms without faults, and refused exactly with the least fault of
-/// its first bad clause, or because it is too long.
-pub fn programs_are_read()
-    ensures programs { ProgramsAreRead }
-    ensures refused { BadTextsAreRefused }
-    ensures long { LongTextsAreRefused }
-{}
+ghost use Rattle.chr_read.specs.RoundTrips.{ProgramsComeBack};
+ghost use Rattle.chr_read.specs.ProgramTexts.{ProgramsHaveOneMeaning, RefusedTextsAreNoPrograms, TextsHaveOneFault, TextsHaveSomeAnswer};
 
 /// The names of each clause are text and names of symbols and rules, so of them only their lengths are limited.
 pub fn names_are_text()
@@ -27,6 +19,14 @@ pub fn variables_are_numbered()
 
 /// The canonical text of a program is read as the program, where it has at most 65,536 bytes.
 pub fn programs_come_back()
-    ensures read { ProgramsComeBack }
-    ensures same { OneMeaningIsOneProgram }
+    ensures { ProgramsComeBack }
+{}
+
+/// A text has one answer: it is a program of one meaning, or it has one fault at one clause, or it is too long, and no two of
+/// these.
+pub fn texts_have_one_answer()
+    ensures some { TextsHaveSomeAnswer }
+    ensures meaning { ProgramsHaveOneMeaning }
+    ensures apart { RefusedTextsAreNoPrograms }
+    ensures fault { TextsHaveOneFault }
 {}

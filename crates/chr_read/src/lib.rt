@@ -9,6 +9,7 @@ mod faults;
 mod grammar;
 mod limits;
 mod number;
+mod progress;
 mod reader;
 mod resolve;
 mod symbols;
@@ -17,6 +18,8 @@ mod tests;
 mod writer;
 
 pub use fault::{Fault, ReadFault};
-pub use grammar::{names_are_text, programs_are_read, programs_come_back, variables_are_numbered};
-pub use reader::read;
+pub use grammar::{
+    names_are_text, programs_come_back, texts_have_one_answer, variables_are_numbered,
+};
+pub use reader::{MAX_TEXT, read};
 pub use writer::write;

@@ -3,19 +3,21 @@
 ghost use Rattle.std.specs.Prelude.{◌≡◌, ◌+◌, ◌≤◌, nat_lt, option_map, map, length};
 ghost use Rattle.std.specs.List.{list_any};
 ghost use Rattle.chr_syntax.specs.Views.{term_view, atom_view, comparison_view, symbol_view, rule_view};
-ghost use Rattle.chr_read.specs.Faults.{present, symbol_over, term_over, atom_over, comparison_over, label_over, lists_over, parts_over, rule_over, term_outside, atom_outside, comparison_outside, rule_outside};
+ghost use Rattle.chr_read.specs.Faults.{present, symbol_over, atom_over, is_long_variable, is_outside};
+ghost use Rattle.chr_read.specs.working.RuleParts.{parts_of_atom_over, comparison_over, label_over, has_long_lists, parts_over, some_part_over, atom_outside, comparison_outside, rule_outside};
 
 use crate::number::{arity_of, number_of};
-use crate::symbols::is_name;
+use crate::symbols::is_long;
+use chr_base::limits::{MAX_ARITY, MAX_BODY, MAX_COMPARISONS, MAX_HEADS};
 use chr_syntax::{RawAtom, RawComparison, RawRule, RawSymbol, RawTerm};
 
 fn symbol_over(symbol: &RawSymbol<'_>) -> bool
     ensures { result ≡ symbol_over (symbol_view symbol.now) }
 {
-    !is_name(symbol.name) || arity_of(symbol.arity).is_none()
+    is_long(symbol.name) || arity_of(symbol.arity).is_none()
 }
 
-/// Whether a name is too long, or an arity over 4.
+/// Whether a name is too long, or an arity too large.
 pub fn symbols_over(symbols: &[RawSymbol<'_>]) -> bool
     ensures { result ≡ list_any symbol_over (map symbol_view symbols.now) }
 {
@@ -27,20 +29,20 @@ pub fn symbols_over(symbols: &[RawSymbol<'_>]) -> bool
     false
 }
 
-fn term_over(term: &RawTerm<'_>) -> bool
-    ensures { result ≡ term_over (term_view term.now) }
+fn is_long_variable(term: &RawTerm<'_>) -> bool
+    ensures { result ≡ is_long_variable (term_view term.now) }
 {
     match term {
-        RawTerm::Variable(name) => 32 < name.len(),
+        RawTerm::Variable(name) => is_long(name),
         RawTerm::Number(_) => false,
     }
 }
 
 fn terms_over(terms: &[RawTerm<'_>]) -> bool
-    ensures { result ≡ list_any term_over (map term_view terms.now) }
+    ensures { result ≡ list_any is_long_variable (map term_view terms.now) }
 {
     for term in terms {
-        if term_over(term) {
+        if is_long_variable(term) {
             return true;
         }
     }
@@ -50,20 +52,26 @@ fn terms_over(terms: &[RawTerm<'_>]) -> bool
 fn atom_over(atom: &RawAtom<'_>) -> bool
     ensures { result ≡ atom_over (atom_view atom.now) }
 {
-    !is_name(atom.name) || 4 < atom.args.len() || terms_over(&atom.args)
+    is_long(atom.name) || MAX_ARITY < atom.args.len()
+}
+
+fn parts_of_atom_over(atom: &RawAtom<'_>) -> bool
+    ensures { result ≡ parts_of_atom_over (atom_view atom.now) }
+{
+    atom_over(atom) || terms_over(&atom.args)
 }
 
 fn comparison_over(comparison: &RawComparison<'_>) -> bool
     ensures { result ≡ comparison_over (comparison_view comparison.now) }
 {
-    term_over(&comparison.left) || term_over(&comparison.right)
+    is_long_variable(&comparison.left) || is_long_variable(&comparison.right)
 }
 
 fn heads_over(atoms: &[RawAtom<'_>]) -> bool
-    ensures { result ≡ list_any atom_over (map atom_view atoms.now) }
+    ensures { result ≡ list_any parts_of_atom_over (map atom_view atoms.now) }
 {
     for atom in atoms {
-        if atom_over(atom) {
+        if parts_of_atom_over(atom) {
             return true;
         }
     }
@@ -84,11 +92,11 @@ fn guard_over(items: &[Option<RawComparison<'_>>]) -> bool
 }
 
 fn body_over(items: &[Option<RawAtom<'_>>]) -> bool
-    ensures { result ≡ list_any atom_over (present (map (option_map atom_view) items.now)) }
+    ensures { result ≡ list_any parts_of_atom_over (present (map (option_map atom_view) items.now)) }
 {
     for item in items {
         if let Some(atom) = item {
-            if atom_over(atom) {
+            if parts_of_atom_over(atom) {
                 return true;
             }
         }
@@ -100,7 +108,7 @@ fn label_over(label: Option<&[u8]>) -> bool
     ensures { result ≡ label_over (option_map (λ l. l.now) label.entry) }
 {
     match label {
-        Some(name) => !is_name(name),
+        Some(name) => is_long(name),
         None => false,
     }
 }
@@ -132,15 +140,19 @@ fn atoms(items: &[Option<RawAtom<'_>>]) -> usize
 }
 
 fn heads_too_many(rule: &RawRule<'_>) -> bool
-    ensures { result ≡ nat_lt 4 (length (map atom_view rule.now.kept.items) + length (map atom_view rule.now.removed.items)) }
+    ensures { result ≡ nat_lt MAX_HEADS (length (map atom_view rule.now.kept.items) + length (map atom_view rule.now.removed.items)) }
 {
-    4 < rule.kept.len() || 4 < rule.removed.len() || 4 < rule.kept.len() + rule.removed.len()
+    MAX_HEADS < rule.kept.len()
+        || MAX_HEADS < rule.removed.len()
+        || MAX_HEADS < rule.kept.len() + rule.removed.len()
 }
 
-fn lists_over(rule: &RawRule<'_>) -> bool
-    ensures { result ≡ lists_over (rule_view rule.now) }
+fn has_long_lists(rule: &RawRule<'_>) -> bool
+    ensures { result ≡ has_long_lists (rule_view rule.now) }
 {
-    heads_too_many(rule) || 8 < comparisons(&rule.guard) || 8 < atoms(&rule.body)
+    heads_too_many(rule)
+        || MAX_COMPARISONS < comparisons(&rule.guard)
+        || MAX_BODY < atoms(&rule.body)
 }
 
 fn parts_over(rule: &RawRule<'_>) -> bool
@@ -152,15 +164,16 @@ fn parts_over(rule: &RawRule<'_>) -> bool
         || body_over(&rule.body)
 }
 
-/// Whether a name or a variable is too long, or there are over 4 heads, over 8 comparisons or over 8 atoms in the body.
-pub fn rule_over(rule: &RawRule<'_>) -> bool
-    ensures { result ≡ rule_over (rule_view rule.now) }
+/// Whether a name or a variable is too long, or there are too many arguments, heads, comparisons or atoms in
+/// the body.
+pub fn some_part_over(rule: &RawRule<'_>) -> bool
+    ensures { result ≡ some_part_over (rule_view rule.now) }
 {
-    lists_over(rule) || label_over(rule.label) || parts_over(rule)
+    has_long_lists(rule) || label_over(rule.label) || parts_over(rule)
 }
 
-fn term_outside(term: &RawTerm<'_>) -> bool
-    ensures { result ≡ term_outside (term_view term.now) }
+fn is_outside(term: &RawTerm<'_>) -> bool
+    ensures { result ≡ is_outside (term_view term.now) }
 {
     match term {
         RawTerm::Variable(_) => false,
@@ -172,7 +185,7 @@ fn atom_outside(atom: &RawAtom<'_>) -> bool
     ensures { result ≡ atom_outside (atom_view atom.now) }
 {
     for term in &atom.args {
-        if term_outside(term) {
+        if is_outside(term) {
             return true;
         }
     }
@@ -182,7 +195,7 @@ fn atom_outside(atom: &RawAtom<'_>) -> bool
 fn comparison_outside(comparison: &RawComparison<'_>) -> bool
     ensures { result ≡ comparison_outside (comparison_view comparison.now) }
 {
-    term_outside(&comparison.left) || term_outside(&comparison.right)
+    is_outside(&comparison.left) || is_outside(&comparison.right)
 }
 
 fn heads_outside(atoms: &[RawAtom<'_>]) -> bool

@@ -1,20 +1,17 @@
 //! Numbers of a text, from their digits.
 
-ghost use Rattle.std.specs.Prelude.{◌≡◌, ◌≤◌, length, true};
+ghost use Rattle.std.specs.Prelude.{◌≡◌, ◌==◌, ◌≤◌, length, true};
 ghost use Rattle.std.specs.List.{list_all, prefix_len};
-ghost use Rattle.chr_read.specs.Numbers.{is_zero, is_digit, unsigned, without_zeros, small, arity_of, is_numeral, number_of, as_weight, weight_of};
+ghost use Rattle.chr_read.specs.Numbers.{unsigned, without_zeros, small, arity_of, is_numeral, number_of, as_weight, weight_named_by};
+ghost use Rattle.chr_base.specs.Names.{is_digit};
 
-fn is_zero(digit: u8) -> bool
-    ensures { result ≡ is_zero digit }
-{
-    digit == b'0'
-}
+use chr_base::limits::{MAX_ARITY, MAX_WEIGHT};
 
 fn zeros(digits: &[u8]) -> usize
-    ensures value { result ≡ prefix_len is_zero digits.now }
+    ensures value { result ≡ prefix_len (λ b. b == 48) digits.now }
     ensures within { result ≤ length digits.now }
 {
-    digits.iter().take_while(|digit| is_zero(**digit)).count()
+    digits.iter().take_while(|digit| **digit == b'0').count()
 }
 
 /// The digits without leading zeros.
@@ -24,14 +21,14 @@ pub fn without_zeros(digits: &[u8]) -> &[u8]
     &digits[zeros(digits)..]
 }
 
-/// The number of arguments that these digits name, where it is at most 4.
+/// The number of arguments that these digits name, where it is at most `MAX_ARITY`.
 pub fn arity_of(digits: &[u8]) -> Option<usize>
     ensures { result ≡ arity_of digits.now }
 {
     match without_zeros(digits) {
         [] => Some(0),
         [digit] => {
-            if b'1' <= *digit && *digit <= b'4' {
+            if b'1' <= *digit && *digit <= b'0' + MAX_ARITY as u8 {
                 Some((*digit - b'0') as usize)
             } else {
                 None
@@ -91,20 +88,20 @@ pub fn number_of(digits: &[u8]) -> Option<i64>
     parsed(text)
 }
 
-/// A value as a weight, where it is from 1 to 1,000,000.
+/// A value as a weight, where it is from 1 to `MAX_WEIGHT`.
 fn as_weight(value: i64) -> Option<u32>
     ensures { result ≡ as_weight value }
 {
-    if 1 <= value && value <= 1_000_000 {
+    if 1 <= value && value <= i64::from(MAX_WEIGHT) {
         Some(value as u32)
     } else {
         None
     }
 }
 
-/// The weight that these digits name, where it is from 1 to 1,000,000.
-pub fn weight_of(digits: &[u8]) -> Option<u32>
-    ensures { result ≡ weight_of digits.now }
+/// The weight that these digits name, where it is from 1 to `MAX_WEIGHT`.
+pub fn weight_named_by(digits: &[u8]) -> Option<u32>
+    ensures { result ≡ weight_named_by digits.now }
 {
     as_weight(number_of(digits)?)
 }

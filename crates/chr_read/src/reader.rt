@@ -1,21 +1,22 @@
 //! What the clauses of a text make, one after another.
 
-ghost use Rattle.std.specs.Prelude.{◌≡◌, Option, Some, true};
+ghost use Rattle.std.specs.Prelude.{◌≡◌, Option, Some, Err, true};
 ghost use Rattle.chr_syntax.specs.Grammar.{IsForm};
 ghost use Rattle.chr_syntax.specs.Views.{clause_view};
 ghost use Rattle.chr_syntax.specs.Bytes.{pieces};
 ghost use Rattle.chr_read.specs.Meanings.{Progress, nothing};
 ghost use Rattle.chr_read.specs.NamesOfForms.{has_names};
-ghost use Rattle.chr_read.specs.Reading.{clause_read, formed, ended, rest_read, pieces_read, text_read};
-ghost use Rattle.chr_read.specs.Outcomes.{ClauseGives, ClausesGive, IsReadAs};
-ghost use Rattle.chr_read.specs.ProgramTexts.{IsAnswer};
-ghost use Rattle.chr_read.specs.Views.{progress_of};
+ghost use Rattle.chr_read.specs.working.TextsRead.{clause_read, formed, with_rest, rest_read, pieces_read, text_read};
+ghost use Rattle.chr_read.specs.working.Outcomes.{IsReadClause, ClauseGives, ClausesGive, IsReadAs};
+ghost use Rattle.chr_read.specs.ProgramTexts.{IsAnswer, IsShort};
+ghost use Rattle.chr_read.specs.working.Views.{progress_of};
 ghost use Rattle.chr_read.specs.declared.reader.Stop.TheVariants.{Memory};
+ghost use Rattle.chr_read.specs.declared.fault.ReadFault.TheVariants.{Memory as OutOfMemory};
 
 use crate::adding::add_clause;
 use crate::fault::{Fault, ReadFault};
 use crate::faults::fault_in;
-use chr_base::atom::SymbolId;
+use crate::progress::{Reader, start};
 use chr_base::program::Program;
 use chr_syntax::{
     ClauseFault, RawClause, RestFault, clause_in, next_clause, rest_fault, without_comments,
@@ -23,15 +24,7 @@ use chr_syntax::{
 use std::alloc::{AllocError, Global};
 
 /// The greatest number of bytes of a text.
-pub const MOST_BYTES: usize = 65_536;
-
-/// What the clauses so far have made.
-#[derive(Drop)]
-pub struct Reader {
-    pub program: Program,
-    /// The symbols that have had a weight clause.
-    pub weighed: Vec<SymbolId>,
-}
+pub const MAX_TEXT: usize = 65_536;
 
 /// Why a clause was not read.
 #[derive(Debug, Drop)]
@@ -48,18 +41,8 @@ impl From<AllocError> for Stop {
     }
 }
 
-/// Before the first clause.
-fn start(alloc: Global) -> Reader
-    ensures { progress_of result ≡ nothing }
-{
-    Reader {
-        program: Program::empty(alloc),
-        weighed: Vec::new(alloc),
-    }
-}
-
 /// Adds a clause that has a form, unless it has a fault.
-#[tactic(auto, unfolding(crate::specs::Reading::clause_read))]
+#[tactic(auto, unfolding(crate::specs::working::TextsRead::clause_read))]
 fn read_form(alloc: Global, reader: &mut Reader, clause: &RawClause<'_>) -> Result<(), Stop>
     requires form { IsForm (clause_view clause.now) }
     requires names { has_names (clause_view clause.now) ≡ true }
@@ -72,12 +55,20 @@ fn read_form(alloc: Global, reader: &mut Reader, clause: &RawClause<'_>) -> Resu
     Ok(())
 }
 
+/// The form of a clause.
+#[tactic(auto, using(crate::proofs::FormsRead::answer_is))]
+fn clause_of<'a>(alloc: Global, bytes: &'a [u8]) -> Result<RawClause<'a>, ClauseFault>
+    ensures { IsReadClause result bytes.now }
+{
+    clause_in(alloc, bytes)
+}
+
 /// Reads a clause, after what stands before it.
-#[tactic(auto, using(crate::proofs::FormsRead::form_is, crate::proofs::FormsRead::names_are), unfolding(crate::specs::Reading::clause_read))]
+#[tactic(auto, using(crate::proofs::FormsRead::form_is, crate::proofs::FormsRead::names_are), unfolding(crate::specs::working::TextsRead::clause_read))]
 fn read_clause(alloc: Global, reader: &mut Reader, bytes: &[u8]) -> Result<(), Stop>
     ensures { ClauseGives result (progress_of reader.new) (clause_read (progress_of reader.old) bytes.now) }
 {
-    let clause = match clause_in(alloc, bytes) {
+    let clause = match clause_of(alloc, bytes) {
         Ok(clause) => clause,
         Err(ClauseFault::Memory) => return Err(Stop::Memory),
         Err(ClauseFault::BadByte) => return Err(Stop::Bad(Fault::BadByte)),
@@ -87,9 +78,9 @@ fn read_clause(alloc: Global, reader: &mut Reader, bytes: &[u8]) -> Result<(), S
 }
 
 /// What is wrong with the bytes after the last full stop.
-#[tactic(auto, unfolding(crate::specs::Reading::rest_read))]
+#[tactic(auto, unfolding(crate::specs::working::TextsRead::rest_read))]
 fn fault_of_rest(bytes: &[u8]) -> Option<Fault>
-    ensures { (q : Progress) → rest_read q bytes.now ≡ ended q result }
+    ensures { (q : Progress) → rest_read q bytes.now ≡ with_rest q result }
 {
     match rest_fault(bytes) {
         Some(RestFault::BadByte) => Some(Fault::BadByte),
@@ -126,11 +117,12 @@ fn read_clauses(alloc: Global, text: &[u8]) -> Result<Reader, ReadFault>
     }
 }
 
-#[tactic(auto, unfolding(crate::specs::Reading::text_read))]
+#[tactic(auto, unfolding(crate::specs::working::TextsRead::text_read))]
 fn read_text(alloc: Global, text: &[u8]) -> Result<Program, ReadFault>
-    ensures { IsReadAs result (text_read text.now) }
+    ensures read { IsReadAs result (text_read text.now) }
+    ensures short { result ≡ Err OutOfMemory → IsShort text.now }
 {
-    if text.len() > MOST_BYTES {
+    if text.len() > MAX_TEXT {
         return Err(ReadFault::TooLong);
     }
     let plain = without_comments(alloc, text)?;
@@ -142,12 +134,11 @@ fn read_text(alloc: Global, text: &[u8]) -> Result<Program, ReadFault>
 ///
 /// # Errors
 ///
-/// `TooLong` where the text has more than 65,536 bytes; else `Bad` with the first bad clause, counted from 1, and its least
+/// `TooLong` exactly where the text has more than `MAX_TEXT` bytes, which needs no memory; else `Bad` with the first bad clause, counted from 1, and its least
 /// fault; `Memory` where an allocation was refused.
 #[tactic(auto, using(crate::proofs::TextsRead::answers))]
 pub fn read(alloc: Global, text: &[u8]) -> Result<Program, ReadFault>
-    ensures meaning { IsReadAs result (text_read text.now) }
-    ensures grammar { IsAnswer text.now result }
+    ensures { IsAnswer text.now result }
 {
     read_text(alloc, text)
 }

@@ -1,18 +1,21 @@
 //! The rule that a rule as written is: symbols by their places, variables by their numbers, digits by their values.
 
-ghost use Rattle.std.specs.Prelude.{◌≡◌, ◌+◌, ◌≤◌, ◌<◌, ◌++◌, map, option_map, length, false, IfOk, OnOk, IfSome, IsTrue};
+ghost use Rattle.std.specs.Prelude.{◌≡◌, ◌+◌, ◌≤◌, ◌<◌, ◌++◌, map, option_map, length, true, false, IfOk, OnOk, IfSome, IsTrue};
 ghost use Rattle.std.specs.List.{list_any};
+ghost use Rattle.chr_base.specs.Names.{is_label};
 ghost use Rattle.chr_base.specs.Programs.{declarations};
 ghost use Rattle.chr_syntax.specs.Views.{term_view, atom_view, comparison_view, rule_view};
-ghost use Rattle.chr_read.specs.Faults.{present, atom_over, label_over};
-ghost use Rattle.chr_read.specs.Resolving.{met_at, variable_of, term_in, after_term, head_terms, after_terms, symbol_of, pattern, heads, after_heads, body_atom, cmp_of, comparison_in};
-ghost use Rattle.chr_read.specs.Views.{names_view};
+ghost use Rattle.chr_read.specs.Faults.{present};
+ghost use Rattle.chr_read.specs.working.RuleParts.{parts_of_atom_over, label_over, symbol_of};
+ghost use Rattle.chr_read.specs.Resolving.{met_at, variable_of, resolved_term, after_term, head_terms, after_terms, pattern, heads, after_heads, body_atom, cmp_of, resolved_comparison};
+ghost use Rattle.chr_read.specs.working.Views.{names_view};
 
 use crate::binding::is_anonymous;
 use crate::number::number_of;
 use crate::symbols::{name_in, place_of_atom};
 use arrayvec::{ArrayString, ArrayVec};
 use chr_base::atom::SymbolId;
+use chr_base::limits::{MAX_ARITY, MAX_BODY, MAX_COMPARISONS, MAX_HEADS, MAX_NAME};
 use chr_base::program::Program;
 use chr_base::term::{Cmp, Comparison, Pattern, Term};
 use chr_syntax::{Comparator, RawAtom, RawComparison, RawTerm};
@@ -45,9 +48,9 @@ fn variable_of(names: &[&[u8]], name: &[u8]) -> u8
     }
 }
 
-fn term_in(names: &[&[u8]], term: &RawTerm<'_>) -> Term
+fn resolved_term(names: &[&[u8]], term: &RawTerm<'_>) -> Term
     requires { length names.now ≤ 200 }
-    ensures { result ≡ term_in (names_view names.now) (term_view term.now) }
+    ensures { result ≡ resolved_term (names_view names.now) (term_view term.now) }
 {
     match term {
         RawTerm::Variable(name) => Term::Variable(variable_of(names, name)),
@@ -72,8 +75,8 @@ fn meet<'a>(names: &mut Vec<&'a [u8]>, term: &RawTerm<'a>) -> Result<(), AllocEr
 pub fn head_terms<'a>(
     names: &mut Vec<&'a [u8]>,
     terms: &[RawTerm<'a>],
-) -> Result<ArrayVec<Term, 4>, AllocError>
-    requires few { length terms.now ≤ 4 }
+) -> Result<ArrayVec<Term, MAX_ARITY>, AllocError>
+    requires few { length terms.now ≤ MAX_ARITY }
     requires room { length names.old.items ≤ 100 }
     ensures terms { IfOk result (λ ts. ts.items ≡ head_terms (names_view names.old.items) (map term_view terms.now)) }
     ensures names { OnOk result (names_view names.new.items ≡ after_terms (names_view names.old.items) (map term_view terms.now)) }
@@ -81,21 +84,21 @@ pub fn head_terms<'a>(
 {
     let mut found = ArrayVec::new();
     for term in terms {
-        found.push(term_in(names, term));
+        found.push(resolved_term(names, term));
         meet(names, term)?;
     }
     Ok(found)
 }
 
 /// The terms of an atom of the body.
-fn body_terms(names: &[&[u8]], terms: &[RawTerm<'_>]) -> ArrayVec<Term, 4>
-    requires few { length terms.now ≤ 4 }
+fn body_terms(names: &[&[u8]], terms: &[RawTerm<'_>]) -> ArrayVec<Term, MAX_ARITY>
+    requires few { length terms.now ≤ MAX_ARITY }
     requires room { length names.now ≤ 200 }
-    ensures { result.items ≡ map (term_in (names_view names.now)) (map term_view terms.now) }
+    ensures { result.items ≡ map (resolved_term (names_view names.now)) (map term_view terms.now) }
 {
     let mut found = ArrayVec::new();
     for term in terms {
-        found.push(term_in(names, term));
+        found.push(resolved_term(names, term));
     }
     found
 }
@@ -106,7 +109,7 @@ fn symbol_of(program: &Program, atom: &RawAtom<'_>) -> SymbolId
     place_of_atom(program, atom).unwrap_or(SymbolId(0))
 }
 
-fn pattern(program: &Program, atom: &RawAtom<'_>, args: ArrayVec<Term, 4>) -> Pattern
+fn pattern(program: &Program, atom: &RawAtom<'_>, args: ArrayVec<Term, MAX_ARITY>) -> Pattern
     ensures { result ≡ pattern (declarations program.now) (atom_view atom.now) args.items }
 {
     Pattern {
@@ -120,9 +123,9 @@ pub fn heads<'a>(
     program: &Program,
     names: &mut Vec<&'a [u8]>,
     atoms: &[RawAtom<'a>],
-) -> Result<ArrayVec<Pattern, 4>, AllocError>
-    requires few { length atoms.now ≤ 4 }
-    requires sound { list_any atom_over (map atom_view atoms.now) ≡ false }
+) -> Result<ArrayVec<Pattern, MAX_HEADS>, AllocError>
+    requires few { length atoms.now ≤ MAX_HEADS }
+    requires sound { list_any parts_of_atom_over (map atom_view atoms.now) ≡ false }
     requires room { length names.old.items ≤ 50 }
     ensures heads { IfOk result (λ ps. ps.items ≡ heads (declarations program.now) (names_view names.old.items) (map atom_view atoms.now)) }
     ensures names { OnOk result (names_view names.new.items ≡ after_heads (names_view names.old.items) (map atom_view atoms.now)) }
@@ -149,34 +152,37 @@ fn cmp_of(comparator: Comparator) -> Cmp
     }
 }
 
-fn comparison_in(names: &[&[u8]], comparison: &RawComparison<'_>) -> Comparison
+fn resolved_comparison(names: &[&[u8]], comparison: &RawComparison<'_>) -> Comparison
     requires { length names.now ≤ 200 }
-    ensures { result ≡ comparison_in (names_view names.now) (comparison_view comparison.now) }
+    ensures { result ≡ resolved_comparison (names_view names.now) (comparison_view comparison.now) }
 {
     Comparison {
-        left: term_in(names, &comparison.left),
+        left: resolved_term(names, &comparison.left),
         cmp: cmp_of(comparison.comparator),
-        right: term_in(names, &comparison.right),
+        right: resolved_term(names, &comparison.right),
     }
 }
 
 /// The comparisons of a guard.
-pub fn guard(names: &[&[u8]], items: &[Option<RawComparison<'_>>]) -> ArrayVec<Comparison, 8>
-    requires few { length (present (map (option_map comparison_view) items.now)) ≤ 8 }
+pub fn guard(
+    names: &[&[u8]],
+    items: &[Option<RawComparison<'_>>],
+) -> ArrayVec<Comparison, MAX_COMPARISONS>
+    requires few { length (present (map (option_map comparison_view) items.now)) ≤ MAX_COMPARISONS }
     requires room { length names.now ≤ 200 }
-    ensures { result.items ≡ map (comparison_in (names_view names.now)) (present (map (option_map comparison_view) items.now)) }
+    ensures { result.items ≡ map (resolved_comparison (names_view names.now)) (present (map (option_map comparison_view) items.now)) }
 {
     let mut found = ArrayVec::new();
     for item in items {
         if let Some(comparison) = item {
-            found.push(comparison_in(names, comparison));
+            found.push(resolved_comparison(names, comparison));
         }
     }
     found
 }
 
 fn body_atom(program: &Program, names: &[&[u8]], atom: &RawAtom<'_>) -> Pattern
-    requires sound { atom_over (atom_view atom.now) ≡ false }
+    requires sound { parts_of_atom_over (atom_view atom.now) ≡ false }
     requires room { length names.now ≤ 200 }
     ensures { result ≡ body_atom (declarations program.now) (names_view names.now) (atom_view atom.now) }
 {
@@ -189,9 +195,9 @@ pub fn body(
     program: &Program,
     names: &[&[u8]],
     items: &[Option<RawAtom<'_>>],
-) -> ArrayVec<Pattern, 8>
-    requires few { length (present (map (option_map atom_view) items.now)) ≤ 8 }
-    requires sound { list_any atom_over (present (map (option_map atom_view) items.now)) ≡ false }
+) -> ArrayVec<Pattern, MAX_BODY>
+    requires few { length (present (map (option_map atom_view) items.now)) ≤ MAX_BODY }
+    requires sound { list_any parts_of_atom_over (present (map (option_map atom_view) items.now)) ≡ false }
     requires room { length names.now ≤ 200 }
     ensures { result.items ≡ map (body_atom (declarations program.now) (names_view names.now)) (present (map (option_map atom_view) items.now)) }
 {
@@ -205,8 +211,9 @@ pub fn body(
 }
 
 /// A rule's name.
-pub fn label(name: Option<&[u8]>) -> Option<ArrayString<32>>
-    requires { label_over (option_map (λ l. l.now) name) ≡ false }
+#[tactic(auto, using(crate::proofs::Names::name_is_text))]
+pub fn label(name: Option<&[u8]>) -> Option<ArrayString<MAX_NAME>>
+    requires { is_label (option_map (λ l. l.now) name) ≡ true }
     ensures { option_map (λ n. n.bytes) result ≡ option_map (λ l. l.now) name.entry }
 {
     let name = name_in(name?)?;

@@ -2,35 +2,35 @@
 
 ghost use Rattle.std.specs.Prelude.{◌≡◌, option_map, map, is_some, Some, None, if◌then◌else◌};
 ghost use Rattle.std.specs.List.{list_any};
+ghost use Rattle.std.specs.Str.{is_utf8};
 ghost use Rattle.chr_base.specs.Programs.{declarations};
 ghost use Rattle.chr_syntax.specs.Views.{atom_view, symbol_view, rule_view};
-ghost use Rattle.chr_read.specs.Faults.{is_name, place_of, place_of_atom, place_of_symbol, is_undeclared, any_undeclared, rule_undeclared, is_known, present};
+ghost use Rattle.chr_read.specs.Faults.{is_long, place_of_symbol, is_undeclared, present};
+ghost use Rattle.chr_read.specs.working.RuleParts.{place_of, place_of_atom, any_undeclared, rule_undeclared, is_declared_already};
 
 use crate::number::arity_of;
 use chr_base::atom::SymbolId;
+use chr_base::limits::MAX_NAME;
 use chr_base::program::Program;
 use chr_syntax::{RawAtom, RawRule, RawSymbol};
 
-/// The name, where it can stand in a program: text of at most 32 bytes.
+/// The bytes of a name as text.
 #[tactic(auto, using(crate::proofs::Names::text_is, crate::proofs::Names::no_text_is))]
 pub fn name_in(word: &[u8]) -> Option<&str>
-    ensures { option_map (λ s. s.now) result ≡ (if is_name word.now then Some word.now else None) }
+    ensures { option_map (λ s. s.now) result ≡ (if is_utf8 word.now then Some word.now else None) }
 {
-    let name = str::from_utf8(word).ok()?;
-    if name.len() > 32 {
-        return None;
-    }
-    Some(name)
+    str::from_utf8(word).ok()
 }
 
-/// Whether these bytes can be a name in a program.
-pub fn is_name(word: &[u8]) -> bool
-    ensures { result ≡ is_name word.now }
+/// Whether these are more bytes than a name or a variable may have.
+pub fn is_long(word: &[u8]) -> bool
+    ensures { result ≡ is_long word.now }
 {
-    name_in(word).is_some()
+    MAX_NAME < word.len()
 }
 
 /// The declared symbol of this name and number of arguments.
+#[tactic(auto, using(crate::proofs::Names::no_text_is_declared))]
 pub fn place_of(program: &Program, name: &[u8], arity: usize) -> Option<SymbolId>
     ensures { option_map (λ s. s.0) result ≡ place_of (declarations program.now) name.now arity }
 {
@@ -90,8 +90,8 @@ pub fn rule_undeclared(program: &Program, rule: &RawRule<'_>) -> bool
         || items_undeclared(program, &rule.body)
 }
 
-fn is_known(program: &Program, symbol: &RawSymbol<'_>) -> bool
-    ensures { result ≡ is_known (declarations program.now) (symbol_view symbol.now) }
+fn is_declared_already(program: &Program, symbol: &RawSymbol<'_>) -> bool
+    ensures { result ≡ is_declared_already (declarations program.now) (symbol_view symbol.now) }
 {
     match place_of_symbol(program, symbol) {
         Some(_) => true,
@@ -101,10 +101,10 @@ fn is_known(program: &Program, symbol: &RawSymbol<'_>) -> bool
 
 /// Whether some of these symbols is declared already.
 pub fn any_known(program: &Program, symbols: &[RawSymbol<'_>]) -> bool
-    ensures { result ≡ list_any (is_known (declarations program.now)) (map symbol_view symbols.now) }
+    ensures { result ≡ list_any (is_declared_already (declarations program.now)) (map symbol_view symbols.now) }
 {
     for symbol in symbols {
-        if is_known(program, symbol) {
+        if is_declared_already(program, symbol) {
             return true;
         }
     }

@@ -2,12 +2,13 @@
 
 ghost use Rattle.std.specs.Prelude.{◌≡◌, ◌<◌, ◌++◌, map, option_map, Some, codes, decimal, IfOk, OnOk, string_bytes, length, slice_get, [], ◌∷◌};
 ghost use Rattle.chr_base.specs.Programs.{declarations, rules_of};
-ghost use Rattle.chr_read.specs.CanonicalTexts.{joined, more, term_text, args_text, name_at, pattern_text, patterns_text, cmp_text, comparison_text, label_text, kept_text, guard_text, body_text, rule_clause, symbol_text, declaration_clauses, weight_clauses, ended, canonical};
+ghost use Rattle.chr_read.specs.CanonicalTexts.{separated, more, term_text, args_text, name_at, pattern_text, patterns_text, cmp_text, comparison_text, label_text, kept_text, guard_text, body_text, rule_clause, symbol_text, declaration_clauses, weight_clauses, ended_clauses, canonical};
 ghost use Rattle.chr_read.specs.RoundTrips.{ComesBack};
-ghost use Rattle.chr_read.specs.Views.{declared_view};
+ghost use Rattle.chr_read.specs.working.Views.{declared_view};
 
 use arrayvec::ArrayString;
 use chr_base::atom::SymbolId;
+use chr_base::limits::MAX_NAME;
 use chr_base::program::{DEFAULT_WEIGHT, Program};
 use chr_base::rule::Rule;
 use chr_base::term::{Cmp, Comparison, Pattern, Term};
@@ -126,7 +127,7 @@ fn push_more_comparisons(out: &mut String, comparisons: &[Comparison]) -> Result
 }
 
 /// The name of a rule, where it has one, and an at sign.
-fn push_label(out: &mut String, name: &Option<ArrayString<32>>) -> Result<(), AllocError>
+fn push_label(out: &mut String, name: &Option<ArrayString<MAX_NAME>>) -> Result<(), AllocError>
     ensures { OnOk result (string_bytes out.new ≡ string_bytes out.old ++ label_text (option_map (λ n. n.bytes) name.now)) }
 {
     if let Some(name) = name {
@@ -182,7 +183,7 @@ fn push_rule(out: &mut String, program: &Program, rule: &Rule) -> Result<(), All
 }
 
 fn push_rules(out: &mut String, program: &Program, rules: &[Rule]) -> Result<(), AllocError>
-    ensures { OnOk result (string_bytes out.new ≡ string_bytes out.old ++ ended (map (rule_clause (declarations program.now)) rules.now)) }
+    ensures { OnOk result (string_bytes out.new ≡ string_bytes out.old ++ ended_clauses (map (rule_clause (declarations program.now)) rules.now)) }
 {
     for rule in rules {
         push_rule(out, program, rule)?;
@@ -240,7 +241,7 @@ fn push_more_symbols(out: &mut String, all: &[Declared<'_>]) -> Result<(), Alloc
 }
 
 fn push_declaration(out: &mut String, all: &[Declared<'_>]) -> Result<(), AllocError>
-    ensures { OnOk result (string_bytes out.new ≡ string_bytes out.old ++ ended (declaration_clauses (map declared_view all.now))) }
+    ensures { OnOk result (string_bytes out.new ≡ string_bytes out.old ++ ended_clauses (declaration_clauses (map declared_view all.now))) }
 {
     if let Some((first, rest)) = all.split_first() {
         out.push_str(":- chr_constraint ")?;
@@ -252,7 +253,7 @@ fn push_declaration(out: &mut String, all: &[Declared<'_>]) -> Result<(), AllocE
 }
 
 fn push_weight(out: &mut String, declared: &Declared<'_>) -> Result<(), AllocError>
-    ensures { OnOk result (string_bytes out.new ≡ string_bytes out.old ++ ended (weight_clauses (declared_view declared.now ∷ []))) }
+    ensures { OnOk result (string_bytes out.new ≡ string_bytes out.old ++ ended_clauses (weight_clauses (declared_view declared.now ∷ []))) }
 {
     if declared.weight != DEFAULT_WEIGHT {
         out.push_str(":- chr_weight ")?;
@@ -263,7 +264,7 @@ fn push_weight(out: &mut String, declared: &Declared<'_>) -> Result<(), AllocErr
 }
 
 fn push_weights(out: &mut String, all: &[Declared<'_>]) -> Result<(), AllocError>
-    ensures { OnOk result (string_bytes out.new ≡ string_bytes out.old ++ ended (weight_clauses (map declared_view all.now))) }
+    ensures { OnOk result (string_bytes out.new ≡ string_bytes out.old ++ ended_clauses (weight_clauses (map declared_view all.now))) }
 {
     for declared in all {
         push_weight(out, declared)?;

@@ -5,26 +5,31 @@ use Rattle.std.specs.Option.{IsSomeAnd}
 use Rattle.chr_base.specs.ProgramTests.{Declaration}
 use Rattle.chr_base.specs.Texts.{store_text}
 use Rattle.chr_ops.specs.Operations.{Operation, Operations, told_store, IsHeldOtherwise}
-use Rattle.chr_ops.specs.Operations.{IsOperationBag}
-use Rattle.chr_json.specs.Commands.{Word, IsOperationLength}
+use Rattle.chr_ops.specs.Operations.{HasOperationSize}
+use Rattle.chr_json.specs.Commands.{NamedAtom, IsOperationLength}
 use Rattle.chr_json.specs.Values.{each}
-use Rattle.chr_report.specs.Replies.{refused}
-use Rattle.chr_report.specs.Answers.{atom_of, atoms_of, AnswersTell, AnswersShow}
+use Rattle.chr_report.specs.declared.reply.Refusal.TheVariants as refusal
+use Rattle.chr_report.specs.Replies.{refusal_text}
+use Rattle.chr_report.specs.Answers.{named_atom, named_atoms, AnswersTell, AnswersShow}
 use Rattle.chr_base.specs.declared.rule.Rule.{Rule}
 use Rattle.chr_base.specs.declared.atom.Atom.{Atom}
 use Rattle.chr_weights.specs.declared.weighed.Weighed.{Weighed}
 use Rattle.chr_weights.specs.WeighedPrograms.{program_of}
 use Rattle.chr_join.specs.declared.accepted.Accepted.{Accepted}
 use Rattle.chr_join.specs.AcceptedPrograms.{weighed_of}
-use Rattle.chr_report.specs.Boards.{program_in}
+use Rattle.chr_join.specs.AcceptedPrograms.{program_in}
 use Rattle.chr_base.specs.FinBag as bag
+use Rattle.chr_base.proofs.FinBags as bag_laws
 use Rattle.chr_base.specs.FinBag.{◌⊕◌, total}
-use Rattle.chr_base.specs.Stores.{Store, store_of, store_of-items, size, weight_store_of}
+use Rattle.chr_base.specs.Stores.{Store, store_of, size}
+use Rattle.chr_base.proofs.Stores.{store_of-items, weight_store_of}
 use Rattle.chr_base.specs.Rules.{Step}
 use Rattle.chr_base.specs.Programs.{rules_of}
-use Rattle.chr_base.specs.Rewriting.{Reaches, reaches_on, IsAtRest, IsNormalForm}
+use Rattle.chr_base.specs.Rewriting.{Reaches, IsAtRest, IsNormalForm}
+use Rattle.chr_base.proofs.Rewriting.{reaches_on}
 use Rattle.chr_rewrite.specs.Pools.{TookSteps}
-use Rattle.chr_rewrite.specs.PoolLaws.{reaches_more, took_reaches}
+use Rattle.chr_base.proofs.Steps.{Reaches-grows}
+use Rattle.chr_rewrite.proofs.PoolLemmas.{took_reaches}
 
 -- nothing told, nothing in the pool
 pub nothing_reached : (rules : List Rule) (s t : Store) → s ≡ bag.empty → t ≡ bag.empty → Reaches (Step rules) s t
@@ -34,10 +39,10 @@ nothing_reached rules s t e f = (0, e ∙ sym f)
 pub told_reached : (rules : List Rule) (s s' t t' more again : Store) → Reaches (Step rules) s t → s' ≡ s ⊕ more → again ≡ more → t' ≡ t ⊕ again → Reaches (Step rules) s' t'
 told_reached rules s s' t t' more again r e f g =
     let h : t' ≡ t ⊕ more = g ∙ ap (λ x. t ⊕ x) f in
-    rw (e, h) (reaches_more rules s t more r)
+    rw (e, h) (Reaches-grows rules s t more r)
 
 -- an id that stands for another bag
-pub clash_answered : (old new : Operations) (op : Operation) → IsHeldOtherwise old op → new ≡ old → AnswersTell old op (refused 33) new
+pub clash_answered : (old new : Operations) (op : Operation) → IsHeldOtherwise old op → new ≡ old → AnswersTell old op (refusal_text refusal.Clash) new
 clash_answered old new op held same = record {
   again = λ h. absurd (let k : IsSomeAnd (Some op.1) (λ b. b ≢ op.1) = rw h at held in k refl);
   clash = λ _. (refl, same);
@@ -79,11 +84,11 @@ length_total (x ∷ xs) = let h = length_total xs in omega (arith, h)
 
 size-of : (xs : List Atom) → size (store_of xs) ≡ length xs
 size-of xs =
-    length_total (bag.items (store_of xs)) ∙ sym (bag.sum_over-items (λ _. 1) (store_of xs)) ∙ weight_store_of (λ _. 1) xs ∙ sym (length_total xs)
+    length_total (bag.items (store_of xs)) ∙ sym (bag_laws.sum_over-items (λ _. 1) (store_of xs)) ∙ weight_store_of (λ _. 1) xs ∙ sym (length_total xs)
 
 -- what a line tells has as many atoms as the line
-pub told_size : (ds : List Declaration) (ws : List Word) (xs : List Atom) → Some xs ≡ atoms_of ds ws → IsOperationLength (length ws) → IsOperationBag (store_of xs)
+pub told_size : (ds : List Declaration) (ws : List NamedAtom) (xs : List Atom) → Some xs ≡ named_atoms ds ws → IsOperationLength (length ws) → HasOperationSize (store_of xs)
 told_size ds ws xs e h =
-    let n = length-each (atom_of ds) ws xs (sym e) in
+    let n = length-each (named_atom ds) ws xs (sym e) in
     let s = size-of xs in
     (omega (arith, n, s, h), omega (arith, n, s, h))

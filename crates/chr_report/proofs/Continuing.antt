@@ -1,13 +1,9 @@
 -- Answers of lines, one line after another.
 use Rattle.std.proofs.Common.{◌≡◌, ℕ, ◌+◌, length, Bool, true, false, List, [], ◌∷◌, ◌++◌, refl, sym, ap, ◌∙◌, append_assoc, append-nil, subst}
-use Rattle.std.specs.Prelude.{Option, Some, None, IfSome, IfNone}
-use Rattle.chr_base.specs.Stores.{Store}
-use Rattle.chr_base.specs.Rules.{Step}
-use Rattle.chr_base.specs.Rewriting.{Reaches}
+use Rattle.std.specs.Prelude.{Option, Some, None}
 use Rattle.chr_base.specs.Programs.{declarations, rules_of}
-use Rattle.chr_ops.specs.Operations.{told_store}
 use Rattle.chr_join.specs.declared.accepted.Accepted.{Accepted}
-use Rattle.chr_report.specs.Boards.{program_in}
+use Rattle.chr_join.specs.AcceptedPrograms.{program_in}
 use Rattle.std.specs.Borrow.{Bor}
 use Rattle.std.specs.Bool.{MatchBool}
 use Rattle.chr_base.specs.declared.rule.Rule.{Rule}
@@ -15,13 +11,9 @@ use Rattle.chr_base.specs.ProgramTests.{Declaration}
 use Rattle.chr_ops.specs.Operations.{Operations}
 use Rattle.chr_json.specs.Lines.{is_blank_line}
 use Rattle.chr_report.specs.Lines.{lines, without_return}
+use Rattle.chr_report.specs.working.LinesLeft.{lines_left}
 use Rattle.chr_report.specs.Answers.{AnswersAll, AnswersFirst}
-use Rattle.chr_report.specs.Answered.{AnswersLine, AddsAnswer, AnswersRest}
-
--- the lines that are still to be answered
-abbrev pub left : Option (Bor (List ℕ)) → List (List ℕ)
-left None = []
-left (Some s) = lines s.now
+use Rattle.chr_report.specs.working.Answered.{AnswersLine, AddsAnswer, AnswersRest}
 
 -- with the answers of what is left, the answers so far are those of all lines
 pub record Continues (ds : List Declaration) (rules : List Rule) (all : List (List ℕ)) (start : Operations) (before : List ℕ) (ls : List (List ℕ)) (now : Operations) (out : List ℕ) : Type 0 where
@@ -53,33 +45,26 @@ abbrev pub left_size : Option (Bor (List ℕ)) → ℕ
 left_size None = 0
 left_size (Some s) = length s.now + 1
 
-pub left_more : (rest line : List ℕ) (more : Option (Bor (List ℕ))) → IfNone more (lines rest ≡ line ∷ []) → IfSome more (λ r. lines rest ≡ line ∷ lines r.now) → lines rest ≡ line ∷ left more
-left_more rest line None h g = h
-left_more rest line (Some r) h g = g
-
 -- what holds at the next turn
-pub record Turn (w : Accepted) (all : List (List ℕ)) (start : Operations) (before : List ℕ) (v : Accepted) (next : Option (Bor (List ℕ))) (now : Operations) (pool : Store) (out : List ℕ) : Type 0 where
+pub record Turn (w : Accepted) (all : List (List ℕ)) (start : Operations) (before : List ℕ) (v : Accepted) (next : Option (Bor (List ℕ))) (now : Operations) (out : List ℕ) : Type 0 where
   pub program : v ≡ w
-  pub reached : Reaches (Step (rules_of (program_in w))) (told_store now) pool
-  pub answered : Continues (declarations (program_in w)) (rules_of (program_in w)) all start before (left next) now out
+  pub answered : Continues (declarations (program_in w)) (rules_of (program_in w)) all start before (lines_left next) now out
 
-pub one_more : (w : Accepted) (all : List (List ℕ)) (start : Operations) (before : List ℕ) (v x : Accepted) (next : Option (Bor (List ℕ))) (rest : Bor (List ℕ)) (line stripped : List ℕ) (more : Option (Bor (List ℕ))) (old new : Operations) (pool again : Store) (out longer : List ℕ)
-    → v ≡ w → Continues (declarations (program_in w)) (rules_of (program_in w)) all start before (left next) old out → next ≡ Some rest
-    → IfNone more (lines rest.now ≡ line ∷ []) → IfSome more (λ r. lines rest.now ≡ line ∷ lines r.now) → stripped ≡ without_return line
-    → Reaches (Step (rules_of (program_in v))) (told_store new) again → x ≡ v
+pub one_more : (w : Accepted) (all : List (List ℕ)) (start : Operations) (before : List ℕ) (v x : Accepted) (next : Option (Bor (List ℕ))) (rest : Bor (List ℕ)) (line stripped : List ℕ) (more : Option (Bor (List ℕ))) (old new : Operations) (out longer : List ℕ)
+    → v ≡ w → Continues (declarations (program_in w)) (rules_of (program_in w)) all start before (lines_left next) old out → next ≡ Some rest
+    → lines rest.now ≡ line ∷ lines_left more → stripped ≡ without_return line → x ≡ v
     → AnswersLine (declarations (program_in v)) (rules_of (program_in v)) old stripped out new longer
-    → Turn w all start before x more new again longer
-one_more w all start before v x next rest line stripped more old new pool again out longer e h is last further strip reached same answers = record {
+    → Turn w all start before x more new longer
+one_more w all start before v x next rest line stripped more old new out longer e h is split strip same answers = record {
   program = same ∙ e;
-  reached = subst (λ u. Reaches (Step (rules_of (program_in u))) (told_store new) again) e reached;
   answered =
-      goes_on (declarations (program_in w)) (rules_of (program_in w)) all start before line (left more) old out new longer
-      (subst (λ ls. Continues (declarations (program_in w)) (rules_of (program_in w)) all start before ls old out) (ap left is ∙ left_more rest.now line more last further) h)
+      goes_on (declarations (program_in w)) (rules_of (program_in w)) all start before line (lines_left more) old out new longer
+      (subst (λ ls. Continues (declarations (program_in w)) (rules_of (program_in w)) all start before ls old out) (ap lines_left is ∙ split) h)
       (subst (λ l. AnswersLine (declarations (program_in w)) (rules_of (program_in w)) old l out new longer) strip
       (subst (λ u. AnswersLine (declarations (program_in u)) (rules_of (program_in u)) old stripped out new longer) e answers));
 }
 
-pub all_answered : (w : Accepted) (all : List (List ℕ)) (start : Operations) (before : List ℕ) (next : Option (Bor (List ℕ))) (now : Operations) (out : List ℕ) → Continues (declarations (program_in w)) (rules_of (program_in w)) all start before (left next) now out → next ≡ None
+pub all_answered : (w : Accepted) (all : List (List ℕ)) (start : Operations) (before : List ℕ) (next : Option (Bor (List ℕ))) (now : Operations) (out : List ℕ) → Continues (declarations (program_in w)) (rules_of (program_in w)) all start before (lines_left next) now out → next ≡ None
     → AnswersRest (declarations (program_in w)) (rules_of (program_in w)) all start before out
 all_answered w all start before next now out h e =
-    ends _ _ all start before now out (subst (λ ls. Continues (declarations (program_in w)) (rules_of (program_in w)) all start before ls now out) (ap left e) h)
+    ends _ _ all start before now out (subst (λ ls. Continues (declarations (program_in w)) (rules_of (program_in w)) all start before ls now out) (ap lines_left e) h)

@@ -6,6 +6,7 @@ pub mod Cutting
 pub mod Outcomes
 pub mod OneTextValues
 pub mod OneText
+pub mod AnswersThere
 pub mod UnnamedRules
 pub mod UnnamedVerdicts
 pub mod OneOutput

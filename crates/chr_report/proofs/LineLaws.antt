@@ -1,43 +1,56 @@
 -- The first line of an input, and its end.
-use Rattle.std.proofs.Common.{◌≡◌, ℕ, suc, ◌+◌, ◌<◌, List, [], ◌∷◌, ◌++◌, length, take, drop, Bool, true, false, not, cond, refl, ap, ◌∙◌, arith}
+use Rattle.std.proofs.Common.{◌≡◌, ℕ, ◌+◌, ◌<◌, List, [], ◌∷◌, ◌++◌, length, drop, suc, Bool, true, false, not, cond, refl, sym, ap, ◌∙◌, arith}
 use Rattle.std.specs.Prelude.{◌==◌}
+use Rattle.std.specs.List.{position_or_len, before_first, after_first, onto_first}
 use Rattle.std.proofs.lemmas.Bool.{eqb-true}
-use Rattle.chr_report.specs.Lines.{onto_first, lines, line_len, ended}
+use Rattle.std.proofs.lemmas.List.Sums.{fails_before_first, passes_at_first, split_at_first}
+use Rattle.std.proofs.lemmas.List.Splits.{slice_split_none, slice_split_first, join_with_byte-slice_split}
+use Rattle.chr_report.specs.Lines.{lines, is_divider, text_of, commands_of}
+use Rattle.chr_report.specs.Laws.{LinesAreTheInput}
 
-none_at : (b : Bool) (n x : ℕ) (xs : List ℕ) (rest : List (List ℕ)) → cond (not b) (1 + n) 0 ≡ suc (length xs) → (n ≡ length xs → rest ≡ xs ∷ []) → cond b ([] ∷ rest) (onto_first x rest) ≡ (x ∷ xs) ∷ []
-none_at true n x xs rest whole more = absurd (omega arith)
-none_at false n x xs rest whole more = ap (onto_first x) (more (omega arith))
+pub lines_none : (t : List ℕ) → position_or_len (λ b. b == 10) t ≡ length t → lines t ≡ t ∷ []
+lines_none t e = slice_split_none (λ b. b == 10) t (λ k d l. fails_before_first (λ b. b == 10) t k d (omega (arith, e, l)))
 
-pub lines_none : (t : List ℕ) → line_len t ≡ length t → lines t ≡ t ∷ []
-lines_none [] h = refl
-lines_none (x ∷ xs) h = none_at (x == 10) (line_len xs) x xs (lines xs) h (lines_none xs)
-
-some_at : (b : Bool) (n x : ℕ) (xs : List ℕ) → cond (not b) (1 + n) 0 < suc (length xs) → (n < length xs → lines xs ≡ take n xs ∷ lines (drop (n + 1) xs))
-    → cond b ([] ∷ lines xs) (onto_first x (lines xs)) ≡ take (cond (not b) (1 + n) 0) (x ∷ xs) ∷ lines (drop (cond (not b) (1 + n) 0 + 1) (x ∷ xs))
-some_at true n x xs within more = refl
-some_at false n x xs within more =
-    ap (onto_first x) (more (omega arith)) ∙ grind arith
-
-pub lines_some : (t : List ℕ) → line_len t < length t → lines t ≡ take (line_len t) t ∷ lines (drop (line_len t + 1) t)
-lines_some [] h = absurd (omega arith)
-lines_some (x ∷ xs) h = some_at (x == 10) (line_len xs) x xs h (lines_some xs)
-
-feed_at : (b : Bool) (n x : ℕ) (xs : List ℕ) → (b ≡ true → x ≡ 10) → cond (not b) (1 + n) 0 < suc (length xs) → (n < length xs → xs ≡ take n xs ++ 10 ∷ drop (n + 1) xs)
-    → x ∷ xs ≡ take (cond (not b) (1 + n) 0) (x ∷ xs) ++ 10 ∷ drop (cond (not b) (1 + n) 0 + 1) (x ∷ xs)
-feed_at true n x xs is within more = ap (λ y. y ∷ xs) (is refl)
-feed_at false n x xs is within more = ap (λ ys. x ∷ ys) (more (omega arith)) ∙ grind arith
+pub lines_some : (t : List ℕ) → position_or_len (λ b. b == 10) t < length t → lines t ≡ before_first (λ b. b == 10) t ∷ lines (after_first (λ b. b == 10) t)
+lines_some t l = slice_split_first (λ b. b == 10) t 0 l
 
 -- the first line, its line feed and the rest
-pub split_at_feed : (t : List ℕ) → line_len t < length t → t ≡ take (line_len t) t ++ 10 ∷ drop (line_len t + 1) t
-split_at_feed [] h = absurd (omega arith)
-split_at_feed (x ∷ xs) h = feed_at (x == 10) (line_len xs) x xs (eqb-true x 10) h (split_at_feed xs)
+pub split_at_feed : (t : List ℕ) → position_or_len (λ b. b == 10) t < length t → t ≡ before_first (λ b. b == 10) t ++ 10 ∷ after_first (λ b. b == 10) t
+split_at_feed t l =
+    split_at_first (λ b. b == 10) t 0 l
+    ∙ ap (λ x. before_first (λ b. b == 10) t ++ x ∷ after_first (λ b. b == 10) t) (eqb-true _ 10 (passes_at_first (λ b. b == 10) t 0 l))
+
+pub lines_are_the_input : LinesAreTheInput
+lines_are_the_input input = join_with_byte-slice_split 10 input
 
 -- there is always a line
-pub ended_before : (line r : List ℕ) → ended line (lines r) ≡ line ++ 10 ∷ []
-ended_before line [] = refl
-ended_before line (b ∷ bs) = by (b == 10) (lines bs)
+some_line : (r : List ℕ) → (l : List ℕ) × (ls : List (List ℕ)) × (lines r ≡ l ∷ ls)
+some_line [] = ([], [], refl)
+some_line (b ∷ bs) = by (b == 10) (lines bs)
   where
-    by : (x : Bool) (ls : List (List ℕ)) → ended line (cond x ([] ∷ ls) (onto_first b ls)) ≡ line ++ 10 ∷ []
-    by true ls = refl
-    by false [] = refl
-    by false (l ∷ ls) = refl
+    by : (x : Bool) (ls : List (List ℕ)) → (l : List ℕ) × (more : List (List ℕ)) × (cond x ([] ∷ ls) (onto_first b ls) ≡ l ∷ more)
+    by true ls = ([], ls, refl)
+    by false [] = (b ∷ [], [], refl)
+    by false (l ∷ ls) = (b ∷ l, ls, refl)
+
+-- ---- program text and commands, line by line
+
+pub text_more : (line r : List ℕ) → is_divider line ≡ false → text_of (line ∷ lines r) ≡ line ++ 10 ∷ text_of (lines r)
+text_more line r apart =
+    let s = some_line r in
+    ap (λ ls. text_of (line ∷ ls)) s.2 ∙ ap (λ b. cond b [] (line ++ 10 ∷ text_of (s.0 ∷ s.1))) apart ∙ ap (λ ls. line ++ 10 ∷ text_of ls) (sym s.2)
+
+pub text_last : (line : List ℕ) → is_divider line ≡ false → text_of (line ∷ []) ≡ line
+text_last line apart = ap (λ b. cond b [] line) apart
+
+pub text_ended : (line : List ℕ) (ls : List (List ℕ)) → is_divider line ≡ true → text_of (line ∷ ls) ≡ []
+text_ended line [] found = ap (λ b. cond b [] line) found
+text_ended line (m ∷ ls) found = ap (λ b. cond b [] (line ++ 10 ∷ text_of (m ∷ ls))) found
+
+pub commands_later : (line : List ℕ) (ls : List (List ℕ)) → is_divider line ≡ false → commands_of (line ∷ ls) ≡ commands_of ls
+commands_later line ls apart =
+    let n = position_or_len is_divider ls in
+    ap (λ b. drop (cond (not b) (1 + n) 0 + 1) (line ∷ ls)) apart ∙ ap (λ k. drop k (line ∷ ls)) (let e : 1 + n + 1 ≡ suc (n + 1) = omega arith in e)
+
+pub commands_here : (line : List ℕ) (ls : List (List ℕ)) → is_divider line ≡ true → commands_of (line ∷ ls) ≡ ls
+commands_here line ls found = ap (λ b. drop (cond (not b) (1 + position_or_len is_divider ls) 0 + 1) (line ∷ ls)) found

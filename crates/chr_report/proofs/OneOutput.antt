@@ -6,36 +6,36 @@ use Rattle.std.proofs.lemmas.Bool.{cases_lt}
 use Rattle.chr_base.specs.declared.rule.Rule.{Rule}
 use Rattle.chr_base.specs.declared.program.Program.{Program}
 use Rattle.chr_base.specs.Rules.{Valuation}
-use Rattle.chr_base.specs.StepLaws.{RuleLowers}
+use Rattle.chr_base.specs.Rules.{RuleLowers}
 use Rattle.chr_base.specs.ProgramTests.{Declaration}
 use Rattle.chr_base.specs.Programs.{declarations, rules_of}
 use Rattle.chr_base.specs.Texts.{store_text}
 use Rattle.chr_weights.specs.Weights.{weight_by}
-use Rattle.chr_confluence.specs.Confluence.{RulesLower}
+use Rattle.chr_confluence.specs.Lowering.{RulesLower}
 use Rattle.chr_join.specs.declared.refused.Cause.{Cause}
 use Rattle.chr_join.specs.declared.refused.Cause.TheVariants as cause
-use Rattle.chr_join.specs.Once.{IsOfMemory, SameRefusal, AcceptedOnce, RefusedOnce, NeverBoth, AcceptedAreConfluent}
-use Rattle.chr_read.specs.Meanings.{Meaning, meaning_of}
-use Rattle.chr_read.specs.ProgramTexts.{ProgramsAreRead, BadTextsAreRefused, LongTextsAreRefused}
-use Rattle.chr_read.specs.Reading.{text_read}
+use Rattle.chr_join.specs.Once.{SameRefusal, AcceptedOnce, RefusedOnce, NeverBoth, AcceptedAreConfluent}
+use Rattle.chr_read.specs.Meanings.{meaning_of}
+use Rattle.chr_read.specs.Numbers.{number_of_fault}
+use Rattle.chr_read.specs.ProgramTexts.{IsShort, IsAnswer, ProgramsHaveOneMeaning, RefusedTextsAreNoPrograms, TextsHaveOneFault}
 use Rattle.chr_read.specs.declared.fault.ReadFault.{ReadFault}
 use Rattle.chr_read.specs.declared.fault.ReadFault.TheVariants as fault
 use Rattle.chr_report.specs.declared.running.Status.{Status}
 use Rattle.chr_report.specs.declared.running.Status.TheVariants.{Accepted, Refused}
-use Rattle.chr_report.specs.Commands.{asked}
 use Rattle.chr_report.specs.Lines.{lines, text_of, commands_of}
 use Rattle.chr_report.specs.OneText.{FirstAnswersAreOne}
 use Rattle.chr_report.specs.OneOutput.{OutputsAreOne}
-use Rattle.chr_report.specs.Outputs.{IsFirstNotLowered, not_lowered_text, accepted_text, IsRefusedByWeights, IsCauseLine, IsRefusedByOverlaps, IsAnswered, IsRulesOutput, IsProgramOutput, HasTextFault, IsTextOutput, fault_text}
+use Rattle.chr_weights.specs.Weights.{IsFirstNotLowered}
+use Rattle.chr_report.specs.Outputs.{not_lowered_text, accepted_text, IsRefusedByWeights, IsCauseLine, IsRefusedByOverlaps, IsAnswered, IsRulesOutput, IsReadOutput, asked}
 use Rattle.chr_report.specs.Overlaps.{overlap_text}
 use Rattle.chr_report.proofs.UnnamedRules.{unnamed, all_unnamed}
 use Rattle.chr_report.proofs.UnnamedVerdicts.{output_unnamed}
 
 -- what the crates below say of texts, verdicts and answers
 pub record VerdictLaws : Type 0 where
-  pub programs : ProgramsAreRead
-  pub bad : BadTextsAreRefused
-  pub long : LongTextsAreRefused
+  pub meaning : ProgramsHaveOneMeaning
+  pub apart : RefusedTextsAreNoPrograms
+  pub fault : TextsHaveOneFault
   pub confluent : AcceptedAreConfluent
   pub accepted : AcceptedOnce
   pub refused : RefusedOnce
@@ -96,10 +96,8 @@ module _ (ds : List Declaration) (rules : List Rule) where
   one_line (cause.TooManyTypes t) cause.Memory out out' s h k = absurd s
   one_line cause.Memory g out out' s h k = absurd h
 
-  no_memory : (e : Cause) (out : List ℕ) → IsCauseLine ds e out → IsOfMemory e → ⊥
-  no_memory (cause.Fails f) out h m = m
-  no_memory (cause.TooManyTypes t) out h m = m
-  no_memory cause.Memory out h m = h
+  no_memory : (e : Cause) (out : List ℕ) → IsCauseLine ds e out → e ≡ cause.Memory → ⊥
+  no_memory e out h m = subst (λ x. IsCauseLine ds x out) m h
 
   by_overlaps : VerdictLaws → (out out' : List ℕ) → IsRefusedByOverlaps ds rules out → IsRefusedByOverlaps ds rules out' → out ≡ out'
   by_overlaps laws out out' h g =
@@ -126,31 +124,35 @@ module _ (ds : List Declaration) (rules : List Rule) where
   rules_output laws commands Refused Refused out out' (inr h) (inr g) = (refl, by_overlaps laws out out' h g)
 
 -- programs of one meaning
-same_output : VerdictLaws → (p q : Program) → meaning_of p ≡ meaning_of q → (commands : List (List ℕ)) (s s' : Status) (out out' : List ℕ) → IsProgramOutput p commands s out → IsProgramOutput q commands s' out' → (s ≡ s') × (out ≡ out')
+same_output : VerdictLaws → (p q : Program) → meaning_of p ≡ meaning_of q → (commands : List (List ℕ)) (s s' : Status) (out out' : List ℕ) → IsReadOutput (Ok p) commands s out → IsReadOutput (Ok q) commands s' out' → (s ≡ s') × (out ≡ out')
 same_output laws p q e commands s s' out out' h g =
     rules_output (declarations q) (map unnamed (rules_of q)) laws commands s s' out out'
     (subst (λ rs. IsRulesOutput (declarations q) rs commands s out) (all_unnamed (rules_of p) (rules_of q) (ap (λ m. m.rules) e))
     (subst (λ ds. IsRulesOutput ds (map unnamed (rules_of p)) commands s out) (ap (λ m. m.declarations) e) (output_unnamed (declarations p) (rules_of p) commands s out h)))
     (output_unnamed (declarations q) (rules_of q) commands s' out' g)
 
--- what a text is, is determined
-read_as_bad : VerdictLaws → (text : List ℕ) (e : ReadFault) → HasTextFault text e → text_read text ≡ Err e
-read_as_bad laws text fault.TooLong h = (laws.long text).1 h
-read_as_bad laws text (fault.Bad n k) h = (laws.bad text n k).1 h
-read_as_bad laws text fault.Memory h = absurd h
+-- no text is too long and short
+long : {A : Type 0} (text : List ℕ) → 65536 < length text → IsShort text → A
+long text l m = absurd (omega (arith, l, m))
 
-one_of_text : VerdictLaws → (text : List ℕ) (commands : List (List ℕ)) (s s' : Status) (out out' : List ℕ) → IsTextOutput text commands s out → IsTextOutput text commands s' out' → (s ≡ s') × (out ≡ out')
-one_of_text laws text commands s s' out out' (inl h) (inl g) =
-    let e : ◌≡◌ {A = Result Meaning ReadFault} (Ok (meaning_of h.program)) (Ok (meaning_of g.program)) = sym ((laws.programs text (meaning_of h.program)).1 h.meant) ∙ (laws.programs text (meaning_of g.program)).1 g.meant in
-    same_output laws h.program g.program (let same : meaning_of h.program ≡ meaning_of g.program = cc in same) commands s s' out out' h.output g.output
-one_of_text laws text commands s s' out out' (inl h) (inr g) =
-    absurd (let e : ◌≡◌ {A = Result Meaning ReadFault} (Ok (meaning_of h.program)) (Err g.fault) = sym ((laws.programs text (meaning_of h.program)).1 h.meant) ∙ read_as_bad laws text g.fault g.has in cc)
-one_of_text laws text commands s s' out out' (inr h) (inl g) =
-    absurd (let e : ◌≡◌ {A = Result Meaning ReadFault} (Ok (meaning_of g.program)) (Err h.fault) = sym ((laws.programs text (meaning_of g.program)).1 g.meant) ∙ read_as_bad laws text h.fault h.has in cc)
-one_of_text laws text commands s s' out out' (inr h) (inr g) =
-    let e : ◌≡◌ {A = Result Meaning ReadFault} (Err h.fault) (Err g.fault) = sym (read_as_bad laws text h.fault h.has) ∙ read_as_bad laws text g.fault g.has in
-    let same : h.fault ≡ g.fault = cc in
-    (h.refused ∙ sym g.refused, h.out_is ∙ ap (λ f. fault_text f ++ 10 ∷ []) same ∙ sym g.out_is)
+-- two answers of one text
+one_of_text : VerdictLaws → (text : List ℕ) (commands : List (List ℕ)) (s s' : Status) (out out' : List ℕ) (a b : Result Program ReadFault) → IsAnswer text a → IsAnswer text b
+    → IsReadOutput a commands s out → IsReadOutput b commands s' out' → (s ≡ s') × (out ≡ out')
+one_of_text laws text commands s s' out out' (Ok p) (Ok q) r t h g = same_output laws p q (laws.meaning text (meaning_of p) (meaning_of q) r t) commands s s' out out' h g
+one_of_text laws text commands s s' out out' (Ok p) (Err fault.TooLong) r t h g = long text t r.0
+one_of_text laws text commands s s' out out' (Ok p) (Err (fault.Bad n k)) r t h g = absurd (laws.apart text (meaning_of p) n k r t)
+one_of_text laws text commands s s' out out' (Err fault.TooLong) (Ok p) r t h g = long text r t.0
+one_of_text laws text commands s s' out out' (Err (fault.Bad n k)) (Ok p) r t h g = absurd (laws.apart text (meaning_of p) n k t r)
+one_of_text laws text commands s s' out out' (Err fault.TooLong) (Err fault.TooLong) r t h g = (h.0 ∙ sym g.0, h.1 ∙ sym g.1)
+one_of_text laws text commands s s' out out' (Err fault.TooLong) (Err (fault.Bad n k)) r t h g = long text r t.0
+one_of_text laws text commands s s' out out' (Err (fault.Bad n k)) (Err fault.TooLong) r t h g = long text t r.0
+one_of_text laws text commands s s' out out' (Err (fault.Bad n k)) (Err (fault.Bad m j)) r t h g =
+    let e = laws.fault text n m k j r t in
+    (h.0 ∙ sym g.0, h.1 ∙ (λ i. codes "refused " ++ decimal (number_of_fault (e.0 i)) ++ codes ": clause " ++ decimal (e.1 i) ++ 10 ∷ []) ∙ sym g.1)
+one_of_text laws text commands s s' out out' (Err fault.Memory) b r t h g = absurd h.1
+one_of_text laws text commands s s' out out' (Ok p) (Err fault.Memory) r t h g = absurd g.1
+one_of_text laws text commands s s' out out' (Err fault.TooLong) (Err fault.Memory) r t h g = absurd g.1
+one_of_text laws text commands s s' out out' (Err (fault.Bad n k)) (Err fault.Memory) r t h g = absurd g.1
 
 pub one_output : VerdictLaws → OutputsAreOne
-one_output laws verb input s s' out out' h g = one_of_text laws (text_of (lines input)) (asked verb (commands_of (lines input))) s s' out out' h g
+one_output laws verb input s s' out out' h g = one_of_text laws (text_of (lines input)) (asked verb (commands_of (lines input))) s s' out out' h.0 g.0 h.1 g.1 h.2 g.2

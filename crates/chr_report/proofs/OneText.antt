@@ -12,35 +12,39 @@ use Rattle.std.specs.Cmp.Lexicographic.{slice_cmp, lists_total}
 use Rattle.std.specs.FinMap as finite
 use Rattle.chr_base.specs.declared.atom.Atom.{Atom}
 use Rattle.chr_base.specs.declared.rule.Rule.{Rule}
-use Rattle.chr_base.specs.Atoms.{atom_cmp, atom_total, atom_exact}
+use Rattle.chr_base.specs.Atoms.{atom_cmp}
+use Rattle.chr_base.proofs.Atoms.{atom_total, atom_exact}
 use Rattle.chr_base.specs.FinBag as bag
+use Rattle.chr_base.specs.working.Codes as bag_codes
 use Rattle.chr_base.specs.Stores.{Store, store_of, size}
 use Rattle.chr_base.specs.ProgramTests.{Declaration}
 use Rattle.chr_base.specs.Texts.{store_text}
-use Rattle.chr_ops.specs.Operations.{Operation, Operations, told_store, told_limit}
-use Rattle.chr_confluence.specs.Values.{HasValues}
-use Rattle.chr_confluence.specs.Cases.{Confluent}
+use Rattle.chr_ops.specs.Operations.{Operation, Operations, told_store}
+use Rattle.chr_ops.specs.declared.limits.TheConstants.{MAX_TOLD}
+use Rattle.chr_base.specs.Values.{HasValues}
+use Rattle.chr_confluence.specs.Confluence.{Confluent}
 use Rattle.chr_json.specs.declared.fault.LineFault.{LineFault}
 use Rattle.chr_json.specs.declared.fault.LineFault.TheVariants as fault
 use Rattle.chr_json.specs.Commands.{Said, show, tell}
 use Rattle.chr_json.specs.Lines.{is_blank_line}
-use Rattle.chr_json.specs.Ranges.{HasWords, line_words}
+use Rattle.chr_json.proofs.Ranges.{HasFittingArguments, line_fits}
 use Rattle.chr_json.specs.Reads.{line_said}
 use Rattle.chr_report.specs.Lines.{without_return}
-use Rattle.chr_report.specs.Replies.{refused}
-use Rattle.chr_report.specs.Answers.{atoms_of, ShowsNormalForm, AnswersTell, AnswersShow, AnswersAtoms, AnswersRead, Answers, AnswersFirst, AnswersAll}
+use Rattle.chr_report.specs.declared.reply.Refusal.TheVariants as refusal
+use Rattle.chr_report.specs.Replies.{refusal_text}
+use Rattle.chr_report.specs.Answers.{named_atoms, ShowsNormalForm, AnswersTell, AnswersShow, AnswersAtoms, AnswersRead, Answers, AnswersFirst, AnswersAll}
 use Rattle.chr_report.specs.OneText.{AnswersAreOne, FirstAnswersAreOne}
 use Rattle.chr_report.proofs.OneTextValues.{atoms_values, told_values, nothing_told}
 
 -- stores are equal or not
-same_or : (s t : Store) → (s ≡ t) ⊎ (s ≢ t)
+pub same_or : (s t : Store) → (s ≡ t) ⊎ (s ≢ t)
 same_or s t = by (slice_cmp atom_cmp (bag.items s) (bag.items t)) refl
   where
     tied : s ≡ t → slice_cmp atom_cmp (bag.items s) (bag.items t) ≡ order.Equal
     tied e = ap (λ x. slice_cmp atom_cmp (bag.items s) (bag.items x)) (sym e) ∙ tied_itself (lists_total atom_total) (bag.items s)
 
     by : (r : Ordering) → slice_cmp atom_cmp (bag.items s) (bag.items t) ≡ r → (s ≡ t) ⊎ (s ≢ t)
-    by order.Equal e = inl (bag.same_items s t (finite.slice_cmp-IsAntisymmetric atom_exact (bag.items s) (bag.items t) e))
+    by order.Equal e = inl (bag_codes.same_items s t (finite.slice_cmp-IsAntisymmetric atom_exact (bag.items s) (bag.items t) e))
     by order.Less e = inr (λ g. absurd (true≢false (ap is_eq (sym (tied g) ∙ e))))
     by order.Greater e = inr (λ g. absurd (true≢false (ap is_eq (sym (tied g) ∙ e))))
 
@@ -58,14 +62,14 @@ one_tell old op text other new next v w h g = by (finite.get old op.0) refl
   where
     by : (o : Option Store) → finite.get old op.0 ≡ o → IsOne text other new next
     by None e =
-        elim (cases_lt told_limit (size (told_store old) + size op.1)) as (λ _. IsOne text other new next) [
-          | inl over ↦ both_are text other new next (refused 34) old v (h.full e over) (g.full e over)
+        elim (cases_lt MAX_TOLD (size (told_store old) + size op.1)) as (λ _. IsOne text other new next) [
+          | inl over ↦ both_are text other new next (refusal_text refusal.Full) old v (h.full e over) (g.full e over)
           | inr room ↦ both_are text other new next (codes "told") (finite.insert old op.0 op.1) (told_values old op.0 op.1 e v w) (h.told e room) (g.told e room)
         ]
     by (Some s) e =
         elim (same_or s op.1) as (λ _. IsOne text other new next) [
           | inl same ↦ (let held : finite.get old op.0 ≡ Some op.1 = e ∙ ap Some same in both_are text other new next (codes "again") old v (h.again held) (g.again held))
-          | inr apart ↦ (let clash : IsSomeAnd (finite.get old op.0) (λ b. b ≢ op.1) = subst (λ o. IsSomeAnd o (λ b. b ≢ op.1)) (sym e) apart in both_are text other new next (refused 33) old v (h.clash clash) (g.clash clash))
+          | inr apart ↦ (let clash : IsSomeAnd (finite.get old op.0) (λ b. b ≢ op.1) = subst (λ o. IsSomeAnd o (λ b. b ≢ op.1)) (sym e) apart in both_are text other new next (refusal_text refusal.Clash) old v (h.clash clash) (g.clash clash))
         ]
 
 -- the normal form that is shown is the only one
@@ -77,30 +81,30 @@ module _ (ds : List Declaration) (rules : List Rule) (confluent : Confluent rule
   one_show : (old : Operations) (r : ℕ) (text other : List ℕ) (new next : Operations) → HasValues (told_store old) → AnswersShow ds rules old r text new → AnswersShow ds rules old r other next → IsOne text other new next
   one_show old r text other new next v h g = by (nat_eq r 1) h g
     where
-      by : (b : Bool) → MatchBool b (ShowsNormalForm ds rules (told_store old) text × (new ≡ old)) ((text ≡ refused 35) × (new ≡ old))
-          → MatchBool b (ShowsNormalForm ds rules (told_store old) other × (next ≡ old)) ((other ≡ refused 35) × (next ≡ old)) → IsOne text other new next
+      by : (b : Bool) → MatchBool b (ShowsNormalForm ds rules (told_store old) text × (new ≡ old)) ((text ≡ refusal_text refusal.NoReplica) × (new ≡ old))
+          → MatchBool b (ShowsNormalForm ds rules (told_store old) other × (next ≡ old)) ((other ≡ refusal_text refusal.NoReplica) × (next ≡ old)) → IsOne text other new next
       by true h g = (one_shown ds rules (told_store old) text other confluent v h.0 g.0, h.1 ∙ sym g.1, subst (λ o. HasValues (told_store o)) (sym h.1) v)
-      by false h g = both_are text other new next (refused 35) old v h g
+      by false h g = both_are text other new next (refusal_text refusal.NoReplica) old v h g
 
   one_atoms : (old : Operations) (r o n : ℕ) (atoms : Option (List Atom)) (text other : List ℕ) (new next : Operations) → HasValues (told_store old) → IfSome atoms (λ xs. HasValues (store_of xs))
       → AnswersAtoms old r o n atoms text new → AnswersAtoms old r o n atoms other next → IsOne text other new next
-  one_atoms old r o n None text other new next v w h g = both_are text other new next (refused 32) old v h g
+  one_atoms old r o n None text other new next v w h g = both_are text other new next (refusal_text refusal.UnknownSymbol) old v h g
   one_atoms old r o n (Some atoms) text other new next v w h g = by (nat_eq r 1) h g
     where
-      by : (b : Bool) → MatchBool b (AnswersTell old (record { origin = o; number = n }, store_of atoms) text new) ((text ≡ refused 35) × (new ≡ old))
-          → MatchBool b (AnswersTell old (record { origin = o; number = n }, store_of atoms) other next) ((other ≡ refused 35) × (next ≡ old)) → IsOne text other new next
+      by : (b : Bool) → MatchBool b (AnswersTell old (record { origin = o; number = n }, store_of atoms) text new) ((text ≡ refusal_text refusal.NoReplica) × (new ≡ old))
+          → MatchBool b (AnswersTell old (record { origin = o; number = n }, store_of atoms) other next) ((other ≡ refusal_text refusal.NoReplica) × (next ≡ old)) → IsOne text other new next
       by true h g = one_tell old (record { origin = o; number = n }, store_of atoms) text other new next v w h g
-      by false h g = both_are text other new next (refused 35) old v h g
+      by false h g = both_are text other new next (refusal_text refusal.NoReplica) old v h g
 
-  one_read : (old : Operations) (read : Result Said LineFault) (text other : List ℕ) (new next : Operations) → HasValues (told_store old) → IfOk read HasWords → AnswersRead ds rules old read text new → AnswersRead ds rules old read other next → IsOne text other new next
+  one_read : (old : Operations) (read : Result Said LineFault) (text other : List ℕ) (new next : Operations) → HasValues (told_store old) → IfOk read HasFittingArguments → AnswersRead ds rules old read text new → AnswersRead ds rules old read other next → IsOne text other new next
   one_read old (Ok (show r)) text other new next v w h g = one_show old r text other new next v h g
-  one_read old (Ok (tell r o n ws)) text other new next v w h g = one_atoms old r o n (atoms_of ds ws) text other new next v (atoms_values ds ws w) h g
+  one_read old (Ok (tell r o n ws)) text other new next v w h g = one_atoms old r o n (named_atoms ds ws) text other new next v (atoms_values ds ws w) h g
   one_read old (Err fault.Memory) text other new next v w h g = absurd h
-  one_read old (Err fault.BadLine) text other new next v w h g = both_are text other new next (refused 30) old v h g
-  one_read old (Err fault.Shape) text other new next v w h g = both_are text other new next (refused 31) old v h g
+  one_read old (Err fault.BadLine) text other new next v w h g = both_are text other new next (refusal_text refusal.BadLine) old v h g
+  one_read old (Err fault.Shape) text other new next v w h g = both_are text other new next (refusal_text refusal.Shape) old v h g
 
   one_answer : (old : Operations) (line text other : List ℕ) (new next : Operations) → HasValues (told_store old) → Answers ds rules old line text new → Answers ds rules old line other next → IsOne text other new next
-  one_answer old line text other new next v h g = one_read old (line_said line) text other new next v (line_words line) h g
+  one_answer old line text other new next v h g = one_read old (line_said line) text other new next v (line_fits line) h g
 
   all_one : (lines : List (List ℕ)) (old : Operations) → HasValues (told_store old) → (out other : List ℕ) → AnswersAll ds rules lines old out → AnswersAll ds rules lines old other → out ≡ other
   all_one [] old v out other h g = h ∙ sym g

@@ -6,17 +6,18 @@ use Rattle.std.specs.Int.{w64}
 use Rattle.std.specs.List.{AllByRecursion, list_all}
 use Rattle.std.specs.FinMap as finite
 use Rattle.chr_base.specs.declared.atom.Atom.{Atom}
-use Rattle.chr_base.specs.Stores.{Store, store_of, count_empty}
+use Rattle.chr_base.specs.Stores.{Store, store_of}
+use Rattle.chr_base.proofs.Stores.{count_empty}
 use Rattle.chr_base.specs.ProgramTests.{Declaration, declares}
 use Rattle.chr_ops.specs.declared.id.OpId.{OpId}
 use Rattle.chr_ops.specs.Operations.{Operations, told_store}
 use Rattle.chr_ops.proofs.Told.{told_store-insert, told_store-empty}
-use Rattle.chr_confluence.specs.Values.{is_value, atom_in, HasValues}
-use Rattle.chr_confluence.proofs.Rising.{each_of_list, each_plus}
-use Rattle.chr_json.specs.Commands.{Word}
-use Rattle.chr_json.specs.Printed.{IsWord}
-use Rattle.chr_json.specs.Ranges.{if_map, if_each, always}
-use Rattle.chr_report.specs.Answers.{atom_of, atoms_of}
+use Rattle.chr_base.specs.Values.{is_value, args_in, HasValues}
+use Rattle.chr_base.proofs.Each.{each_of_list, each_plus}
+use Rattle.chr_json.specs.Commands.{NamedAtom}
+use Rattle.chr_json.specs.Printed.{ArgumentsFit}
+use Rattle.chr_json.proofs.Ranges.{if_map, if_each, always}
+use Rattle.chr_report.specs.Answers.{named_atom, named_atoms}
 
 value : (z : ℤ) → FitsSigned w64 z → is_value z ≡ true
 value (pos n) h = let f : n < 2 ^ 63 = h.sfits in le-leb n (2 ^ 63 - 1) (omega (arith, f))
@@ -27,23 +28,23 @@ values [] h = refl
 values (z ∷ zs) h = and_from (is_value z) (list_all is_value zs) (value z h.0) (values zs h.1)
 
 -- the atom of a word keeps its arguments
-atom_values : (ds : List Declaration) (w : Word) → IsWord w → IfSome (atom_of ds w) (λ a. atom_in is_value a ≡ true)
+atom_values : (ds : List Declaration) (w : NamedAtom) → ArgumentsFit w → IfSome (named_atom ds w) (λ a. args_in is_value a ≡ true)
 atom_values ds w h =
-    if_map (λ _. Unit {0}) (λ (a : Atom). atom_in is_value a ≡ true) (λ i. record { symbol = record { 0 = i }; args = record { items = w.args } }) (λ _ _. values w.args h)
+    if_map (λ _. Unit {0}) (λ (a : Atom). args_in is_value a ≡ true) (λ i. record { symbol = record { 0 = i }; args = record { items = w.args } }) (λ _ _. values w.args h)
     (position (declares w.name (length w.args)) ds) (always (position (declares w.name (length w.args)) ds))
 
-listed : (xs : List Atom) → AllByRecursion (λ a. atom_in is_value a ≡ true) xs → list_all (atom_in is_value) xs ≡ true
+listed : (xs : List Atom) → AllByRecursion (λ a. args_in is_value a ≡ true) xs → list_all (args_in is_value) xs ≡ true
 listed [] h = refl
-listed (a ∷ xs) h = and_from (atom_in is_value a) (list_all (atom_in is_value) xs) h.0 (listed xs h.1)
+listed (a ∷ xs) h = and_from (args_in is_value a) (list_all (args_in is_value) xs) h.0 (listed xs h.1)
 
 -- the atoms of words are a store of values
-pub atoms_values : (ds : List Declaration) (ws : List Word) → AllByRecursion IsWord ws → IfSome (atoms_of ds ws) (λ xs. HasValues (store_of xs))
+pub atoms_values : (ds : List Declaration) (ws : List NamedAtom) → AllByRecursion ArgumentsFit ws → IfSome (named_atoms ds ws) (λ xs. HasValues (store_of xs))
 atoms_values ds ws h =
-    IfSome_then (atoms_of ds ws) (if_each IsWord (λ a. atom_in is_value a ≡ true) (atom_of ds) (atom_values ds) ws h) (λ xs p. each_of_list (atom_in is_value) xs (listed xs p))
+    IfSome_then (named_atoms ds ws) (if_each ArgumentsFit (λ a. args_in is_value a ≡ true) (named_atom ds) (atom_values ds) ws h) (λ xs p. each_of_list (args_in is_value) xs (listed xs p))
 
 -- an operation more
 pub told_values : (old : Operations) (k : OpId) (s : Store) → finite.get old k ≡ None → HasValues (told_store old) → HasValues s → HasValues (told_store (finite.insert old k s))
-told_values old k s new h g = rw (told_store-insert old k s new) (each_plus (atom_in is_value) (told_store old) s h g)
+told_values old k s new h g = rw (told_store-insert old k s new) (each_plus (args_in is_value) (told_store old) s h g)
 
 -- none at all
 pub nothing_told : HasValues (told_store finite.empty)

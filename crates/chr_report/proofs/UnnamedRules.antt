@@ -2,7 +2,7 @@
 --     unnamed r        the rule r without its name
 use Rattle.std.specs.Prelude.{◌≡◌, ℕ, zero, suc, ℤ, true, ◌&&◌, nat_le, List, [], ◌∷◌, ◌++◌, map, length, None, Some, option_map, slice_get}
 use Rattle.std.proofs.Common.{refl, sym, ap, subst, ◌∙◌, arith}
-use Rattle.std.proofs.lemmas.Bool.{and_from}
+use Rattle.std.proofs.lemmas.Bool.{and_from, and_parts}
 use Rattle.std.proofs.lemmas.Option.{none-some, same_Some, slice_get-map}
 use mathlib.Core.Bool.{Bool-set}
 use mathlib.Core.HLevel.{Σ_prop_path}
@@ -11,47 +11,47 @@ use Rattle.chr_base.specs.declared.term.Pattern.{Pattern}
 use Rattle.chr_base.specs.declared.rule.Rule.{Rule}
 use Rattle.chr_base.specs.Names.{is_label}
 use Rattle.chr_base.specs.RuleTests.{is_in_bounds, is_rule}
-use Rattle.chr_base.specs.Instances.{first_true, second_true, few_rule, valued_rule}
+use Rattle.chr_base.proofs.Instances.{few_rule, valued_rule}
 use Rattle.chr_base.specs.Rules.{Step, StepBy, Valuation, heads_of}
 use Rattle.chr_base.specs.Rewriting.{Runs, IsAtRest, IsNormalForm}
 use Rattle.chr_base.specs.Stores.{Store}
 use Rattle.chr_confluence.specs.Overlaps.{IsMatching, IsOverlap}
-use Rattle.chr_confluence.specs.Representatives.{HasConstant, IsConstantOf, AreConstants}
-use Rattle.chr_read.specs.Meanings.{RuleData, rule_data}
+use Rattle.chr_confluence.specs.Constants.{HasConstant, IsConstantOf, AreConstants}
+use Rattle.chr_base.specs.Sameness.{Parts, parts_of}
 
 -- without a name the rule keeps within its bounds
 pub bounds : (r : Rule) → is_in_bounds None (heads_of r) r.guard.items r.body.items ≡ true
 unfolding is_in_bounds
 bounds r =
     let name = is_label (option_map (λ n. n.bytes) r.name) in
-    let guard = second_true name _ (first_true _ (nat_le (length r.body.items) 8) (few_rule r)) in
-    let body = second_true (name && nat_le (length r.guard.items) 8) _ (few_rule r) in
+    let guard = (and_parts name _ ((and_parts _ (nat_le (length r.body.items) 8) (few_rule r)).0)).1 in
+    let body = (and_parts (name && nat_le (length r.guard.items) 8) _ (few_rule r)).1 in
     and_from _ _ (and_from _ _ guard body) (valued_rule r)
 
 abbrev pub unnamed : Rule → Rule
 unnamed r = record { name = None; kept = r.kept; removed = r.removed; guard = r.guard; body = r.body; well_formed = r.well_formed; bounded = bounds r }
 
 -- the parts of a rule but for its name, and what it keeps of them
-record Parts : Type 0 where
+record UnnamedParts : Type 0 where
   kept : List Pattern
   removed : List Pattern
   guard : List Comparison
   body : List Pattern
 
-abbrev Keeps : Parts → Type 0
+abbrev Keeps : UnnamedParts → Type 0
 Keeps p = (is_rule p.kept p.removed p.guard p.body ≡ true) × (is_in_bounds None (p.kept ++ p.removed) p.guard p.body ≡ true)
 
-Keeps-prop : (p : Parts) → IsProp (Keeps p)
+Keeps-prop : (p : UnnamedParts) → IsProp (Keeps p)
 Keeps-prop p = hlevel Bool-set
 
-abbrev parts_of : Rule → (p : Parts) × Keeps p
-parts_of r = (record { kept = r.kept.items; removed = r.removed.items; guard = r.guard.items; body = r.body.items }, (r.well_formed, bounds r))
+abbrev unnamed_parts : Rule → (p : UnnamedParts) × Keeps p
+unnamed_parts r = (record { kept = r.kept.items; removed = r.removed.items; guard = r.guard.items; body = r.body.items }, (r.well_formed, bounds r))
 
 -- rules of one meaning are one without their names
-pub one_unnamed : (r s : Rule) → rule_data r ≡ rule_data s → unnamed r ≡ unnamed s
+pub one_unnamed : (r s : Rule) → parts_of r ≡ parts_of s → unnamed r ≡ unnamed s
 one_unnamed r s e =
-    let parts : (parts_of r).0 ≡ (parts_of s).0 = λ i. record { kept = (e i).kept; removed = (e i).removed; guard = (e i).guard; body = (e i).body } in
-    let pairs : parts_of r ≡ parts_of s = Σ_prop_path Keeps-prop parts in
+    let parts : (unnamed_parts r).0 ≡ (unnamed_parts s).0 = λ i. record { kept = (e i).kept; removed = (e i).removed; guard = (e i).guard; body = (e i).body } in
+    let pairs : unnamed_parts r ≡ unnamed_parts s = Σ_prop_path Keeps-prop parts in
     λ i. record {
       name = None;
       kept = record { items = (pairs i).0.kept };
@@ -62,20 +62,20 @@ one_unnamed r s e =
       bounded = (pairs i).1.1;
     }
 
-pub all_unnamed : (rs ss : List Rule) → map rule_data rs ≡ map rule_data ss → map unnamed rs ≡ map unnamed ss
+pub all_unnamed : (rs ss : List Rule) → map parts_of rs ≡ map parts_of ss → map unnamed rs ≡ map unnamed ss
 all_unnamed [] [] e = refl
-all_unnamed [] (s ∷ ss) e = absurd (let l : zero ≡ suc (length (map rule_data ss)) = ap length e in omega (arith, l))
-all_unnamed (r ∷ rs) [] e = absurd (let l : suc (length (map rule_data rs)) ≡ zero = ap length e in omega (arith, l))
+all_unnamed [] (s ∷ ss) e = absurd (let l : zero ≡ suc (length (map parts_of ss)) = ap length e in omega (arith, l))
+all_unnamed (r ∷ rs) [] e = absurd (let l : suc (length (map parts_of rs)) ≡ zero = ap length e in omega (arith, l))
 all_unnamed (r ∷ rs) (s ∷ ss) e =
-    let first = one_unnamed r s (ap (head_or (rule_data r)) e) in
+    let first = one_unnamed r s (ap (head_or (parts_of r)) e) in
     let rest = all_unnamed rs ss (ap tail_of e) in
     λ i. first i ∷ rest i
   where
-    head_or : RuleData → List RuleData → RuleData
+    head_or : Parts → List Parts → Parts
     head_or d [] = d
     head_or d (x ∷ xs) = x
 
-    tail_of : List RuleData → List RuleData
+    tail_of : List Parts → List Parts
     tail_of [] = []
     tail_of (x ∷ xs) = xs
 

@@ -1,6 +1,7 @@
 -- What is written for rules is what is written for them without their names.
-use Rattle.std.specs.Prelude.{◌≡◌, ℕ, ◌-◌, ◌≤◌, ◌⊎◌, Bool, true, false, List, [], ◌∷◌, ◌++◌, map, Result, Ok, Err, nat_eq}
+use Rattle.std.specs.Prelude.{◌≡◌, ℕ, ◌-◌, ◌≤◌, ◌⊎◌, Bool, true, false, List, [], ◌∷◌, ◌++◌, map, slice_index_or, Result, Ok, Err, nat_eq}
 use Rattle.std.specs.Bool.{MatchBool}
+use Rattle.std.specs.List.{All}
 use Rattle.std.specs.FinMap as finite
 use Rattle.std.proofs.Common.{sym, ap, subst, ◌∙◌, inl, inr}
 use Rattle.std.proofs.lemmas.List.{length-map}
@@ -9,15 +10,15 @@ use Rattle.chr_base.specs.declared.rule.Rule.{Rule}
 use Rattle.chr_base.specs.declared.derivation.Step.{Step as StepValue}
 use Rattle.chr_base.specs.FinBag.{total}
 use Rattle.chr_base.specs.Rules.{atoms_at}
-use Rattle.chr_base.specs.StepLaws.{RuleLowers}
+use Rattle.chr_base.specs.Rules.{RuleLowers}
 use Rattle.chr_base.specs.Stores.{Store}
 use Rattle.chr_base.specs.ProgramTests.{Declaration}
 use Rattle.chr_weights.specs.Weights.{weight_by}
 use Rattle.chr_confluence.specs.Overlaps.{equations_of}
-use Rattle.chr_confluence.specs.Classes.{HasNone}
-use Rattle.chr_confluence.specs.Confluence.{RulesLower}
+use Rattle.chr_confluence.specs.Unifiers.{HasNoUnifier}
+use Rattle.chr_confluence.specs.Lowering.{RulesLower}
 use Rattle.chr_rewrite.specs.Pools.{HasNoStep}
-use Rattle.chr_rewrite.specs.Plain.{IsStepAt, Takes, IsLeastStep, PlainSteps, PlainRuns}
+use Rattle.chr_rewrite.specs.Derivations.{IsApplicable, LeadsTo, IsLeastStep, IsPlainDerivation, IsPlainComputation}
 use Rattle.chr_overlaps.specs.declared.overlap.Overlap.{Overlap}
 use Rattle.chr_overlaps.specs.declared.cases.Case.{Case}
 use Rattle.chr_overlaps.specs.OverlapLists.{AreOverlaps}
@@ -25,19 +26,22 @@ use Rattle.chr_overlaps.specs.CaseLists.{AreListed, AreCases, IsTooMany}
 use Rattle.chr_join.specs.declared.refused.Failure.{Failure}
 use Rattle.chr_join.specs.declared.refused.Cause.{Cause}
 use Rattle.chr_join.specs.declared.refused.Cause.TheVariants as cause
-use Rattle.chr_join.specs.Sides.{SideEnds, Joins}
-use Rattle.chr_join.specs.Verdicts.{CasesJoin, AllJoin, IsAccepted, IsFirst, IsFirstCase}
+use Rattle.chr_join.specs.Sides.{IsSideComputation, IsJoinable}
+use Rattle.chr_join.specs.Verdicts.{HasJoinableCases, HaveJoinableCases, IsAccepted, IsFirst, IsFirstCase}
 use Rattle.chr_join.specs.Explanations.{Explains, IsRefusal}
 use Rattle.chr_ops.specs.Operations.{Operations, told_store}
 use Rattle.chr_json.specs.Commands.{Said, show, tell}
 use Rattle.chr_json.specs.Lines.{is_blank_line}
 use Rattle.chr_json.specs.Reads.{line_said}
 use Rattle.chr_json.specs.declared.fault.LineFault.{LineFault}
+use Rattle.chr_json.specs.declared.fault.LineFault.TheVariants as fault
 use Rattle.chr_report.specs.declared.running.Status.{Status}
 use Rattle.chr_report.specs.declared.running.Status.TheVariants.{Accepted, Refused}
+use Rattle.chr_report.specs.declared.reply.Refusal.TheVariants as refusal
 use Rattle.chr_report.specs.Lines.{without_return}
-use Rattle.chr_report.specs.Answers.{ShowsNormalForm, AnswersShow, AnswersRead, AnswersFirst, AnswersAll, Refuses}
-use Rattle.chr_report.specs.Outputs.{IsFirstNotLowered, accepted_text, IsAnswered, IsRulesOutput}
+use Rattle.chr_report.specs.Answers.{ShowsNormalForm, AnswersShow, AnswersRead, AnswersFirst, AnswersAll, AnswersRefusal}
+use Rattle.chr_weights.specs.Weights.{IsFirstNotLowered}
+use Rattle.chr_report.specs.Outputs.{accepted_text, IsAnswered, IsRulesOutput}
 use Rattle.chr_report.proofs.UnnamedRules.{unnamed, at_unnamed, from_unnamed, by_unnamed, rest_unnamed, normal_unnamed, overlap_unnamed, overlap_named, constants_unnamed}
 
 module _ (rules : List Rule) where
@@ -46,10 +50,10 @@ module _ (rules : List Rule) where
 
   -- ---- derivations
 
-  abbrev step_at : (s : Store) (st : StepValue) → IsStepAt rules s st → IsStepAt bare s st
+  abbrev step_at : (s : Store) (st : StepValue) → IsApplicable rules s st → IsApplicable bare s st
   step_at s st h = record { rule = unnamed h.rule; numbered = h.numbered; named = at_unnamed rules (st.rule - 1) h.rule h.named; instance = h.instance; there = h.there }
 
-  takes : (s t : Store) (st : StepValue) → Takes rules st s t → Takes bare st s t
+  takes : (s t : Store) (st : StepValue) → LeadsTo rules st s t → LeadsTo bare st s t
   takes s t st h = (step_at s st h.0, (h.1.0, h.1.1, by_unnamed h.0.rule h.1.0 s t h.1.2))
 
   no_step : (r : Rule) (s : Store) → HasNoStep r s → HasNoStep (unnamed r) s
@@ -62,25 +66,25 @@ module _ (rules : List Rule) where
     least_heads = h.least_heads;
   }
 
-  plain_steps : (steps : List StepValue) (s t : Store) → PlainSteps rules steps s t → PlainSteps bare steps s t
+  plain_steps : (steps : List StepValue) (s t : Store) → IsPlainDerivation rules steps s t → IsPlainDerivation bare steps s t
   plain_steps [] s t h = h
   plain_steps (st ∷ steps) s t h = (h.0, least_step s st h.1, takes s h.0 st h.2, plain_steps steps h.0 t h.3)
 
-  plain_runs : (steps : List StepValue) (s t : Store) → PlainRuns rules steps s t → PlainRuns bare steps s t
+  plain_runs : (steps : List StepValue) (s t : Store) → IsPlainComputation rules steps s t → IsPlainComputation bare steps s t
   plain_runs steps s t h = (plain_steps steps s t h.0, rest_unnamed rules t h.1)
 
-  side_ends : (s t : Store) (st : StepValue) (steps : List StepValue) → SideEnds rules s st steps t → SideEnds bare s st steps t
-  side_ends s t st steps h = (h.0, takes s h.0 st h.1, plain_runs steps h.0 t h.2)
+  side_runs : (s t : Store) (st : StepValue) (steps : List StepValue) → IsSideComputation rules s st steps t → IsSideComputation bare s st steps t
+  side_runs s t st steps h = (h.0, takes s h.0 st h.1, plain_runs steps h.0 t h.2)
 
-  joins : (c : Case) → Joins rules c → Joins bare c
-  joins c h = record { left = h.left; right = h.right; end = h.end; left_ends = side_ends c.store h.end c.left h.left h.left_ends; right_ends = side_ends c.store h.end c.right h.right h.right_ends }
+  joinable : (c : Case) → IsJoinable rules c → IsJoinable bare c
+  joinable c h = record { end = h.end; left = (h.left.0, side_runs c.store h.end c.left h.left.0 h.left.1); right = (h.right.0, side_runs c.store h.end c.right h.right.0 h.right.1) }
 
   -- ---- overlaps and cases
 
   are_overlaps : (os : List Overlap) → AreOverlaps rules os → AreOverlaps bare os
   are_overlaps os h = record {
     each = λ o i. (let is = h.each o i in (is.0, is.1, (is.2.0, is.2.1, overlap_unnamed rules is.0 is.1 o.matching.items is.2.2)));
-    all = λ i j m is. h.all i j m (overlap_named rules i j m is);
+    all = λ o is. h.all o (is.0, is.1, (is.2.0, is.2.1, overlap_named rules is.0 is.1 o.matching.items is.2.2));
     rise = h.rise;
   }
 
@@ -100,7 +104,7 @@ module _ (rules : List Rule) where
     rule2 = unnamed h.rule2;
     first = at_unnamed rules (o.first - 1) h.rule1 h.first;
     second = at_unnamed rules (o.second - 1) h.rule2 h.second;
-    listed = elim h.listed as (λ _. (HasNone (equations_of h.rule1 h.rule2 o.matching.items) × (cs ≡ [])) ⊎ AreListed bare o (unnamed h.rule1) (unnamed h.rule2) cs) [ inl n ↦ inl n | inr l ↦ inr (are_listed o h.rule1 h.rule2 cs l) ];
+    listed = elim h.listed as (λ _. (HasNoUnifier (equations_of h.rule1 h.rule2 o.matching.items) × (cs ≡ [])) ⊎ AreListed bare o (unnamed h.rule1) (unnamed h.rule2) cs) [ inl n ↦ inl n | inr l ↦ inr (are_listed o h.rule1 h.rule2 cs l) ];
   }
 
   too_many : (o : Overlap) (n : ℕ) → IsTooMany rules o n → IsTooMany bare o n
@@ -119,37 +123,39 @@ module _ (rules : List Rule) where
 
   -- ---- verdicts
 
-  cases_join : (o : Overlap) (n : ℕ) → CasesJoin rules o n → CasesJoin bare o n
-  cases_join o n h = record { cases = h.cases; listed = are_cases o h.cases h.listed; join = λ k c e. joins c (h.join k c e); number = h.number }
+  all_joinable : (cs : List Case) → All (IsJoinable rules) cs → All (IsJoinable bare) cs
+  all_joinable cs h k d l = joinable (slice_index_or cs k d) (h k d l)
 
-  all_join : (os : List Overlap) (n : ℕ) → AllJoin rules os n → AllJoin bare os n
-  all_join [] n h = h
-  all_join (o ∷ os) n h = (h.0, h.1, cases_join o h.0 h.2, all_join os h.1 h.3, h.4)
+  has_joinable : (o : Overlap) (n : ℕ) → HasJoinableCases rules o n → HasJoinableCases bare o n
+  has_joinable o n h = record { cases = h.cases; listed = are_cases o h.cases h.listed; joinable = all_joinable h.cases h.joinable; number = h.number }
+
+  have_joinable : (os : List Overlap) (n : ℕ) → HaveJoinableCases rules os n → HaveJoinableCases bare os n
+  have_joinable [] n h = h
+  have_joinable (o ∷ os) n h = (h.0, h.1, has_joinable o h.0 h.2, have_joinable os h.1 h.3, h.4)
 
   is_accepted : (n : ℕ) → IsAccepted rules n → IsAccepted bare n
-  is_accepted n h = record { overlaps = h.overlaps; listed = are_overlaps h.overlaps h.listed; join = all_join h.overlaps n h.join }
+  is_accepted n h = record { overlaps = h.overlaps; listed = are_overlaps h.overlaps h.listed; joinable = have_joinable h.overlaps n h.joinable }
 
   is_first : (o : Overlap) → IsFirst rules o → IsFirst bare o
-  is_first o h = record { overlaps = h.overlaps; place = h.place; listed = are_overlaps h.overlaps h.listed; there = h.there; earlier = λ k p l e. (let j = h.earlier k p l e in (j.0, cases_join p j.0 j.1)) }
+  is_first o h = record {
+    before = h.before;
+    after = h.after;
+    listed = are_overlaps (h.before ++ o ∷ h.after) h.listed;
+    joinable = λ k d l. (let j = h.joinable k d l in (j.0, has_joinable (slice_index_or h.before k d) j.0 j.1));
+  }
 
   is_first_case : (o : Overlap) (c : Case) → IsFirstCase rules o c → IsFirstCase bare o c
-  is_first_case o c h = record { cases = h.cases; place = h.place; listed = are_cases o h.cases h.listed; there = h.there; earlier = λ k x l e. joins x (h.earlier k x l e) }
+  is_first_case o c h = record { before = h.before; after = h.after; listed = are_cases o (h.before ++ c ∷ h.after) h.listed; joinable = all_joinable h.before h.joinable }
 
   explains : (c : Case) (f : Failure) → Explains rules c f → Explains bare c f
   explains c f h = record {
-    left_start = h.left_start;
-    left_rest = h.left_rest;
-    left_steps = h.left_steps;
-    left_ends = side_ends c.store f.left_end c.left h.left_rest h.left_ends;
-    right_start = h.right_start;
-    right_rest = h.right_rest;
-    right_steps = h.right_steps;
-    right_ends = side_ends c.store f.right_end c.right h.right_rest h.right_ends;
+    left = record { start = h.left.start; rest = h.left.rest; steps = h.left.steps; runs = side_runs c.store f.left_end c.left h.left.rest h.left.runs };
+    right = record { start = h.right.start; rest = h.right.rest; steps = h.right.steps; runs = side_runs c.store f.right_end c.right h.right.rest h.right.runs };
     differ = h.differ;
   }
 
   is_refusal : (e : Cause) → IsRefusal rules e → IsRefusal bare e
-  is_refusal (cause.Fails f) h = (is_first f.overlap h.0, (h.1.0, is_first_case f.overlap h.1.0 h.1.1, explains h.1.0 f h.1.2))
+  is_refusal (cause.Fails f) h = (is_first f.overlap h.0, record { case = h.1.case; first = is_first_case f.overlap h.1.case h.1.first; explains = explains h.1.case f h.1.explains })
   is_refusal (cause.TooManyTypes t) h = (is_first t.overlap h.0, too_many t.overlap t.classes h.1)
   is_refusal cause.Memory h = h
 
@@ -175,14 +181,16 @@ module _ (rules : List Rule) where
     answers_show : (old : Operations) (r : ℕ) (text : List ℕ) (new : Operations) → AnswersShow ds rules old r text new → AnswersShow ds bare old r text new
     answers_show old r text new h = by (nat_eq r 1) h
       where
-        by : (b : Bool) → MatchBool b (ShowsNormalForm ds rules (told_store old) text × (new ≡ old)) (Refuses 35 old text new) → MatchBool b (ShowsNormalForm ds bare (told_store old) text × (new ≡ old)) (Refuses 35 old text new)
+        by : (b : Bool) → MatchBool b (ShowsNormalForm ds rules (told_store old) text × (new ≡ old)) (AnswersRefusal refusal.NoReplica old text new) → MatchBool b (ShowsNormalForm ds bare (told_store old) text × (new ≡ old)) (AnswersRefusal refusal.NoReplica old text new)
         by true h = (shows (told_store old) text h.0, h.1)
         by false h = h
 
     answers_read : (old : Operations) (said : Result Said LineFault) (text : List ℕ) (new : Operations) → AnswersRead ds rules old said text new → AnswersRead ds bare old said text new
     answers_read old (Ok (show r)) text new h = answers_show old r text new h
     answers_read old (Ok (tell r o n ws)) text new h = h
-    answers_read old (Err e) text new h = h
+    answers_read old (Err fault.BadLine) text new h = h
+    answers_read old (Err fault.Shape) text new h = h
+    answers_read old (Err fault.Memory) text new h = absurd h
 
     answers_all : (ls : List (List ℕ)) (old : Operations) (out : List ℕ) → AnswersAll ds rules ls old out → AnswersAll ds bare ls old out
     answers_all [] old out h = h

@@ -1,14 +1,10 @@
-pub mod Laws
 pub mod Lines
-pub mod Answers
 pub mod Replies
-pub mod ReplyTexts
-pub mod Answered
-pub mod Boards
-pub mod Commands
+pub mod Answers
 pub mod Overlaps
 pub mod Outputs
-pub mod OptionalLines
 pub mod Written
+pub mod Laws
 pub mod OneText
 pub mod OneOutput
+pub mod working

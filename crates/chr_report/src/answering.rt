@@ -1,13 +1,10 @@
 //! Command lines answered one after another.
 ghost use Rattle.std.specs.Prelude.{◌≡◌, OnOk, string_bytes};
 ghost use Rattle.chr_base.specs.Programs.{declarations, rules_of};
-ghost use Rattle.chr_base.specs.Rules.{Step};
-ghost use Rattle.chr_base.specs.Rewriting.{Reaches};
-ghost use Rattle.chr_ops.specs.Operations.{told_store};
-ghost use Rattle.chr_report.specs.Boards.{program_in};
 ghost use Rattle.chr_report.specs.Lines.{lines, without_return};
-ghost use Rattle.chr_report.specs.OptionalLines.{command_lines};
-ghost use Rattle.chr_report.specs.Answered.{AnswersLine, AnswersRest};
+ghost use Rattle.chr_report.specs.working.Answered.{AnswersLine, AnswersRest};
+ghost use Rattle.chr_report.specs.working.Boards.{program_on, IsReached};
+ghost use Rattle.chr_report.specs.working.LinesLeft.{lines_left};
 
 use crate::board::Board;
 use crate::input::{next_line, without_return};
@@ -22,10 +19,11 @@ fn answer_line(
     line: &[u8],
     out: &mut String,
 ) -> Result<(), AllocError>
-    requires { Reaches (Step (rules_of (program_in board.old.accepted))) (told_store board.old.ops) board.old.pool }
-    ensures reached { OnOk result (Reaches (Step (rules_of (program_in board.old.accepted))) (told_store board.new.ops) board.new.pool) }
+    requires { IsReached board.old }
+    ensures reached { OnOk result (IsReached board.new) }
     ensures program { board.new.accepted ≡ board.old.accepted }
-    ensures answer { OnOk result (AnswersLine (declarations (program_in board.old.accepted)) (rules_of (program_in board.old.accepted)) board.old.ops line.now (string_bytes out.old) board.new.ops (string_bytes out.new)) }
+    ensures answer { OnOk result (AnswersLine (declarations (program_on board.old)) (rules_of (program_on board.old))
+        board.old.ops line.now (string_bytes out.old) board.new.ops (string_bytes out.new)) }
 {
     if is_blank(line) {
         return Ok(());
@@ -41,8 +39,9 @@ fn answer_lines(
     input: &[u8],
     out: &mut String,
 ) -> Result<(), AllocError>
-    requires { Reaches (Step (rules_of (program_in board.old.accepted))) (told_store board.old.ops) board.old.pool }
-    ensures { OnOk result (AnswersRest (declarations (program_in board.old.accepted)) (rules_of (program_in board.old.accepted)) (lines input.now) board.old.ops (string_bytes out.old) (string_bytes out.new)) }
+    requires { IsReached board.old }
+    ensures { OnOk result (AnswersRest (declarations (program_on board.old)) (rules_of (program_on board.old))
+        (lines input.now) board.old.ops (string_bytes out.old) (string_bytes out.new)) }
 {
     let mut next = Some(input);
     while let Some(rest) = next {
@@ -60,8 +59,9 @@ pub(crate) fn answer_commands(
     commands: Option<&[u8]>,
     out: &mut String,
 ) -> Result<(), AllocError>
-    requires { Reaches (Step (rules_of (program_in board.old.accepted))) (told_store board.old.ops) board.old.pool }
-    ensures { OnOk result (AnswersRest (declarations (program_in board.old.accepted)) (rules_of (program_in board.old.accepted)) (command_lines commands.entry) board.old.ops (string_bytes out.old) (string_bytes out.new)) }
+    requires { IsReached board.old }
+    ensures { OnOk result (AnswersRest (declarations (program_on board.old)) (rules_of (program_on board.old))
+        (lines_left commands.entry) board.old.ops (string_bytes out.old) (string_bytes out.new)) }
 {
     match commands {
         Some(input) => answer_lines(alloc, board, input, out),

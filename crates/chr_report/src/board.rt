@@ -4,13 +4,13 @@ ghost use Rattle.std.specs.FinMap as finite;
 ghost use Rattle.chr_base.specs.Stores.{store_of};
 ghost use Rattle.chr_base.specs.Programs.{declarations, rules_of};
 ghost use Rattle.chr_base.specs.Rules.{Step};
-ghost use Rattle.chr_base.specs.Rewriting.{Reaches, IsNormalForm};
+ghost use Rattle.chr_base.specs.Rewriting.{IsNormalForm};
 ghost use Rattle.chr_json.specs.Commands.{IsOperationLength};
-ghost use Rattle.chr_json.specs.Reads.{atom_view};
-ghost use Rattle.chr_ops.specs.Operations.{told_store, IsOperationBag};
-ghost use Rattle.chr_report.specs.Boards.{program_in};
-ghost use Rattle.chr_report.specs.Answers.{atoms_of, Answers, AnswersShow, AnswersTell, AnswersAtoms};
-ghost use Rattle.chr_report.specs.ReplyTexts.{reply_text};
+ghost use Rattle.chr_json.specs.Reads.{raw_atom_view};
+ghost use Rattle.chr_ops.specs.Operations.{told_store, HasOperationSize};
+ghost use Rattle.chr_report.specs.Answers.{named_atoms, Answers, AnswersShow, AnswersTell, AnswersAtoms};
+ghost use Rattle.chr_report.specs.working.Boards.{program_on, IsReached};
+ghost use Rattle.chr_report.specs.working.ReplyTexts.{reply_text};
 
 use crate::reply::{Refusal, Reply};
 use chr_base::atom::Atom;
@@ -39,7 +39,8 @@ fn resolve(
     program: &Program,
     words: &[RawAtom],
 ) -> Result<Option<Vec<Atom>>, AllocError>
-    ensures { IfOk result (λ found. option_map (λ v. v.items) found ≡ atoms_of (declarations program.now) (map atom_view words.now)) }
+    ensures { IfOk result (λ found. option_map (λ v. v.items) found
+        ≡ named_atoms (declarations program.now) (map raw_atom_view words.now)) }
 {
     let mut atoms = Vec::new(alloc);
     for word in words {
@@ -54,7 +55,7 @@ fn resolve(
 impl Board {
     /// The replica that was told nothing.
     pub(crate) fn new(alloc: Global, accepted: Accepted) -> Board
-        ensures reached { Reaches (Step (rules_of (program_in result.accepted))) (told_store result.ops) result.pool }
+        ensures reached { IsReached result }
         ensures program { result.accepted ≡ accepted }
         ensures operations { result.ops ≡ finite.empty }
     {
@@ -67,8 +68,9 @@ impl Board {
 
     /// Rests the pool.
     fn rest(&mut self) -> Result<(), AllocError>
-        requires { Reaches (Step (rules_of (program_in self.old.accepted))) (told_store self.old.ops) self.old.pool }
-        ensures rested { OnOk result (IsNormalForm (Step (rules_of (program_in self.old.accepted))) (told_store self.old.ops) self.new.pool) }
+        requires { IsReached self.old }
+        ensures rested { OnOk result (IsNormalForm (Step (rules_of (program_on self.old)))
+            (told_store self.old.ops) self.new.pool) }
         ensures program { self.new.accepted ≡ self.old.accepted }
         ensures operations { self.new.ops ≡ self.old.ops }
     {
@@ -80,10 +82,11 @@ impl Board {
 
     /// Rests the pool and shows it.
     fn show(&mut self, alloc: Global, replica: u64) -> Result<Reply, AllocError>
-        requires { Reaches (Step (rules_of (program_in self.old.accepted))) (told_store self.old.ops) self.old.pool }
-        ensures reached { OnOk result (Reaches (Step (rules_of (program_in self.old.accepted))) (told_store self.new.ops) self.new.pool) }
+        requires { IsReached self.old }
+        ensures reached { OnOk result (IsReached self.new) }
         ensures program { self.new.accepted ≡ self.old.accepted }
-        ensures answer { IfOk result (λ reply. AnswersShow (declarations (program_in self.old.accepted)) (rules_of (program_in self.old.accepted)) self.old.ops replica (reply_text reply) self.new.ops) }
+        ensures answer { IfOk result (λ reply. AnswersShow (declarations (program_on self.old))
+            (rules_of (program_on self.old)) self.old.ops replica (reply_text reply) self.new.ops) }
     {
         if replica != 1 {
             return Ok(Reply::Refused(Refusal::NoReplica));
@@ -102,11 +105,13 @@ impl Board {
         id: OpId,
         words: &[RawAtom],
     ) -> Result<Reply, AllocError>
-        requires reached { Reaches (Step (rules_of (program_in self.old.accepted))) (told_store self.old.ops) self.old.pool }
+        requires reached { IsReached self.old }
         requires sized { IsOperationLength (length words.now) }
-        ensures reached { OnOk result (Reaches (Step (rules_of (program_in self.old.accepted))) (told_store self.new.ops) self.new.pool) }
+        ensures reached { OnOk result (IsReached self.new) }
         ensures program { self.new.accepted ≡ self.old.accepted }
-        ensures answer { IfOk result (λ reply. AnswersAtoms self.old.ops replica id.origin id.number (atoms_of (declarations (program_in self.old.accepted)) (map atom_view words.now)) (reply_text reply) self.new.ops) }
+        ensures answer { IfOk result (λ reply. AnswersAtoms self.old.ops replica id.origin id.number
+            (named_atoms (declarations (program_on self.old)) (map raw_atom_view words.now))
+            (reply_text reply) self.new.ops) }
     {
         let Some(atoms) = resolve(alloc, self.accepted.program(), words)? else {
             return Ok(Reply::Refused(Refusal::UnknownSymbol));
@@ -119,10 +124,11 @@ impl Board {
 
     /// Does what a line says, which comes without its end, and answers it.
     pub(crate) fn reply(&mut self, alloc: Global, line: &[u8]) -> Result<Reply, AllocError>
-        requires { Reaches (Step (rules_of (program_in self.old.accepted))) (told_store self.old.ops) self.old.pool }
-        ensures reached { OnOk result (Reaches (Step (rules_of (program_in self.old.accepted))) (told_store self.new.ops) self.new.pool) }
+        requires { IsReached self.old }
+        ensures reached { OnOk result (IsReached self.new) }
         ensures program { self.new.accepted ≡ self.old.accepted }
-        ensures answer { IfOk result (λ reply. Answers (declarations (program_in self.old.accepted)) (rules_of (program_in self.old.accepted)) self.old.ops line.now (reply_text reply) self.new.ops) }
+        ensures answer { IfOk result (λ reply. Answers (declarations (program_on self.old))
+            (rules_of (program_on self.old)) self.old.ops line.now (reply_text reply) self.new.ops) }
     {
         match read_line(alloc, line) {
             Ok(Command::Show { replica }) => self.show(alloc, replica),
@@ -142,11 +148,12 @@ impl Board {
 
     /// Adds an operation of these atoms.
     fn add(&mut self, alloc: Global, id: OpId, atoms: Vec<Atom>) -> Result<Reply, AllocError>
-        requires reached { Reaches (Step (rules_of (program_in self.old.accepted))) (told_store self.old.ops) self.old.pool }
-        requires sized { IsOperationBag (store_of atoms.items) }
-        ensures reached { OnOk result (Reaches (Step (rules_of (program_in self.old.accepted))) (told_store self.new.ops) self.new.pool) }
+        requires reached { IsReached self.old }
+        requires sized { HasOperationSize (store_of atoms.items) }
+        ensures reached { OnOk result (IsReached self.new) }
         ensures program { self.new.accepted ≡ self.old.accepted }
-        ensures answer { IfOk result (λ reply. AnswersTell self.old.ops (id, store_of atoms.items) (reply_text reply) self.new.ops) }
+        ensures answer { IfOk result (λ reply.
+            AnswersTell self.old.ops (id, store_of atoms.items) (reply_text reply) self.new.ops) }
     {
         let bag = Bag::of(atoms)?;
         let told = bag.copy(alloc)?;
@@ -156,9 +163,9 @@ impl Board {
 
     /// Adds an operation of these atoms.
     fn add_op(&mut self, op: Op, atoms: &[Atom]) -> Result<Reply, AllocError>
-        requires reached { Reaches (Step (rules_of (program_in self.old.accepted))) (told_store self.old.ops) self.old.pool }
+        requires reached { IsReached self.old }
         requires atoms { store_of atoms.now ≡ op.1 }
-        ensures reached { OnOk result (Reaches (Step (rules_of (program_in self.old.accepted))) (told_store self.new.ops) self.new.pool) }
+        ensures reached { OnOk result (IsReached self.new) }
         ensures program { self.new.accepted ≡ self.old.accepted }
         ensures answer { IfOk result (λ reply. AnswersTell self.old.ops op (reply_text reply) self.new.ops) }
     {

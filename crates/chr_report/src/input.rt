@@ -1,23 +1,23 @@
 //! The program text and the command lines of an input.
-ghost use Rattle.std.specs.Prelude.{◌≡◌, ◌<◌, ◌≤◌, [], ◌∷◌, ◌++◌, IfSome, IfNone, length};
-ghost use Rattle.chr_report.specs.Lines.{lines, without_return, is_divider, text_of, commands_of, line_len};
-ghost use Rattle.chr_report.specs.Commands.{asked};
-ghost use Rattle.chr_report.specs.OptionalLines.{command_lines};
+ghost use Rattle.std.specs.Prelude.{◌≡◌, ◌<◌, ◌≤◌, ◌∷◌, ◌++◌, ◌==◌, IfSome, IfNone, length};
+ghost use Rattle.std.specs.List.{position_or_len};
+ghost use Rattle.chr_report.specs.Lines.{lines, without_return, is_divider, text_of, commands_of};
+ghost use Rattle.chr_report.specs.Outputs.{asked};
+ghost use Rattle.chr_report.specs.working.LinesLeft.{lines_left};
 
 use chr_device::Verb;
 
+/// How many bytes stand before the first line feed.
 fn line_len(bytes: &[u8]) -> usize
-    ensures value { result ≡ line_len bytes.now }
+    ensures value { result ≡ position_or_len (λ b. b == 10) bytes.now }
     ensures within { result ≤ length bytes.now }
 {
     bytes.iter().take_while(|byte| **byte != b'\n').count()
 }
 
 /// The first line, and what comes after its line feed.
-#[tactic(auto, using(crate::proofs::LineLaws::lines_none, crate::proofs::LineLaws::lines_some))]
 pub(crate) fn next_line(bytes: &[u8]) -> (&[u8], Option<&[u8]>)
-    ensures last { IfNone result.1 (lines bytes.now ≡ result.0.now ∷ []) }
-    ensures more { IfSome result.1 (λ rest. lines bytes.now ≡ result.0.now ∷ lines rest.now) }
+    ensures lines { lines bytes.now ≡ result.0.now ∷ lines_left result.1 }
     ensures alone { IfNone result.1 (bytes.now ≡ result.0.now) }
     ensures before { IfSome result.1 (λ rest. bytes.now ≡ result.0.now ++ 10 ∷ rest.now) }
     ensures shorter { IfSome result.1 (λ rest. length rest.now < length bytes.now) }
@@ -47,12 +47,11 @@ fn is_divider(line: &[u8]) -> bool
     without_return(line) == b"---".as_slice()
 }
 
-/// The program text, which ends before the first line `---`, and what comes after that line: None where there is no such line,
-/// or nothing comes after it.
+/// The program text, which ends before the first line `---`, and what comes after that line: None where there is no
+/// such line, or nothing comes after it.
 pub(crate) fn split(input: &[u8]) -> (&[u8], Option<&[u8]>)
     ensures text { result.0.now ≡ text_of (lines input.now) }
-    ensures commands { IfSome result.1 (λ rest. commands_of (lines input.now) ≡ lines rest.now) }
-    ensures none { IfNone result.1 (commands_of (lines input.now) ≡ []) }
+    ensures commands { commands_of (lines input.now) ≡ lines_left result.1 }
 {
     let mut next = Some(input);
     while let Some(rest) = next {
@@ -67,7 +66,7 @@ pub(crate) fn split(input: &[u8]) -> (&[u8], Option<&[u8]>)
 
 /// The commands that are to be answered: a check answers none.
 pub(crate) fn asked(verb: Verb, commands: Option<&[u8]>) -> Option<&[u8]>
-    ensures { command_lines result ≡ asked verb (command_lines commands.entry) }
+    ensures { lines_left result ≡ asked verb (lines_left commands.entry) }
 {
     match verb {
         Verb::Check => None,

@@ -13,7 +13,7 @@ mod tests;
 mod verdict;
 
 pub use chr_device::{RunFault, Settings, Verb, Watched, WordsFault, read_words};
-pub use laws::checks_begin_runs;
-pub use one_text::{answers_are_one, outputs_are_one};
+pub use laws::{checks_begin_runs, lines_are_the_input};
+pub use one_text::{answers_are_one, answers_exist, outputs_are_one};
 pub use reply::Refusal;
 pub use running::{Status, run};

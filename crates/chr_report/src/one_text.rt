@@ -1,9 +1,17 @@
 //! The laws of a run's output being one text. Each is a function that takes nothing: its contract is the law.
 ghost use Rattle.chr_report.specs.OneOutput.{OutputsAreOne};
-ghost use Rattle.chr_report.specs.OneText.{AnswersAreOne, FirstAnswersAreOne};
+ghost use Rattle.chr_report.specs.OneText.{AnswersAreOne, AnswersExist, FirstAnswersAreOne};
 
+use chr_confluence::laws::newman;
 use chr_join::{accepted_are_confluent, verdict_is_one};
-use chr_read::programs_are_read;
+use chr_read::texts_have_one_answer;
+
+/// Command lines have answers: for a program that lowers there is one to each line, whatever the replica was told before.
+pub fn answers_exist()
+    ensures { AnswersExist }
+{
+    newman();
+}
 
 /// Answers are one text. For a confluent program two texts that both answer the same command lines are equal, where all
 /// that the replica was told before them are 64-bit values, and so where it was told nothing.
@@ -17,7 +25,7 @@ pub fn answers_are_one()
 pub fn outputs_are_one()
     ensures { OutputsAreOne }
 {
-    programs_are_read();
+    texts_have_one_answer();
     accepted_are_confluent();
     verdict_is_one();
     answers_are_one();

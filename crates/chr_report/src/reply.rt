@@ -1,6 +1,7 @@
 //! What a command line is answered.
 ghost use Rattle.std.specs.Prelude.{◌≡◌, ◌++◌, [], ◌∷◌, OnOk, string_bytes};
-ghost use Rattle.chr_report.specs.ReplyTexts.{number_of, reply_text};
+ghost use Rattle.chr_report.specs.Replies.{refusal_number};
+ghost use Rattle.chr_report.specs.working.ReplyTexts.{reply_text};
 
 use std::alloc::AllocError;
 use std::fmt::Write;
@@ -25,7 +26,7 @@ pub enum Refusal {
 impl Refusal {
     /// The refusal's number.
     pub fn number(self) -> u8
-        ensures { result ≡ number_of self }
+        ensures { result ≡ refusal_number self }
     {
         match self {
             Refusal::BadLine => 30,
@@ -50,7 +51,8 @@ pub(crate) enum Reply {
 
 /// Adds the answer and a line feed.
 pub(crate) fn push_reply(out: &mut String, reply: &Reply) -> Result<(), AllocError>
-    ensures { OnOk result (string_bytes out.new ≡ string_bytes out.old ++ reply_text reply.now ++ 10 ∷ []) }
+    ensures { OnOk result (string_bytes out.new
+        ≡ string_bytes out.old ++ reply_text reply.now ++ 10 ∷ []) }
 {
     match reply {
         Reply::Told => out.push_str("told\n"),

@@ -1,5 +1,5 @@
 //! Checks and runs, from the bytes of an input to the bytes of its output.
-ghost use Rattle.std.specs.Prelude.{◌≡◌, ◌⊎◌, false, true, IfOk, IfSome, IsErrOf, OnErr, OnOk, string_bytes};
+ghost use Rattle.std.specs.Prelude.{◌≡◌, ◌⊎◌, [], false, true, IfOk, IfSome, IsErrOf, OnErr, OnOk, string_bytes};
 ghost use Rattle.chr_device.specs.Devices.{inner_of, has_failed};
 ghost use Rattle.chr_device.specs.Settings.{IsPlain};
 ghost use Rattle.chr_device.specs.declared.fault.RunFault.TheVariants.{Device, Memory};
@@ -8,10 +8,10 @@ ghost use Rattle.chr_weights.specs.WeighedPrograms.{program_of};
 ghost use Rattle.chr_join.specs.AcceptedPrograms.{cases_of};
 ghost use Rattle.chr_join.specs.Verdicts.{IsAccepted};
 ghost use Rattle.chr_report.specs.declared.running.Status.TheVariants.{Refused};
-ghost use Rattle.chr_report.specs.Boards.{program_in};
-ghost use Rattle.chr_report.specs.OptionalLines.{command_lines};
-ghost use Rattle.chr_report.specs.Outputs.{IsOutput, IsProgramOutput, IsAnswered};
+ghost use Rattle.chr_report.specs.Outputs.{IsOutput, IsReadOutput, IsAnswered};
 ghost use Rattle.chr_report.specs.Written.{WritesOutput, WritesBeginning};
+ghost use Rattle.chr_join.specs.AcceptedPrograms.{program_in};
+ghost use Rattle.chr_report.specs.working.LinesLeft.{lines_left};
 
 use crate::answering::answer_commands;
 use crate::board::Board;
@@ -59,7 +59,8 @@ fn answer_program(
     commands: Option<&[u8]>,
 ) -> Result<String, AllocError>
     requires { IsAccepted (rules_of (program_in accepted)) (cases_of accepted) }
-    ensures { IfOk result (λ s. IsAnswered (declarations (program_in accepted)) (rules_of (program_in accepted)) (command_lines commands.entry) (string_bytes s)) }
+    ensures { IfOk result (λ s. IsAnswered (declarations (program_in accepted)) (rules_of (program_in accepted))
+        (lines_left commands.entry) (string_bytes s)) }
 {
     let rules = accepted.program().rules().len();
     let mut text = accepted_line(alloc, rules, accepted.cases())?;
@@ -74,7 +75,8 @@ fn weighed_output(
     weighed: Weighed,
     commands: Option<&[u8]>,
 ) -> Result<Output, AllocError>
-    ensures { IfOk result (λ o. IsProgramOutput (program_of weighed) (command_lines commands.entry) o.status (string_bytes o.text)) }
+    ensures { IfOk result (λ o. IsReadOutput (Ok (program_of weighed)) (lines_left commands.entry)
+        o.status (string_bytes o.text)) }
 {
     match accept(alloc, weighed) {
         Ok(accepted) => {
@@ -96,7 +98,7 @@ fn program_output(
     program: Program,
     commands: Option<&[u8]>,
 ) -> Result<Output, AllocError>
-    ensures { IfOk result (λ o. IsProgramOutput program (command_lines commands.entry) o.status (string_bytes o.text)) }
+    ensures { IfOk result (λ o. IsReadOutput (Ok program) (lines_left commands.entry) o.status (string_bytes o.text)) }
 {
     match weigh(program) {
         Ok(weighed) => weighed_output(alloc, weighed, commands),
@@ -111,9 +113,10 @@ fn program_output(
 fn output_of(alloc: Global, verb: Verb, input: &[u8]) -> Result<Output, AllocError>
     ensures { IfOk result (λ o. IsOutput verb input.now o.status (string_bytes o.text)) }
 {
-    let (text, commands) = split(input);
+    let (text, rest) = split(input);
+    let commands = asked(verb, rest);
     match read(alloc, text) {
-        Ok(program) => program_output(alloc, program, asked(verb, commands)),
+        Ok(program) => program_output(alloc, program, commands),
         Err(fault) => {
             let line = fault_line(alloc, &fault)?;
             Ok(Output::refused(line))
@@ -121,13 +124,14 @@ fn output_of(alloc: Global, verb: Verb, input: &[u8]) -> Result<Output, AllocErr
     }
 }
 
-/// Reads all of the input, and then writes its output: the verdict on the program text, and by `Verb::Run` for an accepted
-/// program the answer line of each command.
+/// Reads all of the input, and then writes its output: the verdict on the program text, and by `Verb::Run` for an
+/// accepted program the answer line of each command.
 ///
 /// # Errors
 ///
-/// `Device` where the reader or the writer has failed, and `Memory` where no memory was left and neither has. What was written
-/// then is nothing, or a beginning of the input's output.
+/// `Device` where the reader or the writer has failed: nothing, or a beginning of the input's output is written then,
+/// and nothing where it was the reader. `Memory` where no memory was left and neither has failed: nothing is written
+/// then.
 pub fn run<R: Read, W: Write>(
     alloc: Global,
     reader: &mut Watched<R>,
@@ -137,13 +141,17 @@ pub fn run<R: Read, W: Write>(
     requires reads { has_failed reader.old ≡ false }
     requires writes { has_failed writer.old ≡ false }
     requires plain { IsPlain settings }
-    ensures ok { IfOk result (λ status. IfSome (R.remaining (inner_of reader.old)) (λ input.
-        WritesOutput (W.contents (inner_of writer.old)) (W.contents (inner_of writer.new)) settings.command input status)) }
-    ensures err { OnErr result (IfSome (R.remaining (inner_of reader.old)) (λ input.
-        WritesBeginning (W.contents (inner_of writer.old)) (W.contents (inner_of writer.new)) settings.command input)) }
+    ensures ok { IfOk result (λ status. WritesOutput (R.remaining (inner_of reader.old))
+        (W.contents (inner_of writer.old)) (W.contents (inner_of writer.new)) settings.command status) }
+    ensures err { OnErr result (WritesBeginning (R.remaining (inner_of reader.old))
+        (W.contents (inner_of writer.old)) (W.contents (inner_of writer.new)) settings.command) }
+    // Nothing is left to be read.
+    ensures end { OnOk result (IfSome (R.remaining (inner_of reader.new)) (λ left. left ≡ [])) }
     ensures whole { OnOk result ((has_failed reader.new ≡ false) × (has_failed writer.new ≡ false)) }
     ensures device { IsErrOf result Device → (has_failed reader.new ≡ true) ⊎ (has_failed writer.new ≡ true) }
     ensures memory { IsErrOf result Memory → (has_failed reader.new ≡ false) × (has_failed writer.new ≡ false) }
+    ensures unread { has_failed reader.new ≡ true → writer.new ≡ writer.old }
+    ensures unanswered { IsErrOf result Memory → writer.new ≡ writer.old }
 {
     let input = read_all(alloc, reader)?;
     let output = output_of(alloc, settings.command, &input)?;

@@ -1,6 +1,7 @@
 //! Whole runs over memory.
 mod cutting;
 mod devices;
+mod large;
 mod lines;
 mod programs;
 mod refusals;
@@ -38,8 +39,8 @@ fn first_line(output: &str) -> &[u8] {
     &bytes[..bytes.len().min(length.saturating_add(1))]
 }
 
-/// Compares all that is written for an input, of which a run writes the whole output and a check the first line. A program is
-/// accepted where that line says so.
+/// Compares all that is written for an input, of which a run writes the whole output and a check the first line. A
+/// program is accepted where that line says so.
 fn expect_by(
     rt: &impl Abort,
     alloc: Global,

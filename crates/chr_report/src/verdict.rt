@@ -1,9 +1,11 @@
 //! The lines of verdicts.
-ghost use Rattle.std.specs.Prelude.{◌≡◌, ◌++◌, [], ◌∷◌, ◌≢◌, IfOk, OnOk, string_bytes};
-ghost use Rattle.chr_read.specs.declared.fault.ReadFault.TheVariants.{Memory};
+ghost use Rattle.std.specs.Prelude.{◌≡◌, ◌++◌, [], ◌∷◌, IfOk, OnOk, codes, string_bytes};
+ghost use Rattle.std.specs.Fmt.{decimal};
+ghost use Rattle.std.specs.List.{flat_map};
 ghost use Rattle.chr_base.specs.Programs.{declarations};
-ghost use Rattle.chr_report.specs.Outputs.{fault_text, not_lowered_text, accepted_text, IsCauseLine};
-ghost use Rattle.chr_report.specs.Overlaps.{more_entries, matching_text, overlap_text, failure_text, too_many_text};
+ghost use Rattle.chr_report.specs.Outputs.{IsFaultLine, not_lowered_text, accepted_text, IsCauseLine};
+ghost use Rattle.chr_report.specs.Overlaps.{matching_text, overlap_text};
+ghost use Rattle.chr_report.specs.Overlaps.{failure_text, too_many_text};
 
 use chr_base::program::Program;
 use chr_base::text::store_text;
@@ -16,8 +18,7 @@ use std::fmt::Write;
 
 /// The line of a text that is no program.
 pub(crate) fn fault_line(alloc: Global, fault: &ReadFault) -> Result<String, AllocError>
-    ensures line { IfOk result (λ s. string_bytes s ≡ fault_text fault.now ++ 10 ∷ []) }
-    ensures read { OnOk result (fault.now ≢ Memory) }
+    ensures { IfOk result (λ s. IsFaultLine fault.now (string_bytes s)) }
 {
     let mut text = String::new(alloc);
     match fault {
@@ -33,7 +34,8 @@ pub(crate) fn fault_line(alloc: Global, fault: &ReadFault) -> Result<String, All
 
 /// The line of a program with a rule that does not lower the weight.
 pub(crate) fn not_lowered_line(alloc: Global, fault: &NotLowered) -> Result<String, AllocError>
-    ensures { IfOk result (λ s. string_bytes s ≡ not_lowered_text fault.now.rule fault.now.before fault.now.after ++ 10 ∷ []) }
+    ensures { IfOk result (λ s. string_bytes s
+        ≡ not_lowered_text fault.now.rule fault.now.before fault.now.after ++ 10 ∷ []) }
 {
     let mut text = String::new(alloc);
     let rule = fault.rule;
@@ -55,8 +57,10 @@ pub(crate) fn accepted_line(alloc: Global, rules: usize, cases: u64) -> Result<S
     Ok(text)
 }
 
+/// Adds the entries, each after a comma.
 fn push_more_entries(out: &mut String, entries: &[u8]) -> Result<(), AllocError>
-    ensures { OnOk result (string_bytes out.new ≡ string_bytes out.old ++ more_entries entries.now) }
+    ensures { OnOk result (string_bytes out.new
+        ≡ string_bytes out.old ++ flat_map (λ n. codes "," ++ decimal n) entries.now) }
 {
     for entry in entries {
         write!(out, ",{entry}")?;

@@ -7,12 +7,12 @@ use Rattle.std.specs.Cmp.{tied_itself}
 use Rattle.std.proofs.lemmas.Bool.Decides.{nat_tests}
 use Rattle.std.proofs.lemmas.List.Folds.{list_any-append}
 use Rattle.std.proofs.lemmas.List.{map_more, get_or_default, append-nil}
-use Rattle.std.proofs.lemmas.Bool.{and_from, not-true, not_from_false}
+use Rattle.std.proofs.lemmas.Bool.{and_parts, and_from, not-true, not_from_false}
 use Rattle.chr_base.specs.declared.atom.Atom.{Atom}
-use Rattle.chr_base.specs.Instances.{first_true, second_true}
-use Rattle.chr_base.specs.Atoms.{atom_cmp, atom_total, same_is}
+use Rattle.chr_base.specs.Atoms.{atom_cmp}
+use Rattle.chr_base.proofs.Atoms.{atom_total, same_is}
 use Rattle.chr_base.specs.FinBag.{count_in}
-use Rattle.chr_rewrite.specs.Choices.{no_atom, atom_of, picked, is_choice}
+use Rattle.chr_rewrite.specs.working.Choices.{no_atom, nth_atom, chosen_atoms, is_choice}
 
 -- whether the index is among those taken
 abbrev pub is_taken : ℕ → List ℕ → Bool
@@ -85,13 +85,13 @@ free_index n taken (x ∷ xs) d q h = by (is_taken n taken) refl (eq_by_cmp atom
     by false e false f more = later (more (let g : 0 < cond false 0 (cond false 1 0) + free_from (suc n) taken xs q = rw (e, f) at h in omega (arith, g)))
 
 -- a choice takes no more of an atom than is free
-pub choice_within : (items : List Atom) (taken is : List ℕ) (q : Atom) → is_choice items taken is ≡ true → count_in atom_cmp q (picked items is) ≤ free_from 0 taken items q
+pub choice_within : (items : List Atom) (taken is : List ℕ) (q : Atom) → is_choice items taken is ≡ true → count_in atom_cmp q (chosen_atoms items is) ≤ free_from 0 taken items q
 choice_within items taken [] q h = omega arith
 choice_within items taken (i ∷ is) q h =
-    let two : (nat_lt i (length items) && not (is_taken i taken)) ≡ true = first_true _ (is_choice items (taken ++ i ∷ []) is) h in
-    let rest : is_choice items (taken ++ i ∷ []) is ≡ true = second_true (nat_lt i (length items) && not (is_taken i taken)) _ h in
-    let l : nat_lt i (length items) ≡ true = first_true _ (not (is_taken i taken)) two in
-    let fresh : is_taken i taken ≡ false = not-true _ (second_true (nat_lt i (length items)) _ two) in
+    let two : (nat_lt i (length items) && not (is_taken i taken)) ≡ true = (and_parts _ (is_choice items (taken ++ i ∷ []) is) h).0 in
+    let rest : is_choice items (taken ++ i ∷ []) is ≡ true = (and_parts (nat_lt i (length items) && not (is_taken i taken)) _ h).1 in
+    let l : nat_lt i (length items) ≡ true = (and_parts _ (not (is_taken i taken)) two).0 in
+    let fresh : is_taken i taken ≡ false = not-true _ (and_parts (nat_lt i (length items)) _ two).1 in
     let within : i < length items = grind (arith, nat_tests) in
     let here = free_taken 0 i taken items no_atom q within (let z : 0 + i ≡ i = omega arith in ap (λ m. is_taken m taken) z ∙ fresh) in
     let z : 0 + i ≡ i = omega arith in
@@ -104,18 +104,18 @@ counts_itself a xs = rw (tied_itself atom_total a) refl
 
 -- what is free can be chosen
 pub choose : (items : List Atom) (taken : List ℕ) (heads : List Atom) → ((q : Atom) → count_in atom_cmp q heads ≤ free_from 0 taken items q)
-    → (is : List ℕ) × (is_choice items taken is ≡ true) × (picked items is ≡ heads)
+    → (is : List ℕ) × (is_choice items taken is ≡ true) × (chosen_atoms items is ≡ heads)
 choose items taken [] h = ([], refl, refl)
 choose items taken (a ∷ heads) h =
     let one : 0 < free_from 0 taken items a = (let c = counts_itself a heads in let l = h a in omega (arith, c, l)) in
     let w = free_index 0 taken items no_atom a one in
     let z : 0 + w.0 ≡ w.0 = omega arith in
     let fresh : is_taken w.0 taken ≡ false = ap (λ m. is_taken m taken) (sym z) ∙ w.2 in
-    let is : a ≡ atom_of items w.0 = same_is a (atom_of items w.0) w.3 in
+    let is : a ≡ nth_atom items w.0 = same_is a (nth_atom items w.0) w.3 in
     let more = choose items (taken ++ w.0 ∷ []) heads (λ q.
     (let here = free_taken 0 w.0 taken items no_atom q w.1 w.2 in
-    let here' : cond (eq_by_cmp atom_cmp q (atom_of items w.0)) 1 0 + free_from 0 (taken ++ w.0 ∷ []) items q ≡ free_from 0 taken items q = rw z at here in
-    let l : cond (eq_by_cmp atom_cmp q (atom_of items w.0)) 1 0 + count_in atom_cmp q heads ≤ free_from 0 taken items q = rw (← is) (h q) in
+    let here' : cond (eq_by_cmp atom_cmp q (nth_atom items w.0)) 1 0 + free_from 0 (taken ++ w.0 ∷ []) items q ≡ free_from 0 taken items q = rw z at here in
+    let l : cond (eq_by_cmp atom_cmp q (nth_atom items w.0)) 1 0 + count_in atom_cmp q heads ≤ free_from 0 taken items q = rw (← is) (h q) in
     omega (arith, here', l))) in
     let within : nat_lt w.0 (length items) ≡ true = (let l = w.1 in grind (arith, nat_tests)) in
     (w.0 ∷ more.0, and_from (nat_lt w.0 (length items) && not (is_taken w.0 taken)) (is_choice items (taken ++ w.0 ∷ []) more.0) (and_from _ _ within (not_from_false _ fresh)) more.1, (λ k. sym is k ∷ more.2 k))
@@ -124,17 +124,17 @@ choose items taken (a ∷ heads) h =
 pub choice_index : (items : List Atom) (taken is : List ℕ) (n : ℕ) → is_choice items taken is ≡ true → n < length is → get_or is n 0 < length items
 choice_index items taken [] n h l = absurd (omega (arith, l))
 choice_index items taken (i ∷ is) zero h l =
-    let t : nat_lt i (length items) ≡ true = first_true _ _ (first_true _ (is_choice items (taken ++ i ∷ []) is) h) in
+    let t : nat_lt i (length items) ≡ true = (and_parts _ _ (and_parts _ (is_choice items (taken ++ i ∷ []) is) h).0).0 in
     grind (arith, nat_tests)
-choice_index items taken (i ∷ is) (suc n) h l = choice_index items (taken ++ i ∷ []) is n (second_true (nat_lt i (length items) && not (is_taken i taken)) _ h) (omega (arith, l))
+choice_index items taken (i ∷ is) (suc n) h l = choice_index items (taken ++ i ∷ []) is n (and_parts (nat_lt i (length items) && not (is_taken i taken)) _ h).1 (omega (arith, l))
 
 -- one more atom is picked
-pub pick_more : (items : List Atom) (is : List ℕ) (n : ℕ) (atoms : List Atom) (x : Atom) → n < length is → IsTrue (is_choice items [] is) → atoms ≡ picked items (take n is) → x ≡ get_or items (get_or is n 0) x
-    → atoms ++ x ∷ [] ≡ picked items (take (n + 1) is)
+pub pick_more : (items : List Atom) (is : List ℕ) (n : ℕ) (atoms : List Atom) (x : Atom) → n < length is → IsTrue (is_choice items [] is) → atoms ≡ chosen_atoms items (take n is) → x ≡ get_or items (get_or is n 0) x
+    → atoms ++ x ∷ [] ≡ chosen_atoms items (take (n + 1) is)
 pick_more items is n atoms x l h e at =
     let within = choice_index items [] is n h l in
-    let same : x ≡ atom_of items (get_or is n 0) = at ∙ get_or_default items (get_or is n 0) x no_atom within in
-    rw (e, map_more (atom_of items) is n 0 l) (ap (λ y. picked items (take n is) ++ y ∷ []) same)
+    let same : x ≡ nth_atom items (get_or is n 0) = at ∙ get_or_default items (get_or is n 0) x no_atom within in
+    rw (e, map_more (nth_atom items) is n 0 l) (ap (λ y. chosen_atoms items (take n is) ++ y ∷ []) same)
 
 -- one more index is chosen
 pub choice_more : (items : List Atom) (taken is : List ℕ) (i : ℕ) → is_choice items taken is ≡ true → i < length items → is_taken i (taken ++ is) ≡ false → is_choice items taken (is ++ i ∷ []) ≡ true
@@ -143,5 +143,5 @@ choice_more items taken [] i h l f =
     let within : nat_lt i (length items) ≡ true = grind (arith, nat_tests) in
     and_from _ _ (and_from _ _ within (not_from_false _ f')) refl
 choice_more items taken (j ∷ is) i h l f =
-    and_from _ _ (first_true _ (is_choice items (taken ++ j ∷ []) is) h)
-    (choice_more items (taken ++ j ∷ []) is i (second_true (nat_lt j (length items) && not (is_taken j taken)) _ h) l (subst (λ xs. is_taken i xs ≡ false) (sym (append_assoc taken (j ∷ []) is)) f))
+    and_from _ _ (and_parts _ (is_choice items (taken ++ j ∷ []) is) h).0
+    (choice_more items (taken ++ j ∷ []) is i (and_parts (nat_lt j (length items) && not (is_taken j taken)) _ h).1 l (subst (λ xs. is_taken i xs ≡ false) (sym (append_assoc taken (j ∷ []) is)) f))

@@ -1,5 +1,5 @@
 -- How often an atom stands in a list, through edits of the list; and what these make of the multiset.
-use Rattle.std.specs.Prelude.{◌≡◌, ℕ, ◌+◌, ◌<◌, Bool, true, false, cond, List, [], ◌∷◌, ◌++◌, length, get_or, take, drop, IsTrue, ◌↔◌}
+use Rattle.std.specs.Prelude.{◌≡◌, ℕ, ◌+◌, ◌<◌, ◌≤◌, Bool, true, false, cond, List, [], ◌∷◌, ◌++◌, length, get_or, take, drop, IsTrue, ◌↔◌}
 use Rattle.std.specs.Bool.{OnTrue, OnFalse}
 use Rattle.std.specs.List.{swap_remove}
 use Rattle.std.specs.Ordering.{eq_by_cmp}
@@ -9,11 +9,15 @@ use mathlib.Core.Bool.{true≢false}
 use Rattle.std.proofs.lemmas.List.{take-append-drop}
 use Rattle.std.proofs.lemmas.List.Sorted.{IsPermutation-swap_remove, sum_by_popped}
 use Rattle.chr_base.specs.declared.atom.Atom.{Atom}
-use Rattle.chr_base.specs.Atoms.{atom_cmp, atom_total, atom_exact}
+use Rattle.chr_base.specs.Atoms.{atom_cmp}
+use Rattle.chr_base.proofs.Atoms.{atom_total, atom_exact}
 use Rattle.chr_base.specs.FinBag as bag
-use Rattle.chr_base.specs.FinBag.{count_in, total, total_is, total-append, IsWithin, within_lists, lists_within, of_list_less, ◌⊖◌}
-use Rattle.chr_base.specs.Places.{count_in_more}
-use Rattle.chr_base.specs.Stores.{store_of, same_store, count}
+use Rattle.chr_base.proofs.FinBags as bag_laws
+use Rattle.chr_base.specs.FinBag.{count_in, total, IsWithin, ◌⊖◌}
+use Rattle.chr_base.proofs.FinBags.{total_is, total-append, within_lists, lists_within, of_list_less}
+use Rattle.chr_base.proofs.ListEdits.{count_in_more}
+use Rattle.chr_base.specs.Stores.{store_of, count}
+use Rattle.chr_base.proofs.Stores.{same_store}
 
 abbrev matches : Atom → Atom → ℕ
 matches q x = cond (eq_by_cmp atom_cmp q x) 1 0
@@ -72,7 +76,7 @@ pub same_counts : (xs ys : List Atom) → ((q : Atom) → count_in atom_cmp q xs
 same_counts xs ys h = same_store _ _ (λ q. (let a = count-of xs q in let b = count-of ys q in let c = h q in omega (arith, a, b, c)))
   where
     count-of : (zs : List Atom) (q : Atom) → count (store_of zs) q ≡ count_in atom_cmp q zs
-    count-of zs q = bag.count-of_list atom_total zs q
+    count-of zs q = bag_laws.count-of_list atom_total zs q
 
 pub store_less : (xs ys as' : List Atom) → ((q : Atom) → count_in atom_cmp q xs ≡ count_in atom_cmp q ys + count_in atom_cmp q as') → store_of ys ≡ store_of xs ⊖ store_of as'
 store_less xs ys as' h = of_list_less atom_total atom_exact xs as' ys (λ q. (let a = h q in omega (arith, a)))
@@ -102,3 +106,7 @@ pub taken_all : (b : Bool) (xs ys as' : List Atom) → OnTrue b ((q : Atom) → 
     → OnFalse b ((q : Atom) × (count_in atom_cmp q xs < count_in atom_cmp q as')) → IsWithin (store_of as') (store_of xs) → (q : Atom) → count_in atom_cmp q xs ≡ count_in atom_cmp q ys + count_in atom_cmp q as'
 taken_all true xs ys as' h g w = h
 taken_all false xs ys as' h g w = absurd (not_within xs as' g w)
+
+-- what the test of membership says
+pub has_within : (b : Bool) (xs as' : List Atom) → IsTrue b ↔ ((q : Atom) → count_in atom_cmp q as' ≤ count_in atom_cmp q xs) → IsTrue b ↔ IsWithin (store_of as') (store_of xs)
+has_within b xs as' h = (λ t. within_lists atom_total as' xs (h.0 t), λ w. h.1 (lists_within atom_total as' xs w))

@@ -10,32 +10,21 @@ use Rattle.chr_base.specs.declared.atom.Atom.{Atom}
 use Rattle.chr_base.specs.declared.rule.Rule.{Rule}
 use Rattle.chr_base.specs.declared.derivation.Step.{Step as StepValue}
 use Rattle.chr_base.specs.declared.program.Program.{Program}
-use Rattle.chr_base.specs.Atoms.{atom_cmp, atom_total}
+use Rattle.chr_base.specs.Atoms.{atom_cmp}
 use Rattle.chr_base.specs.FinBag as bag
+use Rattle.chr_base.proofs.FinBags as bag_laws
 use Rattle.chr_base.specs.FinBag.{IsWithin, ◌⊕◌, ◌⊖◌}
-use Rattle.chr_base.specs.Stores.{Store, store_of, store_of-append, store_of-items, same_store, count, count_plus, count_minus, plus_assoc, plus_empty}
+use Rattle.chr_base.specs.Stores.{Store, store_of, count}
+use Rattle.chr_base.proofs.Stores.{store_of-append, store_of-items, same_store, count_plus, count_minus}
 use Rattle.chr_base.specs.Rules.{Step, HasInstance, Valuation, heads_at, atoms_at}
 use Rattle.chr_base.specs.Programs.{rules_of}
 use Rattle.chr_base.specs.Rewriting.{IsAtRest}
 use Rattle.chr_weights.specs.Weights.{store_weight, ProgramLowers}
 use Rattle.chr_rewrite.specs.Pools.{StepOn, HasNoStep}
-use Rattle.chr_rewrite.specs.Plain.{IsStepAt, Takes, Replays, IsLeastTuple, IsLeastStep, PlainSteps, PlainRuns, StopsAt}
-use Rattle.chr_rewrite.specs.PlainLaws.{removed_heads, Takes-steps}
+use Rattle.chr_rewrite.specs.Derivations.{IsApplicable, LeadsTo, IsDerivation, IsLeastInstance, IsLeastStep, IsPlainDerivation, IsPlainComputation, IsFirstInapplicable}
+use Rattle.chr_rewrite.proofs.DerivationLemmas.{removed_heads, LeadsTo-steps}
 use Rattle.chr_rewrite.proofs.Stepping.{removed_within}
 use Rattle.chr_rewrite.proofs.StepCounts.{one_lowers}
-
-add-one_atom : (s : Store) (a : Atom) → bag.add s a ≡ s ⊕ store_of (a ∷ [])
-add-one_atom s a =
-    same_store _ _ (λ q. (let b = bag.count-add atom_total s a q in let c = count_plus s (store_of (a ∷ [])) q in let d = bag.count-of_list atom_total (a ∷ []) q in omega (arith, b, c, d)))
-
-pub none_added : (s : Store) → s ≡ s ⊕ store_of []
-none_added s = sym (ap (λ z. s ⊕ z) (bag.of_list-none atom_cmp) ∙ plus_empty s)
-
--- one atom more was added
-pub added_more : (s t : Store) (xs : List Atom) (i : ℕ) (x : Atom) → i < length xs → x ≡ get_or xs i x → t ≡ s ⊕ store_of (take i xs) → bag.add t x ≡ s ⊕ store_of (take (i + 1) xs)
-added_more s t xs i x l is e =
-    let last : take i xs ++ x ∷ [] ≡ take (i + 1) xs = ap (λ y. take i xs ++ y ∷ []) is ∙ sym (take_more xs i x l) in
-    add-one_atom t x ∙ ap (λ z. z ⊕ store_of (x ∷ [])) e ∙ plus_assoc s (store_of (take i xs)) (store_of (x ∷ [])) ∙ ap (λ z. s ⊕ z) (sym (store_of-append (take i xs) (x ∷ [])) ∙ ap store_of last)
 
 -- the removed heads were taken out, and the body put in
 pub fired_bag : (r : Rule) (heads gone body : List Atom) (s t u : Store) (b : Bool) → HasInstance r heads → IsWithin (store_of heads) s → gone ≡ drop (length r.kept.items) heads
@@ -47,14 +36,14 @@ fired_bag r heads gone body s t u b h w e there taken made came =
     (v, h.1, record { guard = h.2; there = rw h.1 w; after = came ∙ ap (λ z. z ⊕ store_of body) taken' ∙ (λ i. (s ⊖ store_of (left i)) ⊕ store_of (made v h.1 i)) })
 
 in_order : (s : Store) (xs : List Atom) → xs ≡ bag.items s → IsTrue (bag.is_rising atom_cmp xs)
-in_order s xs e = rw e (bag.is_true _ (bag.items_rise s))
+in_order s xs e = rw e (bag_laws.is_true _ (bag_laws.items_rise s))
 
 its_atoms : (s : Store) (xs : List Atom) → xs ≡ bag.items s → store_of xs ≡ s
 its_atoms s xs e = ap store_of e ∙ store_of-items s
 
 -- the first rule that has a step has the least one
 pub least_of : (rules : List Rule) (i : ℕ) (r : Rule) (s : Store) (xs : List Atom) (st : StepValue) → i < length rules → r ≡ get_or rules i r → xs ≡ bag.items s → ((k : ℕ) (d : Rule) → k < i → HasNoStep (get_or rules k d) s)
-    → st.rule ≡ i + 1 → HasInstance r st.heads.items → IsWithin (store_of st.heads.items) (store_of xs) → (IsTrue (bag.is_rising atom_cmp xs) → IsLeastTuple r (store_of xs) st.heads.items) → IsLeastStep rules s st
+    → st.rule ≡ i + 1 → HasInstance r st.heads.items → IsWithin (store_of st.heads.items) (store_of xs) → (IsTrue (bag.is_rising atom_cmp xs) → IsLeastInstance r (store_of xs) st.heads.items) → IsLeastStep rules s st
 least_of rules i r s xs st l is e below number h w least = record {
   at = record {
     rule = r;
@@ -64,7 +53,7 @@ least_of rules i r s xs st l is e below number h w least = record {
     there = subst (IsWithin (store_of st.heads.items)) (its_atoms s xs e) w;
   };
   least_rule = λ k d m f. subst (λ q. HasNoStep q s) (get_or_from_slice_get rules k d d f) (below k d (omega (arith, number, m)));
-  least_heads = subst (λ z. IsLeastTuple r z st.heads.items) (its_atoms s xs e) (least (in_order s xs e));
+  least_heads = subst (λ z. IsLeastInstance r z st.heads.items) (its_atoms s xs e) (least (in_order s xs e));
 }
 
 -- one more rule has no step
@@ -80,25 +69,25 @@ no_step_more rules i r s xs l is e below here k d m = by (cases_lt k i)
         subst (λ q. HasNoStep q s) (sym rule) (subst (HasNoStep r) (its_atoms s xs e) here)
 
 -- the rule of a step that is an instance is the one in the list
-pub rule_there : (rules : List Rule) (s : Store) (st : StepValue) (r : Rule) (h : IsStepAt rules s st) → r ≡ get_or rules (st.rule - 1) r → r ≡ h.rule
+pub rule_there : (rules : List Rule) (s : Store) (st : StepValue) (r : Rule) (h : IsApplicable rules s st) → r ≡ get_or rules (st.rule - 1) r → r ≡ h.rule
 rule_there rules s st r h is = is ∙ get_or_from_slice_get rules (st.rule - 1) h.rule r h.named
 
 -- one least step more
-pub PlainSteps-push : (rules : List Rule) (steps : List StepValue) (st : StepValue) (s t u : Store) → PlainSteps rules steps s t → IsLeastStep rules t st → Takes rules st t u → PlainSteps rules (steps ++ st ∷ []) s u
-PlainSteps-push rules [] st s t u h least takes = (u, subst (λ z. IsLeastStep rules z st) (sym h) least, subst (λ z. Takes rules st z u) (sym h) takes, refl)
-PlainSteps-push rules (x ∷ steps) st s t u h least takes = (h.0, h.1, h.2, PlainSteps-push rules steps st h.0 t u h.3 least takes)
+pub IsPlainDerivation-push : (rules : List Rule) (steps : List StepValue) (st : StepValue) (s t u : Store) → IsPlainDerivation rules steps s t → IsLeastStep rules t st → LeadsTo rules st t u → IsPlainDerivation rules (steps ++ st ∷ []) s u
+IsPlainDerivation-push rules [] st s t u h least takes = (u, subst (λ z. IsLeastStep rules z st) (sym h) least, subst (λ z. LeadsTo rules st z u) (sym h) takes, refl)
+IsPlainDerivation-push rules (x ∷ steps) st s t u h least takes = (h.0, h.1, h.2, IsPlainDerivation-push rules steps st h.0 t u h.3 least takes)
 
 -- one step more
-pub Replays-push : (rules : List Rule) (steps : List StepValue) (st : StepValue) (s t u : Store) → Replays rules steps s t → Takes rules st t u → Replays rules (steps ++ st ∷ []) s u
-Replays-push rules [] st s t u h takes = (u, subst (λ z. Takes rules st z u) (sym h) takes, refl)
-Replays-push rules (x ∷ steps) st s t u h takes = (h.0, h.1, Replays-push rules steps st h.0 t u h.2 takes)
+pub IsDerivation-push : (rules : List Rule) (steps : List StepValue) (st : StepValue) (s t u : Store) → IsDerivation rules steps s t → LeadsTo rules st t u → IsDerivation rules (steps ++ st ∷ []) s u
+IsDerivation-push rules [] st s t u h takes = (u, subst (λ z. LeadsTo rules st z u) (sym h) takes, refl)
+IsDerivation-push rules (x ∷ steps) st s t u h takes = (h.0, h.1, IsDerivation-push rules steps st h.0 t u h.2 takes)
 
 -- a step lowers the weight
-pub Takes-lowers : (p : Program) (rules : List Rule) (st : StepValue) (s t : Store) → ProgramLowers p → rules ≡ rules_of p → Takes rules st s t → store_weight p t < store_weight p s
-Takes-lowers p rules st s t lowers same h = one_lowers p rules s t lowers same (Takes-steps rules st s t h)
+pub LeadsTo-lowers : (p : Program) (rules : List Rule) (st : StepValue) (s t : Store) → ProgramLowers p → rules ≡ rules_of p → LeadsTo rules st s t → store_weight p t < store_weight p s
+LeadsTo-lowers p rules st s t lowers same h = one_lowers p rules s t lowers same (LeadsTo-steps rules st s t h)
 
 -- the step was taken by its rule
-pub took_step : (rules : List Rule) (st : StepValue) (s t : Store) (r : Rule) → IsLeastStep rules s st → r ≡ get_or rules (st.rule - 1) r → StepOn r st.heads.items s t → Takes rules st s t
+pub took_step : (rules : List Rule) (st : StepValue) (s t : Store) (r : Rule) → IsLeastStep rules s st → r ≡ get_or rules (st.rule - 1) r → StepOn r st.heads.items s t → LeadsTo rules st s t
 took_step rules st s t r h is step = (h.at, subst (λ q. StepOn q st.heads.items s t) (rule_there rules s st r h.at is) step)
 
 -- all heads taken out and the kept ones put back: the removed ones are gone
@@ -109,7 +98,7 @@ kept_again s xs ys w =
 -- the heads were taken out, the kept ones put back and the body put in
 pub took_there : (rules : List Rule) (st : StepValue) (r : Rule) (s t u z : Store) (kept body : List Atom) → (st.rule ≡ 0 → ⊥) → st.rule - 1 < length rules → r ≡ get_or rules (st.rule - 1) r
     → HasInstance r st.heads.items → IsWithin (store_of st.heads.items) s → t ≡ s ⊖ store_of st.heads.items → kept ≡ take (length r.kept.items) st.heads.items → u ≡ t ⊕ store_of kept
-    → ((v : Valuation) → heads_at v r ≡ st.heads.items → body ≡ atoms_at v r.body.items) → z ≡ u ⊕ store_of body → Takes rules st s z
+    → ((v : Valuation) → heads_at v r ≡ st.heads.items → body ≡ atoms_at v r.body.items) → z ≡ u ⊕ store_of body → LeadsTo rules st s z
 took_there rules st r s t u z kept body some l is h w out e back made came =
     let n = length r.kept.items in
     let heads = st.heads.items in
@@ -129,30 +118,30 @@ took_there rules st r s t u z kept body some l is h w out e back made came =
     )
 
 -- the step at a place was taken
-pub Replays-next : (rules rules' : List Rule) (steps : List StepValue) (i : ℕ) (st : StepValue) (s t u : Store) (b : Bool) → rules' ≡ rules → i < length steps → st ≡ get_or steps i st → Replays rules (take i steps) s t
-    → b ≡ true → OnTrue b (Takes rules' st t u) → Replays rules (take (i + 1) steps) s u
-Replays-next rules rules' steps i st s t u b same l is h yes' takes =
+pub IsDerivation-next : (rules rules' : List Rule) (steps : List StepValue) (i : ℕ) (st : StepValue) (s t u : Store) (b : Bool) → rules' ≡ rules → i < length steps → st ≡ get_or steps i st → IsDerivation rules (take i steps) s t
+    → b ≡ true → OnTrue b (LeadsTo rules' st t u) → IsDerivation rules (take (i + 1) steps) s u
+IsDerivation-next rules rules' steps i st s t u b same l is h yes' takes =
     let next : take (i + 1) steps ≡ take i steps ++ st ∷ [] = take_more steps i st l ∙ ap (λ y. take i steps ++ y ∷ []) (sym is) in
-    rw next (Replays-push rules (take i steps) st s t u h (subst (λ rs. Takes rs st t u) same (OnTrue_at yes' takes)))
+    rw next (IsDerivation-push rules (take i steps) st s t u h (subst (λ rs. LeadsTo rs st t u) same (OnTrue_at yes' takes)))
 
 -- the step at a place is no instance there
-pub stops_here : (rules rules' : List Rule) (steps : List StepValue) (i : ℕ) (st : StepValue) (s t : Store) (b : Bool) → rules' ≡ rules → i < length steps → st ≡ get_or steps i st → Replays rules (take i steps) s t
-    → b ≡ false → OnFalse b (IsStepAt rules' t st → ⊥) → StopsAt rules steps s i
+pub stops_here : (rules rules' : List Rule) (steps : List StepValue) (i : ℕ) (st : StepValue) (s t : Store) (b : Bool) → rules' ≡ rules → i < length steps → st ≡ get_or steps i st → IsDerivation rules (take i steps) s t
+    → b ≡ false → OnFalse b (IsApplicable rules' t st → ⊥) → IsFirstInapplicable rules steps s i
 stops_here rules rules' steps i st s t b same l is h missed none =
-    (t, st, h, slice_get_read steps (length steps) i st refl l is, subst (λ rs. IsStepAt rs t st → ⊥) same (OnFalse_at missed none))
+    (t, st, h, slice_get_read steps (length steps) i st refl l is, subst (λ rs. IsApplicable rs t st → ⊥) same (OnFalse_at missed none))
 
 -- what a search for the next step found, and what was done then
 module _ (p : Program) (rules : List Rule) (same : rules ≡ rules_of p) where
-  pub found_lowers : (o : Option StepValue) (s t : Store) → ProgramLowers p → is_some o ≡ true → IfSome o (λ st. Takes rules st s t) → store_weight p t < store_weight p s
+  pub found_lowers : (o : Option StepValue) (s t : Store) → ProgramLowers p → is_some o ≡ true → IfSome o (λ st. LeadsTo rules st s t) → store_weight p t < store_weight p s
   found_lowers None s t lowers e h = absurd (true≢false (sym e))
-  found_lowers (Some st) s t lowers e h = Takes-lowers p rules st s t lowers same h
+  found_lowers (Some st) s t lowers e h = LeadsTo-lowers p rules st s t lowers same h
 
-  pub found_more : (o : Option StepValue) (s t u : Store) → is_some o ≡ true → IfSome o (IsLeastStep rules t) → IfSome o (λ st. Takes rules st t u) → (steps : List StepValue) × PlainSteps (rules_of p) steps s t
-      → (steps : List StepValue) × PlainSteps (rules_of p) steps s u
+  pub found_more : (o : Option StepValue) (s t u : Store) → is_some o ≡ true → IfSome o (IsLeastStep rules t) → IfSome o (λ st. LeadsTo rules st t u) → (steps : List StepValue) × IsPlainDerivation (rules_of p) steps s t
+      → (steps : List StepValue) × IsPlainDerivation (rules_of p) steps s u
   found_more None s t u e h g w = absurd (true≢false (sym e))
-  found_more (Some st) s t u e h g w = (w.0 ++ st ∷ [], PlainSteps-push (rules_of p) w.0 st s t u w.1 (subst (λ rs. IsLeastStep rs t st) same h) (subst (λ rs. Takes rs st t u) same g))
+  found_more (Some st) s t u e h g w = (w.0 ++ st ∷ [], IsPlainDerivation-push (rules_of p) w.0 st s t u w.1 (subst (λ rs. IsLeastStep rs t st) same h) (subst (λ rs. LeadsTo rs st t u) same g))
 
-  pub at_end : (o : Option StepValue) (s t u : Store) → is_some o ≡ false → IfNone o (IsAtRest (Step rules) t) → IfNone o (u ≡ t) → (steps : List StepValue) × PlainSteps (rules_of p) steps s t
-      → (steps : List StepValue) × PlainRuns (rules_of p) steps s u
+  pub at_end : (o : Option StepValue) (s t u : Store) → is_some o ≡ false → IfNone o (IsAtRest (Step rules) t) → IfNone o (u ≡ t) → (steps : List StepValue) × IsPlainDerivation (rules_of p) steps s t
+      → (steps : List StepValue) × IsPlainComputation (rules_of p) steps s u
   at_end None s t u e h g w = (w.0, (rw g w.1, rw g (subst (λ rs. IsAtRest (Step rs) t) same h)))
   at_end (Some st) s t u e h g w = absurd (true≢false e)

@@ -1,3 +1,5 @@
+pub mod DerivationLemmas
+pub mod PoolLemmas
 pub mod Choosing
 pub mod Searching
 pub mod Counting

@@ -1,5 +1,5 @@
 -- Counting the steps that a pool takes.
-use Rattle.std.specs.Prelude.{◌≡◌, ℕ, ◌+◌, ◌-◌, ◌^◌, ◌<◌, min, List, length, get_or, Option, Some, None, IsTrue, IfSome, is_some, ◌↔◌, true, false}
+use Rattle.std.specs.Prelude.{◌≡◌, ℕ, zero, suc, ◌+◌, ◌-◌, ◌^◌, ◌<◌, min, List, length, get_or, Option, Some, None, IsTrue, IfSome, is_some, ◌↔◌, true, false}
 use Rattle.std.proofs.Common.{refl, sym, subst, arith}
 use mathlib.Core.Bool.{true≢false}
 use Rattle.std.proofs.lemmas.Option.{slice_get_read}
@@ -10,8 +10,10 @@ use Rattle.chr_base.specs.FinBag.{IsWithin, ◌⊕◌, ◌⊖◌}
 use Rattle.chr_base.specs.Stores.{Store, store_of}
 use Rattle.chr_base.specs.Rules.{Step, HasInstance, atoms_at}
 use Rattle.chr_base.specs.Programs.{rules_of}
-use Rattle.chr_base.specs.StepLaws.{step_lowers}
-use Rattle.chr_base.specs.Rewriting.{IsAtRest, Runs-append, Runs-lowers}
+use Rattle.chr_base.proofs.Steps.{step_lowers}
+use Rattle.std.specs.Io.Iter.{u64_saturate}
+use Rattle.chr_base.specs.Rewriting.{IsAtRest, Runs}
+use Rattle.chr_base.proofs.Rewriting.{Runs-append, Runs-lowers}
 use Rattle.chr_weights.specs.Weights.{weight_in, store_weight, ProgramLowers}
 use Rattle.chr_rewrite.specs.Pools.{TookSteps}
 
@@ -20,6 +22,14 @@ one_lowers p rules s t lowers same st = step_lowers (weight_in p) (rules_of p) l
 
 pub none_yet : (p : Program) (s : Store) → TookSteps p 0 s s
 none_yet p s = (0, refl, refl, omega arith)
+
+-- at rest no step was taken
+pub none_taken : (p : Program) (n : ℕ) (s t : Store) → TookSteps p n s t → IsAtRest (Step (rules_of p)) s → (n ≡ 0) × (s ≡ t)
+none_taken p n s t h rest = by h.0 h.1 h.2
+  where
+    by : (m : ℕ) → n ≡ u64_saturate m → Runs (Step (rules_of p)) m s t → (n ≡ 0) × (s ≡ t)
+    by zero e r = (e, r)
+    by (suc m) e r = absurd (rest r.0 r.1)
 
 pub one_more : (p : Program) (rules : List Rule) (n k : ℕ) (s t u : Store) → ProgramLowers p → rules ≡ rules_of p → TookSteps p n s t → Step rules t u → k ≡ min (n + 1) (2 ^ 64 - 1) → TookSteps p k s u
 one_more p rules n k s t u lowers same h st e =

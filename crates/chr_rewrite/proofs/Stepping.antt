@@ -1,4 +1,5 @@
 -- From what a pool finds and does to the steps of a program.
+use Rattle.std.proofs.lemmas.List.{length-map}
 use Rattle.std.specs.Prelude.{◌≡◌, ℕ, ◌+◌, ◌<◌, List, ◌++◌, length, get_or, drop}
 use Rattle.std.proofs.Common.{refl, ap, subst, ◌∙◌, arith, length-append}
 use Rattle.std.proofs.lemmas.Option.{slice_get_read, slice_get_within, get_or_from_slice_get}
@@ -6,19 +7,20 @@ use Rattle.chr_base.specs.declared.atom.Atom.{Atom}
 use Rattle.chr_base.specs.declared.rule.Rule.{Rule}
 use Rattle.chr_base.specs.Atoms.{atom_cmp}
 use Rattle.chr_base.specs.FinBag.{count_in, IsWithin, ◌⊕◌, ◌⊖◌}
-use Rattle.chr_base.specs.Stores.{Store, store_of, store_of-append}
+use Rattle.chr_base.specs.Stores.{Store, store_of}
+use Rattle.chr_base.proofs.Stores.{store_of-append}
 use Rattle.chr_base.specs.Rules.{Step, StepBy, HasInstance, Valuation, heads_of, heads_at, atoms_at, atom_at}
-use Rattle.chr_base.specs.StepLaws.{length-map, removed_there}
+use Rattle.chr_base.proofs.Steps.{removed_there}
 use Rattle.chr_base.specs.Rewriting.{IsAtRest}
 use Rattle.chr_rewrite.specs.Pools.{StepOn, HasNoStep}
-use Rattle.chr_rewrite.specs.PlainLaws.{removed_heads}
+use Rattle.chr_rewrite.proofs.DerivationLemmas.{removed_heads}
 use Rattle.chr_rewrite.proofs.Counting.{store_less}
 
 -- an instance has one atom for each head place
 pub heads_length : (r : Rule) (heads : List Atom) → HasInstance r heads → length heads ≡ length r.kept.items + length r.removed.items
 heads_length r heads h =
     let a = ap length h.1 in
-    let b = length-map (atom_at h.0) (heads_of r) in
+    let b = length-map (heads_of r) (atom_at h.0) in
     let c = length-append r.kept.items r.removed.items in
     omega (arith, a, b, c)
 

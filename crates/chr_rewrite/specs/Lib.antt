@@ -1,5 +1,3 @@
 pub mod Pools
-pub mod PoolLaws
-pub mod Choices
-pub mod Plain
-pub mod PlainLaws
+pub mod Derivations
+pub mod working

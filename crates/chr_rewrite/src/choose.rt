@@ -1,16 +1,18 @@
 //! The search for an instance of a rule among the atoms of a list.
 ghost use Rattle.std.specs.Prelude.{◌≡◌, ◌<◌, ◌≤◌, ◌&&◌, [], IfSome, IfNone, IsTrue, length, nat_eq, get_or};
 ghost use Rattle.std.specs.Bool.{OnTrue, OnFalse};
+ghost use Rattle.chr_base.specs.declared.limits.TheConstants.{MAX_HEADS};
 ghost use Rattle.chr_base.specs.Atoms.{atom_cmp};
 ghost use Rattle.chr_base.specs.FinBag.{IsWithin, is_rising};
 ghost use Rattle.chr_base.specs.Stores.{store_of};
 ghost use Rattle.chr_base.specs.Rules.{heads_of, HasInstance};
-ghost use Rattle.chr_rewrite.specs.Choices.{picked, is_choice, NoCompletion, IsFirstChoice, has_shape_at};
+ghost use Rattle.chr_rewrite.specs.working.Choices.{chosen_atoms, is_choice, NoCompletion, IsFirstChoice, has_shape_at};
 ghost use Rattle.chr_rewrite.specs.Pools.{HasNoStep};
-ghost use Rattle.chr_rewrite.specs.Plain.{IsLeastTuple};
+ghost use Rattle.chr_rewrite.specs.Derivations.{IsLeastInstance};
 
 use arrayvec::ArrayVec;
 use chr_base::atom::Atom;
+use chr_base::limits::MAX_HEADS;
 use chr_base::rule::Rule;
 
 /// Whether the atom has the symbol and the number of arguments of the pattern at a head place.
@@ -23,10 +25,10 @@ fn has_shape_at(rule: &Rule, place: usize, atom: &Atom) -> bool
 }
 
 /// The atoms at these indices.
-fn atoms_at(items: &[Atom], indices: &[usize]) -> ArrayVec<Atom, 4>
+fn atoms_at(items: &[Atom], indices: &[usize]) -> ArrayVec<Atom, MAX_HEADS>
     requires choice { IsTrue (is_choice items.now [] indices.now) }
-    requires room { length indices.now ≤ 4 }
-    ensures { result.items ≡ picked items.now indices.now }
+    requires room { length indices.now ≤ MAX_HEADS }
+    ensures { result.items ≡ chosen_atoms items.now indices.now }
 {
     let mut atoms = ArrayVec::new();
     for i in indices {
@@ -35,13 +37,13 @@ fn atoms_at(items: &[Atom], indices: &[usize]) -> ArrayVec<Atom, 4>
     atoms
 }
 
-/// Goes on from the indices that are chosen, one for each of the first head places, to an instance of the rule: to the one
-/// whose indices come first, place by place.
-fn complete(rule: &Rule, items: &[Atom], chosen: &mut ArrayVec<usize, 4>) -> bool
+/// Goes on from the indices that are chosen, one for each of the first head places, to an instance of the rule: to the
+/// one whose indices come first, place by place.
+fn complete(rule: &Rule, items: &[Atom], chosen: &mut ArrayVec<usize, MAX_HEADS>) -> bool
     requires choice { IsTrue (is_choice items.now [] chosen.old.items) }
     requires room { length chosen.old.items ≤ length (heads_of rule.now) }
     ensures choice { IsTrue (is_choice items.now [] chosen.new.items) }
-    ensures found { OnTrue result (HasInstance rule.now (picked items.now chosen.new.items)) }
+    ensures found { OnTrue result (HasInstance rule.now (chosen_atoms items.now chosen.new.items)) }
     ensures first { OnTrue result (IsFirstChoice rule.now items.now chosen.old.items chosen.new.items) }
     ensures none { OnFalse result (NoCompletion rule.now items.now chosen.old.items) }
     ensures same { OnFalse result (chosen.new.items ≡ chosen.old.items) }
@@ -62,12 +64,13 @@ fn complete(rule: &Rule, items: &[Atom], chosen: &mut ArrayVec<usize, 4>) -> boo
     false
 }
 
-/// The heads, in place order, of an instance of the rule among these atoms. Where the atoms are in order, no instance has
-/// heads that come before these.
-pub(crate) fn find_instance(rule: &Rule, items: &[Atom]) -> Option<ArrayVec<Atom, 4>>
+/// The heads, in place order, of an instance of the rule among these atoms. Where the atoms are in order, no instance
+/// has heads that come before these.
+pub(crate) fn find_instance(rule: &Rule, items: &[Atom]) -> Option<ArrayVec<Atom, MAX_HEADS>>
     ensures instance { IfSome result (λ heads. HasInstance rule.now heads.items) }
     ensures there { IfSome result (λ heads. IsWithin (store_of heads.items) (store_of items.now)) }
-    ensures least { IsTrue (is_rising atom_cmp items.now) → IfSome result (λ heads. IsLeastTuple rule.now (store_of items.now) heads.items) }
+    ensures least { IsTrue (is_rising atom_cmp items.now) →
+        IfSome result (λ heads. IsLeastInstance rule.now (store_of items.now) heads.items) }
     ensures none { IfNone result (HasNoStep rule.now (store_of items.now)) }
 {
     let mut chosen = ArrayVec::new();

@@ -1,11 +1,12 @@
 //! Putting atoms into a list and taking them out, whatever their order.
-ghost use Rattle.std.specs.Prelude.{◌≡◌, ◌+◌, ◌<◌, ◌≤◌, ◌++◌, [], ◌∷◌, IfSome, IfNone, length, vec_len, vec_capacity, slice_index_or};
+ghost use Rattle.std.specs.Prelude.{◌≡◌, ◌↔◌, ◌+◌, ◌<◌, ◌≤◌, ◌++◌, [], ◌∷◌, IsTrue, IfSome, IfNone, IfOk, length, vec_len, vec_capacity, slice_index_or};
 ghost use Rattle.std.specs.Bool.{OnTrue, OnFalse};
 ghost use Rattle.chr_base.specs.declared.atom.Atom.{Atom as AtomValue};
 ghost use Rattle.chr_base.specs.Atoms.{atom_cmp};
 ghost use Rattle.chr_base.specs.FinBag.{count_in};
 
 use chr_base::atom::Atom;
+use std::alloc::{AllocError, Global};
 
 /// Puts copies of these atoms at the end, where there is room for them.
 pub(crate) fn push_all(items: &mut Vec<Atom>, atoms: &[Atom])
@@ -16,6 +17,40 @@ pub(crate) fn push_all(items: &mut Vec<Atom>, atoms: &[Atom])
     for atom in atoms {
         items.push_reserved(atom.copy());
     }
+}
+
+/// Copies of these atoms.
+pub(crate) fn copies_of(alloc: Global, atoms: &[Atom]) -> Result<Vec<Atom>, AllocError>
+    ensures { IfOk result (λ copies. copies.items ≡ atoms.now) }
+{
+    let mut copies = Vec::with_capacity(alloc, atoms.len())?;
+    push_all(&mut copies, atoms);
+    Ok(copies)
+}
+
+/// How often an atom stands in a list.
+fn count_of(items: &[Atom], atom: &Atom) -> usize
+    ensures { result ≡ count_in atom_cmp atom.now items.now }
+{
+    let mut count = 0;
+    for item in items {
+        if atom.is_same(item) {
+            count += 1;
+        }
+    }
+    count
+}
+
+/// Whether each of these atoms stands in the list as often as it does among them.
+pub(crate) fn has_all(items: &[Atom], atoms: &[Atom]) -> bool
+    ensures { IsTrue result ↔ ((q : AtomValue) → count_in atom_cmp q atoms.now ≤ count_in atom_cmp q items.now) }
+{
+    for atom in atoms {
+        if count_of(items, atom) < count_of(atoms, atom) {
+            return false;
+        }
+    }
+    true
 }
 
 /// Where such an atom stands.
@@ -34,7 +69,9 @@ fn index_of(items: &[Atom], atom: &Atom) -> Option<usize>
 
 /// Takes one such atom out, where there is one. The last atom comes into its place.
 fn take_out(items: &mut Vec<Atom>, atom: &Atom) -> bool
-    ensures taken { OnTrue result ((q : AtomValue) → count_in atom_cmp q items.old.items ≡ count_in atom_cmp q items.new.items + count_in atom_cmp q (atom.now ∷ [])) }
+    ensures taken { OnTrue result (
+        (q : AtomValue) → count_in atom_cmp q items.old.items ≡
+        count_in atom_cmp q items.new.items + count_in atom_cmp q (atom.now ∷ [])) }
     ensures shorter { OnTrue result (vec_len items.new + 1 ≡ vec_len items.old) }
     ensures none { OnFalse result (count_in atom_cmp atom.now items.old.items ≡ 0) }
     ensures same { OnFalse result (items.new.items ≡ items.old.items) }
@@ -49,9 +86,13 @@ fn take_out(items: &mut Vec<Atom>, atom: &Atom) -> bool
 
 /// Takes all of these atoms out, or none where one of them stands there too seldom. The order of the others may change.
 pub(crate) fn take_all(items: &mut Vec<Atom>, atoms: &[Atom]) -> bool
-    ensures taken { OnTrue result ((q : AtomValue) → count_in atom_cmp q items.old.items ≡ count_in atom_cmp q items.new.items + count_in atom_cmp q atoms.now) }
-    ensures seldom { OnFalse result ((q : AtomValue) × (count_in atom_cmp q items.old.items < count_in atom_cmp q atoms.now)) }
-    ensures same { OnFalse result ((q : AtomValue) → count_in atom_cmp q items.new.items ≡ count_in atom_cmp q items.old.items) }
+    ensures taken { OnTrue result (
+        (q : AtomValue) → count_in atom_cmp q items.old.items ≡
+        count_in atom_cmp q items.new.items + count_in atom_cmp q atoms.now) }
+    ensures seldom { OnFalse result (
+        (q : AtomValue) × (count_in atom_cmp q items.old.items < count_in atom_cmp q atoms.now)) }
+    ensures same { OnFalse result (
+        (q : AtomValue) → count_in atom_cmp q items.new.items ≡ count_in atom_cmp q items.old.items) }
     ensures len { vec_len items.new ≤ vec_len items.old }
     ensures capacity { vec_capacity items.new ≡ vec_capacity items.old }
 {

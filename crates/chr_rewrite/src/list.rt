@@ -3,11 +3,12 @@ ghost use Rattle.std.specs.Prelude.{◌≡◌};
 ghost use Rattle.chr_base.specs.FinBag as bag;
 
 use crate::choose::find_instance;
-use crate::edits::{push_all, take_all};
+use crate::edits::{copies_of, has_all, push_all, take_all};
 use crate::pool::Pool;
 use arrayvec::ArrayVec;
 use chr_base::atom::Atom;
 use chr_base::bag::Bag;
+use chr_base::limits::MAX_HEADS;
 use chr_base::rule::Rule;
 use std::alloc::{AllocError, Global};
 use std::marker::Model;
@@ -19,8 +20,10 @@ pub struct ListPool {
 }
 
 impl Model for ListPool {
-    ghost use Rattle.chr_base.specs.FinBag.{of_list, code};
-    ghost use Rattle.chr_base.specs.Atoms.{Store, coded_atom};
+    ghost use Rattle.chr_base.specs.FinBag.{of_list};
+    ghost use Rattle.chr_base.specs.working.Codes.{code};
+    ghost use Rattle.chr_base.specs.Stores.{Store};
+    ghost use Rattle.chr_base.specs.working.Codes.{coded_atom};
 
     ghost Value = { Store };
 
@@ -43,7 +46,7 @@ impl ListPool {
 impl Pool for ListPool {
     ghost contents = { λ s. s };
 
-    fn find(&self, rule: &Rule) -> Option<ArrayVec<Atom, 4>> {
+    fn find(&self, rule: &Rule) -> Option<ArrayVec<Atom, MAX_HEADS>> {
         find_instance(rule, &self.items)
     }
 
@@ -62,14 +65,16 @@ impl Pool for ListPool {
         Ok(())
     }
 
+    fn has(&self, atoms: &[Atom]) -> bool {
+        has_all(&self.items, atoms)
+    }
+
     fn remove(&mut self, atoms: &[Atom]) -> bool {
         take_all(&mut self.items, atoms)
     }
 
     fn bag(&self, alloc: Global) -> Result<Bag, AllocError> {
-        let mut atoms = Vec::with_capacity(alloc, self.items.len())?;
-        push_all(&mut atoms, &self.items);
-        Bag::of(atoms)
+        Bag::of(copies_of(alloc, &self.items)?)
     }
 
     fn step(&mut self, rules: &[Rule]) -> Result<bool, AllocError> {

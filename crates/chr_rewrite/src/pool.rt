@@ -1,5 +1,5 @@
 //! Stores in which rules are applied.
-ghost use Rattle.std.specs.Prelude.{◌≡◌, ◌↔◌, IfOk, IfSome, IfNone, IsTrue, OnOk, OnErr};
+ghost use Rattle.std.specs.Prelude.{◌≡◌, ◌↔◌, IfOk, IfSome, IfNone, IsTrue, OnOk, OnErr, false};
 ghost use Rattle.std.specs.Bool.{OnTrue, OnFalse};
 ghost use Rattle.chr_base.specs.FinBag.{◌⊕◌, ◌⊖◌, IsWithin};
 ghost use Rattle.chr_base.specs.Stores.{Store, store_of};
@@ -10,6 +10,7 @@ ghost use Rattle.chr_rewrite.specs.Pools.{StepOn, HasNoStep};
 use arrayvec::ArrayVec;
 use chr_base::atom::Atom;
 use chr_base::bag::Bag;
+use chr_base::limits::MAX_HEADS;
 use chr_base::rule::Rule;
 use std::alloc::{AllocError, Global};
 
@@ -17,9 +18,9 @@ use std::alloc::{AllocError, Global};
 pub trait Pool {
     ghost contents: { Self → Store };
 
-    /// The heads, in place order, of an instance of the rule that is in the pool. None only where there is none. It takes
-    /// no memory.
-    fn find(&self, rule: &Rule) -> Option<ArrayVec<Atom, 4>>
+    /// The heads, in place order, of an instance of the rule that is in the pool. None only where there is none. It
+    /// takes no memory.
+    fn find(&self, rule: &Rule) -> Option<ArrayVec<Atom, MAX_HEADS>>
         ensures instance { IfSome result (λ heads. HasInstance rule.now heads.items) }
         ensures there { IfSome result (λ heads. IsWithin (store_of heads.items) (contents self.now)) }
         ensures none { IfNone result (HasNoStep rule.now (contents self.now)) };
@@ -36,6 +37,10 @@ pub trait Pool {
         ensures ok { OnOk result (contents self.new ≡ contents self.old ⊕ store_of atoms.now) }
         ensures err { OnErr result (contents self.new ≡ contents self.old) };
 
+    /// Whether all of these atoms are there, as a multiset. It takes no memory.
+    fn has(&self, atoms: &[Atom]) -> bool
+        ensures { IsTrue result ↔ IsWithin (store_of atoms.now) (contents self.now) };
+
     /// Takes all of these atoms out, or none where as a multiset they are not there. It takes no memory.
     fn remove(&mut self, atoms: &[Atom]) -> bool
         ensures there { IsTrue result ↔ IsWithin (store_of atoms.now) (contents self.old) }
@@ -46,11 +51,13 @@ pub trait Pool {
     fn bag(&self, alloc: Global) -> Result<Bag, AllocError>
         ensures { IfOk result (λ b. b ≡ contents self.now) };
 
-    /// One step of some rule. False, and nothing changes, where the pool is at rest; where memory is refused nothing
-    /// changes either.
+    /// One step of some rule. False, and nothing changes, where the pool is at rest, which is told without memory; where
+    /// memory is refused nothing changes either.
     fn step(&mut self, rules: &[Rule]) -> Result<bool, AllocError>
-        ensures stepped { IfOk result (λ stepped. OnTrue stepped (Step rules.now (contents self.old) (contents self.new))) }
+        ensures stepped { IfOk result (λ stepped.
+            OnTrue stepped (Step rules.now (contents self.old) (contents self.new))) }
         ensures same { IfOk result (λ stepped. OnFalse stepped (contents self.new ≡ contents self.old)) }
         ensures rests { IfOk result (λ stepped. OnFalse stepped (IsAtRest (Step rules.now) (contents self.old))) }
+        ensures resting { IsAtRest (Step rules.now) (contents self.old) → result ≡ Ok false }
         ensures err { OnErr result (contents self.new ≡ contents self.old) };
 }

@@ -33,8 +33,10 @@ fn pattern(term: Term) -> Pattern
 /// `min(X) \ min(Y) <=> X =< Y | true.`
 #[tactic(auto, unfolding(chr_base::specs::RuleTests::is_in_bounds))]
 fn least() -> Rule
-    ensures kept { result.kept.items ≡ record { symbol = record { 0 = 0 }; args = record { items = IsVariable 1 ∷ [] } } ∷ [] }
-    ensures removed { result.removed.items ≡ record { symbol = record { 0 = 0 }; args = record { items = IsVariable 2 ∷ [] } } ∷ [] }
+    ensures kept { result.kept.items ≡
+        record { symbol = record { 0 = 0 }; args = record { items = IsVariable 1 ∷ [] } } ∷ [] }
+    ensures removed { result.removed.items ≡
+        record { symbol = record { 0 = 0 }; args = record { items = IsVariable 2 ∷ [] } } ∷ [] }
     ensures body { result.body.items ≡ [] }
 {
     let mut kept = ArrayVec::new();
@@ -68,8 +70,11 @@ fn minimum(alloc: Global) -> Result<Program, AllocError> {
 #[tactic(auto, unfolding(chr_base::specs::RuleTests::is_in_bounds))]
 fn equal() -> Rule
     ensures kept { result.kept.items ≡ [] }
-    ensures removed { result.removed.items ≡ record { symbol = record { 0 = 0 }; args = record { items = IsVariable 1 ∷ [] } } ∷ record { symbol = record { 0 = 0 }; args = record { items = IsVariable 1 ∷ [] } } ∷ [] }
-    ensures body { result.body.items ≡ record { symbol = record { 0 = 0 }; args = record { items = IsConstant (pos 0) ∷ [] } } ∷ [] }
+    ensures removed { result.removed.items ≡
+        record { symbol = record { 0 = 0 }; args = record { items = IsVariable 1 ∷ [] } } ∷
+        record { symbol = record { 0 = 0 }; args = record { items = IsVariable 1 ∷ [] } } ∷ [] }
+    ensures body { result.body.items ≡
+        record { symbol = record { 0 = 0 }; args = record { items = IsConstant (pos 0) ∷ [] } } ∷ [] }
 {
     let mut removed = ArrayVec::new();
     removed.push(pattern(Term::Variable(1)));
@@ -88,8 +93,10 @@ fn equal() -> Rule
 /// `xor(1) \ xor(0) <=> true.`
 #[tactic(auto, unfolding(chr_base::specs::RuleTests::is_in_bounds))]
 fn neutral() -> Rule
-    ensures kept { result.kept.items ≡ record { symbol = record { 0 = 0 }; args = record { items = IsConstant (pos 1) ∷ [] } } ∷ [] }
-    ensures removed { result.removed.items ≡ record { symbol = record { 0 = 0 }; args = record { items = IsConstant (pos 0) ∷ [] } } ∷ [] }
+    ensures kept { result.kept.items ≡
+        record { symbol = record { 0 = 0 }; args = record { items = IsConstant (pos 1) ∷ [] } } ∷ [] }
+    ensures removed { result.removed.items ≡
+        record { symbol = record { 0 = 0 }; args = record { items = IsConstant (pos 0) ∷ [] } } ∷ [] }
     ensures body { result.body.items ≡ [] }
 {
     let mut kept = ArrayVec::new();
@@ -148,6 +155,10 @@ fn pools(rt: HostRuntime) -> Result<(), Fail> {
     let mut pool = ListPool::new(alloc);
     assert!(rt; pool.find(&rule).is_none());
     pool.insert(&[atom(9), atom(3), atom(9)])?;
+    assert!(rt; pool.has(&[]));
+    assert!(rt; pool.has(&[atom(9), atom(9)]));
+    assert!(rt; !pool.has(&[atom(3), atom(3)]));
+    assert!(rt; !pool.has(&[atom(4)]));
     assert!(rt; !pool.remove(&[atom(9), atom(4)]));
     assert!(rt; pool.remove(&[atom(9)]));
     assert!(rt; pool.bag(alloc)?.atoms() == [atom(3), atom(9)].as_slice());
@@ -195,7 +206,7 @@ fn derivation(alloc: Global, values: &[i64], steps: &[Step]) -> Result<Derivatio
 }
 
 #[test]
-#[tactic(auto, using(chr_weights::specs::WeightLaws::store_weight_at_most))]
+#[tactic(auto, using(chr_weights::proofs::WeightLaws::store_weight_at_most))]
 fn plain(rt: HostRuntime) -> Result<(), Fail> {
     let alloc = rt.alloc();
     let Ok(weighed) = weigh(minimum(alloc)?) else {

@@ -16,7 +16,6 @@ pub use bytes::{next_clause, without_comments};
 pub use clause::{Comparator, RawAtom, RawClause, RawComparison, RawRule, RawSymbol, RawTerm};
 pub use fault::{ClauseFault, RestFault};
 pub use grammar::{
-    clauses_are_parted, clauses_are_read, comments_are_erased, forms_are_spelled,
-    tokens_are_longest, written_tokens_are_read,
+    clauses_are_parted, clauses_have_one_form, comments_are_erased, written_tokens_are_read,
 };
 pub use reading::{clause_in, rest_fault};

@@ -12,3 +12,5 @@ pub mod TooMany
 pub mod ConstantLists
 pub mod Ways
 pub mod Steps
+pub mod Members
+pub mod RisingLists

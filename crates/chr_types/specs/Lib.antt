@@ -1,5 +1,4 @@
 pub mod OrderTypes
-pub mod RisingLists
 pub mod Representatives
 pub mod Refusals
-pub mod Search
+pub mod working

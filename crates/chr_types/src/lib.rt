@@ -13,5 +13,5 @@ mod search;
 mod tests;
 
 pub use fault::TypesFault;
-pub use listing::types;
+pub use listing::{MAX_CLASSES, types};
 pub use order_type::OrderType;

@@ -3,6 +3,7 @@ ghost use Rattle.std.specs.Prelude.{◌≡◌, ◌<◌, ◌≤◌, ◌^◌, IfOk
 ghost use Rattle.std.specs.Bool.{OnTrue};
 ghost use Rattle.chr_types.specs.OrderTypes.{Rises, MoreTypesThan};
 ghost use Rattle.chr_types.specs.Representatives.{AreTypes};
+ghost use Rattle.chr_types.specs.declared.fault.TypesFault.TheVariants.{TooManyTypes};
 ghost use Rattle.chr_types.specs.Refusals.{WhereTooMany};
 
 use crate::fault::TypesFault;
@@ -11,9 +12,9 @@ use crate::places::all_places;
 use crate::search::add_lists;
 use std::alloc::Global;
 
-/// From this number of classes on there are more order types than any limit: with the first class at one value, each
-/// other class can be equal to it or greater.
-const TOO_MANY_CLASSES: usize = 65;
+/// The greatest number of classes whose order types can be within a limit. Of more classes there are more than any limit:
+/// with the first class at one value, each other class can be equal to it or greater.
+pub const MAX_CLASSES: usize = 64;
 
 /// Whether the lists of so many constants alone are more than the limit. Each has an order type of its own.
 fn has_more_lists(constants: usize, classes: usize, limit: usize) -> bool
@@ -32,7 +33,8 @@ fn has_more_lists(constants: usize, classes: usize, limit: usize) -> bool
 /// stops once the limit is passed, and keeps no more than the listed types and the prefix that it is at.
 ///
 /// # Errors
-/// `TooManyTypes` exactly where there are more order types than the limit, `Memory` where there is no memory left.
+/// `TooManyTypes` exactly where there are more order types than the limit, and without memory where there are more than
+/// `MAX_CLASSES` classes; `Memory` where there is no memory left.
 pub fn types(
     alloc: Global,
     classes: usize,
@@ -42,10 +44,11 @@ pub fn types(
     requires rising { Rises constants.now }
     ensures types { IfOk result (λ ts. AreTypes classes constants.now ts.items) }
     ensures within { IfOk result (λ ts. vec_len ts ≤ limit) }
-    ensures no_more { IfOk result (λ _. MoreTypesThan limit classes constants.now → ⊥) }
+    ensures no_more { IfOk result (λ _. ¬ MoreTypesThan limit classes constants.now) }
     ensures many { IfErr result (λ e. WhereTooMany e (MoreTypesThan limit classes constants.now)) }
+    ensures wide { MAX_CLASSES < classes → result ≡ Err TooManyTypes }
 {
-    if classes >= TOO_MANY_CLASSES {
+    if classes > MAX_CLASSES {
         return Err(TypesFault::TooManyTypes);
     }
     let places = all_places(alloc, classes, constants)?;

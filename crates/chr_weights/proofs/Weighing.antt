@@ -1,5 +1,6 @@
 -- Weights summed over patterns, and what a program's form says of its rules.
-use Rattle.std.specs.Prelude.{◌≡◌, ℕ, zero, suc, ◌+◌, ◌-◌, ◌<◌, ◌≤◌, Bool, true, false, ◌&&◌, nat_eq, List, [], ◌∷◌, length, get_or, take, Option, Some, None, slice_get, option_map, IsTrue, pos, drop, ◌↔◌}
+use Rattle.std.proofs.lemmas.Bool.{and_parts}
+use Rattle.std.specs.Prelude.{◌≡◌, ℕ, zero, suc, ◌+◌, ◌-◌, ◌<◌, ◌≤◌, Bool, true, false, nat_eq, List, [], ◌∷◌, length, get_or, take, Option, Some, None, slice_get, option_map, IsTrue, pos, drop, ◌↔◌}
 use Rattle.std.specs.List.{list_all}
 use Rattle.std.proofs.Common.{refl, sym, ap, subst, ◌∙◌, arith, inl, inr}
 use mathlib.Core.Bool.{true≢false}
@@ -10,18 +11,19 @@ use Rattle.chr_base.specs.declared.atom.Atom.{Atom}
 use Rattle.chr_base.specs.declared.term.Pattern.{Pattern}
 use Rattle.chr_base.specs.declared.rule.Rule.{Rule}
 use Rattle.chr_base.specs.declared.program.Program.{Program}
-use Rattle.chr_base.specs.FinBag.{total, total-append}
+use Rattle.chr_base.specs.FinBag.{total}
+use Rattle.chr_base.proofs.FinBags.{total-append}
 use Rattle.chr_base.specs.Rules.{Valuation, atoms_at, atom_at, term_value}
-use Rattle.chr_base.specs.Instances.{first_true, second_true}
-use Rattle.chr_base.specs.StepLaws.{RuleLowers, length-map}
-use Rattle.chr_base.specs.ProgramTests.{Declaration, is_declared, takes, fits}
+use Rattle.chr_base.specs.Rules.{RuleLowers}
+use Rattle.std.proofs.lemmas.List.{length-map}
+use Rattle.chr_base.specs.ProgramTests.{Declaration, is_declared, takes}
 use Rattle.chr_base.specs.Programs.{declarations, rules_of}
-use Rattle.chr_weights.specs.Weights.{declared_weight, weight_in, ProgramLowers}
+use Rattle.chr_weights.specs.Weights.{declared_weight, weight_in, ProgramLowers, IsFirstNotLowered}
 
 pub all_at : {A : Type 0} (p : A → Bool) (xs : List A) (i : ℕ) (x : A) → list_all p xs ≡ true → slice_get xs i ≡ Some x → p x ≡ true
 all_at p [] i x h e = absurd (let f : None ≡ Some x = e in cc)
-all_at p (y ∷ ys) zero x h e = (let f : y ≡ x = cc in subst (λ z. p z ≡ true) f (first_true _ (list_all p ys) h))
-all_at p (y ∷ ys) (suc i) x h e = all_at p ys i x (second_true (p y) _ h) e
+all_at p (y ∷ ys) zero x h e = (let f : y ≡ x = cc in subst (λ z. p z ≡ true) f ((and_parts _ (list_all p ys) h).0))
+all_at p (y ∷ ys) (suc i) x h e = all_at p ys i x ((and_parts (p y) _ h).1) e
 
 -- a declared symbol is in the table
 pub declared_within : (ds : List Declaration) (i n : ℕ) → takes (slice_get ds i) n ≡ true → i < length ds
@@ -39,30 +41,6 @@ weight_found ds i n w h e = by (slice_get ds i) h e
     by None h e = absurd (true≢false (sym h))
     by (Some d) h e = rw h (let f : w ≡ d.weight = cc in f)
 
--- an atom that is not declared weighs nothing
-pub weight_missing : (ds : List Declaration) (i n : ℕ) → takes (slice_get ds i) n ≡ false → 0 ≡ declared_weight (slice_get ds i) n
-weight_missing ds i n h = by (slice_get ds i) h
-  where
-    by : (o : Option Declaration) → takes o n ≡ false → 0 ≡ declared_weight o n
-    by None h = refl
-    by (Some d) h = rw h refl
-
--- the rules of a program are made of declared patterns
-rule_fits : (p : Program) (i : ℕ) (r : Rule) → slice_get (rules_of p) i ≡ Some r → fits (declarations p) r ≡ true
-rule_fits p i r e = all_at (fits (declarations p)) (rules_of p) i r (second_true _ (list_all (fits (declarations p)) (rules_of p)) p.well_formed) e
-
-pub removed_declared : (p : Program) (rs : List Rule) (i : ℕ) (r : Rule) → rs ≡ rules_of p → i < length rs → r ≡ get_or rs i r → list_all (is_declared (declarations p)) r.removed.items ≡ true
-removed_declared p rs i r same l is =
-    let ds = declarations p in
-    let fit = rule_fits p i r (rw (← same) (slice_get_read rs (length rs) i r refl l is)) in
-    second_true (list_all (is_declared ds) r.kept.items) _ (first_true _ (list_all (is_declared ds) r.body.items) fit)
-
-pub body_declared : (p : Program) (rs : List Rule) (i : ℕ) (r : Rule) → rs ≡ rules_of p → i < length rs → r ≡ get_or rs i r → list_all (is_declared (declarations p)) r.body.items ≡ true
-body_declared p rs i r same l is =
-    let ds = declarations p in
-    let fit = rule_fits p i r (rw (← same) (slice_get_read rs (length rs) i r refl l is)) in
-    second_true (list_all (is_declared ds) r.kept.items && list_all (is_declared ds) r.removed.items) _ fit
-
 -- the next pattern is declared
 pub next_declared : (p : Program) (ps : List Pattern) (i : ℕ) (x : Pattern) → list_all (is_declared (declarations p)) ps ≡ true → i < length ps → x ≡ get_or ps i x → is_declared (declarations p) x ≡ true
 next_declared p ps i x h l is = all_at (is_declared (declarations p)) ps i x h (slice_get_read ps (length ps) i x refl l is)
@@ -70,7 +48,7 @@ next_declared p ps i x h l is = all_at (is_declared (declarations p)) ps i x h (
 -- a pattern's atom weighs what its symbol does
 pub pattern_weight : (p : Program) (x : Pattern) (w : ℕ) (v : Valuation) → is_declared (declarations p) x ≡ true → Some w ≡ option_map (λ d. d.weight) (slice_get (declarations p) x.symbol.0) → w ≡ weight_in p (atom_at v x)
 pattern_weight p x w v h e =
-    weight_found (declarations p) x.symbol.0 (length x.args.items) w h e ∙ ap (declared_weight (slice_get (declarations p) x.symbol.0)) (sym (length-map (term_value v) x.args.items))
+    weight_found (declarations p) x.symbol.0 (length x.args.items) w h e ∙ ap (declared_weight (slice_get (declarations p) x.symbol.0)) (sym (length-map x.args.items (term_value v)))
 
 -- one pattern more
 pub patterns_more : (p : Program) (ps : List Pattern) (i : ℕ) (x : Pattern) (v : Valuation) (sum w : ℕ) → i < length ps → x ≡ get_or ps i x → w ≡ weight_in p (atom_at v x) → sum ≡ total (weight_in p) (atoms_at v (take i ps))
@@ -99,10 +77,6 @@ total_prefix w xs n =
 -- the next sum fits, where the whole does
 pub next_fits : (w : Atom → ℕ) (xs : List Atom) (i n : ℕ) (x : Atom) (k : ℕ) → total w xs < n → i < length xs → x ≡ get_or xs i x → k ≡ w x → total w (take i xs) + k < n
 next_fits w xs i n x k h l is e = let a = total_more w xs i x l is in let b = total_prefix w xs (i + 1) in omega (arith, a, b, e, h)
-
--- a rule that lowers, by the sums of its patterns
-pub rule_lowers : (p : Program) (r : Rule) (before after : ℕ) → ((v : Valuation) → before ≡ total (weight_in p) (atoms_at v r.removed.items)) → ((v : Valuation) → after ≡ total (weight_in p) (atoms_at v r.body.items)) → after < before → RuleLowers (weight_in p) r
-rule_lowers p r before after b a h v = let e = b v in let f = a v in omega (arith, e, f, h)
 
 -- the rules so far, and one more
 pub lowers_more : (p : Program) (rs : List Rule) (n : ℕ) (x : Rule) → rs ≡ rules_of p → n < length rs → x ≡ get_or rs n x → ((k : ℕ) (r : Rule) → k < n → slice_get (rules_of p) k ≡ Some r → RuleLowers (weight_in p) r) → RuleLowers (weight_in p) x
@@ -135,21 +109,18 @@ at_place p rs n x w f same l is h r v e =
     h v ∙ ap (λ y. total (weight_in p) (atoms_at v (f y))) g
 
 -- a rule that does not lower refutes that all do
-pub refuted : (p : Program) (n before after : ℕ) → (0 < n) × (n ≤ length (rules_of p))
-    → ((r : Rule) (v : Valuation) → slice_get (rules_of p) (n - 1) ≡ Some r → before ≡ total (weight_in p) (atoms_at v r.removed.items))
-    → ((r : Rule) (v : Valuation) → slice_get (rules_of p) (n - 1) ≡ Some r → after ≡ total (weight_in p) (atoms_at v r.body.items)) → before ≤ after → ProgramLowers p → ⊥
-refuted p n before after m b a h all =
+refuted : (p : Program) (n before after : ℕ) → IsFirstNotLowered (declarations p) (rules_of p) n before after → ¬ ProgramLowers p
+refuted p n before after h all =
     elim (slice_get_cases (rules_of p) (n - 1)).1 as (λ _. ⊥) [
       | inl w ↦ (let z : Valuation = λ _. pos 0 in
           let c = all (n - 1) w.0 w.2 z in
-          let e = b w.0 z w.2 in
-          let f = a w.0 z w.2 in
-          omega (arith, c, e, f, h))
-      | inr w ↦ (let l = w.0 in omega (arith, l, m.0, m.1))
+          let e = h.weight_before w.0 z w.2 in
+          let f = h.weight_after w.0 z w.2 in
+          let g = h.not_lowered in
+          omega (arith, c, e, f, g))
+      | inr w ↦ (let l = w.0 in let f = h.first in let g = h.within in omega (arith, l, f, g))
     ]
 
 -- so the answer is exact
-pub not_lowered : (p : Program) (n before after : ℕ) → (0 < n) × (n ≤ length (rules_of p))
-    → ((r : Rule) (v : Valuation) → slice_get (rules_of p) (n - 1) ≡ Some r → before ≡ total (weight_in p) (atoms_at v r.removed.items))
-    → ((r : Rule) (v : Valuation) → slice_get (rules_of p) (n - 1) ≡ Some r → after ≡ total (weight_in p) (atoms_at v r.body.items)) → before ≤ after → IsTrue false ↔ ProgramLowers p
-not_lowered p n before after m b a h = ((λ e. absurd (true≢false (sym e))), λ all. absurd (refuted p n before after m b a h all))
+pub not_lowered : (p : Program) (n before after : ℕ) → IsFirstNotLowered (declarations p) (rules_of p) n before after → IsTrue false ↔ ProgramLowers p
+not_lowered p n before after h = ((λ e. absurd (true≢false (sym e))), λ all. absurd (refuted p n before after h all))

@@ -1,3 +1,3 @@
 pub mod Weights
 pub mod WeighedPrograms
-pub mod WeightLaws
+pub mod working

@@ -5,9 +5,9 @@ ghost use Rattle.std.specs.Prelude.{◌≡◌, ℕ, ◌+◌, ◌-◌, ◌^◌, �
 ghost use Rattle.chr_base.specs.declared.rule.Rule.{Rule as RuleValue};
 ghost use Rattle.chr_base.specs.FinBag.{total};
 ghost use Rattle.chr_base.specs.Rules.{Valuation, atoms_at};
-ghost use Rattle.chr_base.specs.StepLaws.{RuleLowers};
-ghost use Rattle.chr_base.specs.Programs.{rules_of};
-ghost use Rattle.chr_weights.specs.Weights.{weight_in, store_weight, ProgramLowers};
+ghost use Rattle.chr_base.specs.Rules.{RuleLowers};
+ghost use Rattle.chr_base.specs.Programs.{declarations, rules_of};
+ghost use Rattle.chr_weights.specs.Weights.{weight_in, store_weight, ProgramLowers, IsFirstNotLowered};
 ghost use Rattle.chr_weights.specs.WeighedPrograms.{program_of};
 
 use crate::sums::{atoms_weight, first_not_lowered};
@@ -37,11 +37,8 @@ pub struct NotLowered {
 pub fn weigh(program: Program) -> Result<Weighed, NotLowered>
     ensures exact { IsOk result ↔ ProgramLowers program }
     ensures ok { IfOk result (λ w. program_of w ≡ program) }
-    ensures rule { IfErr result (λ e. (0 < e.rule) × (e.rule ≤ length (rules_of program))) }
-    ensures earlier { IfErr result (λ e. (i : ℕ) (r : RuleValue) → i + 1 < e.rule → slice_get (rules_of program) i ≡ Some r → RuleLowers (weight_in program) r) }
-    ensures before { IfErr result (λ e. (r : RuleValue) (v : Valuation) → slice_get (rules_of program) (e.rule - 1) ≡ Some r → e.before ≡ total (weight_in program) (atoms_at v r.removed.items)) }
-    ensures after { IfErr result (λ e. (r : RuleValue) (v : Valuation) → slice_get (rules_of program) (e.rule - 1) ≡ Some r → e.after ≡ total (weight_in program) (atoms_at v r.body.items)) }
-    ensures not_lowered { IfErr result (λ e. e.before ≤ e.after) }
+    ensures first { IfErr result (λ e.
+        IsFirstNotLowered (declarations program) (rules_of program) e.rule e.before e.after) }
 {
     match first_not_lowered(&program) {
         Some(fault) => Err(fault),

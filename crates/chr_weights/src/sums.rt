@@ -4,20 +4,21 @@ ghost use Rattle.std.specs.List.{list_all};
 ghost use Rattle.chr_base.specs.declared.rule.Rule.{Rule as RuleValue};
 ghost use Rattle.chr_base.specs.FinBag.{total};
 ghost use Rattle.chr_base.specs.Rules.{Valuation, atoms_at};
-ghost use Rattle.chr_base.specs.StepLaws.{RuleLowers};
+ghost use Rattle.chr_base.specs.Rules.{RuleLowers};
 ghost use Rattle.chr_base.specs.ProgramTests.{is_declared};
 ghost use Rattle.chr_base.specs.Programs.{declarations, rules_of};
-ghost use Rattle.chr_weights.specs.Weights.{weight_in, store_weight, ProgramLowers};
+ghost use Rattle.chr_weights.specs.Weights.{weight_in, store_weight, ProgramLowers, IsFirstNotLowered};
 
 use crate::NotLowered;
 use chr_base::atom::Atom;
+use chr_base::limits::MAX_BODY;
 use chr_base::program::Program;
 use chr_base::term::Pattern;
 
 /// The weight of the atoms that these patterns become.
 fn patterns_weight(program: &Program, patterns: &[Pattern]) -> u64
     requires declared { IsTrue (list_all (is_declared (declarations program.now)) patterns.now) }
-    requires few { length patterns.now ≤ 8 }
+    requires few { length patterns.now ≤ MAX_BODY }
     ensures { (v : Valuation) → result ≡ total (weight_in program.now) (atoms_at v patterns.now) }
 {
     let mut sum = 0;
@@ -30,11 +31,8 @@ fn patterns_weight(program: &Program, patterns: &[Pattern]) -> u64
 /// The first rule that does not lower the weight.
 pub(crate) fn first_not_lowered(program: &Program) -> Option<NotLowered>
     ensures none { IfNone result (ProgramLowers program.now) }
-    ensures rule { IfSome result (λ e. (0 < e.rule) × (e.rule ≤ length (rules_of program.now))) }
-    ensures earlier { IfSome result (λ e. (i : ℕ) (r : RuleValue) → i + 1 < e.rule → slice_get (rules_of program.now) i ≡ Some r → RuleLowers (weight_in program.now) r) }
-    ensures before { IfSome result (λ e. (r : RuleValue) (v : Valuation) → slice_get (rules_of program.now) (e.rule - 1) ≡ Some r → e.before ≡ total (weight_in program.now) (atoms_at v r.removed.items)) }
-    ensures after { IfSome result (λ e. (r : RuleValue) (v : Valuation) → slice_get (rules_of program.now) (e.rule - 1) ≡ Some r → e.after ≡ total (weight_in program.now) (atoms_at v r.body.items)) }
-    ensures not_lowered { IfSome result (λ e. e.before ≤ e.after) }
+    ensures first { IfSome result (λ e.
+        IsFirstNotLowered (declarations program.now) (rules_of program.now) e.rule e.before e.after) }
 {
     for (i, rule) in program.rules().iter().enumerate() {
         let before = patterns_weight(program, &rule.removed);

@@ -71,7 +71,7 @@ fn not_lowered(rt: HostRuntime) -> Result<(), Fail> {
 }
 
 #[test]
-#[tactic(auto, using(crate::specs::WeightLaws::store_weight_at_most))]
+#[tactic(auto, using(crate::proofs::WeightLaws::store_weight_at_most))]
 fn lowered(rt: HostRuntime) -> Result<(), Fail> {
     let mut program = coin(rt.alloc())?;
     assert_eq!(rt; program.symbols(), 3);

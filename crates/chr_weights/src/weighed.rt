@@ -1,5 +1,6 @@
 //! Programs that lower.
-ghost use Rattle.chr_weights.specs.Weights.{ProgramLowers, ProgramLowers-prop};
+ghost use Rattle.chr_weights.specs.Weights.{ProgramLowers};
+ghost use Rattle.chr_weights.specs.working.Weights.{ProgramLowers-prop};
 
 use chr_base::program::Program;
 

@@ -40,6 +40,23 @@ fn failing_writers(rt: HostRuntime) -> Result<(), Fail> {
     Ok(())
 }
 
+/// All is written before the flush, which is one call more.
+#[test]
+fn failing_flush(rt: HostRuntime) -> Result<(), Fail> {
+    let calls = u64::try_from(OUTPUT.len())?.saturating_add(1);
+    let mut reader = Watched::of(INPUT);
+    let drips = Drips::of(Vec::with_capacity(rt.alloc(), ROOM)?);
+    let mut writer = Watched::of(FailsAt::of(drips, calls));
+    let result = run(rt.alloc(), &mut reader, &mut writer, PLAIN);
+    if result == Err(RunFault::Memory) {
+        result?;
+    }
+    assert_eq!(rt; result, Err(RunFault::Device));
+    let written = writer.into_inner().into_inner().into_inner();
+    assert_eq!(rt; written.as_slice(), OUTPUT);
+    Ok(())
+}
+
 /// Nothing is written before all was read.
 #[test]
 fn failing_readers(rt: HostRuntime) -> Result<(), Fail> {

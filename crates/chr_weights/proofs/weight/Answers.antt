@@ -1,5 +1,5 @@
 use Rattle.std.proofs.Common.{sym}
-use Rattle.chr_base.specs.FinBag.{sum_over-items}
+use Rattle.chr_base.proofs.FinBags.{sum_over-items}
 use Rattle.chr_weights.specs.Weights.{weight_in}
 use Rattle.chr_weights.specs.WeighedPrograms.{program_of}
 use Rattle.chr_weights.proofs.weight.Goals as goal

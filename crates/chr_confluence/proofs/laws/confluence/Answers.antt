@@ -1,15 +1,23 @@
-use Rattle.chr_confluence.specs.Values.{is_value, atom_in}
+use Rattle.chr_base.specs.Values.{is_value, args_in}
 use Rattle.chr_confluence.specs.Cases.{side, case_store}
-use Rattle.chr_confluence.specs.Confluence.{not_confluent}
-use Rattle.chr_confluence.proofs.PeaksJoin.{peaks_join, left_step, right_step}
+use Rattle.chr_confluence.proofs.Refuting.{not_confluent}
+use Rattle.chr_confluence.proofs.PeaksJoin.{peaks_join}
+use Rattle.chr_confluence.proofs.CaseSteps.{left_step, right_step}
 use Rattle.chr_confluence.proofs.Confluent.{confluent}
+use Rattle.chr_confluence.proofs.ValuesStay.{values_stay}
 use Rattle.chr_confluence.proofs.laws.confluence.Goals as goal
 
+pub returns-clause-stay : goal.returns-clause-stay
+returns-clause-stay c = λ rules. values_stay rules
+
+pub returns-clause-local : goal.returns-clause-local
+returns-clause-local c = λ rules w lower peaks. confluent rules w lower peaks
+
 pub returns-clause-peaks : goal.returns-clause-peaks
-returns-clause-peaks c = λ rules cases. peaks_join (atom_in is_value) rules cases
+returns-clause-peaks c = λ rules cases. peaks_join (args_in is_value) rules cases
 
 pub returns-clause-confluent : goal.returns-clause-confluent
-returns-clause-confluent c = λ rules w lower cases. confluent rules w lower (peaks_join (atom_in is_value) rules cases)
+returns-clause-confluent c = λ rules w lower cases. confluent rules w lower (peaks_join (args_in is_value) rules cases)
 
 pub returns-clause-refuted : goal.returns-clause-refuted
 returns-clause-refuted c = λ rules s t u a b values h g x y differ. not_confluent rules s t u a b values h g x y differ

@@ -1,4 +1,4 @@
-use Rattle.chr_confluence.specs.Laws.{whole}
+use Rattle.chr_confluence.specs.laws.Parts.{whole}
 use Rattle.chr_confluence.proofs.Confluent.{rested}
 use Rattle.chr_confluence.proofs.laws.parts.Goals as goal
 

@@ -1,5 +1,5 @@
-use Rattle.chr_confluence.proofs.Joints.{matching_of}
-use Rattle.chr_confluence.proofs.PeaksJoin as lemmas
+use Rattle.chr_confluence.proofs.CaseMatchings.{matching_of}
+use Rattle.chr_confluence.proofs.CaseSteps as lemmas
 use Rattle.chr_confluence.proofs.laws.peak.Goals as goal
 
 pub returns-clause-peaks : goal.returns-clause-peaks

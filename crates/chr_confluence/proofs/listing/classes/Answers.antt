@@ -1,9 +1,9 @@
-use Rattle.chr_confluence.specs.Solving.{solved}
-use Rattle.chr_confluence.specs.Solutions.{one_solution, terms_stand}
+use Rattle.chr_confluence.proofs.Solving.{unifiers_exist}
+use Rattle.chr_confluence.proofs.Solutions.{one_solution, terms_stand}
 use Rattle.chr_confluence.proofs.listing.classes.Goals as goal
 
-pub returns-clause-solve : goal.returns-clause-solve
-returns-clause-solve c = solved
+pub returns-clause-exist : goal.returns-clause-exist
+returns-clause-exist c = unifiers_exist
 
 pub returns-clause-one : goal.returns-clause-one
 returns-clause-one c = one_solution

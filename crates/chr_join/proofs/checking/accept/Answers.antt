@@ -1,17 +1,16 @@
-use Rattle.chr_base.specs.Programs.{rules_of}
 use Rattle.chr_weights.specs.Weights.{weight_in}
-use Rattle.chr_weights.specs.WeighedPrograms.{program_of}
+use Rattle.chr_weights.specs.WeighedPrograms.{program_of, rules_in}
 use Rattle.chr_join.proofs.Confluent.{accepted_confluent, refusal_refutes}
 use Rattle.chr_join.proofs.SideSteps.{failing_replays}
 use Rattle.chr_join.proofs.checking.accept.Goals as goal
 
-pub returns-in-Ok-clause-confluent : goal.returns-in-Ok-clause-confluent
-returns-in-Ok-clause-confluent c =
-    accepted_confluent c.listed_confluence.ensures.confluent (record { cases = c.listed_cases.ensures.cases; left = c.peak.ensures.left; right = c.peak.ensures.right }) (rules_of (program_of c.args.weighed)) (weight_in (program_of c.args.weighed)) c.in-Ok.cases c.args.weighed.lowers c.in-Ok.ensures.ok
+pub returns-in-Ok-new-clause-confluent : goal.returns-in-Ok-new-clause-confluent
+returns-in-Ok-new-clause-confluent c =
+    accepted_confluent c.listed_confluence.ensures.confluent (record { cases = c.listed_cases.ensures.cases; left = c.peak.ensures.left; right = c.peak.ensures.right }) (rules_in c.args.weighed) (weight_in (program_of c.args.weighed)) c.in-Ok.cases c.args.weighed.lowers c.in-Ok.ensures.ok
 
 pub returns-in-Err-clause-not_confluent : goal.returns-in-Err-clause-not_confluent
 returns-in-Err-clause-not_confluent c =
-    refusal_refutes c.listed_confluence.ensures.failing (record { cases = c.listed_cases.ensures.cases; left = c.peak.ensures.left; right = c.peak.ensures.right }) (rules_of (program_of c.args.weighed)) c.in-Err.cause c.in-Err.ensures.err
+    refusal_refutes c.listed_confluence.ensures.failing (record { cases = c.listed_cases.ensures.cases; left = c.peak.ensures.left; right = c.peak.ensures.right }) (rules_in c.args.weighed) c.in-Err.cause c.in-Err.ensures.err
 
 pub returns-in-Err-clause-replays : goal.returns-in-Err-clause-replays
-returns-in-Err-clause-replays c = failing_replays (rules_of (program_of c.args.weighed)) c.in-Err.cause c.in-Err.ensures.err
+returns-in-Err-clause-replays c = failing_replays (rules_in c.args.weighed) c.in-Err.cause c.in-Err.ensures.err

@@ -1,28 +1,28 @@
 use Rattle.std.proofs.Common.{◌+◌, ◌^◌, ◌<◌, ◌≤◌, length, sym, subst, rules}
-use Rattle.chr_base.specs.Programs.{rules_of}
-use Rattle.chr_weights.specs.WeighedPrograms.{program_of}
+use Rattle.chr_weights.specs.WeighedPrograms.{rules_in}
 use Rattle.chr_overlaps.specs.OverlapLists.{AreOverlaps}
-use Rattle.chr_join.proofs.Verdicts.{overlap_at, total_fits, joined_more, first_at, refusal_at}
+use Rattle.chr_join.proofs.Lists.{in_at}
+use Rattle.chr_join.proofs.Verdicts.{total_fits, joinable_more, first_at}
 use Rattle.chr_join.proofs.checking.check_all.Goals as goal
 
 pub check_overlap-requires-clause-overlap : goal.check_overlap-requires-clause-overlap
 check_overlap-requires-clause-overlap c =
-    overlap_at (rules_of (program_of c.args.weighed.now)) c.deref-overlap-items.result.now c.loop-overlap.overlap-index c.overlap-item.result
-    (subst (AreOverlaps (rules_of (program_of c.args.weighed.now))) (sym c.deref-overlap-items.ensures.value) c.in_ok-overlaps.ensures.overlaps) c.loop-overlap-test.true c.overlap-item.is
+    let are = subst (AreOverlaps (rules_in c.args.weighed.now)) (sym c.deref-overlap-items.ensures.value) c.in_ok-overlaps.ensures.overlaps in
+    are.each c.overlap-item.result (in_at c.deref-overlap-items.result.now c.loop-overlap.overlap-index c.overlap-item.result c.loop-overlap-test.true c.overlap-item.is)
 
 pub returns-in-Err-clause-err : goal.returns-in-Err-clause-err
 returns-in-Err-clause-err c =
-    let rules = rules_of (program_of c.args.weighed.now) in
-    refusal_at rules c.overlap-item.result c.in-Err.cause
-    (first_at rules c.deref-overlap-items.result.now c.loop-overlap.overlap-index c.overlap-item.result c.loop-overlap.total (subst (AreOverlaps rules) (sym c.deref-overlap-items.ensures.value) c.in_ok-overlaps.ensures.overlaps) c.loop-overlap.invariant c.loop-overlap-test.true c.overlap-item.is) c.in-Err.ensures.err
+    let rules = rules_in c.args.weighed.now in
+    let are = subst (AreOverlaps rules) (sym c.deref-overlap-items.ensures.value) c.in_ok-overlaps.ensures.overlaps in
+    c.in-Err.ensures.err (first_at rules c.deref-overlap-items.result.now c.loop-overlap.overlap-index c.overlap-item.result c.loop-overlap.total are c.loop-overlap.invariant c.loop-overlap-test.true c.overlap-item.is)
 
 pub overflow_add-total : goal.overflow_add-total
 overflow_add-total c =
     let few : length c.deref-overlap-items.result.now ≤ 2560000 = subst (λ os. length os ≤ 2560000) (sym c.deref-overlap-items.ensures.value) c.in_ok-overlaps.ensures.few in
-    let fits : c.loop-overlap.total + c.in-Ok.cases < 2 ^ 64 = total_fits (rules_of (program_of c.args.weighed.now)) c.deref-overlap-items.result.now c.loop-overlap.overlap-index c.overlap-item.result c.loop-overlap.total c.in-Ok.cases few c.loop-overlap-test.true c.loop-overlap.invariant c.in-Ok.ensures.ok in
+    let fits : c.loop-overlap.total + c.in-Ok.cases < 2 ^ 64 = total_fits (rules_in c.args.weighed.now) c.deref-overlap-items.result.now c.loop-overlap.overlap-index c.overlap-item.result c.loop-overlap.total c.in-Ok.cases few c.loop-overlap-test.true c.loop-overlap.invariant c.in-Ok.ensures.ok in
     search rules
 
 pub loop-overlap-preserved : goal.loop-overlap-preserved
 loop-overlap-preserved c =
-    joined_more (rules_of (program_of c.args.weighed.now)) c.deref-overlap-items.result.now c.loop-overlap.overlap-index c.overlap-item.result c.loop-overlap.total c.in-Ok.cases
+    joinable_more (rules_in c.args.weighed.now) c.deref-overlap-items.result.now c.loop-overlap.overlap-index c.overlap-item.result c.loop-overlap.total c.in-Ok.cases
     c.loop-overlap-test.true c.overlap-item.is c.loop-overlap.invariant c.in-Ok.ensures.ok

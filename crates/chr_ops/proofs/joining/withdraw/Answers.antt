@@ -1,8 +1,7 @@
-use Rattle.chr_ops.specs.Operations.{operations_of}
 use Rattle.chr_ops.proofs.Unions.{without_removed}
 use Rattle.chr_ops.proofs.joining.withdraw.Goals as goal
 
 pub loop-id-preserved : goal.loop-id-preserved
 loop-id-preserved c =
-    rw c.remove_bag.ensures
-    (without_removed (operations_of c.args.held.now.entries) (operations_of c.loop-id.held.entries) c.args.ids.now c.loop-id.id-index record { origin = 0; number = 0 } c.loop-id-test.true c.loop-id.invariant)
+    rw c.remove.ensures
+    (without_removed c.args.held.now c.loop-id.held c.args.ids.now c.loop-id.id-index record { origin = 0; number = 0 } c.loop-id-test.true c.loop-id.invariant)

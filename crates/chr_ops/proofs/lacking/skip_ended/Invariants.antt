@@ -1,5 +1,5 @@
 use Rattle.std.proofs.Common.{◌≡◌, length}
-use Rattle.chr_ops.specs.Walks.{rest_from}
+use Rattle.chr_ops.specs.working.Walks.{rest_from}
 use Rattle.chr_ops.proofs.lacking.skip_ended.Given as goal
 
 abbrev pub invariant-loop-rest : goal.invariant-loop-rest

@@ -1,7 +1,7 @@
 use Rattle.std.proofs.Common.{◌≡◌, ◌<◌, length, take, get_or}
 use Rattle.chr_ops.specs.declared.id.OpId.{OpId}
 use Rattle.chr_ops.specs.Summaries.{covers, IsApart}
-use Rattle.chr_ops.specs.Merging.{AllStartBy}
+use Rattle.chr_ops.specs.working.Merging.{AllStartBy}
 use Rattle.chr_ops.proofs.merging.merge_ranges.Given as goal
 
 abbrev pub invariant-loop-range : goal.invariant-loop-range

@@ -1,6 +1,6 @@
 use Rattle.std.proofs.Common.{rules, subst, ◌≡◌, [], ◌∷◌, ◌++◌}
 use Rattle.chr_ops.specs.Summaries.{IsApart}
-use Rattle.chr_ops.specs.Merging.{AllStartBy}
+use Rattle.chr_ops.specs.working.Merging.{AllStartBy}
 use Rattle.chr_ops.proofs.Merged.{hull, merged_first, merged_touching, merged_behind}
 use Rattle.chr_ops.proofs.merging.push_range.Goals as goal
 use Rattle.chr_ops.proofs.merging.push_range.Goals.{in-None, in-Some, in-Some-2+in_ok-push-in-Some-2}

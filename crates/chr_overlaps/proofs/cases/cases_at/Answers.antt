@@ -3,7 +3,7 @@ use Rattle.std.specs.List.{filter}
 use Rattle.std.proofs.lemmas.List.{take_all}
 use Rattle.chr_confluence.specs.Representatives.{guards_hold}
 use Rattle.chr_overlaps.specs.CaseLists.{case_at}
-use Rattle.chr_overlaps.specs.Unifiers.{classes_of}
+use Rattle.chr_overlaps.specs.working.Unifiers.{classes_of}
 use Rattle.chr_overlaps.proofs.Kept.{kept, passed}
 use Rattle.chr_overlaps.proofs.cases.cases_at.Goals as goal
 use Rattle.chr_overlaps.proofs.cases.cases_at.Goals.{in-Some+in_ok-push, in_default}

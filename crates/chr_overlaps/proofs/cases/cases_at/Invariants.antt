@@ -2,7 +2,7 @@ use Rattle.std.proofs.Common.{◌≡◌, map, take}
 use Rattle.std.specs.List.{filter}
 use Rattle.chr_confluence.specs.Representatives.{guards_hold}
 use Rattle.chr_overlaps.specs.CaseLists.{case_at}
-use Rattle.chr_overlaps.specs.Unifiers.{classes_of}
+use Rattle.chr_overlaps.specs.working.Unifiers.{classes_of}
 use Rattle.chr_overlaps.proofs.cases.cases_at.Given as goal
 
 abbrev pub invariant-loop-one : goal.invariant-loop-one

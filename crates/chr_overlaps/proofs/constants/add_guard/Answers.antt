@@ -1,8 +1,8 @@
 use Rattle.std.proofs.Common.{List, subst}
 use Rattle.std.proofs.lemmas.List.{take_all}
 use Rattle.chr_base.specs.declared.term.Comparison.{Comparison}
-use Rattle.chr_confluence.specs.Representatives.{guard_terms}
-use Rattle.chr_overlaps.specs.Gathering.{Gathers}
+use Rattle.chr_confluence.specs.Constants.{guard_terms}
+use Rattle.chr_overlaps.specs.working.Gathering.{Gathers}
 use Rattle.chr_overlaps.proofs.Gathered.{comparison_gathered}
 use Rattle.chr_overlaps.proofs.constants.add_guard.Goals as goal
 

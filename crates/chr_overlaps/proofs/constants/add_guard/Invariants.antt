@@ -1,6 +1,6 @@
 use Rattle.std.proofs.Common.{take}
-use Rattle.chr_confluence.specs.Representatives.{guard_terms}
-use Rattle.chr_overlaps.specs.Gathering.{Gathers}
+use Rattle.chr_confluence.specs.Constants.{guard_terms}
+use Rattle.chr_overlaps.specs.working.Gathering.{Gathers}
 use Rattle.chr_overlaps.proofs.constants.add_guard.Given as goal
 
 abbrev pub invariant-loop-comparison : goal.invariant-loop-comparison

@@ -3,7 +3,7 @@ use Rattle.std.proofs.lemmas.List.{take_all}
 use Rattle.chr_base.specs.declared.term.Term.{Term}
 use Rattle.chr_base.specs.declared.term.Pattern.{Pattern}
 use Rattle.chr_base.specs.RuleTests.{terms_of}
-use Rattle.chr_overlaps.specs.Gathering.{Gathers}
+use Rattle.chr_overlaps.specs.working.Gathering.{Gathers}
 use Rattle.chr_overlaps.proofs.Gathered.{pattern_gathered}
 use Rattle.chr_overlaps.proofs.constants.add_patterns.Goals as goal
 

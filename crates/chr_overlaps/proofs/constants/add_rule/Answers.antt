@@ -2,8 +2,8 @@ use Rattle.std.proofs.Common.{List, subst}
 use Rattle.chr_base.specs.declared.term.Pattern.{Pattern}
 use Rattle.chr_base.specs.declared.term.Comparison.{Comparison}
 use Rattle.chr_base.specs.RuleTests.{terms_of}
-use Rattle.chr_confluence.specs.Representatives.{guard_terms}
-use Rattle.chr_overlaps.specs.Gathering.{Gathers}
+use Rattle.chr_confluence.specs.Constants.{guard_terms}
+use Rattle.chr_overlaps.specs.working.Gathering.{Gathers}
 use Rattle.chr_overlaps.proofs.Gathered.{rule_gathered}
 use Rattle.chr_overlaps.proofs.constants.add_rule.Goals as goal
 

@@ -5,7 +5,7 @@ use mir.Syntax.{w64}
 use Rattle.std.proofs.lemmas.Int.{to_z-of_z}
 use Rattle.chr_base.specs.declared.term.Term.{Term}
 use Rattle.chr_base.specs.declared.term.Term.TheVariants.{Variable, Constant}
-use Rattle.chr_overlaps.specs.Gathering.{Gathers}
+use Rattle.chr_overlaps.specs.working.Gathering.{Gathers}
 use Rattle.chr_overlaps.proofs.Gathered.{term_gathered, constant_gathered, term_passed}
 use Rattle.chr_overlaps.proofs.constants.add_terms.Goals as goal
 use Rattle.chr_overlaps.proofs.constants.add_terms.Goals.{in-Constant+in_ok-add_constant, in_default}

@@ -1,5 +1,5 @@
 use Rattle.std.proofs.Common.{take}
-use Rattle.chr_overlaps.specs.Gathering.{Gathers}
+use Rattle.chr_overlaps.specs.working.Gathering.{Gathers}
 use Rattle.chr_overlaps.proofs.constants.add_terms.Given as goal
 
 abbrev pub invariant-loop-term : goal.invariant-loop-term

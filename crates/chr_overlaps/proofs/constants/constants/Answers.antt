@@ -1,8 +1,8 @@
 use Rattle.std.proofs.Common.{List, subst}
 use Rattle.std.proofs.lemmas.List.{take_all}
 use Rattle.chr_base.specs.declared.rule.Rule.{Rule}
-use Rattle.chr_overlaps.specs.Gathering.{AreConstantsIn, Gathers, all_terms}
-use Rattle.chr_confluence.specs.Representatives.{rule_terms}
+use Rattle.chr_overlaps.specs.working.Gathering.{AreConstantsIn, Gathers, all_terms}
+use Rattle.chr_confluence.specs.Constants.{rule_terms}
 use Rattle.chr_overlaps.proofs.Gathered.{rules_gathered, all_gathered}
 use Rattle.chr_overlaps.proofs.constants.constants.Goals as goal
 

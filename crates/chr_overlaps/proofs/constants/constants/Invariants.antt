@@ -1,5 +1,5 @@
 use Rattle.std.proofs.Common.{take}
-use Rattle.chr_overlaps.specs.Gathering.{AreConstantsIn, all_terms}
+use Rattle.chr_overlaps.specs.working.Gathering.{AreConstantsIn, all_terms}
 use Rattle.chr_overlaps.proofs.constants.constants.Given as goal
 
 abbrev pub invariant-loop-rule : goal.invariant-loop-rule

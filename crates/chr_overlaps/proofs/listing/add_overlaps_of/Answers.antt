@@ -1,7 +1,7 @@
 use Rattle.std.proofs.Common.{◌≡◌, ◌<◌, ◌+◌, ◌-◌, ◌++◌, length, List, sym, ap, ◌∙◌, arith, ℕ}
 use Rattle.std.specs.List.{flat_map, range_with_len}
 use Rattle.chr_overlaps.specs.declared.overlap.Overlap.{Overlap}
-use Rattle.chr_overlaps.specs.Listing.{overlaps_of_pair, begun}
+use Rattle.chr_overlaps.specs.working.Listing.{overlaps_of_pair, begun}
 use Rattle.chr_overlaps.proofs.Steps.{more_overlaps, pair_added}
 use Rattle.chr_overlaps.proofs.listing.add_overlaps_of.Goals as goal
 

@@ -1,5 +1,5 @@
 use Rattle.std.proofs.Common.{[], length, ap, ◌∙◌, arith}
-use Rattle.chr_overlaps.specs.Listing.{overlaps_of_rule}
+use Rattle.chr_overlaps.specs.working.Listing.{overlaps_of_rule}
 use Rattle.chr_base.specs.Programs.{rules_of}
 use Rattle.chr_weights.specs.WeighedPrograms.{program_of}
 use Rattle.chr_overlaps.proofs.Few.{few_rules, few_overlaps}

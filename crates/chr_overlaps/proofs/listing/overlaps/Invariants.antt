@@ -1,6 +1,6 @@
 use Rattle.std.proofs.Common.{◌≡◌}
 use Rattle.std.specs.List.{flat_map, range_with_len}
-use Rattle.chr_overlaps.specs.Listing.{overlaps_of_rule}
+use Rattle.chr_overlaps.specs.working.Listing.{overlaps_of_rule}
 use Rattle.chr_overlaps.proofs.listing.overlaps.Given as goal
 
 abbrev pub invariant-loop-place : goal.invariant-loop-place

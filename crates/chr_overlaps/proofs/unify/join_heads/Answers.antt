@@ -1,7 +1,7 @@
 use Rattle.std.proofs.Common.{◌≡◌, ◌+◌, ◌<◌, length, get_or, Some, None, sym, ap, ◌∙◌, arith}
 use Rattle.chr_base.specs.Rules.{heads_of}
-use Rattle.chr_confluence.specs.Solving.{solve}
-use Rattle.chr_overlaps.specs.Tables.{class_in}
+use Rattle.chr_confluence.specs.working.Solving.{solve}
+use Rattle.chr_overlaps.specs.working.Tables.{class_in}
 use Rattle.chr_overlaps.proofs.Solutions.{rest_of, pairs_at, places_there, rest_unmatched, rest_matched, solved_first, first_clash}
 use Rattle.chr_overlaps.proofs.unify.join_heads.Goals as goal
 use Rattle.chr_overlaps.proofs.unify.join_heads.Goals.{else-entry-gt0-via-then-entry-gt0+else-not-join_at, else-entry-gt0-via-else-entry-gt0}

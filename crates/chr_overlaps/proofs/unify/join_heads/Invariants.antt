@@ -1,7 +1,7 @@
 use Rattle.std.proofs.Common.{◌≡◌, length}
 use Rattle.chr_base.specs.Rules.{heads_of}
-use Rattle.chr_confluence.specs.Solving.{solve}
-use Rattle.chr_overlaps.specs.Tables.{class_in}
+use Rattle.chr_confluence.specs.working.Solving.{solve}
+use Rattle.chr_overlaps.specs.working.Tables.{class_in}
 use Rattle.chr_overlaps.proofs.Solutions.{rest_of}
 use Rattle.chr_overlaps.proofs.unify.join_heads.Given as goal
 

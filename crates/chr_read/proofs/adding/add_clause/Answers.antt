@@ -1,6 +1,6 @@
 use Rattle.std.proofs.Common.{map}
 use Rattle.chr_syntax.specs.Views.{symbol_view}
-use Rattle.chr_read.specs.Views.{progress_of}
+use Rattle.chr_read.specs.working.Views.{progress_of}
 use Rattle.chr_read.proofs.FaultLess.{declare_faultless}
 use Rattle.chr_read.proofs.adding.add_clause.Goals as goal
 

@@ -2,10 +2,10 @@ use Rattle.std.proofs.Common.{◌≡◌, ◌<◌, List, length, map, false, nat_
 use Rattle.std.proofs.lemmas.Bool.Decides.{nat_tests}
 use Rattle.std.proofs.lemmas.List.{length-map}
 use Rattle.chr_base.specs.declared.rule.Rule.{Rule}
-use Rattle.chr_read.specs.Meanings.{rule_data}
+use Rattle.chr_base.specs.Sameness.{parts_of}
 use Rattle.chr_base.specs.Programs.{declarations, rules_of}
 use Rattle.chr_syntax.specs.Views.{rule_view}
-use Rattle.chr_read.specs.Views.{progress_of}
+use Rattle.chr_read.specs.working.Views.{progress_of}
 use Rattle.chr_read.proofs.FaultLess.{rule_faultless}
 use Rattle.chr_read.proofs.Resolved.{resolved_fits}
 use Rattle.chr_read.proofs.adding.add_rule.Goals as goal
@@ -22,5 +22,11 @@ push_rule-requires-clause-room c =
     let few = (rule_faultless (progress_of c.args.reader.now) (rule_view c.args.raw.now) c.requires.none).1 in
     room rs few
   where
-    room : (rs : List Rule) → nat_le 64 (length (map rule_data rs)) ≡ false → length rs < 64
-    room rs h = let l = length-map rs rule_data in grind (arith, nat_tests)
+    room : (rs : List Rule) → nat_le 64 (length (map parts_of rs)) ≡ false → length rs < 64
+    room rs h = let l = length-map rs parts_of in grind (arith, nat_tests)
+
+pub resolved-requires-clause-over : goal.resolved-requires-clause-over
+resolved-requires-clause-over c = (rule_faultless (progress_of c.args.reader.now) (rule_view c.args.raw.now) c.requires.none).2
+
+pub resolved-requires-clause-unbound : goal.resolved-requires-clause-unbound
+resolved-requires-clause-unbound c = (rule_faultless (progress_of c.args.reader.now) (rule_view c.args.raw.now) c.requires.none).3

@@ -3,7 +3,7 @@ use Rattle.std.specs.List.{list_all}
 use Rattle.chr_base.specs.Names.{is_name}
 use Rattle.chr_base.specs.Programs.{declarations, rules_of}
 use Rattle.chr_syntax.specs.Views.{symbol_view}
-use Rattle.chr_read.specs.Adding.{can_declare_all}
+use Rattle.chr_read.specs.working.Adding.{can_declare_all}
 use Rattle.chr_read.specs.Reading.{declared_symbol}
 use Rattle.chr_read.proofs.adding.add_symbols.Given as goal
 

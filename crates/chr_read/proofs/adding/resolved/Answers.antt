@@ -2,8 +2,8 @@ use Rattle.std.proofs.Common.{◌≡◌, []}
 use Rattle.chr_base.specs.Programs.{declarations}
 use Rattle.chr_syntax.specs.Views.{rule_view}
 use Rattle.chr_read.specs.Resolving.{after_heads, resolved}
-use Rattle.chr_read.specs.Views.{names_view}
-use Rattle.chr_read.proofs.Resolved.{resolved_is_rule, resolved_in_bounds}
+use Rattle.chr_read.specs.working.Views.{names_view}
+use Rattle.chr_read.proofs.Resolved.{label_is, resolved_is_rule, resolved_in_bounds}
 use Rattle.chr_read.proofs.adding.resolved.Goals as goal
 
 pub make_rule-requires : goal.make_rule-requires
@@ -20,6 +20,9 @@ make_rule-requires c =
       parts = rw (k, m, g, b) (resolved_is_rule ds r c.requires.over c.requires.unbound c.requires.some);
       bounds = rw (c.label.ensures, k, m, g, b) (resolved_in_bounds ds r c.requires.over c.requires.names);
     }
+
+pub label-requires : goal.label-requires
+label-requires c = label_is (rule_view c.args.raw.now) c.requires.over c.requires.names
 
 pub returns : goal.returns
 returns c =

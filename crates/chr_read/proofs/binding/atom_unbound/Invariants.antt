@@ -1,7 +1,7 @@
 use Rattle.std.proofs.Common.{◌≡◌, map, drop}
 use Rattle.std.specs.List.{list_any}
 use Rattle.chr_syntax.specs.Views.{term_view, rule_view}
-use Rattle.chr_read.specs.Faults.{term_unbound}
+use Rattle.chr_read.specs.working.RuleParts.{term_unbound}
 use Rattle.chr_read.proofs.binding.atom_unbound.Given as goal
 
 abbrev pub invariant-loop-term : goal.invariant-loop-term

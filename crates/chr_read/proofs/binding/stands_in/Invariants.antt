@@ -1,6 +1,6 @@
 use Rattle.std.proofs.Common.{◌≡◌, map, drop}
 use Rattle.chr_syntax.specs.Views.{atom_view}
-use Rattle.chr_read.specs.Faults.{stands_in}
+use Rattle.chr_read.specs.working.RuleParts.{stands_in}
 use Rattle.chr_read.proofs.binding.stands_in.Given as goal
 
 abbrev pub invariant-loop-atom : goal.invariant-loop-atom

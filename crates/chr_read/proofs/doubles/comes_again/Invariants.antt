@@ -1,7 +1,7 @@
 use Rattle.std.proofs.Common.{◌≡◌, List, [], map, drop}
 use Rattle.chr_syntax.specs.Clauses.{Symbol}
 use Rattle.chr_syntax.specs.Views.{symbol_view}
-use Rattle.chr_read.specs.Faults.{comes_again}
+use Rattle.chr_read.specs.working.RuleParts.{comes_again}
 use Rattle.chr_read.proofs.SeenSymbols.{Key, has_key, among}
 use Rattle.chr_read.proofs.doubles.comes_again.Given as goal
 

@@ -1,6 +1,6 @@
 use Rattle.std.proofs.Common.{◌≡◌, nat_eq, drop}
 use Rattle.std.specs.List.{list_any}
-use Rattle.chr_read.specs.Views.{places_view}
+use Rattle.chr_read.specs.working.Views.{places_view}
 use Rattle.chr_read.proofs.faults.is_among.Given as goal
 
 abbrev pub invariant-loop-other : goal.invariant-loop-other

@@ -1,6 +1,5 @@
-use Rattle.chr_read.proofs.OneMeaning.{one_meaning}
 use Rattle.chr_read.proofs.RoundTrip.{round_trip}
 use Rattle.chr_read.proofs.grammar.programs_come_back.Goals as goal
 
 pub returns : goal.returns
-returns c = record { read = round_trip; same = one_meaning }
+returns c = round_trip

@@ -1,7 +1,7 @@
 use Rattle.std.proofs.Common.{◌≡◌, map, drop}
 use Rattle.std.specs.List.{list_any}
 use Rattle.chr_syntax.specs.Views.{atom_view}
-use Rattle.chr_read.specs.Faults.{atom_outside}
+use Rattle.chr_read.specs.working.RuleParts.{atom_outside}
 use Rattle.chr_read.proofs.limits.heads_outside.Given as goal
 
 abbrev pub invariant-loop-atom : goal.invariant-loop-atom

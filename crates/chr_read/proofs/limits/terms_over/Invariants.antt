@@ -1,8 +1,8 @@
 use Rattle.std.proofs.Common.{◌≡◌, map, drop}
 use Rattle.std.specs.List.{list_any}
 use Rattle.chr_syntax.specs.Views.{term_view}
-use Rattle.chr_read.specs.Faults.{term_over}
+use Rattle.chr_read.specs.Faults.{is_long_variable}
 use Rattle.chr_read.proofs.limits.terms_over.Given as goal
 
 abbrev pub invariant-loop-term : goal.invariant-loop-term
-invariant-loop-term l = list_any term_over (map term_view (drop l.term-index l.terms)) ≡ list_any term_over (map term_view l.terms)
+invariant-loop-term l = list_any is_long_variable (map term_view (drop l.term-index l.terms)) ≡ list_any is_long_variable (map term_view l.terms)

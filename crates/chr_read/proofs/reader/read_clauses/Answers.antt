@@ -1,7 +1,7 @@
 use Rattle.std.proofs.Common.{◌≡◌, Ok, Err, sym, ap, ◌∙◌, arith, rules}
 use Rattle.chr_read.specs.declared.fault.ReadFault.TheVariants.{Bad}
-use Rattle.chr_read.specs.Reading.{clause_read, pieces_read}
-use Rattle.chr_read.specs.Views.{progress_of}
+use Rattle.chr_read.specs.working.TextsRead.{clause_read, pieces_read}
+use Rattle.chr_read.specs.working.Views.{progress_of}
 use Rattle.chr_read.proofs.ClauseByClause.{good_clause, bad_clause}
 use Rattle.chr_read.proofs.reader.read_clauses.Goals as goal
 

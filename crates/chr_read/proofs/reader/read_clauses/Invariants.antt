@@ -1,8 +1,8 @@
 use Rattle.std.proofs.Common.{◌≡◌, ◌+◌, ◌≤◌, length}
 use Rattle.chr_syntax.specs.Bytes.{pieces}
 use Rattle.chr_read.specs.Meanings.{nothing}
-use Rattle.chr_read.specs.Reading.{pieces_read}
-use Rattle.chr_read.specs.Views.{progress_of}
+use Rattle.chr_read.specs.working.TextsRead.{pieces_read}
+use Rattle.chr_read.specs.working.Views.{progress_of}
 use Rattle.chr_read.proofs.reader.read_clauses.Given as goal
 
 abbrev pub invariant-loop-clause : goal.invariant-loop-clause

@@ -1,7 +1,7 @@
 use Rattle.std.proofs.Common.{◌≡◌, ◌+◌, ◌++◌, ◌≤◌, drop, map, length}
 use Rattle.chr_syntax.specs.Views.{term_view}
 use Rattle.chr_read.specs.Resolving.{head_terms, after_terms}
-use Rattle.chr_read.specs.Views.{names_view}
+use Rattle.chr_read.specs.working.Views.{names_view}
 use Rattle.chr_read.proofs.resolve.head_terms.Given as goal
 
 abbrev pub invariant-loop-term : goal.invariant-loop-term

@@ -1,6 +1,6 @@
 use Rattle.std.proofs.Common.{◌≡◌, ◌+◌, drop, option_map, position}
 use Rattle.std.specs.Str.{bytes_eq}
-use Rattle.chr_read.specs.Views.{names_view}
+use Rattle.chr_read.specs.working.Views.{names_view}
 use Rattle.chr_read.proofs.resolve.met_at.Given as goal
 
 abbrev pub invariant-loop-i : goal.invariant-loop-i

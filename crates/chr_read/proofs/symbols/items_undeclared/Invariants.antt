@@ -1,7 +1,8 @@
 use Rattle.std.proofs.Common.{◌≡◌, map, drop, option_map}
 use Rattle.chr_base.specs.Programs.{declarations}
 use Rattle.chr_syntax.specs.Views.{atom_view}
-use Rattle.chr_read.specs.Faults.{any_undeclared, present}
+use Rattle.chr_read.specs.working.RuleParts.{any_undeclared}
+use Rattle.chr_read.specs.Faults.{present}
 use Rattle.chr_read.proofs.symbols.items_undeclared.Given as goal
 
 abbrev pub invariant-loop-item : goal.invariant-loop-item

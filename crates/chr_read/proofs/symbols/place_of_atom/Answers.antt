@@ -2,7 +2,7 @@ use Rattle.std.proofs.Common.{length, sym, ap, ◌∙◌}
 use Rattle.std.proofs.lemmas.List.{length-map}
 use Rattle.chr_base.specs.Programs.{declarations}
 use Rattle.chr_syntax.specs.Views.{term_view}
-use Rattle.chr_read.specs.Faults.{place_of}
+use Rattle.chr_read.specs.working.RuleParts.{place_of}
 use Rattle.chr_read.proofs.symbols.place_of_atom.Goals as goal
 
 pub returns : goal.returns

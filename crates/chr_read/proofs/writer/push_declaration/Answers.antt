@@ -1,5 +1,5 @@
 use Rattle.std.proofs.Common.{ap, map}
-use Rattle.chr_read.specs.Views.{declared_view}
+use Rattle.chr_read.specs.working.Views.{declared_view}
 use Rattle.chr_read.proofs.Written.{declaration_written}
 use Rattle.chr_read.proofs.writer.push_declaration.Goals as goal
 

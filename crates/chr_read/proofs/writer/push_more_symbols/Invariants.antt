@@ -1,7 +1,7 @@
 use Rattle.std.proofs.Common.{◌≡◌, ◌++◌, drop, map}
 use Rattle.std.specs.Prelude.{string_bytes, codes}
 use Rattle.chr_read.specs.CanonicalTexts.{more, symbol_text}
-use Rattle.chr_read.specs.Views.{declared_view}
+use Rattle.chr_read.specs.working.Views.{declared_view}
 use Rattle.chr_read.proofs.writer.push_more_symbols.Given as goal
 
 abbrev pub invariant-loop-declared : goal.invariant-loop-declared

@@ -1,4 +1,4 @@
-use Rattle.chr_read.specs.Views.{declared_view}
+use Rattle.chr_read.specs.working.Views.{declared_view}
 use Rattle.chr_read.proofs.Written.{weight_written, no_default}
 use Rattle.chr_read.proofs.writer.push_weight.Goals as goal
 

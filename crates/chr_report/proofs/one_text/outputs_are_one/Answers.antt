@@ -3,9 +3,9 @@ use Rattle.chr_report.proofs.one_text.outputs_are_one.Goals as goal
 
 pub returns : goal.returns
 returns c = one_output (record {
-  programs = c.programs_are_read.ensures.programs;
-  bad = c.programs_are_read.ensures.refused;
-  long = c.programs_are_read.ensures.long;
+  meaning = c.texts_have_one_answer.ensures.meaning;
+  apart = c.texts_have_one_answer.ensures.apart;
+  fault = c.texts_have_one_answer.ensures.fault;
   confluent = c.accepted_are_confluent.ensures;
   accepted = c.verdict_is_one.ensures.accepted;
   refused = c.verdict_is_one.ensures.refused;

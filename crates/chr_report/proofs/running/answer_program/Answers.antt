@@ -1,9 +1,9 @@
 use Rattle.std.proofs.Common.{◌∙◌, ap, length}
 use Rattle.chr_base.specs.Programs.{rules_of}
-use Rattle.chr_report.specs.OptionalLines.{command_lines}
+use Rattle.chr_report.specs.working.LinesLeft.{lines_left}
 use Rattle.chr_report.proofs.Outcomes.{program_answered}
 use Rattle.chr_report.proofs.running.answer_program.Goals as goal
 
 pub returns : goal.returns
 returns c =
-    program_answered c.args.accepted c.new-board.result.accepted (command_lines c.args.commands) _ _ c.new-board.result.ops _ _ c.requires c.new-board.ensures.program (ap length c.rules-rules.ensures ∙ ap (λ p. length (rules_of p)) c.program.ensures) c.cases.ensures.number c.in_ok-text.ensures c.new-board.ensures.operations c.in_ok-answer_commands.ensures
+    program_answered c.args.accepted c.new-board.result.accepted (lines_left c.args.commands) _ _ c.new-board.result.ops _ _ c.requires c.new-board.ensures.program (ap length c.rules-rules.ensures ∙ ap (λ p. length (rules_of p)) c.program.ensures) c.cases.ensures.number c.in_ok-text.ensures c.new-board.ensures.operations c.in_ok-answer_commands.ensures

@@ -6,12 +6,12 @@ use Rattle.chr_report.proofs.running.program_output.Goals as goal
 pub returns-in_ok-line-in-Err : goal.returns-in_ok-line-in-Err
 returns-in_ok-line-in-Err c =
     let fault = c.in-Err.fault in
-    let h = c.in-Err.ensures in
+    let h = c.in-Err.ensures.first in
     refused_by c.args.program _ _ _ (string_bytes c.in_ok-line-in-Err.line) c.refused.ensures.status (ap string_bytes c.refused.ensures.text)
     (inl (record {
       rule = fault.rule;
       before = fault.before;
       after = fault.after;
-      first = record { first = h.rule.0; within = h.rule.1; earlier = h.earlier; weight_before = h.before; weight_after = h.after; not_lowered = h.not_lowered };
+      first = h;
       out_is = c.in_ok-line-in-Err.ensures;
     }))

@@ -1,6 +1,6 @@
 use Rattle.std.proofs.Common.{sym, ◌∙◌}
 use Rattle.std.proofs.lemmas.List.{get_or_default}
-use Rattle.chr_base.specs.Atoms.{same_is}
+use Rattle.chr_base.proofs.Atoms.{same_is}
 use Rattle.chr_rewrite.proofs.Counting.{none_more}
 use Rattle.chr_rewrite.proofs.edits.index_of.Goals as goal
 

@@ -1,9 +1,9 @@
-use Rattle.std.proofs.Common.{◌∙◌, ap, subst}
+use Rattle.std.proofs.Common.{◌∙◌, ap, sym, subst, Ok}
 use Rattle.chr_base.specs.Rules.{Step}
 use Rattle.chr_base.specs.Programs.{rules_of}
 use Rattle.chr_base.specs.Rewriting.{IsAtRest}
 use Rattle.chr_weights.specs.WeighedPrograms.{program_of}
-use Rattle.chr_rewrite.proofs.StepCounts.{one_lowers, one_more}
+use Rattle.chr_rewrite.proofs.StepCounts.{one_lowers, one_more, none_taken}
 use Rattle.chr_rewrite.proofs.resting.rest.Goals as goal
 
 pub loop-steps-smaller : goal.loop-steps-smaller
@@ -19,3 +19,13 @@ returns-in-Ok-false-clause-rests g c =
     let same = rw c.in-Ok-false.field-0-test at c.in-Ok-false.ensures.same in
     let rests = rw c.in-Ok-false.field-0-test at c.in-Ok-false.ensures.rests in
     rw same (subst (λ rs. IsAtRest (Step rs) (g.P.Pool.contents c.loop-steps.pool)) (c.rules-rules.ensures ∙ ap rules_of c.program.ensures) rests)
+
+pub returns-in-Ok-false-clause-resting : goal.returns-in-Ok-false-clause-resting
+returns-in-Ok-false-clause-resting g c rest = ap Ok (none_taken (program_of c.args.weighed.now) c.loop-steps.steps _ _ c.loop-steps.invariant rest).0
+
+pub returns-in-Err-clause-resting : goal.returns-in-Err-clause-resting
+returns-in-Err-clause-resting g c rest =
+    let same = c.rules-rules.ensures ∙ ap rules_of c.program.ensures in
+    let still = subst (IsAtRest (Step (rules_of (program_of c.args.weighed.now)))) (none_taken (program_of c.args.weighed.now) c.loop-steps.steps _ _ c.loop-steps.invariant rest).1 rest in
+    let told = c.in-Err.ensures.resting (subst (λ rs. IsAtRest (Step rs) (g.P.Pool.contents c.loop-steps.pool)) (sym same) still) in
+    absurd cc

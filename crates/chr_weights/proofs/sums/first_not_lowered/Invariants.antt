@@ -1,7 +1,7 @@
 use Rattle.std.proofs.Common.{◌≡◌, ℕ, ◌<◌}
 use Rattle.std.specs.Prelude.{slice_get, Some}
 use Rattle.chr_base.specs.declared.rule.Rule.{Rule}
-use Rattle.chr_base.specs.StepLaws.{RuleLowers}
+use Rattle.chr_base.specs.Rules.{RuleLowers}
 use Rattle.chr_base.specs.Programs.{rules_of}
 use Rattle.chr_weights.specs.Weights.{weight_in}
 use Rattle.chr_weights.proofs.sums.first_not_lowered.Given as goal

@@ -1,5 +1,5 @@
-use Rattle.chr_base.specs.Atoms.{atom_total}
-use Rattle.chr_base.specs.FinBag.{within_lists, lists_within}
+use Rattle.chr_base.proofs.Atoms.{atom_total}
+use Rattle.chr_base.proofs.FinBags.{within_lists, lists_within}
 use Rattle.chr_base.proofs.Subsequences.{taken_out}
 use Rattle.chr_base.proofs.bag.Bag.remove_all.Goals as goal
 

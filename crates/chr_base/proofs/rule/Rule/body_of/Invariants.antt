@@ -1,6 +1,6 @@
 use Rattle.std.proofs.Common.{◌≡◌, take}
 use Rattle.chr_base.specs.Rules.{atoms_at, heads_of}
-use Rattle.chr_base.specs.Instances.{valuation}
+use Rattle.chr_base.specs.working.Instances.{valuation}
 use Rattle.chr_base.proofs.rule.Rule.body_of.Given as goal
 
 abbrev pub invariant-loop-pattern : goal.invariant-loop-pattern

@@ -1,11 +1,18 @@
+use Rattle.std.proofs.Common.{◌≡◌, sym, subst}
+use Rattle.std.specs.Arc.{arc_value}
 use Rattle.std.proofs.lemmas.Grind.{merely}
-use Rattle.chr_base.specs.Programs.{rules_of}
 use Rattle.chr_weights.specs.Weights.{weight_in}
-use Rattle.chr_weights.specs.WeighedPrograms.{program_of}
+use Rattle.chr_weights.specs.WeighedPrograms.{program_of, rules_in}
+use Rattle.chr_confluence.specs.Confluence.{Confluent}
+use Rattle.chr_join.specs.Verdicts.{IsAccepted}
 use Rattle.chr_join.proofs.accepted.Accepted.new.Goals as goal
 
 pub invariant_of-result : goal.invariant_of-result
-invariant_of-result c = record {
-  accepted = merely c.requires;
-  confluent = c.accepted_are_confluent.ensures (rules_of (program_of c.args.weighed)) (weight_in (program_of c.args.weighed)) c.args.cases c.args.weighed.lowers c.requires;
-}
+invariant_of-result c =
+    let same : arc_value c.in_ok-weighed.weighed ≡ c.args.weighed = c.in_ok-weighed.ensures.ok in
+    let confluent : Confluent (rules_in c.args.weighed) =
+    c.accepted_are_confluent.ensures (rules_in c.args.weighed) (weight_in (program_of c.args.weighed)) c.args.cases c.args.weighed.lowers c.requires in
+    record {
+      accepted = merely (subst (λ w. IsAccepted (rules_in w) c.args.cases) (sym same) c.requires);
+      confluent = subst (λ w. Confluent (rules_in w)) (sym same) confluent;
+    }

@@ -1,22 +1,22 @@
 use Rattle.std.proofs.Common.{ap, sym, ◌∙◌, subst}
-use Rattle.chr_ops.specs.Operations.{operations_of, told_store}
-use Rattle.chr_ops.specs.Kept.{IsKept}
-use Rattle.chr_ops.specs.Joins.{union, Agrees, IsFirstClash, IsOverLimit}
+use Rattle.chr_ops.specs.Operations.{told_store}
+use Rattle.chr_ops.specs.working.Kept.{IsKept}
+use Rattle.chr_ops.specs.Joins.{union, HasNoClash, IsFirstClash, IsOverLimit}
 use Rattle.chr_ops.proofs.Unions.{had_back, told_store-union}
 use Rattle.chr_ops.proofs.op_set.OpSet.join.Goals as goal
 
-pub returns-in-Ok-clause-agrees : goal.returns-in-Ok-clause-agrees
-returns-in-Ok-clause-agrees c = subst (λ m. Agrees m c.args.ops.now) c.self.view_is c.in-Ok.ensures.agrees
+pub returns-in-Ok-clause-no_clash : goal.returns-in-Ok-clause-no_clash
+returns-in-Ok-clause-no_clash c = subst (λ m. HasNoClash m c.args.ops.now) c.self.view_is c.in-Ok.ensures.no_clash
 
 pub invariant_of-self-in-Err : goal.invariant_of-self-in-Err
 invariant_of-self-in-Err c =
-    let left = had_back (operations_of c.self.inside.held.entries) (operations_of c.take_in_room.new.held.entries) (operations_of c.withdraw.new.held.entries) c.take_in_room.new.fresh.items
+    let left = had_back c.self.inside.held c.take_in_room.new.held c.withdraw.new.held c.take_in_room.new.fresh.items
     c.take_in_room.ensures.back (rw c.deref.ensures.value at c.withdraw.ensures) in
     subst (IsKept c.self.inside.told) (sym left) c.self.invariant
 
 pub returns-clause-err : goal.returns-clause-err
 returns-clause-err c =
-    let left = had_back (operations_of c.self.inside.held.entries) (operations_of c.take_in_room.new.held.entries) (operations_of c.withdraw.new.held.entries) c.take_in_room.new.fresh.items
+    let left = had_back c.self.inside.held c.take_in_room.new.held c.withdraw.new.held c.take_in_room.new.fresh.items
     c.take_in_room.ensures.back (rw c.deref.ensures.value at c.withdraw.ensures) in
     left ∙ c.self.view_is
 
@@ -26,8 +26,15 @@ returns-clause-clash c = λ id e. subst (λ m. IsFirstClash m c.args.ops.now id)
 pub returns-clause-full : goal.returns-clause-full
 returns-clause-full c = λ e.
     let full = c.in-Err.ensures.full e in
-    (subst (λ m. Agrees m c.args.ops.now) c.self.view_is full.0, subst (λ m. IsOverLimit m c.args.ops.now) c.self.view_is full.1)
+    (subst (λ m. HasNoClash m c.args.ops.now) c.self.view_is full.0, subst (λ m. IsOverLimit m c.args.ops.now) c.self.view_is full.1)
 
 pub returns-in-Ok-clause-told : goal.returns-in-Ok-clause-told
 returns-in-Ok-clause-told c =
     ap told_store (c.in-Ok.ensures.ok ∙ ap (λ m. union m c.args.ops.now) c.self.view_is) ∙ told_store-union c.args.self.now c.args.ops.now
+
+pub invariant_of-self : goal.invariant_of-self
+invariant_of-self c = record {
+  counted = c.in-Ok.ensures.told;
+  within = c.in-Ok.ensures.within;
+  sized = c.take_in_room.ensures.sized c.self.invariant.sized;
+}

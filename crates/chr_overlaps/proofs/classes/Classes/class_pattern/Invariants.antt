@@ -1,5 +1,5 @@
 use Rattle.std.proofs.Common.{◌≡◌, map, take}
-use Rattle.chr_overlaps.specs.Tables.{class_in, class_term}
+use Rattle.chr_overlaps.specs.working.Tables.{class_in, class_term}
 use Rattle.chr_overlaps.proofs.classes.Classes.class_pattern.Given as goal
 
 abbrev pub invariant-loop-term : goal.invariant-loop-term

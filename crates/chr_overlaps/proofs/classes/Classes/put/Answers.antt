@@ -1,6 +1,6 @@
 use Rattle.std.proofs.Common.{◌≡◌, length, map, ap, ◌∙◌, arith}
 use Rattle.std.proofs.lemmas.List.{take_all, length-map}
-use Rattle.chr_confluence.specs.Solving.{put_term}
+use Rattle.chr_confluence.specs.working.Solving.{put_term}
 use Rattle.chr_overlaps.proofs.Tabled.{puts_below}
 use Rattle.chr_overlaps.proofs.classes.Classes.put.Goals as goal
 

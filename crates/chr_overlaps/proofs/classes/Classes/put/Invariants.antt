@@ -1,5 +1,5 @@
 use Rattle.std.proofs.Common.{◌≡◌, map, take}
-use Rattle.chr_confluence.specs.Solving.{put_term}
+use Rattle.chr_confluence.specs.working.Solving.{put_term}
 use Rattle.chr_overlaps.proofs.classes.Classes.put.Given as goal
 
 abbrev pub invariant-loop-class : goal.invariant-loop-class

@@ -1,6 +1,6 @@
 use Rattle.std.proofs.Common.{refl}
 use Rattle.chr_base.specs.Programs.{rules_of}
-use Rattle.chr_report.specs.Boards.{program_in}
+use Rattle.chr_join.specs.AcceptedPrograms.{program_in}
 use Rattle.chr_ops.specs.Operations.{told_store}
 use Rattle.chr_report.proofs.Boards.{told_reached, clash_answered}
 use Rattle.chr_report.proofs.board.Board.add_op.Goals as goal

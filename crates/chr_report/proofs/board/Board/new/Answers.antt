@@ -1,6 +1,6 @@
 use Rattle.std.proofs.Common.{ap, ◌∙◌}
 use Rattle.chr_base.specs.Programs.{rules_of}
-use Rattle.chr_report.specs.Boards.{program_in}
+use Rattle.chr_join.specs.AcceptedPrograms.{program_in}
 use Rattle.chr_ops.specs.Operations.{told_store}
 use Rattle.chr_ops.proofs.Told.{told_store-empty}
 use Rattle.chr_report.proofs.Boards.{nothing_reached}

@@ -1,7 +1,7 @@
 use Rattle.std.proofs.Common.{◌≡◌, ap, ◌∙◌, rules}
 use Rattle.chr_base.specs.Programs.{rules_of, declarations}
 use Rattle.chr_base.specs.Texts.{store_text}
-use Rattle.chr_report.specs.Boards.{program_in}
+use Rattle.chr_join.specs.AcceptedPrograms.{program_in}
 use Rattle.chr_report.proofs.Boards.{shown}
 use Rattle.chr_report.proofs.board.Board.show.Goals as goal
 

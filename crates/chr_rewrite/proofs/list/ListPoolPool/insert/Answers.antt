@@ -1,5 +1,6 @@
 use Rattle.std.proofs.Common.{ap, ◌∙◌, ◌++◌}
-use Rattle.chr_base.specs.Stores.{store_of, store_of-append}
+use Rattle.chr_base.specs.Stores.{store_of}
+use Rattle.chr_base.proofs.Stores.{store_of-append}
 use Rattle.chr_rewrite.proofs.list.ListPoolPool.insert.Goals as goal
 
 pub returns-clause-ok : goal.returns-clause-ok

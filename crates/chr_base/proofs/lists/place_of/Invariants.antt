@@ -1,0 +1,8 @@
+use Rattle.std.proofs.Common.{◌≡◌, ℕ, ◌<◌, get_or, true}
+use Rattle.std.specs.Ordering.{is_gt}
+use Rattle.chr_base.specs.declared.atom.Atom.{Atom}
+use Rattle.chr_base.specs.Atoms.{atom_cmp}
+use Rattle.chr_base.proofs.lists.place_of.Given as goal
+
+abbrev pub invariant-loop-i : goal.invariant-loop-i
+invariant-loop-i l = (k : ℕ) (d : Atom) → k < l.i → is_gt (atom_cmp l.atom (get_or l.items k d)) ≡ true

@@ -1,0 +1,5 @@
+-- What private contracts, fields and proofs speak of.
+pub mod AtomLists
+pub mod Codes
+pub mod Instances
+pub mod Subsequences

@@ -1,0 +1,10 @@
+-- What the laws of steps and of confluence say.
+pub mod Grow
+pub mod Rising
+pub mod Peaks
+pub mod Newman
+pub mod Cases
+pub mod Joinability
+pub mod Parts
+pub mod Unification
+pub mod ListedCases

@@ -1,0 +1,20 @@
+-- What is found out about a case and about an overlap.
+use Rattle.std.specs.Prelude.{◌≡◌, List}
+use Rattle.chr_base.specs.declared.rule.Rule.{Rule}
+use Rattle.chr_base.specs.Stores.{Store}
+use Rattle.chr_overlaps.specs.declared.overlap.Overlap.{Overlap}
+use Rattle.chr_overlaps.specs.declared.cases.Case.{Case}
+use Rattle.chr_join.specs.declared.refused.Cause.{Cause}
+use Rattle.chr_join.specs.Sides.{SideEnds}
+use Rattle.chr_join.specs.Verdicts.{IsFirst}
+use Rattle.chr_join.specs.Explanations.{IsRefusal}
+
+-- Both sides of the case end in these stores, which differ.
+pub record EndApart (rules : List Rule) (c : Case) (ends : Store × Store) : Type 0 where
+  pub left : SideEnds rules c.store c.left ends.0
+  pub right : SideEnds rules c.store c.right ends.1
+  pub differ : ¬ (ends.0 ≡ ends.1)
+
+-- The cause is that of the rules, if this overlap is the first that has one.
+abbrev pub RefusesAt : List Rule → Overlap → Cause → Type 0
+RefusesAt rules o e = IsFirst rules o → IsRefusal rules e

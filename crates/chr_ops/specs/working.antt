@@ -1,0 +1,7 @@
+-- Words of private contracts and fields.
+pub mod Codes
+pub mod Entries
+pub mod Kept
+pub mod Joining
+pub mod Merging
+pub mod Walks

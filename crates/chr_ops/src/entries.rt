@@ -1,0 +1,110 @@
+//! Bags under ids, seen as a finite map. How they are kept is known in this file alone.
+ghost use Rattle.std.specs.Prelude.{◌≡◌, OnOk, OnErr, option_copied, length};
+ghost use Rattle.std.specs.FinMap as map;
+ghost use Rattle.std.specs.Iterator.{at_most};
+ghost use Rattle.std.specs.Map.Iter.{TakesFirst};
+ghost use Rattle.chr_ops.specs.working.Entries.{entry_of};
+
+use crate::id::OpId;
+use chr_base::bag::Bag;
+use std::alloc::{AllocError, Global};
+use std::collections::{BTreeMap, btree_map};
+use std::marker::Model;
+
+/// Bags under ids, of each id one.
+#[derive(Drop)]
+pub(crate) struct Entries {
+    bags: BTreeMap<OpId, Bag>,
+}
+
+impl Model for Entries {
+    ghost use Rattle.std.specs.FinMap as map;
+    ghost use Rattle.chr_base.specs.FinBag as bag;
+    ghost use Rattle.chr_base.specs.working.Codes as bag_codes;
+    ghost use Rattle.chr_base.specs.working.Codes.{coded_atom};
+    ghost use Rattle.chr_ops.specs.Operations.{Operations, operations_of};
+    ghost use Rattle.chr_ops.specs.working.Codes.{coded_id};
+
+    ghost Value = { Operations };
+
+    ghost coded = { map.code coded_id (bag_codes.code coded_atom) };
+
+    ghost view = { λ e. operations_of e.bags.entries };
+}
+
+impl Entries {
+    /// Nothing under any id.
+    pub(crate) fn new(alloc: Global) -> Self
+        ensures { result ≡ map.empty }
+    {
+        Entries {
+            bags: BTreeMap::new(alloc),
+        }
+    }
+
+    /// The bag of an id. It takes no memory.
+    pub(crate) fn get(&self, id: OpId) -> Option<&Bag>
+        ensures { option_copied result ≡ map.get self.now id }
+    {
+        self.bags.get(&id)
+    }
+
+    /// Puts a bag under an id.
+    pub(crate) fn insert(&mut self, id: OpId, bag: Bag) -> Result<(), AllocError>
+        ensures ok { OnOk result (self.new ≡ map.insert self.old id bag) }
+        ensures err { OnErr result (self.new ≡ self.old) }
+    {
+        self.bags.insert(id, bag)?;
+        Ok(())
+    }
+
+    /// Takes out the bag of an id, where there is one.
+    pub(crate) fn remove(&mut self, id: OpId)
+        ensures { self.new ≡ map.remove self.old id }
+    {
+        self.bags.remove(&id);
+    }
+
+    /// The ids with their bags, in the order of ids.
+    pub(crate) fn iter(&self) -> Iter<'_>
+        ensures { result ≡ map.entries self.now }
+    {
+        Iter {
+            rest: self.bags.iter(),
+        }
+    }
+}
+
+/// Ids with their bags, in the order of ids.
+#[derive(Drop)]
+pub(crate) struct Iter<'a> {
+    rest: btree_map::Iter<'a, OpId, Bag>,
+}
+
+impl<'a> Model for Iter<'a> {
+    ghost use Rattle.std.specs.Prelude.{List};
+    ghost use Rattle.std.specs.Coded.{coded_list, coded×};
+    ghost use Rattle.chr_base.specs.working.Codes as bag_codes;
+    ghost use Rattle.chr_base.specs.working.Codes.{coded_atom};
+    ghost use Rattle.chr_ops.specs.Operations.{Operation};
+    ghost use Rattle.chr_ops.specs.working.Codes.{coded_id};
+
+    ghost Value = { List Operation };
+
+    ghost coded = { coded_list (coded× coded_id (bag_codes.code coded_atom)) };
+
+    ghost view = { λ i. i.rest };
+}
+
+impl<'a> Iterator for Iter<'a> {
+    type Item = (OpId, &'a Bag);
+
+    ghost next_gives = { TakesFirst entry_of };
+
+    ghost remaining = { λ s. at_most (length s) };
+
+    fn next(&mut self) -> Option<(OpId, &'a Bag)> {
+        let (id, bag) = self.rest.next()?;
+        Some((*id, bag))
+    }
+}

@@ -1,0 +1,5 @@
+-- Words of private contracts alone.
+pub mod Answered
+pub mod Boards
+pub mod LinesLeft
+pub mod ReplyTexts

@@ -1,0 +1,48 @@
+-- Atoms chosen from a list by their indices.
+use Rattle.std.specs.Prelude.{◌≡◌, ℕ, Bool, true, not, ◌&&◌, List, [], ◌∷◌, ◌++◌, map, length, get_or, nat_eq, nat_lt, IsTrue}
+use Rattle.std.specs.List.{list_any}
+use Rattle.std.specs.declared.cmp.Ordering.TheVariants.{Less}
+use Rattle.std.specs.Ordering.{nat_cmp}
+use Rattle.std.specs.Cmp.Lexicographic.{slice_cmp}
+use Rattle.chr_base.specs.declared.atom.Atom.{Atom}
+use Rattle.chr_base.specs.declared.term.Pattern.{Pattern}
+use Rattle.chr_base.specs.declared.rule.Rule.{Rule}
+use Rattle.chr_base.specs.Rules.{HasInstance, heads_of, no_pattern}
+
+-- what is read past the last atom
+abbrev pub no_atom : Atom
+no_atom = record { symbol = record { 0 = 0 }; args = record { items = [] } }
+
+-- the atom at an index
+abbrev pub nth_atom : List Atom → ℕ → Atom
+nth_atom items i = get_or items i no_atom
+
+-- the atoms at these indices, in their order
+abbrev pub chosen_atoms : List Atom → List ℕ → List Atom
+chosen_atoms items is = map (nth_atom items) is
+
+-- the indices are within the list, all different, and none of them is among those taken
+abbrev pub is_choice : List Atom → List ℕ → List ℕ → Bool
+is_choice items taken [] = true
+is_choice items taken (i ∷ is) =
+    nat_lt i (length items) && not (list_any (λ j. nat_eq j i) taken) && is_choice items (taken ++ i ∷ []) is
+
+-- no choice that goes on from these indices makes an instance of the rule
+abbrev pub NoCompletion : Rule → List Atom → List ℕ → Type 0
+NoCompletion r items is =
+    (js : List ℕ) → IsTrue (is_choice items is js) → ¬ HasInstance r (chosen_atoms items (is ++ js))
+
+-- the choice js goes on from the indices is, and none that does and comes before it makes an instance
+pub record IsFirstChoice (r : Rule) (items : List Atom) (is js : List ℕ) : Type 0 where
+  pub more : List ℕ
+  pub whole : js ≡ is ++ more
+  pub none : (ks : List ℕ) → slice_cmp nat_cmp ks more ≡ Less → IsTrue (is_choice items is ks)
+      → ¬ HasInstance r (chosen_atoms items (is ++ ks))
+
+-- the pattern and the atom have one symbol and as many arguments
+abbrev pub has_shape : Pattern → Atom → Bool
+has_shape p a = nat_eq p.symbol.0 a.symbol.0 && nat_eq (length p.args.items) (length a.args.items)
+
+-- the pattern at the head place n, counted from 0, has the shape of the atom
+abbrev pub has_shape_at : Rule → ℕ → Atom → Bool
+has_shape_at r n a = has_shape (get_or (heads_of r) n no_pattern) a

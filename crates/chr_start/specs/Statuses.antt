@@ -1,0 +1,21 @@
+-- The status that the program ends with, and what it has written then.
+use Rattle.std.specs.Prelude.{◌≡◌, ℕ, List, Option, Result, Ok, Err, IfOk, OnErr}
+use Rattle.chr_device.specs.declared.fault.RunFault.{RunFault}
+use Rattle.chr_device.specs.declared.fault.RunFault.TheVariants.{Device, Memory}
+use Rattle.chr_device.specs.declared.words.Verb.{Verb}
+use Rattle.chr_report.specs.declared.running.Status.{Status}
+use Rattle.chr_report.specs.declared.running.Status.TheVariants.{Accepted, Refused}
+use Rattle.chr_report.specs.Written.{WritesOutput, WritesBeginning}
+
+abbrev pub status_of : Result Status RunFault → ℕ
+status_of (Ok Accepted) = 0
+status_of (Ok Refused) = 1
+status_of (Err Device) = 3
+status_of (Err Memory) = 4
+
+-- a run of this verb ended with this status: after the whole output, or after a beginning of it
+pub record RunEnds (bytes old new : Option (List ℕ)) (verb : Verb) (status : ℕ) : Type 0 where
+  pub outcome : Result Status RunFault
+  pub status_is : status ≡ status_of outcome
+  pub ok : IfOk outcome (WritesOutput bytes old new verb)
+  pub err : OnErr outcome (WritesBeginning bytes old new verb)

@@ -1,0 +1,135 @@
+//! The program, from its words to its exit status.
+//!
+//! It ends with 0 where the program was accepted, 1 where it was refused, 2 for words that are no command (their text
+//! and that of help go to standard error), 3 where a device failed and 4 for want of memory.
+#![tactic(auto)]
+
+ghost use Rattle.std.specs.Prelude.{◌≡◌, ◌≢◌, ◌⊎◌, [], false, IfOk, map, string_bytes};
+ghost use Rattle.std.specs.IoError.{error_kind};
+ghost use Rattle.std.specs.Vec.Iter.{into_iter_items};
+ghost use Rattle.std.specs.Process.{exit_status};
+ghost use Rattle.std.specs.declared.io.ErrorKind.TheVariants.{OutOfMemory};
+ghost use Rattle.chr_device.specs.Devices.{inner_of, has_failed};
+ghost use Rattle.chr_device.specs.Settings.{IsPlain};
+ghost use Rattle.chr_device.specs.Words.{faults_of, verb_met};
+ghost use Rattle.chr_device.specs.declared.words.WordsFault.TheVariants.{Memory};
+ghost use Rattle.chr_start.specs.Statuses.{status_of, RunEnds};
+
+pub use chr_report::Watched;
+use chr_report::{RunFault, Settings, Status, WordsFault, read_words, run};
+use std::alloc::{AllocError, Global};
+use std::env::Args;
+use std::io::{Read, Write};
+use std::process::ExitCode;
+use std::rt::Env;
+use std::{env, io};
+
+/// The exit status of a run.
+fn exit_code(outcome: Result<Status, RunFault>) -> ExitCode
+    ensures { exit_status result ≡ status_of outcome }
+{
+    match outcome {
+        Ok(Status::Accepted) => ExitCode::from(0),
+        Ok(Status::Refused) => ExitCode::from(1),
+        Err(RunFault::Device) => ExitCode::from(3),
+        Err(RunFault::Memory) => ExitCode::from(4),
+    }
+}
+
+/// Runs these settings.
+fn run_settings<R: Read, W: Write>(
+    alloc: Global,
+    reader: &mut Watched<R>,
+    writer: &mut Watched<W>,
+    settings: Settings,
+) -> ExitCode
+    requires reads { has_failed reader.old ≡ false }
+    requires writes { has_failed writer.old ≡ false }
+    requires plain { IsPlain settings }
+    ensures { RunEnds (R.remaining (inner_of reader.old)) (W.contents (inner_of writer.old))
+        (W.contents (inner_of writer.new)) settings.command (exit_status result) }
+{
+    exit_code(run(alloc, reader, writer, settings))
+}
+
+/// The exit status for words that gave no settings. What `clap` says of them is told on the standard error.
+fn refuse_words(rt: &impl Eprint, fault: &WordsFault) -> ExitCode
+    ensures memory { fault.now ≡ Memory → exit_status result ≡ 4 }
+    ensures words { fault.now ≢ Memory → exit_status result ≡ 2 }
+{
+    match fault {
+        WordsFault::Words(error) => {
+            let _ = eprint!(rt; "{error}");
+            ExitCode::from(2)
+        }
+        WordsFault::Memory => ExitCode::from(4),
+    }
+}
+
+/// Does what the words ask for, of which the first is the program's name, and gives the status to end with. Words that
+/// `clap` refuses are told on the standard error; nothing is read or written then.
+pub fn run_words<R: Read, W: Write>(
+    rt: &(impl Eprint + AllocGlobal),
+    words: &[String],
+    reader: &mut Watched<R>,
+    writer: &mut Watched<W>,
+) -> ExitCode
+    requires reads { has_failed reader.old ≡ false }
+    requires writes { has_failed writer.old ≡ false }
+    ensures taken { faults_of (map string_bytes words.now) ≡ [] →
+        RunEnds (R.remaining (inner_of reader.old)) (W.contents (inner_of writer.old))
+        (W.contents (inner_of writer.new)) (verb_met (map string_bytes words.now)) (exit_status result) }
+    ensures refused { faults_of (map string_bytes words.now) ≢ [] →
+        (exit_status result ≡ 2) ⊎ (exit_status result ≡ 4) }
+    ensures untouched { faults_of (map string_bytes words.now) ≢ [] →
+        (reader.new ≡ reader.old) × (writer.new ≡ writer.old) }
+{
+    match read_words(rt.alloc(), words) {
+        Ok(settings) => run_settings(rt.alloc(), reader, writer, settings),
+        Err(fault) => refuse_words(rt, &fault),
+    }
+}
+
+/// The exit status where the program could not be told its words. Want of memory is not told on the standard error.
+fn without_words(rt: &impl Eprint, error: &io::Error) -> ExitCode
+    ensures memory { error_kind error.now ≡ OutOfMemory → exit_status result ≡ 4 }
+    ensures words { error_kind error.now ≢ OutOfMemory → exit_status result ≡ 2 }
+{
+    if error.kind() == io::ErrorKind::OutOfMemory {
+        return ExitCode::from(4);
+    }
+    let _ = eprintln!(rt; "error: a word is not UTF-8");
+    ExitCode::from(2)
+}
+
+/// All words.
+fn words_of(alloc: Global, args: Args) -> Result<Vec<String>, AllocError>
+    ensures { IfOk result (λ words. words.items ≡ into_iter_items args) }
+{
+    let mut words = Vec::new(alloc);
+    for word in args {
+        words.push(word)?;
+    }
+    Ok(words)
+}
+
+/// The words that the program was called with, its own name first. A word that is not UTF-8 is an error.
+fn words(rt: &(impl Env + AllocGlobal)) -> io::Result<Vec<String>> {
+    let args = env::args(rt)?;
+    Ok(words_of(rt.alloc(), args)?)
+}
+
+/// Does what the program's words ask for, and gives the status to end with.
+pub fn start<R: Read, W: Write>(
+    rt: &(impl Env + Eprint + AllocGlobal),
+    reader: &mut Watched<R>,
+    writer: &mut Watched<W>,
+) -> ExitCode
+    requires reads { has_failed reader.old ≡ false }
+    requires writes { has_failed writer.old ≡ false }
+{
+    match words(rt) {
+        Ok(words) => run_words(rt, &words, reader, writer),
+        Err(error) => without_words(rt, &error),
+    }
+}

@@ -1,0 +1,6 @@
+pub mod Tokens
+pub mod Forms
+pub mod Views
+pub mod Outcomes
+pub mod Laws
+pub mod Spellings

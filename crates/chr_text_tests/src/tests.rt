@@ -1,0 +1,15 @@
+//! Tables of texts with what is expected of them, and texts made at random, on which the checker and a slow program of the
+//! definitions have to agree.
+mod acceptance;
+mod cases;
+mod counts;
+mod instances;
+mod order_types;
+mod random;
+mod random_programs;
+mod resting;
+mod slow_overlaps;
+mod slow_verdict;
+mod steps;
+mod texts;
+mod verdicts;

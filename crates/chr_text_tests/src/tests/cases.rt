@@ -1,0 +1,209 @@
+//! Overlaps and their cases.
+use crate::tests::texts::{atoms_text, overlap_text, weighed};
+use chr_base::derivation::Step;
+use chr_base::text::store_text;
+use chr_overlaps::cases::{Case, MAX_TYPES, cases};
+use chr_overlaps::constants::constants;
+use chr_overlaps::{CaseFault, Overlap, overlaps};
+use chr_weights::Weighed;
+use std::alloc::{AllocError, Global};
+use std::process::Abort;
+use std::test::Fail;
+
+/// The overlap at a place, counted from 0, with its cases.
+fn cases_at(
+    rt: &impl Abort,
+    alloc: Global,
+    weighed: &Weighed,
+    place: usize,
+) -> Result<(Overlap, Vec<Case>), CaseFault> {
+    let found = overlaps(alloc, weighed)?;
+    assert!(rt; place < found.len());
+    let cases = cases(alloc, weighed, &found[place])?;
+    Ok((found[place].copy(), cases))
+}
+
+/// The overlaps of the program's rules, each with the number of its cases.
+fn counts_text(rt: &impl Abort, alloc: Global, weighed: &Weighed) -> Result<String, CaseFault> {
+    let count = overlaps(alloc, weighed)?.len();
+    let mut text = String::new(alloc);
+    for place in 0..count {
+        let (overlap, cases) = cases_at(rt, alloc, weighed, place)?;
+        let overlap = overlap_text(alloc, &overlap)?;
+        text.push_str(if place > 0 { "; " } else { "" })?;
+        text.push_str(&format!(in alloc; "{overlap} {}", cases.len())?)?;
+    }
+    Ok(text)
+}
+
+/// Programs with their overlaps, each with the number of its cases.
+const OVERLAPS: [(&str, &str); 11] = [
+    (
+        ":- chr_constraint min/1. min(X) \\ min(Y) <=> X =< Y | true.",
+        "1 1 (0,1) 4; 1 1 (0,2) 6; 1 1 (1,2) 2; 1 1 (2,0) 4; 1 1 (2,1) 1",
+    ),
+    // three classes without constants have 13 order types, and two have 3
+    (
+        ":- chr_constraint min/1. min(X) \\ min(Y) <=> true.",
+        "1 1 (0,1) 13; 1 1 (0,2) 13; 1 1 (1,2) 3; 1 1 (2,0) 13; 1 1 (2,1) 3",
+    ),
+    // where two constants would be one there are no cases
+    (
+        ":- chr_constraint xor/1. xor(X), xor(X) <=> xor(0). xor(1) \\ xor(0) <=> true.",
+        "1 1 (0,1) 4; 1 1 (0,2) 4; 1 1 (1,0) 4; 1 1 (1,2) 4; 1 1 (2,0) 4; 1 1 (2,1) 4; 1 2 (0,1) 1; \
+        1 2 (0,2) 1; 1 2 (1,0) 1; 1 2 (1,2) 0; 1 2 (2,0) 1; 1 2 (2,1) 0; 2 2 (0,1) 0; 2 2 (0,2) 1; \
+        2 2 (1,2) 1; 2 2 (2,0) 0; 2 2 (2,1) 0",
+    ),
+    (
+        ":- chr_constraint path/3. path(X,Y,D) \\ path(X,Y,E) <=> D =< E | true.",
+        "1 1 (0,1) 132; 1 1 (0,2) 220; 1 1 (1,2) 44; 1 1 (2,0) 132; 1 1 (2,1) 13",
+    ),
+    (
+        ":- chr_constraint p/2. p(A,B) \\ p(C,D) <=> A < C | true.",
+        "1 1 (0,1) 535; 1 1 (0,2) 1303; 1 1 (1,2) 31; 1 1 (2,0) 535; 1 1 (2,1) 0",
+    ),
+    // between 3 and 5 there is no room for two different values, and between 3 and 6 there is
+    (
+        ":- chr_constraint p/2, q/1, r/1. :- chr_weight p/2 = 2. p(X,Y) <=> 3 < X, X < Y, Y < 5 | \
+        q(X). p(X,Y) <=> 3 < X, X < Y, Y < 5 | r(X).",
+        "1 1 (1) 0; 1 2 (1) 0; 2 2 (1) 0",
+    ),
+    (
+        ":- chr_constraint p/2, q/1, r/1. :- chr_weight p/2 = 2. p(X,Y) <=> 3 < X, X < Y, Y < 6 | \
+        q(X). p(X,Y) <=> 3 < X, X < Y, Y < 6 | r(X).",
+        "1 1 (1) 1; 1 2 (1) 1; 2 2 (1) 1",
+    ),
+    (
+        ":- chr_constraint a/1. a(X) \\ a(Y) <=> X =:= Y | true.",
+        "1 1 (0,1) 1; 1 1 (0,2) 1; 1 1 (1,2) 1; 1 1 (2,0) 1; 1 1 (2,1) 1",
+    ),
+    (
+        ":- chr_constraint coin/0, note/0. coin, coin <=> note.",
+        "1 1 (0,1) 1; 1 1 (0,2) 1; 1 1 (1,0) 1; 1 1 (1,2) 1; 1 1 (2,0) 1; 1 1 (2,1) 1",
+    ),
+    // no common symbol
+    (
+        ":- chr_constraint a/0, b/0. a <=> true. b <=> true.",
+        "1 1 (1) 1; 2 2 (1) 1",
+    ),
+    (
+        ":- chr_constraint p/0, q/0. p \\ q, p <=> true.",
+        "1 1 (0,0,1) 1; 1 1 (0,0,3) 1; 1 1 (0,2,0) 1; 1 1 (0,2,1) 1; 1 1 (0,2,3) 1; 1 1 (1,0,3) 1; \
+        1 1 (1,2,0) 1; 1 1 (1,2,3) 1; 1 1 (3,0,0) 1; 1 1 (3,0,1) 1; 1 1 (3,2,0) 1; 1 1 (3,2,1) 1",
+    ),
+];
+
+/// Overlaps come by the first rule, then the second, then the matching. There is a case for each order type at which
+/// both guards hold.
+#[test]
+fn overlaps_have_cases(rt: HostRuntime) -> Result<(), Fail> {
+    let alloc = rt.alloc();
+    for (text, expected) in OVERLAPS {
+        let found = counts_text(&rt, alloc, &weighed(&rt, alloc, text))?;
+        assert_eq!(rt; found.as_str(), expected, "{text}");
+    }
+    Ok(())
+}
+
+/// The one constant stands in a body alone.
+const CONSTANT_OF_A_BODY: &str =
+    ":- chr_constraint p/1, q/2, r/0. :- chr_weight p/1 = 3. :- chr_weight q/2 = 2. \
+    p(X) <=> q(X,7). p(X) <=> r. q(X,Y) <=> X =< Y | r.";
+
+fn step_text(alloc: Global, weighed: &Weighed, step: &Step) -> Result<String, AllocError> {
+    let heads = atoms_text(alloc, weighed, &step.heads)?;
+    format!(in alloc; "{} on {heads}", step.rule)
+}
+
+fn case_text(alloc: Global, weighed: &Weighed, case: &Case) -> Result<String, AllocError> {
+    let store = store_text(alloc, weighed.program(), &case.store)?;
+    let left = step_text(alloc, weighed, &case.left)?;
+    let right = step_text(alloc, weighed, &case.right)?;
+    format!(in alloc; "{store}: {left}, {right}")
+}
+
+/// The overlap at a place, counted from 0, and its cases.
+fn cases_text(
+    rt: &impl Abort,
+    alloc: Global,
+    weighed: &Weighed,
+    place: usize,
+) -> Result<String, CaseFault> {
+    let (overlap, cases) = cases_at(rt, alloc, weighed, place)?;
+    let mut text = overlap_text(alloc, &overlap)?;
+    for case in &cases {
+        text.push_str("; ")?;
+        text.push_str(&case_text(alloc, weighed, case)?)?;
+    }
+    Ok(text)
+}
+
+/// A case has the matched atoms once, and the step of each rule on its own heads.
+#[test]
+fn cases_have_stores_and_steps(rt: HostRuntime) -> Result<(), Fail> {
+    let alloc = rt.alloc();
+    for (text, place, expected) in [
+        (
+            ":- chr_constraint p/2, q/1, r/1. :- chr_weight p/2 = 2. p(X,Y) <=> 3 < X, X < Y, Y < 6 | \
+            q(X). p(X,Y) <=> 3 < X, X < Y, Y < 6 | r(X).",
+            1,
+            "1 2 (1); p(4,5): 1 on p(4,5), 2 on p(4,5)",
+        ),
+        (
+            CONSTANT_OF_A_BODY,
+            1,
+            "1 2 (1); p(6): 1 on p(6), 2 on p(6); p(7): 1 on p(7), 2 on p(7); \
+            p(8): 1 on p(8), 2 on p(8)",
+        ),
+        // the second place is matched with the first: X < Y < Y2
+        (
+            ":- chr_constraint a/1, b/1. a(X), a(Y) <=> X < Y | b(X).",
+            0,
+            "1 1 (0,1); a(0), a(1), a(2): 1 on a(0), a(1), 1 on a(1), a(2)",
+        ),
+    ] {
+        let found = cases_text(&rt, alloc, &weighed(&rt, alloc, text), place)?;
+        assert_eq!(rt; found.as_str(), expected, "{text}");
+    }
+    Ok(())
+}
+
+#[test]
+fn constants_of_a_body_count(rt: HostRuntime) -> Result<(), Fail> {
+    let alloc = rt.alloc();
+    let found = constants(
+        alloc,
+        weighed(&rt, alloc, CONSTANT_OF_A_BODY).program().rules(),
+    )?;
+    assert!(rt; found.as_slice() == [7].as_slice());
+    Ok(())
+}
+
+/// The number of cases of the first overlap, or else of its free classes.
+fn first_count(rt: &impl Abort, alloc: Global, weighed: &Weighed) -> Result<usize, usize> {
+    match cases_at(rt, alloc, weighed, 0) {
+        Ok((_, cases)) => Ok(cases.len()),
+        Err(CaseFault::TooManyTypes { classes }) => Err(classes),
+        Err(CaseFault::Memory) => panic!(rt; "out of memory"),
+    }
+}
+
+/// The first overlap shares `q`. Seven classes without constants have 47,293 order types, and nine have 7,087,261.
+#[test]
+fn order_types_are_limited(rt: HostRuntime) {
+    let alloc = rt.alloc();
+    assert_eq!(rt; MAX_TYPES, 50_000);
+    for (text, expected) in [
+        (
+            ":- chr_constraint p/3, q/1, s/0. p(A,B,C), q(D) <=> s.",
+            Ok(47_293),
+        ),
+        (
+            ":- chr_constraint p/4, q/1, s/0. p(A,B,C,D), q(E) <=> s.",
+            Err(9),
+        ),
+    ] {
+        let found = first_count(&rt, alloc, &weighed(&rt, alloc, text));
+        assert_eq!(rt; found, expected, "{text}");
+    }
+}

@@ -1,0 +1,149 @@
+//! Order types of values, by comparing each with each.
+use arrayvec::ArrayVec;
+use chr_base::atom::Atom;
+use chr_base::rule::Rule;
+use chr_base::term::{Comparison, Pattern, Term};
+use std::alloc::{AllocError, Global};
+use std::cmp::Ordering;
+
+fn push_new(values: &mut Vec<i64>, value: i64) -> Result<(), AllocError> {
+    if !values.contains(&value) {
+        values.push(value)?;
+    }
+    Ok(())
+}
+
+fn push_constant(constants: &mut Vec<i64>, term: &Term) -> Result<(), AllocError> {
+    match term {
+        Term::Constant(value) => push_new(constants, *value),
+        Term::Variable(_) => Ok(()),
+    }
+}
+
+fn push_constants(constants: &mut Vec<i64>, terms: &[Term]) -> Result<(), AllocError> {
+    for term in terms {
+        push_constant(constants, term)?;
+    }
+    Ok(())
+}
+
+fn push_atom_constants(constants: &mut Vec<i64>, patterns: &[Pattern]) -> Result<(), AllocError> {
+    for pattern in patterns {
+        push_constants(constants, &pattern.args)?;
+    }
+    Ok(())
+}
+
+fn push_guard_constants(constants: &mut Vec<i64>, guard: &[Comparison]) -> Result<(), AllocError> {
+    for comparison in guard {
+        push_constant(constants, &comparison.left)?;
+        push_constant(constants, &comparison.right)?;
+    }
+    Ok(())
+}
+
+/// The constants of all heads, guards and bodies, rising.
+pub fn constants(alloc: Global, rules: &[Rule]) -> Result<Vec<i64>, AllocError> {
+    let mut constants = Vec::new(alloc);
+    for rule in rules {
+        push_atom_constants(&mut constants, &rule.kept)?;
+        push_atom_constants(&mut constants, &rule.removed)?;
+        push_atom_constants(&mut constants, &rule.body)?;
+        push_guard_constants(&mut constants, &rule.guard)?;
+    }
+    constants.sort_unstable();
+    Ok(constants)
+}
+
+/// Adds the values that lie so far above a constant.
+fn push_above(values: &mut Vec<i64>, constants: &[i64], distance: i64) -> Result<(), AllocError> {
+    for constant in constants {
+        push_new(values, constant.saturating_add(distance))?;
+    }
+    Ok(())
+}
+
+/// Values, rising, by which so many variables show each order type that any 64-bit values show: from each constant so
+/// many up, and from the least one so many down, as far as there are values. Blocks of equal variables that lie above a
+/// constant and below the next, if there is one, fit right above it wherever they fit at all, those below the least
+/// constant right below it, and there are no more blocks than variables. Without constants they fit from 0 on.
+pub fn values(alloc: Global, constants: &[i64], variables: i64) -> Result<Vec<i64>, AllocError> {
+    let mut values = Vec::new(alloc);
+    let least = constants.first().copied();
+    for distance in 0..=variables {
+        push_new(
+            &mut values,
+            least.map_or(distance, |least| least.saturating_sub(distance)),
+        )?;
+        push_above(&mut values, constants, distance)?;
+    }
+    values.sort_unstable();
+    Ok(values)
+}
+
+/// Adds the arguments of the atoms.
+fn push_arguments(arguments: &mut Vec<i64>, atoms: &[Atom]) -> Result<(), AllocError> {
+    for atom in atoms {
+        arguments.extend_from_slice(&atom.args)?;
+    }
+    Ok(())
+}
+
+/// The arguments of all these atoms.
+pub fn arguments(alloc: Global, atoms: &[&[Atom]]) -> Result<Vec<i64>, AllocError> {
+    let mut arguments = Vec::new(alloc);
+    for atoms in atoms {
+        push_arguments(&mut arguments, atoms)?;
+    }
+    Ok(arguments)
+}
+
+/// Adds the answer of each comparison of the value with the others.
+fn push_comparisons(
+    answers: &mut Vec<Ordering>,
+    value: i64,
+    others: &[i64],
+) -> Result<(), AllocError> {
+    for other in others {
+        answers.push(value.cmp(other))?;
+    }
+    Ok(())
+}
+
+/// The answer of each comparison between two arguments, and between an argument and a constant.
+pub fn comparisons(
+    alloc: Global,
+    arguments: &[i64],
+    constants: &[i64],
+) -> Result<Vec<Ordering>, AllocError> {
+    let mut answers = Vec::new(alloc);
+    for argument in arguments {
+        push_comparisons(&mut answers, *argument, arguments)?;
+        push_comparisons(&mut answers, *argument, constants)?;
+    }
+    Ok(answers)
+}
+
+/// Whether a value stands where a representative has it: right above or, below the least constant, right below a
+/// constant or another value; and where there are no constants, at 0 or right above another value.
+fn is_placed(value: i64, arguments: &[i64], constants: &[i64]) -> bool {
+    if constants.contains(&value) {
+        return true;
+    }
+    let Some(least) = constants.first() else {
+        return value == 0 || arguments.contains(&value.saturating_sub(1));
+    };
+    let neighbour = if value < *least {
+        value.saturating_add(1)
+    } else {
+        value.saturating_sub(1)
+    };
+    constants.contains(&neighbour) || arguments.contains(&neighbour)
+}
+
+/// Whether arguments are those of the representative of their order type.
+pub fn are_representative(arguments: &[i64], constants: &[i64]) -> bool {
+    arguments
+        .iter()
+        .all(|value| is_placed(*value, arguments, constants))
+}

@@ -1,0 +1,2 @@
+-- What fields of types speak of.
+pub mod Weights
