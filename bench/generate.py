@@ -8,7 +8,7 @@
     generate.py layout              a program text of a few rules and long layout
     generate.py items               a program text with one clause of many items
     generate.py symbols             a program text with one clause of many symbols (it is refused)
-    generate.py dominated           a short program with overlaps of up to six free classes
+    generate.py dominated           a short program with overlaps of up to six free variables
     generate.py near                a short program with an overlap of 47,293 order types, which is nearly the limit
     generate.py ordered             the same with a guard that holds in few of them
     generate.py over                a short program with an overlap of too many order types (it is refused)
