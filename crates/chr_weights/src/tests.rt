@@ -115,36 +115,19 @@ const PAIRS: [((u64, u64), (u64, u64), bool); 7] = [
     ((1, 1), (1, 2), false),
 ];
 
-/// `coin` with these weights.
-fn weighed_coin(alloc: Global, throw: (u64, u64), side: (u64, u64)) -> Result<Program, AllocError>
-    requires throw { IsTrue (is_weight (record { first = throw.0; second = throw.1 })) }
-    requires side { IsTrue (is_weight (record { first = side.0; second = side.1 })) }
+/// Sets the weight of a symbol, where there is one.
+fn set(program: &mut Program, symbol: u16, numbers: (u64, u64))
+    requires { IsTrue (is_weight (record { first = numbers.0; second = numbers.1 })) }
 {
-    let mut program = coin(alloc)?;
-    if program.symbols() == 3 {
+    if usize::from(symbol) < program.symbols() {
         program.set_weight(
-            SymbolId(0),
+            SymbolId(symbol),
             Weight {
-                first: throw.0,
-                second: throw.1,
-            },
-        );
-        program.set_weight(
-            SymbolId(1),
-            Weight {
-                first: side.0,
-                second: side.1,
-            },
-        );
-        program.set_weight(
-            SymbolId(2),
-            Weight {
-                first: side.0,
-                second: side.1,
+                first: numbers.0,
+                second: numbers.1,
             },
         );
     }
-    Ok(program)
 }
 
 fn is_weight(numbers: (u64, u64)) -> bool
@@ -157,7 +140,10 @@ fn is_weight(numbers: (u64, u64)) -> bool
 fn pairs(rt: HostRuntime) -> Result<(), Fail> {
     for (throw, side, lowers) in PAIRS {
         assert!(rt; is_weight(throw) && is_weight(side));
-        let program = weighed_coin(rt.alloc(), throw, side)?;
+        let mut program = coin(rt.alloc())?;
+        set(&mut program, 0, throw);
+        set(&mut program, 1, side);
+        set(&mut program, 2, side);
         assert_eq!(rt; weigh(program).is_ok(), lowers);
     }
     Ok(())
