@@ -53,6 +53,14 @@ one_more p rules n k s t u lowers same h st e =
       weight = λ none. Runs-lowers (Step (rules_of p)) (weight_of (λ a. (weight_in p a).first)) (step_lowers (λ a. (weight_in p a).first) (rules_of p) (lowers_first p none lowers)) (h.steps + 1) s u r;
     }
 
+-- where the rank fits 64 bits, the steps are counted exactly
+pub exact_count : (p : Program) (n : ℕ) (s t : Store) → TookSteps p n s t → store_rank p s < 2 ^ 64 → Runs (Step (rules_of p)) n s t
+exact_count p n s t h fits =
+    let is = h.counted in
+    let few = h.rank in
+    let same : n ≡ h.steps = omega (arith, is, few, fits) in
+    subst (λ m. Runs (Step (rules_of p)) m s t) (sym same) h.run
+
 -- heads that are there make a step
 pub heads_step : (rules : List Rule) (i : ℕ) (r : Rule) (heads : List Atom) (s : Store) → i < length rules → r ≡ get_or rules i r → HasInstance r heads → IsWithin (store_of heads) s → IsAtRest (Step rules) s → ⊥
 heads_step rules i r heads s l is h w rest =

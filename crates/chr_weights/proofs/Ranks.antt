@@ -15,12 +15,12 @@ use Rattle.chr_base.specs.FinBag.{total, items}
 use Rattle.chr_base.specs.ProgramTests.{Declaration, some_paired}
 use Rattle.chr_base.specs.Programs.{declarations, rules_of}
 use Rattle.chr_base.specs.Rules.{RuleLowers, Valuation, atom_at, atoms_at}
-use Rattle.chr_base.specs.Stores.{Store, weight_of}
+use Rattle.chr_base.specs.Stores.{Store, size, weight_of}
 use Rattle.chr_base.specs.Weights.{IsLighter, is_paired, rank, total_weight}
 use Rattle.chr_base.proofs.FinBags.{sum_over-items}
 use Rattle.chr_base.proofs.Instances.{few_rule}
 use Rattle.chr_weights.specs.Weights.{AreLowering, ProgramLowers, declared_weight, store_rank, store_weight, weight_by, weight_in}
-use Rattle.chr_weights.proofs.WeightLaws.{total_at_most, weight_at_most}
+use Rattle.chr_weights.proofs.WeightLaws.{first_at_most, second_at_most, total_at_most, weight_at_most}
 
 -- as many for each first number, and the second number
 abbrev pub ranked : ℕ → (Atom → Weight) → Atom → ℕ
@@ -72,6 +72,12 @@ store_ranks p s =
     let c = sum_over-items (λ q. (weight_in p q).first) s in
     let d = sum_over-items (λ q. (weight_in p q).second) s in
     omega (arith, a, b, c, d)
+
+pub ranks_bounded : (p : Program) (s : Store) → store_rank p s ≤ 8000002000000 * size s
+ranks_bounded p s =
+    let a = first_at_most p s in
+    let b = second_at_most p s in
+    omega (arith, a, b)
 
 -- ---- where all second numbers are 0
 

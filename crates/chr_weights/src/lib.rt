@@ -11,6 +11,7 @@ use chr_base::bag::Bag;
 use chr_base::program::Program;
 use chr_base::weight::Weight;
 
+pub mod laws;
 mod sums;
 #[cfg(test)]
 mod tests;
