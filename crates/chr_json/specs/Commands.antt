@@ -53,7 +53,8 @@ show_of r = option_map show (natural_of r)
 
 abbrev pub tell_of : Data → Data → Data → Option Said
 tell_of r id atoms =
-    option_and_then (λ replica. option_and_then (λ p. option_map (tell replica p.0 p.1) (named_atoms_of atoms)) (id_of id))
+    option_and_then
+    (λ replica. option_and_then (λ p. option_map (tell replica p.0 p.1) (named_atoms_of atoms)) (id_of id))
     (natural_of r)
 
 -- an array of a command's word and what it takes

@@ -12,8 +12,8 @@ use crate::order_type::OrderType;
 use crate::search::add_lists;
 use std::alloc::Global;
 
-/// The greatest number of classes whose order types can be within a limit. Of more classes there are more than any limit:
-/// with the first class at one value, each other class can be equal to it or greater.
+/// The greatest number of classes whose order types can be within a limit. Of more classes there are more than any
+/// limit: with the first class at one value, each other class can be equal to it or greater.
 pub const MAX_CLASSES: usize = 64;
 
 /// Whether the lists of so many constants alone are more than the limit. Each has an order type of its own.

@@ -61,8 +61,10 @@ fn add_way(
 ) -> Result<bool, AllocError>
     requires aside { candidate.value ≢ candidate.base }
     requires few { vec_len holes.old ≤ room }
-    ensures fits { IfOk result (λ fits. IsTrue fits ↔ length (way candidate.base (prefix.now ++ candidate.value ∷ []) holes.old.items (toward candidate.base candidate.value)) ≤ room) }
-    ensures holes { IfOk result (λ fits. IsTrue fits → holes.new.items ≡ way candidate.base (prefix.now ++ candidate.value ∷ []) holes.old.items (toward candidate.base candidate.value)) }
+    ensures fits { IfOk result (λ fits. IsTrue fits ↔ length (way candidate.base
+        (prefix.now ++ candidate.value ∷ []) holes.old.items (toward candidate.base candidate.value)) ≤ room) }
+    ensures holes { IfOk result (λ fits. IsTrue fits → holes.new.items ≡ way candidate.base
+        (prefix.now ++ candidate.value ∷ []) holes.old.items (toward candidate.base candidate.value)) }
 {
     let mut next = step_to(candidate.base, candidate.value);
     while next != candidate.base {
@@ -88,7 +90,8 @@ fn holes_after(
 ) -> Result<Option<Vec<i64>>, AllocError>
     requires { length holes.now ≤ room + 1 }
     ensures fits { IfOk result (λ found. IsSome found ↔ length (holes_by candidate prefix.now holes.now) ≤ room) }
-    ensures holes { IfOk result (λ found. IfSome found (λ after. after.items ≡ holes_by candidate prefix.now holes.now)) }
+    ensures holes { IfOk result (λ found. IfSome found (λ after.
+        after.items ≡ holes_by candidate prefix.now holes.now)) }
 {
     if is_among(holes, candidate.value) {
         return Ok(Some(all_others(alloc, holes, candidate.value)?));
@@ -117,9 +120,11 @@ pub(crate) fn add_lists(
     found: &mut Vec<OrderType>,
 ) -> Result<(), TypesFault>
     requires few { length holes.now ≤ left }
-    ensures lists { OnOk result (found.new.items ≡ found.old.items ++ lists_over candidates.now left prefix.now holes.now) }
+    ensures lists { OnOk result (found.new.items
+        ≡ found.old.items ++ lists_over candidates.now left prefix.now holes.now) }
     ensures within { OnOk result (vec_len found.old ≤ limit → vec_len found.new ≤ limit) }
-    ensures many { IfErr result (λ e. WhereTooMany e (limit < vec_len found.old + length (lists_over candidates.now left prefix.now holes.now))) }
+    ensures many { IfErr result (λ e. WhereTooMany e
+        (limit < vec_len found.old + length (lists_over candidates.now left prefix.now holes.now))) }
 {
     if left == 0 {
         if found.len() >= limit {

@@ -53,8 +53,10 @@ lists_over ks (suc k) p h = flat_map (lists_at (lists_over ks k) k p h) ks
 -- the candidates found so far: rising, each with its base, and all that are less than v
 pub record CandidatesBelow (n : ℕ) (cs : List ℤ) (candidates : List Candidate) (v : ℤ) : Type 0 where
   pub rise : Rises (map (λ c. c.value) candidates)
-  pub right : (c : Candidate) → In c candidates → (c.base ≡ base cs c.value) × IsValue c.value × IsFrom cs c.value × (c.value <ℤ v)
-  pub all : (w : ℤ) → IsValue w → IsFrom cs w → distance (base cs w) w ≤ n → w <ℤ v → In w (map (λ c. c.value) candidates)
+  pub right : (c : Candidate) → In c candidates
+      → (c.base ≡ base cs c.value) × IsValue c.value × IsFrom cs c.value × (c.value <ℤ v)
+  pub all : (w : ℤ) → IsValue w → IsFrom cs w → distance (base cs w) w ≤ n → w <ℤ v
+      → In w (map (λ c. c.value) candidates)
 
 -- past all values of 64 bits
 abbrev pub past : ℤ
