@@ -26,3 +26,6 @@ pub const MAX_RULES: usize = 64;
 
 /// The greatest weight of a symbol. The least is 1.
 pub const MAX_WEIGHT: u32 = 1_000_000;
+
+/// The greatest number of atoms of an operation.
+pub const MAX_OPERATION: usize = 64;
