@@ -7,6 +7,7 @@ use Rattle.std.specs.Str.Parse.{digits_value}
 use Rattle.std.proofs.lemmas.Bool.Decides.{nat_tests}
 use Rattle.std.proofs.lemmas.Fmt.{decimal_nonempty, decimal_digit, digits_decimal, digits_value-decimal}
 use Rattle.std.proofs.lemmas.Bool.{and_from, and_parts}
+use Rattle.chr_base.specs.declared.limits.TheConstants.{MAX_ARITY, MAX_WEIGHT}
 use Rattle.chr_base.specs.Values.{is_value}
 use Rattle.chr_syntax.specs.Lexemes.{IsDigits, IsNumber}
 use Rattle.chr_base.specs.Names.{is_digit}
@@ -66,22 +67,24 @@ number_back (negsuc n) h =
 
 -- ---- arities and weights
 
-pub arity_back : (n : ℕ) → n ≤ 4 → arity_of (decimal n) ≡ Some n
+pub arity_back : (n : ℕ) → n ≤ MAX_ARITY → arity_of (decimal n) ≡ Some n
 arity_back n h = ap arity_of (decimal_digit n (omega (arith, h))) ∙ by n h
   where
-    by : (n : ℕ) → n ≤ 4 → arity_of ((48 + n) ∷ []) ≡ Some n
+    by : (n : ℕ) → n ≤ MAX_ARITY → arity_of ((48 + n) ∷ []) ≡ Some n
     by zero h = refl
     by (suc zero) h = refl
     by (suc (suc zero)) h = refl
     by (suc (suc (suc zero))) h = refl
     by (suc (suc (suc (suc zero)))) h = refl
-    by (suc (suc (suc (suc (suc n))))) h = absurd (omega (arith, h))
+    by (suc (suc (suc (suc (suc zero))))) h = refl
+    by (suc (suc (suc (suc (suc (suc zero)))))) h = refl
+    by (suc (suc (suc (suc (suc (suc (suc n))))))) h = absurd (omega (arith, h))
 
-pub weight_number : (n : ℕ) → n ≤ 1000000 → number_of (decimal n) ≡ Some (pos n)
+pub weight_number : (n : ℕ) → n ≤ MAX_WEIGHT → number_of (decimal n) ≡ Some (pos n)
 weight_number n h = let m : n < 2 ^ 64 = omega (arith, h) in plain_read (decimal n) n (decimal_nonempty n m) (decimal_digits n m) (digits_value-decimal own n m) (omega (arith, h))
 
-pub weight_back : (n : ℕ) → 1 ≤ n → n ≤ 1000000 → weight_named_by (decimal n) ≡ Some n
+pub weight_back : (n : ℕ) → 1 ≤ n → n ≤ MAX_WEIGHT → weight_named_by (decimal n) ≡ Some n
 weight_back n l h =
     let a : nat_le 1 n ≡ true = grind (arith, nat_tests) in
-    let b : nat_le n 1000000 ≡ true = grind (arith, nat_tests) in
-    ap (option_and_then as_weight) (weight_number n h) ∙ ap (λ t. cond t (Some n) None) (and_from (nat_le 1 n) (nat_le n 1000000) a b)
+    let b : nat_le n MAX_WEIGHT ≡ true = grind (arith, nat_tests) in
+    ap (option_and_then as_weight) (weight_number n h) ∙ ap (λ t. cond t (Some n) None) (and_from (nat_le 1 n) (nat_le n MAX_WEIGHT) a b)

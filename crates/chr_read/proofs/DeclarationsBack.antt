@@ -9,6 +9,7 @@ use Rattle.std.proofs.lemmas.List.{length-map}
 use Rattle.std.proofs.lemmas.List.Folds.{list_any-append}
 use Rattle.std.proofs.lemmas.Option.{same_Some}
 use Rattle.std.proofs.lemmas.Slice.Eq.{bytes_eq-Decides}
+use Rattle.chr_base.specs.declared.limits.TheConstants.{MAX_ARITY, MAX_NAME, MAX_SYMBOLS, MAX_WEIGHT}
 use Rattle.chr_base.specs.Names as base
 use Rattle.chr_base.specs.ProgramTests.{Declaration, with_weight, declares, are_distinct, is_in_range}
 use Rattle.chr_syntax.specs.Clauses.{Symbol, weight}
@@ -43,17 +44,17 @@ pass false n rest h g = g
 
 pub record InRange (d : Declaration) : Type 0 where
   pub name : base.is_name d.name ≡ true
-  pub short : length d.name ≤ 32
-  pub arity : d.arity ≤ 4
+  pub short : length d.name ≤ MAX_NAME
+  pub arity : d.arity ≤ MAX_ARITY
   pub least : 1 ≤ d.weight
-  pub most : d.weight ≤ 1000000
+  pub most : d.weight ≤ MAX_WEIGHT
 
 pub in_range : (d : Declaration) → is_in_range d ≡ true → InRange d
 in_range d h =
-    let a = and_parts (base.is_name d.name && nat_le (length d.name) 32 && nat_le d.arity 4 && nat_le 1 d.weight) (nat_le d.weight 1000000) h in
-    let b = and_parts (base.is_name d.name && nat_le (length d.name) 32 && nat_le d.arity 4) (nat_le 1 d.weight) a.0 in
-    let c = and_parts (base.is_name d.name && nat_le (length d.name) 32) (nat_le d.arity 4) b.0 in
-    let e = and_parts (base.is_name d.name) (nat_le (length d.name) 32) c.0 in
+    let a = and_parts (base.is_name d.name && nat_le (length d.name) MAX_NAME && nat_le d.arity MAX_ARITY && nat_le 1 d.weight) (nat_le d.weight MAX_WEIGHT) h in
+    let b = and_parts (base.is_name d.name && nat_le (length d.name) MAX_NAME && nat_le d.arity MAX_ARITY) (nat_le 1 d.weight) a.0 in
+    let c = and_parts (base.is_name d.name && nat_le (length d.name) MAX_NAME) (nat_le d.arity MAX_ARITY) b.0 in
+    let e = and_parts (base.is_name d.name) (nat_le (length d.name) MAX_NAME) c.0 in
     record { name = e.0; short = leb-true _ _ e.1; arity = leb-true _ _ c.1; least = leb-true _ _ b.1; most = leb-true _ _ a.1 }
 
 pub name_is_word : (w : List ℕ) → base.is_name w ≡ true → IsWord is_lower w
@@ -66,7 +67,7 @@ name_is_word w h = by w (and_parts (base.is_word w) _ h).0
 pub name_is_unreserved : (w : List ℕ) → base.is_name w ≡ true → base.is_reserved w ≡ false
 name_is_unreserved w h = not-true (base.is_reserved w) (and_parts (base.is_word w) (not (base.is_reserved w)) h).1
 
-pub name_is_short : (w : List ℕ) → length w ≤ 32 → is_long w ≡ false
+pub name_is_short : (w : List ℕ) → length w ≤ MAX_NAME → is_long w ≡ false
 name_is_short w l = grind (arith, nat_tests)
 
 -- ---- places
@@ -107,7 +108,7 @@ none_known : (ss : List Symbol) → list_any (is_declared_already []) ss ≡ fal
 none_known [] = refl
 none_known (s ∷ ss) = or_from (is_declared_already [] s) (list_any (is_declared_already []) ss) (unknown s) (none_known ss)
 
-other_symbol : (a b : Declaration) → a.arity ≤ 4 → b.arity ≤ 4 → declares a.name a.arity b ≡ false → is_same_symbol (written_symbol a) (written_symbol b) ≡ false
+other_symbol : (a b : Declaration) → a.arity ≤ MAX_ARITY → b.arity ≤ MAX_ARITY → declares a.name a.arity b ≡ false → is_same_symbol (written_symbol a) (written_symbol b) ≡ false
 other_symbol a b l m h = by (is_same_symbol (written_symbol a) (written_symbol b)) refl
   where
     by : (t : Bool) → is_same_symbol (written_symbol a) (written_symbol b) ≡ t → is_same_symbol (written_symbol a) (written_symbol b) ≡ false
@@ -121,9 +122,9 @@ other_symbol a b l m h = by (is_same_symbol (written_symbol a) (written_symbol b
 -- those that came are none of these
 abbrev AreApart : List Declaration → List Declaration → Type 0
 AreApart [] ds = Unit {0}
-AreApart (e ∷ es) ds = (list_any (declares e.name e.arity) ds ≡ false) × (e.arity ≤ 4) × AreApart es ds
+AreApart (e ∷ es) ds = (list_any (declares e.name e.arity) ds ≡ false) × (e.arity ≤ MAX_ARITY) × AreApart es ds
 
-none_seen : (es : List Declaration) (d : Declaration) (ds : List Declaration) → d.arity ≤ 4 → AreApart es (d ∷ ds) → (list_any (λ e. is_same_symbol e (written_symbol d)) (map written_symbol es) ≡ false) × AreApart es ds
+none_seen : (es : List Declaration) (d : Declaration) (ds : List Declaration) → d.arity ≤ MAX_ARITY → AreApart es (d ∷ ds) → (list_any (λ e. is_same_symbol e (written_symbol d)) (map written_symbol es) ≡ false) × AreApart es ds
 none_seen [] d ds l h = (refl, tt)
 none_seen (e ∷ es) d ds l h =
     let n = or_parts (declares e.name e.arity d) (list_any (declares e.name e.arity) ds) h.0 in
@@ -155,16 +156,16 @@ all_declared (d ∷ ds) h =
     let more = all_declared ds e.1 in
     λ i. record { name = d.name; arity = a i; weight = 1 } ∷ more i
 
-pub declarations_back : (ds : List Declaration) → length ds ≤ 64 → list_all is_in_range ds ≡ true → are_distinct ds ≡ true
+pub declarations_back : (ds : List Declaration) → length ds ≤ MAX_SYMBOLS → list_all is_in_range ds ≡ true → are_distinct ds ≡ true
     → AreFaultless nothing (declaration_forms ds) × (after nothing (declaration_forms ds) ≡ state (map plain ds) [] [])
 declarations_back [] l r u = (tt, refl)
 declarations_back (d ∷ ds) l r u =
     let ss = map written_symbol (d ∷ ds) in
     let long = length-map (d ∷ ds) written_symbol in
-    let room : nat_lt 64 (0 + length ss) ≡ false = grind (arith, nat_tests) in
+    let room : nat_lt MAX_SYMBOLS (0 + length ss) ≡ false = grind (arith, nat_tests) in
     let twice = or_from (list_any (is_declared_already []) ss) (comes_twice ss) (none_known ss) (sym (twice_is ss) ∙ none_again [] (d ∷ ds) tt r u) in
-    let over = or_from (nat_lt 64 (0 + length ss)) (list_any symbol_over ss) room (none_over (d ∷ ds) r) in
-    ((pass (list_any (is_declared_already []) ss || comes_twice ss) _ _ twice (pass (nat_lt 64 (0 + length ss) || list_any symbol_over ss) _ _ over refl), tt), ap (λ x. state x [] []) (all_declared (d ∷ ds) r))
+    let over = or_from (nat_lt MAX_SYMBOLS (0 + length ss)) (list_any symbol_over ss) room (none_over (d ∷ ds) r) in
+    ((pass (list_any (is_declared_already []) ss || comes_twice ss) _ _ twice (pass (nat_lt MAX_SYMBOLS (0 + length ss) || list_any symbol_over ss) _ _ over refl), tt), ap (λ x. state x [] []) (all_declared (d ∷ ds) r))
 
 -- ---- a clause for each weight
 

@@ -1,5 +1,5 @@
 -- The canonical text of a program is read as the program.
-use Rattle.std.proofs.Common.{◌≡◌, ℕ, ◌+◌, ◌<◌, ◌≤◌, List, [], ◌∷◌, ◌++◌, length, map, Bool, true, false, not, cond, ◌==◌, ◌||◌, ◌&&◌, nat_lt, nat_le, nat_eq, Option, Some, None, Ok, option_map, is_some, refl, sym, ap, ◌∙◌, subst, append_assoc, append-nil, length-append, arith}
+use Rattle.std.proofs.Common.{◌≡◌, ℕ, ◌+◌, ◌*◌, ◌<◌, ◌≤◌, List, [], ◌∷◌, ◌++◌, length, map, Bool, true, false, not, cond, ◌==◌, ◌||◌, ◌&&◌, nat_lt, nat_le, nat_eq, Option, Some, None, Ok, option_map, is_some, refl, sym, ap, ◌∙◌, subst, append_assoc, append-nil, length-append, arith}
 use Rattle.std.specs.Prelude.{decimal}
 use Rattle.std.specs.List.{list_any, list_all, AllByRecursion}
 use Rattle.std.specs.Str.{bytes_eq}
@@ -9,6 +9,7 @@ use Rattle.std.proofs.lemmas.List.{length-map}
 use Rattle.std.proofs.lemmas.List.Folds.{list_any-append}
 use Rattle.std.proofs.lemmas.Option.{none-some, same_Some}
 use Rattle.std.specs.Str.Parse.{starts_with_minus}
+use Rattle.chr_base.specs.declared.limits.TheConstants.{MAX_ARITY, MAX_BODY, MAX_COMPARISONS, MAX_HEADS, MAX_NAME, MAX_RULES, MAX_SYMBOLS, MAX_VARIABLES}
 use Rattle.chr_base.specs.declared.term.Term as base
 use Rattle.chr_base.specs.declared.term.Term.TheVariants.{Variable, Constant}
 use Rattle.chr_base.specs.declared.term.Comparison as base_comparison
@@ -29,6 +30,7 @@ use Rattle.chr_syntax.specs.Bytes.{pieces}
 use Rattle.chr_base.specs.Names.{is_lower, is_digit}
 use Rattle.chr_syntax.specs.working.Tokens.{tokens_of}
 use Rattle.chr_syntax.specs.Lexemes.{IsWord}
+use Rattle.chr_read.specs.declared.reader.TheConstants.{MAX_TEXT}
 use Rattle.chr_read.specs.CanonicalTexts.{declaration_clauses, weight_clause, weight_clauses, rule_clause, clauses, canonical}
 use Rattle.chr_base.specs.Sameness.{Parts, parts_of}
 use Rattle.chr_read.specs.Meanings.{Progress, nothing, meaning_of}
@@ -55,7 +57,7 @@ use Rattle.chr_read.proofs.WrittenTokens.{IsWritableComparison, IsWritableRule, 
 
 record GoodRule (ds : List Declaration) (r : base_rule.Rule) : Type 0 where
   pub n : ℕ
-  pub few : n ≤ 16
+  pub few : n ≤ MAX_VARIABLES
   pub count : numbered 0 (terms_of (heads_of r)) ≡ Some n
   pub kept : AllByRecursion (GoodAtom ds n) r.kept.items
   pub removed : AllByRecursion (GoodAtom ds n) r.removed.items
@@ -74,7 +76,7 @@ valued_terms (p ∷ ps) h = let e = and_parts (list_all is_valued p.args.items) 
     chain [] ys h g = g
     chain (x ∷ xs) ys h g = let e = and_parts (is_valued x) (list_all is_valued xs) h in and_from (is_valued x) _ e.0 (chain xs ys e.1 g)
 
-few_terms : (ds : List Declaration) (ps : List Pattern) → list_all is_in_range ds ≡ true → list_all (is_declared ds) ps ≡ true → length (terms_of ps) ≤ length ps + length ps + length ps + length ps
+few_terms : (ds : List Declaration) (ps : List Pattern) → list_all is_in_range ds ≡ true → list_all (is_declared ds) ps ≡ true → length (terms_of ps) ≤ MAX_ARITY * length ps
 few_terms ds [] r h = omega arith
 few_terms ds (p ∷ ps) r h =
     let e = and_parts (is_declared ds p) (list_all (is_declared ds) ps) h in
@@ -128,8 +130,8 @@ good_rule ds r range fit =
     let s = some_of (numbered 0 (terms_of hs)) (numbered_rule r) in
     let b = bounds 0 s.0 (terms_of hs) s.1 (valued_terms hs w.0) in
     let good = b.good in
-    let z = (and_parts (nat_lt 0 (length r.removed.items)) (nat_le (length r.kept.items + length r.removed.items) 4) (sized_rule r)).1 in
-    let heads : length hs ≤ 4 = (let a = length-append r.kept.items r.removed.items in let c : length r.kept.items + length r.removed.items ≤ 4 = grind (arith, nat_tests) in omega (arith, a, c)) in
+    let z = (and_parts (nat_lt 0 (length r.removed.items)) (nat_le (length r.kept.items + length r.removed.items) MAX_HEADS) (sized_rule r)).1 in
+    let heads : length hs ≤ MAX_HEADS = (let a = length-append r.kept.items r.removed.items in let c : length r.kept.items + length r.removed.items ≤ MAX_HEADS = grind (arith, nat_tests) in omega (arith, a, c)) in
     let most = few_terms ds hs range (declared_both ds r.kept.items r.removed.items g.0 g.1) in
     let split : AllByRecursion (Good s.0) (terms_of r.kept.items ++ terms_of r.removed.items) = subst (AllByRecursion (Good s.0)) (terms_append r.kept.items r.removed.items) good in
     record {
@@ -182,25 +184,25 @@ module _ (ds : List Declaration) (r : base_rule.Rule) (u : are_distinct ds ≡ t
   abbrev labelled : Bool
   labelled = names.is_label (option_map (λ n. n.bytes) r.name)
 
-  limits : (labelled ≡ true) × (length r.guard.items ≤ 8) × (length r.body.items ≤ 8)
+  limits : (labelled ≡ true) × (length r.guard.items ≤ MAX_COMPARISONS) × (length r.body.items ≤ MAX_BODY)
   limits =
-      let a = and_parts (labelled && nat_le (length r.guard.items) 8) (nat_le (length r.body.items) 8) (few_rule r) in
-      let b = and_parts labelled (nat_le (length r.guard.items) 8) a.0 in
+      let a = and_parts (labelled && nat_le (length r.guard.items) MAX_COMPARISONS) (nat_le (length r.body.items) MAX_BODY) (few_rule r) in
+      let b = and_parts labelled (nat_le (length r.guard.items) MAX_COMPARISONS) a.0 in
       (b.0, (let b1 = b.1 in grind (arith, nat_tests)), (let a1 = a.1 in grind (arith, nat_tests)))
 
   few_lists : has_long_lists w ≡ false
   few_lists =
-      let z = (and_parts (nat_lt 0 (length r.removed.items)) (nat_le (length r.kept.items + length r.removed.items) 4) (sized_rule r)).1 in
+      let z = (and_parts (nat_lt 0 (length r.removed.items)) (nat_le (length r.kept.items + length r.removed.items) MAX_HEADS) (sized_rule r)).1 in
       let k = length-map r.kept.items (written_atom ds) in
       let m = length-map r.removed.items (written_atom ds) in
-      let c : length (present w.guard) ≤ 8 = (let e = ap length comparisons in let f = length-map r.guard.items written_comparison in let l = limits.1 in omega (arith, e, f, l)) in
-      let b : length (present w.body) ≤ 8 = (let e = ap length (present_body ds r.body.items) in let f = length-map r.body.items (written_atom ds) in let l = limits.2 in omega (arith, e, f, l)) in
-      or_from (nat_lt 4 (length w.kept + length w.removed)) _ (grind (arith, nat_tests))
-      (or_from (nat_lt 8 (length (present w.guard))) (nat_lt 8 (length (present w.body))) (grind (arith, nat_tests)) (grind (arith, nat_tests)))
+      let c : length (present w.guard) ≤ MAX_COMPARISONS = (let e = ap length comparisons in let f = length-map r.guard.items written_comparison in let l = limits.1 in omega (arith, e, f, l)) in
+      let b : length (present w.body) ≤ MAX_BODY = (let e = ap length (present_body ds r.body.items) in let f = length-map r.body.items (written_atom ds) in let l = limits.2 in omega (arith, e, f, l)) in
+      or_from (nat_lt MAX_HEADS (length w.kept + length w.removed)) _ (grind (arith, nat_tests))
+      (or_from (nat_lt MAX_COMPARISONS (length (present w.guard))) (nat_lt MAX_BODY (length (present w.body))) (grind (arith, nat_tests)) (grind (arith, nat_tests)))
 
   label_short : (o : Option (List ℕ)) → names.is_label o ≡ true → label_over o ≡ false
   label_short None h = refl
-  label_short (Some v) h = name_is_short v (let e1 = (and_parts (names.is_name v) (nat_le (length v) 32) h).1 in grind (arith, nat_tests))
+  label_short (Some v) h = name_is_short v (let e1 = (and_parts (names.is_name v) (nat_le (length v) MAX_NAME) h).1 in grind (arith, nat_tests))
 
   few_parts : parts_over w ≡ false
   few_parts =
@@ -235,11 +237,11 @@ module _ (ds : List Declaration) (r : base_rule.Rule) (u : are_distinct ds ≡ t
       (or_from (list_any comparison_outside (present w.guard)) _ (ap (list_any comparison_outside) comparisons ∙ none_pass comparison_outside written_comparison (GoodComparison g.n) out r.guard.items g.guard)
       (ap (list_any atom_outside) (present_body ds r.body.items) ∙ none_pass atom_outside (written_atom ds) (GoodAtom ds g.n) (atom_inside ds g.n) r.body.items g.body)))
 
-  rule_faultless : (q : Progress) → q.meaning.declarations ≡ ds → length q.meaning.rules < 64 → fault_in q (rule w) ≡ None
+  rule_faultless : (q : Progress) → q.meaning.declarations ≡ ds → length q.meaning.rules < MAX_RULES → fault_in q (rule w) ≡ None
   rule_faultless q is l =
-      let room : nat_le 64 (length q.meaning.rules) ≡ false = grind (arith, nat_tests) in
+      let room : nat_le MAX_RULES (length q.meaning.rules) ≡ false = grind (arith, nat_tests) in
       pass (list_any (is_undeclared q.meaning.declarations) (rule_atoms w)) _ _ (sym (undeclared_is q.meaning.declarations w) ∙ ap (λ d. rule_undeclared d w) is ∙ undeclared)
-      (pass (nat_le 64 (length q.meaning.rules) || rule_over w) _ _ (or_from (nat_le 64 (length q.meaning.rules)) _ room (sym (over_is w) ∙ not_over))
+      (pass (nat_le MAX_RULES (length q.meaning.rules) || rule_over w) _ _ (or_from (nat_le MAX_RULES (length q.meaning.rules)) _ room (sym (over_is w) ∙ not_over))
       (pass (list_any (is_unbound w) (right_terms w)) _ _ (sym (unbound_is w) ∙ not_unbound) (pass (list_any is_outside (terms_in w)) _ _ (sym (outside_is w) ∙ not_outside) refl)))
 
   -- ---- it is resolved to the rule
@@ -250,7 +252,7 @@ module _ (ds : List Declaration) (r : base_rule.Rule) (u : are_distinct ds ≡ t
       let v = (and_parts (are_valued (heads_of r)) (list_all (λ c. is_valued c.left && is_valued c.right) r.guard.items) (and_parts (are_valued (heads_of r) && list_all (λ c. is_valued c.left && is_valued c.right) r.guard.items) (are_valued r.body.items) (valued_rule r)).0).0 in
       let vs = valued_parts r.kept.items r.removed.items v in
       let b = (bounds s.0 g.n (terms_of r.removed.items) s.2 (valued_terms r.removed.items vs.1)).least in
-      let few : s.0 ≤ 16 = (let f = g.few in omega (arith, b, f)) in
+      let few : s.0 ≤ MAX_VARIABLES = (let f = g.few in omega (arith, b, f)) in
       let good_kept = good_at s.0 r.kept.items g.kept s.1 (valued_terms r.kept.items vs.0) in
       let k = heads_back ds 0 s.0 r.kept.items few (omega arith) u good_kept (valued_terms r.kept.items vs.0) s.1 in
       let m = heads_back ds s.0 g.n r.removed.items g.few few u g.removed (valued_terms r.removed.items vs.1) s.2 in
@@ -280,13 +282,13 @@ module _ (ds : List Declaration) (r : base_rule.Rule) (u : are_distinct ds ≡ t
   rule_form = (
     label_form (option_map (λ n. n.bytes) r.name) limits.0,
     mapped (written_atom ds) (GoodAtom ds g.n) IsAtom (atom_form ds g.n) r.kept.items g.kept,
-    some_mapped r.removed.items (let z = (and_parts (nat_lt 0 (length r.removed.items)) (nat_le (length r.kept.items + length r.removed.items) 4) (sized_rule r)).0 in grind (arith, nat_tests)) g.removed,
+    some_mapped r.removed.items (let z = (and_parts (nat_lt 0 (length r.removed.items)) (nat_le (length r.kept.items + length r.removed.items) MAX_HEADS) (sized_rule r)).0 in grind (arith, nat_tests)) g.removed,
     body_form r.body.items g.body,
   )
     where
       label_form : (o : Option (List ℕ)) → names.is_label o ≡ true → IsLabel o
       label_form None h = tt
-      label_form (Some v) h = name_is_unreserved v (and_parts (names.is_name v) (nat_le (length v) 32) h).0
+      label_form (Some v) h = name_is_unreserved v (and_parts (names.is_name v) (nat_le (length v) MAX_NAME) h).0
 
       mapped : {A B : Type 0} (f : A → B) (P : A → Type 0) (Q : B → Type 0) → ((x : A) → P x → Q (f x)) → (xs : List A) → AllByRecursion P xs → AllByRecursion Q (map f xs)
       mapped f P Q h [] a = tt
@@ -304,7 +306,7 @@ module _ (ds : List Declaration) (r : base_rule.Rule) (u : are_distinct ds ≡ t
   rule_writable = record {
     label = λ v e. label_word (option_map (λ n. n.bytes) r.name) v e limits.0;
     kept = each_so (GoodAtom ds g.n) _ (atom_writable ds g.n g.few) r.kept.items g.kept;
-    some = (let z = (and_parts (nat_lt 0 (length r.removed.items)) (nat_le (length r.kept.items + length r.removed.items) 4) (sized_rule r)).0 in grind (arith, nat_tests));
+    some = (let z = (and_parts (nat_lt 0 (length r.removed.items)) (nat_le (length r.kept.items + length r.removed.items) MAX_HEADS) (sized_rule r)).0 in grind (arith, nat_tests));
     removed = each_so (GoodAtom ds g.n) _ (atom_writable ds g.n g.few) r.removed.items g.removed;
     guard = each_so (GoodComparison g.n) IsWritableComparison (λ c h. record { left = writable g.n g.few c.left h.left; right = writable g.n g.few c.right h.right }) r.guard.items g.guard;
     body = each_so (GoodAtom ds g.n) _ (atom_writable ds g.n g.few) r.body.items g.body;
@@ -325,7 +327,7 @@ rules_clauses ds (r ∷ rs) range u h =
 abbrev Ruled : List Declaration → List Parts → List ℕ → List base_rule.Rule → Type 0
 Ruled ds made ws rs = AreFaultless (state ds made ws) (rule_forms ds rs) × (after (state ds made ws) (rule_forms ds rs) ≡ state ds (made ++ map parts_of rs) ws)
 
-rules_back : (ds : List Declaration) (made : List Parts) (ws : List ℕ) (rs : List base_rule.Rule) → list_all is_in_range ds ≡ true → are_distinct ds ≡ true → list_all (fits ds) rs ≡ true → length made + length rs ≤ 64 → Ruled ds made ws rs
+rules_back : (ds : List Declaration) (made : List Parts) (ws : List ℕ) (rs : List base_rule.Rule) → list_all is_in_range ds ≡ true → are_distinct ds ≡ true → list_all (fits ds) rs ≡ true → length made + length rs ≤ MAX_RULES → Ruled ds made ws rs
 rules_back ds made ws [] range u h l = (tt, ap (λ x. state ds x ws) (sym (append-nil made)))
 rules_back ds made ws (r ∷ rs) range u h l =
     let e = and_parts (fits ds r) (list_all (fits ds) rs) h in
@@ -372,15 +374,15 @@ weights_are (d ∷ ds) h =
 
 -- ---- the text
 
-comes_back : (p : Program) → length (canonical (declarations p) (rules_of p)) ≤ 65536 → text_read (canonical (declarations p) (rules_of p)) ≡ Ok (meaning_of p)
+comes_back : (p : Program) → length (canonical (declarations p) (rules_of p)) ≤ MAX_TEXT → text_read (canonical (declarations p) (rules_of p)) ≡ Ok (meaning_of p)
 comes_back p short =
     let ds = declarations p in let rs = rules_of p in
-    let a = and_parts (nat_le (length ds) 64 && nat_le (length rs) 64 && list_all is_in_range ds && are_distinct ds) (list_all (fits ds) rs) p.well_formed in
-    let b = and_parts (nat_le (length ds) 64 && nat_le (length rs) 64 && list_all is_in_range ds) (are_distinct ds) a.0 in
-    let c = and_parts (nat_le (length ds) 64 && nat_le (length rs) 64) (list_all is_in_range ds) b.0 in
-    let e = and_parts (nat_le (length ds) 64) (nat_le (length rs) 64) c.0 in
-    let few : length ds ≤ 64 = (let e0 = e.0 in grind (arith, nat_tests)) in
-    let few_rules : 0 + length rs ≤ 64 = (let e1 = e.1 in grind (arith, nat_tests)) in
+    let a = and_parts (nat_le (length ds) MAX_SYMBOLS && nat_le (length rs) MAX_RULES && list_all is_in_range ds && are_distinct ds) (list_all (fits ds) rs) p.well_formed in
+    let b = and_parts (nat_le (length ds) MAX_SYMBOLS && nat_le (length rs) MAX_RULES && list_all is_in_range ds) (are_distinct ds) a.0 in
+    let c = and_parts (nat_le (length ds) MAX_SYMBOLS && nat_le (length rs) MAX_RULES) (list_all is_in_range ds) b.0 in
+    let e = and_parts (nat_le (length ds) MAX_SYMBOLS) (nat_le (length rs) MAX_RULES) c.0 in
+    let few : length ds ≤ MAX_SYMBOLS = (let e0 = e.0 in grind (arith, nat_tests)) in
+    let few_rules : 0 + length rs ≤ MAX_RULES = (let e1 = e.1 in grind (arith, nat_tests)) in
     let range = c.1 in let u = b.1 in
     let first = declarations_back ds few range u in
     let second = weights_back ds range u in

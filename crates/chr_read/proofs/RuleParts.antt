@@ -4,6 +4,7 @@ use Rattle.std.specs.Prelude.{option_to_list}
 use Rattle.std.specs.List.{list_any, flat_map}
 use Rattle.std.proofs.Math.Bool.{or_assoc, or-false}
 use Rattle.std.proofs.lemmas.List.Folds.{list_any-append}
+use Rattle.chr_base.specs.declared.limits.TheConstants.{MAX_BODY, MAX_COMPARISONS, MAX_HEADS}
 use Rattle.chr_base.specs.ProgramTests.{Declaration}
 use Rattle.chr_syntax.specs.Clauses.{Term, Atom, Symbol, Comparison, Rule, variable, number}
 use Rattle.chr_read.specs.Faults.{present, rule_heads, rule_atoms, args_of, right_terms, written_terms, is_undeclared, is_same_symbol, comes_twice, is_long, is_long_variable, atom_over, rule_over, is_anonymous, is_named, is_unbound, is_outside}
@@ -108,10 +109,10 @@ parts_are r =
 
 pub over_is : (r : Rule) → some_part_over r ≡ rule_over r
 over_is r =
-    let heads = nat_lt 4 (length r.kept + length r.removed) in
-    let guard = nat_lt 8 (length (present r.guard)) in
-    let body = nat_lt 8 (length (present r.body)) in
-    let n : heads ≡ nat_lt 4 (length (rule_heads r)) = ap (nat_lt 4) (sym (length-append r.kept r.removed)) in
+    let heads = nat_lt MAX_HEADS (length r.kept + length r.removed) in
+    let guard = nat_lt MAX_COMPARISONS (length (present r.guard)) in
+    let body = nat_lt MAX_BODY (length (present r.body)) in
+    let n : heads ≡ nat_lt MAX_HEADS (length (rule_heads r)) = ap (nat_lt MAX_HEADS) (sym (length-append r.kept r.removed)) in
     let l = label_is r.label in let q = parts_are r in
     or_assoc heads (guard || body) _ ∙ ap (λ b. heads || b) (or_assoc guard body _)
     ∙ λ i. n i || (guard || (body || (l i || q i)))

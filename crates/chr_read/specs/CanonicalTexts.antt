@@ -74,7 +74,8 @@ body_text ds (p ∷ ps) = patterns_text ds (p ∷ ps)
 abbrev pub rule_clause : List Declaration → Rule → List ℕ
 rule_clause ds r =
     label_text (option_map (λ n. n.bytes) r.name)
-    ++ (kept_text ds r.kept.items ++ (patterns_text ds r.removed.items ++ (codes " <=> " ++ (guard_text r.guard.items ++ body_text ds r.body.items))))
+    ++ (kept_text ds r.kept.items ++ (patterns_text ds r.removed.items
+    ++ (codes " <=> " ++ (guard_text r.guard.items ++ body_text ds r.body.items))))
 
 -- ---- declarations
 
@@ -96,7 +97,7 @@ weight_clauses (d ∷ ds) = if d.weight == 1 then weight_clauses ds else weight_
 
 -- ---- the text
 
--- the clauses, without their ends: all declarations in one, a weight for each symbol whose weight isn't 1, and the rules
+-- the clauses, without their ends: all declarations in one, one for each weight that isn't 1, and the rules
 abbrev pub clauses : List Declaration → List Rule → List (List ℕ)
 clauses ds rs = declaration_clauses ds ++ (weight_clauses ds ++ map (rule_clause ds) rs)
 

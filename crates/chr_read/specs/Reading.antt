@@ -13,11 +13,14 @@ declared_symbol s = record { name = s.name; arity = unwrap_or (arity_of s.arity)
 -- what the clauses before it made, and a clause of this form
 abbrev pub with_form : Progress → Form → Progress
 with_form q use_module = q
-with_form q (declare ss) = record q { meaning = record q.meaning { declarations = q.meaning.declarations ++ map declared_symbol ss } }
+with_form q (declare ss) =
+    record q { meaning = record q.meaning { declarations = q.meaning.declarations ++ map declared_symbol ss } }
 with_form q (weight s w) =
-    let i = unwrap_or (place_of_symbol q.meaning.declarations s) 0 in record {
-      meaning = record q.meaning { declarations = with_weight q.meaning.declarations i (unwrap_or (weight_named_by w) 1) };
+    let i = unwrap_or (place_of_symbol q.meaning.declarations s) 0 in
+    let n = unwrap_or (weight_named_by w) 1 in record {
+      meaning = record q.meaning { declarations = with_weight q.meaning.declarations i n };
       weighed = q.weighed ++ i ∷ [];
     }
-with_form q (rule r) = record q { meaning = record q.meaning { rules = q.meaning.rules ++ resolved q.meaning.declarations r ∷ [] } }
+with_form q (rule r) =
+    record q { meaning = record q.meaning { rules = q.meaning.rules ++ resolved q.meaning.declarations r ∷ [] } }
 with_form q (propagation r) = q

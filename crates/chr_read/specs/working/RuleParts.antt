@@ -47,7 +47,9 @@ label_over None = false
 label_over (Some w) = is_long w
 
 abbrev pub has_long_lists : Rule → Bool
-has_long_lists r = nat_lt MAX_HEADS (length r.kept + length r.removed) || (nat_lt MAX_COMPARISONS (length (present r.guard)) || nat_lt MAX_BODY (length (present r.body)))
+has_long_lists r =
+    nat_lt MAX_HEADS (length r.kept + length r.removed)
+    || (nat_lt MAX_COMPARISONS (length (present r.guard)) || nat_lt MAX_BODY (length (present r.body)))
 
 abbrev pub parts_over : Rule → Bool
 parts_over r =
@@ -88,7 +90,8 @@ comparison_outside c = is_outside c.left || is_outside c.right
 
 abbrev pub rule_outside : Rule → Bool
 rule_outside r =
-    list_any atom_outside r.kept || (list_any atom_outside r.removed || (list_any comparison_outside (present r.guard) || list_any atom_outside (present r.body)))
+    list_any atom_outside r.kept || (list_any atom_outside r.removed
+    || (list_any comparison_outside (present r.guard) || list_any atom_outside (present r.body)))
 
 -- ---- weights
 
