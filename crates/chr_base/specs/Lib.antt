@@ -6,6 +6,7 @@ pub mod Values
 pub mod Names
 pub mod RuleTests
 pub mod Rules
+pub mod Weights
 pub mod ProgramTests
 pub mod Programs
 pub mod Sameness
