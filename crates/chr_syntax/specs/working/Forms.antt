@@ -197,9 +197,19 @@ symbol_in ts = option_and_then (λ p. option_map (λ q. record { name = q.0; ari
 abbrev pub symbols_in : List Tok → Option (List Symbol)
 symbols_in ts = each_item symbol_in ts
 
--- a symbol, `=` and a number
+-- one number, or two with a comma between
+abbrev pub numbers_in : List Tok → Option (List ℕ × Option (List ℕ))
+numbers_in (number v ∷ []) = Some (v, None)
+numbers_in (number v ∷ sign s.Comma ∷ number w ∷ []) = Some (v, Some w)
+numbers_in _ = None
+
+-- a weight, from what stands before the sign `=` and after it
+abbrev pub weight_of : List Tok × List Tok → Option Form
+weight_of p = option_map (λ q. weight q.0 q.1.0 q.1.1) (both (symbol_in p.0) (numbers_in p.1))
+
+-- a symbol, `=`, and one number or two
 abbrev pub weight_from : List Tok → Option Form
-weight_from ts = option_and_then (λ p. option_map (λ q. weight q.0 q.1) (both (symbol_in p.0) (digits_in p.1))) (cut_at s.Equals ts)
+weight_from ts = option_and_then weight_of (cut_at s.Equals ts)
 
 -- the word `library`, and what stands between parentheses after it
 abbrev pub library_in : List Tok → Option (List Tok)

@@ -1,9 +1,7 @@
 -- The tokens of a clause as they are found, each the longest that fits, and the bytes before its full stop.
-use Rattle.std.specs.Prelude.{ℕ, zero, suc, not, ◌+◌, ◌-◌, List, [], ◌∷◌, take, Bool, ◌==◌, ◌&&◌, ◌||◌, nat_le, nat_lt, nat_eq, if◌then◌else◌, Option, Some, None, option_map, codes}
+use Rattle.std.specs.Prelude.{ℕ, zero, suc, not, ◌+◌, ◌-◌, List, [], ◌∷◌, take, ◌==◌, ◌||◌, nat_lt, nat_eq, if◌then◌else◌, Option, Some, None, option_map, codes}
 use Rattle.std.specs.List.{prefix_len, starts_with}
-use Rattle.chr_syntax.specs.declared.clause.Comparator.{Comparator}
 use Rattle.chr_syntax.specs.declared.clause.Comparator.TheVariants as c
-use Rattle.chr_syntax.specs.declared.token.Sign.{Sign}
 use Rattle.chr_syntax.specs.declared.token.Sign.TheVariants as s
 use Rattle.chr_syntax.specs.Bytes.{is_layout, is_stop}
 use Rattle.chr_base.specs.Names.{is_digit, is_lower, is_upper, is_word_byte}

@@ -5,17 +5,8 @@ use Rattle.chr_syntax.specs.declared.token.Token.{Token}
 use Rattle.chr_syntax.specs.declared.token.Token.TheVariants as t
 use Rattle.chr_syntax.specs.declared.form.Heads.{Heads}
 use Rattle.chr_syntax.specs.declared.form.Right.{Right}
-use Rattle.chr_syntax.specs.declared.clause.RawTerm.{RawTerm}
-use Rattle.chr_syntax.specs.declared.clause.RawTerm.TheVariants as raw
-use Rattle.chr_syntax.specs.declared.clause.RawAtom.{RawAtom}
-use Rattle.chr_syntax.specs.declared.clause.RawSymbol.{RawSymbol}
-use Rattle.chr_syntax.specs.declared.clause.RawComparison.{RawComparison}
-use Rattle.chr_syntax.specs.declared.clause.RawRule.{RawRule}
-use Rattle.chr_syntax.specs.declared.clause.RawClause.{RawClause}
-use Rattle.chr_syntax.specs.declared.clause.RawClause.TheVariants as c
 use Rattle.chr_syntax.specs.Tokens.{Tok, name, variable, number, compare, sign}
-use Rattle.chr_syntax.specs.Clauses.{Term, Atom, Symbol, Comparison, Rule, Form, use_module, declare, weight, rule, propagation}
-use Rattle.chr_syntax.specs.Clauses as clauses
+use Rattle.chr_syntax.specs.Clauses.{Atom, Comparison}
 use Rattle.chr_syntax.specs.Views.{atom_view, comparison_view}
 
 abbrev pub token_view : Token → Tok
