@@ -23,7 +23,7 @@ use Rattle.chr_base.specs.Rules.{heads_of}
 use Rattle.chr_base.proofs.Instances.{sized_rule, closed_rule, numbered_rule, few_rule, valued_rule}
 use Rattle.chr_base.specs.Programs.{declarations, rules_of}
 use Rattle.chr_base.specs.ProgramTests.{Declaration, is_declared, fits, are_distinct, is_in_range}
-use Rattle.chr_syntax.specs.Clauses.{Rule, weight, rule}
+use Rattle.chr_syntax.specs.Clauses.{Rule, rule}
 use Rattle.chr_syntax.specs.Grammar.{spelled, IsSymbol, OneOrMore, IsForm}
 use Rattle.chr_syntax.specs.working.Spellings.{IsLabel, IsAtom, IsItem}
 use Rattle.chr_syntax.specs.Bytes.{pieces}
@@ -31,7 +31,7 @@ use Rattle.chr_base.specs.Names.{is_lower, is_digit}
 use Rattle.chr_syntax.specs.working.Tokens.{tokens_of}
 use Rattle.chr_syntax.specs.Lexemes.{IsWord}
 use Rattle.chr_read.specs.declared.reader.TheConstants.{MAX_TEXT}
-use Rattle.chr_read.specs.CanonicalTexts.{declaration_clauses, weight_clause, weight_clauses, rule_clause, clauses, canonical}
+use Rattle.chr_read.specs.CanonicalTexts.{declaration_clauses, weight_clause, weight_clauses, is_default, rule_clause, clauses, canonical}
 use Rattle.chr_base.specs.Sameness.{Parts, parts_of}
 use Rattle.chr_read.specs.Meanings.{Progress, nothing, meaning_of}
 use Rattle.chr_read.specs.Faults.{present, is_undeclared, is_anonymous, rule_atoms, right_terms, written_terms as terms_in, rule_over, is_unbound, is_outside}
@@ -50,7 +50,7 @@ use Rattle.chr_read.proofs.Numbering.{itself, terms_append}
 use Rattle.chr_read.proofs.RulesBack.{each_so, tested, none_pass, any_pass, same_each, present_map, present_body, placed, Good, writable, within, inside, bounds, numbered_split, good_term, GoodAtom, atom_within, atom_inside, atom_declared, atom_writable, atom_form, body_atom_back, heads_back, GoodComparison, comparison_back}
 use Rattle.chr_read.specs.RoundTrips.{ProgramsComeBack}
 use Rattle.chr_read.proofs.TextsRead.{programs, short_read}
-use Rattle.chr_read.proofs.WrittenForms.{written_term, written_atom, written_comparison, written_body, written_rule, written_symbol, declaration_forms, weight_forms, rule_forms}
+use Rattle.chr_read.proofs.WrittenForms.{written_term, written_atom, written_comparison, written_body, written_rule, written_symbol, written_weight, declaration_forms, weight_forms, rule_forms}
 use Rattle.chr_read.proofs.WrittenTokens.{IsWritableComparison, IsWritableRule, IsWritableSymbol, rule_tokens, declaration_tokens, weight_tokens}
 
 -- ---- what is known of a rule of a program
@@ -364,11 +364,11 @@ declaration_is (d ∷ ds) h = (declaration_tokens d ds (tested is_in_range IsWri
 weights_are : (ds : List Declaration) → list_all is_in_range ds ≡ true → AreClauses (weight_clauses ds) (weight_forms ds)
 weights_are [] h = tt
 weights_are (d ∷ ds) h =
-    let e = and_parts (is_in_range d) (list_all is_in_range ds) h in let r = in_range d e.0 in let m = r.most in
-    by (d.weight == 1) (weight_tokens d (symbol_writable d r) (omega (arith, m)), symbol_form d r) (weights_are ds e.1)
+    let e = and_parts (is_in_range d) (list_all is_in_range ds) h in let r = in_range d e.0 in let m = r.first in let n = r.second in
+    by (is_default d.weight) (weight_tokens d (symbol_writable d r) record { first = omega (arith, m); second = omega (arith, n) }, symbol_form d r) (weights_are ds e.1)
   where
-    by : (t : Bool) → (tokens_of (weight_clause d) ≡ Some (spelled (weight (written_symbol d) (decimal d.weight)))) × IsForm (weight (written_symbol d) (decimal d.weight)) → AreClauses (weight_clauses ds) (weight_forms ds)
-        → AreClauses (cond t (weight_clauses ds) (weight_clause d ∷ weight_clauses ds)) (cond t (weight_forms ds) (weight (written_symbol d) (decimal d.weight) ∷ weight_forms ds))
+    by : (t : Bool) → (tokens_of (weight_clause d) ≡ Some (spelled (written_weight d))) × IsForm (written_weight d) → AreClauses (weight_clauses ds) (weight_forms ds)
+        → AreClauses (cond t (weight_clauses ds) (weight_clause d ∷ weight_clauses ds)) (cond t (weight_forms ds) (written_weight d ∷ weight_forms ds))
     by true one more = more
     by false one more = (one.0, one.1, more)
 

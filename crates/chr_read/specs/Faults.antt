@@ -6,7 +6,7 @@ use Rattle.std.specs.Str.{bytes_eq}
 use Rattle.chr_base.specs.declared.limits.TheConstants.{MAX_ARITY, MAX_BODY, MAX_COMPARISONS, MAX_HEADS, MAX_NAME, MAX_RULES, MAX_SYMBOLS}
 use Rattle.chr_base.specs.ProgramTests.{Declaration, declares}
 use Rattle.chr_syntax.specs.Clauses.{Term, Atom, Symbol, Rule, Form, variable, number, declare, weight, rule, propagation}
-use Rattle.chr_read.specs.Numbers.{without_zeros, arity_of, number_of, weight_named_by}
+use Rattle.chr_read.specs.Numbers.{without_zeros, arity_of, number_of, weight_outside, weight_named_by}
 use Rattle.chr_read.specs.Meanings.{Progress}
 use Rattle.chr_read.specs.declared.fault.Fault.{Fault}
 use Rattle.chr_read.specs.declared.fault.Fault.TheVariants as fault
@@ -102,7 +102,7 @@ is_weighed q s = option_map_or (λ i. list_any (nat_eq i) q.weighed) (place_of_s
 -- whether a clause of this form has this fault, after what the clauses before it made
 abbrev pub fault_test : Fault → Progress → Form → Bool
 fault_test fault.Propagation q (propagation r) = true
-fault_test fault.Undeclared q (weight s w) = is_none (place_of_symbol q.meaning.declarations s)
+fault_test fault.Undeclared q (weight s first second) = is_none (place_of_symbol q.meaning.declarations s)
 fault_test fault.Undeclared q (rule r) = list_any (is_undeclared q.meaning.declarations) (rule_atoms r)
 fault_test fault.DeclaredTwice q (declare ss) =
     list_any (λ s. is_some (place_of_symbol q.meaning.declarations s)) ss || comes_twice ss
@@ -110,7 +110,7 @@ fault_test fault.Limit q (declare ss) =
     nat_lt MAX_SYMBOLS (length q.meaning.declarations + length ss) || list_any symbol_over ss
 fault_test fault.Limit q (rule r) = nat_le MAX_RULES (length q.meaning.rules) || rule_over r
 fault_test fault.Unbound q (rule r) = list_any (is_unbound r) (right_terms r)
-fault_test fault.NumberRange q (weight s w) = is_none (number_of w)
+fault_test fault.NumberRange q (weight s first second) = weight_outside first second
 fault_test fault.NumberRange q (rule r) = list_any is_outside (written_terms r)
-fault_test fault.WeightFault q (weight s w) = is_none (weight_named_by w) || is_weighed q s
+fault_test fault.WeightFault q (weight s first second) = is_none (weight_named_by first second) || is_weighed q s
 fault_test _ q f = false

@@ -59,13 +59,20 @@ fn add_symbols(program: &mut Program, symbols: &[RawSymbol<'_>]) -> Result<(), A
 }
 
 /// Gives a symbol its weight, and notes that it has one.
-fn add_weight(reader: &mut Reader, symbol: &RawSymbol<'_>, digits: &[u8]) -> Result<(), AllocError>
-    requires { fault_in (progress_of reader.old) (weight (symbol_view symbol.now) digits.now) ≡ None }
-    ensures { OnOk result (progress_of reader.new
-        ≡ with_form (progress_of reader.old) (weight (symbol_view symbol.now) digits.now)) }
+#[tactic(auto, using(crate::proofs::Numbers::named_is_weight))]
+fn add_weight(
+    reader: &mut Reader,
+    symbol: &RawSymbol<'_>,
+    first: &[u8],
+    second: Option<&[u8]>,
+) -> Result<(), AllocError>
+    requires { fault_in (progress_of reader.old)
+        (weight (symbol_view symbol.now) first.now (option_map (λ w. w.now) second)) ≡ None }
+    ensures { OnOk result (progress_of reader.new ≡ with_form (progress_of reader.old)
+        (weight (symbol_view symbol.now) first.now (option_map (λ w. w.now) second.entry))) }
 {
     let place = place_of_symbol(&reader.program, symbol).unwrap();
-    let weight = weight_named_by(digits).unwrap();
+    let weight = weight_named_by(first, second).unwrap();
     reader.weighed.push(place)?;
     reader.program.set_weight(place, weight);
     Ok(())
@@ -140,7 +147,11 @@ pub fn add_clause(
     match clause {
         RawClause::UseModule => Ok(()),
         RawClause::Declare(symbols) => add_symbols(&mut reader.program, symbols),
-        RawClause::Weight { symbol, weight } => add_weight(reader, symbol, weight),
+        RawClause::Weight {
+            symbol,
+            first,
+            second,
+        } => add_weight(reader, symbol, first, *second),
         RawClause::Rule(rule) => add_rule(alloc, reader, rule),
         RawClause::Propagation(_) => Ok(()),
     }

@@ -135,8 +135,8 @@ fn read_text(alloc: Global, text: &[u8]) -> Result<Program, ReadFault>
 ///
 /// # Errors
 ///
-/// `TooLong` exactly where the text has more than `MAX_TEXT` bytes, which needs no memory; else `Bad` with the first bad
-/// clause, counted from 1, and its least fault; `Memory` where an allocation was refused.
+/// `TooLong` exactly where the text has more than `MAX_TEXT` bytes, which needs no memory; else `Bad` with the first
+/// bad clause, counted from 1, and its least fault; `Memory` where an allocation was refused.
 #[tactic(auto, using(crate::proofs::TextsRead::answers))]
 pub fn read(alloc: Global, text: &[u8]) -> Result<Program, ReadFault>
     ensures { IsAnswer text.now result }

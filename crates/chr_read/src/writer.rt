@@ -9,9 +9,10 @@ ghost use Rattle.chr_read.specs.working.Views.{declared_view};
 use arrayvec::ArrayString;
 use chr_base::atom::SymbolId;
 use chr_base::limits::MAX_NAME;
-use chr_base::program::{DEFAULT_WEIGHT, Program};
+use chr_base::program::Program;
 use chr_base::rule::Rule;
 use chr_base::term::{Cmp, Comparison, Pattern, Term};
+use chr_base::weight::{DEFAULT_WEIGHT, Weight};
 use std::alloc::{AllocError, Global};
 use std::fmt::Write;
 
@@ -206,7 +207,7 @@ fn push_rules(out: &mut String, program: &Program, rules: &[Rule]) -> Result<(),
 struct Declared<'a> {
     name: &'a str,
     arity: usize,
-    weight: u32,
+    weight: Weight,
 }
 
 fn declaration(program: &Program, symbol: SymbolId) -> Declared<'_>
@@ -270,7 +271,9 @@ fn push_weight(out: &mut String, declared: &Declared<'_>) -> Result<(), AllocErr
     if declared.weight != DEFAULT_WEIGHT {
         out.push_str(":- chr_weight ")?;
         push_symbol(out, declared)?;
-        write!(out, " = {}.\n", declared.weight)?;
+        out.push_str(" = ")?;
+        declared.weight.push_text(out, declared.weight.is_paired())?;
+        out.push_str(".\n")?;
     }
     Ok(())
 }
@@ -285,8 +288,8 @@ fn push_weights(out: &mut String, all: &[Declared<'_>]) -> Result<(), AllocError
     Ok(())
 }
 
-/// The canonical text of a program: its declarations in one line, a line for each weight that isn't 1, and a line for
-/// each rule, whose variables are `V1`, `V2`, ..
+/// The canonical text of a program: its declarations in one line, a line for each weight that isn't the default, whose
+/// second number is left out where it is 0, and a line for each rule, whose variables are `V1`, `V2`, ..
 ///
 /// Where it has at most 65,536 bytes, reading it gives the same program.
 pub fn write(alloc: Global, program: &Program) -> Result<String, AllocError>

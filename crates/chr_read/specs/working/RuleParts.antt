@@ -98,8 +98,9 @@ rule_outside r =
 abbrev pub is_among : List ℕ → Option ℕ → Bool
 is_among places o = option_map_or (λ i. list_any (nat_eq i) places) o false
 
-abbrev pub weight_bad : Progress → Symbol → List ℕ → Bool
-weight_bad q s w = is_none (weight_named_by w) || is_among q.weighed (place_of_symbol q.meaning.declarations s)
+abbrev pub weight_bad : Progress → Symbol → List ℕ → Option (List ℕ) → Bool
+weight_bad q s first second =
+    is_none (weight_named_by first second) || is_among q.weighed (place_of_symbol q.meaning.declarations s)
 
 -- ---- rules
 
