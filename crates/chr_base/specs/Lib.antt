@@ -3,6 +3,7 @@ pub mod Rewriting
 pub mod Atoms
 pub mod Stores
 pub mod Values
+pub mod Traversals
 pub mod Names
 pub mod RuleTests
 pub mod Rules

@@ -26,3 +26,6 @@ pub const MAX_RULES: usize = 64;
 
 /// The greatest first and the greatest second number of a symbol's weight.
 pub const MAX_WEIGHT: u64 = 1_000_000;
+
+/// The greatest number of atoms of an operation.
+pub const MAX_OPERATION: usize = 64;

@@ -128,7 +128,10 @@ fn pattern(symbol: u16, terms: &[Term]) -> Pattern
 /// `p(X, X, 3) \ q(Y) <=> X cmp Y | r(Y, X), r(8, X)`, where `p`, `q` and `r` are the first, second and third symbol.
 #[tactic(auto, unfolding(crate::specs::RuleTests::is_in_bounds))]
 fn two_heads(cmp: Cmp) -> Rule
-    ensures { IsTrue (fits (record { name = codes "p"; arity = 3; weight = 1 } ∷ record { name = codes "q"; arity = 1; weight = 1 } ∷ record { name = codes "r"; arity = 2; weight = 1 } ∷ []) result) }
+    ensures { IsTrue (fits (record { name = codes "p"; arity = 3; weight = 1 }
+        ∷ record { name = codes "q"; arity = 1; weight = 1 }
+        ∷ record { name = codes "r"; arity = 2; weight = 1 }
+        ∷ []) result) }
 {
     let x = Term::Variable(1);
     let y = Term::Variable(2);

@@ -17,7 +17,8 @@ SameSymbols qs [] (p ∷ ps) = ⊥
 SameSymbols qs (e ∷ m) [] = ⊥
 SameSymbols qs (zero ∷ m) (p ∷ ps) = SameSymbols qs m ps
 SameSymbols qs (suc k ∷ m) (p ∷ ps) =
-    ((q : Pattern) × (slice_get qs k ≡ Some q) × (p.symbol.0 ≡ q.symbol.0) × (length p.args.items ≡ length q.args.items))
+    ((q : Pattern) × (slice_get qs k ≡ Some q)
+    × (p.symbol.0 ≡ q.symbol.0) × (length p.args.items ≡ length q.args.items))
     × SameSymbols qs m ps
 
 -- a matching of the heads of two rules, of which a matched one is removed in its rule

@@ -90,7 +90,8 @@ fn class_heads(classes: &Classes, rule: &Rule, shift: u8) -> ArrayVec<Pattern, M
 pub(crate) fn unify(first: &Rule, second: &Rule, matching: &[u8]) -> Option<Unified>
     requires { SameSymbols (heads_of second.now) matching.now (heads_of first.now) }
     ensures none { IfNone result (HasNoUnifier (equations_of first.now second.now matching.now)) }
-    ensures solves { IfSome result (λ u. IsMostGeneralUnifier (classes_of u) (equations_of first.now second.now matching.now)) }
+    ensures solves { IfSome result (λ u.
+        IsMostGeneralUnifier (classes_of u) (equations_of first.now second.now matching.now)) }
     ensures unified { IfSome result (λ u. IsUnified first.now second.now u) }
 {
     let shift = variables(first);
