@@ -1,5 +1,5 @@
 -- Numbers that are printed are read again.
-use Rattle.std.proofs.Common.{◌≡◌, ℕ, zero, suc, ◌+◌, ◌^◌, ◌<◌, ◌≤◌, List, [], ◌∷◌, length, true, false, not, cond, ◌==◌, nat_lt, nat_le, nat_eq, Bool, Option, Some, None, option_and_then, inl, inr, refl, sym, ap, ◌∙◌, arith}
+use Rattle.std.proofs.Common.{◌≡◌, ℕ, zero, suc, ◌+◌, ◌^◌, ◌<◌, ◌≤◌, List, [], ◌∷◌, length, true, false, not, cond, ◌==◌, nat_lt, nat_le, nat_eq, Bool, Some, None, option_and_then, inl, inr, refl, sym, ap, ◌∙◌, arith}
 use Rattle.std.specs.Prelude.{ℤ, pos, negsuc, neg_ℤ, int_le, decimal}
 use Rattle.std.specs.Fmt.{signed_decimal}
 use Rattle.std.specs.List.{list_all}
@@ -10,7 +10,7 @@ use Rattle.std.proofs.lemmas.Bool.{eqb-true, and_from, and_parts}
 use Rattle.chr_base.specs.declared.limits.TheConstants.{MAX_ARITY, MAX_WEIGHT}
 use Rattle.chr_base.specs.declared.weight.Weight.{Weight}
 use Rattle.chr_base.specs.Values.{is_value}
-use Rattle.chr_base.specs.Weights.{is_weight, is_paired}
+use Rattle.chr_base.specs.Weights.{is_weight}
 use Rattle.chr_syntax.specs.Lexemes.{IsDigits, IsNumber}
 use Rattle.chr_base.specs.Names.{is_digit}
 use Rattle.chr_read.specs.Numbers.{is_numeral, signed, number_of, arity_of, second_number_of, as_weight, weight_named_by}

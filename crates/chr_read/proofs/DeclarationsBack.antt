@@ -1,8 +1,8 @@
 -- The clauses of declarations and weights are read as the declarations that they were written for.
-use Rattle.std.proofs.Common.{◌≡◌, ℕ, suc, ◌+◌, ◌≤◌, List, [], ◌∷◌, ◌++◌, length, map, Bool, true, false, not, cond, ◌||◌, ◌&&◌, nat_lt, nat_le, nat_eq, Option, Some, None, option_map, option_and_then, unwrap_or, position, is_some, is_none, refl, sym, ap, ◌∙◌, subst, append_assoc, length-append, arith}
+use Rattle.std.proofs.Common.{◌≡◌, ℕ, suc, ◌+◌, ◌≤◌, List, [], ◌∷◌, ◌++◌, length, map, Bool, true, false, not, cond, ◌||◌, ◌&&◌, nat_lt, nat_le, nat_eq, Option, Some, None, option_map, option_and_then, unwrap_or, is_some, is_none, refl, sym, ap, ◌∙◌, subst, append_assoc, length-append, arith}
 use Rattle.std.specs.Prelude.{decimal}
 use Rattle.std.specs.List.{list_any, list_all}
-use Rattle.std.specs.Str.{bytes_eq, is_utf8}
+use Rattle.std.specs.Str.{bytes_eq}
 use Rattle.std.proofs.lemmas.Bool.{false≢true, leb-true, eqb-true, eq-eqb, or_parts, and_from, and_parts, or_from, not-true}
 use Rattle.std.proofs.lemmas.Bool.Decides.{nat_tests}
 use Rattle.std.proofs.lemmas.List.{length-map}
@@ -21,12 +21,11 @@ use Rattle.chr_base.specs.Sameness.{Parts}
 use Rattle.chr_read.specs.CanonicalTexts.{is_default}
 use Rattle.chr_read.specs.Meanings.{Progress, nothing}
 use Rattle.chr_read.specs.Faults.{is_long, place_of_symbol, comes_twice, is_same_symbol, symbol_over}
-use Rattle.chr_read.specs.working.RuleParts.{place_of, is_among, is_declared_already, comes_again, declared_twice, weight_bad}
+use Rattle.chr_read.specs.working.RuleParts.{place_of, is_among, is_declared_already, comes_again, weight_bad}
 use Rattle.chr_read.specs.working.TextsRead.{fault_in}
 use Rattle.chr_read.specs.Reading.{declared_symbol, with_form}
 use Rattle.chr_read.proofs.Decimals.{arity_back, second_back, weight_back, weight_number}
 use Rattle.chr_read.proofs.EndedTexts.{after, AreFaultless}
-use Rattle.chr_read.proofs.NamesText.{name_text}
 use Rattle.chr_read.proofs.Numbering.{itself}
 use Rattle.chr_read.proofs.PlainBytes.{from_test}
 use Rattle.chr_read.proofs.Positions.{place, position_is}

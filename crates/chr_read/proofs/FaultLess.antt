@@ -7,7 +7,7 @@ use Rattle.chr_base.specs.declared.limits.TheConstants.{MAX_RULES, MAX_SYMBOLS}
 use Rattle.chr_syntax.specs.Clauses.{Symbol, Rule, declare, rule}
 use Rattle.chr_read.specs.declared.fault.Fault.{Fault}
 use Rattle.chr_read.specs.declared.fault.Fault.TheVariants as fault
-use Rattle.chr_read.specs.working.RuleParts.{is_declared_already, comes_again, declared_twice, rule_undeclared, some_part_over, rule_unbound, rule_outside}
+use Rattle.chr_read.specs.working.RuleParts.{is_declared_already, declared_twice, rule_undeclared, some_part_over, rule_unbound, rule_outside}
 use Rattle.chr_read.specs.Faults.{symbol_over, comes_twice, rule_over, rule_atoms, right_terms, is_undeclared, is_unbound}
 use Rattle.chr_read.specs.working.TextsRead.{fault_in}
 use Rattle.chr_read.specs.Meanings.{Progress}

@@ -11,7 +11,7 @@ use Rattle.chr_syntax.specs.declared.token.Sign.TheVariants as s
 use Rattle.chr_syntax.specs.Tokens.{Tok, name, variable, number, compare, sign}
 use Rattle.chr_base.specs.Names.{is_lower, is_word_byte}
 use Rattle.chr_syntax.specs.Clauses.{Atom, Symbol, Comparison, Form, use_module, declare, weight, rule, propagation}
-use Rattle.chr_syntax.specs.Grammar.{IsUnreserved, IsSymbol, OneOrMore, IsForm, with_commas, spelled_list, spelled_atom, spelled_item, spelled_comparison, spelled_heads, spelled_right, spelled_label, spelled_symbol, spelled}
+use Rattle.chr_syntax.specs.Grammar.{IsUnreserved, IsSymbol, IsForm, with_commas, spelled_list, spelled_atom, spelled_item, spelled_comparison, spelled_heads, spelled_right, spelled_label, spelled_symbol, spelled}
 use Rattle.chr_syntax.specs.working.Spellings.{spelled_atoms, IsLabel, IsAtom, IsItem, spelled_body}
 use Rattle.chr_syntax.specs.Lexemes.{AllAre, IsWord, IsLexeme, AreTokens}
 use Rattle.chr_syntax.proofs.Spelled.{all_some}

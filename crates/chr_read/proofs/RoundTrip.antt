@@ -1,5 +1,5 @@
 -- The canonical text of a program is read as the program.
-use Rattle.std.proofs.Common.{◌≡◌, ℕ, ◌+◌, ◌*◌, ◌<◌, ◌≤◌, List, [], ◌∷◌, ◌++◌, length, map, Bool, true, false, not, cond, ◌==◌, ◌||◌, ◌&&◌, nat_lt, nat_le, nat_eq, Option, Some, None, Ok, option_map, is_some, refl, sym, ap, ◌∙◌, subst, append_assoc, append-nil, length-append, arith}
+use Rattle.std.proofs.Common.{◌≡◌, ℕ, ◌+◌, ◌*◌, ◌<◌, ◌≤◌, List, [], ◌∷◌, ◌++◌, length, map, Bool, true, false, not, cond, ◌==◌, ◌||◌, ◌&&◌, nat_lt, nat_le, Option, Some, None, Ok, option_map, is_some, refl, sym, ap, ◌∙◌, subst, append_assoc, append-nil, length-append, arith}
 use Rattle.std.specs.Prelude.{decimal}
 use Rattle.std.specs.List.{list_any, list_all, AllByRecursion}
 use Rattle.std.specs.Str.{bytes_eq}
@@ -20,6 +20,7 @@ use Rattle.chr_base.specs.Names as names
 use Rattle.chr_base.specs.RuleTests as rules
 use Rattle.chr_base.specs.RuleTests.{occurs, is_bound_in, is_closed, terms_of, numbered, is_numbered, is_valued, are_valued}
 use Rattle.chr_base.specs.Rules.{heads_of}
+use Rattle.chr_base.proofs.Terms.{terms_of-append}
 use Rattle.chr_base.proofs.Instances.{sized_rule, closed_rule, numbered_rule, few_rule, valued_rule}
 use Rattle.chr_base.specs.Programs.{declarations, rules_of}
 use Rattle.chr_base.specs.ProgramTests.{Declaration, is_declared, fits, are_distinct, is_in_range}
@@ -35,7 +36,7 @@ use Rattle.chr_read.specs.CanonicalTexts.{declaration_clauses, weight_clause, we
 use Rattle.chr_base.specs.Sameness.{Parts, parts_of}
 use Rattle.chr_read.specs.Meanings.{Progress, nothing, meaning_of}
 use Rattle.chr_read.specs.Faults.{present, is_undeclared, is_anonymous, rule_atoms, right_terms, written_terms as terms_in, rule_over, is_unbound, is_outside}
-use Rattle.chr_read.specs.working.RuleParts.{any_undeclared, rule_undeclared, parts_of_atom_over, comparison_over, label_over, has_long_lists, parts_over, some_part_over, stands_in, is_bound, term_unbound, atom_unbound, comparison_unbound, rule_unbound, atom_outside, comparison_outside, rule_outside}
+use Rattle.chr_read.specs.working.RuleParts.{any_undeclared, rule_undeclared, parts_of_atom_over, comparison_over, label_over, has_long_lists, parts_over, some_part_over, stands_in, term_unbound, atom_unbound, comparison_unbound, rule_unbound, atom_outside, comparison_outside, rule_outside}
 use Rattle.chr_read.specs.working.TextsRead.{fault_in, meaning_in, pieces_read, text_read}
 use Rattle.chr_read.specs.Faults as faults
 use Rattle.chr_read.specs.Reading.{with_form}
@@ -46,7 +47,7 @@ use Rattle.chr_read.proofs.EndedTexts.{AreClauses, clauses_append, after, AreFau
 use Rattle.chr_read.proofs.NamesText.{front, back}
 use Rattle.chr_read.proofs.NumberedNames.{first_names, variable_name}
 use Rattle.chr_read.proofs.RuleParts.{undeclared_is, over_is, unbound_is, outside_is}
-use Rattle.chr_read.proofs.Numbering.{itself, terms_append}
+use Rattle.chr_read.proofs.Numbering.{itself}
 use Rattle.chr_read.proofs.RulesBack.{each_so, tested, none_pass, any_pass, same_each, present_map, present_body, placed, Good, writable, within, inside, bounds, numbered_split, good_term, GoodAtom, atom_within, atom_inside, atom_declared, atom_writable, atom_form, body_atom_back, heads_back, GoodComparison, comparison_back}
 use Rattle.chr_read.specs.RoundTrips.{ProgramsComeBack}
 use Rattle.chr_read.proofs.TextsRead.{programs, short_read}
@@ -133,7 +134,7 @@ good_rule ds r range fit =
     let z = (and_parts (nat_lt 0 (length r.removed.items)) (nat_le (length r.kept.items + length r.removed.items) MAX_HEADS) (sized_rule r)).1 in
     let heads : length hs ≤ MAX_HEADS = (let a = length-append r.kept.items r.removed.items in let c : length r.kept.items + length r.removed.items ≤ MAX_HEADS = grind (arith, nat_tests) in omega (arith, a, c)) in
     let most = few_terms ds hs range (declared_both ds r.kept.items r.removed.items g.0 g.1) in
-    let split : AllByRecursion (Good s.0) (terms_of r.kept.items ++ terms_of r.removed.items) = subst (AllByRecursion (Good s.0)) (terms_append r.kept.items r.removed.items) good in
+    let split : AllByRecursion (Good s.0) (terms_of r.kept.items ++ terms_of r.removed.items) = subst (AllByRecursion (Good s.0)) (terms_of-append r.kept.items r.removed.items) good in
     record {
       n = s.0;
       few = (let m = b.most in omega (arith, m, most, heads));
@@ -248,7 +249,7 @@ module _ (ds : List Declaration) (r : base_rule.Rule) (u : are_distinct ds ≡ t
 
   rule_back : resolved ds w ≡ parts_of r
   rule_back =
-      let s = numbered_split 0 g.n (terms_of r.kept.items) (terms_of r.removed.items) (ap (numbered 0) (sym (terms_append r.kept.items r.removed.items)) ∙ g.count) in
+      let s = numbered_split 0 g.n (terms_of r.kept.items) (terms_of r.removed.items) (ap (numbered 0) (sym (terms_of-append r.kept.items r.removed.items)) ∙ g.count) in
       let v = (and_parts (are_valued (heads_of r)) (list_all (λ c. is_valued c.left && is_valued c.right) r.guard.items) (and_parts (are_valued (heads_of r) && list_all (λ c. is_valued c.left && is_valued c.right) r.guard.items) (are_valued r.body.items) (valued_rule r)).0).0 in
       let vs = valued_parts r.kept.items r.removed.items v in
       let b = (bounds s.0 g.n (terms_of r.removed.items) s.2 (valued_terms r.removed.items vs.1)).least in

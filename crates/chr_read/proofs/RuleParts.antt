@@ -1,5 +1,5 @@
 -- The tests of a clause list by list are those of its atoms and terms as one list.
-use Rattle.std.proofs.Common.{◌≡◌, ℕ, ◌+◌, List, [], ◌∷◌, ◌++◌, length, Bool, true, false, not, ◌||◌, ◌&&◌, nat_lt, Option, Some, None, refl, sym, ap, ◌∙◌, length-append}
+use Rattle.std.proofs.Common.{◌≡◌, ℕ, ◌+◌, List, [], ◌∷◌, length, Bool, true, false, not, ◌||◌, ◌&&◌, nat_lt, Option, Some, None, refl, sym, ap, ◌∙◌, length-append}
 use Rattle.std.specs.Prelude.{option_to_list}
 use Rattle.std.specs.List.{list_any, flat_map}
 use Rattle.std.proofs.Math.Bool.{or_assoc, or-false}
@@ -8,7 +8,7 @@ use Rattle.chr_base.specs.declared.limits.TheConstants.{MAX_BODY, MAX_COMPARISON
 use Rattle.chr_base.specs.ProgramTests.{Declaration}
 use Rattle.chr_syntax.specs.Clauses.{Term, Atom, Symbol, Comparison, Rule, variable, number}
 use Rattle.chr_read.specs.Faults.{present, rule_heads, rule_atoms, args_of, right_terms, written_terms, is_undeclared, is_same_symbol, comes_twice, is_long, is_long_variable, atom_over, rule_over, is_anonymous, is_named, is_unbound, is_outside}
-use Rattle.chr_read.specs.working.RuleParts.{rule_undeclared, comes_again, parts_of_atom_over, comparison_over, label_over, has_long_lists, parts_over, some_part_over, stands_in, term_unbound, atom_unbound, comparison_unbound, rule_unbound, atom_outside, comparison_outside, rule_outside}
+use Rattle.chr_read.specs.working.RuleParts.{rule_undeclared, comes_again, comparison_over, label_over, parts_over, some_part_over, stands_in, term_unbound, rule_unbound, rule_outside}
 
 -- ---- lists
 

@@ -1,5 +1,5 @@
 -- The faults of a clause that has a form, each as a test.
-use Rattle.std.specs.Prelude.{ℕ, ◌+◌, List, [], ◌∷◌, ◌++◌, length, map, Bool, true, false, not, ◌&&◌, ◌||◌, nat_eq, nat_le, nat_lt, Option, is_some, is_none, option_and_then, option_to_list, position, filter_map, codes}
+use Rattle.std.specs.Prelude.{ℕ, ◌+◌, List, [], ◌∷◌, ◌++◌, length, Bool, true, false, not, ◌&&◌, ◌||◌, nat_eq, nat_le, nat_lt, Option, is_some, is_none, option_and_then, option_to_list, position, filter_map, codes}
 use Rattle.std.specs.List.{list_any, flat_map}
 use Rattle.std.specs.Option.{option_map_or}
 use Rattle.std.specs.Str.{bytes_eq}

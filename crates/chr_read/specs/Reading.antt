@@ -1,5 +1,5 @@
 -- What a clause without faults adds.
-use Rattle.std.specs.Prelude.{List, [], ◌∷◌, ◌++◌, map, unwrap_or}
+use Rattle.std.specs.Prelude.{[], ◌∷◌, ◌++◌, map, unwrap_or}
 use Rattle.chr_base.specs.ProgramTests.{Declaration, with_weight}
 use Rattle.chr_base.specs.Weights.{default_weight}
 use Rattle.chr_syntax.specs.Clauses.{Symbol, Form, use_module, declare, weight, rule, propagation}

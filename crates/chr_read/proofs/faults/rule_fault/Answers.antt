@@ -1,4 +1,4 @@
-use Rattle.std.proofs.Common.{◌≡◌, ◌||◌, nat_le, length, true, false, refl, sym, ◌∙◌, rules}
+use Rattle.std.proofs.Common.{◌≡◌, ◌||◌, nat_le, length, true, false, refl, rules}
 use Rattle.chr_base.specs.declared.limits.TheConstants.{MAX_RULES}
 use Rattle.chr_syntax.specs.Views.{rule_view}
 use Rattle.chr_read.specs.working.RuleParts.{rule_undeclared, some_part_over, rule_unbound, rule_outside}
