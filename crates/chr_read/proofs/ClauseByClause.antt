@@ -1,5 +1,5 @@
 -- One clause after another.
-use Rattle.std.proofs.Common.{◌≡◌, ℕ, ◌+◌, List, [], ◌∷◌, Bool, true, false, cond, Ok, Err, refl, sym, ap, ◌∙◌}
+use Rattle.std.proofs.Common.{◌≡◌, ℕ, ◌+◌, List, ◌∷◌, Ok, Err, sym, ap, ◌∙◌}
 use Rattle.chr_syntax.specs.Bytes.{pieces}
 use Rattle.chr_syntax.proofs.Texts.{some_piece}
 use Rattle.chr_read.specs.declared.fault.Fault.{Fault}

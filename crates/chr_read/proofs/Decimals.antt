@@ -1,18 +1,22 @@
 -- Numbers that are printed are read again.
-use Rattle.std.proofs.Common.{◌≡◌, ℕ, zero, suc, ◌+◌, ◌^◌, ◌<◌, ◌≤◌, List, [], ◌∷◌, length, true, false, cond, ◌==◌, nat_lt, nat_le, Some, None, option_and_then, inl, inr, refl, ap, ◌∙◌, arith}
+use Rattle.std.proofs.Common.{◌≡◌, ℕ, zero, suc, ◌+◌, ◌^◌, ◌<◌, ◌≤◌, List, [], ◌∷◌, length, true, false, not, cond, ◌==◌, nat_lt, nat_le, nat_eq, Bool, Some, None, option_and_then, inl, inr, refl, sym, ap, ◌∙◌, arith}
 use Rattle.std.specs.Prelude.{ℤ, pos, negsuc, neg_ℤ, int_le, decimal}
 use Rattle.std.specs.Fmt.{signed_decimal}
 use Rattle.std.specs.List.{list_all}
 use Rattle.std.specs.Str.Parse.{digits_value}
 use Rattle.std.proofs.lemmas.Bool.Decides.{nat_tests}
 use Rattle.std.proofs.lemmas.Fmt.{decimal_nonempty, decimal_digit, digits_decimal, digits_value-decimal}
-use Rattle.std.proofs.lemmas.Bool.{and_from, and_parts}
+use Rattle.std.proofs.lemmas.Bool.{eqb-true, and_from, and_parts}
+use Rattle.chr_base.specs.declared.limits.TheConstants.{MAX_ARITY, MAX_WEIGHT}
+use Rattle.chr_base.specs.declared.weight.Weight.{Weight}
 use Rattle.chr_base.specs.Values.{is_value}
+use Rattle.chr_base.specs.Weights.{is_weight}
 use Rattle.chr_syntax.specs.Lexemes.{IsDigits, IsNumber}
 use Rattle.chr_base.specs.Names.{is_digit}
-use Rattle.chr_read.specs.Numbers.{is_numeral, signed, number_of, arity_of, as_weight, weight_named_by}
+use Rattle.chr_read.specs.Numbers.{is_numeral, signed, number_of, arity_of, second_number_of, as_weight, weight_named_by}
 use Rattle.chr_read.proofs.Numbers.{own}
 use Rattle.chr_read.proofs.PlainBytes.{from_test}
+use Rattle.chr_read.proofs.WrittenForms.{written_second}
 
 -- ---- digits
 
@@ -66,22 +70,30 @@ number_back (negsuc n) h =
 
 -- ---- arities and weights
 
-pub arity_back : (n : ℕ) → n ≤ 4 → arity_of (decimal n) ≡ Some n
+pub arity_back : (n : ℕ) → n ≤ MAX_ARITY → arity_of (decimal n) ≡ Some n
 arity_back n h = ap arity_of (decimal_digit n (omega (arith, h))) ∙ by n h
   where
-    by : (n : ℕ) → n ≤ 4 → arity_of ((48 + n) ∷ []) ≡ Some n
+    by : (n : ℕ) → n ≤ MAX_ARITY → arity_of ((48 + n) ∷ []) ≡ Some n
     by zero h = refl
     by (suc zero) h = refl
     by (suc (suc zero)) h = refl
     by (suc (suc (suc zero))) h = refl
     by (suc (suc (suc (suc zero)))) h = refl
-    by (suc (suc (suc (suc (suc n))))) h = absurd (omega (arith, h))
+    by (suc (suc (suc (suc (suc zero))))) h = refl
+    by (suc (suc (suc (suc (suc (suc zero)))))) h = refl
+    by (suc (suc (suc (suc (suc (suc (suc n))))))) h = absurd (omega (arith, h))
 
-pub weight_number : (n : ℕ) → n ≤ 1000000 → number_of (decimal n) ≡ Some (pos n)
+pub weight_number : (n : ℕ) → n ≤ MAX_WEIGHT → number_of (decimal n) ≡ Some (pos n)
 weight_number n h = let m : n < 2 ^ 64 = omega (arith, h) in plain_read (decimal n) n (decimal_nonempty n m) (decimal_digits n m) (digits_value-decimal own n m) (omega (arith, h))
 
-pub weight_back : (n : ℕ) → 1 ≤ n → n ≤ 1000000 → weight_named_by (decimal n) ≡ Some n
-weight_back n l h =
-    let a : nat_le 1 n ≡ true = grind (arith, nat_tests) in
-    let b : nat_le n 1000000 ≡ true = grind (arith, nat_tests) in
-    ap (option_and_then as_weight) (weight_number n h) ∙ ap (λ t. cond t (Some n) None) (and_from (nat_le 1 n) (nat_le n 1000000) a b)
+pub second_back : (w : Weight) → w.second ≤ MAX_WEIGHT → second_number_of (written_second w) ≡ Some (pos w.second)
+second_back w h = by (nat_eq w.second 0) refl
+  where
+    by : (b : Bool) → nat_eq w.second 0 ≡ b → second_number_of (cond (not b) (Some (decimal w.second)) None) ≡ Some (pos w.second)
+    by true e = ap (λ n. Some (pos n)) (sym (eqb-true w.second 0 e))
+    by false e = weight_number w.second h
+
+pub weight_back : (w : Weight) → w.first ≤ MAX_WEIGHT → w.second ≤ MAX_WEIGHT → is_weight w ≡ true → weight_named_by (decimal w.first) (written_second w) ≡ Some w
+weight_back w f s h =
+    ap (option_and_then (λ v. option_and_then (as_weight v) (second_number_of (written_second w)))) (weight_number w.first f)
+    ∙ ap (option_and_then (as_weight (pos w.first))) (second_back w s) ∙ ap (λ t. cond t (Some w) None) h

@@ -7,6 +7,7 @@ use Rattle.std.proofs.lemmas.Option.{none-some, same_Some}
 use Rattle.std.proofs.lemmas.Slice.Eq.{bytes_eq-Decides}
 use Rattle.std.specs.List.{list_any}
 use Rattle.std.specs.Str.{bytes_eq}
+use Rattle.chr_base.specs.declared.limits.TheConstants.{MAX_ARITY, MAX_SYMBOLS}
 use Rattle.chr_base.specs.ProgramTests.{Declaration, declares}
 use Rattle.chr_syntax.specs.Clauses.{Symbol}
 use Rattle.chr_read.specs.Numbers.{without_zeros, small, arity_of}
@@ -24,13 +25,13 @@ digits_for n = cond (nat_eq n 0) [] ((48 + n) ∷ [])
 small_digits : (ds : List ℕ) (n : ℕ) → small ds ≡ Some n → ds ≡ digits_for n
 small_digits [] n h = ap digits_for (same_Some _ _ h)
 small_digits (b ∷ c ∷ bs) n h = absurd (none-some n h)
-small_digits (b ∷ []) n h = by (nat_le 49 b && nat_le b 52) refl h
+small_digits (b ∷ []) n h = by (nat_le 49 b && nat_le b (48 + MAX_ARITY)) refl h
   where
-    by : (t : Bool) → (nat_le 49 b && nat_le b 52) ≡ t → cond t (Some (b - 48)) None ≡ Some n → b ∷ [] ≡ digits_for n
+    by : (t : Bool) → (nat_le 49 b && nat_le b (48 + MAX_ARITY)) ≡ t → cond t (Some (b - 48)) None ≡ Some n → b ∷ [] ≡ digits_for n
     by false e h = absurd (none-some n h)
     by true e h =
         let is = same_Some _ _ h in
-        let low : 49 ≤ b = let p = (and_parts (nat_le 49 b) (nat_le b 52) e).0 in grind (arith, nat_tests) in
+        let low : 49 ≤ b = let p = (and_parts (nat_le 49 b) (nat_le b (48 + MAX_ARITY)) e).0 in grind (arith, nat_tests) in
         let more : nat_eq n 0 ≡ false = grind (arith, nat_tests) in
         let back : b ≡ 48 + n = omega (arith, is, low) in
         ap (λ x. x ∷ []) back ∙ sym (ap (λ t. cond t [] ((48 + n) ∷ [])) more)
@@ -92,14 +93,14 @@ none_again front back s (t ∷ ts) h =
     let n = or_parts _ _ h in
     ap (λ b. b || list_any (is_same_symbol s) ts) (seen_differs front back s t n.0) ∙ none_again (t ∷ front) back s ts n.1
 
-pub can_all : (ds : List Declaration) (seen ss : List Symbol) → nat_lt 64 (length ds + length ss) ≡ false → list_any symbol_over ss ≡ false → list_any (is_declared_already ds) ss ≡ false → comes_again seen ss ≡ false → can_declare_all ds ss ≡ true
+pub can_all : (ds : List Declaration) (seen ss : List Symbol) → nat_lt MAX_SYMBOLS (length ds + length ss) ≡ false → list_any symbol_over ss ≡ false → list_any (is_declared_already ds) ss ≡ false → comes_again seen ss ≡ false → can_declare_all ds ss ≡ true
 can_all ds seen [] room over known again = refl
 can_all ds seen (s ∷ ss) room over known again =
     let o = or_parts (symbol_over s) _ over in
     let k = or_parts (is_declared_already ds s) _ known in
     let g = or_parts (list_any (λ e. is_same_symbol e s) seen) (comes_again (s ∷ seen) ss) again in
-    let below : nat_lt (length ds) 64 ≡ true = grind (arith, nat_tests) in
+    let below : nat_lt (length ds) MAX_SYMBOLS ≡ true = grind (arith, nat_tests) in
     let longer = length-append ds (declared_symbol s ∷ []) in
-    let more : nat_lt 64 (length (ds ++ declared_symbol s ∷ []) + length ss) ≡ false = grind (arith, nat_tests) in
+    let more : nat_lt MAX_SYMBOLS (length (ds ++ declared_symbol s ∷ []) + length ss) ≡ false = grind (arith, nat_tests) in
     and_from _ _ (and_from _ _ (and_from _ _ below (ap not o.0)) (ap not k.0))
     (can_all (ds ++ declared_symbol s ∷ []) (s ∷ seen) ss more o.1 (all_known_more ds s ss (or_parts _ _ o.0).1 (none_again [] seen s ss g.1) k.1) g.1)

@@ -1,7 +1,7 @@
 -- A text of clauses, each ended by a full stop and a line feed, is read clause by clause.
 use Rattle.std.proofs.Common.{◌≡◌, ℕ, ◌+◌, List, [], ◌∷◌, ◌++◌, Bool, true, false, cond, ◌==◌, Some, None, Ok, Err, option_and_then, refl, sym, ap, ◌∙◌, append_assoc, append-nil}
 use Rattle.std.specs.Prelude.{codes}
-use Rattle.chr_syntax.specs.Bytes.{is_layout, is_text, pieces, percent, full_stop, without_comments}
+use Rattle.chr_syntax.specs.Bytes.{is_layout, is_text, pieces, percent, without_comments}
 use Rattle.chr_syntax.specs.Clauses.{Form}
 use Rattle.chr_syntax.specs.working.Tokens.{tokens_of}
 use Rattle.chr_syntax.specs.working.Forms.{form_in, clause_of}

@@ -5,6 +5,7 @@ use Rattle.std.proofs.lemmas.Slice.Eq.{bytes_eq-Decides}
 use Rattle.std.proofs.lemmas.Str.{IsUtf8-from_is_utf8, is_utf8-from_IsUtf8}
 use Rattle.std.specs.List.{list_any, list_all}
 use Rattle.std.specs.Str.{IsUtf8, is_utf8, bytes_eq}
+use Rattle.chr_base.specs.declared.limits.TheConstants.{MAX_RULES, MAX_SYMBOLS}
 use Rattle.chr_base.specs.declared.program.Program.{Program}
 use Rattle.chr_base.specs.Names.{is_name}
 use Rattle.chr_base.specs.Programs.{declarations, rules_of}
@@ -41,6 +42,6 @@ none_declares w n (d ∷ ds) bad h =
 pub no_text_is_declared : (p : Program) (w : List ℕ) (n : ℕ) → is_utf8 w ≡ false → position (declares w n) (declarations p) ≡ None
 no_text_is_declared p w n bad =
     let ds = declarations p in let rs = rules_of p in
-    let a = and_parts (nat_le (length ds) 64 && nat_le (length rs) 64 && list_all is_in_range ds && are_distinct ds) (list_all (fits ds) rs) p.well_formed in
-    let b = and_parts (nat_le (length ds) 64 && nat_le (length rs) 64 && list_all is_in_range ds) (are_distinct ds) a.0 in
-    no_position (declares w n) ds (none_declares w n ds bad (and_parts (nat_le (length ds) 64 && nat_le (length rs) 64) (list_all is_in_range ds) b.0).1)
+    let a = and_parts (nat_le (length ds) MAX_SYMBOLS && nat_le (length rs) MAX_RULES && list_all is_in_range ds && are_distinct ds) (list_all (fits ds) rs) p.well_formed in
+    let b = and_parts (nat_le (length ds) MAX_SYMBOLS && nat_le (length rs) MAX_RULES && list_all is_in_range ds) (are_distinct ds) a.0 in
+    no_position (declares w n) ds (none_declares w n ds bad (and_parts (nat_le (length ds) MAX_SYMBOLS && nat_le (length rs) MAX_RULES) (list_all is_in_range ds) b.0).1)

@@ -11,7 +11,7 @@ use Rattle.chr_syntax.specs.declared.token.Sign.TheVariants as s
 use Rattle.chr_syntax.specs.Tokens.{Tok, name, variable, number, compare, sign}
 use Rattle.chr_base.specs.Names.{is_lower, is_word_byte}
 use Rattle.chr_syntax.specs.Clauses.{Atom, Symbol, Comparison, Form, use_module, declare, weight, rule, propagation}
-use Rattle.chr_syntax.specs.Grammar.{IsUnreserved, IsSymbol, OneOrMore, IsForm, with_commas, spelled_list, spelled_atom, spelled_item, spelled_comparison, spelled_heads, spelled_right, spelled_label, spelled_symbol, spelled}
+use Rattle.chr_syntax.specs.Grammar.{IsUnreserved, IsSymbol, IsForm, with_commas, spelled_list, spelled_atom, spelled_item, spelled_comparison, spelled_heads, spelled_right, spelled_label, spelled_symbol, spelled}
 use Rattle.chr_syntax.specs.working.Spellings.{spelled_atoms, IsLabel, IsAtom, IsItem, spelled_body}
 use Rattle.chr_syntax.specs.Lexemes.{AllAre, IsWord, IsLexeme, AreTokens}
 use Rattle.chr_syntax.proofs.Spelled.{all_some}
@@ -117,7 +117,7 @@ module _ (P : List ℕ → Type 0) (good : (w : List ℕ) → IsWord is_lower w 
   form_text : (f : Form) → AllText (spelled f) → AllByRecursion P (names_in f)
   form_text use_module h = tt
   form_text (declare ss) h = symbols_each ss (each_text (map spelled_symbol ss) h.1.1)
-  form_text (weight d w) h = (h.1.1.0, tt)
+  form_text (weight d first second) h = (h.1.1.0, tt)
   form_text (rule r) h =
       let rest = back IsTextToken (spelled_label r.label) _ h in
       let hs = heads_text r.kept r.removed (front IsTextToken (spelled_heads r.kept r.removed) _ rest) in
@@ -166,7 +166,7 @@ label_unreserved (Some w) h = (h, tt)
 form_unreserved : (f : Form) → IsForm f → AllUnreserved (names_in f)
 form_unreserved use_module h = tt
 form_unreserved (declare ss) h = symbols_unreserved ss (all_some IsSymbol ss h)
-form_unreserved (weight d w) h = (h.0, tt)
+form_unreserved (weight d first second) h = (h.0, tt)
 form_unreserved (rule r) h =
     all_append IsUnreserved (option_to_list r.label) _ (label_unreserved r.label h.0)
     (all_append IsUnreserved (names_of_atoms r.kept) _ (atoms_unreserved r.kept h.1)

@@ -1,5 +1,5 @@
 -- The variables `V1`, `V2`, .. of a canonical text get back the numbers that they were written for.
-use Rattle.std.proofs.Common.{◌≡◌, ℕ, zero, suc, ◌+◌, ◌-◌, ◌^◌, ◌<◌, ◌≤◌, List, [], ◌∷◌, ◌++◌, length, map, Bool, true, false, cond, ◌&&◌, nat_lt, nat_le, nat_eq, Option, Some, None, option_map, unwrap_or, is_some, position, refl, ap, ◌∙◌, subst, length-append, arith}
+use Rattle.std.proofs.Common.{◌≡◌, ℕ, zero, suc, ◌+◌, ◌-◌, ◌^◌, ◌<◌, ◌≤◌, List, [], ◌∷◌, ◌++◌, length, map, Bool, true, false, cond, ◌&&◌, nat_lt, nat_le, nat_eq, Some, None, unwrap_or, is_some, position, refl, ap, ◌∙◌, subst, length-append, arith}
 use Rattle.std.specs.Prelude.{pos, codes, decimal}
 use Rattle.std.specs.List.{list_any, AllByRecursion}
 use Rattle.std.specs.Str.{bytes_eq}
@@ -18,7 +18,7 @@ use Rattle.chr_read.specs.Resolving.{met_at, variable_of, head_terms, after_term
 use Rattle.chr_read.proofs.Decimals.{number_back}
 use Rattle.chr_read.proofs.DeclarationsBack.{place_skip}
 use Rattle.chr_read.proofs.Numbering.{itself}
-use Rattle.chr_read.proofs.Positions.{place, position_is, no_position}
+use Rattle.chr_read.proofs.Positions.{place, position_is, no_position, place_front}
 use Rattle.chr_read.proofs.WrittenForms.{written_term}
 use Rattle.chr_read.proofs.WrittenTokens.{IsWritable}
 
@@ -54,15 +54,6 @@ not_named x (suc n) l h =
     list_any-append (bytes_eq (variable_name x)) (first_names n) (variable_name (suc n) ∷ [])
     ∙ or_from (list_any (bytes_eq (variable_name x)) (first_names n)) _ (not_named x n l (omega (arith, h)))
     (or_from (bytes_eq (variable_name x) (variable_name (suc n))) false (other_name x (suc n) l (omega (arith, h, l)) (λ e. omega (arith, h, e))) refl)
-
-place_front : {A : Type 0} (p : A → Bool) (xs ys : List A) (i : ℕ) → place p xs ≡ Some i → place p (xs ++ ys) ≡ Some i
-place_front p [] ys i h = absurd (none-some i h)
-place_front p (x ∷ xs) ys i h = by (p x) (place p xs) refl h (place_front p xs ys)
-  where
-    by : (b : Bool) (o : Option ℕ) → place p xs ≡ o → cond b (Some 0) (option_map suc o) ≡ Some i → ((j : ℕ) → place p xs ≡ Some j → place p (xs ++ ys) ≡ Some j) → cond b (Some 0) (option_map suc (place p (xs ++ ys))) ≡ Some i
-    by true o is e more = e
-    by false None is e more = absurd (none-some i e)
-    by false (Some j) is e more = ap (option_map suc) (more j is) ∙ e
 
 -- a variable that was met stands before its number
 named_place : (x n : ℕ) → suc x ≤ n → n < 2 ^ 64 → place (bytes_eq (variable_name (suc x))) (first_names n) ≡ Some x

@@ -18,13 +18,10 @@ use Rattle.chr_read.specs.Faults.{is_anonymous, is_named}
 use Rattle.chr_read.specs.working.RuleParts.{stands_in, Names, with_variable}
 use Rattle.chr_read.specs.Resolving.{met_at, variable_of, head_terms, after_terms, heads, after_heads}
 use Rattle.chr_base.proofs.Declared.{place_within}
+use Rattle.chr_base.proofs.Terms.{terms_of-append}
 use Rattle.chr_read.proofs.Positions.{position_any}
 
 -- ---- the variables of the heads are numbered
-
-pub terms_append : (ps qs : List Pattern) → terms_of (ps ++ qs) ≡ terms_of ps ++ terms_of qs
-terms_append [] qs = refl
-terms_append (p ∷ ps) qs = ap (λ l. p.args.items ++ l) (terms_append ps qs) ∙ sym (append_assoc p.args.items (terms_of ps) (terms_of qs))
 
 pub met_within : (names : Names) (w : List ℕ) (i : ℕ) → met_at names w ≡ Some i → i < length names
 met_within names w i h = by (is_anonymous w) h
@@ -70,7 +67,7 @@ pub numbers : (ds : List Declaration) (kept removed : List Atom)
     → numbered 0 (terms_of (heads ds [] kept ++ heads ds (after_heads [] kept) removed)) ≡ Some (length (after_heads (after_heads [] kept) removed))
 numbers ds kept removed =
     let names = after_heads [] kept in
-    ap (numbered 0) (terms_append (heads ds [] kept) (heads ds names removed))
+    ap (numbered 0) (terms_of-append (heads ds [] kept) (heads ds names removed))
     ∙ numbered_heads ds [] kept (terms_of (heads ds names removed))
     ∙ ap (numbered (length names)) (sym (append-nil (terms_of (heads ds names removed))))
     ∙ numbered_heads ds names removed []

@@ -1,7 +1,9 @@
 -- What `parse` reads is the value of the digits.
-use Rattle.std.proofs.Common.{◌≡◌, ℕ, ℤ, List, [], ◌∷◌, drop, Bool, true, false, cond, ◌==◌, Some, None, Result, Ok, Err, refl, sym, ap, ◌∙◌, arith, rules}
+use Rattle.std.proofs.Common.{◌≡◌, ℕ, ℤ, List, [], ◌∷◌, drop, Bool, true, false, cond, ◌==◌, Option, Some, None, Result, Ok, Err, option_and_then, refl, sym, ap, ◌∙◌, subst, arith, rules}
+use Rattle.std.specs.Prelude.{pos, negsuc}
 use Rattle.std.proofs.lemmas.Bool.{false≢true}
 use Rattle.std.proofs.lemmas.Bool.Decides.{nat_tests}
+use Rattle.std.proofs.lemmas.Option.{none-some, same_Some}
 use Rattle.std.proofs.lemmas.Str.Parse.{IsNumeralModel, numerals_by_value, parse_signed_minus, parse_signed_digits}
 use Rattle.std.proofs.lemmas.Str.{IsUtf8-from_ascii}
 use Rattle.std.proofs.lemmas.Str.Ascii.{IsAscii-cons, IsAscii-nil}
@@ -10,8 +12,10 @@ use Rattle.std.specs.List.{list_all}
 use Rattle.std.specs.Result.{OkIff, result_ok}
 use Rattle.std.specs.Str.{IsUtf8, IsAscii}
 use Rattle.std.specs.Str.Parse.{ParsesSigned, digits_value, starts_with_minus}
+use Rattle.chr_base.specs.declared.weight.Weight.{Weight}
 use Rattle.chr_base.specs.Names.{is_digit}
-use Rattle.chr_read.specs.Numbers.{is_numeral, unsigned, signed, number_of}
+use Rattle.chr_base.specs.Weights.{is_weight}
+use Rattle.chr_read.specs.Numbers.{is_numeral, unsigned, signed, number_of, second_number_of, checked_weight, as_weight, weight_named_by}
 
 pub own : IsNumeralModel (λ ds. list_all is_digit ds ≡ true) (digits_value 10)
 own = numerals_by_value _ (search rules)
@@ -48,3 +52,25 @@ sign_is_ascii (b ∷ bs) h = with_sign (b == 45) refl h
 
 pub numerals_are_text : (w : List ℕ) → is_numeral (unsigned w) ≡ true → IsUtf8 w
 numerals_are_text w h = IsUtf8-from_ascii w (sign_is_ascii w h)
+
+-- ---- a weight that is named is one that a symbol may have
+
+checked_is_weight : (v w : Weight) → checked_weight v ≡ Some w → is_weight w ≡ true
+checked_is_weight v w h = by (is_weight v) refl h
+  where
+    by : (b : Bool) → is_weight v ≡ b → cond b (Some v) None ≡ Some w → is_weight w ≡ true
+    by true good e = subst (λ x. is_weight x ≡ true) (same_Some v w e) good
+    by false bad e = absurd (none-some w e)
+
+value_is_weight : (x y : ℤ) (w : Weight) → as_weight x y ≡ Some w → is_weight w ≡ true
+value_is_weight (pos m) (pos n) w h = checked_is_weight record { first = m; second = n } w h
+value_is_weight (pos m) (negsuc n) w h = absurd (none-some w h)
+value_is_weight (negsuc m) y w h = absurd (none-some w h)
+
+pub named_is_weight : (first : List ℕ) (second : Option (List ℕ)) (w : Weight) → weight_named_by first second ≡ Some w → is_weight w ≡ true
+named_is_weight first second w h = by (number_of first) (second_number_of second) h
+  where
+    by : (v o : Option ℤ) → option_and_then (λ x. option_and_then (as_weight x) o) v ≡ Some w → is_weight w ≡ true
+    by None o e = absurd (none-some w e)
+    by (Some x) None e = absurd (none-some w e)
+    by (Some x) (Some y) e = value_is_weight x y w e

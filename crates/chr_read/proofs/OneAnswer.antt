@@ -1,5 +1,5 @@
 -- A text has one answer.
-use Rattle.std.proofs.Common.{◌≡◌, ◌<◌, ◌⊎◌, ℕ, List, length, sym, ◌∙◌, ap, inl, inr}
+use Rattle.std.proofs.Common.{◌≡◌, ◌<◌, ◌⊎◌, ℕ, length, sym, ◌∙◌, inl, inr}
 use Rattle.std.specs.Prelude.{Result, Ok, Err}
 use Rattle.chr_read.specs.Meanings.{Meaning}
 use Rattle.chr_read.specs.declared.fault.ReadFault.{ReadFault}

@@ -5,13 +5,14 @@ use Rattle.std.specs.Str.{bytes_eq}
 use Rattle.std.proofs.lemmas.Slice.Eq.{bytes_eq-Decides}
 use Rattle.chr_base.specs.ProgramTests.{Declaration}
 use Rattle.chr_base.specs.RuleTests.{terms_of}
+use Rattle.chr_base.proofs.Terms.{terms_of-append}
 use Rattle.chr_syntax.specs.Clauses.{Term, Atom, variable, number}
 use Rattle.chr_read.specs.Faults.{is_anonymous, args_of}
 use Rattle.chr_read.specs.working.RuleParts.{Names, with_variable}
 use Rattle.chr_read.specs.Resolving.{met_at, variable_of, resolved_term, after_term, head_terms, after_terms, heads, after_heads}
 use Rattle.chr_read.specs.Numberings.{HeadsAreOneList, OneNumberIsOneVariable}
-use Rattle.chr_read.proofs.Numbering.{terms_append, itself, met_within}
-use Rattle.chr_read.proofs.Positions.{place, position_is, found_at}
+use Rattle.chr_read.proofs.Numbering.{itself, met_within}
+use Rattle.chr_read.proofs.Positions.{place, position_is, place_front, found_at}
 
 -- ---- lists of terms
 
@@ -34,7 +35,7 @@ heads_list ds names (a ∷ atoms) =
 
 pub one_list : HeadsAreOneList
 one_list ds kept removed =
-    terms_append (heads ds [] kept) (heads ds (after_heads [] kept) removed)
+    terms_of-append (heads ds [] kept) (heads ds (after_heads [] kept) removed)
     ∙ ap (λ l. l ++ terms_of (heads ds (after_heads [] kept) removed)) (heads_list ds [] kept)
     ∙ ap (λ l. head_terms [] (args_of kept) ++ l) (heads_list ds (after_heads [] kept) removed ∙ ap (λ n. head_terms n (args_of removed)) (after_heads_is [] kept))
     ∙ sym (terms_appended [] (args_of kept) (args_of removed))
@@ -58,18 +59,6 @@ get_front (y ∷ xs) ys (suc i) x h = get_front xs ys i x h
 get_last : (xs : Names) (x : List ℕ) → slice_get (xs ++ x ∷ []) (length xs) ≡ Some x
 get_last [] x = refl
 get_last (y ∷ xs) x = get_last xs x
-
-place_front : (p : List ℕ → Bool) (xs ys : Names) (i : ℕ) → place p xs ≡ Some i → place p (xs ++ ys) ≡ Some i
-place_front p [] ys i h = absurd (none-some i h)
-place_front p (x ∷ xs) ys i h = by (p x) h (place_front p xs ys)
-  where
-    later : (o : Option ℕ) → place p xs ≡ o → option_map suc o ≡ Some i → ((k : ℕ) → place p xs ≡ Some k → place p (xs ++ ys) ≡ Some k) → option_map suc (place p (xs ++ ys)) ≡ Some i
-    later None is e ih = absurd (none-some i e)
-    later (Some k) is e ih = ap (option_map suc) (ih k is) ∙ e
-
-    by : (b : Bool) → cond b (Some 0) (option_map suc (place p xs)) ≡ Some i → ((k : ℕ) → place p xs ≡ Some k → place p (xs ++ ys) ≡ Some k) → cond b (Some 0) (option_map suc (place p (xs ++ ys))) ≡ Some i
-    by true e ih = e
-    by false e ih = later (place p xs) refl e ih
 
 place_last : (p : List ℕ → Bool) (xs : Names) (x : List ℕ) → place p xs ≡ None → p x ≡ true → place p (xs ++ x ∷ []) ≡ Some (length xs)
 place_last p [] x h good = ap (λ b. cond b (Some 0) None) good

@@ -1,5 +1,5 @@
 -- The first place at which a test passes.
-use Rattle.std.proofs.Common.{◌≡◌, ℕ, suc, ◌+◌, ◌<◌, List, [], ◌∷◌, length, Bool, true, false, not, cond, ◌||◌, nat_lt, nat_eq, Option, Some, None, option_map, is_some, position, refl, sym, ap, ◌∙◌, subst, arith}
+use Rattle.std.proofs.Common.{◌≡◌, ℕ, suc, ◌+◌, List, [], ◌∷◌, ◌++◌, length, Bool, true, false, not, cond, ◌||◌, nat_lt, nat_eq, Option, Some, None, option_map, is_some, position, refl, sym, ap, ◌∙◌, subst, arith}
 use Rattle.std.proofs.lemmas.Bool.{false≢true, and_parts}
 use Rattle.std.proofs.lemmas.Bool.Decides.{nat_tests}
 use Rattle.std.proofs.lemmas.Option.{none-some, same_Some}
@@ -25,6 +25,16 @@ step false k n rest h = within (nat_lt k n) k n refl ∙ ap (option_map suc) h
 pub position_is : {A : Type 0} (p : A → Bool) (xs : List A) → position p xs ≡ place p xs
 position_is p [] = refl
 position_is p (x ∷ xs) = step (p x) (position_or_len p xs) (length xs) (place p xs) (position_is p xs)
+
+-- what is found in front is found there still, whatever follows
+pub place_front : {A : Type 0} (p : A → Bool) (xs ys : List A) (i : ℕ) → place p xs ≡ Some i → place p (xs ++ ys) ≡ Some i
+place_front p [] ys i h = absurd (none-some i h)
+place_front p (x ∷ xs) ys i h = by (p x) (place p xs) refl h (place_front p xs ys)
+  where
+    by : (b : Bool) (o : Option ℕ) → place p xs ≡ o → cond b (Some 0) (option_map suc o) ≡ Some i → ((j : ℕ) → place p xs ≡ Some j → place p (xs ++ ys) ≡ Some j) → cond b (Some 0) (option_map suc (place p (xs ++ ys))) ≡ Some i
+    by true o is e more = e
+    by false None is e more = absurd (none-some i e)
+    by false (Some j) is e more = ap (option_map suc) (more j is) ∙ e
 
 some_suc : (o : Option ℕ) → is_some (option_map suc o) ≡ is_some o
 some_suc None = refl

@@ -1,17 +1,17 @@
 -- A rule without faults is a rule when it is resolved.
-use Rattle.std.proofs.Common.{◌≡◌, subst, ℕ, zero, suc, ◌+◌, ◌<◌, List, [], ◌∷◌, ◌++◌, length, map, Bool, true, false, not, cond, ◌||◌, ◌&&◌, nat_lt, nat_le, Option, Some, None, is_some, is_none, position, slice_get, unwrap_or, refl, sym, ap, ◌∙◌, arith}
+use Rattle.std.proofs.Common.{◌≡◌, subst, ℕ, zero, suc, ◌+◌, ◌<◌, List, [], ◌∷◌, ◌++◌, length, map, Bool, true, false, not, cond, ◌||◌, ◌&&◌, nat_lt, nat_le, Option, Some, None, is_some, is_none, slice_get, unwrap_or, refl, sym, ap, ◌∙◌, arith}
 use Rattle.std.proofs.lemmas.Bool.{false≢true, or_parts, and_from, and_parts, not-false}
 use Rattle.std.proofs.lemmas.Bool.Decides.{nat_tests}
 use Rattle.std.proofs.lemmas.List.{length-map}
 use Rattle.std.proofs.lemmas.Option.{none-some, same_Some}
 use Rattle.std.specs.Prelude.{ℤ, pos, negsuc, neg_ℤ, int_le, ◌^◌, ◌-◌, option_to_list}
-use Rattle.std.specs.Str.{is_utf8}
 use Rattle.std.specs.Str.Parse.{digits_value, starts_with_minus}
 use Rattle.std.specs.List.{list_all}
+use Rattle.chr_base.specs.declared.limits.TheConstants.{MAX_BODY, MAX_COMPARISONS, MAX_HEADS}
 use Rattle.chr_base.specs.declared.term.Pattern.{Pattern}
 use Rattle.chr_base.specs.declared.term.Term as base
 use Rattle.chr_base.specs.declared.rule.Rule as base_rule
-use Rattle.chr_base.specs.ProgramTests.{Declaration, declares, takes, is_declared, fits}
+use Rattle.chr_base.specs.ProgramTests.{Declaration, takes, is_declared, fits}
 use Rattle.chr_base.specs.Values.{is_value}
 use Rattle.chr_base.specs.Names as names
 use Rattle.chr_base.specs.Names.{is_label}
@@ -138,19 +138,19 @@ module _ (ds : List Declaration) (r : Rule) where
       (all_pass (comparison_unbound r) (resolved_comparison (names_of r)) (λ c. is_bound_in all_heads c.left && is_bound_in all_heads c.right) known_comparison (present r.guard) n.0)
       (all_pass (atom_unbound r) (body_atom ds (names_of r)) (λ p. list_all (is_bound_in all_heads) p.args.items) known_atom (present r.body) n.1)
 
-  few_heads : some_part_over r ≡ false → nat_le (length (resolved ds r).kept + length (resolved ds r).removed) 4 ≡ true
+  few_heads : some_part_over r ≡ false → nat_le (length (resolved ds r).kept + length (resolved ds r).removed) MAX_HEADS ≡ true
   few_heads h =
       let lists = (or_parts (has_long_lists r) (label_over r.label || parts_over r) h).0 in
-      let over = (or_parts (nat_lt 4 (length r.kept + length r.removed)) (nat_lt 8 (length (present r.guard)) || nat_lt 8 (length (present r.body))) lists).0 in
+      let over = (or_parts (nat_lt MAX_HEADS (length r.kept + length r.removed)) (nat_lt MAX_COMPARISONS (length (present r.guard)) || nat_lt MAX_BODY (length (present r.body))) lists).0 in
       let a = heads_length ds [] r.kept in
       let b = heads_length ds (after_heads [] r.kept) r.removed in
       grind (arith, nat_tests)
 
-  few_items : some_part_over r ≡ false → (nat_le (length (resolved ds r).guard) 8 && nat_le (length (resolved ds r).body) 8) ≡ true
+  few_items : some_part_over r ≡ false → (nat_le (length (resolved ds r).guard) MAX_COMPARISONS && nat_le (length (resolved ds r).body) MAX_BODY) ≡ true
   few_items h =
       let lists = (or_parts (has_long_lists r) (label_over r.label || parts_over r) h).0 in
-      let over = or_parts (nat_lt 8 (length (present r.guard))) (nat_lt 8 (length (present r.body))) (or_parts (nat_lt 4 (length r.kept + length r.removed)) _ lists).1 in
-      and_from (nat_le (length (resolved ds r).guard) 8) (nat_le (length (resolved ds r).body) 8)
+      let over = or_parts (nat_lt MAX_COMPARISONS (length (present r.guard))) (nat_lt MAX_BODY (length (present r.body))) (or_parts (nat_lt MAX_HEADS (length r.kept + length r.removed)) _ lists).1 in
+      and_from (nat_le (length (resolved ds r).guard) MAX_COMPARISONS) (nat_le (length (resolved ds r).body) MAX_BODY)
       (let a = length-map (present r.guard) (resolved_comparison (names_of r)) in let b = over.0 in grind (arith, nat_tests))
       (let a = length-map (present r.body) (body_atom ds (names_of r)) in let b = over.1 in grind (arith, nat_tests))
 

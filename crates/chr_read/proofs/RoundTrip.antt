@@ -1,5 +1,5 @@
 -- The canonical text of a program is read as the program.
-use Rattle.std.proofs.Common.{◌≡◌, ℕ, ◌+◌, ◌<◌, ◌≤◌, List, [], ◌∷◌, ◌++◌, length, map, Bool, true, false, not, cond, ◌==◌, ◌||◌, ◌&&◌, nat_lt, nat_le, nat_eq, Option, Some, None, Ok, option_map, is_some, refl, sym, ap, ◌∙◌, subst, append_assoc, append-nil, length-append, arith}
+use Rattle.std.proofs.Common.{◌≡◌, ℕ, ◌+◌, ◌*◌, ◌<◌, ◌≤◌, List, [], ◌∷◌, ◌++◌, length, map, Bool, true, false, not, cond, ◌==◌, ◌||◌, ◌&&◌, nat_lt, nat_le, Option, Some, None, Ok, option_map, is_some, refl, sym, ap, ◌∙◌, subst, append_assoc, append-nil, length-append, arith}
 use Rattle.std.specs.Prelude.{decimal}
 use Rattle.std.specs.List.{list_any, list_all, AllByRecursion}
 use Rattle.std.specs.Str.{bytes_eq}
@@ -9,6 +9,7 @@ use Rattle.std.proofs.lemmas.List.{length-map}
 use Rattle.std.proofs.lemmas.List.Folds.{list_any-append}
 use Rattle.std.proofs.lemmas.Option.{none-some, same_Some}
 use Rattle.std.specs.Str.Parse.{starts_with_minus}
+use Rattle.chr_base.specs.declared.limits.TheConstants.{MAX_ARITY, MAX_BODY, MAX_COMPARISONS, MAX_HEADS, MAX_NAME, MAX_RULES, MAX_SYMBOLS, MAX_VARIABLES}
 use Rattle.chr_base.specs.declared.term.Term as base
 use Rattle.chr_base.specs.declared.term.Term.TheVariants.{Variable, Constant}
 use Rattle.chr_base.specs.declared.term.Comparison as base_comparison
@@ -19,21 +20,23 @@ use Rattle.chr_base.specs.Names as names
 use Rattle.chr_base.specs.RuleTests as rules
 use Rattle.chr_base.specs.RuleTests.{occurs, is_bound_in, is_closed, terms_of, numbered, is_numbered, is_valued, are_valued}
 use Rattle.chr_base.specs.Rules.{heads_of}
+use Rattle.chr_base.proofs.Terms.{terms_of-append}
 use Rattle.chr_base.proofs.Instances.{sized_rule, closed_rule, numbered_rule, few_rule, valued_rule}
 use Rattle.chr_base.specs.Programs.{declarations, rules_of}
 use Rattle.chr_base.specs.ProgramTests.{Declaration, is_declared, fits, are_distinct, is_in_range}
-use Rattle.chr_syntax.specs.Clauses.{Rule, weight, rule}
+use Rattle.chr_syntax.specs.Clauses.{Rule, rule}
 use Rattle.chr_syntax.specs.Grammar.{spelled, IsSymbol, OneOrMore, IsForm}
 use Rattle.chr_syntax.specs.working.Spellings.{IsLabel, IsAtom, IsItem}
 use Rattle.chr_syntax.specs.Bytes.{pieces}
 use Rattle.chr_base.specs.Names.{is_lower, is_digit}
 use Rattle.chr_syntax.specs.working.Tokens.{tokens_of}
 use Rattle.chr_syntax.specs.Lexemes.{IsWord}
-use Rattle.chr_read.specs.CanonicalTexts.{declaration_clauses, weight_clause, weight_clauses, rule_clause, clauses, canonical}
+use Rattle.chr_read.specs.declared.reader.TheConstants.{MAX_TEXT}
+use Rattle.chr_read.specs.CanonicalTexts.{declaration_clauses, weight_clause, weight_clauses, is_default, rule_clause, clauses, canonical}
 use Rattle.chr_base.specs.Sameness.{Parts, parts_of}
 use Rattle.chr_read.specs.Meanings.{Progress, nothing, meaning_of}
 use Rattle.chr_read.specs.Faults.{present, is_undeclared, is_anonymous, rule_atoms, right_terms, written_terms as terms_in, rule_over, is_unbound, is_outside}
-use Rattle.chr_read.specs.working.RuleParts.{any_undeclared, rule_undeclared, parts_of_atom_over, comparison_over, label_over, has_long_lists, parts_over, some_part_over, stands_in, is_bound, term_unbound, atom_unbound, comparison_unbound, rule_unbound, atom_outside, comparison_outside, rule_outside}
+use Rattle.chr_read.specs.working.RuleParts.{any_undeclared, rule_undeclared, parts_of_atom_over, comparison_over, label_over, has_long_lists, parts_over, some_part_over, stands_in, term_unbound, atom_unbound, comparison_unbound, rule_unbound, atom_outside, comparison_outside, rule_outside}
 use Rattle.chr_read.specs.working.TextsRead.{fault_in, meaning_in, pieces_read, text_read}
 use Rattle.chr_read.specs.Faults as faults
 use Rattle.chr_read.specs.Reading.{with_form}
@@ -44,18 +47,18 @@ use Rattle.chr_read.proofs.EndedTexts.{AreClauses, clauses_append, after, AreFau
 use Rattle.chr_read.proofs.NamesText.{front, back}
 use Rattle.chr_read.proofs.NumberedNames.{first_names, variable_name}
 use Rattle.chr_read.proofs.RuleParts.{undeclared_is, over_is, unbound_is, outside_is}
-use Rattle.chr_read.proofs.Numbering.{itself, terms_append}
+use Rattle.chr_read.proofs.Numbering.{itself}
 use Rattle.chr_read.proofs.RulesBack.{each_so, tested, none_pass, any_pass, same_each, present_map, present_body, placed, Good, writable, within, inside, bounds, numbered_split, good_term, GoodAtom, atom_within, atom_inside, atom_declared, atom_writable, atom_form, body_atom_back, heads_back, GoodComparison, comparison_back}
 use Rattle.chr_read.specs.RoundTrips.{ProgramsComeBack}
 use Rattle.chr_read.proofs.TextsRead.{programs, short_read}
-use Rattle.chr_read.proofs.WrittenForms.{written_term, written_atom, written_comparison, written_body, written_rule, written_symbol, declaration_forms, weight_forms, rule_forms}
+use Rattle.chr_read.proofs.WrittenForms.{written_term, written_atom, written_comparison, written_body, written_rule, written_symbol, written_weight, declaration_forms, weight_forms, rule_forms}
 use Rattle.chr_read.proofs.WrittenTokens.{IsWritableComparison, IsWritableRule, IsWritableSymbol, rule_tokens, declaration_tokens, weight_tokens}
 
 -- ---- what is known of a rule of a program
 
 record GoodRule (ds : List Declaration) (r : base_rule.Rule) : Type 0 where
   pub n : ℕ
-  pub few : n ≤ 16
+  pub few : n ≤ MAX_VARIABLES
   pub count : numbered 0 (terms_of (heads_of r)) ≡ Some n
   pub kept : AllByRecursion (GoodAtom ds n) r.kept.items
   pub removed : AllByRecursion (GoodAtom ds n) r.removed.items
@@ -74,7 +77,7 @@ valued_terms (p ∷ ps) h = let e = and_parts (list_all is_valued p.args.items) 
     chain [] ys h g = g
     chain (x ∷ xs) ys h g = let e = and_parts (is_valued x) (list_all is_valued xs) h in and_from (is_valued x) _ e.0 (chain xs ys e.1 g)
 
-few_terms : (ds : List Declaration) (ps : List Pattern) → list_all is_in_range ds ≡ true → list_all (is_declared ds) ps ≡ true → length (terms_of ps) ≤ length ps + length ps + length ps + length ps
+few_terms : (ds : List Declaration) (ps : List Pattern) → list_all is_in_range ds ≡ true → list_all (is_declared ds) ps ≡ true → length (terms_of ps) ≤ MAX_ARITY * length ps
 few_terms ds [] r h = omega arith
 few_terms ds (p ∷ ps) r h =
     let e = and_parts (is_declared ds p) (list_all (is_declared ds) ps) h in
@@ -128,10 +131,10 @@ good_rule ds r range fit =
     let s = some_of (numbered 0 (terms_of hs)) (numbered_rule r) in
     let b = bounds 0 s.0 (terms_of hs) s.1 (valued_terms hs w.0) in
     let good = b.good in
-    let z = (and_parts (nat_lt 0 (length r.removed.items)) (nat_le (length r.kept.items + length r.removed.items) 4) (sized_rule r)).1 in
-    let heads : length hs ≤ 4 = (let a = length-append r.kept.items r.removed.items in let c : length r.kept.items + length r.removed.items ≤ 4 = grind (arith, nat_tests) in omega (arith, a, c)) in
+    let z = (and_parts (nat_lt 0 (length r.removed.items)) (nat_le (length r.kept.items + length r.removed.items) MAX_HEADS) (sized_rule r)).1 in
+    let heads : length hs ≤ MAX_HEADS = (let a = length-append r.kept.items r.removed.items in let c : length r.kept.items + length r.removed.items ≤ MAX_HEADS = grind (arith, nat_tests) in omega (arith, a, c)) in
     let most = few_terms ds hs range (declared_both ds r.kept.items r.removed.items g.0 g.1) in
-    let split : AllByRecursion (Good s.0) (terms_of r.kept.items ++ terms_of r.removed.items) = subst (AllByRecursion (Good s.0)) (terms_append r.kept.items r.removed.items) good in
+    let split : AllByRecursion (Good s.0) (terms_of r.kept.items ++ terms_of r.removed.items) = subst (AllByRecursion (Good s.0)) (terms_of-append r.kept.items r.removed.items) good in
     record {
       n = s.0;
       few = (let m = b.most in omega (arith, m, most, heads));
@@ -182,25 +185,25 @@ module _ (ds : List Declaration) (r : base_rule.Rule) (u : are_distinct ds ≡ t
   abbrev labelled : Bool
   labelled = names.is_label (option_map (λ n. n.bytes) r.name)
 
-  limits : (labelled ≡ true) × (length r.guard.items ≤ 8) × (length r.body.items ≤ 8)
+  limits : (labelled ≡ true) × (length r.guard.items ≤ MAX_COMPARISONS) × (length r.body.items ≤ MAX_BODY)
   limits =
-      let a = and_parts (labelled && nat_le (length r.guard.items) 8) (nat_le (length r.body.items) 8) (few_rule r) in
-      let b = and_parts labelled (nat_le (length r.guard.items) 8) a.0 in
+      let a = and_parts (labelled && nat_le (length r.guard.items) MAX_COMPARISONS) (nat_le (length r.body.items) MAX_BODY) (few_rule r) in
+      let b = and_parts labelled (nat_le (length r.guard.items) MAX_COMPARISONS) a.0 in
       (b.0, (let b1 = b.1 in grind (arith, nat_tests)), (let a1 = a.1 in grind (arith, nat_tests)))
 
   few_lists : has_long_lists w ≡ false
   few_lists =
-      let z = (and_parts (nat_lt 0 (length r.removed.items)) (nat_le (length r.kept.items + length r.removed.items) 4) (sized_rule r)).1 in
+      let z = (and_parts (nat_lt 0 (length r.removed.items)) (nat_le (length r.kept.items + length r.removed.items) MAX_HEADS) (sized_rule r)).1 in
       let k = length-map r.kept.items (written_atom ds) in
       let m = length-map r.removed.items (written_atom ds) in
-      let c : length (present w.guard) ≤ 8 = (let e = ap length comparisons in let f = length-map r.guard.items written_comparison in let l = limits.1 in omega (arith, e, f, l)) in
-      let b : length (present w.body) ≤ 8 = (let e = ap length (present_body ds r.body.items) in let f = length-map r.body.items (written_atom ds) in let l = limits.2 in omega (arith, e, f, l)) in
-      or_from (nat_lt 4 (length w.kept + length w.removed)) _ (grind (arith, nat_tests))
-      (or_from (nat_lt 8 (length (present w.guard))) (nat_lt 8 (length (present w.body))) (grind (arith, nat_tests)) (grind (arith, nat_tests)))
+      let c : length (present w.guard) ≤ MAX_COMPARISONS = (let e = ap length comparisons in let f = length-map r.guard.items written_comparison in let l = limits.1 in omega (arith, e, f, l)) in
+      let b : length (present w.body) ≤ MAX_BODY = (let e = ap length (present_body ds r.body.items) in let f = length-map r.body.items (written_atom ds) in let l = limits.2 in omega (arith, e, f, l)) in
+      or_from (nat_lt MAX_HEADS (length w.kept + length w.removed)) _ (grind (arith, nat_tests))
+      (or_from (nat_lt MAX_COMPARISONS (length (present w.guard))) (nat_lt MAX_BODY (length (present w.body))) (grind (arith, nat_tests)) (grind (arith, nat_tests)))
 
   label_short : (o : Option (List ℕ)) → names.is_label o ≡ true → label_over o ≡ false
   label_short None h = refl
-  label_short (Some v) h = name_is_short v (let e1 = (and_parts (names.is_name v) (nat_le (length v) 32) h).1 in grind (arith, nat_tests))
+  label_short (Some v) h = name_is_short v (let e1 = (and_parts (names.is_name v) (nat_le (length v) MAX_NAME) h).1 in grind (arith, nat_tests))
 
   few_parts : parts_over w ≡ false
   few_parts =
@@ -235,22 +238,22 @@ module _ (ds : List Declaration) (r : base_rule.Rule) (u : are_distinct ds ≡ t
       (or_from (list_any comparison_outside (present w.guard)) _ (ap (list_any comparison_outside) comparisons ∙ none_pass comparison_outside written_comparison (GoodComparison g.n) out r.guard.items g.guard)
       (ap (list_any atom_outside) (present_body ds r.body.items) ∙ none_pass atom_outside (written_atom ds) (GoodAtom ds g.n) (atom_inside ds g.n) r.body.items g.body)))
 
-  rule_faultless : (q : Progress) → q.meaning.declarations ≡ ds → length q.meaning.rules < 64 → fault_in q (rule w) ≡ None
+  rule_faultless : (q : Progress) → q.meaning.declarations ≡ ds → length q.meaning.rules < MAX_RULES → fault_in q (rule w) ≡ None
   rule_faultless q is l =
-      let room : nat_le 64 (length q.meaning.rules) ≡ false = grind (arith, nat_tests) in
+      let room : nat_le MAX_RULES (length q.meaning.rules) ≡ false = grind (arith, nat_tests) in
       pass (list_any (is_undeclared q.meaning.declarations) (rule_atoms w)) _ _ (sym (undeclared_is q.meaning.declarations w) ∙ ap (λ d. rule_undeclared d w) is ∙ undeclared)
-      (pass (nat_le 64 (length q.meaning.rules) || rule_over w) _ _ (or_from (nat_le 64 (length q.meaning.rules)) _ room (sym (over_is w) ∙ not_over))
+      (pass (nat_le MAX_RULES (length q.meaning.rules) || rule_over w) _ _ (or_from (nat_le MAX_RULES (length q.meaning.rules)) _ room (sym (over_is w) ∙ not_over))
       (pass (list_any (is_unbound w) (right_terms w)) _ _ (sym (unbound_is w) ∙ not_unbound) (pass (list_any is_outside (terms_in w)) _ _ (sym (outside_is w) ∙ not_outside) refl)))
 
   -- ---- it is resolved to the rule
 
   rule_back : resolved ds w ≡ parts_of r
   rule_back =
-      let s = numbered_split 0 g.n (terms_of r.kept.items) (terms_of r.removed.items) (ap (numbered 0) (sym (terms_append r.kept.items r.removed.items)) ∙ g.count) in
+      let s = numbered_split 0 g.n (terms_of r.kept.items) (terms_of r.removed.items) (ap (numbered 0) (sym (terms_of-append r.kept.items r.removed.items)) ∙ g.count) in
       let v = (and_parts (are_valued (heads_of r)) (list_all (λ c. is_valued c.left && is_valued c.right) r.guard.items) (and_parts (are_valued (heads_of r) && list_all (λ c. is_valued c.left && is_valued c.right) r.guard.items) (are_valued r.body.items) (valued_rule r)).0).0 in
       let vs = valued_parts r.kept.items r.removed.items v in
       let b = (bounds s.0 g.n (terms_of r.removed.items) s.2 (valued_terms r.removed.items vs.1)).least in
-      let few : s.0 ≤ 16 = (let f = g.few in omega (arith, b, f)) in
+      let few : s.0 ≤ MAX_VARIABLES = (let f = g.few in omega (arith, b, f)) in
       let good_kept = good_at s.0 r.kept.items g.kept s.1 (valued_terms r.kept.items vs.0) in
       let k = heads_back ds 0 s.0 r.kept.items few (omega arith) u good_kept (valued_terms r.kept.items vs.0) s.1 in
       let m = heads_back ds s.0 g.n r.removed.items g.few few u g.removed (valued_terms r.removed.items vs.1) s.2 in
@@ -280,13 +283,13 @@ module _ (ds : List Declaration) (r : base_rule.Rule) (u : are_distinct ds ≡ t
   rule_form = (
     label_form (option_map (λ n. n.bytes) r.name) limits.0,
     mapped (written_atom ds) (GoodAtom ds g.n) IsAtom (atom_form ds g.n) r.kept.items g.kept,
-    some_mapped r.removed.items (let z = (and_parts (nat_lt 0 (length r.removed.items)) (nat_le (length r.kept.items + length r.removed.items) 4) (sized_rule r)).0 in grind (arith, nat_tests)) g.removed,
+    some_mapped r.removed.items (let z = (and_parts (nat_lt 0 (length r.removed.items)) (nat_le (length r.kept.items + length r.removed.items) MAX_HEADS) (sized_rule r)).0 in grind (arith, nat_tests)) g.removed,
     body_form r.body.items g.body,
   )
     where
       label_form : (o : Option (List ℕ)) → names.is_label o ≡ true → IsLabel o
       label_form None h = tt
-      label_form (Some v) h = name_is_unreserved v (and_parts (names.is_name v) (nat_le (length v) 32) h).0
+      label_form (Some v) h = name_is_unreserved v (and_parts (names.is_name v) (nat_le (length v) MAX_NAME) h).0
 
       mapped : {A B : Type 0} (f : A → B) (P : A → Type 0) (Q : B → Type 0) → ((x : A) → P x → Q (f x)) → (xs : List A) → AllByRecursion P xs → AllByRecursion Q (map f xs)
       mapped f P Q h [] a = tt
@@ -304,7 +307,7 @@ module _ (ds : List Declaration) (r : base_rule.Rule) (u : are_distinct ds ≡ t
   rule_writable = record {
     label = λ v e. label_word (option_map (λ n. n.bytes) r.name) v e limits.0;
     kept = each_so (GoodAtom ds g.n) _ (atom_writable ds g.n g.few) r.kept.items g.kept;
-    some = (let z = (and_parts (nat_lt 0 (length r.removed.items)) (nat_le (length r.kept.items + length r.removed.items) 4) (sized_rule r)).0 in grind (arith, nat_tests));
+    some = (let z = (and_parts (nat_lt 0 (length r.removed.items)) (nat_le (length r.kept.items + length r.removed.items) MAX_HEADS) (sized_rule r)).0 in grind (arith, nat_tests));
     removed = each_so (GoodAtom ds g.n) _ (atom_writable ds g.n g.few) r.removed.items g.removed;
     guard = each_so (GoodComparison g.n) IsWritableComparison (λ c h. record { left = writable g.n g.few c.left h.left; right = writable g.n g.few c.right h.right }) r.guard.items g.guard;
     body = each_so (GoodAtom ds g.n) _ (atom_writable ds g.n g.few) r.body.items g.body;
@@ -325,7 +328,7 @@ rules_clauses ds (r ∷ rs) range u h =
 abbrev Ruled : List Declaration → List Parts → List ℕ → List base_rule.Rule → Type 0
 Ruled ds made ws rs = AreFaultless (state ds made ws) (rule_forms ds rs) × (after (state ds made ws) (rule_forms ds rs) ≡ state ds (made ++ map parts_of rs) ws)
 
-rules_back : (ds : List Declaration) (made : List Parts) (ws : List ℕ) (rs : List base_rule.Rule) → list_all is_in_range ds ≡ true → are_distinct ds ≡ true → list_all (fits ds) rs ≡ true → length made + length rs ≤ 64 → Ruled ds made ws rs
+rules_back : (ds : List Declaration) (made : List Parts) (ws : List ℕ) (rs : List base_rule.Rule) → list_all is_in_range ds ≡ true → are_distinct ds ≡ true → list_all (fits ds) rs ≡ true → length made + length rs ≤ MAX_RULES → Ruled ds made ws rs
 rules_back ds made ws [] range u h l = (tt, ap (λ x. state ds x ws) (sym (append-nil made)))
 rules_back ds made ws (r ∷ rs) range u h l =
     let e = and_parts (fits ds r) (list_all (fits ds) rs) h in
@@ -362,25 +365,25 @@ declaration_is (d ∷ ds) h = (declaration_tokens d ds (tested is_in_range IsWri
 weights_are : (ds : List Declaration) → list_all is_in_range ds ≡ true → AreClauses (weight_clauses ds) (weight_forms ds)
 weights_are [] h = tt
 weights_are (d ∷ ds) h =
-    let e = and_parts (is_in_range d) (list_all is_in_range ds) h in let r = in_range d e.0 in let m = r.most in
-    by (d.weight == 1) (weight_tokens d (symbol_writable d r) (omega (arith, m)), symbol_form d r) (weights_are ds e.1)
+    let e = and_parts (is_in_range d) (list_all is_in_range ds) h in let r = in_range d e.0 in let m = r.first in let n = r.second in
+    by (is_default d.weight) (weight_tokens d (symbol_writable d r) record { first = omega (arith, m); second = omega (arith, n) }, symbol_form d r) (weights_are ds e.1)
   where
-    by : (t : Bool) → (tokens_of (weight_clause d) ≡ Some (spelled (weight (written_symbol d) (decimal d.weight)))) × IsForm (weight (written_symbol d) (decimal d.weight)) → AreClauses (weight_clauses ds) (weight_forms ds)
-        → AreClauses (cond t (weight_clauses ds) (weight_clause d ∷ weight_clauses ds)) (cond t (weight_forms ds) (weight (written_symbol d) (decimal d.weight) ∷ weight_forms ds))
+    by : (t : Bool) → (tokens_of (weight_clause d) ≡ Some (spelled (written_weight d))) × IsForm (written_weight d) → AreClauses (weight_clauses ds) (weight_forms ds)
+        → AreClauses (cond t (weight_clauses ds) (weight_clause d ∷ weight_clauses ds)) (cond t (weight_forms ds) (written_weight d ∷ weight_forms ds))
     by true one more = more
     by false one more = (one.0, one.1, more)
 
 -- ---- the text
 
-comes_back : (p : Program) → length (canonical (declarations p) (rules_of p)) ≤ 65536 → text_read (canonical (declarations p) (rules_of p)) ≡ Ok (meaning_of p)
+comes_back : (p : Program) → length (canonical (declarations p) (rules_of p)) ≤ MAX_TEXT → text_read (canonical (declarations p) (rules_of p)) ≡ Ok (meaning_of p)
 comes_back p short =
     let ds = declarations p in let rs = rules_of p in
-    let a = and_parts (nat_le (length ds) 64 && nat_le (length rs) 64 && list_all is_in_range ds && are_distinct ds) (list_all (fits ds) rs) p.well_formed in
-    let b = and_parts (nat_le (length ds) 64 && nat_le (length rs) 64 && list_all is_in_range ds) (are_distinct ds) a.0 in
-    let c = and_parts (nat_le (length ds) 64 && nat_le (length rs) 64) (list_all is_in_range ds) b.0 in
-    let e = and_parts (nat_le (length ds) 64) (nat_le (length rs) 64) c.0 in
-    let few : length ds ≤ 64 = (let e0 = e.0 in grind (arith, nat_tests)) in
-    let few_rules : 0 + length rs ≤ 64 = (let e1 = e.1 in grind (arith, nat_tests)) in
+    let a = and_parts (nat_le (length ds) MAX_SYMBOLS && nat_le (length rs) MAX_RULES && list_all is_in_range ds && are_distinct ds) (list_all (fits ds) rs) p.well_formed in
+    let b = and_parts (nat_le (length ds) MAX_SYMBOLS && nat_le (length rs) MAX_RULES && list_all is_in_range ds) (are_distinct ds) a.0 in
+    let c = and_parts (nat_le (length ds) MAX_SYMBOLS && nat_le (length rs) MAX_RULES) (list_all is_in_range ds) b.0 in
+    let e = and_parts (nat_le (length ds) MAX_SYMBOLS) (nat_le (length rs) MAX_RULES) c.0 in
+    let few : length ds ≤ MAX_SYMBOLS = (let e0 = e.0 in grind (arith, nat_tests)) in
+    let few_rules : 0 + length rs ≤ MAX_RULES = (let e1 = e.1 in grind (arith, nat_tests)) in
     let range = c.1 in let u = b.1 in
     let first = declarations_back ds few range u in
     let second = weights_back ds range u in

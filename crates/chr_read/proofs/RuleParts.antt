@@ -1,13 +1,14 @@
 -- The tests of a clause list by list are those of its atoms and terms as one list.
-use Rattle.std.proofs.Common.{◌≡◌, ℕ, ◌+◌, List, [], ◌∷◌, ◌++◌, length, Bool, true, false, not, ◌||◌, ◌&&◌, nat_lt, Option, Some, None, refl, sym, ap, ◌∙◌, length-append}
+use Rattle.std.proofs.Common.{◌≡◌, ℕ, ◌+◌, List, [], ◌∷◌, length, Bool, true, false, not, ◌||◌, ◌&&◌, nat_lt, Option, Some, None, refl, sym, ap, ◌∙◌, length-append}
 use Rattle.std.specs.Prelude.{option_to_list}
 use Rattle.std.specs.List.{list_any, flat_map}
 use Rattle.std.proofs.Math.Bool.{or_assoc, or-false}
 use Rattle.std.proofs.lemmas.List.Folds.{list_any-append}
+use Rattle.chr_base.specs.declared.limits.TheConstants.{MAX_BODY, MAX_COMPARISONS, MAX_HEADS}
 use Rattle.chr_base.specs.ProgramTests.{Declaration}
 use Rattle.chr_syntax.specs.Clauses.{Term, Atom, Symbol, Comparison, Rule, variable, number}
 use Rattle.chr_read.specs.Faults.{present, rule_heads, rule_atoms, args_of, right_terms, written_terms, is_undeclared, is_same_symbol, comes_twice, is_long, is_long_variable, atom_over, rule_over, is_anonymous, is_named, is_unbound, is_outside}
-use Rattle.chr_read.specs.working.RuleParts.{rule_undeclared, comes_again, parts_of_atom_over, comparison_over, label_over, has_long_lists, parts_over, some_part_over, stands_in, term_unbound, atom_unbound, comparison_unbound, rule_unbound, atom_outside, comparison_outside, rule_outside}
+use Rattle.chr_read.specs.working.RuleParts.{rule_undeclared, comes_again, comparison_over, label_over, parts_over, some_part_over, stands_in, term_unbound, rule_unbound, rule_outside}
 
 -- ---- lists
 
@@ -108,10 +109,10 @@ parts_are r =
 
 pub over_is : (r : Rule) → some_part_over r ≡ rule_over r
 over_is r =
-    let heads = nat_lt 4 (length r.kept + length r.removed) in
-    let guard = nat_lt 8 (length (present r.guard)) in
-    let body = nat_lt 8 (length (present r.body)) in
-    let n : heads ≡ nat_lt 4 (length (rule_heads r)) = ap (nat_lt 4) (sym (length-append r.kept r.removed)) in
+    let heads = nat_lt MAX_HEADS (length r.kept + length r.removed) in
+    let guard = nat_lt MAX_COMPARISONS (length (present r.guard)) in
+    let body = nat_lt MAX_BODY (length (present r.body)) in
+    let n : heads ≡ nat_lt MAX_HEADS (length (rule_heads r)) = ap (nat_lt MAX_HEADS) (sym (length-append r.kept r.removed)) in
     let l = label_is r.label in let q = parts_are r in
     or_assoc heads (guard || body) _ ∙ ap (λ b. heads || b) (or_assoc guard body _)
     ∙ λ i. n i || (guard || (body || (l i || q i)))

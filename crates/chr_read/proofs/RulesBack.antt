@@ -1,5 +1,5 @@
 -- The clause of a rule is read as the rule that it was written for.
-use Rattle.std.proofs.Common.{◌≡◌, ℕ, zero, suc, ◌+◌, ◌<◌, ◌≤◌, List, [], ◌∷◌, ◌++◌, length, map, Bool, true, false, not, cond, ◌||◌, ◌&&◌, nat_lt, nat_le, nat_eq, Option, Some, None, option_map, unwrap_or, is_none, position, slice_get, refl, sym, ap, ◌∙◌, subst, arith}
+use Rattle.std.proofs.Common.{◌≡◌, ℕ, zero, suc, ◌+◌, ◌<◌, ◌≤◌, List, [], ◌∷◌, ◌++◌, length, map, Bool, true, false, not, cond, ◌||◌, ◌&&◌, nat_lt, nat_le, nat_eq, Option, Some, None, option_map, unwrap_or, is_none, slice_get, refl, sym, ap, ◌∙◌, subst, arith}
 use Rattle.std.specs.Prelude.{pos, codes, decimal}
 use Rattle.std.specs.Option.{option_map_or}
 use Rattle.std.specs.List.{list_any, list_all, AllByRecursion}
@@ -8,6 +8,7 @@ use Rattle.std.proofs.lemmas.Bool.Decides.{nat_tests}
 use Rattle.std.proofs.lemmas.Fmt.{length-decimal-le_succ}
 use Rattle.std.proofs.lemmas.List.{length-map}
 use Rattle.std.proofs.lemmas.Option.{none-some, same_Some}
+use Rattle.chr_base.specs.declared.limits.TheConstants.{MAX_ARITY, MAX_NAME, MAX_VARIABLES}
 use Rattle.chr_base.specs.declared.term.Term as base
 use Rattle.chr_base.specs.declared.term.Term.TheVariants.{Variable, Constant}
 use Rattle.chr_base.specs.declared.term.Cmp.{Cmp}
@@ -117,14 +118,14 @@ abbrev pub Good : ℕ → base.Term → Type 0
 Good n (Variable x) = (0 < x) × (x ≤ n)
 Good n (Constant c) = is_value c ≡ true
 
-pub writable : (n : ℕ) → n ≤ 16 → (t : base.Term) → Good n t → IsWritable t
+pub writable : (n : ℕ) → n ≤ MAX_VARIABLES → (t : base.Term) → Good n t → IsWritable t
 writable n l (Variable x) h = omega (arith, l, h)
 writable n l (Constant c) h = h
 
-pub within : (n : ℕ) → n ≤ 16 → (t : base.Term) → Good n t → is_long_variable (written_term t) ≡ false
+pub within : (n : ℕ) → n ≤ MAX_VARIABLES → (t : base.Term) → Good n t → is_long_variable (written_term t) ≡ false
 within n l (Variable x) h = let a = length-decimal-le_succ x (omega (arith, l, h)) in short (decimal x) (omega (arith, a, l, h))
   where
-    short : (w : List ℕ) → length w ≤ 17 → nat_lt 32 (length (codes "V" ++ w)) ≡ false
+    short : (w : List ℕ) → length w ≤ suc MAX_VARIABLES → nat_lt MAX_NAME (length (codes "V" ++ w)) ≡ false
     short w h = grind (arith, nat_tests)
 within n l (Constant c) h = refl
 
@@ -132,7 +133,7 @@ pub inside : (n : ℕ) (t : base.Term) → Good n t → is_outside (written_term
 inside n (Variable x) h = refl
 inside n (Constant c) h = ap is_none (number_back c h)
 
-term_back : (n : ℕ) → n ≤ 16 → (t : base.Term) → Good n t → resolved_term (first_names n) (written_term t) ≡ t
+term_back : (n : ℕ) → n ≤ MAX_VARIABLES → (t : base.Term) → Good n t → resolved_term (first_names n) (written_term t) ≡ t
 term_back n l (Variable zero) h = absurd (omega (arith, h))
 term_back n l (Variable (suc x)) h = ap Variable (variable_back x n (omega (arith, h)) (omega (arith, l)))
 term_back n l (Constant c) h = ap (λ o. Constant (unwrap_or o (pos 0))) (number_back c h)
@@ -196,10 +197,10 @@ pub record GoodAtom (ds : List Declaration) (n : ℕ) (p : Pattern) : Type 0 whe
   pub placed : Placed ds p
   pub args : AllByRecursion (Good n) p.args.items
 
-pub atom_within : (ds : List Declaration) (n : ℕ) → n ≤ 16 → (p : Pattern) → GoodAtom ds n p → parts_of_atom_over (written_atom ds p) ≡ false
+pub atom_within : (ds : List Declaration) (n : ℕ) → n ≤ MAX_VARIABLES → (p : Pattern) → GoodAtom ds n p → parts_of_atom_over (written_atom ds p) ≡ false
 atom_within ds n l p h =
     let q = h.placed in
-    let few : nat_lt 4 (length (map written_term p.args.items)) ≡ false = (let a = length-map p.args.items written_term in let b = q.takes in let c = q.range.arity in grind (arith, nat_tests)) in
+    let few : nat_lt MAX_ARITY (length (map written_term p.args.items)) ≡ false = (let a = length-map p.args.items written_term in let b = q.takes in let c = q.range.arity in grind (arith, nat_tests)) in
     let short = ap is_long (name_here ds p q) ∙ name_is_short q.d.name q.range.short in
     or_from (atom_over (written_atom ds p)) _ (or_from (is_long (name_at ds p.symbol.0)) _ short few)
     (none_pass is_long_variable written_term (Good n) (within n l) p.args.items h.args)
@@ -210,7 +211,7 @@ atom_inside ds n p h = none_pass is_outside written_term (Good n) (inside n) p.a
 pub atom_declared : (ds : List Declaration) (n : ℕ) → are_distinct ds ≡ true → (p : Pattern) → GoodAtom ds n p → is_undeclared ds (written_atom ds p) ≡ false
 atom_declared ds n u p h = ap is_none (atom_place ds p u h.placed)
 
-pub atom_writable : (ds : List Declaration) (n : ℕ) → n ≤ 16 → (p : Pattern) → GoodAtom ds n p → IsWritableAtom ds p
+pub atom_writable : (ds : List Declaration) (n : ℕ) → n ≤ MAX_VARIABLES → (p : Pattern) → GoodAtom ds n p → IsWritableAtom ds p
 atom_writable ds n l p h = record {
   word = subst (IsWord is_lower) (sym (name_here ds p h.placed)) (name_is_word h.placed.d.name h.placed.range.name);
   args = each_so (Good n) IsWritable (writable n l) p.args.items h.args;
@@ -219,13 +220,13 @@ atom_writable ds n l p h = record {
 pub atom_form : (ds : List Declaration) (n : ℕ) (p : Pattern) → GoodAtom ds n p → IsAtom (written_atom ds p)
 atom_form ds n p h = subst (λ w. names.is_reserved w ≡ false) (sym (name_here ds p h.placed)) (name_is_unreserved h.placed.d.name h.placed.range.name)
 
-pub body_atom_back : (ds : List Declaration) (n : ℕ) → n ≤ 16 → are_distinct ds ≡ true → (p : Pattern) → GoodAtom ds n p → body_atom ds (first_names n) (written_atom ds p) ≡ p
+pub body_atom_back : (ds : List Declaration) (n : ℕ) → n ≤ MAX_VARIABLES → are_distinct ds ≡ true → (p : Pattern) → GoodAtom ds n p → body_atom ds (first_names n) (written_atom ds p) ≡ p
 body_atom_back ds n l u p h =
     let symbol = ap (λ o. unwrap_or o 0) (atom_place ds p u h.placed) in
     let args = same_each (resolved_term (first_names n)) written_term (Good n) (term_back n l) p.args.items h.args in
     λ i. record { symbol = record { 0 = symbol i }; args = record { items = args i } }
 
-pub heads_back : (ds : List Declaration) (m n : ℕ) (ps : List Pattern) → n ≤ 16 → m ≤ 16 → are_distinct ds ≡ true → AllByRecursion (GoodAtom ds n) ps → list_all is_valued (terms_of ps) ≡ true → numbered m (terms_of ps) ≡ Some n
+pub heads_back : (ds : List Declaration) (m n : ℕ) (ps : List Pattern) → n ≤ MAX_VARIABLES → m ≤ MAX_VARIABLES → are_distinct ds ≡ true → AllByRecursion (GoodAtom ds n) ps → list_all is_valued (terms_of ps) ≡ true → numbered m (terms_of ps) ≡ Some n
     → (heads ds (first_names m) (map (written_atom ds) ps) ≡ ps) × (after_heads (first_names m) (map (written_atom ds) ps) ≡ first_names n)
 heads_back ds m n [] l k u h v e = (refl, ap first_names (same_Some m n e))
 heads_back ds m n (p ∷ ps) l k u h v e =
@@ -257,5 +258,5 @@ cmp_back cmp.AtLeast = refl
 cmp_back cmp.Equal = refl
 cmp_back cmp.NotEqual = refl
 
-pub comparison_back : (n : ℕ) → n ≤ 16 → (c : base_comparison.Comparison) → GoodComparison n c → resolved_comparison (first_names n) (written_comparison c) ≡ c
+pub comparison_back : (n : ℕ) → n ≤ MAX_VARIABLES → (c : base_comparison.Comparison) → GoodComparison n c → resolved_comparison (first_names n) (written_comparison c) ≡ c
 comparison_back n l c h = let a = term_back n l c.left h.left in let b = term_back n l c.right h.right in let o = cmp_back c.cmp in λ i. record { left = a i; cmp = o i; right = b i }

@@ -5,6 +5,7 @@ use Rattle.chr_base.specs.declared.program.Program.{Program}
 use Rattle.chr_syntax.specs.Bytes.{pieces, without_comments}
 use Rattle.chr_syntax.specs.Clauses.{Form}
 use Rattle.chr_syntax.specs.Lexemes.{AreClause}
+use Rattle.chr_read.specs.declared.reader.TheConstants.{MAX_TEXT}
 use Rattle.chr_read.specs.declared.fault.Fault.{Fault}
 use Rattle.chr_read.specs.declared.fault.ReadFault.{ReadFault}
 use Rattle.chr_read.specs.declared.fault.ReadFault.TheVariants.{TooLong, Bad, Memory}
@@ -85,7 +86,7 @@ read_bad k q (b ∷ d ∷ ds) c after p n m l =
 
 abbrev pub TextMeans : List ℕ → Result Meaning ReadFault → Type 0
 TextMeans text (Ok m) = IsProgramText text m
-TextMeans text (Err TooLong) = 65536 < length text
+TextMeans text (Err TooLong) = MAX_TEXT < length text
 TextMeans text (Err Memory) = ⊥
 TextMeans text (Err (Bad n k)) = IsRefusedText text n k
 
@@ -103,22 +104,22 @@ read_pieces text short =
 
 pub text_means : (text : List ℕ) → TextMeans text (text_read text)
 unfolding text_read
-text_means text = by (nat_le (length text) 65536) refl
+text_means text = by (nat_le (length text) MAX_TEXT) refl
   where
-    by : (b : Bool) → nat_le (length text) 65536 ≡ b → TextMeans text (cond b (meaning_in (pieces_read 1 nothing (pieces (without_comments text)))) (Err TooLong))
+    by : (b : Bool) → nat_le (length text) MAX_TEXT ≡ b → TextMeans text (cond b (meaning_in (pieces_read 1 nothing (pieces (without_comments text)))) (Err TooLong))
     by true is = read_pieces text (grind (arith, nat_tests))
     by false is = grind (arith, nat_tests)
 
 pub short_read : (text : List ℕ) → IsShort text → text_read text ≡ meaning_in (pieces_read 1 nothing (pieces (without_comments text)))
 unfolding text_read
 short_read text short =
-    let e : nat_le (length text) 65536 ≡ true = grind (arith, nat_tests) in
+    let e : nat_le (length text) MAX_TEXT ≡ true = grind (arith, nat_tests) in
     ap (λ b. cond b (meaning_in (pieces_read 1 nothing (pieces (without_comments text)))) (Err TooLong)) e
 
-long_read : (text : List ℕ) → 65536 < length text → text_read text ≡ Err TooLong
+long_read : (text : List ℕ) → MAX_TEXT < length text → text_read text ≡ Err TooLong
 unfolding text_read
 long_read text long =
-    let e : nat_le (length text) 65536 ≡ false = grind (arith, nat_tests) in
+    let e : nat_le (length text) MAX_TEXT ≡ false = grind (arith, nat_tests) in
     ap (λ b. cond b (meaning_in (pieces_read 1 nothing (pieces (without_comments text)))) (Err TooLong)) e
 
 pub programs : ProgramsAreRead

@@ -1,14 +1,14 @@
 -- Texts that are written clause by clause.
 use Rattle.std.proofs.Common.{◌≡◌, ℕ, ◌+◌, ◌<◌, List, [], ◌∷◌, ◌++◌, length, map, get_or, take, drop, Bool, true, false, cond, Some, slice_get, refl, sym, ap, ◌∙◌, append_assoc}
-use Rattle.std.specs.Prelude.{◌==◌, codes, decimal}
-use Rattle.std.proofs.lemmas.Bool.{eqb-true}
+use Rattle.std.specs.Prelude.{codes}
 use Rattle.std.proofs.lemmas.List.{drop_more, take_more, map-append}
 use Rattle.std.proofs.lemmas.Option.{get_or_from_slice_get}
 use Rattle.chr_base.specs.ProgramTests.{Declaration}
+use Rattle.chr_base.specs.Weights.{is_paired, weight_text}
 use Rattle.chr_base.specs.declared.rule.Rule.{Rule}
 use Rattle.chr_read.specs.declared.writer.Declared.{Declared}
 use Rattle.chr_read.specs.working.Views.{declared_view}
-use Rattle.chr_read.specs.CanonicalTexts.{more, symbol_text, declaration_clauses, weight_clause, weight_clauses, rule_clause, ended_clauses, canonical}
+use Rattle.chr_read.specs.CanonicalTexts.{more, symbol_text, declaration_clauses, weight_clause, is_default, weight_clauses, rule_clause, ended_clauses, canonical}
 
 pub ended-append : (cs ds : List (List ℕ)) → ended_clauses (cs ++ ds) ≡ ended_clauses cs ++ ended_clauses ds
 ended-append [] ds = refl
@@ -22,17 +22,18 @@ declaration_written old a b c e d ds all p q r s is =
     ∙ ap (λ x. x ++ codes ".\n") (append_assoc (old ++ h) s1 m ∙ append_assoc old h (s1 ++ m)) ∙ append_assoc old (h ++ (s1 ++ m)) (codes ".\n")
     ∙ sym (ap (λ x. old ++ ended_clauses (declaration_clauses x)) is)
 
-pub weight_written : (old a b e : List ℕ) (d : Declaration) → (d.weight == 1) ≡ false → a ≡ old ++ codes ":- chr_weight " → b ≡ a ++ symbol_text d → e ≡ b ++ (codes " = " ++ (decimal d.weight ++ codes ".\n"))
-    → e ≡ old ++ ended_clauses (weight_clauses (d ∷ []))
-weight_written old a b e d other p q r =
-    let s1 = symbol_text d in let h = codes ":- chr_weight " in let w = codes " = " ++ decimal d.weight in
-    r ∙ ap (λ x. x ++ (w ++ codes ".\n")) (q ∙ ap (λ x. x ++ s1) p)
-    ∙ append_assoc (old ++ h) s1 (w ++ codes ".\n") ∙ append_assoc old h (s1 ++ (w ++ codes ".\n"))
-    ∙ ap (λ x. old ++ (h ++ x)) (sym (append_assoc s1 w (codes ".\n")))
+pub weight_written : (old a b c e f : List ℕ) (d : Declaration) → is_default d.weight ≡ false → a ≡ old ++ codes ":- chr_weight " → b ≡ a ++ symbol_text d → c ≡ b ++ codes " = "
+    → e ≡ c ++ weight_text (is_paired d.weight) d.weight → f ≡ e ++ codes ".\n" → f ≡ old ++ ended_clauses (weight_clauses (d ∷ []))
+weight_written old a b c e f d other p q r s is =
+    let s1 = symbol_text d in let h = codes ":- chr_weight " in let w = weight_text (is_paired d.weight) d.weight in let after = codes " = " ++ w in
+    is ∙ ap (λ x. x ++ codes ".\n")
+    (s ∙ ap (λ x. x ++ w) r ∙ append_assoc b (codes " = ") w ∙ ap (λ x. x ++ after) (q ∙ ap (λ x. x ++ s1) p)
+    ∙ append_assoc (old ++ h) s1 after ∙ append_assoc old h (s1 ++ after))
+    ∙ append_assoc old (h ++ (s1 ++ after)) (codes ".\n")
     ∙ sym (ap (λ t. old ++ ended_clauses (cond t [] (weight_clause d ∷ []))) other)
 
 pub weights_more : (d : Declaration) (ds : List Declaration) → ended_clauses (weight_clauses (d ∷ [])) ++ ended_clauses (weight_clauses ds) ≡ ended_clauses (weight_clauses (d ∷ ds))
-weights_more d ds = by (d.weight == 1)
+weights_more d ds = by (is_default d.weight)
   where
     by : (t : Bool) → ended_clauses (cond t [] (weight_clause d ∷ [])) ++ ended_clauses (weight_clauses ds) ≡ ended_clauses (cond t (weight_clauses ds) (weight_clause d ∷ weight_clauses ds))
     by true = refl
@@ -44,13 +45,6 @@ whole_written a b c all ds rs is p q r =
     r ∙ ap (λ x. x ++ ended_clauses (map (rule_clause ds) rs)) (q ∙ (λ i. p i ++ ended_clauses (weight_clauses all)) ∙ ap (λ x. ended_clauses (declaration_clauses x) ++ ended_clauses (weight_clauses x)) is)
     ∙ append_assoc (ended_clauses (declaration_clauses ds)) (ended_clauses (weight_clauses ds)) (ended_clauses (map (rule_clause ds) rs))
     ∙ sym (ended-append (declaration_clauses ds) (weight_clauses ds ++ map (rule_clause ds) rs) ∙ ap (λ x. ended_clauses (declaration_clauses ds) ++ x) (ended-append (weight_clauses ds) (map (rule_clause ds) rs)))
-
-pub no_default : (w : ℕ) → (w ≡ 1 → ⊥) → (w == 1) ≡ false
-no_default w h = by (w == 1) refl
-  where
-    by : (t : Bool) → (w == 1) ≡ t → (w == 1) ≡ false
-    by false e = e
-    by true e = absurd (h (eqb-true w 1 e))
 
 -- one more clause of weights, where the symbol needs one
 pub weights_step : (all : List Declared) (i : ℕ) (d : Declared) (a b w : List ℕ) → i < length all → a ++ ended_clauses (weight_clauses (map declared_view (drop i all))) ≡ w

@@ -1,6 +1,6 @@
 -- The clauses of a canonical text, as forms.
 use Rattle.std.proofs.Common.{List, [], ◌∷◌, ◌++◌, map, cond, Option, Some, None, option_map}
-use Rattle.std.specs.Prelude.{◌==◌, codes, decimal}
+use Rattle.std.specs.Prelude.{ℕ, codes, decimal}
 use Rattle.std.specs.Fmt.{signed_decimal}
 use Rattle.chr_base.specs.declared.term.Term as base
 use Rattle.chr_base.specs.declared.term.Term.TheVariants.{Variable, Constant}
@@ -9,11 +9,13 @@ use Rattle.chr_base.specs.declared.term.Cmp.TheVariants as cmp
 use Rattle.chr_base.specs.declared.term.Comparison as base_comparison
 use Rattle.chr_base.specs.declared.term.Pattern.{Pattern}
 use Rattle.chr_base.specs.declared.rule.Rule as base_rule
+use Rattle.chr_base.specs.declared.weight.Weight.{Weight}
 use Rattle.chr_base.specs.ProgramTests.{Declaration}
+use Rattle.chr_base.specs.Weights.{is_paired}
 use Rattle.chr_syntax.specs.declared.clause.Comparator.{Comparator}
 use Rattle.chr_syntax.specs.declared.clause.Comparator.TheVariants as sign
 use Rattle.chr_syntax.specs.Clauses.{Term, Atom, Symbol, Comparison, Rule, Form, variable, number, declare, weight, rule}
-use Rattle.chr_read.specs.CanonicalTexts.{name_at}
+use Rattle.chr_read.specs.CanonicalTexts.{name_at, is_default}
 
 abbrev pub written_term : base.Term → Term
 written_term (Variable x) = variable (codes "V" ++ decimal x)
@@ -54,9 +56,16 @@ abbrev pub declaration_forms : List Declaration → List Form
 declaration_forms [] = []
 declaration_forms (d ∷ ds) = declare (map written_symbol (d ∷ ds)) ∷ []
 
+-- the second number, where it is written
+abbrev pub written_second : Weight → Option (List ℕ)
+written_second w = cond (is_paired w) (Some (decimal w.second)) None
+
+abbrev pub written_weight : Declaration → Form
+written_weight d = weight (written_symbol d) (decimal d.weight.first) (written_second d.weight)
+
 abbrev pub weight_forms : List Declaration → List Form
 weight_forms [] = []
-weight_forms (d ∷ ds) = cond (d.weight == 1) (weight_forms ds) (weight (written_symbol d) (decimal d.weight) ∷ weight_forms ds)
+weight_forms (d ∷ ds) = cond (is_default d.weight) (weight_forms ds) (written_weight d ∷ weight_forms ds)
 
 abbrev pub rule_forms : List Declaration → List base_rule.Rule → List Form
 rule_forms ds rs = map (λ r. rule (written_rule ds r)) rs

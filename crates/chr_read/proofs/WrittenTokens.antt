@@ -1,5 +1,5 @@
 -- The tokens of the clauses of a canonical text.
-use Rattle.std.proofs.Common.{◌≡◌, ℕ, ◌^◌, ◌<◌, List, [], ◌∷◌, ◌++◌, length, map, true, ◌==◌, Option, Some, None, option_map, inl, refl, sym, ap, ◌∙◌, subst, append_assoc, append-nil, arith}
+use Rattle.std.proofs.Common.{◌≡◌, ℕ, ◌^◌, ◌<◌, List, [], ◌∷◌, ◌++◌, length, map, Bool, true, false, cond, ◌==◌, Option, Some, None, option_map, inl, refl, sym, ap, ◌∙◌, subst, append_assoc, append-nil, arith}
 use Rattle.std.specs.Prelude.{codes, decimal}
 use Rattle.std.specs.Fmt.{signed_decimal}
 use Rattle.std.specs.List.{prefix_len, AllByRecursion}
@@ -12,15 +12,17 @@ use Rattle.chr_base.specs.declared.term.Comparison as base_comparison
 use Rattle.chr_base.specs.declared.term.Pattern.{Pattern}
 use Rattle.chr_base.specs.declared.rule.Rule as base_rule
 use Rattle.chr_base.specs.Values.{is_value}
+use Rattle.chr_base.specs.declared.weight.Weight.{Weight}
 use Rattle.chr_base.specs.ProgramTests.{Declaration}
+use Rattle.chr_base.specs.Weights.{is_paired, weight_text}
 use Rattle.chr_syntax.specs.declared.token.Sign.{Sign}
 use Rattle.chr_syntax.specs.declared.token.Sign.TheVariants as s
 use Rattle.chr_syntax.specs.Tokens.{Tok, name, variable, number, compare, sign}
 use Rattle.chr_base.specs.Names.{is_digit, is_lower, is_upper, is_word_byte}
 use Rattle.chr_syntax.specs.working.Tokens.{tokens_of, tokens_after}
-use Rattle.chr_syntax.specs.Clauses.{Atom, Comparison, declare, weight, rule}
+use Rattle.chr_syntax.specs.Clauses.{Atom, Comparison, declare, rule}
 use Rattle.chr_syntax.specs.Grammar as grammar
-use Rattle.chr_syntax.specs.Grammar.{in_parentheses, term_token, spelled_list, spelled_args, spelled_atom, spelled_comparison, spelled_item, spelled_heads, spelled_right, spelled_label, spelled_symbol, spelled}
+use Rattle.chr_syntax.specs.Grammar.{in_parentheses, term_token, spelled_list, spelled_args, spelled_atom, spelled_comparison, spelled_item, spelled_heads, spelled_right, spelled_label, spelled_symbol, spelled_numbers, spelled}
 use Rattle.chr_syntax.specs.working.Spellings.{spelled_atoms, spelled_term, spelled_body}
 use Rattle.chr_syntax.specs.Lexemes.{AllAre, IsWord, IsLexeme}
 use Rattle.chr_syntax.specs.Printing.{EndsBefore}
@@ -28,7 +30,7 @@ use Rattle.chr_syntax.proofs.Printing.{written_read, layout_goes}
 use Rattle.chr_read.specs.CanonicalTexts.{more, separated, term_text, args_text, name_at, pattern_text, patterns_text, cmp_text, comparison_text, label_text, kept_text, guard_text, body_text, rule_clause, symbol_text, weight_clause}
 use Rattle.chr_read.proofs.PlainBytes.{from_test}
 use Rattle.chr_read.proofs.Decimals.{decimal_digits, decimal_number, signed_number}
-use Rattle.chr_read.proofs.WrittenForms.{written_term, written_atom, comparator_of, written_comparison, written_body, written_rule, written_symbol}
+use Rattle.chr_read.proofs.WrittenForms.{written_term, written_atom, comparator_of, written_comparison, written_body, written_rule, written_symbol, written_second, written_weight}
 
 -- ---- one text after another
 
@@ -300,13 +302,33 @@ declaration_reads d ds h rest p =
     (list_reads (codes ", ") comma_space_reads comma_space_parts symbol_text (λ d. spelled_symbol (written_symbol d)) IsWritableSymbol symbol_reads d ds h rest p
     ∙ ap (λ l. onto (grammar.with_commas l) (tokens_of rest)) (sym (map_twice spelled_symbol written_symbol (d ∷ ds))))
 
-weight_reads : (d : Declaration) → IsWritableSymbol d → d.weight < 2 ^ 64 → Reads (weight_clause d) (spelled (weight (written_symbol d) (decimal d.weight)))
+-- numbers of a weight that can be written
+pub record IsWritableWeight (w : Weight) : Type 0 where
+  pub first : w.first < 2 ^ 64
+  pub second : w.second < 2 ^ 64
+
+numbers_read : (w : Weight) → IsWritableWeight w → Reads (weight_text (is_paired w) w) (spelled_numbers (decimal w.first) (written_second w))
+numbers_read w h = by (is_paired w)
+  where
+    last : (n : ℕ) → n < 2 ^ 64 → Reads (decimal n) (number (decimal n) ∷ [])
+    last n l rest p = one (number (decimal n)) (decimal n) rest (refl, decimal_number n l) p.digit
+
+    by : (t : Bool) → Reads (weight_text t w) (spelled_numbers (decimal w.first) (cond t (Some (decimal w.second)) None))
+    by false rest p = last w.first h.first rest p
+    by true rest p =
+        let first = decimal w.first in let second = decimal w.second in
+        two (first ++ codes ",") second rest (number first ∷ sign s.Comma ∷ []) (number second ∷ [])
+        (two first (codes ",") (second ++ rest) (number first ∷ []) (sign s.Comma ∷ []) (last w.first h.first (codes "," ++ (second ++ rest)) record { word = refl; digit = refl }) (comma_reads (second ++ rest)))
+        (last w.second h.second rest p)
+
+weight_reads : (d : Declaration) → IsWritableSymbol d → IsWritableWeight d.weight → Reads (weight_clause d) (spelled (written_weight d))
 weight_reads d h l rest p =
-    let symbol = symbol_text d in let value = decimal d.weight in let after = codes " = " ++ value in
-    two (codes ":- chr_weight ") (symbol ++ after) rest (sign s.Directive ∷ name (codes "chr_weight") ∷ []) (spelled_symbol (written_symbol d) ++ (sign s.Equals ∷ number value ∷ []))
+    let symbol = symbol_text d in let value = weight_text (is_paired d.weight) d.weight in let after = codes " = " ++ value in
+    let numbers = spelled_numbers (decimal d.weight.first) (written_second d.weight) in
+    two (codes ":- chr_weight ") (symbol ++ after) rest (sign s.Directive ∷ name (codes "chr_weight") ∷ []) (spelled_symbol (written_symbol d) ++ (sign s.Equals ∷ numbers))
     (directive_reads 99 (codes "hr_weight") refl (from_test is_word_byte (codes "hr_weight") refl) ((symbol ++ after) ++ rest))
-    (two symbol after rest (spelled_symbol (written_symbol d)) (sign s.Equals ∷ number value ∷ []) (symbol_reads d h (after ++ rest) record { word = refl; digit = refl })
-    (two (codes " = ") value rest (sign s.Equals ∷ []) (number value ∷ []) (spaced_sign s.Equals (codes "=") (value ++ rest) refl refl) (one (number value) value rest (refl, decimal_number d.weight l) p.digit)))
+    (two symbol after rest (spelled_symbol (written_symbol d)) (sign s.Equals ∷ numbers) (symbol_reads d h (after ++ rest) record { word = refl; digit = refl })
+    (two (codes " = ") value rest (sign s.Equals ∷ []) numbers (spaced_sign s.Equals (codes "=") (value ++ rest) refl refl) (numbers_read d.weight l rest p)))
 
 -- ---- whole clauses
 
@@ -325,5 +347,5 @@ pub declaration_tokens : (d : Declaration) (ds : List Declaration) → AllByRecu
     → tokens_of (codes ":- chr_constraint " ++ separated (codes ", ") symbol_text (d ∷ ds)) ≡ Some (spelled (declare (map written_symbol (d ∷ ds))))
 declaration_tokens d ds h = whole_reads _ (spelled (declare (map written_symbol (d ∷ ds)))) (declaration_reads d ds h)
 
-pub weight_tokens : (d : Declaration) → IsWritableSymbol d → d.weight < 2 ^ 64 → tokens_of (weight_clause d) ≡ Some (spelled (weight (written_symbol d) (decimal d.weight)))
-weight_tokens d h l = whole_reads (weight_clause d) (spelled (weight (written_symbol d) (decimal d.weight))) (weight_reads d h l)
+pub weight_tokens : (d : Declaration) → IsWritableSymbol d → IsWritableWeight d.weight → tokens_of (weight_clause d) ≡ Some (spelled (written_weight d))
+weight_tokens d h l = whole_reads (weight_clause d) (spelled (written_weight d)) (weight_reads d h l)

@@ -1,5 +1,5 @@
 -- The canonical text of a program: its clauses in a fixed order and layout, each with a full stop and a line feed.
-use Rattle.std.specs.Prelude.{ℕ, ◌==◌, if◌then◌else◌, List, [], ◌∷◌, ◌++◌, map, Option, Some, None, option_map, codes, decimal, slice_get}
+use Rattle.std.specs.Prelude.{ℕ, Bool, ◌&&◌, nat_eq, if◌then◌else◌, List, [], ◌∷◌, ◌++◌, map, Option, Some, None, option_map, codes, decimal, slice_get}
 use Rattle.std.specs.Option.{option_map_or}
 use Rattle.std.specs.Fmt.{signed_decimal}
 use Rattle.chr_base.specs.declared.term.Term.{Term}
@@ -9,7 +9,9 @@ use Rattle.chr_base.specs.declared.term.Cmp.TheVariants as cmp
 use Rattle.chr_base.specs.declared.term.Comparison.{Comparison}
 use Rattle.chr_base.specs.declared.term.Pattern.{Pattern}
 use Rattle.chr_base.specs.declared.rule.Rule.{Rule}
+use Rattle.chr_base.specs.declared.weight.Weight.{Weight}
 use Rattle.chr_base.specs.ProgramTests.{Declaration}
+use Rattle.chr_base.specs.Weights.{is_paired, weight_text}
 
 -- ---- lists
 
@@ -74,7 +76,8 @@ body_text ds (p ∷ ps) = patterns_text ds (p ∷ ps)
 abbrev pub rule_clause : List Declaration → Rule → List ℕ
 rule_clause ds r =
     label_text (option_map (λ n. n.bytes) r.name)
-    ++ (kept_text ds r.kept.items ++ (patterns_text ds r.removed.items ++ (codes " <=> " ++ (guard_text r.guard.items ++ body_text ds r.body.items))))
+    ++ (kept_text ds r.kept.items ++ (patterns_text ds r.removed.items
+    ++ (codes " <=> " ++ (guard_text r.guard.items ++ body_text ds r.body.items))))
 
 -- ---- declarations
 
@@ -87,16 +90,22 @@ declaration_clauses [] = []
 declaration_clauses (d ∷ ds) = (codes ":- chr_constraint " ++ separated (codes ", ") symbol_text (d ∷ ds)) ∷ []
 
 abbrev pub weight_clause : Declaration → List ℕ
-weight_clause d = codes ":- chr_weight " ++ (symbol_text d ++ (codes " = " ++ decimal d.weight))
+weight_clause d =
+    codes ":- chr_weight " ++ (symbol_text d ++ (codes " = " ++ weight_text (is_paired d.weight) d.weight))
 
--- one for each symbol whose weight isn't 1
+-- a weight that isn't written
+abbrev pub is_default : Weight → Bool
+is_default w = nat_eq w.first 1 && nat_eq w.second 0
+
+-- one for each symbol whose weight isn't the default
 abbrev pub weight_clauses : List Declaration → List (List ℕ)
 weight_clauses [] = []
-weight_clauses (d ∷ ds) = if d.weight == 1 then weight_clauses ds else weight_clause d ∷ weight_clauses ds
+weight_clauses (d ∷ ds) = if is_default d.weight then weight_clauses ds else weight_clause d ∷ weight_clauses ds
 
 -- ---- the text
 
--- the clauses, without their ends: all declarations in one, a weight for each symbol whose weight isn't 1, and the rules
+-- the clauses, without their ends: all declarations in one, one for each weight that isn't the default, and the
+-- rules
 abbrev pub clauses : List Declaration → List Rule → List (List ℕ)
 clauses ds rs = declaration_clauses ds ++ (weight_clauses ds ++ map (rule_clause ds) rs)
 

@@ -1,12 +1,12 @@
 -- The faults of a clause that has a form, each as a test.
-use Rattle.std.specs.Prelude.{ℕ, ◌+◌, List, [], ◌∷◌, ◌++◌, length, map, Bool, true, false, not, ◌&&◌, ◌||◌, nat_eq, nat_le, nat_lt, Option, is_some, is_none, option_and_then, option_to_list, position, filter_map, codes}
+use Rattle.std.specs.Prelude.{ℕ, ◌+◌, List, [], ◌∷◌, ◌++◌, length, Bool, true, false, not, ◌&&◌, ◌||◌, nat_eq, nat_le, nat_lt, Option, is_some, is_none, option_and_then, option_to_list, position, filter_map, codes}
 use Rattle.std.specs.List.{list_any, flat_map}
 use Rattle.std.specs.Option.{option_map_or}
 use Rattle.std.specs.Str.{bytes_eq}
 use Rattle.chr_base.specs.declared.limits.TheConstants.{MAX_ARITY, MAX_BODY, MAX_COMPARISONS, MAX_HEADS, MAX_NAME, MAX_RULES, MAX_SYMBOLS}
 use Rattle.chr_base.specs.ProgramTests.{Declaration, declares}
 use Rattle.chr_syntax.specs.Clauses.{Term, Atom, Symbol, Rule, Form, variable, number, declare, weight, rule, propagation}
-use Rattle.chr_read.specs.Numbers.{without_zeros, arity_of, number_of, weight_named_by}
+use Rattle.chr_read.specs.Numbers.{without_zeros, arity_of, number_of, weight_outside, weight_named_by}
 use Rattle.chr_read.specs.Meanings.{Progress}
 use Rattle.chr_read.specs.declared.fault.Fault.{Fault}
 use Rattle.chr_read.specs.declared.fault.Fault.TheVariants as fault
@@ -67,8 +67,10 @@ is_long_variable (number w) = false
 -- too many heads, comparisons or atoms in the body, or a part that is too large
 abbrev pub rule_over : Rule → Bool
 rule_over r =
-    nat_lt MAX_HEADS (length (rule_heads r)) || (nat_lt MAX_COMPARISONS (length (present r.guard)) || (nat_lt MAX_BODY (length (present r.body))
-    || (list_any is_long (option_to_list r.label) || (list_any atom_over (rule_atoms r) || list_any is_long_variable (written_terms r)))))
+    nat_lt MAX_HEADS (length (rule_heads r))
+    || (nat_lt MAX_COMPARISONS (length (present r.guard)) || (nat_lt MAX_BODY (length (present r.body))
+    || (list_any is_long (option_to_list r.label) || (list_any atom_over (rule_atoms r)
+    || list_any is_long_variable (written_terms r)))))
 
 -- ---- variables and numbers
 
@@ -89,18 +91,26 @@ abbrev pub is_outside : Term → Bool
 is_outside (variable w) = false
 is_outside (number w) = is_none (number_of w)
 
+-- ---- weights
+
+-- the symbol has had a weight clause
+abbrev pub is_weighed : Progress → Symbol → Bool
+is_weighed q s = option_map_or (λ i. list_any (nat_eq i) q.weighed) (place_of_symbol q.meaning.declarations s) false
+
 -- ---- faults
 
 -- whether a clause of this form has this fault, after what the clauses before it made
 abbrev pub fault_test : Fault → Progress → Form → Bool
 fault_test fault.Propagation q (propagation r) = true
-fault_test fault.Undeclared q (weight s w) = is_none (place_of_symbol q.meaning.declarations s)
+fault_test fault.Undeclared q (weight s first second) = is_none (place_of_symbol q.meaning.declarations s)
 fault_test fault.Undeclared q (rule r) = list_any (is_undeclared q.meaning.declarations) (rule_atoms r)
-fault_test fault.DeclaredTwice q (declare ss) = list_any (λ s. is_some (place_of_symbol q.meaning.declarations s)) ss || comes_twice ss
-fault_test fault.Limit q (declare ss) = nat_lt MAX_SYMBOLS (length q.meaning.declarations + length ss) || list_any symbol_over ss
+fault_test fault.DeclaredTwice q (declare ss) =
+    list_any (λ s. is_some (place_of_symbol q.meaning.declarations s)) ss || comes_twice ss
+fault_test fault.Limit q (declare ss) =
+    nat_lt MAX_SYMBOLS (length q.meaning.declarations + length ss) || list_any symbol_over ss
 fault_test fault.Limit q (rule r) = nat_le MAX_RULES (length q.meaning.rules) || rule_over r
 fault_test fault.Unbound q (rule r) = list_any (is_unbound r) (right_terms r)
-fault_test fault.NumberRange q (weight s w) = is_none (number_of w)
+fault_test fault.NumberRange q (weight s first second) = weight_outside first second
 fault_test fault.NumberRange q (rule r) = list_any is_outside (written_terms r)
-fault_test fault.WeightFault q (weight s w) = is_none (weight_named_by w) || option_map_or (λ i. list_any (nat_eq i) q.weighed) (place_of_symbol q.meaning.declarations s) false
+fault_test fault.WeightFault q (weight s first second) = is_none (weight_named_by first second) || is_weighed q s
 fault_test _ q f = false

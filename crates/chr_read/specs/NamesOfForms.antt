@@ -14,8 +14,10 @@ names_of_atoms atoms = map (λ a. a.name) atoms
 abbrev pub names_in : Form → List (List ℕ)
 names_in use_module = []
 names_in (declare ss) = map (λ s. s.name) ss
-names_in (weight s w) = s.name ∷ []
-names_in (rule r) = option_to_list r.label ++ (names_of_atoms r.kept ++ (names_of_atoms r.removed ++ names_of_atoms (present r.body)))
+names_in (weight s first second) = s.name ∷ []
+names_in (rule r) =
+    option_to_list r.label
+    ++ (names_of_atoms r.kept ++ (names_of_atoms r.removed ++ names_of_atoms (present r.body)))
 names_in (propagation r) = option_to_list r.label ++ (names_of_atoms r.removed ++ names_of_atoms (present r.body))
 
 -- the names of every clause are text

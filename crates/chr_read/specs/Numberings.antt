@@ -9,7 +9,8 @@ use Rattle.chr_read.specs.Resolving.{variable_of, head_terms, after_terms, heads
 -- the terms of the heads are numbered as one list, kept heads first
 abbrev pub HeadsAreOneList : Type 0
 HeadsAreOneList = (ds : List Declaration) (kept removed : List Atom)
-    → terms_of (heads ds [] kept ++ heads ds (after_heads [] kept) removed) ≡ head_terms [] (args_of kept ++ args_of removed)
+    → terms_of (heads ds [] kept ++ heads ds (after_heads [] kept) removed)
+    ≡ head_terms [] (args_of kept ++ args_of removed)
 
 -- the number of the variable w where it stands after these terms
 abbrev pub number_at : List Term → List ℕ → ℕ

@@ -1,9 +1,11 @@
 -- Numbers of a text: arities, arguments, weights, and the numbers of faults.
-use Rattle.std.specs.Prelude.{ℕ, ◌+◌, ◌-◌, ◌^◌, ℤ, pos, negsuc, neg_ℤ, List, [], ◌∷◌, length, drop, Bool, true, false, ◌&&◌, ◌==◌, nat_le, nat_lt, if◌then◌else◌, Option, Some, None, option_and_then}
+use Rattle.std.specs.Prelude.{ℕ, ◌+◌, ◌-◌, ◌^◌, ℤ, pos, neg_ℤ, List, [], ◌∷◌, length, drop, Bool, true, false, ◌&&◌, ◌||◌, ◌==◌, nat_le, nat_lt, if◌then◌else◌, Option, Some, None, is_none, option_and_then}
 use Rattle.std.specs.List.{list_all, prefix_len}
 use Rattle.std.specs.Str.Parse.{digits_value, starts_with_minus}
-use Rattle.chr_base.specs.declared.limits.TheConstants.{MAX_ARITY, MAX_WEIGHT}
+use Rattle.chr_base.specs.declared.limits.TheConstants.{MAX_ARITY}
+use Rattle.chr_base.specs.declared.weight.Weight.{Weight}
 use Rattle.chr_base.specs.Names.{is_digit}
+use Rattle.chr_base.specs.Weights.{is_weight}
 use Rattle.chr_read.specs.declared.fault.Fault.{Fault}
 use Rattle.chr_read.specs.declared.fault.Fault.TheVariants as fault
 
@@ -56,10 +58,25 @@ number_of w = if is_numeral (unsigned w) then signed (starts_with_minus w) (digi
 
 -- ---- weights
 
-abbrev pub as_weight : ℤ → Option ℕ
-as_weight (pos n) = if nat_le 1 n && nat_le n MAX_WEIGHT then Some n else None
-as_weight (negsuc n) = None
+-- the value of the second number of a weight: 0 where it is not written
+abbrev pub second_number_of : Option (List ℕ) → Option ℤ
+second_number_of None = Some (pos 0)
+second_number_of (Some w) = number_of w
 
--- the weight that digits name, where it is from 1 to MAX_WEIGHT
-abbrev pub weight_named_by : List ℕ → Option ℕ
-weight_named_by w = option_and_then as_weight (number_of w)
+-- one of the numbers of a weight is one that 64 bits do not hold
+abbrev pub weight_outside : List ℕ → Option (List ℕ) → Bool
+weight_outside first second = is_none (number_of first) || is_none (second_number_of second)
+
+-- the weight itself, where it is one that a symbol may have
+abbrev pub checked_weight : Weight → Option Weight
+checked_weight w = if is_weight w then Some w else None
+
+-- two values as a weight, where it is one that a symbol may have
+abbrev pub as_weight : ℤ → ℤ → Option Weight
+as_weight (pos first) (pos second) = checked_weight record { first = first; second = second }
+as_weight _ _ = None
+
+-- the weight that one number names or two, where it is one that a symbol may have
+abbrev pub weight_named_by : List ℕ → Option (List ℕ) → Option Weight
+weight_named_by first second =
+    option_and_then (λ v. option_and_then (as_weight v) (second_number_of second)) (number_of first)

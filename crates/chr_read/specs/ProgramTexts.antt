@@ -17,7 +17,8 @@ use Rattle.chr_read.specs.Reading.{with_form}
 
 -- ---- clauses
 
--- The clause has this fault, after what the clauses before it made. The faults of forms are looked for only where it has one.
+-- The clause has this fault, after what the clauses before it made. The faults of forms are looked for only where it
+-- has one.
 abbrev pub HasFault : Progress → List ℕ → Fault → Type 0
 HasFault q c fault.BadByte = is_text c ≡ false
 HasFault q c fault.Syntax = (f : Form) → ¬ (AreClause f c)
@@ -47,7 +48,8 @@ IsShort text = length text ≤ MAX_TEXT
 -- The text is a program of this meaning: clauses without faults, and layout alone after the last full stop.
 abbrev pub IsProgramText : List ℕ → Meaning → Type 0
 IsProgramText text m = IsShort text × (cs : List (List ℕ)) × (rest : List ℕ) × (q : Progress)
-    × (slice_split is_stop (without_comments text) ≡ cs ++ rest ∷ []) × Makes nothing cs q × ((n : Fault) → ¬ (HasRestFault rest n)) × (m ≡ q.meaning)
+    × (slice_split is_stop (without_comments text) ≡ cs ++ rest ∷ []) × Makes nothing cs q
+    × ((n : Fault) → ¬ (HasRestFault rest n)) × (m ≡ q.meaning)
 
 -- the least fault of a clause, or of the rest where nothing stands after it
 abbrev pub IsLeastAt : List (List ℕ) → Progress → List ℕ → Fault → Type 0
@@ -56,8 +58,10 @@ IsLeastAt (d ∷ ds) q c n = IsLeast (HasFault q c) n
 
 -- The text is refused with the fault n at the clause k: the clauses before it have no faults, and n is its least.
 abbrev pub IsRefusedText : List ℕ → Fault → ℕ → Type 0
-IsRefusedText text n k = IsShort text × (before : List (List ℕ)) × (c : List ℕ) × (after : List (List ℕ)) × (q : Progress)
-    × (slice_split is_stop (without_comments text) ≡ before ++ c ∷ after) × (k ≡ length before + 1) × Makes nothing before q × IsLeastAt after q c n
+IsRefusedText text n k = IsShort text
+    × (before : List (List ℕ)) × (c : List ℕ) × (after : List (List ℕ)) × (q : Progress)
+    × (slice_split is_stop (without_comments text) ≡ before ++ c ∷ after) × (k ≡ length before + 1)
+    × Makes nothing before q × IsLeastAt after q c n
 
 -- an answer says what the text is, and where memory ran out that it is short
 abbrev pub IsAnswer : List ℕ → Result Program ReadFault → Type 0
@@ -69,13 +73,17 @@ IsAnswer text (Err Memory) = IsShort text
 -- ---- a text has one answer
 
 abbrev pub TextsHaveSomeAnswer : Type 0
-TextsHaveSomeAnswer = (text : List ℕ) → ((m : Meaning) × IsProgramText text m) ⊎ ((n : Fault) × (k : ℕ) × IsRefusedText text n k) ⊎ (MAX_TEXT < length text)
+TextsHaveSomeAnswer = (text : List ℕ)
+    → ((m : Meaning) × IsProgramText text m) ⊎ ((n : Fault) × (k : ℕ) × IsRefusedText text n k)
+    ⊎ (MAX_TEXT < length text)
 
 abbrev pub ProgramsHaveOneMeaning : Type 0
 ProgramsHaveOneMeaning = (text : List ℕ) (m n : Meaning) → IsProgramText text m → IsProgramText text n → m ≡ n
 
 abbrev pub RefusedTextsAreNoPrograms : Type 0
-RefusedTextsAreNoPrograms = (text : List ℕ) (m : Meaning) (n : Fault) (k : ℕ) → IsProgramText text m → ¬ (IsRefusedText text n k)
+RefusedTextsAreNoPrograms = (text : List ℕ) (m : Meaning) (n : Fault) (k : ℕ)
+    → IsProgramText text m → ¬ (IsRefusedText text n k)
 
 abbrev pub TextsHaveOneFault : Type 0
-TextsHaveOneFault = (text : List ℕ) (n m : Fault) (k j : ℕ) → IsRefusedText text n k → IsRefusedText text m j → (n ≡ m) × (k ≡ j)
+TextsHaveOneFault = (text : List ℕ) (n m : Fault) (k j : ℕ)
+    → IsRefusedText text n k → IsRefusedText text m j → (n ≡ m) × (k ≡ j)

@@ -43,7 +43,10 @@ abbrev pub after_terms : List (List ℕ) → List Term → List (List ℕ)
 after_terms names ts = fold after_term names ts
 
 abbrev pub pattern : List Declaration → Atom → List base_term.Term → Pattern
-pattern ds a ts = record { symbol = record { 0 = unwrap_or (position (declares a.name (length a.args)) ds) 0 }; args = record { items = ts } }
+pattern ds a ts = record {
+  symbol = record { 0 = unwrap_or (position (declares a.name (length a.args)) ds) 0 };
+  args = record { items = ts };
+}
 
 abbrev pub heads : List Declaration → List (List ℕ) → List Atom → List Pattern
 heads ds names [] = []
@@ -65,7 +68,11 @@ cmp_of sign.Equal = cmp.Equal
 cmp_of sign.NotEqual = cmp.NotEqual
 
 abbrev pub resolved_comparison : List (List ℕ) → Comparison → base_comparison.Comparison
-resolved_comparison names c = record { left = resolved_term names c.left; cmp = cmp_of c.comparator; right = resolved_term names c.right }
+resolved_comparison names c = record {
+  left = resolved_term names c.left;
+  cmp = cmp_of c.comparator;
+  right = resolved_term names c.right;
+}
 
 abbrev pub names_of : Rule → List (List ℕ)
 names_of r = after_heads (after_heads [] r.kept) r.removed

@@ -35,7 +35,8 @@ use std::alloc::{AllocError, Global};
 fn add_symbol(program: &mut Program, symbol: &RawSymbol<'_>) -> Result<(), AllocError>
     requires can { can_declare (declarations program.old) (symbol_view symbol.now) ≡ true }
     requires word { is_name symbol.now.name.now ≡ true }
-    ensures symbols { OnOk result (declarations program.new ≡ declarations program.old ++ declared_symbol (symbol_view symbol.now) ∷ []) }
+    ensures symbols { OnOk result (declarations program.new
+        ≡ declarations program.old ++ declared_symbol (symbol_view symbol.now) ∷ []) }
     ensures rules { rules_of program.new ≡ rules_of program.old }
 {
     let name = name_in(symbol.name).unwrap();
@@ -47,7 +48,8 @@ fn add_symbol(program: &mut Program, symbol: &RawSymbol<'_>) -> Result<(), Alloc
 fn add_symbols(program: &mut Program, symbols: &[RawSymbol<'_>]) -> Result<(), AllocError>
     requires can { can_declare_all (declarations program.old) (map symbol_view symbols.now) ≡ true }
     requires words { has_names (declare (map symbol_view symbols.now)) ≡ true }
-    ensures symbols { OnOk result (declarations program.new ≡ declarations program.old ++ map declared_symbol (map symbol_view symbols.now)) }
+    ensures symbols { OnOk result (declarations program.new
+        ≡ declarations program.old ++ map declared_symbol (map symbol_view symbols.now)) }
     ensures rules { rules_of program.new ≡ rules_of program.old }
 {
     for symbol in symbols {
@@ -57,12 +59,20 @@ fn add_symbols(program: &mut Program, symbols: &[RawSymbol<'_>]) -> Result<(), A
 }
 
 /// Gives a symbol its weight, and notes that it has one.
-fn add_weight(reader: &mut Reader, symbol: &RawSymbol<'_>, digits: &[u8]) -> Result<(), AllocError>
-    requires { fault_in (progress_of reader.old) (weight (symbol_view symbol.now) digits.now) ≡ None }
-    ensures { OnOk result (progress_of reader.new ≡ with_form (progress_of reader.old) (weight (symbol_view symbol.now) digits.now)) }
+#[tactic(auto, using(crate::proofs::Numbers::named_is_weight))]
+fn add_weight(
+    reader: &mut Reader,
+    symbol: &RawSymbol<'_>,
+    first: &[u8],
+    second: Option<&[u8]>,
+) -> Result<(), AllocError>
+    requires { fault_in (progress_of reader.old)
+        (weight (symbol_view symbol.now) first.now (option_map (λ w. w.now) second)) ≡ None }
+    ensures { OnOk result (progress_of reader.new ≡ with_form (progress_of reader.old)
+        (weight (symbol_view symbol.now) first.now (option_map (λ w. w.now) second.entry))) }
 {
     let place = place_of_symbol(&reader.program, symbol).unwrap();
-    let weight = weight_named_by(digits).unwrap();
+    let weight = weight_named_by(first, second).unwrap();
     reader.weighed.push(place)?;
     reader.program.set_weight(place, weight);
     Ok(())
@@ -77,8 +87,15 @@ fn make_rule(
     body: ArrayVec<Pattern, MAX_BODY>,
 ) -> Rule
     requires parts { IsTrue (is_rule kept.items removed.items guard.items body.items) }
-    requires bounds { IsTrue (is_in_bounds (option_map (λ n. n.bytes) name) (kept.items ++ removed.items) guard.items body.items) }
-    ensures { parts_of result ≡ record { name = option_map (λ n. n.bytes) name; kept = kept.items; removed = removed.items; guard = guard.items; body = body.items } }
+    requires bounds { IsTrue (is_in_bounds (option_map (λ n. n.bytes) name) (kept.items ++ removed.items)
+        guard.items body.items) }
+    ensures { parts_of result ≡ record {
+      name = option_map (λ n. n.bytes) name;
+      kept = kept.items;
+      removed = removed.items;
+      guard = guard.items;
+      body = body.items;
+    } }
 {
     Rule {
         name,
@@ -130,7 +147,11 @@ pub fn add_clause(
     match clause {
         RawClause::UseModule => Ok(()),
         RawClause::Declare(symbols) => add_symbols(&mut reader.program, symbols),
-        RawClause::Weight { symbol, weight } => add_weight(reader, symbol, weight),
+        RawClause::Weight {
+            symbol,
+            first,
+            second,
+        } => add_weight(reader, symbol, first, *second),
         RawClause::Rule(rule) => add_rule(alloc, reader, rule),
         RawClause::Propagation(_) => Ok(()),
     }

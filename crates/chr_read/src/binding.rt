@@ -79,7 +79,8 @@ fn atom_unbound(rule: &RawRule<'_>, atom: &RawAtom<'_>) -> bool
 }
 
 fn guard_unbound(rule: &RawRule<'_>) -> bool
-    ensures { result ≡ list_any (comparison_unbound (rule_view rule.now)) (present (map (option_map comparison_view) rule.now.guard.items)) }
+    ensures { result ≡ list_any (comparison_unbound (rule_view rule.now))
+        (present (map (option_map comparison_view) rule.now.guard.items)) }
 {
     for item in &rule.guard {
         if let Some(comparison) = item {
@@ -92,7 +93,8 @@ fn guard_unbound(rule: &RawRule<'_>) -> bool
 }
 
 fn body_unbound(rule: &RawRule<'_>) -> bool
-    ensures { result ≡ list_any (atom_unbound (rule_view rule.now)) (present (map (option_map atom_view) rule.now.body.items)) }
+    ensures { result ≡ list_any (atom_unbound (rule_view rule.now))
+        (present (map (option_map atom_view) rule.now.body.items)) }
 {
     for item in &rule.body {
         if let Some(atom) = item {

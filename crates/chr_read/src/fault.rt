@@ -26,7 +26,7 @@ pub enum Fault {
     Unbound,
     /// A number that 64 bits do not hold.
     NumberRange,
-    /// A weight outside 1 to 1,000,000, or a second weight for a symbol.
+    /// A weight with a number outside 0 to 1,000,000 or of zeros alone, or a second weight for a symbol.
     WeightFault,
     /// A clause without its full stop.
     Unended,

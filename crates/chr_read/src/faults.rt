@@ -12,7 +12,7 @@ use crate::binding::rule_unbound;
 use crate::doubles::comes_again;
 use crate::fault::Fault;
 use crate::limits::{rule_outside, some_part_over, symbols_over};
-use crate::number::{number_of, weight_named_by};
+use crate::number::{weight_named_by, weight_outside};
 use crate::progress::Reader;
 use crate::symbols::{any_known, place_of_symbol, rule_undeclared};
 use chr_base::atom::SymbolId;
@@ -72,21 +72,28 @@ fn is_among(symbols: &[SymbolId], symbol: Option<SymbolId>) -> bool
     false
 }
 
-fn weight_bad(reader: &Reader, symbol: &RawSymbol<'_>, digits: &[u8]) -> bool
-    ensures { result ≡ weight_bad (progress_of reader.now) (symbol_view symbol.now) digits.now }
+fn weight_bad(reader: &Reader, symbol: &RawSymbol<'_>, first: &[u8], second: Option<&[u8]>) -> bool
+    ensures { result ≡ weight_bad (progress_of reader.now) (symbol_view symbol.now) first.now
+        (option_map (λ w. w.now) second.entry) }
 {
-    weight_named_by(digits).is_none()
+    weight_named_by(first, second).is_none()
         || is_among(&reader.weighed, place_of_symbol(&reader.program, symbol))
 }
 
-fn weight_fault(reader: &Reader, symbol: &RawSymbol<'_>, digits: &[u8]) -> Option<Fault>
-    ensures { result ≡ fault_in (progress_of reader.now) (weight (symbol_view symbol.now) digits.now) }
+fn weight_fault(
+    reader: &Reader,
+    symbol: &RawSymbol<'_>,
+    first: &[u8],
+    second: Option<&[u8]>,
+) -> Option<Fault>
+    ensures { result ≡ fault_in (progress_of reader.now)
+        (weight (symbol_view symbol.now) first.now (option_map (λ w. w.now) second.entry)) }
 {
     if place_of_symbol(&reader.program, symbol).is_none() {
         Some(Fault::Undeclared)
-    } else if number_of(digits).is_none() {
+    } else if weight_outside(first, second) {
         Some(Fault::NumberRange)
-    } else if weight_bad(reader, symbol, digits) {
+    } else if weight_bad(reader, symbol, first, second) {
         Some(Fault::WeightFault)
     } else {
         None
@@ -128,7 +135,11 @@ pub fn fault_in(
     match clause {
         RawClause::UseModule => Ok(None),
         RawClause::Declare(symbols) => declare_fault(alloc, reader, symbols),
-        RawClause::Weight { symbol, weight } => Ok(weight_fault(reader, symbol, weight)),
+        RawClause::Weight {
+            symbol,
+            first,
+            second,
+        } => Ok(weight_fault(reader, symbol, first, *second)),
         RawClause::Rule(rule) => Ok(rule_fault(reader, rule)),
         RawClause::Propagation(_) => Ok(Some(Fault::Propagation)),
     }

@@ -22,8 +22,8 @@ pub fn programs_come_back()
     ensures { ProgramsComeBack }
 {}
 
-/// A text has one answer: it is a program of one meaning, or it has one fault at one clause, or it is too long, and no two of
-/// these.
+/// A text has one answer: it is a program of one meaning, or it has one fault at one clause, or it is too long, and no
+/// two of these.
 pub fn texts_have_one_answer()
     ensures some { TextsHaveSomeAnswer }
     ensures meaning { ProgramsHaveOneMeaning }

@@ -140,7 +140,8 @@ fn atoms(items: &[Option<RawAtom<'_>>]) -> usize
 }
 
 fn heads_too_many(rule: &RawRule<'_>) -> bool
-    ensures { result ≡ nat_lt MAX_HEADS (length (map atom_view rule.now.kept.items) + length (map atom_view rule.now.removed.items)) }
+    ensures { result ≡ nat_lt MAX_HEADS (length (map atom_view rule.now.kept.items)
+        + length (map atom_view rule.now.removed.items)) }
 {
     MAX_HEADS < rule.kept.len()
         || MAX_HEADS < rule.removed.len()

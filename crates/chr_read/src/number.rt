@@ -1,11 +1,13 @@
 //! Numbers of a text, from their digits.
 
-ghost use Rattle.std.specs.Prelude.{◌≡◌, ◌==◌, ◌≤◌, length, true};
+ghost use Rattle.std.specs.Prelude.{◌≡◌, ◌==◌, ◌≤◌, length, true, option_map};
 ghost use Rattle.std.specs.List.{list_all, prefix_len};
-ghost use Rattle.chr_read.specs.Numbers.{unsigned, without_zeros, small, arity_of, is_numeral, number_of, as_weight, weight_named_by};
+ghost use Rattle.chr_read.specs.Numbers.{unsigned, without_zeros, small, arity_of, is_numeral, number_of, second_number_of, weight_outside, checked_weight, as_weight, weight_named_by};
 ghost use Rattle.chr_base.specs.Names.{is_digit};
+ghost use Rattle.chr_base.specs.Weights.{is_weight};
 
 use chr_base::limits::{MAX_ARITY, MAX_WEIGHT};
+use chr_base::weight::Weight;
 
 fn zeros(digits: &[u8]) -> usize
     ensures value { result ≡ prefix_len (λ b. b == 48) digits.now }
@@ -88,20 +90,56 @@ pub fn number_of(digits: &[u8]) -> Option<i64>
     parsed(text)
 }
 
-/// A value as a weight, where it is from 1 to `MAX_WEIGHT`.
-fn as_weight(value: i64) -> Option<u32>
-    ensures { result ≡ as_weight value }
+/// The value of the second number of a weight, where 64 bits hold it: 0 where it is not written.
+fn second_number_of(digits: Option<&[u8]>) -> Option<i64>
+    ensures { result ≡ second_number_of (option_map (λ w. w.now) digits.entry) }
 {
-    if 1 <= value && value <= i64::from(MAX_WEIGHT) {
-        Some(value as u32)
+    match digits {
+        Some(digits) => number_of(digits),
+        None => Some(0),
+    }
+}
+
+/// Whether one of the numbers of a weight is one that 64 bits do not hold.
+pub fn weight_outside(first: &[u8], second: Option<&[u8]>) -> bool
+    ensures { result ≡ weight_outside first.now (option_map (λ w. w.now) second.entry) }
+{
+    number_of(first).is_none() || second_number_of(second).is_none()
+}
+
+/// Whether each number is at most `MAX_WEIGHT`, and not both are 0.
+fn is_weight(weight: Weight) -> bool
+    ensures { result ≡ is_weight weight }
+{
+    weight.first <= MAX_WEIGHT
+        && weight.second <= MAX_WEIGHT
+        && !(weight.first == 0 && weight.second == 0)
+}
+
+/// The weight itself, where it is one that a symbol may have.
+fn checked_weight(weight: Weight) -> Option<Weight>
+    ensures { result ≡ checked_weight weight }
+{
+    if is_weight(weight) {
+        Some(weight)
     } else {
         None
     }
 }
 
-/// The weight that these digits name, where it is from 1 to `MAX_WEIGHT`.
-pub fn weight_named_by(digits: &[u8]) -> Option<u32>
-    ensures { result ≡ weight_named_by digits.now }
+/// Two values as a weight, where each is from 0 to `MAX_WEIGHT` and not both are 0.
+fn as_weight(first: i64, second: i64) -> Option<Weight>
+    ensures { result ≡ as_weight first second }
 {
-    as_weight(number_of(digits)?)
+    let first = u64::try_from(first).ok()?;
+    let second = u64::try_from(second).ok()?;
+    checked_weight(Weight { first, second })
+}
+
+/// The weight that one number names or two, where each is from 0 to `MAX_WEIGHT` and not both are 0. A second number
+/// that is not written counts as 0.
+pub fn weight_named_by(first: &[u8], second: Option<&[u8]>) -> Option<Weight>
+    ensures { result ≡ weight_named_by first.now (option_map (λ w. w.now) second.entry) }
+{
+    as_weight(number_of(first)?, second_number_of(second)?)
 }

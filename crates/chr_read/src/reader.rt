@@ -46,7 +46,8 @@ impl From<AllocError> for Stop {
 fn read_form(alloc: Global, reader: &mut Reader, clause: &RawClause<'_>) -> Result<(), Stop>
     requires form { IsForm (clause_view clause.now) }
     requires names { has_names (clause_view clause.now) ≡ true }
-    ensures { ClauseGives result (progress_of reader.new) (formed (progress_of reader.old) (Some (clause_view clause.now))) }
+    ensures { ClauseGives result (progress_of reader.new)
+        (formed (progress_of reader.old) (Some (clause_view clause.now))) }
 {
     if let Some(fault) = fault_in(alloc, reader, clause)? {
         return Err(Stop::Bad(fault));
@@ -134,8 +135,8 @@ fn read_text(alloc: Global, text: &[u8]) -> Result<Program, ReadFault>
 ///
 /// # Errors
 ///
-/// `TooLong` exactly where the text has more than `MAX_TEXT` bytes, which needs no memory; else `Bad` with the first bad clause, counted from 1, and its least
-/// fault; `Memory` where an allocation was refused.
+/// `TooLong` exactly where the text has more than `MAX_TEXT` bytes, which needs no memory; else `Bad` with the first
+/// bad clause, counted from 1, and its least fault; `Memory` where an allocation was refused.
 #[tactic(auto, using(crate::proofs::TextsRead::answers))]
 pub fn read(alloc: Global, text: &[u8]) -> Result<Program, ReadFault>
     ensures { IsAnswer text.now result }

@@ -2,6 +2,7 @@
 
 ghost use Rattle.std.specs.Prelude.{◌≡◌, ◌+◌, ◌≤◌, ◌<◌, ◌++◌, map, option_map, length, true, false, IfOk, OnOk, IfSome, IsTrue};
 ghost use Rattle.std.specs.List.{list_any};
+ghost use Rattle.chr_base.specs.declared.limits.TheConstants.{MAX_VARIABLES};
 ghost use Rattle.chr_base.specs.Names.{is_label};
 ghost use Rattle.chr_base.specs.Programs.{declarations};
 ghost use Rattle.chr_syntax.specs.Views.{term_view, atom_view, comparison_view, rule_view};
@@ -60,7 +61,8 @@ fn resolved_term(names: &[&[u8]], term: &RawTerm<'_>) -> Term
 
 /// Notes the variable of a term, where it is met for the first time.
 fn meet<'a>(names: &mut Vec<&'a [u8]>, term: &RawTerm<'a>) -> Result<(), AllocError>
-    ensures names { OnOk result (names_view names.new.items ≡ after_term (names_view names.old.items) (term_view term.now)) }
+    ensures names { OnOk result (names_view names.new.items
+        ≡ after_term (names_view names.old.items) (term_view term.now)) }
     ensures one { OnOk result (length names.new.items ≤ length names.old.items + 1) }
 {
     if let RawTerm::Variable(name) = term {
@@ -79,8 +81,9 @@ pub fn head_terms<'a>(
     requires few { length terms.now ≤ MAX_ARITY }
     requires room { length names.old.items ≤ 100 }
     ensures terms { IfOk result (λ ts. ts.items ≡ head_terms (names_view names.old.items) (map term_view terms.now)) }
-    ensures names { OnOk result (names_view names.new.items ≡ after_terms (names_view names.old.items) (map term_view terms.now)) }
-    ensures bound { OnOk result (length names.new.items ≤ length names.old.items + 4) }
+    ensures names { OnOk result (names_view names.new.items
+        ≡ after_terms (names_view names.old.items) (map term_view terms.now)) }
+    ensures bound { OnOk result (length names.new.items ≤ length names.old.items + MAX_ARITY) }
 {
     let mut found = ArrayVec::new();
     for term in terms {
@@ -127,9 +130,11 @@ pub fn heads<'a>(
     requires few { length atoms.now ≤ MAX_HEADS }
     requires sound { list_any parts_of_atom_over (map atom_view atoms.now) ≡ false }
     requires room { length names.old.items ≤ 50 }
-    ensures heads { IfOk result (λ ps. ps.items ≡ heads (declarations program.now) (names_view names.old.items) (map atom_view atoms.now)) }
-    ensures names { OnOk result (names_view names.new.items ≡ after_heads (names_view names.old.items) (map atom_view atoms.now)) }
-    ensures bound { OnOk result (length names.new.items ≤ length names.old.items + 16) }
+    ensures heads { IfOk result (λ ps. ps.items
+        ≡ heads (declarations program.now) (names_view names.old.items) (map atom_view atoms.now)) }
+    ensures names { OnOk result (names_view names.new.items
+        ≡ after_heads (names_view names.old.items) (map atom_view atoms.now)) }
+    ensures bound { OnOk result (length names.new.items ≤ length names.old.items + MAX_VARIABLES) }
 {
     let mut found = ArrayVec::new();
     for atom in atoms {
@@ -170,7 +175,8 @@ pub fn guard(
 ) -> ArrayVec<Comparison, MAX_COMPARISONS>
     requires few { length (present (map (option_map comparison_view) items.now)) ≤ MAX_COMPARISONS }
     requires room { length names.now ≤ 200 }
-    ensures { result.items ≡ map (resolved_comparison (names_view names.now)) (present (map (option_map comparison_view) items.now)) }
+    ensures { result.items ≡ map (resolved_comparison (names_view names.now))
+        (present (map (option_map comparison_view) items.now)) }
 {
     let mut found = ArrayVec::new();
     for item in items {
@@ -199,7 +205,8 @@ pub fn body(
     requires few { length (present (map (option_map atom_view) items.now)) ≤ MAX_BODY }
     requires sound { list_any parts_of_atom_over (present (map (option_map atom_view) items.now)) ≡ false }
     requires room { length names.now ≤ 200 }
-    ensures { result.items ≡ map (body_atom (declarations program.now) (names_view names.now)) (present (map (option_map atom_view) items.now)) }
+    ensures { result.items ≡ map (body_atom (declarations program.now) (names_view names.now))
+        (present (map (option_map atom_view) items.now)) }
 {
     let mut found = ArrayVec::new();
     for item in items {

@@ -1,13 +1,16 @@
+mod arities;
 mod bytes;
 mod canonical;
 mod faults;
 mod full_text;
 mod many_digits;
+mod weights;
 
 use crate::{Fault, ReadFault, read, write};
 use chr_base::atom::SymbolId;
 use chr_base::program::Program;
 use chr_base::term::{Cmp, Term};
+use chr_base::weight::{DEFAULT_WEIGHT, Weight};
 use std::alloc::{AllocError, Global};
 use std::fmt::Write;
 use std::process::Abort;
@@ -156,8 +159,12 @@ r @ p(X,_) \\ p(Y,-03) <=> true, X >= -5, Y =\\= X | true, q.";
             assert!(rt; parts(&program));
             assert_eq!(rt; program.symbols(), 2);
             if program.symbols() == 2 {
-                assert_eq!(rt; program.weight_of(SymbolId(0)), 7);
-                assert_eq!(rt; program.weight_of(SymbolId(1)), 1);
+                let seven = Weight {
+                    first: 7,
+                    second: 0,
+                };
+                assert_eq!(rt; program.weight_of(SymbolId(0)), seven);
+                assert_eq!(rt; program.weight_of(SymbolId(1)), DEFAULT_WEIGHT);
             }
         }
         Err(ReadFault::Memory) => return Err(Fail::from(AllocError)),
@@ -249,7 +256,7 @@ fn programs_come_back(rt: HostRuntime) -> Result<(), Fail> {
         ":- chr_constraint a/1. a(-9223372036854775808) <=> true.",
         ":- chr_constraint a/1. a(9223372036854775807) <=> true.",
         ":-chr_constraint min/1.m@min(X)\\min(Y)<=>X=<Y|true.",
-        ":- chr_constraint a/0, a/1, a/2, a/3, a/4.",
+        ":- chr_constraint a/0, a/1, a/2, a/3, a/4, a/5, a/6.",
         ":- chr_constraint a234567890123456789012345678901x/0. :- chr_weight a234567890123456789012345678901x/0 = 1000000.",
         ":- chr_constraint a/0. x234567890123456789012345678901y @ a <=> true.",
         ":- chr_constraint a/2, b/4. a(_,X), b(Y,_,X,Z) \\ a(Z,_), a(_,_) <=> X < Y, Z =\\= 4, 3 >= X | b(X,Y,Z,-5), a(0,0).",

@@ -9,9 +9,10 @@ ghost use Rattle.chr_read.specs.working.Views.{declared_view};
 use arrayvec::ArrayString;
 use chr_base::atom::SymbolId;
 use chr_base::limits::MAX_NAME;
-use chr_base::program::{DEFAULT_WEIGHT, Program};
+use chr_base::program::Program;
 use chr_base::rule::Rule;
 use chr_base::term::{Cmp, Comparison, Pattern, Term};
+use chr_base::weight::{DEFAULT_WEIGHT, Weight};
 use std::alloc::{AllocError, Global};
 use std::fmt::Write;
 
@@ -59,7 +60,8 @@ fn name_at(program: &Program, symbol: SymbolId) -> &str
 }
 
 fn push_pattern(out: &mut String, program: &Program, pattern: &Pattern) -> Result<(), AllocError>
-    ensures { OnOk result (string_bytes out.new ≡ string_bytes out.old ++ pattern_text (declarations program.now) pattern.now) }
+    ensures { OnOk result (string_bytes out.new
+        ≡ string_bytes out.old ++ pattern_text (declarations program.now) pattern.now) }
 {
     out.push_str(name_at(program, pattern.symbol))?;
     push_args(out, pattern.args.as_slice())
@@ -70,7 +72,8 @@ fn push_more_patterns(
     program: &Program,
     patterns: &[Pattern],
 ) -> Result<(), AllocError>
-    ensures { OnOk result (string_bytes out.new ≡ string_bytes out.old ++ more (codes ", ") (pattern_text (declarations program.now)) patterns.now) }
+    ensures { OnOk result (string_bytes out.new
+        ≡ string_bytes out.old ++ more (codes ", ") (pattern_text (declarations program.now)) patterns.now) }
 {
     for pattern in patterns {
         out.push_str(", ")?;
@@ -84,7 +87,8 @@ fn push_patterns(
     program: &Program,
     patterns: &[Pattern],
 ) -> Result<(), AllocError>
-    ensures { OnOk result (string_bytes out.new ≡ string_bytes out.old ++ patterns_text (declarations program.now) patterns.now) }
+    ensures { OnOk result (string_bytes out.new
+        ≡ string_bytes out.old ++ patterns_text (declarations program.now) patterns.now) }
 {
     if let Some((first, rest)) = patterns.split_first() {
         push_pattern(out, program, first)?;
@@ -117,7 +121,8 @@ fn push_comparison(out: &mut String, comparison: &Comparison) -> Result<(), Allo
 }
 
 fn push_more_comparisons(out: &mut String, comparisons: &[Comparison]) -> Result<(), AllocError>
-    ensures { OnOk result (string_bytes out.new ≡ string_bytes out.old ++ more (codes ", ") comparison_text comparisons.now) }
+    ensures { OnOk result (string_bytes out.new
+        ≡ string_bytes out.old ++ more (codes ", ") comparison_text comparisons.now) }
 {
     for comparison in comparisons {
         out.push_str(", ")?;
@@ -128,7 +133,8 @@ fn push_more_comparisons(out: &mut String, comparisons: &[Comparison]) -> Result
 
 /// The name of a rule, where it has one, and an at sign.
 fn push_label(out: &mut String, name: &Option<ArrayString<MAX_NAME>>) -> Result<(), AllocError>
-    ensures { OnOk result (string_bytes out.new ≡ string_bytes out.old ++ label_text (option_map (λ n. n.bytes) name.now)) }
+    ensures { OnOk result (string_bytes out.new
+        ≡ string_bytes out.old ++ label_text (option_map (λ n. n.bytes) name.now)) }
 {
     if let Some(name) = name {
         out.push_str(name.as_str())?;
@@ -139,7 +145,8 @@ fn push_label(out: &mut String, name: &Option<ArrayString<MAX_NAME>>) -> Result<
 
 /// The kept heads, where there are some, and a backslash.
 fn push_kept(out: &mut String, program: &Program, kept: &[Pattern]) -> Result<(), AllocError>
-    ensures { OnOk result (string_bytes out.new ≡ string_bytes out.old ++ kept_text (declarations program.now) kept.now) }
+    ensures { OnOk result (string_bytes out.new
+        ≡ string_bytes out.old ++ kept_text (declarations program.now) kept.now) }
 {
     if !kept.is_empty() {
         push_patterns(out, program, kept)?;
@@ -162,7 +169,8 @@ fn push_guard(out: &mut String, guard: &[Comparison]) -> Result<(), AllocError>
 
 /// The atoms of the body, or `true` where there are none.
 fn push_body(out: &mut String, program: &Program, body: &[Pattern]) -> Result<(), AllocError>
-    ensures { OnOk result (string_bytes out.new ≡ string_bytes out.old ++ body_text (declarations program.now) body.now) }
+    ensures { OnOk result (string_bytes out.new
+        ≡ string_bytes out.old ++ body_text (declarations program.now) body.now) }
 {
     if body.is_empty() {
         out.push_str("true")
@@ -172,7 +180,8 @@ fn push_body(out: &mut String, program: &Program, body: &[Pattern]) -> Result<()
 }
 
 fn push_rule(out: &mut String, program: &Program, rule: &Rule) -> Result<(), AllocError>
-    ensures { OnOk result (string_bytes out.new ≡ string_bytes out.old ++ rule_clause (declarations program.now) rule.now) }
+    ensures { OnOk result (string_bytes out.new
+        ≡ string_bytes out.old ++ rule_clause (declarations program.now) rule.now) }
 {
     push_label(out, &rule.name)?;
     push_kept(out, program, &rule.kept)?;
@@ -183,7 +192,8 @@ fn push_rule(out: &mut String, program: &Program, rule: &Rule) -> Result<(), All
 }
 
 fn push_rules(out: &mut String, program: &Program, rules: &[Rule]) -> Result<(), AllocError>
-    ensures { OnOk result (string_bytes out.new ≡ string_bytes out.old ++ ended_clauses (map (rule_clause (declarations program.now)) rules.now)) }
+    ensures { OnOk result (string_bytes out.new
+        ≡ string_bytes out.old ++ ended_clauses (map (rule_clause (declarations program.now)) rules.now)) }
 {
     for rule in rules {
         push_rule(out, program, rule)?;
@@ -197,7 +207,7 @@ fn push_rules(out: &mut String, program: &Program, rules: &[Rule]) -> Result<(),
 struct Declared<'a> {
     name: &'a str,
     arity: usize,
-    weight: u32,
+    weight: Weight,
 }
 
 fn declaration(program: &Program, symbol: SymbolId) -> Declared<'_>
@@ -231,7 +241,8 @@ fn push_symbol(out: &mut String, declared: &Declared<'_>) -> Result<(), AllocErr
 }
 
 fn push_more_symbols(out: &mut String, all: &[Declared<'_>]) -> Result<(), AllocError>
-    ensures { OnOk result (string_bytes out.new ≡ string_bytes out.old ++ more (codes ", ") symbol_text (map declared_view all.now)) }
+    ensures { OnOk result (string_bytes out.new
+        ≡ string_bytes out.old ++ more (codes ", ") symbol_text (map declared_view all.now)) }
 {
     for declared in all {
         out.push_str(", ")?;
@@ -241,7 +252,8 @@ fn push_more_symbols(out: &mut String, all: &[Declared<'_>]) -> Result<(), Alloc
 }
 
 fn push_declaration(out: &mut String, all: &[Declared<'_>]) -> Result<(), AllocError>
-    ensures { OnOk result (string_bytes out.new ≡ string_bytes out.old ++ ended_clauses (declaration_clauses (map declared_view all.now))) }
+    ensures { OnOk result (string_bytes out.new
+        ≡ string_bytes out.old ++ ended_clauses (declaration_clauses (map declared_view all.now))) }
 {
     if let Some((first, rest)) = all.split_first() {
         out.push_str(":- chr_constraint ")?;
@@ -253,18 +265,22 @@ fn push_declaration(out: &mut String, all: &[Declared<'_>]) -> Result<(), AllocE
 }
 
 fn push_weight(out: &mut String, declared: &Declared<'_>) -> Result<(), AllocError>
-    ensures { OnOk result (string_bytes out.new ≡ string_bytes out.old ++ ended_clauses (weight_clauses (declared_view declared.now ∷ []))) }
+    ensures { OnOk result (string_bytes out.new
+        ≡ string_bytes out.old ++ ended_clauses (weight_clauses (declared_view declared.now ∷ []))) }
 {
     if declared.weight != DEFAULT_WEIGHT {
         out.push_str(":- chr_weight ")?;
         push_symbol(out, declared)?;
-        write!(out, " = {}.\n", declared.weight)?;
+        out.push_str(" = ")?;
+        declared.weight.push_text(out, declared.weight.is_paired())?;
+        out.push_str(".\n")?;
     }
     Ok(())
 }
 
 fn push_weights(out: &mut String, all: &[Declared<'_>]) -> Result<(), AllocError>
-    ensures { OnOk result (string_bytes out.new ≡ string_bytes out.old ++ ended_clauses (weight_clauses (map declared_view all.now))) }
+    ensures { OnOk result (string_bytes out.new
+        ≡ string_bytes out.old ++ ended_clauses (weight_clauses (map declared_view all.now))) }
 {
     for declared in all {
         push_weight(out, declared)?;
@@ -272,8 +288,8 @@ fn push_weights(out: &mut String, all: &[Declared<'_>]) -> Result<(), AllocError
     Ok(())
 }
 
-/// The canonical text of a program: its declarations in one line, a line for each weight that isn't 1, and a line for each
-/// rule, whose variables are `V1`, `V2`, ..
+/// The canonical text of a program: its declarations in one line, a line for each weight that isn't the default, whose
+/// second number is left out where it is 0, and a line for each rule, whose variables are `V1`, `V2`, ..
 ///
 /// Where it has at most 65,536 bytes, reading it gives the same program.
 pub fn write(alloc: Global, program: &Program) -> Result<String, AllocError>

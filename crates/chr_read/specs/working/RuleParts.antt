@@ -47,7 +47,9 @@ label_over None = false
 label_over (Some w) = is_long w
 
 abbrev pub has_long_lists : Rule → Bool
-has_long_lists r = nat_lt MAX_HEADS (length r.kept + length r.removed) || (nat_lt MAX_COMPARISONS (length (present r.guard)) || nat_lt MAX_BODY (length (present r.body)))
+has_long_lists r =
+    nat_lt MAX_HEADS (length r.kept + length r.removed)
+    || (nat_lt MAX_COMPARISONS (length (present r.guard)) || nat_lt MAX_BODY (length (present r.body)))
 
 abbrev pub parts_over : Rule → Bool
 parts_over r =
@@ -88,15 +90,17 @@ comparison_outside c = is_outside c.left || is_outside c.right
 
 abbrev pub rule_outside : Rule → Bool
 rule_outside r =
-    list_any atom_outside r.kept || (list_any atom_outside r.removed || (list_any comparison_outside (present r.guard) || list_any atom_outside (present r.body)))
+    list_any atom_outside r.kept || (list_any atom_outside r.removed
+    || (list_any comparison_outside (present r.guard) || list_any atom_outside (present r.body)))
 
 -- ---- weights
 
 abbrev pub is_among : List ℕ → Option ℕ → Bool
 is_among places o = option_map_or (λ i. list_any (nat_eq i) places) o false
 
-abbrev pub weight_bad : Progress → Symbol → List ℕ → Bool
-weight_bad q s w = is_none (weight_named_by w) || is_among q.weighed (place_of_symbol q.meaning.declarations s)
+abbrev pub weight_bad : Progress → Symbol → List ℕ → Option (List ℕ) → Bool
+weight_bad q s first second =
+    is_none (weight_named_by first second) || is_among q.weighed (place_of_symbol q.meaning.declarations s)
 
 -- ---- rules
 

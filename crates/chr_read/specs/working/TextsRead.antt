@@ -20,7 +20,9 @@ use Rattle.chr_read.specs.ProgramTexts.{IsProgramText, IsRefusedText}
 
 -- the faults of forms by their numbers
 abbrev pub by_number : List Fault
-by_number = fault.Propagation ∷ fault.Undeclared ∷ fault.DeclaredTwice ∷ fault.Limit ∷ fault.Unbound ∷ fault.NumberRange ∷ fault.WeightFault ∷ []
+by_number =
+    fault.Propagation ∷ fault.Undeclared ∷ fault.DeclaredTwice ∷ fault.Limit ∷ fault.Unbound ∷ fault.NumberRange
+    ∷ fault.WeightFault ∷ []
 
 -- the first that passes
 abbrev pub first_of : (Fault → Bool) → List Fault → Option Fault
@@ -70,8 +72,8 @@ abbrev pub ◌>>=◌ : {A B E : Type 0} → Result A E → (A → Result B E) �
 (Ok x) >>= f = f x
 (Err e) >>= f = Err e
 
--- The clauses in order, the first of them with the number k, and last of all what stands after the last full stop: all that
--- they mean, or the first bad clause with its least fault.
+-- The clauses in order, the first of them with the number k, and last of all what stands after the last full stop: all
+-- that they mean, or the first bad clause with its least fault.
 abbrev pub pieces_read : ℕ → Progress → List (List ℕ) → Result Progress ReadFault
 pieces_read k q [] = Ok q
 pieces_read k q (c ∷ []) = in_clause k (rest_read q c)
@@ -82,7 +84,9 @@ meaning_in r = r >>= λ q. Ok q.meaning
 
 -- the meaning of a text
 unfoldable pub text_read : List ℕ → Result Meaning ReadFault
-text_read text = if nat_le (length text) MAX_TEXT then meaning_in (pieces_read 1 nothing (pieces (without_comments text))) else Err TooLong
+text_read text =
+    if nat_le (length text) MAX_TEXT then meaning_in (pieces_read 1 nothing (pieces (without_comments text)))
+    else Err TooLong
 
 -- ---- what it says of a text
 

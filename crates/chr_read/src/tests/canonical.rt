@@ -220,6 +220,7 @@ fn declarations(rt: HostRuntime) -> Result<(), Fail> {
             ":- chr_constraint a/0, a/1, a/2.\n",
         ),
         (":- chr_constraint a/4.", ":- chr_constraint a/4.\n"),
+        (":- chr_constraint a/6.", ":- chr_constraint a/6.\n"),
         (
             ":- chr_constraint a/0004, a/00.",
             ":- chr_constraint a/4, a/0.\n",

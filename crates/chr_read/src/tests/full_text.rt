@@ -10,9 +10,9 @@ const FIRST: u64 = 10;
 const END: u64 = 74;
 
 fn push_declarations(text: &mut String) -> Result<(), AllocError> {
-    write!(text, ":- chr_constraint named_constraint_{FIRST}/4")?;
+    write!(text, ":- chr_constraint constraint_{FIRST}/6")?;
     for number in FIRST + 1..END {
-        write!(text, ", named_constraint_{number}/4")?;
+        write!(text, ", constraint_{number}/6")?;
     }
     text.push_str(".\n")?;
     Ok(())
@@ -22,19 +22,19 @@ fn push_weights(text: &mut String) -> Result<(), AllocError> {
     for number in FIRST..END {
         write!(
             text,
-            ":- chr_weight named_constraint_{number}/4 = {number}.\n"
+            ":- chr_weight constraint_{number}/6 = {number},1000000.\n"
         )?;
     }
     Ok(())
 }
 
-/// The heads of a rule hold 16 variables, and each symbol twice.
+/// The heads of a rule hold 24 variables, and each symbol twice.
 fn push_heads(text: &mut String, one: u64, other: u64) -> Result<(), AllocError> {
-    write!(text, "rule_with_many_parts_{one} @ ")?;
-    write!(text, "named_constraint_{one}(V1,V2,V3,V4), ")?;
-    write!(text, "named_constraint_{other}(V5,V6,V7,V8) \\ ")?;
-    write!(text, "named_constraint_{one}(V9,V10,V11,V12), ")?;
-    write!(text, "named_constraint_{other}(V13,V14,V15,V16) <=> ")
+    write!(text, "rule_with_parts_{one} @ ")?;
+    write!(text, "constraint_{one}(V1,V2,V3,V4,V5,V6), ")?;
+    write!(text, "constraint_{other}(V7,V8,V9,V10,V11,V12) \\ ")?;
+    write!(text, "constraint_{one}(V13,V14,V15,V16,V17,V18), ")?;
+    write!(text, "constraint_{other}(V19,V20,V21,V22,V23,V24) <=> ")
 }
 
 fn push_guard(text: &mut String, one: u64) -> Result<(), AllocError> {
@@ -54,20 +54,20 @@ fn push_guard(text: &mut String, one: u64) -> Result<(), AllocError> {
 }
 
 fn push_body(text: &mut String, one: u64, other: u64) -> Result<(), AllocError> {
-    for (before, first, last) in [
-        ("", 1, 9),
-        (", ", 2, 10),
-        (", ", 3, 11),
-        (", ", 4, 12),
-        (", ", 5, 13),
-        (", ", 6, 14),
-        (", ", 7, 15),
-        (", ", 8, 16),
+    for (before, first, second, last) in [
+        ("", 1, 9, 17),
+        (", ", 2, 10, 18),
+        (", ", 3, 11, 19),
+        (", ", 4, 12, 20),
+        (", ", 5, 13, 21),
+        (", ", 6, 14, 22),
+        (", ", 7, 15, 23),
+        (", ", 8, 16, 24),
     ] {
-        write!(text, "{before}named_constraint_{other}(V{first},")?;
+        write!(text, "{before}constraint_{other}(V{first},")?;
         write!(
             text,
-            "92233720368547757{one},-92233720368547757{other},V{last})"
+            "92233720368547757{one},-92233720368547757{other},V{second},V{last},{first})"
         )?;
     }
     text.push_str(".\n")

@@ -38,6 +38,11 @@ fn leading_zeros(rt: HostRuntime) -> Result<(), Fail> {
             "1000000.",
             ":- chr_constraint a/1.\n:- chr_weight a/1 = 1000000.\n",
         ),
+        (
+            ":- chr_constraint a/1. :- chr_weight a/1 = 0,",
+            "1000000.",
+            ":- chr_constraint a/1.\n:- chr_weight a/1 = 0,1000000.\n",
+        ),
     ] {
         let text = format!(in alloc; "{before}{zeros}{after}")?;
         let found = rewritten(alloc, text.as_bytes())?;
@@ -52,10 +57,12 @@ fn faults_after_leading_zeros(rt: HostRuntime) -> Result<(), Fail> {
     let zeros = "0".repeat(alloc, 5_000)?;
     for (before, after, fault) in [
         (":- chr_constraint a/", "1", 6),
-        (":- chr_constraint b/", "5", 7),
+        (":- chr_constraint b/", "7", 7),
         (":- chr_weight b/", " = 1", 5),
         (":- chr_weight a/0 = ", "", 10),
+        (":- chr_weight a/0 = 0,", "", 10),
         (":- chr_weight a/0 = ", "1000001", 10),
+        (":- chr_weight a/0 = 1,", "1000001", 10),
         ("a <=> a(", "9223372036854775808)", 9),
         ("a <=> a(-", "9223372036854775809)", 9),
     ] {
@@ -77,6 +84,9 @@ fn nines(rt: HostRuntime) -> Result<(), Fail> {
         ("a <=> a(", ")", 9),
         (":- chr_weight a/0 = ", "", 9),
         (":- chr_weight a/0 = -", "", 9),
+        (":- chr_weight a/0 = 1,", "", 9),
+        (":- chr_weight a/0 = 1,-", "", 9),
+        (":- chr_weight a/0 = ", ",1", 9),
         (":- chr_weight a/", " = 1", 5),
         (":- chr_constraint b/", "", 7),
     ] {

@@ -1,6 +1,7 @@
 use Rattle.std.proofs.Common.{◌≡◌, ◌<◌, List, length, map, false, nat_le, arith}
 use Rattle.std.proofs.lemmas.Bool.Decides.{nat_tests}
 use Rattle.std.proofs.lemmas.List.{length-map}
+use Rattle.chr_base.specs.declared.limits.TheConstants.{MAX_RULES}
 use Rattle.chr_base.specs.declared.rule.Rule.{Rule}
 use Rattle.chr_base.specs.Sameness.{parts_of}
 use Rattle.chr_base.specs.Programs.{declarations, rules_of}
@@ -22,7 +23,7 @@ push_rule-requires-clause-room c =
     let few = (rule_faultless (progress_of c.args.reader.now) (rule_view c.args.raw.now) c.requires.none).1 in
     room rs few
   where
-    room : (rs : List Rule) → nat_le 64 (length (map parts_of rs)) ≡ false → length rs < 64
+    room : (rs : List Rule) → nat_le MAX_RULES (length (map parts_of rs)) ≡ false → length rs < MAX_RULES
     room rs h = let l = length-map rs parts_of in grind (arith, nat_tests)
 
 pub resolved-requires-clause-over : goal.resolved-requires-clause-over
