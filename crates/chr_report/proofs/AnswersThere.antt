@@ -5,6 +5,7 @@ use Rattle.std.specs.Bool.{MatchBool}
 use Rattle.std.proofs.lemmas.Bool.{cases_lt}
 use Rattle.std.proofs.lemmas.Option.{none-some, same_Some}
 use Rattle.std.specs.FinMap as finite
+use Rattle.std.specs.Option.{ok_or}
 use Rattle.chr_base.specs.declared.atom.Atom.{Atom}
 use Rattle.chr_base.specs.declared.rule.Rule.{Rule}
 use Rattle.chr_base.specs.Stores.{Store, store_of, size}
@@ -20,7 +21,7 @@ use Rattle.chr_json.specs.declared.fault.LineFault.TheVariants as fault
 use Rattle.chr_json.specs.Commands.{Said, show, tell, command_of}
 use Rattle.chr_json.specs.Values.{json_in}
 use Rattle.chr_json.specs.Lines.{is_blank_line, has_line_length}
-use Rattle.chr_json.specs.Reads.{or_shape, value_said}
+use Rattle.chr_json.specs.Reads.{value_said}
 use Rattle.chr_report.specs.declared.reply.Refusal.TheVariants as refusal
 use Rattle.chr_report.specs.Lines.{without_return}
 use Rattle.chr_report.specs.Replies.{refusal_text}
@@ -100,7 +101,7 @@ module _ (ds : List Declaration) (rules : List Rule) (rests : (s : Store) → (t
       by true = tell_answered old (record { origin = o; number = n }, store_of atoms)
       by false = (refusal_text refusal.NoReplica, old, (refl, refl))
 
-  said_answered : (old : Operations) (said : Option Said) → HasAnswer (AnswersRead ds rules old (or_shape said))
+  said_answered : (old : Operations) (said : Option Said) → HasAnswer (AnswersRead ds rules old (ok_or said fault.Shape))
   said_answered old None = (refusal_text refusal.Shape, old, (refl, refl))
   said_answered old (Some (show r)) = show_answered old r
   said_answered old (Some (tell r o n ws)) = atoms_answered old r o n (named_atoms ds ws)
