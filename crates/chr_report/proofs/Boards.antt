@@ -19,8 +19,7 @@ use Rattle.chr_join.specs.declared.accepted.Accepted.{Accepted}
 use Rattle.chr_join.specs.AcceptedPrograms.{weighed_of}
 use Rattle.chr_join.specs.AcceptedPrograms.{program_in}
 use Rattle.chr_base.specs.FinBag as bag
-use Rattle.chr_base.proofs.FinBags as bag_laws
-use Rattle.chr_base.specs.FinBag.{◌⊕◌, total}
+use Rattle.chr_base.specs.FinBag.{◌⊕◌}
 use Rattle.chr_base.specs.Stores.{Store, store_of, size}
 use Rattle.chr_base.proofs.Stores.{store_of-items, weight_store_of, length_total, size_weight}
 use Rattle.chr_base.specs.Rules.{Step}
