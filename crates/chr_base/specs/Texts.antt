@@ -1,5 +1,6 @@
 -- Atoms and stores as text.
 use Rattle.std.specs.Prelude.{ℕ, ℤ, List, [], ◌∷◌, ◌++◌, length, codes, slice_get}
+use Rattle.std.specs.List.{join_by}
 use Rattle.std.specs.Option.{option_map_or}
 use Rattle.std.specs.Fmt.{signed_decimal}
 use Rattle.std.specs.declared.cmp.Ordering.{Ordering}
@@ -27,27 +28,18 @@ print_cmp ds a b =
 abbrev pub in_print_order : List Declaration → Store → List Atom
 in_print_order ds s = bag.items (bag.of_list {R = print_cmp ds} (bag.items s))
 
--- values with a comma before each
-abbrev pub more_values : List ℤ → List ℕ
-more_values [] = []
-more_values (z ∷ zs) = codes "," ++ signed_decimal z ++ more_values zs
-
+-- values, joined by commas, in parentheses, and nothing where there is none
 abbrev pub values_text : List ℤ → List ℕ
 values_text [] = []
-values_text (z ∷ zs) = codes "(" ++ signed_decimal z ++ more_values zs ++ codes ")"
+values_text (z ∷ zs) = codes "(" ++ join_by signed_decimal (codes ",") (z ∷ zs) ++ codes ")"
 
 -- an atom: its name, and its arguments in parentheses where it has some
 abbrev pub atom_text : List Declaration → Atom → List ℕ
 atom_text ds a = name_of ds a ++ values_text a.args.items
 
--- atoms with a comma and a space before each
-abbrev pub more_atoms : List Declaration → List Atom → List ℕ
-more_atoms ds [] = []
-more_atoms ds (a ∷ as') = codes ", " ++ atom_text ds a ++ more_atoms ds as'
-
 abbrev pub atoms_text : List Declaration → List Atom → List ℕ
 atoms_text ds [] = codes "true"
-atoms_text ds (a ∷ as') = atom_text ds a ++ more_atoms ds as'
+atoms_text ds (a ∷ as') = join_by (atom_text ds) (codes ", ") (a ∷ as')
 
 -- the atoms of a store, joined by a comma and a space, or `true` where there is none
 abbrev pub store_text : List Declaration → Store → List ℕ

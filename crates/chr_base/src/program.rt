@@ -21,9 +21,10 @@ struct Symbol {
 
 /// A program: its declared symbols in order, each with its weight, and its rules in order.
 ///
-/// It has at most `MAX_SYMBOLS` symbols, no two of one name and arity, each of at most `MAX_ARITY` arguments and with a weight of
-/// numbers up to `MAX_WEIGHT`, not both 0, whose names are a lower-case letter, then letters, digits and underscores, and no reserved word; and at most
-/// `MAX_RULES` rules, each atom of which is declared with as many arguments.
+/// It has at most `MAX_SYMBOLS` symbols, no two of one name and arity, each of at most `MAX_ARITY` arguments and with a
+/// weight of numbers up to `MAX_WEIGHT`, not both 0. Their names are a lower-case letter, then letters, digits and
+/// underscores, and no reserved word. It has at most `MAX_RULES` rules, each atom of which is declared with as many
+/// arguments.
 #[derive(Drop)]
 pub struct Program {
     symbols: IndexMap<Symbol, Weight>,
@@ -274,7 +275,8 @@ impl Program {
         Ok(Program { symbols, rules })
     }
 
-    /// Whether the two programs have the same symbols with the same weights, and the same rules, each in the same order.
+    /// Whether the two programs have the same symbols with the same weights, and the same rules, each in the same
+    /// order.
     pub fn is_same(&self, other: &Program) -> bool
         ensures { IsTrue result ↔ AreSame self.now other.now }
     {

@@ -1,7 +1,9 @@
 //! Atoms and stores as text.
-ghost use Rattle.std.specs.Prelude.{◌≡◌, ◌++◌, IfOk, OnOk, string_bytes};
+ghost use Rattle.std.specs.Prelude.{◌≡◌, ◌++◌, IfOk, OnOk, codes, string_bytes};
+ghost use Rattle.std.specs.Fmt.{signed_decimal};
+ghost use Rattle.std.specs.List.{flat_map};
 ghost use Rattle.chr_base.specs.Programs.{declarations};
-ghost use Rattle.chr_base.specs.Texts.{name_of, print_cmp, in_print_order, more_values, values_text, atom_text, more_atoms, atoms_text, store_text};
+ghost use Rattle.chr_base.specs.Texts.{name_of, print_cmp, in_print_order, values_text, atom_text, atoms_text, store_text};
 
 use crate::atom::Atom;
 use crate::bag::Bag;
@@ -36,7 +38,8 @@ fn in_print_order(alloc: Global, program: &Program, bag: &Bag) -> Result<Vec<Ato
 }
 
 fn push_more_values(out: &mut String, values: &[i64]) -> Result<(), AllocError>
-    ensures { OnOk result (string_bytes out.new ≡ string_bytes out.old ++ more_values values.now) }
+    ensures { OnOk result (string_bytes out.new ≡ string_bytes out.old
+        ++ flat_map (λ z. codes "," ++ signed_decimal z) values.now) }
 {
     for value in values {
         write!(out, ",{value}")?;
@@ -59,7 +62,7 @@ fn push_atom(out: &mut String, program: &Program, atom: &Atom) -> Result<(), All
 
 fn push_more_atoms(out: &mut String, program: &Program, atoms: &[Atom]) -> Result<(), AllocError>
     ensures { OnOk result (string_bytes out.new
-        ≡ string_bytes out.old ++ more_atoms (declarations program.now) atoms.now) }
+        ≡ string_bytes out.old ++ flat_map (λ a. codes ", " ++ atom_text (declarations program.now) a) atoms.now) }
 {
     for atom in atoms {
         out.push_str(", ")?;

@@ -5,8 +5,8 @@ ghost use Rattle.chr_base.specs.Weights.{IsLighter, is_paired, sum, weight_text}
 use std::alloc::AllocError;
 use std::fmt::Write;
 
-/// The weight of a symbol, an atom or a store. The first number counts for more: two weights are compared by their first
-/// numbers and, where these are equal, by their second numbers.
+/// The weight of a symbol, an atom or a store. The first number counts for more: two weights are compared by their
+/// first numbers and, where these are equal, by their second numbers.
 #[derive(Clone, Copy, Debug, PartialEq, Eq)]
 pub struct Weight {
     /// The number that is compared first.

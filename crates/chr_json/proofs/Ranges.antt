@@ -12,6 +12,7 @@ use Rattle.json.specs.Lex.{tokens}
 use Rattle.serde_json.specs.Data.{Num, unsigned, negative, float, Data, null, boolean, number, string, array, object, Items, no_items, item, no_members}
 use Rattle.serde_json.specs.Find.{as_array, as_str, as_i64}
 use Rattle.serde_json.specs.Read.{is_integer, float_of, number_from, number_of, of_json, of_items, of_members, max_depth, read}
+use Rattle.std.specs.Option.{ok_or}
 use Rattle.chr_json.specs.declared.fault.LineFault.{LineFault}
 use Rattle.chr_json.specs.declared.fault.LineFault.TheVariants as fault
 use Rattle.chr_base.specs.declared.limits.TheConstants.{MAX_OPERATION}
@@ -20,7 +21,7 @@ use Rattle.chr_json.specs.Values.{json_in, listed, elements, natural_of, integer
 use Rattle.chr_json.specs.Commands.{Said, show, tell, named_atom_from, named_atom_of, named_atoms_from, named_atoms_of, id_of, show_of, tell_of, command_from, command_of}
 use Rattle.chr_json.specs.Printed.{ArgumentsFit}
 use Rattle.chr_json.specs.Lines.{has_line_length}
-use Rattle.chr_json.specs.Reads.{or_shape, value_said, line_said}
+use Rattle.chr_json.specs.Reads.{value_said, line_said}
 
 -- a whole number has 64 bits
 abbrev pub HasRange : Num → Type 0
@@ -182,7 +183,7 @@ command_from_fits (w ∷ r ∷ id ∷ atoms ∷ d ∷ ds) h = tt
 pub command_fits : (d : Data) → HasRanges d → IfSome (command_of d) HasFittingArguments
 command_fits d h = of_elements HasFittingArguments command_from command_from_fits d h
 
-shape_fits : (o : Option Said) → IfSome o HasFittingArguments → IfOk (or_shape o) HasFittingArguments
+shape_fits : (o : Option Said) → IfSome o HasFittingArguments → IfOk (ok_or o fault.Shape) HasFittingArguments
 shape_fits None h = tt
 shape_fits (Some s) h = h
 
@@ -190,9 +191,9 @@ value_fits : (o : Option Data) → IfSome o HasRanges → IfOk (value_said o) Ha
 value_fits None h = tt
 value_fits (Some d) h = shape_fits (command_of d) (command_fits d h)
 
-ok_or : (b : Bool) (r : Result Said LineFault) → IfOk r HasFittingArguments → IfOk (cond b r (Err fault.BadLine)) HasFittingArguments
-ok_or true r h = h
-ok_or false r h = tt
+within_fits : (b : Bool) (r : Result Said LineFault) → IfOk r HasFittingArguments → IfOk (cond b r (Err fault.BadLine)) HasFittingArguments
+within_fits true r h = h
+within_fits false r h = tt
 
 pub line_fits : (line : List ℕ) → IfOk (line_said line) HasFittingArguments
-line_fits line = ok_or (has_line_length line) (value_said (json_in line)) (value_fits (json_in line) (value_ranged line))
+line_fits line = within_fits (has_line_length line) (value_said (json_in line)) (value_fits (json_in line) (value_ranged line))

@@ -1,5 +1,6 @@
 -- What a line says or why it is refused, and what the reader's answers mean.
 use Rattle.std.specs.Prelude.{◌≡◌, ℕ, List, map, if◌then◌else◌, Option, Some, None, Result, Ok, Err, string_bytes, vec_len, ⊤}
+use Rattle.std.specs.Option.{ok_or}
 use Rattle.serde_json.specs.Data.{Data}
 use Rattle.chr_json.specs.declared.fault.LineFault.{LineFault}
 use Rattle.chr_json.specs.declared.fault.LineFault.TheVariants as fault
@@ -24,14 +25,9 @@ abbrev pub IsSized : Command → Type 0
 IsSized (command.Tell r o n atoms) = IsOperationLength (vec_len atoms)
 IsSized (command.Show r) = ⊤
 
--- the command, or that there is none
-abbrev pub or_shape : Option Said → Result Said LineFault
-or_shape (Some s) = Ok s
-or_shape None = Err fault.Shape
-
--- a value's command, or that the bytes are no value
+-- a value's command, or that it is none, or that the bytes are no value
 abbrev pub value_said : Option Data → Result Said LineFault
-value_said (Some d) = or_shape (command_of d)
+value_said (Some d) = ok_or (command_of d) fault.Shape
 value_said None = Err fault.BadLine
 
 -- a line's command, or the first cause for which it is refused

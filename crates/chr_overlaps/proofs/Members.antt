@@ -8,11 +8,11 @@ use Rattle.std.specs.Cmp.Lexicographic.{slice_cmp}
 use Rattle.std.proofs.lemmas.Cmp.{nat_cmp_total}
 use Rattle.std.proofs.lemmas.Bool.{cases_lt}
 use Rattle.std.proofs.Common.{refl, sym, ap, subst, ◌∙◌, inl, inr, arith}
-use Rattle.chr_types.specs.OrderTypes.{In}
+use Rattle.chr_types.specs.OrderTypes.{In, RisesBy}
 use Rattle.chr_types.proofs.Members.{in_first, in_second, in_either}
 use Rattle.chr_confluence.proofs.Frees.{range_in}
 use Rattle.chr_overlaps.specs.declared.overlap.Overlap.{Overlap}
-use Rattle.chr_overlaps.specs.OverlapLists.{overlap_cmp, OverlapsRise}
+use Rattle.chr_overlaps.specs.OverlapLists.{overlap_cmp}
 
 pub in_some : {A : Type 0} (x : A) (f : ℕ → List A) (ks : List ℕ) → In x (flat_map f ks) → (k : ℕ) × In k ks × In x (f k)
 in_some x f [] i = elim i [ ]
@@ -32,6 +32,10 @@ in_all x f k (l ∷ ks) (inr i) j = in_second x (f l) (flat_map f ks) (in_all x 
 pub less_at : (m t u : List ℕ) (d e : ℕ) → d < e → slice_cmp nat_cmp (m ++ d ∷ t) (m ++ e ∷ u) ≡ Less
 less_at [] t u d e l = ap (λ o. ordering_then o (slice_cmp nat_cmp t u)) (sym (nat_cmp_is d e Less l))
 less_at (x ∷ m) t u d e l = ap (λ o. ordering_then o (slice_cmp nat_cmp (m ++ d ∷ t) (m ++ e ∷ u))) (tied_itself nat_cmp_total x) ∙ less_at m t u d e l
+
+-- in the order of overlaps
+abbrev pub OverlapsRise : List Overlap → Type 0
+OverlapsRise = RisesBy (λ o p. overlap_cmp o p ≡ Less)
 
 rise_append : (xs ys : List Overlap) → OverlapsRise xs → OverlapsRise ys → ((x y : Overlap) → In x xs → In y ys → overlap_cmp x y ≡ Less) → OverlapsRise (xs ++ ys)
 rise_append [] ys h g l = g

@@ -12,9 +12,9 @@ use Rattle.chr_confluence.specs.Overlaps.{SameSymbols, IsMatching, IsOverlap}
 use Rattle.chr_types.proofs.Enumeration.{if_in}
 use Rattle.chr_confluence.proofs.Frees.{in_range, range_in}
 use Rattle.chr_overlaps.specs.declared.overlap.Overlap.{Overlap}
-use Rattle.chr_overlaps.specs.OverlapLists.{IsOverlapOf, overlap_cmp, OverlapsRise, AreOverlaps}
+use Rattle.chr_overlaps.specs.OverlapLists.{IsOverlapOf, overlap_cmp, AreOverlaps}
 use Rattle.chr_overlaps.specs.working.Listing.{may_follow, with_entry, going_on, overlaps_behind, begun, overlaps_at, overlaps_of_pair, overlaps_of_rule, all_overlaps}
-use Rattle.chr_overlaps.proofs.Members.{in_some, in_all, less_at, all_rise, cond_rises}
+use Rattle.chr_overlaps.proofs.Members.{in_some, in_all, less_at, all_rise, cond_rises, OverlapsRise}
 use Rattle.chr_overlaps.proofs.Entries.{IsNew, symbols_more, symbols_first, symbol_within, follows_means, means_follows, apart_more, new_there}
 
 abbrev with_entries : Overlap → List ℕ → Overlap

@@ -24,11 +24,8 @@ entries o = o.first ∷ o.second ∷ o.matching.items
 abbrev pub overlap_cmp : Overlap → Overlap → Ordering
 overlap_cmp o p = slice_cmp nat_cmp (entries o) (entries p)
 
-abbrev pub OverlapsRise : List Overlap → Type 0
-OverlapsRise = RisesBy (λ o p. overlap_cmp o p ≡ Less)
-
 -- all overlaps of these rules, each once, in order
 pub record AreOverlaps (rules : List Rule) (os : List Overlap) : Type 0 where
   pub each : (o : Overlap) → In o os → IsOverlapOf rules o
   pub all : (o : Overlap) → IsOverlapOf rules o → In o os
-  pub rise : OverlapsRise os
+  pub rise : RisesBy (λ o p. overlap_cmp o p ≡ Less) os

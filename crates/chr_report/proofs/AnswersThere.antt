@@ -5,6 +5,7 @@ use Rattle.std.specs.Bool.{MatchBool}
 use Rattle.std.proofs.lemmas.Bool.{cases_lt}
 use Rattle.std.proofs.lemmas.Option.{none-some, same_Some}
 use Rattle.std.specs.FinMap as finite
+use Rattle.std.specs.Option.{ok_or}
 use Rattle.chr_base.specs.declared.atom.Atom.{Atom}
 use Rattle.chr_base.specs.declared.rule.Rule.{Rule}
 use Rattle.chr_base.specs.Stores.{Store, store_of, size}
@@ -12,7 +13,7 @@ use Rattle.chr_base.specs.Rules.{Step}
 use Rattle.chr_base.specs.Rewriting.{IsNormalForm}
 use Rattle.chr_base.specs.ProgramTests.{Declaration}
 use Rattle.chr_base.specs.Texts.{store_text}
-use Rattle.chr_weights.specs.Weights.{weight_by}
+use Rattle.chr_weights.proofs.Ranks.{lowers_rank_by, rank_by}
 use Rattle.chr_confluence.specs.laws.Newman.{NormalFormsExist}
 use Rattle.chr_ops.specs.Operations.{Operation, Operations, told_store}
 use Rattle.chr_ops.specs.declared.limits.TheConstants.{MAX_TOLD}
@@ -20,7 +21,7 @@ use Rattle.chr_json.specs.declared.fault.LineFault.TheVariants as fault
 use Rattle.chr_json.specs.Commands.{Said, show, tell, command_of}
 use Rattle.chr_json.specs.Values.{json_in}
 use Rattle.chr_json.specs.Lines.{is_blank_line, has_line_length}
-use Rattle.chr_json.specs.Reads.{or_shape, value_said}
+use Rattle.chr_json.specs.Reads.{value_said}
 use Rattle.chr_report.specs.declared.reply.Refusal.TheVariants as refusal
 use Rattle.chr_report.specs.Lines.{without_return}
 use Rattle.chr_report.specs.Replies.{refusal_text}
@@ -100,7 +101,7 @@ module _ (ds : List Declaration) (rules : List Rule) (rests : (s : Store) → (t
       by true = tell_answered old (record { origin = o; number = n }, store_of atoms)
       by false = (refusal_text refusal.NoReplica, old, (refl, refl))
 
-  said_answered : (old : Operations) (said : Option Said) → HasAnswer (AnswersRead ds rules old (or_shape said))
+  said_answered : (old : Operations) (said : Option Said) → HasAnswer (AnswersRead ds rules old (ok_or said fault.Shape))
   said_answered old None = (refusal_text refusal.Shape, old, (refl, refl))
   said_answered old (Some (show r)) = show_answered old r
   said_answered old (Some (tell r o n ws)) = atoms_answered old r o n (named_atoms ds ws)
@@ -129,4 +130,4 @@ module _ (ds : List Declaration) (rules : List Rule) (rests : (s : Store) → (t
           (a.0 ++ 10 ∷ rest.0, record { text = a.0; new = a.1; rest = rest.0; answers = a.2; more = rest.1; out_is = refl })
 
 pub answers_exist : NormalFormsExist → AnswersExist
-answers_exist rests ds rules lowers lines old = lines_answered ds rules (rests rules (weight_by ds) lowers) lines old
+answers_exist rests ds rules lowers lines old = lines_answered ds rules (rests rules (rank_by ds) (lowers_rank_by ds rules lowers)) lines old
