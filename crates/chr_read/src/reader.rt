@@ -65,7 +65,7 @@ fn clause_of<'a>(alloc: Global, bytes: &'a [u8]) -> Result<RawClause<'a>, Clause
 }
 
 /// Reads a clause, after what stands before it.
-#[tactic(auto, using(crate::proofs::FormsRead::form_is, crate::proofs::FormsRead::names_are), unfolding(crate::specs::working::TextsRead::clause_read))]
+#[tactic(auto, unfolding(crate::specs::working::TextsRead::clause_read))]
 fn read_clause(alloc: Global, reader: &mut Reader, bytes: &[u8]) -> Result<(), Stop>
     ensures { ClauseGives result (progress_of reader.new) (clause_read (progress_of reader.old) bytes.now) }
 {

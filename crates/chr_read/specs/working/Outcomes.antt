@@ -4,6 +4,7 @@ use Rattle.chr_syntax.specs.declared.clause.RawClause.{RawClause}
 use Rattle.chr_syntax.specs.declared.fault.ClauseFault.{ClauseFault}
 use Rattle.chr_syntax.specs.declared.fault.ClauseFault.TheVariants as clause
 use Rattle.chr_syntax.specs.Bytes.{is_text}
+use Rattle.chr_syntax.specs.Grammar.{IsForm}
 use Rattle.chr_syntax.specs.Views.{clause_view}
 use Rattle.chr_syntax.specs.working.Forms.{clause_of}
 use Rattle.chr_base.specs.declared.program.Program.{Program}
@@ -14,11 +15,13 @@ use Rattle.chr_read.specs.declared.progress.Reader.{Reader}
 use Rattle.chr_read.specs.declared.reader.Stop.{Stop}
 use Rattle.chr_read.specs.declared.reader.Stop.TheVariants as stop
 use Rattle.chr_read.specs.Meanings.{Meaning, Progress, meaning_of}
+use Rattle.chr_read.specs.NamesOfForms.{has_names}
 use Rattle.chr_read.specs.working.Views.{progress_of}
 
--- the form that is read
+-- the form that is read, and its names are names of a program
 abbrev pub IsReadClause : Result RawClause ClauseFault → List ℕ → Type 0
 IsReadClause (Ok c) bytes = (is_text bytes ≡ true) × (clause_of bytes ≡ Some (clause_view c))
+    × IsForm (clause_view c) × (has_names (clause_view c) ≡ true)
 IsReadClause (Err clause.Memory) bytes = Unit {0}
 IsReadClause (Err clause.BadByte) bytes = is_text bytes ≡ false
 IsReadClause (Err clause.Syntax) bytes = (is_text bytes ≡ true) × (clause_of bytes ≡ None)
