@@ -1,4 +1,5 @@
 -- The form of a clause, by splitting its tokens at signs and commas, and reading each part whole.
+use Rattle.chr_base.specs.Traversals.{each}
 use Rattle.std.specs.Prelude.{ℕ, ◌+◌, ◌-◌, length, take, drop, List, [], ◌∷◌, Bool, true, false, not, ◌==◌, ◌&&◌, ◌||◌, if◌then◌else◌, Option, Some, None, option_map, option_and_then, codes}
 use Rattle.std.specs.List.{position_or_len, onto_first}
 use Rattle.std.specs.Str.{bytes_eq}
@@ -47,11 +48,6 @@ items inside (t ∷ ts) =
 abbrev pub item_len : Bool → List Tok → ℕ
 item_len inside [] = 0
 item_len inside (t ∷ ts) = if not inside && is_sign s.Comma t then 0 else 1 + item_len (stays_inside inside t) ts
-
--- f of each, where f has a value at each
-abbrev pub each : {A B : Type 0} → (A → Option B) → List A → Option (List B)
-each f [] = Some []
-each f (x ∷ xs) = option_and_then (λ y. option_map (λ ys. y ∷ ys) (each f xs)) (f x)
 
 -- what f reads between the commas
 abbrev pub each_item : {B : Type 0} → (List Tok → Option B) → List Tok → Option (List B)

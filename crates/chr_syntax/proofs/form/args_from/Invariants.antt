@@ -1,8 +1,9 @@
+use Rattle.chr_base.proofs.Traversals.{front}
+use Rattle.chr_base.specs.Traversals.{each}
 use Rattle.std.proofs.Common.{◌≡◌, map, drop}
-use Rattle.chr_syntax.specs.working.Forms.{each, term_from}
+use Rattle.chr_syntax.specs.working.Forms.{term_from}
 use Rattle.chr_syntax.specs.working.Views.{tokens_view}
 use Rattle.chr_syntax.specs.Views.{term_view}
-use Rattle.chr_syntax.proofs.Lexing.{front}
 use Rattle.chr_syntax.proofs.form.args_from.Given as goal
 
 abbrev pub invariant-loop-item : goal.invariant-loop-item
