@@ -1,0 +1,5 @@
+pub mod Values
+pub mod Places
+pub mod Searches
+pub mod Starts
+pub mod Reactions
