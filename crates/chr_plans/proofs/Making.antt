@@ -1,12 +1,12 @@
 -- What is made is a plan.
-use Rattle.std.proofs.Common.{◌≡◌, ℕ, zero, suc, ◌+◌, ◌<◌, ◌≤◌, List, [], ◌∷◌, ◌++◌, length, get_or, take, Bool, true, false, nat_eq, refl, sym, ap, ◌∙◌, arith, subst, inl, inr, Option}
-use Rattle.std.specs.Prelude.{Some, None, option_map, ◌||◌, nat_lt, if◌then◌else◌, ◌⊎◌, map}
+use Rattle.std.proofs.Common.{◌≡◌, ℕ, zero, suc, ◌+◌, ◌<◌, List, [], ◌∷◌, ◌++◌, length, get_or, take, Bool, true, false, nat_eq, refl, sym, ap, ◌∙◌, arith, subst, inl, inr, Option}
+use Rattle.std.specs.Prelude.{Some, None, option_map, ◌||◌, if◌then◌else◌}
 use Rattle.std.specs.List.{list_any, IsDistinct}
 use Rattle.std.specs.Option.{option_or}
-use Rattle.std.proofs.lemmas.Bool.{cases_lt, lt-ltb, ltb-true}
+use Rattle.std.proofs.lemmas.Bool.{cases_lt}
 use Rattle.std.specs.Cmp.{unsigned_Decides}
 use Rattle.std.proofs.lemmas.Option.{same_Some}
-use Rattle.std.proofs.lemmas.List.{length-map, get_or_append_left, get_or-map, map-append, take-append-le, take_all}
+use Rattle.std.proofs.lemmas.List.{length-map, get_or_append_left, map-append, take-append-le, take_all}
 use Rattle.std.proofs.Common.{length-append}
 use Rattle.std.proofs.Math.Seq.{get_or-append_seam}
 use Rattle.chr_base.specs.declared.term.Term.{Term}
@@ -18,9 +18,8 @@ use Rattle.chr_plans.specs.declared.key.Source.{Source}
 use Rattle.chr_plans.specs.declared.key.Source.TheVariants.{Constant, Argument}
 use Rattle.chr_plans.specs.declared.plan.Partner.{Partner}
 use Rattle.chr_plans.specs.Plans.{pattern_at, term_at, no_term, places_of, IsKnown, IsSource, AreKeys, IsPlan}
-use Rattle.chr_plans.specs.Planning.{is_in, column_of, variable_source, term_source, with_key, keys_from, key_at, IsLongest, AreLongest}
-use Rattle.chr_plans.specs.working.Choosing.{ArePlaces, IsChoice, longer}
-use Rattle.chr_plans.proofs.Places.{place_of_partner}
+use Rattle.chr_plans.specs.Planning.{is_in, column_of, variable_source, term_source, with_key, keys_from, IsLongest, AreLongest}
+use Rattle.chr_plans.specs.working.Choosing.{ArePlaces}
 use Rattle.chr_plans.proofs.Distinct.{in_list, in_take, place_at, apart, few, distinct_more, places_more}
 
 variable_is : (x : ℕ) (t : Term) → is_variable x t ≡ true → t ≡ term.Variable x
@@ -86,65 +85,6 @@ keys_sound r places p n q c (t ∷ ts) are =
         → AreKeys r places p n q (with_key c o (keys_from r (p ∷ take n places) (c + 1) ts))
     by None e rest = rest
     by (Some s) e rest = (subst (λ x. IsSource r places p n x s) here (term_sound r places p n t s e), rest)
-
-not_less : (a b : ℕ) → nat_lt a b ≡ false → b ≤ a
-not_less a b e = elim (cases_lt a b) as (λ _. b ≤ a) [
-  | inl less ↦ absurd (let z : true ≡ false = sym (lt-ltb a b less) ∙ e in cc)
-  | inr most ↦ most
-]
-
--- ---- the choice of a partner
-
-pub choice_past : (r : Rule) (known : List ℕ) (n : ℕ) (best : Option Partner) → IsChoice r known n best → is_in n known ≡ true → IsChoice r known (n + 1) best
-choice_past r known n None before e = λ q l. (elim (cases_lt q n) as (λ _. is_in q known ≡ true) [
-  | inl less ↦ before q less
-  | inr most ↦ (let i : q ≡ n = omega (arith, l, most) in ap (λ k. is_in k known) i ∙ e)
-])
-choice_past r known n (Some l) before e = record {
-  within = (let w = before.within in omega (arith, w));
-  new = before.new;
-  key = before.key;
-  longest = λ q h f. (elim (cases_lt q n) as (λ _. length (key_at r known q) ≤ length l.key.items) [
-    | inl less ↦ before.longest q less f
-    | inr most ↦ absurd (let i : q ≡ n = omega (arith, h, most) in let z : true ≡ false = sym e ∙ ap (λ k. is_in k known) (sym i) ∙ f in cc)
-  ]);
-}
-
-pub choice_more : (r : Rule) (known : List ℕ) (n : ℕ) (best : Option Partner) (l : Partner) → IsChoice r known n best → is_in n known ≡ false → l.place ≡ n → l.key.items ≡ key_at r known n
-    → IsLongest r known (n + 1) (longer best l)
-choice_more r known n None l before new at key = record {
-  within = omega (arith, at);
-  new = ap (λ k. is_in k known) at ∙ new;
-  key = key ∙ ap (key_at r known) (sym at);
-  longest = λ q h f. (elim (cases_lt q n) as (λ _. length (key_at r known q) ≤ length l.key.items) [
-    | inl less ↦ absurd (let z : true ≡ false = sym (before q less) ∙ f in cc)
-    | inr most ↦ (let i : q ≡ n = omega (arith, h, most) in let e = ap length (ap (key_at r known) i ∙ sym key) in omega (arith, e))
-  ]);
-}
-choice_more r known n (Some b) l before new at key = by (nat_lt (length b.key.items) (length l.key.items)) refl
-  where
-    mine : (q : ℕ) → q < n + 1 → n ≤ q → length (key_at r known q) ≡ length l.key.items
-    mine q h most = let i : q ≡ n = omega (arith, h, most) in ap length (ap (key_at r known) i ∙ sym key)
-
-    by : (o : Bool) → nat_lt (length b.key.items) (length l.key.items) ≡ o → IsLongest r known (n + 1) (if o then l else b)
-    by true e = record {
-      within = omega (arith, at);
-      new = ap (λ k. is_in k known) at ∙ new;
-      key = key ∙ ap (key_at r known) (sym at);
-      longest = λ q h f. (elim (cases_lt q n) as (λ _. length (key_at r known q) ≤ length l.key.items) [
-        | inl less ↦ (let a = before.longest q less f in let g = ltb-true (length b.key.items) (length l.key.items) e in omega (arith, a, g))
-        | inr most ↦ (let a = mine q h most in omega (arith, a))
-      ]);
-    }
-    by false e = record {
-      within = (let w = before.within in omega (arith, w));
-      new = before.new;
-      key = before.key;
-      longest = λ q h f. (elim (cases_lt q n) as (λ _. length (key_at r known q) ≤ length b.key.items) [
-        | inl less ↦ before.longest q less f
-        | inr most ↦ (let a = mine q h most in let g = not_less (length b.key.items) (length l.key.items) e in omega (arith, a, g))
-      ]);
-    }
 
 -- ---- the list of partners
 

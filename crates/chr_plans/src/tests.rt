@@ -162,6 +162,10 @@ fn the_longest_key_comes_first(rt: HostRuntime) -> Result<(), Fail> {
     assert_eq!(rt; plan.len(), 2);
     assert_eq!(rt; plan[0].place, 2);
     assert!(rt; plan[0].key.as_slice() == [argument(0, 0, 0), constant(2, 3)].as_slice());
+    assert!(rt; plan[0].columns().as_slice() == [0, 2].as_slice());
+    let copy = plan[0].copy();
+    assert_eq!(rt; copy.place, 2);
+    assert!(rt; copy.key.as_slice() == plan[0].key.as_slice());
     assert_eq!(rt; plan[1].place, 1);
     assert!(rt; plan[1].key.as_slice() == [argument(0, 2, 1)].as_slice());
     Ok(())

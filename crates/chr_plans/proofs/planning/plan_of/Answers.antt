@@ -1,9 +1,7 @@
-use Rattle.std.proofs.Common.{◌≡◌, ◌<◌, ◌∷◌, ◌++◌, [], length, ap, sym, ◌∙◌, arith, nat_eq}
-use Rattle.std.specs.List.{IsDistinct}
+use Rattle.std.proofs.Common.{◌<◌, ◌∷◌, ◌++◌, [], length, ap, ◌∙◌, arith}
 use Rattle.chr_base.specs.Rules.{heads_of}
 use Rattle.chr_base.specs.declared.limits.TheConstants.{MAX_HEADS}
 use Rattle.chr_plans.specs.Planning.{IsLongest}
-use Rattle.chr_plans.specs.working.Choosing.{ArePlaces, IsChoice}
 use Rattle.chr_plans.proofs.Places.{few_places}
 use Rattle.chr_plans.proofs.Distinct.{distinct_one, distinct_more, places_more}
 use Rattle.chr_plans.proofs.Making.{room, places_push, longest_more, is_plan}
