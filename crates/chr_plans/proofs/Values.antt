@@ -1,0 +1,55 @@
+-- What an instance's heads have in common with those that are known: the values of a key.
+use Rattle.std.proofs.Common.{◌≡◌, ℕ, List, [], ◌∷◌, map, length, true, refl, sym, ap, ◌∙◌}
+use Rattle.std.proofs.Math.ListN.{get_or-map}
+use Rattle.std.proofs.lemmas.List.{length-map}
+use Rattle.std.proofs.lemmas.Bool.{and_from, eq-eqb}
+use Rattle.chr_base.specs.declared.atom.Atom.{Atom}
+use Rattle.chr_base.specs.declared.term.Term.{Term}
+use Rattle.chr_base.specs.declared.term.Pattern.{Pattern}
+use Rattle.chr_base.specs.declared.rule.Rule.{Rule}
+use Rattle.chr_base.specs.Rules.{Valuation, term_value, atom_at, heads_at, heads_of, no_pattern}
+use Rattle.chr_plans.specs.declared.key.Source.{Source}
+use Rattle.chr_plans.specs.declared.key.Source.TheVariants.{Constant, Argument}
+use Rattle.chr_plans.specs.declared.key.Key.{Key}
+use Rattle.chr_plans.specs.declared.rows.Seat.{Seat}
+use Rattle.chr_plans.specs.Keys.{source_value, key_of, argument}
+use Rattle.chr_plans.specs.Seats.{head}
+use Rattle.chr_plans.specs.Plans.{pattern_at, term_at, no_term, IsSource, AreKeys, columns_of, has_shape}
+use Rattle.chr_plans.specs.working.Searching.{AreSame}
+
+-- the head at a place, and its argument in a column
+head_value : (r : Rule) (v : Valuation) (q : ℕ) → head (heads_at v r) q ≡ atom_at v (pattern_at r q)
+head_value r v q = get_or-map (atom_at v) (heads_of r) q no_pattern
+
+argument_value : (r : Rule) (v : Valuation) (hs : List Atom) (q c : ℕ) → heads_at v r ≡ hs → argument (head hs q) c ≡ term_value v (term_at r q c)
+argument_value r v hs q c e =
+    ap (λ as'. argument (head as' q) c) (sym e) ∙ ap (λ a. argument a c) (head_value r v q)
+    ∙ get_or-map (term_value v) (pattern_at r q).args.items c no_term
+
+known_value : (r : Rule) (v : Valuation) (places : List ℕ) (p n : ℕ) (hs heads : List Atom) (ss seats : List Seat) (t : Term) (s : Source)
+    → heads_at v r ≡ hs → AreSame places p n hs ss heads seats → IsSource r places p n t s → source_value heads s ≡ term_value v t
+known_value r v places p n hs heads ss seats t (Constant c) e same is = ap (term_value v) (sym is)
+known_value r v places p n hs heads ss seats t (Argument q c) e same is =
+    ap (λ a. argument a c) (sym (same q is.0).0) ∙ argument_value r v hs q c e ∙ ap (term_value v) (sym is.1)
+
+-- the head at a place has the values of the key
+pub key_known : (r : Rule) (v : Valuation) (places : List ℕ) (p n q : ℕ) (hs heads : List Atom) (ss seats : List Seat) (ks : List Key)
+    → heads_at v r ≡ hs → AreSame places p n hs ss heads seats → AreKeys r places p n q ks
+    → key_of (columns_of ks) (head hs q) ≡ map (λ k. source_value heads k.source) ks
+key_known r v places p n q hs heads ss seats [] e same are = refl
+key_known r v places p n q hs heads ss seats (k ∷ ks) e same are =
+    let one : argument (head hs q) k.column ≡ source_value heads k.source =
+    argument_value r v hs q k.column e ∙ sym (known_value r v places p n hs heads ss seats (term_at r q k.column) k.source e same are.0) in
+    let more = key_known r v places p n q hs heads ss seats ks e same are.1 in
+    λ i. one i ∷ more i
+
+-- and the shape of its pattern
+pub shape_known : (r : Rule) (v : Valuation) (q : ℕ) (hs : List Atom) → heads_at v r ≡ hs → has_shape (pattern_at r q) (head hs q) ≡ true
+shape_known r v q hs e =
+    ap (λ as'. has_shape (pattern_at r q) (head as' q)) (sym e) ∙ ap (has_shape (pattern_at r q)) (head_value r v q)
+    ∙ shape v (pattern_at r q)
+  where
+    shape : (v : Valuation) (p : Pattern) → has_shape p (atom_at v p) ≡ true
+    shape v p =
+        and_from _ _ (eq-eqb p.symbol.0 p.symbol.0 refl)
+        (eq-eqb (length p.args.items) _ (sym (length-map p.args.items (term_value v))))

@@ -1,0 +1,22 @@
+-- Values that are known before a head is looked for.
+use Rattle.std.specs.Prelude.{ℕ, ℤ, List, [], map, get_or, pos}
+use Rattle.chr_base.specs.declared.atom.Atom.{Atom}
+use Rattle.chr_plans.specs.declared.key.Source.{Source}
+use Rattle.chr_plans.specs.declared.key.Source.TheVariants.{Constant, Argument}
+
+-- what is read past the last head
+abbrev pub no_atom : Atom
+no_atom = record { symbol = record { 0 = 0 }; args = record { items = [] } }
+
+-- the argument of an atom in a column, 0 past the last
+abbrev pub argument : Atom → ℕ → ℤ
+argument a column = get_or a.args.items column (pos 0)
+
+-- the arguments of an atom in these columns
+abbrev pub key_of : List ℕ → Atom → List ℤ
+key_of columns a = map (argument a) columns
+
+-- the value that comes from a source under these heads
+abbrev pub source_value : List Atom → Source → ℤ
+source_value heads (Constant c) = c
+source_value heads (Argument place column) = argument (get_or heads place no_atom) column

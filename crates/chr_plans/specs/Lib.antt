@@ -1,0 +1,8 @@
+pub mod Keys
+pub mod Hashes
+pub mod Rows
+pub mod Seats
+pub mod Plans
+pub mod Reactions
+pub mod Planning
+pub mod working

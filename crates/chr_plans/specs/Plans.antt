@@ -1,0 +1,73 @@
+-- Plans of an occurrence: what each keeps, and how its look-ups fit tables.
+use Rattle.std.specs.Prelude.{◌≡◌, ℕ, ◌<◌, ◌⊎◌, List, [], ◌∷◌, map, length, get_or, Some, pos, nat_eq, ◌&&◌, Bool, true, ⊤}
+use Rattle.chr_base.specs.declared.atom.Atom.{Atom}
+use Rattle.chr_base.specs.declared.term.Term.{Term}
+use Rattle.chr_base.specs.declared.term.Term.TheVariants as term
+use Rattle.chr_base.specs.declared.term.Pattern.{Pattern}
+use Rattle.chr_base.specs.declared.rule.Rule.{Rule}
+use Rattle.chr_base.specs.Rules.{heads_of, no_pattern}
+use Rattle.chr_plans.specs.declared.key.Source.{Source}
+use Rattle.chr_plans.specs.declared.key.Source.TheVariants.{Constant, Argument}
+use Rattle.chr_plans.specs.declared.key.Key.{Key}
+use Rattle.chr_plans.specs.declared.plan.Partner.{Partner}
+use Rattle.chr_plans.specs.declared.plan.Lookup.{Lookup}
+use Rattle.chr_plans.specs.Rows.{Tables, Columns}
+
+-- the head of the rule at a place
+abbrev pub pattern_at : Rule → ℕ → Pattern
+pattern_at r q = get_or (heads_of r) q no_pattern
+
+-- what is read past the last term
+abbrev pub no_term : Term
+no_term = term.Constant (pos 0)
+
+-- the term of that head in a column
+abbrev pub term_at : Rule → ℕ → ℕ → Term
+term_at r q c = get_or (pattern_at r q).args.items c no_term
+
+-- the places of the partners
+abbrev pub places_of : List Partner → List ℕ
+places_of partners = map (λ l. l.place) partners
+
+-- the partners that are looked up
+abbrev pub partners_of : List Lookup → List Partner
+partners_of lookups = map (λ l. l.partner) lookups
+
+-- the columns of a key
+abbrev pub columns_of : List Key → List ℕ
+columns_of key = map (λ k. k.column) key
+
+-- the place is the active one, or one of the first n of these
+abbrev pub IsKnown : List ℕ → ℕ → ℕ → ℕ → Type 0
+IsKnown places p n q = (q ≡ p) ⊎ ((j : ℕ) × (j < n) × (get_or places j 0 ≡ q))
+
+-- the source gives the value of the term: it is that constant, or that term stands in a head that is known
+abbrev pub IsSource : Rule → List ℕ → ℕ → ℕ → Term → Source → Type 0
+IsSource r places p n t (Constant c) = t ≡ term.Constant c
+IsSource r places p n t (Argument q c) = IsKnown places p n q × (t ≡ term_at r q c)
+
+-- each source gives the value of the term in its column of the head at the place q
+abbrev pub AreKeys : Rule → List ℕ → ℕ → ℕ → ℕ → List Key → Type 0
+AreKeys r places p n q [] = ⊤
+AreKeys r places p n q (k ∷ ks) = IsSource r places p n (term_at r q k.column) k.source × AreKeys r places p n q ks
+
+-- The partners are at all places but the active one, each once, and their keys have the values of what is known.
+pub record IsPlan (r : Rule) (p : ℕ) (partners : List Partner) : Type 0 where
+  pub covers : (q : ℕ) → q < length (heads_of r) → IsKnown (places_of partners) p (length partners) q
+  pub within : (j : ℕ) → j < length partners → get_or (places_of partners) j 0 < length (heads_of r)
+  pub others : (j : ℕ) → j < length partners → ¬ (get_or (places_of partners) j 0 ≡ p)
+  pub once : (i j : ℕ) → i < j → j < length partners
+      → ¬ (get_or (places_of partners) i 0 ≡ get_or (places_of partners) j 0)
+  pub keys : (j : ℕ) (l : Partner) → j < length partners → get_or partners j l ≡ l
+      → AreKeys r (places_of partners) p j l.place l.key.items
+
+-- the atom has the symbol and the number of arguments of the pattern
+abbrev pub has_shape : Pattern → Atom → Bool
+has_shape p a = nat_eq p.symbol.0 a.symbol.0 && nat_eq (length p.args.items) (length a.args.items)
+
+-- Each look-up's index has the columns of its key, and atoms of its head's shape live in its table alone.
+pub record FitsTables (r : Rule) (lookups : List Lookup) (rows : Tables) (columns : Columns) : Type 0 where
+  pub index : (j : ℕ) (l : Lookup) → j < length lookups → get_or lookups j l ≡ l
+      → columns l.table l.index ≡ Some (columns_of l.partner.key.items)
+  pub table : (j : ℕ) (l : Lookup) (t n : ℕ) (a : Atom) → j < length lookups → get_or lookups j l ≡ l
+      → rows t n ≡ Some a → has_shape (pattern_at r l.partner.place) a ≡ true → t ≡ l.table

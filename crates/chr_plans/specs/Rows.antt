@@ -1,0 +1,23 @@
+-- Tables of rows that are found by keys.
+use Rattle.std.specs.Prelude.{◌≡◌, ℕ, ℤ, List, Option, Some, option_map}
+use Rattle.chr_base.specs.declared.atom.Atom.{Atom}
+use Rattle.chr_plans.specs.Keys.{key_of}
+use Rattle.chr_plans.specs.Hashes.{key_hash}
+
+-- for each table and row its atom, where the row lives
+abbrev pub Tables : Type 0
+Tables = ℕ → ℕ → Option Atom
+
+-- for each table and index the columns by which it finds rows
+abbrev pub Columns : Type 0
+Columns = ℕ → ℕ → Option (List ℕ)
+
+-- the row lives, and its values in the index's columns are the key
+abbrev pub HasKey : Option (List ℕ) → List ℤ → Option Atom → Type 0
+HasKey columns key row =
+    (a : Atom) × (row ≡ Some a) × (option_map (λ cs. key_of cs a) columns ≡ Some key)
+
+-- the row lives, and its values in the index's columns have the hash of the key
+abbrev pub MayHaveKey : Option (List ℕ) → List ℤ → Option Atom → Type 0
+MayHaveKey columns key row =
+    (a : Atom) × (row ≡ Some a) × (option_map (λ cs. key_hash (key_of cs a)) columns ≡ Some (key_hash key))

@@ -1,0 +1,64 @@
+//! Tables of rows that are found by keys.
+ghost use Rattle.std.specs.Prelude.{◌≡◌, ℕ, ◌<◌, ◌≤◌, List, Option, Some, IfSome, IfNone, IsTrue, is_some};
+ghost use Rattle.std.specs.Bool.{OnTrue, OnFalse};
+ghost use Rattle.chr_base.specs.declared.atom.Atom.{Atom as AtomValue};
+ghost use Rattle.chr_plans.specs.Rows.{Tables, Columns, HasKey, MayHaveKey};
+
+use chr_base::atom::Atom;
+
+/// Where an atom sits: a row of a table.
+#[derive(Clone, Copy, Debug, Default, PartialEq, Eq)]
+pub struct Seat {
+    pub table: usize,
+    pub row: u32,
+}
+
+/// Whether the two are one row.
+pub(crate) fn is_same(left: Seat, right: Seat) -> bool
+    ensures same { OnTrue result (left ≡ right) }
+    ensures other { OnFalse result (left ≡ right → ⊥) }
+{
+    left.row == right.row && left.table == right.table
+}
+
+/// Tables whose rows are found by the values in some of their columns.
+///
+/// A look-up goes from the newest row down. It gives each live row that has the key; it may give others as well, whose
+/// values have the hash of the key.
+pub trait Rows {
+    /// The atom of each live row of each table.
+    ghost rows: { Self → Tables };
+
+    /// The columns of each index of each table.
+    ghost columns: { Self → Columns };
+
+    /// The newest row that a look-up of this key meets.
+    fn first(&mut self, table: usize, index: usize, key: &[i64]) -> Option<u32>
+        requires { IsTrue (is_some (columns self.old table index)) }
+        ensures rows { rows self.new ≡ rows self.old }
+        ensures columns { columns self.new ≡ columns self.old }
+        ensures met { IfSome result (λ row.
+            MayHaveKey (columns self.old table index) key.now (rows self.old table row)) }
+        ensures newest { IfSome result (λ row. (other : ℕ) →
+            HasKey (columns self.old table index) key.now (rows self.old table other) → other ≤ row) }
+        ensures none { IfNone result ((other : ℕ) →
+            ¬ (HasKey (columns self.old table index) key.now (rows self.old table other))) };
+
+    /// The next one below a row that was met.
+    fn next(&mut self, table: usize, index: usize, key: &[i64], row: u32) -> Option<u32>
+        requires { MayHaveKey (columns self.old table index) key.now (rows self.old table row) }
+        ensures rows { rows self.new ≡ rows self.old }
+        ensures columns { columns self.new ≡ columns self.old }
+        ensures below { IfSome result (λ next. next < row) }
+        ensures met { IfSome result (λ next.
+            MayHaveKey (columns self.old table index) key.now (rows self.old table next)) }
+        ensures newest { IfSome result (λ next. (other : ℕ) → other < row →
+            HasKey (columns self.old table index) key.now (rows self.old table other) → other ≤ next) }
+        ensures none { IfNone result ((other : ℕ) → other < row →
+            ¬ (HasKey (columns self.old table index) key.now (rows self.old table other))) };
+
+    /// The atom of a live row.
+    fn atom(&self, table: usize, row: u32) -> Atom
+        requires { IsTrue (is_some (rows self.now table row)) }
+        ensures { rows self.now table row ≡ Some result };
+}

@@ -1,0 +1,124 @@
+//! The search for the partners of an active atom.
+ghost use Rattle.std.specs.Prelude.{◌≡◌, ℕ, ◌<◌, ◌≤◌, ◌+◌, length, get_or};
+ghost use Rattle.std.specs.Bool.{OnTrue, OnFalse};
+ghost use Rattle.chr_base.specs.Rules.{heads_of};
+ghost use Rattle.chr_plans.specs.Seats.{seat, head, no_seat, IsSeated, NoPartners};
+ghost use Rattle.chr_plans.specs.Plans.{IsPlan, FitsTables, partners_of, places_of};
+ghost use Rattle.chr_plans.specs.working.Searching.{AreSame, NoneFrom, AreStarted, looked_in};
+
+use crate::key::key_values;
+use crate::plan::Lookup;
+use crate::rows::{Rows, Seat, is_same};
+use arrayvec::ArrayVec;
+use chr_base::atom::Atom;
+use chr_base::limits::MAX_HEADS;
+use chr_base::rule::Rule;
+
+/// Whether a partner of these look-ups sits in the row.
+fn is_taken(lookups: &[Lookup], seats: &[Seat], row: Seat) -> bool
+    requires few { length seats.now ≤ MAX_HEADS }
+    requires places { (j : ℕ) → j < length lookups.now → get_or (looked_in lookups.now) j 0 < length seats.now }
+    ensures taken { OnTrue result ((j : ℕ) × (j < length lookups.now)
+        × (seat seats.now (get_or (looked_in lookups.now) j 0) ≡ row)) }
+    ensures free { OnFalse result ((j : ℕ) → j < length lookups.now →
+        seat seats.now (get_or (looked_in lookups.now) j 0) ≡ row → ⊥) }
+{
+    for lookup in lookups {
+        if is_same(seats[lookup.partner.place], row) {
+            return true;
+        }
+    }
+    false
+}
+
+/// Goes on from the active atom and the partners of the first look-ups to an instance.
+fn complete<R: Rows>(
+    rows: &mut R,
+    rule: &Rule,
+    active: usize,
+    lookups: &[Lookup],
+    done: usize,
+    heads: &mut [Atom],
+    seats: &mut [Seat],
+) -> bool
+    requires plan { IsPlan rule.now active (partners_of lookups.now) }
+    requires fits { FitsTables rule.now lookups.now (R.rows rows.old) (R.columns rows.old) }
+    requires done { done ≤ length lookups.now }
+    requires heads { length heads.old ≡ length (heads_of rule.now) }
+    requires seats { length seats.old ≡ length (heads_of rule.now) }
+    requires started { AreStarted (R.rows rows.old) (looked_in lookups.now) done heads.old seats.old }
+    ensures rows { R.rows rows.new ≡ R.rows rows.old }
+    ensures columns { R.columns rows.new ≡ R.columns rows.old }
+    ensures lengths { (length heads.new ≡ length heads.old) × (length seats.new ≡ length seats.old) }
+    ensures same { AreSame (looked_in lookups.now) active done heads.new seats.new heads.old seats.old }
+    ensures found { OnTrue result (IsSeated rule.now (R.rows rows.old) active heads.new seats.new) }
+    ensures none { OnFalse result
+        (NoneFrom rule.now (R.rows rows.old) active (looked_in lookups.now) done heads.old seats.old) }
+{
+    if done == lookups.len() {
+        return rule.fires(heads);
+    }
+    let lookup = &lookups[done];
+    let key = key_values(heads, &lookup.partner.key);
+    let mut next = rows.first(lookup.table, lookup.index, &key);
+    while let Some(row) = next {
+        let seat = Seat {
+            table: lookup.table,
+            row,
+        };
+        if !is_taken(&lookups[..done], seats, seat) {
+            heads[lookup.partner.place] = rows.atom(lookup.table, row);
+            seats[lookup.partner.place] = seat;
+            if complete(rows, rule, active, lookups, done + 1, heads, seats) {
+                return true;
+            }
+        }
+        next = rows.next(lookup.table, lookup.index, &key, row);
+    }
+    false
+}
+
+/// As many copies of the active atom, and as many rows, as the rule has head places.
+fn start(
+    rule: &Rule,
+    active: &Atom,
+    heads: &mut ArrayVec<Atom, MAX_HEADS>,
+    seats: &mut ArrayVec<Seat, MAX_HEADS>,
+)
+    ensures heads { length heads.new.items ≡ length (heads_of rule.now) }
+    ensures active { (k : ℕ) → k < length (heads_of rule.now) → head heads.new.items k ≡ active.now }
+    ensures seats { length seats.new.items ≡ length (heads_of rule.now) }
+    ensures nowhere { (k : ℕ) → seat seats.new.items k ≡ no_seat }
+{
+    heads.clear();
+    seats.clear();
+    for _ in 0..rule.places() {
+        heads.push(active.copy());
+        seats.push(Seat { table: 0, row: 0 });
+    }
+}
+
+/// An instance of the rule with the active atom at this head place, counted from 0, and partners in different live
+/// rows. Where there is one, it fills `heads` with its heads in place order, and `seats` with their rows; the seat at
+/// the active place says nothing. Where there is none, both are left with anything.
+pub fn find_partners<R: Rows>(
+    rows: &mut R,
+    rule: &Rule,
+    place: usize,
+    lookups: &[Lookup],
+    active: &Atom,
+    heads: &mut ArrayVec<Atom, MAX_HEADS>,
+    seats: &mut ArrayVec<Seat, MAX_HEADS>,
+) -> bool
+    requires place { place < length (heads_of rule.now) }
+    requires plan { IsPlan rule.now place (partners_of lookups.now) }
+    requires fits { FitsTables rule.now lookups.now (R.rows rows.old) (R.columns rows.old) }
+    ensures rows { R.rows rows.new ≡ R.rows rows.old }
+    ensures columns { R.columns rows.new ≡ R.columns rows.old }
+    ensures found { OnTrue result (IsSeated rule.now (R.rows rows.old) place heads.new.items seats.new.items) }
+    ensures active { OnTrue result (head heads.new.items place ≡ active.now) }
+    ensures none { OnFalse result (NoPartners rule.now (R.rows rows.old) place active.now) }
+{
+    start(rule, active, heads, seats);
+    complete(rows, rule, place, lookups, 0, heads, seats)
+}

@@ -1,0 +1,183 @@
+ghost use Rattle.std.specs.Prelude.{◌≡◌, ◌≤◌, length};
+ghost use Rattle.chr_base.specs.Rules.{heads_of};
+
+use crate::hash::key_hash;
+use crate::key::{Key, Source, key_values, value_of};
+use crate::planning::plan_of;
+use arrayvec::ArrayVec;
+use chr_base::atom::{Atom, SymbolId};
+use chr_base::limits::MAX_ARITY;
+use chr_base::rule::Rule;
+use chr_base::term::{Pattern, Term};
+use std::test::Fail;
+
+fn atom(symbol: u16, values: &[i64]) -> Atom {
+    let mut args = ArrayVec::new();
+    for value in values {
+        let _ = args.try_push(*value);
+    }
+    Atom {
+        symbol: SymbolId(symbol),
+        args,
+    }
+}
+
+#[test]
+fn hashes_of_keys(rt: HostRuntime) -> Result<(), Fail> {
+    assert_eq!(rt; key_hash(&[]), 1_332_534_557);
+    assert_eq!(rt; key_hash(&[0]), 2_003_748_835);
+    assert_eq!(rt; key_hash(&[-1]), 2_458_437_961);
+    assert_eq!(rt; key_hash(&[1, 2]), 1_643_860_637);
+    assert_eq!(rt; key_hash(&[2, 1]), 3_157_620_648);
+    assert_eq!(rt; key_hash(&[i64::MAX, i64::MIN, 0]), 3_766_422_797);
+    Ok(())
+}
+
+#[test]
+fn values_of_sources(rt: HostRuntime) -> Result<(), Fail> {
+    let heads = [atom(0, &[7, -3]), atom(1, &[5])];
+    assert_eq!(rt; value_of(&heads, Source::Constant(-9)), -9);
+    assert_eq!(rt;
+        value_of(
+            &heads,
+            Source::Argument {
+                place: 0,
+                column: 1
+            }
+        ),
+        -3
+    );
+    assert_eq!(rt;
+        value_of(
+            &heads,
+            Source::Argument {
+                place: 1,
+                column: 0
+            }
+        ),
+        5
+    );
+    assert_eq!(rt;
+        value_of(
+            &heads,
+            Source::Argument {
+                place: 1,
+                column: 1
+            }
+        ),
+        0
+    );
+    assert_eq!(rt;
+        value_of(
+            &heads,
+            Source::Argument {
+                place: 2,
+                column: 0
+            }
+        ),
+        0
+    );
+    Ok(())
+}
+
+#[test]
+fn values_of_keys(rt: HostRuntime) -> Result<(), Fail> {
+    let heads = [atom(0, &[7, -3]), atom(1, &[5])];
+    let mut key = ArrayVec::new();
+    key.push(Key {
+        column: 2,
+        source: Source::Argument {
+            place: 0,
+            column: 1,
+        },
+    });
+    key.push(Key {
+        column: 0,
+        source: Source::Constant(4),
+    });
+    assert_eq!(rt; key_values(&heads, &key).as_slice(), [-3, 4].as_slice());
+    assert_eq!(rt;
+        key_values(&heads, &ArrayVec::new()).as_slice(),
+        [].as_slice()
+    );
+    Ok(())
+}
+
+fn pattern(symbol: u16, terms: &[Term]) -> Pattern
+    requires { length terms.now ≤ MAX_ARITY }
+    ensures symbol { result.symbol.0 ≡ symbol }
+    ensures args { result.args.items ≡ terms.now }
+{
+    let mut args = ArrayVec::new();
+    for term in terms {
+        args.push(*term);
+    }
+    Pattern {
+        symbol: SymbolId(symbol),
+        args,
+    }
+}
+
+/// `a(X), b(Y), c(X, Y, 3) <=> a(Y)`, where `a`, `b` and `c` are the first, second and third symbol.
+#[tactic(auto, unfolding(chr_base::specs::RuleTests::is_in_bounds))]
+fn three_heads() -> Rule
+    ensures { length (heads_of result) ≡ 3 }
+{
+    let x = Term::Variable(1);
+    let y = Term::Variable(2);
+    let mut removed = ArrayVec::new();
+    removed.push(pattern(0, &[x]));
+    removed.push(pattern(1, &[y]));
+    removed.push(pattern(2, &[x, y, Term::Constant(3)]));
+    let mut body = ArrayVec::new();
+    body.push(pattern(0, &[y]));
+    Rule {
+        name: None,
+        kept: ArrayVec::new(),
+        removed,
+        guard: ArrayVec::new(),
+        body,
+    }
+}
+
+/// A key by an argument of a head.
+fn argument(column: usize, place: usize, of: usize) -> Key {
+    Key {
+        column,
+        source: Source::Argument { place, column: of },
+    }
+}
+
+/// A key by a constant.
+fn constant(column: usize, value: i64) -> Key {
+    Key {
+        column,
+        source: Source::Constant(value),
+    }
+}
+
+#[test]
+fn the_longest_key_comes_first(rt: HostRuntime) -> Result<(), Fail> {
+    let plan = plan_of(&three_heads(), 0);
+    assert_eq!(rt; plan.len(), 2);
+    assert_eq!(rt; plan[0].place, 2);
+    assert!(rt; plan[0].key.as_slice() == [argument(0, 0, 0), constant(2, 3)].as_slice());
+    assert!(rt; plan[0].columns().as_slice() == [0, 2].as_slice());
+    let copy = plan[0].copy();
+    assert_eq!(rt; copy.place, 2);
+    assert!(rt; copy.key.as_slice() == plan[0].key.as_slice());
+    assert_eq!(rt; plan[1].place, 1);
+    assert!(rt; plan[1].key.as_slice() == [argument(0, 2, 1)].as_slice());
+    Ok(())
+}
+
+#[test]
+fn the_first_place_comes_first(rt: HostRuntime) -> Result<(), Fail> {
+    let plan = plan_of(&three_heads(), 2);
+    assert_eq!(rt; plan.len(), 2);
+    assert_eq!(rt; plan[0].place, 0);
+    assert!(rt; plan[0].key.as_slice() == [argument(0, 2, 0)].as_slice());
+    assert_eq!(rt; plan[1].place, 1);
+    assert!(rt; plan[1].key.as_slice() == [argument(0, 2, 1)].as_slice());
+    Ok(())
+}
