@@ -9,10 +9,7 @@ fn lowered_by_pairs(rt: HostRuntime) -> Result<(), Fail> {
     for (text, lines, output) in [
         (
             ":- chr_constraint a/0, b/0. :- chr_weight b/0 = 0,1. a <=> b, b, b.",
-            [
-                "[\"tell\",1,[1,1],[[\"a\"],[\"a\"]]]",
-                "[\"show\",1]",
-            ],
+            ["[\"tell\",1,[1,1],[[\"a\"],[\"a\"]]]", "[\"show\",1]"],
             "accepted: rules 1, cases 1\ntold\nb, b, b, b, b, b\n",
         ),
         (

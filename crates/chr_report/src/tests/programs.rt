@@ -98,7 +98,7 @@ fn faults_alone(rt: HostRuntime) -> Result<(), Fail> {
             "refused 5: clause 2\n",
         ),
         (":- chr_constraint a/1, a/1.", "refused 6: clause 1\n"),
-        (":- chr_constraint a/5.", "refused 7: clause 1\n"),
+        (":- chr_constraint a/7.", "refused 7: clause 1\n"),
         (
             ":- chr_constraint a/1. a(X) <=> Y > 1 | true.",
             "refused 8: clause 2\n",
