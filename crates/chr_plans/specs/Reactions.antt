@@ -16,8 +16,8 @@ FitsPlan rules rows columns (Some plan) =
     (r : Rule) × (slice_get rules plan.rule ≡ Some r) × (plan.place < length (heads_of r))
     × IsPlan r plan.place (partners_of plan.lookups.items) × FitsTables r plan.lookups.items rows columns
 
--- The plan's rule has an instance with these heads. The atom is the one at the plan's place, and the others sit in these
--- rows, of which there is one for each place.
+-- The plan's rule has an instance with these heads. The atom is the one at the plan's place, and the others sit in
+-- these rows, of which there is one for each place.
 abbrev pub Reacts : List Rule → Tables → Atom → Option Plan → List Atom → List Seat → Type 0
 Reacts rules rows a None heads seats = ⊥
 Reacts rules rows a (Some plan) heads seats =

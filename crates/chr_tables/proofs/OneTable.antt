@@ -8,7 +8,11 @@ use Rattle.std.proofs.Math.Seq.{get_or-append_seam}
 use Rattle.chr_base.specs.declared.atom.Atom.{Atom}
 use Rattle.chr_base.specs.declared.rule.Rule.{Rule}
 use Rattle.chr_plans.specs.declared.plan.Lookup.{Lookup}
-use Rattle.chr_plans.specs.Plans.{FitsTables, columns_of}
+use Rattle.chr_base.specs.Rules.{heads_of}
+use Rattle.chr_plans.specs.declared.plan.Plan.{Plan}
+use Rattle.chr_plans.specs.Plans.{IsPlan, FitsTables, columns_of, partners_of}
+use Rattle.chr_plans.specs.Reactions.{FitsPlan}
+use Rattle.chr_plans.specs.Rows.{Tables, Columns}
 use Rattle.chr_tables.specs.Contents.{Contents, rows_of}
 use Rattle.chr_tables.specs.Contents as contents
 
@@ -40,3 +44,10 @@ fits_one r ls t order keys = record {
     only : (n m : ℕ) (a : Atom) → rows_of (t ∷ []) n m ≡ Some a → n ≡ 0
     only zero m a e = refl
     only (suc n) m a e = cc
+
+-- one plan of one rule
+pub fits_plans : (r : Rule) (plan : Plan) (rows : Tables) (columns : Columns) → slice_get (r ∷ []) plan.rule ≡ Some r → plan.place < length (heads_of r)
+    → IsPlan r plan.place (partners_of plan.lookups.items) → FitsTables r plan.lookups.items rows columns
+    → (j : ℕ) → j < length (plan ∷ []) → FitsPlan (r ∷ []) rows columns (slice_get (plan ∷ []) j)
+fits_plans r plan rows columns at place is fits zero l = (r, at, place, is, fits)
+fits_plans r plan rows columns at place is fits (suc j) l = absurd (omega (arith, l))

@@ -12,8 +12,9 @@ use chr_base::atom::{Atom, SymbolId};
 use chr_base::limits::{MAX_ARITY, MAX_HEADS};
 use chr_base::rule::Rule;
 use chr_base::term::{Cmp, Comparison, Pattern, Term};
-use chr_plans::plan::Lookup;
+use chr_plans::plan::{Lookup, Plan};
 use chr_plans::planning::plan_of;
+use chr_plans::react::react;
 use chr_plans::search::find_partners;
 use std::alloc::{AllocError, Global};
 use std::process::Abort;
@@ -167,6 +168,31 @@ fn finds_partners(
     Ok(found)
 }
 
+/// Whether the rule reacts with the active atom by the one plan of this place.
+fn reacts_at(
+    alloc: Global,
+    rule: &Rule,
+    place: usize,
+    rows: &[Atom],
+    active: &Atom,
+) -> Result<bool, AllocError>
+    requires place { place < length (heads_of rule.now) }
+    requires few { length rows.now + 1 < 2 ^ 32 }
+{
+    let setting = prepared(alloc, rule, place, rows)?;
+    let mut tables = setting.tables;
+    let rules = [rule.copy()];
+    let plans = [Plan {
+        rule: 0,
+        place,
+        lookups: setting.lookups,
+    }];
+    let mut heads = ArrayVec::new();
+    let mut seats = ArrayVec::new();
+    let plan = react(&mut tables, &rules, &plans, active, &mut heads, &mut seats);
+    Ok(plan == Some(0))
+}
+
 /// Rows `e(X, Y)` that look random, the same for each seed, with values from 0 to 3.
 fn random_rows(alloc: Global, seed: u64) -> Result<Vec<Atom>, AllocError>
     ensures { IfOk result (λ rows. length rows.items ≡ 12) }
@@ -197,6 +223,7 @@ fn partners_as_by_a_plain_walk(rt: HostRuntime) -> Result<(), Fail> {
                 let active = atom(0, &[code / 4, code % 4]);
                 let found = finds_partners(&rt, alloc, &rule, place, &rows, &active)?;
                 assert_eq!(rt; found, has_pair(&rule, place, &rows, &active));
+                assert_eq!(rt; found, reacts_at(alloc, &rule, place, &rows, &active)?);
                 some = some || found;
                 none = none || !found;
             }
