@@ -130,9 +130,9 @@ fn next_partner(rule: &Rule, known: &[usize]) -> Option<Partner>
     best
 }
 
-/// The plan of an occurrence: partners in the order in which they are to be looked for, with their keys. Next comes always
-/// a partner of which as many arguments are known as of any other that is left: constants, and variables that stand in the
-/// active atom or in a partner before.
+/// The plan of an occurrence: partners in the order in which they are to be looked for, with their keys. Next comes
+/// always a partner of which as many arguments are known as of any other that is left: constants, and variables that
+/// stand in the active atom or in a partner before.
 pub fn plan_of(rule: &Rule, place: usize) -> ArrayVec<Partner, MAX_HEADS>
     requires { place < length (heads_of rule.now) }
     ensures plan { IsPlan rule.now place result.items }
