@@ -11,7 +11,9 @@ use Rattle.std.proofs.lemmas.Bool.{eqb-true, eq-eqb, and_from, and_parts}
 use Rattle.std.proofs.lemmas.List.Folds.{list_any-append}
 use Rattle.indexmap.specs.IndexMap.{insert_entry}
 use Rattle.std.proofs.lemmas.Slice.Eq.{bytes_eq-Decides}
-use Rattle.chr_base.specs.declared.limits.TheConstants.{MAX_ARITY, MAX_NAME, MAX_RULES, MAX_SYMBOLS, MAX_WEIGHT}
+use Rattle.chr_base.specs.declared.limits.TheConstants.{MAX_ARITY, MAX_NAME, MAX_RULES, MAX_SYMBOLS}
+use Rattle.chr_base.specs.declared.weight.Weight.{Weight}
+use Rattle.chr_base.specs.Weights.{default_weight, is_weight}
 use Rattle.chr_base.specs.declared.rule.Rule.{Rule}
 use Rattle.chr_base.specs.declared.term.Pattern.{Pattern}
 use Rattle.std.proofs.lemmas.Bool.Decides.{nat_tests}
@@ -19,11 +21,11 @@ use Rattle.chr_base.specs.declared.program.Symbol.{Symbol}
 use Rattle.chr_base.specs.Names.{is_name}
 use Rattle.chr_base.specs.ProgramTests.{Declaration, declared, declarations_in, declares, is_in_range, is_program, are_distinct, fits, takes, is_declared}
 
-pub length-declarations : (es : List (Symbol × ℕ)) → length (declarations_in es) ≡ length es
+pub length-declarations : (es : List (Symbol × Weight)) → length (declarations_in es) ≡ length es
 length-declarations [] = refl
 length-declarations (e ∷ es) = ap suc (length-declarations es)
 
-pub length-keys : (es : List (Symbol × ℕ)) → length (keys_of es) ≡ length es
+pub length-keys : (es : List (Symbol × Weight)) → length (keys_of es) ≡ length es
 length-keys [] = refl
 length-keys (e ∷ es) = ap suc (length-keys es)
 
@@ -31,11 +33,11 @@ length-keys (e ∷ es) = ap suc (length-keys es)
 abbrev pub SameTest : (Symbol → Bool) → List ℕ → ℕ → Type 0
 SameTest test name arity = (k : Symbol) → test k ≡ (bytes_eq name k.name.bytes && nat_eq arity k.arity)
 
-places : (test : Symbol → Bool) (name : List ℕ) (arity : ℕ) → SameTest test name arity → (es : List (Symbol × ℕ)) → position_or_len test (keys_of es) ≡ position_or_len (declares name arity) (declarations_in es)
+places : (test : Symbol → Bool) (name : List ℕ) (arity : ℕ) → SameTest test name arity → (es : List (Symbol × Weight)) → position_or_len test (keys_of es) ≡ position_or_len (declares name arity) (declarations_in es)
 places test name arity same [] = refl
 places test name arity same (e ∷ es) = let h = same e.0 in let more = places test name arity same es in λ i. cond (not (h i)) (1 + more i) 0
 
-pub position-keys : (test : Symbol → Bool) (name : List ℕ) (arity : ℕ) → SameTest test name arity → (es : List (Symbol × ℕ)) → position test (keys_of es) ≡ position (declares name arity) (declarations_in es)
+pub position-keys : (test : Symbol → Bool) (name : List ℕ) (arity : ℕ) → SameTest test name arity → (es : List (Symbol × Weight)) → position test (keys_of es) ≡ position (declares name arity) (declarations_in es)
 position-keys test name arity same es =
     let p = places test name arity same es in
     let l : length (keys_of es) ≡ length (declarations_in es) = length-keys es ∙ sym (length-declarations es) in
@@ -54,7 +56,7 @@ is_same_name xs ys h = (bytes_eq-Decides xs ys).0 h
 
 name_fits : (d : Declaration) → is_in_range d ≡ true → (length d.name ≤ MAX_NAME) × (d.arity ≤ MAX_ARITY)
 name_fits d h =
-    let a : (is_name d.name && nat_le (length d.name) MAX_NAME && nat_le d.arity MAX_ARITY) ≡ true = (and_parts _ (nat_le 1 d.weight) ((and_parts _ (nat_le d.weight MAX_WEIGHT) h).0)).0 in
+    let a : (is_name d.name && nat_le (length d.name) MAX_NAME && nat_le d.arity MAX_ARITY) ≡ true = (and_parts _ (is_weight d.weight) h).0 in
     (le_from _ _ ((and_parts (is_name d.name) _ ((and_parts _ (nat_le d.arity MAX_ARITY) a).0)).1), le_from _ _ ((and_parts (is_name d.name && nat_le (length d.name) MAX_NAME) _ a).1))
 
 too_long : (name : List ℕ) (arity : ℕ) (d : Declaration) → is_in_range d ≡ true → (MAX_NAME < length name) ⊎ (MAX_ARITY < arity) → declares name arity d ≡ false
@@ -161,12 +163,12 @@ place_within p xs i h = by (nat_lt (position_or_len p xs) (length xs)) refl h
     by true e h = let m : ◌≡◌ {A = Option ℕ} (Some (position_or_len p xs)) (Some i) = rw e at h in let n : position_or_len p xs ≡ i = cc in let l : position_or_len p xs < length xs = grind (arith, nat_tests) in omega (arith, n, l)
     by false e h = absurd (let m : ◌≡◌ {A = Option ℕ} None (Some i) = rw e at h in cc)
 
-pub key_within : (test : Symbol → Bool) (es : List (Symbol × ℕ)) (rs : List Rule) (i : ℕ) → IsTrue (is_program (declarations_in es) rs) → position test (keys_of es) ≡ Some i → i < MAX_SYMBOLS
+pub key_within : (test : Symbol → Bool) (es : List (Symbol × Weight)) (rs : List Rule) (i : ℕ) → IsTrue (is_program (declarations_in es) rs) → position test (keys_of es) ≡ Some i → i < MAX_SYMBOLS
 key_within test es rs i h e =
     let a = place_within test (keys_of es) i e in let b = length-keys es in let c = length-declarations es in let d = (kept_by _ rs h).symbols in omega (arith, a, b, c, d)
 
 -- the table with one more symbol
-pub declared_last : (test : Symbol → Symbol → Bool) (k : Symbol) (w : ℕ) → SameTest (test k) k.name.bytes k.arity → (es : List (Symbol × ℕ)) → list_any (declares k.name.bytes k.arity) (declarations_in es) ≡ false
+pub declared_last : (test : Symbol → Symbol → Bool) (k : Symbol) (w : Weight) → SameTest (test k) k.name.bytes k.arity → (es : List (Symbol × Weight)) → list_any (declares k.name.bytes k.arity) (declarations_in es) ≡ false
     → declarations_in (insert_entry test es k w) ≡ declarations_in es ++ declared (k, w) ∷ []
 declared_last test k w same [] h = refl
 declared_last test k w same (e ∷ es) h = by (declares k.name.bytes k.arity (declared e)) refl h (declared_last test k w same es)
@@ -216,30 +218,30 @@ symbol_pushed ds cs rs d e h l r new =
       fitting = rw e (fits_more ds d rs k.fitting);
     }
 
-pub new_in_range : (name : List ℕ) (arity : ℕ) → IsTrue (is_name name) → length name ≤ MAX_NAME → arity ≤ MAX_ARITY → is_in_range record { name = name; arity = arity; weight = 1 } ≡ true
-new_in_range name arity w l a = and_from _ _ (and_from _ _ (and_from _ _ (and_from _ _ w (to_le _ _ l)) (to_le _ _ a)) refl) refl
+pub new_in_range : (name : List ℕ) (arity : ℕ) → IsTrue (is_name name) → length name ≤ MAX_NAME → arity ≤ MAX_ARITY → is_in_range record { name = name; arity = arity; weight = default_weight } ≡ true
+new_in_range name arity w l a = and_from _ _ (and_from _ _ (and_from _ _ w (to_le _ _ l)) (to_le _ _ a)) refl
 
 pub not_declared : (ds : List Declaration) (name : List ℕ) (arity : ℕ) → position (declares name arity) ds ≡ None → list_any (declares name arity) ds ≡ false
 not_declared ds name arity h = passes_none _ ds h
 
 -- what adding a symbol leaves of the invariant, whether memory was there or not
 pub after_adding : {E : Type 0} (ds cs : List Declaration) (rs : List Rule) (name : List ℕ) (arity : ℕ) (n : List ℕ) (a : ℕ) (r : Result (Unit {0}) E) → n ≡ name → a ≡ arity
-    → OnOk r (cs ≡ ds ++ record { name = n; arity = a; weight = 1 } ∷ []) → OnErr r (cs ≡ ds)
+    → OnOk r (cs ≡ ds ++ record { name = n; arity = a; weight = default_weight } ∷ []) → OnErr r (cs ≡ ds)
     → IsTrue (is_program ds rs) → length ds < MAX_SYMBOLS → IsTrue (is_name name) → length name ≤ MAX_NAME → arity ≤ MAX_ARITY → position (declares name arity) ds ≡ None → IsTrue (is_program cs rs)
 after_adding ds cs rs name arity n a (Ok x) p q e f h l w u v new =
-    symbol_pushed ds cs rs record { name = name; arity = arity; weight = 1 } (e ∙ (λ i. ds ++ record { name = p i; arity = q i; weight = 1 } ∷ [])) h l (new_in_range name arity w u v) new
+    symbol_pushed ds cs rs record { name = name; arity = arity; weight = default_weight } (e ∙ (λ i. ds ++ record { name = p i; arity = q i; weight = default_weight } ∷ [])) h l (new_in_range name arity w u v) new
 after_adding ds cs rs name arity n a (Err x) p q e f h l w u v new = rw f h
 
-pub slice_get-declarations : (es : List (Symbol × ℕ)) (i : ℕ) → slice_get (declarations_in es) i ≡ option_map declared (slice_get es i)
+pub slice_get-declarations : (es : List (Symbol × Weight)) (i : ℕ) → slice_get (declarations_in es) i ≡ option_map declared (slice_get es i)
 slice_get-declarations [] i = refl
 slice_get-declarations (e ∷ es) zero = refl
 slice_get-declarations (e ∷ es) (suc i) = slice_get-declarations es i
 
 -- what the table has at a place is the declaration there
-pub found : (r : Option (Bor Symbol × Bor ℕ)) (es : List (Symbol × ℕ)) (i : ℕ) → option_map deref_pair r ≡ slice_get es i → option_map (λ p. declared (p.0.now, p.1.now)) r ≡ slice_get (declarations_in es) i
+pub found : (r : Option (Bor Symbol × Bor Weight)) (es : List (Symbol × Weight)) (i : ℕ) → option_map deref_pair r ≡ slice_get es i → option_map (λ p. declared (p.0.now, p.1.now)) r ≡ slice_get (declarations_in es) i
 found r es i h = by r ∙ ap (option_map declared) h ∙ sym (slice_get-declarations es i)
   where
-    by : (r : Option (Bor Symbol × Bor ℕ)) → option_map (λ p. declared (p.0.now, p.1.now)) r ≡ option_map declared (option_map deref_pair r)
+    by : (r : Option (Bor Symbol × Bor Weight)) → option_map (λ p. declared (p.0.now, p.1.now)) r ≡ option_map declared (option_map deref_pair r)
     by None = refl
     by (Some p) = refl
 

@@ -1,6 +1,8 @@
 pub mod FinBags
 pub mod Atoms
 pub mod Stores
+pub mod Traversals
+pub mod Terms
 pub mod Each
 pub mod Rewriting
 pub mod Steps

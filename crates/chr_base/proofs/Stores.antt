@@ -1,11 +1,11 @@
 -- Laws of stores.
-use Rattle.std.specs.Prelude.{◌≡◌, ℕ, ◌+◌, ◌-◌, List, ◌++◌}
-use Rattle.std.proofs.Common.{ap, arith}
+use Rattle.std.specs.Prelude.{◌≡◌, ℕ, ◌+◌, ◌-◌, List, [], ◌∷◌, ◌++◌, length}
+use Rattle.std.proofs.Common.{refl, sym, ap, ◌∙◌, arith}
 use Rattle.chr_base.specs.declared.atom.Atom.{Atom}
 use Rattle.chr_base.specs.Atoms.{atom_cmp}
 use Rattle.chr_base.specs.FinBag as bag
 use Rattle.chr_base.specs.FinBag.{◌⊕◌, ◌⊖◌, total}
-use Rattle.chr_base.specs.Stores.{Store, store_of, count, weight_of}
+use Rattle.chr_base.specs.Stores.{Store, store_of, count, size, weight_of}
 use Rattle.chr_base.proofs.Atoms.{atom_total, atom_exact}
 use Rattle.chr_base.proofs.FinBags as laws
 
@@ -60,3 +60,11 @@ weight_exchange w s r b h =
 
 pub weight_store_of : (w : Atom → ℕ) (xs : List Atom) → weight_of w (store_of xs) ≡ total w xs
 weight_store_of w xs = laws.sum_over-of_list atom_total w xs
+
+pub length_total : (xs : List Atom) → length xs ≡ total (λ _. 1) xs
+length_total [] = refl
+length_total (x ∷ xs) = let h = length_total xs in omega (arith, h)
+
+-- how many atoms there are is what they weigh where each weighs 1
+pub size_weight : (s : Store) → size s ≡ weight_of (λ _. 1) s
+size_weight s = length_total (bag.items s) ∙ sym (laws.sum_over-items (λ _. 1) s)

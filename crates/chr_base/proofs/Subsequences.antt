@@ -1,6 +1,6 @@
 -- A list in order, taken out of another in order.
 use Rattle.std.proofs.Common.{◌≡◌, ℕ, zero, suc, ◌+◌, ◌<◌, ◌≤◌, Bool, true, false, cond, List, [], ◌∷◌, ◌++◌, length, get_or, take, drop, set, drop-cons, append_assoc, append-nil, refl, sym, ap, subst, ◌∙◌, arith}
-use Rattle.std.specs.Prelude.{not, ◌&&◌, T, IsTrue, ◌-◌}
+use Rattle.std.specs.Prelude.{not, T, IsTrue, ◌-◌}
 use Rattle.std.specs.Bool.{OnTrue}
 use Rattle.std.specs.List.{swap}
 use Rattle.std.proofs.lemmas.List.{drop_all, get_or_default}

@@ -3,9 +3,11 @@ pub mod Rewriting
 pub mod Atoms
 pub mod Stores
 pub mod Values
+pub mod Traversals
 pub mod Names
 pub mod RuleTests
 pub mod Rules
+pub mod Weights
 pub mod ProgramTests
 pub mod Programs
 pub mod Sameness

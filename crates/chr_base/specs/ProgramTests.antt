@@ -2,32 +2,34 @@
 use Rattle.std.specs.Prelude.{ℕ, zero, suc, Bool, true, false, not, ◌&&◌, nat_eq, nat_le, List, [], ◌∷◌, length, Option, Some, None, slice_get}
 use Rattle.std.specs.List.{list_all, list_any}
 use Rattle.std.specs.Str.{bytes_eq}
-use Rattle.chr_base.specs.declared.limits.TheConstants.{MAX_ARITY, MAX_NAME, MAX_RULES, MAX_SYMBOLS, MAX_WEIGHT}
+use Rattle.chr_base.specs.declared.limits.TheConstants.{MAX_ARITY, MAX_NAME, MAX_RULES, MAX_SYMBOLS}
 use Rattle.chr_base.specs.declared.term.Pattern.{Pattern}
 use Rattle.chr_base.specs.declared.rule.Rule.{Rule}
 use Rattle.chr_base.specs.declared.program.Symbol.{Symbol}
+use Rattle.chr_base.specs.declared.weight.Weight.{Weight}
 use Rattle.chr_base.specs.Names.{is_name}
+use Rattle.chr_base.specs.Weights.{default_weight, is_paired, is_weight}
 
 -- a declared symbol: its name as bytes, its number of arguments and its weight
 pub record Declaration : Type 0 where
   pub name : List ℕ
   pub arity : ℕ
-  pub weight : ℕ
+  pub weight : Weight
 
--- a declaration of weight 1
+-- a declaration of the default weight
 abbrev pub new_declaration : List ℕ → ℕ → Declaration
-new_declaration name arity = record { name = name; arity = arity; weight = 1 }
+new_declaration name arity = record { name = name; arity = arity; weight = default_weight }
 
 -- an entry of the symbol table as a declaration
-abbrev pub declared : Symbol × ℕ → Declaration
+abbrev pub declared : Symbol × Weight → Declaration
 declared e = record { name = e.0.name.bytes; arity = e.0.arity; weight = e.1 }
 
-abbrev pub declarations_in : List (Symbol × ℕ) → List Declaration
+abbrev pub declarations_in : List (Symbol × Weight) → List Declaration
 declarations_in [] = []
 declarations_in (e ∷ es) = declared e ∷ declarations_in es
 
 -- the declarations, the one at place i with another weight
-abbrev pub with_weight : List Declaration → ℕ → ℕ → List Declaration
+abbrev pub with_weight : List Declaration → ℕ → Weight → List Declaration
 with_weight [] i w = []
 with_weight (d ∷ ds) zero w = record d { weight = w } ∷ ds
 with_weight (d ∷ ds) (suc i) w = d ∷ with_weight ds i w
@@ -58,12 +60,14 @@ are_distinct (d ∷ ds) = not (list_any (declares d.name d.arity) ds) && are_dis
 
 -- what a declaration's parts may be
 abbrev pub is_in_range : Declaration → Bool
-is_in_range d =
-    is_name d.name && nat_le (length d.name) MAX_NAME && nat_le d.arity MAX_ARITY && nat_le 1 d.weight
-    && nat_le d.weight MAX_WEIGHT
+is_in_range d = is_name d.name && nat_le (length d.name) MAX_NAME && nat_le d.arity MAX_ARITY && is_weight d.weight
 
 -- all that a program keeps
 abbrev pub is_program : List Declaration → List Rule → Bool
 is_program ds rs =
     nat_le (length ds) MAX_SYMBOLS && nat_le (length rs) MAX_RULES && list_all is_in_range ds && are_distinct ds
     && list_all (fits ds) rs
+
+-- some symbol's weight has a second number that isn't 0
+abbrev pub some_paired : List Declaration → Bool
+some_paired ds = list_any (λ d. is_paired d.weight) ds

@@ -15,8 +15,8 @@ abbrev pub name_of : List Declaration → Atom → List ℕ
 name_of ds a = option_map_or (λ d. d.name) (slice_get ds a.symbol.0) []
 
 -- The order in which atoms are printed: by the bytes of the name, then by the number of arguments, then by the
--- arguments. The symbol's place is compared last, so that only equal atoms tie. Atoms that are not declared come first, since they
--- have no name.
+-- arguments. The symbol's place is compared last, so that only equal atoms tie. Atoms that are not declared come first,
+-- since they have no name.
 abbrev pub print_cmp : List Declaration → Atom → Atom → Ordering
 print_cmp ds a b =
     ordering_then (slice_cmp nat_cmp (name_of ds a) (name_of ds b))

@@ -64,8 +64,8 @@ impl Bag {
         Ok(Bag { items })
     }
 
-    /// The atoms in order, one that occurs more than once as often as it does: by symbol, then by number of arguments, then
-    /// by the arguments as numbers, the first first.
+    /// The atoms in order, one that occurs more than once as often as it does: by symbol, then by number of arguments,
+    /// then by the arguments as numbers, the first first.
     pub fn atoms(&self) -> &[Atom]
         ensures { result.now ≡ bag.items self.now }
     {
@@ -119,8 +119,8 @@ impl Bag {
         lists::same_atoms(&self.items, &other.items)
     }
 
-    /// Takes all of these atoms out, or none where they are not there. It takes no memory. Where the atoms are in order, as
-    /// those of a bag are, it walks the bag twice; else once and more for each atom.
+    /// Takes all of these atoms out, or none where they are not there. It takes no memory. Where the atoms are in
+    /// order, as those of a bag are, it walks the bag twice; else once and more for each atom.
     pub fn remove_all(&mut self, atoms: &[Atom]) -> bool
         ensures there { IsTrue result ↔ bag.IsWithin (bag.of_list atoms.now) self.old }
         ensures taken { OnTrue result (self.new ≡ self.old ⊖ bag.of_list atoms.now) }

@@ -1,4 +1,5 @@
-//! The laws of stores and of their steps. Each is a function that takes nothing and computes nothing: its contract is the law.
+//! The laws of stores and of their steps. Each is a function that takes nothing and computes nothing: its contract is
+//! the law.
 ghost use Rattle.chr_base.specs.Laws.{EmptyCounts, NoAtomsAreEmpty, ListCountsItself, ListCountsNoOther, SumCounts, DifferenceCounts, CountsDetermine, ItemsMakeStore, AddIsSum, WithinIsPart, SameProgramsStepAlike, RunsGrow};
 
 /// A store is a finite multiset of atoms: how often each atom stands in it determines it.

@@ -13,6 +13,7 @@ pub mod rule;
 pub mod term;
 pub mod text;
 mod values;
+pub mod weight;
 
 /// A value: a signed 64-bit whole number.
 pub type Value = i64;

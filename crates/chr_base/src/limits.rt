@@ -1,7 +1,7 @@
 //! The limits of programs, rules and atoms.
 
 /// The greatest number of arguments of a symbol.
-pub const MAX_ARITY: usize = 4;
+pub const MAX_ARITY: usize = 6;
 
 /// The greatest number of heads of a rule.
 pub const MAX_HEADS: usize = 4;
@@ -24,5 +24,8 @@ pub const MAX_SYMBOLS: usize = 64;
 /// The greatest number of rules of a program.
 pub const MAX_RULES: usize = 64;
 
-/// The greatest weight of a symbol. The least is 1.
-pub const MAX_WEIGHT: u32 = 1_000_000;
+/// The greatest first and the greatest second number of a symbol's weight.
+pub const MAX_WEIGHT: u64 = 1_000_000;
+
+/// The greatest number of atoms of an operation.
+pub const MAX_OPERATION: usize = 64;

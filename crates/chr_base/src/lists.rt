@@ -2,6 +2,7 @@
 ghost use Rattle.std.specs.Prelude.{◌≡◌, ◌<◌, ◌≤◌, ◌↔◌, length, insert, remove, ◌++◌, IsTrue, OnOk, OnErr, IfSome, IfNone};
 ghost use Rattle.std.specs.Bool.{OnTrue, OnFalse};
 ghost use Rattle.std.specs.Ordering.{eq_by_cmp, is_gt};
+ghost use Rattle.chr_base.specs.declared.atom.Atom.{Atom as AtomValue};
 ghost use Rattle.chr_base.specs.Atoms.{atom_cmp};
 ghost use Rattle.chr_base.specs.FinBag.{count_in, put, without, is_rising};
 ghost use Rattle.chr_base.specs.Stores.{store_of};
@@ -61,9 +62,9 @@ fn take_out(items: &mut Vec<Atom>, atom: &Atom)
     }
 }
 
-/// Whether each atom of the one list stands in the other as often.
-fn fits_in(atoms: &[Atom], items: &[Atom]) -> bool
-    ensures { IsTrue result ↔ AreWithin atoms.now items.now }
+/// Whether each atom of the one list stands in the other at least as often. Each costs a walk through both.
+pub fn fits_in(atoms: &[Atom], items: &[Atom]) -> bool
+    ensures { IsTrue result ↔ ((q : AtomValue) → count_in atom_cmp q atoms.now ≤ count_in atom_cmp q items.now) }
 {
     for atom in atoms {
         if count_of(items, atom) < count_of(atoms, atom) {

@@ -1,10 +1,13 @@
 //! Programs: declared symbols with their weights, and rules.
 ghost use Rattle.std.specs.Prelude.{◌≡◌, ◌≤◌, ◌++◌, [], ◌∷◌, IsTrue, None, OnOk, OnErr, position, length};
+ghost use Rattle.std.specs.List.{list_any};
+ghost use Rattle.chr_base.specs.Weights.{is_paired};
 ghost use Rattle.chr_base.specs.ProgramTests.{declarations_in, declares, is_program, new_declaration, with_weight};
 
 use crate::atom::{Atom, SymbolId};
-use crate::limits::{MAX_ARITY, MAX_NAME, MAX_RULES, MAX_SYMBOLS, MAX_WEIGHT};
+use crate::limits::{MAX_ARITY, MAX_NAME, MAX_RULES, MAX_SYMBOLS};
 use crate::rule::Rule;
+use crate::weight::{DEFAULT_WEIGHT, Weight};
 use arrayvec::{ArrayString, ArrayVec};
 use indexmap::IndexMap;
 use std::alloc::{AllocError, AllocFailed, Global};
@@ -16,17 +19,15 @@ struct Symbol {
     arity: u8,
 }
 
-/// The weight of a symbol for which none is declared.
-pub const DEFAULT_WEIGHT: u32 = 1;
-
 /// A program: its declared symbols in order, each with its weight, and its rules in order.
 ///
-/// It has at most `MAX_SYMBOLS` symbols, no two of one name and arity, each of at most `MAX_ARITY` arguments and with a weight from 1 to
-/// `MAX_WEIGHT`, whose names are a lower-case letter, then letters, digits and underscores, and no reserved word; and at most
-/// `MAX_RULES` rules, each atom of which is declared with as many arguments.
+/// It has at most `MAX_SYMBOLS` symbols, no two of one name and arity, each of at most `MAX_ARITY` arguments and with a
+/// weight of numbers up to `MAX_WEIGHT`, not both 0. Their names are a lower-case letter, then letters, digits and
+/// underscores, and no reserved word. It has at most `MAX_RULES` rules, each atom of which is declared with as many
+/// arguments.
 #[derive(Drop)]
 pub struct Program {
-    symbols: IndexMap<Symbol, u32>,
+    symbols: IndexMap<Symbol, Weight>,
     rules: Vec<Rule>,
     ghost well_formed: { IsTrue (is_program (declarations_in symbols.entries) rules.items) },
 }
@@ -74,7 +75,7 @@ fn array_of(values: &[i64]) -> ArrayVec<i64, MAX_ARITY>
 }
 
 /// Puts a new symbol last, with the default weight.
-fn add_symbol(symbols: &mut IndexMap<Symbol, u32>, symbol: Symbol) -> Result<(), AllocError>
+fn add_symbol(symbols: &mut IndexMap<Symbol, Weight>, symbol: Symbol) -> Result<(), AllocError>
     requires new { position (declares symbol.name.bytes symbol.arity) (declarations_in symbols.old.entries) ≡ None }
     ensures ok { OnOk result (declarations_in symbols.new.entries
         ≡ declarations_in symbols.old.entries ++ new_declaration symbol.name.bytes symbol.arity ∷ []) }
@@ -86,7 +87,7 @@ fn add_symbol(symbols: &mut IndexMap<Symbol, u32>, symbol: Symbol) -> Result<(),
 
 /// Changes the weight at a place.
 #[tactic(auto, using(crate::proofs::Weighing::weighed, crate::proofs::Weighing::nothing_there))]
-fn put_weight(symbols: &mut IndexMap<Symbol, u32>, place: usize, weight: u32)
+fn put_weight(symbols: &mut IndexMap<Symbol, Weight>, place: usize, weight: Weight)
     ensures { declarations_in symbols.new.entries ≡ with_weight (declarations_in symbols.old.entries) place weight }
 {
     match symbols.get_index_mut(place) {
@@ -95,13 +96,21 @@ fn put_weight(symbols: &mut IndexMap<Symbol, u32>, place: usize, weight: u32)
     }
 }
 
+/// Whether the second number of some weight is not 0.
+fn some_paired(weights: &[Weight]) -> bool
+    ensures { result ≡ list_any is_paired weights.now }
+{
+    weights.iter().any(|weight| weight.is_paired())
+}
+
 impl Program {
     ghost use Rattle.std.specs.Prelude.{◌≡◌, ◌<◌, ◌≤◌, ◌++◌, ◌↔◌, [], ◌∷◌, IsTrue, Some, None, OnOk, OnErr, IfOk, IfSome, option_map, position, length, slice_get};
-    ghost use Rattle.chr_base.specs.ProgramTests.{Declaration, declared, declares, fits, new_declaration, with_weight};
+    ghost use Rattle.chr_base.specs.ProgramTests.{Declaration, declared, declares, fits, new_declaration, some_paired, with_weight};
     ghost use Rattle.chr_base.specs.Programs.{declarations, rules_of, declares_atom, declared_atom};
     ghost use Rattle.chr_base.specs.Names.{is_name};
     ghost use Rattle.chr_base.specs.Sameness.{AreSame};
     ghost use Rattle.chr_base.specs.Texts.{name_of};
+    ghost use Rattle.chr_base.specs.Weights.{is_weight};
 
     /// The program without symbols and rules.
     pub fn empty(alloc: Global) -> Program
@@ -134,7 +143,7 @@ impl Program {
         })
     }
 
-    /// Declares one more symbol, of weight 1.
+    /// Declares one more symbol, of the default weight.
     pub fn declare(&mut self, name: &str, arity: usize) -> Result<(), AllocError>
         requires room { length (declarations self.old) < MAX_SYMBOLS }
         requires name { length name.now ≤ MAX_NAME }
@@ -150,11 +159,10 @@ impl Program {
         add_symbol(&mut self.symbols, symbol)
     }
 
-    /// Gives a symbol another weight.
-    pub fn set_weight(&mut self, symbol: SymbolId, weight: u32)
+    /// Gives a symbol another weight: each number is at most `MAX_WEIGHT`, and not both are 0.
+    pub fn set_weight(&mut self, symbol: SymbolId, weight: Weight)
         requires symbol { symbol.0 < length (declarations self.old) }
-        requires least { 1 ≤ weight }
-        requires most { weight ≤ MAX_WEIGHT }
+        requires range { IsTrue (is_weight weight) }
         ensures symbols { declarations self.new ≡ with_weight (declarations self.old) symbol.0 weight }
         ensures rules { rules_of self.new ≡ rules_of self.old }
     {
@@ -213,23 +221,31 @@ impl Program {
         usize::from(self.entry(symbol).0.arity)
     }
 
-    /// The weight of a symbol, from 1 to `MAX_WEIGHT`.
-    pub fn weight_of(&self, symbol: SymbolId) -> u32
+    /// The weight of a symbol.
+    pub fn weight_of(&self, symbol: SymbolId) -> Weight
         requires { symbol.0 < length (declarations self.now) }
         ensures { Some result ≡ option_map (λ d. d.weight) (slice_get (declarations self.now) symbol.0) }
     {
         *self.entry(symbol).1
     }
 
+    /// Whether the second number of some symbol's weight is not 0.
+    #[tactic(auto, using(crate::proofs::Weighing::paired_values))]
+    pub fn has_pairs(&self) -> bool
+        ensures { result ≡ some_paired (declarations self.now) }
+    {
+        some_paired(self.symbols.values().as_slice())
+    }
+
     /// A symbol in the table, with its weight.
-    fn find(&self, symbol: SymbolId) -> Option<(&Symbol, &u32)>
+    fn find(&self, symbol: SymbolId) -> Option<(&Symbol, &Weight)>
         ensures { option_map (λ p. declared (p.0.now, p.1.now)) result ≡ slice_get (declarations self.now) symbol.0 }
     {
         self.symbols.get_index(usize::from(symbol.0))
     }
 
     /// The entry of a symbol that is there.
-    fn entry(&self, symbol: SymbolId) -> (&Symbol, &u32)
+    fn entry(&self, symbol: SymbolId) -> (&Symbol, &Weight)
         requires { symbol.0 < length (declarations self.now) }
         ensures { Some (declared (result.0.now, result.1.now)) ≡ slice_get (declarations self.now) symbol.0 }
     {
@@ -259,7 +275,8 @@ impl Program {
         Ok(Program { symbols, rules })
     }
 
-    /// Whether the two programs have the same symbols with the same weights, and the same rules, each in the same order.
+    /// Whether the two programs have the same symbols with the same weights, and the same rules, each in the same
+    /// order.
     pub fn is_same(&self, other: &Program) -> bool
         ensures { IsTrue result ↔ AreSame self.now other.now }
     {

@@ -11,9 +11,9 @@ use arrayvec::{ArrayString, ArrayVec};
 /// A rule. Where `kept` is empty it is a simplification `removed <=> guard | body`, else a simpagation
 /// `kept \ removed <=> guard | body` (Frühwirth 2009).
 ///
-/// It has 1 to `MAX_HEADS` heads, at least one of them removed; its variables are numbered from 1 by first occurrence in the
-/// heads, kept ones first; each variable of guard and body stands in a head. Its constants are values, and its name is a
-/// name of the grammar: a lower-case letter, then letters, digits and underscores, and no reserved word.
+/// It has 1 to `MAX_HEADS` heads, at least one of them removed; its variables are numbered from 1 by first occurrence
+/// in the heads, kept ones first; each variable of guard and body stands in a head. Its constants are values, and its
+/// name is a name of the grammar: a lower-case letter, then letters, digits and underscores, and no reserved word.
 #[derive(Debug, PartialEq, Eq, Drop)]
 pub struct Rule {
     pub name: Option<ArrayString<MAX_NAME>>,

@@ -1,5 +1,6 @@
 ghost use Rattle.std.specs.Prelude.{◌≡◌, ◌≤◌, [], ◌∷◌, IsTrue, codes, length};
 ghost use Rattle.chr_base.specs.ProgramTests.{fits};
+ghost use Rattle.chr_base.specs.Weights.{default_weight, is_weight};
 
 use crate::atom::{Atom, SymbolId};
 use crate::bag::Bag;
@@ -9,10 +10,17 @@ use crate::program::Program;
 use crate::rule::Rule;
 use crate::term::{Cmp, Comparison, Pattern, Term};
 use crate::text::store_text;
+use crate::weight::{DEFAULT_WEIGHT, Weight};
 use arrayvec::ArrayVec;
 use std::alloc::{AllocError, Global};
 use std::process::Abort;
 use std::test::Fail;
+
+fn weight(first: u64, second: u64) -> Weight
+    ensures { result ≡ record { first = first; second = second } }
+{
+    Weight { first, second }
+}
 
 fn atom(symbol: u16, values: &[i64]) -> Atom {
     let mut args = ArrayVec::new();
@@ -53,11 +61,17 @@ fn declarations(rt: HostRuntime) -> Result<(), Fail> {
     );
     assert_eq!(rt; program.name_of(SymbolId(0)), "min");
     assert_eq!(rt; program.arity_of(SymbolId(2)), 2);
-    assert_eq!(rt; program.weight_of(SymbolId(1)), 1);
-    program.set_weight(SymbolId(1), MAX_WEIGHT);
+    assert_eq!(rt; program.weight_of(SymbolId(1)), weight(1, 0));
+    program.set_weight(SymbolId(1), weight(MAX_WEIGHT, MAX_WEIGHT));
     assert_eq!(rt; program.symbols(), 3);
-    assert_eq!(rt; program.weight_of(SymbolId(1)), MAX_WEIGHT);
-    assert_eq!(rt; program.weight_of(SymbolId(2)), 1);
+    assert_eq!(rt;
+        program.weight_of(SymbolId(1)),
+        weight(MAX_WEIGHT, MAX_WEIGHT)
+    );
+    assert_eq!(rt; program.weight_of(SymbolId(2)), weight(1, 0));
+    assert!(rt; program.has_pairs());
+    program.set_weight(SymbolId(1), weight(MAX_WEIGHT, 0));
+    assert!(rt; !program.has_pairs());
     assert!(rt; program.declares(&atom(2, &[4, 5])));
     assert!(rt; !program.declares(&atom(2, &[4])));
     assert!(rt; !program.declares(&atom(3, &[])));
@@ -128,7 +142,10 @@ fn pattern(symbol: u16, terms: &[Term]) -> Pattern
 /// `p(X, X, 3) \ q(Y) <=> X cmp Y | r(Y, X), r(8, X)`, where `p`, `q` and `r` are the first, second and third symbol.
 #[tactic(auto, unfolding(crate::specs::RuleTests::is_in_bounds))]
 fn two_heads(cmp: Cmp) -> Rule
-    ensures { IsTrue (fits (record { name = codes "p"; arity = 3; weight = 1 } ∷ record { name = codes "q"; arity = 1; weight = 1 } ∷ record { name = codes "r"; arity = 2; weight = 1 } ∷ []) result) }
+    ensures { IsTrue (fits (record { name = codes "p"; arity = 3; weight = default_weight }
+        ∷ record { name = codes "q"; arity = 1; weight = default_weight }
+        ∷ record { name = codes "r"; arity = 2; weight = default_weight }
+        ∷ []) result) }
 {
     let x = Term::Variable(1);
     let y = Term::Variable(2);
@@ -193,9 +210,8 @@ fn instances(rt: HostRuntime) {
 }
 
 /// `p/3` with this weight, `q/1` and `r/2`, with the one rule `two_heads(cmp)`.
-fn one_rule(alloc: Global, cmp: Cmp, weight: u32) -> Result<Program, AllocError>
-    requires least { 1 ≤ weight }
-    requires most { weight ≤ MAX_WEIGHT }
+fn one_rule(alloc: Global, cmp: Cmp, weight: Weight) -> Result<Program, AllocError>
+    requires { IsTrue (is_weight weight) }
 {
     let mut program = Program::empty(alloc);
     program.declare("p", 3)?;
@@ -209,14 +225,15 @@ fn one_rule(alloc: Global, cmp: Cmp, weight: u32) -> Result<Program, AllocError>
 #[test]
 fn programs(rt: HostRuntime) -> Result<(), Fail> {
     let alloc = rt.alloc();
-    let program = one_rule(alloc, Cmp::Less, 5)?;
+    let program = one_rule(alloc, Cmp::Less, weight(5, 0))?;
     assert!(rt; program.rules() == [two_heads(Cmp::Less)].as_slice());
     assert_eq!(rt; program.atom("r", &[-1, 4]), Some(atom(2, &[-1, 4])));
     assert_eq!(rt; program.atom("r", &[-1]), None);
     assert_eq!(rt; program.atom("s", &[-1, 4]), None);
-    assert!(rt; program.is_same(&one_rule(alloc, Cmp::Less, 5)?));
-    assert!(rt; !program.is_same(&one_rule(alloc, Cmp::AtMost, 5)?));
-    assert!(rt; !program.is_same(&one_rule(alloc, Cmp::Less, 6)?));
+    assert!(rt; program.is_same(&one_rule(alloc, Cmp::Less, weight(5, 0))?));
+    assert!(rt; !program.is_same(&one_rule(alloc, Cmp::AtMost, weight(5, 0))?));
+    assert!(rt; !program.is_same(&one_rule(alloc, Cmp::Less, weight(6, 0))?));
+    assert!(rt; !program.is_same(&one_rule(alloc, Cmp::Less, weight(5, 1))?));
     assert!(rt; two_heads(Cmp::Less).is_same(&two_heads(Cmp::Less)));
     assert!(rt; !two_heads(Cmp::Less).is_same(&two_heads(Cmp::Equal)));
     assert!(rt; two_heads(Cmp::Less).copy().is_same(&two_heads(Cmp::Less)));
@@ -248,5 +265,57 @@ fn fewer_arguments_first(rt: HostRuntime) -> Result<(), Fail> {
     let unsorted = vec![in alloc; atom(1, &[]), atom(0, &[1, 2]), atom(0, &[3])]?;
     assert!(rt; Bag::of(unsorted)?.atoms() == sorted.as_slice());
     bag.has_values();
+    Ok(())
+}
+
+/// (left, right, whether the left one is lighter): the first numbers decide, and between equal ones the second.
+const ORDER: [((u64, u64), (u64, u64), bool); 9] = [
+    ((1, 0), (2, 0), true),
+    ((2, 0), (1, 0), false),
+    ((1, 9), (2, 0), true),
+    ((2, 0), (1, 9), false),
+    ((1, 2), (1, 3), true),
+    ((1, 3), (1, 2), false),
+    ((1, 2), (1, 2), false),
+    ((0, 1), (0, 2), true),
+    ((0, 3), (1, 0), true),
+];
+
+#[test]
+fn lighter_weights(rt: HostRuntime) {
+    for (left, right, lighter) in ORDER {
+        assert_eq!(rt;
+            weight(left.0, left.1).is_lighter(weight(right.0, right.1)),
+            lighter
+        );
+    }
+}
+
+#[test]
+fn weights_as_text(rt: HostRuntime) -> Result<(), Fail> {
+    let sum = weight(1, 2).plus(weight(30, 400));
+    assert_eq!(rt; sum, weight(31, 402));
+    assert!(rt; sum.is_paired() && !DEFAULT_WEIGHT.is_paired());
+    let mut text = String::new(rt.alloc());
+    sum.push_text(&mut text, true)?;
+    text.push_str(" ")?;
+    sum.push_text(&mut text, false)?;
+    text.push_str(" ")?;
+    DEFAULT_WEIGHT.push_text(&mut text, true)?;
+    assert_eq!(rt; text.as_str(), "31,402 31 1,0");
+    Ok(())
+}
+
+#[test]
+fn six_arguments(rt: HostRuntime) -> Result<(), Fail> {
+    let mut program = Program::empty(rt.alloc());
+    program.declare("r", 6)?;
+    assert_eq!(rt; program.symbol("r", 6), Some(SymbolId(0)));
+    assert_eq!(rt; program.symbol("r", 7), None);
+    assert_eq!(rt;
+        program.atom("r", &[1, 2, 3, 4, 5, 6]),
+        Some(atom(0, &[1, 2, 3, 4, 5, 6]))
+    );
+    assert_eq!(rt; program.atom("r", &[1, 2, 3, 4, 5, 6, 7]), None);
     Ok(())
 }

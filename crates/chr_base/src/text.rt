@@ -82,9 +82,9 @@ fn atoms_text(alloc: Global, program: &Program, atoms: &[Atom]) -> Result<String
     Ok(out)
 }
 
-/// The text of a store: its atoms in order, by name, number of arguments and arguments, joined by `, `; `true` for the empty
-/// one. An atom prints as its name and, where it has arguments, these in parentheses, joined by commas. Of an atom that the
-/// program doesn't declare the name is left out.
+/// The text of a store: its atoms in order, by name, number of arguments and arguments, joined by `, `; `true` for the
+/// empty one. An atom prints as its name and, where it has arguments, these in parentheses, joined by commas. Of an
+/// atom that the program doesn't declare the name is left out.
 pub fn store_text(alloc: Global, program: &Program, bag: &Bag) -> Result<String, AllocError>
     ensures { IfOk result (λ s. string_bytes s ≡ store_text (declarations program.now) bag.now) }
 {

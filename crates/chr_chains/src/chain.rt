@@ -3,7 +3,8 @@ ghost use Rattle.std.specs.Prelude.{◌≡◌, ℕ, ◌-◌, ◌%◌, ◌<◌, �
 ghost use Rattle.chr_chains.specs.working.Chained.{IsChained};
 ghost use Rattle.chr_chains.specs.working.Entries.{slots_of, slot_of, live_hashes, IsLivePlace, LiesBelow, IsIndex};
 
-/// A place of a slot, of which no live row of the slot lies at or above. Dead rows on the way are taken out of the chain.
+/// A place of a slot, of which no live row of the slot lies at or above. Dead rows on the way are taken out of the
+/// chain.
 pub(crate) fn first_live(
     hashes: &[u32],
     alive: &[bool],
@@ -92,7 +93,8 @@ pub(crate) fn seek(
     ensures size { length links.new ≡ length links.old }
     ensures within { result ≤ from }
     ensures live { 0 < result → get_or (live_hashes hashes.now alive.now) (result - 1) None ≡ Some hash }
-    ensures none_between { (r : ℕ) → r < from → get_or (live_hashes hashes.now alive.now) r None ≡ Some hash → r < result }
+    ensures none_between { (r : ℕ) → r < from → get_or (live_hashes hashes.now alive.now) r None ≡ Some hash
+        → r < result }
 {
     let mut at = from;
     while at > 0 {

@@ -1,7 +1,7 @@
 -- The joint valuations that values of the free classes make.
 use Rattle.std.specs.Prelude.{◌≡◌, ℕ, zero, suc, ℤ, ◌+◌, ◌<◌, ◌≤◌, Bool, true, false, cond, nat_eq, List, [], ◌∷◌, ◌++◌, ◌⊎◌, map, length, Some, slice_get, get_or}
 use mathlib.Core.Bool.{true≢false}
-use Rattle.std.specs.List.{filter, range_with_len}
+use Rattle.std.specs.List.{filter, range_with_len, zip}
 use Rattle.std.proofs.Common.{refl, sym, ap, subst, ◌∙◌, inl, inr, arith}
 use Rattle.std.proofs.lemmas.Bool.{eqb-true, eqb-false, eq-eqb}
 use Rattle.chr_base.specs.declared.term.Term.{Term}
@@ -11,9 +11,9 @@ use Rattle.chr_base.specs.declared.rule.Rule.{Rule}
 use Rattle.chr_base.specs.RuleTests.{terms_of, is_variable}
 use Rattle.chr_base.specs.Rules.{Valuation, term_value, heads_of, no_pattern}
 use Rattle.std.proofs.lemmas.List.{length-map}
-use Rattle.chr_types.specs.OrderTypes.{In, SameType, pairs}
+use Rattle.chr_types.specs.OrderTypes.{In, SameType}
 use Rattle.chr_confluence.specs.Unifiers.{Substitution, IsInstanceOf, IsMostGeneralUnifier}
-use Rattle.chr_confluence.specs.Overlaps.{variables_of, renamed_apart, term_pairs, equations, equations_of}
+use Rattle.chr_confluence.specs.Overlaps.{variables_of, renamed_apart, equations, equations_of}
 use Rattle.chr_confluence.specs.Constants.{IsConstantOf, AreConstants, guard_terms}
 use Rattle.chr_confluence.specs.Representatives.{free_variables, assignment, instance_at}
 use Rattle.chr_confluence.proofs.Solving.{same_variable}
@@ -78,7 +78,7 @@ sides_either t (e ∷ es) fs (inl q) = inl (inl q)
 sides_either t (e ∷ es) fs (inr (inl q)) = inl (inr (inl q))
 sides_either t (e ∷ es) fs (inr (inr i)) = elim (sides_either t es fs i) as (λ _. In t (equation_terms (e ∷ es)) ⊎ In t (equation_terms fs)) [ inl j ↦ inl (inr (inr j)) | inr j ↦ inr j ]
 
-of_pairs : (t : Term) (ts us : List Term) → In t (equation_terms (term_pairs ts us)) → In t ts ⊎ In t us
+of_pairs : (t : Term) (ts us : List Term) → In t (equation_terms (zip ts us)) → In t ts ⊎ In t us
 of_pairs t [] us i = absurd i
 of_pairs t (s ∷ ts) [] i = absurd i
 of_pairs t (s ∷ ts) (u ∷ us) (inl q) = inl (inl q)
@@ -98,7 +98,7 @@ of_equations : (k : ℕ) (qs : List Pattern) (m : List ℕ) (ps : List Pattern) 
 of_equations k qs [] ps t i = absurd i
 of_equations k qs (e ∷ m) [] t i = absurd i
 of_equations k qs (zero ∷ m) (p ∷ ps) t i = elim (of_equations k qs m ps t i) as (λ _. Stands k qs (p ∷ ps) t) [ inl j ↦ inl (in_second t p.args.items (terms_of ps) j) | inr h ↦ inr h ]
-of_equations k qs (suc e ∷ m) (p ∷ ps) t i = elim (sides_either t (term_pairs p.args.items (map (renamed_apart k) (get_or qs e no_pattern).args.items)) (equations k qs m ps) i) as (λ _. Stands k qs (p ∷ ps) t) [
+of_equations k qs (suc e ∷ m) (p ∷ ps) t i = elim (sides_either t (zip p.args.items (map (renamed_apart k) (get_or qs e no_pattern).args.items)) (equations k qs m ps) i) as (λ _. Stands k qs (p ∷ ps) t) [
   | inl j ↦ elim (of_pairs t p.args.items (map (renamed_apart k) (get_or qs e no_pattern).args.items) j) as (λ _. Stands k qs (p ∷ ps) t) [
     | inl h ↦ inl (in_first t p.args.items (terms_of ps) h)
     | inr h ↦ (let w = in_map (renamed_apart k) t (get_or qs e no_pattern).args.items h in inr (w.0, of_pattern w.0 qs e w.1, w.2))
@@ -176,23 +176,23 @@ module _ (rules : List Rule) (i j : ℕ) (r1 r2 : Rule) (at1 : slice_get rules i
     counts = sym (length-map (free_variables σ r1 r2) w) ∙ sym type.count
 
     -- the map between the two lists carries the joint valuation of the one to that of the other
-    pub carried : (x : ℕ) → 0 < x → x ≤ variables_of r1 + variables_of r2 → image (pairs zs (map w (free_variables σ r1 r2))) (instance_at σ (free_variables σ r1 r2) zs x) ≡ w x
-    carried x l g = elim (classified x l g) as (λ _. image (pairs zs (map w (free_variables σ r1 r2))) (instance_at σ (free_variables σ r1 r2) zs x) ≡ w x) [
-      | inl h ↦ ap (image (pairs zs (map w (free_variables σ r1 r2)))) (ap (term_value (assignment (free_variables σ r1 r2) zs)) h.1)
+    pub carried : (x : ℕ) → 0 < x → x ≤ variables_of r1 + variables_of r2 → image (zip zs (map w (free_variables σ r1 r2))) (instance_at σ (free_variables σ r1 r2) zs x) ≡ w x
+    carried x l g = elim (classified x l g) as (λ _. image (zip zs (map w (free_variables σ r1 r2))) (instance_at σ (free_variables σ r1 r2) zs x) ≡ w x) [
+      | inl h ↦ ap (image (zip zs (map w (free_variables σ r1 r2)))) (ap (term_value (assignment (free_variables σ r1 r2) zs)) h.1)
           ∙ image-constant cs zs (map w (free_variables σ r1 r2)) type h.0 (constants.all h.0 h.2)
           ∙ sym (on x ∙ ap (term_value w) h.1)
-      | inr h ↦ ap (image (pairs zs (map w (free_variables σ r1 r2)))) (ap (term_value (assignment (free_variables σ r1 r2) zs)) h.1)
-          ∙ beside_map (image (pairs zs (map w (free_variables σ r1 r2)))) (free_variables σ r1 r2) zs h.0 counts h.2
+      | inr h ↦ ap (image (zip zs (map w (free_variables σ r1 r2)))) (ap (term_value (assignment (free_variables σ r1 r2) zs)) h.1)
+          ∙ beside_map (image (zip zs (map w (free_variables σ r1 r2)))) (free_variables σ r1 r2) zs h.0 counts h.2
           ∙ ap (λ vs. assignment (free_variables σ r1 r2) vs h.0) (map-image cs zs (map w (free_variables σ r1 r2)) type)
           ∙ beside_own w (free_variables σ r1 r2) h.0 h.2
           ∙ sym (on x ∙ ap (term_value w) h.1)
     ]
 
     -- and its values are among the representative's values and the constants
-    pub within : (x : ℕ) → 0 < x → x ≤ variables_of r1 + variables_of r2 → among (pairs zs (map w (free_variables σ r1 r2))) cs (instance_at σ (free_variables σ r1 r2) zs x) ≡ true
-    within x l g = elim (classified x l g) as (λ _. among (pairs zs (map w (free_variables σ r1 r2))) cs (instance_at σ (free_variables σ r1 r2) zs x) ≡ true) [
-      | inl h ↦ ap (among (pairs zs (map w (free_variables σ r1 r2))) cs) (ap (term_value (assignment (free_variables σ r1 r2) zs)) h.1)
+    pub within : (x : ℕ) → 0 < x → x ≤ variables_of r1 + variables_of r2 → among (zip zs (map w (free_variables σ r1 r2))) cs (instance_at σ (free_variables σ r1 r2) zs x) ≡ true
+    within x l g = elim (classified x l g) as (λ _. among (zip zs (map w (free_variables σ r1 r2))) cs (instance_at σ (free_variables σ r1 r2) zs x) ≡ true) [
+      | inl h ↦ ap (among (zip zs (map w (free_variables σ r1 r2))) cs) (ap (term_value (assignment (free_variables σ r1 r2) zs)) h.1)
           ∙ among-constant cs zs (map w (free_variables σ r1 r2)) type h.0 (constants.all h.0 h.2)
-      | inr h ↦ ap (among (pairs zs (map w (free_variables σ r1 r2))) cs) (ap (term_value (assignment (free_variables σ r1 r2) zs)) h.1)
+      | inr h ↦ ap (among (zip zs (map w (free_variables σ r1 r2))) cs) (ap (term_value (assignment (free_variables σ r1 r2) zs)) h.1)
           ∙ among-value cs zs (map w (free_variables σ r1 r2)) type (assignment (free_variables σ r1 r2) zs h.0) (beside_in (free_variables σ r1 r2) zs h.0 counts h.2)
     ]

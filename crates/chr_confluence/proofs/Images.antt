@@ -1,6 +1,6 @@
 -- The map between two lists of values of one order type keeps the order, fixes the constants, and carries the one list to the other.
 use Rattle.std.specs.Prelude.{◌≡◌, ℕ, ℤ, true, false, ◌||◌, cond, List, [], ◌∷◌, ◌⊎◌, map, length, Some, slice_get}
-use Rattle.std.specs.List.{list_any}
+use Rattle.std.specs.List.{list_any, zip}
 use Rattle.std.proofs.Common.{refl, sym, ap, subst, ◌∙◌, inl, inr, arith}
 use mathlib.Core.Bool.{true≢false}
 use Rattle.std.proofs.lemmas.Bool.{or_left, or_right}
@@ -8,7 +8,7 @@ use Rattle.std.specs.Ordering.{int_cmp, int_eq, ordering_reverse}
 use Rattle.std.specs.Cmp.{tied_itself, int_cmp_total}
 use Rattle.std.specs.FinMap.{int_cmp-IsAntisymmetric}
 use Rattle.chr_base.specs.declared.rule.Rule.{Rule}
-use Rattle.chr_types.specs.OrderTypes.{In, SameType, AreValues, pairs}
+use Rattle.chr_types.specs.OrderTypes.{In, SameType, AreValues}
 use Rattle.chr_types.specs.Representatives.{AreTypes}
 use Rattle.chr_types.proofs.Holes.{same_yes, yes_same}
 use Rattle.chr_confluence.specs.Constants.{AreConstants}
@@ -43,7 +43,7 @@ image_in x (q ∷ qs) = elim (int_eq x q.0) as (λ b. int_eq x q.0 ≡ b → (((
 
 module _ (cs us vs : List ℤ) (type : SameType cs us vs) where
   abbrev Sends : ℤ → ℤ → Type 0
-  Sends x y = In (x, y) (pairs us vs) ⊎ (In x cs × (y ≡ x))
+  Sends x y = In (x, y) (zip us vs) ⊎ (In x cs × (y ≡ x))
 
   sends_alike : (x y x' y' : ℤ) → Sends x y → Sends x' y' → int_cmp x x' ≡ int_cmp y y'
   sends_alike x y x' y' (inl p) (inl q) = type.classes (x, y) (x', y') p q
@@ -55,38 +55,38 @@ module _ (cs us vs : List ℤ) (type : SameType cs us vs) where
   sends_one : (x y y' : ℤ) → Sends x y → Sends x y' → y ≡ y'
   sends_one x y y' p q = int_cmp-IsAntisymmetric y y' (sym (sends_alike x y x y' p q) ∙ tied_itself int_cmp_total x)
 
-  sends_image : (x : ℤ) → among (pairs us vs) cs x ≡ true → Sends x (image (pairs us vs) x)
-  sends_image x h = elim (image_in x (pairs us vs)) as (λ _. Sends x (image (pairs us vs) x)) [
+  sends_image : (x : ℤ) → among (zip us vs) cs x ≡ true → Sends x (image (zip us vs) x)
+  sends_image x h = elim (image_in x (zip us vs)) as (λ _. Sends x (image (zip us vs) x)) [
     | inl p ↦ inl p
     | inr q ↦ inr (in_constants x cs (let e : (false || list_any (int_eq x) cs) ≡ true = subst (λ b. (b || list_any (int_eq x) cs) ≡ true) q.1 h in e), q.0)
   ]
 
-  pub image-keeps : KeepsOrder (image (pairs us vs)) (among (pairs us vs) cs)
-  image-keeps x y h g = sym (sends_alike x (image (pairs us vs) x) y (image (pairs us vs) y) (sends_image x h) (sends_image y g))
+  pub image-keeps : KeepsOrder (image (zip us vs)) (among (zip us vs) cs)
+  image-keeps x y h g = sym (sends_alike x (image (zip us vs) x) y (image (zip us vs) y) (sends_image x h) (sends_image y g))
 
-  pub among-constant : (c : ℤ) → In c cs → among (pairs us vs) cs c ≡ true
-  among-constant c i = or_right (list_any (λ p. int_eq c p.0) (pairs us vs)) _ (any_constant c cs i)
+  pub among-constant : (c : ℤ) → In c cs → among (zip us vs) cs c ≡ true
+  among-constant c i = or_right (list_any (λ p. int_eq c p.0) (zip us vs)) _ (any_constant c cs i)
 
-  pub image-constant : (c : ℤ) → In c cs → image (pairs us vs) c ≡ c
-  image-constant c i = sends_one c (image (pairs us vs) c) c (sends_image c (among-constant c i)) (inr (i, refl))
+  pub image-constant : (c : ℤ) → In c cs → image (zip us vs) c ≡ c
+  image-constant c i = sends_one c (image (zip us vs) c) c (sends_image c (among-constant c i)) (inr (i, refl))
 
-  pub among-class : (p : ℤ × ℤ) → In p (pairs us vs) → among (pairs us vs) cs p.0 ≡ true
-  among-class p i = or_left _ (list_any (int_eq p.0) cs) (any_pair p (pairs us vs) i)
+  pub among-class : (p : ℤ × ℤ) → In p (zip us vs) → among (zip us vs) cs p.0 ≡ true
+  among-class p i = or_left _ (list_any (int_eq p.0) cs) (any_pair p (zip us vs) i)
 
-  pub image-class : (p : ℤ × ℤ) → In p (pairs us vs) → image (pairs us vs) p.0 ≡ p.1
-  image-class p i = sends_one p.0 (image (pairs us vs) p.0) p.1 (sends_image p.0 (among-class p i)) (inl i)
+  pub image-class : (p : ℤ × ℤ) → In p (zip us vs) → image (zip us vs) p.0 ≡ p.1
+  image-class p i = sends_one p.0 (image (zip us vs) p.0) p.1 (sends_image p.0 (among-class p i)) (inl i)
 
   -- the list's own values are in the set
-  pub among-value : (x : ℤ) → In x us → among (pairs us vs) cs x ≡ true
+  pub among-value : (x : ℤ) → In x us → among (zip us vs) cs x ≡ true
   among-value x i = let p = paired us vs type.count x i in among-class (x, p.0) p.1
     where
-      paired : (xs ys : List ℤ) → length xs ≡ length ys → (x : ℤ) → In x xs → (y : ℤ) × In (x, y) (pairs xs ys)
+      paired : (xs ys : List ℤ) → length xs ≡ length ys → (x : ℤ) → In x xs → (y : ℤ) × In (x, y) (zip xs ys)
       paired [] ys e x i = absurd i
       paired (u ∷ xs) [] e x i = absurd (omega (arith, e))
       paired (u ∷ xs) (y ∷ ys) e x (inl s) = (y, inl (λ j. (s j, y)))
       paired (u ∷ xs) (y ∷ ys) e x (inr i) = let p = paired xs ys (omega (arith, e)) x i in (p.0, inr p.1)
 
-  map-images : (xs ys : List ℤ) → length xs ≡ length ys → ((p : ℤ × ℤ) → In p (pairs xs ys) → In p (pairs us vs)) → map (image (pairs us vs)) xs ≡ ys
+  map-images : (xs ys : List ℤ) → length xs ≡ length ys → ((p : ℤ × ℤ) → In p (zip xs ys) → In p (zip us vs)) → map (image (zip us vs)) xs ≡ ys
   map-images [] [] e h = refl
   map-images [] (y ∷ ys) e h = absurd (omega (arith, e))
   map-images (x ∷ xs) [] e h = absurd (omega (arith, e))
@@ -95,18 +95,18 @@ module _ (cs us vs : List ℤ) (type : SameType cs us vs) where
       let more = map-images xs ys (omega (arith, e)) (λ p i. h p (inr i)) in
       λ i. one i ∷ more i
 
-  pub map-image : map (image (pairs us vs)) us ≡ vs
+  pub map-image : map (image (zip us vs)) us ≡ vs
   map-image = map-images us vs type.count (λ p i. i)
 
   -- the map fixes the constants of the rules
-  pub image-fixes : (rules : List Rule) → AreConstants rules cs → (i : ℕ) (r : Rule) → slice_get rules i ≡ Some r → FixesRule (image (pairs us vs)) (among (pairs us vs) cs) r
+  pub image-fixes : (rules : List Rule) → AreConstants rules cs → (i : ℕ) (r : Rule) → slice_get rules i ≡ Some r → FixesRule (image (zip us vs)) (among (zip us vs) cs) r
   image-fixes rules constants i r at c g =
       let stands = constants.all c (i, r, at, g) in
       (among-constant c stands, image-constant c stands)
 
 -- Each list of 64-bit values is the image of its type's representative.
 pub from_representative : (n : ℕ) (cs : List ℤ) (rs : List (List ℤ)) → AreTypes n cs rs → (vs : List ℤ) → length vs ≡ n → AreValues vs
-    → (r : List ℤ) × (f : ℤ → ℤ) × In r rs × KeepsOrder f (among (pairs r vs) cs) × ((c : ℤ) → In c cs → f c ≡ c) × (map f r ≡ vs)
+    → (r : List ℤ) × (f : ℤ → ℤ) × In r rs × KeepsOrder f (among (zip r vs) cs) × ((c : ℤ) → In c cs → f c ≡ c) × (map f r ≡ vs)
 from_representative n cs rs types vs count values =
     let w = types.complete vs count values in
-    (w.0, image (pairs w.0 vs), w.1, image-keeps cs w.0 vs w.2, image-constant cs w.0 vs w.2, map-image cs w.0 vs w.2)
+    (w.0, image (zip w.0 vs), w.1, image-keeps cs w.0 vs w.2, image-constant cs w.0 vs w.2, map-image cs w.0 vs w.2)

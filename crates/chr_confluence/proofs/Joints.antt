@@ -1,4 +1,5 @@
 -- Matched heads are equal under two valuations just where the joint valuation unifies the overlap's equations.
+use Rattle.std.specs.List.{zip}
 use Rattle.std.specs.Prelude.{◌≡◌, ℕ, zero, suc, ◌+◌, ◌-◌, ◌<◌, true, false, cond, nat_le, List, [], ◌∷◌, ◌++◌, map, length, Some, slice_get, get_or}
 use Rattle.std.specs.Option.{option_map}
 use Rattle.std.proofs.Common.{refl, sym, ap, subst, ◌∙◌, inl, inr, arith}
@@ -14,7 +15,7 @@ use Rattle.chr_types.specs.OrderTypes.{In}
 use Rattle.chr_confluence.specs.Matchings.{MatchedAreEqual}
 use Rattle.chr_confluence.specs.Cases.{both_heads}
 use Rattle.chr_confluence.specs.Unifiers.{Unifies}
-use Rattle.chr_confluence.specs.Overlaps.{SameSymbols, IsMatching, variables_of, renamed_apart, term_pairs, equations, equations_of}
+use Rattle.chr_confluence.specs.Overlaps.{SameSymbols, IsMatching, variables_of, renamed_apart, equations, equations_of}
 use Rattle.chr_types.proofs.Members.{in_first, in_second}
 use Rattle.chr_confluence.proofs.Numbered.{head_variable}
 use Rattle.chr_confluence.proofs.CaseMatchings.{found, both_heads_are}
@@ -53,13 +54,13 @@ heads_equal x y xs ys e = (ap (λ zs. get_or zs 0 x) e, ap (λ zs. rest zs) e)
     rest [] = []
     rest (z ∷ zs) = zs
 
-pairs_meet : (k : ℕ) (w v1 v2 : Valuation) (ts us : List Term) → LikeLeft w v1 ts → LikeRight k w v2 us → map (term_value v1) ts ≡ map (term_value v2) us → Unifies w (term_pairs ts (map (renamed_apart k) us))
+pairs_meet : (k : ℕ) (w v1 v2 : Valuation) (ts us : List Term) → LikeLeft w v1 ts → LikeRight k w v2 us → map (term_value v1) ts ≡ map (term_value v2) us → Unifies w (zip ts (map (renamed_apart k) us))
 pairs_meet k w v1 v2 [] us l r e = tt
 pairs_meet k w v1 v2 (t ∷ ts) [] l r e = tt
 pairs_meet k w v1 v2 (t ∷ ts) (u ∷ us) l r e = let h = heads_equal _ _ _ _ e in
     (l t (inl refl) ∙ h.0 ∙ sym (r u (inl refl)), pairs_meet k w v1 v2 ts us (λ s i. l s (inr i)) (λ s i. r s (inr i)) h.1)
 
-met_pairs : (k : ℕ) (w v1 v2 : Valuation) (ts us : List Term) → LikeLeft w v1 ts → LikeRight k w v2 us → length ts ≡ length us → Unifies w (term_pairs ts (map (renamed_apart k) us)) → map (term_value v1) ts ≡ map (term_value v2) us
+met_pairs : (k : ℕ) (w v1 v2 : Valuation) (ts us : List Term) → LikeLeft w v1 ts → LikeRight k w v2 us → length ts ≡ length us → Unifies w (zip ts (map (renamed_apart k) us)) → map (term_value v1) ts ≡ map (term_value v2) us
 met_pairs k w v1 v2 [] [] l r e m = refl
 met_pairs k w v1 v2 [] (u ∷ us) l r e m = absurd (omega (arith, e))
 met_pairs k w v1 v2 (t ∷ ts) [] l r e m = absurd (omega (arith, e))
@@ -85,7 +86,7 @@ module _ (k : ℕ) (w v1 v2 : Valuation) (qs : List Pattern) (right : LikeRight 
       let f = found v2 qs e (atom_at v1 p) h.0 in
       let q : get_or qs e no_pattern ≡ f.0 = get_or_from_slice_get qs e f.0 no_pattern f.1 in
       meets_both w _ _
-      (subst (λ x. Unifies w (term_pairs p.args.items (map (renamed_apart k) x.args.items))) (sym q)
+      (subst (λ x. Unifies w (zip p.args.items (map (renamed_apart k) x.args.items))) (sym q)
       (pairs_meet k w v1 v2 p.args.items f.0.args.items (λ t i. left t (in_first t p.args.items _ i)) (λ t i. right t (among qs e f.0 f.1 t i)) (ap (λ a. a.args.items) (sym f.2))))
       (agrees_meets m ps (λ t i. left t (in_second t p.args.items _ i)) h.1)
 
@@ -99,7 +100,7 @@ module _ (k : ℕ) (w v1 v2 : Valuation) (qs : List Pattern) (right : LikeRight 
       let q : get_or qs e no_pattern ≡ f.0 = get_or_from_slice_get qs e f.0 no_pattern f.1 in
       let args : map (term_value v2) f.0.args.items ≡ map (term_value v1) p.args.items =
       sym (met_pairs k w v1 v2 p.args.items f.0.args.items (λ t i. left t (in_first t p.args.items _ i)) (λ t i. right t (among qs e f.0 f.1 t i)) f.3
-      (subst (λ x. Unifies w (term_pairs p.args.items (map (renamed_apart k) x.args.items))) q (meets_left w _ _ h))) in
+      (subst (λ x. Unifies w (zip p.args.items (map (renamed_apart k) x.args.items))) q (meets_left w _ _ h))) in
       let symbol = sym f.2 in (
         slice_get-map (atom_at v2) qs e ∙ ap (option_map (atom_at v2)) f.1 ∙ (λ i. Some (record { symbol = record { 0 = symbol i }; args = record { items = args i } })),
         meets_agrees m ps (λ t i. left t (in_second t p.args.items _ i)) s.1 (meets_right w _ _ h),

@@ -1,6 +1,6 @@
 -- Every case of 64-bit values is made of a listed one, so it joins where that does.
 use Rattle.std.specs.Prelude.{◌≡◌, ℕ, suc, ℤ, pos, neg_ℤ, ◌+◌, ◌-◌, ◌^◌, ◌<◌, ◌≤◌, int_le, Bool, true, false, cond, List, [], ◌∷◌, ◌++◌, map, Some, slice_get}
-use Rattle.std.specs.List.{list_all}
+use Rattle.std.specs.List.{list_all, zip}
 use Rattle.std.proofs.Common.{refl, sym, ap, subst, ◌∙◌, inl, inr, arith}
 use Rattle.std.proofs.lemmas.Int.{ints}
 use Rattle.std.proofs.lemmas.Bool.{and_from, cases_lt, and_parts}
@@ -16,7 +16,7 @@ use Rattle.chr_base.proofs.Instances.{SameOn, same_guard, guard_known}
 use Rattle.std.proofs.lemmas.List.{length-map}
 use Rattle.chr_base.proofs.Steps.{removed_there}
 use Rattle.chr_base.specs.Rewriting.{AreJoinable}
-use Rattle.chr_types.specs.OrderTypes.{In, IsValue, AreValues, SameType, pairs}
+use Rattle.chr_types.specs.OrderTypes.{In, IsValue, AreValues, SameType}
 use Rattle.chr_base.specs.Values.{is_value, args_in, Each, HasValues}
 use Rattle.chr_confluence.specs.Matchings.{left_over, names}
 use Rattle.chr_confluence.specs.Cases.{IsCase, both_heads, case_store, side}
@@ -116,10 +116,10 @@ module _ (rules : List Rule) (i j : ℕ) (r1 r2 : Rule) (at1 : slice_get rules i
     (case : IsCase r1 r2 m v1 v2) (σ : Substitution) (solves : IsMostGeneralUnifier σ (equations_of r1 r2 m)) (cs : List ℤ) (constants : AreConstants rules cs) (zs : List ℤ)
     (type : SameType cs zs (map (joint (variables_of r1) v1 v2) (free_variables σ r1 r2))) where
   abbrev image_of : ℤ → ℤ
-  image_of = image (pairs zs (map (joint (variables_of r1) v1 v2) (free_variables σ r1 r2)))
+  image_of = image (zip zs (map (joint (variables_of r1) v1 v2) (free_variables σ r1 r2)))
 
   abbrev values : ℤ → Bool
-  values = among (pairs zs (map (joint (variables_of r1) v1 v2) (free_variables σ r1 r2))) cs
+  values = among (zip zs (map (joint (variables_of r1) v1 v2) (free_variables σ r1 r2))) cs
 
   on : IsInstanceOf σ (joint (variables_of r1) v1 v2)
   on = solves.meets (joint (variables_of r1) v1 v2) (joint_meets r1 r2 m v1 v2 case.matches.agrees)

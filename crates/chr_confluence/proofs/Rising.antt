@@ -19,6 +19,7 @@ use Rattle.chr_base.specs.RuleTests.{is_variable, occurs, is_bound_in, terms_of}
 use Rattle.chr_base.proofs.Instances.{guard_known, body_known}
 use Rattle.chr_base.specs.Rules.{StepBy, Valuation, term_value, atoms_at, compares, guard_holds, heads_at, heads_of}
 use Rattle.chr_base.proofs.Steps.{removed_there}
+use Rattle.chr_base.proofs.Terms.{terms_of-append}
 use Rattle.chr_base.proofs.FinBags as bag_laws
 use Rattle.chr_base.specs.FinBag.{◌⊕◌, ◌⊖◌, IsWithin, total, items, sum_over}
 use Rattle.chr_base.specs.Values.{Each, args_in}
@@ -61,14 +62,6 @@ rename_minus f r s h = same_store _ _ (λ q.
     omega (arith, e, d, c)))
 
 -- ---- rules
-
-pub terms_of-append : (ps qs : List Pattern) → terms_of (ps ++ qs) ≡ terms_of ps ++ terms_of qs
-terms_of-append [] qs = refl
-terms_of-append (p ∷ ps) qs = ap (λ ts. p.args.items ++ ts) (terms_of-append ps qs) ∙ sym (append_assoc p.args.items (terms_of ps) (terms_of qs))
-  where
-    append_assoc : (xs ys zs : List Term) → (xs ++ ys) ++ zs ≡ xs ++ (ys ++ zs)
-    append_assoc [] ys zs = refl
-    append_assoc (x ∷ xs) ys zs = ap (λ ts. x ∷ ts) (append_assoc xs ys zs)
 
 module _ (f : ℤ → ℤ) (d : ℤ → Bool) where
   abbrev FixesTerm : Term → Type 0

@@ -29,8 +29,8 @@ case_store r1 r2 m v1 v2 = store_of (case_atoms (both_heads r1 v1) (both_heads r
 abbrev pub side : Rule → Valuation → Store → Store
 side r v s = (s ⊖ store_of (atoms_at v r.removed.items)) ⊕ store_of (atoms_at v r.body.items)
 
--- The sides of every case whose atoms pass the test p are joinable. Each rule is overlapped with those from itself on, so
--- with a copy of itself too.
+-- The sides of every case whose atoms pass the test p are joinable. Each rule is overlapped with those from itself on,
+-- so with a copy of itself too.
 abbrev pub CasesAreJoinable : (Atom → Bool) → List Rule → Type 0
 CasesAreJoinable p rules =
     (i j : ℕ) (r1 r2 : Rule) → slice_get rules i ≡ Some r1 → slice_get rules j ≡ Some r2 → i ≤ j

@@ -39,8 +39,8 @@ ListedAreJoinable rules =
     (i j : ℕ) (r1 r2 : Rule) → slice_get rules i ≡ Some r1 → slice_get rules j ≡ Some r2 → i ≤ j
     → (m : List ℕ) → IsMatching r1 r2 m → OverlapIsJoinable rules r1 r2 m
 
--- the case at v1 and v2 is made of the listed one at zs, by a map that keeps the order of its values and fixes the rules'
--- constants
+-- the case at v1 and v2 is made of the listed one at zs, by a map that keeps the order of its values and fixes the
+-- rules' constants
 pub record IsImageOfListed (rules : List Rule) (r1 r2 : Rule) (m : List ℕ) (σ : Substitution) (rs : List (List ℤ))
     (v1 v2 : Valuation) : Type 0 where
   pub zs : List ℤ

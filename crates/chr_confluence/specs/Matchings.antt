@@ -4,8 +4,8 @@ use Rattle.std.specs.List.{list_any}
 use Rattle.chr_base.specs.declared.atom.Atom.{Atom}
 use Rattle.std.specs.Prelude.{if◌then◌else◌, ⊤}
 
--- A matching is a list with an entry for each place of the first heads: 0, or the place of the second that it is matched
--- with, counted from 1. This one names the place.
+-- A matching is a list with an entry for each place of the first heads: 0, or the place of the second that it is
+-- matched with, counted from 1. This one names the place.
 abbrev pub names : List ℕ → ℕ → Bool
 names m p = list_any (nat_eq p) m
 

@@ -1,4 +1,5 @@
 -- Overlaps of two rules of a program, and the equations that matched heads make.
+use Rattle.std.specs.List.{zip}
 use Rattle.std.specs.Prelude.{◌≡◌, ℕ, zero, suc, ◌+◌, ◌≤◌, true, List, [], ◌∷◌, ◌++◌, map, length, Some, slice_get, get_or}
 use Rattle.std.specs.Option.{unwrap_or}
 use Rattle.chr_base.specs.declared.term.Term.{Term}
@@ -17,7 +18,8 @@ SameSymbols qs [] (p ∷ ps) = ⊥
 SameSymbols qs (e ∷ m) [] = ⊥
 SameSymbols qs (zero ∷ m) (p ∷ ps) = SameSymbols qs m ps
 SameSymbols qs (suc k ∷ m) (p ∷ ps) =
-    ((q : Pattern) × (slice_get qs k ≡ Some q) × (p.symbol.0 ≡ q.symbol.0) × (length p.args.items ≡ length q.args.items))
+    ((q : Pattern) × (slice_get qs k ≡ Some q)
+    × (p.symbol.0 ≡ q.symbol.0) × (length p.args.items ≡ length q.args.items))
     × SameSymbols qs m ps
 
 -- a matching of the heads of two rules, of which a matched one is removed in its rule
@@ -44,19 +46,13 @@ abbrev pub renamed_apart : ℕ → Term → Term
 renamed_apart k (Variable x) = Variable (k + x)
 renamed_apart k (Constant c) = Constant c
 
--- an equation for each place of both lists
-abbrev pub term_pairs : List Term → List Term → List (Term × Term)
-term_pairs (t ∷ ts) (u ∷ us) = (t, u) ∷ term_pairs ts us
-term_pairs [] us = []
-term_pairs (t ∷ ts) [] = []
-
 -- argument by argument, for each matched place
 abbrev pub equations : ℕ → List Pattern → List ℕ → List Pattern → List (Term × Term)
 equations k qs [] ps = []
 equations k qs (e ∷ m) [] = []
 equations k qs (zero ∷ m) (p ∷ ps) = equations k qs m ps
 equations k qs (suc e ∷ m) (p ∷ ps) =
-    term_pairs p.args.items (map (renamed_apart k) (get_or qs e no_pattern).args.items) ++ equations k qs m ps
+    zip p.args.items (map (renamed_apart k) (get_or qs e no_pattern).args.items) ++ equations k qs m ps
 
 -- what makes the matched heads of the two rules equal
 abbrev pub equations_of : Rule → Rule → List ℕ → List (Term × Term)

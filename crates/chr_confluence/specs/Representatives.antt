@@ -1,4 +1,5 @@
--- The representatives of an overlap: values of the variables that unification leaves free, and the valuations that these make.
+-- The representatives of an overlap: values of the variables that unification leaves free, and the valuations that
+-- these make.
 use Rattle.std.specs.Prelude.{ℕ, ℤ, pos, ◌+◌, Bool, ◌&&◌, nat_eq, List, [], ◌∷◌, length}
 use Rattle.std.specs.List.{filter, range_with_len}
 use Rattle.chr_base.specs.declared.rule.Rule.{Rule}
@@ -10,7 +11,8 @@ use Rattle.chr_confluence.specs.Overlaps.{variables_of}
 use Rattle.chr_confluence.specs.Constants.{AreConstants}
 use Rattle.std.specs.Prelude.{if◌then◌else◌}
 
--- the variables of both rules that the substitution leaves free, in the order of first occurrence, by which they are numbered
+-- the variables of both rules that the substitution leaves free, in the order of first occurrence, by which they are
+-- numbered
 abbrev pub free_variables : Substitution → Rule → Rule → List ℕ
 free_variables σ r1 r2 = filter (λ x. is_variable x (σ x)) (range_with_len 1 (variables_of r1 + variables_of r2))
 

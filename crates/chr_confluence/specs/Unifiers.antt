@@ -18,8 +18,8 @@ Unifies v (e ∷ es) = (term_value v e.0 ≡ term_value v e.1) × Unifies v es
 abbrev pub IsInstanceOf : Substitution → Valuation → Type 0
 IsInstanceOf σ v = (x : ℕ) → v x ≡ term_value v (σ x)
 
--- A substitution that names classes of variables: a variable that stands for a class stands for itself, and is the first
--- of its class.
+-- A substitution that names classes of variables: a variable that stands for a class stands for itself, and is the
+-- first of its class.
 pub record AreClasses (σ : Substitution) : Type 0 where
   pub own : (y x : ℕ) → σ y ≡ Variable x → σ x ≡ Variable x
   pub first : (y x : ℕ) → σ y ≡ Variable x → x ≤ y

@@ -1,4 +1,5 @@
-//! The laws of steps and of confluence. Each is a function that takes nothing and computes nothing: its contract is the law.
+//! The laws of steps and of confluence. Each is a function that takes nothing and computes nothing: its contract is
+//! the law.
 ghost use Rattle.chr_confluence.specs.laws.Grow.{InstancesGrow, StepsGrow, ReachingGrows};
 ghost use Rattle.chr_confluence.specs.laws.Rising.{StepsRise, ValuesStay, TypesRise};
 ghost use Rattle.chr_confluence.specs.laws.Peaks.{PeaksCommuteOrOverlap, CasesAreMatched, LeftSideIsStep, RightSideIsStep};
@@ -24,9 +25,9 @@ pub fn rising()
     ensures types { TypesRise }
 {}
 
-/// Peaks. Of two steps from one store either each is still possible after the other, with one end for both ways, or the
-/// store holds a case of their instances: heads of both, matched so that a removed one is among the matched, as overlaps
-/// are (after the critical pairs of Abdennadher, Frühwirth and Meuss 1999).
+/// Peaks. Of two steps from one store either each is still possible after the other, with one end for both ways, or
+/// the store holds a case of their instances: heads of both, matched so that a removed one is among the matched, as
+/// overlaps are (after the critical pairs of Abdennadher, Frühwirth and Meuss 1999).
 pub fn peak()
     ensures peaks { PeaksCommuteOrOverlap }
     ensures matched { CasesAreMatched }
@@ -34,16 +35,16 @@ pub fn peak()
     ensures right { RightSideIsStep }
 {}
 
-/// Newman's lemma, for rules that lower a weight, and for the stores that pass a test which steps keep: where the ends of
-/// any two steps from one such store are joinable, any two normal forms of one such store are equal (Newman 1942).
+/// Newman's lemma, for rules that lower a weight, and for the stores that pass a test which steps keep: where the ends
+/// of any two steps from one such store are joinable, any two normal forms of one such store are equal (Newman 1942).
 pub fn newman()
     ensures rests { NormalFormsExist }
     ensures confluent { LocalConfluenceSuffices }
 {}
 
-/// Confluence by cases: steps keep 64-bit values, and rules that lower a weight are confluent where the sides of each of
-/// their cases are joinable (after Abdennadher, Frühwirth and Meuss 1999). Two normal forms that differ, behind two steps from one store or
-/// behind the two sides of a case, show that they are not.
+/// Confluence by cases: steps keep 64-bit values, and rules that lower a weight are confluent where the sides of each
+/// of their cases are joinable (after Abdennadher, Frühwirth and Meuss 1999). Two normal forms that differ, behind two
+/// steps from one store or behind the two sides of a case, show that they are not.
 pub fn confluence()
     ensures stay { StepsKeepValues }
     ensures local { LocallyConfluentAreConfluent }
@@ -53,9 +54,9 @@ pub fn confluence()
     ensures failing { FailingCaseRefutes }
 {}
 
-/// Confluence in the usual sense. For rules that lower a weight each store of 64-bit values has one normal form just where
-/// any two stores that one such store reaches are joinable (as Abdennadher, Frühwirth and Meuss 1999 and Frühwirth 2009
-/// say it).
+/// Confluence in the usual sense. For rules that lower a weight each store of 64-bit values has one normal form just
+/// where any two stores that one such store reaches are joinable (as Abdennadher, Frühwirth and Meuss 1999 and
+/// Frühwirth 2009 say it).
 pub fn joinability()
     ensures joinable { ConfluentAreJoinable }
     ensures confluent { JoinableAreConfluent }

@@ -2,9 +2,9 @@
 ghost use Rattle.chr_confluence.specs.laws.Unification.{UnifiersExist, OneUnifier, TermsStand};
 ghost use Rattle.chr_confluence.specs.laws.ListedCases.{ListedSuffice, EveryCaseIsListed, ListedAreCases, ListedHaveValues, ListedMakeConfluent, FailingListedRefutes};
 
-/// Unification. Equations have a most general unifier, or no unifier. They determine it: each variable goes to the constant
-/// of its class, or else to the first variable of its class. And each term that stands for another variable stands in the
-/// equations.
+/// Unification. Equations have a most general unifier, or no unifier. They determine it: each variable goes to the
+/// constant of its class, or else to the first variable of its class. And each term that stands for another variable
+/// stands in the equations.
 pub fn classes()
     ensures exist { UnifiersExist }
     ensures one { OneUnifier }

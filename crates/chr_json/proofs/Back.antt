@@ -6,11 +6,12 @@ use Rattle.std.proofs.lemmas.List.{length-map}
 use Rattle.std.proofs.lemmas.Bool.Decides.{nat_tests}
 use Rattle.serde_json.specs.Data.{Data, string, array}
 use Rattle.serde_json.specs.View.{items_of}
-use Rattle.chr_json.specs.declared.limits.TheConstants.{MAX_OPERATION}
-use Rattle.chr_json.specs.Values.{each, integer_of, origin_of}
+use Rattle.chr_base.specs.declared.limits.TheConstants.{MAX_OPERATION}
+use Rattle.chr_base.specs.Traversals.{each}
+use Rattle.chr_json.specs.Values.{integer_of, origin_of}
 use Rattle.chr_json.specs.Commands.{NamedAtom, show, tell, named_atom_from, named_atom_of, named_atoms_from, named_atoms_of, id_of}
 use Rattle.chr_json.specs.Printed.{natural_data, argument_data, atom_data, atoms_data, ArgumentsFit, CommandsAreRead}
-use Rattle.chr_json.proofs.Each.{listed-items_of}
+use Rattle.chr_json.proofs.Arrays.{listed-items_of}
 
 integer_back : (z : ℤ) → FitsSigned w64 z → integer_of (argument_data z) ≡ Some z
 integer_back (pos n) h = grind (arith, nat_tests)

@@ -1,4 +1,4 @@
-pub mod Each
+pub mod Arrays
 pub mod Laws
 pub mod Back
 pub mod Ranges

@@ -14,8 +14,9 @@ use Rattle.serde_json.specs.Find.{as_array, as_str, as_i64}
 use Rattle.serde_json.specs.Read.{is_integer, float_of, number_from, number_of, of_json, of_items, of_members, max_depth, read}
 use Rattle.chr_json.specs.declared.fault.LineFault.{LineFault}
 use Rattle.chr_json.specs.declared.fault.LineFault.TheVariants as fault
-use Rattle.chr_json.specs.declared.limits.TheConstants.{MAX_OPERATION}
-use Rattle.chr_json.specs.Values.{json_in, listed, elements, each, natural_of, integer_of, is_string}
+use Rattle.chr_base.specs.declared.limits.TheConstants.{MAX_OPERATION}
+use Rattle.chr_base.specs.Traversals.{each}
+use Rattle.chr_json.specs.Values.{json_in, listed, elements, natural_of, integer_of, is_string}
 use Rattle.chr_json.specs.Commands.{Said, show, tell, named_atom_from, named_atom_of, named_atoms_from, named_atoms_of, id_of, show_of, tell_of, command_from, command_of}
 use Rattle.chr_json.specs.Printed.{ArgumentsFit}
 use Rattle.chr_json.specs.Lines.{has_line_length}

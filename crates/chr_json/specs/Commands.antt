@@ -2,8 +2,9 @@
 use Rattle.std.specs.Prelude.{ℕ, ℤ, List, [], ◌∷◌, length, ◌≤◌, nat_le, ◌&&◌, if◌then◌else◌, Option, None, option_map, option_and_then, codes}
 use Rattle.serde_json.specs.Data.{Data}
 use Rattle.serde_json.specs.Find.{as_str}
-use Rattle.chr_json.specs.declared.limits.TheConstants.{MAX_OPERATION}
-use Rattle.chr_json.specs.Values.{elements, each, natural_of, integer_of, origin_of, is_string}
+use Rattle.chr_base.specs.declared.limits.TheConstants.{MAX_OPERATION}
+use Rattle.chr_base.specs.Traversals.{each}
+use Rattle.chr_json.specs.Values.{elements, natural_of, integer_of, origin_of, is_string}
 
 -- an atom: a name and its arguments
 pub record NamedAtom : Type 0 where
@@ -53,7 +54,8 @@ show_of r = option_map show (natural_of r)
 
 abbrev pub tell_of : Data → Data → Data → Option Said
 tell_of r id atoms =
-    option_and_then (λ replica. option_and_then (λ p. option_map (tell replica p.0 p.1) (named_atoms_of atoms)) (id_of id))
+    option_and_then
+    (λ replica. option_and_then (λ p. option_map (tell replica p.0 p.1) (named_atoms_of atoms)) (id_of id))
     (natural_of r)
 
 -- an array of a command's word and what it takes

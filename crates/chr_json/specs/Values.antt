@@ -18,11 +18,6 @@ listed (item d ds) = d ∷ listed ds
 abbrev pub elements : Data → Option (List Data)
 elements d = option_map listed (as_array d)
 
--- what f reads in each, where it reads each
-abbrev pub each : {A B : Type 0} → (A → Option B) → List A → Option (List B)
-each f [] = Some []
-each f (x ∷ xs) = option_and_then (λ y. option_map (λ ys. y ∷ ys) (each f xs)) (f x)
-
 -- a whole number of 64 bits without a sign
 abbrev pub natural_of : Data → Option ℕ
 natural_of d = option_and_then as_u64 (as_number d)

@@ -2,14 +2,15 @@
 
 ghost use Rattle.std.specs.Prelude.{◌≡◌, IfOk, length, map, vec_len};
 ghost use Rattle.serde_json.specs.View.{view as data_of};
-ghost use Rattle.chr_json.specs.Values.{each, integer_of};
+ghost use Rattle.chr_base.specs.Traversals.{each};
+ghost use Rattle.chr_json.specs.Values.{integer_of};
 ghost use Rattle.chr_json.specs.Commands.{IsOperationLength, named_atom_of, named_atoms_of};
 ghost use Rattle.chr_json.specs.Reads.{raw_atom_view};
 ghost use Rattle.chr_json.specs.working.Parts.{GivesPart};
 
 use crate::fault::LineFault;
-use crate::limits::MAX_OPERATION;
 use crate::value::elements;
+use chr_base::limits::MAX_OPERATION;
 use serde_json::Value;
 use std::alloc::Global;
 

@@ -12,7 +12,8 @@ mod line;
 mod value;
 
 pub use atom::RawAtom;
+pub use chr_base::limits::MAX_OPERATION;
 pub use command::{Command, commands_are_read};
 pub use fault::LineFault;
-pub use limits::{MAX_LINE, MAX_OPERATION, MAX_ORIGIN};
+pub use limits::{MAX_LINE, MAX_ORIGIN};
 pub use line::{is_blank, read_line};

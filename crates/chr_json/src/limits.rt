@@ -3,8 +3,5 @@
 /// The most bytes that a line has, without its end.
 pub const MAX_LINE: usize = 1_048_576;
 
-/// The most atoms of an operation.
-pub const MAX_OPERATION: usize = 64;
-
 /// The greatest origin of an operation.
 pub const MAX_ORIGIN: u64 = 0xffff_ffff;

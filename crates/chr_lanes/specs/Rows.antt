@@ -41,6 +41,7 @@ pub record NamesColumns (n : ℕ) (t : Test) : Type 0 where
   pub column : t.column < n
   pub against : IsThere n t.against
 
--- Each value is one of 64 bits. The values of code are: of the elements of a slice the prover doesn't know it by itself.
+-- Each value is one of 64 bits. The values of code are: of the elements of a slice the prover doesn't know it by
+-- itself.
 abbrev pub HaveValues : List (List ℤ) → Type 0
 HaveValues columns = (column row : ℕ) → is_value (value_at columns row column) ≡ true

@@ -57,7 +57,8 @@ fn all_hold(columns: &[&[i64]], tests: &[Test], row: usize) -> bool
 fn may_hold(columns: &[&[i64]], test: &Test, at: usize) -> bool
     requires columns { All (λ c. at + LANES ≤ length c.now) columns.now }
     requires test { NamesColumns (length columns.now) test.now }
-    ensures { result ≡ false → HaveValues (columns_of columns.now) → FailsFrom (columns_of columns.now) test.now at (at + LANES) }
+    ensures { result ≡ false → HaveValues (columns_of columns.now)
+        → FailsFrom (columns_of columns.now) test.now at (at + LANES) }
 {
     let left = block_of(columns[test.column], at);
     match test.against {
@@ -70,7 +71,8 @@ fn may_hold(columns: &[&[i64]], test: &Test, at: usize) -> bool
 fn may_pass(columns: &[&[i64]], tests: &[Test], at: usize) -> bool
     requires columns { All (λ c. at + LANES ≤ length c.now) columns.now }
     requires tests { All (NamesColumns (length columns.now)) tests.now }
-    ensures { result ≡ false → HaveValues (columns_of columns.now) → NonePasses (columns_of columns.now) tests.now at (at + LANES) }
+    ensures { result ≡ false → HaveValues (columns_of columns.now)
+        → NonePasses (columns_of columns.now) tests.now at (at + LANES) }
 {
     for test in tests {
         if !may_hold(columns, test, at) {
@@ -100,7 +102,8 @@ fn first_among(columns: &[&[i64]], tests: &[Test], from: usize, to: usize) -> Op
 }
 
 /// The least row from `from` on at which every test holds; None where there is none. All columns have `rows` values
-/// each. It takes no memory. Where no value of a block of eight rows passes some test, the block is passed over as a whole.
+/// each. It takes no memory. Where no value of a block of eight rows passes some test, the block is passed over as a
+/// whole.
 pub fn first_row(rows: usize, columns: &[&[i64]], tests: &[Test], from: usize) -> Option<usize>
     requires columns { All (λ c. length c.now ≡ rows) columns.now }
     requires tests { All (NamesColumns (length columns.now)) tests.now }
@@ -109,8 +112,10 @@ pub fn first_row(rows: usize, columns: &[&[i64]], tests: &[Test], from: usize) -
     ensures from_on { IfSome result (λ row. from ≤ row) }
     ensures within { IfSome result (λ row. row < rows) }
     ensures passes { IfSome result (λ row. IsTrue (all_hold (columns_of columns.now) tests.now row)) }
-    ensures least { HaveValues (columns_of columns.now) → IfSome result (NonePasses (columns_of columns.now) tests.now from) }
-    ensures none { HaveValues (columns_of columns.now) → IfNone result (NonePasses (columns_of columns.now) tests.now from rows) }
+    ensures least { HaveValues (columns_of columns.now)
+        → IfSome result (NonePasses (columns_of columns.now) tests.now from) }
+    ensures none { HaveValues (columns_of columns.now)
+        → IfNone result (NonePasses (columns_of columns.now) tests.now from rows) }
 {
     let mut at = from;
     while rows - at >= LANES {

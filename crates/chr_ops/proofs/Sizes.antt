@@ -1,20 +1,12 @@
 -- The number of atoms of a sum.
-use Rattle.std.specs.Prelude.{◌≡◌, ◌+◌, List, [], ◌∷◌, length}
-use Rattle.std.proofs.Common.{refl, sym, ◌∙◌, arith}
-use Rattle.chr_base.specs.declared.atom.Atom.{Atom}
+use Rattle.std.specs.Prelude.{◌≡◌, ◌+◌}
+use Rattle.std.proofs.Common.{◌∙◌, arith}
 use Rattle.chr_base.specs.Atoms.{atom_cmp}
 use Rattle.chr_base.specs.FinBag as bag
 use Rattle.chr_base.proofs.FinBags as bag_laws
-use Rattle.chr_base.specs.FinBag.{◌⊕◌, total}
-use Rattle.chr_base.specs.Stores.{Store, size, weight_of}
-use Rattle.chr_base.proofs.Stores.{weight_plus}
-
-length_total : (xs : List Atom) → length xs ≡ total (λ _. 1) xs
-length_total [] = refl
-length_total (x ∷ xs) = let h = length_total xs in omega (arith, h)
-
-size_weight : (s : Store) → size s ≡ weight_of (λ _. 1) s
-size_weight s = length_total (bag.items s) ∙ sym (bag_laws.sum_over-items (λ _. 1) s)
+use Rattle.chr_base.specs.FinBag.{◌⊕◌}
+use Rattle.chr_base.specs.Stores.{Store, size}
+use Rattle.chr_base.proofs.Stores.{weight_plus, size_weight}
 
 pub size_plus : (s t : Store) → size (s ⊕ t) ≡ size s + size t
 size_plus s t =

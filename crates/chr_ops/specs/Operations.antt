@@ -7,7 +7,7 @@ use Rattle.chr_base.specs.FinBag.{◌⊕◌}
 use Rattle.chr_base.specs.Stores.{Store, size}
 use Rattle.chr_base.specs.Values.{HasValues}
 use Rattle.chr_ops.specs.declared.id.OpId.{OpId}
-use Rattle.chr_ops.specs.declared.limits.TheConstants.{MAX_OPERATION}
+use Rattle.chr_base.specs.declared.limits.TheConstants.{MAX_OPERATION}
 use Rattle.chr_ops.specs.Ids.{id_cmp}
 
 -- an id with a bag of atoms

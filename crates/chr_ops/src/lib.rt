@@ -15,10 +15,11 @@ mod op_set;
 mod range;
 mod summary;
 
+pub use chr_base::limits::MAX_OPERATION;
 pub use exchange::exchange_laws;
 pub use fault::{AddFault, Added};
 pub use id::OpId;
-pub use limits::{MAX_OPERATION, MAX_TOLD};
+pub use limits::MAX_TOLD;
 pub use op::Op;
 pub use op_set::OpSet;
 pub use range::IdRange;

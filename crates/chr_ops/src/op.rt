@@ -4,8 +4,8 @@ ghost use Rattle.chr_ops.specs.Operations.{HasOperationSize, IsOperationBag};
 ghost use Rattle.chr_base.specs.Values.{HasValues};
 
 use crate::id::OpId;
-use crate::limits::MAX_OPERATION;
 use chr_base::bag::Bag;
+use chr_base::limits::MAX_OPERATION;
 use std::alloc::{AllocError, Global};
 use std::marker::Model;
 

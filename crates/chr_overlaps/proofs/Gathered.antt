@@ -12,7 +12,7 @@ use Rattle.chr_base.specs.RuleTests.{terms_of}
 use Rattle.chr_types.specs.OrderTypes.{In, Rises, IsValue}
 use Rattle.chr_types.proofs.Members.{in_first, in_second, in_either}
 use Rattle.chr_confluence.specs.Constants.{AreConstants, guard_terms, rule_terms}
-use Rattle.chr_confluence.proofs.Rising.{terms_of-append}
+use Rattle.chr_base.proofs.Terms.{terms_of-append}
 use Rattle.chr_overlaps.specs.working.Gathering.{AreConstantsIn, Gathers, all_terms}
 
 pub in_at : {A : Type 0} (zs : List A) (i : ℕ) (d : A) → i < length zs → In (get_or zs i d) zs

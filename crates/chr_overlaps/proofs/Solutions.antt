@@ -1,4 +1,5 @@
 -- Equations solved place by place.
+use Rattle.std.specs.List.{zip}
 use Rattle.std.specs.Prelude.{◌≡◌, ℕ, zero, suc, ◌+◌, ◌-◌, ◌<◌, List, [], ◌∷◌, ◌++◌, length, get_or, drop, map, Option, Some, None}
 use Rattle.std.specs.Option.{option_and_then}
 use Rattle.std.proofs.Common.{refl, sym, ap, subst, ◌∙◌, arith}
@@ -7,7 +8,7 @@ use Rattle.chr_base.specs.declared.term.Term.{Term}
 use Rattle.chr_base.specs.declared.term.Pattern.{Pattern}
 use Rattle.chr_base.specs.Rules.{no_pattern}
 use Rattle.chr_confluence.specs.Unifiers.{Substitution, IsMostGeneralUnifier, HasNoUnifier}
-use Rattle.chr_confluence.specs.Overlaps.{SameSymbols, renamed_apart, term_pairs, equations}
+use Rattle.chr_confluence.specs.Overlaps.{SameSymbols, renamed_apart, equations}
 use Rattle.chr_confluence.specs.working.Solving.{identity_substitution, class_of, unify_terms, solve, Solved}
 use Rattle.chr_confluence.proofs.Solving.{solved}
 
@@ -26,7 +27,7 @@ rest_of k qs m ps i = equations k qs (drop i m) (drop i ps)
 
 -- those of one matched place
 abbrev pub pairs_at : ℕ → List Pattern → List ℕ → List Pattern → ℕ → List (Term × Term)
-pairs_at k qs m ps i = term_pairs (get_or ps i no_pattern).args.items (map (renamed_apart k) (get_or qs (get_or m i 0 - 1) no_pattern).args.items)
+pairs_at k qs m ps i = zip (get_or ps i no_pattern).args.items (map (renamed_apart k) (get_or qs (get_or m i 0 - 1) no_pattern).args.items)
 
 -- each matched place is there in both lists
 pub places_there : (qs : List Pattern) (m : List ℕ) (ps : List Pattern) (i : ℕ) → SameSymbols qs m ps → i < length m → (i < length ps) × (0 < get_or m i 0 → get_or m i 0 - 1 < length qs)
@@ -54,7 +55,7 @@ rest_matched k qs (d ∷ m) [] i l h e = absurd (omega (arith, h))
 rest_matched k qs (zero ∷ m) (p ∷ ps) zero l h e = absurd (omega (arith, e))
 rest_matched k qs (suc d ∷ m) (p ∷ ps) zero l h e =
     let z : d ≡ suc d - 1 = omega arith in
-    ap (λ x. term_pairs p.args.items (map (renamed_apart k) (get_or qs x no_pattern).args.items) ++ equations k qs m ps) z
+    ap (λ x. zip p.args.items (map (renamed_apart k) (get_or qs x no_pattern).args.items) ++ equations k qs m ps) z
 rest_matched k qs (d ∷ m) (p ∷ ps) (suc i) l h e =
     let z : suc (i + 1) ≡ suc i + 1 = omega arith in
     subst (λ j. rest_of k qs m ps i ≡ pairs_at k qs m ps i ++ rest_of k qs (d ∷ m) (p ∷ ps) j) z (rest_matched k qs m ps i (omega (arith, l)) (omega (arith, h)) e)

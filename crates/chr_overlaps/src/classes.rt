@@ -1,8 +1,8 @@
 //! The classes into which equations join variables.
 ghost use Rattle.std.specs.Prelude.{◌≡◌, if◌then◌else◌, ◌+◌, ◌-◌, ◌^◌, ◌<◌, ◌≤◌, ℕ, Some, None, length, map, true};
-ghost use Rattle.std.specs.List.{filter, range_with_len};
+ghost use Rattle.std.specs.List.{filter, range_with_len, zip};
 ghost use Rattle.chr_base.specs.RuleTests.{is_variable};
-ghost use Rattle.chr_confluence.specs.Overlaps.{renamed_apart, term_pairs};
+ghost use Rattle.chr_confluence.specs.Overlaps.{renamed_apart};
 ghost use Rattle.chr_confluence.specs.working.Solving.{identity_substitution, class_of, put_term, put_everywhere, unify_terms, solve};
 ghost use Rattle.chr_overlaps.specs.declared.classes.TheConstants.{MAX_JOINT_VARIABLES, TABLE_LEN};
 ghost use Rattle.chr_overlaps.specs.working.Tables.{class_in, is_below, are_below, class_pattern};
@@ -111,7 +111,7 @@ impl Classes {
         requires left { are_below (length self.old.terms.items) left.now ≡ true }
         requires right { are_below (length self.old.terms.items) (map (renamed_apart shift) right.now) ≡ true }
         ensures classes { (if result then Some (class_in self.new.terms.items) else None) ≡
-            solve (class_in self.old.terms.items) (term_pairs left.now (map (renamed_apart shift) right.now)) }
+            solve (class_in self.old.terms.items) (zip left.now (map (renamed_apart shift) right.now)) }
         ensures len { length self.new.terms.items ≡ length self.old.terms.items }
     {
         let [one, left @ ..] = left else {

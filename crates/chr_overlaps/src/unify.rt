@@ -1,8 +1,9 @@
 //! The heads of two rules, made one at matched places.
+ghost use Rattle.std.specs.List.{zip};
 ghost use Rattle.std.specs.Prelude.{◌≡◌, if◌then◌else◌, ◌+◌, ◌-◌, ◌<◌, IfNone, IfSome, Some, None, get_or, length, map};
 ghost use Rattle.chr_base.specs.Rules.{heads_of, no_pattern};
 ghost use Rattle.chr_confluence.specs.Unifiers.{IsMostGeneralUnifier, HasNoUnifier};
-ghost use Rattle.chr_confluence.specs.Overlaps.{SameSymbols, variables_of, renamed_apart, term_pairs, equations, equations_of};
+ghost use Rattle.chr_confluence.specs.Overlaps.{SameSymbols, variables_of, renamed_apart, equations, equations_of};
 ghost use Rattle.chr_confluence.specs.working.Solving.{solve};
 ghost use Rattle.chr_overlaps.specs.working.Tables.{class_in, class_pattern};
 ghost use Rattle.chr_overlaps.specs.working.Unifiers.{classes_of, IsUnified};
@@ -40,7 +41,7 @@ fn join_at(
     requires matched { matched < length (heads_of second.now) }
     ensures classes { (if result then Some (class_in classes.new.terms.items) else None) ≡
         solve (class_in classes.old.terms.items)
-        (term_pairs (get_or (heads_of first.now) place no_pattern).args.items
+        (zip (get_or (heads_of first.now) place no_pattern).args.items
         (map (renamed_apart shift) (get_or (heads_of second.now) matched no_pattern).args.items)) }
     ensures len { length classes.new.terms.items ≡ length classes.old.terms.items }
 {
@@ -90,7 +91,8 @@ fn class_heads(classes: &Classes, rule: &Rule, shift: u8) -> ArrayVec<Pattern, M
 pub(crate) fn unify(first: &Rule, second: &Rule, matching: &[u8]) -> Option<Unified>
     requires { SameSymbols (heads_of second.now) matching.now (heads_of first.now) }
     ensures none { IfNone result (HasNoUnifier (equations_of first.now second.now matching.now)) }
-    ensures solves { IfSome result (λ u. IsMostGeneralUnifier (classes_of u) (equations_of first.now second.now matching.now)) }
+    ensures solves { IfSome result (λ u.
+        IsMostGeneralUnifier (classes_of u) (equations_of first.now second.now matching.now)) }
     ensures unified { IfSome result (λ u. IsUnified first.now second.now u) }
 {
     let shift = variables(first);

@@ -12,7 +12,7 @@ use Rattle.chr_base.specs.Rules.{Step}
 use Rattle.chr_base.specs.Rewriting.{IsNormalForm}
 use Rattle.chr_base.specs.ProgramTests.{Declaration}
 use Rattle.chr_base.specs.Texts.{store_text}
-use Rattle.chr_weights.specs.Weights.{weight_by}
+use Rattle.chr_weights.proofs.Ranks.{lowers_rank_by, rank_by}
 use Rattle.chr_confluence.specs.laws.Newman.{NormalFormsExist}
 use Rattle.chr_ops.specs.Operations.{Operation, Operations, told_store}
 use Rattle.chr_ops.specs.declared.limits.TheConstants.{MAX_TOLD}
@@ -129,4 +129,4 @@ module _ (ds : List Declaration) (rules : List Rule) (rests : (s : Store) → (t
           (a.0 ++ 10 ∷ rest.0, record { text = a.0; new = a.1; rest = rest.0; answers = a.2; more = rest.1; out_is = refl })
 
 pub answers_exist : NormalFormsExist → AnswersExist
-answers_exist rests ds rules lowers lines old = lines_answered ds rules (rests rules (weight_by ds) lowers) lines old
+answers_exist rests ds rules lowers lines old = lines_answered ds rules (rests rules (rank_by ds) (lowers_rank_by ds rules lowers)) lines old

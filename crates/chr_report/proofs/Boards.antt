@@ -7,7 +7,7 @@ use Rattle.chr_base.specs.Texts.{store_text}
 use Rattle.chr_ops.specs.Operations.{Operation, Operations, told_store, IsHeldOtherwise}
 use Rattle.chr_ops.specs.Operations.{HasOperationSize}
 use Rattle.chr_json.specs.Commands.{NamedAtom, IsOperationLength}
-use Rattle.chr_json.specs.Values.{each}
+use Rattle.chr_base.specs.Traversals.{each}
 use Rattle.chr_report.specs.declared.reply.Refusal.TheVariants as refusal
 use Rattle.chr_report.specs.Replies.{refusal_text}
 use Rattle.chr_report.specs.Answers.{named_atom, named_atoms, AnswersTell, AnswersShow}
@@ -22,7 +22,7 @@ use Rattle.chr_base.specs.FinBag as bag
 use Rattle.chr_base.proofs.FinBags as bag_laws
 use Rattle.chr_base.specs.FinBag.{◌⊕◌, total}
 use Rattle.chr_base.specs.Stores.{Store, store_of, size}
-use Rattle.chr_base.proofs.Stores.{store_of-items, weight_store_of}
+use Rattle.chr_base.proofs.Stores.{store_of-items, weight_store_of, length_total, size_weight}
 use Rattle.chr_base.specs.Rules.{Step}
 use Rattle.chr_base.specs.Programs.{rules_of}
 use Rattle.chr_base.specs.Rewriting.{Reaches, IsAtRest, IsNormalForm}
@@ -78,13 +78,8 @@ length-each f (x ∷ xs) ys h = by (f x) refl (each f xs) refl h (length-each f 
     by (Some y) q None r h more = absurd (let e : ◌≡◌ {A = Option (List _)} None (Some ys) = h in cc)
     by (Some y) q (Some zs) r h more = let e : y ∷ zs ≡ ys = cc in ap length (sym e) ∙ ap suc (more zs r)
 
-length_total : (xs : List Atom) → length xs ≡ total (λ _. 1) xs
-length_total [] = refl
-length_total (x ∷ xs) = let h = length_total xs in omega (arith, h)
-
 size-of : (xs : List Atom) → size (store_of xs) ≡ length xs
-size-of xs =
-    length_total (bag.items (store_of xs)) ∙ sym (bag_laws.sum_over-items (λ _. 1) (store_of xs)) ∙ weight_store_of (λ _. 1) xs ∙ sym (length_total xs)
+size-of xs = size_weight (store_of xs) ∙ weight_store_of (λ _. 1) xs ∙ sym (length_total xs)
 
 -- what a line tells has as many atoms as the line
 pub told_size : (ds : List Declaration) (ws : List NamedAtom) (xs : List Atom) → Some xs ≡ named_atoms ds ws → IsOperationLength (length ws) → HasOperationSize (store_of xs)

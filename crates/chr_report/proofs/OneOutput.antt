@@ -6,12 +6,13 @@ use Rattle.std.proofs.lemmas.Bool.{cases_lt}
 use Rattle.chr_base.specs.declared.rule.Rule.{Rule}
 use Rattle.chr_base.specs.declared.program.Program.{Program}
 use Rattle.chr_base.specs.Rules.{Valuation}
-use Rattle.chr_base.specs.Rules.{RuleLowers}
-use Rattle.chr_base.specs.ProgramTests.{Declaration}
+use Rattle.chr_base.specs.declared.weight.Weight.{Weight}
+use Rattle.chr_base.specs.Weights.{IsLighter}
+use Rattle.chr_base.specs.ProgramTests.{Declaration, some_paired}
 use Rattle.chr_base.specs.Programs.{declarations, rules_of}
 use Rattle.chr_base.specs.Texts.{store_text}
-use Rattle.chr_weights.specs.Weights.{weight_by}
-use Rattle.chr_confluence.specs.Lowering.{RulesLower}
+use Rattle.chr_weights.specs.Weights.{AreLowering, IsLowering, weight_by}
+use Rattle.chr_weights.proofs.Ranks.{lowers_rank_by, rank_by}
 use Rattle.chr_join.specs.declared.refused.Cause.{Cause}
 use Rattle.chr_join.specs.declared.refused.Cause.TheVariants as cause
 use Rattle.chr_join.specs.Once.{SameRefusal, AcceptedOnce, RefusedOnce, NeverBoth, AcceptedAreConfluent}
@@ -52,24 +53,25 @@ rule_at (r ∷ rules) (suc i) l = rule_at rules i (omega (arith, l))
 
 module _ (ds : List Declaration) (rules : List Rule) where
   -- the rule that is told doesn't lower
-  not_lowered : (i b a : ℕ) → IsFirstNotLowered ds rules i b a → (r : Rule) → slice_get rules (i - 1) ≡ Some r → RuleLowers (weight_by ds) r → ⊥
+  not_lowered : (i : ℕ) (b a : Weight) → IsFirstNotLowered ds rules i b a → (r : Rule) → slice_get rules (i - 1) ≡ Some r → IsLowering (weight_by ds) r → ⊥
   not_lowered i b a h r e lowers =
-      let x = h.weight_before r zeros e in let y = h.weight_after r zeros e in let z = lowers zeros in let w = h.not_lowered in
-      omega (arith, x, y, z, w)
+      let x = h.weight_before r zeros e in
+      let y = h.weight_after r zeros e in
+      h.not_lowered (rw (x, y) (lowers zeros))
 
-  told_rule : (i b a : ℕ) → IsFirstNotLowered ds rules i b a → (r : Rule) × (slice_get rules (i - 1) ≡ Some r)
+  told_rule : (i : ℕ) (b a : Weight) → IsFirstNotLowered ds rules i b a → (r : Rule) × (slice_get rules (i - 1) ≡ Some r)
   told_rule i b a h = let f = h.first in let w = h.within in rule_at rules (i - 1) (omega (arith, f, w))
 
-  not_both : (i b a : ℕ) → IsFirstNotLowered ds rules i b a → RulesLower (weight_by ds) rules → ⊥
+  not_both : (i : ℕ) (b a : Weight) → IsFirstNotLowered ds rules i b a → AreLowering (weight_by ds) rules → ⊥
   not_both i b a h lowers = let r = told_rule i b a h in not_lowered i b a h r.0 r.1 (lowers (i - 1) r.0 r.1)
 
-  not_later : (i b a j d c : ℕ) → IsFirstNotLowered ds rules i b a → IsFirstNotLowered ds rules j d c → i < j → ⊥
+  not_later : (i : ℕ) (b a : Weight) (j : ℕ) (d c : Weight) → IsFirstNotLowered ds rules i b a → IsFirstNotLowered ds rules j d c → i < j → ⊥
   not_later i b a j d c h g l =
       let r = told_rule i b a h in
       let f = h.first in
       not_lowered i b a h r.0 r.1 (g.earlier (i - 1) r.0 (omega (arith, f, l)) r.1)
 
-  one_rule : (i b a j d c : ℕ) → IsFirstNotLowered ds rules i b a → IsFirstNotLowered ds rules j d c → i ≡ j
+  one_rule : (i : ℕ) (b a : Weight) (j : ℕ) (d c : Weight) → IsFirstNotLowered ds rules i b a → IsFirstNotLowered ds rules j d c → i ≡ j
   one_rule i b a j d c h g =
       elim (cases_lt i j) as (λ _. i ≡ j) [
         | inl l ↦ absurd (not_later i b a j d c h g l)
@@ -83,7 +85,7 @@ module _ (ds : List Declaration) (rules : List Rule) where
       let e : slice_get rules (g.rule - 1) ≡ Some r.0 = subst (λ n. slice_get rules (n - 1) ≡ Some r.0) i r.1 in
       let b : h.before ≡ g.before = h.first.weight_before r.0 zeros r.1 ∙ sym (g.first.weight_before r.0 zeros e) in
       let a : h.after ≡ g.after = h.first.weight_after r.0 zeros r.1 ∙ sym (g.first.weight_after r.0 zeros e) in
-      h.out_is ∙ (λ k. not_lowered_text (i k) (b k) (a k) ++ 10 ∷ []) ∙ sym g.out_is
+      h.out_is ∙ (λ k. not_lowered_text (some_paired ds) (i k) (b k) (a k) ++ 10 ∷ []) ∙ sym g.out_is
 
   one_line : (e g : Cause) (out out' : List ℕ) → SameRefusal e g → IsCauseLine ds e out → IsCauseLine ds g out' → out ≡ out'
   one_line (cause.Fails f) (cause.Fails g) out out' s h k =
@@ -106,7 +108,7 @@ module _ (ds : List Declaration) (rules : List Rule) where
   one_answer : VerdictLaws → (commands : List (List ℕ)) (out out' : List ℕ) → IsAnswered ds rules commands out → IsAnswered ds rules commands out' → out ≡ out'
   one_answer laws commands out out' h g =
       let n = laws.accepted rules h.cases g.cases h.accepted g.accepted in
-      let confluent = laws.confluent rules (weight_by ds) h.cases h.lowers h.accepted in
+      let confluent = laws.confluent rules (rank_by ds) h.cases (lowers_rank_by ds rules h.lowers) h.accepted in
       let t = laws.answers ds rules confluent commands h.answers g.answers h.answered g.answered in
       h.out_is ∙ (λ i. accepted_text (length rules) (n i) ++ 10 ∷ t i) ∙ sym g.out_is
 

@@ -24,7 +24,7 @@ use Rattle.chr_report.specs.Answers.{AnswersAll}
 use Rattle.chr_report.specs.working.Answered.{AnswersRest}
 use Rattle.chr_report.specs.working.LinesLeft.{lines_left}
 use Rattle.chr_report.specs.Outputs.{asked, IsOutput, IsReadOutput, IsAnswered, IsRefusedByWeights, IsRefusedByOverlaps, accepted_text}
-use Rattle.chr_report.specs.Written.{WritesOutput, WritesPart, WritesBeginning}
+use Rattle.chr_report.specs.Written.{Writes, WritesOutput, WritesBeginning}
 
 -- a whole write leaves all
 pub whole_written : (old new bytes : Option (List ℕ)) (verb : Verb) (input written out : List ℕ) (status : Status) → IfSome bytes (λ t. input ≡ t) → IsOutput verb input status out → written ≡ out → Appends old new written → WritesOutput bytes old new verb status
@@ -33,8 +33,8 @@ whole_written old new bytes verb input written out status h o e a = record { inp
 -- a failed write leaves a beginning
 pub part_written : (old new bytes : Option (List ℕ)) (verb : Verb) (input written out : List ℕ) (status : Status) → IfSome bytes (λ t. input ≡ t) → IsOutput verb input status out → written ≡ out → AppendsPart old new written → WritesBeginning bytes old new verb
 part_written old new bytes verb input written out status h o e a =
-    let part : WritesPart bytes old new verb = record { input = input; is_read = h; status = status; out = out; is_output = o; is_written = subst (AppendsPart old new) e a } in
-    inr part
+    let part : Writes bytes verb status (AppendsPart old new) = record { input = input; is_read = h; out = out; is_output = o; is_written = subst (AppendsPart old new) e a } in
+    inr (status, part)
 
 -- no lines, no answers
 pub nothing_to_answer : (ds : List Declaration) (rules : List Rule) (commands : Option (Bor (List ℕ))) (old : Operations) (before : List ℕ) → commands ≡ None → AnswersRest ds rules (lines_left commands) old before before

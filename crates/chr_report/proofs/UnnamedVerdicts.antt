@@ -8,15 +8,14 @@ use Rattle.std.proofs.lemmas.List.{length-map}
 use Rattle.chr_base.specs.declared.atom.Atom.{Atom}
 use Rattle.chr_base.specs.declared.rule.Rule.{Rule}
 use Rattle.chr_base.specs.declared.derivation.Step.{Step as StepValue}
-use Rattle.chr_base.specs.FinBag.{total}
+use Rattle.chr_base.specs.declared.weight.Weight.{Weight}
+use Rattle.chr_base.specs.Weights.{total_weight}
 use Rattle.chr_base.specs.Rules.{atoms_at}
-use Rattle.chr_base.specs.Rules.{RuleLowers}
 use Rattle.chr_base.specs.Stores.{Store}
 use Rattle.chr_base.specs.ProgramTests.{Declaration}
-use Rattle.chr_weights.specs.Weights.{weight_by}
+use Rattle.chr_weights.specs.Weights.{AreLowering, IsLowering, weight_by}
 use Rattle.chr_confluence.specs.Overlaps.{equations_of}
 use Rattle.chr_confluence.specs.Unifiers.{HasNoUnifier}
-use Rattle.chr_confluence.specs.Lowering.{RulesLower}
 use Rattle.chr_rewrite.specs.Pools.{HasNoStep}
 use Rattle.chr_rewrite.specs.Derivations.{IsApplicable, LeadsTo, IsLeastStep, IsPlainDerivation, IsPlainComputation}
 use Rattle.chr_overlaps.specs.declared.overlap.Overlap.{Overlap}
@@ -159,19 +158,19 @@ module _ (rules : List Rule) where
   is_refusal (cause.TooManyTypes t) h = (is_first t.overlap h.0, too_many t.overlap t.classes h.1)
   is_refusal cause.Memory h = h
 
-  lower : (w : Atom → ℕ) → RulesLower w rules → RulesLower w bare
-  lower w h i x e = let r = from_unnamed rules i x e in subst (RuleLowers w) r.2 (h i r.0 r.1)
+  lower : (w : Atom → Weight) → AreLowering w rules → AreLowering w bare
+  lower w h i x e = let r = from_unnamed rules i x e in subst (IsLowering w) r.2 (h i r.0 r.1)
 
   -- ---- outputs
 
   module _ (ds : List Declaration) where
-    first_not_lowered : (i b a : ℕ) → IsFirstNotLowered ds rules i b a → IsFirstNotLowered ds bare i b a
+    first_not_lowered : (i : ℕ) (b a : Weight) → IsFirstNotLowered ds rules i b a → IsFirstNotLowered ds bare i b a
     first_not_lowered i b a h = record {
       first = h.first;
       within = subst (λ n. i ≤ n) (sym (length-map rules unnamed)) h.within;
-      earlier = λ j x l e. (let r = from_unnamed rules j x e in subst (RuleLowers (weight_by ds)) r.2 (h.earlier j r.0 l r.1));
-      weight_before = λ x v e. (let r = from_unnamed rules (i - 1) x e in subst (λ y. b ≡ total (weight_by ds) (atoms_at v y.removed.items)) r.2 (h.weight_before r.0 v r.1));
-      weight_after = λ x v e. (let r = from_unnamed rules (i - 1) x e in subst (λ y. a ≡ total (weight_by ds) (atoms_at v y.body.items)) r.2 (h.weight_after r.0 v r.1));
+      earlier = λ j x l e. (let r = from_unnamed rules j x e in subst (IsLowering (weight_by ds)) r.2 (h.earlier j r.0 l r.1));
+      weight_before = λ x v e. (let r = from_unnamed rules (i - 1) x e in subst (λ y. b ≡ total_weight (weight_by ds) (atoms_at v y.removed.items)) r.2 (h.weight_before r.0 v r.1));
+      weight_after = λ x v e. (let r = from_unnamed rules (i - 1) x e in subst (λ y. a ≡ total_weight (weight_by ds) (atoms_at v y.body.items)) r.2 (h.weight_after r.0 v r.1));
       not_lowered = h.not_lowered;
     }
 

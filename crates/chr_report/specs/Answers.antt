@@ -14,7 +14,7 @@ use Rattle.chr_base.specs.Texts.{store_text}
 use Rattle.chr_ops.specs.Operations.{Operation, Operations, told_store, IsNew, IsHeld, IsHeldOtherwise}
 use Rattle.chr_ops.specs.declared.limits.TheConstants.{MAX_TOLD}
 use Rattle.chr_json.specs.Commands.{NamedAtom, Said, show, tell}
-use Rattle.chr_json.specs.Values.{each}
+use Rattle.chr_base.specs.Traversals.{each}
 use Rattle.chr_json.specs.Lines.{is_blank_line}
 use Rattle.chr_json.specs.Reads.{line_said}
 use Rattle.chr_json.specs.declared.fault.LineFault.{LineFault}

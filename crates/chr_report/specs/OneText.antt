@@ -4,8 +4,7 @@ use Rattle.std.specs.FinMap as map
 use Rattle.chr_base.specs.declared.rule.Rule.{Rule}
 use Rattle.chr_base.specs.ProgramTests.{Declaration}
 use Rattle.chr_ops.specs.Operations.{Operations, told_store}
-use Rattle.chr_weights.specs.Weights.{weight_by}
-use Rattle.chr_confluence.specs.Lowering.{RulesLower}
+use Rattle.chr_weights.specs.Weights.{AreLowering, weight_by}
 use Rattle.chr_base.specs.Values.{HasValues}
 use Rattle.chr_confluence.specs.Confluence.{Confluent}
 use Rattle.chr_report.specs.Answers.{AnswersAll}
@@ -13,7 +12,7 @@ use Rattle.chr_report.specs.Answers.{AnswersAll}
 -- for a program that lowers each line has an answer, whatever the replica was told before
 abbrev pub AnswersExist : Type 0
 AnswersExist =
-    (ds : List Declaration) (rules : List Rule) → RulesLower (weight_by ds) rules
+    (ds : List Declaration) (rules : List Rule) → AreLowering (weight_by ds) rules
     → (lines : List (List ℕ)) (old : Operations) → (out : List ℕ) × AnswersAll ds rules lines old out
 
 -- of a replica that was told 64-bit values: two texts that answer the same lines are equal

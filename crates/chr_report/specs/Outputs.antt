@@ -1,18 +1,16 @@
 -- What is written for an input: the verdict on its program text, and by a run of an accepted program the answers of its
 -- command lines.
-use Rattle.std.specs.Prelude.{◌≡◌, ℕ, ◌+◌, ◌-◌, ◌<◌, ◌≤◌, ◌⊎◌, List, [], ◌∷◌, ◌++◌, codes, length}
+use Rattle.std.specs.Prelude.{◌≡◌, ℕ, Bool, ◌+◌, ◌-◌, ◌<◌, ◌≤◌, ◌⊎◌, List, [], ◌∷◌, ◌++◌, codes, length}
 use Rattle.std.specs.Prelude.{Some, slice_get, Result, Ok, Err}
 use Rattle.std.specs.Fmt.{decimal}
 use Rattle.std.specs.FinMap as map
 use Rattle.chr_base.specs.declared.rule.Rule.{Rule}
 use Rattle.chr_base.specs.declared.program.Program.{Program}
-use Rattle.chr_base.specs.FinBag.{total}
-use Rattle.chr_base.specs.Rules.{Valuation, atoms_at}
-use Rattle.chr_base.specs.Rules.{RuleLowers}
-use Rattle.chr_base.specs.ProgramTests.{Declaration}
+use Rattle.chr_base.specs.declared.weight.Weight.{Weight}
+use Rattle.chr_base.specs.ProgramTests.{Declaration, some_paired}
+use Rattle.chr_base.specs.Weights.{weight_text}
 use Rattle.chr_base.specs.Programs.{declarations, rules_of}
-use Rattle.chr_weights.specs.Weights.{IsFirstNotLowered, weight_by}
-use Rattle.chr_confluence.specs.Lowering.{RulesLower}
+use Rattle.chr_weights.specs.Weights.{AreLowering, IsFirstNotLowered, weight_by}
 use Rattle.chr_join.specs.declared.refused.Cause.{Cause}
 use Rattle.chr_join.specs.declared.refused.Cause.TheVariants as cause
 use Rattle.chr_join.specs.Verdicts.{IsAccepted}
@@ -36,17 +34,19 @@ IsFaultLine (fault.Bad f k) out =
     out ≡ codes "refused " ++ decimal (number_of_fault f) ++ codes ": clause " ++ decimal k ++ 10 ∷ []
 IsFaultLine fault.Memory out = ⊥
 
-abbrev pub not_lowered_text : ℕ → ℕ → ℕ → List ℕ
-not_lowered_text i before after =
-    codes "refused 20: rule " ++ decimal i ++ codes "; before " ++ decimal before ++ codes "; after " ++ decimal after
+-- with both numbers of each weight, or the first alone
+abbrev pub not_lowered_text : Bool → ℕ → Weight → Weight → List ℕ
+not_lowered_text paired i before after =
+    codes "refused 20: rule " ++ decimal i ++ codes "; before " ++ weight_text paired before
+    ++ codes "; after " ++ weight_text paired after
 
--- the line of a program with such a rule
+-- the line of a program with such a rule; both numbers are told where the second of some symbol isn't 0
 pub record IsRefusedByWeights (ds : List Declaration) (rules : List Rule) (out : List ℕ) : Type 0 where
   pub rule : ℕ
-  pub before : ℕ
-  pub after : ℕ
+  pub before : Weight
+  pub after : Weight
   pub first : IsFirstNotLowered ds rules rule before after
-  pub out_is : out ≡ not_lowered_text rule before after ++ 10 ∷ []
+  pub out_is : out ≡ not_lowered_text (some_paired ds) rule before after ++ 10 ∷ []
 
 -- want of memory is no verdict
 abbrev pub IsCauseLine : List Declaration → Cause → List ℕ → Type 0
@@ -56,7 +56,7 @@ IsCauseLine ds cause.Memory out = ⊥
 
 -- the line of a program that lowers, and has a failing case or too many order types
 pub record IsRefusedByOverlaps (ds : List Declaration) (rules : List Rule) (out : List ℕ) : Type 0 where
-  pub lowers : RulesLower (weight_by ds) rules
+  pub lowers : AreLowering (weight_by ds) rules
   pub cause : Cause
   pub first : IsRefusal rules cause
   pub line : IsCauseLine ds cause out
@@ -67,7 +67,7 @@ accepted_text rules cases = codes "accepted: rules " ++ decimal rules ++ codes "
 -- the line of a program of which no case fails, and the answers to the commands of a replica that was told nothing
 pub record IsAnswered (ds : List Declaration) (rules : List Rule) (commands : List (List ℕ)) (out : List ℕ)
     : Type 0 where
-  pub lowers : RulesLower (weight_by ds) rules
+  pub lowers : AreLowering (weight_by ds) rules
   pub cases : ℕ
   pub accepted : IsAccepted rules cases
   pub answers : List ℕ

@@ -6,7 +6,8 @@ use chr_confluence::laws::newman;
 use chr_join::{accepted_are_confluent, verdict_is_one};
 use chr_read::texts_have_one_answer;
 
-/// Command lines have answers: for a program that lowers there is one to each line, whatever the replica was told before.
+/// Command lines have answers: for a program that lowers there is one to each line, whatever the replica was told
+/// before.
 pub fn answers_exist()
     ensures { AnswersExist }
 {

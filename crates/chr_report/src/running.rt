@@ -100,10 +100,11 @@ fn program_output(
 ) -> Result<Output, AllocError>
     ensures { IfOk result (λ o. IsReadOutput (Ok program) (lines_left commands.entry) o.status (string_bytes o.text)) }
 {
+    let paired = program.has_pairs();
     match weigh(program) {
         Ok(weighed) => weighed_output(alloc, weighed, commands),
         Err(fault) => {
-            let line = not_lowered_line(alloc, &fault)?;
+            let line = not_lowered_line(alloc, paired, &fault)?;
             Ok(Output::refused(line))
         }
     }

@@ -3,6 +3,7 @@ mod cutting;
 mod devices;
 mod large;
 mod lines;
+mod pairs;
 mod programs;
 mod refusals;
 mod stores;

@@ -32,19 +32,21 @@ pub(crate) fn fault_line(alloc: Global, fault: &ReadFault) -> Result<String, All
     Ok(text)
 }
 
-/// The line of a program with a rule that does not lower the weight.
-pub(crate) fn not_lowered_line(alloc: Global, fault: &NotLowered) -> Result<String, AllocError>
+/// The line of a program with a rule that does not lower the weight, with both numbers of each weight where `paired`.
+pub(crate) fn not_lowered_line(
+    alloc: Global,
+    paired: bool,
+    fault: &NotLowered,
+) -> Result<String, AllocError>
     ensures { IfOk result (λ s. string_bytes s
-        ≡ not_lowered_text fault.now.rule fault.now.before fault.now.after ++ 10 ∷ []) }
+        ≡ not_lowered_text paired fault.now.rule fault.now.before fault.now.after ++ 10 ∷ []) }
 {
     let mut text = String::new(alloc);
-    let rule = fault.rule;
-    let before = fault.before;
-    let after = fault.after;
-    write!(
-        text,
-        "refused 20: rule {rule}; before {before}; after {after}\n"
-    )?;
+    write!(text, "refused 20: rule {}; before ", fault.rule)?;
+    fault.before.push_text(&mut text, paired)?;
+    text.push_str("; after ")?;
+    fault.after.push_text(&mut text, paired)?;
+    text.push_str("\n")?;
     Ok(text)
 }
 

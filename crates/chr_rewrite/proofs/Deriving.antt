@@ -19,7 +19,7 @@ use Rattle.chr_base.proofs.Stores.{store_of-append, store_of-items, same_store, 
 use Rattle.chr_base.specs.Rules.{Step, HasInstance, Valuation, heads_at, atoms_at}
 use Rattle.chr_base.specs.Programs.{rules_of}
 use Rattle.chr_base.specs.Rewriting.{IsAtRest}
-use Rattle.chr_weights.specs.Weights.{store_weight, ProgramLowers}
+use Rattle.chr_weights.specs.Weights.{store_rank, ProgramLowers}
 use Rattle.chr_rewrite.specs.Pools.{StepOn, HasNoStep}
 use Rattle.chr_rewrite.specs.Derivations.{IsApplicable, LeadsTo, IsDerivation, IsLeastInstance, IsLeastStep, IsPlainDerivation, IsPlainComputation, IsFirstInapplicable}
 use Rattle.chr_rewrite.proofs.DerivationLemmas.{removed_heads, LeadsTo-steps}
@@ -82,8 +82,8 @@ pub IsDerivation-push : (rules : List Rule) (steps : List StepValue) (st : StepV
 IsDerivation-push rules [] st s t u h takes = (u, subst (λ z. LeadsTo rules st z u) (sym h) takes, refl)
 IsDerivation-push rules (x ∷ steps) st s t u h takes = (h.0, h.1, IsDerivation-push rules steps st h.0 t u h.2 takes)
 
--- a step lowers the weight
-pub LeadsTo-lowers : (p : Program) (rules : List Rule) (st : StepValue) (s t : Store) → ProgramLowers p → rules ≡ rules_of p → LeadsTo rules st s t → store_weight p t < store_weight p s
+-- a step lowers the rank
+pub LeadsTo-lowers : (p : Program) (rules : List Rule) (st : StepValue) (s t : Store) → ProgramLowers p → rules ≡ rules_of p → LeadsTo rules st s t → store_rank p t < store_rank p s
 LeadsTo-lowers p rules st s t lowers same h = one_lowers p rules s t lowers same (LeadsTo-steps rules st s t h)
 
 -- the step was taken by its rule
@@ -132,7 +132,7 @@ stops_here rules rules' steps i st s t b same l is h missed none =
 
 -- what a search for the next step found, and what was done then
 module _ (p : Program) (rules : List Rule) (same : rules ≡ rules_of p) where
-  pub found_lowers : (o : Option StepValue) (s t : Store) → ProgramLowers p → is_some o ≡ true → IfSome o (λ st. LeadsTo rules st s t) → store_weight p t < store_weight p s
+  pub found_lowers : (o : Option StepValue) (s t : Store) → ProgramLowers p → is_some o ≡ true → IfSome o (λ st. LeadsTo rules st s t) → store_rank p t < store_rank p s
   found_lowers None s t lowers e h = absurd (true≢false (sym e))
   found_lowers (Some st) s t lowers e h = LeadsTo-lowers p rules st s t lowers same h
 

@@ -9,4 +9,4 @@ use Rattle.chr_rewrite.specs.Pools.{TookSteps}
 
 -- what steps lead to is reached
 pub took_reaches : (p : Program) (n : ℕ) (s t : Store) → TookSteps p n s t → Reaches (Step (rules_of p)) s t
-took_reaches p n s t h = (h.0, h.2)
+took_reaches p n s t h = (h.steps, h.run)

@@ -28,31 +28,6 @@ pub(crate) fn copies_of(alloc: Global, atoms: &[Atom]) -> Result<Vec<Atom>, Allo
     Ok(copies)
 }
 
-/// How often an atom stands in a list.
-fn count_of(items: &[Atom], atom: &Atom) -> usize
-    ensures { result ≡ count_in atom_cmp atom.now items.now }
-{
-    let mut count = 0;
-    for item in items {
-        if atom.is_same(item) {
-            count += 1;
-        }
-    }
-    count
-}
-
-/// Whether each of these atoms stands in the list as often as it does among them.
-pub(crate) fn has_all(items: &[Atom], atoms: &[Atom]) -> bool
-    ensures { IsTrue result ↔ ((q : AtomValue) → count_in atom_cmp q atoms.now ≤ count_in atom_cmp q items.now) }
-{
-    for atom in atoms {
-        if count_of(items, atom) < count_of(atoms, atom) {
-            return false;
-        }
-    }
-    true
-}
-
 /// Where such an atom stands.
 fn index_of(items: &[Atom], atom: &Atom) -> Option<usize>
     ensures within { IfSome result (λ i. i < length items.now) }

@@ -3,12 +3,13 @@ ghost use Rattle.std.specs.Prelude.{◌≡◌};
 ghost use Rattle.chr_base.specs.FinBag as bag;
 
 use crate::choose::find_instance;
-use crate::edits::{copies_of, has_all, push_all, take_all};
+use crate::edits::{copies_of, push_all, take_all};
 use crate::pool::Pool;
 use arrayvec::ArrayVec;
 use chr_base::atom::Atom;
 use chr_base::bag::Bag;
 use chr_base::limits::MAX_HEADS;
+use chr_base::lists::fits_in;
 use chr_base::rule::Rule;
 use std::alloc::{AllocError, Global};
 use std::marker::Model;
@@ -66,7 +67,7 @@ impl Pool for ListPool {
     }
 
     fn has(&self, atoms: &[Atom]) -> bool {
-        has_all(&self.items, atoms)
+        fits_in(atoms, &self.items)
     }
 
     fn remove(&mut self, atoms: &[Atom]) -> bool {

@@ -51,8 +51,8 @@ pub trait Pool {
     fn bag(&self, alloc: Global) -> Result<Bag, AllocError>
         ensures { IfOk result (λ b. b ≡ contents self.now) };
 
-    /// One step of some rule. False, and nothing changes, where the pool is at rest, which is told without memory; where
-    /// memory is refused nothing changes either.
+    /// One step of some rule. False, and nothing changes, where the pool is at rest, which is told without memory;
+    /// where memory is refused nothing changes either.
     fn step(&mut self, rules: &[Rule]) -> Result<bool, AllocError>
         ensures stepped { IfOk result (λ stepped.
             OnTrue stepped (Step rules.now (contents self.old) (contents self.new))) }

@@ -14,6 +14,7 @@ use chr_base::derivation::{Derivation, Step};
 use chr_base::program::Program;
 use chr_base::rule::Rule;
 use chr_base::term::{Cmp, Comparison, Pattern, Term};
+use chr_base::weight::{DEFAULT_WEIGHT, Weight};
 use chr_weights::{weigh, weight};
 use std::alloc::{AllocError, Global};
 use std::test::Fail;
@@ -206,7 +207,7 @@ fn derivation(alloc: Global, values: &[i64], steps: &[Step]) -> Result<Derivatio
 }
 
 #[test]
-#[tactic(auto, using(chr_weights::proofs::WeightLaws::store_weight_at_most))]
+#[tactic(auto, using(chr_weights::proofs::WeightLaws::first_at_most, chr_weights::proofs::WeightLaws::second_at_most))]
 fn plain(rt: HostRuntime) -> Result<(), Fail> {
     let alloc = rt.alloc();
     let Ok(weighed) = weigh(minimum(alloc)?) else {
@@ -219,9 +220,15 @@ fn plain(rt: HostRuntime) -> Result<(), Fail> {
     let end = plain_end(alloc, &weighed, &start)?;
     assert!(rt; end.atoms() == [atom(3)].as_slice());
     assert!(rt; start.len() <= 3);
-    assert_eq!(rt; weight(&weighed, &start), 3);
+    assert_eq!(rt;
+        weight(&weighed, &start),
+        Weight {
+            first: 3,
+            second: 0
+        }
+    );
     assert!(rt; end.len() <= 3);
-    assert_eq!(rt; weight(&weighed, &end), 1);
+    assert_eq!(rt; weight(&weighed, &end), DEFAULT_WEIGHT);
     Ok(())
 }
 

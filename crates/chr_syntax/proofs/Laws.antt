@@ -1,5 +1,5 @@
 -- The laws of tokens and forms in the grammar's own words.
-use Rattle.std.proofs.Common.{◌≡◌, ℕ, List, ◌∷◌, ◌++◌, Option, Some, None, option_map, refl, sym, ap, subst, ◌∙◌}
+use Rattle.std.proofs.Common.{◌≡◌, ℕ, List, ◌∷◌, ◌++◌, Option, Some, None, option_map, refl, sym, ap, ◌∙◌}
 use Rattle.std.proofs.lemmas.Option.{none-some, same_Some}
 use Rattle.chr_syntax.specs.Clauses.{Form}
 use Rattle.chr_syntax.specs.Grammar.{SpellingsAreOne}

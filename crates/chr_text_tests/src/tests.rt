@@ -1,5 +1,5 @@
-//! Tables of texts with what is expected of them, and texts made at random, on which the checker and a slow program of the
-//! definitions have to agree.
+//! Tables of texts with what is expected of them, and texts made at random, on which the checker and a slow program of
+//! the definitions have to agree.
 mod acceptance;
 mod cases;
 mod counts;

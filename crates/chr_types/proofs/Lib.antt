@@ -5,7 +5,7 @@ pub mod Sliding
 pub mod Existence
 pub mod Holes
 pub mod Enumeration
-pub mod Candidates
+pub mod CandidateSteps
 pub mod Theorem
 pub mod OneList
 pub mod TooMany

@@ -4,10 +4,10 @@
 //! constant. [`types`] lists all order types that some 64-bit values show, each by one list of values.
 #![tactic(auto)]
 
+mod candidates;
 mod fault;
 mod listing;
 mod order_type;
-mod places;
 mod search;
 #[cfg(test)]
 mod tests;

@@ -6,14 +6,14 @@ ghost use Rattle.chr_types.specs.Representatives.{AreTypes};
 ghost use Rattle.chr_types.specs.declared.fault.TypesFault.TheVariants.{TooManyTypes};
 ghost use Rattle.chr_types.specs.Refusals.{WhereTooMany};
 
+use crate::candidates::all_candidates;
 use crate::fault::TypesFault;
 use crate::order_type::OrderType;
-use crate::places::all_places;
 use crate::search::add_lists;
 use std::alloc::Global;
 
-/// The greatest number of classes whose order types can be within a limit. Of more classes there are more than any limit:
-/// with the first class at one value, each other class can be equal to it or greater.
+/// The greatest number of classes whose order types can be within a limit. Of more classes there are more than any
+/// limit: with the first class at one value, each other class can be equal to it or greater.
 pub const MAX_CLASSES: usize = 64;
 
 /// Whether the lists of so many constants alone are more than the limit. Each has an order type of its own.
@@ -51,12 +51,12 @@ pub fn types(
     if classes > MAX_CLASSES {
         return Err(TypesFault::TooManyTypes);
     }
-    let places = all_places(alloc, classes, constants)?;
-    // The search goes through all places for each value of a list, so it is not begun where it can't come to its end.
+    let candidates = all_candidates(alloc, classes, constants)?;
+    // The search goes through all candidates for each value of a list, so it is not begun where it can't end.
     if has_more_lists(constants.len(), classes, limit) {
         return Err(TypesFault::TooManyTypes);
     }
     let mut found = Vec::new(alloc);
-    add_lists(alloc, &places, classes, &[], &[], limit, &mut found)?;
+    add_lists(alloc, &candidates, classes, &[], &[], limit, &mut found)?;
     Ok(found)
 }

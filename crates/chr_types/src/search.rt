@@ -13,7 +13,7 @@ use std::alloc::{AllocError, Global};
 
 /// A value that a class may take, and the number that it is counted from.
 #[derive(Clone, Copy, Debug)]
-pub(crate) struct Place {
+pub(crate) struct Candidate {
     pub(crate) value: i64,
     pub(crate) base: i64,
 }
@@ -51,53 +51,56 @@ fn is_met(prefix: &[i64], value: i64, holes: &[i64], number: i64) -> bool
     is_among(prefix, number) || value == number || is_among(holes, number)
 }
 
-/// Adds the numbers between the place and its base to the holes, up to the first that is there.
+/// Adds the numbers between the candidate and its base to the holes, up to the first that is there.
 /// Tells whether the holes are then no more than there is room for.
 fn add_way(
     holes: &mut Vec<i64>,
     prefix: &[i64],
-    place: Place,
+    candidate: Candidate,
     room: usize,
 ) -> Result<bool, AllocError>
-    requires aside { place.value ≢ place.base }
+    requires aside { candidate.value ≢ candidate.base }
     requires few { vec_len holes.old ≤ room }
-    ensures fits { IfOk result (λ fits. IsTrue fits ↔ length (way place.base (prefix.now ++ place.value ∷ []) holes.old.items (toward place.base place.value)) ≤ room) }
-    ensures holes { IfOk result (λ fits. IsTrue fits → holes.new.items ≡ way place.base (prefix.now ++ place.value ∷ []) holes.old.items (toward place.base place.value)) }
+    ensures fits { IfOk result (λ fits. IsTrue fits ↔ length (way candidate.base
+        (prefix.now ++ candidate.value ∷ []) holes.old.items (toward candidate.base candidate.value)) ≤ room) }
+    ensures holes { IfOk result (λ fits. IsTrue fits → holes.new.items ≡ way candidate.base
+        (prefix.now ++ candidate.value ∷ []) holes.old.items (toward candidate.base candidate.value)) }
 {
-    let mut next = step_to(place.base, place.value);
-    while next != place.base {
-        if is_met(prefix, place.value, holes, next) {
+    let mut next = step_to(candidate.base, candidate.value);
+    while next != candidate.base {
+        if is_met(prefix, candidate.value, holes, next) {
             return Ok(true);
         }
         if holes.len() >= room {
             return Ok(false);
         }
         holes.push(next)?;
-        next = step_to(place.base, next);
+        next = step_to(candidate.base, next);
     }
     Ok(true)
 }
 
-/// The holes of the prefix with this place behind it, unless they are more than there is room for.
+/// The holes of the prefix with this candidate behind it, unless they are more than there is room for.
 fn holes_after(
     alloc: Global,
     prefix: &[i64],
     holes: &[i64],
-    place: Place,
+    candidate: Candidate,
     room: usize,
 ) -> Result<Option<Vec<i64>>, AllocError>
     requires { length holes.now ≤ room + 1 }
-    ensures fits { IfOk result (λ found. IsSome found ↔ length (holes_by place prefix.now holes.now) ≤ room) }
-    ensures holes { IfOk result (λ found. IfSome found (λ after. after.items ≡ holes_by place prefix.now holes.now)) }
+    ensures fits { IfOk result (λ found. IsSome found ↔ length (holes_by candidate prefix.now holes.now) ≤ room) }
+    ensures holes { IfOk result (λ found. IfSome found (λ after.
+        after.items ≡ holes_by candidate prefix.now holes.now)) }
 {
-    if is_among(holes, place.value) {
-        return Ok(Some(all_others(alloc, holes, place.value)?));
+    if is_among(holes, candidate.value) {
+        return Ok(Some(all_others(alloc, holes, candidate.value)?));
     }
     if holes.len() > room {
         return Ok(None);
     }
     let mut after = Vec::from_slice(alloc, holes)?;
-    if place.value == place.base || add_way(&mut after, prefix, place, room)? {
+    if candidate.value == candidate.base || add_way(&mut after, prefix, candidate, room)? {
         return Ok(Some(after));
     }
     Ok(None)
@@ -109,7 +112,7 @@ fn holes_after(
 /// `TooManyTypes` where there would be more than the limit, and some may be added then.
 pub(crate) fn add_lists(
     alloc: Global,
-    places: &[Place],
+    candidates: &[Candidate],
     left: usize,
     prefix: &[i64],
     holes: &[i64],
@@ -117,9 +120,11 @@ pub(crate) fn add_lists(
     found: &mut Vec<OrderType>,
 ) -> Result<(), TypesFault>
     requires few { length holes.now ≤ left }
-    ensures lists { OnOk result (found.new.items ≡ found.old.items ++ lists_over places.now left prefix.now holes.now) }
+    ensures lists { OnOk result (found.new.items
+        ≡ found.old.items ++ lists_over candidates.now left prefix.now holes.now) }
     ensures within { OnOk result (vec_len found.old ≤ limit → vec_len found.new ≤ limit) }
-    ensures many { IfErr result (λ e. WhereTooMany e (limit < vec_len found.old + length (lists_over places.now left prefix.now holes.now))) }
+    ensures many { IfErr result (λ e. WhereTooMany e
+        (limit < vec_len found.old + length (lists_over candidates.now left prefix.now holes.now))) }
 {
     if left == 0 {
         if found.len() >= limit {
@@ -129,11 +134,11 @@ pub(crate) fn add_lists(
         found.push(OrderType { values })?;
         return Ok(());
     }
-    for place in places {
-        if let Some(after) = holes_after(alloc, prefix, holes, *place, left - 1)? {
+    for candidate in candidates {
+        if let Some(after) = holes_after(alloc, prefix, holes, *candidate, left - 1)? {
             let mut longer = Vec::from_slice(alloc, prefix)?;
-            longer.push(place.value)?;
-            add_lists(alloc, places, left - 1, &longer, &after, limit, found)?;
+            longer.push(candidate.value)?;
+            add_lists(alloc, candidates, left - 1, &longer, &after, limit, found)?;
         }
     }
     Ok(())

@@ -1,3 +1,4 @@
 pub mod Weights
+pub mod Ranks
 pub mod WeighedPrograms
 pub mod working

@@ -3,40 +3,57 @@ use Rattle.std.specs.Prelude.{◌≡◌, ℕ, ◌+◌, ◌-◌, ◌<◌, ◌≤�
 use Rattle.chr_base.specs.declared.atom.Atom.{Atom}
 use Rattle.chr_base.specs.declared.rule.Rule.{Rule}
 use Rattle.chr_base.specs.declared.program.Program.{Program}
+use Rattle.chr_base.specs.declared.weight.Weight.{Weight}
 use Rattle.chr_base.specs.ProgramTests.{Declaration}
 use Rattle.chr_base.specs.Programs.{declarations, rules_of}
 use Rattle.chr_base.specs.Stores.{Store, weight_of}
-use Rattle.chr_base.specs.FinBag.{total}
-use Rattle.chr_base.specs.Rules.{RuleLowers, Valuation, atoms_at}
+use Rattle.chr_base.specs.Rules.{Valuation, atoms_at}
+use Rattle.chr_base.specs.Weights.{IsLighter, no_weight, rank, total_weight}
 
 -- the weight declared for a symbol that takes n arguments
-abbrev pub declared_weight : Option Declaration → ℕ → ℕ
-declared_weight None n = 0
-declared_weight (Some d) n = if nat_eq d.arity n then d.weight else 0
+abbrev pub declared_weight : Option Declaration → ℕ → Weight
+declared_weight None n = no_weight
+declared_weight (Some d) n = if nat_eq d.arity n then d.weight else no_weight
 
--- the weight of an atom: what is declared for its symbol with that many arguments, else 0
-abbrev pub weight_by : List Declaration → Atom → ℕ
+-- the weight of an atom: what is declared for its symbol with that many arguments, else none
+abbrev pub weight_by : List Declaration → Atom → Weight
 weight_by ds a = declared_weight (slice_get ds a.symbol.0) (length a.args.items)
 
 -- its weight in the program
-abbrev pub weight_in : Program → Atom → ℕ
+abbrev pub weight_in : Program → Atom → Weight
 weight_in p a = weight_by (declarations p) a
 
--- the weights of the store's atoms summed
-abbrev pub store_weight : Program → Store → ℕ
-store_weight p s = weight_of (weight_in p) s
+-- the weights of the store's atoms summed, number by number
+abbrev pub store_weight : Program → Store → Weight
+store_weight p s = record {
+  first = weight_of (λ a. (weight_in p a).first) s;
+  second = weight_of (λ a. (weight_in p a).second) s;
+}
 
--- in each rule, under every valuation, the removed heads weigh more than the body
+-- the store's weight as one number
+abbrev pub store_rank : Program → Store → ℕ
+store_rank p s = rank (store_weight p s)
+
+-- under every valuation the body is lighter than the removed heads
+abbrev pub IsLowering : (Atom → Weight) → Rule → Type 0
+IsLowering w r =
+    (v : Valuation) → IsLighter (total_weight w (atoms_at v r.body.items)) (total_weight w (atoms_at v r.removed.items))
+
+-- each rule is such
+abbrev pub AreLowering : (Atom → Weight) → List Rule → Type 0
+AreLowering w rules = (i : ℕ) (r : Rule) → slice_get rules i ≡ Some r → IsLowering w r
+
+-- each rule of the program is such
 abbrev pub ProgramLowers : Program → Type 0
-ProgramLowers p = (i : ℕ) (r : Rule) → slice_get (rules_of p) i ≡ Some r → RuleLowers (weight_in p) r
+ProgramLowers p = AreLowering (weight_in p) (rules_of p)
 
 -- the i-th rule, counted from 1, is the first whose removed heads do not outweigh its body, with both weights
-pub record IsFirstNotLowered (ds : List Declaration) (rules : List Rule) (i before after : ℕ) : Type 0 where
+pub record IsFirstNotLowered (ds : List Declaration) (rules : List Rule) (i : ℕ) (before after : Weight) : Type 0 where
   pub first : 0 < i
   pub within : i ≤ length rules
-  pub earlier : (j : ℕ) (r : Rule) → j + 1 < i → slice_get rules j ≡ Some r → RuleLowers (weight_by ds) r
+  pub earlier : (j : ℕ) (r : Rule) → j + 1 < i → slice_get rules j ≡ Some r → IsLowering (weight_by ds) r
   pub weight_before : (r : Rule) (v : Valuation) → slice_get rules (i - 1) ≡ Some r
-      → before ≡ total (weight_by ds) (atoms_at v r.removed.items)
+      → before ≡ total_weight (weight_by ds) (atoms_at v r.removed.items)
   pub weight_after : (r : Rule) (v : Valuation) → slice_get rules (i - 1) ≡ Some r
-      → after ≡ total (weight_by ds) (atoms_at v r.body.items)
-  pub not_lowered : before ≤ after
+      → after ≡ total_weight (weight_by ds) (atoms_at v r.body.items)
+  pub not_lowered : ¬ IsLighter after before

@@ -1,19 +1,17 @@
 //! Weights, and the programs in which each rule lowers them.
 #![tactic(auto)]
 
-ghost use Rattle.std.specs.Prelude.{◌≡◌, ℕ, ◌+◌, ◌-◌, ◌^◌, ◌<◌, ◌≤◌, ◌↔◌, IfOk, IfErr, IsOk, Some, length, slice_get};
-ghost use Rattle.chr_base.specs.declared.rule.Rule.{Rule as RuleValue};
-ghost use Rattle.chr_base.specs.FinBag.{total};
-ghost use Rattle.chr_base.specs.Rules.{Valuation, atoms_at};
-ghost use Rattle.chr_base.specs.Rules.{RuleLowers};
+ghost use Rattle.std.specs.Prelude.{◌≡◌, ◌^◌, ◌<◌, ◌↔◌, IfOk, IfErr, IsOk};
 ghost use Rattle.chr_base.specs.Programs.{declarations, rules_of};
-ghost use Rattle.chr_weights.specs.Weights.{weight_in, store_weight, ProgramLowers, IsFirstNotLowered};
+ghost use Rattle.chr_weights.specs.Weights.{store_weight, ProgramLowers, IsFirstNotLowered};
 ghost use Rattle.chr_weights.specs.WeighedPrograms.{program_of};
 
 use crate::sums::{atoms_weight, first_not_lowered};
 use chr_base::bag::Bag;
 use chr_base::program::Program;
+use chr_base::weight::Weight;
 
+pub mod laws;
 mod sums;
 #[cfg(test)]
 mod tests;
@@ -27,9 +25,9 @@ pub struct NotLowered {
     /// Its number, from 1.
     pub rule: usize,
     /// The weight of its removed heads.
-    pub before: u64,
+    pub before: Weight,
     /// The weight of its body.
-    pub after: u64,
+    pub after: Weight,
 }
 
 /// Takes a program in which the removed heads of each rule weigh more than its body. Else it tells the first rule of which
@@ -46,9 +44,10 @@ pub fn weigh(program: Program) -> Result<Weighed, NotLowered>
     }
 }
 
-/// The weight of a bag, where it fits. It takes no memory.
-pub fn weight(weighed: &Weighed, bag: &Bag) -> u64
-    requires { store_weight (program_of weighed.now) bag.now < 2 ^ 64 }
+/// The weight of a bag, where both sums fit. It takes no memory.
+pub fn weight(weighed: &Weighed, bag: &Bag) -> Weight
+    requires first { (store_weight (program_of weighed.now) bag.now).first < 2 ^ 64 }
+    requires second { (store_weight (program_of weighed.now) bag.now).second < 2 ^ 64 }
     ensures { result ≡ store_weight (program_of weighed.now) bag.now }
 {
     atoms_weight(weighed.program(), bag.atoms())

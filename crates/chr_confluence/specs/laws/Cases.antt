@@ -18,7 +18,8 @@ StepsKeepValues = (rules : List Rule) → Stays (Step rules) HasValues
 -- rules that lower a weight are confluent where the ends of any two steps from one store of 64-bit values are joinable
 abbrev pub LocallyConfluentAreConfluent : Type 0
 LocallyConfluentAreConfluent =
-    (rules : List Rule) (w : Atom → ℕ) → RulesLower w rules → IsLocallyConfluent (Step rules) HasValues → Confluent rules
+    (rules : List Rule) (w : Atom → ℕ) → RulesLower w rules
+    → IsLocallyConfluent (Step rules) HasValues → Confluent rules
 
 -- where the sides of each case are joinable, the ends of any two steps from one store are
 abbrev pub CasesMakeLocallyConfluent : Type 0

@@ -16,5 +16,6 @@ NormalFormsExist =
 -- normal form
 abbrev pub LocalConfluenceSuffices : Type 0
 LocalConfluenceSuffices =
-    (rules : List Rule) (w : Atom → ℕ) (ok : Store → Bool) → RulesLower w rules → Stays (Step rules) (λ s. IsTrue (ok s))
+    (rules : List Rule) (w : Atom → ℕ) (ok : Store → Bool) → RulesLower w rules
+    → Stays (Step rules) (λ s. IsTrue (ok s))
     → IsLocallyConfluent (Step rules) (λ s. IsTrue (ok s)) → IsConfluent (Step rules) (λ s. IsTrue (ok s))

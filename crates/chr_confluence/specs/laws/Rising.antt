@@ -1,9 +1,10 @@
 -- What the law of maps that keep the order of values says.
+use Rattle.std.specs.List.{zip}
 use Rattle.std.specs.Prelude.{◌≡◌, ℕ, ℤ, Bool, true, List, map, length}
 use Rattle.chr_base.specs.declared.rule.Rule.{Rule}
 use Rattle.chr_base.specs.Stores.{Store}
 use Rattle.chr_base.specs.Rules.{StepBy, Valuation}
-use Rattle.chr_types.specs.OrderTypes.{In, AreValues, pairs}
+use Rattle.chr_types.specs.OrderTypes.{In, AreValues}
 use Rattle.chr_types.specs.Representatives.{AreTypes}
 use Rattle.chr_base.specs.Values.{args_in, Each}
 use Rattle.chr_confluence.specs.Rising.{KeepsOrder, FixesRule, rename, among}
@@ -26,5 +27,5 @@ ValuesStay =
 abbrev pub TypesRise : Type 0
 TypesRise =
     (n : ℕ) (cs : List ℤ) (rs : List (List ℤ)) → AreTypes n cs rs → (vs : List ℤ) → length vs ≡ n → AreValues vs
-    → (r : List ℤ) × (f : ℤ → ℤ) × In r rs × KeepsOrder f (among (pairs r vs) cs) × ((c : ℤ) → In c cs → f c ≡ c)
+    → (r : List ℤ) × (f : ℤ → ℤ) × In r rs × KeepsOrder f (among (zip r vs) cs) × ((c : ℤ) → In c cs → f c ≡ c)
     × (map f r ≡ vs)

@@ -40,7 +40,8 @@ stays_inside inside t = is_sign s.Open t || (inside && not (is_sign s.Close t))
 -- what stands between the commas that no parentheses enclose
 abbrev pub items : Bool → List Tok → List (List Tok)
 items inside [] = [] ∷ []
-items inside (t ∷ ts) = if not inside && is_sign s.Comma t then [] ∷ items false ts else onto_first t (items (stays_inside inside t) ts)
+items inside (t ∷ ts) =
+    if not inside && is_sign s.Comma t then [] ∷ items false ts else onto_first t (items (stays_inside inside t) ts)
 
 -- how many tokens stand before the first such comma
 abbrev pub item_len : Bool → List Tok → ℕ
@@ -61,7 +62,8 @@ sign_place x ts = position_or_len (is_sign x) ts
 
 -- what stands before the first such sign and after it
 abbrev pub cut_at : Sign → List Tok → Option (List Tok × List Tok)
-cut_at x ts = if sign_place x ts == length ts then None else Some (take (sign_place x ts) ts, drop (sign_place x ts + 1) ts)
+cut_at x ts =
+    if sign_place x ts == length ts then None else Some (take (sign_place x ts) ts, drop (sign_place x ts + 1) ts)
 
 -- ---- atoms
 
@@ -120,7 +122,8 @@ abbrev pub item_in : {B : Type 0} → (List Tok → Option B) → List Tok → O
 item_in f ts = if is_true ts then Some None else option_map Some (f ts)
 
 abbrev pub comparison_from : List Tok → Option Comparison
-comparison_from (l ∷ compare c ∷ r ∷ []) = option_and_then (λ x. option_map (λ y. record { left = x; comparator = c; right = y }) (term_of r)) (term_of l)
+comparison_from (l ∷ compare c ∷ r ∷ []) =
+    option_and_then (λ x. option_map (λ y. record { left = x; comparator = c; right = y }) (term_of r)) (term_of l)
 comparison_from _ = None
 
 abbrev pub guard_in : List Tok → Option (List (Option Comparison))
@@ -143,7 +146,8 @@ abbrev pub heads_in : List Tok → Option (List Atom × List Atom)
 heads_in ts = heads_parted ts (cut_at s.Backslash ts)
 
 -- a guard and a body: what stands before a bar and after it; without one all is the body
-abbrev pub right_parted : List Tok → Option (List Tok × List Tok) → Option (List (Option Comparison) × List (Option Atom))
+abbrev pub right_parted : List Tok → Option (List Tok × List Tok)
+    → Option (List (Option Comparison) × List (Option Atom))
 right_parted ts None = option_map (λ items. ([], items)) (body_in ts)
 right_parted ts (Some p) = both (guard_in p.0) (body_in p.1)
 
@@ -162,7 +166,8 @@ abbrev pub propagation_in : Option (List ℕ) → List Tok × List Tok → Optio
 propagation_in label p = option_map (λ q. rule_of label ([], q.0) q.1) (both (atoms_from p.0) (right_in p.1))
 
 abbrev pub rule_parted : Option (List ℕ) → List Tok → Option (List Tok × List Tok) → Option Form
-rule_parted label ts None = option_and_then (λ p. option_map propagation (propagation_in label p)) (cut_at s.Propagate ts)
+rule_parted label ts None =
+    option_and_then (λ p. option_map propagation (propagation_in label p)) (cut_at s.Propagate ts)
 rule_parted label ts (Some p) = option_map rule (simplification_in label p)
 
 abbrev pub rule_in : Option (List ℕ) → List Tok → Option Form
@@ -190,25 +195,43 @@ digits_in _ = None
 abbrev pub arity_in : List Tok → Option (List ℕ)
 arity_in ts = option_and_then (λ w. if starts_with_minus w then None else Some w) (digits_in ts)
 
+-- a symbol, from what stands before the slash and after it
+abbrev pub symbol_of : List Tok × List Tok → Option Symbol
+symbol_of p = option_map (λ q. record { name = q.0; arity = q.1 }) (both (name_in p.0) (arity_in p.1))
+
 -- a name, a slash and digits
 abbrev pub symbol_in : List Tok → Option Symbol
-symbol_in ts = option_and_then (λ p. option_map (λ q. record { name = q.0; arity = q.1 }) (both (name_in p.0) (arity_in p.1))) (cut_at s.Slash ts)
+symbol_in ts = option_and_then symbol_of (cut_at s.Slash ts)
 
 abbrev pub symbols_in : List Tok → Option (List Symbol)
 symbols_in ts = each_item symbol_in ts
 
--- a symbol, `=` and a number
+-- one number, or two with a comma between
+abbrev pub numbers_in : List Tok → Option (List ℕ × Option (List ℕ))
+numbers_in (number v ∷ []) = Some (v, None)
+numbers_in (number v ∷ sign s.Comma ∷ number w ∷ []) = Some (v, Some w)
+numbers_in _ = None
+
+-- a weight, from what stands before the sign `=` and after it
+abbrev pub weight_of : List Tok × List Tok → Option Form
+weight_of p = option_map (λ q. weight q.0 q.1.0 q.1.1) (both (symbol_in p.0) (numbers_in p.1))
+
+-- a symbol, `=`, and one number or two
 abbrev pub weight_from : List Tok → Option Form
-weight_from ts = option_and_then (λ p. option_map (λ q. weight q.0 q.1) (both (symbol_in p.0) (digits_in p.1))) (cut_at s.Equals ts)
+weight_from ts = option_and_then weight_of (cut_at s.Equals ts)
 
 -- the word `library`, and what stands between parentheses after it
 abbrev pub library_in : List Tok → Option (List Tok)
 library_in (name w ∷ ts) = if bytes_eq w (codes "library") then parenthesized ts else None
 library_in _ = None
 
+-- what is loaded, where the tokens are the word `chr`
+abbrev pub module_of : List Tok → Option Form
+module_of ts = if is_one_word (codes "chr") ts then Some use_module else None
+
 -- `(library(chr))`
 abbrev pub module_in : List Tok → Option Form
-module_in ts = option_and_then (λ inner. option_and_then (λ m. if is_one_word (codes "chr") m then Some use_module else None) (library_in inner)) (parenthesized ts)
+module_in ts = option_and_then (λ inner. option_and_then module_of (library_in inner)) (parenthesized ts)
 
 -- what follows a directive's first word
 abbrev pub directive_of : List ℕ → List Tok → Option Form

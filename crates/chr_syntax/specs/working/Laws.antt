@@ -39,7 +39,8 @@ ClausesAreRead = (bs : List ℕ) (f : Form) → AreClause f bs → clause_of bs 
 
 -- a token that is written and ends is read, and then the tokens of the rest
 abbrev pub WrittenTokensAreRead : Type 0
-WrittenTokensAreRead = (t : Tok) (w rest : List ℕ) → IsLexeme t w → EndsBefore t rest → tokens_of (w ++ rest) ≡ option_map (λ ts. t ∷ ts) (tokens_of rest)
+WrittenTokensAreRead = (t : Tok) (w rest : List ℕ) → IsLexeme t w → EndsBefore t rest
+    → tokens_of (w ++ rest) ≡ option_map (λ ts. t ∷ ts) (tokens_of rest)
 
 -- layout before them changes no tokens
 abbrev pub LayoutIsSkipped : Type 0

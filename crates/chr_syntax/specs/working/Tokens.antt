@@ -1,9 +1,7 @@
 -- The tokens of a clause as they are found, each the longest that fits, and the bytes before its full stop.
-use Rattle.std.specs.Prelude.{ℕ, zero, suc, not, ◌+◌, ◌-◌, List, [], ◌∷◌, take, Bool, ◌==◌, ◌&&◌, ◌||◌, nat_le, nat_lt, nat_eq, if◌then◌else◌, Option, Some, None, option_map, codes}
+use Rattle.std.specs.Prelude.{ℕ, zero, suc, not, ◌+◌, ◌-◌, List, [], ◌∷◌, take, ◌==◌, ◌||◌, nat_lt, nat_eq, if◌then◌else◌, Option, Some, None, option_map, codes}
 use Rattle.std.specs.List.{prefix_len, starts_with}
-use Rattle.chr_syntax.specs.declared.clause.Comparator.{Comparator}
 use Rattle.chr_syntax.specs.declared.clause.Comparator.TheVariants as c
-use Rattle.chr_syntax.specs.declared.token.Sign.{Sign}
 use Rattle.chr_syntax.specs.declared.token.Sign.TheVariants as s
 use Rattle.chr_syntax.specs.Bytes.{is_layout, is_stop}
 use Rattle.chr_base.specs.Names.{is_digit, is_lower, is_upper, is_word_byte}
@@ -25,7 +23,8 @@ long_sign bs =
     if starts_with nat_eq bs (codes "<=>") then Some (sign s.Simplify)
     else (if starts_with nat_eq bs (codes "==>") then Some (sign s.Propagate)
     else (if starts_with nat_eq bs (codes "=:=") then Some (compare c.Equal)
-    else (if starts_with nat_eq bs (codes "=\\=") || starts_with nat_eq bs (codes "\\==") then Some (compare c.NotEqual) else None)))
+    else (if starts_with nat_eq bs (codes "=\\=") || starts_with nat_eq bs (codes "\\==") then Some (compare c.NotEqual)
+    else None)))
 
 abbrev pub middle_sign : List ℕ → Option Tok
 middle_sign bs =
@@ -59,15 +58,20 @@ of_len n t = option_map (λ x. (x, n)) t
 -- the longest sign at the front, and how many bytes it takes
 abbrev pub sign_at : List ℕ → Option (Tok × ℕ)
 sign_at [] = None
-sign_at (b ∷ bs) = or_else (of_len 3 (long_sign (b ∷ bs))) (or_else (of_len 2 (middle_sign (b ∷ bs))) (of_len 1 (short_sign b)))
+sign_at (b ∷ bs) =
+    or_else (of_len 3 (long_sign (b ∷ bs))) (or_else (of_len 2 (middle_sign (b ∷ bs))) (of_len 1 (short_sign b)))
+
+-- a token of the first n bytes, and n
+abbrev pub of_first : (List ℕ → Tok) → ℕ → List ℕ → Option (Tok × ℕ)
+of_first kind n bs = Some (kind (take n bs), n)
 
 -- the longest token at the front, and how many bytes it takes
 abbrev pub token_at : List ℕ → Option (Tok × ℕ)
 token_at [] = None
 token_at (b ∷ bs) =
-    if is_lower b then Some (name (take (word_len (b ∷ bs)) (b ∷ bs)), word_len (b ∷ bs))
-    else (if is_upper b || (b == 95) then Some (variable (take (word_len (b ∷ bs)) (b ∷ bs)), word_len (b ∷ bs))
-    else (if nat_lt 0 (number_len (b ∷ bs)) then Some (number (take (number_len (b ∷ bs)) (b ∷ bs)), number_len (b ∷ bs))
+    if is_lower b then of_first name (word_len (b ∷ bs)) (b ∷ bs)
+    else (if is_upper b || (b == 95) then of_first variable (word_len (b ∷ bs)) (b ∷ bs)
+    else (if nat_lt 0 (number_len (b ∷ bs)) then of_first number (number_len (b ∷ bs)) (b ∷ bs)
     else sign_at (b ∷ bs)))
 
 abbrev pub with_token : Option (Tok × ℕ) → (ℕ → Option (List Tok)) → Option (List Tok)
@@ -78,7 +82,8 @@ with_token (Some p) more = option_map (λ ts. p.0 ∷ ts) (more (p.1 - 1))
 unfoldable pub tokens_after : ℕ → List ℕ → Option (List Tok)
 tokens_after skip [] = Some []
 tokens_after (suc skip) (b ∷ bs) = tokens_after skip bs
-tokens_after zero (b ∷ bs) = if is_layout b then tokens_after 0 bs else with_token (token_at (b ∷ bs)) (λ skip. tokens_after skip bs)
+tokens_after zero (b ∷ bs) =
+    if is_layout b then tokens_after 0 bs else with_token (token_at (b ∷ bs)) (λ skip. tokens_after skip bs)
 
 -- the tokens of the bytes, if they are layout and tokens
 abbrev pub tokens_of : List ℕ → Option (List Tok)

@@ -1,21 +1,13 @@
 -- What the values of private calls are as plain data.
 use Rattle.std.specs.Borrow.{Bor}
-use Rattle.std.specs.Prelude.{List, Option, map, option_map}
+use Rattle.std.specs.Prelude.{List, Option, false, map, option_map}
 use Rattle.chr_syntax.specs.declared.token.Token.{Token}
 use Rattle.chr_syntax.specs.declared.token.Token.TheVariants as t
 use Rattle.chr_syntax.specs.declared.form.Heads.{Heads}
 use Rattle.chr_syntax.specs.declared.form.Right.{Right}
-use Rattle.chr_syntax.specs.declared.clause.RawTerm.{RawTerm}
-use Rattle.chr_syntax.specs.declared.clause.RawTerm.TheVariants as raw
-use Rattle.chr_syntax.specs.declared.clause.RawAtom.{RawAtom}
-use Rattle.chr_syntax.specs.declared.clause.RawSymbol.{RawSymbol}
-use Rattle.chr_syntax.specs.declared.clause.RawComparison.{RawComparison}
-use Rattle.chr_syntax.specs.declared.clause.RawRule.{RawRule}
-use Rattle.chr_syntax.specs.declared.clause.RawClause.{RawClause}
-use Rattle.chr_syntax.specs.declared.clause.RawClause.TheVariants as c
 use Rattle.chr_syntax.specs.Tokens.{Tok, name, variable, number, compare, sign}
-use Rattle.chr_syntax.specs.Clauses.{Term, Atom, Symbol, Comparison, Rule, Form, use_module, declare, weight, rule, propagation}
-use Rattle.chr_syntax.specs.Clauses as clauses
+use Rattle.chr_syntax.specs.Clauses.{Atom, Comparison}
+use Rattle.chr_syntax.specs.working.Forms.{items}
 use Rattle.chr_syntax.specs.Views.{atom_view, comparison_view}
 
 abbrev pub token_view : Token → Tok
@@ -27,6 +19,10 @@ token_view (t.Sign x) = sign x
 
 abbrev pub tokens_view : Bor (List Token) → List Tok
 tokens_view ts = map token_view ts.now
+
+-- what stands between the commas that no parentheses enclose
+abbrev pub items_view : List Token → List (List Tok)
+items_view ts = items false (map token_view ts)
 
 abbrev pub heads_view : Heads → List Atom × List Atom
 heads_view h = (map atom_view h.kept.items, map atom_view h.removed.items)

@@ -6,7 +6,7 @@ use Rattle.std.specs.List.{list_any, filter, flat_map}
 use Rattle.std.specs.Ordering.{int_eq}
 use Rattle.chr_types.specs.OrderTypes.{In, Rises, IsValue}
 use Rattle.chr_types.specs.Representatives.{base, IsFrom}
-use Rattle.chr_types.specs.declared.search.Place.{Place}
+use Rattle.chr_types.specs.declared.search.Candidate.{Candidate}
 
 -- the next number on the way to b
 abbrev pub toward : ℤ → ℤ → ℤ
@@ -34,35 +34,37 @@ walk (suc n) b p h w = if has w p || has w h then h else walk n b p (h ++ w ∷ 
 abbrev pub way : ℤ → List ℤ → List ℤ → ℤ → List ℤ
 way b p h w = walk (distance b w) b p h w
 
--- the values that a list which begins with p and the place must still have, where h are those for p
-abbrev pub holes_by : Place → List ℤ → List ℤ → List ℤ
+-- the values that a list which begins with p and the candidate must still have, where h are those for p
+abbrev pub holes_by : Candidate → List ℤ → List ℤ → List ℤ
 holes_by c p h =
     if has c.value h then others c.value h
     else (if int_eq c.value c.base then h else way c.base (p ++ c.value ∷ []) h (toward c.base c.value))
 
--- the lists that go on with the place, where its holes fit
-abbrev pub lists_at : (List ℤ → List ℤ → List (List ℤ)) → ℕ → List ℤ → List ℤ → Place → List (List ℤ)
+-- the lists that go on with the candidate, where its holes fit
+abbrev pub lists_at : (List ℤ → List ℤ → List (List ℤ)) → ℕ → List ℤ → List ℤ → Candidate → List (List ℤ)
 lists_at deeper k p h c =
     if nat_le (length (holes_by c p h)) k then deeper (p ++ c.value ∷ []) (holes_by c p h) else []
 
--- the lists of k more values of places ks behind p
-abbrev pub lists_over : List Place → ℕ → List ℤ → List ℤ → List (List ℤ)
+-- the lists of k more values of candidates ks behind p
+abbrev pub lists_over : List Candidate → ℕ → List ℤ → List ℤ → List (List ℤ)
 lists_over ks zero p h = p ∷ []
 lists_over ks (suc k) p h = flat_map (lists_at (lists_over ks k) k p h) ks
 
--- the places found so far: rising, each with its base, and all candidates that are less than v
-pub record PlacesBelow (n : ℕ) (cs : List ℤ) (places : List Place) (v : ℤ) : Type 0 where
-  pub rise : Rises (map (λ c. c.value) places)
-  pub right : (c : Place) → In c places → (c.base ≡ base cs c.value) × IsValue c.value × IsFrom cs c.value × (c.value <ℤ v)
-  pub all : (w : ℤ) → IsValue w → IsFrom cs w → distance (base cs w) w ≤ n → w <ℤ v → In w (map (λ c. c.value) places)
+-- the candidates found so far: rising, each with its base, and all that are less than v
+pub record CandidatesBelow (n : ℕ) (cs : List ℤ) (candidates : List Candidate) (v : ℤ) : Type 0 where
+  pub rise : Rises (map (λ c. c.value) candidates)
+  pub right : (c : Candidate) → In c candidates
+      → (c.base ≡ base cs c.value) × IsValue c.value × IsFrom cs c.value × (c.value <ℤ v)
+  pub all : (w : ℤ) → IsValue w → IsFrom cs w → distance (base cs w) w ≤ n → w <ℤ v
+      → In w (map (λ c. c.value) candidates)
 
 -- past all values of 64 bits
 abbrev pub past : ℤ
 past = pos (2 ^ 63)
 
--- all places of candidates
-abbrev pub ArePlaces : ℕ → List ℤ → List Place → Type 0
-ArePlaces n cs places = PlacesBelow n cs places past
+-- all values that are near enough to their bases, rising, each with its base
+abbrev pub AreCandidates : ℕ → List ℤ → List Candidate → Type 0
+AreCandidates n cs candidates = CandidatesBelow n cs candidates past
 
 -- the values from the first to the last are all counted from b
 abbrev pub AreCountedFrom : List ℤ → ℤ → ℤ → ℤ → Type 0

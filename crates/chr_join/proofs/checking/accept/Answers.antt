@@ -1,4 +1,4 @@
-use Rattle.chr_weights.specs.Weights.{weight_in}
+use Rattle.chr_weights.proofs.Ranks.{lowers_rank, rank_in}
 use Rattle.chr_weights.specs.WeighedPrograms.{program_of, rules_in}
 use Rattle.chr_join.proofs.Confluent.{accepted_confluent, refusal_refutes}
 use Rattle.chr_join.proofs.SideSteps.{failing_replays}
@@ -6,7 +6,7 @@ use Rattle.chr_join.proofs.checking.accept.Goals as goal
 
 pub returns-in-Ok-new-clause-confluent : goal.returns-in-Ok-new-clause-confluent
 returns-in-Ok-new-clause-confluent c =
-    accepted_confluent c.listed_confluence.ensures.confluent (record { cases = c.listed_cases.ensures.cases; left = c.peak.ensures.left; right = c.peak.ensures.right }) (rules_in c.args.weighed) (weight_in (program_of c.args.weighed)) c.in-Ok.cases c.args.weighed.lowers c.in-Ok.ensures.ok
+    accepted_confluent c.listed_confluence.ensures.confluent (record { cases = c.listed_cases.ensures.cases; left = c.peak.ensures.left; right = c.peak.ensures.right }) (rules_in c.args.weighed) (rank_in (program_of c.args.weighed)) c.in-Ok.cases (lowers_rank (program_of c.args.weighed) c.args.weighed.lowers) c.in-Ok.ensures.ok
 
 pub returns-in-Err-clause-not_confluent : goal.returns-in-Err-clause-not_confluent
 returns-in-Err-clause-not_confluent c =

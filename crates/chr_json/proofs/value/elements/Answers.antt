@@ -1,7 +1,7 @@
 use Rattle.std.proofs.Common.{Some, map, option_map, sym, ap, ◌∙◌}
 use Rattle.serde_json.specs.View.{view as data_of}
 use Rattle.chr_json.specs.Values.{listed}
-use Rattle.chr_json.proofs.Each.{listed-items_of}
+use Rattle.chr_json.proofs.Arrays.{listed-items_of}
 use Rattle.chr_json.proofs.value.elements.Goals as goal
 
 pub returns : goal.returns

@@ -1,8 +1,8 @@
 use Rattle.std.proofs.Common.{◌≡◌, map, drop}
 use Rattle.chr_base.specs.Programs.{declarations}
-use Rattle.chr_json.specs.Values.{each}
+use Rattle.chr_base.specs.Traversals.{each}
 use Rattle.chr_json.specs.Reads.{raw_atom_view}
-use Rattle.chr_json.proofs.Each.{front}
+use Rattle.chr_base.proofs.Traversals.{front}
 use Rattle.chr_report.specs.Answers.{named_atom}
 use Rattle.chr_report.proofs.board.resolve.Given as goal
 

@@ -1,5 +1,6 @@
-use Rattle.std.proofs.Common.{ap, inl}
-use Rattle.std.specs.Prelude.{string_bytes}
+use Rattle.std.proofs.Common.{ap, inl, ◌∙◌}
+use Rattle.std.specs.Prelude.{[], ◌∷◌, ◌++◌, string_bytes}
+use Rattle.chr_report.specs.Outputs.{not_lowered_text}
 use Rattle.chr_report.proofs.Outcomes.{refused_by}
 use Rattle.chr_report.proofs.running.program_output.Goals as goal
 
@@ -13,5 +14,5 @@ returns-in_ok-line-in-Err c =
       before = fault.before;
       after = fault.after;
       first = h;
-      out_is = c.in_ok-line-in-Err.ensures;
+      out_is = c.in_ok-line-in-Err.ensures ∙ ap (λ b. not_lowered_text b fault.rule fault.before fault.after ++ 10 ∷ []) c.has_pairs-paired.ensures;
     }))

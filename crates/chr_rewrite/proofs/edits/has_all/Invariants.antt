@@ -1,8 +1,0 @@
-use Rattle.std.proofs.Common.{ℕ, ◌<◌, ◌≤◌, get_or}
-use Rattle.chr_base.specs.declared.atom.Atom.{Atom}
-use Rattle.chr_base.specs.Atoms.{atom_cmp}
-use Rattle.chr_base.specs.FinBag.{count_in}
-use Rattle.chr_rewrite.proofs.edits.has_all.Given as goal
-
-abbrev pub invariant-loop-atom : goal.invariant-loop-atom
-invariant-loop-atom l = (k : ℕ) (d : Atom) → k < l.atom-index → count_in atom_cmp (get_or l.atoms k d) l.atoms ≤ count_in atom_cmp (get_or l.atoms k d) l.items
