@@ -18,7 +18,8 @@ pub struct Lookup {
     pub index: usize,
 }
 
-/// The plan of an occurrence: a rule, by its number from 0, a head place of it, and the look-ups of the partners in order.
+/// The plan of an occurrence: a rule, by its number from 0, a head place of it, and the look-ups of the partners in
+/// order.
 #[derive(Debug, Default, Drop)]
 pub struct Plan {
     pub rule: usize,

@@ -10,8 +10,8 @@ use chr_base::atom::Atom;
 use chr_base::limits::MAX_HEADS;
 use chr_base::rule::Rule;
 
-/// The first plan, by its number from 0, by which the active atom has partners. Where there is one, `heads` and `seats` have
-/// the instance, as `find_partners` fills them.
+/// The first plan, by its number from 0, by which the active atom has partners. Where there is one, `heads` and
+/// `seats` have the instance, as `find_partners` fills them.
 pub fn react<R: Rows>(
     rows: &mut R,
     rules: &[Rule],

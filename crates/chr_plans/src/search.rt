@@ -98,9 +98,9 @@ fn start(
     }
 }
 
-/// An instance of the rule with the active atom at this head place, counted from 0, and partners in different live rows.
-/// Where there is one, it fills `heads` with its heads in place order, and `seats` with their rows; the seat at the active
-/// place says nothing. Where there is none, both are left with anything.
+/// An instance of the rule with the active atom at this head place, counted from 0, and partners in different live
+/// rows. Where there is one, it fills `heads` with its heads in place order, and `seats` with their rows; the seat at
+/// the active place says nothing. Where there is none, both are left with anything.
 pub fn find_partners<R: Rows>(
     rows: &mut R,
     rule: &Rule,

@@ -1,0 +1,3 @@
+pub mod Actives
+pub mod Rows
+pub mod Around

@@ -1,0 +1,3 @@
+pub mod Actives
+pub mod Grids
+pub mod Laws

@@ -1,0 +1,20 @@
+-- What is said of a row that was found, or of none.
+use Rattle.std.proofs.Common.{◌≡◌, Option, true, false, refl}
+use Rattle.std.specs.Prelude.{Some, None, IfSome, IfNone, is_some, option_map}
+
+pub if_some : {X : Type 0} (P Q : X → Type 0) (o : Option X) → ((x : X) → P x → Q x) → IfSome o P → IfSome o Q
+if_some P Q None f h = h
+if_some P Q (Some x) f h = f x h
+
+pub if_none : {X : Type 0} (P Q : Type 0) (o : Option X) → (P → Q) → IfNone o P → IfNone o Q
+if_none P Q None f h = f h
+if_none P Q (Some x) f h = h
+
+-- the value that there is
+pub the_one : {X : Type 0} (o : Option X) → is_some o ≡ true → (x : X) × (o ≡ Some x)
+the_one None e = absurd (let f : false ≡ true = e in cc)
+the_one (Some x) e = (x, refl)
+
+pub is_there : {X Y : Type 0} (f : X → Y) (o : Option X) (y : Y) → option_map f o ≡ Some y → is_some o ≡ true
+is_there f None y e = absurd (let g : None ≡ Some y = e in cc)
+is_there f (Some x) y e = refl

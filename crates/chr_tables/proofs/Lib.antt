@@ -1,0 +1,5 @@
+pub mod Walks
+pub mod Lives
+pub mod Keys
+pub mod Choices
+pub mod Reading

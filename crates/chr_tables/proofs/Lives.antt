@@ -1,0 +1,116 @@
+-- Rows that live, and rows of indexes.
+use Rattle.std.proofs.Common.{◌≡◌, ℕ, zero, suc, ◌<◌, List, [], ◌∷◌, ◌++◌, map, length, get_or, set, cond, Bool, true, false, Option, refl, sym, ap, ◌∙◌, arith, inl, inr, length-append}
+use Rattle.std.specs.Prelude.{Some, None}
+use Rattle.std.proofs.lemmas.Bool.{cases_lt}
+use Rattle.std.proofs.Math.Seq.{get_or-append_seam}
+use Rattle.std.proofs.lemmas.List.{get_or-map, map-set, get_or_past, get_or_append_left, map-append, length-map}
+use Rattle.chr_base.specs.declared.atom.Atom.{Atom}
+use Rattle.chr_plans.specs.Keys.{key_of}
+use Rattle.chr_plans.specs.Hashes.{key_hash}
+use Rattle.chr_tables.specs.declared.indexes.Keyed.{Keyed}
+use Rattle.chr_tables.specs.working.Indexes.{live, hash_in, hashes_of, columns_of, rooms_of, AreIndexed, IsTable}
+
+pub length_live : (as' : List Atom) (bs : List Bool) → length bs ≡ length as' → length (live as' bs) ≡ length as'
+length_live [] bs e = refl
+length_live (a ∷ as') [] e = absurd (omega (arith, e))
+length_live (a ∷ as') (b ∷ bs) e = ap suc (length_live as' bs (omega (arith, e)))
+
+some_cond : (b : Bool) (x y : Atom) → ◌≡◌ {A = Option Atom} (cond b (Some x) None) (Some y) → x ≡ y
+some_cond true x y e = cc
+some_cond false x y e = cc
+
+-- the atom of a row that lives
+pub live_of : (as' : List Atom) (bs : List Bool) (r : ℕ) (a d : Atom) → get_or (live as' bs) r None ≡ Some a → (r < length as') × (get_or as' r d ≡ a)
+live_of [] bs r a d e = cc
+live_of (x ∷ as') [] r a d e = cc
+live_of (x ∷ as') (b ∷ bs) zero a d e = (omega arith, some_cond b x a e)
+live_of (x ∷ as') (b ∷ bs) (suc r) a d e = let w = live_of as' bs r a d e in (let l = w.0 in omega (arith, l), w.1)
+
+pub live_push : (as' : List Atom) (bs : List Bool) (a : Atom) → length bs ≡ length as' → live (as' ++ a ∷ []) (bs ++ true ∷ []) ≡ live as' bs ++ Some a ∷ []
+live_push [] [] a e = refl
+live_push [] (b ∷ bs) a e = absurd (omega (arith, e))
+live_push (x ∷ as') [] a e = absurd (omega (arith, e))
+live_push (x ∷ as') (b ∷ bs) a e = ap (λ xs. cond b (Some x) None ∷ xs) (live_push as' bs a (omega (arith, e)))
+
+pub live_kill : (as' : List Atom) (bs : List Bool) (r : ℕ) → length bs ≡ length as' → live as' (set bs r false) ≡ set (live as' bs) r None
+live_kill [] bs r e = refl
+live_kill (x ∷ as') [] r e = absurd (omega (arith, e))
+live_kill (x ∷ as') (b ∷ bs) zero e = refl
+live_kill (x ∷ as') (b ∷ bs) (suc r) e = ap (λ xs. cond b (Some x) None ∷ xs) (live_kill as' bs r (omega (arith, e)))
+
+pub hashes_at : (ks : List Keyed) (i : ℕ) (d : Keyed) → i < length ks → get_or (hashes_of ks) i [] ≡ (get_or ks i d).index.rows
+hashes_at ks i d l = get_or-map (λ (k : Keyed). k.index.rows) ks i d [] l
+
+pub columns_at : (ks : List Keyed) (i : ℕ) (d : Keyed) → i < length ks → get_or (columns_of ks) i [] ≡ (get_or ks i d).columns.items
+columns_at ks i d l = get_or-map (λ (k : Keyed). k.columns.items) ks i d [] l
+
+pub rooms_at : (ks : List Keyed) (i : ℕ) (d : Keyed) → i < length ks → get_or (rooms_of ks) i 0 ≡ (get_or ks i d).index.room
+rooms_at ks i d l = get_or-map (λ (k : Keyed). k.index.room) ks i d 0 l
+
+pub hashes_set : (ks : List Keyed) (i : ℕ) (k : Keyed) → hashes_of (set ks i k) ≡ set (hashes_of ks) i k.index.rows
+hashes_set ks i k = map-set (λ (k : Keyed). k.index.rows) ks i k
+
+pub rooms_set : (ks : List Keyed) (i : ℕ) (k : Keyed) → rooms_of (set ks i k) ≡ set (rooms_of ks) i k.index.room
+rooms_set ks i k = map-set (λ (k : Keyed). k.index.room) ks i k
+
+pub length_hashes : (ks : List Keyed) → length (hashes_of ks) ≡ length ks
+length_hashes ks = length-map ks (λ k. k.index.rows)
+
+pub length_rooms : (ks : List Keyed) → length (rooms_of ks) ≡ length ks
+length_rooms ks = length-map ks (λ k. k.index.room)
+
+pub length_columns : (ks : List Keyed) → length (columns_of ks) ≡ length ks
+length_columns ks = length-map ks (λ k. k.columns.items)
+
+-- each index has as many rows as the table
+pub as_many : (rows : List (Option Atom)) (columns : List (List ℕ)) (hashes : List (List (Option ℕ))) → AreIndexed rows columns hashes → (j : ℕ) → j < length columns
+    → length (get_or hashes j []) ≡ length rows
+as_many rows columns hashes h j l = ap length (h j l) ∙ length-map rows (hash_in (get_or columns j []))
+
+indexed_kill : (rows : List (Option Atom)) (columns : List (List ℕ)) (hashes hashes' : List (List (Option ℕ))) (r : ℕ) → AreIndexed rows columns hashes
+    → ((j : ℕ) → get_or hashes' j [] ≡ set (get_or hashes j []) r None) → AreIndexed (set rows r None) columns hashes'
+indexed_kill rows columns hashes hashes' r h k j l = k j ∙ ap (λ xs. set xs r None) (h j l) ∙ sym (map-set (hash_in (get_or columns j [])) rows r None)
+
+indexed_push : (rows : List (Option Atom)) (columns : List (List ℕ)) (hashes hashes' : List (List (Option ℕ))) (a : Atom) → AreIndexed rows columns hashes
+    → ((j : ℕ) → j < length columns → get_or hashes' j [] ≡ get_or hashes j [] ++ Some (key_hash (key_of (get_or columns j []) a)) ∷ [])
+    → AreIndexed (rows ++ Some a ∷ []) columns hashes'
+indexed_push rows columns hashes hashes' a h k j l =
+    k j l ∙ ap (λ xs. xs ++ Some (key_hash (key_of (get_or columns j []) a)) ∷ []) (h j l) ∙ sym (map-append (hash_in (get_or columns j [])) rows (Some a ∷ []))
+
+pub table_same : (atoms : List Atom) (alive : List Bool) (ks ks' : List Keyed) → IsTable atoms alive ks → columns_of ks' ≡ columns_of ks → hashes_of ks' ≡ hashes_of ks
+    → IsTable atoms alive ks'
+table_same atoms alive ks ks' t c r = record { as_alive = t.as_alive; indexed = rw (c, r) t.indexed }
+
+pub table_kill : (atoms : List Atom) (alive : List Bool) (ks ks' : List Keyed) (r : ℕ) → IsTable atoms alive ks → columns_of ks' ≡ columns_of ks
+    → ((j : ℕ) → get_or (hashes_of ks') j [] ≡ set (get_or (hashes_of ks) j []) r None) → length (set alive r false) ≡ length alive
+    → IsTable atoms (set alive r false) ks'
+table_kill atoms alive ks ks' r t c k len = record {
+  as_alive = len ∙ t.as_alive;
+  indexed = rw (c, live_kill atoms alive r t.as_alive) (indexed_kill (live atoms alive) (columns_of ks) (hashes_of ks) (hashes_of ks') r t.indexed k);
+}
+
+pub table_push : (atoms : List Atom) (alive : List Bool) (ks ks' : List Keyed) (a : Atom) → IsTable atoms alive ks → columns_of ks' ≡ columns_of ks
+    → ((j : ℕ) → j < length ks → get_or (hashes_of ks') j [] ≡ get_or (hashes_of ks) j [] ++ Some (key_hash (key_of (get_or (columns_of ks) j []) a)) ∷ [])
+    → IsTable (atoms ++ a ∷ []) (alive ++ true ∷ []) ks'
+table_push atoms alive ks ks' a t c r = record {
+  as_alive = (let x = length-append atoms (a ∷ []) in let y = length-append alive (true ∷ []) in let z = t.as_alive in omega (arith, x, y, z));
+  indexed = rw (c, live_push atoms alive a t.as_alive)
+      (indexed_push (live atoms alive) (columns_of ks) (hashes_of ks) (hashes_of ks') a t.indexed (λ j l. r j (let n = length_columns ks in omega (arith, n, l))));
+}
+
+-- one more index, of a table without rows
+pub table_index : (atoms : List Atom) (alive : List Bool) (ks : List Keyed) (k : Keyed) → IsTable atoms alive ks → live atoms alive ≡ [] → k.index.rows ≡ []
+    → IsTable atoms alive (ks ++ k ∷ [])
+table_index atoms alive ks k t none empty = record {
+  as_alive = t.as_alive;
+  indexed = λ j l. (rw (none, map-append (λ (x : Keyed). x.index.rows) ks (k ∷ []))
+      (elim (cases_lt j (length (hashes_of ks))) as (λ _. get_or (hashes_of ks ++ k.index.rows ∷ []) j [] ≡ []) [
+        | inl less ↦ get_or_append_left (hashes_of ks) (k.index.rows ∷ []) [] j less
+            ∙ t.indexed j (let n = length_columns ks in let m = length_hashes ks in omega (arith, n, m, less)) ∙ ap (map (hash_in (get_or (columns_of ks) j []))) none
+        | inr most ↦ elim (cases_lt (length (hashes_of ks)) j) as (λ _. get_or (hashes_of ks ++ k.index.rows ∷ []) j [] ≡ []) [
+          | inl more ↦ (let n = length-append (hashes_of ks) (k.index.rows ∷ []) in get_or_past (hashes_of ks ++ k.index.rows ∷ []) j [] (omega (arith, n, more)))
+          | inr least ↦ (let e : j ≡ length (hashes_of ks) = omega (arith, most, least) in
+              ap (λ i. get_or (hashes_of ks ++ k.index.rows ∷ []) i []) e ∙ get_or-append_seam (hashes_of ks) k.index.rows [] [] ∙ empty)
+        ]
+      ]));
+}

@@ -1,0 +1,11 @@
+use Rattle.chr_tables.proofs.Choices.{is_there}
+use Rattle.chr_tables.proofs.Reading.{table_is}
+use Rattle.chr_tables.proofs.tables.TablesRows.next.Goals as goal
+
+pub returns-clause-newest : goal.returns-clause-newest
+returns-clause-newest c =
+    rw (← table_is c.args.self.now.tables.items c.args.table c.args.index c.index_mut.result.now (is_there _ _ _ c.requires.2) c.index_mut.ensures.value) c.next.ensures.newest
+
+pub returns-clause-none : goal.returns-clause-none
+returns-clause-none c =
+    rw (← table_is c.args.self.now.tables.items c.args.table c.args.index c.index_mut.result.now (is_there _ _ _ c.requires.2) c.index_mut.ensures.value) c.next.ensures.none

@@ -1,0 +1,21 @@
+-- Tables as callers see them.
+use Rattle.std.specs.Prelude.{ℕ, List, [], get_or, slice_get, Option, None}
+use Rattle.chr_base.specs.declared.atom.Atom.{Atom}
+use Rattle.chr_plans.specs.Rows.{Tables, Columns}
+
+-- the atom of each row, or None where the row is dead, and the columns of each index
+pub record Contents : Type 0 where
+  pub rows : List (Option Atom)
+  pub keys : List (List ℕ)
+
+-- what is read past the last table
+abbrev pub no_table : Contents
+no_table = record { rows = []; keys = [] }
+
+-- the atom of a row of a table, where it lives
+abbrev pub rows_of : List Contents → Tables
+rows_of tables table row = get_or (get_or tables table no_table).rows row None
+
+-- the columns of an index of a table, where there is such an index
+abbrev pub columns_of : List Contents → Columns
+columns_of tables table index = slice_get (get_or tables table no_table).keys index

@@ -1,0 +1,91 @@
+//! The indexes of a table, changed one after another.
+ghost use Rattle.std.specs.Prelude.{◌≡◌, ℕ, ◌+◌, ◌<◌, ◌^◌, ◌∷◌, ◌++◌, [], length, get_or, set, Some, None, OnOk};
+ghost use Rattle.chr_plans.specs.Keys.{argument, key_of};
+ghost use Rattle.chr_plans.specs.Hashes.{key_hash};
+ghost use Rattle.chr_tables.specs.working.Indexes.{hashes_of, columns_of, rooms_of};
+
+use arrayvec::ArrayVec;
+use chr_base::atom::Atom;
+use chr_base::limits::MAX_ARITY;
+use chr_chains::Index;
+use chr_plans::hash::key_hash;
+use std::alloc::AllocError;
+
+/// An index by the values in some columns, which are counted from 0.
+#[derive(Drop)]
+pub(crate) struct Keyed {
+    pub(crate) columns: ArrayVec<usize, MAX_ARITY>,
+    pub(crate) index: Index,
+}
+
+/// An argument of an atom, 0 where it has none.
+fn argument(atom: &Atom, column: usize) -> i64
+    ensures { result ≡ argument atom.now column }
+{
+    if column < atom.args.len() {
+        atom.args[column]
+    } else {
+        0
+    }
+}
+
+/// The arguments of an atom in these columns.
+fn key_of(columns: &ArrayVec<usize, MAX_ARITY>, atom: &Atom) -> ArrayVec<i64, MAX_ARITY>
+    ensures { result.items ≡ key_of columns.now.items atom.now }
+{
+    let mut key = ArrayVec::new();
+    for column in columns.as_slice() {
+        key.push(argument(atom, *column));
+    }
+    key
+}
+
+/// The hash of an atom's key in these columns.
+fn hash_of(columns: &ArrayVec<usize, MAX_ARITY>, atom: &Atom) -> u32
+    ensures { result ≡ key_hash (key_of columns.now.items atom.now) }
+{
+    key_hash(&key_of(columns, atom))
+}
+
+/// A row dies in each index.
+pub(crate) fn kill_in(indexes: &mut [Keyed], row: u32)
+    requires { (j : ℕ) → j < length indexes.old → row < length (get_or (hashes_of indexes.old) j []) }
+    ensures columns { columns_of indexes.new ≡ columns_of indexes.old }
+    ensures rows { (j : ℕ) →
+        get_or (hashes_of indexes.new) j [] ≡ set (get_or (hashes_of indexes.old) j []) row None }
+{
+    for i in 0..indexes.len() {
+        indexes[i].index.kill(row);
+    }
+}
+
+/// Makes room for one row more in each index.
+pub(crate) fn reserve_in(indexes: &mut [Keyed]) -> Result<(), AllocError>
+    requires { (j : ℕ) → j < length indexes.old → length (get_or (hashes_of indexes.old) j []) + 1 < 2 ^ 32 }
+    ensures columns { columns_of indexes.new ≡ columns_of indexes.old }
+    ensures rows { hashes_of indexes.new ≡ hashes_of indexes.old }
+    ensures ok { OnOk result ((j : ℕ) → j < length indexes.old →
+        length (get_or (hashes_of indexes.old) j []) < get_or (rooms_of indexes.new) j 0) }
+{
+    for i in 0..indexes.len() {
+        indexes[i].index.reserve(1)?;
+    }
+    Ok(())
+}
+
+/// One more row in each index, under the hash of the atom's key there.
+pub(crate) fn push_in(indexes: &mut [Keyed], atom: &Atom)
+    requires room { (j : ℕ) → j < length indexes.old →
+        length (get_or (hashes_of indexes.old) j []) < get_or (rooms_of indexes.old) j 0 }
+    requires few { (j : ℕ) → j < length indexes.old → length (get_or (hashes_of indexes.old) j []) + 1 < 2 ^ 32 }
+    ensures columns { columns_of indexes.new ≡ columns_of indexes.old }
+    ensures rows { (j : ℕ) → j < length indexes.old →
+        get_or (hashes_of indexes.new) j []
+        ≡ get_or (hashes_of indexes.old) j []
+        ++ Some (key_hash (key_of (get_or (columns_of indexes.old) j []) atom.now)) ∷ [] }
+{
+    for i in 0..indexes.len() {
+        let hash = hash_of(&indexes[i].columns, atom);
+        indexes[i].index.push(hash);
+    }
+}

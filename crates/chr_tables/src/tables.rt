@@ -1,0 +1,30 @@
+//! All tables.
+use crate::table::Table;
+use chr_base::atom::Atom;
+use chr_plans::rows::Rows;
+
+/// Tables by their numbers, from 0.
+#[derive(Drop)]
+pub struct Tables {
+    pub tables: Vec<Table>,
+}
+
+impl Rows for Tables {
+    ghost use Rattle.chr_tables.specs.Contents.{rows_of, columns_of};
+
+    ghost rows = { λ s. rows_of s.tables.items };
+
+    ghost columns = { λ s. columns_of s.tables.items };
+
+    fn first(&mut self, table: usize, index: usize, key: &[i64]) -> Option<u32> {
+        self.tables[table].first(index, key)
+    }
+
+    fn next(&mut self, table: usize, index: usize, key: &[i64], row: u32) -> Option<u32> {
+        self.tables[table].next(index, key, row)
+    }
+
+    fn atom(&self, table: usize, row: u32) -> Atom {
+        self.tables[table].atom(row)
+    }
+}
