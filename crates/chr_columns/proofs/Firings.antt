@@ -266,3 +266,10 @@ module _ (rules : List Rule) (i : ℕ) (r : Rule) (p : ℕ) (heads : List Atom) 
       subst (λ x. Step rules (s ⊕ one x) (contents (grid us) ⊕ coming r p v.0)) a
       (subst (λ x. Step rules (s ⊕ one (atom_at v.0 (pattern_at r p))) (x ⊕ coming r p v.0)) (ap (λ hs. s ⊖ store_of (leaving r p hs)) v.1 ∙ sym left) step) in
       fire_beside rules s (contents (grid us)) (store_of F) (coming r p v.0) (store_of M) (head heads p) same (come v.0 v.1)
+
+-- an atom that was the last of the fresh ones
+pub popped : (s : Store) (xs ys : List Atom) (a : Atom) → xs ≡ ys ++ a ∷ [] → (s ⊕ store_of ys) ⊕ one a ≡ s ⊕ store_of xs
+popped s xs ys a e = plus_assoc s (store_of ys) (one a) ∙ ap (λ x. s ⊕ x) (sym (store_of-append ys (a ∷ []))) ∙ ap (λ x. s ⊕ store_of x) (sym e)
+
+pub swap_sides : (s f t : Store) → (s ⊕ t) ⊕ f ≡ (s ⊕ f) ⊕ t
+swap_sides s f t = same_store _ _ (λ q. simp count_plus (omega arith))

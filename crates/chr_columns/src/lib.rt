@@ -7,3 +7,4 @@
 mod firing;
 mod groups;
 mod rested;
+mod settle;
