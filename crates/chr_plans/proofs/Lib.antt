@@ -3,3 +3,5 @@ pub mod Places
 pub mod Searches
 pub mod Starts
 pub mod Reactions
+pub mod Distinct
+pub mod Making

@@ -5,6 +5,7 @@ use Rattle.std.proofs.lemmas.Bool.{cases_lt}
 use Rattle.std.proofs.lemmas.Option.{slice_get_read, same_Some, get_or_from_slice_get}
 use Rattle.chr_base.specs.declared.atom.Atom.{Atom}
 use Rattle.chr_base.specs.declared.rule.Rule.{Rule}
+use Rattle.chr_base.specs.Rules.{heads_of}
 use Rattle.chr_plans.specs.declared.rows.Seat.{Seat}
 use Rattle.chr_plans.specs.declared.plan.Plan.{Plan}
 use Rattle.chr_plans.specs.Rows.{Tables, Columns}
@@ -22,9 +23,9 @@ module _ (rules : List Rule) (rows : Tables) (columns : Columns) (a : Atom) (pla
       let f = rw at at fit in
       rw (rule ∙ get_or_from_slice_get rules plan.rule f.0 r f.1) f.1
 
-  pub reacts : (heads : List Atom) (seats : List Seat) → IsSeated r rows plan.place heads seats → head heads plan.place ≡ a
+  pub reacts : (heads : List Atom) (seats : List Seat) → IsSeated r rows plan.place heads seats → head heads plan.place ≡ a → length seats ≡ length (heads_of r)
       → Reacts rules rows a (slice_get plans j) heads seats
-  reacts heads seats s h = rw at (r, is_rule, s, h)
+  reacts heads seats s h n = rw at (r, is_rule, s, h, n)
 
   none_here : NoPartners r rows plan.place a → NoneBy rules rows a (slice_get plans j)
   none_here none = rw at (λ q e. subst (λ x. NoPartners x rows plan.place a) (same_Some r q (sym is_rule ∙ e)) none)

@@ -16,12 +16,13 @@ FitsPlan rules rows columns (Some plan) =
     (r : Rule) × (slice_get rules plan.rule ≡ Some r) × (plan.place < length (heads_of r))
     × IsPlan r plan.place (partners_of plan.lookups.items) × FitsTables r plan.lookups.items rows columns
 
--- the plan's rule has an instance with these heads: the atom is the one at its place, and the others sit in these rows
+-- The plan's rule has an instance with these heads. The atom is the one at the plan's place, and the others sit in these
+-- rows, of which there is one for each place.
 abbrev pub Reacts : List Rule → Tables → Atom → Option Plan → List Atom → List Seat → Type 0
 Reacts rules rows a None heads seats = ⊥
 Reacts rules rows a (Some plan) heads seats =
     (r : Rule) × (slice_get rules plan.rule ≡ Some r) × IsSeated r rows plan.place heads seats
-    × (head heads plan.place ≡ a)
+    × (head heads plan.place ≡ a) × (length seats ≡ length (heads_of r))
 
 -- at the plan's place the atom is in no instance with the rows
 abbrev pub NoneBy : List Rule → Tables → Atom → Option Plan → Type 0

@@ -9,6 +9,7 @@
 pub mod hash;
 pub mod key;
 pub mod plan;
+pub mod planning;
 pub mod react;
 pub mod rows;
 pub mod search;

@@ -1,4 +1,7 @@
 //! Plans: in which order the partners of an active atom are looked for, and by which of their arguments.
+ghost use Rattle.std.specs.Prelude.{◌≡◌};
+ghost use Rattle.chr_plans.specs.Plans.{columns_of};
+
 use crate::key::Key;
 use arrayvec::ArrayVec;
 use chr_base::limits::{MAX_ARITY, MAX_HEADS};
@@ -8,6 +11,33 @@ use chr_base::limits::{MAX_ARITY, MAX_HEADS};
 pub struct Partner {
     pub place: usize,
     pub key: ArrayVec<Key, MAX_ARITY>,
+}
+
+impl Partner {
+    /// The columns of the key: an index by these serves to look the partner up.
+    pub fn columns(&self) -> ArrayVec<usize, MAX_ARITY>
+        ensures { result.items ≡ columns_of self.now.key.items }
+    {
+        let mut columns = ArrayVec::new();
+        for part in self.key.as_slice() {
+            columns.push(part.column);
+        }
+        columns
+    }
+
+    /// An equal partner. It takes no memory.
+    pub fn copy(&self) -> Partner
+        ensures { result ≡ self.now }
+    {
+        let mut key = ArrayVec::new();
+        for part in self.key.as_slice() {
+            key.push(*part);
+        }
+        Partner {
+            place: self.place,
+            key,
+        }
+    }
 }
 
 /// The look-up of a partner: by which index of which table.

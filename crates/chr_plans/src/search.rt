@@ -117,6 +117,7 @@ pub fn find_partners<R: Rows>(
     ensures columns { R.columns rows.new ≡ R.columns rows.old }
     ensures found { OnTrue result (IsSeated rule.now (R.rows rows.old) place heads.new.items seats.new.items) }
     ensures active { OnTrue result (head heads.new.items place ≡ active.now) }
+    ensures seats { length seats.new.items ≡ length (heads_of rule.now) }
     ensures none { OnFalse result (NoPartners rule.now (R.rows rows.old) place active.now) }
 {
     start(rule, active, heads, seats);

@@ -1,7 +1,14 @@
+ghost use Rattle.std.specs.Prelude.{◌≡◌, ◌≤◌, length};
+ghost use Rattle.chr_base.specs.Rules.{heads_of};
+
 use crate::hash::key_hash;
 use crate::key::{Key, Source, key_values, value_of};
+use crate::planning::plan_of;
 use arrayvec::ArrayVec;
 use chr_base::atom::{Atom, SymbolId};
+use chr_base::limits::MAX_ARITY;
+use chr_base::rule::Rule;
+use chr_base::term::{Pattern, Term};
 use std::test::Fail;
 
 fn atom(symbol: u16, values: &[i64]) -> Atom {
@@ -93,5 +100,84 @@ fn values_of_keys(rt: HostRuntime) -> Result<(), Fail> {
         key_values(&heads, &ArrayVec::new()).as_slice(),
         [].as_slice()
     );
+    Ok(())
+}
+
+fn pattern(symbol: u16, terms: &[Term]) -> Pattern
+    requires { length terms.now ≤ MAX_ARITY }
+    ensures symbol { result.symbol.0 ≡ symbol }
+    ensures args { result.args.items ≡ terms.now }
+{
+    let mut args = ArrayVec::new();
+    for term in terms {
+        args.push(*term);
+    }
+    Pattern {
+        symbol: SymbolId(symbol),
+        args,
+    }
+}
+
+/// `a(X), b(Y), c(X, Y, 3) <=> a(Y)`, where `a`, `b` and `c` are the first, second and third symbol.
+#[tactic(auto, unfolding(chr_base::specs::RuleTests::is_in_bounds))]
+fn three_heads() -> Rule
+    ensures { length (heads_of result) ≡ 3 }
+{
+    let x = Term::Variable(1);
+    let y = Term::Variable(2);
+    let mut removed = ArrayVec::new();
+    removed.push(pattern(0, &[x]));
+    removed.push(pattern(1, &[y]));
+    removed.push(pattern(2, &[x, y, Term::Constant(3)]));
+    let mut body = ArrayVec::new();
+    body.push(pattern(0, &[y]));
+    Rule {
+        name: None,
+        kept: ArrayVec::new(),
+        removed,
+        guard: ArrayVec::new(),
+        body,
+    }
+}
+
+/// A key by an argument of a head.
+fn argument(column: usize, place: usize, of: usize) -> Key {
+    Key {
+        column,
+        source: Source::Argument { place, column: of },
+    }
+}
+
+/// A key by a constant.
+fn constant(column: usize, value: i64) -> Key {
+    Key {
+        column,
+        source: Source::Constant(value),
+    }
+}
+
+#[test]
+fn the_longest_key_comes_first(rt: HostRuntime) -> Result<(), Fail> {
+    let plan = plan_of(&three_heads(), 0);
+    assert_eq!(rt; plan.len(), 2);
+    assert_eq!(rt; plan[0].place, 2);
+    assert!(rt; plan[0].key.as_slice() == [argument(0, 0, 0), constant(2, 3)].as_slice());
+    assert!(rt; plan[0].columns().as_slice() == [0, 2].as_slice());
+    let copy = plan[0].copy();
+    assert_eq!(rt; copy.place, 2);
+    assert!(rt; copy.key.as_slice() == plan[0].key.as_slice());
+    assert_eq!(rt; plan[1].place, 1);
+    assert!(rt; plan[1].key.as_slice() == [argument(0, 2, 1)].as_slice());
+    Ok(())
+}
+
+#[test]
+fn the_first_place_comes_first(rt: HostRuntime) -> Result<(), Fail> {
+    let plan = plan_of(&three_heads(), 2);
+    assert_eq!(rt; plan.len(), 2);
+    assert_eq!(rt; plan[0].place, 0);
+    assert!(rt; plan[0].key.as_slice() == [argument(0, 2, 0)].as_slice());
+    assert_eq!(rt; plan[1].place, 1);
+    assert!(rt; plan[1].key.as_slice() == [argument(0, 2, 1)].as_slice());
     Ok(())
 }

@@ -3,3 +3,4 @@ pub mod Lives
 pub mod Keys
 pub mod Choices
 pub mod Reading
+pub mod OneTable

@@ -1,5 +1,7 @@
 ghost use Rattle.std.specs.Prelude.{◌≡◌, ◌+◌, ◌<◌, ◌^◌, [], ◌∷◌, ◌++◌, length, IfOk};
 
+mod searches;
+
 use crate::table::Table;
 use crate::tables::Tables;
 use arrayvec::ArrayVec;

@@ -1,0 +1,61 @@
+-- The plan that is made: which arguments are known, and which partner is next.
+use Rattle.std.specs.Prelude.{◌≡◌, ℕ, ◌+◌, ◌<◌, ◌≤◌, List, [], ◌∷◌, length, get_or, take, Option, Some, None, option_map, if◌then◌else◌, Bool, false, nat_eq}
+use Rattle.std.specs.List.{list_any}
+use Rattle.std.specs.Option.{option_or}
+use Rattle.chr_base.specs.declared.term.Term.{Term}
+use Rattle.chr_base.specs.declared.term.Term.TheVariants as term
+use Rattle.chr_base.specs.declared.rule.Rule.{Rule}
+use Rattle.chr_base.specs.Rules.{heads_of}
+use Rattle.chr_base.specs.RuleTests.{is_variable}
+use Rattle.chr_plans.specs.declared.key.Source.{Source}
+use Rattle.chr_plans.specs.declared.key.Source.TheVariants.{Constant, Argument}
+use Rattle.chr_plans.specs.declared.key.Key.{Key}
+use Rattle.chr_plans.specs.declared.plan.Partner.{Partner}
+use Rattle.chr_plans.specs.Plans.{pattern_at, places_of}
+
+-- the place is one of these
+abbrev pub is_in : ℕ → List ℕ → Bool
+is_in q known = list_any (nat_eq q) known
+
+-- the first column at which the terms, which begin at this column, have the variable
+abbrev pub column_of : List Term → ℕ → ℕ → Option ℕ
+column_of [] x column = None
+column_of (t ∷ ts) x column = if is_variable x t then Some column else column_of ts x (column + 1)
+
+-- where the variable first stands in the heads at these places
+abbrev pub variable_source : Rule → List ℕ → ℕ → Option Source
+variable_source r [] x = None
+variable_source r (q ∷ known) x =
+    option_or (option_map (λ c. Argument q c) (column_of (pattern_at r q).args.items x 0)) (variable_source r known x)
+
+-- where the value of a term comes from, when the heads at these places are known
+abbrev pub term_source : Rule → List ℕ → Term → Option Source
+term_source r known (term.Variable x) = variable_source r known x
+term_source r known (term.Constant c) = Some (Constant c)
+
+-- one key more, where the source is known
+abbrev pub with_key : ℕ → Option Source → List Key → List Key
+with_key column None keys = keys
+with_key column (Some s) keys = record { column = column; source = s } ∷ keys
+
+-- the keys of terms, which begin at this column: one for each whose value is known
+abbrev pub keys_from : Rule → List ℕ → ℕ → List Term → List Key
+keys_from r known column [] = []
+keys_from r known column (t ∷ ts) = with_key column (term_source r known t) (keys_from r known (column + 1) ts)
+
+-- the key of the head at a place
+abbrev pub key_at : Rule → List ℕ → ℕ → List Key
+key_at r known q = keys_from r known 0 (pattern_at r q).args.items
+
+-- among the first n places of the rule that are not known, the partner has a place with the longest key
+pub record IsLongest (r : Rule) (known : List ℕ) (n : ℕ) (l : Partner) : Type 0 where
+  pub within : l.place < n
+  pub new : is_in l.place known ≡ false
+  pub key : l.key.items ≡ key_at r known l.place
+  pub longest : (q : ℕ) → q < n → is_in q known ≡ false → length (key_at r known q) ≤ length l.key.items
+
+-- each partner is a longest one, when the active atom and the partners before it are known
+abbrev pub AreLongest : Rule → ℕ → List Partner → Type 0
+AreLongest r p partners =
+    (j : ℕ) (l : Partner) → j < length partners → get_or partners j l ≡ l
+    → IsLongest r (p ∷ take j (places_of partners)) (length (heads_of r)) l

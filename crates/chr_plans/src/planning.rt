@@ -1,0 +1,149 @@
+//! Plans are made: the partner of which most arguments are known is looked for next.
+ghost use Rattle.std.specs.Prelude.{◌≡◌, ◌<◌, ◌≤◌, ◌+◌, ◌++◌, ◌∷◌, [], length};
+ghost use Rattle.chr_base.specs.Rules.{heads_of};
+ghost use Rattle.chr_plans.specs.Plans.{IsPlan};
+ghost use Rattle.chr_plans.specs.Planning.{is_in, column_of, variable_source, term_source, keys_from, key_at, AreLongest};
+ghost use Rattle.chr_plans.specs.working.Choosing.{ArePlaces, IsChoice, longer};
+
+use crate::key::{Key, Source};
+use crate::plan::Partner;
+use arrayvec::ArrayVec;
+use chr_base::limits::{MAX_ARITY, MAX_HEADS};
+use chr_base::rule::Rule;
+use chr_base::term::Term;
+
+/// Whether a place is one of these.
+fn is_in(place: usize, known: &[usize]) -> bool
+    ensures { result ≡ is_in place known.now }
+{
+    known.contains(&place)
+}
+
+/// The first column at which the terms, which begin at this column, have the variable.
+fn column_of(terms: &[Term], variable: u8, column: usize) -> Option<usize>
+    requires { column + length terms.now ≤ MAX_ARITY }
+    ensures { result ≡ column_of terms.now variable column }
+{
+    let [term, terms @ ..] = terms else {
+        return None;
+    };
+    match term {
+        Term::Variable(x) if variable == *x => Some(column),
+        _ => column_of(terms, variable, column + 1),
+    }
+}
+
+/// Where the variable first stands in the heads at these places.
+fn variable_source(rule: &Rule, known: &[usize], variable: u8) -> Option<Source>
+    requires { ArePlaces rule.now known.now }
+    ensures { result ≡ variable_source rule.now known.now variable }
+{
+    let [place, known @ ..] = known else {
+        return None;
+    };
+    match column_of(&rule.head_at(*place).args, variable, 0) {
+        Some(column) => Some(Source::Argument {
+            place: *place,
+            column,
+        }),
+        None => variable_source(rule, known, variable),
+    }
+}
+
+/// Where the value of a term comes from, when the heads at these places are known.
+fn term_source(rule: &Rule, known: &[usize], term: Term) -> Option<Source>
+    requires { ArePlaces rule.now known.now }
+    ensures { result ≡ term_source rule.now known.now term }
+{
+    match term {
+        Term::Variable(variable) => variable_source(rule, known, variable),
+        Term::Constant(value) => Some(Source::Constant(value)),
+    }
+}
+
+/// Adds a key for each of these terms, which begin at this column, whose value is known.
+fn push_keys(
+    rule: &Rule,
+    known: &[usize],
+    terms: &[Term],
+    column: usize,
+    key: &mut ArrayVec<Key, MAX_ARITY>,
+)
+    requires places { ArePlaces rule.now known.now }
+    requires column { column + length terms.now ≤ MAX_ARITY }
+    requires room { length key.old.items ≤ column }
+    ensures { key.new.items ≡ key.old.items ++ keys_from rule.now known.now column terms.now }
+{
+    let [term, terms @ ..] = terms else {
+        return;
+    };
+    if let Some(source) = term_source(rule, known, *term) {
+        key.push(Key { column, source });
+    }
+    push_keys(rule, known, terms, column + 1, key);
+}
+
+/// The key of the head at a place: each argument whose value is known, in order.
+fn key_at(rule: &Rule, known: &[usize], place: usize) -> ArrayVec<Key, MAX_ARITY>
+    requires places { ArePlaces rule.now known.now }
+    requires place { place < length (heads_of rule.now) }
+    ensures { result.items ≡ key_at rule.now known.now place }
+{
+    let mut key = ArrayVec::new();
+    push_keys(rule, known, &rule.head_at(place).args, 0, &mut key);
+    key
+}
+
+/// The one with the longer key, the first where both are as long.
+fn longer(best: Option<Partner>, next: Partner) -> Partner
+    ensures { result ≡ longer best next }
+{
+    match best {
+        Some(partner) => {
+            if partner.key.len() < next.key.len() {
+                next
+            } else {
+                partner
+            }
+        }
+        None => next,
+    }
+}
+
+/// The first partner with the longest key among the places that are not known; None where all are.
+fn next_partner(rule: &Rule, known: &[usize]) -> Option<Partner>
+    requires { ArePlaces rule.now known.now }
+    ensures { IsChoice rule.now known.now (length (heads_of rule.now)) result }
+{
+    let mut best: Option<Partner> = None;
+    for place in 0..rule.places() {
+        if !is_in(place, known) {
+            best = Some(longer(
+                best,
+                Partner {
+                    place,
+                    key: key_at(rule, known, place),
+                },
+            ));
+        }
+    }
+    best
+}
+
+/// The plan of an occurrence: partners in the order in which they are to be looked for, with their keys. Next comes always
+/// a partner of which as many arguments are known as of any other that is left: constants, and variables that stand in the
+/// active atom or in a partner before.
+pub fn plan_of(rule: &Rule, place: usize) -> ArrayVec<Partner, MAX_HEADS>
+    requires { place < length (heads_of rule.now) }
+    ensures plan { IsPlan rule.now place result.items }
+    ensures longest { AreLongest rule.now place result.items }
+{
+    let mut known = ArrayVec::<usize, MAX_HEADS>::new();
+    known.push(place);
+    let mut partners = ArrayVec::new();
+    while let Some(partner) = next_partner(rule, &known) {
+        known.push(partner.place);
+        partners.push(partner);
+    }
+    partners
+}
