@@ -4,3 +4,4 @@ pub mod Stored
 pub mod Reacting
 pub mod Putting
 pub mod Firings
+pub mod Makings

@@ -2,3 +2,4 @@
 pub mod Groups
 pub mod Resting
 pub mod Firing
+pub mod Making

@@ -6,5 +6,6 @@
 
 mod firing;
 mod groups;
+mod making;
 mod rested;
 mod settle;
