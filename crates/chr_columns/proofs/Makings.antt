@@ -1,8 +1,16 @@
 -- Indexes that are added one by one.
-use Rattle.std.proofs.Common.{◌≡◌, ℕ, zero, suc, ◌+◌, ◌<◌, List, [], ◌∷◌, ◌++◌, map, length, get_or, set, refl, sym, ap, ◌∙◌, arith, inl, inr, ◌⊎◌}
+use Rattle.std.proofs.Common.{◌≡◌, ℕ, zero, suc, ◌<◌, List, [], ◌∷◌, ◌++◌, map, length, get_or, set, refl, sym, ap, subst, ◌∙◌, arith, inl, inr, ◌⊎◌, length-append}
 use Rattle.std.specs.Prelude.{Some, slice_get}
 use Rattle.std.proofs.lemmas.Bool.{cases_lt}
-use Rattle.std.proofs.lemmas.List.{map-set, map-append, length-map, get_or-map, get_or_default, get_or-set_same, get_or-set_other}
+use Rattle.std.proofs.lemmas.List.{map-set, length-map, get_or-map, get_or-set_same, get_or-set_other, get_or_append_left}
+use Rattle.std.proofs.Math.Seq.{get_or-append_seam}
+use Rattle.chr_base.specs.declared.rule.Rule.{Rule}
+use Rattle.chr_plans.specs.declared.plan.Lookup.{Lookup}
+use Rattle.chr_plans.specs.Rows.{Columns}
+use Rattle.chr_plans.specs.Plans.{pattern_at, columns_of}
+use Rattle.chr_columns.specs.declared.groups.Group.{Group}
+use Rattle.chr_columns.specs.working.Groups.{table_of_pattern}
+use Rattle.chr_columns.specs.working.Resting.{AreIndexed}
 use Rattle.chr_columns.specs.declared.making.Keys.{Keys}
 use Rattle.chr_columns.specs.working.Making.{lists_of, columns_in, Grows}
 
@@ -51,3 +59,14 @@ module _ (keys : List Keys) (t : ℕ) (old new : Keys) (cs : List ℕ) (within :
 
 pub same_grows : (keys : List Keys) (t : ℕ) (old new : Keys) → t < length keys → old ≡ get_or keys t old → lists_of new ≡ lists_of old → Grows (columns_in keys) (columns_in (set keys t new))
 same_grows keys t old new l e same = grows_at keys t old new l e (λ i x h. ap (λ xs. slice_get xs i) same ∙ h)
+
+-- one look-up more
+pub indexed_more : (r : Rule) (groups : List Group) (before after : Columns) (ls : List Lookup) (l : Lookup) → Grows before after → AreIndexed r groups before ls
+    → after l.table l.index ≡ Some (columns_of l.partner.key.items) → l.table ≡ table_of_pattern groups (pattern_at r l.partner.place) → AreIndexed r groups after (ls ++ l ∷ [])
+indexed_more r groups before after ls l grows old index table j k h here = elim (cases_lt j (length ls)) as (λ _. (after k.table k.index ≡ Some (columns_of k.partner.key.items)) × (k.table ≡ table_of_pattern groups (pattern_at r k.partner.place))) [
+  | inl less ↦ (let o = old j k less (sym (get_or_append_left ls (l ∷ []) k j less) ∙ here) in (grows k.table k.index _ o.0, o.1))
+  | inr most ↦ (let n = length-append ls (l ∷ []) in
+      let i : j ≡ length ls = omega (arith, h, n, most) in
+      let same : l ≡ k = sym (get_or-append_seam ls l [] k) ∙ ap (λ i. get_or (ls ++ l ∷ []) i k) (sym i) ∙ here in
+      subst (λ (x : Lookup). (after x.table x.index ≡ Some (columns_of x.partner.key.items)) × (x.table ≡ table_of_pattern groups (pattern_at r x.partner.place))) same (index, table))
+]

@@ -1,13 +1,13 @@
 -- An atom that joins the tables.
-use Rattle.std.proofs.Common.{◌≡◌, ℕ, ◌+◌, ◌<◌, ◌≤◌, List, [], ◌∷◌, ◌++◌, map, length, get_or, set, refl, sym, ap, subst, ◌∙◌, arith, inl, inr}
-use Rattle.std.specs.Prelude.{Some, None, slice_get, IsTrue, is_some, Result, Ok, Err, OnErr}
+use Rattle.std.proofs.Common.{◌≡◌, ℕ, ◌<◌, ◌≤◌, List, [], ◌∷◌, ◌++◌, length, get_or, set, sym, ap, subst, ◌∙◌, arith, inl, inr}
+use Rattle.std.specs.Prelude.{Some, slice_get, IsTrue, is_some, Result, Ok, Err, OnErr}
 use Rattle.std.proofs.Math.ListN.{get_or-map}
 use Rattle.std.proofs.lemmas.List.{length-map, get_or_default, set-get_or}
 use Rattle.chr_base.specs.declared.atom.Atom.{Atom}
 use Rattle.chr_base.specs.declared.rule.Rule.{Rule}
 use Rattle.chr_base.specs.FinBag.{◌⊕◌}
 use Rattle.chr_plans.specs.declared.plan.Plan.{Plan}
-use Rattle.chr_plans.specs.Rows.{Tables, Columns}
+use Rattle.chr_plans.specs.Rows.{Columns}
 use Rattle.chr_tables.specs.Contents.{Contents, no_table, rows_of, columns_of}
 use Rattle.chr_actives.specs.Actives.{one}
 use Rattle.chr_actives.specs.Grids.{Grid, contents, rows_in}

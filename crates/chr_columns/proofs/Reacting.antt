@@ -1,6 +1,6 @@
 -- What plans of all places find, and what it says of the store in the tables.
-use Rattle.std.proofs.Common.{◌≡◌, ℕ, ◌<◌, List, length, get_or, map, true, refl, sym, ap, subst, ◌∙◌, arith, inl, inr}
-use Rattle.std.specs.Prelude.{Some, None, slice_get}
+use Rattle.std.proofs.Common.{◌≡◌, ℕ, ◌<◌, List, length, get_or, refl, sym, ap, subst, ◌∙◌, arith, inl, inr}
+use Rattle.std.specs.Prelude.{Some, slice_get}
 use Rattle.std.proofs.lemmas.Option.{slice_get_within, slice_get_cases, slice_get_read, same_Some}
 use Rattle.chr_base.specs.declared.atom.Atom.{Atom}
 use Rattle.chr_base.specs.declared.rule.Rule.{Rule}
@@ -8,13 +8,13 @@ use Rattle.chr_base.specs.Rules.{heads_of}
 use Rattle.chr_plans.specs.declared.plan.Plan.{Plan}
 use Rattle.chr_plans.specs.declared.rows.Seat.{Seat}
 use Rattle.chr_plans.specs.Rows.{Tables, Columns}
-use Rattle.chr_plans.specs.Plans.{pattern_at, has_shape}
+use Rattle.chr_plans.specs.Plans.{pattern_at}
 use Rattle.chr_plans.specs.Reactions.{FitsPlan, NoneBy, Reacts}
 use Rattle.chr_plans.specs.Seats.{head, IsSeated, NoPartners}
 use Rattle.chr_plans.proofs.Values.{shape_known}
 use Rattle.chr_tables.specs.Contents.{Contents, rows_of, columns_of}
 use Rattle.chr_actives.specs.Actives.{NoInstanceWith}
-use Rattle.chr_actives.specs.Grids.{contents, rows_in}
+use Rattle.chr_actives.specs.Grids.{contents}
 use Rattle.chr_actives.proofs.Around.{rows_are_enough}
 use Rattle.chr_columns.specs.declared.groups.Group.{Group}
 use Rattle.chr_columns.specs.working.Groups.{table_of_atom, table_of_pattern}

@@ -1,20 +1,19 @@
 -- The store in tables, when rows are read, killed and put in.
-use Rattle.std.proofs.Common.{◌≡◌, ℕ, zero, suc, ◌+◌, ◌<◌, ◌≤◌, List, [], ◌∷◌, ◌++◌, map, length, get_or, set, take, drop, Option, refl, sym, ap, ◌∙◌, arith, inl, inr, ◌⊎◌, true, false}
+use Rattle.std.proofs.Common.{◌≡◌, ℕ, zero, suc, ◌+◌, ◌<◌, List, [], ◌∷◌, ◌++◌, map, length, get_or, set, take, Option, refl, sym, ap, ◌∙◌, arith, inl, inr, ◌⊎◌, false}
 use Rattle.std.specs.Prelude.{Some, None, is_some, IsTrue, slice_get}
 use Rattle.std.proofs.lemmas.Bool.{cases_lt}
 use Rattle.std.proofs.Math.ListN.{get_or-map}
 use Rattle.std.proofs.Math.Seq.{map-set_same}
-use Rattle.std.proofs.lemmas.List.{map-set, get_or_past, get_or_default, length-map, length-set, get_or-set_same, get_or-set_other}
+use Rattle.std.proofs.lemmas.List.{map-set, get_or_past, get_or_default, length-set}
 use Rattle.chr_base.specs.declared.atom.Atom.{Atom}
 use Rattle.chr_base.specs.Atoms.{atom_cmp}
-use Rattle.chr_base.specs.FinBag.{◌⊕◌, count_in, total}
-use Rattle.chr_base.specs.Stores.{Store, store_of, count}
+use Rattle.chr_base.specs.FinBag.{◌⊕◌, count_in}
 use Rattle.chr_base.proofs.Atoms.{atom_total}
-use Rattle.chr_base.proofs.FinBags.{count-of_list, total-append}
+use Rattle.chr_base.proofs.FinBags.{count-of_list}
 use Rattle.chr_base.proofs.Stores.{same_store, count_plus}
 use Rattle.chr_plans.specs.declared.rows.Seat.{Seat}
-use Rattle.chr_plans.specs.Rows.{Tables, Columns}
-use Rattle.chr_plans.specs.Seats.{seat, no_seat, atom_in}
+use Rattle.chr_plans.specs.Rows.{Tables}
+use Rattle.chr_plans.specs.Seats.{seat, no_seat}
 use Rattle.chr_tables.specs.Contents.{Contents, no_table, rows_of, columns_of}
 use Rattle.chr_actives.specs.Actives.{one}
 use Rattle.chr_actives.specs.Grids.{Grid, live_atoms, contents, rows_in, without_row, without_rows}

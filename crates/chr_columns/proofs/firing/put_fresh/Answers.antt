@@ -1,4 +1,4 @@
-use Rattle.std.proofs.Common.{◌≡◌, ◌∷◌, [], ◌++◌, sym, ap, ◌∙◌, arith}
+use Rattle.std.proofs.Common.{◌∷◌, [], ◌++◌, ap, ◌∙◌, arith}
 use Rattle.chr_base.specs.Stores.{store_of}
 use Rattle.chr_columns.proofs.Firings.{come_kept, come_removed}
 use Rattle.chr_columns.proofs.firing.put_fresh.Goals as goal

@@ -1,8 +1,7 @@
-use Rattle.std.proofs.Common.{◌≡◌, ◌<◌, ◌++◌, ◌∷◌, [], List, ℕ, map, length, sym, ap, ◌∙◌, arith}
+use Rattle.std.proofs.Common.{◌≡◌, ◌<◌, ◌++◌, ◌∷◌, [], map, length, sym, ap, ◌∙◌, arith}
 use Rattle.std.proofs.lemmas.List.{map-append, length-map, get_or_default}
-use Rattle.chr_plans.specs.Plans.{pattern_at, columns_of}
+use Rattle.chr_plans.specs.Plans.{columns_of}
 use Rattle.chr_columns.specs.declared.making.Keys.{Keys}
-use Rattle.chr_columns.specs.working.Groups.{table_of, table_of_pattern}
 use Rattle.chr_columns.specs.working.Making.{lists_of}
 use Rattle.chr_columns.proofs.Finding.{table_of_most}
 use Rattle.chr_columns.proofs.Makings.{index_grows, index_there, same_grows}

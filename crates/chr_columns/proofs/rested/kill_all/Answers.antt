@@ -1,7 +1,5 @@
-use Rattle.std.proofs.Common.{◌≡◌, ◌<◌, length, get_or, set, sym, ap, ◌∙◌, arith}
-use Rattle.std.specs.Prelude.{None}
+use Rattle.std.proofs.Common.{◌<◌, length, arith}
 use Rattle.chr_plans.specs.Seats.{seat}
-use Rattle.chr_tables.specs.Contents.{Contents, no_table}
 use Rattle.chr_columns.proofs.Stored.{row_there, kill_rows, kill_keys, kill_many, same_columns}
 use Rattle.chr_columns.proofs.rested.kill_all.Goals as goal
 

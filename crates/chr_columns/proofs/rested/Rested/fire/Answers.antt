@@ -1,10 +1,10 @@
-use Rattle.std.proofs.Common.{◌≡◌, ◌<◌, List, length, drop, sym, ap, subst, ◌∙◌, arith}
-use Rattle.std.specs.Prelude.{Some, slice_get}
+use Rattle.std.proofs.Common.{◌<◌, length, drop, ap, subst, ◌∙◌}
+use Rattle.std.specs.Prelude.{Some}
 use Rattle.chr_base.specs.declared.rule.Rule.{Rule}
 use Rattle.chr_base.specs.Rules.{heads_of}
 use Rattle.chr_plans.specs.Seats.{IsSeated}
 use Rattle.chr_tables.specs.Contents.{rows_of}
-use Rattle.chr_columns.specs.working.Firing.{kept_others, leaving}
+use Rattle.chr_columns.specs.working.Firing.{leaving}
 use Rattle.chr_columns.proofs.Firings.{rule_is, sit_there, sit_left, fired, left_over, part_left}
 use Rattle.chr_columns.proofs.rested.Rested.fire.Goals as goal
 

@@ -1,10 +1,8 @@
-use Rattle.std.proofs.Common.{◌≡◌, ℕ, ◌<◌, ◌≤◌, length, get_or, slice_get, refl, sym, ap, subst, ◌∙◌, arith}
-use Rattle.std.specs.Prelude.{Some, None}
+use Rattle.std.proofs.Common.{◌≡◌, ℕ, ◌<◌, ◌≤◌, length, slice_get, refl, sym, ap, subst, ◌∙◌, arith}
 use Rattle.std.proofs.lemmas.Bool.Decides.{nat_tests}
 use Rattle.std.proofs.lemmas.Option.{slice_get_within, slice_get_read, same_Some}
-use Rattle.chr_plans.specs.Reactions.{FitsPlan, NoneBy, Reacts}
-use Rattle.chr_plans.specs.Seats.{IsSeated}
-use Rattle.chr_tables.specs.Contents.{rows_of, columns_of}
+use Rattle.chr_plans.specs.Reactions.{NoneBy, Reacts}
+use Rattle.chr_tables.specs.Contents.{rows_of}
 use Rattle.chr_columns.specs.working.Groups.{table_of, table_of_atom}
 use Rattle.chr_columns.proofs.Reacting.{all_fit, none_with, reacting, same_set_up, same_stored, group_at, is_one}
 use Rattle.chr_columns.proofs.rested.Rested.react.Goals as goal
