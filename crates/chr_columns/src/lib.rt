@@ -8,4 +8,5 @@ mod firing;
 mod groups;
 mod making;
 mod rested;
+mod same;
 mod settle;
