@@ -35,8 +35,8 @@ fn seats_of(seats: &[Seat], count: usize) -> ArrayVec<Seat, MAX_HEADS>
 fn partner_rows(rule: &Rule, place: usize, seats: &[Seat]) -> ArrayVec<Seat, MAX_HEADS>
     requires { place < length (heads_of rule.now) }
     ensures count { length result.items + 1 ≡ length (heads_of rule.now) }
-    ensures sit { (tables : Grid) → (heads : List AtomValue) → IsSeated rule.now (rows_in tables) place heads seats.now →
-        SitIn tables (remove heads place) result.items }
+    ensures sit { (tables : Grid) → (heads : List AtomValue) →
+        IsSeated rule.now (rows_in tables) place heads seats.now → SitIn tables (remove heads place) result.items }
 {
     let mut rows = seats_of(seats, rule.places());
     rows.remove(place);
@@ -77,7 +77,8 @@ fn put_fresh(rule: &Rule, place: usize, heads: &[Atom], fresh: &mut Vec<Atom>)
 }
 
 impl Rested {
-    /// The rule fires: the removed heads leave the rows, and its body becomes fresh, with the active atom where it is kept.
+    /// The rule fires: the removed heads leave the rows, and its body becomes fresh, with the active atom where it
+    /// is kept.
     pub(crate) fn fire(
         &mut self,
         o: Occurrence,

@@ -33,7 +33,8 @@ fn look_up(
     ensures grows { Grows (columns_in keys.old.items) (columns_in keys.new.items) }
     ensures partner { IfOk result (λ l. l.partner ≡ partner.now) }
     ensures table { IfOk result (λ l. l.table ≡ table_of_pattern groups.now (pattern_at rule.now partner.now.place)) }
-    ensures index { IfOk result (λ l. columns_in keys.new.items l.table l.index ≡ Some (columns_of partner.now.key.items)) }
+    ensures index { IfOk result (λ l.
+        columns_in keys.new.items l.table l.index ≡ Some (columns_of partner.now.key.items)) }
 {
     let pattern = rule.head_at(partner.place);
     let table = table_of(groups, pattern.symbol, pattern.args.len());

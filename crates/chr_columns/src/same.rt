@@ -5,7 +5,8 @@ ghost use Rattle.chr_base.specs.Sameness.{parts_of};
 
 use chr_base::rule::Rule;
 
-/// Whether both lists have the same rules in the same order. What is at rest under the one is then at rest under the other.
+/// Whether both lists have the same rules in the same order. What is at rest under the one is then at rest under
+/// the other.
 pub(crate) fn are_same(left: &[Rule], right: &[Rule]) -> bool
     ensures { OnTrue result (map parts_of left.now ≡ map parts_of right.now) }
 {

@@ -24,7 +24,8 @@ impl Rested {
         ensures stepped { IfOk result (λ stepped. OnTrue stepped (Step self.old.rules.items
             ((stored self.old ⊕ store_of fresh.old.items) ⊕ one active.now)
             (stored self.new ⊕ store_of fresh.new.items))) }
-        ensures joined { IfOk result (λ stepped. OnFalse stepped (stored self.new ≡ stored self.old ⊕ one active.now)) }
+        ensures joined { IfOk result (λ stepped. OnFalse stepped
+            (stored self.new ≡ stored self.old ⊕ one active.now)) }
         ensures same { IfOk result (λ stepped. OnFalse stepped (fresh.new ≡ fresh.old)) }
         ensures err { OnErr result (stored self.new ≡ stored self.old) }
         ensures err_same { OnErr result (fresh.new ≡ fresh.old) }
@@ -39,7 +40,8 @@ impl Rested {
         Ok(false)
     }
 
-    /// One step with a fresh atom; false where all of them joined those at rest. Where memory is refused there is no step.
+    /// One step with a fresh atom; false where all of them joined those at rest. Where memory is refused there is
+    /// no step.
     pub(crate) fn settle(&mut self, fresh: &mut Vec<Atom>) -> Result<bool, AllocError>
         requires { IsRested self.old }
         ensures rested { IsRested self.new }
