@@ -1,0 +1,56 @@
+use Rattle.std.proofs.Common.{◌<◌, length, drop, ap, subst, ◌∙◌}
+use Rattle.std.specs.Prelude.{Some}
+use Rattle.chr_base.specs.declared.rule.Rule.{Rule}
+use Rattle.chr_base.specs.Rules.{heads_of}
+use Rattle.chr_plans.specs.Seats.{IsSeated}
+use Rattle.chr_tables.specs.Contents.{rows_of}
+use Rattle.chr_columns.specs.working.Firing.{leaving}
+use Rattle.chr_columns.proofs.Firings.{rule_is, sit_there, sit_left, fired, left_over, part_left}
+use Rattle.chr_columns.proofs.rested.Rested.fire.Goals as goal
+
+pub kill_all-requires : goal.kill_all-requires
+kill_all-requires c =
+    let ts = c.args.self.now.tables.tables.items in
+    let p = c.args.o.place in
+    let r = c.index-rule.result.now in
+    let is = c.requires.instance in
+    let same = rule_is c.args.self.now.rules.items c.args.o.rule is.rule r is.at c.index-rule.ensures in
+    let at = is.at ∙ ap Some same in
+    let place = subst (λ (x : Rule). p < length (heads_of x)) same is.within in
+    let seated = subst (λ x. IsSeated x (rows_of ts) p c.args.heads.now c.args.seats.now) same is.seated in
+    let back = c.split_at.ensures.back ∙ (λ i. drop (c.kept_others-first.ensures i) (c.deref.ensures.0 i)) in
+    sit_there ts (leaving r p c.args.heads.now) c.split_at.result.1.now
+    (sit_left c.args.self.now.rules.items c.args.o.rule r p c.args.heads.now c.args.seats.now c.partner_rows-rows.result.items c.split_at.result.1.now ts at place seated c.partner_rows-rows.ensures.sit back)
+
+pub returns-clause-rested : goal.returns-clause-rested
+returns-clause-rested c =
+    let ts = c.args.self.now.tables.tables.items in
+    let us = c.kill_all.new.tables.tables.items in
+    let p = c.args.o.place in
+    let r = c.index-rule.result.now in
+    let is = c.requires.instance in
+    let same = rule_is c.args.self.now.rules.items c.args.o.rule is.rule r is.at c.index-rule.ensures in
+    let at = is.at ∙ ap Some same in
+    let place = subst (λ (x : Rule). p < length (heads_of x)) same is.within in
+    let seated = subst (λ x. IsSeated x (rows_of ts) p c.args.heads.now c.args.seats.now) same is.seated in
+    let back = c.split_at.ensures.back ∙ (λ i. drop (c.kept_others-first.ensures i) (c.deref.ensures.0 i)) in
+    let sit = sit_left c.args.self.now.rules.items c.args.o.rule r p c.args.heads.now c.args.seats.now c.partner_rows-rows.result.items c.split_at.result.1.now ts at place seated c.partner_rows-rows.ensures.sit back in
+    record {
+      set_up = left_over c.args.self.now.rules.items c.args.self.now.groups.items ts us (leaving r p c.args.heads.now) c.split_at.result.1.now c.kill_all.ensures.rows c.kill_all.ensures.columns c.requires.rested.set_up;
+      rests = part_left c.args.self.now.rules.items ts us (leaving r p c.args.heads.now) c.split_at.result.1.now c.kill_all.ensures.rows sit c.requires.rested.rests;
+    }
+
+pub returns-clause-step : goal.returns-clause-step
+returns-clause-step c =
+    let ts = c.args.self.now.tables.tables.items in
+    let us = c.kill_all.new.tables.tables.items in
+    let p = c.args.o.place in
+    let r = c.index-rule.result.now in
+    let is = c.requires.instance in
+    let same = rule_is c.args.self.now.rules.items c.args.o.rule is.rule r is.at c.index-rule.ensures in
+    let at = is.at ∙ ap Some same in
+    let place = subst (λ (x : Rule). p < length (heads_of x)) same is.within in
+    let seated = subst (λ x. IsSeated x (rows_of ts) p c.args.heads.now c.args.seats.now) same is.seated in
+    let back = c.split_at.ensures.back ∙ (λ i. drop (c.kept_others-first.ensures i) (c.deref.ensures.0 i)) in
+    fired c.args.self.now.rules.items c.args.o.rule r p c.args.heads.now c.args.seats.now c.partner_rows-rows.result.items c.split_at.result.1.now ts at place seated c.partner_rows-rows.ensures.sit back
+    us c.args.fresh.now.items c.put_fresh.new.fresh.items c.kill_all.ensures.rows c.put_fresh.ensures

@@ -1,0 +1,15 @@
+use Rattle.std.proofs.Common.{◌≡◌, vec_len}
+use Rattle.chr_base.specs.FinBag.{◌⊕◌}
+use Rattle.chr_base.specs.Stores.{store_of}
+use Rattle.chr_columns.specs.working.Resting.{stored, IsRested}
+use Rattle.chr_columns.proofs.rested.Rested.settle.Given as goal
+
+abbrev pub invariant-loop-fresh : goal.invariant-loop-fresh
+invariant-loop-fresh l = record {
+  rested : IsRested l.self;
+  rules : l.self.rules ≡ l.fn.self.rules;
+  same : stored l.self ⊕ store_of l.fresh.items ≡ stored l.fn.self ⊕ store_of l.fn.fresh.items;
+}
+
+abbrev pub decreases-loop-fresh : goal.decreases-loop-fresh
+decreases-loop-fresh l = vec_len l.fresh

@@ -1,0 +1,5 @@
+-- What private contracts, fields and proofs speak of.
+pub mod Groups
+pub mod Resting
+pub mod Firing
+pub mod Making

@@ -1,0 +1,23 @@
+-- What leaves the rows and what becomes fresh when a rule fires.
+use Rattle.std.specs.Prelude.{ℕ, ◌-◌, List, length, drop, remove, nat_lt, if◌then◌else◌}
+use Rattle.chr_base.specs.declared.atom.Atom.{Atom}
+use Rattle.chr_base.specs.declared.rule.Rule.{Rule}
+use Rattle.chr_base.specs.FinBag.{◌⊕◌}
+use Rattle.chr_base.specs.Rules.{Valuation, atoms_at, atom_at}
+use Rattle.chr_base.specs.Stores.{Store, store_of}
+use Rattle.chr_plans.specs.Plans.{pattern_at}
+use Rattle.chr_actives.specs.Actives.{one}
+
+-- how many of the heads without the active one are kept
+abbrev pub kept_others : Rule → ℕ → ℕ
+kept_others r p = if nat_lt p (length r.kept.items) then length r.kept.items - 1 else length r.kept.items
+
+-- the removed heads without the active one
+abbrev pub leaving : Rule → ℕ → List Atom → List Atom
+leaving r p heads = drop (kept_others r p) (remove heads p)
+
+-- the body, and the active atom where it is kept
+abbrev pub coming : Rule → ℕ → Valuation → Store
+coming r p v =
+    if nat_lt p (length r.kept.items) then store_of (atoms_at v r.body.items) ⊕ one (atom_at v (pattern_at r p))
+    else store_of (atoms_at v r.body.items)

@@ -1,0 +1,69 @@
+-- Atoms at rest in tables, and the plans by which they are found.
+use Rattle.std.specs.Prelude.{◌≡◌, ℕ, ◌<◌, ◌≤◌, List, length, map, get_or, Some, slice_get, IsTrue, is_some}
+use Rattle.chr_base.specs.declared.atom.Atom.{Atom}
+use Rattle.chr_base.specs.declared.rule.Rule.{Rule}
+use Rattle.chr_base.specs.Rules.{Step, heads_of}
+use Rattle.chr_base.specs.Rewriting.{IsAtRest}
+use Rattle.chr_base.specs.Stores.{Store}
+use Rattle.chr_plans.specs.declared.plan.Lookup.{Lookup}
+use Rattle.chr_plans.specs.declared.plan.Plan.{Plan}
+use Rattle.chr_plans.specs.declared.rows.Seat.{Seat}
+use Rattle.chr_plans.specs.Rows.{Tables, Columns}
+use Rattle.chr_plans.specs.Plans.{IsPlan, pattern_at, partners_of}
+use Rattle.chr_plans.specs.Plans as plan
+use Rattle.chr_plans.specs.Seats.{IsSeated, head}
+use Rattle.chr_tables.specs.Contents.{Contents, rows_of, columns_of}
+use Rattle.chr_actives.specs.Grids.{Grid, contents}
+use Rattle.chr_columns.specs.declared.groups.Group.{Group}
+use Rattle.chr_columns.specs.declared.rested.Rested.{Rested}
+use Rattle.chr_columns.specs.declared.rested.Occurrence.{Occurrence}
+use Rattle.chr_columns.specs.working.Groups.{table_of_atom, table_of_pattern}
+
+-- the rows of tables
+abbrev pub grid : List Contents → Grid
+grid tables = map (λ t. t.rows) tables
+
+-- the atoms at rest
+abbrev pub stored : Rested → Store
+stored r = contents (grid r.tables.tables.items)
+
+-- each look-up is in the table of its head, by an index with the columns of its key
+abbrev pub AreIndexed : Rule → List Group → Columns → List Lookup → Type 0
+AreIndexed r groups columns lookups =
+    (j : ℕ) (l : Lookup) → j < length lookups → get_or lookups j l ≡ l
+    → (columns l.table l.index ≡ Some (plan.columns_of l.partner.key.items))
+    × (l.table ≡ table_of_pattern groups (pattern_at r l.partner.place))
+
+-- the plan is one of its rule and place
+abbrev pub IsPlanned : List Rule → List Group → Columns → Plan → Type 0
+IsPlanned rules groups columns p =
+    (r : Rule) × (slice_get rules p.rule ≡ Some r) × (p.place < length (heads_of r))
+    × IsPlan r p.place (partners_of p.lookups.items) × AreIndexed r groups columns p.lookups.items
+
+-- a plan of this rule and place is in the group of its head
+abbrev pub HasPlan : List Group → ℕ → ℕ → ℕ → Type 0
+HasPlan groups t i p =
+    (g : Group) × (j : ℕ) × (plan : Plan) × (slice_get groups t ≡ Some g)
+    × (slice_get g.plans.items j ≡ Some plan) × (plan.rule ≡ i) × (plan.place ≡ p)
+
+-- each table has an index by no columns, each atom is in its table, and each head place has a plan
+pub record IsSetUp (rules : List Rule) (groups : List Group) (rows : Tables) (columns : Columns) : Type 0 where
+  pub tables : (t : ℕ) → t ≤ length groups → IsTrue (is_some (columns t 0))
+  pub placed : (t n : ℕ) (a : Atom) → rows t n ≡ Some a → t ≡ table_of_atom groups a
+  pub plans : (t : ℕ) (g : Group) (j : ℕ) (p : Plan) → slice_get groups t ≡ Some g → slice_get g.plans.items j ≡ Some p
+      → IsPlanned rules groups columns p
+  pub covered : (i : ℕ) (r : Rule) (p : ℕ) → slice_get rules i ≡ Some r → p < length (heads_of r)
+      → HasPlan groups (table_of_pattern groups (pattern_at r p)) i p
+
+-- the atoms are at rest under the rules
+pub record IsRested (r : Rested) : Type 0 where
+  pub set_up : IsSetUp r.rules.items r.groups.items (rows_of r.tables.tables.items) (columns_of r.tables.tables.items)
+  pub rests : IsAtRest (Step r.rules.items) (stored r)
+
+-- an instance with the active atom at that place of that rule, and the others in different rows
+pub record IsReacting (r : Rested) (a : Atom) (o : Occurrence) (heads : List Atom) (seats : List Seat) : Type 0 where
+  pub rule : Rule
+  pub at : slice_get r.rules.items o.rule ≡ Some rule
+  pub within : o.place < length (heads_of rule)
+  pub seated : IsSeated rule (rows_of r.tables.tables.items) o.place heads seats
+  pub active : head heads o.place ≡ a

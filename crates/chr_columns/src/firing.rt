@@ -1,0 +1,105 @@
+//! What an instance changes.
+ghost use Rattle.std.specs.Prelude.{◌≡◌, ℕ, ◌+◌, ◌<◌, ◌≤◌, ◌++◌, List, length, remove, vec_len, vec_capacity};
+ghost use Rattle.chr_base.specs.declared.limits.TheConstants.{MAX_BODY, MAX_HEADS};
+ghost use Rattle.chr_base.specs.declared.atom.Atom.{Atom as AtomValue};
+ghost use Rattle.chr_base.specs.FinBag.{◌⊕◌};
+ghost use Rattle.chr_base.specs.Stores.{store_of};
+ghost use Rattle.chr_base.specs.Rules.{heads_of, heads_at, HasInstance, Valuation, Step};
+ghost use Rattle.chr_plans.specs.Seats.{seat, head, IsSeated};
+ghost use Rattle.chr_actives.specs.Actives.{one};
+ghost use Rattle.chr_actives.specs.Grids.{Grid, rows_in, SitIn};
+ghost use Rattle.chr_columns.specs.working.Resting.{stored, IsRested, IsReacting};
+ghost use Rattle.chr_columns.specs.working.Firing.{kept_others, coming};
+
+use crate::rested::{Occurrence, Rested, kill_all};
+use arrayvec::ArrayVec;
+use chr_base::atom::Atom;
+use chr_base::limits::{MAX_BODY, MAX_HEADS};
+use chr_base::rule::Rule;
+use chr_plans::rows::Seat;
+
+/// The seats of so many places. What is not there is the first row of the first table.
+fn seats_of(seats: &[Seat], count: usize) -> ArrayVec<Seat, MAX_HEADS>
+    requires { count ≤ MAX_HEADS }
+    ensures count { length result.items ≡ count }
+    ensures same { (q : ℕ) → q < count → seat result.items q ≡ seat seats.now q }
+{
+    let mut all = ArrayVec::new();
+    for q in 0..count {
+        all.push(seats.get(q).copied().unwrap_or_default());
+    }
+    all
+}
+
+/// The rows of the heads other than the active one, which is at this place.
+fn partner_rows(rule: &Rule, place: usize, seats: &[Seat]) -> ArrayVec<Seat, MAX_HEADS>
+    requires { place < length (heads_of rule.now) }
+    ensures count { length result.items + 1 ≡ length (heads_of rule.now) }
+    ensures sit { (tables : Grid) → (heads : List AtomValue) →
+        IsSeated rule.now (rows_in tables) place heads seats.now → SitIn tables (remove heads place) result.items }
+{
+    let mut rows = seats_of(seats, rule.places());
+    rows.remove(place);
+    rows
+}
+
+/// How many of the heads without the active one, which is at this place, are kept.
+fn kept_others(rule: &Rule, place: usize) -> usize
+    ensures { result ≡ kept_others rule.now place }
+{
+    let kept = rule.kept.len();
+    if place < kept { kept - 1 } else { kept }
+}
+
+/// Puts copies of these atoms at the end, where there is room for them.
+pub(crate) fn push_all(items: &mut Vec<Atom>, atoms: &[Atom])
+    requires { vec_len items.old + length atoms.now ≤ vec_capacity items.old }
+    ensures items { items.new.items ≡ items.old.items ++ atoms.now }
+    ensures capacity { vec_capacity items.new ≡ vec_capacity items.old }
+{
+    for atom in atoms {
+        items.push_reserved(atom.copy());
+    }
+}
+
+/// The body becomes fresh, and the active atom where it is kept.
+fn put_fresh(rule: &Rule, place: usize, heads: &[Atom], fresh: &mut Vec<Atom>)
+    requires place { place < length (heads_of rule.now) }
+    requires instance { HasInstance rule.now heads.now }
+    requires room { vec_len fresh.old + (MAX_BODY + 1) ≤ vec_capacity fresh.old }
+    ensures { (v : Valuation) → heads_at v rule.now ≡ heads.now →
+        store_of fresh.new.items ≡ store_of fresh.old.items ⊕ coming rule.now place v }
+{
+    push_all(fresh, &rule.body_of(heads));
+    if place < rule.kept.len() {
+        fresh.push_reserved(heads[place].copy());
+    }
+}
+
+impl Rested {
+    /// The rule fires: the removed heads leave the rows, and its body becomes fresh, with the active atom where it
+    /// is kept.
+    pub(crate) fn fire(
+        &mut self,
+        o: Occurrence,
+        heads: &[Atom],
+        seats: &[Seat],
+        fresh: &mut Vec<Atom>,
+    )
+        requires rested { IsRested self.old }
+        requires instance { IsReacting self.old (head heads.now o.place) o heads.now seats.now }
+        requires room { vec_len fresh.old + (MAX_BODY + 1) ≤ vec_capacity fresh.old }
+        ensures rested { IsRested self.new }
+        ensures rules { self.new.rules ≡ self.old.rules }
+        ensures step { Step self.old.rules.items
+            ((stored self.old ⊕ store_of fresh.old.items) ⊕ one (head heads.now o.place))
+            (stored self.new ⊕ store_of fresh.new.items) }
+    {
+        let rule = &self.rules[o.rule];
+        let rows = partner_rows(rule, o.place, seats);
+        let first = kept_others(rule, o.place);
+        put_fresh(rule, o.place, heads, fresh);
+        let (_, removed) = rows.split_at(first);
+        kill_all(&mut self.tables, removed);
+    }
+}

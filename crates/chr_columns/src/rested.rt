@@ -1,0 +1,100 @@
+//! Atoms at rest, in tables.
+ghost use Rattle.std.specs.Prelude.{◌≡◌, ℕ, ◌<◌, ◌≤◌, length, IsTrue, is_some, IfSome, IfNone, OnOk, OnErr};
+ghost use Rattle.chr_base.specs.FinBag.{◌⊕◌};
+ghost use Rattle.chr_plans.specs.Seats.{seat, atom_in};
+ghost use Rattle.chr_tables.specs.Contents.{rows_of, columns_of};
+ghost use Rattle.chr_actives.specs.Actives.{one, NoInstanceWith};
+ghost use Rattle.chr_actives.specs.Grids.{without_rows};
+ghost use Rattle.chr_columns.specs.working.Resting.{grid, stored, IsRested, IsReacting};
+
+use crate::groups::{Group, table_of};
+use arrayvec::ArrayVec;
+use chr_base::atom::Atom;
+use chr_base::limits::MAX_HEADS;
+use chr_base::rule::Rule;
+use chr_plans::react::react;
+use chr_plans::rows::Seat;
+use chr_tables::tables::Tables;
+use std::alloc::AllocError;
+
+/// Rules, with the plans of their head places, and atoms that are at rest under them.
+#[derive(Drop)]
+pub(crate) struct Rested {
+    pub(crate) rules: Vec<Rule>,
+    pub(crate) groups: Vec<Group>,
+    pub(crate) tables: Tables,
+}
+
+/// A head place of a rule, both by their numbers from 0.
+#[derive(Clone, Copy, Debug, PartialEq, Eq)]
+pub(crate) struct Occurrence {
+    pub(crate) rule: usize,
+    pub(crate) place: usize,
+}
+
+/// These rows die.
+pub(crate) fn kill_all(tables: &mut Tables, seats: &[Seat])
+    requires { (q : ℕ) → q < length seats.now →
+        IsTrue (is_some (atom_in (rows_of tables.old.tables.items) (seat seats.now q))) }
+    ensures rows { grid tables.new.tables.items ≡ without_rows (grid tables.old.tables.items) seats.now }
+    ensures columns { columns_of tables.new.tables.items ≡ columns_of tables.old.tables.items }
+{
+    for seat in seats {
+        tables.tables[seat.table].kill(seat.row);
+    }
+}
+
+impl Rested {
+    /// The first instance of a rule with the active atom among its heads and the others in the rows.
+    pub(crate) fn react(
+        &mut self,
+        active: &Atom,
+        heads: &mut ArrayVec<Atom, MAX_HEADS>,
+        seats: &mut ArrayVec<Seat, MAX_HEADS>,
+    ) -> Option<Occurrence>
+        requires { IsRested self.old }
+        ensures rested { IsRested self.new }
+        ensures rules { self.new.rules ≡ self.old.rules }
+        ensures stored { stored self.new ≡ stored self.old }
+        ensures found { IfSome result (λ o. IsReacting self.new active.now o heads.new.items seats.new.items) }
+        ensures none { IfNone result (NoInstanceWith self.old.rules.items (stored self.old) active.now) }
+    {
+        let table = table_of(&self.groups, active.symbol, active.args.len());
+        let Some(group) = self.groups.get(table) else {
+            return None;
+        };
+        let Some(found) = react(
+            &mut self.tables,
+            &self.rules,
+            &group.plans,
+            active,
+            heads,
+            seats,
+        ) else {
+            return None;
+        };
+        let plan = &group.plans[found];
+        Some(Occurrence {
+            rule: plan.rule,
+            place: plan.place,
+        })
+    }
+
+    /// An atom that has no instance with those at rest joins them; or nothing changes, where memory is refused, or
+    /// its table has 2^32 - 1 rows.
+    pub(crate) fn put(&mut self, atom: &Atom) -> Result<(), AllocError>
+        requires rested { IsRested self.old }
+        requires none { NoInstanceWith self.old.rules.items (stored self.old) atom.now }
+        ensures rested { IsRested self.new }
+        ensures rules { self.new.rules ≡ self.old.rules }
+        ensures ok { OnOk result (stored self.new ≡ stored self.old ⊕ one atom.now) }
+        ensures err { OnErr result (stored self.new ≡ stored self.old) }
+    {
+        let table = table_of(&self.groups, atom.symbol, atom.args.len());
+        if self.tables.tables[table].len() >= u32::MAX as usize {
+            return Err(AllocError);
+        }
+        self.tables.tables[table].insert(atom)?;
+        Ok(())
+    }
+}
