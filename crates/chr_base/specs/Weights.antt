@@ -38,7 +38,7 @@ abbrev pub weight_text : Bool → Weight → List ℕ
 weight_text true w = decimal w.first ++ codes "," ++ decimal w.second
 weight_text false w = decimal w.first
 
--- One number for both, 8,000,001 times the first and the second. Where a rule's body is the lighter side, it is the lower
--- one by this too, since the second numbers of a body sum to at most MAX_BODY * MAX_WEIGHT.
+-- One number for both, 8,000,001 times the first and the second. Where a rule's body is the lighter side, it is the
+-- lower one by this too, since the second numbers of a body sum to at most MAX_BODY * MAX_WEIGHT.
 abbrev pub rank : Weight → ℕ
 rank w = (MAX_BODY * MAX_WEIGHT + 1) * w.first + w.second

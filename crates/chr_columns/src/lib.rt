@@ -1,8 +1,8 @@
-//! What a pool is made of that rests in near linear time: atoms in tables by symbol and number of arguments, with indexes,
-//! and fresh atoms.
+//! What a pool is made of that rests in near linear time: atoms in tables by symbol and number of arguments, with
+//! indexes, and fresh atoms.
 //!
-//! Some atoms are at rest, and sit in rows; the others are fresh. A step takes a fresh atom and looks for its partners in
-//! the rows by plans. Where it has some, the rule fires; where it has none, the atom joins the rows.
+//! Some atoms are at rest, and sit in rows; the others are fresh. A step takes a fresh atom and looks for its partners
+//! in the rows by plans. Where it has some, the rule fires; where it has none, the atom joins the rows.
 #![tactic(auto)]
 
 mod firing;

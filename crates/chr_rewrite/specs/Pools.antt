@@ -19,8 +19,8 @@ StepOn r heads s t = (v : Valuation) × (heads_at v r ≡ heads) × StepBy r v s
 abbrev pub HasNoStep : Rule → Store → Type 0
 HasNoStep r s = (v : Valuation) (t : Store) → ¬ StepBy r v s t
 
--- Steps of the program that lead from s to t, as many as n says, or where n is the greatest u64, that many or more. Each lowered
--- the rank, and where no weight has a second number, the first.
+-- Steps of the program that lead from s to t, as many as n says, or where n is the greatest u64, that many or more. Each
+-- lowered the rank, and where no weight has a second number, the first.
 pub record TookSteps (p : Program) (n : ℕ) (s t : Store) : Type 0 where
   pub steps : ℕ
   pub counted : n ≡ u64_saturate steps

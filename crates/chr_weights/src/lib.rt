@@ -30,8 +30,8 @@ pub struct NotLowered {
     pub after: Weight,
 }
 
-/// Takes a program in which the removed heads of each rule weigh more than its body. Else it tells the first rule of which
-/// this is not so, with both weights. It takes no memory.
+/// Takes a program in which the removed heads of each rule weigh more than its body. Else it tells the first rule of
+/// which this is not so, with both weights. It takes no memory.
 pub fn weigh(program: Program) -> Result<Weighed, NotLowered>
     ensures exact { IsOk result ↔ ProgramLowers program }
     ensures ok { IfOk result (λ w. program_of w ≡ program) }

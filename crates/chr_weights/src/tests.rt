@@ -27,8 +27,10 @@ fn plain(symbol: u16) -> Pattern
 #[tactic(auto, unfolding(chr_base::specs::RuleTests::is_in_bounds))]
 fn turn(from: u16, to: u16) -> Rule
     ensures kept { result.kept.items ≡ [] }
-    ensures removed { result.removed.items ≡ record { symbol = record { 0 = from }; args = record { items = [] } } ∷ [] }
-    ensures body { result.body.items ≡ record { symbol = record { 0 = to }; args = record { items = [] } } ∷ [] }
+    ensures removed { result.removed.items
+        ≡ record { symbol = record { 0 = from }; args = record { items = [] } } ∷ [] }
+    ensures body { result.body.items
+        ≡ record { symbol = record { 0 = to }; args = record { items = [] } } ∷ [] }
 {
     let mut removed = ArrayVec::new();
     removed.push(plain(from));
