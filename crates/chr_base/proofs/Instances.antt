@@ -1,10 +1,10 @@
 -- The valuation that given heads make is that of each instance with them; and what each rule keeps, part by part.
-use Rattle.std.specs.Prelude.{◌≡◌, ℕ, pos, Bool, true, false, ◌&&◌, ◌||◌, cond, List, [], ◌∷◌, map, nat_eq, Some, None, length, ◌+◌, nat_lt, nat_le}
+use Rattle.std.specs.Prelude.{◌≡◌, ℕ, pos, Bool, true, false, ◌&&◌, ◌||◌, cond, List, [], ◌∷◌, map, nat_eq, Some, None, length, ◌+◌, ◌≤◌, nat_lt, nat_le}
 use Rattle.std.specs.Option.{unwrap_or, option_map, option_or}
 use Rattle.std.specs.List.{list_any, list_all}
-use Rattle.std.proofs.Common.{refl, sym, ap, subst, ◌∙◌}
+use Rattle.std.proofs.Common.{refl, sym, ap, subst, ◌∙◌, arith, length-append}
 use mathlib.Core.Bool.{true≢false}
-use Rattle.std.proofs.lemmas.Bool.{eqb-true, eq-eqb, and_from, and_parts}
+use Rattle.std.proofs.lemmas.Bool.{eqb-true, eq-eqb, and_from, and_parts, leb-true}
 use Rattle.std.specs.Ordering.{int_cmp, eq_by_cmp}
 use Rattle.std.specs.Cmp.{tied_itself}
 use Rattle.chr_base.specs.declared.limits.TheConstants.{MAX_HEADS, MAX_COMPARISONS, MAX_BODY}
@@ -163,3 +163,10 @@ fires_complete r heads h =
 -- the body is the same under each valuation that makes these heads
 pub body_is : (r : Rule) (heads : List Atom) (w : Valuation) → heads_at w r ≡ heads → atoms_at (valuation (heads_of r) heads) r.body.items ≡ atoms_at w r.body.items
 body_is r heads w e = same_atoms (heads_of r) r.body.items _ w (the_valuation r heads w e) (body_known r)
+
+-- a rule has few heads
+pub heads_few : (r : Rule) → length (heads_of r) ≤ MAX_HEADS
+heads_few r =
+    let n = length-append r.kept.items r.removed.items in
+    let few = leb-true _ _ (and_parts (nat_lt 0 (length r.removed.items)) _ (sized_rule r)).1 in
+    omega (arith, n, few)

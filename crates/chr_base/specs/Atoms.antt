@@ -1,5 +1,5 @@
 -- The order of atoms.
-use Rattle.std.specs.Prelude.{length}
+use Rattle.std.specs.Prelude.{length, []}
 use Rattle.std.specs.declared.cmp.Ordering.{Ordering}
 use Rattle.std.specs.Ordering.{nat_cmp, int_cmp, ordering_then}
 use Rattle.std.specs.Cmp.Lexicographic.{slice_cmp}
@@ -10,3 +10,7 @@ abbrev pub atom_cmp : Atom → Atom → Ordering
 atom_cmp a b =
     ordering_then (nat_cmp a.symbol.0 b.symbol.0)
     (ordering_then (nat_cmp (length a.args.items) (length b.args.items)) (slice_cmp int_cmp a.args.items b.args.items))
+
+-- what is read past the last atom
+abbrev pub no_atom : Atom
+no_atom = record { symbol = record { 0 = 0 }; args = record { items = [] } }

@@ -1,5 +1,5 @@
 -- Instances of rules, and the steps of a program on stores.
-use Rattle.std.specs.Prelude.{◌≡◌, ℕ, ℤ, Bool, List, [], ◌++◌, map, Some, slice_get, IsTrue, ◌<◌}
+use Rattle.std.specs.Prelude.{◌≡◌, ℕ, ℤ, Bool, ◌&&◌, List, [], ◌++◌, map, length, nat_eq, Some, slice_get, IsTrue, ◌<◌}
 use Rattle.std.specs.declared.cmp.Ordering.{Ordering}
 use Rattle.std.specs.Ordering.{int_cmp, is_lt, is_le, is_gt, is_ge, is_eq, is_ne}
 use Rattle.std.specs.List.{list_all}
@@ -51,6 +51,10 @@ heads_of r = r.kept.items ++ r.removed.items
 abbrev pub no_pattern : Pattern
 no_pattern = record { symbol = record { 0 = 0 }; args = record { items = [] } }
 
+-- the pattern and the atom have one symbol and as many arguments
+abbrev pub has_shape : Pattern → Atom → Bool
+has_shape p a = nat_eq p.symbol.0 a.symbol.0 && nat_eq (length p.args.items) (length a.args.items)
+
 -- the heads of an instance, in place order
 abbrev pub heads_at : Valuation → Rule → List Atom
 heads_at v r = atoms_at v (heads_of r)
@@ -65,6 +69,14 @@ pub record StepBy (r : Rule) (v : Valuation) (s t : Store) : Type 0 where
   pub guard : IsTrue (guard_holds v r.guard.items)
   pub there : IsWithin (store_of (heads_at v r)) s
   pub after : t ≡ (s ⊖ store_of (atoms_at v r.removed.items)) ⊕ store_of (atoms_at v r.body.items)
+
+-- one step of the rule by an instance with these heads
+abbrev pub StepOn : Rule → List Atom → Store → Store → Type 0
+StepOn r heads s t = (v : Valuation) × (heads_at v r ≡ heads) × StepBy r v s t
+
+-- the rule has no step in s
+abbrev pub HasNoStep : Rule → Store → Type 0
+HasNoStep r s = (v : Valuation) (t : Store) → ¬ StepBy r v s t
 
 -- a step by some instance of some rule
 abbrev pub Step : List Rule → Store → Store → Type 0

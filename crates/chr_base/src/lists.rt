@@ -1,5 +1,5 @@
 //! Lists of atoms.
-ghost use Rattle.std.specs.Prelude.{◌≡◌, ◌<◌, ◌≤◌, ◌↔◌, length, insert, remove, ◌++◌, IsTrue, OnOk, OnErr, IfSome, IfNone};
+ghost use Rattle.std.specs.Prelude.{◌≡◌, ◌+◌, ◌<◌, ◌≤◌, ◌↔◌, length, insert, remove, ◌++◌, vec_len, vec_capacity, IsTrue, OnOk, OnErr, IfSome, IfNone};
 ghost use Rattle.std.specs.Bool.{OnTrue, OnFalse};
 ghost use Rattle.std.specs.Ordering.{eq_by_cmp, is_gt};
 ghost use Rattle.chr_base.specs.declared.atom.Atom.{Atom as AtomValue};
@@ -186,6 +186,17 @@ pub fn push_copies(items: &mut Vec<Atom>, atoms: &[Atom]) -> Result<(), AllocErr
         }
     }
     Ok(())
+}
+
+/// Puts copies of these atoms at the end, where there is room for them.
+pub fn push_all(items: &mut Vec<Atom>, atoms: &[Atom])
+    requires { vec_len items.old + length atoms.now ≤ vec_capacity items.old }
+    ensures items { items.new.items ≡ items.old.items ++ atoms.now }
+    ensures capacity { vec_capacity items.new ≡ vec_capacity items.old }
+{
+    for atom in atoms {
+        items.push_reserved(atom.copy());
+    }
 }
 
 /// Puts the atoms in order.

@@ -15,6 +15,7 @@ use crate::rested::{Occurrence, Rested, kill_all};
 use arrayvec::ArrayVec;
 use chr_base::atom::Atom;
 use chr_base::limits::{MAX_BODY, MAX_HEADS};
+use chr_base::lists::push_all;
 use chr_base::rule::Rule;
 use chr_plans::rows::Seat;
 
@@ -49,17 +50,6 @@ fn kept_others(rule: &Rule, place: usize) -> usize
 {
     let kept = rule.kept.len();
     if place < kept { kept - 1 } else { kept }
-}
-
-/// Puts copies of these atoms at the end, where there is room for them.
-pub(crate) fn push_all(items: &mut Vec<Atom>, atoms: &[Atom])
-    requires { vec_len items.old + length atoms.now ≤ vec_capacity items.old }
-    ensures items { items.new.items ≡ items.old.items ++ atoms.now }
-    ensures capacity { vec_capacity items.new ≡ vec_capacity items.old }
-{
-    for atom in atoms {
-        items.push_reserved(atom.copy());
-    }
 }
 
 /// The body becomes fresh, and the active atom where it is kept.

@@ -5,6 +5,7 @@
 //! in the rows by plans. Where it has some, the rule fires; where it has none, the atom joins the rows.
 #![tactic(auto)]
 
+pub mod columns;
 mod firing;
 mod groups;
 mod making;

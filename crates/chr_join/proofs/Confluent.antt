@@ -7,8 +7,7 @@ use Rattle.std.proofs.lemmas.Option.{same_Some}
 use Rattle.chr_base.specs.declared.rule.Rule.{Rule}
 use Rattle.chr_base.specs.declared.derivation.Step.{Step as StepValue}
 use Rattle.chr_base.specs.Stores.{Store}
-use Rattle.chr_base.specs.Rules.{StepBy, Valuation, heads_at}
-use Rattle.chr_rewrite.specs.Pools.{StepOn}
+use Rattle.chr_base.specs.Rules.{StepBy, Valuation, heads_at, StepOn}
 use Rattle.chr_rewrite.specs.Derivations.{LeadsTo, IsPlainComputation}
 use Rattle.chr_rewrite.proofs.DerivationLemmas.{StepOn-once, plain_reaches, plain_normal}
 use Rattle.chr_types.specs.OrderTypes.{In}

@@ -6,7 +6,7 @@ use Rattle.chr_base.specs.declared.atom.Atom.{Atom}
 use Rattle.chr_base.specs.declared.rule.Rule.{Rule}
 use Rattle.chr_base.specs.declared.derivation.Step.{Step}
 use Rattle.chr_base.specs.Stores.{Store}
-use Rattle.chr_rewrite.specs.Pools.{StepOn}
+use Rattle.chr_base.specs.Rules.{StepOn}
 use Rattle.chr_rewrite.specs.Derivations.{IsApplicable, LeadsTo, IsDerivation, IsPlainComputation}
 use Rattle.chr_rewrite.proofs.DerivationLemmas.{LeadsTo-once, plain_once, plain_replays}
 use Rattle.chr_base.specs.declared.derivation.Derivation.{Derivation}

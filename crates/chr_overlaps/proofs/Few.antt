@@ -9,19 +9,13 @@ use Rattle.chr_base.specs.declared.limits.TheConstants.{MAX_HEADS, MAX_RULES}
 use Rattle.chr_base.specs.declared.rule.Rule.{Rule}
 use Rattle.chr_base.specs.declared.term.Pattern.{Pattern}
 use Rattle.chr_base.specs.declared.program.Program.{Program}
-use Rattle.chr_base.proofs.Instances.{sized_rule}
+use Rattle.chr_base.proofs.Instances.{heads_few}
 use Rattle.chr_base.specs.ProgramTests.{is_in_range, are_distinct, fits}
 use Rattle.chr_base.specs.Programs.{declarations, rules_of}
 use Rattle.chr_base.specs.Rules.{heads_of}
 use Rattle.chr_confluence.specs.Matchings.{matches_removed}
 use Rattle.chr_overlaps.specs.declared.overlap.Overlap.{Overlap}
 use Rattle.chr_overlaps.specs.working.Listing.{may_follow, with_entry, going_on, overlaps_behind, begun, overlaps_at, overlaps_of_pair, overlaps_of_rule}
-
-heads_few : (r : Rule) → length (heads_of r) ≤ MAX_HEADS
-heads_few r =
-    let n = length-append r.kept.items r.removed.items in
-    let few = leb-true _ _ (and_parts (nat_lt 0 (length r.removed.items)) _ (sized_rule r)).1 in
-    omega (arith, n, few)
 
 few_joined : {A : Type 0} (f : ℕ → List A) (m k : ℕ) (xs : List ℕ) → ((x : ℕ) → length (f x) ≤ m) → length xs ≤ k → length (flat_map f xs) ≤ k * m
 few_joined f m k [] few l = omega arith

@@ -10,13 +10,12 @@ use Rattle.chr_base.specs.declared.rule.Rule.{Rule}
 use Rattle.chr_base.specs.declared.derivation.Step.{Step as StepValue}
 use Rattle.chr_base.specs.declared.weight.Weight.{Weight}
 use Rattle.chr_base.specs.Weights.{total_weight}
-use Rattle.chr_base.specs.Rules.{atoms_at}
+use Rattle.chr_base.specs.Rules.{atoms_at, HasNoStep}
 use Rattle.chr_base.specs.Stores.{Store}
 use Rattle.chr_base.specs.ProgramTests.{Declaration}
-use Rattle.chr_weights.specs.Weights.{AreLowering, IsLowering, weight_by}
+use Rattle.chr_weights.specs.Weights.{AreLowering, IsLowering, weight_by, IsFirstNotLowered}
 use Rattle.chr_confluence.specs.Overlaps.{equations_of}
 use Rattle.chr_confluence.specs.Unifiers.{HasNoUnifier}
-use Rattle.chr_rewrite.specs.Pools.{HasNoStep}
 use Rattle.chr_rewrite.specs.Derivations.{IsApplicable, LeadsTo, IsLeastStep, IsPlainDerivation, IsPlainComputation}
 use Rattle.chr_overlaps.specs.declared.overlap.Overlap.{Overlap}
 use Rattle.chr_overlaps.specs.declared.cases.Case.{Case}
@@ -39,7 +38,6 @@ use Rattle.chr_report.specs.declared.running.Status.TheVariants.{Accepted, Refus
 use Rattle.chr_report.specs.declared.reply.Refusal.TheVariants as refusal
 use Rattle.chr_report.specs.Lines.{without_return}
 use Rattle.chr_report.specs.Answers.{ShowsNormalForm, AnswersShow, AnswersRead, AnswersFirst, AnswersAll, AnswersRefusal}
-use Rattle.chr_weights.specs.Weights.{IsFirstNotLowered}
 use Rattle.chr_report.specs.Outputs.{accepted_text, IsAnswered, IsRulesOutput}
 use Rattle.chr_report.proofs.UnnamedRules.{unnamed, at_unnamed, from_unnamed, by_unnamed, rest_unnamed, normal_unnamed, overlap_unnamed, overlap_named, constants_unnamed}
 

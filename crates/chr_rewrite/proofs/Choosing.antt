@@ -9,10 +9,10 @@ use Rattle.std.proofs.lemmas.List.Folds.{list_any-append}
 use Rattle.std.proofs.lemmas.List.{map_more, get_or_default, append-nil}
 use Rattle.std.proofs.lemmas.Bool.{and_parts, and_from, not-true, not_from_false}
 use Rattle.chr_base.specs.declared.atom.Atom.{Atom}
-use Rattle.chr_base.specs.Atoms.{atom_cmp}
+use Rattle.chr_base.specs.Atoms.{atom_cmp, no_atom}
 use Rattle.chr_base.proofs.Atoms.{atom_total, same_is}
 use Rattle.chr_base.specs.FinBag.{count_in}
-use Rattle.chr_rewrite.specs.working.Choices.{no_atom, nth_atom, chosen_atoms, is_choice}
+use Rattle.chr_rewrite.specs.working.Choices.{nth_atom, chosen_atoms, is_choice}
 
 -- whether the index is among those taken
 abbrev pub is_taken : ℕ → List ℕ → Bool

@@ -17,10 +17,9 @@ use Rattle.chr_base.proofs.Atoms.{atom_total, atom_exact}
 use Rattle.chr_base.specs.FinBag.{IsWithin, ◌⊕◌, ◌⊖◌}
 use Rattle.chr_base.specs.Stores.{Store, store_of}
 use Rattle.chr_base.proofs.Instances.{body_is}
-use Rattle.chr_base.specs.Rules.{Step, HasInstance, Valuation, heads_at, atoms_at, atom_at}
+use Rattle.chr_base.specs.Rules.{Step, HasInstance, Valuation, heads_at, atoms_at, atom_at, StepOn, HasNoStep}
 use Rattle.chr_base.specs.Rewriting.{Reaches, IsAtRest, IsNormalForm}
 use Rattle.chr_base.proofs.Rewriting.{reaches_after}
-use Rattle.chr_rewrite.specs.Pools.{StepOn, HasNoStep}
 use Rattle.chr_rewrite.specs.Derivations.{IsApplicable, LeadsTo, IsDerivation, IsLeastInstance, IsLeastStep, IsPlainDerivation, IsPlainComputation, IsFirstInapplicable}
 
 -- the removed heads come after the kept ones

@@ -16,11 +16,10 @@ use Rattle.chr_base.proofs.FinBags as bag_laws
 use Rattle.chr_base.specs.FinBag.{IsWithin, ◌⊕◌, ◌⊖◌}
 use Rattle.chr_base.specs.Stores.{Store, store_of, count}
 use Rattle.chr_base.proofs.Stores.{store_of-append, store_of-items, same_store, count_plus, count_minus}
-use Rattle.chr_base.specs.Rules.{Step, HasInstance, Valuation, heads_at, atoms_at}
+use Rattle.chr_base.specs.Rules.{Step, HasInstance, Valuation, heads_at, atoms_at, StepOn, HasNoStep}
 use Rattle.chr_base.specs.Programs.{rules_of}
 use Rattle.chr_base.specs.Rewriting.{IsAtRest}
 use Rattle.chr_weights.specs.Weights.{store_rank, ProgramLowers}
-use Rattle.chr_rewrite.specs.Pools.{StepOn, HasNoStep}
 use Rattle.chr_rewrite.specs.Derivations.{IsApplicable, LeadsTo, IsDerivation, IsLeastInstance, IsLeastStep, IsPlainDerivation, IsPlainComputation, IsFirstInapplicable}
 use Rattle.chr_rewrite.proofs.DerivationLemmas.{removed_heads, LeadsTo-steps}
 use Rattle.chr_rewrite.proofs.Stepping.{removed_within}

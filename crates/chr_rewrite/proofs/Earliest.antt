@@ -12,13 +12,13 @@ use Rattle.std.proofs.lemmas.Bool.{and_parts, and_from, not-true}
 use mathlib.Core.Bool.{true≢false}
 use Rattle.chr_base.specs.declared.atom.Atom.{Atom}
 use Rattle.chr_base.specs.declared.rule.Rule.{Rule}
-use Rattle.chr_base.specs.Atoms.{atom_cmp}
+use Rattle.chr_base.specs.Atoms.{atom_cmp, no_atom}
 use Rattle.chr_base.proofs.Atoms.{atom_total, atom_exact}
 use Rattle.chr_base.specs.FinBag.{count_in, is_rising, none_below}
 use Rattle.chr_base.proofs.FinBags.{lists_within}
 use Rattle.chr_base.specs.Stores.{store_of}
 use Rattle.chr_base.specs.Rules.{HasInstance, heads_of}
-use Rattle.chr_rewrite.specs.working.Choices.{no_atom, nth_atom, chosen_atoms, is_choice, IsFirstChoice}
+use Rattle.chr_rewrite.specs.working.Choices.{nth_atom, chosen_atoms, is_choice, IsFirstChoice}
 use Rattle.chr_rewrite.specs.Derivations.{IsLeastInstance}
 use Rattle.chr_rewrite.proofs.Choosing.{choose, free_from, free_none, free_taken, is_taken}
 use Rattle.chr_rewrite.proofs.Searching.{NoneBelow, instance_places}

@@ -14,9 +14,9 @@ use Rattle.chr_base.proofs.Atoms.{atom_total}
 use Rattle.chr_base.specs.FinBag.{IsWithin}
 use Rattle.chr_base.proofs.FinBags.{within_lists, lists_within}
 use Rattle.chr_base.specs.Stores.{store_of}
-use Rattle.chr_base.specs.Rules.{HasInstance, Valuation, heads_of, heads_at, atom_at, term_value, no_pattern}
-use Rattle.chr_rewrite.specs.working.Choices.{no_atom, has_shape, has_shape_at, nth_atom, chosen_atoms, is_choice, NoCompletion}
-use Rattle.chr_rewrite.specs.Pools.{HasNoStep}
+use Rattle.chr_base.specs.Rules.{HasInstance, Valuation, heads_of, heads_at, atom_at, term_value, no_pattern, has_shape, HasNoStep}
+use Rattle.chr_base.specs.Atoms.{no_atom}
+use Rattle.chr_rewrite.specs.working.Choices.{has_shape_at, nth_atom, chosen_atoms, is_choice, NoCompletion}
 use Rattle.chr_rewrite.proofs.Choosing.{choice_within, choice_more, choose, free_none}
 
 -- the atoms of a choice are there

@@ -9,10 +9,9 @@ use Rattle.chr_base.specs.Atoms.{atom_cmp}
 use Rattle.chr_base.specs.FinBag.{count_in, IsWithin, ◌⊕◌, ◌⊖◌}
 use Rattle.chr_base.specs.Stores.{Store, store_of}
 use Rattle.chr_base.proofs.Stores.{store_of-append}
-use Rattle.chr_base.specs.Rules.{Step, StepBy, HasInstance, Valuation, heads_of, heads_at, atoms_at, atom_at}
+use Rattle.chr_base.specs.Rules.{Step, StepBy, HasInstance, Valuation, heads_of, heads_at, atoms_at, atom_at, StepOn, HasNoStep}
 use Rattle.chr_base.proofs.Steps.{removed_there}
 use Rattle.chr_base.specs.Rewriting.{IsAtRest}
-use Rattle.chr_rewrite.specs.Pools.{StepOn, HasNoStep}
 use Rattle.chr_rewrite.proofs.DerivationLemmas.{removed_heads}
 use Rattle.chr_rewrite.proofs.Counting.{store_less}
 

@@ -8,9 +8,8 @@ use Rattle.chr_base.specs.declared.derivation.Step.{Step as StepValue}
 use Rattle.chr_base.specs.Atoms.{atom_cmp}
 use Rattle.chr_base.specs.FinBag.{IsWithin}
 use Rattle.chr_base.specs.Stores.{Store, store_of}
-use Rattle.chr_base.specs.Rules.{Step, HasInstance}
+use Rattle.chr_base.specs.Rules.{Step, HasInstance, StepOn, HasNoStep}
 use Rattle.chr_base.specs.Rewriting.{IsAtRest}
-use Rattle.chr_rewrite.specs.Pools.{StepOn, HasNoStep}
 
 -- the step's rule, numbered from 1, has an instance with the step's heads, and these are in the store s
 pub record IsApplicable (rules : List Rule) (s : Store) (st : StepValue) : Type 0 where

@@ -1,23 +1,13 @@
 -- What a pool finds and does.
-use Rattle.std.specs.Prelude.{◌≡◌, ℕ, ◌+◌, ◌≤◌, false, List}
+use Rattle.std.specs.Prelude.{◌≡◌, ℕ, ◌+◌, ◌≤◌, false}
 use Rattle.std.specs.Io.Iter.{u64_saturate}
-use Rattle.chr_base.specs.declared.atom.Atom.{Atom}
-use Rattle.chr_base.specs.declared.rule.Rule.{Rule}
 use Rattle.chr_base.specs.declared.program.Program.{Program}
 use Rattle.chr_base.specs.Stores.{Store}
-use Rattle.chr_base.specs.Rules.{Step, StepBy, Valuation, heads_at}
+use Rattle.chr_base.specs.Rules.{Step}
 use Rattle.chr_base.specs.ProgramTests.{some_paired}
 use Rattle.chr_base.specs.Programs.{declarations, rules_of}
 use Rattle.chr_base.specs.Rewriting.{Runs}
 use Rattle.chr_weights.specs.Weights.{store_rank, store_weight}
-
--- one step of the rule by an instance with these heads
-abbrev pub StepOn : Rule → List Atom → Store → Store → Type 0
-StepOn r heads s t = (v : Valuation) × (heads_at v r ≡ heads) × StepBy r v s t
-
--- the rule has no step in s
-abbrev pub HasNoStep : Rule → Store → Type 0
-HasNoStep r s = (v : Valuation) (t : Store) → ¬ StepBy r v s t
 
 -- Steps of the program that lead from s to t, as many as n says, or where n is the greatest u64, that many or more. Each
 -- lowered the rank, and where no weight has a second number, the first.

@@ -5,9 +5,8 @@ ghost use Rattle.chr_base.specs.declared.limits.TheConstants.{MAX_HEADS};
 ghost use Rattle.chr_base.specs.Atoms.{atom_cmp};
 ghost use Rattle.chr_base.specs.FinBag.{IsWithin, is_rising};
 ghost use Rattle.chr_base.specs.Stores.{store_of};
-ghost use Rattle.chr_base.specs.Rules.{heads_of, HasInstance};
+ghost use Rattle.chr_base.specs.Rules.{heads_of, HasInstance, HasNoStep};
 ghost use Rattle.chr_rewrite.specs.working.Choices.{chosen_atoms, is_choice, NoCompletion, IsFirstChoice, has_shape_at};
-ghost use Rattle.chr_rewrite.specs.Pools.{HasNoStep};
 ghost use Rattle.chr_rewrite.specs.Derivations.{IsLeastInstance};
 
 use arrayvec::ArrayVec;

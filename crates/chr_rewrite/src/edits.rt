@@ -6,18 +6,8 @@ ghost use Rattle.chr_base.specs.Atoms.{atom_cmp};
 ghost use Rattle.chr_base.specs.FinBag.{count_in};
 
 use chr_base::atom::Atom;
+use chr_base::lists::push_all;
 use std::alloc::{AllocError, Global};
-
-/// Puts copies of these atoms at the end, where there is room for them.
-pub(crate) fn push_all(items: &mut Vec<Atom>, atoms: &[Atom])
-    requires { vec_len items.old + length atoms.now ≤ vec_capacity items.old }
-    ensures items { items.new.items ≡ items.old.items ++ atoms.now }
-    ensures capacity { vec_capacity items.new ≡ vec_capacity items.old }
-{
-    for atom in atoms {
-        items.push_reserved(atom.copy());
-    }
-}
 
 /// Copies of these atoms.
 pub(crate) fn copies_of(alloc: Global, atoms: &[Atom]) -> Result<Vec<Atom>, AllocError>

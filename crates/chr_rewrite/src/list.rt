@@ -3,13 +3,13 @@ ghost use Rattle.std.specs.Prelude.{◌≡◌};
 ghost use Rattle.chr_base.specs.FinBag as bag;
 
 use crate::choose::find_instance;
-use crate::edits::{copies_of, push_all, take_all};
+use crate::edits::{copies_of, take_all};
 use crate::pool::Pool;
 use arrayvec::ArrayVec;
 use chr_base::atom::Atom;
 use chr_base::bag::Bag;
 use chr_base::limits::MAX_HEADS;
-use chr_base::lists::fits_in;
+use chr_base::lists::{fits_in, push_all};
 use chr_base::rule::Rule;
 use std::alloc::{AllocError, Global};
 use std::marker::Model;

@@ -3,11 +3,10 @@ ghost use Rattle.std.specs.Prelude.{◌≡◌, ◌<◌, ◌^◌, List, IfOk, IfS
 ghost use Rattle.chr_base.specs.declared.derivation.Step.{Step as StepValue};
 ghost use Rattle.chr_base.specs.FinBag.{IsWithin, ◌⊕◌};
 ghost use Rattle.chr_base.specs.Stores.{Store, store_of};
-ghost use Rattle.chr_base.specs.Rules.{Step as StepOf, HasInstance};
+ghost use Rattle.chr_base.specs.Rules.{Step as StepOf, HasInstance, StepOn};
 ghost use Rattle.chr_base.specs.Programs.{rules_of};
 ghost use Rattle.chr_base.specs.Rewriting.{IsAtRest};
 ghost use Rattle.chr_weights.specs.WeighedPrograms.{program_of};
-ghost use Rattle.chr_rewrite.specs.Pools.{StepOn};
 ghost use Rattle.chr_rewrite.specs.Derivations.{LeadsTo, IsLeastStep, IsPlainComputation};
 
 use crate::choose::find_instance;

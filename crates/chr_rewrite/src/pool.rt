@@ -3,9 +3,8 @@ ghost use Rattle.std.specs.Prelude.{◌≡◌, ◌↔◌, IfOk, IfSome, IfNone, 
 ghost use Rattle.std.specs.Bool.{OnTrue, OnFalse};
 ghost use Rattle.chr_base.specs.FinBag.{◌⊕◌, ◌⊖◌, IsWithin};
 ghost use Rattle.chr_base.specs.Stores.{Store, store_of};
-ghost use Rattle.chr_base.specs.Rules.{Step, HasInstance};
+ghost use Rattle.chr_base.specs.Rules.{Step, HasInstance, StepOn, HasNoStep};
 ghost use Rattle.chr_base.specs.Rewriting.{IsAtRest};
-ghost use Rattle.chr_rewrite.specs.Pools.{StepOn, HasNoStep};
 
 use arrayvec::ArrayVec;
 use chr_base::atom::Atom;

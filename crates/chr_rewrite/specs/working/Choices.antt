@@ -7,11 +7,8 @@ use Rattle.std.specs.Cmp.Lexicographic.{slice_cmp}
 use Rattle.chr_base.specs.declared.atom.Atom.{Atom}
 use Rattle.chr_base.specs.declared.term.Pattern.{Pattern}
 use Rattle.chr_base.specs.declared.rule.Rule.{Rule}
-use Rattle.chr_base.specs.Rules.{HasInstance, heads_of, no_pattern}
-
--- what is read past the last atom
-abbrev pub no_atom : Atom
-no_atom = record { symbol = record { 0 = 0 }; args = record { items = [] } }
+use Rattle.chr_base.specs.Atoms.{no_atom}
+use Rattle.chr_base.specs.Rules.{HasInstance, has_shape, heads_of, no_pattern}
 
 -- the atom at an index
 abbrev pub nth_atom : List Atom → ℕ → Atom
@@ -38,10 +35,6 @@ pub record IsFirstChoice (r : Rule) (items : List Atom) (is js : List ℕ) : Typ
   pub whole : js ≡ is ++ more
   pub none : (ks : List ℕ) → slice_cmp nat_cmp ks more ≡ Less → IsTrue (is_choice items is ks)
       → ¬ HasInstance r (chosen_atoms items (is ++ ks))
-
--- the pattern and the atom have one symbol and as many arguments
-abbrev pub has_shape : Pattern → Atom → Bool
-has_shape p a = nat_eq p.symbol.0 a.symbol.0 && nat_eq (length p.args.items) (length a.args.items)
 
 -- the pattern at the head place n, counted from 0, has the shape of the atom
 abbrev pub has_shape_at : Rule → ℕ → Atom → Bool

@@ -1,6 +1,6 @@
 use Rattle.std.proofs.Common.{◌≡◌, ℕ, ◌<◌, get_or}
 use Rattle.chr_base.specs.declared.rule.Rule.{Rule}
-use Rattle.chr_rewrite.specs.Pools.{HasNoStep}
+use Rattle.chr_base.specs.Rules.{HasNoStep}
 use Rattle.chr_rewrite.proofs.list.ListPoolPool.step.Given as goal
 
 abbrev pub invariant-loop-rule : goal.invariant-loop-rule

@@ -1,6 +1,6 @@
 use Rattle.std.proofs.Common.{◌≡◌, ◌++◌, take, vec_len, ◌+◌}
 use Rattle.std.specs.Prelude.{vec_capacity}
-use Rattle.chr_columns.proofs.firing.push_all.Given as goal
+use Rattle.chr_base.proofs.lists.push_all.Given as goal
 
 abbrev pub invariant-loop-atom : goal.invariant-loop-atom
 invariant-loop-atom l = record {
