@@ -17,16 +17,11 @@ use Rattle.chr_base.proofs.Atoms.{atom_total, atom_exact}
 use Rattle.chr_base.specs.FinBag.{IsWithin, ◌⊕◌, ◌⊖◌}
 use Rattle.chr_base.specs.Stores.{Store, store_of}
 use Rattle.chr_base.proofs.Instances.{body_is}
+use Rattle.chr_base.proofs.Steps.{removed_heads, instance_steps}
 use Rattle.chr_base.specs.Rules.{Step, HasInstance, Valuation, heads_at, atoms_at, atom_at, StepOn, HasNoStep}
 use Rattle.chr_base.specs.Rewriting.{Reaches, IsAtRest, IsNormalForm}
 use Rattle.chr_base.proofs.Rewriting.{reaches_after}
 use Rattle.chr_rewrite.specs.Derivations.{IsApplicable, LeadsTo, IsDerivation, IsLeastInstance, IsLeastStep, IsPlainDerivation, IsPlainComputation, IsFirstInapplicable}
-
--- the removed heads come after the kept ones
-pub removed_heads : (r : Rule) (heads : List Atom) (v : Valuation) → heads_at v r ≡ heads → drop (length r.kept.items) heads ≡ atoms_at v r.removed.items
-removed_heads r heads v e =
-    ap (drop (length r.kept.items)) (sym e ∙ map-append (atom_at v) r.kept.items r.removed.items)
-    ∙ ap (λ n. drop n (atoms_at v r.kept.items ++ atoms_at v r.removed.items)) (sym (length-map r.kept.items (atom_at v))) ∙ drop-append_seam (atoms_at v r.kept.items) (atoms_at v r.removed.items)
 
 -- the heads determine the step
 pub StepOn-once : (r : Rule) (heads : List Atom) (s t u : Store) → StepOn r heads s t → StepOn r heads s u → t ≡ u
@@ -34,11 +29,6 @@ StepOn-once r heads s t u h g =
     let left : atoms_at h.0 r.removed.items ≡ atoms_at g.0 r.removed.items = sym (removed_heads r heads h.0 h.1) ∙ removed_heads r heads g.0 g.1 in
     let came : atoms_at h.0 r.body.items ≡ atoms_at g.0 r.body.items = sym (body_is r heads h.0 h.1) ∙ body_is r heads g.0 g.1 in
     h.2.after ∙ (λ i. (s ⊖ store_of (left i)) ⊕ store_of (came i)) ∙ sym g.2.after
-
--- heads that are there make a step
-pub instance_steps : (r : Rule) (heads : List Atom) (s : Store) → HasInstance r heads → IsWithin (store_of heads) s → HasNoStep r s → ⊥
-instance_steps r heads s h w none =
-    none h.0 ((s ⊖ store_of (atoms_at h.0 r.removed.items)) ⊕ store_of (atoms_at h.0 r.body.items)) (record { guard = h.2; there = rw h.1 w; after = refl })
 
 pub LeadsTo-steps : (rules : List Rule) (st : StepValue) (s t : Store) → LeadsTo rules st s t → Step rules s t
 LeadsTo-steps rules st s t h = (st.rule - 1, h.0.rule, h.1.0, h.0.named, h.1.2)

@@ -21,8 +21,8 @@ use Rattle.chr_base.specs.Programs.{rules_of}
 use Rattle.chr_base.specs.Rewriting.{IsAtRest}
 use Rattle.chr_weights.specs.Weights.{store_rank, ProgramLowers}
 use Rattle.chr_rewrite.specs.Derivations.{IsApplicable, LeadsTo, IsDerivation, IsLeastInstance, IsLeastStep, IsPlainDerivation, IsPlainComputation, IsFirstInapplicable}
-use Rattle.chr_rewrite.proofs.DerivationLemmas.{removed_heads, LeadsTo-steps}
-use Rattle.chr_rewrite.proofs.Stepping.{removed_within}
+use Rattle.chr_base.proofs.Steps.{removed_heads, removed_within}
+use Rattle.chr_rewrite.proofs.DerivationLemmas.{LeadsTo-steps}
 use Rattle.chr_rewrite.proofs.StepCounts.{one_lowers}
 
 -- the removed heads were taken out, and the body put in

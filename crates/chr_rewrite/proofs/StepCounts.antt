@@ -10,7 +10,7 @@ use Rattle.chr_base.specs.FinBag.{IsWithin, ◌⊕◌, ◌⊖◌}
 use Rattle.chr_base.specs.Stores.{Store, store_of, weight_of}
 use Rattle.chr_base.specs.Rules.{Step, HasInstance, atoms_at}
 use Rattle.chr_base.specs.Programs.{rules_of}
-use Rattle.chr_base.proofs.Steps.{step_lowers}
+use Rattle.chr_base.proofs.Steps.{step_lowers, heads_step}
 use Rattle.std.specs.Io.Iter.{u64_saturate}
 use Rattle.chr_base.specs.Rewriting.{IsAtRest, Lowers, Runs}
 use Rattle.chr_base.proofs.Rewriting.{Runs-append, Runs-lowers}
@@ -60,12 +60,6 @@ exact_count p n s t h fits =
     let few = h.rank in
     let same : n ≡ h.steps = omega (arith, is, few, fits) in
     subst (λ m. Runs (Step (rules_of p)) m s t) (sym same) h.run
-
--- heads that are there make a step
-pub heads_step : (rules : List Rule) (i : ℕ) (r : Rule) (heads : List Atom) (s : Store) → i < length rules → r ≡ get_or rules i r → HasInstance r heads → IsWithin (store_of heads) s → IsAtRest (Step rules) s → ⊥
-heads_step rules i r heads s l is h w rest =
-    rest ((s ⊖ store_of (atoms_at h.0 r.removed.items)) ⊕ store_of (atoms_at h.0 r.body.items))
-    (i, r, h.0, slice_get_read rules (length rules) i r refl l is, record { guard = h.2; there = rw h.1 w; after = refl })
 
 -- what was found makes a step
 pub found_step : {A : Type 0} (items : A → List Atom) (rules : List Rule) (i : ℕ) (r : Rule) (o : Option A) (s : Store) → i < length rules → r ≡ get_or rules i r → IfSome o (λ a. HasInstance r (items a)) → IfSome o (λ a. IsWithin (store_of (items a)) s)

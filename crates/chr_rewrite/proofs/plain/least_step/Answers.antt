@@ -1,5 +1,5 @@
 use Rattle.std.proofs.Common.{arith, refl, ◌+◌}
-use Rattle.chr_rewrite.proofs.Stepping.{rests}
+use Rattle.chr_base.proofs.Steps.{rests}
 use Rattle.chr_rewrite.proofs.Deriving.{least_of, no_step_more}
 use Rattle.chr_rewrite.proofs.plain.least_step.Goals as goal
 

@@ -2,7 +2,8 @@ use Rattle.std.proofs.Common.{ap, ◌∙◌, ◌≡◌, length, drop, ◌++◌}
 use Rattle.chr_base.specs.FinBag.{IsWithin}
 use Rattle.chr_base.specs.Stores.{store_of}
 use Rattle.chr_rewrite.proofs.Counting.{taken_all}
-use Rattle.chr_rewrite.proofs.Stepping.{fired, removed_within}
+use Rattle.chr_base.proofs.Steps.{removed_within}
+use Rattle.chr_rewrite.proofs.Stepping.{fired}
 use Rattle.chr_rewrite.proofs.list.ListPoolPool.fire.Goals as goal
 
 pub returns-clause-ok : goal.returns-clause-ok

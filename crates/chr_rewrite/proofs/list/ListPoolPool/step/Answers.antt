@@ -1,6 +1,5 @@
 use Rattle.std.proofs.Common.{arith}
-use Rattle.chr_rewrite.proofs.StepCounts.{heads_step}
-use Rattle.chr_rewrite.proofs.Stepping.{step_found, rests}
+use Rattle.chr_base.proofs.Steps.{heads_step, step_found, rests}
 use Rattle.chr_rewrite.proofs.list.ListPoolPool.step.Goals as goal
 
 pub returns-in-Some-clause-stepped : goal.returns-in-Some-clause-stepped
