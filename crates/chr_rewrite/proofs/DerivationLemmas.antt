@@ -1,13 +1,11 @@
 -- Laws of derivations: what they reach, and that a store has one plain derivation.
-use Rattle.std.proofs.lemmas.List.{map-append, length-map}
-use Rattle.std.specs.Prelude.{◌≡◌, ℕ, zero, suc, ◌-◌, ◌<◌, ◌++◌, List, [], ◌∷◌, Some, None, length, slice_get, take, drop}
+use Rattle.std.specs.Prelude.{◌≡◌, ℕ, zero, suc, ◌-◌, ◌<◌, List, [], ◌∷◌, Some, None, slice_get, take}
 use Rattle.std.specs.declared.cmp.Ordering.{Ordering}
 use Rattle.std.specs.declared.cmp.Ordering.TheVariants.{Less, Equal, Greater}
 use Rattle.std.specs.Ordering.{ordering_reverse}
 use Rattle.std.specs.Cmp.{IsTotalOrder}
 use Rattle.std.specs.Cmp.Lexicographic.{slice_cmp, lists_total}
 use Rattle.std.specs.FinMap.{slice_cmp-IsAntisymmetric}
-use Rattle.std.proofs.Math.Seq.{drop-append_seam}
 use Rattle.std.proofs.Common.{refl, sym, ap, subst, ◌∙◌, arith}
 use Rattle.chr_base.specs.declared.atom.Atom.{Atom}
 use Rattle.chr_base.specs.declared.rule.Rule.{Rule}
@@ -18,7 +16,7 @@ use Rattle.chr_base.specs.FinBag.{IsWithin, ◌⊕◌, ◌⊖◌}
 use Rattle.chr_base.specs.Stores.{Store, store_of}
 use Rattle.chr_base.proofs.Instances.{body_is}
 use Rattle.chr_base.proofs.Steps.{removed_heads, instance_steps}
-use Rattle.chr_base.specs.Rules.{Step, HasInstance, Valuation, heads_at, atoms_at, atom_at, StepOn, HasNoStep}
+use Rattle.chr_base.specs.Rules.{Step, HasInstance, atoms_at, StepOn}
 use Rattle.chr_base.specs.Rewriting.{Reaches, IsAtRest, IsNormalForm}
 use Rattle.chr_base.proofs.Rewriting.{reaches_after}
 use Rattle.chr_rewrite.specs.Derivations.{IsApplicable, LeadsTo, IsDerivation, IsLeastInstance, IsLeastStep, IsPlainDerivation, IsPlainComputation, IsFirstInapplicable}

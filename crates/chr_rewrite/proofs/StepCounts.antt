@@ -2,13 +2,12 @@
 use Rattle.std.specs.Prelude.{◌≡◌, ℕ, zero, suc, ◌+◌, ◌-◌, ◌^◌, ◌<◌, min, List, length, get_or, Option, Some, None, IsTrue, IfSome, is_some, ◌↔◌, true, false}
 use Rattle.std.proofs.Common.{refl, sym, subst, arith}
 use mathlib.Core.Bool.{true≢false}
-use Rattle.std.proofs.lemmas.Option.{slice_get_read}
 use Rattle.chr_base.specs.declared.atom.Atom.{Atom}
 use Rattle.chr_base.specs.declared.rule.Rule.{Rule}
 use Rattle.chr_base.specs.declared.program.Program.{Program}
-use Rattle.chr_base.specs.FinBag.{IsWithin, ◌⊕◌, ◌⊖◌}
+use Rattle.chr_base.specs.FinBag.{IsWithin}
 use Rattle.chr_base.specs.Stores.{Store, store_of, weight_of}
-use Rattle.chr_base.specs.Rules.{Step, HasInstance, atoms_at}
+use Rattle.chr_base.specs.Rules.{Step, HasInstance}
 use Rattle.chr_base.specs.Programs.{rules_of}
 use Rattle.chr_base.proofs.Steps.{step_lowers, heads_step}
 use Rattle.std.specs.Io.Iter.{u64_saturate}

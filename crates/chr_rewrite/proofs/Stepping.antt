@@ -1,17 +1,14 @@
 -- From what a pool finds and does to the steps of a program.
-use Rattle.std.proofs.lemmas.List.{length-map}
-use Rattle.std.specs.Prelude.{◌≡◌, ℕ, ◌+◌, ◌<◌, List, ◌++◌, length, get_or, drop}
-use Rattle.std.proofs.Common.{refl, ap, subst, ◌∙◌, arith, length-append}
-use Rattle.std.proofs.lemmas.Option.{slice_get_read, slice_get_within, get_or_from_slice_get}
+use Rattle.std.specs.Prelude.{◌≡◌, ◌+◌, List, ◌++◌, length, drop}
+use Rattle.std.proofs.Common.{ap, ◌∙◌}
 use Rattle.chr_base.specs.declared.atom.Atom.{Atom}
 use Rattle.chr_base.specs.declared.rule.Rule.{Rule}
 use Rattle.chr_base.specs.Atoms.{atom_cmp}
 use Rattle.chr_base.specs.FinBag.{count_in, IsWithin, ◌⊕◌, ◌⊖◌}
-use Rattle.chr_base.specs.Stores.{Store, store_of}
+use Rattle.chr_base.specs.Stores.{store_of}
 use Rattle.chr_base.proofs.Stores.{store_of-append}
-use Rattle.chr_base.specs.Rules.{Step, StepBy, HasInstance, Valuation, heads_of, heads_at, atoms_at, atom_at, StepOn, HasNoStep}
+use Rattle.chr_base.specs.Rules.{HasInstance, Valuation, heads_at, atoms_at, StepOn}
 use Rattle.chr_base.proofs.Steps.{removed_heads}
-use Rattle.chr_base.specs.Rewriting.{IsAtRest}
 use Rattle.chr_rewrite.proofs.Counting.{store_less}
 
 -- the list with the removed heads taken out and the body put in
