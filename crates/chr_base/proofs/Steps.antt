@@ -1,7 +1,8 @@
 -- Laws of steps.
-use Rattle.std.specs.Prelude.{◌≡◌, ℕ, ◌+◌, ◌<◌, List, ◌++◌, length, get_or, drop, Some, slice_get}
+use Rattle.std.specs.Prelude.{◌≡◌, ℕ, ◌+◌, ◌<◌, List, ◌++◌, length, get_or, drop, Option, Some, None, slice_get, is_some, IsTrue, IfSome, ◌↔◌, true, false}
 use Rattle.std.proofs.Common.{refl, sym, ap, subst, ◌∙◌, arith, length-append}
 use Rattle.std.proofs.Math.Seq.{drop-append_seam}
+use mathlib.Core.Bool.{true≢false}
 use Rattle.std.proofs.lemmas.List.{map-append, length-map}
 use Rattle.std.proofs.lemmas.Option.{slice_get_read, slice_get_within, get_or_from_slice_get}
 use Rattle.chr_base.specs.declared.atom.Atom.{Atom}
@@ -89,3 +90,9 @@ pub rests : (rules : List Rule) (s : Store) → ((k : ℕ) (d : Rule) → k < le
 rests rules s none u h =
     let e : get_or rules h.0 h.1 ≡ h.1 = get_or_from_slice_get rules h.0 h.1 h.1 h.3 in
     subst (λ r. HasNoStep r s) e (none h.0 h.1 (slice_get_within rules h.0 h.1 h.3)) h.2 u h.4
+
+-- what was found makes a step
+pub found_step : {A : Type 0} (items : A → List Atom) (rules : List Rule) (i : ℕ) (r : Rule) (o : Option A) (s : Store) → i < length rules → r ≡ get_or rules i r → IfSome o (λ a. HasInstance r (items a)) → IfSome o (λ a. IsWithin (store_of (items a)) s)
+    → is_some o ≡ true → IsTrue false ↔ IsAtRest (Step rules) s
+found_step items rules i r None s l is h w e = absurd (true≢false (sym e))
+found_step items rules i r (Some a) s l is h w e = ((λ f. absurd (true≢false (sym f))), λ rest. absurd (heads_step rules i r (items a) s l is h w rest))

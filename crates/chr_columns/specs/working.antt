@@ -3,3 +3,4 @@ pub mod Groups
 pub mod Resting
 pub mod Firing
 pub mod Making
+pub mod Own

@@ -1,14 +1,33 @@
 //! The pool.
+ghost use Rattle.std.specs.Prelude.{◌≡◌, ◌↔◌, IfOk, IfSome, IfNone, IsTrue, Ok, OnOk, OnErr, false};
+ghost use Rattle.std.specs.Bool.{OnTrue, OnFalse};
+ghost use Rattle.chr_base.specs.FinBag as bag;
+ghost use Rattle.chr_base.specs.FinBag.{◌⊕◌, ◌⊖◌, IsWithin};
+ghost use Rattle.chr_base.specs.Rewriting.{IsAtRest};
+ghost use Rattle.chr_base.specs.Rules.{HasInstance, HasNoStep, Step, StepOn};
+ghost use Rattle.chr_base.specs.Stores.{store_of};
+
+use crate::listing::all_atoms;
+use crate::making::rested_for;
+use crate::own::{find_in, rests_in};
+use crate::removing::{has_all, remove_all};
 use crate::rested::Rested;
+use crate::stepping::step_in;
+use arrayvec::ArrayVec;
 use chr_base::atom::Atom;
+use chr_base::bag::Bag;
+use chr_base::limits::MAX_HEADS;
+use chr_base::lists::push_all;
+use chr_base::rule::Rule;
+use std::alloc::{AllocError, Global};
 use std::marker::Model;
 
 /// A store that rests in near linear time. Some atoms are at rest under the pool's rules, and sit in rows; the others
 /// are fresh. Contracts see the multiset of both.
 #[derive(Drop)]
 pub struct Columns {
-    pub(crate) rested: Rested,
-    pub(crate) fresh: Vec<Atom>,
+    rested: Rested,
+    fresh: Vec<Atom>,
 }
 
 impl Model for Columns {
@@ -24,4 +43,92 @@ impl Model for Columns {
     ghost view = { λ c. stored c.rested ⊕ store_of c.fresh.items };
 
     ghost invariant = { λ c. IsRested c.rested };
+}
+
+impl Columns {
+    /// The empty one. It has copies of these rules: steps by them are what it is made for.
+    pub fn new(alloc: Global, rules: &[Rule]) -> Result<Columns, AllocError>
+        ensures { IfOk result (λ c. c ≡ bag.empty) }
+    {
+        let rested = rested_for(alloc, rules)?;
+        Ok(Columns {
+            rested,
+            fresh: Vec::new(alloc),
+        })
+    }
+
+    /// Puts all of these atoms in. Where memory is refused nothing changes.
+    pub fn insert(&mut self, atoms: &[Atom]) -> Result<(), AllocError>
+        ensures ok { OnOk result (self.new ≡ self.old ⊕ store_of atoms.now) }
+        ensures err { OnErr result (self.new ≡ self.old) }
+    {
+        self.fresh.reserve(atoms.len())?;
+        push_all(&mut self.fresh, atoms);
+        Ok(())
+    }
+
+    /// Whether all of these atoms are there, as a multiset. It takes no memory.
+    pub fn has(&self, atoms: &[Atom]) -> bool
+        ensures { IsTrue result ↔ IsWithin (store_of atoms.now) self.now }
+    {
+        has_all(&self.rested, &self.fresh, atoms)
+    }
+
+    /// Takes all of these atoms out, or none where as a multiset they are not there. It takes no memory.
+    pub fn remove(&mut self, atoms: &[Atom]) -> bool
+        ensures there { IsTrue result ↔ IsWithin (store_of atoms.now) self.old }
+        ensures taken { OnTrue result (self.new ≡ self.old ⊖ store_of atoms.now) }
+        ensures kept { OnFalse result (self.new ≡ self.old) }
+    {
+        remove_all(&mut self.rested, &mut self.fresh, atoms)
+    }
+
+    /// The atoms as a bag.
+    pub fn bag(&self, alloc: Global) -> Result<Bag, AllocError>
+        ensures { IfOk result (λ b. b ≡ self.now) }
+    {
+        Bag::of(all_atoms(alloc, &self.rested, &self.fresh)?)
+    }
+
+    /// The heads, in place order, of an instance of the rule that is there. None only where there is none. It takes no
+    /// memory.
+    pub fn find(&self, rule: &Rule) -> Option<ArrayVec<Atom, MAX_HEADS>>
+        ensures instance { IfSome result (λ heads. HasInstance rule.now heads.items) }
+        ensures there { IfSome result (λ heads. IsWithin (store_of heads.items) self.now) }
+        ensures none { IfNone result (HasNoStep rule.now self.now) }
+    {
+        find_in(&self.rested, &self.fresh, rule)
+    }
+
+    /// One step by the instance with these heads. Where memory is refused nothing changes.
+    pub fn fire(&mut self, rule: &Rule, heads: &[Atom]) -> Result<(), AllocError>
+        requires instance { HasInstance rule.now heads.now }
+        requires there { IsWithin (store_of heads.now) self.old }
+        ensures ok { OnOk result (StepOn rule.now heads.now self.old self.new) }
+        ensures err { OnErr result (self.new ≡ self.old) }
+    {
+        let body = rule.body_of(heads);
+        self.fresh.reserve(body.len())?;
+        let (_, removed) = heads.split_at(rule.kept.len());
+        remove_all(&mut self.rested, &mut self.fresh, removed);
+        push_all(&mut self.fresh, &body);
+        Ok(())
+    }
+
+    /// One step of some rule. False, and nothing changes, where the store is at rest, which is told without memory;
+    /// where memory is refused nothing changes either. Steps by the pool's own rules take near constant time; under
+    /// other rules it makes copies of these, and all atoms become fresh.
+    pub fn step(&mut self, rules: &[Rule]) -> Result<bool, AllocError>
+        ensures stepped { IfOk result (λ stepped. OnTrue stepped (Step rules.now self.old self.new)) }
+        ensures same { IfOk result (λ stepped. OnFalse stepped (self.new ≡ self.old)) }
+        ensures rests { IfOk result (λ stepped. OnFalse stepped (IsAtRest (Step rules.now) self.old)) }
+        ensures resting { IsAtRest (Step rules.now) self.old → result ≡ Ok false }
+        ensures err { OnErr result (self.new ≡ self.old) }
+    {
+        let stepped = step_in(&mut self.rested, &mut self.fresh, rules);
+        if stepped.is_err() && rests_in(&self.rested, &self.fresh, rules) {
+            return Ok(false);
+        }
+        stepped
+    }
 }

@@ -6,9 +6,14 @@
 #![tactic(auto)]
 
 pub mod columns;
+mod find;
 mod firing;
 mod groups;
+mod listing;
 mod making;
+mod own;
+mod removing;
 mod rested;
 mod same;
 mod settle;
+mod stepping;

@@ -1,18 +1,21 @@
 //! Plans and indexes are made.
-ghost use Rattle.std.specs.Prelude.{◌≡◌, ◌+◌, ◌<◌, length, IfOk, Some};
+ghost use Rattle.std.specs.Prelude.{◌≡◌, ◌+◌, ◌<◌, length, map, IfOk, Some};
+ghost use Rattle.chr_base.specs.FinBag.{empty};
+ghost use Rattle.chr_base.specs.Sameness.{parts_of};
 ghost use Rattle.chr_base.specs.Rules.{heads_of};
 ghost use Rattle.chr_plans.specs.Plans.{IsPlan, pattern_at, partners_of, columns_of};
 ghost use Rattle.chr_columns.specs.working.Groups.{table_of_pattern};
-ghost use Rattle.chr_columns.specs.working.Resting.{AreIndexed};
+ghost use Rattle.chr_columns.specs.working.Resting.{AreIndexed, stored, IsRested};
 ghost use Rattle.chr_columns.specs.working.Making.{columns_in, Grows};
 
 use crate::groups::{Group, table_of};
+use crate::rested::Rested;
 use arrayvec::ArrayVec;
 use chr_base::limits::MAX_ARITY;
 use chr_base::rule::Rule;
 use chr_plans::plan::{Lookup, Partner, Plan};
 use chr_plans::planning::plan_of;
-use std::alloc::AllocError;
+use std::alloc::{AllocError, Global};
 
 /// The columns of each index of one table.
 #[derive(Drop)]
@@ -75,4 +78,13 @@ fn plan_for(
         place,
         lookups,
     })
+}
+
+/// stub
+pub(crate) fn rested_for(alloc: Global, rules: &[Rule]) -> Result<Rested, AllocError>
+    ensures rested { IfOk result (λ r. IsRested r) }
+    ensures rules { IfOk result (λ r. map parts_of r.rules.items ≡ map parts_of rules.now) }
+    ensures empty { IfOk result (λ r. stored r ≡ empty) }
+{
+    Err(AllocError)
 }

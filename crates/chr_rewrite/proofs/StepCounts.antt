@@ -1,15 +1,12 @@
 -- Counting the steps that a pool takes.
-use Rattle.std.specs.Prelude.{◌≡◌, ℕ, zero, suc, ◌+◌, ◌-◌, ◌^◌, ◌<◌, min, List, length, get_or, Option, Some, None, IsTrue, IfSome, is_some, ◌↔◌, true, false}
+use Rattle.std.specs.Prelude.{◌≡◌, ℕ, zero, suc, ◌+◌, ◌-◌, ◌^◌, ◌<◌, min, List}
 use Rattle.std.proofs.Common.{refl, sym, subst, arith}
-use mathlib.Core.Bool.{true≢false}
-use Rattle.chr_base.specs.declared.atom.Atom.{Atom}
 use Rattle.chr_base.specs.declared.rule.Rule.{Rule}
 use Rattle.chr_base.specs.declared.program.Program.{Program}
-use Rattle.chr_base.specs.FinBag.{IsWithin}
-use Rattle.chr_base.specs.Stores.{Store, store_of, weight_of}
-use Rattle.chr_base.specs.Rules.{Step, HasInstance}
+use Rattle.chr_base.specs.Stores.{Store, weight_of}
+use Rattle.chr_base.specs.Rules.{Step}
 use Rattle.chr_base.specs.Programs.{rules_of}
-use Rattle.chr_base.proofs.Steps.{step_lowers, heads_step}
+use Rattle.chr_base.proofs.Steps.{step_lowers}
 use Rattle.std.specs.Io.Iter.{u64_saturate}
 use Rattle.chr_base.specs.Rewriting.{IsAtRest, Lowers, Runs}
 use Rattle.chr_base.proofs.Rewriting.{Runs-append, Runs-lowers}
@@ -59,9 +56,3 @@ exact_count p n s t h fits =
     let few = h.rank in
     let same : n ≡ h.steps = omega (arith, is, few, fits) in
     subst (λ m. Runs (Step (rules_of p)) m s t) (sym same) h.run
-
--- what was found makes a step
-pub found_step : {A : Type 0} (items : A → List Atom) (rules : List Rule) (i : ℕ) (r : Rule) (o : Option A) (s : Store) → i < length rules → r ≡ get_or rules i r → IfSome o (λ a. HasInstance r (items a)) → IfSome o (λ a. IsWithin (store_of (items a)) s)
-    → is_some o ≡ true → IsTrue false ↔ IsAtRest (Step rules) s
-found_step items rules i r None s l is h w e = absurd (true≢false (sym e))
-found_step items rules i r (Some a) s l is h w e = ((λ f. absurd (true≢false (sym f))), λ rest. absurd (heads_step rules i r (items a) s l is h w rest))

@@ -1,8 +1,7 @@
 use Rattle.std.proofs.Common.{◌∙◌, ap, sym, refl, ◌≡◌, arith, length}
 use Rattle.chr_base.specs.Programs.{rules_of}
 use Rattle.chr_weights.specs.WeighedPrograms.{program_of}
-use Rattle.chr_base.proofs.Steps.{rests}
-use Rattle.chr_rewrite.proofs.StepCounts.{found_step}
+use Rattle.chr_base.proofs.Steps.{rests, found_step}
 use Rattle.chr_rewrite.proofs.resting.at_rest.Goals as goal
 
 pub returns-then-is_some : goal.returns-then-is_some

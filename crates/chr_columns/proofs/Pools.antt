@@ -1,0 +1,72 @@
+-- The store of a pool: what is at rest and what is fresh.
+use Rattle.std.proofs.Common.{◌≡◌, List, [], ◌++◌, map, length, drop, refl, sym, ap, subst, ◌∙◌}
+use mathlib.Core.Bool.{true≢false}
+use Rattle.std.specs.Prelude.{Result, Ok, Err, IfOk, OnErr, is_err, Bool, true, false, IsTrue, ◌↔◌}
+use Rattle.std.specs.Bool.{OnTrue, OnFalse}
+use Rattle.std.proofs.lemmas.Bool.{OnTrue_at}
+use Rattle.chr_base.specs.declared.atom.Atom.{Atom}
+use Rattle.chr_base.specs.declared.rule.Rule.{Rule}
+use Rattle.chr_base.specs.Atoms.{atom_cmp}
+use Rattle.chr_base.specs.FinBag.{empty, ◌⊕◌, ◌⊖◌, IsWithin}
+use Rattle.chr_base.proofs.FinBags.{of_list-none}
+use Rattle.chr_base.specs.Rewriting.{IsAtRest}
+use Rattle.chr_base.specs.Rules.{Step, StepOn, HasInstance, Valuation, heads_at, atoms_at}
+use Rattle.chr_base.specs.Sameness.{parts_of}
+use Rattle.chr_base.specs.Stores.{Store, store_of}
+use Rattle.chr_base.proofs.Stores.{plus_comm, plus_assoc, plus_empty, store_of-append}
+use Rattle.chr_base.proofs.SameSteps.{same_step}
+use Rattle.chr_base.proofs.Steps.{removed_heads, removed_within}
+use Rattle.chr_actives.proofs.Actives.{same_rest}
+
+-- no atoms are the empty store
+pub no_store : store_of [] ≡ empty
+no_store = of_list-none atom_cmp
+
+pub nothing : (s : Store) (xs : List Atom) → s ≡ empty → xs ≡ [] → s ⊕ store_of xs ≡ empty
+nothing s xs e f = (λ i. e i ⊕ store_of (f i)) ∙ ap (λ t. empty ⊕ t) no_store ∙ plus_empty empty
+
+pub inserted : (s : Store) (xs ys zs : List Atom) → zs ≡ xs ++ ys → s ⊕ store_of zs ≡ (s ⊕ store_of xs) ⊕ store_of ys
+inserted s xs ys zs e = ap (λ l. s ⊕ store_of l) e ∙ ap (λ t. s ⊕ t) (store_of-append xs ys) ∙ sym (plus_assoc s (store_of xs) (store_of ys))
+
+-- all atoms at rest became fresh
+pub all_fresh : (s t : Store) (xs ys zs : List Atom) → t ≡ empty → ys ≡ xs → store_of zs ≡ store_of ys ⊕ s → t ⊕ store_of zs ≡ s ⊕ store_of xs
+all_fresh s t xs ys zs none same e =
+    (λ i. none i ⊕ e i) ∙ plus_comm empty (store_of ys ⊕ s) ∙ plus_empty (store_of ys ⊕ s) ∙ plus_comm (store_of ys) s ∙ ap (λ l. s ⊕ store_of l) same
+
+-- a step of rules that say the same
+pub carried_step : {E : Type 0} (rs qs : List Rule) (o : Result Bool E) (s s' t : Store) → map parts_of rs ≡ map parts_of qs → s ≡ s'
+    → IfOk o (λ b. OnTrue b (Step rs s t)) → IfOk o (λ b. OnTrue b (Step qs s' t))
+carried_step rs qs (Ok true) s s' t e f h = subst (λ x. Step qs x t) f (same_step rs qs s t e h)
+carried_step rs qs (Ok false) s s' t e f h = h
+carried_step rs qs (Err x) s s' t e f h = h
+
+-- nothing is fresh, and what is at rest is so under rules that say the same
+pub carried_rest : {E : Type 0} (rs qs : List Rule) (o : Result Bool E) (rested now between before : Store) (xs : List Atom) → map parts_of rs ≡ map parts_of qs
+    → IsAtRest (Step rs) rested → now ≡ rested ⊕ store_of xs → IfOk o (λ b. OnFalse b (now ≡ between)) → between ≡ before → IfOk o (λ b. OnFalse b (xs ≡ []))
+    → IfOk o (λ b. OnFalse b (IsAtRest (Step qs) before))
+carried_rest rs qs (Ok true) rested now between before xs e rest is same back none = same
+carried_rest rs qs (Ok false) rested now between before xs e rest is same back none =
+    let all : rested ≡ before = sym (plus_empty rested) ∙ ap (λ t. rested ⊕ t) (sym no_store) ∙ ap (λ l. rested ⊕ store_of l) (sym none) ∙ sym is ∙ same ∙ back in
+    subst (λ s. IsAtRest (Step qs) s) all (same_rest rs qs rested e rest)
+carried_rest rs qs (Err x) rested now between before xs e rest is same back none = same
+
+-- where memory was refused the store is as before
+pub err_same : {A E : Type 0} (o : Result A E) (s t : Store) → is_err o ≡ true → OnErr o (s ≡ t) → s ≡ t
+err_same (Ok x) s t e h = absurd (true≢false (sym e))
+err_same (Err x) s t e h = h
+
+-- a store at rest is told so, unless memory was refused
+pub told_rest : {E : Type 0} (rules : List Rule) (o : Result Bool E) (s t : Store) → IfOk o (λ b. OnTrue b (Step rules s t)) → IsAtRest (Step rules) s
+    → (is_err o ≡ true → ⊥) → o ≡ Ok false
+told_rest rules (Ok true) s t h rest none = absurd (rest t h)
+told_rest rules (Ok false) s t h rest none = refl
+told_rest rules (Err x) s t h rest none = absurd (none refl)
+
+-- the removed heads left, and the body came in
+pub fired_in : (r : Rule) (heads gone body : List Atom) (s t u : Store) (b : Bool) → HasInstance r heads → IsWithin (store_of heads) s → gone ≡ drop (length r.kept.items) heads
+    → IsTrue b ↔ IsWithin (store_of gone) s → OnTrue b (t ≡ s ⊖ store_of gone) → ((v : Valuation) → heads_at v r ≡ heads → body ≡ atoms_at v r.body.items)
+    → u ≡ t ⊕ store_of body → StepOn r heads s u
+fired_in r heads gone body s t u b h w is there taken made came =
+    let v = h.0 in
+    let left : t ≡ s ⊖ store_of (atoms_at v r.removed.items) = OnTrue_at (there.1 (rw is (removed_within r heads s h w))) taken ∙ ap (λ as'. s ⊖ store_of as') (is ∙ removed_heads r heads v h.1) in
+    (v, h.1, record { guard = h.2; there = rw h.1 w; after = came ∙ (λ i. left i ⊕ store_of (made v h.1 i)) })
