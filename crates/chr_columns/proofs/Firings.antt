@@ -21,8 +21,6 @@ use Rattle.chr_base.proofs.Atoms.{atom_total}
 use Rattle.chr_base.proofs.FinBags.{count-of_list}
 use Rattle.chr_base.proofs.Stores.{same_store, count_plus, count_minus, store_of-append, plus_assoc}
 use Rattle.chr_base.proofs.Steps.{grows}
-use Rattle.chr_plans.specs.declared.plan.Plan.{Plan}
-use Rattle.chr_plans.specs.Rows.{Columns}
 use Rattle.chr_tables.specs.Contents.{Contents, rows_of, columns_of}
 use Rattle.chr_plans.specs.declared.rows.Seat.{Seat}
 use Rattle.chr_plans.specs.Keys.{no_atom}
@@ -33,8 +31,8 @@ use Rattle.chr_actives.specs.Grids.{Grid, contents, rows_in, without_rows, SitIn
 use Rattle.chr_actives.proofs.Actives.{removed_reacts, kept_reacts, part_rests}
 use Rattle.chr_actives.proofs.Rows.{rows_leave}
 use Rattle.chr_columns.specs.declared.groups.Group.{Group}
-use Rattle.chr_columns.specs.working.Resting.{grid, IsSetUp, IsPlanned}
-use Rattle.chr_columns.proofs.Stored.{row_is, rows_are, rows_stay}
+use Rattle.chr_columns.specs.working.Resting.{grid, IsSetUp, ArePlanned}
+use Rattle.chr_columns.proofs.Stored.{row_is, rows_are, rows_stay, as_many_left}
 use Rattle.chr_columns.specs.working.Firing.{kept_others, leaving, coming}
 
 -- an item that is taken out of a list
@@ -198,11 +196,12 @@ module _ (rules : List Rule) (i : ℕ) (r : Rule) (v : Valuation) (s : Store) (p
 
 -- a pool is at rest without rows
 pub left_over : (rules : List Rule) (groups : List Group) (ts us : List Contents) (xs : List Atom) (ss : List Seat) → grid us ≡ without_rows (grid ts) ss → columns_of us ≡ columns_of ts
-    → IsSetUp rules groups (rows_of ts) (columns_of ts) → IsSetUp rules groups (rows_of us) (columns_of us)
+    → IsSetUp rules groups (rows_of ts) (columns_of ts) (length ts) → IsSetUp rules groups (rows_of us) (columns_of us) (length us)
 left_over rules groups ts us xs ss e f up = record {
-  tables = subst (λ (cs : Columns). (k : ℕ) → k ≤ length groups → IsTrue (is_some (cs k 0))) (sym f) up.tables;
+  tables = (let n = as_many_left ts us ss e in omega (arith, n, up.tables));
+  few = up.few;
   placed = λ t n b h. up.placed t n b (sym (row_is ts t n) ∙ rows_stay (grid ts) ss t n b (ap (λ (g : Grid). rows_in g t n) (sym e) ∙ row_is us t n ∙ h));
-  plans = subst (λ (cs : Columns). (k : ℕ) (g : Group) (j : ℕ) (p : Plan) → slice_get groups k ≡ Some g → slice_get g.plans.items j ≡ Some p → IsPlanned rules groups cs p) (sym f) up.plans;
+  plans = subst (ArePlanned rules groups) (sym f) up.plans;
   covered = up.covered;
 }
 

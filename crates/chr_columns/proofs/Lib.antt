@@ -7,3 +7,5 @@ pub mod Firings
 pub mod Makings
 pub mod Pools
 pub mod Owning
+pub mod Slices
+pub mod Grouping

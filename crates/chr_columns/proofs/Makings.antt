@@ -1,5 +1,5 @@
 -- Indexes that are added one by one.
-use Rattle.std.proofs.Common.{◌≡◌, ℕ, zero, suc, ◌<◌, List, [], ◌∷◌, ◌++◌, map, length, get_or, set, refl, sym, ap, subst, ◌∙◌, arith, inl, inr, ◌⊎◌, length-append}
+use Rattle.std.proofs.Common.{◌≡◌, ℕ, ◌<◌, List, [], ◌∷◌, ◌++◌, map, length, get_or, set, sym, ap, subst, ◌∙◌, arith, inl, inr, ◌⊎◌, length-append}
 use Rattle.std.specs.Prelude.{Some, slice_get}
 use Rattle.std.proofs.lemmas.Bool.{cases_lt}
 use Rattle.std.proofs.lemmas.List.{map-set, length-map, get_or-map, get_or-set_same, get_or-set_other, get_or_append_left}
@@ -13,15 +13,7 @@ use Rattle.chr_columns.specs.working.Groups.{table_of_pattern}
 use Rattle.chr_columns.specs.working.Resting.{AreIndexed}
 use Rattle.chr_columns.specs.declared.making.Keys.{Keys}
 use Rattle.chr_columns.specs.working.Making.{lists_of, columns_in, Grows}
-
-slice_left : {X : Type 0} (xs ys : List X) (i : ℕ) (x : X) → slice_get xs i ≡ Some x → slice_get (xs ++ ys) i ≡ Some x
-slice_left [] ys i x e = cc
-slice_left (z ∷ xs) ys zero x e = e
-slice_left (z ∷ xs) ys (suc i) x e = slice_left xs ys i x e
-
-slice_last : {X : Type 0} (xs : List X) (y : X) → slice_get (xs ++ y ∷ []) (length xs) ≡ Some y
-slice_last [] y = refl
-slice_last (x ∷ xs) y = slice_last xs y
+use Rattle.chr_columns.proofs.Slices.{slice_left, slice_last}
 
 -- the columns that the code reads
 read : (keys : List Keys) (t : ℕ) (k : Keys) → t < length keys → k ≡ get_or keys t k → get_or (map lists_of keys) t [] ≡ lists_of k

@@ -1,25 +1,23 @@
 -- An atom that joins the tables.
-use Rattle.std.proofs.Common.{◌≡◌, ℕ, ◌<◌, ◌≤◌, List, [], ◌∷◌, ◌++◌, length, get_or, set, sym, ap, subst, ◌∙◌, arith, inl, inr}
-use Rattle.std.specs.Prelude.{Some, slice_get, IsTrue, is_some, Result, Ok, Err, OnErr}
+use Rattle.std.proofs.Common.{◌≡◌, ℕ, ◌<◌, List, [], ◌∷◌, ◌++◌, length, get_or, set, sym, ap, subst, ◌∙◌, arith, inl, inr}
+use Rattle.std.specs.Prelude.{Some, Result, Ok, Err, OnErr}
 use Rattle.std.proofs.Math.ListN.{get_or-map}
-use Rattle.std.proofs.lemmas.List.{length-map, get_or_default, set-get_or}
+use Rattle.std.proofs.lemmas.List.{length-map, length-set, get_or_default, set-get_or}
 use Rattle.chr_base.specs.declared.atom.Atom.{Atom}
 use Rattle.chr_base.specs.declared.rule.Rule.{Rule}
 use Rattle.chr_base.specs.FinBag.{◌⊕◌}
-use Rattle.chr_plans.specs.declared.plan.Plan.{Plan}
-use Rattle.chr_plans.specs.Rows.{Columns}
 use Rattle.chr_tables.specs.Contents.{Contents, no_table, rows_of, columns_of}
 use Rattle.chr_actives.specs.Actives.{one}
 use Rattle.chr_actives.specs.Grids.{Grid, contents, rows_in}
 use Rattle.chr_columns.specs.declared.groups.Group.{Group}
 use Rattle.chr_columns.specs.working.Groups.{table_of_atom}
-use Rattle.chr_columns.specs.working.Resting.{grid, IsSetUp, IsPlanned}
+use Rattle.chr_columns.specs.working.Resting.{grid, IsSetUp, ArePlanned}
 use Rattle.chr_columns.proofs.Finding.{table_of_most}
-use Rattle.chr_columns.proofs.Stored.{row_is, grid_set, keys_set, same_columns, contents_more, row_more, table_there}
+use Rattle.chr_columns.proofs.Stored.{row_is, grid_set, keys_set, same_columns, contents_more, row_more}
 
 -- the table of each atom is there
-pub has_table : (rules : List Rule) (groups : List Group) (ts : List Contents) (a : Atom) → IsSetUp rules groups (rows_of ts) (columns_of ts) → table_of_atom groups a < length ts
-has_table rules groups ts a up = table_there ts (table_of_atom groups a) 0 (up.tables (table_of_atom groups a) (table_of_most groups a.symbol (length a.args.items)))
+pub has_table : (rules : List Rule) (groups : List Group) (ts : List Contents) (a : Atom) → IsSetUp rules groups (rows_of ts) (columns_of ts) (length ts) → table_of_atom groups a < length ts
+has_table rules groups ts a up = let m = table_of_most groups a.symbol (length a.args.items) in let n = up.tables in omega (arith, m, n)
 
 module _ (ts : List Contents) (t : ℕ) (x y : Contents) (a : Atom) (within : t < length ts) (here : x ≡ get_or ts t x) (rows : y.rows ≡ x.rows ++ Some a ∷ []) (keys : y.keys ≡ x.keys) where
   it : x ≡ get_or ts t no_table
@@ -33,17 +31,18 @@ module _ (ts : List Contents) (t : ℕ) (x y : Contents) (a : Atom) (within : t 
   pub stored_put : contents (grid (set ts t y)) ≡ contents (grid ts) ⊕ one a
   stored_put = ap contents grid_put ∙ contents_more (grid ts) t a (let n = length-map ts (λ (c : Contents). c.rows) in omega (arith, n, within))
 
-  pub set_up_put : (rules : List Rule) (groups : List Group) → t ≡ table_of_atom groups a → IsSetUp rules groups (rows_of ts) (columns_of ts)
-      → IsSetUp rules groups (rows_of (set ts t y)) (columns_of (set ts t y))
+  pub set_up_put : (rules : List Rule) (groups : List Group) → t ≡ table_of_atom groups a → IsSetUp rules groups (rows_of ts) (columns_of ts) (length ts)
+      → IsSetUp rules groups (rows_of (set ts t y)) (columns_of (set ts t y)) (length (set ts t y))
   set_up_put rules groups e up =
       let same = same_columns (set ts t y) ts (keys_set ts t y (keys ∙ ap (λ (c : Contents). c.keys) it)) in
       record {
-        tables = subst (λ (cs : Columns). (k : ℕ) → k ≤ length groups → IsTrue (is_some (cs k 0))) (sym same) up.tables;
+        tables = length-set ts t y ∙ up.tables;
+        few = up.few;
         placed = λ t' n b h. (elim (row_more (grid ts) t t' n a b (ap (λ (g : Grid). rows_in g t' n) (sym grid_put) ∙ row_is (set ts t y) t' n ∙ h)) as (λ _. t' ≡ table_of_atom groups b) [
           | inl old ↦ up.placed t' n b (sym (row_is ts t' n) ∙ old)
           | inr new ↦ new.0 ∙ e ∙ ap (table_of_atom groups) new.1
         ]);
-        plans = subst (λ (cs : Columns). (k : ℕ) (g : Group) (j : ℕ) (p : Plan) → slice_get groups k ≡ Some g → slice_get g.plans.items j ≡ Some p → IsPlanned rules groups cs p) (sym same) up.plans;
+        plans = subst (ArePlanned rules groups) (sym same) up.plans;
         covered = up.covered;
       }
 

@@ -22,7 +22,7 @@ use Rattle.chr_columns.specs.working.Resting.{grid, IsSetUp, IsPlanned}
 use Rattle.chr_columns.proofs.Shapes.{shape_table}
 use Rattle.chr_columns.proofs.Stored.{rows_are, same_contents}
 
-module _ (rules : List Rule) (groups : List Group) (rows : Tables) (columns : Columns) (up : IsSetUp rules groups rows columns) where
+module _ (rules : List Rule) (groups : List Group) (rows : Tables) (columns : Columns) (n : ℕ) (up : IsSetUp rules groups rows columns n) where
   fits : (p : Plan) → IsPlanned rules groups columns p → FitsPlan rules rows columns (Some p)
   fits p h = (
     h.0,
@@ -43,13 +43,13 @@ module _ (rules : List Rule) (groups : List Group) (rows : Tables) (columns : Co
     | inr past ↦ absurd (let p = past.0 in omega (arith, l, p))
   ]
 
-module _ (rules : List Rule) (groups : List Group) (ts : List Contents) (up : IsSetUp rules groups (rows_of ts) (columns_of ts)) (a : Atom) where
+module _ (rules : List Rule) (groups : List Group) (ts : List Contents) (up : IsSetUp rules groups (rows_of ts) (columns_of ts) (length ts)) (a : Atom) where
   -- where no plan of the atom's group finds partners, it has no instance with the tables
   pub none_with : ((g : Group) → slice_get groups (table_of_atom groups a) ≡ Some g → (k : ℕ) → k < length g.plans.items
       → NoneBy rules (rows_of ts) a (slice_get g.plans.items k))
       → NoInstanceWith rules (contents (grid ts)) a
   none_with none = rows_are_enough rules (grid ts) a (λ i r p at within heads seats seated is.
-      (let c = up.covered i r p at within in
+      (let c = up.covered i r (slice_get_within rules i r at) at p within in
       let v = seated.instance in
       let shape = shape_known r v.0 p heads v.1 in
       let t : table_of_atom groups a ≡ table_of_pattern groups (pattern_at r p) = ap (table_of_atom groups) (sym is) ∙ shape_table groups (pattern_at r p) (head heads p) shape in
@@ -60,20 +60,20 @@ module _ (rules : List Rule) (groups : List Group) (ts : List Contents) (up : Is
       subst (λ q. NoPartners r (rows_of ts) q a) c.6 k heads seats (subst (λ f. IsSeated r f p heads seats) (rows_are ts) seated) is))
 
 -- what a plan finds is an instance of its rule at its place
-pub reacting : (rules : List Rule) (groups : List Group) (rows : Tables) (columns : Columns) → IsSetUp rules groups rows columns
+pub reacting : (rules : List Rule) (groups : List Group) (rows : Tables) (columns : Columns) (n : ℕ) → IsSetUp rules groups rows columns n
     → (a : Atom) (t j : ℕ) (g : Group) (p : Plan) (heads : List Atom) (seats : List Seat) → slice_get groups t ≡ Some g → slice_get g.plans.items j ≡ Some p
     → Reacts rules rows a (slice_get g.plans.items j) heads seats
     → (r : Rule) × (slice_get rules p.rule ≡ Some r) × (p.place < length (heads_of r)) × IsSeated r rows p.place heads seats × (head heads p.place ≡ a)
-reacting rules groups rows columns up a t j g p heads seats e f h =
+reacting rules groups rows columns n up a t j g p heads seats e f h =
     let k : Reacts rules rows a (Some p) heads seats = subst (λ o. Reacts rules rows a o heads seats) f h in
     let w = up.plans t g j p e f in
     let same : w.0 ≡ k.0 = same_Some w.0 k.0 (sym w.1 ∙ k.1) in
     (k.0, k.1, subst (λ (r : Rule). p.place < length (heads_of r)) same w.2, k.2, k.3)
 
 -- rows that were read are set up as they were
-pub same_set_up : (rules : List Rule) (groups : List Group) (ts us : List Contents) → rows_of us ≡ rows_of ts → columns_of us ≡ columns_of ts
-    → IsSetUp rules groups (rows_of ts) (columns_of ts) → IsSetUp rules groups (rows_of us) (columns_of us)
-same_set_up rules groups ts us e f up = rw (e, f) up
+pub same_set_up : (rules : List Rule) (groups : List Group) (ts us : List Contents) → rows_of us ≡ rows_of ts → columns_of us ≡ columns_of ts → length us ≡ length ts
+    → IsSetUp rules groups (rows_of ts) (columns_of ts) (length ts) → IsSetUp rules groups (rows_of us) (columns_of us) (length us)
+same_set_up rules groups ts us e f n up = rw (e, f, n) up
 
 pub same_stored : (ts us : List Contents) → rows_of us ≡ rows_of ts → contents (grid us) ≡ contents (grid ts)
 same_stored ts us e = same_contents (grid us) (grid ts) (rows_are us ∙ e ∙ sym (rows_are ts))

@@ -4,7 +4,7 @@ use Rattle.std.specs.Prelude.{Some, None, is_some, IsTrue, slice_get}
 use Rattle.std.proofs.lemmas.Bool.{cases_lt}
 use Rattle.std.proofs.Math.ListN.{get_or-map}
 use Rattle.std.proofs.Math.Seq.{map-set_same}
-use Rattle.std.proofs.lemmas.List.{map-set, get_or_past, get_or_default, length-set}
+use Rattle.std.proofs.lemmas.List.{map-set, get_or_past, get_or_default, length-set, length-map}
 use Rattle.chr_base.specs.declared.atom.Atom.{Atom}
 use Rattle.chr_base.specs.Atoms.{atom_cmp}
 use Rattle.chr_base.specs.FinBag.{◌⊕◌, count_in}
@@ -61,13 +61,6 @@ same_contents g h e = same_store _ _ (λ q. (
     let b = count_contents q h in
     let c = same_total q g h (λ t n. ap (λ (f : Tables). f t n) e) in
     omega (arith, a, b, c)))
-
--- a table of which there is an index is there
-pub table_there : (ts : List Contents) (t i : ℕ) → IsTrue (is_some (columns_of ts t i)) → t < length ts
-table_there ts t i e = elim (cases_lt t (length ts)) as (λ _. t < length ts) [
-  | inl less ↦ less
-  | inr most ↦ absurd (let z : is_some (columns_of ts t i) ≡ false = ap (λ (x : Contents). is_some (slice_get x.keys i)) (get_or_past ts t no_table most) in cc)
-]
 
 -- a row that lives is in range
 pub row_there : (ts : List Contents) (t n : ℕ) → IsTrue (is_some (rows_of ts t n)) → (t < length ts) × (n < length (get_or ts t no_table).rows)
@@ -162,6 +155,15 @@ pub killed_set : (ts : List Contents) (s : Seat) (x : Contents) → x.rows ≡ s
 killed_set ts s x e =
     grid_set ts s.table x
     ∙ ap (set (grid ts) s.table) (e ∙ ap (λ rows. set rows s.row None) (sym (get_or-map (λ (c : Contents). c.rows) ts s.table no_table)))
+
+-- as many tables when rows die
+length_without : (g : Grid) (ss : List Seat) → length (without_rows g ss) ≡ length g
+length_without g [] = refl
+length_without g (s ∷ ss) = length_without (without_row g s) ss ∙ length-set g s.table _
+
+pub as_many_left : (ts us : List Contents) (ss : List Seat) → grid us ≡ without_rows (grid ts) ss → length us ≡ length ts
+as_many_left ts us ss e =
+    sym (length-map us (λ (c : Contents). c.rows)) ∙ ap length e ∙ length_without (grid ts) ss ∙ length-map ts (λ (c : Contents). c.rows)
 
 -- as many rows in each table
 abbrev pub AsMany : List Contents → List Contents → Type 0

@@ -1,9 +1,13 @@
 //! Which table the atoms of a symbol are in.
-ghost use Rattle.std.specs.Prelude.{◌≡◌};
-ghost use Rattle.chr_columns.specs.working.Groups.{table_of};
+ghost use Rattle.std.specs.Prelude.{◌≡◌, length, IfOk, OnOk};
+ghost use Rattle.chr_base.specs.Rules.{heads_of};
+ghost use Rattle.chr_columns.specs.working.Groups.{table_of, IsGrouped, AreGrouped, AllGrouped, StayGrouped, HaveNoPlans};
 
 use chr_base::atom::SymbolId;
+use chr_base::rule::Rule;
+use chr_base::term::Pattern;
 use chr_plans::plan::Plan;
+use std::alloc::{AllocError, Global};
 
 /// The atoms of one symbol and number of arguments, which are in one table, and the plans of the head places for them.
 #[derive(Drop)]
@@ -23,4 +27,45 @@ pub(crate) fn table_of(groups: &[Group], symbol: SymbolId, arity: usize) -> usiz
         }
     }
     groups.len()
+}
+
+/// A group for a pattern's atoms, where they have none.
+fn add_group(alloc: Global, groups: &mut Vec<Group>, pattern: &Pattern) -> Result<(), AllocError>
+    ensures grouped { OnOk result (IsGrouped groups.new.items pattern.now) }
+    ensures stay { StayGrouped groups.old.items groups.new.items }
+    ensures no_plans { HaveNoPlans groups.old.items → HaveNoPlans groups.new.items }
+{
+    let arity = pattern.args.len();
+    if table_of(groups, pattern.symbol, arity) == groups.len() {
+        groups.push(Group {
+            symbol: pattern.symbol,
+            arity,
+            plans: Vec::new(alloc),
+        })?;
+    }
+    Ok(())
+}
+
+/// A group for the atoms of each head of a rule.
+fn add_groups(alloc: Global, groups: &mut Vec<Group>, rule: &Rule) -> Result<(), AllocError>
+    ensures grouped { OnOk result (AreGrouped groups.new.items rule.now (length (heads_of rule.now))) }
+    ensures stay { StayGrouped groups.old.items groups.new.items }
+    ensures no_plans { HaveNoPlans groups.old.items → HaveNoPlans groups.new.items }
+{
+    for place in 0..rule.places() {
+        add_group(alloc, groups, rule.head_at(place))?;
+    }
+    Ok(())
+}
+
+/// A group for the atoms of each head of these rules, without plans.
+pub(crate) fn groups_for(alloc: Global, rules: &[Rule]) -> Result<Vec<Group>, AllocError>
+    ensures grouped { IfOk result (λ groups. AllGrouped groups.items rules.now) }
+    ensures no_plans { IfOk result (λ groups. HaveNoPlans groups.items) }
+{
+    let mut groups = Vec::new(alloc);
+    for rule in rules {
+        add_groups(alloc, &mut groups, rule)?;
+    }
+    Ok(groups)
 }

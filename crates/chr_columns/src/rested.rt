@@ -81,7 +81,7 @@ impl Rested {
     }
 
     /// An atom that has no instance with those at rest joins them; or nothing changes, where memory is refused, or
-    /// its table has 2^32 - 1 rows.
+    /// its table has `MAX_ROWS` rows.
     pub(crate) fn put(&mut self, atom: &Atom) -> Result<(), AllocError>
         requires rested { IsRested self.old }
         requires none { NoInstanceWith self.old.rules.items (stored self.old) atom.now }
@@ -91,9 +91,6 @@ impl Rested {
         ensures err { OnErr result (stored self.new ≡ stored self.old) }
     {
         let table = table_of(&self.groups, atom.symbol, atom.args.len());
-        if self.tables.tables[table].len() >= u32::MAX as usize {
-            return Err(AllocError);
-        }
         self.tables.tables[table].insert(atom)?;
         Ok(())
     }

@@ -2,6 +2,7 @@
 #![tactic(auto)]
 
 mod choose;
+mod columns;
 mod edits;
 pub mod list;
 pub mod plain;

@@ -1,8 +1,11 @@
 -- Groups of atoms by symbol and number of arguments.
-use Rattle.std.specs.Prelude.{ℕ, suc, List, [], ◌∷◌, length, Bool, ◌&&◌, nat_eq, if◌then◌else◌}
+use Rattle.std.specs.Prelude.{◌≡◌, ℕ, suc, ◌<◌, List, [], ◌∷◌, map, length, Bool, ◌&&◌, nat_eq, if◌then◌else◌, Some, slice_get}
 use Rattle.chr_base.specs.declared.atom.SymbolId.{SymbolId}
 use Rattle.chr_base.specs.declared.atom.Atom.{Atom}
 use Rattle.chr_base.specs.declared.term.Pattern.{Pattern}
+use Rattle.chr_base.specs.declared.rule.Rule.{Rule}
+use Rattle.chr_base.specs.Rules.{heads_of}
+use Rattle.chr_plans.specs.Plans.{pattern_at}
 use Rattle.chr_columns.specs.declared.groups.Group.{Group}
 
 -- the group has the atoms with this symbol and number of arguments
@@ -20,3 +23,25 @@ table_of_atom groups a = table_of groups a.symbol (length a.args.items)
 
 abbrev pub table_of_pattern : List Group → Pattern → ℕ
 table_of_pattern groups p = table_of groups p.symbol (length p.args.items)
+
+-- the symbol and the number of arguments of each group
+abbrev pub shapes_of : List Group → List (SymbolId × ℕ)
+shapes_of groups = map (λ g. (g.symbol, g.arity)) groups
+
+-- there is a group for a pattern's atoms, for those of the first n heads of a rule, and for those of all heads of rules
+abbrev pub IsGrouped : List Group → Pattern → Type 0
+IsGrouped groups p = table_of_pattern groups p < length groups
+
+abbrev pub AreGrouped : List Group → Rule → ℕ → Type 0
+AreGrouped groups r n = (p : ℕ) → p < n → IsGrouped groups (pattern_at r p)
+
+abbrev pub AllGrouped : List Group → List Rule → Type 0
+AllGrouped groups rules = (i : ℕ) (r : Rule) → slice_get rules i ≡ Some r → AreGrouped groups r (length (heads_of r))
+
+-- what had a group has one
+abbrev pub StayGrouped : List Group → List Group → Type 0
+StayGrouped before after = (p : Pattern) → IsGrouped before p → IsGrouped after p
+
+-- no group has a plan
+abbrev pub HaveNoPlans : List Group → Type 0
+HaveNoPlans groups = (t : ℕ) (g : Group) → slice_get groups t ≡ Some g → g.plans.items ≡ []

@@ -1,5 +1,5 @@
 -- Atoms at rest in tables, and the plans by which they are found.
-use Rattle.std.specs.Prelude.{◌≡◌, ℕ, ◌<◌, ◌≤◌, List, length, map, get_or, Some, slice_get, IsTrue, is_some}
+use Rattle.std.specs.Prelude.{◌≡◌, ℕ, ◌+◌, ◌^◌, ◌<◌, List, length, map, get_or, Some, slice_get}
 use Rattle.chr_base.specs.declared.atom.Atom.{Atom}
 use Rattle.chr_base.specs.declared.rule.Rule.{Rule}
 use Rattle.chr_base.specs.Rules.{Step, heads_of}
@@ -40,24 +40,38 @@ IsPlanned rules groups columns p =
     (r : Rule) × (slice_get rules p.rule ≡ Some r) × (p.place < length (heads_of r))
     × IsPlan r p.place (partners_of p.lookups.items) × AreIndexed r groups columns p.lookups.items
 
--- a plan of this rule and place is in the group of its head
+-- each plan of a group is one of its rule and place
+abbrev pub ArePlanned : List Rule → List Group → Columns → Type 0
+ArePlanned rules groups columns =
+    (t : ℕ) (g : Group) (j : ℕ) (p : Plan) → slice_get groups t ≡ Some g → slice_get g.plans.items j ≡ Some p
+    → IsPlanned rules groups columns p
+
+-- a plan of this rule and place is in this group
 abbrev pub HasPlan : List Group → ℕ → ℕ → ℕ → Type 0
 HasPlan groups t i p =
     (g : Group) × (j : ℕ) × (plan : Plan) × (slice_get groups t ≡ Some g)
     × (slice_get g.plans.items j ≡ Some plan) × (plan.rule ≡ i) × (plan.place ≡ p)
 
--- each table has an index by no columns, each atom is in its table, and each head place has a plan
-pub record IsSetUp (rules : List Rule) (groups : List Group) (rows : Tables) (columns : Columns) : Type 0 where
-  pub tables : (t : ℕ) → t ≤ length groups → IsTrue (is_some (columns t 0))
+-- the first n head places of a rule have plans in the groups of their heads, and all places of the first n rules
+abbrev pub HavePlans : List Group → ℕ → Rule → ℕ → Type 0
+HavePlans groups i r n = (p : ℕ) → p < n → HasPlan groups (table_of_pattern groups (pattern_at r p)) i p
+
+abbrev pub AreCovered : List Rule → List Group → ℕ → Type 0
+AreCovered rules groups n =
+    (i : ℕ) (r : Rule) → i < n → slice_get rules i ≡ Some r → HavePlans groups i r (length (heads_of r))
+
+-- there is a table for each group and one more, each atom is in its table, and each head place has a plan
+pub record IsSetUp (rules : List Rule) (groups : List Group) (rows : Tables) (columns : Columns) (count : ℕ) : Type 0 where
+  pub tables : count ≡ length groups + 1
+  pub few : length groups < 2 ^ 31
   pub placed : (t n : ℕ) (a : Atom) → rows t n ≡ Some a → t ≡ table_of_atom groups a
-  pub plans : (t : ℕ) (g : Group) (j : ℕ) (p : Plan) → slice_get groups t ≡ Some g → slice_get g.plans.items j ≡ Some p
-      → IsPlanned rules groups columns p
-  pub covered : (i : ℕ) (r : Rule) (p : ℕ) → slice_get rules i ≡ Some r → p < length (heads_of r)
-      → HasPlan groups (table_of_pattern groups (pattern_at r p)) i p
+  pub plans : ArePlanned rules groups columns
+  pub covered : AreCovered rules groups (length rules)
 
 -- the atoms are at rest under the rules
 pub record IsRested (r : Rested) : Type 0 where
   pub set_up : IsSetUp r.rules.items r.groups.items (rows_of r.tables.tables.items) (columns_of r.tables.tables.items)
+      (length r.tables.tables.items)
   pub rests : IsAtRest (Step r.rules.items) (stored r)
 
 -- an instance with the active atom at that place of that rule, and the others in different rows

@@ -1,6 +1,5 @@
 use Rattle.std.proofs.Common.{◌≡◌, length, sym, ap, subst, ◌∙◌, arith}
 use Rattle.std.specs.Prelude.{List}
-use Rattle.std.proofs.lemmas.List.{get_or_default}
 use Rattle.chr_base.specs.Rules.{Step}
 use Rattle.chr_base.specs.Rewriting.{IsAtRest}
 use Rattle.chr_tables.specs.Contents.{Contents, rows_of, columns_of}
@@ -11,25 +10,11 @@ use Rattle.chr_columns.specs.working.Resting.{grid, IsSetUp}
 use Rattle.chr_columns.proofs.Putting.{has_table, stored_put, set_up_put, set_same, on_err}
 use Rattle.chr_columns.proofs.rested.Rested.put.Goals as goal
 
-pub index-requires : goal.index-requires
-index-requires c =
-    let t : c.table_of-table.result ≡ table_of_atom c.args.self.now.groups.items c.args.atom.now = c.table_of-table.ensures ∙ (λ i. table_of (c.deref.ensures.value i) c.args.atom.now.symbol (c.len.ensures.value i)) in
-    let w = has_table _ _ _ c.args.atom.now c.requires.rested.set_up in
-    omega (arith, t, w, c.args.self.now.tables.tables.ok.0)
-
 pub index_mut-requires : goal.index_mut-requires
 index_mut-requires c =
     let t : c.table_of-table.result ≡ table_of_atom c.args.self.now.groups.items c.args.atom.now = c.table_of-table.ensures ∙ (λ i. table_of (c.deref.ensures.value i) c.args.atom.now.symbol (c.len.ensures.value i)) in
     let w = has_table _ _ _ c.args.atom.now c.requires.rested.set_up in
     omega (arith, t, w, c.args.self.now.tables.tables.ok.0)
-
-pub insert-requires : goal.insert-requires
-insert-requires c =
-    let t : c.table_of-table.result ≡ table_of_atom c.args.self.now.groups.items c.args.atom.now = c.table_of-table.ensures ∙ (λ i. table_of (c.deref.ensures.value i) c.args.atom.now.symbol (c.len.ensures.value i)) in
-    let w = has_table _ _ _ c.args.atom.now c.requires.rested.set_up in
-    let ts = c.args.self.now.tables.tables.items in
-    let same = ap (λ (x : Contents). length x.rows) (c.index.ensures ∙ get_or_default ts c.table_of-table.result c.index.result.now c.index_mut.result.now (omega (arith, t, w)) ∙ sym c.index_mut.ensures.value) in
-    omega (arith, same, c.len-2.ensures, c.if-len.false)
 
 pub returns-in_err-insert-clause-rested : goal.returns-in_err-insert-clause-rested
 returns-in_err-insert-clause-rested c =
@@ -37,7 +22,7 @@ returns-in_err-insert-clause-rested c =
     let w = has_table _ _ _ c.args.atom.now c.requires.rested.set_up in
     let same = set_same c.args.self.now.tables.tables.items c.table_of-table.result c.index_mut.result.now c.insert.new.self (omega (arith, t, w)) c.index_mut.ensures.value c.in_err-insert.ensures.err c.insert.ensures.keys in
     record {
-      set_up = subst (λ (ts : List Contents). IsSetUp c.args.self.now.rules.items c.args.self.now.groups.items (rows_of ts) (columns_of ts)) (sym same) c.requires.rested.set_up;
+      set_up = subst (λ (ts : List Contents). IsSetUp c.args.self.now.rules.items c.args.self.now.groups.items (rows_of ts) (columns_of ts) (length ts)) (sym same) c.requires.rested.set_up;
       rests = subst (λ (ts : List Contents). IsAtRest (Step c.args.self.now.rules.items) (contents (grid ts))) (sym same) c.requires.rested.rests;
     }
 

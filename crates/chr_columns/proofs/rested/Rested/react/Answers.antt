@@ -23,7 +23,7 @@ react-requires c =
     let within : c.table_of-table.result < length c.deref-2.result.now = grind (arith, nat_tests) in
     let t : c.table_of-table.result ≡ table_of_atom c.args.self.now.groups.items c.args.active.now = c.table_of-table.ensures ∙ (λ i. table_of (c.deref.ensures.value i) c.args.active.now.symbol (c.len.ensures.value i)) in
     let at = group_at c.args.self.now.groups.items c.deref-2.result.now c.args.active.now c.table_of-table.result c.in-Some.group.now c.deref-2.ensures.value t within c.in-Some.ensures.lookup.1 in
-    rw (c.deref-3.ensures.value, c.deref-4.ensures.value) (all_fit c.args.self.now.rules.items c.args.self.now.groups.items _ _ c.requires.set_up (table_of_atom c.args.self.now.groups.items c.args.active.now) c.in-Some.group.now at)
+    rw (c.deref-3.ensures.value, c.deref-4.ensures.value) (all_fit c.args.self.now.rules.items c.args.self.now.groups.items _ _ _ c.requires.set_up (table_of_atom c.args.self.now.groups.items c.args.active.now) c.in-Some.group.now at)
 
 pub returns-clause-stored : goal.returns-clause-stored
 returns-clause-stored c = same_stored _ _ c.react.ensures.rows
@@ -33,13 +33,13 @@ returns-in_default-react-clause-stored c = same_stored _ _ c.react.ensures.rows
 
 pub returns-clause-rested : goal.returns-clause-rested
 returns-clause-rested c = record {
-  set_up = same_set_up _ _ _ _ c.react.ensures.rows c.react.ensures.columns c.requires.set_up;
+  set_up = same_set_up _ _ _ _ c.react.ensures.rows c.react.ensures.columns c.react.ensures.tables c.requires.set_up;
   rests = rw (same_stored _ _ c.react.ensures.rows) c.requires.rests;
 }
 
 pub returns-in_default-react-clause-rested : goal.returns-in_default-react-clause-rested
 returns-in_default-react-clause-rested c = record {
-  set_up = same_set_up _ _ _ _ c.react.ensures.rows c.react.ensures.columns c.requires.set_up;
+  set_up = same_set_up _ _ _ _ c.react.ensures.rows c.react.ensures.columns c.react.ensures.tables c.requires.set_up;
   rests = rw (same_stored _ _ c.react.ensures.rows) c.requires.rests;
 }
 
@@ -72,7 +72,7 @@ returns-clause-found c =
     let plan = slice_get_read c.in-Some.group.now.plans.items (length c.in-Some.group.now.plans.items) c.in-Some-react.found c.index-plan.result.now refl (omega (arith, l, e)) c.index-plan.ensures in
     let found : Reacts c.args.self.now.rules.items (rows_of c.args.self.now.tables.tables.items) c.args.active.now (slice_get c.in-Some.group.now.plans.items c.in-Some-react.found) c.react.new.heads.items c.react.new.seats.items =
     rw (c.deref-3.ensures.value, c.deref-4.ensures.value) at c.in-Some-react.ensures.found in
-    let w = reacting c.args.self.now.rules.items c.args.self.now.groups.items _ _ c.requires.set_up c.args.active.now (table_of_atom c.args.self.now.groups.items c.args.active.now) c.in-Some-react.found c.in-Some.group.now c.index-plan.result.now c.react.new.heads.items c.react.new.seats.items at plan found in
+    let w = reacting c.args.self.now.rules.items c.args.self.now.groups.items _ _ _ c.requires.set_up c.args.active.now (table_of_atom c.args.self.now.groups.items c.args.active.now) c.in-Some-react.found c.in-Some.group.now c.index-plan.result.now c.react.new.heads.items c.react.new.seats.items at plan found in
     record {
       rule = w.0;
       at = w.1;
