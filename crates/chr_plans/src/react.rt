@@ -24,6 +24,7 @@ pub fn react<R: Rows>(
         FitsPlan rules.now (R.rows rows.old) (R.columns rows.old) (slice_get plans.now j) }
     ensures rows { R.rows rows.new ≡ R.rows rows.old }
     ensures columns { R.columns rows.new ≡ R.columns rows.old }
+    ensures tables { R.tables rows.new ≡ R.tables rows.old }
     ensures found { IfSome result (λ j.
         Reacts rules.now (R.rows rows.old) active.now (slice_get plans.now j) heads.new.items seats.new.items) }
     ensures first { IfSome result (λ j. (k : ℕ) → k < j →

@@ -10,7 +10,7 @@ use chr_base::atom::Atom;
 #[derive(Clone, Copy, Debug, Default, PartialEq, Eq)]
 pub struct Seat {
     pub table: usize,
-    pub row: u32,
+    pub row: usize,
 }
 
 /// Whether the two are one row.
@@ -32,11 +32,15 @@ pub trait Rows {
     /// The columns of each index of each table.
     ghost columns: { Self → Columns };
 
+    /// How many tables there are.
+    ghost tables: { Self → ℕ };
+
     /// The newest row that a look-up of this key meets.
-    fn first(&mut self, table: usize, index: usize, key: &[i64]) -> Option<u32>
+    fn first(&mut self, table: usize, index: usize, key: &[i64]) -> Option<usize>
         requires { IsTrue (is_some (columns self.old table index)) }
         ensures rows { rows self.new ≡ rows self.old }
         ensures columns { columns self.new ≡ columns self.old }
+        ensures tables { tables self.new ≡ tables self.old }
         ensures met { IfSome result (λ row.
             MayHaveKey (columns self.old table index) key.now (rows self.old table row)) }
         ensures newest { IfSome result (λ row. (other : ℕ) →
@@ -45,10 +49,11 @@ pub trait Rows {
             ¬ (HasKey (columns self.old table index) key.now (rows self.old table other))) };
 
     /// The next one below a row that was met.
-    fn next(&mut self, table: usize, index: usize, key: &[i64], row: u32) -> Option<u32>
+    fn next(&mut self, table: usize, index: usize, key: &[i64], row: usize) -> Option<usize>
         requires { MayHaveKey (columns self.old table index) key.now (rows self.old table row) }
         ensures rows { rows self.new ≡ rows self.old }
         ensures columns { columns self.new ≡ columns self.old }
+        ensures tables { tables self.new ≡ tables self.old }
         ensures below { IfSome result (λ next. next < row) }
         ensures met { IfSome result (λ next.
             MayHaveKey (columns self.old table index) key.now (rows self.old table next)) }
@@ -58,7 +63,7 @@ pub trait Rows {
             ¬ (HasKey (columns self.old table index) key.now (rows self.old table other))) };
 
     /// The atom of a live row.
-    fn atom(&self, table: usize, row: u32) -> Atom
+    fn atom(&self, table: usize, row: usize) -> Atom
         requires { IsTrue (is_some (rows self.now table row)) }
         ensures { rows self.now table row ≡ Some result };
 }

@@ -49,6 +49,7 @@ fn complete<R: Rows>(
     requires started { AreStarted (R.rows rows.old) (looked_in lookups.now) done heads.old seats.old }
     ensures rows { R.rows rows.new ≡ R.rows rows.old }
     ensures columns { R.columns rows.new ≡ R.columns rows.old }
+    ensures tables { R.tables rows.new ≡ R.tables rows.old }
     ensures lengths { (length heads.new ≡ length heads.old) × (length seats.new ≡ length seats.old) }
     ensures same { AreSame (looked_in lookups.now) active done heads.new seats.new heads.old seats.old }
     ensures found { OnTrue result (IsSeated rule.now (R.rows rows.old) active heads.new seats.new) }
@@ -115,6 +116,7 @@ pub fn find_partners<R: Rows>(
     requires fits { FitsTables rule.now lookups.now (R.rows rows.old) (R.columns rows.old) }
     ensures rows { R.rows rows.new ≡ R.rows rows.old }
     ensures columns { R.columns rows.new ≡ R.columns rows.old }
+    ensures tables { R.tables rows.new ≡ R.tables rows.old }
     ensures found { OnTrue result (IsSeated rule.now (R.rows rows.old) place heads.new.items seats.new.items) }
     ensures active { OnTrue result (head heads.new.items place ≡ active.now) }
     ensures seats { length seats.new.items ≡ length (heads_of rule.now) }

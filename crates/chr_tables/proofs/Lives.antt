@@ -1,5 +1,5 @@
 -- Rows that live, and rows of indexes.
-use Rattle.std.proofs.Common.{◌≡◌, ℕ, zero, suc, ◌<◌, List, [], ◌∷◌, ◌++◌, map, length, get_or, set, cond, Bool, true, false, Option, refl, sym, ap, ◌∙◌, arith, inl, inr, length-append}
+use Rattle.std.proofs.Common.{◌≡◌, ℕ, zero, suc, ◌+◌, ◌<◌, ◌^◌, List, [], ◌∷◌, ◌++◌, map, length, get_or, set, cond, Bool, true, false, Option, refl, sym, ap, ◌∙◌, arith, inl, inr, length-append}
 use Rattle.std.specs.Prelude.{Some, None}
 use Rattle.std.proofs.lemmas.Bool.{cases_lt}
 use Rattle.std.proofs.Math.Seq.{get_or-append_seam}
@@ -25,6 +25,14 @@ live_of [] bs r a d e = cc
 live_of (x ∷ as') [] r a d e = cc
 live_of (x ∷ as') (b ∷ bs) zero a d e = (omega arith, some_cond b x a e)
 live_of (x ∷ as') (b ∷ bs) (suc r) a d e = let w = live_of as' bs r a d e in (let l = w.0 in omega (arith, l), w.1)
+
+-- a row is what its flag says
+pub live_at : (as' : List Atom) (bs : List Bool) (r : ℕ) (a : Atom) (b : Bool) → length bs ≡ length as' → r < length as'
+    → get_or (live as' bs) r None ≡ cond (get_or bs r b) (Some (get_or as' r a)) None
+live_at [] bs r a b e l = absurd (omega (arith, l))
+live_at (x ∷ as') [] r a b e l = absurd (omega (arith, e))
+live_at (x ∷ as') (y ∷ bs) zero a b e l = refl
+live_at (x ∷ as') (y ∷ bs) (suc r) a b e l = live_at as' bs r a b (omega (arith, e)) (omega (arith, l))
 
 pub live_push : (as' : List Atom) (bs : List Bool) (a : Atom) → length bs ≡ length as' → live (as' ++ a ∷ []) (bs ++ true ∷ []) ≡ live as' bs ++ Some a ∷ []
 live_push [] [] a e = refl
@@ -67,6 +75,15 @@ pub as_many : (rows : List (Option Atom)) (columns : List (List ℕ)) (hashes : 
     → length (get_or hashes j []) ≡ length rows
 as_many rows columns hashes h j l = ap length (h j l) ∙ length-map rows (hash_in (get_or columns j []))
 
+-- and no more than a number of 32 bits tells
+pub each_few : (atoms : List Atom) (alive : List Bool) (ks : List Keyed) → IsTable atoms alive ks → length atoms + 1 < 2 ^ 32 → (j : ℕ) → j < length ks
+    → length (get_or (hashes_of ks) j []) + 1 < 2 ^ 32
+each_few atoms alive ks t f j l =
+    let m = length_columns ks in
+    let n = as_many (live atoms alive) (columns_of ks) (hashes_of ks) t.indexed j (omega (arith, m, l)) in
+    let k = length_live atoms alive t.as_alive in
+    omega (arith, n, k, f)
+
 indexed_kill : (rows : List (Option Atom)) (columns : List (List ℕ)) (hashes hashes' : List (List (Option ℕ))) (r : ℕ) → AreIndexed rows columns hashes
     → ((j : ℕ) → get_or hashes' j [] ≡ set (get_or hashes j []) r None) → AreIndexed (set rows r None) columns hashes'
 indexed_kill rows columns hashes hashes' r h k j l = k j ∙ ap (λ xs. set xs r None) (h j l) ∙ sym (map-set (hash_in (get_or columns j [])) rows r None)
@@ -79,21 +96,23 @@ indexed_push rows columns hashes hashes' a h k j l =
 
 pub table_same : (atoms : List Atom) (alive : List Bool) (ks ks' : List Keyed) → IsTable atoms alive ks → columns_of ks' ≡ columns_of ks → hashes_of ks' ≡ hashes_of ks
     → IsTable atoms alive ks'
-table_same atoms alive ks ks' t c r = record { as_alive = t.as_alive; indexed = rw (c, r) t.indexed }
+table_same atoms alive ks ks' t c r = record { as_alive = t.as_alive; few = t.few; indexed = rw (c, r) t.indexed }
 
 pub table_kill : (atoms : List Atom) (alive : List Bool) (ks ks' : List Keyed) (r : ℕ) → IsTable atoms alive ks → columns_of ks' ≡ columns_of ks
     → ((j : ℕ) → get_or (hashes_of ks') j [] ≡ set (get_or (hashes_of ks) j []) r None) → length (set alive r false) ≡ length alive
     → IsTable atoms (set alive r false) ks'
 table_kill atoms alive ks ks' r t c k len = record {
   as_alive = len ∙ t.as_alive;
+  few = t.few;
   indexed = rw (c, live_kill atoms alive r t.as_alive) (indexed_kill (live atoms alive) (columns_of ks) (hashes_of ks) (hashes_of ks') r t.indexed k);
 }
 
-pub table_push : (atoms : List Atom) (alive : List Bool) (ks ks' : List Keyed) (a : Atom) → IsTable atoms alive ks → columns_of ks' ≡ columns_of ks
+pub table_push : (atoms : List Atom) (alive : List Bool) (ks ks' : List Keyed) (a : Atom) → IsTable atoms alive ks → length atoms + 1 < 2 ^ 32 → columns_of ks' ≡ columns_of ks
     → ((j : ℕ) → j < length ks → get_or (hashes_of ks') j [] ≡ get_or (hashes_of ks) j [] ++ Some (key_hash (key_of (get_or (columns_of ks) j []) a)) ∷ [])
     → IsTable (atoms ++ a ∷ []) (alive ++ true ∷ []) ks'
-table_push atoms alive ks ks' a t c r = record {
+table_push atoms alive ks ks' a t f c r = record {
   as_alive = (let x = length-append atoms (a ∷ []) in let y = length-append alive (true ∷ []) in let z = t.as_alive in omega (arith, x, y, z));
+  few = (let x = length-append atoms (a ∷ []) in omega (arith, x, f));
   indexed = rw (c, live_push atoms alive a t.as_alive)
       (indexed_push (live atoms alive) (columns_of ks) (hashes_of ks) (hashes_of ks') a t.indexed (λ j l. r j (let n = length_columns ks in omega (arith, n, l))));
 }
@@ -103,6 +122,7 @@ pub table_index : (atoms : List Atom) (alive : List Bool) (ks : List Keyed) (k :
     → IsTable atoms alive (ks ++ k ∷ [])
 table_index atoms alive ks k t none empty = record {
   as_alive = t.as_alive;
+  few = t.few;
   indexed = λ j l. (rw (none, map-append (λ (x : Keyed). x.index.rows) ks (k ∷ []))
       (elim (cases_lt j (length (hashes_of ks))) as (λ _. get_or (hashes_of ks ++ k.index.rows ∷ []) j [] ≡ []) [
         | inl less ↦ get_or_append_left (hashes_of ks) (k.index.rows ∷ []) [] j less

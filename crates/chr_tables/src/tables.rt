@@ -10,21 +10,24 @@ pub struct Tables {
 }
 
 impl Rows for Tables {
+    ghost use Rattle.std.specs.Prelude.{length};
     ghost use Rattle.chr_tables.specs.Contents.{rows_of, columns_of};
 
     ghost rows = { λ s. rows_of s.tables.items };
 
     ghost columns = { λ s. columns_of s.tables.items };
 
-    fn first(&mut self, table: usize, index: usize, key: &[i64]) -> Option<u32> {
+    ghost tables = { λ s. length s.tables.items };
+
+    fn first(&mut self, table: usize, index: usize, key: &[i64]) -> Option<usize> {
         self.tables[table].first(index, key)
     }
 
-    fn next(&mut self, table: usize, index: usize, key: &[i64], row: u32) -> Option<u32> {
+    fn next(&mut self, table: usize, index: usize, key: &[i64], row: usize) -> Option<usize> {
         self.tables[table].next(index, key, row)
     }
 
-    fn atom(&self, table: usize, row: u32) -> Atom {
+    fn atom(&self, table: usize, row: usize) -> Atom {
         self.tables[table].atom(row)
     }
 }

@@ -33,7 +33,6 @@ fn columns(numbers: &[usize]) -> ArrayVec<usize, MAX_ARITY> {
 
 /// The table of these atoms, in this order, with two indexes: by the first argument, and by the third and the second.
 fn table_of(alloc: Global, atoms: &[Atom]) -> Result<Table, AllocError>
-    requires { length atoms.now + 1 < 2 ^ 32 }
     ensures rows { IfOk result (λ t. length t.rows ≡ length atoms.now) }
     ensures keys { IfOk result (λ t. length t.keys ≡ 2) }
 {
@@ -99,6 +98,18 @@ fn dead_rows_are_passed_over(rt: HostRuntime) -> Result<(), Fail> {
     assert!(rt; table.first(1, &[3, 2]) == None);
     assert!(rt; table.first(0, &[1]) == Some(3));
     assert_eq!(rt; table.len(), 6);
+    Ok(())
+}
+
+#[test]
+fn rows_are_got_by_number(rt: HostRuntime) -> Result<(), Fail> {
+    let mut table = table_of(rt.alloc(), &rows())?;
+    table.kill(4);
+    assert!(rt; table.get(3) == Some(atom(1, &[1])));
+    assert!(rt; table.get(4) == None);
+    assert!(rt; table.get(5) == Some(atom(0, &[7, 0, 0])));
+    assert!(rt; table.get(6) == None);
+    assert!(rt; table.get(usize::MAX) == None);
     Ok(())
 }
 

@@ -1,5 +1,5 @@
 -- What a table keeps: flags of the rows that live, and indexes.
-use Rattle.std.specs.Prelude.{◌≡◌, ℕ, ◌<◌, List, [], ◌∷◌, length, map, get_or, cond, Bool, Option, Some, None, option_map}
+use Rattle.std.specs.Prelude.{◌≡◌, ℕ, ◌<◌, ◌^◌, List, [], ◌∷◌, length, map, get_or, cond, Bool, Option, Some, None, option_map}
 use Rattle.std.specs.Coded.{Coded, code_by, coded×, coded_ℕ, coded_list, coded_option}
 use Rattle.std.proofs.Common.{refl}
 use Rattle.chr_base.specs.declared.atom.Atom.{Atom}
@@ -37,6 +37,7 @@ AreIndexed rows columns hashes =
 -- what every table keeps
 pub record IsTable (atoms : List Atom) (alive : List Bool) (indexes : List Keyed) : Type 0 where
   pub as_alive : length alive ≡ length atoms
+  pub few : length atoms < 2 ^ 32
   pub indexed : AreIndexed (live atoms alive) (columns_of indexes) (hashes_of indexes)
 
 abbrev pub contents_code : Coded Contents

@@ -75,7 +75,6 @@ struct Setting {
 /// The table of these atoms with the indexes that the plan wants. Every third row is dead, from the second on.
 fn prepared(alloc: Global, rule: &Rule, place: usize, atoms: &[Atom]) -> Result<Setting, AllocError>
     requires place { place < length (heads_of rule.now) }
-    requires few { length atoms.now + 1 < 2 ^ 32 }
     ensures plan { IfOk result (λ p. IsPlan rule.now place (partners_of p.lookups.items)) }
     ensures fits { IfOk result (λ p. FitsTables rule.now p.lookups.items
         (rows_of p.tables.tables.items) (columns_of p.tables.tables.items)) }
@@ -97,7 +96,7 @@ fn prepared(alloc: Global, rule: &Rule, place: usize, atoms: &[Atom]) -> Result<
     }
     for row in 0..atoms.len() {
         if row % 3 == 1 {
-            table.kill(row as u32);
+            table.kill(row);
         }
     }
     let tables = Tables {
@@ -142,7 +141,6 @@ fn finds_partners(
 ) -> Result<bool, Fail>
     requires three { length (heads_of rule.now) ≡ 3 }
     requires place { place < 3 }
-    requires few { length rows.now + 1 < 2 ^ 32 }
 {
     let mut setting = prepared(alloc, rule, place, rows)?;
     let mut heads = ArrayVec::new();
@@ -158,8 +156,8 @@ fn finds_partners(
     );
     if found {
         assert!(rt; rule.fires(&heads));
-        let first = seats[(place + 1) % 3].row as usize;
-        let second = seats[(place + 2) % 3].row as usize;
+        let first = seats[(place + 1) % 3].row;
+        let second = seats[(place + 2) % 3].row;
         assert!(rt; first % 3 != 1 && second % 3 != 1 && first != second);
         assert!(rt; first < rows.len() && second < rows.len());
         let there = heads_round(place, active, &rows[first], &rows[second]);
@@ -177,7 +175,6 @@ fn reacts_at(
     active: &Atom,
 ) -> Result<bool, AllocError>
     requires place { place < length (heads_of rule.now) }
-    requires few { length rows.now + 1 < 2 ^ 32 }
 {
     let setting = prepared(alloc, rule, place, rows)?;
     let mut tables = setting.tables;

@@ -25,6 +25,7 @@ loop-next-init g t c =
     record {
       rows = c.first-next.ensures.rows;
       columns = c.first-next.ensures.columns;
+      tables = c.first-next.ensures.tables;
       heads = c.requires.heads;
       seats = c.requires.seats;
       same = λ k b. (refl, refl);
@@ -126,6 +127,10 @@ loop-next-preserved g t c =
     record {
       rows = c.next-next.ensures.rows ∙ rows_now;
       columns = c.next-next.ensures.columns ∙ columns_now;
+      tables = c.next-next.ensures.tables ∙ elim c.if-not-is_taken.branch [
+        | then-not-is_taken+else-complete w ↦ ap g.R.Rows.tables w.rows-is ∙ w.complete.ensures.tables ∙ c.loop-next.invariant.tables
+        | else-not-is_taken w ↦ ap g.R.Rows.tables w.rows-is ∙ c.loop-next.invariant.tables
+      ];
       heads = elim c.if-not-is_taken.branch [
         | then-not-is_taken+else-complete w ↦ ap length w.heads-is ∙ w.complete.ensures.lengths.0 ∙ length-set c.loop-next.heads _ _ ∙ h
         | else-not-is_taken w ↦ ap length w.heads-is ∙ h

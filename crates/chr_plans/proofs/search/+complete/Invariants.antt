@@ -14,6 +14,7 @@ abbrev pub invariant-loop-next : goal.invariant-loop-next
 invariant-loop-next g l = record {
   rows : g.R.Rows.rows l.rows ≡ g.R.Rows.rows l.fn.rows;
   columns : g.R.Rows.columns l.rows ≡ g.R.Rows.columns l.fn.rows;
+  tables : g.R.Rows.tables l.rows ≡ g.R.Rows.tables l.fn.rows;
   heads : length l.heads ≡ length (heads_of l.rule);
   seats : length l.seats ≡ length (heads_of l.rule);
   same : AreSame (looked_in l.lookups) l.active l.done l.heads l.seats l.fn.heads l.fn.seats;

@@ -25,3 +25,11 @@ invariant_of-self c =
 
 pub returns-clause-rows : goal.returns-clause-rows
 returns-clause-rows c = live_kill _ _ c.args.row c.self.invariant.as_alive ∙ ap (λ t. set t.rows c.args.row None) c.self.view_is
+
+pub overflow_cast-row : goal.overflow_cast-row
+overflow_cast-row c =
+    let n = length_live c.self.inside.atoms.items c.self.inside.alive.items c.self.invariant.as_alive in
+    let e = ap (λ t. length t.rows) c.self.view_is in
+    let f = c.self.invariant.few in
+    let r = c.requires in
+    omega (arith, n, e, f, r)
