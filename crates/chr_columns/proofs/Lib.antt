@@ -5,3 +5,5 @@ pub mod Reacting
 pub mod Putting
 pub mod Firings
 pub mod Makings
+pub mod Listed
+pub mod Everywhere

@@ -3,3 +3,5 @@ pub mod Groups
 pub mod Resting
 pub mod Firing
 pub mod Making
+pub mod Listing
+pub mod Finding

@@ -8,6 +8,7 @@
 pub mod columns;
 mod firing;
 mod groups;
+mod listing;
 mod making;
 mod rested;
 mod same;
