@@ -9,3 +9,5 @@ pub mod Pools
 pub mod Owning
 pub mod Slices
 pub mod Grouping
+pub mod Listed
+pub mod Everywhere

@@ -16,7 +16,12 @@ use Rattle.chr_base.specs.Stores.{Store, store_of}
 use Rattle.chr_base.proofs.Stores.{plus_comm, plus_assoc, plus_empty, store_of-append}
 use Rattle.chr_base.proofs.SameSteps.{same_step}
 use Rattle.chr_base.proofs.Steps.{removed_heads, removed_within}
+use Rattle.chr_tables.specs.Contents.{Contents}
+use Rattle.chr_actives.specs.Grids.{contents}
 use Rattle.chr_actives.proofs.Actives.{same_rest}
+use Rattle.chr_columns.specs.working.Resting.{grid}
+use Rattle.chr_columns.specs.working.Listing.{live_in}
+use Rattle.chr_columns.proofs.Listed.{store_live}
 
 -- no atoms are the empty store
 pub no_store : store_of [] ≡ empty
@@ -29,9 +34,10 @@ pub inserted : (s : Store) (xs ys zs : List Atom) → zs ≡ xs ++ ys → s ⊕ 
 inserted s xs ys zs e = ap (λ l. s ⊕ store_of l) e ∙ ap (λ t. s ⊕ t) (store_of-append xs ys) ∙ sym (plus_assoc s (store_of xs) (store_of ys))
 
 -- all atoms at rest became fresh
-pub all_fresh : (s t : Store) (xs ys zs : List Atom) → t ≡ empty → ys ≡ xs → store_of zs ≡ store_of ys ⊕ s → t ⊕ store_of zs ≡ s ⊕ store_of xs
-all_fresh s t xs ys zs none same e =
-    (λ i. none i ⊕ e i) ∙ plus_comm empty (store_of ys ⊕ s) ∙ plus_empty (store_of ys ⊕ s) ∙ plus_comm (store_of ys) s ∙ ap (λ l. s ⊕ store_of l) same
+pub all_fresh : (s : Store) (ts : List Contents) (xs ys : List Atom) → s ≡ empty → ys ≡ xs ++ live_in ts → s ⊕ store_of ys ≡ contents (grid ts) ⊕ store_of xs
+all_fresh s ts xs ys none e =
+    let came : store_of ys ≡ store_of xs ⊕ contents (grid ts) = ap store_of e ∙ store_of-append xs (live_in ts) ∙ ap (λ t. store_of xs ⊕ t) (store_live ts) in
+    (λ i. none i ⊕ came i) ∙ plus_comm empty (store_of xs ⊕ contents (grid ts)) ∙ plus_empty (store_of xs ⊕ contents (grid ts)) ∙ plus_comm (store_of xs) (contents (grid ts))
 
 -- a step of rules that say the same
 pub carried_step : {E : Type 0} (rs qs : List Rule) (o : Result Bool E) (s s' t : Store) → map parts_of rs ≡ map parts_of qs → s ≡ s'

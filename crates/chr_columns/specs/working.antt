@@ -4,3 +4,5 @@ pub mod Resting
 pub mod Firing
 pub mod Making
 pub mod Own
+pub mod Listing
+pub mod Finding

@@ -7,7 +7,7 @@ ghost use Rattle.chr_base.specs.Rewriting.{IsAtRest};
 ghost use Rattle.chr_base.specs.Rules.{HasInstance, HasNoStep, Step, StepOn};
 ghost use Rattle.chr_base.specs.Stores.{store_of};
 
-use crate::listing::all_atoms;
+use crate::listing::bag_of;
 use crate::making::rested_for;
 use crate::own::{find_in, rests_in};
 use crate::removing::{has_all, remove_all};
@@ -87,7 +87,7 @@ impl Columns {
     pub fn bag(&self, alloc: Global) -> Result<Bag, AllocError>
         ensures { IfOk result (λ b. b ≡ self.now) }
     {
-        Bag::of(all_atoms(alloc, &self.rested, &self.fresh)?)
+        bag_of(alloc, &self.rested.tables.tables, &self.fresh)
     }
 
     /// The heads, in place order, of an instance of the rule that is there. None only where there is none. It takes no

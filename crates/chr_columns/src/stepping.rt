@@ -8,7 +8,7 @@ ghost use Rattle.chr_base.specs.Sameness.{parts_of};
 ghost use Rattle.chr_base.specs.Stores.{store_of};
 ghost use Rattle.chr_columns.specs.working.Resting.{stored, IsRested};
 
-use crate::listing::{count_live, push_live};
+use crate::listing::push_live;
 use crate::making::rested_for;
 use crate::rested::Rested;
 use crate::same::are_same;
@@ -28,8 +28,7 @@ fn adopt(rested: &mut Rested, fresh: &mut Vec<Atom>, rules: &[Rule]) -> Result<(
         return Ok(());
     }
     let empty = rested_for(*fresh.allocator(), rules)?;
-    fresh.reserve(count_live(&rested.tables.tables))?;
-    push_live(&rested.tables.tables, fresh);
+    push_live(fresh, &rested.tables.tables)?;
     *rested = empty;
     Ok(())
 }
