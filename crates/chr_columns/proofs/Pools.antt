@@ -19,6 +19,8 @@ use Rattle.chr_base.proofs.Steps.{removed_heads, removed_within}
 use Rattle.chr_tables.specs.Contents.{Contents}
 use Rattle.chr_actives.specs.Grids.{contents}
 use Rattle.chr_actives.proofs.Actives.{same_rest}
+use Rattle.chr_columns.specs.declared.settle.Outcome.{Outcome}
+use Rattle.chr_columns.specs.declared.settle.Outcome.TheVariants.{Fired, AtRest, OtherRules}
 use Rattle.chr_columns.specs.working.Resting.{grid}
 use Rattle.chr_columns.specs.working.Listing.{live_in}
 use Rattle.chr_columns.proofs.Listed.{store_live}
@@ -39,22 +41,12 @@ all_fresh s ts xs ys none e =
     let came : store_of ys ≡ store_of xs ⊕ contents (grid ts) = ap store_of e ∙ store_of-append xs (live_in ts) ∙ ap (λ t. store_of xs ⊕ t) (store_live ts) in
     (λ i. none i ⊕ came i) ∙ plus_comm empty (store_of xs ⊕ contents (grid ts)) ∙ plus_empty (store_of xs ⊕ contents (grid ts)) ∙ plus_comm (store_of xs) (contents (grid ts))
 
--- a step of rules that say the same
-pub carried_step : {E : Type 0} (rs qs : List Rule) (o : Result Bool E) (s s' t : Store) → map parts_of rs ≡ map parts_of qs → s ≡ s'
-    → IfOk o (λ b. OnTrue b (Step rs s t)) → IfOk o (λ b. OnTrue b (Step qs s' t))
-carried_step rs qs (Ok true) s s' t e f h = subst (λ x. Step qs x t) f (same_step rs qs s t e h)
-carried_step rs qs (Ok false) s s' t e f h = h
-carried_step rs qs (Err x) s s' t e f h = h
-
 -- nothing is fresh, and what is at rest is so under rules that say the same
-pub carried_rest : {E : Type 0} (rs qs : List Rule) (o : Result Bool E) (rested now between before : Store) (xs : List Atom) → map parts_of rs ≡ map parts_of qs
-    → IsAtRest (Step rs) rested → now ≡ rested ⊕ store_of xs → IfOk o (λ b. OnFalse b (now ≡ between)) → between ≡ before → IfOk o (λ b. OnFalse b (xs ≡ []))
-    → IfOk o (λ b. OnFalse b (IsAtRest (Step qs) before))
-carried_rest rs qs (Ok true) rested now between before xs e rest is same back none = same
-carried_rest rs qs (Ok false) rested now between before xs e rest is same back none =
-    let all : rested ≡ before = sym (plus_empty rested) ∙ ap (λ t. rested ⊕ t) (sym no_store) ∙ ap (λ l. rested ⊕ store_of l) (sym none) ∙ sym is ∙ same ∙ back in
-    subst (λ s. IsAtRest (Step qs) s) all (same_rest rs qs rested e rest)
-carried_rest rs qs (Err x) rested now between before xs e rest is same back none = same
+pub all_rest : (own rules : List Rule) (rested before : Store) (xs : List Atom) → map parts_of own ≡ map parts_of rules → IsAtRest (Step own) rested → xs ≡ []
+    → rested ⊕ store_of xs ≡ before → IsAtRest (Step rules) before
+all_rest own rules rested before xs e rest none same =
+    let all : rested ≡ before = sym (plus_empty rested) ∙ ap (λ t. rested ⊕ t) (sym no_store) ∙ ap (λ l. rested ⊕ store_of l) (sym none) ∙ same in
+    subst (λ s. IsAtRest (Step rules) s) all (same_rest own rules rested e rest)
 
 -- where memory was refused the store is as before
 pub err_same : {A E : Type 0} (o : Result A E) (s t : Store) → is_err o ≡ true → OnErr o (s ≡ t) → s ≡ t
@@ -76,3 +68,10 @@ fired_in r heads gone body s t u b h w is there taken made came =
     let v = h.0 in
     let left : t ≡ s ⊖ store_of (atoms_at v r.removed.items) = OnTrue_at (there.1 (rw is (removed_within r heads s h w))) taken ∙ ap (λ as'. s ⊖ store_of as') (is ∙ removed_heads r heads v h.1) in
     (v, h.1, record { guard = h.2; there = rw h.1 w; after = came ∙ (λ i. left i ⊕ store_of (made v h.1 i)) })
+
+-- what joined those at rest, and what waits for other rules, has not fired
+pub joined_unfired : {E : Type 0} (o : Result Outcome E) → o ≡ Ok AtRest → o ≡ Ok Fired → ⊥
+joined_unfired o e f = absurd (let g : Ok AtRest ≡ Ok Fired = sym e ∙ f in cc)
+
+pub other_unfired : {E : Type 0} (o : Result Outcome E) → o ≡ Ok OtherRules → o ≡ Ok Fired → ⊥
+other_unfired o e f = absurd (let g : Ok OtherRules ≡ Ok Fired = sym e ∙ f in cc)

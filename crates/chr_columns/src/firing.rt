@@ -1,5 +1,6 @@
 //! What an instance changes.
-ghost use Rattle.std.specs.Prelude.{◌≡◌, ℕ, ◌+◌, ◌<◌, ◌≤◌, ◌++◌, List, length, remove, vec_len, vec_capacity};
+ghost use Rattle.std.specs.Prelude.{◌≡◌, ℕ, ◌+◌, ◌<◌, ◌≤◌, List, [], ◌∷◌, Some, length, remove, slice_get, vec_len, vec_capacity};
+ghost use Rattle.chr_base.specs.declared.rule.Rule.{Rule as RuleValue};
 ghost use Rattle.chr_base.specs.declared.limits.TheConstants.{MAX_BODY, MAX_HEADS};
 ghost use Rattle.chr_base.specs.declared.atom.Atom.{Atom as AtomValue};
 ghost use Rattle.chr_base.specs.FinBag.{◌⊕◌};
@@ -81,7 +82,7 @@ impl Rested {
         requires room { vec_len fresh.old + (MAX_BODY + 1) ≤ vec_capacity fresh.old }
         ensures rested { IsRested self.new }
         ensures rules { self.new.rules ≡ self.old.rules }
-        ensures step { Step self.old.rules.items
+        ensures step { (r : RuleValue) → slice_get self.old.rules.items o.rule ≡ Some r → Step (r ∷ [])
             ((stored self.old ⊕ store_of fresh.old.items) ⊕ one (head heads.now o.place))
             (stored self.new ⊕ store_of fresh.new.items) }
     {

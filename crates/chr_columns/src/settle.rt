@@ -1,70 +1,97 @@
 //! Fresh atoms, one after another.
-ghost use Rattle.std.specs.Prelude.{◌≡◌, ◌+◌, ◌≤◌, [], IfOk, OnErr, vec_len, vec_capacity};
-ghost use Rattle.std.specs.Bool.{OnTrue, OnFalse};
+ghost use Rattle.std.specs.Prelude.{◌≡◌, ◌+◌, ◌≤◌, [], map, Ok, OnErr, vec_len, vec_capacity};
 ghost use Rattle.chr_base.specs.declared.limits.TheConstants.{MAX_BODY};
 ghost use Rattle.chr_base.specs.FinBag.{◌⊕◌};
 ghost use Rattle.chr_base.specs.Stores.{store_of};
 ghost use Rattle.chr_base.specs.Rules.{Step};
+ghost use Rattle.chr_base.specs.Sameness.{parts_of};
 ghost use Rattle.chr_actives.specs.Actives.{one};
+ghost use Rattle.chr_columns.specs.declared.settle.Outcome.TheVariants.{Fired, AtRest, OtherRules};
 ghost use Rattle.chr_columns.specs.working.Resting.{stored, IsRested};
 
 use crate::rested::Rested;
+use crate::same::stands_at;
 use arrayvec::ArrayVec;
 use chr_base::atom::Atom;
 use chr_base::limits::MAX_BODY;
+use chr_base::rule::Rule;
 use std::alloc::AllocError;
 
+/// What fresh atoms came to.
+#[derive(Clone, Copy, Debug, PartialEq, Eq)]
+pub(crate) enum Outcome {
+    /// One of them fired a rule.
+    Fired,
+    /// They joined those at rest.
+    AtRest,
+    /// One of them would fire a rule that the given rules don't have at its number.
+    OtherRules,
+}
+
 impl Rested {
-    /// The active atom fires a rule, and then the answer is true; or it joins those at rest.
-    fn take(&mut self, active: &Atom, fresh: &mut Vec<Atom>) -> Result<bool, AllocError>
+    /// The active atom fires one of the rules, or joins those at rest.
+    fn take(
+        &mut self,
+        rules: &[Rule],
+        active: &Atom,
+        fresh: &mut Vec<Atom>,
+    ) -> Result<Outcome, AllocError>
         requires rested { IsRested self.old }
         requires room { vec_len fresh.old + (MAX_BODY + 1) ≤ vec_capacity fresh.old }
         ensures rested { IsRested self.new }
         ensures rules { self.new.rules ≡ self.old.rules }
-        ensures stepped { IfOk result (λ stepped. OnTrue stepped (Step self.old.rules.items
+        ensures fired { result ≡ Ok Fired → Step rules.now
             ((stored self.old ⊕ store_of fresh.old.items) ⊕ one active.now)
-            (stored self.new ⊕ store_of fresh.new.items))) }
-        ensures joined { IfOk result (λ stepped. OnFalse stepped
-            (stored self.new ≡ stored self.old ⊕ one active.now)) }
-        ensures same { IfOk result (λ stepped. OnFalse stepped (fresh.new ≡ fresh.old)) }
+            (stored self.new ⊕ store_of fresh.new.items) }
+        ensures joined { result ≡ Ok AtRest → stored self.new ≡ stored self.old ⊕ one active.now }
+        ensures joined_same { result ≡ Ok AtRest → fresh.new ≡ fresh.old }
+        ensures other { result ≡ Ok OtherRules → ¬ (map parts_of self.old.rules.items ≡ map parts_of rules.now) }
+        ensures other_stored { result ≡ Ok OtherRules → stored self.new ≡ stored self.old }
+        ensures other_same { result ≡ Ok OtherRules → fresh.new ≡ fresh.old }
         ensures err { OnErr result (stored self.new ≡ stored self.old) }
         ensures err_same { OnErr result (fresh.new ≡ fresh.old) }
     {
         let mut heads = ArrayVec::new();
         let mut seats = ArrayVec::new();
-        if let Some(occurrence) = self.react(active, &mut heads, &mut seats) {
-            self.fire(occurrence, &heads, &seats, fresh);
-            return Ok(true);
+        let Some(occurrence) = self.react(active, &mut heads, &mut seats) else {
+            self.put(active)?;
+            return Ok(Outcome::AtRest);
+        };
+        if !stands_at(rules, occurrence.rule, &self.rules[occurrence.rule]) {
+            return Ok(Outcome::OtherRules);
         }
-        self.put(active)?;
-        Ok(false)
+        self.fire(occurrence, &heads, &seats, fresh);
+        Ok(Outcome::Fired)
     }
 
-    /// One step with a fresh atom; false where all of them joined those at rest. Where memory is refused there is
-    /// no step.
-    pub(crate) fn settle(&mut self, fresh: &mut Vec<Atom>) -> Result<bool, AllocError>
+    /// One step of one of the rules with a fresh atom, or all of them join those at rest. Where memory is refused there
+    /// is no step.
+    pub(crate) fn settle(
+        &mut self,
+        rules: &[Rule],
+        fresh: &mut Vec<Atom>,
+    ) -> Result<Outcome, AllocError>
         requires { IsRested self.old }
         ensures rested { IsRested self.new }
         ensures rules { self.new.rules ≡ self.old.rules }
-        ensures stepped { IfOk result (λ stepped. OnTrue stepped (Step self.old.rules.items
-            (stored self.old ⊕ store_of fresh.old.items) (stored self.new ⊕ store_of fresh.new.items))) }
-        ensures same { IfOk result (λ stepped. OnFalse stepped
-            (stored self.new ⊕ store_of fresh.new.items ≡ stored self.old ⊕ store_of fresh.old.items)) }
-        ensures none { IfOk result (λ stepped. OnFalse stepped (fresh.new.items ≡ [])) }
-        ensures err { OnErr result
-            (stored self.new ⊕ store_of fresh.new.items ≡ stored self.old ⊕ store_of fresh.old.items) }
+        ensures fired { result ≡ Ok Fired → Step rules.now
+            (stored self.old ⊕ store_of fresh.old.items) (stored self.new ⊕ store_of fresh.new.items) }
+        ensures joined { result ≡ Ok AtRest → fresh.new.items ≡ [] }
+        ensures other { result ≡ Ok OtherRules → ¬ (map parts_of self.old.rules.items ≡ map parts_of rules.now) }
+        ensures same { ¬ (result ≡ Ok Fired) →
+            stored self.new ⊕ store_of fresh.new.items ≡ stored self.old ⊕ store_of fresh.old.items }
     {
         loop {
             fresh.reserve(MAX_BODY + 1)?;
             let Some(active) = fresh.pop() else {
-                return Ok(false);
+                return Ok(Outcome::AtRest);
             };
-            match self.take(&active, fresh) {
-                Ok(true) => return Ok(true),
-                Ok(false) => {}
-                Err(error) => {
+            match self.take(rules, &active, fresh) {
+                Ok(Outcome::AtRest) => {}
+                Ok(Outcome::Fired) => return Ok(Outcome::Fired),
+                unsettled => {
                     fresh.push_reserved(active);
-                    return Err(error);
+                    return unsettled;
                 }
             }
         }

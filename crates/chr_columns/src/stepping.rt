@@ -12,28 +12,65 @@ use crate::listing::push_live;
 use crate::making::rested_for;
 use crate::rested::Rested;
 use crate::same::are_same;
+use crate::settle::Outcome;
 use chr_base::atom::Atom;
 use chr_base::rule::Rule;
 use std::alloc::AllocError;
 
-/// Where the rules are others than those of the rows, all atoms become fresh, and nothing is at rest, under copies of
-/// these rules. Where memory is refused nothing changes.
-fn adopt(rested: &mut Rested, fresh: &mut Vec<Atom>, rules: &[Rule]) -> Result<(), AllocError>
+/// All atoms become fresh, and nothing is at rest, under copies of these rules. Where memory is refused nothing
+/// changes.
+fn start_over(rested: &mut Rested, fresh: &mut Vec<Atom>, rules: &[Rule]) -> Result<(), AllocError>
     requires { IsRested rested.old }
     ensures rested { IsRested rested.new }
     ensures same { stored rested.new ⊕ store_of fresh.new.items ≡ stored rested.old ⊕ store_of fresh.old.items }
     ensures rules { OnOk result (map parts_of rested.new.rules.items ≡ map parts_of rules.now) }
 {
-    if are_same(&rested.rules, rules) {
-        return Ok(());
-    }
     let empty = rested_for(*fresh.allocator(), rules)?;
     push_live(fresh, &rested.tables.tables)?;
     *rested = empty;
     Ok(())
 }
 
-/// One step of some rule, or false where there is none. Where memory is refused the store is as before.
+/// One step under rules that are those of the rows, or false where there is none.
+fn step_own(rested: &mut Rested, fresh: &mut Vec<Atom>, rules: &[Rule]) -> Result<bool, AllocError>
+    requires rested { IsRested rested.old }
+    requires own { map parts_of rested.old.rules.items ≡ map parts_of rules.now }
+    ensures rested { IsRested rested.new }
+    ensures stepped { IfOk result (λ stepped. OnTrue stepped (Step rules.now
+        (stored rested.old ⊕ store_of fresh.old.items) (stored rested.new ⊕ store_of fresh.new.items))) }
+    ensures same { IfOk result (λ stepped. OnFalse stepped
+        (stored rested.new ⊕ store_of fresh.new.items ≡ stored rested.old ⊕ store_of fresh.old.items)) }
+    ensures rests { IfOk result (λ stepped. OnFalse stepped
+        (IsAtRest (Step rules.now) (stored rested.old ⊕ store_of fresh.old.items))) }
+    ensures err { OnErr result
+        (stored rested.new ⊕ store_of fresh.new.items ≡ stored rested.old ⊕ store_of fresh.old.items) }
+{
+    match rested.settle(rules, fresh)? {
+        Outcome::Fired => Ok(true),
+        Outcome::AtRest => Ok(false),
+        Outcome::OtherRules => unreachable!(),
+    }
+}
+
+/// The same, where the rules may be others.
+fn step_over(rested: &mut Rested, fresh: &mut Vec<Atom>, rules: &[Rule]) -> Result<bool, AllocError>
+    requires { IsRested rested.old }
+    ensures rested { IsRested rested.new }
+    ensures stepped { IfOk result (λ stepped. OnTrue stepped (Step rules.now
+        (stored rested.old ⊕ store_of fresh.old.items) (stored rested.new ⊕ store_of fresh.new.items))) }
+    ensures same { IfOk result (λ stepped. OnFalse stepped
+        (stored rested.new ⊕ store_of fresh.new.items ≡ stored rested.old ⊕ store_of fresh.old.items)) }
+    ensures rests { IfOk result (λ stepped. OnFalse stepped
+        (IsAtRest (Step rules.now) (stored rested.old ⊕ store_of fresh.old.items))) }
+    ensures err { OnErr result
+        (stored rested.new ⊕ store_of fresh.new.items ≡ stored rested.old ⊕ store_of fresh.old.items) }
+{
+    start_over(rested, fresh, rules)?;
+    step_own(rested, fresh, rules)
+}
+
+/// One step of some rule, or false where there is none. Where memory is refused the store is as before. The rules are
+/// compared with those of the rows where it matters: the one that fires, and all of them where nothing is fresh.
 pub(crate) fn step_in(
     rested: &mut Rested,
     fresh: &mut Vec<Atom>,
@@ -50,6 +87,14 @@ pub(crate) fn step_in(
     ensures err { OnErr result
         (stored rested.new ⊕ store_of fresh.new.items ≡ stored rested.old ⊕ store_of fresh.old.items) }
 {
-    adopt(rested, fresh, rules)?;
-    rested.settle(fresh)
+    match rested.settle(rules, fresh)? {
+        Outcome::Fired => return Ok(true),
+        Outcome::AtRest => {
+            if are_same(&rested.rules, rules) {
+                return Ok(false);
+            }
+        }
+        Outcome::OtherRules => {}
+    }
+    step_over(rested, fresh, rules)
 }

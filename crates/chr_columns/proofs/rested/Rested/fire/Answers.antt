@@ -1,8 +1,13 @@
-use Rattle.std.proofs.Common.{◌<◌, length, drop, ap, subst, ◌∙◌}
+use Rattle.std.proofs.Common.{◌≡◌, ◌<◌, List, [], ◌∷◌, length, drop, refl, sym, ap, subst, ◌∙◌}
 use Rattle.std.specs.Prelude.{Some}
 use Rattle.chr_base.specs.declared.rule.Rule.{Rule}
-use Rattle.chr_base.specs.Rules.{heads_of}
-use Rattle.chr_plans.specs.Seats.{IsSeated}
+use Rattle.chr_base.specs.FinBag.{◌⊕◌}
+use Rattle.chr_base.specs.Stores.{store_of}
+use Rattle.chr_base.specs.Rules.{Step, heads_of}
+use Rattle.chr_actives.specs.Actives.{one}
+use Rattle.chr_actives.specs.Grids.{contents}
+use Rattle.chr_columns.specs.working.Resting.{grid}
+use Rattle.chr_plans.specs.Seats.{IsSeated, head}
 use Rattle.chr_tables.specs.Contents.{rows_of}
 use Rattle.chr_columns.specs.working.Firing.{leaving}
 use Rattle.chr_columns.proofs.Firings.{rule_is, sit_there, sit_left, fired, left_over, part_left}
@@ -41,7 +46,7 @@ returns-clause-rested c =
     }
 
 pub returns-clause-step : goal.returns-clause-step
-returns-clause-step c =
+returns-clause-step c q standing =
     let ts = c.args.self.now.tables.tables.items in
     let us = c.kill_all.new.tables.tables.items in
     let p = c.args.o.place in
@@ -52,5 +57,7 @@ returns-clause-step c =
     let place = subst (λ (x : Rule). p < length (heads_of x)) same is.within in
     let seated = subst (λ x. IsSeated x (rows_of ts) p c.args.heads.now c.args.seats.now) same is.seated in
     let back = c.split_at.ensures.back ∙ (λ i. drop (c.kept_others-first.ensures i) (c.deref.ensures.0 i)) in
-    fired c.args.self.now.rules.items c.args.o.rule r p c.args.heads.now c.args.seats.now c.partner_rows-rows.result.items c.split_at.result.1.now ts at place seated c.partner_rows-rows.ensures.sit back
-    us c.args.fresh.now.items c.put_fresh.new.fresh.items c.kill_all.ensures.rows c.put_fresh.ensures
+    let rule : q ≡ r = rule_is c.args.self.now.rules.items c.args.o.rule q r standing c.index-rule.ensures in
+    subst (λ x. Step (x ∷ []) ((contents (grid ts) ⊕ store_of c.args.fresh.now.items) ⊕ one (head c.args.heads.now p)) (contents (grid us) ⊕ store_of c.put_fresh.new.fresh.items)) (sym rule)
+    (fired (r ∷ []) 0 r p c.args.heads.now c.args.seats.now c.partner_rows-rows.result.items c.split_at.result.1.now ts refl place seated c.partner_rows-rows.ensures.sit back
+    us c.args.fresh.now.items c.put_fresh.new.fresh.items c.kill_all.ensures.rows c.put_fresh.ensures)

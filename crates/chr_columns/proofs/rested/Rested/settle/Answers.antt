@@ -1,4 +1,5 @@
 use Rattle.std.proofs.Common.{◌≡◌, ap, subst, ◌∙◌}
+use Rattle.std.specs.Prelude.{Ok}
 use Rattle.chr_base.specs.FinBag.{◌⊕◌}
 use Rattle.chr_base.specs.Stores.{store_of}
 use Rattle.chr_base.specs.Rules.{Step}
@@ -7,22 +8,20 @@ use Rattle.chr_columns.specs.working.Resting.{stored}
 use Rattle.chr_columns.proofs.Firings.{popped, swap_sides}
 use Rattle.chr_columns.proofs.rested.Rested.settle.Goals as goal
 
-pub returns-in-Ok-true-clause-stepped : goal.returns-in-Ok-true-clause-stepped
-returns-in-Ok-true-clause-stepped c =
+pub returns-in-Ok-Fired-clause-fired : goal.returns-in-Ok-Fired-clause-fired
+returns-in-Ok-Fired-clause-fired c _ =
     let s = stored c.loop-fresh.self in
     let t = stored c.take.new.self ⊕ store_of c.take.new.fresh.items in
     let e = popped s c.reserve.new.self.items c.pop.new.self.items c.in-Some.active c.in-Some.ensures.items ∙ ap (λ xs. s ⊕ store_of xs) c.reserve.ensures.items ∙ c.loop-fresh.invariant.same in
-    subst (λ x. Step c.args.self.now.rules.items x t) e
-    (rw (ap (λ v. v.items) c.loop-fresh.invariant.rules) at (rw c.in-Ok-true.field-0-test at c.in-Ok-true.ensures.stepped))
+    subst (λ x. Step c.args.rules.now x t) e (c.take.ensures.fired (c.in-Ok-Fired.is ∙ ap Ok c.in-Ok-Fired.field-0-is))
 
 pub loop-fresh-preserved : goal.loop-fresh-preserved
 loop-fresh-preserved c =
     let s = stored c.loop-fresh.self in
     let e = popped s c.reserve.new.self.items c.pop.new.self.items c.in-Some.active c.in-Some.ensures.items ∙ ap (λ xs. s ⊕ store_of xs) c.reserve.ensures.items ∙ c.loop-fresh.invariant.same in
-    let joined : stored c.take.new.self ≡ s ⊕ one c.in-Some.active = rw c.in-Ok-false.field-0-test at c.in-Ok-false.ensures.joined in
-    let same : c.take.new.fresh ≡ c.pop.new.self = rw c.in-Ok-false.field-0-test at c.in-Ok-false.ensures.same in
+    let is = c.in-Ok-AtRest.is ∙ ap Ok c.in-Ok-AtRest.field-0-is in
     record {
       rested = c.take.ensures.rested;
       rules = c.take.ensures.rules ∙ c.loop-fresh.invariant.rules;
-      same = (λ i. joined i ⊕ store_of (same i).items) ∙ swap_sides s (store_of c.pop.new.self.items) (one c.in-Some.active) ∙ e;
+      same = (λ i. c.take.ensures.joined is i ⊕ store_of (c.take.ensures.joined_same is i).items) ∙ swap_sides s (store_of c.pop.new.self.items) (one c.in-Some.active) ∙ e;
     }
