@@ -7,3 +7,5 @@ pub mod Firings
 pub mod Makings
 pub mod Slices
 pub mod Grouping
+pub mod Planned
+pub mod Emptiness

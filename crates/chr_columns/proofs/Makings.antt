@@ -1,7 +1,7 @@
 -- Indexes that are added one by one.
-use Rattle.std.proofs.Common.{◌≡◌, ℕ, ◌<◌, List, [], ◌∷◌, ◌++◌, map, length, get_or, set, sym, ap, subst, ◌∙◌, arith, inl, inr, ◌⊎◌, length-append}
+use Rattle.std.proofs.Common.{◌≡◌, ℕ, ◌<◌, List, [], ◌∷◌, ◌++◌, map, length, get_or, set, sym, ap, subst, ◌∙◌, arith, inl, inr, length-append}
 use Rattle.std.specs.Prelude.{Some, slice_get}
-use Rattle.std.proofs.lemmas.Bool.{cases_lt}
+use Rattle.std.proofs.lemmas.Bool.{cases_lt, cases_eq}
 use Rattle.std.proofs.lemmas.List.{map-set, length-map, get_or-map, get_or-set_same, get_or-set_other, get_or_append_left}
 use Rattle.std.proofs.Math.Seq.{get_or-append_seam}
 use Rattle.chr_base.specs.declared.rule.Rule.{Rule}
@@ -25,20 +25,11 @@ put_at keys t k l =
 
 grows_at : (keys : List Keys) (t : ℕ) (old new : Keys) → t < length keys → old ≡ get_or keys t old → ((i : ℕ) (cs : List ℕ) → slice_get (lists_of old) i ≡ Some cs → slice_get (lists_of new) i ≡ Some cs)
     → Grows (columns_in keys) (columns_in (set keys t new))
-grows_at keys t old new l e more t' i cs h = elim (same_or t' t) as (λ _. columns_in (set keys t new) t' i ≡ Some cs) [
+grows_at keys t old new l e more t' i cs h = elim (cases_eq t' t) as (λ _. columns_in (set keys t new) t' i ≡ Some cs) [
   | inl same ↦ (ap (λ k. columns_in (set keys t new) k i) same ∙ ap (λ xs. slice_get xs i) (put_at keys t new l)
       ∙ more i cs (ap (λ xs. slice_get xs i) (sym (read keys t old l e)) ∙ ap (λ k. columns_in keys k i) (sym same) ∙ h))
   | inr other ↦ (ap (λ xs. slice_get (get_or xs t' []) i) (map-set lists_of keys t new) ∙ ap (λ xs. slice_get xs i) (get_or-set_other (map lists_of keys) t t' (lists_of new) [] other) ∙ h)
 ]
-  where
-    same_or : (m n : ℕ) → (m ≡ n) ⊎ (m ≡ n → ⊥)
-    same_or m n = elim (cases_lt m n) as (λ _. (m ≡ n) ⊎ (m ≡ n → ⊥)) [
-      | inl less ↦ inr (λ e. (absurd (omega (arith, e, less))))
-      | inr most ↦ elim (cases_lt n m) as (λ _. (m ≡ n) ⊎ (m ≡ n → ⊥)) [
-        | inl more ↦ inr (λ e. (absurd (omega (arith, e, more))))
-        | inr least ↦ inl (omega (arith, most, least))
-      ]
-    ]
 
 -- an index more
 module _ (keys : List Keys) (t : ℕ) (old new : Keys) (cs : List ℕ) (within : t < length keys) (here : old ≡ get_or keys t old) (more : lists_of new ≡ lists_of old ++ cs ∷ []) where
