@@ -12,8 +12,7 @@ use Rattle.chr_columns.specs.declared.groups.Group.{Group}
 use Rattle.chr_columns.specs.working.Groups.{table_of_pattern}
 use Rattle.chr_columns.specs.working.Resting.{AreIndexed}
 use Rattle.chr_columns.specs.declared.making.Keys.{Keys}
-use Rattle.chr_columns.specs.working.Making.{lists_of, columns_in, Grows}
-use Rattle.chr_columns.proofs.Slices.{slice_left, slice_last}
+use Rattle.chr_columns.specs.working.Making.{lists_of, columns_in, StayIndexed, Grows}
 
 -- the columns that the code reads
 read : (keys : List Keys) (t : ℕ) (k : Keys) → t < length keys → k ≡ get_or keys t k → get_or (map lists_of keys) t [] ≡ lists_of k
@@ -23,7 +22,7 @@ put_at : (keys : List Keys) (t : ℕ) (k : Keys) → t < length keys → get_or 
 put_at keys t k l =
     ap (λ xs. get_or xs t []) (map-set lists_of keys t k) ∙ get_or-set_same (map lists_of keys) t (lists_of k) [] (let n = length-map keys lists_of in omega (arith, n, l))
 
-grows_at : (keys : List Keys) (t : ℕ) (old new : Keys) → t < length keys → old ≡ get_or keys t old → ((i : ℕ) (cs : List ℕ) → slice_get (lists_of old) i ≡ Some cs → slice_get (lists_of new) i ≡ Some cs)
+pub grows_at : (keys : List Keys) (t : ℕ) (old new : Keys) → t < length keys → old ≡ get_or keys t old → StayIndexed (lists_of old) (lists_of new)
     → Grows (columns_in keys) (columns_in (set keys t new))
 grows_at keys t old new l e more t' i cs h = elim (cases_eq t' t) as (λ _. columns_in (set keys t new) t' i ≡ Some cs) [
   | inl same ↦ (ap (λ k. columns_in (set keys t new) k i) same ∙ ap (λ xs. slice_get xs i) (put_at keys t new l)
@@ -31,17 +30,9 @@ grows_at keys t old new l e more t' i cs h = elim (cases_eq t' t) as (λ _. colu
   | inr other ↦ (ap (λ xs. slice_get (get_or xs t' []) i) (map-set lists_of keys t new) ∙ ap (λ xs. slice_get xs i) (get_or-set_other (map lists_of keys) t t' (lists_of new) [] other) ∙ h)
 ]
 
--- an index more
-module _ (keys : List Keys) (t : ℕ) (old new : Keys) (cs : List ℕ) (within : t < length keys) (here : old ≡ get_or keys t old) (more : lists_of new ≡ lists_of old ++ cs ∷ []) where
-  pub index_grows : Grows (columns_in keys) (columns_in (set keys t new))
-  index_grows = grows_at keys t old new within here (λ i x h. ap (λ xs. slice_get xs i) more ∙ slice_left (lists_of old) (cs ∷ []) i x h)
-
-  pub index_there : (n : ℕ) → n ≡ length (lists_of old) → columns_in (set keys t new) t n ≡ Some cs
-  index_there n e =
-      ap (λ xs. slice_get xs n) (put_at keys t new within ∙ more) ∙ ap (slice_get (lists_of old ++ cs ∷ [])) e ∙ slice_last (lists_of old) cs
-
-pub same_grows : (keys : List Keys) (t : ℕ) (old new : Keys) → t < length keys → old ≡ get_or keys t old → lists_of new ≡ lists_of old → Grows (columns_in keys) (columns_in (set keys t new))
-same_grows keys t old new l e same = grows_at keys t old new l e (λ i x h. ap (λ xs. slice_get xs i) same ∙ h)
+-- the index that a table has
+pub index_at : (keys : List Keys) (t : ℕ) (new : Keys) (i : ℕ) (cs : List ℕ) → t < length keys → slice_get (lists_of new) i ≡ Some cs → columns_in (set keys t new) t i ≡ Some cs
+index_at keys t new i cs l e = ap (λ xs. slice_get xs i) (put_at keys t new l) ∙ e
 
 -- one look-up more
 pub indexed_more : (r : Rule) (groups : List Group) (before after : Columns) (ls : List Lookup) (l : Lookup) → Grows before after → AreIndexed r groups before ls

@@ -1,5 +1,5 @@
 //! Plans and indexes are made.
-ghost use Rattle.std.specs.Prelude.{◌≡◌, ℕ, ◌+◌, ◌<◌, List, [], map, length, slice_get, IfOk, OnOk, Some, None};
+ghost use Rattle.std.specs.Prelude.{◌≡◌, ℕ, ◌+◌, ◌<◌, List, [], map, length, slice_get, IfOk, OnOk, IfSome, IfNone, Some, None};
 ghost use Rattle.chr_base.specs.declared.rule.Rule.{Rule as RuleValue};
 ghost use Rattle.chr_base.specs.FinBag.{empty};
 ghost use Rattle.chr_base.specs.Rules.{heads_of};
@@ -7,7 +7,7 @@ ghost use Rattle.chr_plans.specs.Plans.{IsPlan, pattern_at, partners_of, columns
 ghost use Rattle.chr_tables.specs.Contents.{rows_of};
 ghost use Rattle.chr_columns.specs.working.Groups.{table_of_pattern, IsGrouped, AreGrouped, AllGrouped};
 ghost use Rattle.chr_columns.specs.working.Resting.{stored, IsRested, AreIndexed, ArePlanned, HasPlan, HavePlans, AreCovered};
-ghost use Rattle.chr_columns.specs.working.Making.{lists_of, columns_in, Grows, KeepPlans};
+ghost use Rattle.chr_columns.specs.working.Making.{lists_of, columns_in, StayIndexed, Grows, KeepPlans};
 
 use crate::groups::{Group, groups_for, table_of};
 use crate::rested::Rested;
@@ -29,7 +29,34 @@ pub(crate) struct Keys {
     pub(crate) columns: Vec<ArrayVec<usize, MAX_ARITY>>,
 }
 
-/// The look-up of a partner, for which its table gets one index more.
+/// The index by these columns in this order, where there is one.
+fn index_by(keys: &Keys, columns: &[usize]) -> Option<usize>
+    ensures found { IfSome result (λ i. slice_get (lists_of keys.now) i ≡ Some columns.now) }
+    ensures none { IfNone result ((i : ℕ) → ¬ (slice_get (lists_of keys.now) i ≡ Some columns.now)) }
+{
+    for (i, others) in keys.columns.iter().enumerate() {
+        if others.as_slice() == columns {
+            return Some(i);
+        }
+    }
+    None
+}
+
+/// The index by these columns in this order, which is a new one only where there was none.
+fn index_for(keys: &mut Keys, columns: ArrayVec<usize, MAX_ARITY>) -> Result<usize, AllocError>
+    ensures stay { StayIndexed (lists_of keys.old) (lists_of keys.new) }
+    ensures shared { (i : ℕ) → slice_get (lists_of keys.old) i ≡ Some columns.items → keys.new ≡ keys.old }
+    ensures index { IfOk result (λ i. slice_get (lists_of keys.new) i ≡ Some columns.items) }
+{
+    if let Some(index) = index_by(keys, &columns) {
+        return Ok(index);
+    }
+    let index = keys.columns.len();
+    keys.columns.push(columns)?;
+    Ok(index)
+}
+
+/// The look-up of a partner, for which its table has an index.
 fn look_up(
     keys: &mut Vec<Keys>,
     groups: &[Group],
@@ -47,8 +74,7 @@ fn look_up(
 {
     let pattern = rule.head_at(partner.place);
     let table = table_of(groups, pattern.symbol, pattern.args.len());
-    let index = keys[table].columns.len();
-    keys[table].columns.push(partner.columns())?;
+    let index = index_for(&mut keys[table], partner.columns())?;
     Ok(Lookup {
         partner: partner.copy(),
         table,

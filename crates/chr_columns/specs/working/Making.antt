@@ -14,7 +14,10 @@ lists_of k = map (λ c. c.items) k.columns.items
 abbrev pub columns_in : List Keys → Columns
 columns_in keys table index = slice_get (get_or (map lists_of keys) table []) index
 
--- what was an index stays it
+-- what was an index of a table stays it, and what was one of any table
+abbrev pub StayIndexed : List (List ℕ) → List (List ℕ) → Type 0
+StayIndexed before after = (i : ℕ) (cs : List ℕ) → slice_get before i ≡ Some cs → slice_get after i ≡ Some cs
+
 abbrev pub Grows : Columns → Columns → Type 0
 Grows before after = (t i : ℕ) (cs : List ℕ) → before t i ≡ Some cs → after t i ≡ Some cs
 
