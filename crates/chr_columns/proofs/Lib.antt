@@ -11,3 +11,5 @@ pub mod Slices
 pub mod Grouping
 pub mod Listed
 pub mod Everywhere
+pub mod Planned
+pub mod Emptiness

@@ -1,7 +1,7 @@
 -- Indexes that are added one by one.
-use Rattle.std.proofs.Common.{◌≡◌, ℕ, ◌<◌, List, [], ◌∷◌, ◌++◌, map, length, get_or, set, sym, ap, subst, ◌∙◌, arith, inl, inr, ◌⊎◌, length-append}
+use Rattle.std.proofs.Common.{◌≡◌, ℕ, ◌<◌, List, [], ◌∷◌, ◌++◌, map, length, get_or, set, sym, ap, subst, ◌∙◌, arith, inl, inr, length-append}
 use Rattle.std.specs.Prelude.{Some, slice_get}
-use Rattle.std.proofs.lemmas.Bool.{cases_lt}
+use Rattle.std.proofs.lemmas.Bool.{cases_lt, cases_eq}
 use Rattle.std.proofs.lemmas.List.{map-set, length-map, get_or-map, get_or-set_same, get_or-set_other, get_or_append_left}
 use Rattle.std.proofs.Math.Seq.{get_or-append_seam}
 use Rattle.chr_base.specs.declared.rule.Rule.{Rule}
@@ -12,8 +12,7 @@ use Rattle.chr_columns.specs.declared.groups.Group.{Group}
 use Rattle.chr_columns.specs.working.Groups.{table_of_pattern}
 use Rattle.chr_columns.specs.working.Resting.{AreIndexed}
 use Rattle.chr_columns.specs.declared.making.Keys.{Keys}
-use Rattle.chr_columns.specs.working.Making.{lists_of, columns_in, Grows}
-use Rattle.chr_columns.proofs.Slices.{slice_left, slice_last}
+use Rattle.chr_columns.specs.working.Making.{lists_of, columns_in, StayIndexed, Grows}
 
 -- the columns that the code reads
 read : (keys : List Keys) (t : ℕ) (k : Keys) → t < length keys → k ≡ get_or keys t k → get_or (map lists_of keys) t [] ≡ lists_of k
@@ -23,34 +22,17 @@ put_at : (keys : List Keys) (t : ℕ) (k : Keys) → t < length keys → get_or 
 put_at keys t k l =
     ap (λ xs. get_or xs t []) (map-set lists_of keys t k) ∙ get_or-set_same (map lists_of keys) t (lists_of k) [] (let n = length-map keys lists_of in omega (arith, n, l))
 
-grows_at : (keys : List Keys) (t : ℕ) (old new : Keys) → t < length keys → old ≡ get_or keys t old → ((i : ℕ) (cs : List ℕ) → slice_get (lists_of old) i ≡ Some cs → slice_get (lists_of new) i ≡ Some cs)
+pub grows_at : (keys : List Keys) (t : ℕ) (old new : Keys) → t < length keys → old ≡ get_or keys t old → StayIndexed (lists_of old) (lists_of new)
     → Grows (columns_in keys) (columns_in (set keys t new))
-grows_at keys t old new l e more t' i cs h = elim (same_or t' t) as (λ _. columns_in (set keys t new) t' i ≡ Some cs) [
+grows_at keys t old new l e more t' i cs h = elim (cases_eq t' t) as (λ _. columns_in (set keys t new) t' i ≡ Some cs) [
   | inl same ↦ (ap (λ k. columns_in (set keys t new) k i) same ∙ ap (λ xs. slice_get xs i) (put_at keys t new l)
       ∙ more i cs (ap (λ xs. slice_get xs i) (sym (read keys t old l e)) ∙ ap (λ k. columns_in keys k i) (sym same) ∙ h))
   | inr other ↦ (ap (λ xs. slice_get (get_or xs t' []) i) (map-set lists_of keys t new) ∙ ap (λ xs. slice_get xs i) (get_or-set_other (map lists_of keys) t t' (lists_of new) [] other) ∙ h)
 ]
-  where
-    same_or : (m n : ℕ) → (m ≡ n) ⊎ (m ≡ n → ⊥)
-    same_or m n = elim (cases_lt m n) as (λ _. (m ≡ n) ⊎ (m ≡ n → ⊥)) [
-      | inl less ↦ inr (λ e. (absurd (omega (arith, e, less))))
-      | inr most ↦ elim (cases_lt n m) as (λ _. (m ≡ n) ⊎ (m ≡ n → ⊥)) [
-        | inl more ↦ inr (λ e. (absurd (omega (arith, e, more))))
-        | inr least ↦ inl (omega (arith, most, least))
-      ]
-    ]
 
--- an index more
-module _ (keys : List Keys) (t : ℕ) (old new : Keys) (cs : List ℕ) (within : t < length keys) (here : old ≡ get_or keys t old) (more : lists_of new ≡ lists_of old ++ cs ∷ []) where
-  pub index_grows : Grows (columns_in keys) (columns_in (set keys t new))
-  index_grows = grows_at keys t old new within here (λ i x h. ap (λ xs. slice_get xs i) more ∙ slice_left (lists_of old) (cs ∷ []) i x h)
-
-  pub index_there : (n : ℕ) → n ≡ length (lists_of old) → columns_in (set keys t new) t n ≡ Some cs
-  index_there n e =
-      ap (λ xs. slice_get xs n) (put_at keys t new within ∙ more) ∙ ap (slice_get (lists_of old ++ cs ∷ [])) e ∙ slice_last (lists_of old) cs
-
-pub same_grows : (keys : List Keys) (t : ℕ) (old new : Keys) → t < length keys → old ≡ get_or keys t old → lists_of new ≡ lists_of old → Grows (columns_in keys) (columns_in (set keys t new))
-same_grows keys t old new l e same = grows_at keys t old new l e (λ i x h. ap (λ xs. slice_get xs i) same ∙ h)
+-- the index that a table has
+pub index_at : (keys : List Keys) (t : ℕ) (new : Keys) (i : ℕ) (cs : List ℕ) → t < length keys → slice_get (lists_of new) i ≡ Some cs → columns_in (set keys t new) t i ≡ Some cs
+index_at keys t new i cs l e = ap (λ xs. slice_get xs i) (put_at keys t new l) ∙ e
 
 -- one look-up more
 pub indexed_more : (r : Rule) (groups : List Group) (before after : Columns) (ls : List Lookup) (l : Lookup) → Grows before after → AreIndexed r groups before ls

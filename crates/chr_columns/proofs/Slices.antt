@@ -1,6 +1,7 @@
 -- Reading an element of a list that has grown, or of which one was replaced.
-use Rattle.std.proofs.Common.{◌≡◌, ℕ, zero, suc, ◌<◌, List, [], ◌∷◌, ◌++◌, length, set, refl, arith, inl, inr, ◌⊎◌}
-use Rattle.std.specs.Prelude.{Option, Some, slice_get}
+use Rattle.std.proofs.Common.{◌≡◌, ℕ, zero, suc, ◌<◌, List, [], ◌∷◌, ◌++◌, length, set, get_or, map, refl, sym, ap, ◌∙◌, arith, inl, inr, ◌⊎◌}
+use Rattle.std.specs.Prelude.{Option, Some, slice_get, option_map}
+use Rattle.std.proofs.lemmas.Option.{slice_get-map, slice_get_read}
 
 pub slice_left : {X : Type 0} (xs ys : List X) (i : ℕ) (x : X) → slice_get xs i ≡ Some x → slice_get (xs ++ ys) i ≡ Some x
 slice_left [] ys i x e = cc
@@ -28,3 +29,8 @@ slice_set_other (x ∷ xs) zero zero y n = absurd (n refl)
 slice_set_other (x ∷ xs) zero (suc k) y n = refl
 slice_set_other (x ∷ xs) (suc i) zero y n = refl
 slice_set_other (x ∷ xs) (suc i) (suc k) y n = slice_set_other xs i k y (λ e. n (omega (arith, e)))
+
+-- what is read of an element
+pub slice_read : {X Y : Type 0} (f : X → Y) (xs ys : List X) (i : ℕ) (x : X) (y : Y) → ys ≡ xs → i < length ys → x ≡ get_or ys i x → y ≡ f x → slice_get (map f xs) i ≡ Some y
+slice_read f xs ys i x y e l h g =
+    slice_get-map f xs i ∙ ap (option_map f) (ap (λ zs. slice_get zs i) (sym e) ∙ slice_get_read ys (length ys) i x refl l h) ∙ ap Some (sym g)

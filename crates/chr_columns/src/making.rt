@@ -1,21 +1,27 @@
 //! Plans and indexes are made.
-ghost use Rattle.std.specs.Prelude.{◌≡◌, ◌+◌, ◌<◌, length, map, IfOk, Some};
+ghost use Rattle.std.specs.Prelude.{◌≡◌, ℕ, ◌+◌, ◌<◌, List, [], map, length, slice_get, IfOk, OnOk, IfSome, IfNone, Some, None};
+ghost use Rattle.chr_base.specs.declared.rule.Rule.{Rule as RuleValue};
 ghost use Rattle.chr_base.specs.FinBag.{empty};
-ghost use Rattle.chr_base.specs.Sameness.{parts_of};
 ghost use Rattle.chr_base.specs.Rules.{heads_of};
 ghost use Rattle.chr_plans.specs.Plans.{IsPlan, pattern_at, partners_of, columns_of};
-ghost use Rattle.chr_columns.specs.working.Groups.{table_of_pattern};
-ghost use Rattle.chr_columns.specs.working.Resting.{AreIndexed, stored, IsRested};
-ghost use Rattle.chr_columns.specs.working.Making.{columns_in, Grows};
+ghost use Rattle.chr_tables.specs.Contents.{rows_of};
+ghost use Rattle.chr_columns.specs.working.Groups.{table_of_pattern, IsGrouped, AreGrouped, AllGrouped};
+ghost use Rattle.chr_columns.specs.working.Resting.{stored, IsRested, AreIndexed, ArePlanned, HasPlan, HavePlans, AreCovered};
+ghost use Rattle.chr_columns.specs.working.Making.{lists_of, columns_in, StayIndexed, Grows, KeepPlans};
 
-use crate::groups::{Group, table_of};
+use crate::groups::{Group, groups_for, table_of};
 use crate::rested::Rested;
 use arrayvec::ArrayVec;
 use chr_base::limits::MAX_ARITY;
 use chr_base::rule::Rule;
 use chr_plans::plan::{Lookup, Partner, Plan};
 use chr_plans::planning::plan_of;
+use chr_tables::table::Table;
+use chr_tables::tables::Tables;
 use std::alloc::{AllocError, Global};
+
+/// There are fewer tables than this, so that the rows of all of them can be counted.
+const MAX_TABLES: usize = 0x8000_0000;
 
 /// The columns of each index of one table.
 #[derive(Drop)]
@@ -23,7 +29,34 @@ pub(crate) struct Keys {
     pub(crate) columns: Vec<ArrayVec<usize, MAX_ARITY>>,
 }
 
-/// The look-up of a partner, for which its table gets one index more.
+/// The index by these columns in this order, where there is one.
+fn index_by(keys: &Keys, columns: &[usize]) -> Option<usize>
+    ensures found { IfSome result (λ i. slice_get (lists_of keys.now) i ≡ Some columns.now) }
+    ensures none { IfNone result ((i : ℕ) → ¬ (slice_get (lists_of keys.now) i ≡ Some columns.now)) }
+{
+    for (i, others) in keys.columns.iter().enumerate() {
+        if others.as_slice() == columns {
+            return Some(i);
+        }
+    }
+    None
+}
+
+/// The index by these columns in this order, which is a new one only where there was none.
+fn index_for(keys: &mut Keys, columns: ArrayVec<usize, MAX_ARITY>) -> Result<usize, AllocError>
+    ensures stay { StayIndexed (lists_of keys.old) (lists_of keys.new) }
+    ensures shared { (i : ℕ) → slice_get (lists_of keys.old) i ≡ Some columns.items → keys.new ≡ keys.old }
+    ensures index { IfOk result (λ i. slice_get (lists_of keys.new) i ≡ Some columns.items) }
+{
+    if let Some(index) = index_by(keys, &columns) {
+        return Ok(index);
+    }
+    let index = keys.columns.len();
+    keys.columns.push(columns)?;
+    Ok(index)
+}
+
+/// The look-up of a partner, for which its table has an index.
 fn look_up(
     keys: &mut Vec<Keys>,
     groups: &[Group],
@@ -41,8 +74,7 @@ fn look_up(
 {
     let pattern = rule.head_at(partner.place);
     let table = table_of(groups, pattern.symbol, pattern.args.len());
-    let index = keys[table].columns.len();
-    keys[table].columns.push(partner.columns())?;
+    let index = index_for(&mut keys[table], partner.columns())?;
     Ok(Lookup {
         partner: partner.copy(),
         table,
@@ -80,11 +112,151 @@ fn plan_for(
     })
 }
 
-/// stub
+/// The plan of a head place of the rule with this number joins the group of its head.
+fn add_plan(
+    keys: &mut Vec<Keys>,
+    groups: &mut [Group],
+    rule: &Rule,
+    number: usize,
+    place: usize,
+) -> Result<(), AllocError>
+    requires place { place < length (heads_of rule.now) }
+    requires grouped { IsGrouped groups.old (pattern_at rule.now place) }
+    requires tables { length keys.old.items ≡ length groups.old + 1 }
+    ensures tables { length keys.new.items ≡ length groups.new + 1 }
+    ensures keep { OnOk result (KeepPlans groups.old groups.new) }
+    ensures planned { OnOk result ((rules : List RuleValue) → slice_get rules number ≡ Some rule.now →
+        ArePlanned rules groups.old (columns_in keys.old.items) →
+        ArePlanned rules groups.new (columns_in keys.new.items)) }
+    ensures plan { OnOk result
+        (HasPlan groups.new (table_of_pattern groups.new (pattern_at rule.now place)) number place) }
+{
+    let plan = plan_for(keys, groups, rule, number, place)?;
+    let pattern = rule.head_at(place);
+    let table = table_of(groups, pattern.symbol, pattern.args.len());
+    groups[table].plans.push(plan)?;
+    Ok(())
+}
+
+/// The plans of all head places of the rule with this number.
+fn add_plans(
+    keys: &mut Vec<Keys>,
+    groups: &mut [Group],
+    rule: &Rule,
+    number: usize,
+) -> Result<(), AllocError>
+    requires grouped { AreGrouped groups.old rule.now (length (heads_of rule.now)) }
+    requires tables { length keys.old.items ≡ length groups.old + 1 }
+    ensures tables { length keys.new.items ≡ length groups.new + 1 }
+    ensures keep { OnOk result (KeepPlans groups.old groups.new) }
+    ensures planned { OnOk result ((rules : List RuleValue) → slice_get rules number ≡ Some rule.now →
+        ArePlanned rules groups.old (columns_in keys.old.items) →
+        ArePlanned rules groups.new (columns_in keys.new.items)) }
+    ensures plans { OnOk result (HavePlans groups.new number rule.now (length (heads_of rule.now))) }
+{
+    for place in 0..rule.places() {
+        add_plan(keys, groups, rule, number, place)?;
+    }
+    Ok(())
+}
+
+/// The plans of all head places, those of the first rule first.
+fn add_all_plans(
+    keys: &mut Vec<Keys>,
+    groups: &mut [Group],
+    rules: &[Rule],
+) -> Result<(), AllocError>
+    requires grouped { AllGrouped groups.old rules.now }
+    requires planned { ArePlanned rules.now groups.old (columns_in keys.old.items) }
+    requires tables { length keys.old.items ≡ length groups.old + 1 }
+    ensures tables { length keys.new.items ≡ length groups.new + 1 }
+    ensures planned { OnOk result (ArePlanned rules.now groups.new (columns_in keys.new.items)) }
+    ensures covered { OnOk result (AreCovered rules.now groups.new (length rules.now)) }
+{
+    for (number, rule) in rules.iter().enumerate() {
+        add_plans(keys, groups, rule, number)?;
+    }
+    Ok(())
+}
+
+/// So many tables, for which no index is wanted yet.
+fn no_keys(alloc: Global, count: usize) -> Result<Vec<Keys>, AllocError>
+    ensures { IfOk result (λ keys. length keys.items ≡ count) }
+{
+    let mut keys = Vec::new(alloc);
+    for _ in 0..count {
+        keys.push(Keys {
+            columns: Vec::new(alloc),
+        })?;
+    }
+    Ok(keys)
+}
+
+/// The same columns.
+fn copy_of(columns: &ArrayVec<usize, MAX_ARITY>) -> ArrayVec<usize, MAX_ARITY>
+    ensures { result.items ≡ columns.now.items }
+{
+    let mut copy = ArrayVec::new();
+    for column in columns.as_slice() {
+        copy.push(*column);
+    }
+    copy
+}
+
+/// A table without rows, with these indexes.
+fn table_for(alloc: Global, keys: &Keys) -> Result<Table, AllocError>
+    ensures rows { IfOk result (λ t. t.rows ≡ []) }
+    ensures keys { IfOk result (λ t. t.keys ≡ lists_of keys.now) }
+{
+    let mut table = Table::new(alloc);
+    for columns in &keys.columns {
+        table.add_index(alloc, copy_of(columns))?;
+    }
+    Ok(table)
+}
+
+/// Tables without rows, each with its indexes.
+fn tables_for(alloc: Global, keys: &[Keys]) -> Result<Tables, AllocError>
+    ensures rows { IfOk result (λ ts. (t n : ℕ) → rows_of ts.tables.items t n ≡ None) }
+    ensures keys { IfOk result (λ ts. map (λ t. t.keys) ts.tables.items ≡ map lists_of keys.now) }
+{
+    let mut tables = Vec::new(alloc);
+    for keys in keys {
+        tables.push(table_for(alloc, keys)?)?;
+    }
+    Ok(Tables { tables })
+}
+
+/// Copies of these rules.
+fn copies_of(alloc: Global, rules: &[Rule]) -> Result<Vec<Rule>, AllocError>
+    ensures { IfOk result (λ copies. copies.items ≡ rules.now) }
+{
+    let mut copies = Vec::new(alloc);
+    for rule in rules {
+        copies.push(rule.copy())?;
+    }
+    Ok(copies)
+}
+
+/// No atoms, under copies of these rules, with the plans of their head places and the indexes that these want. It is
+/// refused where memory is, or where there would be `MAX_TABLES` tables.
 pub(crate) fn rested_for(alloc: Global, rules: &[Rule]) -> Result<Rested, AllocError>
-    ensures rested { IfOk result (λ r. IsRested r) }
-    ensures rules { IfOk result (λ r. map parts_of r.rules.items ≡ map parts_of rules.now) }
+    ensures rested { IfOk result IsRested }
+    ensures rules { IfOk result (λ r. r.rules.items ≡ rules.now) }
     ensures empty { IfOk result (λ r. stored r ≡ empty) }
 {
-    Err(AllocError)
+    let rules = copies_of(alloc, rules)?;
+    let mut groups = groups_for(alloc, &rules)?;
+    let count = groups.len() + 1;
+    if count >= MAX_TABLES {
+        return Err(AllocError);
+    }
+    let mut keys = no_keys(alloc, count)?;
+    add_all_plans(&mut keys, &mut groups, &rules)?;
+    let tables = tables_for(alloc, &keys)?;
+    Ok(Rested {
+        rules,
+        groups,
+        tables,
+    })
 }

@@ -1,7 +1,10 @@
--- The columns of indexes, as they are collected.
+-- The columns of indexes and the plans, as they are collected.
 use Rattle.std.specs.Prelude.{◌≡◌, ℕ, List, [], map, get_or, slice_get, Some}
 use Rattle.chr_plans.specs.Rows.{Columns}
+use Rattle.chr_columns.specs.declared.groups.Group.{Group}
 use Rattle.chr_columns.specs.declared.making.Keys.{Keys}
+use Rattle.chr_columns.specs.working.Groups.{shapes_of}
+use Rattle.chr_columns.specs.working.Resting.{HasPlan}
 
 -- the columns of the indexes of a table
 abbrev pub lists_of : Keys → List (List ℕ)
@@ -11,6 +14,14 @@ lists_of k = map (λ c. c.items) k.columns.items
 abbrev pub columns_in : List Keys → Columns
 columns_in keys table index = slice_get (get_or (map lists_of keys) table []) index
 
--- what was an index stays it
+-- what was an index of a table stays it, and what was one of any table
+abbrev pub StayIndexed : List (List ℕ) → List (List ℕ) → Type 0
+StayIndexed before after = (i : ℕ) (cs : List ℕ) → slice_get before i ≡ Some cs → slice_get after i ≡ Some cs
+
 abbrev pub Grows : Columns → Columns → Type 0
 Grows before after = (t i : ℕ) (cs : List ℕ) → before t i ≡ Some cs → after t i ≡ Some cs
+
+-- groups for the same atoms, with the plans that there were
+pub record KeepPlans (before after : List Group) : Type 0 where
+  pub shapes : shapes_of after ≡ shapes_of before
+  pub plans : (t i p : ℕ) → HasPlan before t i p → HasPlan after t i p
