@@ -7,3 +7,4 @@ pub mod Firings
 pub mod Makings
 pub mod Listed
 pub mod Everywhere
+pub mod Removals

@@ -10,6 +10,7 @@ mod firing;
 mod groups;
 mod listing;
 mod making;
+mod removing;
 mod rested;
 mod same;
 mod settle;
