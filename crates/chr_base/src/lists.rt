@@ -13,7 +13,7 @@ use crate::atom::Atom;
 use std::alloc::AllocError;
 
 /// How often an atom stands in a list.
-fn count_of(items: &[Atom], atom: &Atom) -> usize
+pub fn count_of(items: &[Atom], atom: &Atom) -> usize
     ensures value { result ≡ count_in atom_cmp atom.now items.now }
     ensures bound { result ≤ length items.now }
 {
@@ -54,7 +54,7 @@ fn index_of(items: &[Atom], atom: &Atom) -> Option<usize>
 }
 
 /// Takes an atom out, where it stands there.
-fn take_out(items: &mut Vec<Atom>, atom: &Atom)
+pub fn take_out(items: &mut Vec<Atom>, atom: &Atom)
     ensures { items.new.items ≡ without atom_cmp atom.now items.old.items }
 {
     if let Some(i) = index_of(items, atom) {

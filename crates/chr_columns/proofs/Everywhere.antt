@@ -1,23 +1,16 @@
 -- Instances among all rows of one table, each row active in turn.
-use Rattle.std.specs.Prelude.{Some, None, Option, IsTrue, is_some}
-use Rattle.std.proofs.Common.{◌≡◌, ℕ, zero, suc, ◌+◌, ◌<◌, ◌≤◌, List, [], ◌∷◌, length, get_or, set, map, refl, sym, ap, subst, ◌∙◌, arith, inl, inr, ◌⊎◌, true}
+use Rattle.std.specs.Prelude.{Some, None, Option}
+use Rattle.std.proofs.Common.{◌≡◌, ℕ, zero, suc, ◌+◌, ◌<◌, List, [], ◌∷◌, length, get_or, set, refl, sym, ap, subst, ◌∙◌, arith, inl, inr}
 use Rattle.std.proofs.Math.ListN.{get_or-map}
-use Rattle.std.proofs.lemmas.List.{length-map, get_or_default, get_or-set_other}
+use Rattle.std.proofs.lemmas.List.{length-map, get_or_default}
 use Rattle.chr_base.specs.declared.atom.Atom.{Atom}
 use Rattle.chr_base.specs.declared.rule.Rule.{Rule}
-use Rattle.chr_base.specs.FinBag.{IsWithin}
-use Rattle.chr_base.specs.Stores.{Store, store_of}
-use Rattle.chr_base.specs.Rules.{heads_of, heads_at, HasNoStep, HasInstance, Valuation, atom_at}
-use Rattle.chr_base.proofs.Atoms.{atom_total}
-use Rattle.chr_base.proofs.FinBags.{count-of_list}
+use Rattle.chr_base.specs.Rules.{heads_of}
 use Rattle.chr_plans.specs.declared.plan.Lookup.{Lookup}
 use Rattle.chr_plans.specs.declared.plan.Partner.{Partner}
 use Rattle.chr_plans.specs.declared.rows.Seat.{Seat}
-use Rattle.chr_plans.specs.Keys.{no_atom}
-use Rattle.chr_plans.specs.Plans.{IsPlan, IsKnown, AreKeys, FitsTables, partners_of, places_of, pattern_at, columns_of, has_shape}
-use Rattle.chr_plans.specs.Seats.{head, seat, no_seat, atom_in, IsSeated, NoPartners}
-use Rattle.chr_actives.specs.Grids.{Grid, contents, rows_in, SitIn}
-use Rattle.chr_actives.proofs.Rows.{seated, count_contents, rows_leave}
+use Rattle.chr_plans.specs.Plans.{IsPlan, IsKnown, AreKeys, FitsTables, partners_of, places_of, columns_of}
+use Rattle.chr_plans.specs.Seats.{atom_in}
 use Rattle.chr_columns.specs.working.Finding.{only_table, only_index, plain, ArePlain}
 
 -- the plan of which nothing is known

@@ -13,3 +13,4 @@ pub mod Listed
 pub mod Everywhere
 pub mod Planned
 pub mod Emptiness
+pub mod Removals

@@ -1,13 +1,12 @@
 -- The atoms in tables as a list, and how often each stands there.
-use Rattle.std.specs.Prelude.{Some, None, Option, IsTrue, is_some}
-use Rattle.std.proofs.Common.{◌≡◌, ℕ, zero, suc, ◌+◌, ◌<◌, ◌≤◌, List, [], ◌∷◌, ◌++◌, map, length, get_or, take, cond, Bool, true, false, refl, sym, ap, ◌∙◌, arith, append_assoc}
-use Rattle.std.specs.List.{flat_map}
+use Rattle.std.specs.Prelude.{Some, None, Option}
+use Rattle.std.proofs.Common.{◌≡◌, ℕ, zero, suc, ◌+◌, List, [], ◌∷◌, ◌++◌, map, get_or, take, cond, Bool, true, false, refl, sym, ap, ◌∙◌, arith, append_assoc}
 use Rattle.std.specs.Ordering.{eq_by_cmp}
 use Rattle.chr_base.specs.declared.atom.Atom.{Atom}
 use Rattle.chr_base.specs.Atoms.{atom_cmp}
-use Rattle.chr_base.specs.FinBag.{◌⊕◌, count_in, empty}
-use Rattle.chr_base.specs.Stores.{Store, store_of, count}
-use Rattle.chr_base.proofs.Atoms.{atom_total, same_is}
+use Rattle.chr_base.specs.FinBag.{◌⊕◌, count_in}
+use Rattle.chr_base.specs.Stores.{store_of}
+use Rattle.chr_base.proofs.Atoms.{same_is}
 use Rattle.chr_base.proofs.FinBags.{of_list-none}
 use Rattle.chr_base.proofs.Stores.{store_of-append, plus_empty}
 use Rattle.chr_tables.specs.Contents.{Contents}

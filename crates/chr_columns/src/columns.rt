@@ -10,7 +10,6 @@ ghost use Rattle.chr_base.specs.Stores.{store_of};
 use crate::listing::bag_of;
 use crate::making::rested_for;
 use crate::own::{find_in, rests_in};
-use crate::removing::{has_all, remove_all};
 use crate::rested::Rested;
 use crate::stepping::step_in;
 use arrayvec::ArrayVec;
@@ -71,7 +70,7 @@ impl Columns {
     pub fn has(&self, atoms: &[Atom]) -> bool
         ensures { IsTrue result ↔ IsWithin (store_of atoms.now) self.now }
     {
-        has_all(&self.rested, &self.fresh, atoms)
+        self.rested.has_all(&self.fresh, atoms)
     }
 
     /// Takes all of these atoms out, or none where as a multiset they are not there. It takes no memory.
@@ -80,7 +79,7 @@ impl Columns {
         ensures taken { OnTrue result (self.new ≡ self.old ⊖ store_of atoms.now) }
         ensures kept { OnFalse result (self.new ≡ self.old) }
     {
-        remove_all(&mut self.rested, &mut self.fresh, atoms)
+        self.rested.remove_all(&mut self.fresh, atoms)
     }
 
     /// The atoms as a bag.
@@ -110,7 +109,7 @@ impl Columns {
         let body = rule.body_of(heads);
         self.fresh.reserve(body.len())?;
         let (_, removed) = heads.split_at(rule.kept.len());
-        remove_all(&mut self.rested, &mut self.fresh, removed);
+        self.rested.remove_all(&mut self.fresh, removed);
         push_all(&mut self.fresh, &body);
         Ok(())
     }

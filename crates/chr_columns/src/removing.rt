@@ -1,30 +1,125 @@
-//! Removing.
-ghost use Rattle.std.specs.Prelude.{◌≡◌, ◌≤◌, ◌↔◌, IsTrue, vec_len, vec_capacity};
+//! Atoms are counted and taken out.
+ghost use Rattle.std.specs.Prelude.{◌≡◌, ◌+◌, ◌<◌, ◌≤◌, ◌^◌, ◌↔◌, ◌∷◌, [], length, get_or, Some, None, IsTrue, IfSome, IfNone};
 ghost use Rattle.std.specs.Bool.{OnTrue, OnFalse};
-ghost use Rattle.chr_base.specs.FinBag.{◌⊕◌, ◌⊖◌, IsWithin};
-ghost use Rattle.chr_base.specs.Stores.{store_of};
+ghost use Rattle.chr_base.specs.declared.atom.Atom.{Atom as AtomValue};
+ghost use Rattle.chr_base.specs.Atoms.{atom_cmp};
+ghost use Rattle.chr_base.specs.FinBag.{◌⊕◌, ◌⊖◌, IsWithin, count_in};
+ghost use Rattle.chr_base.specs.Stores.{store_of, count};
+ghost use Rattle.chr_actives.specs.Actives.{one};
+ghost use Rattle.chr_actives.specs.Grids.{live_atoms};
 ghost use Rattle.chr_columns.specs.working.Resting.{stored, IsRested};
 
-use crate::rested::Rested;
+use crate::groups::table_of;
+use crate::rested::{Rested, kill_all};
 use chr_base::atom::Atom;
+use chr_base::lists::{count_of, take_out};
+use chr_plans::rows::Seat;
+use chr_tables::table::Table;
 
-pub(crate) fn has_all(rested: &Rested, fresh: &[Atom], atoms: &[Atom]) -> bool
-    requires { IsRested rested.now }
-    ensures { IsTrue result ↔ IsWithin (store_of atoms.now) (stored rested.now ⊕ store_of fresh.now) }
+/// How many live rows of a table have an atom.
+fn count_rows(table: &Table, atom: &Atom) -> usize
+    ensures { result ≡ count_in atom_cmp atom.now (live_atoms table.now.rows) }
 {
-    true
+    let mut count = 0;
+    for row in 0..table.len() {
+        if let Some(other) = table.get(row) {
+            if atom.is_same(&other) {
+                count += 1;
+            }
+        }
+    }
+    count
 }
 
-pub(crate) fn remove_all(rested: &mut Rested, fresh: &mut Vec<Atom>, atoms: &[Atom]) -> bool
-    requires { IsRested rested.old }
-    ensures rested { IsRested rested.new }
-    ensures there { IsTrue result ↔ IsWithin (store_of atoms.now) (stored rested.old ⊕ store_of fresh.old.items) }
-    ensures taken { OnTrue result (stored rested.new ⊕ store_of fresh.new.items
-        ≡ (stored rested.old ⊕ store_of fresh.old.items) ⊖ store_of atoms.now) }
-    ensures kept { OnFalse result
-        (stored rested.new ⊕ store_of fresh.new.items ≡ stored rested.old ⊕ store_of fresh.old.items) }
-    ensures len { vec_len fresh.new ≤ vec_len fresh.old }
-    ensures capacity { vec_capacity fresh.new ≡ vec_capacity fresh.old }
+/// A row that has an atom.
+fn row_of(table: &Table, atom: &Atom) -> Option<usize>
+    ensures found { IfSome result (λ row. get_or table.now.rows row None ≡ Some atom.now) }
+    ensures none { IfNone result (count_in atom_cmp atom.now (live_atoms table.now.rows) ≡ 0) }
 {
-    true
+    for row in 0..table.len() {
+        if let Some(other) = table.get(row) {
+            if atom.is_same(&other) {
+                return Some(row);
+            }
+        }
+    }
+    None
+}
+
+impl Rested {
+    /// How often an atom is among those at rest.
+    fn count_at_rest(&self, atom: &Atom) -> usize
+        requires { IsRested self.now }
+        ensures { result ≡ count (stored self.now) atom.now }
+    {
+        let table = table_of(&self.groups, atom.symbol, atom.args.len());
+        count_rows(&self.tables.tables[table], atom)
+    }
+
+    /// Takes one such atom out; false, and nothing changes, where there is none.
+    fn remove_one(&mut self, atom: &Atom) -> bool
+        requires { IsRested self.old }
+        ensures rested { IsRested self.new }
+        ensures rules { self.new.rules ≡ self.old.rules }
+        ensures taken { OnTrue result (stored self.new ⊕ one atom.now ≡ stored self.old) }
+        ensures none { OnFalse result (count (stored self.old) atom.now ≡ 0) }
+        ensures same { OnFalse result (self.new ≡ self.old) }
+    {
+        let table = table_of(&self.groups, atom.symbol, atom.args.len());
+        let Some(row) = row_of(&self.tables.tables[table], atom) else {
+            return false;
+        };
+        kill_all(&mut self.tables, &[Seat { table, row }]);
+        true
+    }
+
+    /// Whether all of these atoms are there, as a multiset, at rest or fresh. It takes no memory.
+    pub(crate) fn has_all(&self, fresh: &[Atom], atoms: &[Atom]) -> bool
+        requires { IsRested self.now }
+        ensures { IsTrue result ↔ IsWithin (store_of atoms.now) (stored self.now ⊕ store_of fresh.now) }
+    {
+        for atom in atoms {
+            let wanted = count_of(atoms, atom);
+            let found = count_of(fresh, atom);
+            if found < wanted && self.count_at_rest(atom) < wanted - found {
+                return false;
+            }
+        }
+        true
+    }
+
+    /// Takes one such atom out, at rest or fresh, where there is one.
+    fn take_one(&mut self, fresh: &mut Vec<Atom>, atom: &Atom)
+        requires { IsRested self.old }
+        ensures rested { IsRested self.new }
+        ensures rules { self.new.rules ≡ self.old.rules }
+        ensures left { stored self.new ⊕ store_of fresh.new.items
+            ≡ (stored self.old ⊕ store_of fresh.old.items) ⊖ one atom.now }
+    {
+        if !self.remove_one(atom) {
+            take_out(fresh, atom);
+        }
+    }
+
+    /// Takes all of these atoms out, at rest or fresh, or none where as a multiset they are not there. It takes no
+    /// memory.
+    pub(crate) fn remove_all(&mut self, fresh: &mut Vec<Atom>, atoms: &[Atom]) -> bool
+        requires { IsRested self.old }
+        ensures rested { IsRested self.new }
+        ensures rules { self.new.rules ≡ self.old.rules }
+        ensures there { IsTrue result ↔
+            IsWithin (store_of atoms.now) (stored self.old ⊕ store_of fresh.old.items) }
+        ensures taken { OnTrue result (stored self.new ⊕ store_of fresh.new.items
+            ≡ (stored self.old ⊕ store_of fresh.old.items) ⊖ store_of atoms.now) }
+        ensures kept { OnFalse result (stored self.new ⊕ store_of fresh.new.items
+            ≡ stored self.old ⊕ store_of fresh.old.items) }
+    {
+        if !self.has_all(fresh, atoms) {
+            return false;
+        }
+        for atom in atoms {
+            self.take_one(fresh, atom);
+        }
+        true
+    }
 }
