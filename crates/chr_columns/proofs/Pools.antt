@@ -1,7 +1,7 @@
 -- The store of a pool: what is at rest and what is fresh.
-use Rattle.std.proofs.Common.{◌≡◌, List, [], ◌++◌, map, length, drop, refl, sym, ap, subst, ◌∙◌}
+use Rattle.std.proofs.Common.{◌≡◌, List, [], ◌++◌, map, length, drop, refl, arith, sym, ap, subst, ◌∙◌}
 use mathlib.Core.Bool.{true≢false}
-use Rattle.std.specs.Prelude.{Result, Ok, Err, IfOk, OnErr, is_err, Bool, true, false, IsTrue, ◌↔◌}
+use Rattle.std.specs.Prelude.{Result, Ok, Err, IfOk, OnOk, OnErr, is_err, Bool, true, false, IsTrue, ◌↔◌}
 use Rattle.std.specs.Bool.{OnTrue, OnFalse}
 use Rattle.std.proofs.lemmas.Bool.{OnTrue_at}
 use Rattle.chr_base.specs.declared.atom.Atom.{Atom}
@@ -13,7 +13,7 @@ use Rattle.chr_base.specs.Rewriting.{IsAtRest}
 use Rattle.chr_base.specs.Rules.{Step, StepOn, HasInstance, Valuation, heads_at, atoms_at}
 use Rattle.chr_base.specs.Sameness.{parts_of}
 use Rattle.chr_base.specs.Stores.{Store, store_of}
-use Rattle.chr_base.proofs.Stores.{plus_comm, plus_assoc, plus_empty, store_of-append}
+use Rattle.chr_base.proofs.Stores.{same_store, count_plus, count_minus, within_more, plus_comm, plus_assoc, plus_empty, store_of-append}
 use Rattle.chr_base.proofs.SameSteps.{same_step}
 use Rattle.chr_base.proofs.Steps.{removed_heads, removed_within}
 use Rattle.chr_tables.specs.Contents.{Contents}
@@ -34,6 +34,10 @@ nothing s xs e f = (λ i. e i ⊕ store_of (f i)) ∙ ap (λ t. empty ⊕ t) no_
 
 pub inserted : (s : Store) (xs ys zs : List Atom) → zs ≡ xs ++ ys → s ⊕ store_of zs ≡ (s ⊕ store_of xs) ⊕ store_of ys
 inserted s xs ys zs e = ap (λ l. s ⊕ store_of l) e ∙ ap (λ t. s ⊕ t) (store_of-append xs ys) ∙ sym (plus_assoc s (store_of xs) (store_of ys))
+
+pub inserted_ok : {A E : Type 0} (o : Result A E) (s : Store) (xs ys zs : List Atom) → OnOk o (zs ≡ xs ++ ys) → OnOk o (s ⊕ store_of zs ≡ (s ⊕ store_of xs) ⊕ store_of ys)
+inserted_ok (Ok x) s xs ys zs e = inserted s xs ys zs e
+inserted_ok (Err x) s xs ys zs e = e
 
 -- all atoms at rest became fresh
 pub all_fresh : (s : Store) (ts : List Contents) (xs ys : List Atom) → s ≡ empty → ys ≡ xs ++ live_in ts → s ⊕ store_of ys ≡ contents (grid ts) ⊕ store_of xs
@@ -60,14 +64,27 @@ told_rest rules (Ok true) s t h rest none = absurd (rest t h)
 told_rest rules (Ok false) s t h rest none = refl
 told_rest rules (Err x) s t h rest none = absurd (none refl)
 
--- the removed heads left, and the body came in
+-- what leaves may leave after something else came in
+leaves_later : (s gone came : Store) → IsWithin gone s → (s ⊕ came) ⊖ gone ≡ (s ⊖ gone) ⊕ came
+leaves_later s gone came w = same_store _ _ (λ q. (
+    let a = count_minus (s ⊕ came) gone q in
+    let b = count_plus s came q in
+    let c = count_plus (s ⊖ gone) came q in
+    let d = count_minus s gone q in
+    let e = w q in
+    omega (arith, a, b, c, d, e)))
+
+-- the body came in, and the removed heads left
 pub fired_in : (r : Rule) (heads gone body : List Atom) (s t u : Store) (b : Bool) → HasInstance r heads → IsWithin (store_of heads) s → gone ≡ drop (length r.kept.items) heads
-    → IsTrue b ↔ IsWithin (store_of gone) s → OnTrue b (t ≡ s ⊖ store_of gone) → ((v : Valuation) → heads_at v r ≡ heads → body ≡ atoms_at v r.body.items)
-    → u ≡ t ⊕ store_of body → StepOn r heads s u
-fired_in r heads gone body s t u b h w is there taken made came =
+    → t ≡ s ⊕ store_of body → ((v : Valuation) → heads_at v r ≡ heads → body ≡ atoms_at v r.body.items)
+    → IsTrue b ↔ IsWithin (store_of gone) t → OnTrue b (u ≡ t ⊖ store_of gone) → StepOn r heads s u
+fired_in r heads gone body s t u b h w is came made there taken =
     let v = h.0 in
-    let left : t ≡ s ⊖ store_of (atoms_at v r.removed.items) = OnTrue_at (there.1 (rw is (removed_within r heads s h w))) taken ∙ ap (λ as'. s ⊖ store_of as') (is ∙ removed_heads r heads v h.1) in
-    (v, h.1, record { guard = h.2; there = rw h.1 w; after = came ∙ (λ i. left i ⊕ store_of (made v h.1 i)) })
+    let within : IsWithin (store_of gone) s = rw is (removed_within r heads s h w) in
+    let within' : IsWithin (store_of gone) t = rw came (within_more (store_of gone) s (store_of body) within) in
+    let removed : gone ≡ atoms_at v r.removed.items = is ∙ removed_heads r heads v h.1 in
+    let after = OnTrue_at (there.1 within') taken ∙ ap (λ x. x ⊖ store_of gone) came ∙ leaves_later s (store_of gone) (store_of body) within in
+    (v, h.1, record { guard = h.2; there = rw h.1 w; after = after ∙ (λ i. (s ⊖ store_of (removed i)) ⊕ store_of (made v h.1 i)) })
 
 -- what joined those at rest, and what waits for other rules, has not fired
 pub joined_unfired : {E : Type 0} (o : Result Outcome E) → o ≡ Ok AtRest → o ≡ Ok Fired → ⊥

@@ -50,7 +50,7 @@ module _ (ts : List Contents) (t : ℕ) (x : Contents) (within : t < length ts) 
   row_at n a e = ap (λ (c : Contents). get_or c.rows n None) it ∙ e
 
   -- an atom is counted in its table
-  pub counted_here : (rules : List Rule) (groups : List Group) (a : Atom) → t ≡ table_of_atom groups a → IsSetUp rules groups (rows_of ts) (columns_of ts)
+  pub counted_here : (rules : List Rule) (groups : List Group) (a : Atom) → t ≡ table_of_atom groups a → IsSetUp rules groups (rows_of ts) (columns_of ts) (length ts)
       → count (contents (grid ts)) a ≡ count_in atom_cmp a (live_atoms x.rows)
   counted_here rules groups a e up =
       count_contents a (grid ts)

@@ -16,7 +16,7 @@ use arrayvec::ArrayVec;
 use chr_base::atom::Atom;
 use chr_base::bag::Bag;
 use chr_base::limits::MAX_HEADS;
-use chr_base::lists::push_all;
+use chr_base::lists::push_copies;
 use chr_base::rule::Rule;
 use std::alloc::{AllocError, Global};
 use std::marker::Model;
@@ -61,9 +61,7 @@ impl Columns {
         ensures ok { OnOk result (self.new ≡ self.old ⊕ store_of atoms.now) }
         ensures err { OnErr result (self.new ≡ self.old) }
     {
-        self.fresh.reserve(atoms.len())?;
-        push_all(&mut self.fresh, atoms);
-        Ok(())
+        push_copies(&mut self.fresh, atoms)
     }
 
     /// Whether all of these atoms are there, as a multiset. It takes no memory.
@@ -106,11 +104,9 @@ impl Columns {
         ensures ok { OnOk result (StepOn rule.now heads.now self.old self.new) }
         ensures err { OnErr result (self.new ≡ self.old) }
     {
-        let body = rule.body_of(heads);
-        self.fresh.reserve(body.len())?;
+        push_copies(&mut self.fresh, &rule.body_of(heads))?;
         let (_, removed) = heads.split_at(rule.kept.len());
         self.rested.remove_all(&mut self.fresh, removed);
-        push_all(&mut self.fresh, &body);
         Ok(())
     }
 

@@ -7,10 +7,10 @@ use Rattle.chr_columns.proofs.columns.Columns.fire.Goals as goal
 
 pub returns-clause-ok : goal.returns-clause-ok
 returns-clause-ok c =
-    let gone : c.split_at.result.1.now ≡ drop (length c.args.rule.now.kept.items) c.args.heads.now = c.split_at.ensures.back ∙ ap (λ n. drop n c.args.heads.now) c.len-2.ensures.value in
-    let before : store_of c.reserve.new.self.items ≡ store_of c.self.inside.fresh.items = ap store_of c.reserve.ensures.items in
-    rw (← c.self.view_is, ← before) (fired_in c.args.rule.now c.args.heads.now c.split_at.result.1.now c.body_of-body.result.items
-    (stored c.self.inside.rested ⊕ store_of c.reserve.new.self.items) (stored c.remove_all.new.rested ⊕ store_of c.remove_all.new.fresh.items) _ c.remove_all.result
-    c.requires.instance (rw (before, c.self.view_is) c.requires.there) gone c.remove_all.ensures.there c.remove_all.ensures.taken c.body_of-body.ensures
-    (inserted (stored c.remove_all.new.rested) c.remove_all.new.fresh.items c.body_of-body.result.items c.push_all.new.items.items
-    (c.push_all.ensures.items ∙ ap (λ xs. c.remove_all.new.fresh.items ++ xs) c.deref.ensures.0)))
+    let s = stored c.self.inside.rested in
+    let gone : c.split_at.result.1.now ≡ drop (length c.args.rule.now.kept.items) c.args.heads.now = c.split_at.ensures.back ∙ ap (λ n. drop n c.args.heads.now) c.len.ensures.value in
+    let came = inserted s c.self.inside.fresh.items c.body_of.result.items c.push_copies.new.items.items
+    (c.in_ok-push_copies.ensures.ok ∙ ap (λ xs. c.self.inside.fresh.items ++ xs) c.deref.ensures.0) in
+    rw (← c.self.view_is) (fired_in c.args.rule.now c.args.heads.now c.split_at.result.1.now c.body_of.result.items
+    (s ⊕ store_of c.self.inside.fresh.items) (s ⊕ store_of c.push_copies.new.items.items) _ c.remove_all.result
+    c.requires.instance (rw c.self.view_is c.requires.there) gone came c.body_of.ensures c.remove_all.ensures.there c.remove_all.ensures.taken)
