@@ -6,5 +6,5 @@ pub mod Putting
 pub mod Firings
 pub mod Makings
 pub mod Listed
-pub mod Everywhere
+pub mod Turns
 pub mod Removals

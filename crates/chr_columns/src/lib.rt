@@ -6,8 +6,10 @@
 #![tactic(auto)]
 
 pub mod columns;
+mod everywhere;
 mod firing;
 mod groups;
+mod instances;
 mod listing;
 mod making;
 mod removing;
