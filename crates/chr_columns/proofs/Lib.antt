@@ -13,4 +13,5 @@ pub mod Listed
 pub mod Everywhere
 pub mod Planned
 pub mod Emptiness
+pub mod Turns
 pub mod Removals

@@ -4,10 +4,12 @@
 //! Some atoms are at rest, and sit in rows; the others are fresh. A step takes a fresh atom and looks for its partners
 //! in the rows by plans. Where it has some, the rule fires; where it has none, the atom joins the rows.
 #![tactic(auto)]
+
 pub mod columns;
-mod find;
+mod everywhere;
 mod firing;
 mod groups;
+mod instances;
 mod listing;
 mod making;
 mod own;

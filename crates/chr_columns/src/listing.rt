@@ -1,7 +1,7 @@
 //! The atoms in tables, and fresh atoms, as one list.
-ghost use Rattle.std.specs.Prelude.{◌≡◌, ◌++◌, IfOk, OnOk, OnErr};
+ghost use Rattle.std.specs.Prelude.{◌≡◌, ◌+◌, ◌*◌, ◌<◌, ◌≤◌, ◌^◌, ◌++◌, length, get_or, None, IfOk, OnOk, OnErr};
 ghost use Rattle.chr_actives.specs.Grids.{live_atoms};
-ghost use Rattle.chr_columns.specs.working.Listing.{live_in, all_of};
+ghost use Rattle.chr_columns.specs.working.Listing.{live_in, rows_in_turn, all_of};
 
 use chr_base::atom::Atom;
 use chr_base::bag::Bag;
@@ -49,4 +49,31 @@ pub(crate) fn bag_of(alloc: Global, tables: &[Table], fresh: &[Atom]) -> Result<
     push_live(&mut atoms, tables)?;
     push_copies(&mut atoms, fresh)?;
     Bag::of(atoms)
+}
+
+/// How many rows there are: those of the tables, dead ones among them, and one for each fresh atom.
+pub(crate) fn row_count(tables: &[Table], fresh: &[Atom]) -> usize
+    requires { length tables.now * 2 ^ 32 + length fresh.now < 2 ^ 64 }
+    ensures rows { result ≡ length (rows_in_turn tables.now fresh.now) }
+    ensures few { result ≤ length tables.now * 2 ^ 32 + length fresh.now }
+{
+    let [table, tables @ ..] = tables else {
+        return fresh.len();
+    };
+    table.len() + row_count(tables, fresh)
+}
+
+/// The atom of one of these rows, where it lives. They are numbered from table to table, and then over the fresh atoms.
+pub(crate) fn atom_at(tables: &[Table], fresh: &[Atom], row: usize) -> Option<Atom>
+    ensures { result ≡ get_or (rows_in_turn tables.now fresh.now) row None }
+{
+    let [table, tables @ ..] = tables else {
+        return fresh.get(row).map(|atom| atom.copy());
+    };
+    let rows = table.len();
+    if row < rows {
+        table.get(row)
+    } else {
+        atom_at(tables, fresh, row - rows)
+    }
 }

@@ -8,7 +8,7 @@ ghost use Rattle.chr_base.specs.Stores.{store_of};
 ghost use Rattle.chr_columns.specs.working.Resting.{stored, IsRested};
 ghost use Rattle.chr_columns.specs.working.Own.{IsOwn};
 
-use crate::find::find_among;
+use crate::instances::find_among;
 use crate::rested::Rested;
 use arrayvec::ArrayVec;
 use chr_base::atom::Atom;
