@@ -10,7 +10,6 @@ pub mod Owning
 pub mod Slices
 pub mod Grouping
 pub mod Listed
-pub mod Everywhere
 pub mod Planned
 pub mod Emptiness
 pub mod Turns
