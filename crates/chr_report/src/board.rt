@@ -17,10 +17,10 @@ use chr_base::atom::Atom;
 use chr_base::bag::Bag;
 use chr_base::program::Program;
 use chr_base::text::store_text;
+use chr_columns::columns::Columns;
 use chr_join::Accepted;
 use chr_json::{Command, LineFault, RawAtom, read_line};
 use chr_ops::{AddFault, Added, Op, OpId, OpSet};
-use chr_rewrite::list::ListPool;
 use chr_rewrite::pool::Pool;
 use chr_rewrite::resting::rest;
 use std::alloc::{AllocError, Global};
@@ -30,7 +30,7 @@ use std::alloc::{AllocError, Global};
 pub(crate) struct Board {
     pub accepted: Accepted,
     pub ops: OpSet,
-    pub pool: ListPool,
+    pub pool: Columns,
 }
 
 /// The atoms of a line. None where the program doesn't declare one of them.
@@ -54,16 +54,17 @@ fn resolve(
 
 impl Board {
     /// The replica that was told nothing.
-    pub(crate) fn new(alloc: Global, accepted: Accepted) -> Board
-        ensures reached { IsReached result }
-        ensures program { result.accepted ≡ accepted }
-        ensures operations { result.ops ≡ finite.empty }
+    pub(crate) fn new(alloc: Global, accepted: Accepted) -> Result<Board, AllocError>
+        ensures reached { IfOk result IsReached }
+        ensures program { IfOk result (λ board. board.accepted ≡ accepted) }
+        ensures operations { IfOk result (λ board. board.ops ≡ finite.empty) }
     {
-        Board {
+        let pool = Columns::new(alloc, accepted.program().rules())?;
+        Ok(Board {
             accepted,
             ops: OpSet::new(alloc),
-            pool: ListPool::new(alloc),
-        }
+            pool,
+        })
     }
 
     /// Rests the pool.

@@ -64,7 +64,7 @@ fn answer_program(
 {
     let rules = accepted.program().rules().len();
     let mut text = accepted_line(alloc, rules, accepted.cases())?;
-    let mut board = Board::new(alloc, accepted);
+    let mut board = Board::new(alloc, accepted)?;
     answer_commands(alloc, &mut board, commands, &mut text)?;
     Ok(text)
 }

@@ -6,4 +6,4 @@ use Rattle.chr_report.proofs.running.answer_program.Goals as goal
 
 pub returns : goal.returns
 returns c =
-    program_answered c.args.accepted c.new-board.result.accepted (lines_left c.args.commands) _ _ c.new-board.result.ops _ _ c.requires c.new-board.ensures.program (ap length c.rules-rules.ensures ∙ ap (λ p. length (rules_of p)) c.program.ensures) c.cases.ensures.number c.in_ok-text.ensures c.new-board.ensures.operations c.in_ok-answer_commands.ensures
+    program_answered c.args.accepted c.in_ok-board.board.accepted (lines_left c.args.commands) _ _ c.in_ok-board.board.ops _ _ c.requires c.in_ok-board.ensures.program (ap length c.rules-rules.ensures ∙ ap (λ p. length (rules_of p)) c.program.ensures) c.cases.ensures.number c.in_ok-text.ensures c.in_ok-board.ensures.operations c.in_ok-answer_commands.ensures

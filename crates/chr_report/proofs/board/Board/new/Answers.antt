@@ -7,4 +7,4 @@ use Rattle.chr_report.proofs.Boards.{nothing_reached}
 use Rattle.chr_report.proofs.board.Board.new.Goals as goal
 
 pub returns-clause-reached : goal.returns-clause-reached
-returns-clause-reached c = nothing_reached (rules_of (program_in c.args.accepted)) _ _ (ap told_store c.new.ensures ∙ told_store-empty) c.new-2.ensures
+returns-clause-reached c = nothing_reached (rules_of (program_in c.args.accepted)) _ _ (ap told_store c.new-2.ensures ∙ told_store-empty) c.in_ok-pool.ensures
