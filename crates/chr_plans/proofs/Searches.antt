@@ -65,7 +65,7 @@ module _ (r : Rule) (p : ℕ) (lookups : List Lookup) (n : ℕ) (l : Lookup) (ro
       fits.table n l (seat ss l.partner.place).table (seat ss l.partner.place).row (head hs l.partner.place) left here there
       (shape_known r s.instance.0 l.partner.place hs s.instance.1) in
       let key : key_of (columns_of l.partner.key.items) (head hs l.partner.place) ≡ map (λ k. source_value heads k.source) l.partner.key.items =
-      key_known r s.instance.0 (looked_in lookups) p n l.partner.place hs heads ss seats l.partner.key.items s.instance.1 same
+      key_known r (looked_in lookups) p n l.partner.place hs heads ss seats l.partner.key.items s.instance same
       (plan.keys n l.partner (within n left) (partner_is lookups n l left here)) in (
         table,
         (

@@ -1,9 +1,12 @@
 -- The plan that is made: which arguments are known, and which partner is next.
-use Rattle.std.specs.Prelude.{◌≡◌, ℕ, ◌+◌, ◌<◌, ◌≤◌, List, [], ◌∷◌, length, get_or, take, Option, Some, None, option_map, if◌then◌else◌, Bool, false, nat_eq}
+use Rattle.std.specs.Prelude.{◌≡◌, ℕ, ◌+◌, ◌<◌, ◌≤◌, List, [], ◌∷◌, length, get_or, take, Option, Some, None, option_map, if◌then◌else◌, Bool, true, false, nat_eq}
 use Rattle.std.specs.List.{list_any}
-use Rattle.std.specs.Option.{option_or}
+use Rattle.std.specs.Option.{option_or, option_and_then}
 use Rattle.chr_base.specs.declared.term.Term.{Term}
 use Rattle.chr_base.specs.declared.term.Term.TheVariants as term
+use Rattle.chr_base.specs.declared.term.Cmp.{Cmp}
+use Rattle.chr_base.specs.declared.term.Cmp.TheVariants.{Less, AtMost, Greater, AtLeast, Equal, NotEqual}
+use Rattle.chr_base.specs.declared.term.Comparison.{Comparison}
 use Rattle.chr_base.specs.declared.rule.Rule.{Rule}
 use Rattle.chr_base.specs.Rules.{heads_of}
 use Rattle.chr_base.specs.RuleTests.{is_variable}
@@ -22,15 +25,44 @@ abbrev pub column_of : List Term → ℕ → ℕ → Option ℕ
 column_of [] x column = None
 column_of (t ∷ ts) x column = if is_variable x t then Some column else column_of ts x (column + 1)
 
+-- the comparison sign for equal values
+abbrev pub is_equal : Cmp → Bool
+is_equal Less = false
+is_equal AtMost = false
+is_equal Greater = false
+is_equal AtLeast = false
+is_equal Equal = true
+is_equal NotEqual = false
+
 -- where the variable first stands in the heads at these places
 abbrev pub variable_source : Rule → List ℕ → ℕ → Option Source
 variable_source r [] x = None
 variable_source r (q ∷ known) x =
     option_or (option_map (λ c. Argument q c) (column_of (pattern_at r q).args.items x 0)) (variable_source r known x)
 
--- where the value of a term comes from, when the heads at these places are known
+-- where the value of a term stands, when the heads at these places are known
+abbrev pub direct_source : Rule → List ℕ → Term → Option Source
+direct_source r known (term.Variable x) = variable_source r known x
+direct_source r known (term.Constant c) = Some (Constant c)
+
+-- the one of two terms beside which the other is the variable
+abbrev pub beside : ℕ → Term → Term → Option Term
+beside x t u = if is_variable x t then Some u else (if is_variable x u then Some t else None)
+
+-- the term that a comparison says a variable equals
+abbrev pub equal_to : ℕ → Comparison → Option Term
+equal_to x c = if is_equal c.cmp then beside x c.left c.right else None
+
+-- where a term stands that one of the comparisons says a variable equals
+abbrev pub equal_source : Rule → List ℕ → ℕ → List Comparison → Option Source
+equal_source r known x [] = None
+equal_source r known x (c ∷ cs) =
+    option_or (option_and_then (direct_source r known) (equal_to x c)) (equal_source r known x cs)
+
+-- where the value of a term comes from: a head that is known has it, or a term that the guard says it equals
 abbrev pub term_source : Rule → List ℕ → Term → Option Source
-term_source r known (term.Variable x) = variable_source r known x
+term_source r known (term.Variable x) =
+    option_or (variable_source r known x) (equal_source r known x r.guard.items)
 term_source r known (term.Constant c) = Some (Constant c)
 
 -- one key more, where the source is known

@@ -8,7 +8,7 @@ use arrayvec::ArrayVec;
 use chr_base::atom::{Atom, SymbolId};
 use chr_base::limits::MAX_ARITY;
 use chr_base::rule::Rule;
-use chr_base::term::{Pattern, Term};
+use chr_base::term::{Cmp, Comparison, Pattern, Term};
 use std::test::Fail;
 
 fn atom(symbol: u16, values: &[i64]) -> Atom {
@@ -179,5 +179,59 @@ fn the_first_place_comes_first(rt: HostRuntime) -> Result<(), Fail> {
     assert!(rt; plan[0].key.as_slice() == [argument(0, 2, 0)].as_slice());
     assert_eq!(rt; plan[1].place, 1);
     assert!(rt; plan[1].key.as_slice() == [argument(0, 2, 1)].as_slice());
+    Ok(())
+}
+
+/// `a(X) \ a(Y), b(Z, W) <=> X =:= Y, 7 =:= Z, W < Y | true`, where `a` and `b` are the first and second symbol.
+#[tactic(auto, unfolding(chr_base::specs::RuleTests::is_in_bounds))]
+fn equations() -> Rule
+    ensures { length (heads_of result) ≡ 3 }
+{
+    let x = Term::Variable(1);
+    let y = Term::Variable(2);
+    let z = Term::Variable(3);
+    let w = Term::Variable(4);
+    let mut kept = ArrayVec::new();
+    kept.push(pattern(0, &[x]));
+    let mut removed = ArrayVec::new();
+    removed.push(pattern(0, &[y]));
+    removed.push(pattern(1, &[z, w]));
+    let mut guard = ArrayVec::new();
+    guard.push(Comparison {
+        left: x,
+        cmp: Cmp::Equal,
+        right: y,
+    });
+    guard.push(Comparison {
+        left: Term::Constant(7),
+        cmp: Cmp::Equal,
+        right: z,
+    });
+    guard.push(Comparison {
+        left: w,
+        cmp: Cmp::Less,
+        right: y,
+    });
+    Rule {
+        name: None,
+        kept,
+        removed,
+        guard,
+        body: ArrayVec::new(),
+    }
+}
+
+#[test]
+fn the_guard_gives_keys(rt: HostRuntime) -> Result<(), Fail> {
+    let first = plan_of(&equations(), 0);
+    assert_eq!(rt; first.len(), 2);
+    assert_eq!(rt; first[0].place, 1);
+    assert!(rt; first[0].key.as_slice() == [argument(0, 0, 0)].as_slice());
+    assert_eq!(rt; first[1].place, 2);
+    assert!(rt; first[1].key.as_slice() == [constant(0, 7)].as_slice());
+    let second = plan_of(&equations(), 1);
+    assert_eq!(rt; second.len(), 2);
+    assert_eq!(rt; second[0].place, 0);
+    assert!(rt; second[0].key.as_slice() == [argument(0, 1, 0)].as_slice());
     Ok(())
 }
