@@ -21,10 +21,11 @@ use Rattle.chr_base.specs.Rules.{Valuation, heads_of, heads_at, term_value, comp
 use Rattle.chr_base.specs.RuleTests.{is_variable}
 use Rattle.chr_plans.specs.declared.key.Source.{Source}
 use Rattle.chr_plans.specs.declared.key.Source.TheVariants.{Constant, Argument}
+use Rattle.chr_plans.specs.declared.key.Test.{Test}
 use Rattle.chr_plans.specs.declared.plan.Partner.{Partner}
-use Rattle.chr_plans.specs.Keys.{source_value}
-use Rattle.chr_plans.specs.Plans.{pattern_at, places_of, IsKnown, IsReady, IsSource, AreKeys, IsPlan}
-use Rattle.chr_plans.specs.Planning.{is_in, column_of, variable_source, direct_source, is_equal, beside, equal_to, equal_source, term_source, with_key, keys_from, IsLongest, AreLongest}
+use Rattle.chr_plans.specs.Keys.{source_value, passes}
+use Rattle.chr_plans.specs.Plans.{pattern_at, places_of, IsKnown, IsReady, IsSource, AreKeys, IsTest, AreTests, IsPlan}
+use Rattle.chr_plans.specs.Planning.{is_in, column_of, variable_source, direct_source, is_equal, beside, equal_to, equal_source, term_source, with_key, keys_from, test_by, test_of, with_test, tests_from, IsLongest, AreLongest}
 use Rattle.chr_plans.specs.working.Choosing.{ArePlaces}
 use Rattle.chr_plans.proofs.Values.{term_at, no_term, argument_value}
 use Rattle.chr_plans.proofs.Distinct.{in_list, in_take, place_at, apart, few, distinct_more, places_more}
@@ -161,6 +162,39 @@ keys_sound r places p n q c (t ∷ ts) are =
     by None e rest = rest
     by (Some s) e rest = let is = term_sound r places p n t s e in (is.0, is_source s is, rest)
 
+test_sound : (r : Rule) (places : List ℕ) (p n : ℕ) (c : Comparison) (t : Test) → ((v : Valuation) → guard_holds v r.guard.items ≡ true → comparison_holds v c ≡ true)
+    → test_of r (p ∷ take n places) c ≡ Some t → IsReady places p n t.left × IsReady places p n t.right × IsTest r t
+test_sound r places p n c t holds e = by (direct_source r (p ∷ take n places) c.left) refl (direct_source r (p ∷ take n places) c.right) refl e
+  where
+    by : (o : Option Source) → direct_source r (p ∷ take n places) c.left ≡ o → (o' : Option Source) → direct_source r (p ∷ take n places) c.right ≡ o' → test_by c.cmp o o' ≡ Some t
+        → IsReady places p n t.left × IsReady places p n t.right × IsTest r t
+    by None f o' g h = absurd (let z : ◌≡◌ {A = Option Test} None (Some t) = h in cc)
+    by (Some s) f None g h = absurd (let z : ◌≡◌ {A = Option Test} None (Some t) = h in cc)
+    by (Some s) f (Some s') g h =
+        let left = direct_sound r places p n c.left s f in
+        let right = direct_sound r places p n c.right s' g in
+        subst (λ x. IsReady places p n x.left × IsReady places p n x.right × IsTest r x) (same_Some _ t h) (
+          left.0,
+          right.0,
+          λ heads i. (
+              subst (λ hs. passes hs (record { left = s; cmp = c.cmp; right = s' }) ≡ true) i.1
+              ((λ j. compares c.cmp (int_cmp (left.1 i.0 i.2 j) (right.1 i.0 i.2 j))) ∙ holds i.0 i.2)),
+        )
+
+tests_sound : (r : Rule) (places before : List ℕ) (p n : ℕ) (cs : List Comparison) → ((v : Valuation) → guard_holds v r.guard.items ≡ true → guard_holds v cs ≡ true)
+    → AreTests r places p n (tests_from r before (p ∷ take n places) cs)
+tests_sound r places before p n [] holds = tt
+tests_sound r places before p n (c ∷ cs) holds =
+    by (test_of r before c) (test_of r (p ∷ take n places) c) refl (tests_sound r places before p n cs (λ v g. (and_parts (comparison_holds v c) _ (holds v g)).1))
+  where
+    by : (old new : Option Test) → test_of r (p ∷ take n places) c ≡ new → AreTests r places p n (tests_from r before (p ∷ take n places) cs)
+        → AreTests r places p n (with_test old new (tests_from r before (p ∷ take n places) cs))
+    by (Some t) new e rest = rest
+    by None None e rest = rest
+    by None (Some t) e rest =
+        let is = test_sound r places p n c t (λ v g. (and_parts (comparison_holds v c) _ (holds v g)).0) e in
+        (is.0, is.1, is.2, rest)
+
 -- ---- the list of partners
 
 -- one more partner, when the ones before it are known
@@ -186,6 +220,7 @@ is_plan r p ps longest distinct places all = record {
   others = λ j l e. apart (p ∷ places_of ps) 0 (suc j) distinct (omega arith) (omega (arith, m, l)) (sym e);
   once = λ i j h l e. apart (p ∷ places_of ps) (suc i) (suc j) distinct (omega (arith, h)) (omega (arith, m, l)) e;
   keys = λ j l h here. (rw (longest j l h here).key (keys_sound r (places_of ps) p j l.place 0 (pattern_at r l.place).args.items (λ k g. ap (term_at r l.place) (omega arith))));
+  tests = λ j l h here. (rw (longest j l h here).tests (tests_sound r (places_of ps) _ p j r.guard.items (λ v g. g)));
 }
   where
     m : length (places_of ps) ≡ length ps

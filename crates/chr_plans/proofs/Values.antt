@@ -1,6 +1,8 @@
--- What an instance's heads have in common with those that are known: the values of a key.
+-- What an instance's heads have in common with those that are known: the values of a key, and tests.
 use Rattle.std.proofs.Common.{◌≡◌, ℕ, List, [], ◌∷◌, map, length, get_or, true, refl, sym, ap, ◌∙◌}
 use Rattle.std.specs.Prelude.{pos}
+use Rattle.std.specs.List.{list_all}
+use Rattle.std.specs.Ordering.{int_cmp}
 use Rattle.std.proofs.Math.ListN.{get_or-map}
 use Rattle.std.proofs.lemmas.List.{length-map}
 use Rattle.std.proofs.lemmas.Bool.{and_from, eq-eqb}
@@ -9,14 +11,15 @@ use Rattle.chr_base.specs.declared.term.Term.{Term}
 use Rattle.chr_base.specs.declared.term.Term.TheVariants as term
 use Rattle.chr_base.specs.declared.term.Pattern.{Pattern}
 use Rattle.chr_base.specs.declared.rule.Rule.{Rule}
-use Rattle.chr_base.specs.Rules.{Valuation, HasInstance, term_value, atom_at, heads_at, heads_of, no_pattern}
+use Rattle.chr_base.specs.Rules.{Valuation, HasInstance, term_value, compares, atom_at, heads_at, heads_of, no_pattern}
 use Rattle.chr_plans.specs.declared.key.Source.{Source}
 use Rattle.chr_plans.specs.declared.key.Source.TheVariants.{Constant, Argument}
 use Rattle.chr_plans.specs.declared.key.Key.{Key}
+use Rattle.chr_plans.specs.declared.key.Test.{Test}
 use Rattle.chr_plans.specs.declared.rows.Seat.{Seat}
-use Rattle.chr_plans.specs.Keys.{source_value, key_of, argument}
+use Rattle.chr_plans.specs.Keys.{source_value, passes, key_of, argument}
 use Rattle.chr_plans.specs.Seats.{head}
-use Rattle.chr_plans.specs.Plans.{pattern_at, IsReady, AreKeys, columns_of, has_shape}
+use Rattle.chr_plans.specs.Plans.{pattern_at, IsReady, AreKeys, AreTests, columns_of, has_shape}
 use Rattle.chr_plans.specs.working.Searching.{AreSame}
 
 -- what is read past the last term
@@ -51,6 +54,16 @@ key_known r places p n q hs heads ss seats (k ∷ ks) h same are =
     let one : argument (head hs q) k.column ≡ source_value heads k.source = are.1 hs h ∙ same_value places p n hs heads ss seats k.source same are.0 in
     let more = key_known r places p n q hs heads ss seats ks h same are.2 in
     λ i. one i ∷ more i
+
+-- and the heads that are known pass the tests
+pub tests_known : (r : Rule) (places : List ℕ) (p n : ℕ) (hs heads : List Atom) (ss seats : List Seat) (ts : List Test)
+    → HasInstance r hs → AreSame places p n hs ss heads seats → AreTests r places p n ts → list_all (passes heads) ts ≡ true
+tests_known r places p n hs heads ss seats [] h same are = refl
+tests_known r places p n hs heads ss seats (t ∷ ts) h same are =
+    let left = same_value places p n hs heads ss seats t.left same are.0 in
+    let right = same_value places p n hs heads ss seats t.right same are.1 in
+    let one : passes heads t ≡ true = sym (λ i. compares t.cmp (int_cmp (left i) (right i))) ∙ are.2 hs h in
+    and_from (passes heads t) _ one (tests_known r places p n hs heads ss seats ts h same are.3)
 
 -- and the shape of its pattern
 pub shape_known : (r : Rule) (v : Valuation) (q : ℕ) (hs : List Atom) → heads_at v r ≡ hs → has_shape (pattern_at r q) (head hs q) ≡ true

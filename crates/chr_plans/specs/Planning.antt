@@ -1,5 +1,5 @@
 -- The plan that is made: which arguments are known, and which partner is next.
-use Rattle.std.specs.Prelude.{◌≡◌, ℕ, ◌+◌, ◌<◌, ◌≤◌, List, [], ◌∷◌, length, get_or, take, Option, Some, None, option_map, if◌then◌else◌, Bool, true, false, nat_eq}
+use Rattle.std.specs.Prelude.{◌≡◌, ℕ, ◌+◌, ◌-◌, ◌<◌, ◌≤◌, List, [], ◌∷◌, length, get_or, take, Option, Some, None, option_map, if◌then◌else◌, Bool, true, false, nat_eq}
 use Rattle.std.specs.List.{list_any}
 use Rattle.std.specs.Option.{option_or, option_and_then}
 use Rattle.chr_base.specs.declared.term.Term.{Term}
@@ -13,6 +13,7 @@ use Rattle.chr_base.specs.RuleTests.{is_variable}
 use Rattle.chr_plans.specs.declared.key.Source.{Source}
 use Rattle.chr_plans.specs.declared.key.Source.TheVariants.{Constant, Argument}
 use Rattle.chr_plans.specs.declared.key.Key.{Key}
+use Rattle.chr_plans.specs.declared.key.Test.{Test}
 use Rattle.chr_plans.specs.declared.plan.Partner.{Partner}
 use Rattle.chr_plans.specs.Plans.{pattern_at, places_of}
 
@@ -79,11 +80,38 @@ keys_from r known column (t ∷ ts) = with_key column (term_source r known t) (k
 abbrev pub key_at : Rule → List ℕ → ℕ → List Key
 key_at r known q = keys_from r known 0 (pattern_at r q).args.items
 
+-- a test of two values, where both are known
+abbrev pub test_by : Cmp → Option Source → Option Source → Option Test
+test_by k None right = None
+test_by k (Some s) None = None
+test_by k (Some s) (Some t) = Some (record { left = s; cmp = k; right = t })
+
+-- a comparison as a test, where the heads at these places have both its terms
+abbrev pub test_of : Rule → List ℕ → Comparison → Option Test
+test_of r known c = test_by c.cmp (direct_source r known c.left) (direct_source r known c.right)
+
+-- one test more, where it is a new one
+abbrev pub with_test : Option Test → Option Test → List Test → List Test
+with_test (Some t) old tests = tests
+with_test None None tests = tests
+with_test None (Some t) tests = t ∷ tests
+
+-- the comparisons as tests, which the heads at the known places allow and those at the places before do not
+abbrev pub tests_from : Rule → List ℕ → List ℕ → List Comparison → List Test
+tests_from r before known [] = []
+tests_from r before known (c ∷ cs) =
+    with_test (test_of r before c) (test_of r known c) (tests_from r before known cs)
+
+-- the tests of the guard that the last known head allows
+abbrev pub tests_at : Rule → List ℕ → List Test
+tests_at r known = tests_from r (take (length known - 1) known) known r.guard.items
+
 -- among the first n places of the rule that are not known, the partner has a place with the longest key
 pub record IsLongest (r : Rule) (known : List ℕ) (n : ℕ) (l : Partner) : Type 0 where
   pub within : l.place < n
   pub new : is_in l.place known ≡ false
   pub key : l.key.items ≡ key_at r known l.place
+  pub tests : l.tests.items ≡ tests_at r known
   pub longest : (q : ℕ) → q < n → is_in q known ≡ false → length (key_at r known q) ≤ length l.key.items
 
 -- each partner is a longest one, when the active atom and the partners before it are known

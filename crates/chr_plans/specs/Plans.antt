@@ -7,9 +7,10 @@ use Rattle.chr_base.specs.Rules.{HasInstance, heads_of, no_pattern}
 use Rattle.chr_plans.specs.declared.key.Source.{Source}
 use Rattle.chr_plans.specs.declared.key.Source.TheVariants.{Constant, Argument}
 use Rattle.chr_plans.specs.declared.key.Key.{Key}
+use Rattle.chr_plans.specs.declared.key.Test.{Test}
 use Rattle.chr_plans.specs.declared.plan.Partner.{Partner}
 use Rattle.chr_plans.specs.declared.plan.Lookup.{Lookup}
-use Rattle.chr_plans.specs.Keys.{argument, source_value}
+use Rattle.chr_plans.specs.Keys.{argument, source_value, passes}
 use Rattle.chr_plans.specs.Rows.{Tables, Columns}
 use Rattle.chr_plans.specs.Seats.{head}
 
@@ -48,7 +49,17 @@ AreKeys r places p n q [] = ⊤
 AreKeys r places p n q (k ∷ ks) =
     IsReady places p n k.source × IsSource r q k.column k.source × AreKeys r places p n q ks
 
--- The partners are at all places but the active one, each once, and their keys have the values of what is known.
+-- each instance of the rule passes the test
+abbrev pub IsTest : Rule → Test → Type 0
+IsTest r t = (heads : List Atom) → HasInstance r heads → passes heads t ≡ true
+
+-- the values that these tests compare are known
+abbrev pub AreTests : Rule → List ℕ → ℕ → ℕ → List Test → Type 0
+AreTests r places p n [] = ⊤
+AreTests r places p n (t ∷ ts) =
+    IsReady places p n t.left × IsReady places p n t.right × IsTest r t × AreTests r places p n ts
+
+-- The partners are at all places but the active one, each once; their keys and tests are by what is known.
 pub record IsPlan (r : Rule) (p : ℕ) (partners : List Partner) : Type 0 where
   pub covers : (q : ℕ) → q < length (heads_of r) → IsKnown (places_of partners) p (length partners) q
   pub within : (j : ℕ) → j < length partners → get_or (places_of partners) j 0 < length (heads_of r)
@@ -57,6 +68,8 @@ pub record IsPlan (r : Rule) (p : ℕ) (partners : List Partner) : Type 0 where
       → ¬ (get_or (places_of partners) i 0 ≡ get_or (places_of partners) j 0)
   pub keys : (j : ℕ) (l : Partner) → j < length partners → get_or partners j l ≡ l
       → AreKeys r (places_of partners) p j l.place l.key.items
+  pub tests : (j : ℕ) (l : Partner) → j < length partners → get_or partners j l ≡ l
+      → AreTests r (places_of partners) p j l.tests.items
 
 -- the atom has the symbol and the number of arguments of the pattern
 abbrev pub has_shape : Pattern → Atom → Bool

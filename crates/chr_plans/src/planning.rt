@@ -3,13 +3,13 @@ ghost use Rattle.std.specs.Prelude.{◌≡◌, ◌<◌, ◌≤◌, ◌+◌, ◌+
 ghost use Rattle.chr_base.specs.Rules.{heads_of};
 ghost use Rattle.chr_base.specs.RuleTests.{is_variable};
 ghost use Rattle.chr_plans.specs.Plans.{IsPlan};
-ghost use Rattle.chr_plans.specs.Planning.{is_in, column_of, variable_source, direct_source, equal_to, equal_source, term_source, keys_from, key_at, AreLongest};
+ghost use Rattle.chr_plans.specs.Planning.{is_in, column_of, variable_source, direct_source, equal_to, equal_source, term_source, keys_from, key_at, test_of, tests_from, tests_at, AreLongest};
 ghost use Rattle.chr_plans.specs.working.Choosing.{ArePlaces, IsChoice, longer};
 
-use crate::key::{Key, Source};
+use crate::key::{Key, Source, Test};
 use crate::plan::Partner;
 use arrayvec::ArrayVec;
-use chr_base::limits::{MAX_ARITY, MAX_HEADS};
+use chr_base::limits::{MAX_ARITY, MAX_COMPARISONS, MAX_HEADS};
 use chr_base::rule::Rule;
 use chr_base::term::{Cmp, Comparison, Term};
 
@@ -147,6 +147,56 @@ fn key_at(rule: &Rule, known: &[usize], place: usize) -> ArrayVec<Key, MAX_ARITY
     key
 }
 
+/// A comparison as a test, where the heads at these places have both its terms.
+fn test_of(rule: &Rule, known: &[usize], comparison: &Comparison) -> Option<Test>
+    requires { ArePlaces rule.now known.now }
+    ensures { result ≡ test_of rule.now known.now comparison.now }
+{
+    let left = direct_source(rule, known, comparison.left)?;
+    let right = direct_source(rule, known, comparison.right)?;
+    Some(Test {
+        left,
+        cmp: comparison.cmp,
+        right,
+    })
+}
+
+/// Adds a test for each of these comparisons that the heads at the known places allow, and those at the places before
+/// do not.
+fn push_tests(
+    rule: &Rule,
+    before: &[usize],
+    known: &[usize],
+    guard: &[Comparison],
+    tests: &mut ArrayVec<Test, MAX_COMPARISONS>,
+)
+    requires before { ArePlaces rule.now before.now }
+    requires places { ArePlaces rule.now known.now }
+    requires room { length tests.old.items + length guard.now ≤ MAX_COMPARISONS }
+    ensures { tests.new.items ≡ tests.old.items ++ tests_from rule.now before.now known.now guard.now }
+{
+    let [comparison, guard @ ..] = guard else {
+        return;
+    };
+    if test_of(rule, before, comparison).is_none() {
+        if let Some(test) = test_of(rule, known, comparison) {
+            tests.push(test);
+        }
+    }
+    push_tests(rule, before, known, guard, tests);
+}
+
+/// The tests of the guard that the last known head allows.
+fn tests_at(rule: &Rule, known: &[usize]) -> ArrayVec<Test, MAX_COMPARISONS>
+    requires { ArePlaces rule.now known.now }
+    ensures { result.items ≡ tests_at rule.now known.now }
+{
+    let before = &known[..known.len().saturating_sub(1)];
+    let mut tests = ArrayVec::new();
+    push_tests(rule, before, known, &rule.guard, &mut tests);
+    tests
+}
+
 /// The one with the longer key, the first where both are as long.
 fn longer(best: Option<Partner>, next: Partner) -> Partner
     ensures { result ≡ longer best next }
@@ -176,6 +226,7 @@ fn next_partner(rule: &Rule, known: &[usize]) -> Option<Partner>
                 Partner {
                     place,
                     key: key_at(rule, known, place),
+                    tests: tests_at(rule, known),
                 },
             ));
         }
