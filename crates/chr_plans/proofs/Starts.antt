@@ -1,28 +1,13 @@
 -- Where a search starts: the active atom at its place, and no partner yet.
-use Rattle.std.proofs.Common.{◌≡◌, ℕ, zero, suc, ◌+◌, ◌<◌, inl, inr, List, [], ◌∷◌, ◌++◌, length, set, refl, sym, ap, ◌∙◌, arith}
+use Rattle.std.proofs.Common.{◌≡◌, ℕ, inl, inr, List, length, set, sym, ap, ◌∙◌, arith}
 use Rattle.std.proofs.lemmas.Bool.{cases_lt}
-use Rattle.std.proofs.lemmas.List.{get_or-set_same, get_or-set_other, get_or_append_left, get_or_past, length-set}
-use Rattle.std.proofs.Math.Seq.{get_or-append_seam}
+use Rattle.std.proofs.lemmas.List.{get_or-set_same, get_or-set_other, get_or_past, length-set}
 use Rattle.chr_base.specs.declared.atom.Atom.{Atom}
 use Rattle.chr_base.specs.declared.rule.Rule.{Rule}
 use Rattle.chr_plans.specs.declared.rows.Seat.{Seat}
-use Rattle.chr_plans.specs.Keys.{no_atom}
 use Rattle.chr_plans.specs.Rows.{Tables}
 use Rattle.chr_plans.specs.Seats.{head, seat, no_seat, atom_in, IsSeated, NoPartners}
 use Rattle.chr_plans.specs.working.Searching.{AreSame, NoneFrom}
-
--- one more copy of an atom
-pub each_more : (xs : List Atom) (n k : ℕ) (a : Atom) → length xs ≡ n → ((k : ℕ) → k < n → head xs k ≡ a) → k < n + 1 → head (xs ++ a ∷ []) k ≡ a
-each_more xs n k a e each l = elim (cases_lt k n) as (λ _. head (xs ++ a ∷ []) k ≡ a) [
-  | inl less ↦ get_or_append_left xs (a ∷ []) no_atom k (omega (arith, e, less)) ∙ each k less
-  | inr most ↦ (let i : k ≡ length xs = omega (arith, e, most, l) in ap (head (xs ++ a ∷ [])) i ∙ get_or-append_seam xs a [] no_atom)
-]
-
-pub none_more : (ss : List Seat) (k : ℕ) → ((k : ℕ) → seat ss k ≡ no_seat) → seat (ss ++ no_seat ∷ []) k ≡ no_seat
-none_more [] zero h = refl
-none_more [] (suc k) h = refl
-none_more (s ∷ ss) zero h = h zero
-none_more (s ∷ ss) (suc k) h = none_more ss k (λ j. h (suc j))
 
 -- an instance stays one when the seat at the active place is forgotten
 forgotten : (r : Rule) (rows : Tables) (p : ℕ) (hs : List Atom) (ss : List Seat) → IsSeated r rows p hs ss → IsSeated r rows p hs (set ss p no_seat)

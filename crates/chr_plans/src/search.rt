@@ -6,7 +6,7 @@ ghost use Rattle.chr_plans.specs.Seats.{seat, head, no_seat, IsSeated, NoPartner
 ghost use Rattle.chr_plans.specs.Plans.{IsPlan, FitsTables, partners_of, places_of};
 ghost use Rattle.chr_plans.specs.working.Searching.{AreSame, NoneFrom, AreStarted, looked_in};
 
-use crate::key::key_values;
+use crate::key::{key_values, pass};
 use crate::plan::Lookup;
 use crate::rows::{Rows, Seat, is_same};
 use arrayvec::ArrayVec;
@@ -60,6 +60,9 @@ fn complete<R: Rows>(
         return rule.fires(heads);
     }
     let lookup = &lookups[done];
+    if !pass(heads, &lookup.partner.tests) {
+        return false;
+    }
     let key = key_values(heads, &lookup.partner.key);
     let mut next = rows.first(lookup.table, lookup.index, &key);
     while let Some(row) = next {
@@ -79,24 +82,36 @@ fn complete<R: Rows>(
     false
 }
 
-/// As many copies of the active atom, and as many rows, as the rule has head places.
+/// Makes a list this long. What stays is the same, what is new is blank.
+fn fit<T: Default + Drop, const CAP: usize>(items: &mut ArrayVec<T, CAP>, count: usize)
+    requires { count ≤ CAP }
+    ensures { length items.new.items ≡ count }
+{
+    items.truncate(count);
+    for _ in items.len()..count {
+        items.push(T::default());
+    }
+}
+
+/// As many heads and rows as the rule has head places, with the active atom at its place. At the other places is
+/// anything: partners are put there before they are read.
 fn start(
     rule: &Rule,
+    place: usize,
     active: &Atom,
     heads: &mut ArrayVec<Atom, MAX_HEADS>,
     seats: &mut ArrayVec<Seat, MAX_HEADS>,
 )
+    requires { place < length (heads_of rule.now) }
     ensures heads { length heads.new.items ≡ length (heads_of rule.now) }
-    ensures active { (k : ℕ) → k < length (heads_of rule.now) → head heads.new.items k ≡ active.now }
+    ensures active { head heads.new.items place ≡ active.now }
     ensures seats { length seats.new.items ≡ length (heads_of rule.now) }
-    ensures nowhere { (k : ℕ) → seat seats.new.items k ≡ no_seat }
+    ensures nowhere { seat seats.new.items place ≡ no_seat }
 {
-    heads.clear();
-    seats.clear();
-    for _ in 0..rule.places() {
-        heads.push(active.copy());
-        seats.push(Seat { table: 0, row: 0 });
-    }
+    fit(heads, rule.places());
+    fit(seats, rule.places());
+    heads[place] = active.copy();
+    seats[place] = Seat { table: 0, row: 0 };
 }
 
 /// An instance of the rule with the active atom at this head place, counted from 0, and partners in different live
@@ -122,6 +137,6 @@ pub fn find_partners<R: Rows>(
     ensures seats { length seats.new.items ≡ length (heads_of rule.now) }
     ensures none { OnFalse result (NoPartners rule.now (R.rows rows.old) place active.now) }
 {
-    start(rule, active, heads, seats);
+    start(rule, place, active, heads, seats);
     complete(rows, rule, place, lookups, 0, heads, seats)
 }
