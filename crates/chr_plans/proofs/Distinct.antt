@@ -48,6 +48,11 @@ pub places_more : (r : Rule) (xs : List ℕ) (q : ℕ) → ArePlaces r xs → q 
 places_more r [] q a l = (l, tt)
 places_more r (x ∷ xs) q a l = (a.0, places_more r xs q a.1 l)
 
+pub places_before : (r : Rule) (n : ℕ) (xs : List ℕ) → ArePlaces r xs → ArePlaces r (take n xs)
+places_before r zero xs a = tt
+places_before r (suc n) [] a = tt
+places_before r (suc n) (x ∷ xs) a = (a.0, places_before r n xs a.1)
+
 -- distinct places are no more than the rule has
 pub few : (r : Rule) (xs : List ℕ) → IsDistinct nat_eq xs → ArePlaces r xs → length xs ≤ length (heads_of r)
 few r xs d a = length-le_from_distinct_below xs (length (heads_of r)) d (λ q e. place_of r xs q a e)

@@ -1,25 +1,33 @@
 -- What is made is a plan.
 use Rattle.std.proofs.Common.{◌≡◌, ℕ, zero, suc, ◌+◌, ◌<◌, List, [], ◌∷◌, ◌++◌, length, get_or, take, Bool, true, false, nat_eq, refl, sym, ap, ◌∙◌, arith, subst, inl, inr, Option}
 use Rattle.std.specs.Prelude.{Some, None, option_map, ◌||◌, if◌then◌else◌}
+use Rattle.std.specs.Ordering.{int_cmp}
+use Rattle.std.specs.FinMap.{int_cmp-IsAntisymmetric}
 use Rattle.std.specs.List.{list_any, IsDistinct}
-use Rattle.std.specs.Option.{option_or}
-use Rattle.std.proofs.lemmas.Bool.{cases_lt}
-use Rattle.std.specs.Cmp.{unsigned_Decides}
+use Rattle.std.specs.Option.{option_or, option_and_then}
+use Rattle.std.proofs.lemmas.Bool.{cases_lt, and_parts}
+use Rattle.std.specs.Cmp.{unsigned_Decides, Equal-is}
 use Rattle.std.proofs.lemmas.Option.{same_Some}
 use Rattle.std.proofs.lemmas.List.{length-map, get_or_append_left, map-append, take-append-le, take_all}
 use Rattle.std.proofs.Common.{length-append}
 use Rattle.std.proofs.Math.Seq.{get_or-append_seam}
 use Rattle.chr_base.specs.declared.term.Term.{Term}
 use Rattle.chr_base.specs.declared.term.Term.TheVariants as term
+use Rattle.chr_base.specs.declared.term.Cmp.{Cmp}
+use Rattle.chr_base.specs.declared.term.Cmp.TheVariants.{Less, AtMost, Greater, AtLeast, Equal, NotEqual}
+use Rattle.chr_base.specs.declared.term.Comparison.{Comparison}
 use Rattle.chr_base.specs.declared.rule.Rule.{Rule}
-use Rattle.chr_base.specs.Rules.{heads_of}
+use Rattle.chr_base.specs.Rules.{Valuation, heads_of, heads_at, term_value, compares, comparison_holds, guard_holds}
 use Rattle.chr_base.specs.RuleTests.{is_variable}
 use Rattle.chr_plans.specs.declared.key.Source.{Source}
 use Rattle.chr_plans.specs.declared.key.Source.TheVariants.{Constant, Argument}
+use Rattle.chr_plans.specs.declared.key.Test.{Test}
 use Rattle.chr_plans.specs.declared.plan.Partner.{Partner}
-use Rattle.chr_plans.specs.Plans.{pattern_at, term_at, no_term, places_of, IsKnown, IsSource, AreKeys, IsPlan}
-use Rattle.chr_plans.specs.Planning.{is_in, column_of, variable_source, term_source, with_key, keys_from, IsLongest, AreLongest}
+use Rattle.chr_plans.specs.Keys.{source_value, passes}
+use Rattle.chr_plans.specs.Plans.{pattern_at, places_of, IsKnown, IsReady, IsSource, AreKeys, IsTest, AreTests, IsPlan}
+use Rattle.chr_plans.specs.Planning.{is_in, column_of, variable_source, direct_source, is_equal, beside, equal_to, equal_source, term_source, with_key, keys_from, test_by, test_of, with_test, tests_from, IsLongest, AreLongest}
 use Rattle.chr_plans.specs.working.Choosing.{ArePlaces}
+use Rattle.chr_plans.proofs.Values.{term_at, no_term, argument_value}
 use Rattle.chr_plans.proofs.Distinct.{in_list, in_take, place_at, apart, few, distinct_more, places_more}
 
 variable_is : (x : ℕ) (t : Term) → is_variable x t ≡ true → t ≡ term.Variable x
@@ -66,11 +74,75 @@ known_at places p n q e = by (nat_eq q p) refl e
     by true f g = inl ((unsigned_Decides q p).0 f)
     by false f g = inr (in_take n places q g)
 
-term_sound : (r : Rule) (places : List ℕ) (p n : ℕ) (t : Term) (s : Source) → term_source r (p ∷ take n places) t ≡ Some s → IsSource r places p n t s
-term_sound r places p n (term.Variable x) s e =
+-- a source that is ready, and has the term's value under each valuation that makes the guard true
+abbrev IsTermSource : Rule → List ℕ → ℕ → ℕ → Term → Source → Type 0
+IsTermSource r places p n t s =
+    IsReady places p n s × ((v : Valuation) → guard_holds v r.guard.items ≡ true → source_value (heads_at v r) s ≡ term_value v t)
+
+direct_sound : (r : Rule) (places : List ℕ) (p n : ℕ) (t : Term) (s : Source) → direct_source r (p ∷ take n places) t ≡ Some s → IsTermSource r places p n t s
+direct_sound r places p n (term.Variable x) s e =
     let w = variable_sound r (p ∷ take n places) x s e in
-    subst (IsSource r places p n (term.Variable x)) (sym w.2) (known_at places p n w.0 w.3, sym w.4)
-term_sound r places p n (term.Constant c) s e = subst (IsSource r places p n (term.Constant c)) (same_Some (Constant c) s e) refl
+    subst (IsTermSource r places p n (term.Variable x)) (sym w.2)
+    (known_at places p n w.0 w.3, λ v g. (argument_value r v (heads_at v r) w.0 w.1 refl ∙ ap (term_value v) w.4))
+direct_sound r places p n (term.Constant c) s e = subst (IsTermSource r places p n (term.Constant c)) (same_Some (Constant c) s e) (tt, λ v g. refl)
+
+-- what a comparison that holds says a variable equals has its value
+equal_sound : (v : Valuation) (x : ℕ) (c : Comparison) (t : Term) → equal_to x c ≡ Some t → comparison_holds v c ≡ true → term_value v t ≡ v x
+equal_sound v x c t e holds = by c.cmp c.left c.right e holds
+  where
+    sides : (l u : Term) → beside x l u ≡ Some t → term_value v l ≡ term_value v u → term_value v t ≡ v x
+    sides l u f same = left (is_variable x l) refl f
+      where
+        right : (b : Bool) → is_variable x u ≡ b → (if b then Some l else None) ≡ Some t → term_value v t ≡ v x
+        right true g h = ap (term_value v) (sym (same_Some l t h)) ∙ same ∙ ap (term_value v) (variable_is x u g)
+        right false g h = absurd (let z : ◌≡◌ {A = Option Term} None (Some t) = h in cc)
+
+        left : (b : Bool) → is_variable x l ≡ b → (if b then Some u else (if is_variable x u then Some l else None)) ≡ Some t → term_value v t ≡ v x
+        left true g h = ap (term_value v) (sym (same_Some u t h)) ∙ sym same ∙ ap (term_value v) (variable_is x l g)
+        left false g h = right (is_variable x u) refl h
+
+    none : None ≡ Some t → term_value v t ≡ v x
+    none f = absurd (let z : ◌≡◌ {A = Option Term} None (Some t) = f in cc)
+
+    by : (k : Cmp) (l u : Term) → (if is_equal k then beside x l u else None) ≡ Some t → compares k (int_cmp (term_value v l) (term_value v u)) ≡ true → term_value v t ≡ v x
+    by Less l u f h = none f
+    by AtMost l u f h = none f
+    by Greater l u f h = none f
+    by AtLeast l u f h = none f
+    by Equal l u f h = sides l u f (int_cmp-IsAntisymmetric _ _ ((Equal-is (int_cmp (term_value v l) (term_value v u))).0 h))
+    by NotEqual l u f h = none f
+
+-- a source that is ready, and has the variable's value where the guard and these comparisons hold
+abbrev IsEqualSource : Rule → List ℕ → ℕ → ℕ → ℕ → List Comparison → Source → Type 0
+IsEqualSource r places p n x cs s =
+    IsReady places p n s × ((v : Valuation) → guard_holds v r.guard.items ≡ true → guard_holds v cs ≡ true → source_value (heads_at v r) s ≡ v x)
+
+equal_source_sound : (r : Rule) (places : List ℕ) (p n x : ℕ) (cs : List Comparison) (s : Source) → equal_source r (p ∷ take n places) x cs ≡ Some s → IsEqualSource r places p n x cs s
+equal_source_sound r places p n x [] s e = absurd (let z : ◌≡◌ {A = Option Source} None (Some s) = e in cc)
+equal_source_sound r places p n x (c ∷ cs) s e =
+    by (λ g. (let w = equal_source_sound r places p n x cs s g in (w.0, λ v h k. w.1 v h (and_parts (comparison_holds v c) _ k).1))) (equal_to x c) refl e
+  where
+    here : (equal_source r (p ∷ take n places) x cs ≡ Some s → IsEqualSource r places p n x (c ∷ cs) s) → (t : Term) → equal_to x c ≡ Some t
+        → (o : Option Source) → direct_source r (p ∷ take n places) t ≡ o → option_or o (equal_source r (p ∷ take n places) x cs) ≡ Some s → IsEqualSource r places p n x (c ∷ cs) s
+    here later t f None g h = later h
+    here later t f (Some o) g h =
+        let w = direct_sound r places p n t s (g ∙ h) in
+        (w.0, λ v i k. (w.1 v i ∙ equal_sound v x c t f (and_parts (comparison_holds v c) _ k).0))
+
+    by : (equal_source r (p ∷ take n places) x cs ≡ Some s → IsEqualSource r places p n x (c ∷ cs) s)
+        → (o : Option Term) → equal_to x c ≡ o → option_or (option_and_then (direct_source r (p ∷ take n places)) o) (equal_source r (p ∷ take n places) x cs) ≡ Some s
+        → IsEqualSource r places p n x (c ∷ cs) s
+    by later None f g = later g
+    by later (Some t) f g = here later t f (direct_source r (p ∷ take n places) t) refl g
+
+term_sound : (r : Rule) (places : List ℕ) (p n : ℕ) (t : Term) (s : Source) → term_source r (p ∷ take n places) t ≡ Some s → IsTermSource r places p n t s
+term_sound r places p n (term.Variable x) s e = by (variable_source r (p ∷ take n places) x) refl e
+  where
+    by : (o : Option Source) → variable_source r (p ∷ take n places) x ≡ o → option_or o (equal_source r (p ∷ take n places) x r.guard.items) ≡ Some s
+        → IsTermSource r places p n (term.Variable x) s
+    by None f g = let w = equal_source_sound r places p n x r.guard.items s g in (w.0, λ v h. w.1 v h h)
+    by (Some o) f g = direct_sound r places p n (term.Variable x) s (f ∙ g)
+term_sound r places p n (term.Constant c) s e = direct_sound r places p n (term.Constant c) s e
 
 keys_sound : (r : Rule) (places : List ℕ) (p n q c : ℕ) (ts : List Term) → ((j : ℕ) → j < length ts → get_or ts j no_term ≡ term_at r q (c + j))
     → AreKeys r places p n q (keys_from r (p ∷ take n places) c ts)
@@ -81,10 +153,47 @@ keys_sound r places p n q c (t ∷ ts) are =
     here : t ≡ term_at r q c
     here = are 0 (omega arith) ∙ ap (term_at r q) (omega arith)
 
+    is_source : (s : Source) → IsTermSource r places p n t s → IsSource r q c s
+    is_source s is heads h =
+        argument_value r h.0 heads q c h.1 ∙ ap (term_value h.0) (sym here) ∙ sym (is.1 h.0 h.2) ∙ ap (λ hs. source_value hs s) h.1
+
     by : (o : Option Source) → term_source r (p ∷ take n places) t ≡ o → AreKeys r places p n q (keys_from r (p ∷ take n places) (c + 1) ts)
         → AreKeys r places p n q (with_key c o (keys_from r (p ∷ take n places) (c + 1) ts))
     by None e rest = rest
-    by (Some s) e rest = (subst (λ x. IsSource r places p n x s) here (term_sound r places p n t s e), rest)
+    by (Some s) e rest = let is = term_sound r places p n t s e in (is.0, is_source s is, rest)
+
+test_sound : (r : Rule) (places : List ℕ) (p n : ℕ) (c : Comparison) (t : Test) → ((v : Valuation) → guard_holds v r.guard.items ≡ true → comparison_holds v c ≡ true)
+    → test_of r (p ∷ take n places) c ≡ Some t → IsReady places p n t.left × IsReady places p n t.right × IsTest r t
+test_sound r places p n c t holds e = by (direct_source r (p ∷ take n places) c.left) refl (direct_source r (p ∷ take n places) c.right) refl e
+  where
+    by : (o : Option Source) → direct_source r (p ∷ take n places) c.left ≡ o → (o' : Option Source) → direct_source r (p ∷ take n places) c.right ≡ o' → test_by c.cmp o o' ≡ Some t
+        → IsReady places p n t.left × IsReady places p n t.right × IsTest r t
+    by None f o' g h = absurd (let z : ◌≡◌ {A = Option Test} None (Some t) = h in cc)
+    by (Some s) f None g h = absurd (let z : ◌≡◌ {A = Option Test} None (Some t) = h in cc)
+    by (Some s) f (Some s') g h =
+        let left = direct_sound r places p n c.left s f in
+        let right = direct_sound r places p n c.right s' g in
+        subst (λ x. IsReady places p n x.left × IsReady places p n x.right × IsTest r x) (same_Some _ t h) (
+          left.0,
+          right.0,
+          λ heads i. (
+              subst (λ hs. passes hs (record { left = s; cmp = c.cmp; right = s' }) ≡ true) i.1
+              ((λ j. compares c.cmp (int_cmp (left.1 i.0 i.2 j) (right.1 i.0 i.2 j))) ∙ holds i.0 i.2)),
+        )
+
+tests_sound : (r : Rule) (places before : List ℕ) (p n : ℕ) (cs : List Comparison) → ((v : Valuation) → guard_holds v r.guard.items ≡ true → guard_holds v cs ≡ true)
+    → AreTests r places p n (tests_from r before (p ∷ take n places) cs)
+tests_sound r places before p n [] holds = tt
+tests_sound r places before p n (c ∷ cs) holds =
+    by (test_of r before c) (test_of r (p ∷ take n places) c) refl (tests_sound r places before p n cs (λ v g. (and_parts (comparison_holds v c) _ (holds v g)).1))
+  where
+    by : (old new : Option Test) → test_of r (p ∷ take n places) c ≡ new → AreTests r places p n (tests_from r before (p ∷ take n places) cs)
+        → AreTests r places p n (with_test old new (tests_from r before (p ∷ take n places) cs))
+    by (Some t) new e rest = rest
+    by None None e rest = rest
+    by None (Some t) e rest =
+        let is = test_sound r places p n c t (λ v g. (and_parts (comparison_holds v c) _ (holds v g)).0) e in
+        (is.0, is.1, is.2, rest)
 
 -- ---- the list of partners
 
@@ -111,6 +220,7 @@ is_plan r p ps longest distinct places all = record {
   others = λ j l e. apart (p ∷ places_of ps) 0 (suc j) distinct (omega arith) (omega (arith, m, l)) (sym e);
   once = λ i j h l e. apart (p ∷ places_of ps) (suc i) (suc j) distinct (omega (arith, h)) (omega (arith, m, l)) e;
   keys = λ j l h here. (rw (longest j l h here).key (keys_sound r (places_of ps) p j l.place 0 (pattern_at r l.place).args.items (λ k g. ap (term_at r l.place) (omega arith))));
+  tests = λ j l h here. (rw (longest j l h here).tests (tests_sound r (places_of ps) _ p j r.guard.items (λ v g. g)));
 }
   where
     m : length (places_of ps) ≡ length ps

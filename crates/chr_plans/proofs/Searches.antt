@@ -1,6 +1,7 @@
 -- What each step of the search keeps.
-use Rattle.std.proofs.Common.{◌≡◌, ℕ, ◌+◌, ◌<◌, ◌≤◌, inl, inr, List, length, get_or, set, map, Option, refl, sym, ap, subst, ◌∙◌, arith}
+use Rattle.std.proofs.Common.{◌≡◌, ℕ, ◌+◌, ◌<◌, ◌≤◌, inl, inr, List, length, get_or, set, map, Option, true, false, refl, sym, ap, subst, ◌∙◌, arith}
 use Rattle.std.specs.Prelude.{Some, None, IfSome, IfNone, option_map}
+use Rattle.std.specs.List.{list_all}
 use Rattle.std.proofs.lemmas.Bool.{cases_lt}
 use Rattle.std.proofs.lemmas.List.{get_or-set_same, get_or-set_other, ext_get_or}
 use Rattle.chr_base.specs.declared.atom.Atom.{Atom}
@@ -9,12 +10,12 @@ use Rattle.chr_base.specs.Rules.{HasInstance, heads_of}
 use Rattle.chr_base.proofs.Firing.{instance_places}
 use Rattle.chr_plans.specs.declared.plan.Lookup.{Lookup}
 use Rattle.chr_plans.specs.declared.rows.Seat.{Seat}
-use Rattle.chr_plans.specs.Keys.{no_atom, source_value, key_of}
+use Rattle.chr_plans.specs.Keys.{no_atom, source_value, passes, key_of}
 use Rattle.chr_plans.specs.Rows.{Tables, Columns, HasKey}
 use Rattle.chr_plans.specs.Seats.{head, seat, no_seat, atom_in, IsOther, IsSeated}
 use Rattle.chr_plans.specs.Plans.{IsPlan, FitsTables, IsKnown, partners_of, columns_of}
 use Rattle.chr_plans.specs.working.Searching.{AreSame, NoneFrom, AreStarted, looked_in}
-use Rattle.chr_plans.proofs.Values.{key_known, shape_known}
+use Rattle.chr_plans.proofs.Values.{key_known, tests_known, shape_known}
 use Rattle.chr_plans.proofs.Places.{place_is, partner_is, partners_len}
 
 -- a row and one, 0 for none
@@ -65,7 +66,7 @@ module _ (r : Rule) (p : ℕ) (lookups : List Lookup) (n : ℕ) (l : Lookup) (ro
       fits.table n l (seat ss l.partner.place).table (seat ss l.partner.place).row (head hs l.partner.place) left here there
       (shape_known r s.instance.0 l.partner.place hs s.instance.1) in
       let key : key_of (columns_of l.partner.key.items) (head hs l.partner.place) ≡ map (λ k. source_value heads k.source) l.partner.key.items =
-      key_known r s.instance.0 (looked_in lookups) p n l.partner.place hs heads ss seats l.partner.key.items s.instance.1 same
+      key_known r (looked_in lookups) p n l.partner.place hs heads ss seats l.partner.key.items s.instance same
       (plan.keys n l.partner (within n left) (partner_is lookups n l left here)) in (
         table,
         (
@@ -74,6 +75,15 @@ module _ (r : Rule) (p : ℕ) (lookups : List Lookup) (n : ℕ) (l : Lookup) (ro
           ap (option_map (λ cs. key_of cs (head hs l.partner.place))) (fits.index n l left here) ∙ ap Some key,
         ),
       )
+
+  -- where the heads fail a test, no instance goes on from them
+  pub not_passed : false ≡ list_all (passes heads) l.partner.tests.items → NoneFrom r rows p (looked_in lookups) n heads seats
+  not_passed failed hs ss s same =
+      let all : list_all (passes heads) l.partner.tests.items ≡ true =
+      tests_known r (looked_in lookups) p n hs heads ss seats l.partner.tests.items s.instance same
+      (plan.tests n l.partner (within n left) (partner_is lookups n l left here)) in
+      let z : false ≡ true = failed ∙ all in
+      cc
 
   pub past_first : (at : ℕ)
       → ((q : ℕ) → HasKey (columns l.table l.index) (map (λ k. source_value heads k.source) l.partner.key.items) (rows l.table q) → q < at)

@@ -1,47 +1,69 @@
--- What an instance's heads have in common with those that are known: the values of a key.
-use Rattle.std.proofs.Common.{◌≡◌, ℕ, List, [], ◌∷◌, map, length, true, refl, sym, ap, ◌∙◌}
+-- What an instance's heads have in common with those that are known: the values of a key, and tests.
+use Rattle.std.proofs.Common.{◌≡◌, ℕ, List, [], ◌∷◌, map, length, get_or, true, refl, sym, ap, ◌∙◌}
+use Rattle.std.specs.Prelude.{pos}
+use Rattle.std.specs.List.{list_all}
+use Rattle.std.specs.Ordering.{int_cmp}
 use Rattle.std.proofs.Math.ListN.{get_or-map}
 use Rattle.std.proofs.lemmas.List.{length-map}
 use Rattle.std.proofs.lemmas.Bool.{and_from, eq-eqb}
 use Rattle.chr_base.specs.declared.atom.Atom.{Atom}
 use Rattle.chr_base.specs.declared.term.Term.{Term}
+use Rattle.chr_base.specs.declared.term.Term.TheVariants as term
 use Rattle.chr_base.specs.declared.term.Pattern.{Pattern}
 use Rattle.chr_base.specs.declared.rule.Rule.{Rule}
-use Rattle.chr_base.specs.Rules.{Valuation, term_value, atom_at, heads_at, heads_of, no_pattern}
+use Rattle.chr_base.specs.Rules.{Valuation, HasInstance, term_value, compares, atom_at, heads_at, heads_of, no_pattern}
 use Rattle.chr_plans.specs.declared.key.Source.{Source}
 use Rattle.chr_plans.specs.declared.key.Source.TheVariants.{Constant, Argument}
 use Rattle.chr_plans.specs.declared.key.Key.{Key}
+use Rattle.chr_plans.specs.declared.key.Test.{Test}
 use Rattle.chr_plans.specs.declared.rows.Seat.{Seat}
-use Rattle.chr_plans.specs.Keys.{source_value, key_of, argument}
+use Rattle.chr_plans.specs.Keys.{source_value, passes, key_of, argument}
 use Rattle.chr_plans.specs.Seats.{head}
-use Rattle.chr_plans.specs.Plans.{pattern_at, term_at, no_term, IsSource, AreKeys, columns_of, has_shape}
+use Rattle.chr_plans.specs.Plans.{pattern_at, IsReady, AreKeys, AreTests, columns_of, has_shape}
 use Rattle.chr_plans.specs.working.Searching.{AreSame}
+
+-- what is read past the last term
+abbrev pub no_term : Term
+no_term = term.Constant (pos 0)
+
+-- the term of the head at a place in a column
+abbrev pub term_at : Rule → ℕ → ℕ → Term
+term_at r q c = get_or (pattern_at r q).args.items c no_term
 
 -- the head at a place, and its argument in a column
 head_value : (r : Rule) (v : Valuation) (q : ℕ) → head (heads_at v r) q ≡ atom_at v (pattern_at r q)
 head_value r v q = get_or-map (atom_at v) (heads_of r) q no_pattern
 
-argument_value : (r : Rule) (v : Valuation) (hs : List Atom) (q c : ℕ) → heads_at v r ≡ hs → argument (head hs q) c ≡ term_value v (term_at r q c)
+pub argument_value : (r : Rule) (v : Valuation) (hs : List Atom) (q c : ℕ) → heads_at v r ≡ hs → argument (head hs q) c ≡ term_value v (term_at r q c)
 argument_value r v hs q c e =
     ap (λ as'. argument (head as' q) c) (sym e) ∙ ap (λ a. argument a c) (head_value r v q)
     ∙ get_or-map (term_value v) (pattern_at r q).args.items c no_term
 
-known_value : (r : Rule) (v : Valuation) (places : List ℕ) (p n : ℕ) (hs heads : List Atom) (ss seats : List Seat) (t : Term) (s : Source)
-    → heads_at v r ≡ hs → AreSame places p n hs ss heads seats → IsSource r places p n t s → source_value heads s ≡ term_value v t
-known_value r v places p n hs heads ss seats t (Constant c) e same is = ap (term_value v) (sym is)
-known_value r v places p n hs heads ss seats t (Argument q c) e same is =
-    ap (λ a. argument a c) (sym (same q is.0).0) ∙ argument_value r v hs q c e ∙ ap (term_value v) (sym is.1)
+-- heads that are the same give a source the same value
+same_value : (places : List ℕ) (p n : ℕ) (hs heads : List Atom) (ss seats : List Seat) (s : Source) → AreSame places p n hs ss heads seats → IsReady places p n s
+    → source_value hs s ≡ source_value heads s
+same_value places p n hs heads ss seats (Constant c) same is = refl
+same_value places p n hs heads ss seats (Argument q c) same is = ap (λ a. argument a c) (same q is).0
 
 -- the head at a place has the values of the key
-pub key_known : (r : Rule) (v : Valuation) (places : List ℕ) (p n q : ℕ) (hs heads : List Atom) (ss seats : List Seat) (ks : List Key)
-    → heads_at v r ≡ hs → AreSame places p n hs ss heads seats → AreKeys r places p n q ks
+pub key_known : (r : Rule) (places : List ℕ) (p n q : ℕ) (hs heads : List Atom) (ss seats : List Seat) (ks : List Key)
+    → HasInstance r hs → AreSame places p n hs ss heads seats → AreKeys r places p n q ks
     → key_of (columns_of ks) (head hs q) ≡ map (λ k. source_value heads k.source) ks
-key_known r v places p n q hs heads ss seats [] e same are = refl
-key_known r v places p n q hs heads ss seats (k ∷ ks) e same are =
-    let one : argument (head hs q) k.column ≡ source_value heads k.source =
-    argument_value r v hs q k.column e ∙ sym (known_value r v places p n hs heads ss seats (term_at r q k.column) k.source e same are.0) in
-    let more = key_known r v places p n q hs heads ss seats ks e same are.1 in
+key_known r places p n q hs heads ss seats [] h same are = refl
+key_known r places p n q hs heads ss seats (k ∷ ks) h same are =
+    let one : argument (head hs q) k.column ≡ source_value heads k.source = are.1 hs h ∙ same_value places p n hs heads ss seats k.source same are.0 in
+    let more = key_known r places p n q hs heads ss seats ks h same are.2 in
     λ i. one i ∷ more i
+
+-- and the heads that are known pass the tests
+pub tests_known : (r : Rule) (places : List ℕ) (p n : ℕ) (hs heads : List Atom) (ss seats : List Seat) (ts : List Test)
+    → HasInstance r hs → AreSame places p n hs ss heads seats → AreTests r places p n ts → list_all (passes heads) ts ≡ true
+tests_known r places p n hs heads ss seats [] h same are = refl
+tests_known r places p n hs heads ss seats (t ∷ ts) h same are =
+    let left = same_value places p n hs heads ss seats t.left same are.0 in
+    let right = same_value places p n hs heads ss seats t.right same are.1 in
+    let one : passes heads t ≡ true = sym (λ i. compares t.cmp (int_cmp (left i) (right i))) ∙ are.2 hs h in
+    and_from (passes heads t) _ one (tests_known r places p n hs heads ss seats ts h same are.3)
 
 -- and the shape of its pattern
 pub shape_known : (r : Rule) (v : Valuation) (q : ℕ) (hs : List Atom) → heads_at v r ≡ hs → has_shape (pattern_at r q) (head hs q) ≡ true

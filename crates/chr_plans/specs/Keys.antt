@@ -1,6 +1,9 @@
--- Values that are known before a head is looked for.
-use Rattle.std.specs.Prelude.{ℕ, ℤ, List, [], map, get_or, pos}
+-- Values that are known before a head is looked for, and tests of them.
+use Rattle.std.specs.Prelude.{ℕ, ℤ, List, [], map, get_or, pos, Bool}
+use Rattle.std.specs.Ordering.{int_cmp}
 use Rattle.chr_base.specs.declared.atom.Atom.{Atom}
+use Rattle.chr_base.specs.Rules.{compares}
+use Rattle.chr_plans.specs.declared.key.Test.{Test}
 use Rattle.chr_plans.specs.declared.key.Source.{Source}
 use Rattle.chr_plans.specs.declared.key.Source.TheVariants.{Constant, Argument}
 
@@ -20,3 +23,7 @@ key_of columns a = map (argument a) columns
 abbrev pub source_value : List Atom → Source → ℤ
 source_value heads (Constant c) = c
 source_value heads (Argument place column) = argument (get_or heads place no_atom) column
+
+-- the heads pass the test
+abbrev pub passes : List Atom → Test → Bool
+passes heads t = compares t.cmp (int_cmp (source_value heads t.left) (source_value heads t.right))

@@ -1,15 +1,19 @@
 -- The plan that is made: which arguments are known, and which partner is next.
-use Rattle.std.specs.Prelude.{◌≡◌, ℕ, ◌+◌, ◌<◌, ◌≤◌, List, [], ◌∷◌, length, get_or, take, Option, Some, None, option_map, if◌then◌else◌, Bool, false, nat_eq}
+use Rattle.std.specs.Prelude.{◌≡◌, ℕ, ◌+◌, ◌-◌, ◌<◌, ◌≤◌, List, [], ◌∷◌, length, get_or, take, Option, Some, None, option_map, if◌then◌else◌, Bool, true, false, nat_eq}
 use Rattle.std.specs.List.{list_any}
-use Rattle.std.specs.Option.{option_or}
+use Rattle.std.specs.Option.{option_or, option_and_then}
 use Rattle.chr_base.specs.declared.term.Term.{Term}
 use Rattle.chr_base.specs.declared.term.Term.TheVariants as term
+use Rattle.chr_base.specs.declared.term.Cmp.{Cmp}
+use Rattle.chr_base.specs.declared.term.Cmp.TheVariants.{Less, AtMost, Greater, AtLeast, Equal, NotEqual}
+use Rattle.chr_base.specs.declared.term.Comparison.{Comparison}
 use Rattle.chr_base.specs.declared.rule.Rule.{Rule}
 use Rattle.chr_base.specs.Rules.{heads_of}
 use Rattle.chr_base.specs.RuleTests.{is_variable}
 use Rattle.chr_plans.specs.declared.key.Source.{Source}
 use Rattle.chr_plans.specs.declared.key.Source.TheVariants.{Constant, Argument}
 use Rattle.chr_plans.specs.declared.key.Key.{Key}
+use Rattle.chr_plans.specs.declared.key.Test.{Test}
 use Rattle.chr_plans.specs.declared.plan.Partner.{Partner}
 use Rattle.chr_plans.specs.Plans.{pattern_at, places_of}
 
@@ -22,15 +26,44 @@ abbrev pub column_of : List Term → ℕ → ℕ → Option ℕ
 column_of [] x column = None
 column_of (t ∷ ts) x column = if is_variable x t then Some column else column_of ts x (column + 1)
 
+-- the comparison sign for equal values
+abbrev pub is_equal : Cmp → Bool
+is_equal Less = false
+is_equal AtMost = false
+is_equal Greater = false
+is_equal AtLeast = false
+is_equal Equal = true
+is_equal NotEqual = false
+
 -- where the variable first stands in the heads at these places
 abbrev pub variable_source : Rule → List ℕ → ℕ → Option Source
 variable_source r [] x = None
 variable_source r (q ∷ known) x =
     option_or (option_map (λ c. Argument q c) (column_of (pattern_at r q).args.items x 0)) (variable_source r known x)
 
--- where the value of a term comes from, when the heads at these places are known
+-- where the value of a term stands, when the heads at these places are known
+abbrev pub direct_source : Rule → List ℕ → Term → Option Source
+direct_source r known (term.Variable x) = variable_source r known x
+direct_source r known (term.Constant c) = Some (Constant c)
+
+-- the one of two terms beside which the other is the variable
+abbrev pub beside : ℕ → Term → Term → Option Term
+beside x t u = if is_variable x t then Some u else (if is_variable x u then Some t else None)
+
+-- the term that a comparison says a variable equals
+abbrev pub equal_to : ℕ → Comparison → Option Term
+equal_to x c = if is_equal c.cmp then beside x c.left c.right else None
+
+-- where a term stands that one of the comparisons says a variable equals
+abbrev pub equal_source : Rule → List ℕ → ℕ → List Comparison → Option Source
+equal_source r known x [] = None
+equal_source r known x (c ∷ cs) =
+    option_or (option_and_then (direct_source r known) (equal_to x c)) (equal_source r known x cs)
+
+-- where the value of a term comes from: a head that is known has it, or a term that the guard says it equals
 abbrev pub term_source : Rule → List ℕ → Term → Option Source
-term_source r known (term.Variable x) = variable_source r known x
+term_source r known (term.Variable x) =
+    option_or (variable_source r known x) (equal_source r known x r.guard.items)
 term_source r known (term.Constant c) = Some (Constant c)
 
 -- one key more, where the source is known
@@ -47,11 +80,38 @@ keys_from r known column (t ∷ ts) = with_key column (term_source r known t) (k
 abbrev pub key_at : Rule → List ℕ → ℕ → List Key
 key_at r known q = keys_from r known 0 (pattern_at r q).args.items
 
+-- a test of two values, where both are known
+abbrev pub test_by : Cmp → Option Source → Option Source → Option Test
+test_by k None right = None
+test_by k (Some s) None = None
+test_by k (Some s) (Some t) = Some (record { left = s; cmp = k; right = t })
+
+-- a comparison as a test, where the heads at these places have both its terms
+abbrev pub test_of : Rule → List ℕ → Comparison → Option Test
+test_of r known c = test_by c.cmp (direct_source r known c.left) (direct_source r known c.right)
+
+-- one test more, where it is a new one
+abbrev pub with_test : Option Test → Option Test → List Test → List Test
+with_test (Some t) old tests = tests
+with_test None None tests = tests
+with_test None (Some t) tests = t ∷ tests
+
+-- the comparisons as tests, which the heads at the known places allow and those at the places before do not
+abbrev pub tests_from : Rule → List ℕ → List ℕ → List Comparison → List Test
+tests_from r before known [] = []
+tests_from r before known (c ∷ cs) =
+    with_test (test_of r before c) (test_of r known c) (tests_from r before known cs)
+
+-- the tests of the guard that the last known head allows
+abbrev pub tests_at : Rule → List ℕ → List Test
+tests_at r known = tests_from r (take (length known - 1) known) known r.guard.items
+
 -- among the first n places of the rule that are not known, the partner has a place with the longest key
 pub record IsLongest (r : Rule) (known : List ℕ) (n : ℕ) (l : Partner) : Type 0 where
   pub within : l.place < n
   pub new : is_in l.place known ≡ false
   pub key : l.key.items ≡ key_at r known l.place
+  pub tests : l.tests.items ≡ tests_at r known
   pub longest : (q : ℕ) → q < n → is_in q known ≡ false → length (key_at r known q) ≤ length l.key.items
 
 -- each partner is a longest one, when the active atom and the partners before it are known

@@ -1,29 +1,22 @@
 -- Plans of an occurrence: what each keeps, and how its look-ups fit tables.
-use Rattle.std.specs.Prelude.{◌≡◌, ℕ, ◌<◌, ◌⊎◌, List, [], ◌∷◌, map, length, get_or, Some, pos, nat_eq, ◌&&◌, Bool, true, ⊤}
+use Rattle.std.specs.Prelude.{◌≡◌, ℕ, ◌<◌, ◌⊎◌, List, [], ◌∷◌, map, length, get_or, Some, nat_eq, ◌&&◌, Bool, true, ⊤}
 use Rattle.chr_base.specs.declared.atom.Atom.{Atom}
-use Rattle.chr_base.specs.declared.term.Term.{Term}
-use Rattle.chr_base.specs.declared.term.Term.TheVariants as term
 use Rattle.chr_base.specs.declared.term.Pattern.{Pattern}
 use Rattle.chr_base.specs.declared.rule.Rule.{Rule}
-use Rattle.chr_base.specs.Rules.{heads_of, no_pattern}
+use Rattle.chr_base.specs.Rules.{HasInstance, heads_of, no_pattern}
 use Rattle.chr_plans.specs.declared.key.Source.{Source}
 use Rattle.chr_plans.specs.declared.key.Source.TheVariants.{Constant, Argument}
 use Rattle.chr_plans.specs.declared.key.Key.{Key}
+use Rattle.chr_plans.specs.declared.key.Test.{Test}
 use Rattle.chr_plans.specs.declared.plan.Partner.{Partner}
 use Rattle.chr_plans.specs.declared.plan.Lookup.{Lookup}
+use Rattle.chr_plans.specs.Keys.{argument, source_value, passes}
 use Rattle.chr_plans.specs.Rows.{Tables, Columns}
+use Rattle.chr_plans.specs.Seats.{head}
 
 -- the head of the rule at a place
 abbrev pub pattern_at : Rule → ℕ → Pattern
 pattern_at r q = get_or (heads_of r) q no_pattern
-
--- what is read past the last term
-abbrev pub no_term : Term
-no_term = term.Constant (pos 0)
-
--- the term of that head in a column
-abbrev pub term_at : Rule → ℕ → ℕ → Term
-term_at r q c = get_or (pattern_at r q).args.items c no_term
 
 -- the places of the partners
 abbrev pub places_of : List Partner → List ℕ
@@ -41,17 +34,32 @@ columns_of key = map (λ k. k.column) key
 abbrev pub IsKnown : List ℕ → ℕ → ℕ → ℕ → Type 0
 IsKnown places p n q = (q ≡ p) ⊎ ((j : ℕ) × (j < n) × (get_or places j 0 ≡ q))
 
--- the source gives the value of the term: it is that constant, or that term stands in a head that is known
-abbrev pub IsSource : Rule → List ℕ → ℕ → ℕ → Term → Source → Type 0
-IsSource r places p n t (Constant c) = t ≡ term.Constant c
-IsSource r places p n t (Argument q c) = IsKnown places p n q × (t ≡ term_at r q c)
+-- the head that the source reads, where it reads one, is known
+abbrev pub IsReady : List ℕ → ℕ → ℕ → Source → Type 0
+IsReady places p n (Constant c) = ⊤
+IsReady places p n (Argument q c) = IsKnown places p n q
 
--- each source gives the value of the term in its column of the head at the place q
+-- in each instance the source has the value of that column of the head at the place q
+abbrev pub IsSource : Rule → ℕ → ℕ → Source → Type 0
+IsSource r q column s = (heads : List Atom) → HasInstance r heads → argument (head heads q) column ≡ source_value heads s
+
+-- what is known gives the values of these columns of the head at the place q
 abbrev pub AreKeys : Rule → List ℕ → ℕ → ℕ → ℕ → List Key → Type 0
 AreKeys r places p n q [] = ⊤
-AreKeys r places p n q (k ∷ ks) = IsSource r places p n (term_at r q k.column) k.source × AreKeys r places p n q ks
+AreKeys r places p n q (k ∷ ks) =
+    IsReady places p n k.source × IsSource r q k.column k.source × AreKeys r places p n q ks
 
--- The partners are at all places but the active one, each once, and their keys have the values of what is known.
+-- each instance of the rule passes the test
+abbrev pub IsTest : Rule → Test → Type 0
+IsTest r t = (heads : List Atom) → HasInstance r heads → passes heads t ≡ true
+
+-- the values that these tests compare are known
+abbrev pub AreTests : Rule → List ℕ → ℕ → ℕ → List Test → Type 0
+AreTests r places p n [] = ⊤
+AreTests r places p n (t ∷ ts) =
+    IsReady places p n t.left × IsReady places p n t.right × IsTest r t × AreTests r places p n ts
+
+-- The partners are at all places but the active one, each once; their keys and tests are by what is known.
 pub record IsPlan (r : Rule) (p : ℕ) (partners : List Partner) : Type 0 where
   pub covers : (q : ℕ) → q < length (heads_of r) → IsKnown (places_of partners) p (length partners) q
   pub within : (j : ℕ) → j < length partners → get_or (places_of partners) j 0 < length (heads_of r)
@@ -60,6 +68,8 @@ pub record IsPlan (r : Rule) (p : ℕ) (partners : List Partner) : Type 0 where
       → ¬ (get_or (places_of partners) i 0 ≡ get_or (places_of partners) j 0)
   pub keys : (j : ℕ) (l : Partner) → j < length partners → get_or partners j l ≡ l
       → AreKeys r (places_of partners) p j l.place l.key.items
+  pub tests : (j : ℕ) (l : Partner) → j < length partners → get_or partners j l ≡ l
+      → AreTests r (places_of partners) p j l.tests.items
 
 -- the atom has the symbol and the number of arguments of the pattern
 abbrev pub has_shape : Pattern → Atom → Bool

@@ -2,15 +2,28 @@
 ghost use Rattle.std.specs.Prelude.{◌≡◌};
 ghost use Rattle.chr_plans.specs.Plans.{columns_of};
 
-use crate::key::Key;
+use crate::key::{Key, Test};
 use arrayvec::ArrayVec;
-use chr_base::limits::{MAX_ARITY, MAX_HEADS};
+use chr_base::limits::{MAX_ARITY, MAX_COMPARISONS, MAX_HEADS};
 
-/// A partner: its head place, counted from 0, and what is known of its arguments when it is looked for.
+/// A partner: its head place, counted from 0, what is known of its arguments when it is looked for, and the tests that
+/// the heads before it must pass; where they fail one there is no need to look for it.
 #[derive(Debug, Default, Drop)]
 pub struct Partner {
     pub place: usize,
     pub key: ArrayVec<Key, MAX_ARITY>,
+    pub tests: ArrayVec<Test, MAX_COMPARISONS>,
+}
+
+/// The same items.
+fn copy_of<T: Copy + Default, const CAP: usize>(items: &ArrayVec<T, CAP>) -> ArrayVec<T, CAP>
+    ensures { result.items ≡ items.now.items }
+{
+    let mut copies = ArrayVec::new();
+    for item in items.as_slice() {
+        copies.push(*item);
+    }
+    copies
 }
 
 impl Partner {
@@ -29,13 +42,10 @@ impl Partner {
     pub fn copy(&self) -> Partner
         ensures { result ≡ self.now }
     {
-        let mut key = ArrayVec::new();
-        for part in self.key.as_slice() {
-            key.push(*part);
-        }
         Partner {
             place: self.place,
-            key,
+            key: copy_of(&self.key),
+            tests: copy_of(&self.tests),
         }
     }
 }

@@ -1,16 +1,17 @@
 //! Plans are made: the partner of which most arguments are known is looked for next.
 ghost use Rattle.std.specs.Prelude.{◌≡◌, ◌<◌, ◌≤◌, ◌+◌, ◌++◌, ◌∷◌, [], length};
 ghost use Rattle.chr_base.specs.Rules.{heads_of};
+ghost use Rattle.chr_base.specs.RuleTests.{is_variable};
 ghost use Rattle.chr_plans.specs.Plans.{IsPlan};
-ghost use Rattle.chr_plans.specs.Planning.{is_in, column_of, variable_source, term_source, keys_from, key_at, AreLongest};
+ghost use Rattle.chr_plans.specs.Planning.{is_in, column_of, variable_source, direct_source, equal_to, equal_source, term_source, keys_from, key_at, test_of, tests_from, tests_at, AreLongest};
 ghost use Rattle.chr_plans.specs.working.Choosing.{ArePlaces, IsChoice, longer};
 
-use crate::key::{Key, Source};
+use crate::key::{Key, Source, Test};
 use crate::plan::Partner;
 use arrayvec::ArrayVec;
-use chr_base::limits::{MAX_ARITY, MAX_HEADS};
+use chr_base::limits::{MAX_ARITY, MAX_COMPARISONS, MAX_HEADS};
 use chr_base::rule::Rule;
-use chr_base::term::Term;
+use chr_base::term::{Cmp, Comparison, Term};
 
 /// Whether a place is one of these.
 fn is_in(place: usize, known: &[usize]) -> bool
@@ -50,14 +51,66 @@ fn variable_source(rule: &Rule, known: &[usize], variable: u8) -> Option<Source>
     }
 }
 
-/// Where the value of a term comes from, when the heads at these places are known.
-fn term_source(rule: &Rule, known: &[usize], term: Term) -> Option<Source>
+/// Where the value of a term stands, when the heads at these places are known.
+fn direct_source(rule: &Rule, known: &[usize], term: Term) -> Option<Source>
     requires { ArePlaces rule.now known.now }
-    ensures { result ≡ term_source rule.now known.now term }
+    ensures { result ≡ direct_source rule.now known.now term }
 {
     match term {
         Term::Variable(variable) => variable_source(rule, known, variable),
         Term::Constant(value) => Some(Source::Constant(value)),
+    }
+}
+
+/// Whether the term is this variable.
+fn is_variable(variable: u8, term: Term) -> bool
+    ensures { result ≡ is_variable variable term }
+{
+    match term {
+        Term::Variable(x) => variable == x,
+        Term::Constant(_) => false,
+    }
+}
+
+/// The term that the comparison says the variable equals.
+fn equal_to(variable: u8, comparison: &Comparison) -> Option<Term>
+    ensures { result ≡ equal_to variable comparison.now }
+{
+    match comparison.cmp {
+        Cmp::Equal if is_variable(variable, comparison.left) => Some(comparison.right),
+        Cmp::Equal if is_variable(variable, comparison.right) => Some(comparison.left),
+        _ => None,
+    }
+}
+
+/// Where a term stands that one of the comparisons says the variable equals.
+fn equal_source(rule: &Rule, known: &[usize], variable: u8, guard: &[Comparison]) -> Option<Source>
+    requires { ArePlaces rule.now known.now }
+    ensures { result ≡ equal_source rule.now known.now variable guard.now }
+{
+    let [comparison, guard @ ..] = guard else {
+        return None;
+    };
+    if let Some(term) = equal_to(variable, comparison) {
+        if let Some(source) = direct_source(rule, known, term) {
+            return Some(source);
+        }
+    }
+    equal_source(rule, known, variable, guard)
+}
+
+/// Where the value of a term comes from, when the heads at these places are known: one of them has it, or has a term
+/// that the guard says it equals.
+fn term_source(rule: &Rule, known: &[usize], term: Term) -> Option<Source>
+    requires { ArePlaces rule.now known.now }
+    ensures { result ≡ term_source rule.now known.now term }
+{
+    let Term::Variable(variable) = term else {
+        return direct_source(rule, known, term);
+    };
+    match variable_source(rule, known, variable) {
+        Some(source) => Some(source),
+        None => equal_source(rule, known, variable, &rule.guard),
     }
 }
 
@@ -94,6 +147,56 @@ fn key_at(rule: &Rule, known: &[usize], place: usize) -> ArrayVec<Key, MAX_ARITY
     key
 }
 
+/// A comparison as a test, where the heads at these places have both its terms.
+fn test_of(rule: &Rule, known: &[usize], comparison: &Comparison) -> Option<Test>
+    requires { ArePlaces rule.now known.now }
+    ensures { result ≡ test_of rule.now known.now comparison.now }
+{
+    let left = direct_source(rule, known, comparison.left)?;
+    let right = direct_source(rule, known, comparison.right)?;
+    Some(Test {
+        left,
+        cmp: comparison.cmp,
+        right,
+    })
+}
+
+/// Adds a test for each of these comparisons that the heads at the known places allow, and those at the places before
+/// do not.
+fn push_tests(
+    rule: &Rule,
+    before: &[usize],
+    known: &[usize],
+    guard: &[Comparison],
+    tests: &mut ArrayVec<Test, MAX_COMPARISONS>,
+)
+    requires before { ArePlaces rule.now before.now }
+    requires places { ArePlaces rule.now known.now }
+    requires room { length tests.old.items + length guard.now ≤ MAX_COMPARISONS }
+    ensures { tests.new.items ≡ tests.old.items ++ tests_from rule.now before.now known.now guard.now }
+{
+    let [comparison, guard @ ..] = guard else {
+        return;
+    };
+    if test_of(rule, before, comparison).is_none() {
+        if let Some(test) = test_of(rule, known, comparison) {
+            tests.push(test);
+        }
+    }
+    push_tests(rule, before, known, guard, tests);
+}
+
+/// The tests of the guard that the last known head allows.
+fn tests_at(rule: &Rule, known: &[usize]) -> ArrayVec<Test, MAX_COMPARISONS>
+    requires { ArePlaces rule.now known.now }
+    ensures { result.items ≡ tests_at rule.now known.now }
+{
+    let before = &known[..known.len().saturating_sub(1)];
+    let mut tests = ArrayVec::new();
+    push_tests(rule, before, known, &rule.guard, &mut tests);
+    tests
+}
+
 /// The one with the longer key, the first where both are as long.
 fn longer(best: Option<Partner>, next: Partner) -> Partner
     ensures { result ≡ longer best next }
@@ -123,6 +226,7 @@ fn next_partner(rule: &Rule, known: &[usize]) -> Option<Partner>
                 Partner {
                     place,
                     key: key_at(rule, known, place),
+                    tests: tests_at(rule, known),
                 },
             ));
         }
@@ -131,8 +235,8 @@ fn next_partner(rule: &Rule, known: &[usize]) -> Option<Partner>
 }
 
 /// The plan of an occurrence: partners in the order in which they are to be looked for, with their keys. Next comes
-/// always a partner of which as many arguments are known as of any other that is left: constants, and variables that
-/// stand in the active atom or in a partner before.
+/// always a partner of which as many arguments are known as of any other that is left: constants, variables that stand
+/// in the active atom or in a partner before, and what the guard says is equal to such a one.
 pub fn plan_of(rule: &Rule, place: usize) -> ArrayVec<Partner, MAX_HEADS>
     requires { place < length (heads_of rule.now) }
     ensures plan { IsPlan rule.now place result.items }

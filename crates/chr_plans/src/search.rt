@@ -6,7 +6,7 @@ ghost use Rattle.chr_plans.specs.Seats.{seat, head, no_seat, IsSeated, NoPartner
 ghost use Rattle.chr_plans.specs.Plans.{IsPlan, FitsTables, partners_of, places_of};
 ghost use Rattle.chr_plans.specs.working.Searching.{AreSame, NoneFrom, AreStarted, looked_in};
 
-use crate::key::key_values;
+use crate::key::{key_values, pass};
 use crate::plan::Lookup;
 use crate::rows::{Rows, Seat, is_same};
 use arrayvec::ArrayVec;
@@ -60,6 +60,9 @@ fn complete<R: Rows>(
         return rule.fires(heads);
     }
     let lookup = &lookups[done];
+    if !pass(heads, &lookup.partner.tests) {
+        return false;
+    }
     let key = key_values(heads, &lookup.partner.key);
     let mut next = rows.first(lookup.table, lookup.index, &key);
     while let Some(row) = next {

@@ -6,7 +6,7 @@ use Rattle.chr_plans.specs.Rows.{HasKey}
 use Rattle.chr_plans.specs.Seats.{seat}
 use Rattle.chr_plans.specs.working.Searching.{looked_in}
 use Rattle.chr_plans.proofs.Places.{places_take, partners_len, few_places}
-use Rattle.chr_plans.proofs.Searches.{bound, below_first, below_next, place_within, past_first, past_next, not_taken, not_found, seated_all, none_all, started_more, same_deeper}
+use Rattle.chr_plans.proofs.Searches.{bound, below_first, below_next, place_within, past_first, past_next, not_passed, not_taken, not_found, seated_all, none_all, started_more, same_deeper}
 use Rattle.chr_plans.proofs.search.+complete.Goals.{then-not-is_taken+else-complete, else-not-is_taken}
 use Rattle.chr_plans.proofs.search.+complete.Goals as goal
 
@@ -17,6 +17,11 @@ returns-then-done-lookups-clause-found g t c = OnTrue_from c.fires.result _ (λ 
 pub returns-then-done-lookups-clause-none : goal.returns-then-done-lookups-clause-none
 returns-then-done-lookups-clause-none g t c = OnFalse_from c.fires.result _ (λ e.
     rw c.if-done-lookups.true (none_all c.args.rule.now _ c.args.active c.args.lookups.now _ _ c.requires.plan c.requires.heads (λ h. (let f = c.fires.ensures.1 h in cc))))
+
+pub returns-then-not-pass-clause-none : goal.returns-then-not-pass-clause-none
+returns-then-not-pass-clause-none g t c =
+    let n : c.args.done < length c.args.lookups.now = (let a = c.requires.done in let b = c.if-done-lookups.false in omega (arith, a, b)) in
+    not_passed c.args.rule.now c.args.active c.args.lookups.now c.args.done c.index-lookups-done.result _ (g.R.Rows.columns c.args.rows.now) c.args.heads.now c.args.seats.now c.requires.plan c.requires.fits n (sym c.index-lookups-done.is) c.if-not-pass.ensures
 
 pub loop-next-init : goal.loop-next-init
 loop-next-init g t c =
