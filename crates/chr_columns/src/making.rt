@@ -23,6 +23,9 @@ use std::alloc::{AllocError, Global};
 /// There are fewer tables than this, so that the rows of all of them can be counted.
 const MAX_TABLES: usize = 0x8000_0000;
 
+#[cfg(test)]
+mod tests;
+
 /// The columns of each index of one table.
 #[derive(Drop)]
 pub(crate) struct Keys {
