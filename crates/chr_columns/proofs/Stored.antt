@@ -122,7 +122,7 @@ row_more (rows ∷ g) (suc t) zero n a b e = inl e
 row_more (rows ∷ g) (suc t) (suc t') n a b e = elim (row_more g t t' n a b e) as (λ _. (rows_in g t' n ≡ Some b) ⊎ ((suc t' ≡ suc t) × (a ≡ b))) [ inl old ↦ inl old | inr new ↦ inr (ap suc new.0, new.1) ]
 
 -- what lives when others are killed lived before
-row_stays : (rows : List (Option Atom)) (k n : ℕ) (b : Atom) → get_or (set rows k None) n None ≡ Some b → get_or rows n None ≡ Some b
+pub row_stays : (rows : List (Option Atom)) (k n : ℕ) (b : Atom) → get_or (set rows k None) n None ≡ Some b → get_or rows n None ≡ Some b
 row_stays [] k n b e = e
 row_stays (o ∷ rows) zero zero b e = absurd (let f : ◌≡◌ {A = Option Atom} None (Some b) = e in cc)
 row_stays (o ∷ rows) zero (suc n) b e = e

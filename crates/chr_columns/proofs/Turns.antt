@@ -21,6 +21,7 @@ use Rattle.chr_plans.specs.Seats.{head, seat, no_seat, atom_in, IsSeated, IsOthe
 use Rattle.chr_actives.specs.Grids.{contents, rows_in}
 use Rattle.chr_actives.proofs.Rows.{seated, count_contents, rows_leave}
 use Rattle.chr_columns.specs.working.Finding.{only_table, only_index, plain, ArePlain, Lives}
+use Rattle.chr_columns.proofs.Stored.{row_stays}
 
 -- a row that is met by no columns
 lives_atom : (o : Option Atom) → IsTrue (is_some o) → (a : Atom) × (o ≡ Some a)
@@ -78,18 +79,11 @@ module _ (r : Rule) (ls : List Lookup) (are : ArePlain (length (heads_of r)) ls)
       it : (j : ℕ) (l : Lookup) → j < length ls → get_or ls j l ≡ l → plain (j + 1) ≡ l
       it j l h same = sym (are.1 j h) ∙ get_or_default ls j (plain 0) l h ∙ same
 
--- a row that is skipped is dead, and the others are as they were
+-- a row that is skipped is dead
 none_at : (rows : List (Option Atom)) (n : ℕ) → get_or (set rows n None) n None ≡ None
 none_at [] n = refl
 none_at (o ∷ rows) zero = refl
 none_at (o ∷ rows) (suc n) = none_at rows n
-
-still : (rows : List (Option Atom)) (n k : ℕ) (b : Atom) → get_or (set rows n None) k None ≡ Some b → get_or rows k None ≡ Some b
-still [] n k b e = e
-still (o ∷ rows) zero zero b e = absurd (let f : ◌≡◌ {A = Option Atom} None (Some b) = e in cc)
-still (o ∷ rows) zero (suc k) b e = e
-still (o ∷ rows) (suc n) zero b e = e
-still (o ∷ rows) (suc n) (suc k) b e = still rows n k b e
 
 -- the seat of a row, which is where a seat in the one table has to be
 abbrev at_row : ℕ → Seat
@@ -100,7 +94,7 @@ module _ (rows : List (Option Atom)) (n : ℕ) where
   still_in s b e = by s.table s.row e
     where
       by : (t k : ℕ) → only_table (set rows n None) t k ≡ Some b → only_table rows t k ≡ Some b
-      by zero k e = still rows n k b e
+      by zero k e = row_stays rows n k b e
       by (suc t) k e = e
 
   not_there : (s : Seat) (b : Atom) → atom_in (only_table (set rows n None)) s ≡ Some b → at_row n ≡ s → ⊥

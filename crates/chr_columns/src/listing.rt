@@ -63,7 +63,8 @@ pub(crate) fn row_count(tables: &[Table], fresh: &[Atom]) -> usize
     table.len() + row_count(tables, fresh)
 }
 
-/// The atom of one of these rows, where it lives. They are numbered from table to table, and then over the fresh atoms.
+/// The atom of one of these rows, where it lives. They are numbered from table to table, and then over the fresh
+/// atoms.
 pub(crate) fn atom_at(tables: &[Table], fresh: &[Atom], row: usize) -> Option<Atom>
     ensures { result ≡ get_or (rows_in_turn tables.now fresh.now) row None }
 {

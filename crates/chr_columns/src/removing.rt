@@ -7,6 +7,7 @@ ghost use Rattle.chr_base.specs.FinBag.{◌⊕◌, ◌⊖◌, IsWithin, count_in
 ghost use Rattle.chr_base.specs.Stores.{store_of, count};
 ghost use Rattle.chr_actives.specs.Actives.{one};
 ghost use Rattle.chr_actives.specs.Grids.{live_atoms};
+ghost use Rattle.chr_columns.specs.working.Groups.{table_of_atom};
 ghost use Rattle.chr_columns.specs.working.Resting.{stored, IsRested};
 
 use crate::groups::table_of;
@@ -47,13 +48,21 @@ fn row_of(table: &Table, atom: &Atom) -> Option<usize>
 }
 
 impl Rested {
+    /// The table of an atom, by its number.
+    fn table_for(&self, atom: &Atom) -> usize
+        requires { IsRested self.now }
+        ensures number { result ≡ table_of_atom self.now.groups.items atom.now }
+        ensures there { result < length self.now.tables.tables.items }
+    {
+        table_of(&self.groups, atom.symbol, atom.args.len())
+    }
+
     /// How often an atom is among those at rest.
     fn count_at_rest(&self, atom: &Atom) -> usize
         requires { IsRested self.now }
         ensures { result ≡ count (stored self.now) atom.now }
     {
-        let table = table_of(&self.groups, atom.symbol, atom.args.len());
-        count_rows(&self.tables.tables[table], atom)
+        count_rows(&self.tables.tables[self.table_for(atom)], atom)
     }
 
     /// Takes one such atom out; false, and nothing changes, where there is none.
@@ -65,7 +74,7 @@ impl Rested {
         ensures none { OnFalse result (count (stored self.old) atom.now ≡ 0) }
         ensures same { OnFalse result (self.new ≡ self.old) }
     {
-        let table = table_of(&self.groups, atom.symbol, atom.args.len());
+        let table = self.table_for(atom);
         let Some(row) = row_of(&self.tables.tables[table], atom) else {
             return false;
         };

@@ -1,44 +1,30 @@
 use Rattle.std.specs.Prelude.{IsTrue, is_some}
-use Rattle.std.proofs.Common.{◌≡◌, ap, ◌∙◌, arith, [], ◌∷◌}
+use Rattle.std.proofs.Common.{ap, ◌∙◌, [], ◌∷◌}
 use Rattle.chr_plans.specs.declared.rows.Seat.{Seat}
 use Rattle.chr_plans.specs.Seats.{atom_in}
 use Rattle.chr_tables.specs.Contents.{rows_of}
-use Rattle.chr_columns.specs.working.Groups.{table_of, table_of_atom}
 use Rattle.chr_columns.proofs.Firings.{left_over, part_left}
-use Rattle.chr_columns.proofs.Putting.{has_table}
 use Rattle.chr_columns.proofs.Removals.{counted_here, row_at, only_seat, sits_alone, left_one}
 use Rattle.chr_columns.proofs.rested.Rested.remove_one.Goals as goal
 
-pub index-requires : goal.index-requires
-index-requires c =
-    let t : c.table_of-table.result ≡ table_of_atom c.args.self.now.groups.items c.args.atom.now = c.table_of-table.ensures ∙ (λ i. table_of (c.deref.ensures.value i) c.args.atom.now.symbol (c.len.ensures.value i)) in
-    let w = has_table _ _ _ c.args.atom.now c.requires.set_up in
-    omega (arith, t, w, c.args.self.now.tables.tables.ok.0)
-
 pub returns-in_default-clause-none : goal.returns-in_default-clause-none
 returns-in_default-clause-none c =
-    let t : c.table_of-table.result ≡ table_of_atom c.args.self.now.groups.items c.args.atom.now = c.table_of-table.ensures ∙ (λ i. table_of (c.deref.ensures.value i) c.args.atom.now.symbol (c.len.ensures.value i)) in
-    let w = has_table _ _ _ c.args.atom.now c.requires.set_up in
-    counted_here c.args.self.now.tables.tables.items c.table_of-table.result c.index.result.now (omega (arith, t, w)) c.index.ensures
-    c.args.self.now.rules.items c.args.self.now.groups.items c.args.atom.now t c.requires.set_up
+    counted_here c.args.self.now.tables.tables.items c.table_for-table.result c.index.result.now c.table_for-table.ensures.there c.index.ensures
+    c.args.self.now.rules.items c.args.self.now.groups.items c.args.atom.now c.table_for-table.ensures.number c.requires.set_up
     ∙ c.in_default.ensures.none
 
 pub kill_all-requires : goal.kill_all-requires
 kill_all-requires c =
-    let t : c.table_of-table.result ≡ table_of_atom c.args.self.now.groups.items c.args.atom.now = c.table_of-table.ensures ∙ (λ i. table_of (c.deref.ensures.value i) c.args.atom.now.symbol (c.len.ensures.value i)) in
-    let w = has_table _ _ _ c.args.atom.now c.requires.set_up in
     let ts = c.args.self.now.tables.tables.items in
-    let found = row_at ts c.table_of-table.result c.index.result.now (omega (arith, t, w)) c.index.ensures c.in-Some.row c.args.atom.now c.in-Some.ensures.found in
-    let s : Seat = record { table = c.table_of-table.result; row = c.in-Some.row } in
+    let found = row_at ts c.table_for-table.result c.index.result.now c.table_for-table.ensures.there c.index.ensures c.in-Some.row c.args.atom.now c.in-Some.ensures.found in
+    let s : Seat = record { table = c.table_for-table.result; row = c.in-Some.row } in
     only_seat (λ k. IsTrue (is_some (atom_in (rows_of ts) k))) s (ap is_some found)
 
 pub returns-clause-rested : goal.returns-clause-rested
 returns-clause-rested c =
-    let t : c.table_of-table.result ≡ table_of_atom c.args.self.now.groups.items c.args.atom.now = c.table_of-table.ensures ∙ (λ i. table_of (c.deref.ensures.value i) c.args.atom.now.symbol (c.len.ensures.value i)) in
-    let w = has_table _ _ _ c.args.atom.now c.requires.set_up in
     let ts = c.args.self.now.tables.tables.items in
-    let found = row_at ts c.table_of-table.result c.index.result.now (omega (arith, t, w)) c.index.ensures c.in-Some.row c.args.atom.now c.in-Some.ensures.found in
-    let s : Seat = record { table = c.table_of-table.result; row = c.in-Some.row } in
+    let found = row_at ts c.table_for-table.result c.index.result.now c.table_for-table.ensures.there c.index.ensures c.in-Some.row c.args.atom.now c.in-Some.ensures.found in
+    let s : Seat = record { table = c.table_for-table.result; row = c.in-Some.row } in
     let us = c.kill_all.new.tables.tables.items in
     let rules = c.args.self.now.rules.items in
     record {
@@ -48,9 +34,7 @@ returns-clause-rested c =
 
 pub returns-clause-taken : goal.returns-clause-taken
 returns-clause-taken c =
-    let t : c.table_of-table.result ≡ table_of_atom c.args.self.now.groups.items c.args.atom.now = c.table_of-table.ensures ∙ (λ i. table_of (c.deref.ensures.value i) c.args.atom.now.symbol (c.len.ensures.value i)) in
-    let w = has_table _ _ _ c.args.atom.now c.requires.set_up in
     let ts = c.args.self.now.tables.tables.items in
-    let found = row_at ts c.table_of-table.result c.index.result.now (omega (arith, t, w)) c.index.ensures c.in-Some.row c.args.atom.now c.in-Some.ensures.found in
-    let s : Seat = record { table = c.table_of-table.result; row = c.in-Some.row } in
+    let found = row_at ts c.table_for-table.result c.index.result.now c.table_for-table.ensures.there c.index.ensures c.in-Some.row c.args.atom.now c.in-Some.ensures.found in
+    let s : Seat = record { table = c.table_for-table.result; row = c.in-Some.row } in
     left_one ts c.kill_all.new.tables.tables.items s c.args.atom.now found c.kill_all.ensures.rows
