@@ -19,11 +19,12 @@ atom_data w = array (items_of (string w.name ∷ map argument_data w.args))
 abbrev pub atoms_data : List NamedAtom → Data
 atoms_data ws = array (items_of (map atom_data ws))
 
+abbrev pub id_data : ℕ → ℕ → Data
+id_data o n = array (items_of (natural_data o ∷ natural_data n ∷ []))
+
 abbrev pub command_data : Said → Data
 command_data (show r) = array (items_of (string (codes "show") ∷ natural_data r ∷ []))
-command_data (tell r o n ws) =
-    let id = array (items_of (natural_data o ∷ natural_data n ∷ [])) in
-    array (items_of (string (codes "tell") ∷ natural_data r ∷ id ∷ atoms_data ws ∷ []))
+command_data (tell r o n ws) = array (items_of (string (codes "tell") ∷ natural_data r ∷ id_data o n ∷ atoms_data ws ∷ []))
 
 -- each argument has 64 bits
 abbrev pub ArgumentsFit : NamedAtom → Type 0
@@ -33,6 +34,11 @@ ArgumentsFit w = AllByRecursion (FitsSigned w64) w.args
 abbrev pub IsWithinCommandLimits : Said → Type 0
 IsWithinCommandLimits (show r) = ⊤
 IsWithinCommandLimits (tell r o n ws) = (o < 2 ^ 32) × IsOperationLength (length ws) × AllByRecursion ArgumentsFit ws
+
+-- so are the replica and the operation's number, of 64 bits
+abbrev pub IsWithinTextLimits : Said → Type 0
+IsWithinTextLimits (show r) = r < 2 ^ 64
+IsWithinTextLimits (tell r o n ws) = IsWithinCommandLimits (tell r o n ws) × (r < 2 ^ 64) × (n < 2 ^ 64)
 
 -- a command's own value is read as that command
 abbrev pub CommandsAreRead : Type 0

@@ -6,9 +6,11 @@
 
 mod atom;
 mod command;
+mod compact;
 mod fault;
 mod limits;
 mod line;
+mod piece;
 mod value;
 
 pub use atom::RawAtom;

@@ -3,14 +3,16 @@
 ghost use Rattle.std.specs.Prelude.{◌≡◌, ◌<◌, length, Err, IfOk};
 ghost use Rattle.chr_json.specs.Lines.{is_blank_line};
 ghost use Rattle.chr_json.specs.Values.{json_in};
-ghost use Rattle.chr_json.specs.Reads.{GivesLine, IsSized, line_said};
+ghost use Rattle.chr_json.specs.Reads.{GivesLine, IsSized, line_said, value_said};
 ghost use Rattle.chr_json.specs.working.Parts.{GivesValue};
 ghost use Rattle.chr_json.specs.declared.limits.TheConstants.{MAX_LINE};
 ghost use Rattle.chr_json.specs.declared.fault.LineFault.TheVariants.{BadLine};
 
 use crate::command::{Command, command_in};
+use crate::compact::tell_in;
 use crate::fault::LineFault;
 use crate::limits::MAX_LINE;
+use crate::piece::Stop;
 use serde_json::{Category, Value};
 use std::alloc::Global;
 
@@ -34,6 +36,15 @@ fn value_in(alloc: Global, line: &[u8]) -> Result<Value, LineFault>
     }
 }
 
+/// The command of a line's JSON value.
+fn command_by_value(alloc: Global, line: &[u8]) -> Result<Command, LineFault>
+    ensures read { GivesLine result (value_said (json_in line.now)) }
+    ensures sized { IfOk result IsSized }
+{
+    let value = value_in(alloc, line)?;
+    command_in(alloc, &value)
+}
+
 /// The command of a line, which comes without its end.
 ///
 /// # Errors
@@ -48,8 +59,11 @@ pub fn read_line(alloc: Global, line: &[u8]) -> Result<Command, LineFault>
     if line.len() > MAX_LINE {
         return Err(LineFault::BadLine);
     }
-    let value = value_in(alloc, line)?;
-    command_in(alloc, &value)
+    match tell_in(alloc, line) {
+        Ok(command) => Ok(command),
+        Err(Stop::Memory) => Err(LineFault::Memory),
+        Err(Stop::Other) => command_by_value(alloc, line),
+    }
 }
 
 #[cfg(test)]
