@@ -155,6 +155,152 @@ mod tests {
         Ok(())
     }
 
+    /// That the line is read, or left, as it is by its value, and whether its bytes alone say its command.
+    fn is_read_so(alloc: Global, line: &[u8]) -> (bool, bool) {
+        let by_value = command_by_value(alloc, line);
+        let is_same = read_line(alloc, line) == by_value;
+        (is_same, tell_in(alloc, line).is_ok())
+    }
+
+    #[test]
+    fn compact_tells_are_read_from_their_bytes(rt: HostRuntime) -> Result<(), Fail> {
+        let alloc = rt.alloc();
+        for line in [
+            "[\"tell\",1,[1,7],[[\"path\",3,-4,5],[\"coin\"]]]",
+            "[\"tell\",0,[0,0],[[\"\"]]]",
+            "[\"tell\",18446744073709551615,[4294967295,18446744073709551615],[[\"a\",0]]]",
+            "[\"tell\",10,[20,30],[[\"a\",9223372036854775807,-9223372036854775807,-1,100]]]",
+            "[\"tell\",1,[1,1],[[\"tell\"],[\"a b\",1,2,3,4,5,6,7],[\"[]{},:/'\u{7f}\"]]]",
+        ] {
+            assert_eq!(rt;
+                is_read_so(alloc, line.as_bytes()),
+                (true, true),
+                "at {line}"
+            );
+        }
+        Ok(())
+    }
+
+    #[test]
+    fn other_bytes_are_read_by_value(rt: HostRuntime) -> Result<(), Fail> {
+        let alloc = rt.alloc();
+        for line in [
+            "",
+            "[\"show\",1]",
+            " [\"tell\",1,[1,7],[[\"a\",1]]]",
+            "[\"tell\",1,[1,7],[[\"a\",1]]] ",
+            "[\"tell\",1,[1,7],[[\"a\",1]]]\r",
+            "[\"tell\", 1,[1,7],[[\"a\",1]]]",
+            "[\"tell\",1,[1\t,7],[[\"a\",1]]]",
+            "[\"tell\",1,[1,7],[[\"a\", 1]]]",
+            "[\"tell\",1,[1,7],[[\"a\",1] ,[\"b\"]]]",
+            "[\"t\\u0065ll\",1,[1,7],[[\"a\",1]]]",
+            "[\"tell\",1,[1,7],[[\"\\u0061\",1]]]",
+            "[\"tell\",1,[1,7],[[\"a\\\"b\\\\\",1]]]",
+            "[\"tell\",1,[1,7],[[\"\u{e9}\",1]]]",
+            "[\"tell\",1,[1,7],[[\"a\tb\",1]]]",
+            "[\"tell\",1,[1,7],[[\"a\",9223372036854775808]]]",
+            "[\"tell\",1,[1,7],[[\"a\",-9223372036854775808]]]",
+            "[\"tell\",1,[1,7],[[\"a\",-9223372036854775809]]]",
+            "[\"tell\",18446744073709551616,[1,7],[[\"a\",1]]]",
+            "[\"tell\",1,[4294967296,7],[[\"a\",1]]]",
+            "[\"tell\",1,[1,100000000000000000000],[[\"a\",1]]]",
+            "[\"tell\",-1,[1,7],[[\"a\",1]]]",
+            "[\"tell\",1,[1,7],[[\"a\",-0]]]",
+            "[\"tell\",1,[1,7],[[\"a\",01]]]",
+            "[\"tell\",1,[1,7],[[\"a\",-01]]]",
+            "[\"tell\",1,[1,7],[[\"a\",+1]]]",
+            "[\"tell\",1,[1,7],[[\"a\",-]]]",
+            "[\"tell\",1,[1,7],[[\"a\",1.0]]]",
+            "[\"tell\",1,[1,7],[[\"a\",1e2]]]",
+        ] {
+            assert_eq!(rt;
+                is_read_so(alloc, line.as_bytes()),
+                (true, false),
+                "at {line}"
+            );
+        }
+        assert_eq!(rt;
+            is_read_so(alloc, b"[\"tell\",1,[1,7],[[\"\xff\",1]]]"),
+            (true, false)
+        );
+        Ok(())
+    }
+
+    #[test]
+    fn other_shapes_are_read_by_value(rt: HostRuntime) -> Result<(), Fail> {
+        let alloc = rt.alloc();
+        for line in [
+            "[\"Tell\",1,[1,7],[[\"a\",1]]]",
+            "[\"tells\",1,[1,7],[[\"a\",1]]]",
+            "{\"tell\":1}",
+            "[\"tell\",\"1\",[1,7],[[\"a\",1]]]",
+            "[\"tell\",1,[1],[[\"a\",1]]]",
+            "[\"tell\",1,[1,7,8],[[\"a\",1]]]",
+            "[\"tell\",1,[1,7]]",
+            "[\"tell\",1,[1,7],[[\"a\",1]],2]",
+            "[\"tell\",1,[1,7],[[\"a\",1]]]]",
+            "[\"tell\",1,[1,7],[]]",
+            "[\"tell\",1,[1,7],[[]]]",
+            "[\"tell\",1,[1,7],[[1]]]",
+            "[\"tell\",1,[1,7],[\"a\"]]",
+            "[\"tell\",1,[1,7],[[\"a\",\"b\"]]]",
+            "[\"tell\",1,[1,7],[[\"a\",[1]]]]",
+            "[\"tell\",1,[1,7],[[\"a\",null]]]",
+            "[\"tell\",1,[1,7],[[\"a\",1],[[\"b\"]]]]",
+            "[\"tell\",1,[1,7],[[\"a\",]]]",
+            "[\"tell\",1,[1,7],[[\"a\"],]]",
+            "[\"tell\",1,[1,7],[,[\"a\"]]]",
+            "[\"tell\",1,[1,7],[[\"a\"][\"b\"]]]",
+        ] {
+            assert_eq!(rt;
+                is_read_so(alloc, line.as_bytes()),
+                (true, false),
+                "at {line}"
+            );
+        }
+        Ok(())
+    }
+
+    #[test]
+    fn cut_tells_are_read_by_value(rt: HostRuntime) -> Result<(), Fail> {
+        let alloc = rt.alloc();
+        let line = b"[\"tell\",10,[2,30],[[\"path\",3,-45],[\"coin\"]]]".as_slice();
+        for len in 0..line.len() {
+            assert_eq!(rt;
+                is_read_so(alloc, &line[..len]),
+                (true, false),
+                "at {len} bytes"
+            );
+        }
+        Ok(())
+    }
+
+    #[test]
+    fn compact_tells_end_at_their_limits(rt: HostRuntime) -> Result<(), Fail> {
+        let alloc = rt.alloc();
+        for (more, fits) in [(63usize, true), (64, false)] {
+            let mut line = String::from_str(alloc, "[\"tell\",1,[1,1],[[\"a\"]")?;
+            for _ in 0..more {
+                line.push_str(",[\"a\",1]")?;
+            }
+            line.push_str("]]")?;
+            assert_eq!(rt;
+                is_read_so(alloc, line.as_bytes()),
+                (true, fits),
+                "with {more} more"
+            );
+        }
+        for (len, fits) in [(MAX_LINE, true), (MAX_LINE + 1, false)] {
+            let mut line = Vec::new(alloc);
+            line.extend_from_slice(b"[\"tell\",1,[1,1],[[\"")?;
+            line.resize(len - 4, b'a')?;
+            line.extend_from_slice(b"\"]]]")?;
+            assert_eq!(rt; read_line(alloc, &line).is_ok(), fits, "{len} bytes");
+        }
+        Ok(())
+    }
+
     #[test]
     fn lines_end_at_their_limit(rt: HostRuntime) -> Result<(), Fail> {
         let alloc = rt.alloc();
