@@ -1,5 +1,5 @@
 -- The compact text of a value of arrays, texts and whole numbers is read as that value; so is a command's.
-use Rattle.std.proofs.Common.{◌≡◌, ℕ, ℤ, suc, max, ◌≤◌, ◌<◌, ◌^◌, pos, negsuc, List, [], ◌∷◌, map, Option, Some, refl, sym, ap, ◌∙◌, append-nil, arith, FitsSigned, Ok, Err, cond, length, le-leb}
+use Rattle.std.proofs.Common.{◌≡◌, ℕ, ℤ, suc, max, ◌≤◌, ◌<◌, ◌^◌, pos, negsuc, List, [], ◌∷◌, map, Option, Some, refl, sym, ap, subst, ◌∙◌, append-nil, arith, FitsSigned, Ok, Err, cond, length, le-leb}
 use Rattle.std.specs.Prelude.{option_map, option_and_then, ⊤}
 use Rattle.std.specs.Int.{w64}
 use Rattle.std.specs.List.{AllByRecursion}
@@ -23,10 +23,11 @@ use Rattle.chr_json.specs.Commands.{NamedAtom, Said, show, tell}
 use Rattle.chr_json.specs.declared.fault.LineFault.TheVariants as fault
 use Rattle.chr_json.specs.declared.limits.TheConstants.{MAX_LINE}
 use Rattle.chr_json.specs.Reads.{value_said, line_said}
+use Rattle.chr_json.specs.Texts.{command_text, IsWithinTextLimits, CommandTextsAreSaid}
 use Rattle.chr_json.specs.Values.{json_in}
 use Rattle.chr_json.proofs.Back.{commands_back}
 use Rattle.chr_json.proofs.Laws.{json_some}
-use Rattle.chr_json.specs.Printed.{argument_data, atom_data, command_data, ArgumentsFit, IsWithinCommandLimits, IsWithinTextLimits}
+use Rattle.chr_json.specs.Printed.{argument_data, atom_data, command_data, ArgumentsFit, IsWithinCommandLimits}
 
 -- a whole number of 64 bits, without a sign or below zero
 abbrev IsWhole : Num → Type 0
@@ -151,12 +152,14 @@ within_command_limits : (s : Said) → IsWithinTextLimits s → IsWithinCommandL
 within_command_limits (show r) h = tt
 within_command_limits (tell r o n ws) h = h.0
 
-value_is_said : (line : List ℕ) (s : Said) → line ≡ compact_text (command_data s) → IsUtf8 line → IsWithinTextLimits s → value_said (json_in line) ≡ Ok s
-value_is_said line s is_text utf8 h =
-    ap value_said (json_some line (command_data s) utf8 (ap read is_text ∙ command_text_read s h))
+pub texts_are_said : CommandTextsAreSaid
+texts_are_said s h utf8 within =
+    let text = command_text s in
+    ap (λ b. cond b (value_said (json_in text)) (Err fault.BadLine)) (le-leb (length text) MAX_LINE within)
+    ∙ ap value_said (json_some text (command_data s) utf8 (command_text_read s h))
     ∙ ap (λ o. ok_or o fault.Shape) (commands_back s (within_command_limits s h))
 
-pub line_is_said : (line : List ℕ) (s : Said) → length line ≤ MAX_LINE → line ≡ compact_text (command_data s) → IsUtf8 line → IsWithinTextLimits s → line_said line ≡ Ok s
-line_is_said line s within is_text utf8 h =
-    ap (λ b. cond b (value_said (json_in line)) (Err fault.BadLine)) (le-leb (length line) MAX_LINE within)
-    ∙ value_is_said line s is_text utf8 h
+-- also where the line is known to be this text
+pub line_is_said : (line : List ℕ) (s : Said) → line ≡ command_text s → IsWithinTextLimits s → IsUtf8 line → length line ≤ MAX_LINE → line_said line ≡ Ok s
+line_is_said line s is h utf8 within =
+    ap line_said is ∙ texts_are_said s h (subst IsUtf8 is utf8) (subst (λ l. length l ≤ MAX_LINE) is within)

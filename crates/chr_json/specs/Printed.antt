@@ -35,11 +35,6 @@ abbrev pub IsWithinCommandLimits : Said → Type 0
 IsWithinCommandLimits (show r) = ⊤
 IsWithinCommandLimits (tell r o n ws) = (o < 2 ^ 32) × IsOperationLength (length ws) × AllByRecursion ArgumentsFit ws
 
--- so are the replica and the operation's number, of 64 bits
-abbrev pub IsWithinTextLimits : Said → Type 0
-IsWithinTextLimits (show r) = r < 2 ^ 64
-IsWithinTextLimits (tell r o n ws) = IsWithinCommandLimits (tell r o n ws) × (r < 2 ^ 64) × (n < 2 ^ 64)
-
 -- a command's own value is read as that command
 abbrev pub CommandsAreRead : Type 0
 CommandsAreRead = (s : Said) → IsWithinCommandLimits s → command_of (command_data s) ≡ Some s

@@ -6,23 +6,25 @@ ghost use Rattle.serde_json.specs.Data.{array};
 ghost use Rattle.serde_json.specs.View.{items_of};
 ghost use Rattle.serde_json.specs.Written.{compact_text, items_text};
 ghost use Rattle.chr_json.specs.Commands.{IsOperationLength};
-ghost use Rattle.chr_json.specs.Printed.{argument_data, atom_data, atoms_data, id_data, command_data, ArgumentsFit, IsWithinTextLimits};
+ghost use Rattle.chr_json.specs.Printed.{argument_data, atom_data, atoms_data, id_data, ArgumentsFit};
 ghost use Rattle.chr_json.specs.Reads.{IsSized, raw_atom_view, command_view};
+ghost use Rattle.chr_json.specs.Texts.{command_text, IsWithinTextLimits};
 ghost use Rattle.std.specs.Int.{w64};
 ghost use Rattle.std.specs.List.{AllByRecursion};
 
-use crate::atom::RawAtom;
+use crate::atom::{Args, RawAtom};
 use crate::command::Command;
 use crate::piece::{Stop, after, integer, name, natural};
 use chr_base::limits::MAX_OPERATION;
 use std::alloc::Global;
+use std::borrow::CowStr;
 
 /// Arguments that follow a name, to the end of their array.
-fn arguments(alloc: Global, text: &[u8]) -> Result<(Vec<i64>, &[u8]), Stop>
+fn arguments(alloc: Global, text: &[u8]) -> Result<(Args, &[u8]), Stop>
     ensures text { IfOk result (λ r. text.now ≡ items_text true (items_of (map argument_data r.0.items)) ++ r.1.now) }
     ensures fit { IfOk result (λ r. AllByRecursion (FitsSigned w64) r.0.items) }
 {
-    let mut found = Vec::new(alloc);
+    let mut found = Args::new(alloc);
     let mut rest = text;
     while let [b',', next @ ..] = rest {
         let (value, next) = integer(next)?;
@@ -34,25 +36,25 @@ fn arguments(alloc: Global, text: &[u8]) -> Result<(Vec<i64>, &[u8]), Stop>
 }
 
 /// An array of a name and arguments.
-fn atom(alloc: Global, text: &[u8]) -> Result<(RawAtom, &[u8]), Stop>
+fn atom<'a>(alloc: Global, text: &'a [u8]) -> Result<(RawAtom<'a>, &'a [u8]), Stop>
     ensures text { IfOk result (λ r. text.now ≡ compact_text (atom_data (raw_atom_view r.0)) ++ r.1.now) }
     ensures fit { IfOk result (λ r. ArgumentsFit (raw_atom_view r.0)) }
 {
     let rest = after(b"[", text)?;
     let (name, rest) = name(rest)?;
-    let name = String::from_str(alloc, name)?;
     let (args, rest) = arguments(alloc, rest)?;
+    let name = CowStr::Borrowed(name);
     Ok((RawAtom { name, args }, rest))
 }
 
 /// What is read of atoms that follow this one, to the end of their array.
-fn with_more_atoms(
+fn with_more_atoms<'a>(
     alloc: Global,
-    first: RawAtom,
-    text: &[u8],
-) -> Result<(Vec<RawAtom>, &[u8]), Stop>
+    first: RawAtom<'a>,
+    text: &'a [u8],
+) -> Result<(Vec<RawAtom<'a>>, &'a [u8]), Stop>
     requires { ArgumentsFit (raw_atom_view first) }
-    ensures text { IfOk result (λ r. compact_text (atom_data (raw_atom_view first)) ++ text.now
+    ensures text { IfOk result (λ r. compact_text (atom_data (raw_atom_view first.entry)) ++ text.now
         ≡ items_text false (items_of (map atom_data (map raw_atom_view r.0.items))) ++ r.1.now) }
     ensures fit { IfOk result (λ r. AllByRecursion ArgumentsFit (map raw_atom_view r.0.items)) }
     ensures sized { IfOk result (λ r. IsOperationLength (vec_len r.0)) }
@@ -73,7 +75,7 @@ fn with_more_atoms(
 }
 
 /// An array of 1 to [`MAX_OPERATION`] atoms.
-fn atoms(alloc: Global, text: &[u8]) -> Result<(Vec<RawAtom>, &[u8]), Stop>
+fn atoms<'a>(alloc: Global, text: &'a [u8]) -> Result<(Vec<RawAtom<'a>>, &'a [u8]), Stop>
     ensures text { IfOk result (λ r. text.now ≡ compact_text (atoms_data (map raw_atom_view r.0.items)) ++ r.1.now) }
     ensures fit { IfOk result (λ r. AllByRecursion ArgumentsFit (map raw_atom_view r.0.items)) }
     ensures sized { IfOk result (λ r. IsOperationLength (vec_len r.0)) }
@@ -99,8 +101,8 @@ fn id(text: &[u8]) -> Result<(u32, u64, &[u8]), Stop>
 }
 
 /// The command whose compact text the line is, where it is a tell.
-pub fn tell_in(alloc: Global, line: &[u8]) -> Result<Command, Stop>
-    ensures text { IfOk result (λ c. line.now ≡ compact_text (command_data (command_view c))) }
+pub fn tell_in<'a>(alloc: Global, line: &'a [u8]) -> Result<Command<'a>, Stop>
+    ensures text { IfOk result (λ c. line.now ≡ command_text (command_view c)) }
     ensures utf8 { OnOk result (IsUtf8 line.now) }
     ensures limits { IfOk result (λ c. IsWithinTextLimits (command_view c)) }
     ensures sized { IfOk result IsSized }

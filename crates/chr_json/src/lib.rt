@@ -13,9 +13,9 @@ mod line;
 mod piece;
 mod value;
 
-pub use atom::RawAtom;
+pub use atom::{Args, RawAtom};
 pub use chr_base::limits::MAX_OPERATION;
-pub use command::{Command, commands_are_read};
+pub use command::{Command, command_texts_are_said, commands_are_read};
 pub use fault::LineFault;
 pub use limits::{MAX_LINE, MAX_ORIGIN};
 pub use line::{is_blank, read_line};

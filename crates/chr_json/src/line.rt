@@ -37,7 +37,7 @@ fn value_in(alloc: Global, line: &[u8]) -> Result<Value, LineFault>
 }
 
 /// The command of a line's JSON value.
-fn command_by_value(alloc: Global, line: &[u8]) -> Result<Command, LineFault>
+fn command_by_value<'a>(alloc: Global, line: &[u8]) -> Result<Command<'a>, LineFault>
     ensures read { GivesLine result (value_said (json_in line.now)) }
     ensures sized { IfOk result IsSized }
 {
@@ -51,7 +51,7 @@ fn command_by_value(alloc: Global, line: &[u8]) -> Result<Command, LineFault>
 ///
 /// `BadLine` where the line has more than [`MAX_LINE`] bytes, which needs no memory, or is no JSON value, `Shape` where
 /// its value is no command, and `Memory` where no memory was left.
-pub fn read_line(alloc: Global, line: &[u8]) -> Result<Command, LineFault>
+pub fn read_line<'a>(alloc: Global, line: &'a [u8]) -> Result<Command<'a>, LineFault>
     ensures read { GivesLine result (line_said line.now) }
     ensures long { MAX_LINE < length line.now → result ≡ Err BadLine }
     ensures sized { IfOk result IsSized }
@@ -69,15 +69,16 @@ pub fn read_line(alloc: Global, line: &[u8]) -> Result<Command, LineFault>
 #[cfg(test)]
 mod tests {
     use super::*;
-    use crate::atom::RawAtom;
-    use crate::command::commands_are_read;
+    use crate::atom::{Args, RawAtom};
+    use crate::command::{command_texts_are_said, commands_are_read};
     use std::alloc::AllocError;
+    use std::borrow::CowStr;
     use std::test::Fail;
 
     /// An atom with one argument.
-    fn atom(alloc: Global, name: &str, argument: i64) -> Result<RawAtom, AllocError> {
-        let name = String::from_str(alloc, name)?;
-        let mut args = Vec::new(alloc);
+    fn atom<'a>(alloc: Global, name: &'a str, argument: i64) -> Result<RawAtom<'a>, AllocError> {
+        let name = CowStr::Borrowed(name);
+        let mut args = Args::new(alloc);
         args.push(argument)?;
         Ok(RawAtom { name, args })
     }
@@ -100,6 +101,7 @@ mod tests {
         let show = Command::Show { replica: 0 };
         assert_eq!(rt; read_line(alloc, b"[\"show\",0]".as_slice()), Ok(show));
         commands_are_read();
+        command_texts_are_said();
         Ok(())
     }
 

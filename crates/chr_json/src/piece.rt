@@ -7,7 +7,7 @@ ghost use Rattle.json.specs.Print.{quoted};
 ghost use Rattle.chr_json.specs.working.Compact.{is_bare};
 ghost use Rattle.chr_json.specs.declared.piece.Stop.TheVariants.{Memory};
 
-use std::alloc::{AllocError, AllocFailed};
+use std::alloc::AllocFailed;
 
 /// Why a piece was not read.
 #[derive(Debug, Drop)]
@@ -16,14 +16,6 @@ pub enum Stop {
     Memory,
     /// The bytes have another form, or a value that is left to the reader of all JSON.
     Other,
-}
-
-impl From<AllocError> for Stop {
-    ghost from_gives = { λ _ e. e ≡ Memory };
-
-    fn from(_e: AllocError) -> Stop {
-        Stop::Memory
-    }
 }
 
 impl<T: Drop> From<AllocFailed<T>> for Stop {
