@@ -17,7 +17,7 @@ use std::alloc::Global;
 use std::borrow::CowStr;
 
 /// The arguments of an atom. As many as a symbol may have need no allocation.
-pub type Args = SmallVec<i64, MAX_ARITY>;
+pub type Arguments = SmallVec<i64, MAX_ARITY>;
 
 /// A name and its arguments, as a line spells them.
 #[derive(Debug, PartialEq, Drop)]
@@ -25,14 +25,14 @@ pub struct RawAtom<'a> {
     /// Any text, in UTF-8. It is borrowed from the line where it stands there without escapes.
     pub name: CowStr<'a, Global>,
     /// Any number of arguments.
-    pub args: Args,
+    pub args: Arguments,
 }
 
 /// Whole numbers of 64 bits with a sign.
-fn integers(alloc: Global, values: &[Value]) -> Result<Args, LineFault>
+fn integers(alloc: Global, values: &[Value]) -> Result<Arguments, LineFault>
     ensures { GivesPart (λ v. v.items) result (each integer_of (map data_of values.now)) }
 {
-    let mut found = Args::new(alloc);
+    let mut found = Arguments::new(alloc);
     for value in values {
         let Some(number) = value.as_i64() else {
             return Err(LineFault::Shape);
@@ -43,7 +43,7 @@ fn integers(alloc: Global, values: &[Value]) -> Result<Args, LineFault>
 }
 
 /// An array of a name and arguments.
-fn atom<'a>(alloc: Global, value: &Value) -> Result<RawAtom<'a>, LineFault>
+fn atom(alloc: Global, value: &Value) -> Result<RawAtom<'static>, LineFault>
     ensures { GivesPart raw_atom_view result (named_atom_of (data_of value.now)) }
 {
     let Some([first, rest @ ..]) = elements(value) else {
@@ -58,7 +58,7 @@ fn atom<'a>(alloc: Global, value: &Value) -> Result<RawAtom<'a>, LineFault>
 }
 
 /// One atom after another.
-fn atom_list<'a>(alloc: Global, values: &[Value]) -> Result<Vec<RawAtom<'a>>, LineFault>
+fn atom_list(alloc: Global, values: &[Value]) -> Result<Vec<RawAtom<'static>>, LineFault>
     ensures read { GivesPart (λ v. map raw_atom_view v.items) result (each named_atom_of (map data_of values.now)) }
     ensures length { IfOk result (λ v. vec_len v ≡ length values.now) }
 {
@@ -70,7 +70,7 @@ fn atom_list<'a>(alloc: Global, values: &[Value]) -> Result<Vec<RawAtom<'a>>, Li
 }
 
 /// An array of 1 to [`MAX_OPERATION`] atoms.
-pub fn atoms<'a>(alloc: Global, value: &Value) -> Result<Vec<RawAtom<'a>>, LineFault>
+pub fn atoms(alloc: Global, value: &Value) -> Result<Vec<RawAtom<'static>>, LineFault>
     ensures read { GivesPart (λ v. map raw_atom_view v.items) result (named_atoms_of (data_of value.now)) }
     ensures sized { IfOk result (λ v. IsOperationLength (vec_len v)) }
 {

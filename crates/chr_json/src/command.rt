@@ -45,7 +45,7 @@ fn id(value: &Value) -> Option<(u32, u64)>
     Some((origin(first)?, second.as_u64()?))
 }
 
-fn show<'a>(replica: &Value) -> Result<Command<'a>, LineFault>
+fn show(replica: &Value) -> Result<Command<'static>, LineFault>
     ensures read { GivesPart command_view result (show_of (data_of replica.now)) }
     ensures sized { IfOk result IsSized }
 {
@@ -55,12 +55,12 @@ fn show<'a>(replica: &Value) -> Result<Command<'a>, LineFault>
     Ok(Command::Show { replica })
 }
 
-fn tell<'a>(
+fn tell(
     alloc: Global,
     replica: &Value,
     name: &Value,
     values: &Value,
-) -> Result<Command<'a>, LineFault>
+) -> Result<Command<'static>, LineFault>
     ensures read { GivesPart command_view result
         (tell_of (data_of replica.now) (data_of name.now) (data_of values.now)) }
     ensures sized { IfOk result IsSized }
@@ -81,7 +81,7 @@ fn tell<'a>(
 }
 
 /// The command that a value is.
-pub fn command_in<'a>(alloc: Global, value: &Value) -> Result<Command<'a>, LineFault>
+pub fn command_in(alloc: Global, value: &Value) -> Result<Command<'static>, LineFault>
     ensures read { GivesPart command_view result (command_of (data_of value.now)) }
     ensures sized { IfOk result IsSized }
 {

@@ -12,7 +12,7 @@ ghost use Rattle.chr_json.specs.Texts.{command_text, IsWithinTextLimits};
 ghost use Rattle.std.specs.Int.{w64};
 ghost use Rattle.std.specs.List.{AllByRecursion};
 
-use crate::atom::{Args, RawAtom};
+use crate::atom::{Arguments, RawAtom};
 use crate::command::Command;
 use crate::piece::{Stop, after, integer, name, natural};
 use chr_base::limits::MAX_OPERATION;
@@ -20,11 +20,11 @@ use std::alloc::Global;
 use std::borrow::CowStr;
 
 /// Arguments that follow a name, to the end of their array.
-fn arguments(alloc: Global, text: &[u8]) -> Result<(Args, &[u8]), Stop>
+fn arguments(alloc: Global, text: &[u8]) -> Result<(Arguments, &[u8]), Stop>
     ensures text { IfOk result (λ r. text.now ≡ items_text true (items_of (map argument_data r.0.items)) ++ r.1.now) }
     ensures fit { IfOk result (λ r. AllByRecursion (FitsSigned w64) r.0.items) }
 {
-    let mut found = Args::new(alloc);
+    let mut found = Arguments::new(alloc);
     let mut rest = text;
     while let [b',', next @ ..] = rest {
         let (value, next) = integer(next)?;
@@ -36,7 +36,7 @@ fn arguments(alloc: Global, text: &[u8]) -> Result<(Args, &[u8]), Stop>
 }
 
 /// An array of a name and arguments.
-fn atom<'a>(alloc: Global, text: &'a [u8]) -> Result<(RawAtom<'a>, &'a [u8]), Stop>
+fn atom(alloc: Global, text: &[u8]) -> Result<(RawAtom<'_>, &[u8]), Stop>
     ensures text { IfOk result (λ r. text.now ≡ compact_text (atom_data (raw_atom_view r.0)) ++ r.1.now) }
     ensures fit { IfOk result (λ r. ArgumentsFit (raw_atom_view r.0)) }
 {
@@ -75,7 +75,7 @@ fn with_more_atoms<'a>(
 }
 
 /// An array of 1 to [`MAX_OPERATION`] atoms.
-fn atoms<'a>(alloc: Global, text: &'a [u8]) -> Result<(Vec<RawAtom<'a>>, &'a [u8]), Stop>
+fn atoms(alloc: Global, text: &[u8]) -> Result<(Vec<RawAtom<'_>>, &[u8]), Stop>
     ensures text { IfOk result (λ r. text.now ≡ compact_text (atoms_data (map raw_atom_view r.0.items)) ++ r.1.now) }
     ensures fit { IfOk result (λ r. AllByRecursion ArgumentsFit (map raw_atom_view r.0.items)) }
     ensures sized { IfOk result (λ r. IsOperationLength (vec_len r.0)) }
@@ -101,7 +101,7 @@ fn id(text: &[u8]) -> Result<(u32, u64, &[u8]), Stop>
 }
 
 /// The command whose compact text the line is, where it is a tell.
-pub fn tell_in<'a>(alloc: Global, line: &'a [u8]) -> Result<Command<'a>, Stop>
+pub fn tell_in(alloc: Global, line: &[u8]) -> Result<Command<'_>, Stop>
     ensures text { IfOk result (λ c. line.now ≡ command_text (command_view c)) }
     ensures utf8 { OnOk result (IsUtf8 line.now) }
     ensures limits { IfOk result (λ c. IsWithinTextLimits (command_view c)) }

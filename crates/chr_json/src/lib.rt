@@ -13,7 +13,7 @@ mod line;
 mod piece;
 mod value;
 
-pub use atom::{Args, RawAtom};
+pub use atom::{Arguments, RawAtom};
 pub use chr_base::limits::MAX_OPERATION;
 pub use command::{Command, command_texts_are_said, commands_are_read};
 pub use fault::LineFault;

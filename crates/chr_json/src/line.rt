@@ -51,7 +51,7 @@ fn command_by_value<'a>(alloc: Global, line: &[u8]) -> Result<Command<'a>, LineF
 ///
 /// `BadLine` where the line has more than [`MAX_LINE`] bytes, which needs no memory, or is no JSON value, `Shape` where
 /// its value is no command, and `Memory` where no memory was left.
-pub fn read_line<'a>(alloc: Global, line: &'a [u8]) -> Result<Command<'a>, LineFault>
+pub fn read_line(alloc: Global, line: &[u8]) -> Result<Command<'_>, LineFault>
     ensures read { GivesLine result (line_said line.now) }
     ensures long { MAX_LINE < length line.now → result ≡ Err BadLine }
     ensures sized { IfOk result IsSized }
@@ -69,16 +69,16 @@ pub fn read_line<'a>(alloc: Global, line: &'a [u8]) -> Result<Command<'a>, LineF
 #[cfg(test)]
 mod tests {
     use super::*;
-    use crate::atom::{Args, RawAtom};
+    use crate::atom::{Arguments, RawAtom};
     use crate::command::{command_texts_are_said, commands_are_read};
     use std::alloc::AllocError;
     use std::borrow::CowStr;
     use std::test::Fail;
 
     /// An atom with one argument.
-    fn atom<'a>(alloc: Global, name: &'a str, argument: i64) -> Result<RawAtom<'a>, AllocError> {
+    fn atom(alloc: Global, name: &str, argument: i64) -> Result<RawAtom<'_>, AllocError> {
         let name = CowStr::Borrowed(name);
-        let mut args = Args::new(alloc);
+        let mut args = Arguments::new(alloc);
         args.push(argument)?;
         Ok(RawAtom { name, args })
     }
