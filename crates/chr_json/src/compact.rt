@@ -1,16 +1,15 @@
-//! Tells in compact JSON, read straight from their bytes. Most lines are such tells, and no tree of values is made for them.
+//! Tells in compact JSON, read straight from their bytes: no tree of values is made for them.
 
-ghost use Rattle.std.specs.Prelude.{◌≡◌, ◌++◌, ◌∷◌, [], true, false, IfOk, OnOk, FitsSigned, map, length, vec_len};
+ghost use Rattle.std.specs.Prelude.{◌≡◌, ◌++◌, true, false, IfOk, OnOk, FitsSigned, map, vec_len};
+ghost use Rattle.std.specs.Int.{w64};
+ghost use Rattle.std.specs.List.{AllByRecursion};
 ghost use Rattle.std.specs.Str.{IsUtf8};
-ghost use Rattle.serde_json.specs.Data.{array};
 ghost use Rattle.serde_json.specs.View.{items_of};
 ghost use Rattle.serde_json.specs.Written.{compact_text, items_text};
 ghost use Rattle.chr_json.specs.Commands.{IsOperationLength};
 ghost use Rattle.chr_json.specs.Printed.{argument_data, atom_data, atoms_data, id_data, ArgumentsFit};
 ghost use Rattle.chr_json.specs.Reads.{IsSized, raw_atom_view, command_view};
 ghost use Rattle.chr_json.specs.Texts.{command_text, IsWithinTextLimits};
-ghost use Rattle.std.specs.Int.{w64};
-ghost use Rattle.std.specs.List.{AllByRecursion};
 
 use crate::atom::{Arguments, RawAtom};
 use crate::command::Command;
@@ -47,7 +46,7 @@ fn atom(alloc: Global, text: &[u8]) -> Result<(RawAtom<'_>, &[u8]), Stop>
     Ok((RawAtom { name, args }, rest))
 }
 
-/// What is read of atoms that follow this one, to the end of their array.
+/// This atom and those that follow it, to the end of their array.
 fn with_more_atoms<'a>(
     alloc: Global,
     first: RawAtom<'a>,
@@ -100,7 +99,7 @@ fn id(text: &[u8]) -> Result<(u32, u64, &[u8]), Stop>
     Ok((origin, number, rest))
 }
 
-/// The command whose compact text the line is, where it is a tell.
+/// The tell whose compact text the line is. `Other` says nothing of the line.
 pub fn tell_in(alloc: Global, line: &[u8]) -> Result<Command<'_>, Stop>
     ensures text { IfOk result (λ c. line.now ≡ command_text (command_view c)) }
     ensures utf8 { OnOk result (IsUtf8 line.now) }

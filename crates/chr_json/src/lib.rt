@@ -1,7 +1,7 @@
 //! Command lines of JSON, read as commands by their shape alone.
 //!
-//! A line is one JSON value in at most [`MAX_LINE`] bytes. What a command's names and replicas
-//! mean is left to the caller: no program is looked at here.
+//! A line is one JSON value in at most [`MAX_LINE`] bytes. A tell without white space and escapes is read straight from
+//! its bytes. What a command's names and replicas mean is left to the caller: no program is looked at here.
 #![tactic(auto)]
 
 mod atom;

@@ -1,6 +1,6 @@
 //! The pieces of compact JSON, read from the front of bytes. Each reader hands back the bytes after its piece.
 
-ghost use Rattle.std.specs.Prelude.{◌≡◌, ◌++◌, ◌≤◌, ◌<◌, IfOk, decimal, take, length};
+ghost use Rattle.std.specs.Prelude.{◌≡◌, ◌++◌, ◌≤◌, ◌<◌, IfOk, decimal, length};
 ghost use Rattle.std.specs.Fmt.{signed_decimal};
 ghost use Rattle.std.specs.List.{prefix_len};
 ghost use Rattle.json.specs.Print.{quoted};
@@ -36,7 +36,7 @@ pub fn after<'a>(front: &[u8], text: &'a [u8]) -> Result<&'a [u8], Stop>
     }
 }
 
-/// The value whose decimal digits are those of this one and then those at the front.
+/// The number whose decimal digits are those of this one, and then those at the front.
 fn with_more_digits(first: u64, text: &[u8]) -> Result<(u64, &[u8]), Stop>
     requires { 0 < first }
     ensures { IfOk result (λ r. decimal first ++ text.now ≡ decimal r.0 ++ r.1.now) }
@@ -68,8 +68,7 @@ pub fn natural(text: &[u8]) -> Result<(u64, &[u8]), Stop>
     }
 }
 
-/// A whole number that has a minus before it or none, in 64 bits. The least of them is left out, and so is a minus
-/// before a zero.
+/// A whole number that has a minus before it or none, in 64 bits. The least of them is left to the reader of all JSON.
 pub fn integer(text: &[u8]) -> Result<(i64, &[u8]), Stop>
     ensures { IfOk result (λ r. text.now ≡ signed_decimal r.0 ++ r.1.now) }
 {
@@ -85,6 +84,7 @@ pub fn integer(text: &[u8]) -> Result<(i64, &[u8]), Stop>
         return Ok((value, rest));
     }
     if value == 0 {
+        // JSON's `-0` is no whole number
         return Err(Stop::Other);
     }
     Ok((-value, rest))
