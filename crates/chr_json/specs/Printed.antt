@@ -19,11 +19,12 @@ atom_data w = array (items_of (string w.name ∷ map argument_data w.args))
 abbrev pub atoms_data : List NamedAtom → Data
 atoms_data ws = array (items_of (map atom_data ws))
 
+abbrev pub id_data : ℕ → ℕ → Data
+id_data o n = array (items_of (natural_data o ∷ natural_data n ∷ []))
+
 abbrev pub command_data : Said → Data
 command_data (show r) = array (items_of (string (codes "show") ∷ natural_data r ∷ []))
-command_data (tell r o n ws) =
-    let id = array (items_of (natural_data o ∷ natural_data n ∷ [])) in
-    array (items_of (string (codes "tell") ∷ natural_data r ∷ id ∷ atoms_data ws ∷ []))
+command_data (tell r o n ws) = array (items_of (string (codes "tell") ∷ natural_data r ∷ id_data o n ∷ atoms_data ws ∷ []))
 
 -- each argument has 64 bits
 abbrev pub ArgumentsFit : NamedAtom → Type 0

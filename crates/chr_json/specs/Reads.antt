@@ -1,5 +1,6 @@
 -- What a line says or why it is refused, and what the reader's answers mean.
-use Rattle.std.specs.Prelude.{◌≡◌, ℕ, List, map, if◌then◌else◌, Option, Some, None, Result, Ok, Err, string_bytes, vec_len, ⊤}
+use Rattle.std.specs.Prelude.{◌≡◌, ℕ, List, map, if◌then◌else◌, Option, Some, None, Result, Ok, Err, vec_len, ⊤}
+use Rattle.std.specs.Cow.{cow_str_bytes}
 use Rattle.std.specs.Option.{ok_or}
 use Rattle.serde_json.specs.Data.{Data}
 use Rattle.chr_json.specs.declared.fault.LineFault.{LineFault}
@@ -13,7 +14,7 @@ use Rattle.chr_json.specs.Lines.{has_line_length}
 
 -- what an atom of the code stands for
 abbrev pub raw_atom_view : RawAtom → NamedAtom
-raw_atom_view a = record { name = string_bytes a.name; args = a.args.items }
+raw_atom_view a = record { name = cow_str_bytes a.name; args = a.args.items }
 
 -- what a command of the code stands for
 abbrev pub command_view : Command → Said

@@ -1,2 +1,3 @@
 -- Words of private contracts.
 pub mod Parts
+pub mod Compact

@@ -10,24 +10,29 @@ ghost use Rattle.chr_json.specs.working.Parts.{GivesPart};
 
 use crate::fault::LineFault;
 use crate::value::elements;
-use chr_base::limits::MAX_OPERATION;
+use chr_base::limits::{MAX_ARITY, MAX_OPERATION};
 use serde_json::Value;
+use smallvec::SmallVec;
 use std::alloc::Global;
+use std::borrow::CowStr;
+
+/// The arguments of an atom. As many as a symbol may have need no allocation.
+pub type Arguments = SmallVec<i64, MAX_ARITY>;
 
 /// A name and its arguments, as a line spells them.
 #[derive(Debug, PartialEq, Drop)]
-pub struct RawAtom {
-    /// Any text, in UTF-8.
-    pub name: String,
+pub struct RawAtom<'a> {
+    /// Any text, in UTF-8. It is borrowed from the line where it stands there without escapes.
+    pub name: CowStr<'a, Global>,
     /// Any number of arguments.
-    pub args: Vec<i64>,
+    pub args: Arguments,
 }
 
 /// Whole numbers of 64 bits with a sign.
-fn integers(alloc: Global, values: &[Value]) -> Result<Vec<i64>, LineFault>
+fn integers(alloc: Global, values: &[Value]) -> Result<Arguments, LineFault>
     ensures { GivesPart (λ v. v.items) result (each integer_of (map data_of values.now)) }
 {
-    let mut found = Vec::new(alloc);
+    let mut found = Arguments::new(alloc);
     for value in values {
         let Some(number) = value.as_i64() else {
             return Err(LineFault::Shape);
@@ -38,7 +43,7 @@ fn integers(alloc: Global, values: &[Value]) -> Result<Vec<i64>, LineFault>
 }
 
 /// An array of a name and arguments.
-fn atom(alloc: Global, value: &Value) -> Result<RawAtom, LineFault>
+fn atom(alloc: Global, value: &Value) -> Result<RawAtom<'static>, LineFault>
     ensures { GivesPart raw_atom_view result (named_atom_of (data_of value.now)) }
 {
     let Some([first, rest @ ..]) = elements(value) else {
@@ -47,13 +52,13 @@ fn atom(alloc: Global, value: &Value) -> Result<RawAtom, LineFault>
     let Some(name) = first.as_str() else {
         return Err(LineFault::Shape);
     };
-    let name = String::from_str(alloc, name)?;
+    let name = CowStr::Owned(String::from_str(alloc, name)?);
     let args = integers(alloc, rest)?;
     Ok(RawAtom { name, args })
 }
 
 /// One atom after another.
-fn atom_list(alloc: Global, values: &[Value]) -> Result<Vec<RawAtom>, LineFault>
+fn atom_list(alloc: Global, values: &[Value]) -> Result<Vec<RawAtom<'static>>, LineFault>
     ensures read { GivesPart (λ v. map raw_atom_view v.items) result (each named_atom_of (map data_of values.now)) }
     ensures length { IfOk result (λ v. vec_len v ≡ length values.now) }
 {
@@ -65,7 +70,7 @@ fn atom_list(alloc: Global, values: &[Value]) -> Result<Vec<RawAtom>, LineFault>
 }
 
 /// An array of 1 to [`MAX_OPERATION`] atoms.
-pub fn atoms(alloc: Global, value: &Value) -> Result<Vec<RawAtom>, LineFault>
+pub fn atoms(alloc: Global, value: &Value) -> Result<Vec<RawAtom<'static>>, LineFault>
     ensures read { GivesPart (λ v. map raw_atom_view v.items) result (named_atoms_of (data_of value.now)) }
     ensures sized { IfOk result (λ v. IsOperationLength (vec_len v)) }
 {

@@ -5,6 +5,7 @@ ghost use Rattle.serde_json.specs.View.{view as data_of};
 ghost use Rattle.chr_json.specs.Commands.{id_of, tell_of, show_of, command_of};
 ghost use Rattle.chr_json.specs.Printed.{CommandsAreRead};
 ghost use Rattle.chr_json.specs.Reads.{IsSized, command_view};
+ghost use Rattle.chr_json.specs.Texts.{CommandTextsAreSaid};
 ghost use Rattle.chr_json.specs.working.Parts.{GivesPart};
 
 use crate::atom::{RawAtom, atoms};
@@ -15,7 +16,7 @@ use std::alloc::Global;
 
 /// What a line asks for.
 #[derive(Debug, PartialEq, Drop)]
-pub enum Command {
+pub enum Command<'a> {
     /// Tell a replica an operation.
     Tell {
         /// The replica's number.
@@ -25,7 +26,7 @@ pub enum Command {
         /// The operation's number at its origin.
         number: u64,
         /// 1 to [`MAX_OPERATION`](crate::MAX_OPERATION) atoms, in the line's order.
-        atoms: Vec<RawAtom>,
+        atoms: Vec<RawAtom<'a>>,
     },
     /// Show a replica's store.
     Show {
@@ -44,7 +45,7 @@ fn id(value: &Value) -> Option<(u32, u64)>
     Some((origin(first)?, second.as_u64()?))
 }
 
-fn show(replica: &Value) -> Result<Command, LineFault>
+fn show(replica: &Value) -> Result<Command<'static>, LineFault>
     ensures read { GivesPart command_view result (show_of (data_of replica.now)) }
     ensures sized { IfOk result IsSized }
 {
@@ -54,7 +55,12 @@ fn show(replica: &Value) -> Result<Command, LineFault>
     Ok(Command::Show { replica })
 }
 
-fn tell(alloc: Global, replica: &Value, name: &Value, values: &Value) -> Result<Command, LineFault>
+fn tell(
+    alloc: Global,
+    replica: &Value,
+    name: &Value,
+    values: &Value,
+) -> Result<Command<'static>, LineFault>
     ensures read { GivesPart command_view result
         (tell_of (data_of replica.now) (data_of name.now) (data_of values.now)) }
     ensures sized { IfOk result IsSized }
@@ -75,7 +81,7 @@ fn tell(alloc: Global, replica: &Value, name: &Value, values: &Value) -> Result<
 }
 
 /// The command that a value is.
-pub fn command_in(alloc: Global, value: &Value) -> Result<Command, LineFault>
+pub fn command_in(alloc: Global, value: &Value) -> Result<Command<'static>, LineFault>
     ensures read { GivesPart command_view result (command_of (data_of value.now)) }
     ensures sized { IfOk result IsSized }
 {
@@ -99,4 +105,9 @@ pub fn command_in(alloc: Global, value: &Value) -> Result<Command, LineFault>
 /// Each command within the limits is the command of its own JSON value.
 pub fn commands_are_read()
     ensures { CommandsAreRead }
+{}
+
+/// Each command within the limits is what its own text says, as a line of JSON without white space.
+pub fn command_texts_are_said()
+    ensures { CommandTextsAreSaid }
 {}

@@ -1,19 +1,21 @@
 //! Command lines of JSON, read as commands by their shape alone.
 //!
-//! A line is one JSON value in at most [`MAX_LINE`] bytes. What a command's names and replicas
-//! mean is left to the caller: no program is looked at here.
+//! A line is one JSON value in at most [`MAX_LINE`] bytes. A tell without white space and escapes is read straight from
+//! its bytes. What a command's names and replicas mean is left to the caller: no program is looked at here.
 #![tactic(auto)]
 
 mod atom;
 mod command;
+mod compact;
 mod fault;
 mod limits;
 mod line;
+mod piece;
 mod value;
 
-pub use atom::RawAtom;
+pub use atom::{Arguments, RawAtom};
 pub use chr_base::limits::MAX_OPERATION;
-pub use command::{Command, commands_are_read};
+pub use command::{Command, command_texts_are_said, commands_are_read};
 pub use fault::LineFault;
 pub use limits::{MAX_LINE, MAX_ORIGIN};
 pub use line::{is_blank, read_line};

@@ -3,14 +3,16 @@
 ghost use Rattle.std.specs.Prelude.{◌≡◌, ◌<◌, length, Err, IfOk};
 ghost use Rattle.chr_json.specs.Lines.{is_blank_line};
 ghost use Rattle.chr_json.specs.Values.{json_in};
-ghost use Rattle.chr_json.specs.Reads.{GivesLine, IsSized, line_said};
+ghost use Rattle.chr_json.specs.Reads.{GivesLine, IsSized, line_said, value_said};
 ghost use Rattle.chr_json.specs.working.Parts.{GivesValue};
 ghost use Rattle.chr_json.specs.declared.limits.TheConstants.{MAX_LINE};
 ghost use Rattle.chr_json.specs.declared.fault.LineFault.TheVariants.{BadLine};
 
 use crate::command::{Command, command_in};
+use crate::compact::tell_in;
 use crate::fault::LineFault;
 use crate::limits::MAX_LINE;
+use crate::piece::Stop;
 use serde_json::{Category, Value};
 use std::alloc::Global;
 
@@ -34,13 +36,22 @@ fn value_in(alloc: Global, line: &[u8]) -> Result<Value, LineFault>
     }
 }
 
+/// The command of a line's JSON value.
+fn command_by_value<'a>(alloc: Global, line: &[u8]) -> Result<Command<'a>, LineFault>
+    ensures read { GivesLine result (value_said (json_in line.now)) }
+    ensures sized { IfOk result IsSized }
+{
+    let value = value_in(alloc, line)?;
+    command_in(alloc, &value)
+}
+
 /// The command of a line, which comes without its end.
 ///
 /// # Errors
 ///
 /// `BadLine` where the line has more than [`MAX_LINE`] bytes, which needs no memory, or is no JSON value, `Shape` where
 /// its value is no command, and `Memory` where no memory was left.
-pub fn read_line(alloc: Global, line: &[u8]) -> Result<Command, LineFault>
+pub fn read_line(alloc: Global, line: &[u8]) -> Result<Command<'_>, LineFault>
     ensures read { GivesLine result (line_said line.now) }
     ensures long { MAX_LINE < length line.now → result ≡ Err BadLine }
     ensures sized { IfOk result IsSized }
@@ -48,22 +59,26 @@ pub fn read_line(alloc: Global, line: &[u8]) -> Result<Command, LineFault>
     if line.len() > MAX_LINE {
         return Err(LineFault::BadLine);
     }
-    let value = value_in(alloc, line)?;
-    command_in(alloc, &value)
+    match tell_in(alloc, line) {
+        Ok(command) => Ok(command),
+        Err(Stop::Memory) => Err(LineFault::Memory),
+        Err(Stop::Other) => command_by_value(alloc, line),
+    }
 }
 
 #[cfg(test)]
 mod tests {
     use super::*;
-    use crate::atom::RawAtom;
-    use crate::command::commands_are_read;
+    use crate::atom::{Arguments, RawAtom};
+    use crate::command::{command_texts_are_said, commands_are_read};
     use std::alloc::AllocError;
+    use std::borrow::CowStr;
     use std::test::Fail;
 
     /// An atom with one argument.
-    fn atom(alloc: Global, name: &str, argument: i64) -> Result<RawAtom, AllocError> {
-        let name = String::from_str(alloc, name)?;
-        let mut args = Vec::new(alloc);
+    fn atom(alloc: Global, name: &str, argument: i64) -> Result<RawAtom<'_>, AllocError> {
+        let name = CowStr::Borrowed(name);
+        let mut args = Arguments::new(alloc);
         args.push(argument)?;
         Ok(RawAtom { name, args })
     }
@@ -86,6 +101,7 @@ mod tests {
         let show = Command::Show { replica: 0 };
         assert_eq!(rt; read_line(alloc, b"[\"show\",0]".as_slice()), Ok(show));
         commands_are_read();
+        command_texts_are_said();
         Ok(())
     }
 
@@ -138,6 +154,152 @@ mod tests {
             read_line(alloc, b"[\"\xff\",1]".as_slice()).err(),
             Some(LineFault::BadLine)
         );
+        Ok(())
+    }
+
+    /// That the line is read, or left, as it is by its value, and whether its bytes alone say its command.
+    fn is_read_so(alloc: Global, line: &[u8]) -> (bool, bool) {
+        let by_value = command_by_value(alloc, line);
+        let is_same = read_line(alloc, line) == by_value;
+        (is_same, tell_in(alloc, line).is_ok())
+    }
+
+    #[test]
+    fn compact_tells_are_read_from_their_bytes(rt: HostRuntime) -> Result<(), Fail> {
+        let alloc = rt.alloc();
+        for line in [
+            "[\"tell\",1,[1,7],[[\"path\",3,-4,5],[\"coin\"]]]",
+            "[\"tell\",0,[0,0],[[\"\"]]]",
+            "[\"tell\",18446744073709551615,[4294967295,18446744073709551615],[[\"a\",0]]]",
+            "[\"tell\",10,[20,30],[[\"a\",9223372036854775807,-9223372036854775807,-1,100]]]",
+            "[\"tell\",1,[1,1],[[\"tell\"],[\"a b\",1,2,3,4,5,6,7],[\"[]{},:/'\u{7f}\"]]]",
+        ] {
+            assert_eq!(rt;
+                is_read_so(alloc, line.as_bytes()),
+                (true, true),
+                "at {line}"
+            );
+        }
+        Ok(())
+    }
+
+    #[test]
+    fn other_bytes_are_read_by_value(rt: HostRuntime) -> Result<(), Fail> {
+        let alloc = rt.alloc();
+        for line in [
+            "",
+            "[\"show\",1]",
+            " [\"tell\",1,[1,7],[[\"a\",1]]]",
+            "[\"tell\",1,[1,7],[[\"a\",1]]] ",
+            "[\"tell\",1,[1,7],[[\"a\",1]]]\r",
+            "[\"tell\", 1,[1,7],[[\"a\",1]]]",
+            "[\"tell\",1,[1\t,7],[[\"a\",1]]]",
+            "[\"tell\",1,[1,7],[[\"a\", 1]]]",
+            "[\"tell\",1,[1,7],[[\"a\",1] ,[\"b\"]]]",
+            "[\"t\\u0065ll\",1,[1,7],[[\"a\",1]]]",
+            "[\"tell\",1,[1,7],[[\"\\u0061\",1]]]",
+            "[\"tell\",1,[1,7],[[\"a\\\"b\\\\\",1]]]",
+            "[\"tell\",1,[1,7],[[\"\u{e9}\",1]]]",
+            "[\"tell\",1,[1,7],[[\"a\tb\",1]]]",
+            "[\"tell\",1,[1,7],[[\"a\",9223372036854775808]]]",
+            "[\"tell\",1,[1,7],[[\"a\",-9223372036854775808]]]",
+            "[\"tell\",1,[1,7],[[\"a\",-9223372036854775809]]]",
+            "[\"tell\",18446744073709551616,[1,7],[[\"a\",1]]]",
+            "[\"tell\",1,[4294967296,7],[[\"a\",1]]]",
+            "[\"tell\",1,[1,100000000000000000000],[[\"a\",1]]]",
+            "[\"tell\",-1,[1,7],[[\"a\",1]]]",
+            "[\"tell\",1,[1,7],[[\"a\",-0]]]",
+            "[\"tell\",1,[1,7],[[\"a\",01]]]",
+            "[\"tell\",1,[1,7],[[\"a\",-01]]]",
+            "[\"tell\",1,[1,7],[[\"a\",+1]]]",
+            "[\"tell\",1,[1,7],[[\"a\",-]]]",
+            "[\"tell\",1,[1,7],[[\"a\",1.0]]]",
+            "[\"tell\",1,[1,7],[[\"a\",1e2]]]",
+        ] {
+            assert_eq!(rt;
+                is_read_so(alloc, line.as_bytes()),
+                (true, false),
+                "at {line}"
+            );
+        }
+        assert_eq!(rt;
+            is_read_so(alloc, b"[\"tell\",1,[1,7],[[\"\xff\",1]]]"),
+            (true, false)
+        );
+        Ok(())
+    }
+
+    #[test]
+    fn other_shapes_are_read_by_value(rt: HostRuntime) -> Result<(), Fail> {
+        let alloc = rt.alloc();
+        for line in [
+            "[\"Tell\",1,[1,7],[[\"a\",1]]]",
+            "[\"tells\",1,[1,7],[[\"a\",1]]]",
+            "{\"tell\":1}",
+            "[\"tell\",\"1\",[1,7],[[\"a\",1]]]",
+            "[\"tell\",1,[1],[[\"a\",1]]]",
+            "[\"tell\",1,[1,7,8],[[\"a\",1]]]",
+            "[\"tell\",1,[1,7]]",
+            "[\"tell\",1,[1,7],[[\"a\",1]],2]",
+            "[\"tell\",1,[1,7],[[\"a\",1]]]]",
+            "[\"tell\",1,[1,7],[]]",
+            "[\"tell\",1,[1,7],[[]]]",
+            "[\"tell\",1,[1,7],[[1]]]",
+            "[\"tell\",1,[1,7],[\"a\"]]",
+            "[\"tell\",1,[1,7],[[\"a\",\"b\"]]]",
+            "[\"tell\",1,[1,7],[[\"a\",[1]]]]",
+            "[\"tell\",1,[1,7],[[\"a\",null]]]",
+            "[\"tell\",1,[1,7],[[\"a\",1],[[\"b\"]]]]",
+            "[\"tell\",1,[1,7],[[\"a\",]]]",
+            "[\"tell\",1,[1,7],[[\"a\"],]]",
+            "[\"tell\",1,[1,7],[,[\"a\"]]]",
+            "[\"tell\",1,[1,7],[[\"a\"][\"b\"]]]",
+        ] {
+            assert_eq!(rt;
+                is_read_so(alloc, line.as_bytes()),
+                (true, false),
+                "at {line}"
+            );
+        }
+        Ok(())
+    }
+
+    #[test]
+    fn cut_tells_are_read_by_value(rt: HostRuntime) -> Result<(), Fail> {
+        let alloc = rt.alloc();
+        let line = b"[\"tell\",10,[2,30],[[\"path\",3,-45],[\"coin\"]]]".as_slice();
+        for len in 0..line.len() {
+            assert_eq!(rt;
+                is_read_so(alloc, &line[..len]),
+                (true, false),
+                "at {len} bytes"
+            );
+        }
+        Ok(())
+    }
+
+    #[test]
+    fn compact_tells_end_at_their_limits(rt: HostRuntime) -> Result<(), Fail> {
+        let alloc = rt.alloc();
+        for (more, fits) in [(63usize, true), (64, false)] {
+            let mut line = String::from_str(alloc, "[\"tell\",1,[1,1],[[\"a\"]")?;
+            for _ in 0..more {
+                line.push_str(",[\"a\",1]")?;
+            }
+            line.push_str("]]")?;
+            assert_eq!(rt;
+                is_read_so(alloc, line.as_bytes()),
+                (true, fits),
+                "with {more} more"
+            );
+        }
+        for (len, fits) in [(MAX_LINE, true), (MAX_LINE + 1, false)] {
+            let mut line = Vec::new(alloc);
+            line.extend_from_slice(b"[\"tell\",1,[1,1],[[\"")?;
+            line.resize(len - 4, b'a')?;
+            line.extend_from_slice(b"\"]]]")?;
+            assert_eq!(rt; read_line(alloc, &line).is_ok(), fits, "{len} bytes");
+        }
         Ok(())
     }
 

@@ -1,0 +1,5 @@
+use Rattle.std.proofs.Common.{◌≡◌, ◌++◌, ◌<◌, decimal, drop}
+use Rattle.chr_json.proofs.piece.with_more_digits.Given as goal
+
+abbrev pub invariant-loop-place : goal.invariant-loop-place
+invariant-loop-place l = (0 < l.value) × (decimal l.fn.first ++ l.text ≡ decimal l.value ++ drop l.place l.text)
