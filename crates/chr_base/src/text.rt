@@ -1,33 +1,20 @@
 //! Atoms and stores as text.
 ghost use Rattle.std.specs.Prelude.{◌≡◌, ◌++◌, IfOk, OnOk, codes, string_bytes};
 ghost use Rattle.std.specs.Fmt.{signed_decimal};
-ghost use Rattle.std.specs.List.{flat_map};
+ghost use Rattle.std.specs.List.{All, flat_map};
 ghost use Rattle.chr_base.specs.Programs.{declarations};
-ghost use Rattle.chr_base.specs.Texts.{name_of, print_cmp, in_print_order, values_text, atom_text, atoms_text, store_text};
+ghost use Rattle.chr_base.specs.Texts.{in_print_order, atom_text, atoms_text, store_text};
+ghost use Rattle.chr_base.specs.working.Runs.{IsRun};
 
 use crate::atom::Atom;
 use crate::bag::Bag;
 use crate::lists::push_copies;
 use crate::program::Program;
+use crate::runs::{print_order, runs_in_print_order};
 use itoa::Buffer;
 use std::alloc::{AllocError, Global};
-use std::cmp::Ordering;
 
-/// The order in which atoms are printed: by the bytes of the name, then by the number of arguments, then by the
-/// arguments as numbers, the first first.
-fn print_order(program: &Program, left: &Atom, right: &Atom) -> Ordering
-    ensures { result ≡ print_cmp (declarations program.now) left.now right.now }
-{
-    program
-        .name_or_none(left)
-        .as_bytes()
-        .cmp(program.name_or_none(right).as_bytes())
-        .then(left.args.len().cmp(&right.args.len()))
-        .then(left.args.as_slice().cmp(right.args.as_slice()))
-        .then(left.symbol.0.cmp(&right.symbol.0))
-}
-
-/// The atoms in the order in which they are printed.
+/// The atoms in the order in which they are printed, sorted one by one.
 fn in_print_order(alloc: Global, program: &Program, bag: &Bag) -> Result<Vec<Atom>, AllocError>
     ensures { IfOk result (λ v. v.items ≡ in_print_order (declarations program.now) bag.now) }
 {
@@ -93,6 +80,31 @@ fn push_atoms(out: &mut String, program: &Program, atoms: &[Atom]) -> Result<(),
     }
 }
 
+fn push_more_runs(out: &mut String, program: &Program, runs: &[&[Atom]]) -> Result<(), AllocError>
+    ensures { OnOk result (string_bytes out.new ≡ string_bytes out.old
+        ++ flat_map (λ r. flat_map (λ a. codes ", " ++ atom_text (declarations program.now) a) r.now) runs.now) }
+{
+    for run in runs {
+        push_more_atoms(out, program, run)?;
+    }
+    Ok(())
+}
+
+fn push_runs(out: &mut String, program: &Program, runs: &[&[Atom]]) -> Result<(), AllocError>
+    requires { All (λ r. IsRun r.now) runs.now }
+    ensures { OnOk result (string_bytes out.new
+        ≡ string_bytes out.old ++ atoms_text (declarations program.now) (flat_map (λ r. r.now) runs.now)) }
+{
+    match runs.split_first() {
+        None => out.push_str("true"),
+        Some((first, rest)) => {
+            push_atoms(out, program, first)?;
+            push_more_runs(out, program, rest)?;
+            Ok(())
+        }
+    }
+}
+
 /// Adds the text of a store at the end of a text.
 pub fn push_store(
     alloc: Global,
@@ -103,6 +115,9 @@ pub fn push_store(
     ensures { OnOk result (string_bytes out.new
         ≡ string_bytes out.old ++ store_text (declarations program.now) bag.now) }
 {
+    if let Some(runs) = runs_in_print_order(alloc, program, bag.atoms())? {
+        return push_runs(out, program, &runs);
+    }
     let atoms = in_print_order(alloc, program, bag)?;
     push_atoms(out, program, &atoms)
 }
