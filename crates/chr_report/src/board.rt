@@ -42,7 +42,7 @@ fn resolve(
     ensures { IfOk result (λ found. option_map (λ v. v.items) found
         ≡ named_atoms (declarations program.now) (map raw_atom_view words.now)) }
 {
-    let mut atoms = Vec::new(alloc);
+    let mut atoms = Vec::with_capacity(alloc, words.len())?;
     for word in words {
         let Some(atom) = program.atom(word.name.as_str(), &word.args) else {
             return Ok(None);
