@@ -1,6 +1,6 @@
 -- Laws of finite multisets.
 use Rattle.std.specs.Prelude.{◌≡◌, ℕ, ◌+◌, ◌-◌, ◌≤◌, Bool, true, false, cond, not, ◌&&◌, T, List, [], ◌∷◌, ◌++◌}
-use Rattle.std.specs.List.{sum_by}
+use Rattle.std.specs.List.{sum_by, flat_map}
 use Rattle.std.proofs.lemmas.List.Recursion.{is_sum_by}
 use Rattle.std.proofs.Common.{refl, sym, ap, subst, ◌∙◌, arith}
 use Rattle.std.specs.declared.cmp.Ordering.{Ordering}
@@ -30,7 +30,7 @@ is_true false p = absurd p
 pub from_true : (b : Bool) → b ≡ true → T b
 from_true b e = subst T (sym e) tt
 
-not_gt : (o : Ordering) → T (not (is_gt o)) → is_gt o ≡ false
+pub not_gt : (o : Ordering) → T (not (is_gt o)) → is_gt o ≡ false
 not_gt Less p = refl
 not_gt Equal p = refl
 not_gt Greater p = absurd p
@@ -46,6 +46,10 @@ total_is f = is_sum_by (total f) f refl (λ _ _. refl)
 pub total-append : {K : Type 0} (f : K → ℕ) (xs ys : List K) → total f (xs ++ ys) ≡ total f xs + total f ys
 total-append f [] ys = omega arith
 total-append f (x ∷ xs) ys = let h = total-append f xs ys in omega (arith, h)
+
+pub total-flat : {X K : Type 0} (f : K → ℕ) (g : X → List K) (xs : List X) → total f (flat_map g xs) ≡ total (λ x. total f (g x)) xs
+total-flat f g [] = refl
+total-flat f g (x ∷ xs) = let h = total-flat f g xs in let e = total-append f (g x) (flat_map g xs) in omega (arith, h, e)
 
 module _ {K : Type 0} (R : K → K → Ordering) where
   none_below_put : (x k : K) (es : List K) → T (not (is_gt (R x k))) → T (none_below R x es) → T (none_below R x (put R k es))

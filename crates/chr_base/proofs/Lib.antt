@@ -23,3 +23,4 @@ pub mod Sorting
 pub mod Declared
 pub mod Weighing
 pub mod Printing
+pub mod InRuns

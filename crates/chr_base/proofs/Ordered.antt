@@ -1,6 +1,6 @@
 -- Sorted lists of any kind, in a total order in which only equal items tie.
-use Rattle.std.proofs.Common.{◌≡◌, suc, ◌+◌, true, false, cond, List, [], ◌∷◌, refl, sym, ap, ◌∙◌, arith}
-use Rattle.std.specs.Prelude.{IsTrue, not}
+use Rattle.std.proofs.Common.{◌≡◌, ℕ, suc, ◌+◌, ◌-◌, ◌<◌, true, false, cond, List, [], ◌∷◌, ◌++◌, length, get_or, refl, sym, ap, ◌∙◌, arith}
+use Rattle.std.specs.Prelude.{IsTrue, not, Some, slice_get}
 use mathlib.Core.Bool.{true≢false}
 use Rattle.std.specs.List.Sorted.{IsSorted, IsPermutation}
 use Rattle.std.proofs.lemmas.List.Sorted.{sum_by-IsPermutation}
@@ -13,7 +13,7 @@ use Rattle.std.proofs.lemmas.Bool.{and_from, and_parts}
 use Rattle.chr_base.specs.FinBag as bag
 use Rattle.chr_base.proofs.FinBags as bag_laws
 use Rattle.chr_base.specs.FinBag.{is_rising, none_below}
-use Rattle.chr_base.proofs.FinBags.{none_below_further, total_is, is_true, from_true}
+use Rattle.chr_base.proofs.FinBags.{none_below_further, not_gt, total_is, is_true, from_true}
 
 module _ {K : Type 0} {R : K → K → Ordering} (o : IsTotalOrder R) where
   before : (x y : K) → is_lt (R y x) ≡ false → is_gt (R x y) ≡ false
@@ -24,15 +24,34 @@ module _ {K : Type 0} {R : K → K → Ordering} (o : IsTotalOrder R) where
       by order.Equal p = refl
       by order.Greater p = refl
 
-  -- what is sorted never falls
-  pub rising_from_sorted : (xs : List K) → IsSorted R xs → IsTrue (is_rising R xs)
-  rising_from_sorted [] h = refl
-  rising_from_sorted (x ∷ []) h = refl
-  rising_from_sorted (x ∷ y ∷ ys) h =
-      let more : is_rising R (y ∷ ys) ≡ true = rising_from_sorted (y ∷ ys) (λ k d l g. let e : suc k + 1 ≡ suc (k + 1) = omega arith in rw e at (h (suc k) d (omega arith) (omega (arith, g)))) in
-      let step : is_gt (R x y) ≡ false = before x y (h 0 x (omega arith) (omega arith)) in
+  -- one more in front of items that never fall
+  pub rising_more : (x y : K) (ys : List K) → is_gt (R x y) ≡ false → IsTrue (is_rising R (y ∷ ys)) → IsTrue (is_rising R (x ∷ y ∷ ys))
+  rising_more x y ys step more =
       let far : none_below R x ys ≡ true = is_true _ (none_below_further R o x y ys step (from_true _ ((and_parts (none_below R y ys) _ more).0))) in
       and_from (none_below R x (y ∷ ys)) _ (and_from (not (is_gt (R x y))) _ (rw step refl) far) more
+
+  -- items that never fall from one to the next never fall
+  pub rising_by_neighbours : (xs : List K) → ((k : ℕ) (d : K) → k + 1 < length xs → is_gt (R (get_or xs k d) (get_or xs (k + 1) d)) ≡ false) → IsTrue (is_rising R xs)
+  rising_by_neighbours [] h = refl
+  rising_by_neighbours (x ∷ []) h = refl
+  rising_by_neighbours (x ∷ y ∷ ys) h =
+      rising_more x y ys (h 0 x (omega arith))
+      (rising_by_neighbours (y ∷ ys) (λ k d l. let e : suc k + 1 ≡ suc (k + 1) = omega arith in rw e at (h (suc k) d (omega arith))))
+
+  -- what is sorted never falls
+  pub rising_from_sorted : (xs : List K) → IsSorted R xs → IsTrue (is_rising R xs)
+  rising_from_sorted xs h = rising_by_neighbours xs (λ k d l. before _ _ (h k d (omega arith) l))
+
+  -- lists that never fall, of which the one's last does not come after the other's first, never fall in a row
+  pub rising_append : (xs ys : List K) → IsTrue (is_rising R xs) → IsTrue (is_rising R ys)
+      → ((x y : K) → slice_get xs (length xs - 1) ≡ Some x → slice_get ys 0 ≡ Some y → is_gt (R x y) ≡ false) → IsTrue (is_rising R (xs ++ ys))
+  rising_append [] ys h g p = g
+  rising_append (x ∷ []) [] h g p = refl
+  rising_append (x ∷ []) (y ∷ ys) h g p = rising_more x y ys (p x y refl refl) g
+  rising_append (x ∷ z ∷ zs) ys h g p =
+      let parts = and_parts (none_below R x (z ∷ zs)) _ h in
+      rising_more x z (zs ++ ys) (not_gt _ (from_true _ ((and_parts (not (is_gt (R x z))) _ (parts.0)).0)))
+      (rising_append (z ∷ zs) ys (parts.1) g (λ a b k l. let e : length (x ∷ z ∷ zs) - 1 ≡ suc (length (z ∷ zs) - 1) = omega arith in p a b (ap (slice_get (x ∷ z ∷ zs)) e ∙ k) l))
 
   module _ (exact : IsAntisymmetric R) where
     -- another order, the same multiset

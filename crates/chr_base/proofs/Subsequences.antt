@@ -13,7 +13,7 @@ use Rattle.chr_base.specs.declared.atom.Atom.{Atom}
 use Rattle.chr_base.specs.Atoms.{atom_cmp}
 use Rattle.chr_base.proofs.Atoms.{atom_total, atom_exact, same_is}
 use Rattle.chr_base.specs.FinBag.{count_in, is_rising, none_below, of_list, ◌⊖◌}
-use Rattle.chr_base.proofs.FinBags.{none_below_further, absent, counts_itself, of_list_less, both, first, second, is_true, from_true}
+use Rattle.chr_base.proofs.FinBags.{absent, counts_itself, of_list_less, both, first, second, is_true, from_true}
 use Rattle.chr_base.specs.working.Subsequences.{is_subsequence, without_subsequence}
 
 -- what stands within and what is left are the whole
@@ -90,15 +90,6 @@ found (x ∷ xs) (y ∷ ys) h g c = by (atom_cmp y x) refl (λ f. found xs ys (s
 -- so it does just where it has no item more often
 pub stands_just_where_counts : (xs ys : List Atom) → IsTrue (is_rising atom_cmp xs) → IsTrue (is_rising atom_cmp ys) → ((q : Atom) → count_in atom_cmp q ys ≤ count_in atom_cmp q xs) → is_subsequence atom_cmp xs ys ≡ true
 stands_just_where_counts xs ys h g c = found xs ys (from_true _ h) (from_true _ g) c
-
--- items that never fall from one to the next never fall
-pub rising_by_neighbours : (xs : List Atom) → ((k : ℕ) (d : Atom) → k + 1 < length xs → is_gt (atom_cmp (get_or xs k d) (get_or xs (k + 1) d)) ≡ false) → IsTrue (is_rising atom_cmp xs)
-rising_by_neighbours [] h = refl
-rising_by_neighbours (x ∷ []) h = refl
-rising_by_neighbours (x ∷ y ∷ ys) h =
-    let more : is_rising atom_cmp (y ∷ ys) ≡ true = rising_by_neighbours (y ∷ ys) (λ k d l. let e : suc k + 1 ≡ suc (k + 1) = omega arith in rw e at (h (suc k) d (omega arith))) in
-    let step : is_gt (atom_cmp x y) ≡ false = h 0 x (omega arith) in
-    is_true _ (both (none_below atom_cmp x (y ∷ ys)) _ (both (not (is_gt (atom_cmp x y))) _ (subst (λ b. T (not b)) (sym step) tt) (none_below_further atom_cmp atom_total x y ys step (first (none_below atom_cmp y ys) _ (from_true _ more)))) (from_true _ more))
 
 -- An item moved down to the end of what is kept: the kept ones have it last, and those above it stay.
 moved_keeps : (xs : List Atom) (k i : ℕ) (a b : Atom) → k ≤ i → i < length xs → (k ≡ i → a ≡ b) → take (suc k) (set (set xs k a) i b) ≡ take k xs ++ a ∷ []

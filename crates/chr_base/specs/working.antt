@@ -2,4 +2,5 @@
 pub mod AtomLists
 pub mod Codes
 pub mod Instances
+pub mod Runs
 pub mod Subsequences

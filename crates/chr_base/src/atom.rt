@@ -48,13 +48,13 @@ impl Atom {
     pub fn copy(&self) -> Atom
         ensures { result ≡ self.now }
     {
-        let mut args = ArrayVec::new();
-        for value in self.args.as_slice() {
-            args.push(*value);
-        }
-        Atom {
+        let mut copy = Atom {
             symbol: self.symbol,
-            args,
+            args: ArrayVec::new(),
+        };
+        for value in self.args.as_slice() {
+            copy.args.push(*value);
         }
+        copy
     }
 }

@@ -10,6 +10,7 @@ pub mod lists;
 mod matching;
 pub mod program;
 pub mod rule;
+mod runs;
 pub mod term;
 pub mod text;
 mod values;

@@ -62,16 +62,19 @@ impl Symbol {
     }
 }
 
-/// The values in an array.
-fn array_of(values: &[i64]) -> ArrayVec<i64, MAX_ARITY>
+/// The atom of a symbol and these values.
+fn atom_of(symbol: SymbolId, values: &[i64]) -> Atom
     requires { length values.now ≤ MAX_ARITY }
-    ensures { result.items ≡ values.now }
+    ensures { result ≡ record { symbol = symbol; args = record { items = values.now } } }
 {
-    let mut array = ArrayVec::new();
+    let mut atom = Atom {
+        symbol,
+        args: ArrayVec::new(),
+    };
     for value in values {
-        array.push(*value);
+        atom.args.push(*value);
     }
-    array
+    atom
 }
 
 /// Puts a new symbol last, with the default weight.
@@ -137,10 +140,7 @@ impl Program {
         ensures { result ≡ declared_atom (declarations self.now) name.now args.now }
     {
         let symbol = self.symbol(name, args.len())?;
-        Some(Atom {
-            symbol,
-            args: array_of(args),
-        })
+        Some(atom_of(symbol, args))
     }
 
     /// Declares one more symbol, of the default weight.

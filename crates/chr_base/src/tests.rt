@@ -9,7 +9,7 @@ use crate::limits::{MAX_ARITY, MAX_SYMBOLS, MAX_WEIGHT};
 use crate::program::Program;
 use crate::rule::Rule;
 use crate::term::{Cmp, Comparison, Pattern, Term};
-use crate::text::store_text;
+use crate::text::{push_store, store_text};
 use crate::weight::{DEFAULT_WEIGHT, Weight};
 use arrayvec::ArrayVec;
 use std::alloc::{AllocError, Global};
@@ -121,6 +121,22 @@ fn texts(rt: HostRuntime) -> Result<(), Fail> {
         text.as_str(),
         "a, a(-9223372036854775808,7), min(-3), min(3), min(3)"
     );
+    Ok(())
+}
+
+/// An atom that isn't declared, since its symbol has no arguments, stands among the declared ones of its name.
+#[test]
+fn texts_of_other_atoms(rt: HostRuntime) -> Result<(), Fail> {
+    let alloc = rt.alloc();
+    let program = three_symbols(&rt, alloc)?;
+    let mut bag = Bag::new(alloc);
+    bag.add(atom(2, &[7, 0]))?;
+    bag.add(atom(1, &[5, 6]))?;
+    bag.add(atom(2, &[1, 9]))?;
+    bag.add(atom(3, &[4]))?;
+    let mut text = String::from_str(alloc, "shown: ")?;
+    push_store(alloc, &mut text, &program, &bag)?;
+    assert_eq!(rt; text.as_str(), "shown: (4), a(1,9), a(5,6), a(7,0)");
     Ok(())
 }
 

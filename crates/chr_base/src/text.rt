@@ -1,33 +1,20 @@
 //! Atoms and stores as text.
 ghost use Rattle.std.specs.Prelude.{◌≡◌, ◌++◌, IfOk, OnOk, codes, string_bytes};
 ghost use Rattle.std.specs.Fmt.{signed_decimal};
-ghost use Rattle.std.specs.List.{flat_map};
+ghost use Rattle.std.specs.List.{All, flat_map};
 ghost use Rattle.chr_base.specs.Programs.{declarations};
-ghost use Rattle.chr_base.specs.Texts.{name_of, print_cmp, in_print_order, values_text, atom_text, atoms_text, store_text};
+ghost use Rattle.chr_base.specs.Texts.{in_print_order, atom_text, atoms_text, store_text};
+ghost use Rattle.chr_base.specs.working.Runs.{IsRun};
 
 use crate::atom::Atom;
 use crate::bag::Bag;
 use crate::lists::push_copies;
 use crate::program::Program;
+use crate::runs::{print_order, runs_in_print_order};
+use itoa::Buffer;
 use std::alloc::{AllocError, Global};
-use std::cmp::Ordering;
-use std::fmt::Write;
 
-/// The order in which atoms are printed: by the bytes of the name, then by the number of arguments, then by the
-/// arguments as numbers, the first first.
-fn print_order(program: &Program, left: &Atom, right: &Atom) -> Ordering
-    ensures { result ≡ print_cmp (declarations program.now) left.now right.now }
-{
-    program
-        .name_or_none(left)
-        .as_bytes()
-        .cmp(program.name_or_none(right).as_bytes())
-        .then(left.args.len().cmp(&right.args.len()))
-        .then(left.args.as_slice().cmp(right.args.as_slice()))
-        .then(left.symbol.0.cmp(&right.symbol.0))
-}
-
-/// The atoms in the order in which they are printed.
+/// The atoms in the order in which they are printed, sorted one by one.
 fn in_print_order(alloc: Global, program: &Program, bag: &Bag) -> Result<Vec<Atom>, AllocError>
     ensures { IfOk result (λ v. v.items ≡ in_print_order (declarations program.now) bag.now) }
 {
@@ -37,12 +24,20 @@ fn in_print_order(alloc: Global, program: &Program, bag: &Bag) -> Result<Vec<Ato
     Ok(atoms)
 }
 
+fn push_value(out: &mut String, value: i64) -> Result<(), AllocError>
+    ensures { OnOk result (string_bytes out.new ≡ string_bytes out.old ++ signed_decimal value) }
+{
+    let mut digits = Buffer::new();
+    out.push_str(digits.format(value))
+}
+
 fn push_more_values(out: &mut String, values: &[i64]) -> Result<(), AllocError>
     ensures { OnOk result (string_bytes out.new ≡ string_bytes out.old
         ++ flat_map (λ z. codes "," ++ signed_decimal z) values.now) }
 {
     for value in values {
-        write!(out, ",{value}")?;
+        out.push_str(",")?;
+        push_value(out, *value)?;
     }
     Ok(())
 }
@@ -53,7 +48,8 @@ fn push_atom(out: &mut String, program: &Program, atom: &Atom) -> Result<(), All
 {
     out.push_str(program.name_or_none(atom))?;
     if let Some((first, rest)) = atom.args.as_slice().split_first() {
-        write!(out, "({first}")?;
+        out.push_str("(")?;
+        push_value(out, *first)?;
         push_more_values(out, rest)?;
         out.push_str(")")?;
     }
@@ -71,18 +67,59 @@ fn push_more_atoms(out: &mut String, program: &Program, atoms: &[Atom]) -> Resul
     Ok(())
 }
 
-fn atoms_text(alloc: Global, program: &Program, atoms: &[Atom]) -> Result<String, AllocError>
-    ensures { IfOk result (λ s. string_bytes s ≡ atoms_text (declarations program.now) atoms.now) }
+fn push_atoms(out: &mut String, program: &Program, atoms: &[Atom]) -> Result<(), AllocError>
+    ensures { OnOk result (string_bytes out.new
+        ≡ string_bytes out.old ++ atoms_text (declarations program.now) atoms.now) }
 {
-    let mut out = String::new(alloc);
     match atoms.split_first() {
-        None => out.push_str("true")?,
+        None => out.push_str("true"),
         Some((first, rest)) => {
-            push_atom(&mut out, program, first)?;
-            push_more_atoms(&mut out, program, rest)?;
+            push_atom(out, program, first)?;
+            push_more_atoms(out, program, rest)
         }
     }
-    Ok(out)
+}
+
+fn push_more_runs(out: &mut String, program: &Program, runs: &[&[Atom]]) -> Result<(), AllocError>
+    ensures { OnOk result (string_bytes out.new ≡ string_bytes out.old
+        ++ flat_map (λ r. flat_map (λ a. codes ", " ++ atom_text (declarations program.now) a) r.now) runs.now) }
+{
+    for run in runs {
+        push_more_atoms(out, program, run)?;
+    }
+    Ok(())
+}
+
+fn push_runs(out: &mut String, program: &Program, runs: &[&[Atom]]) -> Result<(), AllocError>
+    requires { All (λ r. IsRun r.now) runs.now }
+    ensures { OnOk result (string_bytes out.new
+        ≡ string_bytes out.old ++ atoms_text (declarations program.now) (flat_map (λ r. r.now) runs.now)) }
+{
+    match runs.split_first() {
+        None => out.push_str("true"),
+        Some((first, rest)) => {
+            push_atoms(out, program, first)?;
+            push_more_runs(out, program, rest)?;
+            Ok(())
+        }
+    }
+}
+
+/// Adds the text of a store at the end of a text.
+pub fn push_store(
+    alloc: Global,
+    out: &mut String,
+    program: &Program,
+    bag: &Bag,
+) -> Result<(), AllocError>
+    ensures { OnOk result (string_bytes out.new
+        ≡ string_bytes out.old ++ store_text (declarations program.now) bag.now) }
+{
+    if let Some(runs) = runs_in_print_order(alloc, program, bag.atoms())? {
+        return push_runs(out, program, &runs);
+    }
+    let atoms = in_print_order(alloc, program, bag)?;
+    push_atoms(out, program, &atoms)
 }
 
 /// The text of a store: its atoms in order, by name, number of arguments and arguments, joined by `, `; `true` for the
@@ -91,6 +128,7 @@ fn atoms_text(alloc: Global, program: &Program, atoms: &[Atom]) -> Result<String
 pub fn store_text(alloc: Global, program: &Program, bag: &Bag) -> Result<String, AllocError>
     ensures { IfOk result (λ s. string_bytes s ≡ store_text (declarations program.now) bag.now) }
 {
-    let atoms = in_print_order(alloc, program, bag)?;
-    atoms_text(alloc, program, &atoms)
+    let mut out = String::new(alloc);
+    push_store(alloc, &mut out, program, bag)?;
+    Ok(out)
 }

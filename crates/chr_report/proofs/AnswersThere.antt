@@ -1,5 +1,5 @@
 -- For a program of which every store has a normal form, command lines have answers.
-use Rattle.std.proofs.Common.{◌≡◌, ℕ, ◌+◌, Bool, true, false, List, [], ◌∷◌, ◌++◌, Some, None, Option, Result, Ok, Err, refl, sym, subst, ◌∙◌, inl, inr, nat_eq, codes, arith, cond}
+use Rattle.std.proofs.Common.{◌≡◌, ℕ, ◌+◌, Bool, true, false, List, [], ◌∷◌, ◌++◌, Some, None, Option, Err, refl, sym, subst, ◌∙◌, inl, inr, nat_eq, codes, arith, cond}
 use Rattle.std.specs.Prelude.{◌≢◌, IsSomeAnd}
 use Rattle.std.specs.Bool.{MatchBool}
 use Rattle.std.proofs.lemmas.Bool.{cases_lt}

@@ -1,11 +1,17 @@
 -- The board's pool and what was told.
-use Rattle.std.proofs.Common.{◌≡◌, ℕ, suc, List, [], ◌∷◌, length, refl, sym, ap, subst, ◌∙◌, arith}
-use Rattle.std.specs.Prelude.{◌≢◌, Option, Some, None, IfSome, option_map, option_and_then}
+use Rattle.std.proofs.Common.{◌≡◌, ℕ, suc, true, cond, List, [], ◌∷◌, length, refl, sym, ap, subst, ◌∙◌, arith}
+use Rattle.std.specs.Prelude.{◌≢◌, Option, Some, None, option_map, option_and_then}
 use Rattle.std.specs.Option.{IsSomeAnd}
+use Rattle.std.specs.FinMap as finite
+use Rattle.std.specs.Ordering.{eq_by_cmp}
+use Rattle.std.specs.Cmp.{tied_itself}
 use Rattle.chr_base.specs.ProgramTests.{Declaration}
 use Rattle.chr_base.specs.Texts.{store_text}
 use Rattle.chr_ops.specs.Operations.{Operation, Operations, told_store, IsHeldOtherwise}
 use Rattle.chr_ops.specs.Operations.{HasOperationSize}
+use Rattle.chr_ops.specs.Ids.{id_cmp}
+use Rattle.chr_ops.specs.declared.id.OpId.{OpId}
+use Rattle.chr_ops.proofs.IdOrder.{id_total}
 use Rattle.chr_json.specs.Commands.{NamedAtom, IsOperationLength}
 use Rattle.chr_base.specs.Traversals.{each}
 use Rattle.chr_report.specs.declared.reply.Refusal.TheVariants as refusal
@@ -60,11 +66,18 @@ rested a w n s t u e r took rests = (
 pub shown : (ds : List Declaration) (rules : List Rule) (old : Operations) (r : ℕ) (t : Store) (text : List ℕ) → r ≡ 1 → IsNormalForm (Step rules) (told_store old) t → text ≡ store_text ds t → (new : Operations) → new ≡ old → AnswersShow ds rules old r text new
 shown ds rules old r t text e n f new g = rw e (record { store = t; normal_form = n; text_is = f }, g)
 
--- the atoms that were kept are the operation's
-pub kept_atoms : {I : Type 0} (xs : List Atom) (t b : Store) (o : Option (I × Store)) (op : I × Store) (i : I) → xs ≡ bag.items t → t ≡ b → o ≡ Some op → IfSome o (λ x. x ≡ (i, b)) → store_of xs ≡ op.1
-kept_atoms xs t b o op i e f g h =
-    let k : IfSome (Some op) (λ x. x ≡ (i, b)) = rw g at h in
-    ap store_of e ∙ store_of-items t ∙ f ∙ sym (ap (λ x. x.1) k)
+-- the bag of an id is put into the pool
+pub inserted : (got : Option Store) (b told t t' : Store) (xs : List Atom) → Some b ≡ got → xs ≡ bag.items b → t' ≡ t ⊕ store_of xs → got ≡ Some told → t' ≡ t ⊕ told
+inserted got b told t t' xs e f g h =
+    let k : Some b ≡ Some told = e ∙ h in
+    let same : b ≡ told = cc in
+    g ∙ ap (λ x. t ⊕ x) (ap store_of f ∙ store_of-items b ∙ same)
+
+-- what was added is held
+pub added_is_held : (m n : Operations) (op : Operation) (id : OpId) → id ≡ op.0 → n ≡ finite.insert m op.0 op.1 → finite.get n id ≡ Some op.1
+added_is_held m n op id e h =
+    let same : eq_by_cmp id_cmp op.0 op.0 ≡ true = rw (tied_itself id_total op.0) refl in
+    rw (e, h) (finite.get-insert id_total m op.0 op.1 op.0 ∙ ap (λ b. cond b (Some op.1) (finite.get m op.0)) same)
 
 -- ---- as many atoms as words
 

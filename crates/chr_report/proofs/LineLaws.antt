@@ -3,8 +3,9 @@ use Rattle.std.proofs.Common.{◌≡◌, ℕ, ◌+◌, ◌<◌, List, [], ◌∷
 use Rattle.std.specs.Prelude.{◌==◌}
 use Rattle.std.specs.List.{position_or_len, before_first, after_first, onto_first}
 use Rattle.std.proofs.lemmas.Bool.{eqb-true}
-use Rattle.std.proofs.lemmas.List.Sums.{fails_before_first, passes_at_first, split_at_first}
+use Rattle.std.proofs.lemmas.List.Sums.{fails_before_first, passes_at_first, split_at_first, position_or_len_is}
 use Rattle.std.proofs.lemmas.List.Splits.{slice_split_none, slice_split_first, join_with_byte-slice_split}
+use Rattle.memchr.specs.Find.{is_byte, Passes, Nowhere, NoneBefore}
 use Rattle.chr_report.specs.Lines.{lines, is_divider, text_of, commands_of}
 use Rattle.chr_report.specs.Laws.{LinesAreTheInput}
 
@@ -54,3 +55,17 @@ commands_later line ls apart =
 
 pub commands_here : (line : List ℕ) (ls : List (List ℕ)) → is_divider line ≡ true → commands_of (line ∷ ls) ≡ ls
 commands_here line ls found = ap (λ b. drop (cond (not b) (1 + position_or_len is_divider ls) 0 + 1) (line ∷ ls)) found
+
+-- ---- where the first line feed stands
+
+no_test : (b : Bool) → ¬ (b ≡ true) → b ≡ false
+no_test true h = absurd (h refl)
+no_test false h = refl
+
+pub feed_at : (bytes : List ℕ) (k : ℕ) → NoneBefore (Passes (is_byte 10) bytes) 0 (length bytes) k → Passes (is_byte 10) bytes k → k ≡ position_or_len (λ b. b == 10) bytes
+feed_at bytes k h there =
+    let high = h.high in
+    sym (position_or_len_is (λ b. b == 10) bytes k 0 (omega (arith, high)) (λ j l. no_test _ (h.before j (omega arith) l)) (λ _. there))
+
+pub no_feed : (bytes : List ℕ) → Nowhere (Passes (is_byte 10) bytes) 0 (length bytes) → length bytes ≡ position_or_len (λ b. b == 10) bytes
+no_feed bytes h = sym (position_or_len_is (λ b. b == 10) bytes (length bytes) 0 (omega arith) (λ j l. no_test _ (h j (omega arith) l)) (λ l. absurd (omega (arith, l))))

@@ -7,7 +7,6 @@ use Rattle.chr_base.specs.declared.rule.Rule.{Rule}
 use Rattle.chr_base.specs.declared.program.Program.{Program}
 use Rattle.chr_base.specs.Rules.{Valuation}
 use Rattle.chr_base.specs.declared.weight.Weight.{Weight}
-use Rattle.chr_base.specs.Weights.{IsLighter}
 use Rattle.chr_base.specs.ProgramTests.{Declaration, some_paired}
 use Rattle.chr_base.specs.Programs.{declarations, rules_of}
 use Rattle.chr_base.specs.Texts.{store_text}

@@ -29,7 +29,7 @@ fn answer_line(
         return Ok(());
     }
     let reply = board.reply(alloc, line)?;
-    push_reply(out, &reply)
+    push_reply(alloc, out, board.accepted.program(), &reply)
 }
 
 /// Answers all lines of the input.

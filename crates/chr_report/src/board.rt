@@ -1,7 +1,8 @@
 //! The one replica: its operations, and the pool that is reached from what they tell.
-ghost use Rattle.std.specs.Prelude.{◌≡◌, ◌≤◌, IfOk, OnOk, length, map, option_map};
+ghost use Rattle.std.specs.Prelude.{◌≡◌, ◌≤◌, IfOk, OnOk, Some, length, map, option_map};
 ghost use Rattle.std.specs.FinMap as finite;
-ghost use Rattle.chr_base.specs.Stores.{store_of};
+ghost use Rattle.chr_base.specs.FinBag.{◌⊕◌};
+ghost use Rattle.chr_base.specs.Stores.{Store, store_of};
 ghost use Rattle.chr_base.specs.Programs.{declarations, rules_of};
 ghost use Rattle.chr_base.specs.Rules.{Step};
 ghost use Rattle.chr_base.specs.Rewriting.{IsNormalForm};
@@ -16,7 +17,6 @@ use crate::reply::{Refusal, Reply};
 use chr_base::atom::Atom;
 use chr_base::bag::Bag;
 use chr_base::program::Program;
-use chr_base::text::store_text;
 use chr_columns::columns::Columns;
 use chr_join::Accepted;
 use chr_json::{Command, LineFault, RawAtom, read_line};
@@ -42,7 +42,7 @@ fn resolve(
     ensures { IfOk result (λ found. option_map (λ v. v.items) found
         ≡ named_atoms (declarations program.now) (map raw_atom_view words.now)) }
 {
-    let mut atoms = Vec::new(alloc);
+    let mut atoms = Vec::with_capacity(alloc, words.len())?;
     for word in words {
         let Some(atom) = program.atom(word.name.as_str(), &word.args) else {
             return Ok(None);
@@ -87,15 +87,14 @@ impl Board {
         ensures reached { OnOk result (IsReached self.new) }
         ensures program { self.new.accepted ≡ self.old.accepted }
         ensures answer { IfOk result (λ reply. AnswersShow (declarations (program_on self.old))
-            (rules_of (program_on self.old)) self.old.ops replica (reply_text reply) self.new.ops) }
+            (rules_of (program_on self.old)) self.old.ops replica (reply_text (declarations (program_on self.old)) reply) self.new.ops) }
     {
         if replica != 1 {
             return Ok(Reply::Refused(Refusal::NoReplica));
         }
         self.rest()?;
         let bag = self.pool.bag(alloc)?;
-        let text = store_text(alloc, self.accepted.program(), &bag)?;
-        Ok(Reply::Store(text))
+        Ok(Reply::Store(bag))
     }
 
     /// Tells the replica an operation.
@@ -112,7 +111,7 @@ impl Board {
         ensures program { self.new.accepted ≡ self.old.accepted }
         ensures answer { IfOk result (λ reply. AnswersAtoms self.old.ops replica id.origin id.number
             (named_atoms (declarations (program_on self.old)) (map raw_atom_view words.now))
-            (reply_text reply) self.new.ops) }
+            (reply_text (declarations (program_on self.old)) reply) self.new.ops) }
     {
         let Some(atoms) = resolve(alloc, self.accepted.program(), words)? else {
             return Ok(Reply::Refused(Refusal::UnknownSymbol));
@@ -120,7 +119,7 @@ impl Board {
         if replica != 1 {
             return Ok(Reply::Refused(Refusal::NoReplica));
         }
-        self.add(alloc, id, atoms)
+        self.add(id, atoms)
     }
 
     /// Does what a line says, which comes without its end, and answers it.
@@ -129,7 +128,7 @@ impl Board {
         ensures reached { OnOk result (IsReached self.new) }
         ensures program { self.new.accepted ≡ self.old.accepted }
         ensures answer { IfOk result (λ reply. Answers (declarations (program_on self.old))
-            (rules_of (program_on self.old)) self.old.ops line.now (reply_text reply) self.new.ops) }
+            (rules_of (program_on self.old)) self.old.ops line.now (reply_text (declarations (program_on self.old)) reply) self.new.ops) }
     {
         match read_line(alloc, line) {
             Ok(Command::Show { replica }) => self.show(alloc, replica),
@@ -148,37 +147,54 @@ impl Board {
     }
 
     /// Adds an operation of these atoms.
-    fn add(&mut self, alloc: Global, id: OpId, atoms: Vec<Atom>) -> Result<Reply, AllocError>
+    fn add(&mut self, id: OpId, atoms: Vec<Atom>) -> Result<Reply, AllocError>
         requires reached { IsReached self.old }
         requires sized { HasOperationSize (store_of atoms.items) }
         ensures reached { OnOk result (IsReached self.new) }
         ensures program { self.new.accepted ≡ self.old.accepted }
         ensures answer { IfOk result (λ reply.
-            AnswersTell self.old.ops (id, store_of atoms.items) (reply_text reply) self.new.ops) }
+            AnswersTell self.old.ops (id, store_of atoms.items)
+            (reply_text (declarations (program_on self.old)) reply) self.new.ops) }
     {
         let bag = Bag::of(atoms)?;
-        let told = bag.copy(alloc)?;
         let op = Op::of(id, bag).unwrap();
-        self.add_op(op, told.atoms())
+        self.add_op(op)
     }
 
-    /// Adds an operation of these atoms.
-    fn add_op(&mut self, op: Op, atoms: &[Atom]) -> Result<Reply, AllocError>
+    /// Adds an operation.
+    fn add_op(&mut self, op: Op) -> Result<Reply, AllocError>
         requires reached { IsReached self.old }
-        requires atoms { store_of atoms.now ≡ op.1 }
         ensures reached { OnOk result (IsReached self.new) }
         ensures program { self.new.accepted ≡ self.old.accepted }
-        ensures answer { IfOk result (λ reply. AnswersTell self.old.ops op (reply_text reply) self.new.ops) }
+        ensures answer { IfOk result (λ reply. AnswersTell self.old.ops op
+            (reply_text (declarations (program_on self.old)) reply) self.new.ops) }
     {
+        let id = op.id();
         match self.ops.add(op) {
             Ok(Added::New) => {
-                self.pool.insert(atoms)?;
+                self.insert_told(id)?;
                 Ok(Reply::Told)
             }
             Ok(Added::Again) => Ok(Reply::Again),
             Err(AddFault::Clash(_)) => Ok(Reply::Refused(Refusal::Clash)),
             Err(AddFault::Full) => Ok(Reply::Refused(Refusal::Full)),
             Err(AddFault::Memory) => Err(AllocError),
+        }
+    }
+
+    /// Puts the atoms of a held operation into the pool.
+    fn insert_told(&mut self, id: OpId) -> Result<(), AllocError>
+        ensures inserted { OnOk result ((told : Store) → finite.get self.old.ops id ≡ Some told
+            → self.new.pool ≡ self.old.pool ⊕ told) }
+        ensures program { self.new.accepted ≡ self.old.accepted }
+        ensures operations { self.new.ops ≡ self.old.ops }
+    {
+        match self.ops.get(id) {
+            Some(bag) => {
+                self.pool.insert(bag.atoms())?;
+                Ok(())
+            }
+            None => Ok(()),
         }
     }
 }

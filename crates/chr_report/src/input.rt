@@ -6,13 +6,17 @@ ghost use Rattle.chr_report.specs.Outputs.{asked};
 ghost use Rattle.chr_report.specs.working.LinesLeft.{lines_left};
 
 use chr_device::Verb;
+use memchr::memchr;
 
 /// How many bytes stand before the first line feed.
 fn line_len(bytes: &[u8]) -> usize
     ensures value { result ≡ position_or_len (λ b. b == 10) bytes.now }
     ensures within { result ≤ length bytes.now }
 {
-    bytes.iter().take_while(|byte| **byte != b'\n').count()
+    match memchr(b'\n', bytes) {
+        Some(place) => place,
+        None => bytes.len(),
+    }
 }
 
 /// The first line, and what comes after its line feed.

@@ -1,9 +1,13 @@
 //! What a command line is answered.
 ghost use Rattle.std.specs.Prelude.{◌≡◌, ◌++◌, [], ◌∷◌, OnOk, string_bytes};
+ghost use Rattle.chr_base.specs.Programs.{declarations};
 ghost use Rattle.chr_report.specs.Replies.{refusal_number};
 ghost use Rattle.chr_report.specs.working.ReplyTexts.{reply_text};
 
-use std::alloc::AllocError;
+use chr_base::bag::Bag;
+use chr_base::program::Program;
+use chr_base::text::push_store;
+use std::alloc::{AllocError, Global};
 use std::fmt::Write;
 
 /// Why a command line was refused. Nothing has changed.
@@ -40,25 +44,30 @@ impl Refusal {
 }
 
 /// The answer to a command line.
-#[derive(Debug, Drop)]
+#[derive(Drop)]
 pub(crate) enum Reply {
     Told,
     Again,
-    /// The text of the shown store.
-    Store(String),
+    /// The store that is shown.
+    Store(Bag),
     Refused(Refusal),
 }
 
 /// Adds the answer and a line feed.
-pub(crate) fn push_reply(out: &mut String, reply: &Reply) -> Result<(), AllocError>
+pub(crate) fn push_reply(
+    alloc: Global,
+    out: &mut String,
+    program: &Program,
+    reply: &Reply,
+) -> Result<(), AllocError>
     ensures { OnOk result (string_bytes out.new
-        ≡ string_bytes out.old ++ reply_text reply.now ++ 10 ∷ []) }
+        ≡ string_bytes out.old ++ reply_text (declarations program.now) reply.now ++ 10 ∷ []) }
 {
     match reply {
         Reply::Told => out.push_str("told\n"),
         Reply::Again => out.push_str("again\n"),
-        Reply::Store(text) => {
-            out.push_str(text.as_str())?;
+        Reply::Store(bag) => {
+            push_store(alloc, out, program, bag)?;
             out.push_str("\n")
         }
         Reply::Refused(refusal) => {

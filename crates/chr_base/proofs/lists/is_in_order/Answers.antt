@@ -1,6 +1,8 @@
 use Rattle.std.proofs.Common.{refl, sym, ◌-◌, ◌∙◌, arith}
 use Rattle.std.proofs.lemmas.Bool.{false≢true}
-use Rattle.chr_base.proofs.Subsequences.{rising_by_neighbours, none_falls}
+use Rattle.chr_base.proofs.Atoms.{atom_total}
+use Rattle.chr_base.proofs.Ordered.{rising_by_neighbours}
+use Rattle.chr_base.proofs.Subsequences.{none_falls}
 use Rattle.chr_base.proofs.lists.is_in_order.Goals as goal
 
 pub returns-then-is_after : goal.returns-then-is_after
@@ -10,4 +12,4 @@ returns-then-is_after c = (
 )
 
 pub returns : goal.returns
-returns c = (λ _. rising_by_neighbours c.args.atoms.now (λ k d h. c.loop-i.invariant k d (omega arith)), λ _. refl)
+returns c = (λ _. rising_by_neighbours atom_total c.args.atoms.now (λ k d h. c.loop-i.invariant k d (omega arith)), λ _. refl)

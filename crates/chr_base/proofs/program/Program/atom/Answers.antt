@@ -3,6 +3,6 @@ use Rattle.chr_base.specs.Programs.{declarations, rules_of}
 use Rattle.chr_base.proofs.Declared.{few_arguments}
 use Rattle.chr_base.proofs.program.Program.atom.Goals as goal
 
-pub array_of-requires : goal.array_of-requires
-array_of-requires c =
+pub atom_of-requires : goal.atom_of-requires
+atom_of-requires c =
     few_arguments (declarations c.args.self.now) (rules_of c.args.self.now) c.args.name.now (length c.args.args.now) _ c.args.self.now.well_formed c.in_ok-symbol.ensures
