@@ -15,7 +15,7 @@ use Rattle.chr_base.proofs.FinBags.{count-of_list}
 use Rattle.chr_plans.specs.declared.plan.Lookup.{Lookup}
 use Rattle.chr_plans.specs.declared.plan.Partner.{Partner}
 use Rattle.chr_plans.specs.declared.rows.Seat.{Seat}
-use Rattle.chr_plans.specs.Plans.{IsPlan, IsKnown, AreKeys, FitsTables, partners_of, places_of, columns_of}
+use Rattle.chr_plans.specs.Plans.{IsPlan, IsKnown, AreKeys, AreTests, FitsTables, partners_of, places_of, columns_of}
 use Rattle.chr_plans.specs.Rows.{MayHaveKey}
 use Rattle.chr_plans.specs.Seats.{head, seat, no_seat, atom_in, IsSeated, IsOther, NoPartners}
 use Rattle.chr_actives.specs.Grids.{contents, rows_in}
@@ -68,6 +68,9 @@ module _ (r : Rule) (ls : List Lookup) (are : ArePlain (length (heads_of r)) ls)
     keys = λ j l h same. (
         let e : (plain (j + 1)).partner ≡ l = sym (partner_is j h) ∙ get_or_default (partners_of ls) j (plain 0).partner l h ∙ same in
         subst (λ (k : Partner). AreKeys r (places_of (partners_of ls)) 0 j k.place k.key.items) e tt);
+    tests = λ j l h same. (
+        let e : (plain (j + 1)).partner ≡ l = sym (partner_is j h) ∙ get_or_default (partners_of ls) j (plain 0).partner l h ∙ same in
+        subst (λ (k : Partner). AreTests r (places_of (partners_of ls)) 0 j k.tests.items) e tt);
   }
 
   pub plain_fits : (rows : List (Option Atom)) → FitsTables r ls (only_table rows) only_index

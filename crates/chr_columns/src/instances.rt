@@ -6,7 +6,7 @@ ghost use Rattle.chr_base.specs.Rules.{HasInstance, HasNoStep, heads_of, has_sha
 ghost use Rattle.chr_plans.specs.Plans.{pattern_at};
 ghost use Rattle.chr_plans.specs.Seats.{NoPartners};
 ghost use Rattle.chr_columns.specs.working.Listing.{rows_in_turn, all_of};
-ghost use Rattle.chr_columns.specs.working.Finding.{ArePlain, rows_but, only_table};
+ghost use Rattle.chr_columns.specs.working.Finding.{plain, ArePlain, rows_but, only_table};
 
 use crate::everywhere::Everywhere;
 use crate::listing::{atom_at, row_count};
@@ -18,20 +18,28 @@ use chr_plans::plan::{Lookup, Partner};
 use chr_plans::search::find_partners;
 use chr_tables::table::Table;
 
-/// The look-ups of the partners at all places but the first, in order, of which nothing is known.
+/// The look-up of a partner of which nothing is known.
+fn plain_lookup(place: usize) -> Lookup
+    ensures { result ≡ plain place }
+{
+    Lookup {
+        partner: Partner {
+            place,
+            key: ArrayVec::new(),
+            tests: ArrayVec::new(),
+        },
+        table: 0,
+        index: 0,
+    }
+}
+
+/// The look-ups of the partners at all places but the first, in order.
 fn plain_lookups(rule: &Rule) -> ArrayVec<Lookup, MAX_HEADS>
     ensures { ArePlain (length (heads_of rule.now)) result.items }
 {
     let mut lookups = ArrayVec::new();
     for place in 1..rule.places() {
-        lookups.push(Lookup {
-            partner: Partner {
-                place,
-                key: ArrayVec::new(),
-            },
-            table: 0,
-            index: 0,
-        });
+        lookups.push(plain_lookup(place));
     }
     lookups
 }

@@ -27,7 +27,11 @@ Lives rows n = IsTrue (is_some (get_or rows n None))
 
 -- the look-up of a partner of which no argument is known
 abbrev pub plain : ℕ → Lookup
-plain place = record { partner = record { place = place; key = record { items = [] } }; table = 0; index = 0 }
+plain place = record {
+  partner = record { place = place; key = record { items = [] }; tests = record { items = [] } };
+  table = 0;
+  index = 0;
+}
 
 -- the look-ups of the partners at all n places but the first, in order
 abbrev pub ArePlain : ℕ → List Lookup → Type 0
