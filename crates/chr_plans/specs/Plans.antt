@@ -41,7 +41,8 @@ IsReady places p n (Argument q c) = IsKnown places p n q
 
 -- in each instance the source has the value of that column of the head at the place q
 abbrev pub IsSource : Rule → ℕ → ℕ → Source → Type 0
-IsSource r q column s = (heads : List Atom) → HasInstance r heads → argument (head heads q) column ≡ source_value heads s
+IsSource r q column s =
+    (heads : List Atom) → HasInstance r heads → argument (head heads q) column ≡ source_value heads s
 
 -- what is known gives the values of these columns of the head at the place q
 abbrev pub AreKeys : Rule → List ℕ → ℕ → ℕ → ℕ → List Key → Type 0
