@@ -18,3 +18,5 @@ mod rested;
 mod same;
 mod settle;
 mod stepping;
+#[cfg(test)]
+mod tests;
