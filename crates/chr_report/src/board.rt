@@ -87,7 +87,8 @@ impl Board {
         ensures reached { OnOk result (IsReached self.new) }
         ensures program { self.new.accepted ≡ self.old.accepted }
         ensures answer { IfOk result (λ reply. AnswersShow (declarations (program_on self.old))
-            (rules_of (program_on self.old)) self.old.ops replica (reply_text (declarations (program_on self.old)) reply) self.new.ops) }
+            (rules_of (program_on self.old)) self.old.ops replica
+            (reply_text (declarations (program_on self.old)) reply) self.new.ops) }
     {
         if replica != 1 {
             return Ok(Reply::Refused(Refusal::NoReplica));
@@ -128,7 +129,8 @@ impl Board {
         ensures reached { OnOk result (IsReached self.new) }
         ensures program { self.new.accepted ≡ self.old.accepted }
         ensures answer { IfOk result (λ reply. Answers (declarations (program_on self.old))
-            (rules_of (program_on self.old)) self.old.ops line.now (reply_text (declarations (program_on self.old)) reply) self.new.ops) }
+            (rules_of (program_on self.old)) self.old.ops line.now
+            (reply_text (declarations (program_on self.old)) reply) self.new.ops) }
     {
         match read_line(alloc, line) {
             Ok(Command::Show { replica }) => self.show(alloc, replica),
