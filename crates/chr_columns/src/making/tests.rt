@@ -2,6 +2,7 @@ ghost use Rattle.std.specs.Prelude.{◌≡◌, ◌≤◌, length};
 
 use crate::making::rested_for;
 use crate::rested::Rested;
+use crate::settle::Outcome;
 use arrayvec::ArrayVec;
 use chr_base::atom::{Atom, SymbolId};
 use chr_base::limits::MAX_ARITY;
@@ -121,16 +122,17 @@ fn one_index_for_both_places(rt: HostRuntime) -> Result<(), Fail> {
 #[test]
 fn the_shorter_path_stays(rt: HostRuntime) -> Result<(), Fail> {
     let alloc = rt.alloc();
-    let mut rested = rested_for(alloc, &[edges(), shorter_paths()])?;
+    let rules = [edges(), shorter_paths()];
+    let mut rested = rested_for(alloc, &rules)?;
     let mut fresh = vec![in alloc;
         atom(1, &[1, 2]),
         atom(0, &[1, 2, 5]),
         atom(0, &[1, 3, 9]),
         atom(7, &[4]),
     ]?;
-    assert!(rt; rested.settle(&mut fresh)?);
-    assert!(rt; rested.settle(&mut fresh)?);
-    assert!(rt; !rested.settle(&mut fresh)?);
+    assert!(rt; rested.settle(&rules, &mut fresh)? == Outcome::Fired);
+    assert!(rt; rested.settle(&rules, &mut fresh)? == Outcome::Fired);
+    assert!(rt; rested.settle(&rules, &mut fresh)? == Outcome::AtRest);
     assert!(rt; row(&rested, 0, 0) == None);
     assert!(rt; row(&rested, 1, 0) == Some(atom(0, &[1, 3, 9])));
     assert!(rt; row(&rested, 1, 1) == None);
