@@ -24,7 +24,8 @@ id_data o n = array (items_of (natural_data o ∷ natural_data n ∷ []))
 
 abbrev pub command_data : Said → Data
 command_data (show r) = array (items_of (string (codes "show") ∷ natural_data r ∷ []))
-command_data (tell r o n ws) = array (items_of (string (codes "tell") ∷ natural_data r ∷ id_data o n ∷ atoms_data ws ∷ []))
+command_data (tell r o n ws) =
+    array (items_of (string (codes "tell") ∷ natural_data r ∷ id_data o n ∷ atoms_data ws ∷ []))
 
 -- each argument has 64 bits
 abbrev pub ArgumentsFit : NamedAtom → Type 0

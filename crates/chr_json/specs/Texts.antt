@@ -19,4 +19,5 @@ IsWithinTextLimits (tell r o n ws) = IsWithinCommandLimits (tell r o n ws) × (r
 -- a command's own text says that command, where it is UTF-8 and no longer than a line may be
 abbrev pub CommandTextsAreSaid : Type 0
 CommandTextsAreSaid =
-    (s : Said) → IsWithinTextLimits s → IsUtf8 (command_text s) → length (command_text s) ≤ MAX_LINE → line_said (command_text s) ≡ Ok s
+    (s : Said) → IsWithinTextLimits s → IsUtf8 (command_text s) → length (command_text s) ≤ MAX_LINE
+    → line_said (command_text s) ≡ Ok s
