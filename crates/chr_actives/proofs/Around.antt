@@ -11,7 +11,7 @@ use Rattle.chr_base.specs.Stores.{store_of}
 use Rattle.chr_base.proofs.Atoms.{atom_total}
 use Rattle.chr_base.proofs.FinBags.{count-of_list}
 use Rattle.chr_plans.specs.declared.rows.Seat.{Seat}
-use Rattle.chr_plans.specs.Keys.{no_atom}
+use Rattle.chr_base.specs.Atoms.{no_atom}
 use Rattle.chr_plans.specs.Seats.{head, seat, no_seat, atom_in, IsSeated}
 use Rattle.chr_actives.specs.Grids.{Grid, contents, rows_in, SitIn}
 use Rattle.chr_actives.specs.Laws.{RowsAreEnough}

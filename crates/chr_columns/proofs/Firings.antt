@@ -23,7 +23,7 @@ use Rattle.chr_base.proofs.Stores.{same_store, count_plus, count_minus, store_of
 use Rattle.chr_base.proofs.Steps.{grows}
 use Rattle.chr_tables.specs.Contents.{Contents, rows_of, columns_of}
 use Rattle.chr_plans.specs.declared.rows.Seat.{Seat}
-use Rattle.chr_plans.specs.Keys.{no_atom}
+use Rattle.chr_base.specs.Atoms.{no_atom}
 use Rattle.chr_plans.specs.Plans.{pattern_at}
 use Rattle.chr_plans.specs.Seats.{head, seat, no_seat, atom_in, IsSeated, IsOther}
 use Rattle.chr_actives.specs.Actives.{one}

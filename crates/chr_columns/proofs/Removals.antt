@@ -14,7 +14,7 @@ use Rattle.chr_base.proofs.FinBags.{count-of_list, count-items, count_in-without
 use Rattle.chr_base.proofs.ListEdits.{within_each, count_in_more}
 use Rattle.chr_base.proofs.Stores.{same_store, count_plus, count_minus, split}
 use Rattle.chr_plans.specs.declared.rows.Seat.{Seat}
-use Rattle.chr_plans.specs.Keys.{no_atom}
+use Rattle.chr_base.specs.Atoms.{no_atom}
 use Rattle.chr_plans.specs.Seats.{seat}
 use Rattle.chr_tables.specs.Contents.{Contents, no_table, rows_of, columns_of}
 use Rattle.chr_actives.specs.Actives.{one}

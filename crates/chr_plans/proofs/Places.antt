@@ -37,11 +37,3 @@ places_take ls n j g =
     ap (λ ps. get_or (places_of ps) j 0) (sym (take-map (λ (l : Lookup). l.partner) n ls))
     ∙ ap (λ xs. get_or xs j 0) (sym (take-map (λ (l : Partner). l.place) n (partners_of ls)))
     ∙ get_or-take n (looked_in ls) j 0 g
-
--- a rule has few head places
-pub few_places : (r : Rule) → length (heads_of r) ≤ MAX_HEADS
-few_places r =
-    let few = (and_parts (nat_lt 0 (length r.removed.items)) (nat_le (length r.kept.items + length r.removed.items) MAX_HEADS) (sized_rule r)).1 in
-    let both = length-append r.kept.items r.removed.items in
-    let n : length r.kept.items + length r.removed.items ≤ MAX_HEADS = grind (arith, nat_tests) in
-    omega (arith, both, n)

@@ -10,7 +10,8 @@ use Rattle.chr_base.specs.Rules.{HasInstance, heads_of}
 use Rattle.chr_base.proofs.Firing.{instance_places}
 use Rattle.chr_plans.specs.declared.plan.Lookup.{Lookup}
 use Rattle.chr_plans.specs.declared.rows.Seat.{Seat}
-use Rattle.chr_plans.specs.Keys.{no_atom, source_value, passes, key_of}
+use Rattle.chr_base.specs.Atoms.{no_atom}
+use Rattle.chr_plans.specs.Keys.{source_value, passes, key_of}
 use Rattle.chr_plans.specs.Rows.{Tables, Columns, HasKey}
 use Rattle.chr_plans.specs.Seats.{head, seat, no_seat, atom_in, IsOther, IsSeated}
 use Rattle.chr_plans.specs.Plans.{IsPlan, FitsTables, IsKnown, partners_of, columns_of}

@@ -19,7 +19,8 @@ use Rattle.chr_plans.specs.declared.key.Test.{Test}
 use Rattle.chr_plans.specs.declared.rows.Seat.{Seat}
 use Rattle.chr_plans.specs.Keys.{source_value, passes, key_of, argument}
 use Rattle.chr_plans.specs.Seats.{head}
-use Rattle.chr_plans.specs.Plans.{pattern_at, IsReady, AreKeys, AreTests, columns_of, has_shape}
+use Rattle.chr_base.specs.Rules.{has_shape}
+use Rattle.chr_plans.specs.Plans.{pattern_at, IsReady, AreKeys, AreTests, columns_of}
 use Rattle.chr_plans.specs.working.Searching.{AreSame}
 
 -- what is read past the last term

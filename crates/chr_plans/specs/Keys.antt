@@ -2,14 +2,11 @@
 use Rattle.std.specs.Prelude.{ℕ, ℤ, List, [], map, get_or, pos, Bool}
 use Rattle.std.specs.Ordering.{int_cmp}
 use Rattle.chr_base.specs.declared.atom.Atom.{Atom}
+use Rattle.chr_base.specs.Atoms.{no_atom}
 use Rattle.chr_base.specs.Rules.{compares}
 use Rattle.chr_plans.specs.declared.key.Test.{Test}
 use Rattle.chr_plans.specs.declared.key.Source.{Source}
 use Rattle.chr_plans.specs.declared.key.Source.TheVariants.{Constant, Argument}
-
--- what is read past the last head
-abbrev pub no_atom : Atom
-no_atom = record { symbol = record { 0 = 0 }; args = record { items = [] } }
 
 -- the argument of an atom in a column, 0 past the last
 abbrev pub argument : Atom → ℕ → ℤ

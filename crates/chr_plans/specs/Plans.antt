@@ -3,7 +3,7 @@ use Rattle.std.specs.Prelude.{◌≡◌, ℕ, ◌<◌, ◌⊎◌, List, [], ◌�
 use Rattle.chr_base.specs.declared.atom.Atom.{Atom}
 use Rattle.chr_base.specs.declared.term.Pattern.{Pattern}
 use Rattle.chr_base.specs.declared.rule.Rule.{Rule}
-use Rattle.chr_base.specs.Rules.{HasInstance, heads_of, no_pattern}
+use Rattle.chr_base.specs.Rules.{has_shape, HasInstance, heads_of, no_pattern}
 use Rattle.chr_plans.specs.declared.key.Source.{Source}
 use Rattle.chr_plans.specs.declared.key.Source.TheVariants.{Constant, Argument}
 use Rattle.chr_plans.specs.declared.key.Key.{Key}
@@ -71,10 +71,6 @@ pub record IsPlan (r : Rule) (p : ℕ) (partners : List Partner) : Type 0 where
       → AreKeys r (places_of partners) p j l.place l.key.items
   pub tests : (j : ℕ) (l : Partner) → j < length partners → get_or partners j l ≡ l
       → AreTests r (places_of partners) p j l.tests.items
-
--- the atom has the symbol and the number of arguments of the pattern
-abbrev pub has_shape : Pattern → Atom → Bool
-has_shape p a = nat_eq p.symbol.0 a.symbol.0 && nat_eq (length p.args.items) (length a.args.items)
 
 -- Each look-up's index has the columns of its key, and atoms of its head's shape live in its table alone.
 pub record FitsTables (r : Rule) (lookups : List Lookup) (rows : Tables) (columns : Columns) : Type 0 where

@@ -4,7 +4,7 @@ use Rattle.chr_base.specs.declared.atom.Atom.{Atom}
 use Rattle.chr_base.specs.declared.rule.Rule.{Rule}
 use Rattle.chr_base.specs.Rules.{HasInstance, heads_of}
 use Rattle.chr_plans.specs.declared.rows.Seat.{Seat}
-use Rattle.chr_plans.specs.Keys.{no_atom}
+use Rattle.chr_base.specs.Atoms.{no_atom}
 use Rattle.chr_plans.specs.Rows.{Tables}
 
 -- what is read past the last seat

@@ -2,7 +2,7 @@ use Rattle.std.proofs.Common.{◌<◌, ◌∷◌, ◌++◌, [], length, ap, ◌�
 use Rattle.chr_base.specs.Rules.{heads_of}
 use Rattle.chr_base.specs.declared.limits.TheConstants.{MAX_HEADS}
 use Rattle.chr_plans.specs.Planning.{IsLongest}
-use Rattle.chr_plans.proofs.Places.{few_places}
+use Rattle.chr_base.proofs.Instances.{heads_few}
 use Rattle.chr_plans.proofs.Distinct.{distinct_one, distinct_more, places_more}
 use Rattle.chr_plans.proofs.Making.{room, places_push, longest_more, is_plan}
 use Rattle.chr_plans.proofs.planning.plan_of.Goals as goal
@@ -19,7 +19,7 @@ pub push-requires-in-Some : goal.push-requires-in-Some
 push-requires-in-Some c =
     let next : IsLongest c.args.rule.now c.loop-partner.known.items (length (heads_of c.args.rule.now)) c.in-Some.partner = rw c.deref.ensures.0 at c.in-Some.ensures in
     let n = room c.args.rule.now c.loop-partner.known.items c.in-Some.partner c.loop-partner.invariant.distinct c.loop-partner.invariant.places next in
-    let m = few_places c.args.rule.now in
+    let m = heads_few c.args.rule.now in
     let l : length c.loop-partner.known.items < MAX_HEADS = omega (arith, n, m) in
     (omega arith, l)
 

@@ -5,7 +5,8 @@ use Rattle.chr_plans.specs.Keys.{source_value}
 use Rattle.chr_plans.specs.Rows.{HasKey}
 use Rattle.chr_plans.specs.Seats.{seat}
 use Rattle.chr_plans.specs.working.Searching.{looked_in}
-use Rattle.chr_plans.proofs.Places.{places_take, partners_len, few_places}
+use Rattle.chr_base.proofs.Instances.{heads_few}
+use Rattle.chr_plans.proofs.Places.{places_take, partners_len}
 use Rattle.chr_plans.proofs.Searches.{bound, below_first, below_next, place_within, past_first, past_next, not_passed, not_taken, not_found, seated_all, none_all, started_more, same_deeper}
 use Rattle.chr_plans.proofs.search.+complete.Goals.{then-not-is_taken+else-complete, else-not-is_taken}
 use Rattle.chr_plans.proofs.search.+complete.Goals as goal
@@ -59,7 +60,7 @@ pub offset_bounds-heads-lookup : goal.offset_bounds-heads-lookup
 offset_bounds-heads-lookup g t c =
     let n : c.args.done < length c.args.lookups.now = (let a = c.requires.done in let b = c.if-done-lookups.false in omega (arith, a, b)) in
     let w = place_within c.args.rule.now c.args.active c.args.lookups.now c.args.done c.index-lookups-done.result _ (g.R.Rows.columns c.args.rows.now) c.args.heads.now c.args.seats.now c.requires.plan c.requires.fits n (sym c.index-lookups-done.is) in
-    let f = few_places c.args.rule.now in
+    let f = heads_few c.args.rule.now in
     omega (arith, w, f)
 
 pub bounds-seats-lookup : goal.bounds-seats-lookup
@@ -73,7 +74,7 @@ pub offset_bounds-seats-lookup : goal.offset_bounds-seats-lookup
 offset_bounds-seats-lookup g t c =
     let n : c.args.done < length c.args.lookups.now = (let a = c.requires.done in let b = c.if-done-lookups.false in omega (arith, a, b)) in
     let w = place_within c.args.rule.now c.args.active c.args.lookups.now c.args.done c.index-lookups-done.result _ (g.R.Rows.columns c.args.rows.now) c.args.heads.now c.args.seats.now c.requires.plan c.requires.fits n (sym c.index-lookups-done.is) in
-    let f = few_places c.args.rule.now in
+    let f = heads_few c.args.rule.now in
     omega (arith, w, f)
 
 pub complete-requires : goal.complete-requires

@@ -1,7 +1,7 @@
 use Rattle.std.proofs.Common.{◌<◌, ◌≤◌, length, get_or, cond, sym, ap, ◌∙◌, arith}
 use Rattle.std.specs.Prelude.{Some, None}
 use Rattle.std.proofs.lemmas.List.{get_or_past}
-use Rattle.chr_plans.specs.Keys.{no_atom}
+use Rattle.chr_base.specs.Atoms.{no_atom}
 use Rattle.chr_tables.specs.working.Indexes.{live}
 use Rattle.chr_tables.proofs.Lives.{live_at, length_live}
 use Rattle.chr_tables.proofs.table.Table.get.Goals.{else-row-len-via-then-row-len+else-index, else-row-len-via-else-row-len}
