@@ -12,7 +12,7 @@ use Rattle.std.proofs.lemmas.Option.{get_or_from_slice_get}
 use Rattle.std.proofs.lemmas.List.Edits.{get_or-remove_below, get_or-remove_above, length-remove, remove-append_left, remove-append_right}
 use Rattle.chr_base.specs.declared.atom.Atom.{Atom}
 use Rattle.chr_base.specs.declared.rule.Rule.{Rule}
-use Rattle.chr_base.specs.Atoms.{atom_cmp}
+use Rattle.chr_base.specs.Atoms.{atom_cmp, no_atom}
 use Rattle.chr_base.specs.FinBag.{◌⊕◌, ◌⊖◌, IsWithin, total}
 use Rattle.chr_base.specs.Stores.{Store, store_of, count}
 use Rattle.chr_base.specs.Rules.{Step, Valuation, heads_of, heads_at, atoms_at, atom_at, guard_holds, no_pattern}
@@ -23,7 +23,6 @@ use Rattle.chr_base.proofs.Stores.{same_store, count_plus, count_minus, store_of
 use Rattle.chr_base.proofs.Steps.{grows}
 use Rattle.chr_tables.specs.Contents.{Contents, rows_of, columns_of}
 use Rattle.chr_plans.specs.declared.rows.Seat.{Seat}
-use Rattle.chr_base.specs.Atoms.{no_atom}
 use Rattle.chr_plans.specs.Plans.{pattern_at}
 use Rattle.chr_plans.specs.Seats.{head, seat, no_seat, atom_in, IsSeated, IsOther}
 use Rattle.chr_actives.specs.Actives.{one}

@@ -6,7 +6,7 @@ use Rattle.std.proofs.Math.ListN.{get_or-map}
 use Rattle.std.proofs.lemmas.List.{get_or_default}
 use Rattle.chr_base.specs.declared.atom.Atom.{Atom}
 use Rattle.chr_base.specs.declared.rule.Rule.{Rule}
-use Rattle.chr_base.specs.Atoms.{atom_cmp}
+use Rattle.chr_base.specs.Atoms.{atom_cmp, no_atom}
 use Rattle.chr_base.specs.FinBag.{◌⊕◌, ◌⊖◌, IsWithin, count_in, without, items}
 use Rattle.chr_base.specs.Stores.{Store, store_of, count}
 use Rattle.chr_base.proofs.Atoms.{atom_total, same_is}
@@ -14,7 +14,6 @@ use Rattle.chr_base.proofs.FinBags.{count-of_list, count-items, count_in-without
 use Rattle.chr_base.proofs.ListEdits.{within_each, count_in_more}
 use Rattle.chr_base.proofs.Stores.{same_store, count_plus, count_minus, split}
 use Rattle.chr_plans.specs.declared.rows.Seat.{Seat}
-use Rattle.chr_base.specs.Atoms.{no_atom}
 use Rattle.chr_plans.specs.Seats.{seat}
 use Rattle.chr_tables.specs.Contents.{Contents, no_table, rows_of, columns_of}
 use Rattle.chr_actives.specs.Actives.{one}

@@ -1,13 +1,6 @@
 -- The places of look-ups.
-use Rattle.std.proofs.Common.{◌≡◌, ℕ, ◌+◌, ◌<◌, ◌≤◌, List, length, get_or, take, sym, ap, ◌∙◌, arith, length-append}
-use Rattle.std.specs.Prelude.{nat_le, nat_lt}
-use Rattle.std.proofs.lemmas.Bool.{and_parts}
-use Rattle.std.proofs.lemmas.Bool.Decides.{nat_tests}
+use Rattle.std.proofs.Common.{◌≡◌, ℕ, ◌<◌, List, length, get_or, take, sym, ap, ◌∙◌, arith}
 use Rattle.std.proofs.lemmas.List.{take-map, get_or-take, get_or-map, length-map}
-use Rattle.chr_base.specs.declared.limits.TheConstants.{MAX_HEADS}
-use Rattle.chr_base.specs.declared.rule.Rule.{Rule}
-use Rattle.chr_base.specs.Rules.{heads_of}
-use Rattle.chr_base.proofs.Instances.{sized_rule}
 use Rattle.chr_plans.specs.declared.plan.Lookup.{Lookup}
 use Rattle.chr_plans.specs.declared.plan.Partner.{Partner}
 use Rattle.chr_plans.specs.Plans.{partners_of, places_of}

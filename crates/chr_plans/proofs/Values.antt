@@ -11,7 +11,7 @@ use Rattle.chr_base.specs.declared.term.Term.{Term}
 use Rattle.chr_base.specs.declared.term.Term.TheVariants as term
 use Rattle.chr_base.specs.declared.term.Pattern.{Pattern}
 use Rattle.chr_base.specs.declared.rule.Rule.{Rule}
-use Rattle.chr_base.specs.Rules.{Valuation, HasInstance, term_value, compares, atom_at, heads_at, heads_of, no_pattern}
+use Rattle.chr_base.specs.Rules.{Valuation, HasInstance, term_value, compares, atom_at, heads_at, heads_of, no_pattern, has_shape}
 use Rattle.chr_plans.specs.declared.key.Source.{Source}
 use Rattle.chr_plans.specs.declared.key.Source.TheVariants.{Constant, Argument}
 use Rattle.chr_plans.specs.declared.key.Key.{Key}
@@ -19,7 +19,6 @@ use Rattle.chr_plans.specs.declared.key.Test.{Test}
 use Rattle.chr_plans.specs.declared.rows.Seat.{Seat}
 use Rattle.chr_plans.specs.Keys.{source_value, passes, key_of, argument}
 use Rattle.chr_plans.specs.Seats.{head}
-use Rattle.chr_base.specs.Rules.{has_shape}
 use Rattle.chr_plans.specs.Plans.{pattern_at, IsReady, AreKeys, AreTests, columns_of}
 use Rattle.chr_plans.specs.working.Searching.{AreSame}
 

@@ -1,5 +1,5 @@
 -- Values that are known before a head is looked for, and tests of them.
-use Rattle.std.specs.Prelude.{ℕ, ℤ, List, [], map, get_or, pos, Bool}
+use Rattle.std.specs.Prelude.{ℕ, ℤ, List, map, get_or, pos, Bool}
 use Rattle.std.specs.Ordering.{int_cmp}
 use Rattle.chr_base.specs.declared.atom.Atom.{Atom}
 use Rattle.chr_base.specs.Atoms.{no_atom}
