@@ -170,3 +170,7 @@ heads_few r =
     let n = length-append r.kept.items r.removed.items in
     let few = leb-true _ _ (and_parts (nat_lt 0 (length r.removed.items)) _ (sized_rule r)).1 in
     omega (arith, n, few)
+
+-- two valuations that make the same heads of a rule agree on its variables
+pub same_on : (r : Rule) (heads : List Atom) (v w : Valuation) → heads_at v r ≡ heads → heads_at w r ≡ heads → SameOn (heads_of r) v w
+same_on r heads v w e f = λ x o. sym (the_valuation r heads v e x o) ∙ the_valuation r heads w f x o

@@ -16,6 +16,7 @@ pub mod SameAtoms
 pub mod SameRules
 pub mod SamePrograms
 pub mod Edits
+pub mod Bindings
 pub mod Places
 pub mod Firing
 pub mod Ordered

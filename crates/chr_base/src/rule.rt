@@ -4,8 +4,8 @@ ghost use Rattle.chr_base.specs.RuleTests.{is_in_bounds, is_rule};
 
 use crate::atom::Atom;
 use crate::limits::{MAX_BODY, MAX_COMPARISONS, MAX_HEADS, MAX_NAME};
-use crate::matching::value_among;
-use crate::term::{Cmp, Comparison, Pattern, Term};
+use crate::matching::{Values, bind, holds, instance_of};
+use crate::term::{Comparison, Pattern};
 use arrayvec::{ArrayString, ArrayVec};
 
 /// A rule. Where `kept` is empty it is a simplification `removed <=> guard | body`, else a simpagation
@@ -39,8 +39,9 @@ fn copies_of<const CAP: usize>(patterns: &ArrayVec<Pattern, CAP>) -> ArrayVec<Pa
 
 impl Rule {
     ghost use Rattle.std.specs.Prelude.{◌≡◌, ◌<◌, ◌≤◌, ◌+◌, ◌↔◌, IsTrue, length, get_or, List, [], ◌∷◌, ◌++◌};
-    ghost use Rattle.chr_base.specs.Rules.{heads_of, no_pattern, heads_at, atoms_at, atom_at, term_value, comparison_holds, guard_holds, HasInstance, Valuation};
-    ghost use Rattle.chr_base.specs.working.Instances.{value_among, valuation, agree};
+    ghost use Rattle.chr_base.specs.Rules.{heads_of, no_pattern, heads_at, atoms_at, guard_holds, HasInstance, Valuation};
+    ghost use Rattle.chr_base.specs.working.Bindings.{valued};
+    ghost use Rattle.std.specs.Bool.{OnTrue, OnFalse};
     ghost use Rattle.chr_base.specs.Sameness.{parts_of};
 
     /// The number of head places, from 1 to `MAX_HEADS`. Kept heads come before removed ones.
@@ -64,93 +65,27 @@ impl Rule {
         }
     }
 
-    /// The value at a variable's first place in the heads.
-    #[tactic(auto, using(crate::proofs::Places::value_among_cut))]
-    fn value_in(&self, heads: &[Atom], variable: u8) -> Option<i64>
-        requires { length heads.now ≡ length (heads_of self.now) }
-        ensures { result ≡ value_among (heads_of self.now) heads.now variable }
+    /// Whether the heads come out as these atoms, whose arguments their variables then get.
+    fn bind(&self, heads: &[Atom], values: &mut Values) -> bool
+        requires none { values.old.items ≡ [] }
+        requires places { length heads.now ≡ length (heads_of self.now) }
+        ensures bound { OnTrue result (heads_at (valued values.new.items) self.now ≡ heads.now) }
+        ensures refused { OnFalse result ((w : Valuation) → ¬ (heads_at w self.now ≡ heads.now)) }
     {
         let (kept, removed) = heads.split_at(self.kept.len());
-        value_among(&self.kept, kept, variable).or(value_among(&self.removed, removed, variable))
-    }
-
-    /// The value of a term under these heads.
-    fn value(&self, heads: &[Atom], term: &Term) -> i64
-        requires { length heads.now ≡ length (heads_of self.now) }
-        ensures { result ≡ term_value (valuation (heads_of self.now) heads.now) term.now }
-    {
-        match term {
-            Term::Variable(variable) => self.value_in(heads, *variable).unwrap_or(0),
-            Term::Constant(value) => *value,
-        }
-    }
-
-    /// The atom that a pattern is under these heads.
-    fn instance_of(&self, heads: &[Atom], pattern: &Pattern) -> Atom
-        requires { length heads.now ≡ length (heads_of self.now) }
-        ensures { result ≡ atom_at (valuation (heads_of self.now) heads.now) pattern.now }
-    {
-        let mut args = ArrayVec::new();
-        for term in pattern.args.as_slice() {
-            args.push(self.value(heads, term));
-        }
-        Atom {
-            symbol: pattern.symbol,
-            args,
-        }
-    }
-
-    /// Whether the patterns come out as these atoms.
-    fn agree(&self, heads: &[Atom], patterns: &[Pattern], atoms: &[Atom]) -> bool
-        requires { length heads.now ≡ length (heads_of self.now) }
-        ensures { result ≡ agree (valuation (heads_of self.now) heads.now) patterns.now atoms.now }
-    {
-        let [pattern, patterns @ ..] = patterns else {
-            return atoms.is_empty();
-        };
-        let [atom, atoms @ ..] = atoms else {
+        if !bind(values, self.kept.as_slice(), kept) {
             return false;
-        };
-        self.instance_of(heads, pattern).is_same(atom) && self.agree(heads, patterns, atoms)
-    }
-
-    /// Whether a comparison holds under these heads.
-    fn holds(&self, heads: &[Atom], comparison: &Comparison) -> bool
-        requires { length heads.now ≡ length (heads_of self.now) }
-        ensures { result ≡ comparison_holds (valuation (heads_of self.now) heads.now) comparison.now }
-    {
-        let order = self
-            .value(heads, &comparison.left)
-            .cmp(&self.value(heads, &comparison.right));
-        match comparison.cmp {
-            Cmp::Less => order.is_lt(),
-            Cmp::AtMost => order.is_le(),
-            Cmp::Greater => order.is_gt(),
-            Cmp::AtLeast => order.is_ge(),
-            Cmp::Equal => order.is_eq(),
-            Cmp::NotEqual => order.is_ne(),
         }
+        bind(values, self.removed.as_slice(), removed)
     }
 
-    /// Whether the guard holds under these heads.
-    fn guard_holds(&self, heads: &[Atom]) -> bool
-        requires { length heads.now ≡ length (heads_of self.now) }
-        ensures { result ≡ guard_holds (valuation (heads_of self.now) heads.now) self.now.guard.items }
+    /// Whether the guard holds under these values.
+    fn guard_holds(&self, values: &[i64]) -> bool
+        ensures { result ≡ guard_holds (valued values.now) self.now.guard.items }
     {
         self.guard
             .iter()
-            .all(|comparison| self.holds(heads, comparison))
-    }
-
-    /// Whether the heads come out as these atoms.
-    #[tactic(auto, using(crate::proofs::Places::agree_cut))]
-    fn has_heads(&self, heads: &[Atom]) -> bool
-        requires { length heads.now ≡ length (heads_of self.now) }
-        ensures { result ≡ agree (valuation (heads_of self.now) heads.now) (heads_of self.now) heads.now }
-    {
-        let (kept, removed) = heads.split_at(self.kept.len());
-        let kept_agree = self.agree(heads, &self.kept, kept);
-        kept_agree && self.agree(heads, &self.removed, removed)
+            .all(|comparison| holds(values, comparison))
     }
 
     /// Whether the rule has an instance with these heads, in place order: some valuation of its variables makes its
@@ -161,10 +96,11 @@ impl Rule {
         if heads.len() != self.places() {
             return false;
         }
-        if !self.has_heads(heads) {
+        let mut values = Values::new();
+        if !self.bind(heads, &mut values) {
             return false;
         }
-        self.guard_holds(heads)
+        self.guard_holds(values.as_slice())
     }
 
     /// The body of the instance with these heads. Each valuation that makes these heads makes this body.
@@ -172,9 +108,13 @@ impl Rule {
         requires { HasInstance self.now heads.now }
         ensures { (v : Valuation) → heads_at v self.now ≡ heads.now → result.items ≡ atoms_at v self.now.body.items }
     {
+        let mut values = Values::new();
         let mut body = ArrayVec::new();
-        for pattern in self.body.as_slice() {
-            body.push(self.instance_of(heads, pattern));
+        // The heads are an instance's, so they bind.
+        if self.bind(heads, &mut values) {
+            for pattern in self.body.as_slice() {
+                body.push(instance_of(values.as_slice(), pattern));
+            }
         }
         body
     }
