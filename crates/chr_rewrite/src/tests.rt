@@ -15,8 +15,10 @@ use chr_base::program::Program;
 use chr_base::rule::Rule;
 use chr_base::term::{Cmp, Comparison, Pattern, Term};
 use chr_base::weight::{DEFAULT_WEIGHT, Weight};
+use chr_columns::columns::Columns;
 use chr_weights::{weigh, weight};
 use std::alloc::{AllocError, Global};
+use std::process::Abort;
 use std::test::Fail;
 
 /// The first symbol at a term.
@@ -149,11 +151,9 @@ fn step(rule: u32, first: i64, second: i64) -> Step {
     Step { rule, heads }
 }
 
-#[test]
-fn pools(rt: HostRuntime) -> Result<(), Fail> {
-    let alloc = rt.alloc();
+/// Each call of a pool that is empty, and has to answer as a multiset.
+fn call_each<P: Pool>(rt: &impl Abort, alloc: Global, pool: &mut P) -> Result<(), Fail> {
     let rule = least();
-    let mut pool = ListPool::new(alloc);
     assert!(rt; pool.find(&rule).is_none());
     pool.insert(&[atom(9), atom(3), atom(9)])?;
     assert!(rt; pool.has(&[]));
@@ -167,9 +167,6 @@ fn pools(rt: HostRuntime) -> Result<(), Fail> {
         panic!(rt; "nothing found");
     };
     assert!(rt; heads.as_slice() == [atom(3), atom(9)].as_slice());
-    let before = pool.bag(alloc)?;
-    let after = fired(alloc, &rule, &heads, &before)?;
-    assert!(rt; after.atoms() == [atom(3)].as_slice());
     pool.fire(&rule, &heads)?;
     assert!(rt; pool.find(&rule).is_none());
     assert!(rt; pool.bag(alloc)?.atoms() == [atom(3)].as_slice());
@@ -177,20 +174,80 @@ fn pools(rt: HostRuntime) -> Result<(), Fail> {
 }
 
 #[test]
-fn rests(rt: HostRuntime) -> Result<(), Fail> {
+fn pools(rt: HostRuntime) -> Result<(), Fail> {
     let alloc = rt.alloc();
+    call_each(&rt, alloc, &mut ListPool::new(alloc))?;
+    call_each(&rt, alloc, &mut Columns::new(alloc, &[])?)?;
+    call_each(&rt, alloc, &mut Columns::new(alloc, &[least()])?)?;
+    call_each(&rt, alloc, &mut Columns::new(alloc, &[equal(), neutral()])?)
+}
+
+#[test]
+fn fires(rt: HostRuntime) -> Result<(), Fail> {
+    let alloc = rt.alloc();
+    let rule = least();
+    let mut pool = ListPool::new(alloc);
+    pool.insert(&[atom(9), atom(3)])?;
+    let Some(heads) = pool.find(&rule) else {
+        panic!(rt; "nothing found");
+    };
+    let before = pool.bag(alloc)?;
+    let after = fired(alloc, &rule, &heads, &before)?;
+    assert!(rt; after.atoms() == [atom(3)].as_slice());
+    Ok(())
+}
+
+/// An empty pool takes atoms and comes to rest.
+fn rest_each<P: Pool>(rt: &impl Abort, alloc: Global, pool: &mut P) -> Result<(), Fail> {
     let Ok(weighed) = weigh(minimum(alloc)?) else {
         panic!(rt; "refused");
     };
-    let mut pool = ListPool::new(alloc);
+    let rules = weighed.program().rules();
+    assert!(rt; !pool.step(rules)?);
     pool.insert(&[atom(5), atom(3), atom(9), atom(3)])?;
-    assert!(rt; !at_rest(&weighed, &pool));
-    assert!(rt; pool.step(weighed.program().rules())?);
-    let steps = rest(&weighed, &mut pool);
-    assert_eq!(rt; steps, Ok(2));
-    assert!(rt; at_rest(&weighed, &pool));
-    assert!(rt; !pool.step(weighed.program().rules())?);
+    assert!(rt; !at_rest(&weighed, pool));
+    assert!(rt; pool.step(rules)?);
+    assert_eq!(rt; rest(&weighed, pool)?, 2);
+    assert!(rt; at_rest(&weighed, pool));
+    assert!(rt; !pool.step(rules)?);
     assert!(rt; pool.bag(alloc)?.atoms() == [atom(3)].as_slice());
+    Ok(())
+}
+
+#[test]
+fn rests(rt: HostRuntime) -> Result<(), Fail> {
+    let alloc = rt.alloc();
+    rest_each(&rt, alloc, &mut ListPool::new(alloc))?;
+    rest_each(&rt, alloc, &mut Columns::new(alloc, &[])?)?;
+    rest_each(&rt, alloc, &mut Columns::new(alloc, &[least()])?)?;
+    rest_each(&rt, alloc, &mut Columns::new(alloc, &[equal(), neutral()])?)
+}
+
+/// `Columns` under its own rules, under others, and again under its own.
+#[test]
+fn columns(rt: HostRuntime) -> Result<(), Fail> {
+    let alloc = rt.alloc();
+    let own = [least()];
+    let others = [equal(), neutral()];
+    let mut pool = Columns::new(alloc, &own)?;
+    assert!(rt; !pool.step(&own)?);
+    pool.insert(&[atom(2), atom(5), atom(2)])?;
+    assert!(rt; pool.has(&[atom(2), atom(2), atom(5)]));
+    assert!(rt; pool.step(&others)?);
+    assert!(rt; pool.bag(alloc)?.atoms() == [atom(0), atom(5)].as_slice());
+    assert!(rt; !pool.step(&others)?);
+    assert!(rt; pool.find(&others[0]).is_none());
+    let Some(heads) = pool.find(&own[0]) else {
+        panic!(rt; "nothing found");
+    };
+    pool.fire(&own[0], &heads)?;
+    assert!(rt; !pool.step(&own)?);
+    pool.insert(&[atom(4)])?;
+    assert!(rt; pool.step(&own)?);
+    assert!(rt; !pool.step(&own)?);
+    assert!(rt; pool.remove(&[atom(0)]));
+    assert!(rt; !pool.has(&[atom(0)]));
+    assert!(rt; pool.bag(alloc)?.is_empty());
     Ok(())
 }
 
