@@ -2,22 +2,24 @@
 use crate::tests::random::Random;
 use std::alloc::{AllocError, Global};
 
-/// The symbols of each program.
+/// The symbols of each program. The last two are those of wide programs alone.
 #[derive(Clone, Copy)]
-enum Symbol {
+pub enum Symbol {
     A,
     B,
     P,
     Q,
     R,
+    S,
+    T,
 }
 
 /// What the rules of one program are made of: few symbols, so that heads overlap, and few constants.
 #[derive(Clone, Copy)]
-struct Palette {
-    symbols: [Symbol; 3],
-    variables: [&'static str; 2],
-    constants: [&'static str; 3],
+pub struct Palette {
+    pub symbols: [Symbol; 3],
+    pub variables: [&'static str; 2],
+    pub constants: [&'static str; 3],
 }
 
 fn symbols(random: &mut Random) -> [Symbol; 3] {
@@ -36,7 +38,7 @@ fn symbols(random: &mut Random) -> [Symbol; 3] {
 
 /// Between 0 and 1 lies no whole number and between 1 and 3 one; above the greatest value and below the least lies
 /// none.
-fn constants(random: &mut Random) -> [&'static str; 3] {
+pub fn constants(random: &mut Random) -> [&'static str; 3] {
     match random.below(6) {
         0 | 1 => ["0", "1", "3"],
         2 => ["1", "3", "1"],
@@ -62,13 +64,19 @@ fn term(random: &mut Random, palette: &Palette) -> &'static str {
     }
 }
 
-fn push_atom(text: &mut String, random: &mut Random, palette: &Palette) -> Result<(), AllocError> {
+pub fn push_atom(
+    text: &mut String,
+    random: &mut Random,
+    palette: &Palette,
+) -> Result<(), AllocError> {
     let (name, arity) = match palette.symbols[random.below(3)] {
         Symbol::A => ("a", 0),
         Symbol::B => ("b", 0),
         Symbol::P => ("p(", 1),
         Symbol::Q => ("q(", 1),
         Symbol::R => ("r(", 2),
+        Symbol::S => ("s(", 3),
+        Symbol::T => ("t(", 6),
     };
     text.push_str(name)?;
     for i in 0..arity {
@@ -106,7 +114,7 @@ fn push_heads(text: &mut String, random: &mut Random, palette: &Palette) -> Resu
     }
 }
 
-fn push_comparison(
+pub fn push_comparison(
     text: &mut String,
     random: &mut Random,
     palette: &Palette,
@@ -143,7 +151,7 @@ fn push_rule(text: &mut String, random: &mut Random, palette: &Palette) -> Resul
     text.push_str(".\n")
 }
 
-fn push_weights(text: &mut String, random: &mut Random) -> Result<(), AllocError> {
+pub fn push_weights(text: &mut String, random: &mut Random) -> Result<(), AllocError> {
     for symbol in ["a/0", "b/0", "p/1", "q/1", "r/2"] {
         text.push_str(":- chr_weight ")?;
         text.push_str(symbol)?;

@@ -43,7 +43,7 @@ fn atom(random: &mut Random, values: &[i64]) -> Atom {
 }
 
 /// Adds copies of the atoms.
-fn add_copies(store: &mut Bag, atoms: &[Atom]) -> Result<(), AllocError> {
+pub fn add_copies(store: &mut Bag, atoms: &[Atom]) -> Result<(), AllocError> {
     for atom in atoms {
         store.add(atom.copy())?;
     }
@@ -51,7 +51,7 @@ fn add_copies(store: &mut Bag, atoms: &[Atom]) -> Result<(), AllocError> {
 }
 
 /// Adds some atoms.
-fn add_atoms(store: &mut Bag, random: &mut Random, values: &[i64]) -> Result<(), AllocError> {
+pub fn add_atoms(store: &mut Bag, random: &mut Random, values: &[i64]) -> Result<(), AllocError> {
     for _ in 0..random.below(4) {
         store.add(atom(random, values))?;
     }
