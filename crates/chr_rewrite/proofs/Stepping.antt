@@ -20,4 +20,3 @@ fired r heads xs ys zs body gone h w counts e made f =
     let left : store_of ys ≡ store_of xs ⊖ store_of (atoms_at v r.removed.items) = store_less xs ys gone counts ∙ ap (λ as'. store_of xs ⊖ store_of as') (e ∙ removed_heads r heads v h.1) in
     let came : store_of zs ≡ store_of ys ⊕ store_of (atoms_at v r.body.items) = ap store_of f ∙ store_of-append ys body ∙ ap (λ as'. store_of ys ⊕ store_of as') (made v h.1) in
     (v, h.1, record { guard = h.2; there = rw h.1 w; after = came ∙ ap (λ s. s ⊕ store_of (atoms_at v r.body.items)) left })
-
