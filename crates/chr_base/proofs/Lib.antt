@@ -3,6 +3,7 @@ pub mod Atoms
 pub mod Stores
 pub mod Traversals
 pub mod Terms
+pub mod Distinct
 pub mod Each
 pub mod Rewriting
 pub mod Steps
@@ -25,3 +26,4 @@ pub mod Declared
 pub mod Weighing
 pub mod Printing
 pub mod InRuns
+pub mod Made

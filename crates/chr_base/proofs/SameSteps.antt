@@ -1,11 +1,12 @@
--- Programs that are the same take the same steps.
-use Rattle.std.specs.Prelude.{◌≡◌, ℕ, List, ◌++◌, map, Option, Some, None, slice_get, IsTrue, option_map}
+-- Programs that are the same take the same steps, and so reach the same stores.
+use Rattle.std.specs.Prelude.{◌≡◌, ℕ, zero, suc, List, ◌++◌, map, Option, Some, None, slice_get, IsTrue, option_map}
 use Rattle.std.proofs.Common.{refl, sym, ap, ◌∙◌, subst}
 use Rattle.std.proofs.lemmas.Option.{none-some, same_Some, slice_get-map}
 use Rattle.chr_base.specs.declared.rule.Rule.{Rule}
 use Rattle.chr_base.specs.FinBag.{◌⊕◌, ◌⊖◌, IsWithin}
-use Rattle.chr_base.specs.Laws.{SameProgramsStepAlike}
+use Rattle.chr_base.specs.Laws.{SameProgramsStepAlike, SameProgramsReachAlike}
 use Rattle.chr_base.specs.Programs.{rules_of}
+use Rattle.chr_base.specs.Rewriting.{Runs}
 use Rattle.chr_base.specs.Rules.{Step, StepBy, Valuation, atoms_at, guard_holds}
 use Rattle.chr_base.specs.Sameness.{Parts, parts_of}
 use Rattle.chr_base.specs.Stores.{Store, store_of}
@@ -41,4 +42,14 @@ pub same_programs_step_alike : SameProgramsStepAlike
 same_programs_step_alike p q same s t = (
   λ h. same_step (rules_of p) (rules_of q) s t same.1 h,
   λ h. same_step (rules_of q) (rules_of p) s t (sym same.1) h,
+)
+
+same_runs : (rs qs : List Rule) (n : ℕ) (s t : Store) → map parts_of rs ≡ map parts_of qs → Runs (Step rs) n s t → Runs (Step qs) n s t
+same_runs rs qs zero s t e h = h
+same_runs rs qs (suc n) s t e h = (h.0, same_step rs qs s h.0 e h.1, same_runs rs qs n h.0 t e h.2)
+
+pub same_programs_reach_alike : SameProgramsReachAlike
+same_programs_reach_alike p q same s t = (
+  λ h. (h.0, same_runs (rules_of p) (rules_of q) h.0 s t same.1 h.1),
+  λ h. (h.0, same_runs (rules_of q) (rules_of p) h.0 s t (sym same.1) h.1),
 )

@@ -68,3 +68,6 @@ length_total (x ∷ xs) = let h = length_total xs in omega (arith, h)
 -- how many atoms there are is what they weigh where each weighs 1
 pub size_weight : (s : Store) → size s ≡ weight_of (λ _. 1) s
 size_weight s = length_total (bag.items s) ∙ sym (laws.sum_over-items (λ _. 1) s)
+
+pub size_store_of : (xs : List Atom) → size (store_of xs) ≡ length xs
+size_store_of xs = size_weight (store_of xs) ∙ weight_store_of (λ _. 1) xs ∙ sym (length_total xs)

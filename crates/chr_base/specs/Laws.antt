@@ -6,7 +6,7 @@ use Rattle.chr_base.specs.FinBag.{empty, items, add, ◌⊕◌, ◌⊖◌, IsWit
 use Rattle.chr_base.specs.Stores.{Store, store_of, count}
 use Rattle.chr_base.specs.Rules.{Step}
 use Rattle.chr_base.specs.Programs.{rules_of}
-use Rattle.chr_base.specs.Rewriting.{Runs}
+use Rattle.chr_base.specs.Rewriting.{Runs, Reaches}
 use Rattle.chr_base.specs.Sameness.{AreSame}
 
 -- no atom stands in the empty store
@@ -49,6 +49,11 @@ WithinIsPart = (s t : Store) → IsWithin s t ↔ ((rest : Store) × (t ≡ rest
 -- programs that are the same take the same steps
 abbrev pub SameProgramsStepAlike : Type 0
 SameProgramsStepAlike = (p q : Program) → AreSame p q → (s t : Store) → Step (rules_of p) s t ↔ Step (rules_of q) s t
+
+-- and so reach the same stores
+abbrev pub SameProgramsReachAlike : Type 0
+SameProgramsReachAlike =
+    (p q : Program) → AreSame p q → (s t : Store) → Reaches (Step (rules_of p)) s t ↔ Reaches (Step (rules_of q)) s t
 
 -- a run goes on in every larger store
 abbrev pub RunsGrow : Type 0

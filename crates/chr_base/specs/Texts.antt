@@ -11,9 +11,12 @@ use Rattle.chr_base.specs.ProgramTests.{Declaration}
 use Rattle.chr_base.specs.Stores.{Store}
 use Rattle.chr_base.specs.FinBag as bag
 
--- the name of an atom's symbol (none where it isn't declared)
+-- the name of the symbol at a place (none where none is declared there)
+abbrev pub name_at : List Declaration → ℕ → List ℕ
+name_at ds i = option_map_or (λ d. d.name) (slice_get ds i) []
+
 abbrev pub name_of : List Declaration → Atom → List ℕ
-name_of ds a = option_map_or (λ d. d.name) (slice_get ds a.symbol.0) []
+name_of ds a = name_at ds a.symbol.0
 
 -- The order in which atoms are printed: by the bytes of the name, then by the number of arguments, then by the
 -- arguments. The symbol's place is compared last, so that only equal atoms tie. Atoms that are not declared come first,

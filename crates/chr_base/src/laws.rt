@@ -1,6 +1,6 @@
 //! The laws of stores and of their steps. Each is a function that takes nothing and computes nothing: its contract is
 //! the law.
-ghost use Rattle.chr_base.specs.Laws.{EmptyCounts, NoAtomsAreEmpty, ListCountsItself, ListCountsNoOther, SumCounts, DifferenceCounts, CountsDetermine, ItemsMakeStore, AddIsSum, WithinIsPart, SameProgramsStepAlike, RunsGrow};
+ghost use Rattle.chr_base.specs.Laws.{EmptyCounts, NoAtomsAreEmpty, ListCountsItself, ListCountsNoOther, SumCounts, DifferenceCounts, CountsDetermine, ItemsMakeStore, AddIsSum, WithinIsPart, SameProgramsStepAlike, SameProgramsReachAlike, RunsGrow};
 
 /// A store is a finite multiset of atoms: how often each atom stands in it determines it.
 pub fn bag_is_multiset()
@@ -19,6 +19,11 @@ pub fn bag_is_multiset()
 /// Programs that are the same take the same steps.
 pub fn same_programs_step_alike()
     ensures { SameProgramsStepAlike }
+{}
+
+/// Programs that are the same reach the same stores.
+pub fn same_programs_reach_alike()
+    ensures { SameProgramsReachAlike }
 {}
 
 /// A run goes on in every larger store.

@@ -205,5 +205,8 @@ pub(crate) fn put_in_order(items: &mut Vec<Atom>)
     ensures rising { IsTrue (is_rising atom_cmp items.new.items) }
     ensures same { store_of items.new.items ≡ store_of items.old.items }
 {
+    if is_in_order(items) {
+        return;
+    }
     items.sort_unstable_by(|left, right| left.order(right));
 }

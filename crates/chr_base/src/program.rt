@@ -108,6 +108,7 @@ fn some_paired(weights: &[Weight]) -> bool
 
 impl Program {
     ghost use Rattle.std.specs.Prelude.{◌≡◌, ◌<◌, ◌≤◌, ◌++◌, ◌↔◌, [], ◌∷◌, IsTrue, Some, None, OnOk, OnErr, IfOk, IfSome, option_map, position, length, slice_get};
+    ghost use Rattle.std.specs.Bool.{OnTrue};
     ghost use Rattle.chr_base.specs.ProgramTests.{Declaration, declared, declares, fits, new_declaration, some_paired, with_weight};
     ghost use Rattle.chr_base.specs.Programs.{declarations, rules_of, declares_atom, declared_atom};
     ghost use Rattle.chr_base.specs.Names.{is_name};
@@ -141,6 +142,27 @@ impl Program {
     {
         let symbol = self.symbol(name, args.len())?;
         Some(atom_of(symbol, args))
+    }
+
+    /// Whether the symbol is declared with this name and number of arguments.
+    fn is_declared_as(&self, symbol: SymbolId, name: &str, arity: usize) -> bool
+        ensures { OnTrue result
+            (position (declares name.now arity) (declarations self.now) ≡ Some symbol.0) }
+    {
+        match self.find(symbol) {
+            Some((known, _)) => usize::from(known.arity) == arity && known.name.as_str() == name,
+            None => false,
+        }
+    }
+
+    /// What `atom` gives, sooner where its symbol is this one: no table is asked then.
+    pub fn atom_near(&self, near: SymbolId, name: &str, args: &[i64]) -> Option<Atom>
+        ensures { result ≡ declared_atom (declarations self.now) name.now args.now }
+    {
+        if self.is_declared_as(near, name, args.len()) {
+            return Some(atom_of(near, args));
+        }
+        self.atom(name, args)
     }
 
     /// Declares one more symbol, of the default weight.

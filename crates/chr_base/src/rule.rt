@@ -1,11 +1,12 @@
 //! Rules.
 ghost use Rattle.std.specs.Prelude.{◌≡◌, ◌++◌, IsTrue, option_map};
+ghost use Rattle.std.specs.Bool.{Decides};
 ghost use Rattle.chr_base.specs.RuleTests.{is_in_bounds, is_rule};
 
 use crate::atom::Atom;
 use crate::limits::{MAX_BODY, MAX_COMPARISONS, MAX_HEADS, MAX_NAME};
 use crate::matching::{Values, bind, holds, instance_of};
-use crate::term::{Comparison, Pattern};
+use crate::term::{Comparison, Pattern, Term};
 use arrayvec::{ArrayString, ArrayVec};
 
 /// A rule. Where `kept` is empty it is a simplification `removed <=> guard | body`, else a simpagation
@@ -35,6 +36,57 @@ fn copies_of<const CAP: usize>(patterns: &ArrayVec<Pattern, CAP>) -> ArrayVec<Pa
         copies.push(pattern.copy());
     }
     copies
+}
+
+/// Whether the two lists of terms are one.
+fn same_terms(left: &[Term], right: &[Term]) -> bool
+    ensures { Decides result (left.now ≡ right.now) }
+{
+    let [first, left @ ..] = left else {
+        return right.is_empty();
+    };
+    let [second, right @ ..] = right else {
+        return false;
+    };
+    if first != second {
+        return false;
+    }
+    same_terms(left, right)
+}
+
+/// Whether the two lists of patterns are one.
+fn same_patterns(left: &[Pattern], right: &[Pattern]) -> bool
+    ensures { Decides result (left.now ≡ right.now) }
+{
+    let [first, left @ ..] = left else {
+        return right.is_empty();
+    };
+    let [second, right @ ..] = right else {
+        return false;
+    };
+    if first.symbol.0 != second.symbol.0 {
+        return false;
+    }
+    if !same_terms(&first.args, &second.args) {
+        return false;
+    }
+    same_patterns(left, right)
+}
+
+/// Whether the two lists of comparisons are one.
+fn same_comparisons(left: &[Comparison], right: &[Comparison]) -> bool
+    ensures { Decides result (left.now ≡ right.now) }
+{
+    let [first, left @ ..] = left else {
+        return right.is_empty();
+    };
+    let [second, right @ ..] = right else {
+        return false;
+    };
+    if first != second {
+        return false;
+    }
+    same_comparisons(left, right)
 }
 
 impl Rule {
@@ -140,6 +192,12 @@ impl Rule {
     pub fn is_same(&self, other: &Rule) -> bool
         ensures { IsTrue result ↔ (parts_of self.now ≡ parts_of other.now) }
     {
-        self == other
+        // Most rules that are compared are the same, so nothing is gained by an early end.
+        let kept = same_patterns(&self.kept, &other.kept);
+        let removed = same_patterns(&self.removed, &other.removed);
+        let guard = same_comparisons(&self.guard, &other.guard);
+        let body = same_patterns(&self.body, &other.body);
+        let name = self.name == other.name;
+        name & (kept & (removed & (guard & body)))
     }
 }

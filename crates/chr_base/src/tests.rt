@@ -9,7 +9,7 @@ use crate::limits::{MAX_ARITY, MAX_SYMBOLS, MAX_WEIGHT};
 use crate::program::Program;
 use crate::rule::Rule;
 use crate::term::{Cmp, Comparison, Pattern, Term};
-use crate::text::{push_store, store_text};
+use crate::text::{in_print_order, push_store, store_text};
 use crate::weight::{DEFAULT_WEIGHT, Weight};
 use arrayvec::ArrayVec;
 use std::alloc::{AllocError, Global};
@@ -121,6 +121,29 @@ fn texts(rt: HostRuntime) -> Result<(), Fail> {
         text.as_str(),
         "a, a(-9223372036854775808,7), min(-3), min(3), min(3)"
     );
+    Ok(())
+}
+
+/// `a` before `min`, of one name fewer arguments first, and of one symbol the smaller arguments first.
+#[test]
+fn atoms_in_print_order(rt: HostRuntime) -> Result<(), Fail> {
+    let alloc = rt.alloc();
+    let program = three_symbols(&rt, alloc)?;
+    let mut bag = Bag::new(alloc);
+    assert!(rt; in_print_order(alloc, &program, &bag)?.is_empty());
+    bag.add(atom(0, &[3]))?;
+    bag.add(atom(2, &[-5, 7]))?;
+    bag.add(atom(0, &[-3]))?;
+    bag.add(atom(1, &[]))?;
+    bag.add(atom(0, &[3]))?;
+    let sorted = [
+        atom(1, &[]),
+        atom(2, &[-5, 7]),
+        atom(0, &[-3]),
+        atom(0, &[3]),
+        atom(0, &[3]),
+    ];
+    assert!(rt; in_print_order(alloc, &program, &bag)?.as_slice() == sorted.as_slice());
     Ok(())
 }
 
@@ -246,6 +269,14 @@ fn programs(rt: HostRuntime) -> Result<(), Fail> {
     assert_eq!(rt; program.atom("r", &[-1, 4]), Some(atom(2, &[-1, 4])));
     assert_eq!(rt; program.atom("r", &[-1]), None);
     assert_eq!(rt; program.atom("s", &[-1, 4]), None);
+    for near in [0, 2, 3] {
+        let near = SymbolId(near);
+        assert_eq!(rt;
+            program.atom_near(near, "r", &[-1, 4]),
+            Some(atom(2, &[-1, 4]))
+        );
+        assert_eq!(rt; program.atom_near(near, "r", &[-1]), None);
+    }
     assert!(rt; program.is_same(&one_rule(alloc, Cmp::Less, weight(5, 0))?));
     assert!(rt; !program.is_same(&one_rule(alloc, Cmp::AtMost, weight(5, 0))?));
     assert!(rt; !program.is_same(&one_rule(alloc, Cmp::Less, weight(6, 0))?));

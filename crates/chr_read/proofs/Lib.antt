@@ -26,3 +26,4 @@ pub mod NumberedNames
 pub mod RulesBack
 pub mod RoundTrip
 pub mod OneAnswer
+pub mod ProgramsThere

@@ -23,7 +23,7 @@ use Rattle.chr_base.specs.ProgramTests.{Declaration, declares, takes, is_declare
 use Rattle.chr_syntax.specs.working.Spellings.{IsAtom}
 use Rattle.chr_base.specs.Names.{is_lower}
 use Rattle.chr_syntax.specs.Lexemes.{IsWord}
-use Rattle.chr_read.specs.CanonicalTexts.{name_at}
+use Rattle.chr_base.specs.Texts.{name_at}
 use Rattle.chr_read.specs.Faults.{present, is_long, atom_over, is_undeclared, is_long_variable, is_outside}
 use Rattle.chr_read.specs.working.RuleParts.{place_of, place_of_atom, parts_of_atom_over, atom_outside}
 use Rattle.chr_read.specs.Resolving.{resolved_term, heads, after_heads, body_atom, cmp_of, resolved_comparison}

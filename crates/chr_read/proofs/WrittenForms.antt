@@ -15,7 +15,8 @@ use Rattle.chr_base.specs.Weights.{is_paired}
 use Rattle.chr_syntax.specs.declared.clause.Comparator.{Comparator}
 use Rattle.chr_syntax.specs.declared.clause.Comparator.TheVariants as sign
 use Rattle.chr_syntax.specs.Clauses.{Term, Atom, Symbol, Comparison, Rule, Form, variable, number, declare, weight, rule}
-use Rattle.chr_read.specs.CanonicalTexts.{name_at, is_default}
+use Rattle.chr_base.specs.Texts.{name_at}
+use Rattle.chr_read.specs.CanonicalTexts.{is_default}
 
 abbrev pub written_term : base.Term → Term
 written_term (Variable x) = variable (codes "V" ++ decimal x)

@@ -27,7 +27,8 @@ use Rattle.chr_syntax.specs.working.Spellings.{spelled_atoms, spelled_term, spel
 use Rattle.chr_syntax.specs.Lexemes.{AllAre, IsWord, IsLexeme}
 use Rattle.chr_syntax.specs.Printing.{EndsBefore}
 use Rattle.chr_syntax.proofs.Printing.{written_read, layout_goes}
-use Rattle.chr_read.specs.CanonicalTexts.{more, separated, term_text, args_text, name_at, pattern_text, patterns_text, cmp_text, comparison_text, label_text, kept_text, guard_text, body_text, rule_clause, symbol_text, weight_clause}
+use Rattle.chr_base.specs.Texts.{name_at}
+use Rattle.chr_read.specs.CanonicalTexts.{more, separated, term_text, args_text, pattern_text, patterns_text, cmp_text, comparison_text, label_text, kept_text, guard_text, body_text, rule_clause, symbol_text, weight_clause}
 use Rattle.chr_read.proofs.PlainBytes.{from_test}
 use Rattle.chr_read.proofs.Decimals.{decimal_digits, decimal_number, signed_number}
 use Rattle.chr_read.proofs.WrittenForms.{written_term, written_atom, comparator_of, written_comparison, written_body, written_rule, written_symbol, written_second, written_weight}

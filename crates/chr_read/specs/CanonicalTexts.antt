@@ -1,6 +1,5 @@
 -- The canonical text of a program: its clauses in a fixed order and layout, each with a full stop and a line feed.
-use Rattle.std.specs.Prelude.{ℕ, Bool, ◌&&◌, nat_eq, if◌then◌else◌, List, [], ◌∷◌, ◌++◌, map, Option, Some, None, option_map, codes, decimal, slice_get}
-use Rattle.std.specs.Option.{option_map_or}
+use Rattle.std.specs.Prelude.{ℕ, Bool, ◌&&◌, nat_eq, if◌then◌else◌, List, [], ◌∷◌, ◌++◌, map, Option, Some, None, option_map, codes, decimal}
 use Rattle.std.specs.Fmt.{signed_decimal}
 use Rattle.chr_base.specs.declared.term.Term.{Term}
 use Rattle.chr_base.specs.declared.term.Term.TheVariants.{Variable, Constant}
@@ -11,6 +10,7 @@ use Rattle.chr_base.specs.declared.term.Pattern.{Pattern}
 use Rattle.chr_base.specs.declared.rule.Rule.{Rule}
 use Rattle.chr_base.specs.declared.weight.Weight.{Weight}
 use Rattle.chr_base.specs.ProgramTests.{Declaration}
+use Rattle.chr_base.specs.Texts.{name_at}
 use Rattle.chr_base.specs.Weights.{is_paired, weight_text}
 
 -- ---- lists
@@ -34,9 +34,6 @@ term_text (Constant c) = signed_decimal c
 abbrev pub args_text : List Term → List ℕ
 args_text [] = []
 args_text (t ∷ ts) = codes "(" ++ (separated (codes ",") term_text (t ∷ ts) ++ codes ")")
-
-abbrev pub name_at : List Declaration → ℕ → List ℕ
-name_at ds i = option_map_or (λ d. d.name) (slice_get ds i) []
 
 abbrev pub pattern_text : List Declaration → Pattern → List ℕ
 pattern_text ds p = name_at ds p.symbol.0 ++ args_text p.args.items

@@ -77,6 +77,10 @@ TextsHaveSomeAnswer = (text : List ℕ)
     → ((m : Meaning) × IsProgramText text m) ⊎ ((n : Fault) × (k : ℕ) × IsRefusedText text n k)
     ⊎ (MAX_TEXT < length text)
 
+-- of each meaning that a text has there is a program
+abbrev pub MeaningsHavePrograms : Type 0
+MeaningsHavePrograms = (text : List ℕ) (m : Meaning) → IsProgramText text m → (p : Program) × (meaning_of p ≡ m)
+
 abbrev pub ProgramsHaveOneMeaning : Type 0
 ProgramsHaveOneMeaning = (text : List ℕ) (m n : Meaning) → IsProgramText text m → IsProgramText text n → m ≡ n
 

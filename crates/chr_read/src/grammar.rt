@@ -3,7 +3,7 @@
 ghost use Rattle.chr_read.specs.NamesOfForms.{NamesAreNames, NamesAreText};
 ghost use Rattle.chr_read.specs.Numberings.{HeadsAreOneList, OneNumberIsOneVariable};
 ghost use Rattle.chr_read.specs.RoundTrips.{ProgramsComeBack};
-ghost use Rattle.chr_read.specs.ProgramTexts.{ProgramsHaveOneMeaning, RefusedTextsAreNoPrograms, TextsHaveOneFault, TextsHaveSomeAnswer};
+ghost use Rattle.chr_read.specs.ProgramTexts.{MeaningsHavePrograms, ProgramsHaveOneMeaning, RefusedTextsAreNoPrograms, TextsHaveOneFault, TextsHaveSomeAnswer};
 
 /// The names of each clause are text and names of symbols and rules, so of them only their lengths are limited.
 pub fn names_are_text()
@@ -29,4 +29,9 @@ pub fn texts_have_one_answer()
     ensures meaning { ProgramsHaveOneMeaning }
     ensures apart { RefusedTextsAreNoPrograms }
     ensures fault { TextsHaveOneFault }
+{}
+
+/// Each text that is a program has a value of the type `Program` with its meaning, which keeps all limits.
+pub fn meanings_have_programs()
+    ensures { MeaningsHavePrograms }
 {}

@@ -19,7 +19,8 @@ mod writer;
 
 pub use fault::{Fault, ReadFault};
 pub use grammar::{
-    names_are_text, programs_come_back, texts_have_one_answer, variables_are_numbered,
+    meanings_have_programs, names_are_text, programs_come_back, texts_have_one_answer,
+    variables_are_numbered,
 };
 pub use reader::{MAX_TEXT, read};
 pub use writer::write;

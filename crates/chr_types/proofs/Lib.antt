@@ -14,3 +14,4 @@ pub mod Ways
 pub mod Steps
 pub mod Members
 pub mod RisingLists
+pub mod TypesThere

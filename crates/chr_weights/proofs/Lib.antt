@@ -1,3 +1,4 @@
 pub mod Weighing
 pub mod WeightLaws
 pub mod Ranks
+pub mod FirstNotLowered
