@@ -50,11 +50,11 @@ filter_in p x (y ∷ xs) i = elim (p y) as (λ b. p y ≡ b → In x (cond b (y 
   | false ↦ λ e i. (let h = filter_in p x xs i in (inr h.0, h.1))
 ] refl i
 
-own_is : (x : ℕ) (t : Term) → is_variable x t ≡ true → t ≡ Variable x
+pub own_is : (x : ℕ) (t : Term) → is_variable x t ≡ true → t ≡ Variable x
 own_is x (Variable y) h = ap Variable (sym (eqb-true x y h))
 own_is x (Constant c) h = absurd (true≢false (sym h))
 
-is_free : (σ : Substitution) (r1 r2 : Rule) (x : ℕ) → 0 < x → x ≤ variables_of r1 + variables_of r2 → σ x ≡ Variable x → In x (free_variables σ r1 r2)
+pub is_free : (σ : Substitution) (r1 r2 : Rule) (x : ℕ) → 0 < x → x ≤ variables_of r1 + variables_of r2 → σ x ≡ Variable x → In x (free_variables σ r1 r2)
 is_free σ r1 r2 x l g e =
     in_filter (λ y. is_variable y (σ y)) x (range_with_len 1 (variables_of r1 + variables_of r2)) (in_range 1 (variables_of r1 + variables_of r2) x (omega (arith, l)) (omega (arith, g))) (ap (is_variable x) e ∙ eq-eqb x x refl)
 

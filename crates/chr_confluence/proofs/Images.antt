@@ -19,17 +19,17 @@ abbrev pub image : List (ℤ × ℤ) → ℤ → ℤ
 image [] x = x
 image (p ∷ ps) x = cond (int_eq x p.0) p.1 (image ps x)
 
-in_constants : (x : ℤ) (cs : List ℤ) → list_any (int_eq x) cs ≡ true → In x cs
+pub in_constants : (x : ℤ) (cs : List ℤ) → list_any (int_eq x) cs ≡ true → In x cs
 in_constants x [] h = absurd (true≢false (sym h))
 in_constants x (c ∷ cs) h =
     elim (int_eq x c) as (λ b. int_eq x c ≡ b → (b || list_any (int_eq x) cs) ≡ true → (x ≡ c) ⊎ In x cs) [ true ↦ λ e _. inl (same_yes x c e) | false ↦ λ e h. inr (in_constants x cs h) ] refl h
 
-any_constant : (x : ℤ) (cs : List ℤ) → In x cs → list_any (int_eq x) cs ≡ true
+pub any_constant : (x : ℤ) (cs : List ℤ) → In x cs → list_any (int_eq x) cs ≡ true
 any_constant x [] h = absurd h
 any_constant x (c ∷ cs) (inl e) = or_left _ _ (yes_same x c e)
 any_constant x (c ∷ cs) (inr h) = or_right (int_eq x c) _ (any_constant x cs h)
 
-any_pair : (p : ℤ × ℤ) (ps : List (ℤ × ℤ)) → In p ps → list_any (λ q. int_eq p.0 q.0) ps ≡ true
+pub any_pair : (p : ℤ × ℤ) (ps : List (ℤ × ℤ)) → In p ps → list_any (λ q. int_eq p.0 q.0) ps ≡ true
 any_pair p [] h = absurd h
 any_pair p (q ∷ ps) (inl e) = or_left _ _ (yes_same p.0 q.0 (ap (λ (r : ℤ × ℤ). r.0) e))
 any_pair p (q ∷ ps) (inr h) = or_right (int_eq p.0 q.0) _ (any_pair p ps h)

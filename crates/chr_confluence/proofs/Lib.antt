@@ -1,3 +1,4 @@
+pub mod Carrying
 pub mod Rising
 pub mod Images
 pub mod Carried

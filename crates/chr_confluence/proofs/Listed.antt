@@ -57,11 +57,11 @@ listed_case r1 r2 m is σ solves zs guards = record {
 
 -- ---- values in a set
 
-value_is : (x : ℤ) → is_value x ≡ true → IsValue x
+pub value_is : (x : ℤ) → is_value x ≡ true → IsValue x
 value_is x h = let a = (and_parts (int_le (neg_ℤ (pos (2 ^ 63))) x) _ h).0 in let b = (and_parts (int_le (neg_ℤ (pos (2 ^ 63))) x) _ h).1 in (grind (arith, ints, a), grind (arith, ints, b))
 
 -- the terms of patterns are in the set, so the atoms are
-atoms_in : (d : ℤ → Bool) (v : Valuation) (ps : List Pattern) → ((t : Term) → In t (terms_of ps) → d (term_value v t) ≡ true) → list_all (args_in d) (atoms_at v ps) ≡ true
+pub atoms_in : (d : ℤ → Bool) (v : Valuation) (ps : List Pattern) → ((t : Term) → In t (terms_of ps) → d (term_value v t) ≡ true) → list_all (args_in d) (atoms_at v ps) ≡ true
 atoms_in d v [] h = refl
 atoms_in d v (p ∷ ps) h = and_from _ _ (terms_in p.args.items (λ t i. h t (in_first t p.args.items (terms_of ps) i))) (atoms_in d v ps (λ t i. h t (in_second t p.args.items (terms_of ps) i)))
   where
@@ -75,12 +75,12 @@ left_over_all p m k (b ∷ bs) h =
     let more = left_over_all p m (suc k) bs ((and_parts (p b) _ h).1) in
     elim (names m (suc k)) as (λ x. list_all p (cond x (left_over m (suc k) bs) (b ∷ left_over m (suc k) bs)) ≡ true) [ true ↦ more | false ↦ and_from (p b) _ ((and_parts (p b) _ h).0) more ]
 
-case_in : (d : ℤ → Bool) (r1 r2 : Rule) (m : List ℕ) (v1 v2 : Valuation) → list_all (args_in d) (atoms_at v1 (heads_of r1)) ≡ true → list_all (args_in d) (atoms_at v2 (heads_of r2)) ≡ true
-    → Each (args_in d) (case_store r1 r2 m v1 v2)
-case_in d r1 r2 m v1 v2 h g =
-    let a : list_all (args_in d) (both_heads r1 v1) ≡ true = ap (list_all (args_in d)) (both_heads_are r1 v1) ∙ h in
-    let b : list_all (args_in d) (both_heads r2 v2) ≡ true = ap (list_all (args_in d)) (both_heads_are r2 v2) ∙ g in
-    each_of_list (args_in d) (both_heads r1 v1 ++ left_over m 0 (both_heads r2 v2)) (list_all-append (args_in d) (both_heads r1 v1) (left_over m 0 (both_heads r2 v2)) ∙ and_from _ _ a (left_over_all (args_in d) m 0 (both_heads r2 v2) b))
+-- a test that all heads pass is passed by each atom of the case's store
+pub case_each : (p : Atom → Bool) (r1 r2 : Rule) (m : List ℕ) (v1 v2 : Valuation) → list_all p (atoms_at v1 (heads_of r1)) ≡ true → list_all p (atoms_at v2 (heads_of r2)) ≡ true → Each p (case_store r1 r2 m v1 v2)
+case_each p r1 r2 m v1 v2 h g =
+    let a : list_all p (both_heads r1 v1) ≡ true = ap (list_all p) (both_heads_are r1 v1) ∙ h in
+    let b : list_all p (both_heads r2 v2) ≡ true = ap (list_all p) (both_heads_are r2 v2) ∙ g in
+    each_of_list p (both_heads r1 v1 ++ left_over m 0 (both_heads r2 v2)) (list_all-append p (both_heads r1 v1) (left_over m 0 (both_heads r2 v2)) ∙ and_from _ _ a (left_over_all p m 0 (both_heads r2 v2) b))
 
 -- ---- a case of 64-bit values
 
@@ -104,7 +104,7 @@ module _ (r1 r2 : Rule) (m : List ℕ) (v1 v2 : Valuation) (case : IsCase r1 r2 
     | inr h ↦ (let i = variable_stands r1 x l h in ap is_value ((joint_parts r1 r2 v1 v2).left x i) ∙ left_values x i)
   ]
 
-  class_values : (σ : Substitution) → AreValues (map (joint (variables_of r1) v1 v2) (free_variables σ r1 r2))
+  pub class_values : (σ : Substitution) → AreValues (map (joint (variables_of r1) v1 v2) (free_variables σ r1 r2))
   class_values σ v i =
       let w = in_map (joint (variables_of r1) v1 v2) v (free_variables σ r1 r2) i in
       let free = free_is σ r1 r2 w.0 w.1 in
@@ -183,7 +183,7 @@ module _ (rules : List Rule) (i j : ℕ) (r1 r2 : Rule) (at1 : slice_get rules i
     guards = guards_here;
     case = here;
     values = values;
-    there = case_in values r1 r2 m (left_at σ r1 r2 zs) (right_at σ r1 r2 zs) left_within right_within;
+    there = case_each (args_in values) r1 r2 m (left_at σ r1 r2 zs) (right_at σ r1 r2 zs) left_within right_within;
     to = image_of;
     keeps = keeps_order;
     fixes = fixes_rules;
@@ -220,7 +220,7 @@ listed_suffice rules listed i j r1 r2 at1 at2 ordered m v1 v2 case each = elim (
 
 -- ---- listed cases have 64-bit values, and decide confluence
 
-is_value_of : (x : ℤ) → IsValue x → is_value x ≡ true
+pub is_value_of : (x : ℤ) → IsValue x → is_value x ≡ true
 is_value_of x h =
     let a = h.0 in
     let b = h.1 in
@@ -245,7 +245,7 @@ module _ (rules : List Rule) (i j : ℕ) (r1 r2 : Rule) (at1 : slice_get rules i
   right_terms (Constant c) h = constants_fit rules c (head_constant rules j r2 at2 c h)
 
   listed_store_values : HasValues (listed_store σ r1 r2 m zs)
-  listed_store_values = case_in is_value r1 r2 m (left_at σ r1 r2 zs) (right_at σ r1 r2 zs) (atoms_in is_value (left_at σ r1 r2 zs) (heads_of r1) left_terms) (atoms_in is_value (right_at σ r1 r2 zs) (heads_of r2) right_terms)
+  listed_store_values = case_each (args_in is_value) r1 r2 m (left_at σ r1 r2 zs) (right_at σ r1 r2 zs) (atoms_in is_value (left_at σ r1 r2 zs) (heads_of r1) left_terms) (atoms_in is_value (right_at σ r1 r2 zs) (heads_of r2) right_terms)
 
 pub listed_values : ListedHaveValues
 listed_values rules i j r1 r2 at1 at2 m σ rs solves reps zs listed = listed_store_values rules i j r1 r2 at1 at2 m σ rs solves reps zs listed

@@ -1,65 +1,40 @@
 -- A map of values that keeps their order on a set of values, and fixes the constants, carries steps to steps.
-use Rattle.std.specs.Prelude.{◌≡◌, ℕ, ℤ, ◌+◌, Bool, true, false, ◌&&◌, ◌||◌, cond, nat_eq, List, [], ◌∷◌, ◌++◌, map}
+use Rattle.std.specs.Prelude.{◌≡◌, ℕ, ℤ, Bool, true, false, ◌&&◌, ◌||◌, nat_eq, List, [], ◌∷◌, ◌++◌, map}
 use Rattle.std.specs.List.{list_all, list_any}
-use Rattle.std.proofs.Common.{refl, sym, ap, subst, ◌∙◌, arith, inl, inr}
+use Rattle.std.proofs.Common.{refl, sym, subst, ◌∙◌, inl, inr}
 use mathlib.Core.Bool.{true≢false}
 use Rattle.std.proofs.lemmas.Bool.{eqb-true, and_from, and_parts}
-use Rattle.std.specs.Ordering.{int_cmp, eq_by_cmp}
+use Rattle.std.specs.Ordering.{int_cmp}
 use Rattle.chr_base.specs.declared.atom.Atom.{Atom}
 use Rattle.chr_base.specs.declared.term.Term.{Term}
 use Rattle.chr_base.specs.declared.term.Term.TheVariants.{Variable, Constant}
 use Rattle.chr_base.specs.declared.term.Comparison.{Comparison}
 use Rattle.chr_base.specs.declared.term.Pattern.{Pattern}
 use Rattle.chr_base.specs.declared.rule.Rule.{Rule}
-use Rattle.chr_base.specs.Atoms.{atom_cmp}
-use Rattle.chr_base.proofs.Atoms.{atom_total}
-use Rattle.chr_base.specs.Stores.{Store, store_of, count}
-use Rattle.chr_base.proofs.Stores.{count_plus, count_minus, same_store, split}
+use Rattle.chr_base.specs.Stores.{Store, store_of}
 use Rattle.chr_base.specs.RuleTests.{is_variable, occurs, is_bound_in, terms_of}
 use Rattle.chr_base.proofs.Instances.{guard_known, body_known}
 use Rattle.chr_base.specs.Rules.{StepBy, Valuation, term_value, atoms_at, compares, guard_holds, heads_at, heads_of}
-use Rattle.chr_base.proofs.Steps.{removed_there}
 use Rattle.chr_base.proofs.Terms.{terms_of-append}
-use Rattle.chr_base.proofs.FinBags as bag_laws
-use Rattle.chr_base.specs.FinBag.{◌⊕◌, ◌⊖◌, IsWithin, total, items, sum_over}
+use Rattle.chr_base.specs.FinBag.{◌⊕◌, ◌⊖◌, IsWithin}
 use Rattle.chr_base.specs.Values.{Each, args_in}
 use Rattle.chr_confluence.specs.Constants.{guard_terms}
+use Rattle.chr_confluence.specs.Images.{Carries}
+use Rattle.chr_confluence.proofs.Carrying.{image_plus, image_list, image_minus, step_carried}
 use Rattle.chr_confluence.specs.Rising.{KeepsOrder, FixesTerms, FixesRule, rename_atom, rename}
 use Rattle.chr_types.proofs.Members.{in_first, in_second}
 use Rattle.chr_base.proofs.Each.{each_of_list, list_of_each, each_within, each_plus, each_minus}
 
 -- ---- renamed stores
 
--- how often an atom stands in the renamed list
-total-map : (g : Atom → ℕ) (h : Atom → Atom) (xs : List Atom) → total g (map h xs) ≡ total (λ x. g (h x)) xs
-total-map g h [] = refl
-total-map g h (x ∷ xs) = ap (λ n. g (h x) + n) (total-map g h xs)
-
-count_renamed : (f : ℤ → ℤ) (s : Store) (q : Atom) → count (rename f s) q ≡ sum_over (λ x. cond (eq_by_cmp atom_cmp q (rename_atom f x)) 1 0) s
-count_renamed f s q = bag_laws.count-of_list atom_total (map (rename_atom f) (items s)) q ∙ total-map _ (rename_atom f) (items s) ∙ sym (bag_laws.sum_over-items _ s)
-
 pub rename_plus : (f : ℤ → ℤ) (s t : Store) → rename f (s ⊕ t) ≡ rename f s ⊕ rename f t
-rename_plus f s t = same_store _ _ (λ q.
-    (let a = count_renamed f (s ⊕ t) q in let b = count_renamed f s q in let c = count_renamed f t q in
-    let d = bag_laws.sum_over-⊕ atom_total (λ x. cond (eq_by_cmp atom_cmp q (rename_atom f x)) 1 0) s t in
-    let e = count_plus (rename f s) (rename f t) q in omega (arith, a, b, c, d, e)))
+rename_plus f s t = image_plus (rename_atom f) s t
 
 pub rename_list : (f : ℤ → ℤ) (xs : List Atom) → rename f (store_of xs) ≡ store_of (map (rename_atom f) xs)
-rename_list f xs = same_store _ _ (λ q.
-    count_renamed f (store_of xs) q ∙ bag_laws.sum_over-of_list atom_total _ xs ∙ sym (total-map _ (rename_atom f) xs) ∙ sym (bag_laws.count-of_list atom_total (map (rename_atom f) xs) q))
-
-pub rename_within : (f : ℤ → ℤ) (r s : Store) → IsWithin r s → IsWithin (rename f r) (rename f s)
-rename_within f r s h q =
-    let e = ap (λ x. count x q) (ap (rename f) (sym (split s r h)) ∙ rename_plus f (s ⊖ r) r) in
-    let d = count_plus (rename f (s ⊖ r)) (rename f r) q in
-    omega (arith, e, d)
+rename_list f xs = image_list (rename_atom f) xs
 
 pub rename_minus : (f : ℤ → ℤ) (r s : Store) → IsWithin r s → rename f (s ⊖ r) ≡ rename f s ⊖ rename f r
-rename_minus f r s h = same_store _ _ (λ q.
-    (let e = ap (λ x. count x q) (ap (rename f) (sym (split s r h)) ∙ rename_plus f (s ⊖ r) r) in
-    let d = count_plus (rename f (s ⊖ r)) (rename f r) q in
-    let c = count_minus (rename f s) (rename f r) q in
-    omega (arith, e, d, c)))
+rename_minus f r s h = image_minus (rename_atom f) s r h
 
 -- ---- rules
 
@@ -161,14 +136,15 @@ module _ (f : ℤ → ℤ) (d : ℤ → Bool) where
       rw st.after (each_plus (args_in d) _ _ (each_minus (args_in d) s _ each)
       (each_of_list (args_in d) _ (body_in v (heads_of r) r.body.items (heads_in r v s t each st) (body_known r) (fixes_body r fixes))))
 
-  -- a step from a store with values in the set is a step between the renamed stores
+  -- the instance of a step from a store with values in the set is carried to that of the mapped values
+  pub rising_carries : KeepsOrder f d → (r : Rule) (v : Valuation) (s t : Store) → FixesRule f d r → Each (args_in d) s → StepBy r v s t → Carries (rename_atom f) r v (λ x. f (v x))
+  rising_carries keeps r v s t fixes each st = record {
+    kept = sym (atoms_move v r.kept.items (fixes_kept r fixes));
+    removed = sym (atoms_move v r.removed.items (fixes_removed r fixes));
+    body = sym (atoms_move v r.body.items (fixes_body r fixes));
+    guard = guard_moves keeps v (heads_of r) r.guard.items (heads_in r v s t each st) (guard_known r) (fixes_guard r fixes) ∙ st.guard;
+  }
+
+  -- so the step is one between the renamed stores
   pub rising : KeepsOrder f d → (r : Rule) (v : Valuation) (s t : Store) → FixesRule f d r → Each (args_in d) s → StepBy r v s t → StepBy r (λ x. f (v x)) (rename f s) (rename f t)
-  rising keeps r v s t fixes each st =
-      let removed = removed_there r v s st.there in
-      let there : IsWithin (store_of (heads_at (λ x. f (v x)) r)) (rename f s) =
-      rw (atoms_move v (heads_of r) (fixes_heads r fixes), ← rename_list f (heads_at v r)) (rename_within f _ s st.there) in
-      let after : rename f t ≡ (rename f s ⊖ store_of (atoms_at (λ x. f (v x)) r.removed.items)) ⊕ store_of (atoms_at (λ x. f (v x)) r.body.items) =
-      rw (atoms_move v r.removed.items (fixes_removed r fixes), atoms_move v r.body.items (fixes_body r fixes), ← rename_list f (atoms_at v r.removed.items), ← rename_list f (atoms_at v r.body.items))
-      (ap (rename f) st.after ∙ rename_plus f _ _ ∙ ap (λ x. x ⊕ rename f (store_of (atoms_at v r.body.items))) (rename_minus f _ s removed)) in
-      let guard = guard_moves keeps v (heads_of r) r.guard.items (heads_in r v s t each st) (guard_known r) (fixes_guard r fixes) in
-      record { guard = guard ∙ st.guard; there = there; after = after }
+  rising keeps r v s t fixes each st = step_carried (rename_atom f) r v (λ x. f (v x)) s t (rising_carries keeps r v s t fixes each st) st

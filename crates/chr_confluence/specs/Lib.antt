@@ -4,6 +4,7 @@ pub mod Unifiers
 pub mod Overlaps
 pub mod Constants
 pub mod Representatives
+pub mod Images
 pub mod Rising
 pub mod Peaks
 pub mod Lowering

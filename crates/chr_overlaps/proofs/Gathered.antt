@@ -136,7 +136,7 @@ pub none_yet : AreConstantsIn [] []
 none_yet = record { rise = tt; values = λ v h. absurd h; stand = λ c h. absurd h; all = λ c h. absurd h }
 
 -- the terms of all rules are those of some rule
-of_some_rule : (rs : List Rule) (t : Term) → In t (all_terms rs) → (i : ℕ) × (r : Rule) × (slice_get rs i ≡ Some r) × In t (rule_terms r)
+pub of_some_rule : (rs : List Rule) (t : Term) → In t (all_terms rs) → (i : ℕ) × (r : Rule) × (slice_get rs i ≡ Some r) × In t (rule_terms r)
 of_some_rule [] t h = absurd h
 of_some_rule (r ∷ rs) t h = elim (in_either t (rule_terms r) (all_terms rs) h) as (λ _. (i : ℕ) × (s : Rule) × (slice_get (r ∷ rs) i ≡ Some s) × In t (rule_terms s)) [
   | inl j ↦ (0, r, refl, j)

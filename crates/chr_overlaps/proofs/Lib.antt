@@ -12,3 +12,4 @@ pub mod Gathered
 pub mod Kept
 pub mod OneList
 pub mod Few
+pub mod CasesThere
