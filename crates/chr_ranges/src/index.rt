@@ -1,0 +1,139 @@
+//! The index.
+ghost use Rattle.std.specs.Prelude.{◌≡◌, ℕ, ◌+◌, ◌-◌, ◌<◌, ◌≤◌, ◌^◌, ◌∷◌, ◌++◌, [], length, get_or, set, Some, None, OnOk, IfOk, IfSome, IfNone};
+ghost use Rattle.chr_ranges.specs.Rows.{HasHash, IsWanted};
+
+use crate::chain::{Chains, join, relink, seek};
+use crate::range::Range;
+use crate::row::{Link, Row};
+use std::alloc::{AllocError, Global};
+use std::marker::Model;
+
+/// Rows that are found by a hash and a range of values. Contracts see the hash and value of each live row, and for how
+/// many rows there is room.
+#[derive(Drop)]
+pub struct Index {
+    rows: Vec<Row>,
+    chains: Chains,
+}
+
+impl Model for Index {
+    ghost use Rattle.std.specs.Prelude.{min, vec_capacity};
+    ghost use Rattle.chr_ranges.specs.Rows.{Listed};
+    ghost use Rattle.chr_ranges.specs.working.Entries.{listed_code, entries_of, IsIndex};
+
+    ghost Value = { Listed };
+
+    ghost coded = { listed_code };
+
+    ghost view = { λ b. record {
+      rows = entries_of b.rows.items;
+      room = min (vec_capacity b.rows) (vec_capacity b.chains.links);
+    } };
+
+    ghost invariant = { λ b. IsIndex b.rows.items b.chains.links.items b.chains.heads.items };
+}
+
+impl Index {
+    /// The one of no rows.
+    pub fn new(alloc: Global) -> Result<Index, AllocError>
+        ensures { IfOk result (λ i. i.rows ≡ []) }
+    {
+        Ok(Index {
+            rows: Vec::new(alloc),
+            chains: Chains {
+                links: Vec::new(alloc),
+                heads: vec![in alloc; 0; 16]?,
+            },
+        })
+    }
+
+    /// Makes room for this many rows more. The slots grow with the rows.
+    pub fn reserve(&mut self, more: usize) -> Result<(), AllocError>
+        requires { length self.old.rows + more < 2 ^ 32 }
+        ensures rows { self.new.rows ≡ self.old.rows }
+        ensures ok { OnOk result (length self.old.rows + more ≤ self.new.room) }
+    {
+        self.rows.reserve(more)?;
+        self.chains.links.reserve(more)?;
+        let slots = self.chains.heads.len();
+        if slots < self.rows.len() + more && slots < 0x4000_0000 {
+            self.chains.heads.resize(2 * slots, 0)?;
+            self.chains.heads.fill(0);
+            relink(&self.rows, &mut self.chains);
+        }
+        Ok(())
+    }
+
+    /// One more row, for which there is room.
+    pub fn push(&mut self, hash: u32, value: i64)
+        requires room { length self.old.rows < self.old.room }
+        requires few { length self.old.rows + 1 < 2 ^ 32 }
+        ensures rows { self.new.rows ≡ self.old.rows ++ Some (record { hash = hash; value = value }) ∷ [] }
+        ensures room { self.new.room ≡ self.old.room }
+    {
+        let row = self.rows.len();
+        self.rows.push_reserved(Row {
+            value,
+            hash,
+            alive: true,
+        });
+        self.chains.links.push_reserved(Link::default());
+        join(&self.rows, &mut self.chains, row);
+    }
+
+    /// A row dies.
+    pub fn kill(&mut self, row: u32)
+        requires { row < length self.old.rows }
+        ensures rows { self.new.rows ≡ set self.old.rows row None }
+        ensures room { self.new.room ≡ self.old.room }
+    {
+        self.rows[row as usize].alive = false;
+    }
+
+    /// The newest live row with this hash and a value in the range.
+    pub fn first(&mut self, hash: u32, range: &Range) -> Option<u32>
+        ensures same { self.new ≡ self.old }
+        ensures wanted { IfSome result (λ row. IsWanted self.old.rows hash range.now row) }
+        ensures newest { IfSome result (λ row. (other : ℕ) → IsWanted self.old.rows hash range.now other
+            → other ≤ row) }
+        ensures none { IfNone result ((other : ℕ) → ¬ (IsWanted self.old.rows hash range.now other)) }
+    {
+        self.first_place(hash, range).checked_sub(1)
+    }
+
+    /// The same, below a live row with this hash.
+    pub fn next(&mut self, hash: u32, range: &Range, row: u32) -> Option<u32>
+        requires { HasHash self.old.rows hash row }
+        ensures same { self.new ≡ self.old }
+        ensures below { IfSome result (λ next. next < row) }
+        ensures wanted { IfSome result (λ next. IsWanted self.old.rows hash range.now next) }
+        ensures newest { IfSome result (λ next. (other : ℕ) → other < row
+            → IsWanted self.old.rows hash range.now other → other ≤ next) }
+        ensures none { IfNone result ((other : ℕ) → other < row → ¬ (IsWanted self.old.rows hash range.now other)) }
+    {
+        self.next_place(hash, range, row).checked_sub(1)
+    }
+
+    /// The place, its number and one, of the newest live row with this hash and a value in the range, or 0.
+    fn first_place(&mut self, hash: u32, range: &Range) -> u32
+        ensures same { self.new ≡ self.old }
+        ensures within { result ≤ length self.old.rows }
+        ensures wanted { 0 < result → IsWanted self.old.rows hash range.now (result - 1) }
+        ensures none_above { (r : ℕ) → IsWanted self.old.rows hash range.now r → r < result }
+    {
+        let from = self.chains.heads[hash as usize % self.chains.heads.len()];
+        seek(&self.rows, &mut self.chains, hash, range, from)
+    }
+
+    /// The same, below a live row with this hash.
+    fn next_place(&mut self, hash: u32, range: &Range, row: u32) -> u32
+        requires { HasHash self.old.rows hash row }
+        ensures same { self.new ≡ self.old }
+        ensures within { result ≤ row }
+        ensures wanted { 0 < result → IsWanted self.old.rows hash range.now (result - 1) }
+        ensures none_between { (r : ℕ) → r < row → IsWanted self.old.rows hash range.now r → r < result }
+    {
+        let from = self.chains.links[row as usize].next;
+        seek(&self.rows, &mut self.chains, hash, range, from)
+    }
+}
