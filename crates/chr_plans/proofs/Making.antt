@@ -1,7 +1,11 @@
 -- What is made is a plan.
-use Rattle.std.proofs.Common.{◌≡◌, ℕ, zero, suc, ◌+◌, ◌<◌, List, [], ◌∷◌, ◌++◌, length, get_or, take, Bool, true, false, nat_eq, refl, sym, ap, ◌∙◌, arith, subst, inl, inr, Option}
+use Rattle.std.proofs.Common.{◌≡◌, ℕ, ℤ, zero, suc, ◌+◌, ◌<◌, List, [], ◌∷◌, ◌++◌, length, get_or, take, Bool, true, false, nat_eq, refl, sym, ap, ◌∙◌, arith, subst, inl, inr, Option}
 use Rattle.std.specs.Prelude.{Some, None, option_map, ◌||◌, if◌then◌else◌}
-use Rattle.std.specs.Ordering.{int_cmp}
+use Rattle.std.proofs.Common.{Ordering}
+use Rattle.std.specs.Ordering.{int_cmp, ordering_reverse}
+use Rattle.std.specs.declared.cmp.Ordering.TheVariants as order
+use Rattle.std.proofs.lemmas.Cmp.{int_cmp_total}
+use Rattle.chr_plans.specs.Seats.{head}
 use Rattle.std.specs.FinMap.{int_cmp-IsAntisymmetric}
 use Rattle.std.specs.List.{list_any, IsDistinct}
 use Rattle.std.specs.Option.{option_or, option_and_then}
@@ -22,10 +26,11 @@ use Rattle.chr_base.specs.RuleTests.{is_variable}
 use Rattle.chr_plans.specs.declared.key.Source.{Source}
 use Rattle.chr_plans.specs.declared.key.Source.TheVariants.{Constant, Argument}
 use Rattle.chr_plans.specs.declared.key.Test.{Test}
+use Rattle.chr_plans.specs.declared.key.Limit.{Limit}
 use Rattle.chr_plans.specs.declared.plan.Partner.{Partner}
-use Rattle.chr_plans.specs.Keys.{source_value, passes}
-use Rattle.chr_plans.specs.Plans.{pattern_at, places_of, IsKnown, IsReady, IsSource, AreKeys, IsTest, AreTests, IsPlan}
-use Rattle.chr_plans.specs.Planning.{is_in, column_of, variable_source, direct_source, is_equal, beside, equal_to, equal_source, term_source, with_key, keys_from, test_by, test_of, with_test, tests_from, IsLongest, AreLongest}
+use Rattle.chr_plans.specs.Keys.{argument, source_value, passes}
+use Rattle.chr_plans.specs.Plans.{pattern_at, places_of, IsKnown, IsReady, IsSource, AreKeys, IsTest, AreTests, IsLimit, AreLimits, IsPlan}
+use Rattle.chr_plans.specs.Planning.{is_in, column_of, variable_source, direct_source, is_equal, beside, equal_to, equal_source, term_source, with_key, keys_from, test_by, test_of, with_test, tests_from, is_order, turned, own_column, limit_by, limit_of, with_limit, limits_from, IsLongest, AreLongest}
 use Rattle.chr_plans.specs.working.Choosing.{ArePlaces}
 use Rattle.chr_plans.proofs.Values.{term_at, no_term, argument_value}
 use Rattle.chr_plans.proofs.Distinct.{in_list, in_take, place_at, apart, few, distinct_more, places_more}
@@ -195,6 +200,81 @@ tests_sound r places before p n (c ∷ cs) holds =
         let is = test_sound r places p n c t (λ v g. (and_parts (comparison_holds v c) _ (holds v g)).0) e in
         (is.0, is.1, is.2, rest)
 
+-- a comparison, told from the other side
+turned_order : (k : Cmp) (o : Ordering) → compares (turned k) o ≡ compares k (ordering_reverse o)
+turned_order Less order.Less = refl
+turned_order Less order.Equal = refl
+turned_order Less order.Greater = refl
+turned_order AtMost order.Less = refl
+turned_order AtMost order.Equal = refl
+turned_order AtMost order.Greater = refl
+turned_order Greater order.Less = refl
+turned_order Greater order.Equal = refl
+turned_order Greater order.Greater = refl
+turned_order AtLeast order.Less = refl
+turned_order AtLeast order.Equal = refl
+turned_order AtLeast order.Greater = refl
+turned_order Equal order.Less = refl
+turned_order Equal order.Equal = refl
+turned_order Equal order.Greater = refl
+turned_order NotEqual order.Less = refl
+turned_order NotEqual order.Equal = refl
+turned_order NotEqual order.Greater = refl
+
+turned_holds : (k : Cmp) (x y : ℤ) → compares (turned k) (int_cmp y x) ≡ compares k (int_cmp x y)
+turned_holds k x y = turned_order k (int_cmp y x) ∙ ap (compares k) (sym (int_cmp_total.antisymm x y))
+
+limit_sound : (r : Rule) (places : List ℕ) (p n q : ℕ) (c : Comparison) (l : Limit) → ((v : Valuation) → guard_holds v r.guard.items ≡ true → comparison_holds v c ≡ true)
+    → limit_of r (p ∷ take n places) q c ≡ Some l → IsReady places p n l.source × IsLimit r q l
+limit_sound r places p n q c l holds e = first (limit_by c.cmp (own_column r q c.left) (direct_source r (p ∷ take n places) c.right)) refl e
+  where
+    one : (k : Cmp) (t u : Term) → ((v : Valuation) → guard_holds v r.guard.items ≡ true → compares k (int_cmp (term_value v t) (term_value v u)) ≡ true)
+        → limit_by k (own_column r q t) (direct_source r (p ∷ take n places) u) ≡ Some l → IsReady places p n l.source × IsLimit r q l
+    one k t u says f = by (own_column r q t) refl (direct_source r (p ∷ take n places) u) refl f
+      where
+        own : (t : Term) (column : ℕ) → own_column r q t ≡ Some column → term_at r q column ≡ t
+        own (term.Variable x) column g =
+            let w = column_sound (pattern_at r q).args.items x 0 column g in
+            ap (term_at r q) (let h = w.1 in omega (arith, h)) ∙ w.2
+        own (term.Constant d) column g = absurd (let z : ◌≡◌ {A = Option ℕ} None (Some column) = g in cc)
+
+        chosen : (b : Bool) (x : Limit) → (if b then Some x else None) ≡ Some l → x ≡ l
+        chosen true x h = same_Some x l h
+        chosen false x h = absurd (let z : ◌≡◌ {A = Option Limit} None (Some l) = h in cc)
+
+        by : (o : Option ℕ) → own_column r q t ≡ o → (o' : Option Source) → direct_source r (p ∷ take n places) u ≡ o' → limit_by k o o' ≡ Some l
+            → IsReady places p n l.source × IsLimit r q l
+        by None g o' h i = absurd (let z : ◌≡◌ {A = Option Limit} None (Some l) = i in cc)
+        by (Some column) g None h i = absurd (let z : ◌≡◌ {A = Option Limit} None (Some l) = i in cc)
+        by (Some column) g (Some s) h i =
+            let source = direct_sound r places p n u s h in
+            subst (λ x. IsReady places p n x.source × IsLimit r q x) (chosen (is_order k) (record { column = column; cmp = k; source = s }) i) (
+              source.0,
+              λ heads w. (
+                  let value : argument (head heads q) column ≡ term_value w.0 t = argument_value r w.0 heads q column w.1 ∙ ap (term_value w.0) (own t column g) in
+                  let known : source_value heads s ≡ term_value w.0 u = ap (λ hs. source_value hs s) (sym w.1) ∙ source.1 w.0 w.2 in
+                  (λ j. compares k (int_cmp (value j) (known j))) ∙ says w.0 w.2),
+            )
+
+    first : (o : Option Limit) → limit_by c.cmp (own_column r q c.left) (direct_source r (p ∷ take n places) c.right) ≡ o
+        → option_or o (limit_by (turned c.cmp) (own_column r q c.right) (direct_source r (p ∷ take n places) c.left)) ≡ Some l → IsReady places p n l.source × IsLimit r q l
+    first (Some x) f g = one c.cmp c.left c.right holds (f ∙ g)
+    first None f g = one (turned c.cmp) c.right c.left (λ v h. (turned_holds c.cmp (term_value v c.left) (term_value v c.right) ∙ holds v h)) g
+
+limits_sound : (r : Rule) (places : List ℕ) (p n q : ℕ) (cs : List Comparison) → ((v : Valuation) → guard_holds v r.guard.items ≡ true → guard_holds v cs ≡ true)
+    → AreLimits r places p n q (limits_from r (p ∷ take n places) q cs)
+limits_sound r places p n q [] holds = tt
+limits_sound r places p n q (c ∷ cs) holds =
+    by (test_of r (p ∷ take n places) c) (limit_of r (p ∷ take n places) q c) refl (limits_sound r places p n q cs (λ v g. (and_parts (comparison_holds v c) _ (holds v g)).1))
+  where
+    by : (old : Option Test) (new : Option Limit) → limit_of r (p ∷ take n places) q c ≡ new → AreLimits r places p n q (limits_from r (p ∷ take n places) q cs)
+        → AreLimits r places p n q (with_limit old new (limits_from r (p ∷ take n places) q cs))
+    by (Some t) new e rest = rest
+    by None None e rest = rest
+    by None (Some l) e rest =
+        let is = limit_sound r places p n q c l (λ v g. (and_parts (comparison_holds v c) _ (holds v g)).0) e in
+        (is.0, is.1, rest)
+
 -- ---- the list of partners
 
 -- one more partner, when the ones before it are known
@@ -221,6 +301,10 @@ is_plan r p ps longest distinct places all = record {
   once = λ i j h l e. apart (p ∷ places_of ps) (suc i) (suc j) distinct (omega (arith, h)) (omega (arith, m, l)) e;
   keys = λ j l h here. (rw (longest j l h here).key (keys_sound r (places_of ps) p j l.place 0 (pattern_at r l.place).args.items (λ k g. ap (term_at r l.place) (omega arith))));
   tests = λ j l h here. (rw (longest j l h here).tests (tests_sound r (places_of ps) _ p j r.guard.items (λ v g. g)));
+  limits = λ j l h here. (elim (longest j l h here).limits as (λ _. AreLimits r (places_of ps) p j l.place l.limits.items) [
+    | inl e ↦ rw e tt
+    | inr e ↦ rw e (limits_sound r (places_of ps) p j l.place r.guard.items (λ v g. g))
+  ]);
 }
   where
     m : length (places_of ps) ≡ length ps

@@ -1,5 +1,5 @@
 -- What each step of the search keeps.
-use Rattle.std.proofs.Common.{◌≡◌, ℕ, ◌+◌, ◌<◌, ◌≤◌, inl, inr, List, length, get_or, set, map, Option, true, false, refl, sym, ap, subst, ◌∙◌, arith}
+use Rattle.std.proofs.Common.{◌≡◌, ℕ, ℤ, ◌+◌, ◌<◌, ◌≤◌, inl, inr, List, length, get_or, set, map, Option, true, false, refl, sym, ap, subst, ◌∙◌, arith}
 use Rattle.std.specs.Prelude.{Some, None, IfSome, IfNone, option_map}
 use Rattle.std.specs.List.{list_all}
 use Rattle.std.proofs.lemmas.Bool.{cases_lt}
@@ -8,21 +8,26 @@ use Rattle.chr_base.specs.declared.atom.Atom.{Atom}
 use Rattle.chr_base.specs.declared.rule.Rule.{Rule}
 use Rattle.chr_base.specs.Rules.{HasInstance, heads_of}
 use Rattle.chr_base.proofs.Firing.{instance_places}
+use Rattle.chr_plans.specs.declared.key.Span.{Span}
 use Rattle.chr_plans.specs.declared.plan.Lookup.{Lookup}
 use Rattle.chr_plans.specs.declared.rows.Seat.{Seat}
 use Rattle.chr_base.specs.Atoms.{no_atom}
-use Rattle.chr_plans.specs.Keys.{source_value, passes, key_of}
-use Rattle.chr_plans.specs.Rows.{Tables, Columns, HasKey}
+use Rattle.chr_plans.specs.Keys.{source_value, passes, allows, key_of, Spans}
+use Rattle.chr_plans.specs.Rows.{Tables, Columns, HasKey, LiesIn}
 use Rattle.chr_plans.specs.Seats.{head, seat, no_seat, atom_in, IsOther, IsSeated}
 use Rattle.chr_plans.specs.Plans.{IsPlan, FitsTables, IsKnown, partners_of, columns_of}
 use Rattle.chr_plans.specs.working.Searching.{AreSame, NoneFrom, AreStarted, looked_in}
-use Rattle.chr_plans.proofs.Values.{key_known, tests_known, shape_known}
+use Rattle.chr_plans.proofs.Values.{key_known, tests_known, limits_known, shape_known}
 use Rattle.chr_plans.proofs.Places.{place_is, partner_is, partners_len}
 
 -- a row and one, 0 for none
 abbrev pub bound : Option ℕ → ℕ
 bound None = 0
 bound (Some row) = row + 1
+
+-- the row is what is looked for
+abbrev pub IsWanted : Option (List ℕ) → List ℤ → Span → Option Atom → Type 0
+IsWanted columns key span row = HasKey columns key row × LiesIn span row
 
 -- the rows with a property lie below what was found
 pub below_first : (P : ℕ → Type 0) (found : Option ℕ) → IfSome found (λ row. (r : ℕ) → P r → r ≤ row) → IfNone found ((r : ℕ) → P r → ⊥)
@@ -34,6 +39,24 @@ pub below_next : (P : ℕ → Type 0) (at : ℕ) (found : Option ℕ) → IfSome
     → (r : ℕ) → r < at → P r → r < bound found
 below_next P at None newest none r below p = absurd (none r below p)
 below_next P at (Some row) newest none r below p = let l = newest r below p in omega (arith, l)
+
+-- two properties that are told one after the other, told as one
+pub newest_first : (P Q : ℕ → Type 0) (found : Option ℕ) → IfSome found (λ row. (r : ℕ) → P r → Q r → r ≤ row) → IfSome found (λ row. (r : ℕ) → P r × Q r → r ≤ row)
+newest_first P Q None h = tt
+newest_first P Q (Some row) h = λ r w. h r w.0 w.1
+
+pub none_first : (P Q : ℕ → Type 0) (found : Option ℕ) → IfNone found ((r : ℕ) → P r → Q r → ⊥) → IfNone found ((r : ℕ) → P r × Q r → ⊥)
+none_first P Q None h = λ r w. h r w.0 w.1
+none_first P Q (Some row) h = tt
+
+pub newest_next : (P Q : ℕ → Type 0) (at : ℕ) (found : Option ℕ) → IfSome found (λ row. (r : ℕ) → r < at → P r → Q r → r ≤ row)
+    → IfSome found (λ row. (r : ℕ) → r < at → P r × Q r → r ≤ row)
+newest_next P Q at None h = tt
+newest_next P Q at (Some row) h = λ r l w. h r l w.0 w.1
+
+pub none_next : (P Q : ℕ → Type 0) (at : ℕ) (found : Option ℕ) → IfNone found ((r : ℕ) → r < at → P r → Q r → ⊥) → IfNone found ((r : ℕ) → r < at → P r × Q r → ⊥)
+none_next P Q at None h = λ r l w. h r l w.0 w.1
+none_next P Q at (Some row) h = tt
 
 -- no instance that goes on from these heads and seats sits at the place q in a row from `at` on
 abbrev pub Past : Rule → Tables → ℕ → List ℕ → ℕ → ℕ → List Atom → List Seat → ℕ → Type 0
@@ -61,6 +84,7 @@ module _ (r : Rule) (p : ℕ) (lookups : List Lookup) (n : ℕ) (l : Lookup) (ro
   row_known : (hs : List Atom) (ss : List Seat) → IsSeated r rows p hs ss → AreSame (looked_in lookups) p n hs ss heads seats
       → ((seat ss l.partner.place).table ≡ l.table)
       × HasKey (columns l.table l.index) (map (λ k. source_value heads k.source) l.partner.key.items) (rows l.table (seat ss l.partner.place).row)
+      × ((span : Span) → ((a : Atom) → list_all (allows heads a) l.partner.limits.items ≡ true → Spans span a) → LiesIn span (rows l.table (seat ss l.partner.place).row))
   row_known hs ss s same =
       let there = s.there l.partner.place is_other in
       let table : (seat ss l.partner.place).table ≡ l.table =
@@ -75,6 +99,12 @@ module _ (r : Rule) (p : ℕ) (lookups : List Lookup) (n : ℕ) (l : Lookup) (ro
           ap (λ t. rows t (seat ss l.partner.place).row) (sym table) ∙ there,
           ap (option_map (λ cs. key_of cs (head hs l.partner.place))) (fits.index n l left here) ∙ ap Some key,
         ),
+        λ span all. (
+          head hs l.partner.place,
+          ap (λ t. rows t (seat ss l.partner.place).row) (sym table) ∙ there,
+          all (head hs l.partner.place) (limits_known r (looked_in lookups) p n l.partner.place hs heads ss seats l.partner.limits.items s.instance same
+              (plan.limits n l.partner (within n left) (partner_is lookups n l left here))),
+        ),
       )
 
   -- where the heads fail a test, no instance goes on from them
@@ -86,25 +116,26 @@ module _ (r : Rule) (p : ℕ) (lookups : List Lookup) (n : ℕ) (l : Lookup) (ro
       let z : false ≡ true = failed ∙ all in
       cc
 
-  pub past_first : (at : ℕ)
-      → ((q : ℕ) → HasKey (columns l.table l.index) (map (λ k. source_value heads k.source) l.partner.key.items) (rows l.table q) → q < at)
+  pub past_first : (span : Span) (at : ℕ) → ((a : Atom) → list_all (allows heads a) l.partner.limits.items ≡ true → Spans span a)
+      → ((q : ℕ) → IsWanted (columns l.table l.index) (map (λ k. source_value heads k.source) l.partner.key.items) span (rows l.table q) → q < at)
       → Past r rows p (looked_in lookups) n l.partner.place heads seats at
-  past_first at none hs ss s same from =
-      let a = none (seat ss l.partner.place).row (row_known hs ss s same).1 in
+  past_first span at all none hs ss s same from =
+      let w = row_known hs ss s same in
+      let a = none (seat ss l.partner.place).row (w.1, w.2 span all) in
       omega (arith, a, from)
 
   -- the row that was looked at makes no instance
-  pub past_next : (row to : ℕ)
-      → ((q : ℕ) → q < row → HasKey (columns l.table l.index) (map (λ k. source_value heads k.source) l.partner.key.items) (rows l.table q) → q < to)
+  pub past_next : (span : Span) (row to : ℕ) → ((a : Atom) → list_all (allows heads a) l.partner.limits.items ≡ true → Spans span a)
+      → ((q : ℕ) → q < row → IsWanted (columns l.table l.index) (map (λ k. source_value heads k.source) l.partner.key.items) span (rows l.table q) → q < to)
       → ((hs : List Atom) (ss : List Seat) → IsSeated r rows p hs ss → AreSame (looked_in lookups) p n hs ss heads seats
       → seat ss l.partner.place ≡ record { table = l.table; row = row } → ⊥)
       → Past r rows p (looked_in lookups) n l.partner.place heads seats (row + 1) → Past r rows p (looked_in lookups) n l.partner.place heads seats to
-  past_next row to below not past hs ss s same from =
+  past_next span row to all below not past hs ss s same from =
       let w = row_known hs ss s same in
       elim (cases_lt row (seat ss l.partner.place).row) as (λ _. ⊥) [
         | inl above ↦ past hs ss s same (omega (arith, above))
         | inr most ↦ elim (cases_lt (seat ss l.partner.place).row row) as (λ _. ⊥) [
-          | inl less ↦ (let a = below (seat ss l.partner.place).row less w.1 in omega (arith, a, from))
+          | inl less ↦ (let a = below (seat ss l.partner.place).row less (w.1, w.2 span all) in omega (arith, a, from))
           | inr least ↦ (let same_row : (seat ss l.partner.place).row ≡ row = omega (arith, most, least) in
               not hs ss s same (λ i. record { table = w.0 i; row = same_row i }))
         ]

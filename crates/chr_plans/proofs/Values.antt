@@ -1,11 +1,11 @@
 -- What an instance's heads have in common with those that are known: the values of a key, and tests.
-use Rattle.std.proofs.Common.{◌≡◌, ℕ, List, [], ◌∷◌, map, length, get_or, true, refl, sym, ap, ◌∙◌}
+use Rattle.std.proofs.Common.{◌≡◌, ℕ, ◌-◌, ◌≤◌, Bool, arith, List, [], ◌∷◌, take, drop, map, length, get_or, true, refl, sym, ap, ◌∙◌}
 use Rattle.std.specs.Prelude.{pos}
 use Rattle.std.specs.List.{list_all}
 use Rattle.std.specs.Ordering.{int_cmp}
 use Rattle.std.proofs.Math.ListN.{get_or-map}
-use Rattle.std.proofs.lemmas.List.{length-map}
-use Rattle.std.proofs.lemmas.Bool.{and_from, eq-eqb}
+use Rattle.std.proofs.lemmas.List.{length-map, take_all}
+use Rattle.std.proofs.lemmas.Bool.{and_from, and_parts, eq-eqb}
 use Rattle.chr_base.specs.declared.atom.Atom.{Atom}
 use Rattle.chr_base.specs.declared.term.Term.{Term}
 use Rattle.chr_base.specs.declared.term.Term.TheVariants as term
@@ -16,10 +16,11 @@ use Rattle.chr_plans.specs.declared.key.Source.{Source}
 use Rattle.chr_plans.specs.declared.key.Source.TheVariants.{Constant, Argument}
 use Rattle.chr_plans.specs.declared.key.Key.{Key}
 use Rattle.chr_plans.specs.declared.key.Test.{Test}
+use Rattle.chr_plans.specs.declared.key.Limit.{Limit}
 use Rattle.chr_plans.specs.declared.rows.Seat.{Seat}
-use Rattle.chr_plans.specs.Keys.{source_value, passes, key_of, argument}
+use Rattle.chr_plans.specs.Keys.{source_value, passes, allows, key_of, argument}
 use Rattle.chr_plans.specs.Seats.{head}
-use Rattle.chr_plans.specs.Plans.{pattern_at, IsReady, AreKeys, AreTests, columns_of}
+use Rattle.chr_plans.specs.Plans.{pattern_at, IsReady, AreKeys, AreTests, AreLimits, columns_of}
 use Rattle.chr_plans.specs.working.Searching.{AreSame}
 
 -- what is read past the last term
@@ -64,6 +65,23 @@ tests_known r places p n hs heads ss seats (t ∷ ts) h same are =
     let right = same_value places p n hs heads ss seats t.right same are.1 in
     let one : passes heads t ≡ true = sym (λ i. compares t.cmp (int_cmp (left i) (right i))) ∙ are.2 hs h in
     and_from (passes heads t) _ one (tests_known r places p n hs heads ss seats ts h same are.3)
+
+-- and the limits allow the head at a place
+pub limits_known : (r : Rule) (places : List ℕ) (p n q : ℕ) (hs heads : List Atom) (ss seats : List Seat) (ls : List Limit)
+    → HasInstance r hs → AreSame places p n hs ss heads seats → AreLimits r places p n q ls → list_all (allows heads (head hs q)) ls ≡ true
+limits_known r places p n q hs heads ss seats [] h same are = refl
+limits_known r places p n q hs heads ss seats (l ∷ ls) h same are =
+    let value = same_value places p n hs heads ss seats l.source same are.0 in
+    let one : allows heads (head hs q) l ≡ true = sym (ap (λ x. compares l.cmp (int_cmp (argument (head hs q) l.column) x)) value) ∙ are.1 hs h in
+    and_from (allows heads (head hs q) l) _ one (limits_known r places p n q hs heads ss seats ls h same are.2)
+
+-- what all items pass, the first passes and the rest
+pub first_and_rest : {X : Type 0} (f : X → Bool) (xs : List X) (d : X) → 1 ≤ length xs → list_all f xs ≡ true
+    → (f (get_or xs 0 d) ≡ true) × (list_all f (take (length xs - 1) (drop 1 xs)) ≡ true)
+first_and_rest f [] d l e = absurd (omega (arith, l))
+first_and_rest f (x ∷ xs) d l e =
+    let w = and_parts (f x) _ e in
+    (w.0, ap (list_all f) (take_all (length (x ∷ xs) - 1) xs (omega arith)) ∙ w.1)
 
 -- and the shape of its pattern
 pub shape_known : (r : Rule) (v : Valuation) (q : ℕ) (hs : List Atom) → heads_at v r ≡ hs → has_shape (pattern_at r q) (head hs q) ≡ true

@@ -4,7 +4,10 @@ use Rattle.std.specs.Ordering.{int_cmp}
 use Rattle.chr_base.specs.declared.atom.Atom.{Atom}
 use Rattle.chr_base.specs.Atoms.{no_atom}
 use Rattle.chr_base.specs.Rules.{compares}
+use Rattle.chr_ranges.specs.Rows.{IsIn}
 use Rattle.chr_plans.specs.declared.key.Test.{Test}
+use Rattle.chr_plans.specs.declared.key.Limit.{Limit}
+use Rattle.chr_plans.specs.declared.key.Span.{Span}
 use Rattle.chr_plans.specs.declared.key.Source.{Source}
 use Rattle.chr_plans.specs.declared.key.Source.TheVariants.{Constant, Argument}
 
@@ -24,3 +27,11 @@ source_value heads (Argument place column) = argument (get_or heads place no_ato
 -- the heads pass the test
 abbrev pub passes : List Atom → Test → Bool
 passes heads t = compares t.cmp (int_cmp (source_value heads t.left) (source_value heads t.right))
+
+-- the limit allows the atom under the heads
+abbrev pub allows : List Atom → Atom → Limit → Bool
+allows heads a l = compares l.cmp (int_cmp (argument a l.column) (source_value heads l.source))
+
+-- the atom is in the span
+abbrev pub Spans : Span → Atom → Type 0
+Spans s a = IsIn s.range (argument a s.column)

@@ -1,5 +1,5 @@
 -- The plan that is made: which arguments are known, and which partner is next.
-use Rattle.std.specs.Prelude.{◌≡◌, ℕ, ◌+◌, ◌-◌, ◌<◌, ◌≤◌, List, [], ◌∷◌, length, get_or, take, Option, Some, None, option_map, if◌then◌else◌, Bool, true, false, nat_eq}
+use Rattle.std.specs.Prelude.{◌≡◌, ℕ, ◌+◌, ◌-◌, ◌<◌, ◌≤◌, ◌⊎◌, List, [], ◌∷◌, length, get_or, take, Option, Some, None, option_map, if◌then◌else◌, Bool, true, false, nat_eq}
 use Rattle.std.specs.List.{list_any}
 use Rattle.std.specs.Option.{option_or, option_and_then}
 use Rattle.chr_base.specs.declared.term.Term.{Term}
@@ -14,6 +14,7 @@ use Rattle.chr_plans.specs.declared.key.Source.{Source}
 use Rattle.chr_plans.specs.declared.key.Source.TheVariants.{Constant, Argument}
 use Rattle.chr_plans.specs.declared.key.Key.{Key}
 use Rattle.chr_plans.specs.declared.key.Test.{Test}
+use Rattle.chr_plans.specs.declared.key.Limit.{Limit}
 use Rattle.chr_plans.specs.declared.plan.Partner.{Partner}
 use Rattle.chr_plans.specs.Plans.{pattern_at, places_of}
 
@@ -106,12 +107,64 @@ tests_from r before known (c ∷ cs) =
 abbrev pub tests_at : Rule → List ℕ → List Test
 tests_at r known = tests_from r (take (length known - 1) known) known r.guard.items
 
+-- the comparison sign for an order
+abbrev pub is_order : Cmp → Bool
+is_order Less = true
+is_order AtMost = true
+is_order Greater = true
+is_order AtLeast = true
+is_order Equal = false
+is_order NotEqual = false
+
+-- the comparison sign for the sides in the other order
+abbrev pub turned : Cmp → Cmp
+turned Less = Greater
+turned AtMost = AtLeast
+turned Greater = Less
+turned AtLeast = AtMost
+turned Equal = Equal
+turned NotEqual = NotEqual
+
+-- the first column at which the head at a place has the term, where it is a variable
+abbrev pub own_column : Rule → ℕ → Term → Option ℕ
+own_column r q (term.Variable x) = column_of (pattern_at r q).args.items x 0
+own_column r q (term.Constant c) = None
+
+-- a limit of this column, by a value that is known
+abbrev pub limit_by : Cmp → Option ℕ → Option Source → Option Limit
+limit_by k None source = None
+limit_by k (Some column) None = None
+limit_by k (Some column) (Some s) =
+    if is_order k then Some (record { column = column; cmp = k; source = s }) else None
+
+-- a comparison as a limit of the head at a place, where one side stands in it and the other is known
+abbrev pub limit_of : Rule → List ℕ → ℕ → Comparison → Option Limit
+limit_of r known q c =
+    option_or (limit_by c.cmp (own_column r q c.left) (direct_source r known c.right))
+    (limit_by (turned c.cmp) (own_column r q c.right) (direct_source r known c.left))
+
+-- one limit more, where the comparison is no test of what is known
+abbrev pub with_limit : Option Test → Option Limit → List Limit → List Limit
+with_limit (Some t) new limits = limits
+with_limit None None limits = limits
+with_limit None (Some l) limits = l ∷ limits
+
+-- the comparisons as limits of the head at a place
+abbrev pub limits_from : Rule → List ℕ → ℕ → List Comparison → List Limit
+limits_from r known q [] = []
+limits_from r known q (c ∷ cs) = with_limit (test_of r known c) (limit_of r known q c) (limits_from r known q cs)
+
+-- all limits that the guard has of the head at a place, or none where they are of no use
+abbrev pub MayLimit : Rule → List ℕ → ℕ → List Limit → Type 0
+MayLimit r known q limits = (limits ≡ []) ⊎ (limits ≡ limits_from r known q r.guard.items)
+
 -- among the first n places of the rule that are not known, the partner has a place with the longest key
 pub record IsLongest (r : Rule) (known : List ℕ) (n : ℕ) (l : Partner) : Type 0 where
   pub within : l.place < n
   pub new : is_in l.place known ≡ false
   pub key : l.key.items ≡ key_at r known l.place
   pub tests : l.tests.items ≡ tests_at r known
+  pub limits : MayLimit r known l.place l.limits.items
   pub longest : (q : ℕ) → q < n → is_in q known ≡ false → length (key_at r known q) ≤ length l.key.items
 
 -- each partner is a longest one, when the active atom and the partners before it are known

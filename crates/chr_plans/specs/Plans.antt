@@ -8,9 +8,10 @@ use Rattle.chr_plans.specs.declared.key.Source.{Source}
 use Rattle.chr_plans.specs.declared.key.Source.TheVariants.{Constant, Argument}
 use Rattle.chr_plans.specs.declared.key.Key.{Key}
 use Rattle.chr_plans.specs.declared.key.Test.{Test}
+use Rattle.chr_plans.specs.declared.key.Limit.{Limit}
 use Rattle.chr_plans.specs.declared.plan.Partner.{Partner}
 use Rattle.chr_plans.specs.declared.plan.Lookup.{Lookup}
-use Rattle.chr_plans.specs.Keys.{argument, source_value, passes}
+use Rattle.chr_plans.specs.Keys.{argument, source_value, passes, allows}
 use Rattle.chr_plans.specs.Rows.{Tables, Columns}
 use Rattle.chr_plans.specs.Seats.{head}
 
@@ -60,7 +61,16 @@ AreTests r places p n [] = ⊤
 AreTests r places p n (t ∷ ts) =
     IsReady places p n t.left × IsReady places p n t.right × IsTest r t × AreTests r places p n ts
 
--- The partners are at all places but the active one, each once; their keys and tests are by what is known.
+-- in each instance the limit allows the head at the place q
+abbrev pub IsLimit : Rule → ℕ → Limit → Type 0
+IsLimit r q l = (heads : List Atom) → HasInstance r heads → allows heads (head heads q) l ≡ true
+
+-- the values with which these limits compare are known
+abbrev pub AreLimits : Rule → List ℕ → ℕ → ℕ → ℕ → List Limit → Type 0
+AreLimits r places p n q [] = ⊤
+AreLimits r places p n q (l ∷ ls) = IsReady places p n l.source × IsLimit r q l × AreLimits r places p n q ls
+
+-- The partners are at all places but the active one, each once; their keys, tests and limits are by what is known.
 pub record IsPlan (r : Rule) (p : ℕ) (partners : List Partner) : Type 0 where
   pub covers : (q : ℕ) → q < length (heads_of r) → IsKnown (places_of partners) p (length partners) q
   pub within : (j : ℕ) → j < length partners → get_or (places_of partners) j 0 < length (heads_of r)
@@ -71,6 +81,8 @@ pub record IsPlan (r : Rule) (p : ℕ) (partners : List Partner) : Type 0 where
       → AreKeys r (places_of partners) p j l.place l.key.items
   pub tests : (j : ℕ) (l : Partner) → j < length partners → get_or partners j l ≡ l
       → AreTests r (places_of partners) p j l.tests.items
+  pub limits : (j : ℕ) (l : Partner) → j < length partners → get_or partners j l ≡ l
+      → AreLimits r (places_of partners) p j l.place l.limits.items
 
 -- Each look-up's index has the columns of its key, and atoms of its head's shape live in its table alone.
 pub record FitsTables (r : Rule) (lookups : List Lookup) (rows : Tables) (columns : Columns) : Type 0 where

@@ -1,7 +1,8 @@
 -- Tables of rows that are found by keys.
 use Rattle.std.specs.Prelude.{◌≡◌, ℕ, ℤ, List, Option, Some, option_map}
 use Rattle.chr_base.specs.declared.atom.Atom.{Atom}
-use Rattle.chr_plans.specs.Keys.{key_of}
+use Rattle.chr_plans.specs.declared.key.Span.{Span}
+use Rattle.chr_plans.specs.Keys.{key_of, Spans}
 use Rattle.chr_plans.specs.Hashes.{key_hash}
 
 -- for each table and row its atom, where the row lives
@@ -21,3 +22,7 @@ HasKey columns key row =
 abbrev pub MayHaveKey : Option (List ℕ) → List ℤ → Option Atom → Type 0
 MayHaveKey columns key row =
     (a : Atom) × (row ≡ Some a) × (option_map (λ cs. key_hash (key_of cs a)) columns ≡ Some (key_hash key))
+
+-- the row lives, and is in the span
+abbrev pub LiesIn : Span → Option Atom → Type 0
+LiesIn span row = (a : Atom) × (row ≡ Some a) × Spans span a

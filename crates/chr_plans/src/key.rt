@@ -1,14 +1,19 @@
 //! What is known before a head is looked for: keys, the values of some of its arguments, and tests of what was found.
-ghost use Rattle.std.specs.Prelude.{◌≡◌, pos, map};
+ghost use Rattle.std.specs.Prelude.{◌≡◌, ℤ, pos, map, true, option_map, slice_get, IfSome};
 ghost use Rattle.std.specs.List.{list_all};
+ghost use Rattle.std.specs.Ordering.{int_cmp};
+ghost use Rattle.chr_base.specs.declared.atom.Atom.{Atom as AtomValue};
+ghost use Rattle.chr_base.specs.Rules.{compares};
 ghost use Rattle.chr_base.specs.declared.term.Cmp.TheVariants.{Equal};
 ghost use Rattle.chr_plans.specs.declared.key.Source.TheVariants.{Constant};
-ghost use Rattle.chr_plans.specs.Keys.{source_value, passes};
+ghost use Rattle.chr_plans.specs.Keys.{argument, source_value, passes, allows, Spans};
+ghost use Rattle.chr_ranges.specs.Rows.{IsIn};
 
 use arrayvec::ArrayVec;
 use chr_base::atom::Atom;
 use chr_base::limits::{MAX_ARITY, MAX_COMPARISONS};
 use chr_base::term::Cmp;
+use chr_ranges::Range;
 
 /// Where a value of a key comes from.
 #[derive(Clone, Copy, Debug, PartialEq, Eq)]
@@ -52,6 +57,33 @@ impl Default for Test {
             right: Source::Constant(0),
         }
     }
+}
+
+/// What the guard says of an argument of a head, counted from 0: that it compares so with a value that is known.
+#[derive(Clone, Copy, Debug, PartialEq, Eq)]
+pub struct Limit {
+    pub column: usize,
+    pub cmp: Cmp,
+    pub source: Source,
+}
+
+impl Default for Limit {
+    fn default() -> Self
+        ensures { result ≡ record { column = 0; cmp = Equal; source = Constant (pos 0) } }
+    {
+        Limit {
+            column: 0,
+            cmp: Cmp::Equal,
+            source: Source::Constant(0),
+        }
+    }
+}
+
+/// Atoms whose argument in a column, counted from 0, is in a range.
+#[derive(Clone, Copy, Debug, Default, PartialEq, Eq)]
+pub struct Span {
+    pub column: usize,
+    pub range: Range,
 }
 
 /// The value that comes from a source under these heads, 0 where they have no such argument.
@@ -101,4 +133,62 @@ pub fn pass(heads: &[Atom], tests: &ArrayVec<Test, MAX_COMPARISONS>) -> bool
     ensures { result ≡ list_all (passes heads.now) tests.now.items }
 {
     tests.iter().all(|test| passes(heads, test))
+}
+
+/// Those values of a range that compare so with this one, and maybe others: only an order narrows it.
+fn narrowed(range: Range, cmp: Cmp, value: i64) -> Range
+    ensures { (x : ℤ) → IsIn range x → compares cmp (int_cmp x value) ≡ true → IsIn result x }
+{
+    match cmp {
+        Cmp::Less => range.at_most(value.saturating_sub(1)),
+        Cmp::AtMost => range.at_most(value),
+        Cmp::Greater => range.at_least(value.saturating_add(1)),
+        Cmp::AtLeast => range.at_least(value),
+        Cmp::Equal | Cmp::NotEqual => range,
+    }
+}
+
+/// A range narrowed by the limit, where it speaks of this column.
+fn narrowed_at(heads: &[Atom], limit: &Limit, column: usize, range: Range) -> Range
+    ensures { (a : AtomValue) → IsIn range (argument a column) → allows heads.now a limit.now ≡ true
+        → IsIn result (argument a column) }
+{
+    if limit.column == column {
+        narrowed(range, limit.cmp, value_of(heads, limit.source))
+    } else {
+        range
+    }
+}
+
+/// A range narrowed by those limits that speak of this column.
+fn narrowed_by(heads: &[Atom], limits: &[Limit], column: usize, range: Range) -> Range
+    ensures { (a : AtomValue) → IsIn range (argument a column) → list_all (allows heads.now a) limits.now ≡ true
+        → IsIn result (argument a column) }
+{
+    let [limit, limits @ ..] = limits else {
+        return range;
+    };
+    let range = narrowed_at(heads, limit, column, range);
+    narrowed_by(heads, limits, column, range)
+}
+
+/// The column of the first limit, where there is one.
+pub fn first_column(limits: &ArrayVec<Limit, MAX_COMPARISONS>) -> Option<usize>
+    ensures { result ≡ option_map (λ l. l.column) (slice_get limits.now.items 0) }
+{
+    limits.first().map(|limit| limit.column)
+}
+
+/// A span with all atoms that these limits allow under these heads: that of the first limit's column.
+pub fn span_of(heads: &[Atom], limits: &ArrayVec<Limit, MAX_COMPARISONS>) -> Span
+    ensures all { (a : AtomValue) → list_all (allows heads.now a) limits.now.items ≡ true → Spans result a }
+    ensures column { IfSome (option_map (λ l. l.column) (slice_get limits.now.items 0)) (λ c. result.column ≡ c) }
+{
+    let Some(column) = first_column(limits) else {
+        return Span::default();
+    };
+    Span {
+        column,
+        range: narrowed_by(heads, limits, column, Range::default()),
+    }
 }

@@ -2,17 +2,19 @@
 ghost use Rattle.std.specs.Prelude.{◌≡◌};
 ghost use Rattle.chr_plans.specs.Plans.{columns_of};
 
-use crate::key::{Key, Test};
+use crate::key::{Key, Limit, Test};
 use arrayvec::ArrayVec;
 use chr_base::limits::{MAX_ARITY, MAX_COMPARISONS, MAX_HEADS};
 
 /// A partner: its head place, counted from 0, what is known of its arguments when it is looked for, and the tests that
-/// the heads before it must pass; where they fail one there is no need to look for it.
+/// the heads before it must pass; where they fail one there is no need to look for it. Where the key alone would leave
+/// many to look at, there are limits of its arguments as well.
 #[derive(Debug, Default, Drop)]
 pub struct Partner {
     pub place: usize,
     pub key: ArrayVec<Key, MAX_ARITY>,
     pub tests: ArrayVec<Test, MAX_COMPARISONS>,
+    pub limits: ArrayVec<Limit, MAX_COMPARISONS>,
 }
 
 /// The same items.
@@ -46,6 +48,7 @@ impl Partner {
             place: self.place,
             key: copy_of(&self.key),
             tests: copy_of(&self.tests),
+            limits: copy_of(&self.limits),
         }
     }
 }

@@ -3,15 +3,15 @@ ghost use Rattle.std.specs.Prelude.{◌≡◌, ◌<◌, ◌≤◌, ◌+◌, ◌+
 ghost use Rattle.chr_base.specs.Rules.{heads_of};
 ghost use Rattle.chr_base.specs.RuleTests.{is_variable};
 ghost use Rattle.chr_plans.specs.Plans.{IsPlan};
-ghost use Rattle.chr_plans.specs.Planning.{is_in, column_of, variable_source, direct_source, equal_to, equal_source, term_source, keys_from, key_at, test_of, tests_from, tests_at, AreLongest};
+ghost use Rattle.chr_plans.specs.Planning.{is_in, column_of, variable_source, direct_source, equal_to, equal_source, term_source, keys_from, key_at, test_of, tests_from, tests_at, is_order, turned, own_column, limit_by, limit_of, limits_from, MayLimit, AreLongest};
 ghost use Rattle.chr_plans.specs.working.Choosing.{ArePlaces, IsChoice, longer};
 
-use crate::key::{Key, Source, Test};
+use crate::key::{Key, Limit, Source, Test};
 use crate::plan::Partner;
 use arrayvec::ArrayVec;
 use chr_base::limits::{MAX_ARITY, MAX_COMPARISONS, MAX_HEADS};
 use chr_base::rule::Rule;
-use chr_base::term::{Cmp, Comparison, Term};
+use chr_base::term::{Cmp, Comparison, Pattern, Term};
 
 /// Whether a place is one of these.
 fn is_in(place: usize, known: &[usize]) -> bool
@@ -197,6 +197,151 @@ fn tests_at(rule: &Rule, known: &[usize]) -> ArrayVec<Test, MAX_COMPARISONS>
     tests
 }
 
+/// Whether the sign is one of an order.
+fn is_order(cmp: Cmp) -> bool
+    ensures { result ≡ is_order cmp }
+{
+    match cmp {
+        Cmp::Less | Cmp::AtMost | Cmp::Greater | Cmp::AtLeast => true,
+        Cmp::Equal | Cmp::NotEqual => false,
+    }
+}
+
+/// The sign for the sides in the other order.
+fn turned(cmp: Cmp) -> Cmp
+    ensures { result ≡ turned cmp }
+{
+    match cmp {
+        Cmp::Less => Cmp::Greater,
+        Cmp::AtMost => Cmp::AtLeast,
+        Cmp::Greater => Cmp::Less,
+        Cmp::AtLeast => Cmp::AtMost,
+        Cmp::Equal => Cmp::Equal,
+        Cmp::NotEqual => Cmp::NotEqual,
+    }
+}
+
+/// The first column at which the head at a place has the term, where it is a variable.
+fn own_column(rule: &Rule, place: usize, term: Term) -> Option<usize>
+    requires { place < length (heads_of rule.now) }
+    ensures { result ≡ own_column rule.now place term }
+{
+    match term {
+        Term::Variable(variable) => column_of(&rule.head_at(place).args, variable, 0),
+        Term::Constant(_) => None,
+    }
+}
+
+/// A limit of the column, by a value that is known.
+fn limit_by(cmp: Cmp, column: Option<usize>, source: Option<Source>) -> Option<Limit>
+    ensures { result ≡ limit_by cmp column source }
+{
+    let column = column?;
+    let source = source?;
+    if is_order(cmp) {
+        Some(Limit {
+            column,
+            cmp,
+            source,
+        })
+    } else {
+        None
+    }
+}
+
+/// A comparison as a limit of the head at a place, where one side stands in it and the other is known.
+fn limit_of(rule: &Rule, known: &[usize], place: usize, comparison: &Comparison) -> Option<Limit>
+    requires places { ArePlaces rule.now known.now }
+    requires place { place < length (heads_of rule.now) }
+    ensures { result ≡ limit_of rule.now known.now place comparison.now }
+{
+    let column = own_column(rule, place, comparison.left);
+    let source = direct_source(rule, known, comparison.right);
+    if let Some(limit) = limit_by(comparison.cmp, column, source) {
+        return Some(limit);
+    }
+    let column = own_column(rule, place, comparison.right);
+    let source = direct_source(rule, known, comparison.left);
+    limit_by(turned(comparison.cmp), column, source)
+}
+
+/// Adds a limit of the head at a place for each of these comparisons that is one, and no test of what is known.
+fn push_limits(
+    rule: &Rule,
+    known: &[usize],
+    place: usize,
+    guard: &[Comparison],
+    limits: &mut ArrayVec<Limit, MAX_COMPARISONS>,
+)
+    requires places { ArePlaces rule.now known.now }
+    requires place { place < length (heads_of rule.now) }
+    requires room { length limits.old.items + length guard.now ≤ MAX_COMPARISONS }
+    ensures { limits.new.items ≡ limits.old.items ++ limits_from rule.now known.now place guard.now }
+{
+    let [comparison, guard @ ..] = guard else {
+        return;
+    };
+    if test_of(rule, known, comparison).is_none() {
+        if let Some(limit) = limit_of(rule, known, place, comparison) {
+            limits.push(limit);
+        }
+    }
+    push_limits(rule, known, place, guard, limits);
+}
+
+/// Whether the source is an argument in this column.
+fn is_in_column(source: Source, column: usize) -> bool {
+    matches!(source, Source::Argument { column: other, .. } if other == column)
+}
+
+/// Whether of all atoms with one key one rests at most: the rule has two heads for the same atoms, and its whole guard
+/// is a `=<` or `>=` of the arguments in one column. Of two such atoms either may then be the first head, or the other.
+///
+/// Under `<` and `>` atoms that are equal there rest side by side, and so do atoms of two symbols under any sign, and
+/// those of three heads, or that a further comparison keeps apart.
+fn leaves_one(
+    rule: &Rule,
+    known: &[usize],
+    partner: &Pattern,
+    key: &[Key],
+    limits: &[Limit],
+) -> bool
+    requires { ArePlaces rule.now known.now }
+{
+    let ([active], [limit]) = (known, limits) else {
+        return false;
+    };
+    let active = rule.head_at(*active);
+    rule.places() == 2
+        && rule.guard.len() == 1
+        && active.symbol.0 == partner.symbol.0
+        && active.args.len() == partner.args.len()
+        && matches!(limit.cmp, Cmp::AtMost | Cmp::AtLeast)
+        && is_in_column(limit.source, limit.column)
+        && key
+            .iter()
+            .all(|part| is_in_column(part.source, part.column))
+}
+
+/// The limits of the head at a place with this key; none, where the key finds few rows at rest.
+fn limits_at(
+    rule: &Rule,
+    known: &[usize],
+    place: usize,
+    key: &[Key],
+) -> ArrayVec<Limit, MAX_COMPARISONS>
+    requires places { ArePlaces rule.now known.now }
+    requires place { place < length (heads_of rule.now) }
+    ensures { MayLimit rule.now known.now place result.items }
+{
+    let mut limits = ArrayVec::new();
+    push_limits(rule, known, place, &rule.guard, &mut limits);
+    if leaves_one(rule, known, rule.head_at(place), key, &limits) {
+        return ArrayVec::new();
+    }
+    limits
+}
+
 /// The one with the longer key, the first where both are as long.
 fn longer(best: Option<Partner>, next: Partner) -> Partner
     ensures { result ≡ longer best next }
@@ -221,12 +366,15 @@ fn next_partner(rule: &Rule, known: &[usize]) -> Option<Partner>
     let mut best: Option<Partner> = None;
     for place in 0..rule.places() {
         if !is_in(place, known) {
+            let key = key_at(rule, known, place);
+            let limits = limits_at(rule, known, place, &key);
             best = Some(longer(
                 best,
                 Partner {
                     place,
-                    key: key_at(rule, known, place),
+                    key,
                     tests: tests_at(rule, known),
+                    limits,
                 },
             ));
         }
@@ -236,7 +384,8 @@ fn next_partner(rule: &Rule, known: &[usize]) -> Option<Partner>
 
 /// The plan of an occurrence: partners in the order in which they are to be looked for, with their keys. Next comes
 /// always a partner of which as many arguments are known as of any other that is left: constants, variables that stand
-/// in the active atom or in a partner before, and what the guard says is equal to such a one.
+/// in the active atom or in a partner before, and what the guard says is equal to such a one. Comparisons by an order
+/// limit it further, where its key alone may find many atoms that rest.
 pub fn plan_of(rule: &Rule, place: usize) -> ArrayVec<Partner, MAX_HEADS>
     requires { place < length (heads_of rule.now) }
     ensures plan { IsPlan rule.now place result.items }

@@ -2,8 +2,9 @@
 ghost use Rattle.std.specs.Prelude.{◌≡◌, ℕ, ◌<◌, ◌≤◌, List, Option, Some, IfSome, IfNone, IsTrue, is_some};
 ghost use Rattle.std.specs.Bool.{OnTrue, OnFalse};
 ghost use Rattle.chr_base.specs.declared.atom.Atom.{Atom as AtomValue};
-ghost use Rattle.chr_plans.specs.Rows.{Tables, Columns, HasKey, MayHaveKey};
+ghost use Rattle.chr_plans.specs.Rows.{Tables, Columns, HasKey, MayHaveKey, LiesIn};
 
+use crate::key::Span;
 use chr_base::atom::Atom;
 
 /// Where an atom sits: a row of a table.
@@ -23,8 +24,8 @@ pub(crate) fn is_same(left: Seat, right: Seat) -> bool
 
 /// Tables whose rows are found by the values in some of their columns.
 ///
-/// A look-up goes from the newest row down. It gives each live row that has the key; it may give others as well, whose
-/// values have the hash of the key.
+/// A look-up goes from the newest row down. It gives each live row that has the key and lies in the span; it may give
+/// others as well, whose values have the hash of the key.
 pub trait Rows {
     /// The atom of each live row of each table.
     ghost rows: { Self → Tables };
@@ -35,8 +36,8 @@ pub trait Rows {
     /// How many tables there are.
     ghost tables: { Self → ℕ };
 
-    /// The newest row that a look-up of this key meets.
-    fn first(&mut self, table: usize, index: usize, key: &[i64]) -> Option<usize>
+    /// The newest row that a look-up of this key and span meets.
+    fn first(&mut self, table: usize, index: usize, key: &[i64], span: &Span) -> Option<usize>
         requires { IsTrue (is_some (columns self.old table index)) }
         ensures rows { rows self.new ≡ rows self.old }
         ensures columns { columns self.new ≡ columns self.old }
@@ -44,12 +45,21 @@ pub trait Rows {
         ensures met { IfSome result (λ row.
             MayHaveKey (columns self.old table index) key.now (rows self.old table row)) }
         ensures newest { IfSome result (λ row. (other : ℕ) →
-            HasKey (columns self.old table index) key.now (rows self.old table other) → other ≤ row) }
+            HasKey (columns self.old table index) key.now (rows self.old table other) →
+            LiesIn span.now (rows self.old table other) → other ≤ row) }
         ensures none { IfNone result ((other : ℕ) →
-            ¬ (HasKey (columns self.old table index) key.now (rows self.old table other))) };
+            HasKey (columns self.old table index) key.now (rows self.old table other) →
+            ¬ (LiesIn span.now (rows self.old table other))) };
 
     /// The next one below a row that was met.
-    fn next(&mut self, table: usize, index: usize, key: &[i64], row: usize) -> Option<usize>
+    fn next(
+        &mut self,
+        table: usize,
+        index: usize,
+        key: &[i64],
+        span: &Span,
+        row: usize,
+    ) -> Option<usize>
         requires { MayHaveKey (columns self.old table index) key.now (rows self.old table row) }
         ensures rows { rows self.new ≡ rows self.old }
         ensures columns { columns self.new ≡ columns self.old }
@@ -58,9 +68,11 @@ pub trait Rows {
         ensures met { IfSome result (λ next.
             MayHaveKey (columns self.old table index) key.now (rows self.old table next)) }
         ensures newest { IfSome result (λ next. (other : ℕ) → other < row →
-            HasKey (columns self.old table index) key.now (rows self.old table other) → other ≤ next) }
+            HasKey (columns self.old table index) key.now (rows self.old table other) →
+            LiesIn span.now (rows self.old table other) → other ≤ next) }
         ensures none { IfNone result ((other : ℕ) → other < row →
-            ¬ (HasKey (columns self.old table index) key.now (rows self.old table other))) };
+            HasKey (columns self.old table index) key.now (rows self.old table other) →
+            ¬ (LiesIn span.now (rows self.old table other))) };
 
     /// The atom of a live row.
     fn atom(&self, table: usize, row: usize) -> Atom

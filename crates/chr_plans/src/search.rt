@@ -6,7 +6,7 @@ ghost use Rattle.chr_plans.specs.Seats.{seat, head, no_seat, IsSeated, NoPartner
 ghost use Rattle.chr_plans.specs.Plans.{IsPlan, FitsTables, partners_of, places_of};
 ghost use Rattle.chr_plans.specs.working.Searching.{AreSame, NoneFrom, AreStarted, looked_in};
 
-use crate::key::{key_values, pass};
+use crate::key::{key_values, pass, span_of};
 use crate::plan::Lookup;
 use crate::rows::{Rows, Seat, is_same};
 use arrayvec::ArrayVec;
@@ -64,7 +64,8 @@ fn complete<R: Rows>(
         return false;
     }
     let key = key_values(heads, &lookup.partner.key);
-    let mut next = rows.first(lookup.table, lookup.index, &key);
+    let span = span_of(heads, &lookup.partner.limits);
+    let mut next = rows.first(lookup.table, lookup.index, &key, &span);
     while let Some(row) = next {
         let seat = Seat {
             table: lookup.table,
@@ -77,7 +78,7 @@ fn complete<R: Rows>(
                 return true;
             }
         }
-        next = rows.next(lookup.table, lookup.index, &key, row);
+        next = rows.next(lookup.table, lookup.index, &key, &span, row);
     }
     false
 }

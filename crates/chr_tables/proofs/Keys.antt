@@ -1,33 +1,36 @@
 -- Rows with the hash of a key, in an index and in its table.
-use Rattle.std.proofs.Common.{◌≡◌, ℕ, ℤ, zero, suc, ◌<◌, List, [], ◌∷◌, map, length, get_or, slice_get, Option, refl, sym, ap, ◌∙◌}
+use Rattle.std.proofs.Common.{◌≡◌, ℕ, ℤ, zero, suc, ◌<◌, List, [], ◌∷◌, map, length, get_or, slice_get, Option, refl, sym, ap, subst, ◌∙◌}
 use Rattle.std.specs.Prelude.{Some, None, option_map}
-use Rattle.std.proofs.lemmas.Option.{slice_get-get_or, slice_get_within, same_Some}
+use Rattle.std.proofs.lemmas.Option.{slice_get-get_or, slice_get-map, slice_get_within, same_Some}
 use Rattle.chr_base.specs.declared.atom.Atom.{Atom}
-use Rattle.chr_chains.specs.Rows.{HasHash}
-use Rattle.chr_plans.specs.Keys.{key_of}
+use Rattle.chr_ranges.specs.Rows.{Entry, HasHash, IsIn}
+use Rattle.chr_plans.specs.declared.key.Span.{Span}
+use Rattle.chr_plans.specs.Keys.{argument, key_of}
 use Rattle.chr_plans.specs.Hashes.{key_hash}
-use Rattle.chr_plans.specs.Rows.{HasKey, MayHaveKey}
-use Rattle.chr_tables.specs.working.Indexes.{hash_in, AreIndexed}
+use Rattle.chr_plans.specs.Rows.{HasKey, MayHaveKey, LiesIn}
+use Rattle.chr_tables.specs.declared.finder.Finder.{Finder}
+use Rattle.chr_tables.specs.working.Finders.{order_in, rows_in, ordered, IsSought}
+use Rattle.chr_tables.specs.working.Indexes.{Way, no_way, entry_of, entry_in, AreIndexed}
 
 -- a row with the key may have it
 pub may_have : (cs : Option (List ℕ)) (key : List ℤ) (row : Option Atom) → HasKey cs key row → MayHaveKey cs key row
 may_have None key row h = absurd (let e : None ≡ Some key = h.2 in cc)
 may_have (Some cs) key row h = (h.0, h.1, ap (λ k. Some (key_hash k)) (same_Some _ _ h.2))
 
-some_hash : (cs : List ℕ) (o : Option Atom) (h : ℕ) → hash_in cs o ≡ Some h → (a : Atom) × (o ≡ Some a) × (key_hash (key_of cs a) ≡ h)
-some_hash cs None h e = cc
-some_hash cs (Some a) h e = (a, refl, cc)
+some_entry : (w : Way) (o : Option Atom) (e : Entry) → entry_in w o ≡ Some e → (a : Atom) × (o ≡ Some a) × (entry_of w a ≡ e)
+some_entry w None e f = cc
+some_entry w (Some a) e f = (a, refl, same_Some _ _ f)
 
-hash_row : (rows : List (Option Atom)) (cs : List ℕ) (r h : ℕ) → get_or (map (hash_in cs) rows) r None ≡ Some h
-    → (a : Atom) × (get_or rows r None ≡ Some a) × (key_hash (key_of cs a) ≡ h)
-hash_row [] cs r h e = cc
-hash_row (o ∷ rows) cs zero h e = some_hash cs o h e
-hash_row (o ∷ rows) cs (suc r) h e = hash_row rows cs r h e
+entry_row : (rows : List (Option Atom)) (w : Way) (r : ℕ) (e : Entry) → get_or (map (entry_in w) rows) r None ≡ Some e
+    → (a : Atom) × (get_or rows r None ≡ Some a) × (entry_of w a ≡ e)
+entry_row [] w r e f = cc
+entry_row (o ∷ rows) w zero e f = some_entry w o e f
+entry_row (o ∷ rows) w (suc r) e f = entry_row rows w r e f
 
-row_hash : (rows : List (Option Atom)) (cs : List ℕ) (r : ℕ) (a : Atom) → get_or rows r None ≡ Some a → get_or (map (hash_in cs) rows) r None ≡ Some (key_hash (key_of cs a))
-row_hash [] cs r a e = cc
-row_hash (o ∷ rows) cs zero a e = ap (hash_in cs) e
-row_hash (o ∷ rows) cs (suc r) a e = row_hash rows cs r a e
+row_entry : (rows : List (Option Atom)) (w : Way) (r : ℕ) (a : Atom) → get_or rows r None ≡ Some a → get_or (map (entry_in w) rows) r None ≡ Some (entry_of w a)
+row_entry [] w r a e = cc
+row_entry (o ∷ rows) w zero a e = ap (entry_in w) e
+row_entry (o ∷ rows) w (suc r) a e = row_entry rows w r a e
 
 -- a row that may have a key is found by an index that there is
 pub there_is : (columns : List (List ℕ)) (i : ℕ) (key : List ℤ) (row : Option Atom) → MayHaveKey (slice_get columns i) key row → i < length columns
@@ -37,22 +40,31 @@ there_is columns i key row h = by (slice_get columns i) refl h.2
     by None e f = absurd (let g : None ≡ Some (key_hash key) = f in cc)
     by (Some cs) e f = slice_get_within columns i cs e
 
-module _ (rows : List (Option Atom)) (columns : List (List ℕ)) (hashes : List (List (Option ℕ))) (i : ℕ) (xs : List (Option ℕ)) (key : List ℤ) (h : ℕ)
-    (is : AreIndexed rows columns hashes) (l : i < length columns) (here : xs ≡ get_or hashes i []) (hash : h ≡ key_hash key) where
-  columns_here : slice_get columns i ≡ Some (get_or columns i [])
-  columns_here = slice_get-get_or columns i [] l
+module _ (rows : List (Option Atom)) (ways : List Way) (entries : List (List (Option Entry))) (i : ℕ) (f : Finder) (way : Way) (key : List ℤ) (h : ℕ)
+    (is : AreIndexed rows ways entries) (l : i < length ways) (here : rows_in f ≡ get_or entries i []) (this : get_or ways i no_way ≡ way) (hash : h ≡ key_hash key) where
+  columns_here : slice_get (map (λ w. w.columns) ways) i ≡ Some way.columns
+  columns_here = slice_get-map (λ w. w.columns) ways i ∙ ap (option_map (λ w. w.columns)) (slice_get-get_or ways i no_way l ∙ ap Some this)
+
+  rows_are : rows_in f ≡ map (entry_in way) rows
+  rows_are = here ∙ is i l ∙ ap (λ w. map (entry_in w) rows) this
 
   -- what the index finds by the hash may have the key
-  pub met : (r : ℕ) → HasHash xs h r → MayHaveKey (slice_get columns i) key (get_or rows r None)
+  pub met : (r : ℕ) → HasHash (rows_in f) h r → MayHaveKey (slice_get (map (λ w. w.columns) ways) i) key (get_or rows r None)
   met r e =
-      let w = hash_row rows (get_or columns i []) r h (ap (λ ys. get_or ys r None) (sym (here ∙ is i l)) ∙ e) in
-      (w.0, w.1, ap (option_map (λ cs. key_hash (key_of cs w.0))) columns_here ∙ ap Some (w.2 ∙ hash))
+      let w = entry_row rows way r e.0 (ap (λ ys. get_or ys r None) (sym rows_are) ∙ e.1) in
+      (w.0, w.1, ap (option_map (λ cs. key_hash (key_of cs w.0))) columns_here ∙ ap Some (ap (λ (x : Entry). x.hash) w.2 ∙ e.2 ∙ hash))
 
-  pub hashed : (r : ℕ) → MayHaveKey (slice_get columns i) key (get_or rows r None) → HasHash xs h r
-  hashed r e =
-      let f : key_hash (key_of (get_or columns i []) e.0) ≡ key_hash key =
+  pub has_hash : (r : ℕ) → MayHaveKey (slice_get (map (λ w. w.columns) ways) i) key (get_or rows r None) → HasHash (rows_in f) h r
+  has_hash r e =
+      let g : key_hash (key_of way.columns e.0) ≡ key_hash key =
       same_Some _ _ (sym (ap (option_map (λ cs. key_hash (key_of cs e.0))) columns_here) ∙ e.2) in
-      ap (λ ys. get_or ys r None) (here ∙ is i l) ∙ row_hash rows (get_or columns i []) r e.0 e.1 ∙ ap Some (f ∙ sym hash)
+      (entry_of way e.0, ap (λ ys. get_or ys r None) rows_are ∙ row_entry rows way r e.0 e.1, g ∙ sym hash)
 
-  pub keyed : (r : ℕ) → HasKey (slice_get columns i) key (get_or rows r None) → HasHash xs h r
-  keyed r e = hashed r (may_have (slice_get columns i) key (get_or rows r None) e)
+  -- and finds what has the key and lies in the span
+  pub sought : (span : Span) → order_in f ≡ way.order → (r : ℕ) → HasKey (slice_get (map (λ w. w.columns) ways) i) key (get_or rows r None) → LiesIn span (get_or rows r None)
+      → IsSought f h span r
+  sought span order r e s =
+      let w = has_hash r (may_have (slice_get (map (λ w. w.columns) ways) i) key (get_or rows r None) e) in
+      let x = entry_row rows way r w.0 (ap (λ ys. get_or ys r None) (sym rows_are) ∙ w.1) in
+      let a : x.0 ≡ s.0 = same_Some _ _ (sym x.1 ∙ s.1) in
+      (w.0, w.1, w.2, λ o. subst (IsIn span.range) (ap (λ b. argument b span.column) (sym a) ∙ ap (λ o. ordered o x.0) (sym (sym order ∙ o)) ∙ ap (λ (x : Entry). x.value) x.2) s.2)

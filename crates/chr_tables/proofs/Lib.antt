@@ -1,6 +1,9 @@
+pub mod InColumns
+pub mod Finders
 pub mod Walks
 pub mod Lives
 pub mod Keys
 pub mod Choices
 pub mod Reading
 pub mod OneTable
+pub mod Looking

@@ -1,5 +1,5 @@
 -- Tables as callers see them.
-use Rattle.std.specs.Prelude.{ℕ, List, [], get_or, slice_get, Option, None}
+use Rattle.std.specs.Prelude.{◌≡◌, ℕ, ℤ, List, [], get_or, slice_get, Option, Some, None}
 use Rattle.chr_base.specs.declared.atom.Atom.{Atom}
 use Rattle.chr_plans.specs.Rows.{Tables, Columns}
 
@@ -19,3 +19,7 @@ rows_of tables table row = get_or (get_or tables table no_table).rows row None
 -- the columns of an index of a table, where there is such an index
 abbrev pub columns_of : List Contents → Columns
 columns_of tables table index = slice_get (get_or tables table no_table).keys index
+
+-- the row lives, and this is its atom's argument in a column
+abbrev pub HasArgument : ℕ → ℤ → Option Atom → Type 0
+HasArgument column value row = (a : Atom) × (row ≡ Some a) × (slice_get a.args.items column ≡ Some value)

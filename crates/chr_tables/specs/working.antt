@@ -1,1 +1,3 @@
+pub mod Finders
 pub mod Indexes
+pub mod Cells

@@ -1,13 +1,13 @@
 //! The indexes of a table, changed one after another.
 ghost use Rattle.std.specs.Prelude.{◌≡◌, ℕ, ◌+◌, ◌<◌, ◌^◌, ◌∷◌, ◌++◌, [], length, get_or, set, Some, None, OnOk};
-ghost use Rattle.chr_plans.specs.Keys.{argument, key_of};
+ghost use Rattle.chr_plans.specs.Keys.{key_of};
 ghost use Rattle.chr_plans.specs.Hashes.{key_hash};
-ghost use Rattle.chr_tables.specs.working.Indexes.{hashes_of, columns_of, rooms_of};
+ghost use Rattle.chr_tables.specs.working.Indexes.{entries_of, entry_of, ways_of, rooms_of, no_way};
 
+use crate::finder::{Finder, argument};
 use arrayvec::ArrayVec;
 use chr_base::atom::Atom;
 use chr_base::limits::MAX_ARITY;
-use chr_chains::Index;
 use chr_plans::hash::key_hash;
 use std::alloc::AllocError;
 
@@ -15,18 +15,7 @@ use std::alloc::AllocError;
 #[derive(Drop)]
 pub(crate) struct Keyed {
     pub(crate) columns: ArrayVec<usize, MAX_ARITY>,
-    pub(crate) index: Index,
-}
-
-/// An argument of an atom, 0 where it has none.
-fn argument(atom: &Atom, column: usize) -> i64
-    ensures { result ≡ argument atom.now column }
-{
-    if column < atom.args.len() {
-        atom.args[column]
-    } else {
-        0
-    }
+    pub(crate) index: Finder,
 }
 
 /// The arguments of an atom in these columns.
@@ -49,10 +38,10 @@ fn hash_of(columns: &ArrayVec<usize, MAX_ARITY>, atom: &Atom) -> u32
 
 /// A row dies in each index.
 pub(crate) fn kill_in(indexes: &mut [Keyed], row: u32)
-    requires { (j : ℕ) → j < length indexes.old → row < length (get_or (hashes_of indexes.old) j []) }
-    ensures columns { columns_of indexes.new ≡ columns_of indexes.old }
+    requires { (j : ℕ) → j < length indexes.old → row < length (get_or (entries_of indexes.old) j []) }
+    ensures ways { ways_of indexes.new ≡ ways_of indexes.old }
     ensures rows { (j : ℕ) →
-        get_or (hashes_of indexes.new) j [] ≡ set (get_or (hashes_of indexes.old) j []) row None }
+        get_or (entries_of indexes.new) j [] ≡ set (get_or (entries_of indexes.old) j []) row None }
 {
     for i in 0..indexes.len() {
         indexes[i].index.kill(row);
@@ -61,31 +50,31 @@ pub(crate) fn kill_in(indexes: &mut [Keyed], row: u32)
 
 /// Makes room for one row more in each index.
 pub(crate) fn reserve_in(indexes: &mut [Keyed]) -> Result<(), AllocError>
-    requires { (j : ℕ) → j < length indexes.old → length (get_or (hashes_of indexes.old) j []) + 1 < 2 ^ 32 }
-    ensures columns { columns_of indexes.new ≡ columns_of indexes.old }
-    ensures rows { hashes_of indexes.new ≡ hashes_of indexes.old }
+    requires { (j : ℕ) → j < length indexes.old → length (get_or (entries_of indexes.old) j []) + 1 < 2 ^ 32 }
+    ensures ways { ways_of indexes.new ≡ ways_of indexes.old }
+    ensures rows { entries_of indexes.new ≡ entries_of indexes.old }
     ensures ok { OnOk result ((j : ℕ) → j < length indexes.old →
-        length (get_or (hashes_of indexes.old) j []) < get_or (rooms_of indexes.new) j 0) }
+        length (get_or (entries_of indexes.old) j []) < get_or (rooms_of indexes.new) j 0) }
 {
     for i in 0..indexes.len() {
-        indexes[i].index.reserve(1)?;
+        indexes[i].index.reserve()?;
     }
     Ok(())
 }
 
-/// One more row in each index, under the hash of the atom's key there.
+/// One more row in each index, for this atom.
 pub(crate) fn push_in(indexes: &mut [Keyed], atom: &Atom)
     requires room { (j : ℕ) → j < length indexes.old →
-        length (get_or (hashes_of indexes.old) j []) < get_or (rooms_of indexes.old) j 0 }
-    requires few { (j : ℕ) → j < length indexes.old → length (get_or (hashes_of indexes.old) j []) + 1 < 2 ^ 32 }
-    ensures columns { columns_of indexes.new ≡ columns_of indexes.old }
+        length (get_or (entries_of indexes.old) j []) < get_or (rooms_of indexes.old) j 0 }
+    requires few { (j : ℕ) → j < length indexes.old → length (get_or (entries_of indexes.old) j []) + 1 < 2 ^ 32 }
+    ensures ways { ways_of indexes.new ≡ ways_of indexes.old }
     ensures rows { (j : ℕ) → j < length indexes.old →
-        get_or (hashes_of indexes.new) j []
-        ≡ get_or (hashes_of indexes.old) j []
-        ++ Some (key_hash (key_of (get_or (columns_of indexes.old) j []) atom.now)) ∷ [] }
+        get_or (entries_of indexes.new) j []
+        ≡ get_or (entries_of indexes.old) j []
+        ++ Some (entry_of (get_or (ways_of indexes.old) j no_way) atom.now) ∷ [] }
 {
     for i in 0..indexes.len() {
         let hash = hash_of(&indexes[i].columns, atom);
-        indexes[i].index.push(hash);
+        indexes[i].index.push(hash, atom);
     }
 }

@@ -1,13 +1,18 @@
 //! One table.
 ghost use Rattle.std.specs.Prelude.{◌≡◌, ℕ, ◌+◌, ◌<◌, ◌≤◌, ◌^◌, ◌∷◌, ◌++◌, [], length, get_or, set, slice_get, Some, None, OnOk, OnErr, IfSome, IfNone, IsTrue, is_some};
-ghost use Rattle.chr_plans.specs.Rows.{HasKey, MayHaveKey};
+ghost use Rattle.std.specs.Bool.{OnTrue, OnFalse};
+ghost use Rattle.chr_base.specs.declared.limits.TheConstants.{MAX_ARITY};
+ghost use Rattle.chr_plans.specs.Rows.{HasKey, MayHaveKey, LiesIn};
+ghost use Rattle.chr_tables.specs.Contents.{HasArgument};
 
+use crate::cells::Cells;
+use crate::finder::Finder;
 use crate::indexes::{Keyed, kill_in, push_in, reserve_in};
 use arrayvec::ArrayVec;
 use chr_base::atom::Atom;
 use chr_base::limits::MAX_ARITY;
-use chr_chains::Index;
 use chr_plans::hash::key_hash;
+use chr_plans::key::Span;
 use std::alloc::{AllocError, Global};
 use std::marker::Model;
 
@@ -17,7 +22,7 @@ pub const MAX_ROWS: usize = 0xFFFF_FFFF;
 /// Atoms in rows, each alive or dead, and indexes of them. A row's number is how many were inserted before it.
 #[derive(Drop)]
 pub struct Table {
-    atoms: Vec<Atom>,
+    atoms: Cells,
     alive: Vec<bool>,
     indexes: Vec<Keyed>,
 }
@@ -30,9 +35,9 @@ impl Model for Table {
 
     ghost coded = { contents_code };
 
-    ghost view = { λ t. record { rows = live t.atoms.items t.alive.items; keys = columns_of t.indexes.items } };
+    ghost view = { λ t. record { rows = live t.atoms t.alive.items; keys = columns_of t.indexes.items } };
 
-    ghost invariant = { λ t. IsTable t.atoms.items t.alive.items t.indexes.items };
+    ghost invariant = { λ t. IsTable t.atoms t.alive.items t.indexes.items };
 }
 
 /// The row that an index has found, if it has found one.
@@ -48,7 +53,7 @@ impl Table {
         ensures { result ≡ record { rows = []; keys = [] } }
     {
         Table {
-            atoms: Vec::new(alloc),
+            atoms: Cells::new(alloc),
             alive: Vec::new(alloc),
             indexes: Vec::new(alloc),
         }
@@ -62,51 +67,61 @@ impl Table {
         self.atoms.len()
     }
 
-    /// One more index, by these columns, of a table without rows. Its number is how many there were.
+    /// One more index, by these columns, of a table without rows. Its number is how many there were. Where `order` is a
+    /// column too, look-ups pass over rows whose value there lies outside their span.
     pub fn add_index(
         &mut self,
         alloc: Global,
         columns: ArrayVec<usize, MAX_ARITY>,
+        order: Option<usize>,
     ) -> Result<(), AllocError>
         requires { self.old.rows ≡ [] }
         ensures rows { self.new.rows ≡ [] }
         ensures ok { OnOk result (self.new.keys ≡ self.old.keys ++ columns.items ∷ []) }
         ensures err { OnErr result (self.new.keys ≡ self.old.keys) }
     {
-        let index = Index::new(alloc)?;
+        let index = Finder::new(alloc, order)?;
         self.indexes.reserve(1)?;
         self.indexes.push_reserved(Keyed { columns, index });
         Ok(())
     }
 
-    /// The newest row that a look-up of this key by an index meets. It meets each live row that has the key, and may
-    /// meet others whose values have the hash of the key.
-    pub fn first(&mut self, index: usize, key: &[i64]) -> Option<usize>
+    /// The newest row that a look-up of this key and span by an index meets. It meets each live row that has the key and
+    /// lies in the span, and may meet others whose values have the hash of the key.
+    pub fn first(&mut self, index: usize, key: &[i64], span: &Span) -> Option<usize>
         requires { index < length self.old.keys }
         ensures same { self.new ≡ self.old }
         ensures met { IfSome result (λ row.
             MayHaveKey (slice_get self.old.keys index) key.now (get_or self.old.rows row None)) }
         ensures newest { IfSome result (λ row. (other : ℕ) →
-            HasKey (slice_get self.old.keys index) key.now (get_or self.old.rows other None) → other ≤ row) }
+            HasKey (slice_get self.old.keys index) key.now (get_or self.old.rows other None) →
+            LiesIn span.now (get_or self.old.rows other None) → other ≤ row) }
         ensures none { IfNone result ((other : ℕ) →
-            ¬ (HasKey (slice_get self.old.keys index) key.now (get_or self.old.rows other None))) }
+            HasKey (slice_get self.old.keys index) key.now (get_or self.old.rows other None) →
+            ¬ (LiesIn span.now (get_or self.old.rows other None))) }
     {
-        row_of(self.indexes[index].index.first(key_hash(key)))
+        row_of(self.indexes[index].index.first(key_hash(key), span))
     }
 
     /// The next one below a row that was met.
-    pub fn next(&mut self, index: usize, key: &[i64], row: usize) -> Option<usize>
+    pub fn next(&mut self, index: usize, key: &[i64], span: &Span, row: usize) -> Option<usize>
         requires { MayHaveKey (slice_get self.old.keys index) key.now (get_or self.old.rows row None) }
         ensures same { self.new ≡ self.old }
         ensures below { IfSome result (λ next. next < row) }
         ensures met { IfSome result (λ next.
             MayHaveKey (slice_get self.old.keys index) key.now (get_or self.old.rows next None)) }
         ensures newest { IfSome result (λ next. (other : ℕ) → other < row →
-            HasKey (slice_get self.old.keys index) key.now (get_or self.old.rows other None) → other ≤ next) }
+            HasKey (slice_get self.old.keys index) key.now (get_or self.old.rows other None) →
+            LiesIn span.now (get_or self.old.rows other None) → other ≤ next) }
         ensures none { IfNone result ((other : ℕ) → other < row →
-            ¬ (HasKey (slice_get self.old.keys index) key.now (get_or self.old.rows other None))) }
+            HasKey (slice_get self.old.keys index) key.now (get_or self.old.rows other None) →
+            ¬ (LiesIn span.now (get_or self.old.rows other None))) }
     {
-        row_of(self.indexes[index].index.next(key_hash(key), row as u32))
+        row_of(
+            self.indexes[index]
+                .index
+                .next(key_hash(key), span, row as u32),
+        )
     }
 
     /// The atom of a live row.
@@ -114,7 +129,7 @@ impl Table {
         requires { IsTrue (is_some (get_or self.now.rows row None)) }
         ensures { get_or self.now.rows row None ≡ Some result }
     {
-        self.atoms[row].copy()
+        self.atoms.atom(row)
     }
 
     /// The atom of a row, where the row lives. A row past the last is dead.
@@ -122,10 +137,45 @@ impl Table {
         ensures { result ≡ get_or self.now.rows row None }
     {
         if row < self.atoms.len() && self.alive[row] {
-            Some(self.atoms[row].copy())
+            Some(self.atoms.atom(row))
         } else {
             None
         }
+    }
+
+    /// Whether a row lives, and this is its atom's argument in a column.
+    fn has_argument(&self, column: usize, value: i64, row: usize) -> bool
+        ensures has { OnTrue result (HasArgument column value (get_or self.now.rows row None)) }
+        ensures lacks { OnFalse result (¬ (HasArgument column value (get_or self.now.rows row None))) }
+    {
+        let Some(atom) = self.get(row) else {
+            return false;
+        };
+        column < atom.args.len() && atom.args[column] == value
+    }
+
+    /// The first live row from `from` on whose atom has this value as its argument in a column, counted from 0; None
+    /// where there is none. It takes no memory. Eight rows are compared at a time, with no index.
+    pub fn first_with(&self, column: usize, value: i64, from: usize) -> Option<usize>
+        requires { column < MAX_ARITY }
+        ensures from_on { IfSome result (λ row. from ≤ row) }
+        ensures has { IfSome result (λ row. HasArgument column value (get_or self.now.rows row None)) }
+        ensures least { IfSome result (λ row. (other : ℕ) → from ≤ other → other < row →
+            ¬ (HasArgument column value (get_or self.now.rows other None))) }
+        ensures none { IfNone result ((other : ℕ) → from ≤ other →
+            ¬ (HasArgument column value (get_or self.now.rows other None))) }
+    {
+        let mut at = from;
+        while at < self.atoms.len() {
+            let Some(row) = self.atoms.first(column, value, at) else {
+                return None;
+            };
+            if self.has_argument(column, value, row) {
+                return Some(row);
+            }
+            at = row + 1;
+        }
+        None
     }
 
     /// A row dies. It keeps its number.
@@ -147,10 +197,9 @@ impl Table {
         if self.atoms.len() >= MAX_ROWS {
             return Err(AllocError);
         }
-        self.atoms.reserve(1)?;
         self.alive.reserve(1)?;
         reserve_in(&mut self.indexes)?;
-        self.atoms.push_reserved(atom.copy());
+        self.atoms.push(atom)?;
         self.alive.push_reserved(true);
         push_in(&mut self.indexes, atom);
         Ok(())

@@ -1,6 +1,7 @@
 //! All tables.
 use crate::table::Table;
 use chr_base::atom::Atom;
+use chr_plans::key::Span;
 use chr_plans::rows::Rows;
 
 /// Tables by their numbers, from 0.
@@ -19,12 +20,19 @@ impl Rows for Tables {
 
     ghost tables = { λ s. length s.tables.items };
 
-    fn first(&mut self, table: usize, index: usize, key: &[i64]) -> Option<usize> {
-        self.tables[table].first(index, key)
+    fn first(&mut self, table: usize, index: usize, key: &[i64], span: &Span) -> Option<usize> {
+        self.tables[table].first(index, key, span)
     }
 
-    fn next(&mut self, table: usize, index: usize, key: &[i64], row: usize) -> Option<usize> {
-        self.tables[table].next(index, key, row)
+    fn next(
+        &mut self,
+        table: usize,
+        index: usize,
+        key: &[i64],
+        span: &Span,
+        row: usize,
+    ) -> Option<usize> {
+        self.tables[table].next(index, key, span, row)
     }
 
     fn atom(&self, table: usize, row: usize) -> Atom {

@@ -7,6 +7,7 @@ use crate::tables::Tables;
 use arrayvec::ArrayVec;
 use chr_base::atom::{Atom, SymbolId};
 use chr_base::limits::MAX_ARITY;
+use chr_plans::key::Span;
 use chr_plans::rows::Rows;
 use std::alloc::{AllocError, Global};
 use std::test::Fail;
@@ -37,8 +38,8 @@ fn table_of(alloc: Global, atoms: &[Atom]) -> Result<Table, AllocError>
     ensures keys { IfOk result (λ t. length t.keys ≡ 2) }
 {
     let mut table = Table::new(alloc);
-    table.add_index(alloc, columns(&[0]))?;
-    table.add_index(alloc, columns(&[2, 1]))?;
+    table.add_index(alloc, columns(&[0]), None)?;
+    table.add_index(alloc, columns(&[2, 1]), None)?;
     for atom in atoms {
         table.insert(atom)?;
     }
@@ -61,27 +62,27 @@ fn rows() -> [Atom; 6] {
 fn finds_the_newest_row_of_a_key(rt: HostRuntime) -> Result<(), Fail> {
     let mut table = table_of(rt.alloc(), &rows())?;
     assert_eq!(rt; table.len(), 6);
-    assert!(rt; table.first(0, &[1]) == Some(4));
-    assert!(rt; table.first(0, &[2]) == Some(2));
-    assert!(rt; table.first(0, &[9]) == None);
-    assert!(rt; table.first(1, &[3, 5]) == Some(1));
-    assert!(rt; table.first(1, &[0, 0]) == Some(5));
-    assert!(rt; table.first(1, &[5, 3]) == None);
+    assert!(rt; table.first(0, &[1], &Span::default()) == Some(4));
+    assert!(rt; table.first(0, &[2], &Span::default()) == Some(2));
+    assert!(rt; table.first(0, &[9], &Span::default()) == None);
+    assert!(rt; table.first(1, &[3, 5], &Span::default()) == Some(1));
+    assert!(rt; table.first(1, &[0, 0], &Span::default()) == Some(5));
+    assert!(rt; table.first(1, &[5, 3], &Span::default()) == None);
     Ok(())
 }
 
 #[test]
 fn goes_on_below_a_row(rt: HostRuntime) -> Result<(), Fail> {
     let mut table = table_of(rt.alloc(), &rows())?;
-    if let Some(newest) = table.first(0, &[1]) {
-        let second = table.next(0, &[1], newest);
+    if let Some(newest) = table.first(0, &[1], &Span::default()) {
+        let second = table.next(0, &[1], &Span::default(), newest);
         assert!(rt; second == Some(3));
         if let Some(row) = second {
-            assert!(rt; table.next(0, &[1], row) == Some(1));
+            assert!(rt; table.next(0, &[1], &Span::default(), row) == Some(1));
         }
     }
-    if let Some(only) = table.first(0, &[7]) {
-        assert!(rt; table.next(0, &[7], only) == None);
+    if let Some(only) = table.first(0, &[7], &Span::default()) {
+        assert!(rt; table.next(0, &[7], &Span::default(), only) == None);
         assert!(rt; table.atom(only) == atom(0, &[7, 0, 0]));
     }
     Ok(())
@@ -91,12 +92,12 @@ fn goes_on_below_a_row(rt: HostRuntime) -> Result<(), Fail> {
 fn dead_rows_are_passed_over(rt: HostRuntime) -> Result<(), Fail> {
     let mut table = table_of(rt.alloc(), &rows())?;
     table.kill(4);
-    assert!(rt; table.first(0, &[1]) == Some(3));
-    assert!(rt; table.first(1, &[3, 2]) == Some(2));
+    assert!(rt; table.first(0, &[1], &Span::default()) == Some(3));
+    assert!(rt; table.first(1, &[3, 2], &Span::default()) == Some(2));
     table.kill(2);
     table.kill(0);
-    assert!(rt; table.first(1, &[3, 2]) == None);
-    assert!(rt; table.first(0, &[1]) == Some(3));
+    assert!(rt; table.first(1, &[3, 2], &Span::default()) == None);
+    assert!(rt; table.first(0, &[1], &Span::default()) == Some(3));
     assert_eq!(rt; table.len(), 6);
     Ok(())
 }
@@ -122,7 +123,7 @@ fn each_table_by_its_number(rt: HostRuntime) -> Result<(), Fail> {
             table_of(alloc, &[atom(2, &[1])])?,
         ]?,
     };
-    assert!(rt; tables.tables[0].first(0, &[1]) == Some(4));
-    assert!(rt; tables.tables[1].first(0, &[1]) == Some(0));
+    assert!(rt; tables.tables[0].first(0, &[1], &Span::default()) == Some(4));
+    assert!(rt; tables.tables[1].first(0, &[1], &Span::default()) == Some(0));
     Ok(())
 }

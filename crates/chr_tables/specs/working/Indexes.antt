@@ -6,6 +6,8 @@ use Rattle.chr_base.specs.declared.atom.Atom.{Atom}
 use Rattle.chr_base.specs.working.Codes.{coded_atom}
 use Rattle.chr_plans.specs.Keys.{key_of}
 use Rattle.chr_plans.specs.Hashes.{key_hash}
+use Rattle.chr_ranges.specs.Rows.{Entry}
+use Rattle.chr_tables.specs.working.Finders.{order_in, rows_in, room_in, ordered}
 use Rattle.chr_tables.specs.declared.indexes.Keyed.{Keyed}
 use Rattle.chr_tables.specs.Contents.{Contents}
 
@@ -15,30 +17,48 @@ live [] bs = []
 live (a ∷ as') [] = []
 live (a ∷ as') (b ∷ bs) = cond b (Some a) None ∷ live as' bs
 
--- the hash of a row's key in these columns, or None where the row is dead
-abbrev pub hash_in : List ℕ → Option Atom → Option ℕ
-hash_in columns row = option_map (λ a. key_hash (key_of columns a)) row
+-- by which columns an index finds rows, and by the values in which column
+pub record Way : Type 0 where
+  pub columns : List ℕ
+  pub order : Option ℕ
 
--- of each index the hashes of its rows, its columns, and the room that it has
-abbrev pub hashes_of : List Keyed → List (List (Option ℕ))
-hashes_of ks = map (λ k. k.index.rows) ks
+-- what is read past the last index
+abbrev pub no_way : Way
+no_way = record { columns = []; order = None }
+
+-- what such an index has of an atom, and of a row, or None where the row is dead
+abbrev pub entry_of : Way → Atom → Entry
+entry_of way a = record { hash = key_hash (key_of way.columns a); value = ordered way.order a }
+
+abbrev pub entry_in : Way → Option Atom → Option Entry
+entry_in way row = option_map (entry_of way) row
+
+abbrev pub way_of : Keyed → Way
+way_of k = record { columns = k.columns.items; order = order_in k.index }
+
+-- of each index its rows, its way, its columns, and the room that it has
+abbrev pub entries_of : List Keyed → List (List (Option Entry))
+entries_of ks = map (λ k. rows_in k.index) ks
+
+abbrev pub ways_of : List Keyed → List Way
+ways_of ks = map way_of ks
 
 abbrev pub columns_of : List Keyed → List (List ℕ)
-columns_of ks = map (λ k. k.columns.items) ks
+columns_of ks = map (λ w. w.columns) (ways_of ks)
 
 abbrev pub rooms_of : List Keyed → List ℕ
-rooms_of ks = map (λ k. k.index.room) ks
+rooms_of ks = map (λ k. room_in k.index) ks
 
--- each index has the hash of each row
-abbrev pub AreIndexed : List (Option Atom) → List (List ℕ) → List (List (Option ℕ)) → Type 0
-AreIndexed rows columns hashes =
-    (j : ℕ) → j < length columns → get_or hashes j [] ≡ map (hash_in (get_or columns j [])) rows
+-- each index has each row
+abbrev pub AreIndexed : List (Option Atom) → List Way → List (List (Option Entry)) → Type 0
+AreIndexed rows ways entries =
+    (j : ℕ) → j < length ways → get_or entries j [] ≡ map (entry_in (get_or ways j no_way)) rows
 
 -- what every table keeps
 pub record IsTable (atoms : List Atom) (alive : List Bool) (indexes : List Keyed) : Type 0 where
   pub as_alive : length alive ≡ length atoms
   pub few : length atoms < 2 ^ 32
-  pub indexed : AreIndexed (live atoms alive) (columns_of indexes) (hashes_of indexes)
+  pub indexed : AreIndexed (live atoms alive) (ways_of indexes) (entries_of indexes)
 
 abbrev pub contents_code : Coded Contents
 contents_code =

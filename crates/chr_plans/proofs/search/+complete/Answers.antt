@@ -2,12 +2,11 @@ use Rattle.std.proofs.Common.{◌≡◌, ◌<◌, length, get_or, map, inr, refl
 use Rattle.std.proofs.lemmas.Bool.{OnTrue_from, OnFalse_from}
 use Rattle.std.proofs.lemmas.List.{length-set, length-take-le}
 use Rattle.chr_plans.specs.Keys.{source_value}
-use Rattle.chr_plans.specs.Rows.{HasKey}
 use Rattle.chr_plans.specs.Seats.{seat}
 use Rattle.chr_plans.specs.working.Searching.{looked_in}
 use Rattle.chr_base.proofs.Instances.{heads_few}
 use Rattle.chr_plans.proofs.Places.{places_take, partners_len}
-use Rattle.chr_plans.proofs.Searches.{bound, below_first, below_next, place_within, past_first, past_next, not_passed, not_taken, not_found, seated_all, none_all, started_more, same_deeper}
+use Rattle.chr_plans.proofs.Searches.{IsWanted, bound, below_first, below_next, newest_first, none_first, newest_next, none_next, place_within, past_first, past_next, not_passed, not_taken, not_found, seated_all, none_all, started_more, same_deeper}
 use Rattle.chr_plans.proofs.search.+complete.Goals.{then-not-is_taken+else-complete, else-not-is_taken}
 use Rattle.chr_plans.proofs.search.+complete.Goals as goal
 
@@ -36,8 +35,9 @@ loop-next-init g t c =
       seats = c.requires.seats;
       same = λ k b. (refl, refl);
       met = rw (← key) c.first-next.ensures.met;
-      past = past_first c.args.rule.now c.args.active c.args.lookups.now c.args.done c.index-lookups-done.result _ (g.R.Rows.columns c.args.rows.now) c.args.heads.now c.args.seats.now c.requires.plan c.requires.fits n (sym c.index-lookups-done.is) (bound c.first-next.result)
-          (below_first (λ q. HasKey (g.R.Rows.columns c.args.rows.now c.index-lookups-done.result.table c.index-lookups-done.result.index) (map (λ k. source_value c.args.heads.now k.source) c.index-lookups-done.result.partner.key.items) (g.R.Rows.rows c.args.rows.now c.index-lookups-done.result.table q)) c.first-next.result (rw (← key) c.first-next.ensures.newest) (rw (← key) c.first-next.ensures.none));
+      past = past_first c.args.rule.now c.args.active c.args.lookups.now c.args.done c.index-lookups-done.result _ (g.R.Rows.columns c.args.rows.now) c.args.heads.now c.args.seats.now c.requires.plan c.requires.fits n (sym c.index-lookups-done.is) c.span_of-span.result (bound c.first-next.result) c.span_of-span.ensures.all
+          (below_first (λ q. IsWanted (g.R.Rows.columns c.args.rows.now c.index-lookups-done.result.table c.index-lookups-done.result.index) (map (λ k. source_value c.args.heads.now k.source) c.index-lookups-done.result.partner.key.items) c.span_of-span.result (g.R.Rows.rows c.args.rows.now c.index-lookups-done.result.table q)) c.first-next.result
+          (newest_first _ _ c.first-next.result (rw (← key) c.first-next.ensures.newest)) (none_first _ _ c.first-next.result (rw (← key) c.first-next.ensures.none)));
     }
 
 pub is_taken-requires-clause-places : goal.is_taken-requires-clause-places
@@ -150,8 +150,9 @@ loop-next-preserved g t c =
         | else-not-is_taken w ↦ rw (w.heads-is, w.seats-is) c.loop-next.invariant.same
       ];
       met = rw (← key, ← rows_now, ← columns_now) c.next-next.ensures.met;
-      past = past_next c.args.rule.now c.args.active c.args.lookups.now c.args.done c.index-lookups-done.result _ (g.R.Rows.columns c.args.rows.now) c.args.heads.now c.args.seats.now c.requires.plan c.requires.fits n (sym c.index-lookups-done.is) c.in-Some.row (bound c.next-next.result)
-          (below_next (λ q. HasKey (g.R.Rows.columns c.args.rows.now c.index-lookups-done.result.table c.index-lookups-done.result.index) (map (λ k. source_value c.args.heads.now k.source) c.index-lookups-done.result.partner.key.items) (g.R.Rows.rows c.args.rows.now c.index-lookups-done.result.table q)) c.in-Some.row c.next-next.result (rw (← key, ← rows_now, ← columns_now) c.next-next.ensures.newest) (rw (← key, ← rows_now, ← columns_now) c.next-next.ensures.none))
+      past = past_next c.args.rule.now c.args.active c.args.lookups.now c.args.done c.index-lookups-done.result _ (g.R.Rows.columns c.args.rows.now) c.args.heads.now c.args.seats.now c.requires.plan c.requires.fits n (sym c.index-lookups-done.is) c.span_of-span.result c.in-Some.row (bound c.next-next.result) c.span_of-span.ensures.all
+          (below_next (λ q. IsWanted (g.R.Rows.columns c.args.rows.now c.index-lookups-done.result.table c.index-lookups-done.result.index) (map (λ k. source_value c.args.heads.now k.source) c.index-lookups-done.result.partner.key.items) c.span_of-span.result (g.R.Rows.rows c.args.rows.now c.index-lookups-done.result.table q)) c.in-Some.row c.next-next.result
+          (newest_next _ _ c.in-Some.row c.next-next.result (rw (← key, ← rows_now, ← columns_now) c.next-next.ensures.newest)) (none_next _ _ c.in-Some.row c.next-next.result (rw (← key, ← rows_now, ← columns_now) c.next-next.ensures.none)))
           (elim c.if-not-is_taken.branch [
             | then-not-is_taken+else-complete w ↦ not_found c.args.rule.now c.args.active c.args.lookups.now c.args.done c.index-lookups-done.result _ (g.R.Rows.columns c.args.rows.now) c.args.heads.now c.args.seats.now c.requires.plan c.requires.fits n (sym c.index-lookups-done.is) _ w.atom.result c.loop-next.heads c.loop-next.seats (rw c.loop-next.invariant.rows at w.atom.ensures) (omega (arith, w0, h)) (omega (arith, w0, s)) c.loop-next.invariant.same (rw c.loop-next.invariant.rows at w.if-complete.ensures.none)
             | else-not-is_taken w ↦ (let v = w.if-not-is_taken.ensures.taken in

@@ -1,14 +1,14 @@
 use Rattle.std.proofs.Common.{◌≡◌, length, set, sym, ap, ◌∙◌, arith}
 use Rattle.std.specs.Prelude.{None}
 use Rattle.std.proofs.lemmas.List.{length-set}
-use Rattle.chr_tables.specs.working.Indexes.{columns_of}
-use Rattle.chr_tables.proofs.Lives.{live_kill, length_live, table_kill, length_columns}
+use Rattle.chr_tables.specs.working.Indexes.{ways_of}
+use Rattle.chr_tables.proofs.Lives.{live_kill, length_live, table_kill, length_ways}
 use Rattle.chr_tables.proofs.Walks.{put_back}
 use Rattle.chr_tables.proofs.table.Table.kill.Goals as goal
 
 pub index_mut-requires : goal.index_mut-requires
 index_mut-requires c =
-    let n = length_live c.self.inside.atoms.items c.self.inside.alive.items c.self.invariant.as_alive in
+    let n = length_live c.self.inside.atoms c.self.inside.alive.items c.self.invariant.as_alive in
     let e = ap (λ t. length t.rows) c.self.view_is in
     let a = c.self.invariant.as_alive in
     let r = c.requires in
@@ -16,11 +16,11 @@ index_mut-requires c =
 
 pub invariant_of-self : goal.invariant_of-self
 invariant_of-self c =
-    let columns : columns_of c.kill_in.new.indexes ≡ columns_of c.self.inside.indexes.items = c.kill_in.ensures.columns ∙ ap columns_of c.deref_mut.ensures.value in
+    let ways : ways_of c.kill_in.new.indexes ≡ ways_of c.self.inside.indexes.items = c.kill_in.ensures.ways ∙ ap ways_of c.deref_mut.ensures.value in
     let len : length c.kill_in.new.indexes ≡ length c.self.inside.indexes.items =
-    sym (length_columns c.kill_in.new.indexes) ∙ ap length columns ∙ length_columns c.self.inside.indexes.items in
+    sym (length_ways c.kill_in.new.indexes) ∙ ap length ways ∙ length_ways c.self.inside.indexes.items in
     let whole = put_back c.kill_in.new.indexes c.self.inside.indexes.items c.self.inside.indexes.len len (omega (arith, c.self.inside.indexes.ok.0)) in
-    rw whole (table_kill _ _ c.self.inside.indexes.items _ c.args.row c.self.invariant columns (rw c.deref_mut.ensures.value at c.kill_in.ensures.rows)
+    rw whole (table_kill _ _ c.self.inside.indexes.items _ c.args.row c.self.invariant ways (rw c.deref_mut.ensures.value at c.kill_in.ensures.rows)
     (length-set c.self.inside.alive.items _ _))
 
 pub returns-clause-rows : goal.returns-clause-rows
@@ -28,7 +28,7 @@ returns-clause-rows c = live_kill _ _ c.args.row c.self.invariant.as_alive ∙ a
 
 pub overflow_cast-row : goal.overflow_cast-row
 overflow_cast-row c =
-    let n = length_live c.self.inside.atoms.items c.self.inside.alive.items c.self.invariant.as_alive in
+    let n = length_live c.self.inside.atoms c.self.inside.alive.items c.self.invariant.as_alive in
     let e = ap (λ t. length t.rows) c.self.view_is in
     let f = c.self.invariant.few in
     let r = c.requires in

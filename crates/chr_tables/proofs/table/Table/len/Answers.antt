@@ -1,11 +1,10 @@
-use Rattle.std.proofs.Common.{◌≡◌, ap, arith, length, vec_len}
+use Rattle.std.proofs.Common.{ap, arith, length}
 use Rattle.chr_tables.proofs.Lives.{length_live}
 use Rattle.chr_tables.proofs.table.Table.len.Goals as goal
 
 pub returns : goal.returns
 returns c =
-    let l = length_live c.self.inside.atoms.items c.self.inside.alive.items c.self.invariant.as_alive in
+    let l = length_live c.self.inside.atoms c.self.inside.alive.items c.self.invariant.as_alive in
     let v = ap (λ t. length t.rows) c.self.view_is in
-    let p : vec_len c.self.inside.atoms ≡ length c.self.inside.atoms.items = omega (arith, c.self.inside.atoms.ok.0) in
     let e = c.len.ensures in
-    omega (arith, l, v, p, e)
+    omega (arith, l, v, e)

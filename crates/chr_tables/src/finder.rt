@@ -1,0 +1,130 @@
+//! How an index finds rows.
+ghost use Rattle.std.specs.Prelude.{◌≡◌, ℕ, ℤ, ◌+◌, ◌<◌, ◌≤◌, ◌^◌, ◌∷◌, ◌++◌, [], length, set, Some, None, OnOk, IfOk, IfSome, IfNone};
+ghost use Rattle.chr_plans.specs.Keys.{argument};
+ghost use Rattle.chr_ranges.specs.Rows.{HasHash, IsIn};
+ghost use Rattle.chr_tables.specs.working.Finders.{order_in, rows_in, room_in, ordered, IsSought};
+
+use chr_base::atom::Atom;
+use chr_plans::key::Span;
+use chr_ranges::Range;
+use std::alloc::{AllocError, Global};
+
+/// An argument of an atom, 0 where it has none.
+pub(crate) fn argument(atom: &Atom, column: usize) -> i64
+    ensures { result ≡ argument atom.now column }
+{
+    if column < atom.args.len() {
+        atom.args[column]
+    } else {
+        0
+    }
+}
+
+/// The rows of an index, by the hash of the key of each.
+#[derive(Drop)]
+pub(crate) enum Finder {
+    /// By the hash alone.
+    Chained(chr_chains::Index),
+    /// And by the values in one column, counted from 0.
+    Ranged {
+        column: usize,
+        index: chr_ranges::Index,
+    },
+}
+
+/// The range of a span, where it speaks of this column; else all values.
+fn range_for(column: usize, span: &Span) -> Range
+    ensures { (x : ℤ) → (column ≡ span.now.column → IsIn span.now.range x) → IsIn result x }
+{
+    if column == span.column {
+        span.range
+    } else {
+        Range::default()
+    }
+}
+
+impl Finder {
+    /// The one of no rows, by the values in this column, where there is one.
+    pub(crate) fn new(alloc: Global, order: Option<usize>) -> Result<Finder, AllocError>
+        ensures order { IfOk result (λ f. order_in f ≡ order) }
+        ensures rows { IfOk result (λ f. rows_in f ≡ []) }
+    {
+        match order {
+            None => Ok(Finder::Chained(chr_chains::Index::new(alloc)?)),
+            Some(column) => Ok(Finder::Ranged {
+                column,
+                index: chr_ranges::Index::new(alloc)?,
+            }),
+        }
+    }
+
+    /// Makes room for one row more.
+    pub(crate) fn reserve(&mut self) -> Result<(), AllocError>
+        requires { length (rows_in self.old) + 1 < 2 ^ 32 }
+        ensures order { order_in self.new ≡ order_in self.old }
+        ensures rows { rows_in self.new ≡ rows_in self.old }
+        ensures ok { OnOk result (length (rows_in self.old) + 1 ≤ room_in self.new) }
+    {
+        match self {
+            Finder::Chained(index) => index.reserve(1),
+            Finder::Ranged { index, .. } => index.reserve(1),
+        }
+    }
+
+    /// One more row, the newest.
+    pub(crate) fn push(&mut self, hash: u32, atom: &Atom)
+        requires room { length (rows_in self.old) < room_in self.old }
+        requires few { length (rows_in self.old) + 1 < 2 ^ 32 }
+        ensures order { order_in self.new ≡ order_in self.old }
+        ensures rows { rows_in self.new ≡ rows_in self.old
+            ++ Some (record { hash = hash; value = ordered (order_in self.old) atom.now }) ∷ [] }
+        ensures room { room_in self.new ≡ room_in self.old }
+    {
+        match self {
+            Finder::Chained(index) => index.push(hash),
+            Finder::Ranged { column, index } => index.push(hash, argument(atom, *column)),
+        }
+    }
+
+    /// A row dies.
+    pub(crate) fn kill(&mut self, row: u32)
+        requires { row < length (rows_in self.old) }
+        ensures order { order_in self.new ≡ order_in self.old }
+        ensures rows { rows_in self.new ≡ set (rows_in self.old) row None }
+        ensures room { room_in self.new ≡ room_in self.old }
+    {
+        match self {
+            Finder::Chained(index) => index.kill(row),
+            Finder::Ranged { index, .. } => index.kill(row),
+        }
+    }
+
+    /// The newest live row with this hash that is not known to lie outside the span.
+    pub(crate) fn first(&mut self, hash: u32, span: &Span) -> Option<u32>
+        ensures same { self.new ≡ self.old }
+        ensures met { IfSome result (λ row. HasHash (rows_in self.old) hash row) }
+        ensures newest { IfSome result (λ row. (other : ℕ) → IsSought self.old hash span.now other → other ≤ row) }
+        ensures none { IfNone result ((other : ℕ) → ¬ (IsSought self.old hash span.now other)) }
+    {
+        match self {
+            Finder::Chained(index) => index.first(hash),
+            Finder::Ranged { column, index } => index.first(hash, &range_for(*column, span)),
+        }
+    }
+
+    /// The same, below a live row with this hash.
+    pub(crate) fn next(&mut self, hash: u32, span: &Span, row: u32) -> Option<u32>
+        requires { HasHash (rows_in self.old) hash row }
+        ensures same { self.new ≡ self.old }
+        ensures below { IfSome result (λ next. next < row) }
+        ensures met { IfSome result (λ next. HasHash (rows_in self.old) hash next) }
+        ensures newest { IfSome result (λ next. (other : ℕ) → other < row
+            → IsSought self.old hash span.now other → other ≤ next) }
+        ensures none { IfNone result ((other : ℕ) → other < row → ¬ (IsSought self.old hash span.now other)) }
+    {
+        match self {
+            Finder::Chained(index) => index.next(hash, row),
+            Finder::Ranged { column, index } => index.next(hash, &range_for(*column, span), row),
+        }
+    }
+}
