@@ -14,3 +14,6 @@ pub mod Planned
 pub mod Emptiness
 pub mod Turns
 pub mod Removals
+pub mod Sitting
+pub mod Takings
+pub mod Passing

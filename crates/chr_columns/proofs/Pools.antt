@@ -2,7 +2,7 @@
 use Rattle.std.proofs.Common.{◌≡◌, List, [], ◌++◌, map, length, drop, refl, arith, sym, ap, subst, ◌∙◌}
 use mathlib.Core.Bool.{true≢false}
 use Rattle.std.specs.Prelude.{Result, Ok, Err, IfOk, OnOk, OnErr, is_err, Bool, true, false, IsTrue, ◌↔◌}
-use Rattle.std.specs.Bool.{OnTrue, OnFalse}
+use Rattle.std.specs.Bool.{OnTrue}
 use Rattle.std.proofs.lemmas.Bool.{OnTrue_at}
 use Rattle.chr_base.specs.declared.atom.Atom.{Atom}
 use Rattle.chr_base.specs.declared.rule.Rule.{Rule}
@@ -14,7 +14,6 @@ use Rattle.chr_base.specs.Rules.{Step, StepOn, HasInstance, Valuation, heads_at,
 use Rattle.chr_base.specs.Sameness.{parts_of}
 use Rattle.chr_base.specs.Stores.{Store, store_of}
 use Rattle.chr_base.proofs.Stores.{same_store, count_plus, count_minus, within_more, plus_comm, plus_assoc, plus_empty, store_of-append}
-use Rattle.chr_base.proofs.SameSteps.{same_step}
 use Rattle.chr_base.proofs.Steps.{removed_heads, removed_within}
 use Rattle.chr_tables.specs.Contents.{Contents}
 use Rattle.chr_actives.specs.Grids.{contents}
@@ -75,16 +74,21 @@ leaves_later s gone came w = same_store _ _ (λ q. (
     omega (arith, a, b, c, d, e)))
 
 -- the body came in, and the removed heads left
-pub fired_in : (r : Rule) (heads gone body : List Atom) (s t u : Store) (b : Bool) → HasInstance r heads → IsWithin (store_of heads) s → gone ≡ drop (length r.kept.items) heads
-    → t ≡ s ⊕ store_of body → ((v : Valuation) → heads_at v r ≡ heads → body ≡ atoms_at v r.body.items)
-    → IsTrue b ↔ IsWithin (store_of gone) t → OnTrue b (u ≡ t ⊖ store_of gone) → StepOn r heads s u
-fired_in r heads gone body s t u b h w is came made there taken =
-    let v = h.0 in
-    let within : IsWithin (store_of gone) s = rw is (removed_within r heads s h w) in
-    let within' : IsWithin (store_of gone) t = rw came (within_more (store_of gone) s (store_of body) within) in
-    let removed : gone ≡ atoms_at v r.removed.items = is ∙ removed_heads r heads v h.1 in
-    let after = OnTrue_at (there.1 within') taken ∙ ap (λ x. x ⊖ store_of gone) came ∙ leaves_later s (store_of gone) (store_of body) within in
-    (v, h.1, record { guard = h.2; there = rw h.1 w; after = after ∙ (λ i. (s ⊖ store_of (removed i)) ⊕ store_of (made v h.1 i)) })
+module _ (r : Rule) (heads gone body : List Atom) (s t u : Store) (h : HasInstance r heads) (w : IsWithin (store_of heads) s) (is : gone ≡ drop (length r.kept.items) heads)
+    (came : t ≡ s ⊕ store_of body) where
+  within : IsWithin (store_of gone) s
+  within = rw is (removed_within r heads s h w)
+
+  pub fired_out : ((v : Valuation) → heads_at v r ≡ heads → body ≡ atoms_at v r.body.items) → u ≡ t ⊖ store_of gone → StepOn r heads s u
+  fired_out made left =
+      let v = h.0 in
+      let removed : gone ≡ atoms_at v r.removed.items = is ∙ removed_heads r heads v h.1 in
+      let after = left ∙ ap (λ x. x ⊖ store_of gone) came ∙ leaves_later s (store_of gone) (store_of body) within in
+      (v, h.1, record { guard = h.2; there = rw h.1 w; after = after ∙ (λ i. (s ⊖ store_of (removed i)) ⊕ store_of (made v h.1 i)) })
+
+  pub fired_in : (b : Bool) → ((v : Valuation) → heads_at v r ≡ heads → body ≡ atoms_at v r.body.items) → IsTrue b ↔ IsWithin (store_of gone) t → OnTrue b (u ≡ t ⊖ store_of gone)
+      → StepOn r heads s u
+  fired_in b made there taken = fired_out made (OnTrue_at (there.1 (rw came (within_more (store_of gone) s (store_of body) within))) taken)
 
 -- what joined those at rest, and what waits for other rules, has not fired
 pub joined_unfired : {E : Type 0} (o : Result Outcome E) → o ≡ Ok AtRest → o ≡ Ok Fired → ⊥

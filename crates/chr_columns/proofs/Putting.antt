@@ -1,6 +1,6 @@
 -- An atom that joins the tables.
 use Rattle.std.proofs.Common.{◌≡◌, ℕ, ◌<◌, List, [], ◌∷◌, ◌++◌, length, get_or, set, sym, ap, subst, ◌∙◌, arith, inl, inr}
-use Rattle.std.specs.Prelude.{Some, Result, Ok, Err, OnErr}
+use Rattle.std.specs.Prelude.{Some}
 use Rattle.std.proofs.Math.ListN.{get_or-map}
 use Rattle.std.proofs.lemmas.List.{length-map, length-set, get_or_default, set-get_or}
 use Rattle.chr_base.specs.declared.atom.Atom.{Atom}
@@ -51,7 +51,3 @@ pub set_same : (ts : List Contents) (t : ℕ) (x y : Contents) → t < length ts
 set_same ts t x y l here e f =
     let same : y ≡ x = (λ i. record { rows = e i; keys = f i }) in
     ap (set ts t) (same ∙ here ∙ get_or_default ts t x no_table l) ∙ set-get_or ts t no_table
-
-pub on_err : {A E : Type 0} (P : Type 0) (r : Result A E) → P → OnErr r P
-on_err P (Ok x) h = tt
-on_err P (Err e) h = h

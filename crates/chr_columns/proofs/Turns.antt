@@ -15,16 +15,16 @@ use Rattle.chr_base.proofs.FinBags.{count-of_list}
 use Rattle.chr_plans.specs.declared.plan.Lookup.{Lookup}
 use Rattle.chr_plans.specs.declared.plan.Partner.{Partner}
 use Rattle.chr_plans.specs.declared.rows.Seat.{Seat}
-use Rattle.chr_plans.specs.Plans.{IsPlan, IsKnown, AreKeys, AreTests, FitsTables, partners_of, places_of, columns_of}
+use Rattle.chr_plans.specs.Plans.{IsPlan, IsKnown, AreKeys, AreTests, AreLimits, FitsTables, partners_of, places_of, columns_of}
 use Rattle.chr_plans.specs.Rows.{MayHaveKey}
 use Rattle.chr_plans.specs.Seats.{head, seat, no_seat, atom_in, IsSeated, IsOther, NoPartners}
-use Rattle.chr_actives.specs.Grids.{contents, rows_in}
+use Rattle.chr_actives.specs.Grids.{contents, rows_in, SitIn}
 use Rattle.chr_actives.proofs.Rows.{seated, count_contents, rows_leave}
 use Rattle.chr_columns.specs.working.Finding.{only_table, only_index, plain, ArePlain, Lives}
 use Rattle.chr_columns.proofs.Stored.{row_stays}
 
 -- a row that is met by no columns
-lives_atom : (o : Option Atom) → IsTrue (is_some o) → (a : Atom) × (o ≡ Some a)
+pub lives_atom : (o : Option Atom) → IsTrue (is_some o) → (a : Atom) × (o ≡ Some a)
 lives_atom None h = absurd (cc)
 lives_atom (Some a) h = (a, refl)
 
@@ -36,7 +36,7 @@ met_by_none rows zero i (x ∷ key) (Some n) is e h = absurd (omega (arith, e))
 met_by_none rows zero i [] (Some n) is e h = let w = lives_atom (get_or rows n None) h in (w.0, w.1, refl)
 
 -- what lives is in the one table
-in_table : (rows : List (Option Atom)) (t n : ℕ) (a : Atom) → only_table rows t n ≡ Some a → t ≡ 0
+pub in_table : (rows : List (Option Atom)) (t n : ℕ) (a : Atom) → only_table rows t n ≡ Some a → t ≡ 0
 in_table rows zero n a e = refl
 in_table rows (suc t) n a e = absurd (let f : ◌≡◌ {A = Option Atom} None (Some a) = e in cc)
 
@@ -71,6 +71,9 @@ module _ (r : Rule) (ls : List Lookup) (are : ArePlain (length (heads_of r)) ls)
     tests = λ j l h same. (
         let e : (plain (j + 1)).partner ≡ l = sym (partner_is j h) ∙ get_or_default (partners_of ls) j (plain 0).partner l h ∙ same in
         subst (λ (k : Partner). AreTests r (places_of (partners_of ls)) 0 j k.tests.items) e tt);
+    limits = λ j l h same. (
+        let e : (plain (j + 1)).partner ≡ l = sym (partner_is j h) ∙ get_or_default (partners_of ls) j (plain 0).partner l h ∙ same in
+        subst (λ (k : Partner). AreLimits r (places_of (partners_of ls)) 0 j k.place k.limits.items) e tt);
   }
 
   pub plain_fits : (rows : List (Option Atom)) → FitsTables r ls (only_table rows) only_index
@@ -89,7 +92,7 @@ none_at (o ∷ rows) zero = refl
 none_at (o ∷ rows) (suc n) = none_at rows n
 
 -- the seat of a row, which is where a seat in the one table has to be
-abbrev at_row : ℕ → Seat
+abbrev pub at_row : ℕ → Seat
 at_row n = record { table = 0; row = n }
 
 module _ (rows : List (Option Atom)) (n : ℕ) where
@@ -141,12 +144,15 @@ module _ (rows : List (Option Atom)) (n : ℕ) (a : Atom) (r : Rule) (heads : Li
   all_apart (suc q) (suc k) l h same =
       is.apart (suc q) (suc k) (other q (omega (arith, l, h))) (other k h) (λ e. (absurd (omega (arith, e, l)))) (sym (other_seat q) ∙ same ∙ other_seat k)
 
-  pub seated_within : IsWithin (store_of heads) (contents (rows ∷ []))
-  seated_within = (rows_leave (rows ∷ []) heads all_seats (record {
+  pub seated_in : SitIn (rows ∷ []) heads all_seats
+  seated_in = record {
     as_many = (let m = heads_many in let k = length-set seats 0 (at_row n) in omega (arith, m, k, many));
     there = all_there;
     apart = all_apart;
-  })).0
+  }
+
+  pub seated_within : IsWithin (store_of heads) (contents (rows ∷ []))
+  seated_within = (rows_leave (rows ∷ []) heads all_seats seated_in).0
 
 -- where no row has partners in the others, the rule has no step
 module _ (rows : List (Option Atom)) (r : Rule) (some : 0 < length (heads_of r)) (none : (n : ℕ) (a : Atom) → get_or rows n None ≡ Some a → NoPartners r (only_table (set rows n None)) 0 a) where

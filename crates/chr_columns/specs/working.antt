@@ -6,3 +6,5 @@ pub mod Making
 pub mod Own
 pub mod Listing
 pub mod Finding
+pub mod Sitting
+pub mod Candidates

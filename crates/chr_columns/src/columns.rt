@@ -1,21 +1,21 @@
 //! The pool.
-ghost use Rattle.std.specs.Prelude.{◌≡◌, ◌↔◌, IfOk, IfSome, IfNone, IsTrue, Ok, OnOk, OnErr, false};
+ghost use Rattle.std.specs.Prelude.{◌≡◌, ◌↔◌, IfOk, IfSome, IfNone, IsTrue, Ok, OnOk, OnErr, false, length, drop};
 ghost use Rattle.std.specs.Bool.{OnTrue, OnFalse};
 ghost use Rattle.chr_base.specs.FinBag as bag;
 ghost use Rattle.chr_base.specs.FinBag.{◌⊕◌, ◌⊖◌, IsWithin};
 ghost use Rattle.chr_base.specs.Rewriting.{IsAtRest};
 ghost use Rattle.chr_base.specs.Rules.{HasInstance, HasNoStep, Step, StepOn};
 ghost use Rattle.chr_base.specs.Stores.{store_of};
+ghost use Rattle.chr_columns.specs.Rows.{AreApart};
 
 use crate::listing::bag_of;
 use crate::making::rested_for;
 use crate::own::{find_in, rests_in};
 use crate::rested::Rested;
+use crate::rows::Rows;
 use crate::stepping::step_in;
-use arrayvec::ArrayVec;
 use chr_base::atom::Atom;
 use chr_base::bag::Bag;
-use chr_base::limits::MAX_HEADS;
 use chr_base::lists::push_copies;
 use chr_base::rule::Rule;
 use std::alloc::{AllocError, Global};
@@ -87,11 +87,13 @@ impl Columns {
         bag_of(alloc, &self.rested.tables.tables, &self.fresh)
     }
 
-    /// The heads, in place order, of an instance of the rule that is there. None only where there is none. It takes no
-    /// memory.
-    pub fn find(&self, rule: &Rule) -> Option<ArrayVec<Atom, MAX_HEADS>>
-        ensures instance { IfSome result (λ heads. HasInstance rule.now heads.items) }
-        ensures there { IfSome result (λ heads. IsWithin (store_of heads.items) self.now) }
+    /// An instance of the rule that is there: its heads in place order, and the different rows of this pool in which
+    /// they sit. None only where there is none. It takes no memory.
+    pub fn find(&self, rule: &Rule) -> Option<Rows>
+        ensures instance { IfSome result (λ found. HasInstance rule.now found.heads.items) }
+        ensures there { IfSome result (λ found. IsWithin (store_of found.heads.items) self.now) }
+        ensures as_many { IfSome result (λ found. length found.rows.items ≡ length found.heads.items) }
+        ensures apart { IfSome result (λ found. AreApart found.rows.items) }
         ensures none { IfNone result (HasNoStep rule.now self.now) }
     {
         find_in(&self.rested, &self.fresh, rule)
@@ -107,6 +109,33 @@ impl Columns {
         push_copies(&mut self.fresh, &rule.body_of(heads))?;
         let (_, removed) = heads.split_at(rule.kept.len());
         self.rested.remove_all(&mut self.fresh, removed);
+        Ok(())
+    }
+
+    /// Takes out the atoms of the removed heads of an instance that is there, by their rows. They are different rows
+    /// under which the rule fires, as `find` gives them; where a change of the pool has put another atom into one of
+    /// them, or none, the head's atom is looked up. It takes no memory.
+    pub fn take_rows(&mut self, rule: &Rule, rows: &Rows)
+        requires instance { HasInstance rule.now rows.now.heads.items }
+        requires there { IsWithin (store_of rows.now.heads.items) self.old }
+        ensures { self.new ≡ self.old ⊖ store_of (drop (length rule.now.kept.items) rows.now.heads.items) }
+    {
+        let kept = rule.kept.len();
+        let (_, removed) = rows.heads.split_at(kept);
+        self.rested
+            .take_all(&mut self.fresh, removed, &rows.rows, kept);
+    }
+
+    /// One step by the instance in these rows, of which `take_rows` says what they are. Where memory is refused nothing
+    /// changes.
+    pub fn fire_rows(&mut self, rule: &Rule, rows: &Rows) -> Result<(), AllocError>
+        requires instance { HasInstance rule.now rows.now.heads.items }
+        requires there { IsWithin (store_of rows.now.heads.items) self.old }
+        ensures ok { OnOk result (StepOn rule.now rows.now.heads.items self.old self.new) }
+        ensures err { OnErr result (self.new ≡ self.old) }
+    {
+        push_copies(&mut self.fresh, &rule.body_of(&rows.heads))?;
+        self.take_rows(rule, rows);
         Ok(())
     }
 

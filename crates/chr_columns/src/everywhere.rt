@@ -5,6 +5,7 @@ ghost use Rattle.chr_columns.specs.working.Finding.{rows_but, only_table, only_i
 
 use crate::listing::atom_at;
 use chr_base::atom::Atom;
+use chr_plans::key::Span;
 use chr_plans::rows::Rows;
 use chr_tables::table::Table;
 
@@ -56,14 +57,21 @@ impl Rows for Everywhere<'_> {
 
     ghost tables = { λ s. 1 };
 
-    fn first(&mut self, _table: usize, _index: usize, key: &[i64]) -> Option<usize> {
+    fn first(&mut self, _table: usize, _index: usize, key: &[i64], _span: &Span) -> Option<usize> {
         if !key.is_empty() {
             return None;
         }
         self.below(self.rows)
     }
 
-    fn next(&mut self, _table: usize, _index: usize, _key: &[i64], row: usize) -> Option<usize> {
+    fn next(
+        &mut self,
+        _table: usize,
+        _index: usize,
+        _key: &[i64],
+        _span: &Span,
+        row: usize,
+    ) -> Option<usize> {
         self.below(row)
     }
 

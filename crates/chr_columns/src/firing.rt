@@ -1,11 +1,11 @@
 //! What an instance changes.
-ghost use Rattle.std.specs.Prelude.{◌≡◌, ℕ, ◌+◌, ◌<◌, ◌≤◌, List, [], ◌∷◌, Some, length, remove, slice_get, vec_len, vec_capacity};
+ghost use Rattle.std.specs.Prelude.{◌≡◌, ℕ, ◌+◌, ◌<◌, ◌≤◌, List, [], ◌∷◌, ◌++◌, Some, length, remove, slice_get, vec_len, vec_capacity};
 ghost use Rattle.chr_base.specs.declared.rule.Rule.{Rule as RuleValue};
 ghost use Rattle.chr_base.specs.declared.limits.TheConstants.{MAX_BODY, MAX_HEADS};
 ghost use Rattle.chr_base.specs.declared.atom.Atom.{Atom as AtomValue};
 ghost use Rattle.chr_base.specs.FinBag.{◌⊕◌};
 ghost use Rattle.chr_base.specs.Stores.{store_of};
-ghost use Rattle.chr_base.specs.Rules.{heads_of, heads_at, HasInstance, Valuation, Step};
+ghost use Rattle.chr_base.specs.Rules.{atoms_at, heads_of, heads_at, HasInstance, Valuation, Step};
 ghost use Rattle.chr_plans.specs.Seats.{seat, head, IsSeated};
 ghost use Rattle.chr_actives.specs.Actives.{one};
 ghost use Rattle.chr_actives.specs.Grids.{Grid, rows_in, SitIn};
@@ -53,6 +53,20 @@ fn kept_others(rule: &Rule, place: usize) -> usize
     if place < kept { kept - 1 } else { kept }
 }
 
+/// The body becomes fresh. Where there is none the heads aren't looked at.
+fn push_body(rule: &Rule, heads: &[Atom], fresh: &mut Vec<Atom>)
+    requires instance { HasInstance rule.now heads.now }
+    requires room { vec_len fresh.old + (MAX_BODY + 1) ≤ vec_capacity fresh.old }
+    ensures items { (v : Valuation) → heads_at v rule.now ≡ heads.now →
+        fresh.new.items ≡ fresh.old.items ++ atoms_at v rule.now.body.items }
+    ensures room { vec_len fresh.new < vec_capacity fresh.new }
+{
+    if rule.body.is_empty() {
+        return;
+    }
+    push_all(fresh, &rule.body_of(heads));
+}
+
 /// The body becomes fresh, and the active atom where it is kept.
 fn put_fresh(rule: &Rule, place: usize, heads: &[Atom], fresh: &mut Vec<Atom>)
     requires place { place < length (heads_of rule.now) }
@@ -61,7 +75,7 @@ fn put_fresh(rule: &Rule, place: usize, heads: &[Atom], fresh: &mut Vec<Atom>)
     ensures { (v : Valuation) → heads_at v rule.now ≡ heads.now →
         store_of fresh.new.items ≡ store_of fresh.old.items ⊕ coming rule.now place v }
 {
-    push_all(fresh, &rule.body_of(heads));
+    push_body(rule, heads, fresh);
     if place < rule.kept.len() {
         fresh.push_reserved(heads[place].copy());
     }

@@ -5,6 +5,7 @@
 //! in the rows by plans. Where it has some, the rule fires; where it has none, the atom joins the rows.
 #![tactic(auto)]
 
+mod candidates;
 pub mod columns;
 mod everywhere;
 mod firing;
@@ -15,8 +16,10 @@ mod making;
 mod own;
 mod removing;
 mod rested;
+pub mod rows;
 mod same;
 mod settle;
 mod stepping;
+mod taking;
 #[cfg(test)]
 mod tests;

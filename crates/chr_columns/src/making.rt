@@ -1,5 +1,6 @@
 //! Plans and indexes are made.
 ghost use Rattle.std.specs.Prelude.{◌≡◌, ℕ, ◌+◌, ◌<◌, List, [], map, length, slice_get, IfOk, OnOk, IfSome, IfNone, Some, None};
+ghost use Rattle.std.specs.Bool.{OnTrue, OnFalse};
 ghost use Rattle.chr_base.specs.declared.rule.Rule.{Rule as RuleValue};
 ghost use Rattle.chr_base.specs.FinBag.{empty};
 ghost use Rattle.chr_base.specs.Rules.{heads_of};
@@ -7,13 +8,14 @@ ghost use Rattle.chr_plans.specs.Plans.{IsPlan, pattern_at, partners_of, columns
 ghost use Rattle.chr_tables.specs.Contents.{rows_of};
 ghost use Rattle.chr_columns.specs.working.Groups.{table_of_pattern, IsGrouped, AreGrouped, AllGrouped};
 ghost use Rattle.chr_columns.specs.working.Resting.{stored, IsRested, AreIndexed, ArePlanned, HasPlan, HavePlans, AreCovered};
-ghost use Rattle.chr_columns.specs.working.Making.{lists_of, columns_in, StayIndexed, Grows, KeepPlans};
+ghost use Rattle.chr_columns.specs.working.Making.{way_of, ways_of, lists_of, columns_in, StayIndexed, Grows, KeepPlans};
 
 use crate::groups::{Group, groups_for, table_of};
 use crate::rested::Rested;
 use arrayvec::ArrayVec;
 use chr_base::limits::MAX_ARITY;
 use chr_base::rule::Rule;
+use chr_plans::key::first_column;
 use chr_plans::plan::{Lookup, Partner, Plan};
 use chr_plans::planning::plan_of;
 use chr_tables::table::Table;
@@ -26,36 +28,62 @@ const MAX_TABLES: usize = 0x8000_0000;
 #[cfg(test)]
 mod tests;
 
-/// The columns of each index of one table.
+/// An index that look-ups want: by these columns, and where there is an order by the values in that column as well.
 #[derive(Drop)]
-pub(crate) struct Keys {
-    pub(crate) columns: Vec<ArrayVec<usize, MAX_ARITY>>,
+pub(crate) struct Way {
+    pub(crate) columns: ArrayVec<usize, MAX_ARITY>,
+    pub(crate) order: Option<usize>,
 }
 
-/// The index by these columns in this order, where there is one.
-fn index_by(keys: &Keys, columns: &[usize]) -> Option<usize>
-    ensures found { IfSome result (λ i. slice_get (lists_of keys.now) i ≡ Some columns.now) }
-    ensures none { IfNone result ((i : ℕ) → ¬ (slice_get (lists_of keys.now) i ≡ Some columns.now)) }
+/// The indexes of one table.
+#[derive(Drop)]
+pub(crate) struct Keys {
+    pub(crate) ways: Vec<Way>,
+}
+
+/// Whether it is by these columns in this order, and by this order of values.
+fn is_by(way: &Way, columns: &[usize], order: Option<usize>) -> bool
+    ensures by { OnTrue result (way_of way.now ≡ (columns.now, order)) }
+    ensures other { OnFalse result (way_of way.now ≡ (columns.now, order) → ⊥) }
 {
-    for (i, others) in keys.columns.iter().enumerate() {
-        if others.as_slice() == columns {
+    if way.columns.as_slice() != columns {
+        return false;
+    }
+    match (way.order, order) {
+        (None, None) => true,
+        (Some(left), Some(right)) => left == right,
+        _ => false,
+    }
+}
+
+/// The index by these columns in this order and by this order of values, where there is one.
+fn index_by(keys: &Keys, columns: &[usize], order: Option<usize>) -> Option<usize>
+    ensures found { IfSome result (λ i. slice_get (ways_of keys.now) i ≡ Some (columns.now, order)) }
+    ensures none { IfNone result ((i : ℕ) → ¬ (slice_get (ways_of keys.now) i ≡ Some (columns.now, order))) }
+{
+    for (i, way) in keys.ways.iter().enumerate() {
+        if is_by(way, columns, order) {
             return Some(i);
         }
     }
     None
 }
 
-/// The index by these columns in this order, which is a new one only where there was none.
-fn index_for(keys: &mut Keys, columns: ArrayVec<usize, MAX_ARITY>) -> Result<usize, AllocError>
+/// The index by these columns in this order and by this order of values, which is a new one only where there was none.
+fn index_for(
+    keys: &mut Keys,
+    columns: ArrayVec<usize, MAX_ARITY>,
+    order: Option<usize>,
+) -> Result<usize, AllocError>
     ensures stay { StayIndexed (lists_of keys.old) (lists_of keys.new) }
-    ensures shared { (i : ℕ) → slice_get (lists_of keys.old) i ≡ Some columns.items → keys.new ≡ keys.old }
-    ensures index { IfOk result (λ i. slice_get (lists_of keys.new) i ≡ Some columns.items) }
+    ensures shared { (i : ℕ) → slice_get (ways_of keys.old) i ≡ Some (columns.items, order) → keys.new ≡ keys.old }
+    ensures index { IfOk result (λ i. slice_get (ways_of keys.new) i ≡ Some (columns.items, order)) }
 {
-    if let Some(index) = index_by(keys, &columns) {
+    if let Some(index) = index_by(keys, &columns, order) {
         return Ok(index);
     }
-    let index = keys.columns.len();
-    keys.columns.push(columns)?;
+    let index = keys.ways.len();
+    keys.ways.push(Way { columns, order })?;
     Ok(index)
 }
 
@@ -77,7 +105,8 @@ fn look_up(
 {
     let pattern = rule.head_at(partner.place);
     let table = table_of(groups, pattern.symbol, pattern.args.len());
-    let index = index_for(&mut keys[table], partner.columns())?;
+    let order = first_column(&partner.limits);
+    let index = index_for(&mut keys[table], partner.columns(), order)?;
     Ok(Lookup {
         partner: partner.copy(),
         table,
@@ -189,7 +218,7 @@ fn no_keys(alloc: Global, count: usize) -> Result<Vec<Keys>, AllocError>
     let mut keys = Vec::new(alloc);
     for _ in 0..count {
         keys.push(Keys {
-            columns: Vec::new(alloc),
+            ways: Vec::new(alloc),
         })?;
     }
     Ok(keys)
@@ -212,8 +241,8 @@ fn table_for(alloc: Global, keys: &Keys) -> Result<Table, AllocError>
     ensures keys { IfOk result (λ t. t.keys ≡ lists_of keys.now) }
 {
     let mut table = Table::new(alloc);
-    for columns in &keys.columns {
-        table.add_index(alloc, copy_of(columns))?;
+    for way in &keys.ways {
+        table.add_index(alloc, copy_of(&way.columns), way.order)?;
     }
     Ok(table)
 }

@@ -7,12 +7,12 @@ ghost use Rattle.chr_base.specs.Rules.{HasInstance, HasNoStep, Step};
 ghost use Rattle.chr_base.specs.Stores.{store_of};
 ghost use Rattle.chr_columns.specs.working.Resting.{stored, IsRested};
 ghost use Rattle.chr_columns.specs.working.Own.{IsOwn};
+ghost use Rattle.chr_columns.specs.working.Sitting.{SitAmong};
 
 use crate::instances::find_among;
 use crate::rested::Rested;
-use arrayvec::ArrayVec;
+use crate::rows::Rows;
 use chr_base::atom::Atom;
-use chr_base::limits::MAX_HEADS;
 use chr_base::rule::Rule;
 
 /// Whether one of the rules says the same as this one.
@@ -27,17 +27,15 @@ fn is_own(rules: &[Rule], rule: &Rule) -> bool
     false
 }
 
-/// The heads of an instance of the rule, where there is one. Where no atom is fresh and the rule is one of those under
-/// which the others rest, there is none.
-pub(crate) fn find_in(
-    rested: &Rested,
-    fresh: &[Atom],
-    rule: &Rule,
-) -> Option<ArrayVec<Atom, MAX_HEADS>>
+/// An instance of the rule, where there is one, and the different rows in which its heads sit. Where no atom is fresh
+/// and the rule is one of those under which the others rest, there is none.
+pub(crate) fn find_in(rested: &Rested, fresh: &[Atom], rule: &Rule) -> Option<Rows>
     requires { IsRested rested.now }
-    ensures instance { IfSome result (λ heads. HasInstance rule.now heads.items) }
-    ensures there { IfSome result (λ heads.
-        IsWithin (store_of heads.items) (stored rested.now ⊕ store_of fresh.now)) }
+    ensures instance { IfSome result (λ found. HasInstance rule.now found.heads.items) }
+    ensures there { IfSome result (λ found.
+        IsWithin (store_of found.heads.items) (stored rested.now ⊕ store_of fresh.now)) }
+    ensures sit { IfSome result (λ found.
+        SitAmong rested.now.tables.tables.items fresh.now found.heads.items found.rows.items) }
     ensures none { IfNone result (HasNoStep rule.now (stored rested.now ⊕ store_of fresh.now)) }
 {
     if fresh.is_empty() && is_own(&rested.rules, rule) {

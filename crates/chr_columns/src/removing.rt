@@ -1,10 +1,12 @@
 //! Atoms are counted and taken out.
-ghost use Rattle.std.specs.Prelude.{◌≡◌, ◌+◌, ◌<◌, ◌≤◌, ◌^◌, ◌↔◌, ◌∷◌, [], length, get_or, Some, None, IsTrue, IfSome, IfNone};
+ghost use Rattle.std.specs.Prelude.{◌≡◌, ◌+◌, ◌<◌, ◌≤◌, ◌^◌, ◌↔◌, ◌∷◌, [], length, get_or, Some, None, IsTrue, is_some, IfSome, IfNone};
 ghost use Rattle.std.specs.Bool.{OnTrue, OnFalse};
 ghost use Rattle.chr_base.specs.declared.atom.Atom.{Atom as AtomValue};
 ghost use Rattle.chr_base.specs.Atoms.{atom_cmp};
 ghost use Rattle.chr_base.specs.FinBag.{◌⊕◌, ◌⊖◌, IsWithin, count_in};
 ghost use Rattle.chr_base.specs.Stores.{store_of, count};
+ghost use Rattle.chr_plans.specs.Seats.{atom_in};
+ghost use Rattle.chr_tables.specs.Contents.{rows_of};
 ghost use Rattle.chr_actives.specs.Actives.{one};
 ghost use Rattle.chr_actives.specs.Grids.{live_atoms};
 ghost use Rattle.chr_columns.specs.working.Groups.{table_of_atom};
@@ -65,6 +67,18 @@ impl Rested {
         count_rows(&self.tables.tables[self.table_for(atom)], atom)
     }
 
+    /// A live row dies.
+    pub(crate) fn kill_one(&mut self, seat: Seat)
+        requires rested { IsRested self.old }
+        requires lives { IsTrue (is_some (atom_in (rows_of self.old.tables.tables.items) seat)) }
+        ensures rested { IsRested self.new }
+        ensures rules { self.new.rules ≡ self.old.rules }
+        ensures taken { (a : AtomValue) → atom_in (rows_of self.old.tables.tables.items) seat ≡ Some a →
+            stored self.new ⊕ one a ≡ stored self.old }
+    {
+        kill_all(&mut self.tables, &[seat]);
+    }
+
     /// Takes one such atom out; false, and nothing changes, where there is none.
     fn remove_one(&mut self, atom: &Atom) -> bool
         requires { IsRested self.old }
@@ -78,7 +92,7 @@ impl Rested {
         let Some(row) = row_of(&self.tables.tables[table], atom) else {
             return false;
         };
-        kill_all(&mut self.tables, &[Seat { table, row }]);
+        self.kill_one(Seat { table, row });
         true
     }
 
@@ -98,7 +112,7 @@ impl Rested {
     }
 
     /// Takes one such atom out, at rest or fresh, where there is one.
-    fn take_one(&mut self, fresh: &mut Vec<Atom>, atom: &Atom)
+    pub(crate) fn take_one(&mut self, fresh: &mut Vec<Atom>, atom: &Atom)
         requires { IsRested self.old }
         ensures rested { IsRested self.new }
         ensures rules { self.new.rules ≡ self.old.rules }

@@ -11,9 +11,8 @@ use Rattle.std.proofs.lemmas.List.Sorted.{IsPermutation-swap_remove, sum_by_popp
 use Rattle.chr_base.specs.declared.atom.Atom.{Atom}
 use Rattle.chr_base.specs.Atoms.{atom_cmp}
 use Rattle.chr_base.proofs.Atoms.{atom_total, atom_exact}
-use Rattle.chr_base.specs.FinBag as bag
 use Rattle.chr_base.proofs.FinBags as bag_laws
-use Rattle.chr_base.specs.FinBag.{count_in, total, IsWithin, ◌⊖◌}
+use Rattle.chr_base.specs.FinBag.{count_in, IsWithin, ◌⊖◌}
 use Rattle.chr_base.proofs.FinBags.{total_is, total-append, within_lists, lists_within, of_list_less}
 use Rattle.chr_base.proofs.ListEdits.{count_in_more}
 use Rattle.chr_base.specs.Stores.{store_of, count}

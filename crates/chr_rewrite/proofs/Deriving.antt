@@ -4,7 +4,7 @@ use mathlib.Core.Bool.{true≢false}
 use Rattle.std.specs.Bool.{OnTrue, OnFalse}
 use Rattle.std.proofs.Common.{refl, sym, ap, subst, ◌∙◌, arith, ◌≤◌, ◌⊎◌, inl, inr}
 use Rattle.std.proofs.lemmas.Bool.{OnTrue_at, OnFalse_at, cases_lt}
-use Rattle.std.proofs.lemmas.List.{take_more, take-append-drop, get_or_default}
+use Rattle.std.proofs.lemmas.List.{take_more, get_or_default}
 use Rattle.std.proofs.lemmas.Option.{slice_get_read, get_or_from_slice_get}
 use Rattle.chr_base.specs.declared.atom.Atom.{Atom}
 use Rattle.chr_base.specs.declared.rule.Rule.{Rule}
@@ -14,8 +14,8 @@ use Rattle.chr_base.specs.Atoms.{atom_cmp}
 use Rattle.chr_base.specs.FinBag as bag
 use Rattle.chr_base.proofs.FinBags as bag_laws
 use Rattle.chr_base.specs.FinBag.{IsWithin, ◌⊕◌, ◌⊖◌}
-use Rattle.chr_base.specs.Stores.{Store, store_of, count}
-use Rattle.chr_base.proofs.Stores.{store_of-append, store_of-items, same_store, count_plus, count_minus}
+use Rattle.chr_base.specs.Stores.{Store, store_of}
+use Rattle.chr_base.proofs.Stores.{store_of-items}
 use Rattle.chr_base.specs.Rules.{Step, HasInstance, Valuation, heads_at, atoms_at, StepOn, HasNoStep}
 use Rattle.chr_base.specs.Programs.{rules_of}
 use Rattle.chr_base.specs.Rewriting.{IsAtRest}
@@ -89,32 +89,19 @@ LeadsTo-lowers p rules st s t lowers same h = one_lowers p rules s t lowers same
 pub took_step : (rules : List Rule) (st : StepValue) (s t : Store) (r : Rule) → IsLeastStep rules s st → r ≡ get_or rules (st.rule - 1) r → StepOn r st.heads.items s t → LeadsTo rules st s t
 took_step rules st s t r h is step = (h.at, subst (λ q. StepOn q st.heads.items s t) (rule_there rules s st r h.at is) step)
 
--- all heads taken out and the kept ones put back: the removed ones are gone
-kept_again : (s : Store) (xs ys : List Atom) → IsWithin (store_of (xs ++ ys)) s → (s ⊖ store_of (xs ++ ys)) ⊕ store_of xs ≡ s ⊖ store_of ys
-kept_again s xs ys w =
-    same_store _ _ (λ q. (let a = ap (λ z. count z q) (store_of-append xs ys) in let b = count_plus (store_of xs) (store_of ys) q in let h = w q in simp (count_plus, count_minus) (omega (arith, a, b, h))))
-
--- the heads were taken out, the kept ones put back and the body put in
-pub took_there : (rules : List Rule) (st : StepValue) (r : Rule) (s t u z : Store) (kept body : List Atom) → (st.rule ≡ 0 → ⊥) → st.rule - 1 < length rules → r ≡ get_or rules (st.rule - 1) r
-    → HasInstance r st.heads.items → IsWithin (store_of st.heads.items) s → t ≡ s ⊖ store_of st.heads.items → kept ≡ take (length r.kept.items) st.heads.items → u ≡ t ⊕ store_of kept
-    → ((v : Valuation) → heads_at v r ≡ st.heads.items → body ≡ atoms_at v r.body.items) → z ≡ u ⊕ store_of body → LeadsTo rules st s z
-took_there rules st r s t u z kept body some l is h w out e back made came =
-    let n = length r.kept.items in
-    let heads = st.heads.items in
-    let parts : take n heads ++ drop n heads ≡ heads = take-append-drop n heads in
-    let kept_back : (s ⊖ store_of heads) ⊕ store_of (take n heads) ≡ s ⊖ store_of (drop n heads) =
-    subst (λ xs. (s ⊖ store_of xs) ⊕ store_of (take n heads) ≡ s ⊖ store_of (drop n heads)) parts (kept_again s (take n heads) (drop n heads) (subst (λ xs. IsWithin (store_of xs) s) (sym parts) w)) in
-    let left : u ≡ s ⊖ store_of (atoms_at h.0 r.removed.items) =
-    back ∙ (λ i. out i ⊕ store_of (e i)) ∙ kept_back ∙ ap (λ xs. s ⊖ store_of xs) (removed_heads r heads h.0 h.1) in (
-      record {
-        rule = r;
-        numbered = omega (arith, some);
-        named = slice_get_read rules (length rules) (st.rule - 1) r refl l is;
-        instance = h;
-        there = w;
-      },
-      (h.0, h.1, record { guard = h.2; there = rw h.1 w; after = came ∙ (λ i. left i ⊕ store_of (made h.0 h.1 i)) }),
-    )
+-- the step was taken by the rule that it names
+pub took_there : (rules : List Rule) (st : StepValue) (r : Rule) (s t : Store) → (st.rule ≡ 0 → ⊥) → st.rule - 1 < length rules → r ≡ get_or rules (st.rule - 1) r
+    → HasInstance r st.heads.items → IsWithin (store_of st.heads.items) s → StepOn r st.heads.items s t → LeadsTo rules st s t
+took_there rules st r s t some l is h w step = (
+  record {
+    rule = r;
+    numbered = omega (arith, some);
+    named = slice_get_read rules (length rules) (st.rule - 1) r refl l is;
+    instance = h;
+    there = w;
+  },
+  step,
+)
 
 -- the step at a place was taken
 pub IsDerivation-next : (rules rules' : List Rule) (steps : List StepValue) (i : ℕ) (st : StepValue) (s t u : Store) (b : Bool) → rules' ≡ rules → i < length steps → st ≡ get_or steps i st → IsDerivation rules (take i steps) s t

@@ -7,3 +7,4 @@ pub mod Stepping
 pub mod StepCounts
 pub mod Earliest
 pub mod Deriving
+pub mod PlainThere

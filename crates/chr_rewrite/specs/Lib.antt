@@ -1,3 +1,4 @@
 pub mod Pools
 pub mod Derivations
+pub mod Laws
 pub mod working

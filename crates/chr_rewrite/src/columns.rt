@@ -12,7 +12,8 @@ impl Pool for Columns {
     ghost contents = { λ s. s };
 
     fn find(&self, rule: &Rule) -> Option<ArrayVec<Atom, MAX_HEADS>> {
-        Columns::find(self, rule)
+        let found = Columns::find(self, rule)?;
+        Some(found.heads)
     }
 
     fn fire(&mut self, rule: &Rule, heads: &[Atom]) -> Result<(), AllocError> {

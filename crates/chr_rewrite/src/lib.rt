@@ -4,6 +4,7 @@
 mod choose;
 mod columns;
 mod edits;
+pub mod laws;
 pub mod list;
 pub mod plain;
 pub mod pool;

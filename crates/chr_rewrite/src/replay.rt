@@ -1,20 +1,23 @@
-//! Replaying a derivation.
-ghost use Rattle.std.specs.Prelude.{◌≡◌, ℕ, IfOk, Err, IfSome};
+//! Taking steps that are given, and replaying a derivation.
+ghost use Rattle.std.specs.Prelude.{◌≡◌, ℕ, IfOk, Err, OnOk, OnErr};
 ghost use Rattle.std.specs.Bool.{OnTrue, OnFalse};
 ghost use Rattle.chr_base.specs.Stores.{Store};
+ghost use Rattle.chr_base.specs.Rules.{Step as RuleStep};
 ghost use Rattle.chr_base.specs.Programs.{rules_of};
+ghost use Rattle.chr_base.specs.Rewriting.{Reaches};
 ghost use Rattle.chr_weights.specs.WeighedPrograms.{program_of};
 ghost use Rattle.chr_rewrite.specs.Derivations.{IsApplicable, LeadsTo, IsDerivation, IsFirstInapplicable};
 ghost use Rattle.chr_rewrite.specs.declared.replay.ReplayFault.TheVariants.{NotThere as IsNotThere};
 
-use crate::plain::add_all;
+use crate::list::ListPool;
+use crate::pool::Pool;
 use chr_base::bag::Bag;
 use chr_base::derivation::{Derivation, Step};
 use chr_base::rule::Rule;
 use chr_weights::Weighed;
 use std::alloc::{AllocError, Global};
 
-/// Why a derivation does not replay.
+/// Why steps were not taken one after the other.
 #[derive(Clone, Copy, Debug, PartialEq, Eq)]
 pub enum ReplayFault {
     /// The step at this place, counted from 0, is the first that is no instance at its store.
@@ -33,10 +36,13 @@ impl From<AllocError> for ReplayFault {
     }
 }
 
-/// Takes the step, where it is an instance at the bag. Else, or where memory is refused, the bag is lost.
-fn take(alloc: Global, rules: &[Rule], step: &Step, bag: &mut Bag) -> Result<bool, AllocError>
-    ensures taken { IfOk result (λ taken. OnTrue taken (LeadsTo rules.now step.now bag.old bag.new)) }
-    ensures none { IfOk result (λ taken. OnFalse taken (¬ IsApplicable rules.now bag.old step.now)) }
+/// Takes the step, where it is an instance in the pool. Where it is none, or where memory is refused, nothing changes.
+pub fn take_step<P: Pool>(rules: &[Rule], pool: &mut P, step: &Step) -> Result<bool, AllocError>
+    ensures taken { IfOk result (λ taken.
+        OnTrue taken (LeadsTo rules.now step.now (P.contents pool.old) (P.contents pool.new))) }
+    ensures none { IfOk result (λ taken. OnFalse taken (¬ IsApplicable rules.now (P.contents pool.old) step.now)) }
+    ensures same { IfOk result (λ taken. OnFalse taken (P.contents pool.new ≡ P.contents pool.old)) }
+    ensures err { OnErr result (P.contents pool.new ≡ P.contents pool.old) }
 {
     if step.rule == 0 {
         return Ok(false);
@@ -44,13 +50,34 @@ fn take(alloc: Global, rules: &[Rule], step: &Step, bag: &mut Bag) -> Result<boo
     let Some(rule) = rules.get(step.rule as usize - 1) else {
         return Ok(false);
     };
-    if !rule.fires(&step.heads) || !bag.remove_all(&step.heads) {
+    if !rule.fires(&step.heads) || !pool.has(&step.heads) {
         return Ok(false);
     }
-    let (kept, _) = step.heads.split_at(rule.kept.len());
-    add_all(alloc, bag, kept)?;
-    add_all(alloc, bag, &rule.body_of(&step.heads))?;
+    pool.fire(rule, &step.heads)?;
     Ok(true)
+}
+
+/// Takes these steps of the program, one after the other. It ends at the first that is no instance in the pool then, or
+/// for which memory is refused; the steps before it stand.
+pub fn take_steps<P: Pool>(
+    weighed: &Weighed,
+    pool: &mut P,
+    steps: &[Step],
+) -> Result<(), ReplayFault>
+    ensures ok { OnOk result (
+        IsDerivation (rules_of (program_of weighed.now)) steps.now (P.contents pool.old) (P.contents pool.new)) }
+    ensures not_there { (n : ℕ) → result ≡ Err (IsNotThere n) →
+        IsFirstInapplicable (rules_of (program_of weighed.now)) steps.now (P.contents pool.old) n }
+    ensures reached { Reaches (RuleStep (rules_of (program_of weighed.now)))
+        (P.contents pool.old) (P.contents pool.new) }
+{
+    let rules = weighed.program().rules();
+    for (i, step) in steps.iter().enumerate() {
+        if !take_step(rules, pool, step)? {
+            return Err(ReplayFault::NotThere(i));
+        }
+    }
+    Ok(())
 }
 
 /// The end of the derivation, where each of its steps is an instance of its rule that is in the store before it.
@@ -62,12 +89,8 @@ pub fn replay(alloc: Global, weighed: &Weighed, derivation: &Derivation) -> Resu
     ensures no_end { (n : ℕ) → result ≡ Err (IsNotThere n) → (t : Store) →
         ¬ IsDerivation (rules_of (program_of weighed.now)) derivation.now.steps.items derivation.now.start t }
 {
-    let rules = weighed.program().rules();
-    let mut now = derivation.start.copy(alloc)?;
-    for (i, step) in derivation.steps.iter().enumerate() {
-        if !take(alloc, rules, step, &mut now)? {
-            return Err(ReplayFault::NotThere(i));
-        }
-    }
-    Ok(now)
+    let mut pool = ListPool::new(alloc);
+    pool.insert(derivation.start.atoms())?;
+    take_steps(weighed, &mut pool, &derivation.steps)?;
+    Ok(pool.bag(alloc)?)
 }

@@ -237,10 +237,10 @@ fn columns(rt: HostRuntime) -> Result<(), Fail> {
     assert!(rt; pool.bag(alloc)?.atoms() == [atom(0), atom(5)].as_slice());
     assert!(rt; !pool.step(&others)?);
     assert!(rt; pool.find(&others[0]).is_none());
-    let Some(heads) = pool.find(&own[0]) else {
+    let Some(found) = pool.find(&own[0]) else {
         panic!(rt; "nothing found");
     };
-    pool.fire(&own[0], &heads)?;
+    pool.fire_rows(&own[0], &found)?;
     assert!(rt; !pool.step(&own)?);
     pool.insert(&[atom(4)])?;
     assert!(rt; pool.step(&own)?);

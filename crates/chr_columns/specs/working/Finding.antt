@@ -28,7 +28,12 @@ Lives rows n = IsTrue (is_some (get_or rows n None))
 -- the look-up of a partner of which no argument is known
 abbrev pub plain : ℕ → Lookup
 plain place = record {
-  partner = record { place = place; key = record { items = [] }; tests = record { items = [] } };
+  partner = record {
+    place = place;
+    key = record { items = [] };
+    tests = record { items = [] };
+    limits = record { items = [] };
+  };
   table = 0;
   index = 0;
 }

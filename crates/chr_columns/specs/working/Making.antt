@@ -1,14 +1,22 @@
 -- The columns of indexes and the plans, as they are collected.
-use Rattle.std.specs.Prelude.{◌≡◌, ℕ, List, [], map, get_or, slice_get, Some}
+use Rattle.std.specs.Prelude.{◌≡◌, ℕ, List, [], map, get_or, slice_get, Option, Some}
 use Rattle.chr_plans.specs.Rows.{Columns}
 use Rattle.chr_columns.specs.declared.groups.Group.{Group}
 use Rattle.chr_columns.specs.declared.making.Keys.{Keys}
+use Rattle.chr_columns.specs.declared.making.Way.{Way}
 use Rattle.chr_columns.specs.working.Groups.{shapes_of}
 use Rattle.chr_columns.specs.working.Resting.{HasPlan}
 
+-- the columns of an index, and the one by whose order of values it finds rows
+abbrev pub way_of : Way → List ℕ × Option ℕ
+way_of w = (w.columns.items, w.order)
+
+abbrev pub ways_of : Keys → List (List ℕ × Option ℕ)
+ways_of k = map way_of k.ways.items
+
 -- the columns of the indexes of a table
 abbrev pub lists_of : Keys → List (List ℕ)
-lists_of k = map (λ c. c.items) k.columns.items
+lists_of k = map (λ w. w.0) (ways_of k)
 
 -- the columns of an index of a table, where there is such an index
 abbrev pub columns_in : List Keys → Columns

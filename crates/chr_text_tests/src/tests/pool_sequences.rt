@@ -5,9 +5,11 @@ use crate::tests::resting::add_atoms;
 use crate::tests::steps::{after_step, steps};
 use crate::tests::texts::weighed_of;
 use crate::tests::two_pools::{is_at_rest, random_store, values_of_rules};
+use chr_base::atom::Atom;
 use chr_base::bag::Bag;
 use chr_base::rule::Rule;
 use chr_columns::columns::Columns;
+use chr_columns::rows::{Row, Rows};
 use chr_rewrite::list::ListPool;
 use chr_rewrite::pool::Pool;
 use chr_rewrite::resting::rest;
@@ -31,6 +33,8 @@ struct Tally {
     there: usize,
     removed: usize,
     fired: usize,
+    taken: usize,
+    moved: usize,
     steps: usize,
     rests: usize,
 }
@@ -40,6 +44,8 @@ impl Tally {
         self.there = self.there.saturating_add(other.there);
         self.removed = self.removed.saturating_add(other.removed);
         self.fired = self.fired.saturating_add(other.fired);
+        self.taken = self.taken.saturating_add(other.taken);
+        self.moved = self.moved.saturating_add(other.moved);
         self.steps = self.steps.saturating_add(other.steps);
         self.rests = self.rests.saturating_add(other.rests);
     }
@@ -81,6 +87,18 @@ fn some_atoms(
         add_atoms(&mut some, random, values)?;
     }
     Ok(some)
+}
+
+/// Whether no row stands there twice.
+fn are_apart(rows: &[Row]) -> bool {
+    for (i, row) in rows.iter().enumerate() {
+        for (k, other) in rows.iter().enumerate() {
+            if k < i && row == other {
+                return false;
+            }
+        }
+    }
+    true
 }
 
 /// Whether some step leads from the one store to the other.
@@ -132,22 +150,81 @@ impl Beside {
         Ok(())
     }
 
-    /// Finds an instance where a plain list has one, and fires it.
-    fn fire(&mut self, alloc: Global, rule: &Rule) -> Result<(), Fail> {
-        let mut list = list_of(alloc, &self.bag)?;
-        let Some(heads) = self.columns.find(rule) else {
-            if list.find(rule).is_some() {
+    /// An instance, where a plain list has one, in different rows. Then at times other atoms move to other rows.
+    fn find(
+        &mut self,
+        alloc: Global,
+        random: &mut Random,
+        rule: &Rule,
+    ) -> Result<Option<Rows>, Fail> {
+        let Some(found) = self.columns.find(rule) else {
+            if list_of(alloc, &self.bag)?.find(rule).is_some() {
                 Err("nothing found")?;
             }
+            return Ok(None);
+        };
+        if found.rows.len() != found.heads.len() || !are_apart(&found.rows) {
+            Err("not a row for each head")?;
+        }
+        if random.below(4) == 0 {
+            self.remove_others(alloc, random, &found.heads)?;
+        }
+        Ok(Some(found))
+    }
+
+    /// Finds an instance and fires it, by its heads or by its rows.
+    fn fire(&mut self, alloc: Global, random: &mut Random, rule: &Rule) -> Result<(), Fail> {
+        let Some(found) = self.find(alloc, random, rule)? else {
             return Ok(());
         };
-        if !rule.fires(&heads) || !list.has(&heads) {
+        let mut list = list_of(alloc, &self.bag)?;
+        if !rule.fires(&found.heads) || !list.has(&found.heads) || !self.columns.has(&found.heads) {
             Err("no instance, or not there")?;
         }
-        self.columns.fire(rule, &heads)?;
-        list.fire(rule, &heads)?;
+        if random.below(3) == 0 {
+            self.columns.fire(rule, &found.heads)?;
+        } else {
+            self.columns.fire_rows(rule, &found)?;
+        }
+        list.fire(rule, &found.heads)?;
         self.bag = list.bag(alloc)?;
         count(&mut self.tally.fired, true);
+        Ok(())
+    }
+
+    /// Finds an instance and takes its removed heads out, by their rows.
+    fn take(&mut self, alloc: Global, random: &mut Random, rule: &Rule) -> Result<(), Fail> {
+        let Some(found) = self.find(alloc, random, rule)? else {
+            return Ok(());
+        };
+        if !rule.fires(&found.heads) || !self.columns.has(&found.heads) {
+            Err("no instance, or not there")?;
+        }
+        self.columns.take_rows(rule, &found);
+        for place in rule.kept.len()..found.heads.len() {
+            if !self.bag.remove_all(&[found.heads[place].copy()]) {
+                Err("not there")?;
+            }
+        }
+        count(&mut self.tally.taken, true);
+        Ok(())
+    }
+
+    /// Takes out some atoms beside these.
+    fn remove_others(
+        &mut self,
+        alloc: Global,
+        random: &mut Random,
+        heads: &[Atom],
+    ) -> Result<(), Fail> {
+        let mut others = self.bag.copy(alloc)?;
+        others.remove_all(heads);
+        let some = some_atoms(alloc, random, &others, &self.values)?;
+        if others.remove_all(some.atoms()) {
+            self.columns.remove(some.atoms());
+            self.bag.remove_all(some.atoms());
+            count(&mut self.tally.moved, !some.is_empty());
+        }
         Ok(())
     }
 
@@ -178,19 +255,32 @@ impl Beside {
         Ok(())
     }
 
+    /// An instance of a rule at random is fired, or taken.
+    fn use_a_rule(
+        &mut self,
+        alloc: Global,
+        random: &mut Random,
+        rules: &[Rule],
+    ) -> Result<(), Fail> {
+        let Some(rule) = rules.get(random.below(rules.len().max(1))) else {
+            return Ok(());
+        };
+        if random.below(2) == 0 {
+            self.fire(alloc, random, rule)
+        } else {
+            self.take(alloc, random, rule)
+        }
+    }
+
     /// A call at random, after which the bags are compared.
     fn call(&mut self, alloc: Global, random: &mut Random, weighed: &Weighed) -> Result<(), Fail> {
         let rules = weighed.program().rules();
-        match random.below(8) {
+        match random.below(9) {
             _ if self.bag.len() > MAX_ATOMS => self.rest(alloc, weighed)?,
             0 | 1 => self.insert(alloc, random, rules)?,
             2 => self.has(alloc, random)?,
             3 => self.remove(alloc, random)?,
-            4 => {
-                if let Some(rule) = rules.get(random.below(rules.len().max(1))) {
-                    self.fire(alloc, rule)?;
-                }
-            }
+            4 | 5 => self.use_a_rule(alloc, random, rules)?,
             _ => self.step(alloc, rules)?,
         }
         if !self.columns.bag(alloc)?.is_same(&self.bag) {
@@ -241,7 +331,11 @@ fn calls_at_random(rt: HostRuntime) -> Result<(), Fail> {
     }
     assert!(rt; all.there >= 200 && all.removed >= 200, "{all:?}");
     assert!(rt;
-        all.fired >= 40 && all.steps >= 150 && all.rests >= 200,
+        all.fired >= 40
+            && all.taken >= 40
+            && all.moved >= 10
+            && all.steps >= 150
+            && all.rests >= 200,
         "{all:?}"
     );
     Ok(())

@@ -7,7 +7,7 @@ use Rattle.chr_columns.proofs.own.rests_in.Goals as goal
 
 pub returns-then-is_some : goal.returns-then-is_some
 returns-then-is_some c =
-    found_step (λ v. v.items) c.args.rules.now c.loop-rule.rule-index c.rule-item.result c.find_in.result _ c.loop-rule-test.true c.rule-item.is
+    found_step (λ v. v.heads.items) c.args.rules.now c.loop-rule.rule-index c.rule-item.result c.find_in.result _ c.loop-rule-test.true c.rule-item.is
     c.find_in.ensures.instance c.find_in.ensures.there (sym c.is_some.ensures ∙ c.if-is_some.true)
 
 pub returns : goal.returns

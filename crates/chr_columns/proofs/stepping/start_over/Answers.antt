@@ -1,6 +1,4 @@
-use Rattle.std.proofs.Common.{ap, ◌∙◌, ◌++◌}
 use Rattle.chr_columns.specs.working.Resting.{stored}
-use Rattle.chr_columns.specs.working.Listing.{live_in}
 use Rattle.chr_columns.proofs.Pools.{all_fresh}
 use Rattle.chr_columns.proofs.stepping.start_over.Goals as goal
 

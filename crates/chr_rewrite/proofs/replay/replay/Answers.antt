@@ -1,25 +1,21 @@
-use Rattle.std.proofs.Common.{ap, ◌∙◌, ◌≡◌, subst}
+use Rattle.std.proofs.Common.{Err, ap, sym}
 use Rattle.chr_base.specs.Programs.{rules_of}
 use Rattle.chr_weights.specs.WeighedPrograms.{program_of}
-use Rattle.chr_rewrite.specs.Derivations.{IsFirstInapplicable}
 use Rattle.chr_rewrite.proofs.DerivationLemmas.{stops_endless}
-use Rattle.chr_rewrite.proofs.Deriving.{IsDerivation-next, stops_here}
+use Rattle.chr_rewrite.proofs.PoolLemmas.{pool_of_atoms}
 use Rattle.chr_rewrite.proofs.replay.replay.Goals as goal
 
-pub loop-i-preserved : goal.loop-i-preserved
-loop-i-preserved c =
-    IsDerivation-next (rules_of (program_of c.args.weighed.now)) c.rules-rules.result.now c.args.derivation.now.steps.items c.loop-i.i c.step-item.result c.args.derivation.now.start c.loop-i.now c.take.new.bag c.in_ok-take.field-0 (c.rules-rules.ensures ∙ ap rules_of c.program.ensures)
-    (rw c.deref-step-items.ensures.value at c.loop-i-test.true) (rw c.deref-step-items.ensures.value at c.step-item.is) c.loop-i.invariant c.if-not-branch.false c.in_ok-take.ensures.taken
+pub returns-clause-ok : goal.returns-clause-ok
+returns-clause-ok c =
+    let start = pool_of_atoms _ _ c.args.derivation.now.start _ c.new-pool.ensures c.atoms.ensures c.in_ok-insert.ensures.ok in
+    rw (c.in_ok-bag.ensures, ← start, ← c.deref.ensures.value) c.in_ok-take_steps.ensures.ok
 
-stops : (c : goal.After-drop-now-inside-then-not-branch) → IsFirstInapplicable (rules_of (program_of c.args.weighed.now)) c.args.derivation.now.steps.items c.args.derivation.now.start c.loop-i.i
-stops c =
-    stops_here (rules_of (program_of c.args.weighed.now)) c.rules-rules.result.now c.args.derivation.now.steps.items c.loop-i.i c.step-item.result c.args.derivation.now.start c.loop-i.now c.in_ok-take.field-0 (c.rules-rules.ensures ∙ ap rules_of c.program.ensures)
-    (rw c.deref-step-items.ensures.value at c.loop-i-test.true) (rw c.deref-step-items.ensures.value at c.step-item.is) c.loop-i.invariant c.if-not-branch.true c.in_ok-take.ensures.none
+pub returns-in_err-take_steps-clause-not_there : goal.returns-in_err-take_steps-clause-not_there
+returns-in_err-take_steps-clause-not_there c n e =
+    let start = pool_of_atoms _ _ c.args.derivation.now.start _ c.new-pool.ensures c.atoms.ensures c.in_ok-insert.ensures.ok in
+    let kept = rw e at c.from_residual-in_err-take_steps.ensures.1 in
+    rw (← start, ← c.deref.ensures.value) (c.in_err-take_steps.ensures.not_there n (ap Err (sym kept)))
 
-pub returns-then-not-branch-clause-not_there : goal.returns-then-not-branch-clause-not_there
-returns-then-not-branch-clause-not_there c n e =
-    let same : c.loop-i.i ≡ n = cc in
-    subst (IsFirstInapplicable (rules_of (program_of c.args.weighed.now)) c.args.derivation.now.steps.items c.args.derivation.now.start) same (stops c)
-
-pub returns-then-not-branch-clause-no_end : goal.returns-then-not-branch-clause-no_end
-returns-then-not-branch-clause-no_end c n e = stops_endless (rules_of (program_of c.args.weighed.now)) c.args.derivation.now.steps.items c.args.derivation.now.start c.loop-i.i (stops c)
+pub returns-in_err-take_steps-clause-no_end : goal.returns-in_err-take_steps-clause-no_end
+returns-in_err-take_steps-clause-no_end c n e =
+    stops_endless (rules_of (program_of c.args.weighed.now)) c.args.derivation.now.steps.items c.args.derivation.now.start n (returns-in_err-take_steps-clause-not_there c n e)

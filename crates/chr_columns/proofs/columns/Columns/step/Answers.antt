@@ -1,10 +1,7 @@
-use Rattle.std.proofs.Common.{sym, ap, subst, ◌∙◌, ◌≡◌}
+use Rattle.std.proofs.Common.{sym, subst, ◌∙◌}
 use mathlib.Core.Bool.{true≢false}
-use Rattle.chr_base.specs.FinBag.{◌⊕◌}
 use Rattle.chr_base.specs.Rewriting.{IsAtRest}
 use Rattle.chr_base.specs.Rules.{Step}
-use Rattle.chr_base.specs.Stores.{store_of}
-use Rattle.chr_columns.specs.working.Resting.{stored}
 use Rattle.chr_columns.proofs.Pools.{err_same, told_rest}
 use Rattle.chr_columns.proofs.columns.Columns.step.Goals as goal
 use Rattle.chr_columns.proofs.columns.Columns.step.Goals.{else-is_err-via-then-is_err+else-rests_in, else-is_err-via-else-is_err}

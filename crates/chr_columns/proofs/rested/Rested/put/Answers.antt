@@ -7,7 +7,8 @@ use Rattle.chr_actives.specs.Grids.{contents}
 use Rattle.chr_actives.proofs.Actives.{absorbed}
 use Rattle.chr_columns.specs.working.Groups.{table_of, table_of_atom}
 use Rattle.chr_columns.specs.working.Resting.{grid, IsSetUp}
-use Rattle.chr_columns.proofs.Putting.{has_table, stored_put, set_up_put, set_same, on_err}
+use Rattle.chr_tables.proofs.Choices.{on_err}
+use Rattle.chr_columns.proofs.Putting.{has_table, stored_put, set_up_put, set_same}
 use Rattle.chr_columns.proofs.rested.Rested.put.Goals as goal
 
 pub index_mut-requires : goal.index_mut-requires
