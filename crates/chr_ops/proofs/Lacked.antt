@@ -1,16 +1,13 @@
 -- The laws of exchange.
-use Rattle.std.specs.Prelude.{◌≡◌, ◌≢◌, ℕ, zero, suc, Bool, true, false, not, T, List, [], ◌∷◌, Some, None, Option, cond, slice_get, take}
-use Rattle.std.specs.Option.{option_or, is_some, unwrap_or, IsSomeAnd}
+use Rattle.std.specs.Prelude.{◌≡◌, ◌≢◌, ℕ, zero, suc, Bool, true, false, not, List, [], ◌∷◌, Some, None, Option, cond, take}
+use Rattle.std.specs.Option.{option_or, is_some, IsSomeAnd}
 use Rattle.std.proofs.Common.{refl, sym, ap, ◌∙◌, subst, ⊎_elim, inl, inr}
 use mathlib.Core.Bool.{true≢false}
 use mathlib.Core.Logic.{◌⊎◌}
-use Rattle.std.specs.declared.cmp.Ordering.{Ordering}
-use Rattle.std.specs.declared.cmp.Ordering.TheVariants as order
-use Rattle.std.specs.Ordering.{eq_by_cmp, is_eq, is_lt}
-use Rattle.std.specs.Cmp.{tied_itself, eq_by_cmp_equiv}
+use Rattle.std.specs.Ordering.{eq_by_cmp}
 use Rattle.std.specs.FinMap as map
-use Rattle.std.specs.FinMap.{find, is_sorted}
-use Rattle.std.specs.FinMap.Entries.{below_all, find-where_key, is_sorted-where_key}
+use Rattle.std.specs.FinMap.{find}
+use Rattle.std.specs.FinMap.Entries.{find-where_key, is_sorted-where_key}
 use Rattle.chr_base.specs.Stores.{Store}
 use Rattle.chr_ops.specs.declared.id.OpId.{OpId}
 use Rattle.chr_ops.specs.declared.range.IdRange.{IdRange}
@@ -20,8 +17,8 @@ use Rattle.chr_ops.specs.Operations.{Operation, Operations}
 use Rattle.chr_ops.specs.Joins.{union}
 use Rattle.chr_ops.specs.Summaries.{covers, lacking}
 use Rattle.chr_ops.specs.Exchange as law
-use Rattle.chr_base.proofs.FinBags.{first, second}
 use Rattle.chr_ops.proofs.Unions.{get-union}
+use Rattle.chr_ops.proofs.EntryLists.{place_finds}
 
 flip : (b : Bool) (x : Option Store) → cond (not b) x None ≡ cond b None x
 flip true x = refl
@@ -54,25 +51,6 @@ pub one_union : law.OneUnionLaw
 one_union m n one = map.same_map id_total id_exact _ _ (λ q.
     get-union m (map.entries n) q ∙ ap (option_or (map.get m q)) (sym (map.get-entries n q)) ∙ one_or_other (map.get m q) (map.get n q) (one q)
     ∙ ap (option_or (map.get n q)) (map.get-entries m q) ∙ sym (get-union n (map.entries m) q))
-
-apart : (r : Ordering) → T (is_lt r) → is_eq r ≡ false
-apart order.Less h = refl
-apart order.Equal h = absurd h
-apart order.Greater h = refl
-
-later_differs : (k : OpId) (es : List Operation) (i : ℕ) (o : Operation) → T (below_all id_cmp k es) → slice_get es i ≡ Some o → eq_by_cmp id_cmp k o.0 ≡ false
-later_differs k [] i o h e = absurd (true≢false (sym (ap is_some e)))
-later_differs k (x ∷ es) zero o h e = ap (λ y. eq_by_cmp id_cmp k y.0) (sym (ap (λ u. unwrap_or u x) e)) ∙ apart (id_cmp k x.0) (first _ _ h)
-later_differs k (x ∷ es) (suc i) o h e = later_differs k es i o (second _ _ h) e
-
--- in a list in order an operation is what is found under its id
-place_finds : (es : List Operation) (i : ℕ) (o : Operation) → T (is_sorted id_cmp es) → slice_get es i ≡ Some o → find id_cmp o.0 es ≡ Some o.1
-place_finds [] i o h e = absurd (true≢false (sym (ap is_some e)))
-place_finds (x ∷ es) zero o h e =
-    let same : x ≡ o = ap (λ u. unwrap_or u x) e in
-    ap (λ y. find id_cmp y.0 (x ∷ es)) (sym same) ∙ ap (λ r. cond (is_eq r) (Some x.1) (find id_cmp x.0 es)) (tied_itself id_total x.0) ∙ ap (λ y. Some y.1) same
-place_finds (x ∷ es) (suc i) o h e =
-    ap (λ b. cond b (Some x.1) (find id_cmp o.0 es)) ((eq_by_cmp_equiv id_total).symm o.0 x.0 ∙ later_differs x.0 es i o (first _ _ h) e) ∙ place_finds es i o (second _ _ h) e
 
 -- a front finds what the whole list finds, or nothing
 front_finds : (es : List Operation) (i : ℕ) (q : OpId) → (find id_cmp q (take i es) ≡ None) ⊎ (find id_cmp q (take i es) ≡ find id_cmp q es)

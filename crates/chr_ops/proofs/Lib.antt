@@ -11,3 +11,7 @@ pub mod MergeSteps
 pub mod WalkSteps
 pub mod Lacked
 pub mod FreshSteps
+pub mod RangeLookups
+pub mod RangeJoins
+pub mod RangesLaid
+pub mod OneSummary

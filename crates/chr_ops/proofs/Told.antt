@@ -18,7 +18,7 @@ use Rattle.chr_ops.specs.Ids.{id_cmp}
 use Rattle.chr_ops.proofs.IdOrder.{id_total}
 use Rattle.chr_ops.specs.Operations.{Operation, Operations, sum_of, told_store}
 
-swap_front : (s t u : Store) → s ⊕ (t ⊕ u) ≡ t ⊕ (s ⊕ u)
+pub swap_front : (s t u : Store) → s ⊕ (t ⊕ u) ≡ t ⊕ (s ⊕ u)
 swap_front s t u = sym (plus_assoc s t u) ∙ ap (λ x. x ⊕ u) (plus_comm s t) ∙ plus_assoc t s u
 
 -- a new id's bag joins the sum

@@ -9,6 +9,7 @@ use Rattle.std.specs.Ordering.{eq_by_cmp}
 use Rattle.std.specs.FinMap as map
 use Rattle.std.specs.FinMap.{find}
 use Rattle.chr_base.specs.Stores.{Store}
+use Rattle.std.proofs.Math.Bool.{or-true, or-false}
 use Rattle.chr_base.proofs.Places.{option_or_assoc}
 use Rattle.chr_base.proofs.Stores.{plus_assoc, plus_empty}
 use Rattle.chr_base.specs.FinBag.{◌⊕◌}
@@ -17,7 +18,7 @@ use Rattle.chr_ops.specs.Ids.{id_cmp}
 use Rattle.chr_ops.proofs.IdOrder.{id_total, id_exact, same_id}
 use Rattle.chr_ops.specs.Operations.{Operation, Operations, sum_of, told_store}
 use Rattle.chr_ops.specs.Joins.{union, fresh}
-use Rattle.chr_ops.specs.working.Joining.{IsWithout}
+use Rattle.chr_ops.specs.working.Joining.{HasIds, IsWithout}
 use Rattle.chr_ops.proofs.Told.{told_store-insert}
 
 or_none : {X : Type 0} (x : Option X) → option_or x None ≡ x
@@ -64,34 +65,53 @@ union_new m o h = map.same_map id_total id_exact _ _ (λ q. get-union m (o ∷ [
 pub len_inserted : (m : Operations) (k : OpId) (v : Store) → map.get m k ≡ None → map.len (map.insert m k v) ≡ map.len m + 1
 len_inserted m k v new = map.len-insert id_total m k v ∙ ap (λ x. cond (is_some x) (map.len m) (map.len m + 1)) new
 
-settle : (past here : Bool) (g h : Option Store) → (here ≡ true → g ≡ None) → (here ≡ false → h ≡ g) → cond past None g ≡ cond (past || (here || false)) None h
+settle : {X : Type 0} (past here : Bool) (g h : Option X) → (here ≡ true → g ≡ None) → (here ≡ false → h ≡ g) → cond past None g ≡ cond (past || (here || false)) None h
 settle true here g h none same = refl
 settle false true g h none same = none refl
 settle false false g h none same = sym (same refl)
 
-without_pushed : (m n r : Operations) (ids : List OpId) (k : OpId) → map.get n k ≡ None → ((q : OpId) → eq_by_cmp id_cmp q k ≡ false → map.get r q ≡ map.get n q) → IsWithout m ids n → IsWithout m (ids ++ k ∷ []) r
+without_pushed : {X : Type 0} (m n r : map.FinMap id_cmp X) (ids : List OpId) (k : OpId) → map.get n k ≡ None → ((q : OpId) → eq_by_cmp id_cmp q k ≡ false → map.get r q ≡ map.get n q) → IsWithout m ids n → IsWithout m (ids ++ k ∷ []) r
 without_pushed m n r ids k new others h q =
     h q
     ∙ settle (list_any (eq_by_cmp id_cmp q) ids) (eq_by_cmp id_cmp q k) (map.get n q) (map.get r q) (λ e. ap (map.get n) (same_id q k e) ∙ new) (others q)
     ∙ ap (λ b. cond b None (map.get r q)) (sym (list_any-append (eq_by_cmp id_cmp q) ids (k ∷ [])))
 
 -- an id that is not there may go into the list
-pub without_more : (m n : Operations) (ids : List OpId) (k : OpId) → map.get n k ≡ None → IsWithout m ids n → IsWithout m (ids ++ k ∷ []) n
+pub without_more : {X : Type 0} (m n : map.FinMap id_cmp X) (ids : List OpId) (k : OpId) → map.get n k ≡ None → IsWithout m ids n → IsWithout m (ids ++ k ∷ []) n
 without_more m n ids k new h = without_pushed m n n ids k new (λ _ _. refl) h
 
 -- and its operation then joins the set
-pub without_inserted : (m n : Operations) (ids : List OpId) (k : OpId) (v : Store) → map.get n k ≡ None → IsWithout m ids n → IsWithout m (ids ++ k ∷ []) (map.insert n k v)
+pub without_inserted : {X : Type 0} (m n : map.FinMap id_cmp X) (ids : List OpId) (k : OpId) (v : X) → map.get n k ≡ None → IsWithout m ids n → IsWithout m (ids ++ k ∷ []) (map.insert n k v)
 without_inserted m n ids k v new h =
     without_pushed m n (map.insert n k v) ids k new (λ q e. map.get-insert id_total n k v q ∙ ap (λ b. cond b (Some v) (map.get n q)) e) h
 
-gone : (past here : Bool) (g : Option Store) → cond here None (cond past None g) ≡ cond (past || (here || false)) None g
+gone : {X : Type 0} (past here : Bool) (g : Option X) → cond here None (cond past None g) ≡ cond (past || (here || false)) None g
 gone true true g = refl
 gone true false g = refl
 gone false true g = refl
 gone false false g = refl
 
+settle_ids : (past here held : Bool) (x y : Option Store) → is_some y ≡ (held || past) → is_some x ≡ cond here true (is_some y) → is_some x ≡ (held || (past || (here || false)))
+settle_ids past true held x y h g = g ∙ sym (ap (λ b. held || b) (or-true past) ∙ or-true held)
+settle_ids past false held x y h g = g ∙ h ∙ ap (λ b. held || b) (sym (or-false past))
+
+some_there : (here : Bool) (v : Store) (x : Option Store) → is_some (cond here (Some v) x) ≡ cond here true (is_some x)
+some_there true v x = refl
+some_there false v x = refl
+
+-- the ids of a map with one more
+pub ids_inserted : (m n : Operations) (ids : List OpId) (k : OpId) (v : Store) → HasIds m ids n → HasIds m (ids ++ k ∷ []) (map.insert n k v)
+ids_inserted m n ids k v h q =
+    settle_ids (list_any (eq_by_cmp id_cmp q) ids) (eq_by_cmp id_cmp q k) (map.contains_key m q) (map.get (map.insert n k v) q) (map.get n q) (h q)
+    (ap is_some (map.get-insert id_total n k v q) ∙ some_there (eq_by_cmp id_cmp q k) v (map.get n q))
+    ∙ ap (λ b. map.contains_key m q || b) (sym (list_any-append (eq_by_cmp id_cmp q) ids (k ∷ [])))
+
+-- of none but its own, where no more are given
+pub ids_none : (m : Operations) → HasIds m [] m
+ids_none m q = sym (or-false (map.contains_key m q))
+
 -- one more of a list of ids is taken out
-pub without_removed : (before now : Operations) (ids : List OpId) (i : ℕ) (d : OpId) → i < length ids → IsWithout now (take i ids) before → IsWithout (map.remove now (get_or ids i d)) (take (i + 1) ids) before
+pub without_removed : {X : Type 0} (before now : map.FinMap id_cmp X) (ids : List OpId) (i : ℕ) (d : OpId) → i < length ids → IsWithout now (take i ids) before → IsWithout (map.remove now (get_or ids i d)) (take (i + 1) ids) before
 without_removed before now ids i d there h q =
     let k = get_or ids i d in
     map.get-remove id_total now k q ∙ ap (cond (eq_by_cmp id_cmp q k) None) (h q)
@@ -99,7 +119,7 @@ without_removed before now ids i d there h q =
     ∙ ap (λ b. cond b None (map.get before q)) (sym (ap (list_any (eq_by_cmp id_cmp q)) (take_more ids i d there) ∙ list_any-append (eq_by_cmp id_cmp q) (take i ids) (k ∷ [])))
 
 -- what is without the ids that came is what was there
-pub had_back : (m n r : Operations) (ids : List OpId) → IsWithout m ids n → IsWithout r ids n → r ≡ m
+pub had_back : {X : Type 0} (m n r : map.FinMap id_cmp X) (ids : List OpId) → IsWithout m ids n → IsWithout r ids n → r ≡ m
 had_back m n r ids h g = map.same_map id_total id_exact _ _ (λ q. g q ∙ sym (h q))
 
 skip : (x : Option Store) (ps qs : List Operation) (s : Store) → x ≡ Some s → ps ≡ cond (is_some x) ps qs

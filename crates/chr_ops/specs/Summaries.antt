@@ -30,3 +30,13 @@ IsApart (r ∷ rs) = (r.lo ≤ r.hi) × AllByRecursion (IsBefore r) rs × IsApar
 -- the operations of a set whose ids the ranges do not cover, in the order of ids
 abbrev pub lacking : Operations → List IdRange → List Operation
 lacking m rs = filter (λ o. not (covers rs o.0)) (map.entries m)
+
+-- ranges that are apart and cover the same ids are one list
+abbrev pub ApartIsOne : Type 0
+ApartIsOne =
+    (rs ss : List IdRange) → IsApart rs → IsApart ss → ((id : OpId) → covers rs id ≡ covers ss id) → rs ≡ ss
+
+-- so the summary of a set, as it is written, is one
+abbrev pub SummariesAreOne : Type 0
+SummariesAreOne =
+    (m : Operations) (rs ss : List IdRange) → IsApart rs → IsApart ss → CoversJust rs m → CoversJust ss m → rs ≡ ss

@@ -5,3 +5,4 @@ pub mod Kept
 pub mod Joining
 pub mod Merging
 pub mod Walks
+pub mod Covering

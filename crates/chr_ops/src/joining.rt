@@ -5,8 +5,10 @@ ghost use Rattle.chr_ops.specs.declared.id.OpId.{OpId as OpIdValue};
 ghost use Rattle.chr_ops.specs.Operations.{Operations, told_atoms, IsHeldOtherwise};
 ghost use Rattle.chr_ops.specs.working.Kept.{AreOperationBags};
 ghost use Rattle.chr_ops.specs.Joins.{union, IsFirstClash, HasNoClash, IsOverLimit};
-ghost use Rattle.chr_ops.specs.working.Joining.{IsWithout};
+ghost use Rattle.chr_ops.specs.working.Joining.{HasIds, IsWithout};
+ghost use Rattle.chr_ops.specs.Summaries.{CoversJust, IsApart};
 
+use crate::covered::Covered;
 use crate::entries::Entries;
 use crate::fault::AddFault;
 use crate::id::OpId;
@@ -34,6 +36,8 @@ fn take_in(
     // What was there before the ids in the list came can be had back.
     ensures back { (m : Operations) → IsWithout m fresh.old.items held.old
         → IsWithout m fresh.new.items held.new }
+    ensures ids { OnOk result ((m : Operations) → HasIds m fresh.old.items held.old
+        → HasIds m fresh.new.items held.new) }
 {
     let id = op.id();
     if let Some(bag) = held.get(id) {
@@ -72,6 +76,8 @@ fn take_all_in(
     ensures sized { AreOperationBags held.old → AreOperationBags held.new }
     ensures back { (m : Operations) → IsWithout m fresh.old.items held.old
         → IsWithout m fresh.new.items held.new }
+    ensures ids { OnOk result ((m : Operations) → HasIds m fresh.old.items held.old
+        → HasIds m fresh.new.items held.new) }
 {
     let mut told = told;
     for op in ops {
@@ -105,11 +111,47 @@ pub(crate) fn take_in_room(
         → HasNoClash held.old ops.now × IsOverLimit held.old ops.now }
     ensures sized { AreOperationBags held.old → AreOperationBags held.new }
     ensures back { IsWithout held.old fresh.new.items held.new }
+    ensures ids { OnOk result (HasIds held.old fresh.new.items held.new) }
 {
     let told = take_all_in(held, fresh, alloc, ops, told)?;
     if told > MAX_TOLD {
         return Err(AddFault::Full);
     }
+    Ok(told)
+}
+
+/// Takes all of these operations in, where the limit of told atoms allows it, covers their ids, and answers how many
+/// atoms are then told. Where it fails, some may be in, and no more ids are covered.
+pub(crate) fn take_in_covered(
+    held: &mut Entries,
+    covered: &mut Covered,
+    fresh: &mut Vec<OpId>,
+    alloc: Global,
+    ops: &[Op],
+    told: u64,
+) -> Result<u64, AddFault>
+    requires told { told ≡ told_atoms held.old }
+    requires none_yet { fresh.old.items ≡ [] }
+    requires covers { CoversJust covered.old held.old }
+    ensures ok { OnOk result (held.new
+        ≡ union held.old ops.now) }
+    ensures told { IfOk result (λ n. n ≡ told_atoms held.new) }
+    ensures within { IfOk result (λ n. n ≤ MAX_TOLD) }
+    ensures count { OnOk result (vec_len fresh.new + map.len held.old
+        ≡ map.len held.new) }
+    ensures no_clash { OnOk result (HasNoClash held.old ops.now) }
+    ensures clash { (id : OpIdValue) → IsErrOf result (AddFault.Clash id)
+        → IsFirstClash held.old ops.now id }
+    ensures full { IsErrOf result AddFault.Full
+        → HasNoClash held.old ops.now × IsOverLimit held.old ops.now }
+    ensures sized { AreOperationBags held.old → AreOperationBags held.new }
+    ensures back { IsWithout held.old fresh.new.items held.new }
+    ensures covers { OnOk result (CoversJust covered.new held.new) }
+    ensures apart { OnOk result (IsApart covered.new) }
+    ensures uncovered { OnErr result (covered.new ≡ covered.old) }
+{
+    let told = take_in_room(held, fresh, alloc, ops, told)?;
+    covered.cover(fresh)?;
     Ok(told)
 }
 

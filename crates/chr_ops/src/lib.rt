@@ -1,6 +1,8 @@
 //! The facts that replicas exchange: operations with ids, kept once however often they come.
 #![tactic(auto)]
 
+mod covered;
+mod ends;
 mod entries;
 mod exchange;
 mod fault;
@@ -23,7 +25,7 @@ pub use limits::MAX_TOLD;
 pub use op::Op;
 pub use op_set::OpSet;
 pub use range::IdRange;
-pub use summary::Summary;
+pub use summary::{Summary, summaries_are_one};
 
 #[cfg(test)]
 mod tests;

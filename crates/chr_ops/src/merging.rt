@@ -2,10 +2,9 @@
 ghost use Rattle.std.specs.Prelude.{◌≡◌, ◌≤◌, All, IfOk, OnOk};
 ghost use Rattle.std.specs.List.Sorted.{IsSorted};
 ghost use Rattle.chr_ops.specs.declared.id.OpId.{OpId as OpIdValue};
-ghost use Rattle.chr_ops.specs.Summaries.{covers, CoversJust, IsApart};
+ghost use Rattle.chr_ops.specs.Summaries.{covers, IsApart};
 ghost use Rattle.chr_ops.specs.working.Merging.{AllStartBy, IsMerged, range_cmp};
 
-use crate::entries::Entries;
 use crate::range::IdRange;
 use std::alloc::{AllocError, Global};
 
@@ -41,23 +40,6 @@ pub(crate) fn merge_ranges(alloc: Global, ranges: &[IdRange]) -> Result<Vec<IdRa
     let mut merged = Vec::new(alloc);
     for range in ranges {
         push_range(&mut merged, *range)?;
-    }
-    Ok(merged)
-}
-
-/// The ranges that cover just the ids of a set.
-pub(crate) fn merge_ids(alloc: Global, held: &Entries) -> Result<Vec<IdRange>, AllocError>
-    ensures apart { IfOk result (λ merged. IsApart merged.items) }
-    ensures covers { IfOk result (λ merged. CoversJust merged.items held.now) }
-{
-    let mut merged = Vec::new(alloc);
-    for (id, _bag) in held.iter() {
-        let range = IdRange {
-            origin: id.origin,
-            lo: id.number,
-            hi: id.number,
-        };
-        push_range(&mut merged, range)?;
     }
     Ok(merged)
 }

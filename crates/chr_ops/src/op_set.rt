@@ -9,14 +9,14 @@ ghost use Rattle.chr_ops.specs.Operations.{told_store, told_atoms, sum_of, IsNew
 ghost use Rattle.chr_ops.specs.Joins.{union, fresh, HasNoClash, IsFirstClash, IsOverLimit};
 ghost use Rattle.chr_ops.specs.Summaries.{CoversJust, lacking};
 
+use crate::covered::Covered;
 use crate::entries::Entries;
 use crate::fault::{AddFault, Added};
 use crate::fresh::fresh_atoms;
 use crate::id::OpId;
-use crate::joining::{take_in_room, withdraw};
+use crate::joining::{take_in_covered, withdraw};
 use crate::lacking::lacked;
 use crate::limits::MAX_TOLD;
-use crate::merging::merge_ids;
 use crate::op::Op;
 use crate::summary::Summary;
 use chr_base::bag::Bag;
@@ -27,6 +27,7 @@ use std::marker::Model;
 #[derive(Drop)]
 pub struct OpSet {
     held: Entries,
+    covered: Covered,
     told: u64,
 }
 
@@ -45,7 +46,7 @@ impl Model for OpSet {
 
     ghost view = { λ s. s.held };
 
-    ghost invariant = { λ s. IsKept s.told s.held };
+    ghost invariant = { λ s. IsKept s.told s.covered s.held };
 }
 
 impl OpSet {
@@ -55,6 +56,7 @@ impl OpSet {
     {
         OpSet {
             held: Entries::new(alloc),
+            covered: Covered::new(alloc),
             told: 0,
         }
     }
@@ -112,6 +114,10 @@ impl OpSet {
             return Err(AddFault::Full);
         }
         self.held.insert(id, bag)?;
+        if let Err(error) = self.covered.cover(&[id]) {
+            self.held.remove(id);
+            return Err(error.into());
+        }
         self.told += atoms;
         Ok(Added::New)
     }
@@ -135,7 +141,14 @@ impl OpSet {
         ensures err { OnErr result (self.new ≡ self.old) }
     {
         let mut fresh = Vec::new(alloc);
-        match take_in_room(&mut self.held, &mut fresh, alloc, ops, self.told) {
+        match take_in_covered(
+            &mut self.held,
+            &mut self.covered,
+            &mut fresh,
+            alloc,
+            ops,
+            self.told,
+        ) {
             Ok(told) => {
                 self.told = told;
                 Ok(fresh.len() as u64)
@@ -151,7 +164,7 @@ impl OpSet {
     pub fn summary(&self, alloc: Global) -> Result<Summary, AllocError>
         ensures { IfOk result (λ summary. CoversJust summary self.now) }
     {
-        Ok(Summary::of_merged(merge_ids(alloc, &self.held)?))
+        Ok(Summary::of_merged(self.covered.ranges(alloc)?))
     }
 
     /// Copies of the operations whose ids a summary does not cover, in the order of ids.

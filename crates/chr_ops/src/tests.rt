@@ -196,3 +196,130 @@ fn at_most_a_million_atoms_are_told(rt: HostRuntime) -> Result<(), Fail> {
     assert_eq!(rt; set.told(), 1_000_000);
     Ok(())
 }
+
+/// Adds operations with these numbers of origin 1, one by one.
+fn set_of_numbers(alloc: Global, numbers: &[u64]) -> Result<OpSet, Fail> {
+    let mut set = OpSet::new(alloc);
+    for number in numbers {
+        set.add(op(alloc, id(1, *number), &[0])?)?;
+    }
+    Ok(set)
+}
+
+/// The ranges of origin 1 as long as possible that numbers in order make, found one by one.
+fn plain_ranges(alloc: Global, sorted: &[u64]) -> Result<Vec<IdRange>, Fail> {
+    let mut ranges: Vec<IdRange> = Vec::new(alloc);
+    for number in sorted {
+        match ranges.pop() {
+            Some(last) if last.hi.checked_add(1) == Some(*number) => {
+                ranges.push(range(1, last.lo, *number))?;
+            }
+            Some(last) => {
+                ranges.push(last)?;
+                ranges.push(range(1, *number, *number))?;
+            }
+            None => ranges.push(range(1, *number, *number))?,
+        }
+    }
+    Ok(ranges)
+}
+
+/// Whether the set has these ranges.
+fn has_ranges(alloc: Global, set: &OpSet, ranges: &[IdRange]) -> Result<bool, Fail> {
+    let summary = set.summary(alloc)?;
+    Ok(summary.ranges() == ranges)
+}
+
+#[test]
+fn ranges_grow_at_both_ends_and_close_holes(rt: HostRuntime) -> Result<(), Fail> {
+    let alloc = rt.alloc();
+    let mut set = set_of_numbers(alloc, &[4, 2])?;
+    assert!(rt; has_ranges(alloc, &set, &[range(1, 2, 2), range(1, 4, 4)])?);
+    set.add(op(alloc, id(1, 3), &[0])?)?;
+    assert!(rt; has_ranges(alloc, &set, &[range(1, 2, 4)])?);
+    set.add(op(alloc, id(1, 1), &[0])?)?;
+    assert!(rt; has_ranges(alloc, &set, &[range(1, 1, 4)])?);
+    set.add(op(alloc, id(1, 6), &[0])?)?;
+    assert!(rt; has_ranges(alloc, &set, &[range(1, 1, 4), range(1, 6, 6)])?);
+    Ok(())
+}
+
+#[test]
+fn the_greatest_numbers_make_a_range(rt: HostRuntime) -> Result<(), Fail> {
+    let alloc = rt.alloc();
+    let ends = set_of_numbers(alloc, &[GREATEST, GREATEST - 1])?;
+    assert_eq!(rt;
+        ends.summary(alloc)?.ranges(),
+        [range(1, GREATEST - 1, GREATEST)].as_slice()
+    );
+    Ok(())
+}
+
+#[test]
+fn ranges_are_of_one_origin(rt: HostRuntime) -> Result<(), Fail> {
+    let alloc = rt.alloc();
+    let origins = set_of(alloc, &[id(2, 0), id(1, GREATEST), id(3, 1), id(3, 0)])?;
+    assert_eq!(rt;
+        origins.summary(alloc)?.ranges(),
+        [range(1, GREATEST, GREATEST), range(2, 0, 0), range(3, 0, 1)].as_slice()
+    );
+    Ok(())
+}
+
+/// Operations with these ids.
+fn ops_of(alloc: Global, ids: &[OpId]) -> Result<Vec<Op>, Fail> {
+    let mut ops = Vec::new(alloc);
+    for id in ids {
+        ops.push(op(alloc, *id, &[0])?)?;
+    }
+    Ok(ops)
+}
+
+#[test]
+fn a_join_closes_holes(rt: HostRuntime) -> Result<(), Fail> {
+    let alloc = rt.alloc();
+    let mut set = set_of_numbers(alloc, &[1, 3, 9])?;
+    let ids = [id(1, 8), id(1, 2), id(1, 3), id(1, 0), id(0, 4), id(1, 8)];
+    let missing = ops_of(alloc, &ids)?;
+    assert_eq!(rt; set.join(alloc, &missing), Ok(4));
+    assert_eq!(rt;
+        set.summary(alloc)?.ranges(),
+        [range(0, 4, 4), range(1, 0, 3), range(1, 8, 9)].as_slice()
+    );
+    Ok(())
+}
+
+/// The numbers from 1 to 4000 but those that 7 divides, in an order that jumps about: 4001 is a prime.
+fn scrambled(alloc: Global) -> Result<Vec<u64>, Fail> {
+    let mut numbers = Vec::new(alloc);
+    for step in 1..4_001_u64 {
+        let number = step * 1_933 % 4_001;
+        if number % 7 != 0 {
+            numbers.push(number)?;
+        }
+    }
+    Ok(numbers)
+}
+
+#[test]
+fn ids_in_any_order_make_the_same_ranges(rt: HostRuntime) -> Result<(), Fail> {
+    let alloc = rt.alloc();
+    let mut numbers = scrambled(alloc)?;
+    let set = set_of_numbers(alloc, &numbers)?;
+    numbers.sort_unstable();
+    let ranges = plain_ranges(alloc, &numbers)?;
+    assert_eq!(rt; set.summary(alloc)?.ranges(), ranges.as_slice());
+    Ok(())
+}
+
+#[test]
+fn what_ranges_leave_out_is_lacked(rt: HostRuntime) -> Result<(), Fail> {
+    let alloc = rt.alloc();
+    let set = set_of_numbers(alloc, &scrambled(alloc)?)?;
+    let held = summary_of(vec![in alloc; range(1, 1_000, 2_999), range(1, 3_998, 4_500)]?)?;
+    let lacked = ids_of(alloc, &set.lacks(alloc, &held)?)?;
+    assert_eq!(rt; lacked.len(), 1_712);
+    assert_eq!(rt; lacked.first(), Some(&id(1, 1)));
+    assert_eq!(rt; lacked.last(), Some(&id(1, 3_996)));
+    Ok(())
+}

@@ -26,7 +26,3 @@ pub record IsMerged (old : List IdRange) (next : IdRange) (new : List IdRange) :
 abbrev pub range_cmp : IdRange → IdRange → Ordering
 range_cmp r s =
     ordering_then (nat_cmp r.origin s.origin) (ordering_then (nat_cmp r.lo s.lo) (nat_cmp r.hi s.hi))
-
--- the range of one id
-abbrev pub range_of_id : OpId → IdRange
-range_of_id id = record { origin = id.origin; lo = id.number; hi = id.number }

@@ -12,6 +12,7 @@ loop-op-init c = record {
   count = refl;
   no_clash = λ j id l. absurd (omega (arith, l));
   sized = λ h. h;
+  ids = λ m h. h;
   back = λ m h. h;
 }
 
@@ -25,6 +26,7 @@ loop-op-preserved c =
       count = omega (arith, c.in_ok-atoms.ensures.count, c.loop-op.invariant.count);
       no_clash = no_clash_more before now c.args.ops.now c.loop-op.op-index c.op-item.result c.loop-op-test.true c.op-item.is c.loop-op.invariant.taken c.loop-op.invariant.no_clash (λ held. (let failed = (c.take_in.ensures.clash c.op-item.result.0).1 (refl, held) in search (rules, failed)));
       sized = λ h. c.take_in.ensures.sized (c.loop-op.invariant.sized h);
+      ids = λ m h. c.in_ok-atoms.ensures.ids m (c.loop-op.invariant.ids m h);
       back = λ m h. c.take_in.ensures.back m (c.loop-op.invariant.back m h);
     }
 

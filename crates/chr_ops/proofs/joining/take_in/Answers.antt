@@ -4,7 +4,7 @@ use Rattle.chr_base.specs.Stores.{size}
 use Rattle.chr_ops.specs.Operations.{told_store}
 use Rattle.chr_ops.specs.working.Kept.{AreOperationBags}
 use Rattle.chr_ops.proofs.Keeping.{size_inserted, sized_inserted}
-use Rattle.chr_ops.proofs.Unions.{union_held, union_new, len_inserted, without_more, without_inserted}
+use Rattle.chr_ops.proofs.Unions.{union_held, union_new, len_inserted, without_more, without_inserted, ids_inserted}
 use Rattle.chr_ops.proofs.joining.take_in.Goals as goal
 
 pub returns-then-is_same-clause-ok : goal.returns-then-is_same-clause-ok
@@ -49,3 +49,8 @@ returns-in_err-insert-clause-back c = λ m h.
 
 pub returns-in_err-insert-clause-sized : goal.returns-in_err-insert-clause-sized
 returns-in_err-insert-clause-sized c = λ h. subst AreOperationBags (sym c.in_err-insert.ensures.err) h
+
+pub returns-clause-ids : goal.returns-clause-ids
+returns-clause-ids c = λ m h.
+    let pushed : c.push.new.self.items ≡ c.args.fresh.now.items ++ c.args.op.now.0 ∷ [] = search rules in
+    rw (inserted c, pushed) (ids_inserted m c.args.held.now c.args.fresh.now.items c.args.op.now.0 c.args.op.now.1 h)

@@ -1,6 +1,5 @@
-use Rattle.std.proofs.Common.{ap, sym, ◌∙◌, subst}
+use Rattle.std.proofs.Common.{ap, ◌∙◌, subst}
 use Rattle.chr_ops.specs.Operations.{told_store}
-use Rattle.chr_ops.specs.working.Kept.{IsKept}
 use Rattle.chr_ops.specs.Joins.{union, HasNoClash, IsFirstClash, IsOverLimit}
 use Rattle.chr_ops.proofs.Unions.{had_back, told_store-union}
 use Rattle.chr_ops.proofs.op_set.OpSet.join.Goals as goal
@@ -10,14 +9,14 @@ returns-in-Ok-clause-no_clash c = subst (λ m. HasNoClash m c.args.ops.now) c.se
 
 pub invariant_of-self-in-Err : goal.invariant_of-self-in-Err
 invariant_of-self-in-Err c =
-    let left = had_back c.self.inside.held c.take_in_room.new.held c.withdraw.new.held c.take_in_room.new.fresh.items
-    c.take_in_room.ensures.back (rw c.deref.ensures.value at c.withdraw.ensures) in
-    subst (IsKept c.self.inside.told) (sym left) c.self.invariant
+    let left = had_back c.self.inside.held c.take_in_covered.new.held c.withdraw.new.held c.take_in_covered.new.fresh.items
+    c.take_in_covered.ensures.back (rw c.deref.ensures.value at c.withdraw.ensures) in
+    rw (left, c.in-Err.ensures.uncovered) c.self.invariant
 
 pub returns-clause-err : goal.returns-clause-err
 returns-clause-err c =
-    let left = had_back c.self.inside.held c.take_in_room.new.held c.withdraw.new.held c.take_in_room.new.fresh.items
-    c.take_in_room.ensures.back (rw c.deref.ensures.value at c.withdraw.ensures) in
+    let left = had_back c.self.inside.held c.take_in_covered.new.held c.withdraw.new.held c.take_in_covered.new.fresh.items
+    c.take_in_covered.ensures.back (rw c.deref.ensures.value at c.withdraw.ensures) in
     left ∙ c.self.view_is
 
 pub returns-clause-clash : goal.returns-clause-clash
@@ -36,5 +35,7 @@ pub invariant_of-self : goal.invariant_of-self
 invariant_of-self c = record {
   counted = c.in-Ok.ensures.told;
   within = c.in-Ok.ensures.within;
-  sized = c.take_in_room.ensures.sized c.self.invariant.sized;
+  sized = c.take_in_covered.ensures.sized c.self.invariant.sized;
+  apart = c.in-Ok.ensures.apart;
+  covering = c.in-Ok.ensures.covers;
 }

@@ -1,0 +1,9 @@
+use Rattle.std.proofs.Common.{ap, ◌∙◌}
+use Rattle.std.specs.FinMap as map
+use Rattle.chr_ops.proofs.EntryLists.{one_inserted}
+use Rattle.chr_ops.proofs.ends.Ends.insert.Goals as goal
+
+pub returns-clause-ok : goal.returns-clause-ok
+returns-clause-ok c =
+    one_inserted c.self.inside.last.entries c.insert.new.self.entries c.args.first c.args.last c.in_ok-insert.ensures.updates.0
+    ∙ ap (λ m. map.insert m c.args.first c.args.last) c.self.view_is

@@ -1,0 +1,67 @@
+-- Ranges of ids that are kept under their first ids.
+use Rattle.std.specs.Prelude.{◌≡◌, ℕ, ◌+◌, ◌^◌, ◌<◌, ◌≤◌, Bool, true, false, ◌||◌, List, Some, IsSome, map as each, if◌then◌else◌}
+use Rattle.std.specs.List.{list_any}
+use Rattle.std.specs.Ordering.{eq_by_cmp}
+use Rattle.std.specs.FinMap as map
+use Rattle.chr_ops.specs.declared.id.OpId.{OpId}
+use Rattle.chr_ops.specs.declared.range.IdRange.{IdRange}
+use Rattle.chr_ops.specs.Ids.{id_cmp}
+use Rattle.chr_ops.specs.Summaries.{covers}
+
+-- the last number of each range under its first id
+abbrev pub Ends : Type 0
+Ends = map.FinMap id_cmp ℕ
+
+-- the range of a first id and a last number
+abbrev pub range_of : OpId × ℕ → IdRange
+range_of e = record { origin = e.0.origin; lo = e.0.number; hi = e.1 }
+
+-- the ranges, in order
+abbrev pub ranges_of : Ends → List IdRange
+ranges_of m = each range_of (map.entries m)
+
+-- each range has an id, its numbers are 64-bit numbers, and no two ranges have an id in common
+pub record AreDisjoint (m : Ends) : Type 0 where
+  pub fits : (k : OpId) (h : ℕ) → map.get m k ≡ Some h → (k.number ≤ h) × (h < 2 ^ 64)
+  pub apart : (k l : OpId) (h g : ℕ) → map.get m k ≡ Some h → map.get m l ≡ Some g → k.origin ≡ l.origin
+      → k.number < l.number → h < l.number
+
+-- a range ends right before an id
+abbrev pub EndsBefore : Ends → OpId → OpId → Type 0
+EndsBefore m q k = (h : ℕ) × (map.get m k ≡ Some h) × (k.origin ≡ q.origin) × (h + 1 ≡ q.number)
+
+-- a range begins at an id, and another ends right before it
+abbrev pub IsSeam : Ends → OpId → Type 0
+IsSeam m q = (k : OpId) × EndsBefore m q k × IsSome (map.get m q)
+
+-- the ranges are as long as possible
+pub record AreLongest (m : Ends) : Type 0 where
+  pub disjoint : AreDisjoint m
+  pub closed : (q : OpId) → ¬ (IsSeam m q)
+
+-- whether an id is one of a list
+abbrev pub is_among : List OpId → OpId → Bool
+is_among ids q = list_any (eq_by_cmp id_cmp q) ids
+
+-- each id of a list is put in as a range of its own, and has a 64-bit number
+pub record IsLaid (m : Ends) (ids : List OpId) (n : Ends) : Type 0 where
+  pub at : (q : OpId) → map.get n q ≡ (if is_among ids q then Some q.number else map.get m q)
+  pub fits : (q : OpId) → is_among ids q ≡ true → q.number < 2 ^ 64
+
+-- nothing differs but at the ids of a list
+abbrev pub IsSameBut : Ends → List OpId → Ends → Type 0
+IsSameBut m ids n = (q : OpId) → is_among ids q ≡ false → map.get n q ≡ map.get m q
+
+-- the id after one
+abbrev pub next_id : OpId → OpId
+next_id id = record { origin = id.origin; number = id.number + 1 }
+
+-- whether a range that begins at an id may touch one that has another: as its first or right behind it
+abbrev pub is_beside : OpId → OpId → Bool
+is_beside q id = eq_by_cmp id_cmp q id || eq_by_cmp id_cmp q (next_id id)
+
+-- some ranges are joined: they cover the same, and no seam is left where the test holds
+pub record AreJoined (m : Ends) (test : OpId → Bool) (n : Ends) : Type 0 where
+  pub disjoint : AreDisjoint n
+  pub covering : (q : OpId) → covers (ranges_of n) q ≡ covers (ranges_of m) q
+  pub seams : (q : OpId) → IsSeam n q → IsSeam m q × (test q ≡ false)
