@@ -5,3 +5,6 @@ pub mod Verdicts
 pub mod Confluent
 pub mod OnceLists
 pub mod OnceVerdicts
+mod RestedParts
+pub mod SameStores
+pub mod VerdictThere

@@ -3,4 +3,5 @@ pub mod Verdicts
 pub mod AcceptedPrograms
 pub mod Explanations
 pub mod Once
+pub mod Parts
 pub mod working

@@ -1,7 +1,10 @@
--- The rules determine the verdict.
-use Rattle.std.specs.Prelude.{◌≡◌, ℕ, List, ⊤}
+-- There is a verdict on rules, and they determine it.
+use Rattle.std.specs.Prelude.{◌≡◌, ◌⊎◌, ℕ, List, ⊤}
 use Rattle.chr_base.specs.declared.atom.Atom.{Atom}
+use Rattle.chr_base.specs.declared.program.Program.{Program}
 use Rattle.chr_base.specs.declared.rule.Rule.{Rule}
+use Rattle.chr_base.specs.Programs.{rules_of}
+use Rattle.chr_weights.specs.Weights.{ProgramLowers}
 use Rattle.chr_join.specs.declared.refused.Failure.{Failure}
 use Rattle.chr_join.specs.declared.refused.Cause.{Cause}
 use Rattle.chr_join.specs.declared.refused.Cause.TheVariants as cause
@@ -26,6 +29,12 @@ SameRefusal (cause.Fails f) (cause.Fails g) = SameFailure f g
 SameRefusal (cause.TooManyTypes t) (cause.TooManyTypes u) = (t.overlap ≡ u.overlap) × (t.classes ≡ u.classes)
 SameRefusal cause.Memory cause.Memory = ⊤
 SameRefusal _ _ = ⊥
+
+-- A program that lowers is accepted, or refused for a cause that is no want of memory.
+abbrev pub VerdictsExist : Type 0
+VerdictsExist =
+    (p : Program) → ProgramLowers p
+    → ((n : ℕ) × IsAccepted (rules_of p) n) ⊎ ((e : Cause) × IsRefusal (rules_of p) e × (¬ (e ≡ cause.Memory)))
 
 -- Accepted rules have one number of cases.
 abbrev pub AcceptedOnce : Type 0

@@ -4,9 +4,15 @@ ghost use Rattle.chr_base.specs.Programs.{rules_of};
 ghost use Rattle.chr_weights.specs.WeighedPrograms.{rules_in};
 ghost use Rattle.chr_confluence.specs.Confluence.{Confluent};
 ghost use Rattle.chr_confluence.proofs.Refuting.{Confluent-prop};
+ghost use Rattle.chr_rewrite.specs.Derivations.{IsDerivation, IsFirstInapplicable};
+ghost use Rattle.chr_rewrite.specs.declared.replay.ReplayFault.TheVariants.{NotThere as IsNotThere};
+ghost use Rattle.chr_join.specs.Parts.{IsDoneOf, IsOnlyNormalForm};
 ghost use Rattle.chr_join.specs.Verdicts.{IsAccepted};
 
+use crate::lease::{Done, Lease, NotStepped, StepFault};
 use crate::once::accepted_are_confluent;
+use crate::parts::{rested, stepped};
+use chr_base::derivation::Step;
 use chr_base::program::Program;
 use chr_weights::Weighed;
 use std::alloc::{AllocFailed, Global};
@@ -23,7 +29,7 @@ pub struct Accepted {
 }
 
 impl Accepted {
-    ghost use Rattle.std.specs.Prelude.{◌≡◌, IfOk, IfErr};
+    ghost use Rattle.std.specs.Prelude.{◌≡◌, ℕ, IfOk, IfErr};
     ghost use Rattle.chr_join.specs.AcceptedPrograms.{weighed_of, program_in, cases_of};
 
     /// A program of whose overlaps no case fails, with the number of all cases. Where memory is refused, the program is
@@ -64,5 +70,49 @@ impl Accepted {
         ensures accepted { ∥ IsAccepted (rules_of (program_in self.now)) result ∥₁ }
     {
         self.cases
+    }
+
+    /// Rests the part of a lease by itself. Its end is the one normal form of the part.
+    ///
+    /// # Errors
+    ///
+    /// Where memory is refused the lease is handed back.
+    pub fn rest_part(&self, alloc: Global, lease: Lease) -> Result<Done, AllocFailed<Lease>>
+        ensures done { IfOk result (IsDoneOf (weighed_of self.now) lease) }
+        ensures end { IfOk result (λ d. IsOnlyNormalForm (rules_of (program_in self.now)) lease.part d.result) }
+        ensures handed_back { IfErr result (λ e. e.value ≡ lease) }
+    {
+        lease.part.has_values();
+        let Ok(weighed) = self.weighed.clone() else {
+            return Err(AllocFailed { value: lease });
+        };
+        match rested(alloc, &weighed, &lease.part) {
+            Ok(end) => Ok(Done::of(weighed, lease, end)),
+            Err(_) => Err(AllocFailed { value: lease }),
+        }
+    }
+
+    /// Takes exactly these steps on the part of a lease, one after the other.
+    ///
+    /// # Errors
+    ///
+    /// The lease is handed back with the place, counted from 0, of the first step that is no instance at its store, or
+    /// where memory is refused.
+    pub fn step_part(&self, alloc: Global, lease: Lease, steps: &[Step]) -> Result<Done, NotStepped>
+        ensures done { IfOk result (IsDoneOf (weighed_of self.now) lease) }
+        ensures end { IfOk result (λ d.
+            IsDerivation (rules_of (program_in self.now)) steps.now lease.part d.result) }
+        ensures not_there { IfErr result (λ e. (n : ℕ) → e.fault ≡ IsNotThere n →
+            IsFirstInapplicable (rules_of (program_in self.now)) steps.now lease.part n) }
+        ensures handed_back { IfErr result (λ e. e.lease ≡ lease) }
+    {
+        let Ok(weighed) = self.weighed.clone() else {
+            let fault = StepFault::Memory;
+            return Err(NotStepped { lease, fault });
+        };
+        match stepped(alloc, &weighed, &lease.part, steps) {
+            Ok(end) => Ok(Done::of(weighed, lease, end)),
+            Err(fault) => Err(NotStepped { lease, fault }),
+        }
     }
 }

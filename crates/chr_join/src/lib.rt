@@ -1,15 +1,18 @@
 //! Which programs are accepted: those in which no overlap of rules has a case whose sides end in different stores
-//! (after Abdennadher, Frühwirth and Meuss 1999).
+//! (after Abdennadher, Frühwirth and Meuss 1999); and parts of a store that an accepted program rewrites by themselves.
 #![tactic(auto)]
 
 mod accepted;
 mod checking;
 pub mod laws;
+mod lease;
 mod once;
+mod parts;
 mod refused;
 mod sides;
 
 pub use accepted::Accepted;
 pub use checking::accept;
-pub use once::{accepted_are_confluent, verdict_is_one};
+pub use lease::{Done, Lease, NotStepped, StepFault};
+pub use once::{accepted_are_confluent, verdict_is_one, verdicts_exist};
 pub use refused::{Cause, Failure, Refused, TooManyTypes};

@@ -1,8 +1,14 @@
 //! What the verdict on rules is worth. Nothing here computes: the contract is the law.
-ghost use Rattle.chr_join.specs.Once.{AcceptedOnce, RefusedOnce, NeverBoth, AcceptedAreConfluent};
+ghost use Rattle.chr_join.specs.Once.{AcceptedAreConfluent, AcceptedOnce, NeverBoth, RefusedOnce, VerdictsExist};
 
 use chr_confluence::laws::peak;
 use chr_confluence::listing::{listed_cases, listed_confluence};
+
+/// There is a verdict on each program that lowers: it is accepted, or there is a first cause for which it is refused, a
+/// case that fails or an overlap of more than 50,000 order types.
+pub fn verdicts_exist()
+    ensures { VerdictsExist }
+{}
 
 /// The verdict on rules is determined. Accepted rules have one number of cases, and are refused for want of memory
 /// alone. Rules that are refused have one cause, but for want of memory: the same overlap, and of a case that fails the
