@@ -1,0 +1,20 @@
+use Rattle.std.proofs.Common.{rules, ◌≡◌, IfErr, OnOk, subst}
+use Rattle.std.specs.Arc.{arc_value}
+use Rattle.chr_weights.specs.WeighedPrograms.{program_of}
+use Rattle.chr_join.specs.AcceptedPrograms.{weighed_of}
+use Rattle.chr_replica.specs.Replicas.{IsSettled}
+use Rattle.chr_replica.specs.Refusals.{RefusesShow}
+use Rattle.chr_replica.specs.Boards.{program_on}
+use Rattle.chr_replica.proofs.board.Board.show.Goals as goal
+
+pub returns-clause-settled : goal.returns-clause-settled
+returns-clause-settled c =
+    let same : c.weighed.result.now ≡ weighed_of (arc_value c.self.inside.accepted) = search rules in
+    subst (λ b. OnOk c.show.result (IsSettled (program_on b) b.replica)) c.self.view_is
+    (subst (λ w. OnOk c.show.result (IsSettled (program_of w) c.self.inside.state)) same c.show.ensures.settled)
+
+pub returns-clause-refused : goal.returns-clause-refused
+returns-clause-refused c =
+    let same : c.weighed.result.now ≡ weighed_of (arc_value c.self.inside.accepted) = search rules in
+    subst (λ b. IfErr c.show.result (RefusesShow (program_on b) b.replica)) c.self.view_is
+    (subst (λ w. IfErr c.show.result (RefusesShow (program_of w) c.self.inside.state)) same c.show.ensures.refused)

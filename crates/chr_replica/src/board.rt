@@ -1,0 +1,84 @@
+//! Boards.
+ghost use Rattle.std.specs.Prelude.{◌≡◌, ◌≤◌, IfOk};
+ghost use Rattle.std.specs.Arc.{arc_value};
+ghost use Rattle.chr_base.specs.Values.{HasValues};
+ghost use Rattle.chr_ops.specs.Operations.{told_store, told_atoms};
+ghost use Rattle.chr_replica.specs.Replicas.{first, IsSound};
+ghost use Rattle.chr_replica.specs.Boards.{program_on};
+
+use crate::laws::events_keep_replicas_sound;
+use crate::state::State;
+use chr_join::Accepted;
+use chr_ops::{MAX_TOLD, OpSet};
+use std::alloc::{AllocError, Global};
+use std::marker::Model;
+use std::sync::Arc;
+
+mod leasing;
+mod reading;
+mod resting;
+mod telling;
+
+pub use leasing::NotPut;
+
+/// A replica of an accepted program. Its type keeps that what its operations tell reaches its pool with all leased
+/// parts, and that they tell at most [`MAX_TOLD`] atoms.
+#[derive(Drop)]
+pub struct Board {
+    accepted: Arc<Accepted>,
+    state: State,
+}
+
+impl Model for Board {
+    ghost use Rattle.std.specs.Arc.{arc_value};
+    ghost use Rattle.chr_join.specs.AcceptedPrograms.{program_in};
+    ghost use Rattle.chr_replica.specs.Replicas.{IsSound};
+    ghost use Rattle.chr_replica.specs.Boards.{Held};
+    ghost use Rattle.chr_replica.specs.working.Codes.{coded_held};
+
+    ghost Value = { Held };
+
+    ghost coded = { coded_held };
+
+    ghost view = { λ b. record { accepted = arc_value b.accepted; replica = b.state } };
+
+    ghost invariant = { λ b. IsSound (program_in (arc_value b.accepted)) b.state };
+}
+
+impl Board {
+    /// The replica that was told nothing. Its first lease will have the number 1.
+    pub fn open(alloc: Global, accepted: Arc<Accepted>) -> Result<Board, AllocError>
+        ensures accepted { IfOk result (λ board. board.accepted ≡ arc_value accepted) }
+        ensures replica { IfOk result (λ board. board.replica ≡ first) }
+    {
+        events_keep_replicas_sound();
+        let state = State::new(alloc, accepted.program())?;
+        Ok(Board { accepted, state })
+    }
+
+    /// What its type keeps: its operations' atoms, which are of 64-bit values and no more than [`MAX_TOLD`], reach its
+    /// pool with all leased parts. It does nothing but look into the board, for its contract.
+    pub fn is_sound(&self)
+        ensures sound { IsSound (program_on self.now) self.now.replica }
+        ensures values { HasValues (told_store self.now.replica.operations) }
+        ensures within { told_atoms self.now.replica.operations ≤ MAX_TOLD }
+    {
+        let ops = self.state.ops();
+        ops.told_has_values();
+        let _told = ops.told();
+    }
+
+    /// Its program. It takes no memory.
+    pub fn program(&self) -> &Arc<Accepted>
+        ensures { arc_value result.now ≡ self.now.accepted }
+    {
+        &self.accepted
+    }
+
+    /// Its operations. It takes no memory.
+    pub fn ops(&self) -> &OpSet
+        ensures { result.now ≡ self.now.replica.operations }
+    {
+        self.state.ops()
+    }
+}

@@ -1,0 +1,51 @@
+//! What boards show.
+ghost use Rattle.std.specs.Prelude.{◌≡◌, ◌↔◌, IfErr, IfOk, IsTrue, OnOk};
+ghost use Rattle.chr_base.specs.Programs.{rules_of};
+ghost use Rattle.chr_base.specs.Rewriting.{IsAtRest};
+ghost use Rattle.chr_base.specs.Rules.{Step};
+ghost use Rattle.chr_ops.specs.Summaries.{CoversJust, lacking};
+ghost use Rattle.chr_replica.specs.Replicas.{IsSettled};
+ghost use Rattle.chr_replica.specs.Refusals.{RefusesShow};
+ghost use Rattle.chr_replica.specs.Boards.{program_on};
+
+use crate::board::Board;
+use crate::refusal::Refusal;
+use chr_base::bag::Bag;
+use chr_ops::{Op, Summary};
+use std::alloc::{AllocError, Global};
+
+impl Board {
+    /// The pool, where no lease is out and it is at rest. Where it was rested and nothing has come in since, it is not
+    /// searched again.
+    ///
+    /// # Errors
+    /// `Leased` with the number of leases that are out, `NotAtRest`, `Memory`.
+    pub fn show(&self, alloc: Global) -> Result<Bag, Refusal>
+        ensures pool { IfOk result (λ bag. bag ≡ self.now.replica.pool) }
+        ensures settled { OnOk result (IsSettled (program_on self.now) self.now.replica) }
+        ensures refused { IfErr result (RefusesShow (program_on self.now) self.now.replica) }
+    {
+        self.state.show(alloc, self.accepted.weighed())
+    }
+
+    /// A summary that covers just the ids of its operations.
+    pub fn summary(&self, alloc: Global) -> Result<Summary, AllocError>
+        ensures { IfOk result (λ summary. CoversJust summary self.now.replica.operations) }
+    {
+        self.ops().summary(alloc)
+    }
+
+    /// Copies of its operations whose ids a summary does not cover, in the order of ids.
+    pub fn lacks(&self, alloc: Global, summary: &Summary) -> Result<Vec<Op>, AllocError>
+        ensures { IfOk result (λ ops. ops.items ≡ lacking self.now.replica.operations summary.now) }
+    {
+        self.ops().lacks(alloc, summary)
+    }
+
+    /// Whether no rule has a step in the pool. It takes no memory.
+    pub fn at_rest(&self) -> bool
+        ensures { IsTrue result ↔ IsAtRest (Step (rules_of (program_on self.now))) self.now.replica.pool }
+    {
+        self.state.at_rest(self.accepted.weighed())
+    }
+}

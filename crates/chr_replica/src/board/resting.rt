@@ -1,0 +1,28 @@
+//! Boards come to rest.
+ghost use Rattle.std.specs.Prelude.{◌≡◌, IfOk, IfErr, OnOk};
+ghost use Rattle.chr_base.specs.Programs.{rules_of};
+ghost use Rattle.chr_base.specs.Rewriting.{IsAtRest};
+ghost use Rattle.chr_base.specs.Rules.{Step};
+ghost use Rattle.chr_replica.specs.Replicas.{Settles};
+ghost use Rattle.chr_replica.specs.Boards.{program_on};
+
+use crate::board::Board;
+use crate::laws::events_keep_replicas_sound;
+use chr_rewrite::resting::Stopped;
+
+impl Board {
+    /// Rests the pool, and answers how many steps that took.
+    ///
+    /// # Errors
+    /// Where memory is refused, with the number of steps taken so far, which stand.
+    pub fn settle(&mut self) -> Result<u64, Stopped>
+        ensures program { self.new.accepted ≡ self.old.accepted }
+        ensures ok { IfOk result (λ n. Settles (program_on self.old) self.old.replica n self.new.replica) }
+        ensures rests { OnOk result (IsAtRest (Step (rules_of (program_on self.old))) self.new.replica.pool) }
+        ensures stopped { IfErr result (λ e.
+            Settles (program_on self.old) self.old.replica e.steps self.new.replica) }
+    {
+        events_keep_replicas_sound();
+        self.state.settle(self.accepted.weighed())
+    }
+}

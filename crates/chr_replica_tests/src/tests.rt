@@ -1,0 +1,7 @@
+//! Replicas are told, merge, lease out, take back and show, on programs and stores that are given as texts.
+mod boards;
+mod exchanges;
+mod leases;
+mod parts;
+mod steps;
+mod texts;
