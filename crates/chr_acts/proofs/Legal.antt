@@ -1,0 +1,26 @@
+-- A legal journal, longer by an entry.
+use Rattle.std.proofs.Common.{◌≡◌, ◌+◌, ℕ, List, [], ◌∷◌, ◌++◌, refl, sym, ap, ◌∙◌, subst, append_assoc}
+use Rattle.std.proofs.lemmas.List.{append-nil}
+use Rattle.chr_base.specs.declared.program.Program.{Program}
+use Rattle.chr_replica.specs.Replicas.{Replica, first}
+use Rattle.chr_acts.specs.declared.act.Act.{Act}
+use Rattle.chr_acts.specs.declared.entry.Entry.{Entry}
+use Rattle.chr_acts.specs.Books.{Enters}
+use Rattle.chr_acts.specs.Events.{Does}
+use Rattle.chr_acts.specs.Journals.{count_of, Leads, IsLegal}
+
+leads_on : (p : Program) (before : List Entry) (s : Replica) (es : List Entry) (u : Replica) (e : Entry) (t : Replica) → Leads p before s es u → e.number ≡ count_of e.seat (before ++ es) + 1 → Does p u e.act e.reply t → Leads p before s (es ++ e ∷ []) t
+leads_on p before s [] u e t is number does =
+    (t, number ∙ ap (λ l. count_of e.seat l + 1) (append-nil before), subst (λ r. Does p r e.act e.reply t) is does, refl)
+leads_on p before s (x ∷ xs) u e t h number does =
+    (h.0, h.1, h.2, leads_on p (before ++ x ∷ []) h.0 xs u e t h.3 (number ∙ ap (λ l. count_of e.seat l + 1) (sym (append_assoc before (x ∷ []) xs))) does)
+
+-- one more event, with its seat's next number
+pub legal_on : (p : Program) (es : List Entry) (s : Replica) (e : Entry) (t : Replica) → IsLegal p es s → e.number ≡ count_of e.seat es + 1 → Does p s e.act e.reply t → IsLegal p (es ++ e ∷ []) t
+legal_on p es s e t legal number does = leads_on p [] first es s e t legal number does
+
+-- a call that is entered
+pub legal_after : (p : Program) (es fs : List Entry) (s t : Replica) (chair : ℕ) (asked : Act) → Enters p es s chair asked fs t → IsLegal p es s → IsLegal p fs t
+legal_after p es fs s t chair asked h legal =
+    subst (λ l. IsLegal p l t) (sym h.after)
+    (legal_on p es s h.entry t legal (subst (λ k. h.entry.number ≡ count_of k es + 1) (sym h.seat) h.number) (subst (λ a. Does p s a h.entry.reply t) (sym h.act) h.does))

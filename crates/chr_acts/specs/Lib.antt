@@ -1,0 +1,5 @@
+pub mod Acts
+pub mod Events
+pub mod Journals
+pub mod Books
+pub mod working

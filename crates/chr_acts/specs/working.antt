@@ -1,0 +1,4 @@
+-- What the views of types need.
+pub mod Codes
+pub mod Journals
+pub mod Books

@@ -1,0 +1,188 @@
+//! Acts, carried out on boards.
+ghost use Rattle.std.specs.Prelude.{◌≡◌, ◌≢◌, ◌≤◌, IfOk, IfErr, OnErr};
+ghost use Rattle.chr_replica.specs.declared.limits.TheConstants.{MAX_PARTS};
+ghost use Rattle.chr_replica.specs.Boards.{program_on};
+ghost use Rattle.chr_acts.specs.Acts.{FitsAct};
+ghost use Rattle.chr_acts.specs.Events.{Does, Refuses};
+
+use crate::act::Act;
+use crate::lists::{LeaseList, OpList};
+use crate::reply::Reply;
+use chr_base::bag::Bag;
+use chr_base::derivation::Step;
+use chr_join::Done;
+use chr_ops::{Added, Op, Summary};
+use chr_replica::{Board, Refusal};
+use std::alloc::{AllocError, Global};
+
+fn tell(alloc: Global, board: &mut Board, op: &Op) -> Result<Reply, Refusal>
+    ensures program { board.new.accepted ≡ board.old.accepted }
+    ensures ok { IfOk result (λ reply.
+        Does (program_on board.old) board.old.replica (Act.Tell op.now) reply board.new.replica) }
+    ensures refused { IfErr result (Refuses (program_on board.old) board.old.replica (Act.Tell op.now)) }
+    ensures err { OnErr result (board.new ≡ board.old) }
+{
+    match board.tell(alloc, op.copy(alloc)?) {
+        Ok(Added::New) => Ok(Reply::Told(Added::New)),
+        Ok(Added::Again) => Ok(Reply::Told(Added::Again)),
+        Err(refusal) => Err(refusal),
+    }
+}
+
+fn merge(alloc: Global, board: &mut Board, ops: &OpList) -> Result<Reply, Refusal>
+    ensures program { board.new.accepted ≡ board.old.accepted }
+    ensures ok { IfOk result (λ reply.
+        Does (program_on board.old) board.old.replica (Act.Merge ops.now) reply board.new.replica) }
+    ensures refused { IfErr result (Refuses (program_on board.old) board.old.replica (Act.Merge ops.now)) }
+    ensures err { OnErr result (board.new ≡ board.old) }
+{
+    match board.merge(alloc, ops.as_slice()) {
+        Ok(count) => Ok(Reply::Merged(count)),
+        Err(refusal) => Err(refusal),
+    }
+}
+
+fn take_step(board: &mut Board, step: &Step) -> Result<Reply, Refusal>
+    ensures program { board.new.accepted ≡ board.old.accepted }
+    ensures ok { IfOk result (λ reply.
+        Does (program_on board.old) board.old.replica (Act.Step step.now) reply board.new.replica) }
+    ensures refused { IfErr result (Refuses (program_on board.old) board.old.replica (Act.Step step.now)) }
+    ensures err { OnErr result (board.new ≡ board.old) }
+{
+    match board.step(step) {
+        Ok(()) => Ok(Reply::Stepped),
+        Err(refusal) => Err(refusal),
+    }
+}
+
+fn take(alloc: Global, board: &mut Board, part: &Bag) -> Result<Reply, Refusal>
+    ensures program { board.new.accepted ≡ board.old.accepted }
+    ensures ok { IfOk result (λ reply.
+        Does (program_on board.old) board.old.replica (Act.Take part.now) reply board.new.replica) }
+    ensures refused { IfErr result (Refuses (program_on board.old) board.old.replica (Act.Take part.now)) }
+    ensures err { OnErr result (board.new ≡ board.old) }
+{
+    match board.take(alloc, part) {
+        Ok(lease) => Ok(Reply::Leased(lease)),
+        Err(refusal) => Err(refusal),
+    }
+}
+
+fn take_parts(alloc: Global, board: &mut Board, count: u32) -> Result<Reply, Refusal>
+    requires { (1 ≤ count) × (count ≤ MAX_PARTS) }
+    ensures program { board.new.accepted ≡ board.old.accepted }
+    ensures ok { IfOk result (λ reply.
+        Does (program_on board.old) board.old.replica (Act.TakeParts count) reply board.new.replica) }
+    ensures refused { IfErr result (Refuses (program_on board.old) board.old.replica (Act.TakeParts count)) }
+    ensures err { OnErr result (board.new ≡ board.old) }
+{
+    match board.take_parts(alloc, count) {
+        Ok(leases) => Ok(Reply::LeasedParts(LeaseList::of(leases))),
+        Err(refusal) => Err(refusal),
+    }
+}
+
+fn put(alloc: Global, board: &mut Board, done: &Done) -> Result<Reply, Refusal>
+    ensures program { board.new.accepted ≡ board.old.accepted }
+    ensures ok { IfOk result (λ reply.
+        Does (program_on board.old) board.old.replica (Act.Put done.now) reply board.new.replica) }
+    ensures refused { IfErr result (Refuses (program_on board.old) board.old.replica (Act.Put done.now)) }
+    ensures err { OnErr result (board.new ≡ board.old) }
+{
+    match board.put(done.copy(alloc)?) {
+        Ok(()) => Ok(Reply::WasPut),
+        Err(not_put) => Err(not_put.refusal),
+    }
+}
+
+fn recall(board: &mut Board, number: u64) -> Result<Reply, Refusal>
+    ensures program { board.new.accepted ≡ board.old.accepted }
+    ensures ok { IfOk result (λ reply.
+        Does (program_on board.old) board.old.replica (Act.Recall number) reply board.new.replica) }
+    ensures refused { IfErr result (Refuses (program_on board.old) board.old.replica (Act.Recall number)) }
+    ensures err { OnErr result (board.new ≡ board.old) }
+{
+    match board.recall(number) {
+        Ok(()) => Ok(Reply::Recalled),
+        Err(refusal) => Err(refusal),
+    }
+}
+
+fn settle(board: &mut Board) -> Reply
+    ensures program { board.new.accepted ≡ board.old.accepted }
+    ensures does { Does (program_on board.old) board.old.replica Act.Settle result board.new.replica }
+{
+    match board.settle() {
+        Ok(steps) => Reply::Settled(steps),
+        Err(stopped) => Reply::Stopped(stopped.steps),
+    }
+}
+
+fn show(alloc: Global, board: &Board) -> Result<Reply, Refusal>
+    ensures ok { IfOk result (λ reply.
+        Does (program_on board.now) board.now.replica Act.Show reply board.now.replica) }
+    ensures refused { IfErr result (Refuses (program_on board.now) board.now.replica Act.Show) }
+{
+    match board.show(alloc) {
+        Ok(bag) => Ok(Reply::Shown(bag)),
+        Err(refusal) => Err(refusal),
+    }
+}
+
+fn summary(alloc: Global, board: &Board) -> Result<Reply, AllocError>
+    ensures { IfOk result (λ reply.
+        Does (program_on board.now) board.now.replica Act.Summary reply board.now.replica) }
+{
+    Ok(Reply::Summed(board.summary(alloc)?))
+}
+
+fn lacks(alloc: Global, board: &Board, summary: &Summary) -> Result<Reply, AllocError>
+    ensures { IfOk result (λ reply.
+        Does (program_on board.now) board.now.replica (Act.Lacks summary.now) reply board.now.replica) }
+{
+    Ok(Reply::Lacked(OpList::of(board.lacks(alloc, summary)?)))
+}
+
+/// What the board answers to an act, or why it does not take it.
+fn answer(alloc: Global, board: &mut Board, act: &Act) -> Result<Reply, Refusal>
+    requires { FitsAct act.now }
+    ensures program { board.new.accepted ≡ board.old.accepted }
+    ensures ok { IfOk result (λ reply.
+        Does (program_on board.old) board.old.replica act.now reply board.new.replica) }
+    ensures refused { IfErr result (λ refusal.
+        refusal ≢ Refusal.Memory → Refuses (program_on board.old) board.old.replica act.now refusal) }
+    ensures err { OnErr result (board.new ≡ board.old) }
+{
+    match act {
+        Act::Tell(op) => tell(alloc, board, op),
+        Act::Merge(ops) => merge(alloc, board, ops),
+        Act::Step(step) => take_step(board, step),
+        Act::Take(part) => take(alloc, board, part),
+        Act::TakeParts(count) => take_parts(alloc, board, *count),
+        Act::Put(done) => put(alloc, board, done),
+        Act::Recall(number) => recall(board, *number),
+        Act::Settle => Ok(settle(board)),
+        Act::Show => show(alloc, board),
+        Act::Summary => Ok(summary(alloc, board)?),
+        Act::Lacks(ids) => Ok(lacks(alloc, board, ids)?),
+    }
+}
+
+/// Carries an act out on a board. A refusal is a reply, and leaves the board as it was; so is a `settle` that was
+/// stopped, whose steps stand.
+///
+/// # Errors
+/// Where memory is refused to any act but a `settle`. The board is as it was.
+pub fn carry_out(alloc: Global, board: &mut Board, act: &Act) -> Result<Reply, AllocError>
+    requires { FitsAct act.now }
+    ensures program { board.new.accepted ≡ board.old.accepted }
+    ensures ok { IfOk result (λ reply.
+        Does (program_on board.old) board.old.replica act.now reply board.new.replica) }
+    ensures err { OnErr result (board.new ≡ board.old) }
+{
+    match answer(alloc, board, act) {
+        Ok(reply) => Ok(reply),
+        Err(Refusal::Memory) => Err(AllocError),
+        Err(refusal) => Ok(Reply::Refused(refusal)),
+    }
+}

@@ -1,0 +1,132 @@
+//! The entries of a journal.
+ghost use Rattle.std.specs.Prelude.{◌≡◌, ◌+◌, ◌++◌, [], ◌∷◌, IfOk, IfErr, OnOk, OnErr};
+ghost use Rattle.std.specs.Prelude.{length, slice_get, option_copied};
+ghost use Rattle.chr_replica.specs.Boards.{program_on};
+ghost use Rattle.chr_acts.specs.Acts.{FitsAct};
+ghost use Rattle.chr_acts.specs.Journals.{count_of};
+ghost use Rattle.chr_acts.specs.Books.{Enters};
+
+use crate::act::Act;
+use crate::acting::carry_out;
+use crate::reply::Reply;
+use chr_replica::Board;
+use std::alloc::{AllocError, Global};
+use std::marker::Model;
+
+/// What a seat asked of a replica, and what was answered.
+#[derive(Drop)]
+pub struct Entry {
+    pub seat: u32,
+    /// The seat's entries have the numbers 1, 2 and so on.
+    pub number: u64,
+    pub act: Act,
+    pub reply: Reply,
+}
+
+impl Entry {
+    /// An equal entry.
+    pub fn copy(&self, alloc: Global) -> Result<Entry, AllocError>
+        ensures { IfOk result (λ entry. entry ≡ self.now) }
+    {
+        Ok(Entry {
+            seat: self.seat,
+            number: self.number,
+            act: self.act.copy(alloc)?,
+            reply: self.reply.copy(alloc)?,
+        })
+    }
+}
+
+/// Entries, the oldest first.
+#[derive(Drop)]
+pub struct Journal {
+    entries: Vec<Entry>,
+}
+
+impl Model for Journal {
+    ghost use Rattle.std.specs.Prelude.{List};
+    ghost use Rattle.chr_acts.specs.declared.entry.Entry.{Entry};
+    ghost use Rattle.chr_acts.specs.working.Journals.{coded_journal};
+
+    ghost Value = { List Entry };
+
+    ghost coded = { coded_journal };
+
+    ghost view = { λ j. j.entries.items };
+}
+
+impl Journal {
+    /// The empty one.
+    pub fn new(alloc: Global) -> Journal
+        ensures { result ≡ [] }
+    {
+        Journal {
+            entries: Vec::new(alloc),
+        }
+    }
+
+    /// The number of entries. It takes no memory.
+    pub fn len(&self) -> usize
+        ensures { result ≡ length self.now }
+    {
+        self.entries.len()
+    }
+
+    /// The entry at a place, counted from 0. It takes no memory.
+    pub fn get(&self, place: usize) -> Option<&Entry>
+        ensures { option_copied result ≡ slice_get self.now place }
+    {
+        self.entries.get(place)
+    }
+
+    /// Adds an entry. Where memory is refused nothing changes.
+    pub fn push(&mut self, entry: Entry) -> Result<(), AllocError>
+        ensures ok { OnOk result (self.new ≡ self.old ++ entry ∷ []) }
+    {
+        self.entries.push(entry)?;
+        Ok(())
+    }
+
+    /// The number that the next entry of a seat has. It takes no memory.
+    pub fn next_number(&self, seat: u32) -> u64
+        ensures { result ≡ count_of seat self.now + 1 }
+    {
+        let entered = self.entries.iter().filter(|e| e.seat == seat).count();
+        entered as u64 + 1
+    }
+
+    /// Carries a seat's act out on a board, and enters it with the reply under the seat's next number.
+    ///
+    /// # Errors
+    /// Where memory is refused, with the act. Nothing is entered, and the board is as it was.
+    pub(crate) fn enter(
+        &mut self,
+        alloc: Global,
+        board: &mut Board,
+        seat: u32,
+        act: Act,
+    ) -> Result<(), Act>
+        requires { FitsAct act }
+        ensures program { board.new.accepted ≡ board.old.accepted }
+        ensures ok { OnOk result (
+            Enters (program_on board.old) self.old board.old.replica seat act self.new board.new.replica) }
+        ensures handed_back { IfErr result (λ back. back ≡ act) }
+        ensures err { OnErr result (self.new ≡ self.old) }
+        ensures board { OnErr result (board.new ≡ board.old) }
+    {
+        let number = self.next_number(seat);
+        if self.entries.reserve(1).is_err() {
+            return Err(act);
+        }
+        let Ok(reply) = carry_out(alloc, board, &act) else {
+            return Err(act);
+        };
+        self.entries.push_reserved(Entry {
+            seat,
+            number,
+            act,
+            reply,
+        });
+        Ok(())
+    }
+}

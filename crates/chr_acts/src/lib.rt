@@ -1,0 +1,20 @@
+//! What is asked of a replica and what it answers, as plain data with equal copies; the call that
+//! carries it out on a board; and books: boards with journals of what was asked and answered.
+#![tactic(auto)]
+
+mod act;
+mod acting;
+mod book;
+mod entry;
+mod lists;
+mod reply;
+
+pub use act::Act;
+pub use acting::carry_out;
+pub use book::{Book, CallFault};
+pub use entry::{Entry, Journal};
+pub use lists::{LeaseList, OpList};
+pub use reply::Reply;
+
+#[cfg(test)]
+mod tests;

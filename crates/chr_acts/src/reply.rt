@@ -1,0 +1,63 @@
+//! What a replica answers.
+ghost use Rattle.std.specs.Prelude.{◌≡◌, IfOk};
+
+use crate::lists::{LeaseList, OpList};
+use chr_base::bag::Bag;
+use chr_join::Lease;
+use chr_ops::{Added, Summary};
+use chr_replica::Refusal;
+use std::alloc::{AllocError, Global};
+
+/// What came of an act.
+#[derive(Drop)]
+pub enum Reply {
+    /// Whether the operation that was told is new.
+    Told(Added),
+    /// The number of operations that are new.
+    Merged(u64),
+    /// The step was taken.
+    Stepped,
+    /// The part, and the number under which it is leased out.
+    Leased(Lease),
+    /// The parts, and the numbers under which they are leased out.
+    LeasedParts(LeaseList),
+    /// The result is in the pool.
+    WasPut,
+    /// The part is back in the pool.
+    Recalled,
+    /// The pool is at rest, after so many steps.
+    Settled(u64),
+    /// Memory was refused after so many steps, which stand.
+    Stopped(u64),
+    /// The pool, where it has settled.
+    Shown(Bag),
+    /// The ids of the operations.
+    Summed(Summary),
+    /// The operations, in the order of ids.
+    Lacked(OpList),
+    /// Nothing has changed.
+    Refused(Refusal),
+}
+
+impl Reply {
+    /// An equal reply.
+    pub fn copy(&self, alloc: Global) -> Result<Reply, AllocError>
+        ensures { IfOk result (λ reply. reply ≡ self.now) }
+    {
+        Ok(match self {
+            Reply::Told(added) => Reply::Told(*added),
+            Reply::Merged(count) => Reply::Merged(*count),
+            Reply::Stepped => Reply::Stepped,
+            Reply::Leased(lease) => Reply::Leased(lease.copy(alloc)?),
+            Reply::LeasedParts(leases) => Reply::LeasedParts(leases.copy(alloc)?),
+            Reply::WasPut => Reply::WasPut,
+            Reply::Recalled => Reply::Recalled,
+            Reply::Settled(steps) => Reply::Settled(*steps),
+            Reply::Stopped(steps) => Reply::Stopped(*steps),
+            Reply::Shown(bag) => Reply::Shown(bag.copy(alloc)?),
+            Reply::Summed(summary) => Reply::Summed(summary.copy(alloc)?),
+            Reply::Lacked(ops) => Reply::Lacked(ops.copy(alloc)?),
+            Reply::Refused(refusal) => Reply::Refused(*refusal),
+        })
+    }
+}
