@@ -6,3 +6,9 @@ pub mod Pieces
 pub mod Lists
 pub mod Texts
 pub mod Reading
+pub mod Joined
+pub mod Writable
+pub mod MessagesBack
+pub mod CommandParts
+pub mod CommandsBack
+pub mod CommandTexts

@@ -1,5 +1,5 @@
 -- What a line says has arguments of 64 bits: the reader of JSON gives whole numbers no others.
-use Rattle.std.specs.Prelude.{◌≡◌, ℕ, zero, suc, ◌≤◌, ◌^◌, pos, neg_ℤ, List, [], ◌∷◌, length, drop, slice_index, Bool, true, false, ◌&&◌, ◌==◌, cond, nat_lt, nat_le, Option, Some, None, option_map, option_and_then, Result, Err, IfSome, IfOk, FitsSigned, codes, ⊤}
+use Rattle.std.specs.Prelude.{◌≡◌, ℕ, zero, suc, ◌≤◌, ◌^◌, pos, neg_ℤ, List, [], ◌∷◌, ◌++◌, length, drop, slice_index, Bool, true, false, ◌&&◌, ◌==◌, cond, nat_lt, nat_le, Option, Some, None, option_map, option_and_then, Result, Err, IfSome, IfOk, FitsSigned, codes, ⊤}
 use Rattle.std.proofs.Common.{refl, arith}
 use Rattle.std.proofs.lemmas.Bool.Decides.{nat_tests}
 use Rattle.std.specs.Int.{w64}
@@ -17,8 +17,13 @@ use Rattle.chr_json.specs.declared.fault.LineFault.{LineFault}
 use Rattle.chr_json.specs.declared.fault.LineFault.TheVariants as fault
 use Rattle.chr_base.specs.declared.limits.TheConstants.{MAX_OPERATION}
 use Rattle.chr_base.specs.Traversals.{each}
-use Rattle.chr_json.specs.Values.{json_in, listed, elements, natural_of, integer_of, is_string}
-use Rattle.chr_json.specs.Commands.{Said, show, tell, named_atom_from, named_atom_of, named_atoms_from, named_atoms_of, id_of, show_of, tell_of, command_from, command_of}
+use Rattle.chr_json.specs.Values.{json_in, listed, elements, joined, natural_of, integer_of, origin_of, is_string}
+use Rattle.chr_json.specs.NamedAtoms.{named_atom_from, named_atom_of, named_atoms_from, named_atoms_of, id_of}
+use Rattle.chr_json.specs.declared.command.DeltaVersion.{DeltaVersion}
+use Rattle.chr_json.specs.declared.command.DeltaVersion.TheVariants as version
+use Rattle.chr_json.specs.Summaries.{summary_of}
+use Rattle.chr_json.specs.Deltas.{NamedOperation, named_operation, operation_with, operation_from, operation_of, numbered_from, numbered_of, all_numbered_of, group_from, group_of, groups_of, is_natural, begins_with_number, delta_2_from, delta_from, delta_of}
+use Rattle.chr_json.specs.Commands.{Said, show, tell, sync, summary, lacks, merge, tell_of, sync_of, lacks_of, merge_of, version_of, command_of_one, command_of_two, command_of_three, command_from, command_of}
 use Rattle.chr_json.specs.Printed.{ArgumentsFit}
 use Rattle.chr_json.specs.Lines.{has_line_length}
 use Rattle.chr_json.specs.Reads.{value_said, line_said}
@@ -41,10 +46,17 @@ abbrev mutual
   HaveRanges no_items = ⊤
   HaveRanges (item d ds) = HasRanges d × HaveRanges ds
 
+abbrev pub OperationFits : NamedOperation → Type 0
+OperationFits o = AllByRecursion ArgumentsFit o.atoms
+
 -- each argument of each atom has 64 bits
 abbrev pub HasFittingArguments : Said → Type 0
 HasFittingArguments (show r) = ⊤
 HasFittingArguments (tell r o n ws) = AllByRecursion ArgumentsFit ws
+HasFittingArguments (merge r os) = AllByRecursion OperationFits os
+HasFittingArguments (sync a b) = ⊤
+HasFittingArguments (summary r) = ⊤
+HasFittingArguments (lacks r rs v) = ⊤
 
 -- ---- what holds of a value where there is one
 
@@ -162,9 +174,6 @@ named_atoms_from_fit ds h = if_either (AllByRecursion ArgumentsFit) (nat_le 1 (l
 named_atoms_fit : (d : Data) → HasRanges d → IfSome (named_atoms_of d) (AllByRecursion ArgumentsFit)
 named_atoms_fit d h = of_elements (AllByRecursion ArgumentsFit) named_atoms_from named_atoms_from_fit d h
 
-show_fits : (r : Data) → IfSome (show_of r) HasFittingArguments
-show_fits r = if_map (λ _. ⊤) HasFittingArguments show (λ _ h. h) (natural_of r) (always (natural_of r))
-
 tell_fits : (r id atoms : Data) → HasRanges atoms → IfSome (tell_of r id atoms) HasFittingArguments
 tell_fits r id atoms h =
     if_then (λ _. ⊤) HasFittingArguments (λ replica. option_and_then (λ p. option_map (tell replica p.0 p.1) (named_atoms_of atoms)) (id_of id))
@@ -172,13 +181,121 @@ tell_fits r id atoms h =
     (λ p _. if_map (AllByRecursion ArgumentsFit) HasFittingArguments (tell replica p.0 p.1) (λ ws g. g) (named_atoms_of atoms) (named_atoms_fit atoms h)) (id_of id) (always (id_of id)))
     (natural_of r) (always (natural_of r))
 
+-- ---- operations of a delta
+
+operation_with_fits : (id atoms : Data) → HasRanges atoms → IfSome (operation_with id atoms) OperationFits
+operation_with_fits id atoms h =
+    if_then (λ _. ⊤) OperationFits (λ p. option_map (named_operation p.0 p.1) (named_atoms_of atoms))
+    (λ p _. if_map (AllByRecursion ArgumentsFit) OperationFits (named_operation p.0 p.1) (λ ws g. g) (named_atoms_of atoms) (named_atoms_fit atoms h)) (id_of id) (always (id_of id))
+
+operation_from_fits : (ds : List Data) → AllByRecursion HasRanges ds → IfSome (operation_from ds) OperationFits
+operation_from_fits [] h = tt
+operation_from_fits (id ∷ []) h = tt
+operation_from_fits (id ∷ atoms ∷ []) h = operation_with_fits id atoms h.1.0
+operation_from_fits (id ∷ atoms ∷ d ∷ ds) h = tt
+
+operation_fits : (d : Data) → HasRanges d → IfSome (operation_of d) OperationFits
+operation_fits d h = of_elements OperationFits operation_from operation_from_fits d h
+
+numbered_from_fits : (o : ℕ) (ds : List Data) → AllByRecursion HasRanges ds → IfSome (numbered_from o ds) OperationFits
+numbered_from_fits o [] h = tt
+numbered_from_fits o (n ∷ []) h = tt
+numbered_from_fits o (n ∷ atoms ∷ []) h =
+    if_then (λ _. ⊤) OperationFits (λ number. option_map (named_operation o number) (named_atoms_of atoms))
+    (λ number _. if_map (AllByRecursion ArgumentsFit) OperationFits (named_operation o number) (λ ws g. g) (named_atoms_of atoms) (named_atoms_fit atoms h.1.0)) (natural_of n) (always (natural_of n))
+numbered_from_fits o (n ∷ atoms ∷ d ∷ ds) h = tt
+
+numbered_fits : (o : ℕ) (d : Data) → HasRanges d → IfSome (numbered_of o d) OperationFits
+numbered_fits o d h = of_elements OperationFits (numbered_from o) (numbered_from_fits o) d h
+
+abbrev OperationsFit : List NamedOperation → Type 0
+OperationsFit os = AllByRecursion OperationFits os
+
+all_numbered_fit : (o : ℕ) (d : Data) → HasRanges d → IfSome (all_numbered_of o d) OperationsFit
+all_numbered_fit o d h = of_elements OperationsFit (each (numbered_of o)) (λ ds g. if_each HasRanges OperationFits (numbered_of o) (numbered_fits o) ds g) d h
+
+group_from_fits : (ds : List Data) → AllByRecursion HasRanges ds → IfSome (group_from ds) OperationsFit
+group_from_fits [] h = tt
+group_from_fits (o ∷ []) h = tt
+group_from_fits (o ∷ ops ∷ []) h =
+    if_then (λ _. ⊤) OperationsFit (λ origin. all_numbered_of origin ops) (λ origin _. all_numbered_fit origin ops h.1.0) (origin_of o) (always (origin_of o))
+group_from_fits (o ∷ ops ∷ d ∷ ds) h = tt
+
+group_fits : (d : Data) → HasRanges d → IfSome (group_of d) OperationsFit
+group_fits d h = of_elements OperationsFit group_from group_from_fits d h
+
+appended_fit : (os ps : List NamedOperation) → OperationsFit os → OperationsFit ps → OperationsFit (os ++ ps)
+appended_fit [] ps h g = g
+appended_fit (o ∷ os) ps h g = (h.0, appended_fit os ps h.1 g)
+
+joined_fit : (ds : List Data) → AllByRecursion HasRanges ds → IfSome (joined group_of ds) OperationsFit
+joined_fit [] h = tt
+joined_fit (d ∷ ds) h =
+    if_then OperationsFit OperationsFit (λ os. option_map (λ ps. os ++ ps) (joined group_of ds))
+    (λ os g. if_map OperationsFit OperationsFit (λ ps. os ++ ps) (λ ps k. appended_fit os ps g k) (joined group_of ds) (joined_fit ds h.1)) (group_of d) (group_fits d h.0)
+
+groups_fit : (d : Data) → HasRanges d → IfSome (groups_of d) OperationsFit
+groups_fit d h = of_elements OperationsFit (joined group_of) joined_fit d h
+
+delta_2_from_fits : (ds : List Data) → AllByRecursion HasRanges ds → IfSome (delta_2_from ds) OperationsFit
+delta_2_from_fits [] h = tt
+delta_2_from_fits (v ∷ []) h = tt
+delta_2_from_fits (v ∷ gs ∷ []) h = if_either OperationsFit (is_natural 2 v) (groups_of gs) None (λ _. groups_fit gs h.1.0) tt
+delta_2_from_fits (v ∷ gs ∷ d ∷ ds) h = tt
+
+delta_from_fits : (ds : List Data) → AllByRecursion HasRanges ds → IfSome (delta_from ds) OperationsFit
+delta_from_fits ds h =
+    if_either OperationsFit (begins_with_number ds) (delta_2_from ds) (each operation_of ds) (λ _. delta_2_from_fits ds h)
+    (if_each HasRanges OperationFits operation_of operation_fits ds h)
+
+delta_fits : (d : Data) → HasRanges d → IfSome (delta_of d) OperationsFit
+delta_fits d h = of_elements OperationsFit delta_from delta_from_fits d h
+
+merge_fits : (r d : Data) → HasRanges d → IfSome (merge_of r d) HasFittingArguments
+merge_fits r d h =
+    if_then (λ _. ⊤) HasFittingArguments (λ replica. option_map (merge replica) (delta_of d))
+    (λ replica _. if_map OperationsFit HasFittingArguments (merge replica) (λ os g. g) (delta_of d) (delta_fits d h)) (natural_of r) (always (natural_of r))
+
+-- ---- commands without atoms
+
+one_fits : (w r : Data) → IfSome (command_of_one w r) HasFittingArguments
+one_fits w r =
+    if_either HasFittingArguments (is_string (codes "show") w) (option_map show (natural_of r)) (cond (is_string (codes "summary") w) (option_map summary (natural_of r)) None)
+    (λ _. if_map (λ _. ⊤) HasFittingArguments show (λ _ h. h) (natural_of r) (always (natural_of r)))
+    (if_either HasFittingArguments (is_string (codes "summary") w) (option_map summary (natural_of r)) None
+    (λ _. if_map (λ _. ⊤) HasFittingArguments summary (λ _ h. h) (natural_of r) (always (natural_of r))) tt)
+
+sync_fits : (a b : Data) → IfSome (sync_of a b) HasFittingArguments
+sync_fits a b =
+    if_then (λ _. ⊤) HasFittingArguments (λ from. option_map (sync from) (natural_of b))
+    (λ from _. if_map (λ _. ⊤) HasFittingArguments (sync from) (λ _ h. h) (natural_of b) (always (natural_of b))) (natural_of a) (always (natural_of a))
+
+lacks_fits : (r d : Data) (v : DeltaVersion) → IfSome (lacks_of r d v) HasFittingArguments
+lacks_fits r d v =
+    if_then (λ _. ⊤) HasFittingArguments (λ replica. option_map (λ rs. lacks replica rs v) (summary_of d))
+    (λ replica _. if_map (λ _. ⊤) HasFittingArguments (λ rs. lacks replica rs v) (λ _ h. h) (summary_of d) (always (summary_of d))) (natural_of r) (always (natural_of r))
+
+two_fits : (w r d : Data) → HasRanges d → IfSome (command_of_two w r d) HasFittingArguments
+two_fits w r d h =
+    let merged = cond (is_string (codes "merge") w) (merge_of r d) None in
+    if_either HasFittingArguments (is_string (codes "sync") w) (sync_of r d) (cond (is_string (codes "lacks") w) (lacks_of r d version.Two) merged) (λ _. sync_fits r d)
+    (if_either HasFittingArguments (is_string (codes "lacks") w) (lacks_of r d version.Two) merged (λ _. lacks_fits r d version.Two)
+    (if_either HasFittingArguments (is_string (codes "merge") w) (merge_of r d) None (λ _. merge_fits r d h) tt))
+
+three_fits : (w r d e : Data) → HasRanges e → IfSome (command_of_three w r d e) HasFittingArguments
+three_fits w r d e h =
+    let lacked = option_and_then (lacks_of r d) (version_of e) in
+    if_either HasFittingArguments (is_string (codes "tell") w) (tell_of r d e) (cond (is_string (codes "lacks") w) lacked None) (λ _. tell_fits r d e h)
+    (if_either HasFittingArguments (is_string (codes "lacks") w) lacked None
+    (λ _. if_then (λ _. ⊤) HasFittingArguments (lacks_of r d) (λ v _. lacks_fits r d v) (version_of e) (always (version_of e))) tt)
+
 command_from_fits : (ds : List Data) → AllByRecursion HasRanges ds → IfSome (command_from ds) HasFittingArguments
 command_from_fits [] h = tt
 command_from_fits (w ∷ []) h = tt
-command_from_fits (w ∷ r ∷ []) h = if_either HasFittingArguments (is_string (codes "show") w) (show_of r) None (λ _. show_fits r) tt
-command_from_fits (w ∷ r ∷ id ∷ []) h = tt
-command_from_fits (w ∷ r ∷ id ∷ atoms ∷ []) h = if_either HasFittingArguments (is_string (codes "tell") w) (tell_of r id atoms) None (λ _. tell_fits r id atoms h.1.1.1.0) tt
-command_from_fits (w ∷ r ∷ id ∷ atoms ∷ d ∷ ds) h = tt
+command_from_fits (w ∷ r ∷ []) h = one_fits w r
+command_from_fits (w ∷ r ∷ d ∷ []) h = two_fits w r d h.1.1.0
+command_from_fits (w ∷ r ∷ d ∷ e ∷ []) h = three_fits w r d e h.1.1.1.0
+command_from_fits (w ∷ r ∷ d ∷ e ∷ f ∷ ds) h = tt
 
 pub command_fits : (d : Data) → HasRanges d → IfSome (command_of d) HasFittingArguments
 command_fits d h = of_elements HasFittingArguments command_from command_from_fits d h

@@ -1,15 +1,13 @@
 -- Commands over JSON values, by their shape alone.
-use Rattle.std.specs.Prelude.{ℕ, ℤ, List, [], ◌∷◌, length, ◌≤◌, nat_le, ◌&&◌, if◌then◌else◌, Option, None, option_map, option_and_then, codes}
+use Rattle.std.specs.Prelude.{ℕ, List, [], ◌∷◌, if◌then◌else◌, Option, Some, None, option_map, option_and_then, codes}
 use Rattle.serde_json.specs.Data.{Data}
-use Rattle.serde_json.specs.Find.{as_str}
-use Rattle.chr_base.specs.declared.limits.TheConstants.{MAX_OPERATION}
-use Rattle.chr_base.specs.Traversals.{each}
-use Rattle.chr_json.specs.Values.{elements, natural_of, integer_of, origin_of, is_string}
-
--- an atom: a name and its arguments
-pub record NamedAtom : Type 0 where
-  pub name : List ℕ
-  pub args : List ℤ
+use Rattle.chr_ops.specs.declared.range.IdRange.{IdRange}
+use Rattle.chr_json.specs.declared.command.DeltaVersion.{DeltaVersion}
+use Rattle.chr_json.specs.declared.command.DeltaVersion.TheVariants as version
+use Rattle.chr_json.specs.Values.{elements, natural_of, is_string}
+use Rattle.chr_json.specs.NamedAtoms.{NamedAtom, named_atoms_of, id_of}
+use Rattle.chr_json.specs.Summaries.{summary_of}
+use Rattle.chr_json.specs.Deltas.{NamedOperation, is_natural, delta_of}
 
 -- what a command says
 pub data Said : Type 0 where
@@ -17,40 +15,14 @@ pub data Said : Type 0 where
   show : ℕ → Said
   -- a replica, an origin, the operation's number there, and the operation's atoms
   tell : ℕ → ℕ → ℕ → List NamedAtom → Said
-
--- an array of a name and whole numbers
-abbrev pub named_atom_from : List Data → Option NamedAtom
-named_atom_from [] = None
-named_atom_from (d ∷ ds) =
-    option_and_then (λ name. option_map (λ zs. record { name = name; args = zs }) (each integer_of ds)) (as_str d)
-
-abbrev pub named_atom_of : Data → Option NamedAtom
-named_atom_of d = option_and_then named_atom_from (elements d)
-
--- an operation has at least one atom, and no more than it may have
-abbrev pub IsOperationLength : ℕ → Type 0
-IsOperationLength n = (1 ≤ n) × (n ≤ MAX_OPERATION)
-
--- an array of as many atoms as an operation has
-abbrev pub named_atoms_from : List Data → Option (List NamedAtom)
-named_atoms_from ds =
-    if nat_le 1 (length ds) && nat_le (length ds) MAX_OPERATION then each named_atom_of ds else None
-
-abbrev pub named_atoms_of : Data → Option (List NamedAtom)
-named_atoms_of d = option_and_then named_atoms_from (elements d)
-
--- an array of an origin and a number
-abbrev pub id_from : List Data → Option (ℕ × ℕ)
-id_from [] = None
-id_from (o ∷ []) = None
-id_from (o ∷ n ∷ []) = option_and_then (λ x. option_map (λ y. (x, y)) (natural_of n)) (origin_of o)
-id_from (o ∷ n ∷ d ∷ ds) = None
-
-abbrev pub id_of : Data → Option (ℕ × ℕ)
-id_of d = option_and_then id_from (elements d)
-
-abbrev pub show_of : Data → Option Said
-show_of r = option_map show (natural_of r)
+  -- the replica whose operations are wanted, and the one that is to have them
+  sync : ℕ → ℕ → Said
+  -- a replica
+  summary : ℕ → Said
+  -- a replica, the ranges of a summary, and the version of the delta that is wanted
+  lacks : ℕ → List IdRange → DeltaVersion → Said
+  -- a replica, and the operations of a delta
+  merge : ℕ → List NamedOperation → Said
 
 abbrev pub tell_of : Data → Data → Data → Option Said
 tell_of r id atoms =
@@ -58,14 +30,44 @@ tell_of r id atoms =
     (λ replica. option_and_then (λ p. option_map (tell replica p.0 p.1) (named_atoms_of atoms)) (id_of id))
     (natural_of r)
 
--- an array of a command's word and what it takes
+abbrev pub sync_of : Data → Data → Option Said
+sync_of from to = option_and_then (λ a. option_map (sync a) (natural_of to)) (natural_of from)
+
+abbrev pub lacks_of : Data → Data → DeltaVersion → Option Said
+lacks_of r held v = option_and_then (λ replica. option_map (λ rs. lacks replica rs v) (summary_of held)) (natural_of r)
+
+abbrev pub merge_of : Data → Data → Option Said
+merge_of r delta = option_and_then (λ replica. option_map (merge replica) (delta_of delta)) (natural_of r)
+
+-- the number 1 or 2
+abbrev pub version_of : Data → Option DeltaVersion
+version_of d = if is_natural 1 d then Some version.One else if is_natural 2 d then Some version.Two else None
+
+-- a command's word, and what it takes: one thing, two or three
+abbrev pub command_of_one : Data → Data → Option Said
+command_of_one w r =
+    if is_string (codes "show") w then option_map show (natural_of r)
+    else if is_string (codes "summary") w then option_map summary (natural_of r) else None
+
+abbrev pub command_of_two : Data → Data → Data → Option Said
+command_of_two w r d =
+    if is_string (codes "sync") w then sync_of r d
+    else if is_string (codes "lacks") w then lacks_of r d version.Two
+    else if is_string (codes "merge") w then merge_of r d else None
+
+abbrev pub command_of_three : Data → Data → Data → Data → Option Said
+command_of_three w r d e =
+    if is_string (codes "tell") w then tell_of r d e
+    else if is_string (codes "lacks") w then option_and_then (lacks_of r d) (version_of e) else None
+
+-- an array of these
 abbrev pub command_from : List Data → Option Said
 command_from [] = None
 command_from (w ∷ []) = None
-command_from (w ∷ r ∷ []) = if is_string (codes "show") w then show_of r else None
-command_from (w ∷ r ∷ id ∷ []) = None
-command_from (w ∷ r ∷ id ∷ atoms ∷ []) = if is_string (codes "tell") w then tell_of r id atoms else None
-command_from (w ∷ r ∷ id ∷ atoms ∷ d ∷ ds) = None
+command_from (w ∷ r ∷ []) = command_of_one w r
+command_from (w ∷ r ∷ d ∷ []) = command_of_two w r d
+command_from (w ∷ r ∷ d ∷ e ∷ []) = command_of_three w r d e
+command_from (w ∷ r ∷ d ∷ e ∷ f ∷ ds) = None
 
 abbrev pub command_of : Data → Option Said
 command_of d = option_and_then command_from (elements d)

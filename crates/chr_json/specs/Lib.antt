@@ -1,7 +1,13 @@
 pub mod Values
+pub mod NamedAtoms
+pub mod Summaries
+pub mod Deltas
 pub mod Commands
 pub mod Printed
 pub mod Lines
+pub mod Parts
 pub mod Reads
 pub mod Texts
+pub mod Messages
+pub mod WrittenCommands
 pub mod working

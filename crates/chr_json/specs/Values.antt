@@ -1,5 +1,5 @@
 -- The parts of a JSON value.
-use Rattle.std.specs.Prelude.{ℕ, ◌^◌, ℤ, List, [], ◌∷◌, Bool, false, nat_lt, if◌then◌else◌, Option, Some, None, option_map, option_and_then}
+use Rattle.std.specs.Prelude.{ℕ, ◌^◌, ℤ, List, [], ◌∷◌, ◌++◌, Bool, false, nat_lt, if◌then◌else◌, Option, Some, None, option_map, option_and_then}
 use Rattle.std.specs.Str.{bytes_eq, is_utf8}
 use Rattle.std.specs.Option.{option_map_or}
 use Rattle.serde_json.specs.Data.{Data, Items, no_items, item}
@@ -36,3 +36,8 @@ origin_of d = option_and_then within_32_bits (natural_of d)
 -- whether the value is this text
 abbrev pub is_string : List ℕ → Data → Bool
 is_string name d = option_map_or (λ s. bytes_eq s name) (as_str d) false
+
+-- what f reads in each, one after another, where it reads each
+abbrev pub joined : {A B : Type 0} → (A → Option (List B)) → List A → Option (List B)
+joined f [] = Some []
+joined f (x ∷ xs) = option_and_then (λ ys. option_map (λ zs. ys ++ zs) (joined f xs)) (f x)

@@ -4,9 +4,9 @@ ghost use Rattle.std.specs.Prelude.{◌≡◌, IfOk, length, map, vec_len};
 ghost use Rattle.serde_json.specs.View.{view as data_of};
 ghost use Rattle.chr_base.specs.Traversals.{each};
 ghost use Rattle.chr_json.specs.Values.{integer_of};
-ghost use Rattle.chr_json.specs.Commands.{IsOperationLength, named_atom_of, named_atoms_of};
+ghost use Rattle.chr_json.specs.NamedAtoms.{IsOperationLength, named_atom_of, named_atoms_of};
 ghost use Rattle.chr_json.specs.Reads.{raw_atom_view};
-ghost use Rattle.chr_json.specs.working.Parts.{GivesPart};
+ghost use Rattle.chr_json.specs.Parts.{GivesPart};
 
 use crate::fault::LineFault;
 use crate::value::elements;

@@ -6,7 +6,7 @@ ghost use Rattle.std.specs.List.{AllByRecursion};
 ghost use Rattle.std.specs.Str.{IsUtf8};
 ghost use Rattle.serde_json.specs.View.{items_of};
 ghost use Rattle.serde_json.specs.Written.{compact_text, items_text};
-ghost use Rattle.chr_json.specs.Commands.{IsOperationLength};
+ghost use Rattle.chr_json.specs.NamedAtoms.{IsOperationLength};
 ghost use Rattle.chr_json.specs.Printed.{argument_data, atom_data, atoms_data, id_data, ArgumentsFit};
 ghost use Rattle.chr_json.specs.Reads.{IsSized, raw_atom_view, command_view};
 ghost use Rattle.chr_json.specs.Texts.{command_text, IsWithinTextLimits};

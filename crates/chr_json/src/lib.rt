@@ -7,15 +7,23 @@
 mod atom;
 mod command;
 mod compact;
+mod delta;
 mod fault;
 mod limits;
 mod line;
+mod message;
+mod operation;
 mod piece;
+mod summary;
 mod value;
 
 pub use atom::{Arguments, RawAtom};
 pub use chr_base::limits::MAX_OPERATION;
-pub use command::{Command, command_texts_are_said, commands_are_read};
+pub use command::{Command, DeltaVersion, command_texts_are_said, commands_are_read};
+pub use delta::operations_in;
 pub use fault::LineFault;
 pub use limits::{MAX_LINE, MAX_ORIGIN};
-pub use line::{is_blank, read_line};
+pub use line::{is_blank, read_line, value_in};
+pub use message::message_texts_are_read;
+pub use operation::{RawOp, operation_in};
+pub use summary::ranges_in;

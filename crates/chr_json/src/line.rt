@@ -4,7 +4,7 @@ ghost use Rattle.std.specs.Prelude.{◌≡◌, ◌<◌, length, Err, IfOk};
 ghost use Rattle.chr_json.specs.Lines.{is_blank_line};
 ghost use Rattle.chr_json.specs.Values.{json_in};
 ghost use Rattle.chr_json.specs.Reads.{GivesLine, IsSized, line_said, value_said};
-ghost use Rattle.chr_json.specs.working.Parts.{GivesValue};
+ghost use Rattle.chr_json.specs.Parts.{GivesValue};
 ghost use Rattle.chr_json.specs.declared.limits.TheConstants.{MAX_LINE};
 ghost use Rattle.chr_json.specs.declared.fault.LineFault.TheVariants.{BadLine};
 
@@ -23,8 +23,12 @@ pub fn is_blank(line: &[u8]) -> bool
     line.iter().all(|byte| *byte == b' ' || *byte == b'\t')
 }
 
-/// The JSON value of the bytes.
-fn value_in(alloc: Global, line: &[u8]) -> Result<Value, LineFault>
+/// The JSON value of the bytes, however many.
+///
+/// # Errors
+///
+/// `BadLine` where the bytes are no JSON value, and `Memory` where no memory was left.
+pub fn value_in(alloc: Global, line: &[u8]) -> Result<Value, LineFault>
     ensures { GivesValue result (json_in line.now) }
 {
     match Value::from_slice(alloc, line) {
@@ -70,7 +74,9 @@ pub fn read_line(alloc: Global, line: &[u8]) -> Result<Command<'_>, LineFault>
 mod tests {
     use super::*;
     use crate::atom::{Arguments, RawAtom};
-    use crate::command::{command_texts_are_said, commands_are_read};
+    use crate::command::{DeltaVersion, command_texts_are_said, commands_are_read};
+    use crate::operation::RawOp;
+    use chr_ops::{IdRange, OpId};
     use std::alloc::AllocError;
     use std::borrow::CowStr;
     use std::test::Fail;
@@ -106,6 +112,56 @@ mod tests {
     }
 
     #[test]
+    fn exchanges_are_given(rt: HostRuntime) -> Result<(), Fail> {
+        let alloc = rt.alloc();
+        assert_eq!(rt;
+            read_line(alloc, b"[\"sync\",3,0]"),
+            Ok(Command::Sync { from: 3, to: 0 })
+        );
+        assert_eq!(rt;
+            read_line(alloc, b"[\"summary\",2]"),
+            Ok(Command::Summary { replica: 2 })
+        );
+        for (line, version) in [
+            ("[\"lacks\",1,[[5,[[0,9]]]]]", DeltaVersion::Two),
+            ("[\"lacks\",1,[[5,[[0,9]]]],2]", DeltaVersion::Two),
+            ("[\"lacks\",1,[[5,[[0,9]]]],1]", DeltaVersion::One),
+        ] {
+            let mut ranges = Vec::new(alloc);
+            ranges.push(IdRange {
+                origin: 5,
+                lo: 0,
+                hi: 9,
+            })?;
+            let lacks = Command::Lacks {
+                replica: 1,
+                ranges,
+                version,
+            };
+            assert_eq!(rt; read_line(alloc, line.as_bytes()), Ok(lacks), "at {line}");
+        }
+        for line in [
+            "[\"merge\",7,[[[5,9],[[\"a\",2]]]]]",
+            "[\"merge\",7,[2,[[5,[[9,[[\"a\",2]]]]],[6,[]]]]]",
+        ] {
+            let mut atoms = Vec::new(alloc);
+            atoms.push(atom(alloc, "a", 2)?)?;
+            let mut operations = Vec::new(alloc);
+            let id = OpId {
+                origin: 5,
+                number: 9,
+            };
+            operations.push(RawOp { id, atoms })?;
+            let merge = Command::Merge {
+                replica: 7,
+                operations,
+            };
+            assert_eq!(rt; read_line(alloc, line.as_bytes()), Ok(merge), "at {line}");
+        }
+        Ok(())
+    }
+
+    #[test]
     fn other_values_are_no_commands(rt: HostRuntime) -> Result<(), Fail> {
         let alloc = rt.alloc();
         let lines = [
@@ -122,7 +178,21 @@ mod tests {
             "[\"tell\",1,[1],[[\"a\",0]]]",
             "[\"tell\",1,[1,1],[[\"min\",9223372036854775808]]]",
             "[\"tell\",1,[4294967296,1],[[\"a\",0]]]",
-            "[\"sync\",1,2]",
+            "[\"sync\",1]",
+            "[\"sync\",1,-2]",
+            "[\"sync\",1,2,3]",
+            "[\"summary\",1,2]",
+            "[\"summary\",[]]",
+            "[\"lacks\",1]",
+            "[\"lacks\",1,[[5,[[10,9]]]]]",
+            "[\"lacks\",1,[],3]",
+            "[\"lacks\",1,[],\"2\"]",
+            "[\"lacks\",1,[],2,1]",
+            "[\"merge\",1]",
+            "[\"merge\",1,[3,[]]]",
+            "[\"merge\",1,[2]]",
+            "[\"merge\",1,[],1]",
+            "[\"merge\",1,[[[5,9],[]]]]",
         ];
         for line in lines {
             assert_eq!(rt;

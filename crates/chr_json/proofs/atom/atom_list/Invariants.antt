@@ -1,7 +1,7 @@
 use Rattle.std.proofs.Common.{◌≡◌, map, drop}
 use Rattle.serde_json.specs.View.{view as data_of}
 use Rattle.chr_base.specs.Traversals.{each}
-use Rattle.chr_json.specs.Commands.{named_atom_of}
+use Rattle.chr_json.specs.NamedAtoms.{named_atom_of}
 use Rattle.chr_json.specs.Reads.{raw_atom_view}
 use Rattle.chr_base.proofs.Traversals.{front}
 use Rattle.std.specs.Prelude.{vec_len}

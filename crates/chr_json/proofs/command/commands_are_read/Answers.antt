@@ -1,4 +1,4 @@
-use Rattle.chr_json.proofs.Back.{commands_back}
+use Rattle.chr_json.proofs.CommandsBack.{commands_back}
 use Rattle.chr_json.proofs.command.commands_are_read.Goals as goal
 
 pub returns : goal.returns

@@ -1,7 +1,7 @@
 use Rattle.std.proofs.Common.{◌≡◌, ◌++◌, ◌∷◌, length, map, vec_len}
 use Rattle.std.specs.List.{AllByRecursion}
 use Rattle.serde_json.specs.Written.{compact_text}
-use Rattle.chr_json.specs.Commands.{IsOperationLength}
+use Rattle.chr_json.specs.NamedAtoms.{IsOperationLength}
 use Rattle.chr_json.specs.Printed.{atom_data, ArgumentsFit}
 use Rattle.chr_json.specs.Reads.{raw_atom_view}
 use Rattle.chr_json.proofs.Texts.{later_text}

@@ -1,6 +1,6 @@
 use Rattle.std.proofs.Common.{arith}
 use Rattle.chr_json.specs.Reads.{command_view}
-use Rattle.chr_json.proofs.Reading.{line_is_said}
+use Rattle.chr_json.proofs.CommandTexts.{line_is_said}
 use Rattle.chr_json.proofs.line.read_line.Goals as goal
 
 pub returns-in-Ok-clause-read : goal.returns-in-Ok-clause-read

@@ -1,0 +1,22 @@
+//! Messages between replicas: summaries and deltas, as text.
+//!
+//! A summary says which operations a replica holds, by ranges of their ids. A delta carries operations. Both are JSON
+//! without white space. What is written is read back, and so is every other text of the same meaning.
+#![tactic(auto)]
+
+mod fault;
+mod groups;
+mod laws;
+mod named;
+mod order;
+mod pieces;
+mod reading;
+mod writing;
+
+pub use fault::MessageFault;
+pub use laws::messages_are_read_back;
+pub use reading::{delta_of, op_of, read_delta, read_summary, summary_of};
+pub use writing::{delta_text, delta_text_1, summary_text};
+
+#[cfg(test)]
+mod tests;
