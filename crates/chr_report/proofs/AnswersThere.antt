@@ -18,7 +18,7 @@ use Rattle.chr_confluence.specs.laws.Newman.{NormalFormsExist}
 use Rattle.chr_ops.specs.Operations.{Operation, Operations, told_store}
 use Rattle.chr_ops.specs.declared.limits.TheConstants.{MAX_TOLD}
 use Rattle.chr_json.specs.declared.fault.LineFault.TheVariants as fault
-use Rattle.chr_json.specs.Commands.{Said, show, tell, command_of}
+use Rattle.chr_json.specs.Commands.{Said, show, tell, sync, summary, lacks, merge, command_of}
 use Rattle.chr_json.specs.Values.{json_in}
 use Rattle.chr_json.specs.Lines.{is_blank_line, has_line_length}
 use Rattle.chr_json.specs.Reads.{value_said}
@@ -27,7 +27,7 @@ use Rattle.chr_report.specs.Lines.{without_return}
 use Rattle.chr_report.specs.Replies.{refusal_text}
 use Rattle.chr_report.specs.Answers.{named_atoms, ShowsNormalForm, AnswersRefusal, AnswersTell, AnswersShow, AnswersAtoms, AnswersRead, Answers, AnswersFirst, AnswersAll}
 use Rattle.chr_report.specs.OneText.{AnswersExist}
-use Rattle.chr_report.proofs.OneText.{same_or}
+use Rattle.chr_join.proofs.SameStores.{same_or}
 
 -- some answer, and the operations after it
 abbrev HasAnswer : (List ℕ → Operations → Type 0) → Type 0
@@ -105,6 +105,10 @@ module _ (ds : List Declaration) (rules : List Rule) (rests : (s : Store) → (t
   said_answered old None = (refusal_text refusal.Shape, old, (refl, refl))
   said_answered old (Some (show r)) = show_answered old r
   said_answered old (Some (tell r o n ws)) = atoms_answered old r o n (named_atoms ds ws)
+  said_answered old (Some (sync a b)) = (refusal_text refusal.Shape, old, (refl, refl))
+  said_answered old (Some (summary r)) = (refusal_text refusal.Shape, old, (refl, refl))
+  said_answered old (Some (lacks r rs v)) = (refusal_text refusal.Shape, old, (refl, refl))
+  said_answered old (Some (merge r os)) = (refusal_text refusal.Shape, old, (refl, refl))
 
   value_answered : (old : Operations) (value : Option _) → HasAnswer (AnswersRead ds rules old (value_said value))
   value_answered old None = (refusal_text refusal.BadLine, old, (refl, refl))

@@ -1,6 +1,6 @@
 -- The board's pool and what was told.
-use Rattle.std.proofs.Common.{◌≡◌, ℕ, suc, true, cond, List, [], ◌∷◌, length, refl, sym, ap, subst, ◌∙◌, arith}
-use Rattle.std.specs.Prelude.{◌≢◌, Option, Some, None, option_map, option_and_then}
+use Rattle.std.proofs.Common.{◌≡◌, ℕ, true, cond, List, length, refl, sym, ap, subst, ◌∙◌, arith}
+use Rattle.std.specs.Prelude.{◌≢◌, Option, Some, None}
 use Rattle.std.specs.Option.{IsSomeAnd}
 use Rattle.std.specs.FinMap as finite
 use Rattle.std.specs.Ordering.{eq_by_cmp}
@@ -12,8 +12,8 @@ use Rattle.chr_ops.specs.Operations.{HasOperationSize}
 use Rattle.chr_ops.specs.Ids.{id_cmp}
 use Rattle.chr_ops.specs.declared.id.OpId.{OpId}
 use Rattle.chr_ops.proofs.IdOrder.{id_total}
-use Rattle.chr_json.specs.Commands.{NamedAtom, IsOperationLength}
-use Rattle.chr_base.specs.Traversals.{each}
+use Rattle.chr_json.specs.NamedAtoms.{NamedAtom, IsOperationLength}
+use Rattle.chr_base.proofs.Traversals.{length-each}
 use Rattle.chr_report.specs.declared.reply.Refusal.TheVariants as refusal
 use Rattle.chr_report.specs.Replies.{refusal_text}
 use Rattle.chr_report.specs.Answers.{named_atom, named_atoms, AnswersTell, AnswersShow}
@@ -26,8 +26,8 @@ use Rattle.chr_join.specs.AcceptedPrograms.{weighed_of}
 use Rattle.chr_join.specs.AcceptedPrograms.{program_in}
 use Rattle.chr_base.specs.FinBag as bag
 use Rattle.chr_base.specs.FinBag.{◌⊕◌}
-use Rattle.chr_base.specs.Stores.{Store, store_of, size}
-use Rattle.chr_base.proofs.Stores.{store_of-items, weight_store_of, length_total, size_weight}
+use Rattle.chr_base.specs.Stores.{Store, store_of}
+use Rattle.chr_base.proofs.Stores.{store_of-items, size_store_of}
 use Rattle.chr_base.specs.Rules.{Step}
 use Rattle.chr_base.specs.Programs.{rules_of}
 use Rattle.chr_base.specs.Rewriting.{Reaches, IsAtRest, IsNormalForm}
@@ -81,21 +81,9 @@ added_is_held m n op id e h =
 
 -- ---- as many atoms as words
 
-length-each : {A B : Type 0} (f : A → Option B) (xs : List A) (ys : List B) → each f xs ≡ Some ys → length ys ≡ length xs
-length-each f [] ys h = ap length (let e : ys ≡ [] = cc in e)
-length-each f (x ∷ xs) ys h = by (f x) refl (each f xs) refl h (length-each f xs)
-  where
-    by : (o : Option _) → f x ≡ o → (p : Option (List _)) → each f xs ≡ p → option_and_then (λ y. option_map (λ zs. y ∷ zs) p) o ≡ Some ys → ((zs : List _) → each f xs ≡ Some zs → length zs ≡ length xs) → length ys ≡ suc (length xs)
-    by None q p r h more = absurd (let e : ◌≡◌ {A = Option (List _)} None (Some ys) = h in cc)
-    by (Some y) q None r h more = absurd (let e : ◌≡◌ {A = Option (List _)} None (Some ys) = h in cc)
-    by (Some y) q (Some zs) r h more = let e : y ∷ zs ≡ ys = cc in ap length (sym e) ∙ ap suc (more zs r)
-
-size-of : (xs : List Atom) → size (store_of xs) ≡ length xs
-size-of xs = size_weight (store_of xs) ∙ weight_store_of (λ _. 1) xs ∙ sym (length_total xs)
-
 -- what a line tells has as many atoms as the line
 pub told_size : (ds : List Declaration) (ws : List NamedAtom) (xs : List Atom) → Some xs ≡ named_atoms ds ws → IsOperationLength (length ws) → HasOperationSize (store_of xs)
 told_size ds ws xs e h =
     let n = length-each (named_atom ds) ws xs (sym e) in
-    let s = size-of xs in
+    let s = size_store_of xs in
     (omega (arith, n, s, h), omega (arith, n, s, h))

@@ -10,3 +10,4 @@ pub mod AnswersThere
 pub mod UnnamedRules
 pub mod UnnamedVerdicts
 pub mod OneOutput
+pub mod OutputThere

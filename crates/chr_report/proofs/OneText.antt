@@ -1,21 +1,11 @@
 -- Two texts that answer the same lines are one, line by line.
-use Rattle.std.proofs.Common.{◌≡◌, ℕ, ◌+◌, Bool, true, false, List, [], ◌∷◌, ◌++◌, Some, None, Option, Result, Ok, Err, refl, sym, ap, subst, ◌∙◌, inl, inr, ◌⊎◌, nat_eq, codes, IfSome, IfOk}
+use Rattle.std.proofs.Common.{◌≡◌, ℕ, ◌+◌, Bool, true, false, List, [], ◌∷◌, ◌++◌, Some, None, Option, Result, Ok, Err, refl, sym, ap, subst, ◌∙◌, inl, inr, nat_eq, codes, IfSome, IfOk}
 use Rattle.std.specs.Prelude.{◌≢◌, IsSomeAnd}
 use Rattle.std.specs.Bool.{MatchBool}
 use Rattle.std.proofs.lemmas.Bool.{cases_lt}
-use mathlib.Core.Bool.{true≢false}
-use Rattle.std.specs.declared.cmp.Ordering.{Ordering}
-use Rattle.std.specs.declared.cmp.Ordering.TheVariants as order
-use Rattle.std.specs.Ordering.{is_eq}
-use Rattle.std.specs.Cmp.{tied_itself}
-use Rattle.std.specs.Cmp.Lexicographic.{slice_cmp, lists_total}
 use Rattle.std.specs.FinMap as finite
 use Rattle.chr_base.specs.declared.atom.Atom.{Atom}
 use Rattle.chr_base.specs.declared.rule.Rule.{Rule}
-use Rattle.chr_base.specs.Atoms.{atom_cmp}
-use Rattle.chr_base.proofs.Atoms.{atom_total, atom_exact}
-use Rattle.chr_base.specs.FinBag as bag
-use Rattle.chr_base.specs.working.Codes as bag_codes
 use Rattle.chr_base.specs.Stores.{Store, store_of, size}
 use Rattle.chr_base.specs.ProgramTests.{Declaration}
 use Rattle.chr_base.specs.Texts.{store_text}
@@ -25,28 +15,17 @@ use Rattle.chr_base.specs.Values.{HasValues}
 use Rattle.chr_confluence.specs.Confluence.{Confluent}
 use Rattle.chr_json.specs.declared.fault.LineFault.{LineFault}
 use Rattle.chr_json.specs.declared.fault.LineFault.TheVariants as fault
-use Rattle.chr_json.specs.Commands.{Said, show, tell}
+use Rattle.chr_json.specs.Commands.{Said, show, tell, sync, summary, lacks, merge}
 use Rattle.chr_json.specs.Lines.{is_blank_line}
 use Rattle.chr_json.proofs.Ranges.{HasFittingArguments, line_fits}
 use Rattle.chr_json.specs.Reads.{line_said}
 use Rattle.chr_report.specs.Lines.{without_return}
 use Rattle.chr_report.specs.declared.reply.Refusal.TheVariants as refusal
 use Rattle.chr_report.specs.Replies.{refusal_text}
+use Rattle.chr_join.proofs.SameStores.{same_or}
 use Rattle.chr_report.specs.Answers.{named_atoms, ShowsNormalForm, AnswersTell, AnswersShow, AnswersAtoms, AnswersRead, Answers, AnswersFirst, AnswersAll}
 use Rattle.chr_report.specs.OneText.{AnswersAreOne, FirstAnswersAreOne}
 use Rattle.chr_report.proofs.OneTextValues.{atoms_values, told_values, nothing_told}
-
--- stores are equal or not
-pub same_or : (s t : Store) → (s ≡ t) ⊎ (s ≢ t)
-same_or s t = by (slice_cmp atom_cmp (bag.items s) (bag.items t)) refl
-  where
-    tied : s ≡ t → slice_cmp atom_cmp (bag.items s) (bag.items t) ≡ order.Equal
-    tied e = ap (λ x. slice_cmp atom_cmp (bag.items s) (bag.items x)) (sym e) ∙ tied_itself (lists_total atom_total) (bag.items s)
-
-    by : (r : Ordering) → slice_cmp atom_cmp (bag.items s) (bag.items t) ≡ r → (s ≡ t) ⊎ (s ≢ t)
-    by order.Equal e = inl (bag_codes.same_items s t (finite.slice_cmp-IsAntisymmetric atom_exact (bag.items s) (bag.items t) e))
-    by order.Less e = inr (λ g. absurd (true≢false (ap is_eq (sym (tied g) ∙ e))))
-    by order.Greater e = inr (λ g. absurd (true≢false (ap is_eq (sym (tied g) ∙ e))))
 
 -- two answers and the operations after them
 abbrev IsOne : (text other : List ℕ) (new next : Operations) → Type 0
@@ -99,6 +78,10 @@ module _ (ds : List Declaration) (rules : List Rule) (confluent : Confluent rule
   one_read : (old : Operations) (read : Result Said LineFault) (text other : List ℕ) (new next : Operations) → HasValues (told_store old) → IfOk read HasFittingArguments → AnswersRead ds rules old read text new → AnswersRead ds rules old read other next → IsOne text other new next
   one_read old (Ok (show r)) text other new next v w h g = one_show old r text other new next v h g
   one_read old (Ok (tell r o n ws)) text other new next v w h g = one_atoms old r o n (named_atoms ds ws) text other new next v (atoms_values ds ws w) h g
+  one_read old (Ok (sync a b)) text other new next v w h g = both_are text other new next (refusal_text refusal.Shape) old v h g
+  one_read old (Ok (summary r)) text other new next v w h g = both_are text other new next (refusal_text refusal.Shape) old v h g
+  one_read old (Ok (lacks r rs version)) text other new next v w h g = both_are text other new next (refusal_text refusal.Shape) old v h g
+  one_read old (Ok (merge r os)) text other new next v w h g = both_are text other new next (refusal_text refusal.Shape) old v h g
   one_read old (Err fault.Memory) text other new next v w h g = absurd h
   one_read old (Err fault.BadLine) text other new next v w h g = both_are text other new next (refusal_text refusal.BadLine) old v h g
   one_read old (Err fault.Shape) text other new next v w h g = both_are text other new next (refusal_text refusal.Shape) old v h g

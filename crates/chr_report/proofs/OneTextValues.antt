@@ -14,7 +14,7 @@ use Rattle.chr_ops.specs.Operations.{Operations, told_store}
 use Rattle.chr_ops.proofs.Told.{told_store-insert, told_store-empty}
 use Rattle.chr_base.specs.Values.{is_value, args_in, HasValues}
 use Rattle.chr_base.proofs.Each.{each_of_list, each_plus}
-use Rattle.chr_json.specs.Commands.{NamedAtom}
+use Rattle.chr_json.specs.NamedAtoms.{NamedAtom}
 use Rattle.chr_json.specs.Printed.{ArgumentsFit}
 use Rattle.chr_json.proofs.Ranges.{if_map, if_each, always}
 use Rattle.chr_report.specs.Answers.{named_atom, named_atoms}

@@ -28,7 +28,7 @@ use Rattle.chr_join.specs.Sides.{IsSideComputation, IsJoinable}
 use Rattle.chr_join.specs.Verdicts.{HasJoinableCases, HaveJoinableCases, IsAccepted, IsFirst, IsFirstCase}
 use Rattle.chr_join.specs.Explanations.{Explains, IsRefusal}
 use Rattle.chr_ops.specs.Operations.{Operations, told_store}
-use Rattle.chr_json.specs.Commands.{Said, show, tell}
+use Rattle.chr_json.specs.Commands.{Said, show, tell, sync, summary, lacks, merge}
 use Rattle.chr_json.specs.Lines.{is_blank_line}
 use Rattle.chr_json.specs.Reads.{line_said}
 use Rattle.chr_json.specs.declared.fault.LineFault.{LineFault}
@@ -185,6 +185,10 @@ module _ (rules : List Rule) where
     answers_read : (old : Operations) (said : Result Said LineFault) (text : List ℕ) (new : Operations) → AnswersRead ds rules old said text new → AnswersRead ds bare old said text new
     answers_read old (Ok (show r)) text new h = answers_show old r text new h
     answers_read old (Ok (tell r o n ws)) text new h = h
+    answers_read old (Ok (sync a b)) text new h = h
+    answers_read old (Ok (summary r)) text new h = h
+    answers_read old (Ok (lacks r rs v)) text new h = h
+    answers_read old (Ok (merge r os)) text new h = h
     answers_read old (Err fault.BadLine) text new h = h
     answers_read old (Err fault.Shape) text new h = h
     answers_read old (Err fault.Memory) text new h = absurd h

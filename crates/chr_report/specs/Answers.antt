@@ -13,7 +13,8 @@ use Rattle.chr_base.specs.Programs.{declared_atom}
 use Rattle.chr_base.specs.Texts.{store_text}
 use Rattle.chr_ops.specs.Operations.{Operation, Operations, told_store, IsNew, IsHeld, IsHeldOtherwise}
 use Rattle.chr_ops.specs.declared.limits.TheConstants.{MAX_TOLD}
-use Rattle.chr_json.specs.Commands.{NamedAtom, Said, show, tell}
+use Rattle.chr_json.specs.NamedAtoms.{NamedAtom}
+use Rattle.chr_json.specs.Commands.{Said, show, tell, sync, summary, lacks, merge}
 use Rattle.chr_base.specs.Traversals.{each}
 use Rattle.chr_json.specs.Lines.{is_blank_line}
 use Rattle.chr_json.specs.Reads.{line_said}
@@ -62,9 +63,14 @@ AnswersAtoms old r o n (Some atoms) text new =
     MatchBool (nat_eq r 1) (AnswersTell old (record { origin = o; number = n }, store_of atoms) text new)
     (AnswersRefusal refusal.NoReplica old text new)
 
+-- Where there is one replica, none exchanges with it.
 abbrev pub AnswersSaid : List Declaration → List Rule → Operations → Said → List ℕ → Operations → Type 0
 AnswersSaid ds rules old (show r) text new = AnswersShow ds rules old r text new
 AnswersSaid ds rules old (tell r o n ws) text new = AnswersAtoms old r o n (named_atoms ds ws) text new
+AnswersSaid ds rules old (sync a b) text new = AnswersRefusal refusal.Shape old text new
+AnswersSaid ds rules old (summary r) text new = AnswersRefusal refusal.Shape old text new
+AnswersSaid ds rules old (lacks r rs v) text new = AnswersRefusal refusal.Shape old text new
+AnswersSaid ds rules old (merge r os) text new = AnswersRefusal refusal.Shape old text new
 
 abbrev pub AnswersRead :
     List Declaration → List Rule → Operations → Result Said LineFault → List ℕ → Operations → Type 0

@@ -1,8 +1,12 @@
--- An input has one output.
+-- An input has an output, and one only.
 use Rattle.std.specs.Prelude.{◌≡◌, ℕ, List}
 use Rattle.chr_device.specs.declared.words.Verb.{Verb}
 use Rattle.chr_report.specs.declared.running.Status.{Status}
 use Rattle.chr_report.specs.Outputs.{IsOutput}
+
+-- some status and some text are an output
+abbrev pub OutputsExist : Type 0
+OutputsExist = (verb : Verb) (input : List ℕ) → (status : Status) × (out : List ℕ) × IsOutput verb input status out
 
 -- two outputs for the same bytes have one status and are one text
 abbrev pub OutputsAreOne : Type 0

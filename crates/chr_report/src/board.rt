@@ -6,7 +6,7 @@ ghost use Rattle.chr_base.specs.Stores.{Store, store_of};
 ghost use Rattle.chr_base.specs.Programs.{declarations, rules_of};
 ghost use Rattle.chr_base.specs.Rules.{Step};
 ghost use Rattle.chr_base.specs.Rewriting.{IsNormalForm};
-ghost use Rattle.chr_json.specs.Commands.{IsOperationLength};
+ghost use Rattle.chr_json.specs.NamedAtoms.{IsOperationLength};
 ghost use Rattle.chr_json.specs.Reads.{raw_atom_view};
 ghost use Rattle.chr_ops.specs.Operations.{told_store, HasOperationSize};
 ghost use Rattle.chr_report.specs.Answers.{named_atoms, Answers, AnswersShow, AnswersTell, AnswersAtoms};
@@ -14,7 +14,7 @@ ghost use Rattle.chr_report.specs.working.Boards.{program_on, IsReached};
 ghost use Rattle.chr_report.specs.working.ReplyTexts.{reply_text};
 
 use crate::reply::{Refusal, Reply};
-use chr_base::atom::Atom;
+use chr_base::atom::{Atom, SymbolId};
 use chr_base::bag::Bag;
 use chr_base::program::Program;
 use chr_columns::columns::Columns;
@@ -25,12 +25,17 @@ use chr_rewrite::pool::Pool;
 use chr_rewrite::resting::rest;
 use std::alloc::{AllocError, Global};
 
-/// A replica of an accepted program. Its pool is a store that the told atoms reach.
+/// As many told atoms wait at most for the pool to be rested, before those of one operation more come.
+const MOST_WAITING: usize = 1024;
+
+/// A replica of an accepted program. Its pool is a store that the told atoms reach, and `waiting` is how many of them
+/// were put into it since it was rested.
 #[derive(Drop)]
 pub(crate) struct Board {
     pub accepted: Accepted,
     pub ops: OpSet,
     pub pool: Columns,
+    pub waiting: usize,
 }
 
 /// The atoms of a line. None where the program doesn't declare one of them.
@@ -43,10 +48,13 @@ fn resolve(
         ≡ named_atoms (declarations program.now) (map raw_atom_view words.now)) }
 {
     let mut atoms = Vec::with_capacity(alloc, words.len())?;
+    // Most atoms of a line have the symbol of the one before.
+    let mut symbol = SymbolId(0);
     for word in words {
-        let Some(atom) = program.atom(word.name.as_str(), &word.args) else {
+        let Some(atom) = program.atom_near(symbol, word.name.as_str(), &word.args) else {
             return Ok(None);
         };
+        symbol = atom.symbol;
         atoms.push(atom)?;
     }
     Ok(Some(atoms))
@@ -64,6 +72,7 @@ impl Board {
             accepted,
             ops: OpSet::new(alloc),
             pool,
+            waiting: 0,
         })
     }
 
@@ -75,10 +84,25 @@ impl Board {
         ensures program { self.new.accepted ≡ self.old.accepted }
         ensures operations { self.new.ops ≡ self.old.ops }
     {
+        self.waiting = 0;
         match rest(self.accepted.weighed(), &mut self.pool) {
             Ok(_) => Ok(()),
             Err(_) => Err(AllocError),
         }
+    }
+
+    /// Rests the pool where many told atoms wait for it. They leave memory as they come then, where the rules take
+    /// them out.
+    fn rest_many(&mut self) -> Result<(), AllocError>
+        requires { IsReached self.old }
+        ensures reached { OnOk result (IsReached self.new) }
+        ensures program { self.new.accepted ≡ self.old.accepted }
+        ensures operations { self.new.ops ≡ self.old.ops }
+    {
+        if self.waiting > MOST_WAITING {
+            return self.rest();
+        }
+        Ok(())
     }
 
     /// Rests the pool and shows it.
@@ -142,8 +166,14 @@ impl Board {
                     atoms,
                 },
             ) => self.tell(alloc, replica, OpId { origin, number }, &atoms),
+            Ok(
+                Command::Sync { .. }
+                | Command::Summary { .. }
+                | Command::Lacks { .. }
+                | Command::Merge { .. },
+            )
+            | Err(LineFault::Shape) => Ok(Reply::Refused(Refusal::Shape)),
             Err(LineFault::BadLine) => Ok(Reply::Refused(Refusal::BadLine)),
-            Err(LineFault::Shape) => Ok(Reply::Refused(Refusal::Shape)),
             Err(LineFault::Memory) => Err(AllocError),
         }
     }
@@ -175,6 +205,7 @@ impl Board {
         match self.ops.add(op) {
             Ok(Added::New) => {
                 self.insert_told(id)?;
+                self.rest_many()?;
                 Ok(Reply::Told)
             }
             Ok(Added::Again) => Ok(Reply::Again),
@@ -194,6 +225,7 @@ impl Board {
         match self.ops.get(id) {
             Some(bag) => {
                 self.pool.insert(bag.atoms())?;
+                self.waiting = self.waiting.saturating_add(bag.len());
                 Ok(())
             }
             None => Ok(()),

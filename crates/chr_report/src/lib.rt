@@ -14,6 +14,6 @@ mod verdict;
 
 pub use chr_device::{RunFault, Settings, Verb, Watched, WordsFault, read_words};
 pub use laws::{checks_begin_runs, lines_are_the_input};
-pub use one_text::{answers_are_one, answers_exist, outputs_are_one};
+pub use one_text::{answers_are_one, answers_exist, outputs_are_one, outputs_exist};
 pub use reply::Refusal;
 pub use running::{Status, run};

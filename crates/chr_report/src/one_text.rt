@@ -1,5 +1,5 @@
 //! The laws of a run's output being one text. Each is a function that takes nothing: its contract is the law.
-ghost use Rattle.chr_report.specs.OneOutput.{OutputsAreOne};
+ghost use Rattle.chr_report.specs.OneOutput.{OutputsAreOne, OutputsExist};
 ghost use Rattle.chr_report.specs.OneText.{AnswersAreOne, AnswersExist, FirstAnswersAreOne};
 
 use chr_confluence::laws::newman;
@@ -20,6 +20,16 @@ pub fn answers_are_one()
     ensures answers { AnswersAreOne }
     ensures first { FirstAnswersAreOne }
 {}
+
+/// Outputs exist. Whatever the bytes of an input are, some status and some text are its output: its program text is read
+/// or has a fault, a program that is read lowers or has a first rule that doesn't, one that lowers is accepted or has a
+/// first cause that it is refused for, and one that is accepted answers each command line.
+pub fn outputs_exist()
+    ensures { OutputsExist }
+{
+    texts_have_one_answer();
+    answers_exist();
+}
 
 /// Outputs are one text. The bytes of an input determine the status and all that is written: the verdict, and for an
 /// accepted program every answer, whichever normal form each `show` reaches.

@@ -5,8 +5,8 @@ use Rattle.chr_ops.specs.Operations.{told_store}
 use Rattle.chr_report.proofs.Boards.{told_reached, added_is_held, clash_answered}
 use Rattle.chr_report.proofs.board.Board.add_op.Goals as goal
 
-pub returns-in_ok-insert_told-in-Ok-New-clause-reached : goal.returns-in_ok-insert_told-in-Ok-New-clause-reached
-returns-in_ok-insert_told-in-Ok-New-clause-reached c =
+pub rest_many-requires : goal.rest_many-requires
+rest_many-requires c =
     let e = rw c.in-Ok-New.field-0-is at c.in-Ok-New.ensures in
     let h = c.in_ok-insert_told-in-Ok-New.ensures in
     rw (h.program, h.operations)
