@@ -14,6 +14,7 @@ pub mod ListEdits
 pub mod Counts
 pub mod Subsequences
 pub mod SameAtoms
+pub mod SameStores
 pub mod SameRules
 pub mod SamePrograms
 pub mod Edits

@@ -6,5 +6,4 @@ pub mod Confluent
 pub mod OnceLists
 pub mod OnceVerdicts
 mod RestedParts
-pub mod SameStores
 pub mod VerdictThere

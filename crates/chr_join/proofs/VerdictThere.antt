@@ -45,7 +45,7 @@ use Rattle.chr_join.specs.Verdicts.{HasJoinableCases, HaveJoinableCases, IsAccep
 use Rattle.chr_join.proofs.CaseSteps.{CaseLaws, case_steps}
 use Rattle.chr_join.proofs.Lists.{picked}
 use Rattle.chr_join.specs.Once.{VerdictsExist}
-use Rattle.chr_join.proofs.SameStores.{same_or}
+use Rattle.chr_base.proofs.SameStores.{same_or}
 
 case_laws : CaseLaws
 case_laws = record {

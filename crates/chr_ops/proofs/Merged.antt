@@ -11,7 +11,7 @@ use Rattle.chr_ops.specs.declared.range.IdRange.{IdRange}
 use Rattle.chr_ops.specs.Summaries.{in_range, covers, IsBefore, IsApart}
 use Rattle.chr_ops.specs.working.Merging.{StartsBy, AllStartBy, IsMerged}
 
-all_push : (P : IdRange → Type 0) (rs : List IdRange) (x : IdRange) → AllByRecursion P rs → P x → AllByRecursion P (rs ++ x ∷ [])
+pub all_push : (P : IdRange → Type 0) (rs : List IdRange) (x : IdRange) → AllByRecursion P rs → P x → AllByRecursion P (rs ++ x ∷ [])
 all_push P [] x h p = (p, tt)
 all_push P (r ∷ rs) x h p = (h.0, all_push P rs x h.1 p)
 
@@ -23,11 +23,11 @@ all_last : (P : IdRange → Type 0) (rs : List IdRange) (x : IdRange) → AllByR
 all_last P [] x h = h.0
 all_last P (r ∷ rs) x h = all_last P rs x h.1
 
-all_map : (P Q : IdRange → Type 0) (rs : List IdRange) → ((r : IdRange) → P r → Q r) → AllByRecursion P rs → AllByRecursion Q rs
+pub all_map : (P Q : IdRange → Type 0) (rs : List IdRange) → ((r : IdRange) → P r → Q r) → AllByRecursion P rs → AllByRecursion Q rs
 all_map P Q [] f h = tt
 all_map P Q (r ∷ rs) f h = (f r h.0, all_map P Q rs f h.1)
 
-apart_push : (rs : List IdRange) (x : IdRange) → IsApart rs → AllByRecursion (λ r. IsBefore r x) rs → x.lo ≤ x.hi → IsApart (rs ++ x ∷ [])
+pub apart_push : (rs : List IdRange) (x : IdRange) → IsApart rs → AllByRecursion (λ r. IsBefore r x) rs → x.lo ≤ x.hi → IsApart (rs ++ x ∷ [])
 apart_push [] x h b l = (l, tt, tt)
 apart_push (r ∷ rs) x h b l = (h.0, all_push (IsBefore r) rs x h.1 b.0, apart_push rs x h.2 b.1 l)
 
@@ -38,10 +38,10 @@ apart_front (r ∷ rs) x h =
     let rest = apart_front rs x h.2 in
     ((h.0, all_front (IsBefore r) rs x h.1, rest.0), (all_last (IsBefore r) rs x h.1, rest.1), rest.2)
 
-covers_push : (rs : List IdRange) (x : IdRange) (id : OpId) → covers (rs ++ x ∷ []) id ≡ (covers rs id || (in_range x id || false))
+pub covers_push : (rs : List IdRange) (x : IdRange) (id : OpId) → covers (rs ++ x ∷ []) id ≡ (covers rs id || (in_range x id || false))
 covers_push rs x id = list_any-append (λ r. in_range r id) rs (x ∷ [])
 
-before_further : (r s t : IdRange) → IsBefore r s → s.lo ≤ s.hi → IsBefore s t → IsBefore r t
+pub before_further : (r s t : IdRange) → IsBefore r s → s.lo ≤ s.hi → IsBefore s t → IsBefore r t
 before_further r s t h l g = (
   omega (arith, h.0, g.0),
   λ e. (

@@ -7,14 +7,15 @@ use mathlib.Core.Bool.{true≢false}
 use Rattle.chr_ops.specs.declared.id.OpId.{OpId}
 use Rattle.chr_ops.specs.declared.range.IdRange.{IdRange}
 use Rattle.chr_ops.specs.Summaries.{in_range, covers, IsBefore, IsApart, ApartIsOne}
+use Rattle.chr_ops.specs.working.Walks.{first_id}
 use Rattle.chr_ops.proofs.RangeLookups.{in_origin, in_low, in_high, in_from}
 
-record Behind (r : IdRange) (id : OpId) : Type 0 where
+pub record Behind (r : IdRange) (id : OpId) : Type 0 where
   pub origin : r.origin ≤ id.origin
   pub number : r.origin ≡ id.origin → r.hi + 1 < id.number
 
 -- an id of a later range is behind the first
-behind : (r : IdRange) (ss : List IdRange) (id : OpId) → AllByRecursion (IsBefore r) ss → covers ss id ≡ true → Behind r id
+pub behind : (r : IdRange) (ss : List IdRange) (id : OpId) → AllByRecursion (IsBefore r) ss → covers ss id ≡ true → Behind r id
 behind r [] id all h = absurd (true≢false (sym h))
 behind r (s ∷ ss) id all h = by (in_range s id) refl h (behind r ss id all.1)
   where
@@ -27,11 +28,11 @@ behind r (s ∷ ss) id all h = by (in_range s id) refl h (behind r ss id all.1)
         record { origin = omega (arith, o, first); number = λ same. (let before = all.0.1 (same ∙ sym o) in omega (arith, before, l)) }
 
 -- an id of a list of ranges comes no earlier than the first one's beginning
-record From (r : IdRange) (id : OpId) : Type 0 where
+pub record From (r : IdRange) (id : OpId) : Type 0 where
   pub origin : r.origin ≤ id.origin
   pub number : r.origin ≡ id.origin → r.lo ≤ id.number
 
-from_first : (r : IdRange) (rs : List IdRange) (id : OpId) → IsApart (r ∷ rs) → covers (r ∷ rs) id ≡ true → From r id
+pub from_first : (r : IdRange) (rs : List IdRange) (id : OpId) → IsApart (r ∷ rs) → covers (r ∷ rs) id ≡ true → From r id
 from_first r rs id apart h = by (in_range r id) refl h
   where
     by : (b : Bool) → in_range r id ≡ b → b || covers rs id ≡ true → From r id
@@ -40,9 +41,6 @@ from_first r rs id apart h = by (in_range r id) refl h
         let b = behind r rs id apart.1 g in
         let rising = apart.0 in
         record { origin = b.origin; number = λ same. (let n = b.number same in omega (arith, n, rising)) }
-
-abbrev first_id : IdRange → OpId
-first_id r = record { origin = r.origin; number = r.lo }
 
 abbrev next_id : IdRange → OpId
 next_id r = record { origin = r.origin; number = r.hi + 1 }
@@ -72,7 +70,7 @@ ends r s rs ss apart apart' same o l = by (nat_le s.hi r.hi) refl
         absurd (next_not r rs apart (same (next_id r) ∙ ap (λ b. b || covers ss (next_id r)) here))
 
 -- an id of the first range is in no later one
-not_later : (r : IdRange) (rs : List IdRange) (id : OpId) → AllByRecursion (IsBefore r) rs → in_range r id ≡ true → covers rs id ≡ false
+pub not_later : (r : IdRange) (rs : List IdRange) (id : OpId) → AllByRecursion (IsBefore r) rs → in_range r id ≡ true → covers rs id ≡ false
 not_later r rs id all h = by (covers rs id) refl
   where
     by : (b : Bool) → covers rs id ≡ b → b ≡ false

@@ -40,3 +40,7 @@ ApartIsOne =
 abbrev pub SummariesAreOne : Type 0
 SummariesAreOne =
     (m : Operations) (rs ss : List IdRange) → IsApart rs → IsApart ss → CoversJust rs m → CoversJust ss m → rs ≡ ss
+
+-- each set has a summary
+abbrev pub SummariesExist : Type 0
+SummariesExist = (m : Operations) → (rs : List IdRange) × IsApart rs × CoversJust rs m

@@ -5,4 +5,5 @@ pub mod Kept
 pub mod Joining
 pub mod Merging
 pub mod Walks
+pub mod Outside
 pub mod Covering

@@ -1,11 +1,13 @@
 //! Bags under ids, seen as a finite map. How they are kept is known in this file alone.
-ghost use Rattle.std.specs.Prelude.{◌≡◌, OnOk, OnErr, option_copied, length};
+ghost use Rattle.std.specs.Prelude.{◌≡◌, ◌≤◌, OnOk, OnErr, option_copied, length};
 ghost use Rattle.std.specs.FinMap as map;
 ghost use Rattle.std.specs.Iterator.{at_most};
 ghost use Rattle.std.specs.Map.Iter.{TakesFirst};
 ghost use Rattle.chr_ops.specs.working.Entries.{entry_of};
+ghost use Rattle.chr_ops.specs.working.Walks.{within};
 
 use crate::id::OpId;
+use crate::range::IdRange;
 use chr_base::bag::Bag;
 use std::alloc::{AllocError, Global};
 use std::collections::{BTreeMap, btree_map};
@@ -65,23 +67,24 @@ impl Entries {
         self.bags.remove(&id);
     }
 
-    /// The ids with their bags, in the order of ids.
-    pub(crate) fn iter(&self) -> Iter<'_>
-        ensures { result ≡ map.entries self.now }
+    /// The ids of a range with their bags, in the order of ids. The first costs a look-up.
+    pub(crate) fn within(&self, range: &IdRange) -> Within<'_>
+        requires { range.now.lo ≤ range.now.hi }
+        ensures { result ≡ within range.now (map.entries self.now) }
     {
-        Iter {
-            rest: self.bags.iter(),
+        Within {
+            rest: self.bags.range(range.first()..=range.last()),
         }
     }
 }
 
 /// Ids with their bags, in the order of ids.
 #[derive(Drop)]
-pub(crate) struct Iter<'a> {
-    rest: btree_map::Iter<'a, OpId, Bag>,
+pub(crate) struct Within<'a> {
+    rest: btree_map::Range<'a, OpId, Bag>,
 }
 
-impl<'a> Model for Iter<'a> {
+impl<'a> Model for Within<'a> {
     ghost use Rattle.std.specs.Prelude.{List};
     ghost use Rattle.std.specs.Coded.{coded_list, coded×};
     ghost use Rattle.chr_base.specs.working.Codes as bag_codes;
@@ -96,7 +99,7 @@ impl<'a> Model for Iter<'a> {
     ghost view = { λ i. i.rest };
 }
 
-impl<'a> Iterator for Iter<'a> {
+impl<'a> Iterator for Within<'a> {
     type Item = (OpId, &'a Bag);
 
     ghost next_gives = { TakesFirst entry_of };

@@ -1,56 +1,60 @@
 //! The operations that a summary does not cover.
-ghost use Rattle.std.specs.Prelude.{◌≡◌, IfOk};
+ghost use Rattle.std.specs.Prelude.{◌≡◌, ◌≤◌, ◌++◌, IfOk, OnOk};
+ghost use Rattle.std.specs.FinMap as map;
+ghost use Rattle.chr_ops.specs.Summaries.{lacking, CoversJust, IsApart};
 ghost use Rattle.chr_ops.specs.working.Kept.{AreOperationBags};
-ghost use Rattle.chr_ops.specs.Summaries.{lacking, IsApart};
-ghost use Rattle.chr_ops.specs.working.Walks.{rest_from, first_has};
+ghost use Rattle.chr_ops.specs.working.Walks.{covered, within};
 
 use crate::entries::Entries;
-use crate::id::OpId;
 use crate::op::Op;
+use crate::outside::ranges_outside;
 use crate::range::IdRange;
 use std::alloc::{AllocError, Global};
 
-/// The ranges from the first that does not end before an id.
-fn skip_ended(ranges: &[IdRange], id: OpId) -> &[IdRange]
-    ensures { result.now ≡ rest_from ranges.now id }
+/// Adds copies of the operations whose ids a range has, in the order of ids.
+fn push_within(
+    ops: &mut Vec<Op>,
+    alloc: Global,
+    held: &Entries,
+    range: &IdRange,
+) -> Result<(), AllocError>
+    requires sized { AreOperationBags held.now }
+    requires range { range.now.lo ≤ range.now.hi }
+    ensures { OnOk result (ops.new.items ≡ ops.old.items ++ within range.now (map.entries held.now)) }
 {
-    let mut rest = ranges;
-    while let [first, more @ ..] = rest {
-        if !first.ends_before(id) {
-            break;
-        }
-        rest = more;
+    for (id, bag) in held.within(range) {
+        ops.push(Op::with_bag(alloc, id, bag)?)?;
     }
-    rest
+    Ok(())
 }
 
-/// Whether the first range has an id.
-fn begins_with(ranges: &[IdRange], id: OpId) -> bool
-    ensures { result ≡ first_has ranges.now id }
+/// Copies of the operations whose ids ranges cover, in the order of ids. It costs a look-up for each range.
+fn copies(alloc: Global, held: &Entries, ranges: &[IdRange]) -> Result<Vec<Op>, AllocError>
+    requires sized { AreOperationBags held.now }
+    requires apart { IsApart ranges.now }
+    ensures { IfOk result (λ ops. ops.items ≡ covered ranges.now (map.entries held.now)) }
 {
-    match ranges {
-        [] => false,
-        [first, ..] => first.has(id),
+    let mut ops = Vec::new(alloc);
+    for range in ranges {
+        push_within(&mut ops, alloc, held, range)?;
     }
+    Ok(ops)
 }
 
-/// Copies of the operations of a set whose ids the ranges do not cover, in the order of ids.
+/// Copies of the operations of a set whose ids others leave out, in the order of ids, by the ranges of the set's ids. It
+/// costs a walk along both lists of ranges, and what is copied.
 pub(crate) fn lacked(
     alloc: Global,
     held: &Entries,
     ranges: &[IdRange],
+    others: &[IdRange],
 ) -> Result<Vec<Op>, AllocError>
     requires sized { AreOperationBags held.now }
-    requires apart { IsApart ranges.now }
-    ensures { IfOk result (λ ops. ops.items ≡ lacking held.now ranges.now) }
+    requires ranges { IsApart ranges.now }
+    requires covers { CoversJust ranges.now held.now }
+    requires others { IsApart others.now }
+    ensures { IfOk result (λ ops. ops.items ≡ lacking held.now others.now) }
 {
-    let mut rest = ranges;
-    let mut ops = Vec::new(alloc);
-    for (id, bag) in held.iter() {
-        rest = skip_ended(rest, id);
-        if !begins_with(rest, id) {
-            ops.push(Op::with_bag(alloc, id, bag)?)?;
-        }
-    }
-    Ok(ops)
+    let lacked = ranges_outside(alloc, ranges, others)?;
+    copies(alloc, held, &lacked)
 }

@@ -14,6 +14,7 @@ mod limits;
 mod merging;
 mod op;
 mod op_set;
+mod outside;
 mod range;
 mod summary;
 
@@ -29,3 +30,5 @@ pub use summary::{Summary, summaries_are_one};
 
 #[cfg(test)]
 mod tests;
+#[cfg(test)]
+mod tests_exchange;

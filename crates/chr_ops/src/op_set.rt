@@ -171,7 +171,8 @@ impl OpSet {
     pub fn lacks(&self, alloc: Global, summary: &Summary) -> Result<Vec<Op>, AllocError>
         ensures { IfOk result (λ ops. ops.items ≡ lacking self.now summary.now) }
     {
-        lacked(alloc, &self.held, summary.ranges())
+        let ranges = self.covered.ranges(alloc)?;
+        lacked(alloc, &self.held, &ranges, summary.ranges())
     }
 
     /// The atoms of those of a list's operations that are new to the set, each operation once: what a join of the list

@@ -1,7 +1,7 @@
 //! Ranges of ids.
 ghost use Rattle.std.specs.Prelude.{◌≡◌, ◌+◌, ◌≤◌, ◌↔◌, IsTrue};
 ghost use Rattle.chr_ops.specs.Summaries.{in_range};
-ghost use Rattle.chr_ops.specs.working.Walks.{ends_before};
+ghost use Rattle.chr_ops.specs.working.Walks.{ends_before, first_id, last_id};
 
 use crate::id::OpId;
 
@@ -19,6 +19,33 @@ impl IdRange {
         ensures { result ≡ in_range self.now id }
     {
         self.origin == id.origin && self.lo <= id.number && id.number <= self.hi
+    }
+
+    /// The id that it begins with.
+    pub(crate) fn first(&self) -> OpId
+        ensures { result ≡ first_id self.now }
+    {
+        OpId {
+            origin: self.origin,
+            number: self.lo,
+        }
+    }
+
+    /// The id that it ends with.
+    pub(crate) fn last(&self) -> OpId
+        ensures { result ≡ last_id self.now }
+    {
+        OpId {
+            origin: self.origin,
+            number: self.hi,
+        }
+    }
+
+    /// Whether it begins no later than another one of its origin ends.
+    pub(crate) fn begins_by_end_of(&self, other: &IdRange) -> bool
+        ensures { IsTrue result ↔ ((self.now.origin ≡ other.now.origin) × (self.now.lo ≤ other.now.hi)) }
+    {
+        self.origin == other.origin && self.lo <= other.hi
     }
 
     /// Whether it ends before an id.

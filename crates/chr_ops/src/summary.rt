@@ -1,7 +1,7 @@
 //! Summaries of the ids that a set holds.
 ghost use Rattle.std.specs.Prelude.{◌≡◌, ◌≤◌, All, IfOk};
 ghost use Rattle.chr_ops.specs.declared.id.OpId.{OpId as OpIdValue};
-ghost use Rattle.chr_ops.specs.Summaries.{covers, IsApart, ApartIsOne, SummariesAreOne};
+ghost use Rattle.chr_ops.specs.Summaries.{covers, IsApart, ApartIsOne, SummariesAreOne, SummariesExist};
 
 use crate::merging::merge_ranges;
 use crate::range::IdRange;
@@ -68,9 +68,10 @@ impl Summary {
     }
 }
 
-/// The law of summaries: ranges that are as long as possible and in order are determined by the ids that they cover. So
-/// a set has one summary, whoever makes it.
+/// The laws of summaries: ranges that are as long as possible and in order are determined by the ids that they cover, and
+/// each set has such ranges. So a set has one summary, whoever makes it.
 pub fn summaries_are_one()
     ensures ranges { ApartIsOne }
     ensures summaries { SummariesAreOne }
+    ensures exist { SummariesExist }
 {}
