@@ -14,9 +14,8 @@ use chr_base::weight::{DEFAULT_WEIGHT, Weight};
 use std::alloc::{AllocError, Global};
 use std::fmt::Write;
 use std::process::Abort;
-use std::test::Fail;
 
-#[derive(Debug, PartialEq, Eq, Drop)]
+#[derive(Clone, Copy, Debug, PartialEq, Eq)]
 enum Outcome {
     /// How many symbols and rules it has.
     Program(usize, usize),
@@ -25,101 +24,170 @@ enum Outcome {
     TooLong,
 }
 
-fn outcome_of(alloc: Global, text: &[u8]) -> Result<Outcome, AllocError> {
+/// What comes of a text. Where memory runs out the test ends, here and below.
+fn outcome_of(rt: &impl Abort, alloc: Global, text: &[u8]) -> Outcome {
     match read(alloc, text) {
-        Ok(program) => Ok(Outcome::Program(program.symbols(), program.rules().len())),
-        Err(ReadFault::Bad { fault, clause }) => Ok(Outcome::Bad(fault.number(), clause)),
-        Err(ReadFault::TooLong) => Ok(Outcome::TooLong),
-        Err(ReadFault::Memory) => Err(AllocError),
+        Ok(program) => Outcome::Program(program.symbols(), program.rules().len()),
+        Err(ReadFault::Bad { fault, clause }) => Outcome::Bad(fault.number(), clause),
+        Err(ReadFault::TooLong) => Outcome::TooLong,
+        Err(ReadFault::Memory) => panic!(rt; "out of memory"),
+    }
+}
+
+/// Compares what comes of each text, between these ends.
+fn expect_outcomes(
+    rt: &impl Abort,
+    alloc: Global,
+    before: &str,
+    rows: &[(&str, Outcome)],
+    after: &str,
+) {
+    for (part, expected) in rows {
+        let text = format!(in alloc; "{before}{part}{after}").expect(rt, "memory");
+        let found = outcome_of(rt, alloc, text.as_bytes());
+        assert_eq!(rt; found, *expected, "{part}");
+    }
+}
+
+/// Compares what comes of each text, between these ends, with the one outcome of all.
+fn expect_each(
+    rt: &impl Abort,
+    alloc: Global,
+    before: &str,
+    parts: &[&str],
+    after: &str,
+    expected: Outcome,
+) {
+    for part in parts {
+        let text = format!(in alloc; "{before}{part}{after}").expect(rt, "memory");
+        let found = outcome_of(rt, alloc, text.as_bytes());
+        assert_eq!(rt; found, expected, "{part}");
     }
 }
 
 #[test]
-fn programs(rt: HostRuntime) -> Result<(), Fail> {
-    let alloc = rt.alloc();
-    for (text, symbols, rules) in [
-        ("", 0, 0),
-        ("% a. b\n", 0, 0),
-        (" \t\r\n", 0, 0),
-        ("% \u{e9}", 0, 0),
+fn programs(rt: HostRuntime) {
+    let rows = [
+        ("", Outcome::Program(0, 0)),
+        ("% a. b\n", Outcome::Program(0, 0)),
+        (" \t\r\n", Outcome::Program(0, 0)),
+        ("% \u{e9}", Outcome::Program(0, 0)),
         (
             ":-use_module(library(chr)).:-use_module ( library ( chr ) ) .",
-            0,
-            0,
+            Outcome::Program(0, 0),
         ),
         (
             ":- chr_constraint coin/0, note/0. coin, coin <=> note.",
-            2,
-            1,
+            Outcome::Program(2, 1),
         ),
-        (":- chr_constraint a/1, b/1. a(X), a(X) <=> b(X).", 2, 1),
-        (":- chr_constraint coin/0, note/0. coin <=> note.", 2, 1),
-    ] {
-        assert_eq!(rt;
-            outcome_of(alloc, text.as_bytes())?,
-            Outcome::Program(symbols, rules),
-            "{text}"
-        );
-    }
-    Ok(())
+        (
+            ":- chr_constraint a/1, b/1. a(X), a(X) <=> b(X).",
+            Outcome::Program(2, 1),
+        ),
+        (
+            ":- chr_constraint coin/0, note/0. coin <=> note.",
+            Outcome::Program(2, 1),
+        ),
+    ];
+    expect_outcomes(&rt, rt.alloc(), "", &rows, "");
+}
+
+/// The program of a text.
+fn program_of(rt: &impl Abort, alloc: Global, text: &str) -> Program {
+    read(alloc, text.as_bytes()).expect(rt, "a program")
 }
 
 /// The canonical text of what is read from this text, where it is a program.
-fn rewritten(alloc: Global, text: &[u8]) -> Result<String, AllocError> {
+fn rewritten(rt: &impl Abort, alloc: Global, text: &[u8]) -> String {
     match read(alloc, text) {
-        Ok(program) => write(alloc, &program),
-        Err(ReadFault::Memory) => Err(AllocError),
-        Err(_) => String::from_str(alloc, "no program"),
+        Ok(program) => write(alloc, &program).expect(rt, "memory"),
+        Err(ReadFault::Memory) => panic!(rt; "out of memory"),
+        Err(_) => String::from_str(alloc, "no program").expect(rt, "memory"),
+    }
+}
+
+/// Compares the canonical text of each text.
+fn expect_canonical(rt: &impl Abort, alloc: Global, rows: &[(&str, &str)]) {
+    for (text, canonical) in rows {
+        let found = rewritten(rt, alloc, text.as_bytes());
+        assert_eq!(rt; found.as_str(), *canonical);
     }
 }
 
 /// Compares the fault of a clause after a declaration. The clause after it has the least fault of all.
-fn expect_fault(rt: &impl Abort, alloc: Global, clause: &str, fault: u8) -> Result<(), AllocError> {
-    let text = format!(in alloc; ":- chr_constraint a/0, a/1. {clause}. \u{7}.")?;
-    let found = outcome_of(alloc, text.as_bytes())?;
-    assert_eq!(rt; found, Outcome::Bad(fault, 2), "{clause}");
+fn expect_fault(rt: &impl Abort, alloc: Global, clause: &str, fault: u8) {
+    let declared = ":- chr_constraint a/0, a/1. ";
+    expect_each(
+        rt,
+        alloc,
+        declared,
+        &[clause],
+        ". \u{7}.",
+        Outcome::Bad(fault, 2),
+    );
+}
+
+/// Compares the faults of clauses after a declaration.
+fn expect_faults(rt: &impl Abort, alloc: Global, rows: &[(&str, u8)]) {
+    for (clause, fault) in rows {
+        expect_fault(rt, alloc, clause, *fault);
+    }
+}
+
+/// A declaration of 64 symbols, without its end.
+fn push_symbols(text: &mut String) -> Result<(), AllocError> {
+    text.push_str(":- chr_constraint a0/0")?;
+    for number in 1..64 {
+        write!(text, ", a{number}/0")?;
+    }
     Ok(())
 }
 
-#[test]
-fn sixty_four_symbols_and_rules(rt: HostRuntime) -> Result<(), Fail> {
-    let alloc = rt.alloc();
-    let mut text = String::from_str(alloc, ":- chr_constraint a0/0")?;
-    for i in 1..64 {
-        write!(text, ", a{i}/0")?;
-    }
-    let many = format!(in alloc; "{text}, b/0.")?;
-    text.push_str(".")?;
-    assert_eq!(rt;
-        outcome_of(alloc, text.as_bytes())?,
-        Outcome::Program(64, 0)
-    );
-    assert_eq!(rt; outcome_of(alloc, many.as_bytes())?, Outcome::Bad(7, 1));
-    let more = format!(in alloc; "{text} :- chr_constraint b/0.")?;
-    assert_eq!(rt; outcome_of(alloc, more.as_bytes())?, Outcome::Bad(7, 2));
-    for _ in 0..64 {
-        text.push_str("a0 <=> true.")?;
-    }
-    assert_eq!(rt;
-        outcome_of(alloc, text.as_bytes())?,
-        Outcome::Program(64, 64)
-    );
-    text.push_str("a0 <=> true.")?;
-    assert_eq!(rt; outcome_of(alloc, text.as_bytes())?, Outcome::Bad(7, 66));
-    Ok(())
+/// A declaration of 64 symbols, and this after it.
+fn after_symbols(rt: &impl Abort, alloc: Global, after: &str) -> String {
+    let mut text = String::new(alloc);
+    push_symbols(&mut text).expect(rt, "memory");
+    text.push_str(after).expect(rt, "memory");
+    text
+}
+
+/// A declaration of 64 symbols, and as many rules.
+fn sixty_four(rt: &impl Abort, alloc: Global) -> String {
+    let mut text = after_symbols(rt, alloc, ".");
+    let rules = "a0 <=> true.".repeat(alloc, 64).expect(rt, "memory");
+    text.push_str(&rules).expect(rt, "memory");
+    text
 }
 
 #[test]
-fn the_longest_text(rt: HostRuntime) -> Result<(), Fail> {
+fn sixty_four_symbols(rt: HostRuntime) {
     let alloc = rt.alloc();
-    let mut text = Vec::new(alloc);
-    for _ in 0..65_536 {
-        text.push(b' ')?;
-    }
-    assert_eq!(rt; outcome_of(alloc, &text)?, Outcome::Program(0, 0));
-    text.push(7)?;
-    assert_eq!(rt; outcome_of(alloc, &text)?, Outcome::TooLong);
-    Ok(())
+    let symbols = after_symbols(&rt, alloc, "");
+    let rows = [
+        (".", Outcome::Program(64, 0)),
+        (", b/0.", Outcome::Bad(7, 1)),
+        (". :- chr_constraint b/0.", Outcome::Bad(7, 2)),
+    ];
+    expect_outcomes(&rt, alloc, symbols.as_str(), &rows, "");
+}
+
+#[test]
+fn sixty_four_rules(rt: HostRuntime) {
+    let alloc = rt.alloc();
+    let rules = sixty_four(&rt, alloc);
+    let rows = [
+        ("", Outcome::Program(64, 64)),
+        ("a0 <=> true.", Outcome::Bad(7, 66)),
+    ];
+    expect_outcomes(&rt, alloc, rules.as_str(), &rows, "");
+}
+
+#[test]
+fn the_longest_text(rt: HostRuntime) {
+    let alloc = rt.alloc();
+    let spaces = " ".repeat(alloc, 65_536).expect(&rt, "memory");
+    let rows = [("", Outcome::Program(0, 0)), ("\u{7}", Outcome::TooLong)];
+    expect_outcomes(&rt, alloc, spaces.as_str(), &rows, "");
 }
 
 fn parts(program: &Program) -> bool {
@@ -149,28 +217,26 @@ fn parts(program: &Program) -> bool {
         && body.args.is_empty()
 }
 
+/// The weight of the symbol at this place.
+fn weight_at(rt: &impl Abort, program: &Program, place: u16) -> Weight {
+    assert!(rt; usize::from(place) < program.symbols());
+    program.weight_of(SymbolId(place))
+}
+
 #[test]
-fn a_rule_with_all_parts(rt: HostRuntime) -> Result<(), Fail> {
+fn a_rule_with_all_parts(rt: HostRuntime) {
     let alloc = rt.alloc();
     let text = ":- use_module(library(chr)). :- chr_constraint p/2, q/0. :- chr_weight p/2 = 007.
 r @ p(X,_) \\ p(Y,-03) <=> true, X >= -5, Y =\\= X | true, q.";
-    match read(alloc, text.as_bytes()) {
-        Ok(program) => {
-            assert!(rt; parts(&program));
-            assert_eq!(rt; program.symbols(), 2);
-            if program.symbols() == 2 {
-                let seven = Weight {
-                    first: 7,
-                    second: 0,
-                };
-                assert_eq!(rt; program.weight_of(SymbolId(0)), seven);
-                assert_eq!(rt; program.weight_of(SymbolId(1)), DEFAULT_WEIGHT);
-            }
-        }
-        Err(ReadFault::Memory) => return Err(Fail::from(AllocError)),
-        Err(_) => assert!(rt; false),
-    }
-    Ok(())
+    let program = program_of(&rt, alloc, text);
+    assert!(rt; parts(&program));
+    assert_eq!(rt; program.symbols(), 2);
+    let seven = Weight {
+        first: 7,
+        second: 0,
+    };
+    assert_eq!(rt; weight_at(&rt, &program, 0), seven);
+    assert_eq!(rt; weight_at(&rt, &program, 1), DEFAULT_WEIGHT);
 }
 
 fn args_of(program: &Program) -> bool {
@@ -185,14 +251,9 @@ fn args_of(program: &Program) -> bool {
 }
 
 #[test]
-fn each_underscore_is_a_variable(rt: HostRuntime) -> Result<(), Fail> {
-    let alloc = rt.alloc();
-    match read(alloc, b":- chr_constraint p/2. p(X,_), p(_,X) <=> true.") {
-        Ok(program) => assert!(rt; args_of(&program)),
-        Err(ReadFault::Memory) => return Err(Fail::from(AllocError)),
-        Err(_) => assert!(rt; false),
-    }
-    Ok(())
+fn each_underscore_is_a_variable(rt: HostRuntime) {
+    let text = ":- chr_constraint p/2. p(X,_), p(_,X) <=> true.";
+    assert!(rt; args_of(&program_of(&rt, rt.alloc(), text)));
 }
 
 #[test]
@@ -202,9 +263,8 @@ fn numbers_of_faults(rt: HostRuntime) {
 }
 
 #[test]
-fn canonical_texts(rt: HostRuntime) -> Result<(), Fail> {
-    let alloc = rt.alloc();
-    for (text, canonical) in [
+fn canonical_texts(rt: HostRuntime) {
+    let rows = [
         ("", ""),
         ("% nothing\n", ""),
         (
@@ -227,28 +287,36 @@ fn canonical_texts(rt: HostRuntime) -> Result<(), Fail> {
             ":- chr_constraint p/3, q/0. p(_, Y, -9223372036854775808), q <=> Y < 0, 007 >= Y, Y > -1, 3 =< Y, Y =\\= 5, Y \\== 6, Y =:= 9223372036854775807 | p(Y, Y, 4).",
             ":- chr_constraint p/3, q/0.\np(V1,V2,-9223372036854775808), q <=> V2 < 0, 7 >= V2, V2 > -1, 3 =< V2, V2 =\\= 5, V2 =\\= 6, V2 =:= 9223372036854775807 | p(V2,V2,4).\n",
         ),
-    ] {
-        assert_eq!(rt; rewritten(alloc, text.as_bytes())?.as_str(), canonical);
-    }
-    Ok(())
+    ];
+    expect_canonical(&rt, rt.alloc(), &rows);
+}
+
+/// Whether the program is written, and its canonical text is that of the same, and of no other.
+fn is_written(rt: &impl Abort, alloc: Global, program: &Program) -> bool {
+    let canonical = write(alloc, program).expect(rt, "memory");
+    let again = program_of(rt, alloc, canonical.as_str());
+    let rewritten = write(alloc, &again).expect(rt, "memory");
+    again.is_same(program) && rewritten.as_str() == canonical.as_str()
 }
 
 /// Whether the text is that of a program, and its canonical text that of the same.
-fn comes_back(alloc: Global, text: &[u8]) -> Result<bool, AllocError> {
-    let Ok(program) = read(alloc, text) else {
-        return Ok(false);
-    };
-    let canonical = write(alloc, &program)?;
-    let Ok(again) = read(alloc, canonical.as_bytes()) else {
-        return Ok(false);
-    };
-    Ok(again.is_same(&program) && write(alloc, &again)?.as_str() == canonical.as_str())
+fn comes_back(rt: &impl Abort, alloc: Global, text: &[u8]) -> bool {
+    match read(alloc, text) {
+        Ok(program) => is_written(rt, alloc, &program),
+        Err(_) => false,
+    }
+}
+
+/// Compares each text with what comes back of it.
+fn expect_come_back(rt: &impl Abort, alloc: Global, texts: &[&str]) {
+    for text in texts {
+        assert!(rt; comes_back(rt, alloc, text.as_bytes()), "{text}");
+    }
 }
 
 #[test]
-fn programs_come_back(rt: HostRuntime) -> Result<(), Fail> {
-    let alloc = rt.alloc();
-    for text in [
+fn programs_come_back(rt: HostRuntime) {
+    let texts = [
         "",
         ":- chr_constraint coin/0, note/0. coin, coin <=> note.",
         ":- chr_constraint a/1, b/1. a(X), a(X) <=> b(X).",
@@ -262,8 +330,6 @@ fn programs_come_back(rt: HostRuntime) -> Result<(), Fail> {
         ":- chr_constraint a/2, b/4. a(_,X), b(Y,_,X,Z) \\ a(Z,_), a(_,_) <=> X < Y, Z =\\= 4, 3 >= X | b(X,Y,Z,-5), a(0,0).",
         ":- chr_constraint e/2. :- chr_weight e/2 = 3. a @ e(X,Y) \\ e(X,Z) <=> Y =< Z | true. a @ e(1,2) <=> true.",
         ":- chr_constraint truex/0, failing/0. truex @ truex <=> failing, failing, failing, failing, failing, failing, failing, failing.",
-    ] {
-        assert!(rt; comes_back(alloc, text.as_bytes())?);
-    }
-    Ok(())
+    ];
+    expect_come_back(&rt, rt.alloc(), &texts);
 }

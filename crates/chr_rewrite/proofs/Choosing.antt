@@ -12,7 +12,7 @@ use Rattle.chr_base.specs.declared.atom.Atom.{Atom}
 use Rattle.chr_base.specs.Atoms.{atom_cmp, no_atom}
 use Rattle.chr_base.proofs.Atoms.{atom_total, same_is}
 use Rattle.chr_base.specs.FinBag.{count_in}
-use Rattle.chr_rewrite.specs.working.Choices.{nth_atom, chosen_atoms, is_choice}
+use Rattle.chr_rewrite.specs.working.Choices.{chosen_atoms, is_choice}
 
 -- whether the index is among those taken
 abbrev pub is_taken : ℕ → List ℕ → Bool
@@ -111,11 +111,11 @@ choose items taken (a ∷ heads) h =
     let w = free_index 0 taken items no_atom a one in
     let z : 0 + w.0 ≡ w.0 = omega arith in
     let fresh : is_taken w.0 taken ≡ false = ap (λ m. is_taken m taken) (sym z) ∙ w.2 in
-    let is : a ≡ nth_atom items w.0 = same_is a (nth_atom items w.0) w.3 in
+    let is : a ≡ get_or items w.0 no_atom = same_is a (get_or items w.0 no_atom) w.3 in
     let more = choose items (taken ++ w.0 ∷ []) heads (λ q.
     (let here = free_taken 0 w.0 taken items no_atom q w.1 w.2 in
-    let here' : cond (eq_by_cmp atom_cmp q (nth_atom items w.0)) 1 0 + free_from 0 (taken ++ w.0 ∷ []) items q ≡ free_from 0 taken items q = rw z at here in
-    let l : cond (eq_by_cmp atom_cmp q (nth_atom items w.0)) 1 0 + count_in atom_cmp q heads ≤ free_from 0 taken items q = rw (← is) (h q) in
+    let here' : cond (eq_by_cmp atom_cmp q (get_or items w.0 no_atom)) 1 0 + free_from 0 (taken ++ w.0 ∷ []) items q ≡ free_from 0 taken items q = rw z at here in
+    let l : cond (eq_by_cmp atom_cmp q (get_or items w.0 no_atom)) 1 0 + count_in atom_cmp q heads ≤ free_from 0 taken items q = rw (← is) (h q) in
     omega (arith, here', l))) in
     let within : nat_lt w.0 (length items) ≡ true = (let l = w.1 in grind (arith, nat_tests)) in
     (w.0 ∷ more.0, and_from (nat_lt w.0 (length items) && not (is_taken w.0 taken)) (is_choice items (taken ++ w.0 ∷ []) more.0) (and_from _ _ within (not_from_false _ fresh)) more.1, (λ k. sym is k ∷ more.2 k))
@@ -133,8 +133,8 @@ pub pick_more : (items : List Atom) (is : List ℕ) (n : ℕ) (atoms : List Atom
     → atoms ++ x ∷ [] ≡ chosen_atoms items (take (n + 1) is)
 pick_more items is n atoms x l h e at =
     let within = choice_index items [] is n h l in
-    let same : x ≡ nth_atom items (get_or is n 0) = at ∙ get_or_default items (get_or is n 0) x no_atom within in
-    rw (e, map_more (nth_atom items) is n 0 l) (ap (λ y. chosen_atoms items (take n is) ++ y ∷ []) same)
+    let same : x ≡ get_or items (get_or is n 0) no_atom = at ∙ get_or_default items (get_or is n 0) x no_atom within in
+    rw (e, map_more (λ i. get_or items i no_atom) is n 0 l) (ap (λ y. chosen_atoms items (take n is) ++ y ∷ []) same)
 
 -- one more index is chosen
 pub choice_more : (items : List Atom) (taken is : List ℕ) (i : ℕ) → is_choice items taken is ≡ true → i < length items → is_taken i (taken ++ is) ≡ false → is_choice items taken (is ++ i ∷ []) ≡ true

@@ -1,5 +1,5 @@
 -- The first choice by index against the least tuple of atoms.
-use Rattle.std.specs.Prelude.{◌≡◌, ℕ, zero, suc, ◌+◌, ◌<◌, ◌≤◌, true, false, not, ◌&&◌, cond, List, [], ◌∷◌, ◌++◌, length, nat_lt, IsTrue}
+use Rattle.std.specs.Prelude.{◌≡◌, ℕ, zero, suc, ◌+◌, ◌<◌, ◌≤◌, true, false, not, ◌&&◌, cond, List, [], ◌∷◌, ◌++◌, length, get_or, nat_lt, IsTrue}
 use Rattle.std.specs.declared.cmp.Ordering.{Ordering}
 use Rattle.std.specs.declared.cmp.Ordering.TheVariants.{Less, Equal, Greater}
 use Rattle.std.specs.Ordering.{nat_cmp, ordering_then, ordering_reverse, eq_by_cmp, is_gt}
@@ -18,23 +18,23 @@ use Rattle.chr_base.specs.FinBag.{count_in, is_rising, none_below}
 use Rattle.chr_base.proofs.FinBags.{lists_within}
 use Rattle.chr_base.specs.Stores.{store_of}
 use Rattle.chr_base.specs.Rules.{HasInstance, heads_of}
-use Rattle.chr_rewrite.specs.working.Choices.{nth_atom, chosen_atoms, is_choice, IsFirstChoice}
+use Rattle.chr_rewrite.specs.working.Choices.{chosen_atoms, is_choice, IsFirstChoice}
 use Rattle.chr_rewrite.specs.Derivations.{IsLeastInstance}
 use Rattle.chr_rewrite.proofs.Choosing.{choose, free_from, free_none, free_taken, is_taken}
 use Rattle.chr_rewrite.proofs.Searching.{NoneBelow, instance_places}
 
 -- no item of the list comes before x
-not_above : (x : Atom) (xs : List Atom) (j : ℕ) → none_below atom_cmp x xs ≡ true → j < length xs → atom_cmp x (nth_atom xs j) ≡ Greater → ⊥
+not_above : (x : Atom) (xs : List Atom) (j : ℕ) → none_below atom_cmp x xs ≡ true → j < length xs → atom_cmp x (get_or xs j no_atom) ≡ Greater → ⊥
 not_above x [] j h l e = absurd (omega (arith, l))
 not_above x (y ∷ ys) zero h l e = let f : not (is_gt (atom_cmp x y)) ≡ true = (and_parts _ (none_below atom_cmp x ys) h).0 in true≢false (sym f ∙ ap (λ o. not (is_gt o)) e)
 not_above x (y ∷ ys) (suc j) h l e = not_above x ys j (and_parts (not (is_gt (atom_cmp x y))) _ h).1 (omega (arith, l)) e
 
 -- among items that never fall, what comes before another stands before it
-pub stands_before : (items : List Atom) (i j : ℕ) → is_rising atom_cmp items ≡ true → i < length items → j < length items → atom_cmp (nth_atom items j) (nth_atom items i) ≡ Less → j < i
+pub stands_before : (items : List Atom) (i j : ℕ) → is_rising atom_cmp items ≡ true → i < length items → j < length items → atom_cmp (get_or items j no_atom) (get_or items i no_atom) ≡ Less → j < i
 stands_before [] i j h l m e = absurd (omega (arith, l))
 stands_before (x ∷ xs) zero zero h l m e = absurd (let t : Equal ≡ Less = sym (tied_itself atom_total x) ∙ e in cc)
 stands_before (x ∷ xs) zero (suc j) h l m e =
-    absurd (not_above x xs j (and_parts _ (is_rising atom_cmp xs) h).0 (omega (arith, m)) (atom_total.antisymm x (nth_atom xs j) ∙ ap ordering_reverse e))
+    absurd (not_above x xs j (and_parts _ (is_rising atom_cmp xs) h).0 (omega (arith, m)) (atom_total.antisymm x (get_or xs j no_atom) ∙ ap ordering_reverse e))
 stands_before (x ∷ xs) (suc i) zero h l m e = omega arith
 stands_before (x ∷ xs) (suc i) (suc j) h l m e = let f = stands_before xs i j (and_parts (none_below atom_cmp x xs) _ h).1 (omega (arith, l)) (omega (arith, m)) e in omega (arith, f)
 
@@ -54,7 +54,7 @@ chosen_before items taken [] [] rising c e free = absurd (let t : Equal ≡ Less
 chosen_before items taken (i ∷ is) [] rising c e free = ([], refl, refl, refl)
 chosen_before items taken [] (a ∷ heads) rising c e free = absurd (let t : Greater ≡ Less = e in cc)
 chosen_before items taken (i ∷ is) (a ∷ heads) rising c e free =
-    by (atom_cmp a (nth_atom items i)) refl (λ f g. chosen_before items (taken ++ i ∷ []) is heads rising rest f g)
+    by (atom_cmp a (get_or items i no_atom)) refl (λ f g. chosen_before items (taken ++ i ∷ []) is heads rising rest f g)
   where
     two : (nat_lt i (length items) && not (is_taken i taken)) ≡ true
     two = (and_parts _ (is_choice items (taken ++ i ∷ []) is) c).0
@@ -62,32 +62,32 @@ chosen_before items taken (i ∷ is) (a ∷ heads) rising c e free =
     rest : is_choice items (taken ++ i ∷ []) is ≡ true
     rest = (and_parts (nat_lt i (length items) && not (is_taken i taken)) _ c).1
 
-    earlier : atom_cmp a (nth_atom items i) ≡ Less → (js : List ℕ) → is_choice items taken js ≡ true → chosen_atoms items js ≡ a ∷ heads → ChosenBefore items taken (i ∷ is) (a ∷ heads)
+    earlier : atom_cmp a (get_or items i no_atom) ≡ Less → (js : List ℕ) → is_choice items taken js ≡ true → chosen_atoms items js ≡ a ∷ heads → ChosenBefore items taken (i ∷ is) (a ∷ heads)
     earlier less [] d p = absurd (let t : ◌≡◌ {A = List Atom} [] (a ∷ heads) = p in cc)
     earlier less (j ∷ js) d p =
-        let q : nth_atom items j ∷ chosen_atoms items js ≡ a ∷ heads = p in
-        let same : nth_atom items j ≡ a = cc in
-        let l = stands_before items i j rising (index_within items taken is i c) (index_within items taken js j d) (ap (λ x. atom_cmp x (nth_atom items i)) same ∙ less) in
+        let q : get_or items j no_atom ∷ chosen_atoms items js ≡ a ∷ heads = p in
+        let same : get_or items j no_atom ≡ a = cc in
+        let l = stands_before items i j rising (index_within items taken is i c) (index_within items taken js j d) (ap (λ x. atom_cmp x (get_or items i no_atom)) same ∙ less) in
         let f : nat_cmp j i ≡ Less = sym (nat_cmp_is j i Less l) in
         (j ∷ js, d, p, ap (λ o. ordering_then o (slice_cmp nat_cmp js is)) f)
 
-    later : atom_cmp a (nth_atom items i) ≡ Equal → ChosenBefore items (taken ++ i ∷ []) is heads → ChosenBefore items taken (i ∷ is) (a ∷ heads)
+    later : atom_cmp a (get_or items i no_atom) ≡ Equal → ChosenBefore items (taken ++ i ∷ []) is heads → ChosenBefore items taken (i ∷ is) (a ∷ heads)
     later equal w =
-        let same = atom_exact a (nth_atom items i) equal in
+        let same = atom_exact a (get_or items i no_atom) equal in
         let f : nat_cmp i i ≡ Equal = tied_itself nat_cmp_total i in
         (i ∷ w.0, and_from (nat_lt i (length items) && not (is_taken i taken)) (is_choice items (taken ++ i ∷ []) w.0) two w.1, (λ k. sym same k ∷ w.2 k), ap (λ o. ordering_then o (slice_cmp nat_cmp w.0 is)) f ∙ w.3)
 
-    left : atom_cmp a (nth_atom items i) ≡ Equal → (q : Atom) → count_in atom_cmp q heads ≤ free_from 0 (taken ++ i ∷ []) items q
+    left : atom_cmp a (get_or items i no_atom) ≡ Equal → (q : Atom) → count_in atom_cmp q heads ≤ free_from 0 (taken ++ i ∷ []) items q
     left equal q =
-        let same = atom_exact a (nth_atom items i) equal in
+        let same = atom_exact a (get_or items i no_atom) equal in
         let z : 0 + i ≡ i = omega arith in
         let fresh : is_taken i taken ≡ false = not-true _ (and_parts (nat_lt i (length items)) _ two).1 in
         let here = free_taken 0 i taken items no_atom q (index_within items taken is i c) (ap (λ m. is_taken m taken) z ∙ fresh) in
-        let here' : cond (eq_by_cmp atom_cmp q (nth_atom items i)) 1 0 + free_from 0 (taken ++ i ∷ []) items q ≡ free_from 0 taken items q = rw z at here in
-        let l : cond (eq_by_cmp atom_cmp q (nth_atom items i)) 1 0 + count_in atom_cmp q heads ≤ free_from 0 taken items q = rw (← same) (free q) in
+        let here' : cond (eq_by_cmp atom_cmp q (get_or items i no_atom)) 1 0 + free_from 0 (taken ++ i ∷ []) items q ≡ free_from 0 taken items q = rw z at here in
+        let l : cond (eq_by_cmp atom_cmp q (get_or items i no_atom)) 1 0 + count_in atom_cmp q heads ≤ free_from 0 taken items q = rw (← same) (free q) in
         omega (arith, here', l)
 
-    by : (o : Ordering) → atom_cmp a (nth_atom items i) ≡ o → (slice_cmp atom_cmp heads (chosen_atoms items is) ≡ Less → ((q : Atom) → count_in atom_cmp q heads ≤ free_from 0 (taken ++ i ∷ []) items q) → ChosenBefore items (taken ++ i ∷ []) is heads)
+    by : (o : Ordering) → atom_cmp a (get_or items i no_atom) ≡ o → (slice_cmp atom_cmp heads (chosen_atoms items is) ≡ Less → ((q : Atom) → count_in atom_cmp q heads ≤ free_from 0 (taken ++ i ∷ []) items q) → ChosenBefore items (taken ++ i ∷ []) is heads)
         → ChosenBefore items taken (i ∷ is) (a ∷ heads)
     by Less f more = let w = choose items taken (a ∷ heads) free in earlier f w.0 w.1 w.2
     by Equal f more = later f (more (ap (λ o. ordering_then o (slice_cmp atom_cmp heads (chosen_atoms items is))) (sym f) ∙ e) (left f))

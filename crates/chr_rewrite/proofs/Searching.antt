@@ -16,7 +16,7 @@ use Rattle.chr_base.proofs.FinBags.{within_lists, lists_within}
 use Rattle.chr_base.specs.Stores.{store_of}
 use Rattle.chr_base.specs.Rules.{HasInstance, Valuation, heads_of, heads_at, atom_at, term_value, no_pattern, has_shape, HasNoStep}
 use Rattle.chr_base.specs.Atoms.{no_atom}
-use Rattle.chr_rewrite.specs.working.Choices.{has_shape_at, nth_atom, chosen_atoms, is_choice, NoCompletion}
+use Rattle.chr_rewrite.specs.working.Choices.{has_shape_at, chosen_atoms, is_choice, NoCompletion}
 use Rattle.chr_rewrite.proofs.Choosing.{choice_within, choice_more, choose, free_none}
 
 -- the atoms of a choice are there
@@ -38,7 +38,7 @@ pub instance_places : (r : Rule) (items : List Atom) (is : List ℕ) → HasInst
 instance_places r items is h =
     let a = ap length h.1 in
     let b = length-map (heads_of r) (atom_at h.0) in
-    let c = length-map is (nth_atom items) in
+    let c = length-map is (λ i. get_or items i no_atom) in
     omega (arith, a, b, c)
 
 -- all indices were tried
@@ -73,18 +73,18 @@ instance_shape : (v : Valuation) (p : Pattern) → has_shape p (atom_at v p) ≡
 instance_shape v p = and_from _ _ (eq-eqb p.symbol.0 p.symbol.0 refl) (eq-eqb (length p.args.items) _ (sym (length-map p.args.items (term_value v))))
 
 -- the atom at a place of the choice
-at_seam : (items : List Atom) (is : List ℕ) (n : ℕ) (js : List ℕ) → get_or (chosen_atoms items (is ++ n ∷ js)) (length is) no_atom ≡ nth_atom items n
+at_seam : (items : List Atom) (is : List ℕ) (n : ℕ) (js : List ℕ) → get_or (chosen_atoms items (is ++ n ∷ js)) (length is) no_atom ≡ get_or items n no_atom
 at_seam items [] n js = refl
 at_seam items (i ∷ is) n js = at_seam items is n js
 
 -- its atom has not the shape of the place
-tried_shape : (r : Rule) (items : List Atom) (is : List ℕ) (n : ℕ) → NoneBelow r items is n → length is < length (heads_of r) → has_shape_at r (length is) (nth_atom items n) ≡ false → NoneBelow r items is (n + 1)
+tried_shape : (r : Rule) (items : List Atom) (is : List ℕ) (n : ℕ) → NoneBelow r items is n → length is < length (heads_of r) → has_shape_at r (length is) (get_or items n no_atom) ≡ false → NoneBelow r items is (n + 1)
 tried_shape r items is n none room differs =
     one_more r items is n none (λ js c h.
     (let p : Pattern = get_or (heads_of r) (length is) no_pattern in
-    let here : get_or (chosen_atoms items (is ++ n ∷ js)) (length is) no_atom ≡ nth_atom items n = at_seam items is n js in
+    let here : get_or (chosen_atoms items (is ++ n ∷ js)) (length is) no_atom ≡ get_or items n no_atom = at_seam items is n js in
     let there : get_or (heads_at h.0 r) (length is) no_atom ≡ atom_at h.0 p = get_or-map (atom_at h.0) (heads_of r) (length is) no_pattern no_atom room in
-    let same : nth_atom items n ≡ atom_at h.0 p = sym here ∙ ap (λ xs. get_or xs (length is) no_atom) (sym h.1) ∙ there in
+    let same : get_or items n no_atom ≡ atom_at h.0 p = sym here ∙ ap (λ xs. get_or xs (length is) no_atom) (sym h.1) ∙ there in
     true≢false (sym (instance_shape h.0 p) ∙ ap (has_shape p) (sym same) ∙ differs)))
 
 -- the last index is dropped again
@@ -106,4 +106,4 @@ place_left n m k l e f ne h = omega (arith, e, f, ne, h)
 pub shape_missed : (r : Rule) (items : List Atom) (is js : List ℕ) (n k : ℕ) (x : Atom) (b : Bool) → NoneBelow r items is n → js ≡ is → k ≡ length js → length is < length (heads_of r) → n < length items → x ≡ get_or items n x → b ≡ has_shape_at r k x → b ≡ false
     → NoneBelow r items is (n + 1)
 shape_missed r items is js n k x b none same len room l at e f =
-    tried_shape r items is n none room (let y : x ≡ nth_atom items n = at ∙ get_or_default items n x no_atom l in ap (λ xs. has_shape_at r (length xs) (nth_atom items n)) (sym same) ∙ ap (λ m. has_shape_at r m (nth_atom items n)) (sym len) ∙ ap (has_shape_at r k) (sym y) ∙ sym e ∙ f)
+    tried_shape r items is n none room (let y : x ≡ get_or items n no_atom = at ∙ get_or_default items n x no_atom l in ap (λ xs. has_shape_at r (length xs) (get_or items n no_atom)) (sym same) ∙ ap (λ m. has_shape_at r m (get_or items n no_atom)) (sym len) ∙ ap (has_shape_at r k) (sym y) ∙ sym e ∙ f)

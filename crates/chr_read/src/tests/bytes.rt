@@ -1,12 +1,30 @@
 //! Bytes that may not stand in a text, and tokens cut by comments.
-use super::{Outcome, expect_fault, outcome_of};
-use std::test::Fail;
+use super::{Outcome, expect_each, outcome_of};
+use std::alloc::Global;
+use std::process::Abort;
+
+/// Compares the faults of clauses after a declaration, which end the text.
+fn expect_faults_of_bytes(rt: &impl Abort, alloc: Global, rows: &[(&[u8], u8)]) {
+    for (rest, fault) in rows {
+        let mut text = Vec::new(alloc);
+        text.extend_from_slice(b":- chr_constraint a/0.")
+            .expect(rt, "memory");
+        text.extend_from_slice(rest).expect(rt, "memory");
+        let found = outcome_of(rt, alloc, &text);
+        assert_eq!(rt; found, Outcome::Bad(*fault, 2), "{rest:?}");
+    }
+}
+
+/// Compares the faults of form of clauses after a declaration.
+fn expect_faults_of_form(rt: &impl Abort, alloc: Global, clauses: &[&str]) {
+    let declared = ":- chr_constraint a/0, a/1. ";
+    expect_each(rt, alloc, declared, clauses, ". \u{7}.", Outcome::Bad(3, 2));
+}
 
 /// Outside comments a byte has to be layout or printable.
 #[test]
-fn bytes_outside_comments(rt: HostRuntime) -> Result<(), Fail> {
-    let alloc = rt.alloc();
-    for (rest, fault) in [
+fn bytes_outside_comments(rt: HostRuntime) {
+    let rows = [
         (b"\x0b.".as_slice(), 1),
         (b" \x0c.".as_slice(), 1),
         (b"a <=>\x0btrue.".as_slice(), 1),
@@ -30,35 +48,27 @@ fn bytes_outside_comments(rt: HostRuntime) -> Result<(), Fail> {
         (b"~ \x80".as_slice(), 1),
         (b"~".as_slice(), 11),
         (b"a % .".as_slice(), 11),
-    ] {
-        let mut text = Vec::new(alloc);
-        text.extend_from_slice(b":- chr_constraint a/0.")?;
-        text.extend_from_slice(rest)?;
-        let found = outcome_of(alloc, &text)?;
-        assert_eq!(rt; found, Outcome::Bad(fault, 2), "{rest:?}");
-    }
-    Ok(())
+    ];
+    expect_faults_of_bytes(&rt, rt.alloc(), &rows);
 }
 
 /// In comments any bytes may stand.
 #[test]
-fn bytes_in_comments(rt: HostRuntime) -> Result<(), Fail> {
+fn bytes_in_comments(rt: HostRuntime) {
     let alloc = rt.alloc();
     for text in [
         b"%\x00\x0b\x0c\x1f\x7f\x80\xff~.".as_slice(),
         b":-%\x0b.\nuse_module(%\x80\r\nlibrary%.\n(chr)).%~".as_slice(),
     ] {
-        let found = outcome_of(alloc, text)?;
+        let found = outcome_of(&rt, alloc, text);
         assert_eq!(rt; found, Outcome::Program(0, 0), "{text:?}");
     }
-    Ok(())
 }
 
 /// A comment counts as layout, so it parts what stands around it.
 #[test]
-fn comments_in_tokens(rt: HostRuntime) -> Result<(), Fail> {
-    let alloc = rt.alloc();
-    for clause in [
+fn comments_in_tokens(rt: HostRuntime) {
+    let clauses = [
         "co%x\nin <=> true",
         "a%x\na <=> true",
         "a <%x\n=> true",
@@ -70,17 +80,14 @@ fn comments_in_tokens(rt: HostRuntime) -> Result<(), Fail> {
         "a(X) <=> X =%x\n< 3 | true",
         ":%x\n- chr_constraint b/0",
         ":- chr_%x\nconstraint b/0",
-    ] {
-        expect_fault(&rt, alloc, clause, 3)?;
-    }
-    Ok(())
+    ];
+    expect_faults_of_form(&rt, rt.alloc(), &clauses);
 }
 
 /// Each token is the longest that fits.
 #[test]
-fn longest_tokens(rt: HostRuntime) -> Result<(), Fail> {
-    let alloc = rt.alloc();
-    for clause in [
+fn longest_tokens(rt: HostRuntime) {
+    let clauses = [
         "a(X) <=> X==>3 | true",
         "a(X) <=> X<=>3 | true",
         "a=<=>a",
@@ -92,8 +99,6 @@ fn longest_tokens(rt: HostRuntime) -> Result<(), Fail> {
         "a{ <=> true",
         "a(X[) <=> true",
         "a(X^) <=> true",
-    ] {
-        expect_fault(&rt, alloc, clause, 3)?;
-    }
-    Ok(())
+    ];
+    expect_faults_of_form(&rt, rt.alloc(), &clauses);
 }

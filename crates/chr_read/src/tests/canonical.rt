@@ -1,28 +1,27 @@
 //! Canonical texts of programs in which a part could get lost.
-use super::rewritten;
-use std::alloc::{AllocError, Global};
+use super::{expect_canonical, rewritten};
+use std::alloc::Global;
 use std::process::Abort;
-use std::test::Fail;
 
 /// Compares the canonical text of rules after declarations. The full stop of the last one is added.
-fn expect_rules(
-    rt: &impl Abort,
-    alloc: Global,
-    rules: &str,
-    canonical: &str,
-) -> Result<(), AllocError> {
+fn expect_rule(rt: &impl Abort, alloc: Global, rules: &str, canonical: &str) {
     let declared = ":- chr_constraint a/0, a/1, p/2, f/4.\n";
-    let text = format!(in alloc; "{declared}{rules}.")?;
-    let expected = format!(in alloc; "{declared}{canonical}.\n")?;
-    let found = rewritten(alloc, text.as_bytes())?;
+    let text = format!(in alloc; "{declared}{rules}.").expect(rt, "memory");
+    let expected = format!(in alloc; "{declared}{canonical}.\n").expect(rt, "memory");
+    let found = rewritten(rt, alloc, text.as_bytes());
     assert_eq!(rt; found.as_str(), expected.as_str());
-    Ok(())
+}
+
+/// Compares the canonical texts of rules after declarations.
+fn expect_rules(rt: &impl Abort, alloc: Global, rows: &[(&str, &str)]) {
+    for (rules, canonical) in rows {
+        expect_rule(rt, alloc, rules, canonical);
+    }
 }
 
 #[test]
-fn numbers(rt: HostRuntime) -> Result<(), Fail> {
-    let alloc = rt.alloc();
-    for (rules, canonical) in [
+fn numbers(rt: HostRuntime) {
+    let rows = [
         (
             "a(-9223372036854775808) <=> true",
             "a(-9223372036854775808) <=> true",
@@ -49,16 +48,13 @@ fn numbers(rt: HostRuntime) -> Result<(), Fail> {
             "a(V1) <=> 7 < V1, V1 < 100 | a(0), a(0)",
         ),
         ("a(-0) <=> a(-00)", "a(0) <=> a(0)"),
-    ] {
-        expect_rules(&rt, alloc, rules, canonical)?;
-    }
-    Ok(())
+    ];
+    expect_rules(&rt, rt.alloc(), &rows);
 }
 
 #[test]
-fn variables(rt: HostRuntime) -> Result<(), Fail> {
-    let alloc = rt.alloc();
-    for (rules, canonical) in [
+fn variables(rt: HostRuntime) {
+    let rows = [
         (
             "a(X234567890123456789012345678901x) <=> true",
             "a(V1) <=> true",
@@ -87,16 +83,13 @@ fn variables(rt: HostRuntime) -> Result<(), Fail> {
             "f(A,B,C,D), f(E,F,G,H) \\ f(I,J,K,L), f(M,N,O,P) <=> P > A | f(P,O,B,A)",
             "f(V1,V2,V3,V4), f(V5,V6,V7,V8) \\ f(V9,V10,V11,V12), f(V13,V14,V15,V16) <=> V16 > V1 | f(V16,V15,V2,V1)",
         ),
-    ] {
-        expect_rules(&rt, alloc, rules, canonical)?;
-    }
-    Ok(())
+    ];
+    expect_rules(&rt, rt.alloc(), &rows);
 }
 
 #[test]
-fn heads_and_labels(rt: HostRuntime) -> Result<(), Fail> {
-    let alloc = rt.alloc();
-    for (rules, canonical) in [
+fn heads_and_labels(rt: HostRuntime) {
+    let rows = [
         ("a, a, a, a <=> true", "a, a, a, a <=> true"),
         ("a, a \\ a, a <=> true", "a, a \\ a, a <=> true"),
         (
@@ -128,16 +121,13 @@ fn heads_and_labels(rt: HostRuntime) -> Result<(), Fail> {
             "r @ a <=> true.\nr @ a <=> a(1)",
         ),
         ("a @ a \\ a(1) <=> true", "a @ a \\ a(1) <=> true"),
-    ] {
-        expect_rules(&rt, alloc, rules, canonical)?;
-    }
-    Ok(())
+    ];
+    expect_rules(&rt, rt.alloc(), &rows);
 }
 
 #[test]
-fn guards_and_bodies(rt: HostRuntime) -> Result<(), Fail> {
-    let alloc = rt.alloc();
-    for (rules, canonical) in [
+fn guards_and_bodies(rt: HostRuntime) {
+    let rows = [
         (
             "a <=> a, a, a, a, true, a, a, a, a, true",
             "a <=> a, a, a, a, a, a, a, a",
@@ -165,17 +155,14 @@ fn guards_and_bodies(rt: HostRuntime) -> Result<(), Fail> {
             "a(X) <=> true, X < 1, true | true, a, true",
             "a(V1) <=> V1 < 1 | a",
         ),
-    ] {
-        expect_rules(&rt, alloc, rules, canonical)?;
-    }
-    Ok(())
+    ];
+    expect_rules(&rt, rt.alloc(), &rows);
 }
 
 /// A sign ends where the minus of a number begins.
 #[test]
-fn minus_after_a_sign(rt: HostRuntime) -> Result<(), Fail> {
-    let alloc = rt.alloc();
-    for (rules, canonical) in [
+fn minus_after_a_sign(rt: HostRuntime) {
+    let rows = [
         ("a(X) <=> X<-3 | true", "a(V1) <=> V1 < -3 | true"),
         ("a(X) <=> X=<-3 | true", "a(V1) <=> V1 =< -3 | true"),
         ("a(X) <=> X>-3 | true", "a(V1) <=> V1 > -3 | true"),
@@ -185,16 +172,13 @@ fn minus_after_a_sign(rt: HostRuntime) -> Result<(), Fail> {
         ("a(X) <=> X==-3 | true", "a(V1) <=> V1 =:= -3 | true"),
         ("a(X) <=> X\\==-3 | true", "a(V1) <=> V1 =\\= -3 | true"),
         ("a(X) <=> -3<X|a(-3)", "a(V1) <=> -3 < V1 | a(-3)"),
-    ] {
-        expect_rules(&rt, alloc, rules, canonical)?;
-    }
-    Ok(())
+    ];
+    expect_rules(&rt, rt.alloc(), &rows);
 }
 
 #[test]
-fn layout_and_comments(rt: HostRuntime) -> Result<(), Fail> {
-    let alloc = rt.alloc();
-    for (rules, canonical) in [
+fn layout_and_comments(rt: HostRuntime) {
+    let rows = [
         (
             "% a <=> b.\na <=> true. % \u{7}.\na <=> a",
             "a <=> true.\na <=> a",
@@ -205,16 +189,13 @@ fn layout_and_comments(rt: HostRuntime) -> Result<(), Fail> {
             "\tr\r\n@\tp ( X , 1 )\r, a<=>\ntrue",
             "r @ p(V1,1), a <=> true",
         ),
-    ] {
-        expect_rules(&rt, alloc, rules, canonical)?;
-    }
-    Ok(())
+    ];
+    expect_rules(&rt, rt.alloc(), &rows);
 }
 
 #[test]
-fn declarations(rt: HostRuntime) -> Result<(), Fail> {
-    let alloc = rt.alloc();
-    for (text, canonical) in [
+fn declarations(rt: HostRuntime) {
+    let rows = [
         (
             ":- chr_constraint a/0, a/1, a/2.",
             ":- chr_constraint a/0, a/1, a/2.\n",
@@ -241,17 +222,14 @@ fn declarations(rt: HostRuntime) -> Result<(), Fail> {
             ":- chr_constraint a234567890123456789012345678901x/0, a234567890123456789012345678901y/1. :- chr_weight a234567890123456789012345678901y/1 = 2. a234567890123456789012345678901x \\ a234567890123456789012345678901y(X) <=> a234567890123456789012345678901x.",
             ":- chr_constraint a234567890123456789012345678901x/0, a234567890123456789012345678901y/1.\n:- chr_weight a234567890123456789012345678901y/1 = 2.\na234567890123456789012345678901x \\ a234567890123456789012345678901y(V1) <=> a234567890123456789012345678901x.\n",
         ),
-    ] {
-        assert_eq!(rt; rewritten(alloc, text.as_bytes())?.as_str(), canonical);
-    }
-    Ok(())
+    ];
+    expect_canonical(&rt, rt.alloc(), &rows);
 }
 
 /// The words of directives are names, and so are words that begin with a reserved one.
 #[test]
-fn names_like_words(rt: HostRuntime) -> Result<(), Fail> {
-    let alloc = rt.alloc();
-    for (text, canonical) in [
+fn names_like_words(rt: HostRuntime) {
+    let rows = [
         (
             ":- chr_constraint chr/0, chr_weight/1. chr <=> chr_weight(1).",
             ":- chr_constraint chr/0, chr_weight/1.\nchr <=> chr_weight(1).\n",
@@ -264,16 +242,13 @@ fn names_like_words(rt: HostRuntime) -> Result<(), Fail> {
             ":- chr_constraint truex/0, true_/0, falsey/0. truex <=> true_, falsey.",
             ":- chr_constraint truex/0, true_/0, falsey/0.\ntruex <=> true_, falsey.\n",
         ),
-    ] {
-        assert_eq!(rt; rewritten(alloc, text.as_bytes())?.as_str(), canonical);
-    }
-    Ok(())
+    ];
+    expect_canonical(&rt, rt.alloc(), &rows);
 }
 
 #[test]
-fn clauses_in_any_order(rt: HostRuntime) -> Result<(), Fail> {
-    let alloc = rt.alloc();
-    for (text, canonical) in [
+fn clauses_in_any_order(rt: HostRuntime) {
+    let rows = [
         (
             ":- chr_constraint a/0, b/0. a <=> b. :- use_module(library(chr)). b <=> true. :- use_module(library(chr)).",
             ":- chr_constraint a/0, b/0.\na <=> b.\nb <=> true.\n",
@@ -302,8 +277,6 @@ fn clauses_in_any_order(rt: HostRuntime) -> Result<(), Fail> {
             ":- chr_constraint a/0. % a <=> b.\na <=> true. % \u{7}.",
             ":- chr_constraint a/0.\na <=> true.\n",
         ),
-    ] {
-        assert_eq!(rt; rewritten(alloc, text.as_bytes())?.as_str(), canonical);
-    }
-    Ok(())
+    ];
+    expect_canonical(&rt, rt.alloc(), &rows);
 }

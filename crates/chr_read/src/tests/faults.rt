@@ -1,91 +1,92 @@
 //! Texts that are no programs.
-use super::{Outcome, expect_fault, outcome_of};
-use std::alloc::{AllocError, Global};
-use std::fmt::Write;
-use std::test::Fail;
+use super::{Outcome, expect_each, expect_faults, expect_outcomes, sixty_four};
 
 #[test]
-fn faults_of_directives(rt: HostRuntime) -> Result<(), Fail> {
-    let alloc = rt.alloc();
-    for (text, fault, clause) in [
-        (".", 3, 1),
-        ("\u{7}.", 1, 1),
-        (". \u{7}.", 3, 1),
-        (":- chr_constraint a/0. \u{e9}", 1, 2),
-        ("a", 11, 1),
-        (":- chr_constraint a/0", 11, 1),
-        (":- chr_constraint a/0. $", 11, 2),
-        (":- chr_constraint a/0. $.", 3, 2),
-        (":- chr_constraint a/1, a/1.", 6, 1),
-        (":- chr_constraint a/0, a/00.", 6, 1),
-        (":- chr_constraint a/9, a/09.", 6, 1),
-        (":- chr_constraint a/0. :- chr_constraint b/1, a/0.", 6, 2),
-        (":- chr_constraint a/7.", 7, 1),
-        (":- chr_constraint a/9, a/8.", 7, 1),
-        (":- chr_constraint a/256.", 7, 1),
-        (":- chr_constraint a/18446744073709551616.", 7, 1),
+fn faults_of_directives(rt: HostRuntime) {
+    let rows = [
+        (".", Outcome::Bad(3, 1)),
+        ("\u{7}.", Outcome::Bad(1, 1)),
+        (". \u{7}.", Outcome::Bad(3, 1)),
+        (":- chr_constraint a/0. \u{e9}", Outcome::Bad(1, 2)),
+        ("a", Outcome::Bad(11, 1)),
+        (":- chr_constraint a/0", Outcome::Bad(11, 1)),
+        (":- chr_constraint a/0. $", Outcome::Bad(11, 2)),
+        (":- chr_constraint a/0. $.", Outcome::Bad(3, 2)),
+        (":- chr_constraint a/1, a/1.", Outcome::Bad(6, 1)),
+        (":- chr_constraint a/0, a/00.", Outcome::Bad(6, 1)),
+        (":- chr_constraint a/9, a/09.", Outcome::Bad(6, 1)),
+        (
+            ":- chr_constraint a/0. :- chr_constraint b/1, a/0.",
+            Outcome::Bad(6, 2),
+        ),
+        (":- chr_constraint a/7.", Outcome::Bad(7, 1)),
+        (":- chr_constraint a/9, a/8.", Outcome::Bad(7, 1)),
+        (":- chr_constraint a/256.", Outcome::Bad(7, 1)),
+        (
+            ":- chr_constraint a/18446744073709551616.",
+            Outcome::Bad(7, 1),
+        ),
         (
             ":- chr_constraint a234567890123456789012345678901xy/0.",
-            7,
-            1,
+            Outcome::Bad(7, 1),
         ),
-        (":-chr_constraintx a/0.", 3, 1),
-        (":- chr_constraint true/0.", 3, 1),
-        (":- chr_constraint a/-1.", 3, 1),
-    ] {
-        assert_eq!(rt;
-            outcome_of(alloc, text.as_bytes())?,
-            Outcome::Bad(fault, clause),
-            "{text}"
-        );
-    }
-    Ok(())
+        (":-chr_constraintx a/0.", Outcome::Bad(3, 1)),
+        (":- chr_constraint true/0.", Outcome::Bad(3, 1)),
+        (":- chr_constraint a/-1.", Outcome::Bad(3, 1)),
+    ];
+    expect_outcomes(&rt, rt.alloc(), "", &rows, "");
 }
 
 #[test]
-fn faults_of_weights(rt: HostRuntime) -> Result<(), Fail> {
-    let alloc = rt.alloc();
-    for (text, fault, clause) in [
-        (":- chr_constraint a/0. :- chr_weight a/0 = 0.", 10, 2),
-        (":- chr_constraint a/0. :- chr_weight a/0 = -1.", 10, 2),
-        (":- chr_constraint a/0. :- chr_weight a/0 = 1000001.", 10, 2),
+fn faults_of_weights(rt: HostRuntime) {
+    let rows = [
+        (
+            ":- chr_constraint a/0. :- chr_weight a/0 = 0.",
+            Outcome::Bad(10, 2),
+        ),
+        (
+            ":- chr_constraint a/0. :- chr_weight a/0 = -1.",
+            Outcome::Bad(10, 2),
+        ),
+        (
+            ":- chr_constraint a/0. :- chr_weight a/0 = 1000001.",
+            Outcome::Bad(10, 2),
+        ),
         (
             ":- chr_constraint a/0. :- chr_weight a/0 = 9223372036854775808.",
-            9,
-            2,
+            Outcome::Bad(9, 2),
         ),
         (
             ":- chr_constraint a/0. :- chr_weight a/0 = 1. :- chr_weight a/0 = 1.",
-            10,
-            3,
+            Outcome::Bad(10, 3),
         ),
         (
             ":- chr_constraint a/0. :- chr_weight a/0 = 1. :- chr_weight a/0 = 9223372036854775808.",
-            9,
-            3,
+            Outcome::Bad(9, 3),
         ),
-        (":- chr_constraint a/0. :- chr_weight b/0 = 1.", 5, 2),
-        (":- chr_constraint a/0. :- chr_weight a/1 = 1.", 5, 2),
+        (
+            ":- chr_constraint a/0. :- chr_weight b/0 = 1.",
+            Outcome::Bad(5, 2),
+        ),
+        (
+            ":- chr_constraint a/0. :- chr_weight a/1 = 1.",
+            Outcome::Bad(5, 2),
+        ),
         (
             ":- chr_constraint a/0. :- chr_weight a/7 = 99999999999999999999.",
-            5,
-            2,
+            Outcome::Bad(5, 2),
         ),
-        (":- chr_weight a/0 = 1. :- chr_constraint a/0.", 5, 1),
-    ] {
-        assert_eq!(rt;
-            outcome_of(alloc, text.as_bytes())?,
-            Outcome::Bad(fault, clause),
-            "{text}"
-        );
-    }
-    Ok(())
+        (
+            ":- chr_weight a/0 = 1. :- chr_constraint a/0.",
+            Outcome::Bad(5, 1),
+        ),
+    ];
+    expect_outcomes(&rt, rt.alloc(), "", &rows, "");
 }
 
 #[test]
-fn faults_of_rules(rt: HostRuntime) -> Result<(), Fail> {
-    let alloc = rt.alloc();
-    for (rule, fault) in [
+fn faults_of_rules(rt: HostRuntime) {
+    let rows = [
         ("a(X) <=> X = 1 | true", 3),
         ("a <=> fail", 3),
         ("true <=> a", 3),
@@ -108,16 +109,13 @@ fn faults_of_rules(rt: HostRuntime) -> Result<(), Fail> {
         ("a(9223372036854775808) <=> true", 9),
         ("a(X) <=> X > -9223372036854775809 | true", 9),
         ("a <=> a(100000000000000000000000000000000000000000)", 9),
-    ] {
-        expect_fault(&rt, alloc, rule, fault)?;
-    }
-    Ok(())
+    ];
+    expect_faults(&rt, rt.alloc(), &rows);
 }
 
 #[test]
-fn faults_of_limits(rt: HostRuntime) -> Result<(), Fail> {
-    let alloc = rt.alloc();
-    for (clause, fault) in [
+fn faults_of_limits(rt: HostRuntime) {
+    let rows = [
         ("a, a, a, a, a <=> true", 7),
         ("a, a \\ a, a, a <=> true", 7),
         ("a <=> a, a, a, a, a, a, a, a, a", 7),
@@ -136,17 +134,14 @@ fn faults_of_limits(rt: HostRuntime) -> Result<(), Fail> {
             "a(X234567890123456789012345678901x) <=> a(X234567890123456789012345678901xy)",
             7,
         ),
-    ] {
-        expect_fault(&rt, alloc, clause, fault)?;
-    }
-    Ok(())
+    ];
+    expect_faults(&rt, rt.alloc(), &rows);
 }
 
 /// Of two faults in one clause the least counts, wherever they stand.
 #[test]
-fn the_form_counts_before_what_it_holds(rt: HostRuntime) -> Result<(), Fail> {
-    let alloc = rt.alloc();
-    for (clause, fault) in [
+fn the_form_counts_before_what_it_holds(rt: HostRuntime) {
+    let rows = [
         ("a <=> fail \u{7}", 1),
         ("\u{7} a <=> fail", 1),
         ("a ==> true \u{7}", 1),
@@ -158,16 +153,13 @@ fn the_form_counts_before_what_it_holds(rt: HostRuntime) -> Result<(), Fail> {
         ("a, a, a, a, a ==> true", 4),
         ("a ==> a(Y)", 4),
         ("a ==> a(9223372036854775808)", 4),
-    ] {
-        expect_fault(&rt, alloc, clause, fault)?;
-    }
-    Ok(())
+    ];
+    expect_faults(&rt, rt.alloc(), &rows);
 }
 
 #[test]
-fn undeclared_before_greater_faults(rt: HostRuntime) -> Result<(), Fail> {
-    let alloc = rt.alloc();
-    for (clause, fault) in [
+fn undeclared_before_greater_faults(rt: HostRuntime) {
+    let rows = [
         ("b <=> a, a, a, a, a, a, a, a, a", 5),
         ("a, a, a, a, a <=> b", 5),
         ("a <=> a, a, a, a, a, a, a, a, b", 5),
@@ -176,16 +168,13 @@ fn undeclared_before_greater_faults(rt: HostRuntime) -> Result<(), Fail> {
         ("a <=> Y < 1 | b", 5),
         ("b <=> a(9223372036854775808)", 5),
         ("a(9223372036854775808) <=> b", 5),
-    ] {
-        expect_fault(&rt, alloc, clause, fault)?;
-    }
-    Ok(())
+    ];
+    expect_faults(&rt, rt.alloc(), &rows);
 }
 
 #[test]
-fn limits_and_variables_before_greater_faults(rt: HostRuntime) -> Result<(), Fail> {
-    let alloc = rt.alloc();
-    for (clause, fault) in [
+fn limits_and_variables_before_greater_faults(rt: HostRuntime) {
+    let rows = [
         ("a, a, a, a, a <=> a(Y)", 7),
         ("a <=> a(Y), a, a, a, a, a, a, a, a", 7),
         ("a, a, a, a, a <=> a(9223372036854775808)", 7),
@@ -193,16 +182,13 @@ fn limits_and_variables_before_greater_faults(rt: HostRuntime) -> Result<(), Fai
         ("a <=> a(Y), a(9223372036854775808)", 8),
         ("a <=> a(9223372036854775808), a(Y)", 8),
         ("a <=> Y < 9223372036854775808 | true", 8),
-    ] {
-        expect_fault(&rt, alloc, clause, fault)?;
-    }
-    Ok(())
+    ];
+    expect_faults(&rt, rt.alloc(), &rows);
 }
 
 #[test]
-fn two_faults_of_directives(rt: HostRuntime) -> Result<(), Fail> {
-    let alloc = rt.alloc();
-    for (clause, fault) in [
+fn two_faults_of_directives(rt: HostRuntime) {
+    let rows = [
         (":- chr_constraint a/0, true/0", 3),
         (":- chr_constraint true/0, a/0", 3),
         (":- chr_constraint c/0, c/0, d/7", 6),
@@ -213,63 +199,41 @@ fn two_faults_of_directives(rt: HostRuntime) -> Result<(), Fail> {
         (":- chr_weight b/0 = 9223372036854775808", 5),
         (":- chr_weight a/0 = 9223372036854775808", 9),
         (":- chr_weight a/0 = -9223372036854775809", 9),
-    ] {
-        expect_fault(&rt, alloc, clause, fault)?;
-    }
-    Ok(())
+    ];
+    expect_faults(&rt, rt.alloc(), &rows);
 }
 
 /// A name of 33 bytes isn't one of 32, and one of 32 isn't another of 32.
 #[test]
-fn long_names_are_told_apart(rt: HostRuntime) -> Result<(), Fail> {
-    let alloc = rt.alloc();
-    let declared = ":- chr_constraint a234567890123456789012345678901x/0.";
-    for rule in [
+fn long_names_are_told_apart(rt: HostRuntime) {
+    let declared = ":- chr_constraint a234567890123456789012345678901x/0. ";
+    let rules = [
         "a234567890123456789012345678901xx <=> true.",
         "a234567890123456789012345678901 <=> true.",
         "a234567890123456789012345678901y <=> true.",
-    ] {
-        let text = format!(in alloc; "{declared} {rule}")?;
-        let found = outcome_of(alloc, text.as_bytes())?;
-        assert_eq!(rt; found, Outcome::Bad(5, 2), "{rule}");
-    }
-    Ok(())
-}
-
-/// A declaration of 64 symbols, and as many rules.
-fn sixty_four(alloc: Global) -> Result<String, AllocError> {
-    let mut text = String::from_str(alloc, ":- chr_constraint a0/0")?;
-    for number in 1..64 {
-        write!(text, ", a{number}/0")?;
-    }
-    text.push_str(".")?;
-    let rules = "a0 <=> true.".repeat(alloc, 64)?;
-    text.push_str(&rules)?;
-    Ok(text)
+    ];
+    expect_each(&rt, rt.alloc(), declared, &rules, "", Outcome::Bad(5, 2));
 }
 
 #[test]
-fn after_sixty_four_symbols_and_rules(rt: HostRuntime) -> Result<(), Fail> {
+fn after_sixty_four_symbols_and_rules(rt: HostRuntime) {
     let alloc = rt.alloc();
-    let before = sixty_four(alloc)?;
-    for (clause, fault) in [
-        ("a0 <=> fail", 3),
-        ("a0 ==> true", 4),
-        ("b <=> true", 5),
-        ("a0 <=> b", 5),
-        (":- chr_constraint b/0, a0/0", 6),
-        (":- chr_constraint a0/0, b/0", 6),
-        (":- chr_constraint b/0", 7),
-        ("a0 <=> X < 1 | true", 7),
-        ("a0 <=> 1 < 9223372036854775808 | true", 7),
-        (":- chr_weight a0/0 = 0", 10),
-    ] {
-        let text = format!(in alloc; "{before}{clause}.")?;
-        let found = outcome_of(alloc, text.as_bytes())?;
-        assert_eq!(rt; found, Outcome::Bad(fault, 66), "{clause}");
-    }
-    let good = format!(in alloc; "{before}:- use_module(library(chr)). :- chr_weight a63/0 = 2.")?;
-    let found = outcome_of(alloc, good.as_bytes())?;
-    assert_eq!(rt; found, Outcome::Program(64, 64));
-    Ok(())
+    let before = sixty_four(&rt, alloc);
+    let rows = [
+        ("a0 <=> fail", Outcome::Bad(3, 66)),
+        ("a0 ==> true", Outcome::Bad(4, 66)),
+        ("b <=> true", Outcome::Bad(5, 66)),
+        ("a0 <=> b", Outcome::Bad(5, 66)),
+        (":- chr_constraint b/0, a0/0", Outcome::Bad(6, 66)),
+        (":- chr_constraint a0/0, b/0", Outcome::Bad(6, 66)),
+        (":- chr_constraint b/0", Outcome::Bad(7, 66)),
+        ("a0 <=> X < 1 | true", Outcome::Bad(7, 66)),
+        ("a0 <=> 1 < 9223372036854775808 | true", Outcome::Bad(7, 66)),
+        (":- chr_weight a0/0 = 0", Outcome::Bad(10, 66)),
+        (
+            ":- use_module(library(chr)). :- chr_weight a63/0 = 2",
+            Outcome::Program(64, 64),
+        ),
+    ];
+    expect_outcomes(&rt, alloc, before.as_str(), &rows, ".");
 }

@@ -2,7 +2,7 @@
 use super::{comes_back, rewritten};
 use std::alloc::{AllocError, Global};
 use std::fmt::Write;
-use std::test::Fail;
+use std::process::Abort;
 
 /// The names of the symbols, and of the rules, end with the numbers from here.
 const FIRST: u64 = 10;
@@ -87,18 +87,23 @@ fn full_program(alloc: Global) -> Result<String, AllocError> {
     Ok(text)
 }
 
-#[test]
-fn a_full_program(rt: HostRuntime) -> Result<(), Fail> {
-    let alloc = rt.alloc();
-    let canonical = full_program(alloc)?;
+/// The text with spaces at its end, as long as a text may be.
+fn longest(rt: &impl Abort, alloc: Global, canonical: &str) -> String {
     assert!(rt; 65_000 < canonical.len() && canonical.len() <= 65_536);
-    let mut text = String::from_str(alloc, canonical.as_str())?;
+    let mut text = String::from_str(alloc, canonical).expect(rt, "memory");
     for _ in canonical.len()..65_536 {
-        text.push_str(" ")?;
+        text.push_str(" ").expect(rt, "memory");
     }
     assert_eq!(rt; text.len(), 65_536);
-    let found = rewritten(alloc, text.as_bytes())?;
+    text
+}
+
+#[test]
+fn a_full_program(rt: HostRuntime) {
+    let alloc = rt.alloc();
+    let canonical = full_program(alloc).expect(&rt, "memory");
+    let text = longest(&rt, alloc, canonical.as_str());
+    let found = rewritten(&rt, alloc, text.as_bytes());
     assert!(rt; found.as_str() == canonical.as_str());
-    assert!(rt; comes_back(alloc, text.as_bytes())?);
-    Ok(())
+    assert!(rt; comes_back(&rt, alloc, text.as_bytes()));
 }

@@ -1,12 +1,30 @@
 //! Numbers of thousands of digits.
 use super::{expect_fault, rewritten};
-use std::test::Fail;
+use std::alloc::Global;
+use std::process::Abort;
+
+/// Compares the canonical texts of this digit, five thousand times, between two ends.
+fn expect_texts(rt: &impl Abort, alloc: Global, digit: &str, rows: &[(&str, &str, &str)]) {
+    let digits = digit.repeat(alloc, 5_000).expect(rt, "memory");
+    for (before, after, canonical) in rows {
+        let text = format!(in alloc; "{before}{digits}{after}").expect(rt, "memory");
+        let found = rewritten(rt, alloc, text.as_bytes());
+        assert_eq!(rt; found.as_str(), *canonical);
+    }
+}
+
+/// Compares the faults of clauses with this digit, five thousand times, between two ends.
+fn expect_faults(rt: &impl Abort, alloc: Global, digit: &str, rows: &[(&str, &str, u8)]) {
+    let digits = digit.repeat(alloc, 5_000).expect(rt, "memory");
+    for (before, after, fault) in rows {
+        let clause = format!(in alloc; "{before}{digits}{after}").expect(rt, "memory");
+        expect_fault(rt, alloc, &clause, *fault);
+    }
+}
 
 #[test]
-fn leading_zeros(rt: HostRuntime) -> Result<(), Fail> {
-    let alloc = rt.alloc();
-    let zeros = "0".repeat(alloc, 5_000)?;
-    for (before, after, canonical) in [
+fn leading_zeros(rt: HostRuntime) {
+    let rows = [
         (
             ":- chr_constraint a/1. a(",
             "7) <=> true.",
@@ -43,19 +61,13 @@ fn leading_zeros(rt: HostRuntime) -> Result<(), Fail> {
             "1000000.",
             ":- chr_constraint a/1.\n:- chr_weight a/1 = 0,1000000.\n",
         ),
-    ] {
-        let text = format!(in alloc; "{before}{zeros}{after}")?;
-        let found = rewritten(alloc, text.as_bytes())?;
-        assert_eq!(rt; found.as_str(), canonical);
-    }
-    Ok(())
+    ];
+    expect_texts(&rt, rt.alloc(), "0", &rows);
 }
 
 #[test]
-fn faults_after_leading_zeros(rt: HostRuntime) -> Result<(), Fail> {
-    let alloc = rt.alloc();
-    let zeros = "0".repeat(alloc, 5_000)?;
-    for (before, after, fault) in [
+fn faults_after_leading_zeros(rt: HostRuntime) {
+    let rows = [
         (":- chr_constraint a/", "1", 6),
         (":- chr_constraint b/", "7", 7),
         (":- chr_weight b/", " = 1", 5),
@@ -65,18 +77,13 @@ fn faults_after_leading_zeros(rt: HostRuntime) -> Result<(), Fail> {
         (":- chr_weight a/0 = 1,", "1000001", 10),
         ("a <=> a(", "9223372036854775808)", 9),
         ("a <=> a(-", "9223372036854775809)", 9),
-    ] {
-        let clause = format!(in alloc; "{before}{zeros}{after}")?;
-        expect_fault(&rt, alloc, &clause, fault)?;
-    }
-    Ok(())
+    ];
+    expect_faults(&rt, rt.alloc(), "0", &rows);
 }
 
 #[test]
-fn nines(rt: HostRuntime) -> Result<(), Fail> {
-    let alloc = rt.alloc();
-    let nines = "9".repeat(alloc, 5_000)?;
-    for (before, after, fault) in [
+fn nines(rt: HostRuntime) {
+    let rows = [
         ("a(", ") <=> true", 9),
         ("a(-", ") <=> true", 9),
         ("a(X) <=> X < ", " | true", 9),
@@ -89,9 +96,6 @@ fn nines(rt: HostRuntime) -> Result<(), Fail> {
         (":- chr_weight a/0 = ", ",1", 9),
         (":- chr_weight a/", " = 1", 5),
         (":- chr_constraint b/", "", 7),
-    ] {
-        let clause = format!(in alloc; "{before}{nines}{after}")?;
-        expect_fault(&rt, alloc, &clause, fault)?;
-    }
-    Ok(())
+    ];
+    expect_faults(&rt, rt.alloc(), "9", &rows);
 }

@@ -1,29 +1,50 @@
 //! Weights of one number, and of two.
-use super::{Outcome, comes_back, outcome_of, rewritten};
+use super::{
+    Outcome, comes_back, expect_canonical, expect_come_back, expect_each, expect_outcomes,
+    rewritten,
+};
 use crate::{ReadFault, read};
 use chr_base::atom::SymbolId;
 use chr_base::weight::Weight;
-use std::alloc::{AllocError, Global};
-use std::test::Fail;
+use std::alloc::Global;
+use std::process::Abort;
 
 /// The weight of the first symbol, where the text is a program that has one.
-fn first_weight(alloc: Global, text: &[u8]) -> Result<Option<Weight>, AllocError> {
+fn first_weight(rt: &impl Abort, alloc: Global, text: &[u8]) -> Option<Weight> {
     match read(alloc, text) {
         Ok(program) => {
             if program.symbols() == 0 {
-                return Ok(None);
+                return None;
             }
-            Ok(Some(program.weight_of(SymbolId(0))))
+            Some(program.weight_of(SymbolId(0)))
         }
-        Err(ReadFault::Memory) => Err(AllocError),
-        Err(_) => Ok(None),
+        Err(ReadFault::Memory) => panic!(rt; "out of memory"),
+        Err(_) => None,
     }
 }
 
+/// Compares the weights that these numbers give.
+fn expect_weights(rt: &impl Abort, alloc: Global, rows: &[(&str, u64, u64)]) {
+    for (numbers, first, second) in rows {
+        let text = format!(in alloc; ":- chr_constraint a/0. :- chr_weight a/0 ={numbers}.");
+        let found = first_weight(rt, alloc, text.expect(rt, "memory").as_bytes());
+        let expected = Weight {
+            first: *first,
+            second: *second,
+        };
+        assert_eq!(rt; found, Some(expected), "{numbers}");
+    }
+}
+
+/// Compares what comes of a weight clause with each of these for its numbers.
+fn expect_bad(rt: &impl Abort, alloc: Global, numbers: &[&str], fault: u8) {
+    let before = ":- chr_constraint a/0. :- chr_weight a/0 = ";
+    expect_each(rt, alloc, before, numbers, ".", Outcome::Bad(fault, 2));
+}
+
 #[test]
-fn weights(rt: HostRuntime) -> Result<(), Fail> {
-    let alloc = rt.alloc();
-    for (numbers, first, second) in [
+fn weights(rt: HostRuntime) {
+    let rows = [
         ("1", 1, 0),
         ("2", 2, 0),
         ("1000000", 1_000_000, 0),
@@ -52,18 +73,13 @@ fn weights(rt: HostRuntime) -> Result<(), Fail> {
         ),
         ("1,-0", 1, 0),
         ("-0,1", 0, 1),
-    ] {
-        let text = format!(in alloc; ":- chr_constraint a/0. :- chr_weight a/0 ={numbers}.")?;
-        let found = first_weight(alloc, text.as_bytes())?;
-        assert_eq!(rt; found, Some(Weight { first, second }), "{numbers}");
-    }
-    Ok(())
+    ];
+    expect_weights(&rt, rt.alloc(), &rows);
 }
 
 #[test]
-fn numbers_that_are_no_weights(rt: HostRuntime) -> Result<(), Fail> {
-    let alloc = rt.alloc();
-    for numbers in [
+fn numbers_that_are_no_weights(rt: HostRuntime) {
+    let numbers = [
         "0",
         "000",
         "-0",
@@ -89,19 +105,14 @@ fn numbers_that_are_no_weights(rt: HostRuntime) -> Result<(), Fail> {
         "-9223372036854775808",
         "-9223372036854775808,1",
         "1,-9223372036854775808",
-    ] {
-        let text = format!(in alloc; ":- chr_constraint a/0. :- chr_weight a/0 = {numbers}.")?;
-        let found = outcome_of(alloc, text.as_bytes())?;
-        assert_eq!(rt; found, Outcome::Bad(10, 2), "{numbers}");
-    }
-    Ok(())
+    ];
+    expect_bad(&rt, rt.alloc(), &numbers, 10);
 }
 
 /// A number that 64 bits do not hold counts before one that is no number of a weight, in either place.
 #[test]
-fn numbers_over_64_bits(rt: HostRuntime) -> Result<(), Fail> {
-    let alloc = rt.alloc();
-    for numbers in [
+fn numbers_over_64_bits(rt: HostRuntime) {
+    let numbers = [
         "9223372036854775808",
         "9223372036854775808,0",
         "9223372036854775808,1",
@@ -120,18 +131,13 @@ fn numbers_over_64_bits(rt: HostRuntime) -> Result<(), Fail> {
         "1,18446744073709551617",
         "340282366920938463463374607431768211457,1",
         "1,340282366920938463463374607431768211457",
-    ] {
-        let text = format!(in alloc; ":- chr_constraint a/0. :- chr_weight a/0 = {numbers}.")?;
-        let found = outcome_of(alloc, text.as_bytes())?;
-        assert_eq!(rt; found, Outcome::Bad(9, 2), "{numbers}");
-    }
-    Ok(())
+    ];
+    expect_bad(&rt, rt.alloc(), &numbers, 9);
 }
 
 #[test]
-fn no_numbers(rt: HostRuntime) -> Result<(), Fail> {
-    let alloc = rt.alloc();
-    for numbers in [
+fn no_numbers(rt: HostRuntime) {
+    let numbers = [
         "",
         ",",
         "1,",
@@ -164,19 +170,14 @@ fn no_numbers(rt: HostRuntime) -> Result<(), Fail> {
         "1,%2\n",
         "1-2",
         "1,2-3",
-    ] {
-        let text = format!(in alloc; ":- chr_constraint a/0. :- chr_weight a/0 = {numbers}.")?;
-        let found = outcome_of(alloc, text.as_bytes())?;
-        assert_eq!(rt; found, Outcome::Bad(3, 2), "{numbers}");
-    }
-    Ok(())
+    ];
+    expect_bad(&rt, rt.alloc(), &numbers, 3);
 }
 
 /// Of several faults the least counts, and a symbol has one weight clause, whatever weight it gives.
 #[test]
-fn several_weight_clauses(rt: HostRuntime) -> Result<(), Fail> {
-    let alloc = rt.alloc();
-    for (clauses, expected) in [
+fn several_weight_clauses(rt: HostRuntime) {
+    let rows = [
         ("a/0 = 1,2. :- chr_weight a/1 = 1,2", Outcome::Program(2, 0)),
         ("a/1 = 0,2. :- chr_weight a/0 = 2", Outcome::Program(2, 0)),
         ("a/0 = 1,2. :- chr_weight a/0 = 1,2", Outcome::Bad(10, 3)),
@@ -204,17 +205,24 @@ fn several_weight_clauses(rt: HostRuntime) -> Result<(), Fail> {
         ("a/7 = 1,2", Outcome::Bad(5, 2)),
         ("a/-0 = 1,2", Outcome::Bad(3, 2)),
         ("a/0 = 1,2 \u{7}", Outcome::Bad(1, 2)),
-    ] {
-        let text = format!(in alloc; ":- chr_constraint a/0, a/1. :- chr_weight {clauses}.")?;
-        let found = outcome_of(alloc, text.as_bytes())?;
-        assert_eq!(rt; found, expected, "{clauses}");
-    }
-    Ok(())
+    ];
+    let declared = ":- chr_constraint a/0, a/1. :- chr_weight ";
+    expect_outcomes(&rt, rt.alloc(), declared, &rows, ".");
+}
+
+/// Compares the canonical text of a program with these numbers, which comes back.
+fn expect_written(rt: &impl Abort, alloc: Global, numbers: &str, line: &str) {
+    let declared = ":- chr_constraint a/2, b/0.";
+    let text = format!(in alloc; "{declared} :- chr_weight b/0 = {numbers}.").expect(rt, "memory");
+    let expected = format!(in alloc; "{declared}\n{line}").expect(rt, "memory");
+    let found = rewritten(rt, alloc, text.as_bytes());
+    assert_eq!(rt; found.as_str(), expected.as_str());
+    assert!(rt; comes_back(rt, alloc, text.as_bytes()), "{numbers}");
 }
 
 /// The default is not written, and a second number of 0 neither.
 #[test]
-fn written_weights(rt: HostRuntime) -> Result<(), Fail> {
+fn written_weights(rt: HostRuntime) {
     let alloc = rt.alloc();
     for (numbers, line) in [
         ("1", ""),
@@ -231,18 +239,13 @@ fn written_weights(rt: HostRuntime) -> Result<(), Fail> {
         ("0,1000000", ":- chr_weight b/0 = 0,1000000.\n"),
         ("1000000,1000000", ":- chr_weight b/0 = 1000000,1000000.\n"),
     ] {
-        let text = format!(in alloc; ":- chr_constraint a/2, b/0. :- chr_weight b/0 = {numbers}.")?;
-        let expected = format!(in alloc; ":- chr_constraint a/2, b/0.\n{line}")?;
-        let found = rewritten(alloc, text.as_bytes())?;
-        assert_eq!(rt; found.as_str(), expected.as_str());
-        assert!(rt; comes_back(alloc, text.as_bytes())?, "{numbers}");
+        expect_written(&rt, alloc, numbers, line);
     }
-    Ok(())
 }
 
 /// Each symbol keeps its own weight, whatever the order of the clauses.
 #[test]
-fn weights_of_several_symbols(rt: HostRuntime) -> Result<(), Fail> {
+fn weights_of_several_symbols(rt: HostRuntime) {
     let alloc = rt.alloc();
     let text =
         ":- chr_constraint a/0, b/1, c/2, d/3. :- chr_weight d/3 = 0,4. :- chr_weight b/1 = 2,3.
@@ -253,8 +256,6 @@ fn weights_of_several_symbols(rt: HostRuntime) -> Result<(), Fail> {
 :- chr_weight d/3 = 0,4.
 a \\ b(V1) <=> d(V1,1,2).
 ";
-    let found = rewritten(alloc, text.as_bytes())?;
-    assert_eq!(rt; found.as_str(), canonical);
-    assert!(rt; comes_back(alloc, text.as_bytes())?);
-    Ok(())
+    expect_canonical(&rt, alloc, &[(text, canonical)]);
+    expect_come_back(&rt, alloc, &[text]);
 }

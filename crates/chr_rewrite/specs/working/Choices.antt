@@ -9,13 +9,9 @@ use Rattle.chr_base.specs.declared.rule.Rule.{Rule}
 use Rattle.chr_base.specs.Atoms.{no_atom}
 use Rattle.chr_base.specs.Rules.{HasInstance, has_shape, heads_of, no_pattern}
 
--- the atom at an index
-abbrev pub nth_atom : List Atom → ℕ → Atom
-nth_atom items i = get_or items i no_atom
-
 -- the atoms at these indices, in their order
 abbrev pub chosen_atoms : List Atom → List ℕ → List Atom
-chosen_atoms items is = map (nth_atom items) is
+chosen_atoms items is = map (λ i. get_or items i no_atom) is
 
 -- the indices are within the list, all different, and none of them is among those taken
 abbrev pub is_choice : List Atom → List ℕ → List ℕ → Bool
