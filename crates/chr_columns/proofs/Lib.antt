@@ -17,3 +17,4 @@ pub mod Removals
 pub mod Sitting
 pub mod Takings
 pub mod Passing
+pub mod OffEnd

@@ -1,5 +1,5 @@
 //! Atoms are counted and taken out.
-ghost use Rattle.std.specs.Prelude.{◌≡◌, ◌+◌, ◌<◌, ◌≤◌, ◌^◌, ◌↔◌, ◌∷◌, [], length, get_or, Some, None, IsTrue, is_some, IfSome, IfNone};
+ghost use Rattle.std.specs.Prelude.{◌≡◌, ◌+◌, ◌<◌, ◌≤◌, ◌^◌, ◌↔◌, ◌∷◌, ◌++◌, [], length, get_or, Some, None, IsTrue, is_some, take, IfSome, IfNone};
 ghost use Rattle.std.specs.Bool.{OnTrue, OnFalse};
 ghost use Rattle.chr_base.specs.declared.atom.Atom.{Atom as AtomValue};
 ghost use Rattle.chr_base.specs.Atoms.{atom_cmp};
@@ -47,6 +47,34 @@ fn row_of(table: &Table, atom: &Atom) -> Option<usize>
         }
     }
     None
+}
+
+/// Whether from a place on just these atoms stand in a list.
+fn has_from(items: &[Atom], start: usize, atoms: &[Atom]) -> bool
+    requires { start + length atoms.now ≡ length items.now }
+    ensures { OnTrue result (items.now ≡ take start items.now ++ atoms.now) }
+{
+    for i in 0..atoms.len() {
+        if !items[start + i].is_same(&atoms[i]) {
+            return false;
+        }
+    }
+    true
+}
+
+/// Takes these atoms off the end of a list, where just they stand there: as after they were put there.
+fn take_off_end(fresh: &mut Vec<Atom>, atoms: &[Atom]) -> bool
+    ensures taken { OnTrue result (fresh.old.items ≡ fresh.new.items ++ atoms.now) }
+    ensures same { OnFalse result (fresh.new ≡ fresh.old) }
+{
+    let Some(start) = fresh.len().checked_sub(atoms.len()) else {
+        return false;
+    };
+    if !has_from(fresh, start, atoms) {
+        return false;
+    }
+    fresh.truncate(start);
+    true
 }
 
 impl Rested {
@@ -124,9 +152,9 @@ impl Rested {
         }
     }
 
-    /// Takes all of these atoms out, at rest or fresh, or none where as a multiset they are not there. It takes no
-    /// memory.
-    pub(crate) fn remove_all(&mut self, fresh: &mut Vec<Atom>, atoms: &[Atom]) -> bool
+    /// Takes all of these atoms out, at rest or fresh, or none where as a multiset they are not there. It searches what is
+    /// there for each.
+    fn remove_each(&mut self, fresh: &mut Vec<Atom>, atoms: &[Atom]) -> bool
         requires { IsRested self.old }
         ensures rested { IsRested self.new }
         ensures rules { self.new.rules ≡ self.old.rules }
@@ -144,5 +172,21 @@ impl Rested {
             self.take_one(fresh, atom);
         }
         true
+    }
+
+    /// Takes all of these atoms out, at rest or fresh, or none where as a multiset they are not there. It takes no
+    /// memory. Those that were put in last cost a walk over them.
+    pub(crate) fn remove_all(&mut self, fresh: &mut Vec<Atom>, atoms: &[Atom]) -> bool
+        requires { IsRested self.old }
+        ensures rested { IsRested self.new }
+        ensures rules { self.new.rules ≡ self.old.rules }
+        ensures there { IsTrue result ↔
+            IsWithin (store_of atoms.now) (stored self.old ⊕ store_of fresh.old.items) }
+        ensures taken { OnTrue result (stored self.new ⊕ store_of fresh.new.items
+            ≡ (stored self.old ⊕ store_of fresh.old.items) ⊖ store_of atoms.now) }
+        ensures kept { OnFalse result (stored self.new ⊕ store_of fresh.new.items
+            ≡ stored self.old ⊕ store_of fresh.old.items) }
+    {
+        take_off_end(fresh, atoms) || self.remove_each(fresh, atoms)
     }
 }

@@ -1,6 +1,9 @@
 ghost use Rattle.std.specs.Prelude.{◌≡◌, [], ◌∷◌};
 ghost use Rattle.chr_base.specs.declared.term.Term.TheVariants.{Variable as IsVariable};
 
+mod ordered;
+mod passing;
+
 use crate::columns::Columns;
 use crate::rows::Row;
 use arrayvec::ArrayVec;

@@ -1,6 +1,8 @@
 ghost use Rattle.std.specs.Prelude.{◌≡◌, ◌≤◌, length};
 ghost use Rattle.chr_base.specs.Rules.{heads_of};
 
+mod limits;
+
 use crate::hash::key_hash;
 use crate::key::{Key, Source, Test, key_values, pass, value_of};
 use crate::planning::plan_of;

@@ -10,6 +10,7 @@ use Rattle.chr_plans.specs.Hashes.{key_hash}
 use Rattle.chr_plans.specs.Rows.{HasKey, MayHaveKey, LiesIn}
 use Rattle.chr_tables.specs.declared.finder.Finder.{Finder}
 use Rattle.chr_tables.specs.working.Finders.{order_in, rows_in, ordered, IsSought}
+use Rattle.chr_tables.specs.Contents.{GoesBy}
 use Rattle.chr_tables.specs.working.Indexes.{Way, no_way, entry_of, entry_in, AreIndexed}
 
 -- a row with the key may have it
@@ -45,6 +46,9 @@ module _ (rows : List (Option Atom)) (ways : List Way) (entries : List (List (Op
   columns_here : slice_get (map (λ w. w.columns) ways) i ≡ Some way.columns
   columns_here = slice_get-map (λ w. w.columns) ways i ∙ ap (option_map (λ w. w.columns)) (slice_get-get_or ways i no_way l ∙ ap Some this)
 
+  order_here : slice_get (map (λ w. w.order) ways) i ≡ Some way.order
+  order_here = slice_get-map (λ w. w.order) ways i ∙ ap (option_map (λ w. w.order)) (slice_get-get_or ways i no_way l ∙ ap Some this)
+
   rows_are : rows_in f ≡ map (entry_in way) rows
   rows_are = here ∙ is i l ∙ ap (λ w. map (entry_in w) rows) this
 
@@ -68,3 +72,10 @@ module _ (rows : List (Option Atom)) (ways : List Way) (entries : List (List (Op
       let x = entry_row rows way r w.0 (ap (λ ys. get_or ys r None) (sym rows_are) ∙ w.1) in
       let a : x.0 ≡ s.0 = same_Some _ _ (sym x.1 ∙ s.1) in
       (w.0, w.1, w.2, λ o. subst (IsIn span.range) (ap (λ b. argument b span.column) (sym a) ∙ ap (λ o. ordered o x.0) (sym (sym order ∙ o)) ∙ ap (λ (x : Entry). x.value) x.2) s.2)
+
+  -- what it finds lies in the span, where it goes by the order of the span's column
+  pub lies : (span : Span) → order_in f ≡ way.order → GoesBy (map (λ w. w.order) ways) i span → (r : ℕ) → IsSought f h span r → LiesIn span (get_or rows r None)
+  lies span order goes r s =
+      let by : way.order ≡ Some span.column = same_Some _ _ (sym order_here ∙ goes) in
+      let x = entry_row rows way r s.0 (ap (λ ys. get_or ys r None) (sym rows_are) ∙ s.1) in
+      (x.0, x.1, subst (IsIn span.range) (sym (ap (λ (y : Entry). y.value) x.2) ∙ ap (λ o. ordered o x.0) by) (s.3 (order ∙ by)))

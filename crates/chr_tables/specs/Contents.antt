@@ -1,16 +1,19 @@
 -- Tables as callers see them.
 use Rattle.std.specs.Prelude.{◌≡◌, ℕ, ℤ, List, [], get_or, slice_get, Option, Some, None}
 use Rattle.chr_base.specs.declared.atom.Atom.{Atom}
+use Rattle.chr_plans.specs.declared.key.Span.{Span}
 use Rattle.chr_plans.specs.Rows.{Tables, Columns}
 
--- the atom of each row, or None where the row is dead, and the columns of each index
+-- the atom of each row, or None where the row is dead; of each index its columns, and the column in whose order it finds
+-- rows, where there is one
 pub record Contents : Type 0 where
   pub rows : List (Option Atom)
   pub keys : List (List ℕ)
+  pub orders : List (Option ℕ)
 
 -- what is read past the last table
 abbrev pub no_table : Contents
-no_table = record { rows = []; keys = [] }
+no_table = record { rows = []; keys = []; orders = [] }
 
 -- the atom of a row of a table, where it lives
 abbrev pub rows_of : List Contents → Tables
@@ -23,3 +26,7 @@ columns_of tables table index = slice_get (get_or tables table no_table).keys in
 -- the row lives, and this is its atom's argument in a column
 abbrev pub HasArgument : ℕ → ℤ → Option Atom → Type 0
 HasArgument column value row = (a : Atom) × (row ≡ Some a) × (slice_get a.args.items column ≡ Some value)
+
+-- the index finds rows in the order of the span's column
+abbrev pub GoesBy : List (Option ℕ) → ℕ → Span → Type 0
+GoesBy orders index span = slice_get orders index ≡ Some (Some span.column)

@@ -34,7 +34,8 @@ pub(crate) enum Finder {
 
 /// The range of a span, where it speaks of this column; else all values.
 fn range_for(column: usize, span: &Span) -> Range
-    ensures { (x : ℤ) → (column ≡ span.now.column → IsIn span.now.range x) → IsIn result x }
+    ensures wide { (x : ℤ) → (column ≡ span.now.column → IsIn span.now.range x) → IsIn result x }
+    ensures narrow { column ≡ span.now.column → (x : ℤ) → IsIn result x → IsIn span.now.range x }
 {
     if column == span.column {
         span.range
@@ -102,7 +103,7 @@ impl Finder {
     /// The newest live row with this hash that is not known to lie outside the span.
     pub(crate) fn first(&mut self, hash: u32, span: &Span) -> Option<u32>
         ensures same { self.new ≡ self.old }
-        ensures met { IfSome result (λ row. HasHash (rows_in self.old) hash row) }
+        ensures met { IfSome result (λ row. IsSought self.old hash span.now row) }
         ensures newest { IfSome result (λ row. (other : ℕ) → IsSought self.old hash span.now other → other ≤ row) }
         ensures none { IfNone result ((other : ℕ) → ¬ (IsSought self.old hash span.now other)) }
     {
@@ -117,7 +118,7 @@ impl Finder {
         requires { HasHash (rows_in self.old) hash row }
         ensures same { self.new ≡ self.old }
         ensures below { IfSome result (λ next. next < row) }
-        ensures met { IfSome result (λ next. HasHash (rows_in self.old) hash next) }
+        ensures met { IfSome result (λ next. IsSought self.old hash span.now next) }
         ensures newest { IfSome result (λ next. (other : ℕ) → other < row
             → IsSought self.old hash span.now other → other ≤ next) }
         ensures none { IfNone result ((other : ℕ) → other < row → ¬ (IsSought self.old hash span.now other)) }

@@ -3,7 +3,7 @@ ghost use Rattle.std.specs.Prelude.{◌≡◌, ℕ, ◌+◌, ◌<◌, ◌≤◌,
 ghost use Rattle.std.specs.Bool.{OnTrue, OnFalse};
 ghost use Rattle.chr_base.specs.declared.limits.TheConstants.{MAX_ARITY};
 ghost use Rattle.chr_plans.specs.Rows.{HasKey, MayHaveKey, LiesIn};
-ghost use Rattle.chr_tables.specs.Contents.{HasArgument};
+ghost use Rattle.chr_tables.specs.Contents.{HasArgument, GoesBy};
 
 use crate::cells::Cells;
 use crate::finder::Finder;
@@ -29,13 +29,17 @@ pub struct Table {
 
 impl Model for Table {
     ghost use Rattle.chr_tables.specs.Contents.{Contents};
-    ghost use Rattle.chr_tables.specs.working.Indexes.{contents_code, columns_of, live, IsTable};
+    ghost use Rattle.chr_tables.specs.working.Indexes.{contents_code, columns_of, orders_of, live, IsTable};
 
     ghost Value = { Contents };
 
     ghost coded = { contents_code };
 
-    ghost view = { λ t. record { rows = live t.atoms t.alive.items; keys = columns_of t.indexes.items } };
+    ghost view = { λ t. record {
+      rows = live t.atoms t.alive.items;
+      keys = columns_of t.indexes.items;
+      orders = orders_of t.indexes.items;
+    } };
 
     ghost invariant = { λ t. IsTable t.atoms t.alive.items t.indexes.items };
 }
@@ -50,7 +54,7 @@ fn row_of(found: Option<u32>) -> Option<usize>
 impl Table {
     /// The one of no rows and no indexes.
     pub fn new(alloc: Global) -> Table
-        ensures { result ≡ record { rows = []; keys = [] } }
+        ensures { result ≡ record { rows = []; keys = []; orders = [] } }
     {
         Table {
             atoms: Cells::new(alloc),
@@ -68,7 +72,7 @@ impl Table {
     }
 
     /// One more index, by these columns, of a table without rows. Its number is how many there were. Where `order` is a
-    /// column too, look-ups pass over rows whose value there lies outside their span.
+    /// column too, look-ups pass over rows whose value there lies outside a span of it.
     pub fn add_index(
         &mut self,
         alloc: Global,
@@ -78,7 +82,9 @@ impl Table {
         requires { self.old.rows ≡ [] }
         ensures rows { self.new.rows ≡ [] }
         ensures ok { OnOk result (self.new.keys ≡ self.old.keys ++ columns.items ∷ []) }
+        ensures ordered { OnOk result (self.new.orders ≡ self.old.orders ++ order ∷ []) }
         ensures err { OnErr result (self.new.keys ≡ self.old.keys) }
+        ensures err_ordered { OnErr result (self.new.orders ≡ self.old.orders) }
     {
         let index = Finder::new(alloc, order)?;
         self.indexes.reserve(1)?;
@@ -87,12 +93,15 @@ impl Table {
     }
 
     /// The newest row that a look-up of this key and span by an index meets. It meets each live row that has the key and
-    /// lies in the span, and may meet others whose values have the hash of the key.
+    /// lies in the span, and may meet others whose values have the hash of the key; where the index goes by the order of
+    /// the span's column, all of them lie in the span.
     pub fn first(&mut self, index: usize, key: &[i64], span: &Span) -> Option<usize>
         requires { index < length self.old.keys }
         ensures same { self.new ≡ self.old }
         ensures met { IfSome result (λ row.
             MayHaveKey (slice_get self.old.keys index) key.now (get_or self.old.rows row None)) }
+        ensures within { GoesBy self.old.orders index span.now →
+            IfSome result (λ row. LiesIn span.now (get_or self.old.rows row None)) }
         ensures newest { IfSome result (λ row. (other : ℕ) →
             HasKey (slice_get self.old.keys index) key.now (get_or self.old.rows other None) →
             LiesIn span.now (get_or self.old.rows other None) → other ≤ row) }
@@ -110,6 +119,8 @@ impl Table {
         ensures below { IfSome result (λ next. next < row) }
         ensures met { IfSome result (λ next.
             MayHaveKey (slice_get self.old.keys index) key.now (get_or self.old.rows next None)) }
+        ensures within { GoesBy self.old.orders index span.now →
+            IfSome result (λ next. LiesIn span.now (get_or self.old.rows next None)) }
         ensures newest { IfSome result (λ next. (other : ℕ) → other < row →
             HasKey (slice_get self.old.keys index) key.now (get_or self.old.rows other None) →
             LiesIn span.now (get_or self.old.rows other None) → other ≤ next) }
@@ -183,6 +194,7 @@ impl Table {
         requires { row < length self.old.rows }
         ensures rows { self.new.rows ≡ set self.old.rows row None }
         ensures keys { self.new.keys ≡ self.old.keys }
+        ensures orders { self.new.orders ≡ self.old.orders }
     {
         self.alive[row] = false;
         kill_in(&mut self.indexes, row as u32);
@@ -191,6 +203,7 @@ impl Table {
     /// One more row, the newest; or no change where memory is refused, or the table has `MAX_ROWS` rows.
     pub fn insert(&mut self, atom: &Atom) -> Result<(), AllocError>
         ensures keys { self.new.keys ≡ self.old.keys }
+        ensures orders { self.new.orders ≡ self.old.orders }
         ensures ok { OnOk result (self.new.rows ≡ self.old.rows ++ Some atom.now ∷ []) }
         ensures err { OnErr result (self.new.rows ≡ self.old.rows) }
     {

@@ -36,7 +36,7 @@ entry_in way row = option_map (entry_of way) row
 abbrev pub way_of : Keyed → Way
 way_of k = record { columns = k.columns.items; order = order_in k.index }
 
--- of each index its rows, its way, its columns, and the room that it has
+-- of each index its rows, its way, its columns, its order, and the room that it has
 abbrev pub entries_of : List Keyed → List (List (Option Entry))
 entries_of ks = map (λ k. rows_in k.index) ks
 
@@ -45,6 +45,9 @@ ways_of ks = map way_of ks
 
 abbrev pub columns_of : List Keyed → List (List ℕ)
 columns_of ks = map (λ w. w.columns) (ways_of ks)
+
+abbrev pub orders_of : List Keyed → List (Option ℕ)
+orders_of ks = map (λ w. w.order) (ways_of ks)
 
 abbrev pub rooms_of : List Keyed → List ℕ
 rooms_of ks = map (λ k. room_in k.index) ks
@@ -62,6 +65,7 @@ pub record IsTable (atoms : List Atom) (alive : List Bool) (indexes : List Keyed
 
 abbrev pub contents_code : Coded Contents
 contents_code =
-    code_by (List (Option Atom) × List (List ℕ))
-    (coded× (coded_list (coded_option coded_atom)) (coded_list (coded_list coded_ℕ)))
-    (λ c. (c.rows, c.keys)) (λ p. record { rows = p.0; keys = p.1 }) (λ _. refl)
+    code_by (List (Option Atom) × (List (List ℕ) × List (Option ℕ)))
+    (coded× (coded_list (coded_option coded_atom))
+    (coded× (coded_list (coded_list coded_ℕ)) (coded_list (coded_option coded_ℕ))))
+    (λ c. (c.rows, (c.keys, c.orders))) (λ p. record { rows = p.0; keys = p.1.0; orders = p.1.1 }) (λ _. refl)

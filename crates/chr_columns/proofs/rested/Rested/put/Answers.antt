@@ -21,7 +21,7 @@ pub returns-in_err-insert-clause-rested : goal.returns-in_err-insert-clause-rest
 returns-in_err-insert-clause-rested c =
     let t : c.table_of-table.result ≡ table_of_atom c.args.self.now.groups.items c.args.atom.now = c.table_of-table.ensures ∙ (λ i. table_of (c.deref.ensures.value i) c.args.atom.now.symbol (c.len.ensures.value i)) in
     let w = has_table _ _ _ c.args.atom.now c.requires.rested.set_up in
-    let same = set_same c.args.self.now.tables.tables.items c.table_of-table.result c.index_mut.result.now c.insert.new.self (omega (arith, t, w)) c.index_mut.ensures.value c.in_err-insert.ensures.err c.insert.ensures.keys in
+    let same = set_same c.args.self.now.tables.tables.items c.table_of-table.result c.index_mut.result.now c.insert.new.self (omega (arith, t, w)) c.index_mut.ensures.value c.in_err-insert.ensures.err c.insert.ensures.keys c.insert.ensures.orders in
     record {
       set_up = subst (λ (ts : List Contents). IsSetUp c.args.self.now.rules.items c.args.self.now.groups.items (rows_of ts) (columns_of ts) (length ts)) (sym same) c.requires.rested.set_up;
       rests = subst (λ (ts : List Contents). IsAtRest (Step c.args.self.now.rules.items) (contents (grid ts))) (sym same) c.requires.rested.rests;
@@ -32,7 +32,7 @@ returns-in_err-insert-clause-err c =
     let t : c.table_of-table.result ≡ table_of_atom c.args.self.now.groups.items c.args.atom.now = c.table_of-table.ensures ∙ (λ i. table_of (c.deref.ensures.value i) c.args.atom.now.symbol (c.len.ensures.value i)) in
     let w = has_table _ _ _ c.args.atom.now c.requires.rested.set_up in
     on_err _ c.from_residual.result
-    (ap (λ (ts : List Contents). contents (grid ts)) (set_same c.args.self.now.tables.tables.items c.table_of-table.result c.index_mut.result.now c.insert.new.self (omega (arith, t, w)) c.index_mut.ensures.value c.in_err-insert.ensures.err c.insert.ensures.keys))
+    (ap (λ (ts : List Contents). contents (grid ts)) (set_same c.args.self.now.tables.tables.items c.table_of-table.result c.index_mut.result.now c.insert.new.self (omega (arith, t, w)) c.index_mut.ensures.value c.in_err-insert.ensures.err c.insert.ensures.keys c.insert.ensures.orders))
 
 pub returns-clause-ok : goal.returns-clause-ok
 returns-clause-ok c =

@@ -5,11 +5,18 @@ use Rattle.chr_ranges.specs.Rows.{IsWanted}
 use Rattle.chr_tables.specs.working.Finders.{IsSought}
 use Rattle.chr_tables.specs.declared.finder.Finder.TheVariants.{Chained, Ranged}
 use Rattle.chr_tables.proofs.Choices.{if_some, if_none}
-use Rattle.chr_tables.proofs.Finders.{has_entry, has_hash}
+use Rattle.std.proofs.lemmas.Option.{same_Some}
+use Rattle.chr_tables.proofs.Finders.{plain_sought, has_hash}
 use Rattle.chr_tables.proofs.finder.Finder.first.Goals as goal
 
 pub returns-in-Chained-clause-met : goal.returns-in-Chained-clause-met
-returns-in-Chained-clause-met c = rw c.in-Chained.is (if_some _ _ c.first.result (has_entry c.in-Chained.index.rows c.args.hash) c.first.ensures.live)
+returns-in-Chained-clause-met c = rw c.in-Chained.is (if_some (λ row. HasHash c.in-Chained.index.rows c.args.hash row) (λ row. IsSought (Chained c.in-Chained.index) c.args.hash c.args.span.now row) c.first.result
+    (λ row h. plain_sought c.in-Chained.index c.args.hash c.args.span.now row h) c.first.ensures.live)
+
+pub returns-in-Ranged-clause-met : goal.returns-in-Ranged-clause-met
+returns-in-Ranged-clause-met c =
+    rw c.in-Ranged.is (if_some (λ row. IsWanted c.in-Ranged.index.rows c.args.hash c.range_for.result row) (λ row. IsSought (Ranged c.in-Ranged.column c.in-Ranged.index) c.args.hash c.args.span.now row) c.first-in-Ranged.result
+    (λ row w. (w.0, w.1, w.2, λ o. c.range_for.ensures.narrow (same_Some _ _ o) w.0.value w.3)) c.first-in-Ranged.ensures.wanted)
 
 pub returns-in-Chained-clause-newest : goal.returns-in-Chained-clause-newest
 returns-in-Chained-clause-newest c =
@@ -24,9 +31,9 @@ returns-in-Chained-clause-none c =
 pub returns-in-Ranged-clause-newest : goal.returns-in-Ranged-clause-newest
 returns-in-Ranged-clause-newest c =
     rw c.in-Ranged.is (if_some (λ row. (other : ℕ) → (IsWanted c.in-Ranged.index.rows c.args.hash c.range_for.result other) → other ≤ row) (λ row. (other : ℕ) → (IsSought (Ranged c.in-Ranged.column c.in-Ranged.index) c.args.hash c.args.span.now other) → other ≤ row) c.first-in-Ranged.result
-    (λ row newest other s. newest other (s.0, s.1, s.2, c.range_for.ensures s.0.value (λ e. s.3 (ap Some e)))) c.first-in-Ranged.ensures.newest)
+    (λ row newest other s. newest other (s.0, s.1, s.2, c.range_for.ensures.wide s.0.value (λ e. s.3 (ap Some e)))) c.first-in-Ranged.ensures.newest)
 
 pub returns-in-Ranged-clause-none : goal.returns-in-Ranged-clause-none
 returns-in-Ranged-clause-none c =
     rw c.in-Ranged.is (if_none ((other : ℕ) → ¬ (IsWanted c.in-Ranged.index.rows c.args.hash c.range_for.result other)) ((other : ℕ) → ¬ (IsSought (Ranged c.in-Ranged.column c.in-Ranged.index) c.args.hash c.args.span.now other)) c.first-in-Ranged.result
-    (λ none other s. none other (s.0, s.1, s.2, c.range_for.ensures s.0.value (λ e. s.3 (ap Some e)))) c.first-in-Ranged.ensures.none)
+    (λ none other s. none other (s.0, s.1, s.2, c.range_for.ensures.wide s.0.value (λ e. s.3 (ap Some e)))) c.first-in-Ranged.ensures.none)

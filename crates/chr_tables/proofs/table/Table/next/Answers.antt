@@ -5,7 +5,7 @@ use Rattle.chr_tables.specs.declared.indexes.Keyed.{Keyed}
 use Rattle.chr_tables.specs.working.Finders.{rows_in, IsSought}
 use Rattle.chr_tables.specs.working.Indexes.{no_way, way_of, columns_of, ways_of, entries_of, live}
 use Rattle.chr_tables.proofs.Choices.{if_some, if_none}
-use Rattle.chr_tables.proofs.Keys.{met, has_hash, sought, there_is}
+use Rattle.chr_tables.proofs.Keys.{lies, met, has_hash, sought, there_is}
 use Rattle.chr_tables.proofs.Lives.{entries_at, way_at, length_ways, length_columns, live_of}
 use Rattle.chr_tables.proofs.table.Table.next.Goals as goal
 
@@ -42,7 +42,22 @@ returns-clause-met c =
     sym (entries_at c.self.inside.indexes.items c.args.index c.index_mut.result.now b ∙ ap (λ (x : Keyed). rows_in x.index) (sym c.index_mut.ensures.value)) in
     let this : get_or (ways_of c.self.inside.indexes.items) c.args.index no_way ≡ way_of c.index_mut.result.now =
     way_at c.self.inside.indexes.items c.args.index c.index_mut.result.now b ∙ ap way_of (sym c.index_mut.ensures.value) in
-    rw (c.row_of.ensures, ← c.self.view_is) (if_some _ _ c.next.result (met _ _ _ c.args.index c.index_mut.result.now.index (way_of c.index_mut.result.now) c.args.key.now c.key_hash.result c.self.invariant.indexed l here this c.key_hash.ensures) c.next.ensures.met)
+    rw (c.row_of.ensures, ← c.self.view_is) (if_some (λ row. IsSought c.index_mut.result.now.index c.key_hash.result c.args.span.now row) (λ row. MayHaveKey (slice_get (columns_of c.self.inside.indexes.items) c.args.index) c.args.key.now (get_or (live c.self.inside.atoms c.self.inside.alive.items) row None)) c.next.result
+    (λ row s. met _ _ _ c.args.index c.index_mut.result.now.index (way_of c.index_mut.result.now) c.args.key.now c.key_hash.result c.self.invariant.indexed l here this c.key_hash.ensures row (s.0, s.1, s.2)) c.next.ensures.met)
+
+pub returns-clause-within : goal.returns-clause-within
+returns-clause-within c =
+    let n = length_ways c.self.inside.indexes.items in
+    let m = length_columns c.self.inside.indexes.items in
+    let k = ap (λ t. length t.keys) c.self.view_is in
+    let b : c.args.index < length c.self.inside.indexes.items = (let r = there_is c.args.self.now.keys c.args.index c.args.key.now (get_or c.args.self.now.rows c.args.row None) c.requires in omega (arith, r, k, m)) in
+    let l : c.args.index < length (ways_of c.self.inside.indexes.items) = omega (arith, n, b) in
+    let here : rows_in c.index_mut.result.now.index ≡ get_or (entries_of c.self.inside.indexes.items) c.args.index [] =
+    sym (entries_at c.self.inside.indexes.items c.args.index c.index_mut.result.now b ∙ ap (λ (x : Keyed). rows_in x.index) (sym c.index_mut.ensures.value)) in
+    let this : get_or (ways_of c.self.inside.indexes.items) c.args.index no_way ≡ way_of c.index_mut.result.now =
+    way_at c.self.inside.indexes.items c.args.index c.index_mut.result.now b ∙ ap way_of (sym c.index_mut.ensures.value) in
+    rw (c.row_of.ensures, ← c.self.view_is) (λ goes. if_some (λ row. IsSought c.index_mut.result.now.index c.key_hash.result c.args.span.now row) (λ row. LiesIn c.args.span.now (get_or (live c.self.inside.atoms c.self.inside.alive.items) row None)) c.next.result
+    (lies _ _ _ c.args.index c.index_mut.result.now.index (way_of c.index_mut.result.now) c.args.key.now c.key_hash.result c.self.invariant.indexed l here this c.key_hash.ensures c.args.span.now refl goes) c.next.ensures.met)
 
 pub returns-clause-newest : goal.returns-clause-newest
 returns-clause-newest c =

@@ -2,7 +2,7 @@ use Rattle.std.proofs.Common.{◌≡◌, take}
 use Rattle.chr_base.specs.FinBag.{◌⊕◌, ◌⊖◌}
 use Rattle.chr_base.specs.Stores.{store_of}
 use Rattle.chr_columns.specs.working.Resting.{stored, IsRested}
-use Rattle.chr_columns.proofs.rested.Rested.remove_all.Given as goal
+use Rattle.chr_columns.proofs.rested.Rested.remove_each.Given as goal
 
 abbrev pub invariant-loop-atom : goal.invariant-loop-atom
 invariant-loop-atom l = record {
