@@ -21,14 +21,14 @@ fn declares_atoms(program: &Program, atoms: &[Atom]) -> bool
 }
 
 /// Whether the program declares the operation's atoms.
-pub(crate) fn declares(program: &Program, op: &Op) -> bool
+pub fn declares(program: &Program, op: &Op) -> bool
     ensures { IsTrue result ↔ IsDeclared program.now op.now }
 {
     declares_atoms(program, op.bag().atoms())
 }
 
 /// Whether it declares those of all of these operations.
-pub(crate) fn declares_all(program: &Program, ops: &[Op]) -> bool
+pub fn declares_all(program: &Program, ops: &[Op]) -> bool
     ensures { IsTrue result ↔ All (IsDeclared program.now) ops.now }
 {
     for op in ops {

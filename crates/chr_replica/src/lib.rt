@@ -14,4 +14,5 @@ mod state;
 
 pub use agreeing::agree;
 pub use board::{Board, NotPut};
+pub use declared::{declares, declares_all};
 pub use refusal::{Limit, Refusal};

@@ -1,7 +1,9 @@
 //! Replicas are told, merge, lease out, take back and show, on programs and stores that are given as texts.
 mod boards;
+mod events;
 mod exchanges;
 mod leases;
 mod parts;
 mod steps;
 mod texts;
+mod worlds;

@@ -3,9 +3,11 @@ use Rattle.std.specs.Prelude.{ℕ, ◌-◌, List, [], ◌∷◌, All}
 use Rattle.std.proofs.Common.{sym, subst}
 use Rattle.std.proofs.lemmas.List.Elements.{All-set}
 use Rattle.std.proofs.lemmas.Option.{slice_get_within, get_or_from_slice_get}
+use Rattle.chr_base.specs.declared.derivation.Step.{Step as StepValue}
 use Rattle.chr_base.specs.declared.program.Program.{Program}
 use Rattle.chr_ops.specs.declared.fault.Added.TheVariants as added
 use Rattle.chr_ops.specs.Summaries.{lacking}
+use Rattle.chr_replica.specs.declared.refusal.Refusal.TheVariants as refusal
 use Rattle.chr_replica.specs.Replicas.{Replica, IsSound}
 use Rattle.chr_replica.specs.Laws.{TellKeeps, MergeKeeps, StepKeeps, TakeKeeps, TakePartsKeeps, PutKeeps, RecallKeeps, SettleKeeps}
 use Rattle.chr_acts.specs.declared.act.Act.{Act}
@@ -17,7 +19,7 @@ use Rattle.chr_worlds.specs.declared.event.Event.{Event}
 use Rattle.chr_worlds.specs.declared.event.Event.TheVariants as event
 use Rattle.chr_worlds.specs.declared.answer.Answer.{Answer}
 use Rattle.chr_worlds.specs.declared.answer.Answer.TheVariants as answer
-use Rattle.chr_worlds.specs.Worlds.{Replicas, IsAt, Changes, Happens, Runs}
+use Rattle.chr_worlds.specs.Worlds.{Replicas, IsAt, Changes, Works, Happens, Runs}
 
 -- what the laws of replicas say of their events
 pub record EventsKeep : Type 0 where
@@ -47,6 +49,12 @@ does_keeps k p s act.Summary (reply.Summed summary) t h sound = subst (IsSound p
 does_keeps k p s (act.Lacks summary) (reply.Lacked ops) t h sound = subst (IsSound p) (sym h.1) sound
 does_keeps k p s _ _ t h sound = absurd h
 
+works_keeps : EventsKeep → (p : Program) (s : Replica) (number : ℕ) (steps : List StepValue) (x : Reply) (t : Replica) → Works p s number steps x t → IsSound p s → IsSound p t
+works_keeps k p s number steps reply.WasPut t h sound = k.put p number h.0 h.1 s t h.3 sound
+works_keeps k p s number steps (reply.Refused (refusal.NoLease n)) t h sound = subst (IsSound p) (sym h.1) sound
+works_keeps k p s number steps (reply.Refused refusal.NotThere) t h sound = subst (IsSound p) (sym h.4) sound
+works_keeps k p s number steps _ t h sound = absurd h
+
 -- what holds of all replicas holds of the one of a number
 pub holds_at : (P : Replica → Type 0) (w : Replicas) (r : ℕ) (s : Replica) → All P w → IsAt w r s → P s
 holds_at P w r s all there =
@@ -68,6 +76,10 @@ happens_keeps k p w (event.Sync a b) (answer.Replied x) v h all =
     (λ t u g. does_keeps k p t (act.Merge (lacking (h.0).operations g.summary)) x u g.merged) h.2 all
 happens_keeps k p w (event.Sync a b) answer.UnknownSymbol v h all = absurd h
 happens_keeps k p w (event.Sync a b) answer.NoReplica v h all = subst (All (IsSound p)) (sym h.1) all
+happens_keeps k p w (event.Work r number steps) (answer.Replied x) v h all =
+    changes_keeps p w r _ v (λ s t. works_keeps k p s number steps.items x t) h all
+happens_keeps k p w (event.Work r number steps) answer.UnknownSymbol v h all = absurd h
+happens_keeps k p w (event.Work r number steps) answer.NoReplica v h all = subst (All (IsSound p)) (sym h.1) all
 
 pub runs_keep : EventsKeep → (p : Program) (w : Replicas) (es : List Event) (xs : List Answer) (v : Replicas) → Runs p w es xs v → All (IsSound p) w → All (IsSound p) v
 runs_keep k p w [] [] v h all = subst (All (IsSound p)) (sym h) all

@@ -1,3 +1,6 @@
-mod Keeping
+pub mod Keeping
 mod Agreeing
 mod Exchanging
+mod Places
+mod Runs
+mod Returns

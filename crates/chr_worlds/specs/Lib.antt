@@ -1,2 +1,5 @@
 pub mod Worlds
+pub mod Events
+pub mod Sharing
 pub mod Laws
+pub mod working

@@ -1,13 +1,20 @@
 -- Worlds, the events that happen in them, and their runs.
 use Rattle.std.specs.Prelude.{◌≡◌, ℕ, ◌-◌, ◌<◌, ◌≤◌, List, [], ◌∷◌, length, Some, slice_get, slice_set}
+use Rattle.std.specs.FinMap as map
+use Rattle.chr_base.specs.declared.derivation.Step.{Step as StepValue}
 use Rattle.chr_base.specs.declared.program.Program.{Program}
+use Rattle.chr_base.specs.Programs.{rules_of}
+use Rattle.chr_base.specs.Stores.{Store}
 use Rattle.chr_ops.specs.declared.range.IdRange.{IdRange}
 use Rattle.chr_ops.specs.Summaries.{CoversJust, lacking}
 use Rattle.chr_replica.specs.declared.refusal.Refusal.TheVariants as refusal
-use Rattle.chr_replica.specs.Replicas.{Replica, first}
+use Rattle.chr_replica.specs.Refusals.{RefusesRecall}
+use Rattle.chr_replica.specs.Replicas.{Replica, first, Puts}
+use Rattle.chr_rewrite.specs.Derivations.{IsDerivation, IsFirstInapplicable}
 use Rattle.chr_acts.specs.declared.act.Act.{Act}
 use Rattle.chr_acts.specs.declared.act.Act.TheVariants as act
 use Rattle.chr_acts.specs.declared.reply.Reply.{Reply}
+use Rattle.chr_acts.specs.declared.reply.Reply.TheVariants as reply
 use Rattle.chr_acts.specs.Events.{Does, Refuses}
 use Rattle.chr_worlds.specs.declared.event.Event.{Event}
 use Rattle.chr_worlds.specs.declared.event.Event.TheVariants as event
@@ -41,6 +48,17 @@ pub record TakesIn (p : Program) (s t : Replica) (x : Reply) (u : Replica) : Typ
   pub covers : CoversJust summary t.operations
   pub merged : Does p t (act.Merge (lacking s.operations summary)) x u
 
+-- The part that the replica s has out under a number comes back after just these steps, with the reply, and s is t
+-- afterwards. Where no part is out under it, or some step is no instance at its store, that is refused.
+abbrev pub Works : Program → Replica → ℕ → List StepValue → Reply → Replica → Type 0
+Works p s number steps reply.WasPut t =
+    (part : Store) × (result : Store) × IsDerivation (rules_of p) steps part result × Puts p s number part result t
+Works p s number steps (reply.Refused (refusal.NoLease k)) t = RefusesRecall s number (refusal.NoLease k) × (t ≡ s)
+Works p s number steps (reply.Refused refusal.NotThere) t =
+    (part : Store) × (n : ℕ) × (map.get s.out number ≡ Some part) × IsFirstInapplicable (rules_of p) steps part n
+    × (t ≡ s)
+Works p s number steps _ t = ⊥
+
 -- an atom of what is asked isn't declared: so each replica says, whatever it holds
 abbrev pub AsksUnknown : Program → Act → Type 0
 AsksUnknown p a = Refuses p first a refusal.UnknownSymbol
@@ -54,6 +72,9 @@ Happens p w (event.Sync a b) (answer.Replied x) v =
     (s : Replica) × IsAt w a s × Changes w b (λ t u. TakesIn p s t x u) v
 Happens p w (event.Sync a b) answer.UnknownSymbol v = ⊥
 Happens p w (event.Sync a b) answer.NoReplica v = (¬ (HasReplica w a × HasReplica w b)) × (v ≡ w)
+Happens p w (event.Work r number steps) (answer.Replied x) v = Changes w r (λ s t. Works p s number steps.items x t) v
+Happens p w (event.Work r number steps) answer.UnknownSymbol v = ⊥
+Happens p w (event.Work r number steps) answer.NoReplica v = (¬ HasReplica w r) × (v ≡ w)
 
 -- the events, with their answers, lead from one world to another
 abbrev pub Runs : Program → Replicas → List Event → List Answer → Replicas → Type 0

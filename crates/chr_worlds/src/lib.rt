@@ -2,8 +2,14 @@
 #![tactic(auto)]
 
 mod answer;
+mod boards;
 mod event;
 pub mod laws;
+pub mod limits;
+mod playing;
+mod world;
 
 pub use answer::Answer;
 pub use event::Event;
+pub use playing::PlayStopped;
+pub use world::World;

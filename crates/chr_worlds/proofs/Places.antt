@@ -1,0 +1,111 @@
+-- The boards of a world in a list, and their replicas.
+use Rattle.std.specs.Prelude.{◌≡◌, ℕ, suc, ◌+◌, ◌-◌, ◌<◌, List, length, map, replicate, zero, [], ◌∷◌, All, take, drop, ◌++◌, Option, Some, slice_get, slice_index_or, slice_set}
+use Rattle.std.proofs.Common.{refl, sym, ap, ◌∙◌, subst, arith}
+use Rattle.std.specs.Option.{option_map}
+use Rattle.std.proofs.lemmas.List.{map-set, take-append-le, take_all}
+use Rattle.std.proofs.lemmas.List.Elements.{All-set}
+use Rattle.std.proofs.lemmas.Option.{slice_get-map, slice_get-get_or, slice_get_within, get_or_from_slice_get}
+use Rattle.chr_join.specs.declared.accepted.Accepted.{Accepted}
+use Rattle.chr_base.specs.declared.program.Program.{Program}
+use Rattle.chr_replica.specs.Boards.{Held}
+use Rattle.chr_replica.specs.Replicas.{Replica}
+use Rattle.chr_replica.specs.Boards.{program_on}
+use Rattle.chr_ops.specs.Operations.{Operation}
+use Rattle.chr_ops.specs.Summaries.{CoversJust}
+use Rattle.chr_acts.specs.declared.act.Act.{Act}
+use Rattle.chr_acts.specs.declared.act.Act.TheVariants as act
+use Rattle.chr_acts.specs.declared.reply.Reply.{Reply}
+use Rattle.chr_acts.specs.Events.{Does}
+use Rattle.chr_join.specs.AcceptedPrograms.{program_in}
+use Rattle.chr_worlds.specs.Worlds.{Replicas, Changes, IsAt, TakesIn}
+use Rattle.chr_worlds.specs.Sharing.{Shared, shared_program}
+use Rattle.chr_worlds.specs.working.Boards.{replicas_on, AreOf, ChangesAt, AreLacked, ExchangesAt}
+
+-- a board that was read is at its place
+pub is_there : (bs : List Held) (place : ℕ) (b : Held) → place < length bs → b ≡ slice_index_or bs place b → slice_get bs place ≡ Some b
+is_there bs place b within read =
+    slice_get-get_or bs place b within ∙ ap Some (sym read)
+
+-- the replica of a board stands at its place
+pub replica_at : (bs : List Held) (place : ℕ) (b : Held) → slice_get bs place ≡ Some b → slice_get (replicas_on bs) place ≡ Some b.replica
+replica_at bs place b there = slice_get-map (λ b. b.replica) bs place ∙ ap (option_map (λ b. b.replica)) there
+
+-- and has the next number
+pub number_at : (bs : List Held) (number place : ℕ) (b : Held) → number ≡ place + 1 → slice_get bs place ≡ Some b → IsAt (replicas_on bs) number b.replica
+number_at bs number place b is there = (
+  omega (arith, is),
+  ap (slice_get (replicas_on bs)) (omega (arith, is)) ∙ replica_at bs place b there,
+)
+
+-- what holds of each board holds of the one at a place
+pub of_program : (a : Accepted) (bs : List Held) (place : ℕ) (b : Held) → AreOf a bs → slice_get bs place ≡ Some b → b.accepted ≡ a
+of_program a bs place b all there =
+    subst (λ b. b.accepted ≡ a) (get_or_from_slice_get bs place b b there)
+    (all place b (slice_get_within bs place b there))
+
+-- where one board changes, all are of the program as they were
+pub still_of : (a : Accepted) (bs cs : List Held) (place : ℕ) (R : Held → Replica → Type 0) → AreOf a bs → ChangesAt bs place R cs → AreOf a cs
+still_of a bs cs place R all h =
+    subst (AreOf a) (sym h.boards)
+    (All-set (λ b. b.accepted ≡ a) bs place h.after (h.program ∙ of_program a bs place h.before all h.there) all)
+
+-- and its replica changes
+pub replicas_change : (a : Accepted) (bs cs : List Held) (number place : ℕ) (R : Held → Replica → Type 0) (Q : Replica → Replica → Type 0) → number ≡ place + 1 → AreOf a bs → ((b : Held) (t : Replica) → b.accepted ≡ a → R b t → Q b.replica t) → ChangesAt bs place R cs → Changes (replicas_on bs) number Q (replicas_on cs)
+replicas_change a bs cs number place R Q is all follows h = record {
+  before = h.before.replica;
+  after = h.after.replica;
+  there = number_at bs number place h.before is h.there;
+  changed = follows h.before h.after.replica (of_program a bs place h.before all h.there) h.changed;
+  world = ap replicas_on h.boards ∙ map-set (λ b. b.replica) bs place h.after ∙ ap (λ k. slice_set (replicas_on bs) k h.after.replica) (omega (arith, is));
+}
+
+-- boards that were told nothing
+pub untold : (n : ℕ) (b : Held) → replicas_on (replicate n b) ≡ replicate n b.replica
+untold zero b = refl
+untold (suc n) b = ap (λ l. b.replica ∷ l) (untold n b)
+
+-- the boards are those that a slice of them came to
+pub slice_back : (n : ℕ) (xs ys : List Held) → length xs ≡ length ys → n ≡ length ys → take n (xs ++ drop (length xs) ys) ≡ xs
+slice_back n xs ys same is =
+    take-append-le n xs (drop (length xs) ys) (omega (arith, same, is)) ∙ take_all n xs (omega (arith, same, is))
+
+-- what is lacked is merged
+pub takes_in : (bs cs : List Held) (from to : ℕ) (giver taker : Held) (ops : List Operation) (x : Reply) → slice_get bs from ≡ Some giver → slice_get bs to ≡ Some taker → AreLacked giver.replica.operations taker.replica.operations ops → ChangesAt bs to (λ b t. Does (program_on b) b.replica (act.Merge ops) x t) cs → ExchangesAt bs from to x cs
+takes_in bs cs from to giver taker ops x there_from there_to lacked h =
+    let e : ◌≡◌ {A = Option Held} (Some taker) (Some h.before) = sym there_to ∙ h.there in
+    let same : taker ≡ h.before = cc in record {
+      giver = giver;
+      there = there_from;
+      taken = record {
+        before = h.before;
+        after = h.after;
+        there = h.there;
+        program = h.program;
+        changed = record {
+          summary = lacked.summary;
+          covers = subst (λ b. CoversJust lacked.summary b.replica.operations) same lacked.covers;
+          merged = subst (λ os. Does (program_on h.before) h.before.replica (act.Merge os) x h.after.replica) lacked.lacked h.changed;
+        };
+        boards = h.boards;
+      };
+    }
+
+-- what happens to a board happens to its replica, under the world's program
+pub happens_at : (w : Shared) (a : Accepted) (bs bs' cs ds : List Held) (number place : ℕ) (R : Program → Replica → Replica → Type 0) → record { accepted = a; replicas = replicas_on bs } ≡ w → bs' ≡ bs → ds ≡ cs → number ≡ place + 1 → AreOf a bs → ChangesAt bs' place (λ b t. R (program_on b) b.replica t) cs → Changes w.replicas number (λ s t. R (shared_program w) s t) (replicas_on ds)
+happens_at w a bs bs' cs ds number place R view same back is all h =
+    subst (λ w. Changes w.replicas number (λ s t. R (shared_program w) s t) (replicas_on ds)) view
+    (subst (λ es. Changes (replicas_on bs) number (λ s t. R (program_in a) s t) (replicas_on es)) (sym back)
+    (replicas_change a bs cs number place _ _ is all (λ b t of does. subst (λ a. R (program_in a) b.replica t) of does)
+    (subst (λ es. ChangesAt es place (λ b t. R (program_on b) b.replica t) cs) same h)))
+
+-- an exchange between boards is one between their replicas
+pub syncs_at : (w : Shared) (a : Accepted) (bs bs' cs ds : List Held) (a_number b_number from to : ℕ) (x : Reply) → record { accepted = a; replicas = replicas_on bs } ≡ w → bs' ≡ bs → ds ≡ cs → a_number ≡ from + 1 → b_number ≡ to + 1 → AreOf a bs → ExchangesAt bs' from to x cs → (s : Replica) × IsAt w.replicas a_number s × Changes w.replicas b_number (λ t u. TakesIn (shared_program w) s t x u) (replicas_on ds)
+syncs_at w a bs bs' cs ds a_number b_number from to x view same back is_a is_b all h =
+    let g = subst (λ es. ExchangesAt es from to x cs) same h in
+    subst (λ w. (s : Replica) × IsAt w.replicas a_number s × Changes w.replicas b_number (λ t u. TakesIn (shared_program w) s t x u) (replicas_on ds)) view
+    (subst (λ es. (s : Replica) × IsAt (replicas_on bs) a_number s × Changes (replicas_on bs) b_number (λ t u. TakesIn (program_in a) s t x u) (replicas_on es)) (sym back) (
+      g.giver.replica,
+      number_at bs a_number from g.giver is_a g.there,
+      replicas_change a bs cs b_number to _ _ is_b all
+          (λ b t of takes. subst (λ a. TakesIn (program_in a) g.giver.replica b.replica x t) of takes) g.taken,
+    ))

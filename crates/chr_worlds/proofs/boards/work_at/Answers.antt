@@ -1,0 +1,15 @@
+use Rattle.std.proofs.Common.{refl, get_or}
+use Rattle.std.proofs.lemmas.Option.{slice_get-get_or}
+use Rattle.std.proofs.lemmas.Result.{IfOk-weaker}
+use Rattle.chr_worlds.proofs.boards.work_at.Goals as goal
+
+pub returns-clause-ok : goal.returns-clause-ok
+returns-clause-ok c =
+    let bs = c.args.boards.now in IfOk-weaker c.work.result _ _ (λ reply does. record {
+      before = get_or bs c.args.place c.index-boards-place.result;
+      after = c.work.new.board;
+      there = slice_get-get_or bs c.args.place c.index-boards-place.result c.requires;
+      program = c.work.ensures.program;
+      changed = does;
+      boards = refl;
+    }) c.work.ensures.ok

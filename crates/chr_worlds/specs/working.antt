@@ -1,0 +1,3 @@
+-- Words of private contracts and fields.
+pub mod Boards
+pub mod Codes

@@ -1,0 +1,138 @@
+//! The boards of a world: one of them changes, and the others stay as they are.
+ghost use Rattle.std.specs.Prelude.{◌≡◌, ◌+◌, ◌<◌, ◌≤◌, ◌≢◌, IfErr, IfNone, IfOk, IfSome, OnErr, length, replicate};
+ghost use Rattle.std.specs.Arc.{arc_value};
+ghost use Rattle.chr_replica.specs.Boards.{program_on};
+ghost use Rattle.chr_replica.specs.Replicas.{first};
+ghost use Rattle.chr_acts.specs.Acts.{FitsAct};
+ghost use Rattle.chr_acts.specs.Events.{Does};
+ghost use Rattle.chr_worlds.specs.Worlds.{Works};
+ghost use Rattle.chr_worlds.specs.working.Boards.{AreLacked, ChangesAt, ExchangesAt, IsWorked};
+
+use chr_acts::{Act, OpList, Reply, carry_out};
+use chr_base::derivation::Step;
+use chr_join::{Accepted, Done, StepFault};
+use chr_ops::Op;
+use chr_replica::{Board, Refusal};
+use std::alloc::{AllocError, Global};
+use std::sync::Arc;
+
+/// So many boards of a program that were told nothing.
+pub(crate) fn opened(
+    alloc: Global,
+    accepted: &Arc<Accepted>,
+    count: u32,
+) -> Result<Vec<Board>, AllocError>
+    ensures { IfOk result (λ boards.
+        boards.items ≡ replicate count (record { accepted = arc_value accepted.now; replica = first })) }
+{
+    let mut boards = Vec::with_capacity(alloc, count as usize)?;
+    for _number in 0..count {
+        boards.push(Board::open(alloc, accepted.clone()?)?)?;
+    }
+    Ok(boards)
+}
+
+/// The place of the board of a number.
+pub(crate) fn place_of(boards: &[Board], number: u64) -> Option<usize>
+    ensures none { IfNone result (¬ ((0 < number) × (number ≤ length boards.now))) }
+    ensures some { IfSome result (λ place. (number ≡ place + 1) × (place < length boards.now)) }
+{
+    let place = number.checked_sub(1)?;
+    if place < boards.len() as u64 {
+        Some(place as usize)
+    } else {
+        None
+    }
+}
+
+/// Carries an act out on the board at a place.
+pub(crate) fn carry_out_at(
+    alloc: Global,
+    boards: &mut [Board],
+    place: usize,
+    act: &Act,
+) -> Result<Reply, AllocError>
+    requires place { place < length boards.old }
+    requires act { FitsAct act.now }
+    ensures ok { IfOk result (λ reply.
+        ChangesAt boards.old place (λ b t. Does (program_on b) b.replica act.now reply t) boards.new) }
+    ensures err { OnErr result (boards.new ≡ boards.old) }
+{
+    let board = &mut boards[place];
+    carry_out(alloc, board, act)
+}
+
+/// What comes of the part that the board has out under a number, after these steps.
+fn stepped(alloc: Global, board: &Board, number: u64, steps: &[Step]) -> Result<Done, Refusal>
+    ensures ok { IfOk result (IsWorked (program_on board.now) board.now.replica number steps.now) }
+    ensures refused { IfErr result (λ refusal. refusal ≢ Refusal.Memory →
+        Works (program_on board.now) board.now.replica number steps.now (Reply.Refused refusal) board.now.replica) }
+{
+    let lease = board.again(alloc, number)?;
+    match board.program().step_part(alloc, lease, steps) {
+        Ok(done) => Ok(done),
+        Err(not_stepped) => Err(match not_stepped.fault {
+            StepFault::NotThere(_) => Refusal::NotThere,
+            StepFault::Memory => Refusal::Memory,
+        }),
+    }
+}
+
+/// Takes these steps on the part that the board has out under a number, and puts back what comes of it.
+fn work(alloc: Global, board: &mut Board, number: u64, steps: &[Step]) -> Result<Reply, AllocError>
+    ensures program { board.new.accepted ≡ board.old.accepted }
+    ensures ok { IfOk result (λ reply.
+        Works (program_on board.old) board.old.replica number steps.now reply board.new.replica) }
+    ensures err { OnErr result (board.new ≡ board.old) }
+{
+    match stepped(alloc, board, number, steps) {
+        // It is of a part that is out, and of the board's program: only memory can be refused.
+        Ok(done) => match board.put(done) {
+            Ok(()) => Ok(Reply::WasPut),
+            Err(_) => Err(AllocError),
+        },
+        Err(Refusal::Memory) => Err(AllocError),
+        Err(refusal) => Ok(Reply::Refused(refusal)),
+    }
+}
+
+/// Does so at the board at a place.
+pub(crate) fn work_at(
+    alloc: Global,
+    boards: &mut [Board],
+    place: usize,
+    number: u64,
+    steps: &[Step],
+) -> Result<Reply, AllocError>
+    requires { place < length boards.old }
+    ensures ok { IfOk result (λ reply. ChangesAt boards.old place
+        (λ b t. Works (program_on b) b.replica number steps.now reply t) boards.new) }
+    ensures err { OnErr result (boards.new ≡ boards.old) }
+{
+    let board = &mut boards[place];
+    work(alloc, board, number, steps)
+}
+
+/// What the first board holds and the second lacks.
+fn lacked(alloc: Global, giver: &Board, taker: &Board) -> Result<Vec<Op>, AllocError>
+    ensures { IfOk result (λ ops. AreLacked giver.now.replica.operations taker.now.replica.operations ops.items) }
+{
+    let summary = taker.summary(alloc)?;
+    giver.lacks(alloc, &summary)
+}
+
+/// The board at the second place takes in what the one at the first holds and it lacks.
+pub(crate) fn exchange(
+    alloc: Global,
+    boards: &mut [Board],
+    giver: usize,
+    taker: usize,
+) -> Result<Reply, AllocError>
+    requires giver { giver < length boards.old }
+    requires taker { taker < length boards.old }
+    ensures ok { IfOk result (λ reply. ExchangesAt boards.old giver taker reply boards.new) }
+    ensures err { OnErr result (boards.new ≡ boards.old) }
+{
+    let ops = lacked(alloc, &boards[giver], &boards[taker])?;
+    carry_out_at(alloc, boards, taker, &Act::Merge(OpList::of(ops)))
+}

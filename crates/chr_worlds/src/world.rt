@@ -1,0 +1,164 @@
+//! Worlds as values.
+ghost use Rattle.std.specs.Prelude.{◌≡◌, ◌≤◌, ◌↔◌, IfOk, IfSome, IsSome, IsTrue, OnErr, replicate};
+ghost use Rattle.std.specs.Arc.{arc_value};
+ghost use Rattle.chr_replica.specs.Replicas.{first};
+ghost use Rattle.chr_acts.specs.Acts.{FitsAct};
+ghost use Rattle.chr_worlds.specs.Events.{FitsEvent};
+ghost use Rattle.chr_worlds.specs.Worlds.{AsksUnknown, Happens, HasReplica, IsAt};
+ghost use Rattle.chr_worlds.specs.Sharing.{shared_program};
+
+use crate::answer::Answer;
+use crate::boards::{carry_out_at, exchange, opened, place_of, work_at};
+use crate::event::Event;
+use crate::limits::MAX_REPLICAS;
+use chr_acts::Act;
+use chr_base::derivation::Step;
+use chr_base::program::Program;
+use chr_join::Accepted;
+use chr_replica::{Board, declares, declares_all};
+use std::alloc::{AllocError, Global};
+use std::marker::Model;
+use std::sync::Arc;
+
+/// Replicas of one accepted program, which have the numbers 1, 2 and so on. Its type keeps that each is of that
+/// program.
+#[derive(Drop)]
+pub struct World {
+    accepted: Arc<Accepted>,
+    boards: Vec<Board>,
+}
+
+impl Model for World {
+    ghost use Rattle.std.specs.Arc.{arc_value};
+    ghost use Rattle.chr_worlds.specs.Sharing.{Shared};
+    ghost use Rattle.chr_worlds.specs.working.Boards.{AreOf, replicas_on};
+    ghost use Rattle.chr_worlds.specs.working.Codes.{coded_shared};
+
+    ghost Value = { Shared };
+
+    ghost coded = { coded_shared };
+
+    ghost view = { λ w. record { accepted = arc_value w.accepted; replicas = replicas_on w.boards.items } };
+
+    ghost invariant = { λ w. AreOf (arc_value w.accepted) w.boards.items };
+}
+
+/// Whether the program does not declare an atom of what is asked.
+fn asks_unknown(program: &Program, act: &Act) -> bool
+    ensures { IsTrue result ↔ AsksUnknown program.now act.now }
+{
+    match act {
+        Act::Tell(op) => !declares(program, op),
+        Act::Merge(ops) => !declares_all(program, ops.as_slice()),
+        _ => false,
+    }
+}
+
+impl World {
+    /// So many replicas that were told nothing, 1 to [`MAX_REPLICAS`].
+    pub fn open(alloc: Global, accepted: Arc<Accepted>, replicas: u32) -> Result<World, AllocError>
+        requires { (1 ≤ replicas) × (replicas ≤ MAX_REPLICAS) }
+        ensures accepted { IfOk result (λ world. world.accepted ≡ arc_value accepted) }
+        ensures replicas { IfOk result (λ world. world.replicas ≡ replicate replicas first) }
+    {
+        let boards = opened(alloc, &accepted, replicas)?;
+        Ok(World { accepted, boards })
+    }
+
+    /// The accepted program. It takes no memory.
+    pub fn program(&self) -> &Arc<Accepted>
+        ensures { arc_value result.now ≡ self.now.accepted }
+    {
+        &self.accepted
+    }
+
+    /// The board of the replica of a number, where there is one. It takes no memory.
+    pub fn board(&self, replica: u64) -> Option<&Board>
+        ensures there { IsSome result ↔ HasReplica self.now.replicas replica }
+        ensures replica { IfSome result (λ board. IsAt self.now.replicas replica board.now.replica) }
+        ensures program { IfSome result (λ board. board.now.accepted ≡ self.now.accepted) }
+    {
+        let place = place_of(&self.boards, replica)?;
+        Some(&self.boards[place])
+    }
+
+    /// Lets an event happen. What a replica refuses is an answer, and leaves the world as it was; so is a `settle` that
+    /// was stopped, whose steps stand. The event is read: what is told is copied once, into the replica.
+    ///
+    /// # Errors
+    /// Where memory is refused to any event but a `settle`. The world is as it was.
+    pub fn act(&mut self, alloc: Global, event: &Event) -> Result<Answer, AllocError>
+        requires { FitsEvent event.now }
+        ensures program { self.new.accepted ≡ self.old.accepted }
+        ensures happens { IfOk result (λ answer.
+            Happens (shared_program self.old) self.old.replicas event.now answer self.new.replicas) }
+        ensures err { OnErr result (self.new ≡ self.old) }
+    {
+        match event {
+            Event::At(replica, act) => self.act_at(alloc, *replica, act),
+            Event::Sync(giver, taker) => self.sync(alloc, *giver, *taker),
+            Event::Work {
+                replica,
+                lease,
+                steps,
+            } => self.work(alloc, *replica, *lease, steps),
+        }
+    }
+
+    /// Asks a replica to do something.
+    fn act_at(&mut self, alloc: Global, replica: u64, act: &Act) -> Result<Answer, AllocError>
+        requires { FitsAct act.now }
+        ensures program { self.new.accepted ≡ self.old.accepted }
+        ensures happens { IfOk result (λ answer.
+            Happens (shared_program self.old) self.old.replicas (Event.At replica act.now) answer self.new.replicas) }
+        ensures err { OnErr result (self.new ≡ self.old) }
+    {
+        let Some(place) = place_of(&self.boards, replica) else {
+            return Ok(if asks_unknown(self.accepted.program(), act) {
+                Answer::UnknownSymbol
+            } else {
+                Answer::NoReplica
+            });
+        };
+        let reply = carry_out_at(alloc, &mut self.boards, place, act)?;
+        Ok(Answer::Replied(reply))
+    }
+
+    /// Steps are taken on a part that a replica has leased out, and what comes of it is put back.
+    fn work(
+        &mut self,
+        alloc: Global,
+        replica: u64,
+        lease: u64,
+        steps: &Vec<Step>,
+    ) -> Result<Answer, AllocError>
+        ensures program { self.new.accepted ≡ self.old.accepted }
+        ensures happens { IfOk result (λ answer.
+            Happens (shared_program self.old) self.old.replicas (Event.Work replica lease steps.now) answer
+            self.new.replicas) }
+        ensures err { OnErr result (self.new ≡ self.old) }
+    {
+        let Some(place) = place_of(&self.boards, replica) else {
+            return Ok(Answer::NoReplica);
+        };
+        let reply = work_at(alloc, &mut self.boards, place, lease, steps)?;
+        Ok(Answer::Replied(reply))
+    }
+
+    /// A replica takes in what another holds and it lacks.
+    fn sync(&mut self, alloc: Global, giver: u64, taker: u64) -> Result<Answer, AllocError>
+        ensures program { self.new.accepted ≡ self.old.accepted }
+        ensures happens { IfOk result (λ answer.
+            Happens (shared_program self.old) self.old.replicas (Event.Sync giver taker) answer self.new.replicas) }
+        ensures err { OnErr result (self.new ≡ self.old) }
+    {
+        let Some(from) = place_of(&self.boards, giver) else {
+            return Ok(Answer::NoReplica);
+        };
+        let Some(to) = place_of(&self.boards, taker) else {
+            return Ok(Answer::NoReplica);
+        };
+        let reply = exchange(alloc, &mut self.boards, from, to)?;
+        Ok(Answer::Replied(reply))
+    }
+}
