@@ -95,3 +95,6 @@ places_are_outside text n i e =
     let zero_more : 0 + f.k ≡ f.k = omega arith in
     let is : f.k ≡ i = sym (f.at ∙ zero_more) in
     (subst (λ k. k < length text) is f.within, subst (λ k. slice_get text k ≡ slice_get (without_comments text) n) is f.same, subst (λ k. without_comments (take k text) ≡ take n (without_comments text)) is f.before)
+
+pub outside_within : (text : List ℕ) (n i : ℕ) → place_outside text n ≡ Some i → i < length text
+outside_within text n i e = (places_are_outside text n i e).0

@@ -3,11 +3,9 @@ ghost use Rattle.std.specs.Prelude.{◌≡◌, ◌≤◌, length};
 ghost use Rattle.std.specs.List.{prefix_len};
 ghost use Rattle.chr_explain.specs.Lines.{is_within, line_end, line_start};
 
+use crate::limits::MAX_SHOWN;
 use crate::place::place_of;
 use std::alloc::AllocError;
-
-/// How many bytes of a line are shown before the caret's, and from it on.
-const SHOWN: usize = 60;
 
 /// Where the line of the byte at `at` begins.
 pub fn line_start(text: &[u8], at: usize) -> usize
@@ -38,7 +36,7 @@ pub fn line_end(text: &[u8], at: usize) -> usize
 }
 
 /// The character that stands for a byte: itself where it is printable, a tab for a tab, else a question mark.
-fn shown(byte: u8) -> char {
+pub(crate) fn shown(byte: u8) -> char {
     if byte == b'\t' || (32 <= byte && byte <= 126) {
         char::from(byte)
     } else {
@@ -68,12 +66,16 @@ pub fn push_line(out: &mut String, text: &[u8], at: usize) -> Result<(), AllocEr
 {
     let start = line_start(text, at);
     let end = line_end(text, at);
-    let from = if SHOWN < at - start {
-        at - SHOWN
+    let from = if MAX_SHOWN < at - start {
+        at - MAX_SHOWN
     } else {
         start
     };
-    let to = if SHOWN < end - at { at + SHOWN } else { end };
+    let to = if MAX_SHOWN < end - at {
+        at + MAX_SHOWN
+    } else {
+        end
+    };
     let before = if from == start { "    " } else { "  .." };
     out.push_str(before)?;
     push_bytes(out, &text[from..to])?;

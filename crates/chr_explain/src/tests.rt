@@ -1,3 +1,5 @@
+mod explained;
+
 use crate::{place_of, place_outside, push_line};
 use std::test::Fail;
 
