@@ -1,3 +1,2 @@
 -- Words of private contracts.
-pub mod Parts
 pub mod Groups

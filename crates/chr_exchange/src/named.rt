@@ -1,57 +1,72 @@
-//! Operations of atoms that a program declares, from the names that a message spells.
+//! Operations of atoms that a program declares, from the names that a message or a command line spells.
 
-ghost use Rattle.std.specs.Prelude.{◌≡◌, All, map};
+ghost use Rattle.std.specs.Prelude.{◌≡◌, All, IfOk, map, option_map};
 ghost use Rattle.chr_base.specs.Programs.{declarations};
 ghost use Rattle.chr_json.specs.Reads.{raw_atom_view, raw_op_view, IsSizedOperation};
 ghost use Rattle.chr_exchange.specs.Names.{declared_operation, declared_operations, named_atoms};
-ghost use Rattle.chr_exchange.specs.working.Parts.{GivesDeclared};
 
-use crate::fault::MessageFault;
-use chr_base::atom::Atom;
+use chr_base::atom::{Atom, SymbolId};
 use chr_base::bag::Bag;
 use chr_base::program::Program;
 use chr_json::{RawAtom, RawOp};
 use chr_ops::Op;
-use std::alloc::Global;
+use std::alloc::{AllocError, Global};
 
-/// The atoms of these names and arguments.
-fn atoms(alloc: Global, program: &Program, words: &[RawAtom]) -> Result<Vec<Atom>, MessageFault>
-    ensures { GivesDeclared (λ v. v.items) result
-        (named_atoms (declarations program.now) (map raw_atom_view words.now)) }
+/// The atoms of these names and arguments. None where the program doesn't declare one of them.
+fn named_atoms(
+    alloc: Global,
+    program: &Program,
+    words: &[RawAtom],
+) -> Result<Option<Vec<Atom>>, AllocError>
+    ensures { IfOk result (λ found. option_map (λ v. v.items) found
+        ≡ named_atoms (declarations program.now) (map raw_atom_view words.now)) }
 {
     let mut atoms = Vec::with_capacity(alloc, words.len())?;
+    // Most atoms of an operation have the symbol of the one before.
+    let mut symbol = SymbolId(0);
     for word in words {
-        let Some(atom) = program.atom(word.name.as_str(), &word.args) else {
-            return Err(MessageFault::UnknownSymbol);
+        let Some(atom) = program.atom_near(symbol, word.name.as_str(), &word.args) else {
+            return Ok(None);
         };
+        symbol = atom.symbol;
         atoms.push(atom)?;
     }
-    Ok(atoms)
+    Ok(Some(atoms))
 }
 
-/// The operation that is spelt so.
-pub(crate) fn operation(alloc: Global, program: &Program, raw: &RawOp) -> Result<Op, MessageFault>
+/// The operation that is spelt so, which has 1 to 64 atoms. None where the program doesn't declare one of them.
+pub fn declared_operation(
+    alloc: Global,
+    program: &Program,
+    raw: &RawOp,
+) -> Result<Option<Op>, AllocError>
     requires { IsSizedOperation raw.now }
-    ensures { GivesDeclared (λ op. op) result (declared_operation (declarations program.now) (raw_op_view raw.now)) }
+    ensures { IfOk result (λ found. found ≡ declared_operation (declarations program.now) (raw_op_view raw.now)) }
 {
-    let atoms = atoms(alloc, program, &raw.atoms)?;
+    let Some(atoms) = named_atoms(alloc, program, &raw.atoms)? else {
+        return Ok(None);
+    };
     let bag = Bag::of(atoms)?;
-    Ok(Op::of(raw.id, bag).unwrap())
+    Ok(Op::of(raw.id, bag))
 }
 
-/// The operations that are spelt so.
-pub(crate) fn operations(
+/// The operations that are spelt so, each of 1 to 64 atoms, in their order. None where the program doesn't declare an
+/// atom of one of them.
+pub fn declared_operations(
     alloc: Global,
     program: &Program,
     raws: &[RawOp],
-) -> Result<Vec<Op>, MessageFault>
+) -> Result<Option<Vec<Op>>, AllocError>
     requires { All IsSizedOperation raws.now }
-    ensures { GivesDeclared (λ v. v.items) result
-        (declared_operations (declarations program.now) (map raw_op_view raws.now)) }
+    ensures { IfOk result (λ found. option_map (λ v. v.items) found
+        ≡ declared_operations (declarations program.now) (map raw_op_view raws.now)) }
 {
     let mut ops = Vec::with_capacity(alloc, raws.len())?;
     for raw in raws {
-        ops.push(operation(alloc, program, raw)?)?;
+        let Some(op) = declared_operation(alloc, program, raw)? else {
+            return Ok(None);
+        };
+        ops.push(op)?;
     }
-    Ok(ops)
+    Ok(Some(ops))
 }

@@ -6,7 +6,7 @@ ghost use Rattle.chr_json.specs.Deltas.{operation_with};
 ghost use Rattle.chr_exchange.specs.Meant.{delta_in, delta_meant, operation_meant, summary_in, summary_meant, Gives, GivesCover};
 
 use crate::fault::MessageFault;
-use crate::named::{operation, operations};
+use crate::named::{declared_operation, declared_operations};
 use chr_base::program::Program;
 use chr_json::{operation_in, operations_in, ranges_in, value_in};
 use chr_ops::{Op, Summary};
@@ -41,7 +41,7 @@ pub fn op_of(
         (operation_meant (declarations program.now) (operation_with (data_of id.now) (data_of atoms.now))) }
 {
     let raw = operation_in(alloc, id, atoms)?;
-    operation(alloc, program, &raw)
+    declared_operation(alloc, program, &raw)?.ok_or(MessageFault::UnknownSymbol)
 }
 
 /// The operations of a delta, in its order, as often as they stand there: of version 2,
@@ -56,7 +56,7 @@ pub fn delta_of(alloc: Global, program: &Program, value: &Value) -> Result<Vec<O
     ensures { Gives (λ ops. ops.items) result (delta_meant (declarations program.now) (data_of value.now)) }
 {
     let raws = operations_in(alloc, value)?;
-    operations(alloc, program, &raws)
+    declared_operations(alloc, program, &raws)?.ok_or(MessageFault::UnknownSymbol)
 }
 
 /// The summary that a text is.

@@ -16,16 +16,16 @@ use Rattle.chr_report.specs.Answers.{AnswersAll, AnswersFirst}
 use Rattle.chr_report.specs.working.Answered.{AnswersLine, AddsAnswer, AnswersRest}
 
 -- with the answers of what is left, the answers so far are those of all lines
-pub record Continues (ds : List Declaration) (rules : List Rule) (all : List (List ℕ)) (start : Operations) (before : List ℕ) (ls : List (List ℕ)) (now : Operations) (out : List ℕ) : Type 0 where
+pub record Continues (ds : List Declaration) (rules : List Rule) (all : List (List ℕ)) (start : List Operations) (before : List ℕ) (ls : List (List ℕ)) (now : List Operations) (out : List ℕ) : Type 0 where
   pub with_rest : (tail : List ℕ) → AnswersAll ds rules ls now tail → (whole : List ℕ) × AnswersAll ds rules all start whole × (before ++ whole ≡ out ++ tail)
 
-pub begins : (ds : List Declaration) (rules : List Rule) (all : List (List ℕ)) (start : Operations) (before : List ℕ) → Continues ds rules all start before all start before
+pub begins : (ds : List Declaration) (rules : List Rule) (all : List (List ℕ)) (start : List Operations) (before : List ℕ) → Continues ds rules all start before all start before
 begins ds rules all start before = record { with_rest = λ tail a. (tail, a, refl) }
 
-pub ends : (ds : List Declaration) (rules : List Rule) (all : List (List ℕ)) (start : Operations) (before : List ℕ) (now : Operations) (out : List ℕ) → Continues ds rules all start before [] now out → AnswersRest ds rules all start before out
+pub ends : (ds : List Declaration) (rules : List Rule) (all : List (List ℕ)) (start : List Operations) (before : List ℕ) (now : List Operations) (out : List ℕ) → Continues ds rules all start before [] now out → AnswersRest ds rules all start before out
 ends ds rules all start before now out h = let w = h.with_rest [] refl in record { out = w.0; answers = w.1; out_is = sym (w.2 ∙ append-nil out) }
 
-pub goes_on : (ds : List Declaration) (rules : List Rule) (all : List (List ℕ)) (start : Operations) (before line : List ℕ) (ls : List (List ℕ)) (old : Operations) (out : List ℕ) (new : Operations) (more : List ℕ)
+pub goes_on : (ds : List Declaration) (rules : List Rule) (all : List (List ℕ)) (start : List Operations) (before line : List ℕ) (ls : List (List ℕ)) (old : List Operations) (out : List ℕ) (new : List Operations) (more : List ℕ)
     → Continues ds rules all start before (line ∷ ls) old out → AnswersLine ds rules old (without_return line) out new more → Continues ds rules all start before ls new more
 goes_on ds rules all start before line ls old out new more h g = record { with_rest = λ tail a. by (is_blank_line (without_return line)) refl g tail a }
   where
@@ -46,11 +46,11 @@ left_size None = 0
 left_size (Some s) = length s.now + 1
 
 -- what holds at the next turn
-pub record Turn (w : Accepted) (all : List (List ℕ)) (start : Operations) (before : List ℕ) (v : Accepted) (next : Option (Bor (List ℕ))) (now : Operations) (out : List ℕ) : Type 0 where
+pub record Turn (w : Accepted) (all : List (List ℕ)) (start : List Operations) (before : List ℕ) (v : Accepted) (next : Option (Bor (List ℕ))) (now : List Operations) (out : List ℕ) : Type 0 where
   pub program : v ≡ w
   pub answered : Continues (declarations (program_in w)) (rules_of (program_in w)) all start before (lines_left next) now out
 
-pub one_more : (w : Accepted) (all : List (List ℕ)) (start : Operations) (before : List ℕ) (v x : Accepted) (next : Option (Bor (List ℕ))) (rest : Bor (List ℕ)) (line stripped : List ℕ) (more : Option (Bor (List ℕ))) (old new : Operations) (out longer : List ℕ)
+pub one_more : (w : Accepted) (all : List (List ℕ)) (start : List Operations) (before : List ℕ) (v x : Accepted) (next : Option (Bor (List ℕ))) (rest : Bor (List ℕ)) (line stripped : List ℕ) (more : Option (Bor (List ℕ))) (old new : List Operations) (out longer : List ℕ)
     → v ≡ w → Continues (declarations (program_in w)) (rules_of (program_in w)) all start before (lines_left next) old out → next ≡ Some rest
     → lines rest.now ≡ line ∷ lines_left more → stripped ≡ without_return line → x ≡ v
     → AnswersLine (declarations (program_in v)) (rules_of (program_in v)) old stripped out new longer
@@ -64,7 +64,7 @@ one_more w all start before v x next rest line stripped more old new out longer 
       (subst (λ u. AnswersLine (declarations (program_in u)) (rules_of (program_in u)) old stripped out new longer) e answers));
 }
 
-pub all_answered : (w : Accepted) (all : List (List ℕ)) (start : Operations) (before : List ℕ) (next : Option (Bor (List ℕ))) (now : Operations) (out : List ℕ) → Continues (declarations (program_in w)) (rules_of (program_in w)) all start before (lines_left next) now out → next ≡ None
+pub all_answered : (w : Accepted) (all : List (List ℕ)) (start : List Operations) (before : List ℕ) (next : Option (Bor (List ℕ))) (now : List Operations) (out : List ℕ) → Continues (declarations (program_in w)) (rules_of (program_in w)) all start before (lines_left next) now out → next ≡ None
     → AnswersRest (declarations (program_in w)) (rules_of (program_in w)) all start before out
 all_answered w all start before next now out h e =
     ends _ _ all start before now out (subst (λ ls. Continues (declarations (program_in w)) (rules_of (program_in w)) all start before ls now out) (ap lines_left e) h)

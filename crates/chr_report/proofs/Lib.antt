@@ -1,9 +1,16 @@
 pub mod LineLaws
-pub mod Boards
+pub mod Held
+pub mod Declared
+pub mod BetweenLines
+pub mod Settling
 pub mod Checks
 pub mod Continuing
 pub mod Cutting
 pub mod Outcomes
+pub mod Telling
+pub mod Merging
+pub mod Reading
+pub mod Writable
 pub mod OneTextValues
 pub mod OneText
 pub mod AnswersThere

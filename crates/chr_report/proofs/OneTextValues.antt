@@ -10,14 +10,16 @@ use Rattle.chr_base.specs.Stores.{Store, store_of}
 use Rattle.chr_base.proofs.Stores.{count_empty}
 use Rattle.chr_base.specs.ProgramTests.{Declaration, declares}
 use Rattle.chr_ops.specs.declared.id.OpId.{OpId}
-use Rattle.chr_ops.specs.Operations.{Operations, told_store}
+use Rattle.chr_ops.specs.Operations.{Operation, Operations, told_store}
 use Rattle.chr_ops.proofs.Told.{told_store-insert, told_store-empty}
+use Rattle.chr_ops.proofs.ToldValues.{HaveValues}
 use Rattle.chr_base.specs.Values.{is_value, args_in, HasValues}
 use Rattle.chr_base.proofs.Each.{each_of_list, each_plus}
 use Rattle.chr_json.specs.NamedAtoms.{NamedAtom}
 use Rattle.chr_json.specs.Printed.{ArgumentsFit}
-use Rattle.chr_json.proofs.Ranges.{if_map, if_each, always}
-use Rattle.chr_report.specs.Answers.{named_atom, named_atoms}
+use Rattle.chr_json.proofs.Ranges.{OperationFits, if_map, if_each, always}
+use Rattle.chr_json.specs.Deltas.{NamedOperation}
+use Rattle.chr_exchange.specs.Names.{named_atom, named_atoms, declared_operation, declared_operations}
 
 value : (z : ℤ) → FitsSigned w64 z → is_value z ≡ true
 value (pos n) h = let f : n < 2 ^ 63 = h.sfits in le-leb n (2 ^ 63 - 1) (omega (arith, f))
@@ -41,6 +43,14 @@ listed (a ∷ xs) h = and_from (args_in is_value a) (list_all (args_in is_value)
 pub atoms_values : (ds : List Declaration) (ws : List NamedAtom) → AllByRecursion ArgumentsFit ws → IfSome (named_atoms ds ws) (λ xs. HasValues (store_of xs))
 atoms_values ds ws h =
     IfSome_then (named_atoms ds ws) (if_each ArgumentsFit (λ a. args_in is_value a ≡ true) (named_atom ds) (atom_values ds) ws h) (λ xs p. each_of_list (args_in is_value) xs (listed xs p))
+
+operation_values : (ds : List Declaration) (o : NamedOperation) → OperationFits o → IfSome (declared_operation ds o) (λ p. HasValues p.1)
+operation_values ds o h =
+    if_map (λ xs. HasValues (store_of xs)) (λ (p : Operation). HasValues p.1) (λ xs. (o.id, store_of xs)) (λ xs v. v) (named_atoms ds o.atoms) (atoms_values ds o.atoms h)
+
+-- the operations of words have stores of values
+pub operations_values : (ds : List Declaration) (os : List NamedOperation) → AllByRecursion OperationFits os → IfSome (declared_operations ds os) HaveValues
+operations_values ds os h = if_each OperationFits (λ (p : Operation). HasValues p.1) (declared_operation ds) (operation_values ds) os h
 
 -- an operation more
 pub told_values : (old : Operations) (k : OpId) (s : Store) → finite.get old k ≡ None → HasValues (told_store old) → HasValues s → HasValues (told_store (finite.insert old k s))

@@ -1,5 +1,5 @@
 -- What is written for rules is what is written for them without their names.
-use Rattle.std.specs.Prelude.{◌≡◌, ℕ, ◌-◌, ◌≤◌, ◌⊎◌, Bool, true, false, List, [], ◌∷◌, ◌++◌, map, slice_index_or, Result, Ok, Err, nat_eq}
+use Rattle.std.specs.Prelude.{◌≡◌, ℕ, ◌-◌, ◌≤◌, ◌⊎◌, Bool, true, false, List, [], ◌∷◌, ◌++◌, map, slice_index_or, replicate, Result, Ok, Err, Option, Some, None, MatchOption}
 use Rattle.std.specs.Bool.{MatchBool}
 use Rattle.std.specs.List.{All}
 use Rattle.std.specs.FinMap as finite
@@ -37,7 +37,7 @@ use Rattle.chr_report.specs.declared.running.Status.{Status}
 use Rattle.chr_report.specs.declared.running.Status.TheVariants.{Accepted, Refused}
 use Rattle.chr_report.specs.declared.reply.Refusal.TheVariants as refusal
 use Rattle.chr_report.specs.Lines.{without_return}
-use Rattle.chr_report.specs.Answers.{ShowsNormalForm, AnswersShow, AnswersRead, AnswersFirst, AnswersAll, AnswersRefusal}
+use Rattle.chr_report.specs.Answers.{held_by, OneAnswers, AnswersAt, ShowsNormalForm, AnswersShow, AnswersRead, AnswersFirst, AnswersAll, AnswersRefusal}
 use Rattle.chr_report.specs.Outputs.{accepted_text, IsAnswered, IsRulesOutput}
 use Rattle.chr_report.proofs.UnnamedRules.{unnamed, at_unnamed, from_unnamed, by_unnamed, rest_unnamed, normal_unnamed, overlap_unnamed, overlap_named, constants_unnamed}
 
@@ -175,14 +175,17 @@ module _ (rules : List Rule) where
     shows : (told : Store) (text : List ℕ) → ShowsNormalForm ds rules told text → ShowsNormalForm ds bare told text
     shows told text h = record { store = h.store; normal_form = normal_unnamed rules told h.store h.normal_form; text_is = h.text_is }
 
-    answers_show : (old : Operations) (r : ℕ) (text : List ℕ) (new : Operations) → AnswersShow ds rules old r text new → AnswersShow ds bare old r text new
-    answers_show old r text new h = by (nat_eq r 1) h
-      where
-        by : (b : Bool) → MatchBool b (ShowsNormalForm ds rules (told_store old) text × (new ≡ old)) (AnswersRefusal refusal.NoReplica old text new) → MatchBool b (ShowsNormalForm ds bare (told_store old) text × (new ≡ old)) (AnswersRefusal refusal.NoReplica old text new)
-        by true h = (shows (told_store old) text h.0, h.1)
-        by false h = h
+    one_shows : (old : List Operations) (r : ℕ) (text : List ℕ) (new : List Operations) (m : Operations) → OneAnswers old r (AnswersShow ds rules) text new m → OneAnswers old r (AnswersShow ds bare) text new m
+    one_shows old r text new m h = record { after = h.after; answers = (shows (told_store m) text h.answers.0, h.answers.1); others = h.others }
 
-    answers_read : (old : Operations) (said : Result Said LineFault) (text : List ℕ) (new : Operations) → AnswersRead ds rules old said text new → AnswersRead ds bare old said text new
+    answers_show : (old : List Operations) (r : ℕ) (text : List ℕ) (new : List Operations) → AnswersAt old r (AnswersShow ds rules) text new → AnswersAt old r (AnswersShow ds bare) text new
+    answers_show old r text new h = by (held_by old r) h
+      where
+        by : (o : Option Operations) → MatchOption o (AnswersRefusal refusal.NoReplica old text new) (OneAnswers old r (AnswersShow ds rules) text new) → MatchOption o (AnswersRefusal refusal.NoReplica old text new) (OneAnswers old r (AnswersShow ds bare) text new)
+        by None h = h
+        by (Some m) h = one_shows old r text new m h
+
+    answers_read : (old : List Operations) (said : Result Said LineFault) (text : List ℕ) (new : List Operations) → AnswersRead ds rules old said text new → AnswersRead ds bare old said text new
     answers_read old (Ok (show r)) text new h = answers_show old r text new h
     answers_read old (Ok (tell r o n ws)) text new h = h
     answers_read old (Ok (sync a b)) text new h = h
@@ -193,12 +196,12 @@ module _ (rules : List Rule) where
     answers_read old (Err fault.Shape) text new h = h
     answers_read old (Err fault.Memory) text new h = absurd h
 
-    answers_all : (ls : List (List ℕ)) (old : Operations) (out : List ℕ) → AnswersAll ds rules ls old out → AnswersAll ds bare ls old out
+    answers_all : (ls : List (List ℕ)) (old : List Operations) (out : List ℕ) → AnswersAll ds rules ls old out → AnswersAll ds bare ls old out
     answers_all [] old out h = h
     answers_all (l ∷ ls) old out h = by (is_blank_line (without_return l)) h (answers_all ls)
       where
         by : (b : Bool) → MatchBool b (AnswersAll ds rules ls old out) (AnswersFirst ds rules old (without_return l) out (AnswersAll ds rules ls))
-            → ((now : Operations) (rest : List ℕ) → AnswersAll ds rules ls now rest → AnswersAll ds bare ls now rest)
+            → ((now : List Operations) (rest : List ℕ) → AnswersAll ds rules ls now rest → AnswersAll ds bare ls now rest)
             → MatchBool b (AnswersAll ds bare ls old out) (AnswersFirst ds bare old (without_return l) out (AnswersAll ds bare ls))
         by true h more = more old out h
         by false h more = record {
@@ -210,17 +213,18 @@ module _ (rules : List Rule) where
           out_is = h.out_is;
         }
 
-    answered : (commands : List (List ℕ)) (out : List ℕ) → IsAnswered ds rules commands out → IsAnswered ds bare commands out
-    answered commands out h = record {
+    answered : (replicas : ℕ) (commands : List (List ℕ)) (out : List ℕ) → IsAnswered ds rules replicas commands out → IsAnswered ds bare replicas commands out
+    answered replicas commands out h = record {
       lowers = lower (weight_by ds) h.lowers;
       cases = h.cases;
       accepted = is_accepted h.cases h.accepted;
       answers = h.answers;
-      answered = answers_all commands finite.empty h.answers h.answered;
+      answered = answers_all commands (replicate replicas finite.empty) h.answers h.answered;
       out_is = h.out_is ∙ ap (λ n. accepted_text n h.cases ++ 10 ∷ h.answers) (sym (length-map rules unnamed));
     }
 
-pub output_unnamed : (ds : List Declaration) (rules : List Rule) (commands : List (List ℕ)) (status : Status) (out : List ℕ) → IsRulesOutput ds rules commands status out → IsRulesOutput ds (map unnamed rules) commands status out
-output_unnamed ds rules commands Accepted out h = answered rules ds commands out h
-output_unnamed ds rules commands Refused out (inl h) = inl (record { rule = h.rule; before = h.before; after = h.after; first = first_not_lowered rules ds h.rule h.before h.after h.first; out_is = h.out_is })
-output_unnamed ds rules commands Refused out (inr h) = inr (record { lowers = lower rules (weight_by ds) h.lowers; cause = h.cause; first = is_refusal rules h.cause h.first; line = h.line })
+pub output_unnamed : (ds : List Declaration) (rules : List Rule) (replicas : ℕ) (commands : List (List ℕ)) (status : Status) (out : List ℕ)
+    → IsRulesOutput ds rules replicas commands status out → IsRulesOutput ds (map unnamed rules) replicas commands status out
+output_unnamed ds rules replicas commands Accepted out h = answered rules ds replicas commands out h
+output_unnamed ds rules replicas commands Refused out (inl h) = inl (record { rule = h.rule; before = h.before; after = h.after; first = first_not_lowered rules ds h.rule h.before h.after h.first; out_is = h.out_is })
+output_unnamed ds rules replicas commands Refused out (inr h) = inr (record { lowers = lower rules (weight_by ds) h.lowers; cause = h.cause; first = is_refusal rules h.cause h.first; line = h.line })

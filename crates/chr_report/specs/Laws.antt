@@ -12,5 +12,7 @@ LinesAreTheInput = (input : List ℕ) → join_with_byte 10 (lines input) ≡ in
 
 -- what a run writes is what a check of the same input writes, and then the answers; their statuses are one
 abbrev pub ChecksBeginRuns : Type 0
-ChecksBeginRuns = (input : List ℕ) (status : Status) (out : List ℕ) → IsOutput Run input status out
-    → (verdict : List ℕ) × (answers : List ℕ) × (out ≡ verdict ++ answers) × IsOutput Check input status verdict
+ChecksBeginRuns =
+    (replicas : ℕ) (input : List ℕ) (status : Status) (out : List ℕ) → IsOutput Run replicas input status out
+    → (verdict : List ℕ) × (answers : List ℕ) × (out ≡ verdict ++ answers)
+    × IsOutput Check replicas input status verdict

@@ -6,10 +6,13 @@ use Rattle.chr_report.specs.Outputs.{IsOutput}
 
 -- some status and some text are an output
 abbrev pub OutputsExist : Type 0
-OutputsExist = (verb : Verb) (input : List ℕ) → (status : Status) × (out : List ℕ) × IsOutput verb input status out
+OutputsExist =
+    (verb : Verb) (replicas : ℕ) (input : List ℕ)
+    → (status : Status) × (out : List ℕ) × IsOutput verb replicas input status out
 
 -- two outputs for the same bytes have one status and are one text
 abbrev pub OutputsAreOne : Type 0
 OutputsAreOne =
-    (verb : Verb) (input : List ℕ) (status status' : Status) (out out' : List ℕ)
-    → IsOutput verb input status out → IsOutput verb input status' out' → (status ≡ status') × (out ≡ out')
+    (verb : Verb) (replicas : ℕ) (input : List ℕ) (status status' : Status) (out out' : List ℕ)
+    → IsOutput verb replicas input status out → IsOutput verb replicas input status' out'
+    → (status ≡ status') × (out ≡ out')

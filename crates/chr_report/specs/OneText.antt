@@ -1,5 +1,5 @@
 -- Command lines have answers, and for a confluent program these are one text.
-use Rattle.std.specs.Prelude.{◌≡◌, ℕ, List}
+use Rattle.std.specs.Prelude.{◌≡◌, ℕ, List, All, replicate}
 use Rattle.std.specs.FinMap as map
 use Rattle.chr_base.specs.declared.rule.Rule.{Rule}
 use Rattle.chr_base.specs.ProgramTests.{Declaration}
@@ -9,21 +9,22 @@ use Rattle.chr_base.specs.Values.{HasValues}
 use Rattle.chr_confluence.specs.Confluence.{Confluent}
 use Rattle.chr_report.specs.Answers.{AnswersAll}
 
--- for a program that lowers each line has an answer, whatever the replica was told before
+-- for a program that lowers each line has an answer, whatever the replicas were told before
 abbrev pub AnswersExist : Type 0
 AnswersExist =
     (ds : List Declaration) (rules : List Rule) → AreLowering (weight_by ds) rules
-    → (lines : List (List ℕ)) (old : Operations) → (out : List ℕ) × AnswersAll ds rules lines old out
+    → (lines : List (List ℕ)) (old : List Operations) → (out : List ℕ) × AnswersAll ds rules lines old out
 
--- of a replica that was told 64-bit values: two texts that answer the same lines are equal
+-- of replicas that were told 64-bit values: two texts that answer the same lines are equal
 abbrev pub AnswersAreOne : Type 0
 AnswersAreOne =
     (ds : List Declaration) (rules : List Rule) → Confluent rules
-    → (lines : List (List ℕ)) (old : Operations) → HasValues (told_store old) → (out other : List ℕ)
+    → (lines : List (List ℕ)) (old : List Operations) → All (λ m. HasValues (told_store m)) old → (out other : List ℕ)
     → AnswersAll ds rules lines old out → AnswersAll ds rules lines old other → out ≡ other
 
--- the same of the replica that was told nothing
+-- the same of so many replicas that were told nothing
 abbrev pub FirstAnswersAreOne : Type 0
 FirstAnswersAreOne =
-    (ds : List Declaration) (rules : List Rule) → Confluent rules → (lines : List (List ℕ)) (out other : List ℕ)
-    → AnswersAll ds rules lines map.empty out → AnswersAll ds rules lines map.empty other → out ≡ other
+    (ds : List Declaration) (rules : List Rule) → Confluent rules → (replicas : ℕ) (lines : List (List ℕ))
+    (out other : List ℕ) → AnswersAll ds rules lines (replicate replicas map.empty) out
+    → AnswersAll ds rules lines (replicate replicas map.empty) other → out ≡ other

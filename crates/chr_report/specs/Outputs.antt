@@ -1,6 +1,6 @@
 -- What is written for an input: the verdict on its program text, and by a run of an accepted program the answers of its
 -- command lines.
-use Rattle.std.specs.Prelude.{◌≡◌, ℕ, Bool, ◌⊎◌, List, [], ◌∷◌, ◌++◌, codes, length}
+use Rattle.std.specs.Prelude.{◌≡◌, ℕ, Bool, ◌⊎◌, List, [], ◌∷◌, ◌++◌, codes, length, replicate}
 use Rattle.std.specs.Prelude.{Result, Ok, Err}
 use Rattle.std.specs.Fmt.{decimal}
 use Rattle.std.specs.FinMap as map
@@ -64,32 +64,33 @@ pub record IsRefusedByOverlaps (ds : List Declaration) (rules : List Rule) (out 
 abbrev pub accepted_text : ℕ → ℕ → List ℕ
 accepted_text rules cases = codes "accepted: rules " ++ decimal rules ++ codes ", cases " ++ decimal cases
 
--- the line of a program of which no case fails, and the answers to the commands of a replica that was told nothing
-pub record IsAnswered (ds : List Declaration) (rules : List Rule) (commands : List (List ℕ)) (out : List ℕ)
-    : Type 0 where
+-- the line of a program of which no case fails, and the answers of so many replicas that were told nothing
+pub record IsAnswered (ds : List Declaration) (rules : List Rule) (replicas : ℕ) (commands : List (List ℕ))
+    (out : List ℕ) : Type 0 where
   pub lowers : AreLowering (weight_by ds) rules
   pub cases : ℕ
   pub accepted : IsAccepted rules cases
   pub answers : List ℕ
-  pub answered : AnswersAll ds rules commands map.empty answers
+  pub answered : AnswersAll ds rules commands (replicate replicas map.empty) answers
   pub out_is : out ≡ accepted_text (length rules) cases ++ 10 ∷ answers
 
-abbrev pub IsRulesOutput : List Declaration → List Rule → List (List ℕ) → Status → List ℕ → Type 0
-IsRulesOutput ds rules commands Accepted out = IsAnswered ds rules commands out
-IsRulesOutput ds rules commands Refused out = IsRefusedByWeights ds rules out ⊎ IsRefusedByOverlaps ds rules out
+abbrev pub IsRulesOutput : List Declaration → List Rule → ℕ → List (List ℕ) → Status → List ℕ → Type 0
+IsRulesOutput ds rules replicas commands Accepted out = IsAnswered ds rules replicas commands out
+IsRulesOutput ds rules replicas commands Refused out = IsRefusedByWeights ds rules out ⊎ IsRefusedByOverlaps ds rules out
 
 -- what is written where a text has this answer
-abbrev pub IsReadOutput : Result Program ReadFault → List (List ℕ) → Status → List ℕ → Type 0
-IsReadOutput (Ok p) commands status out = IsRulesOutput (declarations p) (rules_of p) commands status out
-IsReadOutput (Err e) commands status out = (status ≡ Refused) × IsFaultLine e out
+abbrev pub IsReadOutput : Result Program ReadFault → ℕ → List (List ℕ) → Status → List ℕ → Type 0
+IsReadOutput (Ok p) replicas commands status out =
+    IsRulesOutput (declarations p) (rules_of p) replicas commands status out
+IsReadOutput (Err e) replicas commands status out = (status ≡ Refused) × IsFaultLine e out
 
 -- the commands that are answered: by a check none, by a run all
 abbrev pub asked : Verb → List (List ℕ) → List (List ℕ)
 asked Check commands = []
 asked Run commands = commands
 
--- the output and its status: the text has an answer, and this is written for it
-abbrev pub IsOutput : Verb → List ℕ → Status → List ℕ → Type 0
-IsOutput verb input status out =
+-- the output of so many replicas and its status: the text has an answer, and this is written for it
+abbrev pub IsOutput : Verb → ℕ → List ℕ → Status → List ℕ → Type 0
+IsOutput verb replicas input status out =
     (answer : Result Program ReadFault) × IsAnswer (text_of (lines input)) answer
-    × IsReadOutput answer (asked verb (commands_of (lines input))) status out
+    × IsReadOutput answer replicas (asked verb (commands_of (lines input))) status out

@@ -7,18 +7,20 @@ use Rattle.chr_report.specs.declared.running.Status.{Status}
 use Rattle.chr_report.specs.Outputs.{IsOutput}
 
 -- there is an output of the input, with this status, of which IsWritten holds
-pub record Writes (bytes : Option (List ℕ)) (verb : Verb) (status : Status) (IsWritten : List ℕ → Type 0) : Type 0 where
+pub record Writes (bytes : Option (List ℕ)) (verb : Verb) (replicas : ℕ) (status : Status)
+    (IsWritten : List ℕ → Type 0) : Type 0 where
   pub input : List ℕ
   pub is_read : IfSome bytes (λ all. input ≡ all)
   pub out : List ℕ
-  pub is_output : IsOutput verb input status out
+  pub is_output : IsOutput verb replicas input status out
   pub is_written : IsWritten out
 
 -- the output of the input, with this status
-abbrev pub WritesOutput : Option (List ℕ) → Option (List ℕ) → Option (List ℕ) → Verb → Status → Type 0
-WritesOutput bytes old new verb status = Writes bytes verb status (Appends old new)
+abbrev pub WritesOutput :
+    Option (List ℕ) → Option (List ℕ) → Option (List ℕ) → Verb → ℕ → Status → Type 0
+WritesOutput bytes old new verb replicas status = Writes bytes verb replicas status (Appends old new)
 
 -- nothing, or a beginning of an output of the input
-abbrev pub WritesBeginning : Option (List ℕ) → Option (List ℕ) → Option (List ℕ) → Verb → Type 0
-WritesBeginning bytes old new verb =
-    Appends old new [] ⊎ ((status : Status) × Writes bytes verb status (AppendsPart old new))
+abbrev pub WritesBeginning : Option (List ℕ) → Option (List ℕ) → Option (List ℕ) → Verb → ℕ → Type 0
+WritesBeginning bytes old new verb replicas =
+    Appends old new [] ⊎ ((status : Status) × Writes bytes verb replicas status (AppendsPart old new))

@@ -1,5 +1,5 @@
 -- Words of private contracts alone.
 pub mod Answered
-pub mod Boards
+pub mod Services
 pub mod LinesLeft
 pub mod ReplyTexts

@@ -2,12 +2,12 @@
 #![tactic(auto)]
 
 mod answering;
-mod board;
 mod input;
 mod laws;
 mod one_text;
 mod reply;
 mod running;
+mod service;
 #[cfg(test)]
 mod tests;
 mod verdict;

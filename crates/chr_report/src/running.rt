@@ -1,7 +1,8 @@
 //! Checks and runs, from the bytes of an input to the bytes of its output.
-ghost use Rattle.std.specs.Prelude.{◌≡◌, ◌⊎◌, [], false, true, IfOk, IfSome, IsErrOf, OnErr, OnOk, string_bytes};
+ghost use Rattle.std.specs.Prelude.{◌≡◌, ◌≤◌, ◌⊎◌, [], false, true, IfOk, IfSome, IsErrOf, OnErr, OnOk, string_bytes};
 ghost use Rattle.chr_device.specs.Devices.{inner_of, has_failed};
-ghost use Rattle.chr_device.specs.Settings.{IsPlain};
+ghost use Rattle.chr_device.specs.Settings.{IsPlain, IsWithinLimits};
+ghost use Rattle.chr_device.specs.declared.limits.TheConstants.{MAX_REPLICAS};
 ghost use Rattle.chr_device.specs.declared.fault.RunFault.TheVariants.{Device, Memory};
 ghost use Rattle.chr_base.specs.Programs.{declarations, rules_of};
 ghost use Rattle.chr_weights.specs.WeighedPrograms.{program_of};
@@ -14,8 +15,8 @@ ghost use Rattle.chr_join.specs.AcceptedPrograms.{program_in};
 ghost use Rattle.chr_report.specs.working.LinesLeft.{lines_left};
 
 use crate::answering::answer_commands;
-use crate::board::Board;
 use crate::input::{asked, split};
+use crate::service::Service;
 use crate::verdict::{accepted_line, fault_line, not_lowered_line, refusal_line};
 use chr_base::program::Program;
 use chr_device::{RunFault, Settings, Verb, Watched, read_all, write_whole};
@@ -52,20 +53,22 @@ impl Output {
     }
 }
 
-/// The verdict's line, and the answers of a replica that was told nothing to the commands.
+/// The verdict's line, and the answers of so many replicas, which were told nothing, to the commands.
 fn answer_program(
     alloc: Global,
     accepted: Accepted,
+    replicas: u32,
     commands: Option<&[u8]>,
 ) -> Result<String, AllocError>
-    requires { IsAccepted (rules_of (program_in accepted)) (cases_of accepted) }
+    requires replicas { (1 ≤ replicas) × (replicas ≤ MAX_REPLICAS) }
+    requires accepted { IsAccepted (rules_of (program_in accepted)) (cases_of accepted) }
     ensures { IfOk result (λ s. IsAnswered (declarations (program_in accepted)) (rules_of (program_in accepted))
-        (lines_left commands.entry) (string_bytes s)) }
+        replicas (lines_left commands.entry) (string_bytes s)) }
 {
     let rules = accepted.program().rules().len();
     let mut text = accepted_line(alloc, rules, accepted.cases())?;
-    let mut board = Board::new(alloc, accepted)?;
-    answer_commands(alloc, &mut board, commands, &mut text)?;
+    let mut service = Service::open(alloc, accepted, replicas)?;
+    answer_commands(alloc, &mut service, commands, &mut text)?;
     Ok(text)
 }
 
@@ -73,14 +76,16 @@ fn answer_program(
 fn weighed_output(
     alloc: Global,
     weighed: Weighed,
+    replicas: u32,
     commands: Option<&[u8]>,
 ) -> Result<Output, AllocError>
-    ensures { IfOk result (λ o. IsReadOutput (Ok (program_of weighed)) (lines_left commands.entry)
+    requires { (1 ≤ replicas) × (replicas ≤ MAX_REPLICAS) }
+    ensures { IfOk result (λ o. IsReadOutput (Ok (program_of weighed)) replicas (lines_left commands.entry)
         o.status (string_bytes o.text)) }
 {
     match accept(alloc, weighed) {
         Ok(accepted) => {
-            let text = answer_program(alloc, accepted, commands)?;
+            let text = answer_program(alloc, accepted, replicas, commands)?;
             Ok(Output {
                 status: Status::Accepted,
                 text,
@@ -96,13 +101,16 @@ fn weighed_output(
 fn program_output(
     alloc: Global,
     program: Program,
+    replicas: u32,
     commands: Option<&[u8]>,
 ) -> Result<Output, AllocError>
-    ensures { IfOk result (λ o. IsReadOutput (Ok program) (lines_left commands.entry) o.status (string_bytes o.text)) }
+    requires { (1 ≤ replicas) × (replicas ≤ MAX_REPLICAS) }
+    ensures { IfOk result (λ o. IsReadOutput (Ok program) replicas (lines_left commands.entry)
+        o.status (string_bytes o.text)) }
 {
     let paired = program.has_pairs();
     match weigh(program) {
-        Ok(weighed) => weighed_output(alloc, weighed, commands),
+        Ok(weighed) => weighed_output(alloc, weighed, replicas, commands),
         Err(fault) => {
             let line = not_lowered_line(alloc, paired, &fault)?;
             Ok(Output::refused(line))
@@ -111,13 +119,15 @@ fn program_output(
 }
 
 /// The whole output for an input.
-fn output_of(alloc: Global, verb: Verb, input: &[u8]) -> Result<Output, AllocError>
-    ensures { IfOk result (λ o. IsOutput verb input.now o.status (string_bytes o.text)) }
+fn output_of(alloc: Global, settings: Settings, input: &[u8]) -> Result<Output, AllocError>
+    requires { IsWithinLimits settings }
+    ensures { IfOk result (λ o.
+        IsOutput settings.command settings.replicas input.now o.status (string_bytes o.text)) }
 {
     let (text, rest) = split(input);
-    let commands = asked(verb, rest);
+    let commands = asked(settings.command, rest);
     match read(alloc, text) {
-        Ok(program) => program_output(alloc, program, commands),
+        Ok(program) => program_output(alloc, program, settings.replicas, commands),
         Err(fault) => {
             let line = fault_line(alloc, &fault)?;
             Ok(Output::refused(line))
@@ -126,7 +136,7 @@ fn output_of(alloc: Global, verb: Verb, input: &[u8]) -> Result<Output, AllocErr
 }
 
 /// Reads all of the input, and then writes its output: the verdict on the program text, and by `Verb::Run` for an
-/// accepted program the answer line of each command.
+/// accepted program the answer line of each command. Numbers of workers and of parts above 1 are to come.
 ///
 /// # Errors
 ///
@@ -141,11 +151,12 @@ pub fn run<R: Read, W: Write>(
 ) -> Result<Status, RunFault>
     requires reads { has_failed reader.old ≡ false }
     requires writes { has_failed writer.old ≡ false }
+    requires limits { IsWithinLimits settings }
     requires plain { IsPlain settings }
     ensures ok { IfOk result (λ status. WritesOutput (R.remaining (inner_of reader.old))
-        (W.contents (inner_of writer.old)) (W.contents (inner_of writer.new)) settings.command status) }
+        (W.contents (inner_of writer.old)) (W.contents (inner_of writer.new)) settings.command settings.replicas status) }
     ensures err { OnErr result (WritesBeginning (R.remaining (inner_of reader.old))
-        (W.contents (inner_of writer.old)) (W.contents (inner_of writer.new)) settings.command) }
+        (W.contents (inner_of writer.old)) (W.contents (inner_of writer.new)) settings.command settings.replicas) }
     // Nothing is left to be read.
     ensures end { OnOk result (IfSome (R.remaining (inner_of reader.new)) (λ left. left ≡ [])) }
     ensures whole { OnOk result ((has_failed reader.new ≡ false) × (has_failed writer.new ≡ false)) }
@@ -155,7 +166,7 @@ pub fn run<R: Read, W: Write>(
     ensures unanswered { IsErrOf result Memory → writer.new ≡ writer.old }
 {
     let input = read_all(alloc, reader)?;
-    let output = output_of(alloc, settings.command, &input)?;
+    let output = output_of(alloc, settings, &input)?;
     match write_whole(writer, output.text.as_bytes()) {
         Ok(()) => Ok(output.status),
         Err(fault) => Err(fault),

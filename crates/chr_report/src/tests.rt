@@ -1,4 +1,6 @@
 //! Whole runs over memory.
+ghost use Rattle.chr_device.specs.Settings.{IsPlain, IsWithinLimits};
+
 mod cutting;
 mod devices;
 mod large;
@@ -6,6 +8,7 @@ mod lines;
 mod pairs;
 mod programs;
 mod refusals;
+mod replicas;
 mod stores;
 mod verdicts;
 
@@ -25,10 +28,12 @@ const PLAIN: Settings = Settings {
 const ROOM: usize = 131_072;
 
 /// The status for the input, and all that was written.
-fn outcome(alloc: Global, command: Verb, input: &[u8]) -> Result<(Status, Vec<u8>), RunFault> {
+fn outcome(alloc: Global, settings: Settings, input: &[u8]) -> Result<(Status, Vec<u8>), RunFault>
+    requires limits { IsWithinLimits settings }
+    requires plain { IsPlain settings }
+{
     let mut reader = Watched::of(input);
     let mut writer = Watched::of(Vec::with_capacity(alloc, ROOM)?);
-    let settings = Settings { command, ..PLAIN };
     let status = run(alloc, &mut reader, &mut writer, settings)?;
     Ok((status, writer.into_inner()))
 }
@@ -42,13 +47,17 @@ fn first_line(output: &str) -> &[u8] {
 
 /// Compares all that is written for an input, of which a run writes the whole output and a check the first line. A
 /// program is accepted where that line says so.
-fn expect_by(
+fn expect_run(
     rt: &impl Abort,
     alloc: Global,
-    command: Verb,
+    settings: Settings,
     input: &[u8],
     output: &str,
-) -> Result<(), RunFault> {
+) -> Result<(), RunFault>
+    requires limits { IsWithinLimits settings }
+    requires plain { IsPlain settings }
+{
+    let command = settings.command;
     let expected = match command {
         Verb::Run => output.as_bytes(),
         Verb::Check => first_line(output),
@@ -58,10 +67,22 @@ fn expect_by(
     } else {
         Status::Refused
     };
-    let (found, written) = outcome(alloc, command, input)?;
+    let (found, written) = outcome(alloc, settings, input)?;
     assert_eq!(rt; written.as_slice(), expected, "{command:?}: {output}");
     assert_eq!(rt; found, status, "{command:?}: {output}");
     Ok(())
+}
+
+/// Compares all that one replica, or a check, writes for an input.
+fn expect_by(
+    rt: &impl Abort,
+    alloc: Global,
+    command: Verb,
+    input: &[u8],
+    output: &str,
+) -> Result<(), RunFault> {
+    let settings = Settings { command, ..PLAIN };
+    expect_run(rt, alloc, settings, input, output)
 }
 
 /// Compares what a run and a check write for an input.

@@ -17,6 +17,6 @@ appends_nothing None = tt
 appends_nothing (Some xs) = sym (append-nil xs)
 
 -- where `clap` takes the words, memory ran out
-pub memory_ends : (ws : List (List ℕ)) (fault : WordsFault) (bytes known : Option (List ℕ)) (verb : Verb) (status : ℕ) → faults_of ws ≡ [] → IsOfFault (faults_of ws) fault → (fault ≡ words.Memory → status ≡ 4) → RunEnds bytes known known verb status
-memory_ends ws (words.Words e) bytes known verb status none is told = absurd (subst (λ ks. IsOfFault ks (words.Words e)) none is).0
-memory_ends ws words.Memory bytes known verb status none is told = record { outcome = Err run.Memory; status_is = told refl; ok = tt; err = inl (appends_nothing known) }
+pub memory_ends : (ws : List (List ℕ)) (fault : WordsFault) (bytes known : Option (List ℕ)) (verb : Verb) (replicas status : ℕ) → faults_of ws ≡ [] → IsOfFault (faults_of ws) fault → (fault ≡ words.Memory → status ≡ 4) → RunEnds bytes known known verb replicas status
+memory_ends ws (words.Words e) bytes known verb replicas status none is told = absurd (subst (λ ks. IsOfFault ks (words.Words e)) none is).0
+memory_ends ws words.Memory bytes known verb replicas status none is told = record { outcome = Err run.Memory; status_is = told refl; ok = tt; err = inl (appends_nothing known) }

@@ -13,9 +13,9 @@ status_of (Ok Refused) = 1
 status_of (Err Device) = 3
 status_of (Err Memory) = 4
 
--- a run of this verb ended with this status: after the whole output, or after a beginning of it
-pub record RunEnds (bytes old new : Option (List ℕ)) (verb : Verb) (status : ℕ) : Type 0 where
+-- a run of this verb with so many replicas ended with this status: after the whole output, or after a beginning of it
+pub record RunEnds (bytes old new : Option (List ℕ)) (verb : Verb) (replicas status : ℕ) : Type 0 where
   pub outcome : Result Status RunFault
   pub status_is : status ≡ status_of outcome
-  pub ok : IfOk outcome (WritesOutput bytes old new verb)
-  pub err : OnErr outcome (WritesBeginning bytes old new verb)
+  pub ok : IfOk outcome (WritesOutput bytes old new verb replicas)
+  pub err : OnErr outcome (WritesBeginning bytes old new verb replicas)

@@ -10,8 +10,8 @@ ghost use Rattle.std.specs.Vec.Iter.{into_iter_items};
 ghost use Rattle.std.specs.Process.{exit_status};
 ghost use Rattle.std.specs.declared.io.ErrorKind.TheVariants.{OutOfMemory};
 ghost use Rattle.chr_device.specs.Devices.{inner_of, has_failed};
-ghost use Rattle.chr_device.specs.Settings.{IsPlain};
-ghost use Rattle.chr_device.specs.Words.{faults_of, verb_met};
+ghost use Rattle.chr_device.specs.Settings.{IsPlain, IsWithinLimits};
+ghost use Rattle.chr_device.specs.Words.{faults_of, replicas_met, verb_met};
 ghost use Rattle.chr_device.specs.declared.words.WordsFault.TheVariants.{Memory};
 ghost use Rattle.chr_start.specs.Statuses.{status_of, RunEnds};
 
@@ -45,9 +45,10 @@ fn run_settings<R: Read, W: Write>(
 ) -> ExitCode
     requires reads { has_failed reader.old ≡ false }
     requires writes { has_failed writer.old ≡ false }
+    requires limits { IsWithinLimits settings }
     requires plain { IsPlain settings }
     ensures { RunEnds (R.remaining (inner_of reader.old)) (W.contents (inner_of writer.old))
-        (W.contents (inner_of writer.new)) settings.command (exit_status result) }
+        (W.contents (inner_of writer.new)) settings.command settings.replicas (exit_status result) }
 {
     exit_code(run(alloc, reader, writer, settings))
 }
@@ -78,7 +79,8 @@ pub fn run_words<R: Read, W: Write>(
     requires writes { has_failed writer.old ≡ false }
     ensures taken { faults_of (map string_bytes words.now) ≡ [] →
         RunEnds (R.remaining (inner_of reader.old)) (W.contents (inner_of writer.old))
-        (W.contents (inner_of writer.new)) (verb_met (map string_bytes words.now)) (exit_status result) }
+        (W.contents (inner_of writer.new)) (verb_met (map string_bytes words.now))
+        (replicas_met (map string_bytes words.now)) (exit_status result) }
     ensures refused { faults_of (map string_bytes words.now) ≢ [] →
         (exit_status result ≡ 2) ⊎ (exit_status result ≡ 4) }
     ensures untouched { faults_of (map string_bytes words.now) ≢ [] →

@@ -8,19 +8,19 @@ use Rattle.chr_json.specs.Lines.{is_blank_line}
 use Rattle.chr_report.specs.Answers.{Answers, AnswersAll}
 
 -- the answer of a line that is not blank, with its line feed
-pub record AddsAnswer (ds : List Declaration) (rules : List Rule) (old : Operations) (line before : List ℕ)
-    (new : Operations) (after : List ℕ) : Type 0 where
+pub record AddsAnswer (ds : List Declaration) (rules : List Rule) (old : List Operations) (line before : List ℕ)
+    (new : List Operations) (after : List ℕ) : Type 0 where
   pub text : List ℕ
   pub answers : Answers ds rules old line text new
   pub out_is : after ≡ before ++ text ++ 10 ∷ []
 
 abbrev pub AnswersLine :
-    List Declaration → List Rule → Operations → List ℕ → List ℕ → Operations → List ℕ → Type 0
+    List Declaration → List Rule → List Operations → List ℕ → List ℕ → List Operations → List ℕ → Type 0
 AnswersLine ds rules old line before new after =
     MatchBool (is_blank_line line) ((new ≡ old) × (after ≡ before)) (AddsAnswer ds rules old line before new after)
 
 -- the answers of all these lines
-pub record AnswersRest (ds : List Declaration) (rules : List Rule) (ls : List (List ℕ)) (old : Operations)
+pub record AnswersRest (ds : List Declaration) (rules : List Rule) (ls : List (List ℕ)) (old : List Operations)
     (before after : List ℕ) : Type 0 where
   pub out : List ℕ
   pub answers : AnswersAll ds rules ls old out

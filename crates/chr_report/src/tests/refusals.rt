@@ -1,6 +1,6 @@
 //! Lines that are refused, and change nothing.
-use super::{expect, expect_by, input_of};
-use crate::{Refusal, Verb};
+use super::{PLAIN, expect, expect_run, input_of};
+use crate::{Refusal, Settings};
 use std::alloc::{AllocError, Global};
 use std::fmt::Write;
 use std::test::Fail;
@@ -41,6 +41,40 @@ fn nothing_changes(rt: HostRuntime) -> Result<(), Fail> {
         ("[\"show\",0]", 35),
         ("[\"show\",2]", 35),
         ("[\"show\",4294967297]", 35),
+        ("[\"sync\",1,2", 30),
+        ("[\"summary\",1", 30),
+        ("[\"lacks\",1,[]", 30),
+        ("[\"merge\",1,[]", 30),
+        ("[\"merge\",1,[[[1,2],[[\"max\",5]]]]]", 32),
+        ("[\"merge\",1,[2,[[1,[[2,[[\"min\"]]]]]]]]", 32),
+        (
+            "[\"merge\",1,[[[1,2],[[\"min\",9]]],[[1,3],[[\"max\",9]]]]]",
+            32,
+        ),
+        (
+            "[\"merge\",1,[[[1,2],[[\"min\",9]]],[[1,1],[[\"min\",5]]]]]",
+            33,
+        ),
+        (
+            "[\"merge\",1,[[[1,2],[[\"min\",9]]],[[1,2],[[\"min\",5]]]]]",
+            33,
+        ),
+        (
+            "[\"merge\",1,[2,[[1,[[2,[[\"min\",9]]],[1,[[\"min\",5]]]]]]]]",
+            33,
+        ),
+        ("[\"sync\",1,2]", 35),
+        ("[\"sync\",2,1]", 35),
+        ("[\"sync\",0,1]", 35),
+        ("[\"sync\",18446744073709551615,1]", 35),
+        ("[\"summary\",0]", 35),
+        ("[\"summary\",2]", 35),
+        ("[\"lacks\",2,[]]", 35),
+        ("[\"lacks\",0,[],1]", 35),
+        ("[\"merge\",2,[]]", 35),
+        ("[\"merge\",0,[[[1,2],[[\"min\",9]]]]]", 35),
+        ("[\"merge\",2,[[[1,2],[[\"max\",9]]]]]", 32),
+        ("[\"merge\",2,[[[1,1],[[\"min\",5]]]]]", 35),
         // the shape before the symbols, these before the replica, and that before the id
         ("[\"tell\",2,[1,1],[[\"max\",5],[]]]", 31),
         ("[\"tell\",2,[1,1],[[\"max\",5]]]", 32),
@@ -129,6 +163,20 @@ fn told_limit(rt: HostRuntime) -> Result<(), Fail> {
         push_tell(&mut input, number, atoms)?;
         output.push_str(answer)?;
     }
-    expect_by(&rt, alloc, Verb::Run, input.as_bytes(), output.as_str())?;
+    for (line, answer) in [
+        ("[\"merge\",1,[[[2,1],[[\"a\"]]]]]\n", "refused 34\n"),
+        ("[\"merge\",1,[[[1,20001],[[\"a\"]]]]]\n", "merged 0\n"),
+        ("[\"tell\",2,[2,2],[[\"a\"]]]\n", "told\n"),
+        ("[\"sync\",2,1]\n", "refused 34\n"),
+        ("[\"show\",2]\n", "a\n"),
+    ] {
+        input.push_str(line)?;
+        output.push_str(answer)?;
+    }
+    let settings = Settings {
+        replicas: 2,
+        ..PLAIN
+    };
+    expect_run(&rt, alloc, settings, input.as_bytes(), output.as_str())?;
     Ok(())
 }

@@ -1,7 +1,7 @@
 use Rattle.std.proofs.Common.{◌≡◌}
 use Rattle.std.specs.Prelude.{string_bytes}
 use Rattle.chr_base.specs.Programs.{declarations, rules_of}
-use Rattle.chr_report.specs.working.Boards.{program_on, IsReached}
+use Rattle.chr_report.specs.working.Services.{held, served, IsBetweenLines}
 use Rattle.chr_report.specs.Lines.{lines}
 use Rattle.chr_report.specs.working.LinesLeft.{lines_left}
 use Rattle.chr_report.proofs.Continuing.{left_size, Continues}
@@ -9,9 +9,9 @@ use Rattle.chr_report.proofs.answering.answer_lines.Given as goal
 
 abbrev pub invariant-loop-next : goal.invariant-loop-next
 invariant-loop-next l = record {
-  program : l.board.accepted ≡ l.fn.board.accepted;
-  reached : IsReached l.board;
-  answered : Continues (declarations (program_on l.fn.board)) (rules_of (program_on l.fn.board)) (lines l.fn.input) l.fn.board.ops (string_bytes l.fn.out) (lines_left l.next) l.board.ops (string_bytes l.out);
+  program : l.service.world.accepted ≡ l.fn.service.world.accepted;
+  reached : IsBetweenLines l.service;
+  answered : Continues (declarations (served l.fn.service)) (rules_of (served l.fn.service)) (lines l.fn.input) (held l.fn.service) (string_bytes l.fn.out) (lines_left l.next) (held l.service) (string_bytes l.out);
 }
 
 abbrev pub decreases-loop-next : goal.decreases-loop-next

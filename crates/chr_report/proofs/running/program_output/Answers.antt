@@ -8,7 +8,7 @@ pub returns-in_ok-line-in-Err : goal.returns-in_ok-line-in-Err
 returns-in_ok-line-in-Err c =
     let fault = c.in-Err.fault in
     let h = c.in-Err.ensures.first in
-    refused_by c.args.program _ _ _ (string_bytes c.in_ok-line-in-Err.line) c.refused.ensures.status (ap string_bytes c.refused.ensures.text)
+    refused_by c.args.program c.args.replicas _ _ _ (string_bytes c.in_ok-line-in-Err.line) c.refused.ensures.status (ap string_bytes c.refused.ensures.text)
     (inl (record {
       rule = fault.rule;
       before = fault.before;

@@ -1,0 +1,95 @@
+-- What a replica answers to a tell.
+use Rattle.std.proofs.Common.{◌≡◌, ℕ, List, codes, refl, sym, ap, ◌∙◌, subst, arith}
+use Rattle.std.specs.Prelude.{◌≢◌, Option, Some, None}
+use Rattle.std.specs.Option.{IsSomeAnd}
+use Rattle.std.proofs.lemmas.Option.{none-some}
+use Rattle.chr_base.specs.declared.program.Program.{Program}
+use Rattle.chr_base.specs.ProgramTests.{Declaration}
+use Rattle.chr_base.specs.Stores.{Store}
+use Rattle.chr_ops.specs.declared.fault.Added.TheVariants as added
+use Rattle.chr_ops.specs.Operations.{Operation, Operations, IsNew, IsHeld, IsHeldOtherwise}
+use Rattle.chr_base.specs.Programs.{declarations}
+use Rattle.chr_json.specs.Deltas.{NamedOperation}
+use Rattle.chr_json.specs.declared.command.DeltaVersion.{DeltaVersion}
+use Rattle.chr_json.specs.declared.command.DeltaVersion.TheVariants as version
+use Rattle.chr_exchange.specs.Names.{named_atoms, declared_operation}
+use Rattle.chr_replica.specs.declared.refusal.Refusal.TheVariants as refused
+use Rattle.chr_replica.specs.declared.refusal.Limit.TheVariants as limit
+use Rattle.chr_replica.specs.Replicas.{Replica, IsDeclared}
+use Rattle.chr_acts.specs.declared.act.Act.TheVariants as act
+use Rattle.chr_acts.specs.declared.reply.Reply.{Reply}
+use Rattle.chr_acts.specs.declared.reply.Reply.TheVariants as reply
+use Rattle.chr_acts.specs.Events.{Does}
+use Rattle.chr_worlds.specs.Worlds.{Replicas, Happens}
+use Rattle.chr_worlds.specs.declared.event.Event.TheVariants as event
+use Rattle.chr_worlds.specs.declared.answer.Answer.{Answer}
+use Rattle.chr_worlds.specs.declared.answer.Answer.TheVariants as answer
+use Rattle.chr_report.specs.declared.reply.Refusal.TheVariants as refusal
+use Rattle.chr_report.specs.Replies.{refusal_text}
+use Rattle.chr_report.specs.declared.reply.Reply.TheVariants as replies
+use Rattle.chr_report.specs.Answers.{AnswersTell, AnswersAt, AnswersAtoms}
+use Rattle.chr_report.specs.working.ReplyTexts.{replied_text, answer_text, reply_text}
+use Rattle.chr_report.proofs.Declared.{tell_known, spelt_declared}
+use Rattle.chr_report.specs.working.Services.{operations_held}
+use Rattle.chr_report.proofs.Held.{answers_at, none_answers}
+
+-- a new operation is neither held nor held otherwise
+new_unheld : (m : Operations) (op : Operation) → IsNew m op → ¬ IsHeld m op
+new_unheld m op new held = none-some op.1 (sym new ∙ held)
+
+no_other : (x : Option Store) (s : Store) → x ≡ None → ¬ (IsSomeAnd x (λ t. t ≢ s))
+no_other x s e h = let k : IsSomeAnd {T = Store} None (λ t. t ≢ s) = subst (λ y. IsSomeAnd y (λ t. t ≢ s)) e h in absurd k
+
+no_same : (x : Option Store) (s : Store) → x ≡ Some s → ¬ (IsSomeAnd x (λ t. t ≢ s))
+no_same x s e h = let k : IsSomeAnd (Some s) (λ t. t ≢ s) = subst (λ y. IsSomeAnd y (λ t. t ≢ s)) e h in k refl
+
+clash_told : (op : Operation) (old new : Operations) → IsHeldOtherwise old op → new ≡ old → AnswersTell op old (refusal_text refusal.Clash) new
+clash_told op old new held same = record {
+  again = λ h. absurd (no_same _ op.1 h held);
+  clash = λ _. (refl, same);
+  full = λ h _. absurd (no_other _ op.1 h held);
+  told = λ h _. absurd (no_other _ op.1 h held);
+}
+
+does_tell : (ds : List Declaration) (word : List ℕ) (k : DeltaVersion) (p : Program) (s : Replica) (op : Operation) (x : Reply) (t : Replica) → IsDeclared p op → Does p s (act.Tell op) x t
+    → AnswersTell op s.operations (replied_text ds word k x) t.operations
+does_tell ds word k p s op (reply.Told added.New) t declared d = record {
+  again = λ h. absurd (new_unheld s.operations op d.new h);
+  clash = λ h. absurd (no_other _ op.1 d.new h);
+  full = λ _ l. let room = d.room in absurd (omega (arith, l, room));
+  told = λ _ _. (refl, ap (λ r. r.operations) d.after);
+}
+does_tell ds word k p s op (reply.Told added.Again) t declared d = record {
+  again = λ _. (refl, ap (λ r. r.operations) d.2);
+  clash = λ h. absurd (no_same _ op.1 d.1 h);
+  full = λ h _. absurd (new_unheld s.operations op h d.1);
+  told = λ h _. absurd (new_unheld s.operations op h d.1);
+}
+does_tell ds word k p s op (reply.Refused refused.UnknownSymbol) t declared d = absurd (d.0 declared)
+does_tell ds word k p s op (reply.Refused (refused.Clash id)) t declared d = clash_told op s.operations t.operations d.0.2 (ap (λ r. r.operations) d.2)
+does_tell ds word k p s op (reply.Refused (refused.Full limit.Told)) t declared d = record {
+  again = λ h. absurd (new_unheld s.operations op d.0.1 h);
+  clash = λ h. absurd (no_other _ op.1 d.0.1 h);
+  full = λ _ _. (refl, ap (λ r. r.operations) d.2);
+  told = λ _ l. let over = d.0.2 in absurd (omega (arith, l, over));
+}
+does_tell ds word k p s op (reply.Refused refused.Memory) t declared d = absurd (d.1 refl)
+does_tell ds word k p s op (reply.Refused _) t declared d = absurd d.0
+does_tell ds word k p s op _ t declared d = absurd d
+
+-- of an operation whose atoms are declared
+pub tell_answers : (ds : List Declaration) (word : List ℕ) (k : DeltaVersion) (p : Program) (w v : Replicas) (r : ℕ) (op : Operation) (x : Answer) → IsDeclared p op → Happens p w (event.At r (act.Tell op)) x v
+    → AnswersAt (operations_held w) r (AnswersTell op) (answer_text ds word k x) (operations_held v)
+tell_answers ds word k p w v r op (answer.Replied x) declared h = answers_at w v r (AnswersTell op) (replied_text ds word k x) h.before h.after h.there h.world (does_tell ds word k p h.before op x h.after declared h.changed)
+tell_answers ds word k p w v r op answer.UnknownSymbol declared h = absurd (h.1 declared)
+tell_answers ds word k p w v r op answer.NoReplica declared h = none_answers w v r (AnswersTell op) h.0 h.2
+
+-- of an operation that is spelt with declared names, after which a pool may be rested
+pub told : (p : Program) (w v : Replicas) (new : List Operations) (r : ℕ) (o : NamedOperation) (op : Operation) (x : Answer) → Some op ≡ declared_operation (declarations p) o
+    → Happens p w (event.At r (act.Tell op)) x v → new ≡ operations_held v
+    → AnswersAtoms (operations_held w) r o.id (named_atoms (declarations p) o.atoms) (reply_text (declarations p) (replies.Answered x)) new
+told p w v new r o op x known h e =
+    let ds = declarations p in
+    subst (AnswersAtoms (operations_held w) r o.id (named_atoms ds o.atoms) (reply_text ds (replies.Answered x))) (sym e)
+    (tell_known ds (operations_held w) (operations_held v) r o op (reply_text ds (replies.Answered x)) known
+    (tell_answers ds (codes "merged ") version.Two p w v r op x (spelt_declared p o op known) h))

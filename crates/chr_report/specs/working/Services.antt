@@ -1,0 +1,74 @@
+-- The replicas that answer command lines: what they hold, and what is kept of them from line to line.
+use Rattle.std.specs.Prelude.{◌≡◌, ℕ, Bool, true, false, List, All, map, Some, ⊤}
+use Rattle.std.specs.FinMap as finite
+use Rattle.chr_base.specs.declared.program.Program.{Program}
+use Rattle.chr_base.specs.Programs.{rules_of}
+use Rattle.chr_base.specs.Stores.{Store}
+use Rattle.chr_base.specs.Rules.{Step}
+use Rattle.chr_base.specs.Rewriting.{IsAtRest}
+use Rattle.chr_ops.specs.declared.id.OpId.{OpId}
+use Rattle.chr_ops.specs.Operations.{Operations}
+use Rattle.chr_ops.specs.Summaries.{IsApart}
+use Rattle.chr_replica.specs.Replicas.{Replica, IsDeclared, IsSound}
+use Rattle.chr_acts.specs.declared.act.Act.{Act}
+use Rattle.chr_acts.specs.declared.act.Act.TheVariants as act
+use Rattle.chr_acts.specs.declared.reply.Reply.TheVariants as reply
+use Rattle.chr_worlds.specs.Worlds.{Replicas, IsAt}
+use Rattle.chr_worlds.specs.Sharing.{shared_program}
+use Rattle.chr_worlds.specs.declared.event.Event.{Event}
+use Rattle.chr_worlds.specs.declared.event.Event.TheVariants as event
+use Rattle.chr_worlds.specs.declared.answer.Answer.{Answer}
+use Rattle.chr_worlds.specs.declared.answer.Answer.TheVariants as answer
+use Rattle.chr_report.specs.declared.service.Service.{Service}
+
+-- its program
+abbrev pub served : Service → Program
+served s = shared_program s.world
+
+-- the operations of replicas
+abbrev pub operations_held : Replicas → List Operations
+operations_held w = map (λ t. t.operations) w
+
+-- those of its replicas
+abbrev pub held : Service → List Operations
+held s = operations_held s.world.replicas
+
+-- between lines no part of a replica is out, and all that it was told is declared
+pub record IsIdle (p : Program) (s : Replica) : Type 0 where
+  pub out : s.out ≡ finite.empty
+  pub declared : (id : OpId) (b : Store) → finite.get s.operations id ≡ Some b → IsDeclared p (id, b)
+
+abbrev pub AreBetweenLines : Program → Replicas → Type 0
+AreBetweenLines p w = All (IsSound p) w × All (IsIdle p) w
+
+abbrev pub IsBetweenLines : Service → Type 0
+IsBetweenLines s = AreBetweenLines (served s) s.world.replicas
+
+-- the replica of a number, if any, is at rest
+abbrev pub AreAtRest : Service → ℕ → Type 0
+AreAtRest s r = (t : Replica) → IsAt s.world.replicas r t → IsAtRest (Step (rules_of (served s))) t.pool
+
+-- what lines ask for: nothing of steps and leases
+abbrev pub IsLineAct : Act → Type 0
+IsLineAct (act.Tell op) = ⊤
+IsLineAct (act.Merge ops) = ⊤
+IsLineAct act.Settle = ⊤
+IsLineAct act.Show = ⊤
+IsLineAct act.Summary = ⊤
+IsLineAct (act.Lacks summary) = ⊤
+IsLineAct _ = ⊥
+
+abbrev pub IsLineEvent : Event → Type 0
+IsLineEvent (event.At r a) = IsLineAct a
+IsLineEvent (event.Sync a b) = ⊤
+IsLineEvent (event.Work r number steps) = ⊥
+
+-- memory was refused to a pool's rest
+abbrev pub was_stopped : Answer → Bool
+was_stopped (answer.Replied (reply.Stopped n)) = true
+was_stopped _ = false
+
+-- a summary's ranges are as long as possible
+abbrev pub HasLongRanges : Answer → Type 0
+HasLongRanges (answer.Replied (reply.Summed rs)) = IsApart rs
+HasLongRanges _ = ⊤

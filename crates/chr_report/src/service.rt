@@ -1,0 +1,328 @@
+//! Replicas that are asked what command lines say.
+ghost use Rattle.std.specs.Prelude.{◌≡◌, ◌≤◌, All, IfOk, OnOk, map, replicate};
+ghost use Rattle.std.specs.Arc.{arc_value};
+ghost use Rattle.std.specs.FinMap as finite;
+ghost use Rattle.chr_join.specs.AcceptedPrograms.{program_in};
+ghost use Rattle.chr_base.specs.Programs.{declarations, rules_of};
+ghost use Rattle.chr_json.specs.Reads.{command_view, raw_atom_view, raw_op_view, HasIds, IsSized, IsSizedOperation};
+ghost use Rattle.chr_exchange.specs.Names.{declared_operations, named_atoms};
+ghost use Rattle.chr_worlds.specs.Worlds.{Happens};
+ghost use Rattle.chr_worlds.specs.declared.limits.TheConstants.{MAX_REPLICAS};
+ghost use Rattle.chr_report.specs.Answers.{Answers, AnswersAt, AnswersAtoms, AnswersBetween, AnswersLacks};
+ghost use Rattle.chr_report.specs.Answers.{AnswersOperations, AnswersSaid, AnswersShow, AnswersSummary};
+ghost use Rattle.chr_report.specs.working.ReplyTexts.{reply_text, IsWritable};
+ghost use Rattle.chr_report.specs.working.Services.{held, served, was_stopped};
+ghost use Rattle.chr_report.specs.working.Services.{AreAtRest, HasLongRanges, IsLineEvent, IsBetweenLines};
+
+use crate::reply::{Refusal, Reply};
+use chr_acts::{Act, OpList, Reply as ActReply};
+use chr_base::program::Program;
+use chr_exchange::{declared_operation, declared_operations};
+use chr_join::Accepted;
+use chr_json::{Command, DeltaVersion, LineFault, RawOp, read_line};
+use chr_ops::{IdRange, OpId, Summary};
+use chr_replica::laws::events_keep_replicas_sound;
+use chr_worlds::laws::runs_keep_replicas_sound;
+use chr_worlds::{Answer, Event, World};
+use std::alloc::{AllocError, Global};
+use std::sync::Arc;
+
+/// As many told atoms wait at most in a replica's pool for it to be rested, before those of one line more come.
+const MOST_WAITING: u64 = 1024;
+
+/// Replicas that answer command lines. `rested` has for each of them how many atoms it had been told when its pool was
+/// rested last.
+#[derive(Drop)]
+pub(crate) struct Service {
+    pub world: World,
+    pub rested: Vec<u64>,
+}
+
+/// Whether memory was refused to a pool's rest.
+fn was_stopped(answer: &Answer) -> bool
+    ensures { result ≡ was_stopped answer.now }
+{
+    matches!(answer, Answer::Replied(ActReply::Stopped(_)))
+}
+
+/// The ranges of a summary that is answered are as long as possible, as its type keeps. It does nothing but look into
+/// the answer, for its contract.
+fn look_into(answer: &Answer)
+    ensures { HasLongRanges answer.now }
+{
+    if let Answer::Replied(ActReply::Summed(summary)) = answer {
+        let _ranges = summary.ranges();
+    }
+}
+
+/// The place of a replica's number in a list, if any list is as long.
+fn place_of(replica: u64) -> Option<usize> {
+    usize::try_from(replica.checked_sub(1)?).ok()
+}
+
+/// Noughts, so many.
+fn noughts(alloc: Global, count: u32) -> Result<Vec<u64>, AllocError> {
+    let mut list = Vec::new(alloc);
+    for _place in 0..count {
+        list.push(0)?;
+    }
+    Ok(list)
+}
+
+impl Service {
+    /// So many replicas that were told nothing, 1 to 16.
+    pub(crate) fn open(
+        alloc: Global,
+        accepted: Accepted,
+        replicas: u32,
+    ) -> Result<Service, AllocError>
+        requires { (1 ≤ replicas) × (replicas ≤ MAX_REPLICAS) }
+        ensures ready { IfOk result IsBetweenLines }
+        ensures program { IfOk result (λ service. service.world.accepted ≡ accepted) }
+        ensures operations { IfOk result (λ service. held service ≡ replicate replicas finite.empty) }
+    {
+        events_keep_replicas_sound();
+        let accepted = Arc::new(alloc, accepted)?;
+        Ok(Service {
+            world: World::open(alloc, accepted, replicas)?,
+            rested: noughts(alloc, replicas)?,
+        })
+    }
+
+    /// Its program.
+    pub(crate) fn program(&self) -> &Program
+        ensures { result.now ≡ served self.now }
+    {
+        self.world.program().program()
+    }
+
+    /// How many atoms a replica was told, and 0 where there is none.
+    fn told(&self, replica: u64) -> u64 {
+        match self.world.board(replica) {
+            Some(board) => board.ops().told(),
+            None => 0,
+        }
+    }
+
+    /// How many of them wait since its pool was rested last.
+    fn waiting(&self, replica: u64) -> u64 {
+        let Some(place) = place_of(replica) else {
+            return 0;
+        };
+        match self.rested.get(place) {
+            Some(rested) => self.told(replica).saturating_sub(*rested),
+            None => 0,
+        }
+    }
+
+    /// Notes that a replica's pool is at rest.
+    fn note_rest(&mut self, replica: u64)
+        ensures { self.new.world ≡ self.old.world }
+    {
+        let told = self.told(replica);
+        if let Some(place) = place_of(replica) {
+            if let Some(rested) = self.rested.get_mut(place) {
+                *rested = told;
+            }
+        }
+    }
+
+    /// Lets an event of a line happen.
+    fn act(&mut self, alloc: Global, event: &Event) -> Result<Answer, AllocError>
+        requires ready { IsBetweenLines self.old }
+        requires line { IsLineEvent event.now }
+        ensures ready { OnOk result (IsBetweenLines self.new) }
+        ensures program { self.new.world.accepted ≡ self.old.world.accepted }
+        ensures happens { IfOk result (λ answer.
+            Happens (served self.old) self.old.world.replicas event.now answer self.new.world.replicas) }
+    {
+        runs_keep_replicas_sound();
+        self.world.act(alloc, event)
+    }
+
+    /// Rests a replica's pool, where there is that replica.
+    fn settle(&mut self, alloc: Global, replica: u64) -> Result<(), AllocError>
+        requires { IsBetweenLines self.old }
+        ensures ready { OnOk result (IsBetweenLines self.new) }
+        ensures program { self.new.world.accepted ≡ self.old.world.accepted }
+        ensures operations { OnOk result (held self.new ≡ held self.old) }
+        ensures rests { OnOk result (AreAtRest self.new replica) }
+    {
+        let answer = self.act(alloc, &Event::At(replica, Act::Settle))?;
+        if was_stopped(&answer) {
+            return Err(AllocError);
+        }
+        self.note_rest(replica);
+        Ok(())
+    }
+
+    /// Rests a replica's pool where many told atoms wait in it. They leave memory as they come then, where the rules
+    /// take them out.
+    fn rest_many(&mut self, alloc: Global, replica: u64) -> Result<(), AllocError>
+        requires { IsBetweenLines self.old }
+        ensures ready { OnOk result (IsBetweenLines self.new) }
+        ensures program { self.new.world.accepted ≡ self.old.world.accepted }
+        ensures operations { OnOk result (held self.new ≡ held self.old) }
+    {
+        if self.waiting(replica) > MOST_WAITING {
+            return self.settle(alloc, replica);
+        }
+        Ok(())
+    }
+
+    /// Tells a replica an operation.
+    fn tell(&mut self, alloc: Global, replica: u64, raw: &RawOp) -> Result<Reply, AllocError>
+        requires ready { IsBetweenLines self.old }
+        requires sized { IsSizedOperation raw.now }
+        ensures ready { OnOk result (IsBetweenLines self.new) }
+        ensures program { self.new.world.accepted ≡ self.old.world.accepted }
+        ensures writable { IfOk result IsWritable }
+        ensures answer { IfOk result (λ reply. AnswersAtoms (held self.old) replica raw.now.id
+            (named_atoms (declarations (served self.old)) (map raw_atom_view raw.now.atoms.items))
+            (reply_text (declarations (served self.old)) reply) (held self.new)) }
+    {
+        let Some(op) = declared_operation(alloc, self.program(), raw)? else {
+            return Ok(Reply::Refused(Refusal::UnknownSymbol));
+        };
+        let answer = self.act(alloc, &Event::At(replica, Act::Tell(op)))?;
+        self.rest_many(alloc, replica)?;
+        Ok(Reply::Answered(answer))
+    }
+
+    /// Merges operations into those of a replica.
+    fn merge(&mut self, alloc: Global, replica: u64, raws: &[RawOp]) -> Result<Reply, AllocError>
+        requires ready { IsBetweenLines self.old }
+        requires sized { All IsSizedOperation raws.now }
+        ensures ready { OnOk result (IsBetweenLines self.new) }
+        ensures program { self.new.world.accepted ≡ self.old.world.accepted }
+        ensures writable { IfOk result IsWritable }
+        ensures answer { IfOk result (λ reply. AnswersOperations (held self.old) replica
+            (declared_operations (declarations (served self.old)) (map raw_op_view raws.now))
+            (reply_text (declarations (served self.old)) reply) (held self.new)) }
+    {
+        let Some(ops) = declared_operations(alloc, self.program(), raws)? else {
+            return Ok(Reply::Refused(Refusal::UnknownSymbol));
+        };
+        let answer = self.act(alloc, &Event::At(replica, Act::Merge(OpList::of(ops))))?;
+        self.rest_many(alloc, replica)?;
+        Ok(Reply::Answered(answer))
+    }
+
+    /// Gives a replica what another holds and it lacks.
+    fn sync(&mut self, alloc: Global, from: u64, to: u64) -> Result<Reply, AllocError>
+        requires { IsBetweenLines self.old }
+        ensures ready { OnOk result (IsBetweenLines self.new) }
+        ensures program { self.new.world.accepted ≡ self.old.world.accepted }
+        ensures writable { IfOk result IsWritable }
+        ensures answer { IfOk result (λ reply. AnswersBetween (held self.old) from to
+            (reply_text (declarations (served self.old)) reply) (held self.new)) }
+    {
+        let answer = self.act(alloc, &Event::Sync(from, to))?;
+        self.rest_many(alloc, to)?;
+        Ok(Reply::Synced(answer))
+    }
+
+    /// Rests a replica's pool and shows it.
+    fn show(&mut self, alloc: Global, replica: u64) -> Result<Reply, AllocError>
+        requires { IsBetweenLines self.old }
+        ensures ready { OnOk result (IsBetweenLines self.new) }
+        ensures program { self.new.world.accepted ≡ self.old.world.accepted }
+        ensures writable { IfOk result IsWritable }
+        ensures answer { IfOk result (λ reply. AnswersAt (held self.old) replica
+            (AnswersShow (declarations (served self.old)) (rules_of (served self.old)))
+            (reply_text (declarations (served self.old)) reply) (held self.new)) }
+    {
+        self.settle(alloc, replica)?;
+        let answer = self.act(alloc, &Event::At(replica, Act::Show))?;
+        Ok(Reply::Answered(answer))
+    }
+
+    /// Tells which ids a replica's operations have.
+    fn summary(&mut self, alloc: Global, replica: u64) -> Result<Reply, AllocError>
+        requires { IsBetweenLines self.old }
+        ensures ready { OnOk result (IsBetweenLines self.new) }
+        ensures program { self.new.world.accepted ≡ self.old.world.accepted }
+        ensures writable { IfOk result IsWritable }
+        ensures answer { IfOk result (λ reply. AnswersAt (held self.old) replica AnswersSummary
+            (reply_text (declarations (served self.old)) reply) (held self.new)) }
+    {
+        let answer = self.act(alloc, &Event::At(replica, Act::Summary))?;
+        look_into(&answer);
+        Ok(Reply::Answered(answer))
+    }
+
+    /// Tells a replica's operations whose ids the ranges don't cover.
+    fn lacks(
+        &mut self,
+        alloc: Global,
+        replica: u64,
+        ranges: Vec<IdRange>,
+        version: DeltaVersion,
+    ) -> Result<Reply, AllocError>
+        requires ready { IsBetweenLines self.old }
+        requires sized { All HasIds ranges.items }
+        ensures ready { OnOk result (IsBetweenLines self.new) }
+        ensures program { self.new.world.accepted ≡ self.old.world.accepted }
+        ensures writable { IfOk result IsWritable }
+        ensures answer { IfOk result (λ reply. AnswersAt (held self.old) replica
+            (AnswersLacks (declarations (served self.old)) ranges.items version)
+            (reply_text (declarations (served self.old)) reply) (held self.new)) }
+    {
+        let summary = Summary::of(ranges)?;
+        let answer = self.act(alloc, &Event::At(replica, Act::Lacks(summary)))?;
+        Ok(Reply::Lacked(version, answer))
+    }
+
+    /// Does what a command says.
+    fn obey(&mut self, alloc: Global, command: Command) -> Result<Reply, AllocError>
+        requires ready { IsBetweenLines self.old }
+        requires sized { IsSized command }
+        ensures ready { OnOk result (IsBetweenLines self.new) }
+        ensures program { self.new.world.accepted ≡ self.old.world.accepted }
+        ensures writable { IfOk result IsWritable }
+        ensures answer { IfOk result (λ reply. AnswersSaid (declarations (served self.old))
+            (rules_of (served self.old)) (held self.old) (command_view command.entry)
+            (reply_text (declarations (served self.old)) reply) (held self.new)) }
+    {
+        match command {
+            Command::Tell {
+                replica,
+                origin,
+                number,
+                atoms,
+            } => {
+                let id = OpId { origin, number };
+                self.tell(alloc, replica, &RawOp { id, atoms })
+            }
+            Command::Show { replica } => self.show(alloc, replica),
+            Command::Sync { from, to } => self.sync(alloc, from, to),
+            Command::Summary { replica } => self.summary(alloc, replica),
+            Command::Lacks {
+                replica,
+                ranges,
+                version,
+            } => self.lacks(alloc, replica, ranges, version),
+            Command::Merge {
+                replica,
+                operations,
+            } => self.merge(alloc, replica, &operations),
+        }
+    }
+
+    /// Does what a line says, which comes without its end, and answers it.
+    pub(crate) fn reply(&mut self, alloc: Global, line: &[u8]) -> Result<Reply, AllocError>
+        requires { IsBetweenLines self.old }
+        ensures ready { OnOk result (IsBetweenLines self.new) }
+        ensures program { self.new.world.accepted ≡ self.old.world.accepted }
+        ensures writable { IfOk result IsWritable }
+        ensures answer { IfOk result (λ reply. Answers (declarations (served self.old)) (rules_of (served self.old))
+            (held self.old) line.now (reply_text (declarations (served self.old)) reply) (held self.new)) }
+    {
+        match read_line(alloc, line) {
+            Ok(command) => self.obey(alloc, command),
+            Err(LineFault::Shape) => Ok(Reply::Refused(Refusal::Shape)),
+            Err(LineFault::BadLine) => Ok(Reply::Refused(Refusal::BadLine)),
+            Err(LineFault::Memory) => Err(AllocError),
+        }
+    }
+}
