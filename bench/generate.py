@@ -18,6 +18,8 @@
     generate.py minimum N           a program with one rule, N operations of one atom each, of which one atom stays, and a `show`
     generate.py renames N           a program with one rule, N operations of one atom each, each of which takes a step, and a `show`
     generate.py paths N             a program with one rule, N operations of one atom each, which all stay, and a `show`
+    generate.py exchange N          for `run --replicas 8`: the same program and N operations told to eight replicas in turn, which exchange
+                                    what they hold twice round, and each shows its summary and the last its store
 
 Of the program texts those above `dominated` have at most 65,536 bytes, and nearly as many.
 """
@@ -107,6 +109,21 @@ def with_rule(clauses, atom, count):
     yield '["show",1]\n'
 
 
+def exchange(count, replicas=8):
+    """Operations told to replicas in turn, each by an origin of its own, and two rounds of exchanges between neighbours."""
+    clauses, path = RULED["paths"]
+    yield clauses + "\n---\n"
+    for number in range(count):
+        replica = number % replicas + 1
+        yield f'["tell",{replica},[{replica},{number // replicas}],[{path(number)}]]\n'
+    for _ in range(2):
+        for replica in range(1, replicas + 1):
+            yield f'["sync",{replica},{replica % replicas + 1}]\n'
+    for replica in range(1, replicas + 1):
+        yield f'["summary",{replica}]\n'
+    yield f'["show",{replicas}]\n'
+
+
 RULED = {
     "minimum": (
         ":- chr_constraint min/1.\nm @ min(X) \\ min(Y) <=> X =< Y | true.",
@@ -146,6 +163,8 @@ def main(words):
     elif len(words) == 2 and words[0] in ("tells", "wide") and words[1].isdigit():
         sys.stdout.writelines(tells(int(words[1]), 1 if words[0] == "tells" else 64))
         sys.stdout.writelines(show)
+    elif len(words) == 2 and words[0] == "exchange" and words[1].isdigit() and not show:
+        sys.stdout.writelines(exchange(int(words[1])))
     elif len(words) == 2 and words[0] in RULED and words[1].isdigit() and not show:
         sys.stdout.writelines(with_rule(*RULED[words[0]], int(words[1])))
     else:
