@@ -21,6 +21,6 @@ NoInstanceWith rules s a =
     → ¬ IsWith (store_of (heads_at v r)) (store_of (heads_at v r)) s a
 
 -- one step of the store with the atom, which leaves a part of the store, and these atoms beside it
-pub record Reacts (rules : List Rule) (a : Atom) (s left : Store) (out : Store) : Type 0 where
+pub record StepsWith (rules : List Rule) (a : Atom) (s left : Store) (out : Store) : Type 0 where
   pub part : IsWithin left s
   pub step : Step rules (s ⊕ one a) (left ⊕ out)

@@ -9,7 +9,7 @@ use Rattle.chr_base.specs.Sameness.{parts_of}
 use Rattle.chr_base.specs.Stores.{Store, store_of}
 use Rattle.chr_plans.specs.declared.rows.Seat.{Seat}
 use Rattle.chr_plans.specs.Seats.{NoPartners}
-use Rattle.chr_actives.specs.Actives.{one, IsWith, NoInstanceWith, Reacts}
+use Rattle.chr_actives.specs.Actives.{one, IsWith, NoInstanceWith, StepsWith}
 use Rattle.chr_actives.specs.Grids.{Grid, contents, rows_in, without_rows, SitIn}
 
 abbrev pub EmptyRests : Type 0
@@ -28,14 +28,14 @@ RemovedReacts =
     (rules : List Rule) (i : ℕ) (r : Rule) (v : Valuation) (s : Store) (a : Atom) → slice_get rules i ≡ Some r
     → IsTrue (guard_holds v r.guard.items)
     → IsWith (store_of (atoms_at v r.removed.items)) (store_of (heads_at v r)) s a
-    → Reacts rules a s (s ⊖ (store_of (atoms_at v r.removed.items) ⊖ one a)) (store_of (atoms_at v r.body.items))
+    → StepsWith rules a s (s ⊖ (store_of (atoms_at v r.removed.items) ⊖ one a)) (store_of (atoms_at v r.body.items))
 
 abbrev pub KeptReacts : Type 0
 KeptReacts =
     (rules : List Rule) (i : ℕ) (r : Rule) (v : Valuation) (s : Store) (a : Atom) → slice_get rules i ≡ Some r
     → IsTrue (guard_holds v r.guard.items)
     → IsWith (store_of (atoms_at v r.kept.items)) (store_of (heads_at v r)) s a
-    → Reacts rules a s (s ⊖ store_of (atoms_at v r.removed.items)) (store_of (atoms_at v r.body.items) ⊕ one a)
+    → StepsWith rules a s (s ⊖ store_of (atoms_at v r.removed.items)) (store_of (atoms_at v r.body.items) ⊕ one a)
 
 abbrev pub RowsAreEnough : Type 0
 RowsAreEnough =

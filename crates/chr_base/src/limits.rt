@@ -29,3 +29,6 @@ pub const MAX_WEIGHT: u64 = 1_000_000;
 
 /// The greatest number of atoms of an operation.
 pub const MAX_OPERATION: usize = 64;
+
+/// The most replicas of a world.
+pub const MAX_REPLICAS: u32 = 16;

@@ -87,10 +87,11 @@ impl Index {
         self.hashes.len()
     }
 
-    /// Forgets all rows. The room stays.
+    /// Forgets all rows. The room stays, and is room for as many.
     pub fn clear(&mut self)
         ensures rows { self.new.rows ≡ [] }
         ensures room { self.new.room ≡ self.old.room }
+        ensures fits { length self.old.rows ≤ self.new.room }
     {
         self.hashes.clear();
         self.alive.clear();

@@ -21,7 +21,7 @@ use Rattle.chr_base.proofs.Atoms.{atom_total}
 use Rattle.chr_base.proofs.FinBags.{count-of_list}
 use Rattle.chr_base.proofs.Stores.{same_store, count_plus, count_minus, store_of-append, plus_assoc}
 use Rattle.chr_base.proofs.Steps.{grows}
-use Rattle.chr_tables.specs.Contents.{Contents, rows_of, columns_of}
+use Rattle.chr_tables.specs.Contents.{Contents, rows_of, index_columns}
 use Rattle.chr_plans.specs.declared.rows.Seat.{Seat}
 use Rattle.chr_plans.specs.Plans.{pattern_at}
 use Rattle.chr_plans.specs.Seats.{head, seat, no_seat, atom_in, IsSeated, IsOther}
@@ -194,8 +194,8 @@ module _ (rules : List Rule) (i : ℕ) (r : Rule) (v : Valuation) (s : Store) (p
   ]
 
 -- a pool is at rest without rows
-pub left_over : (rules : List Rule) (groups : List Group) (ts us : List Contents) (xs : List Atom) (ss : List Seat) → grid us ≡ without_rows (grid ts) ss → columns_of us ≡ columns_of ts
-    → IsSetUp rules groups (rows_of ts) (columns_of ts) (length ts) → IsSetUp rules groups (rows_of us) (columns_of us) (length us)
+pub left_over : (rules : List Rule) (groups : List Group) (ts us : List Contents) (xs : List Atom) (ss : List Seat) → grid us ≡ without_rows (grid ts) ss → index_columns us ≡ index_columns ts
+    → IsSetUp rules groups (rows_of ts) (index_columns ts) (length ts) → IsSetUp rules groups (rows_of us) (index_columns us) (length us)
 left_over rules groups ts us xs ss e f up = record {
   tables = (let n = as_many_left ts us ss e in omega (arith, n, up.tables));
   few = up.few;

@@ -18,3 +18,4 @@ pub mod Sitting
 pub mod Takings
 pub mod Passing
 pub mod OffEnd
+pub mod Tidying

@@ -10,7 +10,7 @@ use Rattle.chr_plans.specs.Rows.{Columns}
 use Rattle.chr_plans.specs.Plans.{pattern_at, columns_of}
 use Rattle.chr_columns.specs.declared.groups.Group.{Group}
 use Rattle.chr_columns.specs.working.Groups.{table_of_pattern}
-use Rattle.chr_columns.specs.working.Resting.{AreIndexed}
+use Rattle.chr_columns.specs.working.Resting.{AreLookupsIndexed}
 use Rattle.chr_columns.specs.declared.making.Keys.{Keys}
 use Rattle.chr_columns.specs.working.Making.{lists_of, columns_in, StayIndexed, Grows}
 
@@ -35,8 +35,8 @@ pub index_at : (keys : List Keys) (t : ℕ) (new : Keys) (i : ℕ) (cs : List �
 index_at keys t new i cs l e = ap (λ xs. slice_get xs i) (put_at keys t new l) ∙ e
 
 -- one look-up more
-pub indexed_more : (r : Rule) (groups : List Group) (before after : Columns) (ls : List Lookup) (l : Lookup) → Grows before after → AreIndexed r groups before ls
-    → after l.table l.index ≡ Some (columns_of l.partner.key.items) → l.table ≡ table_of_pattern groups (pattern_at r l.partner.place) → AreIndexed r groups after (ls ++ l ∷ [])
+pub indexed_more : (r : Rule) (groups : List Group) (before after : Columns) (ls : List Lookup) (l : Lookup) → Grows before after → AreLookupsIndexed r groups before ls
+    → after l.table l.index ≡ Some (columns_of l.partner.key.items) → l.table ≡ table_of_pattern groups (pattern_at r l.partner.place) → AreLookupsIndexed r groups after (ls ++ l ∷ [])
 indexed_more r groups before after ls l grows old index table j k h here = elim (cases_lt j (length ls)) as (λ _. (after k.table k.index ≡ Some (columns_of k.partner.key.items)) × (k.table ≡ table_of_pattern groups (pattern_at r k.partner.place))) [
   | inl less ↦ (let o = old j k less (sym (get_or_append_left ls (l ∷ []) k j less) ∙ here) in (grows k.table k.index _ o.0, o.1))
   | inr most ↦ (let n = length-append ls (l ∷ []) in

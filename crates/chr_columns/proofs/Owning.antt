@@ -14,7 +14,7 @@ use Rattle.chr_base.specs.Sameness.{parts_of}
 use Rattle.chr_base.specs.Stores.{Store, store_of}
 use Rattle.chr_base.proofs.Stores.{plus_empty}
 use Rattle.chr_base.proofs.SameSteps.{same_rule}
-use Rattle.chr_columns.specs.working.Own.{IsOwn, StandsAt}
+use Rattle.chr_columns.specs.working.Own.{IsOwn, IsRuleAt}
 use Rattle.chr_columns.proofs.Pools.{no_store}
 
 -- under the rules at rest, an own rule has no step
@@ -31,14 +31,14 @@ nothing_fresh b xs e h = no_length xs (eqb-true _ _ (sym h ∙ e))
     no_length (y ∷ ys) l = absurd (omega (arith, l))
 
 -- a rule that stands there says the same
-pub stands : (rules : List Rule) (n : ℕ) (r q : Rule) (b : Bool) → slice_get rules n ≡ Some q → IsTrue b ↔ (parts_of r ≡ parts_of q) → IsTrue b ↔ StandsAt rules n r
+pub stands : (rules : List Rule) (n : ℕ) (r q : Rule) (b : Bool) → slice_get rules n ≡ Some q → IsTrue b ↔ (parts_of r ≡ parts_of q) → IsTrue b ↔ IsRuleAt rules n r
 stands rules n r q b e h = (λ t. (q, e, h.0 t), λ s. h.1 (s.2 ∙ ap parts_of (same_Some s.0 q (sym s.1 ∙ e))))
 
-pub none_stands : (rules : List Rule) (n : ℕ) (r : Rule) → slice_get rules n ≡ None → IsTrue false ↔ StandsAt rules n r
+pub none_stands : (rules : List Rule) (n : ℕ) (r : Rule) → slice_get rules n ≡ None → IsTrue false ↔ IsRuleAt rules n r
 none_stands rules n r e = (λ t. absurd (true≢false (sym t)), λ s. absurd (none-some s.0 (sym e ∙ s.1)))
 
 -- its steps are steps of the rules
-pub carried_one : (rules : List Rule) (n : ℕ) (r : Rule) (s t : Store) → StandsAt rules n r → Step (r ∷ []) s t → Step rules s t
+pub carried_one : (rules : List Rule) (n : ℕ) (r : Rule) (s t : Store) → IsRuleAt rules n r → Step (r ∷ []) s t → Step rules s t
 carried_one rules n r s t at h = by h.0 h.3
   where
     by : (i : ℕ) → slice_get (r ∷ []) i ≡ Some h.1 → Step rules s t

@@ -16,7 +16,7 @@ use Rattle.chr_plans.specs.Seats.{head, NoPartners}
 use Rattle.chr_plans.proofs.Values.{no_term, term_at, argument_value, shape_known}
 use Rattle.chr_tables.specs.Contents.{Contents, HasArgument}
 use Rattle.chr_columns.specs.declared.candidates.Known.{Known}
-use Rattle.chr_columns.specs.working.Candidates.{IsKnown, Misses}
+use Rattle.chr_columns.specs.working.Candidates.{IsKnownConstant, Misses}
 use Rattle.chr_columns.specs.working.Finding.{only_table}
 use Rattle.chr_columns.specs.working.Listing.{rows_in_turn}
 use Rattle.chr_columns.proofs.Turns.{live_below, NoneAt}
@@ -69,7 +69,7 @@ others_passed known (x ∷ ts) fresh t from to e is l pass =
     (pass_there known t.rows (rows_in_turn ts fresh) from to l (subst (λ us. Pass known (rows_in_turn us fresh) (from - length t.rows) to) all pass))
 
 -- an atom without the argument is the first head of no instance
-pub missed : (r : Rule) (rows : Tables) (known : Option Known) (a : Atom) → IsKnown (pattern_at r 0) known → Misses known a → NoPartners r rows 0 a
+pub missed : (r : Rule) (rows : Tables) (known : Option Known) (a : Atom) → IsKnownConstant (pattern_at r 0) known → Misses known a → NoPartners r rows 0 a
 missed r rows None a is misses = absurd misses
 missed r rows (Some k) a is misses = λ heads seats s e.
     (let v : Valuation = s.instance.0 in
@@ -84,7 +84,7 @@ missed r rows (Some k) a is misses = λ heads seats s e.
     misses (ap (λ (b : Atom). slice_get b.args.items k.column) (sym e) ∙ here))
 
 -- the walk over the rows, where some are passed over
-pub none_passed : (rows : List (Option Atom)) (r : Rule) (known : Option Known) (from to : ℕ) → IsKnown (pattern_at r 0) known
+pub none_passed : (rows : List (Option Atom)) (r : Rule) (known : Option Known) (from to : ℕ) → IsKnownConstant (pattern_at r 0) known
     → ((n : ℕ) (a : Atom) → n < from → get_or rows n None ≡ Some a → NoneAt rows r 0 n a) → Pass known rows from to
     → (n : ℕ) (a : Atom) → n < to → get_or rows n None ≡ Some a → NoneAt rows r 0 n a
 none_passed rows r known from to is before pass n a l live = elim (cases_lt n from) as (λ _. NoneAt rows r 0 n a) [

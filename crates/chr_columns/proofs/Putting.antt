@@ -6,7 +6,7 @@ use Rattle.std.proofs.lemmas.List.{length-map, length-set, get_or_default, set-g
 use Rattle.chr_base.specs.declared.atom.Atom.{Atom}
 use Rattle.chr_base.specs.declared.rule.Rule.{Rule}
 use Rattle.chr_base.specs.FinBag.{◌⊕◌}
-use Rattle.chr_tables.specs.Contents.{Contents, no_table, rows_of, columns_of}
+use Rattle.chr_tables.specs.Contents.{Contents, no_table, rows_of, index_columns}
 use Rattle.chr_actives.specs.Actives.{one}
 use Rattle.chr_actives.specs.Grids.{Grid, contents, rows_in}
 use Rattle.chr_columns.specs.declared.groups.Group.{Group}
@@ -16,7 +16,7 @@ use Rattle.chr_columns.proofs.Finding.{table_of_most}
 use Rattle.chr_columns.proofs.Stored.{row_is, grid_set, keys_set, same_columns, contents_more, row_more}
 
 -- the table of each atom is there
-pub has_table : (rules : List Rule) (groups : List Group) (ts : List Contents) (a : Atom) → IsSetUp rules groups (rows_of ts) (columns_of ts) (length ts) → table_of_atom groups a < length ts
+pub has_table : (rules : List Rule) (groups : List Group) (ts : List Contents) (a : Atom) → IsSetUp rules groups (rows_of ts) (index_columns ts) (length ts) → table_of_atom groups a < length ts
 has_table rules groups ts a up = let m = table_of_most groups a.symbol (length a.args.items) in let n = up.tables in omega (arith, m, n)
 
 module _ (ts : List Contents) (t : ℕ) (x y : Contents) (a : Atom) (within : t < length ts) (here : x ≡ get_or ts t x) (rows : y.rows ≡ x.rows ++ Some a ∷ []) (keys : y.keys ≡ x.keys) where
@@ -31,8 +31,8 @@ module _ (ts : List Contents) (t : ℕ) (x y : Contents) (a : Atom) (within : t 
   pub stored_put : contents (grid (set ts t y)) ≡ contents (grid ts) ⊕ one a
   stored_put = ap contents grid_put ∙ contents_more (grid ts) t a (let n = length-map ts (λ (c : Contents). c.rows) in omega (arith, n, within))
 
-  pub set_up_put : (rules : List Rule) (groups : List Group) → t ≡ table_of_atom groups a → IsSetUp rules groups (rows_of ts) (columns_of ts) (length ts)
-      → IsSetUp rules groups (rows_of (set ts t y)) (columns_of (set ts t y)) (length (set ts t y))
+  pub set_up_put : (rules : List Rule) (groups : List Group) → t ≡ table_of_atom groups a → IsSetUp rules groups (rows_of ts) (index_columns ts) (length ts)
+      → IsSetUp rules groups (rows_of (set ts t y)) (index_columns (set ts t y)) (length (set ts t y))
   set_up_put rules groups e up =
       let same = same_columns (set ts t y) ts (keys_set ts t y (keys ∙ ap (λ (c : Contents). c.keys) it)) in
       record {

@@ -12,7 +12,7 @@ use Rattle.chr_plans.specs.Plans.{pattern_at}
 use Rattle.chr_plans.specs.Reactions.{FitsPlan, NoneBy, Reacts}
 use Rattle.chr_plans.specs.Seats.{head, IsSeated, NoPartners}
 use Rattle.chr_plans.proofs.Values.{shape_known}
-use Rattle.chr_tables.specs.Contents.{Contents, rows_of, columns_of}
+use Rattle.chr_tables.specs.Contents.{Contents, rows_of, index_columns}
 use Rattle.chr_actives.specs.Actives.{NoInstanceWith}
 use Rattle.chr_actives.specs.Grids.{contents}
 use Rattle.chr_actives.proofs.Around.{rows_are_enough}
@@ -43,7 +43,7 @@ module _ (rules : List Rule) (groups : List Group) (rows : Tables) (columns : Co
     | inr past ↦ absurd (let p = past.0 in omega (arith, l, p))
   ]
 
-module _ (rules : List Rule) (groups : List Group) (ts : List Contents) (up : IsSetUp rules groups (rows_of ts) (columns_of ts) (length ts)) (a : Atom) where
+module _ (rules : List Rule) (groups : List Group) (ts : List Contents) (up : IsSetUp rules groups (rows_of ts) (index_columns ts) (length ts)) (a : Atom) where
   -- where no plan of the atom's group finds partners, it has no instance with the tables
   pub none_with : ((g : Group) → slice_get groups (table_of_atom groups a) ≡ Some g → (k : ℕ) → k < length g.plans.items
       → NoneBy rules (rows_of ts) a (slice_get g.plans.items k))
@@ -71,8 +71,8 @@ reacting rules groups rows columns n up a t j g p heads seats e f h =
     (k.0, k.1, subst (λ (r : Rule). p.place < length (heads_of r)) same w.2, k.2, k.3)
 
 -- rows that were read are set up as they were
-pub same_set_up : (rules : List Rule) (groups : List Group) (ts us : List Contents) → rows_of us ≡ rows_of ts → columns_of us ≡ columns_of ts → length us ≡ length ts
-    → IsSetUp rules groups (rows_of ts) (columns_of ts) (length ts) → IsSetUp rules groups (rows_of us) (columns_of us) (length us)
+pub same_set_up : (rules : List Rule) (groups : List Group) (ts us : List Contents) → rows_of us ≡ rows_of ts → index_columns us ≡ index_columns ts → length us ≡ length ts
+    → IsSetUp rules groups (rows_of ts) (index_columns ts) (length ts) → IsSetUp rules groups (rows_of us) (index_columns us) (length us)
 same_set_up rules groups ts us e f n up = rw (e, f, n) up
 
 pub same_stored : (ts us : List Contents) → rows_of us ≡ rows_of ts → contents (grid us) ≡ contents (grid ts)

@@ -15,7 +15,7 @@ use Rattle.chr_base.proofs.ListEdits.{within_each, count_in_more}
 use Rattle.chr_base.proofs.Stores.{same_store, count_plus, count_minus, split}
 use Rattle.chr_plans.specs.declared.rows.Seat.{Seat}
 use Rattle.chr_plans.specs.Seats.{seat}
-use Rattle.chr_tables.specs.Contents.{Contents, no_table, rows_of, columns_of}
+use Rattle.chr_tables.specs.Contents.{Contents, no_table, rows_of, index_columns}
 use Rattle.chr_actives.specs.Actives.{one}
 use Rattle.chr_actives.specs.Grids.{live_atoms, contents, rows_in, without_rows, SitIn}
 use Rattle.chr_actives.proofs.Rows.{count_contents, rows_leave}
@@ -49,7 +49,7 @@ module _ (ts : List Contents) (t : ℕ) (x : Contents) (within : t < length ts) 
   row_at n a e = ap (λ (c : Contents). get_or c.rows n None) it ∙ e
 
   -- an atom is counted in its table
-  pub counted_here : (rules : List Rule) (groups : List Group) (a : Atom) → t ≡ table_of_atom groups a → IsSetUp rules groups (rows_of ts) (columns_of ts) (length ts)
+  pub counted_here : (rules : List Rule) (groups : List Group) (a : Atom) → t ≡ table_of_atom groups a → IsSetUp rules groups (rows_of ts) (index_columns ts) (length ts)
       → count (contents (grid ts)) a ≡ count_in atom_cmp a (live_atoms x.rows)
   counted_here rules groups a e up =
       count_contents a (grid ts)

@@ -14,7 +14,7 @@ use Rattle.chr_base.proofs.Stores.{same_store, count_plus}
 use Rattle.chr_plans.specs.declared.rows.Seat.{Seat}
 use Rattle.chr_plans.specs.Rows.{Tables}
 use Rattle.chr_plans.specs.Seats.{seat, no_seat}
-use Rattle.chr_tables.specs.Contents.{Contents, no_table, rows_of, columns_of}
+use Rattle.chr_tables.specs.Contents.{Contents, no_table, rows_of, index_columns}
 use Rattle.chr_actives.specs.Actives.{one}
 use Rattle.chr_actives.specs.Grids.{Grid, live_atoms, contents, rows_in, without_row, without_rows}
 use Rattle.chr_actives.proofs.Rows.{total_in, count_contents}
@@ -77,7 +77,7 @@ row_there ts t n e =
     )
 
 -- tables whose keys are the same have the same columns
-pub same_columns : (ts us : List Contents) → map (λ (c : Contents). c.keys) ts ≡ map (λ (c : Contents). c.keys) us → columns_of ts ≡ columns_of us
+pub same_columns : (ts us : List Contents) → map (λ (c : Contents). c.keys) ts ≡ map (λ (c : Contents). c.keys) us → index_columns ts ≡ index_columns us
 same_columns ts us e j t i = (
     ap (λ ks. slice_get ks i) (sym (get_or-map (λ (c : Contents). c.keys) ts t no_table) ∙ ap (λ ks. get_or ks t []) e ∙ get_or-map (λ (c : Contents). c.keys) us t no_table)) j
 

@@ -1,7 +1,7 @@
 //! Rows whose atom may be the first head of an instance.
 ghost use Rattle.std.specs.Prelude.{◌≡◌, ℕ, ◌+◌, ◌<◌, ◌≤◌, ◌^◌, length, get_or, Some, None};
 ghost use Rattle.chr_base.specs.declared.atom.Atom.{Atom as AtomValue};
-ghost use Rattle.chr_columns.specs.working.Candidates.{IsKnown, Misses, IsWithinAtom};
+ghost use Rattle.chr_columns.specs.working.Candidates.{IsKnownConstant, Misses, IsWithinAtom};
 ghost use Rattle.chr_columns.specs.working.Listing.{rows_in_turn};
 
 use chr_base::atom::Atom;
@@ -17,7 +17,7 @@ pub(crate) struct Known {
 
 /// The first argument of a pattern that is a constant, where there is one.
 pub(crate) fn known_argument(pattern: &Pattern) -> Option<Known>
-    ensures known { IsKnown pattern.now result }
+    ensures known { IsKnownConstant pattern.now result }
     ensures within { IsWithinAtom result }
 {
     for column in 0..pattern.args.len() {

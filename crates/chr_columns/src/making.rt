@@ -7,8 +7,8 @@ ghost use Rattle.chr_base.specs.Rules.{heads_of};
 ghost use Rattle.chr_plans.specs.Plans.{IsPlan, pattern_at, partners_of, columns_of};
 ghost use Rattle.chr_tables.specs.Contents.{rows_of};
 ghost use Rattle.chr_columns.specs.working.Groups.{table_of_pattern, IsGrouped, AreGrouped, AllGrouped};
-ghost use Rattle.chr_columns.specs.working.Resting.{stored, IsRested, AreIndexed, ArePlanned, HasPlan, HavePlans, AreCovered};
-ghost use Rattle.chr_columns.specs.working.Making.{way_of, ways_of, lists_of, columns_in, StayIndexed, Grows, KeepPlans};
+ghost use Rattle.chr_columns.specs.working.Resting.{stored, IsRested, AreLookupsIndexed, ArePlanned, HasPlan, HavePlans, AreCovered};
+ghost use Rattle.chr_columns.specs.working.Making.{made_way, made_ways, lists_of, columns_in, StayIndexed, Grows, KeepPlans};
 
 use crate::groups::{Group, groups_for, table_of};
 use crate::rested::Rested;
@@ -43,8 +43,8 @@ pub(crate) struct Keys {
 
 /// Whether it is by these columns in this order, and by this order of values.
 fn is_by(way: &Way, columns: &[usize], order: Option<usize>) -> bool
-    ensures by { OnTrue result (way_of way.now ≡ (columns.now, order)) }
-    ensures other { OnFalse result (way_of way.now ≡ (columns.now, order) → ⊥) }
+    ensures by { OnTrue result (made_way way.now ≡ (columns.now, order)) }
+    ensures other { OnFalse result (made_way way.now ≡ (columns.now, order) → ⊥) }
 {
     if way.columns.as_slice() != columns {
         return false;
@@ -58,8 +58,8 @@ fn is_by(way: &Way, columns: &[usize], order: Option<usize>) -> bool
 
 /// The index by these columns in this order and by this order of values, where there is one.
 fn index_by(keys: &Keys, columns: &[usize], order: Option<usize>) -> Option<usize>
-    ensures found { IfSome result (λ i. slice_get (ways_of keys.now) i ≡ Some (columns.now, order)) }
-    ensures none { IfNone result ((i : ℕ) → ¬ (slice_get (ways_of keys.now) i ≡ Some (columns.now, order))) }
+    ensures found { IfSome result (λ i. slice_get (made_ways keys.now) i ≡ Some (columns.now, order)) }
+    ensures none { IfNone result ((i : ℕ) → ¬ (slice_get (made_ways keys.now) i ≡ Some (columns.now, order))) }
 {
     for (i, way) in keys.ways.iter().enumerate() {
         if is_by(way, columns, order) {
@@ -76,8 +76,8 @@ fn index_for(
     order: Option<usize>,
 ) -> Result<usize, AllocError>
     ensures stay { StayIndexed (lists_of keys.old) (lists_of keys.new) }
-    ensures shared { (i : ℕ) → slice_get (ways_of keys.old) i ≡ Some (columns.items, order) → keys.new ≡ keys.old }
-    ensures index { IfOk result (λ i. slice_get (ways_of keys.new) i ≡ Some (columns.items, order)) }
+    ensures shared { (i : ℕ) → slice_get (made_ways keys.old) i ≡ Some (columns.items, order) → keys.new ≡ keys.old }
+    ensures index { IfOk result (λ i. slice_get (made_ways keys.new) i ≡ Some (columns.items, order)) }
 {
     if let Some(index) = index_by(keys, &columns, order) {
         return Ok(index);
@@ -130,7 +130,7 @@ fn plan_for(
     ensures place { IfOk result (λ p. p.place ≡ place) }
     ensures plan { IfOk result (λ p. IsPlan rule.now place (partners_of p.lookups.items)) }
     ensures indexed { IfOk result (λ p.
-        AreIndexed rule.now groups.now (columns_in keys.new.items) p.lookups.items) }
+        AreLookupsIndexed rule.now groups.now (columns_in keys.new.items) p.lookups.items) }
 {
     let partners = plan_of(rule, place);
     let mut lookups = ArrayVec::new();

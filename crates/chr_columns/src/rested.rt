@@ -2,7 +2,7 @@
 ghost use Rattle.std.specs.Prelude.{◌≡◌, ℕ, ◌<◌, ◌≤◌, length, IsTrue, is_some, IfSome, IfNone, OnOk, OnErr};
 ghost use Rattle.chr_base.specs.FinBag.{◌⊕◌};
 ghost use Rattle.chr_plans.specs.Seats.{seat, atom_in};
-ghost use Rattle.chr_tables.specs.Contents.{rows_of, columns_of};
+ghost use Rattle.chr_tables.specs.Contents.{rows_of, index_columns};
 ghost use Rattle.chr_actives.specs.Actives.{one, NoInstanceWith};
 ghost use Rattle.chr_actives.specs.Grids.{without_rows};
 ghost use Rattle.chr_columns.specs.working.Resting.{grid, stored, IsRested, IsReacting};
@@ -37,7 +37,7 @@ pub(crate) fn kill_all(tables: &mut Tables, seats: &[Seat])
     requires { (q : ℕ) → q < length seats.now →
         IsTrue (is_some (atom_in (rows_of tables.old.tables.items) (seat seats.now q))) }
     ensures rows { grid tables.new.tables.items ≡ without_rows (grid tables.old.tables.items) seats.now }
-    ensures columns { columns_of tables.new.tables.items ≡ columns_of tables.old.tables.items }
+    ensures columns { index_columns tables.new.tables.items ≡ index_columns tables.old.tables.items }
 {
     for seat in seats {
         tables.tables[seat.table].kill(seat.row);
@@ -80,6 +80,20 @@ impl Rested {
         })
     }
 
+    /// The live rows of a table move together where there is no room for one more and half of the rows are dead.
+    fn tidy(&mut self, table: usize)
+        requires rested { IsRested self.old }
+        requires within { table < length self.old.tables.tables.items }
+        ensures rested { IsRested self.new }
+        ensures rules { self.new.rules ≡ self.old.rules }
+        ensures groups { self.new.groups ≡ self.old.groups }
+        ensures stored { stored self.new ≡ stored self.old }
+    {
+        if self.tables.tables[table].is_half_dead() {
+            self.tables.tables[table].compact();
+        }
+    }
+
     /// An atom that has no instance with those at rest joins them; or nothing changes, where memory is refused, or
     /// its table has `MAX_ROWS` rows.
     pub(crate) fn put(&mut self, atom: &Atom) -> Result<(), AllocError>
@@ -91,6 +105,7 @@ impl Rested {
         ensures err { OnErr result (stored self.new ≡ stored self.old) }
     {
         let table = table_of(&self.groups, atom.symbol, atom.args.len());
+        self.tidy(table);
         self.tables.tables[table].insert(atom)?;
         Ok(())
     }

@@ -2,7 +2,7 @@
 ghost use Rattle.std.specs.Prelude.{◌≡◌, ◌↔◌, IsTrue, map};
 ghost use Rattle.std.specs.Bool.{OnTrue};
 ghost use Rattle.chr_base.specs.Sameness.{parts_of};
-ghost use Rattle.chr_columns.specs.working.Own.{StandsAt};
+ghost use Rattle.chr_columns.specs.working.Own.{IsRuleAt};
 
 use chr_base::rule::Rule;
 
@@ -22,7 +22,7 @@ pub(crate) fn are_same(left: &[Rule], right: &[Rule]) -> bool
 
 /// Whether the rules have one at this number, from 0, that says the same.
 pub(crate) fn stands_at(rules: &[Rule], number: usize, rule: &Rule) -> bool
-    ensures { IsTrue result ↔ StandsAt rules.now number rule.now }
+    ensures { IsTrue result ↔ IsRuleAt rules.now number rule.now }
 {
     if number >= rules.len() {
         return false;

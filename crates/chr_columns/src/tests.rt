@@ -3,6 +3,7 @@ ghost use Rattle.chr_base.specs.declared.term.Term.TheVariants.{Variable as IsVa
 
 mod ordered;
 mod passing;
+mod refused;
 
 use crate::columns::Columns;
 use crate::rows::Row;

@@ -11,7 +11,7 @@ use Rattle.std.proofs.lemmas.List.{get_or-map}
 use Rattle.chr_base.specs.Rules.{compares}
 use Rattle.chr_base.specs.Values.{is_value}
 use Rattle.chr_lanes.specs.declared.test.Test.{Test}
-use Rattle.chr_lanes.specs.Rows.{columns_of, value_at, against_at, holds, HaveValues}
+use Rattle.chr_lanes.specs.Rows.{lent_columns, value_at, against_at, holds, HaveValues}
 use Rattle.chr_lanes.specs.working.Lanes.{FailsAgainst}
 
 pub fits_lanes : (z : ℤ) → is_value z ≡ true → SFits w64 z
@@ -22,7 +22,7 @@ fits_lanes z e = record { sfits = by z e }
     by (negsuc n) e = let low = (and_parts (int_le (neg_ℤ (pos (2 ^ 63))) (negsuc n)) (int_le (negsuc n) (pos (2 ^ 63 - 1))) e).0 in grind (arith, ints, low)
 
 -- the value of a column of the code
-pub value_in : (columns : List (Bor (List ℤ))) (column row : ℕ) (d : Bor (List ℤ)) → column < length columns → get_or (get_or columns column d).now row (pos 0) ≡ value_at (columns_of columns) row column
+pub value_in : (columns : List (Bor (List ℤ))) (column row : ℕ) (d : Bor (List ℤ)) → column < length columns → get_or (get_or columns column d).now row (pos 0) ≡ value_at (lent_columns columns) row column
 value_in columns column row d h = ap (λ xs. get_or xs row (pos 0)) (sym (get_or-map (λ c. c.now) columns column d [] h))
 
 pub fails_in_block : (columns : List (List ℤ)) (test : Test) (at : ℕ) (left : List ℤ)

@@ -10,8 +10,8 @@ use Rattle.chr_lanes.specs.declared.test.Against.TheVariants.{Value, Column}
 use Rattle.chr_lanes.specs.declared.test.Test.{Test}
 
 -- what a slice of slices stands for
-abbrev pub columns_of : List (Bor (List ℤ)) → List (List ℤ)
-columns_of columns = map (λ c. c.now) columns
+abbrev pub lent_columns : List (Bor (List ℤ)) → List (List ℤ)
+lent_columns columns = map (λ c. c.now) columns
 
 -- the value of a column at a row
 abbrev pub value_at : List (List ℤ) → ℕ → ℕ → ℤ

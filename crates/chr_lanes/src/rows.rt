@@ -1,7 +1,7 @@
 //! The first row that passes tests.
 ghost use Rattle.std.specs.Prelude.{◌≡◌, ℕ, ◌+◌, ◌<◌, ◌≤◌, All, length, get_or, pos, false, IfSome, IfNone, IsTrue};
 ghost use Rattle.chr_base.specs.Rules.{compares};
-ghost use Rattle.chr_lanes.specs.Rows.{columns_of, holds, all_hold, NonePasses, NamesColumns, HaveValues};
+ghost use Rattle.chr_lanes.specs.Rows.{lent_columns, holds, all_hold, NonePasses, NamesColumns, HaveValues};
 ghost use Rattle.chr_lanes.specs.working.Lanes.{FailsFrom};
 
 use crate::block::{LANES, block_of, holds_against, holds_somewhere};
@@ -34,7 +34,7 @@ fn value_at(column: &[i64], row: usize) -> i64
 fn holds(columns: &[&[i64]], test: &Test, row: usize) -> bool
     requires columns { All (λ c. row < length c.now) columns.now }
     requires test { NamesColumns (length columns.now) test.now }
-    ensures { result ≡ holds (columns_of columns.now) row test.now }
+    ensures { result ≡ holds (lent_columns columns.now) row test.now }
 {
     let value = value_at(columns[test.column], row);
     let against = match test.against {
@@ -48,7 +48,7 @@ fn holds(columns: &[&[i64]], test: &Test, row: usize) -> bool
 fn all_hold(columns: &[&[i64]], tests: &[Test], row: usize) -> bool
     requires columns { All (λ c. row < length c.now) columns.now }
     requires tests { All (NamesColumns (length columns.now)) tests.now }
-    ensures { result ≡ all_hold (columns_of columns.now) tests.now row }
+    ensures { result ≡ all_hold (lent_columns columns.now) tests.now row }
 {
     tests.iter().all(|test| holds(columns, test, row))
 }
@@ -57,8 +57,8 @@ fn all_hold(columns: &[&[i64]], tests: &[Test], row: usize) -> bool
 fn may_hold(columns: &[&[i64]], test: &Test, at: usize) -> bool
     requires columns { All (λ c. at + LANES ≤ length c.now) columns.now }
     requires test { NamesColumns (length columns.now) test.now }
-    ensures { result ≡ false → HaveValues (columns_of columns.now)
-        → FailsFrom (columns_of columns.now) test.now at (at + LANES) }
+    ensures { result ≡ false → HaveValues (lent_columns columns.now)
+        → FailsFrom (lent_columns columns.now) test.now at (at + LANES) }
 {
     let left = block_of(columns[test.column], at);
     match test.against {
@@ -71,8 +71,8 @@ fn may_hold(columns: &[&[i64]], test: &Test, at: usize) -> bool
 fn may_pass(columns: &[&[i64]], tests: &[Test], at: usize) -> bool
     requires columns { All (λ c. at + LANES ≤ length c.now) columns.now }
     requires tests { All (NamesColumns (length columns.now)) tests.now }
-    ensures { result ≡ false → HaveValues (columns_of columns.now)
-        → NonePasses (columns_of columns.now) tests.now at (at + LANES) }
+    ensures { result ≡ false → HaveValues (lent_columns columns.now)
+        → NonePasses (lent_columns columns.now) tests.now at (at + LANES) }
 {
     for test in tests {
         if !may_hold(columns, test, at) {
@@ -89,9 +89,9 @@ fn first_among(columns: &[&[i64]], tests: &[Test], from: usize, to: usize) -> Op
     requires from { from ≤ to }
     ensures from_on { IfSome result (λ row. from ≤ row) }
     ensures within { IfSome result (λ row. row < to) }
-    ensures passes { IfSome result (λ row. IsTrue (all_hold (columns_of columns.now) tests.now row)) }
-    ensures least { IfSome result (NonePasses (columns_of columns.now) tests.now from) }
-    ensures none { IfNone result (NonePasses (columns_of columns.now) tests.now from to) }
+    ensures passes { IfSome result (λ row. IsTrue (all_hold (lent_columns columns.now) tests.now row)) }
+    ensures least { IfSome result (NonePasses (lent_columns columns.now) tests.now from) }
+    ensures none { IfNone result (NonePasses (lent_columns columns.now) tests.now from to) }
 {
     for row in from..to {
         if all_hold(columns, tests, row) {
@@ -111,11 +111,11 @@ pub fn first_row(rows: usize, columns: &[&[i64]], tests: &[Test], from: usize) -
 
     ensures from_on { IfSome result (λ row. from ≤ row) }
     ensures within { IfSome result (λ row. row < rows) }
-    ensures passes { IfSome result (λ row. IsTrue (all_hold (columns_of columns.now) tests.now row)) }
-    ensures least { HaveValues (columns_of columns.now)
-        → IfSome result (NonePasses (columns_of columns.now) tests.now from) }
-    ensures none { HaveValues (columns_of columns.now)
-        → IfNone result (NonePasses (columns_of columns.now) tests.now from rows) }
+    ensures passes { IfSome result (λ row. IsTrue (all_hold (lent_columns columns.now) tests.now row)) }
+    ensures least { HaveValues (lent_columns columns.now)
+        → IfSome result (NonePasses (lent_columns columns.now) tests.now from) }
+    ensures none { HaveValues (lent_columns columns.now)
+        → IfNone result (NonePasses (lent_columns columns.now) tests.now from rows) }
 {
     let mut at = from;
     while rows - at >= LANES {

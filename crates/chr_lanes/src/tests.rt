@@ -74,3 +74,72 @@ fn rows_without_columns_pass_no_test(rt: HostRuntime) {
     assert!(rt; first_row(3, &[], &[], 2) == Some(2));
     assert!(rt; first_row(3, &[], &[], 3) == None);
 }
+
+/// The least row at which the first column is greater than the second and isn't 5.
+fn first_of_ten(from: usize) -> Option<usize>
+    requires { from ≤ 10 }
+{
+    let rising: [i64; 10] = [0, 1, 2, 3, 4, 5, 6, 7, 8, 9];
+    let falling: [i64; 10] = [9, 8, 7, 6, 5, 4, 3, 2, 1, 0];
+    let columns: [&[i64]; 2] = [&rising, &falling];
+    let tests = [
+        Test {
+            column: 0,
+            cmp: Cmp::Greater,
+            against: Against::Column(1),
+        },
+        Test {
+            column: 0,
+            cmp: Cmp::NotEqual,
+            against: Against::Value(5),
+        },
+    ];
+    first_row(10, &columns, &tests, from)
+}
+
+#[test]
+fn finds_the_least_row_that_passes_two_tests(rt: HostRuntime) {
+    assert!(rt; first_of_ten(0) == Some(6));
+    assert!(rt; first_of_ten(7) == Some(7));
+    assert!(rt; first_of_ten(10) == None);
+}
+
+/// The least row with 1 in a column.
+fn first_one(values: &[i64]) -> Option<usize> {
+    let columns: [&[i64]; 1] = [values];
+    first_row(
+        values.len(),
+        &columns,
+        &[Test {
+            column: 0,
+            cmp: Cmp::Equal,
+            against: Against::Value(1),
+        }],
+        0,
+    )
+}
+
+/// Also where the rows are no multiple of eight.
+#[test]
+fn finds_the_last_row(rt: HostRuntime) {
+    let mut values: [i64; 65] = [0; 65];
+    assert!(rt; first_one(&values[..0]) == None);
+    for rows in [1, 7, 8, 9, 64, 65] {
+        values[rows - 1] = 1;
+        assert!(rt; first_one(&values[..rows]) == Some(rows - 1));
+        values[rows - 1] = 0;
+    }
+}
+
+#[test]
+fn finds_the_least_value_of_all(rt: HostRuntime) {
+    let values: [i64; 2] = [i64::MIN, i64::MAX];
+    let columns: [&[i64]; 1] = [&values];
+    let test = Test {
+        column: 0,
+        cmp: Cmp::Less,
+        against: Against::Value(i64::MIN + 1),
+    };
+    assert!(rt; first_row(2, &columns, &[test], 0) == Some(0));
+    assert!(rt; first_row(2, &columns, &[test], 1) == None);
+}

@@ -14,8 +14,8 @@ use Rattle.chr_ops.specs.Operations.{Operations, IsOperationBag, told_store}
 use Rattle.std.proofs.Math.Bool.{or-false}
 use Rattle.chr_ops.specs.declared.range.IdRange.{IdRange}
 use Rattle.chr_ops.specs.Summaries.{covers, CoversJust, IsApart}
-use Rattle.chr_ops.specs.working.Covering.{is_among}
-use Rattle.chr_ops.specs.working.Joining.{HasIds, IsWithout}
+use Rattle.chr_ops.specs.working.Covering.{is_among_ends}
+use Rattle.chr_ops.specs.working.Joining.{AddsIds, IsWithout}
 use Rattle.chr_ops.proofs.Unions.{ids_inserted, ids_none}
 use Rattle.chr_ops.specs.working.Kept.{IsKept, AreOperationBags}
 use Rattle.chr_ops.proofs.Sizes.{size_plus, size_empty}
@@ -42,13 +42,13 @@ sized_inserted m k v sized h q s g = by (eq_by_cmp id_cmp q k) (sym (map.get-ins
 
 -- one that it does not hold joins it, where there is room
 pub kept_insert : (told : ℕ) (rs ss : List IdRange) (m : Operations) (k : OpId) (v : Store) → IsKept told rs m → map.get m k ≡ None → IsOperationBag v → told + size v ≤ MAX_TOLD
-    → IsApart ss → ((q : OpId) → covers ss q ≡ (covers rs q || is_among (k ∷ []) q)) → IsKept (told + size v) ss (map.insert m k v)
+    → IsApart ss → ((q : OpId) → covers ss q ≡ (covers rs q || is_among_ends (k ∷ []) q)) → IsKept (told + size v) ss (map.insert m k v)
 kept_insert told rs ss m k v h new sized room apart covered = record {
   counted = ap (λ n. n + size v) h.counted ∙ sym (size_inserted m k v new);
   within = room;
   sized = sized_inserted m k v sized h.sized;
   apart = apart;
-  covering = λ q. covered q ∙ ap (λ b. b || is_among (k ∷ []) q) (h.covering q) ∙ sym (ids_inserted m m [] k v (ids_none m) q);
+  covering = λ q. covered q ∙ ap (λ b. b || is_among_ends (k ∷ []) q) (h.covering q) ∙ sym (ids_inserted m m [] k v (ids_none m) q);
 }
 
 -- what is put in at a new id and taken out again leaves what was there
@@ -60,13 +60,13 @@ put_back m k v new = map.same_map id_total id_exact _ _ (λ q. map.get-remove id
     by q false e = map.get-insert id_total m k v q ∙ ap (λ b. cond b (Some v) (map.get m q)) e
 
 -- a new id is not covered
-pub new_uncovered : (rs : List IdRange) (m : Operations) (k q : OpId) → CoversJust rs m → map.get m k ≡ None → is_among (k ∷ []) q ≡ true → covers rs q ≡ false
+pub new_uncovered : (rs : List IdRange) (m : Operations) (k q : OpId) → CoversJust rs m → map.get m k ≡ None → is_among_ends (k ∷ []) q ≡ true → covers rs q ≡ false
 new_uncovered rs m k q just new h = just q ∙ ap is_some (ap (map.get m) (same_id q k (sym (or-false (eq_by_cmp id_cmp q k)) ∙ h)) ∙ new)
 
 -- what a map has not is not covered
-pub without_uncovered : (rs : List IdRange) (m n : Operations) (ids : List OpId) (q : OpId) → CoversJust rs m → IsWithout m ids n → is_among ids q ≡ true → covers rs q ≡ false
+pub without_uncovered : (rs : List IdRange) (m n : Operations) (ids : List OpId) (q : OpId) → CoversJust rs m → IsWithout m ids n → is_among_ends ids q ≡ true → covers rs q ≡ false
 without_uncovered rs m n ids q just without a = just q ∙ ap is_some (without q ∙ ap (λ b. cond b None (map.get n q)) a)
 
 -- what came is covered
-pub just_more : (rs ss : List IdRange) (m n : Operations) (ids : List OpId) → CoversJust rs m → HasIds m ids n → ((q : OpId) → covers ss q ≡ (covers rs q || is_among ids q)) → CoversJust ss n
-just_more rs ss m n ids just has covered q = covered q ∙ ap (λ b. b || is_among ids q) (just q) ∙ sym (has q)
+pub just_more : (rs ss : List IdRange) (m n : Operations) (ids : List OpId) → CoversJust rs m → AddsIds m ids n → ((q : OpId) → covers ss q ≡ (covers rs q || is_among_ends ids q)) → CoversJust ss n
+just_more rs ss m n ids just has covered q = covered q ∙ ap (λ b. b || is_among_ends ids q) (just q) ∙ sym (has q)

@@ -11,7 +11,7 @@ use Rattle.std.specs.FinMap as map
 use Rattle.chr_ops.specs.declared.id.OpId.{OpId}
 use Rattle.chr_ops.specs.Ids.{id_cmp}
 use Rattle.chr_ops.specs.Summaries.{covers}
-use Rattle.chr_ops.specs.working.Covering.{Ends, range_of, ranges_of, AreDisjoint, AreJoined, EndsBefore, IsSeam, next_id, is_beside}
+use Rattle.chr_ops.specs.working.Covering.{Ends, end_range, end_ranges, AreDisjoint, AreJoined, EndsRightBefore, IsSeam, next_id, is_beside}
 use Rattle.chr_ops.proofs.IdOrder.{id_total, same_id}
 use Rattle.chr_ops.proofs.RangeLookups.{HasOne, covers_has, has_covers, in_origin, in_low, in_high, in_from, same_bool}
 
@@ -108,48 +108,48 @@ module _ (m : Ends) (k id : OpId) (h g : ℕ) (d : AreDisjoint m) (at_k : map.ge
           let far = d.apart q k x h o.at at_k (org ∙ b) (omega (arith, a, less)) in
           omega (arith, far, a)
 
-  old_covers : (q : OpId) → HasOne joined q → covers (ranges_of m) q ≡ true
+  old_covers : (q : OpId) → HasOne joined q → covers (end_ranges m) q ≡ true
   old_covers q (j, x, at, has) = ⊎_elim (λ f. by f (cases_lt h q.number)) (λ o. has_covers m q j x o.at has) (is_either j x at)
     where
-      by : (j ≡ k) × (x ≡ g) → (h < q.number) ⊎ (q.number ≤ h) → covers (ranges_of m) q ≡ true
+      by : (j ≡ k) × (x ≡ g) → (h < q.number) ⊎ (q.number ≤ h) → covers (end_ranges m) q ≡ true
       by f side =
           let n : j.number ≡ k.number = ap (λ a. a.number) f.0 in
           let org : j.origin ≡ k.origin = ap (λ a. a.origin) f.0 in
-          let o = in_origin (range_of (j, x)) q has in
-          let low = in_low (range_of (j, x)) q has in
-          let high = in_high (range_of (j, x)) q has in
+          let o = in_origin (end_range (j, x)) q has in
+          let low = in_low (end_range (j, x)) q has in
+          let high = in_high (end_range (j, x)) q has in
           let last = f.1 in
-          ⊎_elim (λ far. has_covers m q id g at_id (in_from (range_of (id, g)) q (sym same ∙ sym org ∙ o) (omega (arith, far, touch)) (omega (arith, high, last))))
-          (λ near. has_covers m q k h at_k (in_from (range_of (k, h)) q (sym org ∙ o) (omega (arith, low, n)) near)) side
+          ⊎_elim (λ far. has_covers m q id g at_id (in_from (end_range (id, g)) q (sym same ∙ sym org ∙ o) (omega (arith, far, touch)) (omega (arith, high, last))))
+          (λ near. has_covers m q k h at_k (in_from (end_range (k, h)) q (sym org ∙ o) (omega (arith, low, n)) near)) side
 
-  new_covers : (q : OpId) → HasOne m q → covers (ranges_of joined) q ≡ true
+  new_covers : (q : OpId) → HasOne m q → covers (end_ranges joined) q ≡ true
   new_covers q (j, x, at, has) = by (eq_by_cmp id_cmp j id) (eq_by_cmp id_cmp j k) refl refl
     where
       o : j.origin ≡ q.origin
-      o = in_origin (range_of (j, x)) q has
+      o = in_origin (end_range (j, x)) q has
 
       low : j.number ≤ q.number
-      low = in_low (range_of (j, x)) q has
+      low = in_low (end_range (j, x)) q has
 
       high : q.number ≤ x
-      high = in_high (range_of (j, x)) q has
+      high = in_high (end_range (j, x)) q has
 
       value : (y : ℕ) → map.get m j ≡ Some y → x ≡ y
       value y e = ap (λ u. unwrap_or u x) (sym at ∙ e)
 
-      by : (b c : Bool) → eq_by_cmp id_cmp j id ≡ b → eq_by_cmp id_cmp j k ≡ c → covers (ranges_of joined) q ≡ true
+      by : (b c : Bool) → eq_by_cmp id_cmp j id ≡ b → eq_by_cmp id_cmp j k ≡ c → covers (end_ranges joined) q ≡ true
       by true c p r =
           let e = same_id j id p in
           let n : j.number ≡ id.number = ap (λ a. a.number) e in
           let org : j.origin ≡ id.origin = ap (λ a. a.origin) e in
           let last = value g (ap (map.get m) e ∙ at_id) in
-          has_covers joined q k g first_stays (in_from (range_of (k, g)) q (same ∙ sym org ∙ o) (omega (arith, k_low, touch, n, low)) (omega (arith, high, last)))
+          has_covers joined q k g first_stays (in_from (end_range (k, g)) q (same ∙ sym org ∙ o) (omega (arith, k_low, touch, n, low)) (omega (arith, high, last)))
       by false true p r =
           let e = same_id j k r in
           let n : j.number ≡ k.number = ap (λ a. a.number) e in
           let org : j.origin ≡ k.origin = ap (λ a. a.origin) e in
           let last = value h (ap (map.get m) e ∙ at_k) in
-          has_covers joined q k g first_stays (in_from (range_of (k, g)) q (sym org ∙ o) (omega (arith, n, low)) (omega (arith, high, last, touch, id_low)))
+          has_covers joined q k g first_stays (in_from (end_range (k, g)) q (sym org ∙ o) (omega (arith, n, low)) (omega (arith, high, last, touch, id_low)))
       by false false p r = has_covers joined q j x (other_stays j x record { not_id = λ s. true≢false (sym (eq_from j id s) ∙ p); not_k = λ s. true≢false (sym (eq_from j k s) ∙ r); at = at }) has
 
   begins : (q : OpId) (x : ℕ) → map.get joined q ≡ Some x → IsSome (map.get m q)
@@ -172,7 +172,7 @@ module _ (m : Ends) (k id : OpId) (h g : ℕ) (d : AreDisjoint m) (at_k : map.ge
   unfolding joined
   touching_joined = record {
     disjoint = record { fits = fits; apart = apart };
-    covering = λ q. same_bool (covers (ranges_of joined) q) (covers (ranges_of m) q) (λ h. old_covers q (covers_has joined q h)) (λ h. new_covers q (covers_has m q h));
+    covering = λ q. same_bool (covers (end_ranges joined) q) (covers (end_ranges m) q) (λ h. old_covers q (covers_has joined q h)) (λ h. new_covers q (covers_has m q h));
     seams = seams;
   }
 
@@ -185,11 +185,11 @@ none_begins m id d none = record {
 }
 
 -- nor where none ends right before it
-pub none_ends : (m : Ends) (id : OpId) → AreDisjoint m → ((k : OpId) → ¬ (EndsBefore m id k)) → AreJoined m (λ q. eq_by_cmp id_cmp q id) m
+pub none_ends : (m : Ends) (id : OpId) → AreDisjoint m → ((k : OpId) → ¬ (EndsRightBefore m id k)) → AreJoined m (λ q. eq_by_cmp id_cmp q id) m
 none_ends m id d none = record {
   disjoint = d;
   covering = λ q. refl;
-  seams = λ q s. (s, differs q id (λ e. none s.0 (subst (λ x. EndsBefore m x s.0) e s.1)));
+  seams = λ q s. (s, differs q id (λ e. none s.0 (subst (λ x. EndsRightBefore m x s.0) e s.1)));
 }
 
 neither : (a b : Bool) → a ≡ false → b ≡ false → (a || b) ≡ false

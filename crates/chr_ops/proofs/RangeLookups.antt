@@ -18,47 +18,47 @@ use Rattle.chr_ops.specs.declared.id.OpId.{OpId}
 use Rattle.chr_ops.specs.declared.range.IdRange.{IdRange}
 use Rattle.chr_ops.specs.Ids.{id_cmp}
 use Rattle.chr_ops.specs.Summaries.{in_range, covers, IsBefore, IsApart}
-use Rattle.chr_ops.specs.working.Covering.{Ends, range_of, ranges_of, AreDisjoint, AreLongest, EndsBefore}
+use Rattle.chr_ops.specs.working.Covering.{Ends, end_range, end_ranges, AreDisjoint, AreAsLongAsPossible, EndsRightBefore}
 use Rattle.chr_ops.proofs.IdOrder.{same_id}
 use Rattle.chr_ops.proofs.EntryLists.{place_finds, each_found, ids_rise}
 
 -- a range that has an id
 abbrev pub HasOne : Ends → OpId → Type 0
-HasOne m q = (k : OpId) × (h : ℕ) × (map.get m k ≡ Some h) × (in_range (range_of (k, h)) q ≡ true)
+HasOne m q = (k : OpId) × (h : ℕ) × (map.get m k ≡ Some h) × (in_range (end_range (k, h)) q ≡ true)
 
 abbrev EntryHas : List (OpId × ℕ) → OpId → Type 0
-EntryHas es q = (i : ℕ) × (e : OpId × ℕ) × (slice_get es i ≡ Some e) × (in_range (range_of e) q ≡ true)
+EntryHas es q = (i : ℕ) × (e : OpId × ℕ) × (slice_get es i ≡ Some e) × (in_range (end_range e) q ≡ true)
 
 later_has : (e : OpId × ℕ) (es : List (OpId × ℕ)) (q : OpId) → EntryHas es q → EntryHas (e ∷ es) q
 later_has e es q (i, f, at, has) = (suc i, f, at, has)
 
-entry_has : (es : List (OpId × ℕ)) (q : OpId) → covers (each range_of es) q ≡ true → EntryHas es q
+entry_has : (es : List (OpId × ℕ)) (q : OpId) → covers (each end_range es) q ≡ true → EntryHas es q
 entry_has [] q h = absurd (true≢false (sym h))
-entry_has (e ∷ es) q h = by (in_range (range_of e) q) refl h (λ g. later_has e es q (entry_has es q g))
+entry_has (e ∷ es) q h = by (in_range (end_range e) q) refl h (λ g. later_has e es q (entry_has es q g))
   where
-    by : (b : Bool) → in_range (range_of e) q ≡ b → (b || covers (each range_of es) q) ≡ true → (covers (each range_of es) q ≡ true → EntryHas (e ∷ es) q) → EntryHas (e ∷ es) q
+    by : (b : Bool) → in_range (end_range e) q ≡ b → (b || covers (each end_range es) q) ≡ true → (covers (each end_range es) q ≡ true → EntryHas (e ∷ es) q) → EntryHas (e ∷ es) q
     by true is g more = (zero, e, refl, is)
     by false is g more = more g
 
 found_has : (m : Ends) (q : OpId) → EntryHas (map.entries m) q → HasOne m q
 found_has m q (i, e, at, has) = (e.0, e.1, map.get-entries m e.0 ∙ place_finds (map.entries m) i e (map.entries_sorted m) at, has)
 
-pub covers_has : (m : Ends) (q : OpId) → covers (ranges_of m) q ≡ true → HasOne m q
+pub covers_has : (m : Ends) (q : OpId) → covers (end_ranges m) q ≡ true → HasOne m q
 covers_has m q h = found_has m q (entry_has (map.entries m) q h)
 
-entry_covers : (es : List (OpId × ℕ)) (q k : OpId) (h : ℕ) → find id_cmp k es ≡ Some h → in_range (range_of (k, h)) q ≡ true → covers (each range_of es) q ≡ true
+entry_covers : (es : List (OpId × ℕ)) (q k : OpId) (h : ℕ) → find id_cmp k es ≡ Some h → in_range (end_range (k, h)) q ≡ true → covers (each end_range es) q ≡ true
 entry_covers [] q k h g has = absurd (true≢false (sym (ap is_some g)))
 entry_covers (e ∷ es) q k h g has = by (eq_by_cmp id_cmp k e.0) refl g (λ f. entry_covers es q k h f has)
   where
-    by : (b : Bool) → eq_by_cmp id_cmp k e.0 ≡ b → cond b (Some e.1) (find id_cmp k es) ≡ Some h → (find id_cmp k es ≡ Some h → covers (each range_of es) q ≡ true)
-        → (in_range (range_of e) q || covers (each range_of es) q) ≡ true
+    by : (b : Bool) → eq_by_cmp id_cmp k e.0 ≡ b → cond b (Some e.1) (find id_cmp k es) ≡ Some h → (find id_cmp k es ≡ Some h → covers (each end_range es) q ≡ true)
+        → (in_range (end_range e) q || covers (each end_range es) q) ≡ true
     by true same f more =
         let key = same_id k e.0 same in
         let last : e.1 ≡ h = ap (λ o. unwrap_or o e.1) f in
-        ap (λ b. b || covers (each range_of es) q) (sym (ap (λ x. in_range (range_of (x, h)) q) key ∙ ap (λ y. in_range (range_of (e.0, y)) q) (sym last)) ∙ has)
-    by false same f more = ap (λ b. in_range (range_of e) q || b) (more f) ∙ or-true (in_range (range_of e) q)
+        ap (λ b. b || covers (each end_range es) q) (sym (ap (λ x. in_range (end_range (x, h)) q) key ∙ ap (λ y. in_range (end_range (e.0, y)) q) (sym last)) ∙ has)
+    by false same f more = ap (λ b. in_range (end_range e) q || b) (more f) ∙ or-true (in_range (end_range e) q)
 
-pub has_covers : (m : Ends) (q k : OpId) (h : ℕ) → map.get m k ≡ Some h → in_range (range_of (k, h)) q ≡ true → covers (ranges_of m) q ≡ true
+pub has_covers : (m : Ends) (q k : OpId) (h : ℕ) → map.get m k ≡ Some h → in_range (end_range (k, h)) q ≡ true → covers (end_ranges m) q ≡ true
 has_covers m q k h g has = entry_covers (map.entries m) q k h (sym (map.get-entries m k) ∙ g) has
 
 -- what a range's test says
@@ -85,8 +85,8 @@ less_origin k l h = grind (arith, nat_tests, h)
 less_number : (k l : OpId) → id_cmp k l ≡ order.Less → k.origin ≡ l.origin → k.number < l.number
 less_number k l h e = grind (arith, nat_tests, h, e)
 
-module _ (m : Ends) (d : AreLongest m) where
-  before : (e f : OpId × ℕ) → map.get m e.0 ≡ Some e.1 → map.get m f.0 ≡ Some f.1 → id_cmp e.0 f.0 ≡ order.Less → IsBefore (range_of e) (range_of f)
+module _ (m : Ends) (d : AreAsLongAsPossible m) where
+  before : (e f : OpId × ℕ) → map.get m e.0 ≡ Some e.1 → map.get m f.0 ≡ Some f.1 → id_cmp e.0 f.0 ≡ order.Less → IsBefore (end_range e) (end_range f)
   before e f at_e at_f less = (
     less_origin e.0 f.0 less,
     λ same. (
@@ -95,17 +95,17 @@ module _ (m : Ends) (d : AreLongest m) where
   )
 
   all_before : (e : OpId × ℕ) (fs : List (OpId × ℕ)) → map.get m e.0 ≡ Some e.1 → AllByRecursion (λ f. map.get m f.0 ≡ Some f.1) fs → AllByRecursion (λ k. id_cmp e.0 k ≡ order.Less) (keys_of fs)
-      → AllByRecursion (IsBefore (range_of e)) (each range_of fs)
+      → AllByRecursion (IsBefore (end_range e)) (each end_range fs)
   all_before e [] at_e at_f less = tt
   all_before e (f ∷ fs) at_e at_f less = (before e f at_e at_f.0 less.0, all_before e fs at_e at_f.1 less.1)
 
-  entries_apart : (es : List (OpId × ℕ)) → AllByRecursion (λ e. map.get m e.0 ≡ Some e.1) es → IsStrictlySortedBy id_cmp (keys_of es) → IsApart (each range_of es)
+  entries_apart : (es : List (OpId × ℕ)) → AllByRecursion (λ e. map.get m e.0 ≡ Some e.1) es → IsStrictlySortedBy id_cmp (keys_of es) → IsApart (each end_range es)
   entries_apart [] at sorted = tt
   entries_apart (e ∷ es) at sorted =
       ((d.disjoint.fits e.0 e.1 at.0).0, all_before e es at.0 at.1 (sorted_head id_cmp e.0 (keys_of es) sorted), entries_apart es at.1 (sorted_tail id_cmp e.0 (keys_of es) sorted))
 
   -- ranges that are as long as possible are apart
-  pub ranges_apart : IsApart (ranges_of m)
+  pub ranges_apart : IsApart (end_ranges m)
   ranges_apart = entries_apart (map.entries m) (each_found m) (ids_rise m)
 
 from_not_less : (k j : OpId) → is_lt (id_cmp k j) ≡ false → (j.origin ≤ k.origin) × (j.origin ≡ k.origin → j.number ≤ k.number)
@@ -116,7 +116,7 @@ less_from j id e l = grind (arith, nat_tests, e, l)
 
 -- where the last range below an id does not end right before it, none does
 pub not_before : (m : Ends) (id k : OpId) (h : ℕ) → AreDisjoint m → map.get m k ≡ Some h → id_cmp k id ≡ order.Less
-    → ((q : OpId) → id_cmp q id ≡ order.Less → IsSome (map.get m q) → is_lt (id_cmp k q) ≡ false) → (k.origin ≡ id.origin → h + 1 ≡ id.number → ⊥) → (j : OpId) → ¬ (EndsBefore m id j)
+    → ((q : OpId) → id_cmp q id ≡ order.Less → IsSome (map.get m q) → is_lt (id_cmp k q) ≡ false) → (k.origin ≡ id.origin → h + 1 ≡ id.number → ⊥) → (j : OpId) → ¬ (EndsRightBefore m id j)
 not_before m id k h d at below last apart j (x, at_j, org, touch) =
     let low = (d.fits j x at_j).0 in
     let less : j.number < id.number = omega (arith, low, touch) in
@@ -133,7 +133,7 @@ not_before m id k h d at below last apart j (x, at_j, org, touch) =
     apart (sym same ∙ org) (omega (arith, last_one, touch)))) (cases_lt j.number k.number)
 
 -- and where there is none below it
-pub none_below : (m : Ends) (id : OpId) → AreDisjoint m → ((q : OpId) → id_cmp q id ≡ order.Less → map.get m q ≡ None) → (j : OpId) → ¬ (EndsBefore m id j)
+pub none_below : (m : Ends) (id : OpId) → AreDisjoint m → ((q : OpId) → id_cmp q id ≡ order.Less → map.get m q ≡ None) → (j : OpId) → ¬ (EndsRightBefore m id j)
 none_below m id d none j (x, at_j, org, touch) =
     let low = (d.fits j x at_j).0 in
     true≢false (sym (ap is_some at_j) ∙ ap is_some (none j (less_from j id org (omega (arith, low, touch)))))
@@ -142,8 +142,8 @@ no_entries : (es : List (OpId × ℕ)) → length es ≡ 0 → es ≡ []
 no_entries [] h = refl
 no_entries (e ∷ es) h = absurd (omega (arith, h))
 
-pub ranges_none : ranges_of map.empty ≡ []
-ranges_none = ap (each range_of) (no_entries (map.entries map.empty) (sym (map.len-entries map.empty) ∙ map.len-empty id_cmp ℕ))
+pub ranges_none : end_ranges map.empty ≡ []
+ranges_none = ap (each end_range) (no_entries (map.entries map.empty) (sym (map.len-entries map.empty) ∙ map.len-empty id_cmp ℕ))
 
 nothing : Ends
 nothing = map.empty
@@ -152,7 +152,7 @@ none_at : (q : OpId) (x : ℕ) → map.get nothing q ≡ Some x → ⊥
 unfolding nothing
 none_at q x e = true≢false (sym (ap is_some e) ∙ ap is_some (map.get-empty id_cmp q))
 
-pub longest_none : AreLongest map.empty
+pub longest_none : AreAsLongAsPossible map.empty
 unfolding nothing
 longest_none = record {
   disjoint = record { fits = λ k h e. absurd (none_at k h e); apart = λ k l h g e. absurd (none_at k h e) };

@@ -18,7 +18,7 @@ use Rattle.chr_ops.specs.Ids.{id_cmp}
 use Rattle.chr_ops.proofs.IdOrder.{id_total, id_exact, same_id}
 use Rattle.chr_ops.specs.Operations.{Operation, Operations, sum_of, told_store}
 use Rattle.chr_ops.specs.Joins.{union, fresh}
-use Rattle.chr_ops.specs.working.Joining.{HasIds, IsWithout}
+use Rattle.chr_ops.specs.working.Joining.{AddsIds, IsWithout}
 use Rattle.chr_ops.proofs.Told.{told_store-insert}
 
 or_none : {X : Type 0} (x : Option X) → option_or x None ≡ x
@@ -100,14 +100,14 @@ some_there true v x = refl
 some_there false v x = refl
 
 -- the ids of a map with one more
-pub ids_inserted : (m n : Operations) (ids : List OpId) (k : OpId) (v : Store) → HasIds m ids n → HasIds m (ids ++ k ∷ []) (map.insert n k v)
+pub ids_inserted : (m n : Operations) (ids : List OpId) (k : OpId) (v : Store) → AddsIds m ids n → AddsIds m (ids ++ k ∷ []) (map.insert n k v)
 ids_inserted m n ids k v h q =
     settle_ids (list_any (eq_by_cmp id_cmp q) ids) (eq_by_cmp id_cmp q k) (map.contains_key m q) (map.get (map.insert n k v) q) (map.get n q) (h q)
     (ap is_some (map.get-insert id_total n k v q) ∙ some_there (eq_by_cmp id_cmp q k) v (map.get n q))
     ∙ ap (λ b. map.contains_key m q || b) (sym (list_any-append (eq_by_cmp id_cmp q) ids (k ∷ [])))
 
 -- of none but its own, where no more are given
-pub ids_none : (m : Operations) → HasIds m [] m
+pub ids_none : (m : Operations) → AddsIds m [] m
 ids_none m q = sym (or-false (map.contains_key m q))
 
 -- one more of a list of ids is taken out

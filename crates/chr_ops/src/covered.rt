@@ -6,7 +6,7 @@ ghost use Rattle.chr_ops.specs.declared.id.OpId.{OpId as OpIdValue};
 ghost use Rattle.chr_ops.specs.Ids.{id_cmp};
 ghost use Rattle.chr_ops.specs.Summaries.{covers, IsApart};
 ghost use Rattle.chr_ops.specs.working.Joining.{IsWithout};
-ghost use Rattle.chr_ops.specs.working.Covering.{AreDisjoint, AreJoined, EndsBefore, IsLaid, IsSameBut, is_among, is_beside};
+ghost use Rattle.chr_ops.specs.working.Covering.{AreDisjoint, AreJoined, EndsRightBefore, IsLaid, IsSameBut, is_among_ends, is_beside};
 
 use crate::ends::Ends;
 use crate::id::OpId;
@@ -25,15 +25,15 @@ impl Model for Covered {
     ghost use Rattle.std.specs.Coded.{coded_list};
     ghost use Rattle.chr_ops.specs.declared.range.IdRange.{IdRange};
     ghost use Rattle.chr_ops.specs.working.Codes.{coded_range};
-    ghost use Rattle.chr_ops.specs.working.Covering.{ranges_of, AreLongest};
+    ghost use Rattle.chr_ops.specs.working.Covering.{end_ranges, AreAsLongAsPossible};
 
     ghost Value = { List IdRange };
 
     ghost coded = { coded_list coded_range };
 
-    ghost view = { λ c. ranges_of c.ends };
+    ghost view = { λ c. end_ranges c.ends };
 
-    ghost invariant = { λ c. AreLongest c.ends };
+    ghost invariant = { λ c. AreAsLongAsPossible c.ends };
 }
 
 impl Covered {
@@ -55,8 +55,8 @@ impl Covered {
 
     /// Covers some ids that are not covered. Where it fails, nothing has changed.
     pub(crate) fn cover(&mut self, ids: &[OpId]) -> Result<(), AllocError>
-        requires { (id : OpIdValue) → is_among ids.now id ≡ true → covers self.old id ≡ false }
-        ensures covers { OnOk result ((id : OpIdValue) → covers self.new id ≡ (covers self.old id || is_among ids.now id)) }
+        requires { (id : OpIdValue) → is_among_ends ids.now id ≡ true → covers self.old id ≡ false }
+        ensures covers { OnOk result ((id : OpIdValue) → covers self.new id ≡ (covers self.old id || is_among_ends ids.now id)) }
         ensures apart { IsApart self.new }
         ensures err { OnErr result (self.new ≡ self.old) }
     {
@@ -92,8 +92,8 @@ fn lift(ends: &mut Ends, ids: &[OpId])
 /// The first id of the range that ends right before an id.
 fn ending_before(ends: &Ends, id: OpId) -> Option<OpId>
     requires { AreDisjoint ends.now }
-    ensures some { IfSome result (EndsBefore ends.now id) }
-    ensures none { IfNone result ((k : OpIdValue) → ¬ (EndsBefore ends.now id k)) }
+    ensures some { IfSome result (EndsRightBefore ends.now id) }
+    ensures none { IfNone result ((k : OpIdValue) → ¬ (EndsRightBefore ends.now id k)) }
 {
     let (first, last) = ends.last_below(id)?;
     if first.origin == id.origin && last < id.number && id.number - last == 1 {

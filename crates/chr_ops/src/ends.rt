@@ -5,7 +5,7 @@ ghost use Rattle.std.specs.Ordering.{is_lt};
 ghost use Rattle.std.specs.declared.cmp.Ordering.TheVariants.{Less};
 ghost use Rattle.chr_ops.specs.declared.id.OpId.{OpId as OpIdValue};
 ghost use Rattle.chr_ops.specs.Ids.{id_cmp};
-ghost use Rattle.chr_ops.specs.working.Covering.{ranges_of};
+ghost use Rattle.chr_ops.specs.working.Covering.{end_ranges};
 
 use crate::id::OpId;
 use crate::range::IdRange;
@@ -90,7 +90,7 @@ impl Ends {
 
     /// The ranges, in order.
     pub(crate) fn ranges(&self, alloc: Global) -> Result<Vec<IdRange>, AllocError>
-        ensures { IfOk result (λ ranges. ranges.items ≡ ranges_of self.now) }
+        ensures { IfOk result (λ ranges. ranges.items ≡ end_ranges self.now) }
     {
         let mut ranges = Vec::new(alloc);
         for (first, last) in self.last.iter() {

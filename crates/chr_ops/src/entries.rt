@@ -3,7 +3,7 @@ ghost use Rattle.std.specs.Prelude.{◌≡◌, ◌≤◌, OnOk, OnErr, option_co
 ghost use Rattle.std.specs.FinMap as map;
 ghost use Rattle.std.specs.Iterator.{at_most};
 ghost use Rattle.std.specs.Map.Iter.{TakesFirst};
-ghost use Rattle.chr_ops.specs.working.Entries.{entry_of};
+ghost use Rattle.chr_ops.specs.working.Entries.{operation_entry};
 ghost use Rattle.chr_ops.specs.working.Walks.{within};
 
 use crate::id::OpId;
@@ -102,7 +102,7 @@ impl<'a> Model for Within<'a> {
 impl<'a> Iterator for Within<'a> {
     type Item = (OpId, &'a Bag);
 
-    ghost next_gives = { TakesFirst entry_of };
+    ghost next_gives = { TakesFirst operation_entry };
 
     ghost remaining = { λ s. at_most (length s) };
 

@@ -5,7 +5,7 @@ ghost use Rattle.chr_ops.specs.declared.id.OpId.{OpId as OpIdValue};
 ghost use Rattle.chr_ops.specs.Operations.{Operations, told_atoms, IsHeldOtherwise};
 ghost use Rattle.chr_ops.specs.working.Kept.{AreOperationBags};
 ghost use Rattle.chr_ops.specs.Joins.{union, IsFirstClash, HasNoClash, IsOverLimit};
-ghost use Rattle.chr_ops.specs.working.Joining.{HasIds, IsWithout};
+ghost use Rattle.chr_ops.specs.working.Joining.{AddsIds, IsWithout};
 ghost use Rattle.chr_ops.specs.Summaries.{CoversJust, IsApart};
 
 use crate::covered::Covered;
@@ -36,8 +36,8 @@ fn take_in(
     // What was there before the ids in the list came can be had back.
     ensures back { (m : Operations) → IsWithout m fresh.old.items held.old
         → IsWithout m fresh.new.items held.new }
-    ensures ids { OnOk result ((m : Operations) → HasIds m fresh.old.items held.old
-        → HasIds m fresh.new.items held.new) }
+    ensures ids { OnOk result ((m : Operations) → AddsIds m fresh.old.items held.old
+        → AddsIds m fresh.new.items held.new) }
 {
     let id = op.id();
     if let Some(bag) = held.get(id) {
@@ -76,8 +76,8 @@ fn take_all_in(
     ensures sized { AreOperationBags held.old → AreOperationBags held.new }
     ensures back { (m : Operations) → IsWithout m fresh.old.items held.old
         → IsWithout m fresh.new.items held.new }
-    ensures ids { OnOk result ((m : Operations) → HasIds m fresh.old.items held.old
-        → HasIds m fresh.new.items held.new) }
+    ensures ids { OnOk result ((m : Operations) → AddsIds m fresh.old.items held.old
+        → AddsIds m fresh.new.items held.new) }
 {
     let mut told = told;
     for op in ops {
@@ -111,7 +111,7 @@ pub(crate) fn take_in_room(
         → HasNoClash held.old ops.now × IsOverLimit held.old ops.now }
     ensures sized { AreOperationBags held.old → AreOperationBags held.new }
     ensures back { IsWithout held.old fresh.new.items held.new }
-    ensures ids { OnOk result (HasIds held.old fresh.new.items held.new) }
+    ensures ids { OnOk result (AddsIds held.old fresh.new.items held.new) }
 {
     let told = take_all_in(held, fresh, alloc, ops, told)?;
     if told > MAX_TOLD {

@@ -16,7 +16,7 @@ use Rattle.chr_plans.specs.Keys.{source_value, passes, allows, key_of, Spans}
 use Rattle.chr_plans.specs.Rows.{Tables, Columns, HasKey, LiesIn}
 use Rattle.chr_plans.specs.Seats.{head, seat, no_seat, atom_in, IsOther, IsSeated}
 use Rattle.chr_plans.specs.Plans.{IsPlan, FitsTables, IsKnown, partners_of, columns_of}
-use Rattle.chr_plans.specs.working.Searching.{AreSame, NoneFrom, AreStarted, looked_in}
+use Rattle.chr_plans.specs.working.Searching.{AgreeAtKnown, NoneFrom, AreStarted, looked_in}
 use Rattle.chr_plans.proofs.Values.{key_known, tests_known, limits_known, shape_known}
 use Rattle.chr_plans.proofs.Places.{place_is, partner_is, partners_len}
 
@@ -61,7 +61,7 @@ none_next P Q at (Some row) h = tt
 -- no instance that goes on from these heads and seats sits at the place q in a row from `at` on
 abbrev pub Past : Rule → Tables → ℕ → List ℕ → ℕ → ℕ → List Atom → List Seat → ℕ → Type 0
 Past r rows p places n q heads seats at =
-    (hs : List Atom) (ss : List Seat) → IsSeated r rows p hs ss → AreSame places p n hs ss heads seats → at ≤ (seat ss q).row → ⊥
+    (hs : List Atom) (ss : List Seat) → IsSeated r rows p hs ss → AgreeAtKnown places p n hs ss heads seats → at ≤ (seat ss q).row → ⊥
 
 module _ (r : Rule) (p : ℕ) (lookups : List Lookup) (n : ℕ) (l : Lookup) (rows : Tables) (columns : Columns) (heads : List Atom) (seats : List Seat)
     (plan : IsPlan r p (partners_of lookups)) (fits : FitsTables r lookups rows columns) (left : n < length lookups) (here : get_or lookups n l ≡ l) where
@@ -81,7 +81,7 @@ module _ (r : Rule) (p : ℕ) (lookups : List Lookup) (n : ℕ) (l : Lookup) (ro
   is_other = (place_within, place_other)
 
   -- a head that goes on lives in the table of the look-up, under the key
-  row_known : (hs : List Atom) (ss : List Seat) → IsSeated r rows p hs ss → AreSame (looked_in lookups) p n hs ss heads seats
+  row_known : (hs : List Atom) (ss : List Seat) → IsSeated r rows p hs ss → AgreeAtKnown (looked_in lookups) p n hs ss heads seats
       → ((seat ss l.partner.place).table ≡ l.table)
       × HasKey (columns l.table l.index) (map (λ k. source_value heads k.source) l.partner.key.items) (rows l.table (seat ss l.partner.place).row)
       × ((span : Span) → ((a : Atom) → list_all (allows heads a) l.partner.limits.items ≡ true → Spans span a) → LiesIn span (rows l.table (seat ss l.partner.place).row))
@@ -127,7 +127,7 @@ module _ (r : Rule) (p : ℕ) (lookups : List Lookup) (n : ℕ) (l : Lookup) (ro
   -- the row that was looked at makes no instance
   pub past_next : (span : Span) (row to : ℕ) → ((a : Atom) → list_all (allows heads a) l.partner.limits.items ≡ true → Spans span a)
       → ((q : ℕ) → q < row → IsWanted (columns l.table l.index) (map (λ k. source_value heads k.source) l.partner.key.items) span (rows l.table q) → q < to)
-      → ((hs : List Atom) (ss : List Seat) → IsSeated r rows p hs ss → AreSame (looked_in lookups) p n hs ss heads seats
+      → ((hs : List Atom) (ss : List Seat) → IsSeated r rows p hs ss → AgreeAtKnown (looked_in lookups) p n hs ss heads seats
       → seat ss l.partner.place ≡ record { table = l.table; row = row } → ⊥)
       → Past r rows p (looked_in lookups) n l.partner.place heads seats (row + 1) → Past r rows p (looked_in lookups) n l.partner.place heads seats to
   past_next span row to all below not past hs ss s same from =
@@ -143,7 +143,7 @@ module _ (r : Rule) (p : ℕ) (lookups : List Lookup) (n : ℕ) (l : Lookup) (ro
 
   -- a row in which an earlier partner sits
   pub not_taken : (x : Seat) (j : ℕ) → j < n → seat seats (get_or (looked_in lookups) j 0) ≡ x
-      → (hs : List Atom) (ss : List Seat) → IsSeated r rows p hs ss → AreSame (looked_in lookups) p n hs ss heads seats → seat ss l.partner.place ≡ x → ⊥
+      → (hs : List Atom) (ss : List Seat) → IsSeated r rows p hs ss → AgreeAtKnown (looked_in lookups) p n hs ss heads seats → seat ss l.partner.place ≡ x → ⊥
   not_taken x j g taken hs ss s same is =
       let early : j < length (partners_of lookups) = within j (omega (arith, g, left)) in
       s.apart (get_or (looked_in lookups) j 0) l.partner.place (plan.within j early, plan.others j early) is_other
@@ -155,7 +155,7 @@ module _ (r : Rule) (p : ℕ) (lookups : List Lookup) (n : ℕ) (l : Lookup) (ro
   not_known k (inl e) same = place_other (sym same ∙ e)
   not_known k (inr w) same = plan.once w.0 n w.1 (within n left) (w.2 ∙ same ∙ sym place_here)
 
-  same_at : (k : ℕ) (hs as' : List Atom) (ss ts : List Seat) → AreSame (looked_in lookups) p n hs ss as' ts → (a : Atom) (x : Seat)
+  same_at : (k : ℕ) (hs as' : List Atom) (ss ts : List Seat) → AgreeAtKnown (looked_in lookups) p n hs ss as' ts → (a : Atom) (x : Seat)
       → l.partner.place < length as' → l.partner.place < length ts → head hs l.partner.place ≡ a → seat ss l.partner.place ≡ x → IsKnown (looked_in lookups) p (n + 1) k
       → (head hs k ≡ head (set as' l.partner.place a) k) × (seat ss k ≡ seat (set ts l.partner.place x) k)
   same_at k hs as' ss ts same a x la lt ea ex (inl e) =
@@ -176,9 +176,9 @@ module _ (r : Rule) (p : ℕ) (lookups : List Lookup) (n : ℕ) (l : Lookup) (ro
 
   -- what goes on from the row goes on from the next look-up
   pub not_found : (x : Seat) (a : Atom) (as' : List Atom) (ts : List Seat) → atom_in rows x ≡ Some a → l.partner.place < length as' → l.partner.place < length ts
-      → AreSame (looked_in lookups) p n as' ts heads seats
+      → AgreeAtKnown (looked_in lookups) p n as' ts heads seats
       → NoneFrom r rows p (looked_in lookups) (n + 1) (set as' l.partner.place a) (set ts l.partner.place x)
-      → (hs : List Atom) (ss : List Seat) → IsSeated r rows p hs ss → AreSame (looked_in lookups) p n hs ss heads seats → seat ss l.partner.place ≡ x → ⊥
+      → (hs : List Atom) (ss : List Seat) → IsSeated r rows p hs ss → AgreeAtKnown (looked_in lookups) p n hs ss heads seats → seat ss l.partner.place ≡ x → ⊥
   not_found x a as' ts is la lt kept none hs ss s same sits =
       let there = s.there l.partner.place is_other in
       let both : Some (head hs l.partner.place) ≡ Some a = sym there ∙ ap (atom_in rows) sits ∙ is in
@@ -229,7 +229,7 @@ none_all r rows p lookups heads seats plan len not hs ss s same =
 -- the row of the look-up is one more
 pub started_more : (r : Rule) (rows : Tables) (p : ℕ) (lookups : List Lookup) (n : ℕ) (l : Lookup) (heads heads' : List Atom) (seats seats' : List Seat) (a : Atom) (x : Seat)
     → IsPlan r p (partners_of lookups) → n < length lookups → get_or lookups n l ≡ l → l.partner.place < length heads' → l.partner.place < length seats'
-    → AreStarted rows (looked_in lookups) n heads seats → AreSame (looked_in lookups) p n heads' seats' heads seats → atom_in rows x ≡ Some a
+    → AreStarted rows (looked_in lookups) n heads seats → AgreeAtKnown (looked_in lookups) p n heads' seats' heads seats → atom_in rows x ≡ Some a
     → ((j : ℕ) → j < n → seat seats' (get_or (looked_in lookups) j 0) ≡ x → ⊥)
     → AreStarted rows (looked_in lookups) (n + 1) (set heads' l.partner.place a) (set seats' l.partner.place x)
 started_more r rows p lookups n l heads heads' seats seats' a x plan left here lh ls started same is free = record {
@@ -266,9 +266,9 @@ started_more r rows p lookups n l heads heads' seats seats' a x plan left here l
 
 -- what the search of the next look-up leaves at the places before
 pub same_deeper : (r : Rule) (p : ℕ) (lookups : List Lookup) (n : ℕ) (l : Lookup) (heads heads' heads2 : List Atom) (seats seats' seats2 : List Seat) (a : Atom) (x : Seat)
-    → IsPlan r p (partners_of lookups) → n < length lookups → get_or lookups n l ≡ l → AreSame (looked_in lookups) p n heads' seats' heads seats
-    → AreSame (looked_in lookups) p (n + 1) heads2 seats2 (set heads' l.partner.place a) (set seats' l.partner.place x)
-    → AreSame (looked_in lookups) p n heads2 seats2 heads seats
+    → IsPlan r p (partners_of lookups) → n < length lookups → get_or lookups n l ≡ l → AgreeAtKnown (looked_in lookups) p n heads' seats' heads seats
+    → AgreeAtKnown (looked_in lookups) p (n + 1) heads2 seats2 (set heads' l.partner.place a) (set seats' l.partner.place x)
+    → AgreeAtKnown (looked_in lookups) p n heads2 seats2 heads seats
 same_deeper r p lookups n l heads heads' heads2 seats seats' seats2 a x plan left here same deeper k b =
     let w = same k b in
     let d = deeper k (more b) in

@@ -7,7 +7,7 @@ use Rattle.chr_base.specs.declared.rule.Rule.{Rule}
 use Rattle.chr_plans.specs.declared.rows.Seat.{Seat}
 use Rattle.chr_plans.specs.Rows.{Tables}
 use Rattle.chr_plans.specs.Seats.{head, seat, no_seat, atom_in, IsSeated, NoPartners}
-use Rattle.chr_plans.specs.working.Searching.{AreSame, NoneFrom}
+use Rattle.chr_plans.specs.working.Searching.{AgreeAtKnown, NoneFrom}
 
 -- an instance stays one when the seat at the active place is forgotten
 forgotten : (r : Rule) (rows : Tables) (p : ℕ) (hs : List Atom) (ss : List Seat) → IsSeated r rows p hs ss → IsSeated r rows p hs (set ss p no_seat)
@@ -31,7 +31,7 @@ pub none_started : (r : Rule) (rows : Tables) (p : ℕ) (places : List ℕ) (hea
     → NoneFrom r rows p places 0 heads seats → NoPartners r rows p a
 none_started r rows p places heads seats a h z none hs ss s active = none hs (set ss p no_seat) (forgotten r rows p hs ss s) same
   where
-    same : AreSame places p 0 hs (set ss p no_seat) heads seats
+    same : AgreeAtKnown places p 0 hs (set ss p no_seat) heads seats
     same k (inl e) = (
       ap (head hs) e ∙ active ∙ sym h ∙ ap (head heads) (sym e),
       ap (seat (set ss p no_seat)) e ∙ nowhere ss p ∙ sym z ∙ ap (seat seats) (sym e),

@@ -21,7 +21,7 @@ use Rattle.chr_plans.specs.declared.rows.Seat.{Seat}
 use Rattle.chr_plans.specs.Keys.{source_value, passes, allows, key_of, argument}
 use Rattle.chr_plans.specs.Seats.{head}
 use Rattle.chr_plans.specs.Plans.{pattern_at, IsReady, AreKeys, AreTests, AreLimits, columns_of}
-use Rattle.chr_plans.specs.working.Searching.{AreSame}
+use Rattle.chr_plans.specs.working.Searching.{AgreeAtKnown}
 
 -- what is read past the last term
 abbrev pub no_term : Term
@@ -41,14 +41,14 @@ argument_value r v hs q c e =
     ∙ get_or-map (term_value v) (pattern_at r q).args.items c no_term
 
 -- heads that are the same give a source the same value
-same_value : (places : List ℕ) (p n : ℕ) (hs heads : List Atom) (ss seats : List Seat) (s : Source) → AreSame places p n hs ss heads seats → IsReady places p n s
+same_value : (places : List ℕ) (p n : ℕ) (hs heads : List Atom) (ss seats : List Seat) (s : Source) → AgreeAtKnown places p n hs ss heads seats → IsReady places p n s
     → source_value hs s ≡ source_value heads s
 same_value places p n hs heads ss seats (Constant c) same is = refl
 same_value places p n hs heads ss seats (Argument q c) same is = ap (λ a. argument a c) (same q is).0
 
 -- the head at a place has the values of the key
 pub key_known : (r : Rule) (places : List ℕ) (p n q : ℕ) (hs heads : List Atom) (ss seats : List Seat) (ks : List Key)
-    → HasInstance r hs → AreSame places p n hs ss heads seats → AreKeys r places p n q ks
+    → HasInstance r hs → AgreeAtKnown places p n hs ss heads seats → AreKeys r places p n q ks
     → key_of (columns_of ks) (head hs q) ≡ map (λ k. source_value heads k.source) ks
 key_known r places p n q hs heads ss seats [] h same are = refl
 key_known r places p n q hs heads ss seats (k ∷ ks) h same are =
@@ -58,7 +58,7 @@ key_known r places p n q hs heads ss seats (k ∷ ks) h same are =
 
 -- and the heads that are known pass the tests
 pub tests_known : (r : Rule) (places : List ℕ) (p n : ℕ) (hs heads : List Atom) (ss seats : List Seat) (ts : List Test)
-    → HasInstance r hs → AreSame places p n hs ss heads seats → AreTests r places p n ts → list_all (passes heads) ts ≡ true
+    → HasInstance r hs → AgreeAtKnown places p n hs ss heads seats → AreTests r places p n ts → list_all (passes heads) ts ≡ true
 tests_known r places p n hs heads ss seats [] h same are = refl
 tests_known r places p n hs heads ss seats (t ∷ ts) h same are =
     let left = same_value places p n hs heads ss seats t.left same are.0 in
@@ -68,7 +68,7 @@ tests_known r places p n hs heads ss seats (t ∷ ts) h same are =
 
 -- and the limits allow the head at a place
 pub limits_known : (r : Rule) (places : List ℕ) (p n q : ℕ) (hs heads : List Atom) (ss seats : List Seat) (ls : List Limit)
-    → HasInstance r hs → AreSame places p n hs ss heads seats → AreLimits r places p n q ls → list_all (allows heads (head hs q)) ls ≡ true
+    → HasInstance r hs → AgreeAtKnown places p n hs ss heads seats → AreLimits r places p n q ls → list_all (allows heads (head hs q)) ls ≡ true
 limits_known r places p n q hs heads ss seats [] h same are = refl
 limits_known r places p n q hs heads ss seats (l ∷ ls) h same are =
     let value = same_value places p n hs heads ss seats l.source same are.0 in

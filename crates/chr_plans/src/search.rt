@@ -4,7 +4,7 @@ ghost use Rattle.std.specs.Bool.{OnTrue, OnFalse};
 ghost use Rattle.chr_base.specs.Rules.{heads_of};
 ghost use Rattle.chr_plans.specs.Seats.{seat, head, no_seat, IsSeated, NoPartners};
 ghost use Rattle.chr_plans.specs.Plans.{IsPlan, FitsTables, partners_of, places_of};
-ghost use Rattle.chr_plans.specs.working.Searching.{AreSame, NoneFrom, AreStarted, looked_in};
+ghost use Rattle.chr_plans.specs.working.Searching.{AgreeAtKnown, NoneFrom, AreStarted, looked_in};
 
 use crate::key::{key_values, pass, span_of};
 use crate::plan::Lookup;
@@ -51,7 +51,7 @@ fn complete<R: Rows>(
     ensures columns { R.columns rows.new ≡ R.columns rows.old }
     ensures tables { R.tables rows.new ≡ R.tables rows.old }
     ensures lengths { (length heads.new ≡ length heads.old) × (length seats.new ≡ length seats.old) }
-    ensures same { AreSame (looked_in lookups.now) active done heads.new seats.new heads.old seats.old }
+    ensures same { AgreeAtKnown (looked_in lookups.now) active done heads.new seats.new heads.old seats.old }
     ensures found { OnTrue result (IsSeated rule.now (R.rows rows.old) active heads.new seats.new) }
     ensures none { OnFalse result
         (NoneFrom rule.now (R.rows rows.old) active (looked_in lookups.now) done heads.old seats.old) }

@@ -4,12 +4,12 @@ use Rattle.std.specs.Prelude.{Some, None, IfSome, IfNone}
 use Rattle.std.specs.Option.{SomeIff}
 use Rattle.std.proofs.Math.ListN.{get_or-map}
 use Rattle.std.proofs.lemmas.List.{get_or_default, get_or_append_left, length-set}
-use Rattle.chr_ranges.specs.Rows.{Entry, HasHash, IsWanted}
+use Rattle.chr_ranges.specs.Rows.{Entry, HasEntryHash, IsWanted}
 use Rattle.chr_ranges.specs.declared.range.Range.{Range}
 use Rattle.chr_ranges.specs.declared.row.Row.{Row}
 use Rattle.chr_ranges.specs.declared.row.Link.{Link}
 use Rattle.chr_ranges.specs.working.Chained.{no_row, no_link, row_at, AreLinked, AreHeads, IsSought}
-use Rattle.chr_ranges.specs.working.Entries.{entry_of, entries_of, IsIndex}
+use Rattle.chr_ranges.specs.working.Entries.{entry_of, entries_of, IsRangeIndex}
 use Rattle.chr_ranges.proofs.Links.{index_kept, kept_push, kept_kill}
 
 entry_at : (rows : List Row) (r : ℕ) → get_or (entries_of rows) r None ≡ entry_of (row_at rows r)
@@ -29,7 +29,7 @@ lives_within [] r e = absurd (let f : false ≡ true = e in cc)
 lives_within (x ∷ rows) zero e = omega arith
 lives_within (x ∷ rows) (suc r) e = let l = lives_within rows r e in omega (arith, l)
 
-pub hash_lives : (rows : List Row) (hash r : ℕ) → HasHash (entries_of rows) hash r → ((row_at rows r).hash ≡ hash) × (r < length rows)
+pub hash_lives : (rows : List Row) (hash r : ℕ) → HasEntryHash (entries_of rows) hash r → ((row_at rows r).hash ≡ hash) × (r < length rows)
 hash_lives rows hash r w = let l = entry_lives rows r w.0 w.1 in (ap (λ e. e.hash) l.1 ∙ w.2, lives_within rows r l.0)
 
 pub wanted_sought : (rows : List Row) (hash : ℕ) (range : Range) (r : ℕ) → IsWanted (entries_of rows) hash range r → IsSought rows hash range r
@@ -60,8 +60,8 @@ entries_kill [] k x dead = refl
 entries_kill (y ∷ rows) zero x dead = ap (λ b. cond b (Some (record { hash = x.hash; value = x.value })) None ∷ entries_of rows) dead
 entries_kill (y ∷ rows) (suc k) x dead = ap (λ es. entry_of y ∷ es) (entries_kill rows k x dead)
 
-pub index_kill : (rows : List Row) (links : List Link) (heads : List ℕ) (k : ℕ) (x y : Row) → IsIndex rows links heads → k < length rows → x ≡ get_or rows k x
-    → y.hash ≡ x.hash → y.value ≡ x.value → y.alive ≡ false → IsIndex (set rows k y) links heads
+pub index_kill : (rows : List Row) (links : List Link) (heads : List ℕ) (k : ℕ) (x y : Row) → IsRangeIndex rows links heads → k < length rows → x ≡ get_or rows k x
+    → y.hash ≡ x.hash → y.value ≡ x.value → y.alive ≡ false → IsRangeIndex (set rows k y) links heads
 index_kill rows links heads k x y i here e eh ev dead =
     let is = read_row rows k x here e in
     let size = length-set rows k y in
@@ -78,7 +78,7 @@ index_kill rows links heads k x y i here e eh ev dead =
     }
 
 -- one row more, which has not joined its chain
-pub index_push : (rows : List Row) (links : List Link) (heads : List ℕ) (n : ℕ) (x : Row) (l : Link) → IsIndex rows links heads → n ≡ length rows
+pub index_push : (rows : List Row) (links : List Link) (heads : List ℕ) (n : ℕ) (x : Row) (l : Link) → IsRangeIndex rows links heads → n ≡ length rows
     → AreLinked (length heads) (rows ++ x ∷ []) (links ++ l ∷ []) n × AreHeads (rows ++ x ∷ []) heads n
 index_push rows links heads n x l i e =
     let many = i.as_many in
@@ -86,7 +86,7 @@ index_push rows links heads n x l i e =
     (λ r g. get_or_append_left links (l ∷ []) no_link r (omega (arith, g, many))) i.linked i.newest)
 
 -- the chain of a hash begins above each row that is sought
-pub first_above : (rows : List Row) (links : List Link) (heads : List ℕ) (hash : ℕ) (range : Range) (n from r : ℕ) → IsIndex rows links heads → n ≡ length heads
+pub first_above : (rows : List Row) (links : List Link) (heads : List ℕ) (hash : ℕ) (range : Range) (n from r : ℕ) → IsRangeIndex rows links heads → n ≡ length heads
     → from ≡ get_or heads (hash % n) from → IsSought rows hash range r → r < from
 first_above rows links heads hash range n from r i en e w =
     let some = i.some in

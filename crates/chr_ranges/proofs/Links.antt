@@ -6,8 +6,8 @@ use Rattle.chr_ranges.specs.Rows.{IsIn}
 use Rattle.chr_ranges.specs.declared.range.Range.{Range}
 use Rattle.chr_ranges.specs.declared.row.Row.{Row}
 use Rattle.chr_ranges.specs.declared.row.Link.{Link}
-use Rattle.chr_ranges.specs.working.Bounds.{IsBetween}
-use Rattle.chr_ranges.specs.working.Chained.{no_row, row_at, slot_of, no_link, link_at, LivesIn, IsNewest, IsLink, AreLinked, AreHeads, Passes, IsSought}
+use Rattle.chr_ranges.specs.working.Bounds.{IsInBounds}
+use Rattle.chr_ranges.specs.working.Chained.{no_row, row_at, row_slot, no_link, link_at, LivesIn, IsNewest, IsLink, AreLinked, AreHeads, Passes, IsSought}
 
 -- the first k rows that live were alive before, and have the hash and value that they had
 pub record IsKept (k : ℕ) (before after : List Row) : Type 0 where
@@ -20,7 +20,7 @@ pub read : (links : List Link) (r : ℕ) (l : Link) → r < length links → l �
 read links r l here e = get_or_default links r no_link l here ∙ sym e
 
 module _ (n k : ℕ) (before after : List Row) (kept : IsKept k before after) where
-  same_slot : (q : ℕ) → q < k → slot_of n after q ≡ slot_of n before q
+  same_slot : (q : ℕ) → q < k → row_slot n after q ≡ row_slot n before q
   same_slot q l = ap (λ h. h % n) (kept.hash q l)
 
   lived : (q s : ℕ) → q < k → LivesIn n after s q → LivesIn n before s q
@@ -35,23 +35,23 @@ module _ (n k : ℕ) (before after : List Row) (kept : IsKept k before after) wh
 
   pub link_kept : (r : ℕ) (l : Link) → r < k → IsLink n before r l → IsLink n after r l
   link_kept r l here i =
-      let s : slot_of n after r ≡ slot_of n before r = same_slot r here in record {
-        next = rw s (newest_kept r (slot_of n before r) l.next (omega (arith, here)) i.next);
+      let s : row_slot n after r ≡ row_slot n before r = same_slot r here in record {
+        next = rw s (newest_kept r (row_slot n before r) l.next (omega (arith, here)) i.next);
         jump = i.jump;
         jump_slot = λ some. (let w = i.jump in same_slot (l.jump - 1) (omega (arith, w, some, here)) ∙ i.jump_slot some ∙ sym s);
         bounded = λ q most from w. (let less : q < k = omega (arith, most, here) in
-            rw (kept.value q less) (i.bounded q most from (lived q (slot_of n before r) less (w.0 ∙ s, w.1))));
+            rw (kept.value q less) (i.bounded q most from (lived q (row_slot n before r) less (w.0 ∙ s, w.1))));
       }
 
 module _ (n : ℕ) (rows : List Row) where
   -- the leaf: no live row of the slot lies between the row and the next
-  pub leaf : (r next : ℕ) (l : Link) → IsNewest n rows r (slot_of n rows r) next → l.next ≡ next → l.jump ≡ next
-      → ((row_at rows r).alive ≡ true → IsBetween l.bounds (row_at rows r).value) → IsLink n rows r l
+  pub leaf : (r next : ℕ) (l : Link) → IsNewest n rows r (row_slot n rows r) next → l.next ≡ next → l.jump ≡ next
+      → ((row_at rows r).alive ≡ true → IsInBounds l.bounds (row_at rows r).value) → IsLink n rows r l
   leaf r next l i en ej own = record {
     next = rw en i;
     jump = (let w = i.within in omega (arith, w, ej));
     jump_slot = rw ej i.of_slot;
-    bounded = λ q most from w. (elim (cases_lt q r) as (λ _. IsBetween l.bounds (row_at rows q).value) [
+    bounded = λ q most from w. (elim (cases_lt q r) as (λ _. IsInBounds l.bounds (row_at rows q).value) [
       | inl less ↦ (let a = i.none_above q less w in absurd (omega (arith, a, from, ej)))
       | inr least ↦ (let e : q ≡ r = omega (arith, most, least) in
           rw e (own (ap (λ k. (row_at rows k).alive) (sym e) ∙ w.1)))
@@ -59,23 +59,23 @@ module _ (n : ℕ) (rows : List Row) where
   }
 
   -- the node: the rows below are those of two trees
-  pub node : (r next : ℕ) (l left right : Link) → IsNewest n rows r (slot_of n rows r) next → 0 < next → 0 < left.jump
+  pub node : (r next : ℕ) (l left right : Link) → IsNewest n rows r (row_slot n rows r) next → 0 < next → 0 < left.jump
       → IsLink n rows (next - 1) left → IsLink n rows (left.jump - 1) right → l.next ≡ next → l.jump ≡ right.jump
-      → ((row_at rows r).alive ≡ true → IsBetween l.bounds (row_at rows r).value)
-      → ((x : ℤ) → IsBetween left.bounds x → IsBetween l.bounds x) → ((x : ℤ) → IsBetween right.bounds x → IsBetween l.bounds x)
+      → ((row_at rows r).alive ≡ true → IsInBounds l.bounds (row_at rows r).value)
+      → ((x : ℤ) → IsInBounds left.bounds x → IsInBounds l.bounds x) → ((x : ℤ) → IsInBounds right.bounds x → IsInBounds l.bounds x)
       → IsLink n rows r l
   node r next l left right i some more a b en ej own inleft inright =
-      let sa : slot_of n rows (next - 1) ≡ slot_of n rows r = i.of_slot some in
-      let sb : slot_of n rows (left.jump - 1) ≡ slot_of n rows r = a.jump_slot more ∙ sa in
+      let sa : row_slot n rows (next - 1) ≡ row_slot n rows r = i.of_slot some in
+      let sb : row_slot n rows (left.jump - 1) ≡ row_slot n rows r = a.jump_slot more ∙ sa in
       let within = i.within in
       let jump = a.jump in
       let last = b.jump in record {
         next = rw en i;
         jump = omega (arith, within, jump, last, ej, some, more);
-        jump_slot = λ p. (ap (λ k. slot_of n rows (k - 1)) ej ∙ b.jump_slot (omega (arith, p, ej)) ∙ sb);
-        bounded = λ q most from w. (elim (cases_lt q r) as (λ _. IsBetween l.bounds (row_at rows q).value) [
+        jump_slot = λ p. (ap (λ k. row_slot n rows (k - 1)) ej ∙ b.jump_slot (omega (arith, p, ej)) ∙ sb);
+        bounded = λ q most from w. (elim (cases_lt q r) as (λ _. IsInBounds l.bounds (row_at rows q).value) [
           | inl less ↦ (let above = i.none_above q less w in
-              elim (cases_lt q left.jump) as (λ _. IsBetween l.bounds (row_at rows q).value) [
+              elim (cases_lt q left.jump) as (λ _. IsInBounds l.bounds (row_at rows q).value) [
                 | inl low ↦ inright _ (b.bounded q (omega (arith, low)) (omega (arith, from, ej)) (w.0 ∙ sym sb, w.1))
                 | inr high ↦ inleft _ (a.bounded q (omega (arith, above)) high (w.0 ∙ sym sa, w.1))
               ])
@@ -102,7 +102,7 @@ module _ (n : ℕ) (rows : List Row) where
   ]
 
   -- what the bounds shut out is passed by a jump
-  pub jumped : (range : Range) (r : ℕ) (l : Link) → IsLink n rows r l → ((x : ℤ) → IsBetween l.bounds x → IsIn range x → ⊥)
+  pub jumped : (range : Range) (r : ℕ) (l : Link) → IsLink n rows r l → ((x : ℤ) → IsInBounds l.bounds x → IsIn range x → ⊥)
       → Passes n rows range r (r + 1) l.jump
   jumped range r l i none q g w has = elim (cases_lt q l.jump) as (λ _. q < l.jump) [
     | inl less ↦ less
@@ -110,7 +110,7 @@ module _ (n : ℕ) (rows : List Row) where
   ]
 
   -- what is sought and was not passed before is not passed now
-  pub passed : (hash : ℕ) (range : Range) (from at to bound : ℕ) → 0 < at → slot_of n rows (at - 1) ≡ hash % n → at ≤ bound + 1
+  pub passed : (hash : ℕ) (range : Range) (from at to bound : ℕ) → 0 < at → row_slot n rows (at - 1) ≡ hash % n → at ≤ bound + 1
       → (at ≡ bound + 1 → IsSought rows hash range (at - 1) → ⊥)
       → Passes n rows range (at - 1) bound to → ((r : ℕ) → r < from → IsSought rows hash range r → r < at)
       → (r : ℕ) → r < from → IsSought rows hash range r → r < to
@@ -122,7 +122,7 @@ module _ (n : ℕ) (rows : List Row) where
   ]
 
 -- the row is the newest of its slot
-pub heads_more : (rows : List Row) (heads : List ℕ) (k s p : ℕ) → AreHeads rows heads k → 0 < length heads → s ≡ slot_of (length heads) rows k → p ≡ k + 1
+pub heads_more : (rows : List Row) (heads : List ℕ) (k s p : ℕ) → AreHeads rows heads k → 0 < length heads → s ≡ row_slot (length heads) rows k → p ≡ k + 1
     → AreHeads rows (set heads s p) (k + 1)
 heads_more rows heads k s p are some es ep t g = rw size (elim (cases_lt t s) as (λ _. IsNewest (length heads) rows (k + 1) t (get_or (set heads s p) t 0)) [
   | inl less ↦ other (λ e. (absurd (omega (arith, less, e))))
@@ -144,7 +144,7 @@ heads_more rows heads k s p are some es ep t g = rw size (elim (cases_lt t s) as
       of_slot = i.of_slot;
       none_above = λ q l w. (elim (cases_lt q k) as (λ _. q < get_or heads t 0) [
         | inl less ↦ i.none_above q less w
-        | inr most ↦ (let e : q ≡ k = omega (arith, l, most) in absurd (d (sym w.0 ∙ ap (slot_of (length heads) rows) e ∙ sym es)))
+        | inr most ↦ (let e : q ≡ k = omega (arith, l, most) in absurd (d (sym w.0 ∙ ap (row_slot (length heads) rows) e ∙ sym es)))
       ]);
     })
 
@@ -153,7 +153,7 @@ heads_more rows heads k s p are some es ep t g = rw size (elim (cases_lt t s) as
         let v : get_or (set heads s p) t 0 ≡ k + 1 = ap (λ x. get_or (set heads s p) x 0) e ∙ get_or-set_same heads s p 0 (omega (arith, here, e)) ∙ ep in
         rw v (record {
           within = omega arith;
-          of_slot = λ _. (ap (slot_of (length heads) rows) (omega arith) ∙ sym es ∙ sym e);
+          of_slot = λ _. (ap (row_slot (length heads) rows) (omega arith) ∙ sym es ∙ sym e);
           none_above = λ q l w. l;
         })
 

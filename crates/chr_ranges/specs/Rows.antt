@@ -8,7 +8,7 @@ pub record Entry : Type 0 where
   pub value : ℤ
 
 -- The hash and value of each row, or None where the row is dead, and for how many rows there is room.
-pub record Listed : Type 0 where
+pub record ListedEntries : Type 0 where
   pub rows : List (Option Entry)
   pub room : ℕ
 
@@ -26,8 +26,8 @@ abbrev pub IsIn : Range → ℤ → Type 0
 IsIn range x = IsAtLeast range.least x × IsAtMost range.most x
 
 -- the row lives and has this hash
-abbrev pub HasHash : List (Option Entry) → ℕ → ℕ → Type 0
-HasHash rows hash row = (e : Entry) × (get_or rows row None ≡ Some e) × (e.hash ≡ hash)
+abbrev pub HasEntryHash : List (Option Entry) → ℕ → ℕ → Type 0
+HasEntryHash rows hash row = (e : Entry) × (get_or rows row None ≡ Some e) × (e.hash ≡ hash)
 
 -- and a value in the range
 abbrev pub IsWanted : List (Option Entry) → ℕ → Range → ℕ → Type 0

@@ -1,6 +1,6 @@
 //! Walks along chains.
 ghost use Rattle.std.specs.Prelude.{◌≡◌, ℕ, ◌+◌, ◌-◌, ◌%◌, ◌<◌, ◌≤◌, ◌^◌, length, get_or, vec_capacity};
-ghost use Rattle.chr_ranges.specs.working.Chained.{slot_of, IsNewest, IsLink, AreLinked, AreHeads, Passes, IsSought};
+ghost use Rattle.chr_ranges.specs.working.Chained.{row_slot, IsNewest, IsLink, AreLinked, AreHeads, Passes, IsSought};
 
 use crate::range::Range;
 use crate::row::{Link, Row};
@@ -18,7 +18,7 @@ fn link_for(rows: &[Row], chains: &Chains, row: usize, next: u32) -> Link
     requires as_many { length chains.now.links.items ≡ length rows.now }
     requires linked { AreLinked (length chains.now.heads.items) rows.now chains.now.links.items row }
     requires next { IsNewest (length chains.now.heads.items) rows.now row
-        (slot_of (length chains.now.heads.items) rows.now row) next }
+        (row_slot (length chains.now.heads.items) rows.now row) next }
     ensures { IsLink (length chains.now.heads.items) rows.now row result }
 {
     let bounds = rows[row].bounds();
@@ -94,8 +94,8 @@ fn below(rows: &[Row], chains: &mut Chains, range: &Range, row: usize) -> u32
     ensures room { vec_capacity chains.new.links ≡ vec_capacity chains.old.links }
     ensures linked { AreLinked (length chains.old.heads.items) rows.now chains.new.links.items (length rows.now) }
     ensures within { result ≤ row }
-    ensures slot { 0 < result → slot_of (length chains.old.heads.items) rows.now (result - 1)
-        ≡ slot_of (length chains.old.heads.items) rows.now row }
+    ensures slot { 0 < result → row_slot (length chains.old.heads.items) rows.now (result - 1)
+        ≡ row_slot (length chains.old.heads.items) rows.now row }
     ensures passed { Passes (length chains.old.heads.items) rows.now range.now row row result }
 {
     let link = link_for(rows, chains, row, chains.links[row].next);
@@ -112,7 +112,7 @@ pub(crate) fn seek(rows: &[Row], chains: &mut Chains, hash: u32, range: &Range, 
     requires as_many { length chains.old.links.items ≡ length rows.now }
     requires linked { AreLinked (length chains.old.heads.items) rows.now chains.old.links.items (length rows.now) }
     requires within { from ≤ length rows.now }
-    requires slot { 0 < from → slot_of (length chains.old.heads.items) rows.now (from - 1)
+    requires slot { 0 < from → row_slot (length chains.old.heads.items) rows.now (from - 1)
         ≡ hash % length chains.old.heads.items }
     ensures as_many { length chains.new.links.items ≡ length rows.now }
     ensures heads { chains.new.heads ≡ chains.old.heads }

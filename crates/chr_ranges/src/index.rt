@@ -1,6 +1,6 @@
 //! The index.
 ghost use Rattle.std.specs.Prelude.{◌≡◌, ℕ, ◌+◌, ◌-◌, ◌<◌, ◌≤◌, ◌^◌, ◌∷◌, ◌++◌, [], length, get_or, set, Some, None, OnOk, IfOk, IfSome, IfNone};
-ghost use Rattle.chr_ranges.specs.Rows.{HasHash, IsWanted};
+ghost use Rattle.chr_ranges.specs.Rows.{HasEntryHash, IsWanted};
 
 use crate::chain::{Chains, join, relink, seek};
 use crate::range::Range;
@@ -18,19 +18,19 @@ pub struct Index {
 
 impl Model for Index {
     ghost use Rattle.std.specs.Prelude.{min, vec_capacity};
-    ghost use Rattle.chr_ranges.specs.Rows.{Listed};
-    ghost use Rattle.chr_ranges.specs.working.Entries.{listed_code, entries_of, IsIndex};
+    ghost use Rattle.chr_ranges.specs.Rows.{ListedEntries};
+    ghost use Rattle.chr_ranges.specs.working.Entries.{entries_code, entries_of, IsRangeIndex};
 
-    ghost Value = { Listed };
+    ghost Value = { ListedEntries };
 
-    ghost coded = { listed_code };
+    ghost coded = { entries_code };
 
     ghost view = { λ b. record {
       rows = entries_of b.rows.items;
       room = min (vec_capacity b.rows) (vec_capacity b.chains.links);
     } };
 
-    ghost invariant = { λ b. IsIndex b.rows.items b.chains.links.items b.chains.heads.items };
+    ghost invariant = { λ b. IsRangeIndex b.rows.items b.chains.links.items b.chains.heads.items };
 }
 
 impl Index {
@@ -81,6 +81,17 @@ impl Index {
         join(&self.rows, &mut self.chains, row);
     }
 
+    /// Forgets all rows. The room stays, and is room for as many.
+    pub fn clear(&mut self)
+        ensures rows { self.new.rows ≡ [] }
+        ensures room { self.new.room ≡ self.old.room }
+        ensures fits { length self.old.rows ≤ self.new.room }
+    {
+        self.rows.clear();
+        self.chains.links.clear();
+        self.chains.heads.fill(0);
+    }
+
     /// A row dies.
     pub fn kill(&mut self, row: u32)
         requires { row < length self.old.rows }
@@ -103,7 +114,7 @@ impl Index {
 
     /// The same, below a live row with this hash.
     pub fn next(&mut self, hash: u32, range: &Range, row: u32) -> Option<u32>
-        requires { HasHash self.old.rows hash row }
+        requires { HasEntryHash self.old.rows hash row }
         ensures same { self.new ≡ self.old }
         ensures below { IfSome result (λ next. next < row) }
         ensures wanted { IfSome result (λ next. IsWanted self.old.rows hash range.now next) }
@@ -127,7 +138,7 @@ impl Index {
 
     /// The same, below a live row with this hash.
     fn next_place(&mut self, hash: u32, range: &Range, row: u32) -> u32
-        requires { HasHash self.old.rows hash row }
+        requires { HasEntryHash self.old.rows hash row }
         ensures same { self.new ≡ self.old }
         ensures within { result ≤ row }
         ensures wanted { 0 < result → IsWanted self.old.rows hash range.now (result - 1) }

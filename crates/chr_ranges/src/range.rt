@@ -2,7 +2,7 @@
 ghost use Rattle.std.specs.Prelude.{◌≡◌, ◌≤ℤ◌, ℤ};
 ghost use Rattle.std.specs.Bool.{OnTrue, OnFalse};
 ghost use Rattle.chr_ranges.specs.Rows.{IsIn};
-ghost use Rattle.chr_ranges.specs.working.Bounds.{IsBetween};
+ghost use Rattle.chr_ranges.specs.working.Bounds.{IsInBounds};
 
 /// The values from the least to the most, both among them. An end that is None bounds nothing.
 #[derive(Clone, Copy, Debug, Default, PartialEq, Eq)]
@@ -21,8 +21,8 @@ pub(crate) struct Bounds {
 impl Bounds {
     /// Bounds of what lies in either.
     pub(crate) fn with(self, other: Bounds) -> Bounds
-        ensures left { (x : ℤ) → IsBetween self x → IsBetween result x }
-        ensures right { (x : ℤ) → IsBetween other x → IsBetween result x }
+        ensures left { (x : ℤ) → IsInBounds self x → IsInBounds result x }
+        ensures right { (x : ℤ) → IsInBounds other x → IsInBounds result x }
     {
         Bounds {
             low: self.low.min(other.low),
@@ -76,7 +76,7 @@ impl Range {
     /// Whether a value within these bounds may be in the range.
     pub(crate) fn meets(&self, bounds: Bounds) -> bool
         ensures itself { OnTrue result ((x : ℤ) → bounds.low ≡ x → bounds.high ≡ x → IsIn self.now x) }
-        ensures none { OnFalse result ((x : ℤ) → IsBetween bounds x → IsIn self.now x → ⊥) }
+        ensures none { OnFalse result ((x : ℤ) → IsInBounds bounds x → IsIn self.now x → ⊥) }
     {
         let above = match self.least {
             Some(least) => least <= bounds.high,

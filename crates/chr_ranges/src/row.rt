@@ -2,7 +2,7 @@
 ghost use Rattle.std.specs.Prelude.{◌≡◌, true};
 ghost use Rattle.std.specs.Bool.{OnTrue, OnFalse};
 ghost use Rattle.chr_ranges.specs.Rows.{IsIn};
-ghost use Rattle.chr_ranges.specs.working.Bounds.{IsBetween};
+ghost use Rattle.chr_ranges.specs.working.Bounds.{IsInBounds};
 
 use crate::range::{Bounds, Range};
 
@@ -31,7 +31,7 @@ pub(crate) struct Link {
 impl Row {
     /// Bounds that have its value, where it lives.
     pub(crate) fn bounds(&self) -> Bounds
-        ensures { self.now.alive ≡ true → IsBetween result self.now.value }
+        ensures { self.now.alive ≡ true → IsInBounds result self.now.value }
     {
         if self.alive {
             Bounds {

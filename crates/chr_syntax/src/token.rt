@@ -5,7 +5,7 @@ ghost use Rattle.std.specs.List.{prefix_len};
 ghost use Rattle.chr_base.specs.Names.{is_digit, is_lower, is_upper, is_word_byte};
 ghost use Rattle.chr_syntax.specs.working.Tokens.{number_len, long_sign, middle_sign, short_sign, sign_at, token_at, tokens_of};
 ghost use Rattle.chr_syntax.specs.working.Views.{token_view};
-ghost use Rattle.chr_syntax.specs.working.Outcomes.{Gives};
+ghost use Rattle.chr_syntax.specs.working.Outcomes.{AnswersWith};
 
 use crate::bytes::is_layout;
 use crate::clause::Comparator;
@@ -184,7 +184,7 @@ fn token_at(bytes: &[u8]) -> Option<(Token<'_>, usize)>
 
 /// The tokens of a clause.
 pub fn tokens_of(alloc: Global, bytes: &[u8]) -> Result<Vec<Token<'_>>, Stop>
-    ensures { Gives (λ v. map token_view v.items) result (tokens_of bytes.now) }
+    ensures { AnswersWith (λ v. map token_view v.items) result (tokens_of bytes.now) }
 {
     let mut tokens = Vec::new(alloc);
     let mut at = 0;

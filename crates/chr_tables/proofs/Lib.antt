@@ -7,3 +7,4 @@ pub mod Choices
 pub mod Reading
 pub mod OneTable
 pub mod Looking
+pub mod Compacting

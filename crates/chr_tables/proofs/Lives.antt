@@ -7,8 +7,8 @@ use Rattle.std.proofs.lemmas.List.{get_or-map, map-set, get_or_past, get_or_appe
 use Rattle.chr_base.specs.declared.atom.Atom.{Atom}
 use Rattle.chr_ranges.specs.Rows.{Entry}
 use Rattle.chr_tables.specs.declared.indexes.Keyed.{Keyed}
-use Rattle.chr_tables.specs.working.Indexes.{live, Way, no_way, way_of, entry_of, entry_in, entries_of, ways_of, columns_of, rooms_of, AreIndexed, IsTable}
-use Rattle.chr_tables.specs.working.Finders.{order_in, rows_in, room_in}
+use Rattle.chr_tables.specs.working.Indexes.{live, Way, no_way, way_of, atom_entry, entry_in, keyed_entries, ways_of, key_columns, rooms_of, AreIndexed, IsTable}
+use Rattle.chr_tables.specs.working.Finders.{order_in, finder_rows, room_in}
 
 pub length_live : (as' : List Atom) (bs : List Bool) → length bs ≡ length as' → length (live as' bs) ≡ length as'
 length_live [] bs e = refl
@@ -46,8 +46,8 @@ live_kill (x ∷ as') [] r e = absurd (omega (arith, e))
 live_kill (x ∷ as') (b ∷ bs) zero e = refl
 live_kill (x ∷ as') (b ∷ bs) (suc r) e = ap (λ xs. cond b (Some x) None ∷ xs) (live_kill as' bs r (omega (arith, e)))
 
-pub entries_at : (ks : List Keyed) (i : ℕ) (d : Keyed) → i < length ks → get_or (entries_of ks) i [] ≡ rows_in (get_or ks i d).index
-entries_at ks i d l = get_or-map (λ (k : Keyed). rows_in k.index) ks i d [] l
+pub entries_at : (ks : List Keyed) (i : ℕ) (d : Keyed) → i < length ks → get_or (keyed_entries ks) i [] ≡ finder_rows (get_or ks i d).index
+entries_at ks i d l = get_or-map (λ (k : Keyed). finder_rows k.index) ks i d [] l
 
 pub way_at : (ks : List Keyed) (i : ℕ) (d : Keyed) → i < length ks → get_or (ways_of ks) i no_way ≡ way_of (get_or ks i d)
 way_at ks i d l = get_or-map way_of ks i d no_way l
@@ -55,14 +55,14 @@ way_at ks i d l = get_or-map way_of ks i d no_way l
 pub rooms_at : (ks : List Keyed) (i : ℕ) (d : Keyed) → i < length ks → get_or (rooms_of ks) i 0 ≡ room_in (get_or ks i d).index
 rooms_at ks i d l = get_or-map (λ (k : Keyed). room_in k.index) ks i d 0 l
 
-pub entries_set : (ks : List Keyed) (i : ℕ) (k : Keyed) → entries_of (set ks i k) ≡ set (entries_of ks) i (rows_in k.index)
-entries_set ks i k = map-set (λ (k : Keyed). rows_in k.index) ks i k
+pub entries_set : (ks : List Keyed) (i : ℕ) (k : Keyed) → keyed_entries (set ks i k) ≡ set (keyed_entries ks) i (finder_rows k.index)
+entries_set ks i k = map-set (λ (k : Keyed). finder_rows k.index) ks i k
 
 pub rooms_set : (ks : List Keyed) (i : ℕ) (k : Keyed) → rooms_of (set ks i k) ≡ set (rooms_of ks) i (room_in k.index)
 rooms_set ks i k = map-set (λ (k : Keyed). room_in k.index) ks i k
 
-pub length_entries : (ks : List Keyed) → length (entries_of ks) ≡ length ks
-length_entries ks = length-map ks (λ k. rows_in k.index)
+pub length_entries : (ks : List Keyed) → length (keyed_entries ks) ≡ length ks
+length_entries ks = length-map ks (λ k. finder_rows k.index)
 
 pub length_rooms : (ks : List Keyed) → length (rooms_of ks) ≡ length ks
 length_rooms ks = length-map ks (λ k. room_in k.index)
@@ -74,7 +74,7 @@ same_way k l columns order i = record { columns = columns i; order = order i }
 pub length_ways : (ks : List Keyed) → length (ways_of ks) ≡ length ks
 length_ways ks = length-map ks way_of
 
-pub length_columns : (ks : List Keyed) → length (columns_of ks) ≡ length ks
+pub length_columns : (ks : List Keyed) → length (key_columns ks) ≡ length ks
 length_columns ks = length-map (ways_of ks) (λ w. w.columns) ∙ length_ways ks
 
 -- each index has as many rows as the table
@@ -84,10 +84,10 @@ as_many rows ways entries h j l = ap length (h j l) ∙ length-map rows (entry_i
 
 -- and no more than a number of 32 bits tells
 pub each_few : (atoms : List Atom) (alive : List Bool) (ks : List Keyed) → IsTable atoms alive ks → length atoms + 1 < 2 ^ 32 → (j : ℕ) → j < length ks
-    → length (get_or (entries_of ks) j []) + 1 < 2 ^ 32
+    → length (get_or (keyed_entries ks) j []) + 1 < 2 ^ 32
 each_few atoms alive ks t f j l =
     let m = length_ways ks in
-    let n = as_many (live atoms alive) (ways_of ks) (entries_of ks) t.indexed j (omega (arith, m, l)) in
+    let n = as_many (live atoms alive) (ways_of ks) (keyed_entries ks) t.indexed j (omega (arith, m, l)) in
     let k = length_live atoms alive t.as_alive in
     omega (arith, n, k, f)
 
@@ -95,49 +95,49 @@ indexed_kill : (rows : List (Option Atom)) (ways : List Way) (entries entries' :
     → ((j : ℕ) → get_or entries' j [] ≡ set (get_or entries j []) r None) → AreIndexed (set rows r None) ways entries'
 indexed_kill rows ways entries entries' r h k j l = k j ∙ ap (λ xs. set xs r None) (h j l) ∙ sym (map-set (entry_in (get_or ways j no_way)) rows r None)
 
-indexed_push : (rows : List (Option Atom)) (ways : List Way) (entries entries' : List (List (Option Entry))) (a : Atom) → AreIndexed rows ways entries
-    → ((j : ℕ) → j < length ways → get_or entries' j [] ≡ get_or entries j [] ++ Some (entry_of (get_or ways j no_way) a) ∷ [])
+pub indexed_push : (rows : List (Option Atom)) (ways : List Way) (entries entries' : List (List (Option Entry))) (a : Atom) → AreIndexed rows ways entries
+    → ((j : ℕ) → j < length ways → get_or entries' j [] ≡ get_or entries j [] ++ Some (atom_entry (get_or ways j no_way) a) ∷ [])
     → AreIndexed (rows ++ Some a ∷ []) ways entries'
 indexed_push rows ways entries entries' a h k j l =
-    k j l ∙ ap (λ xs. xs ++ Some (entry_of (get_or ways j no_way) a) ∷ []) (h j l) ∙ sym (map-append (entry_in (get_or ways j no_way)) rows (Some a ∷ []))
+    k j l ∙ ap (λ xs. xs ++ Some (atom_entry (get_or ways j no_way) a) ∷ []) (h j l) ∙ sym (map-append (entry_in (get_or ways j no_way)) rows (Some a ∷ []))
 
-pub table_same : (atoms : List Atom) (alive : List Bool) (ks ks' : List Keyed) → IsTable atoms alive ks → ways_of ks' ≡ ways_of ks → entries_of ks' ≡ entries_of ks
+pub table_same : (atoms : List Atom) (alive : List Bool) (ks ks' : List Keyed) → IsTable atoms alive ks → ways_of ks' ≡ ways_of ks → keyed_entries ks' ≡ keyed_entries ks
     → IsTable atoms alive ks'
 table_same atoms alive ks ks' t c r = record { as_alive = t.as_alive; few = t.few; indexed = rw (c, r) t.indexed }
 
 pub table_kill : (atoms : List Atom) (alive : List Bool) (ks ks' : List Keyed) (r : ℕ) → IsTable atoms alive ks → ways_of ks' ≡ ways_of ks
-    → ((j : ℕ) → get_or (entries_of ks') j [] ≡ set (get_or (entries_of ks) j []) r None) → length (set alive r false) ≡ length alive
+    → ((j : ℕ) → get_or (keyed_entries ks') j [] ≡ set (get_or (keyed_entries ks) j []) r None) → length (set alive r false) ≡ length alive
     → IsTable atoms (set alive r false) ks'
 table_kill atoms alive ks ks' r t c k len = record {
   as_alive = len ∙ t.as_alive;
   few = t.few;
-  indexed = rw (c, live_kill atoms alive r t.as_alive) (indexed_kill (live atoms alive) (ways_of ks) (entries_of ks) (entries_of ks') r t.indexed k);
+  indexed = rw (c, live_kill atoms alive r t.as_alive) (indexed_kill (live atoms alive) (ways_of ks) (keyed_entries ks) (keyed_entries ks') r t.indexed k);
 }
 
 pub table_push : (atoms : List Atom) (alive : List Bool) (ks ks' : List Keyed) (a : Atom) → IsTable atoms alive ks → length atoms + 1 < 2 ^ 32 → ways_of ks' ≡ ways_of ks
-    → ((j : ℕ) → j < length ks → get_or (entries_of ks') j [] ≡ get_or (entries_of ks) j [] ++ Some (entry_of (get_or (ways_of ks) j no_way) a) ∷ [])
+    → ((j : ℕ) → j < length ks → get_or (keyed_entries ks') j [] ≡ get_or (keyed_entries ks) j [] ++ Some (atom_entry (get_or (ways_of ks) j no_way) a) ∷ [])
     → IsTable (atoms ++ a ∷ []) (alive ++ true ∷ []) ks'
 table_push atoms alive ks ks' a t f c r = record {
   as_alive = (let x = length-append atoms (a ∷ []) in let y = length-append alive (true ∷ []) in let z = t.as_alive in omega (arith, x, y, z));
   few = (let x = length-append atoms (a ∷ []) in omega (arith, x, f));
   indexed = rw (c, live_push atoms alive a t.as_alive)
-      (indexed_push (live atoms alive) (ways_of ks) (entries_of ks) (entries_of ks') a t.indexed (λ j l. r j (let n = length_ways ks in omega (arith, n, l))));
+      (indexed_push (live atoms alive) (ways_of ks) (keyed_entries ks) (keyed_entries ks') a t.indexed (λ j l. r j (let n = length_ways ks in omega (arith, n, l))));
 }
 
 -- one more index, of a table without rows
-pub table_index : (atoms : List Atom) (alive : List Bool) (ks : List Keyed) (k : Keyed) → IsTable atoms alive ks → live atoms alive ≡ [] → rows_in k.index ≡ []
+pub table_index : (atoms : List Atom) (alive : List Bool) (ks : List Keyed) (k : Keyed) → IsTable atoms alive ks → live atoms alive ≡ [] → finder_rows k.index ≡ []
     → IsTable atoms alive (ks ++ k ∷ [])
 table_index atoms alive ks k t none empty = record {
   as_alive = t.as_alive;
   few = t.few;
-  indexed = λ j l. (rw (none, map-append (λ (x : Keyed). rows_in x.index) ks (k ∷ []))
-      (elim (cases_lt j (length (entries_of ks))) as (λ _. get_or (entries_of ks ++ rows_in k.index ∷ []) j [] ≡ []) [
-        | inl less ↦ get_or_append_left (entries_of ks) (rows_in k.index ∷ []) [] j less
+  indexed = λ j l. (rw (none, map-append (λ (x : Keyed). finder_rows x.index) ks (k ∷ []))
+      (elim (cases_lt j (length (keyed_entries ks))) as (λ _. get_or (keyed_entries ks ++ finder_rows k.index ∷ []) j [] ≡ []) [
+        | inl less ↦ get_or_append_left (keyed_entries ks) (finder_rows k.index ∷ []) [] j less
             ∙ t.indexed j (let n = length_ways ks in let m = length_entries ks in omega (arith, n, m, less)) ∙ ap (map (entry_in (get_or (ways_of ks) j no_way))) none
-        | inr most ↦ elim (cases_lt (length (entries_of ks)) j) as (λ _. get_or (entries_of ks ++ rows_in k.index ∷ []) j [] ≡ []) [
-          | inl more ↦ (let n = length-append (entries_of ks) (rows_in k.index ∷ []) in get_or_past (entries_of ks ++ rows_in k.index ∷ []) j [] (omega (arith, n, more)))
-          | inr least ↦ (let e : j ≡ length (entries_of ks) = omega (arith, most, least) in
-              ap (λ i. get_or (entries_of ks ++ rows_in k.index ∷ []) i []) e ∙ get_or-append_seam (entries_of ks) (rows_in k.index) [] [] ∙ empty)
+        | inr most ↦ elim (cases_lt (length (keyed_entries ks)) j) as (λ _. get_or (keyed_entries ks ++ finder_rows k.index ∷ []) j [] ≡ []) [
+          | inl more ↦ (let n = length-append (keyed_entries ks) (finder_rows k.index ∷ []) in get_or_past (keyed_entries ks ++ finder_rows k.index ∷ []) j [] (omega (arith, n, more)))
+          | inr least ↦ (let e : j ≡ length (keyed_entries ks) = omega (arith, most, least) in
+              ap (λ i. get_or (keyed_entries ks ++ finder_rows k.index ∷ []) i []) e ∙ get_or-append_seam (keyed_entries ks) (finder_rows k.index) [] [] ∙ empty)
         ]
       ]));
 }

@@ -6,26 +6,26 @@ use Rattle.std.proofs.lemmas.Option.{same_Some}
 use Rattle.chr_base.specs.declared.atom.Atom.{Atom}
 use Rattle.chr_tables.specs.declared.shape.Shape.{Shape}
 use Rattle.chr_tables.specs.Contents.{HasArgument}
-use Rattle.chr_tables.specs.working.Cells.{value_at, arguments, atoms_from, atoms_of, NoneIs, NoneHasArgument}
+use Rattle.chr_tables.specs.working.Cells.{cell_value, arguments, row_atoms, atoms_of, NoneIs, NoneHasArgument}
 use Rattle.chr_tables.specs.working.Indexes.{live}
 use Rattle.chr_tables.proofs.Lives.{live_of}
 
 -- an argument of a row stands in its column
-argument_is : (cs : List (List ℤ)) (row j n i : ℕ) (value : ℤ) → slice_get (arguments cs row j n) i ≡ Some value → value_at cs (j + i) row ≡ value
+argument_is : (cs : List (List ℤ)) (row j n i : ℕ) (value : ℤ) → slice_get (arguments cs row j n) i ≡ Some value → cell_value cs (j + i) row ≡ value
 argument_is cs row j zero i value e = absurd (let f : ◌≡◌ {A = Option ℤ} None (Some value) = e in cc)
-argument_is cs row j (suc n) zero value e = let here : j + 0 ≡ j = omega arith in ap (λ k. value_at cs k row) here ∙ same_Some _ _ e
-argument_is cs row j (suc n) (suc i) value e = let here : j + suc i ≡ suc j + i = omega arith in ap (λ k. value_at cs k row) here ∙ argument_is cs row (suc j) n i value e
+argument_is cs row j (suc n) zero value e = let here : j + 0 ≡ j = omega arith in ap (λ k. cell_value cs k row) here ∙ same_Some _ _ e
+argument_is cs row j (suc n) (suc i) value e = let here : j + suc i ≡ suc j + i = omega arith in ap (λ k. cell_value cs k row) here ∙ argument_is cs row (suc j) n i value e
 
 argument_at : (cs : List (List ℤ)) (first : ℕ) (ss : List Shape) (r : ℕ) (a : Atom) (column : ℕ) (value : ℤ) → r < length ss
-    → get_or (atoms_from cs first ss) r a ≡ a → slice_get a.args.items column ≡ Some value → value_at cs column (first + r) ≡ value
+    → get_or (row_atoms cs first ss) r a ≡ a → slice_get a.args.items column ≡ Some value → cell_value cs column (first + r) ≡ value
 argument_at cs first [] r a column value l e h = absurd (omega (arith, l))
 argument_at cs first (s ∷ ss) zero a column value l e h =
     let here : first + 0 ≡ first = omega arith in
     let same : column ≡ 0 + column = omega arith in
-    ap (value_at cs column) here ∙ ap (λ k. value_at cs k first) same ∙ argument_is cs first 0 s.arity column value (ap (λ (b : Atom). slice_get b.args.items column) e ∙ h)
+    ap (cell_value cs column) here ∙ ap (λ k. cell_value cs k first) same ∙ argument_is cs first 0 s.arity column value (ap (λ (b : Atom). slice_get b.args.items column) e ∙ h)
 argument_at cs first (s ∷ ss) (suc r) a column value l e h =
     let here : first + suc r ≡ suc first + r = omega arith in
-    ap (value_at cs column) here ∙ argument_at cs (suc first) ss r a column value (omega (arith, l)) e h
+    ap (cell_value cs column) here ∙ argument_at cs (suc first) ss r a column value (omega (arith, l)) e h
 
 -- where no cell of a column has the value, no atom has it there
 module _ (cs : List (List ℤ)) (ss : List Shape) (atoms : List Atom) (is : atoms_of cs ss ≡ atoms) (column : ℕ) (value : ℤ) (xs : List ℤ) (at : xs ≡ get_or cs column []) (from : ℕ) where
@@ -34,7 +34,7 @@ module _ (cs : List (List ℤ)) (ss : List Shape) (atoms : List Atom) (is : atom
       let here : row < length ss = omega (arith, m, within) in
       let same : row ≡ 0 + row = omega arith in
       none row l m
-      (ap (λ ys. get_or ys row (pos 0)) at ∙ ap (value_at cs column) same ∙ argument_at cs 0 ss row a column value here (ap (λ as'. get_or as' row a) is ∙ e) h)
+      (ap (λ ys. get_or ys row (pos 0)) at ∙ ap (cell_value cs column) same ∙ argument_at cs 0 ss row a column value here (ap (λ as'. get_or as' row a) is ∙ e) h)
 
   pub least_has : (found : Option ℕ) → IfSome found (λ row. row < length ss) → IfSome found (NoneIs xs value from) → IfSome found (NoneHasArgument atoms column value from)
   least_has None l h = h

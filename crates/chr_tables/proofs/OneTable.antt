@@ -33,10 +33,10 @@ in_order_more ls l before table index j k h here = elim (cases_lt j (length ls))
       (ap (λ (x : Lookup). x.table) (sym same) ∙ table, ap (λ (x : Lookup). x.index) (sym same) ∙ index ∙ sym i))
 ]
 
-pub fits_one : (r : Rule) (ls : List Lookup) (t : Contents) → AreInOrder ls → t.keys ≡ wanted ls → FitsTables r ls (rows_of (t ∷ [])) (contents.columns_of (t ∷ []))
+pub fits_one : (r : Rule) (ls : List Lookup) (t : Contents) → AreInOrder ls → t.keys ≡ wanted ls → FitsTables r ls (rows_of (t ∷ [])) (contents.index_columns (t ∷ []))
 fits_one r ls t order keys = record {
   index = λ j l h e. (let o = order j l h e in
-      ap (λ n. contents.columns_of (t ∷ []) n l.index) o.0 ∙ ap (slice_get t.keys) o.1 ∙ ap (λ ks. slice_get ks j) keys
+      ap (λ n. contents.index_columns (t ∷ []) n l.index) o.0 ∙ ap (slice_get t.keys) o.1 ∙ ap (λ ks. slice_get ks j) keys
       ∙ slice_get-map (λ (x : Lookup). columns_of x.partner.key.items) ls j ∙ ap (option_map (λ (x : Lookup). columns_of x.partner.key.items)) (slice_get_read ls (length ls) j l refl h (sym e)));
   table = λ j l n m a h e is shape. (only n m a is ∙ sym (order j l h e).0);
 }

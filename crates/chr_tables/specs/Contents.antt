@@ -20,8 +20,8 @@ abbrev pub rows_of : List Contents → Tables
 rows_of tables table row = get_or (get_or tables table no_table).rows row None
 
 -- the columns of an index of a table, where there is such an index
-abbrev pub columns_of : List Contents → Columns
-columns_of tables table index = slice_get (get_or tables table no_table).keys index
+abbrev pub index_columns : List Contents → Columns
+index_columns tables table index = slice_get (get_or tables table no_table).keys index
 
 -- the row lives, and this is its atom's argument in a column
 abbrev pub HasArgument : ℕ → ℤ → Option Atom → Type 0

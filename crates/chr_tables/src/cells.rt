@@ -1,7 +1,7 @@
 //! The atoms of rows, in columns.
-ghost use Rattle.std.specs.Prelude.{◌≡◌, ℕ, ◌<◌, ◌≤◌, ◌∷◌, ◌++◌, [], get_or, slice_get, length, pos, Some, OnOk, OnErr, IfSome, IfNone};
+ghost use Rattle.std.specs.Prelude.{◌≡◌, ℕ, ◌<◌, ◌≤◌, ◌∷◌, ◌++◌, [], get_or, slice_get, length, set, take, pos, Some, OnOk, OnErr, IfSome, IfNone};
 ghost use Rattle.chr_base.specs.declared.limits.TheConstants.{MAX_ARITY};
-ghost use Rattle.chr_tables.specs.working.Cells.{value_at, arguments, AreValues, NoneIs, NoneHasArgument};
+ghost use Rattle.chr_tables.specs.working.Cells.{cell_value, arguments, HoldsValues, NoneIs, NoneHasArgument};
 ghost use Rattle.chr_base.specs.declared.atom.Atom.{Atom as AtomValue};
 
 use crate::shape::Shape;
@@ -21,18 +21,18 @@ struct Column {
 
 impl Model for Column {
     ghost use Rattle.std.specs.Prelude.{List, ℤ};
-    ghost use Rattle.chr_tables.specs.working.Cells.{AreValues};
+    ghost use Rattle.chr_tables.specs.working.Cells.{HoldsValues};
 
     ghost Value = { List ℤ };
 
     ghost view = { λ c. c.values.items };
 
-    ghost invariant = { λ c. AreValues c.values.items };
+    ghost invariant = { λ c. HoldsValues c.values.items };
 }
 
 /// The first place from `from` on that has this value. Eight places are compared at a time.
 fn first_equal(values: &[i64], value: i64, from: usize) -> Option<usize>
-    requires values { AreValues values.now }
+    requires values { HoldsValues values.now }
     requires from { from ≤ length values.now }
     ensures from_on { IfSome result (λ row. from ≤ row) }
     ensures within { IfSome result (λ row. row < length values.now) }
@@ -87,6 +87,18 @@ impl Column {
         }
     }
 
+    /// The value of a row moves to one that is no later. It takes no memory.
+    fn move_down(&mut self, to: usize, from: usize)
+        requires { to ≤ from }
+        ensures moved { get_or self.new to (pos 0) ≡ get_or self.old from (pos 0) }
+        ensures others { (i : ℕ) → ¬ (i ≡ to) → get_or self.new i (pos 0) ≡ get_or self.old i (pos 0) }
+    {
+        let value = self.get(from);
+        if to < self.values.len() {
+            self.values[to] = value;
+        }
+    }
+
     /// Puts a value into a row, which is then the last. Where memory is refused the rows before it are the same.
     fn put(&mut self, row: usize, value: i64) -> Result<(), AllocError>
         ensures before { (i : ℕ) → i < row → get_or self.new i (pos 0) ≡ get_or self.old i (pos 0) }
@@ -116,14 +128,26 @@ fn arguments(columns: &[Column], row: usize, count: usize) -> ArrayVec<i64, MAX_
 fn put_arguments(columns: &mut [Column], row: usize, values: &[i64]) -> Result<(), AllocError>
     requires { length values.now ≤ length columns.old }
     ensures count { length columns.new ≡ length columns.old }
-    ensures before { (j i : ℕ) → i < row → value_at columns.new j i ≡ value_at columns.old j i }
+    ensures before { (j i : ℕ) → i < row → cell_value columns.new j i ≡ cell_value columns.old j i }
     ensures ok { OnOk result ((j : ℕ) → j < length values.now →
-        value_at columns.new j row ≡ get_or values.now j (pos 0)) }
+        cell_value columns.new j row ≡ get_or values.now j (pos 0)) }
 {
     for j in 0..values.len() {
         columns[j].put(row, values[j])?;
     }
     Ok(())
+}
+
+/// The arguments of a row move to one that is no later.
+fn move_arguments(columns: &mut [Column], to: usize, from: usize)
+    requires { to ≤ from }
+    ensures count { length columns.new ≡ length columns.old }
+    ensures moved { (j : ℕ) → cell_value columns.new j to ≡ cell_value columns.old j from }
+    ensures others { (j i : ℕ) → ¬ (i ≡ to) → cell_value columns.new j i ≡ cell_value columns.old j i }
+{
+    for j in 0..columns.len() {
+        columns[j].move_down(to, from);
+    }
 }
 
 /// Atoms in rows: for each its symbol and number of arguments, and a column for each argument. No column is longer
@@ -192,6 +216,23 @@ impl Cells {
         ensures none { IfNone result (NoneHasArgument self.now column value from (length self.now)) }
     {
         self.columns[column].first(value, from, self.shapes.len())
+    }
+
+    /// The atom of a row moves to one that is no later. It takes no memory.
+    pub(crate) fn move_down(&mut self, to: usize, from: usize)
+        requires order { to ≤ from }
+        requires within { from < length self.old }
+        ensures { (a : AtomValue) → self.new ≡ set self.old to (get_or self.old from a) }
+    {
+        self.shapes[to] = self.shapes[from];
+        move_arguments(&mut self.columns, to, from);
+    }
+
+    /// Only the first rows stay, so many of them.
+    pub(crate) fn truncate(&mut self, count: usize)
+        ensures { self.new ≡ take count self.old }
+    {
+        self.shapes.truncate(count);
     }
 
     /// One more row, the last; or no change where memory is refused.

@@ -1,8 +1,8 @@
 //! How an index finds rows.
 ghost use Rattle.std.specs.Prelude.{◌≡◌, ℕ, ℤ, ◌+◌, ◌<◌, ◌≤◌, ◌^◌, ◌∷◌, ◌++◌, [], length, set, Some, None, OnOk, IfOk, IfSome, IfNone};
 ghost use Rattle.chr_plans.specs.Keys.{argument};
-ghost use Rattle.chr_ranges.specs.Rows.{HasHash, IsIn};
-ghost use Rattle.chr_tables.specs.working.Finders.{order_in, rows_in, room_in, ordered, IsSought};
+ghost use Rattle.chr_ranges.specs.Rows.{HasEntryHash, IsIn};
+ghost use Rattle.chr_tables.specs.working.Finders.{order_in, finder_rows, room_in, ordered, IsFinderRow};
 
 use chr_base::atom::Atom;
 use chr_plans::key::Span;
@@ -48,7 +48,7 @@ impl Finder {
     /// The one of no rows, by the values in this column, where there is one.
     pub(crate) fn new(alloc: Global, order: Option<usize>) -> Result<Finder, AllocError>
         ensures order { IfOk result (λ f. order_in f ≡ order) }
-        ensures rows { IfOk result (λ f. rows_in f ≡ []) }
+        ensures rows { IfOk result (λ f. finder_rows f ≡ []) }
     {
         match order {
             None => Ok(Finder::Chained(chr_chains::Index::new(alloc)?)),
@@ -61,10 +61,10 @@ impl Finder {
 
     /// Makes room for one row more.
     pub(crate) fn reserve(&mut self) -> Result<(), AllocError>
-        requires { length (rows_in self.old) + 1 < 2 ^ 32 }
+        requires { length (finder_rows self.old) + 1 < 2 ^ 32 }
         ensures order { order_in self.new ≡ order_in self.old }
-        ensures rows { rows_in self.new ≡ rows_in self.old }
-        ensures ok { OnOk result (length (rows_in self.old) + 1 ≤ room_in self.new) }
+        ensures rows { finder_rows self.new ≡ finder_rows self.old }
+        ensures ok { OnOk result (length (finder_rows self.old) + 1 ≤ room_in self.new) }
     {
         match self {
             Finder::Chained(index) => index.reserve(1),
@@ -74,10 +74,10 @@ impl Finder {
 
     /// One more row, the newest.
     pub(crate) fn push(&mut self, hash: u32, atom: &Atom)
-        requires room { length (rows_in self.old) < room_in self.old }
-        requires few { length (rows_in self.old) + 1 < 2 ^ 32 }
+        requires room { length (finder_rows self.old) < room_in self.old }
+        requires few { length (finder_rows self.old) + 1 < 2 ^ 32 }
         ensures order { order_in self.new ≡ order_in self.old }
-        ensures rows { rows_in self.new ≡ rows_in self.old
+        ensures rows { finder_rows self.new ≡ finder_rows self.old
             ++ Some (record { hash = hash; value = ordered (order_in self.old) atom.now }) ∷ [] }
         ensures room { room_in self.new ≡ room_in self.old }
     {
@@ -87,11 +87,23 @@ impl Finder {
         }
     }
 
+    /// Forgets all rows. The room stays, and is room for as many.
+    pub(crate) fn clear(&mut self)
+        ensures order { order_in self.new ≡ order_in self.old }
+        ensures rows { finder_rows self.new ≡ [] }
+        ensures fits { length (finder_rows self.old) ≤ room_in self.new }
+    {
+        match self {
+            Finder::Chained(index) => index.clear(),
+            Finder::Ranged { index, .. } => index.clear(),
+        }
+    }
+
     /// A row dies.
     pub(crate) fn kill(&mut self, row: u32)
-        requires { row < length (rows_in self.old) }
+        requires { row < length (finder_rows self.old) }
         ensures order { order_in self.new ≡ order_in self.old }
-        ensures rows { rows_in self.new ≡ set (rows_in self.old) row None }
+        ensures rows { finder_rows self.new ≡ set (finder_rows self.old) row None }
         ensures room { room_in self.new ≡ room_in self.old }
     {
         match self {
@@ -103,9 +115,9 @@ impl Finder {
     /// The newest live row with this hash that is not known to lie outside the span.
     pub(crate) fn first(&mut self, hash: u32, span: &Span) -> Option<u32>
         ensures same { self.new ≡ self.old }
-        ensures met { IfSome result (λ row. IsSought self.old hash span.now row) }
-        ensures newest { IfSome result (λ row. (other : ℕ) → IsSought self.old hash span.now other → other ≤ row) }
-        ensures none { IfNone result ((other : ℕ) → ¬ (IsSought self.old hash span.now other)) }
+        ensures met { IfSome result (λ row. IsFinderRow self.old hash span.now row) }
+        ensures newest { IfSome result (λ row. (other : ℕ) → IsFinderRow self.old hash span.now other → other ≤ row) }
+        ensures none { IfNone result ((other : ℕ) → ¬ (IsFinderRow self.old hash span.now other)) }
     {
         match self {
             Finder::Chained(index) => index.first(hash),
@@ -115,13 +127,13 @@ impl Finder {
 
     /// The same, below a live row with this hash.
     pub(crate) fn next(&mut self, hash: u32, span: &Span, row: u32) -> Option<u32>
-        requires { HasHash (rows_in self.old) hash row }
+        requires { HasEntryHash (finder_rows self.old) hash row }
         ensures same { self.new ≡ self.old }
         ensures below { IfSome result (λ next. next < row) }
-        ensures met { IfSome result (λ next. IsSought self.old hash span.now next) }
+        ensures met { IfSome result (λ next. IsFinderRow self.old hash span.now next) }
         ensures newest { IfSome result (λ next. (other : ℕ) → other < row
-            → IsSought self.old hash span.now other → other ≤ next) }
-        ensures none { IfNone result ((other : ℕ) → other < row → ¬ (IsSought self.old hash span.now other)) }
+            → IsFinderRow self.old hash span.now other → other ≤ next) }
+        ensures none { IfNone result ((other : ℕ) → other < row → ¬ (IsFinderRow self.old hash span.now other)) }
     {
         match self {
             Finder::Chained(index) => index.next(hash, row),

@@ -1,9 +1,10 @@
 //! The indexes of a table, changed one after another.
-ghost use Rattle.std.specs.Prelude.{◌≡◌, ℕ, ◌+◌, ◌<◌, ◌^◌, ◌∷◌, ◌++◌, [], length, get_or, set, Some, None, OnOk};
+ghost use Rattle.std.specs.Prelude.{◌≡◌, ℕ, ◌+◌, ◌<◌, ◌≤◌, ◌^◌, ◌∷◌, ◌++◌, [], length, map, get_or, set, Some, None, OnOk};
 ghost use Rattle.chr_plans.specs.Keys.{key_of};
 ghost use Rattle.chr_plans.specs.Hashes.{key_hash};
-ghost use Rattle.chr_tables.specs.working.Indexes.{entries_of, entry_of, ways_of, rooms_of, no_way};
+ghost use Rattle.chr_tables.specs.working.Indexes.{keyed_entries, atom_entry, ways_of, rooms_of, no_way, AreIndexed};
 
+use crate::cells::Cells;
 use crate::finder::{Finder, argument};
 use arrayvec::ArrayVec;
 use chr_base::atom::Atom;
@@ -38,10 +39,10 @@ fn hash_of(columns: &ArrayVec<usize, MAX_ARITY>, atom: &Atom) -> u32
 
 /// A row dies in each index.
 pub(crate) fn kill_in(indexes: &mut [Keyed], row: u32)
-    requires { (j : ℕ) → j < length indexes.old → row < length (get_or (entries_of indexes.old) j []) }
+    requires { (j : ℕ) → j < length indexes.old → row < length (get_or (keyed_entries indexes.old) j []) }
     ensures ways { ways_of indexes.new ≡ ways_of indexes.old }
     ensures rows { (j : ℕ) →
-        get_or (entries_of indexes.new) j [] ≡ set (get_or (entries_of indexes.old) j []) row None }
+        get_or (keyed_entries indexes.new) j [] ≡ set (get_or (keyed_entries indexes.old) j []) row None }
 {
     for i in 0..indexes.len() {
         indexes[i].index.kill(row);
@@ -50,11 +51,11 @@ pub(crate) fn kill_in(indexes: &mut [Keyed], row: u32)
 
 /// Makes room for one row more in each index.
 pub(crate) fn reserve_in(indexes: &mut [Keyed]) -> Result<(), AllocError>
-    requires { (j : ℕ) → j < length indexes.old → length (get_or (entries_of indexes.old) j []) + 1 < 2 ^ 32 }
+    requires { (j : ℕ) → j < length indexes.old → length (get_or (keyed_entries indexes.old) j []) + 1 < 2 ^ 32 }
     ensures ways { ways_of indexes.new ≡ ways_of indexes.old }
-    ensures rows { entries_of indexes.new ≡ entries_of indexes.old }
+    ensures rows { keyed_entries indexes.new ≡ keyed_entries indexes.old }
     ensures ok { OnOk result ((j : ℕ) → j < length indexes.old →
-        length (get_or (entries_of indexes.old) j []) < get_or (rooms_of indexes.new) j 0) }
+        length (get_or (keyed_entries indexes.old) j []) < get_or (rooms_of indexes.new) j 0) }
 {
     for i in 0..indexes.len() {
         indexes[i].index.reserve()?;
@@ -65,16 +66,42 @@ pub(crate) fn reserve_in(indexes: &mut [Keyed]) -> Result<(), AllocError>
 /// One more row in each index, for this atom.
 pub(crate) fn push_in(indexes: &mut [Keyed], atom: &Atom)
     requires room { (j : ℕ) → j < length indexes.old →
-        length (get_or (entries_of indexes.old) j []) < get_or (rooms_of indexes.old) j 0 }
-    requires few { (j : ℕ) → j < length indexes.old → length (get_or (entries_of indexes.old) j []) + 1 < 2 ^ 32 }
+        length (get_or (keyed_entries indexes.old) j []) < get_or (rooms_of indexes.old) j 0 }
+    requires few { (j : ℕ) → j < length indexes.old → length (get_or (keyed_entries indexes.old) j []) + 1 < 2 ^ 32 }
     ensures ways { ways_of indexes.new ≡ ways_of indexes.old }
+    ensures rooms { rooms_of indexes.new ≡ rooms_of indexes.old }
     ensures rows { (j : ℕ) → j < length indexes.old →
-        get_or (entries_of indexes.new) j []
-        ≡ get_or (entries_of indexes.old) j []
-        ++ Some (entry_of (get_or (ways_of indexes.old) j no_way) atom.now) ∷ [] }
+        get_or (keyed_entries indexes.new) j []
+        ≡ get_or (keyed_entries indexes.old) j []
+        ++ Some (atom_entry (get_or (ways_of indexes.old) j no_way) atom.now) ∷ [] }
 {
     for i in 0..indexes.len() {
         let hash = hash_of(&indexes[i].columns, atom);
         indexes[i].index.push(hash, atom);
+    }
+}
+
+/// Each index forgets all rows. Its room stays, and is room for as many.
+pub(crate) fn clear_in(indexes: &mut [Keyed])
+    ensures ways { ways_of indexes.new ≡ ways_of indexes.old }
+    ensures rows { (j : ℕ) → j < length indexes.old → get_or (keyed_entries indexes.new) j [] ≡ [] }
+    ensures fits { (j : ℕ) → j < length indexes.old →
+        length (get_or (keyed_entries indexes.old) j []) ≤ get_or (rooms_of indexes.new) j 0 }
+{
+    for i in 0..indexes.len() {
+        indexes[i].index.clear();
+    }
+}
+
+/// All of these atoms enter each index, which has no rows.
+pub(crate) fn enter_all(atoms: &Cells, indexes: &mut [Keyed])
+    requires few { length atoms.now < 2 ^ 32 }
+    requires none { (j : ℕ) → j < length indexes.old → get_or (keyed_entries indexes.old) j [] ≡ [] }
+    requires room { (j : ℕ) → j < length indexes.old → length atoms.now ≤ get_or (rooms_of indexes.old) j 0 }
+    ensures ways { ways_of indexes.new ≡ ways_of indexes.old }
+    ensures rows { AreIndexed (map (λ a. Some a) atoms.now) (ways_of indexes.old) (keyed_entries indexes.new) }
+{
+    for row in 0..atoms.len() {
+        push_in(indexes, &atoms.atom(row));
     }
 }

@@ -1,13 +1,14 @@
 //! One table.
-ghost use Rattle.std.specs.Prelude.{◌≡◌, ℕ, ◌+◌, ◌<◌, ◌≤◌, ◌^◌, ◌∷◌, ◌++◌, [], length, get_or, set, slice_get, Some, None, OnOk, OnErr, IfSome, IfNone, IsTrue, is_some};
+ghost use Rattle.std.specs.Prelude.{◌≡◌, ℕ, ◌+◌, ◌*◌, ◌<◌, ◌≤◌, ◌^◌, ◌∷◌, ◌++◌, [], length, filter, count_by, get_or, set, slice_get, Some, None, OnOk, OnErr, IfSome, IfNone, IsTrue, is_some};
 ghost use Rattle.std.specs.Bool.{OnTrue, OnFalse};
 ghost use Rattle.chr_base.specs.declared.limits.TheConstants.{MAX_ARITY};
 ghost use Rattle.chr_plans.specs.Rows.{HasKey, MayHaveKey, LiesIn};
 ghost use Rattle.chr_tables.specs.Contents.{HasArgument, GoesBy};
+ghost use Rattle.chr_tables.specs.working.Indexes.{chosen};
 
 use crate::cells::Cells;
 use crate::finder::Finder;
-use crate::indexes::{Keyed, kill_in, push_in, reserve_in};
+use crate::indexes::{Keyed, clear_in, enter_all, kill_in, push_in, reserve_in};
 use arrayvec::ArrayVec;
 use chr_base::atom::Atom;
 use chr_base::limits::MAX_ARITY;
@@ -29,7 +30,7 @@ pub struct Table {
 
 impl Model for Table {
     ghost use Rattle.chr_tables.specs.Contents.{Contents};
-    ghost use Rattle.chr_tables.specs.working.Indexes.{contents_code, columns_of, orders_of, live, IsTable};
+    ghost use Rattle.chr_tables.specs.working.Indexes.{contents_code, key_columns, orders_of, live, IsTable};
 
     ghost Value = { Contents };
 
@@ -37,7 +38,7 @@ impl Model for Table {
 
     ghost view = { λ t. record {
       rows = live t.atoms t.alive.items;
-      keys = columns_of t.indexes.items;
+      keys = key_columns t.indexes.items;
       orders = orders_of t.indexes.items;
     } };
 
@@ -49,6 +50,28 @@ fn row_of(found: Option<u32>) -> Option<usize>
     ensures { result ≡ found }
 {
     found.map(|row| row as usize)
+}
+
+/// How many of these rows live.
+fn count_live(alive: &[bool]) -> usize
+    ensures { result ≡ count_by (λ b. b) alive.now }
+{
+    alive.iter().filter(|is_alive| **is_alive).count()
+}
+
+/// The atoms of live rows move together, in their order, and the others go.
+fn keep_live(atoms: &mut Cells, alive: &[bool])
+    requires { length alive.now ≡ length atoms.old }
+    ensures { atoms.new ≡ chosen atoms.old alive.now }
+{
+    let mut count = 0;
+    for row in 0..alive.len() {
+        if alive[row] {
+            atoms.move_down(count, row);
+            count += 1;
+        }
+    }
+    atoms.truncate(count);
 }
 
 impl Table {
@@ -198,6 +221,26 @@ impl Table {
     {
         self.alive[row] = false;
         kill_in(&mut self.indexes, row as u32);
+    }
+
+    /// Whether there is no room for one row more and half of the rows are dead, or more. Then `compact` pays.
+    pub fn is_half_dead(&self) -> bool
+        ensures { OnTrue result (2 * length (filter is_some self.now.rows) ≤ length self.now.rows) }
+    {
+        self.alive.len() == self.alive.capacity() && 2 * count_live(&self.alive) <= self.alive.len()
+    }
+
+    /// Dead rows go, and live ones get new numbers, in their order. It takes no memory.
+    pub fn compact(&mut self)
+        ensures rows { self.new.rows ≡ filter is_some self.old.rows }
+        ensures keys { self.new.keys ≡ self.old.keys }
+        ensures orders { self.new.orders ≡ self.old.orders }
+    {
+        clear_in(&mut self.indexes);
+        keep_live(&mut self.atoms, &self.alive);
+        self.alive.truncate(self.atoms.len());
+        self.alive.fill(true);
+        enter_all(&self.atoms, &mut self.indexes);
     }
 
     /// One more row, the newest; or no change where memory is refused, or the table has `MAX_ROWS` rows.

@@ -12,11 +12,11 @@ pub struct Tables {
 
 impl Rows for Tables {
     ghost use Rattle.std.specs.Prelude.{length};
-    ghost use Rattle.chr_tables.specs.Contents.{rows_of, columns_of};
+    ghost use Rattle.chr_tables.specs.Contents.{rows_of, index_columns};
 
     ghost rows = { λ s. rows_of s.tables.items };
 
-    ghost columns = { λ s. columns_of s.tables.items };
+    ghost columns = { λ s. index_columns s.tables.items };
 
     ghost tables = { λ s. length s.tables.items };
 

@@ -12,9 +12,9 @@ IsWithinAtom None = ⊤
 IsWithinAtom (Some k) = k.column < MAX_ARITY
 
 -- where an argument is known, the pattern has it as a constant
-abbrev pub IsKnown : Pattern → Option Known → Type 0
-IsKnown p None = ⊤
-IsKnown p (Some k) = slice_get p.args.items k.column ≡ Some (Constant k.value)
+abbrev pub IsKnownConstant : Pattern → Option Known → Type 0
+IsKnownConstant p None = ⊤
+IsKnownConstant p (Some k) = slice_get p.args.items k.column ≡ Some (Constant k.value)
 
 -- an argument is known, and the atom doesn't have it
 abbrev pub Misses : Option Known → Atom → Type 0

@@ -8,15 +8,15 @@ use Rattle.chr_columns.specs.working.Groups.{shapes_of}
 use Rattle.chr_columns.specs.working.Resting.{HasPlan}
 
 -- the columns of an index, and the one by whose order of values it finds rows
-abbrev pub way_of : Way → List ℕ × Option ℕ
-way_of w = (w.columns.items, w.order)
+abbrev pub made_way : Way → List ℕ × Option ℕ
+made_way w = (w.columns.items, w.order)
 
-abbrev pub ways_of : Keys → List (List ℕ × Option ℕ)
-ways_of k = map way_of k.ways.items
+abbrev pub made_ways : Keys → List (List ℕ × Option ℕ)
+made_ways k = map made_way k.ways.items
 
 -- the columns of the indexes of a table
 abbrev pub lists_of : Keys → List (List ℕ)
-lists_of k = map (λ w. w.0) (ways_of k)
+lists_of k = map (λ w. w.0) (made_ways k)
 
 -- the columns of an index of a table, where there is such an index
 abbrev pub columns_in : List Keys → Columns

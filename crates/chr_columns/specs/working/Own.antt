@@ -8,5 +8,5 @@ abbrev pub IsOwn : List Rule → Rule → Type 0
 IsOwn rules rule = (i : ℕ) × (r : Rule) × (slice_get rules i ≡ Some r) × (parts_of r ≡ parts_of rule)
 
 -- the rule at this number says the same
-abbrev pub StandsAt : List Rule → ℕ → Rule → Type 0
-StandsAt rules n rule = (r : Rule) × (slice_get rules n ≡ Some r) × (parts_of rule ≡ parts_of r)
+abbrev pub IsRuleAt : List Rule → ℕ → Rule → Type 0
+IsRuleAt rules n rule = (r : Rule) × (slice_get rules n ≡ Some r) × (parts_of rule ≡ parts_of r)

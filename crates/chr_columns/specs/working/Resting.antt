@@ -12,7 +12,7 @@ use Rattle.chr_plans.specs.Rows.{Tables, Columns}
 use Rattle.chr_plans.specs.Plans.{IsPlan, pattern_at, partners_of}
 use Rattle.chr_plans.specs.Plans as plan
 use Rattle.chr_plans.specs.Seats.{IsSeated, head}
-use Rattle.chr_tables.specs.Contents.{Contents, rows_of, columns_of}
+use Rattle.chr_tables.specs.Contents.{Contents, rows_of, index_columns}
 use Rattle.chr_actives.specs.Grids.{Grid, contents}
 use Rattle.chr_columns.specs.declared.groups.Group.{Group}
 use Rattle.chr_columns.specs.declared.rested.Rested.{Rested}
@@ -28,8 +28,8 @@ abbrev pub stored : Rested → Store
 stored r = contents (grid r.tables.tables.items)
 
 -- each look-up is in the table of its head, by an index with the columns of its key
-abbrev pub AreIndexed : Rule → List Group → Columns → List Lookup → Type 0
-AreIndexed r groups columns lookups =
+abbrev pub AreLookupsIndexed : Rule → List Group → Columns → List Lookup → Type 0
+AreLookupsIndexed r groups columns lookups =
     (j : ℕ) (l : Lookup) → j < length lookups → get_or lookups j l ≡ l
     → (columns l.table l.index ≡ Some (plan.columns_of l.partner.key.items))
     × (l.table ≡ table_of_pattern groups (pattern_at r l.partner.place))
@@ -38,7 +38,7 @@ AreIndexed r groups columns lookups =
 abbrev pub IsPlanned : List Rule → List Group → Columns → Plan → Type 0
 IsPlanned rules groups columns p =
     (r : Rule) × (slice_get rules p.rule ≡ Some r) × (p.place < length (heads_of r))
-    × IsPlan r p.place (partners_of p.lookups.items) × AreIndexed r groups columns p.lookups.items
+    × IsPlan r p.place (partners_of p.lookups.items) × AreLookupsIndexed r groups columns p.lookups.items
 
 -- each plan of a group is one of its rule and place
 abbrev pub ArePlanned : List Rule → List Group → Columns → Type 0
@@ -70,7 +70,7 @@ pub record IsSetUp (rules : List Rule) (groups : List Group) (rows : Tables) (co
 
 -- the atoms are at rest under the rules
 pub record IsRested (r : Rested) : Type 0 where
-  pub set_up : IsSetUp r.rules.items r.groups.items (rows_of r.tables.tables.items) (columns_of r.tables.tables.items)
+  pub set_up : IsSetUp r.rules.items r.groups.items (rows_of r.tables.tables.items) (index_columns r.tables.tables.items)
       (length r.tables.tables.items)
   pub rests : IsAtRest (Step r.rules.items) (stored r)
 

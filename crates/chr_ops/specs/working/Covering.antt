@@ -13,12 +13,12 @@ abbrev pub Ends : Type 0
 Ends = map.FinMap id_cmp ℕ
 
 -- the range of a first id and a last number
-abbrev pub range_of : OpId × ℕ → IdRange
-range_of e = record { origin = e.0.origin; lo = e.0.number; hi = e.1 }
+abbrev pub end_range : OpId × ℕ → IdRange
+end_range e = record { origin = e.0.origin; lo = e.0.number; hi = e.1 }
 
 -- the ranges, in order
-abbrev pub ranges_of : Ends → List IdRange
-ranges_of m = each range_of (map.entries m)
+abbrev pub end_ranges : Ends → List IdRange
+end_ranges m = each end_range (map.entries m)
 
 -- each range has an id, its numbers are 64-bit numbers, and no two ranges have an id in common
 pub record AreDisjoint (m : Ends) : Type 0 where
@@ -27,30 +27,30 @@ pub record AreDisjoint (m : Ends) : Type 0 where
       → k.number < l.number → h < l.number
 
 -- a range ends right before an id
-abbrev pub EndsBefore : Ends → OpId → OpId → Type 0
-EndsBefore m q k = (h : ℕ) × (map.get m k ≡ Some h) × (k.origin ≡ q.origin) × (h + 1 ≡ q.number)
+abbrev pub EndsRightBefore : Ends → OpId → OpId → Type 0
+EndsRightBefore m q k = (h : ℕ) × (map.get m k ≡ Some h) × (k.origin ≡ q.origin) × (h + 1 ≡ q.number)
 
 -- a range begins at an id, and another ends right before it
 abbrev pub IsSeam : Ends → OpId → Type 0
-IsSeam m q = (k : OpId) × EndsBefore m q k × IsSome (map.get m q)
+IsSeam m q = (k : OpId) × EndsRightBefore m q k × IsSome (map.get m q)
 
 -- the ranges are as long as possible
-pub record AreLongest (m : Ends) : Type 0 where
+pub record AreAsLongAsPossible (m : Ends) : Type 0 where
   pub disjoint : AreDisjoint m
   pub closed : (q : OpId) → ¬ (IsSeam m q)
 
 -- whether an id is one of a list
-abbrev pub is_among : List OpId → OpId → Bool
-is_among ids q = list_any (eq_by_cmp id_cmp q) ids
+abbrev pub is_among_ends : List OpId → OpId → Bool
+is_among_ends ids q = list_any (eq_by_cmp id_cmp q) ids
 
 -- each id of a list is put in as a range of its own, and has a 64-bit number
 pub record IsLaid (m : Ends) (ids : List OpId) (n : Ends) : Type 0 where
-  pub at : (q : OpId) → map.get n q ≡ (if is_among ids q then Some q.number else map.get m q)
-  pub fits : (q : OpId) → is_among ids q ≡ true → q.number < 2 ^ 64
+  pub at : (q : OpId) → map.get n q ≡ (if is_among_ends ids q then Some q.number else map.get m q)
+  pub fits : (q : OpId) → is_among_ends ids q ≡ true → q.number < 2 ^ 64
 
 -- nothing differs but at the ids of a list
 abbrev pub IsSameBut : Ends → List OpId → Ends → Type 0
-IsSameBut m ids n = (q : OpId) → is_among ids q ≡ false → map.get n q ≡ map.get m q
+IsSameBut m ids n = (q : OpId) → is_among_ends ids q ≡ false → map.get n q ≡ map.get m q
 
 -- the id after one
 abbrev pub next_id : OpId → OpId
@@ -63,5 +63,5 @@ is_beside q id = eq_by_cmp id_cmp q id || eq_by_cmp id_cmp q (next_id id)
 -- some ranges are joined: they cover the same, and no seam is left where the test holds
 pub record AreJoined (m : Ends) (test : OpId → Bool) (n : Ends) : Type 0 where
   pub disjoint : AreDisjoint n
-  pub covering : (q : OpId) → covers (ranges_of n) q ≡ covers (ranges_of m) q
+  pub covering : (q : OpId) → covers (end_ranges n) q ≡ covers (end_ranges m) q
   pub seams : (q : OpId) → IsSeam n q → IsSeam m q × (test q ≡ false)

@@ -5,5 +5,5 @@ use Rattle.chr_ops.specs.declared.id.OpId.{OpId}
 use Rattle.chr_ops.specs.Operations.{Operation}
 
 -- the operation of an id and a lent bag
-abbrev pub entry_of : OpId × Bor Store → Operation
-entry_of p = (p.0, p.1.now)
+abbrev pub operation_entry : OpId × Bor Store → Operation
+operation_entry p = (p.0, p.1.now)

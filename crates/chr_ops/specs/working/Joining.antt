@@ -19,5 +19,5 @@ abbrev pub is_held_or_seen : Operations → BTreeSet OpId → OpId → Bool
 is_held_or_seen m ids q = map.contains_key m q || set.contains id_cmp ids q
 
 -- the ids of the one map are those of the other, and these
-abbrev pub HasIds : Operations → List OpId → Operations → Type 0
-HasIds m ids n = (q : OpId) → map.contains_key n q ≡ (map.contains_key m q || list_any (eq_by_cmp id_cmp q) ids)
+abbrev pub AddsIds : Operations → List OpId → Operations → Type 0
+AddsIds m ids n = (q : OpId) → map.contains_key n q ≡ (map.contains_key m q || list_any (eq_by_cmp id_cmp q) ids)

@@ -13,14 +13,14 @@ abbrev pub looked_in : List Lookup → List ℕ
 looked_in lookups = places_of (partners_of lookups)
 
 -- at the known places the heads and seats are the same
-abbrev pub AreSame : List ℕ → ℕ → ℕ → List Atom → List Seat → List Atom → List Seat → Type 0
-AreSame places p n heads seats heads' seats' =
+abbrev pub AgreeAtKnown : List ℕ → ℕ → ℕ → List Atom → List Seat → List Atom → List Seat → Type 0
+AgreeAtKnown places p n heads seats heads' seats' =
     (k : ℕ) → IsKnown places p n k → (head heads k ≡ head heads' k) × (seat seats k ≡ seat seats' k)
 
 -- no instance goes on from the heads and seats at the known places
 abbrev pub NoneFrom : Rule → Tables → ℕ → List ℕ → ℕ → List Atom → List Seat → Type 0
 NoneFrom r rows p places n heads seats =
-    (hs : List Atom) (ss : List Seat) → IsSeated r rows p hs ss → ¬ AreSame places p n hs ss heads seats
+    (hs : List Atom) (ss : List Seat) → IsSeated r rows p hs ss → ¬ AgreeAtKnown places p n hs ss heads seats
 
 -- the heads at the first n places sit in different live rows
 pub record AreStarted (rows : Tables) (places : List ℕ) (n : ℕ) (heads : List Atom) (seats : List Seat) : Type 0 where

@@ -4,7 +4,7 @@ use Rattle.chr_ranges.specs.declared.range.Range.{Range}
 use Rattle.chr_ranges.specs.declared.row.Row.{Row}
 use Rattle.chr_ranges.specs.declared.row.Link.{Link}
 use Rattle.chr_ranges.specs.Rows.{IsIn}
-use Rattle.chr_ranges.specs.working.Bounds.{IsBetween}
+use Rattle.chr_ranges.specs.working.Bounds.{IsInBounds}
 
 -- what is read past the last row
 abbrev pub no_row : Row
@@ -21,26 +21,26 @@ abbrev pub link_at : List Link → ℕ → Link
 link_at links r = get_or links r no_link
 
 -- the slot of a row, of n slots
-abbrev pub slot_of : ℕ → List Row → ℕ → ℕ
-slot_of n rows r = (row_at rows r).hash % n
+abbrev pub row_slot : ℕ → List Row → ℕ → ℕ
+row_slot n rows r = (row_at rows r).hash % n
 
 -- the row lives and is of the slot
 abbrev pub LivesIn : ℕ → List Row → ℕ → ℕ → Type 0
-LivesIn n rows slot r = (slot_of n rows r ≡ slot) × ((row_at rows r).alive ≡ true)
+LivesIn n rows slot r = (row_slot n rows r ≡ slot) × ((row_at rows r).alive ≡ true)
 
 -- a place of the slot, of which no live row below the bound lies at or above it
 pub record IsNewest (n : ℕ) (rows : List Row) (bound slot place : ℕ) : Type 0 where
   pub within : place ≤ bound
-  pub of_slot : 0 < place → slot_of n rows (place - 1) ≡ slot
+  pub of_slot : 0 < place → row_slot n rows (place - 1) ≡ slot
   pub none_above : (q : ℕ) → q < bound → LivesIn n rows slot q → q < place
 
 -- the link leads down the chain of the row, and has the bounds of what a jump leaves behind
 pub record IsLink (n : ℕ) (rows : List Row) (r : ℕ) (l : Link) : Type 0 where
-  pub next : IsNewest n rows r (slot_of n rows r) l.next
+  pub next : IsNewest n rows r (row_slot n rows r) l.next
   pub jump : l.jump ≤ r
-  pub jump_slot : 0 < l.jump → slot_of n rows (l.jump - 1) ≡ slot_of n rows r
-  pub bounded : (q : ℕ) → q ≤ r → l.jump ≤ q → LivesIn n rows (slot_of n rows r) q
-      → IsBetween l.bounds (row_at rows q).value
+  pub jump_slot : 0 < l.jump → row_slot n rows (l.jump - 1) ≡ row_slot n rows r
+  pub bounded : (q : ℕ) → q ≤ r → l.jump ≤ q → LivesIn n rows (row_slot n rows r) q
+      → IsInBounds l.bounds (row_at rows q).value
 
 -- the first k rows have their links
 abbrev pub AreLinked : ℕ → List Row → List Link → ℕ → Type 0
@@ -58,4 +58,4 @@ IsSought rows hash range r =
 -- each live row of the slot of r that lies below the bound, and has a value in the range, lies below the place
 abbrev pub Passes : ℕ → List Row → Range → ℕ → ℕ → ℕ → Type 0
 Passes n rows range r bound place =
-    (q : ℕ) → q < bound → LivesIn n rows (slot_of n rows r) q → IsIn range (row_at rows q).value → q < place
+    (q : ℕ) → q < bound → LivesIn n rows (row_slot n rows r) q → IsIn range (row_at rows q).value → q < place

@@ -4,7 +4,7 @@ use Rattle.std.specs.Coded.{Coded, code_by, coded×, coded_ℕ, coded_ℤ, coded
 use Rattle.std.proofs.Common.{refl}
 use Rattle.chr_ranges.specs.declared.row.Row.{Row}
 use Rattle.chr_ranges.specs.declared.row.Link.{Link}
-use Rattle.chr_ranges.specs.Rows.{Entry, Listed}
+use Rattle.chr_ranges.specs.Rows.{Entry, ListedEntries}
 use Rattle.chr_ranges.specs.working.Chained.{AreLinked, AreHeads}
 
 -- what a row is found by, where it lives
@@ -19,13 +19,13 @@ coded_entry =
     code_by (ℕ × ℤ) (coded× coded_ℕ coded_ℤ) (λ e. (e.hash, e.value))
     (λ p. record { hash = p.0; value = p.1 }) (λ _. refl)
 
-abbrev pub listed_code : Coded Listed
-listed_code =
+abbrev pub entries_code : Coded ListedEntries
+entries_code =
     code_by (List (Option Entry) × ℕ) (coded× (coded_list (coded_option coded_entry)) coded_ℕ)
     (λ e. (e.rows, e.room)) (λ p. record { rows = p.0; room = p.1 }) (λ _. refl)
 
 -- each row stands in the chain of its slot
-pub record IsIndex (rows : List Row) (links : List Link) (heads : List ℕ) : Type 0 where
+pub record IsRangeIndex (rows : List Row) (links : List Link) (heads : List ℕ) : Type 0 where
   pub as_many : length links ≡ length rows
   pub few : length rows < 2 ^ 32
   pub some : 0 < length heads

@@ -192,12 +192,12 @@ abbrev pub arity_in : List Tok → Option (List ℕ)
 arity_in ts = option_and_then (λ w. if starts_with_minus w then None else Some w) (digits_in ts)
 
 -- a symbol, from what stands before the slash and after it
-abbrev pub symbol_of : List Tok × List Tok → Option Symbol
-symbol_of p = option_map (λ q. record { name = q.0; arity = q.1 }) (both (name_in p.0) (arity_in p.1))
+abbrev pub slashed_symbol : List Tok × List Tok → Option Symbol
+slashed_symbol p = option_map (λ q. record { name = q.0; arity = q.1 }) (both (name_in p.0) (arity_in p.1))
 
 -- a name, a slash and digits
 abbrev pub symbol_in : List Tok → Option Symbol
-symbol_in ts = option_and_then symbol_of (cut_at s.Slash ts)
+symbol_in ts = option_and_then slashed_symbol (cut_at s.Slash ts)
 
 abbrev pub symbols_in : List Tok → Option (List Symbol)
 symbols_in ts = each_item symbol_in ts
@@ -209,12 +209,12 @@ numbers_in (number v ∷ sign s.Comma ∷ number w ∷ []) = Some (v, Some w)
 numbers_in _ = None
 
 -- a weight, from what stands before the sign `=` and after it
-abbrev pub weight_of : List Tok × List Tok → Option Form
-weight_of p = option_map (λ q. weight q.0 q.1.0 q.1.1) (both (symbol_in p.0) (numbers_in p.1))
+abbrev pub weight_form : List Tok × List Tok → Option Form
+weight_form p = option_map (λ q. weight q.0 q.1.0 q.1.1) (both (symbol_in p.0) (numbers_in p.1))
 
 -- a symbol, `=`, and one number or two
 abbrev pub weight_from : List Tok → Option Form
-weight_from ts = option_and_then weight_of (cut_at s.Equals ts)
+weight_from ts = option_and_then weight_form (cut_at s.Equals ts)
 
 -- the word `library`, and what stands between parentheses after it
 abbrev pub library_in : List Tok → Option (List Tok)

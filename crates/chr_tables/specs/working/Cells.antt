@@ -5,28 +5,28 @@ use Rattle.chr_base.specs.Values.{is_value}
 use Rattle.chr_tables.specs.declared.shape.Shape.{Shape}
 
 -- the value of a row in a column, both counted from 0
-abbrev pub value_at : List (List ℤ) → ℕ → ℕ → ℤ
-value_at columns j row = get_or (get_or columns j []) row (pos 0)
+abbrev pub cell_value : List (List ℤ) → ℕ → ℕ → ℤ
+cell_value columns j row = get_or (get_or columns j []) row (pos 0)
 
 -- so many arguments of a row, from the one of number j on
 abbrev pub arguments : List (List ℤ) → ℕ → ℕ → ℕ → List ℤ
 arguments columns row j zero = []
-arguments columns row j (suc n) = value_at columns j row ∷ arguments columns row (suc j) n
+arguments columns row j (suc n) = cell_value columns j row ∷ arguments columns row (suc j) n
 
-abbrev pub atom_in : List (List ℤ) → ℕ → Shape → Atom
-atom_in columns row s = record { symbol = s.symbol; args = record { items = arguments columns row 0 s.arity } }
+abbrev pub row_atom : List (List ℤ) → ℕ → Shape → Atom
+row_atom columns row s = record { symbol = s.symbol; args = record { items = arguments columns row 0 s.arity } }
 
 -- the atoms of rows, the first of which has this number
-abbrev pub atoms_from : List (List ℤ) → ℕ → List Shape → List Atom
-atoms_from columns row [] = []
-atoms_from columns row (s ∷ shapes) = atom_in columns row s ∷ atoms_from columns (suc row) shapes
+abbrev pub row_atoms : List (List ℤ) → ℕ → List Shape → List Atom
+row_atoms columns row [] = []
+row_atoms columns row (s ∷ shapes) = row_atom columns row s ∷ row_atoms columns (suc row) shapes
 
 abbrev pub atoms_of : List (List ℤ) → List Shape → List Atom
-atoms_of columns shapes = atoms_from columns 0 shapes
+atoms_of columns shapes = row_atoms columns 0 shapes
 
 -- each value is one of 64 bits
-abbrev pub AreValues : List ℤ → Type 0
-AreValues values = (row : ℕ) → is_value (get_or values row (pos 0)) ≡ true
+abbrev pub HoldsValues : List ℤ → Type 0
+HoldsValues values = (row : ℕ) → is_value (get_or values row (pos 0)) ≡ true
 
 -- no row from the one place up to the other has this value
 abbrev pub NoneIs : List ℤ → ℤ → ℕ → ℕ → Type 0

@@ -17,9 +17,9 @@ order_in (Chained index) = None
 order_in (Ranged column index) = Some column
 
 -- the hash of each row, and the value in that column
-abbrev pub rows_in : Finder → List (Option Entry)
-rows_in (Chained index) = map (option_map hashed) index.rows
-rows_in (Ranged column index) = index.rows
+abbrev pub finder_rows : Finder → List (Option Entry)
+finder_rows (Chained index) = map (option_map hashed) index.rows
+finder_rows (Ranged column index) = index.rows
 
 -- how many rows there is room for
 abbrev pub room_in : Finder → ℕ
@@ -32,7 +32,7 @@ ordered None a = pos 0
 ordered (Some column) a = argument a column
 
 -- the row lives, has this hash, and is in the span if that is of the column
-abbrev pub IsSought : Finder → ℕ → Span → ℕ → Type 0
-IsSought f hash span row =
-    (e : Entry) × (get_or (rows_in f) row None ≡ Some e) × (e.hash ≡ hash)
+abbrev pub IsFinderRow : Finder → ℕ → Span → ℕ → Type 0
+IsFinderRow f hash span row =
+    (e : Entry) × (get_or (finder_rows f) row None ≡ Some e) × (e.hash ≡ hash)
     × (order_in f ≡ Some span.column → IsIn span.range e.value)

@@ -7,7 +7,7 @@ use Rattle.chr_base.specs.working.Codes.{coded_atom}
 use Rattle.chr_plans.specs.Keys.{key_of}
 use Rattle.chr_plans.specs.Hashes.{key_hash}
 use Rattle.chr_ranges.specs.Rows.{Entry}
-use Rattle.chr_tables.specs.working.Finders.{order_in, rows_in, room_in, ordered}
+use Rattle.chr_tables.specs.working.Finders.{order_in, finder_rows, room_in, ordered}
 use Rattle.chr_tables.specs.declared.indexes.Keyed.{Keyed}
 use Rattle.chr_tables.specs.Contents.{Contents}
 
@@ -16,6 +16,12 @@ abbrev pub live : List Atom → List Bool → List (Option Atom)
 live [] bs = []
 live (a ∷ as') [] = []
 live (a ∷ as') (b ∷ bs) = cond b (Some a) None ∷ live as' bs
+
+-- the atoms of the rows that live, in their order
+abbrev pub chosen : List Atom → List Bool → List Atom
+chosen [] bs = []
+chosen (a ∷ as') [] = []
+chosen (a ∷ as') (b ∷ bs) = cond b (a ∷ chosen as' bs) (chosen as' bs)
 
 -- by which columns an index finds rows, and by the values in which column
 pub record Way : Type 0 where
@@ -27,24 +33,24 @@ abbrev pub no_way : Way
 no_way = record { columns = []; order = None }
 
 -- what such an index has of an atom, and of a row, or None where the row is dead
-abbrev pub entry_of : Way → Atom → Entry
-entry_of way a = record { hash = key_hash (key_of way.columns a); value = ordered way.order a }
+abbrev pub atom_entry : Way → Atom → Entry
+atom_entry way a = record { hash = key_hash (key_of way.columns a); value = ordered way.order a }
 
 abbrev pub entry_in : Way → Option Atom → Option Entry
-entry_in way row = option_map (entry_of way) row
+entry_in way row = option_map (atom_entry way) row
 
 abbrev pub way_of : Keyed → Way
 way_of k = record { columns = k.columns.items; order = order_in k.index }
 
 -- of each index its rows, its way, its columns, its order, and the room that it has
-abbrev pub entries_of : List Keyed → List (List (Option Entry))
-entries_of ks = map (λ k. rows_in k.index) ks
+abbrev pub keyed_entries : List Keyed → List (List (Option Entry))
+keyed_entries ks = map (λ k. finder_rows k.index) ks
 
 abbrev pub ways_of : List Keyed → List Way
 ways_of ks = map way_of ks
 
-abbrev pub columns_of : List Keyed → List (List ℕ)
-columns_of ks = map (λ w. w.columns) (ways_of ks)
+abbrev pub key_columns : List Keyed → List (List ℕ)
+key_columns ks = map (λ w. w.columns) (ways_of ks)
 
 abbrev pub orders_of : List Keyed → List (Option ℕ)
 orders_of ks = map (λ w. w.order) (ways_of ks)
@@ -61,7 +67,7 @@ AreIndexed rows ways entries =
 pub record IsTable (atoms : List Atom) (alive : List Bool) (indexes : List Keyed) : Type 0 where
   pub as_alive : length alive ≡ length atoms
   pub few : length atoms < 2 ^ 32
-  pub indexed : AreIndexed (live atoms alive) (ways_of indexes) (entries_of indexes)
+  pub indexed : AreIndexed (live atoms alive) (ways_of indexes) (keyed_entries indexes)
 
 abbrev pub contents_code : Coded Contents
 contents_code =

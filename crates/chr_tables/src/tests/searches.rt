@@ -2,7 +2,7 @@
 ghost use Rattle.std.specs.Prelude.{◌≡◌, ◌+◌, ◌<◌, ◌≤◌, ◌^◌, length, IfOk};
 ghost use Rattle.chr_base.specs.Rules.{heads_of};
 ghost use Rattle.chr_plans.specs.Plans.{IsPlan, FitsTables, partners_of};
-ghost use Rattle.chr_tables.specs.Contents.{rows_of, columns_of};
+ghost use Rattle.chr_tables.specs.Contents.{rows_of, index_columns};
 
 use super::atom;
 use crate::table::Table;
@@ -78,7 +78,7 @@ fn prepared(alloc: Global, rule: &Rule, place: usize, atoms: &[Atom]) -> Result<
     requires place { place < length (heads_of rule.now) }
     ensures plan { IfOk result (λ p. IsPlan rule.now place (partners_of p.lookups.items)) }
     ensures fits { IfOk result (λ p. FitsTables rule.now p.lookups.items
-        (rows_of p.tables.tables.items) (columns_of p.tables.tables.items)) }
+        (rows_of p.tables.tables.items) (index_columns p.tables.tables.items)) }
 {
     let partners = plan_of(rule, place);
     let mut table = Table::new(alloc);

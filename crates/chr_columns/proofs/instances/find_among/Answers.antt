@@ -2,7 +2,7 @@ use Rattle.std.specs.Prelude.{Some, None}
 use Rattle.std.proofs.Common.{◌≡◌, ◌+◌, ◌<◌, length, get_or, subst, arith}
 use Rattle.chr_base.specs.declared.atom.Atom.{Atom}
 use Rattle.chr_base.specs.Rules.{heads_of, HasNoStep}
-use Rattle.chr_columns.specs.working.Candidates.{IsKnown}
+use Rattle.chr_columns.specs.working.Candidates.{IsKnownConstant}
 use Rattle.chr_columns.specs.working.Listing.{rows_in_turn}
 use Rattle.chr_columns.proofs.Listed.{contents_turn}
 use Rattle.chr_columns.proofs.Passing.{none_passed}
@@ -13,7 +13,7 @@ use Rattle.chr_columns.proofs.instances.find_among.Goals as goal
 pub loop-active-init : goal.loop-active-init
 loop-active-init c =
     let rows = rows_in_turn c.args.tables.now c.args.fresh.now in
-    let is = subst (λ p. IsKnown p c.known_argument-known.result) c.head_at.ensures c.known_argument-known.ensures.known in
+    let is = subst (λ p. IsKnownConstant p c.known_argument-known.result) c.head_at.ensures c.known_argument-known.ensures.known in
     let n = c.row_count-rows.ensures.rows in
     let m = c.next_candidate-active.ensures.within in
     record {
@@ -26,7 +26,7 @@ loop-active-preserved c =
     let rows = rows_in_turn c.args.tables.now c.args.fresh.now in
     let r = c.args.rule.now in
     let i = c.loop-active.active in
-    let is = subst (λ p. IsKnown p c.known_argument-known.result) c.head_at.ensures c.known_argument-known.ensures.known in
+    let is = subst (λ p. IsKnownConstant p c.known_argument-known.result) c.head_at.ensures c.known_argument-known.ensures.known in
     let n = c.row_count-rows.ensures.rows in
     let m = c.next_candidate-active-in-loop-active.ensures.within in
     let here : (a : Atom) → get_or rows i None ≡ Some a → NoneAt rows r i i a =

@@ -5,7 +5,7 @@ use Rattle.chr_base.specs.declared.rule.Rule.{Rule}
 use Rattle.chr_base.specs.Rules.{Step}
 use Rattle.chr_base.specs.Rewriting.{IsAtRest}
 use Rattle.chr_actives.proofs.Actives.{empty_rests}
-use Rattle.chr_tables.specs.Contents.{rows_of, columns_of}
+use Rattle.chr_tables.specs.Contents.{rows_of, index_columns}
 use Rattle.chr_columns.specs.declared.groups.Group.{Group}
 use Rattle.chr_columns.specs.working.Making.{lists_of, columns_in}
 use Rattle.chr_columns.specs.working.Resting.{ArePlanned, AreCovered, IsSetUp}
@@ -22,7 +22,7 @@ returns-clause-rested c =
     let same = with_items_is old gs many in
     let few : length gs < 2 ^ 31 = (let n = c.len-count.ensures in let l = c.if-count-ge-MAX_TABLES.false in omega (arith, n, l, many)) in
     record {
-      set_up = subst (λ (x : List Group). IsSetUp rules x (rows_of ts) (columns_of ts) (length ts)) (sym same)
+      set_up = subst (λ (x : List Group). IsSetUp rules x (rows_of ts) (index_columns ts) (length ts)) (sym same)
           (set_up_empty rules gs ts c.add_all_plans.new.keys.items c.add_all_plans.ensures.tables few c.in_ok-tables.ensures.rows (c.in_ok-tables.ensures.keys ∙ ap (map lists_of) c.deref-3.ensures.value)
           (subst (λ (x : List Rule). ArePlanned x gs (columns_in c.add_all_plans.new.keys.items)) c.deref-2.ensures.value c.in_ok-add_all_plans.ensures.planned)
           (subst (λ (x : List Rule). AreCovered x gs (length x)) c.deref-2.ensures.value c.in_ok-add_all_plans.ensures.covered));

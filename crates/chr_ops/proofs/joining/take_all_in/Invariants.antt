@@ -5,7 +5,7 @@ use Rattle.chr_ops.specs.declared.id.OpId.{OpId}
 use Rattle.chr_ops.specs.Operations.{Operations, told_store}
 use Rattle.chr_ops.specs.working.Kept.{AreOperationBags}
 use Rattle.chr_ops.specs.Joins.{union, ClashesAt}
-use Rattle.chr_ops.specs.working.Joining.{HasIds, IsWithout}
+use Rattle.chr_ops.specs.working.Joining.{AddsIds, IsWithout}
 use Rattle.chr_ops.proofs.joining.take_all_in.Given as goal
 
 abbrev pub invariant-loop-op : goal.invariant-loop-op
@@ -18,6 +18,6 @@ invariant-loop-op l =
       count : map.len now + vec_len l.fn.fresh ≡ map.len before + vec_len l.fresh;
       no_clash : (j : ℕ) (id : OpId) → j < l.op-index → ¬ (ClashesAt before l.ops j id);
       sized : AreOperationBags before → AreOperationBags now;
-      ids : (m : Operations) → HasIds m l.fn.fresh.items before → HasIds m l.fresh.items now;
+      ids : (m : Operations) → AddsIds m l.fn.fresh.items before → AddsIds m l.fresh.items now;
       back : (m : Operations) → IsWithout m l.fn.fresh.items before → IsWithout m l.fresh.items now;
     }

@@ -1,6 +1,6 @@
 use Rattle.std.proofs.Common.{◌≡◌, ◌-◌, ◌%◌, ◌≤◌, ◌<◌, ℕ, length}
 use Rattle.std.specs.Prelude.{vec_capacity}
-use Rattle.chr_ranges.specs.working.Chained.{slot_of, AreLinked, IsSought}
+use Rattle.chr_ranges.specs.working.Chained.{row_slot, AreLinked, IsSought}
 use Rattle.chr_ranges.proofs.chain.seek.Given as goal
 
 abbrev pub invariant-loop-at : goal.invariant-loop-at
@@ -10,7 +10,7 @@ invariant-loop-at l = record {
   room : vec_capacity l.chains.links ≡ vec_capacity l.fn.chains.links;
   linked : AreLinked (length l.chains.heads.items) l.rows l.chains.links.items (length l.rows);
   within : l.at ≤ l.from;
-  slot : 0 < l.at → slot_of (length l.chains.heads.items) l.rows (l.at - 1) ≡ l.hash % length l.chains.heads.items;
+  slot : 0 < l.at → row_slot (length l.chains.heads.items) l.rows (l.at - 1) ≡ l.hash % length l.chains.heads.items;
   above : (r : ℕ) → r < l.from → IsSought l.rows l.hash l.range r → r < l.at;
 }
 

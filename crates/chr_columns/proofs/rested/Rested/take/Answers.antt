@@ -8,7 +8,7 @@ use Rattle.chr_base.specs.Sameness.{parts_of}
 use Rattle.chr_base.specs.Stores.{store_of}
 use Rattle.chr_plans.specs.Seats.{head}
 use Rattle.chr_actives.specs.Actives.{one}
-use Rattle.chr_columns.specs.working.Own.{StandsAt}
+use Rattle.chr_columns.specs.working.Own.{IsRuleAt}
 use Rattle.chr_columns.specs.working.Resting.{stored, IsReacting}
 use Rattle.chr_columns.proofs.Firings.{rule_is}
 use Rattle.chr_columns.proofs.Owning.{carried_one}
@@ -21,7 +21,7 @@ returns-then-not-stands_at-clause-other c _ same =
     let found = c.in-Some.ensures.found in
     let is = rule_is own n found.rule c.index.result.now found.at c.index.ensures in
     let there = rule_there own c.args.rules.now n found.rule (ap (λ v. map parts_of v.items) c.react.ensures.rules ∙ same) found.at in
-    let standing = subst (StandsAt c.args.rules.now n) is there in
+    let standing = subst (IsRuleAt c.args.rules.now n) is there in
     true≢false (sym (c.stands_at.ensures.1 standing) ∙ c.if-not-stands_at.true)
 
 pub fire-requires-clause-instance : goal.fire-requires-clause-instance

@@ -1,6 +1,6 @@
 use Rattle.std.proofs.Common.{rules, ap, ◌∙◌, ◌≡◌, ◌||◌}
 use Rattle.chr_ops.specs.Summaries.{covers}
-use Rattle.chr_ops.specs.working.Covering.{ranges_of, IsLaid, AreLongest, is_among}
+use Rattle.chr_ops.specs.working.Covering.{end_ranges, IsLaid, AreAsLongAsPossible, is_among_ends}
 use Rattle.chr_ops.proofs.RangeLookups.{ranges_apart}
 use Rattle.chr_ops.proofs.RangesLaid.{lifted, fresh_begin, laid_disjoint, joined_longest, joined_covers}
 use Rattle.chr_ops.proofs.covered.Covered.cover.Goals as goal
@@ -18,7 +18,7 @@ pub returns-in-Err-clause-apart : goal.returns-in-Err-clause-apart
 returns-in-Err-clause-apart c = rw (left c) (ranges_apart c.self.inside.ends c.self.invariant)
 
 pub returns-in-Err-clause-err : goal.returns-in-Err-clause-err
-returns-in-Err-clause-err c = ap ranges_of (left c) ∙ c.self.view_is
+returns-in-Err-clause-err c = ap end_ranges (left c) ∙ c.self.view_is
 
 laid : (c : goal.After-join_beside-arg-1) → IsLaid c.self.inside.ends c.args.ids.now c.lay.new.ends
 laid c = search rules
@@ -27,7 +27,7 @@ pub join_beside-requires : goal.join_beside-requires
 join_beside-requires c =
     laid_disjoint c.self.inside.ends c.args.ids.now c.lay.new.ends c.self.invariant (λ q a. ap (λ rs. covers rs q) c.self.view_is ∙ c.requires q a) (laid c)
 
-longest : (c : goal.After-join_beside) → AreLongest c.join_beside.new.ends
+longest : (c : goal.After-join_beside) → AreAsLongAsPossible c.join_beside.new.ends
 longest c =
     let laid : IsLaid c.self.inside.ends c.args.ids.now c.lay.new.ends = search rules in
     joined_longest c.self.inside.ends c.args.ids.now c.lay.new.ends c.self.invariant (λ q a. ap (λ rs. covers rs q) c.self.view_is ∙ c.requires q a) laid c.join_beside.new.ends c.join_beside.ensures
@@ -42,4 +42,4 @@ pub returns-clause-covers : goal.returns-clause-covers
 returns-clause-covers c = λ q.
     let laid : IsLaid c.self.inside.ends c.args.ids.now c.lay.new.ends = search rules in
     joined_covers c.self.inside.ends c.args.ids.now c.lay.new.ends c.self.invariant (λ k a. ap (λ rs. covers rs k) c.self.view_is ∙ c.requires k a) laid c.join_beside.new.ends c.join_beside.ensures q
-    ∙ ap (λ rs. covers rs q || is_among c.args.ids.now q) c.self.view_is
+    ∙ ap (λ rs. covers rs q || is_among_ends c.args.ids.now q) c.self.view_is

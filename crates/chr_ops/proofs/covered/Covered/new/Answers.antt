@@ -1,5 +1,5 @@
 use Rattle.std.proofs.Common.{ap, ◌∙◌}
-use Rattle.chr_ops.specs.working.Covering.{ranges_of}
+use Rattle.chr_ops.specs.working.Covering.{end_ranges}
 use Rattle.chr_ops.proofs.RangeLookups.{ranges_none, longest_none}
 use Rattle.chr_ops.proofs.covered.Covered.new.Goals as goal
 
@@ -7,4 +7,4 @@ pub invariant_of-result : goal.invariant_of-result
 invariant_of-result c = rw c.new.ensures longest_none
 
 pub returns : goal.returns
-returns c = ap ranges_of c.new.ensures ∙ ranges_none
+returns c = ap end_ranges c.new.ensures ∙ ranges_none

@@ -5,7 +5,7 @@ use Rattle.chr_ops.specs.declared.limits.TheConstants.{MAX_TOLD}
 use Rattle.chr_ops.specs.Operations.{told_store, IsOperationBag}
 use Rattle.chr_ops.specs.declared.id.OpId.{OpId}
 use Rattle.chr_ops.specs.Summaries.{covers}
-use Rattle.chr_ops.specs.working.Covering.{is_among}
+use Rattle.chr_ops.specs.working.Covering.{is_among_ends}
 use Rattle.chr_ops.proofs.Told.{told_store-insert}
 use Rattle.chr_ops.proofs.Keeping.{kept_insert, put_back}
 use Rattle.chr_ops.proofs.op_set.OpSet.add.Goals as goal
@@ -43,5 +43,5 @@ invariant_of-self-2 c =
     let sized : IsOperationBag bag = search (rules, c.into_parts-bag.ensures.sized) in
     let atoms : c.len-atoms.result ≡ size bag = search rules in
     let room : c.self.inside.told + size bag ≤ MAX_TOLD = search rules in
-    let covers : (q : OpId) → covers c.cover.new.self q ≡ (covers c.self.inside.covered q || is_among (id ∷ []) q) = search rules in
+    let covers : (q : OpId) → covers c.cover.new.self q ≡ (covers c.self.inside.covered q || is_among_ends (id ∷ []) q) = search rules in
     rw (atoms, c.in_ok-insert.ensures.ok) (kept_insert c.self.inside.told c.self.inside.covered c.cover.new.self m id bag c.self.invariant new sized room c.cover.ensures.apart covers)

@@ -1,5 +1,5 @@
 use Rattle.std.proofs.Common.{◌≡◌, ◌+◌, ◌<◌, length, get_or, sym, ap, ◌∙◌, arith}
-use Rattle.chr_tables.specs.working.Cells.{arguments, atom_in}
+use Rattle.chr_tables.specs.working.Cells.{arguments, row_atom}
 use Rattle.chr_tables.proofs.InColumns.{length_atoms, atom_at}
 use Rattle.chr_tables.proofs.cells.Cells.atom.Goals as goal
 
@@ -21,7 +21,7 @@ returns c a =
     let items : c.arguments.result.items ≡ arguments c.self.inside.columns c.args.row 0 s.arity =
     c.arguments.ensures ∙ ap (arguments c.self.inside.columns c.args.row 0) c.from.ensures in
     (λ i. record { symbol = s.symbol; args = record { items = items i } })
-    ∙ ap (λ k. atom_in c.self.inside.columns k s) here
-    ∙ ap (atom_in c.self.inside.columns (0 + c.args.row)) c.index-shape.ensures
+    ∙ ap (λ k. row_atom c.self.inside.columns k s) here
+    ∙ ap (row_atom c.self.inside.columns (0 + c.args.row)) c.index-shape.ensures
     ∙ sym (atom_at c.self.inside.columns 0 c.self.inside.shapes.items c.args.row s a l)
     ∙ ap (λ xs. get_or xs c.args.row a) c.self.view_is

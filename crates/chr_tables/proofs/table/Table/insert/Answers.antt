@@ -1,6 +1,6 @@
 use Rattle.std.proofs.Common.{◌≡◌, ◌+◌, ◌<◌, ◌^◌, [], ◌∷◌, ◌++◌, length, sym, ap, ◌∙◌, arith}
 use Rattle.std.specs.Prelude.{Some}
-use Rattle.chr_tables.specs.working.Indexes.{entries_of, ways_of}
+use Rattle.chr_tables.specs.working.Indexes.{keyed_entries, ways_of}
 use Rattle.chr_tables.proofs.Lives.{live_push, table_same, table_push, length_ways, each_few}
 use Rattle.chr_tables.proofs.Walks.{put_back}
 use Rattle.chr_tables.proofs.table.Table.insert.Goals as goal
@@ -8,7 +8,7 @@ use Rattle.chr_tables.proofs.table.Table.insert.Goals as goal
 pub invariant_of-self-2 : goal.invariant_of-self-2
 invariant_of-self-2 c =
     let ways : ways_of c.reserve_in.new.indexes ≡ ways_of c.self.inside.indexes.items = c.in_ok-reserve_in.ensures.ways ∙ ap ways_of c.deref_mut.ensures.value in
-    let rows : entries_of c.reserve_in.new.indexes ≡ entries_of c.self.inside.indexes.items = c.in_ok-reserve_in.ensures.rows ∙ ap entries_of c.deref_mut.ensures.value in
+    let rows : keyed_entries c.reserve_in.new.indexes ≡ keyed_entries c.self.inside.indexes.items = c.in_ok-reserve_in.ensures.rows ∙ ap keyed_entries c.deref_mut.ensures.value in
     let len : length c.reserve_in.new.indexes ≡ length c.self.inside.indexes.items = sym (length_ways c.reserve_in.new.indexes) ∙ ap length ways ∙ length_ways c.self.inside.indexes.items in
     let cap : c.self.inside.indexes.len ≡ length c.self.inside.indexes.items = omega (arith, c.self.inside.indexes.ok.0) in
     let whole = put_back c.reserve_in.new.indexes c.self.inside.indexes.items c.self.inside.indexes.len len cap in
@@ -27,7 +27,7 @@ reserve_in-requires c =
 
 pub push_in-requires-clause-room : goal.push_in-requires-clause-room
 push_in-requires-clause-room c =
-    let rows : entries_of c.reserve_in.new.indexes ≡ entries_of c.self.inside.indexes.items = c.in_ok-reserve_in.ensures.rows ∙ ap entries_of c.deref_mut.ensures.value in
+    let rows : keyed_entries c.reserve_in.new.indexes ≡ keyed_entries c.self.inside.indexes.items = c.in_ok-reserve_in.ensures.rows ∙ ap keyed_entries c.deref_mut.ensures.value in
     let ways : ways_of c.reserve_in.new.indexes ≡ ways_of c.self.inside.indexes.items = c.in_ok-reserve_in.ensures.ways ∙ ap ways_of c.deref_mut.ensures.value in
     let len : length c.reserve_in.new.indexes ≡ length c.self.inside.indexes.items = sym (length_ways c.reserve_in.new.indexes) ∙ ap length ways ∙ length_ways c.self.inside.indexes.items in
     let now = c.deref_mut-2.ensures.value ∙ put_back c.reserve_in.new.indexes c.self.inside.indexes.items c.self.inside.indexes.len len (omega (arith, c.self.inside.indexes.ok.0)) in
@@ -35,7 +35,7 @@ push_in-requires-clause-room c =
 
 pub push_in-requires-clause-few : goal.push_in-requires-clause-few
 push_in-requires-clause-few c =
-    let rows : entries_of c.reserve_in.new.indexes ≡ entries_of c.self.inside.indexes.items = c.in_ok-reserve_in.ensures.rows ∙ ap entries_of c.deref_mut.ensures.value in
+    let rows : keyed_entries c.reserve_in.new.indexes ≡ keyed_entries c.self.inside.indexes.items = c.in_ok-reserve_in.ensures.rows ∙ ap keyed_entries c.deref_mut.ensures.value in
     let ways : ways_of c.reserve_in.new.indexes ≡ ways_of c.self.inside.indexes.items = c.in_ok-reserve_in.ensures.ways ∙ ap ways_of c.deref_mut.ensures.value in
     let len : length c.reserve_in.new.indexes ≡ length c.self.inside.indexes.items = sym (length_ways c.reserve_in.new.indexes) ∙ ap length ways ∙ length_ways c.self.inside.indexes.items in
     let now = c.deref_mut-2.ensures.value ∙ put_back c.reserve_in.new.indexes c.self.inside.indexes.items c.self.inside.indexes.len len (omega (arith, c.self.inside.indexes.ok.0)) in
