@@ -1,11 +1,11 @@
 -- Each step of a listed case is an instance in the case's store.
-use Rattle.std.specs.Prelude.{◌≡◌, ◌-◌, List, [], Some, slice_get}
+use Rattle.std.specs.Prelude.{◌≡◌, ℤ, ◌-◌, true, List, [], Some, slice_get}
 use Rattle.std.proofs.Common.{refl, sym, subst, ◌∙◌, arith, ◌⊎◌, inl, inr}
 use Rattle.std.proofs.lemmas.Option.{same_Some}
 use Rattle.chr_base.specs.declared.rule.Rule.{Rule}
 use Rattle.chr_rewrite.specs.Derivations.{IsApplicable}
 use Rattle.chr_types.specs.OrderTypes.{In}
-use Rattle.chr_confluence.specs.Unifiers.{HasNoUnifier}
+use Rattle.chr_confluence.specs.Unifiers.{Substitution, IsMostGeneralUnifier, HasNoUnifier}
 use Rattle.chr_confluence.specs.Overlaps.{IsMatching, equations_of}
 use Rattle.chr_confluence.specs.Representatives.{left_at, right_at, guards_hold}
 use Rattle.chr_confluence.specs.laws.Peaks.{LeftSideIsStep, RightSideIsStep}
@@ -32,21 +32,27 @@ pub record CaseLaws : Type 0 where
   pub left : LeftSideIsStep
   pub right : RightSideIsStep
 
+-- the case at values under which both guards hold
+pub steps_at : CaseLaws → (rules : List Rule) (o : Overlap) (r1 r2 : Rule) (σ : Substitution) (zs : List ℤ) → IsOverlapOf rules o → slice_get rules (o.first - 1) ≡ Some r1 → slice_get rules (o.second - 1) ≡ Some r2
+    → IsMostGeneralUnifier σ (equations_of r1 r2 o.matching.items) → guards_hold σ r1 r2 zs ≡ true
+    → IsApplicable rules (case_at o r1 r2 σ zs).store (case_at o r1 r2 σ zs).left × IsApplicable rules (case_at o r1 r2 σ zs).store (case_at o r1 r2 σ zs).right
+steps_at laws rules o r1 r2 σ zs h first second solves hold =
+    let m = o.matching.items in
+    let v1 = left_at σ r1 r2 zs in
+    let v2 = right_at σ r1 r2 zs in
+    let case = laws.cases r1 r2 m (matching_at rules o r1 r2 h first second) σ solves zs hold in
+    let left = laws.left r1 r2 m v1 v2 case in
+    let right = laws.right r1 r2 m v1 v2 case in
+    let a = h.2.0 in let b = h.2.1 in (
+      record { rule = r1; numbered = omega (arith, a); named = first; instance = (v1, refl, left.guard); there = left.there },
+      record { rule = r2; numbered = omega (arith, b); named = second; instance = (v2, refl, right.guard); there = right.there },
+    )
+
 pub case_steps : CaseLaws → (rules : List Rule) (o : Overlap) (cs : List Case) → IsOverlapOf rules o → AreCases rules o cs → (c : Case) → In c cs → IsApplicable rules c.store c.left × IsApplicable rules c.store c.right
 case_steps laws rules o cs h is c i = by is.listed
   where
     by : (HasNoUnifier (equations_of is.rule1 is.rule2 o.matching.items) × (cs ≡ [])) ⊎ AreListed rules o is.rule1 is.rule2 cs → IsApplicable rules c.store c.left × IsApplicable rules c.store c.right
     by (inl n) = absurd (subst (In c) n.1 i)
     by (inr l) =
-        let r1 = is.rule1 in let r2 = is.rule2 in let m = o.matching.items in
-        let at = picked (case_at o r1 r2 l.classes) (guards_hold l.classes r1 r2) l.representatives c (subst (In c) l.cases_are i) in
-        let v1 = left_at l.classes r1 r2 at.0 in
-        let v2 = right_at l.classes r1 r2 at.0 in
-        let case = laws.cases r1 r2 m (matching_at rules o r1 r2 h is.first is.second) l.classes l.solves at.0 at.2 in
-        let left = laws.left r1 r2 m v1 v2 case in
-        let right = laws.right r1 r2 m v1 v2 case in
-        let a = h.2.0 in let b = h.2.1 in
-        subst (λ x. IsApplicable rules x.store x.left × IsApplicable rules x.store x.right) at.3 (
-          record { rule = r1; numbered = omega (arith, a); named = is.first; instance = (v1, refl, left.guard); there = left.there },
-          record { rule = r2; numbered = omega (arith, b); named = is.second; instance = (v2, refl, right.guard); there = right.there },
-        )
+        let at = picked (case_at o is.rule1 is.rule2 l.classes) (guards_hold l.classes is.rule1 is.rule2) l.representatives c (subst (In c) l.cases_are i) in
+        subst (λ x. IsApplicable rules x.store x.left × IsApplicable rules x.store x.right) at.3 (steps_at laws rules o is.rule1 is.rule2 l.classes at.0 h is.first is.second l.solves at.2)

@@ -34,7 +34,7 @@ use Rattle.chr_join.proofs.CaseSteps.{CaseLaws, matching_at}
 use Rattle.chr_join.proofs.Verdicts.{joinable_in}
 
 -- the side of a listed case is where its step leads
-side_taken : (rules : List Rule) (s u : Store) (st : StepValue) (r : Rule) (v : Valuation) → slice_get rules (st.rule - 1) ≡ Some r → st.heads.items ≡ heads_at v r → StepBy r v s (side r v s) → LeadsTo rules st s u → u ≡ side r v s
+pub side_taken : (rules : List Rule) (s u : Store) (st : StepValue) (r : Rule) (v : Valuation) → slice_get rules (st.rule - 1) ≡ Some r → st.heads.items ≡ heads_at v r → StepBy r v s (side r v s) → LeadsTo rules st s u → u ≡ side r v s
 side_taken rules s u st r v named heads step taken =
     let same : taken.0.rule ≡ r = same_Some _ _ (sym taken.0.named ∙ named) in
     let on : StepOn r st.heads.items s u = subst (λ x. StepOn x st.heads.items s u) same taken.1 in

@@ -7,3 +7,5 @@ pub mod OnceLists
 pub mod OnceVerdicts
 mod RestedParts
 pub mod VerdictThere
+pub mod SortedConfluent
+pub mod Visits

@@ -1,5 +1,5 @@
 -- From single steps and plain derivations to the sides of cases.
-use Rattle.std.specs.Prelude.{◌≡◌, ◌-◌, List, ◌∷◌, Result, Ok, Err, IfOk, get_or}
+use Rattle.std.specs.Prelude.{◌≡◌, ℕ, ◌-◌, List, ◌∷◌, Result, Ok, Err, IfOk, get_or}
 use Rattle.std.proofs.Common.{refl, sym, subst, ◌∙◌}
 use Rattle.std.proofs.lemmas.Option.{get_or_from_slice_get}
 use Rattle.chr_base.specs.declared.atom.Atom.{Atom}
@@ -14,7 +14,10 @@ use Rattle.chr_join.specs.declared.refused.Cause.{Cause}
 use Rattle.chr_join.specs.declared.refused.Cause.TheVariants as cause
 use Rattle.chr_join.specs.Explanations.{IsSideOf, IsRefusal, IfFails, ReplaysToRest, ReplaysApart}
 use Rattle.chr_overlaps.specs.declared.cases.Case.{Case}
+use Rattle.chr_confluence.specs.Lowering.{RulesLower}
+use Rattle.chr_rewrite.proofs.PlainThere.{plain_there}
 use Rattle.chr_join.specs.Sides.{IsSideComputation, SideEnds, IsJoinable}
+use Rattle.chr_join.specs.working.Ends.{EndsIn}
 
 takes : (rules listed : List Rule) (st : Step) (s s' t : Store) (r : Rule) (heads : List Atom) → IsApplicable rules s st → listed ≡ rules → r ≡ get_or listed (st.rule - 1) r → heads ≡ st.heads.items → s' ≡ s → StepOn r heads s' t → LeadsTo rules st s t
 takes rules listed st s s' t r heads at same is heads_are stores step =
@@ -26,12 +29,18 @@ pub taken : {E : Type 0} (rules listed : List Rule) (st : Step) (s : Store) (res
 taken rules listed st s (Ok t) r heads at same is heads_are step = takes rules listed st s s t r heads at same is heads_are refl step
 taken rules listed st s (Err e) r heads at same is heads_are step = tt
 
-pub ended : {E : Type 0} (rules : List Rule) (s u : Store) (st : Step) (r : Result Store E) → LeadsTo rules st s u → IfOk r (λ end. (steps : List Step) × IsPlainComputation rules steps u end) → IfOk r (SideEnds rules s st)
-ended rules s u st (Ok t) h p = (p.0, (u, h, p.1))
-ended rules s u st (Err e) h p = p
-
 pub joined : (rules : List Rule) (c : Case) (t u : Store) → t ≡ u → SideEnds rules c.store c.left t → SideEnds rules c.store c.right u → IsJoinable rules c
 joined rules c t u e l r = record { end = u; left = subst (SideEnds rules c.store c.left) e l; right = r }
+
+-- sides that are equal have one end, since their store has one
+pub joined_early : (rules : List Rule) (w : Atom → ℕ) (lowers : RulesLower w rules) (c : Case) (t u : Store) → t ≡ u → LeadsTo rules c.left c.store t → LeadsTo rules c.right c.store u → IsJoinable rules c
+joined_early rules w lowers c t u e l r =
+    let p = plain_there rules w lowers u in
+    record { end = p.1; left = (p.0, (t, l, subst (λ x. IsPlainComputation rules p.0 x p.1) (sym e) p.2)); right = (p.0, (u, r, p.2)) }
+
+-- from the store after a step to its side
+pub side_ends : (rules : List Rule) (s u t : Store) (st : Step) → LeadsTo rules st s u → EndsIn rules u t → SideEnds rules s st t
+side_ends rules s u t st h p = (p.0, (u, h, p.1))
 
 -- a side has one derivation
 pub side_once : (rules : List Rule) (s : Store) (st : Step) (xs ys : List Step) (t u : Store) → IsSideComputation rules s st xs t → IsSideComputation rules s st ys u → (xs ≡ ys) × (t ≡ u)

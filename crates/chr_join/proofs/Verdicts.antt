@@ -15,7 +15,7 @@ use Rattle.chr_overlaps.specs.CaseLists.{case_at, AreListed}
 use Rattle.chr_join.specs.Verdicts.{HasJoinableCases, HaveJoinableCases, IsFirst}
 use Rattle.chr_join.proofs.Lists.{split_at, all_in}
 
-filter_few : {A : Type 0} (p : A → Bool) (xs : List A) → length (filter p xs) ≤ length xs
+pub filter_few : {A : Type 0} (p : A → Bool) (xs : List A) → length (filter p xs) ≤ length xs
 filter_few p [] = omega arith
 filter_few p (x ∷ xs) = by (p x) (filter_few p xs)
   where

@@ -3,5 +3,6 @@ pub mod Verdicts
 pub mod AcceptedPrograms
 pub mod Explanations
 pub mod Once
+pub mod SortedVerdicts
 pub mod Parts
 pub mod working

@@ -1,3 +1,5 @@
 -- Words of private contracts.
 pub mod Checking
 pub mod Parts
+pub mod Ends
+pub mod Visits

@@ -1,103 +1,122 @@
 //! The verdict on a program, overlap by overlap and case by case.
-ghost use Rattle.std.specs.Prelude.{◌≡◌, IfOk, IfErr, OnOk, IfSome, IfNone};
-ghost use Rattle.std.specs.List.{All};
+ghost use Rattle.std.specs.Prelude.{◌≡◌, IfOk, IfErr, OnOk, length};
+ghost use Rattle.std.specs.Bool.{OnTrue, OnFalse};
+ghost use Rattle.chr_types.specs.OrderTypes.{Rises, MoreTypesThan};
 ghost use Rattle.chr_weights.specs.WeighedPrograms.{rules_in};
 ghost use Rattle.chr_confluence.specs.Confluence.{Confluent};
 ghost use Rattle.chr_confluence.specs.Constants.{AreConstants};
 ghost use Rattle.chr_overlaps.specs.OverlapLists.{IsOverlapOf};
-ghost use Rattle.chr_overlaps.specs.CaseLists.{AreCases};
+ghost use Rattle.chr_overlaps.specs.declared.cases.TheConstants.{MAX_TYPES};
+ghost use Rattle.chr_overlaps.specs.UnifiedOverlaps.{IsUnifiedAt};
 ghost use Rattle.chr_join.specs.AcceptedPrograms.{weighed_of, cases_of};
-ghost use Rattle.chr_join.specs.Sides.{IsJoinable};
 ghost use Rattle.chr_join.specs.Verdicts.{HasJoinableCases, IsAccepted};
-ghost use Rattle.chr_join.specs.Explanations.{Explains, ExplainsFirst, IsRefusal, IfFails, ReplaysApart};
-ghost use Rattle.chr_join.specs.working.Checking.{EndApart, RefusesAt};
+ghost use Rattle.chr_join.specs.Explanations.{IsRefusal, IfFails, ReplaysApart};
+ghost use Rattle.chr_join.specs.working.Checking.{HaveFewTypes, RefusesAt};
 
 use crate::accepted::Accepted;
-use crate::refused::{Cause, Failure, Refused, TooManyTypes};
-use crate::sides::{different_ends, side};
-use chr_base::bag::Bag;
+use crate::checker::Checker;
+use crate::ends::Ends;
+use crate::refused::{Cause, Refused, TooManyTypes};
 use chr_confluence::laws::peak;
 use chr_confluence::listing::{listed_cases, listed_confluence};
-use chr_overlaps::cases::{Case, cases_among};
+use chr_overlaps::cases::{MAX_TYPES, unified};
 use chr_overlaps::constants::constants;
-use chr_overlaps::{CaseFault, Overlap, overlaps};
+use chr_overlaps::{Overlap, Unified, overlaps};
+use chr_types::{has_more_types, visit_types};
 use chr_weights::Weighed;
 use std::alloc::{AllocError, Global};
 
-/// The derivations of a case that fails.
-fn explained(
+/// Whether so many classes have no more order types than an overlap may have. Numbers that have not are remembered.
+fn are_few(
     alloc: Global,
-    weighed: &Weighed,
-    overlap: &Overlap,
-    case: &Case,
-    ends: (Bag, Bag),
-) -> Result<Failure, AllocError>
-    requires { EndApart (rules_in weighed.now) case.now ends }
-    ensures overlap { IfOk result (λ f. f.overlap ≡ overlap.now) }
-    ensures explains { IfOk result (λ f. Explains (rules_in weighed.now) case.now f) }
+    classes: usize,
+    constants: &[i64],
+    known: &mut Vec<usize>,
+) -> Result<bool, AllocError>
+    requires rising { Rises constants.now }
+    requires known { HaveFewTypes constants.now known.old.items }
+    ensures known { IfOk result (λ _. HaveFewTypes constants.now known.new.items) }
+    ensures few { IfOk result (λ few. OnTrue few (¬ MoreTypesThan MAX_TYPES classes constants.now)) }
+    ensures many { IfOk result (λ few. OnFalse few (MoreTypesThan MAX_TYPES classes constants.now)) }
 {
-    let left = side(alloc, weighed, &case.store, &case.left)?;
-    let right = side(alloc, weighed, &case.store, &case.right)?;
-    let (left_end, right_end) = ends;
-    Ok(Failure {
-        overlap: overlap.copy(),
-        left,
-        left_end,
-        right,
-        right_end,
-    })
-}
-
-/// The first of the cases that fails.
-fn first_failing(
-    alloc: Global,
-    weighed: &Weighed,
-    overlap: &Overlap,
-    cases: &[Case],
-) -> Result<Option<Failure>, AllocError>
-    requires overlap { IsOverlapOf (rules_in weighed.now) overlap.now }
-    requires cases { AreCases (rules_in weighed.now) overlap.now cases.now }
-    ensures joinable { IfOk result (λ found. IfNone found (All (IsJoinable (rules_in weighed.now)) cases.now)) }
-    ensures overlap { IfOk result (λ found. IfSome found (λ f. f.overlap ≡ overlap.now)) }
-    ensures fails { IfOk result (λ found. IfSome found (ExplainsFirst (rules_in weighed.now))) }
-{
-    listed_cases();
-    peak();
-    for case in cases {
-        if let Some(ends) = different_ends(alloc, weighed, case)? {
-            let failure = explained(alloc, weighed, overlap, case, ends)?;
-            return Ok(Some(failure));
-        }
+    if known.contains(&classes) {
+        return Ok(true);
     }
-    Ok(None)
+    if has_more_types(alloc, classes, constants, MAX_TYPES)? {
+        return Ok(false);
+    }
+    known.push(classes)?;
+    Ok(true)
 }
 
-/// The number of cases of an overlap, where all of them are joinable.
+/// The number of cases of an overlap whose heads are made one, where all of them are joinable.
+fn check_cases<'a>(
+    alloc: Global,
+    weighed: &'a Weighed,
+    overlap: &'a Overlap,
+    unified: &'a Unified,
+    constants: &[i64],
+) -> Result<usize, Cause>
+    requires overlap { IsOverlapOf (rules_in weighed.now) overlap.now }
+    requires unified { IsUnifiedAt (rules_in weighed.now) overlap.now unified.now }
+    requires constants { AreConstants (rules_in weighed.now) constants.now }
+    requires few { ¬ MoreTypesThan MAX_TYPES (length unified.now.free.items) constants.now }
+    ensures ok { IfOk result (HasJoinableCases (rules_in weighed.now) overlap.now) }
+    ensures err { IfErr result (RefusesAt (rules_in weighed.now) overlap.now) }
+{
+    let mut checker = Checker {
+        alloc,
+        weighed,
+        overlap,
+        unified,
+        ends: Ends::new(alloc),
+        passed: 0,
+        failing: None,
+    };
+    let classes = unified.free_classes();
+    let stopped = visit_types(alloc, classes, constants, unified, &mut checker)?;
+    let Checker {
+        passed,
+        failing,
+        ..
+    } = checker;
+    if !stopped {
+        return Ok(passed);
+    }
+    match failing {
+        Some(failure) => Err(Cause::Fails(failure)),
+        // A walk that was stopped has found a case, so this is never answered.
+        None => Err(Cause::Memory),
+    }
+}
+
+/// The number of cases of an overlap, where all of them are joinable. The numbers of classes that have few order types
+/// are remembered from overlap to overlap.
 fn check_overlap(
     alloc: Global,
     weighed: &Weighed,
     overlap: &Overlap,
     constants: &[i64],
+    known: &mut Vec<usize>,
 ) -> Result<usize, Cause>
     requires overlap { IsOverlapOf (rules_in weighed.now) overlap.now }
     requires constants { AreConstants (rules_in weighed.now) constants.now }
+    requires known { HaveFewTypes constants.now known.old.items }
+    ensures known { IfOk result (λ _. HaveFewTypes constants.now known.new.items) }
     ensures ok { IfOk result (HasJoinableCases (rules_in weighed.now) overlap.now) }
     ensures err { IfErr result (RefusesAt (rules_in weighed.now) overlap.now) }
 {
-    let cases = match cases_among(alloc, weighed, overlap, constants) {
-        Ok(cases) => cases,
-        Err(CaseFault::TooManyTypes { classes }) => {
-            return Err(Cause::TooManyTypes(TooManyTypes {
-                overlap: overlap.copy(),
-                classes,
-            }));
-        }
-        Err(CaseFault::Memory) => return Err(Cause::Memory),
+    let Some(unified) = unified(weighed, overlap) else {
+        return Ok(0);
     };
-    match first_failing(alloc, weighed, overlap, &cases) {
-        Ok(None) => Ok(cases.len()),
-        Ok(Some(failure)) => Err(Cause::Fails(failure)),
-        Err(_) => Err(Cause::Memory),
+    let classes = unified.free_classes();
+    if are_few(alloc, classes, constants, known)? {
+        check_cases(alloc, weighed, overlap, &unified, constants)
+    } else {
+        Err(Cause::TooManyTypes(TooManyTypes {
+            overlap: overlap.copy(),
+            classes,
+        }))
     }
 }
 
@@ -108,9 +127,10 @@ fn check_all(alloc: Global, weighed: &Weighed) -> Result<u64, Cause>
 {
     let constants = constants(alloc, weighed.program().rules())?;
     let overlaps = overlaps(alloc, weighed)?;
+    let mut known = Vec::new(alloc);
     let mut total: u64 = 0;
     for overlap in &overlaps {
-        match check_overlap(alloc, weighed, overlap, &constants) {
+        match check_overlap(alloc, weighed, overlap, &constants, &mut known) {
             Ok(cases) => total += cases as u64,
             Err(cause) => return Err(cause),
         }

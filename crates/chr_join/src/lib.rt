@@ -3,7 +3,10 @@
 #![tactic(auto)]
 
 mod accepted;
+mod by_sorts;
+mod checker;
 mod checking;
+mod ends;
 pub mod laws;
 mod lease;
 mod once;
@@ -12,6 +15,7 @@ mod refused;
 mod sides;
 
 pub use accepted::Accepted;
+pub use by_sorts::sorts_decide;
 pub use checking::accept;
 pub use lease::{Done, Lease, NotStepped, StepFault};
 pub use once::{accepted_are_confluent, verdict_is_one, verdicts_exist};

@@ -13,3 +13,5 @@ pub mod Kept
 pub mod OneList
 pub mod Few
 pub mod CasesThere
+pub mod UnifiedOverlaps
+pub mod Beginnings

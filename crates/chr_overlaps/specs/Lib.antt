@@ -1,4 +1,5 @@
 pub mod OverlapLists
 pub mod CaseLists
 pub mod Refusals
+pub mod UnifiedOverlaps
 pub mod working

@@ -3,3 +3,4 @@ pub mod Listing
 pub mod Tables
 pub mod Unifiers
 pub mod Gathering
+pub mod Beginnings

@@ -1,10 +1,10 @@
 //! The cases of an overlap.
-ghost use Rattle.std.specs.Prelude.{◌≡◌, if◌then◌else◌, ◌+◌, ◌-◌, ◌<◌, ◌≤◌, ◌++◌, ℕ, [], Some, None, IfOk, IfErr, IsOkAnd, OnOk, length, map, nat_eq, slice_get};
+ghost use Rattle.std.specs.Prelude.{◌≡◌, if◌then◌else◌, ◌+◌, ◌-◌, ◌<◌, ◌≤◌, ◌++◌, ℕ, [], Some, None, IfSome, IfNone, IfOk, IfErr, IsOkAnd, OnOk, length, map, nat_eq, slice_get};
 ghost use Rattle.std.specs.List.{filter};
 ghost use Rattle.chr_base.specs.declared.rule.Rule.{Rule as RuleValue};
 ghost use Rattle.chr_base.specs.Programs.{rules_of};
 ghost use Rattle.chr_base.specs.Stores.{store_of};
-ghost use Rattle.chr_weights.specs.WeighedPrograms.{program_of};
+ghost use Rattle.chr_weights.specs.WeighedPrograms.{program_of, rules_in};
 ghost use Rattle.chr_confluence.specs.Matchings.{names, left_over, case_atoms};
 ghost use Rattle.chr_confluence.specs.Unifiers.{HasNoUnifier};
 ghost use Rattle.chr_confluence.specs.Overlaps.{equations_of};
@@ -13,11 +13,12 @@ ghost use Rattle.chr_confluence.specs.Representatives.{guards_hold};
 ghost use Rattle.chr_overlaps.specs.CaseLists.{case_at, AreCases, IsTooMany};
 ghost use Rattle.chr_overlaps.specs.OverlapLists.{IsOverlapOf};
 ghost use Rattle.chr_overlaps.specs.Refusals.{IfTooManyTypes};
+ghost use Rattle.chr_overlaps.specs.UnifiedOverlaps.{AreRulesOf, IsUnifiedAt};
 ghost use Rattle.chr_overlaps.specs.working.Unifiers.{classes_of, IsUnified};
 
 use crate::constants::constants;
 use crate::fault::CaseFault;
-use crate::instances::instances;
+use crate::instances::{all_hold, instances};
 use crate::overlap::Overlap;
 use crate::unify::{Unified, unify};
 use chr_base::atom::Atom;
@@ -106,14 +107,11 @@ fn case_at(
         then Some (case_at overlap.now first.now second.now (classes_of unified.now) values.now)
         else None)) }
 {
+    if !all_hold(&unified.free, values, &unified.guards) {
+        return Ok(None);
+    }
     let left = instances(&unified.free, values, &unified.first);
-    if !first.fires(&left) {
-        return Ok(None);
-    }
     let right = instances(&unified.free, values, &unified.second);
-    if !second.fires(&right) {
-        return Ok(None);
-    }
     let store = case_store(alloc, &left, &right, &overlap.matching)?;
     Ok(Some(Case {
         store,
@@ -159,6 +157,42 @@ fn rule_of(weighed: &Weighed, number: u32) -> &Rule
     ensures { slice_get (rules_of (program_of weighed.now)) (number - 1) ≡ Some result.now }
 {
     &weighed.program().rules()[number as usize - 1]
+}
+
+/// The overlap with its matched heads made one. None where two constants would have to be one: then it has no cases.
+/// It takes no memory.
+pub fn unified(weighed: &Weighed, overlap: &Overlap) -> Option<Unified>
+    requires { IsOverlapOf (rules_in weighed.now) overlap.now }
+    ensures none { IfNone result (AreCases (rules_in weighed.now) overlap.now []) }
+    ensures unified { IfSome result (IsUnifiedAt (rules_in weighed.now) overlap.now) }
+{
+    let first = rule_of(weighed, overlap.first);
+    let second = rule_of(weighed, overlap.second);
+    unify(first, second, &overlap.matching)
+}
+
+/// The case of an overlap at these values of its free classes, in their order, where both guards hold under them.
+///
+/// # Errors
+/// Where memory is refused.
+pub fn case_among(
+    alloc: Global,
+    weighed: &Weighed,
+    overlap: &Overlap,
+    unified: &Unified,
+    values: &[i64],
+) -> Result<Option<Case>, AllocError>
+    requires overlap { IsOverlapOf (rules_in weighed.now) overlap.now }
+    requires unified { IsUnifiedAt (rules_in weighed.now) overlap.now unified.now }
+    ensures { (r1 r2 : RuleValue) → AreRulesOf (rules_in weighed.now) overlap.now r1 r2 →
+        IfOk result (λ found. found ≡
+        (if guards_hold (classes_of unified.now) r1 r2 values.now
+        then Some (case_at overlap.now r1 r2 (classes_of unified.now) values.now)
+        else None)) }
+{
+    let first = rule_of(weighed, overlap.first);
+    let second = rule_of(weighed, overlap.second);
+    case_at(alloc, overlap, first, second, unified, values)
 }
 
 /// The cases of an overlap, among these constants of the program's rules: for each representative of an order type

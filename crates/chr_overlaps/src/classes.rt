@@ -5,11 +5,11 @@ ghost use Rattle.chr_base.specs.RuleTests.{is_variable};
 ghost use Rattle.chr_confluence.specs.Overlaps.{renamed_apart};
 ghost use Rattle.chr_confluence.specs.working.Solving.{identity_substitution, class_of, put_term, put_everywhere, unify_terms, solve};
 ghost use Rattle.chr_overlaps.specs.declared.classes.TheConstants.{MAX_JOINT_VARIABLES, TABLE_LEN};
-ghost use Rattle.chr_overlaps.specs.working.Tables.{class_in, is_below, are_below, class_pattern};
+ghost use Rattle.chr_overlaps.specs.working.Tables.{class_in, is_below, are_below, class_pattern, class_comparison};
 
 use arrayvec::ArrayVec;
 use chr_base::limits::MAX_VARIABLES;
-use chr_base::term::{Pattern, Term};
+use chr_base::term::{Comparison, Pattern, Term};
 
 /// The greatest number of variables of two rules.
 pub(crate) const MAX_JOINT_VARIABLES: usize = 2 * MAX_VARIABLES;
@@ -21,7 +21,7 @@ const TABLE_LEN: usize = MAX_JOINT_VARIABLES + 1;
 ///
 /// Variables are numbered from 1, so the entry at 0 stands for nothing.
 #[derive(Drop)]
-pub(crate) struct Classes {
+pub struct Classes {
     pub(crate) terms: ArrayVec<Term, TABLE_LEN>,
     ghost few: { length terms.items ≤ TABLE_LEN },
     ghost below: { are_below (length terms.items) terms.items ≡ true },
@@ -161,6 +161,19 @@ impl Classes {
         Pattern {
             symbol: pattern.symbol,
             args,
+        }
+    }
+
+    /// The comparison with each term's class, where its variables are renamed apart.
+    pub(crate) fn class_comparison(&self, shift: u8, comparison: &Comparison) -> Comparison
+        requires left { is_below (length self.now.terms.items) (renamed_apart shift comparison.now.left) ≡ true }
+        requires right { is_below (length self.now.terms.items) (renamed_apart shift comparison.now.right) ≡ true }
+        ensures { result ≡ class_comparison (class_in self.now.terms.items) shift comparison.now }
+    {
+        Comparison {
+            left: self.class_of(renamed_apart(shift, comparison.left)),
+            cmp: comparison.cmp,
+            right: self.class_of(renamed_apart(shift, comparison.right)),
         }
     }
 }

@@ -25,8 +25,8 @@ fn gap_for(found: &[i64], constant: i64) -> Option<usize>
     Some(found.len())
 }
 
-/// Adds a constant.
-fn add_constant(found: &mut Vec<i64>, constant: i64) -> Result<(), AllocError>
+/// Adds a constant to rising ones, at its place, where it isn't one of them yet.
+pub fn add_constant(found: &mut Vec<i64>, constant: i64) -> Result<(), AllocError>
     ensures { OnOk result (Gathers (Constant constant ∷ []) found.old.items found.new.items) }
 {
     if let Some(i) = gap_for(found, constant) {

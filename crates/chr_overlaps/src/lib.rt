@@ -16,3 +16,4 @@ mod unify;
 pub use fault::CaseFault;
 pub use listing::overlaps;
 pub use overlap::Overlap;
+pub use unify::Unified;

@@ -1,29 +1,57 @@
 //! The heads of two rules, made one at matched places.
 ghost use Rattle.std.specs.List.{zip};
-ghost use Rattle.std.specs.Prelude.{◌≡◌, if◌then◌else◌, ◌+◌, ◌-◌, ◌<◌, IfNone, IfSome, Some, None, get_or, length, map};
+ghost use Rattle.std.specs.Prelude.{◌≡◌, if◌then◌else◌, ◌+◌, ◌-◌, ◌<◌, ◌≤◌, ◌++◌, IfNone, IfSome, Some, None, get_or, length, map};
 ghost use Rattle.chr_base.specs.Rules.{heads_of, no_pattern};
 ghost use Rattle.chr_confluence.specs.Unifiers.{IsMostGeneralUnifier, HasNoUnifier};
 ghost use Rattle.chr_confluence.specs.Overlaps.{SameSymbols, variables_of, renamed_apart, equations, equations_of};
 ghost use Rattle.chr_confluence.specs.working.Solving.{solve};
-ghost use Rattle.chr_overlaps.specs.working.Tables.{class_in, class_pattern};
+ghost use Rattle.chr_overlaps.specs.declared.unify.TheConstants.{MAX_JOINT_COMPARISONS};
+ghost use Rattle.chr_overlaps.specs.working.Tables.{class_in, class_pattern, class_comparison};
 ghost use Rattle.chr_overlaps.specs.working.Unifiers.{classes_of, IsUnified};
 
 use crate::classes::{Classes, MAX_JOINT_VARIABLES};
+use crate::instances::all_may_hold;
 use crate::numbered::variables;
 use arrayvec::ArrayVec;
-use chr_base::limits::MAX_HEADS;
+use chr_base::limits::{MAX_COMPARISONS, MAX_HEADS};
 use chr_base::rule::Rule;
-use chr_base::term::Pattern;
+use chr_base::term::{Comparison, Pattern};
+use chr_types::Beginnings;
 
-/// The heads of two rules under the most general unifier of matched places: each term is a constant, or the first
+/// The greatest number of comparisons of two guards.
+pub(crate) const MAX_JOINT_COMPARISONS: usize = 2 * MAX_COMPARISONS;
+
+/// The heads and guards of two rules under the most general unifier of matched places: each term is a constant, or the first
 /// variable of its class. The variables of the second rule are numbered on from those of the first.
 #[derive(Drop)]
-pub(crate) struct Unified {
+pub struct Unified {
     pub(crate) classes: Classes,
     pub(crate) first: ArrayVec<Pattern, MAX_HEADS>,
     pub(crate) second: ArrayVec<Pattern, MAX_HEADS>,
+    /// The comparisons of both guards, those of the first rule first.
+    pub(crate) guards: ArrayVec<Comparison, MAX_JOINT_COMPARISONS>,
     /// The classes that are bound to no constant, each by its first variable, rising.
     pub(crate) free: ArrayVec<u8, MAX_JOINT_VARIABLES>,
+}
+
+impl Unified {
+    /// The number of classes that are bound to no constant, at most 48.
+    pub fn free_classes(&self) -> usize
+        ensures { result ≡ length self.now.free.items }
+    {
+        self.free.len()
+    }
+}
+
+impl Beginnings for Unified {
+    ghost use Rattle.chr_overlaps.specs.working.Beginnings.{all_may_hold};
+
+    ghost admits = { λ u values. all_may_hold u.free.items u.guards.items values };
+
+    /// Whether no comparison of both guards fails whose classes have values.
+    fn goes_on(&self, values: &[i64]) -> bool {
+        all_may_hold(&self.free, values, &self.guards)
+    }
 }
 
 /// Makes the arguments at two matched places agree. False where two constants would be one.
@@ -87,6 +115,41 @@ fn class_heads(classes: &Classes, rule: &Rule, shift: u8) -> ArrayVec<Pattern, M
     heads
 }
 
+/// Adds the comparisons of a rule's guard with each term's class.
+fn push_guard(
+    guards: &mut ArrayVec<Comparison, MAX_JOINT_COMPARISONS>,
+    classes: &Classes,
+    rule: &Rule,
+    shift: u8,
+)
+    requires table { shift + variables_of rule.now < length classes.now.terms.items }
+    requires room { length guards.old.items + length rule.now.guard.items ≤ MAX_JOINT_COMPARISONS }
+    ensures { guards.new.items ≡ guards.old.items ++
+        map (class_comparison (class_in classes.now.terms.items) shift) rule.now.guard.items }
+{
+    for comparison in rule.guard.as_slice() {
+        guards.push(classes.class_comparison(shift, comparison));
+    }
+}
+
+/// The comparisons of both guards with each term's class.
+fn class_guards(
+    classes: &Classes,
+    first: &Rule,
+    second: &Rule,
+    shift: u8,
+) -> ArrayVec<Comparison, MAX_JOINT_COMPARISONS>
+    requires shift { shift ≡ variables_of first.now }
+    requires table { shift + variables_of second.now < length classes.now.terms.items }
+    ensures { result.items ≡ map (class_comparison (class_in classes.now.terms.items) 0) first.now.guard.items
+        ++ map (class_comparison (class_in classes.now.terms.items) shift) second.now.guard.items }
+{
+    let mut guards = ArrayVec::new();
+    push_guard(&mut guards, classes, first, 0);
+    push_guard(&mut guards, classes, second, shift);
+    guards
+}
+
 /// Makes matched places agree, where one unifier of them all exists: None where two constants would be one.
 pub(crate) fn unify(first: &Rule, second: &Rule, matching: &[u8]) -> Option<Unified>
     requires { SameSymbols (heads_of second.now) matching.now (heads_of first.now) }
@@ -103,6 +166,7 @@ pub(crate) fn unify(first: &Rule, second: &Rule, matching: &[u8]) -> Option<Unif
     Some(Unified {
         first: class_heads(&classes, first, 0),
         second: class_heads(&classes, second, shift),
+        guards: class_guards(&classes, first, second, shift),
         free: classes.free(),
         classes,
     })

@@ -8,7 +8,7 @@ use Rattle.chr_types.specs.OrderTypes.{In, RisesBy, AreValues}
 use Rattle.chr_types.specs.working.Search.{has}
 use Rattle.chr_types.proofs.Holes.{has_in, has_not, same_yes, same_no}
 use Rattle.chr_sorts.specs.Sorts.{Sorts}
-use Rattle.chr_sorts.specs.Lists.{StandsAt, StandsFor, CoverAt, AreBlocks, values_at, number_at}
+use Rattle.chr_sorts.specs.Lists.{StandsAt, StandsFor, CoverAt, AreBlocks, values_at, sort_count}
 use Rattle.chr_sorts.specs.laws.SortedLists.{NewValuesCover, BlocksCover, OrderTypesCover, CombinationsCover}
 use Rattle.chr_sorts.proofs.Standing.{at_most}
 
@@ -215,29 +215,29 @@ unfolding merge
 length-merge [] f = refl
 length-merge (j ∷ ks) f = ap suc (length-merge ks (λ k. cond (nat_eq j k) (rest (f k)) (f k)))
 
-merged : (ks : List ℕ) (f : ℕ → List ℤ) → ((k : ℕ) → length (f k) ≡ number_at k ks) → (k : ℕ) → values_at k ks (merge ks f) ≡ f k
+merged : (ks : List ℕ) (f : ℕ → List ℤ) → ((k : ℕ) → length (f k) ≡ sort_count k ks) → (k : ℕ) → values_at k ks (merge ks f) ≡ f k
 unfolding merge
 merged [] f h k = no_values (f k) (h k)
 merged (j ∷ ks) f h k =
-    elim (nat_eq j k) as (λ b. nat_eq j k ≡ b → values_at k ks (merge ks g) ≡ cond b (rest (f k)) (f k) → length (f k) ≡ cond b (suc (number_at k ks)) (number_at k ks)
+    elim (nat_eq j k) as (λ b. nat_eq j k ≡ b → values_at k ks (merge ks g) ≡ cond b (rest (f k)) (f k) → length (f k) ≡ cond b (suc (sort_count k ks)) (sort_count k ks)
     → cond b (first (f j) ∷ values_at k ks (merge ks g)) (values_at k ks (merge ks g)) ≡ f k) [
-      | true ↦ λ e m l. (λ i. first (f (eqb-true j k e i)) ∷ m i) ∙ first_rest (f k) (number_at k ks) l
+      | true ↦ λ e m l. (λ i. first (f (eqb-true j k e i)) ∷ m i) ∙ first_rest (f k) (sort_count k ks) l
       | false ↦ λ e m l. m
     ] refl (merged ks g fewer k) (h k)
   where
     g : ℕ → List ℤ
     g i = cond (nat_eq j i) (rest (f i)) (f i)
 
-    fewer : (i : ℕ) → length (g i) ≡ number_at i ks
-    fewer i = elim (nat_eq j i) as (λ b. length (f i) ≡ cond b (suc (number_at i ks)) (number_at i ks) → length (cond b (rest (f i)) (f i)) ≡ number_at i ks) [
-      | true ↦ λ l. length-rest (f i) (number_at i ks) l
+    fewer : (i : ℕ) → length (g i) ≡ sort_count i ks
+    fewer i = elim (nat_eq j i) as (λ b. length (f i) ≡ cond b (suc (sort_count i ks)) (sort_count i ks) → length (cond b (rest (f i)) (f i)) ≡ sort_count i ks) [
+      | true ↦ λ l. length-rest (f i) (sort_count i ks) l
       | false ↦ λ l. l
     ] (h i)
 
-length-at : (k : ℕ) (ks : List ℕ) (vs : List ℤ) → length vs ≡ length ks → length (values_at k ks vs) ≡ number_at k ks
+length-at : (k : ℕ) (ks : List ℕ) (vs : List ℤ) → length vs ≡ length ks → length (values_at k ks vs) ≡ sort_count k ks
 length-at k [] vs e = refl
 length-at k (j ∷ ks) [] e = absurd (omega (arith, e))
-length-at k (j ∷ ks) (v ∷ vs) e = elim (nat_eq j k) as (λ b. length (cond b (v ∷ values_at k ks vs) (values_at k ks vs)) ≡ cond b (suc (number_at k ks)) (number_at k ks)) [
+length-at k (j ∷ ks) (v ∷ vs) e = elim (nat_eq j k) as (λ b. length (cond b (v ∷ values_at k ks vs) (values_at k ks vs)) ≡ cond b (suc (sort_count k ks)) (sort_count k ks)) [
   | true ↦ ap suc (length-at k ks vs (omega (arith, e)))
   | false ↦ length-at k ks vs (omega (arith, e))
 ]
@@ -250,7 +250,7 @@ in_values_at k (j ∷ ks) (v ∷ vs) z i = elim (nat_eq j k) as (λ b. In z (con
   | false ↦ λ i. inr (in_values_at k ks vs z i)
 ] i
 
-module _ (o : Sorts) (ks : List ℕ) (lists : ℕ → List (List ℤ)) (covers : (k : ℕ) → CoverAt (o.kind k) (o.constants k) (number_at k ks) (lists k)) (vs : List ℤ) (count : length vs ≡ length ks) (values : AreValues vs) where
+module _ (o : Sorts) (ks : List ℕ) (lists : ℕ → List (List ℤ)) (covers : (k : ℕ) → CoverAt (o.kind k) (o.constants k) (sort_count k ks) (lists k)) (vs : List ℤ) (count : length vs ≡ length ks) (values : AreValues vs) where
   -- a list that stands for the values at one sort
   one : (k : ℕ) → (us : List ℤ) × In us (lists k) × StandsAt (o.kind k) (o.constants k) us (values_at k ks vs)
   one k = covers k (values_at k ks vs) (length-at k ks vs count) (λ z i. values z (in_values_at k ks vs z i))

@@ -27,7 +27,7 @@ use Rattle.chr_types.proofs.Holes.{same_yes, yes_same}
 use Rattle.chr_confluence.proofs.Numbered.{occurs_in}
 use Rattle.chr_confluence.proofs.Carried.{kept_known, removed_known}
 use Rattle.chr_confluence.specs.Images.{Carries, CarriesSteps}
-use Rattle.chr_sorts.specs.Sorts.{Sorts, Kind, ordered, equal, free, terms_from, sorted_terms, rule_terms, sort_of, tells, FitComparison, FitRule, Fit}
+use Rattle.chr_sorts.specs.Sorts.{Sorts, Kind, ordered, equal, free, terms_from, sorted_terms, sorted_rule_terms, sort_of, tells, FitComparison, FitRule, Fit}
 use Rattle.chr_sorts.specs.Maps.{Map, Sets, KeepsKind, IsSortedMap, moved_from, move, all_from, is_within}
 use Rattle.chr_sorts.specs.laws.SortedMaps.{SortsStay, SortedStepsAreCarried, SortedRunsAreCarried, SortedJoinsAreCarried}
 use Rattle.chr_confluence.proofs.Carrying.{step_carried, reaches_carried, join_carried}
@@ -152,19 +152,19 @@ module _ (o : Sorts) (r : Rule) (fit : FitRule o r) where
   pub removed_stand : (j : ℕ) (t : Term) → In (j, t) (sorted_terms o r.removed.items) → In (j, t) (sorted_terms o (heads_of r))
   removed_stand j t i = subst (In (j, t)) (sym (sorted-append o r.kept.items r.removed.items)) (in_second (j, t) (sorted_terms o r.kept.items) (sorted_terms o r.removed.items) i)
 
-  pub head_stands : (j : ℕ) (t : Term) → In (j, t) (sorted_terms o (heads_of r)) → In (j, t) (rule_terms o r)
+  pub head_stands : (j : ℕ) (t : Term) → In (j, t) (sorted_terms o (heads_of r)) → In (j, t) (sorted_rule_terms o r)
   head_stands j t i = in_first (j, t) (sorted_terms o (heads_of r)) (sorted_terms o r.body.items) i
 
-  pub body_stands : (j : ℕ) (t : Term) → In (j, t) (sorted_terms o r.body.items) → In (j, t) (rule_terms o r)
+  pub body_stands : (j : ℕ) (t : Term) → In (j, t) (sorted_terms o r.body.items) → In (j, t) (sorted_rule_terms o r)
   body_stands j t i = in_second (j, t) (sorted_terms o (heads_of r)) (sorted_terms o r.body.items) i
 
   -- a valuation that gives each variable the value mapped at its sort gives the mapped atoms
   module _ (h : Map) (fixes : (k : ℕ) (c : ℤ) → In c (o.constants k) → h k c ≡ c) (v w : Valuation) (same : (x : ℕ) → In (Variable x) (terms_of (heads_of r)) → w x ≡ h (sort_of o r x) (v x)) where
-    term_moved : (j : ℕ) (t : Term) → In (j, t) (rule_terms o r) → is_bound_in (heads_of r) t ≡ true → IsMoved o h v w j t
+    term_moved : (j : ℕ) (t : Term) → In (j, t) (sorted_rule_terms o r) → is_bound_in (heads_of r) t ≡ true → IsMoved o h v w j t
     term_moved j (Variable x) i b = same x (occurs_in x (heads_of r) b) ∙ ap (λ k. h k (v x)) (sym (fit.variables j x i))
     term_moved j (Constant c) i b = sym (fixes j c (fit.constants j c i))
 
-    part_moved : (ps : List Pattern) → ((j : ℕ) (t : Term) → In (j, t) (sorted_terms o ps) → In (j, t) (rule_terms o r)) → list_all (λ p. list_all (is_bound_in (heads_of r)) p.args.items) ps ≡ true → map (move o h) (atoms_at v ps) ≡ atoms_at w ps
+    part_moved : (ps : List Pattern) → ((j : ℕ) (t : Term) → In (j, t) (sorted_terms o ps) → In (j, t) (sorted_rule_terms o r)) → list_all (λ p. list_all (is_bound_in (heads_of r)) p.args.items) ps ≡ true → map (move o h) (atoms_at v ps) ≡ atoms_at w ps
     part_moved ps inside known = atoms_moved o h v w ps (λ j t i. term_moved j t (inside j t i) (bound_in (heads_of r) ps known t (term_in o ps j t i)))
 
     pub carries : guard_holds w r.guard.items ≡ true → Carries (move o h) r v w
@@ -182,7 +182,7 @@ module _ (o : Sorts) (r : Rule) (fit : FitRule o r) where
     pub variable_within : (x : ℕ) → In (Variable x) (terms_of (heads_of r)) → d (sort_of o r x) (v x) ≡ true
     variable_within x i = terms_within o d v (heads_of r) heads (sort_of o r x) (Variable x) (stands_at_sort o r x i)
 
-    term_within : (j : ℕ) (t : Term) → In (j, t) (rule_terms o r) → is_bound_in (heads_of r) t ≡ true → d j (term_value v t) ≡ true
+    term_within : (j : ℕ) (t : Term) → In (j, t) (sorted_rule_terms o r) → is_bound_in (heads_of r) t ≡ true → d j (term_value v t) ≡ true
     term_within j (Variable x) i b = ap (λ k. d k (v x)) (fit.variables j x i) ∙ variable_within x (occurs_in x (heads_of r) b)
     term_within j (Constant c) i b = there j c (fit.constants j c i)
 

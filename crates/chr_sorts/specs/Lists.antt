@@ -59,6 +59,6 @@ AreBlocks cs before (n ∷ ns) (z ∷ zs) =
     ((In z cs ⊎ In z before) × AreBlocks cs before (n ∷ ns) zs) ⊎ ((z ≡ n) × AreBlocks cs (n ∷ before) ns zs)
 
 -- how many of the sorts are k
-abbrev pub number_at : ℕ → List ℕ → ℕ
-number_at k [] = 0
-number_at k (j ∷ ks) = if nat_eq j k then suc (number_at k ks) else number_at k ks
+abbrev pub sort_count : ℕ → List ℕ → ℕ
+sort_count k [] = 0
+sort_count k (j ∷ ks) = if nat_eq j k then suc (sort_count k ks) else sort_count k ks

@@ -36,8 +36,8 @@ sorted_terms o [] = []
 sorted_terms o (p ∷ ps) = terms_from (o.sort p.symbol.0) 0 p.args.items ++ sorted_terms o ps
 
 -- those of a rule's heads and of its body
-abbrev pub rule_terms : Sorts → Rule → List (ℕ × Term)
-rule_terms o r = sorted_terms o (heads_of r) ++ sorted_terms o r.body.items
+abbrev pub sorted_rule_terms : Sorts → Rule → List (ℕ × Term)
+sorted_rule_terms o r = sorted_terms o (heads_of r) ++ sorted_terms o r.body.items
 
 -- the sort with which the variable stands there first
 abbrev pub first_sort : List (ℕ × Term) → ℕ → ℕ
@@ -83,9 +83,9 @@ FitComparison o at c (Constant d) (Constant e) = ⊤
 -- holds of those.
 pub record FitRule (o : Sorts) (r : Rule) : Type 0 where
   -- all positions at which a variable stands, in heads or in the body, are of its sort
-  pub variables : (k x : ℕ) → In (k, Variable x) (rule_terms o r) → k ≡ sort_of o r x
+  pub variables : (k x : ℕ) → In (k, Variable x) (sorted_rule_terms o r) → k ≡ sort_of o r x
   -- each constant is one of the sort of its position
-  pub constants : (k : ℕ) (c : ℤ) → In (k, Constant c) (rule_terms o r) → In c (o.constants k)
+  pub constants : (k : ℕ) (c : ℤ) → In (k, Constant c) (sorted_rule_terms o r) → In c (o.constants k)
   -- the guard compares values of one sort, as its kind allows
   pub compared : (c : Comparison) → In c r.guard.items → FitComparison o (sort_of o r) c.cmp c.left c.right
 

@@ -15,3 +15,6 @@ pub mod Steps
 pub mod Members
 pub mod RisingLists
 pub mod TypesThere
+pub mod Walking
+pub mod Passing
+pub mod Counted

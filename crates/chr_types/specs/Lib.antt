@@ -1,4 +1,5 @@
 pub mod OrderTypes
 pub mod Representatives
 pub mod Refusals
+pub mod Visits
 pub mod working

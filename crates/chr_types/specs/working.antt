@@ -1,2 +1,4 @@
 -- What only private contracts and proofs speak of.
 pub mod Search
+pub mod Walks
+pub mod Counting

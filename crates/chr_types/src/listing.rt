@@ -17,7 +17,7 @@ use std::alloc::Global;
 pub const MAX_CLASSES: usize = 64;
 
 /// Whether the lists of so many constants alone are more than the limit. Each has an order type of its own.
-fn has_more_lists(constants: usize, classes: usize, limit: usize) -> bool
+pub(crate) fn has_more_lists(constants: usize, classes: usize, limit: usize) -> bool
     ensures { OnTrue result (limit < constants ^ classes) }
 {
     let mut lists: usize = 1;

@@ -81,7 +81,7 @@ fn add_way(
 }
 
 /// The holes of the prefix with this candidate behind it, unless they are more than there is room for.
-fn holes_after(
+pub(crate) fn holes_after(
     alloc: Global,
     prefix: &[i64],
     holes: &[i64],

@@ -1,5 +1,8 @@
 -- What is found out about a case and about an overlap.
-use Rattle.std.specs.Prelude.{◌≡◌, List}
+use Rattle.std.specs.Prelude.{◌≡◌, ℕ, ℤ, List}
+use Rattle.std.specs.List.{All}
+use Rattle.chr_types.specs.OrderTypes.{MoreTypesThan}
+use Rattle.chr_overlaps.specs.declared.cases.TheConstants.{MAX_TYPES}
 use Rattle.chr_base.specs.declared.rule.Rule.{Rule}
 use Rattle.chr_base.specs.Stores.{Store}
 use Rattle.chr_overlaps.specs.declared.overlap.Overlap.{Overlap}
@@ -18,3 +21,7 @@ pub record EndApart (rules : List Rule) (c : Case) (ends : Store × Store) : Typ
 -- The cause is that of the rules, if this overlap is the first that has one.
 abbrev pub RefusesAt : List Rule → Overlap → Cause → Type 0
 RefusesAt rules o e = IsFirst rules o → IsRefusal rules e
+
+-- So many classes have no more order types than an overlap may have, for each of these numbers.
+abbrev pub HaveFewTypes : List ℤ → List ℕ → Type 0
+HaveFewTypes constants ns = All (λ n. ¬ MoreTypesThan MAX_TYPES n constants) ns

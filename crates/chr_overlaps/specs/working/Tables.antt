@@ -3,6 +3,7 @@ use Rattle.std.specs.Prelude.{ℕ, Bool, true, nat_lt, List, get_or, map}
 use Rattle.std.specs.List.{list_all}
 use Rattle.chr_base.specs.declared.term.Term.{Term}
 use Rattle.chr_base.specs.declared.term.Term.TheVariants.{Variable, Constant}
+use Rattle.chr_base.specs.declared.term.Comparison.{Comparison}
 use Rattle.chr_base.specs.declared.term.Pattern.{Pattern}
 use Rattle.chr_confluence.specs.Unifiers.{Substitution}
 use Rattle.chr_confluence.specs.Overlaps.{renamed_apart}
@@ -27,3 +28,7 @@ class_term σ k t = class_of σ (renamed_apart k t)
 -- the pattern with each term's class, where its variables are moved by k
 abbrev pub class_pattern : Substitution → ℕ → Pattern → Pattern
 class_pattern σ k p = record { symbol = p.symbol; args = record { items = map (class_term σ k) p.args.items } }
+
+-- the comparison with each term's class, where its variables are moved by k
+abbrev pub class_comparison : Substitution → ℕ → Comparison → Comparison
+class_comparison σ k c = record { left = class_term σ k c.left; cmp = c.cmp; right = class_term σ k c.right }

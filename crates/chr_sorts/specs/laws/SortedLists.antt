@@ -3,7 +3,7 @@ use Rattle.std.specs.Prelude.{◌≡◌, ℕ, ◌≤◌, ℤ, List, [], ◌∷�
 use Rattle.chr_types.specs.OrderTypes.{In}
 use Rattle.chr_types.specs.Representatives.{AreTypes}
 use Rattle.chr_sorts.specs.Sorts.{Sorts, ordered, equal, free}
-use Rattle.chr_sorts.specs.Lists.{values_at, Cover, CoverAt, AreNew, AreBlocks, number_at}
+use Rattle.chr_sorts.specs.Lists.{values_at, Cover, CoverAt, AreNew, AreBlocks, sort_count}
 
 -- at a free sort one list covers, of different values that are no constants
 abbrev pub NewValuesCover : Type 0
@@ -23,6 +23,6 @@ OrderTypesCover = (cs : List ℤ) (n : ℕ) (rs : List (List ℤ)) → AreTypes 
 abbrev pub CombinationsCover : Type 0
 CombinationsCover =
     (o : Sorts) (ks : List ℕ) (lists : ℕ → List (List ℤ)) (rs : List (List ℤ))
-    → ((k : ℕ) → CoverAt (o.kind k) (o.constants k) (number_at k ks) (lists k))
+    → ((k : ℕ) → CoverAt (o.kind k) (o.constants k) (sort_count k ks) (lists k))
     → ((us : List ℤ) → length us ≡ length ks → ((k : ℕ) → In (values_at k ks us) (lists k)) → In us rs)
     → Cover o ks rs

@@ -1,0 +1,4 @@
+pub mod FinestSorts
+pub mod SortedCaseLists
+pub mod laws
+pub mod working

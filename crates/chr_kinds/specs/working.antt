@@ -1,0 +1,2 @@
+-- Words of private contracts and of proofs.
+pub mod Notes
