@@ -20,20 +20,20 @@ use Rattle.chr_acts.specs.declared.reply.Reply.{Reply}
 use Rattle.chr_acts.specs.declared.reply.Reply.TheVariants as reply
 
 -- the replica s of the program p refuses the act
-abbrev pub Refuses : Program → Replica → Act → Refusal → Type 0
-Refuses p s (act.Tell op) r = RefusesTell p s op r
-Refuses p s (act.Merge ops) r = RefusesMerge p s ops r
-Refuses p s (act.Step step) r = RefusesStep p s step r
-Refuses p s (act.Take part) r = RefusesTake s part r
-Refuses p s (act.TakeParts n) r = RefusesTakeParts s n r
-Refuses p s (act.Put done) r = RefusesPut p s (program_of done.weighed) done.number done.part r
-Refuses p s (act.Recall number) r = RefusesRecall s number r
-Refuses p s act.Show r = RefusesShow p s r
-Refuses p s _ r = ⊥
+abbrev pub RefusesAct : Program → Replica → Act → Refusal → Type 0
+RefusesAct p s (act.Tell op) r = RefusesTell p s op r
+RefusesAct p s (act.Merge ops) r = RefusesMerge p s ops r
+RefusesAct p s (act.Step step) r = RefusesStep p s step r
+RefusesAct p s (act.Take part) r = RefusesTake s part r
+RefusesAct p s (act.TakeParts n) r = RefusesTakeParts s n r
+RefusesAct p s (act.Put done) r = RefusesPut p s (program_of done.weighed) done.number done.part r
+RefusesAct p s (act.Recall number) r = RefusesRecall s number r
+RefusesAct p s act.Show r = RefusesShow p s r
+RefusesAct p s _ r = ⊥
 
 -- The replica s of the program p does the act, with the reply, and is t afterwards.
 abbrev pub Does : Program → Replica → Act → Reply → Replica → Type 0
-Does p s a (reply.Refused r) t = Refuses p s a r × (r ≢ refusal.Memory) × (t ≡ s)
+Does p s a (reply.Refused r) t = RefusesAct p s a r × (r ≢ refusal.Memory) × (t ≡ s)
 Does p s (act.Tell op) (reply.Told added.New) t = Tells p s op t
 Does p s (act.Tell op) (reply.Told added.Again) t = IsDeclared p op × IsHeld s.operations op × (t ≡ s)
 Does p s (act.Merge ops) (reply.Merged n) t = Merges p s ops n t

@@ -3,7 +3,7 @@ ghost use Rattle.std.specs.Prelude.{◌≡◌, ◌≢◌, ◌≤◌, IfOk, IfErr
 ghost use Rattle.chr_replica.specs.declared.limits.TheConstants.{MAX_PARTS};
 ghost use Rattle.chr_replica.specs.Boards.{program_on};
 ghost use Rattle.chr_acts.specs.Acts.{FitsAct};
-ghost use Rattle.chr_acts.specs.Events.{Does, Refuses};
+ghost use Rattle.chr_acts.specs.Events.{Does, RefusesAct};
 
 use crate::act::Act;
 use crate::lists::{LeaseList, OpList};
@@ -19,7 +19,7 @@ fn tell(alloc: Global, board: &mut Board, op: &Op) -> Result<Reply, Refusal>
     ensures program { board.new.accepted ≡ board.old.accepted }
     ensures ok { IfOk result (λ reply.
         Does (program_on board.old) board.old.replica (Act.Tell op.now) reply board.new.replica) }
-    ensures refused { IfErr result (Refuses (program_on board.old) board.old.replica (Act.Tell op.now)) }
+    ensures refused { IfErr result (RefusesAct (program_on board.old) board.old.replica (Act.Tell op.now)) }
     ensures err { OnErr result (board.new ≡ board.old) }
 {
     match board.tell(alloc, op.copy(alloc)?) {
@@ -33,7 +33,7 @@ fn merge(alloc: Global, board: &mut Board, ops: &OpList) -> Result<Reply, Refusa
     ensures program { board.new.accepted ≡ board.old.accepted }
     ensures ok { IfOk result (λ reply.
         Does (program_on board.old) board.old.replica (Act.Merge ops.now) reply board.new.replica) }
-    ensures refused { IfErr result (Refuses (program_on board.old) board.old.replica (Act.Merge ops.now)) }
+    ensures refused { IfErr result (RefusesAct (program_on board.old) board.old.replica (Act.Merge ops.now)) }
     ensures err { OnErr result (board.new ≡ board.old) }
 {
     match board.merge(alloc, ops.as_slice()) {
@@ -46,7 +46,7 @@ fn take_step(board: &mut Board, step: &Step) -> Result<Reply, Refusal>
     ensures program { board.new.accepted ≡ board.old.accepted }
     ensures ok { IfOk result (λ reply.
         Does (program_on board.old) board.old.replica (Act.Step step.now) reply board.new.replica) }
-    ensures refused { IfErr result (Refuses (program_on board.old) board.old.replica (Act.Step step.now)) }
+    ensures refused { IfErr result (RefusesAct (program_on board.old) board.old.replica (Act.Step step.now)) }
     ensures err { OnErr result (board.new ≡ board.old) }
 {
     match board.step(step) {
@@ -59,7 +59,7 @@ fn take(alloc: Global, board: &mut Board, part: &Bag) -> Result<Reply, Refusal>
     ensures program { board.new.accepted ≡ board.old.accepted }
     ensures ok { IfOk result (λ reply.
         Does (program_on board.old) board.old.replica (Act.Take part.now) reply board.new.replica) }
-    ensures refused { IfErr result (Refuses (program_on board.old) board.old.replica (Act.Take part.now)) }
+    ensures refused { IfErr result (RefusesAct (program_on board.old) board.old.replica (Act.Take part.now)) }
     ensures err { OnErr result (board.new ≡ board.old) }
 {
     match board.take(alloc, part) {
@@ -73,7 +73,7 @@ fn take_parts(alloc: Global, board: &mut Board, count: u32) -> Result<Reply, Ref
     ensures program { board.new.accepted ≡ board.old.accepted }
     ensures ok { IfOk result (λ reply.
         Does (program_on board.old) board.old.replica (Act.TakeParts count) reply board.new.replica) }
-    ensures refused { IfErr result (Refuses (program_on board.old) board.old.replica (Act.TakeParts count)) }
+    ensures refused { IfErr result (RefusesAct (program_on board.old) board.old.replica (Act.TakeParts count)) }
     ensures err { OnErr result (board.new ≡ board.old) }
 {
     match board.take_parts(alloc, count) {
@@ -86,7 +86,7 @@ fn put(alloc: Global, board: &mut Board, done: &Done) -> Result<Reply, Refusal>
     ensures program { board.new.accepted ≡ board.old.accepted }
     ensures ok { IfOk result (λ reply.
         Does (program_on board.old) board.old.replica (Act.Put done.now) reply board.new.replica) }
-    ensures refused { IfErr result (Refuses (program_on board.old) board.old.replica (Act.Put done.now)) }
+    ensures refused { IfErr result (RefusesAct (program_on board.old) board.old.replica (Act.Put done.now)) }
     ensures err { OnErr result (board.new ≡ board.old) }
 {
     match board.put(done.copy(alloc)?) {
@@ -99,7 +99,7 @@ fn recall(board: &mut Board, number: u64) -> Result<Reply, Refusal>
     ensures program { board.new.accepted ≡ board.old.accepted }
     ensures ok { IfOk result (λ reply.
         Does (program_on board.old) board.old.replica (Act.Recall number) reply board.new.replica) }
-    ensures refused { IfErr result (Refuses (program_on board.old) board.old.replica (Act.Recall number)) }
+    ensures refused { IfErr result (RefusesAct (program_on board.old) board.old.replica (Act.Recall number)) }
     ensures err { OnErr result (board.new ≡ board.old) }
 {
     match board.recall(number) {
@@ -121,7 +121,7 @@ fn settle(board: &mut Board) -> Reply
 fn show(alloc: Global, board: &Board) -> Result<Reply, Refusal>
     ensures ok { IfOk result (λ reply.
         Does (program_on board.now) board.now.replica Act.Show reply board.now.replica) }
-    ensures refused { IfErr result (Refuses (program_on board.now) board.now.replica Act.Show) }
+    ensures refused { IfErr result (RefusesAct (program_on board.now) board.now.replica Act.Show) }
 {
     match board.show(alloc) {
         Ok(bag) => Ok(Reply::Shown(bag)),
@@ -150,7 +150,7 @@ fn answer(alloc: Global, board: &mut Board, act: &Act) -> Result<Reply, Refusal>
     ensures ok { IfOk result (λ reply.
         Does (program_on board.old) board.old.replica act.now reply board.new.replica) }
     ensures refused { IfErr result (λ refusal.
-        refusal ≢ Refusal.Memory → Refuses (program_on board.old) board.old.replica act.now refusal) }
+        refusal ≢ Refusal.Memory → RefusesAct (program_on board.old) board.old.replica act.now refusal) }
     ensures err { OnErr result (board.new ≡ board.old) }
 {
     match act {

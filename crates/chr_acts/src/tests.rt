@@ -252,3 +252,37 @@ fn calls_are_entered_with_their_replies(rt: HostRuntime) -> Result<(), Fail> {
     assert!(rt; book.entry(0).is_none() && book.entry(5).is_none());
     Ok(())
 }
+
+/// A book in which the seat 1 told 5, took it, and recalled its lease twice.
+fn recalled_twice(rt: &impl Abort, alloc: Global) -> Result<Book, AllocError> {
+    let mut book = Book::open(alloc, accepted(rt, alloc)?)?;
+    let told = tell(rt, alloc, &[5])?;
+    let part = store(alloc, &[5])?;
+    let places = [
+        called(rt, alloc, &mut book, 1, told),
+        called(rt, alloc, &mut book, 1, Act::Take(part)),
+        called(rt, alloc, &mut book, 1, Act::Recall(1)),
+        called(rt, alloc, &mut book, 1, Act::Recall(1)),
+    ];
+    if places != [1, 2, 3, 4] {
+        panic!(rt; "other places");
+    }
+    Ok(book)
+}
+
+#[test]
+fn a_call_that_is_repeated_is_entered_with_its_refusal(rt: HostRuntime) -> Result<(), Fail> {
+    let alloc = rt.alloc();
+    let book = recalled_twice(&rt, alloc)?;
+    assert_eq!(rt; lease_number(&entry(&rt, &book, 2).reply), Some(1));
+    assert!(rt; matches!(entry(&rt, &book, 3).reply, Reply::Recalled));
+    assert!(rt;
+        matches!(
+            entry(&rt, &book, 4).reply,
+            Reply::Refused(Refusal::NoLease(1))
+        )
+    );
+    assert_eq!(rt; entry(&rt, &book, 4).number, 4);
+    assert_eq!(rt; book.board().leases(), 0);
+    Ok(())
+}

@@ -43,7 +43,7 @@ use Rattle.chr_exchange.specs.declared.fault.MessageFault.TheVariants as fault
 use Rattle.chr_exchange.specs.Names.{named_atom, named_atoms, declared_operation, declared_operations}
 use Rattle.chr_exchange.specs.Meant.{summary_meant, operations_meant, delta_meant, in_value}
 use Rattle.chr_exchange.specs.Texts.{spelt_atom, spelt, delta_text, delta_text_1, summary_text}
-use Rattle.chr_exchange.specs.ReadBack.{SummaryTextsAreRead, IsDeclaredOperation, DeltaTextsAreRead, Delta1TextsAreRead}
+use Rattle.chr_exchange.specs.ReadBack.{SummaryTextsAreMeant, IsDeclaredOperation, DeltaTextsAreRead, Delta1TextsAreMeant}
 use Rattle.chr_exchange.proofs.Spelling.{of_name}
 
 -- ---- from shapes to what they mean
@@ -52,7 +52,7 @@ summary_from : (o : Option Data) (rs : List IdRange) → option_and_then summary
 summary_from None rs h = absurd (let e : ◌≡◌ {A = Option (List IdRange)} None (Some rs) = h in cc)
 summary_from (Some d) rs h = ap (λ x. ok_or x fault.Shape) h
 
-pub summaries_read : SummaryTextsAreRead
+pub summaries_read : SummaryTextsAreMeant
 summaries_read rs h = summary_from (json_in (summary_text rs)) rs (summaries_back rs h)
 
 delta_from : (ds : List Declaration) (o : Option Data) (os : List NamedOperation) (es : List Operation) → option_and_then delta_of o ≡ Some os → declared_operations ds os ≡ Some es → in_value (delta_meant ds) o ≡ Ok es
@@ -210,7 +210,7 @@ deltas_read p m h =
     let es = finite.entries m in
     delta_from ds (json_in (delta_text ds m)) (map (spelt ds) es) es (deltas_2_back (map (spelt ds) es) (all_within_limits p es h)) (operations_back p es h)
 
-pub deltas_1_read : Delta1TextsAreRead
+pub deltas_1_read : Delta1TextsAreMeant
 deltas_1_read p m h =
     let ds = declarations p in
     let es = finite.entries m in

@@ -13,8 +13,8 @@ use Rattle.chr_exchange.specs.Meant.{delta_in, summary_in}
 use Rattle.chr_exchange.specs.Texts.{delta_text, delta_text_1, summary_text}
 
 -- a summary's text means its ranges
-abbrev pub SummaryTextsAreRead : Type 0
-SummaryTextsAreRead =
+abbrev pub SummaryTextsAreMeant : Type 0
+SummaryTextsAreMeant =
     (rs : List IdRange) → AllByRecursion IsRangeWithinLimits rs → summary_in (summary_text rs) ≡ Ok rs
 
 -- the origin has 32 bits and the number 64, the bag is an operation's, and the program declares its atoms
@@ -31,7 +31,7 @@ DeltaTextsAreRead =
     → delta_in (declarations p) (delta_text (declarations p) m) ≡ Ok (finite.entries m)
 
 -- and so does that of version 1
-abbrev pub Delta1TextsAreRead : Type 0
-Delta1TextsAreRead =
+abbrev pub Delta1TextsAreMeant : Type 0
+Delta1TextsAreMeant =
     (p : Program) (m : Operations) → AllByRecursion (IsDeclaredOperation (declarations p)) (finite.entries m)
     → delta_in (declarations p) (delta_text_1 (declarations p) m) ≡ Ok (finite.entries m)

@@ -18,33 +18,33 @@ abbrev pub FirstIsSound : Type 0
 FirstIsSound = (p : Program) → IsSound p first
 
 -- a relation between replicas leads from sound ones to sound ones
-abbrev pub Keeps : Program → (Replica → Replica → Type 0) → Type 0
-Keeps p R = (s t : Replica) → R s t → IsSound p s → IsSound p t
+abbrev pub KeepsSound : Program → (Replica → Replica → Type 0) → Type 0
+KeepsSound p R = (s t : Replica) → R s t → IsSound p s → IsSound p t
 
 -- each event keeps replicas sound
 abbrev pub TellKeeps : Type 0
-TellKeeps = (p : Program) (op : Operation) → Keeps p (λ s t. Tells p s op t)
+TellKeeps = (p : Program) (op : Operation) → KeepsSound p (λ s t. Tells p s op t)
 
 abbrev pub MergeKeeps : Type 0
-MergeKeeps = (p : Program) (ops : List Operation) (n : ℕ) → Keeps p (λ s t. Merges p s ops n t)
+MergeKeeps = (p : Program) (ops : List Operation) (n : ℕ) → KeepsSound p (λ s t. Merges p s ops n t)
 
 abbrev pub StepKeeps : Type 0
-StepKeeps = (p : Program) (step : StepValue) → Keeps p (λ s t. Steps p s step t)
+StepKeeps = (p : Program) (step : StepValue) → KeepsSound p (λ s t. Steps p s step t)
 
 abbrev pub TakeKeeps : Type 0
-TakeKeeps = (p : Program) (part : Store) (number : ℕ) → Keeps p (λ s t. Takes s part number t)
+TakeKeeps = (p : Program) (part : Store) (number : ℕ) → KeepsSound p (λ s t. Takes s part number t)
 
 abbrev pub TakePartsKeeps : Type 0
-TakePartsKeeps = (p : Program) (n : ℕ) (parts : List Store) → Keeps p (λ s t. TakesParts s n parts t)
+TakePartsKeeps = (p : Program) (n : ℕ) (parts : List Store) → KeepsSound p (λ s t. TakesParts s n parts t)
 
 abbrev pub PutKeeps : Type 0
-PutKeeps = (p : Program) (number : ℕ) (part result : Store) → Keeps p (λ s t. Puts p s number part result t)
+PutKeeps = (p : Program) (number : ℕ) (part result : Store) → KeepsSound p (λ s t. Puts p s number part result t)
 
 abbrev pub RecallKeeps : Type 0
-RecallKeeps = (p : Program) (number : ℕ) → Keeps p (λ s t. Recalls s number t)
+RecallKeeps = (p : Program) (number : ℕ) → KeepsSound p (λ s t. Recalls s number t)
 
 abbrev pub SettleKeeps : Type 0
-SettleKeeps = (p : Program) (n : ℕ) → Keeps p (λ s t. Settles p s n t)
+SettleKeeps = (p : Program) (n : ℕ) → KeepsSound p (λ s t. Settles p s n t)
 
 -- Two sound replicas, of one confluent program, that hold the same operations of 64-bit values and have settled, hold
 -- the same pool: the one normal form of what was told.

@@ -2,8 +2,10 @@
 //! the definitions have to agree.
 mod acceptance;
 mod cases;
+mod confluent_programs;
 mod counts;
 mod instances;
+mod one_end;
 mod order_types;
 mod pool_sequences;
 mod random;
@@ -11,6 +13,7 @@ mod random_programs;
 mod resting;
 mod slow_overlaps;
 mod slow_verdict;
+mod sorts;
 mod steps;
 mod texts;
 mod two_pools;

@@ -15,7 +15,7 @@ use Rattle.chr_acts.specs.declared.act.Act.{Act}
 use Rattle.chr_acts.specs.declared.act.Act.TheVariants as act
 use Rattle.chr_acts.specs.declared.reply.Reply.{Reply}
 use Rattle.chr_acts.specs.declared.reply.Reply.TheVariants as reply
-use Rattle.chr_acts.specs.Events.{Does, Refuses}
+use Rattle.chr_acts.specs.Events.{Does, RefusesAct}
 use Rattle.chr_worlds.specs.declared.event.Event.{Event}
 use Rattle.chr_worlds.specs.declared.event.Event.TheVariants as event
 use Rattle.chr_worlds.specs.declared.answer.Answer.{Answer}
@@ -61,7 +61,7 @@ Works p s number steps _ t = ⊥
 
 -- an atom of what is asked isn't declared: so each replica says, whatever it holds
 abbrev pub AsksUnknown : Program → Act → Type 0
-AsksUnknown p a = Refuses p first a refusal.UnknownSymbol
+AsksUnknown p a = RefusesAct p first a refusal.UnknownSymbol
 
 -- an event, with its answer, leads from one world of the program p to another
 abbrev pub Happens : Program → Replicas → Event → Answer → Replicas → Type 0

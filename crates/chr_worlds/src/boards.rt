@@ -1,12 +1,13 @@
 //! The boards of a world: one of them changes, and the others stay as they are.
-ghost use Rattle.std.specs.Prelude.{◌≡◌, ◌+◌, ◌<◌, ◌≤◌, ◌≢◌, IfErr, IfNone, IfOk, IfSome, OnErr, length, replicate};
+ghost use Rattle.std.specs.Prelude.{◌≡◌, ◌+◌, ◌<◌, ◌≤◌, ◌≢◌, IfErr, IfNone, IfOk, IfSome, OnErr, OnOk, length};
+ghost use Rattle.std.specs.Prelude.{replicate};
 ghost use Rattle.std.specs.Arc.{arc_value};
 ghost use Rattle.chr_replica.specs.Boards.{program_on};
 ghost use Rattle.chr_replica.specs.Replicas.{first};
 ghost use Rattle.chr_acts.specs.Acts.{FitsAct};
 ghost use Rattle.chr_acts.specs.Events.{Does};
 ghost use Rattle.chr_worlds.specs.Worlds.{Works};
-ghost use Rattle.chr_worlds.specs.working.Boards.{AreLacked, ChangesAt, ExchangesAt, IsWorked};
+ghost use Rattle.chr_worlds.specs.working.Boards.{AreLacked, AreOf, ChangesAt, ExchangesAt, IsWorked};
 
 use chr_acts::{Act, OpList, Reply, carry_out};
 use chr_base::derivation::Step;
@@ -14,6 +15,7 @@ use chr_join::{Accepted, Done, StepFault};
 use chr_ops::Op;
 use chr_replica::{Board, Refusal};
 use std::alloc::{AllocError, Global};
+use std::mem::swap;
 use std::sync::Arc;
 
 /// So many boards of a program that were told nothing.
@@ -79,18 +81,30 @@ fn stepped(alloc: Global, board: &Board, number: u64, steps: &[Step]) -> Result<
 }
 
 /// Takes these steps on the part that the board has out under a number, and puts back what comes of it.
+fn put_stepped(alloc: Global, board: &mut Board, number: u64, steps: &[Step]) -> Result<(), Refusal>
+    ensures program { board.new.accepted ≡ board.old.accepted }
+    ensures ok { OnOk result (
+        Works (program_on board.old) board.old.replica number steps.now Reply.WasPut board.new.replica) }
+    ensures refused { IfErr result (λ refusal. refusal ≢ Refusal.Memory →
+        Works (program_on board.old) board.old.replica number steps.now (Reply.Refused refusal) board.old.replica) }
+    ensures err { OnErr result (board.new ≡ board.old) }
+{
+    let done = stepped(alloc, board, number, steps)?;
+    match board.put(done) {
+        Ok(()) => Ok(()),
+        Err(not_put) => Err(not_put.refusal),
+    }
+}
+
+/// Does so, and answers with what is refused. Where memory is refused nothing changes.
 fn work(alloc: Global, board: &mut Board, number: u64, steps: &[Step]) -> Result<Reply, AllocError>
     ensures program { board.new.accepted ≡ board.old.accepted }
     ensures ok { IfOk result (λ reply.
         Works (program_on board.old) board.old.replica number steps.now reply board.new.replica) }
     ensures err { OnErr result (board.new ≡ board.old) }
 {
-    match stepped(alloc, board, number, steps) {
-        // It is of a part that is out, and of the board's program: only memory can be refused.
-        Ok(done) => match board.put(done) {
-            Ok(()) => Ok(Reply::WasPut),
-            Err(_) => Err(AllocError),
-        },
+    match put_stepped(alloc, board, number, steps) {
+        Ok(()) => Ok(Reply::WasPut),
         Err(Refusal::Memory) => Err(AllocError),
         Err(refusal) => Ok(Reply::Refused(refusal)),
     }
@@ -111,6 +125,17 @@ pub(crate) fn work_at(
 {
     let board = &mut boards[place];
     work(alloc, board, number, steps)
+}
+
+/// Exchanges the board at a place with one of the same program.
+pub(crate) fn swap_at(boards: &mut [Board], place: usize, board: &mut Board)
+    requires place { place < length boards.old }
+    requires program { AreOf board.old.accepted boards.old }
+    ensures swapped { ChangesAt boards.old place
+        (λ b t. (b.replica ≡ board.new.replica) × (t ≡ board.old.replica)) boards.new }
+    ensures program { board.new.accepted ≡ board.old.accepted }
+{
+    swap(&mut boards[place], board);
 }
 
 /// What the first board holds and the second lacks.

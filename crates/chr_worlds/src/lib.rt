@@ -5,7 +5,6 @@ mod answer;
 mod boards;
 mod event;
 pub mod laws;
-pub mod limits;
 mod playing;
 mod world;
 

@@ -1,18 +1,19 @@
 //! Worlds as values.
-ghost use Rattle.std.specs.Prelude.{◌≡◌, ◌≤◌, ◌↔◌, IfOk, IfSome, IsSome, IsTrue, OnErr, replicate};
+ghost use Rattle.std.specs.Prelude.{◌≡◌, ◌≤◌, ◌↔◌, IfOk, IfSome, IsFalse, IsSome, IsTrue, OnErr};
+ghost use Rattle.std.specs.Prelude.{replicate};
 ghost use Rattle.std.specs.Arc.{arc_value};
 ghost use Rattle.chr_replica.specs.Replicas.{first};
 ghost use Rattle.chr_acts.specs.Acts.{FitsAct};
 ghost use Rattle.chr_worlds.specs.Events.{FitsEvent};
-ghost use Rattle.chr_worlds.specs.Worlds.{AsksUnknown, Happens, HasReplica, IsAt};
+ghost use Rattle.chr_worlds.specs.Worlds.{AsksUnknown, Changes, Happens, HasReplica, IsAt};
 ghost use Rattle.chr_worlds.specs.Sharing.{shared_program};
 
 use crate::answer::Answer;
-use crate::boards::{carry_out_at, exchange, opened, place_of, work_at};
+use crate::boards::{carry_out_at, exchange, opened, place_of, swap_at, work_at};
 use crate::event::Event;
-use crate::limits::MAX_REPLICAS;
 use chr_acts::Act;
 use chr_base::derivation::Step;
+use chr_base::limits::MAX_REPLICAS;
 use chr_base::program::Program;
 use chr_join::Accepted;
 use chr_replica::{Board, declares, declares_all};
@@ -80,6 +81,26 @@ impl World {
     {
         let place = place_of(&self.boards, replica)?;
         Some(&self.boards[place])
+    }
+
+    /// Exchanges the board of the replica of a number with another one of the world's program, and answers whether
+    /// there is such a replica. The other replicas stay as they are; where there is none, nothing changes. So a board
+    /// can be worked on as one by itself, and then go back to its place. It takes no memory.
+    pub fn swap_board(&mut self, replica: u64, board: &mut Board) -> bool
+        requires { board.old.accepted ≡ self.old.accepted }
+        ensures program { self.new.accepted ≡ self.old.accepted }
+        ensures board { board.new.accepted ≡ board.old.accepted }
+        ensures there { IsTrue result ↔ HasReplica self.old.replicas replica }
+        ensures swapped { IsTrue result → Changes self.old.replicas replica
+            (λ s t. (s ≡ board.new.replica) × (t ≡ board.old.replica)) self.new.replicas }
+        ensures world { IsFalse result → self.new ≡ self.old }
+        ensures kept { IsFalse result → board.new ≡ board.old }
+    {
+        let Some(place) = place_of(&self.boards, replica) else {
+            return false;
+        };
+        swap_at(&mut self.boards, place, board);
+        true
     }
 
     /// Lets an event happen. What a replica refuses is an answer, and leaves the world as it was; so is a `settle` that

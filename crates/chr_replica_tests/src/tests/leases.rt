@@ -14,8 +14,10 @@ use std::process::Abort;
 fn a_late_return_is_refused(rt: HostRuntime) {
     let alloc = rt.alloc();
     let mut board = told(&rt, alloc, MINIMUM, "min(5), min(3)");
+    assert_eq!(rt; show_refusal(alloc, &board), Some(Refusal::NotAtRest));
     let done = rested_of(&rt, alloc, &mut board, MINIMUM, "min(5)");
     assert_eq!(rt; done.number(), 1);
+    assert_eq!(rt; show_refusal(alloc, &board), Some(Refusal::Leased(1)));
     assert_eq!(rt; board.recall(1).err(), None);
     assert_eq!(rt; put_refusal(&mut board, done), Some(Refusal::NoLease(1)));
     assert!(rt; settles(&rt, alloc, &mut board, 1, "min(3)"));

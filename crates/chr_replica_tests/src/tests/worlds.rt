@@ -1,9 +1,11 @@
 //! Worlds of replicas let events happen.
+ghost use Rattle.std.specs.Prelude.{◌≡◌};
+
 use crate::tests::texts::{COINS, MINIMUM, accepted, has_text, op};
 use chr_acts::{Act, Reply};
+use chr_base::limits::MAX_REPLICAS;
 use chr_ops::Added;
 use chr_replica::Board;
-use chr_worlds::limits::MAX_REPLICAS;
 use chr_worlds::{Answer, Event, World};
 use std::alloc::Global;
 use std::process::Abort;
@@ -153,6 +155,44 @@ fn replicas_are_read_by_their_numbers(rt: HostRuntime) {
     assert_eq!(rt; told_atoms(&world, 1), Some(2));
     assert_eq!(rt; told_atoms(&world, 2), Some(1));
     assert_eq!(rt; told_atoms(&world, 4), None);
+}
+
+/// A board of the world's program that was told nothing.
+fn spare(rt: &impl Abort, alloc: Global, world: &World) -> Board
+    ensures { result.accepted ≡ world.now.accepted }
+{
+    let Ok(program) = world.program().clone() else {
+        panic!(rt; "out of memory");
+    };
+    let Ok(board) = Board::open(alloc, program) else {
+        panic!(rt; "out of memory");
+    };
+    board
+}
+
+/// Rests the replica of a number as a board by itself, where it is there.
+fn rest_apart(rt: &impl Abort, alloc: Global, world: &mut World, replica: u64) -> bool {
+    let mut board = spare(rt, alloc, world);
+    let is_there = world.swap_board(replica, &mut board);
+    let is_at_rest = board.settle().is_ok();
+    assert!(rt; is_at_rest, "out of memory");
+    assert_eq!(rt; world.swap_board(replica, &mut board), is_there);
+    is_there
+}
+
+#[test]
+fn boards_are_rested_apart(rt: HostRuntime) {
+    let alloc = rt.alloc();
+    let mut world = world_of(&rt, alloc, MINIMUM, 2);
+    let told = telling(&rt, alloc, MINIMUM, 2, 1, "min(5), min(3)");
+    assert!(rt; tells(&rt, alloc, &mut world, told));
+    assert!(rt; !world.board(2).is_some_and(|board| board.at_rest()));
+    assert!(rt; rest_apart(&rt, alloc, &mut world, 2));
+    assert!(rt; world.board(2).is_some_and(|board| board.at_rest()));
+    assert_eq!(rt; told_atoms(&world, 2), Some(2));
+    assert_eq!(rt; told_atoms(&world, 1), Some(0));
+    assert!(rt; !rest_apart(&rt, alloc, &mut world, 0));
+    assert!(rt; !rest_apart(&rt, alloc, &mut world, 3));
 }
 
 /// Two events of a minimum, an exchange, and a settling.

@@ -5,6 +5,7 @@ use crate::tests::resting::add_atoms;
 use crate::tests::steps::{after_step, steps};
 use crate::tests::texts::weighed_of;
 use crate::tests::two_pools::{is_at_rest, random_store, values_of_rules};
+use crate::tests::wide_programs::wide_program_text;
 use chr_base::atom::Atom;
 use chr_base::bag::Bag;
 use chr_base::rule::Rule;
@@ -20,6 +21,9 @@ use std::test::Fail;
 
 /// The number of programs.
 const PROGRAMS: usize = 150;
+
+/// The number of those with up to four heads a rule.
+const WIDE_PROGRAMS: usize = 150;
 
 /// The calls of each sequence.
 const CALLS: usize = 40;
@@ -290,18 +294,47 @@ impl Beside {
     }
 }
 
+/// A text at random, of rules with up to two heads or with up to four.
+fn text_of(alloc: Global, random: &mut Random, is_wide: bool) -> Result<String, AllocError> {
+    if is_wide {
+        wide_program_text(alloc, random)
+    } else {
+        program_text(alloc, random)
+    }
+}
+
 /// So many programs that lower.
-fn programs(alloc: Global, random: &mut Random, count: usize) -> Result<Vec<Weighed>, AllocError> {
+fn programs(
+    alloc: Global,
+    random: &mut Random,
+    count: usize,
+    is_wide: bool,
+) -> Result<Vec<Weighed>, AllocError> {
     let mut programs = Vec::new(alloc);
     for _ in 0..count.saturating_mul(20) {
         if programs.len() == count {
             break;
         }
-        if let Some(weighed) = weighed_of(alloc, &program_text(alloc, random)?) {
+        if let Some(weighed) = weighed_of(alloc, &text_of(alloc, random, is_wide)?) {
             programs.push(weighed)?;
         }
     }
     Ok(programs)
+}
+
+/// A sequence of calls for each of so many programs.
+fn run_sequences(
+    alloc: Global,
+    random: &mut Random,
+    count: usize,
+    is_wide: bool,
+) -> Result<Tally, Fail> {
+    let programs = programs(alloc, random, count, is_wide)?;
+    let mut all = Tally::default();
+    for pair in programs.windows(2) {
+        all.add(run_sequence(alloc, random, &pair[0], &pair[1])?);
+    }
+    Ok(all)
 }
 
 /// Calls under the rules of the first program, and seldom under those of the second.
@@ -324,11 +357,7 @@ fn run_sequence(
 fn calls_at_random(rt: HostRuntime) -> Result<(), Fail> {
     let alloc = rt.alloc();
     let mut random = Random::new(9);
-    let programs = programs(alloc, &mut random, PROGRAMS)?;
-    let mut all = Tally::default();
-    for pair in programs.windows(2) {
-        all.add(run_sequence(alloc, &mut random, &pair[0], &pair[1])?);
-    }
+    let all = run_sequences(alloc, &mut random, PROGRAMS, false)?;
     assert!(rt; all.there >= 200 && all.removed >= 200, "{all:?}");
     assert!(rt;
         all.fired >= 40
@@ -336,6 +365,19 @@ fn calls_at_random(rt: HostRuntime) -> Result<(), Fail> {
             && all.moved >= 10
             && all.steps >= 150
             && all.rests >= 200,
+        "{all:?}"
+    );
+    Ok(())
+}
+
+#[test]
+fn calls_at_random_with_up_to_four_heads(rt: HostRuntime) -> Result<(), Fail> {
+    let alloc = rt.alloc();
+    let mut random = Random::new(11);
+    let all = run_sequences(alloc, &mut random, WIDE_PROGRAMS, true)?;
+    assert!(rt; all.there >= 50 && all.removed >= 50, "{all:?}");
+    assert!(rt;
+        all.fired >= 10 && all.taken >= 10 && all.steps >= 20 && all.rests >= 50,
         "{all:?}"
     );
     Ok(())

@@ -3,6 +3,7 @@ use Rattle.std.specs.Prelude.{◌≡◌, ℕ, List, [], ◌∷◌, ◌++◌, map
 use Rattle.std.specs.FinMap as map
 use Rattle.chr_base.specs.Programs.{rules_of}
 use Rattle.chr_base.specs.declared.derivation.Step.{Step}
+use Rattle.chr_weights.specs.WeighedPrograms.{program_of}
 use Rattle.chr_join.specs.Parts.{Finished}
 use Rattle.chr_join.specs.declared.accepted.Accepted.{Accepted}
 use Rattle.chr_ops.specs.declared.range.IdRange.{IdRange}
@@ -34,8 +35,9 @@ pub record ChangesAt (bs : List Held) (place : ℕ) (R : Held → Replica → Ty
   pub changed : R before after.replica
   pub boards : cs ≡ slice_set bs place after
 
--- d comes of the part that the replica s of the program p has out under a number, after just these steps
+-- d comes of the part that the replica s of the program p has out under a number, after just these steps under p
 pub record IsWorked (p : Program) (s : Replica) (number : ℕ) (steps : List Step) (d : Finished) : Type 0 where
+  pub program : program_of d.weighed ≡ p
   pub out : map.get s.out number ≡ Some d.part
   pub numbered : d.number ≡ number
   pub end : IsDerivation (rules_of p) steps d.part d.result

@@ -1,0 +1,47 @@
+//! Multisets of atoms as plain lists, in any order.
+use chr_base::atom::Atom;
+use std::alloc::Global;
+use std::process::Abort;
+
+pub fn copies(rt: &impl Abort, alloc: Global, atoms: &[Atom]) -> Vec<Atom> {
+    let mut copies = Vec::new(alloc);
+    add(rt, &mut copies, atoms);
+    copies
+}
+
+pub fn add(rt: &impl Abort, to: &mut Vec<Atom>, atoms: &[Atom]) {
+    for atom in atoms {
+        to.push(atom.copy()).expect(rt, "memory");
+    }
+}
+
+/// The first atom that is equal is taken out, where there is one.
+fn take_one(from: &mut Vec<Atom>, atom: &Atom) -> bool {
+    match from.iter().position(|other| other == atom) {
+        Some(place) if place < from.len() => {
+            from.swap_remove(place);
+            true
+        }
+        _ => false,
+    }
+}
+
+/// What is left when these atoms are taken out, one for one; None where they aren't all there.
+pub fn without(
+    rt: &impl Abort,
+    alloc: Global,
+    atoms: &[Atom],
+    taken: &[Atom],
+) -> Option<Vec<Atom>> {
+    let mut left = copies(rt, alloc, atoms);
+    for atom in taken {
+        if !take_one(&mut left, atom) {
+            return None;
+        }
+    }
+    Some(left)
+}
+
+pub fn are_same(rt: &impl Abort, alloc: Global, left: &[Atom], right: &[Atom]) -> bool {
+    left.len() == right.len() && without(rt, alloc, left, right).is_some()
+}

@@ -1,0 +1,104 @@
+//! Sorts of positions, with their kinds and constants.
+use chr_base::atom::SymbolId;
+use chr_base::program::Program;
+use chr_kinds::{Kind, finest_sorts};
+use chr_read::read;
+use std::alloc::{AllocError, Global};
+use std::process::Abort;
+use std::test::Fail;
+
+/// The program of a text, whether it lowers or not.
+fn program(rt: &impl Abort, alloc: Global, text: &str) -> Program {
+    let Ok(program) = read(alloc, text.as_bytes()) else {
+        panic!(rt; "no program: {text}");
+    };
+    program
+}
+
+/// The first three arguments of the first two symbols: of each the number of its sort, the kind's first letter, and the
+/// constants.
+fn sorts_text(alloc: Global, program: &Program) -> Result<String, AllocError> {
+    let sorts = finest_sorts(alloc, program)?;
+    let mut text = String::new(alloc);
+    for symbol in [SymbolId(0), SymbolId(1)] {
+        for argument in 0..3 {
+            let sort = sorts.sort(symbol, argument);
+            let kind = match sorts.kind(sort) {
+                Kind::Ordered => "o",
+                Kind::Equal => "e",
+                Kind::Free => "f",
+            };
+            text.push_str(&format!(in alloc; "{sort}{kind}")?)?;
+            for constant in sorts.constants(sort) {
+                text.push_str(&format!(in alloc; " {constant}")?)?;
+            }
+            text.push_str(";")?;
+        }
+    }
+    Ok(text)
+}
+
+/// Programs with the sorts of their positions. There are six positions for each symbol.
+const SORTS: [(&str, &str); 12] = [
+    (
+        ":- chr_constraint path/3. path(X,Y,D) \\ path(X,Y,E) <=> D =< E | true.",
+        "0f;1f;2o;6f;7f;8f;",
+    ),
+    // the variables of a guard are of one sort, whatever the sign
+    (
+        ":- chr_constraint a/1, b/1. a(X), b(Y) <=> X =:= Y | true.",
+        "0f;1f;2f;0f;7f;8f;",
+    ),
+    (
+        ":- chr_constraint a/1, b/1. a(X), b(Y) <=> X =\\= Y | true.",
+        "0e;1f;2f;0e;7f;8f;",
+    ),
+    (
+        ":- chr_constraint a/1, b/1. a(X), b(Y) <=> Y > X | true.",
+        "0o;1f;2f;0o;7f;8f;",
+    ),
+    // a body joins the columns that it copies from
+    (
+        ":- chr_constraint p/2, out/1. p(X,Y) <=> out(X). p(X,Y) <=> out(Y).",
+        "0f;0f;2f;0f;7f;8f;",
+    ),
+    (
+        ":- chr_constraint p/2, out/1. p(X,Y) <=> out(X).",
+        "0f;1f;2f;0f;7f;8f;",
+    ),
+    // a constant of a head, of a body or of a guard is one of its sort, and of no other
+    (
+        ":- chr_constraint a/2, b/1. a(X,4) <=> X =:= 3 | b(7).",
+        "0f 3;1f 4;2f;6f 7;7f;8f;",
+    ),
+    (
+        ":- chr_constraint a/1, b/1. a(X) <=> 5 < X, X =\\= -9 | b(X). b(2) <=> true.",
+        "0o -9 2 5;1f;2f;0o -9 2 5;7f;8f;",
+    ),
+    (
+        ":- chr_constraint a/1. a(X) <=> X =\\= 0 | true.",
+        "0e 0;1f;2f;6f;7f;8f;",
+    ),
+    // nothing is compared between a variable and itself, or two constants
+    (
+        ":- chr_constraint a/1. a(X) <=> X =< X, 3 < 4 | true.",
+        "0f;1f;2f;6f;7f;8f;",
+    ),
+    // joined by way of a third
+    (
+        ":- chr_constraint a/3. a(X,Y,Z) <=> X =:= Y, Z < Y | true.",
+        "0o;0o;0o;6f;7f;8f;",
+    ),
+    (":- chr_constraint a/3.", "0f;1f;2f;6f;7f;8f;"),
+];
+
+#[test]
+fn are_the_finest(rt: HostRuntime) -> Result<(), Fail> {
+    let alloc = rt.alloc();
+    for (text, expected) in SORTS {
+        let program = program(&rt, alloc, text);
+        let found = sorts_text(alloc, &program)?;
+        assert_eq!(rt; found.as_str(), expected, "{text}");
+    }
+    Ok(())
+}
