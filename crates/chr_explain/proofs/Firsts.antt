@@ -1,10 +1,13 @@
 -- The first bad clause of a text.
-use Rattle.std.proofs.Common.{◌≡◌, ℕ, suc, ◌+◌, ◌-◌, ◌<◌, ◌≤◌, List, [], ◌∷◌, ◌++◌, length, inr, refl, sym, subst, arith, append_assoc, append-nil}
+use Rattle.std.proofs.Common.{◌≡◌, ℕ, suc, ◌+◌, ◌-◌, ◌<◌, ◌≤◌, List, [], ◌∷◌, ◌++◌, inl, inr, refl, sym, subst, arith, append_assoc, append-nil}
 use Rattle.std.specs.Prelude.{Option, Some, None, IfSome, IfNone}
 use Rattle.chr_read.specs.ProgramTexts.{IsRefusedText}
 use Rattle.chr_explain.specs.declared.faults.BadClause.{BadClause}
+use Rattle.chr_explain.specs.declared.faults.TextFaults.{TextFaults}
+use Rattle.chr_explain.specs.declared.faults.TextFaults.TheVariants.{TooLong, Clauses}
+use Rattle.chr_explain.specs.working.TextsWithout.{AreNone}
 use Rattle.chr_explain.specs.declared.limits.TheConstants.{MAX_TOLD_FAULTS}
-use Rattle.chr_explain.specs.BadClauses.{AreBadClauses, TellsFirstOf, IsProgram, IsRefused, without_clause}
+use Rattle.chr_explain.specs.BadClauses.{AreBadClauses, TellsFirst, TellsFirstOf, IsProgram, IsRefused, without_clause}
 
 first : (limit : ℕ) (text : List ℕ) (bad : List BadClause) → AreBadClauses (suc limit) 0 text bad → TellsFirstOf text bad
 first limit text [] h = h
@@ -54,6 +57,11 @@ none_left o text left e n h = subst IsProgram e (subst (λ x. IfNone x (IsProgra
 pub some_left : (o : Option BadClause) (b : BadClause) (text left : List ℕ) → text ≡ left → o ≡ Some b → IfSome o (λ x. IsRefusedText text x.fault x.number) → IsRefusedText left b.fault b.number
 some_left o b text left e n h = subst (λ t. IsRefusedText t b.fault b.number) e (subst (λ x. IfSome x (λ y. IsRefusedText text y.fault y.number)) n h)
 
-pub refused_is : (text : List ℕ) (bad : List BadClause) → TellsFirstOf text bad → 0 < length bad → IsRefused text
-refused_is text [] h some = absurd (omega arith)
-refused_is text (b ∷ more) h some = inr (b.fault, b.number, h)
+refused_list : (text : List ℕ) (bad : List BadClause) → TellsFirstOf text bad → ¬ (bad ≡ []) → IsRefused text
+refused_list text [] h some = absurd (some refl)
+refused_list text (b ∷ more) h some = inr (b.fault, b.number, h)
+
+-- a text with faults is refused
+pub refused_faults : (text : List ℕ) (faults : TextFaults) → TellsFirst text faults → ¬ (AreNone faults) → IsRefused text
+refused_faults text TooLong h some = inl h
+refused_faults text (Clauses bad) h some = refused_list text bad.items h some

@@ -3,3 +3,6 @@ mod Shorter
 mod Firsts
 mod OneList
 mod Rising
+mod Passing
+mod Counting
+mod Verdicts

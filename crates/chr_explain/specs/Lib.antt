@@ -1,4 +1,6 @@
 pub mod Places
 pub mod Lines
 pub mod BadClauses
+pub mod Verdicts
+pub mod Diagnoses
 pub mod working

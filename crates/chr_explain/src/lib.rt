@@ -3,21 +3,32 @@
 
 mod cause;
 mod clause;
-mod explain;
+mod diagnosis;
+mod drawing;
+mod explanation;
+mod fault_text;
 mod faults;
 mod finding;
 mod limits;
 mod line;
+mod overlap_text;
+mod pairs;
 mod place;
 mod rule;
+mod rule_text;
+mod stores;
 mod syntax;
+mod telling;
 #[cfg(test)]
 mod tests;
 mod token;
+mod weight_text;
 mod word;
 
-pub use explain::explain_text;
+pub use diagnosis::{Census, Counted, Crowd, Diagnosis, Peak, Unlowered, Verdict, diagnose};
+pub use explanation::{Explanation, Manner, explain};
+pub use fault_text::explain_text;
 pub use faults::{BadClause, TextFaults, text_faults, texts_have_one_list};
-pub use limits::MAX_TOLD_FAULTS;
+pub use limits::{MAX_TOLD_FAULTS, MAX_TOLD_STEPS};
 pub use line::{line_end, line_start, push_line};
 pub use place::{Place, place_of, place_outside, places_are_outside};

@@ -11,3 +11,12 @@ pub const MAX_TOLD_BYTES: usize = 40;
 
 /// How many declared symbols are told.
 pub const MAX_TOLD_SYMBOLS: usize = 8;
+
+/// How many steps of a derivation are told.
+pub const MAX_TOLD_STEPS: usize = 100;
+
+/// How many pairs of rules are told where not all are asked for.
+pub const MAX_TOLD_PAIRS: usize = 20;
+
+/// How many bytes of a store are drawn.
+pub const MAX_DRAWN_BYTES: usize = 2_000;

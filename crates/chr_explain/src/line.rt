@@ -1,7 +1,7 @@
 //! The line of a text in which a byte stands, with a caret under the byte.
 ghost use Rattle.std.specs.Prelude.{◌≡◌, ◌≤◌, length};
 ghost use Rattle.std.specs.List.{prefix_len};
-ghost use Rattle.chr_explain.specs.Lines.{is_within, line_end, line_start};
+ghost use Rattle.chr_explain.specs.Lines.{is_within_line, line_end, line_start};
 
 use crate::limits::MAX_SHOWN;
 use crate::place::place_of;
@@ -19,7 +19,7 @@ pub fn line_start(text: &[u8], at: usize) -> usize
 
 /// How many bytes stand before the first line feed.
 fn feed_place(bytes: &[u8]) -> usize
-    ensures value { result ≡ prefix_len is_within bytes.now }
+    ensures value { result ≡ prefix_len is_within_line bytes.now }
     ensures within { result ≤ length bytes.now }
 {
     bytes.iter().take_while(|b| **b != b'\n').count()

@@ -1,4 +1,7 @@
+mod drawn;
+mod expected;
 mod explained;
+mod verdicts;
 
 use crate::{place_of, place_outside, push_line};
 use std::test::Fail;

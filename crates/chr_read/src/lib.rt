@@ -23,4 +23,4 @@ pub use grammar::{
     variables_are_numbered,
 };
 pub use reader::{MAX_TEXT, read};
-pub use writer::write;
+pub use writer::{push_pattern, push_rule, write};

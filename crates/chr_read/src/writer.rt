@@ -60,7 +60,12 @@ fn name_at(program: &Program, symbol: SymbolId) -> &str
     }
 }
 
-fn push_pattern(out: &mut String, program: &Program, pattern: &Pattern) -> Result<(), AllocError>
+/// Adds an atom of a rule, as the canonical text has it: its variables are `V1`, `V2`, ..
+pub fn push_pattern(
+    out: &mut String,
+    program: &Program,
+    pattern: &Pattern,
+) -> Result<(), AllocError>
     ensures { OnOk result (string_bytes out.new
         ≡ string_bytes out.old ++ pattern_text (declarations program.now) pattern.now) }
 {
@@ -180,7 +185,8 @@ fn push_body(out: &mut String, program: &Program, body: &[Pattern]) -> Result<()
     }
 }
 
-fn push_rule(out: &mut String, program: &Program, rule: &Rule) -> Result<(), AllocError>
+/// Adds a rule, as the canonical text has it, without its full stop.
+pub fn push_rule(out: &mut String, program: &Program, rule: &Rule) -> Result<(), AllocError>
     ensures { OnOk result (string_bytes out.new
         ≡ string_bytes out.old ++ rule_clause (declarations program.now) rule.now) }
 {

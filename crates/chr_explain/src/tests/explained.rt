@@ -1,6 +1,7 @@
 //! Texts with their whole explanations.
 
 use crate::explain_text;
+use crate::tests::expected::joined;
 use std::alloc::Global;
 use std::fmt::Write;
 use std::process::Abort;
@@ -9,11 +10,7 @@ use std::process::Abort;
 fn expect(rt: &impl Abort, alloc: Global, text: &[u8], lines: &[&str]) {
     let told = explain_text(alloc, text).expect(rt, "memory");
     let told = told.unwrap_or(String::new(alloc));
-    let mut wanted = String::new(alloc);
-    for line in lines {
-        wanted.push_str(line).expect(rt, "memory");
-        wanted.push_str("\n").expect(rt, "memory");
-    }
+    let wanted = joined(rt, alloc, lines);
     assert_eq!(rt; told.as_str(), wanted.as_str());
 }
 

@@ -2,6 +2,8 @@
 
 ghost use Rattle.std.specs.Prelude.{◌≡◌, ◌≤◌, IfOk, IfNone, IfSome, length, unwrap_or};
 ghost use Rattle.chr_explain.specs.BadClauses.{IsProgram, IsRefused};
+ghost use Rattle.std.specs.Bool.{OnTrue, OnFalse};
+ghost use Rattle.chr_explain.specs.working.TextsWithout.{AreNone};
 ghost use Rattle.chr_explain.specs.Places.{place_outside};
 
 use crate::cause::Cause;
@@ -139,25 +141,45 @@ fn told_of(alloc: Global, text: &[u8], bad: &[BadClause]) -> Result<String, Allo
     Ok(out)
 }
 
+/// The explanation of what is wrong with a text.
+pub(crate) fn faults_told(
+    alloc: Global,
+    text: &[u8],
+    faults: &TextFaults,
+) -> Result<String, AllocError> {
+    match faults {
+        TextFaults::TooLong => {
+            let told = format!(in alloc;
+                "fault 2: the text has {} bytes, {MAX_TEXT} are allowed\n",
+                text.len()
+            )?;
+            Ok(told)
+        }
+        TextFaults::Clauses(bad) => told_of(alloc, text, bad),
+    }
+}
+
+/// Whether these are the faults of a program, which has none.
+fn are_none(faults: &TextFaults) -> bool
+    ensures none { OnTrue result (AreNone faults.now) }
+    ensures some { OnFalse result (¬ (AreNone faults.now)) }
+{
+    match faults {
+        TextFaults::TooLong => false,
+        TextFaults::Clauses(bad) => bad.is_empty(),
+    }
+}
+
 /// Tells a person what is wrong with a text: its bad clauses, `MAX_TOLD_FAULTS` at most, each with its place, its line
 /// with a caret, and what would be right. None where the text is a program.
 pub fn explain_text(alloc: Global, text: &[u8]) -> Result<Option<String>, AllocError>
     ensures program { IfOk result (λ told. IfNone told (IsProgram text.now)) }
     ensures refused { IfOk result (λ told. IfSome told (λ _. IsRefused text.now)) }
 {
-    let bad = match text_faults(alloc, text)? {
-        TextFaults::TooLong => {
-            let told = format!(in alloc;
-                "fault 2: the text has {} bytes, {MAX_TEXT} are allowed\n",
-                text.len()
-            )?;
-            return Ok(Some(told));
-        }
-        TextFaults::Clauses(bad) => bad,
-    };
-    if bad.is_empty() {
+    let faults = text_faults(alloc, text)?;
+    if are_none(&faults) {
         return Ok(None);
     }
-    let told = told_of(alloc, text, &bad)?;
+    let told = faults_told(alloc, text, &faults)?;
     Ok(Some(told))
 }

@@ -1,0 +1,73 @@
+-- What is told of a text is true of it.
+use Rattle.std.specs.Prelude.{◌≡◌, ℕ, ◌⊎◌, List, [], ◌∷◌, length, map, take, Ok}
+use Rattle.std.specs.List.{All}
+use Rattle.chr_base.specs.declared.program.Program.{Program}
+use Rattle.chr_base.specs.declared.rule.Rule.{Rule}
+use Rattle.chr_base.specs.declared.derivation.Derivation.{Derivation}
+use Rattle.chr_base.specs.declared.derivation.Step.{Step}
+use Rattle.chr_base.specs.Stores.{Store}
+use Rattle.chr_base.specs.Programs.{declarations, rules_of}
+use Rattle.chr_weights.specs.Weights.{ProgramLowers, IsFirstNotLowered}
+use Rattle.chr_weights.specs.WeighedPrograms.{program_of}
+use Rattle.chr_rewrite.specs.Derivations.{LeadsTo}
+use Rattle.chr_overlaps.specs.declared.cases.Case.{Case}
+use Rattle.chr_overlaps.specs.OverlapLists.{AreOverlaps}
+use Rattle.chr_overlaps.specs.CaseLists.{AreCases, IsTooMany}
+use Rattle.chr_join.specs.declared.refused.Cause.TheVariants as cause
+use Rattle.chr_join.specs.AcceptedPrograms.{program_in, cases_of}
+use Rattle.chr_join.specs.Verdicts.{IsAccepted}
+use Rattle.chr_join.specs.Explanations.{IsRefusal, ReplaysApart}
+use Rattle.chr_read.specs.Meanings.{meaning_of}
+use Rattle.chr_read.specs.ProgramTexts.{IsAnswer}
+use Rattle.chr_explain.specs.declared.limits.TheConstants.{MAX_TOLD_STEPS}
+use Rattle.chr_explain.specs.declared.diagnosis.Peak.{Peak}
+use Rattle.chr_explain.specs.declared.diagnosis.Counted.{Counted}
+use Rattle.chr_explain.specs.declared.diagnosis.Diagnosis.{Diagnosis}
+use Rattle.chr_explain.specs.declared.diagnosis.Diagnosis.TheVariants.{Text, NotLowered, Fails, TooManyTypes, Accepted}
+use Rattle.chr_explain.specs.BadClauses.{IsRefused, AreFaults, TellsFirst}
+
+-- from s each step leads to the next of these stores
+abbrev pub PassesThrough : List Rule → List Step → Store → List Store → Type 0
+PassesThrough rules [] s stores = stores ≡ []
+PassesThrough rules (st ∷ steps) s [] = ⊥
+PassesThrough rules (st ∷ steps) s (t ∷ stores) = LeadsTo rules st s t × PassesThrough rules steps t stores
+
+-- the stores after the first steps of the derivation
+abbrev pub AreFirstStores : List Rule → Derivation → List Store → Type 0
+AreFirstStores rules d stores = PassesThrough rules (take MAX_TOLD_STEPS d.steps.items) d.start stores
+
+-- the first case that fails, whose two derivations replay to different ends, and the stores of both
+pub record IsPeakOf (rules : List Rule) (p : Peak) : Type 0 where
+  pub first : IsRefusal rules (cause.Fails p.failure)
+  pub replays : ReplaysApart rules p.failure
+  pub left : AreFirstStores rules p.failure.left p.left.items
+  pub right : AreFirstStores rules p.failure.right p.right.items
+
+-- the number of the overlap's cases, or 0 where it has too many order types
+abbrev pub IsCounted : List Rule → Counted → Type 0
+IsCounted rules c = ((cs : List Case) × AreCases rules c.overlap cs × (c.cases ≡ length cs))
+    ⊎ ((n : ℕ) × IsTooMany rules c.overlap n × (c.cases ≡ 0))
+
+-- all overlaps, each with that number
+pub record AreCounted (rules : List Rule) (counts : List Counted) : Type 0 where
+  pub overlaps : AreOverlaps rules (map (λ c. c.overlap) counts)
+  pub each : All (IsCounted rules) counts
+
+-- what is told of a program
+abbrev pub IsDiagnosisOf : Program → Diagnosis → Type 0
+IsDiagnosisOf p (Text f) = ⊥
+IsDiagnosisOf p (NotLowered u) = (meaning_of u.program ≡ meaning_of p)
+    × IsFirstNotLowered (declarations p) (rules_of p) u.fault.rule u.fault.before u.fault.after
+IsDiagnosisOf p (Fails k) = (program_of k.weighed ≡ p) × ProgramLowers p × IsPeakOf (rules_of p) k
+IsDiagnosisOf p (TooManyTypes c) =
+    (program_of c.weighed ≡ p) × ProgramLowers p × IsRefusal (rules_of p) (cause.TooManyTypes c.too_many)
+IsDiagnosisOf p (Accepted c) = (program_in c.accepted ≡ p) × ProgramLowers p
+    × IsAccepted (rules_of p) (cases_of c.accepted) × AreCounted (rules_of p) c.counts.items
+
+-- what is told of a text: that it is no program, with its bad clauses, or what is told of its program
+abbrev pub IsDiagnosis : List ℕ → Diagnosis → Type 0
+IsDiagnosis text (Text f) = IsRefused text × AreFaults text f × TellsFirst text f
+IsDiagnosis text (NotLowered u) = (p : Program) × IsAnswer text (Ok p) × IsDiagnosisOf p (NotLowered u)
+IsDiagnosis text (Fails k) = (p : Program) × IsAnswer text (Ok p) × IsDiagnosisOf p (Fails k)
+IsDiagnosis text (TooManyTypes c) = (p : Program) × IsAnswer text (Ok p) × IsDiagnosisOf p (TooManyTypes c)
+IsDiagnosis text (Accepted c) = (p : Program) × IsAnswer text (Ok p) × IsDiagnosisOf p (Accepted c)

@@ -1,0 +1,208 @@
+//! What is to be told of a text: why it is refused, or what was accepted.
+ghost use Rattle.std.specs.Prelude.{◌≡◌, IfOk};
+ghost use Rattle.chr_weights.specs.WeighedPrograms.{program_of, rules_in};
+ghost use Rattle.chr_overlaps.specs.OverlapLists.{IsOverlapOf};
+ghost use Rattle.chr_explain.specs.Verdicts.{verdict_of};
+ghost use Rattle.chr_join.specs.declared.refused.Cause.TheVariants.{Fails};
+ghost use Rattle.chr_join.specs.Explanations.{IfFails, IsRefusal, ReplaysApart};
+ghost use Rattle.chr_explain.specs.BadClauses.{IsRefused};
+ghost use Rattle.chr_explain.specs.Diagnoses.{AreCounted, IsCounted, IsDiagnosis, IsDiagnosisOf, IsPeakOf};
+
+use crate::faults::{TextFaults, text_faults};
+use crate::stores::first_stores;
+use chr_base::bag::Bag;
+use chr_base::program::Program;
+use chr_join::{Accepted, Cause, Failure, Refused, TooManyTypes, accept};
+use chr_overlaps::cases::cases;
+use chr_overlaps::{CaseFault, Overlap, overlaps};
+use chr_read::{ReadFault, read};
+use chr_weights::{NotLowered, Weighed, weigh};
+use std::alloc::{AllocError, Global};
+
+/// Whether a text is a program that is accepted.
+#[derive(Clone, Copy, Debug, PartialEq, Eq)]
+pub enum Verdict {
+    Accepted,
+    Refused,
+}
+
+/// A program with a rule that does not lower the weight.
+#[derive(Drop)]
+pub struct Unlowered {
+    pub program: Program,
+    /// The first such rule, with both weights.
+    pub fault: NotLowered,
+}
+
+/// A program with a case that fails.
+#[derive(Drop)]
+pub struct Peak {
+    pub weighed: Weighed,
+    /// The first case that fails, with the derivations of both sides.
+    pub failure: Failure,
+    /// The stores after the first steps of the left side, `MAX_TOLD_STEPS` at most.
+    pub left: Vec<Bag>,
+    /// The same of the right side.
+    pub right: Vec<Bag>,
+}
+
+/// A program with an overlap of too many order types.
+#[derive(Drop)]
+pub struct Crowd {
+    pub weighed: Weighed,
+    /// The first such overlap.
+    pub too_many: TooManyTypes,
+}
+
+/// An overlap, and the number of its cases.
+#[derive(Drop)]
+pub struct Counted {
+    pub overlap: Overlap,
+    pub cases: usize,
+}
+
+/// An accepted program, and all of its overlaps, in order.
+#[derive(Drop)]
+pub struct Census {
+    pub accepted: Accepted,
+    pub counts: Vec<Counted>,
+}
+
+/// What is to be told of a text.
+#[derive(Drop)]
+pub enum Diagnosis {
+    /// The text is no program.
+    Text(TextFaults),
+    /// A rule does not lower the weight.
+    NotLowered(Unlowered),
+    /// Two rules, or a rule twice, lead one store to two ends.
+    Fails(Peak),
+    /// An overlap has too many order types.
+    TooManyTypes(Crowd),
+    /// The program is accepted.
+    Accepted(Census),
+}
+
+impl Diagnosis {
+    /// Whether the text is a program that is accepted.
+    pub fn verdict(&self) -> Verdict
+        ensures { result ≡ verdict_of self.now }
+    {
+        match self {
+            Diagnosis::Accepted(_) => Verdict::Accepted,
+            _ => Verdict::Refused,
+        }
+    }
+}
+
+/// An overlap with the number of its cases, 0 where it has too many order types.
+fn count_cases(alloc: Global, weighed: &Weighed, overlap: &Overlap) -> Result<Counted, AllocError>
+    requires { IsOverlapOf (rules_in weighed.now) overlap.now }
+    ensures overlap { IfOk result (λ c. c.overlap ≡ overlap.now) }
+    ensures counted { IfOk result (IsCounted (rules_in weighed.now)) }
+{
+    let cases = match cases(alloc, weighed, overlap) {
+        Ok(cases) => cases.len(),
+        Err(CaseFault::TooManyTypes { .. }) => 0,
+        Err(CaseFault::Memory) => return Err(AllocError),
+    };
+    Ok(Counted {
+        overlap: overlap.copy(),
+        cases,
+    })
+}
+
+/// All overlaps with the numbers of their cases.
+fn all_counted(alloc: Global, weighed: &Weighed) -> Result<Vec<Counted>, AllocError>
+    ensures { IfOk result (λ v. AreCounted (rules_in weighed.now) v.items) }
+{
+    let overlaps = overlaps(alloc, weighed)?;
+    let mut counts = Vec::new(alloc);
+    for overlap in &overlaps {
+        counts.push(count_cases(alloc, weighed, overlap)?)?;
+    }
+    Ok(counts)
+}
+
+/// The case that fails, with the stores of both sides.
+fn peak_of(alloc: Global, weighed: Weighed, failure: Failure) -> Result<Peak, AllocError>
+    requires first { IsRefusal (rules_in weighed) (Fails failure) }
+    requires replays { ReplaysApart (rules_in weighed) failure }
+    ensures weighed { IfOk result (λ p. p.weighed ≡ weighed) }
+    ensures peak { IfOk result (IsPeakOf (rules_in weighed)) }
+{
+    let left = first_stores(alloc, &weighed, &failure.left)?;
+    let right = first_stores(alloc, &weighed, &failure.right)?;
+    Ok(Peak {
+        weighed,
+        failure,
+        left,
+        right,
+    })
+}
+
+fn refused_diagnosis(alloc: Global, refused: Refused) -> Result<Diagnosis, AllocError>
+    requires first { IsRefusal (rules_in refused.weighed) refused.cause }
+    requires replays { IfFails refused.cause (ReplaysApart (rules_in refused.weighed)) }
+    ensures { IfOk result (IsDiagnosisOf (program_of refused.weighed)) }
+{
+    let weighed = refused.weighed;
+    match refused.cause {
+        Cause::Fails(failure) => {
+            let peak = peak_of(alloc, weighed, failure)?;
+            Ok(Diagnosis::Fails(peak))
+        }
+        Cause::TooManyTypes(too_many) => {
+            Ok(Diagnosis::TooManyTypes(Crowd { weighed, too_many }))
+        }
+        Cause::Memory => Err(AllocError),
+    }
+}
+
+fn weighed_diagnosis(alloc: Global, weighed: Weighed) -> Result<Diagnosis, AllocError>
+    ensures { IfOk result (IsDiagnosisOf (program_of weighed)) }
+{
+    match accept(alloc, weighed) {
+        Ok(accepted) => {
+            let counts = all_counted(alloc, accepted.weighed())?;
+            Ok(Diagnosis::Accepted(Census { accepted, counts }))
+        }
+        Err(refused) => refused_diagnosis(alloc, refused),
+    }
+}
+
+fn program_diagnosis(alloc: Global, program: Program) -> Result<Diagnosis, AllocError>
+    ensures { IfOk result (IsDiagnosisOf program) }
+{
+    let copy = program.copy(alloc)?;
+    match weigh(program) {
+        Ok(weighed) => weighed_diagnosis(alloc, weighed),
+        Err(fault) => Ok(Diagnosis::NotLowered(Unlowered {
+            program: copy,
+            fault,
+        })),
+    }
+}
+
+/// What is wrong with a text that is no program.
+fn text_diagnosis(alloc: Global, text: &[u8]) -> Result<Diagnosis, AllocError>
+    requires { IsRefused text.now }
+    ensures { IfOk result (IsDiagnosis text.now) }
+{
+    let faults = text_faults(alloc, text)?;
+    Ok(Diagnosis::Text(faults))
+}
+
+/// What is to be told of a text: its first bad clauses; or of the program that it is, the first rule that does not
+/// lower the weight, the first cause for which it is refused, or what was accepted.
+#[tactic(auto, using(crate::proofs::Verdicts::too_long_refused, crate::proofs::Verdicts::bad_refused))]
+pub fn diagnose(alloc: Global, text: &[u8]) -> Result<Diagnosis, AllocError>
+    ensures { IfOk result (IsDiagnosis text.now) }
+{
+    match read(alloc, text) {
+        Ok(program) => program_diagnosis(alloc, program),
+        Err(ReadFault::Memory) => Err(AllocError),
+        Err(ReadFault::TooLong) => text_diagnosis(alloc, text),
+        Err(ReadFault::Bad { .. }) => text_diagnosis(alloc, text),
+    }
+}

@@ -1,0 +1,242 @@
+//! What is to be told of a text, as text.
+
+use crate::diagnosis::{Census, Crowd, Diagnosis, Peak, Unlowered};
+use crate::fault_text::faults_told;
+use crate::limits::MAX_TOLD_PAIRS;
+use crate::overlap_text::{ToldOverlap, told_overlap};
+use crate::pairs::{ToldPair, pairs_of};
+use crate::rule_text::{FIRST_LETTER, ToldRule, told_rule};
+use crate::weight_text::{can_lower, push_lowering, push_weights};
+use chr_base::bag::Bag;
+use chr_base::derivation::Derivation;
+use chr_base::program::Program;
+use chr_base::text::push_store;
+use chr_overlaps::cases::MAX_TYPES;
+use chr_overlaps::constants::constants;
+use chr_weights::NotLowered;
+use std::alloc::{AllocError, Global};
+use std::fmt::Write;
+
+/// Tells of a rule that does not lower the weight.
+fn push_unlowered(alloc: Global, out: &mut String, told: &Unlowered) -> Result<(), AllocError> {
+    let number = told.fault.rule;
+    write!(out, "refused 20: rule {number} does not lower the weight\n")?;
+    let Some(rule) = told_rule(&told.program, number, FIRST_LETTER) else {
+        return Ok(());
+    };
+    out.push_str("  ")?;
+    rule.push_clause(alloc, out)?;
+    out.push_str("\n")?;
+    let paired = told.program.has_pairs();
+    push_weights(alloc, out, rule, "removed", &rule.rule.removed, paired)?;
+    out.push_str("; together ")?;
+    told.fault.before.push_text(out, paired)?;
+    out.push_str("\n")?;
+    push_weights(alloc, out, rule, "body", &rule.rule.body, paired)?;
+    out.push_str("; together ")?;
+    told.fault.after.push_text(out, paired)?;
+    out.push_str(
+        "\nThe removed heads have to weigh more than the body, so that the rules come to an end.\n",
+    )?;
+    push_remedy(out, rule, &told.fault)
+}
+
+/// Adds what would lower the weight.
+fn push_remedy(out: &mut String, told: ToldRule<'_>, fault: &NotLowered) -> Result<(), AllocError> {
+    if !can_lower(told.rule) {
+        return out.push_str(
+            "No weights do that: the body has each removed symbol at least as often. Remove more heads, or write a smaller body.\n",
+        );
+    }
+    push_lowering(out, told, fault)?;
+    out.push_str(
+        "Where other rules leave no single number that does it, a weight can be a pair, of which the first number counts for more, as in `:- chr_weight a/0 = 1,0.`\n",
+    )
+}
+
+/// Adds the steps of one side, a line for each, and its end.
+fn push_side(
+    alloc: Global,
+    out: &mut String,
+    program: &Program,
+    side: &Derivation,
+    stores: &[Bag],
+    end: &Bag,
+) -> Result<(), AllocError> {
+    for (i, (step, store)) in side.steps.iter().zip(stores.iter()).enumerate() {
+        write!(out, "  {}. ", usize::saturating_add(i, 1))?;
+        if let Some(rule) = told_rule(program, step.rule as usize, FIRST_LETTER) {
+            rule.push_step(alloc, out, &step.heads)?;
+        }
+        out.push_str(", and leaves ")?;
+        push_store(alloc, out, program, store)?;
+        out.push_str("\n")?;
+    }
+    let more = side.steps.len().saturating_sub(stores.len());
+    if 0 < more {
+        write!(out, "  and {more} steps more\n")?;
+    }
+    out.push_str("  end: ")?;
+    push_store(alloc, out, program, end)?;
+    out.push_str("\n")
+}
+
+/// Adds the values of the variables of both rules, where they have some.
+fn push_values(
+    alloc: Global,
+    out: &mut String,
+    told: ToldOverlap<'_>,
+    peak: &Peak,
+) -> Result<(), AllocError> {
+    let mut values = String::new(alloc);
+    if let Some(step) = peak.failure.left.steps.first() {
+        told.first.push_values(&mut values, &step.heads)?;
+    }
+    if let Some(step) = peak.failure.right.steps.first() {
+        told.second.push_values(&mut values, &step.heads)?;
+    }
+    if let Some(values) = values.as_str().strip_prefix(", ") {
+        write!(out, "Values with which they disagree: {values}\n")?;
+    }
+    Ok(())
+}
+
+/// Tells of a case whose sides end in different stores.
+fn push_peak(alloc: Global, out: &mut String, peak: &Peak) -> Result<(), AllocError> {
+    let failure = &peak.failure;
+    let program = peak.weighed.program();
+    let Some(told) = told_overlap(program, &failure.overlap) else {
+        return Ok(());
+    };
+    out.push_str("refused 21: one store comes to two ends\n")?;
+    told.push_rules(alloc, out)?;
+    told.push_matched(alloc, out)?;
+    push_values(alloc, out, told, peak)?;
+    out.push_str("The store: ")?;
+    push_store(alloc, out, program, &failure.left.start)?;
+    out.push_str("\nOne way:\n")?;
+    push_side(
+        alloc,
+        out,
+        program,
+        &failure.left,
+        &peak.left,
+        &failure.left_end,
+    )?;
+    out.push_str("The other way:\n")?;
+    push_side(
+        alloc,
+        out,
+        program,
+        &failure.right,
+        &peak.right,
+        &failure.right_end,
+    )?;
+    out.push_str("Two replicas that took these rules in another order would disagree for ever.\n")?;
+    out.push_str(
+        "Add a rule that takes one end to the other, or write a guard under which only one of the two steps is possible.\n",
+    )
+}
+
+/// Tells of an overlap with too many order types.
+fn push_crowd(alloc: Global, out: &mut String, crowd: &Crowd) -> Result<(), AllocError> {
+    let program = crowd.weighed.program();
+    let overlap = &crowd.too_many.overlap;
+    let classes = crowd.too_many.classes;
+    let Some(told) = told_overlap(program, overlap) else {
+        return Ok(());
+    };
+    write!(
+        out,
+        "refused 22: an overlap has more than {MAX_TYPES} order types\n"
+    )?;
+    told.push_rules(alloc, out)?;
+    told.push_matched(alloc, out)?;
+    write!(
+        out,
+        "Their variables have {classes} classes of equal values that no constant binds"
+    )?;
+    push_constants(alloc, out, program)?;
+    out.push_str("Narrow ")?;
+    told.push_widest(alloc, out)?;
+    out.push_str(": write fewer arguments, or constants or one variable twice among them.\n")
+}
+
+/// Adds the constants with which free values are compared.
+fn push_constants(alloc: Global, out: &mut String, program: &Program) -> Result<(), AllocError> {
+    let constants = constants(alloc, program.rules())?;
+    for (i, constant) in constants.iter().enumerate() {
+        let before = if i == 0 {
+            "; the program's constants are "
+        } else {
+            ", "
+        };
+        write!(out, "{before}{constant}")?;
+    }
+    out.push_str(if constants.is_empty() {
+        "; the program has no constants.\n"
+    } else {
+        ".\n"
+    })
+}
+
+/// Tells of an accepted program.
+fn push_census(
+    alloc: Global,
+    out: &mut String,
+    census: &Census,
+    all: bool,
+) -> Result<(), AllocError> {
+    let rules = census.accepted.program().rules().len();
+    let overlaps = census.counts.len();
+    let cases = census.accepted.cases();
+    write!(
+        out,
+        "accepted: rules {rules}, overlaps {overlaps}, cases {cases}\n"
+    )?;
+    out.push_str("Every store comes to one end, in whatever order the rules are applied.\n")?;
+    let pairs = pairs_of(alloc, &census.counts)?;
+    if !all && MAX_TOLD_PAIRS < pairs.len() {
+        return Ok(write!(
+            out,
+            "{} pairs of rules overlap; `--all` tells each.\n",
+            pairs.len()
+        )?);
+    }
+    for pair in &pairs {
+        push_pair(out, pair)?;
+    }
+    Ok(())
+}
+
+/// Tells of the overlaps of two rules.
+fn push_pair(out: &mut String, pair: &ToldPair) -> Result<(), AllocError> {
+    let ToldPair {
+        first,
+        second,
+        overlaps,
+        cases,
+    } = *pair;
+    Ok(write!(
+        out,
+        "  rules {first} {second}: overlaps {overlaps}, cases {cases}\n"
+    )?)
+}
+
+/// What is to be told of a text, of all pairs of rules where `all`.
+pub(crate) fn told_text(
+    alloc: Global,
+    text: &[u8],
+    diagnosis: &Diagnosis,
+    all: bool,
+) -> Result<String, AllocError> {
+    let mut out = String::new(alloc);
+    match diagnosis {
+        Diagnosis::Text(faults) => return faults_told(alloc, text, faults),
+        Diagnosis::NotLowered(told) => push_unlowered(alloc, &mut out, told)?,
+        Diagnosis::Fails(peak) => push_peak(alloc, &mut out, peak)?,
+        Diagnosis::TooManyTypes(crowd) => push_crowd(alloc, &mut out, crowd)?,
+        Diagnosis::Accepted(census) => push_census(alloc, &mut out, census, all)?,
+    }
+    Ok(out)
+}
