@@ -23,11 +23,12 @@ use Rattle.clap.specs.declared.builder.value_parser.ValueParser.TheVariants.{Sig
 use Rattle.clap.specs.declared.error.kind.ErrorKind.TheVariants as kind
 use Rattle.clap.specs.declared.parser.matches.Found.{Found}
 use Rattle.clap.specs.declared.parser.matches.ValueSource.{ValueSource}
-use Rattle.clap.specs.declared.parser.matches.ValueSource.TheVariants.{CommandLine}
-use Rattle.chr_device.specs.declared.limits.TheConstants.{MAX_REPLICAS, MAX_WORKERS, MAX_PARTS}
+use Rattle.clap.specs.declared.parser.matches.ValueSource.TheVariants.{CommandLine, DefaultValue}
+use Rattle.chr_base.specs.declared.limits.TheConstants.{MAX_REPLICAS}
+use Rattle.chr_device.specs.declared.limits.TheConstants.{MAX_WORKERS, MAX_PARTS}
 use Rattle.chr_device.specs.declared.words.Settings.{Settings}
 use Rattle.chr_device.specs.Settings.{IsPlain, IsWithinLimits}
-use Rattle.chr_device.specs.Words.{NumbersAreWithinLimits, WritesReplicas, chrrep, decimal_value, faults_of, replicas_met, replicas_option, replicas_text}
+use Rattle.chr_device.specs.Words.{NumbersAreWithinLimits, WritesReplicas, chrrep, decimal_value, faults_of, flag_option, replicas_met, replicas_option, replicas_text}
 use Rattle.chr_device.specs.working.Numbers.{IsReadFrom, text_in}
 use Rattle.chr_device.proofs.Walks.{EachKeeps, Keeps, first_none, level_keeps, next_none}
 
@@ -120,6 +121,18 @@ replicas_keeps again = (on, no_default (with_index 1 (filled replicas_option)) r
 help_keeps : (again : Bool) → Keeps AreSound again (with_index 1 (filled help_rule))
 help_keeps again = ((λ values rows e sound. sound), no_default (with_index 1 (filled help_rule)) refl)
 
+default_sound : (name : Text) (how : Reading) (values : List Text) (rows : List Row) → bytes_eq name (codes "replicas") ≡ false → AreSound rows
+    → (b : Bool) → AreSound (cond b rows (with_values name how DefaultValue values rows))
+default_sound name how values rows other sound true = sound
+default_sound name how values rows other sound false = other_sound name how DefaultValue values rows other sound
+
+-- an option without a value, which has the default `false`
+flag_keeps : (again : Bool) (name : Text) → bytes_eq name (codes "replicas") ≡ false → Keeps AreSound again (with_index 1 (filled (flag_option name)))
+flag_keeps again name other = (
+  (λ values rows e sound. other_sound name _ CommandLine (values_or_missing (with_index 1 (filled (flag_option name))) values) (without name rows) other (without_sound name rows sound)),
+  λ rows sound. default_sound name _ (codes "false" ∷ []) rows other sound (has_row name rows),
+)
+
 topic_keeps : (again : Bool) → Keeps AreSound again (with_index 1 (filled topic_rule))
 topic_keeps again = (
   (λ values rows e sound. other_sound (codes "subcommand") _ CommandLine (values_or_missing (with_index 1 (filled topic_rule)) values) rows refl sound),
@@ -133,7 +146,13 @@ EachKeepsSound [] = ⊤
 EachKeepsSound (s ∷ rest) = KeepsSound s × EachKeepsSound rest
 
 commands_keep : EachKeepsSound (built chrrep).subs
-commands_keep = ((help_keeps false, tt), ((replicas_keeps false, (help_keeps false, tt)), ((topic_keeps false, tt), tt)))
+commands_keep = (
+  (help_keeps false, tt),
+  (
+    (flag_keeps false (codes "dot") refl, (flag_keeps false (codes "all") refl, (help_keeps false, tt))),
+    ((replicas_keeps false, (help_keeps false, tt)), ((replicas_keeps false, (help_keeps false, tt)), ((topic_keeps false, tt), tt))),
+  ),
+)
 
 found_keeps_sound : (p : Shape → Bool) (shapes : List Shape) → EachKeepsSound shapes → IfSome (find p shapes) KeepsSound
 found_keeps_sound p [] each = tt

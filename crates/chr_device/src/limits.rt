@@ -1,8 +1,5 @@
 //! The limits of settings.
 
-/// The most replicas.
-pub const MAX_REPLICAS: u32 = 16;
-
 /// The most workers that rest a store.
 pub const MAX_WORKERS: u32 = 16;
 

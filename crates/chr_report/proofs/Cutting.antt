@@ -45,7 +45,7 @@ cut_more input next rest line more c is split alone before apart =
       commands = c.commands ∙ ap commands_of first ∙ commands_later line (lines_left more) apart;
     }
 
-take_front : (xs ys : List ℕ) → take (length (xs ++ ys) - length ys) (xs ++ ys) ≡ xs
+pub take_front : (xs ys : List ℕ) → take (length (xs ++ ys) - length ys) (xs ++ ys) ≡ xs
 take_front xs ys = let e : length (xs ++ ys) - length ys ≡ length xs = simp length-append (omega arith) in rw e (take-append_seam xs ys)
 
 -- at the divider

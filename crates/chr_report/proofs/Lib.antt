@@ -1,4 +1,5 @@
 pub mod LineLaws
+pub mod Feeds
 pub mod Held
 pub mod Declared
 pub mod BetweenLines
@@ -7,6 +8,9 @@ pub mod Checks
 pub mod Continuing
 pub mod Cutting
 pub mod Outcomes
+pub mod Pieces
+pub mod Conversing
+pub mod Inputs
 pub mod Telling
 pub mod Merging
 pub mod Reading

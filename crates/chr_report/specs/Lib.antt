@@ -4,6 +4,8 @@ pub mod Answers
 pub mod Overlaps
 pub mod Outputs
 pub mod Written
+pub mod Served
+pub mod Wires
 pub mod Laws
 pub mod OneText
 pub mod OneOutput

@@ -20,7 +20,7 @@ use Rattle.chr_read.specs.ProgramTexts.{IsAnswer}
 use Rattle.chr_read.specs.declared.fault.ReadFault.{ReadFault}
 use Rattle.chr_read.specs.declared.fault.ReadFault.TheVariants as fault
 use Rattle.chr_device.specs.declared.words.Verb.{Verb}
-use Rattle.chr_device.specs.declared.words.Verb.TheVariants.{Check, Run}
+use Rattle.chr_device.specs.declared.words.Verb.TheVariants.{Check, Explain, Run, Serve}
 use Rattle.chr_report.specs.declared.running.Status.{Status}
 use Rattle.chr_report.specs.declared.running.Status.TheVariants.{Accepted, Refused}
 use Rattle.chr_report.specs.Lines.{lines, text_of, commands_of}
@@ -84,10 +84,12 @@ IsReadOutput (Ok p) replicas commands status out =
     IsRulesOutput (declarations p) (rules_of p) replicas commands status out
 IsReadOutput (Err e) replicas commands status out = (status ≡ Refused) × IsFaultLine e out
 
--- the commands that are answered: by a check none, by a run all
+-- the commands that are answered: by a check and an explanation none, by a run all, as where they are served
 abbrev pub asked : Verb → List (List ℕ) → List (List ℕ)
 asked Check commands = []
+asked Explain commands = []
 asked Run commands = commands
+asked Serve commands = commands
 
 -- the output of so many replicas and its status: the text has an answer, and this is written for it
 abbrev pub IsOutput : Verb → ℕ → List ℕ → Status → List ℕ → Type 0

@@ -3,3 +3,6 @@ pub mod Answered
 pub mod Services
 pub mod LinesLeft
 pub mod ReplyTexts
+pub mod Judged
+pub mod Divided
+pub mod Serving

@@ -13,7 +13,7 @@ use chr_json::is_blank;
 use std::alloc::{AllocError, Global};
 
 /// Answers a line, which comes without its end, unless it is blank.
-fn answer_line(
+pub(crate) fn answer_line(
     alloc: Global,
     service: &mut Service,
     line: &[u8],

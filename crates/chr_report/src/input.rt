@@ -3,6 +3,8 @@ ghost use Rattle.std.specs.Prelude.{◌≡◌, ◌<◌, ◌≤◌, ◌∷◌, �
 ghost use Rattle.std.specs.List.{position_or_len};
 ghost use Rattle.chr_report.specs.Lines.{lines, without_return, is_divider, text_of, commands_of};
 ghost use Rattle.chr_report.specs.Outputs.{asked};
+ghost use Rattle.chr_report.specs.Served.{HasNoFeed};
+ghost use Rattle.chr_report.specs.working.Divided.{IsDivided, IsUndivided};
 ghost use Rattle.chr_report.specs.working.LinesLeft.{lines_left};
 
 use chr_device::Verb;
@@ -19,6 +21,20 @@ fn line_len(bytes: &[u8]) -> usize
     }
 }
 
+/// What stands before the first line feed and after it. None where there is none.
+pub(crate) fn ended_line(bytes: &[u8]) -> Option<(&[u8], &[u8])>
+    ensures some { IfSome result (λ p. bytes.now ≡ p.0.now ++ 10 ∷ p.1.now) }
+    ensures unended { IfSome result (λ p. HasNoFeed p.0.now) }
+    ensures shorter { IfSome result (λ p. length p.1.now < length bytes.now) }
+    ensures none { IfNone result (HasNoFeed bytes.now) }
+{
+    let n = line_len(bytes);
+    if n == bytes.len() {
+        return None;
+    }
+    Some((&bytes[..n], &bytes[n + 1..]))
+}
+
 /// The first line, and what comes after its line feed.
 pub(crate) fn next_line(bytes: &[u8]) -> (&[u8], Option<&[u8]>)
     ensures lines { lines bytes.now ≡ result.0.now ∷ lines_left result.1 }
@@ -26,11 +42,10 @@ pub(crate) fn next_line(bytes: &[u8]) -> (&[u8], Option<&[u8]>)
     ensures before { IfSome result.1 (λ rest. bytes.now ≡ result.0.now ++ 10 ∷ rest.now) }
     ensures shorter { IfSome result.1 (λ rest. length rest.now < length bytes.now) }
 {
-    let n = line_len(bytes);
-    if n == bytes.len() {
-        return (bytes, None);
+    match ended_line(bytes) {
+        Some((line, rest)) => (line, Some(rest)),
+        None => (bytes, None),
     }
-    (&bytes[..n], Some(&bytes[n + 1..]))
 }
 
 /// A line without the one carriage return at its end.
@@ -68,12 +83,35 @@ pub(crate) fn split(input: &[u8]) -> (&[u8], Option<&[u8]>)
     (input, None)
 }
 
-/// The commands that are to be answered: a check answers none.
+/// The program text before the first line `---` that has ended, and what comes after that line. None where there is no
+/// such line yet.
+pub(crate) fn divided(input: &[u8]) -> Option<(&[u8], &[u8])>
+    ensures some { IfSome result (λ p. IsDivided input.now p.0.now p.1.now) }
+    ensures none { IfNone result (IsUndivided input.now) }
+{
+    let mut rest = input;
+    while let Some((line, more)) = ended_line(rest) {
+        if is_divider(line) {
+            return Some((&input[..input.len() - rest.len()], more));
+        }
+        rest = more;
+    }
+    None
+}
+
+/// The commands that are to be answered: a check and an explanation answer none.
 pub(crate) fn asked(verb: Verb, commands: Option<&[u8]>) -> Option<&[u8]>
     ensures { lines_left result ≡ asked verb (lines_left commands.entry) }
 {
     match verb {
-        Verb::Check => None,
-        Verb::Run => commands,
+        Verb::Check | Verb::Explain => None,
+        Verb::Run | Verb::Serve => commands,
     }
+}
+
+/// The program text of an input.
+pub fn program_text(input: &[u8]) -> &[u8]
+    ensures { result.now ≡ text_of (lines input.now) }
+{
+    split(input).0
 }

@@ -3,17 +3,23 @@
 
 mod answering;
 mod input;
+mod judging;
 mod laws;
 mod one_text;
 mod reply;
 mod running;
 mod service;
+mod serving;
 #[cfg(test)]
 mod tests;
 mod verdict;
+mod wire;
 
-pub use chr_device::{RunFault, Settings, Verb, Watched, WordsFault, read_words};
+pub use chr_device::{RunFault, Settings, Style, Verb, Watched, WordsFault, read_words};
+pub use input::program_text;
 pub use laws::{checks_begin_runs, lines_are_the_input};
 pub use one_text::{answers_are_one, answers_exist, outputs_are_one, outputs_exist};
 pub use reply::Refusal;
 pub use running::{Status, run};
+pub use serving::serve;
+pub use wire::{Streams, Wire};

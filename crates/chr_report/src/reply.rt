@@ -4,7 +4,7 @@ ghost use Rattle.chr_base.specs.Programs.{declarations};
 ghost use Rattle.chr_exchange.specs.Texts.{HaveDifferentIds};
 ghost use Rattle.chr_ops.specs.Operations.{operations_of};
 ghost use Rattle.chr_report.specs.Answers.{delta_text_of};
-ghost use Rattle.chr_report.specs.Replies.{refusal_number, refusal_text};
+ghost use Rattle.chr_report.specs.Replies.{line_refusal_number, refusal_text};
 ghost use Rattle.chr_report.specs.working.ReplyTexts.{answer_text, replied_text, reply_text};
 ghost use Rattle.chr_report.specs.working.ReplyTexts.{HasAnswerText, HasText, IsWritable};
 
@@ -38,7 +38,7 @@ pub enum Refusal {
 impl Refusal {
     /// The refusal's number.
     pub fn number(self) -> u8
-        ensures { result ≡ refusal_number self }
+        ensures { result ≡ line_refusal_number self }
     {
         match self {
             Refusal::BadLine => 30,

@@ -2,27 +2,24 @@
 ghost use Rattle.std.specs.Prelude.{◌≡◌, ◌≤◌, ◌⊎◌, [], false, true, IfOk, IfSome, IsErrOf, OnErr, OnOk, string_bytes};
 ghost use Rattle.chr_device.specs.Devices.{inner_of, has_failed};
 ghost use Rattle.chr_device.specs.Settings.{IsPlain, IsWithinLimits};
-ghost use Rattle.chr_device.specs.declared.limits.TheConstants.{MAX_REPLICAS};
+ghost use Rattle.chr_base.specs.declared.limits.TheConstants.{MAX_REPLICAS};
 ghost use Rattle.chr_device.specs.declared.fault.RunFault.TheVariants.{Device, Memory};
 ghost use Rattle.chr_base.specs.Programs.{declarations, rules_of};
-ghost use Rattle.chr_weights.specs.WeighedPrograms.{program_of};
 ghost use Rattle.chr_join.specs.AcceptedPrograms.{cases_of};
 ghost use Rattle.chr_join.specs.Verdicts.{IsAccepted};
 ghost use Rattle.chr_report.specs.declared.running.Status.TheVariants.{Refused};
-ghost use Rattle.chr_report.specs.Outputs.{IsOutput, IsReadOutput, IsAnswered};
+ghost use Rattle.chr_report.specs.Outputs.{IsOutput, IsAnswered};
 ghost use Rattle.chr_report.specs.Written.{WritesOutput, WritesBeginning};
 ghost use Rattle.chr_join.specs.AcceptedPrograms.{program_in};
 ghost use Rattle.chr_report.specs.working.LinesLeft.{lines_left};
 
 use crate::answering::answer_commands;
 use crate::input::{asked, split};
+use crate::judging::{Judged, judge};
 use crate::service::Service;
-use crate::verdict::{accepted_line, fault_line, not_lowered_line, refusal_line};
-use chr_base::program::Program;
+use crate::verdict::accepted_line;
 use chr_device::{RunFault, Settings, Verb, Watched, read_all, write_whole};
-use chr_join::{Accepted, accept};
-use chr_read::read;
-use chr_weights::{Weighed, weigh};
+use chr_join::Accepted;
 use std::alloc::{AllocError, Global};
 use std::io::{Read, Write};
 
@@ -35,9 +32,9 @@ pub enum Status {
 
 /// All that is written for an input.
 #[derive(Drop)]
-struct Output {
-    status: Status,
-    text: String,
+pub(crate) struct Output {
+    pub status: Status,
+    pub text: String,
 }
 
 impl Output {
@@ -72,66 +69,26 @@ fn answer_program(
     Ok(text)
 }
 
-/// The output for a program in which each rule lowers the weight.
-fn weighed_output(
+/// The whole output for an input.
+pub(crate) fn output_of(
     alloc: Global,
-    weighed: Weighed,
+    verb: Verb,
     replicas: u32,
-    commands: Option<&[u8]>,
+    input: &[u8],
 ) -> Result<Output, AllocError>
     requires { (1 ≤ replicas) × (replicas ≤ MAX_REPLICAS) }
-    ensures { IfOk result (λ o. IsReadOutput (Ok (program_of weighed)) replicas (lines_left commands.entry)
-        o.status (string_bytes o.text)) }
+    ensures { IfOk result (λ o. IsOutput verb replicas input.now o.status (string_bytes o.text)) }
 {
-    match accept(alloc, weighed) {
-        Ok(accepted) => {
-            let text = answer_program(alloc, accepted, replicas, commands)?;
+    let (text, rest) = split(input);
+    match judge(alloc, text)? {
+        Judged::Accepted(accepted) => {
+            let text = answer_program(alloc, accepted, replicas, asked(verb, rest))?;
             Ok(Output {
                 status: Status::Accepted,
                 text,
             })
         }
-        Err(refused) => {
-            let line = refusal_line(alloc, refused.weighed.program(), &refused.cause)?;
-            Ok(Output::refused(line))
-        }
-    }
-}
-
-fn program_output(
-    alloc: Global,
-    program: Program,
-    replicas: u32,
-    commands: Option<&[u8]>,
-) -> Result<Output, AllocError>
-    requires { (1 ≤ replicas) × (replicas ≤ MAX_REPLICAS) }
-    ensures { IfOk result (λ o. IsReadOutput (Ok program) replicas (lines_left commands.entry)
-        o.status (string_bytes o.text)) }
-{
-    let paired = program.has_pairs();
-    match weigh(program) {
-        Ok(weighed) => weighed_output(alloc, weighed, replicas, commands),
-        Err(fault) => {
-            let line = not_lowered_line(alloc, paired, &fault)?;
-            Ok(Output::refused(line))
-        }
-    }
-}
-
-/// The whole output for an input.
-fn output_of(alloc: Global, settings: Settings, input: &[u8]) -> Result<Output, AllocError>
-    requires { IsWithinLimits settings }
-    ensures { IfOk result (λ o.
-        IsOutput settings.command settings.replicas input.now o.status (string_bytes o.text)) }
-{
-    let (text, rest) = split(input);
-    let commands = asked(settings.command, rest);
-    match read(alloc, text) {
-        Ok(program) => program_output(alloc, program, settings.replicas, commands),
-        Err(fault) => {
-            let line = fault_line(alloc, &fault)?;
-            Ok(Output::refused(line))
-        }
+        Judged::Refused(line) => Ok(Output::refused(line)),
     }
 }
 
@@ -166,7 +123,7 @@ pub fn run<R: Read, W: Write>(
     ensures unanswered { IsErrOf result Memory → writer.new ≡ writer.old }
 {
     let input = read_all(alloc, reader)?;
-    let output = output_of(alloc, settings, &input)?;
+    let output = output_of(alloc, settings.command, settings.replicas, &input)?;
     match write_whole(writer, output.text.as_bytes()) {
         Ok(()) => Ok(output.status),
         Err(fault) => Err(fault),

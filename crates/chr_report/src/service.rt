@@ -7,7 +7,7 @@ ghost use Rattle.chr_base.specs.Programs.{declarations, rules_of};
 ghost use Rattle.chr_json.specs.Reads.{command_view, raw_atom_view, raw_op_view, HasIds, IsSized, IsSizedOperation};
 ghost use Rattle.chr_exchange.specs.Names.{declared_operations, named_atoms};
 ghost use Rattle.chr_worlds.specs.Worlds.{Happens};
-ghost use Rattle.chr_worlds.specs.declared.limits.TheConstants.{MAX_REPLICAS};
+ghost use Rattle.chr_base.specs.declared.limits.TheConstants.{MAX_REPLICAS};
 ghost use Rattle.chr_report.specs.Answers.{Answers, AnswersAt, AnswersAtoms, AnswersBetween, AnswersLacks};
 ghost use Rattle.chr_report.specs.Answers.{AnswersOperations, AnswersSaid, AnswersShow, AnswersSummary};
 ghost use Rattle.chr_report.specs.working.ReplyTexts.{reply_text, IsWritable};

@@ -9,10 +9,11 @@ mod pairs;
 mod programs;
 mod refusals;
 mod replicas;
+mod serving;
 mod stores;
 mod verdicts;
 
-use crate::{RunFault, Settings, Status, Verb, Watched, run};
+use crate::{RunFault, Settings, Status, Style, Verb, Watched, run};
 use std::alloc::{AllocError, Global};
 use std::process::Abort;
 
@@ -20,6 +21,10 @@ use std::process::Abort;
 const PLAIN: Settings = Settings {
     command: Verb::Run,
     replicas: 1,
+    style: Style {
+        dot: false,
+        all: false,
+    },
     workers: 1,
     parts: 1,
 };
@@ -59,8 +64,8 @@ fn expect_run(
 {
     let command = settings.command;
     let expected = match command {
-        Verb::Run => output.as_bytes(),
-        Verb::Check => first_line(output),
+        Verb::Run | Verb::Serve => output.as_bytes(),
+        Verb::Check | Verb::Explain => first_line(output),
     };
     let status = if output.starts_with("accepted: ") {
         Status::Accepted

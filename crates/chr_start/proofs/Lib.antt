@@ -1,1 +1,3 @@
 pub mod RefusedWords
+pub mod Served
+pub mod VerdictEnds

@@ -1,18 +1,17 @@
 -- Words that gave no settings.
 use Rattle.std.proofs.Common.{◌≡◌, ℕ, List, [], sym, subst, append-nil, inl, refl}
-use Rattle.std.specs.Prelude.{◌≢◌, Option, Some, None, Result, Err}
+use Rattle.std.specs.Prelude.{Option, Some, None, Err}
 use Rattle.std.specs.Io.KnownBytes.{Appends}
 use Rattle.chr_device.specs.Settings.{IsOfFault}
 use Rattle.chr_device.specs.Words.{faults_of}
-use Rattle.chr_device.specs.declared.fault.RunFault.{RunFault}
 use Rattle.chr_device.specs.declared.fault.RunFault.TheVariants as run
 use Rattle.chr_device.specs.declared.words.Verb.{Verb}
 use Rattle.chr_device.specs.declared.words.WordsFault.{WordsFault}
 use Rattle.chr_device.specs.declared.words.WordsFault.TheVariants as words
-use Rattle.chr_start.specs.Statuses.{RunEnds}
+use Rattle.chr_start.specs.Statuses.{ExplanationEnds, RunEnds}
 
 -- nothing is written
-appends_nothing : (known : Option (List ℕ)) → Appends known known []
+pub appends_nothing : (known : Option (List ℕ)) → Appends known known []
 appends_nothing None = tt
 appends_nothing (Some xs) = sym (append-nil xs)
 
@@ -20,3 +19,7 @@ appends_nothing (Some xs) = sym (append-nil xs)
 pub memory_ends : (ws : List (List ℕ)) (fault : WordsFault) (bytes known : Option (List ℕ)) (verb : Verb) (replicas status : ℕ) → faults_of ws ≡ [] → IsOfFault (faults_of ws) fault → (fault ≡ words.Memory → status ≡ 4) → RunEnds bytes known known verb replicas status
 memory_ends ws (words.Words e) bytes known verb replicas status none is told = absurd (subst (λ ks. IsOfFault ks (words.Words e)) none is).0
 memory_ends ws words.Memory bytes known verb replicas status none is told = record { outcome = Err run.Memory; status_is = told refl; ok = tt; err = inl (appends_nothing known) }
+
+pub memory_ends_explanation : (ws : List (List ℕ)) (fault : WordsFault) (bytes known : Option (List ℕ)) (status : ℕ) → faults_of ws ≡ [] → IsOfFault (faults_of ws) fault → (fault ≡ words.Memory → status ≡ 4) → ExplanationEnds bytes known known status
+memory_ends_explanation ws (words.Words e) bytes known status none is told = absurd (subst (λ ks. IsOfFault ks (words.Words e)) none is).0
+memory_ends_explanation ws words.Memory bytes known status none is told = record { outcome = Err run.Memory; status_is = told refl; ok = tt; memory = λ _. appends_nothing known }

@@ -1,10 +1,13 @@
 -- The status that the program ends with, and what it has written then.
-use Rattle.std.specs.Prelude.{◌≡◌, ℕ, List, Option, Result, Ok, Err, IfOk, OnErr}
+use Rattle.std.specs.Prelude.{◌≡◌, ℕ, List, [], Option, Result, Ok, Err, IfOk, IfSome, IsErrOf, OnErr}
+use Rattle.std.specs.Io.KnownBytes.{Appends}
 use Rattle.chr_device.specs.declared.fault.RunFault.{RunFault}
 use Rattle.chr_device.specs.declared.fault.RunFault.TheVariants.{Device, Memory}
 use Rattle.chr_device.specs.declared.words.Verb.{Verb}
+use Rattle.chr_device.specs.declared.words.Verb.TheVariants.{Check}
 use Rattle.chr_report.specs.declared.running.Status.{Status}
 use Rattle.chr_report.specs.declared.running.Status.TheVariants.{Accepted, Refused}
+use Rattle.chr_report.specs.Outputs.{IsOutput}
 use Rattle.chr_report.specs.Written.{WritesOutput, WritesBeginning}
 
 abbrev pub status_of : Result Status RunFault → ℕ
@@ -19,3 +22,16 @@ pub record RunEnds (bytes old new : Option (List ℕ)) (verb : Verb) (replicas s
   pub status_is : status ≡ status_of outcome
   pub ok : IfOk outcome (WritesOutput bytes old new verb replicas)
   pub err : OnErr outcome (WritesBeginning bytes old new verb replicas)
+
+-- a check of these bytes, where they are known, ends with this status
+abbrev pub EndsAsCheck : Option (List ℕ) → Status → Type 0
+EndsAsCheck bytes status =
+    (input : List ℕ) × IfSome bytes (λ text. input ≡ text) × (out : List ℕ) × IsOutput Check 1 input status out
+
+-- an explanation ended with this status: where it ended well with that of a check of the same bytes, and where memory
+-- ran out nothing was written
+pub record ExplanationEnds (bytes old new : Option (List ℕ)) (status : ℕ) : Type 0 where
+  pub outcome : Result Status RunFault
+  pub status_is : status ≡ status_of outcome
+  pub ok : IfOk outcome (EndsAsCheck bytes)
+  pub memory : IsErrOf outcome Memory → Appends old new []

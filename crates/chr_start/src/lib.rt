@@ -9,14 +9,20 @@ ghost use Rattle.std.specs.IoError.{error_kind};
 ghost use Rattle.std.specs.Vec.Iter.{into_iter_items};
 ghost use Rattle.std.specs.Process.{exit_status};
 ghost use Rattle.std.specs.declared.io.ErrorKind.TheVariants.{OutOfMemory};
-ghost use Rattle.chr_device.specs.Devices.{inner_of, has_failed};
+ghost use Rattle.chr_device.specs.Devices.{has_failed};
 ghost use Rattle.chr_device.specs.Settings.{IsPlain, IsWithinLimits};
 ghost use Rattle.chr_device.specs.Words.{faults_of, replicas_met, verb_met};
+ghost use Rattle.chr_device.specs.declared.words.Verb.TheVariants.{Explain};
 ghost use Rattle.chr_device.specs.declared.words.WordsFault.TheVariants.{Memory};
-ghost use Rattle.chr_start.specs.Statuses.{status_of, RunEnds};
+ghost use Rattle.chr_report.specs.Wires.{reader_of, writer_of};
+ghost use Rattle.chr_start.specs.Statuses.{status_of, ExplanationEnds, RunEnds};
 
-pub use chr_report::Watched;
-use chr_report::{RunFault, Settings, Status, WordsFault, read_words, run};
+mod explained;
+
+use chr_device::{Verb, refusal_text};
+use chr_report::{RunFault, Settings, Status, WordsFault, read_words, run, serve};
+pub use chr_report::{Streams, Watched};
+use explained::explain_input;
 use std::alloc::{AllocError, Global};
 use std::env::Args;
 use std::io::{Read, Write};
@@ -36,31 +42,46 @@ fn exit_code(outcome: Result<Status, RunFault>) -> ExitCode
     }
 }
 
-/// Runs these settings.
+/// Does what these settings ask for.
+#[tactic(auto, using(crate::proofs::Served::service_ends, crate::proofs::VerdictEnds::explanation_ends))]
 fn run_settings<R: Read, W: Write>(
     alloc: Global,
-    reader: &mut Watched<R>,
-    writer: &mut Watched<W>,
+    streams: &mut Streams<R, W>,
     settings: Settings,
 ) -> ExitCode
-    requires reads { has_failed reader.old ≡ false }
-    requires writes { has_failed writer.old ≡ false }
+    requires reads { has_failed streams.old.reader ≡ false }
+    requires writes { has_failed streams.old.writer ≡ false }
     requires limits { IsWithinLimits settings }
     requires plain { IsPlain settings }
-    ensures { RunEnds (R.remaining (inner_of reader.old)) (W.contents (inner_of writer.old))
-        (W.contents (inner_of writer.new)) settings.command settings.replicas (exit_status result) }
+    ensures answered { settings.command ≢ Explain →
+        RunEnds (R.remaining (reader_of streams.old)) (W.contents (writer_of streams.old))
+        (W.contents (writer_of streams.new)) settings.command settings.replicas (exit_status result) }
+    ensures explained { settings.command ≡ Explain →
+        ExplanationEnds (R.remaining (reader_of streams.old)) (W.contents (writer_of streams.old))
+        (W.contents (writer_of streams.new)) (exit_status result) }
 {
+    if settings.command == Verb::Explain {
+        return exit_code(explain_input(alloc, streams, settings.style));
+    }
+    if settings.command == Verb::Serve {
+        return exit_code(serve(alloc, streams, settings));
+    }
+    let Streams { reader, writer } = streams;
     exit_code(run(alloc, reader, writer, settings))
 }
 
-/// The exit status for words that gave no settings. What `clap` says of them is told on the standard error.
-fn refuse_words(rt: &impl Eprint, fault: &WordsFault) -> ExitCode
+/// The exit status for words that gave no settings. What `clap` says of them is told on the standard error, with the
+/// likely cause.
+fn refuse_words(rt: &(impl Eprint + AllocGlobal), words: &[String], fault: &WordsFault) -> ExitCode
     ensures memory { fault.now ≡ Memory → exit_status result ≡ 4 }
     ensures words { fault.now ≢ Memory → exit_status result ≡ 2 }
 {
     match fault {
         WordsFault::Words(error) => {
-            let _ = eprint!(rt; "{error}");
+            let _ = match refusal_text(rt.alloc(), words, error) {
+                Ok(text) => eprint!(rt; "{text}"),
+                Err(_) => eprint!(rt; "{error}"),
+            };
             ExitCode::from(2)
         }
         WordsFault::Memory => ExitCode::from(4),
@@ -72,23 +93,24 @@ fn refuse_words(rt: &impl Eprint, fault: &WordsFault) -> ExitCode
 pub fn run_words<R: Read, W: Write>(
     rt: &(impl Eprint + AllocGlobal),
     words: &[String],
-    reader: &mut Watched<R>,
-    writer: &mut Watched<W>,
+    streams: &mut Streams<R, W>,
 ) -> ExitCode
-    requires reads { has_failed reader.old ≡ false }
-    requires writes { has_failed writer.old ≡ false }
-    ensures taken { faults_of (map string_bytes words.now) ≡ [] →
-        RunEnds (R.remaining (inner_of reader.old)) (W.contents (inner_of writer.old))
-        (W.contents (inner_of writer.new)) (verb_met (map string_bytes words.now))
+    requires reads { has_failed streams.old.reader ≡ false }
+    requires writes { has_failed streams.old.writer ≡ false }
+    ensures taken { faults_of (map string_bytes words.now) ≡ [] → verb_met (map string_bytes words.now) ≢ Explain →
+        RunEnds (R.remaining (reader_of streams.old)) (W.contents (writer_of streams.old))
+        (W.contents (writer_of streams.new)) (verb_met (map string_bytes words.now))
         (replicas_met (map string_bytes words.now)) (exit_status result) }
+    ensures explained { faults_of (map string_bytes words.now) ≡ [] → verb_met (map string_bytes words.now) ≡ Explain →
+        ExplanationEnds (R.remaining (reader_of streams.old)) (W.contents (writer_of streams.old))
+        (W.contents (writer_of streams.new)) (exit_status result) }
     ensures refused { faults_of (map string_bytes words.now) ≢ [] →
         (exit_status result ≡ 2) ⊎ (exit_status result ≡ 4) }
-    ensures untouched { faults_of (map string_bytes words.now) ≢ [] →
-        (reader.new ≡ reader.old) × (writer.new ≡ writer.old) }
+    ensures untouched { faults_of (map string_bytes words.now) ≢ [] → streams.new ≡ streams.old }
 {
     match read_words(rt.alloc(), words) {
-        Ok(settings) => run_settings(rt.alloc(), reader, writer, settings),
-        Err(fault) => refuse_words(rt, &fault),
+        Ok(settings) => run_settings(rt.alloc(), streams, settings),
+        Err(fault) => refuse_words(rt, words, &fault),
     }
 }
 
@@ -124,14 +146,13 @@ fn words(rt: &(impl Env + AllocGlobal)) -> io::Result<Vec<String>> {
 /// Does what the program's words ask for, and gives the status to end with.
 pub fn start<R: Read, W: Write>(
     rt: &(impl Env + Eprint + AllocGlobal),
-    reader: &mut Watched<R>,
-    writer: &mut Watched<W>,
+    streams: &mut Streams<R, W>,
 ) -> ExitCode
-    requires reads { has_failed reader.old ≡ false }
-    requires writes { has_failed writer.old ≡ false }
+    requires reads { has_failed streams.old.reader ≡ false }
+    requires writes { has_failed streams.old.writer ≡ false }
 {
     match words(rt) {
-        Ok(words) => run_words(rt, &words, reader, writer),
+        Ok(words) => run_words(rt, &words, streams),
         Err(error) => without_words(rt, &error),
     }
 }

@@ -2,11 +2,13 @@
 //! reads command lines as well, and writes one answer line a command after it, where the program is accepted.
 #![tactic(auto)]
 
-use chr_start::{Watched, start};
+use chr_start::{Streams, Watched, start};
 use std::process::ExitCode;
 
 fn main(rt: HostRuntime) -> ExitCode {
-    let mut reader = Watched::of(rt.stdin());
-    let mut writer = Watched::of(rt.stdout());
-    start(&rt, &mut reader, &mut writer)
+    let mut streams = Streams {
+        reader: Watched::of(rt.stdin()),
+        writer: Watched::of(rt.stdout()),
+    };
+    start(&rt, &mut streams)
 }

@@ -1,11 +1,13 @@
 //! The program `chrrep`, of which a stored run shows words that are refused.
 #![tactic(auto)]
 
-use chr_start::{Watched, start};
+use chr_start::{Streams, Watched, start};
 use std::process::ExitCode;
 
 fn main(rt: HostRuntime) -> ExitCode {
-    let mut reader = Watched::of(rt.stdin());
-    let mut writer = Watched::of(rt.stdout());
-    start(&rt, &mut reader, &mut writer)
+    let mut streams = Streams {
+        reader: Watched::of(rt.stdin()),
+        writer: Watched::of(rt.stdout()),
+    };
+    start(&rt, &mut streams)
 }

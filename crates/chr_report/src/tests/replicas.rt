@@ -1,6 +1,6 @@
 //! Lines of exchange, and several replicas.
 ghost use Rattle.std.specs.Prelude.{◌≤◌};
-ghost use Rattle.chr_device.specs.declared.limits.TheConstants.{MAX_REPLICAS};
+ghost use Rattle.chr_base.specs.declared.limits.TheConstants.{MAX_REPLICAS};
 
 use super::{PLAIN, expect_run};
 use crate::{RunFault, Settings};

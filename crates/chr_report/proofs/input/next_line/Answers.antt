@@ -1,24 +1,10 @@
-use Rattle.std.proofs.Common.{◌≡◌, ◌∷◌, ◌++◌, ◌+◌, take, drop, ap, sym, ◌∙◌, arith, length-drop}
-use Rattle.std.proofs.lemmas.List.{take_all}
+use Rattle.std.proofs.Common.{◌∙◌, ap}
 use Rattle.chr_report.specs.Lines.{lines}
-use Rattle.chr_report.proofs.LineLaws.{lines_none, lines_some, split_at_feed}
+use Rattle.chr_report.proofs.Feeds.{lines_more, lines_last}
 use Rattle.chr_report.proofs.input.next_line.Goals as goal
 
-pub returns-clause-lines : goal.returns-clause-lines
-returns-clause-lines c =
-    let bytes = c.args.bytes.now in
-    let n = c.line_len-n.result in
-    let found = lines_some bytes (omega arith) in
-    let at : lines bytes ≡ take n bytes ∷ lines (drop (n + 1) bytes) = rw c.line_len-n.ensures.value found in
-    at ∙ ap (λ l. take n bytes ∷ lines l) (sym (take_all _ (drop (n + 1) bytes) (omega (arith, length-drop (n + 1) bytes))))
+pub returns-in-Some-clause-lines : goal.returns-in-Some-clause-lines
+returns-in-Some-clause-lines c = ap lines c.in-Some.ensures.some ∙ lines_more c.in-Some.line.now c.in-Some.rest.now c.in-Some.ensures.unended
 
-pub returns-clause-before : goal.returns-clause-before
-returns-clause-before c =
-    let bytes = c.args.bytes.now in
-    let n = c.line_len-n.result in
-    let found = split_at_feed bytes (omega arith) in
-    let at : bytes ≡ take n bytes ++ 10 ∷ drop (n + 1) bytes = rw c.line_len-n.ensures.value found in
-    at ∙ ap (λ l. take n bytes ++ 10 ∷ l) (sym (take_all _ (drop (n + 1) bytes) (omega (arith, length-drop (n + 1) bytes))))
-
-pub returns-then-n-bytes-clause-lines : goal.returns-then-n-bytes-clause-lines
-returns-then-n-bytes-clause-lines c = lines_none c.args.bytes.now (let e = c.line_len-n.ensures.value in omega (arith, e))
+pub returns-in-None-clause-lines : goal.returns-in-None-clause-lines
+returns-in-None-clause-lines c = lines_last c.args.bytes.now c.in-None.ensures.none

@@ -1,16 +1,31 @@
-use Rattle.std.proofs.Common.{ap, sym, subst}
-use Rattle.std.specs.Prelude.{string_bytes, Ok, Err}
-use Rattle.chr_report.specs.Outputs.{IsFaultLine}
-use Rattle.chr_report.proofs.Outcomes.{read_output, if_ok}
+use Rattle.std.proofs.Common.{◌≡◌, ap, sym, subst}
+use Rattle.std.specs.Prelude.{string_bytes, Ok}
+use Rattle.chr_report.specs.declared.judging.Judged.TheVariants as judged
+use Rattle.chr_report.specs.declared.running.Status.TheVariants.{Accepted, Refused}
+use Rattle.chr_report.specs.Lines.{lines, commands_of}
+use Rattle.chr_report.specs.Outputs.{asked, IsReadOutput}
+use Rattle.chr_report.specs.working.Judged.{IsJudgedText}
+use Rattle.chr_report.specs.working.LinesLeft.{lines_left}
+use Rattle.chr_report.proofs.Outcomes.{read_output}
+use Rattle.chr_read.specs.ProgramTexts.{IsAnswer}
 use Rattle.chr_report.proofs.running.output_of.Goals as goal
 
-pub returns-in-Ok : goal.returns-in-Ok
-returns-in-Ok c =
-    if_ok c.program_output.result
-    (λ o h. read_output c.args.settings.command c.args.settings.replicas c.args.input.now c.split.result.0.now c.split.result.1 c.asked-commands.result (Ok c.in-Ok.program) o.status (string_bytes o.text) c.split.ensures.text c.split.ensures.commands c.asked-commands.ensures c.in-Ok.ensures h)
-    c.program_output.ensures
+pub returns-in_ok-text-in-Accepted : goal.returns-in_ok-text-in-Accepted
+returns-in_ok-text-in-Accepted c =
+    let text = c.split.result.0.now in
+    let out = string_bytes c.in_ok-text-in-Accepted.text in
+    let j : IsJudgedText text (judged.Accepted c.in-Accepted.accepted) = subst (IsJudgedText text) c.in-Accepted.is c.in_ok-accepted.ensures in
+    read_output c.args.verb c.args.replicas c.args.input.now text c.split.result.1 c.asked.result j.0 Accepted out c.split.ensures.text c.split.ensures.commands c.asked.ensures j.1
+    (subst (λ a. IsReadOutput a c.args.replicas (lines_left c.asked.result) Accepted out) (sym j.2.0) c.in_ok-text-in-Accepted.ensures)
 
-pub returns-in_ok-line-in-Err : goal.returns-in_ok-line-in-Err
-returns-in_ok-line-in-Err c =
-    read_output c.args.settings.command c.args.settings.replicas c.args.input.now c.split.result.0.now c.split.result.1 c.asked-commands.result (Err c.in-Err.fault) c.refused.result.status (string_bytes c.refused.result.text) c.split.ensures.text c.split.ensures.commands c.asked-commands.ensures c.in-Err.ensures
-    (c.refused.ensures.status, subst (IsFaultLine c.in-Err.fault) (ap string_bytes (sym c.refused.ensures.text)) c.in_ok-line-in-Err.ensures)
+pub returns-in-Refused : goal.returns-in-Refused
+returns-in-Refused c =
+    let text = c.split.result.0.now in
+    let commands = asked c.args.verb (commands_of (lines c.args.input.now)) in
+    let result = c.refused.result in
+    let j : IsJudgedText text (judged.Refused c.in-Refused.line) = subst (IsJudgedText text) c.in-Refused.is c.in_ok-accepted.ensures in (
+      j.0,
+      subst (λ t. IsAnswer t j.0) c.split.ensures.text j.1,
+      subst (λ s. IsReadOutput j.0 c.args.replicas commands s (string_bytes result.text)) (sym c.refused.ensures.status)
+          (subst (λ t. IsReadOutput j.0 c.args.replicas commands Refused (string_bytes t)) (sym c.refused.ensures.text) (j.2 c.args.replicas commands)),
+    )

@@ -1,0 +1,81 @@
+//! What the program and its commands say of themselves where they are asked for help.
+
+/// A text of help, with the exit statuses behind it.
+macro_rules! with_statuses {
+    ($text:literal) => {
+        concat!(
+            $text,
+            "\n\nExit status: 0 the program is accepted, 1 it is refused, 2 these words are no command (also after help),\n",
+            "3 the input could not be read or the output not be written, 4 memory ran out"
+        )
+    };
+}
+
+/// What the program is for.
+pub(crate) const PROGRAM: &str =
+    "Keeps facts by the rules of a program of Constraint Handling Rules, and tells whether the rules agree";
+
+/// What all commands read and write.
+pub(crate) const PROGRAM_MORE: &str = with_statuses!(
+    "Each command reads standard input and writes to standard output. It takes no name of a file:
+
+  chrrep run < FILE
+
+The input is a program text. After it may stand a line `---`, and then command lines, each a JSON array."
+);
+
+/// What `check` is for.
+pub(crate) const CHECK: &str = "Tell whether a program is accepted";
+
+/// What `check` reads and writes.
+pub(crate) const CHECK_MORE: &str = with_statuses!(
+    "Reads standard input: a program text, to a line `---` or to the end. What stands behind that line isn't looked at.
+Writes one line: `accepted: rules R, cases C`, or `refused N: ..`, where N is the reason.
+
+Example: chrrep check < FILE"
+);
+
+/// What `explain` is for.
+pub(crate) const EXPLAIN: &str =
+    "Tell why a program is accepted, or what is wrong with it and where";
+
+/// What `explain` reads and writes.
+pub(crate) const EXPLAIN_MORE: &str = with_statuses!(
+    "Reads what `check` reads. Writes the verdict as sentences: where a text is wrong and what would be right, or the rules
+that disagree and how; with --dot a drawing of it for Graphviz.
+
+Example: chrrep explain < FILE
+         chrrep explain --dot < FILE | dot -Tsvg > FILE.svg"
+);
+
+/// What `--dot` is for.
+pub(crate) const DOT: &str = "Write a drawing for Graphviz";
+
+/// What `--all` is for.
+pub(crate) const ALL: &str = "Write a line for each pair of rules, however many there are";
+
+/// What `run` is for.
+pub(crate) const RUN: &str = "Tell that, and answer the command lines when the input has ended";
+
+/// What `run` reads and writes.
+pub(crate) const RUN_MORE: &str = with_statuses!(
+    "Reads all of standard input: a program text, a line `---`, and command lines, each a JSON array. Then it writes the line
+that `check` writes, and for an accepted program one answer line a command.
+
+Example: chrrep run < FILE
+         chrrep run --replicas 3 < FILE"
+);
+
+/// What `serve` is for.
+pub(crate) const SERVE: &str = "Do the same, and answer each command line as soon as it was read";
+
+/// What `serve` reads and writes.
+pub(crate) const SERVE_MORE: &str = with_statuses!(
+    "Reads and writes what `run` does, line by line: the verdict once the line `---` was read, and the answer of each command
+before the next one is waited for.
+
+Example: cat FILE - | chrrep serve"
+);
+
+/// What `--replicas` is for.
+pub(crate) const REPLICAS: &str = "How many replicas there are, 1 to 16 [default: 1]";

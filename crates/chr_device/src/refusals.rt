@@ -1,0 +1,248 @@
+//! What is told of words that were refused.
+
+use crate::words::parse;
+use clap::Error;
+use clap::error::ErrorKind;
+use std::alloc::{AllocError, Global};
+
+/// The most characters of a word that are shown.
+const SHOWN: usize = 60;
+
+/// The names of the commands.
+const COMMANDS: [&str; 5] = ["check", "explain", "run", "serve", "help"];
+
+/// The option that has a value.
+const WITH_VALUE: &str = "--replicas";
+
+/// Whether a character is shown as it is.
+fn is_plain(c: char) -> bool {
+    c == ' ' || c.is_ascii_graphic() || c.is_alphanumeric()
+}
+
+/// Whether a word is shown as it is.
+fn is_plain_word(word: &str) -> bool {
+    word.chars().count() <= SHOWN && word.chars().all(is_plain)
+}
+
+/// The word as it is shown: cut where it is long, with what may not be printable by its number.
+fn shown(alloc: Global, word: &str) -> Result<String, AllocError> {
+    let mut text = String::new(alloc);
+    for c in word.chars().take(SHOWN) {
+        if is_plain(c) {
+            text.push(c)?;
+        } else {
+            write!(text, "{}", c.escape_unicode())?;
+        }
+    }
+    if word.chars().count() > SHOWN {
+        text.push_str("...")?;
+    }
+    Ok(text)
+}
+
+/// All words as they are shown.
+fn shown_words(alloc: Global, words: &[String]) -> Result<Vec<String>, AllocError> {
+    let mut list = Vec::new(alloc);
+    for word in words {
+        list.push(shown(alloc, word)?)?;
+    }
+    Ok(list)
+}
+
+/// What `clap` says of the words, as if they were written as they are shown.
+fn clap_text(alloc: Global, words: &[String], error: &Error) -> Result<String, AllocError> {
+    if words.iter().all(|word| is_plain_word(word)) {
+        return format!(in alloc; "{error}");
+    }
+    let list = shown_words(alloc, words)?;
+    match parse(alloc, &list) {
+        Ok(_) => String::from_str(alloc, "error: a word is too long, or not printable\n"),
+        Err(error) => format!(in alloc; "{error}"),
+    }
+}
+
+/// Whether a word is neither a command nor an option.
+fn is_stray(word: &str) -> bool {
+    word == "-" || (!word.starts_with('-') && !COMMANDS.contains(&word))
+}
+
+/// The first word behind a command, or the first of all that looks like a file's name, where it is neither a command, an
+/// option, nor an option's value.
+fn stray_word(words: &[String]) -> Option<&str> {
+    for place in 1..words.len() {
+        let word = words[place].as_str();
+        let is_name = place > 1 || word.contains('.') || word.contains('/') || word == "-";
+        if is_name && words[place - 1].as_str() != WITH_VALUE && is_stray(word) {
+            return Some(word);
+        }
+    }
+    None
+}
+
+/// The command that the words name, and `run` where they name none.
+fn named_command(words: &[String]) -> &str {
+    match words.get(1) {
+        Some(word) if COMMANDS.contains(&word.as_str()) => word,
+        _ => "run",
+    }
+}
+
+/// Adds a line with the likely cause, where the words show one.
+fn push_cause(
+    alloc: Global,
+    words: &[String],
+    kind: ErrorKind,
+    text: &mut String,
+) -> Result<(), AllocError> {
+    if !matches!(
+        kind,
+        ErrorKind::UnknownArgument | ErrorKind::InvalidSubcommand
+    ) {
+        return Ok(());
+    }
+    let Some(word) = stray_word(words) else {
+        return Ok(());
+    };
+    let command = named_command(words);
+    if word == "-" {
+        write!(
+            text,
+            "\nThe input comes from standard input, without '-': chrrep {command}\n"
+        )
+    } else {
+        let name = shown(alloc, word)?;
+        write!(
+            text,
+            "\nThe input comes from standard input: chrrep {command} < {name}\n"
+        )
+    }
+}
+
+/// What is told the user of words that `clap` refused with this error: its text, in which each word is cut where it is
+/// long and escaped where it can't be printed, and a line with the likely cause where the words show one.
+pub fn refusal_text(alloc: Global, words: &[String], error: &Error) -> Result<String, AllocError> {
+    let mut text = clap_text(alloc, words, error)?;
+    push_cause(alloc, words, error.kind(), &mut text)?;
+    Ok(text)
+}
+
+#[cfg(test)]
+mod tests {
+    use super::*;
+    use crate::{WordsFault, read_words};
+    use std::process::Abort;
+
+    /// `chrrep` with these words after it.
+    fn list(rt: &(impl Abort + AllocGlobal), words: &[&str]) -> Vec<String> {
+        let alloc = rt.alloc();
+        let mut list = Vec::new(alloc);
+        list.push(String::from_str(alloc, "chrrep").expect(rt, "memory"))
+            .expect(rt, "memory");
+        for word in words {
+            list.push(String::from_str(alloc, word).expect(rt, "memory"))
+                .expect(rt, "memory");
+        }
+        list
+    }
+
+    /// What is told of these words, which are refused.
+    fn told(rt: &(impl Abort + AllocGlobal), words: &[&str]) -> String {
+        let alloc = rt.alloc();
+        let list = list(rt, words);
+        match read_words(alloc, &list) {
+            Err(WordsFault::Words(error)) => refusal_text(alloc, &list, &error).expect(
+                rt, "memory",
+            ),
+            _ => String::new(alloc),
+        }
+    }
+
+    /// The last line of what is told is this one.
+    fn ends(rt: &(impl Abort + AllocGlobal), words: &[&str], line: &str) {
+        let text = told(rt, words);
+        assert_eq!(rt; text.as_str().lines().last(), Some(line));
+    }
+
+    #[test]
+    fn files_are_named(rt: HostRuntime) {
+        for (words, line) in [
+            (
+                ["coins.chr"].as_slice(),
+                "The input comes from standard input: chrrep run < coins.chr",
+            ),
+            (
+                ["check", "coins"].as_slice(),
+                "The input comes from standard input: chrrep check < coins",
+            ),
+            (
+                ["run", "--replicas", "2", "a/coins.chr"].as_slice(),
+                "The input comes from standard input: chrrep run < a/coins.chr",
+            ),
+            (
+                ["serve", "-"].as_slice(),
+                "The input comes from standard input, without '-': chrrep serve",
+            ),
+        ] {
+            ends(&rt, words, line);
+        }
+    }
+
+    #[test]
+    fn other_words_have_no_cause(rt: HostRuntime) {
+        let line = "For more information, try '--help'.";
+        ends(&rt, &[], line);
+        ends(&rt, &["weigh"], line);
+        ends(&rt, &["run", "run"], line);
+        ends(&rt, &["run", "--replica", "--replicas", "2"], line);
+        ends(&rt, &["run", "--replicas", "x"], line);
+    }
+
+    #[test]
+    fn words_are_cut_and_escaped(rt: HostRuntime) {
+        let long = "0123456789012345678901234567890123456789012345678901234567890123456789";
+        for (word, shown) in [
+            (
+                long,
+                "'012345678901234567890123456789012345678901234567890123456789...'",
+            ),
+            ("a\u{1b}[2Jb", "'a\\u{1b}[2Jb'"),
+            ("a\nb", "'a\\u{a}b'"),
+            ("caf\u{e9} 1", "'caf\u{e9} 1'"),
+        ] {
+            let text = told(&rt, &[word]);
+            let first = text.as_str().lines().next().unwrap_or("");
+            assert!(rt;
+                first.starts_with("error: unrecognized subcommand "),
+                "{text}"
+            );
+            assert!(rt; first.ends_with(shown), "{text}");
+        }
+    }
+
+    #[test]
+    fn help_tells_statuses(rt: HostRuntime) {
+        for (words, line) in [
+            (["--help"].as_slice(), "  chrrep run < FILE"),
+            (
+                ["check", "--help"].as_slice(),
+                "Example: chrrep check < FILE",
+            ),
+            (
+                ["explain", "--help"].as_slice(),
+                "Example: chrrep explain < FILE",
+            ),
+            (["run", "--help"].as_slice(), "Example: chrrep run < FILE"),
+            (
+                ["serve", "--help"].as_slice(),
+                "Example: cat FILE - | chrrep serve",
+            ),
+        ] {
+            let text = told(&rt, words);
+            assert!(rt; text.as_str().lines().any(|l| l == line), "{text}");
+            assert!(rt;
+                text.contains("\nExit status: 0 the program is accepted, 1 it is refused"),
+                "{text}"
+            );
+        }
+    }
+}

@@ -1,0 +1,239 @@
+-- Lines that are answered until the input ends, or a fault comes.
+use Rattle.std.proofs.Common.{◌≡◌, ℕ, ◌⊎◌, List, [], ◌∷◌, ◌++◌, length, refl, sym, ap, ◌∙◌, append_assoc, append-nil, subst, inl, inr, take}
+use Rattle.std.specs.Prelude.{Option, Some, None, IfSome, Result, Ok, replicate}
+use Rattle.std.specs.FinMap as finite
+use Rattle.std.specs.Io.KnownBytes.{Appends, Consumes, IsAtEnd, Keeps}
+use Rattle.std.proofs.KnownBytes.{Appends-nil, Appends-trans, Consumes-all, Consumes-kept, Consumes-nil, Consumes-trans}
+use Rattle.chr_base.specs.declared.program.Program.{Program}
+use Rattle.chr_base.specs.declared.rule.Rule.{Rule}
+use Rattle.chr_base.specs.Programs.{declarations, rules_of}
+use Rattle.chr_base.specs.ProgramTests.{Declaration}
+use Rattle.chr_weights.specs.Weights.{AreLowering, weight_by}
+use Rattle.chr_device.specs.Devices.{AppendsPart}
+use Rattle.chr_ops.specs.Operations.{Operations}
+use Rattle.chr_join.specs.declared.accepted.Accepted.{Accepted}
+use Rattle.chr_join.specs.AcceptedPrograms.{cases_of, program_in}
+use Rattle.chr_join.specs.Verdicts.{IsAccepted}
+use Rattle.chr_read.specs.ProgramTexts.{IsAnswer}
+use Rattle.chr_read.specs.declared.fault.ReadFault.{ReadFault}
+use Rattle.chr_report.specs.declared.running.Status.{Status}
+use Rattle.chr_report.specs.declared.running.Status.TheVariants as status
+use Rattle.chr_report.specs.Lines.{lines}
+use Rattle.chr_report.specs.Answers.{AnswersAll}
+use Rattle.chr_report.specs.OneText.{AnswersExist}
+use Rattle.chr_report.specs.Outputs.{IsReadOutput, accepted_text}
+use Rattle.chr_report.specs.Served.{AreWholeLines, HasNoFeed}
+use Rattle.chr_report.specs.working.Answered.{AnswersRest}
+use Rattle.chr_report.specs.working.Serving.{AnswersFront, AnswersChunk, AnswersPart, AnswersFrontRead, AnswersInput, IsCut, SendsAnswer, AnswersCommands, WritesText, WritesTextPart}
+use Rattle.chr_report.proofs.Feeds.{whole_both}
+use Rattle.chr_report.proofs.Outcomes.{program_answered}
+use Rattle.chr_report.proofs.Pieces.{part_of_whole, part_after, part_of_more, fronts_join, front_is_answered, last_is_answered}
+
+-- ---- what is left to be read
+
+pub some_left : (from to : Option (List ℕ)) (bytes : List ℕ) → Consumes from to bytes → (left : List ℕ) × IfSome from (λ all. bytes ++ left ≡ all)
+some_left None to bytes c = ([], tt)
+some_left (Some x) None bytes c = absurd c
+some_left (Some x) (Some y) bytes c = (y, sym c)
+
+pub some_input : (known : Option (List ℕ)) → (input : List ℕ) × IfSome known (λ all. input ≡ all)
+some_input None = ([], tt)
+some_input (Some x) = (x, refl)
+
+-- ---- the lines of a conversation
+
+-- the front of both
+joined : (first bytes chunk front line more left : List ℕ) → first ++ bytes ≡ front ++ line → line ++ chunk ≡ more ++ left → first ++ (bytes ++ chunk) ≡ (front ++ more) ++ left
+joined first bytes chunk front line more left e f =
+    sym (append_assoc first bytes chunk) ∙ ap (λ b. b ++ chunk) e ∙ append_assoc front line chunk ∙ ap (λ r. front ++ r) f ∙ sym (append_assoc front more left)
+
+module _ (ds : List Declaration) (rules : List Rule) where
+  -- the bytes that were read first
+  pub starts : (first left : List ℕ) (from : Option (List ℕ)) (start now : List Operations) (old new : Option (List ℕ)) → AnswersChunk ds rules first left start now old new → AnswersFrontRead ds rules first from from left start now old new
+  starts first left from start now old new a = record {
+    bytes = [];
+    read = Consumes-nil from;
+    chunk = subst (λ b. AnswersChunk ds rules b left start now old new) (sym (append-nil first)) a;
+  }
+
+  pub goes_on : (first chunk line left : List ℕ) (from to next : Option (List ℕ)) (start mid now : List Operations) (old middle new : Option (List ℕ)) → AnswersFrontRead ds rules first from to line start mid old middle → Consumes to next chunk
+      → AnswersChunk ds rules (line ++ chunk) left mid now middle new → AnswersFrontRead ds rules first from next left start now old new
+  goes_on first chunk line left from to next start mid now old middle new s c a = record {
+    bytes = s.bytes ++ chunk;
+    read = Consumes-trans from to next _ _ s.read c;
+    chunk = record {
+      front = s.chunk.front ++ a.front;
+      out = s.chunk.out ++ a.out;
+      are = joined first s.bytes chunk s.chunk.front line a.front left s.chunk.are a.are;
+      whole = whole_both s.chunk.front a.front s.chunk.whole a.whole;
+      unended = a.unended;
+      answers = fronts_join ds rules s.chunk.front a.front s.chunk.out a.out start mid now s.chunk.answers a.answers;
+      written = Appends-trans old middle new _ _ s.chunk.written a.written;
+    };
+  }
+
+  -- the end of the input, with the answer of the last line written
+  pub ended : (first line : List ℕ) (from to : Option (List ℕ)) (start mid now : List Operations) (old middle new : Option (List ℕ)) → AnswersFrontRead ds rules first from to line start mid old middle → IsAtEnd to
+      → SendsAnswer ds rules line mid now (Appends middle new) → AnswersInput ds rules first from start (Appends old new)
+  ended first line from to start mid now old middle new s e w = record {
+    input = s.bytes;
+    is_read = Consumes-all from to s.bytes [] s.bytes s.read e refl;
+    answers = s.chunk.out ++ w.text;
+    answered = subst (λ b. AnswersAll ds rules (lines b) start (s.chunk.out ++ w.text)) (sym s.chunk.are) (last_is_answered ds rules s.chunk.front line s.chunk.out w.text start mid now s.chunk.unended s.chunk.answers w.answer);
+    is_written = Appends-trans old middle new _ _ s.chunk.written w.is_written;
+  }
+
+  ended_part : (first line : List ℕ) (from to : Option (List ℕ)) (start mid now : List Operations) (old middle new : Option (List ℕ)) → AnswersFrontRead ds rules first from to line start mid old middle → IsAtEnd to
+      → SendsAnswer ds rules line mid now (AppendsPart middle new) → AnswersInput ds rules first from start (AppendsPart old new)
+  ended_part first line from to start mid now old middle new s e w = record {
+    input = s.bytes;
+    is_read = Consumes-all from to s.bytes [] s.bytes s.read e refl;
+    answers = s.chunk.out ++ w.text;
+    answered = subst (λ b. AnswersAll ds rules (lines b) start (s.chunk.out ++ w.text)) (sym s.chunk.are) (last_is_answered ds rules s.chunk.front line s.chunk.out w.text start mid now s.chunk.unended s.chunk.answers w.answer);
+    is_written = part_after old middle new _ _ s.chunk.written w.is_written;
+  }
+
+  -- a read that gave nothing
+  pub at_end : (first line buf : List ℕ) (n : ℕ) (from to next : Option (List ℕ)) (start now : List Operations) (old new : Option (List ℕ)) → n ≡ 0 → AnswersFrontRead ds rules first from to line start now old new → Consumes to next (take n buf)
+      → AnswersFrontRead ds rules first from next line start now old new
+  at_end first line buf n from to next start now old new e s c = record {
+    bytes = s.bytes;
+    read = subst (Consumes from next) (append-nil s.bytes) (Consumes-trans from to next s.bytes [] s.read (subst (λ m. Consumes to next (take m buf)) e c));
+    chunk = s.chunk;
+  }
+
+  -- ---- faults
+
+  module _ (exist : AnswersExist) (lowers : AreLowering (weight_by ds) rules) where
+    -- what comes after whole lines has answers too
+    pub breaks_off : (first bytes front rest out : List ℕ) (from to : Option (List ℕ)) (start now : List Operations) (old new : Option (List ℕ)) → Consumes from to bytes → first ++ bytes ≡ front ++ rest
+        → AnswersFront ds rules front start out now → AppendsPart old new out → AnswersInput ds rules first from start (AppendsPart old new)
+    breaks_off first bytes front rest out from to start now old new c e f w =
+        let left = some_left from to bytes c in
+        let tail = exist ds rules lowers (lines (rest ++ left.0)) now in
+        let all : first ++ (bytes ++ left.0) ≡ front ++ (rest ++ left.0) = sym (append_assoc first bytes left.0) ∙ ap (λ b. b ++ left.0) e ∙ append_assoc front rest left.0 in
+        record {
+          input = bytes ++ left.0;
+          is_read = left.1;
+          answers = out ++ tail.0;
+          answered = subst (λ b. AnswersAll ds rules (lines b) start (out ++ tail.0)) (sym all) (f (rest ++ left.0) tail.0 tail.1);
+          is_written = part_of_more old new out tail.0 w;
+        }
+
+    pub stops : (first line : List ℕ) (from to : Option (List ℕ)) (start now : List Operations) (old new : Option (List ℕ)) → AnswersFrontRead ds rules first from to line start now old new → AnswersInput ds rules first from start (AppendsPart old new)
+    stops first line from to start now old new s =
+        breaks_off first s.bytes s.chunk.front line s.chunk.out from to start now old new s.read s.chunk.are s.chunk.answers (part_of_whole old new _ s.chunk.written)
+
+    -- a chunk that was answered in part
+    pub breaks : (first chunk line : List ℕ) (from to next : Option (List ℕ)) (start mid : List Operations) (old middle new : Option (List ℕ)) → AnswersFrontRead ds rules first from to line start mid old middle → Consumes to next chunk
+        → AnswersPart ds rules (line ++ chunk) mid middle new → AnswersInput ds rules first from start (AppendsPart old new)
+    breaks first chunk line from to next start mid old middle new s c a =
+        breaks_off first (s.bytes ++ chunk) (s.chunk.front ++ a.front) a.rest (s.chunk.out ++ a.out) from next start a.now old new (Consumes-trans from to next _ _ s.read c)
+        (joined first s.bytes chunk s.chunk.front line a.front a.rest s.chunk.are a.are) (fronts_join ds rules s.chunk.front a.front s.chunk.out a.out start mid a.now s.chunk.answers a.answers)
+        (part_after old middle new _ _ s.chunk.written a.written)
+
+    -- the first bytes were answered in part
+    pub breaks_first : (first : List ℕ) (from : Option (List ℕ)) (start : List Operations) (old new : Option (List ℕ)) → AnswersPart ds rules first start old new → AnswersInput ds rules first from start (AppendsPart old new)
+    breaks_first first from start old new a =
+        breaks_off first [] a.front a.rest a.out from from start a.now old new (Consumes-nil from) (append-nil first ∙ a.are) a.answers a.written
+
+    -- the last line was answered in part, or not at all
+    pub ends_early : (first line : List ℕ) (from to : Option (List ℕ)) (start mid : List Operations) (old middle new : Option (List ℕ)) → AnswersFrontRead ds rules first from to line start mid old middle → IsAtEnd to
+        → IsCut ds rules line mid middle new → AnswersInput ds rules first from start (AppendsPart old new)
+    ends_early first line from to start mid old middle new s e (inl w) =
+        breaks_off first s.bytes s.chunk.front line s.chunk.out from to start mid old new s.read s.chunk.are s.chunk.answers
+        (part_of_whole old new _ (subst (Appends old new) (append-nil s.chunk.out) (Appends-trans old middle new _ _ s.chunk.written w)))
+    ends_early first line from to start mid old middle new s e (inr (now, w)) = ended_part first line from to start mid now old middle new s e w
+
+-- ---- a program
+
+-- the verdict, and then the answers of any commands
+abbrev pub IsOpened : Program → ℕ → List Operations → List ℕ → Type 0
+IsOpened p replicas start verdict =
+    (commands : List (List ℕ)) (answers : List ℕ) → AnswersAll (declarations p) (rules_of p) commands start answers → IsReadOutput (Ok p) replicas commands status.Accepted (verdict ++ answers)
+
+pub program_opened : (a : Accepted) (n m replicas : ℕ) (start : List Operations) (verdict : List ℕ) → IsAccepted (rules_of (program_in a)) (cases_of a) → n ≡ length (rules_of (program_in a)) → m ≡ cases_of a → verdict ≡ accepted_text n m ++ 10 ∷ []
+    → start ≡ replicate replicas finite.empty → IsOpened (program_in a) replicas start verdict
+program_opened a n m replicas start verdict accepted f q g h commands answers answered =
+    let rest : AnswersRest (declarations (program_in a)) (rules_of (program_in a)) commands start verdict (verdict ++ answers) = record { out = answers; answers = answered; out_is = refl } in
+    program_answered a a commands n m replicas start verdict (verdict ++ answers) accepted refl f q g h rest
+
+module _ (p : Program) (replicas : ℕ) (start : List Operations) (verdict : List ℕ) (opened : IsOpened p replicas start verdict) where
+  pub program_served : (first : List ℕ) (known : Option (List ℕ)) (old middle new : Option (List ℕ)) → Appends old middle verdict → AnswersInput (declarations p) (rules_of p) first known start (Appends middle new)
+      → WritesText (λ answer. answer ≡ Ok p) first known replicas status.Accepted (Appends old new)
+  program_served first known old middle new w a = record {
+    input = a.input;
+    is_read = a.is_read;
+    answer = Ok p;
+    is_answer = refl;
+    out = verdict ++ a.answers;
+    output = opened (lines (first ++ a.input)) a.answers a.answered;
+    is_written = Appends-trans old middle new _ _ w a.is_written;
+  }
+
+  pub program_part : (first : List ℕ) (known : Option (List ℕ)) (old middle new : Option (List ℕ)) → Appends old middle verdict → AnswersInput (declarations p) (rules_of p) first known start (AppendsPart middle new)
+      → WritesTextPart (λ answer. answer ≡ Ok p) first known replicas old new
+  program_part first known old middle new w a =
+      let part : WritesText (λ answer. answer ≡ Ok p) first known replicas status.Accepted (AppendsPart old new) =
+      record {
+        input = a.input;
+        is_read = a.is_read;
+        answer = Ok p;
+        is_answer = refl;
+        out = verdict ++ a.answers;
+        output = opened (lines (first ++ a.input)) a.answers a.answered;
+        is_written = part_after old middle new _ _ w a.is_written;
+      } in
+      inr (status.Accepted, part)
+
+  -- the verdict is written in part
+  pub verdict_part : AnswersExist → AreLowering (weight_by (declarations p)) (rules_of p) → (first : List ℕ) (known : Option (List ℕ)) (old new : Option (List ℕ)) → AppendsPart old new verdict
+      → WritesTextPart (λ answer. answer ≡ Ok p) first known replicas old new
+  verdict_part exist lowers first known old new w =
+      let i = some_input known in
+      let a = exist (declarations p) (rules_of p) lowers (lines (first ++ i.0)) start in
+      let part : WritesText (λ answer. answer ≡ Ok p) first known replicas status.Accepted (AppendsPart old new) =
+      record {
+        input = i.0;
+        is_read = i.1;
+        answer = Ok p;
+        is_answer = refl;
+        out = verdict ++ a.0;
+        output = opened (lines (first ++ i.0)) a.0 a.1;
+        is_written = part_of_more old new verdict a.0 w;
+      } in
+      inr (status.Accepted, part)
+
+  -- while it is waited
+  pub commands_answered : (first line : List ℕ) (from to : Option (List ℕ)) (now : List Operations) (old middle new : Option (List ℕ)) → Appends old middle verdict
+      → AnswersFrontRead (declarations p) (rules_of p) first from to line start now middle new → AnswersCommands (Ok p) replicas first from to old new
+  commands_answered first line from to now old middle new w s = record {
+    bytes = s.bytes;
+    front = s.chunk.front;
+    line = line;
+    read = s.read;
+    are = s.chunk.are;
+    whole = s.chunk.whole;
+    unended = s.chunk.unended;
+    out = verdict ++ s.chunk.out;
+    output = opened (lines s.chunk.front) s.chunk.out (front_is_answered (declarations p) (rules_of p) s.chunk.front s.chunk.out start now s.chunk.answers);
+    written = Appends-trans old middle new _ _ w s.chunk.written;
+  }
+
+-- ---- a text
+
+pub refused_written : (text first : List ℕ) (known : Option (List ℕ)) (replicas : ℕ) (answer : Result Program ReadFault) (out : List ℕ) (IsWritten : List ℕ → Type 0) → IsAnswer text answer
+    → ((r : ℕ) (commands : List (List ℕ)) → IsReadOutput answer r commands status.Refused out) → IsWritten out → WritesText (IsAnswer text) first known replicas status.Refused IsWritten
+refused_written text first known replicas answer out IsWritten a h w =
+    let i = some_input known in
+    record { input = i.0; is_read = i.1; answer = answer; is_answer = a; out = out; output = h replicas (lines (first ++ i.0)); is_written = w }
+
+pub text_written : (text first : List ℕ) (known : Option (List ℕ)) (replicas : ℕ) (answer : Result Program ReadFault) (s : Status) (IsWritten : List ℕ → Type 0) → IsAnswer text answer
+    → WritesText (λ a. a ≡ answer) first known replicas s IsWritten → WritesText (IsAnswer text) first known replicas s IsWritten
+text_written text first known replicas answer s IsWritten a w =
+    record { input = w.input; is_read = w.is_read; answer = w.answer; is_answer = subst (IsAnswer text) (sym w.is_answer) a; out = w.out; output = w.output; is_written = w.is_written }
+
+pub text_part : (text first : List ℕ) (known : Option (List ℕ)) (replicas : ℕ) (answer : Result Program ReadFault) (old new : Option (List ℕ)) → IsAnswer text answer
+    → WritesTextPart (λ a. a ≡ answer) first known replicas old new → WritesTextPart (IsAnswer text) first known replicas old new
+text_part text first known replicas answer old new a (inl w) = inl w
+text_part text first known replicas answer old new a (inr (s, w)) = inr (s, text_written text first known replicas answer s (AppendsPart old new) a w)

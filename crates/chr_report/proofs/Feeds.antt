@@ -1,0 +1,67 @@
+-- Bytes without line feeds, and whole lines.
+use Rattle.std.proofs.Common.{◌≡◌, ℕ, suc, ◌+◌, List, [], ◌∷◌, ◌++◌, take, Bool, true, false, not, cond, refl, sym, ap, ◌∙◌, arith, subst, inl, inr, append_assoc, append-nil}
+use Rattle.std.specs.Prelude.{◌==◌, ◌||◌}
+use Rattle.std.specs.List.{list_any, position_or_len, onto_first}
+use Rattle.chr_report.specs.Lines.{lines, is_divider, text_of, commands_of}
+use Rattle.chr_report.specs.Served.{HasNoFeed, AreWholeLines, has_divider}
+use Rattle.chr_report.specs.working.Divided.{AreText, IsDivided, IsUndivided, Divides}
+use Rattle.chr_report.proofs.LineLaws.{text_more, text_ended, commands_later, commands_here}
+
+none_at : (b : Bool) (n x : ℕ) (xs : List ℕ) → (x == 10) ≡ b → HasNoFeed (take n xs) → HasNoFeed (take (cond (not b) (1 + n) 0) (x ∷ xs))
+none_at true n x xs e h = tt
+none_at false n x xs e h = let one : suc n ≡ 1 + n = omega arith in subst (λ m. HasNoFeed (take m (x ∷ xs))) one (e, h)
+
+-- none stands before the first
+pub first_has_none : (t : List ℕ) → HasNoFeed (take (position_or_len (λ b. b == 10) t) t)
+first_has_none [] = tt
+first_has_none (x ∷ xs) = none_at (x == 10) (position_or_len (λ b. b == 10) xs) x xs refl (first_has_none xs)
+
+pub none_in_both : (l m : List ℕ) → HasNoFeed l → HasNoFeed m → HasNoFeed (l ++ m)
+none_in_both [] m h g = g
+none_in_both (b ∷ bs) m h g = (h.0, none_in_both bs m h.1 g)
+
+pub lines_more : (l more : List ℕ) → HasNoFeed l → lines (l ++ 10 ∷ more) ≡ l ∷ lines more
+lines_more [] more h = refl
+lines_more (b ∷ bs) more h = rw h.0 (ap (onto_first b) (lines_more bs more h.1))
+
+pub lines_last : (l : List ℕ) → HasNoFeed l → lines l ≡ l ∷ []
+lines_last [] h = refl
+lines_last (b ∷ bs) h = rw h.0 (ap (onto_first b) (lines_last bs h.1))
+
+-- ---- whole lines
+
+-- one line more
+pub ended_more : (front line more : List ℕ) → (front ++ (line ++ 10 ∷ [])) ++ more ≡ front ++ (line ++ 10 ∷ more)
+ended_more front line more = append_assoc front (line ++ 10 ∷ []) more ∙ ap (λ m. front ++ m) (append_assoc line (10 ∷ []) more)
+
+pub whole_ended : (front line : List ℕ) → AreWholeLines (front ++ (line ++ 10 ∷ []))
+whole_ended front line = inr (front ++ line, sym (append_assoc front line (10 ∷ [])))
+
+pub whole_both : (a b : List ℕ) → AreWholeLines a → AreWholeLines b → AreWholeLines (a ++ b)
+whole_both a b h (inl e) = subst AreWholeLines (sym (ap (λ l. a ++ l) e ∙ append-nil a)) h
+whole_both a b h (inr g) = inr (a ++ g.0, ap (λ l. a ++ l) g.1 ∙ sym (append_assoc a g.0 (10 ∷ [])))
+
+-- ---- program text
+
+pub no_text : AreText []
+no_text = record { whole = inl refl; divider = λ more. refl; text = λ more. refl; commands = λ more. refl }
+
+pub text_grows : (front line : List ℕ) → AreText front → HasNoFeed line → is_divider line ≡ false → AreText (front ++ (line ++ 10 ∷ []))
+text_grows front line t h apart =
+    let cut : (more : List ℕ) → lines (line ++ 10 ∷ more) ≡ line ∷ lines more = λ more. lines_more line more h in
+    record {
+      whole = whole_ended front line;
+      divider = λ more. ap has_divider (ended_more front line more) ∙ t.divider (line ++ 10 ∷ more) ∙ ap (list_any is_divider) (cut more) ∙ ap (λ b. b || has_divider more) apart;
+      text = λ more. ap (λ i. text_of (lines i)) (ended_more front line more) ∙ t.text (line ++ 10 ∷ more) ∙ ap (λ ls. front ++ text_of ls) (cut more) ∙ ap (λ bs. front ++ bs) (text_more line more apart) ∙ sym (ended_more front line (text_of (lines more)));
+      commands = λ more. ap (λ i. commands_of (lines i)) (ended_more front line more) ∙ t.commands (line ++ 10 ∷ more) ∙ ap commands_of (cut more) ∙ commands_later line (lines more) apart;
+    }
+
+pub text_divides : (front line : List ℕ) → AreText front → HasNoFeed line → is_divider line ≡ true → Divides front (front ++ (line ++ 10 ∷ []))
+text_divides front line t h found =
+    let cut : (more : List ℕ) → lines (line ++ 10 ∷ more) ≡ line ∷ lines more = λ more. lines_more line more h in
+    record {
+      whole = whole_ended front line;
+      divider = λ more. ap has_divider (ended_more front line more) ∙ t.divider (line ++ 10 ∷ more) ∙ ap (list_any is_divider) (cut more) ∙ ap (λ b. b || has_divider more) found;
+      text_is = λ more. ap (λ i. text_of (lines i)) (ended_more front line more) ∙ t.text (line ++ 10 ∷ more) ∙ ap (λ ls. front ++ text_of ls) (cut more) ∙ ap (λ bs. front ++ bs) (text_ended line (lines more) found) ∙ append-nil front;
+      commands = λ more. ap (λ i. commands_of (lines i)) (ended_more front line more) ∙ t.commands (line ++ 10 ∷ more) ∙ ap commands_of (cut more) ∙ commands_here line (lines more) found;
+    }

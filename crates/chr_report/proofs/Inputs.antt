@@ -1,0 +1,192 @@
+-- What is written for an input of which a beginning was read.
+use Rattle.std.proofs.Common.{◌≡◌, ℕ, ◌+◌, ◌-◌, ◌<◌, ◌≤◌, ◌⊎◌, Bool, true, false, List, [], ◌∷◌, ◌++◌, length, take, refl, sym, ap, ◌∙◌, append_assoc, append-nil, length-append, subst, inl, inr, arith}
+use Rattle.std.specs.Prelude.{Option, Some, None, IfSome, Result, Ok, Err, codes, nat_eq, if◌then◌else◌, ◌||◌, ⊤}
+use Rattle.std.specs.Bool.{MatchBool}
+use Rattle.std.specs.List.{ends_with, onto_first}
+use Rattle.std.proofs.lemmas.Bool.Decides.{Decides-eqb}
+use Rattle.std.proofs.lemmas.List.{length-take-le}
+use Rattle.std.proofs.lemmas.Slice.Eq.{slice_eq-Decides}
+use Rattle.std.specs.Io.KnownBytes.{Appends, Consumes, IsAtEnd}
+use Rattle.std.proofs.KnownBytes.{Appends-nil, Consumes-trans}
+use Rattle.chr_base.specs.declared.program.Program.{Program}
+use Rattle.chr_device.specs.Devices.{AppendsPart}
+use Rattle.chr_device.specs.declared.words.Verb.TheVariants.{Run}
+use Rattle.chr_read.specs.declared.fault.ReadFault.{ReadFault}
+use Rattle.chr_read.specs.declared.fault.ReadFault.TheVariants as fault
+use Rattle.chr_read.specs.declared.reader.TheConstants.{MAX_TEXT}
+use Rattle.chr_read.specs.ProgramTexts.{IsAnswer}
+use Rattle.chr_report.specs.declared.running.Status.{Status}
+use Rattle.chr_report.specs.declared.running.Status.TheVariants.{Accepted, Refused}
+use Rattle.chr_report.specs.Lines.{lines, is_divider, text_of, commands_of, without_return}
+use Rattle.chr_report.specs.Outputs.{IsOutput, IsReadOutput}
+use Rattle.chr_report.specs.Served.{AllAnswered, AreWholeLines, HasNoFeed, WritesDue, has_divider}
+use Rattle.chr_report.specs.Written.{Writes, WritesOutput, WritesBeginning}
+use Rattle.chr_report.specs.working.Divided.{AreText, Divides, IsDivided, IsUndivided}
+use Rattle.chr_report.specs.working.Serving.{AnswersCommands, WritesText, WritesTextPart}
+use Rattle.chr_report.proofs.Conversing.{some_left}
+use Rattle.chr_report.proofs.Feeds.{no_text, whole_both}
+use Rattle.chr_report.proofs.LineLaws.{some_line}
+
+-- nothing is written
+pub unwritten : (old new : Option (List ℕ)) → new ≡ old → Appends old new []
+unwritten old new e = subst (λ n. Appends old n []) (sym e) (Appends-nil old)
+
+-- nothing is read
+pub nothing_read : (bytes : List ℕ) → bytes ≡ [] → IsUndivided bytes
+nothing_read bytes e = record { front = []; line = []; are = e; begins = no_text; unended = tt }
+
+-- ---- after the divider
+
+output_divided : (text front more out : List ℕ) (replicas : ℕ) (answer : Result Program ReadFault) (status : Status) → Divides text front → IsAnswer text answer → IsReadOutput answer replicas (lines more) status out → IsOutput Run replicas (front ++ more) status out
+output_divided text front more out replicas answer status d a h =
+    (answer, subst (λ t. IsAnswer t answer) (sym (d.text_is more)) a, subst (λ cs. IsReadOutput answer replicas cs status out) (sym (d.commands more)) h)
+
+-- all that the reader had
+all_read : (from to : Option (List ℕ)) (bytes input : List ℕ) → Consumes from to bytes → IfSome to (λ all. input ≡ all) → IfSome from (λ all. bytes ++ input ≡ all)
+all_read None to bytes input c i = tt
+all_read (Some x) None bytes input c i = absurd c
+all_read (Some x) (Some y) bytes input c i = ap (λ l. bytes ++ l) i ∙ sym c
+
+pub divided_written : (from to : Option (List ℕ)) (bytes text first : List ℕ) (replicas : ℕ) (status : Status) (IsWritten : List ℕ → Type 0) → Consumes from to bytes → IsDivided bytes text first
+    → WritesText (IsAnswer text) first to replicas status IsWritten → Writes from Run replicas status IsWritten
+divided_written from to bytes text first replicas status IsWritten c d w = record {
+  input = bytes ++ w.input;
+  is_read = all_read from to bytes w.input c w.is_read;
+  out = w.out;
+  is_output =
+      subst (λ b. IsOutput Run replicas b status w.out) (sym (ap (λ b. b ++ w.input) d.are ∙ append_assoc d.front first w.input))
+      (output_divided text d.front (first ++ w.input) w.out replicas w.answer status d.divides w.is_answer w.output);
+  is_written = w.is_written;
+}
+
+pub divided_part : (from to : Option (List ℕ)) (bytes text first : List ℕ) (replicas : ℕ) (old new : Option (List ℕ)) → Consumes from to bytes → IsDivided bytes text first
+    → WritesTextPart (IsAnswer text) first to replicas old new → WritesBeginning from old new Run replicas
+divided_part from to bytes text first replicas old new c d (inl w) = inl w
+divided_part from to bytes text first replicas old new c d (inr (status, w)) = inr (status, divided_written from to bytes text first replicas status (AppendsPart old new) c d w)
+
+pub divided_answered : (from to next : Option (List ℕ)) (bytes text first : List ℕ) (replicas : ℕ) (answer : Result Program ReadFault) (old new : Option (List ℕ)) → Consumes from to bytes → IsDivided bytes text first
+    → IsAnswer text answer → AnswersCommands answer replicas first to next old new → AllAnswered from next old new replicas
+divided_answered from to next bytes text first replicas answer old new c d a s =
+    let front = d.front ++ s.front in
+    let all : bytes ++ s.bytes ≡ front ++ s.line = ap (λ b. b ++ s.bytes) d.are ∙ append_assoc d.front first s.bytes ∙ ap (λ b. d.front ++ b) s.are ∙ sym (append_assoc d.front s.front s.line) in
+    let wrote : WritesOutput (Some front) old new Run replicas Accepted =
+    record { input = front; is_read = refl; out = s.out; is_output = output_divided text d.front s.front s.out replicas answer Accepted d.divides a s.output; is_written = s.written } in
+    record {
+      front = front;
+      line = s.line;
+      read = subst (Consumes from next) all (Consumes-trans from to next bytes s.bytes c s.read);
+      whole = whole_both d.front s.front d.divides.whole s.whole;
+      unended = s.unended;
+      written = rw (d.divides.divider s.front) (Accepted, wrote);
+    }
+
+-- ---- before the divider
+
+no_divider : (front : List ℕ) → AreText front → has_divider front ≡ false
+no_divider front t = ap has_divider (sym (append-nil front)) ∙ t.divider []
+
+pub undivided_answered : (from to : Option (List ℕ)) (bytes : List ℕ) (replicas : ℕ) (old new : Option (List ℕ)) → Consumes from to bytes → IsUndivided bytes → Appends old new [] → AllAnswered from to old new replicas
+undivided_answered from to bytes replicas old new c u w = record {
+  front = u.front;
+  line = u.line;
+  read = subst (Consumes from to) u.are c;
+  whole = u.begins.whole;
+  unended = u.unended;
+  written = rw (no_divider u.front u.begins) w;
+}
+
+-- ---- the end of the input
+
+all_there : (from to : Option (List ℕ)) (bytes input : List ℕ) → Consumes from to bytes → IsAtEnd to → input ≡ bytes → IfSome from (λ all. input ≡ all)
+all_there None to bytes input c e i = tt
+all_there (Some x) None bytes input c e i = absurd c
+all_there (Some x) (Some y) bytes input c e i = i ∙ sym (c ∙ ap (λ l. bytes ++ l) e ∙ append-nil bytes)
+
+pub ended_written : (from to : Option (List ℕ)) (bytes : List ℕ) (replicas : ℕ) (status : Status) (IsWritten : List ℕ → Type 0) → Consumes from to bytes → IsAtEnd to → Writes (Some bytes) Run replicas status IsWritten → Writes from Run replicas status IsWritten
+ended_written from to bytes replicas status IsWritten c e w = record { input = w.input; is_read = all_there from to bytes w.input c e w.is_read; out = w.out; is_output = w.is_output; is_written = w.is_written }
+
+pub ended_part : (from to : Option (List ℕ)) (bytes : List ℕ) (replicas : ℕ) (old new : Option (List ℕ)) → Consumes from to bytes → IsAtEnd to → WritesBeginning (Some bytes) old new Run replicas → WritesBeginning from old new Run replicas
+ended_part from to bytes replicas old new c e (inl w) = inl w
+ended_part from to bytes replicas old new c e (inr (status, w)) = inr (status, ended_written from to bytes replicas status (AppendsPart old new) c e w)
+
+-- ---- a text that is too long
+
+-- a line that has begun is the beginning of the first line
+first_line : (line more : List ℕ) → HasNoFeed line → (rest : List ℕ) × (ls : List (List ℕ)) × (lines (line ++ more) ≡ (line ++ rest) ∷ ls)
+first_line [] more h = some_line more
+first_line (b ∷ bs) more h =
+    let f = first_line bs more h.1 in
+    (f.0, f.1, rw h.0 (ap (onto_first b) f.2))
+
+no_shorter : (l : List ℕ) (ls : List (List ℕ)) → is_divider l ≡ false → length l ≤ length (text_of (l ∷ ls))
+no_shorter l [] e = rw e (omega arith)
+no_shorter l (m ∷ ls) e = rw e (omega (arith, length-append l (10 ∷ text_of (m ∷ ls))))
+
+three : (b : Bool) (l : List ℕ) → (if b then take (length l - 1) l else l) ≡ codes "---" → length l ≤ 4
+three true l e = let size = ap length e in let cut = length-take-le (length l - 1) l (omega arith) in omega (arith, size, cut)
+three false l e = let size = ap length e in omega (arith, size)
+
+divider_short : (l : List ℕ) → is_divider l ≡ true → length l ≤ 4
+divider_short l e = three (ends_with nat_eq l (13 ∷ [])) l ((slice_eq-Decides Decides-eqb (without_return l) (codes "---") _ refl).0 e)
+
+text_longer : (b : Bool) (line rest : List ℕ) (ls : List (List ℕ)) → is_divider (line ++ rest) ≡ b → (length line ≤ 4) ⊎ (length line ≤ length (text_of ((line ++ rest) ∷ ls)))
+text_longer true line rest ls e = let short = divider_short (line ++ rest) e in inl (omega (arith, short, length-append line rest))
+text_longer false line rest ls e = let long = no_shorter (line ++ rest) ls e in inr (omega (arith, long, length-append line rest))
+
+long_enough : (all front line rest whole : ℕ) → MAX_TEXT + 4 < all → all ≡ front + line → whole ≡ front + rest → (line ≤ 4) ⊎ (line ≤ rest) → MAX_TEXT < whole
+long_enough all front line rest whole l e f (inl s) = omega (arith, l, e, f, s)
+long_enough all front line rest whole l e f (inr s) = omega (arith, l, e, f, s)
+
+pub text_too_long : (bytes more : List ℕ) → IsUndivided bytes → MAX_TEXT + 4 < length bytes → MAX_TEXT < length (text_of (lines (bytes ++ more)))
+text_too_long bytes more u l =
+    let f = first_line u.line more u.unended in
+    let text : text_of (lines (bytes ++ more)) ≡ u.front ++ text_of ((u.line ++ f.0) ∷ f.1) =
+    ap (λ b. text_of (lines (b ++ more))) u.are ∙ ap (λ b. text_of (lines b)) (append_assoc u.front u.line more) ∙ u.begins.text (u.line ++ more) ∙ ap (λ ls. u.front ++ text_of ls) f.2 in
+    let size : length bytes ≡ length u.front + length u.line = ap length u.are ∙ length-append u.front u.line in
+    let sum = length-append u.front (text_of ((u.line ++ f.0) ∷ f.1)) in
+    rw text (long_enough (length bytes) (length u.front) (length u.line) _ _ l size sum (text_longer (is_divider (u.line ++ f.0)) u.line f.0 f.1 refl))
+
+-- its line, whatever comes after it
+too_long_output : (short long out : List ℕ) (replicas : ℕ) (status : Status) → MAX_TEXT < length (text_of (lines short)) → MAX_TEXT < length (text_of (lines long)) → IsOutput Run replicas short status out → IsOutput Run replicas long status out
+too_long_output short long out replicas status s l (Ok p, a, h) = let fits = a.0 in absurd (omega (arith, s, fits))
+too_long_output short long out replicas status s l (Err fault.TooLong, a, h) = (Err fault.TooLong, l, h)
+too_long_output short long out replicas status s l (Err (fault.Bad n k), a, h) = let fits = a.0 in absurd (omega (arith, s, fits))
+too_long_output short long out replicas status s l (Err fault.Memory, a, h) = absurd h.1
+
+pub long_written : (from to : Option (List ℕ)) (bytes : List ℕ) (replicas : ℕ) (status : Status) (IsWritten : List ℕ → Type 0) → Consumes from to bytes → IsUndivided bytes → MAX_TEXT + 4 < length bytes
+    → Writes (Some bytes) Run replicas status IsWritten → Writes from Run replicas status IsWritten
+long_written from to bytes replicas status IsWritten c u l w =
+    let left = some_left from to bytes c in
+    let here : MAX_TEXT < length (text_of (lines w.input)) = subst (λ b. MAX_TEXT < length (text_of (lines b))) (append-nil bytes ∙ sym w.is_read) (text_too_long bytes [] u l) in
+    record { input = bytes ++ left.0; is_read = left.1; out = w.out; is_output = too_long_output w.input (bytes ++ left.0) w.out replicas status here (text_too_long bytes left.0 u l) w.is_output; is_written = w.is_written }
+
+pub long_part : (from to : Option (List ℕ)) (bytes : List ℕ) (replicas : ℕ) (old new : Option (List ℕ)) → Consumes from to bytes → IsUndivided bytes → MAX_TEXT + 4 < length bytes
+    → WritesBeginning (Some bytes) old new Run replicas → WritesBeginning from old new Run replicas
+long_part from to bytes replicas old new c u l (inl w) = inl w
+long_part from to bytes replicas old new c u l (inr (status, w)) = inr (status, long_written from to bytes replicas status (AppendsPart old new) c u l w)
+
+abbrev IsRefusal : Status → Type 0
+IsRefusal Accepted = ⊥
+IsRefusal Refused = ⊤
+
+pub not_accepted : {P : Type 0} (s : Status) → s ≡ Refused → s ≡ Accepted → P
+not_accepted s e f = absurd (subst IsRefusal (sym e ∙ f) tt)
+
+-- its program is refused
+too_long_refused : (input out : List ℕ) (replicas : ℕ) (status : Status) → MAX_TEXT < length (text_of (lines input)) → IsOutput Run replicas input status out → status ≡ Refused
+too_long_refused input out replicas status l (Ok p, a, h) = let fits = a.0 in absurd (omega (arith, l, fits))
+too_long_refused input out replicas status l (Err e, a, h) = h.0
+
+pub long_refused : (bytes : List ℕ) (replicas : ℕ) (status : Status) (IsWritten : List ℕ → Type 0) → IsUndivided bytes → MAX_TEXT + 4 < length bytes → Writes (Some bytes) Run replicas status IsWritten → status ≡ Refused
+long_refused bytes replicas status IsWritten u l w =
+    too_long_refused w.input w.out replicas status (subst (λ b. MAX_TEXT < length (text_of (lines b))) (append-nil bytes ∙ sym w.is_read) (text_too_long bytes [] u l)) w.is_output
+
+-- ---- reads
+
+-- a read that gave nothing
+pub read_nothing : (from to next : Option (List ℕ)) (bytes buf : List ℕ) (n : ℕ) → n ≡ 0 → Consumes from to bytes → Consumes to next (take n buf) → Consumes from next bytes
+read_nothing from to next bytes buf n e c d = subst (Consumes from next) (append-nil bytes) (Consumes-trans from to next bytes [] c (subst (λ m. Consumes to next (take m buf)) e d))
+
+-- bytes that were read are kept
+pub read_more : (from to next : Option (List ℕ)) (bytes more all : List ℕ) → all ≡ bytes ++ more → Consumes from to bytes → Consumes to next more → Consumes from next all
+read_more from to next bytes more all e c d = subst (Consumes from next) (sym e) (Consumes-trans from to next bytes more c d)

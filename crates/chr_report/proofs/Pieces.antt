@@ -1,0 +1,142 @@
+-- Answers of an input that comes piece by piece.
+use Rattle.std.proofs.Common.{◌≡◌, ℕ, ◌⊎◌, Bool, true, false, List, [], ◌∷◌, ◌++◌, refl, sym, ap, ◌∙◌, append_assoc, append-nil, subst, inl, inr}
+use Rattle.std.specs.Prelude.{Option, Result, Ok, Err, OnErr}
+use Rattle.std.specs.Bool.{MatchBool}
+use Rattle.std.specs.Io.KnownBytes.{Appends}
+use Rattle.std.proofs.KnownBytes.{Appends-nil, Appends-trans}
+use Rattle.chr_base.specs.declared.rule.Rule.{Rule}
+use Rattle.chr_base.specs.ProgramTests.{Declaration}
+use Rattle.chr_device.specs.Devices.{AppendsPart}
+use Rattle.chr_ops.specs.Operations.{Operations}
+use Rattle.chr_json.specs.Lines.{is_blank_line}
+use Rattle.chr_report.specs.Lines.{lines, without_return}
+use Rattle.chr_report.specs.Answers.{AnswersAll, AnswersFirst}
+use Rattle.chr_report.specs.Served.{AreWholeLines, HasNoFeed}
+use Rattle.chr_report.specs.working.Answered.{AnswersLine, AddsAnswer}
+use Rattle.chr_report.specs.working.Serving.{AnswersFront, AnswersChunk, AnswersPart, IsCut, SendsAnswer}
+use Rattle.chr_report.proofs.Feeds.{ended_more, lines_more, lines_last, none_in_both, whole_ended}
+
+-- ---- parts of what is written
+
+pub part_of_whole : (old new : Option (List ℕ)) (bs : List ℕ) → Appends old new bs → AppendsPart old new bs
+part_of_whole old new bs a = (bs, [], sym (append-nil bs), a)
+
+pub part_after : (old mid new : Option (List ℕ)) (bs cs : List ℕ) → Appends old mid bs → AppendsPart mid new cs → AppendsPart old new (bs ++ cs)
+part_after old mid new bs cs a p = (bs ++ p.0, p.1, ap (λ l. bs ++ l) p.2 ∙ sym (append_assoc bs p.0 p.1), Appends-trans old mid new bs p.0 a p.3)
+
+pub part_of_more : (old new : Option (List ℕ)) (bs more : List ℕ) → AppendsPart old new bs → AppendsPart old new (bs ++ more)
+part_of_more old new bs more p = (p.0, p.1 ++ more, ap (λ l. l ++ more) p.2 ∙ append_assoc p.0 p.1 more, p.3)
+
+pub on_err : {A E P : Type 0} (r : Result A E) → P → OnErr r P
+on_err (Ok x) p = tt
+on_err (Err e) p = p
+
+pub if_err : {A E P Q : Type 0} (r : Result A E) → (P → Q) → OnErr r P → OnErr r Q
+if_err (Ok x) f p = tt
+if_err (Err e) f p = f p
+
+module _ (ds : List Declaration) (rules : List Rule) where
+  -- ---- whole lines
+
+  pub front_begins : (old : List Operations) → AnswersFront ds rules [] old [] old
+  front_begins old more tail a = a
+
+  line_first : (line more text tail : List ℕ) (old new : List Operations) → AnswersLine ds rules old (without_return line) [] new text
+      → AnswersAll ds rules (lines more) new tail → AnswersAll ds rules (line ∷ lines more) old (text ++ tail)
+  line_first line more text tail old new g a = by (is_blank_line (without_return line)) refl g
+    where
+      by : (b : Bool) → is_blank_line (without_return line) ≡ b → MatchBool b ((new ≡ old) × (text ≡ [])) (AddsAnswer ds rules old (without_return line) [] new text) → AnswersAll ds rules (line ∷ lines more) old (text ++ tail)
+      by true e k = rw e (subst (λ o. AnswersAll ds rules (lines more) o (text ++ tail)) k.0 (subst (λ t. AnswersAll ds rules (lines more) new (t ++ tail)) (sym k.1) a))
+      by false e k =
+          let first : AnswersFirst ds rules old (without_return line) (text ++ tail) (AnswersAll ds rules (lines more)) =
+          record { text = k.text; new = new; rest = tail; answers = k.answers; more = a; out_is = ap (λ t. t ++ tail) k.out_is ∙ append_assoc k.text (10 ∷ []) tail } in
+          rw e first
+
+  -- one line more
+  pub front_goes_on : (front line out text : List ℕ) (old mid new : List Operations) → HasNoFeed line
+      → AnswersFront ds rules front old out mid → AnswersLine ds rules mid (without_return line) [] new text → AnswersFront ds rules (front ++ (line ++ 10 ∷ [])) old (out ++ text) new
+  front_goes_on front line out text old mid new h f g more tail a =
+      subst (λ i. AnswersAll ds rules (lines i) old ((out ++ text) ++ tail)) (sym (ended_more front line more))
+      (subst (λ o. AnswersAll ds rules (lines (front ++ (line ++ 10 ∷ more))) old o) (sym (append_assoc out text tail))
+      (f (line ++ 10 ∷ more) (text ++ tail) (subst (λ ls. AnswersAll ds rules ls mid (text ++ tail)) (sym (lines_more line more h)) (line_first line more text tail mid new g a))))
+
+  -- two pieces
+  pub fronts_join : (one two out text : List ℕ) (old mid new : List Operations)
+      → AnswersFront ds rules one old out mid → AnswersFront ds rules two mid text new → AnswersFront ds rules (one ++ two) old (out ++ text) new
+  fronts_join one two out text old mid new f g more tail a =
+      subst (λ i. AnswersAll ds rules (lines i) old ((out ++ text) ++ tail)) (sym (append_assoc one two more))
+      (subst (λ o. AnswersAll ds rules (lines (one ++ (two ++ more))) old o) (sym (append_assoc out text tail)) (f (two ++ more) (text ++ tail) (g more tail a)))
+
+  -- nothing comes after them
+  pub front_is_answered : (front out : List ℕ) (old now : List Operations) → AnswersFront ds rules front old out now → AnswersAll ds rules (lines front) old out
+  front_is_answered front out old now f =
+      subst (λ i. AnswersAll ds rules (lines i) old out) (append-nil front) (subst (λ o. AnswersAll ds rules (lines (front ++ [])) old o) (append-nil out) (f [] [] refl))
+
+  -- a last line without its line feed
+  pub last_is_answered : (front line out text : List ℕ) (old mid new : List Operations) → HasNoFeed line
+      → AnswersFront ds rules front old out mid → AnswersLine ds rules mid (without_return line) [] new text → AnswersAll ds rules (lines (front ++ line)) old (out ++ text)
+  last_is_answered front line out text old mid new h f g =
+      f line text (subst (λ ls. AnswersAll ds rules ls mid text) (sym (lines_last line h)) (last (is_blank_line (without_return line)) refl g))
+    where
+      last : (b : Bool) → is_blank_line (without_return line) ≡ b → MatchBool b ((new ≡ mid) × (text ≡ [])) (AddsAnswer ds rules mid (without_return line) [] new text) → AnswersAll ds rules (line ∷ []) mid text
+      last true e k = rw e k.1
+      last false e k =
+          let first : AnswersFirst ds rules mid (without_return line) text (AnswersAll ds rules []) =
+          record { text = k.text; new = new; rest = []; answers = k.answers; more = refl; out_is = k.out_is } in
+          rw e first
+
+  -- ---- a chunk
+
+  -- within a chunk: whole lines are answered, a line begins in what is kept, and goes on in the rest
+  pub record SoFar (bytes line rest : List ℕ) (start now : List Operations) (old new : Option (List ℕ)) : Type 0 where
+    pub front : List ℕ
+    pub out : List ℕ
+    pub are : bytes ≡ front ++ (line ++ rest)
+    pub whole : AreWholeLines front
+    pub unended : HasNoFeed line
+    pub answers : AnswersFront ds rules front start out now
+    pub written : Appends old new out
+
+  pub begins : (line chunk : List ℕ) (start : List Operations) (old : Option (List ℕ)) → HasNoFeed line → SoFar (line ++ chunk) line chunk start start old old
+  begins line chunk start old h = record { front = []; out = []; are = refl; whole = inl refl; unended = h; answers = front_begins start; written = Appends-nil old }
+
+  cut_bytes : (bytes front line end more rest : List ℕ) → bytes ≡ front ++ (line ++ rest) → rest ≡ end ++ 10 ∷ more → bytes ≡ (front ++ ((line ++ end) ++ 10 ∷ [])) ++ more
+  cut_bytes bytes front line end more rest are is =
+      are ∙ ap (λ r. front ++ (line ++ r)) is ∙ ap (λ r. front ++ r) (sym (append_assoc line end (10 ∷ more))) ∙ sym (ended_more front (line ++ end) more)
+
+  pub answered : (bytes line rest end more : List ℕ) (start mid now : List Operations) (old middle new : Option (List ℕ)) → SoFar bytes line rest start mid old middle → rest ≡ end ++ 10 ∷ more → HasNoFeed end
+      → SendsAnswer ds rules (line ++ end) mid now (Appends middle new) → SoFar bytes [] more start now old new
+  answered bytes line rest end more start mid now old middle new s is h w =
+      let g = none_in_both line end s.unended h in
+      record {
+        front = s.front ++ ((line ++ end) ++ 10 ∷ []);
+        out = s.out ++ w.text;
+        are = cut_bytes bytes s.front line end more rest s.are is;
+        whole = whole_ended s.front (line ++ end);
+        unended = tt;
+        answers = front_goes_on s.front (line ++ end) s.out w.text start mid now g s.answers w.answer;
+        written = Appends-trans old middle new _ _ s.written w.is_written;
+      }
+
+  pub chunk_done : (bytes line rest : List ℕ) (start now : List Operations) (old new : Option (List ℕ)) → SoFar bytes line rest start now old new → HasNoFeed rest → AnswersChunk ds rules bytes (line ++ rest) start now old new
+  chunk_done bytes line rest start now old new s h = record { front = s.front; out = s.out; are = s.are; whole = s.whole; unended = none_in_both line rest s.unended h; answers = s.answers; written = s.written }
+
+  pub part_done : (bytes line rest : List ℕ) (start now : List Operations) (old new : Option (List ℕ)) → SoFar bytes line rest start now old new → AnswersPart ds rules bytes start old new
+  part_done bytes line rest start now old new s = record { front = s.front; rest = line ++ rest; out = s.out; now = now; are = s.are; answers = s.answers; written = part_of_whole old new _ s.written }
+
+  -- nothing is sent, or a beginning of an answer
+  pub part_answered : (bytes line rest end more : List ℕ) (start mid : List Operations) (old middle new : Option (List ℕ)) → SoFar bytes line rest start mid old middle → rest ≡ end ++ 10 ∷ more → HasNoFeed end
+      → IsCut ds rules (line ++ end) mid middle new → AnswersPart ds rules bytes start old new
+  part_answered bytes line rest end more start mid old middle new s is h (inl w) =
+      record { front = s.front; rest = line ++ rest; out = s.out; now = mid; are = s.are; answers = s.answers; written = part_of_whole old new _ (subst (Appends old new) (append-nil s.out) (Appends-trans old middle new _ _ s.written w)) }
+  part_answered bytes line rest end more start mid old middle new s is h (inr (now, w)) =
+      let g = none_in_both line end s.unended h in
+      record {
+        front = s.front ++ ((line ++ end) ++ 10 ∷ []);
+        rest = more;
+        out = s.out ++ w.text;
+        now = now;
+        are = cut_bytes bytes s.front line end more rest s.are is;
+        answers = front_goes_on s.front (line ++ end) s.out w.text start mid now g s.answers w.answer;
+        written = part_after old middle new _ _ s.written w.is_written;
+      }

@@ -1,0 +1,37 @@
+-- What is written of an input that is read piece by piece.
+use Rattle.std.specs.Prelude.{◌≡◌, ℕ, ◌⊎◌, Bool, false, List, [], ◌∷◌, ◌++◌, ◌==◌, Option, Some}
+use Rattle.std.specs.Bool.{MatchBool}
+use Rattle.std.specs.List.{AllByRecursion, list_any}
+use Rattle.std.specs.Io.KnownBytes.{Appends, Consumes}
+use Rattle.chr_device.specs.declared.words.Verb.TheVariants.{Run}
+use Rattle.chr_report.specs.declared.running.Status.{Status}
+use Rattle.chr_report.specs.Lines.{lines, is_divider}
+use Rattle.chr_report.specs.Written.{WritesOutput}
+
+-- no line ends within the bytes
+abbrev pub HasNoFeed : List ℕ → Type 0
+HasNoFeed bytes = AllByRecursion (λ b. (b == 10) ≡ false) bytes
+
+-- nothing, or bytes of which the last is a line feed
+abbrev pub AreWholeLines : List ℕ → Type 0
+AreWholeLines front = (front ≡ []) ⊎ ((bytes : List ℕ) × (front ≡ bytes ++ 10 ∷ []))
+
+-- whether the program text ends within the bytes
+abbrev pub has_divider : List ℕ → Bool
+has_divider bytes = list_any is_divider (lines bytes)
+
+-- all that is due for whole lines is written: nothing before the program text has ended, and then their output
+abbrev pub WritesDue : List ℕ → Option (List ℕ) → Option (List ℕ) → ℕ → Type 0
+WritesDue front old new replicas =
+    MatchBool (has_divider front) ((status : Status) × WritesOutput (Some front) old new Run replicas status)
+    (Appends old new [])
+
+-- Of the bytes that were read `front` are whole lines, for which all is written that is due. After them a line may
+-- have begun.
+pub record AllAnswered (from to old new : Option (List ℕ)) (replicas : ℕ) : Type 0 where
+  pub front : List ℕ
+  pub line : List ℕ
+  pub read : Consumes from to (front ++ line)
+  pub whole : AreWholeLines front
+  pub unended : HasNoFeed line
+  pub written : WritesDue front old new replicas

@@ -1,0 +1,108 @@
+-- Answers of lines that come piece by piece.
+use Rattle.std.specs.Prelude.{◌≡◌, ℕ, ◌⊎◌, List, [], ◌++◌, Option, IfSome, Result, replicate}
+use Rattle.std.specs.Io.KnownBytes.{Appends, Consumes}
+use Rattle.chr_device.specs.Devices.{AppendsPart}
+use Rattle.chr_base.specs.declared.program.Program.{Program}
+use Rattle.chr_base.specs.declared.rule.Rule.{Rule}
+use Rattle.chr_base.specs.ProgramTests.{Declaration}
+use Rattle.chr_ops.specs.Operations.{Operations}
+use Rattle.chr_read.specs.ProgramTexts.{IsAnswer}
+use Rattle.chr_read.specs.declared.fault.ReadFault.{ReadFault}
+use Rattle.chr_report.specs.declared.running.Status.{Status}
+use Rattle.chr_report.specs.declared.running.Status.TheVariants.{Accepted}
+use Rattle.chr_report.specs.Lines.{lines, without_return}
+use Rattle.chr_report.specs.Answers.{AnswersAll}
+use Rattle.chr_report.specs.Outputs.{IsReadOutput}
+use Rattle.chr_report.specs.Served.{AreWholeLines, HasNoFeed}
+use Rattle.chr_report.specs.working.Answered.{AnswersLine}
+
+-- `out` answers the whole lines `front`, and whatever comes after them is answered from `now` on
+abbrev pub AnswersFront :
+    List Declaration → List Rule → List ℕ → List Operations → List ℕ → List Operations → Type 0
+AnswersFront ds rules front old out now =
+    (more tail : List ℕ) → AnswersAll ds rules (lines more) now tail
+    → AnswersAll ds rules (lines (front ++ more)) old (out ++ tail)
+
+-- the answer of a line, which comes without its line feed, is written
+pub record SendsAnswer (ds : List Declaration) (rules : List Rule) (line : List ℕ) (old now : List Operations)
+    (IsWritten : List ℕ → Type 0) : Type 0 where
+  pub text : List ℕ
+  pub answer : AnswersLine ds rules old (without_return line) [] now text
+  pub is_written : IsWritten text
+
+-- nothing of it, or a beginning
+abbrev pub IsCut :
+    List Declaration → List Rule → List ℕ → List Operations → Option (List ℕ) → Option (List ℕ) → Type 0
+IsCut ds rules line old before after =
+    Appends before after []
+    ⊎ ((now : List Operations) × SendsAnswer ds rules line old now (AppendsPart before after))
+
+-- whole lines are answered, and one that has begun is left
+pub record AnswersChunk (ds : List Declaration) (rules : List Rule) (bytes left : List ℕ)
+    (old now : List Operations) (before after : Option (List ℕ)) : Type 0 where
+  pub front : List ℕ
+  pub out : List ℕ
+  pub are : bytes ≡ front ++ left
+  pub whole : AreWholeLines front
+  pub unended : HasNoFeed left
+  pub answers : AnswersFront ds rules front old out now
+  pub written : Appends before after out
+
+-- of the answers of whole lines a beginning is written
+pub record AnswersPart (ds : List Declaration) (rules : List Rule) (bytes : List ℕ) (old : List Operations)
+    (before after : Option (List ℕ)) : Type 0 where
+  pub front : List ℕ
+  pub rest : List ℕ
+  pub out : List ℕ
+  pub now : List Operations
+  pub are : bytes ≡ front ++ rest
+  pub answers : AnswersFront ds rules front old out now
+  pub written : AppendsPart before after out
+
+-- so it is after more bytes were read
+pub record AnswersFrontRead (ds : List Declaration) (rules : List Rule) (first : List ℕ) (from to : Option (List ℕ))
+    (left : List ℕ) (old now : List Operations) (before after : Option (List ℕ)) : Type 0 where
+  pub bytes : List ℕ
+  pub read : Consumes from to bytes
+  pub chunk : AnswersChunk ds rules (first ++ bytes) left old now before after
+
+-- there are answers of the first bytes and of all that the reader gives, of which IsWritten holds
+pub record AnswersInput (ds : List Declaration) (rules : List Rule) (first : List ℕ) (known : Option (List ℕ))
+    (old : List Operations) (IsWritten : List ℕ → Type 0) : Type 0 where
+  pub input : List ℕ
+  pub is_read : IfSome known (λ all. input ≡ all)
+  pub answers : List ℕ
+  pub answered : AnswersAll ds rules (lines (first ++ input)) old answers
+  pub is_written : IsWritten answers
+
+-- The verdict on a text with this answer, and the answers of the whole command lines that were read, are written.
+pub record AnswersCommands (answer : Result Program ReadFault) (replicas : ℕ) (first : List ℕ)
+    (from to old new : Option (List ℕ)) : Type 0 where
+  pub bytes : List ℕ
+  pub front : List ℕ
+  pub line : List ℕ
+  pub read : Consumes from to bytes
+  pub are : first ++ bytes ≡ front ++ line
+  pub whole : AreWholeLines front
+  pub unended : HasNoFeed line
+  pub out : List ℕ
+  pub output : IsReadOutput answer replicas (lines front) Accepted out
+  pub written : Appends old new out
+
+-- there is an output of the text, and of the commands that are the first bytes and all that the reader gives
+pub record WritesText (IsAnswered : Result Program ReadFault → Type 0) (first : List ℕ) (known : Option (List ℕ))
+    (replicas : ℕ) (status : Status) (IsWritten : List ℕ → Type 0) : Type 0 where
+  pub input : List ℕ
+  pub is_read : IfSome known (λ all. input ≡ all)
+  pub answer : Result Program ReadFault
+  pub is_answer : IsAnswered answer
+  pub out : List ℕ
+  pub output : IsReadOutput answer replicas (lines (first ++ input)) status out
+  pub is_written : IsWritten out
+
+-- nothing is written, or a beginning of such an output
+abbrev pub WritesTextPart :
+    (Result Program ReadFault → Type 0) → List ℕ → Option (List ℕ) → ℕ → Option (List ℕ) → Option (List ℕ) → Type 0
+WritesTextPart IsAnswered first known replicas old new =
+    Appends old new []
+    ⊎ ((status : Status) × WritesText IsAnswered first known replicas status (AppendsPart old new))

@@ -1,0 +1,58 @@
+//! Program texts that are judged.
+ghost use Rattle.std.specs.Prelude.{◌≡◌, Ok, IfOk};
+ghost use Rattle.chr_weights.specs.WeighedPrograms.{program_of};
+ghost use Rattle.chr_read.specs.ProgramTexts.{IsAnswer};
+ghost use Rattle.chr_report.specs.working.Judged.{IsJudged, IsJudgedText};
+
+use crate::verdict::{fault_line, not_lowered_line, refusal_line};
+use chr_base::program::Program;
+use chr_join::{Accepted, accept};
+use chr_read::read;
+use chr_weights::{Weighed, weigh};
+use std::alloc::{AllocError, Global};
+
+/// A program that is accepted, or the line for a text that is refused.
+#[derive(Drop)]
+pub(crate) enum Judged {
+    Accepted(Accepted),
+    Refused(String),
+}
+
+/// Judges a program in which each rule lowers the weight.
+fn judge_weighed(alloc: Global, weighed: Weighed) -> Result<Judged, AllocError>
+    ensures { IfOk result (IsJudged (Ok (program_of weighed))) }
+{
+    match accept(alloc, weighed) {
+        Ok(accepted) => Ok(Judged::Accepted(accepted)),
+        Err(refused) => {
+            let line = refusal_line(alloc, refused.weighed.program(), &refused.cause)?;
+            Ok(Judged::Refused(line))
+        }
+    }
+}
+
+fn judge_program(alloc: Global, program: Program) -> Result<Judged, AllocError>
+    ensures { IfOk result (IsJudged (Ok program)) }
+{
+    let paired = program.has_pairs();
+    match weigh(program) {
+        Ok(weighed) => judge_weighed(alloc, weighed),
+        Err(fault) => {
+            let line = not_lowered_line(alloc, paired, &fault)?;
+            Ok(Judged::Refused(line))
+        }
+    }
+}
+
+/// Judges a program text.
+pub(crate) fn judge(alloc: Global, text: &[u8]) -> Result<Judged, AllocError>
+    ensures { IfOk result (IsJudgedText text.now) }
+{
+    match read(alloc, text) {
+        Ok(program) => judge_program(alloc, program),
+        Err(fault) => {
+            let line = fault_line(alloc, &fault)?;
+            Ok(Judged::Refused(line))
+        }
+    }
+}

@@ -1,0 +1,261 @@
+//! Lines answered as they come.
+ghost use Rattle.std.specs.Prelude.{◌≡◌, ◌≤◌, ℕ, ◌++◌, List, Result, Ok, Some, true, false};
+ghost use Rattle.std.specs.Prelude.{IfOk, IsErrOf, OnErr, OnOk};
+ghost use Rattle.std.specs.Io.KnownBytes.{Appends, IsAtEnd};
+ghost use Rattle.chr_device.specs.Devices.{AppendsPart};
+ghost use Rattle.chr_device.specs.Settings.{IsPlain, IsWithinLimits};
+ghost use Rattle.chr_device.specs.declared.fault.RunFault.TheVariants.{Device, Memory};
+ghost use Rattle.chr_device.specs.declared.words.Verb.TheVariants.{Run};
+ghost use Rattle.chr_base.specs.declared.limits.TheConstants.{MAX_REPLICAS};
+ghost use Rattle.chr_base.specs.declared.program.Program.{Program};
+ghost use Rattle.chr_base.specs.Programs.{declarations, rules_of};
+ghost use Rattle.chr_ops.specs.Operations.{Operations};
+ghost use Rattle.chr_join.specs.AcceptedPrograms.{cases_of, program_in};
+ghost use Rattle.chr_join.specs.Verdicts.{IsAccepted};
+ghost use Rattle.chr_read.specs.ProgramTexts.{IsAnswer};
+ghost use Rattle.chr_read.specs.declared.fault.ReadFault.{ReadFault};
+ghost use Rattle.chr_report.specs.declared.running.Status.TheVariants as status;
+ghost use Rattle.chr_report.specs.Served.{AllAnswered, HasNoFeed};
+ghost use Rattle.chr_report.specs.Written.{WritesOutput, WritesBeginning};
+ghost use Rattle.chr_report.specs.working.Services.{held, served, IsBetweenLines};
+ghost use Rattle.chr_report.specs.working.Serving.{AnswersChunk, AnswersCommands, AnswersInput, AnswersPart};
+ghost use Rattle.chr_report.specs.working.Serving.{AnswersFrontRead, IsCut, SendsAnswer, WritesText, WritesTextPart};
+
+use crate::answering::answer_line;
+use crate::input::{divided, ended_line, without_return};
+use crate::judging::{Judged, judge};
+use crate::one_text::answers_exist;
+use crate::running::{Status, output_of};
+use crate::service::Service;
+use crate::verdict::accepted_line;
+use crate::wire::Wire;
+use chr_device::{RunFault, Settings, Verb};
+use chr_join::Accepted;
+use chr_read::MAX_TEXT;
+use std::alloc::Global;
+
+/// The most bytes of a read.
+const CHUNK: usize = 4_096;
+
+/// As many bytes are held at most before the program text has ended: what is longer than its limit with no divider in
+/// it is refused, whatever follows. A line that is no longer than the longest divider may become one.
+const MOST_TEXT: usize = MAX_TEXT + 4;
+
+/// Sends the answer of a line, which comes without its line feed: nothing for a blank one.
+fn send_answer<T: Wire>(
+    alloc: Global,
+    service: &mut Service,
+    line: &[u8],
+    wire: &mut T,
+) -> Result<(), RunFault>
+    requires { IsBetweenLines service.old }
+    ensures ready { OnOk result (IsBetweenLines service.new) }
+    ensures program { service.new.world.accepted ≡ service.old.world.accepted }
+    ensures kept { T.unread wire.new ≡ T.unread wire.old }
+    ensures ok { OnOk result (SendsAnswer (declarations (served service.old)) (rules_of (served service.old))
+        line.now (held service.old) (held service.new) (Appends (T.sent wire.old) (T.sent wire.new))) }
+    ensures err { OnErr result (IsCut (declarations (served service.old)) (rules_of (served service.old))
+        line.now (held service.old) (T.sent wire.old) (T.sent wire.new)) }
+    ensures whole { OnOk result (T.is_broken wire.new ≡ T.is_broken wire.old) }
+    ensures device { IsErrOf result Device → T.is_broken wire.new ≡ true }
+    ensures memory { IsErrOf result Memory → T.is_broken wire.new ≡ T.is_broken wire.old }
+{
+    let mut out = String::new(alloc);
+    answer_line(alloc, service, without_return(line), &mut out)?;
+    wire.send(out.as_bytes())
+}
+
+/// Answers the lines that end in this chunk, and keeps what stands after them.
+fn answer_chunk<T: Wire>(
+    alloc: Global,
+    service: &mut Service,
+    line: &mut Vec<u8>,
+    chunk: &[u8],
+    wire: &mut T,
+) -> Result<(), RunFault>
+    requires ready { IsBetweenLines service.old }
+    requires unended { HasNoFeed line.old.items }
+    ensures ready { OnOk result (IsBetweenLines service.new) }
+    ensures program { service.new.world.accepted ≡ service.old.world.accepted }
+    ensures kept { T.unread wire.new ≡ T.unread wire.old }
+    ensures ok { OnOk result (AnswersChunk (declarations (served service.old)) (rules_of (served service.old))
+        (line.old.items ++ chunk.now) line.new.items (held service.old) (held service.new)
+        (T.sent wire.old) (T.sent wire.new)) }
+    ensures err { OnErr result (AnswersPart (declarations (served service.old)) (rules_of (served service.old))
+        (line.old.items ++ chunk.now) (held service.old) (T.sent wire.old) (T.sent wire.new)) }
+    ensures whole { OnOk result (T.is_broken wire.new ≡ T.is_broken wire.old) }
+    ensures device { IsErrOf result Device → T.is_broken wire.new ≡ true }
+    ensures memory { IsErrOf result Memory → T.is_broken wire.new ≡ T.is_broken wire.old }
+{
+    let mut rest = chunk;
+    while let Some((end, more)) = ended_line(rest) {
+        line.extend_from_slice(end)?;
+        send_answer(alloc, service, line, wire)?;
+        line.clear();
+        rest = more;
+    }
+    line.extend_from_slice(rest)?;
+    Ok(())
+}
+
+/// Answers the lines of the bytes that were read first, and then those that come, to the end of the input.
+fn converse<T: Wire>(
+    alloc: Global,
+    service: &mut Service,
+    first: &[u8],
+    wire: &mut T,
+) -> Result<(), RunFault>
+    requires ready { IsBetweenLines service.old }
+    requires prompt { (w : T) (line : List ℕ) (now : List Operations) → AnswersFrontRead
+        (declarations (served service.old)) (rules_of (served service.old)) first.now (T.unread wire.old) (T.unread w)
+        line (held service.old) now (T.sent wire.old) (T.sent w) → T.may_wait w }
+    ensures ok { OnOk result (AnswersInput (declarations (served service.old)) (rules_of (served service.old))
+        first.now (T.unread wire.old) (held service.old) (Appends (T.sent wire.old) (T.sent wire.new))) }
+    ensures err { OnErr result (AnswersInput (declarations (served service.old)) (rules_of (served service.old))
+        first.now (T.unread wire.old) (held service.old) (AppendsPart (T.sent wire.old) (T.sent wire.new))) }
+    ensures end { OnOk result (IsAtEnd (T.unread wire.new)) }
+    ensures whole { OnOk result (T.is_broken wire.new ≡ T.is_broken wire.old) }
+    ensures device { IsErrOf result Device → T.is_broken wire.new ≡ true }
+    ensures memory { IsErrOf result Memory → T.is_broken wire.new ≡ T.is_broken wire.old }
+{
+    answers_exist();
+    let mut line = Vec::new(alloc);
+    answer_chunk(alloc, service, &mut line, first, wire)?;
+    let mut chunk = [0u8; CHUNK];
+    for _turn in 0..u64::MAX {
+        let n = wire.wait(&mut chunk)?;
+        if n == 0 {
+            return send_answer(alloc, service, &line, wire);
+        }
+        answer_chunk(alloc, service, &mut line, &chunk[..n], wire)?;
+    }
+    wire.fail();
+    Err(RunFault::Device)
+}
+
+/// Sends the line of an accepted program, and answers its commands.
+fn serve_program<T: Wire>(
+    alloc: Global,
+    accepted: Accepted,
+    replicas: u32,
+    first: &[u8],
+    wire: &mut T,
+) -> Result<(), RunFault>
+    requires replicas { (1 ≤ replicas) × (replicas ≤ MAX_REPLICAS) }
+    requires accepted { IsAccepted (rules_of (program_in accepted)) (cases_of accepted) }
+    requires prompt { (w : T) → AnswersCommands (Ok (program_in accepted)) replicas first.now (T.unread wire.old)
+        (T.unread w) (T.sent wire.old) (T.sent w) → T.may_wait w }
+    ensures ok { OnOk result (WritesText (λ answer. answer ≡ Ok (program_in accepted)) first.now
+        (T.unread wire.old) replicas status.Accepted (Appends (T.sent wire.old) (T.sent wire.new))) }
+    ensures err { OnErr result (WritesTextPart (λ answer. answer ≡ Ok (program_in accepted)) first.now
+        (T.unread wire.old) replicas (T.sent wire.old) (T.sent wire.new)) }
+    ensures end { OnOk result (IsAtEnd (T.unread wire.new)) }
+    ensures whole { OnOk result (T.is_broken wire.new ≡ T.is_broken wire.old) }
+    ensures device { IsErrOf result Device → T.is_broken wire.new ≡ true }
+    ensures memory { IsErrOf result Memory → T.is_broken wire.new ≡ T.is_broken wire.old }
+{
+    answers_exist();
+    let line = accepted_line(alloc, accepted.program().rules().len(), accepted.cases())?;
+    let mut service = Service::open(alloc, accepted, replicas)?;
+    wire.send(line.as_bytes())?;
+    converse(alloc, &mut service, first, wire)
+}
+
+/// Sends the verdict on a program text, and answers the commands of one that is accepted.
+fn serve_text<T: Wire>(
+    alloc: Global,
+    text: &[u8],
+    replicas: u32,
+    first: &[u8],
+    wire: &mut T,
+) -> Result<Status, RunFault>
+    requires replicas { (1 ≤ replicas) × (replicas ≤ MAX_REPLICAS) }
+    requires prompt { (w : T) (answer : Result Program ReadFault) → IsAnswer text.now answer → AnswersCommands answer
+        replicas first.now (T.unread wire.old) (T.unread w) (T.sent wire.old) (T.sent w) → T.may_wait w }
+    ensures ok { IfOk result (λ status. WritesText (IsAnswer text.now) first.now (T.unread wire.old) replicas status
+        (Appends (T.sent wire.old) (T.sent wire.new))) }
+    ensures err { OnErr result (WritesTextPart (IsAnswer text.now) first.now (T.unread wire.old) replicas
+        (T.sent wire.old) (T.sent wire.new)) }
+    ensures end { IfOk result (λ s. s ≡ status.Accepted → IsAtEnd (T.unread wire.new)) }
+    ensures whole { OnOk result (T.is_broken wire.new ≡ T.is_broken wire.old) }
+    ensures device { IsErrOf result Device → T.is_broken wire.new ≡ true }
+    ensures memory { IsErrOf result Memory → T.is_broken wire.new ≡ T.is_broken wire.old }
+{
+    match judge(alloc, text)? {
+        Judged::Accepted(accepted) => {
+            serve_program(alloc, accepted, replicas, first, wire)?;
+            Ok(Status::Accepted)
+        }
+        Judged::Refused(line) => {
+            wire.send(line.as_bytes())?;
+            Ok(Status::Refused)
+        }
+    }
+}
+
+/// Sends the output of an input.
+fn send_output<T: Wire>(
+    alloc: Global,
+    input: &[u8],
+    replicas: u32,
+    wire: &mut T,
+) -> Result<Status, RunFault>
+    requires { (1 ≤ replicas) × (replicas ≤ MAX_REPLICAS) }
+    ensures ok { IfOk result (λ status.
+        WritesOutput (Some input.now) (T.sent wire.old) (T.sent wire.new) Run replicas status) }
+    ensures err { OnErr result
+        (WritesBeginning (Some input.now) (T.sent wire.old) (T.sent wire.new) Run replicas) }
+    ensures kept { T.unread wire.new ≡ T.unread wire.old }
+    ensures whole { OnOk result (T.is_broken wire.new ≡ T.is_broken wire.old) }
+    ensures device { IsErrOf result Device → T.is_broken wire.new ≡ true }
+    ensures memory { IsErrOf result Memory → T.is_broken wire.new ≡ T.is_broken wire.old }
+{
+    let output = output_of(alloc, Verb::Run, replicas, input)?;
+    wire.send(output.text.as_bytes())?;
+    Ok(output.status)
+}
+
+/// Reads the program text, sends the verdict, and then sends the answer line of each command as soon as it has been
+/// read: it waits only where each whole line that was read is answered. A program that is refused ends it, and so does
+/// the end of the input, where a last line without a line feed is answered too. What it sends is what [`crate::run`]
+/// writes for the same input. Numbers of workers and of parts above 1 are to come.
+///
+/// # Errors
+///
+/// `Device` where the wire has failed, and `Memory` where no memory was left and it has not. Nothing, or a beginning of
+/// the input's output is sent then.
+pub fn serve<T: Wire>(alloc: Global, wire: &mut T, settings: Settings) -> Result<Status, RunFault>
+    requires unbroken { T.is_broken wire.old ≡ false }
+    requires limits { IsWithinLimits settings }
+    requires plain { IsPlain settings }
+    requires prompt { (w : T) → AllAnswered (T.unread wire.old) (T.unread w) (T.sent wire.old) (T.sent w)
+        settings.replicas → T.may_wait w }
+    ensures ok { IfOk result (λ status. WritesOutput (T.unread wire.old) (T.sent wire.old) (T.sent wire.new)
+        Run settings.replicas status) }
+    ensures err { OnErr result (WritesBeginning (T.unread wire.old) (T.sent wire.old) (T.sent wire.new)
+        Run settings.replicas) }
+    // Nothing is left to be read of an accepted program's input.
+    ensures end { IfOk result (λ s. s ≡ status.Accepted → IsAtEnd (T.unread wire.new)) }
+    ensures whole { OnOk result (T.is_broken wire.new ≡ false) }
+    ensures device { IsErrOf result Device → T.is_broken wire.new ≡ true }
+    ensures memory { IsErrOf result Memory → T.is_broken wire.new ≡ false }
+{
+    let replicas = settings.replicas;
+    let mut input = Vec::new(alloc);
+    let mut chunk = [0u8; CHUNK];
+    for _turn in 0..u64::MAX {
+        let n = wire.wait(&mut chunk)?;
+        if n == 0 {
+            return send_output(alloc, &input, replicas, wire);
+        }
+        input.extend_from_slice(&chunk[..n])?;
+        if let Some((text, first)) = divided(&input) {
+            return serve_text(alloc, text, replicas, first, wire);
+        }
+        if input.len() > MOST_TEXT {
+            return send_output(alloc, &input, replicas, wire);
+        }
+    }
+    wire.fail();
+    Err(RunFault::Device)
+}

@@ -1,0 +1,54 @@
+//! The explanation of an input's program text.
+
+ghost use Rattle.std.specs.Prelude.{◌≡◌, [], IfOk, IsErrOf};
+ghost use Rattle.std.specs.Io.KnownBytes.{Appends};
+ghost use Rattle.chr_device.specs.declared.fault.RunFault.TheVariants.{Memory};
+ghost use Rattle.chr_report.specs.Wires.{reader_of, writer_of};
+ghost use Rattle.chr_start.specs.Statuses.{EndsAsCheck};
+ghost use Rattle.chr_start.specs.working.Verdicts.{as_status};
+
+use chr_device::{Style, read_all, write_whole};
+use chr_explain::{Manner, Verdict, explain};
+use chr_report::{RunFault, Status, Streams, program_text};
+use std::alloc::Global;
+use std::io::{Read, Write};
+
+/// How an explanation is to be written: a drawing has all that there is in any case.
+fn manner_of(style: Style) -> Manner {
+    match (style.dot, style.all) {
+        (true, _) => Manner::Drawing,
+        (false, true) => Manner::FullText,
+        (false, false) => Manner::Text,
+    }
+}
+
+/// The status of a check with this verdict.
+fn status_of(verdict: Verdict) -> Status
+    ensures { result ≡ as_status verdict }
+{
+    match verdict {
+        Verdict::Accepted => Status::Accepted,
+        Verdict::Refused => Status::Refused,
+    }
+}
+
+/// Reads all of the input, and writes the explanation of its program text.
+///
+/// # Errors
+///
+/// `Device` where the reader or the writer has failed, and `Memory` where no memory was left: nothing is written then.
+#[tactic(auto, using(crate::proofs::RefusedWords::appends_nothing))]
+pub(crate) fn explain_input<R: Read, W: Write>(
+    alloc: Global,
+    streams: &mut Streams<R, W>,
+    style: Style,
+) -> Result<Status, RunFault>
+    ensures ok { IfOk result (EndsAsCheck (R.remaining (reader_of streams.old))) }
+    ensures memory { IsErrOf result Memory → Appends (W.contents (writer_of streams.old))
+        (W.contents (writer_of streams.new)) [] }
+{
+    let input = read_all(alloc, &mut streams.reader)?;
+    let explanation = explain(alloc, program_text(&input), manner_of(style))?;
+    write_whole(&mut streams.writer, explanation.text.as_bytes())?;
+    Ok(status_of(explanation.verdict))
+}
