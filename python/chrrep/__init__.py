@@ -1,0 +1,79 @@
+"""Live nodes of chrrep.
+
+A `Node` is a running `chrrep serve`: it is told operations, shows its store at rest, and exchanges operations with
+other nodes.
+
+    from chrrep import Node
+    with Node(":- chr_constraint coin/0, note/0.  coin, coin <=> note.", origin=1) as node:
+        node.tell(("coin",), ("coin",), ("coin",))
+        print(node.show())  # (('coin',), ('note',))
+
+`check` gives the verdict on a program text. A refusal is an exception, named in `chrrep.refusals`. `chrrep.link` has
+nodes exchange their operations over an engine. Nothing beside the standard library is needed here.
+"""
+
+from .node import Node, check
+from .refusals import (
+    BadByte,
+    BadLine,
+    ChrrepError,
+    Clash,
+    DeclaredTwice,
+    Full,
+    Limit,
+    NodeDied,
+    NoReplica,
+    NotLowered,
+    NumberRange,
+    Overlap,
+    Propagation,
+    Refused,
+    Shape,
+    Syntax,
+    TextFault,
+    TooLong,
+    TooManyTypes,
+    Unbound,
+    Undeclared,
+    Unended,
+    UnknownSymbol,
+    WeightFault,
+)
+from .texts import Atom, Id, Operation, Summary, Verdict, atoms_of, pieces, store_text
+
+__all__ = [
+    "Atom",
+    "BadByte",
+    "BadLine",
+    "ChrrepError",
+    "Clash",
+    "DeclaredTwice",
+    "Full",
+    "Id",
+    "Limit",
+    "NoReplica",
+    "Node",
+    "NodeDied",
+    "NotLowered",
+    "NumberRange",
+    "Operation",
+    "Overlap",
+    "Propagation",
+    "Refused",
+    "Shape",
+    "Summary",
+    "Syntax",
+    "TextFault",
+    "TooLong",
+    "TooManyTypes",
+    "Unbound",
+    "Undeclared",
+    "Unended",
+    "UnknownSymbol",
+    "Verdict",
+    "WeightFault",
+    "atoms_of",
+    "check",
+    "pieces",
+    "store_text",
+]

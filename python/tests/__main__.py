@@ -1,0 +1,43 @@
+"""Runs the tests of the package, and counts them on the last line.
+
+    python3 python/tests            those of texts and of nodes; CHRREP names the program
+    python3 python/tests engines    those of exchange over Redis and PostgreSQL, which they start on this machine
+"""
+
+import sys
+import unittest
+from pathlib import Path
+
+HERE = Path(__file__).resolve().parent
+KINDS = {"node": ("test_texts", "test_node"), "engines": ("test_links",)}
+
+
+class Counted(unittest.TextTestResult):
+    """A result that counts the tests that passed."""
+
+    passed = 0
+
+    def addSuccess(self, test: unittest.TestCase) -> None:  # noqa: N802
+        super().addSuccess(test)
+        self.passed += 1
+
+
+def main() -> int:
+    kind = sys.argv[1] if len(sys.argv) > 1 else "node"
+    if len(sys.argv) > 2 or kind not in KINDS:
+        print(__doc__, file=sys.stderr)
+        return 2
+    sys.dont_write_bytecode = True
+    sys.path[:0] = [str(HERE.parent), str(HERE)]
+    tests = unittest.defaultTestLoader.loadTestsFromNames(KINDS[kind])
+    runner = unittest.TextTestRunner(stream=sys.stdout, verbosity=2, resultclass=Counted)
+    result = runner.run(tests)
+    # a test whose parts fail is one
+    bad = {getattr(test, "test_case", test).id() for test, _ in (*result.errors, *result.failures)}
+    failed = max(result.testsRun - result.passed, len(bad))
+    print(f"{result.passed} passed, {failed} failed", flush=True)
+    return 1 if failed or not result.passed else 0
+
+
+if __name__ == "__main__":
+    sys.exit(main())

@@ -1,0 +1,25 @@
+"""Programs for the tests, and what `chrrep run` says of them."""
+
+import subprocess
+from collections.abc import Iterable
+
+from chrrep import Atom, Operation, atoms_of, pieces
+from chrrep.node import program_path
+from chrrep.texts import line_of, text_bytes
+
+COINS = ":- chr_constraint coin/0, note/0.\ncoin, coin <=> note.\n"
+PATHS = ":- chr_constraint path/3.\nshorter @ path(X,Y,D) \\ path(X,Y,E) <=> D =< E | true.\n"
+PLAIN = ":- chr_constraint a/1.\n"
+
+
+def answers(program: str, lines: Iterable[object]) -> list[str]:
+    """What a run writes for the program and these commands."""
+    text = text_bytes(program) + b"\n---\n" + b"".join(map(line_of, lines))
+    ended = subprocess.run([program_path(), "run"], input=text, stdout=subprocess.PIPE, check=True)
+    return ended.stdout.decode().splitlines()
+
+
+def store_of(program: str, operations: Iterable[Operation]) -> tuple[Atom, ...]:
+    """The store of a run that is told all these operations."""
+    tells = [["merge", 1, part] for part in pieces(operations)]
+    return atoms_of(answers(program, [*tells, ["show", 1]])[-1])

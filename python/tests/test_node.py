@@ -1,0 +1,388 @@
+"""Nodes as processes: what they answer, what they refuse, and how they end."""
+
+import os
+import random
+import signal
+import stat
+import subprocess
+import sys
+import tempfile
+import threading
+import time
+import unittest
+from pathlib import Path
+from typing import Any
+
+import chrrep
+from chrrep import Id, Node, NodeDied, Operation, check, pieces
+from chrrep.texts import LINE_LIMIT
+from programs import COINS, PATHS, PLAIN, store_of
+
+SECONDS = 20.0
+"""Far longer than any call here takes."""
+
+TOLD_LIMIT = 1_000_000
+OPERATION_ATOMS = 64
+
+
+def is_running(pid: int) -> bool:
+    """Whether there is a process of this id, a dead one that nobody waited for included."""
+    try:
+        os.kill(pid, 0)
+    except ProcessLookupError:
+        return False
+    return True
+
+
+def has_ended(pid: int) -> bool:
+    """Whether the process is gone, or dead and waits to be noticed by whoever took it over."""
+    try:
+        state = Path(f"/proc/{pid}/stat").read_text().rpartition(")")[2].split()[0]
+    except (FileNotFoundError, ProcessLookupError):
+        return True
+    return state in "ZX"
+
+
+class Answers(unittest.TestCase):
+    def test_a_store_comes_to_rest(self) -> None:
+        with Node(COINS, 1) as node:
+            self.assertEqual(node.verdict, chrrep.Verdict(1, 6))
+            self.assertEqual(node.show(), ())
+            self.assertEqual(node.tell(*[("coin",)] * 5), Id(1, 1))
+            self.assertEqual(node.show(), (("coin",), ("note",), ("note",)))
+            self.assertEqual(node.tell(("coin",)), Id(1, 2))
+            self.assertEqual(list(node), [("note",)] * 3)
+
+    def test_nodes_exchange_what_they_lack(self) -> None:
+        with Node(PATHS, 1) as left, Node(PATHS, 2) as right:
+            left.tell(("path", 1, 2, 7), ("path", 1, 3, 4))
+            right.tell(("path", 1, 2, 5))
+            right.tell(("path", 2, 3, -1))
+            self.assertEqual(left.summary(), ((1, ((1, 1),)),))
+            delta = right.lacks(left.summary())
+            self.assertEqual(
+                delta, (Operation(Id(2, 1), (("path", 1, 2, 5),)), Operation(Id(2, 2), (("path", 2, 3, -1),)))
+            )
+            self.assertEqual(left.merge(delta), 2)
+            self.assertEqual(left.merge(delta), 0)
+            self.assertEqual(right.merge(left.lacks(right.summary())), 1)
+            self.assertEqual(left.summary(), ((1, ((1, 1),)), (2, ((1, 2),))))
+            self.assertEqual(left.show(), (("path", 1, 2, 5), ("path", 1, 3, 4), ("path", 2, 3, -1)))
+            self.assertEqual(left.show(), right.show())
+            self.assertEqual(left.lacks(right.summary()), ())
+
+    def test_rows_of_exchange(self) -> None:
+        with Node(PLAIN, 1) as node:
+            held = Operation(Id(5, 9), (("a", 2), ("a", -1)))
+            self.assertEqual(node.merge([held]), 1)
+            self.assertEqual(node.summary(), ((5, ((9, 9),)),))
+            self.assertEqual(node.lacks(()), (Operation(Id(5, 9), (("a", -1), ("a", 2))),))
+            self.assertEqual(node.lacks(((5, ((0, 2**64 - 1),)),)), ())
+            with self.assertRaises(chrrep.Shape):
+                node.lacks(((5, ((10, 9),)),))
+            self.assertEqual(node.merge([]), 0)
+            self.assertEqual(node.merge([held]), 0)
+            again = Operation(Id(5, 10), (("a", 0),))
+            self.assertEqual(node.merge([again, again]), 1)
+
+    def test_numbers_go_on_after_own_operations_came_back(self) -> None:
+        with Node(PLAIN, 7) as first, Node(PLAIN, 7) as second:
+            for value in range(3):
+                first.tell(("a", value))
+            second.merge(first.lacks(second.summary()))
+            self.assertEqual(second.next_id, Id(7, 4))
+            self.assertEqual(second.tell(("a", 3)), Id(7, 4))
+            second.merge([Operation(Id(8, 100), (("a", 4),))])
+            self.assertEqual(second.tell(("a", 5)), Id(7, 5))
+
+    def test_lists_are_taken_as_json_gives_them(self) -> None:
+        delta: Any = [[[2, 1], [["a", 1], ["a", 2]]]]
+        with Node(PLAIN, 1) as node:
+            self.assertEqual(node.merge(delta), 1)
+            summary: Any = [[1, [[1, 1]]]]
+            self.assertEqual(node.lacks(summary), (Operation(Id(2, 1), (("a", 1), ("a", 2))),))
+
+    def test_any_order_gives_the_store_of_one_run(self) -> None:
+        chance = random.Random(19)
+        told = [
+            Operation(
+                Id(origin, number),
+                tuple(("path", chance.randrange(9), chance.randrange(9), chance.randrange(-50, 50)) for _ in range(3)),
+            )
+            for origin in range(1, 6)
+            for number in range(1, 61)
+        ]
+        wanted = store_of(PATHS, told)
+        for _ in range(3):
+            chance.shuffle(told)
+            with Node(PATHS, 1) as node:
+                for at in range(0, len(told), 50):
+                    node.merge(told[at : at + 50] + chance.choices(told[: at + 50], k=10))
+                    if chance.random() < 0.5:
+                        node.show()
+                self.assertEqual(node.show(), wanted)
+
+    def test_threads_share_a_node(self) -> None:
+        ids: list[Id] = []
+        with Node(PLAIN, 1) as node:
+
+            def tell(place: int) -> None:
+                for value in range(50):
+                    ids.append(node.tell(("a", 50 * place + value)))
+
+            threads = [threading.Thread(target=tell, args=(place,)) for place in range(8)]
+            for thread in threads:
+                thread.start()
+            for thread in threads:
+                thread.join(SECONDS)
+            self.assertEqual(sorted(ids), [Id(1, number) for number in range(1, 401)])
+            self.assertEqual(node.show(), tuple(("a", value) for value in range(400)))
+
+
+class Refusals(unittest.TestCase):
+    def refuses(self, node: Node, kind: type[chrrep.Refused], call: Any, *values: Any) -> None:
+        """The call is refused, and the node holds and shows what it did."""
+        before = (node.summary(), node.show(), node.next_id)
+        with self.assertRaises(kind) as raised:
+            call(*values)
+        self.assertIs(type(raised.exception), kind)
+        self.assertEqual((node.summary(), node.show(), node.next_id), before)
+
+    def test_lines_that_are_refused_change_nothing(self) -> None:
+        with Node(PLAIN, 1) as node:
+            node.tell(("a", 1))
+            for kind, atoms in (
+                (chrrep.BadLine, [("a", float("nan"))]),
+                (chrrep.Shape, []),
+                (chrrep.Shape, [("a", 1)] * 65),
+                (chrrep.Shape, [("a", 1.5)]),
+                (chrrep.Shape, [("a", True)]),
+                (chrrep.Shape, [("a", 2**63)]),
+                (chrrep.Shape, [(3,)]),
+                (chrrep.UnknownSymbol, [("a",)]),
+                (chrrep.UnknownSymbol, [("a", 1), ("b", 1)]),
+                (chrrep.UnknownSymbol, [("\n", 1)]),
+            ):
+                with self.subTest(atoms=atoms):
+                    self.refuses(node, kind, node.tell, *atoms)
+                    self.refuses(node, kind, node.admit, *atoms)
+            node.admit(("a", 5))
+            self.assertEqual(node.show(), (("a", 1),))
+            self.assertEqual(node.tell(("a", 2)), Id(1, 2))
+
+    def test_merges_are_taken_in_whole_or_not(self) -> None:
+        with Node(PLAIN, 1) as node:
+            node.tell(("a", 1))
+            new = Operation(Id(2, 1), (("a", 2),))
+            other = Operation(Id(1, 1), (("a", 3),))
+            self.refuses(node, chrrep.Clash, node.merge, [new, other])
+            self.refuses(node, chrrep.Clash, node.merge, [new, new._replace(atoms=(("a", 4),))])
+            self.refuses(node, chrrep.UnknownSymbol, node.merge, [new, Operation(Id(1, 5), (("b",),))])
+            self.refuses(node, chrrep.Shape, node.merge, [new, Operation(Id(1, 5), ())])
+            self.refuses(node, chrrep.Shape, node.merge, [new, Operation(Id(2**32, 5), (("a", 1),))])
+            self.assertEqual(node.merge([new]), 1)
+
+    def test_a_long_delta_goes_in_pieces(self) -> None:
+        atoms = tuple(("a", -(10**18) - value) for value in range(OPERATION_ATOMS))
+        delta = [Operation(Id(2, number), atoms) for number in range(1, 1 + LINE_LIMIT // (25 * OPERATION_ATOMS) + 50)]
+        with Node(PLAIN, 1) as node:
+            self.refuses(node, chrrep.BadLine, node.merge, delta)
+            parts = list(pieces(delta))
+            self.assertEqual(len(parts), 2)
+            self.assertEqual(sum(map(node.merge, parts)), len(delta))
+
+    def test_the_limit_of_told_atoms(self) -> None:
+        atoms = (("a", 1),) * OPERATION_ATOMS
+        whole = [Operation(Id(2, number), atoms) for number in range(1, TOLD_LIMIT // OPERATION_ATOMS)]
+        with Node(":- chr_constraint a/1.\na(X) \\ a(Y) <=> X =< Y | true.\n", 1) as node:
+            for part in pieces(whole):
+                node.merge(part)
+            # the limit is a multiple of an operation's
+            self.assertEqual(node.tell(*atoms), Id(1, 1))
+            self.refuses(node, chrrep.Full, node.tell, ("a", 1))
+            self.assertEqual(node.show(), (("a", 1),))
+
+    def test_values_without_json_never_leave(self) -> None:
+        with Node(PLAIN, 1) as node:
+            for value in (object(), {1}, b"1"):
+                with self.subTest(value=value), self.assertRaises(TypeError):
+                    node.tell(("a", value))  # type: ignore[arg-type]
+            self.assertEqual(node.tell(("a", 1)), Id(1, 1))
+
+    def test_an_origin_out_of_range(self) -> None:
+        with Node(PLAIN, 2**32) as node:
+            self.refuses(node, chrrep.Shape, node.tell, ("a", 1))
+
+
+PROGRAMS: list[tuple[type[chrrep.Refused], str | bytes, dict[str, Any]]] = [
+    (chrrep.BadByte, "a\u00e9.", {"clause": 1}),
+    (chrrep.TooLong, " " * 70_000, {"clause": None}),
+    (chrrep.Syntax, ":- chr_constraint a/0. a <=> fail.", {"clause": 2}),
+    (chrrep.Propagation, ":- chr_constraint a/0. a ==> true.", {"clause": 2}),
+    (chrrep.Undeclared, ":- chr_constraint a/1. a(X) <=> b(X).", {"clause": 2}),
+    (chrrep.DeclaredTwice, ":- chr_constraint a/1, a/1.", {"clause": 1}),
+    (chrrep.Limit, ":- chr_constraint a/7.", {"clause": 1}),
+    (chrrep.Unbound, ":- chr_constraint a/1. a(X) <=> Y > 1 | true.", {"clause": 2}),
+    (chrrep.NumberRange, ":- chr_constraint a/1. a(9223372036854775808) <=> true.", {"clause": 2}),
+    (chrrep.WeightFault, ":- chr_constraint a/0. :- chr_weight a/0 = 0.", {"clause": 2}),
+    (chrrep.Unended, ":- chr_constraint a/0. a <=> true", {"clause": 2}),
+    (
+        chrrep.NotLowered,
+        ":- chr_constraint a/0, b/0. :- chr_weight b/0 = 2. a <=> b.",
+        {"rule": 1, "before": (1,), "after": (2,)},
+    ),
+    (
+        chrrep.Overlap,
+        ":- chr_constraint throw/0, head/0, tail/0. :- chr_weight throw/0 = 2. throw <=> head. throw <=> tail.",
+        {
+            "rules": (1, 2),
+            "matching": (1,),
+            "store": (("throw",),),
+            "left": (("head",),),
+            "right": (("tail",),),
+        },
+    ),
+    (
+        chrrep.TooManyTypes,
+        ":- chr_constraint a/4. a(A,B,C,D) \\ a(E,F,G,H), a(I,J,K,L) <=> true.",
+        {"rules": (1, 1)},
+    ),
+    # a line that ends the text where it is sent is a fault within it
+    (chrrep.Syntax, PLAIN + "---\n" + ":- chr_constraint b/1.\n", {"clause": 2}),
+    (chrrep.Syntax, PLAIN + '---\r\n["tell",1,[1,1],[["a",1]]]\n.', {"clause": 2}),
+    (chrrep.Unended, PLAIN + "---", {"clause": 2}),
+]
+
+
+class Programs(unittest.TestCase):
+    def refusal(self, kind: type[chrrep.Refused], call: Any, program: str | bytes) -> chrrep.Refused:
+        with self.assertRaises(kind) as raised:
+            call(program)
+        self.assertIs(type(raised.exception), kind)
+        return raised.exception
+
+    def test_refused_programs(self) -> None:
+        for kind, program, case in PROGRAMS:
+            with self.subTest(program=program[:60]):
+                for call in (check, lambda text: Node(text, 1)):
+                    refusal = self.refusal(kind, call, program)
+                    self.assertEqual({name: getattr(refusal, name) for name in case}, case)
+
+    def test_accepted_programs(self) -> None:
+        self.assertEqual(check(PATHS), chrrep.Verdict(1, 541))
+        texts = ("", "% a. b", b"% \xff \n", PATHS.rstrip(), PATHS.replace("\n", "\r\n"), "%---\n  % ---\n" + PATHS)
+        for program in texts:
+            with self.subTest(program=program), Node(program, 1) as node:
+                self.assertEqual(node.verdict, check(program))
+                self.assertEqual(node.show(), ())
+
+
+class Ends(unittest.TestCase):
+    def test_leaving_ends_the_process(self) -> None:
+        with Node(PLAIN, 1) as node:
+            self.assertTrue(is_running(node.pid))
+        self.assertFalse(is_running(node.pid))
+        node.close()
+        with self.assertRaisesRegex(NodeDied, "closed"):
+            node.show()
+
+    def test_a_fault_of_the_user_ends_the_process(self) -> None:
+        with self.assertRaises(ZeroDivisionError), Node(PLAIN, 1) as node:
+            raise ZeroDivisionError
+        self.assertFalse(is_running(node.pid))
+
+    def test_a_killed_node_is_an_exception(self) -> None:
+        with Node(PLAIN, 1) as node:
+            node.tell(("a", 1))
+            os.kill(node.pid, signal.SIGKILL)
+            for call in (node.show, node.summary, lambda: node.tell(("a", 2))):
+                with self.assertRaises(NodeDied) as raised:
+                    call()
+                self.assertEqual(raised.exception.status, -signal.SIGKILL)
+            self.assertFalse(is_running(node.pid))
+
+    def test_a_node_ends_with_its_user(self) -> None:
+        script = f"from chrrep import Node\nnode = Node({PLAIN!r}, 1)\nprint(node.pid, flush=True)\ninput()"
+        path = str(Path(chrrep.__file__).resolve().parents[1])
+        with subprocess.Popen(
+            [sys.executable, "-B", "-c", script],
+            stdin=subprocess.PIPE,
+            stdout=subprocess.PIPE,
+            env={**os.environ, "PYTHONPATH": path},
+        ) as user:
+            assert user.stdout
+            pid = int(user.stdout.readline())
+            self.assertFalse(has_ended(pid))
+            user.kill()
+        end = time.monotonic() + SECONDS
+        while not has_ended(pid) and time.monotonic() < end:
+            time.sleep(0.05)
+        self.assertTrue(has_ended(pid))
+
+    def test_a_node_that_is_killed_at_any_moment(self) -> None:
+        chance = random.Random(4)
+        for _ in range(8):
+            with Node(PLAIN, 1) as node:
+                killer = threading.Timer(chance.random() / 50, os.kill, (node.pid, signal.SIGKILL))
+                killer.start()
+                told = 0
+                end = time.monotonic() + SECONDS
+                with self.assertRaises(NodeDied):
+                    while time.monotonic() < end:
+                        told = node.tell(("a", told)).number
+                killer.join()
+            self.assertFalse(is_running(node.pid))
+
+
+class Stand(unittest.TestCase):
+    """Programs that stand in for a faulty one."""
+
+    def program(self, script: str) -> str:
+        room = tempfile.TemporaryDirectory()
+        self.addCleanup(room.cleanup)
+        path = Path(room.name) / "program"
+        path.write_text("#!/bin/sh\n" + script)
+        path.chmod(path.stat().st_mode | stat.S_IXUSR)
+        return str(path)
+
+    def dies(self, script: str, status: int | None) -> None:
+        with self.assertRaises(NodeDied) as raised, Node(PLAIN, 1, chrrep=self.program(script)) as node:
+            node.show()
+        self.assertEqual(raised.exception.status, status)
+
+    def test_programs_that_end_early(self) -> None:
+        verdict = "echo accepted: rules 0, cases 0\n"
+        self.dies("exit 2", 2)
+        self.dies("exec <&-; exit 4", 4)
+        self.dies("printf accepted:; exit 3", 3)
+        self.dies(verdict + "exit 0", 0)
+        self.dies(verdict + "read text; read end; read line; printf 'a(1), a(2'; exit 3", 3)
+        self.dies(verdict + "kill -KILL $$", -signal.SIGKILL)
+
+    def test_a_check_without_a_verdict(self) -> None:
+        for script in ("exit 4", "exit 0", "printf accepted:; exit 3"):
+            with self.subTest(script), self.assertRaises(NodeDied):
+                check(PLAIN, chrrep=self.program(script))
+
+    def test_no_program(self) -> None:
+        with self.assertRaises(FileNotFoundError):
+            Node(PLAIN, 1, chrrep="/nowhere/chrrep")
+
+    def test_an_interrupted_call_ends_the_node(self) -> None:
+        class Interrupt(Exception):
+            pass
+
+        def interrupt(*_: object) -> None:
+            raise Interrupt
+
+        before = signal.signal(signal.SIGALRM, interrupt)
+        self.addCleanup(signal.signal, signal.SIGALRM, before)
+        # answers once, late: what it says must not be taken for the next answer
+        script = "echo accepted: rules 0, cases 0\nread text; read end; read line; exec sleep 60"
+        with Node(PLAIN, 1, chrrep=self.program(script)) as node:
+            signal.setitimer(signal.ITIMER_REAL, 0.2)
+            with self.assertRaises(Interrupt):
+                node.show()
+            self.assertFalse(is_running(node.pid))
+            with self.assertRaisesRegex(NodeDied, "interrupted"):
+                node.show()
