@@ -11,7 +11,7 @@ use chr_base::derivation::Step;
 use chr_base::program::Program;
 use chr_base::rule::Rule;
 use chr_base::term::{Cmp, Comparison, Pattern, Term};
-use chr_join::{Accepted, accept};
+use chr_join::{Accepted, Coverage, accept};
 use chr_ops::{Added, Op, OpId};
 use chr_replica::{Board, Refusal};
 use chr_weights::weigh;
@@ -72,7 +72,7 @@ fn accepted(rt: &impl Abort, alloc: Global) -> Result<Arc<Accepted>, AllocError>
     let Ok(weighed) = weigh(minimum(alloc)?) else {
         panic!(rt; "it does not lower");
     };
-    let Ok(accepted) = accept(alloc, weighed) else {
+    let Ok(accepted) = accept(alloc, weighed, Coverage::Joint) else {
         panic!(rt; "it is refused");
     };
     let Ok(shared) = Arc::new(alloc, accepted) else {

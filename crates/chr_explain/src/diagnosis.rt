@@ -12,7 +12,7 @@ use crate::faults::{TextFaults, text_faults};
 use crate::stores::first_stores;
 use chr_base::bag::Bag;
 use chr_base::program::Program;
-use chr_join::{Accepted, Cause, Failure, Refused, TooManyTypes, accept};
+use chr_join::{Accepted, Cause, Coverage, Failure, Refused, TooManyTypes, accept};
 use chr_overlaps::cases::cases;
 use chr_overlaps::{CaseFault, Overlap, overlaps};
 use chr_read::{ReadFault, read};
@@ -162,7 +162,7 @@ fn refused_diagnosis(alloc: Global, refused: Refused) -> Result<Diagnosis, Alloc
 fn weighed_diagnosis(alloc: Global, weighed: Weighed) -> Result<Diagnosis, AllocError>
     ensures { IfOk result (IsDiagnosisOf (program_of weighed)) }
 {
-    match accept(alloc, weighed) {
+    match accept(alloc, weighed, Coverage::Joint) {
         Ok(accepted) => {
             let counts = all_counted(alloc, accepted.weighed())?;
             Ok(Diagnosis::Accepted(Census { accepted, counts }))

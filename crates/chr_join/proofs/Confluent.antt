@@ -4,6 +4,7 @@ use Rattle.std.specs.Prelude.{◌≡◌, ℕ, ◌-◌, List, [], ◌∷◌, ◌+
 use Rattle.std.specs.List.{All}
 use Rattle.std.proofs.Common.{refl, sym, subst, ◌∙◌, arith, inl, inr}
 use Rattle.std.proofs.lemmas.Option.{same_Some}
+use Rattle.chr_base.specs.declared.atom.Atom.{Atom}
 use Rattle.chr_base.specs.declared.rule.Rule.{Rule}
 use Rattle.chr_base.specs.declared.derivation.Step.{Step as StepValue}
 use Rattle.chr_base.specs.Stores.{Store}
@@ -13,6 +14,7 @@ use Rattle.chr_rewrite.proofs.DerivationLemmas.{StepOn-once, plain_reaches, plai
 use Rattle.chr_types.specs.OrderTypes.{In}
 use Rattle.chr_confluence.specs.Cases.{side}
 use Rattle.chr_confluence.specs.Confluence.{Confluent}
+use Rattle.chr_confluence.specs.Lowering.{RulesLower}
 use Rattle.chr_confluence.specs.Unifiers.{HasNoUnifier}
 use Rattle.chr_confluence.specs.Overlaps.{IsMatching, equations_of}
 use Rattle.chr_confluence.specs.Representatives.{left_at, right_at, guards_hold}
@@ -27,8 +29,10 @@ use Rattle.chr_join.specs.Verdicts.{HasJoinableCases, IsAccepted, IsFirstCase}
 use Rattle.chr_join.specs.declared.refused.Failure.{Failure}
 use Rattle.chr_join.specs.declared.refused.Cause.{Cause}
 use Rattle.chr_join.specs.declared.refused.Cause.TheVariants as cause
-use Rattle.chr_join.specs.Explanations.{Explains, IsRefusal, IfFails}
-use Rattle.chr_join.specs.Once.{AcceptedAreConfluent}
+use Rattle.chr_join.specs.Explanations.{Explains, IsRefusal, IsRefusalBy, IfFails}
+use Rattle.chr_join.specs.Once.{RefusedAreNotConfluent}
+use Rattle.chr_join.specs.declared.coverage.Coverage.{Coverage}
+use Rattle.chr_join.specs.declared.coverage.Coverage.TheVariants.{Joint}
 use Rattle.chr_join.proofs.Lists.{in_middle, all_in, picked, placed}
 use Rattle.chr_join.proofs.CaseSteps.{CaseLaws, matching_at}
 use Rattle.chr_join.proofs.Verdicts.{joinable_in}
@@ -68,7 +72,7 @@ pub accepted_joins : CaseLaws → (rules : List Rule) (n : ℕ) → IsAccepted r
 accepted_joins laws rules n h i j r1 r2 first second ordered m is =
     let found = overlap_listed rules h.overlaps h.listed i j m (record { rule1 = r1; rule2 = r2; first = first; second = second; ordered = ordered; matching = is }) in
     let o = found.0 in
-    let joinable = joinable_in rules h.overlaps n o h.joinable found.1 in
+    let joinable = joinable_in Joint rules h.overlaps n o h.joinable found.1 in
     let a = found.2 in let b = found.3 in
     let place1 : i ≡ o.first - 1 = omega (arith, a) in
     let place2 : j ≡ o.second - 1 = omega (arith, b) in
@@ -85,12 +89,12 @@ accepted_joins laws rules n h i j r1 r2 first second ordered m is =
           | inr l ↦ listed_joins laws rules o r1 r2 m f s e is cj.cases l cj.joinable
         ]
 
--- Accepted rules that lower a weight are confluent.
-pub accepted_confluent : ListedMakeConfluent → CaseLaws → AcceptedAreConfluent
-accepted_confluent law laws rules w n lowers h = law rules w lowers (accepted_joins laws rules n h)
+-- Rules that are accepted by joint cases, and lower a weight, are confluent.
+pub joint_confluent : ListedMakeConfluent → CaseLaws → (rules : List Rule) (w : Atom → ℕ) (n : ℕ) → RulesLower w rules → IsAccepted rules n → Confluent rules
+joint_confluent law laws rules w n lowers h = law rules w lowers (accepted_joins laws rules n h)
 
 -- A case that fails refutes confluence.
-failing_refutes : FailingListedRefutes → CaseLaws → (rules : List Rule) (f : Failure) → IsRefusal rules (cause.Fails f) → ¬ (Confluent rules)
+pub failing_refutes : FailingListedRefutes → CaseLaws → (rules : List Rule) (f : Failure) → IsRefusal rules (cause.Fails f) → ¬ (Confluent rules)
 failing_refutes law laws rules f h = by first.listed.listed
   where
     c : Case
@@ -129,7 +133,7 @@ failing_refutes law laws rules f h = by first.listed.listed
         (plain_normal rules e.left.rest _ f.left_end (subst (λ y. IsPlainComputation rules e.left.rest y f.left_end) left e.left.runs.2))
         (plain_normal rules e.right.rest _ f.right_end (subst (λ y. IsPlainComputation rules e.right.rest y f.right_end) right e.right.runs.2)) e.differ
 
-pub refusal_refutes : FailingListedRefutes → CaseLaws → (rules : List Rule) (e : Cause) → IsRefusal rules e → IfFails e (λ _. ¬ (Confluent rules))
-refusal_refutes law laws rules (cause.Fails f) h = failing_refutes law laws rules f h
-refusal_refutes law laws rules (cause.TooManyTypes t) h = tt
-refusal_refutes law laws rules cause.Memory h = tt
+pub refusal_refutes : RefusedAreNotConfluent → (coverage : Coverage) (rules : List Rule) (e : Cause) → IsRefusalBy coverage rules e → IfFails e (λ _. ¬ (Confluent rules))
+refusal_refutes law coverage rules (cause.Fails f) h = law coverage rules f h
+refusal_refutes law coverage rules (cause.TooManyTypes t) h = tt
+refusal_refutes law coverage rules cause.Memory h = tt

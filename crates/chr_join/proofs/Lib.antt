@@ -4,6 +4,7 @@ pub mod Lists
 pub mod Verdicts
 pub mod Confluent
 pub mod OnceLists
+pub mod CoverageLists
 pub mod OnceVerdicts
 mod RestedParts
 pub mod VerdictThere

@@ -47,7 +47,7 @@ one_overlaps rules os ps a b =
 -- ---- cases
 
 -- classes that solve equations show a valuation that meets them
-solved_meet : (σ : Substitution) (es : List (Term × Term)) → IsMostGeneralUnifier σ es → HasNoUnifier es → ⊥
+pub solved_meet : (σ : Substitution) (es : List (Term × Term)) → IsMostGeneralUnifier σ es → HasNoUnifier es → ⊥
 solved_meet σ es solves none = none (spread σ (λ _. pos 0)) (solves.met (spread σ (λ _. pos 0)) (spread_constant σ (λ _. pos 0) solves.classes))
 
 one_listed : (rules : List Rule) (o : Overlap) (r1 r2 : Rule) (cs ds : List Case) → AreListed rules o r1 r2 cs → AreListed rules o r1 r2 ds → cs ≡ ds

@@ -10,9 +10,10 @@ use Rattle.chr_base.specs.Rules.{StepOn}
 use Rattle.chr_rewrite.specs.Derivations.{IsApplicable, LeadsTo, IsDerivation, IsPlainComputation}
 use Rattle.chr_rewrite.proofs.DerivationLemmas.{LeadsTo-once, plain_once, plain_replays}
 use Rattle.chr_base.specs.declared.derivation.Derivation.{Derivation}
+use Rattle.chr_join.specs.declared.coverage.Coverage.{Coverage}
 use Rattle.chr_join.specs.declared.refused.Cause.{Cause}
 use Rattle.chr_join.specs.declared.refused.Cause.TheVariants as cause
-use Rattle.chr_join.specs.Explanations.{IsSideOf, IsRefusal, IfFails, ReplaysToRest, ReplaysApart}
+use Rattle.chr_join.specs.Explanations.{IsSideOf, IsRefusalBy, IfFails, ReplaysToRest, ReplaysApart}
 use Rattle.chr_overlaps.specs.declared.cases.Case.{Case}
 use Rattle.chr_confluence.specs.Lowering.{RulesLower}
 use Rattle.chr_rewrite.proofs.PlainThere.{plain_there}
@@ -61,8 +62,8 @@ side_replays rules s st d t h = (
   h.runs.2.1,
 )
 
-pub failing_replays : (rules : List Rule) (e : Cause) → IsRefusal rules e → IfFails e (ReplaysApart rules)
-failing_replays rules (cause.Fails f) h =
+pub failing_replays : (coverage : Coverage) (rules : List Rule) (e : Cause) → IsRefusalBy coverage rules e → IfFails e (ReplaysApart rules)
+failing_replays coverage rules (cause.Fails f) h =
     let c = h.1.case in
     let x = h.1.explains in
     record {
@@ -71,5 +72,5 @@ failing_replays rules (cause.Fails f) h =
       right = side_replays rules c.store c.right f.right f.right_end x.right;
       differ = x.differ;
     }
-failing_replays rules (cause.TooManyTypes t) h = tt
-failing_replays rules cause.Memory h = tt
+failing_replays coverage rules (cause.TooManyTypes t) h = tt
+failing_replays coverage rules cause.Memory h = tt

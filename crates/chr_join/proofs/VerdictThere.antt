@@ -25,6 +25,7 @@ use Rattle.chr_confluence.specs.Representatives.{guards_hold, left_at, right_at}
 use Rattle.chr_confluence.specs.Unifiers.{HasNoUnifier}
 use Rattle.chr_confluence.proofs.CaseSteps as confluence
 use Rattle.chr_confluence.proofs.Listed.{listed_case}
+use Rattle.chr_sorts.proofs.SortedCases.{sorted_case}
 use Rattle.chr_overlaps.specs.declared.overlap.Overlap.{Overlap}
 use Rattle.chr_overlaps.specs.declared.cases.Case.{Case}
 use Rattle.chr_overlaps.specs.CaseLists.{case_at, AreCases, AreListed, IsTooMany}
@@ -35,6 +36,7 @@ use Rattle.chr_weights.proofs.Ranks.{lowers_rank, rank_in, ranks_bounded, store_
 use Rattle.chr_rewrite.specs.Derivations.{IsApplicable}
 use Rattle.chr_rewrite.proofs.DerivationLemmas.{LeadsTo-steps}
 use Rattle.chr_rewrite.proofs.PlainThere.{leads_on, plain_few, plain_there}
+use Rattle.chr_join.specs.declared.coverage.Coverage.TheVariants.{Joint}
 use Rattle.chr_join.specs.declared.refused.Cause.{Cause}
 use Rattle.chr_join.specs.declared.refused.Cause.TheVariants as cause
 use Rattle.chr_join.specs.declared.refused.Failure.{Failure}
@@ -50,6 +52,7 @@ use Rattle.chr_base.proofs.SameStores.{same_or}
 case_laws : CaseLaws
 case_laws = record {
   cases = listed_case;
+  sorted = sorted_case;
   left = λ r1 r2 m v1 v2 case. confluence.left_step r1 r2 m v1 v2 case;
   right = λ r1 r2 m v1 v2 case. confluence.right_step r1 r2 m v1 v2 case;
 }
@@ -177,7 +180,7 @@ module _ (rules : List Rule) (w : Atom → ℕ) (lowers : RulesLower w rules) (l
       over cs is (inr x) = inr (first_case o cs is x)
 
       by : HasCases rules o → Joins o ⊎ Refuses o
-      by (inl c) = over c.0 c.1 (first_of (IsJoinable rules) (Unjoined o) c.0 (λ x i. case_or o x (listed_few rules o c.0 c.1 x i) (case_steps case_laws rules o c.0 h c.1 x i)))
+      by (inl c) = over c.0 c.1 (first_of (IsJoinable rules) (Unjoined o) c.0 (λ x i. case_or o x (listed_few rules o c.0 c.1 x i) (case_steps case_laws Joint rules o c.0 h c.1 x i)))
       by (inr m) = inr (inr m)
 
   -- how many cases all of them have

@@ -1,5 +1,5 @@
 -- What visits of all representatives of an overlap have found: all its cases are joinable, or the first that is not.
-use Rattle.std.specs.Prelude.{◌≡◌, ℕ, ℤ, ◌+◌, ◌<◌, ◌≤◌, ◌^◌, ◌⊎◌, Bool, true, false, cond, nat_lt, List, [], ◌∷◌, ◌++◌, length, map, Option, Some, None}
+use Rattle.std.specs.Prelude.{◌≡◌, ℕ, ℤ, ◌+◌, ◌<◌, ◌≤◌, ◌^◌, ◌⊎◌, Bool, true, false, cond, nat_lt, List, [], ◌∷◌, ◌++◌, length, map, Option, Some, None, Result, Ok, Err, IfOk, IfErr}
 use Rattle.std.specs.List.{All, filter}
 use Rattle.std.proofs.Common.{refl, sym, ap, subst, ◌∙◌, arith, inl, inr}
 use Rattle.std.proofs.lemmas.List.Elements.{All-cons, All-nil}
@@ -9,7 +9,18 @@ use Rattle.chr_weights.specs.WeighedPrograms.{rules_in}
 use Rattle.chr_types.specs.Visits.{are_admitted, Visited}
 use Rattle.chr_overlaps.specs.working.Beginnings.{all_may_hold}
 use Rattle.chr_overlaps.proofs.Beginnings.{guards_admitted, filter_within}
+use Rattle.chr_confluence.specs.Overlaps.{equations_of}
 use Rattle.chr_confluence.specs.Representatives.{guards_hold}
+use Rattle.chr_confluence.specs.Unifiers.{IsMostGeneralUnifier}
+use Rattle.chr_confluence.specs.laws.ListedCases.{ListedAreCases}
+use Rattle.chr_confluence.specs.laws.Peaks.{LeftSideIsStep, RightSideIsStep}
+use Rattle.chr_sorts.specs.Sorts.{Sorts}
+use Rattle.chr_sorts.specs.SortedCases.{all_equations, class_sorts}
+use Rattle.chr_sorts.specs.laws.SortedCases.{SortedAreCases}
+use Rattle.chr_overlaps.specs.declared.overlap.Overlap.{Overlap}
+use Rattle.chr_overlaps.specs.declared.unify.Unified.{Unified}
+use Rattle.chr_kinds.specs.FinestSorts.{AreFinest}
+use Rattle.chr_kinds.specs.SortedCaseLists.{AreCombinations, MoreCombinationsThan}
 use Rattle.chr_overlaps.specs.declared.cases.Case.{Case}
 use Rattle.chr_types.specs.OrderTypes.{MoreTypesThan}
 use Rattle.chr_types.specs.Representatives.{AreTypes}
@@ -18,23 +29,28 @@ use Rattle.chr_confluence.specs.Constants.{AreConstants}
 use Rattle.chr_overlaps.specs.declared.cases.TheConstants.{MAX_TYPES}
 use Rattle.chr_overlaps.specs.CaseLists.{case_at, AreCases}
 use Rattle.chr_overlaps.proofs.OneList.{listed_cases}
-use Rattle.chr_join.specs.declared.refused.Cause.TheVariants.{Fails}
-use Rattle.chr_join.specs.Verdicts.{HasJoinableCases, IsFirst, IsFirstCase}
+use Rattle.chr_join.specs.declared.refused.Cause.{Cause}
+use Rattle.chr_join.specs.declared.refused.Cause.TheVariants.{Fails, TooManyTypes, Memory}
+use Rattle.chr_join.specs.declared.coverage.Coverage.{Coverage}
+use Rattle.chr_join.specs.declared.coverage.Coverage.TheVariants.{Joint, Sorted}
+use Rattle.chr_join.specs.Coverages.{AreCasesBy, IsTooManyBy}
+use Rattle.chr_join.specs.Verdicts.{HasJoinableCasesBy, IsFirstBy, IsFirstCaseBy}
 use Rattle.chr_join.specs.working.Checking.{RefusesAt}
 use Rattle.std.proofs.lemmas.Bool.Decides.{nat_tests}
 use Rattle.std.proofs.lemmas.List.{length-map}
 use Rattle.chr_overlaps.specs.OverlapLists.{IsOverlapOf}
-use Rattle.chr_overlaps.specs.UnifiedOverlaps.{AreRulesOf, IsUnifiedAt}
+use Rattle.chr_overlaps.specs.UnifiedOverlaps.{AreRulesOf, IsUnifiedAt, IsSortedUnifiedAt, HasNoSortedUnifier, HasUnified}
 use Rattle.chr_rewrite.specs.Derivations.{IsApplicable}
 use Rattle.std.proofs.lemmas.Option.{same_Some}
-use Rattle.chr_join.proofs.CaseSteps.{CaseLaws, steps_at}
-use Rattle.chr_join.proofs.Verdicts.{filter_few}
+use Rattle.chr_join.proofs.CaseSteps.{matching_at, steps_at}
+use Rattle.chr_join.proofs.Verdicts.{listed_few}
 use Rattle.chr_overlaps.specs.working.Unifiers.{classes_of}
 use Rattle.chr_join.specs.declared.checker.Checker.{Checker}
 use Rattle.chr_join.specs.declared.refused.Failure.{Failure}
 use Rattle.chr_join.specs.Explanations.{Explains}
 use Rattle.chr_join.specs.Sides.{IsJoinable}
-use Rattle.chr_join.specs.working.Visits.{Setting, setting_of, GoesOn, FindsFailing, Checks}
+use Rattle.chr_join.specs.working.Ends.{AreEnds}
+use Rattle.chr_join.specs.working.Visits.{Setting, setting_of, MayCheck, HaveCases, GoesOn, FindsFailing, HasTold, Checks}
 
 module _ (s : Setting) (r1 r2 : Rule) (are : AreRulesOf (rules_in s.weighed) s.overlap r1 r2) where
   abbrev guards : List ℤ → Bool
@@ -148,12 +164,12 @@ IsCaseAt s zs c =
     (r1 r2 : Rule) → AreRulesOf (rules_in s.weighed) s.overlap r1 r2
     → Some c ≡ cond (guards_hold (classes_of s.unified) r1 r2 zs) (Some (case_at s.overlap r1 r2 (classes_of s.unified) zs)) None
 
-pub applicable : CaseLaws → (s : Setting) (zs : List ℤ) (c : Case) → IsOverlapOf (rules_in s.weighed) s.overlap → IsUnifiedAt (rules_in s.weighed) s.overlap s.unified → IsCaseAt s zs c
+pub applicable : LeftSideIsStep → RightSideIsStep → (s : Setting) (zs : List ℤ) (c : Case) → IsOverlapOf (rules_in s.weighed) s.overlap → HasUnified (rules_in s.weighed) s.overlap s.unified → HaveCases s → IsCaseAt s zs c
     → IsApplicable (rules_in s.weighed) c.store c.left × IsApplicable (rules_in s.weighed) c.store c.right
-applicable laws s zs c of u is =
+applicable left right s zs c of u cases is =
     let at = some_there c _ _ (is u.rule1 u.rule2 u.are_rules) in
     subst (λ x. IsApplicable (rules_in s.weighed) x.store x.left × IsApplicable (rules_in s.weighed) x.store x.right) (sym at.1)
-    (steps_at laws (rules_in s.weighed) s.overlap u.rule1 u.rule2 (classes_of s.unified) zs of u.are_rules.0 u.are_rules.1 u.solves at.0)
+    (steps_at left right (rules_in s.weighed) s.overlap u.rule1 u.rule2 (classes_of s.unified) zs of u.are_rules.0 u.are_rules.1 (cases u.rule1 u.rule2 u.are_rules zs at.0))
 
 pub joins : (s : Setting) (zs : List ℤ) (c : Case) (n m : ℕ) → IsCaseAt s zs c → IsJoinable (rules_in s.weighed) c → (n + 1 < 2 ^ 64 → m ≡ n + 1) → GoesOn s n zs m
 joins s zs c n m is h e r1 r2 are =
@@ -164,6 +180,16 @@ pub fails : (s : Setting) (zs : List ℤ) (c : Case) (f : Failure) (failing : Op
 fails s zs c f failing is e o h r1 r2 are =
     let at = some_there c _ _ (is r1 r2 are) in
     (at.0, f, e, o, subst (λ x. Explains (rules_in s.weighed) x f) at.1 h)
+
+-- a checker of this setting may visit
+pub may_check : (v : Checker) (s : Setting) → setting_of v ≡ s → IsOverlapOf (rules_in s.weighed) s.overlap → HasUnified (rules_in s.weighed) s.overlap s.unified → HaveCases s
+    → ((rules : List Rule) → AreEnds rules v.ends.entries.items) → MayCheck v
+may_check v s same of u cases ends = record {
+  overlap = subst (λ (t : Setting). IsOverlapOf (rules_in t.weighed) t.overlap) (sym same) of;
+  unified = subst (λ (t : Setting). HasUnified (rules_in t.weighed) t.overlap t.unified) (sym same) u;
+  cases = subst HaveCases (sym same) cases;
+  ends = ends (rules_in v.weighed.now);
+}
 
 -- ---- an overlap's verdict
 
@@ -182,53 +208,133 @@ few_types n constants rs are none = elim (nat_lt MAX_TYPES (length rs)) as (λ b
   | false ↦ λ e. grind (arith, nat_tests)
 ] refl
 
-module _ (s : Setting) (constants : List ℤ) (rs : List (List ℤ)) (u : IsUnifiedAt (rules_in s.weighed) s.overlap s.unified) (are : AreConstants (rules_in s.weighed) constants)
-    (types : AreTypes (length s.unified.free.items) constants rs) (none : ¬ MoreTypesThan MAX_TYPES (length s.unified.free.items) constants) where
-  abbrev their_cases : List Case
-  their_cases = cases_of s u.rule1 u.rule2 u.are_rules rs
-
-  are_cases : AreCases (rules_in s.weighed) s.overlap their_cases
-  are_cases = listed_cases (rules_in s.weighed) s.overlap u.rule1 u.rule2 s.unified constants rs their_cases u.are_rules.0 u.are_rules.1 are u.solves u.unified types (few_types _ constants rs types none) refl
-
-  few_cases : length their_cases ≤ MAX_TYPES
-  few_cases =
-      let a = length-map (filter (guards_hold (classes_of s.unified) u.rule1 u.rule2) rs) (case_at s.overlap u.rule1 u.rule2 (classes_of s.unified)) in
-      let b = filter_few (guards_hold (classes_of s.unified) u.rule1 u.rule2) rs in
-      let c = few_types _ constants rs types none in
-      omega (arith, a, b, c)
-
-  -- the values that a walk meets, which leaves beginnings at which a guard fails
-  abbrev pub seen : List (List ℤ)
-  seen = filter (are_admitted (all_may_hold s.unified.free.items s.unified.guards.items) []) rs
-
-  same_cases : cases_of s u.rule1 u.rule2 u.are_rules seen ≡ their_cases
-  same_cases = ap (map (case_at s.overlap u.rule1 u.rule2 (classes_of s.unified)))
-      (filter_within (guards_hold (classes_of s.unified) u.rule1 u.rule2) (are_admitted (all_may_hold s.unified.free.items s.unified.guards.items) []) (λ zs. guards_admitted u.rule1 u.rule2 s.unified zs u.unified) rs)
-
-  pub overlap_joins : (v w : Checker) → setting_of v ≡ s → v.passed ≡ 0 → Visited Checks v seen false w → HasJoinableCases (rules_in s.weighed) s.overlap w.passed
+-- the values that were seen are those at which there are cases
+module _ (coverage : Coverage) (s : Setting) (r1 r2 : Rule) (are : AreRulesOf (rules_in s.weighed) s.overlap r1 r2) (seen : List (List ℤ)) (cases : List Case) (listed : AreCasesBy coverage (rules_in s.weighed) s.overlap cases)
+    (same_cases : cases_of s r1 r2 are seen ≡ cases) where
+  pub overlap_joins : (v w : Checker) → setting_of v ≡ s → v.passed ≡ 0 → Visited Checks v seen false w → HasJoinableCasesBy coverage (rules_in s.weighed) s.overlap w.passed
   overlap_joins v w same zero h =
-      let passed = all_passed s u.rule1 u.rule2 u.are_rules seen v w same h in
+      let passed = all_passed s r1 r2 are seen v w same h in
       record {
-        cases = their_cases;
-        listed = are_cases;
+        cases = cases;
+        listed = listed;
         joinable = subst (All (IsJoinable (rules_in s.weighed))) same_cases passed.joinable;
-        number = (let f = few_cases in let e = ap length same_cases in let g = passed.number (omega (arith, zero, e, f)) in omega (arith, zero, e, g));
+        number = (let f = listed_few coverage (rules_in s.weighed) s.overlap cases listed in let e = ap length same_cases in let g = passed.number (omega (arith, zero, e, f)) in omega (arith, zero, e, g));
       }
 
-  pub overlap_fails : (v w : Checker) (f : Failure) → setting_of v ≡ s → Visited Checks v seen true w → w.failing ≡ Some f → RefusesAt (rules_in s.weighed) s.overlap (Fails f)
+  pub overlap_fails : (v w : Checker) (f : Failure) → setting_of v ≡ s → Visited Checks v seen true w → w.failing ≡ Some f → RefusesAt coverage (rules_in s.weighed) s.overlap (Fails f)
   overlap_fails v w f same h e first =
-      let found = first_found s u.rule1 u.rule2 u.are_rules seen v w same h in
+      let found = first_found s r1 r2 are seen v w same h in
       let is : found.failure ≡ f = same_Some found.failure f (sym found.found ∙ e) in
       let over : s.overlap ≡ f.overlap = sym found.overlap ∙ ap (λ (x : Failure). x.overlap) is in (
-        subst (IsFirst (rules_in s.weighed)) over first,
+        subst (IsFirstBy coverage (rules_in s.weighed)) over first,
         record {
           case = found.case;
-          first = subst (λ o. IsFirstCase (rules_in s.weighed) o found.case) over (record {
+          first = subst (λ o. IsFirstCaseBy coverage (rules_in s.weighed) o found.case) over (record {
             before = found.before;
             after = found.after;
-            listed = subst (AreCases (rules_in s.weighed) s.overlap) (sym same_cases ∙ found.parts) are_cases;
+            listed = subst (AreCasesBy coverage (rules_in s.weighed) s.overlap) (sym same_cases ∙ found.parts) listed;
             joinable = found.joinable;
           });
           explains = subst (Explains (rules_in s.weighed) found.case) is found.explains;
         },
       )
+
+  -- what is told of a walk
+  pub told_joins : (v w : Checker) (stopped : Bool) (result : Result ℕ Cause) → setting_of v ≡ s → v.passed ≡ 0 → Visited Checks v seen stopped w → IfOk result (λ n. (stopped ≡ false) × (n ≡ w.passed))
+      → IfOk result (HasJoinableCasesBy coverage (rules_in s.weighed) s.overlap)
+  told_joins v w stopped (Ok n) same zero h t =
+      subst (HasJoinableCasesBy coverage (rules_in s.weighed) s.overlap) (sym t.1) (overlap_joins v w same zero (subst (λ b. Visited Checks v seen b w) t.0 h))
+  told_joins v w stopped (Err e) same zero h t = t
+
+  pub told_fails : (v w : Checker) (stopped : Bool) (result : Result ℕ Cause) → setting_of v ≡ s → Visited Checks v seen stopped w → IfErr result (HasTold w.failing stopped)
+      → IfErr result (RefusesAt coverage (rules_in s.weighed) s.overlap)
+  told_fails v w stopped (Ok n) same h t = t
+  told_fails v w stopped (Err (Fails f)) same h t = overlap_fails v w f same (subst (λ b. Visited Checks v seen b w) t.0 h) t.1
+  told_fails v w stopped (Err (TooManyTypes x)) same h t = absurd t
+  told_fails v w stopped (Err Memory) same h t = λ first. tt
+
+-- ---- by joint cases
+
+module _ (s : Setting) (constants : List ℤ) (rs : List (List ℤ)) (u : IsUnifiedAt (rules_in s.weighed) s.overlap s.unified) (are : AreConstants (rules_in s.weighed) constants)
+    (types : AreTypes (length s.unified.free.items) constants rs) (none : ¬ MoreTypesThan MAX_TYPES (length s.unified.free.items) constants) where
+  abbrev pub joint_cases : List Case
+  joint_cases = cases_of s u.rule1 u.rule2 u.are_rules rs
+
+  pub are_joint_cases : AreCases (rules_in s.weighed) s.overlap joint_cases
+  are_joint_cases = listed_cases (rules_in s.weighed) s.overlap u.rule1 u.rule2 s.unified constants rs joint_cases u.are_rules.0 u.are_rules.1 are u.solves u.unified types (few_types _ constants rs types none) refl
+
+  -- the values that a walk meets, which leaves beginnings at which a guard fails
+  abbrev pub seen_types : List (List ℤ)
+  seen_types = filter (are_admitted (all_may_hold s.unified.free.items s.unified.guards.items) []) rs
+
+  pub same_joint_cases : cases_of s u.rule1 u.rule2 u.are_rules seen_types ≡ joint_cases
+  same_joint_cases = ap (map (case_at s.overlap u.rule1 u.rule2 (classes_of s.unified)))
+      (filter_within (guards_hold (classes_of s.unified) u.rule1 u.rule2) (are_admitted (all_may_hold s.unified.free.items s.unified.guards.items) []) (λ zs. guards_admitted u.rule1 u.rule2 s.unified zs u.unified) rs)
+
+-- the rules of an overlap are one pair
+rules_once : (rules : List Rule) (o : Overlap) (r1 r2 s1 s2 : Rule) → AreRulesOf rules o r1 r2 → AreRulesOf rules o s1 s2 → (r1 ≡ s1) × (r2 ≡ s2)
+rules_once rules o r1 r2 s1 s2 a b = (same_Some r1 s1 (sym a.0 ∙ b.0), same_Some r2 s2 (sym a.1 ∙ b.1))
+
+-- what a walk over order types meets makes cases
+pub joint_values : ListedAreCases → (s : Setting) → IsOverlapOf (rules_in s.weighed) s.overlap → IsUnifiedAt (rules_in s.weighed) s.overlap s.unified → HaveCases s
+joint_values law s of u r1 r2 are zs hold =
+    let e = rules_once (rules_in s.weighed) s.overlap u.rule1 u.rule2 r1 r2 u.are_rules are in
+    let solves = subst (λ (r : Rule × Rule). IsMostGeneralUnifier (classes_of s.unified) (equations_of r.0 r.1 s.overlap.matching.items)) (λ i. (e.0 i, e.1 i)) u.solves in
+    law r1 r2 s.overlap.matching.items (matching_at (rules_in s.weighed) s.overlap r1 r2 of are.0 are.1) (classes_of s.unified) solves zs hold
+
+-- ---- by sorted cases
+
+pub few_combinations : (sorts : Sorts) (ks : List ℕ) (rs : List (List ℤ)) → AreCombinations sorts ks rs → ¬ MoreCombinationsThan sorts ks MAX_TYPES → length rs ≤ MAX_TYPES
+few_combinations sorts ks rs are none = elim (nat_lt MAX_TYPES (length rs)) as (λ b. nat_lt MAX_TYPES (length rs) ≡ b → length rs ≤ MAX_TYPES) [
+  | true ↦ λ e. absurd (none (rs, are, grind (arith, nat_tests)))
+  | false ↦ λ e. grind (arith, nat_tests)
+] refl
+
+module _ (sorts : Sorts) (s : Setting) (rs : List (List ℤ)) (u : IsSortedUnifiedAt (rules_in s.weighed) s.overlap s.unified) (finest : AreFinest (rules_in s.weighed) sorts)
+    (all : AreCombinations sorts (class_sorts sorts (classes_of s.unified) u.rule1 u.rule2) rs) (within : length rs ≤ MAX_TYPES) where
+  abbrev pub sorted_cases : List Case
+  sorted_cases = cases_of s u.rule1 u.rule2 u.are_rules rs
+
+  pub are_sorted_cases : AreCasesBy Sorted (rules_in s.weighed) s.overlap sorted_cases
+  are_sorted_cases = (
+    sorts,
+    finest,
+    record {
+      rule1 = u.rule1;
+      rule2 = u.rule2;
+      first = u.are_rules.0;
+      second = u.are_rules.1;
+      listed = inr (record { classes = classes_of s.unified; combinations = rs; solves = u.solves; all = all; within = within; cases_are = refl });
+    },
+  )
+
+pub sorted_values : SortedAreCases → (s : Setting) → IsOverlapOf (rules_in s.weighed) s.overlap → IsSortedUnifiedAt (rules_in s.weighed) s.overlap s.unified → HaveCases s
+sorted_values law s of u r1 r2 are zs hold =
+    let e = rules_once (rules_in s.weighed) s.overlap u.rule1 u.rule2 r1 r2 u.are_rules are in
+    let solves = subst (λ (r : Rule × Rule). IsMostGeneralUnifier (classes_of s.unified) (all_equations r.0 r.1 s.overlap.matching.items)) (λ i. (e.0 i, e.1 i)) u.solves in
+    law r1 r2 s.overlap.matching.items (matching_at (rules_in s.weighed) s.overlap r1 r2 of are.0 are.1) (classes_of s.unified) solves zs hold
+
+pub no_sorted_cases : (rules : List Rule) (sorts : Sorts) (o : Overlap) → AreFinest rules sorts → HasNoSortedUnifier rules o → HasJoinableCasesBy Sorted rules o 0
+no_sorted_cases rules sorts o finest h = record {
+  cases = [];
+  listed = (sorts, finest, record { rule1 = h.rule1; rule2 = h.rule2; first = h.are_rules.0; second = h.are_rules.1; listed = inl (h.none, refl) });
+  joinable = All-nil (IsJoinable rules);
+  number = refl;
+}
+
+pub too_many_sorted : (rules : List Rule) (sorts : Sorts) (o : Overlap) (u : Unified) (ks : List ℕ) (n : ℕ) → AreFinest rules sorts → (is : IsSortedUnifiedAt rules o u) → ks ≡ class_sorts sorts (classes_of u) is.rule1 is.rule2 → n ≡ length ks
+    → MoreCombinationsThan sorts ks MAX_TYPES → IsTooManyBy Sorted rules o n
+too_many_sorted rules sorts o u ks n finest is e count more = (
+  sorts,
+  finest,
+  record {
+    rule1 = is.rule1;
+    rule2 = is.rule2;
+    first = is.are_rules.0;
+    second = is.are_rules.1;
+    classes = classes_of u;
+    solves = is.solves;
+    number = count ∙ ap length e;
+    many = subst (λ xs. MoreCombinationsThan sorts xs MAX_TYPES) e more;
+  },
+)

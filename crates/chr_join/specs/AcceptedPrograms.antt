@@ -5,6 +5,7 @@ use Rattle.chr_base.specs.declared.program.Program.{Program}
 use Rattle.chr_weights.specs.declared.weighed.Weighed.{Weighed}
 use Rattle.chr_weights.specs.WeighedPrograms.{program_of}
 use Rattle.chr_join.specs.declared.accepted.Accepted.{Accepted}
+use Rattle.chr_join.specs.declared.coverage.Coverage.{Coverage}
 
 -- its program with the weights
 abbrev pub weighed_of : Accepted → Weighed
@@ -14,6 +15,10 @@ weighed_of a = arc_value a.weighed
 abbrev pub program_in : Accepted → Program
 program_in a = program_of (weighed_of a)
 
--- the number of all cases
+-- which cases were looked at
+abbrev pub coverage_of : Accepted → Coverage
+coverage_of a = a.coverage
+
+-- the number of all these cases
 abbrev pub cases_of : Accepted → ℕ
 cases_of a = a.cases

@@ -8,12 +8,14 @@ use Rattle.chr_base.specs.Rules.{Step as RuleStep}
 use Rattle.chr_base.specs.Rewriting.{IsAtRest}
 use Rattle.chr_rewrite.specs.Derivations.{IsDerivation}
 use Rattle.chr_overlaps.specs.declared.cases.Case.{Case}
-use Rattle.chr_overlaps.specs.CaseLists.{IsTooMany}
+use Rattle.chr_join.specs.declared.coverage.Coverage.{Coverage}
+use Rattle.chr_join.specs.declared.coverage.Coverage.TheVariants.{Joint}
 use Rattle.chr_join.specs.declared.refused.Failure.{Failure}
 use Rattle.chr_join.specs.declared.refused.Cause.{Cause}
 use Rattle.chr_join.specs.declared.refused.Cause.TheVariants as cause
 use Rattle.chr_join.specs.Sides.{IsSideComputation}
-use Rattle.chr_join.specs.Verdicts.{IsFirst, IsFirstCase}
+use Rattle.chr_join.specs.Coverages.{IsTooManyBy}
+use Rattle.chr_join.specs.Verdicts.{IsFirstBy, IsFirstCaseBy}
 
 -- The derivation d starts at s with the step st, goes on with the plain derivation, and ends in t.
 pub record IsSideOf (rules : List Rule) (s : Store) (st : Step) (d : Derivation) (t : Store) : Type 0 where
@@ -29,16 +31,24 @@ pub record Explains (rules : List Rule) (c : Case) (f : Failure) : Type 0 where
   pub differ : ¬ (f.left_end ≡ f.right_end)
 
 -- f explains the first case of its overlap that is not joinable.
-pub record ExplainsFirst (rules : List Rule) (f : Failure) : Type 0 where
+pub record ExplainsFirstBy (coverage : Coverage) (rules : List Rule) (f : Failure) : Type 0 where
   pub case : Case
-  pub first : IsFirstCase rules f.overlap case
+  pub first : IsFirstCaseBy coverage rules f.overlap case
   pub explains : Explains rules case f
 
 -- The cause is the first there is, overlap by overlap and case by case.
+abbrev pub IsRefusalBy : Coverage → List Rule → Cause → Type 0
+IsRefusalBy coverage rules (cause.Fails f) = IsFirstBy coverage rules f.overlap × ExplainsFirstBy coverage rules f
+IsRefusalBy coverage rules (cause.TooManyTypes t) =
+    IsFirstBy coverage rules t.overlap × IsTooManyBy coverage rules t.overlap t.classes
+IsRefusalBy coverage rules cause.Memory = ⊤
+
+-- by joint cases
+abbrev pub ExplainsFirst : List Rule → Failure → Type 0
+ExplainsFirst rules f = ExplainsFirstBy Joint rules f
+
 abbrev pub IsRefusal : List Rule → Cause → Type 0
-IsRefusal rules (cause.Fails f) = IsFirst rules f.overlap × ExplainsFirst rules f
-IsRefusal rules (cause.TooManyTypes t) = IsFirst rules t.overlap × IsTooMany rules t.overlap t.classes
-IsRefusal rules cause.Memory = ⊤
+IsRefusal rules e = IsRefusalBy Joint rules e
 
 -- P holds of what a case that fails is told by, if that is the cause.
 abbrev pub IfFails : Cause → (Failure → Type 0) → Type 0

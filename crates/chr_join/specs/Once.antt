@@ -5,13 +5,14 @@ use Rattle.chr_base.specs.declared.program.Program.{Program}
 use Rattle.chr_base.specs.declared.rule.Rule.{Rule}
 use Rattle.chr_base.specs.Programs.{rules_of}
 use Rattle.chr_weights.specs.Weights.{ProgramLowers}
+use Rattle.chr_join.specs.declared.coverage.Coverage.{Coverage}
 use Rattle.chr_join.specs.declared.refused.Failure.{Failure}
 use Rattle.chr_join.specs.declared.refused.Cause.{Cause}
 use Rattle.chr_join.specs.declared.refused.Cause.TheVariants as cause
-use Rattle.chr_join.specs.Verdicts.{IsAccepted}
+use Rattle.chr_join.specs.Verdicts.{IsAccepted, IsAcceptedBy}
 use Rattle.chr_confluence.specs.Confluence.{Confluent}
 use Rattle.chr_confluence.specs.Lowering.{RulesLower}
-use Rattle.chr_join.specs.Explanations.{IsRefusal}
+use Rattle.chr_join.specs.Explanations.{IsRefusal, IsRefusalBy}
 
 -- Both tell the same overlap and the same two derivations, with the same ends.
 pub record SameFailure (f g : Failure) : Type 0 where
@@ -38,20 +39,30 @@ VerdictsExist =
 
 -- Accepted rules have one number of cases.
 abbrev pub AcceptedOnce : Type 0
-AcceptedOnce = (rules : List Rule) (n m : ℕ) → IsAccepted rules n → IsAccepted rules m → n ≡ m
+AcceptedOnce =
+    (coverage : Coverage) (rules : List Rule) (n m : ℕ) → IsAcceptedBy coverage rules n → IsAcceptedBy coverage rules m
+    → n ≡ m
 
 -- Rules that are refused have one cause, but for want of memory.
 abbrev pub RefusedOnce : Type 0
 RefusedOnce =
-    (rules : List Rule) (e g : Cause) → IsRefusal rules e → IsRefusal rules g
+    (coverage : Coverage) (rules : List Rule) (e g : Cause) → IsRefusalBy coverage rules e → IsRefusalBy coverage rules g
     → ¬ (e ≡ cause.Memory) → ¬ (g ≡ cause.Memory) → SameRefusal e g
 
 -- Accepted rules are refused for want of memory alone.
 abbrev pub NeverBoth : Type 0
 NeverBoth =
-    (rules : List Rule) (n : ℕ) (e : Cause) → IsAccepted rules n → IsRefusal rules e → e ≡ cause.Memory
+    (coverage : Coverage) (rules : List Rule) (n : ℕ) (e : Cause) → IsAcceptedBy coverage rules n
+    → IsRefusalBy coverage rules e → e ≡ cause.Memory
 
 -- Accepted rules that lower a weight are confluent.
 abbrev pub AcceptedAreConfluent : Type 0
 AcceptedAreConfluent =
-    (rules : List Rule) (w : Atom → ℕ) (n : ℕ) → RulesLower w rules → IsAccepted rules n → Confluent rules
+    (coverage : Coverage) (rules : List Rule) (w : Atom → ℕ) (n : ℕ) → RulesLower w rules
+    → IsAcceptedBy coverage rules n → Confluent rules
+
+-- Rules that a failing case refuses are not.
+abbrev pub RefusedAreNotConfluent : Type 0
+RefusedAreNotConfluent =
+    (coverage : Coverage) (rules : List Rule) (f : Failure) → IsRefusalBy coverage rules (cause.Fails f)
+    → ¬ (Confluent rules)

@@ -1,42 +1,61 @@
--- The verdict on rules: overlaps are taken in order, and in each its cases in order.
+-- The verdict on rules: overlaps are taken in order, and in each its cases in order, as a coverage has them.
 use Rattle.std.specs.Prelude.{◌≡◌, ℕ, ◌+◌, List, [], ◌∷◌, ◌++◌, length}
 use Rattle.std.specs.List.{All}
 use Rattle.chr_base.specs.declared.rule.Rule.{Rule}
 use Rattle.chr_overlaps.specs.declared.overlap.Overlap.{Overlap}
 use Rattle.chr_overlaps.specs.declared.cases.Case.{Case}
 use Rattle.chr_overlaps.specs.OverlapLists.{AreOverlaps}
-use Rattle.chr_overlaps.specs.CaseLists.{AreCases}
+use Rattle.chr_join.specs.declared.coverage.Coverage.{Coverage}
+use Rattle.chr_join.specs.declared.coverage.Coverage.TheVariants.{Joint}
+use Rattle.chr_join.specs.Coverages.{AreCasesBy}
 use Rattle.chr_join.specs.Sides.{IsJoinable}
 
 -- The overlap o has n cases, and each is joinable.
-pub record HasJoinableCases (rules : List Rule) (o : Overlap) (n : ℕ) : Type 0 where
+pub record HasJoinableCasesBy (coverage : Coverage) (rules : List Rule) (o : Overlap) (n : ℕ) : Type 0 where
   pub cases : List Case
-  pub listed : AreCases rules o cases
+  pub listed : AreCasesBy coverage rules o cases
   pub joinable : All (IsJoinable rules) cases
   pub number : n ≡ length cases
 
 -- These overlaps have n cases in all, and each is joinable.
-abbrev pub HaveJoinableCases : List Rule → List Overlap → ℕ → Type 0
-HaveJoinableCases rules [] n = n ≡ 0
-HaveJoinableCases rules (o ∷ os) n =
-    (k : ℕ) × (m : ℕ) × HasJoinableCases rules o k × HaveJoinableCases rules os m × (n ≡ k + m)
+abbrev pub HaveJoinableCasesBy : Coverage → List Rule → List Overlap → ℕ → Type 0
+HaveJoinableCasesBy coverage rules [] n = n ≡ 0
+HaveJoinableCasesBy coverage rules (o ∷ os) n =
+    (k : ℕ) × (m : ℕ) × HasJoinableCasesBy coverage rules o k × HaveJoinableCasesBy coverage rules os m × (n ≡ k + m)
 
 -- All overlaps of the rules have n cases, and each is joinable.
-pub record IsAccepted (rules : List Rule) (n : ℕ) : Type 0 where
+pub record IsAcceptedBy (coverage : Coverage) (rules : List Rule) (n : ℕ) : Type 0 where
   pub overlaps : List Overlap
   pub listed : AreOverlaps rules overlaps
-  pub joinable : HaveJoinableCases rules overlaps n
+  pub joinable : HaveJoinableCasesBy coverage rules overlaps n
 
 -- o is an overlap of the rules, and all cases of those before it are joinable.
-pub record IsFirst (rules : List Rule) (o : Overlap) : Type 0 where
+pub record IsFirstBy (coverage : Coverage) (rules : List Rule) (o : Overlap) : Type 0 where
   pub before : List Overlap
   pub after : List Overlap
   pub listed : AreOverlaps rules (before ++ o ∷ after)
-  pub joinable : All (λ p. (n : ℕ) × HasJoinableCases rules p n) before
+  pub joinable : All (λ p. (n : ℕ) × HasJoinableCasesBy coverage rules p n) before
 
 -- c is a case of the overlap o, and its cases before c are joinable.
-pub record IsFirstCase (rules : List Rule) (o : Overlap) (c : Case) : Type 0 where
+pub record IsFirstCaseBy (coverage : Coverage) (rules : List Rule) (o : Overlap) (c : Case) : Type 0 where
   pub before : List Case
   pub after : List Case
-  pub listed : AreCases rules o (before ++ c ∷ after)
+  pub listed : AreCasesBy coverage rules o (before ++ c ∷ after)
   pub joinable : All (IsJoinable rules) before
+
+-- ---- by joint cases
+
+abbrev pub HasJoinableCases : List Rule → Overlap → ℕ → Type 0
+HasJoinableCases rules o n = HasJoinableCasesBy Joint rules o n
+
+abbrev pub HaveJoinableCases : List Rule → List Overlap → ℕ → Type 0
+HaveJoinableCases rules os n = HaveJoinableCasesBy Joint rules os n
+
+abbrev pub IsAccepted : List Rule → ℕ → Type 0
+IsAccepted rules n = IsAcceptedBy Joint rules n
+
+abbrev pub IsFirst : List Rule → Overlap → Type 0
+IsFirst rules o = IsFirstBy Joint rules o
+
+abbrev pub IsFirstCase : List Rule → Overlap → Case → Type 0
+IsFirstCase rules o c = IsFirstCaseBy Joint rules o c

@@ -7,8 +7,9 @@ ghost use Rattle.chr_confluence.proofs.Refuting.{Confluent-prop};
 ghost use Rattle.chr_rewrite.specs.Derivations.{IsDerivation, IsFirstInapplicable};
 ghost use Rattle.chr_rewrite.specs.declared.replay.ReplayFault.TheVariants.{NotThere as IsNotThere};
 ghost use Rattle.chr_join.specs.Parts.{IsDoneOf, IsOnlyNormalForm};
-ghost use Rattle.chr_join.specs.Verdicts.{IsAccepted};
+ghost use Rattle.chr_join.specs.Verdicts.{IsAcceptedBy};
 
+use crate::coverage::Coverage;
 use crate::lease::{Done, Lease, NotStepped, StepFault};
 use crate::once::accepted_are_confluent;
 use crate::parts::{rested, stepped};
@@ -23,30 +24,37 @@ use std::sync::Arc;
 #[derive(Drop)]
 pub struct Accepted {
     weighed: Arc<Weighed>,
+    coverage: Coverage,
     cases: u64,
-    ghost accepted: { ∥ IsAccepted (rules_in (arc_value weighed)) cases ∥₁ },
+    ghost accepted: { ∥ IsAcceptedBy coverage (rules_in (arc_value weighed)) cases ∥₁ },
     ghost confluent: { Confluent (rules_in (arc_value weighed)) } by { Confluent-prop (rules_in (arc_value weighed)) },
 }
 
 impl Accepted {
     ghost use Rattle.std.specs.Prelude.{◌≡◌, ℕ, IfOk, IfErr};
-    ghost use Rattle.chr_join.specs.AcceptedPrograms.{weighed_of, program_in, cases_of};
+    ghost use Rattle.chr_join.specs.AcceptedPrograms.{weighed_of, program_in, coverage_of, cases_of};
 
     /// A program of whose overlaps no case fails, with the number of all cases. Where memory is refused, the program is
     /// handed back.
     pub(crate) fn new(
         alloc: Global,
         weighed: Weighed,
+        coverage: Coverage,
         cases: u64,
     ) -> Result<Accepted, AllocFailed<Weighed>>
-        requires { IsAccepted (rules_in weighed) cases }
+        requires { IsAcceptedBy coverage (rules_in weighed) cases }
         ensures weighed { IfOk result (λ a. weighed_of a ≡ weighed) }
+        ensures coverage { IfOk result (λ a. coverage_of a ≡ coverage) }
         ensures cases { IfOk result (λ a. cases_of a ≡ cases) }
         ensures handed_back { IfErr result (λ e. e.value ≡ weighed) }
     {
         accepted_are_confluent();
         let weighed = Arc::new(alloc, weighed)?;
-        Ok(Accepted { weighed, cases })
+        Ok(Accepted {
+            weighed,
+            coverage,
+            cases,
+        })
     }
 
     /// The program with its weights.
@@ -64,10 +72,17 @@ impl Accepted {
         self.weighed.program()
     }
 
-    /// The number of all cases of its overlaps.
+    /// Which cases were looked at.
+    pub fn coverage(&self) -> Coverage
+        ensures { result ≡ coverage_of self.now }
+    {
+        self.coverage
+    }
+
+    /// The number of all these cases of its overlaps.
     pub fn cases(&self) -> u64
         ensures number { result ≡ cases_of self.now }
-        ensures accepted { ∥ IsAccepted (rules_of (program_in self.now)) result ∥₁ }
+        ensures accepted { ∥ IsAcceptedBy (coverage_of self.now) (rules_of (program_in self.now)) result ∥₁ }
     {
         self.cases
     }

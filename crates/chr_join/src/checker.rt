@@ -1,11 +1,11 @@
 //! The cases of an overlap are checked one after the other, and none is kept.
-ghost use Rattle.std.specs.Prelude.{◌≡◌};
+ghost use Rattle.std.specs.Prelude.{◌≡◌, false, IfOk, IfErr};
+ghost use Rattle.chr_join.specs.working.Visits.{setting_of, HasTold};
 
 use crate::ends::Ends;
-use crate::refused::Failure;
+use crate::refused::{Cause, Failure};
 use crate::sides::{different_ends, explained};
 use chr_confluence::laws::peak;
-use chr_confluence::listing::listed_cases;
 use chr_overlaps::cases::case_among;
 use chr_overlaps::{Overlap, Unified};
 use chr_types::Visit;
@@ -26,6 +26,50 @@ pub(crate) struct Checker<'a> {
     pub(crate) failing: Option<Failure>,
 }
 
+impl<'a> Checker<'a> {
+    ghost use Rattle.std.specs.Prelude.{None, List};
+    ghost use Rattle.chr_base.specs.declared.rule.Rule.{Rule};
+    ghost use Rattle.chr_join.specs.working.Ends.{AreEnds};
+
+    /// One that has visited nothing.
+    pub(crate) fn new(
+        alloc: Global,
+        weighed: &'a Weighed,
+        overlap: &'a Overlap,
+        unified: &'a Unified,
+    ) -> Checker<'a>
+        ensures setting { setting_of result ≡ record { weighed = weighed.now; overlap = overlap.now; unified = unified.now } }
+        ensures ends { (rules : List Rule) → AreEnds rules result.ends.entries.items }
+        ensures passed { result.passed ≡ 0 }
+        ensures failing { result.failing ≡ None }
+    {
+        Checker {
+            alloc,
+            weighed,
+            overlap,
+            unified,
+            ends: Ends::new(alloc),
+            passed: 0,
+            failing: None,
+        }
+    }
+}
+
+/// What a walk has found: it has ended, or was stopped.
+pub(crate) fn told(stopped: bool, passed: usize, failing: Option<Failure>) -> Result<usize, Cause>
+    ensures passed { IfOk result (λ n. (stopped ≡ false) × (n ≡ passed)) }
+    ensures failing { IfErr result (HasTold failing stopped) }
+{
+    if !stopped {
+        return Ok(passed);
+    }
+    match failing {
+        Some(failure) => Err(Cause::Fails(failure)),
+        // A walk that was stopped has found a case, so this is never answered.
+        None => Err(Cause::Memory),
+    }
+}
+
 impl Visit for Checker<'_> {
     ghost use Rattle.chr_join.specs.working.Visits.{MayCheck, Checks};
 
@@ -35,7 +79,6 @@ impl Visit for Checker<'_> {
 
     fn visit(&mut self, values: &[i64]) -> Result<bool, AllocError> {
         peak();
-        listed_cases();
         let Some(case) = case_among(self.alloc, self.weighed, self.overlap, self.unified, values)?
         else {
             return Ok(false);

@@ -3,20 +3,22 @@
 #![tactic(auto)]
 
 mod accepted;
-mod by_sorts;
+mod accepting;
 mod checker;
-mod checking;
+mod coverage;
 mod ends;
+mod joint;
 pub mod laws;
 mod lease;
 mod once;
 mod parts;
 mod refused;
 mod sides;
+mod sorted;
 
 pub use accepted::Accepted;
-pub use by_sorts::sorts_decide;
-pub use checking::accept;
+pub use accepting::accept;
+pub use coverage::Coverage;
 pub use lease::{Done, Lease, NotStepped, StepFault};
-pub use once::{accepted_are_confluent, verdict_is_one, verdicts_exist};
+pub use once::{accepted_are_confluent, refused_are_not_confluent, verdict_is_one, verdicts_exist};
 pub use refused::{Cause, Failure, Refused, TooManyTypes};

@@ -13,23 +13,23 @@ use Rattle.chr_kinds.specs.laws.Combinations.{CombinationsAreValues, Combination
 
 -- ---- whether a sort is one of these
 
-abbrev is_one : ℕ → List ℕ → Bool
+abbrev pub is_one : ℕ → List ℕ → Bool
 is_one k [] = false
 is_one k (j ∷ ks) = cond (nat_eq j k) true (is_one k ks)
 
-one_in : (k : ℕ) (ks : List ℕ) → is_one k ks ≡ true → In k ks
+pub one_in : (k : ℕ) (ks : List ℕ) → is_one k ks ≡ true → In k ks
 one_in k [] h = absurd cc
 one_in k (j ∷ ks) h = elim (nat_eq j k) as (λ b. nat_eq j k ≡ b → cond b true (is_one k ks) ≡ true → In k (j ∷ ks)) [
   | true ↦ λ e _. inl (sym (eqb-true j k e))
   | false ↦ λ e g. inr (one_in k ks g)
 ] refl h
 
-in_one : (k : ℕ) (ks : List ℕ) → In k ks → is_one k ks ≡ true
+pub in_one : (k : ℕ) (ks : List ℕ) → In k ks → is_one k ks ≡ true
 in_one k [] i = absurd i
 in_one k (j ∷ ks) (inl e) = ap (λ b. cond b true (is_one k ks)) (eq-eqb j k (sym e))
 in_one k (j ∷ ks) (inr i) = elim (nat_eq j k) as (λ b. cond b true (is_one k ks) ≡ true) [ true ↦ refl | false ↦ in_one k ks i ]
 
-none_counted : (k : ℕ) (ks : List ℕ) → is_one k ks ≡ false → sort_count k ks ≡ 0
+pub none_counted : (k : ℕ) (ks : List ℕ) → is_one k ks ≡ false → sort_count k ks ≡ 0
 none_counted k [] h = refl
 none_counted k (j ∷ ks) h = elim (nat_eq j k) as (λ b. cond b true (is_one k ks) ≡ false → cond b (suc (sort_count k ks)) (sort_count k ks) ≡ 0) [
   | true ↦ λ g. absurd cc
@@ -63,7 +63,7 @@ none_cover k cs vs e values = ([], inl refl, subst (StandsAt k cs []) (sym (nil_
 -- ---- all sorts
 
 -- the lists at a sort, or that of no values
-abbrev chosen : Bool → List (List ℤ) → List (List ℤ)
+abbrev pub chosen : Bool → List (List ℤ) → List (List ℤ)
 chosen true ls = ls
 chosen false ls = [] ∷ []
 

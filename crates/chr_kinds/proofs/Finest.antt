@@ -17,18 +17,18 @@ use Rattle.chr_base.specs.Names.{is_name}
 use Rattle.chr_base.specs.Weights.{is_weight}
 use Rattle.chr_base.specs.Programs.{declarations, rules_of}
 use Rattle.chr_base.specs.Rules.{heads_of}
-use Rattle.chr_types.specs.OrderTypes.{In, Rises, AreValues}
+use Rattle.chr_types.specs.OrderTypes.{In}
 use Rattle.chr_types.proofs.Members.{in_either}
-use Rattle.chr_sorts.specs.Sorts.{Sorts, tells, Fit}
+use Rattle.chr_sorts.specs.Sorts.{Sorts, Kind, free, tells, Fit}
 use Rattle.chr_sorts.proofs.Moves.{all_in}
 use Rattle.chr_overlaps.specs.working.Gathering.{AreConstantsIn}
 use Rattle.chr_kinds.specs.declared.kind.Kind.TheVariants.{Free}
 use Rattle.chr_kinds.specs.declared.notes.Note.{Note}
 use Rattle.chr_kinds.specs.declared.notes.Note.TheVariants.{Joined, Stands, Compared}
 use Rattle.chr_kinds.specs.declared.sorting.Sorting.{Sorting}
-use Rattle.chr_kinds.specs.FinestSorts.{AreFinest, AreAsFine, position_of, sort_in, kind_of, sorts_of}
+use Rattle.chr_kinds.specs.FinestSorts.{AreShort, AreFinest, AreAsFine, AreNamedByFirst, position_of, sort_in, kind_of, sorts_of}
 use Rattle.chr_kinds.specs.working.Notes.{IsBelow, Joins, MeetsJoin, MeetsKind, IsLeastKind, note_terms, terms_at, rule_notes}
-use Rattle.chr_kinds.proofs.Fitting.{MeetsNote, AreShort, in_flat, flat_in, fits_rule, meets_notes}
+use Rattle.chr_kinds.proofs.Fitting.{MeetsNote, in_flat, flat_in, fits_rule, meets_notes}
 use Rattle.chr_kinds.proofs.LeastKinds.{free_least}
 
 -- ---- atoms of a program have few arguments
@@ -103,7 +103,7 @@ below_at n (d ∷ notes) e h (inl q) = subst (IsBelow n) (sym q) (h 0 d (omega a
 below_at n (d ∷ notes) e h (inr i) = below_at n notes e (λ k x l. h (suc k) x (omega (arith, l))) i
 
 -- a constant of a sort stands in a note
-stands_in : (f : ℕ → ℕ) (n : ℕ) (c : ℤ) (notes : List Note) → In (Constant c) (terms_at f n notes) → (p : ℕ) × In (Stands p c) notes × (f p ≡ n)
+pub stands_in : (f : ℕ → ℕ) (n : ℕ) (c : ℤ) (notes : List Note) → In (Constant c) (terms_at f n notes) → (p : ℕ) × In (Stands p c) notes × (f p ≡ n)
 stands_in f n c notes i = let w = in_flat (note_terms f n) (Constant c) notes i in of_note w.0 w.1 w.2
   where
     of_note : (e : Note) → In e notes → In (Constant c) (note_terms f n e) → (p : ℕ) × In (Stands p c) notes × (f p ≡ n)
@@ -121,38 +121,26 @@ term_there f p c = subst (λ b. In (Constant c) (cond b (Constant c ∷ []) []))
 
 -- ---- the theorem
 
-module _ (p : Program) (s : Sorting) (notes : List Note)
-    (all : notes ≡ flat_map rule_notes (rules_of p))
-    (joins : Joins notes s.sorts.items)
-    (below : All (IsBelow (length s.sorts.items)) notes)
-    (kinds_len : length s.kinds.items ≡ length s.sorts.items)
-    (kinds : (n : ℕ) → n < length s.sorts.items → IsLeastKind notes (sort_in s.sorts.items) n (kind_of (get_or s.kinds.items n Free)))
-    (constants_len : length s.constants.items ≡ length s.sorts.items)
-    (constants : (n : ℕ) → n < length s.sorts.items → AreConstantsIn (terms_at (sort_in s.sorts.items) n notes) (get_or (map (λ cs. cs.items) s.constants.items) n [])) where
-  abbrev o : Sorts
-  o = sorts_of s
-
+module _ (p : Program) (notes : List Note) (all : notes ≡ flat_map rule_notes (rules_of p)) (ts : List ℕ) (joins : Joins notes ts)
+    (kind : ℕ → Kind) (kinds : (n : ℕ) → IsLeastKind notes (sort_in ts) n (kind n))
+    (constants : ℕ → List ℤ) (are : (n : ℕ) → AreConstantsIn (terms_at (sort_in ts) n notes) (constants n)) where
   abbrev t : ℕ → ℕ
-  t = sort_in s.sorts.items
+  t = sort_in ts
 
-  abbrev size : ℕ
-  size = length s.sorts.items
+  abbrev pub sorts_by_notes : Sorts
+  sorts_by_notes = record { sort = λ a k. t (position_of a k); kind = kind; constants = constants }
+
+  abbrev o : Sorts
+  o = sorts_by_notes
 
   -- sorts that meet all notes
   abbrev MeetAll : Sorts → (ℕ → ℕ) → Type 0
   MeetAll q f = (n : Note) → In n notes → MeetsNote q f n
 
-  note_met : (n : Note) → In n notes → IsBelow size n → MeetsNote o t n
-  note_met (Joined a b) i l = joins.meets (Joined a b) i
-  note_met (Stands a c) i l =
-      let b = joins.below a in
-      (constants (t a) (omega (arith, b, l))).all c (flat_in (note_terms t (t a)) (Constant c) (Stands a c) notes i (term_there t a c))
-  note_met (Compared a c) i l =
-      let b = joins.below a in
-      (kinds (t a) (omega (arith, b, l))).meets (Compared a c) i refl
-
   met : MeetAll o t
-  met n i = note_met n i (below_at size notes n below i)
+  met (Joined a b) i = joins.meets (Joined a b) i
+  met (Stands a c) i = (are (t a)).all c (flat_in (note_terms t (t a)) (Constant c) (Stands a c) notes i (term_there t a c))
+  met (Compared a c) i = (kinds (t a)).meets (Compared a c) i refl
 
   of_rule : (r : Rule) → In r (rules_of p) → (n : Note) → In n (rule_notes r) → In n notes
   of_rule r i n j = subst (In n) (sym all) (flat_in rule_notes n r (rules_of p) i j)
@@ -183,57 +171,92 @@ module _ (p : Program) (s : Sorting) (notes : List Note)
     same_sorts a k b l lk ll e = by_number_is q a k lk ∙ at_sort b l (t (position_of b l)) (position_of a k) ll refl e
 
     constants_kept : (a k : ℕ) (c : ℤ) → k < MAX_ARITY → In c (o.constants (o.sort a k)) → In c (q.constants (q.sort a k))
-    constants_kept a k c l i = by (nat_lt (t (position_of a k)) size) refl
-      where
-        by : (b : Bool) → nat_lt (t (position_of a k)) size ≡ b → In c (q.constants (q.sort a k))
-        by true e =
-            let w = stands_in t (t (position_of a k)) c notes ((constants (t (position_of a k)) (ltb-true (t (position_of a k)) size e)).stand c i) in
-            subst (λ m. In c (q.constants m)) (at_sort a k (t (position_of a k)) w.0 l refl w.2) (others_met (Stands w.0 c) w.1)
-        by false e =
-            let le = ltb-false (t (position_of a k)) size e in
-            let m = length-map s.constants.items (λ cs. cs.items) in
-            let none = get_or_past (map (λ cs. cs.items) s.constants.items) (t (position_of a k)) [] (omega (arith, le, m, constants_len)) in
-            absurd (subst (In c) none i)
+    constants_kept a k c l i =
+        let w = stands_in t (t (position_of a k)) c notes ((are (t (position_of a k))).stand c i) in
+        subst (λ m. In c (q.constants m)) (at_sort a k (t (position_of a k)) w.0 l refl w.2) (others_met (Stands w.0 c) w.1)
 
     kinds_kept : (a k : ℕ) (c : Cmp) → k < MAX_ARITY → tells (o.kind (o.sort a k)) c ≡ true → tells (q.kind (q.sort a k)) c ≡ true
-    kinds_kept a k c l h = by (nat_lt (t (position_of a k)) size) refl
+    kinds_kept a k c l h = (kinds (t (position_of a k))).least (q.kind (q.sort a k)) (λ d i. told d (others_met d i)) c h
       where
         told : (e : Note) → MeetsNote q f e → MeetsKind t (t (position_of a k)) (q.kind (q.sort a k)) e
         told (Joined x y) m = tt
         told (Stands x d) m = tt
         told (Compared x sign) m = λ g. subst (λ z. tells (q.kind z) sign ≡ true) (at_sort a k (t (position_of a k)) x l refl g) m
 
-        by : (b : Bool) → nat_lt (t (position_of a k)) size ≡ b → tells (q.kind (q.sort a k)) c ≡ true
-        by true e = (kinds (t (position_of a k)) (ltb-true (t (position_of a k)) size e)).least (q.kind (q.sort a k)) (λ d i. told d (others_met d i)) c h
-        by false e =
-            let le = ltb-false (t (position_of a k)) size e in
-            let past = get_or_past s.kinds.items (t (position_of a k)) Free (omega (arith, le, kinds_len)) in
-            free_least (q.kind (q.sort a k)) c (ap (λ x. tells (kind_of x) c) (sym past) ∙ h)
-
     as_fine : AreAsFine o q
     as_fine = record { sorts = same_sorts; constants = constants_kept; kinds = kinds_kept }
 
-  rise : (k : ℕ) → Rises (o.constants k)
-  rise k = by (nat_lt k size) refl
-    where
-      by : (b : Bool) → nat_lt k size ≡ b → Rises (o.constants k)
-      by true e = (constants k (ltb-true k size e)).rise
-      by false e =
-          let le = ltb-false k size e in
-          let m = length-map s.constants.items (λ cs. cs.items) in
-          let none = get_or_past (map (λ cs. cs.items) s.constants.items) k [] (omega (arith, le, m, constants_len)) in
-          subst Rises (sym none) tt
+  -- the number of a sort is that of a position of the sort
+  own : (a : ℕ) → t (t a) ≡ t a
+  own a = sym (joins.least t joins.meets a)
 
-  values : (k : ℕ) → AreValues (o.constants k)
-  values k = by (nat_lt k size) refl
-    where
-      by : (b : Bool) → nat_lt k size ≡ b → AreValues (o.constants k)
-      by true e = (constants k (ltb-true k size e)).values
-      by false e =
-          let le = ltb-false k size e in
-          let m = length-map s.constants.items (λ cs. cs.items) in
-          let none = get_or_past (map (λ cs. cs.items) s.constants.items) k [] (omega (arith, le, m, constants_len)) in
-          λ v i. absurd (subst (In v) none i)
+  named : AreNamedByFirst o
+  named = record {
+    least = λ a k b l lk ll e. (let m = joins.below (position_of b l) in omega (arith, e, m));
+    stands = λ a k lk.
+        (let n = t (position_of a k) in
+        let l : n - MAX_ARITY * (n / MAX_ARITY) < MAX_ARITY = omega arith in
+        let e : position_of (n / MAX_ARITY) (n - MAX_ARITY * (n / MAX_ARITY)) ≡ n = omega arith in
+        (n / MAX_ARITY, n - MAX_ARITY * (n / MAX_ARITY), l, ap t e ∙ own (position_of a k), sym e));
+  }
 
-  pub are_finest : AreFinest (rules_of p) o
-  are_finest = record { fit = fit; finest = as_fine; rise = rise; values = values }
+  pub finest_by_notes : AreFinest (rules_of p) o
+  finest_by_notes = record {
+    short = λ i r e. heads_short p r (rule_in (rules_of p) i r e);
+    fit = fit;
+    finest = as_fine;
+    named = named;
+    rise = λ k. (are k).rise;
+    values = λ k. (are k).values;
+  }
+
+-- ---- kinds and constants that are held in tables
+
+module _ (p : Program) (s : Sorting) (notes : List Note)
+    (all : notes ≡ flat_map rule_notes (rules_of p))
+    (joins : Joins notes s.sorts.items)
+    (below : All (IsBelow (length s.sorts.items)) notes)
+    (kinds_len : length s.kinds.items ≡ length s.sorts.items)
+    (kinds : (n : ℕ) → n < length s.sorts.items → IsLeastKind notes (sort_in s.sorts.items) n (kind_of (get_or s.kinds.items n Free)))
+    (constants_len : length s.constants.items ≡ length s.sorts.items)
+    (constants : (n : ℕ) → n < length s.sorts.items → AreConstantsIn (terms_at (sort_in s.sorts.items) n notes) (get_or (map (λ cs. cs.items) s.constants.items) n [])) where
+  abbrev size : ℕ
+  size = length s.sorts.items
+
+  -- no note speaks of a sort beyond the tables
+  not_beyond : (n a : ℕ) (e : Note) → In e notes → size ≤ n → (IsBelow size e → a < size) → sort_in s.sorts.items a ≡ n → ⊥
+  not_beyond n a e i le low g = let b = joins.below a in let l = low (below_at size notes e below i) in omega (arith, b, l, g, le)
+
+  all_kinds : (n : ℕ) → IsLeastKind notes (sort_in s.sorts.items) n ((sorts_of s).kind n)
+  all_kinds n = by (nat_lt n size) refl
+    where
+      none : size ≤ n → (e : Note) → In e notes → MeetsKind (sort_in s.sorts.items) n free e
+      none le (Joined a b) i = tt
+      none le (Stands a c) i = tt
+      none le (Compared a c) i = λ g. absurd (not_beyond n a (Compared a c) i le (λ l. l) g)
+
+      by : (b : Bool) → nat_lt n size ≡ b → IsLeastKind notes (sort_in s.sorts.items) n ((sorts_of s).kind n)
+      by true e = kinds n (ltb-true n size e)
+      by false e =
+          let le = ltb-false n size e in
+          let past = get_or_past s.kinds.items n Free (omega (arith, le, kinds_len)) in
+          subst (λ k. IsLeastKind notes (sort_in s.sorts.items) n (kind_of k)) (sym past) (record { meets = none le; least = λ l m c h. free_least l c h })
+
+  all_constants : (n : ℕ) → AreConstantsIn (terms_at (sort_in s.sorts.items) n notes) ((sorts_of s).constants n)
+  all_constants n = by (nat_lt n size) refl
+    where
+      by : (b : Bool) → nat_lt n size ≡ b → AreConstantsIn (terms_at (sort_in s.sorts.items) n notes) ((sorts_of s).constants n)
+      by true e = constants n (ltb-true n size e)
+      by false e =
+          let le = ltb-false n size e in
+          let m = length-map s.constants.items (λ cs. cs.items) in
+          let past = get_or_past (map (λ cs. cs.items) s.constants.items) n [] (omega (arith, le, m, constants_len)) in
+          subst (AreConstantsIn (terms_at (sort_in s.sorts.items) n notes)) (sym past) (record {
+            rise = tt;
+            values = λ v i. absurd i;
+            stand = λ c i. absurd i;
+            all = λ c i. (let w = stands_in (sort_in s.sorts.items) n c notes i in absurd (not_beyond n w.0 (Stands w.0 c) w.1 le (λ l. l) w.2));
+          })
+
+  pub are_finest : AreFinest (rules_of p) (sorts_of s)
+  are_finest = finest_by_notes p notes all s.sorts.items joins (sorts_of s).kind all_kinds (sorts_of s).constants all_constants

@@ -24,7 +24,7 @@ use Rattle.chr_sorts.proofs.Moves.{bound_in}
 use Rattle.chr_sorts.proofs.Equations.{in_mapped, guard_bound}
 use Rattle.chr_kinds.specs.declared.notes.Note.{Note}
 use Rattle.chr_kinds.specs.declared.notes.Note.TheVariants.{Joined, Stands, Compared}
-use Rattle.chr_kinds.specs.FinestSorts.{position_of}
+use Rattle.chr_kinds.specs.FinestSorts.{AreShort, position_of}
 use Rattle.chr_kinds.specs.working.Notes.{numbering, placed_heads, note_at, term_note, bound_notes, comparison_notes, guard_notes, rule_notes}
 
 -- the sorts o, which take the position of number n to f n, meet the note
@@ -32,10 +32,6 @@ abbrev pub MeetsNote : Sorts → (ℕ → ℕ) → Note → Type 0
 MeetsNote o f (Joined p q) = f p ≡ f q
 MeetsNote o f (Stands p c) = In c (o.constants (f p))
 MeetsNote o f (Compared p s) = tells (o.kind (f p)) s ≡ true
-
--- each atom has at most as many arguments as positions are numbered
-abbrev pub AreShort : List Pattern → Type 0
-AreShort ps = (p : Pattern) → In p ps → length p.args.items ≤ MAX_ARITY
 
 -- ---- members of a map over lists
 
@@ -72,7 +68,7 @@ module _ (o : Sorts) (f : ℕ → ℕ) (same : (s k : ℕ) → k < MAX_ARITY →
       let more = terms_moved ps (λ q i. short q (inr i)) in
       (λ i. here i ++ more i) ∙ sym (map-append moved (terms_from (position_of p.symbol.0) 0 p.args.items) (sorted_terms numbering ps))
 
-  first_moved : (qs : List (ℕ × Term)) (p x : ℕ) → In (p, Variable x) qs → first_sort (map moved qs) x ≡ f (first_sort qs x)
+  pub first_moved : (qs : List (ℕ × Term)) (p x : ℕ) → In (p, Variable x) qs → first_sort (map moved qs) x ≡ f (first_sort qs x)
   first_moved [] p x i = absurd i
   first_moved (q ∷ qs) p x i = elim (is_variable x q.1) as (λ b. is_variable x q.1 ≡ b → cond b (f q.0) (first_sort (map moved qs) x) ≡ f (cond b q.0 (first_sort qs x))) [
     | true ↦ λ e. refl

@@ -133,10 +133,10 @@ module _ (f : ℕ → ℕ) (n : ℕ) where
   pub elsewhere_passed : (notes : List Note) (k : Kind) (p : ℕ) (s : Cmp) → IsLeastKind notes f n k → ¬ (f p ≡ n) → IsLeastKind (notes ++ Compared p s ∷ []) f n k
   elsewhere_passed notes k p s is other = passed notes k (Compared p s) is (λ l same. absurd (other same))
 
-  pub other_passed : (notes : List Note) (k : Kind) (e : Note) → IsLeastKind notes f n k → ((p : ℕ) (s : Cmp) → e ≡ Compared p s → ⊥) → IsLeastKind (notes ++ e ∷ []) f n k
-  other_passed notes k (Joined p q) is other = passed notes k (Joined p q) is (λ l. tt)
-  other_passed notes k (Stands p c) is other = passed notes k (Stands p c) is (λ l. tt)
-  other_passed notes k (Compared p s) is other = absurd (other p s refl)
+  pub other_kept : (notes : List Note) (k : Kind) (e : Note) → IsLeastKind notes f n k → ((p : ℕ) (s : Cmp) → e ≡ Compared p s → ⊥) → IsLeastKind (notes ++ e ∷ []) f n k
+  other_kept notes k (Joined p q) is other = passed notes k (Joined p q) is (λ l. tt)
+  other_kept notes k (Stands p c) is other = passed notes k (Stands p c) is (λ l. tt)
+  other_kept notes k (Compared p s) is other = absurd (other p s refl)
 
   -- ---- the next note
 
@@ -150,4 +150,4 @@ module _ (f : ℕ → ℕ) (n : ℕ) where
   step_elsewhere notes i d k p s l q is other = next_kind notes i d (Compared p s) k l q (elsewhere_passed (take i notes) k p s is other)
 
   pub step_other : (notes : List Note) (i : ℕ) (d : Note) (k : Kind) → i < length notes → ((p : ℕ) (s : Cmp) → get_or notes i d ≡ Compared p s → ⊥) → IsLeastKind (take i notes) f n k → IsLeastKind (take (i + 1) notes) f n k
-  step_other notes i d k l other is = next_kind notes i d (get_or notes i d) k l refl (other_passed (take i notes) k (get_or notes i d) is other)
+  step_other notes i d k l other is = next_kind notes i d (get_or notes i d) k l refl (other_kept (take i notes) k (get_or notes i d) is other)

@@ -5,3 +5,13 @@ pub mod Listing
 pub mod Finest
 pub mod Combined
 pub mod OneCombinations
+pub mod OneFinest
+pub mod Weaving
+pub mod Woven
+pub mod FinestThere
+pub mod ClassSorts
+pub mod Numbers
+pub mod Blocks
+pub mod ListsThere
+pub mod Choices
+pub mod MoreCombinations

@@ -72,15 +72,19 @@ same_numbers cs us vs l f g = same_from (pos 0) cs us vs l (first_from cs us f) 
 
 -- ---- one sort
 
+pub one_lists : (k : Kind) (cs : List ℤ) (n : ℕ) (ls ms : List (List ℤ)) → Rises cs → AreListsAt k cs n ls → AreListsAt k cs n ms → ls ≡ ms
+one_lists free cs n ls ms r a b =
+    let e = same_numbers cs a.0 b.0 (a.1 ∙ sym b.1) a.2 b.2 in
+    a.3 ∙ ap (λ us. us ∷ []) e ∙ sym b.3
+one_lists equal cs n ls ms r a b =
+    let e = same_numbers cs a.0 b.0 (a.1 ∙ sym b.1) a.2 b.2 in
+    same_members {A = List ℤ} (λ r t. slice_cmp int_cmp r t ≡ Less) never (λ r t u. (lists_total int_cmp_total).trans r t u) ls ms a.4 b.4
+    (λ zs i. (let h = (a.3 zs).0 i in (b.3 zs).1 (h.0, subst (λ us. AreBlocks cs [] us zs) e h.1)))
+    (λ zs i. (let h = (b.3 zs).0 i in (a.3 zs).1 (h.0, subst (λ us. AreBlocks cs [] us zs) (sym e) h.1)))
+one_lists ordered cs n ls ms r a b = one_list n cs ls ms r a b
+
 lists_alike : (k : Kind) (cs : List ℤ) (n : ℕ) (ls ms : List (List ℤ)) → Rises cs → AreListsAt k cs n ls → AreListsAt k cs n ms → (zs : List ℤ) → In zs ls → In zs ms
-lists_alike free cs n ls ms r a b zs i =
-    let e = same_numbers cs a.0 b.0 (a.1 ∙ sym b.1) a.2 b.2 in
-    subst (In zs) (a.3 ∙ ap (λ us. us ∷ []) e ∙ sym b.3) i
-lists_alike equal cs n ls ms r a b zs i =
-    let e = same_numbers cs a.0 b.0 (a.1 ∙ sym b.1) a.2 b.2 in
-    let h = (a.3 zs).0 i in
-    (b.3 zs).1 (h.0, subst (λ us. AreBlocks cs [] us zs) e h.1)
-lists_alike ordered cs n ls ms r a b zs i = subst (In zs) (one_list n cs ls ms r a b) i
+lists_alike k cs n ls ms r a b zs i = subst (In zs) (one_lists k cs n ls ms r a b) i
 
 -- ---- all sorts
 

@@ -26,13 +26,18 @@ pub record AreFirstNumbers (cs us : List ℤ) : Type 0 where
 
 -- The lists of n values at a sort with these constants, by its kind. At a free sort there is one, of all different
 -- values; at an equal one there is one for each way to put the values into blocks, each at a constant or at none; at an
--- ordered one there are the representatives of the order types.
+-- ordered one there are the representatives of the order types. Each list of them rises.
 abbrev pub AreListsAt : Kind → List ℤ → ℕ → List (List ℤ) → Type 0
 AreListsAt free cs n ls = (us : List ℤ) × (length us ≡ n) × AreFirstNumbers cs us × (ls ≡ us ∷ [])
 AreListsAt equal cs n ls =
     (us : List ℤ) × (length us ≡ n) × AreFirstNumbers cs us
     × ((zs : List ℤ) → In zs ls ↔ ((length zs ≡ n) × AreBlocks cs [] us zs))
+    × RisesBy (λ r t. slice_cmp int_cmp r t ≡ Less) ls
 AreListsAt ordered cs n ls = AreTypes n cs ls
+
+-- the lists there are more than the limit
+abbrev pub MoreListsThan : ℕ → Kind → List ℤ → ℕ → Type 0
+MoreListsThan limit kind cs n = (ls : List (List ℤ)) × AreListsAt kind cs n ls × (limit < length ls)
 
 -- all combinations of one list at each of the sorts ks, in lexicographic order
 pub record AreCombinations (s : Sorts) (ks : List ℕ) (rs : List (List ℤ)) : Type 0 where
@@ -41,6 +46,10 @@ pub record AreCombinations (s : Sorts) (ks : List ℕ) (rs : List (List ℤ)) : 
   pub combined : (us : List ℤ)
       → In us rs ↔ ((length us ≡ length ks) × ((k : ℕ) → In k ks → In (values_at k ks us) (lists k)))
   pub order : RisesBy (λ r t. slice_cmp int_cmp r t ≡ Less) rs
+
+-- there are more combinations than the limit
+abbrev pub MoreCombinationsThan : Sorts → List ℕ → ℕ → Type 0
+MoreCombinationsThan s ks limit = (rs : List (List ℤ)) × AreCombinations s ks rs × (limit < length rs)
 
 -- under a most general unifier of the matched heads and of both guards' equations: the cases at the combinations at
 -- which both guards hold, in order
@@ -69,8 +78,6 @@ pub record HasTooManyCombinations (s : Sorts) (rules : List Rule) (o : Overlap) 
   pub first : slice_get rules (o.first - 1) ≡ Some rule1
   pub second : slice_get rules (o.second - 1) ≡ Some rule2
   pub classes : Substitution
-  pub combinations : List (List ℤ)
   pub solves : IsMostGeneralUnifier classes (all_equations rule1 rule2 o.matching.items)
   pub number : n ≡ length (class_sorts s classes rule1 rule2)
-  pub all : AreCombinations s (class_sorts s classes rule1 rule2) combinations
-  pub more : MAX_TYPES < length combinations
+  pub many : MoreCombinationsThan s (class_sorts s classes rule1 rule2) MAX_TYPES

@@ -1,2 +1,4 @@
--- What the laws of finest sorts and of combinations say.
+-- What the laws of combinations and of lists at one sort say.
 pub mod Combinations
+pub mod FinestSorts
+pub mod Lists

@@ -1,5 +1,8 @@
-//! The law of combinations. Nothing here computes: the contract is the law.
+//! The laws of finest sorts, of lists at one sort and of their combinations. Nothing here computes: the contract is the
+//! law.
+ghost use Rattle.chr_kinds.specs.laws.FinestSorts.{FinestAreOne, FinestExist, FinestHaveAsMany, FinestHaveOneCases};
 ghost use Rattle.chr_kinds.specs.laws.Combinations.{CombinationsAreOne, CombinationsAreValues, CombinationsStandForAll};
+ghost use Rattle.chr_kinds.specs.laws.Lists.{ListsAreOne, ListsExist};
 
 use chr_sorts::laws::sorted_lists;
 
@@ -12,3 +15,18 @@ pub fn combinations()
 {
     sorted_lists();
 }
+
+/// Each program has finest sorts, and these are one: by any two an overlap has the same sorted cases, or too many
+/// combinations.
+pub fn finest()
+    ensures exist { FinestExist }
+    ensures one { FinestAreOne }
+    ensures cases { FinestHaveOneCases }
+    ensures many { FinestHaveAsMany }
+{}
+
+/// At a sort of each kind the lists of so many values have one list, where its constants are rising 64-bit values.
+pub fn lists()
+    ensures exist { ListsExist }
+    ensures one { ListsAreOne }
+{}

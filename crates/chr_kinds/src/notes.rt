@@ -61,7 +61,7 @@ fn add_patterns(placed: &mut Vec<(u32, Term)>, patterns: &[Pattern]) -> Result<(
 }
 
 /// The position at which a variable stands first, and 0 where it stands at none.
-fn first_position(placed: &[(u32, Term)], variable: u8) -> u32
+pub(crate) fn first_position(placed: &[(u32, Term)], variable: u8) -> u32
     ensures { result ≡ first_sort placed.now variable }
 {
     let [first, rest @ ..] = placed else {
@@ -155,13 +155,21 @@ fn add_guard(
     Ok(())
 }
 
-/// Adds what a rule says.
-fn add_rule(alloc: Global, notes: &mut Vec<Note>, rule: &Rule) -> Result<(), AllocError>
-    ensures { OnOk result (notes.new.items ≡ notes.old.items ++ rule_notes rule.now) }
+/// The terms of a rule's heads, each with the number of its position.
+pub(crate) fn placed_heads(alloc: Global, rule: &Rule) -> Result<Vec<(u32, Term)>, AllocError>
+    ensures { IfOk result (λ heads. heads.items ≡ placed_heads rule.now) }
 {
     let mut heads = Vec::new(alloc);
     add_patterns(&mut heads, &rule.kept)?;
     add_patterns(&mut heads, &rule.removed)?;
+    Ok(heads)
+}
+
+/// Adds what a rule says.
+fn add_rule(alloc: Global, notes: &mut Vec<Note>, rule: &Rule) -> Result<(), AllocError>
+    ensures { OnOk result (notes.new.items ≡ notes.old.items ++ rule_notes rule.now) }
+{
+    let heads = placed_heads(alloc, rule)?;
     let mut body = Vec::new(alloc);
     add_patterns(&mut body, &rule.body)?;
     add_term_notes(notes, &heads, &heads)?;

@@ -82,7 +82,14 @@ impl Sorting {
         requires { argument < MAX_ARITY }
         ensures { result ≡ (sorts_of self.now).sort symbol.0 argument }
     {
-        let position = position(symbol, argument) as usize;
+        self.sort_at(position(symbol, argument))
+    }
+
+    /// The sort of the position of this number.
+    pub(crate) fn sort_at(&self, position: u32) -> usize
+        ensures { result ≡ sort_in self.now.sorts.items position }
+    {
+        let position = position as usize;
         if position < self.sorts.len() {
             self.sorts[position]
         } else {

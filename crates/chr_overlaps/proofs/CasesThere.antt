@@ -50,7 +50,7 @@ behind_constant d ts cs ds v is j = record {
   ];
 }
 
-constants_in : (ts : List Term) → ((c : ℤ) → In (Constant c) ts → IsValue c) → (cs : List ℤ) × AreConstantsIn ts cs
+pub constants_in : (ts : List Term) → ((c : ℤ) → In (Constant c) ts → IsValue c) → (cs : List ℤ) × AreConstantsIn ts cs
 constants_in [] fit = ([], none_yet)
 constants_in (Variable x ∷ ts) fit = let w = constants_in ts (λ c i. fit c (inr i)) in (w.0, behind_variable x ts w.0 w.1)
 constants_in (Constant d ∷ ts) fit =

@@ -15,3 +15,4 @@ pub mod Few
 pub mod CasesThere
 pub mod UnifiedOverlaps
 pub mod Beginnings
+pub mod GuardEquations

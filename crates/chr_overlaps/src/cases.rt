@@ -13,13 +13,14 @@ ghost use Rattle.chr_confluence.specs.Representatives.{guards_hold};
 ghost use Rattle.chr_overlaps.specs.CaseLists.{case_at, AreCases, IsTooMany};
 ghost use Rattle.chr_overlaps.specs.OverlapLists.{IsOverlapOf};
 ghost use Rattle.chr_overlaps.specs.Refusals.{IfTooManyTypes};
-ghost use Rattle.chr_overlaps.specs.UnifiedOverlaps.{AreRulesOf, IsUnifiedAt};
+ghost use Rattle.chr_overlaps.specs.UnifiedOverlaps.{AreRulesOf, IsUnifiedAt, IsSortedUnifiedAt, HasNoSortedUnifier, HasUnified};
 ghost use Rattle.chr_overlaps.specs.working.Unifiers.{classes_of, IsUnified};
 
 use crate::constants::constants;
 use crate::fault::CaseFault;
 use crate::instances::{all_hold, instances};
 use crate::overlap::Overlap;
+use crate::sorted::sorted_unify;
 use crate::unify::{Unified, unify};
 use chr_base::atom::Atom;
 use chr_base::bag::Bag;
@@ -150,8 +151,8 @@ fn cases_at(
     Ok(cases)
 }
 
-/// The rule of a number.
-fn rule_of(weighed: &Weighed, number: u32) -> &Rule
+/// The rule of a number, as overlaps and steps name it, from 1.
+pub fn rule_of(weighed: &Weighed, number: u32) -> &Rule
     requires some { 0 < number }
     requires within { number ≤ length (rules_of (program_of weighed.now)) }
     ensures { slice_get (rules_of (program_of weighed.now)) (number - 1) ≡ Some result.now }
@@ -171,6 +172,18 @@ pub fn unified(weighed: &Weighed, overlap: &Overlap) -> Option<Unified>
     unify(first, second, &overlap.matching)
 }
 
+/// The overlap with its matched heads made one, and with what the `=:=` of both guards make equal. None where two
+/// constants would have to be one. It takes no memory.
+pub fn sorted_unified(weighed: &Weighed, overlap: &Overlap) -> Option<Unified>
+    requires { IsOverlapOf (rules_in weighed.now) overlap.now }
+    ensures none { IfNone result (HasNoSortedUnifier (rules_in weighed.now) overlap.now) }
+    ensures unified { IfSome result (IsSortedUnifiedAt (rules_in weighed.now) overlap.now) }
+{
+    let first = rule_of(weighed, overlap.first);
+    let second = rule_of(weighed, overlap.second);
+    sorted_unify(first, second, &overlap.matching)
+}
+
 /// The case of an overlap at these values of its free classes, in their order, where both guards hold under them.
 ///
 /// # Errors
@@ -183,7 +196,7 @@ pub fn case_among(
     values: &[i64],
 ) -> Result<Option<Case>, AllocError>
     requires overlap { IsOverlapOf (rules_in weighed.now) overlap.now }
-    requires unified { IsUnifiedAt (rules_in weighed.now) overlap.now unified.now }
+    requires unified { HasUnified (rules_in weighed.now) overlap.now unified.now }
     ensures { (r1 r2 : RuleValue) → AreRulesOf (rules_in weighed.now) overlap.now r1 r2 →
         IfOk result (λ found. found ≡
         (if guards_hold (classes_of unified.now) r1 r2 values.now

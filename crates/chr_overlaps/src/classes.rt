@@ -38,7 +38,7 @@ fn replaced(term: Term, variable: u8, other: Term) -> Term
 }
 
 /// The term with its variable's number raised.
-fn renamed_apart(shift: u8, term: Term) -> Term
+pub(crate) fn renamed_apart(shift: u8, term: Term) -> Term
     requires { is_below (2 ^ 8) (renamed_apart shift term) ≡ true }
     ensures { result ≡ renamed_apart shift term }
 {
@@ -89,7 +89,7 @@ impl Classes {
     }
 
     /// Makes one class of those of two terms. False where two constants would be one.
-    fn join(&mut self, left: Term, right: Term) -> bool
+    pub(crate) fn join(&mut self, left: Term, right: Term) -> bool
         requires left { is_below (length self.old.terms.items) left ≡ true }
         requires right { is_below (length self.old.terms.items) right ≡ true }
         ensures classes { (if result then Some (class_in self.new.terms.items) else None) ≡

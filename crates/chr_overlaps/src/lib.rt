@@ -9,11 +9,13 @@ mod instances;
 mod listing;
 mod numbered;
 mod overlap;
+mod sorted;
 #[cfg(test)]
 mod tests;
 mod unify;
 
 pub use fault::CaseFault;
 pub use listing::overlaps;
+pub use numbered::variables;
 pub use overlap::Overlap;
 pub use unify::Unified;

@@ -24,7 +24,7 @@ fn count_in_terms(before: u8, terms: &[Term]) -> u8
 }
 
 /// The number of variables of a rule, which are 1, 2, .. up to it.
-pub(crate) fn variables(rule: &Rule) -> u8
+pub fn variables(rule: &Rule) -> u8
     ensures number { result ≡ variables_of rule.now }
     ensures most { result ≤ MAX_VARIABLES }
 {

@@ -35,6 +35,13 @@ pub struct Unified {
 }
 
 impl Unified {
+    /// The classes that are bound to no constant, each by its first variable, rising.
+    pub fn free(&self) -> &[u8]
+        ensures { result.now ≡ self.now.free.items }
+    {
+        &self.free
+    }
+
     /// The number of classes that are bound to no constant, at most 48.
     pub fn free_classes(&self) -> usize
         ensures { result ≡ length self.now.free.items }
@@ -79,7 +86,7 @@ fn join_at(
 }
 
 /// Makes the arguments at all matched places agree. False where two constants would be one.
-fn join_heads(
+pub(crate) fn join_heads(
     classes: &mut Classes,
     first: &Rule,
     second: &Rule,
@@ -150,6 +157,22 @@ fn class_guards(
     guards
 }
 
+/// The heads and guards of two rules in these classes.
+pub(crate) fn unified_by(classes: Classes, first: &Rule, second: &Rule, shift: u8) -> Unified
+    requires shift { shift ≡ variables_of first.now }
+    requires table { length classes.terms.items ≡ variables_of first.now + variables_of second.now + 1 }
+    ensures classes { result.classes ≡ classes }
+    ensures unified { IsUnified first.now second.now result }
+{
+    Unified {
+        first: class_heads(&classes, first, 0),
+        second: class_heads(&classes, second, shift),
+        guards: class_guards(&classes, first, second, shift),
+        free: classes.free(),
+        classes,
+    }
+}
+
 /// Makes matched places agree, where one unifier of them all exists: None where two constants would be one.
 pub(crate) fn unify(first: &Rule, second: &Rule, matching: &[u8]) -> Option<Unified>
     requires { SameSymbols (heads_of second.now) matching.now (heads_of first.now) }
@@ -163,11 +186,5 @@ pub(crate) fn unify(first: &Rule, second: &Rule, matching: &[u8]) -> Option<Unif
     if !join_heads(&mut classes, first, second, shift, matching) {
         return None;
     }
-    Some(Unified {
-        first: class_heads(&classes, first, 0),
-        second: class_heads(&classes, second, shift),
-        guards: class_guards(&classes, first, second, shift),
-        free: classes.free(),
-        classes,
-    })
+    Some(unified_by(classes, first, second, shift))
 }

@@ -124,14 +124,6 @@ module _ (ds : List Declaration) (rules : List Rule) where
     stops first line from to start now old new s =
         breaks_off first s.bytes s.chunk.front line s.chunk.out from to start now old new s.read s.chunk.are s.chunk.answers (part_of_whole old new _ s.chunk.written)
 
-    -- a chunk that was answered in part
-    pub breaks : (first chunk line : List ℕ) (from to next : Option (List ℕ)) (start mid : List Operations) (old middle new : Option (List ℕ)) → AnswersFrontRead ds rules first from to line start mid old middle → Consumes to next chunk
-        → AnswersPart ds rules (line ++ chunk) mid middle new → AnswersInput ds rules first from start (AppendsPart old new)
-    breaks first chunk line from to next start mid old middle new s c a =
-        breaks_off first (s.bytes ++ chunk) (s.chunk.front ++ a.front) a.rest (s.chunk.out ++ a.out) from next start a.now old new (Consumes-trans from to next _ _ s.read c)
-        (joined first s.bytes chunk s.chunk.front line a.front a.rest s.chunk.are a.are) (fronts_join ds rules s.chunk.front a.front s.chunk.out a.out start mid a.now s.chunk.answers a.answers)
-        (part_after old middle new _ _ s.chunk.written a.written)
-
     -- the first bytes were answered in part
     pub breaks_first : (first : List ℕ) (from : Option (List ℕ)) (start : List Operations) (old new : Option (List ℕ)) → AnswersPart ds rules first start old new → AnswersInput ds rules first from start (AppendsPart old new)
     breaks_first first from start old new a =

@@ -10,6 +10,7 @@ pub mod Cutting
 pub mod Outcomes
 pub mod Pieces
 pub mod Conversing
+pub mod Shortened
 pub mod Inputs
 pub mod Telling
 pub mod Merging

@@ -12,6 +12,7 @@ use Rattle.chr_base.specs.Programs.{declarations, rules_of}
 use Rattle.chr_base.specs.Texts.{store_text}
 use Rattle.chr_weights.specs.Weights.{AreLowering, IsLowering, weight_by}
 use Rattle.chr_weights.proofs.Ranks.{lowers_rank_by, rank_by}
+use Rattle.chr_join.specs.declared.coverage.Coverage.TheVariants.{Joint}
 use Rattle.chr_join.specs.declared.refused.Cause.{Cause}
 use Rattle.chr_join.specs.declared.refused.Cause.TheVariants as cause
 use Rattle.chr_join.specs.Once.{SameRefusal, AcceptedOnce, RefusedOnce, NeverBoth, AcceptedAreConfluent}
@@ -102,18 +103,18 @@ module _ (ds : List Declaration) (rules : List Rule) where
 
   by_overlaps : VerdictLaws → (out out' : List ℕ) → IsRefusedByOverlaps ds rules out → IsRefusedByOverlaps ds rules out' → out ≡ out'
   by_overlaps laws out out' h g =
-      one_line h.cause g.cause out out' (laws.refused rules h.cause g.cause h.first g.first (no_memory h.cause out h.line) (no_memory g.cause out' g.line)) h.line g.line
+      one_line h.cause g.cause out out' (laws.refused Joint rules h.cause g.cause h.first g.first (no_memory h.cause out h.line) (no_memory g.cause out' g.line)) h.line g.line
 
   one_answer : VerdictLaws → (replicas : ℕ) (commands : List (List ℕ)) (out out' : List ℕ) → IsAnswered ds rules replicas commands out → IsAnswered ds rules replicas commands out' → out ≡ out'
   one_answer laws replicas commands out out' h g =
-      let cases = laws.accepted rules h.cases g.cases h.accepted g.accepted in
-      let confluent = laws.confluent rules (rank_by ds) h.cases (lowers_rank_by ds rules h.lowers) h.accepted in
+      let cases = laws.accepted Joint rules h.cases g.cases h.accepted g.accepted in
+      let confluent = laws.confluent Joint rules (rank_by ds) h.cases (lowers_rank_by ds rules h.lowers) h.accepted in
       let t = laws.answers ds rules confluent replicas commands h.answers g.answers h.answered g.answered in
       h.out_is ∙ (λ i. accepted_text (length rules) (cases i) ++ 10 ∷ t i) ∙ sym g.out_is
 
   never_both : VerdictLaws → (replicas : ℕ) (commands : List (List ℕ)) (out out' : List ℕ) → IsAnswered ds rules replicas commands out → IsRefusedByWeights ds rules out' ⊎ IsRefusedByOverlaps ds rules out' → ⊥
   never_both laws replicas commands out out' h (inl w) = not_both w.rule w.before w.after w.first h.lowers
-  never_both laws replicas commands out out' h (inr o) = no_memory o.cause out' o.line (laws.either rules h.cases o.cause h.accepted o.first)
+  never_both laws replicas commands out out' h (inr o) = no_memory o.cause out' o.line (laws.either Joint rules h.cases o.cause h.accepted o.first)
 
   rules_output : VerdictLaws → (replicas : ℕ) (commands : List (List ℕ)) (s s' : Status) (out out' : List ℕ) → IsRulesOutput ds rules replicas commands s out → IsRulesOutput ds rules replicas commands s' out' → (s ≡ s') × (out ≡ out')
   rules_output laws replicas commands Accepted Accepted out out' h g = (refl, one_answer laws replicas commands out out' h g)

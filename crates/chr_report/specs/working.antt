@@ -6,3 +6,4 @@ pub mod ReplyTexts
 pub mod Judged
 pub mod Divided
 pub mod Serving
+pub mod Shortened

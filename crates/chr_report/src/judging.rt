@@ -6,7 +6,7 @@ ghost use Rattle.chr_report.specs.working.Judged.{IsJudged, IsJudgedText};
 
 use crate::verdict::{fault_line, not_lowered_line, refusal_line};
 use chr_base::program::Program;
-use chr_join::{Accepted, accept};
+use chr_join::{Accepted, Coverage, accept};
 use chr_read::read;
 use chr_weights::{Weighed, weigh};
 use std::alloc::{AllocError, Global};
@@ -22,7 +22,7 @@ pub(crate) enum Judged {
 fn judge_weighed(alloc: Global, weighed: Weighed) -> Result<Judged, AllocError>
     ensures { IfOk result (IsJudged (Ok (program_of weighed))) }
 {
-    match accept(alloc, weighed) {
+    match accept(alloc, weighed, Coverage::Joint) {
         Ok(accepted) => Ok(Judged::Accepted(accepted)),
         Err(refused) => {
             let line = refusal_line(alloc, refused.weighed.program(), &refused.cause)?;

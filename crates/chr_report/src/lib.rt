@@ -10,6 +10,7 @@ mod reply;
 mod running;
 mod service;
 mod serving;
+mod shortening;
 #[cfg(test)]
 mod tests;
 mod verdict;

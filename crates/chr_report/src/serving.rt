@@ -27,6 +27,7 @@ use crate::judging::{Judged, judge};
 use crate::one_text::answers_exist;
 use crate::running::{Status, output_of};
 use crate::service::Service;
+use crate::shortening::shorten;
 use crate::verdict::accepted_line;
 use crate::wire::Wire;
 use chr_device::{RunFault, Settings, Verb};
@@ -128,6 +129,7 @@ fn converse<T: Wire>(
             return send_answer(alloc, service, &line, wire);
         }
         answer_chunk(alloc, service, &mut line, &chunk[..n], wire)?;
+        shorten(&mut line);
     }
     wire.fail();
     Err(RunFault::Device)

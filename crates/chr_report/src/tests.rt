@@ -10,6 +10,7 @@ mod programs;
 mod refusals;
 mod replicas;
 mod serving;
+mod shortening;
 mod stores;
 mod verdicts;
 

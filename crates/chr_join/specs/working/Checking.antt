@@ -7,10 +7,11 @@ use Rattle.chr_base.specs.declared.rule.Rule.{Rule}
 use Rattle.chr_base.specs.Stores.{Store}
 use Rattle.chr_overlaps.specs.declared.overlap.Overlap.{Overlap}
 use Rattle.chr_overlaps.specs.declared.cases.Case.{Case}
+use Rattle.chr_join.specs.declared.coverage.Coverage.{Coverage}
 use Rattle.chr_join.specs.declared.refused.Cause.{Cause}
 use Rattle.chr_join.specs.Sides.{SideEnds}
-use Rattle.chr_join.specs.Verdicts.{IsFirst}
-use Rattle.chr_join.specs.Explanations.{IsRefusal}
+use Rattle.chr_join.specs.Verdicts.{IsFirstBy}
+use Rattle.chr_join.specs.Explanations.{IsRefusalBy}
 
 -- Both sides of the case end in these stores, which differ.
 pub record EndApart (rules : List Rule) (c : Case) (ends : Store × Store) : Type 0 where
@@ -19,8 +20,8 @@ pub record EndApart (rules : List Rule) (c : Case) (ends : Store × Store) : Typ
   pub differ : ¬ (ends.0 ≡ ends.1)
 
 -- The cause is that of the rules, if this overlap is the first that has one.
-abbrev pub RefusesAt : List Rule → Overlap → Cause → Type 0
-RefusesAt rules o e = IsFirst rules o → IsRefusal rules e
+abbrev pub RefusesAt : Coverage → List Rule → Overlap → Cause → Type 0
+RefusesAt coverage rules o e = IsFirstBy coverage rules o → IsRefusalBy coverage rules e
 
 -- So many classes have no more order types than an overlap may have, for each of these numbers.
 abbrev pub HaveFewTypes : List ℤ → List ℕ → Type 0

@@ -6,7 +6,7 @@ use chr_base::derivation::Step;
 use chr_base::program::Program;
 use chr_base::term::{Pattern, Term};
 use chr_base::text::store_text;
-use chr_join::{Accepted, accept};
+use chr_join::{Accepted, Coverage, accept};
 use chr_ops::{Op, OpId};
 use chr_read::read;
 use chr_weights::weigh;
@@ -30,7 +30,7 @@ pub fn accepted(rt: &impl Abort, alloc: Global, text: &str) -> Accepted {
     let Ok(weighed) = weigh(program(rt, alloc, text)) else {
         panic!(rt; "no program that lowers: {text}");
     };
-    let Ok(accepted) = accept(alloc, weighed) else {
+    let Ok(accepted) = accept(alloc, weighed, Coverage::Joint) else {
         panic!(rt; "refused: {text}");
     };
     accepted

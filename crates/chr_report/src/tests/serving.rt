@@ -113,7 +113,7 @@ fn lines_are_answered_at_once(rt: HostRuntime) -> Result<(), Fail> {
 }
 
 /// What is sent is what a run writes.
-fn expect_served(rt: &impl Abort, alloc: Global, input: &[u8]) -> Result<(), RunFault> {
+pub(super) fn expect_served(rt: &impl Abort, alloc: Global, input: &[u8]) -> Result<(), RunFault> {
     let (status, written) = outcome(alloc, PLAIN, input)?;
     let mut wire = Streams {
         reader: Watched::of(input),

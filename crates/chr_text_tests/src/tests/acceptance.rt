@@ -3,7 +3,7 @@ use crate::tests::texts::{atoms_text, overlap_text, rested, store, weighed};
 use chr_base::bag::Bag;
 use chr_base::derivation::Derivation;
 use chr_base::text::store_text;
-use chr_join::{Accepted, Cause, Failure, Refused, accept};
+use chr_join::{Accepted, Cause, Coverage, Failure, Refused, accept};
 use chr_rewrite::plain::plain_end;
 use chr_rewrite::replay::replay;
 use chr_weights::Weighed;
@@ -15,7 +15,7 @@ const MINIMUM: &str = ":- chr_constraint min/1. min(X) \\ min(Y) <=> X =< Y | tr
 
 /// The accepted program of a text.
 fn accepted(rt: &impl Abort, alloc: Global, text: &str) -> Accepted {
-    let Ok(accepted) = accept(alloc, weighed(rt, alloc, text)) else {
+    let Ok(accepted) = accept(alloc, weighed(rt, alloc, text), Coverage::Joint) else {
         panic!(rt; "refused: {text}");
     };
     accepted
@@ -23,7 +23,7 @@ fn accepted(rt: &impl Abort, alloc: Global, text: &str) -> Accepted {
 
 /// The refused program of a text, with the cause.
 fn refused(rt: &impl Abort, alloc: Global, text: &str) -> Refused {
-    let Err(refused) = accept(alloc, weighed(rt, alloc, text)) else {
+    let Err(refused) = accept(alloc, weighed(rt, alloc, text), Coverage::Joint) else {
         panic!(rt; "accepted: {text}");
     };
     refused

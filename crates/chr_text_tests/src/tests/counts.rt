@@ -6,7 +6,7 @@ use crate::tests::slow_overlaps::overlaps;
 use crate::tests::slow_verdict::{Pair, pairs};
 use crate::tests::texts::weighed_of;
 use chr_base::rule::Rule;
-use chr_join::accept;
+use chr_join::{Coverage, accept};
 use std::alloc::Global;
 use std::collections::BTreeSet;
 use std::process::Abort;
@@ -56,7 +56,7 @@ fn each_order_type_is_one_case(rt: HostRuntime) -> Result<(), Fail> {
     for _ in 0..1_000 {
         let text = program_text(alloc, &mut random)?;
         if let Some(weighed) = weighed_of(alloc, &text) {
-            if let Ok(accepted) = accept(alloc, weighed) {
+            if let Ok(accepted) = accept(alloc, weighed, Coverage::Joint) {
                 let cases = cases_of(&rt, alloc, accepted.program().rules(), &text)?;
                 assert_eq!(rt; accepted.cases(), cases as u64, "{text}");
                 programs = programs.saturating_add(1);

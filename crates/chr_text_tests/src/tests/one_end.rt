@@ -7,7 +7,7 @@ use crate::tests::two_pools::{end_in_columns, end_in_list, random_store, values_
 use chr_base::bag::Bag;
 use chr_base::rule::Rule;
 use chr_base::term::{Cmp, Pattern, Term};
-use chr_join::accept;
+use chr_join::{Coverage, accept};
 use chr_rewrite::list::ListPool;
 use chr_rewrite::plain::plain_end;
 use chr_rewrite::pool::Pool;
@@ -227,7 +227,7 @@ fn confluent_programs_have_one_end(rt: HostRuntime) -> Result<(), Fail> {
         assert!(rt; is_one, "two ends: {text}");
         tally.add(alloc, rules, &stores)?;
         if are_small(rules) {
-            let is_accepted = accept(alloc, weighed).is_ok();
+            let is_accepted = accept(alloc, weighed, Coverage::Joint).is_ok();
             assert!(rt; is_accepted, "refused: {text}");
             count(&mut tally.accepted, true);
         }

@@ -10,7 +10,7 @@ use chr_base::atom::{Atom, SymbolId};
 use chr_base::bag::Bag;
 use chr_base::derivation::Derivation;
 use chr_base::rule::Rule;
-use chr_join::accept;
+use chr_join::{Coverage, accept};
 use chr_rewrite::replay::replay;
 use chr_weights::Weighed;
 use std::alloc::{AllocError, Global};
@@ -185,7 +185,7 @@ fn stores_end_as_rest_ends_them(rt: HostRuntime) -> Result<(), Fail> {
         let Some(weighed) = weighed_of(alloc, &text) else {
             continue;
         };
-        match accept(alloc, weighed) {
+        match accept(alloc, weighed, Coverage::Joint) {
             Ok(accepted) => {
                 let mut trials = trials(alloc, &mut random, accepted.weighed())?;
                 assert!(rt; trials.iter().all(|trial| trial.is_one_end), "{text}");

@@ -9,7 +9,7 @@ use crate::tests::wide_programs::wide_program_text;
 use chr_base::bag::Bag;
 use chr_base::rule::Rule;
 use chr_columns::columns::Columns;
-use chr_join::accept;
+use chr_join::{Coverage, accept};
 use chr_rewrite::list::ListPool;
 use chr_rewrite::pool::Pool;
 use chr_rewrite::resting::{at_rest, rest};
@@ -206,7 +206,7 @@ fn pools_rest_alike(rt: HostRuntime) -> Result<(), Fail> {
         let Some(weighed) = weighed_of(alloc, &text) else {
             continue;
         };
-        match accept(alloc, weighed) {
+        match accept(alloc, weighed, Coverage::Joint) {
             Ok(program) => {
                 accepted.run(alloc, &mut random, program.weighed(), 10, 4)?;
                 assert!(rt; accepted.torn() == 0, "{text}");

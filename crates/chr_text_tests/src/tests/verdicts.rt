@@ -8,7 +8,7 @@ use crate::tests::texts::weighed_of;
 use chr_base::bag::Bag;
 use chr_base::derivation::Derivation;
 use chr_base::rule::Rule;
-use chr_join::{Cause, Failure, accept};
+use chr_join::{Cause, Coverage, Failure, accept};
 use chr_overlaps::Overlap;
 use chr_rewrite::list::ListPool;
 use chr_rewrite::pool::Pool;
@@ -102,7 +102,7 @@ fn check_failure(
 /// Whether the checker and the slow program both accept the program. They agree.
 fn verdict(rt: &impl Abort, alloc: Global, weighed: Weighed, text: &str) -> Result<bool, Fail> {
     let wanted = first_failing(alloc, weighed.program().rules())?;
-    match (accept(alloc, weighed), wanted) {
+    match (accept(alloc, weighed, Coverage::Joint), wanted) {
         (Ok(_), None) => Ok(true),
         (Ok(_), Some(_)) => panic!(rt; "accepted, though a case fails: {text}"),
         (Err(_), None) => panic!(rt; "refused, though no case fails: {text}"),

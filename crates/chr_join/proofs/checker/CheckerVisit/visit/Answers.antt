@@ -15,12 +15,12 @@ returns-in_default-clause-visited c = record {
 
 pub different_ends-requires-clause-left : goal.different_ends-requires-clause-left
 different_ends-requires-clause-left c =
-    (applicable (record { cases = c.listed_cases.ensures.cases; left = c.peak.ensures.left; right = c.peak.ensures.right }) (setting_of c.args.self.now) c.args.values.now c.in-Some.case c.requires.overlap c.requires.unified
+    (applicable c.peak.ensures.left c.peak.ensures.right (setting_of c.args.self.now) c.args.values.now c.in-Some.case c.requires.overlap c.requires.unified c.requires.cases
     (λ r1 r2 are. sym c.in-Some.is ∙ c.in_ok-case.ensures r1 r2 are)).0
 
 pub different_ends-requires-clause-right : goal.different_ends-requires-clause-right
 different_ends-requires-clause-right c =
-    (applicable (record { cases = c.listed_cases.ensures.cases; left = c.peak.ensures.left; right = c.peak.ensures.right }) (setting_of c.args.self.now) c.args.values.now c.in-Some.case c.requires.overlap c.requires.unified
+    (applicable c.peak.ensures.left c.peak.ensures.right (setting_of c.args.self.now) c.args.values.now c.in-Some.case c.requires.overlap c.requires.unified c.requires.cases
     (λ r1 r2 are. sym c.in-Some.is ∙ c.in_ok-case.ensures r1 r2 are)).1
 
 pub returns-in_default-2-clause-visited : goal.returns-in_default-2-clause-visited

@@ -1,0 +1,60 @@
+//! The verdict on a program.
+ghost use Rattle.std.specs.Prelude.{◌≡◌, IfOk, IfErr, OnOk};
+ghost use Rattle.chr_weights.specs.WeighedPrograms.{rules_in};
+ghost use Rattle.chr_confluence.specs.Confluence.{Confluent};
+ghost use Rattle.chr_join.specs.AcceptedPrograms.{weighed_of, coverage_of, cases_of};
+ghost use Rattle.chr_join.specs.Verdicts.{IsAcceptedBy};
+ghost use Rattle.chr_join.specs.Explanations.{IsRefusalBy, IfFails, ReplaysApart};
+
+use crate::accepted::Accepted;
+use crate::coverage::Coverage;
+use crate::joint::check_joint;
+use crate::once::{accepted_are_confluent, refused_are_not_confluent};
+use crate::refused::{Cause, Refused};
+use crate::sorted::check_sorted;
+use chr_weights::Weighed;
+use std::alloc::Global;
+
+/// The number of all cases, where all of them are joinable.
+fn judged(alloc: Global, weighed: &Weighed, coverage: Coverage) -> Result<u64, Cause>
+    ensures ok { IfOk result (IsAcceptedBy coverage (rules_in weighed.now)) }
+    ensures err { IfErr result (IsRefusalBy coverage (rules_in weighed.now)) }
+{
+    match coverage {
+        Coverage::Joint => check_joint(alloc, weighed),
+        Coverage::Sorted => check_sorted(alloc, weighed),
+    }
+}
+
+/// Accepts a program of which no case fails, of the cases that the coverage looks at. A case is a least store in which two rules, or a rule twice, can fire on
+/// shared atoms; it fails where the plain derivations of its two sides end in different stores (after Abdennadher,
+/// Frühwirth and Meuss 1999).
+///
+/// # Errors
+///
+/// The program is handed back with the first cause there is, where overlaps and in each its cases are taken in order: a
+/// case that fails, with its two derivations; an overlap of more than 50,000 order types, or combinations of values of
+/// its sorts; or want of memory.
+pub fn accept(alloc: Global, weighed: Weighed, coverage: Coverage) -> Result<Accepted, Refused>
+    ensures program { IfOk result (λ a. weighed_of a ≡ weighed) }
+    ensures coverage { IfOk result (λ a. coverage_of a ≡ coverage) }
+    ensures accepted { IfOk result (λ a. IsAcceptedBy coverage (rules_in weighed) (cases_of a)) }
+    ensures handed_back { IfErr result (λ e. e.weighed ≡ weighed) }
+    ensures refused { IfErr result (λ e. IsRefusalBy coverage (rules_in weighed) e.cause) }
+    ensures replays { IfErr result (λ e. IfFails e.cause (ReplaysApart (rules_in weighed))) }
+    ensures confluent { OnOk result (Confluent (rules_in weighed)) }
+    ensures not_confluent { IfErr result (λ e. IfFails e.cause (λ _. ¬ (Confluent (rules_in weighed)))) }
+{
+    accepted_are_confluent();
+    refused_are_not_confluent();
+    match judged(alloc, &weighed, coverage) {
+        Ok(cases) => match Accepted::new(alloc, weighed, coverage, cases) {
+            Ok(accepted) => Ok(accepted),
+            Err(failed) => Err(Refused {
+                weighed: failed.value,
+                cause: Cause::Memory,
+            }),
+        },
+        Err(cause) => Err(Refused { weighed, cause }),
+    }
+}

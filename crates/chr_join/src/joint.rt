@@ -1,0 +1,121 @@
+//! The verdict by joint cases, overlap by overlap and case by case.
+ghost use Rattle.std.specs.Prelude.{◌≡◌, IfOk, IfErr, length};
+ghost use Rattle.std.specs.Bool.{OnTrue, OnFalse};
+ghost use Rattle.chr_types.specs.OrderTypes.{Rises, MoreTypesThan};
+ghost use Rattle.chr_weights.specs.WeighedPrograms.{rules_in};
+ghost use Rattle.chr_confluence.specs.Constants.{AreConstants};
+ghost use Rattle.chr_overlaps.specs.OverlapLists.{IsOverlapOf};
+ghost use Rattle.chr_overlaps.specs.declared.cases.TheConstants.{MAX_TYPES};
+ghost use Rattle.chr_overlaps.specs.UnifiedOverlaps.{IsUnifiedAt};
+ghost use Rattle.chr_join.specs.declared.coverage.Coverage.TheVariants.{Joint};
+ghost use Rattle.chr_join.specs.Verdicts.{HasJoinableCasesBy, IsAcceptedBy};
+ghost use Rattle.chr_join.specs.Explanations.{IsRefusalBy};
+ghost use Rattle.chr_join.specs.working.Checking.{HaveFewTypes, RefusesAt};
+
+use crate::checker::{Checker, told};
+use crate::refused::{Cause, TooManyTypes};
+use chr_confluence::listing::listed_cases;
+use chr_overlaps::cases::{MAX_TYPES, unified};
+use chr_overlaps::constants::constants;
+use chr_overlaps::{Overlap, Unified, overlaps};
+use chr_types::{has_more_types, visit_types};
+use chr_weights::Weighed;
+use std::alloc::{AllocError, Global};
+
+/// Whether so many classes have no more order types than an overlap may have. Numbers that have not are remembered.
+fn are_few(
+    alloc: Global,
+    classes: usize,
+    constants: &[i64],
+    known: &mut Vec<usize>,
+) -> Result<bool, AllocError>
+    requires rising { Rises constants.now }
+    requires known { HaveFewTypes constants.now known.old.items }
+    ensures known { IfOk result (λ _. HaveFewTypes constants.now known.new.items) }
+    ensures few { IfOk result (λ few. OnTrue few (¬ MoreTypesThan MAX_TYPES classes constants.now)) }
+    ensures many { IfOk result (λ few. OnFalse few (MoreTypesThan MAX_TYPES classes constants.now)) }
+{
+    if known.contains(&classes) {
+        return Ok(true);
+    }
+    if has_more_types(alloc, classes, constants, MAX_TYPES)? {
+        return Ok(false);
+    }
+    known.push(classes)?;
+    Ok(true)
+}
+
+/// The number of cases of an overlap whose heads are made one, where all of them are joinable.
+fn check_cases<'a>(
+    alloc: Global,
+    weighed: &'a Weighed,
+    overlap: &'a Overlap,
+    unified: &'a Unified,
+    constants: &[i64],
+) -> Result<usize, Cause>
+    requires overlap { IsOverlapOf (rules_in weighed.now) overlap.now }
+    requires unified { IsUnifiedAt (rules_in weighed.now) overlap.now unified.now }
+    requires constants { AreConstants (rules_in weighed.now) constants.now }
+    requires few { ¬ MoreTypesThan MAX_TYPES (length unified.now.free.items) constants.now }
+    ensures ok { IfOk result (HasJoinableCasesBy Joint (rules_in weighed.now) overlap.now) }
+    ensures err { IfErr result (RefusesAt Joint (rules_in weighed.now) overlap.now) }
+{
+    listed_cases();
+    let mut checker = Checker::new(alloc, weighed, overlap, unified);
+    let classes = unified.free_classes();
+    let stopped = visit_types(alloc, classes, constants, unified, &mut checker)?;
+    let Checker {
+        passed,
+        failing,
+        ..
+    } = checker;
+    told(stopped, passed, failing)
+}
+
+/// The number of cases of an overlap, where all of them are joinable. The numbers of classes that have few order types
+/// are remembered from overlap to overlap.
+fn check_overlap(
+    alloc: Global,
+    weighed: &Weighed,
+    overlap: &Overlap,
+    constants: &[i64],
+    known: &mut Vec<usize>,
+) -> Result<usize, Cause>
+    requires overlap { IsOverlapOf (rules_in weighed.now) overlap.now }
+    requires constants { AreConstants (rules_in weighed.now) constants.now }
+    requires known { HaveFewTypes constants.now known.old.items }
+    ensures known { IfOk result (λ _. HaveFewTypes constants.now known.new.items) }
+    ensures ok { IfOk result (HasJoinableCasesBy Joint (rules_in weighed.now) overlap.now) }
+    ensures err { IfErr result (RefusesAt Joint (rules_in weighed.now) overlap.now) }
+{
+    let Some(unified) = unified(weighed, overlap) else {
+        return Ok(0);
+    };
+    let classes = unified.free_classes();
+    if are_few(alloc, classes, constants, known)? {
+        check_cases(alloc, weighed, overlap, &unified, constants)
+    } else {
+        Err(Cause::TooManyTypes(TooManyTypes {
+            overlap: overlap.copy(),
+            classes,
+        }))
+    }
+}
+
+/// The number of all joint cases, where all of them are joinable.
+pub(crate) fn check_joint(alloc: Global, weighed: &Weighed) -> Result<u64, Cause>
+    ensures ok { IfOk result (IsAcceptedBy Joint (rules_in weighed.now)) }
+    ensures err { IfErr result (IsRefusalBy Joint (rules_in weighed.now)) }
+{
+    let constants = constants(alloc, weighed.program().rules())?;
+    let overlaps = overlaps(alloc, weighed)?;
+    let mut known = Vec::new(alloc);
+    let mut total: u64 = 0;
+    for overlap in &overlaps {
+        match check_overlap(alloc, weighed, overlap, &constants, &mut known) {
+            Ok(cases) => total += cases as u64,
+            Err(cause) => return Err(cause),
+        }
+    }
+    Ok(total)
+}

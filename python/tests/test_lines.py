@@ -1,0 +1,80 @@
+"""Lines of a service that are longer than any command, as bytes to a process."""
+
+import resource
+import subprocess
+import unittest
+
+from chrrep.node import program_path
+
+LIMIT = 1_048_576
+"""The most bytes of a line, without its end."""
+
+SHOW = b'["show",1]'
+SECONDS = 60.0
+
+
+def answers(lines: bytes) -> bytes:
+    """What a service of the program without rules answers to these lines."""
+    end = subprocess.run([program_path(), "serve"], input=b"---\n" + lines, capture_output=True, timeout=SECONDS, check=True)
+    verdict, _, rest = end.stdout.partition(b"\n")
+    assert verdict == b"accepted: rules 0, cases 0", verdict
+    return rest
+
+
+class LongLines(unittest.TestCase):
+    def check(self, rows: list[tuple[bytes, bytes]]) -> None:
+        for lines, expected in rows:
+            with self.subTest(start=lines[:20], length=len(lines), end=lines[-20:]):
+                self.assertEqual(answers(lines), expected)
+
+    def test_at_the_limit(self) -> None:
+        full, longer = SHOW + b" " * (LIMIT - 10), SHOW + b" " * (LIMIT - 9)
+        self.check(
+            [(full + end, b"true\n") for end in (b"\n", b"\r\n", b"\r")]
+            + [(longer + end, b"refused 30\n") for end in (b"\n", b"\r\n", b"\r", b"")]
+        )
+
+    def test_in_many_pieces(self) -> None:
+        """Such a line is refused once, where it ends, unless it is blank. The next line is answered."""
+        room = b" " * (2 * LIMIT)
+        self.check(
+            [
+                (SHOW + room + b"\n" + SHOW + b"\n", b"refused 30\ntrue\n"),
+                (room + SHOW + b"\n" + SHOW + b"\n", b"refused 30\ntrue\n"),
+                (room + b"x \n" + SHOW + b"\n", b"refused 30\ntrue\n"),
+                (room + b"\n" + SHOW + b"\n", b"true\n"),
+                (b"\t" + room + b"\t\r\n" + SHOW + b"\n", b"true\n"),
+                (room + b"\r \n" + SHOW + b"\n", b"refused 30\ntrue\n"),
+                (room + b"\r\r\n" + SHOW + b"\n", b"refused 30\ntrue\n"),
+                (b"\r" + room + b"\n" + SHOW + b"\n", b"refused 30\ntrue\n"),
+                (room + b"\r", b""),
+                (room + b"x", b"refused 30\n"),
+            ]
+        )
+
+    def test_where_it_is_cut(self) -> None:
+        """The first byte that is no space may be the last one that is held, or come after it."""
+        rows = []
+        for spaces in range(LIMIT, LIMIT + 3):
+            blank = b" " * spaces
+            rows += [(blank + b"x\n", b"refused 30\n"), (blank + b"\r\n", b""), (blank + b"\r" + b" " * 9_000, b"refused 30\n")]
+        self.check(rows)
+
+    def test_no_more_is_held_than_a_line(self) -> None:
+        """A line of 400 MB goes through a process that may have 100 MB."""
+        limit = 100 << 20
+        process = subprocess.Popen(
+            [program_path(), "serve"],
+            stdin=subprocess.PIPE,
+            stdout=subprocess.PIPE,
+            preexec_fn=lambda: resource.setrlimit(resource.RLIMIT_AS, (limit, limit)),
+        )
+        assert process.stdin and process.stdout
+        with process:
+            process.stdin.write(b"---\n")
+            for _ in range(400):
+                process.stdin.write(b"7" * (1 << 20))
+            process.stdin.write(b"\n" + SHOW + b"\n")
+            process.stdin.close()
+            self.assertEqual(process.stdout.read(), b"accepted: rules 0, cases 0\nrefused 30\ntrue\n")
+        self.assertEqual(process.returncode, 0)
