@@ -19,8 +19,6 @@ mod rule_text;
 mod stores;
 mod syntax;
 mod telling;
-#[cfg(test)]
-mod tests;
 mod token;
 mod weight_text;
 mod word;

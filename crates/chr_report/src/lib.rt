@@ -11,8 +11,6 @@ mod running;
 mod service;
 mod serving;
 mod shortening;
-#[cfg(test)]
-mod tests;
 mod verdict;
 mod wire;
 
