@@ -9,7 +9,7 @@ import unittest
 from pathlib import Path
 
 HERE = Path(__file__).resolve().parent
-KINDS = {"node": ("test_texts", "test_commands", "test_node", "test_lines"), "engines": ("test_links",)}
+KINDS = {"node": ("test_texts", "test_commands", "test_runs", "test_explanations", "test_verdicts", "test_node", "test_lines"), "engines": ("test_links",)}
 
 
 class Counted(unittest.TextTestResult):

@@ -18,6 +18,3 @@ pub mod weight;
 
 /// A value: a signed 64-bit whole number.
 pub type Value = i64;
-
-#[cfg(test)]
-mod tests;

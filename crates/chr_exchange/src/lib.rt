@@ -18,6 +18,3 @@ pub use laws::messages_are_read_back;
 pub use named::{declared_operation, declared_operations};
 pub use reading::{delta_of, op_of, read_delta, read_summary, summary_of};
 pub use writing::{delta_text, delta_text_1, summary_text};
-
-#[cfg(test)]
-mod tests;

@@ -27,8 +27,3 @@ pub use op::Op;
 pub use op_set::OpSet;
 pub use range::IdRange;
 pub use summary::{Summary, summaries_are_one};
-
-#[cfg(test)]
-mod tests;
-#[cfg(test)]
-mod tests_exchange;

@@ -10,8 +10,6 @@ mod listing;
 mod numbered;
 mod overlap;
 mod sorted;
-#[cfg(test)]
-mod tests;
 mod unify;
 
 pub use fault::CaseFault;

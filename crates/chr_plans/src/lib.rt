@@ -13,5 +13,3 @@ pub mod planning;
 pub mod react;
 pub mod rows;
 pub mod search;
-#[cfg(test)]
-mod tests;

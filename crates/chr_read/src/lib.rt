@@ -13,8 +13,6 @@ mod progress;
 mod reader;
 mod resolve;
 mod symbols;
-#[cfg(test)]
-mod tests;
 mod writer;
 
 pub use fault::{Fault, ReadFault};

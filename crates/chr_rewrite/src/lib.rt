@@ -10,5 +10,3 @@ pub mod plain;
 pub mod pool;
 pub mod replay;
 pub mod resting;
-#[cfg(test)]
-mod tests;

@@ -8,8 +8,6 @@ mod form;
 mod grammar;
 mod reading;
 mod split;
-#[cfg(test)]
-mod tests;
 mod token;
 
 pub use bytes::{next_clause, without_comments};

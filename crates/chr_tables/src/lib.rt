@@ -11,5 +11,3 @@ mod indexes;
 mod shape;
 pub mod table;
 pub mod tables;
-#[cfg(test)]
-mod tests;

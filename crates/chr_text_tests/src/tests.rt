@@ -1,9 +1,7 @@
-//! Tables of texts with what is expected of them, and texts made at random, on which the checker and a slow program of
-//! the definitions have to agree.
+//! Tables of texts with what is expected of them, and random programs, stores and calls whose ends have to be one.
 mod acceptance;
 mod cases;
 mod confluent_programs;
-mod counts;
 mod instances;
 mod one_end;
 mod order_types;
@@ -11,11 +9,8 @@ mod pool_sequences;
 mod random;
 mod random_programs;
 mod resting;
-mod slow_overlaps;
-mod slow_verdict;
 mod sorts;
 mod steps;
 mod texts;
 mod two_pools;
-mod verdicts;
 mod wide_programs;

@@ -11,8 +11,6 @@ mod fault;
 mod listing;
 mod order_type;
 mod search;
-#[cfg(test)]
-mod tests;
 mod visiting;
 mod walk;
 

@@ -1,7 +1,7 @@
 //! Instances of rules, by trying all valuations.
 //!
-//! Nothing in the slow program asks the checked crates whether a rule fires, what its body is or what a store has left:
-//! a verdict of theirs is compared with its own.
+//! Nothing here asks the checked crates whether a rule fires, what its body is or what a store has left: ends of theirs
+//! are compared with its own.
 use arrayvec::ArrayVec;
 use chr_base::atom::Atom;
 use chr_base::rule::Rule;

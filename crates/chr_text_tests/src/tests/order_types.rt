@@ -4,7 +4,6 @@ use chr_base::atom::Atom;
 use chr_base::rule::Rule;
 use chr_base::term::{Comparison, Pattern, Term};
 use std::alloc::{AllocError, Global};
-use std::cmp::Ordering;
 
 fn push_new(values: &mut Vec<i64>, value: i64) -> Result<(), AllocError> {
     if !values.contains(&value) {
@@ -96,54 +95,4 @@ pub fn arguments(alloc: Global, atoms: &[&[Atom]]) -> Result<Vec<i64>, AllocErro
         push_arguments(&mut arguments, atoms)?;
     }
     Ok(arguments)
-}
-
-/// Adds the answer of each comparison of the value with the others.
-fn push_comparisons(
-    answers: &mut Vec<Ordering>,
-    value: i64,
-    others: &[i64],
-) -> Result<(), AllocError> {
-    for other in others {
-        answers.push(value.cmp(other))?;
-    }
-    Ok(())
-}
-
-/// The answer of each comparison between two arguments, and between an argument and a constant.
-pub fn comparisons(
-    alloc: Global,
-    arguments: &[i64],
-    constants: &[i64],
-) -> Result<Vec<Ordering>, AllocError> {
-    let mut answers = Vec::new(alloc);
-    for argument in arguments {
-        push_comparisons(&mut answers, *argument, arguments)?;
-        push_comparisons(&mut answers, *argument, constants)?;
-    }
-    Ok(answers)
-}
-
-/// Whether a value stands where a representative has it: right above or, below the least constant, right below a
-/// constant or another value; and where there are no constants, at 0 or right above another value.
-fn is_placed(value: i64, arguments: &[i64], constants: &[i64]) -> bool {
-    if constants.contains(&value) {
-        return true;
-    }
-    let Some(least) = constants.first() else {
-        return value == 0 || arguments.contains(&value.saturating_sub(1));
-    };
-    let neighbour = if value < *least {
-        value.saturating_add(1)
-    } else {
-        value.saturating_sub(1)
-    };
-    constants.contains(&neighbour) || arguments.contains(&neighbour)
-}
-
-/// Whether arguments are those of the representative of their order type.
-pub fn are_representative(arguments: &[i64], constants: &[i64]) -> bool {
-    arguments
-        .iter()
-        .all(|value| is_placed(*value, arguments, constants))
 }

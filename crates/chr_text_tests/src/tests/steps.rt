@@ -1,11 +1,11 @@
-//! Steps and plain derivations, by trying all instances by atoms of a store.
+//! Steps, by trying all instances by atoms of a store.
 use crate::tests::instances::{
     Body, Heads, body_at, guard_holds, head, heads_at, number, places, tuples, variables,
 };
 use crate::tests::order_types::arguments;
 use chr_base::atom::Atom;
 use chr_base::bag::Bag;
-use chr_base::derivation::{Derivation, Step};
+use chr_base::derivation::Step;
 use chr_base::rule::Rule;
 use std::alloc::{AllocError, Global};
 use std::test::Fail;
@@ -63,7 +63,7 @@ fn without(alloc: Global, atoms: &[Atom], place: usize) -> Result<Vec<Atom>, All
 }
 
 /// Adds copies of the first atoms.
-pub fn push_copies(atoms: &mut Vec<Atom>, more: &[Atom], count: usize) -> Result<(), AllocError> {
+fn push_copies(atoms: &mut Vec<Atom>, more: &[Atom], count: usize) -> Result<(), AllocError> {
     for atom in more.iter().take(count) {
         atoms.push(atom.copy())?;
     }
@@ -159,54 +159,10 @@ pub fn steps(alloc: Global, rules: &[Rule], store: &Bag) -> Result<Vec<Step>, Al
     Ok(found)
 }
 
-/// The first heads on which the rule can fire.
-fn first_heads(alloc: Global, rule: &Rule, store: &Bag) -> Result<Option<Heads>, AllocError> {
-    for indices in &tuples(alloc, store.len(), places(rule))? {
-        if let Some(heads) = instance_at(alloc, rule, store.atoms(), indices)? {
-            return Ok(Some(heads));
-        }
-    }
-    Ok(None)
-}
-
-/// The first step that a store has.
-fn first_step(alloc: Global, rules: &[Rule], store: &Bag) -> Result<Option<Step>, AllocError> {
-    for (i, rule) in rules.iter().enumerate() {
-        if let Some(heads) = first_heads(alloc, rule, store)? {
-            return Ok(Some(Step {
-                rule: number(i),
-                heads,
-            }));
-        }
-    }
-    Ok(None)
-}
-
 /// The store after a step.
 pub fn after_step(alloc: Global, rules: &[Rule], step: &Step, store: &Bag) -> Result<Bag, Fail> {
     let place = (step.rule as usize).checked_sub(1).ok_or("rule 0")?;
     let rule = rules.get(place).ok_or("no such rule")?;
     let next = after(alloc, rule, &step.heads, store)?;
     Ok(next.ok_or("no instance")?)
-}
-
-/// The plain derivation of a store, which takes the first step at each store, and its end.
-pub fn plain(alloc: Global, rules: &[Rule], store: &Bag) -> Result<(Derivation, Bag), Fail> {
-    let start = store.copy(alloc)?;
-    let mut taken = Vec::new(alloc);
-    let mut now = store.copy(alloc)?;
-    for _ in 0..MOST_STEPS {
-        let Some(step) = first_step(alloc, rules, &now)? else {
-            return Ok((
-                Derivation {
-                    start,
-                    steps: taken,
-                },
-                now,
-            ));
-        };
-        now = after_step(alloc, rules, &step, &now)?;
-        taken.push(step)?;
-    }
-    Err("no end")?
 }

@@ -1,0 +1,376 @@
+//! Each public call once, and the worked examples of operation sets. Where memory runs out a test ends.
+use chr_base::atom::{Atom, SymbolId};
+use chr_base::bag::Bag;
+use chr_ops::{AddFault, Added, IdRange, Op, OpId, OpSet, Summary};
+use std::alloc::Global;
+use std::process::Abort;
+
+const GREATEST: u64 = 18_446_744_073_709_551_615;
+
+fn id(origin: u32, number: u64) -> OpId {
+    OpId { origin, number }
+}
+
+fn range(origin: u32, lo: u64, hi: u64) -> IdRange {
+    IdRange { origin, lo, hi }
+}
+
+/// A bag of atoms without arguments, named by their symbols.
+fn bag(rt: &impl Abort, alloc: Global, symbols: &[u16]) -> Bag {
+    let mut bag = Bag::new(alloc);
+    for symbol in symbols {
+        let atom = Atom {
+            symbol: SymbolId(*symbol),
+            ..Atom::default()
+        };
+        bag.add(atom).expect(rt, "memory");
+    }
+    bag
+}
+
+fn op(rt: &impl Abort, alloc: Global, id: OpId, symbols: &[u16]) -> Op {
+    Op::of(id, bag(rt, alloc, symbols)).expect(rt, "an operation")
+}
+
+/// Operations with these ids and symbols, of one atom each.
+fn ops(rt: &impl Abort, alloc: Global, told: &[(OpId, u16)]) -> Vec<Op> {
+    let mut ops = Vec::new(alloc);
+    for (id, symbol) in told {
+        let op = op(rt, alloc, *id, &[*symbol]);
+        ops.push(op).expect(rt, "memory");
+    }
+    ops
+}
+
+/// What the set answers to an operation.
+fn add(
+    rt: &impl Abort,
+    alloc: Global,
+    set: &mut OpSet,
+    id: OpId,
+    symbols: &[u16],
+) -> Result<Added, AddFault> {
+    set.add(op(rt, alloc, id, symbols))
+}
+
+/// Adds an operation of one atom.
+fn grow(rt: &impl Abort, alloc: Global, set: &mut OpSet, id: OpId) {
+    add(rt, alloc, set, id, &[0]).expect(rt, "added");
+}
+
+/// The set of operations with these ids, each of one atom, added one by one.
+fn set_of(rt: &impl Abort, alloc: Global, ids: &[OpId]) -> OpSet {
+    let mut set = OpSet::new(alloc);
+    for id in ids {
+        grow(rt, alloc, &mut set, *id);
+    }
+    set
+}
+
+/// The set of operations with these numbers of origin 1, each of one atom, added one by one.
+fn set_of_numbers(rt: &impl Abort, alloc: Global, numbers: &[u64]) -> OpSet {
+    let mut set = OpSet::new(alloc);
+    for number in numbers {
+        grow(rt, alloc, &mut set, id(1, *number));
+    }
+    set
+}
+
+/// Adds so many operations of origin 9, of 64 atoms each.
+fn add_full(rt: &impl Abort, alloc: Global, set: &mut OpSet, operations: u64) {
+    for number in 0..operations {
+        add(rt, alloc, set, id(9, number), &[3; 64]).expect(rt, "added");
+    }
+}
+
+/// Adds so many operations of origin 8, of one atom each.
+fn add_single(rt: &impl Abort, alloc: Global, set: &mut OpSet, operations: u64) {
+    for number in 0..operations {
+        add(rt, alloc, set, id(8, number), &[3]).expect(rt, "added");
+    }
+}
+
+/// A set that tells so many atoms.
+fn set_telling(rt: &impl Abort, alloc: Global, atoms: u64) -> OpSet {
+    let mut set = OpSet::new(alloc);
+    add_full(rt, alloc, &mut set, atoms / 64);
+    add_single(rt, alloc, &mut set, atoms % 64);
+    set
+}
+
+/// The summary of ranges, none of which is empty.
+fn summary_of(rt: &impl Abort, ranges: Vec<IdRange>) -> Summary {
+    let all = ranges.iter().all(|range| range.lo <= range.hi);
+    assert!(rt; all, "an empty range");
+    Summary::of(ranges).expect(rt, "memory")
+}
+
+/// The ids of operations that the set has and the summary doesn't, in order.
+fn lacked(rt: &impl Abort, alloc: Global, set: &OpSet, summary: &Summary) -> Vec<OpId> {
+    let ops = set.lacks(alloc, summary).expect(rt, "memory");
+    let mut ids = Vec::new(alloc);
+    for op in &ops {
+        ids.push(op.id()).expect(rt, "memory");
+    }
+    ids
+}
+
+/// Compares the ranges of the set's summary, and of a copy of it.
+fn expect_ranges(rt: &impl Abort, alloc: Global, set: &OpSet, ranges: &[IdRange]) {
+    let summary = set.summary(alloc).expect(rt, "memory");
+    assert_eq!(rt; summary.ranges(), ranges);
+    let copy = summary.copy(alloc).expect(rt, "memory");
+    assert_eq!(rt; copy.ranges(), ranges);
+}
+
+/// Whether the set has a bag of these atoms under this id.
+fn has(rt: &impl Abort, alloc: Global, set: &OpSet, id: OpId, symbols: &[u16]) -> bool {
+    let expected = bag(rt, alloc, symbols);
+    set.get(id).is_some_and(|held| held.is_same(&expected))
+}
+
+#[test]
+fn bags_of_operations_are_neither_empty_nor_large(rt: HostRuntime) {
+    let alloc = rt.alloc();
+    let last = id(4_294_967_295, GREATEST);
+    assert!(rt; Op::of(last, Bag::new(alloc)).is_none());
+    assert!(rt; Op::of(last, bag(&rt, alloc, &[5; 65])).is_none());
+}
+
+#[test]
+fn operations_have_up_to_64_atoms(rt: HostRuntime) {
+    let alloc = rt.alloc();
+    let last = id(4_294_967_295, GREATEST);
+    let whole = op(&rt, alloc, last, &[5; 64]);
+    assert_eq!(rt; whole.id(), last);
+    assert_eq!(rt; whole.bag().len(), 64);
+    let copy = whole.copy(alloc).expect(&rt, "memory");
+    assert_eq!(rt; copy.id(), last);
+    assert!(rt; copy.bag().is_same(whole.bag()));
+}
+
+#[test]
+fn an_operation_counts_once(rt: HostRuntime) {
+    let alloc = rt.alloc();
+    let first = id(1, 1);
+    let mut set = OpSet::new(alloc);
+    for (symbols, answer) in [
+        ([5, 6].as_slice(), Ok(Added::New)),
+        ([5, 6].as_slice(), Ok(Added::Again)),
+        ([6, 5].as_slice(), Ok(Added::Again)),
+        ([5].as_slice(), Err(AddFault::Clash(first))),
+    ] {
+        assert_eq!(rt; add(&rt, alloc, &mut set, first, symbols), answer);
+    }
+    assert_eq!(rt; set.told(), 2);
+    assert!(rt; has(&rt, alloc, &set, first, &[6, 5]));
+    assert!(rt; set.get(id(1, 2)).is_none());
+}
+
+#[test]
+fn summaries_cover_the_set(rt: HostRuntime) {
+    let alloc = rt.alloc();
+    let ids = [id(1, GREATEST), id(1, 0), id(0, 5), id(1, 1)];
+    let set = set_of(&rt, alloc, &ids);
+    let whole = [range(0, 5, 5), range(1, 0, 1), range(1, GREATEST, GREATEST)];
+    expect_ranges(&rt, alloc, &set, &whole);
+    set.told_has_values();
+    let summary = set.summary(alloc).expect(&rt, "memory");
+    assert!(rt; lacked(&rt, alloc, &set, &summary).is_empty());
+}
+
+#[test]
+fn what_a_summary_leaves_out_is_lacked(rt: HostRuntime) {
+    let alloc = rt.alloc();
+    let ids = [id(1, GREATEST), id(1, 0), id(0, 5), id(1, 1)];
+    let set = set_of(&rt, alloc, &ids);
+    let ranges = vec![in alloc; range(1, 1, 1)].expect(&rt, "memory");
+    let middle = summary_of(&rt, ranges);
+    let lacked = lacked(&rt, alloc, &set, &middle);
+    assert_eq!(rt;
+        lacked.as_slice(),
+        [id(0, 5), id(1, 0), id(1, GREATEST)].as_slice()
+    );
+}
+
+#[test]
+fn an_empty_set_has_no_ranges(rt: HostRuntime) {
+    let alloc = rt.alloc();
+    expect_ranges(&rt, alloc, &OpSet::new(alloc), &[]);
+}
+
+#[test]
+fn ranges_merge(rt: HostRuntime) {
+    let alloc = rt.alloc();
+    let given = vec![in alloc;
+        range(4_294_967_295, 0, GREATEST),
+        range(7, 10, 20),
+        range(0, GREATEST, GREATEST),
+        range(7, 21, 21),
+        range(7, 23, 30),
+        range(0, 0, 0),
+        range(7, 12, 14),
+        range(7, 10, 20),
+        range(7, 25, 40),
+        range(0, 0, 3),
+        range(4_294_967_295, 5, 6),
+    ];
+    let merged = [
+        range(0, 0, 3),
+        range(0, GREATEST, GREATEST),
+        range(7, 10, 21),
+        range(7, 23, 40),
+        range(4_294_967_295, 0, GREATEST),
+    ];
+    let summary = summary_of(&rt, given.expect(&rt, "memory"));
+    assert_eq!(rt; summary.ranges(), merged.as_slice());
+}
+
+#[test]
+fn ranges_end_where_they_say(rt: HostRuntime) {
+    assert!(rt; range(7, 10, 21).has(id(7, 21)));
+    assert!(rt; !range(7, 10, 21).has(id(7, 22)));
+}
+
+#[test]
+fn joins_count_new_operations(rt: HostRuntime) {
+    let alloc = rt.alloc();
+    let mut set = OpSet::new(alloc);
+    assert_eq!(rt; add(&rt, alloc, &mut set, id(1, 1), &[5]), Ok(Added::New));
+    let repeated = ops(&rt, alloc, &[(id(1, 2), 1), (id(1, 2), 1), (id(1, 1), 5)]);
+    let fresh = set.fresh_atoms(alloc, &repeated).expect(&rt, "memory");
+    assert!(rt; fresh.is_same(&bag(&rt, alloc, &[1])));
+    assert_eq!(rt; set.join(alloc, &repeated), Ok(1));
+    let fresh = set.fresh_atoms(alloc, &repeated).expect(&rt, "memory");
+    assert!(rt; fresh.is_empty());
+    assert_eq!(rt; set.told(), 2);
+}
+
+#[test]
+fn joins_take_all_or_none(rt: HostRuntime) {
+    let alloc = rt.alloc();
+    let mut set = OpSet::new(alloc);
+    let told = ops(&rt, alloc, &[(id(1, 1), 5), (id(1, 2), 1)]);
+    assert_eq!(rt; set.join(alloc, &told), Ok(2));
+    let held = ops(&rt, alloc, &[(id(1, 3), 0), (id(1, 1), 6)]);
+    assert_eq!(rt; set.join(alloc, &held), Err(AddFault::Clash(id(1, 1))));
+    let earlier = ops(&rt, alloc, &[(id(1, 4), 1), (id(1, 4), 2)]);
+    assert_eq!(rt; set.join(alloc, &earlier), Err(AddFault::Clash(id(1, 4))));
+    assert_eq!(rt; set.told(), 2);
+    expect_ranges(&rt, alloc, &set, &[range(1, 1, 2)]);
+}
+
+#[test]
+fn at_most_a_million_atoms_are_told(rt: HostRuntime) {
+    let alloc = rt.alloc();
+    let mut set = set_telling(&rt, alloc, 999_999);
+    let two = ops(&rt, alloc, &[(id(1, 1), 1), (id(1, 2), 1)]);
+    assert_eq!(rt; set.join(alloc, &two), Err(AddFault::Full));
+    assert_eq!(rt; set.told(), 999_999);
+    assert!(rt; set.get(id(1, 1)).is_none());
+    assert_eq!(rt; add(&rt, alloc, &mut set, id(1, 1), &[1]), Ok(Added::New));
+    assert_eq!(rt; set.told(), 1_000_000);
+    assert_eq!(rt;
+        add(&rt, alloc, &mut set, id(1, 2), &[1]),
+        Err(AddFault::Full)
+    );
+    assert_eq!(rt; add(&rt, alloc, &mut set, id(1, 1), &[1]), Ok(Added::Again));
+    assert_eq!(rt; set.join(alloc, &two), Err(AddFault::Full));
+    assert_eq!(rt; set.told(), 1_000_000);
+}
+
+#[test]
+fn ranges_grow_at_both_ends_and_close_holes(rt: HostRuntime) {
+    let alloc = rt.alloc();
+    let mut set = set_of_numbers(&rt, alloc, &[4, 2]);
+    expect_ranges(&rt, alloc, &set, &[range(1, 2, 2), range(1, 4, 4)]);
+    grow(&rt, alloc, &mut set, id(1, 3));
+    expect_ranges(&rt, alloc, &set, &[range(1, 2, 4)]);
+    grow(&rt, alloc, &mut set, id(1, 1));
+    expect_ranges(&rt, alloc, &set, &[range(1, 1, 4)]);
+    grow(&rt, alloc, &mut set, id(1, 6));
+    expect_ranges(&rt, alloc, &set, &[range(1, 1, 4), range(1, 6, 6)]);
+}
+
+#[test]
+fn the_greatest_numbers_make_a_range(rt: HostRuntime) {
+    let alloc = rt.alloc();
+    let ends = set_of_numbers(&rt, alloc, &[GREATEST, GREATEST - 1]);
+    expect_ranges(&rt, alloc, &ends, &[range(1, GREATEST - 1, GREATEST)]);
+}
+
+#[test]
+fn ranges_are_of_one_origin(rt: HostRuntime) {
+    let alloc = rt.alloc();
+    let ids = [id(2, 0), id(1, GREATEST), id(3, 1), id(3, 0)];
+    let ranges = [range(1, GREATEST, GREATEST), range(2, 0, 0), range(3, 0, 1)];
+    expect_ranges(&rt, alloc, &set_of(&rt, alloc, &ids), &ranges);
+}
+
+#[test]
+fn a_join_closes_holes(rt: HostRuntime) {
+    let alloc = rt.alloc();
+    let mut set = set_of_numbers(&rt, alloc, &[1, 3, 9]);
+    let missing = [
+        (id(1, 8), 0),
+        (id(1, 2), 0),
+        (id(1, 3), 0),
+        (id(1, 0), 0),
+        (id(0, 4), 0),
+        (id(1, 8), 0),
+    ];
+    assert_eq!(rt; set.join(alloc, &ops(&rt, alloc, &missing)), Ok(4));
+    let ranges = [range(0, 4, 4), range(1, 0, 3), range(1, 8, 9)];
+    expect_ranges(&rt, alloc, &set, &ranges);
+}
+
+/// The ranges of origin 1 as long as possible that numbers in order make, found one by one.
+fn plain_ranges(rt: &impl Abort, alloc: Global, sorted: &[u64]) -> Vec<IdRange> {
+    let mut ranges: Vec<IdRange> = Vec::new(alloc);
+    for number in sorted {
+        let mut next = range(1, *number, *number);
+        if let Some(last) = ranges.pop() {
+            if last.hi.checked_add(1) == Some(*number) {
+                next.lo = last.lo;
+            } else {
+                ranges.push(last).expect(rt, "memory");
+            }
+        }
+        ranges.push(next).expect(rt, "memory");
+    }
+    ranges
+}
+
+/// The numbers from 1 to 4000 but those that 7 divides, in an order that jumps about: 4001 is a prime.
+fn scrambled(rt: &impl Abort, alloc: Global) -> Vec<u64> {
+    let mut numbers = Vec::new(alloc);
+    for step in 1..4_001_u64 {
+        let number = step * 1_933 % 4_001;
+        if number % 7 != 0 {
+            numbers.push(number).expect(rt, "memory");
+        }
+    }
+    numbers
+}
+
+#[test]
+fn ids_in_any_order_make_the_same_ranges(rt: HostRuntime) {
+    let alloc = rt.alloc();
+    let mut numbers = scrambled(&rt, alloc);
+    let set = set_of_numbers(&rt, alloc, &numbers);
+    numbers.sort_unstable();
+    let ranges = plain_ranges(&rt, alloc, &numbers);
+    expect_ranges(&rt, alloc, &set, &ranges);
+}
+
+#[test]
+fn what_ranges_leave_out_is_lacked(rt: HostRuntime) {
+    let alloc = rt.alloc();
+    let set = set_of_numbers(&rt, alloc, &scrambled(&rt, alloc));
+    let ranges = vec![in alloc; range(1, 1_000, 2_999), range(1, 3_998, 4_500)];
+    let held = summary_of(&rt, ranges.expect(&rt, "memory"));
+    let lacked = lacked(&rt, alloc, &set, &held);
+    assert_eq!(rt; lacked.len(), 1_712);
+    assert_eq!(rt; lacked.first(), Some(&id(1, 1)));
+    assert_eq!(rt; lacked.last(), Some(&id(1, 3_996)));
+}

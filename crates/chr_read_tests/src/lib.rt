@@ -1,0 +1,5 @@
+//! Tests of texts of programs and their faults, in the public words of `chr_read`. There is nothing here but tests.
+#![tactic(auto)]
+
+#[cfg(test)]
+mod tests;

@@ -1,0 +1,335 @@
+mod arities;
+mod bytes;
+mod canonical;
+mod faults;
+mod full_text;
+mod many_digits;
+mod weights;
+
+use chr_base::atom::SymbolId;
+use chr_base::program::Program;
+use chr_base::term::{Cmp, Term};
+use chr_base::weight::{DEFAULT_WEIGHT, Weight};
+use chr_read::{Fault, ReadFault, read, write};
+use std::alloc::{AllocError, Global};
+use std::fmt::Write;
+use std::process::Abort;
+
+#[derive(Clone, Copy, Debug, PartialEq, Eq)]
+enum Outcome {
+    /// How many symbols and rules it has.
+    Program(usize, usize),
+    /// The fault's number, and the clause.
+    Bad(u8, usize),
+    TooLong,
+}
+
+/// What comes of a text. Where memory runs out the test ends, here and below.
+fn outcome_of(rt: &impl Abort, alloc: Global, text: &[u8]) -> Outcome {
+    match read(alloc, text) {
+        Ok(program) => Outcome::Program(program.symbols(), program.rules().len()),
+        Err(ReadFault::Bad { fault, clause }) => Outcome::Bad(fault.number(), clause),
+        Err(ReadFault::TooLong) => Outcome::TooLong,
+        Err(ReadFault::Memory) => panic!(rt; "out of memory"),
+    }
+}
+
+/// Compares what comes of each text, between these ends.
+fn expect_outcomes(
+    rt: &impl Abort,
+    alloc: Global,
+    before: &str,
+    rows: &[(&str, Outcome)],
+    after: &str,
+) {
+    for (part, expected) in rows {
+        let text = format!(in alloc; "{before}{part}{after}").expect(rt, "memory");
+        let found = outcome_of(rt, alloc, text.as_bytes());
+        assert_eq!(rt; found, *expected, "{part}");
+    }
+}
+
+/// Compares what comes of each text, between these ends, with the one outcome of all.
+fn expect_each(
+    rt: &impl Abort,
+    alloc: Global,
+    before: &str,
+    parts: &[&str],
+    after: &str,
+    expected: Outcome,
+) {
+    for part in parts {
+        let text = format!(in alloc; "{before}{part}{after}").expect(rt, "memory");
+        let found = outcome_of(rt, alloc, text.as_bytes());
+        assert_eq!(rt; found, expected, "{part}");
+    }
+}
+
+#[test]
+fn programs(rt: HostRuntime) {
+    let rows = [
+        ("", Outcome::Program(0, 0)),
+        ("% a. b\n", Outcome::Program(0, 0)),
+        (" \t\r\n", Outcome::Program(0, 0)),
+        ("% \u{e9}", Outcome::Program(0, 0)),
+        (
+            ":-use_module(library(chr)).:-use_module ( library ( chr ) ) .",
+            Outcome::Program(0, 0),
+        ),
+        (
+            ":- chr_constraint coin/0, note/0. coin, coin <=> note.",
+            Outcome::Program(2, 1),
+        ),
+        (
+            ":- chr_constraint a/1, b/1. a(X), a(X) <=> b(X).",
+            Outcome::Program(2, 1),
+        ),
+        (
+            ":- chr_constraint coin/0, note/0. coin <=> note.",
+            Outcome::Program(2, 1),
+        ),
+    ];
+    expect_outcomes(&rt, rt.alloc(), "", &rows, "");
+}
+
+/// The program of a text.
+fn program_of(rt: &impl Abort, alloc: Global, text: &str) -> Program {
+    read(alloc, text.as_bytes()).expect(rt, "a program")
+}
+
+/// The canonical text of what is read from this text, where it is a program.
+fn rewritten(rt: &impl Abort, alloc: Global, text: &[u8]) -> String {
+    match read(alloc, text) {
+        Ok(program) => write(alloc, &program).expect(rt, "memory"),
+        Err(ReadFault::Memory) => panic!(rt; "out of memory"),
+        Err(_) => String::from_str(alloc, "no program").expect(rt, "memory"),
+    }
+}
+
+/// Compares the canonical text of each text.
+fn expect_canonical(rt: &impl Abort, alloc: Global, rows: &[(&str, &str)]) {
+    for (text, canonical) in rows {
+        let found = rewritten(rt, alloc, text.as_bytes());
+        assert_eq!(rt; found.as_str(), *canonical);
+    }
+}
+
+/// Compares the fault of a clause after a declaration. The clause after it has the least fault of all.
+fn expect_fault(rt: &impl Abort, alloc: Global, clause: &str, fault: u8) {
+    let declared = ":- chr_constraint a/0, a/1. ";
+    expect_each(
+        rt,
+        alloc,
+        declared,
+        &[clause],
+        ". \u{7}.",
+        Outcome::Bad(fault, 2),
+    );
+}
+
+/// Compares the faults of clauses after a declaration.
+fn expect_faults(rt: &impl Abort, alloc: Global, rows: &[(&str, u8)]) {
+    for (clause, fault) in rows {
+        expect_fault(rt, alloc, clause, *fault);
+    }
+}
+
+/// A declaration of 64 symbols, without its end.
+fn push_symbols(text: &mut String) -> Result<(), AllocError> {
+    text.push_str(":- chr_constraint a0/0")?;
+    for number in 1..64 {
+        write!(text, ", a{number}/0")?;
+    }
+    Ok(())
+}
+
+/// A declaration of 64 symbols, and this after it.
+fn after_symbols(rt: &impl Abort, alloc: Global, after: &str) -> String {
+    let mut text = String::new(alloc);
+    push_symbols(&mut text).expect(rt, "memory");
+    text.push_str(after).expect(rt, "memory");
+    text
+}
+
+/// A declaration of 64 symbols, and as many rules.
+fn sixty_four(rt: &impl Abort, alloc: Global) -> String {
+    let mut text = after_symbols(rt, alloc, ".");
+    let rules = "a0 <=> true.".repeat(alloc, 64).expect(rt, "memory");
+    text.push_str(&rules).expect(rt, "memory");
+    text
+}
+
+#[test]
+fn sixty_four_symbols(rt: HostRuntime) {
+    let alloc = rt.alloc();
+    let symbols = after_symbols(&rt, alloc, "");
+    let rows = [
+        (".", Outcome::Program(64, 0)),
+        (", b/0.", Outcome::Bad(7, 1)),
+        (". :- chr_constraint b/0.", Outcome::Bad(7, 2)),
+    ];
+    expect_outcomes(&rt, alloc, symbols.as_str(), &rows, "");
+}
+
+#[test]
+fn sixty_four_rules(rt: HostRuntime) {
+    let alloc = rt.alloc();
+    let rules = sixty_four(&rt, alloc);
+    let rows = [
+        ("", Outcome::Program(64, 64)),
+        ("a0 <=> true.", Outcome::Bad(7, 66)),
+    ];
+    expect_outcomes(&rt, alloc, rules.as_str(), &rows, "");
+}
+
+#[test]
+fn the_longest_text(rt: HostRuntime) {
+    let alloc = rt.alloc();
+    let spaces = " ".repeat(alloc, 65_536).expect(&rt, "memory");
+    let rows = [("", Outcome::Program(0, 0)), ("\u{7}", Outcome::TooLong)];
+    expect_outcomes(&rt, alloc, spaces.as_str(), &rows, "");
+}
+
+fn parts(program: &Program) -> bool {
+    let [rule] = program.rules() else {
+        return false;
+    };
+    let ([kept], [removed], [first, second], [body]) = (
+        rule.kept.as_slice(),
+        rule.removed.as_slice(),
+        rule.guard.as_slice(),
+        rule.body.as_slice(),
+    ) else {
+        return false;
+    };
+    rule.name.is_some()
+        && kept.symbol == SymbolId(0)
+        && kept.args.as_slice() == [Term::Variable(1), Term::Variable(2)].as_slice()
+        && removed.symbol == SymbolId(0)
+        && removed.args.as_slice() == [Term::Variable(3), Term::Constant(-3)].as_slice()
+        && first.left == Term::Variable(1)
+        && first.cmp == Cmp::AtLeast
+        && first.right == Term::Constant(-5)
+        && second.left == Term::Variable(3)
+        && second.cmp == Cmp::NotEqual
+        && second.right == Term::Variable(1)
+        && body.symbol == SymbolId(1)
+        && body.args.is_empty()
+}
+
+/// The weight of the symbol at this place.
+fn weight_at(rt: &impl Abort, program: &Program, place: u16) -> Weight {
+    assert!(rt; usize::from(place) < program.symbols());
+    program.weight_of(SymbolId(place))
+}
+
+#[test]
+fn a_rule_with_all_parts(rt: HostRuntime) {
+    let alloc = rt.alloc();
+    let text = ":- use_module(library(chr)). :- chr_constraint p/2, q/0. :- chr_weight p/2 = 007.
+r @ p(X,_) \\ p(Y,-03) <=> true, X >= -5, Y =\\= X | true, q.";
+    let program = program_of(&rt, alloc, text);
+    assert!(rt; parts(&program));
+    assert_eq!(rt; program.symbols(), 2);
+    let seven = Weight {
+        first: 7,
+        second: 0,
+    };
+    assert_eq!(rt; weight_at(&rt, &program, 0), seven);
+    assert_eq!(rt; weight_at(&rt, &program, 1), DEFAULT_WEIGHT);
+}
+
+fn args_of(program: &Program) -> bool {
+    let [rule] = program.rules() else {
+        return false;
+    };
+    let [first, second] = rule.removed.as_slice() else {
+        return false;
+    };
+    first.args.as_slice() == [Term::Variable(1), Term::Variable(2)].as_slice()
+        && second.args.as_slice() == [Term::Variable(3), Term::Variable(1)].as_slice()
+}
+
+#[test]
+fn each_underscore_is_a_variable(rt: HostRuntime) {
+    let text = ":- chr_constraint p/2. p(X,_), p(_,X) <=> true.";
+    assert!(rt; args_of(&program_of(&rt, rt.alloc(), text)));
+}
+
+#[test]
+fn numbers_of_faults(rt: HostRuntime) {
+    assert_eq!(rt; Fault::BadByte.number(), 1);
+    assert_eq!(rt; Fault::Unended.number(), 11);
+}
+
+#[test]
+fn canonical_texts(rt: HostRuntime) {
+    let rows = [
+        ("", ""),
+        ("% nothing\n", ""),
+        (
+            ":- use_module(library(chr)). :- chr_constraint p/2, q/0. :- chr_weight p/2 = 007.\nr @ p(X,_) \\ p(Y,-03) <=> true, X >= -5, Y =\\= X | true, q.",
+            ":- chr_constraint p/2, q/0.\n:- chr_weight p/2 = 7.\nr @ p(V1,V2) \\ p(V3,-3) <=> V1 >= -5, V3 =\\= V1 | q.\n",
+        ),
+        (
+            ":-chr_constraint min/1.m@min(X)\\min(Y)<=>X=<Y|true.",
+            ":- chr_constraint min/1.\nm @ min(V1) \\ min(V2) <=> V1 =< V2 | true.\n",
+        ),
+        (
+            ":- use_module(library(chr)).\n:- chr_constraint a/1, b/0. a(X) <=> X == 1 | b, true, b. b, b <=> true | b.",
+            ":- chr_constraint a/1, b/0.\na(V1) <=> V1 =:= 1 | b, b.\nb, b <=> b.\n",
+        ),
+        (
+            ":- chr_constraint a/0, b/2. :- chr_weight b/2 = 7. :- chr_constraint c/04. :- chr_weight a/0 = 1. :- chr_weight c/4 = 01000000.",
+            ":- chr_constraint a/0, b/2, c/4.\n:- chr_weight b/2 = 7.\n:- chr_weight c/4 = 1000000.\n",
+        ),
+        (
+            ":- chr_constraint p/3, q/0. p(_, Y, -9223372036854775808), q <=> Y < 0, 007 >= Y, Y > -1, 3 =< Y, Y =\\= 5, Y \\== 6, Y =:= 9223372036854775807 | p(Y, Y, 4).",
+            ":- chr_constraint p/3, q/0.\np(V1,V2,-9223372036854775808), q <=> V2 < 0, 7 >= V2, V2 > -1, 3 =< V2, V2 =\\= 5, V2 =\\= 6, V2 =:= 9223372036854775807 | p(V2,V2,4).\n",
+        ),
+    ];
+    expect_canonical(&rt, rt.alloc(), &rows);
+}
+
+/// Whether the program is written, and its canonical text is that of the same, and of no other.
+fn is_written(rt: &impl Abort, alloc: Global, program: &Program) -> bool {
+    let canonical = write(alloc, program).expect(rt, "memory");
+    let again = program_of(rt, alloc, canonical.as_str());
+    let rewritten = write(alloc, &again).expect(rt, "memory");
+    again.is_same(program) && rewritten.as_str() == canonical.as_str()
+}
+
+/// Whether the text is that of a program, and its canonical text that of the same.
+fn comes_back(rt: &impl Abort, alloc: Global, text: &[u8]) -> bool {
+    match read(alloc, text) {
+        Ok(program) => is_written(rt, alloc, &program),
+        Err(_) => false,
+    }
+}
+
+/// Compares each text with what comes back of it.
+fn expect_come_back(rt: &impl Abort, alloc: Global, texts: &[&str]) {
+    for text in texts {
+        assert!(rt; comes_back(rt, alloc, text.as_bytes()), "{text}");
+    }
+}
+
+#[test]
+fn programs_come_back(rt: HostRuntime) {
+    let texts = [
+        "",
+        ":- chr_constraint coin/0, note/0. coin, coin <=> note.",
+        ":- chr_constraint a/1, b/1. a(X), a(X) <=> b(X).",
+        ":- chr_constraint a/1. a(X) <=> X == 1 | true.",
+        ":- chr_constraint a/1. a(-9223372036854775808) <=> true.",
+        ":- chr_constraint a/1. a(9223372036854775807) <=> true.",
+        ":-chr_constraint min/1.m@min(X)\\min(Y)<=>X=<Y|true.",
+        ":- chr_constraint a/0, a/1, a/2, a/3, a/4, a/5, a/6.",
+        ":- chr_constraint a234567890123456789012345678901x/0. :- chr_weight a234567890123456789012345678901x/0 = 1000000.",
+        ":- chr_constraint a/0. x234567890123456789012345678901y @ a <=> true.",
+        ":- chr_constraint a/2, b/4. a(_,X), b(Y,_,X,Z) \\ a(Z,_), a(_,_) <=> X < Y, Z =\\= 4, 3 >= X | b(X,Y,Z,-5), a(0,0).",
+        ":- chr_constraint e/2. :- chr_weight e/2 = 3. a @ e(X,Y) \\ e(X,Z) <=> Y =< Z | true. a @ e(1,2) <=> true.",
+        ":- chr_constraint truex/0, failing/0. truex @ truex <=> failing, failing, failing, failing, failing, failing, failing, failing.",
+    ];
+    expect_come_back(&rt, rt.alloc(), &texts);
+}
