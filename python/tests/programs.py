@@ -12,10 +12,10 @@ PATHS = ":- chr_constraint path/3.\nshorter @ path(X,Y,D) \\ path(X,Y,E) <=> D =
 PLAIN = ":- chr_constraint a/1.\n"
 
 
-def answers(program: str, lines: Iterable[object]) -> list[str]:
-    """What a run writes for the program and these commands."""
+def answers(program: str, lines: Iterable[object], *options: str) -> list[str]:
+    """What a run with these options writes for the program and these commands."""
     text = text_bytes(program) + b"\n---\n" + b"".join(map(line_of, lines))
-    ended = subprocess.run([program_path(), "run"], input=text, stdout=subprocess.PIPE, check=True)
+    ended = subprocess.run([program_path(), "run", *options], input=text, stdout=subprocess.PIPE, check=True)
     return ended.stdout.decode().splitlines()
 
 

@@ -11,6 +11,12 @@ CONSTANTS = ((0, 1, 3), (1, 3), (7,), (GREATEST, GREATEST - 1, 0), (LEAST, LEAST
 
 NAMES = "abcpqr"
 
+RECORD_SHAPES = ((1, 1), (1, 1), (1, 1), (0, 2), (1, 2))
+"""The numbers of kept and removed heads of a rule of records."""
+
+VALUES = 4
+"""So many values stand in a store."""
+
 BODIES = 3
 """So many bodies are tried for one that weighs less than the removed heads; else it is these, and the rule is refused."""
 
@@ -43,8 +49,45 @@ class Maker:
         light = (body for body in bodies if self.weight(body) < self.weight(heads[kept:]))
         return Rule(heads[:kept], heads[kept:], guard, next(light, heads[kept:]))
 
+    def record_rule(self) -> Rule:
+        """A rule over records of one symbol: some columns are keys, which the heads share, and some of the others are
+        compared, head by head or with a constant."""
+        (name, arity), chance = next(iter(self.symbols)), self.chance
+        kept, removed = chance.choice(RECORD_SHAPES)
+        keys = {column for column in range(arity) if chance.random() < 0.4}
+        others = [column for column in range(arity) if column not in keys]
+        heads = tuple(
+            Pattern(name, tuple(f"K{column}" if column in keys else self.own(head, column) for column in range(arity)))
+            for head in range(kept + removed)
+        )
+        known = sorted({term for head in heads for term in head.terms if isinstance(term, str)})
+        compared = chance.choices(others, k=chance.choice((0, 1, 1, 1, 2, 2))) if others and known else []
+        guard = tuple(self.comparison(heads, column, known) for column in compared)
+        bodies = (self.atoms(chance.choice((0, 0, 0, 1)), known) for _ in range(BODIES))
+        light = (body for body in bodies if self.weight(body) < self.weight(heads[kept:]))
+        return Rule(heads[:kept], heads[kept:], guard, next(light, ()))
+
+    def own(self, head: int, column: int) -> Term:
+        if self.constants and self.chance.random() < 0.05:
+            return self.chance.choice(self.constants)
+        return f"X{head}{column}"
+
+    def comparison(self, heads: tuple[Pattern, ...], column: int, known: list[str]) -> tuple[Term, str, Term]:
+        """Of two heads in a column, or seldom of any variable."""
+        one, other = self.chance.sample(heads, 2)
+        left, sign, right = one.terms[column], self.chance.choice(list(SIGNS)), other.terms[column]
+        return (left, sign, self.term(known) if self.chance.random() < 0.15 else right)
+
     def weight(self, atoms: tuple[Pattern, ...]) -> int:
         return sum(self.symbols[atom.name, len(atom.terms)] for atom in atoms)
+
+
+def record_program(chance: random.Random) -> Program:
+    """One or two rules over records of three to six columns, and a lighter symbol: most have overlaps with more classes
+    than joint order types can be decided for."""
+    symbols = {("record", chance.randint(3, 6)): 2, ("note", chance.randint(0, 2)): 1}
+    maker = Maker(chance, symbols, chance.choice(CONSTANTS), 0)
+    return Program(symbols, tuple(maker.record_rule() for _ in range(chance.randint(1, 2))))
 
 
 def program(chance: random.Random) -> Program:
@@ -59,5 +102,6 @@ def store(chance: random.Random, of: Program, count: int) -> list[Pattern]:
     """Atoms of the program's symbols, whose values are few, so that they meet, and lie near its constants."""
     near = {value + step for value in of.constants() or [0] for step in (-1, 0, 1, 2)}
     values = sorted(value for value in near if LEAST <= value <= GREATEST)
+    values = chance.sample(values, min(len(values), VALUES))
     symbols = chance.choices(list(of.symbols), k=count)
     return [Pattern(name, tuple(chance.choice(values) for _ in range(arity))) for name, arity in symbols]

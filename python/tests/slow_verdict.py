@@ -1,12 +1,13 @@
-"""The verdict on a program, and the ends of its stores, by plain slow programs of the definitions: all matchings, all
-order types, all tuples of atoms. Nothing here is shared with the program that is tested."""
+"""The verdicts on a program, and the ends of its stores, by plain slow programs of the definitions: all matchings, all
+order types, or all lists of values sort by sort, all tuples of atoms. Nothing here is shared with the program that is
+tested."""
 
 from __future__ import annotations
 
 import itertools
 from collections.abc import Callable, Iterator
 from dataclasses import dataclass
-from math import comb
+from math import comb, prod
 
 LEAST, GREATEST = -(2**63), 2**63 - 1
 MAX_TYPES = 50_000
@@ -169,22 +170,26 @@ def variables(rule: Rule) -> list[str]:
     return list(dict.fromkeys(term for head in rule.heads for term in head.terms if isinstance(term, str)))
 
 
-def unified(first: Rule, second: Rule, matching: tuple[int, ...]) -> dict[str, Term] | None:
+def matching_equations(first: Rule, second: Rule, matching: tuple[int, ...]) -> list[tuple[Term, Term]]:
+    """The arguments that matched heads have at one place."""
+    pairs = ((head, second.heads[entry - 1]) for head, entry in zip(first.heads, matching, strict=True) if entry)
+    return [equation for head, other in pairs for equation in zip(head.terms, other.terms, strict=True)]
+
+
+def guard_equations(rule: Rule) -> list[tuple[Term, Term]]:
+    return [(left, right) for left, sign, right in rule.guard if sign == "=:="]
+
+
+def unified(names: list[str], equations: list[tuple[Term, Term]]) -> dict[str, Term] | None:
     """For each variable the constant of its class, or else its first variable; None where two constants are one."""
-    names = variables(first) + variables(second)
     classes: dict[str, Term] = {name: name for name in names}
-
-    def stands_for(term: Term) -> Term:
-        return classes[term] if isinstance(term, str) else term
-
-    for head, entry in zip(first.heads, matching, strict=True):
-        for term, other in zip(head.terms, second.heads[entry - 1].terms if entry else head.terms, strict=True):
-            left, right = stands_for(term), stands_for(other)
-            if isinstance(left, int) and isinstance(right, int) and left != right:
-                return None
-            # a constant stands for its class, or else the earlier variable does
-            least = min((left, right), key=lambda it: (-1 if isinstance(it, int) else names.index(it)))
-            classes = {name: least if it in (left, right) else it for name, it in classes.items()}
+    for pair in equations:
+        left, right = (classes[term] if isinstance(term, str) else term for term in pair)
+        if isinstance(left, int) and isinstance(right, int) and left != right:
+            return None
+        # a constant stands for its class, or else the earlier variable does
+        least = min((left, right), key=lambda it: -1 if isinstance(it, int) else names.index(it))
+        classes = {name: least if it in (left, right) else it for name, it in classes.items()}
     return classes
 
 
@@ -229,7 +234,103 @@ def representatives(count: int, constants: list[int]) -> list[tuple[int, ...]]:
     return sorted(found)
 
 
-# ---- the verdict
+# ---- sorts of positions
+
+Position = tuple[str, int, int]
+"""A symbol's name and number of arguments, and the argument's place, from 0."""
+
+
+def placed(atoms: tuple[Pattern, ...]) -> Iterator[tuple[Position, Term]]:
+    """Each argument with its position."""
+    for atom in atoms:
+        for place, term in enumerate(atom.terms):
+            yield (atom.name, len(atom.terms), place), term
+
+
+@dataclass(frozen=True)
+class Sort:
+    """How the program compares the values that stand at some positions."""
+
+    ordered: bool
+    """By their order."""
+    unequal: bool
+    """By whether they differ."""
+    constants: tuple[int, ...]
+    """Those that stand there and those that a guard compares with variables of the sort, rising."""
+
+    def count(self, classes: int) -> int:
+        """The number of lists of values of so many classes."""
+        if self.ordered:
+            return type_count(classes, list(self.constants))
+        return block_count(classes, len(self.constants)) if self.unequal else 1
+
+    def lists(self, classes: int) -> list[tuple[int, ...]]:
+        """The lists of values of so many classes, which stand for all that there are."""
+        if self.ordered:
+            return representatives(classes, list(self.constants))
+        new = tuple(itertools.islice((value for value in itertools.count() if value not in self.constants), classes))
+        return list(blocks(classes, self.constants, new)) if self.unequal else [new]
+
+
+def block_count(classes: int, choices: int) -> int:
+    """In how many ways classes go, one after another, to one of the choices or to a new block, a choice from then on."""
+    if not classes:
+        return 1
+    return choices * block_count(classes - 1, choices) + block_count(classes - 1, choices + 1)
+
+
+def blocks(classes: int, choices: tuple[int, ...], new: tuple[int, ...]) -> Iterator[tuple[int, ...]]:
+    """The same as lists of values. A new block takes the next new value."""
+    if not classes:
+        yield ()
+        return
+    for value in (*choices, new[0]):
+        chosen = value not in choices
+        for rest in blocks(classes - 1, (*choices, value) if chosen else choices, new[1:] if chosen else new):
+            yield (value, *rest)
+
+
+def joined_positions(program: Program) -> dict[Position, Position]:
+    """For each position one that stands for all of its sort: the least equivalence that joins all positions of one
+    variable of a rule, in heads and body, and those of two variables that a guard compares."""
+    sorts = {(name, arity, place): (name, arity, place) for name, arity in program.symbols for place in range(arity)}
+    for rule in program.rules:
+        stands = [(term, position) for position, term in placed(rule.heads + rule.body) if isinstance(term, str)]
+        first = dict(reversed(stands))
+        compared = [(first[x], first[y]) for x, _, y in rule.guard if isinstance(x, str) and isinstance(y, str)]
+        for one, other in [(first[variable], position) for variable, position in stands] + compared:
+            kept, gone = sorts[one], sorts[other]
+            sorts = {position: kept if sort == gone else sort for position, sort in sorts.items()}
+    return sorts
+
+
+def comparisons(rule: Rule) -> Iterator[tuple[str, str, Term]]:
+    """A variable, a sign, and what the guard compares the variable with: a constant or another variable."""
+    for left, sign, right in rule.guard:
+        if left != right:
+            yield from ((one, sign, other) for one, other in ((left, right), (right, left)) if isinstance(one, str))
+
+
+def sorts_of(program: Program) -> dict[Position, Sort]:
+    stands_for = joined_positions(program)
+    constants: dict[Position, set[int]] = {sort: set() for sort in stands_for.values()}
+    signs: dict[Position, set[str]] = {sort: set() for sort in stands_for.values()}
+    for rule in program.rules:
+        terms = [(stands_for[position], term) for position, term in placed(rule.heads + rule.body)]
+        of = {term: sort for sort, term in terms if isinstance(term, str)}
+        compared = list(comparisons(rule))
+        for variable, sign, _ in compared:
+            signs[of[variable]].add(sign)
+        for sort, term in terms + [(of[variable], other) for variable, _, other in compared]:
+            constants[sort] |= {term} if isinstance(term, int) else set()
+    made = {
+        sort: Sort(bool(signs[sort] - {"=:=", "=\\="}), "=\\=" in signs[sort], tuple(sorted(constants[sort])))
+        for sort in constants
+    }
+    return {position: made[sort] for position, sort in stands_for.items()}
+
+
+# ---- overlaps and their classes
 
 
 @dataclass(frozen=True)
@@ -239,6 +340,11 @@ class Overlap:
     second: Rule
     matching: tuple[int, ...]
 
+    def unified(self, further: list[tuple[Term, Term]]) -> dict[str, Term] | None:
+        """The classes of the equations of the matching and of further ones."""
+        equations = matching_equations(self.first, self.second, self.matching)
+        return unified(variables(self.first) + variables(self.second), equations + further)
+
     def __str__(self) -> str:
         return f"rules {self.numbers[0]} {self.numbers[1]}; matching ({','.join(map(str, self.matching))})"
 
@@ -247,6 +353,58 @@ def overlaps(program: Program) -> Iterator[Overlap]:
     for (one, first), (two, second) in itertools.combinations_with_replacement(enumerate(program.rules, 1), 2):
         for matching in matchings(first, second):
             yield Overlap((one, two), renamed(first, "1"), renamed(second, "2"), matching)
+
+
+# ---- lists of values of the free classes
+
+
+class JointLists:
+    """The order types of all free classes among all constants of the program."""
+
+    def __init__(self, program: Program) -> None:
+        self.constants = program.constants()
+
+    def classes(self, overlap: Overlap) -> dict[str, Term] | None:
+        return overlap.unified([])
+
+    def count(self, overlap: Overlap, free: list[str]) -> int:
+        return type_count(len(free), self.constants)
+
+    def lists(self, overlap: Overlap, free: list[str]) -> list[tuple[int, ...]]:
+        return representatives(len(free), self.constants)
+
+
+class SortedLists:
+    """All combinations of one list for each sort; what the guards equate is one class."""
+
+    def __init__(self, program: Program) -> None:
+        self.stands_for = joined_positions(program)
+        self.sorts = sorts_of(program)
+
+    def classes(self, overlap: Overlap) -> dict[str, Term] | None:
+        return overlap.unified(guard_equations(overlap.first) + guard_equations(overlap.second))
+
+    def groups(self, overlap: Overlap, free: list[str]) -> dict[Position, list[int]]:
+        """For each sort the places of its classes."""
+        heads = placed(overlap.first.heads + overlap.second.heads)
+        of = {term: self.stands_for[position] for position, term in heads if isinstance(term, str)}
+        return {sort: [place for place, name in enumerate(free) if of[name] == sort] for sort in set(of.values())}
+
+    def count(self, overlap: Overlap, free: list[str]) -> int:
+        groups = self.groups(overlap, free)
+        return prod(self.sorts[sort].count(len(places)) for sort, places in groups.items())
+
+    def lists(self, overlap: Overlap, free: list[str]) -> list[tuple[int, ...]]:
+        groups = self.groups(overlap, free)
+        found = []
+        for chosen in itertools.product(*(self.sorts[sort].lists(len(places)) for sort, places in groups.items())):
+            by_place = (zip(places, values, strict=True) for places, values in zip(groups.values(), chosen, strict=True))
+            values = dict(itertools.chain.from_iterable(by_place))
+            found.append(tuple(values[place] for place in range(len(free))))
+        return sorted(found)
+
+
+# ---- the verdict
 
 
 def failing_line(program: Program, overlap: Overlap, at: Valuation) -> str | None:
@@ -259,42 +417,43 @@ def failing_line(program: Program, overlap: Overlap, at: Valuation) -> str | Non
 
 
 class TooSlow(Exception):
-    """There are too many order types to be looked at here."""
+    """There are too many lists of values to be looked at here."""
 
 
-def refusal_or_count(program: Program, overlap: Overlap, most: int) -> str | int:
+def refusal_or_count(program: Program, by: JointLists | SortedLists, overlap: Overlap, most: int) -> str | int:
     """The line of an overlap that refuses the program, or else the number of its cases."""
-    classes = unified(overlap.first, overlap.second, overlap.matching)
+    classes = by.classes(overlap)
     if classes is None:
         return 0
     free = [name for name, term in classes.items() if term == name]
-    constants = program.constants()
-    types = type_count(len(free), constants)
-    if types > MAX_TYPES:
+    count = by.count(overlap, free)
+    if count > MAX_TYPES:
         return f"refused 22: {overlap}; classes {len(free)}"
-    if types > most:
+    if count > most:
         raise TooSlow
-    count = 0
-    for values in representatives(len(free), constants):
+    cases = 0
+    for values in by.lists(overlap, free):
         given = dict(zip(free, values, strict=True))
         at = {name: given[term] if isinstance(term, str) else term for name, term in classes.items()}
         if guard_holds(overlap.first, at) and guard_holds(overlap.second, at):
-            count += 1
+            cases += 1
             line = failing_line(program, overlap, at)
             if line is not None:
                 return line
-    return count
+    return cases
 
 
-def verdict(program: Program, most: int) -> str:
-    """The line of `chrrep check`. `TooSlow` is raised where an overlap has more order types than most, but not too many."""
+def verdict(program: Program, most: int, wide: bool = False) -> str:
+    """The line of `chrrep check`, or of `chrrep check --wide`. `TooSlow` is raised where an overlap has more lists of
+    values than most, but not too many."""
     for number, rule in enumerate(program.rules, 1):
         before, behind = program.weight(rule.removed), program.weight(rule.body)
         if before <= behind:
             return f"refused 20: rule {number}; before {before}; after {behind}"
+    by = SortedLists(program) if wide else JointLists(program)
     cases = 0
     for overlap in overlaps(program):
-        found = refusal_or_count(program, overlap, most)
+        found = refusal_or_count(program, by, overlap, most)
         if isinstance(found, str):
             return found
         cases += found

@@ -28,7 +28,7 @@ use Rattle.chr_base.specs.declared.limits.TheConstants.{MAX_REPLICAS}
 use Rattle.chr_device.specs.declared.limits.TheConstants.{MAX_WORKERS, MAX_PARTS}
 use Rattle.chr_device.specs.declared.words.Settings.{Settings}
 use Rattle.chr_device.specs.Settings.{IsPlain, IsWithinLimits}
-use Rattle.chr_device.specs.Words.{NumbersAreWithinLimits, WritesReplicas, chrrep, decimal_value, faults_of, flag_option, replicas_met, replicas_option, replicas_text}
+use Rattle.chr_device.specs.Words.{NumbersAreWithinLimits, WritesReplicas, chrrep, decimal_value, faults_of, flag_option, replicas_met, replicas_option, replicas_text, wide_option}
 use Rattle.chr_device.specs.working.Numbers.{IsReadFrom, text_in}
 use Rattle.chr_device.proofs.Walks.{EachKeeps, Keeps, first_none, level_keeps, next_none}
 
@@ -145,12 +145,16 @@ abbrev EachKeepsSound : List Shape → Type 0
 EachKeepsSound [] = ⊤
 EachKeepsSound (s ∷ rest) = KeepsSound s × EachKeepsSound rest
 
+-- the rules of `run` and of `serve`
+abbrev with_replicas_keeps : EachKeeps AreSound false (with_index 1 (filled replicas_option) ∷ with_index 1 (filled wide_option) ∷ with_index 1 (filled help_rule) ∷ [])
+with_replicas_keeps = (replicas_keeps false, (flag_keeps false (codes "wide") refl, (help_keeps false, tt)))
+
 commands_keep : EachKeepsSound (built chrrep).subs
 commands_keep = (
-  (help_keeps false, tt),
+  (flag_keeps false (codes "wide") refl, (help_keeps false, tt)),
   (
     (flag_keeps false (codes "dot") refl, (flag_keeps false (codes "all") refl, (help_keeps false, tt))),
-    ((replicas_keeps false, (help_keeps false, tt)), ((replicas_keeps false, (help_keeps false, tt)), ((topic_keeps false, tt), tt))),
+    (with_replicas_keeps, (with_replicas_keeps, ((topic_keeps false, tt), tt))),
   ),
 )
 

@@ -30,9 +30,11 @@ pub(crate) const CHECK: &str = "Tell whether a program is accepted";
 /// What `check` reads and writes.
 pub(crate) const CHECK_MORE: &str = with_statuses!(
     "Reads standard input: a program text, to a line `---` or to the end. What stands behind that line isn't looked at.
-Writes one line: `accepted: rules R, cases C`, or `refused N: ..`, where N is the reason.
+Writes one line: `accepted: rules R, cases C`, or `refused N: ..`, where N is the reason. A program refused as 22 may be
+decided with --wide.
 
-Example: chrrep check < FILE"
+Example: chrrep check < FILE
+         chrrep check --wide < FILE"
 );
 
 /// What `explain` is for.
@@ -60,7 +62,8 @@ pub(crate) const RUN: &str = "Tell that, and answer the command lines when the i
 /// What `run` reads and writes.
 pub(crate) const RUN_MORE: &str = with_statuses!(
     "Reads all of standard input: a program text, a line `---`, and command lines, each a JSON array. Then it writes the line
-that `check` writes, and for an accepted program one answer line a command.
+that `check` writes, and for an accepted program one answer line a command. A program refused as 22 may be decided with
+--wide.
 
 Example: chrrep run < FILE
          chrrep run --replicas 3 < FILE"
@@ -72,10 +75,13 @@ pub(crate) const SERVE: &str = "Do the same, and answer each command line as soo
 /// What `serve` reads and writes.
 pub(crate) const SERVE_MORE: &str = with_statuses!(
     "Reads and writes what `run` does, line by line: the verdict once the line `---` was read, and the answer of each command
-before the next one is waited for.
+before the next one is waited for. A program refused as 22 may be decided with --wide.
 
 Example: cat FILE - | chrrep serve"
 );
+
+/// What `--wide` is for.
+pub(crate) const WIDE: &str = "Decide by the columns that rules compare: more programs are decided";
 
 /// What `--replicas` is for.
 pub(crate) const REPLICAS: &str = "How many replicas there are, 1 to 16 [default: 1]";

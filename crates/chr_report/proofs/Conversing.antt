@@ -13,9 +13,11 @@ use Rattle.chr_device.specs.Devices.{AppendsPart}
 use Rattle.chr_ops.specs.Operations.{Operations}
 use Rattle.chr_join.specs.declared.accepted.Accepted.{Accepted}
 use Rattle.chr_join.specs.AcceptedPrograms.{cases_of, program_in}
-use Rattle.chr_join.specs.Verdicts.{IsAccepted}
+use Rattle.chr_join.specs.Verdicts.{IsAcceptedBy}
 use Rattle.chr_read.specs.ProgramTexts.{IsAnswer}
 use Rattle.chr_read.specs.declared.fault.ReadFault.{ReadFault}
+use Rattle.chr_report.specs.declared.wanted.Wanted.{Wanted}
+use Rattle.chr_report.specs.Asked.{replicas_by}
 use Rattle.chr_report.specs.declared.running.Status.{Status}
 use Rattle.chr_report.specs.declared.running.Status.TheVariants as status
 use Rattle.chr_report.specs.Lines.{lines}
@@ -140,19 +142,19 @@ module _ (ds : List Declaration) (rules : List Rule) where
 -- ---- a program
 
 -- the verdict, and then the answers of any commands
-abbrev pub IsOpened : Program → ℕ → List Operations → List ℕ → Type 0
-IsOpened p replicas start verdict =
-    (commands : List (List ℕ)) (answers : List ℕ) → AnswersAll (declarations p) (rules_of p) commands start answers → IsReadOutput (Ok p) replicas commands status.Accepted (verdict ++ answers)
+abbrev pub IsOpened : Program → Wanted → List Operations → List ℕ → Type 0
+IsOpened p wanted start verdict =
+    (commands : List (List ℕ)) (answers : List ℕ) → AnswersAll (declarations p) (rules_of p) commands start answers → IsReadOutput (Ok p) wanted commands status.Accepted (verdict ++ answers)
 
-pub program_opened : (a : Accepted) (n m replicas : ℕ) (start : List Operations) (verdict : List ℕ) → IsAccepted (rules_of (program_in a)) (cases_of a) → n ≡ length (rules_of (program_in a)) → m ≡ cases_of a → verdict ≡ accepted_text n m ++ 10 ∷ []
-    → start ≡ replicate replicas finite.empty → IsOpened (program_in a) replicas start verdict
-program_opened a n m replicas start verdict accepted f q g h commands answers answered =
+pub program_opened : (a : Accepted) (n m : ℕ) (wanted : Wanted) (start : List Operations) (verdict : List ℕ) → IsAcceptedBy wanted.coverage (rules_of (program_in a)) (cases_of a) → n ≡ length (rules_of (program_in a)) → m ≡ cases_of a → verdict ≡ accepted_text n m ++ 10 ∷ []
+    → start ≡ replicate wanted.replicas finite.empty → IsOpened (program_in a) wanted start verdict
+program_opened a n m wanted start verdict accepted f q g h commands answers answered =
     let rest : AnswersRest (declarations (program_in a)) (rules_of (program_in a)) commands start verdict (verdict ++ answers) = record { out = answers; answers = answered; out_is = refl } in
-    program_answered a a commands n m replicas start verdict (verdict ++ answers) accepted refl f q g h rest
+    program_answered a a commands n m wanted start verdict (verdict ++ answers) accepted refl f q g h rest
 
-module _ (p : Program) (replicas : ℕ) (start : List Operations) (verdict : List ℕ) (opened : IsOpened p replicas start verdict) where
+module _ (p : Program) (wanted : Wanted) (start : List Operations) (verdict : List ℕ) (opened : IsOpened p wanted start verdict) where
   pub program_served : (first : List ℕ) (known : Option (List ℕ)) (old middle new : Option (List ℕ)) → Appends old middle verdict → AnswersInput (declarations p) (rules_of p) first known start (Appends middle new)
-      → WritesText (λ answer. answer ≡ Ok p) first known replicas status.Accepted (Appends old new)
+      → WritesText (λ answer. answer ≡ Ok p) first known wanted status.Accepted (Appends old new)
   program_served first known old middle new w a = record {
     input = a.input;
     is_read = a.is_read;
@@ -164,9 +166,9 @@ module _ (p : Program) (replicas : ℕ) (start : List Operations) (verdict : Lis
   }
 
   pub program_part : (first : List ℕ) (known : Option (List ℕ)) (old middle new : Option (List ℕ)) → Appends old middle verdict → AnswersInput (declarations p) (rules_of p) first known start (AppendsPart middle new)
-      → WritesTextPart (λ answer. answer ≡ Ok p) first known replicas old new
+      → WritesTextPart (λ answer. answer ≡ Ok p) first known wanted old new
   program_part first known old middle new w a =
-      let part : WritesText (λ answer. answer ≡ Ok p) first known replicas status.Accepted (AppendsPart old new) =
+      let part : WritesText (λ answer. answer ≡ Ok p) first known wanted status.Accepted (AppendsPart old new) =
       record {
         input = a.input;
         is_read = a.is_read;
@@ -180,11 +182,11 @@ module _ (p : Program) (replicas : ℕ) (start : List Operations) (verdict : Lis
 
   -- the verdict is written in part
   pub verdict_part : AnswersExist → AreLowering (weight_by (declarations p)) (rules_of p) → (first : List ℕ) (known : Option (List ℕ)) (old new : Option (List ℕ)) → AppendsPart old new verdict
-      → WritesTextPart (λ answer. answer ≡ Ok p) first known replicas old new
+      → WritesTextPart (λ answer. answer ≡ Ok p) first known wanted old new
   verdict_part exist lowers first known old new w =
       let i = some_input known in
       let a = exist (declarations p) (rules_of p) lowers (lines (first ++ i.0)) start in
-      let part : WritesText (λ answer. answer ≡ Ok p) first known replicas status.Accepted (AppendsPart old new) =
+      let part : WritesText (λ answer. answer ≡ Ok p) first known wanted status.Accepted (AppendsPart old new) =
       record {
         input = i.0;
         is_read = i.1;
@@ -198,7 +200,7 @@ module _ (p : Program) (replicas : ℕ) (start : List Operations) (verdict : Lis
 
   -- while it is waited
   pub commands_answered : (first line : List ℕ) (from to : Option (List ℕ)) (now : List Operations) (old middle new : Option (List ℕ)) → Appends old middle verdict
-      → AnswersFrontRead (declarations p) (rules_of p) first from to line start now middle new → AnswersCommands (Ok p) replicas first from to old new
+      → AnswersFrontRead (declarations p) (rules_of p) first from to line start now middle new → AnswersCommands (Ok p) wanted first from to old new
   commands_answered first line from to now old middle new w s = record {
     bytes = s.bytes;
     front = s.chunk.front;
@@ -214,18 +216,18 @@ module _ (p : Program) (replicas : ℕ) (start : List Operations) (verdict : Lis
 
 -- ---- a text
 
-pub refused_written : (text first : List ℕ) (known : Option (List ℕ)) (replicas : ℕ) (answer : Result Program ReadFault) (out : List ℕ) (IsWritten : List ℕ → Type 0) → IsAnswer text answer
-    → ((r : ℕ) (commands : List (List ℕ)) → IsReadOutput answer r commands status.Refused out) → IsWritten out → WritesText (IsAnswer text) first known replicas status.Refused IsWritten
-refused_written text first known replicas answer out IsWritten a h w =
+pub refused_written : (text first : List ℕ) (known : Option (List ℕ)) (wanted : Wanted) (answer : Result Program ReadFault) (out : List ℕ) (IsWritten : List ℕ → Type 0) → IsAnswer text answer
+    → ((replicas : ℕ) (commands : List (List ℕ)) → IsReadOutput answer (replicas_by wanted.coverage replicas) commands status.Refused out) → IsWritten out → WritesText (IsAnswer text) first known wanted status.Refused IsWritten
+refused_written text first known wanted answer out IsWritten a h w =
     let i = some_input known in
-    record { input = i.0; is_read = i.1; answer = answer; is_answer = a; out = out; output = h replicas (lines (first ++ i.0)); is_written = w }
+    record { input = i.0; is_read = i.1; answer = answer; is_answer = a; out = out; output = h wanted.replicas (lines (first ++ i.0)); is_written = w }
 
-pub text_written : (text first : List ℕ) (known : Option (List ℕ)) (replicas : ℕ) (answer : Result Program ReadFault) (s : Status) (IsWritten : List ℕ → Type 0) → IsAnswer text answer
-    → WritesText (λ a. a ≡ answer) first known replicas s IsWritten → WritesText (IsAnswer text) first known replicas s IsWritten
-text_written text first known replicas answer s IsWritten a w =
+pub text_written : (text first : List ℕ) (known : Option (List ℕ)) (wanted : Wanted) (answer : Result Program ReadFault) (s : Status) (IsWritten : List ℕ → Type 0) → IsAnswer text answer
+    → WritesText (λ a. a ≡ answer) first known wanted s IsWritten → WritesText (IsAnswer text) first known wanted s IsWritten
+text_written text first known wanted answer s IsWritten a w =
     record { input = w.input; is_read = w.is_read; answer = w.answer; is_answer = subst (IsAnswer text) (sym w.is_answer) a; out = w.out; output = w.output; is_written = w.is_written }
 
-pub text_part : (text first : List ℕ) (known : Option (List ℕ)) (replicas : ℕ) (answer : Result Program ReadFault) (old new : Option (List ℕ)) → IsAnswer text answer
-    → WritesTextPart (λ a. a ≡ answer) first known replicas old new → WritesTextPart (IsAnswer text) first known replicas old new
-text_part text first known replicas answer old new a (inl w) = inl w
-text_part text first known replicas answer old new a (inr (s, w)) = inr (s, text_written text first known replicas answer s (AppendsPart old new) a w)
+pub text_part : (text first : List ℕ) (known : Option (List ℕ)) (wanted : Wanted) (answer : Result Program ReadFault) (old new : Option (List ℕ)) → IsAnswer text answer
+    → WritesTextPart (λ a. a ≡ answer) first known wanted old new → WritesTextPart (IsAnswer text) first known wanted old new
+text_part text first known wanted answer old new a (inl w) = inl w
+text_part text first known wanted answer old new a (inr (s, w)) = inr (s, text_written text first known wanted answer s (AppendsPart old new) a w)

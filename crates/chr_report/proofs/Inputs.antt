@@ -15,6 +15,7 @@ use Rattle.chr_read.specs.declared.fault.ReadFault.{ReadFault}
 use Rattle.chr_read.specs.declared.fault.ReadFault.TheVariants as fault
 use Rattle.chr_read.specs.declared.reader.TheConstants.{MAX_TEXT}
 use Rattle.chr_read.specs.ProgramTexts.{IsAnswer}
+use Rattle.chr_report.specs.declared.wanted.Wanted.{Wanted}
 use Rattle.chr_report.specs.declared.running.Status.{Status}
 use Rattle.chr_report.specs.declared.running.Status.TheVariants.{Accepted, Refused}
 use Rattle.chr_report.specs.Lines.{lines, is_divider, text_of, commands_of, without_return}
@@ -37,9 +38,9 @@ nothing_read bytes e = record { front = []; line = []; are = e; begins = no_text
 
 -- ---- after the divider
 
-output_divided : (text front more out : List ℕ) (replicas : ℕ) (answer : Result Program ReadFault) (status : Status) → Divides text front → IsAnswer text answer → IsReadOutput answer replicas (lines more) status out → IsOutput Run replicas (front ++ more) status out
-output_divided text front more out replicas answer status d a h =
-    (answer, subst (λ t. IsAnswer t answer) (sym (d.text_is more)) a, subst (λ cs. IsReadOutput answer replicas cs status out) (sym (d.commands more)) h)
+output_divided : (text front more out : List ℕ) (wanted : Wanted) (answer : Result Program ReadFault) (status : Status) → Divides text front → IsAnswer text answer → IsReadOutput answer wanted (lines more) status out → IsOutput Run wanted (front ++ more) status out
+output_divided text front more out wanted answer status d a h =
+    (answer, subst (λ t. IsAnswer t answer) (sym (d.text_is more)) a, subst (λ cs. IsReadOutput answer wanted cs status out) (sym (d.commands more)) h)
 
 -- all that the reader had
 all_read : (from to : Option (List ℕ)) (bytes input : List ℕ) → Consumes from to bytes → IfSome to (λ all. input ≡ all) → IfSome from (λ all. bytes ++ input ≡ all)
@@ -47,30 +48,30 @@ all_read None to bytes input c i = tt
 all_read (Some x) None bytes input c i = absurd c
 all_read (Some x) (Some y) bytes input c i = ap (λ l. bytes ++ l) i ∙ sym c
 
-pub divided_written : (from to : Option (List ℕ)) (bytes text first : List ℕ) (replicas : ℕ) (status : Status) (IsWritten : List ℕ → Type 0) → Consumes from to bytes → IsDivided bytes text first
-    → WritesText (IsAnswer text) first to replicas status IsWritten → Writes from Run replicas status IsWritten
-divided_written from to bytes text first replicas status IsWritten c d w = record {
+pub divided_written : (from to : Option (List ℕ)) (bytes text first : List ℕ) (wanted : Wanted) (status : Status) (IsWritten : List ℕ → Type 0) → Consumes from to bytes → IsDivided bytes text first
+    → WritesText (IsAnswer text) first to wanted status IsWritten → Writes from Run wanted status IsWritten
+divided_written from to bytes text first wanted status IsWritten c d w = record {
   input = bytes ++ w.input;
   is_read = all_read from to bytes w.input c w.is_read;
   out = w.out;
   is_output =
-      subst (λ b. IsOutput Run replicas b status w.out) (sym (ap (λ b. b ++ w.input) d.are ∙ append_assoc d.front first w.input))
-      (output_divided text d.front (first ++ w.input) w.out replicas w.answer status d.divides w.is_answer w.output);
+      subst (λ b. IsOutput Run wanted b status w.out) (sym (ap (λ b. b ++ w.input) d.are ∙ append_assoc d.front first w.input))
+      (output_divided text d.front (first ++ w.input) w.out wanted w.answer status d.divides w.is_answer w.output);
   is_written = w.is_written;
 }
 
-pub divided_part : (from to : Option (List ℕ)) (bytes text first : List ℕ) (replicas : ℕ) (old new : Option (List ℕ)) → Consumes from to bytes → IsDivided bytes text first
-    → WritesTextPart (IsAnswer text) first to replicas old new → WritesBeginning from old new Run replicas
-divided_part from to bytes text first replicas old new c d (inl w) = inl w
-divided_part from to bytes text first replicas old new c d (inr (status, w)) = inr (status, divided_written from to bytes text first replicas status (AppendsPart old new) c d w)
+pub divided_part : (from to : Option (List ℕ)) (bytes text first : List ℕ) (wanted : Wanted) (old new : Option (List ℕ)) → Consumes from to bytes → IsDivided bytes text first
+    → WritesTextPart (IsAnswer text) first to wanted old new → WritesBeginning from old new Run wanted
+divided_part from to bytes text first wanted old new c d (inl w) = inl w
+divided_part from to bytes text first wanted old new c d (inr (status, w)) = inr (status, divided_written from to bytes text first wanted status (AppendsPart old new) c d w)
 
-pub divided_answered : (from to next : Option (List ℕ)) (bytes text first : List ℕ) (replicas : ℕ) (answer : Result Program ReadFault) (old new : Option (List ℕ)) → Consumes from to bytes → IsDivided bytes text first
-    → IsAnswer text answer → AnswersCommands answer replicas first to next old new → AllAnswered from next old new replicas
-divided_answered from to next bytes text first replicas answer old new c d a s =
+pub divided_answered : (from to next : Option (List ℕ)) (bytes text first : List ℕ) (wanted : Wanted) (answer : Result Program ReadFault) (old new : Option (List ℕ)) → Consumes from to bytes → IsDivided bytes text first
+    → IsAnswer text answer → AnswersCommands answer wanted first to next old new → AllAnswered from next old new wanted
+divided_answered from to next bytes text first wanted answer old new c d a s =
     let front = d.front ++ s.front in
     let all : bytes ++ s.bytes ≡ front ++ s.line = ap (λ b. b ++ s.bytes) d.are ∙ append_assoc d.front first s.bytes ∙ ap (λ b. d.front ++ b) s.are ∙ sym (append_assoc d.front s.front s.line) in
-    let wrote : WritesOutput (Some front) old new Run replicas Accepted =
-    record { input = front; is_read = refl; out = s.out; is_output = output_divided text d.front s.front s.out replicas answer Accepted d.divides a s.output; is_written = s.written } in
+    let wrote : WritesOutput (Some front) old new Run wanted Accepted =
+    record { input = front; is_read = refl; out = s.out; is_output = output_divided text d.front s.front s.out wanted answer Accepted d.divides a s.output; is_written = s.written } in
     record {
       front = front;
       line = s.line;
@@ -85,8 +86,8 @@ divided_answered from to next bytes text first replicas answer old new c d a s =
 no_divider : (front : List ℕ) → AreText front → has_divider front ≡ false
 no_divider front t = ap has_divider (sym (append-nil front)) ∙ t.divider []
 
-pub undivided_answered : (from to : Option (List ℕ)) (bytes : List ℕ) (replicas : ℕ) (old new : Option (List ℕ)) → Consumes from to bytes → IsUndivided bytes → Appends old new [] → AllAnswered from to old new replicas
-undivided_answered from to bytes replicas old new c u w = record {
+pub undivided_answered : (from to : Option (List ℕ)) (bytes : List ℕ) (wanted : Wanted) (old new : Option (List ℕ)) → Consumes from to bytes → IsUndivided bytes → Appends old new [] → AllAnswered from to old new wanted
+undivided_answered from to bytes wanted old new c u w = record {
   front = u.front;
   line = u.line;
   read = subst (Consumes from to) u.are c;
@@ -102,12 +103,12 @@ all_there None to bytes input c e i = tt
 all_there (Some x) None bytes input c e i = absurd c
 all_there (Some x) (Some y) bytes input c e i = i ∙ sym (c ∙ ap (λ l. bytes ++ l) e ∙ append-nil bytes)
 
-pub ended_written : (from to : Option (List ℕ)) (bytes : List ℕ) (replicas : ℕ) (status : Status) (IsWritten : List ℕ → Type 0) → Consumes from to bytes → IsAtEnd to → Writes (Some bytes) Run replicas status IsWritten → Writes from Run replicas status IsWritten
-ended_written from to bytes replicas status IsWritten c e w = record { input = w.input; is_read = all_there from to bytes w.input c e w.is_read; out = w.out; is_output = w.is_output; is_written = w.is_written }
+pub ended_written : (from to : Option (List ℕ)) (bytes : List ℕ) (wanted : Wanted) (status : Status) (IsWritten : List ℕ → Type 0) → Consumes from to bytes → IsAtEnd to → Writes (Some bytes) Run wanted status IsWritten → Writes from Run wanted status IsWritten
+ended_written from to bytes wanted status IsWritten c e w = record { input = w.input; is_read = all_there from to bytes w.input c e w.is_read; out = w.out; is_output = w.is_output; is_written = w.is_written }
 
-pub ended_part : (from to : Option (List ℕ)) (bytes : List ℕ) (replicas : ℕ) (old new : Option (List ℕ)) → Consumes from to bytes → IsAtEnd to → WritesBeginning (Some bytes) old new Run replicas → WritesBeginning from old new Run replicas
-ended_part from to bytes replicas old new c e (inl w) = inl w
-ended_part from to bytes replicas old new c e (inr (status, w)) = inr (status, ended_written from to bytes replicas status (AppendsPart old new) c e w)
+pub ended_part : (from to : Option (List ℕ)) (bytes : List ℕ) (wanted : Wanted) (old new : Option (List ℕ)) → Consumes from to bytes → IsAtEnd to → WritesBeginning (Some bytes) old new Run wanted → WritesBeginning from old new Run wanted
+ended_part from to bytes wanted old new c e (inl w) = inl w
+ended_part from to bytes wanted old new c e (inr (status, w)) = inr (status, ended_written from to bytes wanted status (AppendsPart old new) c e w)
 
 -- ---- a text that is too long
 
@@ -147,23 +148,23 @@ text_too_long bytes more u l =
     rw text (long_enough (length bytes) (length u.front) (length u.line) _ _ l size sum (text_longer (is_divider (u.line ++ f.0)) u.line f.0 f.1 refl))
 
 -- its line, whatever comes after it
-too_long_output : (short long out : List ℕ) (replicas : ℕ) (status : Status) → MAX_TEXT < length (text_of (lines short)) → MAX_TEXT < length (text_of (lines long)) → IsOutput Run replicas short status out → IsOutput Run replicas long status out
-too_long_output short long out replicas status s l (Ok p, a, h) = let fits = a.0 in absurd (omega (arith, s, fits))
-too_long_output short long out replicas status s l (Err fault.TooLong, a, h) = (Err fault.TooLong, l, h)
-too_long_output short long out replicas status s l (Err (fault.Bad n k), a, h) = let fits = a.0 in absurd (omega (arith, s, fits))
-too_long_output short long out replicas status s l (Err fault.Memory, a, h) = absurd h.1
+too_long_output : (short long out : List ℕ) (wanted : Wanted) (status : Status) → MAX_TEXT < length (text_of (lines short)) → MAX_TEXT < length (text_of (lines long)) → IsOutput Run wanted short status out → IsOutput Run wanted long status out
+too_long_output short long out wanted status s l (Ok p, a, h) = let fits = a.0 in absurd (omega (arith, s, fits))
+too_long_output short long out wanted status s l (Err fault.TooLong, a, h) = (Err fault.TooLong, l, h)
+too_long_output short long out wanted status s l (Err (fault.Bad n k), a, h) = let fits = a.0 in absurd (omega (arith, s, fits))
+too_long_output short long out wanted status s l (Err fault.Memory, a, h) = absurd h.1
 
-pub long_written : (from to : Option (List ℕ)) (bytes : List ℕ) (replicas : ℕ) (status : Status) (IsWritten : List ℕ → Type 0) → Consumes from to bytes → IsUndivided bytes → MAX_TEXT + 4 < length bytes
-    → Writes (Some bytes) Run replicas status IsWritten → Writes from Run replicas status IsWritten
-long_written from to bytes replicas status IsWritten c u l w =
+pub long_written : (from to : Option (List ℕ)) (bytes : List ℕ) (wanted : Wanted) (status : Status) (IsWritten : List ℕ → Type 0) → Consumes from to bytes → IsUndivided bytes → MAX_TEXT + 4 < length bytes
+    → Writes (Some bytes) Run wanted status IsWritten → Writes from Run wanted status IsWritten
+long_written from to bytes wanted status IsWritten c u l w =
     let left = some_left from to bytes c in
     let here : MAX_TEXT < length (text_of (lines w.input)) = subst (λ b. MAX_TEXT < length (text_of (lines b))) (append-nil bytes ∙ sym w.is_read) (text_too_long bytes [] u l) in
-    record { input = bytes ++ left.0; is_read = left.1; out = w.out; is_output = too_long_output w.input (bytes ++ left.0) w.out replicas status here (text_too_long bytes left.0 u l) w.is_output; is_written = w.is_written }
+    record { input = bytes ++ left.0; is_read = left.1; out = w.out; is_output = too_long_output w.input (bytes ++ left.0) w.out wanted status here (text_too_long bytes left.0 u l) w.is_output; is_written = w.is_written }
 
-pub long_part : (from to : Option (List ℕ)) (bytes : List ℕ) (replicas : ℕ) (old new : Option (List ℕ)) → Consumes from to bytes → IsUndivided bytes → MAX_TEXT + 4 < length bytes
-    → WritesBeginning (Some bytes) old new Run replicas → WritesBeginning from old new Run replicas
-long_part from to bytes replicas old new c u l (inl w) = inl w
-long_part from to bytes replicas old new c u l (inr (status, w)) = inr (status, long_written from to bytes replicas status (AppendsPart old new) c u l w)
+pub long_part : (from to : Option (List ℕ)) (bytes : List ℕ) (wanted : Wanted) (old new : Option (List ℕ)) → Consumes from to bytes → IsUndivided bytes → MAX_TEXT + 4 < length bytes
+    → WritesBeginning (Some bytes) old new Run wanted → WritesBeginning from old new Run wanted
+long_part from to bytes wanted old new c u l (inl w) = inl w
+long_part from to bytes wanted old new c u l (inr (status, w)) = inr (status, long_written from to bytes wanted status (AppendsPart old new) c u l w)
 
 abbrev IsRefusal : Status → Type 0
 IsRefusal Accepted = ⊥
@@ -173,13 +174,13 @@ pub not_accepted : {P : Type 0} (s : Status) → s ≡ Refused → s ≡ Accepte
 not_accepted s e f = absurd (subst IsRefusal (sym e ∙ f) tt)
 
 -- its program is refused
-too_long_refused : (input out : List ℕ) (replicas : ℕ) (status : Status) → MAX_TEXT < length (text_of (lines input)) → IsOutput Run replicas input status out → status ≡ Refused
-too_long_refused input out replicas status l (Ok p, a, h) = let fits = a.0 in absurd (omega (arith, l, fits))
-too_long_refused input out replicas status l (Err e, a, h) = h.0
+too_long_refused : (input out : List ℕ) (wanted : Wanted) (status : Status) → MAX_TEXT < length (text_of (lines input)) → IsOutput Run wanted input status out → status ≡ Refused
+too_long_refused input out wanted status l (Ok p, a, h) = let fits = a.0 in absurd (omega (arith, l, fits))
+too_long_refused input out wanted status l (Err e, a, h) = h.0
 
-pub long_refused : (bytes : List ℕ) (replicas : ℕ) (status : Status) (IsWritten : List ℕ → Type 0) → IsUndivided bytes → MAX_TEXT + 4 < length bytes → Writes (Some bytes) Run replicas status IsWritten → status ≡ Refused
-long_refused bytes replicas status IsWritten u l w =
-    too_long_refused w.input w.out replicas status (subst (λ b. MAX_TEXT < length (text_of (lines b))) (append-nil bytes ∙ sym w.is_read) (text_too_long bytes [] u l)) w.is_output
+pub long_refused : (bytes : List ℕ) (wanted : Wanted) (status : Status) (IsWritten : List ℕ → Type 0) → IsUndivided bytes → MAX_TEXT + 4 < length bytes → Writes (Some bytes) Run wanted status IsWritten → status ≡ Refused
+long_refused bytes wanted status IsWritten u l w =
+    too_long_refused w.input w.out wanted status (subst (λ b. MAX_TEXT < length (text_of (lines b))) (append-nil bytes ∙ sym w.is_read) (text_too_long bytes [] u l)) w.is_output
 
 -- ---- reads
 

@@ -12,7 +12,7 @@ use Rattle.chr_base.specs.Programs.{declarations, rules_of}
 use Rattle.chr_base.specs.Texts.{store_text}
 use Rattle.chr_weights.specs.Weights.{AreLowering, IsLowering, weight_by}
 use Rattle.chr_weights.proofs.Ranks.{lowers_rank_by, rank_by}
-use Rattle.chr_join.specs.declared.coverage.Coverage.TheVariants.{Joint}
+use Rattle.chr_join.specs.declared.coverage.Coverage.{Coverage}
 use Rattle.chr_join.specs.declared.refused.Cause.{Cause}
 use Rattle.chr_join.specs.declared.refused.Cause.TheVariants as cause
 use Rattle.chr_join.specs.Once.{SameRefusal, AcceptedOnce, RefusedOnce, NeverBoth, AcceptedAreConfluent}
@@ -23,6 +23,7 @@ use Rattle.chr_read.specs.declared.fault.ReadFault.{ReadFault}
 use Rattle.chr_read.specs.declared.fault.ReadFault.TheVariants as fault
 use Rattle.chr_report.specs.declared.running.Status.{Status}
 use Rattle.chr_report.specs.declared.running.Status.TheVariants.{Accepted, Refused}
+use Rattle.chr_report.specs.declared.wanted.Wanted.{Wanted}
 use Rattle.chr_report.specs.Lines.{lines, text_of, commands_of}
 use Rattle.chr_report.specs.OneText.{FirstAnswersAreOne}
 use Rattle.chr_report.specs.OneOutput.{OutputsAreOne}
@@ -101,60 +102,60 @@ module _ (ds : List Declaration) (rules : List Rule) where
   no_memory : (e : Cause) (out : List ℕ) → IsCauseLine ds e out → e ≡ cause.Memory → ⊥
   no_memory e out h m = subst (λ x. IsCauseLine ds x out) m h
 
-  by_overlaps : VerdictLaws → (out out' : List ℕ) → IsRefusedByOverlaps ds rules out → IsRefusedByOverlaps ds rules out' → out ≡ out'
-  by_overlaps laws out out' h g =
-      one_line h.cause g.cause out out' (laws.refused Joint rules h.cause g.cause h.first g.first (no_memory h.cause out h.line) (no_memory g.cause out' g.line)) h.line g.line
+  by_overlaps : VerdictLaws → (coverage : Coverage) (out out' : List ℕ) → IsRefusedByOverlaps coverage ds rules out → IsRefusedByOverlaps coverage ds rules out' → out ≡ out'
+  by_overlaps laws coverage out out' h g =
+      one_line h.cause g.cause out out' (laws.refused coverage rules h.cause g.cause h.first g.first (no_memory h.cause out h.line) (no_memory g.cause out' g.line)) h.line g.line
 
-  one_answer : VerdictLaws → (replicas : ℕ) (commands : List (List ℕ)) (out out' : List ℕ) → IsAnswered ds rules replicas commands out → IsAnswered ds rules replicas commands out' → out ≡ out'
-  one_answer laws replicas commands out out' h g =
-      let cases = laws.accepted Joint rules h.cases g.cases h.accepted g.accepted in
-      let confluent = laws.confluent Joint rules (rank_by ds) h.cases (lowers_rank_by ds rules h.lowers) h.accepted in
-      let t = laws.answers ds rules confluent replicas commands h.answers g.answers h.answered g.answered in
+  one_answer : VerdictLaws → (wanted : Wanted) (commands : List (List ℕ)) (out out' : List ℕ) → IsAnswered ds rules wanted commands out → IsAnswered ds rules wanted commands out' → out ≡ out'
+  one_answer laws wanted commands out out' h g =
+      let cases = laws.accepted wanted.coverage rules h.cases g.cases h.accepted g.accepted in
+      let confluent = laws.confluent wanted.coverage rules (rank_by ds) h.cases (lowers_rank_by ds rules h.lowers) h.accepted in
+      let t = laws.answers ds rules confluent wanted.replicas commands h.answers g.answers h.answered g.answered in
       h.out_is ∙ (λ i. accepted_text (length rules) (cases i) ++ 10 ∷ t i) ∙ sym g.out_is
 
-  never_both : VerdictLaws → (replicas : ℕ) (commands : List (List ℕ)) (out out' : List ℕ) → IsAnswered ds rules replicas commands out → IsRefusedByWeights ds rules out' ⊎ IsRefusedByOverlaps ds rules out' → ⊥
-  never_both laws replicas commands out out' h (inl w) = not_both w.rule w.before w.after w.first h.lowers
-  never_both laws replicas commands out out' h (inr o) = no_memory o.cause out' o.line (laws.either Joint rules h.cases o.cause h.accepted o.first)
+  never_both : VerdictLaws → (wanted : Wanted) (commands : List (List ℕ)) (out out' : List ℕ) → IsAnswered ds rules wanted commands out → IsRefusedByWeights ds rules out' ⊎ IsRefusedByOverlaps wanted.coverage ds rules out' → ⊥
+  never_both laws wanted commands out out' h (inl w) = not_both w.rule w.before w.after w.first h.lowers
+  never_both laws wanted commands out out' h (inr o) = no_memory o.cause out' o.line (laws.either wanted.coverage rules h.cases o.cause h.accepted o.first)
 
-  rules_output : VerdictLaws → (replicas : ℕ) (commands : List (List ℕ)) (s s' : Status) (out out' : List ℕ) → IsRulesOutput ds rules replicas commands s out → IsRulesOutput ds rules replicas commands s' out' → (s ≡ s') × (out ≡ out')
-  rules_output laws replicas commands Accepted Accepted out out' h g = (refl, one_answer laws replicas commands out out' h g)
-  rules_output laws replicas commands Accepted Refused out out' h g = absurd (never_both laws replicas commands out out' h g)
-  rules_output laws replicas commands Refused Accepted out out' h g = absurd (never_both laws replicas commands out' out g h)
-  rules_output laws replicas commands Refused Refused out out' (inl h) (inl g) = (refl, by_weights out out' h g)
-  rules_output laws replicas commands Refused Refused out out' (inl h) (inr g) = absurd (not_both h.rule h.before h.after h.first g.lowers)
-  rules_output laws replicas commands Refused Refused out out' (inr h) (inl g) = absurd (not_both g.rule g.before g.after g.first h.lowers)
-  rules_output laws replicas commands Refused Refused out out' (inr h) (inr g) = (refl, by_overlaps laws out out' h g)
+  rules_output : VerdictLaws → (wanted : Wanted) (commands : List (List ℕ)) (s s' : Status) (out out' : List ℕ) → IsRulesOutput ds rules wanted commands s out → IsRulesOutput ds rules wanted commands s' out' → (s ≡ s') × (out ≡ out')
+  rules_output laws wanted commands Accepted Accepted out out' h g = (refl, one_answer laws wanted commands out out' h g)
+  rules_output laws wanted commands Accepted Refused out out' h g = absurd (never_both laws wanted commands out out' h g)
+  rules_output laws wanted commands Refused Accepted out out' h g = absurd (never_both laws wanted commands out' out g h)
+  rules_output laws wanted commands Refused Refused out out' (inl h) (inl g) = (refl, by_weights out out' h g)
+  rules_output laws wanted commands Refused Refused out out' (inl h) (inr g) = absurd (not_both h.rule h.before h.after h.first g.lowers)
+  rules_output laws wanted commands Refused Refused out out' (inr h) (inl g) = absurd (not_both g.rule g.before g.after g.first h.lowers)
+  rules_output laws wanted commands Refused Refused out out' (inr h) (inr g) = (refl, by_overlaps laws wanted.coverage out out' h g)
 
 -- programs of one meaning
-same_output : VerdictLaws → (p q : Program) → meaning_of p ≡ meaning_of q → (replicas : ℕ) (commands : List (List ℕ)) (s s' : Status) (out out' : List ℕ) → IsReadOutput (Ok p) replicas commands s out → IsReadOutput (Ok q) replicas commands s' out' → (s ≡ s') × (out ≡ out')
-same_output laws p q e replicas commands s s' out out' h g =
-    rules_output (declarations q) (map unnamed (rules_of q)) laws replicas commands s s' out out'
-    (subst (λ rs. IsRulesOutput (declarations q) rs replicas commands s out) (all_unnamed (rules_of p) (rules_of q) (ap (λ m. m.rules) e))
-    (subst (λ ds. IsRulesOutput ds (map unnamed (rules_of p)) replicas commands s out) (ap (λ m. m.declarations) e) (output_unnamed (declarations p) (rules_of p) replicas commands s out h)))
-    (output_unnamed (declarations q) (rules_of q) replicas commands s' out' g)
+same_output : VerdictLaws → (p q : Program) → meaning_of p ≡ meaning_of q → (wanted : Wanted) (commands : List (List ℕ)) (s s' : Status) (out out' : List ℕ) → IsReadOutput (Ok p) wanted commands s out → IsReadOutput (Ok q) wanted commands s' out' → (s ≡ s') × (out ≡ out')
+same_output laws p q e wanted commands s s' out out' h g =
+    rules_output (declarations q) (map unnamed (rules_of q)) laws wanted commands s s' out out'
+    (subst (λ rs. IsRulesOutput (declarations q) rs wanted commands s out) (all_unnamed (rules_of p) (rules_of q) (ap (λ m. m.rules) e))
+    (subst (λ ds. IsRulesOutput ds (map unnamed (rules_of p)) wanted commands s out) (ap (λ m. m.declarations) e) (output_unnamed (declarations p) (rules_of p) wanted commands s out h)))
+    (output_unnamed (declarations q) (rules_of q) wanted commands s' out' g)
 
 -- no text is too long and short
 long : {A : Type 0} (text : List ℕ) → 65536 < length text → IsShort text → A
 long text l m = absurd (omega (arith, l, m))
 
 -- two answers of one text
-one_of_text : VerdictLaws → (text : List ℕ) (replicas : ℕ) (commands : List (List ℕ)) (s s' : Status) (out out' : List ℕ) (a b : Result Program ReadFault) → IsAnswer text a → IsAnswer text b
-    → IsReadOutput a replicas commands s out → IsReadOutput b replicas commands s' out' → (s ≡ s') × (out ≡ out')
-one_of_text laws text replicas commands s s' out out' (Ok p) (Ok q) r t h g = same_output laws p q (laws.meaning text (meaning_of p) (meaning_of q) r t) replicas commands s s' out out' h g
-one_of_text laws text replicas commands s s' out out' (Ok p) (Err fault.TooLong) r t h g = long text t r.0
-one_of_text laws text replicas commands s s' out out' (Ok p) (Err (fault.Bad n k)) r t h g = absurd (laws.apart text (meaning_of p) n k r t)
-one_of_text laws text replicas commands s s' out out' (Err fault.TooLong) (Ok p) r t h g = long text r t.0
-one_of_text laws text replicas commands s s' out out' (Err (fault.Bad n k)) (Ok p) r t h g = absurd (laws.apart text (meaning_of p) n k t r)
-one_of_text laws text replicas commands s s' out out' (Err fault.TooLong) (Err fault.TooLong) r t h g = (h.0 ∙ sym g.0, h.1 ∙ sym g.1)
-one_of_text laws text replicas commands s s' out out' (Err fault.TooLong) (Err (fault.Bad n k)) r t h g = long text r t.0
-one_of_text laws text replicas commands s s' out out' (Err (fault.Bad n k)) (Err fault.TooLong) r t h g = long text t r.0
-one_of_text laws text replicas commands s s' out out' (Err (fault.Bad n k)) (Err (fault.Bad m j)) r t h g =
+one_of_text : VerdictLaws → (text : List ℕ) (wanted : Wanted) (commands : List (List ℕ)) (s s' : Status) (out out' : List ℕ) (a b : Result Program ReadFault) → IsAnswer text a → IsAnswer text b
+    → IsReadOutput a wanted commands s out → IsReadOutput b wanted commands s' out' → (s ≡ s') × (out ≡ out')
+one_of_text laws text wanted commands s s' out out' (Ok p) (Ok q) r t h g = same_output laws p q (laws.meaning text (meaning_of p) (meaning_of q) r t) wanted commands s s' out out' h g
+one_of_text laws text wanted commands s s' out out' (Ok p) (Err fault.TooLong) r t h g = long text t r.0
+one_of_text laws text wanted commands s s' out out' (Ok p) (Err (fault.Bad n k)) r t h g = absurd (laws.apart text (meaning_of p) n k r t)
+one_of_text laws text wanted commands s s' out out' (Err fault.TooLong) (Ok p) r t h g = long text r t.0
+one_of_text laws text wanted commands s s' out out' (Err (fault.Bad n k)) (Ok p) r t h g = absurd (laws.apart text (meaning_of p) n k t r)
+one_of_text laws text wanted commands s s' out out' (Err fault.TooLong) (Err fault.TooLong) r t h g = (h.0 ∙ sym g.0, h.1 ∙ sym g.1)
+one_of_text laws text wanted commands s s' out out' (Err fault.TooLong) (Err (fault.Bad n k)) r t h g = long text r t.0
+one_of_text laws text wanted commands s s' out out' (Err (fault.Bad n k)) (Err fault.TooLong) r t h g = long text t r.0
+one_of_text laws text wanted commands s s' out out' (Err (fault.Bad n k)) (Err (fault.Bad m j)) r t h g =
     let e = laws.fault text n m k j r t in
     (h.0 ∙ sym g.0, h.1 ∙ (λ i. codes "refused " ++ decimal (number_of_fault (e.0 i)) ++ codes ": clause " ++ decimal (e.1 i) ++ 10 ∷ []) ∙ sym g.1)
-one_of_text laws text replicas commands s s' out out' (Err fault.Memory) b r t h g = absurd h.1
-one_of_text laws text replicas commands s s' out out' (Ok p) (Err fault.Memory) r t h g = absurd g.1
-one_of_text laws text replicas commands s s' out out' (Err fault.TooLong) (Err fault.Memory) r t h g = absurd g.1
-one_of_text laws text replicas commands s s' out out' (Err (fault.Bad n k)) (Err fault.Memory) r t h g = absurd g.1
+one_of_text laws text wanted commands s s' out out' (Err fault.Memory) b r t h g = absurd h.1
+one_of_text laws text wanted commands s s' out out' (Ok p) (Err fault.Memory) r t h g = absurd g.1
+one_of_text laws text wanted commands s s' out out' (Err fault.TooLong) (Err fault.Memory) r t h g = absurd g.1
+one_of_text laws text wanted commands s s' out out' (Err (fault.Bad n k)) (Err fault.Memory) r t h g = absurd g.1
 
 pub one_output : VerdictLaws → OutputsAreOne
-one_output laws verb replicas input s s' out out' h g = one_of_text laws (text_of (lines input)) replicas (asked verb (commands_of (lines input))) s s' out out' h.0 g.0 h.1 g.1 h.2 g.2
+one_output laws verb wanted input s s' out out' h g = one_of_text laws (text_of (lines input)) wanted (asked verb (commands_of (lines input))) s s' out out' h.0 g.0 h.1 g.1 h.2 g.2

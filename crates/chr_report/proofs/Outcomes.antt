@@ -9,12 +9,13 @@ use Rattle.chr_base.specs.declared.program.Program.{Program}
 use Rattle.chr_base.specs.Programs.{declarations, rules_of}
 use Rattle.chr_join.specs.declared.accepted.Accepted.{Accepted}
 use Rattle.chr_join.specs.AcceptedPrograms.{weighed_of, cases_of}
-use Rattle.chr_join.specs.Verdicts.{IsAccepted}
+use Rattle.chr_join.specs.Verdicts.{IsAcceptedBy}
 use Rattle.chr_base.specs.declared.rule.Rule.{Rule}
 use Rattle.chr_base.specs.ProgramTests.{Declaration}
 use Rattle.chr_ops.specs.Operations.{Operations}
 use Rattle.chr_read.specs.ProgramTexts.{IsAnswer}
 use Rattle.chr_read.specs.declared.fault.ReadFault.{ReadFault}
+use Rattle.chr_report.specs.declared.wanted.Wanted.{Wanted}
 use Rattle.chr_report.specs.declared.running.Status.TheVariants.{Refused}
 use Rattle.chr_report.specs.declared.running.Status.{Status}
 use Rattle.chr_device.specs.declared.words.Verb.{Verb}
@@ -27,13 +28,13 @@ use Rattle.chr_report.specs.Outputs.{asked, IsOutput, IsReadOutput, IsAnswered, 
 use Rattle.chr_report.specs.Written.{Writes, WritesOutput, WritesBeginning}
 
 -- a whole write leaves all
-pub whole_written : (old new bytes : Option (List ℕ)) (verb : Verb) (replicas : ℕ) (input written out : List ℕ) (status : Status) → IfSome bytes (λ t. input ≡ t) → IsOutput verb replicas input status out → written ≡ out → Appends old new written → WritesOutput bytes old new verb replicas status
-whole_written old new bytes verb replicas input written out status h o e a = record { input = input; is_read = h; out = out; is_output = o; is_written = subst (Appends old new) e a }
+pub whole_written : (old new bytes : Option (List ℕ)) (verb : Verb) (wanted : Wanted) (input written out : List ℕ) (status : Status) → IfSome bytes (λ t. input ≡ t) → IsOutput verb wanted input status out → written ≡ out → Appends old new written → WritesOutput bytes old new verb wanted status
+whole_written old new bytes verb wanted input written out status h o e a = record { input = input; is_read = h; out = out; is_output = o; is_written = subst (Appends old new) e a }
 
 -- a failed write leaves a beginning
-pub part_written : (old new bytes : Option (List ℕ)) (verb : Verb) (replicas : ℕ) (input written out : List ℕ) (status : Status) → IfSome bytes (λ t. input ≡ t) → IsOutput verb replicas input status out → written ≡ out → AppendsPart old new written → WritesBeginning bytes old new verb replicas
-part_written old new bytes verb replicas input written out status h o e a =
-    let part : Writes bytes verb replicas status (AppendsPart old new) = record { input = input; is_read = h; out = out; is_output = o; is_written = subst (AppendsPart old new) e a } in
+pub part_written : (old new bytes : Option (List ℕ)) (verb : Verb) (wanted : Wanted) (input written out : List ℕ) (status : Status) → IfSome bytes (λ t. input ≡ t) → IsOutput verb wanted input status out → written ≡ out → AppendsPart old new written → WritesBeginning bytes old new verb wanted
+part_written old new bytes verb wanted input written out status h o e a =
+    let part : Writes bytes verb wanted status (AppendsPart old new) = record { input = input; is_read = h; out = out; is_output = o; is_written = subst (AppendsPart old new) e a } in
     inr (status, part)
 
 -- no lines, no answers
@@ -42,9 +43,9 @@ nothing_to_answer ds rules commands old before e =
     rw e (let r : AnswersRest ds rules [] old before before = record { out = []; answers = refl; out_is = sym (append-nil before) } in r)
 
 -- the verdict's line and the answers
-pub program_answered : (a b : Accepted) (ls : List (List ℕ)) (n m replicas : ℕ) (start : List Operations) (before out : List ℕ) → IsAccepted (rules_of (program_in a)) (cases_of a) → b ≡ a → n ≡ length (rules_of (program_in a)) → m ≡ cases_of a → before ≡ accepted_text n m ++ 10 ∷ [] → start ≡ replicate replicas finmap.empty
-    → AnswersRest (declarations (program_in b)) (rules_of (program_in b)) ls start before out → IsAnswered (declarations (program_in a)) (rules_of (program_in a)) replicas ls out
-program_answered a b ls n m replicas start before out accepted e f q g h r =
+pub program_answered : (a b : Accepted) (ls : List (List ℕ)) (n m : ℕ) (wanted : Wanted) (start : List Operations) (before out : List ℕ) → IsAcceptedBy wanted.coverage (rules_of (program_in a)) (cases_of a) → b ≡ a → n ≡ length (rules_of (program_in a)) → m ≡ cases_of a → before ≡ accepted_text n m ++ 10 ∷ [] → start ≡ replicate wanted.replicas finmap.empty
+    → AnswersRest (declarations (program_in b)) (rules_of (program_in b)) ls start before out → IsAnswered (declarations (program_in a)) (rules_of (program_in a)) wanted ls out
+program_answered a b ls n m wanted start before out accepted e f q g h r =
     let k : AnswersRest (declarations (program_in a)) (rules_of (program_in a)) ls start before out = subst (λ u. AnswersRest (declarations (program_in u)) (rules_of (program_in u)) ls start before out) e r in
     record {
       lowers = (weighed_of a).lowers;
@@ -56,15 +57,15 @@ program_answered a b ls n m replicas start before out accepted e f q g h r =
     }
 
 -- a program that is refused
-pub refused_by : (p : Program) (replicas : ℕ) (ls : List (List ℕ)) (status : Status) (out line : List ℕ) → status ≡ Refused → out ≡ line → IsRefusedByWeights (declarations p) (rules_of p) line ⊎ IsRefusedByOverlaps (declarations p) (rules_of p) line → IsReadOutput (Ok p) replicas ls status out
-refused_by p replicas ls status out line e f h = rw (e, f) h
+pub refused_by : (p : Program) (wanted : Wanted) (ls : List (List ℕ)) (status : Status) (out line : List ℕ) → status ≡ Refused → out ≡ line → IsRefusedByWeights (declarations p) (rules_of p) line ⊎ IsRefusedByOverlaps wanted.coverage (declarations p) (rules_of p) line → IsReadOutput (Ok p) wanted ls status out
+refused_by p wanted ls status out line e f h = rw (e, f) h
 
 -- what the text is read as decides
-pub read_output : (verb : Verb) (replicas : ℕ) (input text : List ℕ) (rest commands : Option (Bor (List ℕ))) (answer : Result Program ReadFault) (status : Status) (out : List ℕ)
+pub read_output : (verb : Verb) (wanted : Wanted) (input text : List ℕ) (rest commands : Option (Bor (List ℕ))) (answer : Result Program ReadFault) (status : Status) (out : List ℕ)
     → text ≡ text_of (lines input) → commands_of (lines input) ≡ lines_left rest → lines_left commands ≡ asked verb (lines_left rest)
-    → IsAnswer text answer → IsReadOutput answer replicas (lines_left commands) status out → IsOutput verb replicas input status out
-read_output verb replicas input text rest commands answer status out e f g a h =
-    (answer, subst (λ x. IsAnswer x answer) e a, subst (λ cs. IsReadOutput answer replicas cs status out) (g ∙ ap (asked verb) (sym f)) h)
+    → IsAnswer text answer → IsReadOutput answer wanted (lines_left commands) status out → IsOutput verb wanted input status out
+read_output verb wanted input text rest commands answer status out e f g a h =
+    (answer, subst (λ x. IsAnswer x answer) e a, subst (λ cs. IsReadOutput answer wanted cs status out) (g ∙ ap (asked verb) (sym f)) h)
 
 pub if_ok : {A E : Type 0} {P Q : A → Type 0} (r : Result A E) → ((x : A) → P x → Q x) → IfOk r P → IfOk r Q
 if_ok (Ok x) f h = f x h

@@ -8,6 +8,7 @@ use Rattle.chr_base.specs.Programs.{declarations, rules_of}
 use Rattle.chr_base.specs.ProgramTests.{some_paired}
 use Rattle.chr_weights.specs.Weights.{AreLowering, IsFirstNotLowered, weight_by}
 use Rattle.chr_weights.proofs.FirstNotLowered.{lowers_or_first}
+use Rattle.chr_join.specs.declared.coverage.Coverage.TheVariants.{Joint}
 use Rattle.chr_join.specs.declared.refused.Cause.TheVariants as cause
 use Rattle.chr_join.proofs.VerdictThere.{HasVerdict, program_verdict}
 use Rattle.chr_read.specs.declared.fault.Fault.{Fault}
@@ -19,6 +20,7 @@ use Rattle.chr_read.specs.ProgramTexts.{IsAnswer, IsProgramText, IsRefusedText, 
 use Rattle.chr_read.proofs.ProgramsThere.{program_there}
 use Rattle.chr_report.specs.declared.running.Status.{Status}
 use Rattle.chr_report.specs.declared.running.Status.TheVariants.{Accepted, Refused}
+use Rattle.chr_report.specs.Asked.{replicas_by}
 use Rattle.chr_report.specs.Lines.{lines, text_of, commands_of}
 use Rattle.chr_report.specs.OneOutput.{OutputsExist}
 use Rattle.chr_report.specs.OneText.{AnswersExist}
@@ -33,7 +35,7 @@ HasOutput P = (status : Status) × (out : List ℕ) × P status out
 
 module _ (answers : AnswersExist) (p : Program) (replicas : ℕ) (commands : List (List ℕ)) where
   abbrev Rules : Status → List ℕ → Type 0
-  Rules = IsRulesOutput (declarations p) (rules_of p) replicas commands
+  Rules = IsRulesOutput (declarations p) (rules_of p) (replicas_by Joint replicas) commands
 
   weighed : (i : ℕ) (before after : Weight) → IsFirstNotLowered (declarations p) (rules_of p) i before after → HasOutput Rules
   weighed i before after first = (
@@ -61,7 +63,7 @@ module _ (answers : AnswersExist) (p : Program) (replicas : ℕ) (commands : Lis
 -- ---- texts
 
 abbrev HasTextOutput : List ℕ → ℕ → List (List ℕ) → Type 0
-HasTextOutput text replicas commands = HasOutput (λ status out. (answer : Result Program ReadFault) × IsAnswer text answer × IsReadOutput answer replicas commands status out)
+HasTextOutput text replicas commands = HasOutput (λ status out. (answer : Result Program ReadFault) × IsAnswer text answer × IsReadOutput answer (replicas_by Joint replicas) commands status out)
 
 module _ (answers : AnswersExist) (text : List ℕ) (replicas : ℕ) (commands : List (List ℕ)) where
   of_program : (m : Meaning) → IsProgramText text m → HasTextOutput text replicas commands

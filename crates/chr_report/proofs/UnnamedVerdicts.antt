@@ -10,7 +10,7 @@ use Rattle.chr_base.specs.declared.rule.Rule.{Rule}
 use Rattle.chr_base.specs.declared.derivation.Step.{Step as StepValue}
 use Rattle.chr_base.specs.declared.weight.Weight.{Weight}
 use Rattle.chr_base.specs.Weights.{total_weight}
-use Rattle.chr_base.specs.Rules.{atoms_at, HasNoStep}
+use Rattle.chr_base.specs.Rules.{atoms_at, heads_of, HasNoStep}
 use Rattle.chr_base.specs.Stores.{Store}
 use Rattle.chr_base.specs.ProgramTests.{Declaration}
 use Rattle.chr_weights.specs.Weights.{AreLowering, IsLowering, weight_by, IsFirstNotLowered}
@@ -21,12 +21,19 @@ use Rattle.chr_overlaps.specs.declared.overlap.Overlap.{Overlap}
 use Rattle.chr_overlaps.specs.declared.cases.Case.{Case}
 use Rattle.chr_overlaps.specs.OverlapLists.{AreOverlaps}
 use Rattle.chr_overlaps.specs.CaseLists.{AreListed, AreCases, IsTooMany}
+use Rattle.chr_sorts.specs.Sorts.{Sorts, FitRule, Fit}
+use Rattle.chr_sorts.specs.SortedCases.{all_equations}
+use Rattle.chr_kinds.specs.FinestSorts.{HaveShortHeads, AreShort, AreFinest}
+use Rattle.chr_kinds.specs.SortedCaseLists.{AreSortedListed, AreSortedCases, HasTooManyCombinations}
+use Rattle.chr_join.specs.declared.coverage.Coverage.{Coverage}
+use Rattle.chr_join.specs.declared.coverage.Coverage.TheVariants.{Joint, Sorted}
 use Rattle.chr_join.specs.declared.refused.Failure.{Failure}
 use Rattle.chr_join.specs.declared.refused.Cause.{Cause}
 use Rattle.chr_join.specs.declared.refused.Cause.TheVariants as cause
 use Rattle.chr_join.specs.Sides.{IsSideComputation, IsJoinable}
-use Rattle.chr_join.specs.Verdicts.{HasJoinableCases, HaveJoinableCases, IsAccepted, IsFirst, IsFirstCase}
-use Rattle.chr_join.specs.Explanations.{Explains, IsRefusal}
+use Rattle.chr_join.specs.Coverages.{AreCasesBy, IsTooManyBy}
+use Rattle.chr_join.specs.Verdicts.{HasJoinableCasesBy, HaveJoinableCasesBy, IsAcceptedBy, IsFirstBy, IsFirstCaseBy}
+use Rattle.chr_join.specs.Explanations.{Explains, IsRefusalBy}
 use Rattle.chr_ops.specs.Operations.{Operations, told_store}
 use Rattle.chr_json.specs.Commands.{Said, show, tell, sync, summary, lacks, merge}
 use Rattle.chr_json.specs.Lines.{is_blank_line}
@@ -36,6 +43,7 @@ use Rattle.chr_json.specs.declared.fault.LineFault.TheVariants as fault
 use Rattle.chr_report.specs.declared.running.Status.{Status}
 use Rattle.chr_report.specs.declared.running.Status.TheVariants.{Accepted, Refused}
 use Rattle.chr_report.specs.declared.reply.Refusal.TheVariants as refusal
+use Rattle.chr_report.specs.declared.wanted.Wanted.{Wanted}
 use Rattle.chr_report.specs.Lines.{without_return}
 use Rattle.chr_report.specs.Answers.{held_by, OneAnswers, AnswersAt, ShowsNormalForm, AnswersShow, AnswersRead, AnswersFirst, AnswersAll, AnswersRefusal}
 use Rattle.chr_report.specs.Outputs.{accepted_text, IsAnswered, IsRulesOutput}
@@ -118,31 +126,93 @@ module _ (rules : List Rule) where
     more = h.more;
   }
 
+  -- ---- sorts
+
+  fits : (s : Sorts) → Fit s rules → Fit s bare
+  fits s h i x e =
+      let r = from_unnamed rules i x e in
+      let f = h i r.0 r.1 in
+      subst (FitRule s) r.2 (record { variables = f.variables; constants = f.constants; compared = f.compared })
+
+  named_fits : (s : Sorts) → Fit s bare → Fit s rules
+  named_fits s h i r e =
+      let f = h i (unnamed r) (at_unnamed rules i r e) in
+      record { variables = f.variables; constants = f.constants; compared = f.compared }
+
+  are_finest : (s : Sorts) → AreFinest rules s → AreFinest bare s
+  are_finest s h = record {
+    short = λ i x e. (let r = from_unnamed rules i x e in subst (λ y. AreShort (heads_of y)) r.2 (h.short i r.0 r.1));
+    fit = fits s h.fit;
+    finest = λ p f. h.finest p (named_fits p f);
+    named = h.named;
+    rise = h.rise;
+    values = h.values;
+  }
+
+  are_sorted_listed : (s : Sorts) (o : Overlap) (r1 r2 : Rule) (cs : List Case) → AreSortedListed s o r1 r2 cs → AreSortedListed s o (unnamed r1) (unnamed r2) cs
+  are_sorted_listed s o r1 r2 cs h = record {
+    classes = h.classes;
+    combinations = h.combinations;
+    solves = h.solves;
+    all = h.all;
+    within = h.within;
+    cases_are = h.cases_are;
+  }
+
+  are_sorted_cases : (s : Sorts) (o : Overlap) (cs : List Case) → AreSortedCases s rules o cs → AreSortedCases s bare o cs
+  are_sorted_cases s o cs h = record {
+    rule1 = unnamed h.rule1;
+    rule2 = unnamed h.rule2;
+    first = at_unnamed rules (o.first - 1) h.rule1 h.first;
+    second = at_unnamed rules (o.second - 1) h.rule2 h.second;
+    listed = elim h.listed as (λ _. (HasNoUnifier (all_equations h.rule1 h.rule2 o.matching.items) × (cs ≡ [])) ⊎ AreSortedListed s o (unnamed h.rule1) (unnamed h.rule2) cs) [ inl n ↦ inl n | inr l ↦ inr (are_sorted_listed s o h.rule1 h.rule2 cs l) ];
+  }
+
+  too_many_combinations : (s : Sorts) (o : Overlap) (n : ℕ) → HasTooManyCombinations s rules o n → HasTooManyCombinations s bare o n
+  too_many_combinations s o n h = record {
+    rule1 = unnamed h.rule1;
+    rule2 = unnamed h.rule2;
+    first = at_unnamed rules (o.first - 1) h.rule1 h.first;
+    second = at_unnamed rules (o.second - 1) h.rule2 h.second;
+    classes = h.classes;
+    solves = h.solves;
+    number = h.number;
+    many = h.many;
+  }
+
   -- ---- verdicts
+
+  are_cases_by : (coverage : Coverage) (o : Overlap) (cs : List Case) → AreCasesBy coverage rules o cs → AreCasesBy coverage bare o cs
+  are_cases_by Joint o cs h = are_cases o cs h
+  are_cases_by Sorted o cs h = (h.0, are_finest h.0 h.1, are_sorted_cases h.0 o cs h.2)
+
+  too_many_by : (coverage : Coverage) (o : Overlap) (n : ℕ) → IsTooManyBy coverage rules o n → IsTooManyBy coverage bare o n
+  too_many_by Joint o n h = too_many o n h
+  too_many_by Sorted o n h = (h.0, are_finest h.0 h.1, too_many_combinations h.0 o n h.2)
 
   all_joinable : (cs : List Case) → All (IsJoinable rules) cs → All (IsJoinable bare) cs
   all_joinable cs h k d l = joinable (slice_index_or cs k d) (h k d l)
 
-  has_joinable : (o : Overlap) (n : ℕ) → HasJoinableCases rules o n → HasJoinableCases bare o n
-  has_joinable o n h = record { cases = h.cases; listed = are_cases o h.cases h.listed; joinable = all_joinable h.cases h.joinable; number = h.number }
+  has_joinable : (coverage : Coverage) (o : Overlap) (n : ℕ) → HasJoinableCasesBy coverage rules o n → HasJoinableCasesBy coverage bare o n
+  has_joinable coverage o n h = record { cases = h.cases; listed = are_cases_by coverage o h.cases h.listed; joinable = all_joinable h.cases h.joinable; number = h.number }
 
-  have_joinable : (os : List Overlap) (n : ℕ) → HaveJoinableCases rules os n → HaveJoinableCases bare os n
-  have_joinable [] n h = h
-  have_joinable (o ∷ os) n h = (h.0, h.1, has_joinable o h.0 h.2, have_joinable os h.1 h.3, h.4)
+  have_joinable : (coverage : Coverage) (os : List Overlap) (n : ℕ) → HaveJoinableCasesBy coverage rules os n → HaveJoinableCasesBy coverage bare os n
+  have_joinable coverage [] n h = h
+  have_joinable coverage (o ∷ os) n h = (h.0, h.1, has_joinable coverage o h.0 h.2, have_joinable coverage os h.1 h.3, h.4)
 
-  is_accepted : (n : ℕ) → IsAccepted rules n → IsAccepted bare n
-  is_accepted n h = record { overlaps = h.overlaps; listed = are_overlaps h.overlaps h.listed; joinable = have_joinable h.overlaps n h.joinable }
+  is_accepted : (coverage : Coverage) (n : ℕ) → IsAcceptedBy coverage rules n → IsAcceptedBy coverage bare n
+  is_accepted coverage n h = record { overlaps = h.overlaps; listed = are_overlaps h.overlaps h.listed; joinable = have_joinable coverage h.overlaps n h.joinable }
 
-  is_first : (o : Overlap) → IsFirst rules o → IsFirst bare o
-  is_first o h = record {
+  is_first : (coverage : Coverage) (o : Overlap) → IsFirstBy coverage rules o → IsFirstBy coverage bare o
+  is_first coverage o h = record {
     before = h.before;
     after = h.after;
     listed = are_overlaps (h.before ++ o ∷ h.after) h.listed;
-    joinable = λ k d l. (let j = h.joinable k d l in (j.0, has_joinable (slice_index_or h.before k d) j.0 j.1));
+    joinable = λ k d l. (let j = h.joinable k d l in (j.0, has_joinable coverage (slice_index_or h.before k d) j.0 j.1));
   }
 
-  is_first_case : (o : Overlap) (c : Case) → IsFirstCase rules o c → IsFirstCase bare o c
-  is_first_case o c h = record { before = h.before; after = h.after; listed = are_cases o (h.before ++ c ∷ h.after) h.listed; joinable = all_joinable h.before h.joinable }
+  is_first_case : (coverage : Coverage) (o : Overlap) (c : Case) → IsFirstCaseBy coverage rules o c → IsFirstCaseBy coverage bare o c
+  is_first_case coverage o c h = record { before = h.before; after = h.after; listed = are_cases_by coverage o (h.before ++ c ∷ h.after) h.listed; joinable = all_joinable h.before h.joinable }
 
   explains : (c : Case) (f : Failure) → Explains rules c f → Explains bare c f
   explains c f h = record {
@@ -151,10 +221,10 @@ module _ (rules : List Rule) where
     differ = h.differ;
   }
 
-  is_refusal : (e : Cause) → IsRefusal rules e → IsRefusal bare e
-  is_refusal (cause.Fails f) h = (is_first f.overlap h.0, record { case = h.1.case; first = is_first_case f.overlap h.1.case h.1.first; explains = explains h.1.case f h.1.explains })
-  is_refusal (cause.TooManyTypes t) h = (is_first t.overlap h.0, too_many t.overlap t.classes h.1)
-  is_refusal cause.Memory h = h
+  is_refusal : (coverage : Coverage) (e : Cause) → IsRefusalBy coverage rules e → IsRefusalBy coverage bare e
+  is_refusal coverage (cause.Fails f) h = (is_first coverage f.overlap h.0, record { case = h.1.case; first = is_first_case coverage f.overlap h.1.case h.1.first; explains = explains h.1.case f h.1.explains })
+  is_refusal coverage (cause.TooManyTypes t) h = (is_first coverage t.overlap h.0, too_many_by coverage t.overlap t.classes h.1)
+  is_refusal coverage cause.Memory h = h
 
   lower : (w : Atom → Weight) → AreLowering w rules → AreLowering w bare
   lower w h i x e = let r = from_unnamed rules i x e in subst (IsLowering w) r.2 (h i r.0 r.1)
@@ -213,18 +283,18 @@ module _ (rules : List Rule) where
           out_is = h.out_is;
         }
 
-    answered : (replicas : ℕ) (commands : List (List ℕ)) (out : List ℕ) → IsAnswered ds rules replicas commands out → IsAnswered ds bare replicas commands out
-    answered replicas commands out h = record {
+    answered : (wanted : Wanted) (commands : List (List ℕ)) (out : List ℕ) → IsAnswered ds rules wanted commands out → IsAnswered ds bare wanted commands out
+    answered wanted commands out h = record {
       lowers = lower (weight_by ds) h.lowers;
       cases = h.cases;
-      accepted = is_accepted h.cases h.accepted;
+      accepted = is_accepted wanted.coverage h.cases h.accepted;
       answers = h.answers;
-      answered = answers_all commands (replicate replicas finite.empty) h.answers h.answered;
+      answered = answers_all commands (replicate wanted.replicas finite.empty) h.answers h.answered;
       out_is = h.out_is ∙ ap (λ n. accepted_text n h.cases ++ 10 ∷ h.answers) (sym (length-map rules unnamed));
     }
 
-pub output_unnamed : (ds : List Declaration) (rules : List Rule) (replicas : ℕ) (commands : List (List ℕ)) (status : Status) (out : List ℕ)
-    → IsRulesOutput ds rules replicas commands status out → IsRulesOutput ds (map unnamed rules) replicas commands status out
-output_unnamed ds rules replicas commands Accepted out h = answered rules ds replicas commands out h
-output_unnamed ds rules replicas commands Refused out (inl h) = inl (record { rule = h.rule; before = h.before; after = h.after; first = first_not_lowered rules ds h.rule h.before h.after h.first; out_is = h.out_is })
-output_unnamed ds rules replicas commands Refused out (inr h) = inr (record { lowers = lower rules (weight_by ds) h.lowers; cause = h.cause; first = is_refusal rules h.cause h.first; line = h.line })
+pub output_unnamed : (ds : List Declaration) (rules : List Rule) (wanted : Wanted) (commands : List (List ℕ)) (status : Status) (out : List ℕ)
+    → IsRulesOutput ds rules wanted commands status out → IsRulesOutput ds (map unnamed rules) wanted commands status out
+output_unnamed ds rules wanted commands Accepted out h = answered rules ds wanted commands out h
+output_unnamed ds rules wanted commands Refused out (inl h) = inl (record { rule = h.rule; before = h.before; after = h.after; first = first_not_lowered rules ds h.rule h.before h.after h.first; out_is = h.out_is })
+output_unnamed ds rules wanted commands Refused out (inr h) = inr (record { lowers = lower rules (weight_by ds) h.lowers; cause = h.cause; first = is_refusal rules wanted.coverage h.cause h.first; line = h.line })

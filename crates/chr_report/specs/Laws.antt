@@ -3,6 +3,7 @@ use Rattle.std.specs.Prelude.{◌≡◌, ℕ, List, ◌++◌}
 use Rattle.std.specs.List.{join_with_byte}
 use Rattle.chr_device.specs.declared.words.Verb.TheVariants.{Check, Run}
 use Rattle.chr_report.specs.declared.running.Status.{Status}
+use Rattle.chr_report.specs.declared.wanted.Wanted.{Wanted}
 use Rattle.chr_report.specs.Lines.{lines}
 use Rattle.chr_report.specs.Outputs.{IsOutput}
 
@@ -13,6 +14,6 @@ LinesAreTheInput = (input : List ℕ) → join_with_byte 10 (lines input) ≡ in
 -- what a run writes is what a check of the same input writes, and then the answers; their statuses are one
 abbrev pub ChecksBeginRuns : Type 0
 ChecksBeginRuns =
-    (replicas : ℕ) (input : List ℕ) (status : Status) (out : List ℕ) → IsOutput Run replicas input status out
+    (wanted : Wanted) (input : List ℕ) (status : Status) (out : List ℕ) → IsOutput Run wanted input status out
     → (verdict : List ℕ) × (answers : List ℕ) × (out ≡ verdict ++ answers)
-    × IsOutput Check replicas input status verdict
+    × IsOutput Check wanted input status verdict

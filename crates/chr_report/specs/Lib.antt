@@ -1,4 +1,5 @@
 pub mod Lines
+pub mod Asked
 pub mod Replies
 pub mod Answers
 pub mod Overlaps

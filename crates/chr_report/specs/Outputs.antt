@@ -13,8 +13,9 @@ use Rattle.chr_base.specs.Programs.{declarations, rules_of}
 use Rattle.chr_weights.specs.Weights.{AreLowering, IsFirstNotLowered, weight_by}
 use Rattle.chr_join.specs.declared.refused.Cause.{Cause}
 use Rattle.chr_join.specs.declared.refused.Cause.TheVariants as cause
-use Rattle.chr_join.specs.Verdicts.{IsAccepted}
-use Rattle.chr_join.specs.Explanations.{IsRefusal}
+use Rattle.chr_join.specs.declared.coverage.Coverage.{Coverage}
+use Rattle.chr_join.specs.Verdicts.{IsAcceptedBy}
+use Rattle.chr_join.specs.Explanations.{IsRefusalBy}
 use Rattle.chr_read.specs.Numbers.{number_of_fault}
 use Rattle.chr_read.specs.ProgramTexts.{IsAnswer}
 use Rattle.chr_read.specs.declared.fault.ReadFault.{ReadFault}
@@ -23,6 +24,7 @@ use Rattle.chr_device.specs.declared.words.Verb.{Verb}
 use Rattle.chr_device.specs.declared.words.Verb.TheVariants.{Check, Explain, Run, Serve}
 use Rattle.chr_report.specs.declared.running.Status.{Status}
 use Rattle.chr_report.specs.declared.running.Status.TheVariants.{Accepted, Refused}
+use Rattle.chr_report.specs.declared.wanted.Wanted.{Wanted}
 use Rattle.chr_report.specs.Lines.{lines, text_of, commands_of}
 use Rattle.chr_report.specs.Answers.{AnswersAll}
 use Rattle.chr_report.specs.Overlaps.{failure_text, too_many_text}
@@ -54,35 +56,37 @@ IsCauseLine ds (cause.Fails f) out = out ≡ failure_text ds f ++ 10 ∷ []
 IsCauseLine ds (cause.TooManyTypes t) out = out ≡ too_many_text t ++ 10 ∷ []
 IsCauseLine ds cause.Memory out = ⊥
 
--- the line of a program that lowers, and has a failing case or too many order types
-pub record IsRefusedByOverlaps (ds : List Declaration) (rules : List Rule) (out : List ℕ) : Type 0 where
+-- the line of a program that lowers, and has a failing case or an overlap of too many, as the coverage has them
+pub record IsRefusedByOverlaps (coverage : Coverage) (ds : List Declaration) (rules : List Rule) (out : List ℕ)
+    : Type 0 where
   pub lowers : AreLowering (weight_by ds) rules
   pub cause : Cause
-  pub first : IsRefusal rules cause
+  pub first : IsRefusalBy coverage rules cause
   pub line : IsCauseLine ds cause out
 
 abbrev pub accepted_text : ℕ → ℕ → List ℕ
 accepted_text rules cases = codes "accepted: rules " ++ decimal rules ++ codes ", cases " ++ decimal cases
 
 -- the line of a program of which no case fails, and the answers of so many replicas that were told nothing
-pub record IsAnswered (ds : List Declaration) (rules : List Rule) (replicas : ℕ) (commands : List (List ℕ))
+pub record IsAnswered (ds : List Declaration) (rules : List Rule) (wanted : Wanted) (commands : List (List ℕ))
     (out : List ℕ) : Type 0 where
   pub lowers : AreLowering (weight_by ds) rules
   pub cases : ℕ
-  pub accepted : IsAccepted rules cases
+  pub accepted : IsAcceptedBy wanted.coverage rules cases
   pub answers : List ℕ
-  pub answered : AnswersAll ds rules commands (replicate replicas map.empty) answers
+  pub answered : AnswersAll ds rules commands (replicate wanted.replicas map.empty) answers
   pub out_is : out ≡ accepted_text (length rules) cases ++ 10 ∷ answers
 
-abbrev pub IsRulesOutput : List Declaration → List Rule → ℕ → List (List ℕ) → Status → List ℕ → Type 0
-IsRulesOutput ds rules replicas commands Accepted out = IsAnswered ds rules replicas commands out
-IsRulesOutput ds rules replicas commands Refused out = IsRefusedByWeights ds rules out ⊎ IsRefusedByOverlaps ds rules out
+abbrev pub IsRulesOutput : List Declaration → List Rule → Wanted → List (List ℕ) → Status → List ℕ → Type 0
+IsRulesOutput ds rules wanted commands Accepted out = IsAnswered ds rules wanted commands out
+IsRulesOutput ds rules wanted commands Refused out =
+    IsRefusedByWeights ds rules out ⊎ IsRefusedByOverlaps wanted.coverage ds rules out
 
 -- what is written where a text has this answer
-abbrev pub IsReadOutput : Result Program ReadFault → ℕ → List (List ℕ) → Status → List ℕ → Type 0
-IsReadOutput (Ok p) replicas commands status out =
-    IsRulesOutput (declarations p) (rules_of p) replicas commands status out
-IsReadOutput (Err e) replicas commands status out = (status ≡ Refused) × IsFaultLine e out
+abbrev pub IsReadOutput : Result Program ReadFault → Wanted → List (List ℕ) → Status → List ℕ → Type 0
+IsReadOutput (Ok p) wanted commands status out =
+    IsRulesOutput (declarations p) (rules_of p) wanted commands status out
+IsReadOutput (Err e) wanted commands status out = (status ≡ Refused) × IsFaultLine e out
 
 -- the commands that are answered: by a check and an explanation none, by a run all, as where they are served
 abbrev pub asked : Verb → List (List ℕ) → List (List ℕ)
@@ -91,8 +95,8 @@ asked Explain commands = []
 asked Run commands = commands
 asked Serve commands = commands
 
--- the output of so many replicas and its status: the text has an answer, and this is written for it
-abbrev pub IsOutput : Verb → ℕ → List ℕ → Status → List ℕ → Type 0
-IsOutput verb replicas input status out =
+-- the output, and its status: the text has an answer, and this is written for it
+abbrev pub IsOutput : Verb → Wanted → List ℕ → Status → List ℕ → Type 0
+IsOutput verb wanted input status out =
     (answer : Result Program ReadFault) × IsAnswer (text_of (lines input)) answer
-    × IsReadOutput answer replicas (asked verb (commands_of (lines input))) status out
+    × IsReadOutput answer wanted (asked verb (commands_of (lines input))) status out

@@ -5,6 +5,7 @@ use Rattle.std.specs.List.{AllByRecursion, list_any}
 use Rattle.std.specs.Io.KnownBytes.{Appends, Consumes}
 use Rattle.chr_device.specs.declared.words.Verb.TheVariants.{Run}
 use Rattle.chr_report.specs.declared.running.Status.{Status}
+use Rattle.chr_report.specs.declared.wanted.Wanted.{Wanted}
 use Rattle.chr_report.specs.Lines.{lines, is_divider}
 use Rattle.chr_report.specs.Written.{WritesOutput}
 
@@ -21,17 +22,17 @@ abbrev pub has_divider : List ℕ → Bool
 has_divider bytes = list_any is_divider (lines bytes)
 
 -- all that is due for whole lines is written: nothing before the program text has ended, and then their output
-abbrev pub WritesDue : List ℕ → Option (List ℕ) → Option (List ℕ) → ℕ → Type 0
-WritesDue front old new replicas =
-    MatchBool (has_divider front) ((status : Status) × WritesOutput (Some front) old new Run replicas status)
+abbrev pub WritesDue : List ℕ → Option (List ℕ) → Option (List ℕ) → Wanted → Type 0
+WritesDue front old new wanted =
+    MatchBool (has_divider front) ((status : Status) × WritesOutput (Some front) old new Run wanted status)
     (Appends old new [])
 
 -- Of the bytes that were read `front` are whole lines, for which all is written that is due. After them a line may
 -- have begun.
-pub record AllAnswered (from to old new : Option (List ℕ)) (replicas : ℕ) : Type 0 where
+pub record AllAnswered (from to old new : Option (List ℕ)) (wanted : Wanted) : Type 0 where
   pub front : List ℕ
   pub line : List ℕ
   pub read : Consumes from to (front ++ line)
   pub whole : AreWholeLines front
   pub unended : HasNoFeed line
-  pub written : WritesDue front old new replicas
+  pub written : WritesDue front old new wanted

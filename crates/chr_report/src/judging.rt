@@ -19,10 +19,10 @@ pub(crate) enum Judged {
 }
 
 /// Judges a program in which each rule lowers the weight.
-fn judge_weighed(alloc: Global, weighed: Weighed) -> Result<Judged, AllocError>
-    ensures { IfOk result (IsJudged (Ok (program_of weighed))) }
+fn judge_weighed(alloc: Global, weighed: Weighed, coverage: Coverage) -> Result<Judged, AllocError>
+    ensures { IfOk result (IsJudged coverage (Ok (program_of weighed))) }
 {
-    match accept(alloc, weighed, Coverage::Joint) {
+    match accept(alloc, weighed, coverage) {
         Ok(accepted) => Ok(Judged::Accepted(accepted)),
         Err(refused) => {
             let line = refusal_line(alloc, refused.weighed.program(), &refused.cause)?;
@@ -31,12 +31,12 @@ fn judge_weighed(alloc: Global, weighed: Weighed) -> Result<Judged, AllocError>
     }
 }
 
-fn judge_program(alloc: Global, program: Program) -> Result<Judged, AllocError>
-    ensures { IfOk result (IsJudged (Ok program)) }
+fn judge_program(alloc: Global, program: Program, coverage: Coverage) -> Result<Judged, AllocError>
+    ensures { IfOk result (IsJudged coverage (Ok program)) }
 {
     let paired = program.has_pairs();
     match weigh(program) {
-        Ok(weighed) => judge_weighed(alloc, weighed),
+        Ok(weighed) => judge_weighed(alloc, weighed, coverage),
         Err(fault) => {
             let line = not_lowered_line(alloc, paired, &fault)?;
             Ok(Judged::Refused(line))
@@ -44,12 +44,12 @@ fn judge_program(alloc: Global, program: Program) -> Result<Judged, AllocError>
     }
 }
 
-/// Judges a program text.
-pub(crate) fn judge(alloc: Global, text: &[u8]) -> Result<Judged, AllocError>
-    ensures { IfOk result (IsJudgedText text.now) }
+/// Judges a program text, by the cases that the coverage looks at.
+pub(crate) fn judge(alloc: Global, text: &[u8], coverage: Coverage) -> Result<Judged, AllocError>
+    ensures { IfOk result (IsJudgedText coverage text.now) }
 {
     match read(alloc, text) {
-        Ok(program) => judge_program(alloc, program),
+        Ok(program) => judge_program(alloc, program, coverage),
         Err(fault) => {
             let line = fault_line(alloc, &fault)?;
             Ok(Judged::Refused(line))

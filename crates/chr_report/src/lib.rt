@@ -12,6 +12,7 @@ mod service;
 mod serving;
 mod shortening;
 mod verdict;
+mod wanted;
 mod wire;
 
 pub use chr_device::{RunFault, Settings, Style, Verb, Watched, WordsFault, read_words};
@@ -21,4 +22,5 @@ pub use one_text::{answers_are_one, answers_exist, outputs_are_one, outputs_exis
 pub use reply::Refusal;
 pub use running::{Status, run};
 pub use serving::serve;
+pub use wanted::Wanted;
 pub use wire::{Streams, Wire};

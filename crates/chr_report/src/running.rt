@@ -6,8 +6,9 @@ ghost use Rattle.chr_base.specs.declared.limits.TheConstants.{MAX_REPLICAS};
 ghost use Rattle.chr_device.specs.declared.fault.RunFault.TheVariants.{Device, Memory};
 ghost use Rattle.chr_base.specs.Programs.{declarations, rules_of};
 ghost use Rattle.chr_join.specs.AcceptedPrograms.{cases_of};
-ghost use Rattle.chr_join.specs.Verdicts.{IsAccepted};
+ghost use Rattle.chr_join.specs.Verdicts.{IsAcceptedBy};
 ghost use Rattle.chr_report.specs.declared.running.Status.TheVariants.{Refused};
+ghost use Rattle.chr_report.specs.Asked.{wanted_by};
 ghost use Rattle.chr_report.specs.Outputs.{IsOutput, IsAnswered};
 ghost use Rattle.chr_report.specs.Written.{WritesOutput, WritesBeginning};
 ghost use Rattle.chr_join.specs.AcceptedPrograms.{program_in};
@@ -18,6 +19,7 @@ use crate::input::{asked, split};
 use crate::judging::{Judged, judge};
 use crate::service::Service;
 use crate::verdict::accepted_line;
+use crate::wanted::Wanted;
 use chr_device::{RunFault, Settings, Verb, Watched, read_all, write_whole};
 use chr_join::Accepted;
 use std::alloc::{AllocError, Global};
@@ -54,17 +56,17 @@ impl Output {
 fn answer_program(
     alloc: Global,
     accepted: Accepted,
-    replicas: u32,
+    wanted: Wanted,
     commands: Option<&[u8]>,
 ) -> Result<String, AllocError>
-    requires replicas { (1 ≤ replicas) × (replicas ≤ MAX_REPLICAS) }
-    requires accepted { IsAccepted (rules_of (program_in accepted)) (cases_of accepted) }
+    requires replicas { (1 ≤ wanted.replicas) × (wanted.replicas ≤ MAX_REPLICAS) }
+    requires accepted { IsAcceptedBy wanted.coverage (rules_of (program_in accepted)) (cases_of accepted) }
     ensures { IfOk result (λ s. IsAnswered (declarations (program_in accepted)) (rules_of (program_in accepted))
-        replicas (lines_left commands.entry) (string_bytes s)) }
+        wanted (lines_left commands.entry) (string_bytes s)) }
 {
     let rules = accepted.program().rules().len();
     let mut text = accepted_line(alloc, rules, accepted.cases())?;
-    let mut service = Service::open(alloc, accepted, replicas)?;
+    let mut service = Service::open(alloc, accepted, wanted.replicas)?;
     answer_commands(alloc, &mut service, commands, &mut text)?;
     Ok(text)
 }
@@ -73,16 +75,16 @@ fn answer_program(
 pub(crate) fn output_of(
     alloc: Global,
     verb: Verb,
-    replicas: u32,
+    wanted: Wanted,
     input: &[u8],
 ) -> Result<Output, AllocError>
-    requires { (1 ≤ replicas) × (replicas ≤ MAX_REPLICAS) }
-    ensures { IfOk result (λ o. IsOutput verb replicas input.now o.status (string_bytes o.text)) }
+    requires { (1 ≤ wanted.replicas) × (wanted.replicas ≤ MAX_REPLICAS) }
+    ensures { IfOk result (λ o. IsOutput verb wanted input.now o.status (string_bytes o.text)) }
 {
     let (text, rest) = split(input);
-    match judge(alloc, text)? {
+    match judge(alloc, text, wanted.coverage)? {
         Judged::Accepted(accepted) => {
-            let text = answer_program(alloc, accepted, replicas, asked(verb, rest))?;
+            let text = answer_program(alloc, accepted, wanted, asked(verb, rest))?;
             Ok(Output {
                 status: Status::Accepted,
                 text,
@@ -111,9 +113,9 @@ pub fn run<R: Read, W: Write>(
     requires limits { IsWithinLimits settings }
     requires plain { IsPlain settings }
     ensures ok { IfOk result (λ status. WritesOutput (R.remaining (inner_of reader.old))
-        (W.contents (inner_of writer.old)) (W.contents (inner_of writer.new)) settings.command settings.replicas status) }
+        (W.contents (inner_of writer.old)) (W.contents (inner_of writer.new)) settings.command (wanted_by settings) status) }
     ensures err { OnErr result (WritesBeginning (R.remaining (inner_of reader.old))
-        (W.contents (inner_of writer.old)) (W.contents (inner_of writer.new)) settings.command settings.replicas) }
+        (W.contents (inner_of writer.old)) (W.contents (inner_of writer.new)) settings.command (wanted_by settings)) }
     // Nothing is left to be read.
     ensures end { OnOk result (IfSome (R.remaining (inner_of reader.new)) (λ left. left ≡ [])) }
     ensures whole { OnOk result ((has_failed reader.new ≡ false) × (has_failed writer.new ≡ false)) }
@@ -123,7 +125,12 @@ pub fn run<R: Read, W: Write>(
     ensures unanswered { IsErrOf result Memory → writer.new ≡ writer.old }
 {
     let input = read_all(alloc, reader)?;
-    let output = output_of(alloc, settings.command, settings.replicas, &input)?;
+    let output = output_of(
+        alloc,
+        settings.command,
+        Wanted::from_settings(settings),
+        &input,
+    )?;
     match write_whole(writer, output.text.as_bytes()) {
         Ok(()) => Ok(output.status),
         Err(fault) => Err(fault),

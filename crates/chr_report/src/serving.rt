@@ -11,10 +11,11 @@ ghost use Rattle.chr_base.specs.declared.program.Program.{Program};
 ghost use Rattle.chr_base.specs.Programs.{declarations, rules_of};
 ghost use Rattle.chr_ops.specs.Operations.{Operations};
 ghost use Rattle.chr_join.specs.AcceptedPrograms.{cases_of, program_in};
-ghost use Rattle.chr_join.specs.Verdicts.{IsAccepted};
+ghost use Rattle.chr_join.specs.Verdicts.{IsAcceptedBy};
 ghost use Rattle.chr_read.specs.ProgramTexts.{IsAnswer};
 ghost use Rattle.chr_read.specs.declared.fault.ReadFault.{ReadFault};
 ghost use Rattle.chr_report.specs.declared.running.Status.TheVariants as status;
+ghost use Rattle.chr_report.specs.Asked.{wanted_by};
 ghost use Rattle.chr_report.specs.Served.{AllAnswered, HasNoFeed};
 ghost use Rattle.chr_report.specs.Written.{WritesOutput, WritesBeginning};
 ghost use Rattle.chr_report.specs.working.Services.{held, served, IsBetweenLines};
@@ -29,6 +30,7 @@ use crate::running::{Status, output_of};
 use crate::service::Service;
 use crate::shortening::shorten;
 use crate::verdict::accepted_line;
+use crate::wanted::Wanted;
 use crate::wire::Wire;
 use chr_device::{RunFault, Settings, Verb};
 use chr_join::Accepted;
@@ -139,18 +141,18 @@ fn converse<T: Wire>(
 fn serve_program<T: Wire>(
     alloc: Global,
     accepted: Accepted,
-    replicas: u32,
+    wanted: Wanted,
     first: &[u8],
     wire: &mut T,
 ) -> Result<(), RunFault>
-    requires replicas { (1 ≤ replicas) × (replicas ≤ MAX_REPLICAS) }
-    requires accepted { IsAccepted (rules_of (program_in accepted)) (cases_of accepted) }
-    requires prompt { (w : T) → AnswersCommands (Ok (program_in accepted)) replicas first.now (T.unread wire.old)
+    requires replicas { (1 ≤ wanted.replicas) × (wanted.replicas ≤ MAX_REPLICAS) }
+    requires accepted { IsAcceptedBy wanted.coverage (rules_of (program_in accepted)) (cases_of accepted) }
+    requires prompt { (w : T) → AnswersCommands (Ok (program_in accepted)) wanted first.now (T.unread wire.old)
         (T.unread w) (T.sent wire.old) (T.sent w) → T.may_wait w }
     ensures ok { OnOk result (WritesText (λ answer. answer ≡ Ok (program_in accepted)) first.now
-        (T.unread wire.old) replicas status.Accepted (Appends (T.sent wire.old) (T.sent wire.new))) }
+        (T.unread wire.old) wanted status.Accepted (Appends (T.sent wire.old) (T.sent wire.new))) }
     ensures err { OnErr result (WritesTextPart (λ answer. answer ≡ Ok (program_in accepted)) first.now
-        (T.unread wire.old) replicas (T.sent wire.old) (T.sent wire.new)) }
+        (T.unread wire.old) wanted (T.sent wire.old) (T.sent wire.new)) }
     ensures end { OnOk result (IsAtEnd (T.unread wire.new)) }
     ensures whole { OnOk result (T.is_broken wire.new ≡ T.is_broken wire.old) }
     ensures device { IsErrOf result Device → T.is_broken wire.new ≡ true }
@@ -158,7 +160,7 @@ fn serve_program<T: Wire>(
 {
     answers_exist();
     let line = accepted_line(alloc, accepted.program().rules().len(), accepted.cases())?;
-    let mut service = Service::open(alloc, accepted, replicas)?;
+    let mut service = Service::open(alloc, accepted, wanted.replicas)?;
     wire.send(line.as_bytes())?;
     converse(alloc, &mut service, first, wire)
 }
@@ -167,25 +169,25 @@ fn serve_program<T: Wire>(
 fn serve_text<T: Wire>(
     alloc: Global,
     text: &[u8],
-    replicas: u32,
+    wanted: Wanted,
     first: &[u8],
     wire: &mut T,
 ) -> Result<Status, RunFault>
-    requires replicas { (1 ≤ replicas) × (replicas ≤ MAX_REPLICAS) }
+    requires replicas { (1 ≤ wanted.replicas) × (wanted.replicas ≤ MAX_REPLICAS) }
     requires prompt { (w : T) (answer : Result Program ReadFault) → IsAnswer text.now answer → AnswersCommands answer
-        replicas first.now (T.unread wire.old) (T.unread w) (T.sent wire.old) (T.sent w) → T.may_wait w }
-    ensures ok { IfOk result (λ status. WritesText (IsAnswer text.now) first.now (T.unread wire.old) replicas status
+        wanted first.now (T.unread wire.old) (T.unread w) (T.sent wire.old) (T.sent w) → T.may_wait w }
+    ensures ok { IfOk result (λ status. WritesText (IsAnswer text.now) first.now (T.unread wire.old) wanted status
         (Appends (T.sent wire.old) (T.sent wire.new))) }
-    ensures err { OnErr result (WritesTextPart (IsAnswer text.now) first.now (T.unread wire.old) replicas
+    ensures err { OnErr result (WritesTextPart (IsAnswer text.now) first.now (T.unread wire.old) wanted
         (T.sent wire.old) (T.sent wire.new)) }
     ensures end { IfOk result (λ s. s ≡ status.Accepted → IsAtEnd (T.unread wire.new)) }
     ensures whole { OnOk result (T.is_broken wire.new ≡ T.is_broken wire.old) }
     ensures device { IsErrOf result Device → T.is_broken wire.new ≡ true }
     ensures memory { IsErrOf result Memory → T.is_broken wire.new ≡ T.is_broken wire.old }
 {
-    match judge(alloc, text)? {
+    match judge(alloc, text, wanted.coverage)? {
         Judged::Accepted(accepted) => {
-            serve_program(alloc, accepted, replicas, first, wire)?;
+            serve_program(alloc, accepted, wanted, first, wire)?;
             Ok(Status::Accepted)
         }
         Judged::Refused(line) => {
@@ -199,22 +201,55 @@ fn serve_text<T: Wire>(
 fn send_output<T: Wire>(
     alloc: Global,
     input: &[u8],
-    replicas: u32,
+    wanted: Wanted,
     wire: &mut T,
 ) -> Result<Status, RunFault>
-    requires { (1 ≤ replicas) × (replicas ≤ MAX_REPLICAS) }
+    requires { (1 ≤ wanted.replicas) × (wanted.replicas ≤ MAX_REPLICAS) }
     ensures ok { IfOk result (λ status.
-        WritesOutput (Some input.now) (T.sent wire.old) (T.sent wire.new) Run replicas status) }
+        WritesOutput (Some input.now) (T.sent wire.old) (T.sent wire.new) Run wanted status) }
     ensures err { OnErr result
-        (WritesBeginning (Some input.now) (T.sent wire.old) (T.sent wire.new) Run replicas) }
+        (WritesBeginning (Some input.now) (T.sent wire.old) (T.sent wire.new) Run wanted) }
     ensures kept { T.unread wire.new ≡ T.unread wire.old }
     ensures whole { OnOk result (T.is_broken wire.new ≡ T.is_broken wire.old) }
     ensures device { IsErrOf result Device → T.is_broken wire.new ≡ true }
     ensures memory { IsErrOf result Memory → T.is_broken wire.new ≡ T.is_broken wire.old }
 {
-    let output = output_of(alloc, Verb::Run, replicas, input)?;
+    let output = output_of(alloc, Verb::Run, wanted, input)?;
     wire.send(output.text.as_bytes())?;
     Ok(output.status)
+}
+
+/// Reads the program text, sends the verdict, and then the answers of the commands as they come.
+fn serve_wanted<T: Wire>(alloc: Global, wire: &mut T, wanted: Wanted) -> Result<Status, RunFault>
+    requires unbroken { T.is_broken wire.old ≡ false }
+    requires replicas { (1 ≤ wanted.replicas) × (wanted.replicas ≤ MAX_REPLICAS) }
+    requires prompt { (w : T) → AllAnswered (T.unread wire.old) (T.unread w) (T.sent wire.old) (T.sent w)
+        wanted → T.may_wait w }
+    ensures ok { IfOk result (λ status. WritesOutput (T.unread wire.old) (T.sent wire.old) (T.sent wire.new)
+        Run wanted status) }
+    ensures err { OnErr result (WritesBeginning (T.unread wire.old) (T.sent wire.old) (T.sent wire.new) Run wanted) }
+    ensures end { IfOk result (λ s. s ≡ status.Accepted → IsAtEnd (T.unread wire.new)) }
+    ensures whole { OnOk result (T.is_broken wire.new ≡ false) }
+    ensures device { IsErrOf result Device → T.is_broken wire.new ≡ true }
+    ensures memory { IsErrOf result Memory → T.is_broken wire.new ≡ false }
+{
+    let mut input = Vec::new(alloc);
+    let mut chunk = [0u8; CHUNK];
+    for _turn in 0..u64::MAX {
+        let n = wire.wait(&mut chunk)?;
+        if n == 0 {
+            return send_output(alloc, &input, wanted, wire);
+        }
+        input.extend_from_slice(&chunk[..n])?;
+        if let Some((text, first)) = divided(&input) {
+            return serve_text(alloc, text, wanted, first, wire);
+        }
+        if input.len() > MOST_TEXT {
+            return send_output(alloc, &input, wanted, wire);
+        }
+    }
+    wire.fail();
+    Err(RunFault::Device)
 }
 
 /// Reads the program text, sends the verdict, and then sends the answer line of each command as soon as it has been
@@ -231,33 +266,16 @@ pub fn serve<T: Wire>(alloc: Global, wire: &mut T, settings: Settings) -> Result
     requires limits { IsWithinLimits settings }
     requires plain { IsPlain settings }
     requires prompt { (w : T) → AllAnswered (T.unread wire.old) (T.unread w) (T.sent wire.old) (T.sent w)
-        settings.replicas → T.may_wait w }
+        (wanted_by settings) → T.may_wait w }
     ensures ok { IfOk result (λ status. WritesOutput (T.unread wire.old) (T.sent wire.old) (T.sent wire.new)
-        Run settings.replicas status) }
+        Run (wanted_by settings) status) }
     ensures err { OnErr result (WritesBeginning (T.unread wire.old) (T.sent wire.old) (T.sent wire.new)
-        Run settings.replicas) }
+        Run (wanted_by settings)) }
     // Nothing is left to be read of an accepted program's input.
     ensures end { IfOk result (λ s. s ≡ status.Accepted → IsAtEnd (T.unread wire.new)) }
     ensures whole { OnOk result (T.is_broken wire.new ≡ false) }
     ensures device { IsErrOf result Device → T.is_broken wire.new ≡ true }
     ensures memory { IsErrOf result Memory → T.is_broken wire.new ≡ false }
 {
-    let replicas = settings.replicas;
-    let mut input = Vec::new(alloc);
-    let mut chunk = [0u8; CHUNK];
-    for _turn in 0..u64::MAX {
-        let n = wire.wait(&mut chunk)?;
-        if n == 0 {
-            return send_output(alloc, &input, replicas, wire);
-        }
-        input.extend_from_slice(&chunk[..n])?;
-        if let Some((text, first)) = divided(&input) {
-            return serve_text(alloc, text, replicas, first, wire);
-        }
-        if input.len() > MOST_TEXT {
-            return send_output(alloc, &input, replicas, wire);
-        }
-    }
-    wire.fail();
-    Err(RunFault::Device)
+    serve_wanted(alloc, wire, Wanted::from_settings(settings))
 }

@@ -11,6 +11,7 @@ use std::alloc::Global;
 const PLAIN: Settings = Settings {
     command: Verb::Run,
     replicas: 1,
+    wide: false,
     style: Style {
         dot: false,
         all: false,
@@ -31,4 +32,22 @@ fn outcome(alloc: Global, settings: Settings, input: &[u8]) -> Result<(Status, V
     let mut writer = Watched::of(Vec::with_capacity(alloc, ROOM)?);
     let status = run(alloc, &mut reader, &mut writer, settings)?;
     Ok((status, writer.into_inner()))
+}
+
+/// An overlap of five classes: by sorted cases a key and a price are not compared.
+const ROUTES: &[u8] = b":- chr_constraint path/3. path(X,Y,D) \\ path(X,Y,E) <=> D =< E | true.";
+
+/// The verdict on routes, by joint or by sorted cases.
+fn routes_verdict(alloc: Global, wide: bool) -> Result<(Status, Vec<u8>), RunFault> {
+    outcome(alloc, Settings { wide, ..PLAIN }, ROUTES)
+}
+
+#[test]
+fn a_wide_run_looks_at_sorted_cases(rt: HostRuntime) -> Result<(), RunFault> {
+    let (status, text) = routes_verdict(rt.alloc(), true)?;
+    assert_eq!(rt; status, Status::Accepted);
+    assert_eq!(rt; text.as_slice(), b"accepted: rules 1, cases 17\n");
+    let (_, text) = routes_verdict(rt.alloc(), false)?;
+    assert_eq!(rt; text.as_slice(), b"accepted: rules 1, cases 541\n");
+    Ok(())
 }

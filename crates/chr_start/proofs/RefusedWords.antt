@@ -8,6 +8,7 @@ use Rattle.chr_device.specs.declared.fault.RunFault.TheVariants as run
 use Rattle.chr_device.specs.declared.words.Verb.{Verb}
 use Rattle.chr_device.specs.declared.words.WordsFault.{WordsFault}
 use Rattle.chr_device.specs.declared.words.WordsFault.TheVariants as words
+use Rattle.chr_report.specs.declared.wanted.Wanted.{Wanted}
 use Rattle.chr_start.specs.Statuses.{ExplanationEnds, RunEnds}
 
 -- nothing is written
@@ -16,9 +17,9 @@ appends_nothing None = tt
 appends_nothing (Some xs) = sym (append-nil xs)
 
 -- where `clap` takes the words, memory ran out
-pub memory_ends : (ws : List (List ℕ)) (fault : WordsFault) (bytes known : Option (List ℕ)) (verb : Verb) (replicas status : ℕ) → faults_of ws ≡ [] → IsOfFault (faults_of ws) fault → (fault ≡ words.Memory → status ≡ 4) → RunEnds bytes known known verb replicas status
-memory_ends ws (words.Words e) bytes known verb replicas status none is told = absurd (subst (λ ks. IsOfFault ks (words.Words e)) none is).0
-memory_ends ws words.Memory bytes known verb replicas status none is told = record { outcome = Err run.Memory; status_is = told refl; ok = tt; err = inl (appends_nothing known) }
+pub memory_ends : (ws : List (List ℕ)) (fault : WordsFault) (bytes known : Option (List ℕ)) (verb : Verb) (wanted : Wanted) (status : ℕ) → faults_of ws ≡ [] → IsOfFault (faults_of ws) fault → (fault ≡ words.Memory → status ≡ 4) → RunEnds bytes known known verb wanted status
+memory_ends ws (words.Words e) bytes known verb wanted status none is told = absurd (subst (λ ks. IsOfFault ks (words.Words e)) none is).0
+memory_ends ws words.Memory bytes known verb wanted status none is told = record { outcome = Err run.Memory; status_is = told refl; ok = tt; err = inl (appends_nothing known) }
 
 pub memory_ends_explanation : (ws : List (List ℕ)) (fault : WordsFault) (bytes known : Option (List ℕ)) (status : ℕ) → faults_of ws ≡ [] → IsOfFault (faults_of ws) fault → (fault ≡ words.Memory → status ≡ 4) → ExplanationEnds bytes known known status
 memory_ends_explanation ws (words.Words e) bytes known status none is told = absurd (subst (λ ks. IsOfFault ks (words.Words e)) none is).0

@@ -5,6 +5,7 @@ use Rattle.std.specs.Io.KnownBytes.{Appends}
 use Rattle.chr_base.specs.declared.program.Program.{Program}
 use Rattle.chr_base.specs.ProgramTests.{some_paired}
 use Rattle.chr_base.specs.Programs.{declarations, rules_of}
+use Rattle.chr_join.specs.declared.coverage.Coverage.TheVariants.{Joint}
 use Rattle.chr_join.specs.declared.refused.Cause.{Cause}
 use Rattle.chr_join.specs.declared.refused.Cause.TheVariants as cause
 use Rattle.chr_join.specs.Explanations.{IsRefusal}
@@ -22,6 +23,7 @@ use Rattle.chr_explain.specs.Verdicts.{IsRefusedByOverlap, IsUnlowered, IsVerdic
 use Rattle.chr_report.specs.declared.running.Status.{Status}
 use Rattle.chr_report.specs.declared.running.Status.TheVariants.{Refused}
 use Rattle.chr_report.specs.Lines.{lines, text_of}
+use Rattle.chr_report.specs.Asked.{replicas_by}
 use Rattle.chr_report.specs.Outputs.{IsOutput, IsReadOutput, IsRulesOutput, accepted_text, not_lowered_text}
 use Rattle.chr_report.specs.Overlaps.{failure_text, too_many_text}
 use Rattle.chr_start.specs.Statuses.{EndsAsCheck, ExplanationEnds, status_of}
@@ -30,18 +32,18 @@ use Rattle.chr_start.specs.working.Verdicts.{as_status}
 -- what a check writes of a text with this status
 abbrev HasOutput : List ℕ → Status → Type 0
 HasOutput text status =
-    (out : List ℕ) × ((answer : Result Program ReadFault) × IsAnswer text answer × IsReadOutput answer 1 [] status out)
+    (out : List ℕ) × ((answer : Result Program ReadFault) × IsAnswer text answer × IsReadOutput answer (replicas_by Joint 1) [] status out)
 
 module _ (p : Program) where
   by_cause : ProgramLowers p → (c : Cause) → IsRefusal (rules_of p) c → ¬ (c ≡ cause.Memory)
-      → (out : List ℕ) × IsRulesOutput (declarations p) (rules_of p) 1 [] Refused out
+      → (out : List ℕ) × IsRulesOutput (declarations p) (rules_of p) (replicas_by Joint 1) [] Refused out
   by_cause lowers (cause.Fails f) first some =
       (failure_text (declarations p) f ++ 10 ∷ [], inr (record { lowers = lowers; cause = cause.Fails f; first = first; line = refl }))
   by_cause lowers (cause.TooManyTypes t) first some =
       (too_many_text t ++ 10 ∷ [], inr (record { lowers = lowers; cause = cause.TooManyTypes t; first = first; line = refl }))
   by_cause lowers cause.Memory first some = absurd (some refl)
 
-  by_rules : IsUnlowered p ⊎ IsRefusedByOverlap p → (out : List ℕ) × IsRulesOutput (declarations p) (rules_of p) 1 [] Refused out
+  by_rules : IsUnlowered p ⊎ IsRefusedByOverlap p → (out : List ℕ) × IsRulesOutput (declarations p) (rules_of p) (replicas_by Joint 1) [] Refused out
   by_rules (inl u) = (
     not_lowered_text (some_paired (declarations p)) u.rule u.before u.after ++ 10 ∷ [],
     inl (record { rule = u.rule; before = u.before; after = u.after; first = u.first; out_is = refl }),
@@ -64,14 +66,14 @@ text_output text verdict.Accepted h = (
 text_output text verdict.Refused (inl r) = refused_output text r
 text_output text verdict.Refused (inr h) = let o = by_rules h.0 h.2 in (o.0, (Ok h.0, h.1, o.1))
 
-pub checked : (text input : List ℕ) (v : Verdict) → text ≡ text_of (lines input) → IsVerdict text v → (out : List ℕ) × IsOutput Check 1 input (as_status v) out
+pub checked : (text input : List ℕ) (v : Verdict) → text ≡ text_of (lines input) → IsVerdict text v → (out : List ℕ) × IsOutput Check (replicas_by Joint 1) input (as_status v) out
 checked text input v is h = text_output (text_of (lines input)) v (subst (λ t. IsVerdict t v) is h)
 
 -- the status of a verdict on the program text of what was read
 pub verdict_ends : (bytes : Option (List ℕ)) (text input : List ℕ) (v : Verdict) (status : Status) → IfSome bytes (λ t. input ≡ t) → text ≡ text_of (lines input) → IsVerdict text v
     → status ≡ as_status v → EndsAsCheck bytes status
 verdict_ends bytes text input v status read is h same =
-    let o = checked text input v is h in (input, read, o.0, subst (λ s. IsOutput Check 1 input s o.0) (sym same) o.1)
+    let o = checked text input v is h in (input, read, o.0, subst (λ s. IsOutput Check (replicas_by Joint 1) input s o.0) (sym same) o.1)
 
 -- an explanation has ended
 pub explanation_ends : (bytes old new : Option (List ℕ)) (r : Result Status RunFault) (status : ℕ) → status ≡ status_of r → IfOk r (EndsAsCheck bytes)

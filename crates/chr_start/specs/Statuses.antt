@@ -5,8 +5,12 @@ use Rattle.chr_device.specs.declared.fault.RunFault.{RunFault}
 use Rattle.chr_device.specs.declared.fault.RunFault.TheVariants.{Device, Memory}
 use Rattle.chr_device.specs.declared.words.Verb.{Verb}
 use Rattle.chr_device.specs.declared.words.Verb.TheVariants.{Check}
+use Rattle.chr_device.specs.Words.{replicas_met, wide_met}
+use Rattle.chr_join.specs.declared.coverage.Coverage.TheVariants.{Joint}
 use Rattle.chr_report.specs.declared.running.Status.{Status}
 use Rattle.chr_report.specs.declared.running.Status.TheVariants.{Accepted, Refused}
+use Rattle.chr_report.specs.declared.wanted.Wanted.{Wanted}
+use Rattle.chr_report.specs.Asked.{coverage_for, replicas_by}
 use Rattle.chr_report.specs.Outputs.{IsOutput}
 use Rattle.chr_report.specs.Written.{WritesOutput, WritesBeginning}
 
@@ -16,17 +20,21 @@ status_of (Ok Refused) = 1
 status_of (Err Device) = 3
 status_of (Err Memory) = 4
 
--- a run of this verb with so many replicas ended with this status: after the whole output, or after a beginning of it
-pub record RunEnds (bytes old new : Option (List ℕ)) (verb : Verb) (replicas status : ℕ) : Type 0 where
+-- which verdict words ask for, and how many replicas
+abbrev pub wanted_met : List (List ℕ) → Wanted
+wanted_met words = replicas_by (coverage_for (wide_met words)) (replicas_met words)
+
+-- a run of this verb, of which this is wanted, ended with this status: after the whole output, or after a beginning of it
+pub record RunEnds (bytes old new : Option (List ℕ)) (verb : Verb) (wanted : Wanted) (status : ℕ) : Type 0 where
   pub outcome : Result Status RunFault
   pub status_is : status ≡ status_of outcome
-  pub ok : IfOk outcome (WritesOutput bytes old new verb replicas)
-  pub err : OnErr outcome (WritesBeginning bytes old new verb replicas)
+  pub ok : IfOk outcome (WritesOutput bytes old new verb wanted)
+  pub err : OnErr outcome (WritesBeginning bytes old new verb wanted)
 
--- a check of these bytes, where they are known, ends with this status
+-- a check of these bytes by joint cases, where they are known, ends with this status
 abbrev pub EndsAsCheck : Option (List ℕ) → Status → Type 0
 EndsAsCheck bytes status =
-    (input : List ℕ) × IfSome bytes (λ text. input ≡ text) × (out : List ℕ) × IsOutput Check 1 input status out
+    (input : List ℕ) × IfSome bytes (λ text. input ≡ text) × (out : List ℕ) × IsOutput Check (replicas_by Joint 1) input status out
 
 -- an explanation ended with this status: where it ended well with that of a check of the same bytes, and where memory
 -- ran out nothing was written

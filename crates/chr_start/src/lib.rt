@@ -11,11 +11,12 @@ ghost use Rattle.std.specs.Process.{exit_status};
 ghost use Rattle.std.specs.declared.io.ErrorKind.TheVariants.{OutOfMemory};
 ghost use Rattle.chr_device.specs.Devices.{has_failed};
 ghost use Rattle.chr_device.specs.Settings.{IsPlain, IsWithinLimits};
-ghost use Rattle.chr_device.specs.Words.{faults_of, replicas_met, verb_met};
+ghost use Rattle.chr_device.specs.Words.{faults_of, verb_met};
 ghost use Rattle.chr_device.specs.declared.words.Verb.TheVariants.{Explain};
 ghost use Rattle.chr_device.specs.declared.words.WordsFault.TheVariants.{Memory};
 ghost use Rattle.chr_report.specs.Wires.{reader_of, writer_of};
-ghost use Rattle.chr_start.specs.Statuses.{status_of, ExplanationEnds, RunEnds};
+ghost use Rattle.chr_report.specs.Asked.{wanted_by};
+ghost use Rattle.chr_start.specs.Statuses.{status_of, wanted_met, ExplanationEnds, RunEnds};
 
 mod explained;
 
@@ -55,7 +56,7 @@ fn run_settings<R: Read, W: Write>(
     requires plain { IsPlain settings }
     ensures answered { settings.command ≢ Explain →
         RunEnds (R.remaining (reader_of streams.old)) (W.contents (writer_of streams.old))
-        (W.contents (writer_of streams.new)) settings.command settings.replicas (exit_status result) }
+        (W.contents (writer_of streams.new)) settings.command (wanted_by settings) (exit_status result) }
     ensures explained { settings.command ≡ Explain →
         ExplanationEnds (R.remaining (reader_of streams.old)) (W.contents (writer_of streams.old))
         (W.contents (writer_of streams.new)) (exit_status result) }
@@ -100,7 +101,7 @@ pub fn run_words<R: Read, W: Write>(
     ensures taken { faults_of (map string_bytes words.now) ≡ [] → verb_met (map string_bytes words.now) ≢ Explain →
         RunEnds (R.remaining (reader_of streams.old)) (W.contents (writer_of streams.old))
         (W.contents (writer_of streams.new)) (verb_met (map string_bytes words.now))
-        (replicas_met (map string_bytes words.now)) (exit_status result) }
+        (wanted_met (map string_bytes words.now)) (exit_status result) }
     ensures explained { faults_of (map string_bytes words.now) ≡ [] → verb_met (map string_bytes words.now) ≡ Explain →
         ExplanationEnds (R.remaining (reader_of streams.old)) (W.contents (writer_of streams.old))
         (W.contents (writer_of streams.new)) (exit_status result) }

@@ -8,6 +8,10 @@ use Rattle.chr_device.specs.declared.words.Style.{Style}
 abbrev pub has_flag_in : List ℕ → Option (List ℕ × List Row) → Bool
 has_flag_in name met = is_word_text (codes "true") (option_and_then (λ p. first_of name p.1) met)
 
+-- whether sorted cases were asked for
+abbrev pub wide_in : Option (List ℕ × List Row) → Bool
+wide_in met = has_flag_in (codes "wide") met
+
 -- how an explanation is to be written
 abbrev pub style_in : Option (List ℕ × List Row) → Style
 style_in met = record { dot = has_flag_in (codes "dot") met; all = has_flag_in (codes "all") met }

@@ -46,6 +46,10 @@ fn files_are_named(rt: HostRuntime) {
             "The input comes from standard input: chrrep run < a/coins.chr",
         ),
         (
+            ["check", "--wide", "coins"].as_slice(),
+            "The input comes from standard input: chrrep check < coins",
+        ),
+        (
             ["serve", "-"].as_slice(),
             "The input comes from standard input, without '-': chrrep serve",
         ),
@@ -110,5 +114,22 @@ fn help_tells_statuses(rt: HostRuntime) {
             text.contains("\nExit status: 0 the program is accepted, 1 it is refused"),
             "{text}"
         );
+    }
+}
+
+#[test]
+fn help_names_wide(rt: HostRuntime) {
+    for command in ["check", "run", "serve"] {
+        let text = told(&rt, &[command, "--help"]);
+        assert!(rt; text.contains("--wide"), "{text}");
+        assert!(rt; text.contains("refused as 22"), "{text}");
+        assert!(rt;
+            text.contains("Decide by the columns that rules compare: more programs are decided"),
+            "{text}"
+        );
+    }
+    for words in [["--help"].as_slice(), ["explain", "--help"].as_slice()] {
+        let text = told(&rt, words);
+        assert!(rt; !text.contains("--wide"), "{text}");
     }
 }

@@ -33,6 +33,7 @@ fn commands_are_taken(rt: HostRuntime) {
         assert_eq!(rt; settings.map(|s| s.command), Some(command));
         let style = settings.map(|s| (s.style.dot, s.style.all));
         assert_eq!(rt; style, Some((false, false)));
+        assert_eq!(rt; settings.map(|s| s.wide), Some(false));
         let numbers = settings.map(|s| (s.replicas, s.workers, s.parts));
         assert_eq!(rt; numbers, Some((1, 1, 1)));
     }
@@ -85,6 +86,79 @@ fn styles_are_read(rt: HostRuntime) {
         assert_eq!(rt; settings.map(|s| s.command), Some(Verb::Explain));
         assert_eq!(rt; settings.map(|s| (s.style.dot, s.style.all)), Some(style));
     }
+}
+
+#[test]
+fn wide_is_read(rt: HostRuntime) {
+    let alloc = rt.alloc();
+    for (words, expected) in [
+        (["check", "--wide"].as_slice(), (Verb::Check, 1, true)),
+        (["check", "--wide", "--"].as_slice(), (Verb::Check, 1, true)),
+        (["run", "--wide"].as_slice(), (Verb::Run, 1, true)),
+        (["serve", "--wide"].as_slice(), (Verb::Serve, 1, true)),
+        (
+            ["run", "--wide", "--replicas", "2"].as_slice(),
+            (Verb::Run, 2, true),
+        ),
+        (
+            ["run", "--replicas=2", "--wide"].as_slice(),
+            (Verb::Run, 2, true),
+        ),
+        (
+            ["serve", "--replicas", "16", "--wide"].as_slice(),
+            (Verb::Serve, 16, true),
+        ),
+        (["run", "--replicas=2"].as_slice(), (Verb::Run, 2, false)),
+        (
+            ["serve", "--replicas=2"].as_slice(),
+            (Verb::Serve, 2, false),
+        ),
+        (["explain", "--all"].as_slice(), (Verb::Explain, 1, false)),
+    ] {
+        let settings = read(alloc, words).ok();
+        let met = settings.map(|s| (s.command, s.replicas, s.wide));
+        assert_eq!(rt; met, Some(expected));
+    }
+}
+
+#[test]
+fn other_wide_is_refused(rt: HostRuntime) -> Result<(), Fail> {
+    let refused = [
+        (
+            ["check", "--wide=true"].as_slice(),
+            ErrorKind::TooManyValues,
+            "'--wide'",
+        ),
+        (
+            ["run", "--wide", "--wide"].as_slice(),
+            ErrorKind::ArgumentConflict,
+            "'--wide'",
+        ),
+        (
+            ["serve", "--wid"].as_slice(),
+            ErrorKind::UnknownArgument,
+            "'--wid'",
+        ),
+        (
+            ["explain", "--wide"].as_slice(),
+            ErrorKind::UnknownArgument,
+            "'--wide'",
+        ),
+        (
+            ["--wide", "check"].as_slice(),
+            ErrorKind::UnknownArgument,
+            "'--wide'",
+        ),
+        (
+            ["check", "--wide", "true"].as_slice(),
+            ErrorKind::UnknownArgument,
+            "'true'",
+        ),
+    ];
+    for (words, kind, text) in refused {
+        refuses(&rt, words, kind, text)?;
+    }
+    Ok(())
 }
 
 #[test]

@@ -10,6 +10,7 @@ use Rattle.chr_read.specs.ProgramTexts.{IsAnswer}
 use Rattle.chr_read.specs.declared.fault.ReadFault.{ReadFault}
 use Rattle.chr_report.specs.declared.running.Status.{Status}
 use Rattle.chr_report.specs.declared.running.Status.TheVariants.{Accepted}
+use Rattle.chr_report.specs.declared.wanted.Wanted.{Wanted}
 use Rattle.chr_report.specs.Lines.{lines, without_return}
 use Rattle.chr_report.specs.Answers.{AnswersAll}
 use Rattle.chr_report.specs.Outputs.{IsReadOutput}
@@ -76,7 +77,7 @@ pub record AnswersInput (ds : List Declaration) (rules : List Rule) (first : Lis
   pub is_written : IsWritten answers
 
 -- The verdict on a text with this answer, and the answers of the whole command lines that were read, are written.
-pub record AnswersCommands (answer : Result Program ReadFault) (replicas : ℕ) (first : List ℕ)
+pub record AnswersCommands (answer : Result Program ReadFault) (wanted : Wanted) (first : List ℕ)
     (from to old new : Option (List ℕ)) : Type 0 where
   pub bytes : List ℕ
   pub front : List ℕ
@@ -86,23 +87,23 @@ pub record AnswersCommands (answer : Result Program ReadFault) (replicas : ℕ) 
   pub whole : AreWholeLines front
   pub unended : HasNoFeed line
   pub out : List ℕ
-  pub output : IsReadOutput answer replicas (lines front) Accepted out
+  pub output : IsReadOutput answer wanted (lines front) Accepted out
   pub written : Appends old new out
 
 -- there is an output of the text, and of the commands that are the first bytes and all that the reader gives
 pub record WritesText (IsAnswered : Result Program ReadFault → Type 0) (first : List ℕ) (known : Option (List ℕ))
-    (replicas : ℕ) (status : Status) (IsWritten : List ℕ → Type 0) : Type 0 where
+    (wanted : Wanted) (status : Status) (IsWritten : List ℕ → Type 0) : Type 0 where
   pub input : List ℕ
   pub is_read : IfSome known (λ all. input ≡ all)
   pub answer : Result Program ReadFault
   pub is_answer : IsAnswered answer
   pub out : List ℕ
-  pub output : IsReadOutput answer replicas (lines (first ++ input)) status out
+  pub output : IsReadOutput answer wanted (lines (first ++ input)) status out
   pub is_written : IsWritten out
 
 -- nothing is written, or a beginning of such an output
 abbrev pub WritesTextPart :
-    (Result Program ReadFault → Type 0) → List ℕ → Option (List ℕ) → ℕ → Option (List ℕ) → Option (List ℕ) → Type 0
-WritesTextPart IsAnswered first known replicas old new =
+    (Result Program ReadFault → Type 0) → List ℕ → Option (List ℕ) → Wanted → Option (List ℕ) → Option (List ℕ) → Type 0
+WritesTextPart IsAnswered first known wanted old new =
     Appends old new []
-    ⊎ ((status : Status) × WritesText IsAnswered first known replicas status (AppendsPart old new))
+    ⊎ ((status : Status) × WritesText IsAnswered first known wanted status (AppendsPart old new))

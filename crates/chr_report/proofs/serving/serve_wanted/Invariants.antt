@@ -1,7 +1,7 @@
 use Rattle.std.specs.Prelude.{◌≡◌, false}
 use Rattle.std.specs.Io.KnownBytes.{Consumes}
 use Rattle.chr_report.specs.working.Divided.{IsUndivided}
-use Rattle.chr_report.proofs.serving.serve.Given as goal
+use Rattle.chr_report.proofs.serving.serve_wanted.Given as goal
 
 abbrev pub invariant-loop-turn : goal.invariant-loop-turn
 invariant-loop-turn g l = record {
