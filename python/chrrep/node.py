@@ -45,13 +45,15 @@ def program_path(chrrep: str | os.PathLike[str] | None = None) -> str:
     return found
 
 
-def check(program: str | bytes, chrrep: str | os.PathLike[str] | None = None) -> Verdict:
-    """The verdict on a program text.
+def check(
+    program: str | bytes, chrrep: str | os.PathLike[str] | None = None, *, wide: bool = False
+) -> Verdict:
+    """The verdict on a program text; with `wide` by sorted cases alone, which decide more programs.
 
     Raises `TextFault`, `NotLowered`, `Overlap` or `TooManyTypes`, each with its case, where the program is refused,
     and `NodeDied` where no verdict came.
     """
-    words = [program_path(chrrep), "check"]
+    words = [program_path(chrrep), "check", *_options(wide)]
     ended = subprocess.run(words, input=text_bytes(program), stdout=subprocess.PIPE, check=False)
     answer = ended.stdout.decode()
     if ended.returncode not in (0, 1) or not answer.endswith("\n"):
@@ -60,11 +62,16 @@ def check(program: str | bytes, chrrep: str | os.PathLike[str] | None = None) ->
     return verdict_of(answer) or raise_verdict(answer)
 
 
+def _options(wide: bool) -> list[str]:
+    return ["--wide"] if wide else []
+
+
 class Node:
     """A replica of one accepted program, which lives until it is closed.
 
     `program` is a program text. `origin`, 0 to 4,294,967,295, is the node's own: ids are made of it, and no two nodes
-    that exchange operations may share it. `chrrep` names the program, as `program_path` says.
+    that exchange operations may share it. `chrrep` names the program, as `program_path` says. With `wide` the program is
+    judged as `check` does with it; nodes of either kind exchange operations.
 
     Raises, as `check` does, what refuses the program. Each call raises `NodeDied` where the process has ended, and a
     `Refused` where the line is refused, which changes nothing. A call that is interrupted ends the node. Calls may come
@@ -75,7 +82,7 @@ class Node:
     """What was said of the program."""
 
     def __init__(
-        self, program: str | bytes, origin: int, *, chrrep: str | os.PathLike[str] | None = None
+        self, program: str | bytes, origin: int, *, chrrep: str | os.PathLike[str] | None = None, wide: bool = False
     ) -> None:
         self.origin = origin
         self._next = 1
@@ -83,7 +90,7 @@ class Node:
         self._ended: NodeDied | None = None
         text = text_bytes(program)
         end = b"---\n" if text.endswith(b"\n") or not text else b"\n---\n"
-        words = [program_path(chrrep), "serve"]
+        words = [program_path(chrrep), "serve", *_options(wide)]
         self._process = subprocess.Popen(words, stdin=subprocess.PIPE, stdout=subprocess.PIPE)
         try:
             answer = self._exchange(text + end)

@@ -149,7 +149,8 @@ class Overlap(Refused):
 
 
 class TooManyTypes(Refused):
-    """The two `rules` overlap as `matching` says, with `classes` free values: in too many orders of them to decide."""
+    """The two `rules` overlap as `matching` says, with `classes` free values: in too many orders of them to decide. Asked
+    for with `wide`, most programs are decided."""
 
     number = 22
 

@@ -276,6 +276,19 @@ class Programs(unittest.TestCase):
                 self.assertEqual(node.verdict, check(program))
                 self.assertEqual(node.show(), ())
 
+    def test_programs_judged_by_sorted_cases(self) -> None:
+        rule = ":- chr_constraint p/4.\np(K,A,B,C) \\ p(K,D,E,F) <=> A < D | true.\n"
+        self.assertEqual(check(PATHS, wide=True), chrrep.Verdict(1, 17))
+        self.assertEqual(check(rule, wide=True), chrrep.Verdict(1, 6))
+        for call in (check, lambda text: Node(text, 1)):
+            self.refusal(chrrep.TooManyTypes, call, rule)
+        with Node(rule, 1, wide=True) as wide, Node(rule, 2, wide=True) as other:
+            wide.tell(("p", 1, 7, 0, 0))
+            other.tell(("p", 1, 5, 3, 2), ("p", 2, 9, 0, 0))
+            wide.merge(other.lacks(wide.summary()))
+            self.assertEqual(wide.verdict, chrrep.Verdict(1, 6))
+            self.assertEqual(wide.show(), (("p", 1, 5, 3, 2), ("p", 2, 9, 0, 0)))
+
 
 class Ends(unittest.TestCase):
     def test_leaving_ends_the_process(self) -> None:

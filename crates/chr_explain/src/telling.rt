@@ -157,7 +157,7 @@ fn push_crowd(alloc: Global, out: &mut String, crowd: &Crowd) -> Result<(), Allo
         "Their variables have {classes} classes of equal values that no constant binds"
     )?;
     push_constants(alloc, out, program)?;
-    out.push_str("Narrow ")?;
+    out.push_str("Judge it with --wide, which looks only at what rules can compare.\nOr narrow ")?;
     told.push_widest(alloc, out)?;
     out.push_str(": write fewer arguments, or constants or one variable twice among them.\n")
 }

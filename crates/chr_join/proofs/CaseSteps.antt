@@ -1,7 +1,7 @@
 -- Each step of a listed case is an instance in the case's store.
-use Rattle.std.specs.Prelude.{◌≡◌, ℤ, ◌-◌, true, List, [], map, Some, slice_get}
+use Rattle.std.specs.Prelude.{◌≡◌, ℤ, ◌-◌, true, List, map, Some, slice_get}
 use Rattle.std.specs.List.{filter}
-use Rattle.std.proofs.Common.{refl, sym, subst, ◌∙◌, arith, ◌⊎◌, inl, inr}
+use Rattle.std.proofs.Common.{refl, sym, subst, ◌∙◌, arith, inl, inr}
 use Rattle.std.proofs.lemmas.Option.{same_Some}
 use Rattle.chr_base.specs.declared.rule.Rule.{Rule}
 use Rattle.chr_rewrite.specs.Derivations.{IsApplicable}

@@ -23,13 +23,13 @@ use Rattle.chr_confluence.specs.laws.ListedCases.{ListedMakeConfluent, FailingLi
 use Rattle.chr_overlaps.specs.declared.overlap.Overlap.{Overlap}
 use Rattle.chr_overlaps.specs.declared.cases.Case.{Case}
 use Rattle.chr_overlaps.specs.OverlapLists.{IsOverlapOf}
-use Rattle.chr_overlaps.specs.CaseLists.{AreListed, case_at}
-use Rattle.chr_join.specs.Sides.{IsJoinable}
-use Rattle.chr_join.specs.Verdicts.{HasJoinableCases, IsAccepted, IsFirstCase}
+use Rattle.chr_overlaps.specs.CaseLists.{AreCases, AreListed, case_at}
+use Rattle.chr_join.specs.Sides.{IsJoinable, SideEnds}
+use Rattle.chr_join.specs.Verdicts.{HasJoinableCases, IsAccepted}
 use Rattle.chr_join.specs.declared.refused.Failure.{Failure}
 use Rattle.chr_join.specs.declared.refused.Cause.{Cause}
 use Rattle.chr_join.specs.declared.refused.Cause.TheVariants as cause
-use Rattle.chr_join.specs.Explanations.{Explains, IsRefusal, IsRefusalBy, IfFails}
+use Rattle.chr_join.specs.Explanations.{IsRefusal, IsRefusalBy, IfFails}
 use Rattle.chr_join.specs.Once.{RefusedAreNotConfluent}
 use Rattle.chr_join.specs.declared.coverage.Coverage.{Coverage}
 use Rattle.chr_join.specs.declared.coverage.Coverage.TheVariants.{Joint}
@@ -93,45 +93,43 @@ accepted_joins laws rules n h i j r1 r2 first second ordered m is =
 pub joint_confluent : ListedMakeConfluent → CaseLaws → (rules : List Rule) (w : Atom → ℕ) (n : ℕ) → RulesLower w rules → IsAccepted rules n → Confluent rules
 joint_confluent law laws rules w n lowers h = law rules w lowers (accepted_joins laws rules n h)
 
--- A case that fails refutes confluence.
-pub failing_refutes : FailingListedRefutes → CaseLaws → (rules : List Rule) (f : Failure) → IsRefusal rules (cause.Fails f) → ¬ (Confluent rules)
-failing_refutes law laws rules f h = by first.listed.listed
+-- A listed case whose sides end in different stores refutes confluence.
+pub apart_refutes : FailingListedRefutes → CaseLaws → (rules : List Rule) (o : Overlap) → IsOverlapOf rules o → (cs : List Case) → AreCases rules o cs → (c : Case) → In c cs
+    → (t u : Store) → SideEnds rules c.store c.left t → SideEnds rules c.store c.right u → ¬ (t ≡ u) → ¬ (Confluent rules)
+apart_refutes law laws rules o of cs are c i t u left_ends right_ends differ = by are.listed
   where
-    c : Case
-    c = h.1.case
-
-    first : IsFirstCase rules f.overlap c
-    first = h.1.first
-
-    cs : List Case
-    cs = first.before ++ c ∷ first.after
-
     r1 : Rule
-    r1 = first.listed.rule1
+    r1 = are.rule1
 
     r2 : Rule
-    r2 = first.listed.rule2
+    r2 = are.rule2
 
-    is_overlap : IsOverlapOf rules f.overlap
-    is_overlap = h.0.listed.each f.overlap (in_middle h.0.before f.overlap h.0.after)
-
-    by : (HasNoUnifier (equations_of r1 r2 f.overlap.matching.items) × (cs ≡ [])) ⊎ AreListed rules f.overlap r1 r2 cs → ¬ (Confluent rules)
-    by (inl n) = absurd (subst (In c) n.1 (in_middle first.before c first.after))
+    by : (HasNoUnifier (equations_of r1 r2 o.matching.items) × (cs ≡ [])) ⊎ AreListed rules o r1 r2 cs → ¬ (Confluent rules)
+    by (inl n) = absurd (subst (In c) n.1 i)
     by (inr l) =
-        let are = first.listed in let m = f.overlap.matching.items in
-        let at = picked (case_at f.overlap r1 r2 l.classes) (guards_hold l.classes r1 r2) l.representatives c (subst (In c) l.cases_are (in_middle first.before c first.after)) in
+        let m = o.matching.items in
+        let at = picked (case_at o r1 r2 l.classes) (guards_hold l.classes r1 r2) l.representatives c (subst (In c) l.cases_are i) in
         let zs = at.0 in
-        let is = matching_at rules f.overlap r1 r2 is_overlap are.first are.second in
+        let is = matching_at rules o r1 r2 of are.first are.second in
         let v1 = left_at l.classes r1 r2 zs in
         let v2 = right_at l.classes r1 r2 zs in
         let case = laws.cases r1 r2 m is l.classes l.solves zs at.2 in
-        let x = case_at f.overlap r1 r2 l.classes zs in
-        let e = subst (λ y. Explains rules y f) (sym at.3) h.1.explains in
-        let left = side_taken rules x.store e.left.runs.0 x.left r1 v1 are.first refl (laws.left r1 r2 m v1 v2 case) e.left.runs.1 in
-        let right = side_taken rules x.store e.right.runs.0 x.right r2 v2 are.second refl (laws.right r1 r2 m v1 v2 case) e.right.runs.1 in
-        law rules (f.overlap.first - 1) (f.overlap.second - 1) r1 r2 are.first are.second m is l.classes l.representatives l.solves l.types zs at.1 at.2 f.left_end f.right_end
-        (plain_normal rules e.left.rest _ f.left_end (subst (λ y. IsPlainComputation rules e.left.rest y f.left_end) left e.left.runs.2))
-        (plain_normal rules e.right.rest _ f.right_end (subst (λ y. IsPlainComputation rules e.right.rest y f.right_end) right e.right.runs.2)) e.differ
+        let x = case_at o r1 r2 l.classes zs in
+        let p = subst (λ (y : Case). SideEnds rules y.store y.left t) (sym at.3) left_ends in
+        let q = subst (λ (y : Case). SideEnds rules y.store y.right u) (sym at.3) right_ends in
+        let left = side_taken rules x.store p.1.0 x.left r1 v1 are.first refl (laws.left r1 r2 m v1 v2 case) p.1.1 in
+        let right = side_taken rules x.store q.1.0 x.right r2 v2 are.second refl (laws.right r1 r2 m v1 v2 case) q.1.1 in
+        law rules (o.first - 1) (o.second - 1) r1 r2 are.first are.second m is l.classes l.representatives l.solves l.types zs at.1 at.2 t u
+        (plain_normal rules p.0 _ t (subst (λ y. IsPlainComputation rules p.0 y t) left p.1.2))
+        (plain_normal rules q.0 _ u (subst (λ y. IsPlainComputation rules q.0 y u) right q.1.2)) differ
+
+-- A case that fails refutes confluence.
+pub failing_refutes : FailingListedRefutes → CaseLaws → (rules : List Rule) (f : Failure) → IsRefusal rules (cause.Fails f) → ¬ (Confluent rules)
+failing_refutes law laws rules f h =
+    let first = h.1.first in
+    let e = h.1.explains in
+    apart_refutes law laws rules f.overlap (h.0.listed.each f.overlap (in_middle h.0.before f.overlap h.0.after)) (first.before ++ h.1.case ∷ first.after) first.listed h.1.case
+    (in_middle first.before h.1.case first.after) f.left_end f.right_end (e.left.rest, e.left.runs) (e.right.rest, e.right.runs) e.differ
 
 pub refusal_refutes : RefusedAreNotConfluent → (coverage : Coverage) (rules : List Rule) (e : Cause) → IsRefusalBy coverage rules e → IfFails e (λ _. ¬ (Confluent rules))
 refusal_refutes law coverage rules (cause.Fails f) h = law coverage rules f h

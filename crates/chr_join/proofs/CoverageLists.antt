@@ -1,18 +1,16 @@
 -- By each coverage an overlap has one list of cases, or else too many of them.
-use Rattle.std.specs.Prelude.{◌≡◌, ℕ, ◌-◌, ◌<◌, ◌⊎◌, ℤ, List, [], length, map, Some, slice_get}
+use Rattle.std.specs.Prelude.{◌≡◌, ℕ, ◌-◌, ◌⊎◌, ℤ, List, [], length, map, Some, slice_get}
 use Rattle.std.specs.List.{filter}
 use Rattle.std.proofs.Common.{sym, ap, subst, ◌∙◌, arith, inl, inr}
-use Rattle.std.proofs.lemmas.List.{length-map}
 use Rattle.std.proofs.lemmas.Option.{same_Some}
 use Rattle.chr_base.specs.declared.rule.Rule.{Rule}
 use Rattle.chr_confluence.specs.Unifiers.{Substitution, IsMostGeneralUnifier, HasNoUnifier}
-use Rattle.chr_confluence.specs.Representatives.{free_variables, guards_hold}
+use Rattle.chr_confluence.specs.Representatives.{guards_hold}
 use Rattle.chr_confluence.proofs.Solutions.{one_solution}
 use Rattle.chr_sorts.specs.Sorts.{Sorts}
-use Rattle.chr_sorts.specs.SortedCases.{all_equations, joint_sort, class_sorts}
+use Rattle.chr_sorts.specs.SortedCases.{all_equations, class_sorts}
 use Rattle.chr_overlaps.specs.declared.overlap.Overlap.{Overlap}
 use Rattle.chr_overlaps.specs.declared.cases.Case.{Case}
-use Rattle.chr_overlaps.specs.declared.cases.TheConstants.{MAX_TYPES}
 use Rattle.chr_overlaps.specs.CaseLists.{case_at}
 use Rattle.chr_kinds.specs.FinestSorts.{AreFinest}
 use Rattle.chr_kinds.specs.SortedCaseLists.{AreCombinations, AreSortedListed, AreSortedCases, HasTooManyCombinations}

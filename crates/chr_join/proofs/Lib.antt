@@ -10,3 +10,5 @@ mod RestedParts
 pub mod VerdictThere
 pub mod SortedConfluent
 pub mod Visits
+pub mod ConfluentJoins
+pub mod Counted

@@ -25,6 +25,11 @@ all_in P [] x h i = absurd i
 all_in P (y ∷ ys) x h (inl e) = subst P (sym e) (h zero y (omega arith))
 all_in P (y ∷ ys) x h (inr i) = all_in P ys x (all_rest P y ys h) i
 
+pub from_each : {A : Type 0} (P : A → Type 0) (xs : List A) → ((x : A) → In x xs → P x) → All P xs
+from_each P [] each k d l = absurd (omega (arith, l))
+from_each P (x ∷ xs) each zero d l = each x (inl refl)
+from_each P (x ∷ xs) each (suc k) d l = from_each P xs (λ y i. each y (inr i)) k d (omega (arith, l))
+
 -- Two elements of a list for which something does not hold, though it holds for all before them, are one.
 pub first_once : {A : Type 0} (P : A → Type 0) (xs ys : List A) (x y : A) (us vs : List A) → xs ++ x ∷ us ≡ ys ++ y ∷ vs → All P xs → All P ys → ¬ (P x) → ¬ (P y) → x ≡ y
 first_once P [] [] x y us vs e h g no_x no_y = cc

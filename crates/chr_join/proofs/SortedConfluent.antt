@@ -1,5 +1,5 @@
 -- Rules that are accepted are confluent, and those that a case refuses are not, by sorted cases too.
-use Rattle.std.specs.Prelude.{◌≡◌, ℕ, ◌-◌, ℤ, List, [], ◌∷◌, ◌++◌, Some, slice_get, ◌⊎◌}
+use Rattle.std.specs.Prelude.{◌≡◌, ℕ, ◌-◌, List, [], ◌∷◌, ◌++◌, Some, slice_get, ◌⊎◌}
 use Rattle.std.specs.List.{All}
 use Rattle.std.proofs.Common.{refl, sym, subst, ◌∙◌, arith, inl, inr}
 use Rattle.std.proofs.lemmas.List.{length-map}

@@ -32,14 +32,14 @@ use Rattle.chr_overlaps.proofs.OneList.{listed_cases}
 use Rattle.chr_join.specs.declared.refused.Cause.{Cause}
 use Rattle.chr_join.specs.declared.refused.Cause.TheVariants.{Fails, TooManyTypes, Memory}
 use Rattle.chr_join.specs.declared.coverage.Coverage.{Coverage}
-use Rattle.chr_join.specs.declared.coverage.Coverage.TheVariants.{Joint, Sorted}
+use Rattle.chr_join.specs.declared.coverage.Coverage.TheVariants.{Sorted}
 use Rattle.chr_join.specs.Coverages.{AreCasesBy, IsTooManyBy}
 use Rattle.chr_join.specs.Verdicts.{HasJoinableCasesBy, IsFirstBy, IsFirstCaseBy}
 use Rattle.chr_join.specs.working.Checking.{RefusesAt}
 use Rattle.std.proofs.lemmas.Bool.Decides.{nat_tests}
-use Rattle.std.proofs.lemmas.List.{length-map}
 use Rattle.chr_overlaps.specs.OverlapLists.{IsOverlapOf}
 use Rattle.chr_overlaps.specs.UnifiedOverlaps.{AreRulesOf, IsUnifiedAt, IsSortedUnifiedAt, HasNoSortedUnifier, HasUnified}
+use Rattle.chr_overlaps.proofs.UnifiedOverlaps.{rules_once}
 use Rattle.chr_rewrite.specs.Derivations.{IsApplicable}
 use Rattle.std.proofs.lemmas.Option.{same_Some}
 use Rattle.chr_join.proofs.CaseSteps.{matching_at, steps_at}
@@ -202,7 +202,7 @@ few_classes n constants none = elim (nat_lt 64 n) as (λ b. nat_lt 64 n ≡ b �
 pub classes_fit : (n m : ℕ) (constants : List ℤ) → n ≡ m → ¬ MoreTypesThan MAX_TYPES m constants → n < 2 ^ 63
 classes_fit n m constants e none = let l = few_classes m constants none in omega (arith, e, l)
 
-few_types : (n : ℕ) (constants : List ℤ) (rs : List (List ℤ)) → AreTypes n constants rs → ¬ MoreTypesThan MAX_TYPES n constants → length rs ≤ MAX_TYPES
+pub few_types : (n : ℕ) (constants : List ℤ) (rs : List (List ℤ)) → AreTypes n constants rs → ¬ MoreTypesThan MAX_TYPES n constants → length rs ≤ MAX_TYPES
 few_types n constants rs are none = elim (nat_lt MAX_TYPES (length rs)) as (λ b. nat_lt MAX_TYPES (length rs) ≡ b → length rs ≤ MAX_TYPES) [
   | true ↦ λ e. absurd (none (more_types MAX_TYPES n constants rs are (grind (arith, nat_tests))))
   | false ↦ λ e. grind (arith, nat_tests)
@@ -270,10 +270,6 @@ module _ (s : Setting) (constants : List ℤ) (rs : List (List ℤ)) (u : IsUnif
   pub same_joint_cases : cases_of s u.rule1 u.rule2 u.are_rules seen_types ≡ joint_cases
   same_joint_cases = ap (map (case_at s.overlap u.rule1 u.rule2 (classes_of s.unified)))
       (filter_within (guards_hold (classes_of s.unified) u.rule1 u.rule2) (are_admitted (all_may_hold s.unified.free.items s.unified.guards.items) []) (λ zs. guards_admitted u.rule1 u.rule2 s.unified zs u.unified) rs)
-
--- the rules of an overlap are one pair
-rules_once : (rules : List Rule) (o : Overlap) (r1 r2 s1 s2 : Rule) → AreRulesOf rules o r1 r2 → AreRulesOf rules o s1 s2 → (r1 ≡ s1) × (r2 ≡ s2)
-rules_once rules o r1 r2 s1 s2 a b = (same_Some r1 s1 (sym a.0 ∙ b.0), same_Some r2 s2 (sym a.1 ∙ b.1))
 
 -- what a walk over order types meets makes cases
 pub joint_values : ListedAreCases → (s : Setting) → IsOverlapOf (rules_in s.weighed) s.overlap → IsUnifiedAt (rules_in s.weighed) s.overlap s.unified → HaveCases s

@@ -1,5 +1,5 @@
 -- The cases of an overlap that a verdict looks at.
-use Rattle.std.specs.Prelude.{ℕ, List, []}
+use Rattle.std.specs.Prelude.{ℕ, List}
 use Rattle.chr_base.specs.declared.rule.Rule.{Rule}
 use Rattle.chr_overlaps.specs.declared.overlap.Overlap.{Overlap}
 use Rattle.chr_overlaps.specs.declared.cases.Case.{Case}

@@ -3,6 +3,7 @@ ghost use Rattle.std.specs.Prelude.{◌≡◌, IfOk, IfErr, length};
 ghost use Rattle.std.specs.Bool.{OnTrue, OnFalse};
 ghost use Rattle.chr_types.specs.OrderTypes.{Rises, MoreTypesThan};
 ghost use Rattle.chr_weights.specs.WeighedPrograms.{rules_in};
+ghost use Rattle.chr_confluence.specs.Confluence.{Confluent};
 ghost use Rattle.chr_confluence.specs.Constants.{AreConstants};
 ghost use Rattle.chr_overlaps.specs.OverlapLists.{IsOverlapOf};
 ghost use Rattle.chr_overlaps.specs.declared.cases.TheConstants.{MAX_TYPES};
@@ -10,10 +11,15 @@ ghost use Rattle.chr_overlaps.specs.UnifiedOverlaps.{IsUnifiedAt};
 ghost use Rattle.chr_join.specs.declared.coverage.Coverage.TheVariants.{Joint};
 ghost use Rattle.chr_join.specs.Verdicts.{HasJoinableCasesBy, IsAcceptedBy};
 ghost use Rattle.chr_join.specs.Explanations.{IsRefusalBy};
+ghost use Rattle.chr_join.specs.declared.joint.Look.TheVariants.{AtGuards};
 ghost use Rattle.chr_join.specs.working.Checking.{HaveFewTypes, RefusesAt};
+ghost use Rattle.chr_join.specs.working.Counting.{AreCounts};
 
 use crate::checker::{Checker, told};
+use crate::counting::Counts;
+use crate::once::{accepted_are_confluent, joint_cases_join};
 use crate::refused::{Cause, TooManyTypes};
+use crate::sorted::check_sorted;
 use chr_confluence::listing::listed_cases;
 use chr_overlaps::cases::{MAX_TYPES, unified};
 use chr_overlaps::constants::constants;
@@ -72,19 +78,61 @@ fn check_cases<'a>(
     told(stopped, passed, failing)
 }
 
-/// The number of cases of an overlap, where all of them are joinable. The numbers of classes that have few order types
-/// are remembered from overlap to overlap.
-fn check_overlap(
+/// The number of cases of an overlap whose heads are made one. The rules are confluent, so all of them are joinable.
+fn count_cases(
     alloc: Global,
     weighed: &Weighed,
     overlap: &Overlap,
+    unified: Unified,
     constants: &[i64],
-    known: &mut Vec<usize>,
+    counts: &mut Counts,
+) -> Result<usize, AllocError>
+    requires confluent { Confluent (rules_in weighed.now) }
+    requires overlap { IsOverlapOf (rules_in weighed.now) overlap.now }
+    requires unified { IsUnifiedAt (rules_in weighed.now) overlap.now unified }
+    requires constants { AreConstants (rules_in weighed.now) constants.now }
+    requires few { ¬ MoreTypesThan MAX_TYPES (length unified.free.items) constants.now }
+    requires counts { AreCounts constants.now counts.old.entries.items }
+    ensures counts { IfOk result (λ _. AreCounts constants.now counts.new.entries.items) }
+    ensures number { IfOk result (HasJoinableCasesBy Joint (rules_in weighed.now) overlap.now) }
+{
+    joint_cases_join();
+    counts.count(alloc, unified, constants)
+}
+
+/// What of a case is looked at.
+#[derive(Clone, Copy)]
+pub(crate) enum Look {
+    /// The ends of both sides.
+    AtEnds,
+    /// The guards alone: of rules that are confluent the cases are only counted.
+    AtGuards,
+}
+
+/// What is remembered from overlap to overlap.
+#[derive(Drop)]
+pub(crate) struct Remembered {
+    /// Numbers of classes that have few order types.
+    pub(crate) few: Vec<usize>,
+    pub(crate) counts: Counts,
+}
+
+/// The number of cases of an overlap, where all of them are joinable.
+fn look_at_overlap(
+    alloc: Global,
+    look: Look,
+    weighed: &Weighed,
+    overlap: &Overlap,
+    constants: &[i64],
+    known: &mut Remembered,
 ) -> Result<usize, Cause>
+    requires confluent { look ≡ AtGuards → Confluent (rules_in weighed.now) }
     requires overlap { IsOverlapOf (rules_in weighed.now) overlap.now }
     requires constants { AreConstants (rules_in weighed.now) constants.now }
-    requires known { HaveFewTypes constants.now known.old.items }
-    ensures known { IfOk result (λ _. HaveFewTypes constants.now known.new.items) }
+    requires few { HaveFewTypes constants.now known.old.few.items }
+    requires counts { AreCounts constants.now known.old.counts.entries.items }
+    ensures few { IfOk result (λ _. HaveFewTypes constants.now known.new.few.items) }
+    ensures counts { IfOk result (λ _. AreCounts constants.now known.new.counts.entries.items) }
     ensures ok { IfOk result (HasJoinableCasesBy Joint (rules_in weighed.now) overlap.now) }
     ensures err { IfErr result (RefusesAt Joint (rules_in weighed.now) overlap.now) }
 {
@@ -92,30 +140,53 @@ fn check_overlap(
         return Ok(0);
     };
     let classes = unified.free_classes();
-    if are_few(alloc, classes, constants, known)? {
-        check_cases(alloc, weighed, overlap, &unified, constants)
-    } else {
-        Err(Cause::TooManyTypes(TooManyTypes {
+    if !are_few(alloc, classes, constants, &mut known.few)? {
+        return Err(Cause::TooManyTypes(TooManyTypes {
             overlap: overlap.copy(),
             classes,
-        }))
+        }));
+    }
+    match look {
+        Look::AtEnds => check_cases(alloc, weighed, overlap, &unified, constants),
+        Look::AtGuards => {
+            let counts = &mut known.counts;
+            Ok(count_cases(alloc, weighed, overlap, unified, constants, counts)?)
+        }
     }
 }
 
 /// The number of all joint cases, where all of them are joinable.
-pub(crate) fn check_joint(alloc: Global, weighed: &Weighed) -> Result<u64, Cause>
+fn look_at_overlaps(alloc: Global, look: Look, weighed: &Weighed) -> Result<u64, Cause>
+    requires { look ≡ AtGuards → Confluent (rules_in weighed.now) }
     ensures ok { IfOk result (IsAcceptedBy Joint (rules_in weighed.now)) }
     ensures err { IfErr result (IsRefusalBy Joint (rules_in weighed.now)) }
 {
     let constants = constants(alloc, weighed.program().rules())?;
     let overlaps = overlaps(alloc, weighed)?;
-    let mut known = Vec::new(alloc);
+    let mut known = Remembered {
+        few: Vec::new(alloc),
+        counts: Counts::new(alloc),
+    };
     let mut total: u64 = 0;
     for overlap in &overlaps {
-        match check_overlap(alloc, weighed, overlap, &constants, &mut known) {
+        match look_at_overlap(alloc, look, weighed, overlap, &constants, &mut known) {
             Ok(cases) => total += cases as u64,
             Err(cause) => return Err(cause),
         }
     }
     Ok(total)
+}
+
+/// The number of all joint cases, where all of them are joinable. Sorted cases are far fewer and are looked at first:
+/// where all of them are joinable, the joint ones are too, and are only counted.
+pub(crate) fn check_joint(alloc: Global, weighed: &Weighed) -> Result<u64, Cause>
+    ensures ok { IfOk result (IsAcceptedBy Joint (rules_in weighed.now)) }
+    ensures err { IfErr result (IsRefusalBy Joint (rules_in weighed.now)) }
+{
+    accepted_are_confluent();
+    match check_sorted(alloc, weighed) {
+        Ok(_) => look_at_overlaps(alloc, Look::AtGuards, weighed),
+        Err(Cause::Memory) => Err(Cause::Memory),
+        Err(_) => look_at_overlaps(alloc, Look::AtEnds, weighed),
+    }
 }

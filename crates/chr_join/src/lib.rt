@@ -5,6 +5,7 @@
 mod accepted;
 mod accepting;
 mod checker;
+mod counting;
 mod coverage;
 mod ends;
 mod joint;

@@ -1,5 +1,6 @@
 //! What the verdict on rules is worth. Nothing here computes: the contract is the law.
 ghost use Rattle.chr_join.specs.Once.{AcceptedAreConfluent, AcceptedOnce, NeverBoth, RefusedAreNotConfluent, RefusedOnce, VerdictsExist};
+ghost use Rattle.chr_join.specs.working.Counting.{JointCasesJoin};
 
 use chr_confluence::laws::peak;
 use chr_confluence::listing::{listed_cases, listed_confluence};
@@ -44,4 +45,14 @@ pub fn refused_are_not_confluent()
     combinations();
     sorted_cases();
     sorted_confluence();
+}
+
+/// Joint cases of confluent rules that lower a weight are joinable.
+pub(crate) fn joint_cases_join()
+    ensures { JointCasesJoin }
+{
+    peak();
+    listed_cases();
+    listed_confluence();
+    sorted_cases();
 }

@@ -44,7 +44,7 @@ all_begin fs (c ∷ cs) p q h =
     let parts = and_parts (comparison_holds (assignment fs (p ++ q)) c) (guard_holds (assignment fs (p ++ q)) cs) h in
     and_from (may_hold fs p c) (all_may_hold fs cs p) (may_begin fs p q c parts.0) (all_begin fs cs p q parts.1)
 
-admitted : (fs : List ℕ) (cs : List Comparison) (p q : List ℤ) → guard_holds (assignment fs (p ++ q)) cs ≡ true → are_admitted (all_may_hold fs cs) p q ≡ true
+pub admitted : (fs : List ℕ) (cs : List Comparison) (p q : List ℤ) → guard_holds (assignment fs (p ++ q)) cs ≡ true → are_admitted (all_may_hold fs cs) p q ≡ true
 admitted fs cs p [] h = refl
 admitted fs cs p (v ∷ q) h =
     let longer : guard_holds (assignment fs ((p ++ v ∷ []) ++ q)) cs ≡ true = subst (λ zs. guard_holds (assignment fs zs) cs ≡ true) (sym (append_assoc p (v ∷ []) q)) h in

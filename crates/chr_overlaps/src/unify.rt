@@ -1,7 +1,9 @@
 //! The heads of two rules, made one at matched places.
 ghost use Rattle.std.specs.List.{zip};
 ghost use Rattle.std.specs.Prelude.{◌≡◌, if◌then◌else◌, ◌+◌, ◌-◌, ◌<◌, ◌≤◌, ◌++◌, IfNone, IfSome, Some, None, get_or, length, map};
-ghost use Rattle.chr_base.specs.Rules.{heads_of, no_pattern};
+ghost use Rattle.std.specs.Bool.{Decides};
+ghost use Rattle.chr_base.specs.Rules.{guard_holds, heads_of, no_pattern};
+ghost use Rattle.chr_confluence.specs.Representatives.{assignment};
 ghost use Rattle.chr_confluence.specs.Unifiers.{IsMostGeneralUnifier, HasNoUnifier};
 ghost use Rattle.chr_confluence.specs.Overlaps.{SameSymbols, variables_of, renamed_apart, equations, equations_of};
 ghost use Rattle.chr_confluence.specs.working.Solving.{solve};
@@ -10,7 +12,7 @@ ghost use Rattle.chr_overlaps.specs.working.Tables.{class_in, class_pattern, cla
 ghost use Rattle.chr_overlaps.specs.working.Unifiers.{classes_of, IsUnified};
 
 use crate::classes::{Classes, MAX_JOINT_VARIABLES};
-use crate::instances::all_may_hold;
+use crate::instances::{all_hold, all_may_hold};
 use crate::numbered::variables;
 use arrayvec::ArrayVec;
 use chr_base::limits::{MAX_COMPARISONS, MAX_HEADS};
@@ -47,6 +49,23 @@ impl Unified {
         ensures { result ≡ length self.now.free.items }
     {
         self.free.len()
+    }
+
+    /// Whether both guards hold at these values of the free classes, in their order.
+    pub fn guards_hold(&self, values: &[i64]) -> bool
+        ensures { result ≡ guard_holds (assignment self.now.free.items values.now) self.now.guards.items }
+    {
+        all_hold(&self.free, values, &self.guards)
+    }
+
+    /// Whether the guards of both are the same comparisons of the same free classes, so that they hold at the same values.
+    pub fn has_guards_of(&self, other: &Unified) -> bool
+        ensures { Decides result ((self.now.free.items ≡ other.now.free.items)
+            × (self.now.guards.items ≡ other.now.guards.items)) }
+    {
+        let classes = self.free.as_slice() == other.free.as_slice();
+        let comparisons = self.guards.as_slice() == other.guards.as_slice();
+        classes & comparisons
     }
 }
 

@@ -27,7 +27,7 @@ def main(words: list[str] | None = None) -> int:
     settings = _settings(words)
     try:
         try:
-            node = Node(settings.program.read_bytes(), settings.origin)
+            node = Node(settings.program.read_bytes(), settings.origin, wide=settings.wide)
         except Refused as refusal:
             print(f"chrrep.link: the program is refused: {refusal}", file=sys.stderr)
             return REFUSED
@@ -51,6 +51,7 @@ def _settings(words: list[str] | None) -> argparse.Namespace:
     add("--log", default=LOG_NAME, metavar="NAME", help=f"the log's name in the engine ({LOG_NAME})")
     away = f"how long the engine may be away ({PATIENCE:.0f})"
     add("--patience", default=PATIENCE, type=float, metavar="SECONDS", help=away)
+    add("--wide", action="store_true", help="judge the program by sorted cases, which decide more programs")
     add("program", type=Path, metavar="PROGRAM", help="the file of the program text")
     return parser.parse_args(words)
 

@@ -1,35 +1,8 @@
-use Rattle.chr_join.specs.declared.coverage.Coverage.TheVariants.{Joint}
-use Rattle.std.proofs.Common.{◌+◌, ◌^◌, ◌<◌, ◌≤◌, length, sym, subst, rules}
-use Rattle.chr_weights.specs.WeighedPrograms.{rules_in}
-use Rattle.chr_overlaps.specs.OverlapLists.{AreOverlaps}
-use Rattle.chr_join.specs.working.Checking.{HaveFewTypes}
-use Rattle.chr_join.proofs.Lists.{in_at}
-use Rattle.chr_join.proofs.Verdicts.{total_fits, joinable_more, first_at}
+use Rattle.chr_weights.proofs.Ranks.{lowers_rank, rank_in}
+use Rattle.chr_weights.specs.WeighedPrograms.{program_of, rules_in}
+use Rattle.chr_join.specs.declared.coverage.Coverage.TheVariants.{Sorted}
 use Rattle.chr_join.proofs.joint.check_joint.Goals as goal
 
-pub check_overlap-requires-clause-overlap : goal.check_overlap-requires-clause-overlap
-check_overlap-requires-clause-overlap c =
-    let are = subst (AreOverlaps (rules_in c.args.weighed.now)) (sym c.deref-overlap-items.ensures.value) c.in_ok-overlaps.ensures.overlaps in
-    are.each c.overlap-item.result (in_at c.deref-overlap-items.result.now c.loop-overlap.overlap-index c.overlap-item.result c.loop-overlap-test.true c.overlap-item.is)
-
-pub returns-in-Err-clause-err : goal.returns-in-Err-clause-err
-returns-in-Err-clause-err c =
-    let rules = rules_in c.args.weighed.now in
-    let are = subst (AreOverlaps rules) (sym c.deref-overlap-items.ensures.value) c.in_ok-overlaps.ensures.overlaps in
-    c.in-Err.ensures.err (first_at Joint rules c.deref-overlap-items.result.now c.loop-overlap.overlap-index c.overlap-item.result c.loop-overlap.total are c.loop-overlap.invariant.joinable c.loop-overlap-test.true c.overlap-item.is)
-
-pub overflow_add-total : goal.overflow_add-total
-overflow_add-total c =
-    let few : length c.deref-overlap-items.result.now ≤ 2560000 = subst (λ os. length os ≤ 2560000) (sym c.deref-overlap-items.ensures.value) c.in_ok-overlaps.ensures.few in
-    let fits : c.loop-overlap.total + c.in-Ok.cases < 2 ^ 64 = total_fits Joint (rules_in c.args.weighed.now) c.deref-overlap-items.result.now c.loop-overlap.overlap-index c.overlap-item.result c.loop-overlap.total c.in-Ok.cases few c.loop-overlap-test.true c.loop-overlap.invariant.joinable c.in-Ok.ensures.ok in
-    search rules
-
-pub check_overlap-requires-clause-known : goal.check_overlap-requires-clause-known
-check_overlap-requires-clause-known c = subst (λ cs. HaveFewTypes cs c.loop-overlap.known.items) (sym c.deref.ensures.value) c.loop-overlap.invariant.known
-
-pub loop-overlap-preserved : goal.loop-overlap-preserved
-loop-overlap-preserved c = record {
-  joinable = joinable_more Joint (rules_in c.args.weighed.now) c.deref-overlap-items.result.now c.loop-overlap.overlap-index c.overlap-item.result c.loop-overlap.total c.in-Ok.cases
-      c.loop-overlap-test.true c.overlap-item.is c.loop-overlap.invariant.joinable c.in-Ok.ensures.ok;
-  known = subst (λ cs. HaveFewTypes cs c.check_overlap.new.known.items) c.deref.ensures.value c.in-Ok.ensures.known;
-}
+pub look_at_overlaps-requires : goal.look_at_overlaps-requires
+look_at_overlaps-requires c = λ _.
+    c.accepted_are_confluent.ensures Sorted (rules_in c.args.weighed.now) (rank_in (program_of c.args.weighed.now)) c.in-Ok.field-0 (lowers_rank (program_of c.args.weighed.now) c.args.weighed.now.lowers) c.in-Ok.ensures.ok
