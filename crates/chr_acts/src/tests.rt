@@ -19,6 +19,7 @@ use std::alloc::{AllocError, Global};
 use std::process::Abort;
 use std::sync::Arc;
 use std::test::Fail;
+use std::thread::Threads;
 
 /// The first symbol at a variable.
 fn pattern(variable: u8) -> Pattern
@@ -68,11 +69,14 @@ fn minimum(alloc: Global) -> Result<Program, AllocError> {
     Ok(program)
 }
 
-fn accepted(rt: &impl Abort, alloc: Global) -> Result<Arc<Accepted>, AllocError> {
+fn accepted(
+    rt: &(impl Abort + Threads + Sync),
+    alloc: Global,
+) -> Result<Arc<Accepted>, AllocError> {
     let Ok(weighed) = weigh(minimum(alloc)?) else {
         panic!(rt; "it does not lower");
     };
-    let Ok(accepted) = accept(alloc, weighed, Coverage::Joint) else {
+    let Ok(accepted) = accept(rt, alloc, weighed, Coverage::Joint) else {
         panic!(rt; "it is refused");
     };
     let Ok(shared) = Arc::new(alloc, accepted) else {
@@ -141,7 +145,7 @@ fn shows(alloc: Global, reply: &Reply, values: &[i64]) -> Result<bool, AllocErro
 }
 
 /// A board that was told 5, 3 and 9.
-fn told(rt: &impl Abort, alloc: Global) -> Result<Board, AllocError> {
+fn told(rt: &(impl Abort + Threads + Sync), alloc: Global) -> Result<Board, AllocError> {
     let mut board = Board::open(alloc, accepted(rt, alloc)?)?;
     let told = tell(rt, alloc, &[5, 3, 9])?;
     let reply = answered(rt, alloc, &mut board, told);
@@ -208,7 +212,7 @@ fn entry<'a>(rt: &impl Abort, book: &'a Book, place: u64) -> &'a Entry {
 }
 
 /// A book in which the seat 1 told 5, the seat 2 told the same and showed, and the seat 1 recalled the lease 7.
-fn four_calls(rt: &impl Abort, alloc: Global) -> Result<Book, AllocError> {
+fn four_calls(rt: &(impl Abort + Threads + Sync), alloc: Global) -> Result<Book, AllocError> {
     let mut book = Book::open(alloc, accepted(rt, alloc)?)?;
     let first = tell(rt, alloc, &[5])?;
     let second = tell(rt, alloc, &[5])?;
@@ -254,7 +258,7 @@ fn calls_are_entered_with_their_replies(rt: HostRuntime) -> Result<(), Fail> {
 }
 
 /// A book in which the seat 1 told 5, took it, and recalled its lease twice.
-fn recalled_twice(rt: &impl Abort, alloc: Global) -> Result<Book, AllocError> {
+fn recalled_twice(rt: &(impl Abort + Threads + Sync), alloc: Global) -> Result<Book, AllocError> {
     let mut book = Book::open(alloc, accepted(rt, alloc)?)?;
     let told = tell(rt, alloc, &[5])?;
     let part = store(alloc, &[5])?;

@@ -18,6 +18,7 @@ use chr_overlaps::{CaseFault, Overlap, overlaps};
 use chr_read::{ReadFault, read};
 use chr_weights::{NotLowered, Weighed, weigh};
 use std::alloc::{AllocError, Global};
+use std::thread::Threads;
 
 /// Whether a text is a program that is accepted.
 #[derive(Clone, Copy, Debug, PartialEq, Eq)]
@@ -159,10 +160,14 @@ fn refused_diagnosis(alloc: Global, refused: Refused) -> Result<Diagnosis, Alloc
     }
 }
 
-fn weighed_diagnosis(alloc: Global, weighed: Weighed) -> Result<Diagnosis, AllocError>
+fn weighed_diagnosis(
+    rt: &(impl Threads + Sync),
+    alloc: Global,
+    weighed: Weighed,
+) -> Result<Diagnosis, AllocError>
     ensures { IfOk result (IsDiagnosisOf (program_of weighed)) }
 {
-    match accept(alloc, weighed, Coverage::Joint) {
+    match accept(rt, alloc, weighed, Coverage::Joint) {
         Ok(accepted) => {
             let counts = all_counted(alloc, accepted.weighed())?;
             Ok(Diagnosis::Accepted(Census { accepted, counts }))
@@ -171,12 +176,16 @@ fn weighed_diagnosis(alloc: Global, weighed: Weighed) -> Result<Diagnosis, Alloc
     }
 }
 
-fn program_diagnosis(alloc: Global, program: Program) -> Result<Diagnosis, AllocError>
+fn program_diagnosis(
+    rt: &(impl Threads + Sync),
+    alloc: Global,
+    program: Program,
+) -> Result<Diagnosis, AllocError>
     ensures { IfOk result (IsDiagnosisOf program) }
 {
     let copy = program.copy(alloc)?;
     match weigh(program) {
-        Ok(weighed) => weighed_diagnosis(alloc, weighed),
+        Ok(weighed) => weighed_diagnosis(rt, alloc, weighed),
         Err(fault) => Ok(Diagnosis::NotLowered(Unlowered {
             program: copy,
             fault,
@@ -196,11 +205,15 @@ fn text_diagnosis(alloc: Global, text: &[u8]) -> Result<Diagnosis, AllocError>
 /// What is to be told of a text: its first bad clauses; or of the program that it is, the first rule that does not
 /// lower the weight, the first cause for which it is refused, or what was accepted.
 #[tactic(auto, using(crate::proofs::Verdicts::too_long_refused, crate::proofs::Verdicts::bad_refused))]
-pub fn diagnose(alloc: Global, text: &[u8]) -> Result<Diagnosis, AllocError>
+pub fn diagnose(
+    rt: &(impl Threads + Sync),
+    alloc: Global,
+    text: &[u8],
+) -> Result<Diagnosis, AllocError>
     ensures { IfOk result (IsDiagnosis text.now) }
 {
     match read(alloc, text) {
-        Ok(program) => program_diagnosis(alloc, program),
+        Ok(program) => program_diagnosis(rt, alloc, program),
         Err(ReadFault::Memory) => Err(AllocError),
         Err(ReadFault::TooLong) => text_diagnosis(alloc, text),
         Err(ReadFault::Bad { .. }) => text_diagnosis(alloc, text),

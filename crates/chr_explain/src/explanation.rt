@@ -7,6 +7,7 @@ use crate::diagnosis::{Diagnosis, Verdict, diagnose};
 use crate::drawing::drawing;
 use crate::telling::told_text;
 use std::alloc::{AllocError, Global};
+use std::thread::Threads;
 
 /// How a text is explained.
 #[derive(Clone, Copy, Debug, PartialEq, Eq)]
@@ -30,11 +31,16 @@ pub struct Explanation {
 
 /// Tells a person why a text is refused, and what would be right, or what was accepted.
 #[tactic(auto, using(crate::proofs::Verdicts::verdict_is))]
-pub fn explain(alloc: Global, text: &[u8], manner: Manner) -> Result<Explanation, AllocError>
+pub fn explain(
+    rt: &(impl Threads + Sync),
+    alloc: Global,
+    text: &[u8],
+    manner: Manner,
+) -> Result<Explanation, AllocError>
     ensures verdict { IfOk result (λ e. IsVerdict text.now e.verdict) }
     ensures told { IfOk result (λ e. IsDiagnosis text.now e.diagnosis) }
 {
-    let diagnosis = diagnose(alloc, text)?;
+    let diagnosis = diagnose(rt, alloc, text)?;
     let told = match manner {
         Manner::Text => told_text(alloc, text, &diagnosis, false)?,
         Manner::FullText => told_text(alloc, text, &diagnosis, true)?,

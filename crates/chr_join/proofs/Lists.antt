@@ -1,8 +1,10 @@
 -- Elements of lists: membership, what holds of each, and a list around one of its elements.
-use Rattle.std.specs.Prelude.{◌≡◌, ℕ, zero, suc, ◌+◌, ◌<◌, ◌⊎◌, Bool, true, false, cond, List, [], ◌∷◌, ◌++◌, Option, Some, None, IfNone, map, length, take, drop, get_or}
-use Rattle.std.specs.List.{All, filter}
+use Rattle.std.specs.Prelude.{◌≡◌, ℕ, zero, suc, ◌+◌, ◌<◌, ◌⊎◌, Bool, true, false, cond, MatchBool, List, [], ◌∷◌, ◌++◌, Option, Some, None, IfNone, map, length, take, drop, get_or}
+use Rattle.std.specs.List.{All, AllZip, filter}
+use mathlib.Core.Bool.{true≢false}
 use Rattle.std.proofs.Common.{refl, sym, ap, subst, ◌∙◌, arith, inl, inr}
 use Rattle.std.proofs.lemmas.List.{take-append-drop, drop_more}
+use Rattle.std.proofs.lemmas.List.Elements.{All-cons, All-nil}
 use Rattle.chr_types.specs.OrderTypes.{In}
 
 pub in_middle : {A : Type 0} (before : List A) (x : A) (after : List A) → In x (before ++ x ∷ after)
@@ -29,6 +31,17 @@ pub from_each : {A : Type 0} (P : A → Type 0) (xs : List A) → ((x : A) → I
 from_each P [] each k d l = absurd (omega (arith, l))
 from_each P (x ∷ xs) each zero d l = each x (inl refl)
 from_each P (x ∷ xs) each (suc k) d l = from_each P xs (λ y i. each y (inr i)) k d (omega (arith, l))
+
+-- what holds beside each element holds of it
+pub all_right : {A B : Type 0} (R : A → B → Type 0) (Q : B → Type 0) → ((x : A) (y : B) → R x y → Q y) → (xs : List A) (ys : List B) → AllZip R xs ys → All Q ys
+all_right R Q to [] [] h = All-nil Q
+all_right R Q to [] (y ∷ ys) h = absurd h
+all_right R Q to (x ∷ xs) [] h = absurd h
+all_right R Q to (x ∷ xs) (y ∷ ys) h = All-cons Q y ys (to x y h.0) (all_right R Q to xs ys h.1)
+
+pub match_true : (b : Bool) (T F : Type 0) → b ≡ true → MatchBool b T F → T
+match_true true T F e h = h
+match_true false T F e h = absurd (true≢false (sym e))
 
 -- Two elements of a list for which something does not hold, though it holds for all before them, are one.
 pub first_once : {A : Type 0} (P : A → Type 0) (xs ys : List A) (x y : A) (us vs : List A) → xs ++ x ∷ us ≡ ys ++ y ∷ vs → All P xs → All P ys → ¬ (P x) → ¬ (P y) → x ≡ y

@@ -15,6 +15,7 @@ use Rattle.chr_join.specs.declared.coverage.Coverage.{Coverage}
 use Rattle.chr_join.specs.declared.coverage.Coverage.TheVariants.{Joint, Sorted}
 use Rattle.chr_join.specs.Coverages.{AreCasesBy}
 use Rattle.chr_join.specs.Verdicts.{HasJoinableCasesBy, HaveJoinableCasesBy, IsFirstBy}
+use Rattle.chr_join.specs.working.Checking.{Joins}
 use Rattle.chr_join.proofs.Lists.{split_at, all_in}
 
 pub filter_few : {A : Type 0} (p : A → Bool) (xs : List A) → length (filter p xs) ≤ length xs
@@ -32,6 +33,14 @@ more_joinable coverage rules (p ∷ os) o n k h c = let e = h.4 in (h.0, h.1 + k
 pub joinable_more : (coverage : Coverage) (rules : List Rule) (os : List Overlap) (i : ℕ) (o : Overlap) (total k : ℕ) → i < length os → o ≡ get_or os i o → HaveJoinableCasesBy coverage rules (take i os) total → HasJoinableCasesBy coverage rules o k → HaveJoinableCasesBy coverage rules (take (i + 1) os) (total + k)
 joinable_more coverage rules os i o total k l e h c =
     subst (λ xs. HaveJoinableCasesBy coverage rules xs (total + k)) (sym (take_more os i o l ∙ ap (λ x. take i os ++ x ∷ []) (sym e))) (more_joinable coverage rules (take i os) o total k h c)
+
+-- so where each overlap has joinable cases, they have so many in all
+pub all_counted : (coverage : Coverage) (rules : List Rule) (os : List Overlap) → All (Joins coverage rules) os → (n : ℕ) × HaveJoinableCasesBy coverage rules os n
+all_counted coverage rules [] all = (0, refl)
+all_counted coverage rules (o ∷ os) all =
+    let h = all 0 o (omega arith) in
+    let more = all_counted coverage rules os (λ k d l. all (suc k) d (omega (arith, l))) in
+    (h.0 + more.0, (h.0, more.0, h.1, more.1, refl))
 
 -- no more values pass than there are
 mapped_few : {A B : Type 0} (f : A → B) (p : A → Bool) (xs : List A) (ys : List B) → ys ≡ map f (filter p xs) → length xs ≤ MAX_TYPES → length ys ≤ MAX_TYPES

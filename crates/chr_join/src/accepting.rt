@@ -14,14 +14,20 @@ use crate::refused::{Cause, Refused};
 use crate::sorted::check_sorted;
 use chr_weights::Weighed;
 use std::alloc::Global;
+use std::thread::Threads;
 
 /// The number of all cases, where all of them are joinable.
-fn judged(alloc: Global, weighed: &Weighed, coverage: Coverage) -> Result<u64, Cause>
+fn judged(
+    rt: &(impl Threads + Sync),
+    alloc: Global,
+    weighed: &Weighed,
+    coverage: Coverage,
+) -> Result<u64, Cause>
     ensures ok { IfOk result (IsAcceptedBy coverage (rules_in weighed.now)) }
     ensures err { IfErr result (IsRefusalBy coverage (rules_in weighed.now)) }
 {
     match coverage {
-        Coverage::Joint => check_joint(alloc, weighed),
+        Coverage::Joint => check_joint(rt, alloc, weighed),
         Coverage::Sorted => check_sorted(alloc, weighed),
     }
 }
@@ -35,7 +41,12 @@ fn judged(alloc: Global, weighed: &Weighed, coverage: Coverage) -> Result<u64, C
 /// The program is handed back with the first cause there is, where overlaps and in each its cases are taken in order: a
 /// case that fails, with its two derivations; an overlap of more than 50,000 order types, or combinations of values of
 /// its sorts; or want of memory.
-pub fn accept(alloc: Global, weighed: Weighed, coverage: Coverage) -> Result<Accepted, Refused>
+pub fn accept(
+    rt: &(impl Threads + Sync),
+    alloc: Global,
+    weighed: Weighed,
+    coverage: Coverage,
+) -> Result<Accepted, Refused>
     ensures program { IfOk result (λ a. weighed_of a ≡ weighed) }
     ensures coverage { IfOk result (λ a. coverage_of a ≡ coverage) }
     ensures accepted { IfOk result (λ a. IsAcceptedBy coverage (rules_in weighed) (cases_of a)) }
@@ -47,7 +58,7 @@ pub fn accept(alloc: Global, weighed: Weighed, coverage: Coverage) -> Result<Acc
 {
     accepted_are_confluent();
     refused_are_not_confluent();
-    match judged(alloc, &weighed, coverage) {
+    match judged(rt, alloc, &weighed, coverage) {
         Ok(cases) => match Accepted::new(alloc, weighed, coverage, cases) {
             Ok(accepted) => Ok(accepted),
             Err(failed) => Err(Refused {

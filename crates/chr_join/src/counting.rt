@@ -1,15 +1,19 @@
 //! Cases that are counted, and not looked at.
-ghost use Rattle.std.specs.Prelude.{IfOk, IfSome, List, length, ℤ, ⊤};
-ghost use Rattle.chr_types.specs.OrderTypes.{MoreTypesThan, Rises};
-ghost use Rattle.chr_overlaps.specs.declared.cases.TheConstants.{MAX_TYPES};
-ghost use Rattle.chr_join.specs.working.Counting.{AreCounts, IsCountOf, Visits};
+ghost use Rattle.std.specs.Prelude.{All, IfOk, IfSome, List, ℤ, ⊤};
+ghost use Rattle.chr_types.specs.OrderTypes.{Rises};
+ghost use Rattle.chr_join.specs.working.Counting.{AreCounts, HasFewTypes, IsCounted, IsCountOf, Visits};
 
 use chr_overlaps::Unified;
 use chr_types::{Visit, visit_types};
+use rayon::prelude::*;
 use std::alloc::{AllocError, Global};
+use std::thread::Threads;
+
+/// So many classes have many order types, among constants or not.
+const MANY_CLASSES: usize = 6;
 
 /// The most counts that are remembered.
-const MOST_COUNTS: usize = 256;
+pub(crate) const MOST_COUNTS: usize = 256;
 
 /// Counts the values at which both guards of an overlap hold.
 #[derive(Drop)]
@@ -35,7 +39,7 @@ impl Visit for Counter<'_> {
 /// The number of order types at which both guards hold.
 fn count_types(alloc: Global, unified: &Unified, constants: &[i64]) -> Result<usize, AllocError>
     requires rising { Rises constants.now }
-    requires few { ¬ MoreTypesThan MAX_TYPES (length unified.now.free.items) constants.now }
+    requires few { HasFewTypes constants.now unified.now }
     ensures { IfOk result (IsCountOf constants.now unified.now) }
 {
     let mut counter = Counter {
@@ -54,10 +58,45 @@ pub(crate) struct Count {
     pub(crate) number: usize,
 }
 
+/// The count of these guards, unless memory is refused.
+fn counted(alloc: Global, unified: Unified, constants: &[i64]) -> Option<Count>
+    requires rising { Rises constants.now }
+    requires few { HasFewTypes constants.now unified }
+    ensures { IfSome result (IsCounted constants.now) }
+{
+    match count_types(alloc, &unified, constants) {
+        Ok(number) => Some(Count { unified, number }),
+        Err(_) => None,
+    }
+}
+
+/// The counts of all these guards, shared out among threads. None stands where memory was refused.
+fn count_all(
+    rt: &(impl Threads + Sync),
+    alloc: Global,
+    guards: Vec<Unified>,
+    constants: &[i64],
+) -> Result<Vec<Option<Count>>, AllocError>
+    requires rising { Rises constants.now }
+    requires few { All (HasFewTypes constants.now) guards.items }
+    ensures { IfOk result (λ counts. AreCounts constants.now counts.items) }
+{
+    guards
+        .into_par_iter()
+        .with_min_len(1)
+        .map(
+            |unified: Unified| -> Option<Count>
+                requires { Rises constants.now × HasFewTypes constants.now unified }
+                ensures { IfSome result (IsCounted constants.entry.now) }
+            { counted(alloc, unified, constants) },
+        )
+        .collect(rt, alloc)
+}
+
 /// Counts that are remembered: copies of rules have many overlaps with the same guards.
 #[derive(Drop)]
 pub(crate) struct Counts {
-    pub(crate) entries: Vec<Count>,
+    pub(crate) entries: Vec<Option<Count>>,
 }
 
 impl Counts {
@@ -70,14 +109,33 @@ impl Counts {
         }
     }
 
+    /// Those of these guards, shared out among threads. Where all are counted in no time they are left to be counted.
+    pub(crate) fn of_all(
+        rt: &(impl Threads + Sync),
+        alloc: Global,
+        guards: Vec<Unified>,
+        constants: &[i64],
+    ) -> Result<Counts, AllocError>
+        requires rising { Rises constants.now }
+        requires few { All (HasFewTypes constants.now) guards.items }
+        ensures { IfOk result (λ counts. AreCounts constants.now counts.entries.items) }
+    {
+        if guards.iter().all(|it| it.free_classes() < MANY_CLASSES) {
+            return Ok(Counts::new(alloc));
+        }
+        let entries = count_all(rt, alloc, guards, constants)?;
+        Ok(Counts { entries })
+    }
+
     /// The count that is remembered of guards like these.
     fn known(&self, unified: &Unified) -> Option<usize>
         ensures { IfSome result (λ n. (constants : List ℤ) → AreCounts constants self.now.entries.items →
             IsCountOf constants unified.now n) }
     {
         for entry in &self.entries {
-            if entry.unified.has_guards_of(unified) {
-                return Some(entry.number);
+            match entry {
+                Some(count) if count.unified.has_guards_of(unified) => return Some(count.number),
+                _ => {}
             }
         }
         None
@@ -91,7 +149,7 @@ impl Counts {
         constants: &[i64],
     ) -> Result<usize, AllocError>
         requires rising { Rises constants.now }
-        requires few { ¬ MoreTypesThan MAX_TYPES (length unified.free.items) constants.now }
+        requires few { HasFewTypes constants.now unified }
         requires known { AreCounts constants.now self.old.entries.items }
         ensures known { IfOk result (λ _. AreCounts constants.now self.new.entries.items) }
         ensures number { IfOk result (IsCountOf constants.now unified) }
@@ -101,7 +159,7 @@ impl Counts {
         }
         let number = count_types(alloc, &unified, constants)?;
         if self.entries.len() < MOST_COUNTS {
-            self.entries.push(Count { unified, number })?;
+            self.entries.push(Some(Count { unified, number }))?;
         }
         Ok(number)
     }

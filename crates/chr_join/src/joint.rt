@@ -1,5 +1,5 @@
 //! The verdict by joint cases, overlap by overlap and case by case.
-ghost use Rattle.std.specs.Prelude.{◌≡◌, IfOk, IfErr, length};
+ghost use Rattle.std.specs.Prelude.{◌≡◌, All, IfOk, IfErr, length};
 ghost use Rattle.std.specs.Bool.{OnTrue, OnFalse};
 ghost use Rattle.chr_types.specs.OrderTypes.{Rises, MoreTypesThan};
 ghost use Rattle.chr_weights.specs.WeighedPrograms.{rules_in};
@@ -13,13 +13,13 @@ ghost use Rattle.chr_join.specs.Verdicts.{HasJoinableCasesBy, IsAcceptedBy};
 ghost use Rattle.chr_join.specs.Explanations.{IsRefusalBy};
 ghost use Rattle.chr_join.specs.declared.joint.Look.TheVariants.{AtGuards};
 ghost use Rattle.chr_join.specs.working.Checking.{HaveFewTypes, RefusesAt};
-ghost use Rattle.chr_join.specs.working.Counting.{AreCounts};
+ghost use Rattle.chr_join.specs.working.Counting.{AreCounts, HasFewTypes};
 
 use crate::checker::{Checker, told};
-use crate::counting::Counts;
-use crate::once::{accepted_are_confluent, joint_cases_join};
+use crate::counting::{Counts, MOST_COUNTS};
+use crate::once::joint_cases_join;
 use crate::refused::{Cause, TooManyTypes};
-use crate::sorted::check_sorted;
+use crate::sorted::all_join;
 use chr_confluence::listing::listed_cases;
 use chr_overlaps::cases::{MAX_TYPES, unified};
 use chr_overlaps::constants::constants;
@@ -27,6 +27,7 @@ use chr_overlaps::{Overlap, Unified, overlaps};
 use chr_types::{has_more_types, visit_types};
 use chr_weights::Weighed;
 use std::alloc::{AllocError, Global};
+use std::thread::Threads;
 
 /// Whether so many classes have no more order types than an overlap may have. Numbers that have not are remembered.
 fn are_few(
@@ -117,6 +118,90 @@ pub(crate) struct Remembered {
     pub(crate) counts: Counts,
 }
 
+/// Whether guards like these are among those.
+fn are_there(guards: &[Unified], unified: &Unified) -> bool {
+    guards.iter().any(|it| it.has_guards_of(unified))
+}
+
+/// Adds guards, unless like ones are there, or their free classes have many order types.
+fn add_guards(
+    alloc: Global,
+    guards: &mut Vec<Unified>,
+    unified: Unified,
+    constants: &[i64],
+    few: &mut Vec<usize>,
+) -> Result<(), AllocError>
+    requires rising { Rises constants.now }
+    requires few { HaveFewTypes constants.now few.old.items }
+    requires guards { All (HasFewTypes constants.now) guards.old.items }
+    ensures few { IfOk result (λ _. HaveFewTypes constants.now few.new.items) }
+    ensures guards { IfOk result (λ _. All (HasFewTypes constants.now) guards.new.items) }
+{
+    if are_there(guards, &unified) {
+        return Ok(());
+    }
+    if !are_few(alloc, unified.free_classes(), constants, few)? {
+        return Ok(());
+    }
+    guards.push(unified)?;
+    Ok(())
+}
+
+/// The different guards of overlaps with few order types, as many as are remembered.
+fn different_guards(
+    alloc: Global,
+    weighed: &Weighed,
+    overlaps: &[Overlap],
+    constants: &[i64],
+    few: &mut Vec<usize>,
+) -> Result<Vec<Unified>, AllocError>
+    requires overlaps { All (IsOverlapOf (rules_in weighed.now)) overlaps.now }
+    requires rising { Rises constants.now }
+    requires few { HaveFewTypes constants.now few.old.items }
+    ensures few { IfOk result (λ _. HaveFewTypes constants.now few.new.items) }
+    ensures guards { IfOk result (λ guards. All (HasFewTypes constants.now) guards.items) }
+{
+    let mut guards = Vec::new(alloc);
+    for overlap in overlaps {
+        if guards.len() >= MOST_COUNTS {
+            return Ok(guards);
+        }
+        let Some(unified) = unified(weighed, overlap) else {
+            continue;
+        };
+        add_guards(alloc, &mut guards, unified, constants, few)?;
+    }
+    Ok(guards)
+}
+
+/// What is known before the first overlap is looked at: of rules that are confluent the counts of all different guards.
+fn known_ahead(
+    rt: &(impl Threads + Sync),
+    alloc: Global,
+    look: Look,
+    weighed: &Weighed,
+    overlaps: &[Overlap],
+    constants: &[i64],
+) -> Result<Remembered, AllocError>
+    requires overlaps { All (IsOverlapOf (rules_in weighed.now)) overlaps.now }
+    requires rising { Rises constants.now }
+    ensures few { IfOk result (λ known. HaveFewTypes constants.now known.few.items) }
+    ensures counts { IfOk result (λ known. AreCounts constants.now known.counts.entries.items) }
+{
+    let mut few = Vec::new(alloc);
+    match look {
+        Look::AtEnds => Ok(Remembered {
+            few,
+            counts: Counts::new(alloc),
+        }),
+        Look::AtGuards => {
+            let guards = different_guards(alloc, weighed, overlaps, constants, &mut few)?;
+            let counts = Counts::of_all(rt, alloc, guards, constants)?;
+            Ok(Remembered { few, counts })
+        }
+    }
+}
+
 /// The number of cases of an overlap, where all of them are joinable.
 fn look_at_overlap(
     alloc: Global,
@@ -156,17 +241,19 @@ fn look_at_overlap(
 }
 
 /// The number of all joint cases, where all of them are joinable.
-fn look_at_overlaps(alloc: Global, look: Look, weighed: &Weighed) -> Result<u64, Cause>
+fn look_at_overlaps(
+    rt: &(impl Threads + Sync),
+    alloc: Global,
+    look: Look,
+    weighed: &Weighed,
+) -> Result<u64, Cause>
     requires { look ≡ AtGuards → Confluent (rules_in weighed.now) }
     ensures ok { IfOk result (IsAcceptedBy Joint (rules_in weighed.now)) }
     ensures err { IfErr result (IsRefusalBy Joint (rules_in weighed.now)) }
 {
     let constants = constants(alloc, weighed.program().rules())?;
     let overlaps = overlaps(alloc, weighed)?;
-    let mut known = Remembered {
-        few: Vec::new(alloc),
-        counts: Counts::new(alloc),
-    };
+    let mut known = known_ahead(rt, alloc, look, weighed, &overlaps, &constants)?;
     let mut total: u64 = 0;
     for overlap in &overlaps {
         match look_at_overlap(alloc, look, weighed, overlap, &constants, &mut known) {
@@ -179,14 +266,17 @@ fn look_at_overlaps(alloc: Global, look: Look, weighed: &Weighed) -> Result<u64,
 
 /// The number of all joint cases, where all of them are joinable. Sorted cases are far fewer and are looked at first:
 /// where all of them are joinable, the joint ones are too, and are only counted.
-pub(crate) fn check_joint(alloc: Global, weighed: &Weighed) -> Result<u64, Cause>
+pub(crate) fn check_joint(
+    rt: &(impl Threads + Sync),
+    alloc: Global,
+    weighed: &Weighed,
+) -> Result<u64, Cause>
     ensures ok { IfOk result (IsAcceptedBy Joint (rules_in weighed.now)) }
     ensures err { IfErr result (IsRefusalBy Joint (rules_in weighed.now)) }
 {
-    accepted_are_confluent();
-    match check_sorted(alloc, weighed) {
-        Ok(_) => look_at_overlaps(alloc, Look::AtGuards, weighed),
-        Err(Cause::Memory) => Err(Cause::Memory),
-        Err(_) => look_at_overlaps(alloc, Look::AtEnds, weighed),
+    if all_join(rt, alloc, weighed)? {
+        look_at_overlaps(rt, alloc, Look::AtGuards, weighed)
+    } else {
+        look_at_overlaps(rt, alloc, Look::AtEnds, weighed)
     }
 }

@@ -1,6 +1,8 @@
 //! The verdict by sorted cases, overlap by overlap and case by case.
-ghost use Rattle.std.specs.Prelude.{◌≡◌, IfOk, IfErr};
+ghost use Rattle.std.specs.Prelude.{◌≡◌, All, IfOk, IfErr};
+ghost use Rattle.std.specs.Bool.{OnTrue};
 ghost use Rattle.chr_weights.specs.WeighedPrograms.{rules_in};
+ghost use Rattle.chr_confluence.specs.Confluence.{Confluent};
 ghost use Rattle.chr_sorts.specs.SortedCases.{class_sorts};
 ghost use Rattle.chr_overlaps.specs.OverlapLists.{IsOverlapOf};
 ghost use Rattle.chr_overlaps.specs.declared.cases.TheConstants.{MAX_TYPES};
@@ -12,16 +14,22 @@ ghost use Rattle.chr_kinds.specs.SortedCaseLists.{MoreCombinationsThan};
 ghost use Rattle.chr_join.specs.declared.coverage.Coverage.TheVariants.{Sorted};
 ghost use Rattle.chr_join.specs.Verdicts.{HasJoinableCasesBy, IsAcceptedBy};
 ghost use Rattle.chr_join.specs.Explanations.{IsRefusalBy};
-ghost use Rattle.chr_join.specs.working.Checking.{RefusesAt};
+ghost use Rattle.chr_join.specs.working.Checking.{Joins, RefusesAt};
 
 use crate::checker::{Checker, told};
+use crate::once::accepted_are_confluent;
 use crate::refused::{Cause, TooManyTypes};
 use chr_kinds::{Sorting, class_sorts, finest_sorts, has_more_combinations, visit_combinations};
 use chr_overlaps::cases::{MAX_TYPES, rule_of, sorted_unified};
 use chr_overlaps::{Overlap, Unified, overlaps};
 use chr_sorts::laws::sorted_cases;
 use chr_weights::Weighed;
+use rayon::prelude::*;
 use std::alloc::{AllocError, Global};
+use std::thread::Threads;
+
+/// So many overlaps are looked at before threads are started.
+const FEW_OVERLAPS: usize = 32;
 
 /// The sorts of an overlap's classes.
 fn sorts_at(
@@ -112,4 +120,67 @@ pub(crate) fn check_sorted(alloc: Global, weighed: &Weighed) -> Result<u64, Caus
         }
     }
     Ok(total)
+}
+
+/// Whether all sorted cases of an overlap are joinable. False is also answered where there are too many, or where memory
+/// is refused.
+fn overlap_joins(alloc: Global, weighed: &Weighed, sorting: &Sorting, overlap: &Overlap) -> bool
+    requires overlap { IsOverlapOf (rules_in weighed.now) overlap.now }
+    requires finest { AreFinest (rules_in weighed.now) (sorts_of sorting.now) }
+    ensures { OnTrue result (Joins Sorted (rules_in weighed.now) overlap.now) }
+{
+    check_overlap(alloc, weighed, sorting, overlap).is_ok()
+}
+
+/// Whether all sorted cases of these overlaps are joinable, one overlap after the other.
+fn few_join(alloc: Global, weighed: &Weighed, sorting: &Sorting, overlaps: &[Overlap]) -> bool
+    requires overlaps { All (IsOverlapOf (rules_in weighed.now)) overlaps.now }
+    requires finest { AreFinest (rules_in weighed.now) (sorts_of sorting.now) }
+    ensures { OnTrue result (All (Joins Sorted (rules_in weighed.now)) overlaps.now) }
+{
+    for overlap in overlaps {
+        if !overlap_joins(alloc, weighed, sorting, overlap) {
+            return false;
+        }
+    }
+    true
+}
+
+/// The same, shared out among threads.
+fn many_join(
+    rt: &(impl Threads + Sync),
+    alloc: Global,
+    weighed: &Weighed,
+    sorting: &Sorting,
+    overlaps: &[Overlap],
+) -> bool
+    requires overlaps { All (IsOverlapOf (rules_in weighed.now)) overlaps.now }
+    requires finest { AreFinest (rules_in weighed.now) (sorts_of sorting.now) }
+    ensures { OnTrue result (All (Joins Sorted (rules_in weighed.now)) overlaps.now) }
+{
+    overlaps.par_iter().all(
+        rt,
+        |overlap: &Overlap| -> bool
+            requires { IsOverlapOf (rules_in weighed.now) overlap.now × AreFinest (rules_in weighed.now) (sorts_of sorting.now) }
+            ensures { OnTrue result (Joins Sorted (rules_in weighed.entry.now) overlap.now) }
+        { overlap_joins(alloc, weighed, sorting, overlap) },
+    )
+}
+
+/// Whether all sorted cases of the rules are joinable. Then the rules are confluent.
+pub(crate) fn all_join(
+    rt: &(impl Threads + Sync),
+    alloc: Global,
+    weighed: &Weighed,
+) -> Result<bool, AllocError>
+    ensures { IfOk result (λ joins. OnTrue joins (Confluent (rules_in weighed.now))) }
+{
+    accepted_are_confluent();
+    let sorting = finest_sorts(alloc, weighed.program())?;
+    let overlaps = overlaps(alloc, weighed)?;
+    let (first, rest) = overlaps.split_at(overlaps.len().min(FEW_OVERLAPS));
+    if !few_join(alloc, weighed, &sorting, first) {
+        return Ok(false);
+    }
+    Ok(many_join(rt, alloc, weighed, &sorting, rest))
 }

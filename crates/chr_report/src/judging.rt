@@ -10,6 +10,7 @@ use chr_join::{Accepted, Coverage, accept};
 use chr_read::read;
 use chr_weights::{Weighed, weigh};
 use std::alloc::{AllocError, Global};
+use std::thread::Threads;
 
 /// A program that is accepted, or the line for a text that is refused.
 #[derive(Drop)]
@@ -19,10 +20,15 @@ pub(crate) enum Judged {
 }
 
 /// Judges a program in which each rule lowers the weight.
-fn judge_weighed(alloc: Global, weighed: Weighed, coverage: Coverage) -> Result<Judged, AllocError>
+fn judge_weighed(
+    rt: &(impl Threads + Sync),
+    alloc: Global,
+    weighed: Weighed,
+    coverage: Coverage,
+) -> Result<Judged, AllocError>
     ensures { IfOk result (IsJudged coverage (Ok (program_of weighed))) }
 {
-    match accept(alloc, weighed, coverage) {
+    match accept(rt, alloc, weighed, coverage) {
         Ok(accepted) => Ok(Judged::Accepted(accepted)),
         Err(refused) => {
             let line = refusal_line(alloc, refused.weighed.program(), &refused.cause)?;
@@ -31,12 +37,17 @@ fn judge_weighed(alloc: Global, weighed: Weighed, coverage: Coverage) -> Result<
     }
 }
 
-fn judge_program(alloc: Global, program: Program, coverage: Coverage) -> Result<Judged, AllocError>
+fn judge_program(
+    rt: &(impl Threads + Sync),
+    alloc: Global,
+    program: Program,
+    coverage: Coverage,
+) -> Result<Judged, AllocError>
     ensures { IfOk result (IsJudged coverage (Ok program)) }
 {
     let paired = program.has_pairs();
     match weigh(program) {
-        Ok(weighed) => judge_weighed(alloc, weighed, coverage),
+        Ok(weighed) => judge_weighed(rt, alloc, weighed, coverage),
         Err(fault) => {
             let line = not_lowered_line(alloc, paired, &fault)?;
             Ok(Judged::Refused(line))
@@ -45,11 +56,16 @@ fn judge_program(alloc: Global, program: Program, coverage: Coverage) -> Result<
 }
 
 /// Judges a program text, by the cases that the coverage looks at.
-pub(crate) fn judge(alloc: Global, text: &[u8], coverage: Coverage) -> Result<Judged, AllocError>
+pub(crate) fn judge(
+    rt: &(impl Threads + Sync),
+    alloc: Global,
+    text: &[u8],
+    coverage: Coverage,
+) -> Result<Judged, AllocError>
     ensures { IfOk result (IsJudgedText coverage text.now) }
 {
     match read(alloc, text) {
-        Ok(program) => judge_program(alloc, program, coverage),
+        Ok(program) => judge_program(rt, alloc, program, coverage),
         Err(fault) => {
             let line = fault_line(alloc, &fault)?;
             Ok(Judged::Refused(line))

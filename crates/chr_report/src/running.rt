@@ -24,6 +24,7 @@ use chr_device::{RunFault, Settings, Verb, Watched, read_all, write_whole};
 use chr_join::Accepted;
 use std::alloc::{AllocError, Global};
 use std::io::{Read, Write};
+use std::thread::Threads;
 
 /// Whether a program was read and accepted: each of its rules lowers the weight, and each case of each overlap joins.
 #[derive(Clone, Copy, Debug, PartialEq, Eq)]
@@ -73,6 +74,7 @@ fn answer_program(
 
 /// The whole output for an input.
 pub(crate) fn output_of(
+    rt: &(impl Threads + Sync),
     alloc: Global,
     verb: Verb,
     wanted: Wanted,
@@ -82,7 +84,7 @@ pub(crate) fn output_of(
     ensures { IfOk result (λ o. IsOutput verb wanted input.now o.status (string_bytes o.text)) }
 {
     let (text, rest) = split(input);
-    match judge(alloc, text, wanted.coverage)? {
+    match judge(rt, alloc, text, wanted.coverage)? {
         Judged::Accepted(accepted) => {
             let text = answer_program(alloc, accepted, wanted, asked(verb, rest))?;
             Ok(Output {
@@ -103,6 +105,7 @@ pub(crate) fn output_of(
 /// and nothing where it was the reader. `Memory` where no memory was left and neither has failed: nothing is written
 /// then.
 pub fn run<R: Read, W: Write>(
+    rt: &(impl Threads + Sync),
     alloc: Global,
     reader: &mut Watched<R>,
     writer: &mut Watched<W>,
@@ -126,6 +129,7 @@ pub fn run<R: Read, W: Write>(
 {
     let input = read_all(alloc, reader)?;
     let output = output_of(
+        rt,
         alloc,
         settings.command,
         Wanted::from_settings(settings),

@@ -36,6 +36,7 @@ use chr_device::{RunFault, Settings, Verb};
 use chr_join::Accepted;
 use chr_read::MAX_TEXT;
 use std::alloc::Global;
+use std::thread::Threads;
 
 /// The most bytes of a read.
 const CHUNK: usize = 4_096;
@@ -167,6 +168,7 @@ fn serve_program<T: Wire>(
 
 /// Sends the verdict on a program text, and answers the commands of one that is accepted.
 fn serve_text<T: Wire>(
+    rt: &(impl Threads + Sync),
     alloc: Global,
     text: &[u8],
     wanted: Wanted,
@@ -185,7 +187,7 @@ fn serve_text<T: Wire>(
     ensures device { IsErrOf result Device → T.is_broken wire.new ≡ true }
     ensures memory { IsErrOf result Memory → T.is_broken wire.new ≡ T.is_broken wire.old }
 {
-    match judge(alloc, text, wanted.coverage)? {
+    match judge(rt, alloc, text, wanted.coverage)? {
         Judged::Accepted(accepted) => {
             serve_program(alloc, accepted, wanted, first, wire)?;
             Ok(Status::Accepted)
@@ -199,6 +201,7 @@ fn serve_text<T: Wire>(
 
 /// Sends the output of an input.
 fn send_output<T: Wire>(
+    rt: &(impl Threads + Sync),
     alloc: Global,
     input: &[u8],
     wanted: Wanted,
@@ -214,13 +217,18 @@ fn send_output<T: Wire>(
     ensures device { IsErrOf result Device → T.is_broken wire.new ≡ true }
     ensures memory { IsErrOf result Memory → T.is_broken wire.new ≡ T.is_broken wire.old }
 {
-    let output = output_of(alloc, Verb::Run, wanted, input)?;
+    let output = output_of(rt, alloc, Verb::Run, wanted, input)?;
     wire.send(output.text.as_bytes())?;
     Ok(output.status)
 }
 
 /// Reads the program text, sends the verdict, and then the answers of the commands as they come.
-fn serve_wanted<T: Wire>(alloc: Global, wire: &mut T, wanted: Wanted) -> Result<Status, RunFault>
+fn serve_wanted<T: Wire>(
+    rt: &(impl Threads + Sync),
+    alloc: Global,
+    wire: &mut T,
+    wanted: Wanted,
+) -> Result<Status, RunFault>
     requires unbroken { T.is_broken wire.old ≡ false }
     requires replicas { (1 ≤ wanted.replicas) × (wanted.replicas ≤ MAX_REPLICAS) }
     requires prompt { (w : T) → AllAnswered (T.unread wire.old) (T.unread w) (T.sent wire.old) (T.sent w)
@@ -238,14 +246,14 @@ fn serve_wanted<T: Wire>(alloc: Global, wire: &mut T, wanted: Wanted) -> Result<
     for _turn in 0..u64::MAX {
         let n = wire.wait(&mut chunk)?;
         if n == 0 {
-            return send_output(alloc, &input, wanted, wire);
+            return send_output(rt, alloc, &input, wanted, wire);
         }
         input.extend_from_slice(&chunk[..n])?;
         if let Some((text, first)) = divided(&input) {
-            return serve_text(alloc, text, wanted, first, wire);
+            return serve_text(rt, alloc, text, wanted, first, wire);
         }
         if input.len() > MOST_TEXT {
-            return send_output(alloc, &input, wanted, wire);
+            return send_output(rt, alloc, &input, wanted, wire);
         }
     }
     wire.fail();
@@ -261,7 +269,12 @@ fn serve_wanted<T: Wire>(alloc: Global, wire: &mut T, wanted: Wanted) -> Result<
 ///
 /// `Device` where the wire has failed, and `Memory` where no memory was left and it has not. Nothing, or a beginning of
 /// the input's output is sent then.
-pub fn serve<T: Wire>(alloc: Global, wire: &mut T, settings: Settings) -> Result<Status, RunFault>
+pub fn serve<T: Wire>(
+    rt: &(impl Threads + Sync),
+    alloc: Global,
+    wire: &mut T,
+    settings: Settings,
+) -> Result<Status, RunFault>
     requires unbroken { T.is_broken wire.old ≡ false }
     requires limits { IsWithinLimits settings }
     requires plain { IsPlain settings }
@@ -277,5 +290,5 @@ pub fn serve<T: Wire>(alloc: Global, wire: &mut T, settings: Settings) -> Result
     ensures device { IsErrOf result Device → T.is_broken wire.new ≡ true }
     ensures memory { IsErrOf result Memory → T.is_broken wire.new ≡ false }
 {
-    serve_wanted(alloc, wire, Wanted::from_settings(settings))
+    serve_wanted(rt, alloc, wire, Wanted::from_settings(settings))
 }

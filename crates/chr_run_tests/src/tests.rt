@@ -6,6 +6,7 @@ mod serving;
 
 use chr_report::{RunFault, Settings, Status, Style, Verb, Watched, run};
 use std::alloc::Global;
+use std::thread::Threads;
 
 /// A run. Each number is 1.
 const PLAIN: Settings = Settings {
@@ -24,13 +25,18 @@ const PLAIN: Settings = Settings {
 const ROOM: usize = 131_072;
 
 /// The status for the input, and all that was written.
-fn outcome(alloc: Global, settings: Settings, input: &[u8]) -> Result<(Status, Vec<u8>), RunFault>
+fn outcome(
+    rt: &(impl Threads + Sync),
+    alloc: Global,
+    settings: Settings,
+    input: &[u8],
+) -> Result<(Status, Vec<u8>), RunFault>
     requires limits { IsWithinLimits settings }
     requires plain { IsPlain settings }
 {
     let mut reader = Watched::of(input);
     let mut writer = Watched::of(Vec::with_capacity(alloc, ROOM)?);
-    let status = run(alloc, &mut reader, &mut writer, settings)?;
+    let status = run(rt, alloc, &mut reader, &mut writer, settings)?;
     Ok((status, writer.into_inner()))
 }
 
@@ -38,16 +44,20 @@ fn outcome(alloc: Global, settings: Settings, input: &[u8]) -> Result<(Status, V
 const ROUTES: &[u8] = b":- chr_constraint path/3. path(X,Y,D) \\ path(X,Y,E) <=> D =< E | true.";
 
 /// The verdict on routes, by joint or by sorted cases.
-fn routes_verdict(alloc: Global, wide: bool) -> Result<(Status, Vec<u8>), RunFault> {
-    outcome(alloc, Settings { wide, ..PLAIN }, ROUTES)
+fn routes_verdict(
+    rt: &(impl Threads + Sync),
+    alloc: Global,
+    wide: bool,
+) -> Result<(Status, Vec<u8>), RunFault> {
+    outcome(rt, alloc, Settings { wide, ..PLAIN }, ROUTES)
 }
 
 #[test]
 fn a_wide_run_looks_at_sorted_cases(rt: HostRuntime) -> Result<(), RunFault> {
-    let (status, text) = routes_verdict(rt.alloc(), true)?;
+    let (status, text) = routes_verdict(&rt, rt.alloc(), true)?;
     assert_eq!(rt; status, Status::Accepted);
     assert_eq!(rt; text.as_slice(), b"accepted: rules 1, cases 17\n");
-    let (_, text) = routes_verdict(rt.alloc(), false)?;
+    let (_, text) = routes_verdict(&rt, rt.alloc(), false)?;
     assert_eq!(rt; text.as_slice(), b"accepted: rules 1, cases 541\n");
     Ok(())
 }

@@ -12,6 +12,7 @@ use chr_explain::{Manner, Verdict, explain};
 use chr_report::{RunFault, Status, Streams, program_text};
 use std::alloc::Global;
 use std::io::{Read, Write};
+use std::thread::Threads;
 
 /// How an explanation is to be written: a drawing has all that there is in any case.
 fn manner_of(style: Style) -> Manner {
@@ -39,6 +40,7 @@ fn status_of(verdict: Verdict) -> Status
 /// `Device` where the reader or the writer has failed, and `Memory` where no memory was left: nothing is written then.
 #[tactic(auto, using(crate::proofs::RefusedWords::appends_nothing))]
 pub(crate) fn explain_input<R: Read, W: Write>(
+    rt: &(impl Threads + Sync),
     alloc: Global,
     streams: &mut Streams<R, W>,
     style: Style,
@@ -48,7 +50,7 @@ pub(crate) fn explain_input<R: Read, W: Write>(
         (W.contents (writer_of streams.new)) [] }
 {
     let input = read_all(alloc, &mut streams.reader)?;
-    let explanation = explain(alloc, program_text(&input), manner_of(style))?;
+    let explanation = explain(rt, alloc, program_text(&input), manner_of(style))?;
     write_whole(&mut streams.writer, explanation.text.as_bytes())?;
     Ok(status_of(explanation.verdict))
 }

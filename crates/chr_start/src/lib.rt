@@ -29,6 +29,7 @@ use std::env::Args;
 use std::io::{Read, Write};
 use std::process::ExitCode;
 use std::rt::Env;
+use std::thread::Threads;
 use std::{env, io};
 
 /// The exit status of a run.
@@ -46,6 +47,7 @@ fn exit_code(outcome: Result<Status, RunFault>) -> ExitCode
 /// Does what these settings ask for.
 #[tactic(auto, using(crate::proofs::Served::service_ends, crate::proofs::VerdictEnds::explanation_ends))]
 fn run_settings<R: Read, W: Write>(
+    rt: &(impl Threads + Sync),
     alloc: Global,
     streams: &mut Streams<R, W>,
     settings: Settings,
@@ -62,13 +64,13 @@ fn run_settings<R: Read, W: Write>(
         (W.contents (writer_of streams.new)) (exit_status result) }
 {
     if settings.command == Verb::Explain {
-        return exit_code(explain_input(alloc, streams, settings.style));
+        return exit_code(explain_input(rt, alloc, streams, settings.style));
     }
     if settings.command == Verb::Serve {
-        return exit_code(serve(alloc, streams, settings));
+        return exit_code(serve(rt, alloc, streams, settings));
     }
     let Streams { reader, writer } = streams;
-    exit_code(run(alloc, reader, writer, settings))
+    exit_code(run(rt, alloc, reader, writer, settings))
 }
 
 /// The exit status for words that gave no settings. What `clap` says of them is told on the standard error, with the
@@ -92,7 +94,7 @@ fn refuse_words(rt: &(impl Eprint + AllocGlobal), words: &[String], fault: &Word
 /// Does what the words ask for, of which the first is the program's name, and gives the status to end with. Words that
 /// `clap` refuses are told on the standard error; nothing is read or written then.
 pub fn run_words<R: Read, W: Write>(
-    rt: &(impl Eprint + AllocGlobal),
+    rt: &(impl Eprint + AllocGlobal + Threads + Sync),
     words: &[String],
     streams: &mut Streams<R, W>,
 ) -> ExitCode
@@ -110,7 +112,7 @@ pub fn run_words<R: Read, W: Write>(
     ensures untouched { faults_of (map string_bytes words.now) ≢ [] → streams.new ≡ streams.old }
 {
     match read_words(rt.alloc(), words) {
-        Ok(settings) => run_settings(rt.alloc(), streams, settings),
+        Ok(settings) => run_settings(rt, rt.alloc(), streams, settings),
         Err(fault) => refuse_words(rt, words, &fault),
     }
 }
@@ -146,7 +148,7 @@ fn words(rt: &(impl Env + AllocGlobal)) -> io::Result<Vec<String>> {
 
 /// Does what the program's words ask for, and gives the status to end with.
 pub fn start<R: Read, W: Write>(
-    rt: &(impl Env + Eprint + AllocGlobal),
+    rt: &(impl Env + Eprint + AllocGlobal + Threads + Sync),
     streams: &mut Streams<R, W>,
 ) -> ExitCode
     requires reads { has_failed streams.old.reader ≡ false }

@@ -10,7 +10,7 @@ use Rattle.chr_overlaps.specs.declared.cases.Case.{Case}
 use Rattle.chr_join.specs.declared.coverage.Coverage.{Coverage}
 use Rattle.chr_join.specs.declared.refused.Cause.{Cause}
 use Rattle.chr_join.specs.Sides.{SideEnds}
-use Rattle.chr_join.specs.Verdicts.{IsFirstBy}
+use Rattle.chr_join.specs.Verdicts.{HasJoinableCasesBy, IsFirstBy}
 use Rattle.chr_join.specs.Explanations.{IsRefusalBy}
 
 -- Both sides of the case end in these stores, which differ.
@@ -22,6 +22,10 @@ pub record EndApart (rules : List Rule) (c : Case) (ends : Store × Store) : Typ
 -- The cause is that of the rules, if this overlap is the first that has one.
 abbrev pub RefusesAt : Coverage → List Rule → Overlap → Cause → Type 0
 RefusesAt coverage rules o e = IsFirstBy coverage rules o → IsRefusalBy coverage rules e
+
+-- The overlap has a list of cases, and each is joinable.
+abbrev pub Joins : Coverage → List Rule → Overlap → Type 0
+Joins coverage rules o = (n : ℕ) × HasJoinableCasesBy coverage rules o n
 
 -- So many classes have no more order types than an overlap may have, for each of these numbers.
 abbrev pub HaveFewTypes : List ℤ → List ℕ → Type 0

@@ -1,15 +1,17 @@
 -- Joint cases of confluent rules, which are counted and not looked at.
-use Rattle.std.specs.Prelude.{◌≡◌, ℕ, ℤ, ◌+◌, ◌<◌, ◌^◌, Bool, true, false, List, length}
+use Rattle.std.specs.Prelude.{◌≡◌, ℕ, ℤ, ◌+◌, ◌<◌, ◌^◌, Bool, true, false, List, length, Option, IfSome}
 use Rattle.std.specs.List.{All, filter}
 use Rattle.chr_base.specs.declared.atom.Atom.{Atom}
 use Rattle.chr_base.specs.declared.rule.Rule.{Rule}
 use Rattle.chr_base.specs.Rules.{guard_holds}
+use Rattle.chr_types.specs.OrderTypes.{MoreTypesThan}
 use Rattle.chr_types.specs.Representatives.{AreTypes}
 use Rattle.chr_confluence.specs.Confluence.{Confluent}
 use Rattle.chr_confluence.specs.Lowering.{RulesLower}
 use Rattle.chr_confluence.specs.Representatives.{assignment}
 use Rattle.chr_overlaps.specs.declared.overlap.Overlap.{Overlap}
 use Rattle.chr_overlaps.specs.declared.cases.Case.{Case}
+use Rattle.chr_overlaps.specs.declared.cases.TheConstants.{MAX_TYPES}
 use Rattle.chr_overlaps.specs.declared.unify.Unified.{Unified}
 use Rattle.chr_overlaps.specs.CaseLists.{AreCases}
 use Rattle.chr_overlaps.specs.OverlapLists.{IsOverlapOf}
@@ -33,9 +35,16 @@ abbrev pub IsCountOf : List ℤ → Unified → ℕ → Type 0
 IsCountOf constants u n =
     (rs : List (List ℤ)) × AreTypes (length u.free.items) constants rs × (n ≡ length (filter (holds_at u) rs))
 
+abbrev pub IsCounted : List ℤ → Count → Type 0
+IsCounted constants k = IsCountOf constants k.unified k.number
+
 -- what is remembered is so
-abbrev pub AreCounts : List ℤ → List Count → Type 0
-AreCounts constants ks = All (λ k. IsCountOf constants k.unified k.number) ks
+abbrev pub AreCounts : List ℤ → List (Option Count) → Type 0
+AreCounts constants ks = All (λ k. IfSome k (IsCounted constants)) ks
+
+-- the free classes have no more order types than an overlap may have
+abbrev pub HasFewTypes : List ℤ → Unified → Type 0
+HasFewTypes constants u = ¬ MoreTypesThan MAX_TYPES (length u.free.items) constants
 
 -- each joint case of confluent rules is joinable
 abbrev pub JointCasesJoin : Type 0

@@ -7,9 +7,10 @@ use chr_replica::{Board, Refusal};
 use std::alloc::Global;
 use std::process::Abort;
 use std::sync::Arc;
+use std::thread::Threads;
 
 /// A board of the program that was told nothing.
-pub fn opened(rt: &impl Abort, alloc: Global, text: &str) -> Board {
+pub fn opened(rt: &(impl Abort + Threads + Sync), alloc: Global, text: &str) -> Board {
     let Ok(program) = Arc::new(alloc, accepted(rt, alloc, text)) else {
         panic!(rt; "out of memory");
     };
@@ -32,7 +33,7 @@ pub fn tell(
 }
 
 /// A board that was told one operation of these atoms, with number 1.
-pub fn told(rt: &impl Abort, alloc: Global, text: &str, atoms: &str) -> Board {
+pub fn told(rt: &(impl Abort + Threads + Sync), alloc: Global, text: &str, atoms: &str) -> Board {
     let mut board = opened(rt, alloc, text);
     if tell(rt, alloc, &mut board, text, 1, atoms) != Ok(Added::New) {
         panic!(rt; "not told: {atoms}");

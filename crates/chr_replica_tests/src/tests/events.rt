@@ -8,6 +8,7 @@ use chr_ops::Added;
 use chr_worlds::{Answer, Event, World};
 use std::alloc::Global;
 use std::process::Abort;
+use std::thread::Threads;
 
 /// How many events there are. They have the places 0, 1 and so on.
 const EVENTS: usize = 10;
@@ -125,7 +126,7 @@ fn has_pool(rt: &impl Abort, alloc: Global, world: &mut World, text: &str) -> bo
 }
 
 /// A world in which the first events happened, one by one, up to this place. Each was answered as it should be.
-fn after(rt: &impl Abort, alloc: Global, last: usize) -> World {
+fn after(rt: &(impl Abort + Threads + Sync), alloc: Global, last: usize) -> World {
     let mut world = world_of(rt, alloc, MINIMUM, 1);
     for place in 0..=last {
         let answer = answer(rt, alloc, &mut world, event(rt, alloc, place));

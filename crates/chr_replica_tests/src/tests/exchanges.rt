@@ -5,6 +5,7 @@ use chr_ops::{Added, Op, OpId};
 use chr_replica::{Board, Refusal};
 use std::alloc::Global;
 use std::process::Abort;
+use std::thread::Threads;
 
 #[test]
 fn repeats_are_told_again(rt: HostRuntime) {
@@ -132,7 +133,7 @@ pub fn sync(rt: &impl Abort, alloc: Global, from: &Board, to: &mut Board) -> u64
 }
 
 /// A board that was told two operations with numbers 2 and 3, of three atoms together.
-fn told_two(rt: &impl Abort, alloc: Global) -> Board {
+fn told_two(rt: &(impl Abort + Threads + Sync), alloc: Global) -> Board {
     let mut board = opened(rt, alloc, MINIMUM);
     let first = tell(rt, alloc, &mut board, MINIMUM, 2, "min(4)");
     let second = tell(rt, alloc, &mut board, MINIMUM, 3, "min(3), min(8)");

@@ -7,6 +7,7 @@ use chr_ops::{Added, MAX_OPERATION, MAX_TOLD, Op, OpId};
 use chr_replica::{Board, Limit, Refusal};
 use std::alloc::Global;
 use std::process::Abort;
+use std::thread::Threads;
 
 /// A program without rules.
 const ATOMS: &str = ":- chr_constraint a/0.";
@@ -42,7 +43,7 @@ fn tell(
 }
 
 /// A board that was told the most atoms, by operations of the greatest size with the numbers 0, 1 and so on.
-fn full(rt: &impl Abort, alloc: Global) -> Board {
+fn full(rt: &(impl Abort + Threads + Sync), alloc: Global) -> Board {
     let mut board = opened(rt, alloc, ATOMS);
     let size = MAX_OPERATION as u64;
     for number in 0..OPERATIONS {

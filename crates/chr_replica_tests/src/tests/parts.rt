@@ -4,6 +4,7 @@ use chr_base::bag::Bag;
 use chr_join::{Accepted, Done, Lease};
 use std::alloc::Global;
 use std::process::Abort;
+use std::thread::Threads;
 
 /// What came of the lease, by resting its part.
 fn rested(rt: &impl Abort, alloc: Global, program: &Accepted, lease: Lease) -> Done {
@@ -67,7 +68,7 @@ fn rests(
 
 /// Whether the lease of these atoms is rested to this store, and a copy of it too.
 fn rests_to(
-    rt: &impl Abort,
+    rt: &(impl Abort + Threads + Sync),
     alloc: Global,
     text: &str,
     number: u64,

@@ -19,6 +19,7 @@ use chr_worlds::World;
 use std::alloc::Global;
 use std::process::Abort;
 use std::sync::Arc;
+use std::thread::Threads;
 
 /// The events of each world, without those of its end.
 const EVENTS: u32 = 40;
@@ -26,7 +27,7 @@ const EVENTS: u32 = 40;
 /// The worlds of each program. Interpreted they take a hundred times longer.
 const WORLDS: u64 = 1_000;
 
-fn shared(rt: &impl Abort, alloc: Global, text: &str) -> Arc<Accepted> {
+fn shared(rt: &(impl Abort + Threads + Sync), alloc: Global, text: &str) -> Arc<Accepted> {
     Arc::new(alloc, accepted(rt, alloc, text)).expect(rt, "memory")
 }
 
@@ -41,7 +42,7 @@ fn replicas(rt: &impl Abort, alloc: Global, count: u32) -> Vec<Replica> {
 
 /// A world of 2 to 5 replicas to which nothing has happened.
 fn opened(
-    rt: &impl Abort,
+    rt: &(impl Abort + Threads + Sync),
     alloc: Global,
     family: Family,
     own: &Arc<Accepted>,
@@ -74,7 +75,7 @@ fn play(rt: &impl Abort, alloc: Global, game: &mut Game) {
 }
 
 /// Plays the worlds of a program, with the seeds from this one on.
-fn play_all(rt: &impl Abort, alloc: Global, family: Family, first: u64) -> Seen {
+fn play_all(rt: &(impl Abort + Threads + Sync), alloc: Global, family: Family, first: u64) -> Seen {
     let own = shared(rt, alloc, family.text());
     let foreign = shared(rt, alloc, family.foreign_text());
     let mut seen = Seen::default();

@@ -6,6 +6,7 @@ use chr_base::derivation::Step;
 use chr_join::{Accepted, Lease, NotStepped, StepFault};
 use std::alloc::Global;
 use std::process::Abort;
+use std::thread::Threads;
 
 /// The number of each lease here.
 const NUMBER: u64 = 7;
@@ -51,7 +52,13 @@ fn ends(
 }
 
 /// Whether these steps on a lease of these atoms end in this store.
-fn end_in(rt: &impl Abort, alloc: Global, atoms: &str, steps: &[Step], end: &str) -> bool {
+fn end_in(
+    rt: &(impl Abort + Threads + Sync),
+    alloc: Global,
+    atoms: &str,
+    steps: &[Step],
+    end: &str,
+) -> bool {
     let program = accepted(rt, alloc, MINIMUM);
     let part = store(rt, alloc, MINIMUM, atoms);
     ends(rt, alloc, &program, &part, steps, end)
@@ -98,7 +105,12 @@ fn missing_place(refused: NotStepped, part: &Bag) -> Option<usize> {
 }
 
 /// The place of the first of these steps that isn't there on a lease of these atoms, where the lease is handed back.
-fn first_missing(rt: &impl Abort, alloc: Global, atoms: &str, steps: &[Step]) -> Option<usize> {
+fn first_missing(
+    rt: &(impl Abort + Threads + Sync),
+    alloc: Global,
+    atoms: &str,
+    steps: &[Step],
+) -> Option<usize> {
     let program = accepted(rt, alloc, MINIMUM);
     let part = store(rt, alloc, MINIMUM, atoms);
     match program.step_part(alloc, lease_of(rt, alloc, &part), steps) {
@@ -108,7 +120,12 @@ fn first_missing(rt: &impl Abort, alloc: Global, atoms: &str, steps: &[Step]) ->
 }
 
 /// The place of the step of a rule on these heads where it isn't there on a lease of `min(5), min(9)`: 0.
-fn missing(rt: &impl Abort, alloc: Global, rule: u32, on: &str) -> Option<usize> {
+fn missing(
+    rt: &(impl Abort + Threads + Sync),
+    alloc: Global,
+    rule: u32,
+    on: &str,
+) -> Option<usize> {
     first_missing(rt, alloc, "min(5), min(9)", &one(rt, alloc, rule, on))
 }
 
@@ -137,7 +154,12 @@ fn steps_are_missing_on_the_empty_store(rt: HostRuntime) {
 }
 
 /// The place of the first step that isn't there, of two on a lease of `min(5), min(9)`: the step on both, and this one.
-fn second_missing(rt: &impl Abort, alloc: Global, rule: u32, on: &str) -> Option<usize> {
+fn second_missing(
+    rt: &(impl Abort + Threads + Sync),
+    alloc: Global,
+    rule: u32,
+    on: &str,
+) -> Option<usize> {
     first_missing(rt, alloc, "min(5), min(9)", &two(rt, alloc, rule, on))
 }
 

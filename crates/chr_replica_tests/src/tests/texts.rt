@@ -12,6 +12,7 @@ use chr_read::read;
 use chr_weights::weigh;
 use std::alloc::Global;
 use std::process::Abort;
+use std::thread::Threads;
 
 pub const MINIMUM: &str = ":- chr_constraint min/1. min(X) \\ min(Y) <=> X =< Y | true.";
 
@@ -26,11 +27,11 @@ fn program(rt: &impl Abort, alloc: Global, text: &str) -> Program {
 }
 
 /// The accepted program of a text.
-pub fn accepted(rt: &impl Abort, alloc: Global, text: &str) -> Accepted {
+pub fn accepted(rt: &(impl Abort + Threads + Sync), alloc: Global, text: &str) -> Accepted {
     let Ok(weighed) = weigh(program(rt, alloc, text)) else {
         panic!(rt; "no program that lowers: {text}");
     };
-    let Ok(accepted) = accept(alloc, weighed, Coverage::Joint) else {
+    let Ok(accepted) = accept(rt, alloc, weighed, Coverage::Joint) else {
         panic!(rt; "refused: {text}");
     };
     accepted

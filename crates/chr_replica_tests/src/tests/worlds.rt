@@ -10,11 +10,17 @@ use chr_worlds::{Answer, Event, World};
 use std::alloc::Global;
 use std::process::Abort;
 use std::sync::Arc;
+use std::thread::Threads;
 
 const ROUTES: &str = ":- chr_constraint path/3. path(X,Y,D) \\ path(X,Y,E) <=> D =< E | true.";
 
 /// A world of so many replicas of the program, 1 to [`MAX_REPLICAS`].
-pub fn world_of(rt: &impl Abort, alloc: Global, text: &str, replicas: u32) -> World {
+pub fn world_of(
+    rt: &(impl Abort + Threads + Sync),
+    alloc: Global,
+    text: &str,
+    replicas: u32,
+) -> World {
     if replicas == 0 || replicas > MAX_REPLICAS {
         panic!(rt; "no world of {replicas}");
     }
@@ -28,7 +34,7 @@ pub fn world_of(rt: &impl Abort, alloc: Global, text: &str, replicas: u32) -> Wo
 }
 
 /// A world of three replicas of the program.
-fn three(rt: &impl Abort, alloc: Global, text: &str) -> World {
+fn three(rt: &(impl Abort + Threads + Sync), alloc: Global, text: &str) -> World {
     world_of(rt, alloc, text, 3)
 }
 
@@ -84,7 +90,7 @@ fn shows(rt: &impl Abort, alloc: Global, world: &mut World, replica: u64, text: 
 }
 
 /// Three replicas that were told routes, one operation each.
-fn told_routes(rt: &impl Abort, alloc: Global) -> World {
+fn told_routes(rt: &(impl Abort + Threads + Sync), alloc: Global) -> World {
     let mut world = three(rt, alloc, ROUTES);
     let first = telling(rt, alloc, ROUTES, 1, 1, "path(1,2,7), path(1,3,4)");
     let second = telling(rt, alloc, ROUTES, 2, 2, "path(1,2,5)");

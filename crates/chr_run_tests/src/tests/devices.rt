@@ -13,7 +13,7 @@ const OUTPUT: &[u8] = b"accepted: rules 0, cases 0\ntold\na\nrefused 30\n";
 fn a_byte_a_call(rt: HostRuntime) -> Result<(), Fail> {
     let mut reader = Watched::of(INPUT);
     let mut writer = Watched::of(Drips::of(Vec::with_capacity(rt.alloc(), ROOM)?));
-    let status = run(rt.alloc(), &mut reader, &mut writer, PLAIN)?;
+    let status = run(&rt, rt.alloc(), &mut reader, &mut writer, PLAIN)?;
     assert_eq!(rt; status, Status::Accepted);
     assert!(rt; !reader.failed());
     assert!(rt; !writer.failed());
@@ -28,7 +28,7 @@ fn failing_writers(rt: HostRuntime) -> Result<(), Fail> {
         let mut reader = Watched::of(INPUT);
         let drips = Drips::of(Vec::with_capacity(rt.alloc(), ROOM)?);
         let mut writer = Watched::of(FailsAt::of(drips, u64::try_from(call)?));
-        let result = run(rt.alloc(), &mut reader, &mut writer, PLAIN);
+        let result = run(&rt, rt.alloc(), &mut reader, &mut writer, PLAIN);
         if result == Err(RunFault::Memory) {
             result?;
         }
@@ -47,7 +47,7 @@ fn failing_flush(rt: HostRuntime) -> Result<(), Fail> {
     let mut reader = Watched::of(INPUT);
     let drips = Drips::of(Vec::with_capacity(rt.alloc(), ROOM)?);
     let mut writer = Watched::of(FailsAt::of(drips, calls));
-    let result = run(rt.alloc(), &mut reader, &mut writer, PLAIN);
+    let result = run(&rt, rt.alloc(), &mut reader, &mut writer, PLAIN);
     if result == Err(RunFault::Memory) {
         result?;
     }
@@ -63,7 +63,7 @@ fn failing_readers(rt: HostRuntime) -> Result<(), Fail> {
     for call in [1, 2] {
         let mut reader = Watched::of(FailsAt::of(INPUT, call));
         let mut writer = Watched::of(Vec::with_capacity(rt.alloc(), ROOM)?);
-        let result = run(rt.alloc(), &mut reader, &mut writer, PLAIN);
+        let result = run(&rt, rt.alloc(), &mut reader, &mut writer, PLAIN);
         if result == Err(RunFault::Memory) {
             result?;
         }

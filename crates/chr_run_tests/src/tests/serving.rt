@@ -8,6 +8,7 @@ use chr_report::{RunFault, Settings, Status, Streams, Watched, Wire, serve};
 use std::alloc::{AllocError, Global};
 use std::process::Abort;
 use std::test::Fail;
+use std::thread::Threads;
 
 const INPUT: &[u8] =
     b":- chr_constraint a/0.\n---\r\n[\"tell\",1,[1,1],[[\"a\"]]]\n[\"show\",1]\r\nx\n[\"show\",1]";
@@ -99,7 +100,7 @@ impl<'a> Wire for Peer<'a> {
 fn lines_are_answered_at_once(rt: HostRuntime) -> Result<(), Fail> {
     for most in [1, 2, 3, 7, 64, 4_096] {
         let mut peer = Peer::of(rt.alloc(), INPUT, most)?;
-        let status = serve(rt.alloc(), &mut peer, PLAIN)?;
+        let status = serve(&rt, rt.alloc(), &mut peer, PLAIN)?;
         assert_eq!(rt; status, Status::Accepted, "{most}");
         assert!(rt; !peer.kept_waiting, "{most}");
         assert_eq!(rt; peer.sent.as_slice(), OUTPUT, "{most}");
@@ -113,13 +114,17 @@ fn lines_are_answered_at_once(rt: HostRuntime) -> Result<(), Fail> {
 }
 
 /// What is sent is what a run writes.
-pub(super) fn expect_served(rt: &impl Abort, alloc: Global, input: &[u8]) -> Result<(), RunFault> {
-    let (status, written) = outcome(alloc, PLAIN, input)?;
+pub(super) fn expect_served(
+    rt: &(impl Abort + Threads + Sync),
+    alloc: Global,
+    input: &[u8],
+) -> Result<(), RunFault> {
+    let (status, written) = outcome(rt, alloc, PLAIN, input)?;
     let mut wire = Streams {
         reader: Watched::of(input),
         writer: Watched::of(Vec::with_capacity(alloc, ROOM)?),
     };
-    assert_eq!(rt; serve(alloc, &mut wire, PLAIN)?, status);
+    assert_eq!(rt; serve(rt, alloc, &mut wire, PLAIN)?, status);
     let Streams { reader: _, writer } = wire;
     assert_eq!(rt; writer.into_inner(), written);
     Ok(())
@@ -152,7 +157,7 @@ fn the_output_is_that_of_a_run(rt: HostRuntime) -> Result<(), Fail> {
 #[test]
 fn refused_programs_end_it(rt: HostRuntime) -> Result<(), Fail> {
     let mut peer = Peer::of(rt.alloc(), b"x\n---\n[\"show\",1]\n", 6)?;
-    assert_eq!(rt; serve(rt.alloc(), &mut peer, PLAIN)?, Status::Refused);
+    assert_eq!(rt; serve(&rt, rt.alloc(), &mut peer, PLAIN)?, Status::Refused);
     assert_eq!(rt; peer.waits, 1);
     assert_eq!(rt; peer.sent.as_slice(), b"refused 11: clause 1\n".as_slice());
     Ok(())
@@ -164,7 +169,7 @@ fn long_texts_are_refused(rt: HostRuntime) -> Result<(), Fail> {
     let mut text = Vec::new(rt.alloc());
     text.resize(80_000, b'%')?;
     let mut peer = Peer::of(rt.alloc(), &text, 4_096)?;
-    assert_eq!(rt; serve(rt.alloc(), &mut peer, PLAIN)?, Status::Refused);
+    assert_eq!(rt; serve(&rt, rt.alloc(), &mut peer, PLAIN)?, Status::Refused);
     assert_eq!(rt; peer.waits, 17);
     assert_eq!(rt; peer.sent.as_slice(), b"refused 2\n".as_slice());
     Ok(())
@@ -181,7 +186,7 @@ fn failing_writers(rt: HostRuntime) -> Result<(), Fail> {
                 call,
             )),
         };
-        let result = serve(rt.alloc(), &mut wire, PLAIN);
+        let result = serve(&rt, rt.alloc(), &mut wire, PLAIN);
         if result == Err(RunFault::Memory) {
             result?;
         }
@@ -202,7 +207,7 @@ fn failing_readers(rt: HostRuntime) -> Result<(), Fail> {
             reader: Watched::of(FailsAt::of(INPUT, call)),
             writer: Watched::of(Vec::with_capacity(rt.alloc(), ROOM)?),
         };
-        let result = serve(rt.alloc(), &mut wire, PLAIN);
+        let result = serve(&rt, rt.alloc(), &mut wire, PLAIN);
         if result == Err(RunFault::Memory) {
             result?;
         }

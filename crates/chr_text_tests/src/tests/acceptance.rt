@@ -10,20 +10,21 @@ use chr_weights::Weighed;
 use std::alloc::{AllocError, Global};
 use std::process::Abort;
 use std::test::Fail;
+use std::thread::Threads;
 
 const MINIMUM: &str = ":- chr_constraint min/1. min(X) \\ min(Y) <=> X =< Y | true.";
 
 /// The accepted program of a text.
-fn accepted(rt: &impl Abort, alloc: Global, text: &str) -> Accepted {
-    let Ok(accepted) = accept(alloc, weighed(rt, alloc, text), Coverage::Joint) else {
+fn accepted(rt: &(impl Abort + Threads + Sync), alloc: Global, text: &str) -> Accepted {
+    let Ok(accepted) = accept(rt, alloc, weighed(rt, alloc, text), Coverage::Joint) else {
         panic!(rt; "refused: {text}");
     };
     accepted
 }
 
 /// The refused program of a text, with the cause.
-fn refused(rt: &impl Abort, alloc: Global, text: &str) -> Refused {
-    let Err(refused) = accept(alloc, weighed(rt, alloc, text), Coverage::Joint) else {
+fn refused(rt: &(impl Abort + Threads + Sync), alloc: Global, text: &str) -> Refused {
+    let Err(refused) = accept(rt, alloc, weighed(rt, alloc, text), Coverage::Joint) else {
         panic!(rt; "accepted: {text}");
     };
     refused

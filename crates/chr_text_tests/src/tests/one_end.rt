@@ -227,7 +227,7 @@ fn confluent_programs_have_one_end(rt: HostRuntime) -> Result<(), Fail> {
         assert!(rt; is_one, "two ends: {text}");
         tally.add(alloc, rules, &stores)?;
         if are_small(rules) {
-            let is_accepted = accept(alloc, weighed, Coverage::Joint).is_ok();
+            let is_accepted = accept(&rt, alloc, weighed, Coverage::Joint).is_ok();
             assert!(rt; is_accepted, "refused: {text}");
             count(&mut tally.accepted, true);
         }

@@ -185,7 +185,7 @@ fn stores_end_as_rest_ends_them(rt: HostRuntime) -> Result<(), Fail> {
         let Some(weighed) = weighed_of(alloc, &text) else {
             continue;
         };
-        match accept(alloc, weighed, Coverage::Joint) {
+        match accept(&rt, alloc, weighed, Coverage::Joint) {
             Ok(accepted) => {
                 let mut trials = trials(alloc, &mut random, accepted.weighed())?;
                 assert!(rt; trials.iter().all(|trial| trial.is_one_end), "{text}");

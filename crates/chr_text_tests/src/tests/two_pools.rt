@@ -206,7 +206,7 @@ fn pools_rest_alike(rt: HostRuntime) -> Result<(), Fail> {
         let Some(weighed) = weighed_of(alloc, &text) else {
             continue;
         };
-        match accept(alloc, weighed, Coverage::Joint) {
+        match accept(&rt, alloc, weighed, Coverage::Joint) {
             Ok(program) => {
                 accepted.run(alloc, &mut random, program.weighed(), 10, 4)?;
                 assert!(rt; accepted.torn() == 0, "{text}");

@@ -6,7 +6,7 @@ use Rattle.chr_join.specs.working.Counting.{AreCounts}
 use Rattle.chr_join.proofs.joint.look_at_overlaps.Given as goal
 
 abbrev pub invariant-loop-overlap : goal.invariant-loop-overlap
-invariant-loop-overlap l = record {
+invariant-loop-overlap g l = record {
   joinable : HaveJoinableCases (rules_in l.weighed) (take l.overlap-index l.overlap-items) l.total;
   few : HaveFewTypes l.constants.items l.known.few.items;
   counts : AreCounts l.constants.items l.known.counts.entries.items;

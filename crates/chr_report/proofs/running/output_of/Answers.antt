@@ -11,7 +11,7 @@ use Rattle.chr_read.specs.ProgramTexts.{IsAnswer}
 use Rattle.chr_report.proofs.running.output_of.Goals as goal
 
 pub returns-in_ok-text-in-Accepted : goal.returns-in_ok-text-in-Accepted
-returns-in_ok-text-in-Accepted c =
+returns-in_ok-text-in-Accepted g c =
     let text = c.split.result.0.now in
     let out = string_bytes c.in_ok-text-in-Accepted.text in
     let j : IsJudgedText c.args.wanted.coverage text (judged.Accepted c.in-Accepted.accepted) = subst (IsJudgedText c.args.wanted.coverage text) c.in-Accepted.is c.in_ok-accepted.ensures in
@@ -19,7 +19,7 @@ returns-in_ok-text-in-Accepted c =
     (subst (λ a. IsReadOutput a c.args.wanted (lines_left c.asked.result) Accepted out) (sym j.2.0) c.in_ok-text-in-Accepted.ensures)
 
 pub returns-in-Refused : goal.returns-in-Refused
-returns-in-Refused c =
+returns-in-Refused g c =
     let text = c.split.result.0.now in
     let commands = asked c.args.verb (commands_of (lines c.args.input.now)) in
     let result = c.refused.result in
