@@ -13,6 +13,9 @@
     generate.py ordered             the same with a guard that holds in few of them
     generate.py over                a short program with an overlap of too many order types (it is refused)
     generate.py constants           the same with rules of 2,520 constants beside it (it is refused)
+    generate.py copies              a short program of 64 equal rules, with 396 million joint cases
+    generate.py choices             a short program of 62 equal rules of four heads and two more, with two thousand million joint cases
+    generate.py guarded             a short program of 64 rules with guards that all differ, with 99 million order types
     generate.py tells N [--show]    a program without rules, and N operations of one atom each
     generate.py wide N [--show]     a program without rules, and N operations of 64 atoms each
     generate.py minimum N           a program with one rule, N operations of one atom each, of which one atom stays, and a `show`
@@ -94,6 +97,19 @@ def many_constants():
     return text + "".join(constant_rule(place) for place in range(RULE_LIMIT - 1))
 
 
+def choices():
+    """Rules that take four atoms of any values each, and two by which every store comes to one end."""
+    text = ":- chr_constraint r/1, t/0.\n:- chr_weight r/1 = 2.\n" + "r(A), r(B), r(C), r(D) <=> t.\n" * (RULE_LIMIT - 2)
+    return text + "t \\ r(A) <=> true.\nt \\ t <=> true.\n"
+
+
+def guarded():
+    """Rules that all remove the one atom, by guards of which no two are the same comparisons."""
+    pairs = [(one, other) for one in "ABCD" for other in "ABCD" if one != other]
+    guards = [f"{one} {sign} {other}" for sign in ("<", "=<", "=\\=", "=:=", ">", ">=") for one, other in pairs]
+    return ":- chr_constraint p/3, q/1.\n" + "".join(f"p(A,B,C) \\ q(D) <=> {guard} | true.\n" for guard in guards[:RULE_LIMIT])
+
+
 def tells(count, atoms):
     yield ":- chr_constraint a/1.\n---\n"
     for number in range(count):
@@ -152,6 +168,9 @@ TEXTS = {
     "ordered": lambda: ":- chr_constraint p/3, q/1.\np(A,B,C) \\ q(D) <=> A < B, B < C, C < D | true.\n",
     "over": lambda: ":- chr_constraint p/4, q/1, s/0.\np(A,B,C,D), q(E) <=> s.\n",
     "constants": many_constants,
+    "copies": lambda: ":- chr_constraint c/2.\n" + "c(P,Q), c(R,S) <=> c(0,0).\n" * RULE_LIMIT,
+    "choices": choices,
+    "guarded": guarded,
 }
 
 

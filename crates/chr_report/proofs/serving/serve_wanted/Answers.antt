@@ -49,7 +49,7 @@ returns-then-n-eq0-clause-err g c =
     (subst (λ o. WritesBeginning (Some bytes) o new Run c.args.wanted) (c.wait.ensures.kept ∙ c.loop-turn.invariant.nothing) at)) c.send_output.ensures.err
 
 pub serve_text-requires-clause-prompt : goal.serve_text-requires-clause-prompt
-serve_text-requires-clause-prompt g c w answer a s =
+serve_text-requires-clause-prompt g c κs within w answer a s =
     let W = g.T.Wire in
     let input = c.extend_from_slice.new.self.items in
     let text = c.in-Some.text.now in
