@@ -56,8 +56,14 @@ fn routes_verdict(
 fn a_wide_run_looks_at_sorted_cases(rt: HostRuntime) -> Result<(), RunFault> {
     let (status, text) = routes_verdict(&rt, rt.alloc(), true)?;
     assert_eq!(rt; status, Status::Accepted);
-    assert_eq!(rt; text.as_slice(), b"accepted: rules 1, cases 17\n");
+    assert_eq!(rt;
+        text.as_slice(),
+        b"accepted: rules 1, cases 17\n".as_slice()
+    );
     let (_, text) = routes_verdict(&rt, rt.alloc(), false)?;
-    assert_eq!(rt; text.as_slice(), b"accepted: rules 1, cases 541\n");
+    assert_eq!(rt;
+        text.as_slice(),
+        b"accepted: rules 1, cases 541\n".as_slice()
+    );
     Ok(())
 }
