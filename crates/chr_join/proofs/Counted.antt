@@ -24,7 +24,7 @@ use Rattle.chr_join.specs.declared.counting.Counter.{Counter}
 use Rattle.chr_join.specs.declared.coverage.Coverage.TheVariants.{Joint}
 use Rattle.chr_join.specs.Sides.{IsJoinable}
 use Rattle.chr_join.specs.Verdicts.{HasJoinableCasesBy}
-use Rattle.chr_join.specs.working.Counting.{holds_at, IsCountOf, Visits}
+use Rattle.chr_join.specs.working.Counting.{CountsValues, holds_at, IsCountOf}
 use Rattle.chr_join.specs.working.Visits.{Setting}
 use Rattle.chr_join.proofs.Verdicts.{filter_few}
 use Rattle.chr_join.proofs.Visits.{few_types, joint_cases, are_joint_cases}
@@ -32,13 +32,13 @@ use Rattle.chr_join.proofs.Visits.{few_types, joint_cases, are_joint_cases}
 -- ---- what was counted
 
 module _ (u : Unified) where
-  held : (v w : Counter) (zs : List ℤ) (stops : Bool) → v.unified.now ≡ u → Visits v zs stops w → holds_at u zs ≡ true → v.counted + 1 < 2 ^ 64 → w.counted ≡ v.counted + 1
+  held : (v w : Counter) (zs : List ℤ) (stops : Bool) → v.unified.now ≡ u → CountsValues v zs stops w → holds_at u zs ≡ true → v.counted + 1 < 2 ^ 64 → w.counted ≡ v.counted + 1
   held v w zs stops same h = subst (λ x. holds_at x zs ≡ true → v.counted + 1 < 2 ^ 64 → w.counted ≡ v.counted + 1) same h.holds
 
-  failed : (v w : Counter) (zs : List ℤ) (stops : Bool) → v.unified.now ≡ u → Visits v zs stops w → holds_at u zs ≡ false → w.counted ≡ v.counted
+  failed : (v w : Counter) (zs : List ℤ) (stops : Bool) → v.unified.now ≡ u → CountsValues v zs stops w → holds_at u zs ≡ false → w.counted ≡ v.counted
   failed v w zs stops same h = subst (λ x. holds_at x zs ≡ false → w.counted ≡ v.counted) same h.fails
 
-  counted : (zss : List (List ℤ)) (v w : Counter) (stopped : Bool) → v.unified.now ≡ u → Visited Visits v zss stopped w → v.counted + length (filter (holds_at u) zss) < 2 ^ 64
+  counted : (zss : List (List ℤ)) (v w : Counter) (stopped : Bool) → v.unified.now ≡ u → Visited CountsValues v zss stopped w → v.counted + length (filter (holds_at u) zss) < 2 ^ 64
       → w.counted ≡ v.counted + length (filter (holds_at u) zss)
   counted [] v w stopped same h l = let e = ap (λ (x : Counter). x.counted) h.1 in omega (arith, e)
   counted (zs ∷ zss) v w stopped same (inl h) l = absurd (true≢false h.1.goes_on)
@@ -60,7 +60,7 @@ module _ (u : Unified) where
 
   -- nothing is lost that a walk leaves at a beginning, and few types have a count of 64 bits
   pub count_is : (constants : List ℤ) (rs : List (List ℤ)) → AreTypes (length u.free.items) constants rs → ¬ MoreTypesThan MAX_TYPES (length u.free.items) constants
-      → (v w : Counter) (stopped : Bool) → v.unified.now ≡ u → v.counted ≡ 0 → Visited Visits v (filter (are_admitted (all_may_hold u.free.items u.guards.items) []) rs) stopped w
+      → (v w : Counter) (stopped : Bool) → v.unified.now ≡ u → v.counted ≡ 0 → Visited CountsValues v (filter (are_admitted (all_may_hold u.free.items u.guards.items) []) rs) stopped w
       → IsCountOf constants u w.counted
   count_is constants rs types none v w stopped same start h =
       let all : filter (holds_at u) (filter (are_admitted (all_may_hold u.free.items u.guards.items) []) rs) ≡ filter (holds_at u) rs =

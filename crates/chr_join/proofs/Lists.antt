@@ -1,10 +1,11 @@
 -- Elements of lists: membership, what holds of each, and a list around one of its elements.
-use Rattle.std.specs.Prelude.{◌≡◌, ℕ, zero, suc, ◌+◌, ◌<◌, ◌⊎◌, Bool, true, false, cond, MatchBool, List, [], ◌∷◌, ◌++◌, Option, Some, None, IfNone, map, length, take, drop, get_or}
+use Rattle.std.specs.Prelude.{◌≡◌, ℕ, zero, suc, ◌+◌, ◌<◌, ◌⊎◌, Bool, true, false, cond, MatchBool, List, [], ◌∷◌, ◌++◌, Option, Some, None, IfNone, map, length, take, drop, get_or, slice_get}
 use Rattle.std.specs.List.{All, AllZip, filter}
 use mathlib.Core.Bool.{true≢false}
 use Rattle.std.proofs.Common.{refl, sym, ap, subst, ◌∙◌, arith, inl, inr}
 use Rattle.std.proofs.lemmas.List.{take-append-drop, drop_more}
 use Rattle.std.proofs.lemmas.List.Elements.{All-cons, All-nil}
+use Rattle.std.proofs.lemmas.Option.{none-some, same_Some}
 use Rattle.chr_types.specs.OrderTypes.{In}
 
 pub in_middle : {A : Type 0} (before : List A) (x : A) (after : List A) → In x (before ++ x ∷ after)
@@ -38,6 +39,15 @@ all_right R Q to [] [] h = All-nil Q
 all_right R Q to [] (y ∷ ys) h = absurd h
 all_right R Q to (x ∷ xs) [] h = absurd h
 all_right R Q to (x ∷ xs) (y ∷ ys) h = All-cons Q y ys (to x y h.0) (all_right R Q to xs ys h.1)
+
+-- what stands beside the first elements
+pub beside : {A B : Type 0} (R : A → B → Type 0) (n : ℕ) (xs : List A) (ys : List B) (i : ℕ) (x : A) (y : B) → AllZip R (take n xs) ys → x ≡ get_or xs i x → slice_get ys i ≡ Some y → R x y
+beside R n xs [] i x y h e s = absurd (none-some y s)
+beside R zero [] (z ∷ ys) i x y h e s = absurd h
+beside R zero (w ∷ xs) (z ∷ ys) i x y h e s = absurd h
+beside R (suc n) [] (z ∷ ys) i x y h e s = absurd h
+beside R (suc n) (w ∷ xs) (z ∷ ys) zero x y h e s = subst (R x) (same_Some z y s) (subst (λ a. R a z) (sym e) h.0)
+beside R (suc n) (w ∷ xs) (z ∷ ys) (suc i) x y h e s = beside R n xs ys i x y h.1 e s
 
 pub match_true : (b : Bool) (T F : Type 0) → b ≡ true → MatchBool b T F → T
 match_true true T F e h = h

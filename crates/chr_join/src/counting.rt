@@ -1,7 +1,7 @@
 //! Cases that are counted, and not looked at.
 ghost use Rattle.std.specs.Prelude.{All, IfOk, IfSome, List, ℤ, ⊤};
 ghost use Rattle.chr_types.specs.OrderTypes.{Rises};
-ghost use Rattle.chr_join.specs.working.Counting.{AreCounts, HasFewTypes, IsCounted, IsCountOf, Visits};
+ghost use Rattle.chr_join.specs.working.Counting.{AreCounts, CountsValues, HasFewTypes, IsCounted, IsCountOf};
 
 use chr_overlaps::Unified;
 use chr_types::{Visit, visit_types};
@@ -10,10 +10,10 @@ use std::alloc::{AllocError, Global};
 use std::thread::Threads;
 
 /// So many classes have many order types, among constants or not.
-const MANY_CLASSES: usize = 6;
+pub(crate) const MANY_CLASSES: usize = 6;
 
-/// The most counts that are remembered.
-pub(crate) const MOST_COUNTS: usize = 256;
+/// From so many counts on the remembered ones give way to new ones.
+const MOST_COUNTS: usize = 256;
 
 /// Counts the values at which both guards of an overlap hold.
 #[derive(Drop)]
@@ -25,7 +25,7 @@ pub(crate) struct Counter<'a> {
 impl Visit for Counter<'_> {
     ghost ready = { λ v. ⊤ };
 
-    ghost step = { λ v values stops w. Visits v values stops w };
+    ghost step = { λ v values stops w. CountsValues v values stops w };
 
     fn visit(&mut self, values: &[i64]) -> Result<bool, AllocError> {
         if !self.unified.guards_hold(values) {
@@ -109,22 +109,30 @@ impl Counts {
         }
     }
 
-    /// Those of these guards, shared out among threads. Where all are counted in no time they are left to be counted.
-    pub(crate) fn of_all(
+    /// Adds the counts of these guards, which are shared out among threads, unless all are counted in no time. Where many
+    /// are remembered, the new ones take their place.
+    pub(crate) fn add_all(
+        &mut self,
         rt: &(impl Threads + Sync),
         alloc: Global,
         guards: Vec<Unified>,
         constants: &[i64],
-    ) -> Result<Counts, AllocError>
+    ) -> Result<(), AllocError>
         requires rising { Rises constants.now }
         requires few { All (HasFewTypes constants.now) guards.items }
-        ensures { IfOk result (λ counts. AreCounts constants.now counts.entries.items) }
+        requires known { AreCounts constants.now self.old.entries.items }
+        ensures { IfOk result (λ _. AreCounts constants.now self.new.entries.items) }
     {
         if guards.iter().all(|it| it.free_classes() < MANY_CLASSES) {
-            return Ok(Counts::new(alloc));
+            return Ok(());
         }
-        let entries = count_all(rt, alloc, guards, constants)?;
-        Ok(Counts { entries })
+        let mut entries = count_all(rt, alloc, guards, constants)?;
+        if self.entries.len() < MOST_COUNTS {
+            self.entries.append(&mut entries)?;
+        } else {
+            self.entries = entries;
+        }
+        Ok(())
     }
 
     /// The count that is remembered of guards like these.
@@ -139,6 +147,11 @@ impl Counts {
             }
         }
         None
+    }
+
+    /// Whether a count is remembered of guards like these.
+    pub(crate) fn has(&self, unified: &Unified) -> bool {
+        self.known(unified).is_some()
     }
 
     /// The number of order types at which both guards hold.

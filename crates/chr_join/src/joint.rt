@@ -1,5 +1,6 @@
 //! The verdict by joint cases, overlap by overlap and case by case.
-ghost use Rattle.std.specs.Prelude.{◌≡◌, All, IfOk, IfErr, length};
+ghost use Rattle.std.specs.Prelude.{◌≡◌, ℕ, All, IfOk, IfErr, IfNone, IfSome, drop, length, take};
+ghost use Rattle.std.specs.List.{AllZip};
 ghost use Rattle.std.specs.Bool.{OnTrue, OnFalse};
 ghost use Rattle.chr_types.specs.OrderTypes.{Rises, MoreTypesThan};
 ghost use Rattle.chr_weights.specs.WeighedPrograms.{rules_in};
@@ -11,23 +12,26 @@ ghost use Rattle.chr_overlaps.specs.UnifiedOverlaps.{IsUnifiedAt};
 ghost use Rattle.chr_join.specs.declared.coverage.Coverage.TheVariants.{Joint};
 ghost use Rattle.chr_join.specs.Verdicts.{HasJoinableCasesBy, IsAcceptedBy};
 ghost use Rattle.chr_join.specs.Explanations.{IsRefusalBy};
-ghost use Rattle.chr_join.specs.declared.joint.Look.TheVariants.{AtGuards};
-ghost use Rattle.chr_join.specs.working.Checking.{HaveFewTypes, RefusesAt};
+ghost use Rattle.chr_join.specs.working.Checking.{HaveFewTypes, IsNumberOf, RefusesAt};
 ghost use Rattle.chr_join.specs.working.Counting.{AreCounts, HasFewTypes};
 
 use crate::checker::{Checker, told};
-use crate::counting::{Counts, MOST_COUNTS};
+use crate::counting::{Counts, MANY_CLASSES};
 use crate::once::joint_cases_join;
 use crate::refused::{Cause, TooManyTypes};
-use crate::sorted::all_join;
+use crate::sorted::{all_join, joining_overlaps};
 use chr_confluence::listing::listed_cases;
 use chr_overlaps::cases::{MAX_TYPES, unified};
 use chr_overlaps::constants::constants;
 use chr_overlaps::{Overlap, Unified, overlaps};
 use chr_types::{has_more_types, visit_types};
 use chr_weights::Weighed;
+use rayon::prelude::*;
 use std::alloc::{AllocError, Global};
 use std::thread::Threads;
+
+/// So many overlaps have their guards counted at once.
+const BATCH: usize = 256;
 
 /// Whether so many classes have no more order types than an overlap may have. Numbers that have not are remembered.
 fn are_few(
@@ -92,22 +96,13 @@ fn count_cases(
     requires overlap { IsOverlapOf (rules_in weighed.now) overlap.now }
     requires unified { IsUnifiedAt (rules_in weighed.now) overlap.now unified }
     requires constants { AreConstants (rules_in weighed.now) constants.now }
-    requires few { ¬ MoreTypesThan MAX_TYPES (length unified.free.items) constants.now }
+    requires few { HasFewTypes constants.now unified }
     requires counts { AreCounts constants.now counts.old.entries.items }
     ensures counts { IfOk result (λ _. AreCounts constants.now counts.new.entries.items) }
     ensures number { IfOk result (HasJoinableCasesBy Joint (rules_in weighed.now) overlap.now) }
 {
     joint_cases_join();
     counts.count(alloc, unified, constants)
-}
-
-/// What of a case is looked at.
-#[derive(Clone, Copy)]
-pub(crate) enum Look {
-    /// The ends of both sides.
-    AtEnds,
-    /// The guards alone: of rules that are confluent the cases are only counted.
-    AtGuards,
 }
 
 /// What is remembered from overlap to overlap.
@@ -123,13 +118,14 @@ fn are_there(guards: &[Unified], unified: &Unified) -> bool {
     guards.iter().any(|it| it.has_guards_of(unified))
 }
 
-/// Adds guards, unless like ones are there, or their free classes have many order types.
+/// Adds guards, unless like ones are there or counted, or their free classes have many order types.
 fn add_guards(
     alloc: Global,
     guards: &mut Vec<Unified>,
     unified: Unified,
     constants: &[i64],
     few: &mut Vec<usize>,
+    counts: &Counts,
 ) -> Result<(), AllocError>
     requires rising { Rises constants.now }
     requires few { HaveFewTypes constants.now few.old.items }
@@ -137,7 +133,7 @@ fn add_guards(
     ensures few { IfOk result (λ _. HaveFewTypes constants.now few.new.items) }
     ensures guards { IfOk result (λ _. All (HasFewTypes constants.now) guards.new.items) }
 {
-    if are_there(guards, &unified) {
+    if are_there(guards, &unified) || counts.has(&unified) {
         return Ok(());
     }
     if !are_few(alloc, unified.free_classes(), constants, few)? {
@@ -147,13 +143,14 @@ fn add_guards(
     Ok(())
 }
 
-/// The different guards of overlaps with few order types, as many as are remembered.
-fn different_guards(
+/// The different guards of overlaps with few order types, without those that are counted.
+fn new_guards(
     alloc: Global,
     weighed: &Weighed,
     overlaps: &[Overlap],
     constants: &[i64],
     few: &mut Vec<usize>,
+    counts: &Counts,
 ) -> Result<Vec<Unified>, AllocError>
     requires overlaps { All (IsOverlapOf (rules_in weighed.now)) overlaps.now }
     requires rising { Rises constants.now }
@@ -163,55 +160,86 @@ fn different_guards(
 {
     let mut guards = Vec::new(alloc);
     for overlap in overlaps {
-        if guards.len() >= MOST_COUNTS {
-            return Ok(guards);
-        }
         let Some(unified) = unified(weighed, overlap) else {
             continue;
         };
-        add_guards(alloc, &mut guards, unified, constants, few)?;
+        add_guards(alloc, &mut guards, unified, constants, few, counts)?;
     }
     Ok(guards)
 }
 
-/// What is known before the first overlap is looked at: of rules that are confluent the counts of all different guards.
-fn known_ahead(
+/// The batch of overlaps that begins at this place, and nothing where none begins there.
+fn batch_from(overlaps: &[Overlap], place: usize) -> &[Overlap]
+    ensures { (from n : ℕ) × (result.now ≡ take n (drop from overlaps.now)) }
+{
+    if place % BATCH != 0 {
+        return &[];
+    }
+    let (_, rest) = overlaps.split_at(place.min(overlaps.len()));
+    let (batch, _) = rest.split_at(rest.len().min(BATCH));
+    batch
+}
+
+/// Counts the guards of these overlaps that aren't counted yet, before the overlaps are looked at one by one.
+fn count_ahead(
     rt: &(impl Threads + Sync),
     alloc: Global,
-    look: Look,
     weighed: &Weighed,
     overlaps: &[Overlap],
     constants: &[i64],
-) -> Result<Remembered, AllocError>
+    known: &mut Remembered,
+) -> Result<(), AllocError>
     requires overlaps { All (IsOverlapOf (rules_in weighed.now)) overlaps.now }
     requires rising { Rises constants.now }
-    ensures few { IfOk result (λ known. HaveFewTypes constants.now known.few.items) }
-    ensures counts { IfOk result (λ known. AreCounts constants.now known.counts.entries.items) }
+    requires few { HaveFewTypes constants.now known.old.few.items }
+    requires counts { AreCounts constants.now known.old.counts.entries.items }
+    ensures few { IfOk result (λ _. HaveFewTypes constants.now known.new.few.items) }
+    ensures counts { IfOk result (λ _. AreCounts constants.now known.new.counts.entries.items) }
 {
-    let mut few = Vec::new(alloc);
-    match look {
-        Look::AtEnds => Ok(Remembered {
-            few,
-            counts: Counts::new(alloc),
-        }),
-        Look::AtGuards => {
-            let guards = different_guards(alloc, weighed, overlaps, constants, &mut few)?;
-            let counts = Counts::of_all(rt, alloc, guards, constants)?;
-            Ok(Remembered { few, counts })
-        }
-    }
+    let Remembered { few, counts } = known;
+    let guards = new_guards(alloc, weighed, overlaps, constants, few, counts)?;
+    counts.add_all(rt, alloc, guards, constants)
 }
 
-/// The number of cases of an overlap, where all of them are joinable.
-fn look_at_overlap(
+/// An overlap whose heads are made one, which has few order types. None where two constants would have to be one.
+fn made_one(
     alloc: Global,
-    look: Look,
+    weighed: &Weighed,
+    overlap: &Overlap,
+    constants: &[i64],
+    few: &mut Vec<usize>,
+) -> Result<Option<Unified>, Cause>
+    requires overlap { IsOverlapOf (rules_in weighed.now) overlap.now }
+    requires constants { AreConstants (rules_in weighed.now) constants.now }
+    requires few { HaveFewTypes constants.now few.old.items }
+    ensures few { IfOk result (λ _. HaveFewTypes constants.now few.new.items) }
+    ensures none { IfOk result (λ made. IfNone made (HasJoinableCasesBy Joint (rules_in weighed.now) overlap.now 0)) }
+    ensures unified { IfOk result (λ made. IfSome made (IsUnifiedAt (rules_in weighed.now) overlap.now)) }
+    ensures types { IfOk result (λ made. IfSome made (HasFewTypes constants.now)) }
+    ensures err { IfErr result (RefusesAt Joint (rules_in weighed.now) overlap.now) }
+{
+    let Some(unified) = unified(weighed, overlap) else {
+        return Ok(None);
+    };
+    let classes = unified.free_classes();
+    if !are_few(alloc, classes, constants, few)? {
+        return Err(Cause::TooManyTypes(TooManyTypes {
+            overlap: overlap.copy(),
+            classes,
+        }));
+    }
+    Ok(Some(unified))
+}
+
+/// The number of cases of an overlap. The rules are confluent, so all of them are joinable.
+fn count_overlap(
+    alloc: Global,
     weighed: &Weighed,
     overlap: &Overlap,
     constants: &[i64],
     known: &mut Remembered,
 ) -> Result<usize, Cause>
-    requires confluent { look ≡ AtGuards → Confluent (rules_in weighed.now) }
+    requires confluent { Confluent (rules_in weighed.now) }
     requires overlap { IsOverlapOf (rules_in weighed.now) overlap.now }
     requires constants { AreConstants (rules_in weighed.now) constants.now }
     requires few { HaveFewTypes constants.now known.old.few.items }
@@ -221,42 +249,162 @@ fn look_at_overlap(
     ensures ok { IfOk result (HasJoinableCasesBy Joint (rules_in weighed.now) overlap.now) }
     ensures err { IfErr result (RefusesAt Joint (rules_in weighed.now) overlap.now) }
 {
-    let Some(unified) = unified(weighed, overlap) else {
-        return Ok(0);
-    };
-    let classes = unified.free_classes();
-    if !are_few(alloc, classes, constants, &mut known.few)? {
-        return Err(Cause::TooManyTypes(TooManyTypes {
-            overlap: overlap.copy(),
-            classes,
-        }));
-    }
-    match look {
-        Look::AtEnds => check_cases(alloc, weighed, overlap, &unified, constants),
-        Look::AtGuards => {
+    match made_one(alloc, weighed, overlap, constants, &mut known.few)? {
+        None => Ok(0),
+        Some(unified) => {
             let counts = &mut known.counts;
             Ok(count_cases(alloc, weighed, overlap, unified, constants, counts)?)
         }
     }
 }
 
-/// The number of all joint cases, where all of them are joinable.
-fn look_at_overlaps(
+/// The number of all joint cases of confluent rules, which are counted and not looked at.
+fn count_overlaps(
     rt: &(impl Threads + Sync),
     alloc: Global,
-    look: Look,
     weighed: &Weighed,
 ) -> Result<u64, Cause>
-    requires { look ≡ AtGuards → Confluent (rules_in weighed.now) }
+    requires { Confluent (rules_in weighed.now) }
     ensures ok { IfOk result (IsAcceptedBy Joint (rules_in weighed.now)) }
     ensures err { IfErr result (IsRefusalBy Joint (rules_in weighed.now)) }
 {
     let constants = constants(alloc, weighed.program().rules())?;
     let overlaps = overlaps(alloc, weighed)?;
-    let mut known = known_ahead(rt, alloc, look, weighed, &overlaps, &constants)?;
+    let mut known = Remembered {
+        few: Vec::new(alloc),
+        counts: Counts::new(alloc),
+    };
     let mut total: u64 = 0;
-    for overlap in &overlaps {
-        match look_at_overlap(alloc, look, weighed, overlap, &constants, &mut known) {
+    for (place, overlap) in overlaps.iter().enumerate() {
+        let batch = batch_from(&overlaps, place);
+        count_ahead(rt, alloc, weighed, batch, &constants, &mut known)?;
+        match count_overlap(alloc, weighed, overlap, &constants, &mut known) {
+            Ok(cases) => total += cases as u64,
+            Err(cause) => return Err(cause),
+        }
+    }
+    Ok(total)
+}
+
+/// The number of cases of an overlap, where all of them are joinable.
+fn check_overlap(
+    alloc: Global,
+    weighed: &Weighed,
+    overlap: &Overlap,
+    constants: &[i64],
+    few: &mut Vec<usize>,
+) -> Result<usize, Cause>
+    requires overlap { IsOverlapOf (rules_in weighed.now) overlap.now }
+    requires constants { AreConstants (rules_in weighed.now) constants.now }
+    requires few { HaveFewTypes constants.now few.old.items }
+    ensures few { IfOk result (λ _. HaveFewTypes constants.now few.new.items) }
+    ensures ok { IfOk result (HasJoinableCasesBy Joint (rules_in weighed.now) overlap.now) }
+    ensures err { IfErr result (RefusesAt Joint (rules_in weighed.now) overlap.now) }
+{
+    match made_one(alloc, weighed, overlap, constants, few)? {
+        None => Ok(0),
+        Some(unified) => check_cases(alloc, weighed, overlap, &unified, constants),
+    }
+}
+
+/// The number of cases of an overlap, where all of them are joinable. None too where memory is refused.
+fn number_of(
+    alloc: Global,
+    weighed: &Weighed,
+    overlap: &Overlap,
+    constants: &[i64],
+) -> Option<usize>
+    requires overlap { IsOverlapOf (rules_in weighed.now) overlap.now }
+    requires constants { AreConstants (rules_in weighed.now) constants.now }
+    ensures { IfSome result (HasJoinableCasesBy Joint (rules_in weighed.now) overlap.now) }
+{
+    let mut few = Vec::new(alloc);
+    match check_overlap(alloc, weighed, overlap, constants, &mut few) {
+        Ok(cases) => Some(cases),
+        Err(_) => None,
+    }
+}
+
+/// Whether several of these overlaps have many order types.
+fn have_many_types(weighed: &Weighed, overlaps: &[Overlap]) -> bool
+    requires { All (IsOverlapOf (rules_in weighed.now)) overlaps.now }
+{
+    let mut has_one = false;
+    for overlap in overlaps {
+        match unified(weighed, overlap) {
+            Some(unified) if unified.free_classes() >= MANY_CLASSES => {
+                if has_one {
+                    return true;
+                }
+                has_one = true;
+            }
+            _ => {}
+        }
+    }
+    false
+}
+
+/// The overlaps that are worth it to be looked at by several threads: the first ones, of which all sorted cases are
+/// joinable, where several have many order types.
+fn shared_out<'a>(weighed: &Weighed, overlaps: &'a [Overlap], joining: usize) -> &'a [Overlap]
+    requires { All (IsOverlapOf (rules_in weighed.now)) overlaps.now }
+    ensures { result.now ≡ take (length result.now) overlaps.now }
+{
+    let (first, _) = overlaps.split_at(joining.min(overlaps.len()));
+    if have_many_types(weighed, first) {
+        first
+    } else {
+        &[]
+    }
+}
+
+/// The numbers of cases of these overlaps, which are shared out among threads.
+fn numbers_of(
+    rt: &(impl Threads + Sync),
+    alloc: Global,
+    weighed: &Weighed,
+    overlaps: &[Overlap],
+    constants: &[i64],
+) -> Result<Vec<Option<usize>>, AllocError>
+    requires overlaps { All (IsOverlapOf (rules_in weighed.now)) overlaps.now }
+    requires constants { AreConstants (rules_in weighed.now) constants.now }
+    ensures { IfOk result (λ numbers. AllZip (IsNumberOf (rules_in weighed.now)) overlaps.now numbers.items) }
+{
+    overlaps
+        .par_iter()
+        .with_min_len(1)
+        .map(
+            |overlap: &Overlap| -> Option<usize>
+                requires { IsOverlapOf (rules_in weighed.now) overlap.now × AreConstants (rules_in weighed.now) constants.now }
+                ensures { IfSome result (HasJoinableCasesBy Joint (rules_in weighed.entry.now) overlap.now) }
+            { number_of(alloc, weighed, overlap, constants) },
+        )
+        .collect(rt, alloc)
+}
+
+/// The number of all joint cases, where all of them are joinable. The first overlaps, of which all sorted cases are
+/// joinable, are looked at ahead by several threads.
+fn check_overlaps(
+    rt: &(impl Threads + Sync),
+    alloc: Global,
+    weighed: &Weighed,
+    joining: usize,
+) -> Result<u64, Cause>
+    ensures ok { IfOk result (IsAcceptedBy Joint (rules_in weighed.now)) }
+    ensures err { IfErr result (IsRefusalBy Joint (rules_in weighed.now)) }
+{
+    let constants = constants(alloc, weighed.program().rules())?;
+    let overlaps = overlaps(alloc, weighed)?;
+    let ahead = shared_out(weighed, &overlaps, joining);
+    let numbers = numbers_of(rt, alloc, weighed, ahead, &constants)?;
+    let mut few = Vec::new(alloc);
+    let mut total: u64 = 0;
+    for (place, overlap) in overlaps.iter().enumerate() {
+        let checked = match numbers.get(place) {
+            Some(Some(number)) => Ok(*number),
+            _ => check_overlap(alloc, weighed, overlap, &constants, &mut few),
+        };
+        match checked {
             Ok(cases) => total += cases as u64,
             Err(cause) => return Err(cause),
         }
@@ -275,8 +423,8 @@ pub(crate) fn check_joint(
     ensures err { IfErr result (IsRefusalBy Joint (rules_in weighed.now)) }
 {
     if all_join(rt, alloc, weighed)? {
-        look_at_overlaps(rt, alloc, Look::AtGuards, weighed)
-    } else {
-        look_at_overlaps(rt, alloc, Look::AtEnds, weighed)
+        return count_overlaps(rt, alloc, weighed);
     }
+    let joining = joining_overlaps(alloc, weighed)?;
+    check_overlaps(rt, alloc, weighed, joining)
 }

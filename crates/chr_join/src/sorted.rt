@@ -184,3 +184,15 @@ pub(crate) fn all_join(
     }
     Ok(many_join(rt, alloc, weighed, &sorting, rest))
 }
+
+/// The number of overlaps before the first of which not all sorted cases are joinable.
+pub(crate) fn joining_overlaps(alloc: Global, weighed: &Weighed) -> Result<usize, AllocError> {
+    let sorting = finest_sorts(alloc, weighed.program())?;
+    let overlaps = overlaps(alloc, weighed)?;
+    for (place, overlap) in overlaps.iter().enumerate() {
+        if !overlap_joins(alloc, weighed, &sorting, overlap) {
+            return Ok(place);
+        }
+    }
+    Ok(overlaps.len())
+}

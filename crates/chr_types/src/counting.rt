@@ -68,5 +68,14 @@ pub fn has_more_types(
         return Ok(true);
     }
     let mut count = Count { found: 0, limit };
-    walk(alloc, &candidates, classes, &[], &[], &AllTypes, &mut count)
+    let mut prefix = Vec::new(alloc);
+    walk(
+        alloc,
+        &candidates,
+        classes,
+        &mut prefix,
+        &[],
+        &AllTypes,
+        &mut count,
+    )
 }

@@ -32,5 +32,14 @@ pub fn visit_types<T: Beginnings, V: Visit>(
         × Visited V.step visitor.old (filter (are_admitted (T.admits wanted.now) []) rs) stopped visitor.new) }
 {
     let candidates = all_candidates(alloc, classes, constants)?;
-    walk(alloc, &candidates, classes, &[], &[], wanted, visitor)
+    let mut prefix = Vec::new(alloc);
+    walk(
+        alloc,
+        &candidates,
+        classes,
+        &mut prefix,
+        &[],
+        wanted,
+        visitor,
+    )
 }

@@ -1,5 +1,6 @@
 //! A walk over order types that holds one of them at a time.
 ghost use Rattle.std.specs.Prelude.{◌≡◌, ◌≤◌, ℤ, Bool, List, IfOk, length};
+ghost use Rattle.std.specs.Bool.{OnFalse};
 ghost use Rattle.chr_types.specs.Visits.{Visited};
 ghost use Rattle.chr_types.specs.working.Walks.{walked};
 
@@ -35,44 +36,37 @@ pub trait Visit {
 }
 
 /// Visits the lists that begin with the prefix, go on with so many more values and are wanted, in lexicographic order,
-/// up to the first that stops the walk. Tells whether one did.
+/// up to the first that stops the walk. Tells whether one did; where none did, the prefix is as it was.
 pub(crate) fn walk<T: Beginnings, V: Visit>(
     alloc: Global,
     candidates: &[Candidate],
     left: usize,
-    prefix: &[i64],
+    prefix: &mut Vec<i64>,
     holes: &[i64],
     wanted: &T,
     visitor: &mut V,
 ) -> Result<bool, AllocError>
     requires few { length holes.now ≤ left }
     requires ready { V.ready visitor.old }
+    ensures prefix { IfOk result (λ stopped. OnFalse stopped (prefix.new.items ≡ prefix.old.items)) }
     ensures ready { IfOk result (λ _. V.ready visitor.new) }
     ensures visited { IfOk result (λ stopped. Visited V.step visitor.old
-        (walked (T.admits wanted.now) candidates.now left prefix.now holes.now) stopped visitor.new) }
+        (walked (T.admits wanted.now) candidates.now left prefix.old.items holes.now) stopped visitor.new) }
 {
     if left == 0 {
         return visitor.visit(prefix);
     }
     for candidate in candidates {
-        if let Some(after) = holes_after(alloc, prefix, holes, *candidate, left - 1)? {
-            let mut longer = Vec::with_capacity(alloc, prefix.len() + 1)?;
-            longer.extend_from_slice(prefix)?;
-            longer.push(candidate.value)?;
-            if wanted.goes_on(&longer) {
-                if walk(
-                    alloc,
-                    candidates,
-                    left - 1,
-                    &longer,
-                    &after,
-                    wanted,
-                    visitor,
-                )? {
-                    return Ok(true);
-                }
+        let Some(after) = holes_after(alloc, prefix, holes, *candidate, left - 1)? else {
+            continue;
+        };
+        prefix.push(candidate.value)?;
+        if wanted.goes_on(prefix) {
+            if walk(alloc, candidates, left - 1, prefix, &after, wanted, visitor)? {
+                return Ok(true);
             }
         }
+        prefix.pop();
     }
     Ok(false)
 }

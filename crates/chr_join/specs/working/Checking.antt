@@ -1,5 +1,5 @@
 -- What is found out about a case and about an overlap.
-use Rattle.std.specs.Prelude.{◌≡◌, ℕ, ℤ, List}
+use Rattle.std.specs.Prelude.{◌≡◌, ℕ, ℤ, List, Option, IfSome}
 use Rattle.std.specs.List.{All}
 use Rattle.chr_types.specs.OrderTypes.{MoreTypesThan}
 use Rattle.chr_overlaps.specs.declared.cases.TheConstants.{MAX_TYPES}
@@ -8,6 +8,7 @@ use Rattle.chr_base.specs.Stores.{Store}
 use Rattle.chr_overlaps.specs.declared.overlap.Overlap.{Overlap}
 use Rattle.chr_overlaps.specs.declared.cases.Case.{Case}
 use Rattle.chr_join.specs.declared.coverage.Coverage.{Coverage}
+use Rattle.chr_join.specs.declared.coverage.Coverage.TheVariants.{Joint}
 use Rattle.chr_join.specs.declared.refused.Cause.{Cause}
 use Rattle.chr_join.specs.Sides.{SideEnds}
 use Rattle.chr_join.specs.Verdicts.{HasJoinableCasesBy, IsFirstBy}
@@ -26,6 +27,10 @@ RefusesAt coverage rules o e = IsFirstBy coverage rules o → IsRefusalBy covera
 -- The overlap has a list of cases, and each is joinable.
 abbrev pub Joins : Coverage → List Rule → Overlap → Type 0
 Joins coverage rules o = (n : ℕ) × HasJoinableCasesBy coverage rules o n
+
+-- The overlap has so many cases, and each is joinable, where a number is there.
+abbrev pub IsNumberOf : List Rule → Overlap → Option ℕ → Type 0
+IsNumberOf rules o k = IfSome k (HasJoinableCasesBy Joint rules o)
 
 -- So many classes have no more order types than an overlap may have, for each of these numbers.
 abbrev pub HaveFewTypes : List ℤ → List ℕ → Type 0

@@ -24,7 +24,7 @@ abbrev pub holds_at : Unified → List ℤ → Bool
 holds_at u zs = guard_holds (assignment u.free.items zs) u.guards.items
 
 -- a visit counts the values where both guards hold at them, and doesn't stop
-pub record Visits (v : Counter) (zs : List ℤ) (stops : Bool) (w : Counter) : Type 0 where
+pub record CountsValues (v : Counter) (zs : List ℤ) (stops : Bool) (w : Counter) : Type 0 where
   pub same : w.unified.now ≡ v.unified.now
   pub goes_on : stops ≡ false
   pub holds : holds_at v.unified.now zs ≡ true → v.counted + 1 < 2 ^ 64 → w.counted ≡ v.counted + 1

@@ -34,4 +34,4 @@ returns c =
     let n = c.args.classes in
     let ks = c.deref.result.now in
     let are : AreTypes n cs (lists_over ks n [] []) = lists_are n cs ks (let l = c.if-classes-gt-MAX_CLASSES.false in omega (arith, l)) c.requires.rising c.in_ok-candidates.ensures.values (subst (λ (ps : List Candidate). AreCandidates n cs ps) (sym c.deref.ensures.value) c.in_ok-candidates.ensures.candidates) in
-    ok_then c.walk.result _ _ (λ b x. told c.args.limit n cs (lists_over ks n [] []) c.walk.new.visitor b are (subst (λ rs. Visited Step (record { found = 0; limit = c.args.limit }) rs b c.walk.new.visitor) (walked_passes (λ _. true) ks n [] [] ∙ all_pass (lists_over ks n [] [])) x)) c.walk.ensures.visited
+    ok_then c.walk.result _ _ (λ b x. told c.args.limit n cs (lists_over ks n [] []) c.walk.new.visitor b are (subst (λ rs. Visited Step (record { found = 0; limit = c.args.limit }) rs b c.walk.new.visitor) (walked_passes (λ _. true) ks n [] [] ∙ all_pass (lists_over ks n [] [])) x)) (rw c.new-prefix.ensures.items at c.walk.ensures.visited)

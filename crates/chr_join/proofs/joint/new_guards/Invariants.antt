@@ -1,7 +1,7 @@
 use Rattle.std.specs.List.{All}
 use Rattle.chr_join.specs.working.Checking.{HaveFewTypes}
 use Rattle.chr_join.specs.working.Counting.{HasFewTypes}
-use Rattle.chr_join.proofs.joint.different_guards.Given as goal
+use Rattle.chr_join.proofs.joint.new_guards.Given as goal
 
 abbrev pub invariant-loop-overlap : goal.invariant-loop-overlap
 invariant-loop-overlap l = record {

@@ -6,7 +6,7 @@ use Rattle.chr_overlaps.proofs.OneList.{too_many}
 use Rattle.chr_types.specs.OrderTypes.{MoreTypesThan}
 use Rattle.chr_overlaps.specs.declared.cases.TheConstants.{MAX_TYPES}
 use Rattle.chr_join.specs.Verdicts.{IsFirst}
-use Rattle.chr_join.proofs.joint.look_at_overlap.Goals as goal
+use Rattle.chr_join.proofs.joint.made_one.Goals as goal
 
 pub returns-then-not-branch-clause-err : goal.returns-then-not-branch-clause-err
 returns-then-not-branch-clause-err c first =
@@ -18,6 +18,3 @@ returns-then-not-branch-clause-err c first =
       subst (λ o. IsTooMany rules o n) (sym c.copy.ensures) (too_many rules c.args.overlap.now u.rule1 u.rule2 c.in-Some.unified c.args.constants.now n u.are_rules.0 u.are_rules.1 c.requires.constants u.solves u.unified
           (c.free_classes-classes.ensures, subst (λ k. MoreTypesThan MAX_TYPES k c.args.constants.now) c.free_classes-classes.ensures more)),
     )
-
-pub count_cases-requires-clause-confluent : goal.count_cases-requires-clause-confluent
-count_cases-requires-clause-confluent c = c.requires.confluent c.in-AtGuards.is
