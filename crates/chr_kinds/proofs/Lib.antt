@@ -15,3 +15,4 @@ pub mod Blocks
 pub mod ListsThere
 pub mod Choices
 pub mod MoreCombinations
+pub mod OneSort

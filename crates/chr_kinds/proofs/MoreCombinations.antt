@@ -43,7 +43,7 @@ counted_other ks j k n = counted_more ks j k ∙ by (nat_eq j k) refl
     by true e = absurd (n (eqb-true j k e))
     by false e = ap (λ b. cond b (suc (sort_count k ks)) (sort_count k ks)) e
 
-counted_most : (ks : List ℕ) (k : ℕ) → sort_count k ks ≤ length ks
+pub counted_most : (ks : List ℕ) (k : ℕ) → sort_count k ks ≤ length ks
 counted_most [] k = omega arith
 counted_most (j ∷ ks) k =
     let l = counted_most ks k in

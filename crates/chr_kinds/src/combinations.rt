@@ -5,12 +5,13 @@ ghost use Rattle.chr_types.specs.Visits.{Visited};
 ghost use Rattle.chr_sorts.specs.Lists.{sort_count};
 ghost use Rattle.chr_kinds.specs.FinestSorts.{sorts_of};
 ghost use Rattle.chr_kinds.specs.SortedCaseLists.{AreCombinations, MoreCombinationsThan};
-ghost use Rattle.chr_kinds.specs.working.Weaving.{held, AreListsOf, HasMoreLists, LeaveRoom};
+ghost use Rattle.chr_kinds.specs.working.Weaving.{held, AreListsOf, HasMoreLists, IsOnlyOrdered, LeaveRoom};
 
+use crate::kind::Kind;
 use crate::lists::{are_values, lists_at};
 use crate::sorting::Sorting;
 use crate::weave::{SortLists, weave};
-use chr_types::Visit;
+use chr_types::{Beginnings, Visit, has_more_types, visit_types};
 use std::alloc::{AllocError, Global};
 
 #[cfg(test)]
@@ -40,6 +41,20 @@ impl Visit for Count {
     }
 }
 
+/// Wants all lists.
+#[derive(Drop)]
+struct AllLists;
+
+impl Beginnings for AllLists {
+    ghost use Rattle.std.specs.Prelude.{true};
+
+    ghost admits = { λ _ _. true };
+
+    fn goes_on(&self, _values: &[i64]) -> bool {
+        true
+    }
+}
+
 /// How many of the classes are of the sort.
 fn count_of(classes: &[usize], sort: usize) -> usize
     ensures count { result ≡ sort_count sort classes.now }
@@ -52,6 +67,17 @@ fn count_of(classes: &[usize], sort: usize) -> usize
         }
     }
     count
+}
+
+/// The sort of all the classes, where they have one and it is ordered.
+fn only_ordered(sorting: &Sorting, classes: &[usize]) -> Option<usize>
+    ensures { IfSome result (IsOnlyOrdered (sorts_of sorting.now) classes.now) }
+{
+    let sort = *classes.first()?;
+    match sorting.kind(sort) {
+        Kind::Ordered if count_of(classes, sort) == classes.len() => Some(sort),
+        _ => None,
+    }
 }
 
 /// Constants in memory are values of 64 bits, and leave room for more. Nothing is computed here.
@@ -98,7 +124,8 @@ fn sort_lists(
 /// Visits all combinations of one list at each of the classes' sorts, in lexicographic order, up to the first visit
 /// that stops the walk, and tells whether one did. There are no more than the limit: [`has_more_combinations`] tells.
 ///
-/// The constants of each sort rise, as those of finest sorts do. The lists of each sort are held, and no combinations.
+/// The constants of each sort rise, as those of finest sorts do. The lists of each sort are held, and no combinations;
+/// where all classes are of one ordered sort no list is.
 ///
 /// # Errors
 ///
@@ -118,6 +145,10 @@ pub fn visit_combinations<V: Visit>(
         × AreCombinations (sorts_of sorting.now) classes.now rs
         × Visited V.step visitor.old rs stopped visitor.new) }
 {
+    if let Some(sort) = only_ordered(sorting, classes) {
+        let constants = sorting.constants(sort);
+        return visit_types(alloc, classes.len(), constants, &AllLists, visitor);
+    }
     let Some(mut lists) = sort_lists(alloc, sorting, classes, limit)? else {
         leave_room(sorting, classes);
         unreachable!()
@@ -141,6 +172,10 @@ pub fn has_more_combinations(
     requires rise { (k : ℕ) → Rises ((sorts_of sorting.now).constants k) }
     ensures { IfOk result (λ more. IsTrue more ↔ MoreCombinationsThan (sorts_of sorting.now) classes.now limit) }
 {
+    if let Some(sort) = only_ordered(sorting, classes) {
+        leave_room(sorting, classes);
+        return has_more_types(alloc, classes.len(), sorting.constants(sort), limit);
+    }
     let Some(mut lists) = sort_lists(alloc, sorting, classes, limit)? else {
         leave_room(sorting, classes);
         return Ok(true);

@@ -4,7 +4,7 @@ use Rattle.std.specs.List.{flat_map}
 use Rattle.std.specs.Ordering.{int_eq}
 use Rattle.chr_types.specs.working.Search.{others}
 use Rattle.chr_types.specs.OrderTypes.{In, AreValues}
-use Rattle.chr_sorts.specs.Sorts.{Sorts}
+use Rattle.chr_sorts.specs.Sorts.{Sorts, ordered}
 use Rattle.chr_sorts.specs.Lists.{sort_count}
 use Rattle.chr_kinds.specs.SortedCaseLists.{AreListsAt, MoreListsThan}
 use Rattle.chr_kinds.specs.declared.weave.SortLists.{SortLists}
@@ -59,6 +59,12 @@ HasMoreLists limit s ks = (k : ℕ) × In k ks × MoreListsThan limit (s.kind k)
 -- the constants of the sorts js are 64-bit values, and there are fewer of them and of n others than such values
 abbrev pub LeaveRoom : Sorts → ℕ → List ℕ → Type 0
 LeaveRoom s n js = (k : ℕ) → In k js → AreValues (s.constants k) × (length (s.constants k) + n ≤ 2 ^ 62)
+
+-- all of the sorts ks are k, and it is ordered
+pub record IsOnlyOrdered (s : Sorts) (ks : List ℕ) (k : ℕ) : Type 0 where
+  pub there : In k ks
+  pub all : (j : ℕ) → In j ks → j ≡ k
+  pub kind : s.kind k ≡ ordered
 
 -- ---- a visit that counts
 
