@@ -16,6 +16,7 @@
     generate.py copies              a short program of 64 equal rules, with 396 million joint cases
     generate.py choices             a short program of 62 equal rules of four heads and two more, with two thousand million joint cases
     generate.py guarded             a short program of 64 rules with guards that all differ, with 99 million order types
+    generate.py bodies              63 of these rules with bodies, so that the two sides of a case differ and are rested
     generate.py tells N [--show]    a program without rules, and N operations of one atom each
     generate.py wide N [--show]     a program without rules, and N operations of 64 atoms each
     generate.py minimum N           a program with one rule, N operations of one atom each, of which one atom stays, and a `show`
@@ -103,11 +104,21 @@ def choices():
     return text + "t \\ r(A) <=> true.\nt \\ t <=> true.\n"
 
 
-def guarded():
+def guarded_rules(count, body):
     """Rules that all remove the one atom, by guards of which no two are the same comparisons."""
     pairs = [(one, other) for one in "ABCD" for other in "ABCD" if one != other]
     guards = [f"{one} {sign} {other}" for sign in ("<", "=<", "=\\=", "=:=", ">", ">=") for one, other in pairs]
-    return ":- chr_constraint p/3, q/1.\n" + "".join(f"p(A,B,C) \\ q(D) <=> {guard} | true.\n" for guard in guards[:RULE_LIMIT])
+    return "".join(f"p(A,B,C) \\ q(D) <=> {guard} | {body}.\n" for guard in guards[:count])
+
+
+def guarded():
+    return ":- chr_constraint p/3, q/1.\n" + guarded_rules(RULE_LIMIT, "true")
+
+
+def bodies():
+    """Such rules that put in what another one removes, whatever its value is."""
+    text = ":- chr_constraint p/3, q/1, r/1.\n:- chr_weight q/1 = 2.\n" + guarded_rules(RULE_LIMIT - 1, "r(A)")
+    return text + "r(X) <=> true.\n"
 
 
 def tells(count, atoms):
@@ -171,6 +182,7 @@ TEXTS = {
     "copies": lambda: ":- chr_constraint c/2.\n" + "c(P,Q), c(R,S) <=> c(0,0).\n" * RULE_LIMIT,
     "choices": choices,
     "guarded": guarded,
+    "bodies": bodies,
 }
 
 

@@ -98,6 +98,14 @@ def program(chance: random.Random) -> Program:
     return Program(symbols, tuple(maker.rule() for _ in range(chance.randint(1, 3))))
 
 
+def long_program(chance: random.Random) -> Program:
+    """Eight to twelve rules, some of them copies, over symbols of few arguments: more overlaps than one thread looks at."""
+    symbols = {("a", 1): chance.randint(1, 3), ("b", chance.choice((1, 2))): chance.randint(1, 3)}
+    maker = Maker(chance, symbols, chance.choice(CONSTANTS), 2)
+    rules = [maker.rule() for _ in range(chance.randint(2, 6))]
+    return Program(symbols, tuple(chance.choices(rules, k=chance.randint(8, 12))))
+
+
 def store(chance: random.Random, of: Program, count: int) -> list[Pattern]:
     """Atoms of the program's symbols, whose values are few, so that they meet, and lie near its constants."""
     near = {value + step for value in of.constants() or [0] for step in (-1, 0, 1, 2)}

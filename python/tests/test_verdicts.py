@@ -7,7 +7,7 @@ from collections import Counter
 
 from chrrep.node import program_path
 from programs import answers
-from random_programs import program, record_program, store
+from random_programs import long_program, program, record_program, store
 from slow_verdict import (
     Pattern,
     Program,
@@ -25,6 +25,7 @@ from slow_verdict import (
 
 SEED = 17
 PROGRAMS = 3_000
+LONG_PROGRAMS = 300
 MOST_TYPES = 600
 """More order types of one overlap are not looked at, unless they are too many for a verdict."""
 MOST_COMBINATIONS = 300
@@ -187,6 +188,22 @@ class Verdicts(unittest.TestCase):
                 self.check_stores(chance, made)
         self.assertGreater(min(kinds["accepted: "], kinds["refused 20"], kinds["refused 21"]), PROGRAMS // 20, kinds)
         self.assertTrue(kinds["refused 22"], kinds)
+
+    def test_long_programs(self) -> None:
+        """Programs with more overlaps than one thread looks at, by both verdicts."""
+        chance = random.Random(SEED)
+        kinds: Counter[str] = Counter()
+        for _ in range(LONG_PROGRAMS):
+            made = long_program(chance)
+            try:
+                lines = (verdict(made, MOST_TYPES), verdict(made, MOST_COMBINATIONS, wide=True))
+            except TooSlow:
+                kinds["too slow"] += 1
+                continue
+            kinds[lines[0][:10]] += 1
+            with self.subTest(program=str(made)):
+                self.assertEqual((checked(str(made)), checked(str(made), "--wide")), lines)
+        self.assertGreater(min(kinds["accepted: "], kinds["refused 21"]), LONG_PROGRAMS // 20, kinds)
 
     def test_sorted_rows(self) -> None:
         for made, line in SORTED:

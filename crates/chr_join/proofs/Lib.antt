@@ -12,3 +12,4 @@ pub mod SortedConfluent
 pub mod Visits
 pub mod ConfluentJoins
 pub mod Counted
+pub mod EqualSides

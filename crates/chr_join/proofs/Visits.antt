@@ -50,7 +50,7 @@ use Rattle.chr_join.specs.declared.refused.Failure.{Failure}
 use Rattle.chr_join.specs.Explanations.{Explains}
 use Rattle.chr_join.specs.Sides.{IsJoinable}
 use Rattle.chr_join.specs.working.Ends.{AreEnds}
-use Rattle.chr_join.specs.working.Visits.{Setting, setting_of, MayCheck, HaveCases, GoesOn, FindsFailing, HasTold, Checks}
+use Rattle.chr_join.specs.working.Visits.{Setting, setting_of, MayCheck, HaveCases, GoesOn, FindsFailing, HasTold, Checks, TellsEqualSides}
 
 module _ (s : Setting) (r1 r2 : Rule) (are : AreRulesOf (rules_in s.weighed) s.overlap r1 r2) where
   abbrev guards : List ℤ → Bool
@@ -183,11 +183,12 @@ fails s zs c f failing is e o h r1 r2 are =
 
 -- a checker of this setting may visit
 pub may_check : (v : Checker) (s : Setting) → setting_of v ≡ s → IsOverlapOf (rules_in s.weighed) s.overlap → HasUnified (rules_in s.weighed) s.overlap s.unified → HaveCases s
-    → ((rules : List Rule) → AreEnds rules v.ends.entries.items) → MayCheck v
-may_check v s same of u cases ends = record {
+    → TellsEqualSides v → ((rules : List Rule) → AreEnds rules v.ends.entries.items) → MayCheck v
+may_check v s same of u cases equal ends = record {
   overlap = subst (λ (t : Setting). IsOverlapOf (rules_in t.weighed) t.overlap) (sym same) of;
   unified = subst (λ (t : Setting). HasUnified (rules_in t.weighed) t.overlap t.unified) (sym same) u;
   cases = subst HaveCases (sym same) cases;
+  equal = equal;
   ends = ends (rules_in v.weighed.now);
 }
 

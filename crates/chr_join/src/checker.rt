@@ -7,7 +7,7 @@ use crate::refused::{Cause, Failure};
 use crate::sides::{different_ends, explained};
 use chr_confluence::laws::peak;
 use chr_overlaps::cases::case_among;
-use chr_overlaps::{Overlap, Unified};
+use chr_overlaps::{Overlap, Unified, has_equal_sides};
 use chr_types::Visit;
 use chr_weights::Weighed;
 use std::alloc::{AllocError, Global};
@@ -19,6 +19,8 @@ pub(crate) struct Checker<'a> {
     pub(crate) weighed: &'a Weighed,
     pub(crate) overlap: &'a Overlap,
     pub(crate) unified: &'a Unified,
+    /// Whether both steps of each case lead to one store, so that no case has to be made.
+    pub(crate) equal: bool,
     pub(crate) ends: Ends,
     /// The number of cases that have joined.
     pub(crate) passed: usize,
@@ -29,7 +31,11 @@ pub(crate) struct Checker<'a> {
 impl<'a> Checker<'a> {
     ghost use Rattle.std.specs.Prelude.{None, List};
     ghost use Rattle.chr_base.specs.declared.rule.Rule.{Rule};
+    ghost use Rattle.chr_weights.specs.WeighedPrograms.{rules_in};
+    ghost use Rattle.chr_overlaps.specs.OverlapLists.{IsOverlapOf};
+    ghost use Rattle.chr_overlaps.specs.UnifiedOverlaps.{HasUnified};
     ghost use Rattle.chr_join.specs.working.Ends.{AreEnds};
+    ghost use Rattle.chr_join.specs.working.Visits.{TellsEqualSides};
 
     /// One that has visited nothing.
     pub(crate) fn new(
@@ -38,7 +44,10 @@ impl<'a> Checker<'a> {
         overlap: &'a Overlap,
         unified: &'a Unified,
     ) -> Checker<'a>
+        requires overlap { IsOverlapOf (rules_in weighed.now) overlap.now }
+        requires unified { HasUnified (rules_in weighed.now) overlap.now unified.now }
         ensures setting { setting_of result ≡ record { weighed = weighed.now; overlap = overlap.now; unified = unified.now } }
+        ensures equal { TellsEqualSides result }
         ensures ends { (rules : List Rule) → AreEnds rules result.ends.entries.items }
         ensures passed { result.passed ≡ 0 }
         ensures failing { result.failing ≡ None }
@@ -48,6 +57,7 @@ impl<'a> Checker<'a> {
             weighed,
             overlap,
             unified,
+            equal: has_equal_sides(weighed, overlap, unified),
             ends: Ends::new(alloc),
             passed: 0,
             failing: None,
@@ -79,6 +89,12 @@ impl Visit for Checker<'_> {
 
     fn visit(&mut self, values: &[i64]) -> Result<bool, AllocError> {
         peak();
+        if self.equal {
+            if self.unified.guards_hold(values) {
+                self.passed = self.passed.saturating_add(1);
+            }
+            return Ok(false);
+        }
         let Some(case) = case_among(self.alloc, self.weighed, self.overlap, self.unified, values)?
         else {
             return Ok(false);

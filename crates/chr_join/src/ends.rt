@@ -1,6 +1,8 @@
 //! A memory of ends: cases are many, and the different stores that come of them are few.
 ghost use Rattle.std.specs.Prelude.{IfOk, OnOk, IfSome, List};
+ghost use Rattle.std.specs.Bool.{OnTrue};
 ghost use Rattle.chr_base.specs.declared.rule.Rule.{Rule as RuleValue};
+ghost use Rattle.chr_base.specs.Stores.{Store};
 ghost use Rattle.chr_weights.specs.WeighedPrograms.{rules_in};
 ghost use Rattle.chr_join.specs.working.Ends.{EndsIn, AreEnds};
 
@@ -69,6 +71,20 @@ impl Ends {
             Some(Some(known)) if known.store.is_same(store) => Some(&known.end),
             _ => None,
         }
+    }
+
+    /// Whether both stores are remembered with one end.
+    pub(crate) fn have_one_end(&self, left: &Bag, right: &Bag) -> bool
+        ensures { (rules : List RuleValue) → AreEnds rules self.now.entries.items →
+            OnTrue result ((end : Store) × EndsIn rules left.now end × EndsIn rules right.now end) }
+    {
+        let Some(left_end) = self.known(place_of(left), left) else {
+            return false;
+        };
+        let Some(right_end) = self.known(place_of(right), right) else {
+            return false;
+        };
+        left_end.is_same(right_end)
     }
 
     /// Remembers the end of a store.

@@ -19,7 +19,7 @@ use crate::checker::{Checker, told};
 use crate::counting::{Counts, MANY_CLASSES};
 use crate::once::joint_cases_join;
 use crate::refused::{Cause, TooManyTypes};
-use crate::sorted::{all_join, joining_overlaps};
+use crate::sorted::{FEW_OVERLAPS, all_join, joining_overlaps};
 use chr_confluence::listing::listed_cases;
 use chr_overlaps::cases::{MAX_TYPES, unified};
 use chr_overlaps::constants::constants;
@@ -31,7 +31,7 @@ use std::alloc::{AllocError, Global};
 use std::thread::Threads;
 
 /// So many overlaps have their guards counted at once.
-const BATCH: usize = 256;
+const BATCH: usize = 64;
 
 /// Whether so many classes have no more order types than an overlap may have. Numbers that have not are remembered.
 fn are_few(
@@ -345,13 +345,13 @@ fn have_many_types(weighed: &Weighed, overlaps: &[Overlap]) -> bool
 }
 
 /// The overlaps that are worth it to be looked at by several threads: the first ones, of which all sorted cases are
-/// joinable, where several have many order types.
+/// joinable, where these are many or several have many order types.
 fn shared_out<'a>(weighed: &Weighed, overlaps: &'a [Overlap], joining: usize) -> &'a [Overlap]
     requires { All (IsOverlapOf (rules_in weighed.now)) overlaps.now }
     ensures { result.now ≡ take (length result.now) overlaps.now }
 {
     let (first, _) = overlaps.split_at(joining.min(overlaps.len()));
-    if have_many_types(weighed, first) {
+    if first.len() > FEW_OVERLAPS || have_many_types(weighed, first) {
         first
     } else {
         &[]

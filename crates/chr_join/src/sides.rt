@@ -63,6 +63,9 @@ pub(crate) fn different_ends(
     if left.is_same(&right) {
         return Ok(None);
     }
+    if ends.have_one_end(&left, &right) {
+        return Ok(None);
+    }
     let left_end = ends.end_of(alloc, weighed, left)?;
     let right_end = ends.end_of(alloc, weighed, right)?;
     if left_end.is_same(&right_end) {

@@ -1,5 +1,5 @@
 //! The verdict by sorted cases, overlap by overlap and case by case.
-ghost use Rattle.std.specs.Prelude.{◌≡◌, All, IfOk, IfErr};
+ghost use Rattle.std.specs.Prelude.{◌≡◌, All, IfOk, IfErr, ⊤};
 ghost use Rattle.std.specs.Bool.{OnTrue};
 ghost use Rattle.chr_weights.specs.WeighedPrograms.{rules_in};
 ghost use Rattle.chr_confluence.specs.Confluence.{Confluent};
@@ -19,17 +19,19 @@ ghost use Rattle.chr_join.specs.working.Checking.{Joins, RefusesAt};
 use crate::checker::{Checker, told};
 use crate::once::accepted_are_confluent;
 use crate::refused::{Cause, TooManyTypes};
+use chr_confluence::laws::peak;
 use chr_kinds::{Sorting, class_sorts, finest_sorts, has_more_combinations, visit_combinations};
 use chr_overlaps::cases::{MAX_TYPES, rule_of, sorted_unified};
-use chr_overlaps::{Overlap, Unified, overlaps};
+use chr_overlaps::{Overlap, Unified, has_equal_sides, overlaps};
 use chr_sorts::laws::sorted_cases;
+use chr_types::Visit;
 use chr_weights::Weighed;
 use rayon::prelude::*;
 use std::alloc::{AllocError, Global};
 use std::thread::Threads;
 
 /// So many overlaps are looked at before threads are started.
-const FEW_OVERLAPS: usize = 32;
+pub(crate) const FEW_OVERLAPS: usize = 32;
 
 /// The sorts of an overlap's classes.
 fn sorts_at(
@@ -122,6 +124,46 @@ pub(crate) fn check_sorted(alloc: Global, weighed: &Weighed) -> Result<u64, Caus
     Ok(total)
 }
 
+/// Sees no more than that there are lists to visit.
+#[derive(Drop)]
+struct Glance;
+
+impl Visit for Glance {
+    ghost ready = { λ _. ⊤ };
+
+    ghost step = { λ _ _ _ _. ⊤ };
+
+    fn visit(&mut self, _values: &[i64]) -> Result<bool, AllocError> {
+        Ok(true)
+    }
+}
+
+/// Whether both sides of each sorted case of an overlap are equal by their patterns alone, so that no case has to be
+/// looked at. False is also answered where memory is refused.
+fn have_equal_sides(
+    alloc: Global,
+    weighed: &Weighed,
+    sorting: &Sorting,
+    overlap: &Overlap,
+    unified: &Unified,
+    sorts: &[usize],
+) -> bool
+    requires overlap { IsOverlapOf (rules_in weighed.now) overlap.now }
+    requires unified { IsSortedUnifiedAt (rules_in weighed.now) overlap.now unified.now }
+    requires finest { AreFinest (rules_in weighed.now) (sorts_of sorting.now) }
+    requires sorts { (r1 r2 : RuleValue) → AreRulesOf (rules_in weighed.now) overlap.now r1 r2 →
+        sorts.now ≡ class_sorts (sorts_of sorting.now) (classes_of unified.now) r1 r2 }
+    requires few { ¬ MoreCombinationsThan (sorts_of sorting.now) sorts.now MAX_TYPES }
+    ensures { OnTrue result (Joins Sorted (rules_in weighed.now) overlap.now) }
+{
+    peak();
+    sorted_cases();
+    if !has_equal_sides(weighed, overlap, unified) {
+        return false;
+    }
+    visit_combinations(alloc, sorting, sorts, MAX_TYPES, &mut Glance).is_ok()
+}
+
 /// Whether all sorted cases of an overlap are joinable. False is also answered where there are too many, or where memory
 /// is refused.
 fn overlap_joins(alloc: Global, weighed: &Weighed, sorting: &Sorting, overlap: &Overlap) -> bool
@@ -129,7 +171,20 @@ fn overlap_joins(alloc: Global, weighed: &Weighed, sorting: &Sorting, overlap: &
     requires finest { AreFinest (rules_in weighed.now) (sorts_of sorting.now) }
     ensures { OnTrue result (Joins Sorted (rules_in weighed.now) overlap.now) }
 {
-    check_overlap(alloc, weighed, sorting, overlap).is_ok()
+    let Some(unified) = sorted_unified(weighed, overlap) else {
+        return true;
+    };
+    let Ok(sorts) = sorts_at(alloc, weighed, sorting, overlap, &unified) else {
+        return false;
+    };
+    match has_more_combinations(alloc, sorting, &sorts, MAX_TYPES) {
+        Ok(false) => {}
+        _ => return false,
+    }
+    if have_equal_sides(alloc, weighed, sorting, overlap, &unified, &sorts) {
+        return true;
+    }
+    check_combinations(alloc, weighed, sorting, overlap, &unified, &sorts).is_ok()
 }
 
 /// Whether all sorted cases of these overlaps are joinable, one overlap after the other.

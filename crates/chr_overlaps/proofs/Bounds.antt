@@ -31,7 +31,7 @@ in_heads x [] i h = absurd h
 in_heads x (p ∷ ps) zero h = in_first (Variable x) p.args.items (terms_of ps) h
 in_heads x (p ∷ ps) (suc i) h = in_second (Variable x) p.args.items (terms_of ps) (in_heads x ps i h)
 
-shifted_room : (k n m : ℕ) (ts : List Term) → k + n < m → ((x : ℕ) → In (Variable x) ts → x ≤ n) → are_below m (map (renamed_apart k) ts) ≡ true
+pub shifted_room : (k n m : ℕ) (ts : List Term) → k + n < m → ((x : ℕ) → In (Variable x) ts → x ≤ n) → are_below m (map (renamed_apart k) ts) ≡ true
 shifted_room k n m [] l h = refl
 shifted_room k n m (Constant c ∷ ts) l h = shifted_room k n m ts l (λ x i. h x (inr i))
 shifted_room k n m (Variable y ∷ ts) l h =

@@ -28,7 +28,7 @@ class_values σ k fs zs [] = refl
 class_values σ k fs zs (Variable x ∷ ts) = ap (λ vs. instance_at σ fs zs (k + x) ∷ vs) (class_values σ k fs zs ts)
 class_values σ k fs zs (Constant c ∷ ts) = ap (λ vs. c ∷ vs) (class_values σ k fs zs ts)
 
-class_atoms : (σ : Substitution) (k : ℕ) (fs : List ℕ) (zs : List ℤ) (ps : List Pattern) → atoms_at (assignment fs zs) (map (class_pattern σ k) ps) ≡ atoms_at (λ x. instance_at σ fs zs (k + x)) ps
+pub class_atoms : (σ : Substitution) (k : ℕ) (fs : List ℕ) (zs : List ℤ) (ps : List Pattern) → atoms_at (assignment fs zs) (map (class_pattern σ k) ps) ≡ atoms_at (λ x. instance_at σ fs zs (k + x)) ps
 class_atoms σ k fs zs [] = refl
 class_atoms σ k fs zs (p ∷ ps) = λ i. record { symbol = p.symbol; args = record { items = class_values σ k fs zs p.args.items i } } ∷ class_atoms σ k fs zs ps i
 

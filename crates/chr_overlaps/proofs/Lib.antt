@@ -16,3 +16,4 @@ pub mod CasesThere
 pub mod UnifiedOverlaps
 pub mod Beginnings
 pub mod GuardEquations
+pub mod EqualSides

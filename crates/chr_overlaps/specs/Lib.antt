@@ -2,4 +2,5 @@ pub mod OverlapLists
 pub mod CaseLists
 pub mod Refusals
 pub mod UnifiedOverlaps
+pub mod EqualSides
 pub mod working

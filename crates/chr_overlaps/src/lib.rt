@@ -4,6 +4,7 @@
 pub mod cases;
 mod classes;
 pub mod constants;
+mod equal_sides;
 mod fault;
 mod instances;
 mod listing;
@@ -12,6 +13,7 @@ mod overlap;
 mod sorted;
 mod unify;
 
+pub use equal_sides::has_equal_sides;
 pub use fault::CaseFault;
 pub use listing::overlaps;
 pub use numbered::variables;

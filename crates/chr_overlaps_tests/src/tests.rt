@@ -9,7 +9,7 @@ use chr_base::program::Program;
 use chr_base::rule::Rule;
 use chr_base::term::{Cmp, Comparison, Pattern, Term};
 use chr_overlaps::cases::{sorted_unified, unified};
-use chr_overlaps::{Overlap, Unified, overlaps};
+use chr_overlaps::{Overlap, Unified, has_equal_sides, overlaps};
 use chr_weights::{Weighed, weigh};
 use std::alloc::{AllocError, Global};
 use std::process::Abort;
@@ -141,6 +141,35 @@ fn guards_join_classes(rt: HostRuntime) -> Result<(), Fail> {
         assert!(rt; heads.as_ref().map(Unified::free) == Some(alone));
         let guards = sorted_unified(&weighed, &overlap);
         assert!(rt; guards.as_ref().map(Unified::free) == joined);
+    }
+    Ok(())
+}
+
+/// Whether both sides of an overlap are equal as patterns, once matched heads are made one, and once the `=:=` of both
+/// guards are solved too.
+fn are_equal(weighed: &Weighed, overlap: &Overlap) -> (bool, bool)
+    requires { IsOverlapOf (rules_in weighed.now) overlap.now }
+{
+    let heads = match unified(weighed, overlap) {
+        Some(unified) => has_equal_sides(weighed, overlap, &unified),
+        None => false,
+    };
+    let guards = match sorted_unified(weighed, overlap) {
+        Some(unified) => has_equal_sides(weighed, overlap, &unified),
+        None => false,
+    };
+    (heads, guards)
+}
+
+/// The matchings of the first rule with its copy are (0,1), (0,2), (1,2), (2,0) and (2,1). Both steps remove one atom where
+/// removed heads are matched, and where the guards make all atoms one.
+#[test]
+fn sides_are_equal(rt: HostRuntime) -> Result<(), Fail> {
+    let alloc = rt.alloc();
+    let weighed = weighed(&rt, alloc);
+    for (place, matched) in [false, true, true, false, false].into_iter().enumerate() {
+        let overlap = overlap_at(&rt, alloc, &weighed, place)?;
+        assert_eq!(rt; are_equal(&weighed, &overlap), (matched, true));
     }
     Ok(())
 }

@@ -18,3 +18,4 @@ pub mod TypesThere
 pub mod Walking
 pub mod Passing
 pub mod Counted
+pub mod Slots

@@ -1,6 +1,8 @@
 //! Whether there are more order types than a limit. None is kept.
-ghost use Rattle.std.specs.Prelude.{◌≡◌, ◌↔◌, IfOk, IsTrue};
+ghost use Rattle.std.specs.Prelude.{◌≡◌, ◌↔◌, ◌≤◌, IfOk, IfSome, IsTrue};
+ghost use Rattle.std.specs.Bool.{OnTrue};
 ghost use Rattle.chr_types.specs.OrderTypes.{Rises, MoreTypesThan};
+ghost use Rattle.chr_types.specs.working.Counting.{most_types};
 
 use crate::candidates::all_candidates;
 use crate::listing::{MAX_CLASSES, has_more_lists};
@@ -45,6 +47,37 @@ impl Visit for Count {
     }
 }
 
+/// Of so many classes a bound on their order types is made in no time.
+const FEW_CLASSES: usize = 8;
+
+/// No fewer than the order types of so many classes, where so many different values are there: a class is equal to one of
+/// these or lies between them. None where that is no number of 64 bits.
+fn most_types(classes: usize, values: usize) -> Option<usize>
+    ensures { IfSome result (λ most. most ≡ most_types classes values) }
+{
+    if classes == 0 {
+        return Some(1);
+    }
+    let more = values.checked_add(1)?;
+    let equal = values.checked_mul(most_types(classes - 1, values)?)?;
+    let between = more.checked_mul(most_types(classes - 1, more)?)?;
+    let most = equal.checked_add(between)?;
+    Some(most)
+}
+
+/// Whether a bound tells that so many classes have no more order types than the limit.
+fn are_few(classes: usize, values: usize, limit: usize) -> bool
+    ensures { OnTrue result (most_types classes values ≤ limit) }
+{
+    if classes > FEW_CLASSES {
+        return false;
+    }
+    match most_types(classes, values) {
+        Some(most) => most <= limit,
+        None => false,
+    }
+}
+
 /// Whether there are more order types of so many classes among the constants than the limit. The constants rise. The
 /// walk stops once the limit is passed, and holds one list of values.
 ///
@@ -61,6 +94,9 @@ pub fn has_more_types(
 {
     if classes > MAX_CLASSES {
         return Ok(true);
+    }
+    if are_few(classes, constants.len(), limit) {
+        return Ok(false);
     }
     let candidates = all_candidates(alloc, classes, constants)?;
     // As in the search for a list: the walk is not begun where it can't end.

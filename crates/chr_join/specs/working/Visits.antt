@@ -1,5 +1,6 @@
 -- What a visit of a list of values does: the case there, if there is one, is checked.
 use Rattle.std.specs.Prelude.{◌≡◌, ℕ, ℤ, ◌+◌, ◌<◌, ◌^◌, ◌⊎◌, Bool, true, false, List, Option, Some, ⊤}
+use Rattle.std.specs.Bool.{OnTrue}
 use Rattle.chr_base.specs.declared.rule.Rule.{Rule}
 use Rattle.chr_weights.specs.declared.weighed.Weighed.{Weighed}
 use Rattle.chr_weights.specs.WeighedPrograms.{rules_in}
@@ -8,6 +9,7 @@ use Rattle.chr_confluence.specs.Representatives.{left_at, right_at, guards_hold}
 use Rattle.chr_overlaps.specs.declared.overlap.Overlap.{Overlap}
 use Rattle.chr_overlaps.specs.declared.unify.Unified.{Unified}
 use Rattle.chr_overlaps.specs.CaseLists.{case_at}
+use Rattle.chr_overlaps.specs.EqualSides.{HaveEqualSides}
 use Rattle.chr_overlaps.specs.OverlapLists.{IsOverlapOf}
 use Rattle.chr_overlaps.specs.UnifiedOverlaps.{AreRulesOf, HasUnified}
 use Rattle.chr_overlaps.specs.working.Unifiers.{classes_of}
@@ -36,11 +38,18 @@ HaveCases s =
     → IsCase r1 r2 s.overlap.matching.items (left_at (classes_of s.unified) r1 r2 zs)
     (right_at (classes_of s.unified) r1 r2 zs)
 
+-- where it takes both sides of all cases for equal, they are
+abbrev pub TellsEqualSides : Checker → Type 0
+TellsEqualSides v =
+    (r1 r2 : Rule) → AreRulesOf (rules_in v.weighed.now) v.overlap.now r1 r2
+    → OnTrue v.equal (HaveEqualSides r1 r2 (classes_of v.unified.now))
+
 -- what a visit takes for granted
 pub record MayCheck (v : Checker) : Type 0 where
   pub overlap : IsOverlapOf (rules_in v.weighed.now) v.overlap.now
   pub unified : HasUnified (rules_in v.weighed.now) v.overlap.now v.unified.now
   pub cases : HaveCases (setting_of v)
+  pub equal : TellsEqualSides v
   pub ends : AreEnds (rules_in v.weighed.now) v.ends.entries.items
 
 -- there is no case at these values, or one that is joinable, and is counted

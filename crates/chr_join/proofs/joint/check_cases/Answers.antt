@@ -7,13 +7,16 @@ use Rattle.chr_join.specs.working.Visits.{Setting}
 use Rattle.chr_join.proofs.Visits.{classes_fit, may_check, seen_types, joint_cases, are_joint_cases, same_joint_cases, joint_values, told_joins, told_fails}
 use Rattle.chr_join.proofs.joint.check_cases.Goals as goal
 
+pub new-checker-requires-clause-unified : goal.new-checker-requires-clause-unified
+new-checker-requires-clause-unified c = unified_has (rules_in c.args.weighed.now) c.args.overlap.now c.args.unified.now c.requires.unified
+
 pub visit_types-requires-clause-few : goal.visit_types-requires-clause-few
 visit_types-requires-clause-few c = classes_fit c.free_classes-classes.result _ c.args.constants.now c.free_classes-classes.ensures c.requires.few
 
 pub visit_types-requires-clause-ready : goal.visit_types-requires-clause-ready
 visit_types-requires-clause-ready c =
     let s : Setting = record { weighed = c.args.weighed.now; overlap = c.args.overlap.now; unified = c.args.unified.now } in
-    may_check c.new-checker.result s c.new-checker.ensures.setting c.requires.overlap (unified_has (rules_in s.weighed) s.overlap s.unified c.requires.unified) (joint_values c.listed_cases.ensures.cases s c.requires.overlap c.requires.unified) c.new-checker.ensures.ends
+    may_check c.new-checker.result s c.new-checker.ensures.setting c.requires.overlap (unified_has (rules_in s.weighed) s.overlap s.unified c.requires.unified) (joint_values c.listed_cases.ensures.cases s c.requires.overlap c.requires.unified) c.new-checker.ensures.equal c.new-checker.ensures.ends
 
 pub returns-clause-ok : goal.returns-clause-ok
 returns-clause-ok c =

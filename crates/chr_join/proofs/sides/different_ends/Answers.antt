@@ -1,4 +1,5 @@
-use Rattle.std.proofs.Common.{sym, ◌∙◌}
+use Rattle.std.proofs.Common.{refl, sym, ◌∙◌}
+use Rattle.std.proofs.lemmas.Bool.{OnTrue_at}
 use mathlib.Core.Bool.{true≢false}
 use Rattle.chr_weights.proofs.Ranks.{lowers_rank, rank_in}
 use Rattle.chr_weights.specs.WeighedPrograms.{program_of, rules_in}
@@ -8,6 +9,15 @@ use Rattle.chr_join.proofs.sides.different_ends.Goals as goal
 pub returns-then-is_same-clause-joinable : goal.returns-then-is_same-clause-joinable
 returns-then-is_same-clause-joinable c =
     joined_early (rules_in c.args.weighed.now) (rank_in (program_of c.args.weighed.now)) (lowers_rank (program_of c.args.weighed.now) c.args.weighed.now.lowers) c.args.case.now c.in_ok-left.left c.in_ok-right.right (c.is_same.ensures.0 c.if-is_same.true) c.in_ok-left.ensures c.in_ok-right.ensures
+
+pub returns-then-have_one_end-clause-joinable : goal.returns-then-have_one_end-clause-joinable
+returns-then-have_one_end-clause-joinable c =
+    let rules = rules_in c.args.weighed.now in
+    let case = c.args.case.now in
+    let end = OnTrue_at c.if-have_one_end.true (c.have_one_end.ensures rules c.requires.known) in
+    joined rules case end.0 end.0 refl
+    (side_ends rules case.store c.in_ok-left.left end.0 case.left c.in_ok-left.ensures end.1)
+    (side_ends rules case.store c.in_ok-right.right end.0 case.right c.in_ok-right.ensures end.2)
 
 pub returns-then-is_same-2-clause-joinable : goal.returns-then-is_same-2-clause-joinable
 returns-then-is_same-2-clause-joinable c =

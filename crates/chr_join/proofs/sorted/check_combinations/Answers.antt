@@ -8,10 +8,13 @@ use Rattle.chr_join.specs.working.Visits.{Setting}
 use Rattle.chr_join.proofs.Visits.{may_check, few_combinations, sorted_cases, are_sorted_cases, sorted_values, told_joins, told_fails}
 use Rattle.chr_join.proofs.sorted.check_combinations.Goals as goal
 
+pub new-checker-requires-clause-unified : goal.new-checker-requires-clause-unified
+new-checker-requires-clause-unified c = sorted_unified_has (rules_in c.args.weighed.now) c.args.overlap.now c.args.unified.now c.requires.unified
+
 pub visit_combinations-requires-clause-ready : goal.visit_combinations-requires-clause-ready
 visit_combinations-requires-clause-ready c =
     let s : Setting = record { weighed = c.args.weighed.now; overlap = c.args.overlap.now; unified = c.args.unified.now } in
-    may_check c.new-checker.result s c.new-checker.ensures.setting c.requires.overlap (sorted_unified_has (rules_in s.weighed) s.overlap s.unified c.requires.unified) (sorted_values c.sorted_cases.ensures.cases s c.requires.overlap c.requires.unified) c.new-checker.ensures.ends
+    may_check c.new-checker.result s c.new-checker.ensures.setting c.requires.overlap (sorted_unified_has (rules_in s.weighed) s.overlap s.unified c.requires.unified) (sorted_values c.sorted_cases.ensures.cases s c.requires.overlap c.requires.unified) c.new-checker.ensures.equal c.new-checker.ensures.ends
 
 pub returns-clause-ok : goal.returns-clause-ok
 returns-clause-ok c =

@@ -9,6 +9,7 @@ use Rattle.chr_types.specs.declared.counting.Count.{Count}
 use Rattle.chr_types.specs.declared.search.Candidate.{Candidate}
 use Rattle.chr_types.proofs.ConstantLists.{many_constants}
 use Rattle.chr_types.proofs.Counted.{Step, counted_past, counted_within, all_pass}
+use Rattle.chr_types.proofs.Slots.{within_most}
 use Rattle.chr_types.proofs.Passing.{walked_passes}
 use Rattle.chr_types.proofs.Theorem.{lists_are}
 use Rattle.chr_types.proofs.TooMany.{more_types, many_classes, not_more}
@@ -35,3 +36,9 @@ returns c =
     let ks = c.deref.result.now in
     let are : AreTypes n cs (lists_over ks n [] []) = lists_are n cs ks (let l = c.if-classes-gt-MAX_CLASSES.false in omega (arith, l)) c.requires.rising c.in_ok-candidates.ensures.values (subst (λ (ps : List Candidate). AreCandidates n cs ps) (sym c.deref.ensures.value) c.in_ok-candidates.ensures.candidates) in
     ok_then c.walk.result _ _ (λ b x. told c.args.limit n cs (lists_over ks n [] []) c.walk.new.visitor b are (subst (λ rs. Visited Step (record { found = 0; limit = c.args.limit }) rs b c.walk.new.visitor) (walked_passes (λ _. true) ks n [] [] ∙ all_pass (lists_over ks n [] [])) x)) (rw c.new-prefix.ensures.items at c.walk.ensures.visited)
+
+pub returns-then-are_few : goal.returns-then-are_few
+returns-then-are_few c = (
+  λ i. absurd (true≢false (sym i)),
+  λ more. absurd (within_most c.args.limit c.args.classes c.args.constants.now c.requires.rising c.if-are_few.ensures more),
+)
