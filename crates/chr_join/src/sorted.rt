@@ -30,6 +30,9 @@ use rayon::prelude::*;
 use std::alloc::{AllocError, Global};
 use std::thread::Threads;
 
+/// So many overlaps are worth a thread of their own.
+const LEAST_PIECE: usize = 8;
+
 /// So many overlaps are looked at before threads are started.
 pub(crate) const FEW_OVERLAPS: usize = 32;
 
@@ -213,7 +216,7 @@ fn many_join(
     requires finest { AreFinest (rules_in weighed.now) (sorts_of sorting.now) }
     ensures { OnTrue result (All (Joins Sorted (rules_in weighed.now)) overlaps.now) }
 {
-    overlaps.par_iter().all(
+    overlaps.par_iter().with_min_len(LEAST_PIECE).all(
         rt,
         |overlap: &Overlap| -> bool
             requires { IsOverlapOf (rules_in weighed.now) overlap.now × AreFinest (rules_in weighed.now) (sorts_of sorting.now) }
