@@ -2,6 +2,9 @@ pub mod SideSteps
 pub mod CaseSteps
 pub mod Lists
 pub mod Verdicts
+pub mod OverlapPortions
+pub mod UnnamedRules
+pub mod CopiedRules
 pub mod Confluent
 pub mod OnceLists
 pub mod CoverageLists

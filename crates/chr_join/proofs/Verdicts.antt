@@ -1,12 +1,11 @@
 -- The verdict as a walk over the overlaps finds it.
-use Rattle.std.specs.Prelude.{◌≡◌, ℕ, zero, suc, ◌+◌, ◌*◌, ◌^◌, ◌<◌, ◌≤◌, Bool, true, false, cond, List, [], ◌∷◌, ◌++◌, length, map, take, drop, get_or}
+use Rattle.std.specs.Prelude.{◌≡◌, ℕ, zero, suc, ◌+◌, ◌*◌, ◌^◌, ◌<◌, ◌≤◌, Bool, true, false, cond, List, [], ◌∷◌, ◌++◌, length, map, take, get_or}
 use Rattle.std.specs.List.{All, filter}
 use Rattle.std.proofs.Common.{refl, sym, ap, subst, ◌∙◌, arith, inl, inr, length-take-le}
 use Rattle.std.proofs.lemmas.List.{take_more, length-map}
 use Rattle.chr_base.specs.declared.rule.Rule.{Rule}
 use Rattle.chr_types.specs.OrderTypes.{In}
 use Rattle.chr_overlaps.specs.declared.overlap.Overlap.{Overlap}
-use Rattle.chr_overlaps.specs.OverlapLists.{AreOverlaps}
 use Rattle.chr_confluence.specs.Representatives.{guards_hold}
 use Rattle.chr_overlaps.specs.declared.cases.TheConstants.{MAX_TYPES}
 use Rattle.chr_overlaps.specs.declared.cases.Case.{Case}
@@ -14,9 +13,9 @@ use Rattle.chr_overlaps.specs.CaseLists.{case_at}
 use Rattle.chr_join.specs.declared.coverage.Coverage.{Coverage}
 use Rattle.chr_join.specs.declared.coverage.Coverage.TheVariants.{Joint, Sorted}
 use Rattle.chr_join.specs.Coverages.{AreCasesBy}
-use Rattle.chr_join.specs.Verdicts.{HasJoinableCasesBy, HaveJoinableCasesBy, IsFirstBy}
+use Rattle.chr_join.specs.Verdicts.{HasJoinableCasesBy, HaveJoinableCasesBy}
 use Rattle.chr_join.specs.working.Checking.{Joins}
-use Rattle.chr_join.proofs.Lists.{split_at, all_in}
+use Rattle.chr_join.proofs.Lists.{all_in}
 
 pub filter_few : {A : Type 0} (p : A → Bool) (xs : List A) → length (filter p xs) ≤ length xs
 filter_few p [] = omega arith
@@ -67,7 +66,7 @@ listed_few Sorted rules o cs h = elim h.2.listed as (λ _. length cs ≤ MAX_TYP
 few_cases : (coverage : Coverage) (rules : List Rule) (o : Overlap) (n : ℕ) → HasJoinableCasesBy coverage rules o n → n ≤ MAX_TYPES
 few_cases coverage rules o n h = let number = h.number in let few = listed_few coverage rules o h.cases h.listed in omega (arith, number, few)
 
-all_few : (coverage : Coverage) (rules : List Rule) (os : List Overlap) (n : ℕ) → HaveJoinableCasesBy coverage rules os n → n ≤ length os * MAX_TYPES
+pub all_few : (coverage : Coverage) (rules : List Rule) (os : List Overlap) (n : ℕ) → HaveJoinableCasesBy coverage rules os n → n ≤ length os * MAX_TYPES
 all_few coverage rules [] n h = omega (arith, h)
 all_few coverage rules (o ∷ os) n h =
     let here = few_cases coverage rules o h.0 h.2 in
@@ -83,7 +82,7 @@ total_fits coverage rules os i o total k few l h c =
     let taken = length-take-le i os (omega (arith, l)) in
     omega (arith, all, here, taken, few, l)
 
-each_joinable : (coverage : Coverage) (rules : List Rule) (os : List Overlap) (n : ℕ) → HaveJoinableCasesBy coverage rules os n → All (λ p. (m : ℕ) × HasJoinableCasesBy coverage rules p m) os
+pub each_joinable : (coverage : Coverage) (rules : List Rule) (os : List Overlap) (n : ℕ) → HaveJoinableCasesBy coverage rules os n → All (λ p. (m : ℕ) × HasJoinableCasesBy coverage rules p m) os
 each_joinable coverage rules [] n h k d l = absurd (omega (arith, l))
 each_joinable coverage rules (o ∷ os) n h zero d l = (h.0, h.2)
 each_joinable coverage rules (o ∷ os) n h (suc k) d l = each_joinable coverage rules os h.1 h.3 k d (omega (arith, l))
@@ -91,11 +90,3 @@ each_joinable coverage rules (o ∷ os) n h (suc k) d l = each_joinable coverage
 -- each of the overlaps has joinable cases
 pub joinable_in : (coverage : Coverage) (rules : List Rule) (os : List Overlap) (n : ℕ) (o : Overlap) → HaveJoinableCasesBy coverage rules os n → In o os → (m : ℕ) × HasJoinableCasesBy coverage rules o m
 joinable_in coverage rules os n o h = all_in (λ p. (m : ℕ) × HasJoinableCasesBy coverage rules p m) os o (each_joinable coverage rules os n h)
-
-pub first_at : (coverage : Coverage) (rules : List Rule) (os : List Overlap) (i : ℕ) (o : Overlap) (n : ℕ) → AreOverlaps rules os → HaveJoinableCasesBy coverage rules (take i os) n → i < length os → o ≡ get_or os i o → IsFirstBy coverage rules o
-first_at coverage rules os i o n are h l e = record {
-  before = take i os;
-  after = drop (i + 1) os;
-  listed = subst (AreOverlaps rules) (sym (split_at os i o l e)) are;
-  joinable = each_joinable coverage rules (take i os) n h;
-}

@@ -28,7 +28,7 @@ fn judged(
 {
     match coverage {
         Coverage::Joint => check_joint(rt, alloc, weighed),
-        Coverage::Sorted => check_sorted(alloc, weighed),
+        Coverage::Sorted => check_sorted(rt, alloc, weighed),
     }
 }
 

@@ -1,7 +1,8 @@
 //! The verdict by joint cases, overlap by overlap and case by case.
-ghost use Rattle.std.specs.Prelude.{◌≡◌, ℕ, All, IfOk, IfErr, IfNone, IfSome, drop, length, take};
+ghost use Rattle.std.specs.Prelude.{◌≡◌, ◌*◌, ◌≤◌, All, IfOk, IfErr, IfNone, IfSome, length};
 ghost use Rattle.std.specs.List.{AllZip};
 ghost use Rattle.std.specs.Bool.{OnTrue, OnFalse};
+ghost use Rattle.chr_base.specs.declared.limits.TheConstants.{MAX_RULES};
 ghost use Rattle.chr_types.specs.OrderTypes.{Rises, MoreTypesThan};
 ghost use Rattle.chr_weights.specs.WeighedPrograms.{rules_in};
 ghost use Rattle.chr_confluence.specs.Confluence.{Confluent};
@@ -9,29 +10,31 @@ ghost use Rattle.chr_confluence.specs.Constants.{AreConstants};
 ghost use Rattle.chr_overlaps.specs.OverlapLists.{IsOverlapOf};
 ghost use Rattle.chr_overlaps.specs.declared.cases.TheConstants.{MAX_TYPES};
 ghost use Rattle.chr_overlaps.specs.UnifiedOverlaps.{IsUnifiedAt};
+ghost use Rattle.chr_kinds.specs.FinestSorts.{AreFinest, sorts_of};
 ghost use Rattle.chr_join.specs.declared.coverage.Coverage.TheVariants.{Joint};
-ghost use Rattle.chr_join.specs.Verdicts.{HasJoinableCasesBy, IsAcceptedBy};
+ghost use Rattle.chr_join.specs.Verdicts.{HasJoinableCasesBy, HaveJoinableCasesBy, IsAcceptedBy};
 ghost use Rattle.chr_join.specs.Explanations.{IsRefusalBy};
-ghost use Rattle.chr_join.specs.working.Checking.{HaveFewTypes, IsNumberOf, RefusesAt};
+ghost use Rattle.chr_join.specs.working.Checking.{AreAhead, HaveFewTypes, IsNumberOf, RefusesAt};
+ghost use Rattle.chr_join.specs.working.Portions.{MOST_OF_RULE, RefusesIn};
 ghost use Rattle.chr_join.specs.working.Counting.{AreCounts, HasFewTypes};
 
+use crate::ahead::{Ahead, BATCH, batch_from};
 use crate::checker::{Checker, told};
 use crate::counting::{Counts, MANY_CLASSES};
 use crate::once::joint_cases_join;
+use crate::portions::{Portion, portion_from};
 use crate::refused::{Cause, TooManyTypes};
-use crate::sorted::{FEW_OVERLAPS, all_join, joining_overlaps};
+use crate::sorted::{FEW_OVERLAPS, joining_overlaps, joining_rules};
 use chr_confluence::listing::listed_cases;
+use chr_kinds::{Sorting, finest_sorts};
 use chr_overlaps::cases::{MAX_TYPES, unified};
 use chr_overlaps::constants::constants;
-use chr_overlaps::{Overlap, Unified, overlaps};
+use chr_overlaps::{Overlap, Unified};
 use chr_types::{has_more_types, visit_types};
 use chr_weights::Weighed;
 use rayon::prelude::*;
 use std::alloc::{AllocError, Global};
 use std::thread::Threads;
-
-/// So many overlaps have their guards counted at once.
-const BATCH: usize = 64;
 
 /// Whether so many classes have no more order types than an overlap may have. Numbers that have not are remembered.
 fn are_few(
@@ -168,18 +171,6 @@ fn new_guards(
     Ok(guards)
 }
 
-/// The batch of overlaps that begins at this place, and nothing where none begins there.
-fn batch_from(overlaps: &[Overlap], place: usize) -> &[Overlap]
-    ensures { (from n : ℕ) × (result.now ≡ take n (drop from overlaps.now)) }
-{
-    if place % BATCH != 0 {
-        return &[];
-    }
-    let (_, rest) = overlaps.split_at(place.min(overlaps.len()));
-    let (batch, _) = rest.split_at(rest.len().min(BATCH));
-    batch
-}
-
 /// Counts the guards of these overlaps that aren't counted yet, before the overlaps are looked at one by one.
 fn count_ahead(
     rt: &(impl Threads + Sync),
@@ -258,30 +249,68 @@ fn count_overlap(
     }
 }
 
-/// The number of all joint cases of confluent rules, which are counted and not looked at.
-fn count_overlaps(
+/// The number of joint cases of these overlaps of confluent rules, which are counted and not looked at.
+fn count_portion(
     rt: &(impl Threads + Sync),
     alloc: Global,
     weighed: &Weighed,
+    overlaps: &[Overlap],
+    constants: &[i64],
+    known: &mut Remembered,
 ) -> Result<u64, Cause>
+    requires confluent { Confluent (rules_in weighed.now) }
+    requires overlaps { All (IsOverlapOf (rules_in weighed.now)) overlaps.now }
+    requires number { length overlaps.now ≤ MAX_RULES * MOST_OF_RULE }
+    requires constants { AreConstants (rules_in weighed.now) constants.now }
+    requires few { HaveFewTypes constants.now known.old.few.items }
+    requires counts { AreCounts constants.now known.old.counts.entries.items }
+    ensures few { IfOk result (λ _. HaveFewTypes constants.now known.new.few.items) }
+    ensures counts { IfOk result (λ _. AreCounts constants.now known.new.counts.entries.items) }
+    ensures ok { IfOk result (HaveJoinableCasesBy Joint (rules_in weighed.now) overlaps.now) }
+    ensures err { IfErr result (RefusesIn Joint (rules_in weighed.now) overlaps.now) }
+{
+    let mut total: u64 = 0;
+    for (place, overlap) in overlaps.iter().enumerate() {
+        if place % BATCH == 0 {
+            let batch = batch_from(overlaps, place, overlaps.len());
+            count_ahead(rt, alloc, weighed, batch, constants, known)?;
+        }
+        match count_overlap(alloc, weighed, overlap, constants, known) {
+            Ok(cases) => total += cases as u64,
+            Err(cause) => return Err(cause),
+        }
+    }
+    Ok(total)
+}
+
+/// The number of all joint cases of confluent rules, which are counted and not looked at.
+fn count_joint(rt: &(impl Threads + Sync), alloc: Global, weighed: &Weighed) -> Result<u64, Cause>
     requires { Confluent (rules_in weighed.now) }
     ensures ok { IfOk result (IsAcceptedBy Joint (rules_in weighed.now)) }
     ensures err { IfErr result (IsRefusalBy Joint (rules_in weighed.now)) }
 {
     let constants = constants(alloc, weighed.program().rules())?;
-    let overlaps = overlaps(alloc, weighed)?;
+    let rules = weighed.program().rules().len();
     let mut known = Remembered {
         few: Vec::new(alloc),
         counts: Counts::new(alloc),
     };
     let mut total: u64 = 0;
-    for (place, overlap) in overlaps.iter().enumerate() {
-        let batch = batch_from(&overlaps, place);
-        count_ahead(rt, alloc, weighed, batch, &constants, &mut known)?;
-        match count_overlap(alloc, weighed, overlap, &constants, &mut known) {
-            Ok(cases) => total += cases as u64,
+    let mut place = 0;
+    while place < rules {
+        let portion = portion_from(alloc, weighed, place)?;
+        match count_portion(
+            rt,
+            alloc,
+            weighed,
+            &portion.overlaps,
+            &constants,
+            &mut known,
+        ) {
+            Ok(cases) => total += cases,
             Err(cause) => return Err(cause),
         }
+        place = portion.end;
     }
     Ok(total)
 }
@@ -344,17 +373,16 @@ fn have_many_types(weighed: &Weighed, overlaps: &[Overlap]) -> bool
     false
 }
 
-/// The overlaps that are worth it to be looked at by several threads: the first ones, of which all sorted cases are
+/// So many overlaps are worth it to be looked at by several threads: the first ones, of which all sorted cases are
 /// joinable, where these are many or several have many order types.
-fn shared_out<'a>(weighed: &Weighed, overlaps: &'a [Overlap], joining: usize) -> &'a [Overlap]
+fn shared_out(weighed: &Weighed, overlaps: &[Overlap], joining: usize) -> usize
     requires { All (IsOverlapOf (rules_in weighed.now)) overlaps.now }
-    ensures { result.now ≡ take (length result.now) overlaps.now }
 {
     let (first, _) = overlaps.split_at(joining.min(overlaps.len()));
     if first.len() > FEW_OVERLAPS || have_many_types(weighed, first) {
-        first
+        first.len()
     } else {
-        &[]
+        0
     }
 }
 
@@ -368,7 +396,7 @@ fn numbers_of(
 ) -> Result<Vec<Option<usize>>, AllocError>
     requires overlaps { All (IsOverlapOf (rules_in weighed.now)) overlaps.now }
     requires constants { AreConstants (rules_in weighed.now) constants.now }
-    ensures { IfOk result (λ numbers. AllZip (IsNumberOf (rules_in weighed.now)) overlaps.now numbers.items) }
+    ensures { IfOk result (λ numbers. AllZip (IsNumberOf Joint (rules_in weighed.now)) overlaps.now numbers.items) }
 {
     overlaps
         .par_iter()
@@ -382,9 +410,112 @@ fn numbers_of(
         .collect(rt, alloc)
 }
 
-/// The number of all joint cases, where all of them are joinable. The first overlaps, of which all sorted cases are
-/// joinable, are looked at ahead by several threads.
-fn check_overlaps(
+/// Looks at the next overlaps from this place on, up to this end.
+fn look_ahead(
+    rt: &(impl Threads + Sync),
+    alloc: Global,
+    weighed: &Weighed,
+    overlaps: &[Overlap],
+    place: usize,
+    end: usize,
+    constants: &[i64],
+) -> Result<Ahead, AllocError>
+    requires overlaps { All (IsOverlapOf (rules_in weighed.now)) overlaps.now }
+    requires constants { AreConstants (rules_in weighed.now) constants.now }
+    ensures { IfOk result (AreAhead Joint (rules_in weighed.now) overlaps.now) }
+{
+    let batch = batch_from(overlaps, place, end);
+    Ok(Ahead {
+        start: place,
+        numbers: numbers_of(rt, alloc, weighed, batch, constants)?,
+    })
+}
+
+/// The number of cases of an overlap, where all of them are joinable. It may be known.
+fn checked(
+    alloc: Global,
+    weighed: &Weighed,
+    overlap: &Overlap,
+    constants: &[i64],
+    few: &mut Vec<usize>,
+    known: Option<usize>,
+) -> Result<usize, Cause>
+    requires overlap { IsOverlapOf (rules_in weighed.now) overlap.now }
+    requires constants { AreConstants (rules_in weighed.now) constants.now }
+    requires few { HaveFewTypes constants.now few.old.items }
+    requires known { IfSome known (HasJoinableCasesBy Joint (rules_in weighed.now) overlap.now) }
+    ensures few { IfOk result (λ _. HaveFewTypes constants.now few.new.items) }
+    ensures ok { IfOk result (HasJoinableCasesBy Joint (rules_in weighed.now) overlap.now) }
+    ensures err { IfErr result (RefusesAt Joint (rules_in weighed.now) overlap.now) }
+{
+    match known {
+        Some(cases) => Ok(cases),
+        None => check_overlap(alloc, weighed, overlap, constants, few),
+    }
+}
+
+/// The number of joint cases of these overlaps, where all of them are joinable. The first ones, of which all sorted cases
+/// are joinable, are looked at ahead by several threads.
+fn check_portion(
+    rt: &(impl Threads + Sync),
+    alloc: Global,
+    weighed: &Weighed,
+    overlaps: &[Overlap],
+    joining: usize,
+    constants: &[i64],
+    few: &mut Vec<usize>,
+) -> Result<u64, Cause>
+    requires overlaps { All (IsOverlapOf (rules_in weighed.now)) overlaps.now }
+    requires number { length overlaps.now ≤ MAX_RULES * MOST_OF_RULE }
+    requires constants { AreConstants (rules_in weighed.now) constants.now }
+    requires few { HaveFewTypes constants.now few.old.items }
+    ensures few { IfOk result (λ _. HaveFewTypes constants.now few.new.items) }
+    ensures ok { IfOk result (HaveJoinableCasesBy Joint (rules_in weighed.now) overlaps.now) }
+    ensures err { IfErr result (RefusesIn Joint (rules_in weighed.now) overlaps.now) }
+{
+    let end = shared_out(weighed, overlaps, joining);
+    let mut ahead = Ahead::none(alloc);
+    let mut total: u64 = 0;
+    for (place, overlap) in overlaps.iter().enumerate() {
+        if place < end && ahead.ends_before(place) {
+            ahead = look_ahead(rt, alloc, weighed, overlaps, place, end, constants)?;
+        }
+        match checked(
+            alloc,
+            weighed,
+            overlap,
+            constants,
+            few,
+            ahead.number_at(place),
+        ) {
+            Ok(cases) => total += cases as u64,
+            Err(cause) => return Err(cause),
+        }
+    }
+    Ok(total)
+}
+
+/// The number of the first overlaps of this portion of which all sorted cases are joinable. So many rules have none that
+/// fails.
+fn joining_in(
+    alloc: Global,
+    weighed: &Weighed,
+    sorting: &Sorting,
+    portion: &Portion,
+    joining: usize,
+) -> usize
+    requires overlaps { All (IsOverlapOf (rules_in weighed.now)) portion.now.overlaps.items }
+    requires finest { AreFinest (rules_in weighed.now) (sorts_of sorting.now) }
+{
+    if portion.end <= joining {
+        return portion.overlaps.len();
+    }
+    joining_overlaps(alloc, weighed, sorting, &portion.overlaps)
+}
+
+/// The number of all joint cases, where all of them are joinable. So many rules have no overlap of which a sorted case
+/// fails.
+fn check_rules(
     rt: &(impl Threads + Sync),
     alloc: Global,
     weighed: &Weighed,
@@ -394,20 +525,27 @@ fn check_overlaps(
     ensures err { IfErr result (IsRefusalBy Joint (rules_in weighed.now)) }
 {
     let constants = constants(alloc, weighed.program().rules())?;
-    let overlaps = overlaps(alloc, weighed)?;
-    let ahead = shared_out(weighed, &overlaps, joining);
-    let numbers = numbers_of(rt, alloc, weighed, ahead, &constants)?;
+    let sorting = finest_sorts(alloc, weighed.program())?;
+    let rules = weighed.program().rules().len();
     let mut few = Vec::new(alloc);
     let mut total: u64 = 0;
-    for (place, overlap) in overlaps.iter().enumerate() {
-        let checked = match numbers.get(place) {
-            Some(Some(number)) => Ok(*number),
-            _ => check_overlap(alloc, weighed, overlap, &constants, &mut few),
-        };
-        match checked {
-            Ok(cases) => total += cases as u64,
+    let mut place = 0;
+    while place < rules {
+        let portion = portion_from(alloc, weighed, place)?;
+        let first = joining_in(alloc, weighed, &sorting, &portion, joining);
+        match check_portion(
+            rt,
+            alloc,
+            weighed,
+            &portion.overlaps,
+            first,
+            &constants,
+            &mut few,
+        ) {
+            Ok(cases) => total += cases,
             Err(cause) => return Err(cause),
         }
+        place = portion.end;
     }
     Ok(total)
 }
@@ -422,9 +560,9 @@ pub(crate) fn check_joint(
     ensures ok { IfOk result (IsAcceptedBy Joint (rules_in weighed.now)) }
     ensures err { IfErr result (IsRefusalBy Joint (rules_in weighed.now)) }
 {
-    if all_join(rt, alloc, weighed)? {
-        return count_overlaps(rt, alloc, weighed);
+    let joining = joining_rules(rt, alloc, weighed)?;
+    if joining >= weighed.program().rules().len() {
+        return count_joint(rt, alloc, weighed);
     }
-    let joining = joining_overlaps(alloc, weighed)?;
-    check_overlaps(rt, alloc, weighed, joining)
+    check_rules(rt, alloc, weighed, joining)
 }

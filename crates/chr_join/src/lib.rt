@@ -4,7 +4,9 @@
 
 mod accepted;
 mod accepting;
+mod ahead;
 mod checker;
+mod copies;
 mod counting;
 mod coverage;
 mod ends;
@@ -13,6 +15,7 @@ pub mod laws;
 mod lease;
 mod once;
 mod parts;
+mod portions;
 mod refused;
 mod sides;
 mod sorted;

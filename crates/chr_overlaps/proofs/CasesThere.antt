@@ -22,9 +22,8 @@ use Rattle.chr_overlaps.specs.declared.cases.TheConstants.{MAX_TYPES}
 use Rattle.chr_overlaps.specs.CaseLists.{case_at, AreCases, IsTooMany}
 use Rattle.chr_overlaps.specs.OverlapLists.{AreOverlaps, IsOverlapOf}
 use Rattle.chr_overlaps.specs.working.Gathering.{AreConstantsIn, all_terms}
-use Rattle.chr_overlaps.specs.working.Listing.{all_overlaps}
 use Rattle.chr_overlaps.proofs.Gathered.{all_gathered, none_yet, of_some_rule}
-use Rattle.chr_overlaps.proofs.Theorem.{all_listed}
+use Rattle.chr_overlaps.proofs.Between.{of_all, part_there}
 
 -- ---- constants
 
@@ -66,7 +65,7 @@ constants_there rules =
 -- ---- overlaps
 
 pub overlaps_there : (rules : List Rule) → (os : List Overlap) × AreOverlaps rules os
-overlaps_there rules = (all_overlaps rules, all_listed rules rules (length rules) (all_overlaps rules) refl refl refl)
+overlaps_there rules = let w = part_there rules 0 in (w.0, of_all rules (length rules) w.0 (omega arith) w.1)
 
 -- ---- cases
 

@@ -71,6 +71,6 @@ few_rules p =
     let counts = (and_parts _ (list_all is_in_range ds) ranges).0 in
     leb-true _ _ (and_parts _ _ counts).1
 
--- those of the first n rules
-pub few_overlaps : (rules : List Rule) (n : ℕ) → length rules ≤ MAX_RULES → n ≤ MAX_RULES → length (flat_map (overlaps_of_rule rules) (range_with_len 0 n)) ≤ MAX_RULES * MAX_RULES * (MAX_HEADS + 1) ^ MAX_HEADS
-few_overlaps rules n l m = few_range (overlaps_of_rule rules) (MAX_RULES * entries_most ^ MAX_HEADS) MAX_RULES 0 n (few_of_rule rules l) m
+-- those of k rules
+pub few_overlaps : (rules : List Rule) (a k : ℕ) → length rules ≤ MAX_RULES → length (flat_map (overlaps_of_rule rules) (range_with_len a k)) ≤ k * (MAX_RULES * (MAX_HEADS + 1) ^ MAX_HEADS)
+few_overlaps rules a k l = few_range (overlaps_of_rule rules) (MAX_RULES * entries_most ^ MAX_HEADS) k a k (few_of_rule rules l) (omega arith)

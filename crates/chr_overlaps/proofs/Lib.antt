@@ -3,6 +3,7 @@ pub mod Steps
 pub mod Members
 pub mod Entries
 pub mod Theorem
+pub mod Between
 pub mod Numbering
 pub mod Tabled
 pub mod Bounds

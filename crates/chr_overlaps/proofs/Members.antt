@@ -36,7 +36,7 @@ less_at (x ∷ m) t u d e l = ap (λ o. ordering_then o (slice_cmp nat_cmp (m ++
 abbrev pub OverlapsRise : List Overlap → Type 0
 OverlapsRise = RisesBy (λ o p. overlap_cmp o p ≡ Less)
 
-rise_append : (xs ys : List Overlap) → OverlapsRise xs → OverlapsRise ys → ((x y : Overlap) → In x xs → In y ys → overlap_cmp x y ≡ Less) → OverlapsRise (xs ++ ys)
+pub rise_append : (xs ys : List Overlap) → OverlapsRise xs → OverlapsRise ys → ((x y : Overlap) → In x xs → In y ys → overlap_cmp x y ≡ Less) → OverlapsRise (xs ++ ys)
 rise_append [] ys h g l = g
 rise_append (x ∷ xs) ys h g l = (
   λ p i. elim (in_either p xs ys i) as (λ _. overlap_cmp x p ≡ Less) [ inl j ↦ h.0 p j | inr j ↦ l x p (inl refl) j ],

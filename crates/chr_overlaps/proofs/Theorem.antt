@@ -1,5 +1,5 @@
 -- The listing gives all overlaps, each once, in order.
-use Rattle.std.specs.Prelude.{◌≡◌, ℕ, ◌+◌, ◌-◌, ◌≤◌, Bool, true, cond, List, [], ◌∷◌, ◌++◌, length, Option, Some, None, slice_get}
+use Rattle.std.specs.Prelude.{◌≡◌, ℕ, ◌+◌, ◌-◌, ◌<◌, ◌≤◌, ◌⊎◌, Bool, true, cond, List, [], ◌∷◌, ◌++◌, length, Option, Some, None, slice_get}
 use Rattle.std.specs.List.{flat_map, range_with_len}
 use Rattle.std.proofs.Common.{refl, sym, ap, subst, ◌∙◌, inl, inr, arith, append_assoc, append-nil}
 use Rattle.std.proofs.lemmas.Option.{slice_get_within}
@@ -12,8 +12,8 @@ use Rattle.chr_confluence.specs.Overlaps.{SameSymbols, IsMatching, IsOverlap}
 use Rattle.chr_types.proofs.Enumeration.{if_in}
 use Rattle.chr_confluence.proofs.Frees.{in_range, range_in}
 use Rattle.chr_overlaps.specs.declared.overlap.Overlap.{Overlap}
-use Rattle.chr_overlaps.specs.OverlapLists.{IsOverlapOf, overlap_cmp, AreOverlaps}
-use Rattle.chr_overlaps.specs.working.Listing.{may_follow, with_entry, going_on, overlaps_behind, begun, overlaps_at, overlaps_of_pair, overlaps_of_rule, all_overlaps}
+use Rattle.chr_overlaps.specs.OverlapLists.{IsOverlapOf, overlap_cmp, AreOverlapsBetween}
+use Rattle.chr_overlaps.specs.working.Listing.{may_follow, with_entry, going_on, overlaps_behind, begun, overlaps_at, overlaps_of_pair, overlaps_of_rule}
 use Rattle.chr_overlaps.proofs.Members.{in_some, in_all, less_at, all_rise, cond_rises, OverlapsRise}
 use Rattle.chr_overlaps.proofs.Entries.{IsNew, symbols_more, symbols_first, symbol_within, follows_means, means_follows, apart_more, new_there}
 
@@ -149,35 +149,45 @@ module _ (rules : List Rule) where
       let m = in_some x (overlaps_of_pair rules i) (range_with_len i (length rules - i)) h in
       record { place = m.0; after = (range_in i (length rules - i) m.0 m.1).0; pair = in_pair i m.0 x m.2 }
 
-  each : (x : Overlap) → In x (all_overlaps rules) → IsOverlapOf rules x
-  each x h =
-      let m = in_some x (overlaps_of_rule rules) (range_with_len 0 (length rules)) h in
+  -- those of k rules from the place a on
+  abbrev some : ℕ → ℕ → List Overlap
+  some a k = flat_map (overlaps_of_rule rules) (range_with_len a k)
+
+  each : (a k : ℕ) (x : Overlap) → In x (some a k) → IsOverlapOf rules x × (a < x.first) × (x.first ≤ a + k)
+  each a k x h =
+      let m = in_some x (overlaps_of_rule rules) (range_with_len a k) h in
+      let b = range_in a k m.0 m.1 in
       let w = in_rule m.0 x m.2 in
-      let p = w.pair in (
-        m.0,
-        w.place,
+      let p = w.pair in
+      let first : x.first ≡ m.0 + 1 = ap (λ (y : Overlap). y.first) p.same in (
         (
-          ap (λ (y : Overlap). y.first) p.same,
-          ap (λ (y : Overlap). y.second) p.same,
-          subst (λ (y : Overlap). IsOverlap rules m.0 w.place y.matching.items) (sym p.same)
-              (record { rule1 = p.rule1; rule2 = p.rule2; first = p.first; second = p.second; ordered = w.after; matching = p.matching }),
+          m.0,
+          w.place,
+          (
+            first,
+            ap (λ (y : Overlap). y.second) p.same,
+            subst (λ (y : Overlap). IsOverlap rules m.0 w.place y.matching.items) (sym p.same)
+                (record { rule1 = p.rule1; rule2 = p.rule2; first = p.first; second = p.second; ordered = w.after; matching = p.matching }),
+          ),
         ),
+        omega (arith, first, b),
+        omega (arith, first, b),
       )
 
-  listed : (i j : ℕ) (m : List ℕ) → IsOverlap rules i j m → In (with_entries (begun i j) m) (all_overlaps rules)
-  listed i j m o =
-      let k = o.matching in
+  listed : (a k i j : ℕ) (m : List ℕ) → a ≤ i → i < a + k → IsOverlap rules i j m → In (with_entries (begun i j) m) (some a k)
+  listed a k i j m from before o =
+      let q = o.matching in
       let x = with_entries (begun i j) m in
       let l = slice_get_within rules i o.rule1 o.first in
       let n = slice_get_within rules j o.rule2 o.second in
       let le = o.ordered in
-      let in_these : In x (overlaps_at i j (Some o.rule1) (Some o.rule2)) = complete o.rule1 o.rule2 (heads_of o.rule1) (begun i j) m k.symbols k.apart k.touching in
+      let in_these : In x (overlaps_at i j (Some o.rule1) (Some o.rule2)) = complete o.rule1 o.rule2 (heads_of o.rule1) (begun i j) m q.symbols q.apart q.touching in
       let pair : In x (overlaps_of_pair rules i j) = subst (λ (p : Option Rule × Option Rule). In x (overlaps_at i j p.0 p.1)) (λ t. (sym o.first t, sym o.second t)) in_these in
       let rule : In x (overlaps_of_rule rules i) = in_all x (overlaps_of_pair rules i) j (range_with_len i (length rules - i)) (in_range i (length rules - i) j le (omega (arith, l, n, le))) pair in
-      in_all x (overlaps_of_rule rules) i (range_with_len 0 (length rules)) (in_range 0 (length rules) i (omega arith) (omega (arith, l))) rule
+      in_all x (overlaps_of_rule rules) i (range_with_len a k) (in_range a k i from before) rule
 
-  rise : OverlapsRise (all_overlaps rules)
-  rise = all_rise (overlaps_of_rule rules) 0 (length rules)
+  rise : (a k : ℕ) → OverlapsRise (some a k)
+  rise a k = all_rise (overlaps_of_rule rules) a k
       (λ i. all_rise (overlaps_of_pair rules i) i (length rules - i)
       (λ j. pairs_rise i j (slice_get rules i) (slice_get rules j))
       (λ d e x y l h g. (let a = in_pair i d x h in let b = in_pair i e y g in
@@ -185,14 +195,25 @@ module _ (rules : List Rule) where
       (λ d e x y l h g. (let v = in_rule d x h in let w = in_rule e y g in let a = v.pair in let b = w.pair in
       (λ k. overlap_cmp (a.same k) (b.same k)) ∙ less_at [] ((v.place + 1) ∷ a.entries) ((w.place + 1) ∷ b.entries) (d + 1) (e + 1) (omega arith)))
 
-  are_overlaps : AreOverlaps rules (all_overlaps rules)
-  are_overlaps = record {
-    each = each;
-    all = λ o h. subst (λ (p : Overlap). In p (all_overlaps rules)) (λ k. record { first = sym h.2.0 k; second = sym h.2.1 k; matching = o.matching }) (listed h.0 h.1 o.matching.items h.2.2);
-    rise = rise;
+  are_between : (a k n : ℕ) → a + k ≤ n ⊎ (k ≡ 0) → ((i : ℕ) → a ≤ i → i < n → i < length rules → i < a + k) → AreOverlapsBetween rules a n (some a k)
+  are_between a k n within reach = record {
+    each = λ x h. (let e = each a k x h in (e.0, e.1, bound x e.1 e.2 within));
+    all = λ o h from before. subst (λ (p : Overlap). In p (some a k)) (λ t. record { first = sym h.2.0 t; second = sym h.2.1 t; matching = o.matching }) (there o h from before);
+    rise = rise a k;
   }
+    where
+      bound : (x : Overlap) → a < x.first → x.first ≤ a + k → a + k ≤ n ⊎ (k ≡ 0) → x.first ≤ n
+      bound x l m (inl e) = omega (arith, l, m, e)
+      bound x l m (inr e) = absurd (omega (arith, l, m, e))
 
--- at the end of the loop over the rules
-pub all_listed : (rules of_program : List Rule) (n : ℕ) (found : List Overlap) → rules ≡ of_program → n ≡ length rules → found ≡ flat_map (overlaps_of_rule rules) (range_with_len 0 n) → AreOverlaps of_program found
-all_listed rules of_program n found e l f =
-    subst (λ (rs : List Rule). AreOverlaps rs found) e (subst (AreOverlaps rules) (sym (f ∙ ap (λ k. flat_map (overlaps_of_rule rules) (range_with_len 0 k)) l)) (are_overlaps rules))
+      there : (o : Overlap) (h : IsOverlapOf rules o) → a < o.first → o.first ≤ n → In (with_entries (begun h.0 h.1) o.matching.items) (some a k)
+      there o h from before =
+          let first = h.2.0 in
+          let within = slice_get_within rules h.0 h.2.2.rule1 h.2.2.first in
+          listed a k h.0 h.1 o.matching.items (omega (arith, from, first)) (reach h.0 (omega (arith, from, first)) (omega (arith, before, first)) within) h.2.2
+
+-- at the end of the loop over the rules from the place a to the place n
+pub all_listed : (rules of_program : List Rule) (a k n : ℕ) (found : List Overlap) → rules ≡ of_program → a + k ≤ n ⊎ (k ≡ 0) → ((i : ℕ) → a ≤ i → i < n → i < length rules → i < a + k)
+    → found ≡ flat_map (overlaps_of_rule rules) (range_with_len a k) → AreOverlapsBetween of_program a n found
+all_listed rules of_program a k n found e within reach f =
+    subst (λ (rs : List Rule). AreOverlapsBetween rs a n found) e (subst (AreOverlapsBetween rules a n) (sym f) (are_between rules a k n within reach))

@@ -1,5 +1,5 @@
 -- The list of all overlaps of a program's rules.
-use Rattle.std.specs.Prelude.{◌≡◌, ℕ, ◌+◌, List, ◌∷◌}
+use Rattle.std.specs.Prelude.{◌≡◌, ℕ, ◌+◌, ◌<◌, ◌≤◌, List, ◌∷◌}
 use Rattle.std.specs.declared.cmp.Ordering.{Ordering}
 use Rattle.std.specs.declared.cmp.Ordering.TheVariants.{Less}
 use Rattle.std.specs.Ordering.{nat_cmp}
@@ -28,4 +28,10 @@ overlap_cmp o p = slice_cmp nat_cmp (entries o) (entries p)
 pub record AreOverlaps (rules : List Rule) (os : List Overlap) : Type 0 where
   pub each : (o : Overlap) → In o os → IsOverlapOf rules o
   pub all : (o : Overlap) → IsOverlapOf rules o → In o os
+  pub rise : RisesBy (λ o p. overlap_cmp o p ≡ Less) os
+
+-- those of them whose first rule stands at the place a or after it, and before the place n
+pub record AreOverlapsBetween (rules : List Rule) (a n : ℕ) (os : List Overlap) : Type 0 where
+  pub each : (o : Overlap) → In o os → IsOverlapOf rules o × (a < o.first) × (o.first ≤ n)
+  pub all : (o : Overlap) → IsOverlapOf rules o → a < o.first → o.first ≤ n → In o os
   pub rise : RisesBy (λ o p. overlap_cmp o p ≡ Less) os

@@ -15,7 +15,7 @@ mod unify;
 
 pub use equal_sides::has_equal_sides;
 pub use fault::CaseFault;
-pub use listing::overlaps;
+pub use listing::{overlaps, overlaps_of};
 pub use numbered::variables;
 pub use overlap::Overlap;
 pub use unify::Unified;

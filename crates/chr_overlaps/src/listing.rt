@@ -1,12 +1,12 @@
 //! All overlaps of a program's rules.
-ghost use Rattle.std.specs.Prelude.{◌≡◌, ◌<◌, ◌≤◌, ◌+◌, ◌*◌, ◌^◌, ◌++◌, OnOk, IfOk, length, get_or, drop, nat_lt};
+ghost use Rattle.std.specs.Prelude.{◌≡◌, ◌<◌, ◌≤◌, ◌+◌, ◌-◌, ◌*◌, ◌^◌, ◌++◌, OnOk, IfOk, length, get_or, drop, nat_lt};
 ghost use Rattle.std.specs.List.{list_any};
 ghost use Rattle.chr_base.specs.declared.limits.TheConstants.{MAX_HEADS, MAX_RULES};
 ghost use Rattle.chr_base.specs.Programs.{rules_of};
 ghost use Rattle.chr_base.specs.Rules.{heads_of, no_pattern};
 ghost use Rattle.chr_weights.specs.WeighedPrograms.{program_of};
 ghost use Rattle.chr_confluence.specs.Matchings.{matches_removed};
-ghost use Rattle.chr_overlaps.specs.OverlapLists.{AreOverlaps};
+ghost use Rattle.chr_overlaps.specs.OverlapLists.{AreOverlaps, AreOverlapsBetween};
 ghost use Rattle.chr_overlaps.specs.working.Listing.{has_same_symbol, may_follow, overlaps_behind, overlaps_of_rule};
 
 use crate::overlap::Overlap;
@@ -15,6 +15,7 @@ use chr_base::rule::Rule;
 use chr_base::term::Pattern;
 use chr_weights::Weighed;
 use std::alloc::{AllocError, Global};
+use std::ops::Range;
 
 /// Whether the patterns have one symbol, with as many arguments.
 fn has_same_symbol(first: &Pattern, second: &Pattern) -> bool
@@ -100,17 +101,34 @@ fn add_overlaps_of(rules: &[Rule], place: usize, found: &mut Vec<Overlap>) -> Re
     Ok(())
 }
 
+/// The overlaps whose first rule stands at one of these places, counted from 0, by first rule, second rule and matching.
+/// A place where no rule stands has none.
+pub fn overlaps_of(
+    alloc: Global,
+    weighed: &Weighed,
+    places: Range<usize>,
+) -> Result<Vec<Overlap>, AllocError>
+    ensures overlaps { IfOk result (λ os.
+        AreOverlapsBetween (rules_of (program_of weighed.now)) places.start places.end os.items) }
+    // each head of the one rule has an entry: none, or a place of the other
+    ensures few { IfOk result (λ os.
+        length os.items ≤ (places.end - places.start) * (MAX_RULES * (MAX_HEADS + 1) ^ MAX_HEADS)) }
+{
+    let rules = weighed.program().rules();
+    let end = places.end.min(rules.len());
+    let mut found = Vec::new(alloc);
+    for place in places.start..end {
+        add_overlaps_of(rules, place, &mut found)?;
+    }
+    Ok(found)
+}
+
 /// All overlaps of the program's rules, by first rule, second rule and matching: every way in which heads of a rule
 /// match heads of a later rule, or of its own renamed copy, of which at least one is removed.
 pub fn overlaps(alloc: Global, weighed: &Weighed) -> Result<Vec<Overlap>, AllocError>
     ensures overlaps { IfOk result (λ os. AreOverlaps (rules_of (program_of weighed.now)) os.items) }
-    // each head of the one rule has an entry: none, or a place of the other
     ensures few { IfOk result (λ os. length os.items ≤ MAX_RULES * MAX_RULES * (MAX_HEADS + 1) ^ MAX_HEADS) }
 {
-    let rules = weighed.program().rules();
-    let mut found = Vec::new(alloc);
-    for place in 0..rules.len() {
-        add_overlaps_of(rules, place, &mut found)?;
-    }
-    Ok(found)
+    let rules = weighed.program().rules().len();
+    overlaps_of(alloc, weighed, 0..rules)
 }

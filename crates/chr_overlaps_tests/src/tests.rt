@@ -9,7 +9,7 @@ use chr_base::program::Program;
 use chr_base::rule::Rule;
 use chr_base::term::{Cmp, Comparison, Pattern, Term};
 use chr_overlaps::cases::{sorted_unified, unified};
-use chr_overlaps::{Overlap, Unified, has_equal_sides, overlaps};
+use chr_overlaps::{Overlap, Unified, has_equal_sides, overlaps, overlaps_of};
 use chr_weights::{Weighed, weigh};
 use std::alloc::{AllocError, Global};
 use std::process::Abort;
@@ -119,6 +119,36 @@ fn overlap_at(
     let found = overlaps(alloc, weighed)?;
     assert!(rt; place < found.len());
     Ok(found[place].copy())
+}
+
+/// Places of first rules, from one and up to another, and how many overlaps these rules begin.
+const PORTIONS: [(usize, usize, usize); 8] = [
+    (0, 1, 9),
+    (1, 2, 2),
+    (2, 3, 1),
+    (1, 3, 3),
+    (0, 3, 12),
+    (2, 9, 1),
+    (3, 9, 0),
+    (2, 1, 0),
+];
+
+/// Overlaps that are listed by some of their first rules are those among all that these rules begin.
+#[test]
+fn some_rules_begin_overlaps(rt: HostRuntime) -> Result<(), Fail> {
+    let alloc = rt.alloc();
+    let weighed = weighed(&rt, alloc);
+    let all = overlaps(alloc, &weighed)?;
+    for (start, end, number) in PORTIONS {
+        let some = overlaps_of(alloc, &weighed, start..end)?;
+        assert_eq!(rt; some.len(), number);
+        for overlap in &some {
+            let place = overlap.first as usize - 1;
+            assert!(rt; start <= place && place < end);
+            assert!(rt; all.contains(overlap));
+        }
+    }
+    Ok(())
 }
 
 /// Places among the overlaps of these rules, each with its overlap's two rules, the free classes of the matched heads, and

@@ -19,7 +19,6 @@ pub mod Writable
 pub mod OneTextValues
 pub mod OneText
 pub mod AnswersThere
-pub mod UnnamedRules
 pub mod UnnamedVerdicts
 pub mod OneOutput
 pub mod OutputThere

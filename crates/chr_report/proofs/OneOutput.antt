@@ -30,7 +30,7 @@ use Rattle.chr_report.specs.OneOutput.{OutputsAreOne}
 use Rattle.chr_weights.specs.Weights.{IsFirstNotLowered}
 use Rattle.chr_report.specs.Outputs.{not_lowered_text, accepted_text, IsRefusedByWeights, IsCauseLine, IsRefusedByOverlaps, IsAnswered, IsRulesOutput, IsReadOutput, asked}
 use Rattle.chr_report.specs.Overlaps.{overlap_text}
-use Rattle.chr_report.proofs.UnnamedRules.{unnamed, all_unnamed}
+use Rattle.chr_join.proofs.UnnamedRules.{unnamed, all_unnamed}
 use Rattle.chr_report.proofs.UnnamedVerdicts.{output_unnamed}
 
 -- what the crates below say of texts, verdicts and answers

@@ -47,7 +47,7 @@ use Rattle.chr_report.specs.declared.wanted.Wanted.{Wanted}
 use Rattle.chr_report.specs.Lines.{without_return}
 use Rattle.chr_report.specs.Answers.{held_by, OneAnswers, AnswersAt, ShowsNormalForm, AnswersShow, AnswersRead, AnswersFirst, AnswersAll, AnswersRefusal}
 use Rattle.chr_report.specs.Outputs.{accepted_text, IsAnswered, IsRulesOutput}
-use Rattle.chr_report.proofs.UnnamedRules.{unnamed, at_unnamed, from_unnamed, by_unnamed, rest_unnamed, normal_unnamed, overlap_unnamed, overlap_named, constants_unnamed}
+use Rattle.chr_join.proofs.UnnamedRules.{unnamed, at_unnamed, from_unnamed, by_unnamed, rest_unnamed, normal_unnamed, overlap_unnamed, overlap_named, constants_unnamed}
 
 module _ (rules : List Rule) where
   abbrev bare : List Rule

@@ -1,6 +1,6 @@
 -- What is found out about a case and about an overlap.
-use Rattle.std.specs.Prelude.{◌≡◌, ℕ, ℤ, List, Option, IfSome}
-use Rattle.std.specs.List.{All}
+use Rattle.std.specs.Prelude.{◌≡◌, ℕ, ℤ, List, Option, IfSome, take, drop}
+use Rattle.std.specs.List.{All, AllZip}
 use Rattle.chr_types.specs.OrderTypes.{MoreTypesThan}
 use Rattle.chr_overlaps.specs.declared.cases.TheConstants.{MAX_TYPES}
 use Rattle.chr_base.specs.declared.rule.Rule.{Rule}
@@ -8,7 +8,7 @@ use Rattle.chr_base.specs.Stores.{Store}
 use Rattle.chr_overlaps.specs.declared.overlap.Overlap.{Overlap}
 use Rattle.chr_overlaps.specs.declared.cases.Case.{Case}
 use Rattle.chr_join.specs.declared.coverage.Coverage.{Coverage}
-use Rattle.chr_join.specs.declared.coverage.Coverage.TheVariants.{Joint}
+use Rattle.chr_join.specs.declared.ahead.Ahead.{Ahead}
 use Rattle.chr_join.specs.declared.refused.Cause.{Cause}
 use Rattle.chr_join.specs.Sides.{SideEnds}
 use Rattle.chr_join.specs.Verdicts.{HasJoinableCasesBy, IsFirstBy}
@@ -29,8 +29,13 @@ abbrev pub Joins : Coverage → List Rule → Overlap → Type 0
 Joins coverage rules o = (n : ℕ) × HasJoinableCasesBy coverage rules o n
 
 -- The overlap has so many cases, and each is joinable, where a number is there.
-abbrev pub IsNumberOf : List Rule → Overlap → Option ℕ → Type 0
-IsNumberOf rules o k = IfSome k (HasJoinableCasesBy Joint rules o)
+abbrev pub IsNumberOf : Coverage → List Rule → Overlap → Option ℕ → Type 0
+IsNumberOf coverage rules o k = IfSome k (HasJoinableCasesBy coverage rules o)
+
+-- What was looked at are overlaps of these, from a place on, in a row.
+abbrev pub AreAhead : Coverage → List Rule → List Overlap → Ahead → Type 0
+AreAhead coverage rules os a =
+    (n : ℕ) × AllZip (IsNumberOf coverage rules) (take n (drop a.start os)) a.numbers.items
 
 -- So many classes have no more order types than an overlap may have, for each of these numbers.
 abbrev pub HaveFewTypes : List ℤ → List ℕ → Type 0

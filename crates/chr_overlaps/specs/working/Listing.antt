@@ -46,6 +46,3 @@ overlaps_of_pair rules i j = overlaps_at i j (slice_get rules i) (slice_get rule
 -- those of a rule with itself and all after it
 abbrev pub overlaps_of_rule : List Rule → ℕ → List Overlap
 overlaps_of_rule rules i = flat_map (overlaps_of_pair rules i) (range_with_len i (length rules - i))
-
-abbrev pub all_overlaps : List Rule → List Overlap
-all_overlaps rules = flat_map (overlaps_of_rule rules) (range_with_len 0 (length rules))

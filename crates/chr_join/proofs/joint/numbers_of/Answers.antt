@@ -4,6 +4,7 @@ use Rattle.rayon.proofs.ListFacts.{IfOk-then}
 use Rattle.rayon.proofs.ToStd.{slice-AllZip}
 use Rattle.chr_weights.specs.WeighedPrograms.{rules_in}
 use Rattle.chr_overlaps.specs.OverlapLists.{IsOverlapOf}
+use Rattle.chr_join.specs.declared.coverage.Coverage.TheVariants.{Joint}
 use Rattle.chr_join.specs.working.Checking.{IsNumberOf}
 use Rattle.chr_join.proofs.joint.numbers_of.Goals as goal
 
@@ -14,7 +15,7 @@ collect-requires-clause-ready g c κs within =
 
 pub returns : goal.returns
 returns g c =
-    let number = IsNumberOf (rules_in c.args.weighed.now) in
+    let number = IsNumberOf Joint (rules_in c.args.weighed.now) in
     IfOk-then c.collect.result _ _ c.collect.ensures (λ v h.
     let chain = rw (c.map.ensures.base, c.map.ensures.f, c.with_min_len.ensures.base) at h.1 in
     subst (AllZip number c.args.overlaps.now) (sym h.2) (slice-AllZip chain.0 c.args.overlaps.now (chain.1 ∙ c.par_iter.ensures) number h.0 chain.2))

@@ -1,29 +1,43 @@
+use Rattle.std.proofs.Common.{◌+◌, ◌^◌, ◌<◌, ◌∙◌, ap, arith, length, rules, sym, subst}
+use Rattle.std.specs.List.{All}
+use Rattle.chr_base.specs.Programs.{rules_of}
+use Rattle.chr_weights.specs.WeighedPrograms.{program_of, rules_in}
+use Rattle.chr_overlaps.specs.OverlapLists.{IsOverlapOf}
+use Rattle.chr_overlaps.proofs.Few.{few_rules}
 use Rattle.chr_join.specs.declared.coverage.Coverage.TheVariants.{Sorted}
-use Rattle.std.proofs.Common.{◌+◌, ◌^◌, ◌<◌, ◌≤◌, length, sym, subst, rules}
-use Rattle.chr_weights.specs.WeighedPrograms.{rules_in}
-use Rattle.chr_overlaps.specs.OverlapLists.{AreOverlaps}
-use Rattle.chr_join.proofs.Lists.{in_at}
-use Rattle.chr_join.proofs.Verdicts.{total_fits, joinable_more, first_at}
+use Rattle.chr_join.specs.Verdicts.{HaveJoinableCasesBy}
+use Rattle.chr_join.specs.working.Portions.{RefusesIn}
+use Rattle.chr_join.proofs.OverlapPortions.{portion_overlaps, portion_fits, portion_joined, portion_refuses, all_joined}
+use Rattle.chr_join.proofs.sorted.check_sorted.Given.{Over}
 use Rattle.chr_join.proofs.sorted.check_sorted.Goals as goal
 
-pub check_overlap-requires-clause-overlap : goal.check_overlap-requires-clause-overlap
-check_overlap-requires-clause-overlap c =
-    let are = subst (AreOverlaps (rules_in c.args.weighed.now)) (sym c.deref-overlap-items.ensures.value) c.in_ok-overlaps.ensures.overlaps in
-    are.each c.overlap-item.result (in_at c.deref-overlap-items.result.now c.loop-overlap.overlap-index c.overlap-item.result c.loop-overlap-test.true c.overlap-item.is)
-
-pub returns-in-Err-clause-err : goal.returns-in-Err-clause-err
-returns-in-Err-clause-err c =
+pub check_portion-requires-clause-overlaps : goal.check_portion-requires-clause-overlaps
+check_portion-requires-clause-overlaps g c κs within =
     let rules = rules_in c.args.weighed.now in
-    let are = subst (AreOverlaps rules) (sym c.deref-overlap-items.ensures.value) c.in_ok-overlaps.ensures.overlaps in
-    c.in-Err.ensures.err (first_at Sorted rules c.deref-overlap-items.result.now c.loop-overlap.overlap-index c.overlap-item.result c.loop-overlap.total are c.loop-overlap.invariant c.loop-overlap-test.true c.overlap-item.is)
+    subst (All (IsOverlapOf rules)) (sym c.deref.ensures.value) (portion_overlaps rules c.loop-place.place c.in_ok-portion.portion c.in_ok-portion.ensures)
+
+joins : (g : Over) (c : goal.In-Ok g) → HaveJoinableCasesBy Sorted (rules_in c.args.weighed.now) c.in_ok-portion.portion.overlaps.items c.in-Ok.cases
+joins g c = subst (λ os. HaveJoinableCasesBy Sorted (rules_in c.args.weighed.now) os c.in-Ok.cases) c.deref.ensures.value c.in-Ok.ensures.ok
 
 pub overflow_add-total : goal.overflow_add-total
-overflow_add-total c =
-    let few : length c.deref-overlap-items.result.now ≤ 2560000 = subst (λ os. length os ≤ 2560000) (sym c.deref-overlap-items.ensures.value) c.in_ok-overlaps.ensures.few in
-    let fits : c.loop-overlap.total + c.in-Ok.cases < 2 ^ 64 = total_fits Sorted (rules_in c.args.weighed.now) c.deref-overlap-items.result.now c.loop-overlap.overlap-index c.overlap-item.result c.loop-overlap.total c.in-Ok.cases few c.loop-overlap-test.true c.loop-overlap.invariant c.in-Ok.ensures.ok in
+overflow_add-total g c =
+    let p = c.in_ok-portion.portion in
+    let fits : c.loop-place.total + c.in-Ok.cases < 2 ^ 64 = portion_fits Sorted (rules_in c.args.weighed.now) c.loop-place.place c.loop-place.total c.in-Ok.cases p (few_rules (program_of c.args.weighed.now)) c.loop-place.invariant.joined c.in_ok-portion.ensures (joins g c) in
     search rules
 
-pub loop-overlap-preserved : goal.loop-overlap-preserved
-loop-overlap-preserved c =
-    joinable_more Sorted (rules_in c.args.weighed.now) c.deref-overlap-items.result.now c.loop-overlap.overlap-index c.overlap-item.result c.loop-overlap.total c.in-Ok.cases
-    c.loop-overlap-test.true c.overlap-item.is c.loop-overlap.invariant c.in-Ok.ensures.ok
+pub returns-in-Err-clause-err : goal.returns-in-Err-clause-err
+returns-in-Err-clause-err g c =
+    let rules = rules_in c.args.weighed.now in
+    portion_refuses Sorted rules c.loop-place.place c.loop-place.total c.in_ok-portion.portion c.in-Err.cause c.loop-place.invariant.joined c.in_ok-portion.ensures (subst (λ os. RefusesIn Sorted rules os c.in-Err.cause) c.deref.ensures.value c.in-Err.ensures.err)
+
+pub loop-place-preserved : goal.loop-place-preserved
+loop-place-preserved g c = record {
+  joined = portion_joined Sorted (rules_in c.args.weighed.now) c.loop-place.place c.loop-place.total c.in-Ok.cases c.in_ok-portion.portion c.loop-place.invariant.joined c.in_ok-portion.ensures
+      (subst (λ os. HaveJoinableCasesBy Sorted (rules_in c.args.weighed.now) os c.in-Ok.cases) c.deref.ensures.value c.in-Ok.ensures.ok);
+}
+
+pub returns-clause-ok : goal.returns-clause-ok
+returns-clause-ok g c =
+    let number = ap length (c.rules-rules.ensures ∙ ap rules_of c.program-2.ensures) in
+    let ended = c.loop-place-test.false in
+    all_joined Sorted (rules_in c.args.weighed.now) c.loop-place.place c.loop-place.total (omega (arith, number, ended)) c.loop-place.invariant.joined

@@ -1,8 +1,13 @@
-use Rattle.std.proofs.Common.{take}
+use Rattle.std.proofs.Common.{◌-◌}
 use Rattle.chr_weights.specs.WeighedPrograms.{rules_in}
 use Rattle.chr_join.specs.declared.coverage.Coverage.TheVariants.{Sorted}
-use Rattle.chr_join.specs.Verdicts.{HaveJoinableCasesBy}
+use Rattle.chr_join.specs.working.Portions.{HaveJoined}
 use Rattle.chr_join.proofs.sorted.check_sorted.Given as goal
 
-abbrev pub invariant-loop-overlap : goal.invariant-loop-overlap
-invariant-loop-overlap l = HaveJoinableCasesBy Sorted (rules_in l.weighed) (take l.overlap-index l.overlap-items) l.total
+abbrev pub invariant-loop-place : goal.invariant-loop-place
+invariant-loop-place g l = record {
+  joined : HaveJoined Sorted (rules_in l.weighed) l.place l.total;
+}
+
+abbrev pub decreases-loop-place : goal.decreases-loop-place
+decreases-loop-place g l = l.rules - l.place

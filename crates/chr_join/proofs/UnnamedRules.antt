@@ -94,7 +94,7 @@ from_unnamed (r ∷ rules) (suc i) x h = from_unnamed rules i x h
 pub by_unnamed : (r : Rule) (v : Valuation) (s t : Store) → StepBy r v s t → StepBy (unnamed r) v s t
 by_unnamed r v s t h = record { guard = h.guard; there = h.there; after = h.after }
 
-by_named : (r : Rule) (v : Valuation) (s t : Store) → StepBy (unnamed r) v s t → StepBy r v s t
+pub by_named : (r : Rule) (v : Valuation) (s t : Store) → StepBy (unnamed r) v s t → StepBy r v s t
 by_named r v s t h = record { guard = h.guard; there = h.there; after = h.after }
 
 step_unnamed : (rules : List Rule) (s t : Store) → Step rules s t → Step (map unnamed rules) s t

@@ -3,11 +3,11 @@ use Rattle.chr_weights.specs.WeighedPrograms.{rules_in}
 use Rattle.chr_join.specs.Verdicts.{HaveJoinableCases}
 use Rattle.chr_join.specs.working.Checking.{HaveFewTypes}
 use Rattle.chr_join.specs.working.Counting.{AreCounts}
-use Rattle.chr_join.proofs.joint.count_overlaps.Given as goal
+use Rattle.chr_join.proofs.joint.count_portion.Given as goal
 
 abbrev pub invariant-loop-place : goal.invariant-loop-place
 invariant-loop-place g l = record {
-  joinable : HaveJoinableCases (rules_in l.weighed) (take l.place l.overlap-items) l.total;
-  few : HaveFewTypes l.constants.items l.known.few.items;
-  counts : AreCounts l.constants.items l.known.counts.entries.items;
+  joinable : HaveJoinableCases (rules_in l.weighed) (take l.place l.overlaps) l.total;
+  few : HaveFewTypes l.constants l.known.few.items;
+  counts : AreCounts l.constants l.known.counts.entries.items;
 }

@@ -1,0 +1,12 @@
+use Rattle.std.proofs.Common.{take}
+use Rattle.chr_weights.specs.WeighedPrograms.{rules_in}
+use Rattle.chr_join.specs.declared.coverage.Coverage.TheVariants.{Sorted}
+use Rattle.chr_join.specs.Verdicts.{HaveJoinableCasesBy}
+use Rattle.chr_join.specs.working.Checking.{AreAhead}
+use Rattle.chr_join.proofs.sorted.check_portion.Given as goal
+
+abbrev pub invariant-loop-place : goal.invariant-loop-place
+invariant-loop-place g l = record {
+  joinable : HaveJoinableCasesBy Sorted (rules_in l.weighed) (take l.place l.overlaps) l.total;
+  ahead : AreAhead Sorted (rules_in l.weighed) l.overlaps l.ahead;
+}

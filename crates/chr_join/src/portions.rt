@@ -1,0 +1,40 @@
+//! Overlaps are taken portion by portion, so that no list of all of them is held.
+ghost use Rattle.std.specs.Prelude.{◌<◌, IfOk, length};
+ghost use Rattle.chr_weights.specs.WeighedPrograms.{rules_in};
+ghost use Rattle.chr_join.specs.working.Portions.{IsPortion};
+
+use chr_overlaps::{Overlap, overlaps_of};
+use chr_weights::Weighed;
+use std::alloc::{AllocError, Global};
+
+/// So many rules have their overlaps listed at once: 64 rules of four heads have 400,000 in all.
+const RULES_AT_ONCE: usize = 8;
+
+/// Overlaps in order, all those of some first rules.
+#[derive(Drop)]
+pub(crate) struct Portion {
+    pub(crate) overlaps: Vec<Overlap>,
+    /// The place behind the last of the first rules.
+    pub(crate) end: usize,
+}
+
+/// The overlaps of the first rules from this place on.
+pub(crate) fn portion_from(
+    alloc: Global,
+    weighed: &Weighed,
+    place: usize,
+) -> Result<Portion, AllocError>
+    requires { place < length (rules_in weighed.now) }
+    ensures { IfOk result (IsPortion (rules_in weighed.now) place) }
+{
+    let rules = weighed.program().rules();
+    let end = if rules.len() - place > RULES_AT_ONCE {
+        place + RULES_AT_ONCE
+    } else {
+        rules.len()
+    };
+    Ok(Portion {
+        overlaps: overlaps_of(alloc, weighed, place..end)?,
+        end,
+    })
+}
