@@ -143,8 +143,8 @@ fn some_rules_begin_overlaps(rt: HostRuntime) -> Result<(), Fail> {
         let some = overlaps_of(alloc, &weighed, start..end)?;
         assert_eq!(rt; some.len(), number);
         for overlap in &some {
-            let place = overlap.first as usize - 1;
-            assert!(rt; start <= place && place < end);
+            let first = overlap.first as usize;
+            assert!(rt; start < first && first <= end);
             assert!(rt; all.contains(overlap));
         }
     }
