@@ -49,6 +49,13 @@ beside R (suc n) [] (z ∷ ys) i x y h e s = absurd h
 beside R (suc n) (w ∷ xs) (z ∷ ys) zero x y h e s = subst (R x) (same_Some z y s) (subst (λ a. R a z) (sym e) h.0)
 beside R (suc n) (w ∷ xs) (z ∷ ys) (suc i) x y h e s = beside R n xs ys i x y h.1 e s
 
+-- what stands beside the element behind the first ones
+pub beside_next : {A B : Type 0} (R : A → B → Type 0) (before : List A) (x : A) (after : List A) (ys : List B) (y : B) → AllZip R (before ++ x ∷ after) ys → slice_get ys (length before) ≡ Some y → R x y
+beside_next R [] x after [] y h s = absurd h
+beside_next R [] x after (z ∷ ys) y h s = subst (R x) (same_Some z y s) h.0
+beside_next R (w ∷ before) x after [] y h s = absurd h
+beside_next R (w ∷ before) x after (z ∷ ys) y h s = beside_next R before x after ys y h.1 s
+
 pub match_true : (b : Bool) (T F : Type 0) → b ≡ true → MatchBool b T F → T
 match_true true T F e h = h
 match_true false T F e h = absurd (true≢false (sym e))

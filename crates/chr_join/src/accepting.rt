@@ -3,18 +3,44 @@ ghost use Rattle.std.specs.Prelude.{◌≡◌, IfOk, IfErr, OnOk};
 ghost use Rattle.chr_weights.specs.WeighedPrograms.{rules_in};
 ghost use Rattle.chr_confluence.specs.Confluence.{Confluent};
 ghost use Rattle.chr_join.specs.AcceptedPrograms.{weighed_of, coverage_of, cases_of};
+ghost use Rattle.chr_join.specs.declared.coverage.Coverage.TheVariants.{Joint, Sorted};
 ghost use Rattle.chr_join.specs.Verdicts.{IsAcceptedBy};
 ghost use Rattle.chr_join.specs.Explanations.{IsRefusalBy, IfFails, ReplaysApart};
 
 use crate::accepted::Accepted;
+use crate::checking::check_rules;
 use crate::coverage::Coverage;
-use crate::joint::check_joint;
+use crate::lister::Lister;
 use crate::once::{accepted_are_confluent, refused_are_not_confluent};
 use crate::refused::{Cause, Refused};
-use crate::sorted::check_sorted;
+use crate::settled::joining_rules;
+use crate::totals::count_joint;
 use chr_weights::Weighed;
 use std::alloc::Global;
 use std::thread::Threads;
+
+/// The number of all joint cases, where all of them are joinable. Sorted cases are far fewer and are looked at first:
+/// where all of them are joinable, the joint ones are too, and are only counted.
+fn check_joint(rt: &(impl Threads + Sync), alloc: Global, weighed: &Weighed) -> Result<u64, Cause>
+    ensures ok { IfOk result (IsAcceptedBy Joint (rules_in weighed.now)) }
+    ensures err { IfErr result (IsRefusalBy Joint (rules_in weighed.now)) }
+{
+    let joining = joining_rules(rt, alloc, weighed)?;
+    if joining >= weighed.program().rules().len() {
+        return count_joint(rt, alloc, weighed);
+    }
+    let lister = Lister::new(alloc, weighed, Coverage::Joint, joining)?;
+    check_rules(rt, alloc, weighed, &lister)
+}
+
+/// The number of all sorted cases, where all of them are joinable.
+fn check_sorted(rt: &(impl Threads + Sync), alloc: Global, weighed: &Weighed) -> Result<u64, Cause>
+    ensures ok { IfOk result (IsAcceptedBy Sorted (rules_in weighed.now)) }
+    ensures err { IfErr result (IsRefusalBy Sorted (rules_in weighed.now)) }
+{
+    let lister = Lister::new(alloc, weighed, Coverage::Sorted, 0)?;
+    check_rules(rt, alloc, weighed, &lister)
+}
 
 /// The number of all cases, where all of them are joinable.
 fn judged(
@@ -32,9 +58,9 @@ fn judged(
     }
 }
 
-/// Accepts a program of which no case fails, of the cases that the coverage looks at. A case is a least store in which two rules, or a rule twice, can fire on
-/// shared atoms; it fails where the plain derivations of its two sides end in different stores (after Abdennadher,
-/// Frühwirth and Meuss 1999).
+/// Accepts a program of which no case fails, of the cases that the coverage looks at. A case is a least store in
+/// which two rules, or a rule twice, can fire on shared atoms; it fails where the plain derivations of its two sides
+/// end in different stores (after Abdennadher, Frühwirth and Meuss 1999).
 ///
 /// # Errors
 ///

@@ -1,13 +1,21 @@
 //! Overlaps that several threads look at before their turn.
-ghost use Rattle.std.specs.Prelude.{◌≡◌, ℕ, List, IfSome, length, take, drop, get_or};
+ghost use Rattle.std.specs.Prelude.{◌≡◌, ◌*◌, ℕ, List, All, IfOk, IfSome, length, take, drop, get_or};
+ghost use Rattle.std.specs.List.{AllZip};
 ghost use Rattle.chr_base.specs.declared.rule.Rule.{Rule};
+ghost use Rattle.chr_weights.specs.WeighedPrograms.{rules_in};
 ghost use Rattle.chr_overlaps.specs.declared.overlap.Overlap.{Overlap as OverlapValue};
+ghost use Rattle.chr_overlaps.specs.OverlapLists.{IsOverlapOf};
 ghost use Rattle.chr_join.specs.declared.coverage.Coverage.{Coverage};
 ghost use Rattle.chr_join.specs.Verdicts.{HasJoinableCasesBy};
-ghost use Rattle.chr_join.specs.working.Checking.{AreAhead};
+ghost use Rattle.chr_join.specs.working.Checking.{AreAhead, IsListerOf, IsNumberOf};
 
+use crate::lister::Lister;
 use chr_overlaps::Overlap;
-use std::alloc::Global;
+use chr_weights::Weighed;
+use rayon::prelude::*;
+use std::alloc::{AllocError, Global};
+use std::ops::Range;
+use std::thread::Threads;
 
 /// So many overlaps are looked at ahead of their turn.
 pub(crate) const BATCH: usize = 64;
@@ -34,7 +42,8 @@ pub(crate) struct Ahead {
 impl Ahead {
     /// None was looked at.
     pub(crate) fn none(alloc: Global) -> Ahead
-        ensures { (coverage : Coverage) (rules : List Rule) (os : List OverlapValue) → AreAhead coverage rules os result }
+        ensures { (coverage : Coverage) (rules : List Rule) (os : List OverlapValue)
+            → AreAhead coverage rules os result }
     {
         Ahead {
             start: 0,
@@ -49,8 +58,10 @@ impl Ahead {
 
     /// The number of cases of the overlap at this place, if it is known.
     pub(crate) fn number_at(&self, place: usize) -> Option<usize>
-        ensures { IfSome result (λ n. (coverage : Coverage) (rules : List Rule) (os : List OverlapValue) (o : OverlapValue) →
-            AreAhead coverage rules os self.now → o ≡ get_or os place o → HasJoinableCasesBy coverage rules o n) }
+        ensures { IfSome result (λ n.
+            (coverage : Coverage) (rules : List Rule) (os : List OverlapValue) (o : OverlapValue)
+            → AreAhead coverage rules os self.now → o ≡ get_or os place o
+            → HasJoinableCasesBy coverage rules o n) }
     {
         if place < self.start {
             return None;
@@ -60,4 +71,64 @@ impl Ahead {
             _ => None,
         }
     }
+}
+
+/// The number of cases of an overlap, where all of them are joinable. None too where memory is refused.
+fn number_of(alloc: Global, weighed: &Weighed, lister: &Lister, overlap: &Overlap) -> Option<usize>
+    requires lister { IsListerOf (rules_in weighed.now) lister.now }
+    requires overlap { IsOverlapOf (rules_in weighed.now) overlap.now }
+    ensures { IfSome result (HasJoinableCasesBy lister.now.coverage (rules_in weighed.now) overlap.now) }
+{
+    match lister.check(alloc, weighed, overlap) {
+        Ok(cases) => Some(cases),
+        Err(_) => None,
+    }
+}
+
+/// The numbers of cases of these overlaps, which are shared out among threads.
+fn numbers_of(
+    rt: &(impl Threads + Sync),
+    alloc: Global,
+    weighed: &Weighed,
+    lister: &Lister,
+    overlaps: &[Overlap],
+) -> Result<Vec<Option<usize>>, AllocError>
+    requires lister { IsListerOf (rules_in weighed.now) lister.now }
+    requires overlaps { All (IsOverlapOf (rules_in weighed.now)) overlaps.now }
+    ensures { IfOk result (λ numbers.
+        AllZip (IsNumberOf lister.now.coverage (rules_in weighed.now)) overlaps.now numbers.items) }
+{
+    overlaps
+        .par_iter()
+        .with_min_len(lister.least_piece())
+        .map(
+            |overlap: &Overlap| -> Option<usize>
+                requires { IsOverlapOf (rules_in weighed.now) overlap.now
+                    × IsListerOf (rules_in weighed.now) lister.now }
+                ensures { IfSome result
+                    (HasJoinableCasesBy lister.entry.now.coverage (rules_in weighed.entry.now) overlap.now) }
+            { number_of(alloc, weighed, lister, overlap) },
+        )
+        .collect(rt, alloc)
+}
+
+/// Looks at the next overlaps from this place on, up to this end.
+pub(crate) fn look_ahead(
+    rt: &(impl Threads + Sync),
+    alloc: Global,
+    weighed: &Weighed,
+    lister: &Lister,
+    overlaps: &[Overlap],
+    places: Range<usize>,
+) -> Result<Ahead, AllocError>
+    requires lister { IsListerOf (rules_in weighed.now) lister.now }
+    requires overlaps { All (IsOverlapOf (rules_in weighed.now)) overlaps.now }
+    ensures { IfOk result (AreAhead lister.now.coverage (rules_in weighed.now) overlaps.now) }
+{
+    let start = places.start;
+    let batch = batch_from(overlaps, start, places.end);
+    Ok(Ahead {
+        start,
+        numbers: numbers_of(rt, alloc, weighed, lister, batch)?,
+    })
 }

@@ -46,7 +46,8 @@ impl<'a> Checker<'a> {
     ) -> Checker<'a>
         requires overlap { IsOverlapOf (rules_in weighed.now) overlap.now }
         requires unified { HasUnified (rules_in weighed.now) overlap.now unified.now }
-        ensures setting { setting_of result ≡ record { weighed = weighed.now; overlap = overlap.now; unified = unified.now } }
+        ensures setting { setting_of result ≡
+            record { weighed = weighed.now; overlap = overlap.now; unified = unified.now } }
         ensures equal { TellsEqualSides result }
         ensures ends { (rules : List Rule) → AreEnds rules result.ends.entries.items }
         ensures passed { result.passed ≡ 0 }

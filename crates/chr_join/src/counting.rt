@@ -1,7 +1,8 @@
 //! Cases that are counted, and not looked at.
-ghost use Rattle.std.specs.Prelude.{All, IfOk, IfSome, List, ℤ, ⊤};
+ghost use Rattle.std.specs.Prelude.{◌*◌, All, IfOk, IfSome, List, ℤ, ⊤};
+ghost use Rattle.std.specs.List.{AllZip};
 ghost use Rattle.chr_types.specs.OrderTypes.{Rises};
-ghost use Rattle.chr_join.specs.working.Counting.{AreCounts, CountsValues, HasFewTypes, IsCounted, IsCountOf};
+ghost use Rattle.chr_join.specs.working.Counting.{AreCounts, CountsValues, HasFewTypes, IsCountIfThere, IsCountOf};
 
 use chr_overlaps::Unified;
 use chr_types::{Visit, visit_types};
@@ -51,6 +52,41 @@ fn count_types(alloc: Global, unified: &Unified, constants: &[i64]) -> Result<us
     Ok(counter.counted)
 }
 
+/// The number of order types at which both guards hold. None where memory is refused.
+fn number_of(alloc: Global, unified: &Unified, constants: &[i64]) -> Option<usize>
+    requires rising { Rises constants.now }
+    requires few { HasFewTypes constants.now unified.now }
+    ensures { IfSome result (IsCountOf constants.now unified.now) }
+{
+    match count_types(alloc, unified, constants) {
+        Ok(number) => Some(number),
+        Err(_) => None,
+    }
+}
+
+/// The numbers of order types at which these guards hold, which are shared out among threads.
+fn numbers_of(
+    rt: &(impl Threads + Sync),
+    alloc: Global,
+    guards: &[Unified],
+    constants: &[i64],
+) -> Result<Vec<Option<usize>>, AllocError>
+    requires rising { Rises constants.now }
+    requires few { All (HasFewTypes constants.now) guards.now }
+    ensures { IfOk result (λ numbers. AllZip (IsCountIfThere constants.now) guards.now numbers.items) }
+{
+    guards
+        .par_iter()
+        .with_min_len(1)
+        .map(
+            |unified: &Unified| -> Option<usize>
+                requires { Rises constants.now × HasFewTypes constants.now unified.now }
+                ensures { IfSome result (IsCountOf constants.entry.now unified.now) }
+            { number_of(alloc, unified, constants) },
+        )
+        .collect(rt, alloc)
+}
+
 /// The number of order types at which these guards hold.
 #[derive(Drop)]
 pub(crate) struct Count {
@@ -58,45 +94,10 @@ pub(crate) struct Count {
     pub(crate) number: usize,
 }
 
-/// The count of these guards, unless memory is refused.
-fn counted(alloc: Global, unified: Unified, constants: &[i64]) -> Option<Count>
-    requires rising { Rises constants.now }
-    requires few { HasFewTypes constants.now unified }
-    ensures { IfSome result (IsCounted constants.now) }
-{
-    match count_types(alloc, &unified, constants) {
-        Ok(number) => Some(Count { unified, number }),
-        Err(_) => None,
-    }
-}
-
-/// The counts of all these guards, shared out among threads. None stands where memory was refused.
-fn count_all(
-    rt: &(impl Threads + Sync),
-    alloc: Global,
-    guards: Vec<Unified>,
-    constants: &[i64],
-) -> Result<Vec<Option<Count>>, AllocError>
-    requires rising { Rises constants.now }
-    requires few { All (HasFewTypes constants.now) guards.items }
-    ensures { IfOk result (λ counts. AreCounts constants.now counts.items) }
-{
-    guards
-        .into_par_iter()
-        .with_min_len(1)
-        .map(
-            |unified: Unified| -> Option<Count>
-                requires { Rises constants.now × HasFewTypes constants.now unified }
-                ensures { IfSome result (IsCounted constants.entry.now) }
-            { counted(alloc, unified, constants) },
-        )
-        .collect(rt, alloc)
-}
-
 /// Counts that are remembered: copies of rules have many overlaps with the same guards.
 #[derive(Drop)]
 pub(crate) struct Counts {
-    pub(crate) entries: Vec<Option<Count>>,
+    pub(crate) entries: Vec<Count>,
 }
 
 impl Counts {
@@ -109,13 +110,13 @@ impl Counts {
         }
     }
 
-    /// Adds the counts of these guards, which are shared out among threads, unless all are counted in no time. Where many
-    /// are remembered, the new ones take their place.
+    /// Adds the counts of these guards, which are shared out among threads, unless all are counted in no time. Where
+    /// many are remembered, the new ones take their place.
     pub(crate) fn add_all(
         &mut self,
         rt: &(impl Threads + Sync),
         alloc: Global,
-        guards: Vec<Unified>,
+        mut guards: Vec<Unified>,
         constants: &[i64],
     ) -> Result<(), AllocError>
         requires rising { Rises constants.now }
@@ -126,24 +127,29 @@ impl Counts {
         if guards.iter().all(|it| it.free_classes() < MANY_CLASSES) {
             return Ok(());
         }
-        let mut entries = count_all(rt, alloc, guards, constants)?;
-        if self.entries.len() < MOST_COUNTS {
-            self.entries.append(&mut entries)?;
-        } else {
-            self.entries = entries;
+        let numbers = numbers_of(rt, alloc, &guards, constants)?;
+        if self.entries.len() >= MOST_COUNTS {
+            self.entries.clear();
+        }
+        while let Some(unified) = guards.pop() {
+            if let Some(Some(number)) = numbers.get(guards.len()) {
+                self.entries.push(Count {
+                    unified,
+                    number: *number,
+                })?;
+            }
         }
         Ok(())
     }
 
     /// The count that is remembered of guards like these.
     fn known(&self, unified: &Unified) -> Option<usize>
-        ensures { IfSome result (λ n. (constants : List ℤ) → AreCounts constants self.now.entries.items →
-            IsCountOf constants unified.now n) }
+        ensures { IfSome result (λ n. (constants : List ℤ)
+            → AreCounts constants self.now.entries.items → IsCountOf constants unified.now n) }
     {
-        for entry in &self.entries {
-            match entry {
-                Some(count) if count.unified.has_guards_of(unified) => return Some(count.number),
-                _ => {}
+        for count in &self.entries {
+            if count.unified.has_guards_of(unified) {
+                return Some(count.number);
             }
         }
         None
@@ -172,7 +178,7 @@ impl Counts {
         }
         let number = count_types(alloc, &unified, constants)?;
         if self.entries.len() < MOST_COUNTS {
-            self.entries.push(Some(Count { unified, number }))?;
+            self.entries.push(Count { unified, number })?;
         }
         Ok(number)
     }

@@ -13,9 +13,9 @@ pub fn verdicts_exist()
     ensures { VerdictsExist }
 {}
 
-/// The verdict on rules is determined, by each coverage. Accepted rules have one number of cases, and are refused for want of memory
-/// alone. Rules that are refused have one cause, but for want of memory: the same overlap, and of a case that fails the
-/// same two derivations with the same ends.
+/// The verdict on rules is determined, by each coverage. Accepted rules have one number of cases, and are refused for
+/// want of memory alone. Rules that are refused have one cause, but for want of memory: the same overlap, and of a
+/// case that fails the same two derivations with the same ends.
 pub fn verdict_is_one()
     ensures accepted { AcceptedOnce }
     ensures refused { RefusedOnce }

@@ -10,6 +10,12 @@ use std::alloc::{AllocError, Global};
 /// So many rules have their overlaps listed at once: 64 rules of four heads have 400,000 in all.
 const RULES_AT_ONCE: usize = 8;
 
+/// So many overlaps are looked at before threads are started.
+pub(crate) const FEW_OVERLAPS: usize = 32;
+
+/// So many overlaps are worth a thread of their own, where their sorted cases are looked at.
+pub(crate) const LEAST_PIECE: usize = 8;
+
 /// Overlaps in order, all those of some first rules.
 #[derive(Drop)]
 pub(crate) struct Portion {
@@ -37,4 +43,9 @@ pub(crate) fn portion_from(
         overlaps: overlaps_of(alloc, weighed, place..end)?,
         end,
     })
+}
+
+/// So many overlaps from this place of the rules on are looked at before threads are started.
+pub(crate) fn alone_from(place: usize) -> usize {
+    if place == 0 { FEW_OVERLAPS } else { 0 }
 }

@@ -5,16 +5,15 @@ use Rattle.std.proofs.lemmas.Int.{ints}
 use Rattle.std.proofs.lemmas.List.{length-append}
 use Rattle.std.proofs.Math.Nat.{pow-suc}
 use Rattle.std.proofs.Math.Pow.{pow_mono}
-use Rattle.std.specs.declared.cmp.Ordering.TheVariants.{Less}
 use Rattle.std.specs.List.{flat_map}
-use Rattle.std.specs.Ordering.{int_cmp, int_eq, ordering_then}
-use Rattle.std.specs.Cmp.{tied_itself, int_cmp_total, int_cmp_is}
+use Rattle.std.specs.Ordering.{int_cmp, int_eq}
 use Rattle.std.specs.Cmp.Lexicographic.{slice_cmp}
 use Rattle.chr_types.specs.OrderTypes.{In, Rises}
 use Rattle.chr_types.proofs.Bases.{lt_true, lt_false}
 use Rattle.chr_types.proofs.Holes.{same_yes, yes_same, same_no}
 use Rattle.chr_types.proofs.RisingLists.{ListsRise}
-use Rattle.chr_types.proofs.Members.{in_first, in_second, in_either}
+use Rattle.chr_types.proofs.Enumeration.{flat_rises, lex}
+use Rattle.chr_types.proofs.Members.{in_flat_map, flat_map_in}
 use Rattle.chr_sorts.specs.Lists.{AreBlocks}
 use Rattle.chr_kinds.specs.SortedCaseLists.{AreFirstNumbers}
 use Rattle.chr_kinds.specs.working.Blocks.{inserted, going_on, lists_behind}
@@ -73,32 +72,16 @@ inserted_rises v (k ∷ ks) r = by_order (Rises (inserted v (k ∷ ks))) k v
 
 -- ---- joined lists
 
-in_some : {A : Type 0} (r : A) (f : ℤ → List A) (ks : List ℤ) → In r (flat_map f ks) → (v : ℤ) × In v ks × In r (f v)
-in_some r f [] i = elim i [ ]
-in_some {A} r f (k ∷ ks) i = elim (in_either r (f k) (flat_map f ks) i) as (λ _. (v : ℤ) × In v (k ∷ ks) × In r (f v)) [
-  | inl j ↦ (k, inl refl, j)
-  | inr j ↦ (let m = in_some r f ks j in (m.0, inr m.1, m.2))
-]
-
-in_all : {A : Type 0} (r : A) (f : ℤ → List A) (v : ℤ) (ks : List ℤ) → In v ks → In r (f v) → In r (flat_map f ks)
-in_all r f v [] i j = elim i [ ]
-in_all r f v (k ∷ ks) (inl e) j = in_first r (f k) (flat_map f ks) (subst (λ z. In r (f z)) e j)
-in_all r f v (k ∷ ks) (inr i) j = in_second r (f k) (flat_map f ks) (in_all r f v ks i j)
-
-less_at : (p q t : List ℤ) (v w : ℤ) → v <ℤ w → slice_cmp int_cmp ((p ++ v ∷ []) ++ q) ((p ++ w ∷ []) ++ t) ≡ Less
-less_at [] q t v w l = let e : int_cmp v w ≡ Less = sym (int_cmp_is v w Less l) in ap (λ o. ordering_then o (slice_cmp int_cmp q t)) e
-less_at (x ∷ p) q t v w l = ap (λ o. ordering_then o (slice_cmp int_cmp ((p ++ v ∷ []) ++ q) ((p ++ w ∷ []) ++ t))) (tied_itself int_cmp_total x) ∙ less_at p q t v w l
-
-rise_joined : (xs ys : List (List ℤ)) → ListsRise xs → ListsRise ys → ((x y : List ℤ) → In x xs → In y ys → slice_cmp int_cmp x y ≡ Less) → ListsRise (xs ++ ys)
-rise_joined [] ys h g l = g
-rise_joined (x ∷ xs) ys h g l = (
-  λ s i. elim (in_either s xs ys i) as (λ _. slice_cmp int_cmp x s ≡ Less) [ inl j ↦ h.0 s j | inr j ↦ l x s (inl refl) j ],
-  rise_joined xs ys h.1 g (λ a b i j. l a b (inr i) j),
-)
-
-all_rise : (f : ℤ → List (List ℤ)) (ks : List ℤ) → Rises ks → ((v : ℤ) → ListsRise (f v)) → ((v w : ℤ) (r s : List ℤ) → v <ℤ w → In r (f v) → In s (f w) → slice_cmp int_cmp r s ≡ Less) → ListsRise (flat_map f ks)
-all_rise f [] h g l = tt
-all_rise f (k ∷ ks) h g l = rise_joined (f k) (flat_map f ks) (g k) (all_rise f ks h.1 g l) (λ x y i j. (let m = in_some y f ks j in l k m.0 x y (h.0 m.0 m.1) i m.2))
+pub flat_some : (f : ℤ → List (List ℤ)) (z : ℤ) (zs : List ℤ) → In z zs → length (f z) ≤ length (flat_map f zs)
+flat_some f z [] i = absurd i
+flat_some f z (y ∷ zs) (inl e) =
+    let a = length-append (f y) (flat_map f zs) in
+    let b : length (f z) ≡ length (f y) = ap (λ x. length (f x)) e in
+    omega (arith, a, b)
+flat_some f z (y ∷ zs) (inr i) =
+    let a = length-append (f y) (flat_map f zs) in
+    let rest = flat_some f z zs i in
+    omega (arith, a, rest)
 
 -- ---- order
 
@@ -111,7 +94,7 @@ by_next P false xs ys x y = y
 begins : (k : ℕ) (ks ns p r : List ℤ) → In r (lists_behind k ks ns p) → (q : List ℤ) × (r ≡ p ++ q)
 begins zero ks ns p r i = elim i as (λ _. (q : List ℤ) × (r ≡ p ++ q)) [ inl e ↦ ([], e ∙ sym (append-nil p)) | inr n ↦ absurd n ]
 begins (suc k) ks ns p r i =
-    let m = in_some r (going_on (lists_behind k) ks ns p) (inserted (get_or ns 0 (pos 0)) ks) i in
+    let m = in_flat_map r (going_on (lists_behind k) ks ns p) (inserted (get_or ns 0 (pos 0)) ks) i in
     let z = m.0 in
     let next = get_or ns 0 (pos 0) in
     let w = by_next (λ xs. In r xs → (q : List ℤ) × (r ≡ (p ++ z ∷ []) ++ q)) (int_eq z next) (lists_behind k (inserted next ks) (drop 1 ns) (p ++ z ∷ [])) (lists_behind k ks ns (p ++ z ∷ []))
@@ -129,10 +112,10 @@ pub behind_rise : (k : ℕ) (ks ns p : List ℤ) → Rises ks → ListsRise (lis
 behind_rise zero ks ns p r = (λ s i. absurd i, tt)
 behind_rise (suc k) ks ns p r =
     let next = get_or ns 0 (pos 0) in
-    all_rise (going_on (lists_behind k) ks ns p) (inserted next ks) (inserted_rises next ks r)
-    (λ z. by_next ListsRise (int_eq z next) (lists_behind k (inserted next ks) (drop 1 ns) (p ++ z ∷ [])) (lists_behind k ks ns (p ++ z ∷ []))
+    flat_rises (going_on (lists_behind k) ks ns p) (inserted next ks) (inserted_rises next ks r)
+    (λ z _. by_next ListsRise (int_eq z next) (lists_behind k (inserted next ks) (drop 1 ns) (p ++ z ∷ [])) (lists_behind k ks ns (p ++ z ∷ []))
     (behind_rise k (inserted next ks) (drop 1 ns) (p ++ z ∷ []) (inserted_rises next ks r)) (behind_rise k ks ns (p ++ z ∷ []) r))
-    (λ v w x y l i j. (let a = goes_on_with k ks ns p v x i in let b = goes_on_with k ks ns p w y j in (λ t. slice_cmp int_cmp (a.1 t) (b.1 t)) ∙ less_at p a.0 b.0 v w l))
+    (λ v w x y _ _ l i j. (let a = goes_on_with k ks ns p v x i in let b = goes_on_with k ks ns p w y j in (λ t. slice_cmp int_cmp (a.1 t) (b.1 t)) ∙ lex p a.0 b.0 v w l))
 
 -- ---- just the lists of blocks
 
@@ -169,7 +152,7 @@ are_blocks : (k : ℕ) (cs before ks ns p r : List ℤ) → Choices cs before ks
 are_blocks zero cs before ks ns p r c l i = elim i as (λ _. Rest 0 cs before ns p r) [ inl e ↦ ([], e ∙ sym (append-nil p), refl, tt) | inr n ↦ absurd n ]
 are_blocks (suc k) cs before ks [] p r c l i = absurd (omega (arith, l))
 are_blocks (suc k) cs before ks (n ∷ ns) p r c l i =
-    let m = in_some r (going_on (lists_behind k) ks (n ∷ ns) p) (inserted n ks) i in
+    let m = in_flat_map r (going_on (lists_behind k) ks (n ∷ ns) p) (inserted n ks) i in
     let z = m.0 in
     elim (int_eq z n) as (λ b. int_eq z n ≡ b → In r (cond b (lists_behind k (inserted n ks) ns (p ++ z ∷ [])) (lists_behind k ks (n ∷ ns) (p ++ z ∷ []))) → Rest (suc k) cs before (n ∷ ns) p r) [
       | true ↦ λ e j. (let w = are_blocks k cs (n ∷ before) (inserted n ks) ns (p ++ z ∷ []) r (choices_on cs before ks n ns c) (omega (arith, l)) j in
@@ -186,7 +169,7 @@ all_blocks (z ∷ q) cs before ks (n ∷ ns) p c l (inl h) =
     let i : In z ks = c.all z h.0 in
     let ih = all_blocks q cs before ks (n ∷ ns) (p ++ z ∷ []) c (omega (arith, l)) h.1 in
     let here : In (p ++ z ∷ q) (lists_behind (length q) ks (n ∷ ns) (p ++ z ∷ [])) = subst (λ x. In x (lists_behind (length q) ks (n ∷ ns) (p ++ z ∷ []))) (append_assoc p (z ∷ []) q) ih in
-    in_all (p ++ z ∷ q) (going_on (lists_behind (length q)) ks (n ∷ ns) p) z (inserted n ks) (inserted_in n z ks (inr i))
+    flat_map_in (p ++ z ∷ q) (going_on (lists_behind (length q)) ks (n ∷ ns) p) z (inserted n ks) (inserted_in n z ks (inr i))
     (elim (int_eq z n) as (λ b. int_eq z n ≡ b → In (p ++ z ∷ q) (cond b (lists_behind (length q) (inserted n ks) ns (p ++ z ∷ [])) (lists_behind (length q) ks (n ∷ ns) (p ++ z ∷ [])))) [
       | true ↦ λ e. absurd (c.new n (inl refl) (subst (λ x. In x ks) (same_yes z n e) i))
       | false ↦ λ e. here
@@ -194,7 +177,7 @@ all_blocks (z ∷ q) cs before ks (n ∷ ns) p c l (inl h) =
 all_blocks (z ∷ q) cs before ks (n ∷ ns) p c l (inr h) =
     let ih = all_blocks q cs (n ∷ before) (inserted n ks) ns (p ++ z ∷ []) (choices_on cs before ks n ns c) (omega (arith, l)) h.1 in
     let here : In (p ++ z ∷ q) (lists_behind (length q) (inserted n ks) ns (p ++ z ∷ [])) = subst (λ x. In x (lists_behind (length q) (inserted n ks) ns (p ++ z ∷ []))) (append_assoc p (z ∷ []) q) ih in
-    in_all (p ++ z ∷ q) (going_on (lists_behind (length q)) ks (n ∷ ns) p) z (inserted n ks) (inserted_in n z ks (inl h.0))
+    flat_map_in (p ++ z ∷ q) (going_on (lists_behind (length q)) ks (n ∷ ns) p) z (inserted n ks) (inserted_in n z ks (inl h.0))
     (subst (λ b. In (p ++ z ∷ q) (cond b (lists_behind (length q) (inserted n ks) ns (p ++ z ∷ [])) (lists_behind (length q) ks (n ∷ ns) (p ++ z ∷ [])))) (sym (yes_same z n h.0)) here)
 
 at_first : (cs us : List ℤ) → AreFirstNumbers cs us → Choices cs [] cs us
@@ -220,17 +203,6 @@ length-inserted v (k ∷ ks) n = by_order (length (inserted v (k ∷ ks)) ≡ su
     (λ e. ap length (at_lesser v k ks e) ∙ ap suc (length-inserted v ks (λ i. n (inr i))))
     (λ e f. ap length (at_greater v k ks e f))
     (λ e f same. absurd (n (inl (sym same))))
-
-one_joined : (f : ℤ → List (List ℤ)) (z : ℤ) (ks : List ℤ) → In z ks → length (f z) ≤ length (flat_map f ks)
-one_joined f z [] i = absurd i
-one_joined f z (k ∷ ks) (inl e) =
-    let a = length-append (f k) (flat_map f ks) in
-    let b = ap (λ x. length (f x)) e in
-    omega (arith, a, b)
-one_joined f z (k ∷ ks) (inr i) =
-    let a = length-append (f k) (flat_map f ks) in
-    let b = one_joined f z ks i in
-    omega (arith, a, b)
 
 two_joined : (f : ℤ → List (List ℤ)) (m : ℕ) (ks : List ℤ) → ((z : ℤ) → m ≤ length (f z)) → 2 ≤ length ks → m + m ≤ length (flat_map f ks)
 two_joined f m [] all l = absurd (omega (arith, l))
@@ -265,7 +237,7 @@ many_first k cs before ks (n ∷ ns) p c l =
     let more = many_behind k cs (n ∷ before) (inserted n ks) ns (p ++ n ∷ []) (choices_on cs before ks n ns c) (omega (arith, l)) (omega (arith, longer)) in
     let is : f n ≡ lists_behind k (inserted n ks) ns (p ++ n ∷ []) = ap (λ b. cond b (lists_behind k (inserted n ks) ns (p ++ n ∷ [])) (lists_behind k ks (n ∷ ns) (p ++ n ∷ []))) (yes_same n n refl) in
     let same = ap length is in
-    let all = one_joined f n (inserted n ks) (inserted_in n n ks (inl refl)) in
+    let all = flat_some f n (inserted n ks) (inserted_in n n ks (inl refl)) in
     omega (arith, more, same, all)
 
 -- of more than 64 values there are more lists than any limit

@@ -8,25 +8,18 @@ use mir.Val.{SFits, of_z, to_z}
 use mir.Syntax.{w64}
 use Rattle.std.proofs.lemmas.List.{take_more, take_all, flat_map_more, length-append}
 use Rattle.std.proofs.lemmas.List.Folds.{length-flat_map-take}
-use Rattle.chr_base.specs.declared.term.Term.{Term}
-use Rattle.chr_base.specs.declared.term.Term.TheVariants.{Constant, Variable}
+use Rattle.chr_base.specs.declared.term.Term.TheVariants.{Constant}
 use Rattle.chr_types.specs.OrderTypes.{In, Rises, AreValues}
 use Rattle.chr_types.proofs.Holes.{same_yes, yes_same}
 use Rattle.chr_types.proofs.Members.{in_first, in_second, in_last}
 use Rattle.chr_types.proofs.RisingLists.{same_members}
+use Rattle.chr_types.proofs.Steps.{less_one}
+use Rattle.chr_confluence.proofs.Solutions.{same_constant}
 use Rattle.chr_overlaps.specs.working.Gathering.{AreConstantsIn, Gathers}
 use Rattle.chr_kinds.specs.working.Blocks.{inserted, going_on, lists_behind}
 use Rattle.chr_kinds.proofs.Blocks.{in_inserted, inserted_in, inserted_rises}
 
 -- ---- constants gathered
-
-constant_of : Term → ℤ
-constant_of (Constant c) = c
-constant_of (Variable x) = pos 0
-
-same_constant : (c d : ℤ) → Constant c ≡ Constant d → c ≡ d
-unfolding constant_of
-same_constant c d e = ap constant_of e
 
 constant_in : (c : ℤ) (ks : List ℤ) → In c ks → In (Constant c) (map Constant ks)
 constant_in c [] i = absurd i
@@ -64,9 +57,6 @@ value_inserted v ks new r values g =
 -- the lists behind those that go on with z
 abbrev pub next_lists : ℕ → List ℤ → List ℤ → List ℤ → ℤ → List (List ℤ)
 next_lists left ks ns p z = going_on (lists_behind (left - 1)) ks ns p z
-
-less_one : (k : ℕ) → k ≡ suc k - 1
-less_one k = omega arith
 
 by_choice : (left : ℕ) (ks ns p : List ℤ) → (left ≡ 0 → ⊥) → lists_behind left ks ns p ≡ flat_map (next_lists left ks ns p) (inserted (get_or ns 0 (pos 0)) ks)
 by_choice zero ks ns p n = absurd (n refl)

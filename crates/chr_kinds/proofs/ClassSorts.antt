@@ -1,6 +1,6 @@
 -- The sorts of classes, as the heads' placed terms have them.
-use Rattle.std.specs.Prelude.{◌≡◌, ℕ, zero, suc, ◌+◌, ◌-◌, ◌<◌, ◌≤◌, Bool, true, false, cond, nat_le, List, [], ◌∷◌, ◌++◌, map, length, take, get_or}
-use Rattle.std.proofs.Common.{refl, sym, ap, subst, ◌∙◌, arith, inl, inr}
+use Rattle.std.specs.Prelude.{◌≡◌, ℕ, ◌+◌, ◌-◌, ◌<◌, ◌≤◌, Bool, true, false, cond, nat_le, List, [], ◌∷◌, ◌++◌, map, length, take, get_or}
+use Rattle.std.proofs.Common.{refl, sym, ap, subst, ◌∙◌, arith}
 use Rattle.std.proofs.lemmas.Bool.{leb-true, leb-false}
 use Rattle.std.proofs.lemmas.List.{take_more, map-append}
 use Rattle.chr_base.specs.declared.term.Term.TheVariants.{Variable}
@@ -8,6 +8,7 @@ use Rattle.chr_base.specs.declared.rule.Rule.{Rule}
 use Rattle.chr_base.specs.RuleTests.{terms_of}
 use Rattle.chr_base.specs.Rules.{heads_of}
 use Rattle.chr_types.specs.OrderTypes.{In}
+use Rattle.chr_types.proofs.Members.{in_at}
 use Rattle.chr_confluence.specs.Overlaps.{variables_of}
 use Rattle.chr_confluence.specs.Unifiers.{Substitution}
 use Rattle.chr_confluence.specs.Representatives.{free_variables}
@@ -20,11 +21,6 @@ use Rattle.chr_kinds.specs.declared.sorting.Sorting.{Sorting}
 use Rattle.chr_kinds.specs.FinestSorts.{AreShort, sort_in, sorts_of}
 use Rattle.chr_kinds.specs.working.Notes.{numbering, placed_heads}
 use Rattle.chr_kinds.proofs.Fitting.{terms_moved, first_moved}
-
-in_get : (xs : List ℕ) (i d : ℕ) → i < length xs → In (get_or xs i d) xs
-in_get [] i d l = absurd (omega (arith, l))
-in_get (x ∷ xs) zero d l = inl refl
-in_get (x ∷ xs) (suc i) d l = inr (in_get xs i d (omega (arith, l)))
 
 module _ (s : Sorting) (r1 r2 : Rule) (short1 : AreShort (heads_of r1)) (short2 : AreShort (heads_of r2)) where
   -- the sort of a head's variable
@@ -47,7 +43,7 @@ module _ (s : Sorting) (r1 r2 : Rule) (short1 : AreShort (heads_of r1)) (short2 
       → done ≡ map (joint_sort (sorts_of s) r1 r2) (take i xs) → now ≡ done ++ sort_in s.sorts.items p ∷ [] → now ≡ map (joint_sort (sorts_of s) r1 r2) (take (i + 1) xs)
   next_sort σ xs i p done now all l is d n =
       let x = get_or xs i 0 in
-      let f = free_is σ r1 r2 x (subst (In x) all (in_get xs i 0 l)) in
+      let f = free_is σ r1 r2 x (subst (In x) all (in_at xs i 0 l)) in
       let sort = class_sort x p f.0 f.1 is in
       let joined : map (joint_sort (sorts_of s) r1 r2) (take i xs ++ x ∷ []) ≡ map (joint_sort (sorts_of s) r1 r2) (take i xs) ++ joint_sort (sorts_of s) r1 r2 x ∷ [] = map-append (joint_sort (sorts_of s) r1 r2) (take i xs) (x ∷ []) in
       n ∙ (λ j. d j ++ sort j ∷ []) ∙ sym joined ∙ ap (map (joint_sort (sorts_of s) r1 r2)) (sym (take_more xs i 0 l))

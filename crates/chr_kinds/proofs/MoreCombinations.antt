@@ -1,17 +1,18 @@
 -- The lists of all sorts, and whether there are more combinations than a limit.
-use Rattle.std.specs.Prelude.{◌≡◌, ℕ, zero, suc, ℤ, ◌+◌, ◌^◌, ◌<◌, ◌≤◌, ◌↔◌, IsTrue, Bool, true, false, cond, nat_eq, List, [], ◌∷◌, ◌++◌, map, length}
+use Rattle.std.specs.Prelude.{◌≡◌, ℕ, suc, ℤ, ◌+◌, ◌^◌, ◌<◌, ◌≤◌, ◌↔◌, IsTrue, Bool, true, false, cond, nat_eq, List, [], ◌∷◌, ◌++◌, map, length}
 use mathlib.Core.Bool.{true≢false}
-use Rattle.std.proofs.Common.{refl, sym, ap, subst, ◌∙◌, arith, inl, inr, get_or}
+use Rattle.std.proofs.Common.{refl, sym, ap, subst, ◌∙◌, arith, inl, inr}
 use Rattle.std.proofs.lemmas.Bool.{eqb-true, eq-eqb}
 use Rattle.chr_types.specs.OrderTypes.{In, Rises, AreValues}
 use Rattle.chr_types.specs.Visits.{Visited}
+use Rattle.chr_types.specs.declared.visitors.LimitedCount.{LimitedCount}
+use Rattle.chr_types.proofs.Counted.{Step, counted_past, counted_within}
 use Rattle.chr_types.proofs.Members.{in_last}
 use Rattle.chr_sorts.specs.Sorts.{Sorts, Kind}
 use Rattle.chr_sorts.specs.Lists.{sort_count}
 use Rattle.chr_kinds.specs.SortedCaseLists.{AreListsAt, MoreListsThan, AreCombinations, MoreCombinationsThan}
 use Rattle.chr_kinds.specs.declared.weave.SortLists.{SortLists}
-use Rattle.chr_kinds.specs.declared.combinations.Count.{Count}
-use Rattle.chr_kinds.specs.working.Weaving.{held, woven, AreListsOf, HasMoreLists, LeaveRoom, CountsOne}
+use Rattle.chr_kinds.specs.working.Weaving.{held, woven, AreListsOf, HasMoreLists, LeaveRoom}
 use Rattle.chr_kinds.proofs.Combined.{is_one, one_in, in_one}
 use Rattle.chr_kinds.proofs.ListsThere.{lists_there}
 use Rattle.chr_kinds.proofs.OneCombinations.{combinations_one}
@@ -48,11 +49,6 @@ counted_most [] k = omega arith
 counted_most (j ∷ ks) k =
     let l = counted_most ks k in
     elim (nat_eq j k) as (λ b. cond b (suc (sort_count k ks)) (sort_count k ks) ≤ suc (length ks)) [ true ↦ omega (arith, l) | false ↦ omega (arith, l) ]
-
-pub in_get : (ks : List ℕ) (i d : ℕ) → i < length ks → In (get_or ks i d) ks
-in_get [] i d l = absurd (omega (arith, l))
-in_get (k ∷ ks) zero d l = inl refl
-in_get (k ∷ ks) (suc i) d l = inr (in_get ks i d (omega (arith, l)))
 
 pub more_like : (limit : ℕ) (a b : Kind) (cs ds : List ℤ) (m n : ℕ) → a ≡ b → cs ≡ ds → m ≡ n → MoreListsThan limit a cs m → MoreListsThan limit b ds n
 more_like limit a b cs ds m n k c e h = subst (λ x. MoreListsThan limit b ds x) e (subst (λ x. MoreListsThan limit b x m) c (subst (λ x. MoreListsThan limit x cs m) k h))
@@ -133,22 +129,8 @@ module _ (s : Sorts) (ks : List ℕ) (rises : (k : ℕ) → Rises (s.constants k
 
 -- ---- counting
 
-counted_past : (rs : List (List ℤ)) (v w : Count) → Visited (λ v _ stops w. CountsOne v stops w) v rs true w → v.limit < v.found + length rs
-counted_past [] v w x = absurd (true≢false x.0)
-counted_past (r ∷ rs) v w x = elim x as (λ _. v.limit < v.found + length (r ∷ rs)) [
-  | inl s ↦ (let l = s.1.full refl in omega (arith, l))
-  | inr s ↦ (let ih = counted_past rs s.0 w s.2 in let m = s.1.more refl in let a = m.0 in let b = m.1 in omega (arith, ih, a, b))
-]
-
-counted_within : (rs : List (List ℤ)) (v w : Count) → v.found ≤ v.limit → Visited (λ v _ stops w. CountsOne v stops w) v rs false w → v.found + length rs ≤ v.limit
-counted_within [] v w l x = omega (arith, l)
-counted_within (r ∷ rs) v w l x = elim x as (λ _. v.found + length (r ∷ rs) ≤ v.limit) [
-  | inl s ↦ absurd (true≢false (sym s.0))
-  | inr s ↦ (let m = s.1.more refl in let a = m.0 in let b = m.1 in let c = m.2 in let ih = counted_within rs s.0 w (omega (arith, a, b, c)) s.2 in omega (arith, ih, a, b))
-]
-
-pub told_more : (s : Sorts) (ks : List ℕ) (limit : ℕ) (rs : List (List ℤ)) (w : Count) (more : Bool) → ((k : ℕ) → Rises (s.constants k)) → AreCombinations s ks rs
-    → Visited (λ v _ stops w. CountsOne v stops w) (record { found = 0; limit = limit }) rs more w → IsTrue more ↔ MoreCombinationsThan s ks limit
+pub told_more : (s : Sorts) (ks : List ℕ) (limit : ℕ) (rs : List (List ℤ)) (w : LimitedCount) (more : Bool) → ((k : ℕ) → Rises (s.constants k)) → AreCombinations s ks rs
+    → Visited Step (record { found = 0; limit = limit }) rs more w → IsTrue more ↔ MoreCombinationsThan s ks limit
 told_more s ks limit rs w true rises are v = (λ _. (rs, are, (let l = counted_past rs (record { found = 0; limit = limit }) w v in omega (arith, l))), λ _. refl)
 told_more s ks limit rs w false rises are v = (
   λ i. absurd (true≢false (sym i)),

@@ -1,6 +1,6 @@
 -- The first numbers that are no constants, found one after the other.
 use Rattle.std.specs.Prelude.{◌≡◌, ℕ, zero, suc, ℤ, pos, negsuc, ◌+ℤ◌, ◌≤ℤ◌, ◌<ℤ◌, ◌+◌, ◌-◌, ◌^◌, ◌<◌, ◌≤◌, ◌⊎◌, true, false, List, [], ◌∷◌, ◌++◌, length, take, get_or}
-use Rattle.std.proofs.Common.{refl, sym, ap, subst, ◌∙◌, inl, inr, arith}
+use Rattle.std.proofs.Common.{sym, ap, subst, ◌∙◌, inl, inr, arith}
 use Rattle.std.proofs.lemmas.Bool.{cases_lt}
 use Rattle.std.proofs.lemmas.Int.{ints, to_z-of_z, of_z-to_z}
 use mir.Val.{SFits, of_z, to_z}
@@ -9,7 +9,8 @@ use lib.Signed.{le_z}
 use Rattle.std.proofs.lemmas.List.{take_more, length-append}
 use Rattle.chr_types.specs.OrderTypes.{In, Rises}
 use Rattle.chr_types.proofs.Bases.{apart}
-use Rattle.chr_types.proofs.Members.{in_first, in_second, in_last}
+use Rattle.chr_types.proofs.CandidateSteps.{rises_more}
+use Rattle.chr_types.proofs.Members.{in_at, in_first, in_second, in_last}
 use Rattle.chr_kinds.specs.SortedCaseLists.{AreFirstNumbers}
 use Rattle.chr_kinds.specs.working.Numbers.{AreNumbersBelow}
 
@@ -23,14 +24,6 @@ none_found cs = record {
   new = λ z i. absurd i;
   all = λ x l h. absurd (omega (arith, ints, l, h));
 }
-
--- a list that rises rises with one more at its end
-rises_on : (us : List ℤ) (b : ℤ) → Rises us → ((z : ℤ) → In z us → z <ℤ b) → Rises (us ++ b ∷ [])
-rises_on [] b r l = (λ y i. absurd i, tt)
-rises_on (u ∷ us) b r l = (
-  λ y i. elim (in_last y b us i) as (λ _. u <ℤ y) [ inl j ↦ r.0 y j | inr e ↦ subst (λ z. u <ℤ z) (sym e) (l u (inl refl)) ],
-  rises_on us b r.1 (λ z i. l z (inr i)),
-)
 
 -- of rising numbers those behind the first ones are not below the next
 not_before : (cs : List ℤ) (k : ℕ) (d c : ℤ) → Rises cs → In c cs → In c (take k cs) ⊎ ((k < length cs) × (get_or cs k d ≤ℤ c))
@@ -49,11 +42,6 @@ passed_before cs k d b l h all c i = elim (in_last c (get_or cs k d) (take k cs)
   | inl j ↦ all c j
   | inr e ↦ subst (λ z. z <ℤ b) (sym e) h
 ]
-
-in_get : (cs : List ℤ) (k : ℕ) (d : ℤ) → k < length cs → In (get_or cs k d) cs
-in_get [] k d l = absurd (omega (arith, l))
-in_get (c ∷ cs) zero d l = inl refl
-in_get (c ∷ cs) (suc k) d l = inr (in_get cs k d (omega (arith, l)))
 
 -- a lesser constant
 pub lesser_passed : (cs us : List ℤ) (k : ℕ) (b d : ℤ) → k < length cs → get_or cs k d <ℤ b → AreNumbersBelow cs k us b → AreNumbersBelow cs (k + 1) us b
@@ -78,7 +66,7 @@ constant_passed cs us k b d l e f = record {
   new = λ z i. (let h = f.new z i in let m = h.1 in (h.0, omega (arith, ints, m), h.2));
   all = λ x lo hi. elim (apart x b) as (λ _. In x us ⊎ In x cs) [
     | inl m ↦ f.all x lo m
-    | inr m ↦ inr (subst (λ z. In z cs) (let q : get_or cs k d ≡ x = omega (arith, ints, e, m, hi) in q) (in_get cs k d l))
+    | inr m ↦ inr (subst (λ z. In z cs) (let q : get_or cs k d ≡ x = omega (arith, ints, e, m, hi) in q) (in_at cs k d l))
   ];
 }
 
@@ -89,7 +77,7 @@ number_found cs us k b d r h f = record {
   few = (let w = f.few in let n = length-append us (b ∷ []) in omega (arith, ints, w, n));
   there = f.there;
   before = λ c i. (let m = f.before c i in omega (arith, ints, m));
-  rise = rises_on us b f.rise (λ z i. (f.new z i).1);
+  rise = rises_more us b f.rise (λ z i. (f.new z i).1);
   new = λ z i. elim (in_last z b us i) as (λ _. (pos 0 ≤ℤ z) × (z <ℤ (b +ℤ pos 1)) × (¬ In z cs)) [
     | inl j ↦ (let m = f.new z j in let w = m.1 in (m.0, omega (arith, ints, w), m.2))
     | inr e ↦ (let w = f.from in (omega (arith, ints, w, e), omega (arith, ints, e), λ j. none (subst (λ y. In y cs) e j)))

@@ -9,7 +9,7 @@ use Rattle.std.proofs.lemmas.List.Elements.{filter-append}
 use Rattle.std.proofs.lemmas.Bool.{eq-eqb, eqb-true}
 use Rattle.chr_types.specs.OrderTypes.{In}
 use Rattle.chr_types.specs.working.Search.{others}
-use Rattle.chr_types.proofs.Holes.{same_yes, yes_same, same_no}
+use Rattle.chr_types.proofs.Holes.{in_others, others_in, same_yes, yes_same}
 use Rattle.chr_types.proofs.Sliding.{equal_or_not, in_or_not}
 use Rattle.chr_kinds.specs.declared.weave.SortLists.{SortLists}
 use Rattle.chr_kinds.specs.working.Weaving.{firsts, each_once, tails, begun, woven, held_or, held}
@@ -25,20 +25,6 @@ firsts_more : (ls : List (List ℤ)) (l : List ℤ) → firsts (ls ++ l ∷ []) 
 firsts_more [] l = refl
 firsts_more ([] ∷ ls) l = firsts_more ls l
 firsts_more ((z ∷ zs) ∷ ls) l = ap (λ xs. z ∷ xs) (firsts_more ls l)
-
-pub others_in : (v u : ℤ) (xs : List ℤ) → In u (others v xs) → In u xs × (u ≡ v → ⊥)
-others_in v u [] i = elim i [ ]
-others_in v u (x ∷ xs) i = elim (int_eq x v) as (λ t. int_eq x v ≡ t → In u (cond (not t) (x ∷ others v xs) (others v xs)) → In u (x ∷ xs) × (u ≡ v → ⊥)) [
-  | true ↦ λ t j. (let r = others_in v u xs j in (inr r.0, r.1))
-  | false ↦ λ t j. elim j as (λ _. In u (x ∷ xs) × (u ≡ v → ⊥)) [ inl e ↦ (inl e, λ f. same_no x v t (sym e ∙ f)) | inr k ↦ (let r = others_in v u xs k in (inr r.0, r.1)) ]
-] refl i
-
-in_others : (v u : ℤ) (xs : List ℤ) → In u xs → (u ≡ v → ⊥) → In u (others v xs)
-in_others v u [] i n = elim i [ ]
-in_others v u (x ∷ xs) i n = elim (int_eq x v) as (λ t. int_eq x v ≡ t → In u (cond (not t) (x ∷ others v xs) (others v xs))) [
-  | true ↦ λ t. elim i as (λ _. In u (others v xs)) [ inl e ↦ absurd (n (e ∙ same_yes x v t)) | inr j ↦ in_others v u xs j n ]
-  | false ↦ λ t. elim i as (λ _. In u (x ∷ others v xs)) [ inl e ↦ inl e | inr j ↦ inr (in_others v u xs j n) ]
-] refl
 
 pub once_in : (z : ℤ) (xs : List ℤ) → In z (each_once xs) → In z xs
 once_in z [] i = i

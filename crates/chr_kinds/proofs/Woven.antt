@@ -1,61 +1,32 @@
 -- What is woven are all combinations.
 use Rattle.std.specs.Prelude.{◌≡◌, ℕ, zero, suc, ℤ, pos, ◌≤ℤ◌, ◌<ℤ◌, ◌<◌, ◌≤◌, ◌↔◌, Bool, true, false, cond, nat_eq, List, [], ◌∷◌, ◌++◌, length}
-use Rattle.std.proofs.Common.{refl, sym, ap, subst, ◌∙◌, arith, inl, inr, append_assoc, append-nil, length-append}
+use Rattle.std.proofs.Common.{refl, sym, ap, subst, ◌∙◌, arith, inl, inr, append_assoc, append-nil, length-append, drop}
 use mathlib.Core.Bool.{not}
 use Rattle.std.specs.List.{flat_map}
 use Rattle.std.specs.Ordering.{int_eq, int_cmp, ordering_then}
 use Rattle.std.specs.declared.cmp.Ordering.TheVariants.{Less}
-use Rattle.std.specs.Cmp.{tied_itself, int_cmp_total, int_cmp_is}
+use Rattle.std.specs.Cmp.{tied_itself, int_cmp_total}
 use Rattle.std.specs.Cmp.Lexicographic.{slice_cmp, lists_total}
 use Rattle.std.proofs.lemmas.Bool.{eqb-true, eq-eqb}
 use Rattle.std.proofs.lemmas.Int.{ints}
 use Rattle.chr_types.specs.OrderTypes.{In, Rises, RisesBy, AreValues, IsValue}
 use Rattle.chr_types.specs.working.Search.{others}
-use Rattle.chr_types.proofs.Members.{in_first, in_second, in_either}
+use Rattle.chr_types.proofs.Members.{in_flat_map, flat_map_in}
 use Rattle.chr_types.proofs.RisingLists.{ListsRise}
+use Rattle.chr_types.proofs.Enumeration.{flat_rises, lex}
 use Rattle.chr_types.proofs.OneList.{never}
-use Rattle.chr_types.proofs.Holes.{same_yes, same_no, yes_same}
+use Rattle.chr_types.proofs.Holes.{others_in, same_yes, same_no, yes_same}
 use Rattle.chr_types.proofs.Bases.{apart}
 use Rattle.chr_sorts.specs.Sorts.{Sorts, Kind, ordered, equal, free}
 use Rattle.chr_sorts.specs.Lists.{AreBlocks, values_at, sort_count}
 use Rattle.chr_kinds.specs.SortedCaseLists.{AreListsAt, AreCombinations}
+use Rattle.chr_kinds.specs.working.Blocks.{next_number}
 use Rattle.chr_kinds.specs.working.Weaving.{firsts, each_once, tails, begun, woven}
 use Rattle.chr_kinds.proofs.Combined.{is_one, one_in, in_one, none_counted, chosen}
-use Rattle.chr_kinds.proofs.Weaving.{once_in, in_once, others_in}
-
--- ---- lists of many values
-
-in_flat_map : (r : List ℤ) (f : ℤ → List (List ℤ)) (zs : List ℤ) → In r (flat_map f zs) → (z : ℤ) × In z zs × In r (f z)
-in_flat_map r f [] i = absurd i
-in_flat_map r f (z ∷ zs) i = elim (in_either r (f z) (flat_map f zs) i) as (λ _. (y : ℤ) × In y (z ∷ zs) × In r (f y)) [
-  | inl j ↦ (z, inl refl, j)
-  | inr j ↦ (let m = in_flat_map r f zs j in (m.0, inr m.1, m.2))
-]
-
-flat_map_in : (r : List ℤ) (f : ℤ → List (List ℤ)) (z : ℤ) (zs : List ℤ) → In z zs → In r (f z) → In r (flat_map f zs)
-flat_map_in r f z [] i j = absurd i
-flat_map_in r f z (y ∷ zs) (inl e) j = in_first r (f y) (flat_map f zs) (subst (λ x. In r (f x)) e j)
-flat_map_in r f z (y ∷ zs) (inr i) j = in_second r (f y) (flat_map f zs) (flat_map_in r f z zs i j)
+use Rattle.chr_kinds.proofs.Blocks.{flat_some}
+use Rattle.chr_kinds.proofs.Weaving.{once_in, in_once}
 
 -- ---- order
-
-lex : (p q q' : List ℤ) (v v' : ℤ) → v <ℤ v' → slice_cmp int_cmp ((p ++ v ∷ []) ++ q) ((p ++ v' ∷ []) ++ q') ≡ Less
-lex [] q q' v v' l = let e : int_cmp v v' ≡ Less = sym (int_cmp_is v v' Less l) in ap (λ o. ordering_then o (slice_cmp int_cmp q q')) e
-lex (x ∷ p) q q' v v' l = ap (λ o. ordering_then o (slice_cmp int_cmp ((p ++ v ∷ []) ++ q) ((p ++ v' ∷ []) ++ q'))) (tied_itself int_cmp_total x) ∙ lex p q q' v v' l
-
-rise_append : (xs ys : List (List ℤ)) → ListsRise xs → ListsRise ys → ((x y : List ℤ) → In x xs → In y ys → slice_cmp int_cmp x y ≡ Less) → ListsRise (xs ++ ys)
-rise_append [] ys h g l = g
-rise_append (x ∷ xs) ys h g l = (
-  λ s i. elim (in_either s xs ys i) as (λ _. slice_cmp int_cmp x s ≡ Less) [ inl j ↦ h.0 s j | inr j ↦ l x s (inl refl) j ],
-  rise_append xs ys h.1 g (λ a b i j. l a b (inr i) j),
-)
-
-flat_rises : (f : ℤ → List (List ℤ)) (zs : List ℤ) → Rises zs → ((v : ℤ) → In v zs → ListsRise (f v))
-    → ((v v' : ℤ) (r r' : List ℤ) → In v zs → In v' zs → v <ℤ v' → In r (f v) → In r' (f v') → slice_cmp int_cmp r r' ≡ Less) → ListsRise (flat_map f zs)
-flat_rises f [] h g l = tt
-flat_rises f (z ∷ zs) h g l =
-    rise_append (f z) (flat_map f zs) (g z (inl refl)) (flat_rises f zs h.1 (λ v i. g v (inr i)) (λ v v' r r' i i'. l v v' r r' (inr i) (inr i')))
-    (λ x y i j. (let m = in_flat_map y f zs j in l z m.0 x y (inl refl) (inr m.1) (h.0 m.0 m.1) i m.2))
 
 others_rise : (x : ℤ) (xs : List ℤ) → Rises xs → Rises (others x xs)
 others_rise x [] h = tt
@@ -83,19 +54,11 @@ firsts_in z ([] ∷ ls) i = let m = firsts_in z ls i in (m.0, inr m.1)
 firsts_in z ((y ∷ ys) ∷ ls) (inl e) = (ys, inl (ap (λ x. x ∷ ys) e))
 firsts_in z ((y ∷ ys) ∷ ls) (inr i) = let m = firsts_in z ls i in (m.0, inr m.1)
 
-abbrev head_or : List ℤ → ℤ
-head_or [] = pos 0
-head_or (x ∷ xs) = x
-
-abbrev rest_of : List ℤ → List ℤ
-rest_of [] = []
-rest_of (x ∷ xs) = xs
-
 in_firsts : (z : ℤ) (zs l : List ℤ) (ls : List (List ℤ)) → l ≡ z ∷ zs → In l ls → In z (firsts ls)
 in_firsts z zs l [] e i = absurd i
 in_firsts z zs l ([] ∷ ls) e (inl g) = absurd (let n = ap length (sym e ∙ g) in omega (arith, n))
 in_firsts z zs l ([] ∷ ls) e (inr i) = in_firsts z zs l ls e i
-in_firsts z zs l ((y ∷ ys) ∷ ls) e (inl g) = inl (ap head_or (sym e ∙ g))
+in_firsts z zs l ((y ∷ ys) ∷ ls) e (inl g) = inl (ap next_number (sym e ∙ g))
 in_firsts z zs l ((y ∷ ys) ∷ ls) e (inr i) = inr (in_firsts z zs l ls e i)
 
 tails_in : (z : ℤ) (l : List ℤ) (ls : List (List ℤ)) → In l (tails z ls) → In (z ∷ l) ls
@@ -111,8 +74,8 @@ in_tails z l [] i = absurd i
 in_tails z l ([] ∷ ls) (inl g) = absurd (let n = ap length g in omega (arith, n))
 in_tails z l ([] ∷ ls) (inr i) = in_tails z l ls i
 in_tails z l ((y ∷ ys) ∷ ls) i = elim (int_eq y z) as (λ b. int_eq y z ≡ b → In l (cond b (ys ∷ tails z ls) (tails z ls))) [
-  | true ↦ λ e. elim i as (λ _. In l (ys ∷ tails z ls)) [ inl g ↦ inl (ap rest_of g) | inr j ↦ inr (in_tails z l ls j) ]
-  | false ↦ λ e. elim i as (λ _. In l (tails z ls)) [ inl g ↦ absurd (same_no y z e (sym (ap head_or g))) | inr j ↦ in_tails z l ls j ]
+  | true ↦ λ e. elim i as (λ _. In l (ys ∷ tails z ls)) [ inl g ↦ inl (ap (drop 1) g) | inr j ↦ inr (in_tails z l ls j) ]
+  | false ↦ λ e. elim i as (λ _. In l (tails z ls)) [ inl g ↦ absurd (same_no y z e (sym (ap next_number g))) | inr j ↦ in_tails z l ls j ]
 ] refl
 
 tails_rise : (z : ℤ) (ls : List (List ℤ)) → ListsRise ls → ListsRise (tails z ls)
@@ -295,17 +258,6 @@ flat_longer f g (z ∷ zs) h =
     let a = length-append (f z) (flat_map f zs) in
     let b = length-append (g z) (flat_map g zs) in
     omega (arith, here, rest, a, b)
-
-flat_some : (f : ℤ → List (List ℤ)) (z : ℤ) (zs : List ℤ) → In z zs → length (f z) ≤ length (flat_map f zs)
-flat_some f z [] i = absurd i
-flat_some f z (y ∷ zs) (inl e) =
-    let a = length-append (f y) (flat_map f zs) in
-    let b : length (f z) ≡ length (f y) = ap (λ x. length (f x)) e in
-    omega (arith, a, b)
-flat_some f z (y ∷ zs) (inr i) =
-    let a = length-append (f y) (flat_map f zs) in
-    let rest = flat_some f z zs i in
-    omega (arith, a, rest)
 
 tails_grow : (z : ℤ) (l : List ℤ) (ls : List (List ℤ)) → length (tails z ls) ≤ length (tails z (l ∷ ls))
 tails_grow z [] ls = omega arith

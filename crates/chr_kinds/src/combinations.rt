@@ -11,49 +11,11 @@ use crate::kind::Kind;
 use crate::lists::{are_values, lists_at};
 use crate::sorting::Sorting;
 use crate::weave::{SortLists, weave};
-use chr_types::{Beginnings, Visit, has_more_types, visit_types};
+use chr_types::{AllLists, LimitedCount, Visit, has_more_types, visit_types};
 use std::alloc::{AllocError, Global};
 
 #[cfg(test)]
 mod tests;
-
-/// Counts up to a limit.
-#[derive(Drop)]
-struct Count {
-    found: usize,
-    limit: usize,
-}
-
-impl Visit for Count {
-    ghost use Rattle.std.specs.Prelude.{⊤};
-    ghost use Rattle.chr_kinds.specs.working.Weaving.{CountsOne};
-
-    ghost ready = { λ _. ⊤ };
-
-    ghost step = { λ v _ stops w. CountsOne v stops w };
-
-    fn visit(&mut self, _values: &[i64]) -> Result<bool, AllocError> {
-        if self.found >= self.limit {
-            return Ok(true);
-        }
-        self.found += 1;
-        Ok(false)
-    }
-}
-
-/// Wants all lists.
-#[derive(Drop)]
-struct AllLists;
-
-impl Beginnings for AllLists {
-    ghost use Rattle.std.specs.Prelude.{true};
-
-    ghost admits = { λ _ _. true };
-
-    fn goes_on(&self, _values: &[i64]) -> bool {
-        true
-    }
-}
 
 /// How many of the classes are of the sort.
 fn count_of(classes: &[usize], sort: usize) -> usize
@@ -180,6 +142,6 @@ pub fn has_more_combinations(
         leave_room(sorting, classes);
         return Ok(true);
     };
-    let mut count = Count { found: 0, limit };
+    let mut count = LimitedCount { found: 0, limit };
     weave(alloc, classes, &mut lists, &[], &mut count)
 }

@@ -11,7 +11,8 @@ use Rattle.chr_types.proofs.Members.{in_first, in_second, in_either}
 use Rattle.chr_overlaps.specs.declared.overlap.Overlap.{Overlap}
 use Rattle.chr_overlaps.specs.OverlapLists.{IsOverlapOf, overlap_cmp, AreOverlaps, AreOverlapsBetween}
 use Rattle.chr_overlaps.specs.working.Listing.{overlaps_of_rule}
-use Rattle.chr_overlaps.proofs.Members.{less_at, rise_append}
+use Rattle.chr_types.proofs.RisingLists.{rise_append}
+use Rattle.chr_overlaps.proofs.Members.{less_at}
 use Rattle.chr_overlaps.proofs.Theorem.{all_listed}
 
 -- an overlap whose first rule comes earlier comes earlier
@@ -26,7 +27,7 @@ joined rules a n m os ps from before first second = record {
     | inr j ↦ (let e = second.each o j in let x = e.1 in let y = e.2 in (e.0, omega (arith, x, from), omega (arith, y)))
   ];
   all = all;
-  rise = rise_append os ps first.rise second.rise (λ o p i j. (let l = (first.each o i).2 in let g = (second.each p j).1 in earlier o p (omega (arith, l, g))));
+  rise = rise_append (λ o p. overlap_cmp o p ≡ Less) os ps first.rise second.rise (λ o p i j. (let l = (first.each o i).2 in let g = (second.each p j).1 in earlier o p (omega (arith, l, g))));
 }
   where
     all : (o : Overlap) → IsOverlapOf rules o → a < o.first → o.first ≤ m → In o (os ++ ps)

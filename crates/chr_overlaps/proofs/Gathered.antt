@@ -10,15 +10,10 @@ use Rattle.chr_base.specs.declared.term.Comparison.{Comparison}
 use Rattle.chr_base.specs.declared.rule.Rule.{Rule}
 use Rattle.chr_base.specs.RuleTests.{terms_of}
 use Rattle.chr_types.specs.OrderTypes.{In, Rises, IsValue}
-use Rattle.chr_types.proofs.Members.{in_first, in_second, in_either}
+use Rattle.chr_types.proofs.Members.{in_at, in_first, in_second, in_either}
 use Rattle.chr_confluence.specs.Constants.{AreConstants, guard_terms, rule_terms}
 use Rattle.chr_base.proofs.Terms.{terms_of-append}
 use Rattle.chr_overlaps.specs.working.Gathering.{AreConstantsIn, Gathers, all_terms}
-
-pub in_at : {A : Type 0} (zs : List A) (i : ℕ) (d : A) → i < length zs → In (get_or zs i d) zs
-in_at [] i d l = absurd (omega (arith, l))
-in_at (z ∷ zs) zero d l = inl refl
-in_at (z ∷ zs) (suc i) d l = inr (in_at zs i d (omega (arith, l)))
 
 -- one constant more, at its place
 in_inserted : (cs : List ℤ) (i : ℕ) (c d : ℤ) → In d (insert cs i c) → (d ≡ c) ⊎ In d cs

@@ -14,7 +14,8 @@ use Rattle.chr_confluence.proofs.Frees.{in_range, range_in}
 use Rattle.chr_overlaps.specs.declared.overlap.Overlap.{Overlap}
 use Rattle.chr_overlaps.specs.OverlapLists.{IsOverlapOf, overlap_cmp, AreOverlapsBetween}
 use Rattle.chr_overlaps.specs.working.Listing.{may_follow, with_entry, going_on, overlaps_behind, begun, overlaps_at, overlaps_of_pair, overlaps_of_rule}
-use Rattle.chr_overlaps.proofs.Members.{in_some, in_all, less_at, all_rise, cond_rises, OverlapsRise}
+use Rattle.chr_types.proofs.Members.{in_flat_map, flat_map_in}
+use Rattle.chr_overlaps.proofs.Members.{less_at, all_rise, cond_rises, OverlapsRise}
 use Rattle.chr_overlaps.proofs.Entries.{IsNew, symbols_more, symbols_first, symbol_within, follows_means, means_follows, apart_more, new_there}
 
 abbrev with_entries : Overlap → List ℕ → Overlap
@@ -47,7 +48,7 @@ module _ (r s : Rule) where
       let e : x ≡ o = elim m.1 as (λ _. x ≡ o) [ inl e ↦ e | inr n ↦ absurd n ] in
       record { entries = []; same = e ∙ sym (no_more_entries o); symbols = tt; touching = ap is_touching e ∙ m.0 }
   shape (p ∷ ps) o x i =
-      let m = in_some x (going_on (overlaps_behind r s ps) (heads_of s) o p) range i in
+      let m = in_flat_map x (going_on (overlaps_behind r s ps) (heads_of s) o p) range i in
       let b = range_in 0 (length (heads_of s) + 1) m.0 m.1 in
       let c = if_in x (may_follow (heads_of s) o.matching.items p m.0) (overlaps_behind r s ps (with_entry o m.0)) m.2 in
       let f = follows_means (heads_of s) o.matching.items p m.0 (omega (arith, b)) c.0 in
@@ -65,7 +66,7 @@ module _ (r s : Rule) where
       let m = if_in x (is_touching o) (o ∷ []) i in
       elim m.1 as (λ _. IsInjective x.matching.items) [ inl e ↦ subst (λ (y : Overlap). IsInjective y.matching.items) (sym e) a | inr n ↦ absurd n ]
   apart (p ∷ ps) o x a i =
-      let m = in_some x (going_on (overlaps_behind r s ps) (heads_of s) o p) range i in
+      let m = in_flat_map x (going_on (overlaps_behind r s ps) (heads_of s) o p) range i in
       let b = range_in 0 (length (heads_of s) + 1) m.0 m.1 in
       let c = if_in x (may_follow (heads_of s) o.matching.items p m.0) (overlaps_behind r s ps (with_entry o m.0)) m.2 in
       let f = follows_means (heads_of s) o.matching.items p m.0 (omega (arith, b)) c.0 in
@@ -88,7 +89,7 @@ module _ (r s : Rule) where
       let q = append_assoc o.matching.items (e ∷ []) t in
       let more : In (with_entries (with_entry o e) t) (overlaps_behind r s ps (with_entry o e)) = complete ps (with_entry o e) t parts.1 (subst IsInjective (sym q) a) (ap is_touching (one_more_entry o e t) ∙ g) in
       let there : In (with_entries o (e ∷ t)) (overlaps_behind r s ps (with_entry o e)) = subst (λ (y : Overlap). In y (overlaps_behind r s ps (with_entry o e))) (one_more_entry o e t) more in
-      in_all (with_entries o (e ∷ t)) (going_on (overlaps_behind r s ps) (heads_of s) o p) e range (in_range 0 (length (heads_of s) + 1) e (omega arith) (omega (arith, w)))
+      flat_map_in (with_entries o (e ∷ t)) (going_on (overlaps_behind r s ps) (heads_of s) o p) e range (in_range 0 (length (heads_of s) + 1) e (omega arith) (omega (arith, w)))
       (subst (λ b. In (with_entries o (e ∷ t)) (cond b (overlaps_behind r s ps (with_entry o e)) [])) (sym f) there)
 
   pub rising : (ps : List Pattern) (o : Overlap) → OverlapsRise (overlaps_behind r s ps o)
@@ -146,7 +147,7 @@ module _ (rules : List Rule) where
 
   in_rule : (i : ℕ) (x : Overlap) → In x (overlaps_of_rule rules i) → OfRule i x
   in_rule i x h =
-      let m = in_some x (overlaps_of_pair rules i) (range_with_len i (length rules - i)) h in
+      let m = in_flat_map x (overlaps_of_pair rules i) (range_with_len i (length rules - i)) h in
       record { place = m.0; after = (range_in i (length rules - i) m.0 m.1).0; pair = in_pair i m.0 x m.2 }
 
   -- those of k rules from the place a on
@@ -155,7 +156,7 @@ module _ (rules : List Rule) where
 
   each : (a k : ℕ) (x : Overlap) → In x (some a k) → IsOverlapOf rules x × (a < x.first) × (x.first ≤ a + k)
   each a k x h =
-      let m = in_some x (overlaps_of_rule rules) (range_with_len a k) h in
+      let m = in_flat_map x (overlaps_of_rule rules) (range_with_len a k) h in
       let b = range_in a k m.0 m.1 in
       let w = in_rule m.0 x m.2 in
       let p = w.pair in
@@ -183,8 +184,8 @@ module _ (rules : List Rule) where
       let le = o.ordered in
       let in_these : In x (overlaps_at i j (Some o.rule1) (Some o.rule2)) = complete o.rule1 o.rule2 (heads_of o.rule1) (begun i j) m q.symbols q.apart q.touching in
       let pair : In x (overlaps_of_pair rules i j) = subst (λ (p : Option Rule × Option Rule). In x (overlaps_at i j p.0 p.1)) (λ t. (sym o.first t, sym o.second t)) in_these in
-      let rule : In x (overlaps_of_rule rules i) = in_all x (overlaps_of_pair rules i) j (range_with_len i (length rules - i)) (in_range i (length rules - i) j le (omega (arith, l, n, le))) pair in
-      in_all x (overlaps_of_rule rules) i (range_with_len a k) (in_range a k i from before) rule
+      let rule : In x (overlaps_of_rule rules i) = flat_map_in x (overlaps_of_pair rules i) j (range_with_len i (length rules - i)) (in_range i (length rules - i) j le (omega (arith, l, n, le))) pair in
+      flat_map_in x (overlaps_of_rule rules) i (range_with_len a k) (in_range a k i from before) rule
 
   rise : (a k : ℕ) → OverlapsRise (some a k)
   rise a k = all_rise (overlaps_of_rule rules) a k

@@ -6,46 +6,9 @@ ghost use Rattle.chr_types.specs.working.Counting.{most_types};
 
 use crate::candidates::all_candidates;
 use crate::listing::{MAX_CLASSES, has_more_lists};
-use crate::walk::{Beginnings, Visit, walk};
+use crate::visitors::{AllLists, LimitedCount};
+use crate::walk::walk;
 use std::alloc::{AllocError, Global};
-
-/// Wants all lists.
-#[derive(Drop)]
-pub(crate) struct AllTypes;
-
-impl Beginnings for AllTypes {
-    ghost use Rattle.std.specs.Prelude.{true};
-
-    ghost admits = { λ _ _. true };
-
-    fn goes_on(&self, _values: &[i64]) -> bool {
-        true
-    }
-}
-
-/// Counts up to a limit.
-#[derive(Drop)]
-struct Count {
-    found: usize,
-    limit: usize,
-}
-
-impl Visit for Count {
-    ghost use Rattle.std.specs.Prelude.{⊤};
-    ghost use Rattle.chr_types.specs.working.Counting.{CountsOne};
-
-    ghost ready = { λ _. ⊤ };
-
-    ghost step = { λ v _ stops w. CountsOne v stops w };
-
-    fn visit(&mut self, _values: &[i64]) -> Result<bool, AllocError> {
-        if self.found >= self.limit {
-            return Ok(true);
-        }
-        self.found += 1;
-        Ok(false)
-    }
-}
 
 /// Of so many classes a bound on their order types is made in no time.
 const FEW_CLASSES: usize = 8;
@@ -103,7 +66,7 @@ pub fn has_more_types(
     if has_more_lists(constants.len(), classes, limit) {
         return Ok(true);
     }
-    let mut count = Count { found: 0, limit };
+    let mut count = LimitedCount { found: 0, limit };
     let mut prefix = Vec::new(alloc);
     walk(
         alloc,
@@ -111,7 +74,7 @@ pub fn has_more_types(
         classes,
         &mut prefix,
         &[],
-        &AllTypes,
+        &AllLists,
         &mut count,
     )
 }

@@ -12,6 +12,7 @@ mod listing;
 mod order_type;
 mod search;
 mod visiting;
+mod visitors;
 mod walk;
 
 pub use counting::has_more_types;
@@ -19,4 +20,5 @@ pub use fault::TypesFault;
 pub use listing::{MAX_CLASSES, types};
 pub use order_type::OrderType;
 pub use visiting::visit_types;
+pub use visitors::{AllLists, LimitedCount};
 pub use walk::{Beginnings, Visit};

@@ -2,7 +2,10 @@
 ghost use Rattle.std.specs.Prelude.{IsTrue};
 ghost use Rattle.chr_types.specs.OrderTypes.{Rises};
 
-use chr_types::{Beginnings, OrderType, TypesFault, Visit, has_more_types, types, visit_types};
+use chr_types::{
+    AllLists, Beginnings, LimitedCount, OrderType, TypesFault, Visit, has_more_types, types,
+    visit_types,
+};
 use std::alloc::{AllocError, Global};
 use std::process::Abort;
 use std::test::Fail;
@@ -334,5 +337,18 @@ fn tells_more_than_a_limit(rt: HostRuntime) -> Result<(), Fail> {
     assert!(rt; has_more_types(alloc, 65, &[], usize::MAX)?);
     assert!(rt; !has_more_types(alloc, 2, &[3, 5], 29)?);
     assert!(rt; has_more_types(alloc, 2, &[3, 5], 28)?);
+    Ok(())
+}
+
+/// Two classes have three order types where there are no constants: equal ones, and both orders.
+#[test]
+fn counts_up_to_a_limit(rt: HostRuntime) -> Result<(), Fail> {
+    let alloc = rt.alloc();
+    let mut all = LimitedCount { found: 0, limit: 3 };
+    assert!(rt; !visit_types(alloc, 2, &[], &AllLists, &mut all)?);
+    assert!(rt; all.found == 3);
+    let mut few = LimitedCount { found: 0, limit: 2 };
+    assert!(rt; visit_types(alloc, 2, &[], &AllLists, &mut few)?);
+    assert!(rt; few.found == 2);
     Ok(())
 }

@@ -3,6 +3,7 @@ use Rattle.std.specs.Prelude.{◌≡◌, ℕ, zero, suc, ◌-◌, ◌<◌, [], �
 use Rattle.std.proofs.Common.{refl, sym, ap, ◌∙◌, subst, arith, inl, inr}
 use Rattle.std.specs.Option.{option_or}
 use Rattle.std.specs.FinMap as map
+use Rattle.std.proofs.lemmas.Bool.Decides.{eqb_tells}
 use Rattle.std.proofs.lemmas.Option.{slice_get_within}
 use Rattle.chr_base.specs.declared.program.Program.{Program}
 use Rattle.chr_base.specs.Stores.{Store}
@@ -82,22 +83,15 @@ joined_twice m n same = map.same_map id_total id_exact _ _ (λ q.
     found : (q : OpId) → map.get (union n (map.entries m)) q ≡ option_or (map.get n q) (map.get m q)
     found q = get-union n (map.entries m) q ∙ ap (option_or (map.get n q)) (sym (map.get-entries m q))
 
-same_or_not : (a b : ℕ) → (a ≡ b) ⊎ (a ≡ b → ⊥)
-same_or_not zero zero = inl refl
-same_or_not zero (suc b) = inr (λ e. omega (arith, e))
-same_or_not (suc a) zero = inr (λ e. omega (arith, e))
-same_or_not (suc a) (suc b) = by (same_or_not a b)
-  where
-    by : (a ≡ b) ⊎ (a ≡ b → ⊥) → (suc a ≡ suc b) ⊎ (suc a ≡ suc b → ⊥)
-    by (inl e) = inl (ap suc e)
-    by (inr n) = inr (λ e. n (omega (arith, e)))
-
 pub syncs_meet : ExchangeLaw → SyncsMeet
-syncs_meet exchange p w v z a b m n s t s' t' at_a at_b same h g now_a now_b = by (same_or_not a b)
+syncs_meet exchange p w v z a b m n s t s' t' at_a at_b same h g now_a now_b =
+    elim (eqb_tells a b) as (λ _. s'.operations ≡ t'.operations) [ inl e ↦ with_itself e.1 | inr n ↦ with_another n.1 ]
   where
-    by : (a ≡ b) ⊎ (a ≡ b → ⊥) → s'.operations ≡ t'.operations
-    by (inl e) = ap (λ r. r.operations) (one_at z b s' t' (subst (λ k. IsAt z k s') e now_a) now_b)
-    by (inr other) =
+    with_itself : a ≡ b → s'.operations ≡ t'.operations
+    with_itself e = ap (λ r. r.operations) (one_at z b s' t' (subst (λ k. IsAt z k s') e now_a) now_b)
+
+    with_another : (a ≡ b → ⊥) → s'.operations ≡ t'.operations
+    with_another other =
         let middle = h.2.after in
         let in_v = changed_at w v b _ h.2 in
         let first : middle.operations ≡ union t.operations (map.entries s.operations) =

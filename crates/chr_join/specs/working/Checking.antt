@@ -5,10 +5,13 @@ use Rattle.chr_types.specs.OrderTypes.{MoreTypesThan}
 use Rattle.chr_overlaps.specs.declared.cases.TheConstants.{MAX_TYPES}
 use Rattle.chr_base.specs.declared.rule.Rule.{Rule}
 use Rattle.chr_base.specs.Stores.{Store}
+use Rattle.chr_confluence.specs.Constants.{AreConstants}
 use Rattle.chr_overlaps.specs.declared.overlap.Overlap.{Overlap}
 use Rattle.chr_overlaps.specs.declared.cases.Case.{Case}
+use Rattle.chr_kinds.specs.FinestSorts.{AreFinest, sorts_of}
 use Rattle.chr_join.specs.declared.coverage.Coverage.{Coverage}
 use Rattle.chr_join.specs.declared.ahead.Ahead.{Ahead}
+use Rattle.chr_join.specs.declared.lister.Lister.{Lister}
 use Rattle.chr_join.specs.declared.refused.Cause.{Cause}
 use Rattle.chr_join.specs.Sides.{SideEnds}
 use Rattle.chr_join.specs.Verdicts.{HasJoinableCasesBy, IsFirstBy}
@@ -40,3 +43,8 @@ AreAhead coverage rules os a =
 -- So many classes have no more order types than an overlap may have, for each of these numbers.
 abbrev pub HaveFewTypes : List ℤ → List ℕ → Type 0
 HaveFewTypes constants ns = All (λ n. ¬ MoreTypesThan MAX_TYPES n constants) ns
+
+-- What cases are listed from: the constants of the rules, and the finest sorts of their positions.
+pub record IsListerOf (rules : List Rule) (l : Lister) : Type 0 where
+  pub constants : AreConstants rules l.constants.items
+  pub finest : AreFinest rules (sorts_of l.sorting)

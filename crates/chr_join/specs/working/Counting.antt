@@ -39,8 +39,12 @@ abbrev pub IsCounted : List ℤ → Count → Type 0
 IsCounted constants k = IsCountOf constants k.unified k.number
 
 -- what is remembered is so
-abbrev pub AreCounts : List ℤ → List (Option Count) → Type 0
-AreCounts constants ks = All (λ k. IfSome k (IsCounted constants)) ks
+abbrev pub AreCounts : List ℤ → List Count → Type 0
+AreCounts constants ks = All (IsCounted constants) ks
+
+-- a number that is there is such a count
+abbrev pub IsCountIfThere : List ℤ → Unified → Option ℕ → Type 0
+IsCountIfThere constants u k = IfSome k (IsCountOf constants u)
 
 -- the free classes have no more order types than an overlap may have
 abbrev pub HasFewTypes : List ℤ → Unified → Type 0

@@ -1,5 +1,5 @@
 -- How the combinations are met: class by class, each with the values with which a list of its sort can go on.
-use Rattle.std.specs.Prelude.{◌≡◌, ℕ, ℤ, ◌+◌, ◌^◌, ◌<◌, ◌≤◌, Bool, true, false, if◌then◌else◌, nat_eq, List, [], ◌∷◌, ◌++◌, map, length}
+use Rattle.std.specs.Prelude.{◌≡◌, ℕ, ℤ, ◌+◌, ◌^◌, ◌≤◌, if◌then◌else◌, nat_eq, List, [], ◌∷◌, ◌++◌, map, length}
 use Rattle.std.specs.List.{flat_map}
 use Rattle.std.specs.Ordering.{int_eq}
 use Rattle.chr_types.specs.working.Search.{others}
@@ -8,7 +8,6 @@ use Rattle.chr_sorts.specs.Sorts.{Sorts, ordered}
 use Rattle.chr_sorts.specs.Lists.{sort_count}
 use Rattle.chr_kinds.specs.SortedCaseLists.{AreListsAt, MoreListsThan}
 use Rattle.chr_kinds.specs.declared.weave.SortLists.{SortLists}
-use Rattle.chr_kinds.specs.declared.combinations.Count.{Count}
 
 -- the first values of these lists
 abbrev pub firsts : List (List ℤ) → List ℤ
@@ -65,10 +64,3 @@ pub record IsOnlyOrdered (s : Sorts) (ks : List ℕ) (k : ℕ) : Type 0 where
   pub there : In k ks
   pub all : (j : ℕ) → In j ks → j ≡ k
   pub kind : s.kind k ≡ ordered
-
--- ---- a visit that counts
-
--- it counts one more, unless the limit is reached
-pub record CountsOne (v : Count) (stops : Bool) (w : Count) : Type 0 where
-  pub full : stops ≡ true → v.limit ≤ v.found
-  pub more : stops ≡ false → (w.found ≡ v.found + 1) × (w.limit ≡ v.limit) × (v.found < v.limit)

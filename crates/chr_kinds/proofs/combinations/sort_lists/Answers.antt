@@ -5,7 +5,8 @@ use Rattle.chr_types.specs.OrderTypes.{In}
 use Rattle.chr_sorts.specs.Lists.{sort_count}
 use Rattle.chr_kinds.specs.FinestSorts.{sorts_of, kind_of}
 use Rattle.chr_kinds.specs.working.Weaving.{AreListsOf, held}
-use Rattle.chr_kinds.proofs.MoreCombinations.{in_get, more_like, lists_like, lists_known, lists_pushed}
+use Rattle.chr_types.proofs.Members.{in_at}
+use Rattle.chr_kinds.proofs.MoreCombinations.{more_like, lists_like, lists_known, lists_pushed}
 use Rattle.chr_kinds.proofs.combinations.sort_lists.Goals as goal
 use Rattle.chr_kinds.proofs.combinations.sort_lists.Goals.{then-not-contains+in_ok-lists+in-Some+in_ok-push-in-Some, else-not-contains}
 
@@ -15,7 +16,7 @@ returns-in-None-clause-more c =
     let ks = c.args.classes.now in
     let k = get_or ks c.loop-i.i 0 in
     let more = rw c.in-None.is at c.in_ok-lists.ensures.more in
-    (k, in_get ks c.loop-i.i 0 c.loop-i-test.true, more_like c.args.limit (kind_of c.kind.result) (s.kind k) c.constants.result.now (s.constants k) c.count_of-count.result (sort_count k ks) c.kind.ensures c.constants.ensures c.count_of-count.ensures.count more)
+    (k, in_at ks c.loop-i.i 0 c.loop-i-test.true, more_like c.args.limit (kind_of c.kind.result) (s.kind k) c.constants.result.now (s.constants k) c.count_of-count.result (sort_count k ks) c.kind.ensures c.constants.ensures c.count_of-count.ensures.count more)
 
 pub loop-i-preserved : goal.loop-i-preserved
 loop-i-preserved c =
@@ -34,7 +35,7 @@ loop-i-preserved c =
           )
       | else-not-contains w ↦ (
           let there = w.if-not-contains.ensures.cases in
-          let known : In k (take i ks) = subst (λ j. In j (take i ks)) (eqb-true (get_or (take i ks) there.0 0) k (there.2 0)) (in_get (take i ks) there.0 0 there.1) in
+          let known : In k (take i ks) = subst (λ j. In j (take i ks)) (eqb-true (get_or (take i ks) there.0 0) k (there.2 0)) (in_at (take i ks) there.0 0 there.1) in
           subst (λ js. AreListsOf s js ks (held c.if-not-contains.all.items)) next
           (lists_known s (take i ks) ks k (held c.if-not-contains.all.items) (subst (λ all. AreListsOf s (take i ks) ks (held all)) (sym (ap (λ a. a.items) w.all-is)) c.loop-i.invariant) known)
           )

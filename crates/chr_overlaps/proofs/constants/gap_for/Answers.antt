@@ -3,7 +3,7 @@ use mir.Val.{SFits}
 use mir.Syntax.{w64}
 use Rattle.std.proofs.lemmas.Int.{ints}
 use Rattle.chr_types.specs.OrderTypes.{In}
-use Rattle.chr_overlaps.proofs.Gathered.{in_at}
+use Rattle.chr_types.proofs.Members.{in_at}
 use Rattle.chr_overlaps.proofs.constants.gap_for.Goals as goal
 
 pub returns-else-constant-other-2-clause-there : goal.returns-else-constant-other-2-clause-there

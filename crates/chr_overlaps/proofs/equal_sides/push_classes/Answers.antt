@@ -1,7 +1,7 @@
 use Rattle.std.proofs.Common.{sym, subst}
 use Rattle.chr_base.specs.declared.term.Pattern.{Pattern}
 use Rattle.chr_types.specs.OrderTypes.{In}
-use Rattle.chr_overlaps.proofs.Gathered.{in_at}
+use Rattle.chr_types.proofs.Members.{in_at}
 use Rattle.chr_overlaps.proofs.equal_sides.push_classes.Goals as goal
 
 pub class_pattern-requires : goal.class_pattern-requires

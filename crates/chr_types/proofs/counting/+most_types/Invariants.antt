@@ -1,4 +1,3 @@
-use Rattle.std.proofs.Common.{ℕ}
 use Rattle.chr_types.proofs.counting.+most_types.Given as goal
 
 abbrev pub decreases-most_types : goal.decreases-most_types

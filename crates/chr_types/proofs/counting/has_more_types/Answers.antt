@@ -5,7 +5,7 @@ use Rattle.chr_types.specs.OrderTypes.{MoreTypesThan}
 use Rattle.chr_types.specs.Representatives.{AreTypes}
 use Rattle.chr_types.specs.Visits.{Visited}
 use Rattle.chr_types.specs.working.Search.{lists_over, AreCandidates}
-use Rattle.chr_types.specs.declared.counting.Count.{Count}
+use Rattle.chr_types.specs.declared.visitors.LimitedCount.{LimitedCount}
 use Rattle.chr_types.specs.declared.search.Candidate.{Candidate}
 use Rattle.chr_types.proofs.ConstantLists.{many_constants}
 use Rattle.chr_types.proofs.Counted.{Step, counted_past, counted_within, all_pass}
@@ -25,7 +25,7 @@ returns-then-has_more_lists c = (
   λ _. refl,
 )
 
-told : (limit n : ℕ) (cs : List ℤ) (rs : List (List ℤ)) (w : Count) (b : Bool) → AreTypes n cs rs → Visited Step (record { found = 0; limit = limit }) rs b w → IsTrue b ↔ MoreTypesThan limit n cs
+told : (limit n : ℕ) (cs : List ℤ) (rs : List (List ℤ)) (w : LimitedCount) (b : Bool) → AreTypes n cs rs → Visited Step (record { found = 0; limit = limit }) rs b w → IsTrue b ↔ MoreTypesThan limit n cs
 told limit n cs rs w true are v = (λ _. let l = counted_past rs (record { found = 0; limit = limit }) w v in more_types limit n cs rs are (omega (arith, l)), λ _. refl)
 told limit n cs rs w false are v = (λ i. absurd (true≢false (sym i)), λ m. absurd (let l = counted_within rs (record { found = 0; limit = limit }) w (omega arith) v in not_more limit n cs rs are (omega (arith, l)) m))
 

@@ -1,0 +1,10 @@
+use Rattle.std.proofs.Common.{◌-◌}
+use Rattle.chr_weights.specs.WeighedPrograms.{rules_in}
+use Rattle.chr_join.specs.working.Portions.{HaveSettled}
+use Rattle.chr_join.proofs.settled.joining_rules.Given as goal
+
+abbrev pub invariant-loop-place : goal.invariant-loop-place
+invariant-loop-place g l = HaveSettled (rules_in l.weighed) l.place
+
+abbrev pub decreases-loop-place : goal.decreases-loop-place
+decreases-loop-place g l = l.rules - l.place

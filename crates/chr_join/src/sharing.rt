@@ -1,0 +1,89 @@
+//! Which overlaps are worth it to be shared out among threads.
+ghost use Rattle.std.specs.Prelude.{All};
+ghost use Rattle.chr_weights.specs.WeighedPrograms.{rules_in};
+ghost use Rattle.chr_overlaps.specs.OverlapLists.{IsOverlapOf};
+ghost use Rattle.chr_kinds.specs.FinestSorts.{AreFinest, sorts_of};
+ghost use Rattle.chr_join.specs.working.Checking.{IsListerOf};
+
+use crate::counting::MANY_CLASSES;
+use crate::coverage::Coverage;
+use crate::lister::Lister;
+use crate::portions::{FEW_OVERLAPS, Portion, alone_from};
+use crate::settled::joining_overlaps;
+use chr_kinds::Sorting;
+use chr_overlaps::Overlap;
+use chr_overlaps::cases::unified;
+use chr_weights::Weighed;
+use std::alloc::Global;
+use std::ops::Range;
+
+/// Whether several of these overlaps have many order types.
+fn have_many_types(weighed: &Weighed, overlaps: &[Overlap]) -> bool
+    requires { All (IsOverlapOf (rules_in weighed.now)) overlaps.now }
+{
+    let mut has_one = false;
+    for overlap in overlaps {
+        match unified(weighed, overlap) {
+            Some(unified) if unified.free_classes() >= MANY_CLASSES => {
+                if has_one {
+                    return true;
+                }
+                has_one = true;
+            }
+            _ => {}
+        }
+    }
+    false
+}
+
+/// The number of the first overlaps of this portion of which all sorted cases are joinable. So many rules have none
+/// that fails.
+fn joining_in(
+    alloc: Global,
+    weighed: &Weighed,
+    sorting: &Sorting,
+    portion: &Portion,
+    joining: usize,
+) -> usize
+    requires overlaps { All (IsOverlapOf (rules_in weighed.now)) portion.now.overlaps.items }
+    requires finest { AreFinest (rules_in weighed.now) (sorts_of sorting.now) }
+{
+    if portion.end <= joining {
+        return portion.overlaps.len();
+    }
+    joining_overlaps(alloc, weighed, sorting, &portion.overlaps)
+}
+
+/// So many of the first of these overlaps are worth it, of which all sorted cases are joinable: all of them, where they
+/// are many or several have many order types.
+fn first_worth(weighed: &Weighed, overlaps: &[Overlap], joining: usize) -> usize
+    requires { All (IsOverlapOf (rules_in weighed.now)) overlaps.now }
+{
+    let (first, _) = overlaps.split_at(joining.min(overlaps.len()));
+    if first.len() > FEW_OVERLAPS || have_many_types(weighed, first) {
+        first.len()
+    } else {
+        0
+    }
+}
+
+/// The places of those overlaps of a portion that are looked at ahead of their turn by several threads. Its first rule
+/// stands at this place. Joint cases are, where all sorted ones are joinable; a failing case is found in turn.
+pub(crate) fn shared_out(
+    alloc: Global,
+    weighed: &Weighed,
+    lister: &Lister,
+    portion: &Portion,
+    place: usize,
+) -> Range<usize>
+    requires overlaps { All (IsOverlapOf (rules_in weighed.now)) portion.now.overlaps.items }
+    requires lister { IsListerOf (rules_in weighed.now) lister.now }
+{
+    match lister.coverage {
+        Coverage::Joint => {
+            let joining = joining_in(alloc, weighed, &lister.sorting, portion, lister.joining);
+            0..first_worth(weighed, &portion.overlaps, joining)
+        }
+        Coverage::Sorted => alone_from(place)..portion.overlaps.len(),
+    }
+}
