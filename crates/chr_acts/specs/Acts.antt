@@ -1,6 +1,6 @@
 -- What may be asked of a replica.
 use Rattle.std.specs.Prelude.{◌≤◌, ⊤}
-use Rattle.chr_replica.specs.declared.limits.TheConstants.{MAX_PARTS}
+use Rattle.chr_base.specs.declared.limits.TheConstants.{MAX_PARTS}
 use Rattle.chr_acts.specs.declared.act.Act.{Act}
 use Rattle.chr_acts.specs.declared.act.Act.TheVariants as act
 

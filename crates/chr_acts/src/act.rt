@@ -4,9 +4,9 @@ ghost use Rattle.std.specs.Prelude.{◌≡◌, ◌↔◌, IfOk, IsTrue};
 use crate::lists::OpList;
 use chr_base::bag::Bag;
 use chr_base::derivation::Step;
+use chr_base::limits::MAX_PARTS;
 use chr_join::Done;
 use chr_ops::{Op, Summary};
-use chr_replica::limits::MAX_PARTS;
 use std::alloc::{AllocError, Global};
 
 /// A call on a replica, with its arguments.

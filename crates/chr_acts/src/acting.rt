@@ -1,6 +1,6 @@
 //! Acts, carried out on boards.
 ghost use Rattle.std.specs.Prelude.{◌≡◌, ◌≢◌, ◌≤◌, IfOk, IfErr, OnErr};
-ghost use Rattle.chr_replica.specs.declared.limits.TheConstants.{MAX_PARTS};
+ghost use Rattle.chr_base.specs.declared.limits.TheConstants.{MAX_PARTS};
 ghost use Rattle.chr_replica.specs.Boards.{program_on};
 ghost use Rattle.chr_acts.specs.Acts.{FitsAct};
 ghost use Rattle.chr_acts.specs.Events.{Does, RefusesAct};

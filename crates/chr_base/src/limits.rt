@@ -32,3 +32,9 @@ pub const MAX_OPERATION: usize = 64;
 
 /// The most replicas of a world.
 pub const MAX_REPLICAS: u32 = 16;
+
+/// The most workers that rest a store.
+pub const MAX_WORKERS: u32 = 16;
+
+/// The most parts that a store is rested in, or a pool is cut into.
+pub const MAX_PARTS: u32 = 64;

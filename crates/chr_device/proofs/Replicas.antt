@@ -24,8 +24,7 @@ use Rattle.clap.specs.declared.error.kind.ErrorKind.TheVariants as kind
 use Rattle.clap.specs.declared.parser.matches.Found.{Found}
 use Rattle.clap.specs.declared.parser.matches.ValueSource.{ValueSource}
 use Rattle.clap.specs.declared.parser.matches.ValueSource.TheVariants.{CommandLine, DefaultValue}
-use Rattle.chr_base.specs.declared.limits.TheConstants.{MAX_REPLICAS}
-use Rattle.chr_device.specs.declared.limits.TheConstants.{MAX_WORKERS, MAX_PARTS}
+use Rattle.chr_base.specs.declared.limits.TheConstants.{MAX_PARTS, MAX_REPLICAS, MAX_WORKERS}
 use Rattle.chr_device.specs.declared.words.Settings.{Settings}
 use Rattle.chr_device.specs.Settings.{IsPlain, IsWithinLimits}
 use Rattle.chr_device.specs.Words.{NumbersAreWithinLimits, WritesReplicas, chrrep, decimal_value, faults_of, flag_option, replicas_met, replicas_option, replicas_text, wide_option}

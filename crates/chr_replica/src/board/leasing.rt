@@ -9,9 +9,9 @@ ghost use Rattle.chr_replica.specs.Boards.{program_on};
 
 use crate::board::Board;
 use crate::laws::events_keep_replicas_sound;
-use crate::limits::MAX_PARTS;
 use crate::refusal::Refusal;
 use chr_base::bag::Bag;
+use chr_base::limits::MAX_PARTS;
 use chr_join::{Done, Lease};
 use std::alloc::Global;
 

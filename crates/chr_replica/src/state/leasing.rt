@@ -7,11 +7,12 @@ ghost use Rattle.chr_replica.specs.Replicas.{Takes, TakesParts, Puts, Recalls};
 ghost use Rattle.chr_replica.specs.Refusals.{RefusesTake, RefusesTakeParts, RefusesPut, RefusesRecall};
 
 use crate::cutting::cut;
-use crate::limits::{LAST_LEASE, MAX_PARTS};
+use crate::limits::LAST_LEASE;
 use crate::refusal::{Limit, Refusal};
 use crate::state::State;
 use chr_base::bag::Bag;
 use chr_base::laws::same_programs_reach_alike;
+use chr_base::limits::MAX_PARTS;
 use chr_base::program::Program;
 use chr_columns::columns::Columns;
 use chr_join::{Done, Lease};

@@ -4,8 +4,8 @@ use crate::tests::boards::{
 };
 use crate::tests::texts::{COINS, MINIMUM, store};
 use chr_base::bag::Bag;
+use chr_base::limits::MAX_PARTS;
 use chr_join::{Done, Lease};
-use chr_replica::limits::MAX_PARTS;
 use chr_replica::{Board, Refusal};
 use std::alloc::Global;
 use std::process::Abort;
