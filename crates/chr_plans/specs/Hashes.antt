@@ -3,18 +3,20 @@ use Rattle.std.specs.Prelude.{ℕ, ℤ, ◌*◌, ◌%◌, ◌/◌, ◌^◌, List
 use Rattle.std.specs.Int.{cast_unsigned}
 use mir.Syntax.{w64}
 
--- the 64 bits of a hash and a value, multiplied
-abbrev pub product : ℕ → ℤ → ℕ
-product state value = (bit_xor state (cast_unsigned w64 value) * 0x9E3779B97F4A7C15) % 2 ^ 64
+-- a word with its high bits folded down by k places, times m
+abbrev pub fold_mul : ℕ → ℕ → ℕ → ℕ
+fold_mul word k m = (bit_xor word (word / 2 ^ k) * m) % 2 ^ 64
 
--- one more value in a hash
-unfoldable pub mix : ℕ → ℤ → ℕ
-mix state value = bit_xor (product state value) (product state value / 2 ^ 32)
+-- a word with its bits mixed, by the finalizer of SplitMix64
+unfoldable pub mix : ℕ → ℕ
+mix word =
+    let twice = fold_mul (fold_mul word 30 0xBF58476D1CE4E5B9) 27 0x94D049BB133111EB in
+    bit_xor twice (twice / 2 ^ 31)
 
 -- these values in a hash
 abbrev pub mixed : ℕ → List ℤ → ℕ
 mixed state [] = state
-mixed state (x ∷ xs) = mixed (mix state x) xs
+mixed state (x ∷ xs) = mixed (mix (bit_xor state (cast_unsigned w64 x))) xs
 
 -- the hash of a key, of 32 bits
 abbrev pub key_hash : List ℤ → ℕ

@@ -2,12 +2,14 @@
 ghost use Rattle.std.specs.Prelude.{◌≡◌};
 ghost use Rattle.chr_plans.specs.Hashes.{mix, mixed, key_hash};
 
-/// One more value in a hash.
-fn mix(state: u64, value: i64) -> u64
-    ensures { result ≡ mix state value }
+/// The word with its bits mixed, so that a change of any one bit changes each with a chance of about a half: the finalizer
+/// of SplitMix64, which is variant 13 of David Stafford's "Better Bit Mixing".
+fn mix(word: u64) -> u64
+    ensures { result ≡ mix word }
 {
-    let product = (state ^ value.cast_unsigned()).wrapping_mul(0x9E37_79B9_7F4A_7C15);
-    product ^ (product >> 32)
+    let once = (word ^ (word >> 30)).wrapping_mul(0xBF58_476D_1CE4_E5B9);
+    let twice = (once ^ (once >> 27)).wrapping_mul(0x94D0_49BB_1331_11EB);
+    twice ^ (twice >> 31)
 }
 
 /// These values in a hash.
@@ -16,11 +18,11 @@ fn mixed(state: u64, key: &[i64]) -> u64
 {
     match key {
         [] => state,
-        [value, rest @ ..] => mixed(mix(state, *value), rest),
+        [value, rest @ ..] => mixed(mix(state ^ value.cast_unsigned()), rest),
     }
 }
 
-/// The hash of a key: 32 bits, in which each value has a part.
+/// The hash of a key: 32 bits, in each of which all bits of each value have a part. It is a function of the key alone.
 pub fn key_hash(key: &[i64]) -> u32
     ensures { result ≡ key_hash key.now }
 {
