@@ -1,5 +1,5 @@
-"""Programs made at random: few symbols, so that heads overlap, and few constants, some of them at the ends of the 64-bit
-numbers."""
+"""Programs made at random: few symbols, so that heads overlap, and few constants, some of them at the ends of the
+64-bit numbers."""
 
 import random
 from dataclasses import dataclass
@@ -18,7 +18,7 @@ VALUES = 4
 """So many values stand in a store."""
 
 BODIES = 3
-"""So many bodies are tried for one that weighs less than the removed heads; else it is these, and the rule is refused."""
+"""So many bodies are tried for one that weighs less than the removed heads; else it is these: the rule is refused."""
 
 
 @dataclass
@@ -99,7 +99,7 @@ def program(chance: random.Random) -> Program:
 
 
 def long_program(chance: random.Random) -> Program:
-    """Eight to twelve rules, some of them copies, over symbols of few arguments: more overlaps than one thread looks at."""
+    """Eight to twelve rules, some of them copies, of few arguments: more overlaps than one thread looks at."""
     symbols = {("a", 1): chance.randint(1, 3), ("b", chance.choice((1, 2))): chance.randint(1, 3)}
     maker = Maker(chance, symbols, chance.choice(CONSTANTS), 2)
     rules = [maker.rule() for _ in range(chance.randint(2, 6))]

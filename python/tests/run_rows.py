@@ -103,7 +103,8 @@ ACCEPTED = (
     (":- chr_constraint coin/0, note/0. coin, coin <=> note.", "accepted: rules 1, cases 6\n"),
     # no number lies between 3 and 5 beside another
     (
-        ":- chr_constraint p/2, q/1, r/1. :- chr_weight p/2 = 2. p(X,Y) <=> 3 < X, X < Y, Y < 5 | q(X). p(X,Y) <=> 3 < X, X < Y, Y < 5 | r(X).",
+        ":- chr_constraint p/2, q/1, r/1. :- chr_weight p/2 = 2."
+        " p(X,Y) <=> 3 < X, X < Y, Y < 5 | q(X). p(X,Y) <=> 3 < X, X < Y, Y < 5 | r(X).",
         "accepted: rules 2, cases 0\n",
     ),
     # no number is greater, and one is less
@@ -126,12 +127,14 @@ FAILING_CASES = (
         "refused 21: rules 1 1; matching (0,1); store a(0), a(1), a(2); left a(2), b(0); right a(0), b(1)\n",
     ),
     (
-        ":- chr_constraint p/2, q/1, r/1. :- chr_weight p/2 = 2. p(X,Y) <=> 3 < X, X < Y, Y < 6 | q(X). p(X,Y) <=> 3 < X, X < Y, Y < 6 | r(X).",
+        ":- chr_constraint p/2, q/1, r/1. :- chr_weight p/2 = 2."
+        " p(X,Y) <=> 3 < X, X < Y, Y < 6 | q(X). p(X,Y) <=> 3 < X, X < Y, Y < 6 | r(X).",
         "refused 21: rules 1 2; matching (1); store p(4,5); left q(4); right r(4)\n",
     ),
     # the constant stands in a body alone
     (
-        ":- chr_constraint p/1, q/2, r/0. :- chr_weight p/1 = 3. :- chr_weight q/2 = 2. p(X) <=> q(X,7). p(X) <=> r. q(X,Y) <=> X =< Y | r.",
+        ":- chr_constraint p/1, q/2, r/0. :- chr_weight p/1 = 3. :- chr_weight q/2 = 2."
+        " p(X) <=> q(X,7). p(X) <=> r. q(X,Y) <=> X =< Y | r.",
         "refused 21: rules 1 2; matching (1); store p(8); left q(8,7); right r\n",
     ),
     (
@@ -372,7 +375,8 @@ DIVIDERS = (
 
 LINE_ENDS = (
     (
-        ':- chr_constraint coin/0, note/0.\r\ncoin, coin <=> note.\r\n---\r\n["tell",1,[1,1],[["coin"],["coin"]]]\r\n["show",1]\r\n',
+        ":- chr_constraint coin/0, note/0.\r\ncoin, coin <=> note.\r\n---\r\n"
+        '["tell",1,[1,1],[["coin"],["coin"]]]\r\n["show",1]\r\n',
         "accepted: rules 1, cases 6\ntold\nnote\n",
     ),
     ('---\n["show",1]\r', "accepted: rules 0, cases 0\ntrue\n"),
@@ -411,7 +415,8 @@ LOWERED_BY_PAIRS = (
     ),
     # the greatest weights of all, and a body of as many atoms as there may be
     (
-        ":- chr_constraint a/0, b/0. :- chr_weight a/0 = 1. :- chr_weight b/0 = 0,1000000. a <=> b, b, b, b, b, b, b, b.",
+        ":- chr_constraint a/0, b/0. :- chr_weight a/0 = 1. :- chr_weight b/0 = 0,1000000."
+        " a <=> b, b, b, b, b, b, b, b.",
         ['["tell",1,[1,1],[["a"]]]', '["show",1]'],
         "accepted: rules 1, cases 1\ntold\nb, b, b, b, b, b, b, b\n",
     ),

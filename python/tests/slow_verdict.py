@@ -61,7 +61,8 @@ class Program:
 
     def __str__(self) -> str:
         declared = ", ".join(f"{name}/{arity}" for name, arity in self.symbols)
-        weights = "".join(f":- chr_weight {name}/{arity} = {weight}.\n" for (name, arity), weight in self.symbols.items())
+        weighed = self.symbols.items()
+        weights = "".join(f":- chr_weight {name}/{arity} = {weight}.\n" for (name, arity), weight in weighed)
         return f":- chr_constraint {declared}.\n{weights}" + "".join(f"{rule}\n" for rule in self.rules)
 
     def weight(self, atoms: tuple[Pattern, ...]) -> int:
@@ -107,7 +108,8 @@ def matched(rule: Rule, atoms: tuple[Pattern, ...]) -> Valuation | None:
         if (head.name, len(head.terms)) != (atom.name, len(atom.terms)):
             return None
         for term, value in zip(head.terms, atom.terms, strict=True):
-            if (at.setdefault(term, value) if isinstance(term, str) else term) != value:
+            # (an atom of a store has values alone)
+            if (at.setdefault(term, value) if isinstance(term, str) else term) != value:  # type: ignore[arg-type]
                 return None
     return at if guard_holds(rule, at) else None
 
@@ -197,7 +199,7 @@ def unified(names: list[str], equations: list[tuple[Term, Term]]) -> dict[str, T
 
 
 def rooms(constants: list[int]) -> list[int]:
-    """How many values lie below the least constant, between each two, and above the greatest; without constants, from 0."""
+    """How many values lie below the least constant, between two, and above the greatest; without constants, from 0."""
     if not constants:
         return [GREATEST + 1]
     between = [high - low - 1 for low, high in itertools.pairwise(constants)]
@@ -227,7 +229,8 @@ def representatives(count: int, constants: list[int]) -> list[tuple[int, ...]]:
     for numbers in spread(count, constants):
         if constants:
             new = [constants[0] - number for number in range(1, numbers[0] + 1)]
-            new += [low + number for low, most in zip(constants, numbers[1:], strict=True) for number in range(1, most + 1)]
+            above = zip(constants, numbers[1:], strict=True)
+            new += [low + number for low, most in above for number in range(1, most + 1)]
         else:
             new = list(range(numbers[0]))
         found += [values for values in itertools.product(constants + new, repeat=count) if set(new) <= set(values)]
@@ -273,7 +276,7 @@ class Sort:
 
 
 def block_count(classes: int, choices: int) -> int:
-    """In how many ways classes go, one after another, to one of the choices or to a new block, a choice from then on."""
+    """In how many ways classes go, one by one, to one of the choices or to a new block, a choice from then on."""
     if not classes:
         return 1
     return choices * block_count(classes - 1, choices) + block_count(classes - 1, choices + 1)
@@ -398,8 +401,9 @@ class SortedLists:
         groups = self.groups(overlap, free)
         found = []
         for chosen in itertools.product(*(self.sorts[sort].lists(len(places)) for sort, places in groups.items())):
-            by_place = (zip(places, values, strict=True) for places, values in zip(groups.values(), chosen, strict=True))
-            values = dict(itertools.chain.from_iterable(by_place))
+            values: dict[int, int] = {}
+            for places, chosen_values in zip(groups.values(), chosen, strict=True):
+                values |= zip(places, chosen_values, strict=True)
             found.append(tuple(values[place] for place in range(len(free))))
         return sorted(found)
 
@@ -450,7 +454,7 @@ def verdict(program: Program, most: int, wide: bool = False) -> str:
         before, behind = program.weight(rule.removed), program.weight(rule.body)
         if before <= behind:
             return f"refused 20: rule {number}; before {before}; after {behind}"
-    by = SortedLists(program) if wide else JointLists(program)
+    by: JointLists | SortedLists = SortedLists(program) if wide else JointLists(program)
     cases = 0
     for overlap in overlaps(program):
         found = refusal_or_count(program, by, overlap, most)

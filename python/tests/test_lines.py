@@ -15,7 +15,8 @@ SECONDS = 60.0
 
 def answers(lines: bytes) -> bytes:
     """What a service of the program without rules answers to these lines."""
-    end = subprocess.run([program_path(), "serve"], input=b"---\n" + lines, capture_output=True, timeout=SECONDS, check=True)
+    words, given = [program_path(), "serve"], b"---\n" + lines
+    end = subprocess.run(words, input=given, capture_output=True, timeout=SECONDS, check=True)
     verdict, _, rest = end.stdout.partition(b"\n")
     assert verdict == b"accepted: rules 0, cases 0", verdict
     return rest
@@ -57,7 +58,8 @@ class LongLines(unittest.TestCase):
         rows = []
         for spaces in range(LIMIT, LIMIT + 3):
             blank = b" " * spaces
-            rows += [(blank + b"x\n", b"refused 30\n"), (blank + b"\r\n", b""), (blank + b"\r" + b" " * 9_000, b"refused 30\n")]
+            rows += [(blank + b"x\n", b"refused 30\n"), (blank + b"\r\n", b"")]
+            rows.append((blank + b"\r" + b" " * 9_000, b"refused 30\n"))
         self.check(rows)
 
     def test_no_more_is_held_than_a_line(self) -> None:

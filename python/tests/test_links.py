@@ -11,9 +11,11 @@ import tempfile
 import threading
 import time
 import unittest
-from collections.abc import Iterator
+from collections.abc import Callable, Iterator
 from contextlib import ExitStack
 from pathlib import Path
+from typing import TYPE_CHECKING
+from unittest.mock import patch
 
 import chrrep
 from chrrep import Atom, Id, Node, Operation, atoms_of, store_text
@@ -110,7 +112,11 @@ class Jumbled(Link):
         self.link.close()
 
 
-class Links:
+# the tests of a kind of engine are these and those of unittest
+Tests = unittest.TestCase if TYPE_CHECKING else object
+
+
+class Links(Tests):
     """What holds over each engine."""
 
     kind: type[Engine]
@@ -339,7 +345,9 @@ class Links:
         member.tell(("a", 1))
         self.engine.stop()
         try:
-            for call in (lambda: member.tell(("a", 2)), member.follow, member.show, lambda: self.link(2, patience=0.2)):
+            calls: list[Callable[[], object]] = [lambda: member.tell(("a", 2)), member.follow, member.show]
+            calls.append(lambda: self.link(2, patience=0.2))
+            for call in calls:
                 with self.assertRaises(LinkLost):
                     call()
             self.assertEqual(node.show(), (("a", 1),))
@@ -358,10 +366,8 @@ class Links:
                 append(operation)
                 raise LinkLost("its acknowledgement is lost")
 
-            link.append = append_and_fail  # type: ignore[method-assign]
-            with self.assertRaises(LinkLost):
+            with patch.object(link, "append", append_and_fail), self.assertRaises(LinkLost):
                 member.tell(("a", number))
-            link.append = append  # type: ignore[method-assign]
             self.assertEqual(member.tell(("a", number + 1)), Id(1, number + 1))
         self.assertEqual(member.show(), tuple(("a", value) for value in (1, 2, 3, 4)))
         self.assertEqual(list(self.logged()), [Id(1, number) for number in (1, 2, 3, 4)])
@@ -370,8 +376,7 @@ class Links:
         link = self.link(1)
         member = Member(self.node(PLAIN, 1), link)
         member.tell(("a", 1))
-        link.newest = lambda: {}  # type: ignore[method-assign]
-        with self.assertRaises(LinkLost):
+        with patch.object(link, "newest", dict), self.assertRaises(LinkLost):
             member.show()
 
     # nodes as processes
@@ -452,11 +457,11 @@ class Links:
             self.assertEqual(asked[origin], [])
         logged = self.logged()
         bags = {id: sorted(atoms) for id, atoms in logged.items()}
-        for id, atoms in acknowledged.items():
-            self.assertEqual(bags.get(id), sorted(atoms))
+        for id, told in acknowledged.items():
+            self.assertEqual(bags.get(id), sorted(told))
         # what was never acknowledged is in the log once or not at all
-        for atoms in bags.values():
-            self.assertIn(atoms, [sorted(bag) for bag in sent])
+        for bag in bags.values():
+            self.assertIn(bag, [sorted(it) for it in sent])
         self.assertEqual(len({tuple(atoms) for atoms in bags.values()}), len(bags))
         wanted = store_text(store_of(PATHS, [Operation(id, atoms) for id, atoms in logged.items()]))
         for command in commands.values():

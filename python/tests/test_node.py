@@ -10,6 +10,7 @@ import tempfile
 import threading
 import time
 import unittest
+from collections.abc import Callable
 from pathlib import Path
 from typing import Any
 
@@ -270,8 +271,8 @@ class Programs(unittest.TestCase):
 
     def test_accepted_programs(self) -> None:
         self.assertEqual(check(PATHS), chrrep.Verdict(1, 541))
-        texts = ("", "% a. b", b"% \xff \n", PATHS.rstrip(), PATHS.replace("\n", "\r\n"), "%---\n  % ---\n" + PATHS)
-        for program in texts:
+        texts: list[str | bytes] = ["", "% a. b", b"% \xff \n", PATHS.rstrip(), PATHS.replace("\n", "\r\n")]
+        for program in (*texts, "%---\n  % ---\n" + PATHS):
             with self.subTest(program=program), Node(program, 1) as node:
                 self.assertEqual(node.verdict, check(program))
                 self.assertEqual(node.show(), ())
@@ -308,7 +309,8 @@ class Ends(unittest.TestCase):
         with Node(PLAIN, 1) as node:
             node.tell(("a", 1))
             os.kill(node.pid, signal.SIGKILL)
-            for call in (node.show, node.summary, lambda: node.tell(("a", 2))):
+            calls: list[Callable[[], object]] = [node.show, node.summary, lambda: node.tell(("a", 2))]
+            for call in calls:
                 with self.assertRaises(NodeDied) as raised:
                     call()
                 self.assertEqual(raised.exception.status, -signal.SIGKILL)

@@ -1,9 +1,11 @@
 """Verdicts, and the ends of stores, beside plain slow programs of the definitions on programs made at random."""
 
+import os
 import random
 import subprocess
 import unittest
 from collections import Counter
+from typing import Any
 
 from chrrep.node import program_path
 from programs import answers
@@ -24,14 +26,17 @@ from slow_verdict import (
 )
 
 SEED = 17
-PROGRAMS = 3_000
-LONG_PROGRAMS = 300
+PROGRAMS = int(os.environ.get("CHRREP_PROGRAMS", "3000"))
+"""So many of a kind are judged; below 500 some kinds of verdict may be missing, which is a failure too."""
+LONG_PROGRAMS = PROGRAMS // 10
+AGREED_PROGRAMS = max(PROGRAMS // 5, 200)
 MOST_TYPES = 600
 """More order types of one overlap are not looked at, unless they are too many for a verdict."""
 MOST_COMBINATIONS = 300
 """So it is with combinations of lists at sorts."""
 STORES = 3
 STORE_ATOMS = 5
+CONSTANTS: list[list[int]] = [[], [5], [0, 1, 3], [-(2**63), 2**63 - 1]]
 
 
 def checked(text: str, *options: str) -> str:
@@ -51,7 +56,7 @@ class OrderTypes(unittest.TestCase):
     def test_numbers(self) -> None:
         """Weak orders, and those among constants with room for none and for one value between them."""
         self.assertEqual([type_count(count, []) for count in range(9)], [1, 1, 3, 13, 75, 541, 4683, 47293, 545835])
-        for constants in ([], [5], [0, 1, 3], [-(2**63), 2**63 - 1]):
+        for constants in CONSTANTS:
             for count in range(4):
                 listed = representatives(count, constants)
                 self.assertEqual(len(set(listed)), len(listed))
@@ -64,7 +69,7 @@ class OrderTypes(unittest.TestCase):
         def comparisons(values: tuple[int, ...], constants: list[int]) -> tuple[int, ...]:
             return tuple((value > other) - (value < other) for value in values for other in (*values, *constants))
 
-        for constants in ([], [5], [0, 1, 3], [-(2**63), 2**63 - 1]):
+        for constants in CONSTANTS:
             shown = Counter(comparisons(values, constants) for values in representatives(3, constants))
             near = [value + step for value in constants or [0] for step in range(-3, 4)] + [-(2**63), 2**63 - 1, 10**6]
             for _ in range(500):
@@ -76,7 +81,7 @@ def atom(name: str, *terms: str | int) -> Pattern:
     return Pattern(name, terms)
 
 
-def one_rule(weights: dict[tuple[str, int], int], *parts: tuple) -> Program:
+def one_rule(weights: dict[tuple[str, int], int], *parts: Any) -> Program:
     return Program(weights, (Rule(*parts),))
 
 
@@ -108,7 +113,8 @@ SORTED = (
             (),
             (atom("s"),),
         ),
-        "refused 21: rules 1 1; matching (0,2); store p(0,0,0,0), p(1,1,1,1), q(0); left p(1,1,1,1), s; right p(0,0,0,0), s",
+        "refused 21: rules 1 1; matching (0,2); store p(0,0,0,0), p(1,1,1,1), q(0);"
+        " left p(1,1,1,1), s; right p(0,0,0,0), s",
     ),
 )
 """Programs, and their verdicts by sorts."""
@@ -152,10 +158,10 @@ class SortsOfColumns(unittest.TestCase):
         self.assertEqual([Sort(False, True, ()).count(classes) for classes in range(7)], [1, 1, 2, 5, 15, 52, 203])
 
     def test_agreement(self) -> None:
-        """Where both verdicts are defined, a program is accepted by sorts just where it is accepted by all order types."""
+        """Where both verdicts are defined, a program is accepted by sorts just where it is by all order types."""
         chance = random.Random(SEED)
         kinds: Counter[tuple[str, str]] = Counter()
-        for number in range(PROGRAMS // 5):
+        for number in range(AGREED_PROGRAMS):
             made = record_program(chance) if number % 5 == 0 else program(chance)
             try:
                 joint = verdict(made, MOST_TYPES)
@@ -212,8 +218,8 @@ class Verdicts(unittest.TestCase):
                 self.assertEqual(checked(str(made), "--wide"), line)
 
     def test_random_programs_by_sorts(self) -> None:
-        """The verdict of `--wide` is that of the slow program, byte by byte, and agrees with the verdict by order types where
-        that is decided; stores of programs that it alone accepts come to one end."""
+        """The verdict of `--wide` is that of the slow program, byte by byte, and agrees with the verdict by order types
+        where that is decided; stores of programs that it alone accepts come to one end."""
         self.assertEqual(checked("", "--wide"), "accepted: rules 0, cases 0")
         chance = random.Random(SEED)
         kinds: Counter[tuple[str, str]] = Counter()
