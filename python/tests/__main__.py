@@ -9,8 +9,9 @@ import unittest
 from pathlib import Path
 
 HERE = Path(__file__).resolve().parent
-NODE = "test_texts test_commands test_runs test_explanations test_verdicts test_node test_lines"
-KINDS = {"node": NODE.split(), "engines": ["test_links"]}
+RUNS = ["test_texts", "test_commands", "test_runs", "test_explanations", "test_verdicts", "test_lines"]
+HOSTILE = ["test_devices", "test_memory"]
+KINDS = {"node": [*RUNS, *HOSTILE, "test_node"], "engines": ["test_links"]}
 
 
 class Counted(unittest.TextTestResult):

@@ -540,6 +540,52 @@ EXCHANGE_OF_A_CLASH = (
     ('["show",1]', "a(1), a(3)"),
 )
 
+SUMMARIES = (
+    (
+        [(1, 4), (1, 2), (1, 3), (1, 1), (1, 6)],
+        "[[1,[[1,4],[6,6]]]]",
+    ),
+    (
+        [(1, 18446744073709551615), (1, 18446744073709551614)],
+        "[[1,[[18446744073709551614,18446744073709551615]]]]",
+    ),
+)
+"""Ids in the order in which they are told, and the summary."""
+
+CUT_TEXT = ":-chr_constraint min/1.m@min(X)\\min(Y)<=>X=<Y|true."
+CUTS = (
+    (range(0, 1), "accepted: rules 0, cases 0\n"),
+    (range(1, 23), "refused 11: clause 1\n"),
+    (range(23, 24), "accepted: rules 0, cases 0\n"),
+    (range(24, 51), "refused 11: clause 2\n"),
+    (range(51, 52), "accepted: rules 1, cases 17\n"),
+)
+"""So many bytes of the text, and the verdict."""
+
+HOSTILE_LINES = (
+    ('["tell",1,[5,9],[["a",2]]]', "told"),
+    ('["show",1] x', "refused 30"),
+    ("[" * 200 + "]" * 200, "refused 30"),
+    ('{"tell":1', "refused 30"),
+    ('["show",1]' + " " * 1_048_567, "refused 30"),
+    ('["show",1]' + " " * 1_048_566, "a(2)"),
+    ('["show",1.0]', "refused 31"),
+    ('["show"]', "refused 31"),
+    ('["merge",1,[[[5,9],[]]]]', "refused 31"),
+    ('["merge",1,[[[5,10],[["a",1]]],[[5,11],[["a"]]]]]', "refused 32"),
+    ('["merge",1,[[[5,9],[["a",3]]],[[5,11],[["a"]]]]]', "refused 32"),
+    ('["merge",2,[[[5,11],[["a"]]]]]', "refused 32"),
+    ('["tell",7,[5,9],[["a",3]]]', "refused 35"),
+    ('["show",1]', "a(2)"),
+)
+
+HELD_MINIMA = WHAT_IS_LACKED[:5]
+"""Lines that tell operations, and one that is answered by their summary. The summary and the deltas of all of them:"""
+
+HELD_SUMMARY = WHAT_IS_LACKED[4][1]
+HELD_DELTA_2 = '[2,[[1,[[1,[["min",5]]],[2,[["min",3]]],[4,[["min",2]]]]],[2,[[7,[["min",8],["min",8]]]]]]]'
+HELD_DELTA_1 = '[[[1,1],[["min",5]]],[[1,2],[["min",3]]],[[1,4],[["min",2]]],[[2,7],[["min",8],["min",8]]]]'
+
 REFUSED_LINES = (
     ('["tell",1,[1,2],[["min",5]]', 30),
     ('["tell",1,[1,2],[["min",5],5]]', 31),

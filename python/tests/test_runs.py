@@ -204,9 +204,42 @@ class Replicas(Runs):
         """What a replica lacks can be merged into it, in either version."""
         self.expect_rows(2, rows.ONE_TEXT, NOTHING.rstrip(), rows.MERGED_DELTAS)
 
+    def test_summaries(self) -> None:
+        """Ranges are as long as possible, whatever the order in which operations come."""
+        for ids, summary in rows.SUMMARIES:
+            lines = [json.dumps(["tell", 1, id, [["a", 1]]]) for id in ids]
+            answers = [*((line, "told") for line in lines), ('["summary",1]', summary)]
+            self.expect_rows(1, rows.ONE_TEXT, NOTHING.rstrip(), answers)
+
     def test_exchange_of_a_clash(self) -> None:
         """An id that stands for another bag at the replica that takes in keeps it."""
         self.expect_rows(2, rows.ONE_TEXT, NOTHING.rstrip(), rows.EXCHANGE_OF_A_CLASH)
+
+
+class Hostile(Runs):
+    def test_a_text_that_is_cut(self) -> None:
+        """Anywhere, by the end of the input and by the line `---`."""
+        for places, output in rows.CUTS:
+            for place in places:
+                self.expect(rows.CUT_TEXT[:place], output)
+                self.expect(f"{rows.CUT_TEXT[:place]}\n---\n", output)
+        self.assertEqual(places[-1], len(rows.CUT_TEXT))
+
+    def test_hostile_lines(self) -> None:
+        self.expect_rows(1, rows.ONE_TEXT, NOTHING.rstrip(), rows.HOSTILE_LINES)
+
+    def test_messages_that_are_cut(self) -> None:
+        """Each proper beginning of a summary or delta is refused, and changes nothing; the whole ones are read."""
+        deltas = (rows.HELD_DELTA_1, rows.HELD_DELTA_2)
+        table = [*rows.HELD_MINIMA, *((f'["lacks",1,[],{version}]', it) for version, it in enumerate(deltas, 1))]
+        messages = (("lacks", rows.HELD_SUMMARY, "[2,[]]"), *(("merge", it, "merged 0") for it in deltas))
+        for verb, text, answer in messages:
+            start = f'["{verb}",1,'
+            line = f"{start}{text}]"
+            table += [(line[:place], "refused 30") for place in range(1, len(line))]
+            table += [(f"{start}{text[:place]}]", "refused 30") for place in range(len(text))]
+            table += [(line, answer), ('["summary",1]', rows.HELD_SUMMARY)]
+        self.expect_rows(1, rows.MINIMUM_TEXT, "accepted: rules 1, cases 17", [*table, ('["show",1]', "min(2)")])
 
 
 if __name__ == "__main__":

@@ -1,0 +1,147 @@
+"""Devices that fail, and inputs that come byte by byte."""
+
+import os
+import resource
+import subprocess
+import tempfile
+import unittest
+from collections.abc import Callable, Iterator
+from functools import partial
+
+import run_rows as rows
+from chrrep.node import program_path
+
+SECONDS = 60.0
+FAULT = 3
+WORDS = (("run", "--replicas", "2"), ("serve", "--replicas", "2"), ("check",), ("explain",))
+ANSWERS = "".join(f"{answer}\n" for _, answer in rows.MINIMA_OF_TWO)
+INPUT = "".join(f"{line}\n" for line in (rows.MINIMUM_TEXT, "---", *(line for line, _ in rows.MINIMA_OF_TWO))).encode()
+VERDICT = b"accepted: rules 1, cases 17\n"
+OUTPUT = VERDICT + ANSWERS.encode()
+
+
+def whole(words: tuple[str, ...]) -> bytes:
+    """What a command writes to a device that takes all. Explanations are taken as they come."""
+    if words[0] == "explain":
+        end = subprocess.run([program_path(), *words], input=INPUT, stdout=subprocess.PIPE, timeout=SECONDS, check=True)
+        return end.stdout
+    return VERDICT if words[0] == "check" else OUTPUT
+
+
+Before = Callable[[], None] | None
+
+
+def ended(words: tuple[str, ...], input: int, output: int, before: Before = None) -> tuple[int, bytes]:
+    """The status, and what came on standard error. Signals of devices are ignored, as they are by this Python."""
+    end = subprocess.run(
+        [program_path(), *words],
+        stdin=input,
+        stdout=output,
+        stderr=subprocess.PIPE,
+        timeout=SECONDS,
+        preexec_fn=before,
+        restore_signals=False,
+        check=False,
+    )
+    return end.returncode, end.stderr
+
+
+class Devices(unittest.TestCase):
+    def given(self) -> int:
+        """A file that has the input."""
+        file = tempfile.TemporaryFile()
+        self.addCleanup(file.close)
+        file.write(INPUT)
+        file.seek(0)
+        return file.fileno()
+
+    def test_writers_that_fail_after_so_many_bytes(self) -> None:
+        """A file may grow to any beginning of the output: just that is written."""
+        for words in WORDS:
+            output = whole(words)
+            for most in range(len(output) + 1):
+                with self.subTest(words=words, most=most), tempfile.TemporaryFile() as file:
+                    limit = partial(resource.setrlimit, resource.RLIMIT_FSIZE, (most, most))
+                    end = ended(words, self.given(), file.fileno(), limit)
+                    file.seek(0)
+                    self.assertEqual(end, (FAULT if most < len(output) else 0, b""))
+                    self.assertEqual(file.read(), output[:most])
+
+    def bad_outputs(self) -> Iterator[int]:
+        full = os.open("/dev/full", os.O_WRONLY)
+        self.addCleanup(os.close, full)
+        yield full
+        read, write = os.pipe()
+        os.close(read)
+        self.addCleanup(os.close, write)
+        yield write
+        only_read = os.open("/dev/null", os.O_RDONLY)
+        self.addCleanup(os.close, only_read)
+        yield only_read
+
+    def test_writers_that_take_nothing(self) -> None:
+        """A full disk, a pipe that nobody reads, a file that is not open for writing, none at all."""
+        for words in WORDS:
+            for output in self.bad_outputs():
+                with self.subTest(words=words, output=output):
+                    self.assertEqual(ended(words, self.given(), output), (FAULT, b""))
+            with self.subTest(words=words):
+                closed = ended(words, self.given(), subprocess.DEVNULL, lambda: os.close(1))
+                self.assertEqual(closed, (FAULT, b""))
+
+    def test_readers_that_fail(self) -> None:
+        """A folder, a file that is not open for reading, none at all: nothing is written."""
+        folder, only_write = os.open("/", os.O_RDONLY), os.open("/dev/null", os.O_WRONLY)
+        self.addCleanup(os.close, folder)
+        self.addCleanup(os.close, only_write)
+        for words in WORDS:
+            for input, before in ((folder, None), (only_write, None), (subprocess.DEVNULL, lambda: os.close(0))):
+                with self.subTest(words=words, input=input), tempfile.TemporaryFile() as file:
+                    self.assertEqual(ended(words, input, file.fileno(), before), (FAULT, b""))
+                    self.assertEqual(os.fstat(file.fileno()).st_size, 0)
+
+    def test_a_service_whose_reader_goes(self) -> None:
+        """It ends at the first answer that nobody takes."""
+        words = [program_path(), *WORDS[1]]
+        with subprocess.Popen(words, stdin=subprocess.PIPE, stdout=subprocess.PIPE, restore_signals=False) as process:
+            assert process.stdin and process.stdout
+            text, _, lines = INPUT.partition(b"---\n")
+            process.stdin.write(text + b"---\n")
+            process.stdin.flush()
+            self.assertEqual(process.stdout.readline(), VERDICT)
+            process.stdout.close()
+            process.stdin.write(lines)
+            process.stdin.flush()
+            self.assertEqual(process.wait(SECONDS), FAULT)
+
+    def test_inputs_byte_by_byte(self) -> None:
+        for words in WORDS:
+            with self.subTest(words=words):
+                command = [program_path(), *words]
+                with subprocess.Popen(command, stdin=subprocess.PIPE, stdout=subprocess.PIPE, bufsize=0) as process:
+                    assert process.stdin and process.stdout
+                    for byte in INPUT:
+                        process.stdin.write(bytes((byte,)))
+                    process.stdin.close()
+                    self.assertEqual(process.stdout.read(), whole(words))
+                self.assertEqual(process.returncode, 0)
+
+    def test_a_service_byte_by_byte(self) -> None:
+        """Each answer comes before the next line is begun."""
+        words = [program_path(), *WORDS[1]]
+        with subprocess.Popen(words, stdin=subprocess.PIPE, stdout=subprocess.PIPE, bufsize=0) as process:
+            assert process.stdin and process.stdout
+            text, _, lines = INPUT.partition(b"---\n")
+            process.stdin.write(text + b"---\n")
+            answers = [process.stdout.readline()]
+            for line in lines.splitlines(keepends=True):
+                for byte in line:
+                    process.stdin.write(bytes((byte,)))
+                answers.append(process.stdout.readline())
+            process.stdin.close()
+            self.assertEqual(answers, OUTPUT.splitlines(keepends=True))
+            self.assertEqual(process.wait(SECONDS), 0)
+
+
+if __name__ == "__main__":
+    unittest.main()

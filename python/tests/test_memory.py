@@ -1,0 +1,167 @@
+"""Runs to which memory is refused, one growth after another: each ends as it would have, or with status 4 and nothing
+written. Of a service what was written by then is a beginning of the whole, of whole lines."""
+
+import os
+import random
+import shutil
+import subprocess
+import tempfile
+import unittest
+from collections.abc import Iterator, Sequence
+from concurrent.futures import ThreadPoolExecutor
+from dataclasses import dataclass
+from pathlib import Path
+
+import run_rows as rows
+from chrrep.node import program_path
+
+HERE = Path(__file__).resolve().parent
+EXAMPLES = HERE.parents[1] / "examples"
+SHIM = HERE / "refuse.c"
+COMPILER = next(filter(None, map(shutil.which, ("cc", "gcc", "clang"))), None)
+WORKERS = os.cpu_count() or 1
+SECONDS = 60.0
+WANT_OF_MEMORY = 4
+
+EACH = 100
+"""So many growths of an example are refused one by one. Later ones are chosen at random, farther and farther apart."""
+APART = 6
+
+
+@dataclass(frozen=True)
+class Case:
+    """A command, and what it does with ample memory."""
+
+    words: tuple[str, ...]
+    input: bytes
+    status: int
+    output: bytes
+
+    def allows(self, status: int, output: bytes) -> bool:
+        if status != WANT_OF_MEMORY:
+            return (status, output) == (self.status, self.output)
+        if self.words[0] != "serve":
+            return not output
+        return self.output.startswith(output) and (not output or output.endswith(b"\n"))
+
+
+def input_of(text: str, lines: Sequence[str]) -> bytes:
+    return "".join(f"{line}\n" for line in (text, "---", *lines)).encode()
+
+
+def cases(given: bytes, options: Sequence[str], output: bytes) -> Iterator[Case]:
+    """What each command does with an input for which `run` writes this. Explanations are taken as they come."""
+    status = 0 if output.startswith(b"accepted") else 1
+    judged = tuple(option for option in options if option == "--wide")
+    yield Case(("run", *options), given, status, output)
+    yield Case(("serve", *options), given, status, output)
+    yield Case(("check", *judged), given, status, output.partition(b"\n")[0] + b"\n")
+    if not judged:
+        words = [program_path(), "explain"]
+        told = subprocess.run(words, input=given, stdout=subprocess.PIPE, timeout=SECONDS, check=False)
+        assert told.returncode == status, told
+        yield Case(("explain",), given, status, told.stdout)
+
+
+def row_cases() -> Iterator[Case]:
+    """A run of two replicas, a refused program, and lines that are told again and refused."""
+    answers = "".join(f"{answer}\n" for _, answer in rows.MINIMA_OF_TWO)
+    given = input_of(rows.MINIMUM_TEXT, [line for line, _ in rows.MINIMA_OF_TWO])
+    yield from cases(given, ("--replicas", "2"), f"accepted: rules 1, cases 17\n{answers}".encode())
+    text, output = rows.FAILING_CASES[1]
+    yield from cases(input_of(text, ['["show",1]']), (), output.encode())
+    text, lines, output = rows.OPERATIONS[1]
+    yield from cases(input_of(text, lines), (), output.encode())
+
+
+def example_cases() -> Iterator[Case]:
+    for expected in sorted(EXAMPLES.glob("*.out")):
+        words = expected.with_suffix(".words")
+        options = words.read_text().split() if words.exists() else []
+        yield from cases(expected.with_suffix(".chr").read_bytes(), options, expected.read_bytes())
+
+
+def growths(each: int | None) -> Iterator[int]:
+    """The numbers of growths, from 1, and beyond so many ones farther and farther apart."""
+    chance = random.Random(each)
+    number = 0
+    while True:
+        number += 1 if each is None or number < each else chance.randint(1, max(1, number // APART))
+        yield number
+
+
+def is_script(program: str) -> bool:
+    with open(program, "rb") as file:
+        return file.read(2) == b"#!"
+
+
+@unittest.skipUnless(COMPILER, "there is no C compiler to make the shim that refuses memory: cc, gcc or clang")
+class RefusedMemory(unittest.TestCase):
+    shim: Path
+
+    @classmethod
+    def setUpClass(cls) -> None:
+        if is_script(program_path()):
+            raise unittest.SkipTest("memory would be refused to a shell: CHRREP has to name the program itself")
+        room = tempfile.TemporaryDirectory()
+        cls.addClassCleanup(room.cleanup)
+        cls.shim = Path(room.name) / "refuse.so"
+        subprocess.run([str(COMPILER), "-O2", "-shared", "-fPIC", "-o", str(cls.shim), str(SHIM)], check=True)
+
+    def refused(self, case: Case, number: int, later: bool) -> tuple[bool, str]:
+        """Whether the run met the growth of this number, and what was wrong with it."""
+        mark = os.memfd_create("mark")
+        try:
+            environment = {"LD_PRELOAD": str(self.shim), "REFUSE": str(number), "REFUSE_MARK": str(mark)}
+            if later:
+                environment["REFUSE_ALL"] = "1"
+            end = subprocess.run(
+                [program_path(), *case.words],
+                input=case.input,
+                capture_output=True,
+                timeout=SECONDS,
+                env=environment,
+                pass_fds=(mark,),
+                check=False,
+            )
+            met = os.fstat(mark).st_size > 0
+        finally:
+            os.close(mark)
+        if case.allows(end.returncode, end.stdout) and not end.stderr:
+            return met, ""
+        which = f"growth {number}" + " and all later ones" * later
+        return met, f"{case.words} of {case.input[:60]!r}.. without {which}: {end}"
+
+    def series(self, case: Case, each: int | None, later: bool) -> tuple[int, list[str]]:
+        """How many runs met a refusal, and what was wrong."""
+        runs, wrong = 0, []
+        for number in growths(each):
+            met, fault = self.refused(case, number, later)
+            wrong += [fault] * bool(fault)
+            if not met or len(wrong) > 3:
+                return runs, wrong
+            runs += 1
+        raise AssertionError("numbers end")
+
+    def check(self, all_cases: Sequence[Case], each: int | None) -> int:
+        self.assertTrue(all_cases)
+        tasks = [(case, each, later) for case in all_cases for later in (False, True)]
+        with ThreadPoolExecutor(WORKERS) as pool:
+            ends = list(pool.map(lambda task: self.series(*task), tasks))
+        for runs, wrong in ends:
+            self.assertEqual(wrong, [])
+            self.assertGreater(runs, 0)
+        return sum(runs for runs, _ in ends)
+
+    def test_rows(self) -> None:
+        """Each growth in turn."""
+        runs = self.check(list(row_cases()), None)
+        print(f"({runs} runs with memory refused)", end=" ", flush=True)
+
+    def test_examples(self) -> None:
+        runs = self.check(list(example_cases()), EACH)
+        print(f"({runs} runs with memory refused, of growths beyond {EACH} a sample)", end=" ", flush=True)
+
+
+if __name__ == "__main__":
+    unittest.main()
