@@ -17,16 +17,19 @@ use std::alloc::{AllocError, Global};
 use std::ops::Range;
 use std::thread::Threads;
 
-/// So many overlaps are looked at ahead of their turn.
+/// So many overlaps are looked at ahead of their turn at first.
 pub(crate) const BATCH: usize = 64;
 
-/// The next overlaps from this place on, up to this end.
-pub(crate) fn batch_from(overlaps: &[Overlap], place: usize, end: usize) -> &[Overlap]
+/// Then so many times as many as were looked at before: few threads are started, and an overlap that ends the verdict
+/// wastes no more than that.
+const GROWTH: usize = 3;
+
+/// The next overlaps from this place on, so many at most.
+pub(crate) fn batch_from(overlaps: &[Overlap], place: usize, most: usize) -> &[Overlap]
     ensures { result.now ≡ take (length result.now) (drop place overlaps.now) }
 {
     let (_, rest) = overlaps.split_at(place.min(overlaps.len()));
-    let number = end.saturating_sub(place).min(BATCH);
-    let (batch, _) = rest.split_at(number.min(rest.len()));
+    let (batch, _) = rest.split_at(most.min(rest.len()));
     batch
 }
 
@@ -126,7 +129,8 @@ pub(crate) fn look_ahead(
     ensures { IfOk result (AreAhead lister.now.coverage (rules_in weighed.now) overlaps.now) }
 {
     let start = places.start;
-    let batch = batch_from(overlaps, start, places.end);
+    let most = start.saturating_mul(GROWTH).max(BATCH);
+    let batch = batch_from(overlaps, start, most.min(places.end.saturating_sub(start)));
     Ok(Ahead {
         start,
         numbers: numbers_of(rt, alloc, weighed, lister, batch)?,

@@ -1,6 +1,7 @@
 //! Overlaps of which all sorted cases are joinable, or which are copies of earlier ones.
 ghost use Rattle.std.specs.Prelude.{◌≡◌, ◌≤◌, All, IfOk, length, ⊤};
 ghost use Rattle.std.specs.Bool.{OnTrue};
+ghost use Rattle.chr_types.specs.OrderTypes.{Rises};
 ghost use Rattle.chr_weights.specs.WeighedPrograms.{rules_in};
 ghost use Rattle.chr_confluence.specs.Confluence.{Confluent};
 ghost use Rattle.chr_sorts.specs.SortedCases.{class_sorts};
@@ -21,10 +22,11 @@ use crate::portions::{LEAST_PIECE, alone_from, portion_from};
 use crate::sorted::{check_combinations, sorts_at};
 use chr_confluence::laws::peak;
 use chr_kinds::{Sorting, class_sorts, finest_sorts, has_more_combinations, visit_combinations};
-use chr_overlaps::cases::{MAX_TYPES, sorted_unified};
+use chr_overlaps::cases::{MAX_TYPES, sorted_unified, unified};
+use chr_overlaps::constants::constants;
 use chr_overlaps::{Overlap, Unified, has_equal_sides};
 use chr_sorts::laws::sorted_cases;
-use chr_types::Visit;
+use chr_types::{Visit, has_more_types};
 use chr_weights::Weighed;
 use rayon::prelude::*;
 use std::alloc::{AllocError, Global};
@@ -175,8 +177,35 @@ fn are_settled(
         && many_settled(rt, alloc, weighed, sorting, originals, rest)
 }
 
+/// The number of overlaps before the first of these that has too many order types. That one ends a verdict by joint
+/// cases, so that nothing behind it has to be looked at.
+pub(crate) fn few_types(
+    alloc: Global,
+    weighed: &Weighed,
+    constants: &[i64],
+    overlaps: &[Overlap],
+) -> Result<usize, AllocError>
+    requires overlaps { All (IsOverlapOf (rules_in weighed.now)) overlaps.now }
+    requires constants { Rises constants.now }
+{
+    let mut known = 0;
+    for (place, overlap) in overlaps.iter().enumerate() {
+        let classes = match unified(weighed, overlap) {
+            Some(unified) => unified.free_classes(),
+            None => 0,
+        };
+        if classes > known {
+            if has_more_types(alloc, classes, constants, MAX_TYPES)? {
+                return Ok(place);
+            }
+            known = classes;
+        }
+    }
+    Ok(overlaps.len())
+}
+
 /// So many rules have among them and with all later ones no overlap of which a sorted case fails. Where these are all
-/// rules, the rules are confluent.
+/// rules, the rules are confluent. Rules from one on that has an overlap of too many order types are not looked at.
 pub(crate) fn joining_rules(
     rt: &(impl Threads + Sync),
     alloc: Global,
@@ -187,10 +216,14 @@ pub(crate) fn joining_rules(
     accepted_are_confluent();
     let sorting = finest_sorts(alloc, weighed.program())?;
     let originals = originals(alloc, weighed)?;
+    let constants = constants(alloc, weighed.program().rules())?;
     let rules = weighed.program().rules().len();
     let mut place = 0;
     while place < rules {
         let portion = portion_from(alloc, weighed, place)?;
+        if few_types(alloc, weighed, &constants, &portion.overlaps)? < portion.overlaps.len() {
+            return Ok(place);
+        }
         let alone = alone_from(place);
         if !are_settled(
             rt,

@@ -2,15 +2,13 @@
 ghost use Rattle.std.specs.Prelude.{All};
 ghost use Rattle.chr_weights.specs.WeighedPrograms.{rules_in};
 ghost use Rattle.chr_overlaps.specs.OverlapLists.{IsOverlapOf};
-ghost use Rattle.chr_kinds.specs.FinestSorts.{AreFinest, sorts_of};
 ghost use Rattle.chr_join.specs.working.Checking.{IsListerOf};
 
 use crate::counting::MANY_CLASSES;
 use crate::coverage::Coverage;
 use crate::lister::Lister;
 use crate::portions::{FEW_OVERLAPS, Portion, alone_from};
-use crate::settled::joining_overlaps;
-use chr_kinds::Sorting;
+use crate::settled::{few_types, joining_overlaps};
 use chr_overlaps::Overlap;
 use chr_overlaps::cases::unified;
 use chr_weights::Weighed;
@@ -36,22 +34,20 @@ fn have_many_types(weighed: &Weighed, overlaps: &[Overlap]) -> bool
     false
 }
 
-/// The number of the first overlaps of this portion of which all sorted cases are joinable. So many rules have none
-/// that fails.
-fn joining_in(
-    alloc: Global,
-    weighed: &Weighed,
-    sorting: &Sorting,
-    portion: &Portion,
-    joining: usize,
-) -> usize
+/// The number of the first overlaps of this portion of which all sorted cases are joinable, and which come before one
+/// that has too many order types.
+fn joining_in(alloc: Global, weighed: &Weighed, lister: &Lister, portion: &Portion) -> usize
     requires overlaps { All (IsOverlapOf (rules_in weighed.now)) portion.now.overlaps.items }
-    requires finest { AreFinest (rules_in weighed.now) (sorts_of sorting.now) }
+    requires lister { IsListerOf (rules_in weighed.now) lister.now }
 {
-    if portion.end <= joining {
+    if portion.end <= lister.joining {
         return portion.overlaps.len();
     }
-    joining_overlaps(alloc, weighed, sorting, &portion.overlaps)
+    let Ok(few) = few_types(alloc, weighed, &lister.constants, &portion.overlaps) else {
+        return 0;
+    };
+    let (first, _) = portion.overlaps.split_at(few.min(portion.overlaps.len()));
+    joining_overlaps(alloc, weighed, &lister.sorting, first)
 }
 
 /// So many of the first of these overlaps are worth it, of which all sorted cases are joinable: all of them, where they
@@ -81,7 +77,7 @@ pub(crate) fn shared_out(
 {
     match lister.coverage {
         Coverage::Joint => {
-            let joining = joining_in(alloc, weighed, &lister.sorting, portion, lister.joining);
+            let joining = joining_in(alloc, weighed, lister, portion);
             0..first_worth(weighed, &portion.overlaps, joining)
         }
         Coverage::Sorted => alone_from(place)..portion.overlaps.len(),

@@ -183,7 +183,7 @@ fn count_portion(
     let mut total: u64 = 0;
     for (place, overlap) in overlaps.iter().enumerate() {
         if place % BATCH == 0 {
-            let batch = batch_from(overlaps, place, overlaps.len());
+            let batch = batch_from(overlaps, place, BATCH);
             count_ahead(rt, alloc, weighed, batch, constants, known)?;
         }
         match count_overlap(alloc, weighed, overlap, constants, known) {
