@@ -9,7 +9,7 @@ import unittest
 from pathlib import Path
 
 HERE = Path(__file__).resolve().parent
-RUNS = ["test_texts", "test_commands", "test_runs", "test_explanations", "test_verdicts", "test_lines"]
+RUNS = ["test_texts", "test_commands", "test_runs", "test_model", "test_explanations", "test_verdicts", "test_lines"]
 HOSTILE = ["test_devices", "test_memory"]
 KINDS = {"node": [*RUNS, *HOSTILE, "test_node"], "engines": ["test_links"]}
 
@@ -38,6 +38,8 @@ def main() -> int:
     # a test whose parts fail is one
     bad = {getattr(test, "test_case", test).id() for test, _ in (*result.errors, *result.failures)}
     failed = max(result.testsRun - result.passed - len(result.skipped), len(bad))
+    for test, why in result.skipped:
+        print(f"not run: {test}: {why}")
     print(f"{result.passed} passed, {failed} failed", flush=True)
     return 1 if failed or not result.passed else 0
 

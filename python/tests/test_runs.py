@@ -32,13 +32,17 @@ def told(number: int, count: int) -> str:
 
 
 class Runs(unittest.TestCase):
+    def written(self, words: Sequence[str], given: bytes) -> tuple[int, str]:
+        """The status and the output of a command."""
+        return written(words, given)
+
     def expect(self, given: str | bytes, output: str, *options: str) -> None:
         """A program is accepted where the first line says so."""
         given = given if isinstance(given, bytes) else given.encode()
         status = 0 if output.startswith("accepted: ") else 1
         with self.subTest(given=given[:200], output=output[:100]):
-            self.assertEqual(written(("run", *options), given), (status, output))
-            self.assertEqual(written(("check",), given), (status, output.partition("\n")[0] + "\n"))
+            self.assertEqual(self.written(("run", *options), given), (status, output))
+            self.assertEqual(self.written(("check",), given), (status, output.partition("\n")[0] + "\n"))
 
     def expect_all(self, table: Iterable[tuple[str | bytes, str]]) -> None:
         for given, output in table:
