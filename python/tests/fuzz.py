@@ -32,7 +32,7 @@ MOST = 400
 """More lists of values of one overlap are not looked at, unless they are too many for a verdict."""
 
 PATIENCE = 1.0
-"""Seconds after which the slow programs are given up."""
+"""Processor seconds after which the slow programs are given up."""
 
 SECONDS = 60.0
 """The program is never as slow."""
@@ -56,11 +56,11 @@ def give_up(*_: object) -> None:
 def expected(given: bytes, replicas: int, wide: bool) -> list[str] | None:
     """The lines of a run, or None where they would take too long."""
     try:
-        signal.setitimer(signal.ITIMER_REAL, PATIENCE)
+        signal.setitimer(signal.ITIMER_VIRTUAL, PATIENCE)
         lines = output_of(given, replicas, MOST, wide)
-        signal.setitimer(signal.ITIMER_REAL, 0)
+        signal.setitimer(signal.ITIMER_VIRTUAL, 0)
     except TooSlow:
-        signal.setitimer(signal.ITIMER_REAL, 0)
+        signal.setitimer(signal.ITIMER_VIRTUAL, 0)
         return None
     return lines
 
@@ -111,7 +111,7 @@ def saved(given: bytes) -> str:
 def work(seed: str, end: float) -> Tally:
     """Inputs of one process, until the time is over."""
     sys.set_int_max_str_digits(0)
-    signal.signal(signal.SIGALRM, give_up)
+    signal.signal(signal.SIGVTALRM, give_up)
     signal.signal(signal.SIGINT, signal.SIG_IGN)
     tally = Tally()
     while time.monotonic() < end and len(tally.differences) < MOST_TOLD:
