@@ -1,6 +1,7 @@
 """Runs the tests of the package, and counts them on the last line.
 
-    python3 python/tests            those of texts and of nodes; CHRREP names the program
+    python3 python/tests            those of texts and of nodes; CHRREP names the program, and CHRREP_PROGRAMS how many
+                                    random programs of each kind are judged, 3,000 where it doesn't
     python3 python/tests engines    those of exchange over Redis and PostgreSQL, which they start on this machine
 """
 
