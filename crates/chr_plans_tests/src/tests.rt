@@ -27,12 +27,29 @@ fn atom(symbol: u16, values: &[i64]) -> Atom {
 #[test]
 fn hashes_of_keys(rt: HostRuntime) -> Result<(), Fail> {
     assert_eq!(rt; key_hash(&[]), 1_332_534_557);
-    assert_eq!(rt; key_hash(&[0]), 2_003_748_835);
-    assert_eq!(rt; key_hash(&[-1]), 2_458_437_961);
-    assert_eq!(rt; key_hash(&[1, 2]), 1_643_860_637);
-    assert_eq!(rt; key_hash(&[2, 1]), 3_157_620_648);
-    assert_eq!(rt; key_hash(&[i64::MAX, i64::MIN, 0]), 3_766_422_797);
+    assert_eq!(rt; key_hash(&[0]), 3_906_847_889);
+    assert_eq!(rt; key_hash(&[-1]), 2_607_618_405);
+    assert_eq!(rt; key_hash(&[1, 2]), 3_686_209_912);
+    assert_eq!(rt; key_hash(&[2, 1]), 1_420_973_142);
+    assert_eq!(rt; key_hash(&[i64::MAX, i64::MIN, 0]), 456_637_860);
     Ok(())
+}
+
+/// In how many of 256 slots the numbers below 256 lie, times this factor.
+fn slots_of_multiples(factor: i64) -> usize {
+    let mut is_taken = [false; 256];
+    for i in 0..256i64 {
+        is_taken[(key_hash(&[i.wrapping_mul(factor)]) % 256) as usize] = true;
+    }
+    is_taken.iter().filter(|taken| **taken).count()
+}
+
+/// Drawn at random, 256 numbers take 162 slots. A node's number in the high bits of an id is such a factor.
+#[test]
+fn multiples_spread_over_the_slots(rt: HostRuntime) {
+    for shift in 0..8u32 {
+        assert!(rt; slots_of_multiples(1 << (8 * shift)) > 140);
+    }
 }
 
 #[test]
