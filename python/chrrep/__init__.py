@@ -12,7 +12,7 @@ other nodes.
 nodes exchange their operations over an engine. Nothing beside the standard library is needed here.
 """
 
-from .node import Node, check
+from .node import Node, check, explain
 from .refusals import (
     BadByte,
     BadLine,
@@ -28,6 +28,7 @@ from .refusals import (
     Overlap,
     Propagation,
     Refused,
+    RefusedProgram,
     Shape,
     Syntax,
     TextFault,
@@ -39,12 +40,13 @@ from .refusals import (
     UnknownSymbol,
     WeightFault,
 )
-from .texts import Atom, Id, Operation, Summary, Verdict, atoms_of, pieces, store_text
+from .texts import Atom, Change, Id, Operation, ProgramText, Summary, Verdict, atoms_of, pieces, store_text
 
 __all__ = [
     "Atom",
     "BadByte",
     "BadLine",
+    "Change",
     "ChrrepError",
     "Clash",
     "DeclaredTwice",
@@ -58,8 +60,10 @@ __all__ = [
     "NumberRange",
     "Operation",
     "Overlap",
+    "ProgramText",
     "Propagation",
     "Refused",
+    "RefusedProgram",
     "Shape",
     "Summary",
     "Syntax",
@@ -74,6 +78,7 @@ __all__ = [
     "WeightFault",
     "atoms_of",
     "check",
+    "explain",
     "pieces",
     "store_text",
 ]

@@ -3,27 +3,47 @@
 import os
 import shutil
 import subprocess
+import sys
 import threading
-from collections.abc import Iterable, Iterator
-from contextlib import suppress
+import weakref
+from collections.abc import Iterable, Iterator, Sequence
+from contextlib import contextmanager, suppress
 from pathlib import Path
 from types import TracebackType
-from typing import Self
+from typing import NoReturn, Self
 
-from .refusals import NodeDied, NoReplica, Refused, raise_refusal, raise_verdict
+from .refusals import (
+    BadLine,
+    NodeDied,
+    NoReplica,
+    Refused,
+    RefusedProgram,
+    Shape,
+    UnknownSymbol,
+    raise_refusal,
+    raise_verdict,
+)
 from .texts import (
     Atom,
     Id,
     Operation,
+    OperationText,
+    ProgramText,
     Summary,
     Verdict,
+    Written,
     atoms_of,
+    atoms_text,
     delta_of,
+    delta_text,
+    found_in,
     line_of,
     summary_of,
     text_bytes,
+    text_pieces,
     verdict_of,
 )
+from .words import shape_fault, symbol_fault, symbols_of
 
 _REPLICA = 1
 _NO_REPLICA = 0
@@ -33,33 +53,55 @@ _GRACE = 5.0
 
 
 def program_path(chrrep: str | os.PathLike[str] | None = None) -> str:
-    """The program to run: the one named, else the environment's CHRREP, else `./chrrep` of the repository that this
-    package stands in, else `chrrep` on the PATH."""
+    """The program to run: the one named, else the environment's CHRREP, else the one that was installed with this
+    package, else `./chrrep` of the repository that it stands in, else `chrrep` on the PATH."""
     named = os.fspath(chrrep) if chrrep is not None else os.environ.get("CHRREP")
     if named:
         return named
-    ours = Path(__file__).resolve().parents[2] / "chrrep"
-    found = str(ours) if ours.is_file() else shutil.which("chrrep")
+    here = Path(__file__).resolve()
+    ours = [here.parent / "bin" / "chrrep-x86_64-linux", here.parents[2] / "chrrep"]
+    found = next((str(path) for path in ours if path.is_file()), None) or shutil.which("chrrep")
     if not found:
         raise FileNotFoundError("no program chrrep: name it by the environment's CHRREP")
     return found
 
 
+def run_program() -> NoReturn:
+    """Goes on as the program, with the words that this one was called with."""
+    program = program_path()
+    os.execv(program, ["chrrep", *sys.argv[1:]])
+
+
 def check(
-    program: str | bytes, chrrep: str | os.PathLike[str] | None = None, *, wide: bool = False
+    program: ProgramText, chrrep: str | os.PathLike[str] | None = None, *, wide: bool = False
 ) -> Verdict:
     """The verdict on a program text; with `wide` by sorted cases alone, which decide more programs.
 
     Raises `TextFault`, `NotLowered`, `Overlap` or `TooManyTypes`, each with its case, where the program is refused,
     and `NodeDied` where no verdict came.
     """
+    text = text_bytes(program)
     words = [program_path(chrrep), "check", *_options(wide)]
-    ended = subprocess.run(words, input=text_bytes(program), stdout=subprocess.PIPE, check=False)
+    ended = subprocess.run(words, input=text, stdout=subprocess.PIPE, check=False)
     answer = ended.stdout.decode()
     if ended.returncode not in (0, 1) or not answer.endswith("\n"):
         raise NodeDied("chrrep check gave no verdict", ended.returncode)
-    answer = answer.removesuffix("\n")
-    return verdict_of(answer) or raise_verdict(answer)
+    return _judged(answer.removesuffix("\n"), text, chrrep)
+
+
+def explain(program: ProgramText, chrrep: str | os.PathLike[str] | None = None) -> str:
+    """Why a program text is refused and where, or why it is accepted, in sentences: what `chrrep explain` writes."""
+    words = [program_path(chrrep), "explain"]
+    return subprocess.run(words, input=text_bytes(program), stdout=subprocess.PIPE, check=False).stdout.decode()
+
+
+def _judged(answer: str, text: bytes, chrrep: str | os.PathLike[str] | None) -> Verdict:
+    """What a line of verdict says of an accepted program; raises what it says of another."""
+    try:
+        return verdict_of(answer) or raise_verdict(answer)
+    except RefusedProgram as refusal:
+        refusal.explained_by(lambda: explain(text, chrrep))
+        raise
 
 
 def _options(wide: bool) -> list[str]:
@@ -69,32 +111,42 @@ def _options(wide: bool) -> list[str]:
 class Node:
     """A replica of one accepted program, which lives until it is closed.
 
-    `program` is a program text. `origin`, 0 to 4,294,967,295, is the node's own: ids are made of it, and no two nodes
-    that exchange operations may share it. `chrrep` names the program, as `program_path` says. With `wide` the program is
-    judged as `check` does with it; nodes of either kind exchange operations.
+    `program` is a program text, or a file of one, as a `Path` or open, of which what follows a line `---` is no part.
+    `origin`, 0 to 4,294,967,295, is the node's own: ids are made of it, and no two nodes that exchange operations may
+    share it. `chrrep` names the program, as `program_path` says. With `wide` the program
+    is judged as `check` does with it; nodes of either kind exchange operations.
 
     Raises, as `check` does, what refuses the program. Each call raises `NodeDied` where the process has ended, and a
-    `Refused` where the line is refused, which changes nothing. A call that is interrupted ends the node. Calls may come
-    from any thread: one is made at a time. Leaving a `with` closes the node.
+    `Refused` where the line is refused, which changes nothing. A call that is interrupted ends the node, and
+    so does one that has no answer after `timeout` seconds, the first for the verdict among them. Calls may come from
+    any thread: one is made at a time. Leaving a `with` closes the node.
     """
 
     verdict: Verdict
     """What was said of the program."""
 
     def __init__(
-        self, program: str | bytes, origin: int, *, chrrep: str | os.PathLike[str] | None = None, wide: bool = False
+        self,
+        program: ProgramText,
+        origin: int,
+        *,
+        chrrep: str | os.PathLike[str] | None = None,
+        wide: bool = False,
+        timeout: float | None = None,
     ) -> None:
         self.origin = origin
+        self._timeout = timeout
         self._next = 1
         self._lock = threading.RLock()
         self._ended: NodeDied | None = None
-        text = text_bytes(program)
+        self._text = text = text_bytes(program)
         end = b"---\n" if text.endswith(b"\n") or not text else b"\n---\n"
         words = [program_path(chrrep), "serve", *_options(wide)]
         self._process = subprocess.Popen(words, stdin=subprocess.PIPE, stdout=subprocess.PIPE)
+        # a node that is dropped ends its process too
+        self._dropped = weakref.finalize(self, _end_process, self._process)
         try:
-            answer = self._exchange(text + end)
-            self.verdict = verdict_of(answer) or raise_verdict(answer)
+            self.verdict = _judged(self._exchange(text + end), text, chrrep)
         except BaseException as fault:
             self._end(NodeDied("the node never came up"), by_force=not isinstance(fault, Refused))
             raise
@@ -113,20 +165,53 @@ class Node:
     def tell(self, *atoms: Atom) -> Id:
         """Tells one operation of 1 to 64 atoms, and gives the id that it got."""
         with self._lock:
-            id = self.next_id
-            self._ask("tell", _REPLICA, id, atoms, following=id.number + 1)
-            return id
+            told = OperationText(self.next_id, atoms_text(atoms))
+            with self._in_words([told]):
+                line = f'["tell",{_REPLICA},[{told.id.origin},{told.id.number}],{told.atoms}]\n'
+                self._ask_text(line, following=told.id.number + 1)
+            return told.id
+
+    def tell_many(self, tells: Iterable[Iterable[Atom]]) -> list[Id]:
+        """Tells operations of 1 to 64 atoms each, a line for many, and gives their ids. Each line is taken in whole or
+        not at all; where one is refused, those before it are told."""
+        with self._lock:
+            operations = [
+                OperationText(Id(self.origin, number), atoms_text(atoms))
+                for number, atoms in enumerate(tells, self._next)
+            ]
+            for part in text_pieces(operations):
+                self.merge_texts(part)
+            return [operation.id for operation in operations]
 
     def admit(self, *atoms: Atom) -> None:
         """Raises what `tell` would raise of these atoms as they are (`BadLine`, `Shape`, `UnknownSymbol`), and changes
         nothing."""
-        # a missing replica is refused after all that is wrong with the atoms
-        with suppress(NoReplica):
-            self._ask("tell", _NO_REPLICA, self.next_id, atoms)
+        self.admit_texts([OperationText(self.next_id, atoms_text(atoms))])
 
-    def show(self) -> tuple[Atom, ...]:
-        """The store at rest, in the order in which it is printed."""
-        return atoms_of(self._ask("show", _REPLICA))
+    def admit_texts(self, delta: Iterable[Written]) -> None:
+        """Raises what `merge_texts` would raise of these operations as they are, and changes nothing."""
+        operations = list(delta)
+        # a missing replica is refused after all that is wrong with the operations
+        with suppress(NoReplica), self._in_words(operations):
+            self._ask_text(f'["merge",{_NO_REPLICA},{delta_text(operations)}]\n')
+
+    def show(self, symbol: str | None = None, *pattern: int | None) -> tuple[Atom, ...]:
+        """The store at rest, in the order in which it is printed. With a symbol only its atoms, and with a pattern of
+        arguments only those that have them, None being any: `show("path", 1, None, None)`."""
+        text = self.show_text()
+        return atoms_of(text) if symbol is None else found_in(text, symbol, *pattern)
+
+    def count(self, symbol: str, *pattern: int | None) -> int:
+        """How many atoms `show` gives."""
+        return len(self.show(symbol, *pattern))
+
+    def show_text(self) -> str:
+        """The store at rest as it is printed: `path(1,2,7), coin`, or `true` where it is empty."""
+        return self._ask("show", _REPLICA)
+
+    def __repr__(self) -> str:
+        state = "ended" if self._ended else f"process {self.pid}"
+        return f"<chrrep.Node of origin {self.origin}, {state}, rules {self.verdict.rules}>"
 
     def __iter__(self) -> Iterator[Atom]:
         return iter(self.show())
@@ -145,8 +230,14 @@ class Node:
         A delta is sent as one line. One that is longer than a line may be is `BadLine`, and is merged by its `pieces`.
         """
         operations = [Operation.of(id, atoms) for id, atoms in delta]
-        own = (id.number for id, _ in operations if id.origin == self.origin)
-        answer = self._ask("merge", _REPLICA, operations, following=1 + max(own, default=0))
+        return self.merge_texts([OperationText(id, atoms_text(atoms)) for id, atoms in operations])
+
+    def merge_texts(self, delta: Sequence[Written]) -> int:
+        """The same of operations whose atoms are written already. What isn't compact JSON there may end the node."""
+        own = (one.id.number for one in delta if one.id.origin == self.origin)
+        line = f'["merge",{_REPLICA},{delta_text(delta)}]\n'
+        with self._in_words(delta):
+            answer = self._ask_text(line, following=1 + max(own, default=0))
         return int(answer.removeprefix("merged "))
 
     def close(self) -> None:
@@ -162,16 +253,32 @@ class Node:
     ) -> None:
         self.close()
 
+    @contextmanager
+    def _in_words(self, delta: Sequence[Written]) -> Iterator[None]:
+        """Says of operations that are refused what is wrong with the first of them."""
+        try:
+            yield
+        except (BadLine, Shape) as refusal:
+            refusal.add(next(filter(None, (shape_fault(one.atoms) for one in delta)), None))
+            raise
+        except UnknownSymbol as refusal:
+            symbols = symbols_of(self._text)
+            refusal.add(next(filter(None, (symbol_fault(one.atoms, symbols) for one in delta)), None))
+            raise
+
     def _ask(self, *words: object, following: int = 0) -> str:
+        """The answer to a line of these words, as `_ask_text` gives it."""
+        return self._ask_text(line_of(words).decode(), following)
+
+    def _ask_text(self, line: str, following: int = 0) -> str:
         """The answer to a line; raises what it refuses. From then on numbers are `following` at least."""
-        line = line_of(words)
         with self._lock:
             if self._ended:
                 raise NodeDied(self._ended.what, self._ended.status)
             # set before the question: an interrupt leaves a gap, and no number that is used twice
             before, self._next = self._next, max(self._next, following)
             try:
-                answer = self._exchange(line)
+                answer = self._exchange(line.encode())
                 raise_refusal(answer)
             except Refused:
                 self._next = before
@@ -186,6 +293,27 @@ class Node:
         return answer
 
     def _exchange(self, sent: bytes) -> str:
+        """The answer to what is sent; in time, or the node is ended."""
+        if self._timeout is None:
+            return self._exchange_all(sent)
+        late = threading.Event()
+
+        def end() -> None:
+            late.set()
+            self._process.kill()
+
+        timer = threading.Timer(self._timeout, end)
+        timer.start()
+        try:
+            return self._exchange_all(sent)
+        except NodeDied as died:
+            if late.is_set():
+                raise NodeDied(f"the node gave no answer within {self._timeout} seconds", died.status) from died
+            raise
+        finally:
+            timer.cancel()
+
+    def _exchange_all(self, sent: bytes) -> str:
         reads, writes = self._process.stdout, self._process.stdin
         assert reads and writes
         # a program that has ended may have answered before
@@ -194,22 +322,28 @@ class Node:
             writes.flush()
         answer = reads.readline()
         if not answer.endswith(b"\n"):
-            raise NodeDied("the node died", self._status())
+            raise NodeDied("the node died", _status(self._process))
         return answer[:-1].decode()
-
-    def _status(self) -> int:
-        try:
-            return self._process.wait(_GRACE)
-        except subprocess.TimeoutExpired:
-            self._process.kill()
-            return self._process.wait()
 
     def _end(self, why: NodeDied, by_force: bool = False) -> None:
         self._ended = self._ended or why
         if by_force:
             self._process.kill()
-        for pipe in (self._process.stdin, self._process.stdout):
-            assert pipe
-            with suppress(OSError):
-                pipe.close()
-        self._status()
+        self._dropped()
+
+
+def _status(process: subprocess.Popen[bytes]) -> int:
+    """The status of a process that is to end by itself."""
+    try:
+        return process.wait(_GRACE)
+    except subprocess.TimeoutExpired:
+        process.kill()
+        return process.wait()
+
+
+def _end_process(process: subprocess.Popen[bytes]) -> None:
+    for pipe in (process.stdin, process.stdout):
+        assert pipe
+        with suppress(OSError):
+            pipe.close()
+    _status(process)

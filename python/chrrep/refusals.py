@@ -1,6 +1,7 @@
 """What goes wrong: `refused N` as exceptions, and a node that died."""
 
 import re
+from collections.abc import Callable
 from typing import ClassVar, NoReturn
 
 from .texts import Atom, Weight, atoms_of, numbers_of
@@ -43,13 +44,37 @@ class Refused(ChrrepError):
             self.number = number
         super().__init__(f"{type(self).__name__}: {answer}")
 
+    def add(self, words: str | None) -> None:
+        """Adds to what the exception says."""
+        if words:
+            self.args = (f"{self}: {words}",)
 
-class TextFault(Refused):
+
+class RefusedProgram(Refused):
+    """A program text that is refused."""
+
+    _explains: Callable[[], str] | None = None
+
+    def explain(self) -> str:
+        """What `chrrep explain` says of the text: why it is refused and where, in sentences."""
+        return self._explains() if self._explains else str(self)
+
+    def explained_by(self, explains: Callable[[], str]) -> None:
+        """Says where an explanation comes from."""
+        self._explains = explains
+
+
+class TextFault(RefusedProgram):
     """The text is no program: its first bad clause, and the least fault of it."""
 
     def __init__(self, answer: str, clause: int | None = None) -> None:
         self.clause = clause
         super().__init__(answer)
+
+    def explained_by(self, explains: Callable[[], str]) -> None:
+        super().explained_by(explains)
+        # it is told at once where the text is no program
+        self.add(explains().partition("\n")[0])
 
 
 class BadByte(TextFault):
@@ -118,7 +143,7 @@ class Unended(TextFault):
     number = 11
 
 
-class NotLowered(Refused):
+class NotLowered(RefusedProgram):
     """Rule `rule`'s removed heads, of the weight `before`, don't outweigh its body, of the weight `after`."""
 
     number = 20
@@ -126,9 +151,10 @@ class NotLowered(Refused):
     def __init__(self, answer: str, rule: int, before: Weight, after: Weight) -> None:
         self.rule, self.before, self.after = rule, before, after
         super().__init__(answer)
+        self.add(f"rule {rule} does not lower the weight")
 
 
-class Overlap(Refused):
+class Overlap(RefusedProgram):
     """The program is not confluent: from `store`, where the two `rules` overlap as `matching` says, one leads to `left`
     and the other to `right`, two different stores at rest."""
 
@@ -146,17 +172,19 @@ class Overlap(Refused):
         self.rules, self.matching = rules, matching
         self.store, self.left, self.right = store, left, right
         super().__init__(answer)
+        self.add("one store comes to two ends")
 
 
-class TooManyTypes(Refused):
-    """The two `rules` overlap as `matching` says, with `classes` free values: in too many orders of them to decide. Asked
-    for with `wide`, most programs are decided."""
+class TooManyTypes(RefusedProgram):
+    """The two `rules` overlap as `matching` says, with `classes` free values: in too many orders of them to decide.
+    Asked for with `wide`, most programs are decided."""
 
     number = 22
 
     def __init__(self, answer: str, rules: tuple[int, int], matching: tuple[int, ...], classes: int) -> None:
         self.rules, self.matching, self.classes = rules, matching, classes
         super().__init__(answer)
+        self.add("an overlap has too many cases to decide")
 
 
 class BadLine(Refused):

@@ -2,14 +2,25 @@
 
 import json
 import re
-from collections.abc import Iterable, Iterator
-from typing import NamedTuple, TypeAlias
+from collections import Counter
+from collections.abc import Callable, Iterable, Iterator
+from pathlib import Path
+from typing import IO, NamedTuple, Protocol, TypeAlias, TypeVar
 
 LINE_LIMIT = 1_048_576
 """Bytes of a line, without its end, beyond which it is refused."""
 
-Atom: TypeAlias = tuple[str, *tuple[int, ...]]
+OPERATION_LIMIT = 64
+"""Atoms of an operation, at most."""
+
+TOLD_LIMIT = 1_000_000
+"""Atoms that a node is told, at most."""
+
+Atom: TypeAlias = tuple[str | int, ...]
 """A name and its arguments, whole numbers of 64 bits: `("path", 1, 2, 7)`."""
+
+ProgramText: TypeAlias = str | bytes | Path | IO[str] | IO[bytes]
+"""A program text, or a file that has one: by its path, or open."""
 
 Weight: TypeAlias = tuple[int, ...]
 """One number, or two where weights of two numbers are declared."""
@@ -34,7 +45,21 @@ class Operation(NamedTuple):
     @classmethod
     def of(cls, id: Iterable[int], atoms: Iterable[Iterable[str | int]]) -> "Operation":
         """The operation of parts that may be lists, as JSON has them."""
-        return cls(Id(*id), tuple(tuple(atom) for atom in atoms))  # type: ignore[misc]
+        return cls(Id(*id), tuple(tuple(atom) for atom in atoms))
+
+
+class OperationText(NamedTuple):
+    """What is `Written` and nothing more."""
+
+    id: Id
+    atoms: str
+
+
+class Change(NamedTuple):
+    """Atoms that came into a store and that went from it, each as often as it did."""
+
+    came: tuple[Atom, ...]
+    went: tuple[Atom, ...]
 
 
 class Verdict(NamedTuple):
@@ -43,6 +68,23 @@ class Verdict(NamedTuple):
     rules: int
     cases: int
 
+
+class Written(Protocol):
+    """An operation whose atoms are written as compact JSON, of ASCII alone."""
+
+    @property
+    def id(self) -> Id: ...
+
+    @property
+    def atoms(self) -> str: ...
+
+
+T = TypeVar("T")
+W = TypeVar("W", bound=Written)
+
+_ENCODE = json.JSONEncoder(separators=(",", ":")).encode
+_ID_ROOM = 40
+"""Bytes that the id and the brackets of an operation take in a line, at most."""
 
 _ACCEPTED = re.compile(r"accepted: rules (\d+), cases (\d+)")
 _ATOM = re.compile(r"\s*([a-z][A-Za-z0-9_]*)\s*(?:\(\s*(-?\d+(?:\s*,\s*-?\d+)*)\s*\))?\s*(,|\Z)", re.ASCII)
@@ -78,17 +120,44 @@ def atoms_of(text: str) -> tuple[Atom, ...]:
 
 def store_text(atoms: Iterable[Atom]) -> str:
     """The atoms as a store's text, in the order given."""
-    shown = (name + (f"({','.join(map(str, arguments))})" if arguments else "") for name, *arguments in atoms)
+    shown = (f"{name}({','.join(map(str, rest))})" if rest else str(name) for name, *rest in atoms)
     return ", ".join(shown) or "true"
 
 
-def text_bytes(program: str | bytes) -> bytes:
+def found_in(store: str, symbol: str, *pattern: int | None) -> tuple[Atom, ...]:
+    """The atoms of a store's text with this name and these arguments, of which None stands for any, in its order.
+
+    With no pattern at all they are those of the name, with any number of arguments.
+    """
+    numbers = ",".join("-?[0-9]+" if value is None else str(int(value)) for value in pattern)
+    arguments = rf"\({numbers}\)" if pattern else r"(?:\([-0-9,]+\))?"
+    found = re.findall(rf"(?:^|(?<= )){re.escape(symbol)}{arguments}(?=,|$)", store)
+    return atoms_of(", ".join(found)) if found else ()
+
+
+def changes_between(before: str, after: str) -> Change:
+    """What came and went from one store's text to another's, each in the order of its text."""
+    old, new = (Counter(text.split(", ")) - Counter(["true"]) for text in (before, after))
+    came, went = (atoms_of(", ".join(more.elements()) or "true") for more in (new - old, old - new))
+    return Change(came, went)
+
+
+def text_bytes(program: ProgramText) -> bytes:
     """The bytes of a program text, none of whose lines is taken for the one that ends it.
 
     A line `---` is a fault of the text. A space before it, which is layout, leaves it that and no more.
     """
-    text = program.encode() if isinstance(program, str) else program
-    return _DIVIDER.sub(b" ---", text)
+    return _DIVIDER.sub(b" ---", program_bytes(program))
+
+
+def program_bytes(program: ProgramText) -> bytes:
+    """The bytes of a program text, or of a file of one, of which what follows a line `---` is no part."""
+    if isinstance(program, (str, bytes)):
+        return program.encode() if isinstance(program, str) else program
+    read = program.read_bytes() if isinstance(program, Path) else program.read()
+    text = read.encode() if isinstance(read, str) else read
+    divider = _DIVIDER.search(text)
+    return text[:divider.start()] if divider else text
 
 
 def line_of(value: object) -> bytes:
@@ -106,16 +175,35 @@ def delta_of(answer: str) -> tuple[Operation, ...]:
     return tuple(Operation.of(id, atoms) for id, atoms in json.loads(answer))
 
 
+def atoms_text(atoms: Iterable[Atom]) -> str:
+    """The atoms of an operation as compact JSON. TypeError where they have none."""
+    return _ENCODE(list(atoms))
+
+
+def delta_text(operations: Iterable[Written]) -> str:
+    """The delta of these operations, of version 1."""
+    return "[" + ",".join([f"[[{one.id[0]},{one.id[1]}],{one.atoms}]" for one in operations]) + "]"
+
+
 def pieces(delta: Iterable[Operation], limit: int = LINE_LIMIT - 100) -> Iterator[list[Operation]]:
     """The delta in parts, each short enough for one line, in its order. An operation too long by itself is a part."""
-    part: list[Operation] = []
+    return _parts(delta, lambda operation: len(line_of(operation)), limit)
+
+
+def text_pieces(delta: Iterable[W], limit: int = LINE_LIMIT - 100) -> Iterator[list[W]]:
+    """The same of operations whose atoms are written."""
+    return _parts(delta, lambda operation: len(operation.atoms) + _ID_ROOM, limit)
+
+
+def _parts(items: Iterable[T], size_of: Callable[[T], int], limit: int) -> Iterator[list[T]]:
+    part: list[T] = []
     length = 0
-    for operation in delta:
-        size = len(line_of(operation))
+    for item in items:
+        size = size_of(item)
         if part and length + size > limit:
             yield part
             part, length = [], 0
-        part.append(operation)
+        part.append(item)
         length += size
     if part:
         yield part

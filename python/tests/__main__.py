@@ -1,8 +1,11 @@
 """Runs the tests of the package, and counts them on the last line.
 
-    python3 python/tests            those of texts and of nodes; CHRREP names the program, and CHRREP_PROGRAMS how many
-                                    random programs of each kind are judged, 3,000 where it doesn't
-    python3 python/tests engines    those of exchange over Redis and PostgreSQL, which they start on this machine
+    python3 python/tests            those of texts, of nodes and of logs in a file; CHRREP names the program
+    python3 python/tests engines    those of logs in Redis and PostgreSQL, which they start on this machine
+
+The environment's CHRREP_PROGRAMS is how many random programs of each kind are judged, 3,000 where it doesn't say,
+CHRREP_KILLS how many nodes are killed at random moments over each engine, and CHRREP_OPERATIONS how many operations are
+told to see that room stays bounded.
 """
 
 import sys
@@ -12,7 +15,8 @@ from pathlib import Path
 HERE = Path(__file__).resolve().parent
 RUNS = ["test_texts", "test_commands", "test_runs", "test_model", "test_explanations", "test_verdicts", "test_lines"]
 HOSTILE = ["test_devices", "test_memory"]
-KINDS = {"node": [*RUNS, *HOSTILE, "test_node"], "engines": ["test_links"]}
+NODES = ["test_node", "test_names", "test_embedded", "test_lasting", "test_install"]
+KINDS = {"node": [*RUNS, *HOSTILE, *NODES], "engines": ["test_links"]}
 
 
 class Counted(unittest.TextTestResult):

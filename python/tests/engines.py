@@ -1,4 +1,4 @@
-"""Engines for the tests: servers on loopback, each with its log in a folder of its own."""
+"""Engines for the tests: a file, and servers on loopback, each with its log in a folder of its own."""
 
 import glob
 import os
@@ -6,10 +6,12 @@ import pwd
 import shutil
 import signal
 import socket
+import sqlite3
 import subprocess
 import tempfile
 import time
 from abc import ABC, abstractmethod
+from contextlib import closing
 from pathlib import Path
 
 LOOPBACK = "127.0.0.1"
@@ -25,10 +27,45 @@ def free_port() -> int:
 
 
 class Engine(ABC):
-    """A server that can be stopped and started, and is gone with its folder after `close`."""
+    """What keeps logs, and is gone with its folder after `close`."""
 
     def __init__(self) -> None:
         self.room = Path(tempfile.mkdtemp(prefix="chrrep-engine-"))
+
+    @property
+    @abstractmethod
+    def url(self) -> str:
+        """The address for a link."""
+
+    @abstractmethod
+    def set_format(self, log: str, format: int) -> None:
+        """Writes another format into a log."""
+
+    def close(self) -> None:
+        shutil.rmtree(self.room, ignore_errors=True)
+
+
+class Embedded(Engine):
+    """A file of SQLite."""
+
+    @property
+    def path(self) -> Path:
+        return self.room / "log.sqlite"
+
+    @property
+    def url(self) -> str:
+        return f"sqlite:///{self.path}"
+
+    def set_format(self, log: str, format: int) -> None:
+        with closing(sqlite3.connect(self.path)) as engine, engine:
+            engine.execute("UPDATE logs SET format = ? WHERE log = ?", (format, log))
+
+
+class Server(Engine):
+    """An engine that can be stopped and started."""
+
+    def __init__(self) -> None:
+        super().__init__()
         self.port = free_port()
         self.server: subprocess.Popen[bytes] | None = None
         try:
@@ -44,11 +81,6 @@ class Engine(ABC):
     @abstractmethod
     def words(self) -> list[str]:
         """The server's command, which stays in the foreground."""
-
-    @property
-    @abstractmethod
-    def url(self) -> str:
-        """The address for a link."""
 
     @abstractmethod
     def is_ready(self) -> bool:
@@ -86,10 +118,10 @@ class Engine(ABC):
 
     def close(self) -> None:
         self.stop(signal.SIGKILL)
-        shutil.rmtree(self.room, ignore_errors=True)
+        super().close()
 
 
-class Redis(Engine):
+class Redis(Server):
     """A Redis server, which has each operation on disk before it acknowledges it."""
 
     def words(self) -> list[str]:
@@ -107,6 +139,12 @@ class Redis(Engine):
     def url(self) -> str:
         return f"redis://{LOOPBACK}:{self.port}/0"
 
+    def set_format(self, log: str, format: int) -> None:
+        import redis
+
+        with redis.Redis(LOOPBACK, self.port) as engine:
+            engine.hset(f"{log}:state", "format", format)
+
     def is_ready(self) -> bool:
         import redis
 
@@ -117,7 +155,7 @@ class Redis(Engine):
             return False
 
 
-class Postgres(Engine):
+class Postgres(Server):
     """A PostgreSQL server. It doesn't run as root: then it is the user `postgres`."""
 
     def user(self) -> str | None:
@@ -157,6 +195,12 @@ class Postgres(Engine):
     @property
     def url(self) -> str:
         return f"postgresql://chrrep@{LOOPBACK}:{self.port}/postgres"
+
+    def set_format(self, log: str, format: int) -> None:
+        import psycopg2
+
+        with closing(psycopg2.connect(self.url)) as engine, engine, engine.cursor() as cursor:
+            cursor.execute(f'UPDATE "{log}:state" SET format = %s', (format,))
 
     def is_ready(self) -> bool:
         import psycopg2

@@ -1,7 +1,9 @@
 """Nodes as processes: what they answer, what they refuse, and how they end."""
 
+import gc
 import os
 import random
+import re
 import signal
 import stat
 import subprocess
@@ -15,7 +17,7 @@ from pathlib import Path
 from typing import Any
 
 import chrrep
-from chrrep import Id, Node, NodeDied, Operation, check, pieces
+from chrrep import Id, Node, NodeDied, Operation, check, pieces, store_text
 from chrrep.texts import LINE_LIMIT
 from programs import COINS, PATHS, PLAIN, store_of
 
@@ -123,6 +125,30 @@ class Answers(unittest.TestCase):
                         node.show()
                 self.assertEqual(node.show(), wanted)
 
+    def test_many_are_told_at_once(self) -> None:
+        with Node(PLAIN, 1) as node:
+            self.assertEqual(node.tell(("a", 0)), Id(1, 1))
+            ids = node.tell_many([[("a", value), ("a", -value)] for value in range(1, 1001)])
+            self.assertEqual(ids, [Id(1, number) for number in range(2, 1002)])
+            self.assertEqual(node.tell_many([]), [])
+            self.assertEqual(len(node.show()), 2001)
+            self.assertEqual(node.show_text(), store_text(node.show()))
+            with self.assertRaises(chrrep.UnknownSymbol):
+                node.tell_many([[("a", 1)], [("b", 1)]])
+            self.assertEqual(node.tell_many([[("a", 1)]]), [Id(1, 1002)])
+
+    def test_parts_of_a_store_are_shown(self) -> None:
+        with Node(PATHS, 1) as node:
+            node.tell(("path", 1, 2, 7), ("path", 1, 3, 4), ("path", 2, 3, -1))
+            self.assertEqual(node.show("path", 1, None, None), (("path", 1, 2, 7), ("path", 1, 3, 4)))
+            self.assertEqual(node.show("path", None, 3, -1), (("path", 2, 3, -1),))
+            self.assertEqual((node.count("path"), node.count("path", None, 3, None), node.count("x")), (3, 2, 0))
+
+    def test_a_node_says_what_it_is(self) -> None:
+        with Node(COINS, 7) as node:
+            self.assertEqual(repr(node), f"<chrrep.Node of origin 7, process {node.pid}, rules 1>")
+        self.assertIn("ended", repr(node))
+
     def test_threads_share_a_node(self) -> None:
         ids: list[Id] = []
         with Node(PLAIN, 1) as node:
@@ -152,7 +178,7 @@ class Refusals(unittest.TestCase):
     def test_lines_that_are_refused_change_nothing(self) -> None:
         with Node(PLAIN, 1) as node:
             node.tell(("a", 1))
-            for kind, atoms in (
+            rows: list[tuple[type[chrrep.Refused], list[Any]]] = [
                 (chrrep.BadLine, [("a", float("nan"))]),
                 (chrrep.Shape, []),
                 (chrrep.Shape, [("a", 1)] * 65),
@@ -163,13 +189,48 @@ class Refusals(unittest.TestCase):
                 (chrrep.UnknownSymbol, [("a",)]),
                 (chrrep.UnknownSymbol, [("a", 1), ("b", 1)]),
                 (chrrep.UnknownSymbol, [("\n", 1)]),
-            ):
+            ]
+            for kind, atoms in rows:
                 with self.subTest(atoms=atoms):
                     self.refuses(node, kind, node.tell, *atoms)
                     self.refuses(node, kind, node.admit, *atoms)
             node.admit(("a", 5))
             self.assertEqual(node.show(), (("a", 1),))
             self.assertEqual(node.tell(("a", 2)), Id(1, 2))
+
+    def test_what_is_wrong_is_said(self) -> None:
+        program = "% :- chr_constraint no/1.\n:- chr_constraint path/3,\n  coin/0 , path/ 1.\n:- chr_constraint a/1."
+        rows: list[tuple[list[Any], str]] = [
+            ([], "an operation has 1 to 64 atoms, and this one has 0"),
+            ([("a", 1)] * 65, "an operation has 1 to 64 atoms, and this one has 65"),
+            ([("a", 1), ("path", 1, 2.5, 3)], "argument 2 of ('path', 1, 2.5, 3) is a float, and not a whole number"),
+            ([("a", float("nan"))], "argument 1 of ('a', nan) is a float, and not a whole number"),
+            ([("a", True)], "argument 1 of ('a', True) is a bool, and not a whole number"),
+            ([("a", "berlin")], "argument 1 of ('a', 'berlin') is a string, and not a whole number"),
+            ([("a", None)], "argument 1 of ('a', None) is None, and not a whole number"),
+            ([("a", (1,))], "argument 1 of ('a', [1]) is a list, and not a whole number"),
+            ([("a", -(2**63) - 1)], "argument 1 of ('a', -9223372036854775809) does not fit 64 bits"),
+            ([(3,)], "(3,) is no atom, which is a name and its arguments"),
+            ([()], "() is no atom, which is a name and its arguments"),
+            ([7], "7 is no atom, which is a name and its arguments"),
+            ([("a",)], "'a' is declared with 1 arguments, and not with 0"),
+            ([("path", 1, 2)], "'path' is declared with 3 or 1 arguments, and not with 2"),
+            ([("a", 1), ("paths", 1, 2, 3)], "no symbol 'paths' is declared: is 'path' meant?"),
+            ([("no", 1)], "no symbol 'no' is declared"),
+            ([("x" * 200,)], f"no symbol 'x{'x' * 76}.. is declared"),
+        ]
+        with Node(program, 1) as node:
+            for atoms, said in rows:
+                calls: list[Callable[[], object]] = [
+                    lambda atoms=atoms: node.tell(*atoms),  # type: ignore[misc]
+                    lambda atoms=atoms: node.admit(*atoms),  # type: ignore[misc]
+                    lambda atoms=atoms: node.tell_many([[("a", 1)], atoms]),  # type: ignore[misc]
+                ]
+                for call in calls:
+                    with self.subTest(said), self.assertRaises(chrrep.Refused) as raised:
+                        call()
+                    self.assertRegex(str(raised.exception), rf"^\w+: refused 3[012]: {re.escape(said)}$")
+            self.assertEqual(node.summary(), ())
 
     def test_merges_are_taken_in_whole_or_not(self) -> None:
         with Node(PLAIN, 1) as node:
@@ -269,6 +330,21 @@ class Programs(unittest.TestCase):
                     refusal = self.refusal(kind, call, program)
                     self.assertEqual({name: getattr(refusal, name) for name in case}, case)
 
+    def test_refused_programs_are_explained(self) -> None:
+        rows = [
+            ("a(1) <=> true.", "^Undeclared: refused 5: clause 1: line 1, column 1, clause 1, fault 5: ", "declared"),
+            (" " * 70_000, "TooLong: refused 2: fault 2: the text has 70000 bytes", "65536 are allowed"),
+            (":- chr_constraint a/0, b/0. a <=> b.", "after 1: rule 1 does not lower the weight$", "a <=> b."),
+            (COINS + "coin <=> true.", "true: one store comes to two ends$", "The other way:"),
+        ]
+        calls: list[Callable[[str], object]] = [check, lambda text: Node(text, 1)]
+        for text, said, explained in rows:
+            for call in calls:
+                with self.subTest(text=text[:40]), self.assertRaisesRegex(chrrep.RefusedProgram, said) as raised:
+                    call(text)
+                self.assertIn(explained, raised.exception.explain())
+        self.assertIn("Every store comes to one end", chrrep.explain(COINS))
+
     def test_accepted_programs(self) -> None:
         self.assertEqual(check(PATHS), chrrep.Verdict(1, 541))
         texts: list[str | bytes] = ["", "% a. b", b"% \xff \n", PATHS.rstrip(), PATHS.replace("\n", "\r\n")]
@@ -299,6 +375,27 @@ class Ends(unittest.TestCase):
         node.close()
         with self.assertRaisesRegex(NodeDied, "closed"):
             node.show()
+
+    def test_a_call_that_has_no_answer_in_time(self) -> None:
+        with Node(PLAIN, 1, timeout=SECONDS) as node:
+            node.tell(("a", 1))
+            self.assertEqual(node.show(), (("a", 1),))
+        long = [(("a", value),) * OPERATION_ATOMS for value in range(1000)]
+        calls: list[Callable[[Node], object]] = [Node.show, lambda node: node.tell_many(long)]
+        for call in calls:
+            with Node(PLAIN, 1, timeout=2.0) as node:
+                os.kill(node.pid, signal.SIGSTOP)
+                for _ in range(2):
+                    with self.assertRaisesRegex(NodeDied, "no answer within 2.0 seconds"):
+                        call(node)
+                self.assertFalse(is_running(node.pid))
+
+    def test_a_node_that_is_dropped_ends_its_process(self) -> None:
+        node = Node(PLAIN, 1)
+        pid = node.pid
+        del node
+        gc.collect()
+        self.assertFalse(is_running(pid))
 
     def test_a_fault_of_the_user_ends_the_process(self) -> None:
         with self.assertRaises(ZeroDivisionError), Node(PLAIN, 1) as node:

@@ -1,16 +1,29 @@
 """What answers mean, and how texts are sent."""
 
 import unittest
+from pathlib import Path
+from tempfile import TemporaryDirectory
+from typing import Any
 
 import chrrep
-from chrrep import Id, Operation, atoms_of, pieces, refusals, store_text
-from chrrep.link.log import position_of
-from chrrep.texts import LINE_LIMIT, delta_of, line_of, summary_of, text_bytes, verdict_of
+from chrrep import Atom, Id, Operation, atoms_of, pieces, refusals, store_text
+from chrrep.link.log import Program, has_more, position_of, position_text, program_of, program_text
+from chrrep.texts import (
+    LINE_LIMIT,
+    changes_between,
+    delta_of,
+    found_in,
+    line_of,
+    program_bytes,
+    summary_of,
+    text_bytes,
+    verdict_of,
+)
 
 
 class Texts(unittest.TestCase):
     def test_stores(self) -> None:
-        rows = [
+        rows: list[tuple[str, tuple[Atom, ...]]] = [
             ("true", ()),
             ("coin", (("coin",),)),
             ("coin, coin, note", (("coin",), ("coin",), ("note",))),
@@ -27,6 +40,55 @@ class Texts(unittest.TestCase):
             with self.subTest(text), self.assertRaises(ValueError):
                 atoms_of(text)
 
+    def test_what_is_found_in_a_store(self) -> None:
+        store = "a, a(1), a(1,2), a(-1,2), a(-1,22), ab(1,2), b, b, a(12)"
+        rows: list[tuple[tuple[Any, ...], str]] = [
+            (("a",), "a, a(1), a(1,2), a(-1,2), a(-1,22), a(12)"),
+            (("a", None), "a(1), a(12)"),
+            (("a", 1), "a(1)"),
+            (("a", None, 2), "a(1,2), a(-1,2)"),
+            (("a", -1, None), "a(-1,2), a(-1,22)"),
+            (("a", None, None), "a(1,2), a(-1,2), a(-1,22)"),
+            (("a", None, None, None), "true"),
+            (("b",), "b, b"),
+            (("true",), "true"),
+            (("c",), "true"),
+            (("[a]",), "true"),
+        ]
+        for pattern, found in rows:
+            with self.subTest(pattern):
+                self.assertEqual(store_text(found_in(store, *pattern)), found)
+        self.assertEqual(found_in("true", "a"), ())
+        self.assertEqual(found_in("a", "a"), (("a",),))
+
+    def test_changes_between_stores(self) -> None:
+        rows = [
+            ("true", "true", "true", "true"),
+            ("true", "a, b(1,2)", "a, b(1,2)", "true"),
+            ("a, a, b(1,2)", "true", "true", "a, a, b(1,2)"),
+            ("a, a, b(1,2)", "a, b(1,3), c", "b(1,3), c", "a, b(1,2)"),
+        ]
+        for before, after, came, went in rows:
+            with self.subTest(before=before, after=after):
+                self.assertEqual(tuple(map(store_text, changes_between(before, after))), (came, went))
+
+    def test_programs_in_files(self) -> None:
+        with TemporaryDirectory() as room:
+            path = Path(room) / "program.chr"
+            for text, program in (
+                (b"a.\n---\n[1]\n---\n", b"a.\n"),
+                (b"a.\r\n---\r\nb.", b"a.\r\n"),
+                (b"---", b""),
+                (b"a.\n--- \n ---\nb\xff", b"a.\n--- \n ---\nb\xff"),
+            ):
+                path.write_bytes(text)
+                with self.subTest(text), path.open("rb") as file:
+                    self.assertEqual([program_bytes(path), program_bytes(file)], [program] * 2)
+            path.write_text("\u00e9\n---")
+            with path.open() as written:
+                self.assertEqual(program_bytes(written), "\u00e9\n".encode())
+        self.assertEqual(program_bytes("a.\n---\nb."), b"a.\n---\nb.")
+
     def test_summaries_and_deltas(self) -> None:
         self.assertEqual(summary_of("[]"), ())
         self.assertEqual(summary_of("[[5,[[1,3],[9,9]]]]"), ((5, ((1, 3), (9, 9))),))
@@ -35,9 +97,24 @@ class Texts(unittest.TestCase):
         self.assertEqual(delta_of('[[[5,9],[["a",-1],["a",2]]]]'), (operation,))
         self.assertEqual(line_of([operation]), b'[[[5,9],[["a",-1],["a",2]]]]\n')
 
-    def test_positions(self) -> None:
-        summary = ((1, ((1, 3), (5, 9))), (2, ((0, 4),)), (3, ((2, 7),)), (4, ()))
-        self.assertEqual(position_of(summary), {1: 3, 2: 4})
+    def test_what_a_log_keeps(self) -> None:
+        position = {7: 2**63 - 1, 0: 4}
+        self.assertEqual(position_text(position), "[[0,4],[7,9223372036854775807]]")
+        self.assertEqual(position_of(position_text(position)), position)
+        for text in (b"", b"% \xff\x00\r\n", "% \u00e9\U0001f600".encode(), bytes(range(256))):
+            for program in (Program(text, True), Program(text, False)):
+                kept = program_text(program)
+                self.assertTrue(kept.isascii() and kept.isprintable())
+                self.assertEqual(program_of(kept), program)
+
+    def test_which_positions_have_more(self) -> None:
+        self.assertTrue(has_more({1: 3}, {}))
+        self.assertTrue(has_more({1: 3, 2: 1}, {1: 2, 2: 5}))
+        rows: list[tuple[dict[int, int], dict[int, int]]] = [
+            ({}, {1: 1}), ({1: 3}, {1: 3}), ({1: 3}, {1: 4, 2: 1}), ({1: 0}, {})
+        ]  # fmt: skip
+        for one, other in rows:
+            self.assertFalse(has_more(one, other))
 
     def test_a_line_in_a_text_does_not_end_it(self) -> None:
         self.assertEqual(text_bytes("a.\n---\n---x\n--- \n---\r\nb."), b"a.\n ---\n---x\n--- \n ---\r\nb.")

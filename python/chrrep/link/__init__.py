@@ -1,19 +1,47 @@
-"""Nodes that exchange their operations over an engine: Redis Streams or PostgreSQL.
+"""Nodes that share their operations by a log: in a file, in Redis Streams or in PostgreSQL.
 
-The engine keeps all operations of a group of nodes: it is their log. A `Link` reads and appends there; a `Member` is a
+The log keeps the operations of a group of nodes and their program. A `Link` reads and appends there; a `Member` is a
 node whose operations go through it.
 
-    from chrrep import Node
-    from chrrep.link import Member, connect
-    with Node(program, origin=3) as node, connect("redis://127.0.0.1:6379/0", origin=3) as link:
-        member = Member(node, link)
+    from chrrep.link import join
+    with join("sqlite:///routes.sqlite", program) as member:
         member.tell(("path", 1, 2, 7))
         print(member.show())
 
 `python -m chrrep.link --help` is such a node as a command.
 """
 
-from .log import Entry, Link, LinkLost, OriginShared, Position, connect, position_of
-from .member import Member
+from .faults import (
+    Diverged,
+    LinkLost,
+    LogUnusable,
+    NewerFormat,
+    NoProgram,
+    OriginShared,
+    OtherProgram,
+    ProgramChanged,
+)
+from .log import Entry, Link, Mark, Position, Program, Reading, SetAside, State, connect
+from .member import Member, join
 
-__all__ = ["Entry", "Link", "LinkLost", "Member", "OriginShared", "Position", "connect", "position_of"]
+__all__ = [
+    "Diverged",
+    "Entry",
+    "Link",
+    "LinkLost",
+    "LogUnusable",
+    "Mark",
+    "Member",
+    "NewerFormat",
+    "NoProgram",
+    "OriginShared",
+    "OtherProgram",
+    "Position",
+    "Program",
+    "ProgramChanged",
+    "Reading",
+    "SetAside",
+    "State",
+    "connect",
+    "join",
+]

@@ -1,40 +1,43 @@
-"""A node as a command, which exchanges its operations over an engine.
+"""A node as a command, which shares its operations with others by a log.
 
-Standard input has a line of atoms, `path(1,2,7), path(2,3,1)`, for each operation to tell, and the line `?` to show the
-store. Each is answered by a line: `told ORIGIN:NUMBER` once the operation is in the log, the store, or what was
-refused. In between the node follows the log. It ends with its input.
+Standard input has a line of atoms, `path(1,2,7), path(rome,"São Paulo",1)`, for each operation to tell, and the line
+`?` to show the store. Each is answered by a line: `told ORIGIN:NUMBER` once the operation is in the log, the store, or
+what was refused. In between the node follows the log. It ends with its input.
 """
 
 import argparse
 import os
 import sys
 import threading
-from collections.abc import Iterator
+from collections.abc import Callable, Iterator
 from pathlib import Path
+from typing import TypeVar
 
-from .. import BadLine, Node, Refused, Shape, UnknownSymbol, atoms_of, store_text
-from .log import LOG_NAME, PATIENCE, connect
-from .member import Member
+from .. import Atom, Refused, RefusedProgram
+from ..names import NameClash, named_atoms_of
+from .faults import ProgramChanged
+from .log import LOG_NAME, PATIENCE
+from .member import BATCH, SNAPSHOT_AFTER, Member, join
+from .sqlite import PREFIX
 
 ACCEPTED, REFUSED, FAULT, INTERRUPTED = 0, 1, 3, 130
 _STANDARD_INPUT = 0
 _CHUNK = 65_536
 _LOOK_SECONDS = 0.2
 
+T = TypeVar("T")
+
 
 def main(words: list[str] | None = None) -> int:
     """Runs the command, and gives its exit status: 0 at the input's end, 1 for a refused program, 3 for a fault."""
     settings = _settings(words)
     try:
-        try:
-            node = Node(settings.program.read_bytes(), settings.origin, wide=settings.wide)
-        except Refused as refusal:
-            print(f"chrrep.link: the program is refused: {refusal}", file=sys.stderr)
-            return REFUSED
-        with node, connect(settings.engine, settings.origin, log=settings.log, patience=settings.patience) as link:
-            _converse(Member(node, link))
+        _run(settings)
     except KeyboardInterrupt:
         return INTERRUPTED
+    except RefusedProgram as refusal:
+        print(f"chrrep.link: the program is refused: {refusal}", file=sys.stderr)
+        return REFUSED
     except Exception as fault:  # those of the engine's client too
         print(f"chrrep.link: {type(fault).__name__}: {fault}", file=sys.stderr)
         return FAULT
@@ -46,14 +49,44 @@ def _settings(words: list[str] | None) -> argparse.Namespace:
         prog="python -m chrrep.link", description=__doc__, formatter_class=argparse.RawDescriptionHelpFormatter
     )
     add = parser.add_argument
-    add("--engine", required=True, metavar="URL", help="redis://HOST:PORT/DB or postgresql://USER@HOST:PORT/DB")
-    add("--origin", required=True, type=int, metavar="N", help="this node's number, which no other node has")
+    engines = "sqlite:///PATH, redis://HOST:PORT/DB or postgresql://USER@HOST:PORT/DB"
+    add("--engine", metavar="URL", help=f"{engines}; left out, a file in the folder .chrrep beside the program text")
+    add("--origin", type=int, metavar="N", help="this node's number, which no other has; left out, one is allotted")
     add("--log", default=LOG_NAME, metavar="NAME", help=f"the log's name in the engine ({LOG_NAME})")
     away = f"how long the engine may be away ({PATIENCE:.0f})"
     add("--patience", default=PATIENCE, type=float, metavar="SECONDS", help=away)
     add("--wide", action="store_true", help="judge the program by sorted cases, which decide more programs")
-    add("program", type=Path, metavar="PROGRAM", help="the file of the program text")
-    return parser.parse_args(words)
+    after = f"atoms that are told from one snapshot to the next ({SNAPSHOT_AFTER})"
+    add("--snapshot-after", default=SNAPSHOT_AFTER, type=int, metavar="N", help=after)
+    add("--upgrade", type=Path, metavar="NEW", help="have the log go over to this program text, and end")
+    add("program", nargs="?", type=Path, metavar="PROGRAM", help="the file of the program text; left out, the log's")
+    settings = parser.parse_args(words)
+    if settings.upgrade and settings.program:
+        parser.error("with --upgrade NEW the log has the PROGRAM")
+    if not (settings.engine or settings.program or settings.upgrade):
+        parser.error("without a PROGRAM the log is to be named: --engine URL")
+    return settings
+
+
+def _run(settings: argparse.Namespace) -> None:
+    engine = settings.engine or _beside(settings.program or settings.upgrade)
+    options = {name: getattr(settings, name) for name in ("origin", "log", "patience", "snapshot_after")}
+    is_wide = None if settings.upgrade else settings.wide or None
+    with join(engine, settings.program, wide=is_wide, **options) as member:
+        if not settings.engine:
+            print(f"chrrep.link: the log is {engine}, and this node's origin {member.origin}", file=sys.stderr)
+        if settings.upgrade:
+            member.upgrade(settings.upgrade, wide=settings.wide)
+            _say(f"upgraded: rules {member.verdict.rules}, cases {member.verdict.cases}")
+        else:
+            _converse(member)
+
+
+def _beside(program: Path) -> str:
+    """The address of the log in the folder `.chrrep` beside a program text, which is made where it isn't there."""
+    folder = program.resolve().parent / ".chrrep"
+    folder.mkdir(exist_ok=True)
+    return f"{PREFIX}{folder / program.stem}.sqlite"
 
 
 def _converse(member: Member) -> None:
@@ -63,8 +96,8 @@ def _converse(member: Member) -> None:
 
     def answer_all() -> None:
         try:
-            for line in _lines():
-                _answer(member, line)
+            for lines in _lines():
+                _answer(member, lines)
         except BaseException as failure:
             failures.append(failure)
         finally:
@@ -72,33 +105,76 @@ def _converse(member: Member) -> None:
 
     threading.Thread(target=answer_all, daemon=True).start()
     while not over.is_set():
-        member.follow(_LOOK_SECONDS)
+        _going_over(member, lambda: member.follow(_LOOK_SECONDS))
     if failures:
         raise failures[0]
 
 
-def _answer(member: Member, line: str) -> None:
-    if not line.strip():
-        return
-    try:
-        if line.strip() == "?":
-            answer = store_text(member.show())
+def _answer(member: Member, lines: list[str]) -> None:
+    """Answers lines that came at once. Operations that follow each other are told together."""
+    tells: list[tuple[Atom, ...]] = []
+    for line in filter(None, map(str.strip, lines)):
+        if line == "?":
+            _tell(member, tells)
+            _say(_going_over(member, member.show_text))
+            continue
+        try:
+            tells.append(named_atoms_of(line))
+        except ValueError as fault:
+            _tell(member, tells)
+            _say(f"refused: {fault}")
+    _tell(member, tells)
+
+
+def _tell(member: Member, tells: list[tuple[Atom, ...]]) -> None:
+    """Tells operations, each by itself where they aren't taken together, and forgets them."""
+    for at in range(0, len(tells), BATCH):
+        batch = tells[at:at + BATCH]
+        try:
+            ids = _going_over(member, lambda batch=batch: member.tell_many(batch))  # type: ignore[misc]
+        except (Refused, NameClash):
+            for atoms in batch:
+                _tell_one(member, atoms)
         else:
-            id = member.tell(*atoms_of(line))
-            answer = f"told {id.origin}:{id.number}"
-    except (BadLine, Shape, UnknownSymbol, ValueError) as refusal:
-        answer = f"refused: {refusal}"
-    print(answer, flush=True)
+            _say("".join(f"told {id.origin}:{id.number}\n" for id in ids)[:-1])
+    tells.clear()
 
 
-def _lines() -> Iterator[str]:
+def _tell_one(member: Member, atoms: tuple[Atom, ...]) -> None:
+    try:
+        id = _going_over(member, lambda: member.tell(*atoms))
+    except (Refused, NameClash) as refusal:
+        _say(f"refused: {refusal}")
+    else:
+        _say(f"told {id.origin}:{id.number}")
+
+
+def _going_over(member: Member, call: Callable[[], T]) -> T:
+    """The call's result, once the member goes on with the log's program."""
+    while True:
+        try:
+            return call()
+        except ProgramChanged:
+            # another thread may have been faster
+            if member.rejoin():
+                program = f"rules {member.verdict.rules}, cases {member.verdict.cases}"
+                print(f"chrrep.link: the log went over to another program: {program}", file=sys.stderr)
+
+
+def _say(answer: str) -> None:
+    # as the input is read, whatever the locale is
+    sys.stdout.buffer.write(answer.encode() + b"\n")
+    sys.stdout.buffer.flush()
+
+
+def _lines() -> Iterator[list[str]]:
     """The input's lines as they come. Read by the descriptor, so that a fault can end the program while it waits."""
     rest = b""
     while chunk := os.read(_STANDARD_INPUT, _CHUNK):
         *whole, rest = (rest + chunk).split(b"\n")
-        yield from (line.decode(errors="replace") for line in whole)
+        yield [line.decode(errors="replace") for line in whole]
     if rest:
-        yield rest.decode(errors="replace")
+        yield [rest.decode(errors="replace")]
 
 
 if __name__ == "__main__":

@@ -1,0 +1,67 @@
+"""What goes wrong between a node and its log."""
+
+from ..refusals import ChrrepError
+
+
+class LinkLost(ChrrepError):
+    """The engine didn't answer for as long as the link was patient, or it has lost operations. Operations that were
+    being appended may be in the log."""
+
+
+class LogUnusable(ChrrepError):
+    """The log can't be used as it is: its file can't be opened or written, is damaged, or was taken away."""
+
+
+class NewerFormat(ChrrepError):
+    """The log was written by a later version of this package."""
+
+    def __init__(self, format: int) -> None:
+        super().__init__(f"the log has format {format}, which this version of chrrep doesn't know")
+
+
+class OriginShared(ChrrepError):
+    """Another node has this origin. What that one appended stays; what this node was to append isn't in the log."""
+
+    def __init__(self, origin: int) -> None:
+        self.origin = origin
+        super().__init__(f"origin {origin} is another node's: each needs its own")
+
+
+class NoProgram(ChrrepError):
+    """A log that has no program yet, and a member that brought none."""
+
+    def __init__(self) -> None:
+        super().__init__("the log has no program yet: its first member brings one")
+
+
+class OtherProgram(ChrrepError):
+    """The member brought another program than the log's. Nothing was appended."""
+
+    def __init__(self, ours: bytes, theirs: bytes) -> None:
+        self.ours, self.theirs = ours, theirs
+        super().__init__(f"the log has another program: {_first_difference(ours, theirs)}")
+
+
+class ProgramChanged(ChrrepError):
+    """The log went over to another program. What this member was to append isn't in the log; a new member goes on."""
+
+    def __init__(self) -> None:
+        super().__init__("the log went over to another program: join it again")
+
+
+class Diverged(ChrrepError):
+    """At one position of the log this member's store at rest, `ours`, is not the snapshot's, `theirs`."""
+
+    def __init__(self, position: dict[int, int], ours: str, theirs: str) -> None:
+        self.position, self.ours, self.theirs = position, ours, theirs
+        super().__init__(f"two stores at position {position}: here {ours[:60]}, in the log {theirs[:60]}")
+
+
+def _first_difference(ours: bytes, theirs: bytes) -> str:
+    """Where two texts differ first, in words."""
+    if ours == theirs:
+        return "the texts are one, but one of them is judged with --wide"
+    here, there = (text.decode(errors="replace").split("\n") for text in (ours, theirs))
+    place = next((at for at, pair in enumerate(zip(here, there)) if pair[0] != pair[1]), min(len(here), len(there)))
+    said = (repr(lines[place][:80]) if place < len(lines) else "not there" for lines in (here, there))
+    return f"line {place + 1} is {next(said)} here and {next(said)} in the log"

@@ -1,0 +1,145 @@
+"""A node's process that goes on from a store, and is renewed before it is full."""
+
+import json
+import os
+from collections.abc import Iterable, Iterator, Sequence
+from typing import NamedTuple
+
+from ..node import Node
+from ..refusals import Full, Refused
+from ..texts import OPERATION_LIMIT, TOLD_LIMIT, Atom, Id, OperationText, Written, atoms_of, atoms_text, text_pieces
+from .log import LAST_ORIGIN, Entry, Position, Program, SetAside
+
+ROOM_FOR_OTHERS = 100_000
+"""Atoms of the limit that no member fills by what it tells, so that what all tell at once fits in."""
+
+_STORE_ORIGIN = LAST_ORIGIN + 1
+
+
+class Taken(NamedTuple):
+    """What became of entries: how many operations were taken, their atoms, and what was refused."""
+
+    operations: int
+    atoms: int
+    refused: list[SetAside]
+
+
+class Replica:
+    """The store of all operations up to a position, by a node of its own.
+
+    The node holds the operations that it was told, 1,000,000 atoms at most. Before they are too many it is ended, and
+    another one goes on from its store at rest: resting parts of a store and merging them gives the store of the whole.
+    """
+
+    def __init__(self, program: Program, chrrep: str | os.PathLike[str] | None = None) -> None:
+        self.program = program
+        self.position: dict[int, int] = {}
+        self.told = 0
+        self._begun_with = 0
+        self._chrrep = chrrep
+        self.node = self._new_node()
+
+    def begin(self, position: Position, store: str) -> None:
+        """Goes on from a store, which stands for all operations up to a position."""
+        atoms = atoms_of(store)
+        node = self._new_node()
+        try:
+            for part in text_pieces(_operations_of(atoms)):
+                node.merge_texts(part)
+        except BaseException:
+            node.close()
+            raise
+        self.node.close()
+        self.node, self.position = node, dict(position)
+        self.told = self._begun_with = len(atoms)
+
+    def admit(self, entries: Sequence[Entry]) -> None:
+        """Raises what the program refuses of entries that are to be told, `Full` among it; changes nothing."""
+        for part in text_pieces(entries):
+            self.node.admit_texts(part)
+        self._make_room(_count_atoms(entries), TOLD_LIMIT - ROOM_FOR_OTHERS)
+
+    def take(self, entries: Iterable[Entry]) -> Taken:
+        """Takes in the entries that are beyond the position, each once; what can't be taken is passed over.
+
+        They may come in any order, but none of an origin may be missing before the greatest.
+        """
+        operations = atoms = 0
+        refused: list[SetAside] = []
+        for part in text_pieces(self._beyond(entries)):
+            bad = self._merge(part)
+            refused += bad
+            operations += len(part) - len(bad)
+            atoms += _count_atoms(part) - _count_atoms(entry for entry, _ in bad)
+            self.position |= {entry.id.origin: entry.id.number for entry in part}
+        return Taken(operations, atoms, refused)
+
+    def show(self) -> str:
+        """The store at rest, as it is printed."""
+        return self.node.show_text()
+
+    def close(self) -> None:
+        """Ends the node."""
+        self.node.close()
+
+    def _new_node(self) -> Node:
+        return Node(self.program.text, _STORE_ORIGIN, chrrep=self._chrrep, wide=self.program.is_wide)
+
+    def _beyond(self, entries: Iterable[Entry]) -> list[Entry]:
+        """Those beyond the position, each once, by their ids."""
+        new: dict[Id, Entry] = {}
+        for entry in entries:
+            if entry.id.number > self.position.get(entry.id.origin, 0):
+                new.setdefault(entry.id, entry)
+        return [new[id] for id in sorted(new)]
+
+    def _merge(self, part: list[Entry]) -> list[SetAside]:
+        """Has the node merge entries, and gives those that are no operations or that it refuses."""
+        faults = [(entry, _fault_of(entry)) for entry in part]
+        refused = [SetAside(entry, fault) for entry, fault in faults if fault]
+        return refused + self._merge_readable([entry for entry, fault in faults if not fault])
+
+    def _merge_readable(self, part: list[Entry]) -> list[SetAside]:
+        count = _count_atoms(part)
+        try:
+            if self.told + count > TOLD_LIMIT:
+                # what is refused needs no room
+                self.node.admit_texts(part)
+                self._make_room(count, TOLD_LIMIT)
+            self.node.merge_texts(part)
+        except Refused as refusal:
+            if len(part) > 1:
+                half = len(part) // 2
+                return self._merge_readable(part[:half]) + self._merge_readable(part[half:])
+            if isinstance(refusal, Full):
+                raise
+            return [SetAside(part[0], str(refusal))]
+        self.told += count
+        return []
+
+    def _make_room(self, atoms: int, limit: int) -> None:
+        """Renews the node where so many atoms more would pass the limit. `Full` where its store alone is so large."""
+        if self.told + atoms > limit and self.told > self._begun_with:
+            self.begin(self.position, self.show())
+        if self.told + atoms > limit:
+            raise Full(f"the store at rest has {self.told} atoms, and {atoms} more would pass {limit}")
+
+
+def _fault_of(entry: Entry) -> str | None:
+    """What keeps the text of an entry from being sent as a part of a line; None where nothing does."""
+    try:
+        json.loads(entry.atoms)
+    except (ValueError, RecursionError) as fault:
+        return f"no atoms: {fault}"
+    return None if entry.atoms.isprintable() and entry.atoms.isascii() else "no atoms: not compact ASCII"
+
+
+def _count_atoms(entries: Iterable[Written]) -> int:
+    """The atoms of entries that a node takes: arrays within one array."""
+    return sum(entry.atoms.count("[") - 1 for entry in entries)
+
+
+def _operations_of(atoms: Sequence[Atom]) -> Iterator[OperationText]:
+    """Operations that together tell the atoms of a store."""
+    for number, start in enumerate(range(0, len(atoms), OPERATION_LIMIT), 1):
+        yield OperationText(Id(_STORE_ORIGIN, number), atoms_text(atoms[start:start + OPERATION_LIMIT]))

@@ -1,0 +1,115 @@
+"""Names as arguments: text, for which a number stands.
+
+The number is made of the name alone, so that nodes need not agree on anything first: 63 bits of the BLAKE2b hash of its
+UTF-8 bytes. Names are equal where their numbers are. The order of the numbers says nothing of the names: where a rule
+compares arguments by an order, tell numbers.
+"""
+
+import hashlib
+import json
+import re
+from collections.abc import Iterable
+
+from .refusals import ChrrepError
+from .texts import Atom
+
+_BARE = re.compile(r"[a-z][A-Za-z0-9_]*", re.ASCII)
+_ARGUMENT = r'-?[0-9]+|[a-z][A-Za-z0-9_]*|"(?:[^"\\]|\\.)*"'
+_ARGUMENTS = re.compile(_ARGUMENT, re.ASCII)
+_ATOM = re.compile(
+    rf"\s*([a-z][A-Za-z0-9_]*)\s*(?:\(\s*((?:{_ARGUMENT})(?:\s*,\s*(?:{_ARGUMENT}))*)\s*\))?\s*(,|\Z)", re.ASCII
+)
+
+
+class NameClash(ChrrepError):
+    """Two names have one number. Nothing was told."""
+
+    def __init__(self, number: int, names: tuple[str, str]) -> None:
+        self.number, self.names = number, names
+        super().__init__(f"the names {names[0]!r} and {names[1]!r} have one number, {number}: change one of them")
+
+
+def check_name(number: int, name: str, other: str) -> None:
+    """Raises `NameClash` where a number has another name."""
+    if name != other:
+        raise NameClash(number, (other, name))
+
+
+def number_of(name: str) -> int:
+    """The number that stands for a name. UnicodeEncodeError where it is no text of Unicode."""
+    return int.from_bytes(hashlib.blake2b(name.encode(), digest_size=8).digest(), "big") >> 1
+
+
+class Names:
+    """The names that are known, each by its number."""
+
+    def __init__(self) -> None:
+        self._names: dict[int, str] = {}
+
+    def __len__(self) -> int:
+        return len(self._names)
+
+    def learn(self, names: Iterable[tuple[int, str]]) -> None:
+        """Takes in names. Raises `NameClash`."""
+        for number, name in names:
+            check_name(number, name, self._names.setdefault(number, name))
+
+    def new_in(self, atoms: Iterable[Atom]) -> dict[int, str]:
+        """The names among the arguments of atoms that are not known yet. Raises `NameClash`."""
+        new: dict[int, str] = {}
+        for _, *arguments in atoms:
+            for name in arguments:
+                if isinstance(name, str):
+                    number = number_of(name)
+                    known = self._names.get(number)
+                    check_name(number, name, new.setdefault(number, name) if known is None else known)
+        return new
+
+    def named(self, atoms: Iterable[Atom]) -> tuple[Atom, ...]:
+        """The atoms with names in the place of their numbers."""
+        known = self._names
+        if not known:
+            return tuple(atoms)
+        return tuple((symbol, *(known.get(int(value), value) for value in rest)) for symbol, *rest in atoms)
+
+
+def numbered(atom: Atom) -> Atom:
+    """The atom with numbers in the place of its names. What is no atom is left as it is."""
+    if not isinstance(atom, (tuple, list)) or not atom:
+        return atom
+    symbol, *arguments = atom
+    return (symbol, *(number_of(value) if isinstance(value, str) else value for value in arguments))
+
+
+def named_atoms_of(text: str) -> tuple[Atom, ...]:
+    """The atoms of a line: `path(berlin,"São Paulo",1050), coin`, in its order. ValueError where it has none."""
+    atoms: list[Atom] = []
+    at, more = 0, ","
+    while more:
+        found = _ATOM.match(text, at)
+        if not found:
+            raise ValueError(f"no atom at byte {at} of {text[:80]!r}")
+        atoms.append((found[1], *map(_argument_of, _ARGUMENTS.findall(found[2] or ""))))
+        at, more = found.end(), found[3]
+    return tuple(atoms)
+
+
+def named_text(atoms: Iterable[Atom]) -> str:
+    """The atoms as a line, which `named_atoms_of` reads back; `true` where there are none."""
+    shown = (f"{symbol}({','.join(map(_argument_text, rest))})" if rest else str(symbol) for symbol, *rest in atoms)
+    return ", ".join(shown) or "true"
+
+
+def _argument_of(text: str) -> str | int:
+    if text[0] == '"':
+        name = str(json.loads(text))
+        # a lone surrogate is no text, and has no number
+        number_of(name)
+        return name
+    return text if text[0].isalpha() else int(text)
+
+
+def _argument_text(argument: str | int) -> str:
+    if isinstance(argument, int) or _BARE.fullmatch(argument):
+        return str(argument)
+    return json.dumps(argument, ensure_ascii=False)

@@ -1,0 +1,163 @@
+"""Members of a log in a file, and what becomes of files."""
+
+import os
+import sqlite3
+import subprocess
+import sys
+import threading
+import unittest
+from collections.abc import Callable
+from contextlib import closing
+from pathlib import Path
+from tempfile import TemporaryDirectory
+
+import links
+from chrrep.link import LinkLost, LogUnusable, connect, join
+from engines import Embedded
+from programs import COINS, PATHS, PLAIN
+
+
+class SqliteLinks(links.Everything, links.Leases):
+    kind = Embedded
+
+
+class Files(unittest.TestCase):
+    def setUp(self) -> None:
+        room = TemporaryDirectory()
+        self.addCleanup(room.cleanup)
+        self.room = Path(room.name)
+        self.path = self.room / "log.sqlite"
+        self.url = f"sqlite:///{self.path}"
+
+    def test_addresses(self) -> None:
+        for url in ("sqlite:", "sqlite://", "sqlite:///", "sqlite://host/path", "mysql://host", "x", ""):
+            with self.subTest(url=url), self.assertRaises(ValueError):
+                connect(url)
+        before = Path.cwd()
+        os.chdir(self.room)
+        try:
+            with join("sqlite:///here.sqlite", PLAIN) as member:
+                os.chdir("/")
+                member.tell(("a", 1))
+        finally:
+            os.chdir(before)
+        with join(f"sqlite:///{self.room}/here.sqlite") as member:
+            self.assertEqual(member.show(), (("a", 1),))
+
+    def test_files_that_cannot_be_used(self) -> None:
+        damaged, folder = self.room / "damaged", self.room / "folder"
+        damaged.write_bytes(b"no log at all, but some text in its place" * 100)
+        folder.mkdir()
+        for path in (damaged, folder, self.room / "missing" / "log", Path("/proc/log")):
+            with self.subTest(path=path), self.assertRaisesRegex(LogUnusable, str(path)):
+                connect(f"sqlite:///{path}", patience=0.2)
+        self.assertIn(b"no log at all", damaged.read_bytes())
+
+    def test_a_file_that_is_damaged_while_it_is_used(self) -> None:
+        with join(self.url, PLAIN) as member:
+            member.tell_many([[("a", value)] for value in range(2000)])
+        size = self.path.stat().st_size
+        with join(self.url) as member:
+            with open(self.path, "r+b") as file:
+                file.seek(4096)
+                file.write(os.urandom(size - 4096))
+            with self.assertRaises(LogUnusable):
+                for value in range(2000):
+                    member.tell(("a", value))
+                    with join(self.url):
+                        pass
+
+    def test_a_file_that_is_taken_away(self) -> None:
+        with join(self.url, PLAIN) as member:
+            member.tell(("a", 1))
+            self.path.rename(self.room / "elsewhere")
+            calls: list[Callable[[], object]] = [member.follow, member.show, lambda: member.tell(("a", 2))]
+            for call in calls:
+                with self.assertRaisesRegex(LogUnusable, "is gone"):
+                    call()
+            (self.room / "elsewhere").rename(self.path)
+            member.tell(("a", 3))
+            self.assertEqual(member.show(), (("a", 1), ("a", 3)))
+            self.path.rename(self.room / "elsewhere")
+            self.path.touch()
+            with self.assertRaisesRegex(LogUnusable, "in the place of"):
+                member.tell(("a", 4))
+
+    def test_a_file_that_is_locked(self) -> None:
+        locks = sqlite3.connect(self.path, isolation_level=None, check_same_thread=False)
+        with closing(locks), join(self.url, PLAIN, patience=0.5) as member:
+            member.tell(("a", 1))
+            locks.execute("BEGIN IMMEDIATE")
+            with self.assertRaisesRegex(LinkLost, "locked"):
+                member.tell(("a", 2))
+            self.assertEqual(member.show(), (("a", 1),))
+            release = threading.Timer(0.2, locks.rollback)
+            release.start()
+            self.assertEqual(member.tell(("a", 3)).number, 2)
+            release.join()
+            self.assertEqual(member.show(), (("a", 1), ("a", 3)))
+
+    def test_a_disk_that_is_full(self) -> None:
+        with join(self.url, PLAIN) as member:
+            engine = member.link._engine  # type: ignore[attr-defined]
+            member.tell(("a", 1))
+            engine.execute(f"PRAGMA max_page_count = {engine.execute('PRAGMA page_count').fetchone()[0]}")
+            with self.assertRaisesRegex(LogUnusable, "full"):
+                member.tell_many([[("a", value)] for value in range(2000)])
+            self.assertEqual(member.show(), (("a", 1),))
+            engine.execute("PRAGMA max_page_count = 100000")
+            self.assertEqual(member.tell(("a", 2)).number, 2)
+            self.assertEqual(member.show(), (("a", 1), ("a", 2)))
+
+    def test_what_is_acknowledged_is_on_disk(self) -> None:
+        with join(self.url, PLAIN) as member:
+            for pragma, value in (("synchronous", 2), ("journal_mode", "wal")):
+                self.assertEqual(member.link._ask(f"PRAGMA {pragma}"), [(value,)])  # type: ignore[attr-defined]
+
+    def test_a_copy_is_a_log_of_its_own(self) -> None:
+        with join(self.url, PLAIN) as member:
+            member.tell(("a", 1))
+            with closing(sqlite3.connect(self.path)) as source, closing(sqlite3.connect(self.room / "copy")) as copy:
+                source.backup(copy)
+            member.tell(("a", 2))
+        with join(f"sqlite:///{self.room}/copy", PLAIN) as member:
+            self.assertEqual(member.show(), (("a", 1),))
+
+
+class DefaultLog(unittest.TestCase):
+    """The command with a program text alone."""
+
+    def setUp(self) -> None:
+        room = TemporaryDirectory()
+        self.addCleanup(room.cleanup)
+        self.program = Path(room.name) / "routes.chr"
+        self.program.write_text(PATHS)
+
+    def run_command(self, *words: str | Path, said: str = "", status: int = 0) -> tuple[str, str]:
+        env = {**os.environ, "PYTHONPATH": str(links.PACKAGE), "PYTHONDONTWRITEBYTECODE": "1"}
+        command = [sys.executable, "-m", "chrrep.link", *map(str, words)]
+        ended = subprocess.run(command, input=said, capture_output=True, text=True, env=env, timeout=60, check=False)
+        self.assertEqual(ended.returncode, status, ended.stderr)
+        return ended.stdout, ended.stderr
+
+    def test_a_log_beside_the_program(self) -> None:
+        url = f"sqlite:///{self.program.parent}/.chrrep/routes.sqlite"
+        told = self.run_command(self.program, said="path(1,2,7), path(1,3,4)\n")
+        self.assertEqual(told, ("told 1:1\n", f"chrrep.link: the log is {url}, and this node's origin 1\n"))
+        again = self.run_command(self.program, said="path(1,2,5)\n?")[0]
+        self.assertEqual(again, "told 1:2\npath(1,2,5), path(1,3,4)\n")
+        # without a program it is the log's
+        self.assertEqual(self.run_command("--engine", url, said="?"), ("path(1,2,5), path(1,3,4)\n", ""))
+        self.program.write_text(COINS)
+        out, err = self.run_command(self.program, said="coin\n", status=3)
+        self.assertEqual((out, err.count("\n"), err.startswith("chrrep.link: OtherProgram: ")), ("", 1, True))
+
+    def test_words_that_are_no_command(self) -> None:
+        self.assertIn("--engine URL", self.run_command(status=2)[1])
+        self.assertIn("NoProgram", self.run_command("--engine", f"sqlite:///{self.program}.log", status=3)[1])
+        self.assertIn("ValueError", self.run_command("--engine", "mysql://x", self.program, status=3)[1])
+
+    def test_a_folder_that_cannot_be_written(self) -> None:
+        (self.program.parent / ".chrrep").write_text("in its way")
+        out, err = self.run_command(self.program, said="path(1,2,3)\n", status=3)
+        self.assertEqual((out, err.count("\n"), "FileExistsError" in err), ("", 1, True))
