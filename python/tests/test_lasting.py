@@ -18,7 +18,7 @@ if __name__ == "__main__":
 from chrrep import Atom
 from chrrep.link import Member, connect, join
 
-OPERATIONS = int(os.environ.get("CHRREP_OPERATIONS", "1000000"))
+OPERATIONS = int(os.environ.get("CHRREP_OPERATIONS", "200000"))
 TELLERS = 2
 BATCH = 1000
 SECONDS = 3600.0
@@ -42,6 +42,10 @@ def told(teller: int, at: int) -> Atom:
     return ("path", at % 70, teller, (at * 7919) % 100_003)
 
 
+def bits_of(counted: int) -> list[int]:
+    return [bit for bit in range(BITS) if counted >> bit & 1]
+
+
 def store_of_all(count: int) -> list[Atom]:
     """The store of all operations, worked out without any rules."""
     paths: dict[tuple[str | int, ...], int] = {}
@@ -53,7 +57,7 @@ def store_of_all(count: int) -> list[Atom]:
                 counted += 1
             else:
                 paths[atom[:3]] = min(int(atom[3]), paths.get(atom[:3], 2**62))
-    bits: list[Atom] = [(f"b{bit}",) for bit in range(BITS) if counted >> bit & 1]
+    bits: list[Atom] = [(f"b{bit}",) for bit in bits_of(counted)]
     return sorted([*bits, *((*key, least) for key, least in paths.items())], key=str)
 
 
@@ -91,6 +95,19 @@ class Lasting(unittest.TestCase):
         self.assertGreaterEqual(len(nodes), 1 + OPERATIONS // 1_100_000)
         print(f"{OPERATIONS} operations: {disk >> 20} MB on disk and {memory >> 20} MB of memory at most, ", end="")
         print(f"{len(nodes)} nodes here one after the other, {generation} snapshots")
+
+    def test_more_atoms_than_a_node_can_be_told(self) -> None:
+        """The node is renewed before it has been told 1,000,000, and counts on."""
+        batches, atoms = 18, 64
+        with TemporaryDirectory() as room, join(f"sqlite:///{room}/log.sqlite", COUNTED) as member:
+            nodes = {member.pid}
+            for _ in range(batches):
+                member.tell_many([[("b0",)] * atoms] * BATCH)
+                nodes.add(member.pid)
+            counted = batches * BATCH * atoms
+            self.assertGreater(counted, 1_000_000)
+            self.assertEqual(member.show(), tuple((f"b{bit}",) for bit in sorted(bits_of(counted), key=str)))
+            self.assertEqual(len(nodes), 2)
 
     def watch(self, member: Member, tellers: list[subprocess.Popen[bytes]], room: Path) -> tuple[int, int, set[int]]:
         """Follows while they tell, and gives the most bytes on disk and of a node that were seen, and which nodes."""
