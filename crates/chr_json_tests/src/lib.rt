@@ -1,0 +1,5 @@
+//! Tests of command lines. There is nothing here but tests.
+#![tactic(auto)]
+
+#[cfg(test)]
+mod tests;

@@ -1,0 +1,158 @@
+//! Tells that are read straight from their bytes, and lines that are read by their JSON values. The names of the first
+//! are borrowed from the line, and those of the others are not.
+use chr_json::{Command, RawAtom, read_line};
+use std::alloc::Global;
+use std::borrow::CowStr;
+use std::process::Abort;
+
+fn is_borrowed(atom: &RawAtom<'_>) -> bool {
+    matches!(&atom.name, CowStr::Borrowed(_))
+}
+
+fn are_borrowed(atoms: &[RawAtom<'_>]) -> bool {
+    for atom in atoms {
+        if !is_borrowed(atom) {
+            return false;
+        }
+    }
+    true
+}
+
+fn has_borrowed_names(command: &Command<'_>) -> bool {
+    match command {
+        Command::Tell {
+            replica: _,
+            origin: _,
+            number: _,
+            atoms,
+        } => are_borrowed(atoms),
+        _ => false,
+    }
+}
+
+/// Whether the line's bytes alone say its command, which is a tell then.
+pub fn is_compact(alloc: Global, line: &[u8]) -> bool {
+    match read_line(alloc, line) {
+        Ok(command) => has_borrowed_names(&command),
+        Err(_) => false,
+    }
+}
+
+/// The line after a space, with which it is always read by its value.
+fn spaced(rt: &impl Abort, alloc: Global, line: &[u8]) -> Vec<u8> {
+    let mut spaced = Vec::new(alloc);
+    spaced.push(b' ').expect(rt, "memory");
+    spaced.extend_from_slice(line).expect(rt, "memory");
+    spaced
+}
+
+fn is_read_alike(alloc: Global, line: &[u8], other: &[u8]) -> bool {
+    read_line(alloc, line) == read_line(alloc, other)
+}
+
+/// Whether the line is read, or refused, as by its value.
+pub fn is_read_as_by_value(rt: &impl Abort, alloc: Global, line: &[u8]) -> bool {
+    let spaced = spaced(rt, alloc, line);
+    !is_compact(alloc, &spaced) && is_read_alike(alloc, line, &spaced)
+}
+
+/// The line has to be read as by its value, from its bytes alone or not.
+fn expect_read(rt: &impl Abort, alloc: Global, line: &[u8], compact: bool) {
+    assert!(rt; is_read_as_by_value(rt, alloc, line), "at {line:?}");
+    assert!(rt; is_compact(alloc, line) == compact, "at {line:?}");
+}
+
+fn expect_all_read(rt: &impl Abort, alloc: Global, lines: &[&str], compact: bool) {
+    for line in lines {
+        expect_read(rt, alloc, line.as_bytes(), compact);
+    }
+}
+
+const COMPACT: [&str; 5] = [
+    "[\"tell\",1,[1,7],[[\"path\",3,-4,5],[\"coin\"]]]",
+    "[\"tell\",0,[0,0],[[\"\"]]]",
+    "[\"tell\",18446744073709551615,[4294967295,18446744073709551615],[[\"a\",0]]]",
+    "[\"tell\",10,[20,30],[[\"a\",9223372036854775807,-9223372036854775807,-1,100]]]",
+    "[\"tell\",1,[1,1],[[\"tell\"],[\"a b\",1,2,3,4,5,6,7],[\"[]{},:/'\u{7f}\"]]]",
+];
+
+#[test]
+fn compact_tells_are_read_from_their_bytes(rt: HostRuntime) {
+    expect_all_read(&rt, rt.alloc(), &COMPACT, true);
+}
+
+const OTHER_BYTES: [&str; 28] = [
+    "",
+    "[\"show\",1]",
+    " [\"tell\",1,[1,7],[[\"a\",1]]]",
+    "[\"tell\",1,[1,7],[[\"a\",1]]] ",
+    "[\"tell\",1,[1,7],[[\"a\",1]]]\r",
+    "[\"tell\", 1,[1,7],[[\"a\",1]]]",
+    "[\"tell\",1,[1\t,7],[[\"a\",1]]]",
+    "[\"tell\",1,[1,7],[[\"a\", 1]]]",
+    "[\"tell\",1,[1,7],[[\"a\",1] ,[\"b\"]]]",
+    "[\"t\\u0065ll\",1,[1,7],[[\"a\",1]]]",
+    "[\"tell\",1,[1,7],[[\"\\u0061\",1]]]",
+    "[\"tell\",1,[1,7],[[\"a\\\"b\\\\\",1]]]",
+    "[\"tell\",1,[1,7],[[\"\u{e9}\",1]]]",
+    "[\"tell\",1,[1,7],[[\"a\tb\",1]]]",
+    "[\"tell\",1,[1,7],[[\"a\",9223372036854775808]]]",
+    "[\"tell\",1,[1,7],[[\"a\",-9223372036854775808]]]",
+    "[\"tell\",1,[1,7],[[\"a\",-9223372036854775809]]]",
+    "[\"tell\",18446744073709551616,[1,7],[[\"a\",1]]]",
+    "[\"tell\",1,[4294967296,7],[[\"a\",1]]]",
+    "[\"tell\",1,[1,100000000000000000000],[[\"a\",1]]]",
+    "[\"tell\",-1,[1,7],[[\"a\",1]]]",
+    "[\"tell\",1,[1,7],[[\"a\",-0]]]",
+    "[\"tell\",1,[1,7],[[\"a\",01]]]",
+    "[\"tell\",1,[1,7],[[\"a\",-01]]]",
+    "[\"tell\",1,[1,7],[[\"a\",+1]]]",
+    "[\"tell\",1,[1,7],[[\"a\",-]]]",
+    "[\"tell\",1,[1,7],[[\"a\",1.0]]]",
+    "[\"tell\",1,[1,7],[[\"a\",1e2]]]",
+];
+
+#[test]
+fn other_bytes_are_read_by_value(rt: HostRuntime) {
+    let alloc = rt.alloc();
+    expect_all_read(&rt, alloc, &OTHER_BYTES, false);
+    expect_read(&rt, alloc, b"[\"tell\",1,[1,7],[[\"\xff\",1]]]", false);
+}
+
+const OTHER_SHAPES: [&str; 21] = [
+    "[\"Tell\",1,[1,7],[[\"a\",1]]]",
+    "[\"tells\",1,[1,7],[[\"a\",1]]]",
+    "{\"tell\":1}",
+    "[\"tell\",\"1\",[1,7],[[\"a\",1]]]",
+    "[\"tell\",1,[1],[[\"a\",1]]]",
+    "[\"tell\",1,[1,7,8],[[\"a\",1]]]",
+    "[\"tell\",1,[1,7]]",
+    "[\"tell\",1,[1,7],[[\"a\",1]],2]",
+    "[\"tell\",1,[1,7],[[\"a\",1]]]]",
+    "[\"tell\",1,[1,7],[]]",
+    "[\"tell\",1,[1,7],[[]]]",
+    "[\"tell\",1,[1,7],[[1]]]",
+    "[\"tell\",1,[1,7],[\"a\"]]",
+    "[\"tell\",1,[1,7],[[\"a\",\"b\"]]]",
+    "[\"tell\",1,[1,7],[[\"a\",[1]]]]",
+    "[\"tell\",1,[1,7],[[\"a\",null]]]",
+    "[\"tell\",1,[1,7],[[\"a\",1],[[\"b\"]]]]",
+    "[\"tell\",1,[1,7],[[\"a\",]]]",
+    "[\"tell\",1,[1,7],[[\"a\"],]]",
+    "[\"tell\",1,[1,7],[,[\"a\"]]]",
+    "[\"tell\",1,[1,7],[[\"a\"][\"b\"]]]",
+];
+
+#[test]
+fn other_shapes_are_read_by_value(rt: HostRuntime) {
+    expect_all_read(&rt, rt.alloc(), &OTHER_SHAPES, false);
+}
+
+#[test]
+fn cut_tells_are_read_by_value(rt: HostRuntime) {
+    let alloc = rt.alloc();
+    let line = b"[\"tell\",10,[2,30],[[\"path\",3,-45],[\"coin\"]]]".as_slice();
+    for len in 0..line.len() {
+        expect_read(&rt, alloc, &line[..len], false);
+    }
+}
