@@ -13,8 +13,6 @@ use chr_base::weight::Weight;
 
 pub mod laws;
 mod sums;
-#[cfg(test)]
-mod tests;
 mod weighed;
 
 pub use weighed::Weighed;

@@ -1,0 +1,5 @@
+//! Tests of weights. There is nothing here but tests.
+#![tactic(auto)]
+
+#[cfg(test)]
+mod tests;
