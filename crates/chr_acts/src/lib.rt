@@ -15,6 +15,3 @@ pub use book::{Book, CallFault};
 pub use entry::{Entry, Journal};
 pub use lists::{LeaseList, OpList};
 pub use reply::Reply;
-
-#[cfg(test)]
-mod tests;
