@@ -22,19 +22,12 @@ fn op(rt: &impl Abort, alloc: Global, id: OpId) -> Op {
         symbol: SymbolId(0),
         ..Atom::default()
     };
-    if bag.add(atom).is_err() {
-        panic!(rt; "out of memory");
-    }
-    let Some(op) = Op::of(id, bag) else {
-        panic!(rt; "not an operation");
-    };
-    op
+    bag.add(atom).expect(rt, "memory");
+    Op::of(id, bag).expect(rt, "an operation")
 }
 
 fn add(rt: &impl Abort, alloc: Global, set: &mut OpSet, id: OpId) {
-    if set.add(op(rt, alloc, id)).is_err() {
-        panic!(rt; "not added");
-    }
+    assert!(rt; set.add(op(rt, alloc, id)).is_ok());
 }
 
 fn set_of(rt: &impl Abort, alloc: Global, ids: &[OpId]) -> OpSet {
@@ -47,17 +40,14 @@ fn set_of(rt: &impl Abort, alloc: Global, ids: &[OpId]) -> OpSet {
 
 /// The summary of ranges, none of which is empty.
 fn summary_of(rt: &impl Abort, alloc: Global, ranges: &[IdRange]) -> Summary {
-    let Ok(ranges) = Vec::from_slice(alloc, ranges) else {
-        panic!(rt; "out of memory");
-    };
+    let ranges = Vec::from_slice(alloc, ranges).expect(rt, "memory");
     let all = ranges.iter().all(|range| range.lo <= range.hi);
-    if !all {
-        panic!(rt; "an empty range");
-    }
-    let Ok(summary) = Summary::of(ranges) else {
-        panic!(rt; "out of memory");
-    };
-    summary
+    assert!(rt; all, "an empty range");
+    Summary::of(ranges).expect(rt, "memory")
+}
+
+fn have_ids(ops: &[Op], ids: &[OpId]) -> bool {
+    ops.len() == ids.len() && ops.iter().zip(ids).all(|(op, id)| op.id() == *id)
 }
 
 /// Whether the ids of the set that the ranges leave out are just these, in this order.
@@ -69,86 +59,130 @@ fn lacks_just(
     ids: &[OpId],
 ) -> bool {
     let summary = summary_of(rt, alloc, ranges);
-    let Ok(ops) = set.lacks(alloc, &summary) else {
-        panic!(rt; "out of memory");
-    };
-    ops.len() == ids.len() && ops.iter().zip(ids).all(|(op, id)| op.id() == *id)
+    let ops = set.lacks(alloc, &summary).expect(rt, "memory");
+    have_ids(&ops, ids)
 }
+
+/// Ids by their origins and numbers.
+fn ids(rt: &impl Abort, alloc: Global, pairs: &[(u32, u64)]) -> Vec<OpId> {
+    let mut ids = Vec::new(alloc);
+    for (origin, number) in pairs {
+        ids.push(id(*origin, *number)).expect(rt, "memory");
+    }
+    ids
+}
+
+/// Ranges by their origins and both ends.
+fn ranges(rt: &impl Abort, alloc: Global, ends: &[(u32, u64, u64)]) -> Vec<IdRange> {
+    let mut ranges = Vec::new(alloc);
+    for (origin, lo, hi) in ends {
+        ranges.push(range(*origin, *lo, *hi)).expect(rt, "memory");
+    }
+    ranges
+}
+
+/// Some ranges by their origins and both ends, and the ids of a set that they leave out, in order.
+type Row = (&'static [(u32, u64, u64)], &'static [(u32, u64)]);
+
+/// Whether the row's ranges leave out of the set just what the row says.
+fn is_row(
+    rt: &impl Abort,
+    alloc: Global,
+    set: &OpSet,
+    ends: &[(u32, u64, u64)],
+    left: &[(u32, u64)],
+) -> bool {
+    let ranges = ranges(rt, alloc, ends);
+    lacks_just(rt, alloc, set, &ranges, &ids(rt, alloc, left))
+}
+
+/// So says each row of the set of these ids.
+fn expect_lacked(rt: &impl Abort, alloc: Global, held: &[(u32, u64)], rows: &[Row]) {
+    let set = set_of(rt, alloc, &ids(rt, alloc, held));
+    for (place, (ends, left)) in rows.iter().enumerate() {
+        assert!(rt; is_row(rt, alloc, &set, ends, left), "row {place}");
+    }
+}
+
+const BOTH_ENDS: [(u32, u64); 4] = [(1, 0), (1, 1), (1, GREATEST - 1), (1, GREATEST)];
+
+const LACKED_AT_THE_ENDS: [Row; 7] = [
+    (&[], &[(1, 0), (1, 1), (1, GREATEST - 1), (1, GREATEST)]),
+    (
+        &[(1, 2, GREATEST - 2)],
+        &[(1, 0), (1, 1), (1, GREATEST - 1), (1, GREATEST)],
+    ),
+    (&[(1, 0, 0)], &[(1, 1), (1, GREATEST - 1), (1, GREATEST)]),
+    (
+        &[(1, GREATEST, GREATEST)],
+        &[(1, 0), (1, 1), (1, GREATEST - 1)],
+    ),
+    (&[(1, 0, GREATEST)], &[]),
+    (&[(1, 1, GREATEST - 1)], &[(1, 0), (1, GREATEST)]),
+    (
+        &[(1, 0, 0), (1, GREATEST, GREATEST)],
+        &[(1, 1), (1, GREATEST - 1)],
+    ),
+];
 
 #[test]
 fn what_is_lacked_reaches_both_ends(rt: HostRuntime) {
-    let alloc = rt.alloc();
-    let all = [id(1, 0), id(1, 1), id(1, GREATEST - 1), id(1, GREATEST)];
-    let set = set_of(&rt, alloc, &all);
-    assert!(rt; lacks_just(&rt, alloc, &set, &[], &all));
-    assert!(rt; lacks_just(&rt, alloc, &set, &[range(1, 2, GREATEST - 2)], &all));
-    assert!(rt; lacks_just(&rt, alloc, &set, &[range(1, 0, 0)], &all[1..]));
-    assert!(rt; lacks_just(&rt, alloc, &set, &[range(1, GREATEST, GREATEST)], &all[..3]));
-    assert!(rt; lacks_just(&rt, alloc, &set, &[range(1, 0, GREATEST)], &[]));
-    let inner = [range(1, 1, GREATEST - 1)];
-    assert!(rt; lacks_just(&rt, alloc, &set, &inner, &[id(1, 0), id(1, GREATEST)]));
-    let outer = [range(1, 0, 0), range(1, GREATEST, GREATEST)];
-    assert!(rt; lacks_just(&rt, alloc, &set, &outer, &[id(1, 1), id(1, GREATEST - 1)]));
+    expect_lacked(&rt, rt.alloc(), &BOTH_ENDS, &LACKED_AT_THE_ENDS);
 }
+
+const SIX: [(u32, u64); 6] = [(2, 10), (2, 11), (2, 12), (2, 13), (2, 14), (2, 15)];
+
+/// What ranges beside the six leave out, over their ends, that touch, with holes, and that overlap.
+const LACKED_OF_SIX: [Row; 5] = [
+    (
+        &[(2, 5, 9), (2, 16, 20)],
+        &[(2, 10), (2, 11), (2, 12), (2, 13), (2, 14), (2, 15)],
+    ),
+    (
+        &[(2, 5, 10), (2, 15, 20)],
+        &[(2, 11), (2, 12), (2, 13), (2, 14)],
+    ),
+    (&[(2, 11, 12), (2, 13, 13)], &[(2, 10), (2, 14), (2, 15)]),
+    (
+        &[(2, 12, 12), (2, 14, 14)],
+        &[(2, 10), (2, 11), (2, 13), (2, 15)],
+    ),
+    (
+        &[(2, 14, 20), (2, 9, 10), (1, 0, GREATEST), (2, 8, 11)],
+        &[(2, 12), (2, 13)],
+    ),
+];
+
+const LACKED_OF_NONE: [Row; 1] = [(&[(2, 12, 12), (2, 14, 14)], &[])];
 
 #[test]
 fn what_is_lacked_stands_between_ranges(rt: HostRuntime) {
     let alloc = rt.alloc();
-    let all = [
-        id(2, 10),
-        id(2, 11),
-        id(2, 12),
-        id(2, 13),
-        id(2, 14),
-        id(2, 15),
-    ];
-    let set = set_of(&rt, alloc, &all);
-    let beside = [range(2, 5, 9), range(2, 16, 20)];
-    assert!(rt; lacks_just(&rt, alloc, &set, &beside, &all));
-    let over_the_ends = [range(2, 5, 10), range(2, 15, 20)];
-    assert!(rt; lacks_just(&rt, alloc, &set, &over_the_ends, &all[1..5]));
-    let touching = [range(2, 11, 12), range(2, 13, 13)];
-    assert!(rt;
-        lacks_just(
-            &rt,
-            alloc,
-            &set,
-            &touching,
-            &[id(2, 10), id(2, 14), id(2, 15)]
-        )
-    );
-    let holes = [range(2, 12, 12), range(2, 14, 14)];
-    let around = [id(2, 10), id(2, 11), id(2, 13), id(2, 15)];
-    assert!(rt; lacks_just(&rt, alloc, &set, &holes, &around));
-    let overlapping = [
-        range(2, 14, 20),
-        range(2, 9, 10),
-        range(1, 0, GREATEST),
-        range(2, 8, 11),
-    ];
-    assert!(rt; lacks_just(&rt, alloc, &set, &overlapping, &[id(2, 12), id(2, 13)]));
-    assert!(rt; lacks_just(&rt, alloc, &OpSet::new(alloc), &holes, &[]));
+    expect_lacked(&rt, alloc, &SIX, &LACKED_OF_SIX);
+    expect_lacked(&rt, alloc, &[], &LACKED_OF_NONE);
 }
+
+const FOUR_ORIGINS: [(u32, u64); 5] = [(0, 7), (1, 7), (1, 9), (3, 7), (4_294_967_295, 7)];
+
+const LACKED_OF_ORIGINS: [Row; 2] = [
+    (
+        &[(1, 0, 8), (2, 0, GREATEST), (3, 8, 9)],
+        &[(0, 7), (1, 9), (3, 7), (4_294_967_295, 7)],
+    ),
+    (
+        &[
+            (4_294_967_295, 7, 7),
+            (0, 0, GREATEST),
+            (3, 0, 7),
+            (1, 7, 9),
+        ],
+        &[],
+    ),
+];
 
 #[test]
 fn what_is_lacked_is_of_its_origin(rt: HostRuntime) {
-    let alloc = rt.alloc();
-    let last = 4_294_967_295;
-    let set = set_of(
-        &rt,
-        alloc,
-        &[id(0, 7), id(1, 7), id(1, 9), id(3, 7), id(last, 7)],
-    );
-    let others = [range(1, 0, 8), range(2, 0, GREATEST), range(3, 8, 9)];
-    let lacked = [id(0, 7), id(1, 9), id(3, 7), id(last, 7)];
-    assert!(rt; lacks_just(&rt, alloc, &set, &others, &lacked));
-    let whole = [
-        range(last, 7, 7),
-        range(0, 0, GREATEST),
-        range(3, 0, 7),
-        range(1, 7, 9),
-    ];
-    assert!(rt; lacks_just(&rt, alloc, &set, &whole, &[]));
+    expect_lacked(&rt, rt.alloc(), &FOUR_ORIGINS, &LACKED_OF_ORIGINS);
 }
 
 /// The next of some numbers that jump about.
@@ -170,12 +204,9 @@ fn ids_of(rt: &impl Abort, alloc: Global, sets: [u64; 3], first: u64) -> Vec<OpI
         let origin = place / 64;
         let number = place % 64;
         let bits = sets[origin as usize];
-        if has_bit(bits, number)
-            && ids
-                .push(id(origin as u32, first.saturating_add(number)))
-                .is_err()
-        {
-            panic!(rt; "out of memory");
+        if has_bit(bits, number) {
+            let id = id(origin as u32, first.saturating_add(number));
+            ids.push(id).expect(rt, "memory");
         }
     }
     ids
@@ -194,9 +225,7 @@ fn ranges_by(rt: &impl Abort, alloc: Global, seed: u64, first: u64) -> Vec<IdRan
             first.saturating_add(lo),
             first.saturating_add(hi),
         );
-        if ranges.push(next).is_err() {
-            panic!(rt; "out of memory");
-        }
+        ranges.push(next).expect(rt, "memory");
     }
     ranges
 }
@@ -215,8 +244,8 @@ fn is_covered(ranges: &[IdRange], id: OpId) -> bool {
 fn left_out(rt: &impl Abort, alloc: Global, ids: &[OpId], ranges: &[IdRange]) -> Vec<OpId> {
     let mut left = Vec::new(alloc);
     for id in ids {
-        if !is_covered(ranges, *id) && left.push(*id).is_err() {
-            panic!(rt; "out of memory");
+        if !is_covered(ranges, *id) {
+            left.push(*id).expect(rt, "memory");
         }
     }
     left
