@@ -70,7 +70,7 @@ fn summary_answer(rt: &impl Abort, alloc: Global, text: &[u8]) -> String {
 fn expect_summaries(rt: &impl Abort, alloc: Global, rows: &[(&str, &str)]) {
     for (text, answer) in rows {
         let found = summary_answer(rt, alloc, text.as_bytes());
-        assert_eq!(rt; found.as_str(), *answer, "at {text}");
+        assert!(rt; found.as_str() == *answer, "at {text}: {found}");
     }
 }
 
@@ -79,7 +79,7 @@ fn expect_deltas(rt: &impl Abort, alloc: Global, rows: &[(&str, &str)]) {
     let program = four_symbols(rt, alloc);
     for (text, answer) in rows {
         let found = delta_answer(rt, alloc, &program, text.as_bytes());
-        assert_eq!(rt; found.as_str(), *answer, "at {text}");
+        assert!(rt; found.as_str() == *answer, "at {text}: {found}");
     }
 }
 
@@ -87,7 +87,7 @@ fn expect_deltas(rt: &impl Abort, alloc: Global, rows: &[(&str, &str)]) {
 fn expect_refused_summaries(rt: &impl Abort, alloc: Global, texts: &[&str], refusal: &str) {
     for text in texts {
         let found = summary_answer(rt, alloc, text.as_bytes());
-        assert_eq!(rt; found.as_str(), refusal, "at {text}");
+        assert!(rt; found.as_str() == refusal, "at {text}: {found}");
     }
 }
 
@@ -96,7 +96,7 @@ fn expect_refused_deltas(rt: &impl Abort, alloc: Global, texts: &[&str], refusal
     let program = four_symbols(rt, alloc);
     for text in texts {
         let found = delta_answer(rt, alloc, &program, text.as_bytes());
-        assert_eq!(rt; found.as_str(), refusal, "at {text}");
+        assert!(rt; found.as_str() == refusal, "at {text}: {found}");
     }
 }
 
@@ -168,17 +168,21 @@ fn other_values_are_no_summaries(rt: HostRuntime) {
     );
 }
 
+/// Whether the text is no JSON value, and so no summary.
+fn is_no_summary(alloc: Global, text: &[u8]) -> bool {
+    read_summary(alloc, text).err() == Some(MessageFault::BadJson)
+}
+
+/// Whether the text is no JSON value, and so no delta.
+fn is_no_delta(alloc: Global, program: &Program, text: &[u8]) -> bool {
+    read_delta(alloc, program, text).err() == Some(MessageFault::BadJson)
+}
+
 #[test]
 fn other_texts_are_no_summaries(rt: HostRuntime) {
     let alloc = rt.alloc();
-    assert_eq!(rt;
-        read_summary(alloc, b"[[5,[[1,1]]]".as_slice()).err(),
-        Some(MessageFault::BadJson)
-    );
-    assert_eq!(rt;
-        read_summary(alloc, b"[\"\xff\"]".as_slice()).err(),
-        Some(MessageFault::BadJson)
-    );
+    assert!(rt; is_no_summary(alloc, b"[[5,[[1,1]]]"));
+    assert!(rt; is_no_summary(alloc, b"[\"\xff\"]"));
 }
 
 #[test]
@@ -392,8 +396,27 @@ fn two_operations(rt: &impl Abort, alloc: Global, program: &Program) -> OpSet {
     let text = b"[[[2,7],[[\"min\",8],[\"min\",8]]],[[1,4],[[\"min\",2]]]]";
     let ops = read_delta(alloc, program, text.as_slice()).expect(rt, "read");
     let mut set = OpSet::new(alloc);
-    assert_eq!(rt; set.join(alloc, &ops), Ok(2));
+    assert!(rt; set.join(alloc, &ops) == Ok(2));
     set
+}
+
+/// The set is written so, as a delta of version 2 and of version 1.
+fn expect_written(
+    rt: &impl Abort,
+    alloc: Global,
+    program: &Program,
+    set: &OpSet,
+    expected: (&str, &str),
+) {
+    let (new, old) = written(rt, alloc, program, set);
+    assert!(rt; new.as_str() == expected.0, "{new}");
+    assert!(rt; old.as_str() == expected.1, "{old}");
+}
+
+/// The set's summary is written so.
+fn expect_summary(rt: &impl Abort, alloc: Global, set: &OpSet, expected: &str) {
+    let found = summary_of_set(rt, alloc, set);
+    assert!(rt; found.as_str() == expected, "{found}");
 }
 
 #[test]
@@ -401,10 +424,8 @@ fn messages_are_written(rt: HostRuntime) {
     let alloc = rt.alloc();
     let program = four_symbols(&rt, alloc);
     let set = two_operations(&rt, alloc, &program);
-    assert_eq!(rt; summary_of_set(&rt, alloc, &set).as_str(), SUMMARY);
-    let (new, old) = written(&rt, alloc, &program, &set);
-    assert_eq!(rt; new.as_str(), DELTA);
-    assert_eq!(rt; old.as_str(), DELTA_1);
+    expect_summary(&rt, alloc, &set, SUMMARY);
+    expect_written(&rt, alloc, &program, &set, (DELTA, DELTA_1));
 }
 
 #[test]
@@ -412,17 +433,17 @@ fn messages_of_nothing_are_written(rt: HostRuntime) {
     let alloc = rt.alloc();
     let program = four_symbols(&rt, alloc);
     let empty = OpSet::new(alloc);
-    assert_eq!(rt; summary_of_set(&rt, alloc, &empty).as_str(), "[]");
-    let (new, old) = written(&rt, alloc, &program, &empty);
-    assert_eq!(rt; new.as_str(), "[2,[]]");
-    assert_eq!(rt; old.as_str(), "[]");
+    expect_summary(&rt, alloc, &empty, "[]");
+    expect_written(&rt, alloc, &program, &empty, ("[2,[]]", "[]"));
 }
 
 /// No proper beginning of the text is a delta.
 fn expect_no_beginning_is_read(rt: &impl Abort, alloc: Global, program: &Program, text: &str) {
     for i in 0..text.len() {
-        let fault = read_delta(alloc, program, &text.as_bytes()[..i]).err();
-        assert_eq!(rt; fault, Some(MessageFault::BadJson), "at {i}");
+        assert!(rt;
+            is_no_delta(alloc, program, &text.as_bytes()[..i]),
+            "at {i}"
+        );
     }
 }
 
@@ -430,8 +451,7 @@ fn expect_no_beginning_is_read(rt: &impl Abort, alloc: Global, program: &Program
 fn a_beginning_of_a_summary_is_no_value(rt: HostRuntime) {
     let alloc = rt.alloc();
     for i in 0..SUMMARY.len() {
-        let fault = read_summary(alloc, &SUMMARY.as_bytes()[..i]).err();
-        assert_eq!(rt; fault, Some(MessageFault::BadJson), "at {i}");
+        assert!(rt; is_no_summary(alloc, &SUMMARY.as_bytes()[..i]), "at {i}");
     }
 }
 
@@ -448,44 +468,61 @@ fn value(rt: &impl Abort, alloc: Global, text: &str) -> Value {
     Value::from_str(alloc, text).expect(rt, "a value")
 }
 
+/// How many ranges the summary of a value has.
+fn ranges_in(rt: &impl Abort, alloc: Global, text: &str) -> usize {
+    let summary = summary_of(alloc, &value(rt, alloc, text)).expect(rt, "a summary");
+    summary.ranges().len()
+}
+
+/// How many operations the delta of a value has.
+fn operations_in(rt: &impl Abort, alloc: Global, program: &Program, text: &str) -> usize {
+    delta_of(alloc, program, &value(rt, alloc, text))
+        .expect(rt, "a delta")
+        .len()
+}
+
 #[test]
 fn values_of_messages_are_read(rt: HostRuntime) {
     let alloc = rt.alloc();
     let program = four_symbols(&rt, alloc);
-    let summary = summary_of(alloc, &value(&rt, alloc, SUMMARY));
-    assert!(rt; matches!(&summary, Ok(s) if s.ranges().len() == 2));
-    let delta = delta_of(alloc, &program, &value(&rt, alloc, DELTA));
-    assert!(rt; matches!(&delta, Ok(ops) if ops.len() == 2));
+    assert!(rt; ranges_in(&rt, alloc, SUMMARY) == 2);
+    assert!(rt; operations_in(&rt, alloc, &program, DELTA) == 2);
 }
+
+/// The operation of the values of an id and atoms, or why there is none.
+fn op_in(rt: &impl Abort, alloc: Global, id: &str, atoms: &str) -> Result<Op, MessageFault> {
+    let program = four_symbols(rt, alloc);
+    let id = value(rt, alloc, id);
+    op_of(alloc, &program, &id, &value(rt, alloc, atoms))
+}
+
+/// Whether there is no such operation, for this cause.
+fn is_no_op(rt: &impl Abort, alloc: Global, id: &str, atoms: &str, fault: MessageFault) -> bool {
+    op_in(rt, alloc, id, atoms).err() == Some(fault)
+}
+
+const ATOMS: &str = "[[\"a\",2],[\"a\",-1]]";
 
 #[test]
 fn values_of_operations_are_read(rt: HostRuntime) {
-    let alloc = rt.alloc();
-    let program = four_symbols(&rt, alloc);
-    let id = value(&rt, alloc, "[5,9]");
-    let atoms = value(&rt, alloc, "[[\"a\",2],[\"a\",-1]]");
-    let op = op_of(alloc, &program, &id, &atoms);
+    let op = op_in(&rt, rt.alloc(), "[5,9]", ATOMS).expect(&rt, "an operation");
     let name = OpId {
         origin: 5,
         number: 9,
     };
-    assert!(rt; matches!(&op, Ok(op) if op.id() == name && op.bag().len() == 2));
+    assert!(rt; op.id() == name);
+    assert!(rt; op.bag().len() == 2);
 }
 
 #[test]
 fn values_of_no_operations_are_refused(rt: HostRuntime) {
     let alloc = rt.alloc();
-    let program = four_symbols(&rt, alloc);
-    let id = value(&rt, alloc, "[5,9]");
-    let unknown = value(&rt, alloc, "[[\"c\"]]");
-    let fault = op_of(alloc, &program, &id, &unknown).err();
-    assert_eq!(rt; fault, Some(MessageFault::UnknownSymbol));
-    let atoms = value(&rt, alloc, "[[\"a\",2],[\"a\",-1]]");
-    let fault = op_of(alloc, &program, &atoms, &unknown).err();
-    assert_eq!(rt; fault, Some(MessageFault::Shape));
+    let unknown = "[[\"c\"]]";
+    assert!(rt; is_no_op(&rt, alloc, "[5,9]", unknown, MessageFault::UnknownSymbol));
+    assert!(rt; is_no_op(&rt, alloc, ATOMS, unknown, MessageFault::Shape));
 }
 
 #[test]
 fn want_of_memory_has_a_number(rt: HostRuntime) {
-    assert_eq!(rt; MessageFault::Memory.number(), 99);
+    assert!(rt; MessageFault::Memory.number() == 99);
 }
