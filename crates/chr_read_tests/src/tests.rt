@@ -8,10 +8,11 @@ mod weights;
 
 use chr_base::atom::SymbolId;
 use chr_base::program::Program;
-use chr_base::term::{Cmp, Term};
+use chr_base::rule::Rule;
+use chr_base::term::{Cmp, Comparison, Pattern, Term};
 use chr_base::weight::{DEFAULT_WEIGHT, Weight};
 use chr_read::{Fault, ReadFault, read, write};
-use std::alloc::{AllocError, Global};
+use std::alloc::Global;
 use std::fmt::Write;
 use std::process::Abort;
 
@@ -45,7 +46,7 @@ fn expect_outcomes(
     for (part, expected) in rows {
         let text = format!(in alloc; "{before}{part}{after}").expect(rt, "memory");
         let found = outcome_of(rt, alloc, text.as_bytes());
-        assert_eq!(rt; found, *expected, "{part}");
+        assert!(rt; found == *expected, "{part}");
     }
 }
 
@@ -61,7 +62,7 @@ fn expect_each(
     for part in parts {
         let text = format!(in alloc; "{before}{part}{after}").expect(rt, "memory");
         let found = outcome_of(rt, alloc, text.as_bytes());
-        assert_eq!(rt; found, expected, "{part}");
+        assert!(rt; found == expected, "{part}");
     }
 }
 
@@ -110,7 +111,7 @@ fn rewritten(rt: &impl Abort, alloc: Global, text: &[u8]) -> String {
 fn expect_canonical(rt: &impl Abort, alloc: Global, rows: &[(&str, &str)]) {
     for (text, canonical) in rows {
         let found = rewritten(rt, alloc, text.as_bytes());
-        assert_eq!(rt; found.as_str(), *canonical);
+        assert!(rt; found.as_str() == *canonical);
     }
 }
 
@@ -134,20 +135,23 @@ fn expect_faults(rt: &impl Abort, alloc: Global, rows: &[(&str, u8)]) {
     }
 }
 
-/// A declaration of 64 symbols, without its end.
-fn push_symbols(text: &mut String) -> Result<(), AllocError> {
-    text.push_str(":- chr_constraint a0/0")?;
-    for number in 1..64 {
-        write!(text, ", a{number}/0")?;
-    }
-    Ok(())
+fn push(rt: &impl Abort, text: &mut String, more: &str) {
+    text.push_str(more).expect(rt, "memory");
+}
+
+/// A symbol more of a declaration.
+fn push_symbol(rt: &impl Abort, text: &mut String, number: u32) {
+    write!(text, ", a{number}/0").expect(rt, "memory");
 }
 
 /// A declaration of 64 symbols, and this after it.
 fn after_symbols(rt: &impl Abort, alloc: Global, after: &str) -> String {
     let mut text = String::new(alloc);
-    push_symbols(&mut text).expect(rt, "memory");
-    text.push_str(after).expect(rt, "memory");
+    push(rt, &mut text, ":- chr_constraint a0/0");
+    for number in 1..64 {
+        push_symbol(rt, &mut text, number);
+    }
+    push(rt, &mut text, after);
     text
 }
 
@@ -190,31 +194,45 @@ fn the_longest_text(rt: HostRuntime) {
     expect_outcomes(&rt, alloc, spaces.as_str(), &rows, "");
 }
 
+/// Whether the pattern is of this symbol at these terms.
+fn is_pattern(pattern: &Pattern, symbol: u16, args: &[Term]) -> bool {
+    pattern.symbol == SymbolId(symbol) && pattern.args.as_slice() == args
+}
+
+/// Whether there is one pattern, of this symbol at these terms.
+fn is_one(patterns: &[Pattern], symbol: u16, args: &[Term]) -> bool {
+    match patterns {
+        [pattern] => is_pattern(pattern, symbol, args),
+        _ => false,
+    }
+}
+
+fn is_comparison(comparison: &Comparison, left: Term, cmp: Cmp, right: Term) -> bool {
+    comparison.left == left && comparison.cmp == cmp && comparison.right == right
+}
+
+fn is_guard(guard: &[Comparison]) -> bool {
+    let [first, second] = guard else {
+        return false;
+    };
+    is_comparison(first, Term::Variable(1), Cmp::AtLeast, Term::Constant(-5))
+        && is_comparison(second, Term::Variable(3), Cmp::NotEqual, Term::Variable(1))
+}
+
+fn has_heads(rule: &Rule) -> bool {
+    is_one(&rule.kept, 0, &[Term::Variable(1), Term::Variable(2)])
+        && is_one(&rule.removed, 0, &[Term::Variable(3), Term::Constant(-3)])
+}
+
+fn has_all_parts(rule: &Rule) -> bool {
+    rule.name.is_some() && has_heads(rule) && is_guard(&rule.guard) && is_one(&rule.body, 1, &[])
+}
+
 fn parts(program: &Program) -> bool {
-    let [rule] = program.rules() else {
-        return false;
-    };
-    let ([kept], [removed], [first, second], [body]) = (
-        rule.kept.as_slice(),
-        rule.removed.as_slice(),
-        rule.guard.as_slice(),
-        rule.body.as_slice(),
-    ) else {
-        return false;
-    };
-    rule.name.is_some()
-        && kept.symbol == SymbolId(0)
-        && kept.args.as_slice() == [Term::Variable(1), Term::Variable(2)].as_slice()
-        && removed.symbol == SymbolId(0)
-        && removed.args.as_slice() == [Term::Variable(3), Term::Constant(-3)].as_slice()
-        && first.left == Term::Variable(1)
-        && first.cmp == Cmp::AtLeast
-        && first.right == Term::Constant(-5)
-        && second.left == Term::Variable(3)
-        && second.cmp == Cmp::NotEqual
-        && second.right == Term::Variable(1)
-        && body.symbol == SymbolId(1)
-        && body.args.is_empty()
+    match program.rules() {
+        [rule] => has_all_parts(rule),
+        _ => false,
+    }
 }
 
 /// The weight of the symbol at this place.
@@ -230,24 +248,28 @@ fn a_rule_with_all_parts(rt: HostRuntime) {
 r @ p(X,_) \\ p(Y,-03) <=> true, X >= -5, Y =\\= X | true, q.";
     let program = program_of(&rt, alloc, text);
     assert!(rt; parts(&program));
-    assert_eq!(rt; program.symbols(), 2);
+    assert!(rt; program.symbols() == 2);
     let seven = Weight {
         first: 7,
         second: 0,
     };
-    assert_eq!(rt; weight_at(&rt, &program, 0), seven);
-    assert_eq!(rt; weight_at(&rt, &program, 1), DEFAULT_WEIGHT);
+    assert!(rt; weight_at(&rt, &program, 0) == seven);
+    assert!(rt; weight_at(&rt, &program, 1) == DEFAULT_WEIGHT);
+}
+
+fn are_apart(heads: &[Pattern]) -> bool {
+    let [first, second] = heads else {
+        return false;
+    };
+    is_pattern(first, 0, &[Term::Variable(1), Term::Variable(2)])
+        && is_pattern(second, 0, &[Term::Variable(3), Term::Variable(1)])
 }
 
 fn args_of(program: &Program) -> bool {
-    let [rule] = program.rules() else {
-        return false;
-    };
-    let [first, second] = rule.removed.as_slice() else {
-        return false;
-    };
-    first.args.as_slice() == [Term::Variable(1), Term::Variable(2)].as_slice()
-        && second.args.as_slice() == [Term::Variable(3), Term::Variable(1)].as_slice()
+    match program.rules() {
+        [rule] => are_apart(&rule.removed),
+        _ => false,
+    }
 }
 
 #[test]
@@ -258,8 +280,8 @@ fn each_underscore_is_a_variable(rt: HostRuntime) {
 
 #[test]
 fn numbers_of_faults(rt: HostRuntime) {
-    assert_eq!(rt; Fault::BadByte.number(), 1);
-    assert_eq!(rt; Fault::Unended.number(), 11);
+    assert!(rt; Fault::BadByte.number() == 1);
+    assert!(rt; Fault::Unended.number() == 11);
 }
 
 #[test]

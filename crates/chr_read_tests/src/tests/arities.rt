@@ -41,7 +41,7 @@ fn expect_atoms(rt: &impl Abort, alloc: Global, declared: &str, args: &str, expe
             rt, "memory",
         );
         let found = outcome_of(rt, alloc, text.as_bytes());
-        assert_eq!(rt; found, expected, "{rule}");
+        assert!(rt; found == expected, "{rule}");
     }
 }
 

@@ -11,7 +11,7 @@ fn expect_faults_of_bytes(rt: &impl Abort, alloc: Global, rows: &[(&[u8], u8)]) 
             .expect(rt, "memory");
         text.extend_from_slice(rest).expect(rt, "memory");
         let found = outcome_of(rt, alloc, &text);
-        assert_eq!(rt; found, Outcome::Bad(*fault, 2), "{rest:?}");
+        assert!(rt; found == Outcome::Bad(*fault, 2), "{rest:?}");
     }
 }
 
@@ -61,7 +61,7 @@ fn bytes_in_comments(rt: HostRuntime) {
         b":-%\x0b.\nuse_module(%\x80\r\nlibrary%.\n(chr)).%~".as_slice(),
     ] {
         let found = outcome_of(&rt, alloc, text);
-        assert_eq!(rt; found, Outcome::Program(0, 0), "{text:?}");
+        assert!(rt; found == Outcome::Program(0, 0), "{text:?}");
     }
 }
 

@@ -1,6 +1,6 @@
 //! A program with as many parts as one may have, in a text as long as one may be.
-use super::{comes_back, rewritten};
-use std::alloc::{AllocError, Global};
+use super::{comes_back, push, rewritten};
+use std::alloc::Global;
 use std::fmt::Write;
 use std::process::Abort;
 
@@ -9,82 +9,131 @@ const FIRST: u64 = 10;
 /// Up to here.
 const END: u64 = 74;
 
-fn push_declarations(text: &mut String) -> Result<(), AllocError> {
-    write!(text, ":- chr_constraint constraint_{FIRST}/6")?;
-    for number in FIRST + 1..END {
-        write!(text, ", constraint_{number}/6")?;
-    }
-    text.push_str(".\n")?;
-    Ok(())
+fn push_symbol(rt: &impl Abort, text: &mut String, before: &str, number: u64) {
+    write!(text, "{before}constraint_{number}/6").expect(rt, "memory");
 }
 
-fn push_weights(text: &mut String) -> Result<(), AllocError> {
-    for number in FIRST..END {
-        write!(
-            text,
-            ":- chr_weight constraint_{number}/6 = {number},1000000.\n"
-        )?;
+fn push_declarations(rt: &impl Abort, text: &mut String) {
+    push_symbol(rt, text, ":- chr_constraint ", FIRST);
+    for number in FIRST + 1..END {
+        push_symbol(rt, text, ", ", number);
     }
-    Ok(())
+    push(rt, text, ".\n");
+}
+
+fn push_weight(rt: &impl Abort, text: &mut String, number: u64) {
+    push_symbol(rt, text, ":- chr_weight ", number);
+    write!(text, " = {number},1000000.\n").expect(rt, "memory");
+}
+
+fn push_weights(rt: &impl Abort, text: &mut String) {
+    for number in FIRST..END {
+        push_weight(rt, text, number);
+    }
+}
+
+/// An atom, with what stands before and after it.
+fn push_atom(rt: &impl Abort, text: &mut String, number: u64, args: &str, after: &str) {
+    write!(text, "constraint_{number}({args}){after}").expect(rt, "memory");
+}
+
+fn push_label(rt: &impl Abort, text: &mut String, number: u64) {
+    write!(text, "rule_with_parts_{number} @ ").expect(rt, "memory");
 }
 
 /// The heads of a rule hold 24 variables, and each symbol twice.
-fn push_heads(text: &mut String, one: u64, other: u64) -> Result<(), AllocError> {
-    write!(text, "rule_with_parts_{one} @ ")?;
-    write!(text, "constraint_{one}(V1,V2,V3,V4,V5,V6), ")?;
-    write!(text, "constraint_{other}(V7,V8,V9,V10,V11,V12) \\ ")?;
-    write!(text, "constraint_{one}(V13,V14,V15,V16,V17,V18), ")?;
-    write!(text, "constraint_{other}(V19,V20,V21,V22,V23,V24) <=> ")
+fn push_heads(rt: &impl Abort, text: &mut String, one: u64, other: u64) {
+    push_label(rt, text, one);
+    push_atom(rt, text, one, "V1,V2,V3,V4,V5,V6", ", ");
+    push_atom(rt, text, other, "V7,V8,V9,V10,V11,V12", " \\ ");
+    push_atom(rt, text, one, "V13,V14,V15,V16,V17,V18", ", ");
+    push_atom(rt, text, other, "V19,V20,V21,V22,V23,V24", " <=> ");
 }
 
-fn push_guard(text: &mut String, one: u64) -> Result<(), AllocError> {
-    write!(text, "-92233720368547757{one} < V1")?;
-    for (sign, variable) in [
-        ("=<", 2),
-        (">", 3),
-        (">=", 4),
-        ("=:=", 5),
-        ("=\\=", 6),
-        ("<", 7),
-        (">=", 8),
-    ] {
-        write!(text, ", -92233720368547757{one} {sign} V{variable}")?;
-    }
-    text.push_str(" | ")
+/// What stands before each comparison, its sign, and its variable.
+const COMPARISONS: [(&str, &str, u64); 8] = [
+    ("", "<", 1),
+    (", ", "=<", 2),
+    (", ", ">", 3),
+    (", ", ">=", 4),
+    (", ", "=:=", 5),
+    (", ", "=\\=", 6),
+    (", ", "<", 7),
+    (", ", ">=", 8),
+];
+
+/// A comparison of a number of nineteen digits that ends with this one.
+fn push_comparison(rt: &impl Abort, text: &mut String, before: &str, end: u64, sign: &str) {
+    write!(text, "{before}-92233720368547757{end} {sign} V").expect(rt, "memory");
 }
 
-fn push_body(text: &mut String, one: u64, other: u64) -> Result<(), AllocError> {
-    for (before, first, second, last) in [
-        ("", 1, 9, 17),
-        (", ", 2, 10, 18),
-        (", ", 3, 11, 19),
-        (", ", 4, 12, 20),
-        (", ", 5, 13, 21),
-        (", ", 6, 14, 22),
-        (", ", 7, 15, 23),
-        (", ", 8, 16, 24),
-    ] {
-        write!(text, "{before}constraint_{other}(V{first},")?;
-        write!(
-            text,
-            "92233720368547757{one},-92233720368547757{other},V{second},V{last},{first})"
-        )?;
+fn push_number(rt: &impl Abort, text: &mut String, number: u64) {
+    write!(text, "{number}").expect(rt, "memory");
+}
+
+fn push_guard(rt: &impl Abort, text: &mut String, one: u64) {
+    for (before, sign, variable) in COMPARISONS {
+        push_comparison(rt, text, before, one, sign);
+        push_number(rt, text, variable);
     }
-    text.push_str(".\n")
+    push(rt, text, " | ");
+}
+
+/// What stands before each atom of a body, and its three variables.
+const BODY: [(&str, u64, u64, u64); 8] = [
+    ("", 1, 9, 17),
+    (", ", 2, 10, 18),
+    (", ", 3, 11, 19),
+    (", ", 4, 12, 20),
+    (", ", 5, 13, 21),
+    (", ", 6, 14, 22),
+    (", ", 7, 15, 23),
+    (", ", 8, 16, 24),
+];
+
+/// Two numbers of nineteen digits that end with these.
+fn push_constants(rt: &impl Abort, text: &mut String, one: u64, other: u64) {
+    write!(text, "92233720368547757{one},-92233720368547757{other}").expect(rt, "memory");
+}
+
+fn push_variables(rt: &impl Abort, text: &mut String, second: u64, last: u64) {
+    write!(text, ",V{second},V{last},").expect(rt, "memory");
+}
+
+/// The first argument of an atom after the symbol of this number.
+fn push_first(rt: &impl Abort, text: &mut String, other: u64, first: u64) {
+    write!(text, "constraint_{other}(V{first},").expect(rt, "memory");
+}
+
+fn push_body(rt: &impl Abort, text: &mut String, one: u64, other: u64) {
+    for (before, first, second, last) in BODY {
+        push(rt, text, before);
+        push_first(rt, text, other, first);
+        push_constants(rt, text, one, other);
+        push_variables(rt, text, second, last);
+        push_number(rt, text, first);
+        push(rt, text, ")");
+    }
+    push(rt, text, ".\n");
+}
+
+/// The rule with the symbols of these two numbers.
+fn push_rule(rt: &impl Abort, text: &mut String, one: u64, other: u64) {
+    push_heads(rt, text, one, other);
+    push_guard(rt, text, one);
+    push_body(rt, text, one, other);
 }
 
 /// The text is canonical.
-fn full_program(alloc: Global) -> Result<String, AllocError> {
+fn full_program(rt: &impl Abort, alloc: Global) -> String {
     let mut text = String::new(alloc);
-    push_declarations(&mut text)?;
-    push_weights(&mut text)?;
+    push_declarations(rt, &mut text);
+    push_weights(rt, &mut text);
     for one in FIRST..END {
         let other = if one + 1 < END { one + 1 } else { FIRST };
-        push_heads(&mut text, one, other)?;
-        push_guard(&mut text, one)?;
-        push_body(&mut text, one, other)?;
+        push_rule(rt, &mut text, one, other);
     }
-    Ok(text)
+    text
 }
 
 /// The text with spaces at its end, as long as a text may be.
@@ -92,16 +141,16 @@ fn longest(rt: &impl Abort, alloc: Global, canonical: &str) -> String {
     assert!(rt; 65_000 < canonical.len() && canonical.len() <= 65_536);
     let mut text = String::from_str(alloc, canonical).expect(rt, "memory");
     for _ in canonical.len()..65_536 {
-        text.push_str(" ").expect(rt, "memory");
+        push(rt, &mut text, " ");
     }
-    assert_eq!(rt; text.len(), 65_536);
+    assert!(rt; text.len() == 65_536);
     text
 }
 
 #[test]
 fn a_full_program(rt: HostRuntime) {
     let alloc = rt.alloc();
-    let canonical = full_program(alloc).expect(&rt, "memory");
+    let canonical = full_program(&rt, alloc);
     let text = longest(&rt, alloc, canonical.as_str());
     let found = rewritten(&rt, alloc, text.as_bytes());
     assert!(rt; found.as_str() == canonical.as_str());

@@ -9,7 +9,7 @@ fn expect_texts(rt: &impl Abort, alloc: Global, digit: &str, rows: &[(&str, &str
     for (before, after, canonical) in rows {
         let text = format!(in alloc; "{before}{digits}{after}").expect(rt, "memory");
         let found = rewritten(rt, alloc, text.as_bytes());
-        assert_eq!(rt; found.as_str(), *canonical);
+        assert!(rt; found.as_str() == *canonical);
     }
 }
 
