@@ -1,18 +1,7 @@
+//! What is told of words that are refused.
+use super::list;
 use chr_device::{WordsFault, read_words, refusal_text};
 use std::process::Abort;
-
-/// `chrrep` with these words after it.
-fn list(rt: &(impl Abort + AllocGlobal), words: &[&str]) -> Vec<String> {
-    let alloc = rt.alloc();
-    let mut list = Vec::new(alloc);
-    list.push(String::from_str(alloc, "chrrep").expect(rt, "memory"))
-        .expect(rt, "memory");
-    for word in words {
-        list.push(String::from_str(alloc, word).expect(rt, "memory"))
-            .expect(rt, "memory");
-    }
-    list
-}
 
 /// What is told of these words, which are refused.
 fn told(rt: &(impl Abort + AllocGlobal), words: &[&str]) -> String {
@@ -27,109 +16,135 @@ fn told(rt: &(impl Abort + AllocGlobal), words: &[&str]) -> String {
 /// The last line of what is told is this one.
 fn ends(rt: &(impl Abort + AllocGlobal), words: &[&str], line: &str) {
     let text = told(rt, words);
-    assert_eq!(rt; text.as_str().lines().last(), Some(line));
+    assert!(rt; text.lines().last() == Some(line), "{text}");
 }
+
+const FILES: [(&[&str], &str); 5] = [
+    (
+        &["coins.chr"],
+        "The input comes from standard input: chrrep run < coins.chr",
+    ),
+    (
+        &["check", "coins"],
+        "The input comes from standard input: chrrep check < coins",
+    ),
+    (
+        &["run", "--replicas", "2", "a/coins.chr"],
+        "The input comes from standard input: chrrep run < a/coins.chr",
+    ),
+    (
+        &["check", "--wide", "coins"],
+        "The input comes from standard input: chrrep check < coins",
+    ),
+    (
+        &["serve", "-"],
+        "The input comes from standard input, without '-': chrrep serve",
+    ),
+];
 
 #[test]
 fn files_are_named(rt: HostRuntime) {
-    for (words, line) in [
-        (
-            ["coins.chr"].as_slice(),
-            "The input comes from standard input: chrrep run < coins.chr",
-        ),
-        (
-            ["check", "coins"].as_slice(),
-            "The input comes from standard input: chrrep check < coins",
-        ),
-        (
-            ["run", "--replicas", "2", "a/coins.chr"].as_slice(),
-            "The input comes from standard input: chrrep run < a/coins.chr",
-        ),
-        (
-            ["check", "--wide", "coins"].as_slice(),
-            "The input comes from standard input: chrrep check < coins",
-        ),
-        (
-            ["serve", "-"].as_slice(),
-            "The input comes from standard input, without '-': chrrep serve",
-        ),
-    ] {
+    for (words, line) in FILES {
         ends(&rt, words, line);
     }
 }
 
+const NO_CAUSE: [&[&str]; 5] = [
+    &[],
+    &["weigh"],
+    &["run", "run"],
+    &["run", "--replica", "--replicas", "2"],
+    &["run", "--replicas", "x"],
+];
+
 #[test]
 fn other_words_have_no_cause(rt: HostRuntime) {
-    let line = "For more information, try '--help'.";
-    ends(&rt, &[], line);
-    ends(&rt, &["weigh"], line);
-    ends(&rt, &["run", "run"], line);
-    ends(&rt, &["run", "--replica", "--replicas", "2"], line);
-    ends(&rt, &["run", "--replicas", "x"], line);
+    for words in NO_CAUSE {
+        ends(&rt, words, "For more information, try '--help'.");
+    }
+}
+
+/// A word, and how it is shown.
+const SHOWN: [(&str, &str); 4] = [
+    (
+        "0123456789012345678901234567890123456789012345678901234567890123456789",
+        "'012345678901234567890123456789012345678901234567890123456789...'",
+    ),
+    ("a\u{1b}[2Jb", "'a\\u{1b}[2Jb'"),
+    ("a\nb", "'a\\u{a}b'"),
+    ("caf\u{e9} 1", "'caf\u{e9} 1'"),
+];
+
+fn first_line(text: &str) -> &str {
+    text.lines().next().unwrap_or("")
+}
+
+/// The first line of what is told shows the word so.
+fn shows(rt: &(impl Abort + AllocGlobal), word: &str, shown: &str) {
+    let text = told(rt, &[word]);
+    let first = first_line(&text);
+    assert!(rt;
+        first.starts_with("error: unrecognized subcommand "),
+        "{text}"
+    );
+    assert!(rt; first.ends_with(shown), "{text}");
 }
 
 #[test]
 fn words_are_cut_and_escaped(rt: HostRuntime) {
-    let long = "0123456789012345678901234567890123456789012345678901234567890123456789";
-    for (word, shown) in [
-        (
-            long,
-            "'012345678901234567890123456789012345678901234567890123456789...'",
-        ),
-        ("a\u{1b}[2Jb", "'a\\u{1b}[2Jb'"),
-        ("a\nb", "'a\\u{a}b'"),
-        ("caf\u{e9} 1", "'caf\u{e9} 1'"),
-    ] {
-        let text = told(&rt, &[word]);
-        let first = text.as_str().lines().next().unwrap_or("");
-        assert!(rt;
-            first.starts_with("error: unrecognized subcommand "),
-            "{text}"
-        );
-        assert!(rt; first.ends_with(shown), "{text}");
+    for (word, shown) in SHOWN {
+        shows(&rt, word, shown);
     }
 }
 
+const HELP: [(&[&str], &str); 5] = [
+    (&["--help"], "  chrrep run < FILE"),
+    (&["check", "--help"], "Example: chrrep check < FILE"),
+    (&["explain", "--help"], "Example: chrrep explain < FILE"),
+    (&["run", "--help"], "Example: chrrep run < FILE"),
+    (&["serve", "--help"], "Example: cat FILE - | chrrep serve"),
+];
+
+fn has_line(text: &str, line: &str) -> bool {
+    for found in text.lines() {
+        if found == line {
+            return true;
+        }
+    }
+    false
+}
+
+const STATUSES: &str = "\nExit status: 0 the program is accepted, 1 it is refused";
+
 #[test]
 fn help_tells_statuses(rt: HostRuntime) {
-    for (words, line) in [
-        (["--help"].as_slice(), "  chrrep run < FILE"),
-        (
-            ["check", "--help"].as_slice(),
-            "Example: chrrep check < FILE",
-        ),
-        (
-            ["explain", "--help"].as_slice(),
-            "Example: chrrep explain < FILE",
-        ),
-        (["run", "--help"].as_slice(), "Example: chrrep run < FILE"),
-        (
-            ["serve", "--help"].as_slice(),
-            "Example: cat FILE - | chrrep serve",
-        ),
-    ] {
+    for (words, line) in HELP {
         let text = told(&rt, words);
-        assert!(rt; text.as_str().lines().any(|l| l == line), "{text}");
-        assert!(rt;
-            text.contains("\nExit status: 0 the program is accepted, 1 it is refused"),
-            "{text}"
-        );
+        assert!(rt; has_line(&text, line), "{text}");
+        assert!(rt; text.contains(STATUSES), "{text}");
     }
+}
+
+/// What the help of a command with `--wide` tells.
+const WIDE_HELP: [&str; 3] = [
+    "--wide",
+    "refused as 22",
+    "Decide by the columns that rules compare: more programs are decided",
+];
+
+/// What is told of these words has the text, or has not.
+fn contains(rt: &(impl Abort + AllocGlobal), words: &[&str], part: &str, expected: bool) {
+    let text = told(rt, words);
+    assert!(rt; text.contains(part) == expected, "{text}");
 }
 
 #[test]
 fn help_names_wide(rt: HostRuntime) {
-    for command in ["check", "run", "serve"] {
-        let text = told(&rt, &[command, "--help"]);
-        assert!(rt; text.contains("--wide"), "{text}");
-        assert!(rt; text.contains("refused as 22"), "{text}");
-        assert!(rt;
-            text.contains("Decide by the columns that rules compare: more programs are decided"),
-            "{text}"
-        );
+    for part in WIDE_HELP {
+        contains(&rt, &["check", "--help"], part, true);
+        contains(&rt, &["run", "--help"], part, true);
+        contains(&rt, &["serve", "--help"], part, true);
     }
-    for words in [["--help"].as_slice(), ["explain", "--help"].as_slice()] {
-        let text = told(&rt, words);
-        assert!(rt; !text.contains("--wide"), "{text}");
-    }
+    contains(&rt, &["--help"], "--wide", false);
+    contains(&rt, &["explain", "--help"], "--wide", false);
 }

@@ -1,235 +1,236 @@
-use chr_device::{Settings, Verb, WordsFault, read_words};
+//! Words that are taken, and words that are refused.
+use super::list;
+use chr_device::{Settings, Style, Verb, WordsFault, read_words};
+use clap::Error;
 use clap::error::ErrorKind;
-use std::alloc::Global;
 use std::process::Abort;
-use std::test::Fail;
 
-/// What `chrrep` with these words after it asks for.
-fn read(alloc: Global, words: &[&str]) -> Result<Settings, WordsFault> {
-    let mut list: Vec<String> = Vec::new(alloc);
-    list.push(String::from_str(alloc, "chrrep")?)
-        .map_err(|_| WordsFault::Memory)?;
-    for word in words {
-        list.push(String::from_str(alloc, word)?)
-            .map_err(|_| WordsFault::Memory)?;
+/// What `run` asks for. Each number is 1.
+const PLAIN: Settings = Settings {
+    command: Verb::Run,
+    wide: false,
+    replicas: 1,
+    style: Style {
+        dot: false,
+        all: false,
+    },
+    workers: 1,
+    parts: 1,
+};
+
+/// Whether `chrrep` with these words after it asks for this.
+fn asks_for(rt: &(impl Abort + AllocGlobal), words: &[&str], expected: Settings) -> bool {
+    match read_words(rt.alloc(), &list(rt, words)) {
+        Ok(settings) => settings == expected,
+        Err(_) => false,
     }
-    read_words(alloc, &list)
 }
+
+const COMMANDS: [(&[&str], Verb); 8] = [
+    (&["check"], Verb::Check),
+    (&["check", "--"], Verb::Check),
+    (&["run"], Verb::Run),
+    (&["run", "--"], Verb::Run),
+    (&["serve"], Verb::Serve),
+    (&["serve", "--"], Verb::Serve),
+    (&["explain"], Verb::Explain),
+    (&["explain", "--"], Verb::Explain),
+];
 
 #[test]
 fn commands_are_taken(rt: HostRuntime) {
-    let alloc = rt.alloc();
-    for (words, command) in [
-        (["check"].as_slice(), Verb::Check),
-        (["check", "--"].as_slice(), Verb::Check),
-        (["run"].as_slice(), Verb::Run),
-        (["run", "--"].as_slice(), Verb::Run),
-        (["serve"].as_slice(), Verb::Serve),
-        (["serve", "--"].as_slice(), Verb::Serve),
-        (["explain"].as_slice(), Verb::Explain),
-        (["explain", "--"].as_slice(), Verb::Explain),
-    ] {
-        let settings = read(alloc, words).ok();
-        assert_eq!(rt; settings.map(|s| s.command), Some(command));
-        let style = settings.map(|s| (s.style.dot, s.style.all));
-        assert_eq!(rt; style, Some((false, false)));
-        assert_eq!(rt; settings.map(|s| s.wide), Some(false));
-        let numbers = settings.map(|s| (s.replicas, s.workers, s.parts));
-        assert_eq!(rt; numbers, Some((1, 1, 1)));
+    for (words, command) in COMMANDS {
+        let expected = Settings { command, ..PLAIN };
+        assert!(rt; asks_for(&rt, words, expected), "{words:?}");
     }
 }
+
+const REPLICAS: [(&[&str], u32); 7] = [
+    (&["run", "--replicas", "1"], 1),
+    (&["run", "--replicas", "2"], 2),
+    (&["run", "--replicas", "16"], 16),
+    (&["run", "--replicas=2"], 2),
+    (&["run", "--replicas", "02"], 2),
+    (&["run", "--replicas", "+2"], 2),
+    (&["run", "--replicas", "2", "--"], 2),
+];
 
 #[test]
 fn replicas_are_read(rt: HostRuntime) {
-    let alloc = rt.alloc();
-    for (words, replicas) in [
-        (["run", "--replicas", "1"].as_slice(), 1),
-        (["run", "--replicas", "2"].as_slice(), 2),
-        (["run", "--replicas", "16"].as_slice(), 16),
-        (["run", "--replicas=2"].as_slice(), 2),
-        (["run", "--replicas", "02"].as_slice(), 2),
-        (["run", "--replicas", "+2"].as_slice(), 2),
-        (["run", "--replicas", "2", "--"].as_slice(), 2),
-    ] {
-        let settings = read(alloc, words).ok();
-        assert_eq!(rt; settings.map(|s| s.command), Some(Verb::Run));
-        let numbers = settings.map(|s| (s.replicas, s.workers, s.parts));
-        assert_eq!(rt; numbers, Some((replicas, 1, 1)));
+    for (words, replicas) in REPLICAS {
+        let expected = Settings { replicas, ..PLAIN };
+        assert!(rt; asks_for(&rt, words, expected), "{words:?}");
     }
 }
+
+const SERVED: [(&[&str], u32); 2] = [
+    (&["serve", "--replicas", "2"], 2),
+    (&["serve", "--replicas=16"], 16),
+];
 
 #[test]
 fn replicas_are_served(rt: HostRuntime) {
-    let alloc = rt.alloc();
-    for (words, replicas) in [
-        (["serve", "--replicas", "2"].as_slice(), 2),
-        (["serve", "--replicas=16"].as_slice(), 16),
-    ] {
-        let settings = read(alloc, words).ok();
-        assert_eq!(rt;
-            settings.map(|s| (s.command, s.replicas)),
-            Some((Verb::Serve, replicas))
-        );
+    let command = Verb::Serve;
+    for (words, replicas) in SERVED {
+        let expected = Settings {
+            command,
+            replicas,
+            ..PLAIN
+        };
+        assert!(rt; asks_for(&rt, words, expected), "{words:?}");
     }
 }
+
+/// Whether the explanation is a drawing, and whether it tells all.
+const STYLES: [(&[&str], bool, bool); 4] = [
+    (&["explain", "--dot"], true, false),
+    (&["explain", "--all"], false, true),
+    (&["explain", "--dot", "--all"], true, true),
+    (&["explain", "--all", "--dot"], true, true),
+];
 
 #[test]
 fn styles_are_read(rt: HostRuntime) {
-    let alloc = rt.alloc();
-    for (words, style) in [
-        (["explain", "--dot"].as_slice(), (true, false)),
-        (["explain", "--all"].as_slice(), (false, true)),
-        (["explain", "--dot", "--all"].as_slice(), (true, true)),
-        (["explain", "--all", "--dot"].as_slice(), (true, true)),
-    ] {
-        let settings = read(alloc, words).ok();
-        assert_eq!(rt; settings.map(|s| s.command), Some(Verb::Explain));
-        assert_eq!(rt; settings.map(|s| (s.style.dot, s.style.all)), Some(style));
+    let command = Verb::Explain;
+    for (words, dot, all) in STYLES {
+        let expected = Settings {
+            command,
+            style: Style { dot, all },
+            ..PLAIN
+        };
+        assert!(rt; asks_for(&rt, words, expected), "{words:?}");
     }
 }
+
+/// The command, how many replicas, and whether the verdict is wide.
+const WIDE: [(&[&str], Verb, u32, bool); 10] = [
+    (&["check", "--wide"], Verb::Check, 1, true),
+    (&["check", "--wide", "--"], Verb::Check, 1, true),
+    (&["run", "--wide"], Verb::Run, 1, true),
+    (&["serve", "--wide"], Verb::Serve, 1, true),
+    (&["run", "--wide", "--replicas", "2"], Verb::Run, 2, true),
+    (&["run", "--replicas=2", "--wide"], Verb::Run, 2, true),
+    (
+        &["serve", "--replicas", "16", "--wide"],
+        Verb::Serve,
+        16,
+        true,
+    ),
+    (&["run", "--replicas=2"], Verb::Run, 2, false),
+    (&["serve", "--replicas=2"], Verb::Serve, 2, false),
+    (&["explain", "--all"], Verb::Explain, 1, false),
+];
 
 #[test]
 fn wide_is_read(rt: HostRuntime) {
-    let alloc = rt.alloc();
-    for (words, expected) in [
-        (["check", "--wide"].as_slice(), (Verb::Check, 1, true)),
-        (["check", "--wide", "--"].as_slice(), (Verb::Check, 1, true)),
-        (["run", "--wide"].as_slice(), (Verb::Run, 1, true)),
-        (["serve", "--wide"].as_slice(), (Verb::Serve, 1, true)),
-        (
-            ["run", "--wide", "--replicas", "2"].as_slice(),
-            (Verb::Run, 2, true),
-        ),
-        (
-            ["run", "--replicas=2", "--wide"].as_slice(),
-            (Verb::Run, 2, true),
-        ),
-        (
-            ["serve", "--replicas", "16", "--wide"].as_slice(),
-            (Verb::Serve, 16, true),
-        ),
-        (["run", "--replicas=2"].as_slice(), (Verb::Run, 2, false)),
-        (
-            ["serve", "--replicas=2"].as_slice(),
-            (Verb::Serve, 2, false),
-        ),
-        (["explain", "--all"].as_slice(), (Verb::Explain, 1, false)),
-    ] {
-        let settings = read(alloc, words).ok();
-        let met = settings.map(|s| (s.command, s.replicas, s.wide));
-        assert_eq!(rt; met, Some(expected));
+    for (words, command, replicas, wide) in WIDE {
+        let expected = Settings {
+            command,
+            replicas,
+            wide,
+            ..PLAIN
+        };
+        assert!(rt; asks_for(&rt, words, expected), "{words:?}");
     }
 }
 
-#[test]
-fn other_wide_is_refused(rt: HostRuntime) -> Result<(), Fail> {
-    let refused = [
-        (
-            ["check", "--wide=true"].as_slice(),
-            ErrorKind::TooManyValues,
-            "'--wide'",
-        ),
-        (
-            ["run", "--wide", "--wide"].as_slice(),
-            ErrorKind::ArgumentConflict,
-            "'--wide'",
-        ),
-        (
-            ["serve", "--wid"].as_slice(),
-            ErrorKind::UnknownArgument,
-            "'--wid'",
-        ),
-        (
-            ["explain", "--wide"].as_slice(),
-            ErrorKind::UnknownArgument,
-            "'--wide'",
-        ),
-        (
-            ["--wide", "check"].as_slice(),
-            ErrorKind::UnknownArgument,
-            "'--wide'",
-        ),
-        (
-            ["check", "--wide", "true"].as_slice(),
-            ErrorKind::UnknownArgument,
-            "'true'",
-        ),
-    ];
-    for (words, kind, text) in refused {
-        refuses(&rt, words, kind, text)?;
-    }
-    Ok(())
+/// Whether it is an error of this kind, whose text has the one given.
+fn is_error(rt: &(impl Abort + AllocGlobal), error: Error, kind: ErrorKind, text: &str) -> bool {
+    let is_kind = error.kind() == kind;
+    let shown = format!(in rt.alloc(); "{}", WordsFault::Words(error)).expect(rt, "memory");
+    is_kind && shown.contains(text)
 }
 
+/// Whether the words are refused with an error of this kind, whose text has the one given.
+fn refuses(rt: &(impl Abort + AllocGlobal), words: &[&str], kind: ErrorKind, text: &str) -> bool {
+    match read_words(rt.alloc(), &list(rt, words)) {
+        Err(WordsFault::Words(error)) => is_error(rt, error, kind, text),
+        _ => false,
+    }
+}
+
+const OTHER_WIDE: [(&[&str], ErrorKind, &str); 6] = [
+    (
+        &["check", "--wide=true"],
+        ErrorKind::TooManyValues,
+        "'--wide'",
+    ),
+    (
+        &["run", "--wide", "--wide"],
+        ErrorKind::ArgumentConflict,
+        "'--wide'",
+    ),
+    (&["serve", "--wid"], ErrorKind::UnknownArgument, "'--wid'"),
+    (
+        &["explain", "--wide"],
+        ErrorKind::UnknownArgument,
+        "'--wide'",
+    ),
+    (&["--wide", "check"], ErrorKind::UnknownArgument, "'--wide'"),
+    (
+        &["check", "--wide", "true"],
+        ErrorKind::UnknownArgument,
+        "'true'",
+    ),
+];
+
 #[test]
-fn other_replicas_are_refused(rt: HostRuntime) -> Result<(), Fail> {
-    let refused = [
-        (
-            ["--replicas", "0"].as_slice(),
-            ErrorKind::ValueValidation,
-            "0 is not in 1..=16",
-        ),
-        (
-            ["--replicas", "17"].as_slice(),
-            ErrorKind::ValueValidation,
-            "17 is not in 1..=16",
-        ),
-        (
-            ["--replicas=-1"].as_slice(),
-            ErrorKind::ValueValidation,
-            "-1 is not in 1..=16",
-        ),
-        (
-            ["--replicas", "-1"].as_slice(),
-            ErrorKind::UnknownArgument,
-            "'-1'",
-        ),
-        (
-            ["--replicas", "x"].as_slice(),
-            ErrorKind::ValueValidation,
-            "'x'",
-        ),
-        (
-            ["--replicas", "2.0"].as_slice(),
-            ErrorKind::ValueValidation,
-            "'2.0'",
-        ),
-        (
-            ["--replicas", "4294967298"].as_slice(),
-            ErrorKind::ValueValidation,
-            "4294967298 is not in 1..=16",
-        ),
-        (
-            ["--replicas"].as_slice(),
-            ErrorKind::InvalidValue,
-            "--replicas <N>",
-        ),
-        (
-            ["--replicas", "1", "--replicas", "2"].as_slice(),
-            ErrorKind::ArgumentConflict,
-            "--replicas <N>",
-        ),
-        (
-            ["--replicas", "1", "2"].as_slice(),
-            ErrorKind::UnknownArgument,
-            "'2'",
-        ),
-        (
-            ["--replica", "2"].as_slice(),
-            ErrorKind::UnknownArgument,
-            "'--replica'",
-        ),
-        (
-            ["--workers", "2"].as_slice(),
-            ErrorKind::UnknownArgument,
-            "'--workers'",
-        ),
-    ];
-    for (options, kind, text) in refused {
+fn other_wide_is_refused(rt: HostRuntime) {
+    for (words, kind, text) in OTHER_WIDE {
+        assert!(rt; refuses(&rt, words, kind, text), "{words:?}");
+    }
+}
+
+/// Words after `run`.
+const OTHER_REPLICAS: [(&[&str], ErrorKind, &str); 12] = [
+    (
+        &["--replicas", "0"],
+        ErrorKind::ValueValidation,
+        "0 is not in 1..=16",
+    ),
+    (
+        &["--replicas", "17"],
+        ErrorKind::ValueValidation,
+        "17 is not in 1..=16",
+    ),
+    (
+        &["--replicas=-1"],
+        ErrorKind::ValueValidation,
+        "-1 is not in 1..=16",
+    ),
+    (&["--replicas", "-1"], ErrorKind::UnknownArgument, "'-1'"),
+    (&["--replicas", "x"], ErrorKind::ValueValidation, "'x'"),
+    (&["--replicas", "2.0"], ErrorKind::ValueValidation, "'2.0'"),
+    (
+        &["--replicas", "4294967298"],
+        ErrorKind::ValueValidation,
+        "4294967298 is not in 1..=16",
+    ),
+    (&["--replicas"], ErrorKind::InvalidValue, "--replicas <N>"),
+    (
+        &["--replicas", "1", "--replicas", "2"],
+        ErrorKind::ArgumentConflict,
+        "--replicas <N>",
+    ),
+    (&["--replicas", "1", "2"], ErrorKind::UnknownArgument, "'2'"),
+    (
+        &["--replica", "2"],
+        ErrorKind::UnknownArgument,
+        "'--replica'",
+    ),
+    (
+        &["--workers", "2"],
+        ErrorKind::UnknownArgument,
+        "'--workers'",
+    ),
+];
+
+#[test]
+fn other_replicas_are_refused(rt: HostRuntime) {
+    for (options, kind, text) in OTHER_REPLICAS {
         let words = after_run(&rt, options);
-        refuses(&rt, words.as_slice(), kind, text)?;
+        assert!(rt; refuses(&rt, &words, kind, text), "{options:?}");
     }
-    Ok(())
 }
 
 /// `run` and these words.
@@ -242,109 +243,62 @@ fn after_run<'a>(rt: &(impl Abort + AllocGlobal), options: &[&'a str]) -> Vec<&'
     words
 }
 
-/// The words are refused with an error of this kind, whose text has the one given.
-fn refuses(
-    rt: &(impl Abort + AllocGlobal),
-    words: &[&str],
-    kind: ErrorKind,
-    text: &str,
-) -> Result<(), Fail> {
-    let alloc = rt.alloc();
-    let fault = read(alloc, words).err();
-    let Some(WordsFault::Words(error)) = fault else {
-        assert!(rt; false, "{text}: {fault:?}");
-        return Ok(());
-    };
-    assert_eq!(rt; error.kind(), kind, "{text}");
-    let shown = format!(in alloc; "{}", WordsFault::Words(error))?;
-    assert!(rt; shown.contains(text), "{shown}");
-    Ok(())
-}
+const OTHER_WORDS: [(&[&str], ErrorKind, &str); 18] = [
+    (&[], ErrorKind::MissingSubcommand, "requires a subcommand"),
+    (&["--help"], ErrorKind::DisplayHelp, "Usage: chrrep"),
+    (&["help"], ErrorKind::DisplayHelp, "Usage: chrrep"),
+    (
+        &["run", "--help"],
+        ErrorKind::DisplayHelp,
+        "Usage: chrrep run",
+    ),
+    (&["--version"], ErrorKind::UnknownArgument, "--version"),
+    (&["ru"], ErrorKind::InvalidSubcommand, "'ru'"),
+    (&["chec"], ErrorKind::InvalidSubcommand, "'chec'"),
+    (&["weigh"], ErrorKind::InvalidSubcommand, "'weigh'"),
+    (&["run", "run"], ErrorKind::UnknownArgument, "'run'"),
+    (&["check", "run"], ErrorKind::UnknownArgument, "'run'"),
+    (
+        &["check", "--help"],
+        ErrorKind::DisplayHelp,
+        "Usage: chrrep check",
+    ),
+    (
+        &["check", "--replicas", "2"],
+        ErrorKind::UnknownArgument,
+        "'--replicas'",
+    ),
+    (
+        &["explain", "--dot=true"],
+        ErrorKind::TooManyValues,
+        "'--dot'",
+    ),
+    (
+        &["explain", "--dot", "--dot"],
+        ErrorKind::ArgumentConflict,
+        "'--dot'",
+    ),
+    (&["check", "--dot"], ErrorKind::UnknownArgument, "'--dot'"),
+    (
+        &["serve", "--help"],
+        ErrorKind::DisplayHelp,
+        "Usage: chrrep serve",
+    ),
+    (
+        &["explain", "--help"],
+        ErrorKind::DisplayHelp,
+        "Usage: chrrep explain",
+    ),
+    (
+        &["--replicas", "2", "run"],
+        ErrorKind::UnknownArgument,
+        "'--replicas'",
+    ),
+];
 
 #[test]
-fn other_words_are_refused(rt: HostRuntime) -> Result<(), Fail> {
-    let refused = [
-        (
-            [].as_slice(),
-            ErrorKind::MissingSubcommand,
-            "requires a subcommand",
-        ),
-        (
-            ["--help"].as_slice(),
-            ErrorKind::DisplayHelp,
-            "Usage: chrrep",
-        ),
-        (["help"].as_slice(), ErrorKind::DisplayHelp, "Usage: chrrep"),
-        (
-            ["run", "--help"].as_slice(),
-            ErrorKind::DisplayHelp,
-            "Usage: chrrep run",
-        ),
-        (
-            ["--version"].as_slice(),
-            ErrorKind::UnknownArgument,
-            "--version",
-        ),
-        (["ru"].as_slice(), ErrorKind::InvalidSubcommand, "'ru'"),
-        (["chec"].as_slice(), ErrorKind::InvalidSubcommand, "'chec'"),
-        (
-            ["weigh"].as_slice(),
-            ErrorKind::InvalidSubcommand,
-            "'weigh'",
-        ),
-        (
-            ["run", "run"].as_slice(),
-            ErrorKind::UnknownArgument,
-            "'run'",
-        ),
-        (
-            ["check", "run"].as_slice(),
-            ErrorKind::UnknownArgument,
-            "'run'",
-        ),
-        (
-            ["check", "--help"].as_slice(),
-            ErrorKind::DisplayHelp,
-            "Usage: chrrep check",
-        ),
-        (
-            ["check", "--replicas", "2"].as_slice(),
-            ErrorKind::UnknownArgument,
-            "'--replicas'",
-        ),
-        (
-            ["explain", "--dot=true"].as_slice(),
-            ErrorKind::TooManyValues,
-            "'--dot'",
-        ),
-        (
-            ["explain", "--dot", "--dot"].as_slice(),
-            ErrorKind::ArgumentConflict,
-            "'--dot'",
-        ),
-        (
-            ["check", "--dot"].as_slice(),
-            ErrorKind::UnknownArgument,
-            "'--dot'",
-        ),
-        (
-            ["serve", "--help"].as_slice(),
-            ErrorKind::DisplayHelp,
-            "Usage: chrrep serve",
-        ),
-        (
-            ["explain", "--help"].as_slice(),
-            ErrorKind::DisplayHelp,
-            "Usage: chrrep explain",
-        ),
-        (
-            ["--replicas", "2", "run"].as_slice(),
-            ErrorKind::UnknownArgument,
-            "'--replicas'",
-        ),
-    ];
-    for (words, kind, text) in refused {
-        refuses(&rt, words, kind, text)?;
+fn other_words_are_refused(rt: HostRuntime) {
+    for (words, kind, text) in OTHER_WORDS {
+        assert!(rt; refuses(&rt, words, kind, text), "{words:?}");
     }
-    Ok(())
 }
