@@ -8,10 +8,7 @@ use std::thread::Threads;
 
 /// What came of the lease, by resting its part.
 fn rested(rt: &impl Abort, alloc: Global, program: &Accepted, lease: Lease) -> Done {
-    let Ok(done) = program.rest_part(alloc, lease) else {
-        panic!(rt; "out of memory");
-    };
-    done
+    program.rest_part(alloc, lease).ok().expect(rt, "memory")
 }
 
 /// Whether what came of a lease has this number and part and is of this program.
@@ -36,18 +33,12 @@ pub fn is_done(
 
 /// An equal value.
 fn copied_done(rt: &impl Abort, alloc: Global, done: &Done) -> Done {
-    let Ok(copy) = done.copy(alloc) else {
-        panic!(rt; "out of memory");
-    };
-    copy
+    done.copy(alloc).expect(rt, "memory")
 }
 
 /// An equal lease.
 fn copied_lease(rt: &impl Abort, alloc: Global, lease: &Lease) -> Lease {
-    let Ok(copy) = lease.copy(alloc) else {
-        panic!(rt; "out of memory");
-    };
-    copy
+    lease.copy(alloc).expect(rt, "memory")
 }
 
 /// Whether the lease of this part is rested to this store, and a copy of what came of it is the same.

@@ -1,31 +1,27 @@
 //! Events that are chosen at random.
 use crate::tests::random_worlds::family::unknown_atom;
 use crate::tests::random_worlds::game::{Game, issued};
-use crate::tests::random_worlds::model::count;
 use crate::tests::random_worlds::multisets::copies;
-use crate::tests::random_worlds::random::Random;
-use arrayvec::ArrayVec;
 use chr_acts::{Act, OpList};
 use chr_base::atom::Atom;
 use chr_base::bag::Bag;
 use chr_base::derivation::Step;
 use chr_ops::{Op, OpId};
+use chr_testing::atoms::step;
+use chr_testing::random::Random;
 use std::alloc::Global;
 use std::process::Abort;
 
 fn op(rt: &impl Abort, id: OpId, atoms: Vec<Atom>) -> Op {
     let bag = Bag::of(atoms).expect(rt, "memory");
-    let Some(op) = Op::of(id, bag) else {
-        panic!(rt; "no operation");
-    };
-    op
+    Op::of(id, bag).expect(rt, "an operation")
 }
 
 /// One of the items, where there are any.
 fn one_of<'a, T>(random: &mut Random, items: &'a [T]) -> Option<&'a T> {
-    match count(items) {
+    match items.len() {
         0 => None,
-        items_there => items.get(random.below(items_there) as usize),
+        there => items.get(random.below(there)),
     }
 }
 
@@ -43,12 +39,13 @@ fn some_of(rt: &impl Abort, alloc: Global, random: &mut Random, atoms: &[Atom]) 
 impl Game {
     /// The number of a replica, or now and then of none.
     fn somebody(&mut self) -> u64 {
-        let replicas = count(&self.replicas).min(1_000);
-        match self.random.below(25) {
+        let replicas = self.replicas.len().min(1_000);
+        let number = match self.random.below(25) {
             0 => 0,
             1 => replicas + 1,
             _ => 1 + self.random.below(replicas + 1) % replicas.max(1),
-        }
+        };
+        number as u64
     }
 
     /// One to three atoms.
@@ -168,19 +165,24 @@ impl Game {
         Bag::of(atoms).expect(rt, "memory")
     }
 
+    /// One of these atoms, or a new one where there are none.
+    fn head(&mut self, pool: &[Atom]) -> Atom {
+        match one_of(&mut self.random, pool) {
+            Some(atom) => atom.copy(),
+            None => self.family.atom(&mut self.random),
+        }
+    }
+
+    /// The number of a rule, or of none.
+    fn rule(&mut self) -> u32 {
+        1 + (self.random.below(5) / 2) as u32
+    }
+
     /// A step of a rule, or of none, on two atoms of the replica's pool, which may be one atom twice.
     fn step(&mut self, rt: &impl Abort, alloc: Global, number: u64) -> Step {
         let pool = self.pool_of(rt, alloc, number);
-        let mut heads = ArrayVec::new();
-        for _ in 0..2 {
-            let atom = match one_of(&mut self.random, &pool) {
-                Some(atom) => atom.copy(),
-                None => self.family.atom(&mut self.random),
-            };
-            let _ = heads.try_push(atom);
-        }
-        let rule = 1 + (self.random.below(5) / 2) as u32;
-        Step { rule, heads }
+        let heads = [self.head(&pool), self.head(&pool)];
+        step(self.rule(), heads.as_slice())
     }
 
     /// Gives back what came of one of the last leases, mostly to the replica that leased it.
@@ -201,18 +203,34 @@ impl Game {
     /// Lets one event happen.
     pub fn play_one(&mut self, rt: &impl Abort, alloc: Global) {
         let number = self.somebody();
-        let act = match self.random.below(16) {
+        match self.random.below(16) {
+            12 => self.cut_one(rt, alloc, number),
+            13 => self.exchange_one(rt, alloc, number),
+            14 | 15 => self.give_back(rt, alloc),
+            choice => self.ask_one(rt, alloc, number, choice),
+        }
+    }
+
+    /// The number of a lease that may be out.
+    fn lease_number(&mut self) -> u64 {
+        1 + self.random.below(6) as u64
+    }
+
+    /// What is asked of a replica by this choice, 0 to 11.
+    fn act(&mut self, rt: &impl Abort, alloc: Global, number: u64, choice: usize) -> Act {
+        match choice {
             0 | 1 | 2 | 3 => Act::Tell(self.telling(rt, alloc, number)),
             4 | 5 => Act::Merge(self.delta(rt, alloc, number)),
             6 => Act::Take(self.part(rt, alloc, number)),
-            7 => Act::Recall(1 + self.random.below(6)),
+            7 => Act::Recall(self.lease_number()),
             8 => Act::Settle,
             9 => Act::Show,
-            10 | 11 => Act::Step(self.step(rt, alloc, number)),
-            12 => return self.cut_one(rt, alloc, number),
-            13 => return self.exchange_one(rt, alloc, number),
-            _ => return self.give_back(rt, alloc),
-        };
+            _ => Act::Step(self.step(rt, alloc, number)),
+        }
+    }
+
+    fn ask_one(&mut self, rt: &impl Abort, alloc: Global, number: u64, choice: usize) {
+        let act = self.act(rt, alloc, number, choice);
         self.ask(rt, alloc, number, act, false);
     }
 
