@@ -5,16 +5,15 @@ ghost use Rattle.chr_base.specs.Weights.{default_weight, is_weight};
 use arrayvec::ArrayVec;
 use chr_base::atom::{Atom, SymbolId};
 use chr_base::bag::Bag;
-use chr_base::derivation::Step;
 use chr_base::limits::{MAX_ARITY, MAX_SYMBOLS, MAX_WEIGHT};
 use chr_base::program::Program;
 use chr_base::rule::Rule;
 use chr_base::term::{Cmp, Comparison, Pattern, Term};
 use chr_base::text::{in_print_order, push_store, store_text};
 use chr_base::weight::{DEFAULT_WEIGHT, Weight};
+use chr_testing::atoms::{self, atom, bag};
 use std::alloc::{AllocError, Global};
 use std::process::Abort;
-use std::test::Fail;
 
 fn weight(first: u64, second: u64) -> Weight
     ensures { result ≡ record { first = first; second = second } }
@@ -22,19 +21,8 @@ fn weight(first: u64, second: u64) -> Weight
     Weight { first, second }
 }
 
-fn atom(symbol: u16, values: &[i64]) -> Atom {
-    let mut args = ArrayVec::new();
-    for value in values {
-        let _ = args.try_push(*value);
-    }
-    Atom {
-        symbol: SymbolId(symbol),
-        args,
-    }
-}
-
 /// Symbols `min/1`, `a/0` and `a/2`, in this order, without rules.
-fn three_symbols(rt: &impl Abort, alloc: Global) -> Result<Program, AllocError> {
+fn declared(rt: &impl Abort, alloc: Global) -> Result<Program, AllocError> {
     let mut program = Program::empty(alloc);
     if program.symbol("min", 1).is_none() && program.symbols() < MAX_SYMBOLS {
         program.declare("min", 1)?;
@@ -49,118 +37,218 @@ fn three_symbols(rt: &impl Abort, alloc: Global) -> Result<Program, AllocError> 
     Ok(program)
 }
 
-#[test]
-fn declarations(rt: HostRuntime) -> Result<(), Fail> {
-    let mut program = three_symbols(&rt, rt.alloc())?;
-    assert_eq!(rt; program.symbols(), 3);
-    assert_eq!(rt; program.symbol("a", 2), Some(SymbolId(2)));
-    assert_eq!(rt; program.symbol("a", 1), None);
-    assert_eq!(rt;
-        program.symbol("a_name_that_is_longer_than_any_32", 1),
-        None
-    );
-    assert_eq!(rt; program.name_of(SymbolId(0)), "min");
-    assert_eq!(rt; program.arity_of(SymbolId(2)), 2);
-    assert_eq!(rt; program.weight_of(SymbolId(1)), weight(1, 0));
-    program.set_weight(SymbolId(1), weight(MAX_WEIGHT, MAX_WEIGHT));
-    assert_eq!(rt; program.symbols(), 3);
-    assert_eq!(rt;
-        program.weight_of(SymbolId(1)),
-        weight(MAX_WEIGHT, MAX_WEIGHT)
-    );
-    assert_eq!(rt; program.weight_of(SymbolId(2)), weight(1, 0));
-    assert!(rt; program.has_pairs());
-    program.set_weight(SymbolId(1), weight(MAX_WEIGHT, 0));
-    assert!(rt; !program.has_pairs());
-    assert!(rt; program.declares(&atom(2, &[4, 5])));
-    assert!(rt; !program.declares(&atom(2, &[4])));
-    assert!(rt; !program.declares(&atom(3, &[])));
-    Ok(())
+/// The same, with memory enough.
+fn three_symbols(rt: &impl Abort, alloc: Global) -> Program {
+    declared(rt, alloc).expect(rt, "memory")
+}
+
+/// Names with a number of arguments, and the symbol.
+const SYMBOLS: [(&str, usize, Option<SymbolId>); 3] = [
+    ("a", 2, Some(SymbolId(2))),
+    ("a", 1, None),
+    ("a_name_that_is_longer_than_any_32", 1, None),
+];
+
+fn symbol_of(program: &Program, name: &str, arity: usize) -> Option<SymbolId> {
+    program.symbol(name, arity)
 }
 
 #[test]
-fn bags(rt: HostRuntime) -> Result<(), Fail> {
-    let alloc = rt.alloc();
-    let mut atoms = Vec::new(alloc);
-    for value in [5, -1, 5] {
-        atoms.push(atom(0, &[value]))?;
+fn symbols(rt: HostRuntime) {
+    let program = three_symbols(&rt, rt.alloc());
+    assert_eq!(rt; program.symbols(), 3);
+    for (name, arity, symbol) in SYMBOLS {
+        assert_eq!(rt; symbol_of(&program, name, arity), symbol, "{name}");
     }
-    let mut bag = Bag::of(atoms)?;
+}
+
+/// The name of a declared symbol.
+fn name_of<'a>(rt: &impl Abort, program: &'a Program, symbol: u16) -> &'a str {
+    assert!(rt; usize::from(symbol) < program.symbols());
+    program.name_of(SymbolId(symbol))
+}
+
+fn arity_of(rt: &impl Abort, program: &Program, symbol: u16) -> usize {
+    assert!(rt; usize::from(symbol) < program.symbols());
+    program.arity_of(SymbolId(symbol))
+}
+
+fn weight_of(rt: &impl Abort, program: &Program, symbol: u16) -> Weight {
+    assert!(rt; usize::from(symbol) < program.symbols());
+    program.weight_of(SymbolId(symbol))
+}
+
+fn set_weight(rt: &impl Abort, program: &mut Program, symbol: u16, weight: Weight)
+    requires { IsTrue (is_weight weight) }
+{
+    assert!(rt; usize::from(symbol) < program.symbols());
+    program.set_weight(SymbolId(symbol), weight);
+}
+
+#[test]
+fn declarations(rt: HostRuntime) {
+    let mut program = three_symbols(&rt, rt.alloc());
+    assert_eq!(rt; name_of(&rt, &program, 0), "min");
+    assert_eq!(rt; arity_of(&rt, &program, 2), 2);
+    assert_eq!(rt; weight_of(&rt, &program, 1), weight(1, 0));
+    set_weight(&rt, &mut program, 1, weight(MAX_WEIGHT, MAX_WEIGHT));
+    assert_eq!(rt; program.symbols(), 3);
+    assert_eq!(rt; weight_of(&rt, &program, 1), weight(MAX_WEIGHT, MAX_WEIGHT));
+    assert_eq!(rt; weight_of(&rt, &program, 2), weight(1, 0));
+}
+
+fn has_pairs(program: &Program) -> bool {
+    program.has_pairs()
+}
+
+#[test]
+fn pairs_of_weights(rt: HostRuntime) {
+    let mut program = three_symbols(&rt, rt.alloc());
+    set_weight(&rt, &mut program, 1, weight(MAX_WEIGHT, MAX_WEIGHT));
+    assert!(rt; has_pairs(&program));
+    set_weight(&rt, &mut program, 1, weight(MAX_WEIGHT, 0));
+    assert!(rt; !has_pairs(&program));
+}
+
+fn declares(program: &Program, atom: &Atom) -> bool {
+    program.declares(atom)
+}
+
+#[test]
+fn declared_atoms(rt: HostRuntime) {
+    let program = three_symbols(&rt, rt.alloc());
+    assert!(rt; declares(&program, &atom(2, &[4, 5])));
+    assert!(rt; !declares(&program, &atom(2, &[4])));
+    assert!(rt; !declares(&program, &atom(3, &[])));
+}
+
+/// An atom: its symbol and values.
+type Row = (u16, &'static [i64]);
+
+fn store(rt: &impl Abort, alloc: Global, rows: &[Row]) -> Bag {
+    bag(alloc, rows).expect(rt, "memory")
+}
+
+/// Asserts that these atoms, in this order, are all that the bag has.
+fn expect_atoms(rt: &impl Abort, alloc: Global, bag: &Bag, rows: &[Row]) {
+    let expected = atoms::atoms(alloc, rows).expect(rt, "memory");
+    assert!(rt; bag.atoms() == expected.as_slice());
+}
+
+fn is_same_bag(one: &Bag, other: &Bag) -> bool {
+    one.is_same(other)
+}
+
+fn removes(bag: &mut Bag, atoms: &[Atom]) -> bool {
+    bag.remove_all(atoms)
+}
+
+fn copied_bag(rt: &impl Abort, alloc: Global, bag: &Bag) -> Bag {
+    bag.copy(alloc).expect(rt, "memory")
+}
+
+fn unite(rt: &impl Abort, bag: &mut Bag, more: &Bag) {
+    bag.union(more).expect(rt, "memory");
+}
+
+const FIVES: [Row; 3] = [(0, &[5]), (0, &[-1]), (0, &[5])];
+
+#[test]
+fn bags(rt: HostRuntime) {
+    let alloc = rt.alloc();
+    let mut bag = store(&rt, alloc, &FIVES);
     assert_eq!(rt; bag.len(), 3);
-    assert!(rt; bag.atoms() == [atom(0, &[-1]), atom(0, &[5]), atom(0, &[5])].as_slice());
-    let copy = bag.copy(alloc)?;
-    assert!(rt; bag.is_same(&copy));
-    bag.add(atom(0, &[2]))?;
-    assert!(rt; !bag.is_same(&copy));
-    bag.union(&copy)?;
+    expect_atoms(&rt, alloc, &bag, &[(0, &[-1]), (0, &[5]), (0, &[5])]);
+    let copy = copied_bag(&rt, alloc, &bag);
+    assert!(rt; is_same_bag(&bag, &copy));
+    add(&rt, &mut bag, 0, &[2]);
+    assert!(rt; !is_same_bag(&bag, &copy));
+    unite(&rt, &mut bag, &copy);
     assert_eq!(rt; bag.len(), 7);
-    assert!(rt; !bag.remove_all(&[atom(0, &[2]), atom(0, &[2])]));
+}
+
+#[test]
+fn atoms_leave_bags(rt: HostRuntime) {
+    let alloc = rt.alloc();
+    let fives = store(&rt, alloc, &FIVES);
+    let mut bag = copied_bag(&rt, alloc, &fives);
+    add(&rt, &mut bag, 0, &[2]);
+    unite(&rt, &mut bag, &fives);
+    assert!(rt; !removes(&mut bag, &[atom(0, &[2]), atom(0, &[2])]));
     assert_eq!(rt; bag.len(), 7);
-    assert!(rt; bag.remove_all(&[atom(0, &[5]), atom(0, &[2]), atom(0, &[5])]));
-    assert!(rt;
-        bag.atoms() == [atom(0, &[-1]), atom(0, &[-1]), atom(0, &[5]), atom(0, &[5])].as_slice()
+    assert!(rt; removes(&mut bag, &[atom(0, &[5]), atom(0, &[2]), atom(0, &[5])]));
+    expect_atoms(
+        &rt,
+        alloc,
+        &bag,
+        &[(0, &[-1]), (0, &[-1]), (0, &[5]), (0, &[5])],
     );
     assert!(rt; !bag.is_empty());
     assert!(rt; Bag::new(alloc).is_empty());
-    Ok(())
 }
 
-#[test]
-fn texts(rt: HostRuntime) -> Result<(), Fail> {
-    let alloc = rt.alloc();
-    let program = three_symbols(&rt, alloc)?;
-    let mut bag = Bag::new(alloc);
-    assert_eq!(rt; store_text(alloc, &program, &bag)?.as_str(), "true");
-    bag.add(atom(0, &[3]))?;
-    bag.add(atom(2, &[-9223372036854775808, 7]))?;
-    bag.add(atom(0, &[-3]))?;
-    bag.add(atom(1, &[]))?;
-    bag.add(atom(0, &[3]))?;
-    let text = store_text(alloc, &program, &bag)?;
-    assert_eq!(rt;
-        text.as_str(),
-        "a, a(-9223372036854775808,7), min(-3), min(3), min(3)"
-    );
-    Ok(())
+fn add(rt: &impl Abort, bag: &mut Bag, symbol: u16, values: &[i64]) {
+    bag.add(atom(symbol, values)).expect(rt, "memory");
+}
+
+fn expect_text(rt: &impl Abort, alloc: Global, rows: &[Row], expected: &str) {
+    let bag = store(rt, alloc, rows);
+    let text = store_text(alloc, &three_symbols(rt, alloc), &bag).expect(rt, "memory");
+    assert_eq!(rt; text.as_str(), expected);
 }
 
 /// `a` before `min`, of one name fewer arguments first, and of one symbol the smaller arguments first.
 #[test]
-fn atoms_in_print_order(rt: HostRuntime) -> Result<(), Fail> {
-    let alloc = rt.alloc();
-    let program = three_symbols(&rt, alloc)?;
-    let mut bag = Bag::new(alloc);
-    assert!(rt; in_print_order(alloc, &program, &bag)?.is_empty());
-    bag.add(atom(0, &[3]))?;
-    bag.add(atom(2, &[-5, 7]))?;
-    bag.add(atom(0, &[-3]))?;
-    bag.add(atom(1, &[]))?;
-    bag.add(atom(0, &[3]))?;
-    let sorted = [
-        atom(1, &[]),
-        atom(2, &[-5, 7]),
-        atom(0, &[-3]),
-        atom(0, &[3]),
-        atom(0, &[3]),
-    ];
-    assert!(rt; in_print_order(alloc, &program, &bag)?.as_slice() == sorted.as_slice());
-    Ok(())
+fn texts(rt: HostRuntime) {
+    expect_text(&rt, rt.alloc(), &[], "true");
+    expect_text(
+        &rt,
+        rt.alloc(),
+        &[
+            (0, &[3]),
+            (2, &[-9223372036854775808, 7]),
+            (0, &[-3]),
+            (1, &[]),
+            (0, &[3]),
+        ],
+        "a, a(-9223372036854775808,7), min(-3), min(3), min(3)",
+    );
+}
+
+/// Atoms, and the same in the order in which they are printed.
+const PRINTED: [(&[Row], &[Row]); 2] = [
+    (&[], &[]),
+    (
+        &[(0, &[3]), (2, &[-5, 7]), (0, &[-3]), (1, &[]), (0, &[3])],
+        &[(1, &[]), (2, &[-5, 7]), (0, &[-3]), (0, &[3]), (0, &[3])],
+    ),
+];
+
+fn expect_order(rt: &impl Abort, alloc: Global, program: &Program, rows: &[Row], sorted: &[Row]) {
+    let bag = store(rt, alloc, rows);
+    let found = in_print_order(alloc, program, &bag).expect(rt, "memory");
+    let expected = atoms::atoms(alloc, sorted).expect(rt, "memory");
+    assert!(rt; found.as_slice() == expected.as_slice());
+}
+
+#[test]
+fn atoms_in_print_order(rt: HostRuntime) {
+    let program = three_symbols(&rt, rt.alloc());
+    for (rows, sorted) in PRINTED {
+        expect_order(&rt, rt.alloc(), &program, rows, sorted);
+    }
 }
 
 /// An atom that isn't declared, since its symbol has no arguments, stands among the declared ones of its name.
+const OTHER_ATOMS: [Row; 4] = [(2, &[7, 0]), (1, &[5, 6]), (2, &[1, 9]), (3, &[4])];
+
 #[test]
-fn texts_of_other_atoms(rt: HostRuntime) -> Result<(), Fail> {
+fn texts_of_other_atoms(rt: HostRuntime) {
     let alloc = rt.alloc();
-    let program = three_symbols(&rt, alloc)?;
-    let mut bag = Bag::new(alloc);
-    bag.add(atom(2, &[7, 0]))?;
-    bag.add(atom(1, &[5, 6]))?;
-    bag.add(atom(2, &[1, 9]))?;
-    bag.add(atom(3, &[4]))?;
-    let mut text = String::from_str(alloc, "shown: ")?;
-    push_store(alloc, &mut text, &program, &bag)?;
+    let bag = store(&rt, alloc, &OTHER_ATOMS);
+    let mut text = String::from_str(alloc, "shown: ").expect(&rt, "memory");
+    push_store(alloc, &mut text, &three_symbols(&rt, alloc), &bag).expect(&rt, "memory");
     assert_eq!(rt; text.as_str(), "shown: (4), a(1,9), a(5,6), a(7,0)");
-    Ok(())
 }
 
 fn pattern(symbol: u16, terms: &[Term]) -> Pattern
@@ -210,42 +298,71 @@ fn two_heads(cmp: Cmp) -> Rule
     }
 }
 
+/// A sign, and whether the rule fires where X is below, equal to and above Y.
+const SIGNS: [(Cmp, bool, bool, bool); 6] = [
+    (Cmp::Less, true, false, false),
+    (Cmp::AtMost, true, true, false),
+    (Cmp::Greater, false, false, true),
+    (Cmp::AtLeast, false, true, true),
+    (Cmp::Equal, false, true, false),
+    (Cmp::NotEqual, true, false, true),
+];
+
+fn fires(rule: &Rule, heads: &[Atom]) -> bool {
+    rule.fires(heads)
+}
+
+/// Whether the rule fires at this X, where Y is 5.
+fn fires_at(rule: &Rule, x: i64) -> bool {
+    fires(rule, &[atom(0, &[x, x, 3]), atom(1, &[5])])
+}
+
 #[test]
 fn comparisons(rt: HostRuntime) {
-    for (cmp, below, equal, above) in [
-        (Cmp::Less, true, false, false),
-        (Cmp::AtMost, true, true, false),
-        (Cmp::Greater, false, false, true),
-        (Cmp::AtLeast, false, true, true),
-        (Cmp::Equal, false, true, false),
-        (Cmp::NotEqual, true, false, true),
-    ] {
+    for (cmp, below, equal, above) in SIGNS {
         let rule = two_heads(cmp);
-        assert_eq!(rt; rule.fires(&[atom(0, &[-2, -2, 3]), atom(1, &[5])]), below);
-        assert_eq!(rt; rule.fires(&[atom(0, &[5, 5, 3]), atom(1, &[5])]), equal);
-        assert_eq!(rt; rule.fires(&[atom(0, &[7, 7, 3]), atom(1, &[5])]), above);
+        assert_eq!(rt; fires_at(&rule, -2), below);
+        assert_eq!(rt; fires_at(&rule, 5), equal);
+        assert_eq!(rt; fires_at(&rule, 7), above);
     }
+}
+
+#[test]
+fn heads(rt: HostRuntime) {
+    let rule = two_heads(Cmp::Less);
+    let places = rule.places();
+    assert_eq!(rt; places, 2);
+    assert_eq!(rt; rule.head_at(0).symbol, SymbolId(0));
+    assert_eq!(rt; rule.head_at(1).symbol, SymbolId(1));
+}
+
+/// Heads that are no instance.
+const UNLIKE: [&[Row]; 4] = [
+    &[(0, &[2, 4, 3]), (1, &[9])],
+    &[(0, &[2, 2, 4]), (1, &[9])],
+    &[(1, &[9]), (0, &[2, 2, 3])],
+    &[(0, &[2, 2, 3])],
+];
+
+fn fires_on(rt: &impl Abort, alloc: Global, rule: &Rule, rows: &[Row]) -> bool {
+    fires(rule, &atoms::atoms(alloc, rows).expect(rt, "memory"))
 }
 
 #[test]
 fn instances(rt: HostRuntime) {
     let rule = two_heads(Cmp::Less);
-    let places = rule.places();
-    assert_eq!(rt; places, 2);
-    if places == 2 {
-        assert_eq!(rt; rule.head_at(0).symbol, SymbolId(0));
-        assert_eq!(rt; rule.head_at(1).symbol, SymbolId(1));
+    for rows in UNLIKE {
+        assert!(rt; !fires_on(&rt, rt.alloc(), &rule, rows));
     }
-    assert!(rt; !rule.fires(&[atom(0, &[2, 4, 3]), atom(1, &[9])]));
-    assert!(rt; !rule.fires(&[atom(0, &[2, 2, 4]), atom(1, &[9])]));
-    assert!(rt; !rule.fires(&[atom(1, &[9]), atom(0, &[2, 2, 3])]));
-    assert!(rt; !rule.fires(&[atom(0, &[2, 2, 3])]));
+}
+
+#[test]
+fn bodies(rt: HostRuntime) {
+    let rule = two_heads(Cmp::Less);
     let heads = [atom(0, &[2, 2, 3]), atom(1, &[9])];
     assert!(rt; rule.fires(&heads));
-    if rule.fires(&heads) {
-        let body = rule.body_of(&heads);
-        assert!(rt; body.as_slice() == [atom(2, &[9, 2]), atom(2, &[8, 2])].as_slice());
-    }
+    let body = rule.body_of(&heads);
+    assert!(rt; body.as_slice() == [atom(2, &[9, 2]), atom(2, &[8, 2])].as_slice());
 }
 
 /// `p/3` with this weight, `q/1` and `r/2`, with the one rule `two_heads(cmp)`.
@@ -261,58 +378,111 @@ fn one_rule(alloc: Global, cmp: Cmp, weight: Weight) -> Result<Program, AllocErr
     Ok(program)
 }
 
+fn one(rt: &impl Abort, alloc: Global, cmp: Cmp, weight: Weight) -> Program
+    requires { IsTrue (is_weight weight) }
+{
+    one_rule(alloc, cmp, weight).expect(rt, "memory")
+}
+
+fn has_rule(program: &Program) -> bool {
+    program.rules() == [two_heads(Cmp::Less)].as_slice()
+}
+
+fn atom_of(program: &Program, name: &str, values: &[i64]) -> Option<Atom> {
+    program.atom(name, values)
+}
+
+fn near(program: &Program, near: u16, name: &str, values: &[i64]) -> Option<Atom> {
+    program.atom_near(SymbolId(near), name, values)
+}
+
+fn is_near(rt: &impl Abort, program: &Program, symbol: u16) {
+    assert_eq!(rt;
+        near(program, symbol, "r", &[-1, 4]),
+        Some(atom(2, &[-1, 4]))
+    );
+    assert_eq!(rt; near(program, symbol, "r", &[-1]), None);
+}
+
+fn is_same(one: &Program, other: &Program) -> bool {
+    one.is_same(other)
+}
+
+fn is_less(rt: &impl Abort, alloc: Global, program: &Program, cmp: Cmp, weight: Weight) -> bool
+    requires { IsTrue (is_weight weight) }
+{
+    is_same(program, &one(rt, alloc, cmp, weight))
+}
+
+fn same_rules(one: Cmp, other: Cmp) -> bool {
+    two_heads(one).is_same(&two_heads(other))
+}
+
+fn copied_rule(cmp: Cmp) -> bool {
+    two_heads(cmp).copy().is_same(&two_heads(cmp))
+}
+
+fn copied(rt: &impl Abort, alloc: Global, program: &Program) -> Program {
+    program.copy(alloc).expect(rt, "memory")
+}
+
 #[test]
-fn programs(rt: HostRuntime) -> Result<(), Fail> {
-    let alloc = rt.alloc();
-    let program = one_rule(alloc, Cmp::Less, weight(5, 0))?;
-    assert!(rt; program.rules() == [two_heads(Cmp::Less)].as_slice());
-    assert_eq!(rt; program.atom("r", &[-1, 4]), Some(atom(2, &[-1, 4])));
-    assert_eq!(rt; program.atom("r", &[-1]), None);
-    assert_eq!(rt; program.atom("s", &[-1, 4]), None);
-    for near in [0, 2, 3] {
-        let near = SymbolId(near);
-        assert_eq!(rt;
-            program.atom_near(near, "r", &[-1, 4]),
-            Some(atom(2, &[-1, 4]))
-        );
-        assert_eq!(rt; program.atom_near(near, "r", &[-1]), None);
+fn programs(rt: HostRuntime) {
+    let program = one(&rt, rt.alloc(), Cmp::Less, weight(5, 0));
+    assert!(rt; has_rule(&program));
+    assert!(rt; is_same(&copied(&rt, rt.alloc(), &program), &program));
+}
+
+#[test]
+fn atoms_of_programs(rt: HostRuntime) {
+    let program = one(&rt, rt.alloc(), Cmp::Less, weight(5, 0));
+    assert_eq!(rt; atom_of(&program, "r", &[-1, 4]), Some(atom(2, &[-1, 4])));
+    assert_eq!(rt; atom_of(&program, "r", &[-1]), None);
+    assert_eq!(rt; atom_of(&program, "s", &[-1, 4]), None);
+    for symbol in [0, 2, 3] {
+        is_near(&rt, &program, symbol);
     }
-    assert!(rt; program.is_same(&one_rule(alloc, Cmp::Less, weight(5, 0))?));
-    assert!(rt; !program.is_same(&one_rule(alloc, Cmp::AtMost, weight(5, 0))?));
-    assert!(rt; !program.is_same(&one_rule(alloc, Cmp::Less, weight(6, 0))?));
-    assert!(rt; !program.is_same(&one_rule(alloc, Cmp::Less, weight(5, 1))?));
-    assert!(rt; two_heads(Cmp::Less).is_same(&two_heads(Cmp::Less)));
-    assert!(rt; !two_heads(Cmp::Less).is_same(&two_heads(Cmp::Equal)));
-    assert!(rt; two_heads(Cmp::Less).copy().is_same(&two_heads(Cmp::Less)));
-    assert!(rt; program.copy(alloc)?.is_same(&program));
-    Ok(())
+}
+
+#[test]
+fn programs_alike(rt: HostRuntime) {
+    let alloc = rt.alloc();
+    let program = one(&rt, alloc, Cmp::Less, weight(5, 0));
+    assert!(rt; is_less(&rt, alloc, &program, Cmp::Less, weight(5, 0)));
+    assert!(rt; !is_less(&rt, alloc, &program, Cmp::AtMost, weight(5, 0)));
+    assert!(rt; !is_less(&rt, alloc, &program, Cmp::Less, weight(6, 0)));
+    assert!(rt; !is_less(&rt, alloc, &program, Cmp::Less, weight(5, 1)));
+}
+
+#[test]
+fn rules_alike(rt: HostRuntime) {
+    assert!(rt; same_rules(Cmp::Less, Cmp::Less));
+    assert!(rt; !same_rules(Cmp::Less, Cmp::Equal));
+    assert!(rt; copied_rule(Cmp::Less));
 }
 
 #[test]
 fn steps(rt: HostRuntime) {
-    let mut heads = ArrayVec::new();
-    heads.push(atom(0, &[2, 2, 3]));
-    heads.push(atom(1, &[9]));
-    let step = Step { rule: 7, heads };
-    let copy = step.copy();
+    let heads = [atom(0, &[2, 2, 3]), atom(1, &[9])];
+    let copy = atoms::step(7, &heads).copy();
     assert_eq!(rt; copy.rule, 7);
-    assert!(rt; copy.heads.as_slice() == [atom(0, &[2, 2, 3]), atom(1, &[9])].as_slice());
+    assert!(rt; copy.heads.as_slice() == heads.as_slice());
 }
 
 /// Atoms that no program declares: of one symbol, with different numbers of arguments.
+const FEWER_FIRST: [Row; 3] = [(0, &[3]), (0, &[1, 2]), (1, &[])];
+
 #[test]
-fn fewer_arguments_first(rt: HostRuntime) -> Result<(), Fail> {
+fn fewer_arguments_first(rt: HostRuntime) {
     let alloc = rt.alloc();
     let mut bag = Bag::new(alloc);
-    bag.add(atom(0, &[1, 2]))?;
-    bag.add(atom(0, &[3]))?;
-    bag.add(atom(1, &[]))?;
-    let sorted = [atom(0, &[3]), atom(0, &[1, 2]), atom(1, &[])];
-    assert!(rt; bag.atoms() == sorted.as_slice());
-    let unsorted = vec![in alloc; atom(1, &[]), atom(0, &[1, 2]), atom(0, &[3])]?;
-    assert!(rt; Bag::of(unsorted)?.atoms() == sorted.as_slice());
+    add(&rt, &mut bag, 0, &[1, 2]);
+    add(&rt, &mut bag, 0, &[3]);
+    add(&rt, &mut bag, 1, &[]);
+    expect_atoms(&rt, alloc, &bag, &FEWER_FIRST);
+    let unsorted = store(&rt, alloc, &[(1, &[]), (0, &[1, 2]), (0, &[3])]);
+    expect_atoms(&rt, alloc, &unsorted, &FEWER_FIRST);
     bag.has_values();
-    Ok(())
 }
 
 /// (left, right, whether the left one is lighter): the first numbers decide, and between equal ones the second.
@@ -328,41 +498,50 @@ const ORDER: [((u64, u64), (u64, u64), bool); 9] = [
     ((0, 3), (1, 0), true),
 ];
 
-#[test]
-fn lighter_weights(rt: HostRuntime) {
-    for (left, right, lighter) in ORDER {
-        assert_eq!(rt;
-            weight(left.0, left.1).is_lighter(weight(right.0, right.1)),
-            lighter
-        );
-    }
+/// Whether the first weight is lighter.
+fn is_lighter(left: (u64, u64), right: (u64, u64)) -> bool {
+    weight(left.0, left.1).is_lighter(weight(right.0, right.1))
 }
 
 #[test]
-fn weights_as_text(rt: HostRuntime) -> Result<(), Fail> {
+fn lighter_weights(rt: HostRuntime) {
+    for (left, right, lighter) in ORDER {
+        assert_eq!(rt; is_lighter(left, right), lighter);
+    }
+}
+
+fn push_weight(rt: &impl Abort, text: &mut String, weight: Weight, is_paired: bool) {
+    weight.push_text(text, is_paired).expect(rt, "memory");
+    text.push_str(" ").expect(rt, "memory");
+}
+
+#[test]
+fn weights_as_text(rt: HostRuntime) {
     let sum = weight(1, 2).plus(weight(30, 400));
     assert_eq!(rt; sum, weight(31, 402));
     assert!(rt; sum.is_paired() && !DEFAULT_WEIGHT.is_paired());
     let mut text = String::new(rt.alloc());
-    sum.push_text(&mut text, true)?;
-    text.push_str(" ")?;
-    sum.push_text(&mut text, false)?;
-    text.push_str(" ")?;
-    DEFAULT_WEIGHT.push_text(&mut text, true)?;
-    assert_eq!(rt; text.as_str(), "31,402 31 1,0");
-    Ok(())
+    push_weight(&rt, &mut text, sum, true);
+    push_weight(&rt, &mut text, sum, false);
+    push_weight(&rt, &mut text, DEFAULT_WEIGHT, true);
+    assert_eq!(rt; text.as_str(), "31,402 31 1,0 ");
+}
+
+/// The program that declares `r/6` alone.
+fn wide(rt: &impl Abort, alloc: Global) -> Program {
+    let mut program = Program::empty(alloc);
+    program.declare("r", 6).expect(rt, "memory");
+    program
 }
 
 #[test]
-fn six_arguments(rt: HostRuntime) -> Result<(), Fail> {
-    let mut program = Program::empty(rt.alloc());
-    program.declare("r", 6)?;
-    assert_eq!(rt; program.symbol("r", 6), Some(SymbolId(0)));
-    assert_eq!(rt; program.symbol("r", 7), None);
+fn six_arguments(rt: HostRuntime) {
+    let program = wide(&rt, rt.alloc());
+    assert_eq!(rt; symbol_of(&program, "r", 6), Some(SymbolId(0)));
+    assert_eq!(rt; symbol_of(&program, "r", 7), None);
     assert_eq!(rt;
-        program.atom("r", &[1, 2, 3, 4, 5, 6]),
+        atom_of(&program, "r", &[1, 2, 3, 4, 5, 6]),
         Some(atom(0, &[1, 2, 3, 4, 5, 6]))
     );
-    assert_eq!(rt; program.atom("r", &[1, 2, 3, 4, 5, 6, 7]), None);
-    Ok(())
+    assert_eq!(rt; atom_of(&program, "r", &[1, 2, 3, 4, 5, 6, 7]), None);
 }

@@ -9,6 +9,3 @@ mod chain;
 mod index;
 
 pub use index::Index;
-
-#[cfg(test)]
-mod tests;

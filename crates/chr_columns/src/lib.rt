@@ -21,5 +21,3 @@ mod same;
 mod settle;
 mod stepping;
 mod taking;
-#[cfg(test)]
-mod tests;

@@ -15,8 +15,6 @@ pub mod laws;
 pub mod lists;
 mod notes;
 mod sorting;
-#[cfg(test)]
-mod tests;
 mod weave;
 
 pub use classes::class_sorts;

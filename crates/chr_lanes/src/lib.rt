@@ -7,6 +7,3 @@ mod test;
 
 pub use rows::first_row;
 pub use test::{Against, Test};
-
-#[cfg(test)]
-mod tests;

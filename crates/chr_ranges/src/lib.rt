@@ -12,6 +12,3 @@ mod row;
 
 pub use index::Index;
 pub use range::Range;
-
-#[cfg(test)]
-mod tests;

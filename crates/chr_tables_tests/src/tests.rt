@@ -1,4 +1,5 @@
-ghost use Rattle.std.specs.Prelude.{◌≡◌, ◌+◌, ◌<◌, ◌^◌, [], ◌∷◌, ◌++◌, length, IfOk};
+//! Tables of atoms, and look-ups in them.
+ghost use Rattle.std.specs.Prelude.{◌≡◌, ◌<◌, length, IfOk};
 
 mod compacting;
 mod first_with;
@@ -6,25 +7,15 @@ mod ordered;
 mod searches;
 
 use arrayvec::ArrayVec;
-use chr_base::atom::{Atom, SymbolId};
+use chr_base::atom::Atom;
 use chr_base::limits::MAX_ARITY;
 use chr_plans::key::Span;
 use chr_plans::rows::Rows;
 use chr_tables::table::Table;
 use chr_tables::tables::Tables;
+use chr_testing::atoms::atom;
 use std::alloc::{AllocError, Global};
-use std::test::Fail;
-
-fn atom(symbol: u16, values: &[i64]) -> Atom {
-    let mut args = ArrayVec::new();
-    for value in values {
-        let _ = args.try_push(*value);
-    }
-    Atom {
-        symbol: SymbolId(symbol),
-        args,
-    }
-}
+use std::process::Abort;
 
 /// These columns, or no more than fit.
 fn columns(numbers: &[usize]) -> ArrayVec<usize, MAX_ARITY> {
@@ -61,72 +52,117 @@ fn rows() -> [Atom; 6] {
     ]
 }
 
+/// The table of these atoms.
+fn table(rt: &impl Abort, alloc: Global, atoms: &[Atom]) -> Table
+    ensures rows { length result.rows ≡ length atoms.now }
+    ensures keys { length result.keys ≡ 2 }
+{
+    table_of(alloc, atoms).expect(rt, "memory")
+}
+
+/// The newest row of a key, whatever its other arguments.
+fn first(table: &mut Table, index: usize, key: &[i64]) -> Option<usize>
+    requires { index < length table.old.keys }
+    ensures { table.new ≡ table.old }
+{
+    table.first(index, key, &Span::default())
+}
+
+fn kill(table: &mut Table, row: usize)
+    requires { row < length table.old.rows }
+    ensures keys { table.new.keys ≡ table.old.keys }
+    ensures rows { length table.new.rows ≡ length table.old.rows }
+{
+    table.kill(row);
+}
+
+/// The atom of a live row.
+fn get(table: &Table, row: usize) -> Option<Atom> {
+    table.get(row)
+}
+
 #[test]
-fn finds_the_newest_row_of_a_key(rt: HostRuntime) -> Result<(), Fail> {
-    let mut table = table_of(rt.alloc(), &rows())?;
+fn finds_the_newest_row_of_a_key(rt: HostRuntime) {
+    let mut table = table(&rt, rt.alloc(), &rows());
     assert_eq!(rt; table.len(), 6);
-    assert!(rt; table.first(0, &[1], &Span::default()) == Some(4));
-    assert!(rt; table.first(0, &[2], &Span::default()) == Some(2));
-    assert!(rt; table.first(0, &[9], &Span::default()) == None);
-    assert!(rt; table.first(1, &[3, 5], &Span::default()) == Some(1));
-    assert!(rt; table.first(1, &[0, 0], &Span::default()) == Some(5));
-    assert!(rt; table.first(1, &[5, 3], &Span::default()) == None);
-    Ok(())
+    assert!(rt; first(&mut table, 0, &[1]) == Some(4));
+    assert!(rt; first(&mut table, 0, &[2]) == Some(2));
+    assert!(rt; first(&mut table, 0, &[9]) == None);
+    assert!(rt; first(&mut table, 1, &[3, 5]) == Some(1));
+    assert!(rt; first(&mut table, 1, &[0, 0]) == Some(5));
+    assert!(rt; first(&mut table, 1, &[5, 3]) == None);
 }
 
-#[test]
-fn goes_on_below_a_row(rt: HostRuntime) -> Result<(), Fail> {
-    let mut table = table_of(rt.alloc(), &rows())?;
-    if let Some(newest) = table.first(0, &[1], &Span::default()) {
-        let second = table.next(0, &[1], &Span::default(), newest);
-        assert!(rt; second == Some(3));
-        if let Some(row) = second {
-            assert!(rt; table.next(0, &[1], &Span::default(), row) == Some(1));
-        }
-    }
-    if let Some(only) = table.first(0, &[7], &Span::default()) {
-        assert!(rt; table.next(0, &[7], &Span::default(), only) == None);
-        assert!(rt; table.atom(only) == atom(0, &[7, 0, 0]));
-    }
-    Ok(())
-}
-
-#[test]
-fn dead_rows_are_passed_over(rt: HostRuntime) -> Result<(), Fail> {
-    let mut table = table_of(rt.alloc(), &rows())?;
-    table.kill(4);
-    assert!(rt; table.first(0, &[1], &Span::default()) == Some(3));
-    assert!(rt; table.first(1, &[3, 2], &Span::default()) == Some(2));
-    table.kill(2);
-    table.kill(0);
-    assert!(rt; table.first(1, &[3, 2], &Span::default()) == None);
-    assert!(rt; table.first(0, &[1], &Span::default()) == Some(3));
-    assert_eq!(rt; table.len(), 6);
-    Ok(())
-}
-
-#[test]
-fn rows_are_got_by_number(rt: HostRuntime) -> Result<(), Fail> {
-    let mut table = table_of(rt.alloc(), &rows())?;
-    table.kill(4);
-    assert!(rt; table.get(3) == Some(atom(1, &[1])));
-    assert!(rt; table.get(4) == None);
-    assert!(rt; table.get(5) == Some(atom(0, &[7, 0, 0])));
-    assert!(rt; table.get(6) == None);
-    assert!(rt; table.get(usize::MAX) == None);
-    Ok(())
-}
-
-#[test]
-fn each_table_by_its_number(rt: HostRuntime) -> Result<(), Fail> {
-    let alloc = rt.alloc();
-    let mut tables = Tables {
-        tables: vec![in alloc;
-            table_of(alloc, &rows())?,
-            table_of(alloc, &[atom(2, &[1])])?,
-        ]?,
+/// The rows of a key by the first index, from the newest down, three at most.
+fn first_three(table: &mut Table, key: &[i64]) -> [Option<usize>; 3]
+    requires { 0 < length table.old.keys }
+{
+    let any = Span::default();
+    let newest = table.first(0, key, &any);
+    let Some(row) = newest else {
+        return [None, None, None];
     };
-    assert!(rt; tables.tables[0].first(0, &[1], &Span::default()) == Some(4));
-    assert!(rt; tables.tables[1].first(0, &[1], &Span::default()) == Some(0));
-    Ok(())
+    let second = table.next(0, key, &any, row);
+    let Some(row) = second else {
+        return [newest, None, None];
+    };
+    [newest, second, table.next(0, key, &any, row)]
+}
+
+#[test]
+fn goes_on_below_a_row(rt: HostRuntime) {
+    let mut table = table(&rt, rt.alloc(), &rows());
+    assert!(rt; first_three(&mut table, &[1]) == [Some(4), Some(3), Some(1)]);
+}
+
+/// The atom of the newest row of a key by the first index.
+fn newest_atom(table: &mut Table, key: &[i64]) -> Option<Atom>
+    requires { 0 < length table.old.keys }
+{
+    let row = table.first(0, key, &Span::default())?;
+    Some(table.atom(row))
+}
+
+#[test]
+fn the_only_row_of_a_key(rt: HostRuntime) {
+    let mut one = table(&rt, rt.alloc(), &rows());
+    assert!(rt; first_three(&mut one, &[7]) == [Some(5), None, None]);
+    let mut other = table(&rt, rt.alloc(), &rows());
+    assert!(rt; newest_atom(&mut other, &[7]) == Some(atom(0, &[7, 0, 0])));
+}
+
+#[test]
+fn dead_rows_are_passed_over(rt: HostRuntime) {
+    let mut table = table(&rt, rt.alloc(), &rows());
+    kill(&mut table, 4);
+    assert!(rt; first(&mut table, 0, &[1]) == Some(3));
+    assert!(rt; first(&mut table, 1, &[3, 2]) == Some(2));
+    kill(&mut table, 2);
+    kill(&mut table, 0);
+    assert!(rt; first(&mut table, 1, &[3, 2]) == None);
+    assert!(rt; first(&mut table, 0, &[1]) == Some(3));
+    assert_eq!(rt; table.len(), 6);
+}
+
+#[test]
+fn rows_are_got_by_number(rt: HostRuntime) {
+    let mut table = table(&rt, rt.alloc(), &rows());
+    kill(&mut table, 4);
+    assert!(rt; get(&table, 3) == Some(atom(1, &[1])));
+    assert!(rt; get(&table, 4) == None);
+    assert!(rt; get(&table, 5) == Some(atom(0, &[7, 0, 0])));
+    assert!(rt; get(&table, 6) == None);
+    assert!(rt; get(&table, usize::MAX) == None);
+}
+
+#[test]
+fn each_table_by_its_number(rt: HostRuntime) {
+    let alloc = rt.alloc();
+    let one = table(&rt, alloc, &rows());
+    let other = table(&rt, alloc, &[atom(2, &[1])]);
+    let mut tables = Tables {
+        tables: vec![in alloc; one, other].expect(&rt, "memory"),
+    };
+    assert!(rt; first(&mut tables.tables[0], 0, &[1]) == Some(4));
+    assert!(rt; first(&mut tables.tables[1], 0, &[1]) == Some(0));
 }

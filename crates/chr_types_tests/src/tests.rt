@@ -8,7 +8,6 @@ use chr_types::{
 };
 use std::alloc::{AllocError, Global};
 use std::process::Abort;
-use std::test::Fail;
 
 /// Whether each number is greater than the one before it.
 fn is_rising(numbers: &[i64]) -> bool
@@ -23,7 +22,7 @@ fn is_rising(numbers: &[i64]) -> bool
 }
 
 /// The order types, of constants that are tested to rise.
-fn types_of(
+fn types_within(
     rt: &impl Abort,
     alloc: Global,
     classes: usize,
@@ -34,6 +33,98 @@ fn types_of(
     types(alloc, classes, constants, limit)
 }
 
+/// The order types, of which there are not more than the limit.
+fn types_of(
+    rt: &impl Abort,
+    alloc: Global,
+    classes: usize,
+    constants: &[i64],
+    limit: usize,
+) -> Vec<OrderType> {
+    types_within(rt, alloc, classes, constants, limit)
+        .ok()
+        .expect(rt, "not more than the limit")
+}
+
+/// The most order types that the checker lists.
+const LIMIT: usize = 50_000;
+
+/// The number of classes, constants, and the representatives.
+type Row = (usize, &'static [i64], &'static [&'static [i64]]);
+
+const REPRESENTATIVES: [Row; 8] = [
+    (0, &[], &[&[]]),
+    (0, &[3, 5], &[&[]]),
+    (2, &[], &[&[0, 0], &[0, 1], &[1, 0]]),
+    (1, &[0, 1], &[&[-1], &[0], &[1], &[2]]),
+    (1, &[3, 5], &[&[2], &[3], &[4], &[5], &[6]]),
+    (1, &[7], &[&[6], &[7], &[8]]),
+    (1, &[i64::MAX], &[&[i64::MAX - 1], &[i64::MAX]]),
+    (1, &[i64::MIN], &[&[i64::MIN], &[i64::MIN + 1]]),
+];
+
+/// Asserts that these are the representatives.
+fn expect_types(rt: &impl Abort, found: &[OrderType], expected: &[&[i64]]) {
+    assert_eq!(rt; found.len(), expected.len());
+    for (one, wanted) in found.iter().zip(expected) {
+        assert_eq!(rt; one.representative(), *wanted);
+    }
+}
+
+#[test]
+fn lists_representatives(rt: HostRuntime) {
+    let alloc = rt.alloc();
+    for (classes, constants, expected) in REPRESENTATIVES {
+        let found = types_of(&rt, alloc, classes, constants, LIMIT);
+        expect_types(&rt, &found, expected);
+    }
+}
+
+/// The number of classes, constants, and how many order types there are.
+const COUNTS: [(usize, &[i64], usize); 12] = [
+    (0, &[], 1),
+    (1, &[], 1),
+    (2, &[], 3),
+    (3, &[], 13),
+    (4, &[], 75),
+    (5, &[], 541),
+    (6, &[], 4_683),
+    (7, &[], 47_293),
+    (2, &[7], 13),
+    (2, &[3, 5], 29),
+    (2, &[i64::MIN, i64::MAX], 11),
+    (3, &[i64::MAX - 1], 51),
+];
+
+#[test]
+fn counts(rt: HostRuntime) {
+    let alloc = rt.alloc();
+    for (classes, constants, number) in COUNTS {
+        let found = types_of(&rt, alloc, classes, constants, LIMIT);
+        assert_eq!(rt; found.len(), number, "at {classes} classes");
+    }
+}
+
+/// The number of classes, constants, and a limit that is passed.
+const TOO_MANY: [(usize, &[i64], usize); 14] = [
+    (7, &[], 47_292),
+    (8, &[], 545_834),
+    (0, &[], 0),
+    (8, &[], LIMIT),
+    (9, &[], LIMIT),
+    (32, &[], LIMIT),
+    (64, &[], LIMIT),
+    (8, &SIX_CONSTANTS, LIMIT),
+    (9, &SIX_CONSTANTS, LIMIT),
+    (32, &SIX_CONSTANTS, LIMIT),
+    (64, &SIX_CONSTANTS, LIMIT),
+    (65, &[3, 5], usize::MAX),
+    (66, &[3, 5], usize::MAX),
+    (usize::MAX, &[3, 5], usize::MAX),
+];
+
+const SIX_CONSTANTS: [i64; 6] = [3, 5, 90, 1_000, 2_000, 3_000];
+
 /// Whether there are more than the limit.
 fn is_too_many(
     rt: &impl Abort,
@@ -42,26 +133,46 @@ fn is_too_many(
     constants: &[i64],
     limit: usize,
 ) -> bool {
-    match types_of(rt, alloc, classes, constants, limit) {
+    match types_within(rt, alloc, classes, constants, limit) {
         Err(TypesFault::TooManyTypes) => true,
         _ => false,
     }
 }
 
-/// Asserts that these are the representatives.
-fn expect_types(
-    rt: &impl Abort,
-    alloc: Global,
-    classes: usize,
-    constants: &[i64],
-    expected: &[&[i64]],
-) -> Result<(), TypesFault> {
-    let found = types_of(rt, alloc, classes, constants, 50_000)?;
-    assert_eq!(rt; found.len(), expected.len());
-    for (one, wanted) in found.iter().zip(expected) {
-        assert_eq!(rt; one.representative(), *wanted);
+#[test]
+fn refuses_more_than_the_limit(rt: HostRuntime) {
+    let alloc = rt.alloc();
+    for (classes, constants, limit) in TOO_MANY {
+        let is_refused = is_too_many(&rt, alloc, classes, constants, limit);
+        assert!(rt; is_refused, "at {classes} classes");
     }
-    Ok(())
+    for (classes, number) in [(7, 47_293), (8, 545_835)] {
+        let found = types_of(&rt, alloc, classes, &[], number);
+        assert_eq!(rt; found.len(), number);
+    }
+}
+
+/// Every seventh number from 0 on, 3,000 in all.
+fn many_constants(rt: &impl Abort, alloc: Global) -> Vec<i64> {
+    let mut constants = Vec::new(alloc);
+    for number in 0..21_000 {
+        if number % 7 == 0 {
+            constants.push(number).expect(rt, "memory");
+        }
+    }
+    constants
+}
+
+#[test]
+fn counts_lists_of_constants_first(rt: HostRuntime) {
+    let alloc = rt.alloc();
+    let constants = many_constants(&rt, alloc);
+    let found = types_of(&rt, alloc, 1, &constants, LIMIT);
+    assert_eq!(rt; found.len(), 6_001);
+    for classes in [2, 3, 9, 28, 64] {
+        let is_refused = is_too_many(&rt, alloc, classes, &constants, LIMIT);
+        assert!(rt; is_refused, "at {classes} classes");
+    }
 }
 
 /// Whether the lists compare alike, each value with each and with each constant.
@@ -82,187 +193,111 @@ fn is_same_type(constants: &[i64], first: &[i64], second: &[i64]) -> bool {
 }
 
 /// Adds the values that are at most so far from this one.
-fn add_window(window: &mut Vec<i64>, middle: i64, reach: i64) -> Result<(), AllocError> {
+fn add_window(rt: &impl Abort, window: &mut Vec<i64>, middle: i64, reach: i64) {
     for value in middle.saturating_sub(reach)..=middle.saturating_add(reach) {
         if !window.contains(&value) {
-            window.push(value)?;
+            window.push(value).expect(rt, "memory");
         }
     }
-    Ok(())
+}
+
+/// Values near the constants, or near 0 where there are none.
+fn window_of(rt: &impl Abort, alloc: Global, constants: &[i64]) -> Vec<i64> {
+    let mut window = Vec::new(alloc);
+    if constants.is_empty() {
+        add_window(rt, &mut window, 0, 4);
+    }
+    for constant in constants {
+        add_window(rt, &mut window, *constant, 3);
+    }
+    window
+}
+
+/// The list with one more value.
+fn longer(rt: &impl Abort, alloc: Global, list: &[i64], value: i64) -> Vec<i64> {
+    let mut more = Vec::from_slice(alloc, list).expect(rt, "memory");
+    more.push(value).expect(rt, "memory");
+    more
+}
+
+/// Each of the lists with each value of the window more.
+fn all_longer(rt: &impl Abort, alloc: Global, lists: &[Vec<i64>], window: &[i64]) -> Vec<Vec<i64>> {
+    let mut all = Vec::new(alloc);
+    for list in lists {
+        for value in window {
+            all.push(longer(rt, alloc, list, *value))
+                .expect(rt, "memory");
+        }
+    }
+    all
 }
 
 /// All lists of so many values of the window.
-fn all_lists(alloc: Global, window: &[i64], classes: usize) -> Result<Vec<Vec<i64>>, AllocError> {
+fn all_lists(rt: &impl Abort, alloc: Global, window: &[i64], classes: usize) -> Vec<Vec<i64>> {
     let mut lists = Vec::new(alloc);
-    lists.push(Vec::new(alloc))?;
+    lists.push(Vec::new(alloc)).expect(rt, "memory");
     for _ in 0..classes {
-        let mut longer = Vec::new(alloc);
-        for list in lists.iter() {
-            for value in window {
-                let mut more = Vec::from_slice(alloc, list)?;
-                more.push(*value)?;
-                longer.push(more)?;
-            }
-        }
-        lists = longer;
+        lists = all_longer(rt, alloc, &lists, window);
     }
-    Ok(lists)
+    lists
+}
+
+/// How many of the representatives have the type of the list.
+fn shown(constants: &[i64], types: &[OrderType], list: &[i64]) -> usize {
+    types
+        .iter()
+        .filter(|one| is_same_type(constants, one.representative(), list))
+        .count()
+}
+
+fn is_among(lists: &[Vec<i64>], one: &OrderType) -> bool {
+    lists
+        .iter()
+        .any(|list| list.as_slice() == one.representative())
 }
 
 /// Asserts that each list of values near the constants has the type of exactly one representative, and each
 /// representative is such a list.
-fn expect_definition(
-    rt: &impl Abort,
-    alloc: Global,
-    classes: usize,
-    constants: &[i64],
-) -> Result<(), TypesFault> {
-    let mut window = Vec::new(alloc);
-    if constants.is_empty() {
-        add_window(&mut window, 0, 4)?;
-    }
-    for constant in constants {
-        add_window(&mut window, *constant, 3)?;
-    }
-    let lists = all_lists(alloc, &window, classes)?;
-    let found = types_of(rt, alloc, classes, constants, 50_000)?;
+fn expect_definition(rt: &impl Abort, alloc: Global, classes: usize, constants: &[i64]) {
+    let lists = all_lists(rt, alloc, &window_of(rt, alloc, constants), classes);
+    let found = types_of(rt, alloc, classes, constants, LIMIT);
     for list in lists.iter() {
-        let shown = found
-            .iter()
-            .filter(|one| is_same_type(constants, one.representative(), list))
-            .count();
-        assert_eq!(rt; shown, 1, "at {classes} classes");
+        assert_eq!(rt; shown(constants, &found, list), 1, "at {classes} classes");
     }
     for one in found.iter() {
-        assert!(rt;
-            lists
-                .iter()
-                .any(|list| list.as_slice() == one.representative()),
-            "at {classes} classes"
-        );
+        assert!(rt; is_among(&lists, one), "at {classes} classes");
     }
-    Ok(())
+}
+
+/// The constants that are tried, alone and in pairs.
+const POINTS: [i64; 9] = [
+    i64::MIN,
+    i64::MIN + 1,
+    i64::MIN + 3,
+    3,
+    4,
+    6,
+    i64::MAX - 3,
+    i64::MAX - 1,
+    i64::MAX,
+];
+
+/// The definition with each point, alone and with each before it.
+fn expect_at_points(rt: &impl Abort, alloc: Global, classes: usize) {
+    for (i, second) in POINTS.iter().enumerate() {
+        expect_definition(rt, alloc, classes, &[*second]);
+        for first in POINTS.iter().take(i) {
+            expect_definition(rt, alloc, classes, &[*first, *second]);
+        }
+    }
 }
 
 #[test]
-fn lists_representatives(rt: HostRuntime) -> Result<(), Fail> {
-    let alloc = rt.alloc();
-    expect_types(&rt, alloc, 0, &[], &[&[]])?;
-    expect_types(&rt, alloc, 0, &[3, 5], &[&[]])?;
-    expect_types(&rt, alloc, 2, &[], &[&[0, 0], &[0, 1], &[1, 0]])?;
-    expect_types(&rt, alloc, 1, &[0, 1], &[&[-1], &[0], &[1], &[2]])?;
-    expect_types(&rt, alloc, 1, &[3, 5], &[&[2], &[3], &[4], &[5], &[6]])?;
-    expect_types(&rt, alloc, 1, &[7], &[&[6], &[7], &[8]])?;
-    expect_types(&rt, alloc, 1, &[i64::MAX], &[&[i64::MAX - 1], &[i64::MAX]])?;
-    expect_types(&rt, alloc, 1, &[i64::MIN], &[&[i64::MIN], &[i64::MIN + 1]])?;
-    Ok(())
-}
-
-#[test]
-fn counts(rt: HostRuntime) -> Result<(), Fail> {
-    let alloc = rt.alloc();
-    for (classes, number) in [
-        (0, 1),
-        (1, 1),
-        (2, 3),
-        (3, 13),
-        (4, 75),
-        (5, 541),
-        (6, 4_683),
-        (7, 47_293),
-    ] {
-        assert_eq!(rt;
-            types_of(&rt, alloc, classes, &[], 50_000)?.len(),
-            number,
-            "at {classes} classes"
-        );
-    }
-    assert_eq!(rt; types_of(&rt, alloc, 2, &[7], 50_000)?.len(), 13);
-    assert_eq!(rt; types_of(&rt, alloc, 2, &[3, 5], 50_000)?.len(), 29);
-    assert_eq!(rt;
-        types_of(&rt, alloc, 2, &[i64::MIN, i64::MAX], 50_000)?.len(),
-        11
-    );
-    assert_eq!(rt; types_of(&rt, alloc, 3, &[i64::MAX - 1], 50_000)?.len(), 51);
-    Ok(())
-}
-
-#[test]
-fn refuses_more_than_the_limit(rt: HostRuntime) -> Result<(), Fail> {
-    let alloc = rt.alloc();
-    assert_eq!(rt; types_of(&rt, alloc, 7, &[], 47_293)?.len(), 47_293);
-    assert!(rt; is_too_many(&rt, alloc, 7, &[], 47_292));
-    assert_eq!(rt; types_of(&rt, alloc, 8, &[], 545_835)?.len(), 545_835);
-    assert!(rt; is_too_many(&rt, alloc, 8, &[], 545_834));
-    assert!(rt; is_too_many(&rt, alloc, 0, &[], 0));
-    for classes in [8, 9, 32, 64] {
-        assert!(rt;
-            is_too_many(&rt, alloc, classes, &[], 50_000),
-            "at {classes} classes"
-        );
-        assert!(rt;
-            is_too_many(
-                &rt,
-                alloc,
-                classes,
-                &[3, 5, 90, 1_000, 2_000, 3_000],
-                50_000
-            ),
-            "at {classes} classes"
-        );
-    }
-    for classes in [65, 66, usize::MAX] {
-        assert!(rt;
-            is_too_many(&rt, alloc, classes, &[3, 5], usize::MAX),
-            "at {classes} classes"
-        );
-    }
-    Ok(())
-}
-
-#[test]
-fn agrees_with_the_definition(rt: HostRuntime) -> Result<(), Fail> {
-    let alloc = rt.alloc();
-    let points = [
-        i64::MIN,
-        i64::MIN + 1,
-        i64::MIN + 3,
-        3,
-        4,
-        6,
-        i64::MAX - 3,
-        i64::MAX - 1,
-        i64::MAX,
-    ];
+fn agrees_with_the_definition(rt: HostRuntime) {
     for classes in 0..=3 {
-        expect_definition(&rt, alloc, classes, &[])?;
-        for (i, second) in points.iter().enumerate() {
-            expect_definition(&rt, alloc, classes, &[*second])?;
-            for first in &points[..i] {
-                expect_definition(&rt, alloc, classes, &[*first, *second])?;
-            }
-        }
+        expect_definition(&rt, rt.alloc(), classes, &[]);
+        expect_at_points(&rt, rt.alloc(), classes);
     }
-    Ok(())
-}
-
-#[test]
-fn counts_lists_of_constants_first(rt: HostRuntime) -> Result<(), Fail> {
-    let alloc = rt.alloc();
-    let mut constants = Vec::new(alloc);
-    for number in 0..21_000 {
-        if number % 7 == 0 {
-            constants.push(number)?;
-        }
-    }
-    assert_eq!(rt; types_of(&rt, alloc, 1, &constants, 50_000)?.len(), 6_001);
-    for classes in [2, 3, 9, 28, 64] {
-        assert!(rt;
-            is_too_many(&rt, alloc, classes, &constants, 50_000),
-            "at {classes} classes"
-        );
-    }
-    Ok(())
 }
 
 /// Keeps the lists that it visits, up to one that begins with a value.
@@ -305,50 +340,69 @@ impl Beginnings for UpTo {
     }
 }
 
-#[test]
-fn visits_up_to_a_stop(rt: HostRuntime) -> Result<(), Fail> {
-    let alloc = rt.alloc();
+/// Whether a list stopped the walk over those of two classes with no value above the most, and all values met.
+fn visited(rt: &impl Abort, alloc: Global, most: i64, last: i64) -> (bool, Vec<i64>) {
     let mut kept = Kept {
         lists: Vec::new(alloc),
-        last: 1,
+        last,
     };
-    assert!(rt; visit_types(alloc, 2, &[], &UpTo { most: i64::MAX }, &mut kept)?);
-    assert!(rt; kept.lists.as_slice() == [0, 0, 0, 1, 1, 0].as_slice());
-    Ok(())
+    let stopped = visit_types(alloc, 2, &[], &UpTo { most }, &mut kept).expect(rt, "memory");
+    (stopped, kept.lists)
 }
 
 #[test]
-fn leaves_beginnings(rt: HostRuntime) -> Result<(), Fail> {
-    let alloc = rt.alloc();
-    let mut kept = Kept {
-        lists: Vec::new(alloc),
-        last: 7,
-    };
-    assert!(rt; !visit_types(alloc, 2, &[], &UpTo { most: 0 }, &mut kept)?);
-    assert!(rt; kept.lists.as_slice() == [0, 0].as_slice());
-    Ok(())
+fn visits_up_to_a_stop(rt: HostRuntime) {
+    let (stopped, lists) = visited(&rt, rt.alloc(), i64::MAX, 1);
+    assert!(rt; stopped);
+    assert!(rt; lists.as_slice() == [0, 0, 0, 1, 1, 0].as_slice());
 }
 
 #[test]
-fn tells_more_than_a_limit(rt: HostRuntime) -> Result<(), Fail> {
-    let alloc = rt.alloc();
-    assert!(rt; !has_more_types(alloc, 7, &[], 47_293)?);
-    assert!(rt; has_more_types(alloc, 7, &[], 47_292)?);
-    assert!(rt; has_more_types(alloc, 65, &[], usize::MAX)?);
-    assert!(rt; !has_more_types(alloc, 2, &[3, 5], 29)?);
-    assert!(rt; has_more_types(alloc, 2, &[3, 5], 28)?);
-    Ok(())
+fn leaves_beginnings(rt: HostRuntime) {
+    let (stopped, lists) = visited(&rt, rt.alloc(), 0, 7);
+    assert!(rt; !stopped);
+    assert!(rt; lists.as_slice() == [0, 0].as_slice());
+}
+
+/// The number of classes, constants, a limit, and whether there are more order types.
+const LIMITS: [(usize, &[i64], usize, bool); 5] = [
+    (7, &[], 47_293, false),
+    (7, &[], 47_292, true),
+    (65, &[], usize::MAX, true),
+    (2, &[3, 5], 29, false),
+    (2, &[3, 5], 28, true),
+];
+
+/// Whether there are more, of constants that are tested to rise.
+fn has_more(
+    rt: &impl Abort,
+    alloc: Global,
+    classes: usize,
+    constants: &[i64],
+    limit: usize,
+) -> bool {
+    assert!(rt; is_rising(constants));
+    has_more_types(alloc, classes, constants, limit).expect(rt, "memory")
+}
+
+#[test]
+fn tells_more_than_a_limit(rt: HostRuntime) {
+    for (classes, constants, limit, expected) in LIMITS {
+        let found = has_more(&rt, rt.alloc(), classes, constants, limit);
+        assert!(rt; found == expected, "at {classes} classes");
+    }
+}
+
+/// Whether the count of the types of two classes stopped at the limit, and how far it came.
+fn counted(rt: &impl Abort, alloc: Global, limit: usize) -> (bool, usize) {
+    let mut count = LimitedCount { found: 0, limit };
+    let stopped = visit_types(alloc, 2, &[], &AllLists, &mut count).expect(rt, "memory");
+    (stopped, count.found)
 }
 
 /// Two classes have three order types where there are no constants: equal ones, and both orders.
 #[test]
-fn counts_up_to_a_limit(rt: HostRuntime) -> Result<(), Fail> {
-    let alloc = rt.alloc();
-    let mut all = LimitedCount { found: 0, limit: 3 };
-    assert!(rt; !visit_types(alloc, 2, &[], &AllLists, &mut all)?);
-    assert!(rt; all.found == 3);
-    let mut few = LimitedCount { found: 0, limit: 2 };
-    assert!(rt; visit_types(alloc, 2, &[], &AllLists, &mut few)?);
-    assert!(rt; few.found == 2);
-    Ok(())
+fn counts_up_to_a_limit(rt: HostRuntime) {
+    assert!(rt; counted(&rt, rt.alloc(), 3) == (false, 3));
+    assert!(rt; counted(&rt, rt.alloc(), 2) == (true, 2));
 }

@@ -1,8 +1,5 @@
 //! Combinations of small lists, written out by hand.
-use crate::combinations::{has_more_combinations, visit_combinations};
-use crate::sorting::finest_sorts;
 use crate::weave::{SortLists, weave};
-use chr_base::program::Program;
 use chr_types::Visit;
 use std::alloc::{AllocError, Global};
 use std::process::Abort;
@@ -86,22 +83,5 @@ fn weaves_in_order(rt: HostRuntime) -> Result<(), Fail> {
     };
     assert!(rt; weave(alloc, &[7, 3, 3], &mut all, &[], &mut first)?);
     expect_kept(&rt, &first, &[&[4, 0, 0], &[4, 0, 1]]);
-    Ok(())
-}
-
-#[test]
-fn visits_the_one_of_free_sorts(rt: HostRuntime) -> Result<(), Fail> {
-    let alloc = rt.alloc();
-    let sorting = finest_sorts(alloc, &Program::empty(alloc))?;
-    let classes = [0, 8, 0];
-    assert!(rt; has_more_combinations(alloc, &sorting, &classes, 0)?);
-    assert!(rt; !has_more_combinations(alloc, &sorting, &classes, 1)?);
-    let mut kept = Kept {
-        alloc,
-        lists: Vec::new(alloc),
-        wanted: 2,
-    };
-    assert!(rt; !visit_combinations(alloc, &sorting, &classes, 1, &mut kept)?);
-    expect_kept(&rt, &kept, &[&[0, 0, 1]]);
     Ok(())
 }

@@ -1,8 +1,10 @@
 //! Rows found by the value in a column, without an index.
-ghost use Rattle.std.specs.Prelude.{◌≡◌, length};
+ghost use Rattle.std.specs.Prelude.{◌≡◌, ◌<◌, length};
 
-use super::atom;
+use crate::tests::kill;
+use chr_base::limits::MAX_ARITY;
 use chr_tables::table::Table;
+use chr_testing::atoms::atom;
 use std::alloc::Global;
 use std::process::Abort;
 
@@ -28,74 +30,96 @@ fn table_with(rt: &impl Abort, alloc: Global, places: &[usize]) -> Table
     table
 }
 
+/// The first row from one on that has a value in a column.
+fn first_with(table: &Table, column: usize, value: i64, from: usize) -> Option<usize>
+    requires { column < MAX_ARITY }
+{
+    table.first_with(column, value, from)
+}
+
+/// The first row from one on that has the sought value in the second column.
+fn sought(table: &Table, from: usize) -> Option<usize> {
+    first_with(table, 1, SOUGHT, from)
+}
+
+/// Where the search begins, and the row that is found.
+const NEXT: [(usize, Option<usize>); 12] = [
+    (0, Some(0)),
+    (1, Some(7)),
+    (7, Some(7)),
+    (8, Some(8)),
+    (9, Some(9)),
+    (10, Some(63)),
+    (63, Some(63)),
+    (64, Some(64)),
+    (65, None),
+    (69, None),
+    (70, None),
+    (usize::MAX, None),
+];
+
+/// Rows at both ends of blocks of eight.
+const PLACES: [usize; 6] = [0, 7, 8, 9, 63, 64];
+
 #[test]
 fn the_next_row_with_the_value(rt: HostRuntime) {
-    let table = table_with(&rt, rt.alloc(), &[0, 7, 8, 9, 63, 64]);
-    for (from, found) in [
-        (0, Some(0)),
-        (1, Some(7)),
-        (7, Some(7)),
-        (8, Some(8)),
-        (9, Some(9)),
-        (10, Some(63)),
-        (63, Some(63)),
-        (64, Some(64)),
-        (65, None),
-        (69, None),
-        (70, None),
-        (usize::MAX, None),
-    ] {
-        assert!(rt; table.first_with(1, SOUGHT, from) == found, "from {from}");
+    let table = table_with(&rt, rt.alloc(), &PLACES);
+    for (from, found) in NEXT {
+        assert!(rt; sought(&table, from) == found, "from {from}");
     }
-    assert!(rt; table.first_with(0, SOUGHT, 0) == Some(1));
-    assert!(rt; table.first_with(0, SOUGHT, 63) == Some(65));
+    assert!(rt; first_with(&table, 0, SOUGHT, 0) == Some(1));
+    assert!(rt; first_with(&table, 0, SOUGHT, 63) == Some(65));
 }
 
 #[test]
 fn one_row_with_the_value(rt: HostRuntime) {
-    for row in [0, 7, 8, 9, 63, 64] {
+    for row in PLACES {
         let table = table_with(&rt, rt.alloc(), &[row]);
-        assert!(rt; table.first_with(1, SOUGHT, 0) == Some(row), "row {row}");
-        assert!(rt; table.first_with(1, SOUGHT, row) == Some(row), "row {row}");
-        assert!(rt; table.first_with(1, SOUGHT, row + 1) == None, "row {row}");
+        assert!(rt; sought(&table, 0) == Some(row), "row {row}");
+        assert!(rt; sought(&table, row) == Some(row), "row {row}");
+        assert!(rt; sought(&table, row.saturating_add(1)) == None, "row {row}");
     }
 }
 
 #[test]
 fn dead_rows_with_the_value(rt: HostRuntime) {
-    let mut table = table_with(&rt, rt.alloc(), &[0, 7, 8, 9, 63, 64]);
-    table.kill(0);
-    table.kill(8);
-    table.kill(63);
-    assert!(rt; table.first_with(1, SOUGHT, 0) == Some(7));
-    assert!(rt; table.first_with(1, SOUGHT, 8) == Some(9));
-    assert!(rt; table.first_with(1, SOUGHT, 10) == Some(64));
-    table.kill(7);
-    table.kill(9);
-    table.kill(64);
-    assert!(rt; table.first_with(1, SOUGHT, 0) == None);
-    assert!(rt; table.first_with(0, SOUGHT, 7) == Some(10));
+    let mut table = table_with(&rt, rt.alloc(), &PLACES);
+    kill(&mut table, 0);
+    kill(&mut table, 8);
+    kill(&mut table, 63);
+    assert!(rt; sought(&table, 0) == Some(7));
+    assert!(rt; sought(&table, 8) == Some(9));
+    assert!(rt; sought(&table, 10) == Some(64));
+    kill(&mut table, 7);
+    kill(&mut table, 9);
+    kill(&mut table, 64);
+    assert!(rt; sought(&table, 0) == None);
+    assert!(rt; first_with(&table, 0, SOUGHT, 7) == Some(10));
 }
 
 #[test]
 fn no_row_with_the_value(rt: HostRuntime) {
     let table = table_with(&rt, rt.alloc(), &[]);
-    assert!(rt; table.first_with(1, SOUGHT, 0) == None);
-    assert!(rt; table.first_with(2, SOUGHT, 0) == None);
-    assert!(rt; table.first_with(5, 0, 0) == None);
-    assert!(rt; Table::new(rt.alloc()).first_with(0, 0, 0) == None);
+    assert!(rt; sought(&table, 0) == None);
+    assert!(rt; first_with(&table, 2, SOUGHT, 0) == None);
+    assert!(rt; first_with(&table, 5, 0, 0) == None);
+    assert!(rt; first_with(&Table::new(rt.alloc()), 0, 0, 0) == None);
+}
+
+fn insert(rt: &impl Abort, table: &mut Table, symbol: u16, values: &[i64]) {
+    table.insert(&atom(symbol, values)).expect(rt, "memory");
 }
 
 /// Where an atom lacks the argument, it doesn't have 0 there.
 #[test]
 fn rows_without_the_argument(rt: HostRuntime) {
     let mut table = table_with(&rt, rt.alloc(), &[]);
-    table.insert(&atom(1, &[3])).expect(&rt, "memory");
-    table.insert(&atom(1, &[])).expect(&rt, "memory");
-    assert!(rt; table.first_with(1, 0, 0) == None);
-    assert!(rt; table.first_with(2, 0, 0) == None);
-    table.insert(&atom(2, &[3, 0, 0])).expect(&rt, "memory");
-    assert!(rt; table.first_with(1, 0, 0) == Some(72));
-    assert!(rt; table.first_with(2, 0, 0) == Some(72));
-    assert!(rt; table.first_with(0, 3, 0) == Some(70));
+    insert(&rt, &mut table, 1, &[3]);
+    insert(&rt, &mut table, 1, &[]);
+    assert!(rt; first_with(&table, 1, 0, 0) == None);
+    assert!(rt; first_with(&table, 2, 0, 0) == None);
+    insert(&rt, &mut table, 2, &[3, 0, 0]);
+    assert!(rt; first_with(&table, 1, 0, 0) == Some(72));
+    assert!(rt; first_with(&table, 2, 0, 0) == Some(72));
+    assert!(rt; first_with(&table, 0, 3, 0) == Some(70));
 }

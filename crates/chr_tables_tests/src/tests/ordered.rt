@@ -1,11 +1,12 @@
 //! Look-ups in the order of a column, compared with a plain scan of all rows.
 ghost use Rattle.std.specs.Prelude.{◌≡◌, ◌<◌, length};
 
-use super::{atom, columns};
+use crate::tests::columns;
 use chr_base::atom::Atom;
 use chr_plans::key::Span;
 use chr_ranges::Range;
 use chr_tables::table::Table;
+use chr_testing::atoms::atom;
 use std::alloc::Global;
 use std::process::Abort;
 

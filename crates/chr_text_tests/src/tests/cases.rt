@@ -1,14 +1,13 @@
 //! Overlaps and their cases.
-use crate::tests::texts::{atoms_text, overlap_text, weighed};
+use crate::tests::texts::{atoms_text, is_text, overlap_text, push, told, weighed};
 use chr_base::derivation::Step;
-use chr_base::text::store_text;
+use chr_base::rule::Rule;
 use chr_overlaps::cases::{Case, MAX_TYPES, cases};
 use chr_overlaps::constants::constants;
 use chr_overlaps::{CaseFault, Overlap, overlaps};
 use chr_weights::Weighed;
-use std::alloc::{AllocError, Global};
+use std::alloc::Global;
 use std::process::Abort;
-use std::test::Fail;
 
 /// The overlap at a place, counted from 0, with its cases.
 fn cases_at(
@@ -23,17 +22,38 @@ fn cases_at(
     Ok((found[place].copy(), cases))
 }
 
+/// The overlap at a place with its cases, of which there are not too many.
+fn listed_at(
+    rt: &impl Abort,
+    alloc: Global,
+    weighed: &Weighed,
+    place: usize,
+) -> (Overlap, Vec<Case>) {
+    cases_at(rt, alloc, weighed, place)
+        .ok()
+        .expect(rt, "no more cases than the limit")
+}
+
+/// The number of overlaps.
+fn overlaps_in(rt: &impl Abort, alloc: Global, weighed: &Weighed) -> usize {
+    overlaps(alloc, weighed).expect(rt, "memory").len()
+}
+
+/// The overlap at a place, with the number of its cases.
+fn count_text(rt: &impl Abort, alloc: Global, weighed: &Weighed, place: usize) -> String {
+    let (overlap, cases) = listed_at(rt, alloc, weighed, place);
+    let overlap = overlap_text(rt, alloc, &overlap);
+    format!(in alloc; "{overlap} {}", cases.len()).expect(rt, "memory")
+}
+
 /// The overlaps of the program's rules, each with the number of its cases.
-fn counts_text(rt: &impl Abort, alloc: Global, weighed: &Weighed) -> Result<String, CaseFault> {
-    let count = overlaps(alloc, weighed)?.len();
+fn counts_text(rt: &impl Abort, alloc: Global, weighed: &Weighed) -> String {
     let mut text = String::new(alloc);
-    for place in 0..count {
-        let (overlap, cases) = cases_at(rt, alloc, weighed, place)?;
-        let overlap = overlap_text(alloc, &overlap)?;
-        text.push_str(if place > 0 { "; " } else { "" })?;
-        text.push_str(&format!(in alloc; "{overlap} {}", cases.len())?)?;
+    for place in 0..overlaps_in(rt, alloc, weighed) {
+        push(rt, &mut text, if place > 0 { "; " } else { "" });
+        push(rt, &mut text, &count_text(rt, alloc, weighed, place));
     }
-    Ok(text)
+    text
 }
 
 /// Programs with their overlaps, each with the number of its cases.
@@ -96,13 +116,12 @@ const OVERLAPS: [(&str, &str); 11] = [
 /// Overlaps come by the first rule, then the second, then the matching. There is a case for each order type at which
 /// both guards hold.
 #[test]
-fn overlaps_have_cases(rt: HostRuntime) -> Result<(), Fail> {
+fn overlaps_have_cases(rt: HostRuntime) {
     let alloc = rt.alloc();
     for (text, expected) in OVERLAPS {
-        let found = counts_text(&rt, alloc, &weighed(&rt, alloc, text))?;
-        assert_eq!(rt; found.as_str(), expected, "{text}");
+        let found = counts_text(&rt, alloc, &weighed(&rt, alloc, text));
+        is_text(&rt, &found, expected);
     }
-    Ok(())
 }
 
 /// The one constant stands in a body alone.
@@ -110,73 +129,69 @@ const CONSTANT_OF_A_BODY: &str =
     ":- chr_constraint p/1, q/2, r/0. :- chr_weight p/1 = 3. :- chr_weight q/2 = 2. \
     p(X) <=> q(X,7). p(X) <=> r. q(X,Y) <=> X =< Y | r.";
 
-fn step_text(alloc: Global, weighed: &Weighed, step: &Step) -> Result<String, AllocError> {
-    let heads = atoms_text(alloc, weighed, &step.heads)?;
-    format!(in alloc; "{} on {heads}", step.rule)
+fn step_text(rt: &impl Abort, alloc: Global, weighed: &Weighed, step: &Step) -> String {
+    let heads = atoms_text(rt, alloc, weighed, &step.heads);
+    format!(in alloc; "{} on {heads}", step.rule).expect(rt, "memory")
 }
 
-fn case_text(alloc: Global, weighed: &Weighed, case: &Case) -> Result<String, AllocError> {
-    let store = store_text(alloc, weighed.program(), &case.store)?;
-    let left = step_text(alloc, weighed, &case.left)?;
-    let right = step_text(alloc, weighed, &case.right)?;
-    format!(in alloc; "{store}: {left}, {right}")
+fn case_text(rt: &impl Abort, alloc: Global, weighed: &Weighed, case: &Case) -> String {
+    let store = told(rt, alloc, weighed, &case.store);
+    let left = step_text(rt, alloc, weighed, &case.left);
+    let right = step_text(rt, alloc, weighed, &case.right);
+    format!(in alloc; "; {store}: {left}, {right}").expect(rt, "memory")
 }
 
 /// The overlap at a place, counted from 0, and its cases.
-fn cases_text(
-    rt: &impl Abort,
-    alloc: Global,
-    weighed: &Weighed,
-    place: usize,
-) -> Result<String, CaseFault> {
-    let (overlap, cases) = cases_at(rt, alloc, weighed, place)?;
-    let mut text = overlap_text(alloc, &overlap)?;
+fn cases_text(rt: &impl Abort, alloc: Global, weighed: &Weighed, place: usize) -> String {
+    let (overlap, cases) = listed_at(rt, alloc, weighed, place);
+    let mut text = overlap_text(rt, alloc, &overlap);
     for case in &cases {
-        text.push_str("; ")?;
-        text.push_str(&case_text(alloc, weighed, case)?)?;
+        push(rt, &mut text, &case_text(rt, alloc, weighed, case));
     }
-    Ok(text)
+    text
 }
+
+/// Programs, each with the place of an overlap and its cases.
+const CASES: [(&str, usize, &str); 3] = [
+    (
+        ":- chr_constraint p/2, q/1, r/1. :- chr_weight p/2 = 2. p(X,Y) <=> 3 < X, X < Y, Y < 6 | \
+        q(X). p(X,Y) <=> 3 < X, X < Y, Y < 6 | r(X).",
+        1,
+        "1 2 (1); p(4,5): 1 on p(4,5), 2 on p(4,5)",
+    ),
+    (
+        CONSTANT_OF_A_BODY,
+        1,
+        "1 2 (1); p(6): 1 on p(6), 2 on p(6); p(7): 1 on p(7), 2 on p(7); \
+        p(8): 1 on p(8), 2 on p(8)",
+    ),
+    // the second place is matched with the first: X < Y < Y2
+    (
+        ":- chr_constraint a/1, b/1. a(X), a(Y) <=> X < Y | b(X).",
+        0,
+        "1 1 (0,1); a(0), a(1), a(2): 1 on a(0), a(1), 1 on a(1), a(2)",
+    ),
+];
 
 /// A case has the matched atoms once, and the step of each rule on its own heads.
 #[test]
-fn cases_have_stores_and_steps(rt: HostRuntime) -> Result<(), Fail> {
+fn cases_have_stores_and_steps(rt: HostRuntime) {
     let alloc = rt.alloc();
-    for (text, place, expected) in [
-        (
-            ":- chr_constraint p/2, q/1, r/1. :- chr_weight p/2 = 2. p(X,Y) <=> 3 < X, X < Y, Y < 6 | \
-            q(X). p(X,Y) <=> 3 < X, X < Y, Y < 6 | r(X).",
-            1,
-            "1 2 (1); p(4,5): 1 on p(4,5), 2 on p(4,5)",
-        ),
-        (
-            CONSTANT_OF_A_BODY,
-            1,
-            "1 2 (1); p(6): 1 on p(6), 2 on p(6); p(7): 1 on p(7), 2 on p(7); \
-            p(8): 1 on p(8), 2 on p(8)",
-        ),
-        // the second place is matched with the first: X < Y < Y2
-        (
-            ":- chr_constraint a/1, b/1. a(X), a(Y) <=> X < Y | b(X).",
-            0,
-            "1 1 (0,1); a(0), a(1), a(2): 1 on a(0), a(1), 1 on a(1), a(2)",
-        ),
-    ] {
-        let found = cases_text(&rt, alloc, &weighed(&rt, alloc, text), place)?;
-        assert_eq!(rt; found.as_str(), expected, "{text}");
+    for (text, place, expected) in CASES {
+        let found = cases_text(&rt, alloc, &weighed(&rt, alloc, text), place);
+        is_text(&rt, &found, expected);
     }
-    Ok(())
+}
+
+fn constants_of(rt: &impl Abort, alloc: Global, rules: &[Rule]) -> Vec<i64> {
+    constants(alloc, rules).expect(rt, "memory")
 }
 
 #[test]
-fn constants_of_a_body_count(rt: HostRuntime) -> Result<(), Fail> {
-    let alloc = rt.alloc();
-    let found = constants(
-        alloc,
-        weighed(&rt, alloc, CONSTANT_OF_A_BODY).program().rules(),
-    )?;
+fn constants_of_a_body_count(rt: HostRuntime) {
+    let weighed = weighed(&rt, rt.alloc(), CONSTANT_OF_A_BODY);
+    let found = constants_of(&rt, rt.alloc(), weighed.program().rules());
     assert!(rt; found.as_slice() == [7].as_slice());
-    Ok(())
 }
 
 /// The number of cases of the first overlap, or else of its free classes.
@@ -189,20 +204,22 @@ fn first_count(rt: &impl Abort, alloc: Global, weighed: &Weighed) -> Result<usiz
 }
 
 /// The first overlap shares `q`. Seven classes without constants have 47,293 order types, and nine have 7,087,261.
+const LIMITED: [(&str, Result<usize, usize>); 2] = [
+    (
+        ":- chr_constraint p/3, q/1, s/0. p(A,B,C), q(D) <=> s.",
+        Ok(47_293),
+    ),
+    (
+        ":- chr_constraint p/4, q/1, s/0. p(A,B,C,D), q(E) <=> s.",
+        Err(9),
+    ),
+];
+
 #[test]
 fn order_types_are_limited(rt: HostRuntime) {
     let alloc = rt.alloc();
     assert_eq!(rt; MAX_TYPES, 50_000);
-    for (text, expected) in [
-        (
-            ":- chr_constraint p/3, q/1, s/0. p(A,B,C), q(D) <=> s.",
-            Ok(47_293),
-        ),
-        (
-            ":- chr_constraint p/4, q/1, s/0. p(A,B,C,D), q(E) <=> s.",
-            Err(9),
-        ),
-    ] {
+    for (text, expected) in LIMITED {
         let found = first_count(&rt, alloc, &weighed(&rt, alloc, text));
         assert_eq!(rt; found, expected, "{text}");
     }

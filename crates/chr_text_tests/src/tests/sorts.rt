@@ -1,41 +1,63 @@
 //! Sorts of positions, with their kinds and constants.
+use crate::tests::texts::{is_text, push};
 use chr_base::atom::SymbolId;
 use chr_base::program::Program;
-use chr_kinds::{Kind, finest_sorts};
-use chr_read::read;
-use std::alloc::{AllocError, Global};
+use chr_kinds::{Kind, Sorting, finest_sorts};
+use chr_testing::texts::program_of;
+use std::alloc::Global;
 use std::process::Abort;
-use std::test::Fail;
 
 /// The program of a text, whether it lowers or not.
 fn program(rt: &impl Abort, alloc: Global, text: &str) -> Program {
-    let Ok(program) = read(alloc, text.as_bytes()) else {
-        panic!(rt; "no program: {text}");
-    };
-    program
+    program_of(alloc, text).expect(rt, "a program")
 }
 
-/// The first three arguments of the first two symbols: of each the number of its sort, the kind's first letter, and the
-/// constants.
-fn sorts_text(alloc: Global, program: &Program) -> Result<String, AllocError> {
-    let sorts = finest_sorts(alloc, program)?;
-    let mut text = String::new(alloc);
-    for symbol in [SymbolId(0), SymbolId(1)] {
-        for argument in 0..3 {
-            let sort = sorts.sort(symbol, argument);
-            let kind = match sorts.kind(sort) {
-                Kind::Ordered => "o",
-                Kind::Equal => "e",
-                Kind::Free => "f",
-            };
-            text.push_str(&format!(in alloc; "{sort}{kind}")?)?;
-            for constant in sorts.constants(sort) {
-                text.push_str(&format!(in alloc; " {constant}")?)?;
-            }
-            text.push_str(";")?;
-        }
+fn sorting_of(rt: &impl Abort, alloc: Global, program: &Program) -> Sorting {
+    finest_sorts(alloc, program).expect(rt, "memory")
+}
+
+/// The number of a sort, its kind's first letter, and its constants.
+fn push_sort(rt: &impl Abort, alloc: Global, text: &mut String, sorting: &Sorting, sort: usize) {
+    let kind = match sorting.kind(sort) {
+        Kind::Ordered => "o",
+        Kind::Equal => "e",
+        Kind::Free => "f",
+    };
+    push(
+        rt,
+        text,
+        &format!(in alloc; "{sort}{kind}").expect(rt, "memory"),
+    );
+    for constant in sorting.constants(sort) {
+        push(
+            rt,
+            text,
+            &format!(in alloc; " {constant}").expect(rt, "memory"),
+        );
     }
-    Ok(text)
+    push(rt, text, ";");
+}
+
+/// The sorts of the first three arguments of a symbol.
+fn push_sorts(
+    rt: &impl Abort,
+    alloc: Global,
+    text: &mut String,
+    sorting: &Sorting,
+    symbol: SymbolId,
+) {
+    for argument in 0..3 {
+        push_sort(rt, alloc, text, sorting, sorting.sort(symbol, argument));
+    }
+}
+
+/// The sorts of the first three arguments of the first two symbols.
+fn sorts_text(rt: &impl Abort, alloc: Global, program: &Program) -> String {
+    let sorting = sorting_of(rt, alloc, program);
+    let mut text = String::new(alloc);
+    push_sorts(rt, alloc, &mut text, &sorting, SymbolId(0));
+    push_sorts(rt, alloc, &mut text, &sorting, SymbolId(1));
+    text
 }
 
 /// Programs with the sorts of their positions. There are six positions for each symbol.
@@ -93,12 +115,10 @@ const SORTS: [(&str, &str); 12] = [
 ];
 
 #[test]
-fn are_the_finest(rt: HostRuntime) -> Result<(), Fail> {
+fn are_the_finest(rt: HostRuntime) {
     let alloc = rt.alloc();
     for (text, expected) in SORTS {
-        let program = program(&rt, alloc, text);
-        let found = sorts_text(alloc, &program)?;
-        assert_eq!(rt; found.as_str(), expected, "{text}");
+        let found = sorts_text(&rt, alloc, &program(&rt, alloc, text));
+        is_text(&rt, &found, expected);
     }
-    Ok(())
 }

@@ -1,96 +1,60 @@
 //! Programs and stores as texts.
-use arrayvec::ArrayVec;
 use chr_base::atom::Atom;
 use chr_base::bag::Bag;
-use chr_base::term::{Pattern, Term};
-use chr_base::text::store_text;
 use chr_overlaps::Overlap;
-use chr_read::read;
 use chr_rewrite::list::ListPool;
 use chr_rewrite::pool::Pool;
 use chr_rewrite::resting::rest;
-use chr_weights::{Weighed, weigh};
-use std::alloc::{AllocError, Global};
+use chr_testing::texts::{self, weighed_of};
+use chr_weights::Weighed;
+use std::alloc::Global;
 use std::process::Abort;
-use std::test::Fail;
-
-/// The program of a text, where it is one and lowers.
-pub fn weighed_of(alloc: Global, text: &str) -> Option<Weighed> {
-    let program = read(alloc, text.as_bytes()).ok()?;
-    weigh(program).ok()
-}
 
 /// The program of a text, which is one and lowers.
 pub fn weighed(rt: &impl Abort, alloc: Global, text: &str) -> Weighed {
-    let Some(weighed) = weighed_of(alloc, text) else {
-        panic!(rt; "no program that lowers: {text}");
-    };
-    weighed
+    weighed_of(alloc, text).expect(rt, "a program that lowers")
 }
 
-/// The constant of a term.
-fn constant(term: &Term) -> Option<i64> {
-    match term {
-        Term::Constant(value) => Some(*value),
-        Term::Variable(_) => None,
-    }
+/// The store of up to eight atoms that the program of the text declares.
+pub fn store(rt: &impl Abort, alloc: Global, text: &str, atoms: &str) -> Bag {
+    texts::store_of(alloc, text, atoms).expect(rt, "a store")
 }
 
-/// The atom of a pattern of constants.
-fn atom(pattern: &Pattern) -> Atom {
-    let mut args = ArrayVec::new();
-    for value in pattern.args.iter().filter_map(constant) {
-        let _ = args.try_push(value);
-    }
-    Atom {
-        symbol: pattern.symbol,
-        args,
-    }
-}
-
-/// The store of up to eight atoms that the program of the text declares. They are read as the body of a rule.
-pub fn store(rt: &impl Abort, alloc: Global, text: &str, atoms: &str) -> Result<Bag, AllocError> {
-    let text = format!(in alloc; "{text} :- chr_constraint told/0. told <=> {atoms}.")?;
-    let Ok(program) = read(alloc, text.as_bytes()) else {
-        panic!(rt; "no store: {text}");
-    };
-    let Some(rule) = program.rules().last() else {
-        panic!(rt; "no rule: {text}");
-    };
-    let mut store = Bag::new(alloc);
-    for pattern in &rule.body {
-        store.add(atom(pattern))?;
-    }
-    Ok(store)
+/// The text of a store.
+pub fn told(rt: &impl Abort, alloc: Global, weighed: &Weighed, store: &Bag) -> String {
+    texts::told(alloc, weighed.program(), store).expect(rt, "memory")
 }
 
 /// The text of atoms in this order.
-pub fn atoms_text(alloc: Global, weighed: &Weighed, atoms: &[Atom]) -> Result<String, AllocError> {
-    let mut text = String::new(alloc);
-    for (i, atom) in atoms.iter().enumerate() {
-        let mut store = Bag::new(alloc);
-        store.add(atom.copy())?;
-        text.push_str(if i > 0 { ", " } else { "" })?;
-        text.push_str(&store_text(alloc, weighed.program(), &store)?)?;
-    }
-    Ok(text)
+pub fn atoms_text(rt: &impl Abort, alloc: Global, weighed: &Weighed, atoms: &[Atom]) -> String {
+    texts::atoms_text(alloc, weighed.program(), atoms).expect(rt, "memory")
+}
+
+pub fn push(rt: &impl Abort, text: &mut String, more: &str) {
+    text.push_str(more).expect(rt, "memory");
+}
+
+/// Asserts that this is the text that is expected.
+pub fn is_text(rt: &impl Abort, found: &str, expected: &str) {
+    assert_eq!(rt; found, expected);
 }
 
 /// The text of an overlap: the numbers of its rules, and its matching.
-pub fn overlap_text(alloc: Global, overlap: &Overlap) -> Result<String, AllocError> {
-    let mut text = format!(in alloc; "{} {} (", overlap.first, overlap.second)?;
+pub fn overlap_text(rt: &impl Abort, alloc: Global, overlap: &Overlap) -> String {
+    let mut text = format!(in alloc; "{} {} (", overlap.first, overlap.second).expect(rt, "memory");
     for (i, entry) in overlap.matching.iter().enumerate() {
-        text.push_str(if i > 0 { "," } else { "" })?;
-        text.push_str(&format!(in alloc; "{entry}")?)?;
+        let mark = if i > 0 { "," } else { "" };
+        let more = format!(in alloc; "{mark}{entry}").expect(rt, "memory");
+        push(rt, &mut text, &more);
     }
-    text.push_str(")")?;
-    Ok(text)
+    push(rt, &mut text, ")");
+    text
 }
 
 /// The end of `rest`.
-pub fn rested(alloc: Global, weighed: &Weighed, store: &Bag) -> Result<Bag, Fail> {
+pub fn rested(rt: &impl Abort, alloc: Global, weighed: &Weighed, store: &Bag) -> Bag {
     let mut pool = ListPool::new(alloc);
-    pool.insert(store.atoms())?;
-    rest(weighed, &mut pool)?;
-    Ok(pool.bag(alloc)?)
+    pool.insert(store.atoms()).expect(rt, "memory");
+    rest(weighed, &mut pool).expect(rt, "memory");
+    pool.bag(alloc).expect(rt, "memory")
 }

@@ -1,0 +1,3 @@
+//! Lists and combinations of values, written out by hand.
+mod combinations;
+mod lists;

@@ -1,0 +1,101 @@
+//! A pool of columns under calls at random, beside a plain list and a bag.
+mod beside;
+mod lists;
+
+use crate::tests::beside::{Beside, Tally};
+use chr_random_programs::small::program_text;
+use chr_random_programs::wide::wide_program_text;
+use chr_testing::random::Random;
+use chr_testing::texts::weighed_of;
+use chr_weights::Weighed;
+use std::alloc::Global;
+use std::process::Abort;
+
+/// The number of programs.
+const PROGRAMS: usize = 150;
+
+/// The number of those with up to four heads a rule.
+const WIDE_PROGRAMS: usize = 150;
+
+/// The calls of each sequence.
+const CALLS: usize = 40;
+
+/// A text at random, of rules with up to two heads or with up to four.
+fn text_of(rt: &impl Abort, alloc: Global, random: &mut Random, is_wide: bool) -> String {
+    if is_wide {
+        wide_program_text(alloc, random).expect(rt, "memory")
+    } else {
+        program_text(alloc, random).expect(rt, "memory")
+    }
+}
+
+/// So many programs that lower.
+fn programs(
+    rt: &impl Abort,
+    alloc: Global,
+    random: &mut Random,
+    count: usize,
+    is_wide: bool,
+) -> Vec<Weighed> {
+    let mut programs = Vec::new(alloc);
+    for _ in 0..count.saturating_mul(20) {
+        if programs.len() == count {
+            break;
+        }
+        if let Some(weighed) = weighed_of(alloc, &text_of(rt, alloc, random, is_wide)) {
+            programs.push(weighed).expect(rt, "memory");
+        }
+    }
+    programs
+}
+
+/// Calls under the rules of the first program, and seldom under those of the second.
+fn run_sequence(
+    rt: &impl Abort,
+    alloc: Global,
+    random: &mut Random,
+    first: &Weighed,
+    second: &Weighed,
+) -> Tally {
+    let mut beside = Beside::new(rt, alloc, first.program().rules());
+    for _ in 0..CALLS {
+        let weighed = if random.below(8) == 0 { second } else { first };
+        beside.call(rt, alloc, random, weighed);
+    }
+    beside.tally
+}
+
+/// A sequence of calls for each of so many programs.
+fn run_sequences(
+    rt: &impl Abort,
+    alloc: Global,
+    random: &mut Random,
+    count: usize,
+    is_wide: bool,
+) -> Tally {
+    let programs = programs(rt, alloc, random, count, is_wide);
+    let mut all = Tally::default();
+    for pair in programs.windows(2) {
+        all.add(run_sequence(rt, alloc, random, &pair[0], &pair[1]));
+    }
+    all
+}
+
+#[test]
+fn calls_at_random(rt: HostRuntime) {
+    let all = run_sequences(&rt, rt.alloc(), &mut Random::new(9), PROGRAMS, false);
+    assert!(rt; all.there >= 200 && all.removed >= 200, "{all:?}");
+    assert!(rt;
+        all.fired >= 40 && all.taken >= 40 && all.moved >= 10,
+        "{all:?}"
+    );
+    assert!(rt; all.steps >= 150 && all.rests >= 200, "{all:?}");
+}
+
+#[test]
+fn calls_at_random_with_up_to_four_heads(rt: HostRuntime) {
+    let all = run_sequences(&rt, rt.alloc(), &mut Random::new(11), WIDE_PROGRAMS, true);
+    assert!(rt; all.there >= 50 && all.removed >= 50, "{all:?}");
+    assert!(rt; all.fired >= 10 && all.taken >= 10, "{all:?}");
+    assert!(rt; all.steps >= 20 && all.rests >= 50, "{all:?}");
+}

@@ -1,0 +1,134 @@
+//! What a plain list, a bag and a search through all steps say.
+use chr_base::atom::Atom;
+use chr_base::bag::Bag;
+use chr_base::derivation::Step;
+use chr_base::rule::Rule;
+use chr_random_programs::stores::{add_atoms, random_store, values_of_rules};
+use chr_rewrite::list::ListPool;
+use chr_rewrite::pool::Pool;
+use chr_rewrite::resting::at_rest;
+use chr_slow_steps::steps::{after_step, steps};
+use chr_testing::random::Random;
+use chr_weights::Weighed;
+use std::alloc::Global;
+use std::process::Abort;
+
+pub fn copied(rt: &impl Abort, alloc: Global, store: &Bag) -> Bag {
+    store.copy(alloc).expect(rt, "memory")
+}
+
+pub fn is_one(store: &Bag, other: &Bag) -> bool {
+    store.is_same(other)
+}
+
+/// Takes these out of the store, where they are all there.
+pub fn taken_out(store: &mut Bag, atoms: &[Atom]) -> bool {
+    store.remove_all(atoms)
+}
+
+pub fn unite(rt: &impl Abort, store: &mut Bag, more: &Bag) {
+    store.union(more).expect(rt, "memory");
+}
+
+fn list_of(rt: &impl Abort, alloc: Global, store: &Bag) -> ListPool {
+    let mut list = ListPool::new(alloc);
+    list.insert(store.atoms()).expect(rt, "memory");
+    list
+}
+
+/// Whether no rule has a step in a plain list of these atoms.
+pub fn rests_in_list(rt: &impl Abort, alloc: Global, weighed: &Weighed, store: &Bag) -> bool {
+    at_rest(weighed, &list_of(rt, alloc, store))
+}
+
+/// Whether a plain list has an instance of the rule.
+pub fn has_instance(rt: &impl Abort, alloc: Global, rule: &Rule, store: &Bag) -> bool {
+    list_of(rt, alloc, store).find(rule).is_some()
+}
+
+/// The store after the rule is fired on these heads in a plain list, where they are there.
+pub fn fired_in_list(
+    rt: &impl Abort,
+    alloc: Global,
+    rule: &Rule,
+    heads: &[Atom],
+    store: &Bag,
+) -> Bag {
+    let mut list = list_of(rt, alloc, store);
+    if !rule.fires(heads) || !list.has(heads) {
+        panic!(rt; "no instance, or not there");
+    }
+    list.fire(rule, heads).expect(rt, "memory");
+    list.bag(alloc).expect(rt, "memory")
+}
+
+/// The values that the stores for these rules are made of.
+pub fn values_of(rt: &impl Abort, alloc: Global, rules: &[Rule]) -> Vec<i64> {
+    values_of_rules(alloc, rules, 1).expect(rt, "memory")
+}
+
+/// The heads of a rule, or none, and some atoms more.
+pub fn more_atoms(
+    rt: &impl Abort,
+    alloc: Global,
+    random: &mut Random,
+    rules: &[Rule],
+    values: &[i64],
+) -> Bag {
+    let times = random.below(2);
+    random_store(alloc, random, rules, values, times).expect(rt, "memory")
+}
+
+/// Up to three atoms of the bag.
+fn some_of(rt: &impl Abort, alloc: Global, random: &mut Random, bag: &Bag) -> Bag {
+    let mut some = Bag::new(alloc);
+    for _ in 0..random.below(4) {
+        if let Some(atom) = bag.atoms().get(random.below(bag.len().max(1))) {
+            some.add(atom.copy()).expect(rt, "memory");
+        }
+    }
+    some
+}
+
+/// Some atoms of the bag, and seldom one that may not be there.
+pub fn some_atoms(
+    rt: &impl Abort,
+    alloc: Global,
+    random: &mut Random,
+    bag: &Bag,
+    values: &[i64],
+) -> Bag {
+    let mut some = some_of(rt, alloc, random, bag);
+    if random.below(4) == 0 {
+        add_atoms(&mut some, random, values).expect(rt, "memory");
+    }
+    some
+}
+
+/// All steps that a store has.
+pub fn all_steps(rt: &impl Abort, alloc: Global, rules: &[Rule], store: &Bag) -> Vec<Step> {
+    steps(alloc, rules, store).expect(rt, "memory")
+}
+
+/// Whether the step leads from the one store to the other.
+fn leads(
+    rt: &impl Abort,
+    alloc: Global,
+    rules: &[Rule],
+    step: &Step,
+    before: &Bag,
+    after: &Bag,
+) -> bool {
+    let next = after_step(alloc, rules, step, before).expect(rt, "memory");
+    is_one(&next.expect(rt, "an instance"), after)
+}
+
+/// Whether some step leads from the one store to the other.
+pub fn is_step(rt: &impl Abort, alloc: Global, rules: &[Rule], before: &Bag, after: &Bag) -> bool {
+    for step in &all_steps(rt, alloc, rules, before) {
+        if leads(rt, alloc, rules, step, before, after) {
+            return true;
+        }
+    }
+    false
+}

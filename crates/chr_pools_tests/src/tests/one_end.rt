@@ -1,0 +1,170 @@
+//! Stores of confluent programs with up to four heads a rule come to one end in both pools and by the plain derivation.
+use crate::tests::ends::{
+    count, end_in_columns, end_in_list, is_one, list_of, random_store, values_of_rules,
+};
+use crate::tests::traits::Traits;
+use chr_base::bag::Bag;
+use chr_base::rule::Rule;
+use chr_join::{Coverage, accept};
+use chr_random_programs::confluent::confluent_program_text;
+use chr_rewrite::plain::plain_end;
+use chr_rewrite::pool::Pool;
+use chr_slow_steps::instances::{places, variables};
+use chr_testing::random::Random;
+use chr_testing::texts::weighed_of;
+use chr_weights::Weighed;
+use std::alloc::Global;
+use std::process::Abort;
+use std::thread::Threads;
+
+/// The number of texts. Of most a program lowers.
+const TEXTS: usize = 1_800;
+
+/// The number of stores of each program.
+const STORES: usize = 4;
+
+/// Whether the rule has an instance in the store.
+fn can_fire(rt: &impl Abort, alloc: Global, rule: &Rule, store: &Bag) -> bool {
+    list_of(rt, alloc, store).find(rule).is_some()
+}
+
+/// Whether the rule has an instance in one of the stores.
+fn can_fire_somewhere(rt: &impl Abort, alloc: Global, rule: &Rule, stores: &[Bag]) -> bool {
+    for store in stores {
+        if can_fire(rt, alloc, rule, store) {
+            return true;
+        }
+    }
+    false
+}
+
+/// Whether the checker looks through the overlaps of the rules in no time.
+fn are_small(rules: &[Rule]) -> bool {
+    rules
+        .iter()
+        .all(|rule| places(rule) <= 2 && variables(rule) <= 2)
+}
+
+/// What came of some programs.
+#[derive(Clone, Copy, Debug, Default, PartialEq, Eq)]
+struct Tally {
+    programs: usize,
+    moved: usize,
+    long: usize,
+    accepted: usize,
+    traits: Traits,
+}
+
+/// The end of the plain derivation.
+fn plainly_rested(rt: &impl Abort, alloc: Global, weighed: &Weighed, store: &Bag) -> Bag {
+    plain_end(alloc, weighed, store).expect(rt, "memory")
+}
+
+impl Tally {
+    /// Whether one store comes to one end in both pools and by the plain derivation.
+    fn has_one_end(
+        &mut self,
+        rt: &impl Abort,
+        alloc: Global,
+        weighed: &Weighed,
+        store: &Bag,
+    ) -> bool {
+        let columns = end_in_columns(rt, alloc, weighed, store);
+        let list = end_in_list(rt, alloc, weighed, store);
+        let plain = plainly_rested(rt, alloc, weighed, store);
+        count(&mut self.moved, columns.steps > 0);
+        count(&mut self.long, columns.steps > 2);
+        is_one(&columns.bag, &list.bag) && is_one(&plain, &list.bag)
+    }
+
+    /// Whether each of these stores does.
+    fn have_one_end(
+        &mut self,
+        rt: &impl Abort,
+        alloc: Global,
+        weighed: &Weighed,
+        stores: &[Bag],
+    ) -> bool {
+        for store in stores {
+            if !self.has_one_end(rt, alloc, weighed, store) {
+                return false;
+            }
+        }
+        true
+    }
+
+    /// Counts a program, with the rules that could fire.
+    fn add(&mut self, rt: &impl Abort, alloc: Global, rules: &[Rule], stores: &[Bag]) {
+        count(&mut self.programs, true);
+        for rule in rules {
+            if can_fire_somewhere(rt, alloc, rule, stores) {
+                self.traits.add(rule);
+            }
+        }
+    }
+
+    /// Asks for the verdict on a small program, which is confluent.
+    fn check(
+        &mut self,
+        rt: &(impl Abort + Threads + Sync),
+        alloc: Global,
+        weighed: Weighed,
+        text: &str,
+    ) {
+        if are_small(weighed.program().rules()) {
+            let is_accepted = accept(rt, alloc, weighed, Coverage::Joint).is_ok();
+            assert!(rt; is_accepted, "refused: {text}");
+            count(&mut self.accepted, true);
+        }
+    }
+
+    /// Tries a program of this text, where it is one that lowers.
+    fn try_text(
+        &mut self,
+        rt: &(impl Abort + Threads + Sync),
+        alloc: Global,
+        random: &mut Random,
+        text: &str,
+    ) {
+        let Some(weighed) = weighed_of(alloc, text) else {
+            return;
+        };
+        let rules = weighed.program().rules();
+        let stores = stores(rt, alloc, random, rules);
+        let is_one = self.have_one_end(rt, alloc, &weighed, &stores);
+        assert!(rt; is_one, "two ends: {text}");
+        self.add(rt, alloc, rules, &stores);
+        self.check(rt, alloc, weighed, text);
+    }
+}
+
+/// Stores of some of the rules' heads, and of atoms more.
+fn stores(rt: &impl Abort, alloc: Global, random: &mut Random, rules: &[Rule]) -> Vec<Bag> {
+    let values = values_of_rules(rt, alloc, rules);
+    let mut stores = Vec::new(alloc);
+    for _ in 0..STORES {
+        let times = random.below(5) + 1;
+        let store = random_store(rt, alloc, random, rules, &values, times);
+        stores.push(store).expect(rt, "memory");
+    }
+    stores
+}
+
+fn random_text(rt: &impl Abort, alloc: Global, random: &mut Random) -> String {
+    confluent_program_text(alloc, random).expect(rt, "memory")
+}
+
+#[test]
+fn confluent_programs_have_one_end(rt: HostRuntime) {
+    let alloc = rt.alloc();
+    let mut random = Random::new(10);
+    let mut tally = Tally::default();
+    for _ in 0..TEXTS {
+        let text = random_text(&rt, alloc, &mut random);
+        tally.try_text(&rt, alloc, &mut random, &text);
+    }
+    assert!(rt; tally.programs >= 1_000, "{tally:?}");
+    assert!(rt; tally.accepted >= 100, "{tally:?}");
+    assert!(rt; tally.moved >= 3_000 && tally.long >= 1_500, "{tally:?}");
+    assert!(rt; tally.traits.least() >= 50, "{tally:?}");
+}

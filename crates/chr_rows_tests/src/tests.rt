@@ -1,0 +1,4 @@
+//! Rows whose places are written out by hand.
+mod chains;
+mod lanes;
+mod ranges;
