@@ -1,8 +1,8 @@
 -- The boards of a world in a list, and their replicas.
-use Rattle.std.specs.Prelude.{◌≡◌, ℕ, suc, ◌+◌, ◌-◌, ◌<◌, List, length, map, replicate, zero, [], ◌∷◌, All, take, drop, ◌++◌, Option, Some, slice_get, slice_index_or, slice_set}
+use Rattle.std.specs.Prelude.{◌≡◌, ℕ, suc, ◌+◌, ◌-◌, ◌<◌, List, length, map, replicate, zero, [], ◌∷◌, All, take, drop, ◌++◌, Option, Some, slice_get, slice_index_or, slice_set, Result, Ok, Err, OnErr}
 use Rattle.std.proofs.Common.{refl, sym, ap, ◌∙◌, subst, arith}
 use Rattle.std.specs.Option.{option_map}
-use Rattle.std.proofs.lemmas.List.{map-set, take-append-le, take_all}
+use Rattle.std.proofs.lemmas.List.{map-set, set-get_or, take-append-le, take_all}
 use Rattle.std.proofs.lemmas.List.Elements.{All-set}
 use Rattle.std.proofs.lemmas.Option.{slice_get-map, slice_get-get_or, slice_get_within, get_or_from_slice_get}
 use Rattle.chr_join.specs.declared.accepted.Accepted.{Accepted}
@@ -25,6 +25,11 @@ use Rattle.chr_worlds.specs.working.Boards.{replicas_on, AreOf, ChangesAt, AreLa
 pub is_there : (bs : List Held) (place : ℕ) (b : Held) → place < length bs → b ≡ slice_index_or bs place b → slice_get bs place ≡ Some b
 is_there bs place b within read =
     slice_get-get_or bs place b within ∙ ap Some (sym read)
+
+-- a board that stayed as it was is written back
+pub set_again : {A E : Type 0} (r : Result A E) (bs : List Held) (place : ℕ) (d b : Held) → OnErr r (b ≡ slice_index_or bs place d) → OnErr r (slice_set bs place b ≡ bs)
+set_again (Ok x) bs place d b same = tt
+set_again (Err e) bs place d b same = ap (slice_set bs place) same ∙ set-get_or bs place d
 
 -- the replica of a board stands at its place
 pub replica_at : (bs : List Held) (place : ℕ) (b : Held) → slice_get bs place ≡ Some b → slice_get (replicas_on bs) place ≡ Some b.replica
