@@ -1,17 +1,17 @@
 -- Each kind of step keeps the rule of the claims.
-use Rattle.std.proofs.Common.{◌≡◌, ◌≢◌, ◌⊎◌, ℕ, zero, suc, ◌+◌, ◌-◌, ◌≤◌, ◌<◌, ◌^◌, ◌%◌, Bool, true, false, List, [], ◌∷◌, ◌++◌, length, set, refl, sym, ap, ◌∙◌, subst, ⊎_elim, inl, inr, zero-add, arith}
-use Rattle.std.specs.Prelude.{slice_index, nat_lt, ◌==◌}
-use Rattle.std.specs.List.{sum_by, count_by}
-use Rattle.std.proofs.lemmas.List.Sums.{sum_by-cons, sum_by-append, sum_by_push}
+use Rattle.std.proofs.Common.{◌≡◌, ◌≢◌, ◌⊎◌, ℕ, zero, suc, ◌+◌, ◌≤◌, ◌<◌, ◌^◌, ◌%◌, List, [], ◌∷◌, ◌++◌, set, refl, sym, ap, ◌∙◌, subst, ⊎_elim, inl, inr, zero-add, arith}
+use Rattle.std.specs.Prelude.{slice_index}
+use Rattle.std.specs.List.{sum_by}
+use Rattle.std.proofs.lemmas.List.Sums.{sum_by-append, sum_by_push}
 use Rattle.std.proofs.lemmas.Bool.Decides.{nat_tests}
-use mathlib.Core.Option.{Option, some, none, some-ne-none, some-injective}
+use mathlib.Core.Option.{some, none, some-ne-none, some-injective}
 use lib.ListN.{get_elem?}
-use Rattle.atomic_table.specs.Table.{State, Me, Step, step, Act, keeps, stepped, Valid, carried_after, Allows, Splits, Joins, opening, Final, Seen}
-use Rattle.atomic_table.proofs.Lists.{at_set, at_snoc, set_here, set_else}
+use Rattle.atomic_table.specs.Table.{State, Me, step, Act, keeps, stepped, Valid, carried_after, Allows, Splits, Joins, opening, Final, Seen}
+use Rattle.atomic_table.proofs.Lists.{at_set, at_snoc, set_else}
 use Rattle.chr_claims.specs.declared.law.Hand.{Hand}
 use Rattle.chr_claims.specs.declared.law.Size.{Size}
-use Rattle.chr_claims.specs.Claiming.{hand, first_hand, dealt, newcomer, gathered, nobody, times, once_below, drawing, Draws, IsFair, IsKept}
-use Rattle.chr_claims.proofs.Totals.{total_set, part_of_total, total_none, total_le, total_one}
+use Rattle.chr_claims.specs.Claiming.{first_hand, dealt, newcomer, gathered, nobody, times, once_below, drawing, Draws, IsFair, IsKept}
+use Rattle.chr_claims.proofs.Totals.{total_set, total_le, total_one}
 
 once_more : (x n : ℕ) → once_below x (n + 1) ≡ once_below x n + times x (n ∷ [])
 once_more x n = grind (arith, nat_tests)

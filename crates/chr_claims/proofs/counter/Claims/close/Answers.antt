@@ -1,6 +1,5 @@
-use Rattle.std.proofs.Common.{rules, arith, ◌≡◌, ℕ, ◌+◌, ◌<◌, ◌≤◌, List, [], ◌∷◌, ◌++◌, All, sum_by, count_by, ap, sym, ◌∙◌, vec_len, length, length-append, cond, add-zero}
-use Rattle.std.proofs.lemmas.Bool.Decides.{nat_tests}
-use Rattle.chr_claims.specs.Seats.{Drawn, IsOf}
+use Rattle.std.proofs.Common.{rules, arith, ◌≡◌, ℕ, ◌+◌, ◌<◌, sum_by, count_by, ap, sym, ◌∙◌, cond, add-zero}
+use Rattle.chr_claims.specs.Seats.{IsOf}
 use Rattle.chr_claims.specs.Claiming.{times}
 use Rattle.chr_claims.proofs.Totals.{all_popped, sum_popped, none_left}
 use Rattle.chr_claims.proofs.Moves.{gathers, settles, at_most_once, just_once, times_both}
