@@ -92,7 +92,7 @@ fn grow_by(rt: &impl Abort, alloc: Global, set: &mut OpSet, id: OpId, atoms: u32
 
 /// Adds an operation of one atom.
 fn grow(rt: &impl Abort, alloc: Global, set: &mut OpSet, id: OpId) {
-    grow_by(rt, alloc, set, id, 1);
+    assert!(rt; set.add(op(rt, alloc, id, &[0])).is_ok());
 }
 
 /// The set of operations with these ids, each of one atom, added one by one.
