@@ -175,7 +175,7 @@ fn rest_each<P: Pool>(rt: &impl Abort, alloc: Global, pool: &mut P) {
 }
 
 #[test]
-fn rests(rt: HostRuntime) {
+fn pools_rest(rt: HostRuntime) {
     let alloc = rt.alloc();
     rest_each(&rt, alloc, &mut ListPool::new(alloc));
     rest_each(&rt, alloc, &mut columns_for(&rt, alloc, &[]));

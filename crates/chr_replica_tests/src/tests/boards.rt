@@ -1,78 +1,75 @@
 //! Boards of programs that are given as texts, and what they answer.
-use crate::tests::texts::{has_text, op, shared, step, store};
+use crate::tests::texts::{accepted, has_text, op, step, store};
 use chr_base::bag::Bag;
 use chr_join::{Done, Lease};
 use chr_ops::Added;
 use chr_replica::{Board, Refusal};
 use std::alloc::Global;
 use std::process::Abort;
+use std::sync::Arc;
 use std::thread::Threads;
 
 /// A board of the program that was told nothing.
 pub fn opened(rt: &(impl Abort + Threads + Sync), alloc: Global, text: &str) -> Board {
-    Board::open(alloc, shared(rt, alloc, text)).expect(rt, "memory")
+    let Ok(program) = Arc::new(alloc, accepted(rt, alloc, text)) else {
+        panic!(rt; "out of memory");
+    };
+    let Ok(board) = Board::open(alloc, program) else {
+        panic!(rt; "out of memory");
+    };
+    board
 }
 
-/// Whether the board answers so to the operation of these atoms, of origin 1.
-pub fn tells(
+/// What the board answers to the operation of these atoms, of origin 1.
+pub fn tell(
     rt: &impl Abort,
     alloc: Global,
     board: &mut Board,
     text: &str,
     number: u64,
     atoms: &str,
-    expected: Result<Added, Refusal>,
-) -> bool {
-    board.tell(alloc, op(rt, alloc, text, number, atoms)) == expected
+) -> Result<Added, Refusal> {
+    board.tell(alloc, op(rt, alloc, text, number, atoms))
 }
 
 /// A board that was told one operation of these atoms, with number 1.
 pub fn told(rt: &(impl Abort + Threads + Sync), alloc: Global, text: &str, atoms: &str) -> Board {
     let mut board = opened(rt, alloc, text);
-    assert!(rt;
-        tells(rt, alloc, &mut board, text, 1, atoms, Ok(Added::New)),
-        "{atoms}"
-    );
+    if tell(rt, alloc, &mut board, text, 1, atoms) != Ok(Added::New) {
+        panic!(rt; "not told: {atoms}");
+    }
     board
 }
 
-/// Whether the board takes the step of a rule on these heads, or refuses it so.
-pub fn steps(
+/// Why the board doesn't take the step of a rule on these heads.
+pub fn step_refusal(
     rt: &impl Abort,
     alloc: Global,
     board: &mut Board,
     text: &str,
     rule: u32,
     on: &str,
-    expected: Option<Refusal>,
-) -> bool {
-    board.step(&step(rt, alloc, text, rule, on)).err() == expected
+) -> Option<Refusal> {
+    board.step(&step(rt, alloc, text, rule, on)).err()
 }
 
 /// A lease of this part.
 pub fn taken(rt: &impl Abort, alloc: Global, board: &mut Board, part: &Bag) -> Lease {
-    board.take(alloc, part).ok().expect(rt, "a lease")
+    let Ok(lease) = board.take(alloc, part) else {
+        panic!(rt; "nothing leased");
+    };
+    lease
 }
 
-/// Whether the board leases these atoms out, or refuses it so.
-pub fn takes(
+/// Why the board doesn't lease these atoms out.
+pub fn take_refusal(
     rt: &impl Abort,
     alloc: Global,
     board: &mut Board,
     text: &str,
     atoms: &str,
-    expected: Option<Refusal>,
-) -> bool {
-    board.take(alloc, &store(rt, alloc, text, atoms)).err() == expected
-}
-
-/// What comes of a lease, by resting it.
-fn rested(rt: &impl Abort, alloc: Global, board: &Board, lease: Lease) -> Done {
-    board
-        .program()
-        .rest_part(alloc, lease)
-        .ok()
-        .expect(rt, "memory")
+) -> Option<Refusal> {
+    board.take(alloc, &store(rt, alloc, text, atoms)).err()
 }
 
 /// What comes of a new lease of these atoms, by resting them.
@@ -84,35 +81,23 @@ pub fn rested_of(
     atoms: &str,
 ) -> Done {
     let lease = taken(rt, alloc, board, &store(rt, alloc, text, atoms));
-    rested(rt, alloc, board, lease)
+    let Ok(done) = board.program().rest_part(alloc, lease) else {
+        panic!(rt; "not rested");
+    };
+    done
 }
 
 /// Why the board doesn't take this back.
-fn put_refusal(board: &mut Board, done: Done) -> Option<Refusal> {
+pub fn put_refusal(board: &mut Board, done: Done) -> Option<Refusal> {
     match board.put(done) {
         Ok(()) => None,
         Err(refused) => Some(refused.refusal),
     }
 }
 
-/// Whether the board takes this back, or refuses it so.
-pub fn puts(board: &mut Board, done: Done, expected: Option<Refusal>) -> bool {
-    put_refusal(board, done) == expected
-}
-
-/// Whether the board takes the lease of this number back, or refuses it so.
-pub fn recalls(board: &mut Board, number: u64, expected: Option<Refusal>) -> bool {
-    board.recall(number).err() == expected
-}
-
-/// Whether the board doesn't show its store, for this cause.
-pub fn refuses_to_show(alloc: Global, board: &Board, expected: Refusal) -> bool {
-    board.show(alloc).err() == Some(expected)
-}
-
-/// Whether the board has so many leases out, the least of them with this number.
-pub fn has_out(board: &Board, leases: u64, least: Option<u64>) -> bool {
-    board.leases() == leases && board.least_lease() == least
+/// Why the board doesn't show its store.
+pub fn show_refusal(alloc: Global, board: &Board) -> Option<Refusal> {
+    board.show(alloc).err()
 }
 
 /// Whether the board shows this store.
@@ -123,12 +108,7 @@ fn shows(rt: &impl Abort, alloc: Global, board: &Board, text: &str) -> bool {
     }
 }
 
-/// Whether the board comes to rest in so many steps.
-fn rests(board: &mut Board, steps: u64) -> bool {
-    board.settle().ok() == Some(steps) && board.at_rest()
-}
-
 /// Whether the board comes to rest in so many steps, and shows this store then.
 pub fn settles(rt: &impl Abort, alloc: Global, board: &mut Board, steps: u64, text: &str) -> bool {
-    rests(board, steps) && shows(rt, alloc, board, text)
+    board.settle().ok() == Some(steps) && board.at_rest() && shows(rt, alloc, board, text)
 }

@@ -27,10 +27,9 @@ fn work(replica: u64, steps: Vec<Step>) -> Event {
 
 /// One step of the first rule, on these heads.
 fn one_step(rt: &impl Abort, alloc: Global, on: &str) -> Vec<Step> {
-    let mut steps = Vec::new(alloc);
-    steps
-        .push(step(rt, alloc, MINIMUM, 1, on))
-        .expect(rt, "memory");
+    let Ok(steps) = vec![in alloc; step(rt, alloc, MINIMUM, 1, on)] else {
+        panic!(rt; "out of memory");
+    };
     steps
 }
 
@@ -155,7 +154,9 @@ fn events_happen_one_by_one(rt: HostRuntime) {
 fn all_events(rt: &impl Abort, alloc: Global) -> Vec<Event> {
     let mut events = Vec::new(alloc);
     for place in 0..EVENTS {
-        events.push(event(rt, alloc, place)).expect(rt, "memory");
+        if events.push(event(rt, alloc, place)).is_err() {
+            panic!(rt; "out of memory");
+        }
     }
     events
 }
@@ -165,7 +166,7 @@ fn events_are_played_at_once(rt: HostRuntime) {
     let alloc = rt.alloc();
     let mut world = world_of(&rt, alloc, MINIMUM, 1);
     let answers = answers(&rt, alloc, &mut world, &all_events(&rt, alloc));
-    assert!(rt; answers.len() == EVENTS);
+    assert_eq!(rt; answers.len(), EVENTS);
     for (place, answer) in answers.iter().enumerate() {
         let program = world.program().program();
         assert!(rt;

@@ -1,6 +1,6 @@
 //! Boards lease parts out, and take back what comes of them or the parts as they are.
 use crate::tests::boards::{
-    has_out, puts, recalls, refuses_to_show, rested_of, settles, taken, takes, told,
+    put_refusal, rested_of, settles, show_refusal, take_refusal, taken, told,
 };
 use crate::tests::texts::{COINS, MINIMUM, store};
 use chr_base::bag::Bag;
@@ -14,12 +14,12 @@ use std::process::Abort;
 fn a_late_return_is_refused(rt: HostRuntime) {
     let alloc = rt.alloc();
     let mut board = told(&rt, alloc, MINIMUM, "min(5), min(3)");
-    assert!(rt; refuses_to_show(alloc, &board, Refusal::NotAtRest));
+    assert_eq!(rt; show_refusal(alloc, &board), Some(Refusal::NotAtRest));
     let done = rested_of(&rt, alloc, &mut board, MINIMUM, "min(5)");
-    assert!(rt; done.number() == 1);
-    assert!(rt; refuses_to_show(alloc, &board, Refusal::Leased(1)));
-    assert!(rt; recalls(&mut board, 1, None));
-    assert!(rt; puts(&mut board, done, Some(Refusal::NoLease(1))));
+    assert_eq!(rt; done.number(), 1);
+    assert_eq!(rt; show_refusal(alloc, &board), Some(Refusal::Leased(1)));
+    assert_eq!(rt; board.recall(1).err(), None);
+    assert_eq!(rt; put_refusal(&mut board, done), Some(Refusal::NoLease(1)));
     assert!(rt; settles(&rt, alloc, &mut board, 1, "min(3)"));
 }
 
@@ -27,17 +27,22 @@ fn a_late_return_is_refused(rt: HostRuntime) {
 fn unsettled_boards_show_nothing(rt: HostRuntime) {
     let alloc = rt.alloc();
     let mut board = told(&rt, alloc, MINIMUM, "min(5), min(3)");
-    assert!(rt; refuses_to_show(alloc, &board, Refusal::NotAtRest));
-    assert!(rt; takes(&rt, alloc, &mut board, MINIMUM, "min(5)", None));
-    assert!(rt; refuses_to_show(alloc, &board, Refusal::Leased(1)));
+    assert_eq!(rt; show_refusal(alloc, &board), Some(Refusal::NotAtRest));
+    assert_eq!(rt;
+        take_refusal(&rt, alloc, &mut board, MINIMUM, "min(5)"),
+        None
+    );
+    assert_eq!(rt; show_refusal(alloc, &board), Some(Refusal::Leased(1)));
 }
 
 #[test]
 fn only_what_is_there_is_leased(rt: HostRuntime) {
     let alloc = rt.alloc();
     let mut board = told(&rt, alloc, MINIMUM, "min(3)");
-    let refusal = Some(Refusal::NotThere);
-    assert!(rt; takes(&rt, alloc, &mut board, MINIMUM, "min(7)", refusal));
+    assert_eq!(rt;
+        take_refusal(&rt, alloc, &mut board, MINIMUM, "min(7)"),
+        Some(Refusal::NotThere)
+    );
     assert!(rt; settles(&rt, alloc, &mut board, 0, "min(3)"));
 }
 
@@ -45,9 +50,12 @@ fn only_what_is_there_is_leased(rt: HostRuntime) {
 fn a_lease_is_recalled_once(rt: HostRuntime) {
     let alloc = rt.alloc();
     let mut board = told(&rt, alloc, MINIMUM, "min(5), min(3)");
-    assert!(rt; takes(&rt, alloc, &mut board, MINIMUM, "min(5)", None));
-    assert!(rt; recalls(&mut board, 1, None));
-    assert!(rt; recalls(&mut board, 1, Some(Refusal::NoLease(1))));
+    assert_eq!(rt;
+        take_refusal(&rt, alloc, &mut board, MINIMUM, "min(5)"),
+        None
+    );
+    assert_eq!(rt; board.recall(1).err(), None);
+    assert_eq!(rt; board.recall(1).err(), Some(Refusal::NoLease(1)));
 }
 
 /// Whether the board hands out a copy of the lease, with this number and part.
@@ -63,9 +71,11 @@ fn leases_that_are_out_are_known(rt: HostRuntime) {
     let alloc = rt.alloc();
     let mut board = told(&rt, alloc, MINIMUM, "min(5), min(3), min(9)");
     let part = store(&rt, alloc, MINIMUM, "min(5), min(9)");
-    assert!(rt; taken(&rt, alloc, &mut board, &part).number == 1);
+    let number = taken(&rt, alloc, &mut board, &part).number;
+    assert_eq!(rt; number, 1);
     assert!(rt; hands_out(alloc, &board, 1, &part));
-    assert!(rt; has_out(&board, 1, Some(1)));
+    assert_eq!(rt; board.leases(), 1);
+    assert_eq!(rt; board.least_lease(), Some(1));
 }
 
 #[test]
@@ -73,14 +83,18 @@ fn what_comes_of_a_lease_is_put(rt: HostRuntime) {
     let alloc = rt.alloc();
     let mut board = told(&rt, alloc, MINIMUM, "min(5), min(3), min(9)");
     let done = rested_of(&rt, alloc, &mut board, MINIMUM, "min(5), min(9)");
-    assert!(rt; puts(&mut board, done, None));
-    assert!(rt; has_out(&board, 0, None));
+    assert_eq!(rt; put_refusal(&mut board, done), None);
+    assert_eq!(rt; board.leases(), 0);
+    assert_eq!(rt; board.least_lease(), None);
     assert!(rt; settles(&rt, alloc, &mut board, 1, "min(3)"));
 }
 
 /// An equal value.
 fn copied(rt: &impl Abort, alloc: Global, done: &Done) -> Done {
-    done.copy(alloc).expect(rt, "memory")
+    let Ok(copy) = done.copy(alloc) else {
+        panic!(rt; "out of memory");
+    };
+    copy
 }
 
 #[test]
@@ -89,21 +103,27 @@ fn a_second_return_is_refused(rt: HostRuntime) {
     let mut board = told(&rt, alloc, MINIMUM, "min(5), min(3), min(9)");
     let done = rested_of(&rt, alloc, &mut board, MINIMUM, "min(5), min(9)");
     let twice = copied(&rt, alloc, &done);
-    assert!(rt; puts(&mut board, done, None));
-    assert!(rt; puts(&mut board, twice, Some(Refusal::NoLease(1))));
+    assert_eq!(rt; put_refusal(&mut board, done), None);
+    assert_eq!(rt; put_refusal(&mut board, twice), Some(Refusal::NoLease(1)));
     assert!(rt; settles(&rt, alloc, &mut board, 1, "min(3)"));
 }
 
 /// The leases of the parts into which the pool is cut.
 fn parts(rt: &impl Abort, alloc: Global, board: &mut Board, count: u32) -> Vec<Lease> {
-    assert!(rt; 1 <= count, "{count} parts");
-    assert!(rt; count <= MAX_PARTS, "{count} parts");
-    board.take_parts(alloc, count).ok().expect(rt, "leases")
+    if count < 1 || count > MAX_PARTS {
+        panic!(rt; "{count} parts");
+    }
+    let Ok(leases) = board.take_parts(alloc, count) else {
+        panic!(rt; "nothing leased");
+    };
+    leases
 }
 
 fn recall_all(rt: &impl Abort, board: &mut Board, leases: &[Lease]) {
     for lease in leases {
-        assert!(rt; recalls(board, lease.number, None), "{}", lease.number);
+        if board.recall(lease.number).is_err() {
+            panic!(rt; "not recalled: {}", lease.number);
+        }
     }
 }
 
@@ -111,7 +131,9 @@ fn recall_all(rt: &impl Abort, board: &mut Board, leases: &[Lease]) {
 fn sizes(rt: &impl Abort, alloc: Global, leases: &[Lease]) -> Vec<usize> {
     let mut sizes = Vec::new(alloc);
     for lease in leases {
-        sizes.push(lease.part.len()).expect(rt, "memory");
+        if sizes.push(lease.part.len()).is_err() {
+            panic!(rt; "out of memory");
+        }
     }
     sizes.sort_unstable();
     sizes

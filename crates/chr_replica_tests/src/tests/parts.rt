@@ -8,7 +8,10 @@ use std::thread::Threads;
 
 /// What came of the lease, by resting its part.
 fn rested(rt: &impl Abort, alloc: Global, program: &Accepted, lease: Lease) -> Done {
-    program.rest_part(alloc, lease).ok().expect(rt, "memory")
+    let Ok(done) = program.rest_part(alloc, lease) else {
+        panic!(rt; "out of memory");
+    };
+    done
 }
 
 /// Whether what came of a lease has this number and part and is of this program.
@@ -33,12 +36,18 @@ pub fn is_done(
 
 /// An equal value.
 fn copied_done(rt: &impl Abort, alloc: Global, done: &Done) -> Done {
-    done.copy(alloc).expect(rt, "memory")
+    let Ok(copy) = done.copy(alloc) else {
+        panic!(rt; "out of memory");
+    };
+    copy
 }
 
 /// An equal lease.
 fn copied_lease(rt: &impl Abort, alloc: Global, lease: &Lease) -> Lease {
-    lease.copy(alloc).expect(rt, "memory")
+    let Ok(copy) = lease.copy(alloc) else {
+        panic!(rt; "out of memory");
+    };
+    copy
 }
 
 /// Whether the lease of this part is rested to this store, and a copy of what came of it is the same.

@@ -6,14 +6,15 @@ mod family;
 mod game;
 mod model;
 mod multisets;
+mod random;
 mod resting;
 
 use crate::tests::random_worlds::family::Family;
 use crate::tests::random_worlds::game::{Game, Seen};
 use crate::tests::random_worlds::model::Replica;
-use crate::tests::texts::shared;
+use crate::tests::random_worlds::random::Random;
+use crate::tests::texts::accepted;
 use chr_join::Accepted;
-use chr_testing::random::Random;
 use chr_worlds::World;
 use std::alloc::Global;
 use std::process::Abort;
@@ -25,6 +26,10 @@ const EVENTS: u32 = 40;
 
 /// The worlds of each program. Interpreted they take a hundred times longer.
 const WORLDS: u64 = 1_000;
+
+fn shared(rt: &(impl Abort + Threads + Sync), alloc: Global, text: &str) -> Arc<Accepted> {
+    Arc::new(alloc, accepted(rt, alloc, text)).expect(rt, "memory")
+}
 
 /// So many replicas of the model.
 fn replicas(rt: &impl Abort, alloc: Global, count: u32) -> Vec<Replica> {

@@ -11,22 +11,20 @@ use std::thread::Threads;
 /// The number of each lease here.
 const NUMBER: u64 = 7;
 
-fn push(rt: &impl Abort, alloc: Global, steps: &mut Vec<Step>, rule: u32, on: &str) {
-    let step = step(rt, alloc, MINIMUM, rule, on);
-    steps.push(step).expect(rt, "memory");
-}
-
 /// One step of the rule with this number on these heads.
 fn one(rt: &impl Abort, alloc: Global, rule: u32, on: &str) -> Vec<Step> {
-    let mut steps = Vec::new(alloc);
-    push(rt, alloc, &mut steps, rule, on);
+    let Ok(steps) = vec![in alloc; step(rt, alloc, MINIMUM, rule, on)] else {
+        panic!(rt; "out of memory");
+    };
     steps
 }
 
 /// A step of the first rule on `min(5), min(9)`, and then this one.
 fn two(rt: &impl Abort, alloc: Global, rule: u32, on: &str) -> Vec<Step> {
     let mut steps = one(rt, alloc, 1, "min(5), min(9)");
-    push(rt, alloc, &mut steps, rule, on);
+    if steps.push(step(rt, alloc, MINIMUM, rule, on)).is_err() {
+        panic!(rt; "out of memory");
+    }
     steps
 }
 
@@ -131,29 +129,28 @@ fn missing(
     first_missing(rt, alloc, "min(5), min(9)", &one(rt, alloc, rule, on))
 }
 
-/// A step with its heads turned, of rule 0, on one atom twice, and on one head.
-const MISSING: [(u32, &str); 4] = [
-    (1, "min(9), min(5)"),
-    (0, "min(5), min(9)"),
-    (1, "min(5), min(5)"),
-    (1, "min(5)"),
-];
-
 #[test]
 fn first_steps_that_are_not_there(rt: HostRuntime) {
-    for (rule, on) in MISSING {
-        assert!(rt;
-            missing(&rt, rt.alloc(), rule, on) == Some(0),
-            "{rule} on {on}"
-        );
-    }
+    let alloc = rt.alloc();
+    assert_eq!(rt; missing(&rt, alloc, 1, "min(9), min(5)"), Some(0), "turned");
+    assert_eq!(rt;
+        missing(&rt, alloc, 0, "min(5), min(9)"),
+        Some(0),
+        "of rule 0"
+    );
+    assert_eq!(rt;
+        missing(&rt, alloc, 1, "min(5), min(5)"),
+        Some(0),
+        "one atom twice"
+    );
+    assert_eq!(rt; missing(&rt, alloc, 1, "min(5)"), Some(0), "one head");
 }
 
 #[test]
 fn steps_are_missing_on_the_empty_store(rt: HostRuntime) {
     let alloc = rt.alloc();
     let steps = two(&rt, alloc, 1, "min(5), min(9)");
-    assert!(rt; first_missing(&rt, alloc, "true", &steps) == Some(0));
+    assert_eq!(rt; first_missing(&rt, alloc, "true", &steps), Some(0));
 }
 
 /// The place of the first step that isn't there, of two on a lease of `min(5), min(9)`: the step on both, and this one.
@@ -166,15 +163,17 @@ fn second_missing(
     first_missing(rt, alloc, "min(5), min(9)", &two(rt, alloc, rule, on))
 }
 
-/// The first step again, and one of no rule.
-const SECOND: [(u32, &str); 2] = [(1, "min(5), min(9)"), (2, "min(5), min(5)")];
-
 #[test]
 fn second_steps_that_are_not_there(rt: HostRuntime) {
-    for (rule, on) in SECOND {
-        assert!(rt;
-            second_missing(&rt, rt.alloc(), rule, on) == Some(1),
-            "{rule} on {on}"
-        );
-    }
+    let alloc = rt.alloc();
+    assert_eq!(rt;
+        second_missing(&rt, alloc, 1, "min(5), min(9)"),
+        Some(1),
+        "twice"
+    );
+    assert_eq!(rt;
+        second_missing(&rt, alloc, 2, "min(5), min(5)"),
+        Some(1),
+        "of no rule"
+    );
 }

@@ -1,67 +1,75 @@
 //! Devices that fail, or that take a byte a call.
-use super::{ran, room};
+use super::{PLAIN, ROOM};
 use chr_device::testing::{Drips, FailsAt};
-use chr_report::{RunFault, Status, Watched};
-use std::alloc::Global;
-use std::process::Abort;
-use std::thread::Threads;
+use chr_report::{RunFault, Status, Watched, run};
+use std::test::Fail;
 
 const INPUT: &[u8] =
     b":- chr_constraint a/0.\n---\n[\"tell\",1,[1,1],[[\"a\"]]]\n[\"show\",1]\nx\n";
 
 const OUTPUT: &[u8] = b"accepted: rules 0, cases 0\ntold\na\nrefused 30\n";
 
-/// Whether the writer has not failed, and the output was written.
-fn is_whole(writer: Watched<Drips<Vec<u8>>>) -> bool {
-    !writer.failed() && writer.into_inner().into_inner().as_slice() == OUTPUT
-}
-
 #[test]
-fn a_byte_a_call(rt: HostRuntime) {
-    let alloc = rt.alloc();
-    let (result, reader, writer) = ran(&rt, alloc, false, INPUT, Drips::of(room(&rt, alloc)));
-    assert!(rt; result == Ok(Status::Accepted));
+fn a_byte_a_call(rt: HostRuntime) -> Result<(), Fail> {
+    let mut reader = Watched::of(INPUT);
+    let mut writer = Watched::of(Drips::of(Vec::with_capacity(rt.alloc(), ROOM)?));
+    let status = run(&rt, rt.alloc(), &mut reader, &mut writer, PLAIN)?;
+    assert_eq!(rt; status, Status::Accepted);
     assert!(rt; !reader.failed());
-    assert!(rt; is_whole(writer));
-}
-
-/// What was written when this call failed, which is told.
-fn beginning(rt: &(impl Abort + Threads + Sync), alloc: Global, call: u64) -> Vec<u8> {
-    let fails = FailsAt::of(Drips::of(room(rt, alloc)), call);
-    let (result, _reader, writer) = ran(rt, alloc, false, INPUT, fails);
-    assert!(rt; result == Err(RunFault::Device), "{call}");
-    assert!(rt; writer.failed(), "{call}");
-    writer.into_inner().into_inner().into_inner()
+    assert!(rt; !writer.failed());
+    assert_eq!(rt; writer.into_inner().into_inner().as_slice(), OUTPUT);
+    Ok(())
 }
 
 /// A beginning of the output is written.
 #[test]
-fn failing_writers(rt: HostRuntime) {
-    let alloc = rt.alloc();
-    for len in 0..OUTPUT.len() {
-        let written = beginning(&rt, alloc, (len as u64).saturating_add(1));
-        assert!(rt; written.as_slice() == &OUTPUT[..len], "{len}");
+fn failing_writers(rt: HostRuntime) -> Result<(), Fail> {
+    for call in 1..=OUTPUT.len() {
+        let mut reader = Watched::of(INPUT);
+        let drips = Drips::of(Vec::with_capacity(rt.alloc(), ROOM)?);
+        let mut writer = Watched::of(FailsAt::of(drips, u64::try_from(call)?));
+        let result = run(&rt, rt.alloc(), &mut reader, &mut writer, PLAIN);
+        if result == Err(RunFault::Memory) {
+            result?;
+        }
+        assert_eq!(rt; result, Err(RunFault::Device), "{call}");
+        assert!(rt; writer.failed());
+        let written = writer.into_inner().into_inner().into_inner();
+        assert_eq!(rt; written.as_slice(), &OUTPUT[..call - 1], "{call}");
     }
+    Ok(())
 }
 
 /// All is written before the flush, which is one call more.
 #[test]
-fn failing_flush(rt: HostRuntime) {
-    let calls = (OUTPUT.len() as u64).saturating_add(1);
-    assert!(rt; beginning(&rt, rt.alloc(), calls).as_slice() == OUTPUT);
-}
-
-/// Whether nothing is written where this call of the reader fails, which is told.
-fn nothing_is_written(rt: &(impl Abort + Threads + Sync), alloc: Global, call: u64) -> bool {
-    let fails = FailsAt::of(INPUT, call);
-    let (result, reader, writer) = ran(rt, alloc, false, fails, room(rt, alloc));
-    result == Err(RunFault::Device) && reader.failed() && writer.into_inner().is_empty()
+fn failing_flush(rt: HostRuntime) -> Result<(), Fail> {
+    let calls = u64::try_from(OUTPUT.len())?.saturating_add(1);
+    let mut reader = Watched::of(INPUT);
+    let drips = Drips::of(Vec::with_capacity(rt.alloc(), ROOM)?);
+    let mut writer = Watched::of(FailsAt::of(drips, calls));
+    let result = run(&rt, rt.alloc(), &mut reader, &mut writer, PLAIN);
+    if result == Err(RunFault::Memory) {
+        result?;
+    }
+    assert_eq!(rt; result, Err(RunFault::Device));
+    let written = writer.into_inner().into_inner().into_inner();
+    assert_eq!(rt; written.as_slice(), OUTPUT);
+    Ok(())
 }
 
 /// Nothing is written before all was read.
 #[test]
-fn failing_readers(rt: HostRuntime) {
-    let alloc = rt.alloc();
-    assert!(rt; nothing_is_written(&rt, alloc, 1));
-    assert!(rt; nothing_is_written(&rt, alloc, 2));
+fn failing_readers(rt: HostRuntime) -> Result<(), Fail> {
+    for call in [1, 2] {
+        let mut reader = Watched::of(FailsAt::of(INPUT, call));
+        let mut writer = Watched::of(Vec::with_capacity(rt.alloc(), ROOM)?);
+        let result = run(&rt, rt.alloc(), &mut reader, &mut writer, PLAIN);
+        if result == Err(RunFault::Memory) {
+            result?;
+        }
+        assert_eq!(rt; result, Err(RunFault::Device), "{call}");
+        assert!(rt; reader.failed());
+        assert!(rt; writer.into_inner().is_empty());
+    }
+    Ok(())
 }

@@ -1,12 +1,13 @@
 //! Services over memory: lines are answered as they come.
-ghost use Rattle.std.specs.Prelude.{None};
+ghost use Rattle.std.specs.Prelude.{◌≡◌, None, IfOk, false};
+ghost use Rattle.chr_device.specs.Settings.{IsPlain, IsWithinLimits};
 
-use super::{PLAIN, outcome, room};
+use super::{PLAIN, ROOM, outcome};
 use chr_device::testing::{Drips, FailsAt};
-use chr_report::{RunFault, Status, Streams, Watched, Wire, serve};
-use std::alloc::Global;
-use std::io::{Read, Write};
+use chr_report::{RunFault, Settings, Status, Streams, Watched, Wire, serve};
+use std::alloc::{AllocError, Global};
 use std::process::Abort;
+use std::test::Fail;
 use std::thread::Threads;
 
 const INPUT: &[u8] =
@@ -35,6 +36,21 @@ fn feeds(bytes: &[u8]) -> usize {
 }
 
 impl<'a> Peer<'a> {
+    /// A peer that was sent nothing, with room for all that a test sends.
+    fn of(alloc: Global, input: &'a [u8], most: usize) -> Result<Peer<'a>, AllocError>
+        ensures { IfOk result (λ peer. peer.failed ≡ false) }
+    {
+        Ok(Peer {
+            rest: input,
+            most,
+            lines: 0,
+            waits: 0,
+            kept_waiting: false,
+            failed: false,
+            sent: Vec::with_capacity(alloc, ROOM)?,
+        })
+    }
+
     /// How many answers the lines have that it gave.
     fn due(&self) -> usize {
         match self.lines.checked_sub(TEXT_LINES) {
@@ -79,156 +95,131 @@ impl<'a> Wire for Peer<'a> {
     }
 }
 
-/// What comes of serving a peer that gives at most so many bytes a wait, and the peer. It has room for all that a test sends.
-fn served<'a>(
-    rt: &(impl Abort + Threads + Sync),
-    alloc: Global,
-    input: &'a [u8],
-    most: usize,
-) -> (Option<Status>, Peer<'a>) {
-    let mut peer = Peer {
-        rest: input,
-        most,
-        lines: 0,
-        waits: 0,
-        kept_waiting: false,
-        failed: false,
-        sent: room(rt, alloc),
-    };
-    let status = serve(rt, alloc, &mut peer, PLAIN).ok();
-    (status, peer)
-}
-
-/// How often the input's peer is waited for, which gives so many bytes a wait: once more for its end.
-fn waits(most: usize) -> usize {
-    match most {
-        0 => 1,
-        _ => INPUT.len().div_ceil(most).saturating_add(1),
-    }
-}
-
-const MOST: [usize; 6] = [1, 2, 3, 7, 64, 4_096];
-
 /// Each whole line is answered before the peer is waited for, however few bytes it gives.
 #[test]
-fn lines_are_answered_at_once(rt: HostRuntime) {
-    for most in MOST {
-        let (status, peer) = served(&rt, rt.alloc(), INPUT, most);
-        assert!(rt; status == Some(Status::Accepted), "{most}");
+fn lines_are_answered_at_once(rt: HostRuntime) -> Result<(), Fail> {
+    for most in [1, 2, 3, 7, 64, 4_096] {
+        let mut peer = Peer::of(rt.alloc(), INPUT, most)?;
+        let status = serve(&rt, rt.alloc(), &mut peer, PLAIN)?;
+        assert_eq!(rt; status, Status::Accepted, "{most}");
         assert!(rt; !peer.kept_waiting, "{most}");
-        assert!(rt; peer.sent.as_slice() == OUTPUT, "{most}");
-        assert!(rt; peer.waits == waits(most), "{most}");
+        assert_eq!(rt; peer.sent.as_slice(), OUTPUT, "{most}");
+        assert_eq!(rt;
+            peer.waits,
+            INPUT.len().div_ceil(most).saturating_add(1),
+            "{most}"
+        );
     }
-}
-
-/// What comes of serving a reader and a writer, with these.
-fn streamed<R: Read, W: Write>(
-    rt: &(impl Threads + Sync),
-    alloc: Global,
-    reader: R,
-    writer: W,
-) -> (Result<Status, RunFault>, Watched<R>, Watched<W>) {
-    let mut wire = Streams {
-        reader: Watched::of(reader),
-        writer: Watched::of(writer),
-    };
-    let result = serve(rt, alloc, &mut wire, PLAIN);
-    let Streams { reader, writer } = wire;
-    (result, reader, writer)
+    Ok(())
 }
 
 /// What is sent is what a run writes.
-fn expect_served(rt: &(impl Abort + Threads + Sync), alloc: Global, input: &[u8]) {
-    let (status, written) = outcome(rt, alloc, false, input);
-    let (result, _reader, writer) = streamed(rt, alloc, input, room(rt, alloc));
-    assert!(rt; result == Ok(status));
-    assert!(rt; writer.into_inner() == written);
+pub(super) fn expect_served(
+    rt: &(impl Abort + Threads + Sync),
+    alloc: Global,
+    input: &[u8],
+) -> Result<(), RunFault> {
+    let (status, written) = outcome(rt, alloc, PLAIN, input)?;
+    let mut wire = Streams {
+        reader: Watched::of(input),
+        writer: Watched::of(Vec::with_capacity(alloc, ROOM)?),
+    };
+    assert_eq!(rt; serve(rt, alloc, &mut wire, PLAIN)?, status);
+    let Streams { reader: _, writer } = wire;
+    assert_eq!(rt; writer.into_inner(), written);
+    Ok(())
 }
 
-const INPUTS: [&str; 14] = [
-    "",
-    "\n",
-    "---",
-    "---\r",
-    "---\n",
-    ":- chr_constraint a/0.",
-    ":- chr_constraint a/0.\n",
-    ":- chr_constraint a/0.\n---",
-    ":- chr_constraint a/0.\n---\n---\n[\"show\",1]\n",
-    "x",
-    "x.\n---\n[\"show\",1]\n",
-    ":- chr_constraint a/0.\na ==> a.\n---\n[\"show\",1]\n",
-    "---\n[\"show\",1]\n\n \t\n[\"show\",1]\r",
-    "---\n[\"show\",2]\n",
-];
-
 #[test]
-fn the_output_is_that_of_a_run(rt: HostRuntime) {
-    for input in INPUTS {
-        expect_served(&rt, rt.alloc(), input.as_bytes());
+fn the_output_is_that_of_a_run(rt: HostRuntime) -> Result<(), Fail> {
+    for input in [
+        "",
+        "\n",
+        "---",
+        "---\r",
+        "---\n",
+        ":- chr_constraint a/0.",
+        ":- chr_constraint a/0.\n",
+        ":- chr_constraint a/0.\n---",
+        ":- chr_constraint a/0.\n---\n---\n[\"show\",1]\n",
+        "x",
+        "x.\n---\n[\"show\",1]\n",
+        ":- chr_constraint a/0.\na ==> a.\n---\n[\"show\",1]\n",
+        "---\n[\"show\",1]\n\n \t\n[\"show\",1]\r",
+        "---\n[\"show\",2]\n",
+    ] {
+        expect_served(&rt, rt.alloc(), input.as_bytes())?;
     }
+    Ok(())
 }
 
 /// A program that is refused ends it: the rest is not read.
 #[test]
-fn refused_programs_end_it(rt: HostRuntime) {
-    let (status, peer) = served(&rt, rt.alloc(), b"x\n---\n[\"show\",1]\n", 6);
-    assert!(rt; status == Some(Status::Refused));
-    assert!(rt; peer.waits == 1);
-    assert!(rt; peer.sent.as_slice() == b"refused 11: clause 1\n".as_slice());
-}
-
-/// A text that is too long.
-fn long_text(rt: &impl Abort, alloc: Global) -> Vec<u8> {
-    let mut text = Vec::new(alloc);
-    text.resize(80_000, b'%').expect(rt, "memory");
-    text
+fn refused_programs_end_it(rt: HostRuntime) -> Result<(), Fail> {
+    let mut peer = Peer::of(rt.alloc(), b"x\n---\n[\"show\",1]\n", 6)?;
+    assert_eq!(rt; serve(&rt, rt.alloc(), &mut peer, PLAIN)?, Status::Refused);
+    assert_eq!(rt; peer.waits, 1);
+    assert_eq!(rt; peer.sent.as_slice(), b"refused 11: clause 1\n".as_slice());
+    Ok(())
 }
 
 /// A text that is too long is refused before its end was read.
 #[test]
-fn long_texts_are_refused(rt: HostRuntime) {
-    let alloc = rt.alloc();
-    let text = long_text(&rt, alloc);
-    let (status, peer) = served(&rt, alloc, &text, 4_096);
-    assert!(rt; status == Some(Status::Refused));
-    assert!(rt; peer.waits == 17);
-    assert!(rt; peer.sent.as_slice() == b"refused 2\n".as_slice());
-}
-
-/// What was sent when this call of the writer failed, which is told.
-fn beginning(rt: &(impl Abort + Threads + Sync), alloc: Global, call: u64) -> Vec<u8> {
-    let fails = FailsAt::of(Drips::of(room(rt, alloc)), call);
-    let (result, _reader, writer) = streamed(rt, alloc, INPUT, fails);
-    assert!(rt; result == Err(RunFault::Device), "{call}");
-    assert!(rt; writer.failed(), "{call}");
-    writer.into_inner().into_inner().into_inner()
+fn long_texts_are_refused(rt: HostRuntime) -> Result<(), Fail> {
+    let mut text = Vec::new(rt.alloc());
+    text.resize(80_000, b'%')?;
+    let mut peer = Peer::of(rt.alloc(), &text, 4_096)?;
+    assert_eq!(rt; serve(&rt, rt.alloc(), &mut peer, PLAIN)?, Status::Refused);
+    assert_eq!(rt; peer.waits, 17);
+    assert_eq!(rt; peer.sent.as_slice(), b"refused 2\n".as_slice());
+    Ok(())
 }
 
 /// A beginning of the output is written.
 #[test]
-fn failing_writers(rt: HostRuntime) {
+fn failing_writers(rt: HostRuntime) -> Result<(), Fail> {
     for call in 1..=20u64 {
-        let written = beginning(&rt, rt.alloc(), call);
+        let mut wire = Streams {
+            reader: Watched::of(INPUT),
+            writer: Watched::of(FailsAt::of(
+                Drips::of(Vec::with_capacity(rt.alloc(), ROOM)?),
+                call,
+            )),
+        };
+        let result = serve(&rt, rt.alloc(), &mut wire, PLAIN);
+        if result == Err(RunFault::Memory) {
+            result?;
+        }
+        assert_eq!(rt; result, Err(RunFault::Device), "{call}");
+        let Streams { reader: _, writer } = wire;
+        assert!(rt; writer.failed());
+        let written = writer.into_inner().into_inner().into_inner();
         assert!(rt; OUTPUT.starts_with(&written), "{call}");
     }
+    Ok(())
 }
-
-/// What is sent where this call of the reader fails, which is told.
-fn sent_before(rt: &(impl Abort + Threads + Sync), alloc: Global, call: u64) -> Vec<u8> {
-    let fails = FailsAt::of(INPUT, call);
-    let (result, reader, writer) = streamed(rt, alloc, fails, room(rt, alloc));
-    assert!(rt; result == Err(RunFault::Device), "{call}");
-    assert!(rt; reader.failed(), "{call}");
-    writer.into_inner()
-}
-
-const ANSWERED: &[u8] = b"accepted: rules 0, cases 0\ntold\na\nrefused 30\n";
 
 /// What was read before a read fails is answered.
 #[test]
-fn failing_readers(rt: HostRuntime) {
-    let alloc = rt.alloc();
-    assert!(rt; sent_before(&rt, alloc, 1).is_empty());
-    assert!(rt; sent_before(&rt, alloc, 2).as_slice() == ANSWERED);
+fn failing_readers(rt: HostRuntime) -> Result<(), Fail> {
+    for call in [1, 2] {
+        let mut wire = Streams {
+            reader: Watched::of(FailsAt::of(INPUT, call)),
+            writer: Watched::of(Vec::with_capacity(rt.alloc(), ROOM)?),
+        };
+        let result = serve(&rt, rt.alloc(), &mut wire, PLAIN);
+        if result == Err(RunFault::Memory) {
+            result?;
+        }
+        assert_eq!(rt; result, Err(RunFault::Device), "{call}");
+        let Streams { reader, writer } = wire;
+        assert!(rt; reader.failed());
+        let expected = if call == 1 {
+            b"".as_slice()
+        } else {
+            b"accepted: rules 0, cases 0\ntold\na\nrefused 30\n".as_slice()
+        };
+        assert_eq!(rt; writer.into_inner().as_slice(), expected, "{call}");
+    }
+    Ok(())
 }

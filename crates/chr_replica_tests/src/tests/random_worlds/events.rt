@@ -1,27 +1,31 @@
 //! Events that are chosen at random.
 use crate::tests::random_worlds::family::unknown_atom;
 use crate::tests::random_worlds::game::{Game, issued};
+use crate::tests::random_worlds::model::count;
 use crate::tests::random_worlds::multisets::copies;
+use crate::tests::random_worlds::random::Random;
+use arrayvec::ArrayVec;
 use chr_acts::{Act, OpList};
 use chr_base::atom::Atom;
 use chr_base::bag::Bag;
 use chr_base::derivation::Step;
 use chr_ops::{Op, OpId};
-use chr_testing::atoms::step;
-use chr_testing::random::Random;
 use std::alloc::Global;
 use std::process::Abort;
 
 fn op(rt: &impl Abort, id: OpId, atoms: Vec<Atom>) -> Op {
     let bag = Bag::of(atoms).expect(rt, "memory");
-    Op::of(id, bag).expect(rt, "an operation")
+    let Some(op) = Op::of(id, bag) else {
+        panic!(rt; "no operation");
+    };
+    op
 }
 
 /// One of the items, where there are any.
 fn one_of<'a, T>(random: &mut Random, items: &'a [T]) -> Option<&'a T> {
-    match items.len() {
+    match count(items) {
         0 => None,
-        there => items.get(random.below(there)),
+        items_there => items.get(random.below(items_there) as usize),
     }
 }
 
@@ -39,13 +43,12 @@ fn some_of(rt: &impl Abort, alloc: Global, random: &mut Random, atoms: &[Atom]) 
 impl Game {
     /// The number of a replica, or now and then of none.
     fn somebody(&mut self) -> u64 {
-        let replicas = self.replicas.len().min(1_000);
-        let number = match self.random.below(25) {
+        let replicas = count(&self.replicas).min(1_000);
+        match self.random.below(25) {
             0 => 0,
             1 => replicas + 1,
             _ => 1 + self.random.below(replicas + 1) % replicas.max(1),
-        };
-        number as u64
+        }
     }
 
     /// One to three atoms.
@@ -165,24 +168,19 @@ impl Game {
         Bag::of(atoms).expect(rt, "memory")
     }
 
-    /// One of these atoms, or a new one where there are none.
-    fn head(&mut self, pool: &[Atom]) -> Atom {
-        match one_of(&mut self.random, pool) {
-            Some(atom) => atom.copy(),
-            None => self.family.atom(&mut self.random),
-        }
-    }
-
-    /// The number of a rule, or of none.
-    fn rule(&mut self) -> u32 {
-        1 + (self.random.below(5) / 2) as u32
-    }
-
     /// A step of a rule, or of none, on two atoms of the replica's pool, which may be one atom twice.
     fn step(&mut self, rt: &impl Abort, alloc: Global, number: u64) -> Step {
         let pool = self.pool_of(rt, alloc, number);
-        let heads = [self.head(&pool), self.head(&pool)];
-        step(self.rule(), heads.as_slice())
+        let mut heads = ArrayVec::new();
+        for _ in 0..2 {
+            let atom = match one_of(&mut self.random, &pool) {
+                Some(atom) => atom.copy(),
+                None => self.family.atom(&mut self.random),
+            };
+            let _ = heads.try_push(atom);
+        }
+        let rule = 1 + (self.random.below(5) / 2) as u32;
+        Step { rule, heads }
     }
 
     /// Gives back what came of one of the last leases, mostly to the replica that leased it.
@@ -203,34 +201,18 @@ impl Game {
     /// Lets one event happen.
     pub fn play_one(&mut self, rt: &impl Abort, alloc: Global) {
         let number = self.somebody();
-        match self.random.below(16) {
-            12 => self.cut_one(rt, alloc, number),
-            13 => self.exchange_one(rt, alloc, number),
-            14 | 15 => self.give_back(rt, alloc),
-            choice => self.ask_one(rt, alloc, number, choice),
-        }
-    }
-
-    /// The number of a lease that may be out.
-    fn lease_number(&mut self) -> u64 {
-        1 + self.random.below(6) as u64
-    }
-
-    /// What is asked of a replica by this choice, 0 to 11.
-    fn act(&mut self, rt: &impl Abort, alloc: Global, number: u64, choice: usize) -> Act {
-        match choice {
+        let act = match self.random.below(16) {
             0 | 1 | 2 | 3 => Act::Tell(self.telling(rt, alloc, number)),
             4 | 5 => Act::Merge(self.delta(rt, alloc, number)),
             6 => Act::Take(self.part(rt, alloc, number)),
-            7 => Act::Recall(self.lease_number()),
+            7 => Act::Recall(1 + self.random.below(6)),
             8 => Act::Settle,
             9 => Act::Show,
-            _ => Act::Step(self.step(rt, alloc, number)),
-        }
-    }
-
-    fn ask_one(&mut self, rt: &impl Abort, alloc: Global, number: u64, choice: usize) {
-        let act = self.act(rt, alloc, number, choice);
+            10 | 11 => Act::Step(self.step(rt, alloc, number)),
+            12 => return self.cut_one(rt, alloc, number),
+            13 => return self.exchange_one(rt, alloc, number),
+            _ => return self.give_back(rt, alloc),
+        };
         self.ask(rt, alloc, number, act, false);
     }
 

@@ -1,7 +1,7 @@
 //! Programs whose rules each put one atom in the place of two, and what their rules mean.
-use chr_base::atom::Atom;
-use chr_testing::atoms::atom;
-use chr_testing::random::Random;
+use crate::tests::random_worlds::random::Random;
+use arrayvec::ArrayVec;
+use chr_base::atom::{Atom, SymbolId};
 
 /// A program, by its meaning.
 #[derive(Clone, Copy, Debug, PartialEq, Eq)]
@@ -18,6 +18,17 @@ pub enum Family {
 
 /// A symbol that no program here declares.
 const UNKNOWN: u16 = 9;
+
+fn atom(symbol: u16, values: &[i64]) -> Atom {
+    let mut args = ArrayVec::new();
+    for value in values {
+        let _ = args.try_push(*value);
+    }
+    Atom {
+        symbol: SymbolId(symbol),
+        args,
+    }
+}
 
 fn value(atom: &Atom, place: usize) -> i64 {
     atom.args.as_slice().get(place).copied().unwrap_or(0)
@@ -41,7 +52,7 @@ fn kept(first: &Atom, stays: bool) -> Option<Atom> {
 fn small_value(random: &mut Random, bound: u32) -> i64 {
     match bound {
         0 => 0,
-        _ => (random.below(bound as usize) as u32) as i64,
+        _ => (random.below(bound as u64) as u32) as i64,
     }
 }
 

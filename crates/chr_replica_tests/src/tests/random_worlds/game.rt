@@ -3,13 +3,13 @@ use crate::tests::random_worlds::comparing::{is_board_of, is_lease_of, is_reply}
 use crate::tests::random_worlds::family::Family;
 use crate::tests::random_worlds::model::{Expected, Part, Replica, count};
 use crate::tests::random_worlds::multisets::{add, are_same, copies};
+use crate::tests::random_worlds::random::Random;
 use crate::tests::random_worlds::resting::rested;
 use chr_acts::{Act, Reply};
 use chr_base::bag::Bag;
 use chr_join::{Accepted, Done, Lease};
 use chr_ops::{Added, Op};
 use chr_replica::Refusal;
-use chr_testing::random::Random;
 use chr_worlds::{Answer, Event, World};
 use std::alloc::Global;
 use std::process::Abort;
@@ -55,7 +55,9 @@ fn place_of(number: u64) -> Option<usize> {
 
 /// What the world answers to the event, with ample memory.
 fn answer(rt: &impl Abort, alloc: Global, world: &mut World, event: Event) -> Answer {
-    assert!(rt; event.fits());
+    if !event.fits() {
+        panic!(rt; "it does not fit");
+    }
     world.act(alloc, &event).expect(rt, "memory")
 }
 
@@ -66,7 +68,10 @@ fn done(rt: &impl Abort, alloc: Global, program: &Accepted, part: &Part) -> Done
         number: part.number,
         part: Bag::of(atoms).expect(rt, "memory"),
     };
-    program.rest_part(alloc, lease).ok().expect(rt, "memory")
+    let Ok(done) = program.rest_part(alloc, lease) else {
+        panic!(rt; "memory");
+    };
+    done
 }
 
 /// What the replica is to reply to the act, any but a cut into parts.
@@ -94,13 +99,18 @@ fn expected(
     }
 }
 
-/// Whether a new replica refuses the act for an unknown symbol.
-fn is_unknown(rt: &impl Abort, alloc: Global, family: Family, act: &Act) -> bool {
-    let mut first = Replica::new(alloc);
-    match expected(rt, alloc, family, &mut first, act, false) {
-        Expected::Refused(refusal) => refusal == Refusal::UnknownSymbol,
-        _ => false,
-    }
+/// What the replica of a number is to reply, where there is one.
+fn expected_of(
+    rt: &impl Abort,
+    alloc: Global,
+    family: Family,
+    replicas: &mut [Replica],
+    number: u64,
+    act: &Act,
+    is_foreign: bool,
+) -> Option<Expected> {
+    let replica = replicas.get_mut(place_of(number)?)?;
+    Some(expected(rt, alloc, family, replica, act, is_foreign))
 }
 
 /// Ends the test where the world doesn't answer with the reply that is expected.
@@ -138,41 +148,21 @@ impl Seen {
 impl Game {
     /// Asks a replica, which has to reply as the model does.
     pub fn ask(&mut self, rt: &impl Abort, alloc: Global, number: u64, act: Act, is_foreign: bool) {
-        match self.expected(rt, alloc, number, &act, is_foreign) {
-            Some(expected) => self.ask_somebody(rt, alloc, number, act, &expected),
-            None => self.ask_nobody(rt, alloc, number, act),
-        }
-    }
-
-    /// What the replica of a number is to reply, where there is one.
-    fn expected(
-        &mut self,
-        rt: &impl Abort,
-        alloc: Global,
-        number: u64,
-        act: &Act,
-        is_foreign: bool,
-    ) -> Option<Expected> {
-        let replica = self.replicas.get_mut(place_of(number)?)?;
-        Some(expected(rt, alloc, self.family, replica, act, is_foreign))
-    }
-
-    /// What the world answers to an act of the replica of a number.
-    fn answer_at(&mut self, rt: &impl Abort, alloc: Global, number: u64, act: Act) -> Answer {
-        answer(rt, alloc, &mut self.world, Event::At(number, act))
-    }
-
-    fn ask_somebody(
-        &mut self,
-        rt: &impl Abort,
-        alloc: Global,
-        number: u64,
-        act: Act,
-        expected: &Expected,
-    ) {
-        self.seen.count(expected);
-        let answer = self.answer_at(rt, alloc, number, act);
-        compare(rt, alloc, &answer, expected);
+        let asked = expected_of(
+            rt,
+            alloc,
+            self.family,
+            &mut self.replicas,
+            number,
+            &act,
+            is_foreign,
+        );
+        let Some(expected) = asked else {
+            return self.ask_nobody(rt, alloc, number, act);
+        };
+        self.seen.count(&expected);
+        let answer = answer(rt, alloc, &mut self.world, Event::At(number, act));
+        compare(rt, alloc, &answer, &expected);
         if let Some(part) = expected.leased() {
             self.work(rt, alloc, number, part);
         }
@@ -180,9 +170,12 @@ impl Game {
 
     /// Asks a replica that isn't there. Nobody replies, but of an unknown symbol it is told.
     fn ask_nobody(&mut self, rt: &impl Abort, alloc: Global, number: u64, act: Act) {
-        let is_unknown = is_unknown(rt, alloc, self.family, &act);
+        let mut first = Replica::new(alloc);
+        let refused = expected(rt, alloc, self.family, &mut first, &act, false);
+        let is_unknown = matches!(refused, Expected::Refused(Refusal::UnknownSymbol));
+        let answer = answer(rt, alloc, &mut self.world, Event::At(number, act));
         self.seen.absent = self.seen.absent.saturating_add(1);
-        match self.answer_at(rt, alloc, number, act) {
+        match answer {
             Answer::NoReplica => assert!(rt; !is_unknown, "an unknown symbol is taken"),
             Answer::UnknownSymbol => assert!(rt; is_unknown, "a known symbol is refused"),
             Answer::Replied(_) => panic!(rt; "somebody replies"),
@@ -213,46 +206,23 @@ impl Game {
 
     /// Has the whole pool of a replica leased out in so many parts, one or more.
     pub fn cut(&mut self, rt: &impl Abort, alloc: Global, number: u64, parts: u32) {
-        match self.answer_at(rt, alloc, number, Act::TakeParts(parts)) {
-            Answer::NoReplica => assert!(rt; !self.is_there(number), "nobody is cut"),
-            Answer::Replied(Reply::LeasedParts(leases)) => {
-                assert!(rt;
-                    leases.as_slice().len() == parts as usize,
-                    "another number of parts"
-                );
-                self.work_all(rt, alloc, number, leases.as_slice());
-            }
-            _ => panic!(rt; "no parts"),
-        }
-    }
-
-    fn is_there(&self, number: u64) -> bool {
-        match place_of(number) {
-            Some(place) => place < self.replicas.len(),
-            None => false,
-        }
-    }
-
-    /// The parts that these leases of a replica are.
-    fn parts(
-        &mut self,
-        rt: &impl Abort,
-        alloc: Global,
-        number: u64,
-        leases: &[Lease],
-    ) -> Vec<Part> {
-        match self
-            .replicas
-            .get_mut(place_of(number).unwrap_or(usize::MAX))
-        {
-            Some(replica) => leased_parts(rt, alloc, replica, leases),
-            None => panic!(rt; "nobody is cut"),
-        }
-    }
-
-    /// Rests the parts of all these leases of a replica.
-    fn work_all(&mut self, rt: &impl Abort, alloc: Global, number: u64, leases: &[Lease]) {
-        for part in &self.parts(rt, alloc, number, leases) {
+        let answer = answer(
+            rt,
+            alloc,
+            &mut self.world,
+            Event::At(number, Act::TakeParts(parts)),
+        );
+        let place = place_of(number).unwrap_or(usize::MAX);
+        let Some(replica) = self.replicas.get_mut(place) else {
+            assert!(rt; matches!(answer, Answer::NoReplica), "nobody is cut");
+            return;
+        };
+        let Answer::Replied(Reply::LeasedParts(leases)) = answer else {
+            panic!(rt; "no parts");
+        };
+        let leased = leased_parts(rt, alloc, replica, leases.as_slice());
+        assert!(rt; leased.len() == parts as usize, "another number of parts");
+        for part in &leased {
             self.work(rt, alloc, number, part);
         }
     }
@@ -261,7 +231,12 @@ impl Game {
     pub fn sync(&mut self, rt: &impl Abort, alloc: Global, giver: u64, taker: u64) {
         let answer = answer(rt, alloc, &mut self.world, Event::Sync(giver, taker));
         match self.expected_sync(rt, alloc, giver, taker) {
-            Some(expected) => compare(rt, alloc, &answer, &expected),
+            Some(expected) => {
+                let Answer::Replied(reply) = answer else {
+                    panic!(rt; "no reply to an exchange");
+                };
+                assert!(rt; is_reply(rt, alloc, &reply, &expected), "another exchange");
+            }
             None => assert!(rt;
                 matches!(answer, Answer::NoReplica),
                 "an exchange with nobody"
