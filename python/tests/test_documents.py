@@ -1,0 +1,175 @@
+"""A stranger's path: each command of a document is run in a fresh folder, and writes what the document shows.
+
+A fenced block's language says what it is:
+
+    console           lines `$ COMMAND`, which are run in turn, each with what it writes on standard output below it
+    LANGUAGE FILE     a file that the reader writes before; of a file in examples/, lines that stand there together
+    text              what can't be run here
+
+The folder has what a clone has: `./chrrep`, `examples` and `python`.
+"""
+
+import os
+import re
+import subprocess
+import sys
+import unittest
+from collections.abc import Iterator
+from dataclasses import dataclass
+from pathlib import Path
+from tempfile import TemporaryDirectory
+
+from chrrep.node import program_path
+
+TOP = Path(__file__).resolve().parents[2]
+EXAMPLES = TOP / "examples"
+SECONDS = 60.0
+
+# each document with the least number of its commands
+PATHS = {"README.md": 3, "docs/GUIDE.md": 11, "docs/REFERENCE.md": 1, "examples/README.md": 2}
+DOCUMENTS = (*PATHS, "CONTRIBUTING.md", "LICENSE.md")
+MAX_README = 8 * 1024
+MAX_COLUMNS = 120
+MAX_CELL = 200
+LEAST_ACCEPTED = 32
+
+BLOCK = re.compile(r"^```([^\n]*)\n(.*?)^```$", re.MULTILINE | re.DOTALL)
+CELL_END = re.compile(r"(?<!\\)\|")
+LINK = re.compile(r"\]\(([^)#]+)\)")
+# (NAME stands for any)
+QUOTED_FILE = re.compile(r"`((?:docs|examples|tools|python|bench|release)/(?!\S*NAME)[^`\s*{}.]+\.[a-z]+|[A-Z]+\.md)`")
+
+
+@dataclass(frozen=True)
+class Block:
+    language: str
+    file: str
+    text: str
+
+
+def read(name: str) -> str:
+    return (TOP / name).read_text(encoding="utf-8")
+
+
+def blocks(name: str) -> Iterator[Block]:
+    for words, text in BLOCK.findall(read(name)):
+        language, _, file = words.partition(" ")
+        yield Block(language, file, text)
+
+
+def commands(text: str) -> Iterator[tuple[str, str]]:
+    """Each command of a block, and what it is to write."""
+    for part in re.split(r"^\$ ", text, flags=re.MULTILINE)[1:]:
+        command, _, output = part.partition("\n")
+        yield command, output
+
+
+class Stranger:
+    """A reader in a fresh folder."""
+
+    def __init__(self, room: Path) -> None:
+        self.folder = room / "clone"
+        self.folder.mkdir()
+        for name in ("examples", "python"):
+            (self.folder / name).symlink_to(TOP / name)
+        self.script(self.folder / "chrrep", program_path())
+        self.script(room / "bin" / "python3", sys.executable, "-B")
+        path = f"{room / 'bin'}:{os.environ['PATH']}"
+        self.env = {**os.environ, "PATH": path, "CHRREP": program_path(), "HOME": str(room)}
+
+    def script(self, at: Path, *words: str) -> None:
+        at.parent.mkdir(exist_ok=True)
+        quoted = " ".join(f"'{word}'" for word in words)
+        at.write_text(f'#!/bin/sh\nexec {quoted} "$@"\n')
+        at.chmod(0o755)
+
+    def write(self, name: str, text: str) -> None:
+        (self.folder / name).write_text(text)
+
+    def run(self, command: str) -> str:
+        ended = subprocess.run(
+            ["sh", "-c", command],
+            cwd=self.folder,
+            env=self.env,
+            stdin=subprocess.DEVNULL,
+            capture_output=True,
+            timeout=SECONDS,
+            check=False,
+        )
+        return ended.stdout.decode()
+
+
+class Paths(unittest.TestCase):
+    maxDiff = None
+
+    def walk(self, name: str) -> int:
+        """How many commands were run."""
+        count = 0
+        with TemporaryDirectory() as room:
+            stranger = Stranger(Path(room))
+            for block in blocks(name):
+                if block.language == "console":
+                    for command, output in commands(block.text):
+                        with self.subTest(f"{name}: {command}"):
+                            self.assertEqual(stranger.run(command), output)
+                        count += 1
+                elif block.file.startswith("examples/"):
+                    with self.subTest(f"{name}: {block.file}"):
+                        self.assertIn("\n" + block.text, "\n" + read(block.file))
+                elif block.file:
+                    stranger.write(block.file, block.text)
+                else:
+                    self.assertEqual(block.language, "text", f"{name}: neither run nor marked:\n{block.text}")
+        return count
+
+    def test_each_command(self) -> None:
+        for name, least in PATHS.items():
+            count = self.walk(name)
+            print(f"{name}: {count} commands were run ..", end=" ")
+            self.assertGreaterEqual(count, least)
+
+
+class Documents(unittest.TestCase):
+    def test_sizes(self) -> None:
+        """Lines and cells are short; a row of a table may be longer than a line."""
+        self.assertLessEqual(len(read("README.md").encode()), MAX_README)
+        for name in DOCUMENTS:
+            for number, line in enumerate(read(name).splitlines(), 1):
+                with self.subTest(f"{name}: {number}"):
+                    if line.startswith("|"):
+                        self.assertLessEqual(max(len(cell.strip()) for cell in CELL_END.split(line)), MAX_CELL)
+                    else:
+                        self.assertLessEqual(len(line), MAX_COLUMNS)
+
+    def test_files_that_are_named(self) -> None:
+        for name in DOCUMENTS:
+            text = read(name)
+            folder = (TOP / name).parent
+            for file in LINK.findall(text):
+                with self.subTest(f"{name}: {file}"):
+                    self.assertTrue("://" in file or (folder / file).exists())
+            for file in QUOTED_FILE.findall(text):
+                with self.subTest(f"{name}: {file}"):
+                    self.assertTrue(any((place / file).exists() for place in (TOP, folder, TOP / "docs")))
+
+
+class Examples(unittest.TestCase):
+    def test_list(self) -> None:
+        """Each example has its output, whose first line a check writes, and a row in the list; most are accepted."""
+        told = read("examples/README.md")
+        accepted = 0
+        for example in sorted(EXAMPLES.glob("*.chr")):
+            with self.subTest(example.stem):
+                self.assertIn(f"| `{example.stem}` |", told)
+                words = example.with_suffix(".words")
+                options = [word for word in (words.read_text().split() if words.exists() else []) if word == "--wide"]
+                verdict = subprocess.run(
+                    [program_path(), "check", *options], input=example.read_bytes(), capture_output=True, check=False
+                ).stdout.decode()
+                self.assertEqual(verdict, example.with_suffix(".out").read_text().splitlines(keepends=True)[0])
+                accepted += verdict.startswith("accepted: ")
+        self.assertGreaterEqual(accepted, LEAST_ACCEPTED)
+
+
+if __name__ == "__main__":
+    unittest.main()
