@@ -23,6 +23,7 @@ from chrrep.node import program_path
 
 TOP = Path(__file__).resolve().parents[2]
 EXAMPLES = TOP / "examples"
+FIRST_FORMS = TOP / "python" / "tests" / "explanations"
 SECONDS = 60.0
 
 # each document with the least number of its commands
@@ -32,6 +33,9 @@ MAX_README = 8 * 1024
 MAX_COLUMNS = 120
 MAX_CELL = 200
 LEAST_ACCEPTED = 32
+# a first form is accepted after two explanations at most
+ROUNDS = ("first", "second")
+LEAST_FIRST_FORMS = 32
 
 BLOCK = re.compile(r"^```([^\n]*)\n(.*?)^```$", re.MULTILINE | re.DOTALL)
 CELL_END = re.compile(r"(?<!\\)\|")
@@ -169,6 +173,18 @@ class Examples(unittest.TestCase):
                 self.assertEqual(verdict, example.with_suffix(".out").read_text().splitlines(keepends=True)[0])
                 accepted += verdict.startswith("accepted: ")
         self.assertGreaterEqual(accepted, LEAST_ACCEPTED)
+
+    def test_first_forms(self) -> None:
+        """What one writes first, and then, is refused, and names the example of that name, which is accepted."""
+        rounds = [{form.stem.partition("_")[2]: form for form in FIRST_FORMS.glob(f"{it}_*.chr")} for it in ROUNDS]
+        self.assertGreaterEqual(len(rounds[0]), LEAST_FIRST_FORMS)
+        self.assertLessEqual(rounds[1].keys(), rounds[0].keys())
+        for name, form in sorted(rounds[0].items()):
+            with self.subTest(form.stem):
+                self.assertIn(f"examples/{name}.chr", form.read_text())
+                self.assertTrue((EXAMPLES / f"{name}.out").read_text().startswith("accepted"))
+                for refused in (it[name] for it in rounds if name in it):
+                    self.assertFalse(refused.with_suffix(".out").read_text().startswith("accepted"))
 
 
 if __name__ == "__main__":
