@@ -2,20 +2,23 @@
 
     python3 python/tests/fuzz.py MINUTES [--processes N] [--seed SEED]
 
-CHRREP names the program. Each difference is told, and its input is left in a temporary folder. One seed makes the
-same inputs; it is told, and drawn where none is given. The last line counts inputs and differences.
+CHRREP names the program. An input is a text with command lines. Each text is given to all commands, and an accepted one
+with other lines again and again to `run` or `serve`. Each difference is told, and its input is left in a temporary
+folder. One seed makes the same inputs; it is told, and drawn where none is given. The last line counts inputs and
+differences.
 """
 
 import argparse
 import multiprocessing
+import os
 import random
 import secrets
 import signal
-import subprocess
 import sys
 import tempfile
 import time
 from collections import Counter
+from collections.abc import Iterator
 from dataclasses import dataclass, field
 from pathlib import Path
 
@@ -24,7 +27,7 @@ sys.dont_write_bytecode = True
 sys.path[:0] = [str(HERE.parent), str(HERE)]
 
 from chrrep.node import program_path  # noqa: E402
-from random_inputs import random_input  # noqa: E402
+from random_inputs import random_input, random_text  # noqa: E402
 from slow_lines import output_of  # noqa: E402
 from slow_verdict import TooSlow  # noqa: E402
 
@@ -40,24 +43,45 @@ SECONDS = 60.0
 MOST_TOLD = 20
 """Differences of one process, after which it ends."""
 
+SETS = 16
+"""So many sets of lines an accepted text is given."""
+
+Words = tuple[str, ...]
+
 
 @dataclass
 class Tally:
+    texts: int = 0
     inputs: int = 0
     given_up: int = 0
     kinds: Counter[str] = field(default_factory=Counter)
     differences: list[str] = field(default_factory=list)
 
 
+@dataclass(frozen=True)
+class Input:
+    given: bytes
+    replicas: int
+    wide: bool
+
+    @property
+    def judged(self) -> Words:
+        return ("--wide",) * self.wide
+
+    @property
+    def answered(self) -> Words:
+        return ("--replicas", str(self.replicas), *self.judged)
+
+
 def give_up(*_: object) -> None:
     raise TooSlow
 
 
-def expected(given: bytes, replicas: int, wide: bool) -> list[str] | None:
+def expected(of: Input) -> list[str] | None:
     """The lines of a run, or None where they would take too long."""
     try:
         signal.setitimer(signal.ITIMER_VIRTUAL, PATIENCE)
-        lines = output_of(given, replicas, MOST, wide)
+        lines = output_of(of.given, of.replicas, MOST, of.wide)
         signal.setitimer(signal.ITIMER_VIRTUAL, 0)
     except TooSlow:
         signal.setitimer(signal.ITIMER_VIRTUAL, 0)
@@ -65,12 +89,37 @@ def expected(given: bytes, replicas: int, wide: bool) -> list[str] | None:
     return lines
 
 
-def ended(words: tuple[str, ...], given: bytes) -> tuple[int, str, bytes]:
-    try:
-        end = subprocess.run([program_path(), *words], input=given, capture_output=True, timeout=SECONDS, check=False)
-    except subprocess.TimeoutExpired:
-        return -1, "", f"no end in {SECONDS} seconds".encode()
-    return end.returncode, end.stdout.decode(errors="replace"), end.stderr
+class Files:
+    """The standard input, output and errors of one process after another, in memory."""
+
+    def __init__(self) -> None:
+        self.numbers = [os.memfd_create(name) for name in ("input", "output", "errors")]
+        self.places = [(os.POSIX_SPAWN_DUP2, number, place) for place, number in enumerate(self.numbers)]
+
+    def fill(self, given: bytes) -> None:
+        for number in self.numbers:
+            os.ftruncate(number, 0)
+            os.lseek(number, 0, os.SEEK_SET)
+        os.pwrite(self.numbers[0], given, 0)
+
+    def contents(self, place: int) -> bytes:
+        return os.pread(self.numbers[place], os.fstat(self.numbers[place]).st_size, 0)
+
+    def ended(self, words: Words, given: bytes) -> tuple[int, str, bytes]:
+        """What a command does with an input. To start it so costs a third of what `subprocess` takes."""
+        self.fill(given)
+        program = program_path()
+        plain = (signal.SIGPIPE, signal.SIGINT)
+        child = os.posix_spawn(program, (program, *words), os.environ, file_actions=self.places, setsigdef=plain)
+        try:
+            signal.setitimer(signal.ITIMER_REAL, SECONDS)
+            _, status = os.waitpid(child, 0)
+            signal.setitimer(signal.ITIMER_REAL, 0)
+        except TooSlow:
+            os.kill(child, signal.SIGKILL)
+            os.waitpid(child, 0)
+            return -1, "", f"no end in {SECONDS} seconds".encode()
+        return os.waitstatus_to_exitcode(status), self.contents(1).decode(errors="replace"), self.contents(2)
 
 
 def told_first(verdict: str) -> str:
@@ -81,25 +130,30 @@ def told_first(verdict: str) -> str:
     return f"clause {words[3]}, fault {words[1]}: " if "clause" in words else f"{words[1]}: "
 
 
-def faults(given: bytes, replicas: int, wide: bool, lines: list[str]) -> list[str]:
+def all_commands(of: Input) -> list[Words]:
+    explained = [] if of.wide else [("explain",)]
+    return [("check", *of.judged), ("run", *of.answered), ("serve", *of.answered), *explained]
+
+
+def some_commands(chance: random.Random, of: Input, line: str, is_first: bool) -> list[Words]:
+    """All for a text that is new, but one where it is refused for its many cases, which takes long."""
+    if not is_first:
+        return [(chance.choice(("run", "serve")), *of.answered)]
+    return [chance.choice(all_commands(of))] if line.startswith("refused 22") else all_commands(of)
+
+
+def faults(files: Files, of: Input, commands: list[Words], lines: list[str]) -> Iterator[str]:
     """The commands that do not do what is expected."""
-    options = ("--wide",) * wide
     status = 0 if lines[0].startswith("accepted") else 1
-    rows: list[tuple[tuple[str, ...], list[str]]] = [
-        (("check", *options), lines[:1]),
-        (("run", "--replicas", str(replicas), *options), lines),
-        (("serve", "--replicas", str(replicas), *options), lines),
-    ]
-    found = []
-    for words, output in rows:
-        end = ended(words, given)
+    for words in commands:
+        end = files.ended(words, of.given)
+        if words[0] == "explain":
+            if (end[0], end[2]) != (status, b"") or told_first(lines[0]) not in end[1].partition("\n")[0]:
+                yield f"explain: {end} of {lines[0]}"
+            continue
+        output = lines[:1] if words[0] == "check" else lines
         if end != (status, "".join(f"{line}\n" for line in output), b""):
-            found.append(f"{' '.join(words)}: {end} in place of {status}, {output}")
-    if not wide:
-        end = ended(("explain",), given)
-        if (end[0], end[2]) != (status, b"") or told_first(lines[0]) not in end[1].partition("\n")[0]:
-            found.append(f"explain: {end} of {lines[0]}")
-    return found
+            yield f"{' '.join(words)}: {end} in place of {status}, {output}"
 
 
 def saved(given: bytes) -> str:
@@ -108,27 +162,46 @@ def saved(given: bytes) -> str:
     return file.name
 
 
+class Work:
+    """What one process looks at."""
+
+    def __init__(self) -> None:
+        self.tally, self.files = Tally(), Files()
+
+    def looks_at(self, chance: random.Random, text: bytes, wide: bool, is_first: bool) -> bool:
+        """Whether the text is accepted, with lines for it."""
+        replicas = chance.choice((1, 2, 2, 3, 16))
+        of = Input(random_input(chance, text, replicas), replicas, wide)
+        self.tally.inputs += 1
+        lines = expected(of)
+        if lines is None:
+            self.tally.given_up += 1
+            return False
+        self.tally.kinds[lines[0].partition(":")[0]] += 1
+        found = list(faults(self.files, of, some_commands(chance, of, lines[0], is_first), lines))
+        if found:
+            self.tally.differences.append(f"{saved(of.given)}: {'; '.join(found)}")
+            print(f"fuzz: {self.tally.differences[-1]}", flush=True)
+        return lines[0].startswith("accepted")
+
+    def next_text(self, chance: random.Random) -> None:
+        self.tally.texts += 1
+        text, wide = random_text(chance), chance.random() < 0.4
+        if self.looks_at(chance, text, wide, True):
+            for _ in range(SETS - 1):
+                self.looks_at(chance, text, wide, False)
+
+
 def work(seed: str, end: float) -> Tally:
     """Inputs of one process, until the time is over."""
     sys.set_int_max_str_digits(0)
-    signal.signal(signal.SIGVTALRM, give_up)
+    for number in (signal.SIGVTALRM, signal.SIGALRM):
+        signal.signal(number, give_up)
     signal.signal(signal.SIGINT, signal.SIG_IGN)
-    tally = Tally()
-    while time.monotonic() < end and len(tally.differences) < MOST_TOLD:
-        chance = random.Random(f"{seed}-{tally.inputs}")
-        replicas = chance.choice((1, 2, 2, 3, 16))
-        given, wide = random_input(chance, replicas), chance.random() < 0.4
-        tally.inputs += 1
-        lines = expected(given, replicas, wide)
-        if lines is None:
-            tally.given_up += 1
-            continue
-        tally.kinds[lines[0].partition(":")[0]] += 1
-        found = faults(given, replicas, wide, lines)
-        if found:
-            tally.differences.append(f"{saved(given)}: {'; '.join(found)}")
-            print(f"fuzz: {tally.differences[-1]}", flush=True)
-    return tally
+    own = Work()
+    while time.monotonic() < end and len(own.tally.differences) < MOST_TOLD:
+        own.next_text(random.Random(f"{seed}-{own.tally.texts}"))
+    return own.tally
 
 
 def main() -> int:
@@ -145,7 +218,7 @@ def main() -> int:
     inputs, given_up = sum(it.inputs for it in tallies), sum(it.given_up for it in tallies)
     differences = sum(len(it.differences) for it in tallies)
     print("fuzz: " + ", ".join(f"{kind} {count}" for kind, count in sorted(kinds.items())))
-    print(f"fuzz: {given_up} inputs would take the slow programs too long")
+    print(f"fuzz: {sum(it.texts for it in tallies)} texts; {given_up} inputs would take the slow programs too long")
     print(f"{inputs - given_up} inputs, {differences} differences")
     return 1 if differences or inputs == given_up else 0
 

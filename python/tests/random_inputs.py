@@ -208,11 +208,15 @@ def random_text(chance: random.Random) -> bytes:
     return chance.choice(ACCEPTED).encode() if kind < 0.7 else changed_text(chance)
 
 
-def random_input(chance: random.Random, replicas: int) -> bytes:
-    """A text and lines for it."""
-    text = random_text(chance)
-    if b"---" in text and chance.random() < 0.5:
-        return text
+def random_lines(chance: random.Random, text: bytes, replicas: int) -> bytes:
+    """The text, and lines for it after a line `---`."""
     lines = Lines(chance, symbols_of(text), replicas).lines()
     made = text + chance.choice((b"\n---\n", b"\n---\n", b"\n---\r\n")) + lines
     return edited(chance, made, MARKS) if chance.random() < 0.05 else made
+
+
+def random_input(chance: random.Random, text: bytes, replicas: int) -> bytes:
+    """The text alone where it has lines of its own, or with lines for it."""
+    if b"---" in text and chance.random() < 0.5:
+        return text
+    return random_lines(chance, text, replicas)

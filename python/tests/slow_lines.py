@@ -3,6 +3,7 @@ dictionaries from ids to lists of atoms. Nothing here is shared with the program
 
 from __future__ import annotations
 
+import functools
 import itertools
 import json
 import math
@@ -284,6 +285,7 @@ def weighed(line: str, program: Program) -> str:
     return "; ".join([rule, *(re.sub(r"\d+", told, it) for it in sums)])
 
 
+@functools.lru_cache(maxsize=8)
 def verdict_of(text: bytes, most: int, wide: bool) -> tuple[str, Program | None]:
     """The line of the verdict, and the program where it is accepted. `TooSlow` may be raised."""
     try:
