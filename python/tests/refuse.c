@@ -1,10 +1,13 @@
 /* Refuses memory to the program that is started with this in LD_PRELOAD: the growth of the number REFUSE, counted from 1,
    and where REFUSE_ALL is set each one after it too. Of the first that was refused a byte goes to the descriptor
-   REFUSE_MARK. A growth is a call that may take memory; freeing is left as it is. */
+   REFUSE_MARK. Where REFUSE_CALL is set only those growths are counted that come after the program writes a line `call`
+   to its standard output, and before it writes a line `answer`. A growth is a call that may take memory; freeing is left as it is. */
 #include <errno.h>
 #include <stdatomic.h>
 #include <stddef.h>
 #include <stdlib.h>
+#include <string.h>
+#include <sys/syscall.h>
 #include <unistd.h>
 
 /* glibc's own */
@@ -16,6 +19,8 @@ void *__libc_memalign(size_t alignment, size_t size);
 static long refused;
 static int all;
 static int mark;
+static int in_call;
+static atomic_int counted;
 static atomic_long growths;
 
 __attribute__((constructor)) static void read_environment(void) {
@@ -24,11 +29,34 @@ __attribute__((constructor)) static void read_environment(void) {
     all = getenv("REFUSE_ALL") != NULL;
     mark = descriptor ? atoi(descriptor) : -1;
     refused = number ? atol(number) : 0;
+    in_call = getenv("REFUSE_CALL") != NULL;
+    counted = !in_call;
+}
+
+static int begins(const char *bytes, size_t size, const char *word) {
+    return size >= strlen(word) && memcmp(bytes, word, strlen(word)) == 0;
+}
+
+static ssize_t put(int descriptor, const void *bytes, size_t size) {
+    if (in_call && descriptor == STDOUT_FILENO && begins(bytes, size, "answer"))
+        counted = 0;
+    ssize_t written = syscall(SYS_write, descriptor, bytes, size);
+    if (in_call && descriptor == STDOUT_FILENO && begins(bytes, size, "call"))
+        counted = 1;
+    return written;
+}
+
+ssize_t write(int descriptor, const void *bytes, size_t size) {
+    return put(descriptor, bytes, size);
+}
+
+ssize_t __write(int descriptor, const void *bytes, size_t size) {
+    return put(descriptor, bytes, size);
 }
 
 /* Whether this growth is refused. Growths before the constructor has run are the loader's. */
 static int is_refused(void) {
-    if (refused == 0)
+    if (refused == 0 || !counted)
         return 0;
     long growth = atomic_fetch_add(&growths, 1) + 1;
     if (growth == refused && mark >= 0 && write(mark, "!", 1) != 1)

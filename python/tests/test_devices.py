@@ -7,9 +7,11 @@ import tempfile
 import unittest
 from collections.abc import Callable, Iterator
 from functools import partial
+from pathlib import Path
 
 import run_rows as rows
 from chrrep.node import program_path
+from shims import DEVICES, End, made_shim, run_failing, why_not
 
 SECONDS = 60.0
 FAULT = 3
@@ -141,6 +143,65 @@ class Devices(unittest.TestCase):
             process.stdin.close()
             self.assertEqual(answers, OUTPUT.splitlines(keepends=True))
             self.assertEqual(process.wait(SECONDS), 0)
+
+
+def answers_to(given: bytes) -> bytes:
+    """What a service has written when it was given this beginning of the input: the verdict where the text has ended,
+    and the answers to whole lines."""
+    text, ended, lines = given.partition(b"---\n")
+    count = 1 + lines.count(b"\n") if ended else 0
+    return b"".join(OUTPUT.splitlines(keepends=True)[:count])
+
+
+class FailingCalls(unittest.TestCase):
+    """One read or write fails, the others do not: what comes after it is neither asked for nor written."""
+
+    shim: Path
+
+    @classmethod
+    def setUpClass(cls) -> None:
+        if why := why_not():
+            raise unittest.SkipTest(why)
+        room = tempfile.TemporaryDirectory()
+        cls.addClassCleanup(room.cleanup)
+        cls.shim = made_shim(DEVICES, Path(room.name))
+
+    def end(self, words: tuple[str, ...], **environment: int) -> End:
+        texts = {name: str(value) for name, value in environment.items()}
+        return run_failing(self.shim, [program_path(), *words], INPUT, texts)
+
+    def test_a_byte_a_call(self) -> None:
+        for words in WORDS:
+            with self.subTest(words=words):
+                self.assertEqual(self.end(words, ONE_BYTE=1), End(0, whole(words), b"", False))
+
+    def test_each_write_of_a_byte(self) -> None:
+        for words in WORDS:
+            output = whole(words)
+            for number in range(1, len(output) + 1):
+                with self.subTest(words=words, number=number):
+                    end = self.end(words, ONE_BYTE=1, FAILING_WRITE=number)
+                    self.assertEqual(end, End(FAULT, output[: number - 1], b"", True))
+
+    def test_each_write(self) -> None:
+        """Of a service the answers before it are written, of the others nothing."""
+        for words in WORDS:
+            lines = OUTPUT.splitlines(keepends=True) if words[0] == "serve" else [whole(words)]
+            for number in range(1, len(lines) + 1):
+                with self.subTest(words=words, number=number):
+                    end = self.end(words, FAILING_WRITE=number)
+                    self.assertEqual(end, End(FAULT, b"".join(lines[: number - 1]), b"", True))
+            with self.subTest(words=words):
+                self.assertEqual(self.end(words, FAILING_WRITE=len(lines) + 1), End(0, whole(words), b"", False))
+
+    def test_each_read_of_a_byte(self) -> None:
+        """The last one meets the end of the input. A service has answered the lines before it, the others nothing."""
+        for words in WORDS:
+            for number in range(1, len(INPUT) + 2):
+                with self.subTest(words=words, number=number):
+                    end = self.end(words, ONE_BYTE=1, FAILING_READ=number)
+                    written = answers_to(INPUT[: number - 1]) if words[0] == "serve" else b""
+                    self.assertEqual(end, End(FAULT, written, b"", True))
 
 
 if __name__ == "__main__":

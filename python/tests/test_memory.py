@@ -3,7 +3,6 @@ written. Of a service what was written by then is a beginning of the whole, of w
 
 import os
 import random
-import shutil
 import subprocess
 import tempfile
 import unittest
@@ -14,13 +13,10 @@ from pathlib import Path
 
 import run_rows as rows
 from chrrep.node import program_path
+from shims import MEMORY, SECONDS, Refusal, made_shim, run_refused, why_not
 
-HERE = Path(__file__).resolve().parent
-EXAMPLES = HERE.parents[1] / "examples"
-SHIM = HERE / "refuse.c"
-COMPILER = next(filter(None, map(shutil.which, ("cc", "gcc", "clang"))), None)
+EXAMPLES = Path(__file__).resolve().parents[2] / "examples"
 WORKERS = os.cpu_count() or 1
-SECONDS = 60.0
 WANT_OF_MEMORY = 4
 
 EACH = 100
@@ -90,53 +86,29 @@ def growths(each: int | None) -> Iterator[int]:
         yield number
 
 
-def is_script(program: str) -> bool:
-    with open(program, "rb") as file:
-        return file.read(2) == b"#!"
-
-
-@unittest.skipUnless(COMPILER, "there is no C compiler to make the shim that refuses memory: cc, gcc or clang")
 class RefusedMemory(unittest.TestCase):
     shim: Path
 
     @classmethod
     def setUpClass(cls) -> None:
-        if is_script(program_path()):
-            raise unittest.SkipTest("memory would be refused to a shell: CHRREP has to name the program itself")
+        if why := why_not():
+            raise unittest.SkipTest(why)
         room = tempfile.TemporaryDirectory()
         cls.addClassCleanup(room.cleanup)
-        cls.shim = Path(room.name) / "refuse.so"
-        subprocess.run([str(COMPILER), "-O2", "-shared", "-fPIC", "-o", str(cls.shim), str(SHIM)], check=True)
+        cls.shim = made_shim(MEMORY, Path(room.name))
 
-    def refused(self, case: Case, number: int, later: bool) -> tuple[bool, str]:
-        """Whether the run met the growth of this number, and what was wrong with it."""
-        mark = os.memfd_create("mark")
-        try:
-            environment = {"LD_PRELOAD": str(self.shim), "REFUSE": str(number), "REFUSE_MARK": str(mark)}
-            if later:
-                environment["REFUSE_ALL"] = "1"
-            end = subprocess.run(
-                [program_path(), *case.words],
-                input=case.input,
-                capture_output=True,
-                timeout=SECONDS,
-                env=environment,
-                pass_fds=(mark,),
-                check=False,
-            )
-            met = os.fstat(mark).st_size > 0
-        finally:
-            os.close(mark)
-        if case.allows(end.returncode, end.stdout) and not end.stderr:
-            return met, ""
-        which = f"growth {number}" + " and all later ones" * later
-        return met, f"{case.words} of {case.input[:60]!r}.. without {which}: {end}"
+    def refused(self, case: Case, refusal: Refusal) -> tuple[bool, str]:
+        """Whether the run met the growth that is refused, and what was wrong with it."""
+        end = run_refused(self.shim, [program_path(), *case.words], case.input, refusal)
+        if case.allows(end.status, end.output) and not end.errors:
+            return end.met, ""
+        return end.met, f"{case.words} of {case.input[:60]!r}.. without {refusal}: {end}"
 
     def series(self, case: Case, each: int | None, later: bool) -> tuple[int, list[str]]:
         """How many runs met a refusal, and what was wrong."""
         runs, wrong = 0, []
         for number in growths(each):
-            met, fault = self.refused(case, number, later)
+            met, fault = self.refused(case, Refusal(number, later))
             wrong += [fault] * bool(fault)
             if not met or len(wrong) > 3:
                 return runs, wrong
