@@ -1,0 +1,176 @@
+"""What runs cost as their inputs grow: where one doubles, its processor time may grow by little more. The time of each
+would grow by four if something in the program went through all that is there again and again. Times of one machine are
+compared with each other alone, so that a slow or busy one changes nothing. `docs/LIMITS.md` says which inputs are not
+near linear."""
+
+import os
+import random
+import subprocess
+import tempfile
+import unittest
+from collections.abc import Callable, Iterable, Iterator
+from dataclasses import dataclass
+
+from chrrep.node import program_path
+
+RATIO = 2.6
+"""The time may grow by so much where the input doubles."""
+
+FLOOR = 0.008
+"""Shorter times, in seconds, are taken for this one, ten times what it takes to start the program."""
+
+RUNS, MOST_RUNS = 3, 9
+"""The least time of so many runs counts; of more only where those have not shown what is wanted."""
+
+SAME = ":- chr_constraint a/1. a(X) \\ a(X) <=> true."
+ROUTES = ":- chr_constraint p/2. p(X,Y) \\ p(X,Z) <=> Y =< Z | true."
+PATHS = ":- chr_constraint path/3. path(X,Y,D) \\ path(X,Y,E) <=> D =< E | true."
+MINIMUM = ":- chr_constraint min/1. min(X) \\ min(Y) <=> X =< Y | true."
+PLAIN = ":- chr_constraint a/1."
+RULES = ":- chr_constraint k/2. " + " ".join(f"k({k},X) \\ k({k},X) <=> true." for k in range(64))
+HALVES = 16
+
+Atoms = Iterable[tuple[str, tuple[int, ...]]]
+EACH = 50
+"""Atoms of an operation."""
+
+
+def atom_text(name: str, values: tuple[int, ...]) -> str:
+    return f'["{name}"{"".join(f",{value}" for value in values)}]'
+
+
+def tells(atoms: Atoms) -> Iterator[str]:
+    texts = [atom_text(*atom) for atom in atoms]
+    for place in range(0, len(texts), EACH):
+        yield f'["tell",1,[1,{place // EACH}],[{",".join(texts[place : place + EACH])}]]'
+
+
+def shown(text: str, atoms: Atoms) -> str:
+    return "\n".join([text, "---", *tells(atoms), '["show",1]', ""])
+
+
+def random_keys(count: int) -> str:
+    chance = random.Random(count)
+    return shown(SAME, (("a", (chance.randrange(-(2**63), 2**63),)) for _ in range(count)))
+
+
+def keys_in_a_row(count: int) -> str:
+    return shown(SAME, (("a", (key,)) for key in range(count)))
+
+
+def doubled_keys(count: int) -> str:
+    return shown(SAME, (("a", (key // 2,)) for key in range(count)))
+
+
+def routes(count: int) -> str:
+    """The least of fifty under each of many keys."""
+    return shown(ROUTES, (("p", (key // 50, key * 7919 % count)) for key in range(count)))
+
+
+def falling(count: int) -> str:
+    """Each atom that comes takes the last one out."""
+    return shown(MINIMUM, (("min", (-key,)) for key in range(count)))
+
+
+def rules_of_one_symbol(count: int) -> str:
+    return shown(RULES, (("k", (key % 64, key * 7919 % (count // 8))) for key in range(count)))
+
+
+def ring(count: int) -> str:
+    """Eight replicas are told paths, and exchange them round a ring, twice."""
+    chance, lines = random.Random(count), []
+    for place in range(count):
+        replica, number = place % 8 + 1, place // 8 + 1
+        path = (chance.randrange(300), chance.randrange(300), chance.randrange(10**9))
+        lines.append(f'["tell",{replica},[{replica},{number}],[{atom_text("path", path)}]]')
+    lines += [f'["sync",{replica},{replica % 8 + 1}]' for replica in range(1, 9)] * 2
+    return "\n".join([PATHS, "---", *lines, '["show",1]', ""])
+
+
+def exchanges(count: int) -> str:
+    """Each operation is passed on at once. Their ids are in a row."""
+    rows = (f'["tell",1,[1,{number}],[["min",3]]]\n["sync",1,2]\n' for number in range(count))
+    return f"{MINIMUM}\n---\n{''.join(rows)}"
+
+
+def one_merge(count: int) -> str:
+    """All operations stand in one line."""
+    delta = ",".join(f'[[1,{number}],[["a",{number % 7}]]]' for number in range(count))
+    return f'{PLAIN}\n---\n["merge",1,[{delta}]]\n["lacks",1,[]]\n'
+
+
+def halved(count: int) -> str:
+    """Few atoms become many, step by step: each of them two lighter ones, sixteen times."""
+    names = [f"b{place}/0" for place in range(HALVES + 1)]
+    weights = [f":- chr_weight {name} = {2 ** (place + 1) - 1}." for place, name in enumerate(names)]
+    rules = [f"b{place} <=> b{place - 1}, b{place - 1}." for place in range(1, HALVES + 1)]
+    text = " ".join([f":- chr_constraint {', '.join(names)}.", *weights, *rules])
+    return shown(text, [(f"b{HALVES}", ())] * count)
+
+
+def long_text(count: int) -> str:
+    """Far too long, and read to its end."""
+    return "a" * count
+
+
+@dataclass(frozen=True)
+class Input:
+    """So that its smaller one takes 15 to 90 ms on one processor."""
+
+    of: Callable[[int], str]
+    size: int
+    words: tuple[str, ...] = ("run",)
+
+
+INPUTS = (
+    Input(random_keys, 20_000),
+    Input(keys_in_a_row, 20_000),
+    Input(doubled_keys, 20_000),
+    Input(routes, 20_000),
+    Input(falling, 20_000),
+    Input(rules_of_one_symbol, 5_000),
+    Input(ring, 4_000, ("run", "--replicas", "8")),
+    Input(exchanges, 10_000, ("run", "--replicas", "2")),
+    Input(one_merge, 20_000),
+    Input(halved, 2),
+    Input(long_text, 20_000_000, ("check",)),
+)
+
+
+def seconds(words: tuple[str, ...], given: str) -> float:
+    """The processor time of one run."""
+    with tempfile.TemporaryFile() as file:
+        file.write(given.encode())
+        file.seek(0)
+        started = subprocess.Popen([program_path(), *words], stdin=file, stdout=subprocess.DEVNULL)
+        _, status, used = os.wait4(started.pid, 0)
+        started.returncode = os.waitstatus_to_exitcode(status)
+    assert started.returncode in (0, 1), (words, started.returncode)
+    return float(used.ru_utime + used.ru_stime)
+
+
+class Costs(unittest.TestCase):
+    def growth(self, of: Input) -> float:
+        """By how much the time grows, as the least times of ever more runs show it."""
+        small, large = of.of(of.size), of.of(2 * of.size)
+        least, most, growth = 60.0, 60.0, 60.0
+        for run in range(1, MOST_RUNS + 1):
+            least, most = min(least, seconds(of.words, small)), min(most, seconds(of.words, large))
+            growth = most / max(least, FLOOR)
+            if run >= RUNS and growth <= RATIO:
+                break
+        return growth
+
+    def test_times_of_doubled_inputs(self) -> None:
+        told = []
+        for of in INPUTS:
+            name = of.of.__name__
+            growth = self.growth(of)
+            told.append(f"{name} {growth:.2f}")
+            with self.subTest(name, size=of.size):
+                self.assertLessEqual(growth, RATIO)
+        print(f"(grown by {', '.join(told)})", end=" ", flush=True)
+
+
+if __name__ == "__main__":
+    unittest.main()
