@@ -3,9 +3,9 @@
 
     tools/python [redis] [psycopg2] -- bench/links.py URL [COUNT]
 
-Tells COUNT operations of one atom each (10,000) to logs of new names, which stay in the engine: one by one, and in
-batches of 100; and then from a member to another that follows. The client appends rows of the same bytes to a table or
-a stream of its own, as safe as the engine keeps them.
+Tells COUNT operations of one atom each (100,000) in batches of 100, and a tenth of that one by one, to logs of new
+names, which stay in the engine; and then a tenth from a member to another that follows. The client appends rows of the
+same bytes to a table or a stream of its own, as safe as the engine keeps them, in turns with the member.
 """
 
 import sqlite3
@@ -13,11 +13,13 @@ import sys
 import threading
 import time
 from collections.abc import Callable, Iterable
+from functools import partial
 
 from chrrep.link import Member, connect
 
 PROGRAM = ":- chr_constraint path/3.\nshorter @ path(X,Y,D) \\ path(X,Y,E) <=> D =< E | true.\n"
 BATCH = 100
+TURNS = 10
 
 Rows = list[tuple[int, str]]
 
@@ -75,27 +77,53 @@ def told(number: int) -> tuple[str | int, ...]:
     return ("path", number % 1000, number % 7, number)
 
 
-def rate(name: str, count: int, steps: Iterable[Callable[[], object]]) -> None:
-    begin = time.monotonic()
-    for step in steps:
-        step()
-    print(f"{name}: {count / (time.monotonic() - begin):.0f} a second")
+class Rates:
+    """Steps that are timed, in turns with others, so that what else the machine does slows all of them alike."""
+
+    def __init__(self) -> None:
+        self.seconds: dict[str, float] = {}
+        self.operations: dict[str, int] = {}
+
+    def take(self, name: str, operations: int, steps: Iterable[Callable[[], object]]) -> None:
+        begin = time.monotonic()
+        for step in steps:
+            step()
+        self.seconds[name] = self.seconds.get(name, 0.0) + time.monotonic() - begin
+        self.operations[name] = self.operations.get(name, 0) + operations
+
+    def of(self, name: str) -> float:
+        return self.operations[name] / self.seconds[name]
+
+    def say(self, way: str) -> None:
+        client, member = self.of(f"client, {way}"), self.of(f"member, {way}")
+        print(f"{way}: client {client:.0f} a second, member {member:.0f}, which is {member / client:.2f} of it")
 
 
 def compare(url: str, count: int, log: str) -> None:
-    numbers = range(1, count + 1)
-    parts = [numbers[at:at + BATCH] for at in range(0, count, BATCH)]
+    """A part of the operations one by one, and ten times as many in batches, by turns."""
     client = CLIENTS[url.partition(":")[0]]
-    append = client(url, log + "single")
-    rate("client, one by one", count, (lambda at=at: append([(at, str(told(at)))]) for at in numbers))
-    append = client(url, log + "batches")
-    rows = [[(at, str(told(at))) for at in part] for part in parts]
-    rate(f"client, by {BATCH}", count, (lambda part=part: append(part) for part in rows))
-    with connect(url, log=log + "a") as link, Member(link, PROGRAM) as member:
-        rate("member, one by one", count, (lambda at=at: member.tell(told(at)) for at in numbers))
-    with connect(url, log=log + "b") as link, Member(link, PROGRAM) as member:
-        tells = [[[told(at)] for at in part] for part in parts]
-        rate(f"member, by {BATCH}", count, (lambda part=part: member.tell_many(part) for part in tells))
+    single, batches = client(url, log + "single"), client(url, log + "batches")
+    rates = Rates()
+    few, many = count // TURNS // 10, count // TURNS
+    with connect(url, log=log + "a") as link, Member(link, PROGRAM) as one:
+        with connect(url, log=log + "b") as other, Member(other, PROGRAM) as all_at_once:
+            for turn in range(TURNS):
+                numbers = range(1 + turn * few, 1 + (turn + 1) * few)
+                rows = [[(at, str(told(at)))] for at in numbers]
+                rates.take("client, one by one", few, (partial(single, row) for row in rows))
+                rates.take("member, one by one", few, (partial(one.tell, told(at)) for at in numbers))
+                parts = [range(at, at + BATCH) for at in range(1 + turn * many, 1 + (turn + 1) * many, BATCH)]
+                lots = [[(at, str(told(at))) for at in part] for part in parts]
+                rates.take(f"client, by {BATCH}", many, (partial(batches, lot) for lot in lots))
+                tells = [[[told(at)] for at in part] for part in parts]
+                rates.take(f"member, by {BATCH}", many, (partial(all_at_once.tell_many, part) for part in tells))
+            # what was told is in the store too: it is no part of the time only if it was done
+            begin = time.monotonic()
+            shown = [one.show(), all_at_once.show()]
+            assert all(shown)
+    rates.say("one by one")
+    rates.say(f"by {BATCH}")
+    print(f"the stores at the end were shown in {time.monotonic() - begin:.3f} s")
 
 
 def exchange(url: str, count: int, log: str) -> None:
@@ -115,10 +143,12 @@ def exchange(url: str, count: int, log: str) -> None:
 def main() -> None:
     if len(sys.argv) not in (2, 3):
         sys.exit(__doc__)
-    url, count = sys.argv[1], int(sys.argv[2]) if len(sys.argv) > 2 else 10_000
+    url, count = sys.argv[1], int(sys.argv[2]) if len(sys.argv) > 2 else 100_000
+    if count % (10 * BATCH * TURNS):
+        sys.exit(f"links: COUNT is a multiple of {10 * BATCH * TURNS}")
     log = f"bench{time.time_ns()}"
     compare(url, count, log)
-    exchange(url, count, log)
+    exchange(url, count // 10, log)
 
 
 if __name__ == "__main__":

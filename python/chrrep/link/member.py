@@ -6,11 +6,23 @@ import threading
 import time
 from collections.abc import Iterable, Iterator
 from contextlib import contextmanager
+from itertools import count, repeat
 from types import TracebackType
 from typing import Self
 
 from ..names import Names, check_name, named_text, number_of, numbered
-from ..texts import Atom, Change, Id, ProgramText, Verdict, atoms_of, changes_between, found_in, program_bytes
+from ..texts import (
+    Atom,
+    Change,
+    Id,
+    ProgramText,
+    Verdict,
+    atoms_of,
+    atoms_text,
+    changes_between,
+    found_in,
+    program_bytes,
+)
 from .faults import Diverged, LinkLost, NoProgram, OriginShared, OtherProgram, ProgramChanged
 from .log import (
     LOG_NAME,
@@ -118,12 +130,7 @@ class Member:
         """
         with self._lock:
             self._make_sure()
-            first = self._replica.position.get(self.origin, 0) + 1
-            operations = [list(atoms) for atoms in tells]
-            numbers = [[numbered(atom) for atom in atoms] for atoms in operations]
-            entries = [self.link.entry(number, atoms) for number, atoms in enumerate(numbers, first)]
-            self._replica.admit(entries)
-            self._keep_names(operations)
+            entries = self._admitted([tuple(atoms) for atoms in tells])
             for at in range(0, len(entries), BATCH):
                 self._tell(entries[at:at + BATCH])
             return [entry.id for entry in entries]
@@ -284,7 +291,37 @@ class Member:
             self._names.learn(self.link.names(len(self._names)))
         return text
 
-    def _keep_names(self, operations: list[list[Atom]]) -> None:
+    def _admitted(self, operations: list[tuple[Atom, ...]]) -> list[Entry]:
+        """The entries of operations, which are not refused and whose names the log has."""
+        texts = self._replica.writing.texts(operations)
+        if texts is not None:
+            entries = self._entries(texts)
+            self._replica.make_room(entries)
+            return entries
+        # there are names, or what is to be refused
+        numbers = [[numbered(atom) for atom in atoms] for atoms in operations]
+        entries = self._asked(numbers)
+        self._replica.make_room(entries)
+        self._keep_names(operations)
+        return entries
+
+    def _asked(self, operations: list[list[Atom]]) -> list[Entry]:
+        """The entries of operations without names, of which the node was asked where it has to be."""
+        writing = self._replica.writing
+        texts = writing.texts(operations)
+        if texts is not None:
+            return self._entries(texts)
+        entries = self._entries(map(atoms_text, operations))
+        self._replica.admit(entries)
+        writing.learn(operations)
+        return entries
+
+    def _entries(self, texts: Iterable[str]) -> list[Entry]:
+        """The entries that this member tells next."""
+        ids = map(Id._make, zip(repeat(self.origin), count(self._replica.position.get(self.origin, 0) + 1)))
+        return list(map(Entry._make, zip(ids, texts, repeat(self.link.writer))))
+
+    def _keep_names(self, operations: list[tuple[Atom, ...]]) -> None:
         """Has the log keep the names that operations have, before these are appended."""
         new = self._names.new_in(atom for atoms in operations for atom in atoms)
         if not new:
@@ -320,9 +357,9 @@ class Member:
             self._is_sure = True
             raise
         self._last_told = entries[-1].id.number
-        taken = self._replica.take(entries)
+        atoms = self._replica.owe(entries)
         self._is_sure = True
-        self._count(taken.atoms)
+        self._count(atoms)
 
     def _read(self, entries: list[Entry]) -> int:
         """Has the node told what is new of the entries, sets aside what it refuses, and says how many were told."""

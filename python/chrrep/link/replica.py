@@ -9,9 +9,13 @@ from ..node import Node
 from ..refusals import Full, Refused
 from ..texts import OPERATION_LIMIT, TOLD_LIMIT, Atom, Id, OperationText, Written, atoms_of, atoms_text, text_pieces
 from .log import LAST_ORIGIN, Entry, Position, Program, SetAside
+from .writing import Writing
 
 ROOM_FOR_OTHERS = 100_000
 """Atoms of the limit that no member fills by what it tells, so that what all tell at once fits in."""
+
+OWED_ATOMS = 2_000
+"""Atoms that were told and that the node has yet to be given, at most: it is given many at once."""
 
 _STORE_ORIGIN = LAST_ORIGIN + 1
 
@@ -35,35 +39,60 @@ class Replica:
         self.program = program
         self.position: dict[int, int] = {}
         self.told = 0
+        self.writing = Writing()
+        self._owed: list[Entry] = []
+        self._owed_atoms = 0
         self._begun_with = 0
         self._chrrep = chrrep
         self.node = self._new_node()
 
     def begin(self, position: Position, store: str) -> None:
         """Goes on from a store, which stands for all operations up to a position."""
-        atoms = atoms_of(store)
-        node = self._new_node()
-        try:
-            for part in text_pieces(_operations_of(atoms)):
-                node.merge_texts(part)
-        except BaseException:
-            node.close()
-            raise
-        self.node.close()
-        self.node, self.position = node, dict(position)
-        self.told = self._begun_with = len(atoms)
+        self._go_on_from(store)
+        self.position = dict(position)
+        # what the store doesn't stand for is read again
+        self._owed, self._owed_atoms = [], 0
 
     def admit(self, entries: Sequence[Entry]) -> None:
-        """Raises what the program refuses of entries that are to be told, `Full` among it; changes nothing."""
+        """Raises what the program refuses of entries that are to be told; changes nothing."""
         for part in text_pieces(entries):
             self.node.admit_texts(part)
-        self._make_room(_count_atoms(entries), TOLD_LIMIT - ROOM_FOR_OTHERS)
+
+    def make_room(self, entries: Sequence[Entry]) -> None:
+        """Sees to it that entries can be told. Raises `Full`."""
+        atoms, limit = _count_atoms(entries), TOLD_LIMIT - ROOM_FOR_OTHERS
+        if self.told + self._owed_atoms + atoms > limit:
+            self.give()
+            self._make_room(atoms, limit)
+
+    def owe(self, entries: Sequence[Entry]) -> int:
+        """Takes in entries that were admitted and for which there is room, and says how many atoms they have. The node
+        is given them before it is asked for anything."""
+        atoms = _count_atoms(entries)
+        self.position[entries[-1].id.origin] = entries[-1].id.number
+        self._owed += entries
+        self._owed_atoms += atoms
+        if self._owed_atoms >= OWED_ATOMS:
+            self.give()
+        return atoms
+
+    def give(self) -> None:
+        """Gives the node what it has yet to be given."""
+        while self._owed:
+            part = next(text_pieces(self._owed))
+            atoms = _count_atoms(part)
+            self._make_room(atoms, TOLD_LIMIT)
+            self.node.merge_texts(part)
+            self.told += atoms
+            self._owed_atoms -= atoms
+            del self._owed[:len(part)]
 
     def take(self, entries: Iterable[Entry]) -> Taken:
         """Takes in the entries that are beyond the position, each once; what can't be taken is passed over.
 
         They may come in any order, but none of an origin may be missing before the greatest.
         """
+        self.give()
         operations = atoms = 0
         refused: list[SetAside] = []
         for part in text_pieces(self._beyond(entries)):
@@ -76,6 +105,7 @@ class Replica:
 
     def show(self) -> str:
         """The store at rest, as it is printed."""
+        self.give()
         return self.node.show_text()
 
     def close(self) -> None:
@@ -120,9 +150,23 @@ class Replica:
     def _make_room(self, atoms: int, limit: int) -> None:
         """Renews the node where so many atoms more would pass the limit. `Full` where its store alone is so large."""
         if self.told + atoms > limit and self.told > self._begun_with:
-            self.begin(self.position, self.show())
+            self._go_on_from(self.node.show_text())
         if self.told + atoms > limit:
             raise Full(f"the store at rest has {self.told} atoms, and {atoms} more would pass {limit}")
+
+    def _go_on_from(self, store: str) -> None:
+        """Puts a node that was told just this store in the place of the node."""
+        atoms = atoms_of(store)
+        node = self._new_node()
+        try:
+            for part in text_pieces(_operations_of(atoms)):
+                node.merge_texts(part)
+        except BaseException:
+            node.close()
+            raise
+        self.node.close()
+        self.node = node
+        self.told = self._begun_with = len(atoms)
 
 
 def _fault_of(entry: Entry) -> str | None:

@@ -4,6 +4,7 @@ Nodes of one machine share the file. It has its write-ahead log beside it while 
 disk. Who waits asks for the file's version until another connection has changed it.
 """
 
+import json
 import os
 import sqlite3
 import threading
@@ -44,9 +45,9 @@ _WAL_BYTES = 16_777_216
 
 _TABLES = """
     CREATE TABLE IF NOT EXISTS logs (
-        log TEXT PRIMARY KEY, format INTEGER NOT NULL, epoch INTEGER NOT NULL, program TEXT,
-        generation INTEGER NOT NULL, position TEXT NOT NULL, store TEXT NOT NULL,
-        sealed_by TEXT NOT NULL, sealed_until REAL NOT NULL) WITHOUT ROWID;
+        log TEXT PRIMARY KEY, format INTEGER NOT NULL, epoch INTEGER NOT NULL, generation INTEGER NOT NULL,
+        sealed_by TEXT NOT NULL, sealed_until REAL NOT NULL, position TEXT NOT NULL, program TEXT,
+        store TEXT NOT NULL) WITHOUT ROWID;
     CREATE TABLE IF NOT EXISTS origins (
         log TEXT, origin INTEGER, allotted INTEGER NOT NULL, writer TEXT NOT NULL, until REAL NOT NULL,
         PRIMARY KEY (log, origin)) WITHOUT ROWID;
@@ -74,6 +75,14 @@ _READ = """
 _LAST = """
     SELECT number, atoms, writer FROM entries
     WHERE log = :log AND origin = :origin ORDER BY number DESC LIMIT 1"""
+# twice as fast as a row after the other
+_ADD = "INSERT INTO entries SELECT :log, :origin, key, value, :writer FROM json_each(:rows)"
+# what keeps a link from appending, and the origin's greatest number
+_STAND = """
+    SELECT epoch, sealed_by, sealed_until,
+        (SELECT writer FROM origins WHERE log = :log AND origin = :origin),
+        coalesce((SELECT max(number) FROM entries WHERE log = :log AND origin = :origin), 0)
+    FROM logs WHERE log = :log"""
 _HOLD = """
     INSERT INTO origins VALUES (:log, :origin, :allotted, :writer, :until)
     ON CONFLICT DO UPDATE SET allotted = :allotted, writer = :writer, until = :until
@@ -82,6 +91,10 @@ _NAME = """
     INSERT INTO names
     SELECT :log, :number, :name, 1 + coalesce((SELECT max(place) FROM names WHERE log = :log), 0)
     WHERE true ON CONFLICT DO NOTHING"""
+_NEW = """
+    INSERT OR IGNORE INTO logs
+        (log, format, epoch, generation, sealed_by, sealed_until, position, program, store)
+    VALUES (?, ?, ?, 0, '', 0.0, '[]', NULL, 'true')"""
 _KEEP = """
     UPDATE logs SET epoch = :epoch, program = :program, generation = :generation, position = :position, store = :store
     WHERE log = :log AND generation = :generation - 1"""
@@ -134,14 +147,13 @@ class SqliteLink(Link):
         self._ask("UPDATE logs SET program = :program WHERE log = :log AND program IS NULL", program=text)
 
     def append(self, entries: Sequence[Entry], epoch: int = FIRST_EPOCH) -> None:
-        rows = [(self._log, *id, atoms, writer) for id, atoms, writer in entries]
+        rows = json.dumps({entry.id.number: entry.atoms for entry in entries})
+        last = (entries[-1].id.number, *entries[-1][1:])
 
         def add(engine: sqlite3.Connection) -> None:
-            self._check(engine, epoch)
-            last = self._rows(engine, _LAST, origin=self.origin)
-            if not last or last[0][0] < rows[0][2]:
-                engine.executemany("INSERT INTO entries VALUES (?, ?, ?, ?, ?)", rows)
-            elif last[0] != rows[-1][2:]:
+            if self._checked_end(engine, epoch) < entries[0].id.number:
+                self._rows(engine, _ADD, origin=self.origin, writer=self.writer, rows=rows)
+            elif self._rows(engine, _LAST, origin=self.origin) != [last]:
                 raise OriginShared(self.origin)
 
         self._write(add)
@@ -247,24 +259,22 @@ class SqliteLink(Link):
                 with _transaction(engine):
                     for table in _TABLES.split(";"):
                         engine.execute(table)
-                    new = (self._log, FORMAT, FIRST_EPOCH, None, 0, "[]", "true", "", 0.0)
-                    engine.execute("INSERT OR IGNORE INTO logs VALUES (?, ?, ?, ?, ?, ?, ?, ?, ?)", new)
+                    engine.execute(_NEW, (self._log, FORMAT, FIRST_EPOCH))
             except BaseException:
                 engine.close()
                 raise
         return engine
 
-    def _check(self, engine: sqlite3.Connection, epoch: int) -> None:
-        """Raises what keeps this link from appending."""
-        holder = "SELECT writer FROM origins WHERE log = :log AND origin = :origin"
-        if self._rows(engine, holder, origin=self.origin) != [(self.writer,)]:
+    def _checked_end(self, engine: sqlite3.Connection, epoch: int) -> int:
+        """The greatest number of the link's origin; raises what keeps it from appending."""
+        now, sealed_by, sealed_until, holder, end = self._rows(engine, _STAND, origin=self.origin)[0]
+        if holder != self.writer:
             raise OriginShared(self.origin)
-        query = "SELECT epoch, sealed_by, sealed_until FROM logs WHERE log = :log"
-        now, sealed_by, sealed_until = self._rows(engine, query)[0]
         if now != epoch:
             raise ProgramChanged
         if sealed_by != self.writer and sealed_until > time.time():
             raise Sealed
+        return int(end)
 
     def _entries(self, after: Position) -> list[Entry]:
         def read(engine: sqlite3.Connection) -> list[Entry]:
