@@ -1,5 +1,6 @@
 """A node: `chrrep serve` as a process of its own, asked line by line."""
 
+import logging
 import os
 import shutil
 import subprocess
@@ -50,6 +51,7 @@ _NO_REPLICA = 0
 _DELTA_VERSION = 1
 _GRACE = 5.0
 """Seconds that a program has to end after the end of its input."""
+_LOG = logging.getLogger("chrrep.node")
 
 
 def program_path(chrrep: str | os.PathLike[str] | None = None) -> str:
@@ -73,26 +75,39 @@ def run_program() -> NoReturn:
 
 
 def check(
-    program: ProgramText, chrrep: str | os.PathLike[str] | None = None, *, wide: bool = False
+    program: ProgramText,
+    chrrep: str | os.PathLike[str] | None = None,
+    *,
+    wide: bool = False,
+    timeout: float | None = None,
 ) -> Verdict:
     """The verdict on a program text; with `wide` by sorted cases alone, which decide more programs.
 
     Raises `TextFault`, `NotLowered`, `Overlap` or `TooManyTypes`, each with its case, where the program is refused,
-    and `NodeDied` where no verdict came.
+    and `NodeDied` where no verdict came, within `timeout` seconds if they are given.
     """
     text = text_bytes(program)
-    words = [program_path(chrrep), "check", *_options(wide)]
-    ended = subprocess.run(words, input=text, stdout=subprocess.PIPE, check=False)
+    ended = _run([program_path(chrrep), "check", *_options(wide)], text, timeout)
     answer = ended.stdout.decode()
     if ended.returncode not in (0, 1) or not answer.endswith("\n"):
         raise NodeDied("chrrep check gave no verdict", ended.returncode)
     return _judged(answer.removesuffix("\n"), text, chrrep)
 
 
-def explain(program: ProgramText, chrrep: str | os.PathLike[str] | None = None) -> str:
-    """Why a program text is refused and where, or why it is accepted, in sentences: what `chrrep explain` writes."""
-    words = [program_path(chrrep), "explain"]
-    return subprocess.run(words, input=text_bytes(program), stdout=subprocess.PIPE, check=False).stdout.decode()
+def explain(
+    program: ProgramText, chrrep: str | os.PathLike[str] | None = None, *, timeout: float | None = None
+) -> str:
+    """Why a program text is refused and where, or why it is accepted, in sentences: what `chrrep explain` writes.
+    `NodeDied` where it takes longer than `timeout` seconds."""
+    return _run([program_path(chrrep), "explain"], text_bytes(program), timeout).stdout.decode()
+
+
+def _run(words: list[str], text: bytes, timeout: float | None) -> subprocess.CompletedProcess[bytes]:
+    """What the program does with a text, in time."""
+    try:
+        return subprocess.run(words, input=text, stdout=subprocess.PIPE, check=False, timeout=timeout)
+    except subprocess.TimeoutExpired as late:
+        raise NodeDied(f"chrrep {words[1]} gave no answer within {timeout} seconds") from late
 
 
 def _judged(answer: str, text: bytes, chrrep: str | os.PathLike[str] | None) -> Verdict:
@@ -145,6 +160,7 @@ class Node:
         self._process = subprocess.Popen(words, stdin=subprocess.PIPE, stdout=subprocess.PIPE)
         # a node that is dropped ends its process too
         self._dropped = weakref.finalize(self, _end_process, self._process)
+        _LOG.debug("process %d of origin %d begins", self.pid, origin)
         try:
             self.verdict = _judged(self._exchange(text + end), text, chrrep)
         except BaseException as fault:
@@ -346,4 +362,4 @@ def _end_process(process: subprocess.Popen[bytes]) -> None:
         assert pipe
         with suppress(OSError):
             pipe.close()
-    _status(process)
+    _LOG.debug("process %d ended with status %d", process.pid, _status(process))

@@ -137,9 +137,34 @@ def found_in(store: str, symbol: str, *pattern: int | None) -> tuple[Atom, ...]:
 
 def changes_between(before: str, after: str) -> Change:
     """What came and went from one store's text to another's, each in the order of its text."""
-    old, new = (Counter(text.split(", ")) - Counter(["true"]) for text in (before, after))
+    old, new = (Counter(text.split(", ")) - Counter(["true", ""]) for text in _differing(before, after))
     came, went = (atoms_of(", ".join(more.elements()) or "true") for more in (new - old, old - new))
     return Change(came, went)
+
+
+def _differing(before: str, after: str) -> tuple[str, str]:
+    """Two stores' texts without the atoms at their ends that are equal. Most of a large store mostly is."""
+    start = _shared(len(before), len(after), lambda lo, hi: before[lo:hi] == after[lo:hi])
+    start = before.rfind(", ", 0, start) + 2 if ", " in before[:start] else 0
+    before, after = before[start:], after[start:]
+    ends = len(before), len(after)
+    same = _shared(*ends, lambda lo, hi: before[ends[0] - hi:ends[0] - lo] == after[ends[1] - hi:ends[1] - lo])
+    # an atom whose end alone is equal is another
+    cut = before.find(", ", ends[0] - same)
+    same = ends[0] - cut if cut >= 0 else 0
+    return before[:ends[0] - same], after[:ends[1] - same]
+
+
+def _shared(one: int, other: int, is_equal: Callable[[int, int], bool]) -> int:
+    """How far two texts of these lengths are equal, by halves."""
+    least, most = 0, min(one, other)
+    while least < most:
+        middle = (least + most + 1) // 2
+        if is_equal(least, middle):
+            least = middle
+        else:
+            most = middle - 1
+    return least
 
 
 def text_bytes(program: ProgramText) -> bytes:

@@ -16,8 +16,9 @@ HERE = Path(__file__).resolve().parent
 RUNS = ["test_texts", "test_commands", "test_runs", "test_model", "test_explanations", "test_verdicts", "test_lines"]
 READERS = ["test_documents"]
 HOSTILE = ["test_devices", "test_memory", "test_costs"]
-NODES = ["test_node", "test_names", "test_embedded", "test_lasting", "test_install", "test_launcher"]
-KINDS = {"node": [*RUNS, *READERS, *HOSTILE, *NODES], "engines": ["test_links"]}
+NODES = ["test_node", "test_names", "test_writing", "test_asynchronous"]
+LOGS = ["test_embedded", "test_lasting", "test_install", "test_launcher"]
+KINDS = {"node": [*RUNS, *READERS, *HOSTILE, *NODES, *LOGS], "engines": ["test_links"]}
 
 
 class Counted(unittest.TextTestResult):

@@ -21,7 +21,7 @@ from typing import Any
 from unittest.mock import patch
 
 import chrrep
-from chrrep import Atom, Id, Operation, atoms_of, store_text
+from chrrep import Atom, Change, Id, Operation, atoms_of, store_text
 from chrrep.link import (
     Diverged,
     Entry,
@@ -427,6 +427,63 @@ class Members(Links):
         tells.join()
         self.assertEqual(list(one.changes(0.1)), [((("path", 1, 2, 3), ("path", 3, 4, 5)), ())])
 
+    def test_a_thread_follows_and_calls_back(self) -> None:
+        one, other = self.member(PATHS), self.member()
+        one.tell(("path", 1, 2, 7))
+        came: queue.Queue[Change] = queue.Queue()
+        with other.following(came.put) as following:
+            self.assertEqual(came.get(timeout=SECONDS), ((("path", 1, 2, 7),), ()))
+            # calls from elsewhere go on meanwhile, and are followed too
+            other.tell(("path", "oslo", 2, 3))
+            self.assertEqual(came.get(timeout=SECONDS), ((("path", "oslo", 2, 3),), ()))
+            one.tell(("path", 1, 2, 5))
+            self.assertEqual(came.get(timeout=SECONDS), ((("path", 1, 2, 5),), (("path", 1, 2, 7),)))
+            self.assertTrue(following.is_alive)
+            self.assertIn("alive", repr(following))
+        self.assertFalse(following.is_alive)
+        following.stop()
+        self.assertTrue(came.empty())
+
+    def test_what_ends_a_thread_that_follows(self) -> None:
+        member = self.member(PATHS)
+        member.tell(("path", 1, 2, 7))
+
+        def fail(change: Change) -> None:
+            raise ZeroDivisionError(change.came)
+
+        with self.assertLogs("chrrep.link", "ERROR") as logged:
+            with self.assertRaises(ZeroDivisionError), member.following(fail) as following:
+                following._thread.join(SECONDS)
+        self.assertIn("ZeroDivisionError", logged.output[0])
+        with self.assertRaises(KeyError), member.following(lambda change: None) as following:
+            raise KeyError
+        self.assertFalse(following.is_alive)
+
+    def test_a_node_that_does_not_answer(self) -> None:
+        member = self.stack.enter_context(Member(self.link(), PATHS, timeout=1.0))
+        member.tell(("path", 1, 2, 7))
+        os.kill(member.pid, signal.SIGSTOP)
+        with self.assertRaisesRegex(chrrep.NodeDied, "no answer within 1.0 seconds"):
+            member.show()
+        self.assertEqual(self.member().show(), (("path", 1, 2, 7),))
+
+    def test_what_members_do_is_logged(self) -> None:
+        one, two = self.member(MARKED), self.member()
+        two.tell(("mark", 1))
+        with self.assertLogs("chrrep", "INFO") as logged:
+            one.snapshot()
+            two.tell(("mark", 2))
+            two.snapshot()
+            one.upgrade(PATHS + MARKED.partition("true.")[2] + "% other")
+            two.rejoin()
+        self.assertEqual(len([line for line in logged.output if "snapshot 1 of the log was taken" in line]), 1)
+        self.assertEqual(len([line for line in logged.output if "the log went over to another program" in line]), 2)
+
+    def test_members_and_links_say_what_they_are(self) -> None:
+        member = self.member(PATHS, 3)
+        self.assertRegex(repr(member.link), "<chrrep.link.[A-Z][A-Za-z]+Link of origin 3>")
+        self.assertRegex(repr(member), f"<chrrep.link.Member of origin 3: .*process {member.pid}, rules 1>")
+
     def test_what_is_refused_is_not_appended(self) -> None:
         member = self.member(PLAIN)
         member.tell(("a", 1))
@@ -436,6 +493,10 @@ class Members(Links):
             (chrrep.Shape, []),
             (chrrep.Shape, [("a", 1)] * 65),
             (chrrep.Shape, [("a", True)]),
+            (chrrep.Shape, [("a", 2**63)]),
+            (chrrep.Shape, [("a", [1])]),
+            (chrrep.Shape, ["a1"]),
+            (chrrep.Shape, [()]),
             (chrrep.BadLine, [("a", float("nan"))]),
             (TypeError, [("a", object())]),
         ]

@@ -17,7 +17,7 @@ from pathlib import Path
 from typing import Any
 
 import chrrep
-from chrrep import Id, Node, NodeDied, Operation, check, pieces, store_text
+from chrrep import Id, Node, NodeDied, Operation, check, explain, pieces, store_text
 from chrrep.texts import LINE_LIMIT
 from programs import COINS, PATHS, PLAIN, store_of
 
@@ -475,6 +475,24 @@ class Stand(unittest.TestCase):
         for script in ("exit 4", "exit 0", "printf accepted:; exit 3"):
             with self.subTest(script), self.assertRaises(NodeDied):
                 check(PLAIN, chrrep=self.program(script))
+
+    def test_a_verdict_that_takes_too_long(self) -> None:
+        late = self.program("exec sleep 60")
+        calls: list[Callable[[], object]] = [
+            lambda: check(PLAIN, chrrep=late, timeout=0.2),
+            lambda: explain(PLAIN, chrrep=late, timeout=0.2),
+            lambda: Node(PLAIN, 1, chrrep=late, timeout=0.2),
+        ]
+        for call in calls:
+            with self.assertRaisesRegex(NodeDied, "no answer within 0.2 seconds"):
+                call()
+        self.assertEqual(check(PLAIN, timeout=SECONDS).rules, 0)
+
+    def test_what_becomes_of_a_process_is_logged(self) -> None:
+        with self.assertLogs("chrrep", "DEBUG") as logged, Node(PLAIN, 7) as node:
+            pid = node.pid
+        begins, ended = f"process {pid} of origin 7 begins", f"process {pid} ended with status 0"
+        self.assertEqual(logged.output, [f"DEBUG:chrrep.node:{said}" for said in (begins, ended)])
 
     def test_no_program(self) -> None:
         with self.assertRaises(FileNotFoundError):

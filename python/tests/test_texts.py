@@ -1,6 +1,8 @@
 """What answers mean, and how texts are sent."""
 
+import random
 import unittest
+from collections import Counter
 from pathlib import Path
 from tempfile import TemporaryDirectory
 from typing import Any
@@ -71,6 +73,15 @@ class Texts(unittest.TestCase):
         for before, after, came, went in rows:
             with self.subTest(before=before, after=after):
                 self.assertEqual(tuple(map(store_text, changes_between(before, after))), (came, went))
+
+    def test_changes_are_what_one_store_has_beyond_the_other(self) -> None:
+        chance = random.Random(3)
+        atoms: list[Atom] = [("a",), ("aa",), ("a", 1), ("a", 11), ("b", -1), ("b", 21), ("ba",)]
+        for _ in range(2000):
+            before, after = (sorted(chance.choices(atoms, k=chance.randrange(6)), key=str) for _ in range(2))
+            change = changes_between(store_text(before), store_text(after))
+            self.assertEqual(Counter(change.came), Counter(after) - Counter(before))
+            self.assertEqual(Counter(change.went), Counter(before) - Counter(after))
 
     def test_programs_in_files(self) -> None:
         with TemporaryDirectory() as room:

@@ -21,12 +21,14 @@ from .faults import (
     OtherProgram,
     ProgramChanged,
 )
+from .following import Following, Watch
 from .log import Entry, Link, Mark, Position, Program, Reading, SetAside, State, connect
 from .member import Member, join
 
 __all__ = [
     "Diverged",
     "Entry",
+    "Following",
     "Link",
     "LinkLost",
     "LogUnusable",
@@ -42,6 +44,7 @@ __all__ = [
     "Reading",
     "SetAside",
     "State",
+    "Watch",
     "connect",
     "join",
 ]

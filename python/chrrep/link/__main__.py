@@ -16,7 +16,7 @@ from typing import TypeVar
 from .. import Atom, Refused, RefusedProgram
 from ..names import NameClash, named_atoms_of
 from .faults import ProgramChanged
-from .log import LOG_NAME, PATIENCE
+from .log import LOG_NAME, PATIENCE, one_line
 from .member import BATCH, SNAPSHOT_AFTER, Member, join
 from .sqlite import PREFIX
 
@@ -39,7 +39,7 @@ def main(words: list[str] | None = None) -> int:
         print(f"chrrep.link: the program is refused: {refusal}", file=sys.stderr)
         return REFUSED
     except Exception as fault:  # those of the engine's client too
-        print(f"chrrep.link: {type(fault).__name__}: {fault}", file=sys.stderr)
+        print(f"chrrep.link: {type(fault).__name__}: {one_line(fault)}", file=sys.stderr)
         return FAULT
     return ACCEPTED
 

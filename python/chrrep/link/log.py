@@ -6,6 +6,7 @@ them. Those that a snapshot stands for are removed, but for the last of each ori
 
 import itertools
 import json
+import logging
 import secrets
 import threading
 import time
@@ -40,6 +41,7 @@ LEASE_SECONDS = 10.0
 SEAL_SECONDS = 20.0
 """How long a log is sealed while its program is changed; less than the patience of links."""
 
+_LOG = logging.getLogger("chrrep.link")
 _HEARTBEAT = LEASE_SECONDS / 4
 _FIRST_PAUSE = 0.05
 _LONGEST_PAUSE = 1.0
@@ -121,6 +123,11 @@ def position_text(position: Position) -> str:
 def position_of(kept: str) -> dict[int, int]:
     """The position that a log keeps."""
     return {origin: number for origin, number in json.loads(kept)}
+
+
+def one_line(fault: BaseException) -> str:
+    """What a fault says, as one sentence on one line."""
+    return " ".join(str(fault).split()) or type(fault).__name__
 
 
 def has_more(one: Position, other: Position) -> bool:
@@ -294,7 +301,8 @@ class Link(ABC):
                 return call()
             except again as error:
                 if time.monotonic() + pause > end or self._closing.is_set():
-                    raise LinkLost(f"the engine doesn't answer: {str(error).strip()}") from error
+                    raise LinkLost(f"the engine doesn't answer: {one_line(error)}") from error
+                _LOG.info("the engine doesn't answer, and is asked again in %g seconds: %s", pause, one_line(error))
             self._closing.wait(pause)
             pause = min(2 * pause, _LONGEST_PAUSE)
 

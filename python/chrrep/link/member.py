@@ -3,8 +3,7 @@
 import logging
 import os
 import threading
-import time
-from collections.abc import Iterable, Iterator
+from collections.abc import Callable, Iterable, Iterator
 from contextlib import contextmanager
 from itertools import count, repeat
 from types import TracebackType
@@ -24,6 +23,7 @@ from ..texts import (
     program_bytes,
 )
 from .faults import Diverged, LinkLost, NoProgram, OriginShared, OtherProgram, ProgramChanged
+from .following import Following, Watch
 from .log import (
     LOG_NAME,
     PATIENCE,
@@ -36,7 +36,7 @@ from .log import (
     connect,
     has_more,
 )
-from .replica import Replica
+from .replica import Replica, Running
 
 SNAPSHOT_AFTER = 100_000
 """Told atoms after which a snapshot is taken."""
@@ -44,7 +44,6 @@ SNAPSHOT_AFTER = 100_000
 BATCH = 1000
 """Operations that are appended at once, at most."""
 
-_LOOK_SECONDS = 1.0
 _LOG = logging.getLogger("chrrep.link")
 
 
@@ -52,8 +51,8 @@ class Member:
     """A node, and its link to the log that it shares with other nodes of one program.
 
     `program` is what a `Node` takes; left out, it is the log's. The first member gives the log its program, judged by
-    sorted cases with `wide`; one that brings another text is `OtherProgram`. `chrrep` names the program to run, as for
-    a `Node`.
+    sorted cases with `wide`; one that brings another text is `OtherProgram`. `chrrep` names the program to run, and
+    `timeout` is how long the node may take to answer, as for a `Node`; how long the engine may is the link's.
 
     An operation is appended to the log before the node is told it. So what was told is in the log; a member that comes
     back begins with the log's snapshot, reads what came after it, and goes on with the number after its greatest. After
@@ -68,6 +67,7 @@ class Member:
         *,
         wide: bool | None = None,
         chrrep: str | os.PathLike[str] | None = None,
+        timeout: float | None = None,
         snapshot_after: int = SNAPSHOT_AFTER,
     ) -> None:
         self.link = link
@@ -79,8 +79,8 @@ class Member:
         self._refused = 0
         self._unkept: list[SetAside] = []
         self._names = Names()
-        self._chrrep = chrrep
-        self._replica, state = _joined(link, program, wide, chrrep)
+        self._running = Running(chrrep, timeout)
+        self._replica, state = _joined(link, program, wide, self._running)
         self._epoch, self._generation = state.epoch, state.generation
         try:
             self.catch_up()
@@ -190,18 +190,19 @@ class Member:
 
         It ends where nothing has changed for so many seconds; left out, never.
         """
-        before = "true"
-        end = time.monotonic() + (wait or 0.0)
-        while True:
-            after = self._show()
-            if after != before:
-                yield Change(*map(self._names.named, changes_between(before, after)))
-                before, end = after, time.monotonic() + (wait or 0.0)
-                continue
-            left = _LOOK_SECONDS if wait is None else end - time.monotonic()
-            if left <= 0:
-                return
-            self.follow(min(left, _LOOK_SECONDS))
+        return Watch(self).changes(wait)
+
+    def following(self, call: Callable[[Change], object]) -> Following:
+        """A thread that follows the log, and calls with each change of the store, at first with all that is there.
+        It ends with a `with`, or by `stop`."""
+        return Following(self, call)
+
+    def change_from(self, before: str) -> tuple[Change, str]:
+        """What came and went since the store had this text, and the text that it has now; numbers for names there."""
+        after = self._show()
+        if after == before:
+            return Change((), ()), after
+        return Change(*map(self._names.named, changes_between(before, after))), after
 
     def snapshot(self) -> bool:
         """Takes a snapshot of all that is in the log by now, and says whether the log has it.
@@ -224,6 +225,7 @@ class Member:
             is_kept = self.link.keep(state)
             if is_kept:
                 self._generation = state.generation
+                _LOG.info("snapshot %d of the log was taken", state.generation)
             return is_kept
 
     def upgrade(self, program: ProgramText, *, wide: bool = False) -> None:
@@ -232,7 +234,7 @@ class Member:
         Others wait until that is done, and are told `ProgramChanged` then; this member goes on. Nothing has changed
         where the program is refused, or lacks a symbol of the store (`UnknownSymbol`).
         """
-        new = Replica(Program(program_bytes(program), wide), self._chrrep)
+        new = Replica(Program(program_bytes(program), wide), self._running)
         is_sealed = False
         try:
             with self._lock:
@@ -251,12 +253,13 @@ class Member:
         with self._lock:
             if self.link.mark().epoch == self._epoch:
                 return False
-            replica, state = _joined(self.link, None, None, self._chrrep)
+            replica, state = _joined(self.link, None, None, self._running)
             self._replica.close()
             self._replica, self._epoch, self._generation = replica, state.epoch, state.generation
             self._told_since = 0
             self._is_sure = False
             self.catch_up()
+            _LOG.info("the log went over to another program, of epoch %d", state.epoch)
             return True
 
     def close(self) -> None:
@@ -401,6 +404,7 @@ class Member:
             self._is_sure = False
             self._replica.begin(state.position, state.store)
             self._generation = state.generation
+            _LOG.info("the node goes on from snapshot %d of the log", state.generation)
         else:
             self._generation = mark.generation
             if mark.position == self._replica.position:
@@ -422,18 +426,19 @@ def join(
     log: str = LOG_NAME,
     patience: float = PATIENCE,
     wide: bool | None = None,
+    timeout: float | None = None,
     snapshot_after: int = SNAPSHOT_AFTER,
 ) -> Iterator[Member]:
     """A member of the log in the engine that the address names, as `connect` and `Member` say; all is closed after."""
     with (
         connect(url, origin, log=log, patience=patience) as link,
-        Member(link, program, wide=wide, snapshot_after=snapshot_after) as member,
+        Member(link, program, wide=wide, timeout=timeout, snapshot_after=snapshot_after) as member,
     ):
         yield member
 
 
 def _joined(
-    link: Link, program: ProgramText | None, wide: bool | None, chrrep: str | os.PathLike[str] | None
+    link: Link, program: ProgramText | None, wide: bool | None, running: Running
 ) -> tuple[Replica, State]:
     """A node of the log's program, which is the one brought where the log has none, and what the log and the node go on
     from."""
@@ -445,14 +450,14 @@ def _joined(
             if text is None:
                 raise NoProgram
             # what is refused is no log's program
-            replica = Replica(Program(text, bool(wide)), chrrep)
+            replica = Replica(Program(text, bool(wide)), running)
             link.begin(replica.program)
             state = link.state()
         assert state.program
         if text is not None and text != state.program.text or wide is not None and wide != state.program.is_wide:
             raise OtherProgram(state.program.text if text is None else text, state.program.text)
         if replica is None or replica.program != state.program:
-            other, replica = replica, Replica(state.program, chrrep)
+            other, replica = replica, Replica(state.program, running)
             if other:
                 other.close()
         if state.position:

@@ -33,6 +33,7 @@ from .log import (
     entries_of,
     has_more,
     known_format,
+    one_line,
     position_of,
     position_text,
     program_of,
@@ -349,7 +350,7 @@ class PostgresLink(Link):
         except errors.UniqueViolation:
             raise
         except psycopg2.Error as fault:
-            raise LogUnusable(f"the log in PostgreSQL can't be used: {str(fault).strip()}") from fault
+            raise LogUnusable(f"the log in PostgreSQL can't be used: {one_line(fault)}") from fault
         except LinkLost as lost:
             if isinstance(lost.__cause__, _Held):
                 raise OriginShared(self.origin) from lost

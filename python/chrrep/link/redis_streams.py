@@ -30,6 +30,7 @@ from .log import (
     SetAside,
     State,
     known_format,
+    one_line,
     position_of,
     position_text,
     program_of,
@@ -267,7 +268,7 @@ class RedisLink(Link):
         try:
             return self._patiently(call, _LOST)
         except redis.exceptions.RedisError as fault:
-            raise LogUnusable(f"the log {self._log!r} in Redis can't be used: {fault}") from fault
+            raise LogUnusable(f"the log {self._log!r} in Redis can't be used: {one_line(fault)}") from fault
 
     def _fields(self, *names: str) -> list[str]:
         found = self._ask(lambda: self._engine.hmget(self._key("state"), names))

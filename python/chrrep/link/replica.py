@@ -1,6 +1,7 @@
 """A node's process that goes on from a store, and is renewed before it is full."""
 
 import json
+import logging
 import os
 from collections.abc import Iterable, Iterator, Sequence
 from typing import NamedTuple
@@ -17,6 +18,7 @@ ROOM_FOR_OTHERS = 100_000
 OWED_ATOMS = 2_000
 """Atoms that were told and that the node has yet to be given, at most: it is given many at once."""
 
+_LOG = logging.getLogger("chrrep.link")
 _STORE_ORIGIN = LAST_ORIGIN + 1
 
 
@@ -28,6 +30,13 @@ class Taken(NamedTuple):
     refused: list[SetAside]
 
 
+class Running(NamedTuple):
+    """Which program is run as nodes, and how long these may take to answer."""
+
+    chrrep: str | os.PathLike[str] | None = None
+    timeout: float | None = None
+
+
 class Replica:
     """The store of all operations up to a position, by a node of its own.
 
@@ -35,7 +44,7 @@ class Replica:
     another one goes on from its store at rest: resting parts of a store and merging them gives the store of the whole.
     """
 
-    def __init__(self, program: Program, chrrep: str | os.PathLike[str] | None = None) -> None:
+    def __init__(self, program: Program, running: Running = Running()) -> None:
         self.program = program
         self.position: dict[int, int] = {}
         self.told = 0
@@ -43,7 +52,7 @@ class Replica:
         self._owed: list[Entry] = []
         self._owed_atoms = 0
         self._begun_with = 0
-        self._chrrep = chrrep
+        self._running = running
         self.node = self._new_node()
 
     def begin(self, position: Position, store: str) -> None:
@@ -113,7 +122,8 @@ class Replica:
         self.node.close()
 
     def _new_node(self) -> Node:
-        return Node(self.program.text, _STORE_ORIGIN, chrrep=self._chrrep, wide=self.program.is_wide)
+        chrrep, timeout = self._running
+        return Node(self.program.text, _STORE_ORIGIN, chrrep=chrrep, wide=self.program.is_wide, timeout=timeout)
 
     def _beyond(self, entries: Iterable[Entry]) -> list[Entry]:
         """Those beyond the position, each once, by their ids."""
@@ -151,6 +161,7 @@ class Replica:
         """Renews the node where so many atoms more would pass the limit. `Full` where its store alone is so large."""
         if self.told + atoms > limit and self.told > self._begun_with:
             self._go_on_from(self.node.show_text())
+            _LOG.info("a node that was nearly full was renewed: %d atoms are told", self.told)
         if self.told + atoms > limit:
             raise Full(f"the store at rest has {self.told} atoms, and {atoms} more would pass {limit}")
 

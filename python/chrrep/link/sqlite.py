@@ -30,6 +30,7 @@ from .log import (
     entries_of,
     has_more,
     known_format,
+    one_line,
     position_of,
     position_text,
     program_of,
@@ -335,7 +336,7 @@ class SqliteLink(Link):
             kind = getattr(fault, "sqlite_errorname", "")
             if kind.startswith(("SQLITE_BUSY", "SQLITE_LOCKED")) or self._closing.is_set():
                 raise _Away(str(fault)) from fault
-            raise LogUnusable(f"the log in {self.path} can't be used: {fault}") from fault
+            raise LogUnusable(f"the log in {self.path} can't be used: {one_line(fault)}") from fault
 
 
 @contextmanager

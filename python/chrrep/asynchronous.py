@@ -1,0 +1,274 @@
+"""Twins of `Node` and `Member` for asyncio: the same calls, awaited.
+
+    from chrrep.asynchronous import join
+    async with join("sqlite:///routes.sqlite", program) as member:
+        await member.tell(("path", "berlin", "paris", 1050))
+        async for came, went in member.changes():
+            ...
+
+Each twin has its calls made in a thread of its own, one after the other, and waits for the log in another one. A call
+whose `await` is cancelled goes on there to its end: what it was telling may be told.
+"""
+
+import asyncio
+import os
+from collections.abc import AsyncIterator, Callable, Iterable
+from concurrent.futures import Future, ThreadPoolExecutor
+from contextlib import asynccontextmanager
+from functools import partial
+from types import TracebackType
+from typing import ParamSpec, Self, TypeVar
+
+from .link.following import LOOK_SECONDS, Watch
+from .link.log import LOG_NAME, PATIENCE, Link, connect
+from .link.member import SNAPSHOT_AFTER, Member
+from .node import Node
+from .texts import Atom, Change, Id, Operation, ProgramText, Summary, Verdict
+
+__all__ = ["AsyncMember", "AsyncNode", "join"]
+
+P = ParamSpec("P")
+T = TypeVar("T")
+
+
+class Caller:
+    """A thread that makes calls, one after the other."""
+
+    def __init__(self, name: str) -> None:
+        self._thread = ThreadPoolExecutor(1, name)
+
+    async def call(self, function: Callable[P, T], *args: P.args, **kwargs: P.kwargs) -> T:
+        """The result of the call."""
+        return await asyncio.get_running_loop().run_in_executor(self._thread, partial(function, *args, **kwargs))
+
+    async def make(self, function: Callable[[], T], undo: Callable[[T], object]) -> T:
+        """The same for what is to be undone where nobody waits for it any more."""
+        made = self._thread.submit(function)
+        try:
+            return await asyncio.wrap_future(made)
+        except asyncio.CancelledError:
+            made.add_done_callback(partial(_undo, undo))
+            raise
+
+    def end(self) -> None:
+        """Takes no more calls, and doesn't wait for those that were cancelled."""
+        self._thread.shutdown(wait=False, cancel_futures=True)
+
+
+def _undo(undo: Callable[[T], object], made: "Future[T]") -> None:
+    if not made.cancelled() and not made.exception():
+        undo(made.result())
+
+
+class AsyncNode:
+    """A `Node`, whose process begins with `async with` or `start`, and ends with the `async with` or `close`."""
+
+    def __init__(
+        self,
+        program: ProgramText,
+        origin: int,
+        *,
+        chrrep: str | os.PathLike[str] | None = None,
+        wide: bool = False,
+        timeout: float | None = None,
+    ) -> None:
+        self._make = partial(Node, program, origin, chrrep=chrrep, wide=wide, timeout=timeout)
+        self._made: Node | None = None
+        self._caller = Caller("chrrep node")
+
+    async def start(self) -> Self:
+        """Begins the process. Raises what `Node` raises."""
+        made: Node = await self._caller.make(self._make, Node.close)
+        self._made = made
+        return self
+
+    @property
+    def node(self) -> Node:
+        """The node itself, once it has begun."""
+        if self._made is None:
+            raise RuntimeError("the node has not begun: await its start, or enter it by async with")
+        return self._made
+
+    @property
+    def origin(self) -> int:
+        """The node's own origin."""
+        return self.node.origin
+
+    @property
+    def pid(self) -> int:
+        """The id of the node's process."""
+        return self.node.pid
+
+    @property
+    def verdict(self) -> Verdict:
+        """What was said of the program."""
+        return self.node.verdict
+
+    async def tell(self, *atoms: Atom) -> Id:
+        """As `Node.tell`."""
+        return await self._caller.call(self.node.tell, *atoms)
+
+    async def tell_many(self, tells: Iterable[Iterable[Atom]]) -> list[Id]:
+        """As `Node.tell_many`."""
+        return await self._caller.call(self.node.tell_many, tells)
+
+    async def admit(self, *atoms: Atom) -> None:
+        """As `Node.admit`."""
+        await self._caller.call(self.node.admit, *atoms)
+
+    async def show(self, symbol: str | None = None, *pattern: int | None) -> tuple[Atom, ...]:
+        """As `Node.show`."""
+        return await self._caller.call(self.node.show, symbol, *pattern)
+
+    async def show_text(self) -> str:
+        """As `Node.show_text`."""
+        return await self._caller.call(self.node.show_text)
+
+    async def count(self, symbol: str, *pattern: int | None) -> int:
+        """As `Node.count`."""
+        return await self._caller.call(self.node.count, symbol, *pattern)
+
+    async def summary(self) -> Summary:
+        """As `Node.summary`."""
+        return await self._caller.call(self.node.summary)
+
+    async def lacks(self, summary: Summary) -> tuple[Operation, ...]:
+        """As `Node.lacks`."""
+        return await self._caller.call(self.node.lacks, summary)
+
+    async def merge(self, delta: Iterable[Operation]) -> int:
+        """As `Node.merge`."""
+        return await self._caller.call(self.node.merge, delta)
+
+    async def close(self) -> None:
+        """As `Node.close`."""
+        if self._made:
+            await self._caller.call(self._made.close)
+        self._caller.end()
+
+    def __repr__(self) -> str:
+        return f"<chrrep.asynchronous.AsyncNode: {self._made!r}>"
+
+    async def __aenter__(self) -> Self:
+        return await self.start()
+
+    async def __aexit__(
+        self, kind: type[BaseException] | None, error: BaseException | None, trace: TracebackType | None
+    ) -> None:
+        await self.close()
+
+
+class AsyncMember:
+    """A `Member`, which `join` makes."""
+
+    def __init__(self, member: Member, caller: Caller) -> None:
+        self.member = member
+        self._caller = caller
+        self._waits = Caller("chrrep waits")
+
+    @property
+    def link(self) -> Link:
+        """The member's link to the log."""
+        return self.member.link
+
+    @property
+    def origin(self) -> int:
+        """The origin of the operations that this member tells."""
+        return self.member.origin
+
+    @property
+    def verdict(self) -> Verdict:
+        """What was said of the program."""
+        return self.member.verdict
+
+    @property
+    def refused(self) -> int:
+        """As `Member.refused`."""
+        return self.member.refused
+
+    async def tell(self, *atoms: Atom) -> Id:
+        """As `Member.tell`."""
+        return await self._caller.call(self.member.tell, *atoms)
+
+    async def tell_many(self, tells: Iterable[Iterable[Atom]]) -> list[Id]:
+        """As `Member.tell_many`."""
+        return await self._caller.call(self.member.tell_many, tells)
+
+    async def follow(self, wait: float = 0.0) -> int:
+        """As `Member.follow`."""
+        return await self._waits.call(self.member.follow, wait)
+
+    async def catch_up(self) -> int:
+        """As `Member.catch_up`."""
+        return await self._caller.call(self.member.catch_up)
+
+    async def show(self, symbol: str | None = None, *pattern: str | int | None) -> tuple[Atom, ...]:
+        """As `Member.show`."""
+        return await self._caller.call(self.member.show, symbol, *pattern)
+
+    async def show_text(self) -> str:
+        """As `Member.show_text`."""
+        return await self._caller.call(self.member.show_text)
+
+    async def count(self, symbol: str, *pattern: str | int | None) -> int:
+        """As `Member.count`."""
+        return await self._caller.call(self.member.count, symbol, *pattern)
+
+    async def changes(self, wait: float | None = None) -> AsyncIterator[Change]:
+        """As `Member.changes`."""
+        watch = Watch(self.member)
+        while True:
+            change = await self._waits.call(watch.look, LOOK_SECONDS if wait is None else wait)
+            if change:
+                yield change
+            elif wait is not None:
+                return
+
+    async def snapshot(self) -> bool:
+        """As `Member.snapshot`."""
+        return await self._caller.call(self.member.snapshot)
+
+    async def upgrade(self, program: ProgramText, *, wide: bool = False) -> None:
+        """As `Member.upgrade`."""
+        await self._caller.call(self.member.upgrade, program, wide=wide)
+
+    async def rejoin(self) -> bool:
+        """As `Member.rejoin`."""
+        return await self._caller.call(self.member.rejoin)
+
+    async def close(self) -> None:
+        """Ends the node, as `Member.close`."""
+        await self._caller.call(self.member.close)
+        self._waits.end()
+
+    def __repr__(self) -> str:
+        return f"<chrrep.asynchronous.AsyncMember: {self.member!r}>"
+
+
+@asynccontextmanager
+async def join(
+    url: str,
+    program: ProgramText | None = None,
+    *,
+    origin: int | None = None,
+    log: str = LOG_NAME,
+    patience: float = PATIENCE,
+    wide: bool | None = None,
+    timeout: float | None = None,
+    snapshot_after: int = SNAPSHOT_AFTER,
+) -> AsyncIterator[AsyncMember]:
+    """A member of the log in the engine that the address names, as `chrrep.link.join`; all is closed after."""
+    caller = Caller("chrrep member")
+    try:
+        link = await caller.make(partial(connect, url, origin, log=log, patience=patience), Link.close)
+        try:
+            make = partial(Member, link, program, wide=wide, timeout=timeout, snapshot_after=snapshot_after)
+            member = AsyncMember(await caller.make(make, Member.close), caller)
+            try:
+                yield member
+            finally:
+                await member.close()
+        finally:
+            await caller.call(link.close)
+    finally:
+        caller.end()
