@@ -25,6 +25,7 @@ from chrrep import Atom, Change, Id, Operation, atoms_of, store_text
 from chrrep.link import (
     Diverged,
     Entry,
+    Heard,
     Link,
     LinkLost,
     Mark,
@@ -162,13 +163,16 @@ class Jumbled(Link):
     def refused(self) -> list[SetAside]:
         return self.link.refused()
 
+    def members(self) -> list[Heard]:
+        return self.link.members()
+
     def _origins(self) -> dict[int, bool]:
         raise NotImplementedError
 
     def _hold(self, origin: int, is_allotted: bool) -> bool:
         raise NotImplementedError
 
-    def _beat(self) -> None:
+    def _beat(self, position: str) -> None:
         raise NotImplementedError
 
     def _let_go(self) -> None:
@@ -426,6 +430,26 @@ class Members(Links):
         self.assertEqual(next(changes), ((("path", 1, 2, 3),), (("path", 1, 2, 7),)))
         tells.join()
         self.assertEqual(list(one.changes(0.1)), [((("path", 1, 2, 3), ("path", 3, 4, 5)), ())])
+
+    def test_members_tell_how_far_they_have_read(self) -> None:
+        with patch("chrrep.link.log._REPORT_SECONDS", 0.05):
+            one, other = self.member(MARKED, 1), self.member(None, 7)
+            one.tell_many([[("mark", value)] for value in range(5)])
+            wanted = {1: {1: 5}, 7: {}}
+            self.wait_for(lambda: {heard.origin: heard.position for heard in other.link.members()} == wanted)
+            other.follow()
+            wanted[7] = {1: 5}
+            self.wait_for(lambda: {heard.origin: heard.position for heard in one.link.members()} == wanted)
+            self.assertTrue(all(0.0 <= heard.seconds < SECONDS for heard in one.link.members()))
+            other.link.close()
+            self.assertEqual([heard.origin for heard in one.link.members()], [1])
+
+    def wait_for(self, holds: Callable[[], bool]) -> None:
+        """Waits until it holds."""
+        end = time.monotonic() + SECONDS
+        while not holds():
+            self.assertLess(time.monotonic(), end)
+            time.sleep(0.02)
 
     def test_a_thread_follows_and_calls_back(self) -> None:
         one, other = self.member(PATHS), self.member()

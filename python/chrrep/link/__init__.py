@@ -22,13 +22,14 @@ from .faults import (
     ProgramChanged,
 )
 from .following import Following, Watch
-from .log import Entry, Link, Mark, Position, Program, Reading, SetAside, State, connect
+from .log import Entry, Heard, Link, Mark, Position, Program, Reading, SetAside, State, connect
 from .member import Member, join
 
 __all__ = [
     "Diverged",
     "Entry",
     "Following",
+    "Heard",
     "Link",
     "LinkLost",
     "LogUnusable",

@@ -9,13 +9,12 @@ import argparse
 import os
 import sys
 import threading
-from collections.abc import Callable, Iterator
+from collections.abc import Iterator
+from functools import partial
 from pathlib import Path
-from typing import TypeVar
 
 from .. import Atom, Refused, RefusedProgram
 from ..names import NameClash, named_atoms_of
-from .faults import ProgramChanged
 from .log import LOG_NAME, PATIENCE, one_line
 from .member import BATCH, SNAPSHOT_AFTER, Member, join
 from .sqlite import PREFIX
@@ -24,8 +23,6 @@ ACCEPTED, REFUSED, FAULT, INTERRUPTED = 0, 1, 3, 130
 _STANDARD_INPUT = 0
 _CHUNK = 65_536
 _LOOK_SECONDS = 0.2
-
-T = TypeVar("T")
 
 
 def main(words: list[str] | None = None) -> int:
@@ -79,6 +76,7 @@ def _run(settings: argparse.Namespace) -> None:
             member.upgrade(settings.upgrade, wide=settings.wide)
             _say(f"upgraded: rules {member.verdict.rules}, cases {member.verdict.cases}")
         else:
+            member.when_rejoined = partial(_say_program, member)
             _converse(member)
 
 
@@ -105,7 +103,7 @@ def _converse(member: Member) -> None:
 
     threading.Thread(target=answer_all, daemon=True).start()
     while not over.is_set():
-        _going_over(member, lambda: member.follow(_LOOK_SECONDS))
+        member.going_over(lambda: member.follow(_LOOK_SECONDS))
     if failures:
         raise failures[0]
 
@@ -116,7 +114,7 @@ def _answer(member: Member, lines: list[str]) -> None:
     for line in filter(None, map(str.strip, lines)):
         if line == "?":
             _tell(member, tells)
-            _say(_going_over(member, member.show_text))
+            _say(member.going_over(member.show_text))
             continue
         try:
             tells.append(named_atoms_of(line))
@@ -131,7 +129,7 @@ def _tell(member: Member, tells: list[tuple[Atom, ...]]) -> None:
     for at in range(0, len(tells), BATCH):
         batch = tells[at:at + BATCH]
         try:
-            ids = _going_over(member, lambda batch=batch: member.tell_many(batch))  # type: ignore[misc]
+            ids = member.going_over(partial(member.tell_many, batch))
         except (Refused, NameClash):
             for atoms in batch:
                 _tell_one(member, atoms)
@@ -142,23 +140,16 @@ def _tell(member: Member, tells: list[tuple[Atom, ...]]) -> None:
 
 def _tell_one(member: Member, atoms: tuple[Atom, ...]) -> None:
     try:
-        id = _going_over(member, lambda: member.tell(*atoms))
+        id = member.going_over(partial(member.tell, *atoms))
     except (Refused, NameClash) as refusal:
         _say(f"refused: {refusal}")
     else:
         _say(f"told {id.origin}:{id.number}")
 
 
-def _going_over(member: Member, call: Callable[[], T]) -> T:
-    """The call's result, once the member goes on with the log's program."""
-    while True:
-        try:
-            return call()
-        except ProgramChanged:
-            # another thread may have been faster
-            if member.rejoin():
-                program = f"rules {member.verdict.rules}, cases {member.verdict.cases}"
-                print(f"chrrep.link: the log went over to another program: {program}", file=sys.stderr)
+def _say_program(member: Member) -> None:
+    program = f"rules {member.verdict.rules}, cases {member.verdict.cases}"
+    print(f"chrrep.link: the log went over to another program: {program}", file=sys.stderr)
 
 
 def _say(answer: str) -> None:

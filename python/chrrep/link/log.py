@@ -43,6 +43,7 @@ SEAL_SECONDS = 20.0
 
 _LOG = logging.getLogger("chrrep.link")
 _HEARTBEAT = LEASE_SECONDS / 4
+_REPORT_SECONDS = 1.0
 _FIRST_PAUSE = 0.05
 _LONGEST_PAUSE = 1.0
 
@@ -88,6 +89,14 @@ class Reading(NamedTuple):
 
     entries: list[Entry]
     generation: int
+
+
+class Heard(NamedTuple):
+    """What a member has told of itself: how far it has read, and how many seconds ago it said so."""
+
+    origin: int
+    position: Position
+    seconds: float
 
 
 class SetAside(NamedTuple):
@@ -155,9 +164,12 @@ class Link(ABC):
 
     origin: int
     lease_seconds = LEASE_SECONDS
+    position: Callable[[], Position]
+    """How far the member has read, for others to know. It is told with each heartbeat."""
 
     def __init__(self, patience: float = PATIENCE) -> None:
         self.patience = patience
+        self.position = dict
         self.writer = secrets.token_hex(8)
         self._closing = threading.Event()
         self._is_closed = False
@@ -219,6 +231,10 @@ class Link(ABC):
         """The entries that were set aside, by their ids."""
 
     @abstractmethod
+    def members(self) -> list[Heard]:
+        """The members that hold origins, or did when they were killed, by these, and how far each has read."""
+
+    @abstractmethod
     def _origins(self) -> dict[int, bool]:
         """The origins that links have had, and whether each was allotted."""
 
@@ -227,8 +243,8 @@ class Link(ABC):
         """Takes the origin for this link, and says whether it is its own now."""
 
     @abstractmethod
-    def _beat(self) -> None:
-        """Holds the origin for some time more."""
+    def _beat(self, position: str) -> None:
+        """Holds the origin for some time more, and tells the position."""
 
     @abstractmethod
     def _let_go(self) -> None:
@@ -284,10 +300,15 @@ class Link(ABC):
         return next(origin for origin in itertools.chain(again, new) if self._hold(origin, True))
 
     def _hold_on(self) -> None:
-        while not self._closing.wait(_HEARTBEAT):
+        beaten, told = time.monotonic(), ""
+        while not self._closing.wait(min(_HEARTBEAT, _REPORT_SECONDS)):
+            position = position_text(self.position())
+            if position == told and time.monotonic() < beaten + _HEARTBEAT:
+                continue
             # an engine that is away is found out by the next call
             with suppress(Exception):
-                self._beat()
+                self._beat(position)
+                beaten, told = time.monotonic(), position
 
     def _patiently(self, call: Callable[[], T], lost: tuple[type[Exception], ...]) -> T:
         """The call's result, tried again while the engine is away."""

@@ -3,11 +3,12 @@
 import logging
 import os
 import threading
-from collections.abc import Callable, Iterable, Iterator
+import weakref
+from collections.abc import Callable, Iterable, Iterator, Sequence
 from contextlib import contextmanager
 from itertools import count, repeat
 from types import TracebackType
-from typing import Self
+from typing import Self, TypeVar
 
 from ..names import Names, check_name, named_text, number_of, numbered
 from ..texts import (
@@ -30,6 +31,7 @@ from .log import (
     SEAL_SECONDS,
     Entry,
     Link,
+    Position,
     Program,
     SetAside,
     State,
@@ -43,6 +45,8 @@ SNAPSHOT_AFTER = 100_000
 
 BATCH = 1000
 """Operations that are appended at once, at most."""
+
+T = TypeVar("T")
 
 _LOG = logging.getLogger("chrrep.link")
 
@@ -82,6 +86,9 @@ class Member:
         self._running = Running(chrrep, timeout)
         self._replica, state = _joined(link, program, wide, self._running)
         self._epoch, self._generation = state.epoch, state.generation
+        self._listeners: list[Callable[[Sequence[Entry]], object]] = []
+        self.when_rejoined: Callable[[], object] | None = None
+        link.position = _position_of(weakref.ref(self))
         try:
             self.catch_up()
         except BaseException:
@@ -260,7 +267,27 @@ class Member:
             self._is_sure = False
             self.catch_up()
             _LOG.info("the log went over to another program, of epoch %d", state.epoch)
+            if self.when_rejoined:
+                self.when_rejoined()
             return True
+
+    def going_over(self, call: Callable[[], T]) -> T:
+        """The call's result, after `rejoin` where the log went over to another program."""
+        while True:
+            try:
+                return call()
+            except ProgramChanged:
+                # another thread may have been faster
+                self.rejoin()
+
+    def listen(self, call: Callable[[Sequence[Entry]], object]) -> None:
+        """From now on has the call made with entries that the node is told, as they come. It is not to take long, nor
+        to call the member."""
+        self._listeners.append(call)
+
+    def named(self, atoms: Iterable[Atom]) -> tuple[Atom, ...]:
+        """The atoms with names in the place of numbers, as far as this member knows them by now."""
+        return self._names.named(atoms)
 
     def close(self) -> None:
         """Ends the node. To close twice is no fault."""
@@ -362,15 +389,23 @@ class Member:
         self._last_told = entries[-1].id.number
         atoms = self._replica.owe(entries)
         self._is_sure = True
+        self._hear(entries)
         self._count(atoms)
 
     def _read(self, entries: list[Entry]) -> int:
         """Has the node told what is new of the entries, sets aside what it refuses, and says how many were told."""
+        if self._listeners:
+            held = self._held()
+            self._hear([entry for entry in entries if entry.id.number > held.get(entry.id.origin, 0)])
         taken = self._replica.take(entries)
         self._unkept += taken.refused
         self._set_aside()
         self._count(taken.atoms)
         return taken.operations
+
+    def _hear(self, entries: Sequence[Entry]) -> None:
+        for call in self._listeners:
+            call(entries)
 
     def _set_aside(self) -> None:
         while self._unkept:
@@ -435,6 +470,17 @@ def join(
         Member(link, program, wide=wide, timeout=timeout, snapshot_after=snapshot_after) as member,
     ):
         yield member
+
+
+def _position_of(reference: "weakref.ref[Member]") -> Callable[[], Position]:
+    """How a link asks its member for its position: without its lock, which a call holds while the engine is away, and
+    without keeping it alive."""
+
+    def position() -> Position:
+        member = reference()
+        return dict(member._replica.position) if member else {}
+
+    return position
 
 
 def _joined(

@@ -22,6 +22,7 @@ from .log import (
     FORMAT,
     READ_AT_ONCE,
     Entry,
+    Heard,
     Link,
     Mark,
     Position,
@@ -43,6 +44,7 @@ from .log import (
 _LOST = (psycopg2.OperationalError, psycopg2.InterfaceError, OSError)
 _CONNECTING = {"connect_timeout": 5, "keepalives_idle": 5, "tcp_user_timeout": 10_000}
 _HALF = 2**31
+_NAMED = ("state", "origins", "members", "refused", "names")
 
 _TABLES = f"""
     SELECT pg_advisory_xact_lock(hashtext({{name}}));
@@ -53,6 +55,7 @@ _TABLES = f"""
         generation bigint NOT NULL, position text NOT NULL, store text NOT NULL,
         sealed_by text NOT NULL, sealed_until timestamptz NOT NULL);
     CREATE TABLE IF NOT EXISTS {{origins}} (origin bigint PRIMARY KEY, allotted boolean NOT NULL);
+    CREATE TABLE IF NOT EXISTS {{members}} (origin bigint PRIMARY KEY, position text NOT NULL, at timestamptz NOT NULL);
     CREATE TABLE IF NOT EXISTS {{refused}} (
         origin bigint, number bigint, atoms text NOT NULL, writer text NOT NULL, reason text NOT NULL,
         PRIMARY KEY (origin, number));
@@ -82,6 +85,11 @@ _HOLD = "SELECT pg_try_advisory_lock(hashtext({name}), %(key)s)"
 _KNOW = """
     INSERT INTO {origins} VALUES (%(origin)s, %(allotted)s)
     ON CONFLICT (origin) DO UPDATE SET allotted = EXCLUDED.allotted"""
+_TELL = """
+    INSERT INTO {members} VALUES (%(origin)s, %(position)s, clock_timestamp())
+    ON CONFLICT (origin) DO UPDATE SET position = EXCLUDED.position, at = EXCLUDED.at"""
+_LEAVE = "DELETE FROM {members} WHERE origin = %(origin)s"
+_MEMBERS = "SELECT origin, position, extract(epoch FROM clock_timestamp() - at)::float8 FROM {members} ORDER BY origin"
 _APPEND = """
     WITH added AS (
         INSERT INTO {log} (origin, number, writer, atoms)
@@ -177,7 +185,7 @@ class PostgresLink(Link):
 
     def __init__(self, url: str, origin: int | None, log: str, patience: float) -> None:
         super().__init__(patience)
-        tables = {name: sql.Identifier(f"{log}:{name}") for name in ("state", "origins", "refused", "names")}
+        tables = {name: sql.Identifier(f"{log}:{name}") for name in _NAMED}
         self._names = {"log": sql.Identifier(log), "name": sql.Literal(log), **tables}
         self._held: int | None = None
         self._engine = _Connection(url, self._hold_again)
@@ -301,6 +309,9 @@ class PostgresLink(Link):
         rows = self._ask("SELECT origin, number, atoms, writer, reason FROM {refused} ORDER BY origin, number")
         return [SetAside(entry, row[-1]) for entry, row in zip(entries_of(row[:-1] for row in rows), rows)]
 
+    def members(self) -> list[Heard]:
+        return [Heard(origin, position_of(position), seconds) for origin, position, seconds in self._ask(_MEMBERS)]
+
     def _origins(self) -> dict[int, bool]:
         return {origin: allotted for origin, allotted in self._ask("SELECT origin, allotted FROM {origins}")}
 
@@ -314,10 +325,13 @@ class PostgresLink(Link):
 
         return self._use(hold)
 
-    def _beat(self) -> None:
-        self._ask("SELECT true")
+    def _beat(self, position: str) -> None:
+        self._use(lambda engine: self._do(engine, _TELL, origin=self.origin, position=position))
 
     def _let_go(self) -> None:
+        if self._held is not None:
+            with suppress(Exception):
+                self._use(lambda engine: self._do(engine, _LEAVE, origin=self.origin))
         self._engine.close()
         self._bell.close()
 

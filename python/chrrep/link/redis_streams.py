@@ -3,8 +3,8 @@
 Each origin has a stream `LOG:ORIGIN`, whose entry `NUMBER-0` is the operation of that number. Redis takes no entry
 whose id isn't beyond the last, so that no number is used twice. The stream `LOG:origins` tells which origins there are,
 the hash `LOG:state` what they go on from, `LOG:lease:ORIGIN` whose an origin is, `LOG:allotted` which were allotted,
-`LOG:refused` what was set aside, `LOG:names` and `LOG:named` names, and `LOG:seal` who has others wait. What changes
-more than one of them is a script, which Redis runs as a whole.
+`LOG:members` how far members have read, `LOG:refused` what was set aside, `LOG:names` and `LOG:named` names, and
+`LOG:seal` who has others wait. What changes more than one of them is a script, which Redis runs as a whole.
 """
 
 import json
@@ -21,6 +21,7 @@ from .log import (
     FORMAT,
     READ_AT_ONCE,
     Entry,
+    Heard,
     Link,
     Mark,
     Position,
@@ -100,9 +101,19 @@ _HOLD = """
     if holder and holder ~= ARGV[1] then return 0 end
     redis.call('SET', KEYS[1], ARGV[1], 'PX', ARGV[2])
     return 1"""
-# KEYS: lease. ARGV: writer
+# KEYS: lease, members. ARGV: writer, origin
 _LET_GO = """
-    if redis.call('GET', KEYS[1]) == ARGV[1] then redis.call('DEL', KEYS[1]) end"""
+    if redis.call('GET', KEYS[1]) == ARGV[1] then
+        redis.call('DEL', KEYS[1])
+        redis.call('HDEL', KEYS[2], ARGV[2])
+    end"""
+# KEYS: lease, members. ARGV: writer, milliseconds, origin, position
+_BEAT = """
+    local holder = redis.call('GET', KEYS[1])
+    if holder and holder ~= ARGV[1] then return 0 end
+    redis.call('SET', KEYS[1], ARGV[1], 'PX', ARGV[2])
+    redis.call('HSET', KEYS[2], ARGV[3], redis.call('TIME')[1] .. ' ' .. ARGV[4])
+    return 1"""
 
 
 class RedisLink(Link):
@@ -121,8 +132,8 @@ class RedisLink(Link):
             socket_timeout=_ANSWER_SECONDS,
             socket_connect_timeout=_ANSWER_SECONDS,
         )
-        self._append, self._keep, self._name, self._take, self._leave = map(
-            self._engine.register_script, (_APPEND, _KEEP, _NAME, _HOLD, _LET_GO)
+        self._append, self._keep, self._name, self._take, self._tell, self._leave = map(
+            self._engine.register_script, (_APPEND, _KEEP, _NAME, _HOLD, _BEAT, _LET_GO)
         )
         try:
             self._take_origin(origin)
@@ -227,6 +238,14 @@ class RedisLink(Link):
             found.append(SetAside(Entry(Id(int(origin), int(number)), atoms, writer), reason))
         return sorted(found)
 
+    def members(self) -> list[Heard]:
+        def ask() -> list[Heard]:
+            told, now = self._engine.hgetall(self._key("members")), self._engine.time()[0]
+            parts = ((origin, *value.partition(" ")) for origin, value in told.items())
+            return sorted(Heard(int(at), position_of(kept), max(0.0, now - int(then))) for at, then, _, kept in parts)
+
+        return self._ask(ask)
+
     @property
     def _lease_milliseconds(self) -> int:
         return int(self.lease_seconds * 1000)
@@ -248,12 +267,13 @@ class RedisLink(Link):
 
         return self._ask(take)
 
-    def _beat(self) -> None:
-        self._take([self._lease(self.origin)], [self.writer, self._lease_milliseconds])
+    def _beat(self, position: str) -> None:
+        keys = [self._lease(self.origin), self._key("members")]
+        self._tell(keys, [self.writer, self._lease_milliseconds, self.origin, position])
 
     def _let_go(self) -> None:
         with suppress(Exception):
-            self._leave([self._lease(self.origin)], [self.writer])
+            self._leave([self._lease(self.origin), self._key("members")], [self.writer, self.origin])
         self._engine.close()
         self._engine.connection_pool.disconnect()
 

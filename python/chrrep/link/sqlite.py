@@ -19,6 +19,7 @@ from .log import (
     FORMAT,
     READ_AT_ONCE,
     Entry,
+    Heard,
     Link,
     Mark,
     Position,
@@ -52,6 +53,8 @@ _TABLES = """
     CREATE TABLE IF NOT EXISTS origins (
         log TEXT, origin INTEGER, allotted INTEGER NOT NULL, writer TEXT NOT NULL, until REAL NOT NULL,
         PRIMARY KEY (log, origin)) WITHOUT ROWID;
+    CREATE TABLE IF NOT EXISTS members (
+        log TEXT, origin INTEGER, position TEXT NOT NULL, at REAL NOT NULL, PRIMARY KEY (log, origin)) WITHOUT ROWID;
     CREATE TABLE IF NOT EXISTS entries (
         log TEXT, origin INTEGER, number INTEGER, atoms TEXT NOT NULL, writer TEXT NOT NULL,
         PRIMARY KEY (log, origin, number)) WITHOUT ROWID;
@@ -88,6 +91,9 @@ _HOLD = """
     INSERT INTO origins VALUES (:log, :origin, :allotted, :writer, :until)
     ON CONFLICT DO UPDATE SET allotted = :allotted, writer = :writer, until = :until
     WHERE until < :now OR writer = :writer"""
+_LEASE = "UPDATE origins SET until = :end WHERE log = :log AND origin = :origin AND writer = :writer"
+_LEAVE = "DELETE FROM members WHERE log = :log AND origin = :origin"
+_TELL = "INSERT OR REPLACE INTO members VALUES (:log, :origin, :position, :now)"
 _NAME = """
     INSERT INTO names
     SELECT :log, :number, :name, 1 + coalesce((SELECT max(place) FROM names WHERE log = :log), 0)
@@ -223,6 +229,11 @@ class SqliteLink(Link):
         rows = self._ask(f"SELECT {columns} FROM refused WHERE log = :log ORDER BY origin, number")
         return [SetAside(entry, row[-1]) for entry, row in zip(entries_of(row[:-1] for row in rows), rows)]
 
+    def members(self) -> list[Heard]:
+        rows = self._ask("SELECT origin, position, at FROM members WHERE log = :log ORDER BY origin")
+        now = time.time()
+        return [Heard(origin, position_of(position), max(0.0, now - at)) for origin, position, at in rows]
+
     def _origins(self) -> dict[int, bool]:
         rows = self._ask("SELECT origin, allotted FROM origins WHERE log = :log")
         return {origin: bool(allotted) for origin, allotted in rows}
@@ -233,15 +244,29 @@ class SqliteLink(Link):
         values |= {"log": self._log, "until": now + self.lease_seconds}
         return self._write(lambda engine: engine.execute(_HOLD, values).rowcount > 0)
 
-    def _beat(self) -> None:
-        self._lease_until(time.time() + self.lease_seconds)
+    def _beat(self, position: str) -> None:
+        now = time.time()
+        values: dict[str, object] = {"log": self._log, "origin": self.origin, "position": position, "now": now}
 
-    def _lease_until(self, end: float) -> None:
-        self._ask("UPDATE origins SET until = :end WHERE log = :log AND writer = :writer", end=end, writer=self.writer)
+        def beat(engine: sqlite3.Connection) -> None:
+            if self._lease_until(engine, now + self.lease_seconds):
+                engine.execute(_TELL, values)
+
+        self._write(beat)
+
+    def _lease_until(self, engine: sqlite3.Connection, end: float) -> bool:
+        """Sets the end of the link's lease, and says whether the origin is its own."""
+        values: dict[str, object] = {"log": self._log, "origin": self.origin, "writer": self.writer, "end": end}
+        return engine.execute(_LEASE, values).rowcount > 0
 
     def _let_go(self) -> None:
+        def leave(engine: sqlite3.Connection) -> None:
+            if self._lease_until(engine, 0.0):
+                engine.execute(_LEAVE, {"log": self._log, "origin": self.origin})
+
+        # an origin that was never taken is no attribute
         with suppress(Exception):
-            self._lease_until(0.0)
+            self._write(leave)
         with self._bell_lock:
             self._bell.close()
         with self._lock:
