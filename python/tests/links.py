@@ -4,15 +4,11 @@ import json
 import os
 import queue
 import random
-import select
 import signal
-import subprocess
-import sys
 import tempfile
 import threading
 import time
 import unittest
-from collections import Counter
 from collections.abc import Callable, Mapping, Sequence
 from contextlib import ExitStack
 from functools import partial
@@ -21,7 +17,7 @@ from typing import Any
 from unittest.mock import patch
 
 import chrrep
-from chrrep import Atom, Change, Id, Operation, atoms_of, store_text
+from chrrep import Change, Id, Operation
 from chrrep.link import (
     Diverged,
     Entry,
@@ -44,73 +40,8 @@ from chrrep.link import (
 )
 from chrrep.names import NameClash, named_atoms_of
 from engines import Engine, Server
-from programs import COINS, PATHS, PLAIN, store_of
-
-SECONDS = 60.0
-"""Longer than anything here takes, when the machine is busy."""
-
-KILLS = int(os.environ.get("CHRREP_KILLS", "12"))
-"""Nodes that are killed at random moments."""
-
-PACKAGE = Path(chrrep.__file__).resolve().parents[1]
-
-MARKED = PATHS + ":- chr_constraint mark/1.\n"
-"""No rule takes a mark away, so that the store tells which operations it was told, and how often."""
-
-
-class Command:
-    """A node as a process: `python -m chrrep.link`."""
-
-    def __init__(self, engine: Engine, log: str, program: Path | None, *options: str) -> None:
-        words = ["--engine", engine.url, "--log", log, "--patience", str(SECONDS), *options]
-        words += [str(program)] if program else []
-        self.process = subprocess.Popen(
-            [sys.executable, "-m", "chrrep.link", *words],
-            stdin=subprocess.PIPE,
-            stdout=subprocess.PIPE,
-            stderr=subprocess.PIPE,
-            env={**os.environ, "PYTHONPATH": str(PACKAGE), "PYTHONDONTWRITEBYTECODE": "1"},
-        )
-        self._read = b""
-
-    def send(self, line: str) -> None:
-        assert self.process.stdin
-        self.process.stdin.write(line.encode() + b"\n")
-        self.process.stdin.flush()
-
-    def answer(self, seconds: float = SECONDS) -> str | None:
-        """The next line of its output; None where it ended or was too slow."""
-        assert self.process.stdout
-        end = time.monotonic() + seconds
-        while b"\n" not in self._read:
-            if not select.select([self.process.stdout], [], [], max(0.0, end - time.monotonic()))[0]:
-                return None
-            part = os.read(self.process.stdout.fileno(), 65_536)
-            if not part:
-                return None
-            self._read += part
-        line, _, self._read = self._read.partition(b"\n")
-        return line.decode()
-
-    def ask(self, line: str) -> str | None:
-        self.send(line)
-        return self.answer()
-
-    def kill(self) -> None:
-        self.process.kill()
-        self.end()
-
-    def end(self) -> tuple[int, str]:
-        """Closes its input, waits for it, and gives its status and what it said of faults."""
-        process = self.process
-        try:
-            _, said = process.communicate(timeout=SECONDS)
-        except subprocess.TimeoutExpired:
-            process.kill()
-            _, said = process.communicate()
-        except ValueError:  # it was ended before
-            said = b""
-        return process.returncode, said.decode()
+from kills import KILLS, SECONDS, Command, Kills, chance_of_stop
+from programs import COINS, MARKED, PATHS, PLAIN, store_of
 
 
 class Jumbled(Link):
@@ -1093,82 +1024,12 @@ class Commands(Links):
         self.assertEqual(one.ask("?"), "path(1,1,1)")
 
     def test_nodes_that_are_killed_at_random_moments(self) -> None:
-        Kills(self, random.Random(11)).run(KILLS)
+        self.program.write_text(MARKED)
+        Kills(self.engine, self.log, self.program, random.Random(KILLS)).run(KILLS)
 
 
 class Everything(Logs, Origins, Members, Naming, Programs, Upgrades, Snapshots, Commands):
     """All that holds over any engine."""
-
-
-class Kills:
-    """Three nodes that tell marked operations and are killed, and the engine with them where it is a server.
-
-    Each operation has a mark of its own. At the end the marks in the store say which operations it has: each that was
-    acknowledged, others once or not at all; and the store is that of one run of just these.
-    """
-
-    def __init__(self, test: Commands, chance: random.Random) -> None:
-        self.test, self.chance = test, chance
-        test.program.write_text(MARKED)
-        self.sent: list[tuple[Atom, ...]] = []
-        self.acknowledged: set[int] = set()
-        self.ids: set[str] = set()
-        self.commands = [self.start() for _ in range(3)]
-        self.asked: list[list[int]] = [[] for _ in self.commands]
-
-    def start(self) -> Command:
-        return self.test.command("--snapshot-after", "40")
-
-    def run(self, kills: int) -> None:
-        for round_ in range(kills):
-            self.tell(20)
-            at = self.chance.randrange(3)
-            # not before it is up, or it would hardly ever be killed at work
-            if self.asked[at]:
-                self.hear(at, 1)
-            time.sleep(self.chance.random() / 50)
-            if round_ % 5 == 4 and isinstance(self.test.engine, Server):
-                self.test.engine.stop(chance_of_stop(round_))
-                self.test.engine.start()
-            self.commands[at].process.kill()
-            self.hear(at)
-            self.commands[at].end()
-            self.asked[at] = []
-            self.commands[at] = self.start()
-        self.check()
-
-    def tell(self, count: int) -> None:
-        for _ in range(count):
-            at, mark = self.chance.randrange(3), len(self.sent)
-            path = ("path", self.chance.randrange(6), self.chance.randrange(6), self.chance.randrange(1000))
-            self.sent.append((path, ("mark", mark)))
-            self.asked[at].append(mark)
-            self.commands[at].send(store_text(self.sent[-1]))
-
-    def hear(self, at: int, most: int = sys.maxsize) -> None:
-        """Takes the answers to what was asked, until there are no more."""
-        while self.asked[at] and most > 0 and (answer := self.commands[at].answer()):
-            verb, _, id = answer.partition(" ")
-            self.test.assertEqual(verb, "told", answer)
-            self.test.assertNotIn(id, self.ids)
-            self.ids.add(id)
-            self.acknowledged.add(self.asked[at].pop(0))
-            most -= 1
-
-    def check(self) -> None:
-        for at, command in enumerate(self.commands):
-            self.hear(at)
-            self.test.assertEqual(self.asked[at], [], command.process.poll())
-        texts = [command.ask("?") for command in self.commands]
-        store = atoms_of(texts[0] or "")
-        marks = Counter(atom[1] for atom in store if atom[0] == "mark")
-        self.test.assertEqual(set(marks.values()), {1})
-        self.test.assertLessEqual(self.acknowledged, set(marks))
-        told = [Operation(Id(1, at), self.sent[int(mark)]) for at, mark in enumerate(marks, 1)]
-        wanted = store_text(store_of(MARKED, told))
-        self.test.assertEqual(texts, [wanted] * 3)
-        for command in self.commands:
-            self.test.assertEqual(command.end(), (0, ""))
 
 
 class Leases(Links):
@@ -1234,8 +1095,3 @@ class Outages(Links):
             self.engine.start()
         self.assertEqual(member.tell(("a", 3)), Id(1, 2))
         self.assertEqual(member.show(), (("a", 1), ("a", 3)))
-
-
-def chance_of_stop(round_: int) -> signal.Signals:
-    """Asked to stop, or at once."""
-    return signal.SIGKILL if round_ % 2 else signal.SIGTERM

@@ -9,6 +9,8 @@ from chrrep.texts import line_of, text_bytes
 
 COINS = ":- chr_constraint coin/0, note/0.\ncoin, coin <=> note.\n"
 PATHS = ":- chr_constraint path/3.\nshorter @ path(X,Y,D) \\ path(X,Y,E) <=> D =< E | true.\n"
+MARKED = PATHS + ":- chr_constraint mark/1.\n"
+"""No rule takes a mark away, so that the store tells which operations it was told, and how often."""
 PLAIN = ":- chr_constraint a/1.\n"
 
 

@@ -14,6 +14,7 @@ from tempfile import TemporaryDirectory
 import links
 from chrrep.link import LinkLost, LogUnusable, connect, join
 from engines import Embedded
+from kills import PACKAGE
 from programs import COINS, PATHS, PLAIN
 
 
@@ -134,7 +135,7 @@ class DefaultLog(unittest.TestCase):
         self.program.write_text(PATHS)
 
     def run_command(self, *words: str | Path, said: str = "", status: int = 0) -> tuple[str, str]:
-        env = {**os.environ, "PYTHONPATH": str(links.PACKAGE), "PYTHONDONTWRITEBYTECODE": "1"}
+        env = {**os.environ, "PYTHONPATH": str(PACKAGE), "PYTHONDONTWRITEBYTECODE": "1"}
         command = [sys.executable, "-m", "chrrep.link", *map(str, words)]
         ended = subprocess.run(command, input=said, capture_output=True, text=True, env=env, timeout=60, check=False)
         self.assertEqual(ended.returncode, status, ended.stderr)
