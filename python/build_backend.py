@@ -71,7 +71,7 @@ def _files(project: dict[str, Any], metadata: str) -> Iterator[tuple[str, bytes,
 
 
 def _sources() -> list[str]:
-    found = [path for path in HERE.glob("chrrep/**/*") if path.suffix == ".py" or path.name == "py.typed"]
+    found = [path for path in HERE.glob("chrrep/**/*") if path.suffix in (".py", ".html") or path.name == "py.typed"]
     return sorted(str(path.relative_to(HERE)) for path in found)
 
 

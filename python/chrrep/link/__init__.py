@@ -19,6 +19,7 @@ from .faults import (
     NoProgram,
     OriginShared,
     OtherProgram,
+    PageUnusable,
     ProgramChanged,
 )
 from .following import Following, Watch
@@ -39,6 +40,7 @@ __all__ = [
     "NoProgram",
     "OriginShared",
     "OtherProgram",
+    "PageUnusable",
     "Position",
     "Program",
     "ProgramChanged",

@@ -10,6 +10,7 @@ import os
 import sys
 import threading
 from collections.abc import Iterator
+from contextlib import AbstractContextManager, nullcontext
 from functools import partial
 from pathlib import Path
 
@@ -56,10 +57,14 @@ def _settings(words: list[str] | None) -> argparse.Namespace:
     after = f"atoms that are told from one snapshot to the next ({SNAPSHOT_AFTER})"
     add("--snapshot-after", default=SNAPSHOT_AFTER, type=int, metavar="N", help=after)
     add("--upgrade", type=Path, metavar="NEW", help="have the log go over to this program text, and end")
+    page = "serve a page on this port of loopback that shows the store, the members and what is told; 0 is any port"
+    add("--page", type=int, metavar="PORT", help=page)
     add("program", nargs="?", type=Path, metavar="PROGRAM", help="the file of the program text; left out, the log's")
     settings = parser.parse_args(words)
     if settings.upgrade and settings.program:
         parser.error("with --upgrade NEW the log has the PROGRAM")
+    if settings.upgrade and settings.page is not None:
+        parser.error("with --upgrade NEW there is no node for a --page")
     if not (settings.engine or settings.program or settings.upgrade):
         parser.error("without a PROGRAM the log is to be named: --engine URL")
     return settings
@@ -77,7 +82,20 @@ def _run(settings: argparse.Namespace) -> None:
             _say(f"upgraded: rules {member.verdict.rules}, cases {member.verdict.cases}")
         else:
             member.when_rejoined = partial(_say_program, member)
-            _converse(member)
+            with _page(member, settings.page):
+                _converse(member)
+
+
+def _page(member: Member, port: int | None) -> AbstractContextManager[object]:
+    """The page of the member, where one is asked for."""
+    if port is None:
+        return nullcontext()
+    # who serves no page does without the modules for it
+    from .page import Page
+
+    page = Page(member, port)
+    print(f"chrrep.link: the page is {page.url}", file=sys.stderr, flush=True)
+    return page
 
 
 def _beside(program: Path) -> str:

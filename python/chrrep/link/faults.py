@@ -1,5 +1,7 @@
 """What goes wrong between a node and its log."""
 
+import errno
+
 from ..refusals import ChrrepError
 
 
@@ -55,6 +57,16 @@ class Diverged(ChrrepError):
     def __init__(self, position: dict[int, int], ours: str, theirs: str) -> None:
         self.position, self.ours, self.theirs = position, ours, theirs
         super().__init__(f"two stores at position {position}: here {ours[:60]}, in the log {theirs[:60]}")
+
+
+class PageUnusable(ChrrepError):
+    """The page can't be served: its port is taken, or not to be had."""
+
+    def __init__(self, port: int, fault: Exception) -> None:
+        self.port = port
+        is_taken = getattr(fault, "errno", None) == errno.EADDRINUSE
+        why = "is taken by another program" if is_taken else f"is not to be had ({fault})"
+        super().__init__(f"port {port} of this machine {why}: name another by --page PORT")
 
 
 def _first_difference(ours: bytes, theirs: bytes) -> str:

@@ -167,7 +167,8 @@ class Link(ABC):
     position: Callable[[], Position]
     """How far the member has read, for others to know. It is told with each heartbeat."""
 
-    def __init__(self, patience: float = PATIENCE) -> None:
+    def __init__(self, patience: float = PATIENCE, log: str = LOG_NAME) -> None:
+        self.log = log
         self.patience = patience
         self.position = dict
         self.writer = secrets.token_hex(8)

@@ -184,7 +184,7 @@ class PostgresLink(Link):
     """A lost connection gives its origin back by itself."""
 
     def __init__(self, url: str, origin: int | None, log: str, patience: float) -> None:
-        super().__init__(patience)
+        super().__init__(patience, log)
         tables = {name: sql.Identifier(f"{log}:{name}") for name in _NAMED}
         self._names = {"log": sql.Identifier(log), "name": sql.Literal(log), **tables}
         self._held: int | None = None

@@ -121,8 +121,7 @@ class RedisLink(Link):
     and against a loss of power `appendfsync always`."""
 
     def __init__(self, url: str, origin: int | None, log: str, patience: float) -> None:
-        super().__init__(patience)
-        self._log = log
+        super().__init__(patience, log)
         self._known: set[int] = set()
         self._known_until = "0-0"
         self._engine = redis.Redis.from_url(
@@ -204,7 +203,7 @@ class RedisLink(Link):
         words = [word for field in fields.items() for word in field]
         ends = [word for end in state.position.items() for word in end]
         keys = [self._key("state"), self._key("origins")]
-        values = [self._log, state.generation - 1, int(is_last), len(words), *words, *ends]
+        values = [self.log, state.generation - 1, int(is_last), len(words), *words, *ends]
         return bool(self._ask(lambda: self._keep(keys, values)))
 
     def name(self, names: Mapping[int, str]) -> dict[int, str]:
@@ -278,7 +277,7 @@ class RedisLink(Link):
         self._engine.connection_pool.disconnect()
 
     def _key(self, name: str | int) -> str:
-        return f"{self._log}:{name}"
+        return f"{self.log}:{name}"
 
     def _lease(self, origin: int) -> str:
         return self._key(f"lease:{origin}")
@@ -288,7 +287,7 @@ class RedisLink(Link):
         try:
             return self._patiently(call, _LOST)
         except redis.exceptions.RedisError as fault:
-            raise LogUnusable(f"the log {self._log!r} in Redis can't be used: {one_line(fault)}") from fault
+            raise LogUnusable(f"the log {self.log!r} in Redis can't be used: {one_line(fault)}") from fault
 
     def _fields(self, *names: str) -> list[str]:
         found = self._ask(lambda: self._engine.hmget(self._key("state"), names))
@@ -311,7 +310,7 @@ class RedisLink(Link):
                 self._known_until = items[-1][0]
                 self._known.update(int(fields["origin"]) for _, fields in items if _is_number(fields.get("origin", "")))
                 continue
-            origin = int(key.removeprefix(f"{self._log}:"))
+            origin = int(key.removeprefix(f"{self.log}:"))
             for place, fields in items:
                 id = Id(origin, int(place.partition("-")[0]))
                 entries.append(Entry(id, fields.get("atoms", ""), fields.get("writer", "")))

@@ -120,11 +120,10 @@ class SqliteLink(Link):
     """A link over a file of SQLite."""
 
     def __init__(self, url: str, origin: int | None, log: str, patience: float) -> None:
-        super().__init__(patience)
+        super().__init__(patience, log)
         if not url.startswith(PREFIX) or url == PREFIX:
             raise ValueError(f"a log in a file is {PREFIX}PATH, not {url!r}")
         self.path = os.path.abspath(url.removeprefix(PREFIX))
-        self._log = log
         self._lock = threading.Lock()
         self._bell_lock = threading.Lock()
         self._engine = self._bell = self._patiently(self._opened, (_Away,))
@@ -183,7 +182,7 @@ class SqliteLink(Link):
     def keep(self, state: State, is_last: bool = False) -> bool:
         assert state.program
         values: dict[str, object] = {
-            "log": self._log,
+            "log": self.log,
             "epoch": state.epoch,
             "program": program_text(state.program),
             "generation": state.generation,
@@ -197,7 +196,7 @@ class SqliteLink(Link):
                 return False
             if not engine.execute(_KEEP, values).rowcount:
                 return False
-            ends = [(self._log, *end) for end in state.position.items()]
+            ends = [(self.log, *end) for end in state.position.items()]
             engine.executemany("DELETE FROM entries WHERE log = ? AND origin = ? AND number < ?", ends)
             return True
 
@@ -206,7 +205,7 @@ class SqliteLink(Link):
     def name(self, names: Mapping[int, str]) -> dict[int, str]:
         def put(engine: sqlite3.Connection) -> dict[int, str]:
             for number, name in names.items():
-                engine.execute(_NAME, {"log": self._log, "number": number, "name": name})
+                engine.execute(_NAME, {"log": self.log, "number": number, "name": name})
             query = "SELECT name FROM names WHERE log = :log AND number = :number"
             return {number: self._rows(engine, query, number=number)[0][0] for number in names}
 
@@ -221,7 +220,7 @@ class SqliteLink(Link):
         self._ask(query, writer=self.writer, end=time.time() + seconds)
 
     def set_aside(self, refused: SetAside) -> None:
-        row = (self._log, *refused.entry.id, refused.entry.atoms, refused.entry.writer, refused.reason)
+        row = (self.log, *refused.entry.id, refused.entry.atoms, refused.entry.writer, refused.reason)
         self._write(lambda engine: engine.execute("INSERT OR IGNORE INTO refused VALUES (?, ?, ?, ?, ?, ?)", row))
 
     def refused(self) -> list[SetAside]:
@@ -241,12 +240,12 @@ class SqliteLink(Link):
     def _hold(self, origin: int, is_allotted: bool) -> bool:
         now = time.time()
         values: dict[str, object] = {"origin": origin, "allotted": is_allotted, "writer": self.writer, "now": now}
-        values |= {"log": self._log, "until": now + self.lease_seconds}
+        values |= {"log": self.log, "until": now + self.lease_seconds}
         return self._write(lambda engine: engine.execute(_HOLD, values).rowcount > 0)
 
     def _beat(self, position: str) -> None:
         now = time.time()
-        values: dict[str, object] = {"log": self._log, "origin": self.origin, "position": position, "now": now}
+        values: dict[str, object] = {"log": self.log, "origin": self.origin, "position": position, "now": now}
 
         def beat(engine: sqlite3.Connection) -> None:
             if self._lease_until(engine, now + self.lease_seconds):
@@ -256,13 +255,13 @@ class SqliteLink(Link):
 
     def _lease_until(self, engine: sqlite3.Connection, end: float) -> bool:
         """Sets the end of the link's lease, and says whether the origin is its own."""
-        values: dict[str, object] = {"log": self._log, "origin": self.origin, "writer": self.writer, "end": end}
+        values: dict[str, object] = {"log": self.log, "origin": self.origin, "writer": self.writer, "end": end}
         return engine.execute(_LEASE, values).rowcount > 0
 
     def _let_go(self) -> None:
         def leave(engine: sqlite3.Connection) -> None:
             if self._lease_until(engine, 0.0):
-                engine.execute(_LEAVE, {"log": self._log, "origin": self.origin})
+                engine.execute(_LEAVE, {"log": self.log, "origin": self.origin})
 
         # an origin that was never taken is no attribute
         with suppress(Exception):
@@ -285,7 +284,7 @@ class SqliteLink(Link):
                 with _transaction(engine):
                     for table in _TABLES.split(";"):
                         engine.execute(table)
-                    engine.execute(_NEW, (self._log, FORMAT, FIRST_EPOCH))
+                    engine.execute(_NEW, (self.log, FORMAT, FIRST_EPOCH))
             except BaseException:
                 engine.close()
                 raise
@@ -313,7 +312,7 @@ class SqliteLink(Link):
         return self._use(read)
 
     def _rows(self, engine: sqlite3.Connection, query: str, **values: object) -> list[Row]:
-        named: dict[str, object] = {"log": self._log, **values}
+        named: dict[str, object] = {"log": self.log, **values}
         return engine.execute(query, named).fetchall()
 
     def _ask(self, query: str, **values: object) -> list[Row]:

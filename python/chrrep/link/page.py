@@ -1,0 +1,411 @@
+"""A page to look at a member: served on loopback, by the standard library, without a network.
+
+`/` is the page, `/events` what happens as it comes (server-sent events), `/store?find=WORDS` the store as tables, and
+`/tell` takes a line of atoms, from whoever has the token that the page was given.
+"""
+
+import json
+import logging
+import queue
+import secrets
+import threading
+import time
+from collections import deque
+from collections.abc import Iterable, Iterator, Sequence
+from contextlib import contextmanager, suppress
+from http import HTTPStatus
+from http.server import BaseHTTPRequestHandler, ThreadingHTTPServer
+from pathlib import Path
+from typing import Any, NamedTuple
+from urllib.parse import parse_qs, urlsplit
+
+from ..names import NameClash, named_atoms_of, named_text
+from ..refusals import ChrrepError, Refused
+from ..texts import Atom, Change, atoms_of
+from .faults import LinkLost, PageUnusable
+from .log import Entry, Heard, Position, one_line
+from .member import Member
+
+LOOPBACK = "127.0.0.1"
+ROWS = 300
+"""Atoms of a table that are shown at most; a search finds the others."""
+MARKS = 1000
+"""Atoms of a change that are marked at most."""
+
+_HOSTS = ("127.0.0.1", "localhost", "[::1]")
+_LINE_LIMIT = 1_048_576
+_LOOKERS = 16
+_PAUSE_SECONDS = 0.1
+_FOLLOW_SECONDS = 0.5
+_MEMBERS_SECONDS = 1.0
+_ALIVE_SECONDS = 10.0
+_SILENT_SECONDS = 10.0
+_FORGOTTEN_SECONDS = 600.0
+_RECENT = 50
+_PAGE = Path(__file__).with_name("page.html")
+_LOG = logging.getLogger("chrrep.link")
+
+
+class Table(NamedTuple):
+    """The atoms of one symbol."""
+
+    symbol: str
+    arguments: int
+    all: int
+    found: int
+    rows: list[Atom]
+
+
+def tables_of(atoms: Iterable[Atom], find: str = "", most: int = ROWS) -> list[Table]:
+    """The atoms by symbols, and of each symbol the first that have all words that are looked for."""
+    words = find.lower().split()
+    by_symbol: dict[tuple[str, int], list[Atom]] = {}
+    for atom in atoms:
+        by_symbol.setdefault((str(atom[0]), len(atom) - 1), []).append(atom)
+    tables = []
+    for (symbol, arguments), all_rows in sorted(by_symbol.items()):
+        rows = [atom for atom in all_rows if _has(atom, words)] if words else all_rows
+        if rows:
+            tables.append(Table(symbol, arguments, len(all_rows), len(rows), rows[:most]))
+    return tables
+
+
+def _has(atom: Atom, words: list[str]) -> bool:
+    text = named_text([atom]).lower()
+    return all(word in text for word in words)
+
+
+def json_text(value: object) -> bytes:
+    """JSON that no browser takes for anything else, whatever names are in it."""
+    text = json.dumps(value, separators=(",", ":"))
+    for sign in "<>&'":
+        text = text.replace(sign, f"\\u{ord(sign):04x}")
+    return text.encode()
+
+
+def _sent(atom: Atom) -> list[object]:
+    """An atom for the page: names in lists, and numbers as text, which a browser would round."""
+    symbol, *arguments = atom
+    return [symbol, *([value] if isinstance(value, str) else str(value) for value in arguments)]
+
+
+def behind(position: Position, end: Position) -> int:
+    """How many operations of a log have not been read at a position."""
+    return sum(max(0, number - position.get(origin, 0)) for origin, number in end.items())
+
+
+def members_of(heard: Iterable[Heard], here: int, position: Position, end: Position) -> list[dict[str, object]]:
+    """The members for the page, this one at its position."""
+    positions = {one.origin: (one.position, one.seconds) for one in heard if one.seconds < _FORGOTTEN_SECONDS}
+    positions[here] = (position, 0.0)
+    return [
+        {
+            "origin": origin,
+            "here": origin == here,
+            "told": end.get(origin, 0),
+            "behind": behind(read, end),
+            "position": ", ".join(f"{other}:{number}" for other, number in sorted(read.items())),
+            "heard": "now" if seconds < 5 else f"{seconds:.0f} s ago",
+            "silent": seconds > _SILENT_SECONDS,
+        }
+        for origin, (read, seconds) in sorted(positions.items())
+    ]
+
+
+Event = tuple[str, object]
+
+
+class Watcher:
+    """Follows a member in a thread, and tells lookers what happens."""
+
+    def __init__(self, member: Member) -> None:
+        self._member = member
+        self._lock = threading.Lock()
+        self._lookers: list[queue.Queue[Event]] = []
+        self._text = "true"
+        self._atoms: tuple[Atom, ...] = ()
+        self._new: deque[Entry] = deque(maxlen=10 * _RECENT)
+        self._recent: deque[tuple[str, str]] = deque(maxlen=_RECENT)
+        self._members: object = {"members": [], "operations": 0}
+        self._fault: str | None = None
+        self._over = threading.Event()
+        self._seen_at = 0.0
+        self._heard: Sequence[Heard] = ()
+        member.listen(self._hear)
+        self._shown_program = self._program()
+        self._step()
+        self._thread = threading.Thread(target=self._run, name="chrrep page", daemon=True)
+        self._thread.start()
+
+    def atoms(self) -> tuple[Atom, ...]:
+        """The store at rest, as it was told last."""
+        with self._lock:
+            return self._atoms
+
+    @contextmanager
+    def looking(self) -> Iterator["queue.Queue[Event] | None"]:
+        """What happens from now on, after all that is there; None where there are too many lookers."""
+        looker: queue.Queue[Event] = queue.Queue(1000)
+        with self._lock:
+            is_one = len(self._lookers) < _LOOKERS
+            if is_one:
+                first = [("program", self._program()), ("members", self._members), ("told", list(self._recent))]
+                for event in first + ([("fault", self._fault)] if self._fault else []):
+                    looker.put(event)
+                self._lookers.append(looker)
+        try:
+            yield looker if is_one else None
+        finally:
+            with self._lock, suppress(ValueError):
+                self._lookers.remove(looker)
+
+    def close(self) -> None:
+        """Ends the thread."""
+        self._over.set()
+        self._thread.join()
+
+    def is_looking(self, looker: "queue.Queue[Event]") -> bool:
+        """Whether the looker is told what happens, or has yet to take it. One that was too slow is not told any more:
+        it comes again, and begins with all that is there."""
+        with self._lock:
+            return not self._over.is_set() and (looker in self._lookers or not looker.empty())
+
+    def _hear(self, entries: Sequence[Entry]) -> None:
+        self._new.extend(entries[-10 * _RECENT:])
+
+    def _run(self) -> None:
+        try:
+            while not self._over.wait(_PAUSE_SECONDS):
+                self._member.going_over(lambda: self._member.follow(_FOLLOW_SECONDS))
+                self._step()
+        except Exception as fault:  # those of the engine's client too
+            said = f"{type(fault).__name__}: {one_line(fault)}"
+            _LOG.warning("the page is not followed any more: %s", said)
+            with self._lock:
+                self._fault = said
+                self._tell("fault", said)
+
+    def _step(self) -> None:
+        """Tells what is new."""
+        told = [self._new.popleft() for _ in range(len(self._new))]
+        change, text = self._member.going_over(lambda: self._member.change_from(self._text))
+        program, lines = self._program(), [self._line(entry) for entry in told]
+        members = self._seen()
+        with self._lock:
+            self._recent.extend(lines)
+            if lines:
+                self._tell("told", lines)
+            if change.came or change.went:
+                self._text, self._atoms = text, self._member.named(atoms_of(text))
+                self._tell("change", _marks(change))
+            if members != self._members:
+                self._members = members
+                self._tell("members", members)
+            if program != self._shown_program:
+                self._shown_program = program
+                self._tell("program", program)
+
+    def _seen(self) -> object:
+        if time.monotonic() > self._seen_at + _MEMBERS_SECONDS:
+            self._seen_at = time.monotonic()
+            self._heard = self._member.link.members()
+        end = self._member.link.newest()
+        position = self._member.link.position()
+        members = members_of(self._heard, self._member.origin, position, end)
+        return {"members": members, "operations": sum(end.values())}
+
+    def _program(self) -> object:
+        verdict = self._member.verdict
+        said = f"accepted: rules {verdict.rules}, cases {verdict.cases}"
+        return {"verdict": said, "log": f"log {self._member.link.log}, origin {self._member.origin}"}
+
+    def _line(self, entry: Entry) -> tuple[str, str]:
+        try:
+            atoms = named_text(self._member.named(json.loads(entry.atoms)))
+        except (ValueError, TypeError, RecursionError):
+            # what is set aside is shown as it is
+            atoms = entry.atoms[:200]
+        return f"{entry.id.origin}:{entry.id.number}", atoms
+
+    def _tell(self, name: str, value: object) -> None:
+        for looker in list(self._lookers):
+            try:
+                looker.put_nowait((name, value))
+            except queue.Full:
+                self._lookers.remove(looker)
+
+
+def _marks(change: Change) -> object:
+    return {"came": [*map(_sent, change.came[:MARKS])], "went": [*map(_sent, change.went[:MARKS])]}
+
+
+class Page:
+    """The page of a member at a port of loopback, 0 being any. It ends with a `with`, or by `close`."""
+
+    def __init__(self, member: Member, port: int) -> None:
+        self.member = member
+        self.token = secrets.token_urlsafe(24)
+        try:
+            self._server = _Server((LOOPBACK, port), _Handler)
+        except (OSError, OverflowError) as fault:
+            raise PageUnusable(port, fault) from fault
+        self.port: int = self._server.server_address[1]
+        self._server.page = self
+        try:
+            self.watcher = Watcher(member)
+        except BaseException:
+            self._server.server_close()
+            raise
+        threading.Thread(target=self._server.serve_forever, name="chrrep page server", daemon=True).start()
+
+    @property
+    def url(self) -> str:
+        """The address for a browser."""
+        return f"http://{LOOPBACK}:{self.port}/"
+
+    def is_host(self, host: str | None) -> bool:
+        """Whether a request names this machine and port, and no name that someone else has lead here."""
+        return (host or "").lower() in {f"{name}:{self.port}" for name in _HOSTS}
+
+    def close(self) -> None:
+        """Serves the page no more. To close twice is no fault."""
+        self.watcher.close()
+        self._server.shutdown()
+        self._server.server_close()
+
+    def __enter__(self) -> "Page":
+        return self
+
+    def __exit__(self, *_: object) -> None:
+        self.close()
+
+
+class _Server(ThreadingHTTPServer):
+    daemon_threads = True
+    page: Page
+
+
+class _Handler(BaseHTTPRequestHandler):
+    server: _Server
+    server_version = "chrrep"
+    sys_version = ""
+    timeout = 30.0
+
+    def do_GET(self) -> None:  # noqa: N802
+        if not self._is_for_us():
+            return
+        address = urlsplit(self.path)
+        if address.path == "/":
+            self._send_page()
+        elif address.path == "/events":
+            self._send_events()
+        elif address.path == "/store":
+            self._send_store(parse_qs(address.query).get("find", [""])[0])
+        else:
+            self._send(HTTPStatus.NOT_FOUND, "There is no such page.")
+
+    def do_POST(self) -> None:  # noqa: N802
+        if not self._is_for_us():
+            return
+        if urlsplit(self.path).path != "/tell":
+            self._send(HTTPStatus.NOT_FOUND, "There is no such page.")
+        elif not secrets.compare_digest(self.headers.get("X-Token", "").encode(), self.server.page.token.encode()):
+            self._send(HTTPStatus.FORBIDDEN, "Only the page that this node serves may tell: load it again.")
+        else:
+            line = self._body()
+            if line is None:
+                self._send(HTTPStatus.BAD_REQUEST, f"A line has 1 to {_LINE_LIMIT} bytes, of UTF-8.")
+            else:
+                self._send(*_told(self.server.page.member, line))
+
+    def log_message(self, format: str, *words: Any) -> None:
+        _LOG.debug("page: " + format, *words)
+
+    def _is_for_us(self) -> bool:
+        page = self.server.page
+        if page.is_host(self.headers.get("Host")):
+            return True
+        self._send(HTTPStatus.FORBIDDEN, f"This page is {page.url} alone.")
+        return False
+
+    def _body(self) -> str | None:
+        length = self.headers.get("Content-Length", "")
+        if not (length.isascii() and length.isdecimal()) or not 0 < int(length) <= _LINE_LIMIT:
+            return None
+        with suppress(UnicodeDecodeError):
+            return self.rfile.read(int(length)).decode()
+        return None
+
+    def _send_page(self) -> None:
+        nonce = secrets.token_urlsafe(16)
+        text = _PAGE.read_text(encoding="utf-8")
+        text = text.replace("{{token}}", self.server.page.token).replace("{{nonce}}", nonce)
+        policy = (
+            f"default-src 'none'; style-src 'nonce-{nonce}'; script-src 'nonce-{nonce}'; connect-src 'self'; "
+            "form-action 'none'; frame-ancestors 'none'; base-uri 'none'"
+        )
+        self._begin(HTTPStatus.OK, "text/html; charset=utf-8", {"Content-Security-Policy": policy})
+        self._write(text.encode())
+
+    def _send_store(self, find: str) -> None:
+        tables = tables_of(self.server.page.watcher.atoms(), find)
+        answer = {"tables": [{**table._asdict(), "rows": [*map(_sent, table.rows)]} for table in tables]}
+        self._begin(HTTPStatus.OK, "application/json")
+        self._write(json_text(answer))
+
+    def _send_events(self) -> None:
+        watcher = self.server.page.watcher
+        with watcher.looking() as looker:
+            if looker is None:
+                self._send(HTTPStatus.SERVICE_UNAVAILABLE, "Too many pages are open.")
+                return
+            self._begin(HTTPStatus.OK, "text/event-stream")
+            while watcher.is_looking(looker):
+                try:
+                    name, value = looker.get(timeout=_ALIVE_SECONDS)
+                    event = f"event: {name}\ndata: ".encode() + json_text(value) + b"\n\n"
+                except queue.Empty:
+                    event = b": nothing new\n\n"
+                if not self._write(event):
+                    return
+
+    def _send(self, status: HTTPStatus, text: str) -> None:
+        self._begin(status, "text/plain; charset=utf-8")
+        self._write(text.encode())
+
+    def _begin(self, status: HTTPStatus, kind: str, more: dict[str, str] | None = None) -> None:
+        self.send_response(status)
+        headers = {
+            "Content-Type": kind,
+            "Cache-Control": "no-store",
+            "X-Content-Type-Options": "nosniff",
+            "Referrer-Policy": "no-referrer",
+            **(more or {}),
+        }
+        for name, value in headers.items():
+            self.send_header(name, value)
+        with suppress(OSError):
+            self.end_headers()
+
+    def _write(self, data: bytes) -> bool:
+        """Writes, and says whether the other side is still there."""
+        try:
+            self.wfile.write(data)
+            self.wfile.flush()
+        except OSError:
+            return False
+        return True
+
+
+def _told(member: Member, line: str) -> tuple[HTTPStatus, str]:
+    """Tells a line, and gives what is said of it."""
+    try:
+        atoms = named_atoms_of(line.strip())
+        id = member.going_over(lambda: member.tell(*atoms))
+    except (ValueError, Refused, NameClash) as refusal:
+        return HTTPStatus.UNPROCESSABLE_ENTITY, f"refused: {one_line(refusal)}"
+    except LinkLost as lost:
+        return HTTPStatus.SERVICE_UNAVAILABLE, f"{one_line(lost)}: it may be told, or not"
+    except ChrrepError as fault:
+        return HTTPStatus.SERVICE_UNAVAILABLE, f"{type(fault).__name__}: {one_line(fault)}"
+    return HTTPStatus.OK, f"told {id.origin}:{id.number}"
