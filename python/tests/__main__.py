@@ -17,7 +17,7 @@ RUNS = ["test_texts", "test_commands", "test_runs", "test_model", "test_explanat
 READERS = ["test_documents"]
 HOSTILE = ["test_devices", "test_memory", "test_costs"]
 NODES = ["test_node", "test_names", "test_writing", "test_asynchronous"]
-LOGS = ["test_embedded", "test_lasting", "test_install", "test_launcher"]
+LOGS = ["test_embedded", "test_page", "test_lasting", "test_install", "test_launcher"]
 KINDS = {"node": [*RUNS, *READERS, *HOSTILE, *NODES, *LOGS], "engines": ["test_links"]}
 
 

@@ -1,0 +1,374 @@
+"""The page: whom it answers, what it tells and shows, and how it looks in a browser."""
+
+import json
+import os
+import re
+import socket
+import subprocess
+import sys
+import time
+import unittest
+from collections.abc import Iterator
+from contextlib import ExitStack
+from http.client import HTTPConnection, HTTPResponse
+from pathlib import Path
+from tempfile import TemporaryDirectory
+from typing import Any, NamedTuple
+
+from browser import CHROMIUM, DRIVER, Browser
+from chrrep import Atom
+from chrrep.link import Heard, Member, PageUnusable, join
+from chrrep.link.page import Page, behind, json_text, members_of, tables_of
+from engines import LOOPBACK
+from kills import PACKAGE
+from programs import COINS, MARKED, PATHS
+
+SECONDS = 60.0
+HOSTILE = "<img src=x onerror=\"document.title='taken'\">\n\nevent: fault\ndata: \"</script>&amp;\u2028'"
+
+
+class Answer(NamedTuple):
+    status: int
+    kind: str
+    body: bytes
+
+
+class Served(unittest.TestCase):
+    def setUp(self) -> None:  # noqa: N802
+        self.stack = ExitStack()
+        self.addCleanup(self.stack.close)
+        self.room = Path(self.stack.enter_context(TemporaryDirectory()))
+        self.url = f"sqlite:///{self.room}/log.sqlite"
+
+    def serve(self, program: str = PATHS) -> tuple[Member, Page]:
+        member = self.stack.enter_context(join(self.url, program))
+        return member, self.stack.enter_context(Page(member, 0))
+
+    def ask(
+        self, page: Page, method: str, path: str, body: bytes | None = None, headers: dict[str, str] | None = None
+    ) -> Answer:
+        with self.open(page, method, path, body, headers) as answer:
+            return Answer(answer.status, answer.headers.get("Content-Type", ""), answer.read())
+
+    def open(
+        self, page: Page, method: str, path: str, body: bytes | None = None, headers: dict[str, str] | None = None
+    ) -> HTTPResponse:
+        connection = HTTPConnection(LOOPBACK, page.port, timeout=SECONDS)
+        self.addCleanup(connection.close)
+        connection.putrequest(method, path, skip_host=headers is not None and "Host" in headers)
+        for name, value in {"Content-Length": str(len(body or b"")), **(headers or {})}.items():
+            connection.putheader(name, value)
+        connection.endheaders(body)
+        return connection.getresponse()
+
+    def tell(self, page: Page, line: str | bytes, token: str | None = None) -> Answer:
+        body = line.encode() if isinstance(line, str) else line
+        return self.ask(page, "POST", "/tell", body, {"X-Token": page.token if token is None else token})
+
+
+def events_of(answer: HTTPResponse) -> Iterator[tuple[str, Any]]:
+    name = ""
+    while line := answer.readline():
+        field, _, value = line.decode().rstrip("\n").partition(": ")
+        if field == "event":
+            name = value
+        elif field == "data":
+            yield name, json.loads(value)
+
+
+class Requests(Served):
+    def test_only_requests_to_this_machine_are_answered(self) -> None:
+        _, page = self.serve()
+        self.assertEqual(page._server.server_address[0], LOOPBACK)
+        good = [f"{host}:{page.port}" for host in ("127.0.0.1", "localhost", "LOCALHOST", "[::1]")]
+        other = [f"example.org:{page.port}", f"127.0.0.1.example.org:{page.port}", f"localhost:{page.port + 1}"]
+        for host in good:
+            self.assertEqual(self.ask(page, "GET", "/", headers={"Host": host}).status, 200, host)
+        for host in [*other, "localhost", "127.0.0.1", "", f"[::2]:{page.port}", f"x@localhost:{page.port}"]:
+            for method, path in (("GET", "/"), ("GET", "/store"), ("GET", "/events"), ("POST", "/tell")):
+                answer = self.ask(page, method, path, b"", {"Host": host, "X-Token": page.token})
+                self.assertEqual((answer.status, page.token.encode() in answer.body), (403, False), (host, path))
+        with socket.create_connection((LOOPBACK, page.port), timeout=SECONDS) as bare:
+            bare.sendall(b"GET / HTTP/1.0\r\n\r\n")
+            self.assertTrue(bare.recv(65_536).startswith(b"HTTP/1.0 403 "))
+
+    def test_only_who_has_the_token_tells(self) -> None:
+        member, page = self.serve()
+        for token in ("", "x", page.token[:-1], page.token + "x", "\u00e9"):
+            self.assertEqual(self.tell(page, "path(1,2,3)", token).status, 403)
+        self.assertEqual(self.ask(page, "POST", "/tell", b"path(1,2,3)").status, 403)
+        self.assertEqual(self.ask(page, "GET", "/tell").status, 404)
+        self.assertEqual(member.show(), ())
+        text = self.ask(page, "GET", "/").body.decode()
+        found = re.search('<meta name="token" content="([^"]+)">', text)
+        assert found
+        answer = self.tell(page, "path(berlin,paris,1050)", found[1])
+        self.assertEqual(answer[::2], (200, b"told 1:1"))
+        self.assertEqual(member.show(), (("path", "berlin", "paris", 1050),))
+        # another page has another one
+        self.assertNotEqual(self.serve()[1].token, page.token)
+
+    def test_the_page_runs_no_scripts_but_its_own(self) -> None:
+        _, page = self.serve()
+        with self.open(page, "GET", "/") as answer:
+            policy, text = answer.headers["Content-Security-Policy"], answer.read().decode()
+        self.assertTrue(policy.startswith("default-src 'none'; "), policy)
+        nonce = re.search("script-src 'nonce-([^']+)'", policy)
+        assert nonce
+        self.assertEqual(text.count(f'nonce="{nonce[1]}"'), 2)
+        self.assertEqual(re.findall("{{|}}|innerHTML|https?://|src=", text), [])
+
+    def test_lines_that_are_refused(self) -> None:
+        member, page = self.serve()
+        rows: list[tuple[str | bytes, int, str]] = [
+            ("Path", 422, "refused: no atom at byte 0 of 'Path'"),
+            ("path(1,2)", 422, "refused: UnknownSymbol: .* declared with 3 arguments, and not with 2"),
+            ("path(1,2,9223372036854775808)", 422, "refused: Shape: .* does not fit 64 bits"),
+            ("paths(1,2,3)", 422, "is 'path' meant"),
+            ("", 400, "A line has 1 to"),
+            (b"path(\xff,1,2)", 400, "UTF-8"),
+        ]
+        for line, status, said in rows:
+            answer = self.tell(page, line)
+            self.assertEqual((answer.status, answer.kind), (status, "text/plain; charset=utf-8"), line)
+            self.assertRegex(answer.body.decode(), said)
+        for length in ("x", "-1", "1048577", "99999999999"):
+            headers = {"X-Token": page.token, "Content-Length": length}
+            self.assertEqual(self.ask(page, "POST", "/tell", None, headers).status, 400, length)
+        self.assertEqual(self.ask(page, "GET", "/../etc/passwd").status, 404)
+        self.assertEqual(self.ask(page, "PUT", "/tell").status, 501)
+        self.assertEqual(member.show(), ())
+        self.assertEqual(self.tell(page, " path(1,2,3), path(1,2,1) \n").status, 200)
+        self.assertEqual(member.show(), (("path", 1, 2, 1),))
+
+    def test_names_are_escaped(self) -> None:
+        member, page = self.serve()
+        with self.open(page, "GET", "/events") as answer:
+            events = events_of(answer)
+            self.assertEqual([next(events)[0] for _ in range(3)], ["program", "members", "told"])
+            member.tell(("path", HOSTILE, 1, 2))
+            seen = {}
+            while "change" not in seen or "told" not in seen:
+                name, value = next(events)
+                self.assertIn(name, ("told", "change", "members"))
+                seen[name] = value
+        self.assertEqual(seen["change"], {"came": [["path", [HOSTILE], "1", "2"]], "went": []})
+        self.assertEqual(seen["told"], [["1:1", f"path({json.dumps(HOSTILE, ensure_ascii=False)},1,2)"]])
+        store = self.ask(page, "GET", "/store")
+        self.assertEqual(store.kind, "application/json")
+        self.assertEqual(set(store.body) & set(b"<>&'"), set())
+        self.assertEqual(json.loads(store.body)["tables"][0]["rows"], [["path", [HOSTILE], "1", "2"]])
+        self.assertEqual(json.loads(json_text(HOSTILE)), HOSTILE)
+
+
+class Events(Served):
+    def test_what_others_tell_comes(self) -> None:
+        member, page = self.serve()
+        other = self.stack.enter_context(join(self.url))
+        other.tell(("path", "berlin", "paris", 9))
+        with self.open(page, "GET", "/events") as answer:
+            events = events_of(answer)
+            verdict = {"verdict": "accepted: rules 1, cases 541", "log": "log chrrep, origin 1"}
+            self.assertEqual(next(events), ("program", verdict))
+            self.until(events, "told", [["2:1", "path(berlin,paris,9)"]])
+            other.tell(("path", "berlin", "paris", 12))
+            self.until(events, "told", [["2:2", "path(berlin,paris,12)"]])
+            other.tell(("path", "berlin", "paris", 3))
+            came, went = (["path", ["berlin"], ["paris"], length] for length in ("3", "9"))
+            self.until(events, "change", {"came": [came], "went": [went]})
+            end = self.until(events, "members", None)
+            while end["operations"] < 3:
+                end = self.until(events, "members", None)
+            here = end["members"][0]
+            self.assertEqual((here["origin"], here["here"], here["behind"], here["position"]), (1, True, 0, "2:3"))
+        # who comes later is told the last ones too
+        with self.open(page, "GET", "/events") as answer:
+            lines = [f"path(berlin,paris,{length})" for length in (9, 12, 3)]
+            self.until(events_of(answer), "told", [[f"2:{at}", line] for at, line in enumerate(lines, 1)])
+        self.assertEqual(member.refused, 0)
+
+    def until(self, events: Iterator[tuple[str, Any]], name: str, value: object) -> Any:
+        """The first event of this name and value."""
+        for found in events:
+            if found[0] == name and value in (None, found[1]):
+                return found[1]
+        raise AssertionError(f"no event {name} came")
+
+    def test_the_page_goes_over_to_another_program(self) -> None:
+        member, page = self.serve()
+        other = self.stack.enter_context(join(self.url))
+        self.tell(page, "path(1,2,3)")
+        with self.open(page, "GET", "/events") as answer:
+            events = events_of(answer)
+            self.until(events, "program", None)
+            other.upgrade(MARKED + "mark(X) <=> X < 0 | true.\n")
+            program = self.until(events, "program", None)
+            self.assertTrue(program["verdict"].startswith("accepted: rules 2, "), program)
+            self.assertEqual(self.tell(page, "mark(7)").body, b"told 1:2")
+            self.until(events, "change", {"came": [["mark", "7"]], "went": []})
+        self.assertEqual(member.show(), (("mark", 7), ("path", 1, 2, 3)))
+
+    def test_a_looker_that_is_too_slow_begins_anew(self) -> None:
+        _, page = self.serve()
+        with page.watcher.looking() as looker:
+            assert looker
+            for _ in range(1001):
+                page.watcher._tell("told", [])
+            self.assertEqual(len(page.watcher._lookers), 0)
+            self.assertTrue(page.watcher.is_looking(looker))
+            while not looker.empty():
+                looker.get()
+            self.assertFalse(page.watcher.is_looking(looker))
+        with ExitStack() as stack:
+            lookers = [stack.enter_context(page.watcher.looking()) for _ in range(17)]
+            self.assertEqual([looker is None for looker in lookers], [False] * 16 + [True])
+            self.assertEqual(self.ask(page, "GET", "/events").status, 503)
+
+    def test_a_log_that_goes_away_is_told(self) -> None:
+        member, page = self.serve()
+        with self.open(page, "GET", "/events") as answer, self.assertLogs("chrrep.link", "WARNING"):
+            (self.room / "log.sqlite").rename(self.room / "elsewhere")
+            fault = self.until(events_of(answer), "fault", None)
+        self.assertRegex(fault, "LogUnusable: the log's file is gone")
+        told = self.tell(page, "path(1,2,3)")
+        self.assertEqual((told.status, told.body.count(b"\n")), (503, 0))
+        self.assertIn(b"LogUnusable: the log's file is gone", told.body)
+        self.assertEqual(self.ask(page, "GET", "/store").body, b'{"tables":[]}')
+
+
+class Tables(unittest.TestCase):
+    def test_atoms_by_symbols(self) -> None:
+        atoms: list[Atom] = [("b", 1), ("a",), ("b", "berlin"), ("b", 1, 2), ("b", 12), ("a",)]
+        found = [(one.symbol, one.arguments, one.all, one.found, one.rows) for one in tables_of(atoms)]
+        ones = [("b", 1), ("b", "berlin"), ("b", 12)]
+        wanted = [("a", 0, 2, 2, [("a",)] * 2), ("b", 1, 3, 3, ones), ("b", 2, 1, 1, [("b", 1, 2)])]
+        self.assertEqual(found, wanted)
+        self.assertEqual([one.rows for one in tables_of(atoms, "BER b")], [[("b", "berlin")]])
+        found_one = [(one.found, one.rows) for one in tables_of(atoms, "b(1", 1)]
+        self.assertEqual(found_one, [(2, [("b", 1)]), (1, [("b", 1, 2)])])
+        self.assertEqual(tables_of(atoms, "nothing"), [])
+
+    def test_how_far_members_are_behind(self) -> None:
+        end = {1: 10, 2: 5}
+        positions: list[dict[int, int]] = [{}, {1: 10, 2: 5}, {1: 4, 2: 5, 3: 9}]
+        self.assertEqual([behind(position, end) for position in positions], [15, 0, 6])
+        heard = [Heard(1, {1: 3}, 2.0), Heard(2, {1: 10}, 12.0), Heard(3, {}, 700.0)]
+        found = members_of(heard, 1, {1: 10, 2: 4}, end)
+        wanted = [(1, True, 10, 1, "1:10, 2:4", "now", False), (2, False, 5, 5, "1:10", "12 s ago", True)]
+        self.assertEqual([tuple(one[name] for name in ORDER) for one in found], wanted)
+
+
+ORDER = ("origin", "here", "told", "behind", "position", "heard", "silent")
+
+
+class Ports(Served):
+    def test_a_port_that_is_taken(self) -> None:
+        member, page = self.serve()
+        with self.assertRaisesRegex(PageUnusable, f"^port {page.port} of this machine is taken by another program: "):
+            Page(member, page.port)
+        for port in (-1, 65_536):
+            with self.assertRaisesRegex(PageUnusable, f"^port {port} .*is not to be had"):
+                Page(member, port)
+        # the member goes on
+        self.assertEqual(member.tell(("path", 1, 2, 3)).number, 1)
+        page.close()
+        with Page(member, page.port) as again:
+            self.assertEqual(self.ask(again, "GET", "/").status, 200)
+
+    def test_the_command_serves_a_page(self) -> None:
+        program = self.room / "coins.chr"
+        program.write_text(COINS)
+        command = self.command("--page", "0", str(program))
+        assert command.stderr and command.stdin
+        said = [command.stderr.readline().decode() for _ in range(2)]
+        found = re.fullmatch(r"chrrep.link: the page is http://127.0.0.1:(\d+)/\n", said[1])
+        assert found, said
+        connection = HTTPConnection(LOOPBACK, int(found[1]), timeout=SECONDS)
+        self.addCleanup(connection.close)
+        connection.request("GET", "/store")
+        self.assertEqual(connection.getresponse().read(), b'{"tables":[]}')
+        taken = self.command("--page", found[1], str(program))
+        out, err = taken.communicate(b"coin\n", timeout=SECONDS)
+        self.assertEqual((taken.returncode, out), (3, b""))
+        lines = err.decode().splitlines()
+        self.assertRegex(lines[-1], f"^chrrep.link: PageUnusable: port {found[1]} of this machine is taken")
+        self.assertEqual(len(lines), 2)
+        out, err = command.communicate(b"coin\n?\n", timeout=SECONDS)
+        self.assertEqual((command.returncode, out, err), (0, b"told 1:1\ncoin\n", b""))
+        both = self.command("--page", "0", "--upgrade", str(program))
+        self.assertEqual((both.wait(SECONDS), both.communicate()[0]), (2, b""))
+
+    def command(self, *words: str) -> "subprocess.Popen[bytes]":
+        env = {**os.environ, "PYTHONPATH": str(PACKAGE), "PYTHONDONTWRITEBYTECODE": "1"}
+        command = subprocess.Popen(
+            [sys.executable, "-m", "chrrep.link", *words],
+            env=env,
+            stdin=subprocess.PIPE,
+            stdout=subprocess.PIPE,
+            stderr=subprocess.PIPE,
+        )
+        self.addCleanup(command.wait)
+        self.addCleanup(command.kill)
+        return command
+
+
+@unittest.skipUnless(CHROMIUM and DRIVER, "there is no Chromium with its driver: chromium, chromium-driver")
+class Browsers(Served):
+    """The environment's CHRREP_PICTURES names a folder for pictures of the page."""
+
+    def test_the_page_in_a_browser(self) -> None:
+        member, page = self.serve(PATHS + ":- chr_constraint closed/1.\n")
+        other = self.stack.enter_context(join(self.url))
+        other.tell_many([[atom] for atom in ROUTES])
+        with Browser(1200, 800) as browser:
+            browser.go(page.url)
+            browser.wait_for("document.querySelectorAll('#tables tr').length == 6")
+            self.assertIn("accepted: rules 1", browser.run("return document.getElementById('verdict').textContent"))
+            self.assertEqual(browser.run("return document.querySelectorAll('tr.came, tr.went').length"), 0)
+            browser.type("#line", "path(berlin,rome,1480)\n")
+            browser.wait_for("document.getElementById('answer').textContent == 'told 1:1'")
+            browser.wait_for("document.querySelector('tr.came') && document.querySelector('tr.went')")
+            shown = "return [...document.querySelectorAll('tr.%s td')].map(cell => cell.textContent)"
+            self.assertEqual(browser.run(shown % "came"), ["berlin", "rome", "1480"])
+            self.assertEqual(browser.run(shown % "went"), ["berlin", "rome", "1500"])
+            # what another tells comes by itself
+            other.tell(("path", "lisbon", "madrid", 625))
+            browser.wait_for("document.getElementById('told').textContent.includes('path(lisbon,madrid,625)')")
+            browser.wait_for("document.querySelectorAll('tr.came').length == 2")
+            other.catch_up()
+            read = "['1 (here)|1|0|now', '2|7|0|now']"
+            browser.wait_for(f"{MEMBERS}.join() == {read}.join()")
+            for width, height in ((1200, 800), (400, 860)):
+                browser.resize(width, height)
+                time.sleep(0.3)
+                self.assertLessEqual(browser.run("return document.documentElement.scrollWidth"), width)
+                if folder := os.environ.get("CHRREP_PICTURES"):
+                    browser.picture(Path(folder) / f"page-{width}.png")
+            browser.type("#find", "paris rome")
+            browser.wait_for("document.querySelectorAll('#tables section').length == 1")
+            browser.wait_for("document.querySelector('#tables small').textContent == '1 of 6 atoms'")
+            browser.type("#line", "path(1,2)\n")
+            browser.wait_for("document.getElementById('answer').className == 'bad'")
+        self.assertEqual(member.count("path"), 6)
+
+    def test_names_are_text_in_a_browser(self) -> None:
+        member, page = self.serve()
+        member.tell(("path", HOSTILE, "<script>document.title='taken'</script>", 1))
+        with Browser(800, 600) as browser:
+            browser.go(page.url)
+            browser.wait_for("document.querySelectorAll('#tables td').length == 3")
+            self.assertEqual(browser.run("return document.querySelector('#tables td').textContent"), HOSTILE)
+            self.assertEqual(browser.run("return document.querySelectorAll('main img, main script').length"), 0)
+            self.assertEqual(browser.run("return document.title"), "chrrep")
+
+
+MEMBERS = """[...document.querySelectorAll('#members tr')].slice(1)
+    .map(row => [...row.children].map(cell => cell.textContent).join('|'))"""
+ROUTES: list[tuple[str | int, ...]] = [
+    ("path", "berlin", "paris", 1050),
+    ("path", "berlin", "rome", 1500),
+    ("path", "paris", "rome", 1420),
+    ("path", "oslo", "stockholm", 520),
+    ("path", "S\u00e3o Paulo", "Rio de Janeiro", 430),
+    ("closed", "paris"),
+]
