@@ -1095,3 +1095,17 @@ class Outages(Links):
             self.engine.start()
         self.assertEqual(member.tell(("a", 3)), Id(1, 2))
         self.assertEqual(member.show(), (("a", 1), ("a", 3)))
+
+    def test_a_command_whose_engine_is_not_there(self) -> None:
+        """At first, or later on: one sentence, and what was acknowledged stays."""
+        command = self.command("--patience", "0.5")
+        self.assertEqual(command.ask("path(1,2,3)"), "told 1:1")
+        self.engine.stop()
+        try:
+            ends = [command.end(), self.command("--patience", "0.5").end()]
+        finally:
+            self.engine.start()
+        for status, said in ends:
+            self.assertEqual((status, said.count("\n")), (3, 1), said)
+            self.assertRegex(said, "^chrrep.link: LinkLost: the engine doesn't answer: ")
+        self.assertEqual(self.member().show(), (("path", 1, 2, 3),))

@@ -13,9 +13,13 @@ from tempfile import TemporaryDirectory
 
 import links
 from chrrep.link import LinkLost, LogUnusable, connect, join
+from chrrep.link.__main__ import _beside
 from engines import Embedded
 from kills import PACKAGE
 from programs import COINS, PATHS, PLAIN
+
+
+NOBODY = 65_534
 
 
 class SqliteLinks(links.Everything, links.Leases):
@@ -158,7 +162,53 @@ class DefaultLog(unittest.TestCase):
         self.assertIn("NoProgram", self.run_command("--engine", f"sqlite:///{self.program}.log", status=3)[1])
         self.assertIn("ValueError", self.run_command("--engine", "mysql://x", self.program, status=3)[1])
 
+    def is_refused(self, said: str, *words: str | Path) -> None:
+        """Whether the command tells nothing, and one sentence of why."""
+        out, err = self.run_command(*words, said="path(1,2,3)\n", status=3)
+        self.assertEqual((out, err.count("\n")), ("", 1), err)
+        self.assertRegex(err, f"^chrrep.link: {said}")
+
+    def test_a_folder_that_is_in_the_way_or_is_missing(self) -> None:
+        folder = self.program.parent / ".chrrep"
+        folder.write_text("in its way")
+        self.is_refused("LogUnusable: the folder of the log can't be made: .*exists", self.program)
+        folder.unlink()
+        self.is_refused("FileNotFoundError: .*No such file", folder.with_name("missing.chr"))
+
+    @unittest.skipUnless(os.geteuid() == 0, "who isn't root has no other user's rights")
     def test_a_folder_that_cannot_be_written(self) -> None:
-        (self.program.parent / ".chrrep").write_text("in its way")
-        out, err = self.run_command(self.program, said="path(1,2,3)\n", status=3)
-        self.assertEqual((out, err.count("\n"), "FileExistsError" in err), ("", 1, True))
+        room = self.program.parent
+        room.chmod(0o755)
+        log = room / "log.sqlite"
+        with join(f"sqlite:///{log}", PLAIN) as member:
+            member.tell(("a", 1))
+        os.seteuid(NOBODY)
+        try:
+            with self.assertRaisesRegex(LogUnusable, "the folder of the log can't be made: .*Permission denied"):
+                _beside(self.program)
+            for path in (room / "new.sqlite", log):
+                with self.assertRaisesRegex(LogUnusable, "(unable to open|readonly) database"):
+                    connect(f"sqlite:///{path}", patience=0.2)
+        finally:
+            os.seteuid(0)
+        with join(f"sqlite:///{log}") as member:
+            self.assertEqual(member.show(), (("a", 1),))
+
+    def test_files_that_are_no_log_of_this_version(self) -> None:
+        engine = Embedded()
+        self.addCleanup(engine.close)
+        with join(engine.url, PATHS) as member:
+            member.tell(("path", 1, 2, 3))
+        engine.set_format("chrrep", 2)
+        self.is_refused("NewerFormat: the log has format 2", "--engine", engine.url, self.program)
+        engine.set_format("chrrep", 1)
+        whole = engine.path.read_bytes()
+        damaged = bytearray(whole)
+        damaged[:64] = os.urandom(64)
+        for content in (bytes(damaged), b"no log " * 2000, whole[:4096] + os.urandom(len(whole) - 4096)):
+            engine.path.write_bytes(content)
+            self.is_refused("LogUnusable: the log in .* can't be used: ", "--engine", engine.url, self.program)
+            self.assertEqual(engine.path.read_bytes()[:64], content[:64])
+        engine.path.write_bytes(whole)
+        told = self.run_command("--engine", engine.url, self.program, said="?")
+        self.assertEqual(told, ("path(1,2,3)\n", ""))

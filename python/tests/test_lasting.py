@@ -18,7 +18,7 @@ if __name__ == "__main__":
 from chrrep import Atom
 from chrrep.link import Member, connect, join
 
-OPERATIONS = int(os.environ.get("CHRREP_OPERATIONS", "200000"))
+OPERATIONS = int(os.environ.get("CHRREP_OPERATIONS", "1000000"))
 TELLERS = 2
 BATCH = 1000
 SECONDS = 3600.0

@@ -16,6 +16,7 @@ from pathlib import Path
 
 from .. import Atom, Refused, RefusedProgram
 from ..names import NameClash, named_atoms_of
+from .faults import LogUnusable
 from .log import LOG_NAME, PATIENCE, one_line
 from .member import BATCH, SNAPSHOT_AFTER, Member, join
 from .sqlite import PREFIX
@@ -101,7 +102,10 @@ def _page(member: Member, port: int | None) -> AbstractContextManager[object]:
 def _beside(program: Path) -> str:
     """The address of the log in the folder `.chrrep` beside a program text, which is made where it isn't there."""
     folder = program.resolve().parent / ".chrrep"
-    folder.mkdir(exist_ok=True)
+    try:
+        folder.mkdir(exist_ok=True)
+    except OSError as fault:
+        raise LogUnusable(f"the folder of the log can't be made: {fault}") from fault
     return f"{PREFIX}{folder / program.stem}.sqlite"
 
 
