@@ -37,8 +37,18 @@ class Command:
     ) -> None:
         words = ["--engine", engine.url, "--log", log, "--patience", str(SECONDS), *options]
         words += [str(program)] if program else []
+        self._start([sys.executable, *(wounded or ("-m", "chrrep.link")), *words])
+
+    @classmethod
+    def of(cls, words: Sequence[str]) -> "Command":
+        """The node that these words start."""
+        command = cls.__new__(cls)
+        command._start(words)
+        return command
+
+    def _start(self, words: Sequence[str]) -> None:
         self.process = subprocess.Popen(
-            [sys.executable, *(wounded or ("-m", "chrrep.link")), *words],
+            words,
             stdin=subprocess.PIPE,
             stdout=subprocess.PIPE,
             stderr=subprocess.PIPE,

@@ -1,6 +1,7 @@
 """Members of a log in a file, and what becomes of files."""
 
 import os
+import shutil
 import sqlite3
 import subprocess
 import sys
@@ -15,11 +16,13 @@ import links
 from chrrep.link import LinkLost, LogUnusable, connect, join
 from chrrep.link.__main__ import _beside
 from engines import Embedded
-from kills import PACKAGE
+from kills import PACKAGE, Command
 from programs import COINS, PATHS, PLAIN
 
 
 NOBODY = 65_534
+REPOSITORY = Path(__file__).resolve().parents[2]
+LOGS = shutil.ignore_patterns(".chrrep", "log")
 
 
 class SqliteLinks(links.Everything, links.Leases):
@@ -212,3 +215,26 @@ class DefaultLog(unittest.TestCase):
         engine.path.write_bytes(whole)
         told = self.run_command("--engine", engine.url, self.program, said="?")
         self.assertEqual(told, ("path(1,2,3)\n", ""))
+
+
+class Example(unittest.TestCase):
+    def test_routes_with_nothing_installed(self) -> None:
+        """A copy of the folder, beside the repository's tools: two commands, and names of towns."""
+        with TemporaryDirectory() as name:
+            room = Path(name)
+            shutil.copytree(REPOSITORY / "examples" / "routes", room / "examples" / "routes", ignore=LOGS)
+            (room / "tools").symlink_to(REPOSITORY / "tools")
+            nodes = [self.start(room) for _ in range(2)]
+            one, other = nodes
+            self.assertEqual(one.ask("path(berlin,paris,1050)"), "told 1:1")
+            self.assertEqual(other.ask("?"), "path(berlin,paris,1050)")
+            self.assertEqual(other.ask("path(berlin,paris,1040), path(paris,rome,1420)"), "told 2:1")
+            shown = set((one.ask("?") or "").split(", "))
+            self.assertEqual(shown, {"path(berlin,paris,1040)", "path(paris,rome,1420)"})
+            self.assertEqual([node.end()[0] for node in nodes], [0, 0])
+
+    def start(self, room: Path) -> Command:
+        node = Command.of([str(room / "examples" / "routes" / "node")])
+        self.addCleanup(node.kill)
+        self.assertEqual(node.ask("?"), "true")
+        return node
