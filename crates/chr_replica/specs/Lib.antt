@@ -1,4 +1,5 @@
 pub mod Leases
+pub mod LeastOut
 pub mod Replicas
 pub mod Laws
 pub mod Refusals

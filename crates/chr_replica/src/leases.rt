@@ -2,6 +2,7 @@
 ghost use Rattle.std.specs.Prelude.{◌≡◌, ◌+◌, ◌<◌, ◌^◌, length, OnOk, OnErr, IfSome, IfNone, IsSome, option_copied};
 ghost use Rattle.std.specs.FinMap as map;
 ghost use Rattle.chr_replica.specs.Leases.{with_parts, parts_in, AreBelow};
+ghost use Rattle.chr_replica.specs.LeastOut.{AreFrom};
 
 use chr_base::bag::Bag;
 use chr_join::Lease;
@@ -95,6 +96,7 @@ impl Leases {
     /// The least number that is out. It takes no memory.
     pub(crate) fn least(&self) -> Option<u64>
         ensures some { IfSome result (λ k. IsSome (map.get self.now k)) }
+        ensures least { IfSome result (AreFrom self.now) }
         ensures none { IfNone result (self.now ≡ map.empty) }
     {
         match self.parts.first_key_value() {

@@ -3,6 +3,7 @@ ghost use Rattle.std.specs.Prelude.{◌≡◌, ◌≤◌, IfErr, IfNone, IfOk, I
 ghost use Rattle.std.specs.FinMap as map;
 ghost use Rattle.chr_weights.specs.WeighedPrograms.{program_of};
 ghost use Rattle.chr_replica.specs.Leases.{parts_in, AreNumbered};
+ghost use Rattle.chr_replica.specs.LeastOut.{AreFrom};
 ghost use Rattle.chr_replica.specs.Replicas.{Takes, TakesParts, Puts, Recalls};
 ghost use Rattle.chr_replica.specs.Refusals.{RefusesTake, RefusesTakeParts, RefusesPut, RefusesRecall};
 ghost use Rattle.chr_replica.specs.Boards.{program_on};
@@ -115,6 +116,7 @@ impl Board {
     /// The least lease number that is out. It takes no memory.
     pub fn least_lease(&self) -> Option<u64>
         ensures some { IfSome result (λ k. IsSome (map.get self.now.replica.out k)) }
+        ensures least { IfSome result (AreFrom self.now.replica.out) }
         ensures none { IfNone result (self.now.replica.out ≡ map.empty) }
     {
         self.state.least_lease()

@@ -3,6 +3,7 @@ ghost use Rattle.std.specs.Prelude.{◌≡◌, ◌≤◌, IfErr, IfNone, IfOk, I
 ghost use Rattle.std.specs.FinMap as map;
 ghost use Rattle.chr_weights.specs.WeighedPrograms.{program_of};
 ghost use Rattle.chr_replica.specs.Leases.{parts_in, AreNumbered, AreBelow};
+ghost use Rattle.chr_replica.specs.LeastOut.{AreFrom};
 ghost use Rattle.chr_replica.specs.Replicas.{Takes, TakesParts, Puts, Recalls};
 ghost use Rattle.chr_replica.specs.Refusals.{RefusesTake, RefusesTakeParts, RefusesPut, RefusesRecall};
 
@@ -135,6 +136,7 @@ impl State {
     /// The least lease number that is out. It takes no memory.
     pub(crate) fn least_lease(&self) -> Option<u64>
         ensures some { IfSome result (λ k. IsSome (map.get self.now.out k)) }
+        ensures least { IfSome result (AreFrom self.now.out) }
         ensures none { IfNone result (self.now.out ≡ map.empty) }
     {
         self.out.least()

@@ -1,7 +1,8 @@
-use Rattle.std.proofs.Common.{◌≡◌, Some, sym, ap, ◌∙◌}
+use Rattle.std.proofs.Common.{◌≡◌, Some, IsSome, sym, ap, subst, ◌∙◌}
 use Rattle.std.specs.Option.{is_some}
 use Rattle.std.specs.FinMap as map
-use Rattle.chr_replica.proofs.LeaseLists.{get_part}
+use Rattle.std.proofs.lemmas.Map.Keys.{le_from_not_gt}
+use Rattle.chr_replica.proofs.LeaseLists.{get_part, part_at}
 use Rattle.chr_replica.proofs.leases.Leases.least.Goals as goal
 
 pub returns-in-Some-clause-some : goal.returns-in-Some-clause-some
@@ -10,3 +11,9 @@ returns-in-Some-clause-some c =
     let there : map.get c.args.self.now k ≡ Some c.in-Some.field-0-1.now =
     ap (λ m. map.get m k) (sym c.self.view_is) ∙ get_part c.self.inside.parts.entries k ∙ c.in-Some.ensures.value in
     ap is_some there
+
+pub returns-in-Some-clause-least : goal.returns-in-Some-clause-least
+returns-in-Some-clause-least c = λ q out.
+    let same : map.get c.args.self.now q ≡ part_at c.self.inside.parts.entries q =
+    ap (λ m. map.get m q) (sym c.self.view_is) ∙ get_part c.self.inside.parts.entries q in
+    le_from_not_gt c.in-Some.number.now q (c.in-Some.ensures.least q (subst IsSome same out))

@@ -1,0 +1,5 @@
+use Rattle.chr_claims.specs.Seats.{IsOf}
+use Rattle.chr_workers.proofs.parts.work.Given as goal
+
+abbrev pub invariant-loop : goal.invariant-loop
+invariant-loop g l = IsOf l.places.claims l.seat

@@ -1,0 +1,173 @@
+//! Parts that are claimed by workers, and rested.
+ghost use Rattle.std.specs.Prelude.{◌≡◌, ◌≤◌, vec_len, All, IfOk};
+ghost use Rattle.chr_base.specs.declared.limits.TheConstants.{MAX_PARTS, MAX_WORKERS};
+ghost use Rattle.chr_base.specs.Rewriting.{IsAtRest};
+ghost use Rattle.chr_base.specs.Rules.{Step};
+ghost use Rattle.chr_weights.specs.WeighedPrograms.{rules_in};
+ghost use Rattle.chr_claims.specs.Seats.{IsOf};
+
+use crate::gate::Gate;
+use chr_base::limits::{MAX_PARTS, MAX_WORKERS};
+use chr_claims::{ClaimSeat, Claims};
+use chr_join::{Accepted, Done, Lease};
+use std::alloc::{AllocError, Global};
+use std::sync::{Mutex, Wait};
+use std::thread;
+use std::thread::Threads;
+
+/// What came of a lease that was rested: its type keeps that the result is at rest.
+#[derive(Drop)]
+pub struct Rested {
+    /// What is put for the lease.
+    pub done: Done,
+    pub ghost rests: { IsAtRest (Step (rules_in done.weighed)) done.result },
+}
+
+/// A place for each part, which is claimed by its number: the lease that waits there, and what came of it, each under a
+/// lock of its own.
+#[derive(Drop)]
+struct Places {
+    claims: Claims,
+    waiting: Vec<Mutex<Option<Lease>>>,
+    results: Vec<Mutex<Option<Rested>>>,
+    ghost all_wait: { vec_len waiting ≡ claims.parts },
+    ghost all_result: { vec_len results ≡ claims.parts },
+    ghost few: { claims.parts ≤ MAX_PARTS },
+}
+
+/// Room for parts that workers will rest, with a seat for each worker.
+#[derive(Drop)]
+pub struct Parts {
+    places: Places,
+    seats: Vec<ClaimSeat>,
+    ghost seated: { All (λ s. IsOf places.claims s) seats.items },
+}
+
+impl Places {
+    /// Empty places for so many parts, and the seats of so many workers.
+    fn open(alloc: Global, parts: u32, workers: u32) -> Result<(Places, Vec<ClaimSeat>), AllocError>
+        requires workers { 1 ≤ workers }
+        requires parts { parts ≤ MAX_PARTS }
+        ensures { IfOk result (λ r. All (λ s. IsOf r.0.claims s) r.1.items) }
+    {
+        let mut waiting = Vec::with_capacity(alloc, parts as usize)?;
+        let mut results = Vec::with_capacity(alloc, parts as usize)?;
+        for _ in 0..parts {
+            waiting.push_reserved(Mutex::new(None));
+            results.push_reserved(Mutex::new(None));
+        }
+        let (claims, seats) = Claims::open(alloc, parts, workers)?;
+        let places = Places {
+            claims,
+            waiting,
+            results,
+        };
+        Ok((places, seats))
+    }
+
+    /// Puts each lease down at its place, where there is that place.
+    fn put_down<R: Wait>(&self, rt: &R, leases: Vec<Lease>) {
+        let mut leases = leases;
+        while let Some(lease) = leases.pop() {
+            if let Some(place) = self.waiting.get(leases.len()) {
+                *place.lock(rt) = Some(lease);
+            }
+        }
+    }
+}
+
+impl Parts {
+    /// Room for so many parts and workers. No memory is wanted after it but for the resting itself.
+    pub fn open(alloc: Global, parts: u32, workers: u32) -> Result<Parts, AllocError>
+        requires workers { (1 ≤ workers) × (workers ≤ MAX_WORKERS) }
+        requires parts { parts ≤ MAX_PARTS }
+    {
+        let (places, seats) = Places::open(alloc, parts, workers)?;
+        Ok(Parts { places, seats })
+    }
+}
+
+/// What comes of a lease that is rested, where memory is not refused.
+fn rest_one(alloc: Global, accepted: &Accepted, lease: Lease) -> Option<Rested> {
+    match accepted.rest_part(alloc, lease) {
+        Ok(done) => Some(Rested { done }),
+        Err(_) => None,
+    }
+}
+
+/// One worker: it claims a part, passes the gate, rests the part outside any lock, and puts down what came of it, as
+/// long as there are parts. One whose resting is refused memory is left out.
+fn work<R: Wait, G: Gate>(
+    rt: &R,
+    alloc: Global,
+    accepted: &Accepted,
+    places: &Places,
+    seat: ClaimSeat,
+    gate: &G,
+)
+    requires { IsOf places.now.claims seat }
+{
+    let mut seat = seat;
+    for _ in 0..places.waiting.len() {
+        let Some(claim) = places.claims.next(&mut seat) else {
+            return;
+        };
+        let part = places.waiting[claim as usize].lock(rt).take();
+        gate.pass(claim + 1);
+        if let Some(lease) = part {
+            *places.results[claim as usize].lock(rt) = rest_one(alloc, accepted, lease);
+        }
+    }
+}
+
+/// Starts a worker for each seat but the last, which is that of the caller's thread, and works until all are done. A
+/// worker that cannot be started is left out: the others claim its parts.
+fn start<R: Threads + Wait + Sync, G: Gate>(
+    rt: &R,
+    alloc: Global,
+    accepted: &Accepted,
+    places: &Places,
+    seats: Vec<ClaimSeat>,
+    gate: &G,
+)
+    requires { All (λ s. IsOf places.now.claims s) seats.items }
+{
+    let mut seats = seats;
+    let Some(mine) = seats.pop() else {
+        return;
+    };
+    thread::scope(
+        thread::scope_env(),
+        rt,
+        move |scope|
+            requires { All (λ s. IsOf places.now.claims s) seats.items × IsOf places.now.claims mine }
+        {
+            let mut seats = seats;
+            while let Some(seat) = seats.pop() {
+                let _ = scope.spawn(
+                    move ||
+                        requires { IsOf places.now.claims seat }
+                    { work(rt, alloc, accepted, places, seat, gate) },
+                );
+            }
+            work(rt, alloc, accepted, places, mine, gate);
+        },
+    );
+}
+
+/// Rests leases by workers, of which the caller is the first, and answers what came of them. One whose resting is
+/// refused memory is left out, and so are those for which there is no room.
+pub fn rest_parts<R: Threads + Wait + Sync, G: Gate>(
+    rt: &R,
+    alloc: Global,
+    accepted: &Accepted,
+    parts: Parts,
+    leases: Vec<Lease>,
+    gate: &G,
+) -> Vec<Mutex<Option<Rested>>> {
+    let Parts { places, seats } = parts;
+    places.put_down(rt, leases);
+    start(rt, alloc, accepted, &places, seats, gate);
+    let Places { results, .. } = places;
+    results
+}

@@ -1,0 +1,124 @@
+//! Boards rested by workers.
+ghost use Rattle.std.specs.Prelude.{◌≡◌, ◌≤◌, OnOk};
+ghost use Rattle.std.specs.FinMap as map;
+ghost use Rattle.chr_base.specs.declared.limits.TheConstants.{MAX_PARTS, MAX_WORKERS};
+ghost use Rattle.chr_base.specs.Programs.{rules_of};
+ghost use Rattle.chr_join.specs.Parts.{IsOnlyNormalForm};
+ghost use Rattle.chr_ops.specs.Operations.{told_store};
+ghost use Rattle.chr_replica.specs.Boards.{program_on};
+ghost use Rattle.chr_replica.specs.Replicas.{IsSettled, IsSound};
+ghost use Rattle.chr_workers.specs.Kept.{IsKeptBy};
+
+use crate::gate::Gate;
+use crate::parts::{Parts, rest_parts};
+use crate::returning::{put_results, recall_all, rest};
+use chr_base::limits::{MAX_PARTS, MAX_WORKERS};
+use chr_replica::laws::one_answer;
+use chr_replica::{Board, Refusal};
+use std::alloc::{AllocError, Global};
+use std::sync::Wait;
+use std::thread::Threads;
+
+/// As many atoms a board was told at most for its pool to be settled at once: with so few, threads cost more than they
+/// save.
+const FEW_ATOMS: u64 = 1024;
+
+/// Whether time can be saved by resting the pool in parts.
+fn is_worth_cutting(board: &Board, workers: u32, parts: u32) -> bool {
+    workers > 1 && parts > 1 && board.ops().told() > FEW_ATOMS
+}
+
+/// Leases the whole pool out in parts, rests them by workers, and puts what came of them. Parts that were refused
+/// memory are recalled. Nothing happens where it would save no time, or where the lease numbers don't suffice.
+fn rest_in_parts<R: Threads + Wait + Sync, G: Gate>(
+    rt: &R,
+    alloc: Global,
+    board: &mut Board,
+    workers: u32,
+    parts: u32,
+    gate: &G,
+) -> Result<(), AllocError>
+    requires out { board.old.replica.out ≡ map.empty }
+    requires workers { (1 ≤ workers) × (workers ≤ MAX_WORKERS) }
+    requires parts { (1 ≤ parts) × (parts ≤ MAX_PARTS) }
+    ensures kept { IsKeptBy board.old board.new }
+    ensures out { OnOk result (board.new.replica.out ≡ map.empty) }
+{
+    if !is_worth_cutting(board, workers, parts) {
+        return Ok(());
+    }
+    let places = Parts::open(alloc, parts, workers)?;
+    let leases = match board.take_parts(alloc, parts) {
+        Ok(leases) => leases,
+        Err(Refusal::Memory) => return Err(AllocError),
+        Err(_) => return Ok(()),
+    };
+    let results = rest_parts(rt, alloc, board.program(), places, leases, gate);
+    put_results(board, results);
+    recall_all(board)
+}
+
+/// Looks into a board that has settled, for the contract alone.
+fn has_the_answer(board: &Board)
+    requires { IsSettled (program_on board.now) board.now.replica }
+    ensures { IsOnlyNormalForm (rules_of (program_on board.now))
+        (told_store board.now.replica.operations) board.now.replica.pool }
+{
+    one_answer();
+    board.is_sound();
+    board.program().weighed();
+}
+
+/// Rests the pool in parts, and then what has come back.
+fn rest_all<R: Threads + Wait + Sync, G: Gate>(
+    rt: &R,
+    alloc: Global,
+    board: &mut Board,
+    workers: u32,
+    parts: u32,
+    gate: &G,
+) -> Result<(), AllocError>
+    requires out { board.old.replica.out ≡ map.empty }
+    requires workers { (1 ≤ workers) × (workers ≤ MAX_WORKERS) }
+    requires parts { (1 ≤ parts) × (parts ≤ MAX_PARTS) }
+    ensures kept { IsKeptBy board.old board.new }
+    ensures settled { OnOk result (IsSettled (program_on board.old) board.new.replica) }
+{
+    rest_in_parts(rt, alloc, board, workers, parts, gate)?;
+    rest(board)
+}
+
+/// Rests a board of which no lease is out. The pool is taken in so many parts, 1 to [`MAX_PARTS`], which so many
+/// workers, 1 to [`MAX_WORKERS`], claim and rest in threads, of which the caller's is one; a worker that cannot be
+/// started is left out. What came of them is put, and the rest is settled. The pool is then the one normal form of what
+/// was told, whatever the workers did.
+///
+/// It is settled at once where lease numbers are used up, and where parts would save no time: with one worker or one
+/// part, or where the board was told few atoms. A caller who knows that few came in since it was at rest asks for one
+/// worker.
+///
+/// # Errors
+/// Where memory is refused. Leases may be out then: [`Board::least_lease`] and [`Board::recall`] bring all back.
+pub fn rest_board<R: Threads + Wait + Sync, G: Gate>(
+    rt: &R,
+    alloc: Global,
+    board: &mut Board,
+    workers: u32,
+    parts: u32,
+    gate: &G,
+) -> Result<(), AllocError>
+    requires out { board.old.replica.out ≡ map.empty }
+    requires workers { (1 ≤ workers) × (workers ≤ MAX_WORKERS) }
+    requires parts { (1 ≤ parts) × (parts ≤ MAX_PARTS) }
+    ensures kept { IsKeptBy board.old board.new }
+    ensures sound { IsSound (program_on board.old) board.new.replica }
+    ensures settled { OnOk result (IsSettled (program_on board.old) board.new.replica) }
+    ensures answer { OnOk result (IsOnlyNormalForm (rules_of (program_on board.old))
+        (told_store board.old.replica.operations) board.new.replica.pool) }
+{
+    let rested = rest_all(rt, alloc, board, workers, parts, gate);
+    board.is_sound();
+    rested?;
+    has_the_answer(board);
+    Ok(())
+}
