@@ -1,0 +1,96 @@
+//! Boards that were told many atoms, and what they come to.
+use chr_base::atom::Atom;
+use chr_base::bag::Bag;
+use chr_join::{Accepted, Coverage, accept};
+use chr_ops::{Op, OpId};
+use chr_replica::Board;
+use chr_testing::atoms::atom;
+use chr_testing::texts::weighed_of;
+use std::alloc::Global;
+use std::process::Abort;
+use std::sync::Arc;
+use std::thread::Threads;
+
+/// The program of the least value of each key.
+const LEAST: &str = ":- chr_constraint best/2. best(K,V) \\ best(K,W) <=> V =< W | true.";
+
+/// How many keys there are.
+const KEYS: u64 = 10;
+
+/// How many atoms an operation has.
+const SIZE: u64 = 64;
+
+/// That program, accepted.
+fn accepted(rt: &(impl Abort + Threads + Sync), alloc: Global) -> Arc<Accepted> {
+    let weighed = weighed_of(alloc, LEAST).expect(rt, "a program that lowers");
+    let accepted = accept(rt, alloc, weighed, Coverage::Joint).ok();
+    Arc::new(alloc, accepted.expect(rt, "accepted")).expect(rt, "memory")
+}
+
+/// The key of the atom of a number.
+fn key_of(number: u64) -> i64 {
+    (number % KEYS) as i64
+}
+
+/// Its value: different ones, in an order that is not that of the numbers.
+fn value_of(number: u64) -> i64 {
+    (number % 100_000 * 7919 % 100_003) as i64
+}
+
+/// `best(key,value)`.
+fn best(key: i64, value: i64) -> Atom {
+    atom(0, &[key, value])
+}
+
+/// The atoms that follow those of the operation before this one.
+fn atoms_of(rt: &impl Abort, alloc: Global, number: u32) -> Bag {
+    let mut bag = Bag::new(alloc);
+    for place in 0..SIZE {
+        let at = u64::from(number) * SIZE + place;
+        bag.add(best(key_of(at), value_of(at))).expect(rt, "memory");
+    }
+    bag
+}
+
+/// The operation of this number.
+fn operation(rt: &impl Abort, alloc: Global, number: u32) -> Op {
+    let id = OpId {
+        origin: 1,
+        number: u64::from(number),
+    };
+    Op::of(id, atoms_of(rt, alloc, number)).expect(rt, "an operation")
+}
+
+/// Tells a board the operation of this number.
+fn tell(rt: &impl Abort, alloc: Global, board: &mut Board, number: u32) {
+    let told = board.tell(alloc, operation(rt, alloc, number));
+    assert!(rt; told.is_ok(), "{number}");
+}
+
+/// A board of that program that was told so many operations of 64 atoms.
+pub fn board(rt: &(impl Abort + Threads + Sync), alloc: Global, operations: u32) -> Board {
+    let opened = Board::open(alloc, accepted(rt, alloc)).ok();
+    let mut board = opened.expect(rt, "memory");
+    for number in 0..operations {
+        tell(rt, alloc, &mut board, number);
+    }
+    board
+}
+
+/// The least value of a key among the atoms of so many operations.
+fn least(key: i64, operations: u32) -> Option<i64> {
+    (0..u64::from(operations) * SIZE)
+        .filter(|number| key_of(*number) == key)
+        .map(value_of)
+        .min()
+}
+
+/// The store of the least values.
+pub fn leasts(rt: &impl Abort, alloc: Global, operations: u32) -> Bag {
+    let mut bag = Bag::new(alloc);
+    for key in 0..KEYS as i64 {
+        let value = least(key, operations).expect(rt, "a value");
+        bag.add(best(key, value)).expect(rt, "memory");
+    }
+    bag
+}

@@ -1,0 +1,112 @@
+//! Boards are rested.
+ghost use Rattle.std.specs.Prelude.{◌≡◌, ◌≤◌, true};
+
+use crate::tests::gates::{Counts, Holds};
+use crate::tests::making::{board, leasts};
+use chr_base::limits::{MAX_PARTS, MAX_WORKERS};
+use chr_replica::Board;
+use chr_workers::{Gate, OpenGate, rest_board};
+use std::alloc::Global;
+use std::process::Abort;
+use std::sync::Wait;
+use std::thread::Threads;
+
+/// So many operations tell more atoms than are settled at once.
+const MANY: u32 = 20;
+
+/// So many don't.
+const FEW: u32 = 16;
+
+/// Whether a number is one of 1 to a limit.
+fn fits(number: u32, most: u32) -> bool
+    ensures { result ≡ true → (1 ≤ number) × (number ≤ most) }
+{
+    number >= 1 && number <= most
+}
+
+/// Rests a board of which no lease is out.
+fn rest<R: Abort + Threads + Wait + Sync, G: Gate>(
+    rt: &R,
+    alloc: Global,
+    board: &mut Board,
+    workers: u32,
+    parts: u32,
+    gate: &G,
+) {
+    if board.least_lease().is_some() || !fits(workers, MAX_WORKERS) || !fits(parts, MAX_PARTS) {
+        panic!(rt; "a lease is out, or a number is past its limit");
+    }
+    let rested = rest_board(rt, alloc, board, workers, parts, gate);
+    assert!(rt; rested.is_ok(), "{workers} workers, {parts} parts");
+}
+
+/// The board holds so many operations, and shows the least value of each key.
+fn shows(rt: &impl Abort, alloc: Global, board: &Board, operations: u32) {
+    let shown = board.show(alloc).ok().expect(rt, "a settled board");
+    assert!(rt; shown.is_same(&leasts(rt, alloc, operations)));
+    assert_eq!(rt; board.ops().told(), u64::from(operations) * 64);
+}
+
+/// How many workers there are, how many parts, and how often a gate is passed.
+const SHARED: [(u32, u32, u64); 9] = [
+    (1, 1, 0),
+    (1, 64, 0),
+    (2, 1, 0),
+    (2, 3, 3),
+    (2, 64, 64),
+    (4, 2, 2),
+    (4, 16, 16),
+    (16, 3, 3),
+    (16, 64, 64),
+];
+
+/// So many workers come to the store that a plain loop finds. Each part that they rest passes the gate once.
+fn come_to_the_least<R: Abort + Threads + Wait + Sync>(
+    rt: &R,
+    alloc: Global,
+    workers: u32,
+    parts: u32,
+    passes: u64,
+) {
+    let mut board = board(rt, alloc, MANY);
+    let gate = Counts::new();
+    rest(rt, alloc, &mut board, workers, parts, &gate);
+    assert_eq!(rt; gate.passed(), passes, "{workers} workers, {parts} parts");
+    shows(rt, alloc, &board, MANY);
+}
+
+#[test]
+fn workers_come_to_the_least(rt: HostRuntime) {
+    for (workers, parts, passes) in SHARED {
+        come_to_the_least(&rt, rt.alloc(), workers, parts, passes);
+    }
+}
+
+/// A board at rest may be rested again.
+#[test]
+fn boards_are_rested_again(rt: HostRuntime) {
+    let mut board = board(&rt, rt.alloc(), MANY);
+    for _ in 0..2 {
+        rest(&rt, rt.alloc(), &mut board, 4, 16, &OpenGate);
+        shows(&rt, rt.alloc(), &board, MANY);
+    }
+}
+
+/// The gate holds part 1 until part 2 has passed: one worker after the other would use its turns up.
+#[test]
+fn two_workers_rest_two_parts_at_once(rt: HostRuntime) {
+    let mut board = board(&rt, rt.alloc(), MANY);
+    let gate = Holds::new();
+    rest(&rt, rt.alloc(), &mut board, 2, 2, &gate);
+    assert!(rt; gate.has_seen_both());
+    shows(&rt, rt.alloc(), &board, MANY);
+}
+
+#[test]
+fn few_atoms_are_settled_at_once(rt: HostRuntime) {
+    let mut board = board(&rt, rt.alloc(), FEW);
+    let gate = Counts::new();
+    rest(&rt, rt.alloc(), &mut board, 4, 16, &gate);
+    assert_eq!(rt; gate.passed(), 0);
+    shows(&rt, rt.alloc(), &board, FEW);
+}
