@@ -1,8 +1,10 @@
 """Runs to which memory is refused, one growth after another: each ends as it would have, or with status 4 and nothing
 written. Of a service what was written by then is a beginning of the whole, of whole lines."""
 
+import itertools
 import os
 import random
+import re
 import subprocess
 import tempfile
 import unittest
@@ -22,6 +24,9 @@ WANT_OF_MEMORY = 4
 EACH = 100
 """So many growths of an example are refused one by one. Later ones are chosen at random, farther and farther apart."""
 APART = 6
+
+MOST_CASES = 25_000
+"""Of an accepted example with more cases the run alone is tried, since each verdict takes its time."""
 
 
 @dataclass(frozen=True)
@@ -74,7 +79,10 @@ def example_cases() -> Iterator[Case]:
     for expected in sorted(EXAMPLES.glob("*.out")):
         words = expected.with_suffix(".words")
         options = words.read_text().split() if words.exists() else []
-        yield from cases(expected.with_suffix(".chr").read_bytes(), options, expected.read_bytes())
+        output = expected.read_bytes()
+        told = re.match(rb"accepted: rules \d+, cases (\d+)\n", output)
+        commands = cases(expected.with_suffix(".chr").read_bytes(), options, output)
+        yield from itertools.islice(commands, 1 if told and int(told[1]) > MOST_CASES else None)
 
 
 def growths(each: int | None) -> Iterator[int]:
