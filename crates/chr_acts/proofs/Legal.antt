@@ -1,6 +1,9 @@
 -- A legal journal, longer by an entry.
 use Rattle.std.proofs.Common.{◌≡◌, ◌+◌, ℕ, List, [], ◌∷◌, ◌++◌, refl, sym, ap, ◌∙◌, subst, append_assoc}
+use Rattle.std.specs.Prelude.{Result, Ok, Err, IfOk, OnErr}
 use Rattle.std.proofs.lemmas.List.{append-nil}
+use Rattle.chr_join.specs.AcceptedPrograms.{program_in}
+use Rattle.chr_replica.specs.Boards.{Held, program_on}
 use Rattle.chr_base.specs.declared.program.Program.{Program}
 use Rattle.chr_replica.specs.Replicas.{Replica, first}
 use Rattle.chr_acts.specs.declared.act.Act.{Act}
@@ -24,3 +27,15 @@ pub legal_after : (p : Program) (es fs : List Entry) (s t : Replica) (chair : �
 legal_after p es fs s t chair asked h legal =
     subst (λ l. IsLegal p l t) (sym h.after)
     (legal_on p es s h.entry t legal (subst (λ k. h.entry.number ≡ count_of k es + 1) (sym h.seat) h.number) (subst (λ a. Does p s a h.entry.reply t) (sym h.act) h.does))
+
+-- a call whose entry is known
+pub legal_after_entry : (p : Program) (es fs : List Entry) (s t : Replica) (chair : ℕ) (asked : Act) (e : Entry) → fs ≡ es ++ e ∷ [] → (e.seat ≡ chair) × (e.number ≡ count_of chair es + 1) × (e.act ≡ asked) → Does p s asked e.reply t → IsLegal p es s → IsLegal p fs t
+legal_after_entry p es fs s t chair asked e after is does legal =
+    legal_after p es fs s t chair asked record { entry = e; seat = is.0; number = is.1; act = is.2; does = does; after = after } legal
+
+-- a call that is entered, or of which nothing has come
+pub legal_either : {E : Type 0} (b c : Held) (es fs : List Entry) (chair : ℕ) (asked : Act) (r : Result Entry E) → c.accepted ≡ b.accepted → IfOk r (λ e. fs ≡ es ++ e ∷ []) → IfOk r (λ e. (e.seat ≡ chair) × (e.number ≡ count_of chair es + 1) × (e.act ≡ asked)) → IfOk r (λ e. Does (program_on b) b.replica asked e.reply c.replica) → OnErr r (fs ≡ es) → OnErr r (c ≡ b) → IsLegal (program_on b) es b.replica → IsLegal (program_on c) fs c.replica
+legal_either b c es fs chair asked (Ok e) program entered is does same board legal =
+    subst (λ a. IsLegal (program_in a) fs c.replica) (sym program) (legal_after_entry (program_on b) es fs b.replica c.replica chair asked e entered is does legal)
+legal_either b c es fs chair asked (Err e) program entered is does same board legal =
+    subst (λ x. IsLegal (program_on x) fs x.replica) (sym board) (subst (λ l. IsLegal (program_on b) l b.replica) (sym same) legal)

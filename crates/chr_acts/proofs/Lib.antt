@@ -1,1 +1,2 @@
 mod Legal
+pub mod Keeping

@@ -8,3 +8,8 @@ use Rattle.chr_acts.specs.declared.act.Act.TheVariants as act
 abbrev pub FitsAct : Act → Type 0
 FitsAct (act.TakeParts n) = (1 ≤ n) × (n ≤ MAX_PARTS)
 FitsAct _ = ⊤
+
+-- it does not take the pool in parts
+abbrev pub TakesNoParts : Act → Type 0
+TakesNoParts (act.TakeParts n) = ⊥
+TakesNoParts _ = ⊤

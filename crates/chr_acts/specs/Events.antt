@@ -12,6 +12,7 @@ use Rattle.chr_ops.specs.Summaries.{CoversJust, lacking}
 use Rattle.chr_replica.specs.declared.refusal.Refusal.{Refusal}
 use Rattle.chr_replica.specs.declared.refusal.Refusal.TheVariants as refusal
 use Rattle.chr_replica.specs.Leases.{AreNumbered}
+use Rattle.chr_replica.specs.LeastOut.{IsLeastOut}
 use Rattle.chr_replica.specs.Replicas.{Replica, IsDeclared, IsSettled, Tells, Merges, Steps, Takes, TakesParts, Puts, Recalls, Settles}
 use Rattle.chr_replica.specs.Refusals.{RefusesTell, RefusesMerge, RefusesStep, RefusesTake, RefusesTakeParts, RefusesPut, RefusesRecall, RefusesShow}
 use Rattle.chr_acts.specs.declared.act.Act.{Act}
@@ -48,4 +49,5 @@ Does p s act.Settle (reply.Stopped n) t = Settles p s n t
 Does p s act.Show (reply.Shown bag) t = (bag ≡ s.pool) × IsSettled p s × (t ≡ s)
 Does p s act.Summary (reply.Summed summary) t = CoversJust summary s.operations × (t ≡ s)
 Does p s (act.Lacks summary) (reply.Lacked ops) t = (ops ≡ lacking s.operations summary) × (t ≡ s)
+Does p s act.LeastLease (reply.LeastLease number) t = IsLeastOut s.out number × (t ≡ s)
 Does p s _ _ t = ⊥

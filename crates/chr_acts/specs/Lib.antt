@@ -1,4 +1,5 @@
 pub mod Acts
+pub mod Replies
 pub mod Events
 pub mod Journals
 pub mod Books

@@ -2,3 +2,4 @@
 pub mod Codes
 pub mod Journals
 pub mod Books
+pub mod Numbers

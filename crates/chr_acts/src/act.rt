@@ -34,6 +34,8 @@ pub enum Act {
     Summary,
     /// Asks for the operations whose ids a summary does not cover.
     Lacks(Summary),
+    /// Asks for the least lease number that is out.
+    LeastLease,
 }
 
 impl Act {
@@ -65,6 +67,7 @@ impl Act {
             Act::Show => Act::Show,
             Act::Summary => Act::Summary,
             Act::Lacks(summary) => Act::Lacks(summary.copy(alloc)?),
+            Act::LeastLease => Act::LeastLease,
         })
     }
 }

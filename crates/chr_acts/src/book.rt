@@ -1,12 +1,13 @@
 //! Books: boards with their journals.
-ghost use Rattle.std.specs.Prelude.{◌≡◌, ◌-◌, ◌<◌, [], IfOk, IfErr, OnOk, OnErr, IsNone, length, option_copied};
+ghost use Rattle.std.specs.Prelude.{◌≡◌, ◌-◌, ◌+◌, ◌<◌, ◌++◌, ◌∷◌, [], IfOk, IfErr, OnOk, OnErr, IsNone, length, option_copied};
 ghost use Rattle.std.specs.Prelude.{slice_get};
 ghost use Rattle.std.specs.Arc.{arc_value};
 ghost use Rattle.chr_replica.specs.Boards.{program_on};
 ghost use Rattle.chr_replica.specs.Replicas.{first};
-ghost use Rattle.chr_acts.specs.Acts.{FitsAct};
+ghost use Rattle.chr_acts.specs.Acts.{FitsAct, TakesNoParts};
+ghost use Rattle.chr_acts.specs.Events.{Does};
 ghost use Rattle.chr_acts.specs.Books.{Enters};
-ghost use Rattle.chr_acts.specs.Journals.{IsLegal};
+ghost use Rattle.chr_acts.specs.Journals.{IsLegal, count_of};
 
 use crate::act::Act;
 use crate::entry::{Entry, Journal};
@@ -108,6 +109,32 @@ impl Book {
     {
         match self.journal.enter(alloc, &mut self.board, seat, act) {
             Ok(()) => Ok(self.entries()),
+            Err(act) => Err(CallFault { act }),
+        }
+    }
+
+    /// Does the same with an act that does not take the pool in parts, and answers an equal copy of its entry, which is
+    /// made before the board changes.
+    ///
+    /// # Errors
+    /// Where memory is refused to any act but a `settle`, or to the entry or its copy. The act is handed back, and the
+    /// book is as it was.
+    pub fn call_with_copy(&mut self, alloc: Global, seat: u32, act: Act) -> Result<Entry, CallFault>
+        requires { TakesNoParts act }
+        ensures program { self.new.board.accepted ≡ self.old.board.accepted }
+        ensures entered { IfOk result (λ entry. self.new.entries ≡ self.old.entries ++ entry ∷ []) }
+        ensures asked { IfOk result (λ entry.
+            (entry.seat ≡ seat) × (entry.number ≡ count_of seat self.old.entries + 1) × (entry.act ≡ act)) }
+        ensures does { IfOk result (λ entry.
+            Does (program_on self.old.board) self.old.board.replica act entry.reply self.new.board.replica) }
+        ensures handed_back { IfErr result (λ fault. fault.act ≡ act) }
+        ensures err { OnErr result (self.new ≡ self.old) }
+    {
+        match self
+            .journal
+            .enter_with_copy(alloc, &mut self.board, seat, act)
+        {
+            Ok(entry) => Ok(entry),
             Err(act) => Err(CallFault { act }),
         }
     }

@@ -7,6 +7,7 @@ mod acting;
 mod book;
 mod entry;
 mod lists;
+mod numbers;
 mod reply;
 
 pub use act::Act;

@@ -79,6 +79,13 @@ impl OpList {
         &self.ops
     }
 
+    /// All of them, in order.
+    pub fn into_vec(self) -> Vec<Op>
+        ensures { result.items ≡ self }
+    {
+        self.ops
+    }
+
     /// An equal list.
     pub fn copy(&self, alloc: Global) -> Result<OpList, AllocError>
         ensures { IfOk result (λ list. list ≡ self.now) }
@@ -102,6 +109,13 @@ impl LeaseList {
         ensures { result.now ≡ self.now }
     {
         &self.leases
+    }
+
+    /// All of them, in order.
+    pub fn into_vec(self) -> Vec<Lease>
+        ensures { result.items ≡ self }
+    {
+        self.leases
     }
 
     /// An equal list.

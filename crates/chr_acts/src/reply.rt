@@ -35,11 +35,15 @@ pub enum Reply {
     Summed(Summary),
     /// The operations, in the order of ids.
     Lacked(OpList),
+    /// The least lease number that is out, if any is.
+    LeastLease(Option<u64>),
     /// Nothing has changed.
     Refused(Refusal),
 }
 
 impl Reply {
+    ghost use Rattle.chr_acts.specs.Replies.{TakesNoMemory};
+
     /// An equal reply.
     pub fn copy(&self, alloc: Global) -> Result<Reply, AllocError>
         ensures { IfOk result (λ reply. reply ≡ self.now) }
@@ -57,7 +61,28 @@ impl Reply {
             Reply::Shown(bag) => Reply::Shown(bag.copy(alloc)?),
             Reply::Summed(summary) => Reply::Summed(summary.copy(alloc)?),
             Reply::Lacked(ops) => Reply::Lacked(ops.copy(alloc)?),
+            Reply::LeastLease(number) => Reply::LeastLease(*number),
             Reply::Refused(refusal) => Reply::Refused(*refusal),
         })
+    }
+
+    /// An equal reply, of one that takes no memory.
+    pub fn again(&self) -> Reply
+        requires { TakesNoMemory self.now }
+        ensures { result ≡ self.now }
+    {
+        match self {
+            Reply::Told(added) => Reply::Told(*added),
+            Reply::Merged(count) => Reply::Merged(*count),
+            Reply::Stepped => Reply::Stepped,
+            Reply::WasPut => Reply::WasPut,
+            Reply::Recalled => Reply::Recalled,
+            Reply::Settled(steps) => Reply::Settled(*steps),
+            Reply::Stopped(steps) => Reply::Stopped(*steps),
+            Reply::LeastLease(number) => Reply::LeastLease(*number),
+            Reply::Refused(refusal) => Reply::Refused(*refusal),
+            Reply::Leased(_) | Reply::LeasedParts(_) => unreachable!(),
+            Reply::Shown(_) | Reply::Summed(_) | Reply::Lacked(_) => unreachable!(),
+        }
     }
 }

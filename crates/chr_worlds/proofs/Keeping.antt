@@ -5,49 +5,18 @@ use Rattle.std.proofs.lemmas.List.Elements.{All-set}
 use Rattle.std.proofs.lemmas.Option.{slice_get_within, get_or_from_slice_get}
 use Rattle.chr_base.specs.declared.derivation.Step.{Step as StepValue}
 use Rattle.chr_base.specs.declared.program.Program.{Program}
-use Rattle.chr_ops.specs.declared.fault.Added.TheVariants as added
 use Rattle.chr_ops.specs.Summaries.{lacking}
 use Rattle.chr_replica.specs.declared.refusal.Refusal.TheVariants as refusal
 use Rattle.chr_replica.specs.Replicas.{Replica, IsSound}
-use Rattle.chr_replica.specs.Laws.{TellKeeps, MergeKeeps, StepKeeps, TakeKeeps, TakePartsKeeps, PutKeeps, RecallKeeps, SettleKeeps}
-use Rattle.chr_acts.specs.declared.act.Act.{Act}
 use Rattle.chr_acts.specs.declared.act.Act.TheVariants as act
 use Rattle.chr_acts.specs.declared.reply.Reply.{Reply}
 use Rattle.chr_acts.specs.declared.reply.Reply.TheVariants as reply
-use Rattle.chr_acts.specs.Events.{Does}
+use Rattle.chr_acts.proofs.Keeping.{EventsKeep, does_keeps}
 use Rattle.chr_worlds.specs.declared.event.Event.{Event}
 use Rattle.chr_worlds.specs.declared.event.Event.TheVariants as event
 use Rattle.chr_worlds.specs.declared.answer.Answer.{Answer}
 use Rattle.chr_worlds.specs.declared.answer.Answer.TheVariants as answer
 use Rattle.chr_worlds.specs.Worlds.{Replicas, IsAt, Changes, Works, Happens, Runs}
-
--- what the laws of replicas say of their events
-pub record EventsKeep : Type 0 where
-  pub tell : TellKeeps
-  pub merge : MergeKeeps
-  pub step : StepKeeps
-  pub take : TakeKeeps
-  pub take_parts : TakePartsKeeps
-  pub put : PutKeeps
-  pub recall : RecallKeeps
-  pub settle : SettleKeeps
-
-does_keeps : EventsKeep → (p : Program) (s : Replica) (a : Act) (x : Reply) (t : Replica) → Does p s a x t → IsSound p s → IsSound p t
-does_keeps k p s a (reply.Refused r) t h sound = subst (IsSound p) (sym h.2) sound
-does_keeps k p s (act.Tell op) (reply.Told added.New) t h sound = k.tell p op s t h sound
-does_keeps k p s (act.Tell op) (reply.Told added.Again) t h sound = subst (IsSound p) (sym h.2) sound
-does_keeps k p s (act.Merge ops) (reply.Merged n) t h sound = k.merge p ops n s t h sound
-does_keeps k p s (act.Step step) reply.Stepped t h sound = k.step p step s t h sound
-does_keeps k p s (act.Take part) (reply.Leased lease) t h sound = k.take p part lease.number s t h.1 sound
-does_keeps k p s (act.TakeParts n) (reply.LeasedParts leases) t h sound = k.take_parts p n _ s t h.1 sound
-does_keeps k p s (act.Put done) reply.WasPut t h sound = k.put p done.number done.part done.result s t h sound
-does_keeps k p s (act.Recall number) reply.Recalled t h sound = k.recall p number s t h sound
-does_keeps k p s act.Settle (reply.Settled n) t h sound = k.settle p n s t h.0 sound
-does_keeps k p s act.Settle (reply.Stopped n) t h sound = k.settle p n s t h sound
-does_keeps k p s act.Show (reply.Shown bag) t h sound = subst (IsSound p) (sym h.2) sound
-does_keeps k p s act.Summary (reply.Summed summary) t h sound = subst (IsSound p) (sym h.1) sound
-does_keeps k p s (act.Lacks summary) (reply.Lacked ops) t h sound = subst (IsSound p) (sym h.1) sound
-does_keeps k p s _ _ t h sound = absurd h
 
 works_keeps : EventsKeep → (p : Program) (s : Replica) (number : ℕ) (steps : List StepValue) (x : Reply) (t : Replica) → Works p s number steps x t → IsSound p s → IsSound p t
 works_keeps k p s number steps reply.WasPut t h sound = k.put p number h.0 h.1 s t h.3 sound
