@@ -97,6 +97,7 @@ does_idle p s (act.Take part) _ t line d idle = absurd line
 does_idle p s (act.TakeParts n) _ t line d idle = absurd line
 does_idle p s (act.Put done) _ t line d idle = absurd line
 does_idle p s (act.Recall number) _ t line d idle = absurd line
+does_idle p s act.LeastLease _ t line d idle = absurd line
 does_idle p s _ _ t line d idle = absurd d
 
 changes_idle : (p : Program) (w : Replicas) (r : ℕ) (R : Replica → Replica → Type 0) (v : Replicas) → ((s t : Replica) → R s t → IsIdle p s → IsIdle p t) → Changes w r R v → All (IsIdle p) w → All (IsIdle p) v

@@ -47,6 +47,7 @@ does_written p s (act.TakeParts n) _ t asked d = absurd asked
 does_written p s (act.Put done) _ t asked d = absurd asked
 does_written p s (act.Recall number) _ t asked d = absurd asked
 does_written p s act.Settle _ t asked d = absurd asked
+does_written p s act.LeastLease _ t asked d = absurd asked
 does_written p s _ _ t asked d = absurd d
 
 pub happens_written : (p : Program) (w v : Replicas) (e : Event) (x : Answer) → IsAnsweredEvent e → Happens p w e x v → HasAnswerText x

@@ -123,6 +123,7 @@ fn push_replied(
         | ActReply::WasPut
         | ActReply::Recalled
         | ActReply::Settled(_)
+        | ActReply::LeastLease(_)
         | ActReply::Stopped(_) => unreachable!(),
     }
 }
