@@ -1,0 +1,9 @@
+//! What journals tell: which operations are held at each place, and that a store that is shown there is the one normal
+//! form of them. Nothing here computes: each function's contract is a law of journals, or what it says of given books.
+#![tactic(auto)]
+
+mod books;
+mod laws;
+
+pub use books::{shown_stores_agree, shown_stores_are_answers};
+pub use laws::journals_tell;
