@@ -1,0 +1,4 @@
+pub mod Moves
+pub mod Receipts
+pub mod Receiving
+pub mod Showing

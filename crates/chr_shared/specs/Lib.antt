@@ -1,0 +1,5 @@
+pub mod Tie
+pub mod Openings
+pub mod Seats
+pub mod Settling
+pub mod working

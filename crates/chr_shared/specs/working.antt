@@ -1,0 +1,2 @@
+-- What the views of types need.
+pub mod Codes
