@@ -1,0 +1,3 @@
+pub mod Reweighing
+pub mod Cycles
+pub mod Weighings
