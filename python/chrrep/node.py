@@ -7,11 +7,11 @@ import subprocess
 import sys
 import threading
 import weakref
-from collections.abc import Iterable, Iterator, Sequence
+from collections.abc import Callable, Iterable, Iterator, Sequence
 from contextlib import contextmanager, suppress
 from pathlib import Path
 from types import TracebackType
-from typing import NoReturn, Self
+from typing import NoReturn, Self, TypeVar
 
 from .refusals import (
     BadLine,
@@ -52,6 +52,8 @@ _DELTA_VERSION = 1
 _GRACE = 5.0
 """Seconds that a program has to end after the end of its input."""
 _LOG = logging.getLogger("chrrep.node")
+
+T = TypeVar("T")
 
 
 def program_path(chrrep: str | os.PathLike[str] | None = None) -> str:
@@ -154,6 +156,7 @@ class Node:
         self._next = 1
         self._lock = threading.RLock()
         self._ended: NodeDied | None = None
+        self._has_answer = False
         self._text = text = text_bytes(program)
         end = b"---\n" if text.endswith(b"\n") or not text else b"\n---\n"
         words = [program_path(chrrep), "serve", *_options(wide)]
@@ -256,6 +259,15 @@ class Node:
             answer = self._ask_text(line, following=1 + max(own, default=0))
         return int(answer.removeprefix("merged "))
 
+    def merge_soon(self, delta: Sequence[Written]) -> None:
+        """Sends operations that the node takes for sure, and doesn't wait for the answer, which the next call takes. So
+        the node works beside its user. Numbers of its own origin are not looked at."""
+        line = f'["merge",{_REPLICA},{delta_text(delta)}]\n'.encode()
+        with self._lock, self._whole():
+            self._take_answer()
+            self._has_answer = True
+            self._in_time(lambda: self._send(line))
+
     def close(self) -> None:
         """Ends the process, and waits for its end. To close twice is no fault."""
         with self._lock:
@@ -289,29 +301,54 @@ class Node:
     def _ask_text(self, line: str, following: int = 0) -> str:
         """The answer to a line; raises what it refuses. From then on numbers are `following` at least."""
         with self._lock:
-            if self._ended:
-                raise NodeDied(self._ended.what, self._ended.status)
             # set before the question: an interrupt leaves a gap, and no number that is used twice
             before, self._next = self._next, max(self._next, following)
-            try:
+            with self._whole():
+                self._take_answer()
                 answer = self._exchange(line.encode())
+            try:
                 raise_refusal(answer)
             except Refused:
                 self._next = before
                 raise
-            except NodeDied as died:
-                self._end(died)
-                raise
-            except BaseException:
-                # its answer would be taken for the next one's
-                self._end(NodeDied("a call was interrupted, and ended the node"), by_force=True)
-                raise
         return answer
+
+    @contextmanager
+    def _whole(self) -> Iterator[None]:
+        """Ends the node where an exchange is not seen through."""
+        if self._ended:
+            raise NodeDied(self._ended.what, self._ended.status)
+        try:
+            yield
+        except NodeDied as died:
+            self._end(died)
+            raise
+        except BaseException:
+            # its answer would be taken for the next one's
+            self._end(NodeDied("a call was interrupted, and ended the node"), by_force=True)
+            raise
+
+    def _take_answer(self) -> None:
+        """Takes the answer to what was sent without waiting for it."""
+        if self._has_answer:
+            self._has_answer = False
+            answer = self._in_time(self._answer)
+            if not answer.startswith("merged "):
+                raise NodeDied(f"the node didn't take what it was sent: {answer}")
 
     def _exchange(self, sent: bytes) -> str:
         """The answer to what is sent; in time, or the node is ended."""
+
+        def exchange() -> str:
+            self._send(sent)
+            return self._answer()
+
+        return self._in_time(exchange)
+
+    def _in_time(self, call: Callable[[], T]) -> T:
+        """What an exchange gives; the node is ended where that takes too long."""
         if self._timeout is None:
-            return self._exchange_all(sent)
+            return call()
         late = threading.Event()
 
         def end() -> None:
@@ -321,7 +358,7 @@ class Node:
         timer = threading.Timer(self._timeout, end)
         timer.start()
         try:
-            return self._exchange_all(sent)
+            return call()
         except NodeDied as died:
             if late.is_set():
                 raise NodeDied(f"the node gave no answer within {self._timeout} seconds", died.status) from died
@@ -329,14 +366,16 @@ class Node:
         finally:
             timer.cancel()
 
-    def _exchange_all(self, sent: bytes) -> str:
-        reads, writes = self._process.stdout, self._process.stdin
-        assert reads and writes
+    def _send(self, sent: bytes) -> None:
+        assert self._process.stdin
         # a program that has ended may have answered before
         with suppress(BrokenPipeError):
-            writes.write(sent)
-            writes.flush()
-        answer = reads.readline()
+            self._process.stdin.write(sent)
+            self._process.stdin.flush()
+
+    def _answer(self) -> str:
+        assert self._process.stdout
+        answer = self._process.stdout.readline()
         if not answer.endswith(b"\n"):
             raise NodeDied("the node died", _status(self._process))
         return answer[:-1].decode()

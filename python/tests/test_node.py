@@ -18,7 +18,7 @@ from typing import Any
 
 import chrrep
 from chrrep import Id, Node, NodeDied, Operation, check, explain, pieces, store_text
-from chrrep.texts import LINE_LIMIT
+from chrrep.texts import LINE_LIMIT, OperationText
 from programs import COINS, PATHS, PLAIN, store_of
 
 SECONDS = 20.0
@@ -136,6 +136,26 @@ class Answers(unittest.TestCase):
             with self.assertRaises(chrrep.UnknownSymbol):
                 node.tell_many([[("a", 1)], [("b", 1)]])
             self.assertEqual(node.tell_many([[("a", 1)]]), [Id(1, 1002)])
+
+    def test_answers_that_are_not_waited_for(self) -> None:
+        with Node(PLAIN, 1) as node:
+            for number in range(1, 4):
+                node.merge_soon([OperationText(Id(2, number), f'[["a",{number}]]')])
+            self.assertEqual(node.show(), (("a", 1), ("a", 2), ("a", 3)))
+            node.merge_soon([OperationText(Id(2, 4), '[["a",4]]')])
+            with self.assertRaises(chrrep.UnknownSymbol):
+                node.tell(("b",))
+            self.assertEqual(node.tell(("a", 5)), Id(1, 1))
+            # what it was sure to take and refuses leaves it behind its user
+            node.merge_soon([OperationText(Id(2, 5), '[["b"]]')])
+            for _ in range(2):
+                with self.assertRaisesRegex(NodeDied, "didn't take what it was sent: refused 32"):
+                    node.show()
+        with Node(PLAIN, 1, timeout=1.0) as node:
+            os.kill(node.pid, signal.SIGSTOP)
+            node.merge_soon([OperationText(Id(2, 1), '[["a",1]]')])
+            with self.assertRaisesRegex(NodeDied, "no answer within 1.0 seconds"):
+                node.merge_soon([OperationText(Id(2, 2), '[["a",2]]')])
 
     def test_parts_of_a_store_are_shown(self) -> None:
         with Node(PATHS, 1) as node:

@@ -91,7 +91,7 @@ class Replica:
             part = next(text_pieces(self._owed))
             atoms = _count_atoms(part)
             self._make_room(atoms, TOLD_LIMIT)
-            self.node.merge_texts(part)
+            self.node.merge_soon(part)
             self.told += atoms
             self._owed_atoms -= atoms
             del self._owed[:len(part)]
