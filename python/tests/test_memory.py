@@ -21,7 +21,7 @@ EXAMPLES = Path(__file__).resolve().parents[2] / "examples"
 WORKERS = os.cpu_count() or 1
 WANT_OF_MEMORY = 4
 
-EACH = 100
+EACH = 40
 """So many growths of an example are refused one by one. Later ones are chosen at random, farther and farther apart."""
 APART = 6
 
