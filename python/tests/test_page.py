@@ -16,8 +16,8 @@ from tempfile import TemporaryDirectory
 from typing import Any, NamedTuple
 
 from browser import CHROMIUM, DRIVER, Browser
-from chrrep import Atom
-from chrrep.link import Heard, Member, PageUnusable, join
+from chrrep import Atom, Id
+from chrrep.link import Entry, Heard, Member, PageUnusable, connect, join
 from chrrep.link.page import Page, behind, json_text, members_of, tables_of
 from engines import LOOPBACK
 from kills import PACKAGE
@@ -207,6 +207,23 @@ class Events(Served):
             self.assertEqual(self.tell(page, "mark(7)").body, b"told 1:2")
             self.until(events, "change", {"came": [["mark", "7"]], "went": []})
         self.assertEqual(member.show(), (("mark", 7), ("path", 1, 2, 3)))
+
+    def test_entries_that_no_node_can_take_are_shown_as_they_are(self) -> None:
+        member, page = self.serve()
+        member.tell(("path", "berlin", 1, 2))
+        texts = ["7", "nonsense", '[["path",1e999,1,2]]']
+        texts += ['[["path",[1],1,2]]', "[[]]", '[{"path":1}]', '[["path",null]]']
+        with connect(self.url) as link, self.open(page, "GET", "/events") as answer:
+            events = events_of(answer)
+            self.until(events, "told", [["1:1", "path(berlin,1,2)"]])
+            with self.assertLogs("chrrep.link", "WARNING"):
+                link.append([Entry(Id(link.origin, number), text, link.writer) for number, text in enumerate(texts, 1)])
+                shown = dict(self.until(events, "told", None))
+            self.assertEqual(list(shown), [f"2:{number}" for number in range(1, len(texts) + 1)])
+            self.assertEqual([shown[f"2:{number}"] for number in (1, 2, 3)], texts[:3])
+            member.tell(("path", 1, 2, 3))
+            self.until(events, "told", [["1:2", "path(1,2,3)"]])
+        self.assertEqual(member.refused, len(texts))
 
     def test_a_looker_that_is_too_slow_begins_anew(self) -> None:
         _, page = self.serve()

@@ -222,7 +222,7 @@ class Watcher:
     def _line(self, entry: Entry) -> tuple[str, str]:
         try:
             atoms = named_text(self._member.named(json.loads(entry.atoms)))
-        except (ValueError, TypeError, RecursionError):
+        except (ValueError, TypeError, OverflowError, RecursionError):
             # what is set aside is shown as it is
             atoms = entry.atoms[:200]
         return f"{entry.id.origin}:{entry.id.number}", atoms
