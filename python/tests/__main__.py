@@ -14,11 +14,12 @@ from pathlib import Path
 
 HERE = Path(__file__).resolve().parent
 RUNS = ["test_texts", "test_commands", "test_runs", "test_model", "test_explanations", "test_verdicts", "test_lines"]
+SHARED = ["test_workers"]
 READERS = ["test_documents"]
 HOSTILE = ["test_devices", "test_memory", "test_costs"]
 NODES = ["test_node", "test_names", "test_writing", "test_asynchronous"]
 LOGS = ["test_embedded", "test_page", "test_lasting", "test_install", "test_launcher"]
-KINDS = {"node": [*RUNS, *READERS, *HOSTILE, *NODES, *LOGS], "engines": ["test_links"]}
+KINDS = {"node": [*RUNS, *SHARED, *READERS, *HOSTILE, *NODES, *LOGS], "engines": ["test_links"]}
 
 
 class Counted(unittest.TextTestResult):

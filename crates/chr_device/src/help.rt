@@ -63,10 +63,11 @@ pub(crate) const RUN: &str = "Tell that, and answer the command lines when the i
 pub(crate) const RUN_MORE: &str = with_statuses!(
     "Reads all of standard input: a program text, a line `---`, and command lines, each a JSON array. Then it writes the line
 that `check` writes, and for an accepted program one answer line a command. A program refused as 22 may be decided with
---wide.
+--wide. The output is the same for any number of workers and of parts.
 
 Example: chrrep run < FILE
-         chrrep run --replicas 3 < FILE"
+         chrrep run --replicas 3 < FILE
+         chrrep run --workers 4 --parts 16 < FILE"
 );
 
 /// What `serve` is for.
@@ -75,7 +76,8 @@ pub(crate) const SERVE: &str = "Do the same, and answer each command line as soo
 /// What `serve` reads and writes.
 pub(crate) const SERVE_MORE: &str = with_statuses!(
     "Reads and writes what `run` does, line by line: the verdict once the line `---` was read, and the answer of each command
-before the next one is waited for. A program refused as 22 may be decided with --wide.
+before the next one is waited for. A program refused as 22 may be decided with --wide. The output is the same for any
+number of workers and of parts.
 
 Example: cat FILE - | chrrep serve"
 );
@@ -85,3 +87,11 @@ pub(crate) const WIDE: &str = "Decide by the columns that rules compare: more pr
 
 /// What `--replicas` is for.
 pub(crate) const REPLICAS: &str = "How many replicas there are, 1 to 16 [default: 1]";
+
+/// What `--workers` is for.
+pub(crate) const WORKERS: &str =
+    "How many threads bring a store to rest, 1 to 16, where many facts came in [default: 1]";
+
+/// What `--parts` is for.
+pub(crate) const PARTS: &str =
+    "How many parts a store is cut into for the workers, 1 to 64 [default: 1]";

@@ -11,8 +11,8 @@ const SHOWN: usize = 60;
 /// The names of the commands.
 const COMMANDS: [&str; 5] = ["check", "explain", "run", "serve", "help"];
 
-/// The option that has a value.
-const WITH_VALUE: &str = "--replicas";
+/// The options that have a value.
+const WITH_VALUE: [&str; 3] = ["--replicas", "--workers", "--parts"];
 
 /// Whether a character is shown as it is.
 fn is_plain(c: char) -> bool {
@@ -72,7 +72,7 @@ fn stray_word(words: &[String]) -> Option<&str> {
     for place in 1..words.len() {
         let word = words[place].as_str();
         let is_name = place > 1 || word.contains('.') || word.contains('/') || word == "-";
-        if is_name && words[place - 1].as_str() != WITH_VALUE && is_stray(word) {
+        if is_name && !WITH_VALUE.contains(&words[place - 1].as_str()) && is_stray(word) {
             return Some(word);
         }
     }

@@ -4,6 +4,7 @@ pub mod Held
 pub mod Declared
 pub mod BetweenLines
 pub mod Settling
+pub mod Rests
 pub mod Checks
 pub mod Continuing
 pub mod Cutting

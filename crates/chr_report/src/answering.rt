@@ -11,9 +11,12 @@ use crate::reply::push_reply;
 use crate::service::Service;
 use chr_json::is_blank;
 use std::alloc::{AllocError, Global};
+use std::sync::Wait;
+use std::thread::Threads;
 
 /// Answers a line, which comes without its end, unless it is blank.
-pub(crate) fn answer_line(
+pub(crate) fn answer_line<R: Threads + Wait + Sync>(
+    rt: &R,
     alloc: Global,
     service: &mut Service,
     line: &[u8],
@@ -28,12 +31,13 @@ pub(crate) fn answer_line(
     if is_blank(line) {
         return Ok(());
     }
-    let reply = service.reply(alloc, line)?;
+    let reply = service.reply(rt, alloc, line)?;
     push_reply(alloc, out, service.program(), &reply)
 }
 
 /// Answers all lines of the input.
-fn answer_lines(
+fn answer_lines<R: Threads + Wait + Sync>(
+    rt: &R,
     alloc: Global,
     service: &mut Service,
     input: &[u8],
@@ -46,14 +50,15 @@ fn answer_lines(
     let mut next = Some(input);
     while let Some(rest) = next {
         let (line, more) = next_line(rest);
-        answer_line(alloc, service, without_return(line), out)?;
+        answer_line(rt, alloc, service, without_return(line), out)?;
         next = more;
     }
     Ok(())
 }
 
 /// Answers all commands, where there are any.
-pub(crate) fn answer_commands(
+pub(crate) fn answer_commands<R: Threads + Wait + Sync>(
+    rt: &R,
     alloc: Global,
     service: &mut Service,
     commands: Option<&[u8]>,
@@ -64,7 +69,7 @@ pub(crate) fn answer_commands(
         (lines_left commands.entry) (held service.old) (string_bytes out.old) (string_bytes out.new)) }
 {
     match commands {
-        Some(input) => answer_lines(alloc, service, input, out),
+        Some(input) => answer_lines(rt, alloc, service, input, out),
         None => Ok(()),
     }
 }

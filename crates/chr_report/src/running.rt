@@ -1,7 +1,7 @@
 //! Checks and runs, from the bytes of an input to the bytes of its output.
 ghost use Rattle.std.specs.Prelude.{◌≡◌, ◌≤◌, ◌⊎◌, [], false, true, IfOk, IfSome, IsErrOf, OnErr, OnOk, string_bytes};
 ghost use Rattle.chr_device.specs.Devices.{inner_of, has_failed};
-ghost use Rattle.chr_device.specs.Settings.{IsPlain, IsWithinLimits};
+ghost use Rattle.chr_device.specs.Settings.{IsWithinLimits};
 ghost use Rattle.chr_base.specs.declared.limits.TheConstants.{MAX_REPLICAS};
 ghost use Rattle.chr_device.specs.declared.fault.RunFault.TheVariants.{Device, Memory};
 ghost use Rattle.chr_base.specs.Programs.{declarations, rules_of};
@@ -18,12 +18,14 @@ use crate::answering::answer_commands;
 use crate::input::{asked, split};
 use crate::judging::{Judged, judge};
 use crate::service::Service;
+use crate::sharing::Sharing;
 use crate::verdict::accepted_line;
 use crate::wanted::Wanted;
 use chr_device::{RunFault, Settings, Verb, Watched, read_all, write_whole};
 use chr_join::Accepted;
 use std::alloc::{AllocError, Global};
 use std::io::{Read, Write};
+use std::sync::Wait;
 use std::thread::Threads;
 
 /// Whether a program was read and accepted: each of its rules lowers the weight, and each case of each overlap joins.
@@ -55,9 +57,11 @@ impl Output {
 
 /// The verdict's line, and the answers of so many replicas, which were told nothing, to the commands.
 fn answer_program(
+    rt: &(impl Threads + Wait + Sync),
     alloc: Global,
     accepted: Accepted,
     wanted: Wanted,
+    sharing: Sharing,
     commands: Option<&[u8]>,
 ) -> Result<String, AllocError>
     requires replicas { (1 ≤ wanted.replicas) × (wanted.replicas ≤ MAX_REPLICAS) }
@@ -67,17 +71,18 @@ fn answer_program(
 {
     let rules = accepted.program().rules().len();
     let mut text = accepted_line(alloc, rules, accepted.cases())?;
-    let mut service = Service::open(alloc, accepted, wanted.replicas)?;
-    answer_commands(alloc, &mut service, commands, &mut text)?;
+    let mut service = Service::open(alloc, accepted, wanted.replicas, sharing)?;
+    answer_commands(rt, alloc, &mut service, commands, &mut text)?;
     Ok(text)
 }
 
 /// The whole output for an input.
 pub(crate) fn output_of(
-    rt: &(impl Threads + Sync),
+    rt: &(impl Threads + Wait + Sync),
     alloc: Global,
     verb: Verb,
     wanted: Wanted,
+    sharing: Sharing,
     input: &[u8],
 ) -> Result<Output, AllocError>
     requires { (1 ≤ wanted.replicas) × (wanted.replicas ≤ MAX_REPLICAS) }
@@ -86,7 +91,7 @@ pub(crate) fn output_of(
     let (text, rest) = split(input);
     match judge(rt, alloc, text, wanted.coverage)? {
         Judged::Accepted(accepted) => {
-            let text = answer_program(alloc, accepted, wanted, asked(verb, rest))?;
+            let text = answer_program(rt, alloc, accepted, wanted, sharing, asked(verb, rest))?;
             Ok(Output {
                 status: Status::Accepted,
                 text,
@@ -97,7 +102,8 @@ pub(crate) fn output_of(
 }
 
 /// Reads all of the input, and then writes its output: the verdict on the program text, and by `Verb::Run` for an
-/// accepted program the answer line of each command. Numbers of workers and of parts above 1 are to come.
+/// accepted program the answer line of each command. What is written does not depend on the numbers of workers and of
+/// parts, by which stores are rested.
 ///
 /// # Errors
 ///
@@ -105,7 +111,7 @@ pub(crate) fn output_of(
 /// and nothing where it was the reader. `Memory` where no memory was left and neither has failed: nothing is written
 /// then.
 pub fn run<R: Read, W: Write>(
-    rt: &(impl Threads + Sync),
+    rt: &(impl Threads + Wait + Sync),
     alloc: Global,
     reader: &mut Watched<R>,
     writer: &mut Watched<W>,
@@ -114,7 +120,6 @@ pub fn run<R: Read, W: Write>(
     requires reads { has_failed reader.old ≡ false }
     requires writes { has_failed writer.old ≡ false }
     requires limits { IsWithinLimits settings }
-    requires plain { IsPlain settings }
     ensures ok { IfOk result (λ status. WritesOutput (R.remaining (inner_of reader.old))
         (W.contents (inner_of writer.old)) (W.contents (inner_of writer.new)) settings.command (wanted_by settings) status) }
     ensures err { OnErr result (WritesBeginning (R.remaining (inner_of reader.old))
@@ -133,6 +138,7 @@ pub fn run<R: Read, W: Write>(
         alloc,
         settings.command,
         Wanted::from_settings(settings),
+        Sharing::from_settings(settings),
         &input,
     )?;
     match write_whole(writer, output.text.as_bytes()) {

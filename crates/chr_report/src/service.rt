@@ -15,6 +15,8 @@ ghost use Rattle.chr_report.specs.working.Services.{held, served, was_stopped};
 ghost use Rattle.chr_report.specs.working.Services.{AreAtRest, HasLongRanges, IsLineEvent, IsBetweenLines};
 
 use crate::reply::{Refusal, Reply};
+use crate::resting::rest_replica;
+use crate::sharing::Sharing;
 use chr_acts::{Act, OpList, Reply as ActReply};
 use chr_base::program::Program;
 use chr_exchange::{declared_operation, declared_operations};
@@ -25,10 +27,14 @@ use chr_replica::laws::events_keep_replicas_sound;
 use chr_worlds::laws::runs_keep_replicas_sound;
 use chr_worlds::{Answer, Event, World};
 use std::alloc::{AllocError, Global};
-use std::sync::Arc;
+use std::sync::{Arc, Wait};
+use std::thread::Threads;
 
-/// As many told atoms wait at most in a replica's pool for it to be rested, before those of one line more come.
+/// As many told atoms wait at most in a replica's pool that is left to one worker, before those of one line more come.
 const MOST_WAITING: u64 = 1024;
+
+/// Several workers rest a pool where this part of what its replica was told waits in it, or more: they cut all of it.
+const LEAST_SHARE: u64 = 4;
 
 /// Replicas that answer command lines. `rested` has for each of them how many atoms it had been told when its pool was
 /// rested last.
@@ -36,6 +42,7 @@ const MOST_WAITING: u64 = 1024;
 pub(crate) struct Service {
     pub world: World,
     pub rested: Vec<u64>,
+    pub sharing: Sharing,
 }
 
 /// Whether memory was refused to a pool's rest.
@@ -70,11 +77,12 @@ fn noughts(alloc: Global, count: u32) -> Result<Vec<u64>, AllocError> {
 }
 
 impl Service {
-    /// So many replicas that were told nothing, 1 to 16.
+    /// So many replicas that were told nothing, 1 to 16, whose resting is shared out like this.
     pub(crate) fn open(
         alloc: Global,
         accepted: Accepted,
         replicas: u32,
+        sharing: Sharing,
     ) -> Result<Service, AllocError>
         requires { (1 ≤ replicas) × (replicas ≤ MAX_REPLICAS) }
         ensures ready { IfOk result IsBetweenLines }
@@ -86,6 +94,7 @@ impl Service {
         Ok(Service {
             world: World::open(alloc, accepted, replicas)?,
             rested: noughts(alloc, replicas)?,
+            sharing,
         })
     }
 
@@ -115,6 +124,14 @@ impl Service {
         }
     }
 
+    /// Whether several workers are asked for, and so much waits in a replica's pool that they may save time.
+    fn is_worth_sharing(&self, replica: u64) -> bool {
+        let waiting = self.waiting(replica);
+        self.sharing.workers > 1
+            && waiting > MOST_WAITING
+            && waiting >= self.told(replica) / LEAST_SHARE
+    }
+
     /// Notes that a replica's pool is at rest.
     fn note_rest(&mut self, replica: u64)
         ensures { self.new.world ≡ self.old.world }
@@ -140,8 +157,8 @@ impl Service {
         self.world.act(alloc, event)
     }
 
-    /// Rests a replica's pool, where there is that replica.
-    fn settle(&mut self, alloc: Global, replica: u64) -> Result<(), AllocError>
+    /// Rests a replica's pool by one worker, where there is that replica.
+    fn settle_alone(&mut self, alloc: Global, replica: u64) -> Result<(), AllocError>
         requires { IsBetweenLines self.old }
         ensures ready { OnOk result (IsBetweenLines self.new) }
         ensures program { self.new.world.accepted ≡ self.old.world.accepted }
@@ -156,16 +173,54 @@ impl Service {
         Ok(())
     }
 
-    /// Rests a replica's pool where many told atoms wait in it. They leave memory as they come then, where the rules
-    /// take them out.
+    /// Rests a replica's pool by the workers that are asked for, where there is that replica.
+    fn settle_shared<R: Threads + Wait + Sync>(
+        &mut self,
+        rt: &R,
+        alloc: Global,
+        replica: u64,
+    ) -> Result<(), AllocError>
+        requires { IsBetweenLines self.old }
+        ensures ready { OnOk result (IsBetweenLines self.new) }
+        ensures program { self.new.world.accepted ≡ self.old.world.accepted }
+        ensures operations { OnOk result (held self.new ≡ held self.old) }
+        ensures rests { OnOk result (AreAtRest self.new replica) }
+    {
+        rest_replica(rt, alloc, &mut self.world, replica, self.sharing)?;
+        self.note_rest(replica);
+        Ok(())
+    }
+
+    /// Rests a replica's pool, where there is that replica.
+    fn settle<R: Threads + Wait + Sync>(
+        &mut self,
+        rt: &R,
+        alloc: Global,
+        replica: u64,
+    ) -> Result<(), AllocError>
+        requires { IsBetweenLines self.old }
+        ensures ready { OnOk result (IsBetweenLines self.new) }
+        ensures program { self.new.world.accepted ≡ self.old.world.accepted }
+        ensures operations { OnOk result (held self.new ≡ held self.old) }
+        ensures rests { OnOk result (AreAtRest self.new replica) }
+    {
+        if self.is_worth_sharing(replica) {
+            self.settle_shared(rt, alloc, replica)
+        } else {
+            self.settle_alone(alloc, replica)
+        }
+    }
+
+    /// Rests a replica's pool where many told atoms wait in it for the only worker. They leave memory as they come
+    /// then, where the rules take them out. Several workers are left all that comes before it is shown.
     fn rest_many(&mut self, alloc: Global, replica: u64) -> Result<(), AllocError>
         requires { IsBetweenLines self.old }
         ensures ready { OnOk result (IsBetweenLines self.new) }
         ensures program { self.new.world.accepted ≡ self.old.world.accepted }
         ensures operations { OnOk result (held self.new ≡ held self.old) }
     {
-        if self.waiting(replica) > MOST_WAITING {
-            return self.settle(alloc, replica);
+        if self.sharing.workers == 1 && self.waiting(replica) > MOST_WAITING {
+            return self.settle_alone(alloc, replica);
         }
         Ok(())
     }
@@ -223,7 +278,12 @@ impl Service {
     }
 
     /// Rests a replica's pool and shows it.
-    fn show(&mut self, alloc: Global, replica: u64) -> Result<Reply, AllocError>
+    fn show<R: Threads + Wait + Sync>(
+        &mut self,
+        rt: &R,
+        alloc: Global,
+        replica: u64,
+    ) -> Result<Reply, AllocError>
         requires { IsBetweenLines self.old }
         ensures ready { OnOk result (IsBetweenLines self.new) }
         ensures program { self.new.world.accepted ≡ self.old.world.accepted }
@@ -232,7 +292,7 @@ impl Service {
             (AnswersShow (declarations (served self.old)) (rules_of (served self.old)))
             (reply_text (declarations (served self.old)) reply) (held self.new)) }
     {
-        self.settle(alloc, replica)?;
+        self.settle(rt, alloc, replica)?;
         let answer = self.act(alloc, &Event::At(replica, Act::Show))?;
         Ok(Reply::Answered(answer))
     }
@@ -274,7 +334,12 @@ impl Service {
     }
 
     /// Does what a command says.
-    fn obey(&mut self, alloc: Global, command: Command) -> Result<Reply, AllocError>
+    fn obey<R: Threads + Wait + Sync>(
+        &mut self,
+        rt: &R,
+        alloc: Global,
+        command: Command,
+    ) -> Result<Reply, AllocError>
         requires ready { IsBetweenLines self.old }
         requires sized { IsSized command }
         ensures ready { OnOk result (IsBetweenLines self.new) }
@@ -294,7 +359,7 @@ impl Service {
                 let id = OpId { origin, number };
                 self.tell(alloc, replica, &RawOp { id, atoms })
             }
-            Command::Show { replica } => self.show(alloc, replica),
+            Command::Show { replica } => self.show(rt, alloc, replica),
             Command::Sync { from, to } => self.sync(alloc, from, to),
             Command::Summary { replica } => self.summary(alloc, replica),
             Command::Lacks {
@@ -310,7 +375,12 @@ impl Service {
     }
 
     /// Does what a line says, which comes without its end, and answers it.
-    pub(crate) fn reply(&mut self, alloc: Global, line: &[u8]) -> Result<Reply, AllocError>
+    pub(crate) fn reply<R: Threads + Wait + Sync>(
+        &mut self,
+        rt: &R,
+        alloc: Global,
+        line: &[u8],
+    ) -> Result<Reply, AllocError>
         requires { IsBetweenLines self.old }
         ensures ready { OnOk result (IsBetweenLines self.new) }
         ensures program { self.new.world.accepted ≡ self.old.world.accepted }
@@ -319,7 +389,7 @@ impl Service {
             (held self.old) line.now (reply_text (declarations (served self.old)) reply) (held self.new)) }
     {
         match read_line(alloc, line) {
-            Ok(command) => self.obey(alloc, command),
+            Ok(command) => self.obey(rt, alloc, command),
             Err(LineFault::Shape) => Ok(Reply::Refused(Refusal::Shape)),
             Err(LineFault::BadLine) => Ok(Reply::Refused(Refusal::BadLine)),
             Err(LineFault::Memory) => Err(AllocError),

@@ -3,7 +3,7 @@ ghost use Rattle.std.specs.Prelude.{◌≡◌, ◌≤◌, ℕ, ◌++◌, List, R
 ghost use Rattle.std.specs.Prelude.{IfOk, IsErrOf, OnErr, OnOk};
 ghost use Rattle.std.specs.Io.KnownBytes.{Appends, IsAtEnd};
 ghost use Rattle.chr_device.specs.Devices.{AppendsPart};
-ghost use Rattle.chr_device.specs.Settings.{IsPlain, IsWithinLimits};
+ghost use Rattle.chr_device.specs.Settings.{IsWithinLimits};
 ghost use Rattle.chr_device.specs.declared.fault.RunFault.TheVariants.{Device, Memory};
 ghost use Rattle.chr_device.specs.declared.words.Verb.TheVariants.{Run};
 ghost use Rattle.chr_base.specs.declared.limits.TheConstants.{MAX_REPLICAS};
@@ -28,6 +28,7 @@ use crate::judging::{Judged, judge};
 use crate::one_text::answers_exist;
 use crate::running::{Status, output_of};
 use crate::service::Service;
+use crate::sharing::Sharing;
 use crate::shortening::shorten;
 use crate::verdict::accepted_line;
 use crate::wanted::Wanted;
@@ -36,6 +37,7 @@ use chr_device::{RunFault, Settings, Verb};
 use chr_join::Accepted;
 use chr_read::MAX_TEXT;
 use std::alloc::Global;
+use std::sync::Wait;
 use std::thread::Threads;
 
 /// The most bytes of a read.
@@ -47,6 +49,7 @@ const MOST_TEXT: usize = MAX_TEXT + 4;
 
 /// Sends the answer of a line, which comes without its line feed: nothing for a blank one.
 fn send_answer<T: Wire>(
+    rt: &(impl Threads + Wait + Sync),
     alloc: Global,
     service: &mut Service,
     line: &[u8],
@@ -65,12 +68,13 @@ fn send_answer<T: Wire>(
     ensures memory { IsErrOf result Memory → T.is_broken wire.new ≡ T.is_broken wire.old }
 {
     let mut out = String::new(alloc);
-    answer_line(alloc, service, without_return(line), &mut out)?;
+    answer_line(rt, alloc, service, without_return(line), &mut out)?;
     wire.send(out.as_bytes())
 }
 
 /// Answers the lines that end in this chunk, and keeps what stands after them.
 fn answer_chunk<T: Wire>(
+    rt: &(impl Threads + Wait + Sync),
     alloc: Global,
     service: &mut Service,
     line: &mut Vec<u8>,
@@ -94,7 +98,7 @@ fn answer_chunk<T: Wire>(
     let mut rest = chunk;
     while let Some((end, more)) = ended_line(rest) {
         line.extend_from_slice(end)?;
-        send_answer(alloc, service, line, wire)?;
+        send_answer(rt, alloc, service, line, wire)?;
         line.clear();
         rest = more;
     }
@@ -104,6 +108,7 @@ fn answer_chunk<T: Wire>(
 
 /// Answers the lines of the bytes that were read first, and then those that come, to the end of the input.
 fn converse<T: Wire>(
+    rt: &(impl Threads + Wait + Sync),
     alloc: Global,
     service: &mut Service,
     first: &[u8],
@@ -124,14 +129,14 @@ fn converse<T: Wire>(
 {
     answers_exist();
     let mut line = Vec::new(alloc);
-    answer_chunk(alloc, service, &mut line, first, wire)?;
+    answer_chunk(rt, alloc, service, &mut line, first, wire)?;
     let mut chunk = [0u8; CHUNK];
     for _turn in 0..u64::MAX {
         let n = wire.wait(&mut chunk)?;
         if n == 0 {
-            return send_answer(alloc, service, &line, wire);
+            return send_answer(rt, alloc, service, &line, wire);
         }
-        answer_chunk(alloc, service, &mut line, &chunk[..n], wire)?;
+        answer_chunk(rt, alloc, service, &mut line, &chunk[..n], wire)?;
         shorten(&mut line);
     }
     wire.fail();
@@ -140,9 +145,11 @@ fn converse<T: Wire>(
 
 /// Sends the line of an accepted program, and answers its commands.
 fn serve_program<T: Wire>(
+    rt: &(impl Threads + Wait + Sync),
     alloc: Global,
     accepted: Accepted,
     wanted: Wanted,
+    sharing: Sharing,
     first: &[u8],
     wire: &mut T,
 ) -> Result<(), RunFault>
@@ -161,17 +168,18 @@ fn serve_program<T: Wire>(
 {
     answers_exist();
     let line = accepted_line(alloc, accepted.program().rules().len(), accepted.cases())?;
-    let mut service = Service::open(alloc, accepted, wanted.replicas)?;
+    let mut service = Service::open(alloc, accepted, wanted.replicas, sharing)?;
     wire.send(line.as_bytes())?;
-    converse(alloc, &mut service, first, wire)
+    converse(rt, alloc, &mut service, first, wire)
 }
 
 /// Sends the verdict on a program text, and answers the commands of one that is accepted.
 fn serve_text<T: Wire>(
-    rt: &(impl Threads + Sync),
+    rt: &(impl Threads + Wait + Sync),
     alloc: Global,
     text: &[u8],
     wanted: Wanted,
+    sharing: Sharing,
     first: &[u8],
     wire: &mut T,
 ) -> Result<Status, RunFault>
@@ -189,7 +197,7 @@ fn serve_text<T: Wire>(
 {
     match judge(rt, alloc, text, wanted.coverage)? {
         Judged::Accepted(accepted) => {
-            serve_program(alloc, accepted, wanted, first, wire)?;
+            serve_program(rt, alloc, accepted, wanted, sharing, first, wire)?;
             Ok(Status::Accepted)
         }
         Judged::Refused(line) => {
@@ -201,10 +209,11 @@ fn serve_text<T: Wire>(
 
 /// Sends the output of an input.
 fn send_output<T: Wire>(
-    rt: &(impl Threads + Sync),
+    rt: &(impl Threads + Wait + Sync),
     alloc: Global,
     input: &[u8],
     wanted: Wanted,
+    sharing: Sharing,
     wire: &mut T,
 ) -> Result<Status, RunFault>
     requires { (1 ≤ wanted.replicas) × (wanted.replicas ≤ MAX_REPLICAS) }
@@ -217,17 +226,18 @@ fn send_output<T: Wire>(
     ensures device { IsErrOf result Device → T.is_broken wire.new ≡ true }
     ensures memory { IsErrOf result Memory → T.is_broken wire.new ≡ T.is_broken wire.old }
 {
-    let output = output_of(rt, alloc, Verb::Run, wanted, input)?;
+    let output = output_of(rt, alloc, Verb::Run, wanted, sharing, input)?;
     wire.send(output.text.as_bytes())?;
     Ok(output.status)
 }
 
 /// Reads the program text, sends the verdict, and then the answers of the commands as they come.
 fn serve_wanted<T: Wire>(
-    rt: &(impl Threads + Sync),
+    rt: &(impl Threads + Wait + Sync),
     alloc: Global,
     wire: &mut T,
     wanted: Wanted,
+    sharing: Sharing,
 ) -> Result<Status, RunFault>
     requires unbroken { T.is_broken wire.old ≡ false }
     requires replicas { (1 ≤ wanted.replicas) × (wanted.replicas ≤ MAX_REPLICAS) }
@@ -246,14 +256,14 @@ fn serve_wanted<T: Wire>(
     for _turn in 0..u64::MAX {
         let n = wire.wait(&mut chunk)?;
         if n == 0 {
-            return send_output(rt, alloc, &input, wanted, wire);
+            return send_output(rt, alloc, &input, wanted, sharing, wire);
         }
         input.extend_from_slice(&chunk[..n])?;
         if let Some((text, first)) = divided(&input) {
-            return serve_text(rt, alloc, text, wanted, first, wire);
+            return serve_text(rt, alloc, text, wanted, sharing, first, wire);
         }
         if input.len() > MOST_TEXT {
-            return send_output(rt, alloc, &input, wanted, wire);
+            return send_output(rt, alloc, &input, wanted, sharing, wire);
         }
     }
     wire.fail();
@@ -263,21 +273,20 @@ fn serve_wanted<T: Wire>(
 /// Reads the program text, sends the verdict, and then sends the answer line of each command as soon as it has been
 /// read: it waits only where each whole line that was read is answered. A program that is refused ends it, and so does
 /// the end of the input, where a last line without a line feed is answered too. What it sends is what [`crate::run`]
-/// writes for the same input. Numbers of workers and of parts above 1 are to come.
+/// writes for the same input, and does not depend on the numbers of workers and of parts.
 ///
 /// # Errors
 ///
 /// `Device` where the wire has failed, and `Memory` where no memory was left and it has not. Nothing, or a beginning of
 /// the input's output is sent then.
 pub fn serve<T: Wire>(
-    rt: &(impl Threads + Sync),
+    rt: &(impl Threads + Wait + Sync),
     alloc: Global,
     wire: &mut T,
     settings: Settings,
 ) -> Result<Status, RunFault>
     requires unbroken { T.is_broken wire.old ≡ false }
     requires limits { IsWithinLimits settings }
-    requires plain { IsPlain settings }
     requires prompt { (w : T) → AllAnswered (T.unread wire.old) (T.unread w) (T.sent wire.old) (T.sent w)
         (wanted_by settings) → T.may_wait w }
     ensures ok { IfOk result (λ status. WritesOutput (T.unread wire.old) (T.sent wire.old) (T.sent wire.new)
@@ -290,5 +299,11 @@ pub fn serve<T: Wire>(
     ensures device { IsErrOf result Device → T.is_broken wire.new ≡ true }
     ensures memory { IsErrOf result Memory → T.is_broken wire.new ≡ false }
 {
-    serve_wanted(rt, alloc, wire, Wanted::from_settings(settings))
+    serve_wanted(
+        rt,
+        alloc,
+        wire,
+        Wanted::from_settings(settings),
+        Sharing::from_settings(settings),
+    )
 }

@@ -1,11 +1,13 @@
 //! Runs and services over memory, and over readers and writers that fail.
-ghost use Rattle.chr_device.specs.Settings.{IsPlain, IsWithinLimits};
+ghost use Rattle.chr_device.specs.Settings.{IsWithinLimits};
 
 mod devices;
 mod serving;
+mod sharing;
 
 use chr_report::{RunFault, Settings, Status, Style, Verb, Watched, run};
 use std::alloc::Global;
+use std::sync::Wait;
 use std::thread::Threads;
 
 /// A run. Each number is 1.
@@ -26,13 +28,12 @@ const ROOM: usize = 131_072;
 
 /// The status for the input, and all that was written.
 fn outcome(
-    rt: &(impl Threads + Sync),
+    rt: &(impl Threads + Wait + Sync),
     alloc: Global,
     settings: Settings,
     input: &[u8],
 ) -> Result<(Status, Vec<u8>), RunFault>
-    requires limits { IsWithinLimits settings }
-    requires plain { IsPlain settings }
+    requires { IsWithinLimits settings }
 {
     let mut reader = Watched::of(input);
     let mut writer = Watched::of(Vec::with_capacity(alloc, ROOM)?);
@@ -45,7 +46,7 @@ const ROUTES: &[u8] = b":- chr_constraint path/3. path(X,Y,D) \\ path(X,Y,E) <=>
 
 /// The verdict on routes, by joint or by sorted cases.
 fn routes_verdict(
-    rt: &(impl Threads + Sync),
+    rt: &(impl Threads + Wait + Sync),
     alloc: Global,
     wide: bool,
 ) -> Result<(Status, Vec<u8>), RunFault> {

@@ -10,7 +10,7 @@ ghost use Rattle.std.specs.Vec.Iter.{into_iter_items};
 ghost use Rattle.std.specs.Process.{exit_status};
 ghost use Rattle.std.specs.declared.io.ErrorKind.TheVariants.{OutOfMemory};
 ghost use Rattle.chr_device.specs.Devices.{has_failed};
-ghost use Rattle.chr_device.specs.Settings.{IsPlain, IsWithinLimits};
+ghost use Rattle.chr_device.specs.Settings.{IsWithinLimits};
 ghost use Rattle.chr_device.specs.Words.{faults_of, verb_met};
 ghost use Rattle.chr_device.specs.declared.words.Verb.TheVariants.{Explain};
 ghost use Rattle.chr_device.specs.declared.words.WordsFault.TheVariants.{Memory};
@@ -29,6 +29,7 @@ use std::env::Args;
 use std::io::{Read, Write};
 use std::process::ExitCode;
 use std::rt::Env;
+use std::sync::Wait;
 use std::thread::Threads;
 use std::{env, io};
 
@@ -47,7 +48,7 @@ fn exit_code(outcome: Result<Status, RunFault>) -> ExitCode
 /// Does what these settings ask for.
 #[tactic(auto, using(crate::proofs::Served::service_ends, crate::proofs::VerdictEnds::explanation_ends))]
 fn run_settings<R: Read, W: Write>(
-    rt: &(impl Threads + Sync),
+    rt: &(impl Threads + Wait + Sync),
     alloc: Global,
     streams: &mut Streams<R, W>,
     settings: Settings,
@@ -55,7 +56,6 @@ fn run_settings<R: Read, W: Write>(
     requires reads { has_failed streams.old.reader ≡ false }
     requires writes { has_failed streams.old.writer ≡ false }
     requires limits { IsWithinLimits settings }
-    requires plain { IsPlain settings }
     ensures answered { settings.command ≢ Explain →
         RunEnds (R.remaining (reader_of streams.old)) (W.contents (writer_of streams.old))
         (W.contents (writer_of streams.new)) settings.command (wanted_by settings) (exit_status result) }
@@ -94,7 +94,7 @@ fn refuse_words(rt: &(impl Eprint + AllocGlobal), words: &[String], fault: &Word
 /// Does what the words ask for, of which the first is the program's name, and gives the status to end with. Words that
 /// `clap` refuses are told on the standard error; nothing is read or written then.
 pub fn run_words<R: Read, W: Write>(
-    rt: &(impl Eprint + AllocGlobal + Threads + Sync),
+    rt: &(impl Eprint + AllocGlobal + Threads + Wait + Sync),
     words: &[String],
     streams: &mut Streams<R, W>,
 ) -> ExitCode
@@ -148,7 +148,7 @@ fn words(rt: &(impl Env + AllocGlobal)) -> io::Result<Vec<String>> {
 
 /// Does what the program's words ask for, and gives the status to end with.
 pub fn start<R: Read, W: Write>(
-    rt: &(impl Env + Eprint + AllocGlobal + Threads + Sync),
+    rt: &(impl Env + Eprint + AllocGlobal + Threads + Wait + Sync),
     streams: &mut Streams<R, W>,
 ) -> ExitCode
     requires reads { has_failed streams.old.reader ≡ false }

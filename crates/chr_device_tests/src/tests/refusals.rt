@@ -148,3 +148,13 @@ fn help_names_wide(rt: HostRuntime) {
     contains(&rt, &["--help"], "--wide", false);
     contains(&rt, &["explain", "--help"], "--wide", false);
 }
+
+#[test]
+fn help_names_workers_and_parts(rt: HostRuntime) {
+    for part in ["--workers <N>", "--parts <N>"] {
+        contains(&rt, &["run", "--help"], part, true);
+        contains(&rt, &["serve", "--help"], part, true);
+        contains(&rt, &["check", "--help"], part, false);
+        contains(&rt, &["explain", "--help"], part, false);
+    }
+}

@@ -81,6 +81,40 @@ fn replicas_are_served(rt: HostRuntime) {
     }
 }
 
+/// The command, how many workers there are, and how many parts.
+const SHARED: [(&[&str], Verb, u32, u32); 7] = [
+    (&["run", "--workers", "2"], Verb::Run, 2, 1),
+    (&["run", "--workers=16"], Verb::Run, 16, 1),
+    (&["run", "--parts", "64"], Verb::Run, 1, 64),
+    (
+        &["run", "--workers", "4", "--parts", "16"],
+        Verb::Run,
+        4,
+        16,
+    ),
+    (
+        &["run", "--parts=16", "--workers=4", "--"],
+        Verb::Run,
+        4,
+        16,
+    ),
+    (&["serve", "--workers", "+2"], Verb::Serve, 2, 1),
+    (&["serve", "--parts", "03"], Verb::Serve, 1, 3),
+];
+
+#[test]
+fn workers_and_parts_are_read(rt: HostRuntime) {
+    for (words, command, workers, parts) in SHARED {
+        let expected = Settings {
+            command,
+            workers,
+            parts,
+            ..PLAIN
+        };
+        assert!(rt; asks_for(&rt, words, expected), "{words:?}");
+    }
+}
+
 /// Whether the explanation is a drawing, and whether it tells all.
 const STYLES: [(&[&str], bool, bool); 4] = [
     (&["explain", "--dot"], true, false),
@@ -186,8 +220,58 @@ fn other_wide_is_refused(rt: HostRuntime) {
     }
 }
 
+const OTHER_WORKERS: [(&[&str], ErrorKind, &str); 8] = [
+    (
+        &["run", "--workers", "0"],
+        ErrorKind::ValueValidation,
+        "0 is not in 1..=16",
+    ),
+    (
+        &["run", "--workers", "17"],
+        ErrorKind::ValueValidation,
+        "17 is not in 1..=16",
+    ),
+    (
+        &["serve", "--parts", "0"],
+        ErrorKind::ValueValidation,
+        "0 is not in 1..=64",
+    ),
+    (
+        &["serve", "--parts=65"],
+        ErrorKind::ValueValidation,
+        "65 is not in 1..=64",
+    ),
+    (
+        &["run", "--workers"],
+        ErrorKind::InvalidValue,
+        "--workers <N>",
+    ),
+    (
+        &["run", "--parts=1", "--parts=1"],
+        ErrorKind::ArgumentConflict,
+        "--parts <N>",
+    ),
+    (
+        &["check", "--workers", "2"],
+        ErrorKind::UnknownArgument,
+        "'--workers'",
+    ),
+    (
+        &["explain", "--parts", "2"],
+        ErrorKind::UnknownArgument,
+        "'--parts'",
+    ),
+];
+
+#[test]
+fn other_workers_are_refused(rt: HostRuntime) {
+    for (words, kind, text) in OTHER_WORKERS {
+        assert!(rt; refuses(&rt, words, kind, text), "{words:?}");
+    }
+}
+
 /// Words after `run`.
-const OTHER_REPLICAS: [(&[&str], ErrorKind, &str); 12] = [
+const OTHER_REPLICAS: [(&[&str], ErrorKind, &str); 11] = [
     (
         &["--replicas", "0"],
         ErrorKind::ValueValidation,
@@ -222,11 +306,6 @@ const OTHER_REPLICAS: [(&[&str], ErrorKind, &str); 12] = [
         &["--replica", "2"],
         ErrorKind::UnknownArgument,
         "'--replica'",
-    ),
-    (
-        &["--workers", "2"],
-        ErrorKind::UnknownArgument,
-        "'--workers'",
     ),
 ];
 

@@ -1,5 +1,5 @@
 -- The replicas that answer command lines: what they hold, and what is kept of them from line to line.
-use Rattle.std.specs.Prelude.{◌≡◌, ℕ, Bool, true, false, List, All, map, Some, ⊤}
+use Rattle.std.specs.Prelude.{◌≡◌, ◌⊎◌, ℕ, Bool, true, false, List, All, map, Some, ⊤}
 use Rattle.std.specs.FinMap as finite
 use Rattle.chr_base.specs.declared.program.Program.{Program}
 use Rattle.chr_base.specs.Programs.{rules_of}
@@ -9,11 +9,11 @@ use Rattle.chr_base.specs.Rewriting.{IsAtRest}
 use Rattle.chr_ops.specs.declared.id.OpId.{OpId}
 use Rattle.chr_ops.specs.Operations.{Operations}
 use Rattle.chr_ops.specs.Summaries.{IsApart}
-use Rattle.chr_replica.specs.Replicas.{Replica, IsDeclared, IsSound}
+use Rattle.chr_replica.specs.Replicas.{Replica, IsDeclared, IsSettled, IsSound}
 use Rattle.chr_acts.specs.declared.act.Act.{Act}
 use Rattle.chr_acts.specs.declared.act.Act.TheVariants as act
 use Rattle.chr_acts.specs.declared.reply.Reply.TheVariants as reply
-use Rattle.chr_worlds.specs.Worlds.{Replicas, IsAt}
+use Rattle.chr_worlds.specs.Worlds.{Replicas, Changes, HasReplica, IsAt}
 use Rattle.chr_worlds.specs.Sharing.{shared_program}
 use Rattle.chr_worlds.specs.declared.event.Event.{Event}
 use Rattle.chr_worlds.specs.declared.event.Event.TheVariants as event
@@ -47,6 +47,16 @@ IsBetweenLines s = AreBetweenLines (served s) s.world.replicas
 -- the replica of a number, if any, is at rest
 abbrev pub AreAtRest : Service → ℕ → Type 0
 AreAtRest s r = (t : Replica) → IsAt s.world.replicas r t → IsAtRest (Step (rules_of (served s))) t.pool
+
+-- a replica holds what it held, and has come to rest
+pub record ComesToRest (p : Program) (s t : Replica) : Type 0 where
+  pub operations : t.operations ≡ s.operations
+  pub sound : IsSound p t
+  pub settled : IsSettled p t
+
+-- so does the replica of a number, and no other changes; or there is none
+abbrev pub RestsAt : Program → Replicas → ℕ → Replicas → Type 0
+RestsAt p w r v = ((¬ HasReplica w r) × (v ≡ w)) ⊎ Changes w r (ComesToRest p) v
 
 -- what lines ask for: nothing of steps and leases
 abbrev pub IsLineAct : Act → Type 0

@@ -1,12 +1,13 @@
 //! Services over memory: lines are answered as they come.
 ghost use Rattle.std.specs.Prelude.{◌≡◌, None, IfOk, false};
-ghost use Rattle.chr_device.specs.Settings.{IsPlain, IsWithinLimits};
+ghost use Rattle.chr_device.specs.Settings.{IsWithinLimits};
 
 use super::{PLAIN, ROOM, outcome};
 use chr_device::testing::{Drips, FailsAt};
 use chr_report::{RunFault, Settings, Status, Streams, Watched, Wire, serve};
 use std::alloc::{AllocError, Global};
 use std::process::Abort;
+use std::sync::Wait;
 use std::test::Fail;
 use std::thread::Threads;
 
@@ -115,7 +116,7 @@ fn lines_are_answered_at_once(rt: HostRuntime) -> Result<(), Fail> {
 
 /// What is sent is what a run writes.
 pub(super) fn expect_served(
-    rt: &(impl Abort + Threads + Sync),
+    rt: &(impl Abort + Threads + Wait + Sync),
     alloc: Global,
     input: &[u8],
 ) -> Result<(), RunFault> {

@@ -1,4 +1,4 @@
-use Rattle.chr_device.proofs.Replicas.{numbers_within_limits}
+use Rattle.chr_device.proofs.Numbers.{numbers_within_limits}
 use Rattle.chr_device.proofs.words.numbers_are_within_limits.Goals as goal
 
 pub returns : goal.returns

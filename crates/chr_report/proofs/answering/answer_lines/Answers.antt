@@ -6,7 +6,7 @@ use Rattle.chr_report.proofs.Continuing.{one_more, all_answered}
 use Rattle.chr_report.proofs.answering.answer_lines.Goals as goal
 
 pub loop-next-preserved : goal.loop-next-preserved
-loop-next-preserved c =
+loop-next-preserved g c =
     let h = c.loop-next.invariant in
     let t = one_more c.args.service.now.world.accepted (lines c.args.input.now) (held c.args.service.now) (string_bytes c.args.out.now) c.loop-next.service.world.accepted c.answer_line.new.service.world.accepted c.loop-next.next c.in-Some.rest
     c.next_line.result.0.now c.without_return.result.now c.next_line.result.1 (held c.loop-next.service) (held c.answer_line.new.service) (string_bytes c.loop-next.out) (string_bytes c.answer_line.new.out)
@@ -14,4 +14,4 @@ loop-next-preserved c =
     record { program = t.program; reached = c.in_ok-answer_line.ensures.ready; answered = t.answered }
 
 pub returns : goal.returns
-returns c = all_answered c.args.service.now.world.accepted _ _ _ c.loop-next.next (held c.loop-next.service) _ c.loop-next.invariant.answered (let e : c.loop-next.next ≡ None = search rules in e)
+returns g c = all_answered c.args.service.now.world.accepted _ _ _ c.loop-next.next (held c.loop-next.service) _ c.loop-next.invariant.answered (let e : c.loop-next.next ≡ None = search rules in e)

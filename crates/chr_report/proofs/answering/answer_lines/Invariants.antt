@@ -8,11 +8,11 @@ use Rattle.chr_report.proofs.Continuing.{left_size, Continues}
 use Rattle.chr_report.proofs.answering.answer_lines.Given as goal
 
 abbrev pub invariant-loop-next : goal.invariant-loop-next
-invariant-loop-next l = record {
+invariant-loop-next g l = record {
   program : l.service.world.accepted ≡ l.fn.service.world.accepted;
   reached : IsBetweenLines l.service;
   answered : Continues (declarations (served l.fn.service)) (rules_of (served l.fn.service)) (lines l.fn.input) (held l.fn.service) (string_bytes l.fn.out) (lines_left l.next) (held l.service) (string_bytes l.out);
 }
 
 abbrev pub decreases-loop-next : goal.decreases-loop-next
-decreases-loop-next l = left_size l.next
+decreases-loop-next g l = left_size l.next

@@ -6,5 +6,5 @@ use Rattle.chr_report.proofs.Outcomes.{program_answered}
 use Rattle.chr_report.proofs.running.answer_program.Goals as goal
 
 pub returns : goal.returns
-returns c =
+returns g c =
     program_answered c.args.accepted c.in_ok-service.service.world.accepted (lines_left c.args.commands) _ _ c.args.wanted (held c.in_ok-service.service) _ _ c.requires.accepted c.in_ok-service.ensures.program (ap length c.rules-rules.ensures ∙ ap (λ p. length (rules_of p)) c.program.ensures) c.cases.ensures.number c.in_ok-text.ensures c.in_ok-service.ensures.operations c.in_ok-answer_commands.ensures

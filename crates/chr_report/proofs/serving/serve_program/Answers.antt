@@ -26,7 +26,7 @@ returns-in_err-send-clause-err g c =
     (subst (AppendsPart old new) c.as_bytes.ensures.value c.in_err-send.ensures.err))
 
 pub converse-requires-clause-prompt : goal.converse-requires-clause-prompt
-converse-requires-clause-prompt g c w line now s =
+converse-requires-clause-prompt g c κs within w line now s =
     let a = c.args.accepted in
     let start = held c.in_ok-service.service in
     let verdict = string_bytes c.in_ok-line.line in

@@ -13,7 +13,7 @@ use Rattle.chr_report.proofs.Conversing.{refused_written, text_written, text_par
 use Rattle.chr_report.proofs.serving.serve_text.Goals as goal
 
 pub serve_program-requires-clause-prompt : goal.serve_program-requires-clause-prompt
-serve_program-requires-clause-prompt g c w s =
+serve_program-requires-clause-prompt g c κs within w s =
     let text = c.args.text.now in
     let j : IsJudgedText c.args.wanted.coverage text (judged.Accepted c.in-Accepted.accepted) = subst (IsJudgedText c.args.wanted.coverage text) c.in-Accepted.is c.in_ok-accepted.ensures in
     c.requires.prompt w (Ok (program_in c.in-Accepted.accepted)) (subst (IsAnswer text) j.2.0 j.1) s

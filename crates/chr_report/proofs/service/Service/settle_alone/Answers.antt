@@ -2,7 +2,7 @@ use Rattle.std.proofs.Common.{sym, ap, ◌∙◌, subst}
 use Rattle.chr_worlds.specs.Sharing.{shared_program}
 use Rattle.chr_report.specs.working.Services.{served, operations_held, AreBetweenLines}
 use Rattle.chr_report.proofs.Settling.{settled_held, rested}
-use Rattle.chr_report.proofs.service.Service.settle.Goals as goal
+use Rattle.chr_report.proofs.service.Service.settle_alone.Goals as goal
 
 pub returns-clause-ready : goal.returns-clause-ready
 returns-clause-ready c = subst (λ w. AreBetweenLines (shared_program w) w.replicas) (sym c.note_rest.ensures) c.in_ok-answer.ensures.ready
