@@ -1,8 +1,14 @@
 """Explanations of texts. `explanations/NAME.chr` is told as `NAME.out` has it, by `--all` as `NAME.all`, and drawn by
 `--dot` as `NAME.dot`."""
 
+import itertools
+import os
+import random
+import re
 import subprocess
 import unittest
+from collections import Counter
+from concurrent.futures import ThreadPoolExecutor
 from pathlib import Path
 
 from chrrep.node import program_path
@@ -11,6 +17,19 @@ TEXTS = Path(__file__).resolve().parent / "explanations"
 OPTIONS = {".out": (), ".all": ("--all",), ".dot": ("--dot",)}
 MAX_TEXT = 65_536
 SECONDS = 60.0
+WORKERS = os.cpu_count() or 1
+
+SEED = 40
+PROGRAMS = 2000
+"""So many random programs with a rule that doesn't lower are explained."""
+SYMBOLS = "abcd"
+MAX_BODY = 4
+DECLARED = ":- chr_constraint a/0, b/0, c/0, d/0.\n"
+SMALL_WEIGHTS = list(itertools.product(range(1, 7), repeat=len(SYMBOLS)))
+IN_CYCLE = re.compile(r"  (?:once|(\d+) times) rule (\d+): ")
+
+Rule = tuple[list[str], list[str]]
+"""What a rule removes, and its body."""
 
 
 def run(verb: str, text: bytes, *options: str) -> tuple[int, str]:
@@ -80,6 +99,95 @@ class Explanations(unittest.TestCase):
     def test_comments_and_nothing_are_programs(self) -> None:
         for text in (b"", b"% a. b\n"):
             self.assertEqual(run("explain", text)[0], 0)
+
+
+def random_rules(chance: random.Random) -> list[Rule]:
+    def some(least: int, most: int) -> list[str]:
+        return chance.choices(SYMBOLS, k=chance.randint(least, most))
+
+    return [(some(1, 3), some(0, MAX_BODY)) for _ in range(chance.randint(1, 5))]
+
+
+def text_of(rules: list[Rule], weights: str) -> bytes:
+    clauses = "".join(f"{', '.join(removed)} <=> {', '.join(body) or 'true'}.\n" for removed, body in rules)
+    return f"{DECLARED}{weights}{clauses}".encode()
+
+
+def losses(rule: Rule) -> list[int]:
+    """By how much more often the rule removes each symbol than its body has it."""
+    removed, body = rule
+    return [removed.count(symbol) - body.count(symbol) for symbol in SYMBOLS]
+
+
+def lowers(weights: tuple[int, ...], rules: list[list[int]]) -> bool:
+    return all(sum(weight * loss for weight, loss in zip(weights, rule, strict=True)) > 0 for rule in rules)
+
+
+class Weights(unittest.TestCase):
+    """Weights that are told of a program with a rule that doesn't lower."""
+
+    def told(self, rules: list[Rule]) -> str:
+        return run("explain", text_of(rules, ""))[1]
+
+    def check_cycle(self, rules: list[Rule], told: str) -> None:
+        """Of no symbol the told rules take more than they give back."""
+        applied = [(int(times or 1), losses(rules[int(rule) - 1])) for times, rule in IN_CYCLE.findall(told)]
+        self.assertTrue(applied)
+        for symbol in range(len(SYMBOLS)):
+            self.assertLessEqual(sum(times * rule[symbol] for times, rule in applied), 0)
+
+    def check_told(self, rules: list[Rule], told: str) -> str:
+        """Told weights are accepted, and where none are told no small ones are there."""
+        _, mark, weights = told.partition("in place of all that are declared:\n")
+        if mark:
+            self.assertNotIn("refused 20", run("check", text_of(rules, weights))[1])
+            return "weights"
+        rows = [losses(rule) for rule in rules]
+        self.assertFalse(any(lowers(weights, rows) for weights in SMALL_WEIGHTS), rules)
+        if "applied together" in told:
+            self.check_cycle(rules, told)
+            return "cycle"
+        return "one rule" if "the body has each removed symbol" in told else "nothing"
+
+    def test_random_programs(self) -> None:
+        chance = random.Random(SEED)
+        kinds: Counter[str] = Counter()
+        with ThreadPoolExecutor(WORKERS) as pool:
+            while kinds.total() < PROGRAMS:
+                many = [random_rules(chance) for _ in range(PROGRAMS)]
+                for rules, told in zip(many, pool.map(self.told, many), strict=True):
+                    if told.startswith("refused 20"):
+                        kinds[self.check_told(rules, told)] += 1
+        self.assertEqual(kinds["nothing"], 0)
+        self.assertTrue(kinds["weights"] and kinds["cycle"] and kinds["one rule"], kinds)
+
+    def test_told_declarations_are_pasted(self) -> None:
+        """A chain gets its weights in one round, also one whose weights have to be pairs."""
+        for name in ("chains", "doublings"):
+            text = (TEXTS / f"{name}.chr").read_text()
+            _, mark, weights = run("explain", text.encode())[1].partition("in place of all that are declared:\n")
+            self.assertTrue(mark)
+            rules = "".join(line for line in text.splitlines(keepends=True) if not line.startswith(":- chr_weight"))
+            declared, end, others = rules.partition(".\n")
+            self.assertEqual(run("check", f"{declared}{end}{weights}{others}".encode())[0], 0)
+
+    def test_large_programs(self) -> None:
+        """64 symbols and 64 rules: a chain, and the same closed to a cycle."""
+        names = [f"a{number}" for number in range(64)]
+        declared = f":- chr_constraint {', '.join(f'{name}/0' for name in names)}.\n"
+        chain = "".join(f"{one} <=> {other}.\n" for one, other in itertools.pairwise(names))
+        self.assertIn(":- chr_weight a0/0 = 64.\n", run("explain", f"{declared}{chain}".encode())[1])
+        told = run("explain", f"{declared}{chain}a63 <=> a0.\n".encode())[1]
+        self.assertEqual(len(IN_CYCLE.findall(told)), 64)
+
+    def test_weights_that_are_too_great(self) -> None:
+        """A chain of bodies of eight passes every pair of weights."""
+        names = [f"a{number}" for number in range(32)]
+        declared = f":- chr_constraint {', '.join(f'{name}/0' for name in names)}.\n"
+        chain = "".join(f"{one} <=> {', '.join(8 * [other])}.\n" for one, other in itertools.pairwise(names))
+        status, told = run("explain", f"{declared}{chain}".encode())
+        self.assertEqual(status, 1)
+        self.assertIn("found neither weights for all rules, nor rules that have none", told)
 
 
 if __name__ == "__main__":

@@ -1,5 +1,6 @@
 """Runs to which memory is refused, one growth after another: each ends as it would have, or with status 4 and nothing
-written. Of a service what was written by then is a beginning of the whole, of whole lines."""
+written. Of a service what was written by then is a beginning of the whole, of whole lines. An explanation may lack the
+weights that are searched for."""
 
 import itertools
 import os
@@ -20,6 +21,8 @@ from shims import MEMORY, SECONDS, Refusal, made_shim, run_refused, why_not
 EXAMPLES = Path(__file__).resolve().parents[2] / "examples"
 WORKERS = os.cpu_count() or 1
 WANT_OF_MEMORY = 4
+BEFORE_WEIGHTS = b"so that the rules come to an end.\n"
+WITHOUT_WEIGHTS = b"A search of at most 400 steps found neither weights for all rules, nor rules that have none.\n"
 
 EACH = 40
 """So many growths of an example are refused one by one. Later ones are chosen at random, farther and farther apart."""
@@ -38,9 +41,14 @@ class Case:
     status: int
     output: bytes
 
+    def lacks_weights(self, output: bytes) -> bool:
+        """Whether it is the explanation of a refusal 20 whose search ran out of memory."""
+        before, mark, _ = self.output.partition(BEFORE_WEIGHTS)
+        return bool(mark) and output.startswith(before + mark + WITHOUT_WEIGHTS)
+
     def allows(self, status: int, output: bytes) -> bool:
         if status != WANT_OF_MEMORY:
-            return (status, output) == (self.status, self.output)
+            return status == self.status and (output == self.output or self.lacks_weights(output))
         if self.words[0] != "serve":
             return not output
         return self.output.startswith(output) and (not output or output.endswith(b"\n"))

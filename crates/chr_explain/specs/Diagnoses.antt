@@ -9,6 +9,7 @@ use Rattle.chr_base.specs.Stores.{Store}
 use Rattle.chr_base.specs.Programs.{declarations, rules_of}
 use Rattle.chr_weights.specs.Weights.{ProgramLowers, IsFirstNotLowered}
 use Rattle.chr_weights.specs.WeighedPrograms.{program_of}
+use Rattle.chr_weighing.specs.Weighings.{IsWeighing}
 use Rattle.chr_rewrite.specs.Derivations.{LeadsTo}
 use Rattle.chr_overlaps.specs.declared.cases.Case.{Case}
 use Rattle.chr_overlaps.specs.OverlapLists.{AreOverlaps}
@@ -58,6 +59,7 @@ abbrev pub IsDiagnosisOf : Program → Diagnosis → Type 0
 IsDiagnosisOf p (Text f) = ⊥
 IsDiagnosisOf p (NotLowered u) = (meaning_of u.program ≡ meaning_of p)
     × IsFirstNotLowered (declarations p) (rules_of p) u.fault.rule u.fault.before u.fault.after
+    × IsWeighing u.program u.weighing
 IsDiagnosisOf p (Fails k) = (program_of k.weighed ≡ p) × ProgramLowers p × IsPeakOf (rules_of p) k
 IsDiagnosisOf p (TooManyTypes c) =
     (program_of c.weighed ≡ p) × ProgramLowers p × IsRefusal (rules_of p) (cause.TooManyTypes c.too_many)

@@ -16,6 +16,7 @@ use chr_join::{Accepted, Cause, Coverage, Failure, Refused, TooManyTypes, accept
 use chr_overlaps::cases::cases;
 use chr_overlaps::{CaseFault, Overlap, overlaps};
 use chr_read::{ReadFault, read};
+use chr_weighing::{Weighing, find_weights};
 use chr_weights::{NotLowered, Weighed, weigh};
 use std::alloc::{AllocError, Global};
 use std::thread::Threads;
@@ -33,6 +34,8 @@ pub struct Unlowered {
     pub program: Program,
     /// The first such rule, with both weights.
     pub fault: NotLowered,
+    /// Weights under which each rule lowers, or rules that show that there are none, where either is found.
+    pub weighing: Weighing,
 }
 
 /// A program with a case that fails.
@@ -186,10 +189,14 @@ fn program_diagnosis(
     let copy = program.copy(alloc)?;
     match weigh(program) {
         Ok(weighed) => weighed_diagnosis(rt, alloc, weighed),
-        Err(fault) => Ok(Diagnosis::NotLowered(Unlowered {
-            program: copy,
-            fault,
-        })),
+        Err(fault) => {
+            let weighing = find_weights(alloc, &copy);
+            Ok(Diagnosis::NotLowered(Unlowered {
+                program: copy,
+                fault,
+                weighing,
+            }))
+        }
     }
 }
 

@@ -77,6 +77,15 @@ fn push_store_node(
     out.push_str(if is_end { " [peripheries=2];\n" } else { ";\n" })
 }
 
+/// Adds the nodes that the edge to the store of this number of a side joins.
+fn push_ends(out: &mut String, name: &str, number: usize) -> Result<(), AllocError> {
+    if number == 0 {
+        return Ok(write!(out, "  store -> {name}1 ")?);
+    }
+    let next = usize::saturating_add(number, 1);
+    Ok(write!(out, "  {name}{number} -> {name}{next} ")?)
+}
+
 /// Adds the edge to the store of this number of a side.
 fn push_edge(
     alloc: Global,
@@ -85,15 +94,7 @@ fn push_edge(
     side: Side<'_>,
     number: usize,
 ) -> Result<(), AllocError> {
-    let name = side.name;
-    match number {
-        0 => write!(out, "  store -> {name}1 ")?,
-        _ => write!(
-            out,
-            "  {name}{number} -> {name}{} ",
-            usize::saturating_add(number, 1)
-        )?,
-    }
+    push_ends(out, side.name, number)?;
     let mut text = String::new(alloc);
     if let Some(step) = side.derivation.steps.get(number) {
         if let Some(rule) = told_rule(program, step.rule as usize, FIRST_LETTER) {
@@ -204,6 +205,31 @@ fn push_text(out: &mut String, text: &str) -> Result<(), AllocError> {
     out.push_str(";\n}\n")
 }
 
+/// Draws what is told of a text in one node.
+fn push_told(
+    alloc: Global,
+    out: &mut String,
+    text: &[u8],
+    diagnosis: &Diagnosis,
+) -> Result<(), AllocError> {
+    let told = told_text(alloc, text, diagnosis, false)?;
+    push_text(out, told.as_str())
+}
+
+/// Draws both ways of a case that fails, an accepted program, or what else is told of a text.
+fn push_drawing(
+    alloc: Global,
+    out: &mut String,
+    text: &[u8],
+    diagnosis: &Diagnosis,
+) -> Result<(), AllocError> {
+    match diagnosis {
+        Diagnosis::Fails(peak) => push_peak(alloc, out, peak),
+        Diagnosis::Accepted(census) => push_census(alloc, out, census),
+        _ => push_told(alloc, out, text, diagnosis),
+    }
+}
+
 /// What is to be told of a text, as a drawing.
 pub(crate) fn drawing(
     alloc: Global,
@@ -211,13 +237,6 @@ pub(crate) fn drawing(
     diagnosis: &Diagnosis,
 ) -> Result<String, AllocError> {
     let mut out = String::new(alloc);
-    match diagnosis {
-        Diagnosis::Fails(peak) => push_peak(alloc, &mut out, peak)?,
-        Diagnosis::Accepted(census) => push_census(alloc, &mut out, census)?,
-        _ => {
-            let told = told_text(alloc, text, diagnosis, false)?;
-            push_text(&mut out, told.as_str())?;
-        }
-    }
+    push_drawing(alloc, &mut out, text, diagnosis)?;
     Ok(out)
 }

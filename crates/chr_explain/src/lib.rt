@@ -20,6 +20,7 @@ mod stores;
 mod syntax;
 mod telling;
 mod token;
+mod weighing_text;
 mod weight_text;
 mod word;
 

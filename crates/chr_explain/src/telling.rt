@@ -6,6 +6,7 @@ use crate::limits::MAX_TOLD_PAIRS;
 use crate::overlap_text::{ToldOverlap, told_overlap};
 use crate::pairs::{ToldPair, pairs_of};
 use crate::rule_text::{FIRST_LETTER, ToldRule, told_rule};
+use crate::weighing_text::{push_cycle, push_found};
 use crate::weight_text::{can_lower, push_lowering, push_weights};
 use chr_base::bag::Bag;
 use chr_base::derivation::Derivation;
@@ -13,6 +14,7 @@ use chr_base::program::Program;
 use chr_base::text::push_store;
 use chr_overlaps::cases::MAX_TYPES;
 use chr_overlaps::constants::constants;
+use chr_weighing::{MAX_SEARCH_STEPS, Weighing};
 use chr_weights::NotLowered;
 use std::alloc::{AllocError, Global};
 use std::fmt::Write;
@@ -38,17 +40,39 @@ fn push_unlowered(alloc: Global, out: &mut String, told: &Unlowered) -> Result<(
     out.push_str(
         "\nThe removed heads have to weigh more than the body, so that the rules come to an end.\n",
     )?;
-    push_remedy(out, rule, &told.fault)
+    push_remedy(alloc, out, rule, told)
 }
 
 /// Adds what would lower the weight.
-fn push_remedy(out: &mut String, told: ToldRule<'_>, fault: &NotLowered) -> Result<(), AllocError> {
-    if !can_lower(told.rule) {
+fn push_remedy(
+    alloc: Global,
+    out: &mut String,
+    rule: ToldRule<'_>,
+    told: &Unlowered,
+) -> Result<(), AllocError> {
+    if !can_lower(rule.rule) {
         return out.push_str(
             "No weights do that: the body has each removed symbol at least as often. Remove more heads, or write a smaller body.\n",
         );
     }
-    push_lowering(out, told, fault)?;
+    match &told.weighing {
+        Weighing::Weights(weighed) => push_found(out, weighed.program()),
+        Weighing::Cycle(cycle) => push_cycle(alloc, out, &told.program, cycle),
+        Weighing::Unknown => push_unknown(out, rule, &told.fault),
+    }
+}
+
+/// Adds what is known where nothing was found of all rules together.
+fn push_unknown(
+    out: &mut String,
+    rule: ToldRule<'_>,
+    fault: &NotLowered,
+) -> Result<(), AllocError> {
+    write!(
+        out,
+        "A search of at most {MAX_SEARCH_STEPS} steps found neither weights for all rules, nor rules that have none.\n"
+    )?;
+    push_lowering(out, rule, fault)?;
     out.push_str(
         "Where other rules leave no single number that does it, a weight can be a pair, of which the first number counts for more, as in `:- chr_weight a/0 = 1,0.`\n",
     )
@@ -223,6 +247,29 @@ fn push_pair(out: &mut String, pair: &ToldPair) -> Result<(), AllocError> {
     )?)
 }
 
+/// Tells of a program, of all pairs of rules where `all`.
+fn push_program(
+    alloc: Global,
+    out: &mut String,
+    diagnosis: &Diagnosis,
+    all: bool,
+) -> Result<(), AllocError> {
+    match diagnosis {
+        Diagnosis::Text(_) => Ok(()),
+        Diagnosis::NotLowered(told) => push_unlowered(alloc, out, told),
+        Diagnosis::Fails(peak) => push_peak(alloc, out, peak),
+        Diagnosis::TooManyTypes(crowd) => push_crowd(alloc, out, crowd),
+        Diagnosis::Accepted(census) => push_census(alloc, out, census, all),
+    }
+}
+
+/// What is to be told of a program, of all pairs of rules where `all`.
+fn program_told(alloc: Global, diagnosis: &Diagnosis, all: bool) -> Result<String, AllocError> {
+    let mut out = String::new(alloc);
+    push_program(alloc, &mut out, diagnosis, all)?;
+    Ok(out)
+}
+
 /// What is to be told of a text, of all pairs of rules where `all`.
 pub(crate) fn told_text(
     alloc: Global,
@@ -230,13 +277,8 @@ pub(crate) fn told_text(
     diagnosis: &Diagnosis,
     all: bool,
 ) -> Result<String, AllocError> {
-    let mut out = String::new(alloc);
     match diagnosis {
-        Diagnosis::Text(faults) => return faults_told(alloc, text, faults),
-        Diagnosis::NotLowered(told) => push_unlowered(alloc, &mut out, told)?,
-        Diagnosis::Fails(peak) => push_peak(alloc, &mut out, peak)?,
-        Diagnosis::TooManyTypes(crowd) => push_crowd(alloc, &mut out, crowd)?,
-        Diagnosis::Accepted(census) => push_census(alloc, &mut out, census, all)?,
+        Diagnosis::Text(faults) => faults_told(alloc, text, faults),
+        _ => program_told(alloc, diagnosis, all),
     }
-    Ok(out)
 }

@@ -6,6 +6,7 @@ use chr_base::limits::MAX_WEIGHT;
 use chr_base::program::Program;
 use chr_base::rule::Rule;
 use chr_base::term::Pattern;
+use chr_base::weight::Weight;
 use chr_weights::NotLowered;
 use std::alloc::{AllocError, Global};
 use std::fmt::Write;
@@ -89,28 +90,39 @@ pub(crate) fn push_lowering(
 ) -> Result<(), AllocError> {
     for pattern in &told.rule.removed {
         if is_lowered(told.rule, pattern.symbol) {
-            if let Some(weight) = lowering_weight(told.program, pattern.symbol, fault) {
-                return push_weight_clause(out, told.program, pattern.symbol, weight);
+            if let Some(first) = lowering_weight(told.program, pattern.symbol, fault) {
+                return push_lowering_clause(out, told.program, pattern.symbol, first);
             }
         }
     }
     Ok(())
 }
 
-/// Adds the clause that gives a symbol this weight.
-fn push_weight_clause(
+/// Adds that the rule lowers the weight where the symbol has this one.
+fn push_lowering_clause(
     out: &mut String,
     program: &Program,
     symbol: SymbolId,
-    weight: u64,
+    first: u64,
+) -> Result<(), AllocError> {
+    out.push_str("This rule does so with `")?;
+    push_weight_clause(out, program, symbol, Weight { first, second: 0 })?;
+    out.push_str("`\n")
+}
+
+/// Adds the clause that gives a symbol this weight.
+pub(crate) fn push_weight_clause(
+    out: &mut String,
+    program: &Program,
+    symbol: SymbolId,
+    weight: Weight,
 ) -> Result<(), AllocError> {
     if usize::from(symbol.0) < program.symbols() {
         let name = program.name_of(symbol);
         let arity = program.arity_of(symbol);
-        write!(
-            out,
-            "This rule does so with `:- chr_weight {name}/{arity} = {weight}.`\n"
-        )?;
+        write!(out, ":- chr_weight {name}/{arity} = ")?;
+        weight.push_text(out, weight.is_paired())?;
+        out.push_str(".")?;
     }
     Ok(())
 }
