@@ -24,9 +24,9 @@ WANT_OF_MEMORY = 4
 BEFORE_WEIGHTS = b"so that the rules come to an end.\n"
 WITHOUT_WEIGHTS = b"A search of at most 400 steps found neither weights for all rules, nor rules that have none.\n"
 
-EACH = 40
+EACH = 20
 """So many growths of an example are refused one by one. Later ones are chosen at random, farther and farther apart."""
-APART = 6
+APART = 3
 
 MOST_CASES = 25_000
 """Of an accepted example with more cases the run alone is tried, since each verdict takes its time."""
