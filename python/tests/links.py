@@ -744,6 +744,28 @@ class Upgrades(Links):
             one.tell(("mark", 2))
         self.assertEqual(two.show(), (("mark", 1),))
 
+    def test_an_upgrade_while_another_joins(self) -> None:
+        """Whoever joins, or joins again, goes on with the program that the log has by then."""
+        one, two = self.member(MARKED), self.member()
+        one.tell(("mark", 1), ("path", 1, 2, 5))
+        one.upgrade(self.LONGER)
+        programs = [f"{MARKED}% another\n", f"{self.LONGER}% the last\n"]
+        link = self.link()
+        for joining, join in ((two.link, two.rejoin), (link, lambda: self.stack.enter_context(Member(link)))):
+            state = joining.state
+
+            def state_and_upgrade(state: Callable[[], State] = state, program: str = programs.pop(0)) -> State:
+                found = state()
+                if one.program.text != program.encode():
+                    one.upgrade(program)
+                return found
+
+            with patch.object(joining, "state", state_and_upgrade):
+                join()
+        self.assertEqual(one.program.text, f"{self.LONGER}% the last\n".encode())
+        for member in (two, self.member()):
+            self.assertEqual(member.going_over(member.show), (("mark", 1), ("path", 1, 2, 5)))
+
     def test_a_seal_has_others_wait_for_a_while(self) -> None:
         one, two = self.link(1), self.link(2, patience=0.3)
         one.seal(SECONDS)

@@ -84,13 +84,17 @@ class Member:
         self._unkept: list[SetAside] = []
         self._names = Names()
         self._running = Running(chrrep, timeout)
-        self._replica, state = _joined(link, program, wide, self._running)
-        self._epoch, self._generation = state.epoch, state.generation
         self._listeners: list[Callable[[Sequence[Entry]], object]] = []
         self.when_rejoined: Callable[[], object] | None = None
+        self._replica: Replica
+        self._epoch: int
+        self._generation: int
+        self._take_up(*_joined(link, program, wide, self._running))
         link.position = _position_of(weakref.ref(self))
         try:
-            self.catch_up()
+            while not self._is_caught_up():
+                # the log may have gone over to a program that is not the one brought
+                self._replace(*_joined(link, program, wide, self._running))
         except BaseException:
             self.close()
             raise
@@ -260,13 +264,13 @@ class Member:
         with self._lock:
             if self.link.mark().epoch == self._epoch:
                 return False
-            replica, state = _joined(self.link, None, None, self._running)
-            self._replica.close()
-            self._replica, self._epoch, self._generation = replica, state.epoch, state.generation
-            self._told_since = 0
-            self._is_sure = False
-            self.catch_up()
-            _LOG.info("the log went over to another program, of epoch %d", state.epoch)
+            is_there = False
+            while not is_there:
+                self._replace(*_joined(self.link, None, None, self._running))
+                self._told_since = 0
+                self._is_sure = False
+                is_there = self._is_caught_up()
+            _LOG.info("the log went over to another program, of epoch %d", self._epoch)
             if self.when_rejoined:
                 self.when_rejoined()
             return True
@@ -359,6 +363,22 @@ class Member:
         for number, name in self.link.name(new).items():
             check_name(number, new[number], name)
         self._names.learn(self.link.names(len(self._names)))
+
+    def _take_up(self, replica: Replica, state: State) -> None:
+        self._replica, self._epoch, self._generation = replica, state.epoch, state.generation
+
+    def _replace(self, replica: Replica, state: State) -> None:
+        """Goes on with another replica, of what the log has by now."""
+        self._replica.close()
+        self._take_up(replica, state)
+
+    def _is_caught_up(self) -> bool:
+        """Reads all that is in the log by now, and says whether its program is still this one."""
+        try:
+            self.catch_up()
+        except ProgramChanged:
+            return False
+        return True
 
     def _held(self) -> dict[int, int]:
         with self._lock:
