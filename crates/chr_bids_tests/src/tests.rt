@@ -1,0 +1,206 @@
+//! The auction.
+ghost use Rattle.std.specs.Prelude.{◌≡◌};
+
+use arrayvec::ArrayVec;
+use chr_acts::{OpList, Reply};
+use chr_base::atom::{Atom, SymbolId};
+use chr_base::bag::Bag;
+use chr_ops::{Op, OpId, Summary};
+use chr_shared::{Naming, Opening, Receipt, Seat, Settled, Shared};
+use chr_shared_testing::{accepted, opening, shown};
+use chr_workers::OpenGate;
+use std::alloc::Global;
+use std::marker::Brand;
+use std::process::Abort;
+use std::sync::Wait;
+use std::thread;
+use std::thread::{Threads, join};
+
+/// Of two bids for one item the higher one stays.
+const HIGHEST: &str =
+    ":- chr_constraint bid/2. bid(Item,High) \\ bid(Item,Low) <=> High >= Low | true.";
+
+/// How many items there are, with the numbers 0, 1 and 2.
+const ITEMS: i64 = 3;
+
+/// A bid for an item.
+fn bid(item: i64, amount: i64) -> Atom {
+    let mut args = ArrayVec::new();
+    let _ = args.try_push(item);
+    let _ = args.try_push(amount);
+    Atom {
+        symbol: SymbolId(0),
+        args,
+    }
+}
+
+/// An operation that tells one bid. Its id is the clerk's number, and the number of the clerk's bid.
+fn told_bid(alloc: Global, clerk: u32, number: u64, item: i64, amount: i64) -> Option<Op> {
+    let mut bids = Bag::new(alloc);
+    bids.add(bid(item, amount)).ok()?;
+    let id = OpId {
+        origin: clerk,
+        number,
+    };
+    Op::of(id, bids)
+}
+
+/// What the clerks of a hall begin with.
+#[derive(Clone, Copy)]
+struct Hall {
+    /// The clerks have the numbers that follow on this one.
+    first: u32,
+    /// The amount on which their bids stand.
+    base: i64,
+}
+
+/// A clerk's thread: one bid for each item. A bid that a messenger brings back is known by its id, and counts once.
+fn clerk<J: Naming, R: Wait>(
+    rt: &R,
+    alloc: Global,
+    book: &Shared<J>,
+    seat: Seat<J>,
+    hall: Hall,
+) -> Seat<J> {
+    let mut seat = seat;
+    let number = hall.first.wrapping_add(seat.number());
+    for item in 0..ITEMS {
+        let amount = hall.base.wrapping_add(i64::from(number) * (item + 1));
+        if let Some(bid) = told_bid(alloc, number, item as u64, item, amount) {
+            let _ = book.tell(rt, alloc, &mut seat, bid);
+        }
+    }
+    seat
+}
+
+/// All clerks of a hall at once.
+fn clerks<J: Naming + Send + Sync, R: Threads + Wait + Sync>(
+    rt: &R,
+    alloc: Global,
+    book: &Shared<J>,
+    seats: Vec<Seat<J>>,
+    hall: Hall,
+) -> bool {
+    let work = |seat: Seat<J>| -> Seat<J> { clerk(rt, alloc, book, seat, hall) };
+    thread::map_vec(rt, seats, &work).is_ok()
+}
+
+fn summed(receipt: Receipt) -> Option<Summary> {
+    match receipt.reply {
+        Reply::Summed(ids) => Some(ids),
+        _ => None,
+    }
+}
+
+fn lacked(receipt: Receipt) -> Option<OpList> {
+    match receipt.reply {
+        Reply::Lacked(ops) => Some(ops),
+        _ => None,
+    }
+}
+
+/// Takes to one book what the other has and it lacks: three calls, and each hall goes on between them.
+fn bring<J: Naming, K: Naming, R: Wait>(
+    rt: &R,
+    alloc: Global,
+    from: &Shared<J>,
+    seat_there: &mut Seat<J>,
+    to: &Shared<K>,
+    seat_here: &mut Seat<K>,
+) -> Option<()> {
+    let ids = summed(to.summary(rt, alloc, seat_here).ok()?)?;
+    let bids = lacked(from.lacks(rt, alloc, seat_there, ids).ok()?)?;
+    to.merge(rt, alloc, seat_here, bids.into_vec()).ok()?;
+    Some(())
+}
+
+/// A messenger's thread: so many rounds, each to the first hall and then to the second.
+fn messenger<J: Naming, K: Naming, R: Wait>(
+    rt: &R,
+    alloc: Global,
+    first: &Shared<J>,
+    seat: &mut Seat<J>,
+    second: &Shared<K>,
+    other_seat: &mut Seat<K>,
+    rounds: u32,
+) {
+    for _ in 0..rounds {
+        let _ = bring(rt, alloc, second, &mut *other_seat, first, &mut *seat);
+        let _ = bring(rt, alloc, first, &mut *seat, second, &mut *other_seat);
+    }
+}
+
+/// The auction: what both books come to.
+fn auction<J: Naming + Send + Sync, K: Naming + Send + Sync, R: Abort + Threads + Wait + Sync>(
+    rt: &R,
+    alloc: Global,
+    first: Opening,
+    second: Opening,
+) -> [Settled; 2]
+    requires first { first ≡ J.opening }
+    requires second { second ≡ K.opening }
+{
+    let opened = Shared::<J>::open(alloc, first).ok();
+    let (one, mut seats) = opened.expect(rt, "memory");
+    let opened = Shared::<K>::open(alloc, second).ok();
+    let (other, mut other_seats) = opened.expect(rt, "memory");
+    let mut here = seats.pop().expect(rt, "a seat");
+    let mut there = other_seats.pop().expect(rt, "a seat");
+    let mut settling = seats.pop().expect(rt, "a seat");
+    let (one_hall, other_hall) = (
+        Hall {
+            first: 0,
+            base: 100,
+        },
+        Hall {
+            first: 10,
+            base: 90,
+        },
+    );
+    join(
+        rt,
+        || clerks(rt, alloc, &one, seats, one_hall),
+        || {
+            join(
+                rt,
+                || one.settle_with(rt, alloc, &mut settling, 2, 4, &OpenGate),
+                || messenger(rt, alloc, &one, &mut here, &other, &mut there, 10),
+            );
+        },
+    );
+    clerks(rt, alloc, &other, other_seats, other_hall);
+    messenger(rt, alloc, &one, &mut here, &other, &mut there, 1);
+    [
+        one.settle_with(rt, alloc, &mut settling, 2, 4, &OpenGate),
+        other.settle_with(rt, alloc, &mut there, 2, 4, &OpenGate),
+    ]
+}
+
+/// The amount of the one bid that stays for an item.
+fn winning(settled: &Settled, item: i64) -> Option<i64> {
+    let Settled::Rest(receipt) = settled else {
+        return None;
+    };
+    let mut amount = None;
+    for atom in shown(receipt)?.atoms() {
+        if let [of, offered] = atom.args.as_slice() {
+            if *of == item {
+                amount = Some(*offered);
+            }
+        }
+    }
+    amount
+}
+
+#[test]
+fn both_halls_know_the_winners(rt: HostRuntime) {
+    let alloc = rt.alloc();
+    let accepted = accepted(&rt, alloc, HIGHEST).expect(&rt, "a program");
+    let first = opening(alloc, &accepted, 6).expect(&rt, "memory");
+    let second = opening(alloc, &accepted, 2).expect(&rt, "memory");
+    for settled in &auction::<Brand, Brand, _>(&rt, alloc, first, second) {
+        assert!(rt; winning(settled, 0) == Some(104));
+        assert!(rt; winning(settled, 1) == Some(112));
+        assert!(rt; winning(settled, 2) == Some(123));
+    }
+}

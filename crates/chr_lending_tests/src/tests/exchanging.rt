@@ -1,0 +1,167 @@
+//! Two shared books of two seats each. At each a seat tells ten operations, while a third thread exchanges by the others.
+ghost use Rattle.std.specs.Prelude.{◌≡◌};
+
+use chr_acts::{Book, OpList, Reply};
+use chr_ops::Summary;
+use chr_shared::{Naming, Opening, Receipt, Seat, Settled, Shared};
+use chr_shared_testing::{MINIMUM, accepted, op, opening, rest_and_close, rests_at};
+use std::alloc::Global;
+use std::marker::Brand;
+use std::process::Abort;
+use std::sync::Wait;
+use std::thread::{Threads, join};
+
+/// Tells ten operations of an origin, with the values that follow on a base.
+fn tell_ten<J: Naming, R: Wait>(
+    rt: &R,
+    alloc: Global,
+    shared: &Shared<J>,
+    seat: &mut Seat<J>,
+    origin: u32,
+    base: i64,
+) {
+    for number in 1..11u64 {
+        let value = base.wrapping_add(number as i64);
+        if let Some(op) = op(alloc, origin, number, &[value]) {
+            let _ = shared.tell(rt, alloc, seat, op);
+        }
+    }
+}
+
+fn summed(receipt: Receipt) -> Option<Summary> {
+    match receipt.reply {
+        Reply::Summed(ids) => Some(ids),
+        _ => None,
+    }
+}
+
+fn lacked(receipt: Receipt) -> Option<OpList> {
+    match receipt.reply {
+        Reply::Lacked(ops) => Some(ops),
+        _ => None,
+    }
+}
+
+/// What the giver holds and the taker lacks goes to the taker.
+fn give<J: Naming, K: Naming, R: Wait>(
+    rt: &R,
+    alloc: Global,
+    giver: &Shared<J>,
+    of_giver: &mut Seat<J>,
+    taker: &Shared<K>,
+    of_taker: &mut Seat<K>,
+) -> Option<()> {
+    let ids = summed(taker.summary(rt, alloc, of_taker).ok()?)?;
+    let ops = lacked(giver.lacks(rt, alloc, of_giver, ids).ok()?)?;
+    taker.merge(rt, alloc, of_taker, ops.into_vec()).ok()?;
+    Some(())
+}
+
+/// So many rounds, each into the first book and then into the second.
+fn exchange<J: Naming, K: Naming, R: Wait>(
+    rt: &R,
+    alloc: Global,
+    first: &Shared<J>,
+    of_first: &mut Seat<J>,
+    second: &Shared<K>,
+    of_second: &mut Seat<K>,
+    rounds: u32,
+) {
+    for _ in 0..rounds {
+        let _ = give(rt, alloc, second, of_second, first, of_first);
+        let _ = give(rt, alloc, first, of_first, second, of_second);
+    }
+}
+
+/// The seats tell and exchange at once, and once more after that.
+fn tell_and_exchange<J: Naming + Send + Sync, K: Naming + Send + Sync, R: Threads + Wait + Sync>(
+    rt: &R,
+    alloc: Global,
+    first: &Shared<J>,
+    of_first: &mut [Seat<J>; 2],
+    second: &Shared<K>,
+    of_second: &mut [Seat<K>; 2],
+) {
+    let [one, other_one] = of_first;
+    let [two, other_two] = of_second;
+    join(
+        rt,
+        || tell_ten(rt, alloc, first, one, 1, 20),
+        || {
+            join(
+                rt,
+                || tell_ten(rt, alloc, second, two, 2, 10),
+                || exchange(
+                    rt,
+                    alloc,
+                    first,
+                    &mut *other_one,
+                    second,
+                    &mut *other_two,
+                    10,
+                ),
+            );
+        },
+    );
+    exchange(rt, alloc, first, other_one, second, other_two, 1);
+}
+
+/// The two seats of a book.
+fn two_of<J: Naming>(rt: &impl Abort, seats: Vec<Seat<J>>) -> [Seat<J>; 2] {
+    let mut seats = seats;
+    let second = seats.pop().expect(rt, "a seat");
+    let first = seats.pop().expect(rt, "a seat");
+    [first, second]
+}
+
+/// The list of two seats.
+fn list_of<J: Naming>(rt: &impl Abort, alloc: Global, seats: [Seat<J>; 2]) -> Vec<Seat<J>> {
+    let [first, second] = seats;
+    let mut seats = Vec::new(alloc);
+    seats.push(first).expect(rt, "memory");
+    seats.push(second).expect(rt, "memory");
+    seats
+}
+
+/// Its first seat rests the book, which is closed then.
+fn rest<J: Naming, R: Abort + Threads + Wait + Sync>(
+    rt: &R,
+    alloc: Global,
+    shared: Shared<J>,
+    seats: [Seat<J>; 2],
+) -> (Settled, Book) {
+    let seats = list_of(rt, alloc, seats);
+    rest_and_close(rt, alloc, shared, seats, 2, 4).expect(rt, "both seats")
+}
+
+fn share<J: Naming + Send + Sync, K: Naming + Send + Sync, R: Abort + Threads + Wait + Sync>(
+    rt: &R,
+    alloc: Global,
+    first: Opening,
+    second: Opening,
+) -> [(Settled, Book); 2]
+    requires first { first ≡ J.opening }
+    requires second { second ≡ K.opening }
+{
+    let opened = Shared::<J>::open(alloc, first).ok();
+    let (one, seats) = opened.expect(rt, "memory");
+    let mut of_one = two_of(rt, seats);
+    let opened = Shared::<K>::open(alloc, second).ok();
+    let (two, seats) = opened.expect(rt, "memory");
+    let mut of_two = two_of(rt, seats);
+    tell_and_exchange(rt, alloc, &one, &mut of_one, &two, &mut of_two);
+    [rest(rt, alloc, one, of_one), rest(rt, alloc, two, of_two)]
+}
+
+#[test]
+fn two_shared_books_exchange(rt: HostRuntime) {
+    let alloc = rt.alloc();
+    let accepted = accepted(&rt, alloc, MINIMUM).expect(&rt, "a program");
+    let first = opening(alloc, &accepted, 2).expect(&rt, "memory");
+    let second = opening(alloc, &accepted, 2).expect(&rt, "memory");
+    for (settled, book) in share::<Brand, Brand, _>(&rt, alloc, first, second) {
+        assert!(rt; rests_at(alloc, &settled, &[11]));
+        assert!(rt; book.entries() == 50);
+        assert!(rt; book.board().ops().told() == 20);
+    }
+}

@@ -1,0 +1,297 @@
+//! A slow replica of the program of the least value.
+use crate::tests::values::Values;
+use chr_acts::{Act, Entry, Reply};
+use chr_join::{Done, Lease};
+use chr_ops::{Added, IdRange, Op, OpId};
+use chr_replica::Refusal;
+use std::alloc::Global;
+use std::process::Abort;
+
+/// An operation.
+#[derive(Clone, Copy)]
+struct Told {
+    id: OpId,
+    values: Values,
+}
+
+/// A part that is leased out.
+#[derive(Clone, Copy)]
+struct Part {
+    number: u64,
+    values: Values,
+}
+
+/// A replica of plain lists.
+#[derive(Drop)]
+pub struct Replica {
+    told: Vec<Told>,
+    pool: Values,
+    out: Vec<Part>,
+    next: u64,
+}
+
+/// Whether one of the ranges has the id.
+fn covers(ranges: &[IdRange], id: OpId) -> bool {
+    ranges.iter().any(|range| range.has(id))
+}
+
+/// How many ids the ranges have.
+fn covered(ranges: &[IdRange]) -> u64 {
+    let mut count = 0u64;
+    for range in ranges {
+        count = count.wrapping_add(range.hi.wrapping_sub(range.lo).wrapping_add(1));
+    }
+    count
+}
+
+fn is_refused(reply: &Reply, number: u8) -> bool {
+    match reply {
+        Reply::Refused(refusal) => refusal.number() == number,
+        _ => false,
+    }
+}
+
+impl Replica {
+    /// It was told nothing.
+    pub fn new(alloc: Global) -> Replica {
+        Replica {
+            told: Vec::new(alloc),
+            pool: Values::none(),
+            out: Vec::new(alloc),
+            next: 1,
+        }
+    }
+
+    fn held(&self, id: OpId) -> Option<Values> {
+        for told in &self.told {
+            if told.id == id {
+                return Some(told.values);
+            }
+        }
+        None
+    }
+
+    /// Takes an operation in. Whether it was new; nothing where its id stands for other values.
+    fn take_in(&mut self, rt: &impl Abort, op: &Op) -> Option<bool> {
+        let (id, values) = (op.id(), Values::of(op.bag()));
+        match self.held(id) {
+            Some(held) if held == values => Some(false),
+            Some(_) => None,
+            None => {
+                self.told.push(Told { id, values }).expect(rt, "memory");
+                self.pool.add(&values);
+                Some(true)
+            }
+        }
+    }
+
+    fn tell(&mut self, rt: &impl Abort, op: &Op, reply: &Reply) -> bool {
+        match self.take_in(rt, op) {
+            Some(true) => matches!(reply, Reply::Told(Added::New)),
+            Some(false) => matches!(reply, Reply::Told(Added::Again)),
+            None => is_refused(reply, 33),
+        }
+    }
+
+    /// Whether an id of these operations stands for other values here.
+    fn clashes(&self, ops: &[Op]) -> bool {
+        for op in ops {
+            if let Some(held) = self.held(op.id()) {
+                if held != Values::of(op.bag()) {
+                    return true;
+                }
+            }
+        }
+        false
+    }
+
+    fn merge(&mut self, rt: &impl Abort, ops: &[Op], reply: &Reply) -> bool {
+        if self.clashes(ops) {
+            return is_refused(reply, 33);
+        }
+        let mut new = 0u64;
+        for op in ops {
+            if self.take_in(rt, op) == Some(true) {
+                new = new.wrapping_add(1);
+            }
+        }
+        match reply {
+            Reply::Merged(count) => *count == new,
+            _ => false,
+        }
+    }
+
+    /// Leases a part out, under the number that was answered.
+    fn lease(&mut self, rt: &impl Abort, values: Values, lease: &Lease) -> bool {
+        let number = self.next;
+        self.next = number.wrapping_add(1);
+        self.pool.take(&values);
+        self.out.push(Part { number, values }).expect(rt, "memory");
+        lease.number == number && Values::of(&lease.part) == values
+    }
+
+    fn take(&mut self, rt: &impl Abort, part: Values, reply: &Reply) -> bool {
+        if !self.pool.has(&part) {
+            return is_refused(reply, 39);
+        }
+        match reply {
+            Reply::Leased(lease) => self.lease(rt, part, lease),
+            _ => false,
+        }
+    }
+
+    /// Whether the parts are as many, even in size, and all of the pool.
+    fn take_parts(&mut self, rt: &impl Abort, parts: u32, leases: &[Lease]) -> bool {
+        let least = self.pool.len().checked_div(parts).unwrap_or(0);
+        let mut is_even = leases.len() == parts as usize;
+        for lease in leases {
+            let values = Values::of(&lease.part);
+            let above = values.len().wrapping_sub(least);
+            is_even = is_even && above <= 1 && self.pool.has(&values);
+            is_even = self.lease(rt, values, lease) && is_even;
+        }
+        is_even && self.pool.len() == 0
+    }
+
+    /// The part of a number comes back, where it is out.
+    fn comes_back(&mut self, number: u64) -> Option<Values> {
+        let mut found = self.out.len();
+        for place in 0..self.out.len() {
+            if self.out[place].number == number {
+                found = place;
+            }
+        }
+        if found < self.out.len() {
+            return Some(self.out.swap_remove(found).values);
+        }
+        None
+    }
+
+    fn put(&mut self, done: &Done, reply: &Reply) -> bool {
+        let result = Values::of(done.result());
+        match self.comes_back(done.number()) {
+            Some(part) => {
+                self.pool.add(&result);
+                part == Values::of(done.part())
+                    && part.rested() == result
+                    && matches!(reply, Reply::WasPut)
+            }
+            None => is_refused(reply, 36),
+        }
+    }
+
+    fn recall(&mut self, number: u64, reply: &Reply) -> bool {
+        match self.comes_back(number) {
+            Some(part) => {
+                self.pool.add(&part);
+                matches!(reply, Reply::Recalled)
+            }
+            None => is_refused(reply, 36),
+        }
+    }
+
+    fn settle(&mut self, reply: &Reply) -> bool {
+        let rested = self.pool.rested();
+        let steps = self.pool.len().wrapping_sub(rested.len());
+        self.pool = rested;
+        match reply {
+            Reply::Settled(count) => *count == u64::from(steps),
+            _ => false,
+        }
+    }
+
+    fn show(&self, reply: &Reply) -> bool {
+        if self.out.len() > 0 {
+            return is_refused(reply, 38);
+        }
+        if self.pool != self.pool.rested() {
+            return is_refused(reply, 40);
+        }
+        match reply {
+            Reply::Shown(store) => Values::of(store) == self.pool,
+            _ => false,
+        }
+    }
+
+    fn sums_up(&self, reply: &Reply) -> bool {
+        let Reply::Summed(summary) = reply else {
+            return false;
+        };
+        let ranges = summary.ranges();
+        let mut covers_all = covered(ranges) == self.told.len() as u64;
+        for told in &self.told {
+            covers_all = covers_all && covers(ranges, told.id);
+        }
+        covers_all
+    }
+
+    /// Whether these are the operations that the ranges do not cover.
+    fn lacks(&self, ranges: &[IdRange], ops: &[Op]) -> bool {
+        let mut count = 0usize;
+        for told in &self.told {
+            count = count.wrapping_add(usize::from(!covers(ranges, told.id)));
+        }
+        let mut are_lacked = ops.len() == count;
+        for op in ops {
+            let is_held = self.held(op.id()) == Some(Values::of(op.bag()));
+            are_lacked = are_lacked && is_held && !covers(ranges, op.id());
+        }
+        are_lacked
+    }
+
+    fn least_lease(&self) -> Option<u64> {
+        let mut least = None;
+        for part in &self.out {
+            if least.is_none_or(|number| part.number < number) {
+                least = Some(part.number);
+            }
+        }
+        least
+    }
+
+    /// Whether the entry is what the replica does next, which it does then.
+    pub fn replays(&mut self, rt: &impl Abort, entry: &Entry) -> bool {
+        let reply = &entry.reply;
+        match (&entry.act, reply) {
+            (Act::Tell(op), _) => self.tell(rt, op, reply),
+            (Act::Merge(ops), _) => self.merge(rt, ops.as_slice(), reply),
+            (Act::Take(part), _) => self.take(rt, Values::of(part), reply),
+            (Act::TakeParts(parts), Reply::LeasedParts(leases)) => {
+                self.take_parts(rt, *parts, leases.as_slice())
+            }
+            (Act::Put(done), _) => self.put(done, reply),
+            (Act::Recall(number), _) => self.recall(*number, reply),
+            (Act::Settle, _) => self.settle(reply),
+            (Act::Show, _) => self.show(reply),
+            (Act::Summary, _) => self.sums_up(reply),
+            (Act::Lacks(ids), Reply::Lacked(ops)) => self.lacks(ids.ranges(), ops.as_slice()),
+            (Act::LeastLease, Reply::LeastLease(number)) => *number == self.least_lease(),
+            _ => false,
+        }
+    }
+
+    /// Whether no part is out, and the pool is at rest.
+    pub fn is_at_rest(&self) -> bool {
+        self.out.len() == 0 && self.pool == self.pool.rested()
+    }
+
+    /// Whether the other one holds the operations of this one.
+    fn is_held_by(&self, other: &Replica) -> bool {
+        for told in &self.told {
+            if other.held(told.id) != Some(told.values) {
+                return false;
+            }
+        }
+        true
+    }
+
+    /// Whether both hold the same operations.
+    pub fn has_operations_of(&self, other: &Replica) -> bool {
+        self.is_held_by(other) && other.is_held_by(self)
+    }
+
+    /// Whether both have the same pool.
+    pub fn has_pool_of(&self, other: &Replica) -> bool {
+        self.pool == other.pool
+    }
+}

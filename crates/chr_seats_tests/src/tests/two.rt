@@ -1,0 +1,78 @@
+//! A seat tells while another one's parts are rested: no lock is held then.
+ghost use Rattle.std.specs.Prelude.{◌≡◌};
+
+use crate::tests::gates::{Holds, waits};
+use chr_ops::Op;
+use chr_shared::{Naming, Opening, Seat, Settled, Shared};
+use chr_shared_testing::{MINIMUM, accepted, op, opening, rests_at};
+use std::alloc::Global;
+use std::marker::Brand;
+use std::process::Abort;
+use std::sync::Wait;
+use std::sync::atomic::Ordering;
+use std::thread::{Threads, join};
+
+/// Tells once a part is held at the gate, and lets it go. Whether one was held in time.
+fn tell_late<J: Naming, R: Wait>(
+    rt: &R,
+    alloc: Global,
+    shared: &Shared<J>,
+    seat: &mut Seat<J>,
+    op: Op,
+    gate: &Holds,
+) -> bool {
+    let was_held = waits(&gate.first);
+    let told = shared.tell(rt, alloc, seat, op).is_ok();
+    gate.told.store(1, Ordering::SeqCst);
+    was_held && told
+}
+
+/// Tells a value, by the operation of this number.
+fn tell<J: Naming, R: Abort + Wait>(
+    rt: &R,
+    alloc: Global,
+    shared: &Shared<J>,
+    seat: &mut Seat<J>,
+    number: u64,
+    value: i64,
+) {
+    let op = op(alloc, 1, number, &[value]).expect(rt, "memory");
+    let told = shared.tell(rt, alloc, seat, op).ok();
+    told.expect(rt, "memory");
+}
+
+/// The first seat rests what was told, while the second tells.
+fn share<J: Naming + Send + Sync, R: Abort + Threads + Wait + Sync>(
+    rt: &R,
+    alloc: Global,
+    opening: Opening,
+    gate: &Holds,
+) -> (Settled, bool)
+    requires { opening ≡ J.opening }
+{
+    let opened = Shared::<J>::open(alloc, opening).ok();
+    let (shared, mut seats) = opened.expect(rt, "memory");
+    let mut second = seats.pop().expect(rt, "a seat");
+    let mut first = seats.pop().expect(rt, "a seat");
+    tell(rt, alloc, &shared, &mut first, 1, 5);
+    tell(rt, alloc, &shared, &mut first, 2, 3);
+    let late = op(alloc, 2, 1, &[1]).expect(rt, "memory");
+    let all = &shared;
+    join(
+        rt,
+        || all.settle_with(rt, alloc, &mut first, 2, 2, gate),
+        || tell_late(rt, alloc, all, &mut second, late, gate),
+    )
+}
+
+#[test]
+fn no_lock_is_held_while_parts_are_rested(rt: HostRuntime) {
+    let alloc = rt.alloc();
+    let accepted = accepted(&rt, alloc, MINIMUM).expect(&rt, "a program");
+    let opening = opening(alloc, &accepted, 2).expect(&rt, "memory");
+    let gate = Holds::new();
+    let (settled, told) = share::<Brand, _>(&rt, alloc, opening, &gate);
+    assert!(rt; told);
+    assert!(rt; gate.used_up.load(Ordering::SeqCst) == 0);
+    assert!(rt; rests_at(alloc, &settled, &[1]));
+}

@@ -1,0 +1,122 @@
+//! What the tests of shared books have in common: programs that are given as texts, openings of books, stores and
+//! operations of a program's first symbol, what was shown, and the end of a book.
+#![tactic(auto)]
+
+ghost use Rattle.std.specs.Prelude.{◌≤◌};
+ghost use Rattle.chr_base.specs.declared.limits.TheConstants.{MAX_PARTS, MAX_WORKERS};
+
+use arrayvec::ArrayVec;
+use chr_acts::{Book, Reply};
+use chr_base::atom::{Atom, SymbolId};
+use chr_base::bag::Bag;
+use chr_base::limits::{MAX_PARTS, MAX_WORKERS};
+use chr_join::{Accepted, Coverage, accept};
+use chr_ops::{Op, OpId};
+use chr_read::read;
+use chr_shared::{MAX_SEATS, Naming, Opening, Receipt, Seat, Settled, Shared};
+use chr_weights::weigh;
+use chr_workers::OpenGate;
+use std::alloc::Global;
+use std::sync::{Arc, Wait};
+use std::thread::Threads;
+
+/// `min/1`, of which the least stays.
+pub const MINIMUM: &str = ":- chr_constraint min/1. min(X) \\ min(Y) <=> X =< Y | true.";
+
+/// `coin/0` and `note/0`, and two coins for a note.
+pub const COINS: &str = ":- chr_constraint coin/0, note/0. coin, coin <=> note.";
+
+/// The accepted program of a text, where it is one.
+pub fn accepted<R: Threads + Sync>(rt: &R, alloc: Global, text: &str) -> Option<Arc<Accepted>> {
+    let program = read(alloc, text.as_bytes()).ok()?;
+    let weighed = weigh(program).ok()?;
+    let accepted = accept(rt, alloc, weighed, Coverage::Joint).ok()?;
+    Arc::new(alloc, accepted).ok()
+}
+
+/// A book of the program that was told nothing, about to be shared by so many seats, at most 16.
+pub fn opening(alloc: Global, accepted: &Arc<Accepted>, seats: u32) -> Option<Opening> {
+    if seats < 1 || seats > MAX_SEATS {
+        return None;
+    }
+    let book = Book::open(alloc, accepted.clone().ok()?).ok()?;
+    Opening::of(alloc, book, seats).ok()
+}
+
+/// An atom of the first symbol.
+fn atom(values: &[i64]) -> Atom {
+    let mut args = ArrayVec::new();
+    for value in values {
+        let _ = args.try_push(*value);
+    }
+    Atom {
+        symbol: SymbolId(0),
+        args,
+    }
+}
+
+/// The store of the first symbol at each of these values.
+pub fn store(alloc: Global, values: &[i64]) -> Option<Bag> {
+    let mut bag = Bag::new(alloc);
+    for value in values {
+        bag.add(atom(&[*value])).ok()?;
+    }
+    Some(bag)
+}
+
+/// The store of so many coins.
+pub fn coins(alloc: Global, count: u32) -> Option<Bag> {
+    let mut bag = Bag::new(alloc);
+    for _ in 0..count {
+        bag.add(atom(&[])).ok()?;
+    }
+    Some(bag)
+}
+
+/// An operation of the first symbol at each of these values.
+pub fn op(alloc: Global, origin: u32, number: u64, values: &[i64]) -> Option<Op> {
+    Op::of(OpId { origin, number }, store(alloc, values)?)
+}
+
+/// The store of a receipt, where one was shown.
+pub fn shown(receipt: &Receipt) -> Option<&Bag> {
+    match &receipt.reply {
+        Reply::Shown(bag) => Some(bag),
+        _ => None,
+    }
+}
+
+/// Whether this came to the store of the first symbol at these values.
+pub fn rests_at(alloc: Global, settled: &Settled, values: &[i64]) -> bool {
+    let Settled::Rest(receipt) = settled else {
+        return false;
+    };
+    match (shown(receipt), store(alloc, values)) {
+        (Some(bag), Some(expected)) => bag.is_same(&expected),
+        _ => false,
+    }
+}
+
+/// The first seat rests the book by so many workers in so many parts, and the book is closed. Nothing where these are
+/// not all its seats.
+pub fn rest_and_close<J: Naming, R: Threads + Wait + Sync>(
+    rt: &R,
+    alloc: Global,
+    shared: Shared<J>,
+    seats: Vec<Seat<J>>,
+    workers: u32,
+    parts: u32,
+) -> Option<(Settled, Book)>
+    requires workers { (1 ≤ workers) × (workers ≤ MAX_WORKERS) }
+    requires parts { (1 ≤ parts) × (parts ≤ MAX_PARTS) }
+{
+    let mut seats = seats;
+    let Some(first) = seats.first_mut() else {
+        return None;
+    };
+    let settled = shared.settle_with(rt, alloc, first, workers, parts, &OpenGate);
+    if shared.has_all(&seats) {
+        return Some((settled, shared.close(seats, &[])));
+    }
+    None
+}

@@ -1,0 +1,4 @@
+//! Calls of seats at shared books, and their receipts.
+mod calls;
+mod refusals;
+mod rows;
