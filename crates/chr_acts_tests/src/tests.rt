@@ -211,3 +211,55 @@ fn a_call_that_is_repeated_is_entered_with_its_refusal(rt: HostRuntime) {
     assert!(rt; is_entered(&rt, &book, 4, 1, 4));
     assert!(rt; book.board().leases() == 0);
 }
+
+/// Whether this is the least lease number that is out.
+fn is_least(reply: &Reply, expected: Option<u64>) -> bool {
+    match reply {
+        Reply::LeastLease(number) => *number == expected,
+        _ => false,
+    }
+}
+
+#[test]
+fn the_least_lease_is_told(rt: HostRuntime) {
+    let alloc = rt.alloc();
+    let mut board = told(&rt, alloc);
+    for value in [5, 9] {
+        let part = take(&rt, alloc, &[value]);
+        answered(&rt, alloc, &mut board, part);
+    }
+    for (number, expected) in [(7, Some(1)), (1, Some(2)), (2, None)] {
+        answered(&rt, alloc, &mut board, Act::Recall(number));
+        let reply = answered(&rt, alloc, &mut board, Act::LeastLease);
+        assert!(rt; is_least(&reply, expected), "after {number}");
+    }
+}
+
+/// The copy of the entry of a seat that asks for the least lease number.
+fn asked(rt: &impl Abort, alloc: Global, book: &mut Book, seat: u32) -> Entry {
+    let entered = book.call_with_copy(alloc, seat, Act::LeastLease);
+    entered.ok().expect(rt, "memory")
+}
+
+#[test]
+fn a_copy_tells_what_the_entry_tells(rt: HostRuntime) {
+    let alloc = rt.alloc();
+    let mut book = recalled_twice(&rt, alloc);
+    let copy = asked(&rt, alloc, &mut book, 1);
+    assert!(rt; (copy.seat, copy.number) == (1, 5));
+    assert!(rt; is_least(&copy.reply, None));
+    assert!(rt; is_entered(&rt, &book, 5, 1, 5));
+    assert!(rt; is_least(reply(&rt, &book, 5), None));
+}
+
+#[test]
+fn a_call_costs_no_more_after_many(rt: HostRuntime) {
+    let alloc = rt.alloc();
+    let mut book = opened(&rt, alloc);
+    let mut last = 0;
+    for seat in 0..100_000 {
+        last = asked(&rt, alloc, &mut book, seat % 2).number;
+    }
+    assert!(rt; last == 50_000);
+    assert!(rt; book.entries() == 100_000);
+}
