@@ -21,7 +21,7 @@ const HIGHEST: &str =
     ":- chr_constraint bid/2. bid(Item,High) \\ bid(Item,Low) <=> High >= Low | true.";
 
 /// How many items there are, with the numbers 0, 1 and 2.
-const ITEMS: i64 = 3;
+const ITEMS: u32 = 3;
 
 /// A bid for an item.
 fn bid(item: i64, amount: i64) -> Atom {
@@ -64,9 +64,12 @@ fn clerk<J: Naming, R: Wait>(
 ) -> Seat<J> {
     let mut seat = seat;
     let number = hall.first.wrapping_add(seat.number());
-    for item in 0..ITEMS {
-        let amount = hall.base.wrapping_add(i64::from(number) * (item + 1));
-        if let Some(bid) = told_bid(alloc, number, item as u64, item, amount) {
+    for count in 0..ITEMS {
+        let item = i64::from(count);
+        let amount = hall
+            .base
+            .wrapping_add(i64::from(number).wrapping_mul(item + 1));
+        if let Some(bid) = told_bid(alloc, number, u64::from(count), item, amount) {
             let _ = book.tell(rt, alloc, &mut seat, bid);
         }
     }
@@ -86,14 +89,16 @@ fn clerks<J: Naming + Send + Sync, R: Threads + Wait + Sync>(
 }
 
 fn summed(receipt: Receipt) -> Option<Summary> {
-    match receipt.reply {
+    let Receipt { reply, .. } = receipt;
+    match reply {
         Reply::Summed(ids) => Some(ids),
         _ => None,
     }
 }
 
 fn lacked(receipt: Receipt) -> Option<OpList> {
-    match receipt.reply {
+    let Receipt { reply, .. } = receipt;
+    match reply {
         Reply::Lacked(ops) => Some(ops),
         _ => None,
     }

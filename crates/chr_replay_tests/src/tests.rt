@@ -148,7 +148,7 @@ fn share<J: Naming + Send + Sync, K: Naming + Send + Sync, R: Abort + Threads + 
     first: Opening,
     second: Opening,
     seed: u64,
-) -> [Closed; 2]
+) -> (Closed, Closed)
     requires first { first ≡ J.opening }
     requires second { second ≡ K.opening }
 {
@@ -165,7 +165,9 @@ fn share<J: Naming + Send + Sync, K: Naming + Send + Sync, R: Abort + Threads + 
     let mut worked = worked.expect(rt, "memory");
     end(rt, alloc, &one, &other, &mut worked);
     let (ones, others) = sides(rt, alloc, worked);
-    [close(rt, alloc, one, ones), close(rt, alloc, other, others)]
+    let one = close(rt, alloc, one, ones);
+    let other = close(rt, alloc, other, others);
+    (one, other)
 }
 
 /// The slow replica after the journal of a closed book, each reply of which it gave too.
@@ -191,10 +193,11 @@ fn run(
 ) -> bool {
     let first = opening(alloc, accepted, seats).expect(rt, "memory");
     let second = opening(alloc, accepted, seats).expect(rt, "memory");
-    let [one, other] = share::<Brand, Brand, _>(rt, alloc, accepted, first, second, seed);
-    let (one, other) = (replayed(rt, alloc, &one), replayed(rt, alloc, &other));
-    let agree = one.has_operations_of(&other);
-    assert!(rt; !agree || one.has_pool_of(&other), "seed {seed}");
+    let (one, other) = share::<Brand, Brand, _>(rt, alloc, accepted, first, second, seed);
+    let here = replayed(rt, alloc, &one);
+    let there = replayed(rt, alloc, &other);
+    let agree = here.has_operations_of(&there);
+    assert!(rt; !agree || here.has_pool_of(&there), "seed {seed}");
     agree
 }
 

@@ -29,14 +29,16 @@ fn tell_ten<J: Naming, R: Wait>(
 }
 
 fn summed(receipt: Receipt) -> Option<Summary> {
-    match receipt.reply {
+    let Receipt { reply, .. } = receipt;
+    match reply {
         Reply::Summed(ids) => Some(ids),
         _ => None,
     }
 }
 
 fn lacked(receipt: Receipt) -> Option<OpList> {
-    match receipt.reply {
+    let Receipt { reply, .. } = receipt;
+    match reply {
         Reply::Lacked(ops) => Some(ops),
         _ => None,
     }
