@@ -80,32 +80,25 @@ fn tell_and_exchange<J: Naming + Send + Sync, K: Naming + Send + Sync, R: Thread
     rt: &R,
     alloc: Global,
     first: &Shared<J>,
-    of_first: &mut [Seat<J>; 2],
+    of_first: [Seat<J>; 2],
     second: &Shared<K>,
-    of_second: &mut [Seat<K>; 2],
-) {
-    let [one, other_one] = of_first;
-    let [two, other_two] = of_second;
+    of_second: [Seat<K>; 2],
+) -> ([Seat<J>; 2], [Seat<K>; 2]) {
+    let [mut one, mut other_one] = of_first;
+    let [mut two, mut other_two] = of_second;
     join(
         rt,
-        || tell_ten(rt, alloc, first, one, 1, 20),
+        || tell_ten(rt, alloc, first, &mut one, 1, 20),
         || {
             join(
                 rt,
-                || tell_ten(rt, alloc, second, two, 2, 10),
-                || exchange(
-                    rt,
-                    alloc,
-                    first,
-                    &mut *other_one,
-                    second,
-                    &mut *other_two,
-                    10,
-                ),
+                || tell_ten(rt, alloc, second, &mut two, 2, 10),
+                || exchange(rt, alloc, first, &mut other_one, second, &mut other_two, 10),
             );
         },
     );
-    exchange(rt, alloc, first, other_one, second, other_two, 1);
+    exchange(rt, alloc, first, &mut other_one, second, &mut other_two, 1);
+    ([one, other_one], [two, other_two])
 }
 
 /// The two seats of a book.
@@ -147,11 +140,11 @@ fn share<J: Naming + Send + Sync, K: Naming + Send + Sync, R: Abort + Threads + 
 {
     let opened = Shared::<J>::open(alloc, first).ok();
     let (one, seats) = opened.expect(rt, "memory");
-    let mut of_one = two_of(rt, seats);
+    let of_one = two_of(rt, seats);
     let opened = Shared::<K>::open(alloc, second).ok();
     let (two, seats) = opened.expect(rt, "memory");
-    let mut of_two = two_of(rt, seats);
-    tell_and_exchange(rt, alloc, &one, &mut of_one, &two, &mut of_two);
+    let of_two = two_of(rt, seats);
+    let (of_one, of_two) = tell_and_exchange(rt, alloc, &one, of_one, &two, of_two);
     [rest(rt, alloc, one, of_one), rest(rt, alloc, two, of_two)]
 }
 
