@@ -73,6 +73,15 @@ next_above n hs bs hash row at res r f below between l e =
     let v = entry_of hs bs row hash f in
     between r (below r l (slot_at n hs r w.0 ∙ ap (λ h. h % n) (w.2 ∙ sym v.2) ∙ sym (slot_at n hs row v.0)) w.1) e
 
+-- the same from a row on that has this hash, dead or alive
+pub here_above : (n : ℕ) (hs : List ℕ) (bs : List Bool) (hash row at res r : ℕ) → row < length hs → get_or hs row 0 ≡ hash
+    → ((r : ℕ) → r < row + 1 → get_or (slots_of n hs) r 0 ≡ get_or (slots_of n hs) row 0 → get_or bs r false ≡ true → r < at)
+    → ((r : ℕ) → r < at → get_or (live_hashes hs bs) r None ≡ Some hash → r < res)
+    → r ≤ row → get_or (live_hashes hs bs) r None ≡ Some hash → r < res
+here_above n hs bs hash row at res r here is below between l e =
+    let w = entry_of hs bs r hash e in
+    between r (below r (omega (arith, l)) (slot_at n hs r w.0 ∙ ap (λ h. h % n) (w.2 ∙ sym is) ∙ sym (slot_at n hs row here)) w.1) e
+
 -- the row that was looked at has another hash: none was passed
 pub passed : (n : ℕ) (hs : List ℕ) (bs : List Bool) (hash at to from r : ℕ) → 0 < at → at ≤ length hs → get_or (slots_of n hs) (at - 1) 0 ≡ hash % n → (get_or hs (at - 1) 0 ≡ hash → ⊥)
     → ((r : ℕ) → r < at - 1 → get_or (slots_of n hs) r 0 ≡ get_or (slots_of n hs) (at - 1) 0 → get_or bs r false ≡ true → r < to)

@@ -1,5 +1,6 @@
 //! Walks along chains. A place is the number of a row and one, and 0 is the end of a chain.
-ghost use Rattle.std.specs.Prelude.{◌≡◌, ℕ, ◌-◌, ◌%◌, ◌<◌, ◌≤◌, ◌^◌, length, get_or, Some, None};
+ghost use Rattle.std.specs.Prelude.{◌≡◌, ℕ, ◌+◌, ◌-◌, ◌%◌, ◌<◌, ◌≤◌, ◌^◌, length, get_or, Some, None};
+ghost use Rattle.std.specs.Bool.{OnTrue};
 ghost use Rattle.chr_chains.specs.working.Chained.{IsChained};
 ghost use Rattle.chr_chains.specs.working.Entries.{slots_of, slot_of, live_hashes, IsLivePlace, LiesBelow, IsIndex};
 
@@ -56,6 +57,38 @@ pub(crate) fn next_live(
         links[row as usize] = at;
     }
     0
+}
+
+/// The same, at the row or below it.
+pub(crate) fn live_from(
+    hashes: &[u32],
+    alive: &[bool],
+    links: &mut [u32],
+    heads: &[u32],
+    row: u32,
+) -> u32
+    requires chained { IsChained (slots_of (length heads.now) hashes.now) alive.now links.old heads.now }
+    requires row { row < length alive.now }
+    ensures chained { IsChained (slots_of (length heads.now) hashes.now) alive.now links.new heads.now }
+    ensures size { length links.new ≡ length links.old }
+    ensures within { result ≤ row + 1 }
+    ensures live { IsLivePlace heads.now hashes.now alive.now (slot_of heads.now hashes.now row) result }
+    ensures none_between { LiesBelow heads.now hashes.now alive.now (slot_of heads.now hashes.now row) (row + 1) result }
+{
+    if alive[row as usize] {
+        return row + 1;
+    }
+    next_live(hashes, alive, links, heads, row)
+}
+
+/// Whether there is such a row, alive or dead, and it has this hash.
+pub(crate) fn is_at(hashes: &[u32], row: u32, hash: u32) -> bool
+    ensures { OnTrue result ((row < length hashes.now) × (get_or hashes.now row 0 ≡ hash)) }
+{
+    if row as usize >= hashes.len() {
+        return false;
+    }
+    hashes[row as usize] == hash
 }
 
 /// Chains all rows anew, in slots of which each is empty.

@@ -4,7 +4,7 @@ ghost use Rattle.chr_chains.specs.working.Chained.{IsChained};
 ghost use Rattle.chr_chains.specs.Rows.{HasHash};
 ghost use Rattle.chr_chains.specs.working.Entries.{slots_of, live_hashes, IsIndex};
 
-use crate::chain::{first_live, next_live, relink, seek};
+use crate::chain::{first_live, is_at, live_from, next_live, relink, seek};
 use std::alloc::{AllocError, Global};
 use std::marker::Model;
 
@@ -130,6 +130,18 @@ impl Index {
         self.next_place(hash, row).checked_sub(1)
     }
 
+    /// The newest live row with this hash at this row or below it. The row itself may be dead, or past the last. It is
+    /// near where the row had the hash.
+    pub fn at_or_below(&mut self, hash: u32, row: u32) -> Option<u32>
+        ensures same { self.new ≡ self.old }
+        ensures at_or_below { IfSome result (λ next. next ≤ row) }
+        ensures live { IfSome result (λ next. HasHash self.old.rows hash next) }
+        ensures newest { IfSome result (λ next. (r : ℕ) → r ≤ row → HasHash self.old.rows hash r → r ≤ next) }
+        ensures none { IfNone result ((other : ℕ) → other ≤ row → ¬ (HasHash self.old.rows hash other)) }
+    {
+        self.place_at_or_below(hash, row).checked_sub(1)
+    }
+
     /// The place, its number and one, of the newest live row with this hash, or 0.
     fn first_place(&mut self, hash: u32) -> u32
         ensures same { self.new ≡ self.old }
@@ -172,5 +184,40 @@ impl Index {
             hash,
             at,
         )
+    }
+
+    /// The same, at any row or below it.
+    fn place_at_or_below(&mut self, hash: u32, row: u32) -> u32
+        ensures same { self.new ≡ self.old }
+        ensures within { result ≤ row + 1 }
+        ensures live { 0 < result → get_or self.old.rows (result - 1) None ≡ Some hash }
+        ensures none_between { (r : ℕ) → r ≤ row → get_or self.old.rows r None ≡ Some hash → r < result }
+    {
+        if !is_at(&self.hashes, row, hash) {
+            return self.down_to(hash, row);
+        }
+        let at = live_from(&self.hashes, &self.alive, &mut self.links, &self.heads, row);
+        seek(
+            &self.hashes,
+            &self.alive,
+            &mut self.links,
+            &self.heads,
+            hash,
+            at,
+        )
+    }
+
+    /// The same, down from the newest row with this hash.
+    fn down_to(&mut self, hash: u32, row: u32) -> u32
+        ensures same { self.new ≡ self.old }
+        ensures within { result ≤ row + 1 }
+        ensures live { 0 < result → get_or self.old.rows (result - 1) None ≡ Some hash }
+        ensures none_between { (r : ℕ) → r ≤ row → get_or self.old.rows r None ≡ Some hash → r < result }
+    {
+        let mut at = self.first_place(hash);
+        while at as u64 > row as u64 + 1 {
+            at = self.next_place(hash, at - 1);
+        }
+        at
     }
 }

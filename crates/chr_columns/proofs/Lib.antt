@@ -19,3 +19,4 @@ pub mod Takings
 pub mod Passing
 pub mod OffEnd
 pub mod Tidying
+pub mod Resuming

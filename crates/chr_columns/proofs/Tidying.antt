@@ -1,16 +1,15 @@
 -- Live rows of a table that move together.
-use Rattle.std.proofs.Common.{◌≡◌, ℕ, zero, suc, ◌<◌, List, [], ◌∷◌, length, get_or, set, Option, refl, sym, ap, subst, ◌∙◌, arith}
+use Rattle.std.proofs.Common.{◌≡◌, ℕ, zero, suc, ◌<◌, List, [], ◌∷◌, length, get_or, set, Option, refl, sym, ap, subst, ◌∙◌}
 use Rattle.std.specs.Prelude.{Some, None, filter, is_some}
 use Rattle.std.proofs.Math.ListN.{get_or-map}
-use Rattle.std.proofs.lemmas.List.{length-map, length-set, get_or_default}
+use Rattle.std.proofs.lemmas.List.{length-set, get_or_default}
 use Rattle.chr_base.specs.declared.atom.Atom.{Atom}
 use Rattle.chr_base.specs.declared.rule.Rule.{Rule}
 use Rattle.chr_base.specs.FinBag.{◌⊕◌}
-use Rattle.chr_base.specs.Stores.{Store, store_of}
+use Rattle.chr_base.specs.Stores.{store_of}
 use Rattle.chr_tables.specs.Contents.{Contents, no_table, rows_of, index_columns}
 use Rattle.chr_actives.specs.Grids.{Grid, contents, live_atoms, rows_in}
 use Rattle.chr_columns.specs.declared.groups.Group.{Group}
-use Rattle.chr_columns.specs.working.Groups.{table_of_atom}
 use Rattle.chr_columns.specs.working.Resting.{grid, IsSetUp, ArePlanned}
 use Rattle.chr_columns.proofs.Stored.{row_is, grid_set, keys_set, same_columns}
 

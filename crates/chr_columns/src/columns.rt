@@ -18,22 +18,27 @@ use chr_base::atom::Atom;
 use chr_base::bag::Bag;
 use chr_base::lists::push_copies;
 use chr_base::rule::Rule;
+use chr_plans::react::Standing;
 use std::alloc::{AllocError, Global};
 use std::marker::Model;
 
 /// A store that rests in near linear time. Some atoms are at rest under the pool's rules, and sit in rows; the others
 /// are fresh. Contracts see the multiset of both.
+///
+/// Where a step keeps the newest fresh atom, the pool knows where the search for its partners stands. The next step goes
+/// on there, so that all steps with one atom cost one walk over its partners. Each other change forgets it.
 #[derive(Drop)]
 pub struct Columns {
     rested: Rested,
     fresh: Vec<Atom>,
+    standing: Option<Standing>,
 }
 
 impl Model for Columns {
     ghost use Rattle.chr_base.specs.FinBag.{◌⊕◌};
     ghost use Rattle.chr_base.specs.Stores.{Store, store_of};
     ghost use Rattle.chr_base.specs.working.Codes.{code, coded_atom};
-    ghost use Rattle.chr_columns.specs.working.Resting.{stored, IsRested};
+    ghost use Rattle.chr_columns.specs.working.Resting.{stored, IsPool};
 
     ghost Value = { Store };
 
@@ -41,7 +46,7 @@ impl Model for Columns {
 
     ghost view = { λ c. stored c.rested ⊕ store_of c.fresh.items };
 
-    ghost invariant = { λ c. IsRested c.rested };
+    ghost invariant = { λ c. IsPool c.rested c.fresh.items c.standing };
 }
 
 impl Columns {
@@ -53,6 +58,7 @@ impl Columns {
         Ok(Columns {
             rested,
             fresh: Vec::new(alloc),
+            standing: None,
         })
     }
 
@@ -61,6 +67,7 @@ impl Columns {
         ensures ok { OnOk result (self.new ≡ self.old ⊕ store_of atoms.now) }
         ensures err { OnErr result (self.new ≡ self.old) }
     {
+        self.standing = None;
         push_copies(&mut self.fresh, atoms)
     }
 
@@ -77,6 +84,7 @@ impl Columns {
         ensures taken { OnTrue result (self.new ≡ self.old ⊖ store_of atoms.now) }
         ensures kept { OnFalse result (self.new ≡ self.old) }
     {
+        self.standing = None;
         self.rested.remove_all(&mut self.fresh, atoms)
     }
 
@@ -106,6 +114,7 @@ impl Columns {
         ensures ok { OnOk result (StepOn rule.now heads.now self.old self.new) }
         ensures err { OnErr result (self.new ≡ self.old) }
     {
+        self.standing = None;
         push_copies(&mut self.fresh, &rule.body_of(heads))?;
         let (_, removed) = heads.split_at(rule.kept.len());
         self.rested.remove_all(&mut self.fresh, removed);
@@ -120,6 +129,7 @@ impl Columns {
         requires there { IsWithin (store_of rows.now.heads.items) self.old }
         ensures { self.new ≡ self.old ⊖ store_of (drop (length rule.now.kept.items) rows.now.heads.items) }
     {
+        self.standing = None;
         let kept = rule.kept.len();
         let (_, removed) = rows.heads.split_at(kept);
         self.rested
@@ -134,6 +144,7 @@ impl Columns {
         ensures ok { OnOk result (StepOn rule.now rows.now.heads.items self.old self.new) }
         ensures err { OnErr result (self.new ≡ self.old) }
     {
+        self.standing = None;
         push_copies(&mut self.fresh, &rule.body_of(&rows.heads))?;
         self.take_rows(rule, rows);
         Ok(())
@@ -149,7 +160,7 @@ impl Columns {
         ensures resting { IsAtRest (Step rules.now) self.old → result ≡ Ok false }
         ensures err { OnErr result (self.new ≡ self.old) }
     {
-        let stepped = step_in(&mut self.rested, &mut self.fresh, rules);
+        let stepped = step_in(&mut self.rested, &mut self.fresh, &mut self.standing, rules);
         if stepped.is_err() && rests_in(&self.rested, &self.fresh, rules) {
             return Ok(false);
         }

@@ -75,6 +75,23 @@ impl Rows for Everywhere<'_> {
         self.below(row)
     }
 
+    fn at_or_below(
+        &mut self,
+        _table: usize,
+        _index: usize,
+        key: &[i64],
+        _span: &Span,
+        row: usize,
+    ) -> Option<usize> {
+        if !key.is_empty() {
+            return None;
+        }
+        if row < self.rows {
+            return self.below(row + 1);
+        }
+        self.below(self.rows)
+    }
+
     fn atom(&self, _table: usize, row: usize) -> Atom {
         self.get(row).unwrap()
     }

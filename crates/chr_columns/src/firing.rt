@@ -1,5 +1,5 @@
 //! What an instance changes.
-ghost use Rattle.std.specs.Prelude.{◌≡◌, ℕ, ◌+◌, ◌<◌, ◌≤◌, List, [], ◌∷◌, ◌++◌, Some, length, remove, slice_get, vec_len, vec_capacity};
+ghost use Rattle.std.specs.Prelude.{◌≡◌, ℕ, ◌+◌, ◌<◌, ◌≤◌, List, [], ◌∷◌, ◌++◌, Some, IfSome, length, remove, slice_get, vec_len, vec_capacity};
 ghost use Rattle.chr_base.specs.declared.rule.Rule.{Rule as RuleValue};
 ghost use Rattle.chr_base.specs.declared.limits.TheConstants.{MAX_BODY, MAX_HEADS};
 ghost use Rattle.chr_base.specs.declared.atom.Atom.{Atom as AtomValue};
@@ -9,7 +9,7 @@ ghost use Rattle.chr_base.specs.Rules.{atoms_at, heads_of, heads_at, HasInstance
 ghost use Rattle.chr_plans.specs.Seats.{seat, head, IsSeated};
 ghost use Rattle.chr_actives.specs.Actives.{one};
 ghost use Rattle.chr_actives.specs.Grids.{Grid, rows_in, SitIn};
-ghost use Rattle.chr_columns.specs.working.Resting.{stored, IsRested, IsReacting};
+ghost use Rattle.chr_columns.specs.working.Resting.{stored, IsRested, IsReacting, MayGoOn, Stands};
 ghost use Rattle.chr_columns.specs.working.Firing.{kept_others, coming};
 
 use crate::rested::{Occurrence, Rested, kill_all};
@@ -18,6 +18,7 @@ use chr_base::atom::Atom;
 use chr_base::limits::{MAX_BODY, MAX_HEADS};
 use chr_base::lists::push_all;
 use chr_base::rule::Rule;
+use chr_plans::react::Standing;
 use chr_plans::rows::Seat;
 
 /// The seats of so many places. What is not there is the first row of the first table.
@@ -72,8 +73,10 @@ fn put_fresh(rule: &Rule, place: usize, heads: &[Atom], fresh: &mut Vec<Atom>)
     requires place { place < length (heads_of rule.now) }
     requires instance { HasInstance rule.now heads.now }
     requires room { vec_len fresh.old + (MAX_BODY + 1) ≤ vec_capacity fresh.old }
-    ensures { (v : Valuation) → heads_at v rule.now ≡ heads.now →
+    ensures store { (v : Valuation) → heads_at v rule.now ≡ heads.now →
         store_of fresh.new.items ≡ store_of fresh.old.items ⊕ coming rule.now place v }
+    ensures last { place < length rule.now.kept.items →
+        (xs : List AtomValue) × (fresh.new.items ≡ xs ++ head heads.now place ∷ []) }
 {
     push_body(rule, heads, fresh);
     if place < rule.kept.len() {
@@ -81,30 +84,45 @@ fn put_fresh(rule: &Rule, place: usize, heads: &[Atom], fresh: &mut Vec<Atom>)
     }
 }
 
+/// Where the search for the active atom stands, where it is kept.
+fn standing_of(rule: &Rule, o: Occurrence) -> Option<Standing>
+    ensures { IfSome result (λ s. (s ≡ o.standing) × (o.place < length rule.now.kept.items)) }
+{
+    if o.place < rule.kept.len() {
+        Some(o.standing)
+    } else {
+        None
+    }
+}
+
 impl Rested {
     /// The rule fires: the removed heads leave the rows, and its body becomes fresh, with the active atom where it
-    /// is kept.
+    /// is kept. Then the search for it may go on where it stands.
     pub(crate) fn fire(
         &mut self,
         o: Occurrence,
         heads: &[Atom],
         seats: &[Seat],
         fresh: &mut Vec<Atom>,
-    )
+    ) -> Option<Standing>
         requires rested { IsRested self.old }
         requires instance { IsReacting self.old (head heads.now o.place) o heads.now seats.now }
+        requires standing { MayGoOn self.old (head heads.now o.place) o.standing }
         requires room { vec_len fresh.old + (MAX_BODY + 1) ≤ vec_capacity fresh.old }
         ensures rested { IsRested self.new }
         ensures rules { self.new.rules ≡ self.old.rules }
         ensures step { (r : RuleValue) → slice_get self.old.rules.items o.rule ≡ Some r → Step (r ∷ [])
             ((stored self.old ⊕ store_of fresh.old.items) ⊕ one (head heads.now o.place))
             (stored self.new ⊕ store_of fresh.new.items) }
+        ensures standing { Stands self.new fresh.new.items result }
     {
         let rule = &self.rules[o.rule];
         let rows = partner_rows(rule, o.place, seats);
         let first = kept_others(rule, o.place);
         put_fresh(rule, o.place, heads, fresh);
+        let standing = standing_of(rule, o);
         let (_, removed) = rows.split_at(first);
         kill_all(&mut self.tables, removed);
+        standing
     }
 }

@@ -92,6 +92,7 @@ fn find_with(
         rule,
         0,
         lookups,
+        None,
         atom,
         &mut heads,
         &mut seats,

@@ -25,9 +25,6 @@ use std::alloc::{AllocError, Global};
 /// There are fewer tables than this, so that the rows of all of them can be counted.
 const MAX_TABLES: usize = 0x8000_0000;
 
-#[cfg(test)]
-mod tests;
-
 /// An index that look-ups want: by these columns, and where there is an order by the values in that column as well.
 #[derive(Drop)]
 pub(crate) struct Way {

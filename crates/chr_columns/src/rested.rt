@@ -5,14 +5,14 @@ ghost use Rattle.chr_plans.specs.Seats.{seat, atom_in};
 ghost use Rattle.chr_tables.specs.Contents.{rows_of, index_columns};
 ghost use Rattle.chr_actives.specs.Actives.{one, NoInstanceWith};
 ghost use Rattle.chr_actives.specs.Grids.{without_rows};
-ghost use Rattle.chr_columns.specs.working.Resting.{grid, stored, IsRested, IsReacting};
+ghost use Rattle.chr_columns.specs.working.Resting.{grid, stored, IsRested, IsReacting, MayGoOn};
 
 use crate::groups::{Group, table_of};
 use arrayvec::ArrayVec;
 use chr_base::atom::Atom;
 use chr_base::limits::MAX_HEADS;
 use chr_base::rule::Rule;
-use chr_plans::react::react;
+use chr_plans::react::{Standing, react, standing_at};
 use chr_plans::rows::Seat;
 use chr_tables::tables::Tables;
 use std::alloc::AllocError;
@@ -25,11 +25,12 @@ pub(crate) struct Rested {
     pub(crate) tables: Tables,
 }
 
-/// A head place of a rule, both by their numbers from 0.
+/// A head place of a rule, both by their numbers from 0, and where the search stands that has found an instance there.
 #[derive(Clone, Copy, Debug, PartialEq, Eq)]
 pub(crate) struct Occurrence {
     pub(crate) rule: usize,
     pub(crate) place: usize,
+    pub(crate) standing: Standing,
 }
 
 /// These rows die.
@@ -45,18 +46,22 @@ pub(crate) fn kill_all(tables: &mut Tables, seats: &[Seat])
 }
 
 impl Rested {
-    /// The first instance of a rule with the active atom among its heads and the others in the rows.
+    /// The first instance of a rule with the active atom among its heads and the others in the rows. The search goes on
+    /// where it has stood.
     pub(crate) fn react(
         &mut self,
         active: &Atom,
+        from: Option<Standing>,
         heads: &mut ArrayVec<Atom, MAX_HEADS>,
         seats: &mut ArrayVec<Seat, MAX_HEADS>,
     ) -> Option<Occurrence>
-        requires { IsRested self.old }
+        requires rested { IsRested self.old }
+        requires standing { IfSome from (MayGoOn self.old active.now) }
         ensures rested { IsRested self.new }
         ensures rules { self.new.rules ≡ self.old.rules }
         ensures stored { stored self.new ≡ stored self.old }
         ensures found { IfSome result (λ o. IsReacting self.new active.now o heads.new.items seats.new.items) }
+        ensures standing { IfSome result (λ o. MayGoOn self.new active.now o.standing) }
         ensures none { IfNone result (NoInstanceWith self.old.rules.items (stored self.old) active.now) }
     {
         let table = table_of(&self.groups, active.symbol, active.args.len());
@@ -67,16 +72,19 @@ impl Rested {
             &mut self.tables,
             &self.rules,
             &group.plans,
+            from,
             active,
             heads,
             seats,
         ) else {
             return None;
         };
+        let standing = standing_at(&group.plans, found, seats.as_slice());
         let plan = &group.plans[found];
         Some(Occurrence {
             rule: plan.rule,
             place: plan.place,
+            standing,
         })
     }
 

@@ -1,5 +1,5 @@
 //! Fresh atoms, one after another.
-ghost use Rattle.std.specs.Prelude.{◌≡◌, ◌+◌, ◌≤◌, [], map, Ok, OnErr, vec_len, vec_capacity};
+ghost use Rattle.std.specs.Prelude.{◌≡◌, ◌+◌, ◌≤◌, [], map, Ok, OnErr, IfSome, vec_len, vec_capacity};
 ghost use Rattle.chr_base.specs.declared.limits.TheConstants.{MAX_BODY};
 ghost use Rattle.chr_base.specs.FinBag.{◌⊕◌};
 ghost use Rattle.chr_base.specs.Stores.{store_of};
@@ -7,7 +7,7 @@ ghost use Rattle.chr_base.specs.Rules.{Step};
 ghost use Rattle.chr_base.specs.Sameness.{parts_of};
 ghost use Rattle.chr_actives.specs.Actives.{one};
 ghost use Rattle.chr_columns.specs.declared.settle.Outcome.TheVariants.{Fired, AtRest, OtherRules};
-ghost use Rattle.chr_columns.specs.working.Resting.{stored, IsRested};
+ghost use Rattle.chr_columns.specs.working.Resting.{stored, IsRested, MayGoOn, Stands};
 
 use crate::rested::Rested;
 use crate::same::stands_at;
@@ -15,6 +15,7 @@ use arrayvec::ArrayVec;
 use chr_base::atom::Atom;
 use chr_base::limits::MAX_BODY;
 use chr_base::rule::Rule;
+use chr_plans::react::Standing;
 use std::alloc::AllocError;
 
 /// What fresh atoms came to.
@@ -29,17 +30,21 @@ pub(crate) enum Outcome {
 }
 
 impl Rested {
-    /// The active atom fires one of the rules, or joins those at rest.
+    /// The active atom fires one of the rules, or joins those at rest. The search for it goes on where it has stood;
+    /// where the atom is kept, it can go on there once more.
     fn take(
         &mut self,
         rules: &[Rule],
         active: &Atom,
         fresh: &mut Vec<Atom>,
+        standing: &mut Option<Standing>,
     ) -> Result<Outcome, AllocError>
         requires rested { IsRested self.old }
+        requires standing { IfSome standing.old (MayGoOn self.old active.now) }
         requires room { vec_len fresh.old + (MAX_BODY + 1) ≤ vec_capacity fresh.old }
         ensures rested { IsRested self.new }
         ensures rules { self.new.rules ≡ self.old.rules }
+        ensures standing { Stands self.new fresh.new.items standing.new }
         ensures fired { result ≡ Ok Fired → Step rules.now
             ((stored self.old ⊕ store_of fresh.old.items) ⊕ one active.now)
             (stored self.new ⊕ store_of fresh.new.items) }
@@ -53,14 +58,15 @@ impl Rested {
     {
         let mut heads = ArrayVec::new();
         let mut seats = ArrayVec::new();
-        let Some(occurrence) = self.react(active, &mut heads, &mut seats) else {
+        let from = standing.take();
+        let Some(occurrence) = self.react(active, from, &mut heads, &mut seats) else {
             self.put(active)?;
             return Ok(Outcome::AtRest);
         };
         if !stands_at(rules, occurrence.rule, &self.rules[occurrence.rule]) {
             return Ok(Outcome::OtherRules);
         }
-        self.fire(occurrence, &heads, &seats, fresh);
+        *standing = self.fire(occurrence, &heads, &seats, fresh);
         Ok(Outcome::Fired)
     }
 
@@ -70,10 +76,13 @@ impl Rested {
         &mut self,
         rules: &[Rule],
         fresh: &mut Vec<Atom>,
+        standing: &mut Option<Standing>,
     ) -> Result<Outcome, AllocError>
-        requires { IsRested self.old }
+        requires rested { IsRested self.old }
+        requires standing { Stands self.old fresh.old.items standing.old }
         ensures rested { IsRested self.new }
         ensures rules { self.new.rules ≡ self.old.rules }
+        ensures standing { Stands self.new fresh.new.items standing.new }
         ensures fired { result ≡ Ok Fired → Step rules.now
             (stored self.old ⊕ store_of fresh.old.items) (stored self.new ⊕ store_of fresh.new.items) }
         ensures joined { result ≡ Ok AtRest → fresh.new.items ≡ [] }
@@ -86,10 +95,11 @@ impl Rested {
             let Some(active) = fresh.pop() else {
                 return Ok(Outcome::AtRest);
             };
-            match self.take(rules, &active, fresh) {
+            match self.take(rules, &active, fresh, standing) {
                 Ok(Outcome::AtRest) => {}
                 Ok(Outcome::Fired) => return Ok(Outcome::Fired),
                 unsettled => {
+                    *standing = None;
                     fresh.push_reserved(active);
                     return unsettled;
                 }

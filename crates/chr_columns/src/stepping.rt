@@ -6,7 +6,7 @@ ghost use Rattle.chr_base.specs.Rewriting.{IsAtRest};
 ghost use Rattle.chr_base.specs.Rules.{Step};
 ghost use Rattle.chr_base.specs.Sameness.{parts_of};
 ghost use Rattle.chr_base.specs.Stores.{store_of};
-ghost use Rattle.chr_columns.specs.working.Resting.{stored, IsRested};
+ghost use Rattle.chr_columns.specs.working.Resting.{stored, IsRested, Stands};
 
 use crate::listing::push_live;
 use crate::making::rested_for;
@@ -15,6 +15,7 @@ use crate::same::are_same;
 use crate::settle::Outcome;
 use chr_base::atom::Atom;
 use chr_base::rule::Rule;
+use chr_plans::react::Standing;
 use std::alloc::AllocError;
 
 /// All atoms become fresh, and nothing is at rest, under copies of these rules. Where memory is refused nothing
@@ -32,10 +33,17 @@ fn start_over(rested: &mut Rested, fresh: &mut Vec<Atom>, rules: &[Rule]) -> Res
 }
 
 /// One step under rules that are those of the rows, or false where there is none.
-fn step_own(rested: &mut Rested, fresh: &mut Vec<Atom>, rules: &[Rule]) -> Result<bool, AllocError>
+fn step_own(
+    rested: &mut Rested,
+    fresh: &mut Vec<Atom>,
+    standing: &mut Option<Standing>,
+    rules: &[Rule],
+) -> Result<bool, AllocError>
     requires rested { IsRested rested.old }
+    requires standing { Stands rested.old fresh.old.items standing.old }
     requires own { map parts_of rested.old.rules.items ≡ map parts_of rules.now }
     ensures rested { IsRested rested.new }
+    ensures standing { Stands rested.new fresh.new.items standing.new }
     ensures stepped { IfOk result (λ stepped. OnTrue stepped (Step rules.now
         (stored rested.old ⊕ store_of fresh.old.items) (stored rested.new ⊕ store_of fresh.new.items))) }
     ensures same { IfOk result (λ stepped. OnFalse stepped
@@ -45,7 +53,7 @@ fn step_own(rested: &mut Rested, fresh: &mut Vec<Atom>, rules: &[Rule]) -> Resul
     ensures err { OnErr result
         (stored rested.new ⊕ store_of fresh.new.items ≡ stored rested.old ⊕ store_of fresh.old.items) }
 {
-    match rested.settle(rules, fresh)? {
+    match rested.settle(rules, fresh, standing)? {
         Outcome::Fired => Ok(true),
         Outcome::AtRest => Ok(false),
         Outcome::OtherRules => unreachable!(),
@@ -53,9 +61,15 @@ fn step_own(rested: &mut Rested, fresh: &mut Vec<Atom>, rules: &[Rule]) -> Resul
 }
 
 /// The same, where the rules may be others.
-fn step_over(rested: &mut Rested, fresh: &mut Vec<Atom>, rules: &[Rule]) -> Result<bool, AllocError>
+fn step_over(
+    rested: &mut Rested,
+    fresh: &mut Vec<Atom>,
+    standing: &mut Option<Standing>,
+    rules: &[Rule],
+) -> Result<bool, AllocError>
     requires { IsRested rested.old }
     ensures rested { IsRested rested.new }
+    ensures standing { Stands rested.new fresh.new.items standing.new }
     ensures stepped { IfOk result (λ stepped. OnTrue stepped (Step rules.now
         (stored rested.old ⊕ store_of fresh.old.items) (stored rested.new ⊕ store_of fresh.new.items))) }
     ensures same { IfOk result (λ stepped. OnFalse stepped
@@ -65,8 +79,9 @@ fn step_over(rested: &mut Rested, fresh: &mut Vec<Atom>, rules: &[Rule]) -> Resu
     ensures err { OnErr result
         (stored rested.new ⊕ store_of fresh.new.items ≡ stored rested.old ⊕ store_of fresh.old.items) }
 {
+    *standing = None;
     start_over(rested, fresh, rules)?;
-    step_own(rested, fresh, rules)
+    step_own(rested, fresh, standing, rules)
 }
 
 /// One step of some rule, or false where there is none. Where memory is refused the store is as before. The rules are
@@ -74,10 +89,13 @@ fn step_over(rested: &mut Rested, fresh: &mut Vec<Atom>, rules: &[Rule]) -> Resu
 pub(crate) fn step_in(
     rested: &mut Rested,
     fresh: &mut Vec<Atom>,
+    standing: &mut Option<Standing>,
     rules: &[Rule],
 ) -> Result<bool, AllocError>
-    requires { IsRested rested.old }
+    requires rested { IsRested rested.old }
+    requires standing { Stands rested.old fresh.old.items standing.old }
     ensures rested { IsRested rested.new }
+    ensures standing { Stands rested.new fresh.new.items standing.new }
     ensures stepped { IfOk result (λ stepped. OnTrue stepped (Step rules.now
         (stored rested.old ⊕ store_of fresh.old.items) (stored rested.new ⊕ store_of fresh.new.items))) }
     ensures same { IfOk result (λ stepped. OnFalse stepped
@@ -87,7 +105,7 @@ pub(crate) fn step_in(
     ensures err { OnErr result
         (stored rested.new ⊕ store_of fresh.new.items ≡ stored rested.old ⊕ store_of fresh.old.items) }
 {
-    match rested.settle(rules, fresh)? {
+    match rested.settle(rules, fresh, standing)? {
         Outcome::Fired => return Ok(true),
         Outcome::AtRest => {
             if are_same(&rested.rules, rules) {
@@ -96,5 +114,5 @@ pub(crate) fn step_in(
         }
         Outcome::OtherRules => {}
     }
-    step_over(rested, fresh, rules)
+    step_over(rested, fresh, standing, rules)
 }

@@ -1,6 +1,6 @@
 -- What one plan finds, of the plan as it stands in the list.
 use Rattle.std.proofs.Common.{◌≡◌, ℕ, ◌<◌, ◌+◌, List, length, get_or, slice_get, refl, sym, subst, ◌∙◌, arith, inl, inr}
-use Rattle.std.specs.Prelude.{Some}
+use Rattle.std.specs.Prelude.{Option, Some, None, IfSome, IfNone}
 use Rattle.std.proofs.lemmas.Bool.{cases_lt}
 use Rattle.std.proofs.lemmas.Option.{slice_get_read, same_Some, get_or_from_slice_get}
 use Rattle.chr_base.specs.declared.atom.Atom.{Atom}
@@ -9,8 +9,10 @@ use Rattle.chr_base.specs.Rules.{heads_of}
 use Rattle.chr_plans.specs.declared.rows.Seat.{Seat}
 use Rattle.chr_plans.specs.declared.plan.Plan.{Plan}
 use Rattle.chr_plans.specs.Rows.{Tables, Columns}
-use Rattle.chr_plans.specs.Seats.{IsSeated, NoPartners, head}
-use Rattle.chr_plans.specs.Reactions.{FitsPlan, NoneBy, Reacts}
+use Rattle.chr_plans.specs.declared.react.Standing.{Standing}
+use Rattle.chr_plans.specs.Plans.{FirstNoneAbove, first_place}
+use Rattle.chr_plans.specs.Seats.{IsSeated, NoPartners, head, seat}
+use Rattle.chr_plans.specs.Reactions.{FitsPlan, NoneBy, NoneAboveBy, MayResume, Reacts, first_row}
 
 module _ (rules : List Rule) (rows : Tables) (columns : Columns) (a : Atom) (plans : List Plan) (j : ℕ) (plan : Plan) (r : Rule)
     (left : j < length plans) (here : plan ≡ get_or plans j plan) (rule : r ≡ get_or rules plan.rule r) (fit : FitsPlan rules rows columns (slice_get plans j)) where
@@ -37,3 +39,48 @@ module _ (rules : List Rule) (rows : Tables) (columns : Columns) (a : Atom) (pla
     | inl less ↦ before k less
     | inr most ↦ (let i : k ≡ j = omega (arith, l, most) in subst (λ n. NoneBy rules rows a (slice_get plans n)) (sym i) (none_here none))
   ]
+
+  -- where this plan's search begins, and where it stops
+  pub row_passed : (from : Option Standing) (found : Option ℕ) → IfSome from (MayResume rules rows a plans) → IfSome found (λ row. from ≡ Some (record { plan = j; row = row }))
+      → IfSome found (λ row. FirstNoneAbove r rows plan.place a plan.lookups.items row)
+  row_passed from None m e = tt
+  row_passed from (Some row) m e =
+      let w = rw e at m in
+      let above = rw at at w.1 in
+      above r is_rule
+
+  pub resumes : (seats : List Seat) → ((k : ℕ) → k < j → NoneBy rules rows a (slice_get plans k))
+      → FirstNoneAbove r rows plan.place a plan.lookups.items (seat seats (first_place plan.lookups.items)).row
+      → MayResume rules rows a plans (record { plan = j; row = first_row (slice_get plans j) seats })
+  resumes seats before above =
+      (before, rw at (λ q e. subst (λ x. FirstNoneAbove x rows plan.place a plan.lookups.items (seat seats (first_place plan.lookups.items)).row) (same_Some r q (sym is_rule ∙ e)) above))
+
+-- the plans before the one at which a search begins
+pub before_first : (rules : List Rule) (rows : Tables) (a : Atom) (plans : List Plan) (from : Option Standing) (n : ℕ) → IfSome from (MayResume rules rows a plans)
+    → IfSome from (λ s. n ≡ s.plan) → IfNone from (n ≡ 0) → (k : ℕ) → k < n → NoneBy rules rows a (slice_get plans k)
+before_first rules rows a plans None n m some none k l = absurd (omega (arith, l, none))
+before_first rules rows a plans (Some s) n m some none k l = m.0 k (omega (arith, l, some))
+
+-- rows only died
+abbrev pub OnlyDied : Tables → Tables → Type 0
+OnlyDied before after = (t n : ℕ) (b : Atom) → after t n ≡ Some b → before t n ≡ Some b
+
+module _ (rules : List Rule) (before after : Tables) (died : OnlyDied before after) (a : Atom) where
+  seated_before : (r : Rule) (p : ℕ) (heads : List Atom) (seats : List Seat) → IsSeated r after p heads seats → IsSeated r before p heads seats
+  seated_before r p heads seats s = record {
+    instance = s.instance;
+    there = λ q o. died _ _ _ (s.there q o);
+    apart = s.apart;
+  }
+
+  none_later : (o : Option Plan) → NoneBy rules before a o → NoneBy rules after a o
+  none_later None none = none
+  none_later (Some plan) none = λ r e heads seats s. none r e heads seats (seated_before r plan.place heads seats s)
+
+  above_later : (o : Option Plan) (row : ℕ) → NoneAboveBy rules before a o row → NoneAboveBy rules after a o row
+  above_later None row none = none
+  above_later (Some plan) row none = λ r e more heads seats s. none r e more heads seats (seated_before r plan.place heads seats s)
+
+  -- where a search may go on, it may do so after rows have died
+  pub resume_later : (plans : List Plan) (s : Standing) → MayResume rules before a plans s → MayResume rules after a plans s
+  resume_later plans s m = (λ k l. none_later (slice_get plans k) (m.0 k l), above_later (slice_get plans s.plan) s.row m.1)

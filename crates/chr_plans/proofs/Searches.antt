@@ -1,6 +1,6 @@
 -- What each step of the search keeps.
 use Rattle.std.proofs.Common.{◌≡◌, ℕ, ℤ, ◌+◌, ◌<◌, ◌≤◌, inl, inr, List, length, get_or, set, map, Option, true, false, refl, sym, ap, subst, ◌∙◌, arith}
-use Rattle.std.specs.Prelude.{Some, None, IfSome, IfNone, option_map}
+use Rattle.std.specs.Prelude.{Some, None, IfSome, IfNone, option_map, ⊤}
 use Rattle.std.specs.List.{list_all}
 use Rattle.std.proofs.lemmas.Bool.{cases_lt}
 use Rattle.std.proofs.lemmas.List.{get_or-set_same, get_or-set_other, ext_get_or}
@@ -16,7 +16,7 @@ use Rattle.chr_plans.specs.Keys.{source_value, passes, allows, key_of, Spans}
 use Rattle.chr_plans.specs.Rows.{Tables, Columns, HasKey, LiesIn}
 use Rattle.chr_plans.specs.Seats.{head, seat, no_seat, atom_in, IsOther, IsSeated}
 use Rattle.chr_plans.specs.Plans.{IsPlan, FitsTables, IsKnown, partners_of, columns_of}
-use Rattle.chr_plans.specs.working.Searching.{AgreeAtKnown, NoneFrom, AreStarted, looked_in}
+use Rattle.chr_plans.specs.working.Searching.{AgreeAtKnown, NoneFrom, Past, PastFrom, AreStarted, looked_in}
 use Rattle.chr_plans.proofs.Values.{key_known, tests_known, limits_known, shape_known}
 use Rattle.chr_plans.proofs.Places.{place_is, partner_is, partners_len}
 
@@ -29,11 +29,20 @@ bound (Some row) = row + 1
 abbrev pub IsWanted : Option (List ℕ) → List ℤ → Span → Option Atom → Type 0
 IsWanted columns key span row = HasKey columns key row × LiesIn span row
 
--- the rows with a property lie below what was found
-pub below_first : (P : ℕ → Type 0) (found : Option ℕ) → IfSome found (λ row. (r : ℕ) → P r → r ≤ row) → IfNone found ((r : ℕ) → P r → ⊥)
-    → (r : ℕ) → P r → r < bound found
-below_first P None newest none r p = absurd (none r p)
-below_first P (Some row) newest none r p = let l = newest r p in omega (arith, l)
+-- the rows with these properties lie below what was found
+pub below_found : (P Q R : ℕ → Type 0) (found : Option ℕ) → IfSome found (λ row. (r : ℕ) → P r → Q r → R r → r ≤ row) → IfNone found ((r : ℕ) → P r → Q r → R r → ⊥)
+    → (r : ℕ) → P r → Q r → R r → r < bound found
+below_found P Q R None newest none r p q w = absurd (none r p q w)
+below_found P Q R (Some row) newest none r p q w = let l = newest r p q w in omega (arith, l)
+
+-- where all rows are looked at
+pub newest_of_all : (P Q : ℕ → Type 0) (found : Option ℕ) → IfSome found (λ row. (r : ℕ) → P r → Q r → r ≤ row) → IfSome found (λ row. (r : ℕ) → ⊤ → P r → Q r → r ≤ row)
+newest_of_all P Q None h = tt
+newest_of_all P Q (Some row) h = λ r _ p q. h r p q
+
+pub none_of_all : (P Q : ℕ → Type 0) (found : Option ℕ) → IfNone found ((r : ℕ) → P r → Q r → ⊥) → IfNone found ((r : ℕ) → ⊤ → P r → Q r → ⊥)
+none_of_all P Q None h = λ r _ p q. h r p q
+none_of_all P Q (Some row) h = tt
 
 pub below_next : (P : ℕ → Type 0) (at : ℕ) (found : Option ℕ) → IfSome found (λ row. (r : ℕ) → r < at → P r → r ≤ row) → IfNone found ((r : ℕ) → r < at → P r → ⊥)
     → (r : ℕ) → r < at → P r → r < bound found
@@ -41,14 +50,6 @@ below_next P at None newest none r below p = absurd (none r below p)
 below_next P at (Some row) newest none r below p = let l = newest r below p in omega (arith, l)
 
 -- two properties that are told one after the other, told as one
-pub newest_first : (P Q : ℕ → Type 0) (found : Option ℕ) → IfSome found (λ row. (r : ℕ) → P r → Q r → r ≤ row) → IfSome found (λ row. (r : ℕ) → P r × Q r → r ≤ row)
-newest_first P Q None h = tt
-newest_first P Q (Some row) h = λ r w. h r w.0 w.1
-
-pub none_first : (P Q : ℕ → Type 0) (found : Option ℕ) → IfNone found ((r : ℕ) → P r → Q r → ⊥) → IfNone found ((r : ℕ) → P r × Q r → ⊥)
-none_first P Q None h = λ r w. h r w.0 w.1
-none_first P Q (Some row) h = tt
-
 pub newest_next : (P Q : ℕ → Type 0) (at : ℕ) (found : Option ℕ) → IfSome found (λ row. (r : ℕ) → r < at → P r → Q r → r ≤ row)
     → IfSome found (λ row. (r : ℕ) → r < at → P r × Q r → r ≤ row)
 newest_next P Q at None h = tt
@@ -57,11 +58,6 @@ newest_next P Q at (Some row) h = λ r l w. h r l w.0 w.1
 pub none_next : (P Q : ℕ → Type 0) (at : ℕ) (found : Option ℕ) → IfNone found ((r : ℕ) → r < at → P r → Q r → ⊥) → IfNone found ((r : ℕ) → r < at → P r × Q r → ⊥)
 none_next P Q at None h = λ r l w. h r l w.0 w.1
 none_next P Q at (Some row) h = tt
-
--- no instance that goes on from these heads and seats sits at the place q in a row from `at` on
-abbrev pub Past : Rule → Tables → ℕ → List ℕ → ℕ → ℕ → List Atom → List Seat → ℕ → Type 0
-Past r rows p places n q heads seats at =
-    (hs : List Atom) (ss : List Seat) → IsSeated r rows p hs ss → AgreeAtKnown places p n hs ss heads seats → at ≤ (seat ss q).row → ⊥
 
 module _ (r : Rule) (p : ℕ) (lookups : List Lookup) (n : ℕ) (l : Lookup) (rows : Tables) (columns : Columns) (heads : List Atom) (seats : List Seat)
     (plan : IsPlan r p (partners_of lookups)) (fits : FitsTables r lookups rows columns) (left : n < length lookups) (here : get_or lookups n l ≡ l) where
@@ -116,13 +112,35 @@ module _ (r : Rule) (p : ℕ) (lookups : List Lookup) (n : ℕ) (l : Lookup) (ro
       let z : false ≡ true = failed ∙ all in
       cc
 
-  pub past_first : (span : Span) (at : ℕ) → ((a : Atom) → list_all (allows heads a) l.partner.limits.items ≡ true → Spans span a)
-      → ((q : ℕ) → IsWanted (columns l.table l.index) (map (λ k. source_value heads k.source) l.partner.key.items) span (rows l.table q) → q < at)
-      → Past r rows p (looked_in lookups) n l.partner.place heads seats at
-  past_first span at all none hs ss s same from =
+  -- where the search begins below some row, no instance was passed
+  reached : (from : Option ℕ) → IfSome from (λ row. PastFrom r rows p lookups n heads seats (row + 1)) → (hs : List Atom) (ss : List Seat) → IsSeated r rows p hs ss
+      → AgreeAtKnown (looked_in lookups) p n hs ss heads seats → IfSome from (λ first. (seat ss l.partner.place).row ≤ first)
+  reached None before hs ss s same = tt
+  reached (Some first) before hs ss s same = elim (cases_lt first (seat ss l.partner.place).row) as (λ _. (seat ss l.partner.place).row ≤ first) [
+    | inl less ↦ absurd (before left hs ss s same (let e = ap (λ k. (seat ss k).row) place_here in omega (arith, less, e)))
+    | inr most ↦ most
+  ]
+
+  pub past_begun : (span : Span) (from found : Option ℕ) → ((a : Atom) → list_all (allows heads a) l.partner.limits.items ≡ true → Spans span a)
+      → IfSome from (λ row. PastFrom r rows p lookups n heads seats (row + 1))
+      → ((q : ℕ) → IfSome from (λ first. q ≤ first) → HasKey (columns l.table l.index) (map (λ k. source_value heads k.source) l.partner.key.items) (rows l.table q) → LiesIn span (rows l.table q) → q < bound found)
+      → Past r rows p (looked_in lookups) n l.partner.place heads seats (bound found)
+  past_begun span from found all before below hs ss s same above =
       let w = row_known hs ss s same in
-      let a = none (seat ss l.partner.place).row (w.1, w.2 span all) in
-      omega (arith, a, from)
+      let a = below (seat ss l.partner.place).row (reached from before hs ss s same) w.1 (w.2 span all) in
+      omega (arith, a, above)
+
+  -- the seat of this look-up, after the search of the next
+  pub seat_found : (heads2 as' : List Atom) (seats2 ts : List Seat) (a : Atom) (x : Seat) → l.partner.place < length ts
+      → AgreeAtKnown (looked_in lookups) p (n + 1) heads2 seats2 (set as' l.partner.place a) (set ts l.partner.place x) → seat seats2 l.partner.place ≡ x
+  seat_found heads2 as' seats2 ts a x lt same = (same l.partner.place (inr (n, omega arith, place_here))).1 ∙ get_or-set_same ts l.partner.place x no_seat lt
+
+  pub past_found : (seats2 : List Seat) (row : ℕ) → Past r rows p (looked_in lookups) n l.partner.place heads seats (row + 1) → (seat seats2 l.partner.place).row ≡ row
+      → PastFrom r rows p lookups n heads seats ((seat seats2 (get_or (looked_in lookups) n 0)).row + 1)
+  past_found seats2 row past is more hs ss s same above =
+      let e = ap (λ k. (seat seats2 k).row) place_here ∙ is in
+      let f = ap (λ k. (seat ss k).row) place_here in
+      past hs ss s same (omega (arith, above, e, f))
 
   -- the row that was looked at makes no instance
   pub past_next : (span : Span) (row to : ℕ) → ((a : Atom) → list_all (allows heads a) l.partner.limits.items ≡ true → Spans span a)

@@ -13,7 +13,7 @@ use Rattle.chr_plans.specs.declared.plan.Partner.{Partner}
 use Rattle.chr_plans.specs.declared.plan.Lookup.{Lookup}
 use Rattle.chr_plans.specs.Keys.{argument, source_value, passes, allows}
 use Rattle.chr_plans.specs.Rows.{Tables, Columns}
-use Rattle.chr_plans.specs.Seats.{head}
+use Rattle.chr_plans.specs.Seats.{head, NoneAbove}
 
 -- the head of the rule at a place
 abbrev pub pattern_at : Rule → ℕ → Pattern
@@ -90,3 +90,11 @@ pub record FitsTables (r : Rule) (lookups : List Lookup) (rows : Tables) (column
       → columns l.table l.index ≡ Some (columns_of l.partner.key.items)
   pub table : (j : ℕ) (l : Lookup) (t n : ℕ) (a : Atom) → j < length lookups → get_or lookups j l ≡ l
       → rows t n ≡ Some a → has_shape (pattern_at r l.partner.place) a ≡ true → t ≡ l.table
+
+-- the place of the first partner
+abbrev pub first_place : List Lookup → ℕ
+first_place lookups = get_or (places_of (partners_of lookups)) 0 0
+
+-- where there are partners, in no instance with the atom at its place the first one sits in a row above this one
+abbrev pub FirstNoneAbove : Rule → Tables → ℕ → Atom → List Lookup → ℕ → Type 0
+FirstNoneAbove r rows p a lookups row = 0 < length lookups → NoneAbove r rows p a (first_place lookups) row

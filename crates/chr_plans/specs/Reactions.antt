@@ -1,13 +1,14 @@
 -- What plans find for an active atom.
-use Rattle.std.specs.Prelude.{◌≡◌, ◌<◌, List, length, slice_get, Option, Some, None}
+use Rattle.std.specs.Prelude.{◌≡◌, ℕ, ◌<◌, List, length, slice_get, Option, Some, None, ⊤}
 use Rattle.chr_base.specs.declared.atom.Atom.{Atom}
 use Rattle.chr_base.specs.declared.rule.Rule.{Rule}
 use Rattle.chr_base.specs.Rules.{heads_of}
 use Rattle.chr_plans.specs.declared.rows.Seat.{Seat}
 use Rattle.chr_plans.specs.declared.plan.Plan.{Plan}
 use Rattle.chr_plans.specs.Rows.{Tables, Columns}
-use Rattle.chr_plans.specs.Seats.{IsSeated, NoPartners, head}
-use Rattle.chr_plans.specs.Plans.{IsPlan, FitsTables, partners_of}
+use Rattle.chr_plans.specs.declared.react.Standing.{Standing}
+use Rattle.chr_plans.specs.Seats.{IsSeated, NoPartners, head, seat}
+use Rattle.chr_plans.specs.Plans.{IsPlan, FitsTables, FirstNoneAbove, first_place, partners_of}
 
 -- the plan is one of a rule and a head place of it, and fits the tables
 abbrev pub FitsPlan : List Rule → Tables → Columns → Option Plan → Type 0
@@ -29,3 +30,21 @@ abbrev pub NoneBy : List Rule → Tables → Atom → Option Plan → Type 0
 NoneBy rules rows a None = ⊥
 NoneBy rules rows a (Some plan) =
     (r : Rule) → slice_get rules plan.rule ≡ Some r → NoPartners r rows plan.place a
+
+-- the row in which the first partner of the plan sits
+abbrev pub first_row : Option Plan → List Seat → ℕ
+first_row None seats = 0
+first_row (Some plan) seats = (seat seats (first_place plan.lookups.items)).row
+
+-- with the atom at the plan's place no first partner sits in a row above this one
+abbrev pub NoneAboveBy : List Rule → Tables → Atom → Option Plan → ℕ → Type 0
+NoneAboveBy rules rows a None row = ⊤
+NoneAboveBy rules rows a (Some plan) row =
+    (r : Rule) → slice_get rules plan.rule ≡ Some r → FirstNoneAbove r rows plan.place a plan.lookups.items row
+
+-- A search for partners of the atom may go on where it stands: the plans before have none, and by this plan no first
+-- partner sits above this row.
+abbrev pub MayResume : List Rule → Tables → Atom → List Plan → Standing → Type 0
+MayResume rules rows a plans s =
+    ((k : ℕ) → k < s.plan → NoneBy rules rows a (slice_get plans k))
+    × NoneAboveBy rules rows a (slice_get plans s.plan) s.row

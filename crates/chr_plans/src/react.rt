@@ -1,6 +1,6 @@
 //! An instance of any rule with the active atom.
-ghost use Rattle.std.specs.Prelude.{◌≡◌, ℕ, ◌<◌, length, slice_get, IfSome, IfNone};
-ghost use Rattle.chr_plans.specs.Reactions.{FitsPlan, Reacts, NoneBy};
+ghost use Rattle.std.specs.Prelude.{◌≡◌, ℕ, ◌<◌, length, slice_get, Some, IfSome, IfNone};
+ghost use Rattle.chr_plans.specs.Reactions.{FitsPlan, Reacts, NoneBy, MayResume, first_row};
 
 use crate::plan::Plan;
 use crate::rows::{Rows, Seat};
@@ -10,18 +10,73 @@ use chr_base::atom::Atom;
 use chr_base::limits::MAX_HEADS;
 use chr_base::rule::Rule;
 
+/// Where a search for partners stands: at the plan with this number, and this row of its first partner.
+#[derive(Clone, Copy, Debug, PartialEq, Eq)]
+pub struct Standing {
+    pub plan: usize,
+    pub row: usize,
+}
+
+/// The number of the plan at which a search begins.
+fn first_plan(from: Option<Standing>) -> usize
+    ensures some { IfSome from (λ standing. result ≡ standing.plan) }
+    ensures none { IfNone from (result ≡ 0) }
+{
+    match from {
+        Some(standing) => standing.plan,
+        None => 0,
+    }
+}
+
+/// The row at which the search by a plan begins, where that is not the newest.
+fn row_in(from: Option<Standing>, plan: usize) -> Option<usize>
+    ensures { IfSome result (λ row. from ≡ Some (record { plan = plan; row = row })) }
+{
+    match from {
+        Some(standing) if standing.plan == plan => Some(standing.row),
+        _ => None,
+    }
+}
+
+/// The row of the first partner of a plan by these seats, 0 where it has none.
+fn first_row(plan: &Plan, seats: &[Seat]) -> usize
+    ensures { result ≡ first_row (Some plan.now) seats.now }
+{
+    let place = plan
+        .lookups
+        .first()
+        .map_or(0, |lookup| lookup.partner.place);
+    seats.get(place).map_or(0, |seat| seat.row)
+}
+
+/// Where a search stands that has found these seats by the plan with this number.
+pub fn standing_at(plans: &[Plan], plan: usize, seats: &[Seat]) -> Standing
+    requires { plan < length plans.now }
+    ensures { result ≡ record { plan = plan; row = first_row (slice_get plans.now plan) seats.now } }
+{
+    Standing {
+        plan,
+        row: first_row(&plans[plan], seats),
+    }
+}
+
 /// The first plan, by its number from 0, by which the active atom has partners. Where there is one, `heads` and
 /// `seats` have the instance, as `find_partners` fills them.
+///
+/// A search that has stood somewhere may go on from there, also after rows have died: what it has passed has no
+/// instance. `standing_at` tells where it stands then.
 pub fn react<R: Rows>(
     rows: &mut R,
     rules: &[Rule],
     plans: &[Plan],
+    from: Option<Standing>,
     active: &Atom,
     heads: &mut ArrayVec<Atom, MAX_HEADS>,
     seats: &mut ArrayVec<Seat, MAX_HEADS>,
 ) -> Option<usize>
-    requires { (j : ℕ) → j < length plans.now →
+    requires fits { (j : ℕ) → j < length plans.now →
         FitsPlan rules.now (R.rows rows.old) (R.columns rows.old) (slice_get plans.now j) }
+    requires passed { IfSome from (MayResume rules.now (R.rows rows.old) active.now plans.now) }
     ensures rows { R.rows rows.new ≡ R.rows rows.old }
     ensures columns { R.columns rows.new ≡ R.columns rows.old }
     ensures tables { R.tables rows.new ≡ R.tables rows.old }
@@ -29,12 +84,25 @@ pub fn react<R: Rows>(
         Reacts rules.now (R.rows rows.old) active.now (slice_get plans.now j) heads.new.items seats.new.items) }
     ensures first { IfSome result (λ j. (k : ℕ) → k < j →
         NoneBy rules.now (R.rows rows.old) active.now (slice_get plans.now k)) }
+    ensures standing { IfSome result (λ j. MayResume rules.now (R.rows rows.old) active.now plans.now
+        (record { plan = j; row = first_row (slice_get plans.now j) seats.new.items })) }
     ensures none { IfNone result ((k : ℕ) → k < length plans.now →
         NoneBy rules.now (R.rows rows.old) active.now (slice_get plans.now k)) }
 {
-    for (j, plan) in plans.iter().enumerate() {
+    for j in first_plan(from)..plans.len() {
+        let plan = &plans[j];
         let rule = &rules[plan.rule];
-        if find_partners(rows, rule, plan.place, &plan.lookups, active, heads, seats) {
+        let row = row_in(from, j);
+        if find_partners(
+            rows,
+            rule,
+            plan.place,
+            &plan.lookups,
+            row,
+            active,
+            heads,
+            seats,
+        ) {
             return Some(j);
         }
     }

@@ -74,6 +74,30 @@ pub trait Rows {
             HasKey (columns self.old table index) key.now (rows self.old table other) →
             ¬ (LiesIn span.now (rows self.old table other))) };
 
+    /// The newest row that a look-up of this key and span meets at this row or below it. The row itself may be dead, or
+    /// past the last.
+    fn at_or_below(
+        &mut self,
+        table: usize,
+        index: usize,
+        key: &[i64],
+        span: &Span,
+        row: usize,
+    ) -> Option<usize>
+        requires { IsTrue (is_some (columns self.old table index)) }
+        ensures rows { rows self.new ≡ rows self.old }
+        ensures columns { columns self.new ≡ columns self.old }
+        ensures tables { tables self.new ≡ tables self.old }
+        ensures at_or_below { IfSome result (λ next. next ≤ row) }
+        ensures met { IfSome result (λ next.
+            MayHaveKey (columns self.old table index) key.now (rows self.old table next)) }
+        ensures newest { IfSome result (λ next. (other : ℕ) → other ≤ row →
+            HasKey (columns self.old table index) key.now (rows self.old table other) →
+            LiesIn span.now (rows self.old table other) → other ≤ next) }
+        ensures none { IfNone result ((other : ℕ) → other ≤ row →
+            HasKey (columns self.old table index) key.now (rows self.old table other) →
+            ¬ (LiesIn span.now (rows self.old table other))) };
+
     /// The atom of a live row.
     fn atom(&self, table: usize, row: usize) -> Atom
         requires { IsTrue (is_some (rows self.now table row)) }

@@ -1,12 +1,13 @@
 //! The search for the partners of an active atom.
-ghost use Rattle.std.specs.Prelude.{◌≡◌, ℕ, ◌<◌, ◌≤◌, ◌+◌, length, get_or};
+ghost use Rattle.std.specs.Prelude.{◌≡◌, ℕ, ◌<◌, ◌≤◌, ◌+◌, length, get_or, IfSome, IfNone, IsTrue, is_some};
 ghost use Rattle.std.specs.Bool.{OnTrue, OnFalse};
 ghost use Rattle.chr_base.specs.Rules.{heads_of};
 ghost use Rattle.chr_plans.specs.Seats.{seat, head, no_seat, IsSeated, NoPartners};
-ghost use Rattle.chr_plans.specs.Plans.{IsPlan, FitsTables, partners_of, places_of};
-ghost use Rattle.chr_plans.specs.working.Searching.{AgreeAtKnown, NoneFrom, AreStarted, looked_in};
+ghost use Rattle.chr_plans.specs.Plans.{IsPlan, FitsTables, FirstNoneAbove, first_place, partners_of, places_of};
+ghost use Rattle.chr_plans.specs.Rows.{HasKey, MayHaveKey, LiesIn};
+ghost use Rattle.chr_plans.specs.working.Searching.{AgreeAtKnown, NoneFrom, PastFrom, AreStarted, looked_in};
 
-use crate::key::{key_values, pass, span_of};
+use crate::key::{Span, key_values, pass, span_of};
 use crate::plan::Lookup;
 use crate::rows::{Rows, Seat, is_same};
 use arrayvec::ArrayVec;
@@ -31,13 +32,44 @@ fn is_taken(lookups: &[Lookup], seats: &[Seat], row: Seat) -> bool
     false
 }
 
-/// Goes on from the active atom and the partners of the first look-ups to an instance.
+/// The newest row that a look-up meets; where there is a row to begin at, the newest at it or below it.
+fn newest_from<R: Rows>(
+    rows: &mut R,
+    lookup: &Lookup,
+    key: &[i64],
+    span: &Span,
+    from: Option<usize>,
+) -> Option<usize>
+    requires { IsTrue (is_some (R.columns rows.old lookup.now.table lookup.now.index)) }
+    ensures rows { R.rows rows.new ≡ R.rows rows.old }
+    ensures columns { R.columns rows.new ≡ R.columns rows.old }
+    ensures tables { R.tables rows.new ≡ R.tables rows.old }
+    ensures met { IfSome result (λ row. MayHaveKey (R.columns rows.old lookup.now.table lookup.now.index) key.now
+        (R.rows rows.old lookup.now.table row)) }
+    ensures newest { IfSome result (λ row. (other : ℕ) → IfSome from (λ first. other ≤ first) →
+        HasKey (R.columns rows.old lookup.now.table lookup.now.index) key.now
+        (R.rows rows.old lookup.now.table other) →
+        LiesIn span.now (R.rows rows.old lookup.now.table other) → other ≤ row) }
+    ensures none { IfNone result ((other : ℕ) → IfSome from (λ first. other ≤ first) →
+        HasKey (R.columns rows.old lookup.now.table lookup.now.index) key.now
+        (R.rows rows.old lookup.now.table other) →
+        ¬ (LiesIn span.now (R.rows rows.old lookup.now.table other))) }
+{
+    match from {
+        Some(row) => rows.at_or_below(lookup.table, lookup.index, key, span, row),
+        None => rows.first(lookup.table, lookup.index, key, span),
+    }
+}
+
+/// Goes on from the active atom and the partners of the first look-ups to an instance. The next look-up begins at the
+/// row `from`, where there is one: no instance has its partner in a row above.
 fn complete<R: Rows>(
     rows: &mut R,
     rule: &Rule,
     active: usize,
     lookups: &[Lookup],
     done: usize,
+    from: Option<usize>,
     heads: &mut [Atom],
     seats: &mut [Seat],
 ) -> bool
@@ -47,12 +79,16 @@ fn complete<R: Rows>(
     requires heads { length heads.old ≡ length (heads_of rule.now) }
     requires seats { length seats.old ≡ length (heads_of rule.now) }
     requires started { AreStarted (R.rows rows.old) (looked_in lookups.now) done heads.old seats.old }
+    requires passed { IfSome from (λ row.
+        PastFrom rule.now (R.rows rows.old) active lookups.now done heads.old seats.old (row + 1)) }
     ensures rows { R.rows rows.new ≡ R.rows rows.old }
     ensures columns { R.columns rows.new ≡ R.columns rows.old }
     ensures tables { R.tables rows.new ≡ R.tables rows.old }
     ensures lengths { (length heads.new ≡ length heads.old) × (length seats.new ≡ length seats.old) }
     ensures same { AgreeAtKnown (looked_in lookups.now) active done heads.new seats.new heads.old seats.old }
     ensures found { OnTrue result (IsSeated rule.now (R.rows rows.old) active heads.new seats.new) }
+    ensures passed { OnTrue result (PastFrom rule.now (R.rows rows.old) active lookups.now done heads.old seats.old
+        ((seat seats.new (get_or (looked_in lookups.now) done 0)).row + 1)) }
     ensures none { OnFalse result
         (NoneFrom rule.now (R.rows rows.old) active (looked_in lookups.now) done heads.old seats.old) }
 {
@@ -65,7 +101,7 @@ fn complete<R: Rows>(
     }
     let key = key_values(heads, &lookup.partner.key);
     let span = span_of(heads, &lookup.partner.limits);
-    let mut next = rows.first(lookup.table, lookup.index, &key, &span);
+    let mut next = newest_from(rows, lookup, &key, &span, from);
     while let Some(row) = next {
         let seat = Seat {
             table: lookup.table,
@@ -74,7 +110,7 @@ fn complete<R: Rows>(
         if !is_taken(&lookups[..done], seats, seat) {
             heads[lookup.partner.place] = rows.atom(lookup.table, row);
             seats[lookup.partner.place] = seat;
-            if complete(rows, rule, active, lookups, done + 1, heads, seats) {
+            if complete(rows, rule, active, lookups, done + 1, None, heads, seats) {
                 return true;
             }
         }
@@ -118,11 +154,15 @@ fn start(
 /// An instance of the rule with the active atom at this head place, counted from 0, and partners in different live
 /// rows. Where there is one, it fills `heads` with its heads in place order, and `seats` with their rows; the seat at
 /// the active place says nothing. Where there is none, both are left with anything.
+///
+/// The search goes through the rows of the first partner from the newest down, or from the row `from`, where there is
+/// one. Where it finds an instance, it has passed the rows above that partner's, and may go on from there.
 pub fn find_partners<R: Rows>(
     rows: &mut R,
     rule: &Rule,
     place: usize,
     lookups: &[Lookup],
+    from: Option<usize>,
     active: &Atom,
     heads: &mut ArrayVec<Atom, MAX_HEADS>,
     seats: &mut ArrayVec<Seat, MAX_HEADS>,
@@ -130,14 +170,18 @@ pub fn find_partners<R: Rows>(
     requires place { place < length (heads_of rule.now) }
     requires plan { IsPlan rule.now place (partners_of lookups.now) }
     requires fits { FitsTables rule.now lookups.now (R.rows rows.old) (R.columns rows.old) }
+    requires passed { IfSome from (λ row.
+        FirstNoneAbove rule.now (R.rows rows.old) place active.now lookups.now row) }
     ensures rows { R.rows rows.new ≡ R.rows rows.old }
     ensures columns { R.columns rows.new ≡ R.columns rows.old }
     ensures tables { R.tables rows.new ≡ R.tables rows.old }
     ensures found { OnTrue result (IsSeated rule.now (R.rows rows.old) place heads.new.items seats.new.items) }
     ensures active { OnTrue result (head heads.new.items place ≡ active.now) }
     ensures seats { length seats.new.items ≡ length (heads_of rule.now) }
+    ensures passed { OnTrue result (FirstNoneAbove rule.now (R.rows rows.old) place active.now lookups.now
+        (seat seats.new.items (first_place lookups.now)).row) }
     ensures none { OnFalse result (NoPartners rule.now (R.rows rows.old) place active.now) }
 {
     start(rule, place, active, heads, seats);
-    complete(rows, rule, place, lookups, 0, heads, seats)
+    complete(rows, rule, place, lookups, 0, from, heads, seats)
 }

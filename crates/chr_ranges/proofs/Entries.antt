@@ -104,6 +104,17 @@ pub found_none_below : (P : ℕ → Type 0) (row : ℕ) (found : Option ℕ) (pl
 found_none_below P row None place is above = λ other l p. (let a = above other l p in is (omega (arith, a)))
 found_none_below P row (Some next) place is above = tt
 
+-- the same up to a row
+pub found_newest_to : (P : ℕ → Type 0) (row : ℕ) (found : Option ℕ) (place : ℕ) → SomeIff found (1 ≤ place) (place - 1) → ((r : ℕ) → r ≤ row → P r → r < place)
+    → IfSome found (λ next. (other : ℕ) → other ≤ row → P other → other ≤ next)
+found_newest_to P row None place is above = tt
+found_newest_to P row (Some next) place is above = λ other l p. (let a = above other l p in let e = is.1 in omega (arith, a, e))
+
+pub found_none_to : (P : ℕ → Type 0) (row : ℕ) (found : Option ℕ) (place : ℕ) → SomeIff found (1 ≤ place) (place - 1) → ((r : ℕ) → r ≤ row → P r → r < place)
+    → IfNone found ((other : ℕ) → other ≤ row → P other → ⊥)
+found_none_to P row None place is above = λ other l p. (let a = above other l p in is (omega (arith, a)))
+found_none_to P row (Some next) place is above = tt
+
 pub length_entries : (rows : List Row) → length (entries_of rows) ≡ length rows
 length_entries [] = refl
 length_entries (x ∷ rows) = ap suc (length_entries rows)

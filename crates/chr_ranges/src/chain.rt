@@ -1,6 +1,7 @@
 //! Walks along chains.
 ghost use Rattle.std.specs.Prelude.{◌≡◌, ℕ, ◌+◌, ◌-◌, ◌%◌, ◌<◌, ◌≤◌, ◌^◌, length, get_or, vec_capacity};
-ghost use Rattle.chr_ranges.specs.working.Chained.{row_slot, IsNewest, IsLink, AreLinked, AreHeads, Passes, IsSought};
+ghost use Rattle.std.specs.Bool.{OnTrue};
+ghost use Rattle.chr_ranges.specs.working.Chained.{row_at, row_slot, IsNewest, IsLink, AreLinked, AreHeads, Passes, IsSought};
 
 use crate::range::Range;
 use crate::row::{Link, Row};
@@ -135,4 +136,14 @@ pub(crate) fn seek(rows: &[Row], chains: &mut Chains, hash: u32, range: &Range, 
         }
     }
     0
+}
+
+/// Whether there is such a row, alive or dead, and it has this hash.
+pub(crate) fn is_at(rows: &[Row], row: u32, hash: u32) -> bool
+    ensures { OnTrue result ((row < length rows.now) × ((row_at rows.now row).hash ≡ hash)) }
+{
+    if row as usize >= rows.len() {
+        return false;
+    }
+    rows[row as usize].hash == hash
 }

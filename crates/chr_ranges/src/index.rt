@@ -2,7 +2,7 @@
 ghost use Rattle.std.specs.Prelude.{◌≡◌, ℕ, ◌+◌, ◌-◌, ◌<◌, ◌≤◌, ◌^◌, ◌∷◌, ◌++◌, [], length, get_or, set, Some, None, OnOk, IfOk, IfSome, IfNone};
 ghost use Rattle.chr_ranges.specs.Rows.{HasEntryHash, IsWanted};
 
-use crate::chain::{Chains, join, relink, seek};
+use crate::chain::{Chains, is_at, join, relink, seek};
 use crate::range::Range;
 use crate::row::{Link, Row};
 use std::alloc::{AllocError, Global};
@@ -125,6 +125,19 @@ impl Index {
         self.next_place(hash, range, row).checked_sub(1)
     }
 
+    /// The newest live row with this hash and a value in the range at this row or below it. The row itself may be dead,
+    /// or past the last. It is near where the row had the hash.
+    pub fn at_or_below(&mut self, hash: u32, range: &Range, row: u32) -> Option<u32>
+        ensures same { self.new ≡ self.old }
+        ensures at_or_below { IfSome result (λ next. next ≤ row) }
+        ensures wanted { IfSome result (λ next. IsWanted self.old.rows hash range.now next) }
+        ensures newest { IfSome result (λ next. (other : ℕ) → other ≤ row
+            → IsWanted self.old.rows hash range.now other → other ≤ next) }
+        ensures none { IfNone result ((other : ℕ) → other ≤ row → ¬ (IsWanted self.old.rows hash range.now other)) }
+    {
+        self.place_at_or_below(hash, range, row).checked_sub(1)
+    }
+
     /// The place, its number and one, of the newest live row with this hash and a value in the range, or 0.
     fn first_place(&mut self, hash: u32, range: &Range) -> u32
         ensures same { self.new ≡ self.old }
@@ -146,5 +159,32 @@ impl Index {
     {
         let from = self.chains.links[row as usize].next;
         seek(&self.rows, &mut self.chains, hash, range, from)
+    }
+
+    /// The same, at any row or below it.
+    fn place_at_or_below(&mut self, hash: u32, range: &Range, row: u32) -> u32
+        ensures same { self.new ≡ self.old }
+        ensures within { result ≤ row + 1 }
+        ensures wanted { 0 < result → IsWanted self.old.rows hash range.now (result - 1) }
+        ensures none_between { (r : ℕ) → r ≤ row → IsWanted self.old.rows hash range.now r → r < result }
+    {
+        if !is_at(&self.rows, row, hash) {
+            return self.down_to(hash, range, row);
+        }
+        seek(&self.rows, &mut self.chains, hash, range, row + 1)
+    }
+
+    /// The same, down from the newest row with this hash and a value in the range.
+    fn down_to(&mut self, hash: u32, range: &Range, row: u32) -> u32
+        ensures same { self.new ≡ self.old }
+        ensures within { result ≤ row + 1 }
+        ensures wanted { 0 < result → IsWanted self.old.rows hash range.now (result - 1) }
+        ensures none_between { (r : ℕ) → r ≤ row → IsWanted self.old.rows hash range.now r → r < result }
+    {
+        let mut at = self.first_place(hash, range);
+        while at as u64 > row as u64 + 1 {
+            at = self.next_place(hash, range, at - 1);
+        }
+        at
     }
 }

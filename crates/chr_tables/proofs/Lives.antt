@@ -26,6 +26,10 @@ live_of (x ∷ as') [] r a d e = cc
 live_of (x ∷ as') (b ∷ bs) zero a d e = (omega arith, some_cond b x a e)
 live_of (x ∷ as') (b ∷ bs) (suc r) a d e = let w = live_of as' bs r a d e in (let l = w.0 in omega (arith, l), w.1)
 
+-- a row that lives has a number of 32 bits, and so has the next
+pub few_rows : (as' : List Atom) (bs : List Bool) (r : ℕ) (a : Atom) → length as' < 2 ^ 32 → get_or (live as' bs) r None ≡ Some a → r + 1 < 2 ^ 32
+few_rows as' bs r a few e = let w = live_of as' bs r a a e in let l = w.0 in omega (arith, l, few)
+
 -- a row is what its flag says
 pub live_at : (as' : List Atom) (bs : List Bool) (r : ℕ) (a : Atom) (b : Bool) → length bs ≡ length as' → r < length as'
     → get_or (live as' bs) r None ≡ cond (get_or bs r b) (Some (get_or as' r a)) None

@@ -140,4 +140,21 @@ impl Finder {
             Finder::Ranged { column, index } => index.next(hash, &range_for(*column, span), row),
         }
     }
+
+    /// The same, at this row or below it. The row itself may be dead, or past the last.
+    pub(crate) fn at_or_below(&mut self, hash: u32, span: &Span, row: u32) -> Option<u32>
+        ensures same { self.new ≡ self.old }
+        ensures at_or_below { IfSome result (λ next. next ≤ row) }
+        ensures met { IfSome result (λ next. IsFinderRow self.old hash span.now next) }
+        ensures newest { IfSome result (λ next. (other : ℕ) → other ≤ row
+            → IsFinderRow self.old hash span.now other → other ≤ next) }
+        ensures none { IfNone result ((other : ℕ) → other ≤ row → ¬ (IsFinderRow self.old hash span.now other)) }
+    {
+        match self {
+            Finder::Chained(index) => index.at_or_below(hash, row),
+            Finder::Ranged { column, index } => {
+                index.at_or_below(hash, &range_for(*column, span), row)
+            }
+        }
+    }
 }

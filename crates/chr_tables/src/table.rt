@@ -52,6 +52,14 @@ fn row_of(found: Option<u32>) -> Option<usize>
     found.map(|row| row as usize)
 }
 
+/// The number of a row for an index; past all rows that there can be, the greatest.
+fn number_of(row: usize) -> u32
+    ensures low { result ≤ row }
+    ensures same { (other : ℕ) → other ≤ row → other + 1 < 2 ^ 32 → other ≤ result }
+{
+    row.min(MAX_ROWS) as u32
+}
+
 /// How many of these rows live.
 fn count_live(alive: &[bool]) -> usize
     ensures { result ≡ count_by (λ b. b) alive.now }
@@ -155,6 +163,37 @@ impl Table {
             self.indexes[index]
                 .index
                 .next(key_hash(key), span, row as u32),
+        )
+    }
+
+    /// The newest row at this row or below it that a look-up of this key and span meets. The row itself may be dead, or
+    /// past the last. It is near where the look-up has met the row before.
+    pub fn at_or_below(
+        &mut self,
+        index: usize,
+        key: &[i64],
+        span: &Span,
+        row: usize,
+    ) -> Option<usize>
+        requires { index < length self.old.keys }
+        ensures same { self.new ≡ self.old }
+        ensures at_or_below { IfSome result (λ next. next ≤ row) }
+        ensures met { IfSome result (λ next.
+            MayHaveKey (slice_get self.old.keys index) key.now (get_or self.old.rows next None)) }
+        ensures within { GoesBy self.old.orders index span.now →
+            IfSome result (λ next. LiesIn span.now (get_or self.old.rows next None)) }
+        ensures newest { IfSome result (λ next. (other : ℕ) → other ≤ row →
+            HasKey (slice_get self.old.keys index) key.now (get_or self.old.rows other None) →
+            LiesIn span.now (get_or self.old.rows other None) → other ≤ next) }
+        ensures none { IfNone result ((other : ℕ) → other ≤ row →
+            HasKey (slice_get self.old.keys index) key.now (get_or self.old.rows other None) →
+            ¬ (LiesIn span.now (get_or self.old.rows other None))) }
+    {
+        let row = number_of(row);
+        row_of(
+            self.indexes[index]
+                .index
+                .at_or_below(key_hash(key), span, row),
         )
     }
 

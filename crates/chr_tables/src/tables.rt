@@ -35,6 +35,17 @@ impl Rows for Tables {
         self.tables[table].next(index, key, span, row)
     }
 
+    fn at_or_below(
+        &mut self,
+        table: usize,
+        index: usize,
+        key: &[i64],
+        span: &Span,
+        row: usize,
+    ) -> Option<usize> {
+        self.tables[table].at_or_below(index, key, span, row)
+    }
+
     fn atom(&self, table: usize, row: usize) -> Atom {
         self.tables[table].atom(row)
     }

@@ -1,5 +1,5 @@
 -- Atoms at rest in tables, and the plans by which they are found.
-use Rattle.std.specs.Prelude.{◌≡◌, ℕ, ◌+◌, ◌^◌, ◌<◌, List, length, map, get_or, Some, slice_get}
+use Rattle.std.specs.Prelude.{◌≡◌, ℕ, ◌+◌, ◌^◌, ◌<◌, List, [], ◌∷◌, ◌++◌, length, map, get_or, Option, Some, None, slice_get, ⊤}
 use Rattle.chr_base.specs.declared.atom.Atom.{Atom}
 use Rattle.chr_base.specs.declared.rule.Rule.{Rule}
 use Rattle.chr_base.specs.Rules.{Step, heads_of}
@@ -7,10 +7,12 @@ use Rattle.chr_base.specs.Rewriting.{IsAtRest}
 use Rattle.chr_base.specs.Stores.{Store}
 use Rattle.chr_plans.specs.declared.plan.Lookup.{Lookup}
 use Rattle.chr_plans.specs.declared.plan.Plan.{Plan}
+use Rattle.chr_plans.specs.declared.react.Standing.{Standing}
 use Rattle.chr_plans.specs.declared.rows.Seat.{Seat}
 use Rattle.chr_plans.specs.Rows.{Tables, Columns}
 use Rattle.chr_plans.specs.Plans.{IsPlan, pattern_at, partners_of}
 use Rattle.chr_plans.specs.Plans as plan
+use Rattle.chr_plans.specs.Reactions.{MayResume}
 use Rattle.chr_plans.specs.Seats.{IsSeated, head}
 use Rattle.chr_tables.specs.Contents.{Contents, rows_of, index_columns}
 use Rattle.chr_actives.specs.Grids.{Grid, contents}
@@ -81,3 +83,18 @@ pub record IsReacting (r : Rested) (a : Atom) (o : Occurrence) (heads : List Ato
   pub within : o.place < length (heads_of rule)
   pub seated : IsSeated rule (rows_of r.tables.tables.items) o.place heads seats
   pub active : head heads o.place ≡ a
+
+-- the search for partners of the atom may go on there, by the plans of its group
+abbrev pub MayGoOn : Rested → Atom → Standing → Type 0
+MayGoOn r a s =
+    (g : Group) → slice_get r.groups.items (table_of_atom r.groups.items a) ≡ Some g
+    → MayResume r.rules.items (rows_of r.tables.tables.items) a g.plans.items s
+
+-- the search for partners of the last fresh atom may go on there
+abbrev pub Stands : Rested → List Atom → Option Standing → Type 0
+Stands r fresh None = ⊤
+Stands r fresh (Some s) = (xs : List Atom) (a : Atom) → fresh ≡ xs ++ a ∷ [] → MayGoOn r a s
+
+-- what every pool keeps
+abbrev pub IsPool : Rested → List Atom → Option Standing → Type 0
+IsPool r fresh standing = IsRested r × Stands r fresh standing

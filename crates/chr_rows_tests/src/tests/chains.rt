@@ -69,6 +69,49 @@ fn goes_on_below_a_row(rt: HostRuntime) {
     assert!(rt; second(&mut index, 8) == None);
 }
 
+fn at_or_below(index: &mut Index, hash: u32, row: u32) -> Option<u32> {
+    index.at_or_below(hash, row)
+}
+
+/// A hash, a row, and the newest row with the hash at that row or below it.
+const AT_OR_BELOW: [(u32, u32, Option<u32>); 9] = [
+    (7, 4, Some(4)),
+    (7, 3, Some(2)),
+    (7, 1, Some(0)),
+    (7, 5, Some(4)),
+    (7, 100, Some(4)),
+    (8, 4, None),
+    (23, 0, None),
+    (39, u32::MAX, Some(3)),
+    (55, 5, None),
+];
+
+#[test]
+fn goes_on_at_a_row(rt: HostRuntime) {
+    let mut index = index(&rt, rt.alloc(), &HASHES);
+    for (hash, row, found) in AT_OR_BELOW {
+        assert!(rt;
+            at_or_below(&mut index, hash, row) == found,
+            "{hash} at {row}"
+        );
+    }
+}
+
+#[test]
+fn goes_on_at_a_dead_row(rt: HostRuntime) {
+    let mut index = index(&rt, rt.alloc(), &HASHES);
+    for (dead, left) in [(4, Some(2)), (2, Some(0)), (0, None)] {
+        kill(&rt, &mut index, dead);
+        for row in [4, 5] {
+            assert!(rt;
+                at_or_below(&mut index, 7, row) == left,
+                "{row} after {dead}"
+            );
+        }
+    }
+    assert!(rt; at_or_below(&mut index, 23, 4) == Some(1));
+}
+
 /// A thousand rows of one hash, and one more row of another.
 fn grown(rt: &impl Abort, alloc: Global) -> Index {
     let mut index = index_of(alloc, &[5; 1000]).expect(rt, "memory");

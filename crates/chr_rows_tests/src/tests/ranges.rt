@@ -96,6 +96,41 @@ fn finds_the_newest_row_in_range(rt: HostRuntime) {
     }
 }
 
+/// A hash, the least of a range, a row, and the newest row there at that row or below it.
+type From = (u32, i64, u32, Option<u32>);
+
+fn expect_at_or_below(rt: &impl Abort, index: &mut Index, rows: &[From])
+    ensures { index.new ≡ index.old }
+{
+    for (hash, least, row, found) in rows {
+        let next = index.at_or_below(*hash, &at_least(*least), *row);
+        assert!(rt; next == *found, "{hash} from {least} at {row}");
+    }
+}
+
+const AT_OR_BELOW: [From; 9] = [
+    (7, 4, 5, Some(3)),
+    (7, 4, 3, Some(3)),
+    (7, 4, 2, Some(0)),
+    (7, 9, 6, None),
+    (7, 0, 4, Some(3)),
+    (7, 0, u32::MAX, Some(5)),
+    (7, 0, 1, Some(0)),
+    (23, 0, 6, Some(1)),
+    (23, 0, 0, None),
+];
+
+const AT_OR_BELOW_DEAD: [From; 3] = [(7, 0, 5, Some(2)), (7, 4, 3, Some(0)), (7, 0, 3, Some(2))];
+
+#[test]
+fn goes_on_at_a_row(rt: HostRuntime) {
+    let mut index = index(&rt, rt.alloc(), &ROWS);
+    expect_at_or_below(&rt, &mut index, &AT_OR_BELOW);
+    kill(&mut index, 3);
+    kill(&mut index, 5);
+    expect_at_or_below(&rt, &mut index, &AT_OR_BELOW_DEAD);
+}
+
 #[test]
 fn ranges_are_made_by_their_ends(rt: HostRuntime) {
     let mut index = index(&rt, rt.alloc(), &ROWS);

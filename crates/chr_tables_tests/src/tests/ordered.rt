@@ -182,6 +182,63 @@ fn as_by_a_plain_scan_while_slots_grow_and_rows_die(rt: HostRuntime) {
     compare_all(&rt, &mut table, &entries);
 }
 
+/// What a look-up meets at each row or below it, also at the one past the last, is what the scan gives.
+fn compare_from(
+    rt: &impl Abort,
+    table: &mut Table,
+    entries: &[Entry],
+    index: usize,
+    key: &[i64],
+    range: Range,
+)
+    requires { index < length table.old.keys }
+    ensures { table.new ≡ table.old }
+{
+    let span = Span {
+        column: ORDER,
+        range,
+    };
+    for row in 0..entries.len() + 1 {
+        let wanted = newest_below(entries, row + 1, key, range);
+        let found = table.at_or_below(index, key, &span, row);
+        assert!(rt; found == wanted, "at {row} by {range:?}");
+    }
+}
+
+/// Some ranges.
+const RANGES: [(Option<i64>, Option<i64>); 5] = [
+    (None, None),
+    (Some(0), None),
+    (None, Some(-3)),
+    (Some(0), Some(5)),
+    (Some(6), Some(7)),
+];
+
+/// The same for these ranges, by each key and by none.
+fn compare_all_from(rt: &impl Abort, table: &mut Table, entries: &[Entry])
+    requires { length table.old.keys ≡ 2 }
+    ensures { table.new ≡ table.old }
+{
+    for (least, most) in RANGES {
+        let range = Range { least, most };
+        compare_from(rt, table, entries, 0, &[0], range);
+        compare_from(rt, table, entries, 0, &[1], range);
+        compare_from(rt, table, entries, 0, &[2], range);
+        compare_from(rt, table, entries, 1, &[], range);
+    }
+}
+
+#[test]
+fn goes_on_at_each_row(rt: HostRuntime) {
+    let alloc = rt.alloc();
+    let mut entries = live_entries(&rt, alloc, 40);
+    let mut table = empty_table(&rt, alloc);
+    add(&rt, &mut table, &entries);
+    compare_all_from(&rt, &mut table, &entries);
+    kill_some(&mut table, &mut entries);
+    compare_all_from(&rt, &mut table, &entries);
+}
+
 /// The table of live rows with these values and one key.
 fn table_of(rt: &impl Abort, alloc: Global, values: &[i64]) -> Table
     ensures { length result.keys ≡ 2 }

@@ -151,6 +151,7 @@ fn finds_partners(
         rule,
         place,
         &setting.lookups,
+        None,
         active,
         &mut heads,
         &mut seats,
@@ -187,7 +188,15 @@ fn reacts_at(
     }];
     let mut heads = ArrayVec::new();
     let mut seats = ArrayVec::new();
-    let plan = react(&mut tables, &rules, &plans, active, &mut heads, &mut seats);
+    let plan = react(
+        &mut tables,
+        &rules,
+        &plans,
+        None,
+        active,
+        &mut heads,
+        &mut seats,
+    );
     Ok(plan == Some(0))
 }
 

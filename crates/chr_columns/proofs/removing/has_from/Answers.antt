@@ -1,4 +1,4 @@
-use Rattle.std.proofs.Common.{refl, sym, ◌∙◌}
+use Rattle.std.proofs.Common.{sym, ◌∙◌}
 use Rattle.chr_columns.proofs.OffEnd.{one_more}
 use Rattle.chr_columns.proofs.removing.has_from.Goals as goal
 

@@ -6,7 +6,7 @@ use Rattle.chr_plans.specs.Seats.{seat}
 use Rattle.chr_plans.specs.working.Searching.{looked_in}
 use Rattle.chr_base.proofs.Instances.{heads_few}
 use Rattle.chr_plans.proofs.Places.{places_take, partners_len}
-use Rattle.chr_plans.proofs.Searches.{IsWanted, bound, below_first, below_next, newest_first, none_first, newest_next, none_next, place_within, past_first, past_next, not_passed, not_taken, not_found, seated_all, none_all, started_more, same_deeper}
+use Rattle.chr_plans.proofs.Searches.{IsWanted, bound, below_found, below_next, newest_next, none_next, place_within, past_begun, past_found, seat_found, past_next, not_passed, not_taken, not_found, seated_all, none_all, started_more, same_deeper}
 use Rattle.chr_plans.proofs.search.+complete.Goals.{then-not-is_taken+else-complete, else-not-is_taken}
 use Rattle.chr_plans.proofs.search.+complete.Goals as goal
 
@@ -28,16 +28,15 @@ loop-next-init g t c =
     let n : c.args.done < length c.args.lookups.now = (let a = c.requires.done in let b = c.if-done-lookups.false in omega (arith, a, b)) in
     let key : c.deref.result.now ≡ map (λ k. source_value c.args.heads.now k.source) c.index-lookups-done.result.partner.key.items = c.deref.ensures.0 ∙ c.key_values-key.ensures in
     record {
-      rows = c.first-next.ensures.rows;
-      columns = c.first-next.ensures.columns;
-      tables = c.first-next.ensures.tables;
+      rows = c.newest_from-next.ensures.rows;
+      columns = c.newest_from-next.ensures.columns;
+      tables = c.newest_from-next.ensures.tables;
       heads = c.requires.heads;
       seats = c.requires.seats;
       same = λ k b. (refl, refl);
-      met = rw (← key) c.first-next.ensures.met;
-      past = past_first c.args.rule.now c.args.active c.args.lookups.now c.args.done c.index-lookups-done.result _ (g.R.Rows.columns c.args.rows.now) c.args.heads.now c.args.seats.now c.requires.plan c.requires.fits n (sym c.index-lookups-done.is) c.span_of-span.result (bound c.first-next.result) c.span_of-span.ensures.all
-          (below_first (λ q. IsWanted (g.R.Rows.columns c.args.rows.now c.index-lookups-done.result.table c.index-lookups-done.result.index) (map (λ k. source_value c.args.heads.now k.source) c.index-lookups-done.result.partner.key.items) c.span_of-span.result (g.R.Rows.rows c.args.rows.now c.index-lookups-done.result.table q)) c.first-next.result
-          (newest_first _ _ c.first-next.result (rw (← key) c.first-next.ensures.newest)) (none_first _ _ c.first-next.result (rw (← key) c.first-next.ensures.none)));
+      met = rw (← key) c.newest_from-next.ensures.met;
+      past = past_begun c.args.rule.now c.args.active c.args.lookups.now c.args.done c.index-lookups-done.result _ (g.R.Rows.columns c.args.rows.now) c.args.heads.now c.args.seats.now c.requires.plan c.requires.fits n (sym c.index-lookups-done.is) c.span_of-span.result c.args.from c.newest_from-next.result c.span_of-span.ensures.all c.requires.passed
+          (below_found _ _ _ c.newest_from-next.result (rw (← key) c.newest_from-next.ensures.newest) (rw (← key) c.newest_from-next.ensures.none));
     }
 
 pub is_taken-requires-clause-places : goal.is_taken-requires-clause-places
@@ -98,9 +97,12 @@ complete-requires g t c κs within =
                 length-set c.loop-next.heads _ _ ∙ h,
                 (
                   length-set c.loop-next.seats _ _ ∙ s,
-                  rw c.loop-next.invariant.rows (started_more c.args.rule.now _ c.args.active c.args.lookups.now c.args.done c.index-lookups-done.result c.args.heads.now c.loop-next.heads c.args.seats.now c.loop-next.seats c.atom.result _ c.requires.plan n here
-                      (omega (arith, w, h)) (omega (arith, w, s)) c.requires.started c.loop-next.invariant.same (rw c.loop-next.invariant.rows at c.atom.ensures)
-                      (λ j g2 e. c.if-not-is_taken.ensures.free j (omega (arith, g2, many)) (ap (seat c.loop-next.seats) (places_take c.args.lookups.now c.args.done j g2) ∙ e))),
+                  (
+                    rw c.loop-next.invariant.rows (started_more c.args.rule.now _ c.args.active c.args.lookups.now c.args.done c.index-lookups-done.result c.args.heads.now c.loop-next.heads c.args.seats.now c.loop-next.seats c.atom.result _ c.requires.plan n here
+                        (omega (arith, w, h)) (omega (arith, w, s)) c.requires.started c.loop-next.invariant.same (rw c.loop-next.invariant.rows at c.atom.ensures)
+                        (λ j g2 e. c.if-not-is_taken.ensures.free j (omega (arith, g2, many)) (ap (seat c.loop-next.seats) (places_take c.args.lookups.now c.args.done j g2) ∙ e))),
+                    tt,
+                  ),
                 ),
               ),
             ),
@@ -113,6 +115,16 @@ pub returns-then-complete-clause-same : goal.returns-then-complete-clause-same
 returns-then-complete-clause-same g t c =
     let n : c.args.done < length c.args.lookups.now = (let a = c.requires.done in let b = c.if-done-lookups.false in omega (arith, a, b)) in
     same_deeper c.args.rule.now c.args.active c.args.lookups.now c.args.done c.index-lookups-done.result c.args.heads.now c.loop-next.heads _ c.args.seats.now c.loop-next.seats _ _ _ c.requires.plan n (sym c.index-lookups-done.is) c.loop-next.invariant.same c.complete.ensures.same
+
+pub returns-then-complete-clause-passed : goal.returns-then-complete-clause-passed
+returns-then-complete-clause-passed g t c =
+    let n : c.args.done < length c.args.lookups.now = (let a = c.requires.done in let b = c.if-done-lookups.false in omega (arith, a, b)) in
+    let here = sym c.index-lookups-done.is in
+    let w = place_within c.args.rule.now c.args.active c.args.lookups.now c.args.done c.index-lookups-done.result _ (g.R.Rows.columns c.args.rows.now) c.args.heads.now c.args.seats.now c.requires.plan c.requires.fits n here in
+    let s = c.loop-next.invariant.seats in
+    past_found c.args.rule.now c.args.active c.args.lookups.now c.args.done c.index-lookups-done.result _ (g.R.Rows.columns c.args.rows.now) c.args.heads.now c.args.seats.now c.requires.plan c.requires.fits n here _ c.in-Some.row
+    (rw c.in-Some.is at c.loop-next.invariant.past)
+    (ap (λ x. x.row) (seat_found c.args.rule.now c.args.active c.args.lookups.now c.args.done c.index-lookups-done.result _ (g.R.Rows.columns c.args.rows.now) c.args.heads.now c.args.seats.now c.requires.plan c.requires.fits n here _ c.loop-next.heads _ c.loop-next.seats _ _ (omega (arith, w, s)) c.complete.ensures.same))
 
 pub loop-next-preserved : goal.loop-next-preserved
 loop-next-preserved g t c =

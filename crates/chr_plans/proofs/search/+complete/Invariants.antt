@@ -3,8 +3,8 @@ use Rattle.std.specs.Prelude.{IfSome}
 use Rattle.chr_base.specs.Rules.{heads_of}
 use Rattle.chr_plans.specs.Keys.{source_value}
 use Rattle.chr_plans.specs.Rows.{MayHaveKey}
-use Rattle.chr_plans.specs.working.Searching.{AgreeAtKnown, looked_in}
-use Rattle.chr_plans.proofs.Searches.{Past, bound}
+use Rattle.chr_plans.specs.working.Searching.{AgreeAtKnown, Past, looked_in}
+use Rattle.chr_plans.proofs.Searches.{bound}
 use Rattle.chr_plans.proofs.search.+complete.Given as goal
 
 abbrev pub decreases-complete : goal.decreases-complete

@@ -1,4 +1,4 @@
-use Rattle.std.proofs.Common.{◌≡◌, length, sym, ap, ◌∙◌, arith}
+use Rattle.std.proofs.Common.{length, ap, ◌∙◌, arith}
 use Rattle.chr_tables.specs.working.Indexes.{keyed_entries, ways_of}
 use Rattle.chr_tables.proofs.Lives.{length_ways}
 use Rattle.chr_tables.proofs.Compacting.{entered_more}

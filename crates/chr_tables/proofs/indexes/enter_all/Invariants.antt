@@ -1,4 +1,4 @@
-use Rattle.std.proofs.Common.{◌≡◌, length, map, take}
+use Rattle.std.proofs.Common.{◌≡◌, map, take}
 use Rattle.std.specs.Prelude.{Some}
 use Rattle.chr_tables.specs.working.Indexes.{keyed_entries, ways_of, rooms_of, AreIndexed}
 use Rattle.chr_tables.proofs.indexes.enter_all.Given as goal

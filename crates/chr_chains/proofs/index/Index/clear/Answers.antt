@@ -1,6 +1,5 @@
-use Rattle.std.proofs.Common.{◌≡◌, ◌≤◌, ap, arith, length, min, ℕ, vec_len}
+use Rattle.std.proofs.Common.{◌≡◌, ◌≤◌, ap, arith, length, min, ℕ}
 use Rattle.chr_chains.proofs.Rows.{as_many, length_entries, slots_len}
-use Rattle.std.specs.Prelude.{vec_capacity}
 use Rattle.chr_chains.proofs.index.Index.clear.Goals as goal
 
 least : (n x y z : ℕ) → n ≤ x → n ≤ y → n ≤ z → n ≤ min x (min y z)

@@ -11,6 +11,7 @@ use Rattle.chr_plans.specs.Seats.{IsSeated, head}
 use Rattle.chr_tables.specs.Contents.{rows_of}
 use Rattle.chr_columns.specs.working.Firing.{leaving}
 use Rattle.chr_columns.proofs.Firings.{rule_is, sit_there, sit_left, fired, left_over, part_left}
+use Rattle.chr_columns.proofs.Resuming.{only_died, stands_on}
 use Rattle.chr_columns.proofs.rested.Rested.fire.Goals as goal
 
 pub kill_all-requires : goal.kill_all-requires
@@ -60,4 +61,9 @@ returns-clause-step c q standing =
     let rule : q ≡ r = rule_is c.args.self.now.rules.items c.args.o.rule q r standing c.index-rule.ensures in
     subst (λ x. Step (x ∷ []) ((contents (grid ts) ⊕ store_of c.args.fresh.now.items) ⊕ one (head c.args.heads.now p)) (contents (grid us) ⊕ store_of c.put_fresh.new.fresh.items)) (sym rule)
     (fired (r ∷ []) 0 r p c.args.heads.now c.args.seats.now c.partner_rows-rows.result.items c.split_at.result.1.now ts refl place seated c.partner_rows-rows.ensures.sit back
-    us c.args.fresh.now.items c.put_fresh.new.fresh.items c.kill_all.ensures.rows c.put_fresh.ensures)
+    us c.args.fresh.now.items c.put_fresh.new.fresh.items c.kill_all.ensures.rows c.put_fresh.ensures.store)
+
+pub returns-clause-standing : goal.returns-clause-standing
+returns-clause-standing c =
+    stands_on c.args.self.now (record { rules = c.args.self.now.rules; groups = c.args.self.now.groups; tables = c.kill_all.new.tables }) c.put_fresh.new.fresh.items (head c.args.heads.now c.args.o.place) c.args.o.standing c.standing_of-standing.result _ c.standing_of-standing.ensures c.put_fresh.ensures.last
+    refl refl (only_died c.args.self.now.tables.tables.items c.kill_all.new.tables.tables.items c.split_at.result.1.now c.kill_all.ensures.rows) c.requires.standing

@@ -1,4 +1,4 @@
-use Rattle.std.proofs.Common.{ap, subst, ◌∙◌}
+use Rattle.std.proofs.Common.{sym, ap, subst, ◌∙◌}
 use Rattle.std.specs.Prelude.{Ok}
 use Rattle.chr_base.specs.FinBag.{◌⊕◌}
 use Rattle.chr_base.specs.Stores.{store_of}
@@ -6,6 +6,7 @@ use Rattle.chr_base.specs.Rules.{Step}
 use Rattle.chr_actives.specs.Actives.{one}
 use Rattle.chr_columns.specs.working.Resting.{stored}
 use Rattle.chr_columns.proofs.Firings.{popped, swap_sides}
+use Rattle.chr_columns.proofs.Resuming.{stood}
 use Rattle.chr_columns.proofs.rested.Rested.settle.Goals as goal
 
 pub returns-in-Ok-Fired-clause-fired : goal.returns-in-Ok-Fired-clause-fired
@@ -23,5 +24,10 @@ loop-fresh-preserved c =
     record {
       rested = c.take.ensures.rested;
       rules = c.take.ensures.rules ∙ c.loop-fresh.invariant.rules;
+      standing = c.take.ensures.standing;
       same = (λ i. c.take.ensures.joined is i ⊕ store_of (c.take.ensures.joined_same is i).items) ∙ swap_sides s (store_of c.pop.new.self.items) (one c.in-Some.active) ∙ e;
     }
+
+pub take-requires-clause-standing : goal.take-requires-clause-standing
+take-requires-clause-standing c =
+    stood c.loop-fresh.self c.loop-fresh.fresh.items c.pop.new.self.items c.in-Some.active c.loop-fresh.standing c.loop-fresh.invariant.standing (sym c.reserve.ensures.items ∙ c.in-Some.ensures.items)

@@ -1,13 +1,14 @@
 use Rattle.std.proofs.Common.{◌≡◌, vec_len}
 use Rattle.chr_base.specs.FinBag.{◌⊕◌}
 use Rattle.chr_base.specs.Stores.{store_of}
-use Rattle.chr_columns.specs.working.Resting.{stored, IsRested}
+use Rattle.chr_columns.specs.working.Resting.{stored, IsRested, Stands}
 use Rattle.chr_columns.proofs.rested.Rested.settle.Given as goal
 
 abbrev pub invariant-loop-fresh : goal.invariant-loop-fresh
 invariant-loop-fresh l = record {
   rested : IsRested l.self;
   rules : l.self.rules ≡ l.fn.self.rules;
+  standing : Stands l.self l.fresh.items l.standing;
   same : stored l.self ⊕ store_of l.fresh.items ≡ stored l.fn.self ⊕ store_of l.fn.fresh.items;
 }
 

@@ -9,7 +9,7 @@ use Rattle.chr_base.specs.Stores.{store_of}
 use Rattle.chr_plans.specs.Seats.{head}
 use Rattle.chr_actives.specs.Actives.{one}
 use Rattle.chr_columns.specs.working.Own.{IsRuleAt}
-use Rattle.chr_columns.specs.working.Resting.{stored, IsReacting}
+use Rattle.chr_columns.specs.working.Resting.{stored, IsReacting, MayGoOn}
 use Rattle.chr_columns.proofs.Firings.{rule_is}
 use Rattle.chr_columns.proofs.Owning.{carried_one}
 use Rattle.chr_columns.proofs.rested.Rested.take.Goals as goal
@@ -42,3 +42,8 @@ returns-clause-fired c _ =
     let step = carried_one c.args.rules.now n c.index.result.now _ _ (c.stands_at.ensures.0 c.if-not-stands_at.false) (c.fire.ensures.step c.index.result.now (found.at ∙ ap Some is)) in
     subst (λ x. Step c.args.rules.now ((stored c.args.self.now ⊕ f) ⊕ one x) t) a
     (subst (λ s. Step c.args.rules.now ((s ⊕ f) ⊕ one (head c.deref.result.now p)) t) c.react.ensures.stored step)
+
+pub fire-requires-clause-standing : goal.fire-requires-clause-standing
+fire-requires-clause-standing c =
+    let found = c.in-Some.ensures.found in
+    rw c.deref.ensures.0 (subst (λ a. MayGoOn c.react.new.self a c.in-Some.occurrence.standing) (sym found.active) c.in-Some.ensures.standing)

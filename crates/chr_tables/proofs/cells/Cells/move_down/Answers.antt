@@ -1,4 +1,4 @@
-use Rattle.std.proofs.Common.{◌≡◌, ◌<◌, length, get_or, set, ap, ◌∙◌, arith}
+use Rattle.std.proofs.Common.{◌<◌, length, get_or, set, ap, ◌∙◌, arith}
 use Rattle.chr_tables.proofs.InColumns.{length_atoms}
 use Rattle.chr_tables.proofs.Compacting.{atoms_moved}
 use Rattle.chr_tables.proofs.cells.Cells.move_down.Goals as goal

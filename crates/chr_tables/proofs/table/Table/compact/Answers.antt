@@ -1,8 +1,8 @@
-use Rattle.std.proofs.Common.{◌≡◌, ◌<◌, ◌^◌, ◌≤◌, ℕ, List, Bool, true, map, length, get_or, replicate, sym, ap, ◌∙◌, arith}
+use Rattle.std.proofs.Common.{◌≡◌, ℕ, List, Bool, true, map, length, get_or, replicate, sym, ap, ◌∙◌, arith}
 use Rattle.std.specs.Prelude.{Some, filter, is_some, vec_len}
 use Rattle.std.proofs.lemmas.List.{length-replicate, get_or-replicate}
 use Rattle.chr_base.specs.declared.atom.Atom.{Atom}
-use Rattle.chr_tables.specs.working.Indexes.{live, chosen, ways_of, keyed_entries, rooms_of, AreIndexed}
+use Rattle.chr_tables.specs.working.Indexes.{live, chosen, ways_of, keyed_entries}
 use Rattle.chr_tables.proofs.Lives.{length_live, length_ways, as_many}
 use Rattle.chr_tables.proofs.Walks.{put_back}
 use Rattle.chr_tables.proofs.Compacting.{chosen_most, chosen_rows, all_live}

@@ -1,4 +1,4 @@
-use Rattle.std.proofs.Common.{◌≡◌, ◌*◌, ◌≤◌, length, ap, ◌∙◌, arith}
+use Rattle.std.proofs.Common.{◌*◌, ◌≤◌, length, ap, ◌∙◌, arith}
 use Rattle.std.specs.Prelude.{filter, is_some, count_by}
 use Rattle.std.proofs.lemmas.Bool.{leb-true, OnTrue_from}
 use Rattle.std.proofs.lemmas.List.Sums.{length-filter}
