@@ -57,12 +57,12 @@ pub covered_none : (os : List Operation) → covered [] os ≡ []
 covered_none [] = refl
 covered_none (o ∷ os) = covered_none os
 
-filter_same : (p q : Operation → Bool) (os : List Operation) → AllByRecursion (λ o. p o ≡ q o) os → filter p os ≡ filter q os
+pub filter_same : (p q : Operation → Bool) (os : List Operation) → AllByRecursion (λ o. p o ≡ q o) os → filter p os ≡ filter q os
 filter_same p q [] h = refl
 filter_same p q (o ∷ os) h = ap (λ b. cond b (o ∷ filter p os) (filter p os)) h.0 ∙ ap (λ ys. cond (q o) (o ∷ ys) ys) (filter_same p q os h.1)
 
 -- what holds of the ids of a set holds of the ids of its entries
-each_id : (P : OpId → Type 0) (m : Operations) (os : List Operation) → ((id : OpId) → map.contains_key m id ≡ true → P id) → AllByRecursion (λ e. map.get m e.0 ≡ Some e.1) os → AllByRecursion (λ o. P o.0) os
+pub each_id : (P : OpId → Type 0) (m : Operations) (os : List Operation) → ((id : OpId) → map.contains_key m id ≡ true → P id) → AllByRecursion (λ e. map.get m e.0 ≡ Some e.1) os → AllByRecursion (λ o. P o.0) os
 each_id P m [] f h = tt
 each_id P m (o ∷ os) f h = (f o.0 (ap is_some h.0), each_id P m os f h.1)
 

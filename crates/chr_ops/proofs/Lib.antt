@@ -19,3 +19,5 @@ pub mod RangeJoins
 pub mod RangesLaid
 pub mod OneSummary
 pub mod RangesThere
+pub mod Newness
+pub mod NewsOfAll

@@ -3,4 +3,5 @@ pub mod Operations
 pub mod Joins
 pub mod Summaries
 pub mod Exchange
+pub mod News
 pub mod working

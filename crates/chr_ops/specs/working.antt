@@ -7,3 +7,4 @@ pub mod Merging
 pub mod Walks
 pub mod Outside
 pub mod Covering
+pub mod Gaining

@@ -1,14 +1,18 @@
 //! The operations that a summary does not cover.
-ghost use Rattle.std.specs.Prelude.{◌≡◌, ◌≤◌, ◌++◌, IfOk, OnOk};
+ghost use Rattle.std.specs.Prelude.{◌≡◌, ◌≤◌, ◌++◌, ◌&&◌, not, All, IfOk, OnOk};
 ghost use Rattle.std.specs.FinMap as map;
-ghost use Rattle.chr_ops.specs.Summaries.{lacking, CoversJust, IsApart};
+ghost use Rattle.chr_ops.specs.declared.id.OpId.{OpId as OpIdValue};
+ghost use Rattle.chr_ops.specs.News.{is_one_of, lacked_among};
+ghost use Rattle.chr_ops.specs.Summaries.{covers, lacking, CoversJust, IsApart};
 ghost use Rattle.chr_ops.specs.working.Kept.{AreOperationBags};
 ghost use Rattle.chr_ops.specs.working.Walks.{covered, within};
 
 use crate::entries::Entries;
+use crate::id::OpId;
 use crate::op::Op;
 use crate::outside::ranges_outside;
 use crate::range::IdRange;
+use crate::summary::Summary;
 use std::alloc::{AllocError, Global};
 
 /// Adds copies of the operations whose ids a range has, in the order of ids.
@@ -57,4 +61,38 @@ pub(crate) fn lacked(
 {
     let lacked = ranges_outside(alloc, ranges, others)?;
     copies(alloc, held, &lacked)
+}
+
+/// Those of these ids that a set does not hold, each as a range of its own.
+fn ranges_not_held(alloc: Global, held: &Entries, ids: &[OpId]) -> Result<Vec<IdRange>, AllocError>
+    ensures ranges { IfOk result (λ ranges. All (λ r. r.lo ≤ r.hi) ranges.items) }
+    ensures covers { IfOk result (λ ranges. (id : OpIdValue) → covers ranges.items id
+        ≡ (is_one_of ids.now id && not (map.contains_key held.now id))) }
+{
+    let mut ranges = Vec::new(alloc);
+    for id in ids {
+        if held.get(*id).is_none() {
+            ranges.push(IdRange {
+                origin: id.origin,
+                lo: id.number,
+                hi: id.number,
+            })?;
+        }
+    }
+    Ok(ranges)
+}
+
+/// Copies of the operations of a set whose ids are among these and which another one lacks, in the order of ids. It costs
+/// look-ups for these ids, and what is copied.
+pub(crate) fn lacked_of(
+    alloc: Global,
+    held: &Entries,
+    other: &Entries,
+    ids: &[OpId],
+) -> Result<Vec<Op>, AllocError>
+    requires { AreOperationBags held.now }
+    ensures { IfOk result (λ ops. ops.items ≡ lacked_among held.now other.now ids.now) }
+{
+    let wanted = Summary::of(ranges_not_held(alloc, other, ids)?)?;
+    copies(alloc, held, wanted.ranges())
 }

@@ -1,10 +1,12 @@
 //! Operation sets.
-ghost use Rattle.std.specs.Prelude.{◌≡◌, ◌+◌, ◌<◌, ◌≤◌, ◌↔◌, IfOk, IsErrOf, OnOk, OnErr, Ok, option_copied};
+ghost use Rattle.std.specs.Prelude.{◌≡◌, ◌+◌, ◌<◌, ◌≤◌, ◌↔◌, IfOk, IsErrOf, List, OnOk, OnErr, Ok, option_copied};
 ghost use Rattle.std.specs.FinMap as map;
 ghost use Rattle.chr_base.specs.FinBag.{◌⊕◌};
 ghost use Rattle.chr_base.specs.Stores.{size};
 ghost use Rattle.chr_base.specs.Values.{HasValues};
 ghost use Rattle.chr_ops.specs.declared.id.OpId.{OpId as OpIdValue};
+ghost use Rattle.chr_ops.specs.declared.range.IdRange.{IdRange as IdRangeValue};
+ghost use Rattle.chr_ops.specs.News.{lacked_among, LacksOnly};
 ghost use Rattle.chr_ops.specs.Operations.{told_store, told_atoms, sum_of, IsNew, IsHeld, IsHeldOtherwise};
 ghost use Rattle.chr_ops.specs.Joins.{union, fresh, HasNoClash, IsFirstClash, IsOverLimit};
 ghost use Rattle.chr_ops.specs.Summaries.{CoversJust, lacking};
@@ -15,7 +17,7 @@ use crate::fault::{AddFault, Added};
 use crate::fresh::fresh_atoms;
 use crate::id::OpId;
 use crate::joining::{take_in_covered, withdraw};
-use crate::lacking::lacked;
+use crate::lacking::{lacked, lacked_of};
 use crate::limits::MAX_TOLD;
 use crate::op::Op;
 use crate::summary::Summary;
@@ -173,6 +175,22 @@ impl OpSet {
     {
         let ranges = self.covered.ranges(alloc)?;
         lacked(alloc, &self.held, &ranges, summary.ranges())
+    }
+
+    /// Copies of the operations whose ids are among these and which another set lacks, in the order of ids. Where it lacks
+    /// no others, that is what `lacks` gives by a summary of just its ids. It costs look-ups for these ids, and what is
+    /// copied, however many ranges are held.
+    pub fn lacked_among(
+        &self,
+        alloc: Global,
+        other: &OpSet,
+        ids: &[OpId],
+    ) -> Result<Vec<Op>, AllocError>
+        ensures among { IfOk result (λ ops. ops.items ≡ lacked_among self.now other.now ids.now) }
+        ensures all { IfOk result (λ ops. LacksOnly self.now other.now ids.now → (summary : List IdRangeValue)
+            → CoversJust summary other.now → ops.items ≡ lacking self.now summary) }
+    {
+        lacked_of(alloc, &self.held, &other.held, ids)
     }
 
     /// The atoms of those of a list's operations that are new to the set, each operation once: what a join of the list

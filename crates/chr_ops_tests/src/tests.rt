@@ -1,2 +1,3 @@
 mod exchange;
+mod news;
 mod sets;

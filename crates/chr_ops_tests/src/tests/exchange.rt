@@ -7,7 +7,7 @@ use std::process::Abort;
 
 const GREATEST: u64 = 18_446_744_073_709_551_615;
 
-fn id(origin: u32, number: u64) -> OpId {
+pub(super) fn id(origin: u32, number: u64) -> OpId {
     OpId { origin, number }
 }
 
@@ -16,7 +16,7 @@ fn range(origin: u32, lo: u64, hi: u64) -> IdRange {
 }
 
 /// An operation of one atom.
-fn op(rt: &impl Abort, alloc: Global, id: OpId) -> Op {
+pub(super) fn op(rt: &impl Abort, alloc: Global, id: OpId) -> Op {
     let mut bag = Bag::new(alloc);
     let atom = Atom {
         symbol: SymbolId(0),
@@ -186,7 +186,7 @@ fn what_is_lacked_is_of_its_origin(rt: HostRuntime) {
 }
 
 /// The next of some numbers that jump about.
-fn jumped(number: u64) -> u64 {
+pub(super) fn jumped(number: u64) -> u64 {
     number
         .wrapping_mul(6_364_136_223_846_793_005)
         .wrapping_add(1_442_695_040_888_963_407)
