@@ -14,9 +14,6 @@ use crate::weave::{SortLists, weave};
 use chr_types::{AllLists, LimitedCount, Visit, has_more_types, visit_types};
 use std::alloc::{AllocError, Global};
 
-#[cfg(test)]
-mod tests;
-
 /// How many of the classes are of the sort.
 fn count_of(classes: &[usize], sort: usize) -> usize
     ensures count { result ≡ sort_count sort classes.now }

@@ -1,146 +1,155 @@
 //! Boards are told operations, merge those of others, and take named steps.
-use crate::tests::boards::{opened, settles, step_refusal, tell, told};
-use crate::tests::texts::{COINS, MINIMUM, op};
+use crate::tests::boards::{grow, opened, settles, tells, told};
+use crate::tests::texts::{op, step};
 use chr_ops::{Added, Op, OpId};
 use chr_replica::{Board, Refusal};
+use chr_testing::texts::{COINS, MINIMUM};
 use std::alloc::Global;
 use std::process::Abort;
 use std::thread::Threads;
 
+/// A board that was told 5 answers so to an operation, and stays as it is.
+fn answers(
+    rt: &(impl Abort + Threads + Sync),
+    alloc: Global,
+    op: Op,
+    expected: Result<Added, Refusal>,
+) {
+    let mut board = told(rt, alloc, MINIMUM, "min(5)");
+    assert!(rt; tells(alloc, &mut board, op, expected));
+    settles(rt, alloc, &mut board, 0, "min(5)");
+}
+
 #[test]
 fn repeats_are_told_again(rt: HostRuntime) {
     let alloc = rt.alloc();
-    let mut board = told(&rt, alloc, MINIMUM, "min(5)");
-    assert_eq!(rt;
-        tell(&rt, alloc, &mut board, MINIMUM, 1, "min(5)"),
-        Ok(Added::Again)
-    );
-    assert!(rt; settles(&rt, alloc, &mut board, 0, "min(5)"));
+    let again = op(&rt, alloc, MINIMUM, 1, "min(5)");
+    answers(&rt, alloc, again, Ok(Added::Again));
 }
 
 #[test]
 fn symbols_of_other_programs_are_not_told(rt: HostRuntime) {
     let alloc = rt.alloc();
-    let mut board = told(&rt, alloc, MINIMUM, "min(5)");
-    assert_eq!(rt;
-        tell(&rt, alloc, &mut board, COINS, 3, "note"),
-        Err(Refusal::UnknownSymbol)
-    );
-    assert!(rt; settles(&rt, alloc, &mut board, 0, "min(5)"));
+    let unknown = op(&rt, alloc, COINS, 3, "note");
+    answers(&rt, alloc, unknown, Err(Refusal::UnknownSymbol));
 }
 
-/// What the board answers to two operations that it is to merge at once.
-fn merge_two(
-    rt: &impl Abort,
-    alloc: Global,
-    board: &mut Board,
-    first: Op,
-    second: Op,
-) -> Result<u64, Refusal> {
-    let Ok(ops) = vec![in alloc; first, second] else {
-        panic!(rt; "out of memory");
-    };
-    board.merge(alloc, &ops)
+/// The program, number and atoms of an operation.
+type Row = (&'static str, u64, &'static str);
+
+fn ops(rt: &impl Abort, alloc: Global, rows: &[Row]) -> Vec<Op> {
+    let mut ops = Vec::new(alloc);
+    for (program, number, atoms) in rows {
+        let op = op(rt, alloc, program, *number, atoms);
+        ops.push(op).expect(rt, "memory");
+    }
+    ops
 }
+
+/// Whether the board answers so to operations that it is to merge at once.
+fn merges(alloc: Global, board: &mut Board, ops: &[Op], expected: Result<u64, Refusal>) -> bool {
+    board.merge(alloc, ops) == expected
+}
+
+/// A board that was told 5 refuses these operations so, and stays as it is.
+fn refuses(rt: &(impl Abort + Threads + Sync), alloc: Global, rows: &[Row], expected: Refusal) {
+    let mut board = told(rt, alloc, MINIMUM, "min(5)");
+    let ops = ops(rt, alloc, rows);
+    assert!(rt; merges(alloc, &mut board, &ops, Err(expected)));
+    settles(rt, alloc, &mut board, 0, "min(5)");
+}
+
+/// A new operation, and one whose id stands for another bag.
+const CLASH: [Row; 2] = [(MINIMUM, 2, "min(1)"), (MINIMUM, 1, "min(6)")];
 
 #[test]
 fn merges_with_a_clash_change_nothing(rt: HostRuntime) {
-    let alloc = rt.alloc();
-    let mut board = told(&rt, alloc, MINIMUM, "min(5)");
-    let new = op(&rt, alloc, MINIMUM, 2, "min(1)");
-    let other = op(&rt, alloc, MINIMUM, 1, "min(6)");
     let id = OpId {
         origin: 1,
         number: 1,
     };
-    let answer = merge_two(&rt, alloc, &mut board, new, other);
-    assert_eq!(rt; answer, Err(Refusal::Clash(id)));
-    assert!(rt; settles(&rt, alloc, &mut board, 0, "min(5)"));
+    refuses(&rt, rt.alloc(), &CLASH, Refusal::Clash(id));
 }
+
+/// An operation whose id stands for another bag, and one of another program.
+const CLASH_AND_UNKNOWN: [Row; 2] = [(MINIMUM, 1, "min(6)"), (COINS, 3, "note")];
 
 #[test]
 fn an_unknown_symbol_comes_before_a_clash(rt: HostRuntime) {
-    let alloc = rt.alloc();
-    let mut board = told(&rt, alloc, MINIMUM, "min(5)");
-    let other = op(&rt, alloc, MINIMUM, 1, "min(6)");
-    let unknown = op(&rt, alloc, COINS, 3, "note");
-    let answer = merge_two(&rt, alloc, &mut board, other, unknown);
-    assert_eq!(rt; answer, Err(Refusal::UnknownSymbol));
-    assert!(rt; settles(&rt, alloc, &mut board, 0, "min(5)"));
+    refuses(&rt, rt.alloc(), &CLASH_AND_UNKNOWN, Refusal::UnknownSymbol);
 }
 
 /// A new operation, one that is held, and the new one again.
-fn one_new(rt: &impl Abort, alloc: Global) -> Vec<Op> {
-    let new = op(rt, alloc, MINIMUM, 2, "min(1)");
-    let held = op(rt, alloc, MINIMUM, 1, "min(5)");
-    let again = op(rt, alloc, MINIMUM, 2, "min(1)");
-    let Ok(ops) = vec![in alloc; new, held, again] else {
-        panic!(rt; "out of memory");
-    };
-    ops
-}
+const ONE_NEW: [Row; 3] = [
+    (MINIMUM, 2, "min(1)"),
+    (MINIMUM, 1, "min(5)"),
+    (MINIMUM, 2, "min(1)"),
+];
 
 #[test]
 fn merges_are_counted(rt: HostRuntime) {
     let alloc = rt.alloc();
     let mut board = told(&rt, alloc, MINIMUM, "min(5)");
-    let ops = one_new(&rt, alloc);
-    assert_eq!(rt; board.merge(alloc, &ops), Ok(1));
-    assert_eq!(rt; board.merge(alloc, &ops), Ok(0));
-    assert!(rt; settles(&rt, alloc, &mut board, 1, "min(1)"));
+    let ops = ops(&rt, alloc, &ONE_NEW);
+    for new in [1, 0] {
+        assert!(rt; merges(alloc, &mut board, &ops, Ok(new)), "{new}");
+    }
+    settles(&rt, alloc, &mut board, 1, "min(1)");
 }
 
-/// Why the board doesn't take the first rule's step on these heads.
-fn refusal(rt: &impl Abort, alloc: Global, board: &mut Board, on: &str) -> Option<Refusal> {
-    step_refusal(rt, alloc, board, MINIMUM, 1, on)
+/// Heads of the first rule, in place order, and why the step on them is refused, in turn.
+const STEPS: [(&str, Option<Refusal>); 3] = [
+    ("min(9), min(5)", Some(Refusal::NotThere)),
+    ("min(5), min(9)", None),
+    ("min(5), min(9)", Some(Refusal::NotThere)),
+];
+
+/// Whether the board answers so to the first rule's step on these heads.
+fn steps(
+    rt: &impl Abort,
+    alloc: Global,
+    board: &mut Board,
+    on: &str,
+    expected: Option<Refusal>,
+) -> bool {
+    let step = step(rt, alloc, MINIMUM, 1, on);
+    board.step(&step).err() == expected
 }
 
 #[test]
 fn named_steps_are_taken(rt: HostRuntime) {
     let alloc = rt.alloc();
     let mut board = told(&rt, alloc, MINIMUM, "min(5), min(3), min(9)");
-    let not_there = Some(Refusal::NotThere);
-    assert_eq!(rt;
-        refusal(&rt, alloc, &mut board, "min(9), min(5)"),
-        not_there
-    );
-    assert_eq!(rt; refusal(&rt, alloc, &mut board, "min(5), min(9)"), None);
-    assert_eq!(rt;
-        refusal(&rt, alloc, &mut board, "min(5), min(9)"),
-        not_there
-    );
-    assert!(rt; settles(&rt, alloc, &mut board, 1, "min(3)"));
+    for (on, expected) in STEPS {
+        assert!(rt; steps(&rt, alloc, &mut board, on, expected), "{on}");
+    }
+    settles(&rt, alloc, &mut board, 1, "min(3)");
 }
 
 /// What the other board lacks of this one's operations.
 fn lacked(rt: &impl Abort, alloc: Global, from: &Board, to: &Board) -> Vec<Op> {
-    let Ok(summary) = to.summary(alloc) else {
-        panic!(rt; "out of memory");
-    };
-    let Ok(lacked) = from.lacks(alloc, &summary) else {
-        panic!(rt; "out of memory");
-    };
-    lacked
+    let summary = to.summary(alloc).expect(rt, "memory");
+    from.lacks(alloc, &summary).expect(rt, "memory")
 }
 
-/// Merges what the other board lacks of this one's operations into it, and answers how many they are.
-pub fn sync(rt: &impl Abort, alloc: Global, from: &Board, to: &mut Board) -> u64 {
+/// Merges what the other board lacks of this one's operations into it. So many are new to it.
+fn sync(rt: &impl Abort, alloc: Global, from: &Board, to: &mut Board, new: u64) {
     let lacked = lacked(rt, alloc, from, to);
-    let Ok(new) = to.merge(alloc, &lacked) else {
-        panic!(rt; "not merged");
-    };
-    new
+    assert!(rt; merges(alloc, to, &lacked, Ok(new)), "{new}");
 }
 
 /// A board that was told two operations with numbers 2 and 3, of three atoms together.
 fn told_two(rt: &(impl Abort + Threads + Sync), alloc: Global) -> Board {
     let mut board = opened(rt, alloc, MINIMUM);
-    let first = tell(rt, alloc, &mut board, MINIMUM, 2, "min(4)");
-    let second = tell(rt, alloc, &mut board, MINIMUM, 3, "min(3), min(8)");
-    if first != Ok(Added::New) || second != Ok(Added::New) {
-        panic!(rt; "not told");
-    }
+    grow(rt, alloc, &mut board, MINIMUM, 2, "min(4)");
+    grow(rt, alloc, &mut board, MINIMUM, 3, "min(3), min(8)");
     board
+}
+
+/// The board was told four atoms, and shows the least after three steps.
+fn comes_to_the_least(rt: &impl Abort, alloc: Global, board: &mut Board) {
+    assert!(rt; board.ops().told() == 4);
+    settles(rt, alloc, board, 3, "min(3)");
 }
 
 #[test]
@@ -148,11 +157,9 @@ fn boards_that_exchanged_all_show_the_same(rt: HostRuntime) {
     let alloc = rt.alloc();
     let mut left = told(&rt, alloc, MINIMUM, "min(5)");
     let mut right = told_two(&rt, alloc);
-    assert_eq!(rt; sync(&rt, alloc, &left, &mut right), 1);
-    assert_eq!(rt; sync(&rt, alloc, &right, &mut left), 2);
-    assert_eq!(rt; sync(&rt, alloc, &left, &mut right), 0);
-    assert_eq!(rt; left.ops().told(), 4);
-    assert_eq!(rt; right.ops().told(), 4);
-    assert!(rt; settles(&rt, alloc, &mut left, 3, "min(3)"));
-    assert!(rt; settles(&rt, alloc, &mut right, 3, "min(3)"));
+    sync(&rt, alloc, &left, &mut right, 1);
+    sync(&rt, alloc, &right, &mut left, 2);
+    sync(&rt, alloc, &left, &mut right, 0);
+    comes_to_the_least(&rt, alloc, &mut left);
+    comes_to_the_least(&rt, alloc, &mut right);
 }

@@ -1,61 +1,155 @@
 //! Boards lease parts out, and take back what comes of them or the parts as they are.
-use crate::tests::boards::{
-    put_refusal, rested_of, settles, show_refusal, take_refusal, taken, told,
-};
-use crate::tests::texts::{COINS, MINIMUM, store};
+use crate::tests::boards::{settles, told};
+use crate::tests::texts::store;
 use chr_base::bag::Bag;
 use chr_base::limits::MAX_PARTS;
 use chr_join::{Done, Lease};
 use chr_replica::{Board, Refusal};
+use chr_testing::texts::{COINS, MINIMUM};
 use std::alloc::Global;
 use std::process::Abort;
+
+/// What a board is asked.
+#[derive(Clone, Copy)]
+enum Call {
+    /// To lease these atoms out under this number. What comes of them is kept.
+    Take(u64, &'static str),
+    /// To take back a copy of what was kept last.
+    Put,
+    Recall(u64),
+    Show,
+}
+
+/// A lease of this part, or why there is none.
+fn take(alloc: Global, board: &mut Board, part: &Bag) -> Result<Lease, Refusal> {
+    board.take(alloc, part)
+}
+
+/// What comes of a lease, which has this number.
+fn rested(rt: &impl Abort, alloc: Global, board: &Board, lease: Lease, number: u64) -> Done {
+    assert!(rt; lease.number == number, "another number than {number}");
+    let done = board.program().rest_part(alloc, lease).ok();
+    done.expect(rt, "memory")
+}
+
+/// Leases these atoms out under this number, and keeps what comes of them; why they aren't leased out.
+fn take_and_rest(
+    rt: &impl Abort,
+    alloc: Global,
+    board: &mut Board,
+    kept: &mut Vec<Done>,
+    number: u64,
+    atoms: &str,
+) -> Option<Refusal> {
+    let part = store(rt, alloc, MINIMUM, atoms);
+    match take(alloc, board, &part) {
+        Ok(lease) => {
+            let done = rested(rt, alloc, board, lease, number);
+            assert!(rt; done.number() == number, "another number than {number}");
+            kept.push(done).expect(rt, "memory");
+            None
+        }
+        Err(refusal) => Some(refusal),
+    }
+}
+
+/// A copy of what was kept last.
+fn last_of(rt: &impl Abort, alloc: Global, kept: &[Done]) -> Done {
+    let last = kept.last().expect(rt, "what came of a lease");
+    last.copy(alloc).expect(rt, "memory")
+}
+
+/// Why the board doesn't take this back.
+fn put(board: &mut Board, done: Done) -> Option<Refusal> {
+    match board.put(done) {
+        Ok(()) => None,
+        Err(refused) => Some(refused.refusal),
+    }
+}
+
+/// Why the board doesn't do what it is asked.
+fn refusal(
+    rt: &impl Abort,
+    alloc: Global,
+    board: &mut Board,
+    kept: &mut Vec<Done>,
+    call: Call,
+) -> Option<Refusal> {
+    match call {
+        Call::Take(number, atoms) => take_and_rest(rt, alloc, board, kept, number, atoms),
+        Call::Put => put(board, last_of(rt, alloc, kept)),
+        Call::Recall(number) => board.recall(number).err(),
+        Call::Show => board.show(alloc).err(),
+    }
+}
+
+/// The board answers so to these calls, in turn.
+fn answers(rt: &impl Abort, alloc: Global, board: &mut Board, rows: &[(Call, Option<Refusal>)]) {
+    let mut kept = Vec::new(alloc);
+    for (place, (call, expected)) in rows.iter().enumerate() {
+        let refused = refusal(rt, alloc, board, &mut kept, *call);
+        assert!(rt; refused == *expected, "call {place}");
+    }
+}
+
+const LATE: [(Call, Option<Refusal>); 5] = [
+    (Call::Show, Some(Refusal::NotAtRest)),
+    (Call::Take(1, "min(5)"), None),
+    (Call::Show, Some(Refusal::Leased(1))),
+    (Call::Recall(1), None),
+    (Call::Put, Some(Refusal::NoLease(1))),
+];
 
 #[test]
 fn a_late_return_is_refused(rt: HostRuntime) {
     let alloc = rt.alloc();
     let mut board = told(&rt, alloc, MINIMUM, "min(5), min(3)");
-    assert_eq!(rt; show_refusal(alloc, &board), Some(Refusal::NotAtRest));
-    let done = rested_of(&rt, alloc, &mut board, MINIMUM, "min(5)");
-    assert_eq!(rt; done.number(), 1);
-    assert_eq!(rt; show_refusal(alloc, &board), Some(Refusal::Leased(1)));
-    assert_eq!(rt; board.recall(1).err(), None);
-    assert_eq!(rt; put_refusal(&mut board, done), Some(Refusal::NoLease(1)));
-    assert!(rt; settles(&rt, alloc, &mut board, 1, "min(3)"));
+    answers(&rt, alloc, &mut board, &LATE);
+    settles(&rt, alloc, &mut board, 1, "min(3)");
 }
+
+const UNSETTLED: [(Call, Option<Refusal>); 3] = [
+    (Call::Show, Some(Refusal::NotAtRest)),
+    (Call::Take(1, "min(5)"), None),
+    (Call::Show, Some(Refusal::Leased(1))),
+];
 
 #[test]
 fn unsettled_boards_show_nothing(rt: HostRuntime) {
     let alloc = rt.alloc();
     let mut board = told(&rt, alloc, MINIMUM, "min(5), min(3)");
-    assert_eq!(rt; show_refusal(alloc, &board), Some(Refusal::NotAtRest));
-    assert_eq!(rt;
-        take_refusal(&rt, alloc, &mut board, MINIMUM, "min(5)"),
-        None
-    );
-    assert_eq!(rt; show_refusal(alloc, &board), Some(Refusal::Leased(1)));
+    answers(&rt, alloc, &mut board, &UNSETTLED);
 }
+
+const NOT_THERE: [(Call, Option<Refusal>); 1] = [(
+    Call::Take(1, "min(7)"),
+    Some(Refusal::NotThere),
+)];
 
 #[test]
 fn only_what_is_there_is_leased(rt: HostRuntime) {
     let alloc = rt.alloc();
     let mut board = told(&rt, alloc, MINIMUM, "min(3)");
-    assert_eq!(rt;
-        take_refusal(&rt, alloc, &mut board, MINIMUM, "min(7)"),
-        Some(Refusal::NotThere)
-    );
-    assert!(rt; settles(&rt, alloc, &mut board, 0, "min(3)"));
+    answers(&rt, alloc, &mut board, &NOT_THERE);
+    settles(&rt, alloc, &mut board, 0, "min(3)");
 }
+
+const RECALLED_TWICE: [(Call, Option<Refusal>); 3] = [
+    (Call::Take(1, "min(5)"), None),
+    (Call::Recall(1), None),
+    (Call::Recall(1), Some(Refusal::NoLease(1))),
+];
 
 #[test]
 fn a_lease_is_recalled_once(rt: HostRuntime) {
     let alloc = rt.alloc();
     let mut board = told(&rt, alloc, MINIMUM, "min(5), min(3)");
-    assert_eq!(rt;
-        take_refusal(&rt, alloc, &mut board, MINIMUM, "min(5)"),
-        None
-    );
-    assert_eq!(rt; board.recall(1).err(), None);
-    assert_eq!(rt; board.recall(1).err(), Some(Refusal::NoLease(1)));
+    answers(&rt, alloc, &mut board, &RECALLED_TWICE);
+}
+
+/// Whether so many leases are out, the least of which has this number.
+fn has_out(board: &Board, count: u64, least: Option<u64>) -> bool {
+    board.leases() == count && board.least_lease() == least
 }
 
 /// Whether the board hands out a copy of the lease, with this number and part.
@@ -66,64 +160,55 @@ fn hands_out(alloc: Global, board: &Board, number: u64, part: &Bag) -> bool {
     }
 }
 
+const TAKEN: [(Call, Option<Refusal>); 1] = [(Call::Take(1, "min(5), min(9)"), None)];
+
 #[test]
 fn leases_that_are_out_are_known(rt: HostRuntime) {
     let alloc = rt.alloc();
     let mut board = told(&rt, alloc, MINIMUM, "min(5), min(3), min(9)");
+    answers(&rt, alloc, &mut board, &TAKEN);
     let part = store(&rt, alloc, MINIMUM, "min(5), min(9)");
-    let number = taken(&rt, alloc, &mut board, &part).number;
-    assert_eq!(rt; number, 1);
     assert!(rt; hands_out(alloc, &board, 1, &part));
-    assert_eq!(rt; board.leases(), 1);
-    assert_eq!(rt; board.least_lease(), Some(1));
+    assert!(rt; has_out(&board, 1, Some(1)));
 }
+
+const PUT: [(Call, Option<Refusal>); 2] = [
+    (Call::Take(1, "min(5), min(9)"), None),
+    (Call::Put, None),
+];
 
 #[test]
 fn what_comes_of_a_lease_is_put(rt: HostRuntime) {
     let alloc = rt.alloc();
     let mut board = told(&rt, alloc, MINIMUM, "min(5), min(3), min(9)");
-    let done = rested_of(&rt, alloc, &mut board, MINIMUM, "min(5), min(9)");
-    assert_eq!(rt; put_refusal(&mut board, done), None);
-    assert_eq!(rt; board.leases(), 0);
-    assert_eq!(rt; board.least_lease(), None);
-    assert!(rt; settles(&rt, alloc, &mut board, 1, "min(3)"));
+    answers(&rt, alloc, &mut board, &PUT);
+    assert!(rt; has_out(&board, 0, None));
+    settles(&rt, alloc, &mut board, 1, "min(3)");
 }
 
-/// An equal value.
-fn copied(rt: &impl Abort, alloc: Global, done: &Done) -> Done {
-    let Ok(copy) = done.copy(alloc) else {
-        panic!(rt; "out of memory");
-    };
-    copy
-}
+const PUT_TWICE: [(Call, Option<Refusal>); 3] = [
+    (Call::Take(1, "min(5), min(9)"), None),
+    (Call::Put, None),
+    (Call::Put, Some(Refusal::NoLease(1))),
+];
 
 #[test]
 fn a_second_return_is_refused(rt: HostRuntime) {
     let alloc = rt.alloc();
     let mut board = told(&rt, alloc, MINIMUM, "min(5), min(3), min(9)");
-    let done = rested_of(&rt, alloc, &mut board, MINIMUM, "min(5), min(9)");
-    let twice = copied(&rt, alloc, &done);
-    assert_eq!(rt; put_refusal(&mut board, done), None);
-    assert_eq!(rt; put_refusal(&mut board, twice), Some(Refusal::NoLease(1)));
-    assert!(rt; settles(&rt, alloc, &mut board, 1, "min(3)"));
+    answers(&rt, alloc, &mut board, &PUT_TWICE);
+    settles(&rt, alloc, &mut board, 1, "min(3)");
 }
 
 /// The leases of the parts into which the pool is cut.
 fn parts(rt: &impl Abort, alloc: Global, board: &mut Board, count: u32) -> Vec<Lease> {
-    if count < 1 || count > MAX_PARTS {
-        panic!(rt; "{count} parts");
-    }
-    let Ok(leases) = board.take_parts(alloc, count) else {
-        panic!(rt; "nothing leased");
-    };
-    leases
+    assert!(rt; 1 <= count && count <= MAX_PARTS, "{count} parts");
+    board.take_parts(alloc, count).ok().expect(rt, "memory")
 }
 
 fn recall_all(rt: &impl Abort, board: &mut Board, leases: &[Lease]) {
     for lease in leases {
-        if board.recall(lease.number).is_err() {
-            panic!(rt; "not recalled: {}", lease.number);
-        }
+        assert!(rt; board.recall(lease.number).is_ok(), "not recalled");
     }
 }
 
@@ -131,13 +216,14 @@ fn recall_all(rt: &impl Abort, board: &mut Board, leases: &[Lease]) {
 fn sizes(rt: &impl Abort, alloc: Global, leases: &[Lease]) -> Vec<usize> {
     let mut sizes = Vec::new(alloc);
     for lease in leases {
-        if sizes.push(lease.part.len()).is_err() {
-            panic!(rt; "out of memory");
-        }
+        sizes.push(lease.part.len()).expect(rt, "memory");
     }
     sizes.sort_unstable();
     sizes
 }
+
+/// Numbers of parts into which a pool of five atoms is cut, and their sizes, the least first.
+const CUTS: [(u32, &[usize]); 3] = [(3, &[1, 2, 2]), (1, &[5]), (7, &[0, 0, 1, 1, 1, 1, 1])];
 
 /// Whether the pool is cut into parts of these sizes. They are all recalled.
 fn is_cut_into(
@@ -156,8 +242,11 @@ fn is_cut_into(
 fn parts_are_even(rt: HostRuntime) {
     let alloc = rt.alloc();
     let mut board = told(&rt, alloc, COINS, "coin, coin, coin, coin, coin");
-    assert!(rt; is_cut_into(&rt, alloc, &mut board, 3, &[1, 2, 2]));
-    assert!(rt; is_cut_into(&rt, alloc, &mut board, 1, &[5]));
-    assert!(rt; is_cut_into(&rt, alloc, &mut board, 7, &[0, 0, 1, 1, 1, 1, 1]));
-    assert!(rt; settles(&rt, alloc, &mut board, 2, "coin, note, note"));
+    for (count, expected) in CUTS {
+        assert!(rt;
+            is_cut_into(&rt, alloc, &mut board, count, expected),
+            "{count}"
+        );
+    }
+    settles(&rt, alloc, &mut board, 2, "coin, note, note");
 }

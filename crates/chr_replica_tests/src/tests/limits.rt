@@ -1,10 +1,9 @@
 //! A board that is told as many atoms as it may be.
-use crate::tests::boards::opened;
-use arrayvec::ArrayVec;
-use chr_base::atom::{Atom, SymbolId};
+use crate::tests::boards::{opened, tells};
 use chr_base::bag::Bag;
 use chr_ops::{Added, MAX_OPERATION, MAX_TOLD, Op, OpId};
 use chr_replica::{Board, Limit, Refusal};
+use chr_testing::atoms::atom;
 use std::alloc::Global;
 use std::process::Abort;
 use std::thread::Threads;
@@ -15,65 +14,63 @@ const ATOMS: &str = ":- chr_constraint a/0.";
 /// How many operations of the greatest size tell the most atoms.
 const OPERATIONS: u64 = 15_625;
 
+/// How many atoms such an operation has.
+const SIZE: u64 = MAX_OPERATION as u64;
+
 /// The operation of this number, of so many equal atoms.
 fn op_of(rt: &impl Abort, alloc: Global, number: u64, atoms: u64) -> Op {
     let mut bag = Bag::new(alloc);
     for _ in 0..atoms {
-        let atom = Atom {
-            symbol: SymbolId(0),
-            args: ArrayVec::new(),
-        };
-        bag.add(atom).expect(rt, "memory");
+        bag.add(atom(0, &[])).expect(rt, "memory");
     }
-    let Some(op) = Op::of(OpId { origin: 1, number }, bag) else {
-        panic!(rt; "no operation");
-    };
-    op
+    Op::of(OpId { origin: 1, number }, bag).expect(rt, "an operation")
 }
 
-/// What the board answers to the operation of this number, of so many atoms.
+/// The board answers so to the operation of this number, of so many atoms.
 fn tell(
     rt: &impl Abort,
     alloc: Global,
     board: &mut Board,
     number: u64,
     atoms: u64,
-) -> Result<Added, Refusal> {
-    board.tell(alloc, op_of(rt, alloc, number, atoms))
+    expected: Result<Added, Refusal>,
+) {
+    let op = op_of(rt, alloc, number, atoms);
+    assert!(rt; tells(alloc, board, op, expected), "at {number}");
 }
 
 /// A board that was told the most atoms, by operations of the greatest size with the numbers 0, 1 and so on.
 fn full(rt: &(impl Abort + Threads + Sync), alloc: Global) -> Board {
     let mut board = opened(rt, alloc, ATOMS);
-    let size = MAX_OPERATION as u64;
     for number in 0..OPERATIONS {
-        let told = tell(rt, alloc, &mut board, number, size);
-        assert_eq!(rt; told, Ok(Added::New), "at {number}");
+        tell(rt, alloc, &mut board, number, SIZE, Ok(Added::New));
     }
     board
 }
 
-/// How many atoms the board's operations tell, and how many its store has.
-fn sizes(rt: &impl Abort, alloc: Global, board: &Board) -> (u64, usize) {
-    let Ok(bag) = board.show(alloc) else {
-        panic!(rt; "nothing shown");
-    };
-    (board.ops().told(), bag.len())
+/// The board tells the most atoms, and all of them are in its store.
+fn is_full(rt: &impl Abort, alloc: Global, board: &Board) {
+    assert!(rt; board.ops().told() == MAX_TOLD);
+    let bag = board.show(alloc).ok().expect(rt, "a settled board");
+    assert!(rt; bag.len() == MAX_TOLD as usize);
+}
+
+/// The operations of these numbers and sizes are not merged into a full board.
+fn merges_none(rt: &impl Abort, alloc: Global, board: &mut Board, new: Op, held: Op) {
+    let merged = board.merge(alloc, &[new, held]);
+    assert!(rt; merged == Err(Refusal::Full(Limit::Told)));
 }
 
 #[test]
 fn a_full_board_takes_nothing_new(rt: HostRuntime) {
     let alloc = rt.alloc();
     let mut board = full(&rt, alloc);
-    let before = sizes(&rt, alloc, &board);
-    assert_eq!(rt; before, (MAX_TOLD, MAX_TOLD as usize));
-    let size = MAX_OPERATION as u64;
-    let new = tell(&rt, alloc, &mut board, OPERATIONS, 1);
-    assert_eq!(rt; new, Err(Refusal::Full(Limit::Told)));
-    let held = tell(&rt, alloc, &mut board, 7, size);
-    assert_eq!(rt; held, Ok(Added::Again));
-    let ops = [op_of(&rt, alloc, OPERATIONS, 1), op_of(&rt, alloc, 7, size)];
-    let merged = board.merge(alloc, &ops);
-    assert_eq!(rt; merged, Err(Refusal::Full(Limit::Told)));
-    assert_eq!(rt; sizes(&rt, alloc, &board), before);
+    is_full(&rt, alloc, &board);
+    let refused = Err(Refusal::Full(Limit::Told));
+    tell(&rt, alloc, &mut board, OPERATIONS, 1, refused);
+    tell(&rt, alloc, &mut board, 7, SIZE, Ok(Added::Again));
+    let new = op_of(&rt, alloc, OPERATIONS, 1);
+    let held = op_of(&rt, alloc, 7, SIZE);
+    merges_none(&rt, alloc, &mut board, new, held);
+    is_full(&rt, alloc, &board);
 }

@@ -1,17 +1,16 @@
 //! Parts that are leased out are rested.
-use crate::tests::texts::{COINS, MINIMUM, accepted, copied, has_text, store};
+use crate::tests::texts::{accepted, has_text, store};
 use chr_base::bag::Bag;
 use chr_join::{Accepted, Done, Lease};
+use chr_testing::texts::{COINS, MINIMUM};
 use std::alloc::Global;
 use std::process::Abort;
 use std::thread::Threads;
 
-/// What came of the lease, by resting its part.
-fn rested(rt: &impl Abort, alloc: Global, program: &Accepted, lease: Lease) -> Done {
-    let Ok(done) = program.rest_part(alloc, lease) else {
-        panic!(rt; "out of memory");
-    };
-    done
+/// A lease of this part.
+pub fn lease_of(rt: &impl Abort, alloc: Global, number: u64, part: &Bag) -> Lease {
+    let part = part.copy(alloc).expect(rt, "memory");
+    Lease { number, part }
 }
 
 /// Whether what came of a lease has this number and part and is of this program.
@@ -34,22 +33,6 @@ pub fn is_done(
     is_of(program, done, number, part) && has_text(rt, alloc, done.program(), done.result(), end)
 }
 
-/// An equal value.
-fn copied_done(rt: &impl Abort, alloc: Global, done: &Done) -> Done {
-    let Ok(copy) = done.copy(alloc) else {
-        panic!(rt; "out of memory");
-    };
-    copy
-}
-
-/// An equal lease.
-fn copied_lease(rt: &impl Abort, alloc: Global, lease: &Lease) -> Lease {
-    let Ok(copy) = lease.copy(alloc) else {
-        panic!(rt; "out of memory");
-    };
-    copy
-}
-
 /// Whether the lease of this part is rested to this store, and a copy of what came of it is the same.
 fn rests(
     rt: &impl Abort,
@@ -60,8 +43,8 @@ fn rests(
     part: &Bag,
     end: &str,
 ) -> bool {
-    let done = rested(rt, alloc, program, lease);
-    let copy = copied_done(rt, alloc, &done);
+    let done = program.rest_part(alloc, lease).ok().expect(rt, "memory");
+    let copy = done.copy(alloc).expect(rt, "memory");
     is_done(rt, alloc, program, &done, number, part, end)
         && is_done(rt, alloc, program, &copy, number, part, end)
 }
@@ -77,22 +60,29 @@ fn rests_to(
 ) -> bool {
     let program = accepted(rt, alloc, text);
     let part = store(rt, alloc, text, atoms);
-    let lease = Lease {
-        number,
-        part: copied(rt, alloc, &part),
-    };
-    let copy = copied_lease(rt, alloc, &lease);
+    let lease = lease_of(rt, alloc, number, &part);
+    let copy = lease.copy(alloc).expect(rt, "memory");
     rests(rt, alloc, &program, lease, number, &part, end)
         && rests(rt, alloc, &program, copy, number, &part, end)
 }
 
+/// The program, the number of a lease, its atoms, and to what they rest.
+const PARTS: [(&str, u64, &str, &str); 4] = [
+    (MINIMUM, 1, "min(5), min(9)", "min(5)"),
+    (
+        MINIMUM,
+        2,
+        "min(-9223372036854775808)",
+        "min(-9223372036854775808)",
+    ),
+    (MINIMUM, 1_000_000_000_000, "true", "true"),
+    (COINS, 3, "coin, coin, coin, coin, coin", "coin, note, note"),
+];
+
 #[test]
 fn parts_are_rested(rt: HostRuntime) {
     let alloc = rt.alloc();
-    let least = "min(-9223372036854775808)";
-    assert!(rt; rests_to(&rt, alloc, MINIMUM, 1, "min(5), min(9)", "min(5)"));
-    assert!(rt; rests_to(&rt, alloc, MINIMUM, 2, least, least));
-    assert!(rt; rests_to(&rt, alloc, MINIMUM, 1_000_000_000_000, "true", "true"));
-    let coins = "coin, coin, coin, coin, coin";
-    assert!(rt; rests_to(&rt, alloc, COINS, 3, coins, "coin, note, note"));
+    for (text, number, atoms, end) in PARTS {
+        assert!(rt; rests_to(&rt, alloc, text, number, atoms, end), "{atoms}");
+    }
 }

@@ -1,17 +1,9 @@
 //! Stores come to rest by trying each rule on each two places.
-use crate::tests::random_worlds::family::Family;
-use crate::tests::random_worlds::multisets::copies;
+use crate::tests::family::Family;
+use crate::tests::multisets::copies;
 use chr_base::atom::Atom;
 use std::alloc::Global;
 use std::process::Abort;
-
-/// A step on the atoms at two places, and the atom that stands for them.
-#[derive(Drop)]
-struct Found {
-    first: usize,
-    second: usize,
-    atom: Atom,
-}
 
 /// The atom that some rule puts in the place of the two.
 fn united(family: Family, first: &Atom, second: &Atom) -> Option<Atom> {
@@ -21,27 +13,23 @@ fn united(family: Family, first: &Atom, second: &Atom) -> Option<Atom> {
     }
 }
 
-/// A step whose first head is the atom at this place.
-fn step_at(family: Family, atoms: &[Atom], first: usize) -> Option<Found> {
-    let head = atoms.get(first)?;
+/// A step whose first head is the atom at this place: the place of its second head, and what the two become.
+fn step_at(family: Family, atoms: &[Atom], first: usize, head: &Atom) -> Option<(usize, Atom)> {
     for (second, other) in atoms.iter().enumerate() {
         if first != second {
             if let Some(atom) = united(family, head, other) {
-                return Some(Found {
-                    first,
-                    second,
-                    atom,
-                });
+                return Some((second, atom));
             }
         }
     }
     None
 }
 
-fn find(family: Family, atoms: &[Atom]) -> Option<Found> {
-    for first in 0..atoms.len() {
-        if let Some(found) = step_at(family, atoms, first) {
-            return Some(found);
+/// A step: the places of its heads, and what the two become.
+fn find(family: Family, atoms: &[Atom]) -> Option<(usize, usize, Atom)> {
+    for (first, head) in atoms.iter().enumerate() {
+        if let Some((second, atom)) = step_at(family, atoms, first, head) {
+            return Some((first, second, atom));
         }
     }
     None
@@ -51,13 +39,15 @@ pub fn is_at_rest(family: Family, atoms: &[Atom]) -> bool {
     find(family, atoms).is_none()
 }
 
-/// The atoms at all places but those of the step, and the atom that stands for them.
-fn after(rt: &impl Abort, alloc: Global, atoms: &[Atom], found: Found) -> Vec<Atom> {
-    let Found {
-        first,
-        second,
-        atom,
-    } = found;
+/// The atoms at all places but these two, and what the two become.
+fn after(
+    rt: &impl Abort,
+    alloc: Global,
+    atoms: &[Atom],
+    first: usize,
+    second: usize,
+    atom: Atom,
+) -> Vec<Atom> {
     let mut left = Vec::new(alloc);
     for (place, other) in atoms.iter().enumerate() {
         if place != first && place != second {
@@ -73,7 +63,9 @@ pub fn rested(rt: &impl Abort, alloc: Global, family: Family, atoms: &[Atom]) ->
     let mut store = copies(rt, alloc, atoms);
     for _ in 0..atoms.len() {
         match find(family, &store) {
-            Some(found) => store = after(rt, alloc, &store, found),
+            Some((first, second, atom)) => {
+                store = after(rt, alloc, &store, first, second, atom);
+            }
             None => return store,
         }
     }

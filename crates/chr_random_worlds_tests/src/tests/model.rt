@@ -1,7 +1,7 @@
 //! Replicas as plain lists, by the definitions of their events.
-use crate::tests::random_worlds::family::Family;
-use crate::tests::random_worlds::multisets::{add, are_same, copies, without};
-use crate::tests::random_worlds::resting::{is_at_rest, rested};
+use crate::tests::family::Family;
+use crate::tests::multisets::{add, are_same, copies, without};
+use crate::tests::resting::{is_at_rest, rested};
 use chr_base::atom::Atom;
 use chr_base::derivation::Step;
 use chr_join::Done;
@@ -60,6 +60,45 @@ pub fn count<T>(items: &[T]) -> u64 {
     u64::try_from(items.len()).unwrap_or(u64::MAX)
 }
 
+/// The operation of an id, in a list.
+fn held_in(operations: &[Operation], id: OpId) -> Option<&Operation> {
+    for operation in operations {
+        if operation.id == id {
+            return Some(operation);
+        }
+    }
+    None
+}
+
+/// The place of the part of a number.
+fn place_of(parts: &[Part], number: u64) -> Option<usize> {
+    for (place, part) in parts.iter().enumerate() {
+        if part.number == number {
+            return Some(place);
+        }
+    }
+    None
+}
+
+/// Takes the part of a number out.
+fn remove(parts: &mut Vec<Part>, number: u64) {
+    match place_of(parts, number) {
+        Some(place) if place < parts.len() => {
+            parts.swap_remove(place);
+        }
+        _ => {}
+    }
+}
+
+fn declares_all(family: Family, atoms: &[Atom]) -> bool {
+    for atom in atoms {
+        if !family.declares(atom) {
+            return false;
+        }
+    }
+    true
+}
+
 impl Replica {
     pub fn new(alloc: Global) -> Replica {
         Replica {
@@ -72,11 +111,14 @@ impl Replica {
 
     /// The operation of an id.
     pub fn held(&self, id: OpId) -> Option<&Operation> {
-        self.operations.iter().find(|operation| operation.id == id)
+        held_in(&self.operations, id)
     }
 
-    /// Takes a new operation in.
+    /// Takes an operation in where it is new.
     fn take_in(&mut self, rt: &impl Abort, alloc: Global, id: OpId, atoms: &[Atom]) {
+        if self.held(id).is_some() {
+            return;
+        }
         let operation = Operation {
             id,
             atoms: copies(rt, alloc, atoms),
@@ -88,7 +130,7 @@ impl Replica {
     /// Why the operation is refused.
     fn refusal(&self, rt: &impl Abort, alloc: Global, family: Family, op: &Op) -> Option<Refusal> {
         let atoms = op.bag().atoms();
-        if atoms.iter().any(|atom| !family.declares(atom)) {
+        if !declares_all(family, atoms) {
             return Some(Refusal::UnknownSymbol);
         }
         let held = self.held(op.id())?;
@@ -110,18 +152,16 @@ impl Replica {
     }
 
     /// Takes operations in that are declared and don't clash.
-    pub fn merge(&mut self, rt: &impl Abort, alloc: Global, ops: &[Op]) -> Expected {
+    fn merge_all(&mut self, rt: &impl Abort, alloc: Global, ops: &[Op]) -> Expected {
         let before = count(&self.operations);
         for op in ops {
-            if self.held(op.id()).is_none() {
-                self.take_in(rt, alloc, op.id(), op.bag().atoms());
-            }
+            self.take_in(rt, alloc, op.id(), op.bag().atoms());
         }
         Expected::Merged(count(&self.operations).saturating_sub(before))
     }
 
     /// The first refusal of these operations, unknown symbols first. No two of them share an id and differ.
-    pub fn merge_refusal(
+    fn merge_refusal(
         &self,
         rt: &impl Abort,
         alloc: Global,
@@ -134,20 +174,48 @@ impl Replica {
             if refusal == Some(Refusal::UnknownSymbol) {
                 return refusal;
             }
-            first = first.or(refusal);
+            if first.is_none() {
+                first = refusal;
+            }
         }
         first
+    }
+
+    pub fn merge(
+        &mut self,
+        rt: &impl Abort,
+        alloc: Global,
+        family: Family,
+        ops: &[Op],
+    ) -> Expected {
+        match self.merge_refusal(rt, alloc, family, ops) {
+            Some(refusal) => Expected::Refused(refusal),
+            None => self.merge_all(rt, alloc, ops),
+        }
     }
 
     /// Takes in what the other replica holds and this one lacks.
     pub fn take_all_of(&mut self, rt: &impl Abort, alloc: Global, giver: &Replica) -> Expected {
         let before = count(&self.operations);
         for operation in &giver.operations {
-            if self.held(operation.id).is_none() {
-                self.take_in(rt, alloc, operation.id, &operation.atoms);
-            }
+            self.take_in(rt, alloc, operation.id, &operation.atoms);
         }
         Expected::Merged(count(&self.operations).saturating_sub(before))
+    }
+
+    /// What the pool is after a rule was applied to two of its atoms, where it applies and both are there.
+    fn pool_after(
+        &self,
+        rt: &impl Abort,
+        alloc: Global,
+        family: Family,
+        rule: u32,
+        heads: &[Atom],
+    ) -> Option<Vec<Atom>> {
+        let atom = family.united(rule, heads.get(0)?, heads.get(1)?)?;
+        let mut left = without(rt, alloc, &self.pool, heads)?;
+        left.push(atom).expect(rt, "memory");
+        Some(left)
     }
 
     pub fn step(
@@ -157,29 +225,24 @@ impl Replica {
         family: Family,
         step: &Step,
     ) -> Expected {
-        let heads = step.heads.as_slice();
-        let (Some(first), Some(second)) = (heads.get(0), heads.get(1)) else {
-            return Expected::Refused(Refusal::NotThere);
-        };
-        let united = family.united(step.rule, first, second);
-        let left = without(rt, alloc, &self.pool, heads);
-        let (Some(atom), Some(mut left)) = (united, left) else {
-            return Expected::Refused(Refusal::NotThere);
-        };
-        left.push(atom).expect(rt, "memory");
-        self.pool = left;
-        Expected::Stepped
+        match self.pool_after(rt, alloc, family, step.rule, step.heads.as_slice()) {
+            Some(pool) => {
+                self.pool = pool;
+                Expected::Stepped
+            }
+            None => Expected::Refused(Refusal::NotThere),
+        }
     }
 
     /// Leases a part out, under the next number.
     pub fn lease(&mut self, rt: &impl Abort, alloc: Global, atoms: &[Atom]) -> Part {
         let number = self.next;
-        let part = Part {
+        self.next = number.saturating_add(1);
+        let kept = Part {
             number,
             atoms: copies(rt, alloc, atoms),
         };
-        self.out.push(part).expect(rt, "memory");
-        self.next = number.saturating_add(1);
+        self.out.push(kept).expect(rt, "memory");
         Part {
             number,
             atoms: copies(rt, alloc, atoms),
@@ -198,12 +261,14 @@ impl Replica {
 
     /// Takes the part of a number back into the pool as these atoms.
     fn give_back(&mut self, rt: &impl Abort, number: u64, atoms: &[Atom]) {
-        self.out.retain(|part| part.number != number);
+        remove(&mut self.out, number);
         add(rt, &mut self.pool, atoms);
     }
 
-    pub fn part(&self, number: u64) -> Option<&Part> {
-        self.out.iter().find(|part| part.number == number)
+    /// The part that is out under a number.
+    fn part(&self, number: u64) -> Option<&Part> {
+        let place = place_of(&self.out, number)?;
+        self.out.get(place)
     }
 
     /// Whether this part is out under this number.

@@ -15,9 +15,19 @@ pub fn add(rt: &impl Abort, to: &mut Vec<Atom>, atoms: &[Atom]) {
     }
 }
 
+/// The place of the first atom that is equal.
+fn place_of(atoms: &[Atom], atom: &Atom) -> Option<usize> {
+    for (place, other) in atoms.iter().enumerate() {
+        if other == atom {
+            return Some(place);
+        }
+    }
+    None
+}
+
 /// The first atom that is equal is taken out, where there is one.
 fn take_one(from: &mut Vec<Atom>, atom: &Atom) -> bool {
-    match from.iter().position(|other| other == atom) {
+    match place_of(from, atom) {
         Some(place) if place < from.len() => {
             from.swap_remove(place);
             true

@@ -1,28 +1,47 @@
-//! Events that are chosen at random.
-use crate::tests::random_worlds::family::unknown_atom;
-use crate::tests::random_worlds::game::{Game, issued};
-use crate::tests::random_worlds::model::count;
-use crate::tests::random_worlds::multisets::copies;
-use crate::tests::random_worlds::random::Random;
-use arrayvec::ArrayVec;
+//! Events that are chosen at random, by what the model holds.
+use crate::tests::family::{Family, unknown_atom};
+use crate::tests::model::{Replica, count};
+use crate::tests::multisets::copies;
+use crate::tests::random::Random;
 use chr_acts::{Act, OpList};
 use chr_base::atom::Atom;
 use chr_base::bag::Bag;
 use chr_base::derivation::Step;
 use chr_ops::{Op, OpId};
+use chr_testing::atoms::step;
 use std::alloc::Global;
 use std::process::Abort;
 
+/// The model of a world, and the operations that it was told as yet.
+#[derive(Drop)]
+pub struct Scene {
+    pub family: Family,
+    pub replicas: Vec<Replica>,
+    pub issued: Vec<Op>,
+    pub random: Random,
+}
+
+/// The replica of a number.
+pub fn replica_of(replicas: &[Replica], number: u64) -> Option<&Replica> {
+    replicas.get(place_of(number)?)
+}
+
+/// The place of the replica of a number.
+pub fn place_of(number: u64) -> Option<usize> {
+    usize::try_from(number.checked_sub(1)?).ok()
+}
+
 fn op(rt: &impl Abort, id: OpId, atoms: Vec<Atom>) -> Op {
     let bag = Bag::of(atoms).expect(rt, "memory");
-    let Some(op) = Op::of(id, bag) else {
-        panic!(rt; "no operation");
-    };
-    op
+    Op::of(id, bag).expect(rt, "an operation")
+}
+
+fn copied(rt: &impl Abort, alloc: Global, op: &Op) -> Op {
+    op.copy(alloc).expect(rt, "memory")
 }
 
 /// One of the items, where there are any.
-fn one_of<'a, T>(random: &mut Random, items: &'a [T]) -> Option<&'a T> {
+pub fn one_of<'a, T>(random: &mut Random, items: &'a [T]) -> Option<&'a T> {
     match count(items) {
         0 => None,
         items_there => items.get(random.below(items_there) as usize),
@@ -40,48 +59,62 @@ fn some_of(rt: &impl Abort, alloc: Global, random: &mut Random, atoms: &[Atom]) 
     some
 }
 
-impl Game {
-    /// The number of a replica, or now and then of none.
-    fn somebody(&mut self) -> u64 {
-        let replicas = count(&self.replicas).min(1_000);
-        match self.random.below(25) {
-            0 => 0,
-            1 => replicas + 1,
-            _ => 1 + self.random.below(replicas + 1) % replicas.max(1),
-        }
+/// One to three atoms.
+fn atoms(rt: &impl Abort, alloc: Global, family: Family, random: &mut Random) -> Vec<Atom> {
+    let mut atoms = Vec::new(alloc);
+    for _ in 0..=random.below(3) {
+        let atom = family.atom(random);
+        atoms.push(atom).expect(rt, "memory");
     }
+    atoms
+}
 
-    /// One to three atoms.
-    fn atoms(&mut self, rt: &impl Abort, alloc: Global) -> Vec<Atom> {
-        let mut atoms = Vec::new(alloc);
-        for _ in 0..=self.random.below(3) {
-            let atom = self.family.atom(&mut self.random);
-            atoms.push(atom).expect(rt, "memory");
-        }
-        atoms
+/// One of the atoms, or an atom of the program where there are none.
+fn atom_among(family: Family, random: &mut Random, atoms: &[Atom]) -> Atom {
+    match one_of(random, atoms) {
+        Some(atom) => atom.copy(),
+        None => family.atom(random),
+    }
+}
+
+/// The number of one of so many replicas, or now and then of none.
+fn number_among(random: &mut Random, replicas: u64) -> u64 {
+    let replicas = replicas.min(1_000);
+    match random.below(25) {
+        0 => 0,
+        1 => replicas + 1,
+        _ => 1 + random.below(replicas + 1) % replicas.max(1),
+    }
+}
+
+impl Scene {
+    /// The number of a replica, or now and then of none.
+    pub fn somebody(&mut self) -> u64 {
+        number_among(&mut self.random, count(&self.replicas))
     }
 
     /// The pool of a replica in the model, empty where there is none.
     fn pool_of(&self, rt: &impl Abort, alloc: Global, number: u64) -> Vec<Atom> {
-        let mut place = 0_u64;
-        for replica in &self.replicas {
-            place = place.saturating_add(1);
-            if place == number {
-                return copies(rt, alloc, &replica.pool);
-            }
+        match replica_of(&self.replicas, number) {
+            Some(replica) => copies(rt, alloc, &replica.pool),
+            None => Vec::new(alloc),
         }
-        Vec::new(alloc)
+    }
+
+    /// The id of a new operation.
+    fn new_id(&mut self) -> OpId {
+        OpId {
+            origin: 1 + self.random.below(3) as u32,
+            number: count(&self.issued).saturating_add(1),
+        }
     }
 
     /// A new operation.
     fn new_op(&mut self, rt: &impl Abort, alloc: Global) -> Op {
-        let id = OpId {
-            origin: 1 + self.random.below(3) as u32,
-            number: issued(self).saturating_add(1),
-        };
-        let op = op(rt, id, self.atoms(rt, alloc));
+        let id = self.new_id();
+        let op = op(rt, id, atoms(rt, alloc, self.family, &mut self.random));
         self.issued
-            .push(op.copy(alloc).expect(rt, "memory"))
+            .push(copied(rt, alloc, &op))
             .expect(rt, "memory");
         op
     }
@@ -89,21 +122,24 @@ impl Game {
     /// An operation that was made before, if any was.
     fn old_op(&mut self, rt: &impl Abort, alloc: Global) -> Op {
         match one_of(&mut self.random, &self.issued) {
-            Some(op) => op.copy(alloc).expect(rt, "memory"),
+            Some(op) => copied(rt, alloc, op),
             None => self.new_op(rt, alloc),
         }
     }
 
     /// Whether a replica holds an operation of this id.
     fn is_held(&self, number: u64, id: OpId) -> bool {
-        let mut place = 0_u64;
-        for replica in &self.replicas {
-            place = place.saturating_add(1);
-            if place == number {
-                return replica.held(id).is_some();
-            }
+        match replica_of(&self.replicas, number) {
+            Some(replica) => replica.held(id).is_some(),
+            None => false,
         }
-        false
+    }
+
+    /// The operation of this id and these atoms with one atom more.
+    fn op_with_more(&mut self, rt: &impl Abort, id: OpId, atoms: Vec<Atom>, more: Atom) -> Op {
+        let mut atoms = atoms;
+        atoms.push(more).expect(rt, "memory");
+        op(rt, id, atoms)
     }
 
     /// An old operation with one atom more where the replica holds it, and as it is elsewhere.
@@ -112,10 +148,9 @@ impl Game {
         if !self.is_held(number, old.id()) {
             return old;
         }
-        let mut atoms = copies(rt, alloc, old.bag().atoms());
+        let atoms = copies(rt, alloc, old.bag().atoms());
         let more = self.family.atom(&mut self.random);
-        atoms.push(more).expect(rt, "memory");
-        op(rt, old.id(), atoms)
+        self.op_with_more(rt, old.id(), atoms, more)
     }
 
     /// An operation of a symbol that isn't declared, under an id of its own.
@@ -124,9 +159,8 @@ impl Game {
             origin: 9,
             number: 1,
         };
-        let mut atoms = self.atoms(rt, alloc);
-        atoms.push(unknown_atom()).expect(rt, "memory");
-        op(rt, id, atoms)
+        let atoms = atoms(rt, alloc, self.family, &mut self.random);
+        self.op_with_more(rt, id, atoms, unknown_atom())
     }
 
     /// An operation for a replica, mostly one that was made before.
@@ -171,58 +205,22 @@ impl Game {
     /// A step of a rule, or of none, on two atoms of the replica's pool, which may be one atom twice.
     fn step(&mut self, rt: &impl Abort, alloc: Global, number: u64) -> Step {
         let pool = self.pool_of(rt, alloc, number);
-        let mut heads = ArrayVec::new();
-        for _ in 0..2 {
-            let atom = match one_of(&mut self.random, &pool) {
-                Some(atom) => atom.copy(),
-                None => self.family.atom(&mut self.random),
-            };
-            let _ = heads.try_push(atom);
-        }
+        let first = atom_among(self.family, &mut self.random, &pool);
+        let second = atom_among(self.family, &mut self.random, &pool);
         let rule = 1 + (self.random.below(5) / 2) as u32;
-        Step { rule, heads }
+        step(rule, &[first, second])
     }
 
-    /// Gives back what came of one of the last leases, mostly to the replica that leased it.
-    fn give_back(&mut self, rt: &impl Abort, alloc: Global) {
-        let other = self.somebody();
-        let is_sent_astray = self.random.below(5) == 0;
-        let skipped = self.returns.len().saturating_sub(8);
-        let last = self.returns.get(skipped..).unwrap_or(&[]);
-        let Some(back) = one_of(&mut self.random, last) else {
-            return;
-        };
-        let number = if is_sent_astray { other } else { back.replica };
-        let is_foreign = back.is_foreign;
-        let act = Act::Put(back.done.copy(alloc).expect(rt, "memory"));
-        self.ask(rt, alloc, number, act, is_foreign);
-    }
-
-    /// Lets one event happen.
-    pub fn play_one(&mut self, rt: &impl Abort, alloc: Global) {
-        let number = self.somebody();
-        let act = match self.random.below(16) {
+    /// An act of a replica, of one of twelve kinds.
+    pub fn act(&mut self, rt: &impl Abort, alloc: Global, number: u64, kind: u64) -> Act {
+        match kind {
             0 | 1 | 2 | 3 => Act::Tell(self.telling(rt, alloc, number)),
             4 | 5 => Act::Merge(self.delta(rt, alloc, number)),
             6 => Act::Take(self.part(rt, alloc, number)),
             7 => Act::Recall(1 + self.random.below(6)),
             8 => Act::Settle,
             9 => Act::Show,
-            10 | 11 => Act::Step(self.step(rt, alloc, number)),
-            12 => return self.cut_one(rt, alloc, number),
-            13 => return self.exchange_one(rt, alloc, number),
-            _ => return self.give_back(rt, alloc),
-        };
-        self.ask(rt, alloc, number, act, false);
-    }
-
-    fn cut_one(&mut self, rt: &impl Abort, alloc: Global, number: u64) {
-        let parts = 1 + self.random.below(4) as u32;
-        self.cut(rt, alloc, number, parts);
-    }
-
-    fn exchange_one(&mut self, rt: &impl Abort, alloc: Global, giver: u64) {
-        let taker = self.somebody();
-        self.sync(rt, alloc, giver, taker);
+            _ => Act::Step(self.step(rt, alloc, number)),
+        }
     }
 }

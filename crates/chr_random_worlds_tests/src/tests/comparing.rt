@@ -1,8 +1,8 @@
 //! What a world answers and what its replicas hold, against the model.
-use crate::tests::random_worlds::family::Family;
-use crate::tests::random_worlds::model::{Expected, Operation, Part, Replica, count};
-use crate::tests::random_worlds::multisets::are_same;
-use crate::tests::random_worlds::resting::is_at_rest;
+use crate::tests::family::Family;
+use crate::tests::model::{Expected, Operation, Part, Replica, count};
+use crate::tests::multisets::are_same;
+use crate::tests::resting::is_at_rest;
 use chr_acts::Reply;
 use chr_join::Lease;
 use chr_replica::Board;
@@ -46,6 +46,11 @@ fn leases(rt: &impl Abort, alloc: Global, board: &Board, part: &Part) -> bool {
     }
 }
 
+/// Whether the board tells so many atoms.
+fn tells(board: &Board, told: u64) -> bool {
+    board.ops().told() == told
+}
+
 fn holds_all(rt: &impl Abort, alloc: Global, board: &Board, operations: &[Operation]) -> bool {
     let mut told = 0_u64;
     for operation in operations {
@@ -54,7 +59,7 @@ fn holds_all(rt: &impl Abort, alloc: Global, board: &Board, operations: &[Operat
         }
         told = told.saturating_add(count(&operation.atoms));
     }
-    board.ops().told() == told
+    tells(board, told)
 }
 
 fn leases_all(rt: &impl Abort, alloc: Global, board: &Board, parts: &[Part]) -> bool {
@@ -66,8 +71,21 @@ fn leases_all(rt: &impl Abort, alloc: Global, board: &Board, parts: &[Part]) -> 
     board.leases() == count(parts) && board.least_lease() == least(parts)
 }
 
+/// The least number of these parts.
 fn least(parts: &[Part]) -> Option<u64> {
-    parts.iter().map(|part| part.number).min()
+    let mut least = None;
+    for part in parts {
+        least = match least {
+            Some(number) if number < part.number => Some(number),
+            _ => Some(part.number),
+        };
+    }
+    least
+}
+
+/// Whether the board rests where the pool does.
+fn rests_as(family: Family, board: &Board, replica: &Replica) -> bool {
+    board.at_rest() == is_at_rest(family, &replica.pool)
 }
 
 /// Whether the board holds the replica's operations and leases, and rests where its pool does.
@@ -80,5 +98,5 @@ pub fn is_board_of(
 ) -> bool {
     holds_all(rt, alloc, board, &replica.operations)
         && leases_all(rt, alloc, board, &replica.out)
-        && board.at_rest() == is_at_rest(family, &replica.pool)
+        && rests_as(family, board, replica)
 }

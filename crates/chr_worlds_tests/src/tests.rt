@@ -1,0 +1,4 @@
+//! Worlds of replicas let events happen, on programs and stores that are given as texts.
+mod asking;
+mod events;
+mod worlds;
