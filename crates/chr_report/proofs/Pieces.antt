@@ -1,6 +1,6 @@
 -- Answers of an input that comes piece by piece.
 use Rattle.std.proofs.Common.{◌≡◌, ℕ, ◌⊎◌, Bool, true, false, List, [], ◌∷◌, ◌++◌, refl, sym, ap, ◌∙◌, append_assoc, append-nil, subst, inl, inr}
-use Rattle.std.specs.Prelude.{Option, Result, Ok, Err, OnErr}
+use Rattle.std.specs.Prelude.{Option, Some, Result, Ok, Err, OnErr}
 use Rattle.std.specs.Bool.{MatchBool}
 use Rattle.std.specs.Io.KnownBytes.{Appends}
 use Rattle.std.proofs.KnownBytes.{Appends-nil, Appends-trans}
@@ -13,7 +13,7 @@ use Rattle.chr_report.specs.Lines.{lines, without_return}
 use Rattle.chr_report.specs.Answers.{AnswersAll, AnswersFirst}
 use Rattle.chr_report.specs.Served.{AreWholeLines, HasNoFeed}
 use Rattle.chr_report.specs.working.Answered.{AnswersLine, AddsAnswer}
-use Rattle.chr_report.specs.working.Serving.{AnswersFront, AnswersChunk, AnswersPart, IsCut, SendsAnswer}
+use Rattle.chr_report.specs.working.Serving.{AnswersFront, AnswersChunk, AnswersPart, SendsAnswer, SendsSome}
 use Rattle.chr_report.proofs.Feeds.{ended_more, lines_more, lines_last, none_in_both, whole_ended}
 
 -- ---- parts of what is written
@@ -124,19 +124,80 @@ module _ (ds : List Declaration) (rules : List Rule) where
   pub part_done : (bytes line rest : List ℕ) (start now : List Operations) (old new : Option (List ℕ)) → SoFar bytes line rest start now old new → AnswersPart ds rules bytes start old new
   part_done bytes line rest start now old new s = record { front = s.front; rest = line ++ rest; out = s.out; now = now; are = s.are; answers = s.answers; written = part_of_whole old new _ s.written }
 
-  -- nothing is sent, or a beginning of an answer
-  pub part_answered : (bytes line rest end more : List ℕ) (start mid : List Operations) (old middle new : Option (List ℕ)) → SoFar bytes line rest start mid old middle → rest ≡ end ++ 10 ∷ more → HasNoFeed end
-      → IsCut ds rules (line ++ end) mid middle new → AnswersPart ds rules bytes start old new
-  part_answered bytes line rest end more start mid old middle new s is h (inl w) =
-      record { front = s.front; rest = line ++ rest; out = s.out; now = mid; are = s.are; answers = s.answers; written = part_of_whole old new _ (subst (Appends old new) (append-nil s.out) (Appends-trans old middle new _ _ s.written w)) }
-  part_answered bytes line rest end more start mid old middle new s is h (inr (now, w)) =
-      let g = none_in_both line end s.unended h in
+  -- ---- answers that are held until they are sent together
+
+  -- what an answer adds to a text
+  adds : (line before after : List ℕ) (old new : List Operations) → AnswersLine ds rules old line before new after
+      → (text : List ℕ) × AnswersLine ds rules old line [] new text × (after ≡ before ++ text)
+  adds line before after old new g = by (is_blank_line line) refl g
+    where
+      by : (b : Bool) → is_blank_line line ≡ b → MatchBool b ((new ≡ old) × (after ≡ before)) (AddsAnswer ds rules old line before new after) → (text : List ℕ) × AnswersLine ds rules old line [] new text × (after ≡ before ++ text)
+      by true e k =
+          let none : AnswersLine ds rules old line [] new [] = rw e (k.0, refl) in
+          ([], none, k.1 ∙ sym (append-nil before))
+      by false e k =
+          let one : AddsAnswer ds rules old line [] new (k.text ++ 10 ∷ []) = record { text = k.text; answers = k.answers; out_is = refl } in
+          let some : AnswersLine ds rules old line [] new (k.text ++ 10 ∷ []) = rw e one in
+          (k.text ++ 10 ∷ [], some, k.out_is ∙ append_assoc before k.text (10 ∷ []))
+
+  -- of the answers so far some were sent, and the others are held
+  pub record Gathers (bytes line rest : List ℕ) (start now : List Operations) (old new : Option (List ℕ)) (holds : List ℕ) : Type 0 where
+    pub sent : List ℕ
+    pub written : Appends old new sent
+    pub so_far : SoFar bytes line rest start now (Some []) (Some (sent ++ holds))
+
+  pub gathers_none : (line chunk : List ℕ) (start : List Operations) (old : Option (List ℕ)) → HasNoFeed line → Gathers (line ++ chunk) line chunk start start old old []
+  gathers_none line chunk start old h = record { sent = []; written = Appends-nil old; so_far = begins line chunk start (Some []) h }
+
+  pub gathers_one : (bytes line rest end more holds after : List ℕ) (start mid now : List Operations) (old new : Option (List ℕ)) → Gathers bytes line rest start mid old new holds → rest ≡ end ++ 10 ∷ more → HasNoFeed end
+      → AnswersLine ds rules mid (without_return (line ++ end)) holds now after → Gathers bytes [] more start now old new after
+  gathers_one bytes line rest end more holds after start mid now old new s is h g =
+      let a = adds (without_return (line ++ end)) holds after mid now g in
+      let w : SendsAnswer ds rules (line ++ end) mid now (Appends (Some (s.sent ++ holds)) (Some (s.sent ++ after))) =
+      record { text = a.0; answer = a.1; is_written = ap (λ l. s.sent ++ l) a.2 ∙ sym (append_assoc s.sent holds a.0) } in
+      record { sent = s.sent; written = s.written; so_far = answered bytes line rest end more start mid now (Some []) _ _ s.so_far is h w }
+
+  pub gathered_sent : (bytes line rest holds left : List ℕ) (start now : List Operations) (old middle new : Option (List ℕ)) → Gathers bytes line rest start now old middle holds → SendsSome middle new holds left → Gathers bytes line rest start now old new left
+  gathered_sent bytes line rest holds left start now old middle new s w = record {
+    sent = s.sent ++ w.0;
+    written = Appends-trans old middle new _ _ s.written w.1;
+    so_far = subst (λ l. SoFar bytes line rest start now (Some []) (Some l)) (ap (λ l. s.sent ++ l) w.2 ∙ sym (append_assoc s.sent w.0 left)) s.so_far;
+  }
+
+  pub gathered_all : (bytes line rest : List ℕ) (start now : List Operations) (old new : Option (List ℕ)) → Gathers bytes line rest start now old new [] → SoFar bytes line rest start now old new
+  gathered_all bytes line rest start now old new s =
+      let f = s.so_far in
       record {
-        front = s.front ++ ((line ++ end) ++ 10 ∷ []);
-        rest = more;
-        out = s.out ++ w.text;
+        front = f.front;
+        out = f.out;
+        are = f.are;
+        whole = f.whole;
+        unended = f.unended;
+        answers = f.answers;
+        written = subst (Appends old new) (sym (append-nil s.sent) ∙ f.written) s.written;
+      }
+
+  -- all of it is sent
+  pub gathered_whole : (bytes line rest holds : List ℕ) (start now : List Operations) (old middle new : Option (List ℕ)) → Gathers bytes line rest start now old middle holds → Appends middle new holds → SoFar bytes line rest start now old new
+  gathered_whole bytes line rest holds start now old middle new s w =
+      gathered_all bytes line rest start now old new (gathered_sent bytes line rest holds [] start now old middle new s (holds, w, sym (append-nil holds)))
+
+  -- those that are held are not sent
+  pub part_gathered : (bytes line rest holds : List ℕ) (start now : List Operations) (old new : Option (List ℕ)) → Gathers bytes line rest start now old new holds → AnswersPart ds rules bytes start old new
+  part_gathered bytes line rest holds start now old new s =
+      let f = s.so_far in
+      record { front = f.front; rest = line ++ rest; out = f.out; now = now; are = f.are; answers = f.answers; written = (s.sent, holds, sym f.written, s.written) }
+
+  -- a beginning of those that are held is sent
+  pub part_sent : (bytes line rest holds : List ℕ) (start now : List Operations) (old middle new : Option (List ℕ)) → Gathers bytes line rest start now old middle holds → AppendsPart middle new holds → AnswersPart ds rules bytes start old new
+  part_sent bytes line rest holds start now old middle new s w =
+      let f = s.so_far in
+      record {
+        front = f.front;
+        rest = line ++ rest;
+        out = f.out;
         now = now;
-        are = cut_bytes bytes s.front line end more rest s.are is;
-        answers = front_goes_on s.front (line ++ end) s.out w.text start mid now g s.answers w.answer;
-        written = part_after old middle new _ _ s.written w.is_written;
+        are = f.are;
+        answers = f.answers;
+        written = subst (AppendsPart old new) f.written (part_after old middle new _ _ s.written w);
       }

@@ -1,5 +1,5 @@
 //! Lines answered as they come.
-ghost use Rattle.std.specs.Prelude.{◌≡◌, ◌≤◌, ℕ, ◌++◌, List, Result, Ok, Some, true, false};
+ghost use Rattle.std.specs.Prelude.{◌≡◌, ◌≤◌, ℕ, ◌++◌, List, [], Result, Ok, Some, true, false, string_bytes};
 ghost use Rattle.std.specs.Prelude.{IfOk, IsErrOf, OnErr, OnOk};
 ghost use Rattle.std.specs.Io.KnownBytes.{Appends, IsAtEnd};
 ghost use Rattle.chr_device.specs.Devices.{AppendsPart};
@@ -20,7 +20,7 @@ ghost use Rattle.chr_report.specs.Served.{AllAnswered, HasNoFeed};
 ghost use Rattle.chr_report.specs.Written.{WritesOutput, WritesBeginning};
 ghost use Rattle.chr_report.specs.working.Services.{held, served, IsBetweenLines};
 ghost use Rattle.chr_report.specs.working.Serving.{AnswersChunk, AnswersCommands, AnswersInput, AnswersPart};
-ghost use Rattle.chr_report.specs.working.Serving.{AnswersFrontRead, IsCut, SendsAnswer, WritesText, WritesTextPart};
+ghost use Rattle.chr_report.specs.working.Serving.{AnswersFrontRead, IsCut, SendsAnswer, SendsSome, WritesText, WritesTextPart};
 
 use crate::answering::answer_line;
 use crate::input::{divided, ended_line, without_return};
@@ -41,7 +41,10 @@ use std::sync::Wait;
 use std::thread::Threads;
 
 /// The most bytes of a read.
-const CHUNK: usize = 4_096;
+const CHUNK: usize = 8_192;
+
+/// Answers of this many bytes are sent before the next line is answered, though more lines are there.
+const MOST_HELD: usize = 65_536;
 
 /// As many bytes are held at most before the program text has ended: what is longer than its limit with no divider in
 /// it is refused, whatever follows. A line that is no longer than the longest divider may become one.
@@ -72,7 +75,26 @@ fn send_answer<T: Wire>(
     wire.send(out.as_bytes())
 }
 
-/// Answers the lines that end in this chunk, and keeps what stands after them.
+/// Sends the answers that are held where they are long, and holds none then.
+fn send_long<T: Wire>(answers: &mut String, wire: &mut T) -> Result<(), RunFault>
+    ensures ok { OnOk result (SendsSome (T.sent wire.old) (T.sent wire.new)
+        (string_bytes answers.old) (string_bytes answers.new)) }
+    ensures err { OnErr result (AppendsPart (T.sent wire.old) (T.sent wire.new) (string_bytes answers.old)) }
+    ensures kept { T.unread wire.new ≡ T.unread wire.old }
+    ensures whole { OnOk result (T.is_broken wire.new ≡ T.is_broken wire.old) }
+    ensures device { IsErrOf result Device → T.is_broken wire.new ≡ true }
+    ensures memory { IsErrOf result Memory → T.is_broken wire.new ≡ T.is_broken wire.old }
+{
+    if answers.len() < MOST_HELD {
+        return Ok(());
+    }
+    wire.send(answers.as_bytes())?;
+    answers.clear();
+    Ok(())
+}
+
+/// Answers the lines that end in this chunk, and keeps what stands after them. Their answers are sent together, as far as
+/// they are not too long to be held.
 fn answer_chunk<T: Wire>(
     rt: &(impl Threads + Wait + Sync),
     alloc: Global,
@@ -96,12 +118,15 @@ fn answer_chunk<T: Wire>(
     ensures memory { IsErrOf result Memory → T.is_broken wire.new ≡ T.is_broken wire.old }
 {
     let mut rest = chunk;
+    let mut answers = String::new(alloc);
     while let Some((end, more)) = ended_line(rest) {
         line.extend_from_slice(end)?;
-        send_answer(rt, alloc, service, line, wire)?;
+        answer_line(rt, alloc, service, without_return(line), &mut answers)?;
+        send_long(&mut answers, wire)?;
         line.clear();
         rest = more;
     }
+    wire.send(answers.as_bytes())?;
     line.extend_from_slice(rest)?;
     Ok(())
 }

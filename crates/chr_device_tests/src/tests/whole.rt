@@ -5,7 +5,7 @@ use std::alloc::Global;
 use std::process::Abort;
 
 /// More than two of the chunks that are read at once, and less than three: three reads give bytes.
-const LENGTH: usize = 2 * 65_536 + 1_000;
+const LENGTH: usize = 2 * 16_384 + 1_000;
 
 fn text(rt: &impl Abort, alloc: Global) -> Vec<u8> {
     let mut text = Vec::new(alloc);

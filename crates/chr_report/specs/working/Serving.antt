@@ -38,6 +38,10 @@ IsCut ds rules line old before after =
     Appends before after []
     ⊎ ((now : List Operations) × SendsAnswer ds rules line old now (AppendsPart before after))
 
+-- of what is held a beginning is sent, and the rest is held still
+abbrev pub SendsSome : Option (List ℕ) → Option (List ℕ) → List ℕ → List ℕ → Type 0
+SendsSome old new holds left = (sent : List ℕ) × Appends old new sent × (holds ≡ sent ++ left)
+
 -- whole lines are answered, and one that has begun is left
 pub record AnswersChunk (ds : List Declaration) (rules : List Rule) (bytes left : List ℕ)
     (old now : List Operations) (before after : Option (List ℕ)) : Type 0 where
