@@ -12,6 +12,7 @@ import argparse
 import multiprocessing
 import os
 import random
+import resource
 import secrets
 import signal
 import sys
@@ -37,8 +38,8 @@ MOST = 400
 PATIENCE = 1.0
 """Processor seconds after which the slow programs are given up."""
 
-SECONDS = 60.0
-"""The program is never as slow."""
+SECONDS = 60
+"""Processor seconds: the program is never as slow. It is waited for ten times as long, since a machine may be busy."""
 
 MOST_TOLD = 20
 """Differences of one process, after which it ends."""
@@ -112,13 +113,14 @@ class Files:
         plain = (signal.SIGPIPE, signal.SIGINT)
         child = os.posix_spawn(program, (program, *words), os.environ, file_actions=self.places, setsigdef=plain)
         try:
-            signal.setitimer(signal.ITIMER_REAL, SECONDS)
+            resource.prlimit(child, resource.RLIMIT_CPU, (SECONDS, SECONDS))
+            signal.setitimer(signal.ITIMER_REAL, 10 * SECONDS)
             _, status = os.waitpid(child, 0)
             signal.setitimer(signal.ITIMER_REAL, 0)
         except TooSlow:
             os.kill(child, signal.SIGKILL)
             os.waitpid(child, 0)
-            return -1, "", f"no end in {SECONDS} seconds".encode()
+            return -1, "", f"no end in {10 * SECONDS} seconds".encode()
         return os.waitstatus_to_exitcode(status), self.contents(1).decode(errors="replace"), self.contents(2)
 
 

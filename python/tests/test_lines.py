@@ -1,6 +1,7 @@
-"""Lines of a service that are longer than any command, as bytes to a process."""
+"""Lines of a service that are longer than any command, or come many at once, as bytes to a process."""
 
 import resource
+import socket
 import subprocess
 import unittest
 
@@ -80,3 +81,33 @@ class LongLines(unittest.TestCase):
             process.stdin.close()
             self.assertEqual(process.stdout.read(), b"accepted: rules 0, cases 0\nrefused 30\ntrue\n")
         self.assertEqual(process.returncode, 0)
+
+
+class ManyLines(unittest.TestCase):
+    def writes(self, parts: list[bytes]) -> list[bytes]:
+        """What a service writes at once: each part of its input comes when the one before was answered."""
+        ours, theirs = socket.socketpair(socket.AF_UNIX, socket.SOCK_SEQPACKET)
+        output = theirs.fileno()
+        with ours, subprocess.Popen([program_path(), "serve"], stdin=subprocess.PIPE, stdout=output) as service:
+            theirs.close()
+            ours.settimeout(SECONDS)
+            assert service.stdin is not None
+            written = []
+            for part in parts:
+                service.stdin.write(part)
+                service.stdin.flush()
+                written.append(ours.recv(LIMIT))
+            service.stdin.close()
+            self.assertEqual(ours.recv(LIMIT), b"")
+        return written
+
+    def test_lines_that_are_there_are_answered_together(self) -> None:
+        """A write of a pipe that is no longer than 4,096 bytes is read at once."""
+        text = b":- chr_constraint a/1.\n---\n"
+        many = b"".join(b'["tell",1,[1,%d],[["a",%d]]]\n' % (number, number) for number in range(100))
+        self.assertLess(len(many), 4_096)
+        begun = b'["tell",1,[2,1],[["a",1]]]\n["show",1'
+        self.assertEqual(
+            self.writes([text, many, begun, b"7]\n"]),
+            [b"accepted: rules 0, cases 0\n", 100 * b"told\n", b"told\n", b"refused 35\n"],
+        )
