@@ -57,7 +57,7 @@ class Explanations(unittest.TestCase):
 
     def test_a_text_that_is_too_long(self) -> None:
         self.assertEqual(run("explain", b" " * MAX_TEXT)[0], 0)
-        self.check(b" " * (MAX_TEXT + 1), "fault 2: the text has 65537 bytes, 65536 are allowed\n")
+        self.check(b" " * (MAX_TEXT + 1), "fault 2: the text has more than 65536 bytes\n")
 
     def test_too_many_rules(self) -> None:
         self.check(

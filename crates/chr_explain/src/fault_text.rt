@@ -149,10 +149,7 @@ pub(crate) fn faults_told(
 ) -> Result<String, AllocError> {
     match faults {
         TextFaults::TooLong => {
-            let told = format!(in alloc;
-                "fault 2: the text has {} bytes, {MAX_TEXT} are allowed\n",
-                text.len()
-            )?;
+            let told = format!(in alloc; "fault 2: the text has more than {MAX_TEXT} bytes\n")?;
             Ok(told)
         }
         TextFaults::Clauses(bad) => told_of(alloc, text, bad),

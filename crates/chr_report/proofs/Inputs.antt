@@ -10,6 +10,7 @@ use Rattle.std.specs.Io.KnownBytes.{Appends, Consumes, IsAtEnd}
 use Rattle.std.proofs.KnownBytes.{Appends-nil, Consumes-trans}
 use Rattle.chr_base.specs.declared.program.Program.{Program}
 use Rattle.chr_device.specs.Devices.{AppendsPart}
+use Rattle.chr_device.specs.declared.words.Verb.{Verb}
 use Rattle.chr_device.specs.declared.words.Verb.TheVariants.{Run}
 use Rattle.chr_read.specs.declared.fault.ReadFault.{ReadFault}
 use Rattle.chr_read.specs.declared.fault.ReadFault.TheVariants as fault
@@ -148,18 +149,18 @@ text_too_long bytes more u l =
     rw text (long_enough (length bytes) (length u.front) (length u.line) _ _ l size sum (text_longer (is_divider (u.line ++ f.0)) u.line f.0 f.1 refl))
 
 -- its line, whatever comes after it
-too_long_output : (short long out : List ℕ) (wanted : Wanted) (status : Status) → MAX_TEXT < length (text_of (lines short)) → MAX_TEXT < length (text_of (lines long)) → IsOutput Run wanted short status out → IsOutput Run wanted long status out
-too_long_output short long out wanted status s l (Ok p, a, h) = let fits = a.0 in absurd (omega (arith, s, fits))
-too_long_output short long out wanted status s l (Err fault.TooLong, a, h) = (Err fault.TooLong, l, h)
-too_long_output short long out wanted status s l (Err (fault.Bad n k), a, h) = let fits = a.0 in absurd (omega (arith, s, fits))
-too_long_output short long out wanted status s l (Err fault.Memory, a, h) = absurd h.1
+pub too_long_output : (verb : Verb) (short long out : List ℕ) (wanted : Wanted) (status : Status) → MAX_TEXT < length (text_of (lines short)) → MAX_TEXT < length (text_of (lines long)) → IsOutput verb wanted short status out → IsOutput verb wanted long status out
+too_long_output verb short long out wanted status s l (Ok p, a, h) = let fits = a.0 in absurd (omega (arith, s, fits))
+too_long_output verb short long out wanted status s l (Err fault.TooLong, a, h) = (Err fault.TooLong, l, h)
+too_long_output verb short long out wanted status s l (Err (fault.Bad n k), a, h) = let fits = a.0 in absurd (omega (arith, s, fits))
+too_long_output verb short long out wanted status s l (Err fault.Memory, a, h) = absurd h.1
 
 pub long_written : (from to : Option (List ℕ)) (bytes : List ℕ) (wanted : Wanted) (status : Status) (IsWritten : List ℕ → Type 0) → Consumes from to bytes → IsUndivided bytes → MAX_TEXT + 4 < length bytes
     → Writes (Some bytes) Run wanted status IsWritten → Writes from Run wanted status IsWritten
 long_written from to bytes wanted status IsWritten c u l w =
     let left = some_left from to bytes c in
     let here : MAX_TEXT < length (text_of (lines w.input)) = subst (λ b. MAX_TEXT < length (text_of (lines b))) (append-nil bytes ∙ sym w.is_read) (text_too_long bytes [] u l) in
-    record { input = bytes ++ left.0; is_read = left.1; out = w.out; is_output = too_long_output w.input (bytes ++ left.0) w.out wanted status here (text_too_long bytes left.0 u l) w.is_output; is_written = w.is_written }
+    record { input = bytes ++ left.0; is_read = left.1; out = w.out; is_output = too_long_output Run w.input (bytes ++ left.0) w.out wanted status here (text_too_long bytes left.0 u l) w.is_output; is_written = w.is_written }
 
 pub long_part : (from to : Option (List ℕ)) (bytes : List ℕ) (wanted : Wanted) (old new : Option (List ℕ)) → Consumes from to bytes → IsUndivided bytes → MAX_TEXT + 4 < length bytes
     → WritesBeginning (Some bytes) old new Run wanted → WritesBeginning from old new Run wanted

@@ -13,6 +13,7 @@ pub mod Pieces
 pub mod Conversing
 pub mod Shortened
 pub mod Inputs
+pub mod Kept
 pub mod Telling
 pub mod Merging
 pub mod Reading

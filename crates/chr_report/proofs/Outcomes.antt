@@ -1,6 +1,6 @@
 -- The parts of a run's output put together.
 use Rattle.std.proofs.Common.{◌≡◌, ℕ, List, [], ◌∷◌, ◌++◌, length, refl, sym, ap, ◌∙◌, subst, append_assoc, append-nil, ◌⊎◌, inr}
-use Rattle.std.specs.Prelude.{Option, None, Result, Ok, Err, IfSome, IfOk, replicate}
+use Rattle.std.specs.Prelude.{Option, None, Some, Result, Ok, Err, IfSome, IfOk, replicate}
 use Rattle.std.specs.Borrow.{Bor}
 use Rattle.std.specs.FinMap as finmap
 use Rattle.std.specs.Io.KnownBytes.{Appends}
@@ -24,18 +24,22 @@ use Rattle.chr_report.specs.Lines.{lines, text_of, commands_of}
 use Rattle.chr_report.specs.Answers.{AnswersAll}
 use Rattle.chr_report.specs.working.Answered.{AnswersRest}
 use Rattle.chr_report.specs.working.LinesLeft.{lines_left}
-use Rattle.chr_report.specs.Outputs.{asked, IsOutput, IsReadOutput, IsAnswered, IsRefusedByWeights, IsRefusedByOverlaps, accepted_text}
+use Rattle.chr_report.specs.Outputs.{asked, Decides, IsOutput, IsReadOutput, IsAnswered, IsRefusedByWeights, IsRefusedByOverlaps, accepted_text}
 use Rattle.chr_report.specs.Written.{Writes, WritesOutput, WritesBeginning}
 
+-- what is kept of an input decides what is written for it
+kept_written : (from : Option (List ℕ)) (kept out : List ℕ) (verb : Verb) (wanted : Wanted) (status : Status) (IsWritten : List ℕ → Type 0) → IfSome from (Decides kept) → IsOutput verb wanted kept status out → IsWritten out
+    → Writes from verb wanted status IsWritten
+kept_written None kept out verb wanted status IsWritten d o w = record { input = kept; is_read = tt; out = out; is_output = o; is_written = w }
+kept_written (Some x) kept out verb wanted status IsWritten d o w = record { input = x; is_read = refl; out = out; is_output = d verb wanted status out o; is_written = w }
+
 -- a whole write leaves all
-pub whole_written : (old new bytes : Option (List ℕ)) (verb : Verb) (wanted : Wanted) (input written out : List ℕ) (status : Status) → IfSome bytes (λ t. input ≡ t) → IsOutput verb wanted input status out → written ≡ out → Appends old new written → WritesOutput bytes old new verb wanted status
-whole_written old new bytes verb wanted input written out status h o e a = record { input = input; is_read = h; out = out; is_output = o; is_written = subst (Appends old new) e a }
+pub whole_written : (old new bytes : Option (List ℕ)) (verb : Verb) (wanted : Wanted) (kept written out : List ℕ) (status : Status) → IfSome bytes (Decides kept) → IsOutput verb wanted kept status out → written ≡ out → Appends old new written → WritesOutput bytes old new verb wanted status
+whole_written old new bytes verb wanted kept written out status d o e a = kept_written bytes kept out verb wanted status (Appends old new) d o (subst (Appends old new) e a)
 
 -- a failed write leaves a beginning
-pub part_written : (old new bytes : Option (List ℕ)) (verb : Verb) (wanted : Wanted) (input written out : List ℕ) (status : Status) → IfSome bytes (λ t. input ≡ t) → IsOutput verb wanted input status out → written ≡ out → AppendsPart old new written → WritesBeginning bytes old new verb wanted
-part_written old new bytes verb wanted input written out status h o e a =
-    let part : Writes bytes verb wanted status (AppendsPart old new) = record { input = input; is_read = h; out = out; is_output = o; is_written = subst (AppendsPart old new) e a } in
-    inr (status, part)
+pub part_written : (old new bytes : Option (List ℕ)) (verb : Verb) (wanted : Wanted) (kept written out : List ℕ) (status : Status) → IfSome bytes (Decides kept) → IsOutput verb wanted kept status out → written ≡ out → AppendsPart old new written → WritesBeginning bytes old new verb wanted
+part_written old new bytes verb wanted kept written out status d o e a = inr (status, kept_written bytes kept out verb wanted status (AppendsPart old new) d o (subst (AppendsPart old new) e a))
 
 -- no lines, no answers
 pub nothing_to_answer : (ds : List Declaration) (rules : List Rule) (commands : Option (Bor (List ℕ))) (old : List Operations) (before : List ℕ) → commands ≡ None → AnswersRest ds rules (lines_left commands) old before before

@@ -100,3 +100,8 @@ abbrev pub IsOutput : Verb → Wanted → List ℕ → Status → List ℕ → T
 IsOutput verb wanted input status out =
     (answer : Result Program ReadFault) × IsAnswer (text_of (lines input)) answer
     × IsReadOutput answer wanted (asked verb (commands_of (lines input))) status out
+
+-- whatever is written for the bytes that are kept is written for the input
+abbrev pub Decides : List ℕ → List ℕ → Type 0
+Decides kept input = (verb : Verb) (wanted : Wanted) (status : Status) (out : List ℕ) →
+    IsOutput verb wanted kept status out → IsOutput verb wanted input status out

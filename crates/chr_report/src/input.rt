@@ -8,7 +8,12 @@ ghost use Rattle.chr_report.specs.working.Divided.{IsDivided, IsUndivided};
 ghost use Rattle.chr_report.specs.working.LinesLeft.{lines_left};
 
 use chr_device::Verb;
+use chr_read::MAX_TEXT;
 use memchr::memchr;
+
+/// As many bytes are held at most before the program text has ended: what is longer than its limit with no divider in
+/// it is refused, whatever follows. A line that is no longer than the longest divider may become one.
+pub(crate) const MOST_TEXT: usize = MAX_TEXT + 4;
 
 /// How many bytes stand before the first line feed.
 fn line_len(bytes: &[u8]) -> usize

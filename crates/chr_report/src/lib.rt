@@ -4,6 +4,7 @@
 mod answering;
 mod input;
 mod judging;
+mod keeping;
 mod laws;
 mod one_text;
 mod reply;
@@ -19,6 +20,7 @@ mod wire;
 
 pub use chr_device::{RunFault, Settings, Style, Verb, Watched, WordsFault, read_words};
 pub use input::program_text;
+pub use keeping::read_input;
 pub use laws::{checks_begin_runs, lines_are_the_input};
 pub use one_text::{answers_are_one, answers_exist, outputs_are_one, outputs_exist};
 pub use reply::Refusal;

@@ -17,11 +17,12 @@ ghost use Rattle.chr_report.specs.working.LinesLeft.{lines_left};
 use crate::answering::answer_commands;
 use crate::input::{asked, split};
 use crate::judging::{Judged, judge};
+use crate::keeping::read_input;
 use crate::service::Service;
 use crate::sharing::Sharing;
 use crate::verdict::accepted_line;
 use crate::wanted::Wanted;
-use chr_device::{RunFault, Settings, Verb, Watched, read_all, write_whole};
+use chr_device::{RunFault, Settings, Verb, Watched, write_whole};
 use chr_join::Accepted;
 use std::alloc::{AllocError, Global};
 use std::io::{Read, Write};
@@ -101,7 +102,7 @@ pub(crate) fn output_of(
     }
 }
 
-/// Reads all of the input, and then writes its output: the verdict on the program text, and by `Verb::Run` for an
+/// Reads all of the input, of which it holds what decides the output, and then writes that: the verdict on the program text, and by `Verb::Run` for an
 /// accepted program the answer line of each command. What is written does not depend on the numbers of workers and of
 /// parts, by which stores are rested.
 ///
@@ -132,7 +133,7 @@ pub fn run<R: Read, W: Write>(
     ensures unread { has_failed reader.new ≡ true → writer.new ≡ writer.old }
     ensures unanswered { IsErrOf result Memory → writer.new ≡ writer.old }
 {
-    let input = read_all(alloc, reader)?;
+    let input = read_input(alloc, reader)?;
     let output = output_of(
         rt,
         alloc,

@@ -23,7 +23,7 @@ ghost use Rattle.chr_report.specs.working.Serving.{AnswersChunk, AnswersCommands
 ghost use Rattle.chr_report.specs.working.Serving.{AnswersFrontRead, IsCut, SendsAnswer, SendsSome, WritesText, WritesTextPart};
 
 use crate::answering::answer_line;
-use crate::input::{divided, ended_line, without_return};
+use crate::input::{MOST_TEXT, divided, ended_line, without_return};
 use crate::judging::{Judged, judge};
 use crate::one_text::answers_exist;
 use crate::running::{Status, output_of};
@@ -35,7 +35,6 @@ use crate::wanted::Wanted;
 use crate::wire::Wire;
 use chr_device::{RunFault, Settings, Verb};
 use chr_join::Accepted;
-use chr_read::MAX_TEXT;
 use std::alloc::Global;
 use std::sync::Wait;
 use std::thread::Threads;
@@ -45,10 +44,6 @@ const CHUNK: usize = 8_192;
 
 /// Answers of this many bytes are sent before the next line is answered, though more lines are there.
 const MOST_HELD: usize = 65_536;
-
-/// As many bytes are held at most before the program text has ended: what is longer than its limit with no divider in
-/// it is refused, whatever follows. A line that is no longer than the longest divider may become one.
-const MOST_TEXT: usize = MAX_TEXT + 4;
 
 /// Sends the answer of a line, which comes without its line feed: nothing for a blank one.
 fn send_answer<T: Wire>(

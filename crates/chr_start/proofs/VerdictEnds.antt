@@ -1,6 +1,6 @@
 -- A verdict is that of a check.
 use Rattle.std.proofs.Common.{◌≡◌, ◌++◌, ℕ, List, [], ◌∷◌, length, refl, subst, sym, inl, inr}
-use Rattle.std.specs.Prelude.{◌⊎◌, Option, Result, Ok, Err, IfOk, IfSome, IsErrOf}
+use Rattle.std.specs.Prelude.{◌⊎◌, Option, Some, None, Result, Ok, Err, IfOk, IfSome, IsErrOf}
 use Rattle.std.specs.Io.KnownBytes.{Appends}
 use Rattle.chr_base.specs.declared.program.Program.{Program}
 use Rattle.chr_base.specs.ProgramTests.{some_paired}
@@ -24,7 +24,7 @@ use Rattle.chr_report.specs.declared.running.Status.{Status}
 use Rattle.chr_report.specs.declared.running.Status.TheVariants.{Refused}
 use Rattle.chr_report.specs.Lines.{lines, text_of}
 use Rattle.chr_report.specs.Asked.{replicas_by}
-use Rattle.chr_report.specs.Outputs.{IsOutput, IsReadOutput, IsRulesOutput, accepted_text, not_lowered_text}
+use Rattle.chr_report.specs.Outputs.{Decides, IsOutput, IsReadOutput, IsRulesOutput, accepted_text, not_lowered_text}
 use Rattle.chr_report.specs.Overlaps.{failure_text, too_many_text}
 use Rattle.chr_start.specs.Statuses.{EndsAsCheck, ExplanationEnds, status_of}
 use Rattle.chr_start.specs.working.Verdicts.{as_status}
@@ -69,11 +69,16 @@ text_output text verdict.Refused (inr h) = let o = by_rules h.0 h.2 in (o.0, (Ok
 pub checked : (text input : List ℕ) (v : Verdict) → text ≡ text_of (lines input) → IsVerdict text v → (out : List ℕ) × IsOutput Check (replicas_by Joint 1) input (as_status v) out
 checked text input v is h = text_output (text_of (lines input)) v (subst (λ t. IsVerdict t v) is h)
 
--- the status of a verdict on the program text of what was read
-pub verdict_ends : (bytes : Option (List ℕ)) (text input : List ℕ) (v : Verdict) (status : Status) → IfSome bytes (λ t. input ≡ t) → text ≡ text_of (lines input) → IsVerdict text v
+-- what a check writes of what is kept it writes of the input
+kept_ends : (bytes : Option (List ℕ)) (kept : List ℕ) (status : Status) → IfSome bytes (Decides kept) → (out : List ℕ) × IsOutput Check (replicas_by Joint 1) kept status out → EndsAsCheck bytes status
+kept_ends None kept status d o = (kept, tt, o.0, o.1)
+kept_ends (Some x) kept status d o = (x, refl, o.0, d Check (replicas_by Joint 1) status o.0 o.1)
+
+-- the status of a verdict on the program text of what is kept of the input
+pub verdict_ends : (bytes : Option (List ℕ)) (text kept : List ℕ) (v : Verdict) (status : Status) → IfSome bytes (Decides kept) → text ≡ text_of (lines kept) → IsVerdict text v
     → status ≡ as_status v → EndsAsCheck bytes status
-verdict_ends bytes text input v status read is h same =
-    let o = checked text input v is h in (input, read, o.0, subst (λ s. IsOutput Check (replicas_by Joint 1) input s o.0) (sym same) o.1)
+verdict_ends bytes text kept v status d is h same =
+    let o = checked text kept v is h in kept_ends bytes kept status d (o.0, subst (λ s. IsOutput Check (replicas_by Joint 1) kept s o.0) (sym same) o.1)
 
 -- an explanation has ended
 pub explanation_ends : (bytes old new : Option (List ℕ)) (r : Result Status RunFault) (status : ℕ) → status ≡ status_of r → IfOk r (EndsAsCheck bytes)

@@ -7,9 +7,9 @@ ghost use Rattle.chr_report.specs.Wires.{reader_of, writer_of};
 ghost use Rattle.chr_start.specs.Statuses.{EndsAsCheck};
 ghost use Rattle.chr_start.specs.working.Verdicts.{as_status};
 
-use chr_device::{Style, read_all, write_whole};
+use chr_device::{Style, write_whole};
 use chr_explain::{Manner, Verdict, explain};
-use chr_report::{RunFault, Status, Streams, program_text};
+use chr_report::{RunFault, Status, Streams, program_text, read_input};
 use std::alloc::Global;
 use std::io::{Read, Write};
 use std::thread::Threads;
@@ -33,7 +33,8 @@ fn status_of(verdict: Verdict) -> Status
     }
 }
 
-/// Reads all of the input, and writes the explanation of its program text.
+/// Reads all of the input, and writes the explanation of its program text: of a text that is too long no more is held
+/// than tells that it is.
 ///
 /// # Errors
 ///
@@ -49,7 +50,7 @@ pub(crate) fn explain_input<R: Read, W: Write>(
     ensures memory { IsErrOf result Memory → Appends (W.contents (writer_of streams.old))
         (W.contents (writer_of streams.new)) [] }
 {
-    let input = read_all(alloc, &mut streams.reader)?;
+    let input = read_input(alloc, &mut streams.reader)?;
     let explanation = explain(rt, alloc, program_text(&input), manner_of(style))?;
     write_whole(&mut streams.writer, explanation.text.as_bytes())?;
     Ok(status_of(explanation.verdict))

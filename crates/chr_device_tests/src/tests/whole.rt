@@ -1,7 +1,8 @@
 //! Readers and writers to their ends, and where they fail. Where memory runs out a test ends.
 use chr_device::testing::{Drips, FailsAt};
-use chr_device::{RunFault, Watched, read_all, write_whole};
+use chr_device::{RunFault, Watched, read_on, read_past, write_whole};
 use std::alloc::Global;
+use std::io::Read;
 use std::process::Abort;
 
 /// More than two of the chunks that are read at once, and less than three: three reads give bytes.
@@ -15,9 +16,11 @@ fn text(rt: &impl Abort, alloc: Global) -> Vec<u8> {
     text
 }
 
-/// Whether the reader has not failed and is at its end.
-fn is_at_end(reader: Watched<&[u8]>) -> bool {
-    !reader.failed() && reader.into_inner().is_empty()
+/// The bytes that are held after a read on to none, as far as there are no more than so many.
+fn read(alloc: Global, reader: &mut Watched<impl Read>, most: usize) -> Result<Vec<u8>, RunFault> {
+    let mut held = Vec::new(alloc);
+    read_on(reader, &mut held, most)?;
+    Ok(held)
 }
 
 #[test]
@@ -25,25 +28,80 @@ fn all_is_read(rt: HostRuntime) {
     let alloc = rt.alloc();
     let text = text(&rt, alloc);
     let mut reader = Watched::of(text.as_slice());
-    let read = read_all(alloc, &mut reader).ok();
+    let held = read(alloc, &mut reader, usize::MAX).ok();
     assert!(rt;
-        read.expect(&rt, "it is read") == text,
+        held.expect(&rt, "it is read") == text,
         "the bytes are the text"
     );
-    assert!(rt; is_at_end(reader));
+    assert!(rt; !reader.failed());
+    assert!(rt; reader.into_inner().is_empty());
+}
+
+/// How many bytes are held where no more than so many are wanted, and how many are left, by reads of 16,384.
+const HELD: [(usize, usize, usize); 4] = [
+    (0, 16_384, 17_384),
+    (16_383, 16_384, 17_384),
+    (16_384, 32_768, 1_000),
+    (32_768, 33_768, 0),
+];
+
+#[test]
+fn no_more_is_read_than_is_wanted(rt: HostRuntime) {
+    let alloc = rt.alloc();
+    let text = text(&rt, alloc);
+    for (most, expected, left) in HELD {
+        let mut reader = Watched::of(text.as_slice());
+        let held = read(alloc, &mut reader, most).expect(&rt, "it is read");
+        assert!(rt;
+            text.get(..expected) == Some(held.as_slice()),
+            "{most} bytes"
+        );
+        assert!(rt; reader.into_inner().len() == left, "after {most}");
+    }
+}
+
+#[test]
+fn what_is_held_goes_on(rt: HostRuntime) {
+    let alloc = rt.alloc();
+    let text = text(&rt, alloc);
+    let mut reader = Watched::of(text.as_slice());
+    let mut held = read(alloc, &mut reader, 0).expect(&rt, "some is read");
+    assert!(rt; read_on(&mut reader, &mut held, usize::MAX).is_ok());
+    assert!(rt; held == text, "the bytes are the text");
+}
+
+#[test]
+fn what_is_passed_is_read_to_the_end(rt: HostRuntime) {
+    let text = text(&rt, rt.alloc());
+    let mut reader = Watched::of(text.as_slice());
+    assert!(rt; read_past(&mut reader).is_ok());
+    assert!(rt; !reader.failed());
+    assert!(rt; reader.into_inner().is_empty());
 }
 
 /// Whether the fault of this call is told, and kept by the reader.
 fn is_told(alloc: Global, text: &[u8], call: u64) -> bool {
     let mut reader = Watched::of(FailsAt::of(text, call));
-    let fault = read_all(alloc, &mut reader).err();
+    let fault = read(alloc, &mut reader, usize::MAX).err();
     fault == Some(RunFault::Device) && reader.failed()
+}
+
+/// Whether it is so where nothing is held.
+fn is_told_past(text: &[u8], call: u64) -> bool {
+    let mut reader = Watched::of(FailsAt::of(text, call));
+    read_past(&mut reader) == Err(RunFault::Device) && reader.failed()
 }
 
 /// Whether all is read before this call, which fails.
 fn is_read_before(alloc: Global, text: &[u8], call: u64) -> bool {
     let mut reader = Watched::of(FailsAt::of(text, call));
-    read_all(alloc, &mut reader).is_ok()
+    read(alloc, &mut reader, usize::MAX).is_ok()
+}
+
+/// Whether all is passed before it.
+fn is_passed_before(text: &[u8], call: u64) -> bool {
+    let mut reader = Watched::of(FailsAt::of(text, call));
+    read_past(&mut reader).is_ok()
 }
 
 #[test]
@@ -53,8 +111,10 @@ fn a_failed_read_is_told(rt: HostRuntime) {
     // Three reads give bytes, and a fourth finds the end.
     for call in 1..=4u64 {
         assert!(rt; is_told(alloc, &text, call), "at call {call}");
+        assert!(rt; is_told_past(&text, call), "past, at call {call}");
     }
     assert!(rt; is_read_before(alloc, &text, 5));
+    assert!(rt; is_passed_before(&text, 5));
 }
 
 /// What was written of three bytes when this call failed, which was told.
