@@ -1,5 +1,6 @@
 //! What is wrong with a clause, with the names and numbers at hand.
 
+use crate::foreign::Foreign;
 use crate::syntax::Stuck;
 use crate::word::{ToldSymbol, ToldWord};
 use chr_base::limits::{
@@ -38,10 +39,11 @@ pub(crate) enum WeightFault<'a> {
 pub(crate) enum Cause<'a> {
     /// A byte that may not stand outside comments.
     Byte(u8),
-    /// A byte at which no token begins.
-    NoToken(&'a [u8]),
+    /// A byte at which no token begins, and the form of usual CHR that has it.
+    NoToken(&'a [u8], Option<Foreign<'a>>),
     Empty,
-    Form(Stuck<'a>),
+    /// Where the clause has no form, and the form of usual CHR that stands there.
+    Form(Stuck<'a>, Option<Foreign<'a>>),
     Propagation,
     Undeclared(ToldSymbol<'a>),
     DeclaredTwice(ToldSymbol<'a>),
@@ -125,9 +127,9 @@ impl fmt::Display for Cause<'_> {
     fn fmt<W: fmt::Write>(&self, f: &mut fmt::Formatter<W>) -> fmt::Result {
         match self {
             Cause::Byte(byte) => write!(f, "the byte {byte} may not stand outside comments"),
-            Cause::NoToken(word) => write!(f, "no token begins with {}", ToldWord(word)),
+            Cause::NoToken(word, _) => write!(f, "no token begins with {}", ToldWord(word)),
             Cause::Empty => f.write_str("this clause is empty"),
-            Cause::Form(stuck) => write!(f, "{stuck}"),
+            Cause::Form(stuck, _) => write!(f, "{stuck}"),
             Cause::Propagation => f.write_str("this is a propagation rule, and these are not read"),
             Cause::Undeclared(symbol) => write!(f, "{symbol} is not declared"),
             Cause::DeclaredTwice(symbol) => write!(f, "{symbol} is declared already"),
@@ -144,16 +146,25 @@ impl fmt::Display for Cause<'_> {
     }
 }
 
-impl Cause<'_> {
+impl<'a> Cause<'a> {
+    /// The form of usual CHR that stands there.
+    pub(crate) fn foreign(&self) -> Option<Foreign<'a>> {
+        match self {
+            Cause::NoToken(_, foreign) | Cause::Form(_, foreign) => *foreign,
+            _ => None,
+        }
+    }
+
     /// What would be right.
     pub(crate) fn remedy(&self) -> &'static str {
         match self {
             Cause::Byte(_) =>
                 "write tabs, line feeds, carriage returns and the characters from space to `~`",
-            Cause::NoToken(_) => "write names, variables, numbers and the signs of the language",
+            Cause::NoToken(..) => "write names, variables, numbers and the signs of the language",
             Cause::Empty => "remove the full stop, or write a clause before it",
-            Cause::Form(stuck) => stuck.remedy(),
-            Cause::Propagation => "keep heads by `\\`, as in `a(X) \\ b(X) <=> c(X).`",
+            Cause::Form(stuck, _) => stuck.remedy(),
+            Cause::Propagation =>
+                "each rule takes a head: keep the others by `\\`, as in `a(X) \\ b(X) <=> c(X).`",
             Cause::Undeclared(_) =>
                 "declare it in an earlier clause, as in `:- chr_constraint a/1, b/0.`",
             Cause::DeclaredTwice(_) => "declare each name once for each number of arguments",

@@ -95,6 +95,14 @@ fn push_cause(
     out.push_str("\n")
 }
 
+/// Adds what would be right.
+fn push_remedy(out: &mut String, cause: &Cause<'_>) -> Result<(), AllocError> {
+    match cause.foreign() {
+        Some(foreign) => write!(out, "    {foreign}\n"),
+        None => write!(out, "    {}\n", cause.remedy()),
+    }
+}
+
 /// Adds what is wrong with a bad clause.
 fn push_bad(
     alloc: Global,
@@ -114,7 +122,7 @@ fn push_bad(
         &program,
     )?;
     push_line(out, source.text, at)?;
-    write!(out, "    {}\n", finding.cause.remedy())
+    push_remedy(out, &finding.cause)
 }
 
 /// The explanation of these bad clauses.

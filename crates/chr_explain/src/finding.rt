@@ -1,6 +1,7 @@
 //! What is wrong with a bad clause, and where.
 
 use crate::cause::{Cause, Over, WeightFault};
+use crate::foreign::{foreign_byte, foreign_token};
 use crate::rule::{PlacedAtom, atoms_of, before, first_of, from, is_term, without_label};
 use crate::syntax::stuck_in;
 use crate::token::{Kind, PlacedToken, first_place, placed_tokens};
@@ -50,15 +51,16 @@ fn no_form<'a>(clause: &'a [u8], tokens: &[PlacedToken<'a>]) -> Option<Finding<'
             at: clause.len(),
         });
     }
-    if let Some(token) = token_of(tokens, Kind::Unknown) {
+    let unknown = first_of(tokens, Kind::Unknown);
+    if let Some(token) = tokens.get(unknown) {
         return Some(Finding {
-            cause: Cause::NoToken(token.word),
+            cause: Cause::NoToken(token.word, foreign_byte(tokens, unknown)),
             at: token.at,
         });
     }
     let stuck = stuck_in(tokens)?;
     Some(Finding {
-        cause: Cause::Form(stuck),
+        cause: Cause::Form(stuck, foreign_token(tokens, stuck)),
         at: match stuck.found {
             Some(token) => token.at,
             None => clause.len(),

@@ -9,6 +9,7 @@ mod explanation;
 mod fault_text;
 mod faults;
 mod finding;
+mod foreign;
 mod limits;
 mod line;
 mod overlap_text;

@@ -56,6 +56,8 @@ pub(crate) struct Stuck<'a> {
     pub wanted: Wanted,
     /// None at the clause's end.
     pub found: Option<PlacedToken<'a>>,
+    /// How many tokens stand before what was found.
+    pub place: usize,
 }
 
 /// What stands after `use_module`.
@@ -294,6 +296,7 @@ pub(crate) fn stuck_in<'a>(tokens: &[PlacedToken<'a>]) -> Option<Stuck<'a>> {
                 after,
                 wanted,
                 found: Some(*token),
+                place,
             }),
         }
         after = Some(token.word);
@@ -305,6 +308,7 @@ pub(crate) fn stuck_in<'a>(tokens: &[PlacedToken<'a>]) -> Option<Stuck<'a>> {
         after,
         wanted,
         found: None,
+        place: tokens.len(),
     })
 }
 

@@ -1,0 +1,350 @@
+//! Forms of usual CHR that this language has not, told by name.
+
+use crate::rule::is_term;
+use crate::syntax::{Naming, Side, Stuck, Wanted};
+use crate::token::{Kind, PlacedToken};
+use crate::word::{ToldBytes, ToldWord};
+use std::fmt;
+
+/// What usual CHR has in place of a number or a variable.
+#[derive(Clone, Copy)]
+pub(crate) enum ForeignValue<'a> {
+    Symbol(&'a [u8]),
+    Quoted,
+    /// A name with arguments.
+    Term(&'a [u8]),
+    List,
+}
+
+/// What directives of usual CHR have.
+#[derive(Clone, Copy)]
+pub(crate) enum ForeignDirective {
+    Modes,
+    Types,
+    Options,
+    Modules,
+}
+
+/// A form of usual CHR that makes a clause bad.
+#[derive(Clone, Copy)]
+pub(crate) enum Foreign<'a> {
+    Directive(ForeignDirective),
+    Value(ForeignValue<'a>),
+    /// A sign or a word that computes.
+    Arithmetic(&'a [u8]),
+    /// A name with arguments in a guard.
+    Call(&'a [u8]),
+    /// A sign that is written otherwise here.
+    Sign {
+        usual: &'static str,
+        here: &'static str,
+    },
+    Negation,
+    Alternatives,
+    /// A comparison or an equation in a body.
+    Builtin,
+    Cut,
+    Comment,
+    Pragma,
+}
+
+/// The token at which a clause is bad, and what stands beside it.
+#[derive(Clone, Copy)]
+struct Spot<'a> {
+    before: Option<PlacedToken<'a>>,
+    token: PlacedToken<'a>,
+    after: Option<PlacedToken<'a>>,
+}
+
+fn sign(usual: &'static str, here: &'static str) -> Foreign<'static> {
+    Foreign::Sign { usual, here }
+}
+
+fn is_word(token: Option<PlacedToken<'_>>, word: &[u8]) -> bool {
+    match token {
+        Some(token) => token.word == word,
+        None => false,
+    }
+}
+
+impl<'a> Spot<'a> {
+    /// The token at this place of a clause.
+    fn at(tokens: &[PlacedToken<'a>], place: usize) -> Option<Spot<'a>> {
+        let token = tokens.get(place)?;
+        let before = match place {
+            0 => None,
+            _ => tokens.get(place - 1).copied(),
+        };
+        Some(Spot {
+            before,
+            token: *token,
+            after: tokens.get(place.saturating_add(1)).copied(),
+        })
+    }
+
+    fn is_after(&self, word: &[u8]) -> bool {
+        is_word(self.before, word)
+    }
+
+    fn is_before(&self, word: &[u8]) -> bool {
+        is_word(self.after, word)
+    }
+
+    /// Whether an atom may end before the token.
+    fn is_after_atom(&self) -> bool {
+        match self.before {
+            Some(token) => token.kind == Kind::Name || token.kind == Kind::Close,
+            None => false,
+        }
+    }
+
+    /// Whether a comparison or an equation goes on behind the token.
+    fn is_compared(&self) -> bool {
+        match self.after {
+            Some(token) => {
+                token.kind == Kind::Comparison
+                    || token.kind == Kind::Equals
+                    || token.kind == Kind::Backslash
+            }
+            None => false,
+        }
+    }
+}
+
+/// The word of the directive that these tokens are.
+fn directive_of<'a>(tokens: &[PlacedToken<'a>]) -> Option<&'a [u8]> {
+    match tokens {
+        [first, second, ..] => (first.kind == Kind::Directive).then_some(second.word),
+        _ => None,
+    }
+}
+
+/// What is foreign in the directive with this word, at this one.
+fn in_directive(word: &[u8], at: &[u8]) -> Option<ForeignDirective> {
+    match word {
+        b"chr_option" => Some(ForeignDirective::Options),
+        b"chr_type" => Some(ForeignDirective::Types),
+        b"module" | b"use_module" => Some(ForeignDirective::Modules),
+        b"chr_constraint" => match at {
+            b"+" | b"-" | b"?" => Some(ForeignDirective::Modes),
+            _ => None,
+        },
+        _ => None,
+    }
+}
+
+/// What a byte with which no token begins is beside its neighbours.
+fn beside<'a>(spot: Spot<'_>) -> Option<Foreign<'a>> {
+    match spot.token.word {
+        b"+" => spot.is_after(b"\\").then_some(Foreign::Negation),
+        b"-" => spot.is_before(b">").then_some(Foreign::Alternatives),
+        b"*" => (spot.is_after(b"/") || spot.is_before(b"/")).then_some(Foreign::Comment),
+        b"!" => spot.is_compared().then_some(sign("!=", "=\\=")),
+        b"#" => spot.is_after_atom().then_some(Foreign::Pragma),
+        _ => None,
+    }
+}
+
+/// What a byte with which no token begins is anywhere else.
+fn alone<'a>(word: &'a [u8]) -> Option<Foreign<'a>> {
+    match word {
+        b"+" | b"-" | b"*" | b"^" => Some(Foreign::Arithmetic(word)),
+        b"'" | b"\"" => Some(Foreign::Value(ForeignValue::Quoted)),
+        b"[" | b"]" => Some(Foreign::Value(ForeignValue::List)),
+        b";" => Some(Foreign::Alternatives),
+        b"!" => Some(Foreign::Cut),
+        _ => None,
+    }
+}
+
+/// What computes with the value before this token: a sign, a word, or the minus of a number.
+fn operator_of<'a>(token: PlacedToken<'a>) -> Option<&'a [u8]> {
+    match token.word {
+        b"/" | b"is" | b"mod" | b"rem" | b"div" => Some(token.word),
+        [b'-', ..] => Some(&token.word[..1]),
+        _ => None,
+    }
+}
+
+/// What stands after a value.
+fn after_value<'a>(spot: Spot<'a>) -> Option<Foreign<'a>> {
+    match spot.token.kind {
+        Kind::Backslash => spot.is_before(b"=").then_some(sign("\\=", "=\\=")),
+        Kind::Equals => spot.is_before(b">").then_some(sign("=>", ">=")),
+        _ => Some(Foreign::Arithmetic(operator_of(spot.token)?)),
+    }
+}
+
+/// What stands in place of an argument.
+fn for_argument<'a>(spot: Spot<'a>) -> Option<Foreign<'a>> {
+    let word = spot.token.word;
+    if spot.token.kind != Kind::Name {
+        None
+    } else if spot.is_before(b"(") {
+        Some(Foreign::Value(ForeignValue::Term(word)))
+    } else {
+        Some(Foreign::Value(ForeignValue::Symbol(word)))
+    }
+}
+
+/// What stands in place of a comparison's right side.
+fn for_right_side<'a>(spot: Spot<'a>) -> Option<Foreign<'a>> {
+    let word = spot.token.word;
+    if spot.token.kind == Kind::Equals {
+        spot.is_after(b"<").then_some(sign("<=", "=<"))
+    } else if spot.token.kind != Kind::Name {
+        None
+    } else if spot.is_before(b"(") {
+        Some(Foreign::Call(word))
+    } else {
+        Some(Foreign::Value(ForeignValue::Symbol(word)))
+    }
+}
+
+/// What stands in place of a guard's comparison.
+fn for_comparison<'a>(spot: Spot<'a>) -> Option<Foreign<'a>> {
+    let word = spot.token.word;
+    if spot.token.kind != Kind::Name {
+        None
+    } else if spot.is_before(b"(") {
+        Some(Foreign::Call(word))
+    } else {
+        spot.is_compared()
+            .then_some(Foreign::Value(ForeignValue::Symbol(word)))
+    }
+}
+
+/// What stands in place of a body's atom.
+fn for_atom<'a>(spot: Spot<'a>) -> Option<Foreign<'a>> {
+    if !is_term(&spot.token) {
+        return None;
+    }
+    if spot.is_compared() {
+        return Some(Foreign::Builtin);
+    }
+    Some(Foreign::Arithmetic(operator_of(spot.after?)?))
+}
+
+/// What stands after an atom.
+fn after_atom<'a>(side: Side, spot: Spot<'_>) -> Option<Foreign<'a>> {
+    match (side, spot.token.kind) {
+        (Side::Head, Kind::Equals) => spot.is_before(b">").then_some(sign("=>", "<=>")),
+        (_, Kind::Name) => (spot.token.word == b"pragma".as_slice()).then_some(Foreign::Pragma),
+        _ => None,
+    }
+}
+
+/// What stands after a declared name.
+fn after_name<'a>(kind: Kind) -> Option<Foreign<'a>> {
+    (kind == Kind::Open).then_some(Foreign::Directive(ForeignDirective::Modes))
+}
+
+/// What stands where the clause wants something else.
+fn in_place_of<'a>(wanted: Wanted, spot: Spot<'a>) -> Option<Foreign<'a>> {
+    match wanted {
+        Wanted::Term(_) => for_argument(spot),
+        Wanted::GuardTerm => for_right_side(spot),
+        Wanted::TermNext(_) | Wanted::GuardSign | Wanted::GuardNext => after_value(spot),
+        Wanted::GuardItem => for_comparison(spot),
+        Wanted::Item(Side::Body) => for_atom(spot),
+        Wanted::AtomNext(side) | Wanted::ItemNext(side) => after_atom(side, spot),
+        Wanted::Slash(Naming::Declare) => after_name(spot.token.kind),
+        _ => None,
+    }
+}
+
+/// What is foreign at this place of a clause, where no token begins.
+pub(crate) fn foreign_byte<'a>(tokens: &[PlacedToken<'a>], place: usize) -> Option<Foreign<'a>> {
+    let spot = Spot::at(tokens, place)?;
+    let Some(word) = directive_of(tokens) else {
+        return beside(spot).or(alone(spot.token.word));
+    };
+    match in_directive(word, spot.token.word) {
+        Some(directive) => Some(Foreign::Directive(directive)),
+        None => beside(spot),
+    }
+}
+
+/// What is foreign where a clause stops having a form.
+pub(crate) fn foreign_token<'a>(
+    tokens: &[PlacedToken<'a>],
+    stuck: Stuck<'a>,
+) -> Option<Foreign<'a>> {
+    let spot = Spot::at(tokens, stuck.place)?;
+    if let Some(word) = directive_of(tokens) {
+        if let Some(directive) = in_directive(word, spot.token.word) {
+            return Some(Foreign::Directive(directive));
+        }
+    }
+    in_place_of(stuck.wanted, spot)
+}
+
+/// What is told of a text in place of a number.
+const NUMBERED: &str =
+    "arguments are numbers and variables: give it a number; a node takes names in the facts that it is told";
+
+impl fmt::Display for ForeignValue<'_> {
+    fn fmt<W: fmt::Write>(&self, f: &mut fmt::Formatter<W>) -> fmt::Result {
+        match self {
+            ForeignValue::Symbol(word) => {
+                write!(f, "{} is a symbol, and {NUMBERED}", ToldWord(word))
+            }
+            ForeignValue::Quoted => write!(f, "this is quoted text, and {NUMBERED}"),
+            ForeignValue::Term(name) => write!(
+                f,
+                "`{}(..)` is a term, and arguments are numbers and variables: give its parts as arguments",
+                ToldBytes(name)
+            ),
+            ForeignValue::List => f.write_str(
+                "this is a list, and arguments are numbers and variables: tell a fact for each member",
+            ),
+        }
+    }
+}
+
+impl fmt::Display for ForeignDirective {
+    fn fmt<W: fmt::Write>(&self, f: &mut fmt::Formatter<W>) -> fmt::Result {
+        f.write_str(match self {
+            ForeignDirective::Modes =>
+                "modes and types are not read: write the number of arguments, as in `:- chr_constraint a/1, b/0.`",
+            ForeignDirective::Types => "types are not read: leave this directive out",
+            ForeignDirective::Options => "options are not read: leave this directive out",
+            ForeignDirective::Modules =>
+                "no module is read but `:- use_module(library(chr)).`: leave this directive out",
+        })
+    }
+}
+
+impl fmt::Display for Foreign<'_> {
+    fn fmt<W: fmt::Write>(&self, f: &mut fmt::Formatter<W>) -> fmt::Result {
+        match self {
+            Foreign::Directive(directive) => write!(f, "{directive}"),
+            Foreign::Value(value) => write!(f, "{value}"),
+            Foreign::Arithmetic(word) => write!(
+                f,
+                "{} is arithmetic, and rules do none: tell what it gives, or carry sums, as in `n(0), n(0) <=> n(1).`",
+                ToldWord(word)
+            ),
+            Foreign::Call(name) => write!(
+                f,
+                "`{}(..)` is not read: guards compare numbers and variables, which always have values",
+                ToldBytes(name)
+            ),
+            Foreign::Sign { usual, here } => write!(f, "`{usual}` is written `{here}`"),
+            Foreign::Negation => f.write_str(
+                "`\\+` is not read: write the opposite comparison; that a fact is missing can't be asked",
+            ),
+            Foreign::Alternatives => f.write_str(
+                "`;` and `->` are not read: write a rule for each case, with its guard",
+            ),
+            Foreign::Builtin => f.write_str(
+                "a body is atoms alone: write comparisons before `|`, and a value where its variable would stand",
+            ),
+            Foreign::Cut => f.write_str("`!` is not read: leave it out"),
+            Foreign::Comment => f.write_str(
+                "`/* .. */` is no comment: begin each line of it with `%`",
+            ),
+            Foreign::Pragma => f.write_str("identifiers and pragmas are not read: leave them out"),
+        }
+    }
+}
