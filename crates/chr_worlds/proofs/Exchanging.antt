@@ -1,5 +1,5 @@
 -- What exchanges make of operations.
-use Rattle.std.specs.Prelude.{◌≡◌, ℕ, zero, suc, ◌-◌, ◌<◌, [], ◌∷◌, length, Option, Some, None, slice_get, slice_set, ◌⊎◌}
+use Rattle.std.specs.Prelude.{◌≡◌, ℕ, zero, suc, ◌-◌, ◌<◌, [], ◌∷◌, length, Option, Some, None, slice_get, slice_set}
 use Rattle.std.proofs.Common.{refl, sym, ap, ◌∙◌, subst, arith, inl, inr}
 use Rattle.std.specs.Option.{option_or}
 use Rattle.std.specs.FinMap as map
@@ -55,7 +55,7 @@ same_at w v r k R s h n there =
 
 -- ---- operations
 
-took_in : ExchangeLaw → (p : Program) (s t u : Replica) (n : ℕ) → TakesIn p s t (reply.Merged n) u → u.operations ≡ union t.operations (map.entries s.operations)
+pub took_in : ExchangeLaw → (p : Program) (s t u : Replica) (n : ℕ) → TakesIn p s t (reply.Merged n) u → u.operations ≡ union t.operations (map.entries s.operations)
 took_in exchange p s t u n h =
     ap (λ r. r.operations) h.merged.after ∙ exchange t.operations s.operations h.summary h.covers
 

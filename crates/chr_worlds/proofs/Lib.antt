@@ -1,6 +1,7 @@
 pub mod Keeping
 mod Agreeing
 mod Exchanging
+mod Gaining
 mod Places
 mod Runs
 mod Returns

@@ -1,5 +1,5 @@
 -- The boards of a world in a list, and their replicas.
-use Rattle.std.specs.Prelude.{◌≡◌, ℕ, suc, ◌+◌, ◌-◌, ◌<◌, List, length, map, replicate, zero, [], ◌∷◌, All, take, drop, ◌++◌, Option, Some, slice_get, slice_index_or, slice_set, Result, Ok, Err, OnErr}
+use Rattle.std.specs.Prelude.{◌≡◌, ℕ, suc, ◌+◌, ◌<◌, List, length, replicate, zero, ◌∷◌, take, drop, ◌++◌, Option, Some, slice_get, slice_index_or, slice_set, Result, Ok, Err, OnErr}
 use Rattle.std.proofs.Common.{refl, sym, ap, ◌∙◌, subst, arith}
 use Rattle.std.specs.Option.{option_map}
 use Rattle.std.proofs.lemmas.List.{map-set, set-get_or, take-append-le, take_all}
@@ -12,14 +12,13 @@ use Rattle.chr_replica.specs.Replicas.{Replica}
 use Rattle.chr_replica.specs.Boards.{program_on}
 use Rattle.chr_ops.specs.Operations.{Operation}
 use Rattle.chr_ops.specs.Summaries.{CoversJust}
-use Rattle.chr_acts.specs.declared.act.Act.{Act}
 use Rattle.chr_acts.specs.declared.act.Act.TheVariants as act
 use Rattle.chr_acts.specs.declared.reply.Reply.{Reply}
 use Rattle.chr_acts.specs.Events.{Does}
 use Rattle.chr_join.specs.AcceptedPrograms.{program_in}
-use Rattle.chr_worlds.specs.Worlds.{Replicas, Changes, IsAt, TakesIn}
+use Rattle.chr_worlds.specs.Worlds.{Changes, IsAt, TakesIn}
 use Rattle.chr_worlds.specs.Sharing.{Shared, shared_program}
-use Rattle.chr_worlds.specs.working.Boards.{replicas_on, AreOf, ChangesAt, AreLacked, ExchangesAt}
+use Rattle.chr_worlds.specs.working.Boards.{replicas_on, AreOf, ChangesAt, AreLacked, AreLackedAt, ExchangesAt}
 
 -- a board that was read is at its place
 pub is_there : (bs : List Held) (place : ℕ) (b : Held) → place < length bs → b ≡ slice_index_or bs place b → slice_get bs place ≡ Some b
@@ -74,43 +73,75 @@ pub slice_back : (n : ℕ) (xs ys : List Held) → length xs ≡ length ys → n
 slice_back n xs ys same is =
     take-append-le n xs (drop (length xs) ys) (omega (arith, same, is)) ∙ take_all n xs (omega (arith, same, is))
 
--- what is lacked is merged
-pub takes_in : (bs cs : List Held) (from to : ℕ) (giver taker : Held) (ops : List Operation) (x : Reply) → slice_get bs from ≡ Some giver → slice_get bs to ≡ Some taker → AreLacked giver.replica.operations taker.replica.operations ops → ChangesAt bs to (λ b t. Does (program_on b) b.replica (act.Merge ops) x t) cs → ExchangesAt bs from to x cs
-takes_in bs cs from to giver taker ops x there_from there_to lacked h =
-    let e : ◌≡◌ {A = Option Held} (Some taker) (Some h.before) = sym there_to ∙ h.there in
-    let same : taker ≡ h.before = cc in record {
+-- a board of a list that is seen as another one
+pub found_there : (now bs : List Held) (place : ℕ) (b : Held) → bs ≡ now → place < length now
+    → b ≡ slice_index_or bs place b → slice_get bs place ≡ Some b
+found_there now bs place b view within read = is_there bs place b (subst (λ l. place < length l) (sym view) within) read
+
+-- and one that was changed through a slice of it
+pub changes_back : (now bs bs' cs ds : List Held) (place : ℕ) (R : Held → Replica → Type 0) → bs ≡ now → bs' ≡ bs
+    → ds ≡ cs → ChangesAt bs' place R cs → ChangesAt now place R ds
+changes_back now bs bs' cs ds place R view same back h =
+    subst (ChangesAt now place R) (sym back) (subst (λ es. ChangesAt es place R cs) (same ∙ view) h)
+
+-- what is lacked, by the places of the boards
+pub lacked_at : (now bs : List Held) (from to : ℕ) (giver taker : Held) (ops : List Operation) → bs ≡ now
+    → slice_get bs from ≡ Some giver → slice_get bs to ≡ Some taker
+    → AreLacked giver.replica.operations taker.replica.operations ops → AreLackedAt now from to ops
+lacked_at now bs from to giver taker ops view at_from at_to lacked =
+    subst (λ l. AreLackedAt l from to ops) view (record {
       giver = giver;
-      there = there_from;
+      taker = taker;
+      at_from = at_from;
+      at_to = at_to;
+      lacked = lacked;
+    })
+
+-- what is lacked is merged
+pub takes_in : (bs cs : List Held) (from to : ℕ) (ops os : List Operation) (x : Reply) → AreLackedAt bs from to ops
+    → os ≡ ops → ChangesAt bs to (λ b t. Does (program_on b) b.replica (act.Merge os) x t) cs
+    → ExchangesAt bs from to x cs
+takes_in bs cs from to ops os x l is h =
+    let e : ◌≡◌ {A = Option Held} (Some l.taker) (Some h.before) = sym l.at_to ∙ h.there in
+    let same : l.taker ≡ h.before = cc in record {
+      giver = l.giver;
+      there = l.at_from;
       taken = record {
         before = h.before;
         after = h.after;
         there = h.there;
         program = h.program;
         changed = record {
-          summary = lacked.summary;
-          covers = subst (λ b. CoversJust lacked.summary b.replica.operations) same lacked.covers;
-          merged = subst (λ os. Does (program_on h.before) h.before.replica (act.Merge os) x h.after.replica) lacked.lacked h.changed;
+          summary = l.lacked.summary;
+          covers = subst (λ b. CoversJust l.lacked.summary b.replica.operations) same l.lacked.covers;
+          merged = subst (λ os. Does (program_on h.before) h.before.replica (act.Merge os) x h.after.replica)
+              (is ∙ l.lacked.lacked) h.changed;
         };
         boards = h.boards;
       };
     }
 
 -- what happens to a board happens to its replica, under the world's program
-pub happens_at : (w : Shared) (a : Accepted) (bs bs' cs ds : List Held) (number place : ℕ) (R : Program → Replica → Replica → Type 0) → record { accepted = a; replicas = replicas_on bs } ≡ w → bs' ≡ bs → ds ≡ cs → number ≡ place + 1 → AreOf a bs → ChangesAt bs' place (λ b t. R (program_on b) b.replica t) cs → Changes w.replicas number (λ s t. R (shared_program w) s t) (replicas_on ds)
-happens_at w a bs bs' cs ds number place R view same back is all h =
-    subst (λ w. Changes w.replicas number (λ s t. R (shared_program w) s t) (replicas_on ds)) view
-    (subst (λ es. Changes (replicas_on bs) number (λ s t. R (program_in a) s t) (replicas_on es)) (sym back)
-    (replicas_change a bs cs number place _ _ is all (λ b t of does. subst (λ a. R (program_in a) b.replica t) of does)
-    (subst (λ es. ChangesAt es place (λ b t. R (program_on b) b.replica t) cs) same h)))
+pub happens_at : (w : Shared) (a : Accepted) (bs cs : List Held) (number place : ℕ)
+    (R : Program → Replica → Replica → Type 0) → record { accepted = a; replicas = replicas_on bs } ≡ w
+    → number ≡ place + 1 → AreOf a bs → ChangesAt bs place (λ b t. R (program_on b) b.replica t) cs
+    → Changes w.replicas number (λ s t. R (shared_program w) s t) (replicas_on cs)
+happens_at w a bs cs number place R view is all h =
+    subst (λ w. Changes w.replicas number (λ s t. R (shared_program w) s t) (replicas_on cs)) view
+    (replicas_change a bs cs number place _ _ is all
+    (λ b t of does. subst (λ a. R (program_in a) b.replica t) of does) h)
 
 -- an exchange between boards is one between their replicas
-pub syncs_at : (w : Shared) (a : Accepted) (bs bs' cs ds : List Held) (a_number b_number from to : ℕ) (x : Reply) → record { accepted = a; replicas = replicas_on bs } ≡ w → bs' ≡ bs → ds ≡ cs → a_number ≡ from + 1 → b_number ≡ to + 1 → AreOf a bs → ExchangesAt bs' from to x cs → (s : Replica) × IsAt w.replicas a_number s × Changes w.replicas b_number (λ t u. TakesIn (shared_program w) s t x u) (replicas_on ds)
-syncs_at w a bs bs' cs ds a_number b_number from to x view same back is_a is_b all h =
-    let g = subst (λ es. ExchangesAt es from to x cs) same h in
-    subst (λ w. (s : Replica) × IsAt w.replicas a_number s × Changes w.replicas b_number (λ t u. TakesIn (shared_program w) s t x u) (replicas_on ds)) view
-    (subst (λ es. (s : Replica) × IsAt (replicas_on bs) a_number s × Changes (replicas_on bs) b_number (λ t u. TakesIn (program_in a) s t x u) (replicas_on es)) (sym back) (
-      g.giver.replica,
-      number_at bs a_number from g.giver is_a g.there,
+pub syncs_at : (w : Shared) (a : Accepted) (bs cs : List Held) (a_number b_number from to : ℕ) (x : Reply)
+    → record { accepted = a; replicas = replicas_on bs } ≡ w → a_number ≡ from + 1 → b_number ≡ to + 1 → AreOf a bs
+    → ExchangesAt bs from to x cs
+    → (s : Replica) × IsAt w.replicas a_number s
+    × Changes w.replicas b_number (λ t u. TakesIn (shared_program w) s t x u) (replicas_on cs)
+syncs_at w a bs cs a_number b_number from to x view is_a is_b all h =
+    subst (λ w. (s : Replica) × IsAt w.replicas a_number s
+    × Changes w.replicas b_number (λ t u. TakesIn (shared_program w) s t x u) (replicas_on cs)) view (
+      h.giver.replica,
+      number_at bs a_number from h.giver is_a h.there,
       replicas_change a bs cs b_number to _ _ is_b all
-          (λ b t of takes. subst (λ a. TakesIn (program_in a) g.giver.replica b.replica x t) of takes) g.taken,
-    ))
+          (λ b t of takes. subst (λ a. TakesIn (program_in a) h.giver.replica b.replica x t) of takes) h.taken,
+    )

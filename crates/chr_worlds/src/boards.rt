@@ -2,17 +2,18 @@
 ghost use Rattle.std.specs.Prelude.{◌≡◌, ◌+◌, ◌<◌, ◌≤◌, ◌≢◌, IfErr, IfNone, IfOk, IfSome, OnErr, OnOk, length};
 ghost use Rattle.std.specs.Prelude.{replicate};
 ghost use Rattle.std.specs.Arc.{arc_value};
+ghost use Rattle.chr_ops.specs.News.{LacksOnly};
 ghost use Rattle.chr_replica.specs.Boards.{program_on};
 ghost use Rattle.chr_replica.specs.Replicas.{first};
 ghost use Rattle.chr_acts.specs.Acts.{FitsAct};
 ghost use Rattle.chr_acts.specs.Events.{Does};
 ghost use Rattle.chr_worlds.specs.Worlds.{Works};
-ghost use Rattle.chr_worlds.specs.working.Boards.{AreLacked, AreOf, ChangesAt, ExchangesAt, IsWorked};
+ghost use Rattle.chr_worlds.specs.working.Boards.{AreLacked, AreOf, ChangesAt, IsWorked};
 
-use chr_acts::{Act, OpList, Reply, carry_out};
+use chr_acts::{Act, Reply, carry_out};
 use chr_base::derivation::Step;
 use chr_join::{Accepted, Done, StepFault};
-use chr_ops::Op;
+use chr_ops::{Op, OpId, summaries_are_one};
 use chr_replica::{Board, Refusal};
 use std::alloc::{AllocError, Global};
 use std::mem::swap;
@@ -139,25 +140,23 @@ pub(crate) fn swap_at(boards: &mut [Board], place: usize, board: &mut Board)
 }
 
 /// What the first board holds and the second lacks.
-fn lacked(alloc: Global, giver: &Board, taker: &Board) -> Result<Vec<Op>, AllocError>
+pub(crate) fn lacked(alloc: Global, giver: &Board, taker: &Board) -> Result<Vec<Op>, AllocError>
     ensures { IfOk result (λ ops. AreLacked giver.now.replica.operations taker.now.replica.operations ops.items) }
 {
     let summary = taker.summary(alloc)?;
     giver.lacks(alloc, &summary)
 }
 
-/// The board at the second place takes in what the one at the first holds and it lacks.
-pub(crate) fn exchange(
+/// The same, where the second lacks no other ids than these. It costs look-ups for these ids alone.
+pub(crate) fn lacked_among(
     alloc: Global,
-    boards: &mut [Board],
-    giver: usize,
-    taker: usize,
-) -> Result<Reply, AllocError>
-    requires giver { giver < length boards.old }
-    requires taker { taker < length boards.old }
-    ensures ok { IfOk result (λ reply. ExchangesAt boards.old giver taker reply boards.new) }
-    ensures err { OnErr result (boards.new ≡ boards.old) }
+    giver: &Board,
+    taker: &Board,
+    ids: &[OpId],
+) -> Result<Vec<Op>, AllocError>
+    requires { LacksOnly giver.now.replica.operations taker.now.replica.operations ids.now }
+    ensures { IfOk result (λ ops. AreLacked giver.now.replica.operations taker.now.replica.operations ops.items) }
 {
-    let ops = lacked(alloc, &boards[giver], &boards[taker])?;
-    carry_out_at(alloc, boards, taker, &Act::Merge(OpList::of(ops)))
+    summaries_are_one();
+    giver.ops().lacked_among(alloc, taker.ops(), ids)
 }

@@ -2,8 +2,10 @@
 #![tactic(auto)]
 
 mod answer;
+mod board_list;
 mod boards;
 mod event;
+mod gained;
 pub mod laws;
 mod playing;
 mod world;

@@ -9,7 +9,7 @@ ghost use Rattle.chr_worlds.specs.Worlds.{AsksUnknown, Changes, Happens, HasRepl
 ghost use Rattle.chr_worlds.specs.Sharing.{shared_program};
 
 use crate::answer::Answer;
-use crate::boards::{carry_out_at, exchange, opened, place_of, swap_at, work_at};
+use crate::board_list::BoardList;
 use crate::event::Event;
 use chr_acts::Act;
 use chr_base::derivation::Step;
@@ -26,7 +26,7 @@ use std::sync::Arc;
 #[derive(Drop)]
 pub struct World {
     accepted: Arc<Accepted>,
-    boards: Vec<Board>,
+    boards: BoardList,
 }
 
 impl Model for World {
@@ -39,9 +39,9 @@ impl Model for World {
 
     ghost coded = { coded_shared };
 
-    ghost view = { λ w. record { accepted = arc_value w.accepted; replicas = replicas_on w.boards.items } };
+    ghost view = { λ w. record { accepted = arc_value w.accepted; replicas = replicas_on w.boards } };
 
-    ghost invariant = { λ w. AreOf (arc_value w.accepted) w.boards.items };
+    ghost invariant = { λ w. AreOf (arc_value w.accepted) w.boards };
 }
 
 /// Whether the program does not declare an atom of what is asked.
@@ -62,7 +62,7 @@ impl World {
         ensures accepted { IfOk result (λ world. world.accepted ≡ arc_value accepted) }
         ensures replicas { IfOk result (λ world. world.replicas ≡ replicate replicas first) }
     {
-        let boards = opened(alloc, &accepted, replicas)?;
+        let boards = BoardList::open(alloc, &accepted, replicas)?;
         Ok(World { accepted, boards })
     }
 
@@ -79,8 +79,8 @@ impl World {
         ensures replica { IfSome result (λ board. IsAt self.now.replicas replica board.now.replica) }
         ensures program { IfSome result (λ board. board.now.accepted ≡ self.now.accepted) }
     {
-        let place = place_of(&self.boards, replica)?;
-        Some(&self.boards[place])
+        let place = self.boards.place_of(replica)?;
+        Some(self.boards.at(place))
     }
 
     /// Exchanges the board of the replica of a number with another one of the world's program, and answers whether
@@ -96,10 +96,10 @@ impl World {
         ensures world { IsFalse result → self.new ≡ self.old }
         ensures kept { IsFalse result → board.new ≡ board.old }
     {
-        let Some(place) = place_of(&self.boards, replica) else {
+        let Some(place) = self.boards.place_of(replica) else {
             return false;
         };
-        swap_at(&mut self.boards, place, board);
+        self.boards.swap(place, board);
         true
     }
 
@@ -134,14 +134,14 @@ impl World {
             Happens (shared_program self.old) self.old.replicas (Event.At replica act.now) answer self.new.replicas) }
         ensures err { OnErr result (self.new ≡ self.old) }
     {
-        let Some(place) = place_of(&self.boards, replica) else {
+        let Some(place) = self.boards.place_of(replica) else {
             return Ok(if asks_unknown(self.accepted.program(), act) {
                 Answer::UnknownSymbol
             } else {
                 Answer::NoReplica
             });
         };
-        let reply = carry_out_at(alloc, &mut self.boards, place, act)?;
+        let reply = self.boards.carry_out(alloc, place, act)?;
         Ok(Answer::Replied(reply))
     }
 
@@ -159,10 +159,10 @@ impl World {
             self.new.replicas) }
         ensures err { OnErr result (self.new ≡ self.old) }
     {
-        let Some(place) = place_of(&self.boards, replica) else {
+        let Some(place) = self.boards.place_of(replica) else {
             return Ok(Answer::NoReplica);
         };
-        let reply = work_at(alloc, &mut self.boards, place, lease, steps)?;
+        let reply = self.boards.work(alloc, place, lease, steps)?;
         Ok(Answer::Replied(reply))
     }
 
@@ -173,13 +173,13 @@ impl World {
             Happens (shared_program self.old) self.old.replicas (Event.Sync giver taker) answer self.new.replicas) }
         ensures err { OnErr result (self.new ≡ self.old) }
     {
-        let Some(from) = place_of(&self.boards, giver) else {
+        let Some(from) = self.boards.place_of(giver) else {
             return Ok(Answer::NoReplica);
         };
-        let Some(to) = place_of(&self.boards, taker) else {
+        let Some(to) = self.boards.place_of(taker) else {
             return Ok(Answer::NoReplica);
         };
-        let reply = exchange(alloc, &mut self.boards, from, to)?;
+        let reply = self.boards.exchange(alloc, from, to)?;
         Ok(Answer::Replied(reply))
     }
 }

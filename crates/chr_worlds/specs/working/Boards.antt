@@ -6,13 +6,19 @@ use Rattle.chr_base.specs.declared.derivation.Step.{Step}
 use Rattle.chr_weights.specs.WeighedPrograms.{program_of}
 use Rattle.chr_join.specs.Parts.{Finished}
 use Rattle.chr_join.specs.declared.accepted.Accepted.{Accepted}
+use Rattle.chr_ops.specs.declared.fault.Added.TheVariants as added
+use Rattle.chr_ops.specs.declared.news.News.{News}
 use Rattle.chr_ops.specs.declared.range.IdRange.{IdRange}
+use Rattle.chr_ops.specs.News.{ids_of, GainsOnly, HoldsAll, IsTrueOfAll}
 use Rattle.chr_ops.specs.Operations.{Operation, Operations}
 use Rattle.chr_ops.specs.Summaries.{CoversJust, lacking}
 use Rattle.chr_rewrite.specs.Derivations.{IsDerivation}
 use Rattle.chr_replica.specs.Boards.{Held, program_on}
 use Rattle.chr_replica.specs.Replicas.{Replica}
+use Rattle.chr_acts.specs.declared.act.Act.{Act}
+use Rattle.chr_acts.specs.declared.act.Act.TheVariants as act
 use Rattle.chr_acts.specs.declared.reply.Reply.{Reply}
+use Rattle.chr_acts.specs.declared.reply.Reply.TheVariants as reply
 use Rattle.chr_base.specs.declared.program.Program.{Program}
 use Rattle.chr_worlds.specs.declared.answer.Answer.{Answer}
 use Rattle.chr_worlds.specs.declared.event.Event.{Event}
@@ -59,3 +65,46 @@ pub record GainsAnswer (p : Program) (w : Replicas) (e : Event) (xs ys : List An
   pub answer : Answer
   pub happens : Happens p w e answer v
   pub answers : ys ≡ xs ++ answer ∷ []
+
+-- ---- what boards gained
+
+-- the operations on each
+abbrev pub sets_on : List Held → List Operations
+sets_on bs = each (λ b. b.replica.operations) bs
+
+-- what is kept of what they gained is true of their operations
+abbrev pub IsTrueOn : News → List Held → Type 0
+IsTrueOn w bs = IsTrueOfAll w (sets_on bs)
+
+-- the operations that an act brings
+abbrev pub brought_by : Act → List Operation
+brought_by (act.Tell op) = op ∷ []
+brought_by (act.Merge ops) = ops
+brought_by _ = []
+
+-- those that a replica may have gained by it, with this reply
+abbrev pub gained_by : Act → Reply → List Operation
+gained_by a (reply.Told added.New) = brought_by a
+gained_by a (reply.Merged n) = brought_by a
+gained_by a _ = []
+
+-- the set k holds what m does, and nothing else but operations of the list
+pub record Grows (m : Operations) (ops : List Operation) (k : Operations) : Type 0 where
+  pub only : GainsOnly m k (ids_of ops)
+  pub holds : HoldsAll k m
+
+-- the operations are those of the board at the first place that the one at the second lacks
+pub record AreLackedAt (bs : List Held) (from to : ℕ) (ops : List Operation) : Type 0 where
+  pub giver : Held
+  pub taker : Held
+  pub at_from : slice_get bs from ≡ Some giver
+  pub at_to : slice_get bs to ≡ Some taker
+  pub lacked : AreLacked giver.replica.operations taker.replica.operations ops
+
+-- the board at the second place holds each id that the one at the first does
+pub record HoldsAllOf (bs : List Held) (from to : ℕ) : Type 0 where
+  pub giver : Held
+  pub taker : Held
+  pub at_from : slice_get bs from ≡ Some giver
+  pub at_to : slice_get bs to ≡ Some taker
+  pub holds : HoldsAll taker.replica.operations giver.replica.operations

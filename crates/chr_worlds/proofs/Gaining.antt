@@ -1,0 +1,181 @@
+-- What boards gained, as news keep it, stays true of them.
+use Rattle.std.specs.Prelude.{◌≡◌, ◌≢◌, ℕ, List, [], ◌∷◌, Some, slice_get, slice_set, Result, Ok, Err, IfOk, OnErr}
+use Rattle.std.specs.declared.alloc.AllocError.{AllocError}
+use Rattle.std.proofs.Common.{refl, sym, ap, ◌∙◌, subst, inl, inr}
+use Rattle.std.specs.Option.{option_map}
+use Rattle.std.proofs.lemmas.Bool.Decides.{eqb_tells}
+use Rattle.std.proofs.lemmas.List.{map-set, set-get_or}
+use Rattle.std.proofs.lemmas.Option.{slice_get-map, slice_get_within, get_or_from_slice_get}
+use Rattle.chr_base.specs.declared.derivation.Step.{Step as StepValue}
+use Rattle.chr_base.specs.declared.program.Program.{Program}
+use Rattle.chr_ops.specs.declared.fault.Added.TheVariants as added
+use Rattle.chr_ops.specs.declared.id.OpId.{OpId}
+use Rattle.chr_ops.specs.declared.news.News.{News}
+use Rattle.chr_ops.specs.declared.range.IdRange.{IdRange}
+use Rattle.chr_ops.specs.Exchange.{ExchangeLaw}
+use Rattle.chr_ops.specs.News.{ids_of, GainsOnly, HoldsAll, IsTrueOf, IsTrueOfAll, LacksOnly}
+use Rattle.chr_ops.specs.Operations.{Operation, Operations}
+use Rattle.chr_ops.specs.Joins.{union}
+use Rattle.chr_ops.specs.Summaries.{CoversJust, SummariesExist, lacking}
+use Rattle.chr_ops.proofs.Unions.{union_new}
+use Rattle.chr_ops.proofs.NewsOfAll.{union_gains, union_holds, union_holds_both, same_gains, set_here, set_elsewhere}
+use Rattle.chr_ops.proofs.NewsOfAll.{gained_all, met_all}
+use Rattle.chr_replica.specs.Boards.{Held, program_on}
+use Rattle.chr_replica.specs.declared.refusal.Refusal.TheVariants as refusal
+use Rattle.chr_replica.specs.Replicas.{Replica}
+use Rattle.chr_acts.specs.declared.act.Act.{Act}
+use Rattle.chr_acts.specs.declared.act.Act.TheVariants as act
+use Rattle.chr_acts.specs.declared.reply.Reply.{Reply}
+use Rattle.chr_acts.specs.declared.reply.Reply.TheVariants as reply
+use Rattle.chr_acts.specs.Events.{Does}
+use Rattle.chr_worlds.specs.Worlds.{Works}
+use Rattle.chr_worlds.specs.working.Boards.{sets_on, IsTrueOn, gained_by, Grows, ChangesAt, AreLacked, ExchangesAt}
+use Rattle.chr_worlds.specs.working.Boards.{HoldsAllOf}
+use Rattle.chr_worlds.proofs.Exchanging.{took_in}
+
+-- ---- what an act gives a replica
+
+same_set : (m k : Operations) (os : List Operation) → k ≡ m → Grows m os k
+same_set m k os same =
+    subst (Grows m os) (sym same) (record { only = same_gains m (ids_of os); holds = λ q h. h })
+
+after_same : (s t u : Replica) (os : List Operation) → t ≡ u → u.operations ≡ s.operations
+    → Grows s.operations os t.operations
+after_same s t u os after same = same_set s.operations t.operations os (ap (λ r. r.operations) after ∙ same)
+
+same_replica : (s t : Replica) (os : List Operation) → t ≡ s → Grows s.operations os t.operations
+same_replica s t os same = same_set s.operations t.operations os (ap (λ r. r.operations) same)
+
+united : (m : Operations) (os : List Operation) → Grows m os (union m os)
+united m os = record { only = union_gains m os; holds = union_holds m os }
+
+does_grow : (p : Program) (s : Replica) (a : Act) (x : Reply) (t : Replica) → Does p s a x t
+    → Grows s.operations (gained_by a x) t.operations
+does_grow p s a (reply.Refused r) t h = same_replica s t _ h.2
+does_grow p s (act.Tell op) (reply.Told added.New) t h =
+    subst (Grows s.operations (op ∷ [])) (union_new s.operations op h.new ∙ sym (ap (λ r. r.operations) h.after))
+    (united s.operations (op ∷ []))
+does_grow p s (act.Tell op) (reply.Told added.Again) t h = same_replica s t _ h.2
+does_grow p s (act.Merge ops) (reply.Merged n) t h =
+    subst (Grows s.operations ops) (sym (ap (λ r. r.operations) h.after)) (united s.operations ops)
+does_grow p s (act.Step step) reply.Stepped t h = after_same s t _ _ h.after refl
+does_grow p s (act.Take part) (reply.Leased lease) t h = after_same s t _ _ h.1.after refl
+does_grow p s (act.TakeParts n) (reply.LeasedParts leases) t h = after_same s t _ _ h.1.after refl
+does_grow p s (act.Put done) reply.WasPut t h = after_same s t _ _ h.after refl
+does_grow p s (act.Recall number) reply.Recalled t h = after_same s t _ _ h.after refl
+does_grow p s act.Settle (reply.Settled n) t h = after_same s t _ _ h.0.after refl
+does_grow p s act.Settle (reply.Stopped n) t h = after_same s t _ _ h.after refl
+does_grow p s act.Show (reply.Shown bag) t h = same_replica s t _ h.2
+does_grow p s act.Summary (reply.Summed summary) t h = same_replica s t _ h.1
+does_grow p s (act.Lacks summary) (reply.Lacked ops) t h = same_replica s t _ h.1
+does_grow p s act.LeastLease (reply.LeastLease number) t h = same_replica s t _ h.1
+does_grow p s _ _ t h = absurd h
+
+works_alike : (p : Program) (s : Replica) (number : ℕ) (steps : List StepValue) (x : Reply) (t : Replica)
+    → Works p s number steps x t → t.operations ≡ s.operations
+works_alike p s number steps reply.WasPut t h = ap (λ r. r.operations) h.3.after
+works_alike p s number steps (reply.Refused (refusal.NoLease n)) t h = ap (λ r. r.operations) h.1
+works_alike p s number steps (reply.Refused refusal.NotThere) t h = ap (λ r. r.operations) h.4
+works_alike p s number steps _ t h = absurd h
+
+-- ---- sets of operations by their places
+
+pub set_at : (bs : List Held) (place : ℕ) (b : Held) → slice_get bs place ≡ Some b
+    → slice_get (sets_on bs) place ≡ Some b.replica.operations
+set_at bs place b there =
+    slice_get-map (λ b. b.replica.operations) bs place ∙ ap (option_map (λ b. b.replica.operations)) there
+
+sets_after : (bs cs : List Held) (place : ℕ) (R : Held → Replica → Type 0) (h : ChangesAt bs place R cs)
+    → sets_on cs ≡ slice_set (sets_on bs) place h.after.replica.operations
+sets_after bs cs place R h =
+    ap sets_on h.boards ∙ map-set (λ b. b.replica.operations) bs place h.after
+
+set_again : (ms : List Operations) (place : ℕ) (m k : Operations) → slice_get ms place ≡ Some m → k ≡ m
+    → slice_set ms place k ≡ ms
+set_again ms place m k there same =
+    ap (slice_set ms place) (same ∙ sym (get_or_from_slice_get ms place m m there)) ∙ set-get_or ms place m
+
+-- ---- news
+
+-- what a board gained by an act is kept
+pub gained_on : (v w : News) (place : ℕ) (a : Act) (x : Reply) (os : List Operation) → os ≡ gained_by a x
+    → ((b : ℕ) (m n k : Operations) → IsTrueOf v place b m n → GainsOnly m k (ids_of os) → IsTrueOf w place b k n)
+    → ((a b : ℕ) (m n : Operations) → a ≢ place → IsTrueOf v a b m n → IsTrueOf w a b m n)
+    → (bs cs : List Held) → ChangesAt bs place (λ b t. Does (program_on b) b.replica a x t) cs
+    → IsTrueOn v bs → IsTrueOn w cs
+gained_on v w place a x os is gives others bs cs h right =
+    let grows = does_grow (program_on h.before) h.before.replica a x h.after.replica h.changed in
+    subst (IsTrueOfAll w) (sym (sets_after bs cs place _ h))
+    (gained_all v w place (ids_of os) (sets_on bs) h.before.replica.operations h.after.replica.operations gives others
+    (set_at bs place h.before h.there)
+    (subst (λ l. GainsOnly h.before.replica.operations h.after.replica.operations (ids_of l)) (sym is) grows.only)
+    grows.holds right)
+
+-- steps on parts that are out change no operations
+pub worked_on : (w : News) (place number : ℕ) (steps : List StepValue) (x : Reply) (bs cs : List Held)
+    → ChangesAt bs place (λ b t. Works (program_on b) b.replica number steps x t) cs → IsTrueOn w bs → IsTrueOn w cs
+worked_on w place number steps x bs cs h right =
+    subst (IsTrueOfAll w)
+    (sym (sets_after bs cs place _ h
+    ∙ set_again (sets_on bs) place h.before.replica.operations h.after.replica.operations
+    (set_at bs place h.before h.there)
+    (works_alike (program_on h.before) h.before.replica number steps x h.after.replica h.changed))) right
+
+-- also where memory is refused
+pub worked_or_not : (w : News) (place number : ℕ) (steps : List StepValue) (r : Result Reply AllocError)
+    (bs cs : List Held) → IfOk r (λ x. ChangesAt bs place (λ b t. Works (program_on b) b.replica number steps x t) cs)
+    → OnErr r (cs ≡ bs)
+    → IsTrueOn w bs → IsTrueOn w cs
+worked_or_not w place number steps (Ok x) bs cs ok err right = worked_on w place number steps x bs cs ok right
+worked_or_not w place number steps (Err e) bs cs ok err right = subst (IsTrueOn w) (sym err) right
+
+-- so it is of two boards at their places
+pub true_of : (w : News) (from to : ℕ) (bs : List Held) (giver taker : Held) → IsTrueOn w bs
+    → slice_get bs from ≡ Some giver → slice_get bs to ≡ Some taker
+    → IsTrueOf w from to giver.replica.operations taker.replica.operations
+true_of w from to bs giver taker right at_from at_to =
+    right from to giver.replica.operations taker.replica.operations (set_at bs from giver at_from)
+    (set_at bs to taker at_to)
+
+-- it is kept that a board holds all that another does
+pub met_on : (v w : News) (from to : ℕ) (bs : List Held)
+    → ((m n : Operations) → HoldsAll n m → IsTrueOf v from to m n → IsTrueOf w from to m n)
+    → ((b : ℕ) (m n : Operations) → b ≢ to → IsTrueOf v from b m n → IsTrueOf w from b m n)
+    → ((a b : ℕ) (m n : Operations) → a ≢ from → IsTrueOf v a b m n → IsTrueOf w a b m n)
+    → HoldsAllOf bs from to → IsTrueOn v bs → IsTrueOn w bs
+met_on v w from to bs meets takers others h right =
+    met_all v w from to (sets_on bs) h.giver.replica.operations h.taker.replica.operations meets takers others
+    (set_at bs from h.giver h.at_from) (set_at bs to h.taker h.at_to) h.holds right
+
+-- after an exchange the taker holds all that the giver does
+pub holds_all : ExchangeLaw → (bs cs : List Held) (from to n : ℕ) → ExchangesAt bs from to (reply.Merged n) cs
+    → HoldsAllOf cs from to
+holds_all exchange bs cs from to n h =
+    let c = h.taken in
+    let here : slice_get cs to ≡ Some c.after =
+    ap (λ l. slice_get l to) c.boards ∙ set_here bs to c.after (slice_get_within bs to c.before c.there) in
+    let took = took_in exchange (program_on c.before) h.giver.replica c.before.replica c.after.replica n c.changed in
+    elim (eqb_tells from to) as (λ _. HoldsAllOf cs from to) [
+      | inl e ↦ record {
+        giver = c.after;
+        taker = c.after;
+        at_from = ap (slice_get cs) e.1 ∙ here;
+        at_to = here;
+        holds = λ q h. h;
+      }
+      | inr other ↦ record {
+        giver = h.giver;
+        taker = c.after;
+        at_from = ap (λ l. slice_get l from) c.boards ∙ set_elsewhere bs to from c.after other.1 ∙ h.there;
+        at_to = here;
+        holds = subst (λ k. HoldsAll k h.giver.replica.operations) (sym took)
+            (union_holds_both c.before.replica.operations h.giver.replica.operations);
+      }
+    ]
+
+-- what is found among the ids is what is lacked, by whatever summary
+pub lacked_are : SummariesExist → (m n : Operations) (ids : List OpId) (ops : List Operation) → LacksOnly m n ids
+    → (LacksOnly m n ids → (summary : List IdRange) → CoversJust summary n → ops ≡ lacking m summary)
+    → AreLacked m n ops
+lacked_are exist m n ids ops only all =
+    let s = exist n in record { summary = s.0; covers = s.2; lacked = all only s.0 s.2 }
