@@ -112,10 +112,20 @@ def ring(count: int) -> str:
     return "\n".join([PATHS, "---", *lines, '["show",1]', ""])
 
 
-def exchanges(count: int) -> str:
-    """Each operation is passed on at once. Their ids are in a row."""
-    rows = (f'["tell",1,[1,{number}],[["min",3]]]\n["sync",1,2]\n' for number in range(count))
+def passed_on(numbers: range) -> str:
+    """Each operation is passed on at once."""
+    rows = (f'["tell",1,[1,{number}],[["min",3]]]\n["sync",1,2]\n' for number in numbers)
     return f"{MINIMUM}\n---\n{''.join(rows)}"
+
+
+def exchanges(count: int) -> str:
+    """Ids in a row."""
+    return passed_on(range(count))
+
+
+def exchanges_with_gaps(count: int) -> str:
+    """Each second id."""
+    return passed_on(range(0, 2 * count, 2))
 
 
 def one_merge(count: int) -> str:
@@ -160,6 +170,7 @@ INPUTS = (
     Input(rules_of_one_symbol, 5_000),
     Input(ring, 4_000, ("run", "--replicas", "8")),
     Input(exchanges, 10_000, ("run", "--replicas", "2")),
+    Input(exchanges_with_gaps, 10_000, ("run", "--replicas", "2")),
     Input(one_merge, 10_000),
     Input(halved, 2),
     Input(long_text, 20_000_000, ("check",), status=1),

@@ -1,4 +1,5 @@
-"""Lines of a service that are longer than any command, or come many at once, as bytes to a process."""
+"""Texts that are longer than any program, and lines of a service that are longer than any command, or come many at
+once, as bytes to a process."""
 
 import resource
 import socket
@@ -9,6 +10,12 @@ from chrrep.node import program_path
 
 LIMIT = 1_048_576
 """The most bytes of a line, without its end."""
+
+MAX_TEXT = 65_536
+"""The most bytes of a program text."""
+
+ROOM = 100 << 20
+"""Bytes of memory in which more goes through a process than it may hold."""
 
 SHOW = b'["show",1]'
 SECONDS = 60.0
@@ -21,6 +28,53 @@ def answers(lines: bytes) -> bytes:
     verdict, _, rest = end.stdout.partition(b"\n")
     assert verdict == b"accepted: rules 0, cases 0", verdict
     return rest
+
+
+class LongTexts(unittest.TestCase):
+    """They are refused, whatever comes after them, and no more of them is held than tells that."""
+
+    TOLD = {"check": b"refused 2\n", "run": b"refused 2\n", "explain": b"fault 2: the text has more than 65536 bytes\n"}
+
+    def test_no_more_is_held_than_a_text(self) -> None:
+        """A text of 400 MB goes through a process that may have 100 MB."""
+        for verb, told in self.TOLD.items():
+            for piece in (b"%" * (1 << 20), b"% a text\n" * 100_000):
+                with self.subTest(verb, piece=piece[:10]):
+                    process = subprocess.Popen(
+                        [program_path(), verb],
+                        stdin=subprocess.PIPE,
+                        stdout=subprocess.PIPE,
+                        preexec_fn=lambda: resource.setrlimit(resource.RLIMIT_AS, (ROOM, ROOM)),
+                    )
+                    assert process.stdin and process.stdout
+                    with process:
+                        for _ in range((400 << 20) // len(piece)):
+                            process.stdin.write(piece)
+                        process.stdin.close()
+                        self.assertEqual(process.stdout.read(), told)
+                        self.assertEqual(process.wait(), 1)
+
+    def test_around_the_limit(self) -> None:
+        """The divider may come after a text at its limit, and after one that is longer it changes nothing."""
+        for end in (b"", b"---", b"---\n", b"---\r\n" + SHOW + b"\n"):
+            for length in range(MAX_TEXT - 1, MAX_TEXT + 8):
+                text = b" " * (length - 1) + b"\n"
+                accepted = b"accepted: rules 0, cases 0\n" + (b"true\n" if SHOW in end else b"")
+                expected = (0, accepted) if length <= MAX_TEXT else (1, b"refused 2\n")
+                with self.subTest(length=length, end=end):
+                    ended = subprocess.run(
+                        [program_path(), "run"], input=text + end, capture_output=True, timeout=SECONDS, check=False
+                    )
+                    self.assertEqual((ended.returncode, ended.stdout), expected)
+
+    def test_many_commands_after_a_text(self) -> None:
+        """What comes after the divider counts for no text."""
+        lines = (SHOW + b"\n") * 20_000
+        for text in (b"---\n", b" " * (MAX_TEXT - 1) + b"\n---\n"):
+            ended = subprocess.run(
+                [program_path(), "run"], input=text + lines, capture_output=True, timeout=SECONDS, check=True
+            )
+            self.assertEqual(ended.stdout, b"accepted: rules 0, cases 0\n" + b"true\n" * 20_000)
 
 
 class LongLines(unittest.TestCase):
@@ -65,12 +119,11 @@ class LongLines(unittest.TestCase):
 
     def test_no_more_is_held_than_a_line(self) -> None:
         """A line of 400 MB goes through a process that may have 100 MB."""
-        limit = 100 << 20
         process = subprocess.Popen(
             [program_path(), "serve"],
             stdin=subprocess.PIPE,
             stdout=subprocess.PIPE,
-            preexec_fn=lambda: resource.setrlimit(resource.RLIMIT_AS, (limit, limit)),
+            preexec_fn=lambda: resource.setrlimit(resource.RLIMIT_AS, (ROOM, ROOM)),
         )
         assert process.stdin and process.stdout
         with process:
