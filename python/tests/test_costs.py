@@ -1,5 +1,5 @@
-"""What runs cost as their inputs grow: where one grows by four, its processor time may grow by twice as much at most, so
-that caches which no longer hold it fail nothing. The time of each would grow by sixteen if something in the program
+"""What runs cost as their inputs grow: where one grows by four, its processor time may grow by twice as much at most,
+so that caches which no longer hold it fail nothing. The time of each would grow by sixteen if something in the program
 went through all that is there again and again. Times of one machine are compared with each other alone.
 `docs/LIMITS.md` says which inputs are not near linear."""
 
