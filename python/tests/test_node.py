@@ -353,7 +353,7 @@ class Programs(unittest.TestCase):
     def test_refused_programs_are_explained(self) -> None:
         rows = [
             ("a(1) <=> true.", "^Undeclared: refused 5: clause 1: line 1, column 1, clause 1, fault 5: ", "declared"),
-            (" " * 70_000, "TooLong: refused 2: fault 2: the text has 70000 bytes", "65536 are allowed"),
+            (" " * 70_000, "^TooLong: refused 2: fault 2: the text has more than 65536 bytes$", "65536 bytes"),
             (":- chr_constraint a/0, b/0. a <=> b.", "after 1: rule 1 does not lower the weight$", "a <=> b."),
             (COINS + "coin <=> true.", "true: one store comes to two ends$", "The other way:"),
         ]
