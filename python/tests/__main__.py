@@ -1,16 +1,25 @@
 """Runs the tests of the package, and counts them on the last line.
 
-    python3 python/tests            those of texts, of nodes and of logs in a file; CHRREP names the program
-    python3 python/tests engines    those of logs in Redis and PostgreSQL, which they start on this machine
+    python3 python/tests [--processes N]    those of texts, of nodes and of logs in a file; CHRREP names the program
+    python3 python/tests engines            those of logs in Redis and PostgreSQL, which they start on this machine
+
+With several processes each test runs by itself, so many at once, and what it writes is told when it has ended.
 
 The environment's CHRREP_PROGRAMS is how many random programs of each kind are judged, 3,000 where it doesn't say,
-CHRREP_KILLS how many nodes are killed at random moments over each engine, and CHRREP_OPERATIONS how many operations are
-told to see that room stays bounded.
+CHRREP_KILLS how many nodes are killed at random moments over each engine, CHRREP_OPERATIONS how many operations are
+told to see that room stays bounded, and CHRREP_REFUSED how many examples are run with memory refused, all where it
+doesn't say.
 """
 
+import argparse
+import io
+import multiprocessing
 import sys
 import unittest
+from collections.abc import Iterator
+from dataclasses import dataclass, field
 from pathlib import Path
+from typing import TextIO
 
 HERE = Path(__file__).resolve().parent
 RUNS = ["test_texts", "test_commands", "test_runs", "test_model", "test_explanations", "test_verdicts", "test_lines"]
@@ -20,6 +29,9 @@ HOSTILE = ["test_devices", "test_memory", "test_costs"]
 NODES = ["test_node", "test_names", "test_writing", "test_asynchronous"]
 LOGS = ["test_embedded", "test_page", "test_lasting", "test_install", "test_launcher"]
 KINDS = {"node": [*RUNS, *SHARED, *READERS, *HOSTILE, *NODES, *LOGS], "engines": ["test_links"]}
+
+LONGEST = ["test_memory", "test_lasting", "test_embedded", "test_verdicts", "test_explanations", "test_costs"]
+"""Modules whose tests take long: several processes begin with these."""
 
 
 class Counted(unittest.TextTestResult):
@@ -32,24 +44,74 @@ class Counted(unittest.TextTestResult):
         self.passed += 1
 
 
-def main() -> int:
-    kind = sys.argv[1] if len(sys.argv) > 1 else "node"
-    if len(sys.argv) > 2 or kind not in KINDS:
-        print(__doc__, file=sys.stderr)
-        return 2
-    sys.dont_write_bytecode = True
-    sys.path[:0] = [str(HERE.parent), str(HERE)]
-    tests = unittest.defaultTestLoader.loadTestsFromNames(KINDS[kind])
-    runner = unittest.TextTestRunner(stream=sys.stdout, verbosity=2, resultclass=Counted)
-    result = runner.run(tests)
+@dataclass
+class Tally:
+    """What came of some tests."""
+
+    passed: int = 0
+    failed: int = 0
+    skipped: list[str] = field(default_factory=list)
+    written: str = ""
+
+    def add(self, other: "Tally") -> None:
+        self.passed += other.passed
+        self.failed += other.failed
+        self.skipped += other.skipped
+
+
+def run(tests: unittest.TestSuite, to: TextIO) -> Tally:
+    result = unittest.TextTestRunner(stream=to, verbosity=2, resultclass=Counted).run(tests)
     assert isinstance(result, Counted)
     # a test whose parts fail is one
     bad = {getattr(test, "test_case", test).id() for test, _ in (*result.errors, *result.failures)}
     failed = max(result.testsRun - result.passed - len(result.skipped), len(bad))
-    for test, why in result.skipped:
-        print(f"not run: {test}: {why}")
-    print(f"{result.passed} passed, {failed} failed", flush=True)
-    return 1 if failed or not result.passed else 0
+    return Tally(result.passed, failed, [f"{test}: {why}" for test, why in result.skipped])
+
+
+def run_one(name: str) -> Tally:
+    """Runs the test of a name."""
+    written = io.StringIO()
+    tally = run(unittest.defaultTestLoader.loadTestsFromName(name), written)
+    tally.written = written.getvalue()
+    return tally
+
+
+def names_in(tests: unittest.TestSuite) -> Iterator[str]:
+    for it in tests:
+        if isinstance(it, unittest.TestSuite):
+            yield from names_in(it)
+        else:
+            yield it.id()
+
+
+def by_length(name: str) -> int:
+    module = name.partition(".")[0]
+    return LONGEST.index(module) if module in LONGEST else len(LONGEST)
+
+
+def run_at_once(tests: unittest.TestSuite, processes: int) -> Tally:
+    """Runs each test in a process of its own, so many at once."""
+    whole = Tally()
+    with multiprocessing.get_context("fork").Pool(processes, maxtasksperchild=1) as pool:
+        for tally in pool.imap_unordered(run_one, sorted(names_in(tests), key=by_length)):
+            sys.stdout.write(tally.written)
+            whole.add(tally)
+    return whole
+
+
+def main() -> int:
+    words = argparse.ArgumentParser(description=__doc__, formatter_class=argparse.RawDescriptionHelpFormatter)
+    words.add_argument("kind", nargs="?", choices=[*KINDS], default="node")
+    words.add_argument("--processes", type=int, default=1)
+    said = words.parse_args()
+    sys.dont_write_bytecode = True
+    sys.path[:0] = [str(HERE.parent), str(HERE)]
+    tests = unittest.defaultTestLoader.loadTestsFromNames(KINDS[said.kind])
+    tally = run(tests, sys.stdout) if said.processes <= 1 else run_at_once(tests, said.processes)
+    for it in tally.skipped:
+        print(f"not run: {it}")
+    print(f"{tally.passed} passed, {tally.failed} failed", flush=True)
+    return 1 if tally.failed or not tally.passed else 0
 
 
 if __name__ == "__main__":

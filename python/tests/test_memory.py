@@ -28,6 +28,9 @@ EACH = 20
 """So many growths of an example are refused one by one. Later ones are chosen at random, farther and farther apart."""
 APART = 3
 
+REFUSED = int(os.environ.get("CHRREP_REFUSED", "0"))
+"""So many of the examples are tried, evenly apart; all where it is 0."""
+
 MOST_CASES = 25_000
 """Of an accepted example with more cases the run alone is tried, since each verdict takes its time."""
 
@@ -84,7 +87,8 @@ def row_cases() -> Iterator[Case]:
 
 
 def example_cases() -> Iterator[Case]:
-    for expected in sorted(EXAMPLES.glob("*.out")):
+    examples = sorted(EXAMPLES.glob("*.out"))
+    for expected in examples[:: max(1, len(examples) // REFUSED) if REFUSED else 1]:
         words = expected.with_suffix(".words")
         options = words.read_text().split() if words.exists() else []
         output = expected.read_bytes()
