@@ -1,7 +1,6 @@
 -- The store of a pool: what is at rest and what is fresh.
-use Rattle.std.proofs.Common.{◌≡◌, List, [], ◌++◌, map, length, drop, refl, arith, sym, ap, subst, ◌∙◌}
-use mathlib.Core.Bool.{true≢false}
-use Rattle.std.specs.Prelude.{Result, Ok, Err, IfOk, OnOk, OnErr, is_err, Bool, true, false, IsTrue, ◌↔◌}
+use Rattle.std.proofs.Common.{◌≡◌, List, [], ◌++◌, map, length, drop, arith, sym, ap, subst, ◌∙◌}
+use Rattle.std.specs.Prelude.{Result, Ok, Err, OnOk, Bool, IsTrue, ◌↔◌}
 use Rattle.std.specs.Bool.{OnTrue}
 use Rattle.std.proofs.lemmas.Bool.{OnTrue_at}
 use Rattle.chr_base.specs.declared.atom.Atom.{Atom}
@@ -50,18 +49,6 @@ pub all_rest : (own rules : List Rule) (rested before : Store) (xs : List Atom) 
 all_rest own rules rested before xs e rest none same =
     let all : rested ≡ before = sym (plus_empty rested) ∙ ap (λ t. rested ⊕ t) (sym no_store) ∙ ap (λ l. rested ⊕ store_of l) (sym none) ∙ same in
     subst (λ s. IsAtRest (Step rules) s) all (same_rest own rules rested e rest)
-
--- where memory was refused the store is as before
-pub err_same : {A E : Type 0} (o : Result A E) (s t : Store) → is_err o ≡ true → OnErr o (s ≡ t) → s ≡ t
-err_same (Ok x) s t e h = absurd (true≢false (sym e))
-err_same (Err x) s t e h = h
-
--- a store at rest is told so, unless memory was refused
-pub told_rest : {E : Type 0} (rules : List Rule) (o : Result Bool E) (s t : Store) → IfOk o (λ b. OnTrue b (Step rules s t)) → IsAtRest (Step rules) s
-    → (is_err o ≡ true → ⊥) → o ≡ Ok false
-told_rest rules (Ok true) s t h rest none = absurd (rest t h)
-told_rest rules (Ok false) s t h rest none = refl
-told_rest rules (Err x) s t h rest none = absurd (none refl)
 
 -- what leaves may leave after something else came in
 leaves_later : (s gone came : Store) → IsWithin gone s → (s ⊕ came) ⊖ gone ≡ (s ⊖ gone) ⊕ came

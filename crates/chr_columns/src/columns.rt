@@ -1,5 +1,5 @@
 //! The pool.
-ghost use Rattle.std.specs.Prelude.{◌≡◌, ◌↔◌, IfOk, IfSome, IfNone, IsTrue, Ok, OnOk, OnErr, false, length, drop};
+ghost use Rattle.std.specs.Prelude.{◌≡◌, ◌↔◌, IfOk, IfSome, IfNone, IsTrue, OnOk, OnErr, length, drop};
 ghost use Rattle.std.specs.Bool.{OnTrue, OnFalse};
 ghost use Rattle.chr_base.specs.FinBag as bag;
 ghost use Rattle.chr_base.specs.FinBag.{◌⊕◌, ◌⊖◌, IsWithin};
@@ -10,7 +10,7 @@ ghost use Rattle.chr_columns.specs.Rows.{AreApart};
 
 use crate::listing::bag_of;
 use crate::making::rested_for;
-use crate::own::{find_in, rests_in};
+use crate::own::find_in;
 use crate::rested::Rested;
 use crate::rows::Rows;
 use crate::stepping::step_in;
@@ -150,20 +150,15 @@ impl Columns {
         Ok(())
     }
 
-    /// One step of some rule. False, and nothing changes, where the store is at rest, which is told without memory;
-    /// where memory is refused nothing changes either. Steps by the pool's own rules take near constant time; under
-    /// other rules it makes copies of these, and all atoms become fresh.
+    /// One step of some rule. False, and nothing changes, where the store is at rest; where memory is refused nothing
+    /// changes either. Steps by the pool's own rules take near constant time, and none is looked for, nor memory asked
+    /// for, where no atom is fresh; under other rules it makes copies of these, and all atoms become fresh.
     pub fn step(&mut self, rules: &[Rule]) -> Result<bool, AllocError>
         ensures stepped { IfOk result (λ stepped. OnTrue stepped (Step rules.now self.old self.new)) }
         ensures same { IfOk result (λ stepped. OnFalse stepped (self.new ≡ self.old)) }
         ensures rests { IfOk result (λ stepped. OnFalse stepped (IsAtRest (Step rules.now) self.old)) }
-        ensures resting { IsAtRest (Step rules.now) self.old → result ≡ Ok false }
         ensures err { OnErr result (self.new ≡ self.old) }
     {
-        let stepped = step_in(&mut self.rested, &mut self.fresh, &mut self.standing, rules);
-        if stepped.is_err() && rests_in(&self.rested, &self.fresh, rules) {
-            return Ok(false);
-        }
-        stepped
+        step_in(&mut self.rested, &mut self.fresh, &mut self.standing, rules)
     }
 }

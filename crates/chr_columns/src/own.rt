@@ -1,9 +1,8 @@
 //! Instances, where the pool has rules of its own.
-ghost use Rattle.std.specs.Prelude.{◌↔◌, IsTrue, IfSome, IfNone};
+ghost use Rattle.std.specs.Prelude.{IfSome, IfNone};
 ghost use Rattle.std.specs.Bool.{OnTrue};
 ghost use Rattle.chr_base.specs.FinBag.{◌⊕◌, IsWithin};
-ghost use Rattle.chr_base.specs.Rewriting.{IsAtRest};
-ghost use Rattle.chr_base.specs.Rules.{HasInstance, HasNoStep, Step};
+ghost use Rattle.chr_base.specs.Rules.{HasInstance, HasNoStep};
 ghost use Rattle.chr_base.specs.Stores.{store_of};
 ghost use Rattle.chr_columns.specs.working.Resting.{stored, IsRested};
 ghost use Rattle.chr_columns.specs.working.Own.{IsOwn};
@@ -42,17 +41,4 @@ pub(crate) fn find_in(rested: &Rested, fresh: &[Atom], rule: &Rule) -> Option<Ro
         return None;
     }
     find_among(&rested.tables.tables, fresh, rule)
-}
-
-/// Whether no rule has an instance.
-pub(crate) fn rests_in(rested: &Rested, fresh: &[Atom], rules: &[Rule]) -> bool
-    requires { IsRested rested.now }
-    ensures { IsTrue result ↔ IsAtRest (Step rules.now) (stored rested.now ⊕ store_of fresh.now) }
-{
-    for rule in rules {
-        if find_in(rested, fresh, rule).is_some() {
-            return false;
-        }
-    }
-    true
 }

@@ -90,11 +90,9 @@ impl Rested {
         ensures same { ¬ (result ≡ Ok Fired) →
             stored self.new ⊕ store_of fresh.new.items ≡ stored self.old ⊕ store_of fresh.old.items }
     {
-        loop {
+        while !fresh.is_empty() {
             fresh.reserve(MAX_BODY + 1)?;
-            let Some(active) = fresh.pop() else {
-                return Ok(Outcome::AtRest);
-            };
+            let active = fresh.pop().unwrap();
             match self.take(rules, &active, fresh, standing) {
                 Ok(Outcome::AtRest) => {}
                 Ok(Outcome::Fired) => return Ok(Outcome::Fired),
@@ -105,5 +103,6 @@ impl Rested {
                 }
             }
         }
+        Ok(Outcome::AtRest)
     }
 }

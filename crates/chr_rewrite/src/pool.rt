@@ -1,5 +1,5 @@
 //! Stores in which rules are applied.
-ghost use Rattle.std.specs.Prelude.{◌≡◌, ◌↔◌, IfOk, IfSome, IfNone, IsTrue, OnOk, OnErr, false};
+ghost use Rattle.std.specs.Prelude.{◌≡◌, ◌↔◌, IfOk, IfSome, IfNone, IsTrue, OnOk, OnErr};
 ghost use Rattle.std.specs.Bool.{OnTrue, OnFalse};
 ghost use Rattle.chr_base.specs.FinBag.{◌⊕◌, ◌⊖◌, IsWithin};
 ghost use Rattle.chr_base.specs.Stores.{Store, store_of};
@@ -50,13 +50,12 @@ pub trait Pool {
     fn bag(&self, alloc: Global) -> Result<Bag, AllocError>
         ensures { IfOk result (λ b. b ≡ contents self.now) };
 
-    /// One step of some rule. False, and nothing changes, where the pool is at rest, which is told without memory;
-    /// where memory is refused nothing changes either.
+    /// One step of some rule. False, and nothing changes, where the pool is at rest; where memory is refused nothing
+    /// changes either.
     fn step(&mut self, rules: &[Rule]) -> Result<bool, AllocError>
         ensures stepped { IfOk result (λ stepped.
             OnTrue stepped (Step rules.now (contents self.old) (contents self.new))) }
         ensures same { IfOk result (λ stepped. OnFalse stepped (contents self.new ≡ contents self.old)) }
         ensures rests { IfOk result (λ stepped. OnFalse stepped (IsAtRest (Step rules.now) (contents self.old))) }
-        ensures resting { IsAtRest (Step rules.now) (contents self.old) → result ≡ Ok false }
         ensures err { OnErr result (contents self.new ≡ contents self.old) };
 }

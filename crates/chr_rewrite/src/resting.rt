@@ -18,14 +18,17 @@ pub struct Stopped {
 
 /// Takes steps of the program until the pool is at rest. It answers their number, which stays at the greatest u64; a
 /// store whose rank fits 64 bits, as that of a million atoms does (`ranks_are_bounded`), takes as many as are told. A
-/// pool at rest is told so without memory. Where memory is refused, the steps taken so far stand.
+/// pool at rest stays as it is. Where memory is refused, the steps taken so far stand; that may be before it is known
+/// whether the pool is at rest, which [`at_rest`] tells without memory.
 pub fn rest<P: Pool>(weighed: &Weighed, pool: &mut P) -> Result<u64, Stopped>
     ensures ok { IfOk result (λ n. TookSteps (program_of weighed.now) n (P.contents pool.old) (P.contents pool.new)) }
     ensures exact { store_rank (program_of weighed.now) (P.contents pool.old) < 2 ^ 64 →
         IfOk result (λ n.
         Runs (Step (rules_of (program_of weighed.now))) n (P.contents pool.old) (P.contents pool.new)) }
     ensures rests { OnOk result (IsAtRest (Step (rules_of (program_of weighed.now))) (P.contents pool.new)) }
-    ensures resting { IsAtRest (Step (rules_of (program_of weighed.now))) (P.contents pool.old) → result ≡ Ok 0 }
+    ensures resting { IsAtRest (Step (rules_of (program_of weighed.now))) (P.contents pool.old) →
+        (P.contents pool.new ≡ P.contents pool.old)
+        × IfOk result (λ n. n ≡ 0) × IfErr result (λ e. e.steps ≡ 0) }
     ensures stopped { IfErr result (λ e.
         TookSteps (program_of weighed.now) e.steps (P.contents pool.old) (P.contents pool.new)) }
 {

@@ -1,4 +1,4 @@
-use Rattle.std.proofs.Common.{◌∙◌, ap, sym, subst, Ok}
+use Rattle.std.proofs.Common.{◌∙◌, ap, sym, subst}
 use Rattle.chr_base.specs.Rules.{Step}
 use Rattle.chr_base.specs.Programs.{rules_of}
 use Rattle.chr_base.specs.Rewriting.{IsAtRest}
@@ -26,11 +26,12 @@ returns-in-Ok-false-clause-rests g c =
     rw same (subst (λ rs. IsAtRest (Step rs) (g.P.Pool.contents c.loop-steps.pool)) (c.rules-rules.ensures ∙ ap rules_of c.program.ensures) rests)
 
 pub returns-in-Ok-false-clause-resting : goal.returns-in-Ok-false-clause-resting
-returns-in-Ok-false-clause-resting g c rest = ap Ok (none_taken (program_of c.args.weighed.now) c.loop-steps.steps _ _ c.loop-steps.invariant rest).0
+returns-in-Ok-false-clause-resting g c rest =
+    let none = none_taken (program_of c.args.weighed.now) c.loop-steps.steps _ _ c.loop-steps.invariant rest in
+    let same = rw c.in-Ok-false.field-0-test at c.in-Ok-false.ensures.same in
+    (same ∙ sym none.1, none.0, tt)
 
 pub returns-in-Err-clause-resting : goal.returns-in-Err-clause-resting
 returns-in-Err-clause-resting g c rest =
-    let same = c.rules-rules.ensures ∙ ap rules_of c.program.ensures in
-    let still = subst (IsAtRest (Step (rules_of (program_of c.args.weighed.now)))) (none_taken (program_of c.args.weighed.now) c.loop-steps.steps _ _ c.loop-steps.invariant rest).1 rest in
-    let told = c.in-Err.ensures.resting (subst (λ rs. IsAtRest (Step rs) (g.P.Pool.contents c.loop-steps.pool)) (sym same) still) in
-    absurd cc
+    let none = none_taken (program_of c.args.weighed.now) c.loop-steps.steps _ _ c.loop-steps.invariant rest in
+    (c.in-Err.ensures.err ∙ sym none.1, tt, none.0)
