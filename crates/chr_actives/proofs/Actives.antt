@@ -22,7 +22,7 @@ use Rattle.chr_base.proofs.Stores.{count_plus, count_minus, same_store, store_of
 use Rattle.chr_actives.specs.Actives.{one, NoInstanceWith}
 use Rattle.chr_actives.specs.Laws.{EmptyRests, PartsRest, Absorbs, RemovedReacts, KeptReacts, SameRulesRest}
 
-no_instance : (rules : List Rule) (s : Store) → IsAtRest (Step rules) s → (i : ℕ) (r : Rule) (v : Valuation) → slice_get rules i ≡ Some r → IsTrue (guard_holds v r.guard.items)
+pub no_instance : (rules : List Rule) (s : Store) → IsAtRest (Step rules) s → (i : ℕ) (r : Rule) (v : Valuation) → slice_get rules i ≡ Some r → IsTrue (guard_holds v r.guard.items)
     → IsWithin (store_of (heads_at v r)) s → ⊥
 no_instance rules s rest i r v e g h =
     rest ((s ⊖ store_of (atoms_at v r.removed.items)) ⊕ store_of (atoms_at v r.body.items)) (i, r, v, e, record { guard = g; there = h; after = refl })
@@ -35,7 +35,7 @@ pub one_count : (a q : Atom) → count (one a) q ≡ cond (eq_by_cmp atom_cmp q 
 one_count a q = let e = count-of_list atom_total (a ∷ []) q in omega (arith, e)
 
 -- an atom that is not `a` is not counted in it
-one_other : (a q : Atom) → (q ≡ a) ⊎ (count (one a) q ≡ 0)
+pub one_other : (a q : Atom) → (q ≡ a) ⊎ (count (one a) q ≡ 0)
 one_other a q = by (eq_by_cmp atom_cmp q a) refl
   where
     by : (b : Bool) → eq_by_cmp atom_cmp q a ≡ b → (q ≡ a) ⊎ (count (one a) q ≡ 0)

@@ -1,3 +1,4 @@
 pub mod Actives
 pub mod Rows
 pub mod Around
+pub mod Joined

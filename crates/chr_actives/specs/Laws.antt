@@ -1,5 +1,5 @@
 -- The laws of active atoms.
-use Rattle.std.specs.Prelude.{◌≡◌, ℕ, ◌<◌, List, length, map, Some, slice_get, IsTrue}
+use Rattle.std.specs.Prelude.{◌≡◌, ℕ, ◌<◌, List, length, map, Some, slice_get, IsTrue, All}
 use Rattle.chr_base.specs.declared.atom.Atom.{Atom}
 use Rattle.chr_base.specs.declared.rule.Rule.{Rule}
 use Rattle.chr_base.specs.FinBag.{empty, ◌⊕◌, ◌⊖◌, IsWithin}
@@ -11,6 +11,7 @@ use Rattle.chr_plans.specs.declared.rows.Seat.{Seat}
 use Rattle.chr_plans.specs.Seats.{NoPartners}
 use Rattle.chr_actives.specs.Actives.{one, IsWith, NoInstanceWith, StepsWith}
 use Rattle.chr_actives.specs.Grids.{Grid, contents, rows_in, without_rows, SitIn}
+use Rattle.chr_actives.specs.Joined.{IsJoined, AreApart}
 
 abbrev pub EmptyRests : Type 0
 EmptyRests = (rules : List Rule) → IsAtRest (Step rules) empty
@@ -54,3 +55,8 @@ abbrev pub SameRulesRest : Type 0
 SameRulesRest =
     (rules others : List Rule) (s : Store) → map parts_of rules ≡ map parts_of others
     → IsAtRest (Step rules) s → IsAtRest (Step others) s
+
+abbrev pub ApartRest : Type 0
+ApartRest =
+    (columns : List ℕ) (rules : List Rule) (s t : Store) → All (IsJoined columns) rules → AreApart columns s t
+    → IsAtRest (Step rules) s → IsAtRest (Step rules) t → IsAtRest (Step rules) (s ⊕ t)

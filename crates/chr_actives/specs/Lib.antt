@@ -1,3 +1,4 @@
 pub mod Actives
 pub mod Grids
+pub mod Joined
 pub mod Laws

@@ -5,7 +5,7 @@
 //! computes nothing: its contract is the law.
 #![tactic(auto)]
 
-ghost use Rattle.chr_actives.specs.Laws.{EmptyRests, PartsRest, Absorbs, RemovedReacts, KeptReacts, RowsAreEnough, RowsLeave, SameRulesRest};
+ghost use Rattle.chr_actives.specs.Laws.{EmptyRests, PartsRest, Absorbs, RemovedReacts, KeptReacts, RowsAreEnough, RowsLeave, SameRulesRest, ApartRest};
 
 /// The empty store is at rest under all rules, since each rule has a head.
 pub fn empty_rests()
@@ -48,4 +48,10 @@ pub fn rows_leave()
 /// What is at rest under rules is at rest under rules that say the same.
 pub fn same_rules_rest()
     ensures { SameRulesRest }
+{}
+
+/// Where in each rule all heads share a variable, which stands in one column for each symbol, two stores at rest that
+/// share no value there are at rest together: no instance spans two values.
+pub fn apart_rest()
+    ensures { ApartRest }
 {}
