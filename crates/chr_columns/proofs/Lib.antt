@@ -20,3 +20,4 @@ pub mod Passing
 pub mod OffEnd
 pub mod Tidying
 pub mod Resuming
+pub mod Together

@@ -71,7 +71,7 @@ none_counted (Some b ∷ rows) a h = by (eq_by_cmp atom_cmp a b) refl (none_coun
     by true e more = absurd (h 0 (ap Some (sym (same_is a b e))))
     by false e more = let f : ◌≡◌ {A = ℕ} (cond (eq_by_cmp atom_cmp a b) 1 0) 0 = ap (λ t. cond t 1 0) e in omega (arith, f, more)
 
-none_in : (g : Grid) (a : Atom) → ((t n : ℕ) → rows_in g t n ≡ Some a → ⊥) → total_in a g ≡ 0
+pub none_in : (g : Grid) (a : Atom) → ((t n : ℕ) → rows_in g t n ≡ Some a → ⊥) → total_in a g ≡ 0
 none_in [] a h = refl
 none_in (rows ∷ g) a h =
     let here = none_counted rows a (λ n. h 0 n) in

@@ -22,6 +22,8 @@ use chr_plans::react::Standing;
 use std::alloc::{AllocError, Global};
 use std::marker::Model;
 
+mod parts;
+
 /// A store that rests in near linear time. Some atoms are at rest under the pool's rules, and sit in rows; the others
 /// are fresh. Contracts see the multiset of both.
 ///

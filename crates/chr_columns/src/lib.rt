@@ -5,12 +5,15 @@
 //! in the rows by plans. Where it has some, the rule fires; where it has none, the atom joins the rows.
 #![tactic(auto)]
 
+mod arranging;
 mod candidates;
 pub mod columns;
 mod everywhere;
 mod firing;
 mod groups;
 mod instances;
+mod joining;
+mod joint;
 mod listing;
 mod making;
 mod own;

@@ -1,0 +1,55 @@
+//! Pools that are cut into parts, and put together again.
+ghost use Rattle.std.specs.Prelude.{◌≡◌, ◌≤◌, IfOk, OnOk, OnErr};
+ghost use Rattle.chr_base.specs.FinBag.{◌⊕◌};
+ghost use Rattle.chr_base.specs.Rewriting.{IsAtRest};
+ghost use Rattle.chr_base.specs.Rules.{Step};
+ghost use Rattle.chr_base.specs.Stores.{size, store_of};
+
+use crate::arranging::{arrange, arranged};
+use crate::columns::Columns;
+use crate::joining::join_in;
+use chr_base::atom::Atom;
+use chr_base::rule::Rule;
+use std::alloc::{AllocError, Global};
+
+/// So few fresh atoms are taken in whatever order they stand.
+const FEW_ATOMS: usize = 1024;
+
+impl Columns {
+    /// How many atoms are fresh, of all that are there. It takes no memory.
+    pub fn waiting(&self) -> usize
+        ensures { result ≤ size self.now }
+    {
+        self.fresh.len()
+    }
+
+    /// Many fresh atoms are put in the order of the arguments by which the pool's rules join them, for a rest that comes
+    /// next: partners are then taken one after another. The store stays the same. It takes no memory.
+    pub fn arrange(&mut self)
+        ensures { self.new ≡ self.old }
+    {
+        if self.fresh.len() > FEW_ATOMS {
+            self.standing = None;
+            arrange(&self.rested.rules, &mut self.fresh);
+        }
+    }
+
+    /// All atoms, in the order of the arguments by which the pool's rules join them, where there is such an order.
+    pub fn arranged(&self, alloc: Global) -> Result<Vec<Atom>, AllocError>
+        ensures { IfOk result (λ atoms. store_of atoms.items ≡ self.now) }
+    {
+        arranged(alloc, &self.rested, &self.fresh)
+    }
+
+    /// Puts atoms in that are at rest under these rules by themselves, and came of a part of the atoms. Where these are
+    /// the pool's rules, and some argument joins the heads of each of them, atoms whose value there is one of the part,
+    /// and of no atom at rest here, are at rest at once; the others are fresh. Where memory is refused nothing changes.
+    pub fn join(&mut self, rules: &[Rule], part: &[Atom], atoms: &[Atom]) -> Result<(), AllocError>
+        requires { IsAtRest (Step rules.now) (store_of atoms.now) }
+        ensures ok { OnOk result (self.new ≡ self.old ⊕ store_of atoms.now) }
+        ensures err { OnErr result (self.new ≡ self.old) }
+    {
+        self.standing = None;
+        join_in(&mut self.rested, &mut self.fresh, rules, part, atoms)
+    }
+}
