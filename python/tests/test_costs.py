@@ -1,14 +1,16 @@
 """What runs cost as their inputs grow: where one grows by four, its processor time may grow by twice as much at most,
 so that caches which no longer hold it fail nothing. The time of each would grow by sixteen if something in the program
-went through all that is there again and again. Times of one machine are compared with each other alone.
-`docs/LIMITS.md` says which inputs are not near linear."""
+went through all that is there again and again. And what they cost where memory is short: a run that is refused memory
+ends soon. Times of one machine are compared with each other alone. `docs/LIMITS.md` says which inputs are not near
+linear."""
 
 import os
 import random
+import resource
 import subprocess
 import tempfile
 import unittest
-from collections.abc import Callable, Iterable, Iterator
+from collections.abc import Callable, Iterable, Iterator, Sequence
 from dataclasses import dataclass
 
 from chrrep.node import program_path
@@ -24,6 +26,17 @@ FLOOR = 0.008
 
 RUNS, MOST_RUNS = 3, 15
 """The least time of so many runs counts; of more only where those have not shown what is wanted."""
+
+ROOMS = (*range(5_500, 8_000, 250), *range(8_000, 20_001, 3_000))
+"""Limits of a run's address space in KB. Under the lesser ones most inputs are refused memory."""
+
+MORE_TIMES, MORE_SECONDS = 3.0, 0.1
+"""Under each of them a run may take so many times what it takes without, and so many seconds."""
+
+LONGEST = 10
+"""A run is ended after so many seconds of processor time."""
+
+WANT_OF_MEMORY = 4
 
 SAME = ":- chr_constraint a/1. a(X) \\ a(X) <=> true."
 ROUTES = ":- chr_constraint p/2. p(X,Y) \\ p(X,Z) <=> Y =< Z | true."
@@ -177,17 +190,38 @@ INPUTS = (
 )
 
 
-def seconds(of: Input, given: str) -> float:
-    """The processor time of one run, in which no line is refused."""
+@dataclass(frozen=True)
+class End:
+    """How a run ended, what it wrote, and its processor time."""
+
+    status: int
+    output: bytes
+    seconds: float
+
+
+def run_of(words: Sequence[str], given: str, room: int | None = None) -> End:
+    """One run, under a limit of its memory where one is given."""
+
+    def limit() -> None:
+        resource.setrlimit(resource.RLIMIT_CPU, (LONGEST, LONGEST))
+        if room is not None:
+            resource.setrlimit(resource.RLIMIT_AS, (room * 1024, room * 1024))
+
     with tempfile.TemporaryFile() as file, tempfile.TemporaryFile() as told:
         file.write(given.encode())
         file.seek(0)
-        started = subprocess.Popen([program_path(), *of.words], stdin=file, stdout=told)
+        started = subprocess.Popen([program_path(), *words], stdin=file, stdout=told, preexec_fn=limit)
         _, status, used = os.wait4(started.pid, 0)
         started.returncode = os.waitstatus_to_exitcode(status)
         told.seek(0)
-        assert (started.returncode, b"\nrefused" in told.read()) == (of.status, False), of
-    return float(used.ru_utime + used.ru_stime)
+        return End(started.returncode, told.read(), float(used.ru_utime + used.ru_stime))
+
+
+def seconds(of: Input, given: str) -> float:
+    """The processor time of one run, in which no line is refused."""
+    end = run_of(of.words, given)
+    assert (end.status, b"\nrefused" in end.output) == (of.status, False), of
+    return end.seconds
 
 
 class Costs(unittest.TestCase):
@@ -211,6 +245,36 @@ class Costs(unittest.TestCase):
             with self.subTest(name, size=of.size):
                 self.assertLessEqual(growth, RATIO)
         print(f"(grown by {', '.join(told)})", end=" ", flush=True)
+
+
+class ShortMemory(unittest.TestCase):
+    def fault(self, free: End, words: Sequence[str], given: str, room: int) -> tuple[int, str]:
+        """The status under a limit of memory, and what is wrong with how the run ended."""
+        end, most = run_of(words, given, room), MORE_TIMES * free.seconds + MORE_SECONDS
+        for _ in range(RUNS):
+            if end.seconds > most and end.seconds < LONGEST / 2:
+                end = min(end, run_of(words, given, room), key=lambda one: one.seconds)
+        if end.seconds > most:
+            return end.status, f"{end.seconds:.2f} s, and {free.seconds:.2f} s with ample memory"
+        if end.status == free.status:
+            return end.status, "" if end.output == free.output else "another output"
+        written = end.output if words[0] == "serve" else b""
+        right = end.status == WANT_OF_MEMORY and end.output == written and free.output.startswith(written)
+        return end.status, "" if right else f"status {end.status}, {len(end.output)} bytes"
+
+    def test_runs_under_limits_of_memory_end_soon(self) -> None:
+        refused = 0
+        for of in INPUTS:
+            given = of.of(of.size)
+            for words in (of.words,) if of.words[0] == "check" else (of.words, ("serve", *of.words[1:])):
+                free = min((run_of(words, given) for _ in range(RUNS)), key=lambda end: end.seconds)
+                for room in ROOMS:
+                    status, fault = self.fault(free, words, given, room)
+                    refused += status == WANT_OF_MEMORY
+                    with self.subTest(of.of.__name__, words=words, room=room):
+                        self.assertEqual(fault, "")
+        self.assertGreater(refused, 0)
+        print(f"({refused} runs ended for want of memory)", end=" ", flush=True)
 
 
 if __name__ == "__main__":
