@@ -1,5 +1,6 @@
 """Runs whose stores are rested by several workers: what they write is what one worker writes."""
 
+import itertools
 import json
 import random
 import subprocess
@@ -50,6 +51,55 @@ def shortest(all_routes: Iterable[Route]) -> str:
     return ", ".join(f"path({start},{end},{lengths[start, end]})" for start, end in sorted(lengths))
 
 
+# Lines are read ahead in pieces of so many bytes, and so many lines of a piece at most.
+PIECE = 262_144
+MOST_LINES = 32_768
+MAX_LINE = 1_048_576
+Line = tuple[str, str]
+
+
+def told(number: int) -> Line:
+    return f'["tell",1,[1,{number}],[["path",{number},2,3]]]', "told\n"
+
+
+def mixed(count: int, seed: int) -> Iterator[Line]:
+    """Lines of all kinds with their answers, of lengths that differ, some ended by a carriage return."""
+    rng = random.Random(seed)
+    kinds = (
+        ("  \t", ""),
+        ("", ""),
+        ("[", "refused 30\n"),
+        ('["tell",1,[1,7],[["path",1e999,2,3]]]', "refused 30\n"),
+        ('["tell",1,[1,7]]', "refused 31\n"),
+        ("[[],[[]]]", "refused 31\n"),
+        ('["tell",1,[1,7],[["road",1]]]', "refused 32\n"),
+        ('["merge",1,[[[1,8],[["path",1,2]]]]]', "refused 32\n"),
+        ('["tell",1,[1,0],[["path",9,9,9]]]', "refused 33\n"),
+        ('["tell",1,[1,0],[["path",0,2,3]]]', "again\n"),
+        ('["tell",4,[1,0],[["path",0,2,3]]]', "refused 35\n"),
+        ('["sync",2,3]', "synced 0\n"),
+        ('["merge",1,[[[1,0],[["path",0,2,3]]]]]', "merged 0\n"),
+        ('["summary",2]', '[]\n'),
+        ('["show",3]', "true\n"),
+    )
+    yield told(0)
+    for number in range(1, count):
+        yield told(number) if rng.random() < 0.5 else kinds[rng.randrange(len(kinds))]
+
+
+def ended(rows_of: Iterable[Line], seed: int) -> tuple[str, str]:
+    """The lines as a text, the last one without its end, and their answers."""
+    rng = random.Random(seed)
+    lines, answers = zip(*rows_of)
+    return "".join(line + rng.choice(("\n", "\r\n")) for line in lines)[:-1], "".join(answers)
+
+
+def first_apart(output: str, wanted: str) -> tuple[int, str, str] | None:
+    """The first line in which two outputs differ: outputs of this length take too long to be compared in full."""
+    both = itertools.zip_longest(output.splitlines(), wanted.splitlines(), fillvalue="no line")
+    return next(((number, a, b) for number, (a, b) in enumerate(both) if a != b), None)
+
+
 class Workers(unittest.TestCase):
     def expect(self, command: str, workers: int, parts: int, given: str, output: str) -> None:
         with self.subTest(command=command, workers=workers, parts=parts):
@@ -82,6 +132,41 @@ class Workers(unittest.TestCase):
         output = VERDICT + "".join(f"{answer}\n" for answer in answers)
         for workers, parts in ((1, 1), (4, 16)):
             self.expect("run", workers, parts, input_of(lines), output)
+
+    def expect_read(self, lines: str, answers: str) -> None:
+        """Any number of workers reads these lines alike."""
+        for workers in (1, 2, 4, 16):
+            with self.subTest(workers=workers):
+                status, output = shared("run", workers, 16, input_of(()) + lines)
+                self.assertEqual((status, first_apart(output, VERDICT + answers)), (0, None))
+
+    def test_mixed_lines(self) -> None:
+        """Bad, blank and refused lines among others, in several batches of pieces."""
+        for count, seed in ((3, 1), (3_000, 2), (150_000, 3)):
+            self.expect_read(*ended(mixed(count, seed), seed))
+
+    def test_lines_at_cuts(self) -> None:
+        """A line ends right before the place where a piece may be cut, there, and right behind it."""
+        after = [told(number) for number in range(40_000)]
+        for far in range(-2, 3):
+            for first in ("x", " "):
+                line = first * (PIECE + far)
+                rows_of = [(line, "refused 30\n" if first == "x" else ""), *after]
+                self.expect_read("".join(f"{line}\n" for line, _ in rows_of), "".join(answer for _, answer in rows_of))
+
+    def test_long_lines(self) -> None:
+        """Lines that are longer than a piece, up to their limit and past it, between others."""
+        show, shown = '["show",2]', "true\n"
+        rows_of = [told(0)]
+        for number, (length, answer) in enumerate(((PIECE, shown), (MAX_LINE, shown), (MAX_LINE + 1, "refused 30\n")), 1):
+            rows_of += [(show + " " * (length - len(show)), answer), told(number)]
+        self.expect_read("".join(f"{line}\n" for line, _ in rows_of), "".join(answer for _, answer in rows_of))
+
+    def test_short_lines(self) -> None:
+        """More lines in a piece than are read ahead, and blank ones alone."""
+        count = 2 * MOST_LINES + 5
+        self.expect_read("x\n" * count + '["show",1]\n', "refused 30\n" * count + "true\n")
+        self.expect_read("\n" * (5 * PIECE) + '["show",1]\n', "true\n")
 
     def test_words(self) -> None:
         """The numbers have limits, and only commands that answer lines take them."""

@@ -1,9 +1,9 @@
 -- Lines that are answered until the input ends, or a fault comes.
-use Rattle.std.proofs.Common.{◌≡◌, ℕ, ◌⊎◌, List, [], ◌∷◌, ◌++◌, length, refl, sym, ap, ◌∙◌, append_assoc, append-nil, subst, inl, inr, take}
+use Rattle.std.proofs.Common.{◌≡◌, ℕ, List, [], ◌∷◌, ◌++◌, length, refl, sym, ap, ◌∙◌, append_assoc, append-nil, subst, inl, inr, take}
 use Rattle.std.specs.Prelude.{Option, Some, None, IfSome, Result, Ok, replicate}
 use Rattle.std.specs.FinMap as finite
-use Rattle.std.specs.Io.KnownBytes.{Appends, Consumes, IsAtEnd, Keeps}
-use Rattle.std.proofs.KnownBytes.{Appends-nil, Appends-trans, Consumes-all, Consumes-kept, Consumes-nil, Consumes-trans}
+use Rattle.std.specs.Io.KnownBytes.{Appends, Consumes, IsAtEnd}
+use Rattle.std.proofs.KnownBytes.{Appends-trans, Consumes-all, Consumes-nil, Consumes-trans}
 use Rattle.chr_base.specs.declared.program.Program.{Program}
 use Rattle.chr_base.specs.declared.rule.Rule.{Rule}
 use Rattle.chr_base.specs.Programs.{declarations, rules_of}
@@ -24,7 +24,6 @@ use Rattle.chr_report.specs.Lines.{lines}
 use Rattle.chr_report.specs.Answers.{AnswersAll}
 use Rattle.chr_report.specs.OneText.{AnswersExist}
 use Rattle.chr_report.specs.Outputs.{IsReadOutput, accepted_text}
-use Rattle.chr_report.specs.Served.{AreWholeLines, HasNoFeed}
 use Rattle.chr_report.specs.working.Answered.{AnswersRest}
 use Rattle.chr_report.specs.working.Serving.{AnswersFront, AnswersChunk, AnswersPart, AnswersFrontRead, AnswersInput, IsCut, SendsAnswer, AnswersCommands, WritesText, WritesTextPart}
 use Rattle.chr_report.proofs.Feeds.{whole_both}

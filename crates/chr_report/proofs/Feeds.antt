@@ -4,7 +4,7 @@ use Rattle.std.specs.Prelude.{◌==◌, ◌||◌}
 use Rattle.std.specs.List.{list_any, position_or_len, onto_first}
 use Rattle.chr_report.specs.Lines.{lines, is_divider, text_of, commands_of}
 use Rattle.chr_report.specs.Served.{HasNoFeed, AreWholeLines, has_divider}
-use Rattle.chr_report.specs.working.Divided.{AreText, IsDivided, IsUndivided, Divides}
+use Rattle.chr_report.specs.working.Divided.{AreText, Divides}
 use Rattle.chr_report.proofs.LineLaws.{text_more, text_ended, commands_later, commands_here}
 
 none_at : (b : Bool) (n x : ℕ) (xs : List ℕ) → (x == 10) ≡ b → HasNoFeed (take n xs) → HasNoFeed (take (cond (not b) (1 + n) 0) (x ∷ xs))

@@ -1,7 +1,6 @@
 -- What is written for an input of which a beginning was read.
 use Rattle.std.proofs.Common.{◌≡◌, ℕ, ◌+◌, ◌-◌, ◌<◌, ◌≤◌, ◌⊎◌, Bool, true, false, List, [], ◌∷◌, ◌++◌, length, take, refl, sym, ap, ◌∙◌, append_assoc, append-nil, length-append, subst, inl, inr, arith}
-use Rattle.std.specs.Prelude.{Option, Some, None, IfSome, Result, Ok, Err, codes, nat_eq, if◌then◌else◌, ◌||◌, ⊤}
-use Rattle.std.specs.Bool.{MatchBool}
+use Rattle.std.specs.Prelude.{Option, Some, None, IfSome, Result, Ok, Err, codes, nat_eq, if◌then◌else◌, ⊤}
 use Rattle.std.specs.List.{ends_with, onto_first}
 use Rattle.std.proofs.lemmas.Bool.Decides.{Decides-eqb}
 use Rattle.std.proofs.lemmas.List.{length-take-le}
@@ -19,9 +18,9 @@ use Rattle.chr_read.specs.ProgramTexts.{IsAnswer}
 use Rattle.chr_report.specs.declared.wanted.Wanted.{Wanted}
 use Rattle.chr_report.specs.declared.running.Status.{Status}
 use Rattle.chr_report.specs.declared.running.Status.TheVariants.{Accepted, Refused}
-use Rattle.chr_report.specs.Lines.{lines, is_divider, text_of, commands_of, without_return}
+use Rattle.chr_report.specs.Lines.{lines, is_divider, text_of, without_return}
 use Rattle.chr_report.specs.Outputs.{IsOutput, IsReadOutput}
-use Rattle.chr_report.specs.Served.{AllAnswered, AreWholeLines, HasNoFeed, WritesDue, has_divider}
+use Rattle.chr_report.specs.Served.{AllAnswered, HasNoFeed, has_divider}
 use Rattle.chr_report.specs.Written.{Writes, WritesOutput, WritesBeginning}
 use Rattle.chr_report.specs.working.Divided.{AreText, Divides, IsDivided, IsUndivided}
 use Rattle.chr_report.specs.working.Serving.{AnswersCommands, WritesText, WritesTextPart}

@@ -3,10 +3,7 @@ use Rattle.std.proofs.Common.{◌≡◌, ℕ, ◌+◌, ◌-◌, ◌^◌, ◌<◌
 use Rattle.std.specs.Prelude.{Option, Some, None, IfSome}
 use Rattle.std.specs.Io.KnownBytes.{Consumes, IsAtEnd}
 use Rattle.chr_device.specs.Devices.{ReadsOn}
-use Rattle.chr_device.specs.declared.words.Verb.{Verb}
 use Rattle.chr_read.specs.declared.reader.TheConstants.{MAX_TEXT}
-use Rattle.chr_report.specs.declared.running.Status.{Status}
-use Rattle.chr_report.specs.declared.wanted.Wanted.{Wanted}
 use Rattle.chr_report.specs.Lines.{lines, text_of}
 use Rattle.chr_report.specs.Outputs.{Decides, IsOutput}
 use Rattle.chr_report.specs.working.Divided.{IsUndivided}

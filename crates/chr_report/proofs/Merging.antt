@@ -1,6 +1,6 @@
 -- What a replica answers to a merge, and to an exchange.
 use Rattle.std.proofs.Common.{◌≡◌, ℕ, ◌+◌, ◌-◌, ◌≤◌, List, ◌++◌, All, codes, refl, sym, ap, ◌∙◌, subst, arith, inl, inr, ◌⊎◌}
-use Rattle.std.specs.Prelude.{Some, MatchOption}
+use Rattle.std.specs.Prelude.{MatchOption}
 use Rattle.std.specs.Fmt.{decimal}
 use Rattle.std.specs.FinMap as map
 use Rattle.chr_base.specs.declared.program.Program.{Program}
@@ -12,10 +12,8 @@ use Rattle.chr_ops.specs.Joins.{union}
 use Rattle.chr_ops.specs.Summaries.{CoversJust, lacking}
 use Rattle.chr_ops.proofs.Lacked.{exchange, no_clash}
 use Rattle.chr_base.specs.Programs.{declarations}
-use Rattle.chr_json.specs.Deltas.{NamedOperation}
 use Rattle.chr_json.specs.declared.command.DeltaVersion.{DeltaVersion}
 use Rattle.chr_json.specs.declared.command.DeltaVersion.TheVariants as version
-use Rattle.chr_exchange.specs.Names.{declared_operations}
 use Rattle.chr_replica.specs.declared.refusal.Refusal.TheVariants as refused
 use Rattle.chr_replica.specs.declared.refusal.Limit.TheVariants as limit
 use Rattle.chr_replica.specs.Replicas.{Replica, IsDeclared}
@@ -29,11 +27,10 @@ use Rattle.chr_worlds.specs.declared.answer.Answer.{Answer}
 use Rattle.chr_worlds.specs.declared.answer.Answer.TheVariants as answer
 use Rattle.chr_report.specs.declared.reply.Refusal.TheVariants as refusal
 use Rattle.chr_report.specs.Replies.{refusal_text}
-use Rattle.chr_report.specs.Answers.{AnswersRefusal, AnswersMerge, AnswersUnion, AnswersSync, AnswersAt, AnswersBetween, AnswersOperations}
+use Rattle.chr_report.specs.Answers.{AnswersRefusal, AnswersMerge, AnswersUnion, AnswersSync, AnswersAt, AnswersBetween}
 use Rattle.chr_report.specs.declared.reply.Reply.TheVariants as replies
 use Rattle.chr_report.specs.working.ReplyTexts.{replied_text, answer_text, reply_text}
 use Rattle.chr_report.specs.working.Services.{operations_held, AreBetweenLines}
-use Rattle.chr_report.proofs.Declared.{merge_known, all_spelt_declared}
 use Rattle.chr_report.proofs.BetweenLines.{lacking_declared, ready_at}
 use Rattle.chr_report.proofs.Held.{answers_at, none_answers, held_at, none_held, has_one, there_or_not}
 
@@ -114,15 +111,14 @@ sync_answers ds k p w v a b answer.NoReplica declared h = by (there_or_not w a)
         let none : AnswersRefusal refusal.NoReplica (operations_held w) (refusal_text refusal.NoReplica) (operations_held v) = (refl, ap operations_held h.1) in
         subst (λ o. MatchOption o (AnswersRefusal refusal.NoReplica (operations_held w) (refusal_text refusal.NoReplica) (operations_held v)) (λ from. AnswersAt (operations_held w) b (AnswersSync from) (refusal_text refusal.NoReplica) (operations_held v))) (sym (none_held w a n)) none
 
--- of operations that are spelt with declared names, after which a pool may be rested
-pub merged : (p : Program) (w v : Replicas) (new : List Operations) (r : ℕ) (os : List NamedOperation) (ops : List Operation) (x : Answer) → Some ops ≡ declared_operations (declarations p) os
+-- of operations of the program's atoms, after which a pool may be rested
+pub merged : (p : Program) (w v : Replicas) (new : List Operations) (r : ℕ) (ops : List Operation) (x : Answer) → All (IsDeclared p) ops
     → Happens p w (event.At r (act.Merge ops)) x v → new ≡ operations_held v
-    → AnswersOperations (operations_held w) r (declared_operations (declarations p) os) (reply_text (declarations p) (replies.Answered x)) new
-merged p w v new r os ops x known h e =
+    → AnswersAt (operations_held w) r (AnswersMerge ops) (reply_text (declarations p) (replies.Answered x)) new
+merged p w v new r ops x declared h e =
     let ds = declarations p in
-    subst (AnswersOperations (operations_held w) r (declared_operations ds os) (reply_text ds (replies.Answered x))) (sym e)
-    (merge_known ds (operations_held w) (operations_held v) r os ops (reply_text ds (replies.Answered x)) known
-    (merge_answers ds version.Two p w v r ops x (all_spelt_declared p os ops known) h))
+    subst (AnswersAt (operations_held w) r (AnswersMerge ops) (reply_text ds (replies.Answered x))) (sym e)
+    (merge_answers ds version.Two p w v r ops x declared h)
 
 -- of ready replicas, after which a pool may be rested
 pub synced : (p : Program) (w v : Replicas) (new : List Operations) (a b : ℕ) (x : Answer) → AreBetweenLines p w → Happens p w (event.Sync a b) x v → new ≡ operations_held v

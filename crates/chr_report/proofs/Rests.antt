@@ -1,6 +1,6 @@
 -- A replica that comes to rest by workers.
-use Rattle.std.proofs.Common.{◌≡◌, ◌⊎◌, ◌≤◌, ℕ, ◌-◌, All, inl, inr, length, sym, ap, ◌∙◌, subst}
-use Rattle.std.specs.Prelude.{Option, Result, Ok, Err, OnOk, Some, slice_get, slice_set}
+use Rattle.std.proofs.Common.{◌≡◌, ◌≤◌, ℕ, ◌-◌, inl, inr, length, sym, ap, ◌∙◌, subst}
+use Rattle.std.specs.Prelude.{Option, Result, Ok, Err, OnOk, Some, slice_set}
 use Rattle.std.specs.FinMap as finite
 use Rattle.std.proofs.lemmas.List.{length-set, set-set}
 use Rattle.std.proofs.lemmas.List.Elements.{All-set}

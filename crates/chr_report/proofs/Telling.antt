@@ -9,10 +9,8 @@ use Rattle.chr_base.specs.Stores.{Store}
 use Rattle.chr_ops.specs.declared.fault.Added.TheVariants as added
 use Rattle.chr_ops.specs.Operations.{Operation, Operations, IsNew, IsHeld, IsHeldOtherwise}
 use Rattle.chr_base.specs.Programs.{declarations}
-use Rattle.chr_json.specs.Deltas.{NamedOperation}
 use Rattle.chr_json.specs.declared.command.DeltaVersion.{DeltaVersion}
 use Rattle.chr_json.specs.declared.command.DeltaVersion.TheVariants as version
-use Rattle.chr_exchange.specs.Names.{named_atoms, declared_operation}
 use Rattle.chr_replica.specs.declared.refusal.Refusal.TheVariants as refused
 use Rattle.chr_replica.specs.declared.refusal.Limit.TheVariants as limit
 use Rattle.chr_replica.specs.Replicas.{Replica, IsDeclared}
@@ -27,9 +25,8 @@ use Rattle.chr_worlds.specs.declared.answer.Answer.TheVariants as answer
 use Rattle.chr_report.specs.declared.reply.Refusal.TheVariants as refusal
 use Rattle.chr_report.specs.Replies.{refusal_text}
 use Rattle.chr_report.specs.declared.reply.Reply.TheVariants as replies
-use Rattle.chr_report.specs.Answers.{AnswersTell, AnswersAt, AnswersAtoms}
+use Rattle.chr_report.specs.Answers.{AnswersTell, AnswersAt}
 use Rattle.chr_report.specs.working.ReplyTexts.{replied_text, answer_text, reply_text}
-use Rattle.chr_report.proofs.Declared.{tell_known, spelt_declared}
 use Rattle.chr_report.specs.working.Services.{operations_held}
 use Rattle.chr_report.proofs.Held.{answers_at, none_answers}
 
@@ -84,12 +81,11 @@ tell_answers ds word k p w v r op (answer.Replied x) declared h = answers_at w v
 tell_answers ds word k p w v r op answer.UnknownSymbol declared h = absurd (h.1 declared)
 tell_answers ds word k p w v r op answer.NoReplica declared h = none_answers w v r (AnswersTell op) h.0 h.2
 
--- of an operation that is spelt with declared names, after which a pool may be rested
-pub told : (p : Program) (w v : Replicas) (new : List Operations) (r : ℕ) (o : NamedOperation) (op : Operation) (x : Answer) → Some op ≡ declared_operation (declarations p) o
+-- of an operation of the program's atoms, after which a pool may be rested
+pub told : (p : Program) (w v : Replicas) (new : List Operations) (r : ℕ) (op : Operation) (x : Answer) → IsDeclared p op
     → Happens p w (event.At r (act.Tell op)) x v → new ≡ operations_held v
-    → AnswersAtoms (operations_held w) r o.id (named_atoms (declarations p) o.atoms) (reply_text (declarations p) (replies.Answered x)) new
-told p w v new r o op x known h e =
+    → AnswersAt (operations_held w) r (AnswersTell op) (reply_text (declarations p) (replies.Answered x)) new
+told p w v new r op x declared h e =
     let ds = declarations p in
-    subst (AnswersAtoms (operations_held w) r o.id (named_atoms ds o.atoms) (reply_text ds (replies.Answered x))) (sym e)
-    (tell_known ds (operations_held w) (operations_held v) r o op (reply_text ds (replies.Answered x)) known
-    (tell_answers ds (codes "merged ") version.Two p w v r op x (spelt_declared p o op known) h))
+    subst (AnswersAt (operations_held w) r (AnswersTell op) (reply_text ds (replies.Answered x))) (sym e)
+    (tell_answers ds (codes "merged ") version.Two p w v r op x declared h)

@@ -1,6 +1,7 @@
 //! Checks of a program, and runs over its command lines, from bytes to bytes.
 #![tactic(auto)]
 
+mod ahead;
 mod answering;
 mod input;
 mod judging;
@@ -8,6 +9,7 @@ mod keeping;
 mod laws;
 mod one_text;
 mod reply;
+mod request;
 mod resting;
 mod running;
 mod service;

@@ -1,28 +1,29 @@
 //! Replicas that are asked what command lines say.
-ghost use Rattle.std.specs.Prelude.{◌≡◌, ◌≤◌, All, IfOk, OnOk, map, replicate};
+ghost use Rattle.std.specs.Prelude.{◌≡◌, ◌≤◌, All, IfOk, OnOk, replicate};
 ghost use Rattle.std.specs.Arc.{arc_value};
 ghost use Rattle.std.specs.FinMap as finite;
 ghost use Rattle.chr_join.specs.AcceptedPrograms.{program_in};
 ghost use Rattle.chr_base.specs.Programs.{declarations, rules_of};
-ghost use Rattle.chr_json.specs.Reads.{command_view, raw_atom_view, raw_op_view, HasIds, IsSized, IsSizedOperation};
-ghost use Rattle.chr_exchange.specs.Names.{declared_operations, named_atoms};
+ghost use Rattle.chr_json.specs.Reads.{HasIds};
+ghost use Rattle.chr_replica.specs.Replicas.{IsDeclared};
 ghost use Rattle.chr_worlds.specs.Worlds.{Happens};
 ghost use Rattle.chr_base.specs.declared.limits.TheConstants.{MAX_REPLICAS};
-ghost use Rattle.chr_report.specs.Answers.{Answers, AnswersAt, AnswersAtoms, AnswersBetween, AnswersLacks};
-ghost use Rattle.chr_report.specs.Answers.{AnswersOperations, AnswersSaid, AnswersShow, AnswersSummary};
+ghost use Rattle.chr_report.specs.Answers.{AnswersAt, AnswersBetween, AnswersLacks, AnswersMerge, AnswersShow};
+ghost use Rattle.chr_report.specs.Answers.{AnswersSummary, AnswersTell};
 ghost use Rattle.chr_report.specs.working.ReplyTexts.{reply_text, IsWritable};
+ghost use Rattle.chr_report.specs.working.Requests.{AnswersRequest, FitsProgram};
 ghost use Rattle.chr_report.specs.working.Services.{held, served, was_stopped};
 ghost use Rattle.chr_report.specs.working.Services.{AreAtRest, HasLongRanges, IsLineEvent, IsBetweenLines};
 
-use crate::reply::{Refusal, Reply};
+use crate::reply::Reply;
+use crate::request::Request;
 use crate::resting::rest_replica;
 use crate::sharing::Sharing;
 use chr_acts::{Act, OpList, Reply as ActReply};
 use chr_base::program::Program;
-use chr_exchange::{declared_operation, declared_operations};
 use chr_join::Accepted;
-use chr_json::{Command, DeltaVersion, LineFault, RawOp, read_line};
-use chr_ops::{IdRange, OpId, Summary};
+use chr_json::DeltaVersion;
+use chr_ops::{IdRange, Op, Summary};
 use chr_replica::laws::events_keep_replicas_sound;
 use chr_worlds::laws::runs_keep_replicas_sound;
 use chr_worlds::{Answer, Event, World};
@@ -226,38 +227,30 @@ impl Service {
     }
 
     /// Tells a replica an operation.
-    fn tell(&mut self, alloc: Global, replica: u64, raw: &RawOp) -> Result<Reply, AllocError>
+    fn tell(&mut self, alloc: Global, replica: u64, op: Op) -> Result<Reply, AllocError>
         requires ready { IsBetweenLines self.old }
-        requires sized { IsSizedOperation raw.now }
+        requires declared { IsDeclared (served self.old) op }
         ensures ready { OnOk result (IsBetweenLines self.new) }
         ensures program { self.new.world.accepted ≡ self.old.world.accepted }
         ensures writable { IfOk result IsWritable }
-        ensures answer { IfOk result (λ reply. AnswersAtoms (held self.old) replica raw.now.id
-            (named_atoms (declarations (served self.old)) (map raw_atom_view raw.now.atoms.items))
+        ensures answer { IfOk result (λ reply. AnswersAt (held self.old) replica (AnswersTell op)
             (reply_text (declarations (served self.old)) reply) (held self.new)) }
     {
-        let Some(op) = declared_operation(alloc, self.program(), raw)? else {
-            return Ok(Reply::Refused(Refusal::UnknownSymbol));
-        };
         let answer = self.act(alloc, &Event::At(replica, Act::Tell(op)))?;
         self.rest_many(alloc, replica)?;
         Ok(Reply::Answered(answer))
     }
 
     /// Merges operations into those of a replica.
-    fn merge(&mut self, alloc: Global, replica: u64, raws: &[RawOp]) -> Result<Reply, AllocError>
+    fn merge(&mut self, alloc: Global, replica: u64, ops: Vec<Op>) -> Result<Reply, AllocError>
         requires ready { IsBetweenLines self.old }
-        requires sized { All IsSizedOperation raws.now }
+        requires declared { All (IsDeclared (served self.old)) ops.items }
         ensures ready { OnOk result (IsBetweenLines self.new) }
         ensures program { self.new.world.accepted ≡ self.old.world.accepted }
         ensures writable { IfOk result IsWritable }
-        ensures answer { IfOk result (λ reply. AnswersOperations (held self.old) replica
-            (declared_operations (declarations (served self.old)) (map raw_op_view raws.now))
+        ensures answer { IfOk result (λ reply. AnswersAt (held self.old) replica (AnswersMerge ops.items)
             (reply_text (declarations (served self.old)) reply) (held self.new)) }
     {
-        let Some(ops) = declared_operations(alloc, self.program(), raws)? else {
-            return Ok(Reply::Refused(Refusal::UnknownSymbol));
-        };
         let answer = self.act(alloc, &Event::At(replica, Act::Merge(OpList::of(ops))))?;
         self.rest_many(alloc, replica)?;
         Ok(Reply::Answered(answer))
@@ -333,66 +326,32 @@ impl Service {
         Ok(Reply::Lacked(version, answer))
     }
 
-    /// Does what a command says.
-    fn obey<R: Threads + Wait + Sync>(
+    /// Does what is asked for.
+    pub(crate) fn obey<R: Threads + Wait + Sync>(
         &mut self,
         rt: &R,
         alloc: Global,
-        command: Command,
+        request: Request,
     ) -> Result<Reply, AllocError>
         requires ready { IsBetweenLines self.old }
-        requires sized { IsSized command }
+        requires fits { FitsProgram (served self.old) request }
         ensures ready { OnOk result (IsBetweenLines self.new) }
         ensures program { self.new.world.accepted ≡ self.old.world.accepted }
         ensures writable { IfOk result IsWritable }
-        ensures answer { IfOk result (λ reply. AnswersSaid (declarations (served self.old))
-            (rules_of (served self.old)) (held self.old) (command_view command.entry)
+        ensures answer { IfOk result (λ reply. AnswersRequest (declarations (served self.old))
+            (rules_of (served self.old)) (held self.old) request
             (reply_text (declarations (served self.old)) reply) (held self.new)) }
     {
-        match command {
-            Command::Tell {
-                replica,
-                origin,
-                number,
-                atoms,
-            } => {
-                let id = OpId { origin, number };
-                self.tell(alloc, replica, &RawOp { id, atoms })
+        match request {
+            Request::Tell(replica, op) => self.tell(alloc, replica, op),
+            Request::Merge(replica, ops) => self.merge(alloc, replica, ops),
+            Request::Sync(from, to) => self.sync(alloc, from, to),
+            Request::Show(replica) => self.show(rt, alloc, replica),
+            Request::Summary(replica) => self.summary(alloc, replica),
+            Request::Lacks(replica, ranges, version) => {
+                self.lacks(alloc, replica, ranges, version)
             }
-            Command::Show { replica } => self.show(rt, alloc, replica),
-            Command::Sync { from, to } => self.sync(alloc, from, to),
-            Command::Summary { replica } => self.summary(alloc, replica),
-            Command::Lacks {
-                replica,
-                ranges,
-                version,
-            } => self.lacks(alloc, replica, ranges, version),
-            Command::Merge {
-                replica,
-                operations,
-            } => self.merge(alloc, replica, &operations),
-        }
-    }
-
-    /// Does what a line says, which comes without its end, and answers it.
-    pub(crate) fn reply<R: Threads + Wait + Sync>(
-        &mut self,
-        rt: &R,
-        alloc: Global,
-        line: &[u8],
-    ) -> Result<Reply, AllocError>
-        requires { IsBetweenLines self.old }
-        ensures ready { OnOk result (IsBetweenLines self.new) }
-        ensures program { self.new.world.accepted ≡ self.old.world.accepted }
-        ensures writable { IfOk result IsWritable }
-        ensures answer { IfOk result (λ reply. Answers (declarations (served self.old)) (rules_of (served self.old))
-            (held self.old) line.now (reply_text (declarations (served self.old)) reply) (held self.new)) }
-    {
-        match read_line(alloc, line) {
-            Ok(command) => self.obey(rt, alloc, command),
-            Err(LineFault::Shape) => Ok(Reply::Refused(Refusal::Shape)),
-            Err(LineFault::BadLine) => Ok(Reply::Refused(Refusal::BadLine)),
-            Err(LineFault::Memory) => Err(AllocError),
+            Request::Refused(refusal) => Ok(Reply::Refused(refusal)),
         }
     }
 }

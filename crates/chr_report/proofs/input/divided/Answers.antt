@@ -1,5 +1,4 @@
-use Rattle.std.proofs.Common.{◌≡◌, ◌-◌, ◌∷◌, [], ◌++◌, ap, sym, ◌∙◌, subst, take, length, rules, false, true}
-use Rattle.chr_report.specs.Lines.{is_divider}
+use Rattle.std.proofs.Common.{◌≡◌, ◌-◌, ◌∷◌, [], ◌++◌, ap, sym, ◌∙◌, subst, take, length, rules, false}
 use Rattle.chr_report.specs.working.Divided.{Divides}
 use Rattle.chr_report.proofs.Cutting.{take_front}
 use Rattle.chr_report.proofs.Feeds.{ended_more, text_divides, text_grows}

@@ -1,4 +1,4 @@
-use Rattle.std.proofs.Common.{◌≡◌, ◌<◌, ◌+◌, ◌^◌, [], length, rules, subst}
+use Rattle.std.proofs.Common.{◌≡◌, ◌<◌, ◌+◌, ◌^◌, length, rules, subst}
 use Rattle.chr_device.specs.Devices.{inner_of}
 use Rattle.chr_read.specs.declared.reader.TheConstants.{MAX_TEXT}
 use Rattle.chr_report.specs.working.Divided.{IsUndivided}

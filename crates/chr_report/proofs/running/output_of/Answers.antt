@@ -1,5 +1,5 @@
-use Rattle.std.proofs.Common.{◌≡◌, ap, sym, subst}
-use Rattle.std.specs.Prelude.{string_bytes, Ok}
+use Rattle.std.proofs.Common.{sym, subst}
+use Rattle.std.specs.Prelude.{string_bytes}
 use Rattle.chr_report.specs.declared.judging.Judged.TheVariants as judged
 use Rattle.chr_report.specs.declared.running.Status.TheVariants.{Accepted, Refused}
 use Rattle.chr_report.specs.Lines.{lines, commands_of}

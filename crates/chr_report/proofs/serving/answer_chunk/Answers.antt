@@ -1,16 +1,14 @@
-use Rattle.std.proofs.Common.{◌≡◌, ◌++◌, ◌⊎◌, ℕ, List, [], ◌∷◌, ◌∙◌, ap, rules, subst, sym}
+use Rattle.std.proofs.Common.{◌≡◌, ◌++◌, [], ◌∙◌, rules, subst, sym}
 use Rattle.std.specs.Prelude.{string_bytes}
 use Rattle.std.specs.Io.KnownBytes.{Appends}
 use Rattle.chr_base.specs.Programs.{declarations, rules_of}
 use Rattle.chr_device.specs.Devices.{AppendsPart}
-use Rattle.chr_ops.specs.Operations.{Operations}
 use Rattle.chr_join.specs.AcceptedPrograms.{program_in}
 use Rattle.chr_report.specs.Lines.{without_return}
-use Rattle.chr_report.specs.Served.{HasNoFeed}
 use Rattle.chr_report.specs.working.Answered.{AnswersLine}
-use Rattle.chr_report.specs.working.Services.{held, served, IsBetweenLines}
+use Rattle.chr_report.specs.working.Services.{held, served}
 use Rattle.chr_report.specs.working.Serving.{AnswersChunk}
-use Rattle.chr_report.proofs.Pieces.{Gathers, chunk_done, gathers_none, gathers_one, gathered_sent, gathered_whole, part_done, part_gathered, part_sent, if_err, on_err}
+use Rattle.chr_report.proofs.Pieces.{Gathers, chunk_done, gathers_one, gathered_sent, gathered_whole, part_done, part_gathered, part_sent, on_err}
 use Rattle.chr_report.proofs.serving.answer_chunk.Goals as goal
 
 pub returns-in_err-extend_from_slice-clause-err : goal.returns-in_err-extend_from_slice-clause-err

@@ -1,4 +1,4 @@
-use Rattle.std.proofs.Common.{◌≡◌, ◌∙◌, ap, inr, sym, subst}
+use Rattle.std.proofs.Common.{inr, subst}
 use Rattle.std.specs.Prelude.{Ok, string_bytes}
 use Rattle.std.specs.Io.KnownBytes.{Appends}
 use Rattle.chr_device.specs.Devices.{AppendsPart}
@@ -7,9 +7,8 @@ use Rattle.chr_read.specs.ProgramTexts.{IsAnswer}
 use Rattle.chr_report.specs.declared.running.Status.TheVariants.{Refused}
 use Rattle.chr_report.specs.declared.judging.Judged.TheVariants as judged
 use Rattle.chr_report.specs.working.Judged.{IsJudgedText}
-use Rattle.chr_report.specs.working.Serving.{AnswersCommands, WritesText, WritesTextPart}
 use Rattle.chr_report.proofs.Pieces.{on_err}
-use Rattle.chr_report.proofs.Conversing.{refused_written, text_written, text_part}
+use Rattle.chr_report.proofs.Conversing.{refused_written}
 use Rattle.chr_report.proofs.serving.serve_text.Goals as goal
 
 pub serve_program-requires-clause-prompt : goal.serve_program-requires-clause-prompt

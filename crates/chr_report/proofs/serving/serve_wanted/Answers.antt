@@ -1,17 +1,15 @@
-use Rattle.std.proofs.Common.{◌≡◌, ◌++◌, ◌+◌, ◌<◌, ℕ, List, [], ◌∙◌, ap, arith, inl, length, refl, rules, subst, sym, take}
-use Rattle.std.specs.Prelude.{Option, Some, false}
-use Rattle.std.specs.Io.KnownBytes.{Appends, Consumes, IsAtEnd}
-use Rattle.chr_device.specs.Devices.{AppendsPart}
+use Rattle.std.proofs.Common.{◌≡◌, ◌++◌, ◌+◌, ◌<◌, ◌∙◌, arith, length, rules, subst, take}
+use Rattle.std.specs.Prelude.{Some}
+use Rattle.std.specs.Io.KnownBytes.{Appends}
 use Rattle.chr_device.specs.declared.words.Verb.TheVariants.{Run}
 use Rattle.chr_read.specs.declared.reader.TheConstants.{MAX_TEXT}
-use Rattle.chr_report.specs.declared.running.Status.TheVariants as status
 use Rattle.chr_report.specs.Served.{AllAnswered}
-use Rattle.chr_report.specs.Written.{Writes, WritesOutput, WritesBeginning}
+use Rattle.chr_report.specs.Written.{WritesOutput, WritesBeginning}
 use Rattle.chr_report.specs.working.Divided.{IsDivided, IsUndivided}
-use Rattle.chr_report.specs.working.Serving.{AnswersCommands, WritesText, WritesTextPart}
+use Rattle.chr_report.specs.working.Serving.{WritesText, WritesTextPart}
 use Rattle.chr_read.specs.ProgramTexts.{IsAnswer}
 use Rattle.chr_report.proofs.Outcomes.{if_ok}
-use Rattle.chr_report.proofs.Pieces.{on_err, if_err}
+use Rattle.chr_report.proofs.Pieces.{if_err}
 use Rattle.chr_report.proofs.Inputs.{unwritten, read_nothing, read_more, undivided_answered, divided_answered, divided_written, divided_part, ended_written, ended_part, long_written, long_part, long_refused, not_accepted}
 use Rattle.chr_report.proofs.serving.serve_wanted.Goals as goal
 

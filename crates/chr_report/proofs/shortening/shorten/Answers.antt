@@ -1,4 +1,4 @@
-use Rattle.std.proofs.Common.{◌≡◌, ◌+◌, ◌-◌, ◌<◌, ◌⊎◌, true, false, length, take, drop, slice_index_or, ap, arith, inl, inr, rules, subst, sym, ◌∙◌}
+use Rattle.std.proofs.Common.{◌≡◌, ◌+◌, ◌-◌, ◌<◌, ◌⊎◌, length, take, drop, slice_index_or, ap, arith, inl, inr, rules, subst, sym, ◌∙◌}
 use Rattle.std.proofs.lemmas.Grind.{get_or_default_zero}
 use Rattle.chr_json.specs.Lines.{is_blank_line}
 use Rattle.chr_report.specs.Served.{HasNoFeed}

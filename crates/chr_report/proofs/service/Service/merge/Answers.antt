@@ -1,8 +1,11 @@
-use Rattle.std.proofs.Common.{sym, ap, ◌∙◌, map}
-use Rattle.std.specs.Prelude.{Some, option_map}
-use Rattle.chr_json.specs.Reads.{raw_op_view}
+use Rattle.std.proofs.Common.{All, sym, subst}
+use Rattle.chr_base.specs.Programs.{declarations}
+use Rattle.chr_replica.specs.Replicas.{IsDeclared}
+use Rattle.chr_report.specs.declared.reply.Reply.TheVariants as replies
+use Rattle.chr_report.specs.working.ReplyTexts.{reply_text}
 use Rattle.chr_acts.specs.declared.act.Act.TheVariants as act
 use Rattle.chr_worlds.specs.declared.event.Event.TheVariants as event
+use Rattle.chr_report.specs.Answers.{AnswersAt, AnswersMerge}
 use Rattle.chr_report.specs.working.Services.{held, served}
 use Rattle.chr_report.proofs.Merging.{merged}
 use Rattle.chr_report.proofs.Writable.{happens_written}
@@ -14,5 +17,7 @@ returns-clause-writable c =
 
 pub returns-clause-answer : goal.returns-clause-answer
 returns-clause-answer c =
-    merged (served c.args.self.now) c.args.self.now.world.replicas c.act.new.self.world.replicas (held c.rest_many.new.self) c.args.replica (map raw_op_view c.args.raws.now) c.of.result c.in_ok-answer.answer
-    (ap Some c.of.ensures ∙ ap (option_map (λ v. v.items)) (sym c.in-Some.is) ∙ (rw c.program.ensures at c.in_ok-ops.ensures)) c.in_ok-answer.ensures.happens c.in_ok-rest_many.ensures.operations
+    let p = served c.args.self.now in
+    subst (λ os. AnswersAt (held c.args.self.now) c.args.replica (AnswersMerge os) (reply_text (declarations p) (replies.Answered c.in_ok-answer.answer)) (held c.rest_many.new.self)) c.of.ensures
+    (merged p c.args.self.now.world.replicas c.act.new.self.world.replicas (held c.rest_many.new.self) c.args.replica c.of.result c.in_ok-answer.answer
+    (subst (All (IsDeclared p)) (sym c.of.ensures) c.requires.declared) c.in_ok-answer.ensures.happens c.in_ok-rest_many.ensures.operations)

@@ -1,5 +1,3 @@
-use Rattle.std.proofs.Common.{sym, ◌∙◌}
-use Rattle.chr_json.specs.Reads.{raw_op_view}
 use Rattle.chr_acts.specs.declared.act.Act.TheVariants as act
 use Rattle.chr_worlds.specs.declared.event.Event.TheVariants as event
 use Rattle.chr_report.specs.working.Services.{held, served}
@@ -9,9 +7,9 @@ use Rattle.chr_report.proofs.service.Service.tell.Goals as goal
 
 pub returns-clause-writable : goal.returns-clause-writable
 returns-clause-writable c =
-    happens_written (served c.args.self.now) c.args.self.now.world.replicas c.act.new.self.world.replicas (event.At c.args.replica (act.Tell c.in-Some.op)) c.in_ok-answer.answer tt c.in_ok-answer.ensures.happens
+    happens_written (served c.args.self.now) c.args.self.now.world.replicas c.act.new.self.world.replicas (event.At c.args.replica (act.Tell c.args.op)) c.in_ok-answer.answer tt c.in_ok-answer.ensures.happens
 
 pub returns-clause-answer : goal.returns-clause-answer
 returns-clause-answer c =
-    told (served c.args.self.now) c.args.self.now.world.replicas c.act.new.self.world.replicas (held c.rest_many.new.self) c.args.replica (raw_op_view c.args.raw.now) c.in-Some.op c.in_ok-answer.answer
-    (sym c.in-Some.is ∙ (rw c.program.ensures at c.in_ok-op.ensures)) c.in_ok-answer.ensures.happens c.in_ok-rest_many.ensures.operations
+    told (served c.args.self.now) c.args.self.now.world.replicas c.act.new.self.world.replicas (held c.rest_many.new.self) c.args.replica c.args.op c.in_ok-answer.answer
+    c.requires.declared c.in_ok-answer.ensures.happens c.in_ok-rest_many.ensures.operations

@@ -1,0 +1,59 @@
+-- What lines ask for, and lines that were read before their turn.
+use Rattle.std.specs.Prelude.{ℕ, List, All, IfSome, Option, Result, ⊤}
+use Rattle.std.specs.declared.alloc.Global.{Global}
+use Rattle.std.specs.declared.vec.Vec.{Vec}
+use Rattle.std.specs.Vec.Iter.{into_iter_items}
+use Rattle.chr_base.specs.declared.program.Program.{Program}
+use Rattle.chr_base.specs.declared.rule.Rule.{Rule}
+use Rattle.chr_base.specs.ProgramTests.{Declaration}
+use Rattle.chr_base.specs.Programs.{declarations}
+use Rattle.chr_json.specs.Commands.{Said}
+use Rattle.chr_json.specs.Reads.{line_said, HasIds}
+use Rattle.chr_json.specs.declared.fault.LineFault.{LineFault}
+use Rattle.chr_ops.specs.Operations.{Operations}
+use Rattle.chr_replica.specs.Replicas.{IsDeclared}
+use Rattle.chr_report.specs.Answers.{AnswersAt, AnswersBetween, AnswersLacks, AnswersMerge, AnswersRead}
+use Rattle.chr_report.specs.Answers.{AnswersRefusal, AnswersShow, AnswersSummary, AnswersTell}
+use Rattle.chr_report.specs.declared.ahead.Ahead.{Ahead}
+use Rattle.chr_report.specs.declared.ahead.Heard.{Heard}
+use Rattle.chr_report.specs.declared.request.Request.{Request}
+use Rattle.chr_report.specs.declared.request.Request.TheVariants as request
+
+-- the answer to what is asked for
+abbrev pub AnswersRequest :
+    List Declaration → List Rule → List Operations → Request → List ℕ → List Operations → Type 0
+AnswersRequest ds rules old (request.Tell r op) text new = AnswersAt old r (AnswersTell op) text new
+AnswersRequest ds rules old (request.Merge r ops) text new = AnswersAt old r (AnswersMerge ops.items) text new
+AnswersRequest ds rules old (request.Sync a b) text new = AnswersBetween old a b text new
+AnswersRequest ds rules old (request.Show r) text new = AnswersAt old r (AnswersShow ds rules) text new
+AnswersRequest ds rules old (request.Summary r) text new = AnswersAt old r AnswersSummary text new
+AnswersRequest ds rules old (request.Lacks r rs v) text new = AnswersAt old r (AnswersLacks ds rs.items v) text new
+AnswersRequest ds rules old (request.Refused r) text new = AnswersRefusal r old text new
+
+-- its operations are of the program's atoms, and each of its ranges has an id
+abbrev pub FitsProgram : Program → Request → Type 0
+FitsProgram p (request.Tell r op) = IsDeclared p op
+FitsProgram p (request.Merge r ops) = All (IsDeclared p) ops.items
+FitsProgram p (request.Lacks r rs v) = All HasIds rs.items
+FitsProgram p (request.Sync a b) = ⊤
+FitsProgram p (request.Show r) = ⊤
+FitsProgram p (request.Summary r) = ⊤
+FitsProgram p (request.Refused r) = ⊤
+
+-- its answer is that of the line that said this
+pub record Asks (p : Program) (said : Result Said LineFault) (q : Request) : Type 0 where
+  pub fits : FitsProgram p q
+  pub answers : (rules : List Rule) (old : List Operations) (text : List ℕ) (new : List Operations)
+      → AnswersRequest (declarations p) rules old q text new → AnswersRead (declarations p) rules old said text new
+
+-- what stands beside the line is what it asks for
+abbrev pub IsHeard : Program → Heard → Type 0
+IsHeard p h = IfSome h.request (Asks p (line_said h.line.now))
+
+-- so it is for the lines of each of these pieces that was read
+abbrev pub AreHeard : Program → List (Option (Vec Heard Global)) → Type 0
+AreHeard p found = All (λ o. IfSome o (λ lines. All (IsHeard p) lines.items)) found
+
+-- and for each line that was read before its turn
+abbrev pub IsAhead : Program → Ahead → Type 0
+IsAhead p a = All (IsHeard p) (into_iter_items a.heard)
