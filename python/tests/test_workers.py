@@ -158,7 +158,8 @@ class Workers(unittest.TestCase):
         """Lines that are longer than a piece, up to their limit and past it, between others."""
         show, shown = '["show",2]', "true\n"
         rows_of = [told(0)]
-        for number, (length, answer) in enumerate(((PIECE, shown), (MAX_LINE, shown), (MAX_LINE + 1, "refused 30\n")), 1):
+        lengths = ((PIECE, shown), (MAX_LINE, shown), (MAX_LINE + 1, "refused 30\n"))
+        for number, (length, answer) in enumerate(lengths, 1):
             rows_of += [(show + " " * (length - len(show)), answer), told(number)]
         self.expect_read("".join(f"{line}\n" for line, _ in rows_of), "".join(answer for _, answer in rows_of))
 
