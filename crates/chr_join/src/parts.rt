@@ -28,6 +28,7 @@ pub(crate) fn rested(alloc: Global, weighed: &Weighed, part: &Bag) -> Result<Bag
     ensures { IfOk result (IsNormalForm (RuleStep (rules_in weighed.now)) part.now) }
 {
     let mut pool = pool_of(alloc, weighed, part)?;
+    pool.arrange();
     match rest(weighed, &mut pool) {
         Ok(_) => pool.bag(alloc),
         Err(_) => Err(AllocError),
