@@ -1,7 +1,9 @@
 //! Boards lease parts of their pools out, and take them back.
 ghost use Rattle.std.specs.Prelude.{◌≡◌, ◌≤◌, IfErr, IfNone, IfOk, IfSome, IsSome, OnOk, OnErr, Some};
 ghost use Rattle.std.specs.FinMap as map;
-ghost use Rattle.chr_weights.specs.WeighedPrograms.{program_of};
+ghost use Rattle.chr_base.specs.Rewriting.{IsAtRest};
+ghost use Rattle.chr_base.specs.Rules.{Step};
+ghost use Rattle.chr_weights.specs.WeighedPrograms.{program_of, rules_in};
 ghost use Rattle.chr_replica.specs.Leases.{parts_in, AreNumbered};
 ghost use Rattle.chr_replica.specs.LeastOut.{AreFrom};
 ghost use Rattle.chr_replica.specs.Replicas.{Takes, TakesParts, Puts, Recalls};
@@ -41,7 +43,8 @@ impl Board {
     }
 
     /// Leases the whole pool out in so many parts, 1 to [`MAX_PARTS`], under the next numbers. The sizes of any two parts
-    /// differ by at most one; a part may be empty.
+    /// differ by at most one; a part may be empty. Where some argument joins the heads of each rule, the parts are cut in
+    /// the order of that argument, so that atoms which rules can join mostly stand in one part.
     ///
     /// # Errors
     /// `Full` where the lease numbers don't suffice, `Memory`. Each of them leaves the board as it was.
@@ -74,6 +77,29 @@ impl Board {
     {
         events_keep_replicas_sound();
         match self.state.put(self.accepted.program(), &done) {
+            Ok(()) => Ok(()),
+            Err(refusal) => Err(NotPut { done, refusal }),
+        }
+    }
+
+    /// The same of a result that is at rest. Where some argument joins the heads of each rule, as one variable that stands
+    /// there in all of them, those of its atoms whose value there is one of the part's, and of no atom that is at rest in
+    /// the pool, are at rest at once: the next settling looks at the others alone.
+    ///
+    /// # Errors
+    /// As [`Board::put`].
+    pub fn put_rested(&mut self, done: Done) -> Result<(), NotPut>
+        requires { IsAtRest (Step (rules_in done.weighed)) done.result }
+        ensures program { self.new.accepted ≡ self.old.accepted }
+        ensures ok { OnOk result (
+            Puts (program_on self.old) self.old.replica done.number done.part done.result self.new.replica) }
+        ensures refused { IfErr result (λ e. RefusesPut (program_on self.old) self.old.replica
+            (program_of done.weighed) done.number done.part e.refusal) }
+        ensures handed_back { IfErr result (λ e. e.done ≡ done) }
+        ensures err { OnErr result (self.new ≡ self.old) }
+    {
+        events_keep_replicas_sound();
+        match self.state.put_rested(self.accepted.program(), &done) {
             Ok(()) => Ok(()),
             Err(refusal) => Err(NotPut { done, refusal }),
         }

@@ -1,8 +1,9 @@
 //! Boards come to rest.
-ghost use Rattle.std.specs.Prelude.{◌≡◌, IfOk, IfErr, OnOk};
+ghost use Rattle.std.specs.Prelude.{◌≡◌, ◌≤◌, IfOk, IfErr, OnOk};
 ghost use Rattle.chr_base.specs.Programs.{rules_of};
 ghost use Rattle.chr_base.specs.Rewriting.{IsAtRest};
 ghost use Rattle.chr_base.specs.Rules.{Step};
+ghost use Rattle.chr_base.specs.Stores.{size};
 ghost use Rattle.chr_replica.specs.Replicas.{Settles};
 ghost use Rattle.chr_replica.specs.Boards.{program_on};
 
@@ -11,6 +12,13 @@ use crate::laws::events_keep_replicas_sound;
 use chr_rewrite::resting::Stopped;
 
 impl Board {
+    /// How many atoms of the pool wait to be looked at by the next settling; the others are at rest. It takes no memory.
+    pub fn waiting(&self) -> usize
+        ensures { result ≤ size self.now.replica.pool }
+    {
+        self.state.waiting()
+    }
+
     /// Rests the pool, and answers how many steps that took.
     ///
     /// # Errors

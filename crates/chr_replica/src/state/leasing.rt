@@ -1,7 +1,9 @@
 //! Leasing parts out, and taking them back.
 ghost use Rattle.std.specs.Prelude.{◌≡◌, ◌≤◌, IfErr, IfNone, IfOk, IfSome, IsSome, OnOk, OnErr, Some};
 ghost use Rattle.std.specs.FinMap as map;
-ghost use Rattle.chr_weights.specs.WeighedPrograms.{program_of};
+ghost use Rattle.chr_base.specs.Rewriting.{IsAtRest};
+ghost use Rattle.chr_base.specs.Rules.{Step};
+ghost use Rattle.chr_weights.specs.WeighedPrograms.{program_of, rules_in};
 ghost use Rattle.chr_replica.specs.Leases.{parts_in, AreNumbered, AreBelow};
 ghost use Rattle.chr_replica.specs.LeastOut.{AreFrom};
 ghost use Rattle.chr_replica.specs.Replicas.{Takes, TakesParts, Puts, Recalls};
@@ -45,7 +47,8 @@ impl State {
         })
     }
 
-    /// Leases the whole pool out in so many parts of even sizes.
+    /// Leases the whole pool out in so many parts of even sizes. Where some argument joins the heads of each rule, atoms
+    /// that share it stand in one part, or in parts that follow each other.
     pub(crate) fn take_parts(
         &mut self,
         alloc: Global,
@@ -65,8 +68,8 @@ impl State {
             return Err(Refusal::Full(Limit::Leases));
         }
         let empty = Columns::new(alloc, program.rules())?;
-        let whole = self.pool.bag(alloc)?;
-        let leases = cut(alloc, whole.atoms(), count as usize, first)?;
+        let whole = self.pool.arranged(alloc)?;
+        let leases = cut(alloc, &whole, count as usize, first)?;
         self.out.insert_all(alloc, first, &leases)?;
         self.pool = empty;
         self.next = next;
@@ -94,6 +97,31 @@ impl State {
         same_programs_reach_alike();
         self.pool.insert(done.result().atoms())?;
         self.out.remove(number);
+        Ok(())
+    }
+
+    /// Takes back what came of a part and is at rest. Atoms that no rule can join with those at rest here are so at once.
+    pub(crate) fn put_rested(&mut self, program: &Program, done: &Done) -> Result<(), Refusal>
+        requires { IsAtRest (Step (rules_in done.now.weighed)) done.now.result }
+        ensures ok { OnOk result (
+            Puts program.now self.old done.now.number done.now.part done.now.result self.new) }
+        ensures refused { IfErr result (RefusesPut
+            program.now self.old (program_of done.now.weighed) done.now.number done.now.part) }
+        ensures err { OnErr result (self.new ≡ self.old) }
+    {
+        let lease = done.number();
+        let Some(part) = self.out.get(lease) else {
+            return Err(Refusal::NoLease(lease));
+        };
+        if !done.part().is_same(part) {
+            return Err(Refusal::NoLease(lease));
+        }
+        if !done.program().is_same(program) {
+            return Err(Refusal::ForeignProgram);
+        }
+        same_programs_reach_alike();
+        self.pool.join(done.program().rules(), part.atoms(), done.result().atoms())?;
+        self.out.remove(lease);
         Ok(())
     }
 

@@ -1,7 +1,8 @@
 //! Resting the pool, and showing it.
-ghost use Rattle.std.specs.Prelude.{◌≡◌, ◌↔◌, IsTrue, IfOk, IfErr, OnOk};
+ghost use Rattle.std.specs.Prelude.{◌≡◌, ◌≤◌, ◌↔◌, IsTrue, IfOk, IfErr, OnOk};
 ghost use Rattle.chr_base.specs.Rewriting.{IsAtRest};
 ghost use Rattle.chr_base.specs.Rules.{Step};
+ghost use Rattle.chr_base.specs.Stores.{size};
 ghost use Rattle.chr_weights.specs.WeighedPrograms.{program_of, rules_in};
 ghost use Rattle.chr_replica.specs.Replicas.{IsSound, IsSettled, Settles};
 ghost use Rattle.chr_replica.specs.Refusals.{RefusesShow};
@@ -23,7 +24,15 @@ impl State {
     {
         // So few atoms are told that all steps are counted.
         let _told = self.ops.told();
+        self.pool.arrange();
         rest(weighed, &mut self.pool)
+    }
+
+    /// How many atoms of the pool wait to be looked at. It takes no memory.
+    pub(crate) fn waiting(&self) -> usize
+        ensures { result ≤ size self.now.pool }
+    {
+        self.pool.waiting()
     }
 
     /// Whether no rule has a step in the pool. It takes no memory.
