@@ -19,13 +19,14 @@ use std::alloc::{AllocError, Global};
 use std::sync::Wait;
 use std::thread::Threads;
 
-/// As many atoms a board was told at most for its pool to be settled at once: with so few, threads cost more than they
-/// save.
+/// Where so few atoms wait at most, the pool is settled at once: threads would cost more than they save.
 const FEW_ATOMS: u64 = 1024;
 
-/// Whether time can be saved by resting the pool in parts.
+/// Whether time can be saved by resting the pool in parts. All of it is cut and put together again, so a good share of
+/// what was told has to wait.
 fn is_worth_cutting(board: &Board, workers: u32, parts: u32) -> bool {
-    workers > 1 && parts > 1 && board.ops().told() > FEW_ATOMS
+    let waiting = board.waiting() as u64;
+    workers > 1 && parts > 1 && waiting > FEW_ATOMS && waiting > board.ops().told() / 4
 }
 
 /// Leases the whole pool out in parts, rests them by workers, and puts what came of them. Parts that were refused
@@ -94,8 +95,7 @@ fn rest_all<R: Threads + Wait + Sync, G: Gate>(
 /// was told, whatever the workers did.
 ///
 /// It is settled at once where lease numbers are used up, and where parts would save no time: with one worker or one
-/// part, or where the board was told few atoms. A caller who knows that few came in since it was at rest asks for one
-/// worker.
+/// part, or where few atoms wait to be looked at, as in a board that was at rest before the last ones came in.
 ///
 /// # Errors
 /// Where memory is refused. Leases may be out then: [`Board::least_lease`] and [`Board::recall`] bring all back.

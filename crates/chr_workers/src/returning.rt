@@ -8,16 +8,15 @@ ghost use Rattle.chr_replica.specs.Boards.{program_on};
 ghost use Rattle.chr_workers.specs.Kept.{IsKeptBy};
 
 use crate::parts::Rested;
-use chr_join::Done;
 use chr_replica::Board;
 use std::alloc::AllocError;
 use std::sync::Mutex;
 
-/// Puts one result, unless it is refused.
-fn put_one(board: &mut Board, done: Done)
+/// Puts one result, which is at rest, unless it is refused.
+fn put_one(board: &mut Board, rested: Rested)
     ensures { IsKeptBy board.old board.new }
 {
-    let _ = board.put(done);
+    let _ = board.put_rested(rested.done);
 }
 
 /// Puts all results that are there, unless they are refused.
@@ -27,7 +26,7 @@ pub(crate) fn put_results(board: &mut Board, results: Vec<Mutex<Option<Rested>>>
     let mut results = results;
     while let Some(cell) = results.pop() {
         if let Some(rested) = cell.into_inner() {
-            put_one(board, rested.done);
+            put_one(board, rested);
         }
     }
 }
