@@ -12,8 +12,8 @@ use chr_base::atom::Atom;
 use chr_base::rule::Rule;
 use std::alloc::{AllocError, Global};
 
-/// So few fresh atoms are taken in whatever order they stand.
-const FEW_ATOMS: usize = 1024;
+/// So few fresh atoms are taken in whatever order they stand: the rows that they meet are not ordered by them.
+const FEW_ATOMS: usize = 16_384;
 
 impl Columns {
     /// How many atoms are fresh, of all that are there. It takes no memory.
@@ -23,8 +23,8 @@ impl Columns {
         self.fresh.len()
     }
 
-    /// Many fresh atoms are put in the order of the arguments by which the pool's rules join them, for a rest that comes
-    /// next: partners are then taken one after another. The store stays the same. It takes no memory.
+    /// Many fresh atoms are put in the order of the arguments by which the pool's rules join them, for a rest that
+    /// comes next: partners are then taken one after another. The store stays the same. It takes no memory.
     pub fn arrange(&mut self)
         ensures { self.new ≡ self.old }
     {
