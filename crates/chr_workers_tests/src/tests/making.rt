@@ -20,9 +20,32 @@ const KEYS: u64 = 10;
 /// How many atoms an operation has.
 const SIZE: u64 = 64;
 
-/// That program, accepted.
-fn accepted(rt: &(impl Abort + Threads + Sync), alloc: Global) -> Arc<Accepted> {
-    let weighed = weighed_of(alloc, LEAST).expect(rt, "a program that lowers");
+/// What atoms are told.
+#[derive(Clone, Copy, Debug, PartialEq, Eq)]
+pub enum Facts {
+    /// `best(key,value)`, with few keys.
+    Best,
+    /// Atoms of two symbols and two arguments in turn, each with few values.
+    Mixed,
+}
+
+impl Facts {
+    /// The atom of a number.
+    fn atom(self, number: u64) -> Atom {
+        match self {
+            Facts::Best => best(key_of(number), value_of(number)),
+            Facts::Mixed => mixed(number),
+        }
+    }
+}
+
+/// A program, accepted.
+pub fn accepted(
+    rt: &(impl Abort + Threads + Sync),
+    alloc: Global,
+    text: &str,
+) -> Arc<Accepted> {
+    let weighed = weighed_of(alloc, text).expect(rt, "a program that lowers");
     let accepted = accept(rt, alloc, weighed, Coverage::Joint).ok();
     Arc::new(alloc, accepted.expect(rt, "accepted")).expect(rt, "memory")
 }
@@ -42,39 +65,60 @@ fn best(key: i64, value: i64) -> Atom {
     atom(0, &[key, value])
 }
 
+/// The atom of a number, with one of 41 values and one of 43.
+fn mixed(number: u64) -> Atom {
+    let symbol = (number % 2) as u16;
+    let first = (number % 100_000 * 7919 % 41) as i64;
+    let second = (number % 100_000 * 104_729 % 43) as i64;
+    atom(symbol, &[first, second])
+}
+
 /// The atoms that follow those of the operation before this one.
-fn atoms_of(rt: &impl Abort, alloc: Global, number: u32) -> Bag {
+fn atoms_of(rt: &impl Abort, alloc: Global, facts: Facts, number: u32) -> Bag {
     let mut bag = Bag::new(alloc);
     for place in 0..SIZE {
         let at = u64::from(number) * SIZE + place;
-        bag.add(best(key_of(at), value_of(at))).expect(rt, "memory");
+        bag.add(facts.atom(at)).expect(rt, "memory");
     }
     bag
 }
 
 /// The operation of this number.
-fn operation(rt: &impl Abort, alloc: Global, number: u32) -> Op {
+fn operation(rt: &impl Abort, alloc: Global, facts: Facts, number: u32) -> Op {
     let id = OpId {
         origin: 1,
         number: u64::from(number),
     };
-    Op::of(id, atoms_of(rt, alloc, number)).expect(rt, "an operation")
+    Op::of(id, atoms_of(rt, alloc, facts, number)).expect(rt, "an operation")
 }
 
 /// Tells a board the operation of this number.
-fn tell(rt: &impl Abort, alloc: Global, board: &mut Board, number: u32) {
-    let told = board.tell(alloc, operation(rt, alloc, number));
+pub fn tell(rt: &impl Abort, alloc: Global, board: &mut Board, facts: Facts, number: u32) {
+    let told = board.tell(alloc, operation(rt, alloc, facts, number));
     assert!(rt; told.is_ok(), "{number}");
 }
 
 /// A board of that program that was told so many operations of 64 atoms.
-pub fn board(rt: &(impl Abort + Threads + Sync), alloc: Global, operations: u32) -> Board {
-    let opened = Board::open(alloc, accepted(rt, alloc)).ok();
+pub fn board_of(
+    rt: &impl Abort,
+    alloc: Global,
+    program: &Arc<Accepted>,
+    facts: Facts,
+    operations: u32,
+) -> Board {
+    let shared = program.clone().expect(rt, "memory");
+    let opened = Board::open(alloc, shared).ok();
     let mut board = opened.expect(rt, "memory");
     for number in 0..operations {
-        tell(rt, alloc, &mut board, number);
+        tell(rt, alloc, &mut board, facts, number);
     }
     board
+}
+
+/// A board of the least values that was told so many operations.
+pub fn board(rt: &(impl Abort + Threads + Sync), alloc: Global, operations: u32) -> Board {
+    let program = accepted(rt, alloc, LEAST);
+    board_of(rt, alloc, &program, Facts::Best, operations)
 }
 
 /// The least value of a key among the atoms of so many operations.

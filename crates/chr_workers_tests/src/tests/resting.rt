@@ -2,7 +2,7 @@
 ghost use Rattle.std.specs.Prelude.{◌≡◌, ◌≤◌, true};
 
 use crate::tests::gates::{Counts, Holds};
-use crate::tests::making::{board, leasts};
+use crate::tests::making::{Facts, board, leasts, tell};
 use chr_base::limits::{MAX_PARTS, MAX_WORKERS};
 use chr_replica::Board;
 use chr_workers::{Gate, OpenGate, rest_board};
@@ -25,7 +25,7 @@ fn fits(number: u32, most: u32) -> bool
 }
 
 /// Rests a board of which no lease is out.
-fn rest<R: Abort + Threads + Wait + Sync, G: Gate>(
+pub fn rest<R: Abort + Threads + Wait + Sync, G: Gate>(
     rt: &R,
     alloc: Global,
     board: &mut Board,
@@ -109,4 +109,16 @@ fn few_atoms_are_settled_at_once(rt: HostRuntime) {
     rest(&rt, rt.alloc(), &mut board, 4, 16, &gate);
     assert_eq!(rt; gate.passed(), 0);
     shows(&rt, rt.alloc(), &board, FEW);
+}
+
+/// Where the pool was at rest before few atoms came in, it is not cut.
+#[test]
+fn a_pool_at_rest_is_not_cut_again(rt: HostRuntime) {
+    let mut board = board(&rt, rt.alloc(), MANY);
+    rest(&rt, rt.alloc(), &mut board, 4, 16, &OpenGate);
+    tell(&rt, rt.alloc(), &mut board, Facts::Best, MANY);
+    let gate = Counts::new();
+    rest(&rt, rt.alloc(), &mut board, 4, 16, &gate);
+    assert_eq!(rt; gate.passed(), 0);
+    shows(&rt, rt.alloc(), &board, MANY + 1);
 }
