@@ -40,11 +40,7 @@ impl Facts {
 }
 
 /// A program, accepted.
-pub fn accepted(
-    rt: &(impl Abort + Threads + Sync),
-    alloc: Global,
-    text: &str,
-) -> Arc<Accepted> {
+pub fn accepted(rt: &(impl Abort + Threads + Sync), alloc: Global, text: &str) -> Arc<Accepted> {
     let weighed = weighed_of(alloc, text).expect(rt, "a program that lowers");
     let accepted = accept(rt, alloc, weighed, Coverage::Joint).ok();
     Arc::new(alloc, accepted.expect(rt, "accepted")).expect(rt, "memory")
