@@ -3,12 +3,13 @@
     python3 python/tests [--processes N]    those of texts, of nodes and of logs in a file; CHRREP names the program
     python3 python/tests engines            those of logs in Redis and PostgreSQL, which they start on this machine
 
-With several processes each test runs by itself, so many at once, and what it writes is told when it has ended.
+With several processes each test runs by itself, or each module whose tests share much, so many at once, and what it
+writes is told when it has ended.
 
-The environment's CHRREP_PROGRAMS is how many random programs of each kind are judged, 3,000 where it doesn't say,
-CHRREP_KILLS how many nodes are killed at random moments over each engine, CHRREP_OPERATIONS how many operations are
-told to see that room stays bounded, and CHRREP_REFUSED how many examples are run with memory refused, all where it
-doesn't say.
+The environment's CHRREP_PROGRAMS is how many random programs of each kind are judged, 3,000 where it doesn't say (of
+those whose weights are searched for 2,000), CHRREP_KILLS how many nodes are killed at random moments over each engine,
+CHRREP_OPERATIONS how many operations are told to see that room stays bounded, and CHRREP_REFUSED how many examples are
+run with memory refused, all where it doesn't say.
 """
 
 import argparse
@@ -30,8 +31,20 @@ NODES = ["test_node", "test_names", "test_writing", "test_asynchronous"]
 LOGS = ["test_embedded", "test_page", "test_lasting", "test_install", "test_launcher"]
 KINDS = {"node": [*RUNS, *SHARED, *READERS, *HOSTILE, *NODES, *LOGS], "engines": ["test_links"]}
 
-LONGEST = ["test_memory", "test_lasting", "test_embedded", "test_verdicts", "test_explanations", "test_costs"]
-"""Modules whose tests take long: several processes begin with these."""
+LONGEST = [
+    "test_install",
+    "test_launcher",
+    "test_costs",
+    "test_verdicts",
+    "test_memory",
+    "test_explanations",
+    "test_lasting",
+    "test_embedded",
+]
+"""Modules whose tests take long, the longest first: several processes begin with these."""
+
+WHOLE = ["test_install"]
+"""Modules whose tests share what takes longer to make than to test: one process runs all of them."""
 
 
 class Counted(unittest.TextTestResult):
@@ -69,7 +82,7 @@ def run(tests: unittest.TestSuite, to: TextIO) -> Tally:
 
 
 def run_one(name: str) -> Tally:
-    """Runs the test of a name."""
+    """Runs the test or the module of a name."""
     written = io.StringIO()
     tally = run(unittest.defaultTestLoader.loadTestsFromName(name), written)
     tally.written = written.getvalue()
@@ -84,16 +97,26 @@ def names_in(tests: unittest.TestSuite) -> Iterator[str]:
             yield it.id()
 
 
+def module_of(name: str) -> str:
+    return name.partition(".")[0]
+
+
 def by_length(name: str) -> int:
-    module = name.partition(".")[0]
+    module = module_of(name)
     return LONGEST.index(module) if module in LONGEST else len(LONGEST)
 
 
+def tasks_of(tests: unittest.TestSuite) -> list[str]:
+    """The names of tests and of whole modules, each once, the longest first."""
+    names = (module_of(name) if module_of(name) in WHOLE else name for name in names_in(tests))
+    return sorted(dict.fromkeys(names), key=by_length)
+
+
 def run_at_once(tests: unittest.TestSuite, processes: int) -> Tally:
-    """Runs each test in a process of its own, so many at once."""
+    """Runs each of these tasks in a process of its own, so many at once."""
     whole = Tally()
     with multiprocessing.get_context("fork").Pool(processes, maxtasksperchild=1) as pool:
-        for tally in pool.imap_unordered(run_one, sorted(names_in(tests), key=by_length)):
+        for tally in pool.imap_unordered(run_one, tasks_of(tests)):
             sys.stdout.write(tally.written)
             whole.add(tally)
     return whole

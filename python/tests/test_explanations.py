@@ -20,7 +20,7 @@ SECONDS = 60.0
 WORKERS = os.cpu_count() or 1
 
 SEED = 40
-PROGRAMS = 2000
+PROGRAMS = int(os.environ.get("CHRREP_PROGRAMS", "2000"))
 """So many random programs with a rule that doesn't lower are explained."""
 SYMBOLS = "abcd"
 MAX_BODY = 4
