@@ -85,6 +85,12 @@ def multiplied(steps: int) -> State:
     return (*MULTIPLIED, f"lease 2: {counted(a=3 - steps, b=1 + 8 * steps)}")
 
 
+def entered(entries: int, steps: int) -> State:
+    """What a book holds after so many steps, each of which makes eight atoms of one. A stopped `settle` is entered."""
+    pool = counted(a=4 - steps, b=1 + 8 * steps)
+    return (f"entries {entries}", "told 5", *operation(1, 1, counted(a=4, b=1)), f"lease 1: {pool}")
+
+
 def worked(told: State, whole: str) -> Call:
     return Call((*told, f"lease 1: {whole}"), {DONE: ((*told, SHOWN),), REFUSED: ((*told, SHOWN),)}, workers=True)
 
@@ -122,6 +128,18 @@ TABLE: Mapping[str, Call] = {
         {DONE: (("steps 3", *multiplied(3)),), REFUSED: tuple((f"steps {n}", *multiplied(n)) for n in range(4))},
     ),
     "settle_once_more": Call(AT_REST, {DONE: (("steps 0", *AT_REST),)}),
+    "book_tell": unchanged(
+        ("entries 1", *THREE, f"lease 1: {values(3, 5, 9)}"),
+        ("entries 2", "told 5", *ONE, *NEW, f"lease 1: {values(2, 3, 5, 8, 9)}"),
+        handed_back=NEW,
+    ),
+    "book_settle": Call(
+        entered(1, 0),
+        {
+            DONE: (("settled 4", *entered(2, 4)), *((f"stopped {n}", *entered(2, n)) for n in range(5))),
+            REFUSED: (("settle", *entered(1, 0)),),
+        },
+    ),
     "rest_part": unchanged((LEASE,), done(4, values(3, 5, 9), values(3))),
     "step_part": unchanged((LEASE,), done(4, values(3, 5, 9), values(3, 9))),
     "rest_board": worked(THREE, values(3, 5, 9)),

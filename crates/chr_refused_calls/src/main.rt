@@ -7,6 +7,7 @@
 #![tactic(auto)]
 
 mod boards;
+mod books;
 mod parts;
 mod pools;
 mod printing;
@@ -14,6 +15,7 @@ mod sets;
 mod workers;
 
 use boards::BoardCall;
+use books::BookCall;
 use parts::PartCall;
 use pools::PoolCall;
 use sets::SetCall;
@@ -29,12 +31,13 @@ enum Call {
     Set(SetCall),
     Pool(PoolCall),
     Board(BoardCall),
+    Book(BookCall),
     Part(PartCall),
     Workers(Told),
 }
 
 /// The calls, in the order in which they are made.
-const CALLS: [(&str, Call); 20] = [
+const CALLS: [(&str, Call); 22] = [
     ("add", Call::Set(SetCall::Add)),
     ("join", Call::Set(SetCall::Join)),
     ("insert", Call::Pool(PoolCall::Insert)),
@@ -51,6 +54,8 @@ const CALLS: [(&str, Call); 20] = [
     ("show", Call::Board(BoardCall::Show)),
     ("settle", Call::Board(BoardCall::Settle)),
     ("settle_once_more", Call::Board(BoardCall::SettleOnceMore)),
+    ("book_tell", Call::Book(BookCall::Tell)),
+    ("book_settle", Call::Book(BookCall::Settle)),
     ("rest_part", Call::Part(PartCall::Rest)),
     ("step_part", Call::Part(PartCall::Step)),
     ("rest_board", Call::Workers(Told::Few)),
@@ -62,6 +67,7 @@ fn make(rt: &(impl Print + Threads + Wait + Sync), alloc: Global, call: Call) ->
         Call::Set(call) => sets::make(rt, alloc, call),
         Call::Pool(call) => pools::make(rt, alloc, call),
         Call::Board(call) => boards::make(rt, alloc, call),
+        Call::Book(call) => books::make(rt, alloc, call),
         Call::Part(call) => parts::make(rt, alloc, call),
         Call::Workers(told) => workers::make(rt, alloc, told),
     }

@@ -2,7 +2,7 @@
 use chr_base::bag::Bag;
 use chr_base::program::Program;
 use chr_join::{Done, Lease};
-use chr_ops::OpSet;
+use chr_ops::{Op, OpSet};
 use chr_replica::{Board, Refusal};
 use chr_testing::texts::atoms_text;
 use std::alloc::Global;
@@ -53,13 +53,17 @@ pub fn print_done(rt: &impl Print, alloc: Global, program: &Program, done: &Done
     print_bag(rt, alloc, program, "to", done.result());
 }
 
+pub fn print_operation(rt: &impl Print, alloc: Global, program: &Program, op: &Op) {
+    let _ = println!(rt; "operation {}/{}", op.id().origin, op.id().number);
+    print_bag(rt, alloc, program, "of", op.bag());
+}
+
 /// All operations of a set, and how many atoms they tell.
 pub fn print_set(rt: &impl Print, alloc: Global, program: &Program, set: &OpSet) -> Option<()> {
     let _ = println!(rt; "told {}", set.told());
     let none = OpSet::new(alloc).summary(alloc).ok()?;
     for op in &set.lacks(alloc, &none).ok()? {
-        let _ = println!(rt; "operation {}/{}", op.id().origin, op.id().number);
-        print_bag(rt, alloc, program, "of", op.bag());
+        print_operation(rt, alloc, program, op);
     }
     Some(())
 }
