@@ -9,6 +9,9 @@ tells N facts, 64 in an operation, and shows the store at the end, or K times in
     routes             best routes over few ends
     one_key            best routes between two places
     all_keys           routes over ends that all differ
+    many_keys          best routes over so many ends that each is told four times
+    bids               the lowest bid of each of many lots, and of equal ones the first
+    dominated          pairs under many keys, 200 under each, of which none is beaten in both places; for `--wide`
     settings           merged settings, by two rules: the latest, and of equally late ones the least
     revoked            facts, of which one in four is revoked
     threes, fours      rules of three and of four heads, joined by one argument
@@ -20,6 +23,12 @@ import sys
 
 LEAST = ":- chr_constraint least/1.\nleast(X) \\ least(Y) <=> X =< Y | true.\n"
 ROUTE = ":- chr_constraint route/3.\nroute(X,Y,D) \\ route(X,Y,E) <=> D =< E | true.\n"
+BID = (
+    ":- chr_constraint bid/3.\n"
+    "bid(L,P,U) \\ bid(L,Q,V) <=> P < Q | true.\n"
+    "bid(L,P,U) \\ bid(L,P,V) <=> U =< V | true.\n"
+)
+DOMINATED = ":- chr_constraint dom/3.\ndom(K,X,Y) \\ dom(K,Z,W) <=> X =< Z, Y =< W | true.\n"
 SETTING = (
     ":- chr_constraint set/3.\n"
     "set(K,T,V) \\ set(K,S,W) <=> S < T | true.\n"
@@ -47,6 +56,12 @@ WORKLOADS = {
     "routes": (ROUTE, lambda n, i, rng: ("route", rng.randrange(root(root(n))), rng.randrange(root(root(n))), rng.randrange(VALUES))),
     "one_key": (ROUTE, lambda n, i, rng: ("route", 1, 2, rng.randrange(VALUES))),
     "all_keys": (ROUTE, lambda n, i, rng: ("route", i, i + 1, rng.randrange(VALUES))),
+    "many_keys": (ROUTE, lambda n, i, rng: ("route", rng.randrange(n // 4 + 1), 7, rng.randrange(VALUES))),
+    "bids": (BID, lambda n, i, rng: ("bid", rng.randrange(root(n)), rng.randrange(VALUES), rng.randrange(1000))),
+    "dominated": (
+        DOMINATED,
+        lambda n, i, rng: ("dom", rng.randrange(n // 200 + 1), rng.randrange(VALUES), rng.randrange(VALUES)),
+    ),
     "settings": (SETTING, lambda n, i, rng: ("set", rng.randrange(root(n)), rng.randrange(1000), rng.randrange(VALUES))),
     "revoked": (REVOKED, lambda n, i, rng: ("revoked", rng.randrange(n)) if i % 4 == 3 else ("fact", rng.randrange(n), i)),
     "threes": (THREES, lambda n, i, rng: ("abc"[i % 3], rng.randrange(root(n)))),

@@ -11,6 +11,9 @@ macro_rules! with_statuses {
     };
 }
 
+/// The program's version.
+pub(crate) const VERSION: &str = "0.1.0";
+
 /// What the program is for.
 pub(crate) const PROGRAM: &str =
     "Keeps facts by the rules of a program of Constraint Handling Rules, and tells whether the rules agree";
@@ -44,9 +47,11 @@ pub(crate) const EXPLAIN: &str =
 /// What `explain` reads and writes.
 pub(crate) const EXPLAIN_MORE: &str = with_statuses!(
     "Reads what `check` reads. Writes the verdict as sentences: where a text is wrong and what would be right, or the rules
-that disagree and how; with --dot a drawing of it for Graphviz.
+that disagree and how; with --dot a drawing of it for Graphviz. A program that `check` refuses as 22 is explained as
+with --wide too.
 
 Example: chrrep explain < FILE
+         chrrep explain --wide < FILE
          chrrep explain --dot < FILE | dot -Tsvg > FILE.svg"
 );
 

@@ -4,6 +4,7 @@ use Rattle.std.proofs.Common.{refl, sym, ap, ◌∙◌, subst, arith}
 use Rattle.std.proofs.lemmas.Option.{none-some}
 use Rattle.std.specs.Option.{is_some, unwrap_or}
 use Rattle.std.specs.Ordering.{eq_by_cmp}
+use Rattle.std.specs.Cmp.{eq_by_cmp_equiv}
 use Rattle.std.specs.FinMap as map
 use Rattle.chr_base.specs.Stores.{Store, size}
 use Rattle.chr_ops.specs.declared.id.OpId.{OpId}
@@ -50,6 +51,10 @@ kept_insert told rs ss m k v h new sized room apart covered = record {
   apart = apart;
   covering = λ q. covered q ∙ ap (λ b. b || is_among_ends (k ∷ []) q) (h.covering q) ∙ sym (ids_inserted m m [] k v (ids_none m) q);
 }
+
+-- what was just put in is there
+pub just_put : (m : Operations) (k : OpId) (v : Store) → map.get (map.insert m k v) k ≡ Some v
+just_put m k v = map.get-insert id_total m k v k ∙ ap (λ b. cond b (Some v) (map.get m k)) ((eq_by_cmp_equiv id_total).refl k)
 
 -- what is put in at a new id and taken out again leaves what was there
 pub put_back : (m : Operations) (k : OpId) (v : Store) → map.get m k ≡ None → map.remove (map.insert m k v) k ≡ m

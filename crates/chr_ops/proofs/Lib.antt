@@ -17,6 +17,7 @@ pub mod FreshSteps
 pub mod RangeLookups
 pub mod RangeJoins
 pub mod RangesLaid
+pub mod OnePutIn
 pub mod OneSummary
 pub mod RangesThere
 pub mod Newness

@@ -6,7 +6,7 @@ use Rattle.std.specs.Option.{is_some, unwrap_or}
 use Rattle.std.specs.List.{AllByRecursion}
 use Rattle.std.specs.List.Sorted.{IsStrictlySortedBy}
 use Rattle.std.specs.Map.{keys_of}
-use Rattle.std.specs.Ordering.{eq_by_cmp, is_lt}
+use Rattle.std.specs.Ordering.{eq_by_cmp, is_gt, is_lt}
 use Rattle.std.specs.declared.cmp.Ordering.TheVariants as order
 use Rattle.std.proofs.lemmas.Bool.{cases_lt}
 use Rattle.std.proofs.lemmas.Bool.Decides.{nat_tests}
@@ -137,6 +137,54 @@ pub none_below : (m : Ends) (id : OpId) → AreDisjoint m → ((q : OpId) → id
 none_below m id d none j (x, at_j, org, touch) =
     let low = (d.fits j x at_j).0 in
     true≢false (sym (ap is_some at_j) ∙ ap is_some (none j (less_from j id org (omega (arith, low, touch)))))
+
+up_to : (k id : OpId) → is_gt (id_cmp k id) ≡ false → (k.origin ≤ id.origin) × (k.origin ≡ id.origin → k.number ≤ id.number)
+up_to k id h = (grind (arith, nat_tests, h), λ e. grind (arith, nat_tests, h, e))
+
+not_past : (j id : OpId) → j.origin ≡ id.origin → j.number ≤ id.number → is_gt (id_cmp j id) ≡ false
+not_past j id e l = grind (arith, nat_tests, e, l)
+
+-- an id that is covered is in the last range that begins up to it
+module _ (m : Ends) (d : AreDisjoint m) (id : OpId) where
+  pub in_last : (k : OpId) (h : ℕ) → map.get m k ≡ Some h → is_gt (id_cmp k id) ≡ false
+      → ((q : OpId) → is_gt (id_cmp q id) ≡ false → IsSome (map.get m q) → is_lt (id_cmp k q) ≡ false)
+      → covers (end_ranges m) id ≡ true → (k.origin ≡ id.origin) × (id.number ≤ h)
+  in_last k h at first last covered = by (covers_has m id covered)
+    where
+      by : HasOne m id → (k.origin ≡ id.origin) × (id.number ≤ h)
+      by (j, x, at_j, has) =
+          let org : j.origin ≡ id.origin = in_origin (end_range (j, x)) id has in
+          let low : j.number ≤ id.number = in_low (end_range (j, x)) id has in
+          let high : id.number ≤ x = in_high (end_range (j, x)) id has in
+          let past = from_not_less k j (last j (not_past j id org low) (ap is_some at_j)) in
+          let from = past.0 in
+          let upto = (up_to k id first).0 in
+          let same : j.origin ≡ k.origin = omega (arith, from, upto, org) in
+          let later : j.number ≤ k.number = past.1 same in
+          let below : k.number ≤ id.number = (up_to k id first).1 (sym same ∙ org) in
+          ⊎_elim (λ l. (let far = d.apart j k x h at_j at same l in absurd (omega (arith, far, below, high))))
+          (λ g. (
+          let one : j ≡ k = (λ i. record { origin = same i; number = (let n : j.number ≡ k.number = omega (arith, later, g) in n) i }) in
+          let last_one : x ≡ h = ap (λ u. unwrap_or u x) (sym at_j ∙ ap (map.get m) one ∙ at) in
+          (sym same ∙ org, omega (arith, last_one, high)))) (cases_lt j.number k.number)
+
+  pub in_none : ((q : OpId) → is_gt (id_cmp q id) ≡ false → map.get m q ≡ None) → covers (end_ranges m) id ≡ false
+  in_none none = by (covers (end_ranges m) id) refl
+    where
+      by : (b : Bool) → covers (end_ranges m) id ≡ b → b ≡ false
+      by false e = refl
+      by true e = absurd (nowhere (covers_has m id e))
+        where
+          nowhere : HasOne m id → ⊥
+          nowhere (j, x, at_j, has) = (
+              let range = end_range (j, x) in
+              let up = not_past j id (in_origin range id has) (in_low range id has) in
+              true≢false (sym (ap is_some at_j) ∙ ap is_some (none j up))
+              )
+
+  pub from_last : (k : OpId) (h : ℕ) → map.get m k ≡ Some h → is_gt (id_cmp k id) ≡ false → k.origin ≡ id.origin → id.number ≤ h
+      → covers (end_ranges m) id ≡ true
+  from_last k h at first same high = has_covers m id k h at (in_from (end_range (k, h)) id same ((up_to k id first).1 same) high)
 
 no_entries : (es : List (OpId × ℕ)) → length es ≡ 0 → es ≡ []
 no_entries [] h = refl

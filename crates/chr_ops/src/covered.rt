@@ -1,12 +1,12 @@
 //! The ids of a set, as ranges.
-ghost use Rattle.std.specs.Prelude.{◌≡◌, ◌+◌, ◌||◌, All, false, IfOk, IfSome, IfNone, OnOk, OnErr, [], true};
+ghost use Rattle.std.specs.Prelude.{◌≡◌, ◌+◌, ◌||◌, All, false, IfOk, IfSome, IfNone, OnOk, OnErr, [], ◌∷◌, true};
 ghost use Rattle.std.specs.List.{list_any};
 ghost use Rattle.std.specs.Ordering.{eq_by_cmp};
 ghost use Rattle.chr_ops.specs.declared.id.OpId.{OpId as OpIdValue};
 ghost use Rattle.chr_ops.specs.Ids.{id_cmp};
 ghost use Rattle.chr_ops.specs.Summaries.{covers, IsApart};
 ghost use Rattle.chr_ops.specs.working.Joining.{IsWithout};
-ghost use Rattle.chr_ops.specs.working.Covering.{AreDisjoint, AreJoined, EndsRightBefore, IsLaid, IsSameBut, is_among_ends, is_beside};
+ghost use Rattle.chr_ops.specs.working.Covering.{AreAsLongAsPossible, AreDisjoint, AreJoined, EndsRightBefore, IsLaid, IsPutIn, IsSameBut, end_ranges, is_among_ends, is_beside};
 
 use crate::ends::Ends;
 use crate::id::OpId;
@@ -53,6 +53,30 @@ impl Covered {
         self.ends.ranges(alloc)
     }
 
+    /// Whether an id is covered.
+    pub(crate) fn has(&self, id: OpId) -> bool
+        ensures { result ≡ covers self.now id }
+    {
+        match self.ends.last_up_to(id) {
+            Some((first, last)) => first.origin == id.origin && id.number <= last,
+            None => false,
+        }
+    }
+
+    /// Covers an id that is not covered. Where it fails, nothing has changed.
+    pub(crate) fn cover_one(&mut self, id: OpId) -> Result<(), AllocError>
+        requires { covers self.old id ≡ false }
+        ensures covers { OnOk result ((q : OpIdValue) → covers self.new q ≡ (covers self.old q || is_among_ends (id ∷ []) q)) }
+        ensures apart { IsApart self.new }
+        ensures err { OnErr result (self.new ≡ self.old) }
+    {
+        put_in(&mut self.ends, id)?;
+        if let Some(number) = id.number.checked_add(1) {
+            join_at(&mut self.ends, OpId { number, ..id });
+        }
+        Ok(())
+    }
+
     /// Covers some ids that are not covered. Where it fails, nothing has changed.
     pub(crate) fn cover(&mut self, ids: &[OpId]) -> Result<(), AllocError>
         requires { (id : OpIdValue) → is_among_ends ids.now id ≡ true → covers self.old id ≡ false }
@@ -67,6 +91,21 @@ impl Covered {
         join_beside(&mut self.ends, ids);
         Ok(())
     }
+}
+
+/// Puts an id in that no range has: as the last of the range that ends right before it, or as a range of its own. Where
+/// it fails, nothing has changed.
+fn put_in(ends: &mut Ends, id: OpId) -> Result<(), AllocError>
+    requires longest { AreAsLongAsPossible ends.old }
+    requires new { covers (end_ranges ends.old) id ≡ false }
+    ensures ok { OnOk result (IsPutIn ends.old id ends.new) }
+    ensures err { OnErr result (ends.new ≡ ends.old) }
+{
+    match ending_before(ends, id) {
+        Some(first) => ends.set(first, id.number),
+        None => ends.insert(id, id.number)?,
+    }
+    Ok(())
 }
 
 /// Puts each of these ids in as a range of its own. Where it fails, some may be in.

@@ -1,7 +1,7 @@
 //! Ranges of ids under their first ids, seen as a finite map. How they are kept is known in this file alone.
 ghost use Rattle.std.specs.Prelude.{◌≡◌, ◌<◌, ◌^◌, ℕ, None, IsSome, IfOk, IfSome, IfNone, OnOk, OnErr, false};
 ghost use Rattle.std.specs.FinMap as map;
-ghost use Rattle.std.specs.Ordering.{is_lt};
+ghost use Rattle.std.specs.Ordering.{is_gt, is_lt};
 ghost use Rattle.std.specs.declared.cmp.Ordering.TheVariants.{Less};
 ghost use Rattle.chr_ops.specs.declared.id.OpId.{OpId as OpIdValue};
 ghost use Rattle.chr_ops.specs.Ids.{id_cmp};
@@ -58,6 +58,18 @@ impl Ends {
         ensures none { IfNone result ((q : OpIdValue) → id_cmp q id ≡ Less → map.get self.now q ≡ None) }
     {
         let (first, last) = self.last.range(..id).next_back()?;
+        Some((*first, *last))
+    }
+
+    /// The last range that begins at an id or before it: its first id and its last number.
+    pub(crate) fn last_up_to(&self, id: OpId) -> Option<(OpId, u64)>
+        ensures there { IfSome result (λ p. map.get self.now p.0 ≡ Some p.1) }
+        ensures up_to { IfSome result (λ p. is_gt (id_cmp p.0 id) ≡ false) }
+        ensures last { IfSome result (λ p. (q : OpIdValue) → is_gt (id_cmp q id) ≡ false → IsSome (map.get self.now q)
+            → is_lt (id_cmp p.0 q) ≡ false) }
+        ensures none { IfNone result ((q : OpIdValue) → is_gt (id_cmp q id) ≡ false → map.get self.now q ≡ None) }
+    {
+        let (first, last) = self.last.range(..=id).next_back()?;
         Some((*first, *last))
     }
 

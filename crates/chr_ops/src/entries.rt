@@ -1,5 +1,5 @@
 //! Bags under ids, seen as a finite map. How they are kept is known in this file alone.
-ghost use Rattle.std.specs.Prelude.{◌≡◌, ◌≤◌, OnOk, OnErr, option_copied, length};
+ghost use Rattle.std.specs.Prelude.{◌≡◌, ◌≤◌, IfErr, OnOk, OnErr, option_copied, length};
 ghost use Rattle.std.specs.FinMap as map;
 ghost use Rattle.std.specs.Iterator.{at_most};
 ghost use Rattle.std.specs.Map.Iter.{TakesFirst};
@@ -9,7 +9,7 @@ ghost use Rattle.chr_ops.specs.working.Walks.{within};
 use crate::id::OpId;
 use crate::range::IdRange;
 use chr_base::bag::Bag;
-use std::alloc::{AllocError, Global};
+use std::alloc::{AllocFailed, Global};
 use std::collections::{BTreeMap, btree_map};
 use std::marker::Model;
 
@@ -51,9 +51,10 @@ impl Entries {
         self.bags.get(&id)
     }
 
-    /// Puts a bag under an id.
-    pub(crate) fn insert(&mut self, id: OpId, bag: Bag) -> Result<(), AllocError>
+    /// Puts a bag under an id. Where memory is refused, both are handed back.
+    pub(crate) fn insert(&mut self, id: OpId, bag: Bag) -> Result<(), AllocFailed<(OpId, Bag)>>
         ensures ok { OnOk result (self.new ≡ map.insert self.old id bag) }
+        ensures handed_back { IfErr result (λ e. e.value ≡ (id, bag)) }
         ensures err { OnErr result (self.new ≡ self.old) }
     {
         self.bags.insert(id, bag)?;
@@ -61,10 +62,11 @@ impl Entries {
     }
 
     /// Takes out the bag of an id, where there is one.
-    pub(crate) fn remove(&mut self, id: OpId)
-        ensures { self.new ≡ map.remove self.old id }
+    pub(crate) fn remove(&mut self, id: OpId) -> Option<Bag>
+        ensures bag { result ≡ map.get self.old id }
+        ensures rest { self.new ≡ map.remove self.old id }
     {
-        self.bags.remove(&id);
+        self.bags.remove(&id)
     }
 
     /// The ids of a range with their bags, in the order of ids. The first costs a look-up.

@@ -83,6 +83,14 @@ impl Op {
         })
     }
 
+    /// An operation of an id and a bag that has the size of one.
+    pub(crate) fn from_parts(id: OpId, bag: Bag) -> Op
+        requires { IsOperationBag bag }
+        ensures { result ≡ (id, bag) }
+    {
+        Op { id, bag }
+    }
+
     /// Its id and its bag.
     pub(crate) fn into_parts(self) -> (OpId, Bag)
         ensures parts { result ≡ self }

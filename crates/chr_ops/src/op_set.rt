@@ -1,5 +1,5 @@
 //! Operation sets.
-ghost use Rattle.std.specs.Prelude.{◌≡◌, ◌+◌, ◌<◌, ◌≤◌, ◌↔◌, IfOk, IsErrOf, List, OnOk, OnErr, Ok, option_copied};
+ghost use Rattle.std.specs.Prelude.{◌≡◌, ◌+◌, ◌<◌, ◌≤◌, ◌↔◌, IfErr, IfOk, IsErrOf, List, OnOk, OnErr, Ok, option_copied};
 ghost use Rattle.std.specs.FinMap as map;
 ghost use Rattle.chr_base.specs.FinBag.{◌⊕◌};
 ghost use Rattle.chr_base.specs.Stores.{size};
@@ -83,6 +83,10 @@ impl OpSet {
     pub fn get(&self, id: OpId) -> Option<&Bag>
         ensures { option_copied result ≡ map.get self.now id }
     {
+        // Ranges are few where ids follow each other, so that what isn't held is told by a short look-up.
+        if !self.covered.has(id) {
+            return None;
+        }
         self.held.get(id)
     }
 
@@ -103,25 +107,47 @@ impl OpSet {
             ↔ (IsNew self.old op × (MAX_TOLD < told_atoms self.old + size op.1)) }
         ensures err { OnErr result (self.new ≡ self.old) }
     {
-        let (id, bag) = op.into_parts();
-        if let Some(held) = self.get(id) {
-            return if held.is_same(&bag) {
+        if let Some(held) = self.get(op.id()) {
+            return if held.is_same(op.bag()) {
                 Ok(Added::Again)
             } else {
-                Err(AddFault::Clash(id))
+                Err(AddFault::Clash(op.id()))
             };
         }
-        let atoms = bag.len() as u64;
-        if atoms > MAX_TOLD - self.told {
+        if op.bag().len() as u64 > MAX_TOLD - self.told {
             return Err(AddFault::Full);
         }
-        self.held.insert(id, bag)?;
-        if let Err(error) = self.covered.cover(&[id]) {
-            self.held.remove(id);
-            return Err(error.into());
+        match self.add_new(op) {
+            Ok(()) => Ok(Added::New),
+            Err(_) => Err(AddFault::Memory),
+        }
+    }
+
+    /// Adds a new operation, where there is room for its atoms.
+    ///
+    /// # Errors
+    /// Where memory is refused, the operation is handed back, and the set is as it was.
+    pub fn add_new(&mut self, op: Op) -> Result<(), Op>
+        requires new { IsNew self.old op }
+        requires room { told_atoms self.old + size op.1 ≤ MAX_TOLD }
+        ensures ok { OnOk result (self.new ≡ map.insert self.old op.0 op.1) }
+        ensures handed_back { IfErr result (λ back. back ≡ op) }
+        ensures err { OnErr result (self.new ≡ self.old) }
+    {
+        let (id, bag) = op.into_parts();
+        let atoms = bag.len() as u64;
+        if let Err(refused) = self.held.insert(id, bag) {
+            let (id, bag) = refused.value;
+            return Err(Op::from_parts(id, bag));
+        }
+        if self.covered.cover_one(id).is_err() {
+            return match self.held.remove(id) {
+                Some(bag) => Err(Op::from_parts(id, bag)),
+                None => unreachable!(),
+            };
         }
         self.told += atoms;
-        Ok(Added::New)
+        Ok(())
     }
 
     /// Adds all of these operations, or none, and answers how many of them are new. The list may repeat an equal

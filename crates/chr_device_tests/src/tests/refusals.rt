@@ -19,7 +19,7 @@ fn ends(rt: &(impl Abort + AllocGlobal), words: &[&str], line: &str) {
     assert!(rt; text.lines().last() == Some(line), "{text}");
 }
 
-const FILES: [(&[&str], &str); 5] = [
+const CAUSES: [(&[&str], &str); 11] = [
     (
         &["coins.chr"],
         "The input comes from standard input: chrrep run < coins.chr",
@@ -40,20 +40,47 @@ const FILES: [(&[&str], &str); 5] = [
         &["serve", "-"],
         "The input comes from standard input, without '-': chrrep serve",
     ),
+    (
+        &["run", "--file", "coins.chr"],
+        "The input comes from standard input: chrrep run < coins.chr",
+    ),
+    (
+        &["check", "--replicas", "3"],
+        "'--replicas' is an option of 'run' and 'serve'",
+    ),
+    (
+        &["run", "--dot", "coins.chr"],
+        "'--dot' is an option of 'explain'",
+    ),
+    (
+        &["explain", "--parts=2"],
+        "'--parts' is an option of 'run' and 'serve'",
+    ),
+    (
+        &["--wide", "check"],
+        "Options stand behind the command: chrrep check --wide",
+    ),
+    (
+        &["--replicas=3"],
+        "Options stand behind the command: chrrep run --replicas=3",
+    ),
 ];
 
 #[test]
-fn files_are_named(rt: HostRuntime) {
-    for (words, line) in FILES {
+fn causes_are_named(rt: HostRuntime) {
+    for (words, line) in CAUSES {
         ends(&rt, words, line);
     }
 }
 
-const NO_CAUSE: [&[&str]; 5] = [
+const NO_CAUSE: [&[&str]; 8] = [
     &[],
     &["weigh"],
     &["run", "run"],
     &["run", "--replica", "--replicas", "2"],
+    &["run", "--replica", "3"],
+    &["run", "3"],
+    &["chek", "coins.chr"],
     &["run", "--replicas", "x"],
 ];
 
@@ -146,7 +173,7 @@ fn help_names_wide(rt: HostRuntime) {
         contains(&rt, &["serve", "--help"], part, true);
     }
     contains(&rt, &["--help"], "--wide", false);
-    contains(&rt, &["explain", "--help"], "--wide", false);
+    contains(&rt, &["explain", "--help"], "--wide", true);
 }
 
 #[test]

@@ -137,7 +137,7 @@ fn styles_are_read(rt: HostRuntime) {
 }
 
 /// The command, how many replicas, and whether the verdict is wide.
-const WIDE: [(&[&str], Verb, u32, bool); 10] = [
+const WIDE: [(&[&str], Verb, u32, bool); 12] = [
     (&["check", "--wide"], Verb::Check, 1, true),
     (&["check", "--wide", "--"], Verb::Check, 1, true),
     (&["run", "--wide"], Verb::Run, 1, true),
@@ -153,6 +153,8 @@ const WIDE: [(&[&str], Verb, u32, bool); 10] = [
     (&["run", "--replicas=2"], Verb::Run, 2, false),
     (&["serve", "--replicas=2"], Verb::Serve, 2, false),
     (&["explain", "--all"], Verb::Explain, 1, false),
+    (&["explain", "--wide"], Verb::Explain, 1, true),
+    (&["explain", "--wide", "--dot"], Verb::Explain, 1, true),
 ];
 
 /// The command, how many replicas, and whether the verdict is wide, where the words are taken.
@@ -201,8 +203,8 @@ const OTHER_WIDE: [(&[&str], ErrorKind, &str); 6] = [
     ),
     (&["serve", "--wid"], ErrorKind::UnknownArgument, "'--wid'"),
     (
-        &["explain", "--wide"],
-        ErrorKind::UnknownArgument,
+        &["explain", "--wide=true"],
+        ErrorKind::TooManyValues,
         "'--wide'",
     ),
     (&["--wide", "check"], ErrorKind::UnknownArgument, "'--wide'"),
@@ -327,7 +329,7 @@ fn after_run<'a>(rt: &(impl Abort + AllocGlobal), options: &[&'a str]) -> Vec<&'
     words
 }
 
-const OTHER_WORDS: [(&[&str], ErrorKind, &str); 18] = [
+const OTHER_WORDS: [(&[&str], ErrorKind, &str); 20] = [
     (&[], ErrorKind::MissingSubcommand, "requires a subcommand"),
     (&["--help"], ErrorKind::DisplayHelp, "Usage: chrrep"),
     (&["help"], ErrorKind::DisplayHelp, "Usage: chrrep"),
@@ -336,7 +338,13 @@ const OTHER_WORDS: [(&[&str], ErrorKind, &str); 18] = [
         ErrorKind::DisplayHelp,
         "Usage: chrrep run",
     ),
-    (&["--version"], ErrorKind::UnknownArgument, "--version"),
+    (&["--version"], ErrorKind::DisplayVersion, "chrrep 0.1.0"),
+    (&["-V"], ErrorKind::DisplayVersion, "chrrep 0.1.0"),
+    (
+        &["check", "--version"],
+        ErrorKind::UnknownArgument,
+        "'--version'",
+    ),
     (&["ru"], ErrorKind::InvalidSubcommand, "'ru'"),
     (&["chec"], ErrorKind::InvalidSubcommand, "'chec'"),
     (&["weigh"], ErrorKind::InvalidSubcommand, "'weigh'"),

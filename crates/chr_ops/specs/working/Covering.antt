@@ -1,5 +1,5 @@
 -- Ranges of ids that are kept under their first ids.
-use Rattle.std.specs.Prelude.{◌≡◌, ℕ, ◌+◌, ◌^◌, ◌<◌, ◌≤◌, Bool, true, false, ◌||◌, List, Some, IsSome, map as each, if◌then◌else◌}
+use Rattle.std.specs.Prelude.{◌≡◌, ℕ, ◌+◌, ◌^◌, ◌<◌, ◌≤◌, Bool, true, false, ◌||◌, List, [], ◌∷◌, Some, IsSome, map as each, if◌then◌else◌}
 use Rattle.std.specs.List.{list_any}
 use Rattle.std.specs.Ordering.{eq_by_cmp}
 use Rattle.std.specs.FinMap as map
@@ -65,3 +65,9 @@ pub record AreJoined (m : Ends) (test : OpId → Bool) (n : Ends) : Type 0 where
   pub disjoint : AreDisjoint n
   pub covering : (q : OpId) → covers (end_ranges n) q ≡ covers (end_ranges m) q
   pub seams : (q : OpId) → IsSeam n q → IsSeam m q × (test q ≡ false)
+
+-- an id is put in: laid as a range of its own, and joined to the one that ends right before it
+pub record IsPutIn (m : Ends) (id : OpId) (n : Ends) : Type 0 where
+  pub laid : Ends
+  pub is : IsLaid m (id ∷ []) laid
+  pub joined : AreJoined laid (λ q. eq_by_cmp id_cmp q id) n

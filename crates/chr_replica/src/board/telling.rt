@@ -19,7 +19,7 @@ impl Board {
     /// `UnknownSymbol` where the program doesn't declare an atom, `Clash` where the id stands for another bag, `Full`
     /// where it is new and more than [`MAX_TOLD`](chr_ops::MAX_TOLD) atoms would be told, `Memory`. Each of them leaves
     /// the board as it was.
-    pub fn tell(&mut self, alloc: Global, op: Op) -> Result<Added, Refusal>
+    pub fn tell(&mut self, _alloc: Global, op: Op) -> Result<Added, Refusal>
         ensures program { self.new.accepted ≡ self.old.accepted }
         ensures new { result ≡ Ok Added.New → Tells (program_on self.old) self.old.replica op self.new.replica }
         ensures again { result ≡ Ok Added.Again →
@@ -29,7 +29,7 @@ impl Board {
         ensures err { OnErr result (self.new ≡ self.old) }
     {
         events_keep_replicas_sound();
-        self.state.tell(alloc, self.accepted.program(), op)
+        self.state.tell(self.accepted.program(), op)
     }
 
     /// Takes in all of these operations, or none, and answers how many of them are new. The list may repeat an equal

@@ -13,10 +13,10 @@ use crate::state::State;
 use chr_base::program::Program;
 use chr_columns::columns::Columns;
 use chr_ops::{Added, MAX_TOLD, Op, OpSet};
-use std::alloc::{AllocError, Global};
+use std::alloc::AllocError;
 
 /// A new operation joins the set, and its atoms the pool.
-fn put_in(alloc: Global, ops: &mut OpSet, pool: &mut Columns, op: Op) -> Result<(), AllocError>
+fn put_in(ops: &mut OpSet, pool: &mut Columns, op: Op) -> Result<(), AllocError>
     requires new { IsNew ops.old op }
     requires room { told_atoms ops.old + size op.1 ≤ MAX_TOLD }
     ensures ops { OnOk result (ops.new ≡ map.insert ops.old op.0 op.1) }
@@ -24,12 +24,11 @@ fn put_in(alloc: Global, ops: &mut OpSet, pool: &mut Columns, op: Op) -> Result<
     ensures same_ops { OnErr result (ops.new ≡ ops.old) }
     ensures same_pool { OnErr result (pool.new ≡ pool.old) }
 {
-    let told = op.bag().copy(alloc)?;
-    pool.insert(told.atoms())?;
-    match ops.add(op) {
-        Ok(_) => Ok(()),
-        Err(_) => {
-            pool.remove(told.atoms());
+    pool.insert(op.bag().atoms())?;
+    match ops.add_new(op) {
+        Ok(()) => Ok(()),
+        Err(back) => {
+            pool.remove(back.bag().atoms());
             Err(AllocError)
         }
     }
@@ -37,12 +36,7 @@ fn put_in(alloc: Global, ops: &mut OpSet, pool: &mut Columns, op: Op) -> Result<
 
 impl State {
     /// Tells an operation of the program's atoms. One that is held already takes no memory.
-    pub(crate) fn tell(
-        &mut self,
-        alloc: Global,
-        program: &Program,
-        op: Op,
-    ) -> Result<Added, Refusal>
+    pub(crate) fn tell(&mut self, program: &Program, op: Op) -> Result<Added, Refusal>
         ensures new { result ≡ Ok Added.New → Tells program.now self.old op self.new }
         ensures again { result ≡ Ok Added.Again → IsDeclared program.now op × IsHeld self.old.operations op }
         ensures kept { result ≡ Ok Added.Again → self.new ≡ self.old }
@@ -62,7 +56,7 @@ impl State {
         if op.bag().len() as u64 > MAX_TOLD - self.ops.told() {
             return Err(Refusal::Full(Limit::Told));
         }
-        put_in(alloc, &mut self.ops, &mut self.pool, op)?;
+        put_in(&mut self.ops, &mut self.pool, op)?;
         Ok(Added::New)
     }
 }

@@ -8,12 +8,11 @@ use Rattle.chr_replica.proofs.state.telling.put_in.Goals as goal
 
 pub returns-in-Ok-clause-pool : goal.returns-in-Ok-clause-pool
 returns-in-Ok-clause-pool c =
-    let told : c.in_ok-told.told ≡ c.args.op.1 = search rules in
-    let put : c.insert.new.self ≡ c.args.pool.now ⊕ store_of (bag.items c.in_ok-told.told) = search rules in
-    put ∙ ap (λ s. c.args.pool.now ⊕ s) (store_of-items c.in_ok-told.told ∙ told)
+    let put : c.insert.new.self ≡ c.args.pool.now ⊕ store_of (bag.items c.args.op.1) = search rules in
+    put ∙ ap (λ s. c.args.pool.now ⊕ s) (store_of-items c.args.op.1)
 
-pub returns-clause-same_pool : goal.returns-clause-same_pool
-returns-clause-same_pool c =
-    let put : c.insert.new.self ≡ c.args.pool.now ⊕ store_of (bag.items c.in_ok-told.told) = search rules in
-    let atoms : store_of c.atoms-in-Err.result.now ≡ store_of (bag.items c.in_ok-told.told) = search rules in
+pub returns-in-Err-clause-same_pool : goal.returns-in-Err-clause-same_pool
+returns-in-Err-clause-same_pool c =
+    let put : c.insert.new.self ≡ c.args.pool.now ⊕ store_of (bag.items c.args.op.1) = search rules in
+    let atoms : store_of c.atoms-in-Err.result.now ≡ store_of (bag.items c.args.op.1) = search rules in
     put_out c.remove.result c.args.pool.now _ c.remove.new.self _ _ _ put atoms atoms c.remove.ensures.there c.remove.ensures.taken
