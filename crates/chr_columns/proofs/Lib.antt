@@ -4,6 +4,7 @@ pub mod Stored
 pub mod Reacting
 pub mod Putting
 pub mod Firings
+pub mod Leaving
 pub mod Makings
 pub mod Pools
 pub mod Owning

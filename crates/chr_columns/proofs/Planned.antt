@@ -114,19 +114,19 @@ module _ (gs : List Group) (t : ℕ) (d k : Group) (plan : Plan) (within : t < l
 
 -- what has plans keeps them
 pub have_kept : (gs hs : List Group) (i : ℕ) (r : Rule) (n : ℕ) → KeepPlans gs hs → HavePlans gs i r n → HavePlans hs i r n
-have_kept gs hs i r n keep has p l = subst (λ t. HasPlan hs t i p) (same_table gs hs (pattern_at r p) (sym keep.shapes)) (keep.plans _ i p (has p l))
+have_kept gs hs i r n keep has p l k = subst (λ t. HasPlan hs t i p) (same_table gs hs (pattern_at r p) (sym keep.shapes)) (keep.plans _ i p (has p l k))
 
-pub have_more : (gs : List Group) (i : ℕ) (r : Rule) (n : ℕ) → HavePlans gs i r n → HasPlan gs (table_of_pattern gs (pattern_at r n)) i n → HavePlans gs i r (n + 1)
-have_more gs i r n has new p l = elim (cases_lt p n) as (λ _. HasPlan gs (table_of_pattern gs (pattern_at r p)) i p) [
-  | inl less ↦ has p less
+pub have_more : (gs : List Group) (i : ℕ) (r : Rule) (n : ℕ) → HavePlans gs i r (n + 1) → HasPlan gs (table_of_pattern gs (pattern_at r n)) i n → HavePlans gs i r n
+have_more gs i r n has new p l k = elim (cases_lt n p) as (λ _. HasPlan gs (table_of_pattern gs (pattern_at r p)) i p) [
+  | inl less ↦ has p (omega (arith, less)) k
   | inr most ↦ subst (λ q. HasPlan gs (table_of_pattern gs (pattern_at r q)) i q) (let e : n ≡ p = omega (arith, l, most) in e) new
 ]
 
 pub covered_more : (rules : List Rule) (gs hs : List Group) (i : ℕ) (r : Rule) → KeepPlans gs hs → i < length rules → r ≡ get_or rules i r → AreCovered rules gs i
-    → HavePlans hs i r (length (heads_of r)) → AreCovered rules hs (i + 1)
-covered_more rules gs hs i r keep within here are new k x l e = elim (cases_lt k i) as (λ _. HavePlans hs k x (length (heads_of x))) [
-  | inl less ↦ have_kept gs hs k x (length (heads_of x)) keep (are k x less e)
+    → HavePlans hs i r 0 → AreCovered rules hs (i + 1)
+covered_more rules gs hs i r keep within here are new k x l e = elim (cases_lt k i) as (λ _. HavePlans hs k x 0) [
+  | inl less ↦ have_kept gs hs k x 0 keep (are k x less e)
   | inr most ↦ (let n : i ≡ k = omega (arith, l, most) in
       let same : r ≡ x = same_Some r x (sym (slice_get_read rules (length rules) i r refl within here) ∙ ap (slice_get rules) n ∙ e) in
-      subst (λ j. HavePlans hs j x (length (heads_of x))) n (subst (λ (y : Rule). HavePlans hs i y (length (heads_of y))) same new))
+      subst (λ j. HavePlans hs j x 0) n (subst (λ (y : Rule). HavePlans hs i y 0) same new))
 ]

@@ -49,7 +49,7 @@ module _ (rules : List Rule) (groups : List Group) (ts : List Contents) (up : Is
       → NoneBy rules (rows_of ts) a (slice_get g.plans.items k))
       → NoInstanceWith rules (contents (grid ts)) a
   none_with none = rows_are_enough rules (grid ts) a (λ i r p at within heads seats seated is.
-      (let c = up.covered i r (slice_get_within rules i r at) at p within in
+      (let c = up.covered i r (slice_get_within rules i r at) at p (omega (arith)) within in
       let v = seated.instance in
       let shape = shape_known r v.0 p heads v.1 in
       let t : table_of_atom groups a ≡ table_of_pattern groups (pattern_at r p) = ap (table_of_atom groups) (sym is) ∙ shape_table groups (pattern_at r p) (head heads p) shape in

@@ -11,7 +11,7 @@ ghost use Rattle.chr_columns.specs.Rows.{AreApart};
 use crate::listing::bag_of;
 use crate::making::rested_for;
 use crate::own::find_in;
-use crate::rested::Rested;
+use crate::rested::{Found, Rested};
 use crate::rows::Rows;
 use crate::stepping::step_in;
 use chr_base::atom::Atom;
@@ -34,6 +34,7 @@ pub struct Columns {
     rested: Rested,
     fresh: Vec<Atom>,
     standing: Option<Standing>,
+    found: Found,
 }
 
 impl Model for Columns {
@@ -61,6 +62,7 @@ impl Columns {
             rested,
             fresh: Vec::new(alloc),
             standing: None,
+            found: Found::default(),
         })
     }
 
@@ -161,6 +163,12 @@ impl Columns {
         ensures rests { IfOk result (λ stepped. OnFalse stepped (IsAtRest (Step rules.now) self.old)) }
         ensures err { OnErr result (self.new ≡ self.old) }
     {
-        step_in(&mut self.rested, &mut self.fresh, &mut self.standing, rules)
+        step_in(
+            &mut self.rested,
+            &mut self.fresh,
+            &mut self.standing,
+            &mut self.found,
+            rules,
+        )
     }
 }

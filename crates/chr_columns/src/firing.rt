@@ -1,16 +1,15 @@
 //! What an instance changes.
-ghost use Rattle.std.specs.Prelude.{◌≡◌, ℕ, ◌+◌, ◌<◌, ◌≤◌, List, [], ◌∷◌, ◌++◌, Some, IfSome, length, remove, slice_get, vec_len, vec_capacity};
+ghost use Rattle.std.specs.Prelude.{◌≡◌, ◌+◌, ◌<◌, ◌≤◌, List, [], ◌∷◌, ◌++◌, Some, IfSome, length, slice_get, vec_len, vec_capacity};
 ghost use Rattle.chr_base.specs.declared.rule.Rule.{Rule as RuleValue};
-ghost use Rattle.chr_base.specs.declared.limits.TheConstants.{MAX_BODY, MAX_HEADS};
+ghost use Rattle.chr_base.specs.declared.limits.TheConstants.{MAX_BODY};
 ghost use Rattle.chr_base.specs.declared.atom.Atom.{Atom as AtomValue};
 ghost use Rattle.chr_base.specs.FinBag.{◌⊕◌};
 ghost use Rattle.chr_base.specs.Stores.{store_of};
 ghost use Rattle.chr_base.specs.Rules.{atoms_at, heads_of, heads_at, HasInstance, Valuation, Step};
-ghost use Rattle.chr_plans.specs.Seats.{seat, head, IsSeated};
+ghost use Rattle.chr_plans.specs.Seats.{seat, head};
 ghost use Rattle.chr_actives.specs.Actives.{one};
-ghost use Rattle.chr_actives.specs.Grids.{Grid, rows_in, SitIn};
 ghost use Rattle.chr_columns.specs.working.Resting.{stored, IsRested, IsReacting, MayGoOn, Stands};
-ghost use Rattle.chr_columns.specs.working.Firing.{kept_others, coming};
+ghost use Rattle.chr_columns.specs.working.Firing.{coming, leaving_seats};
 
 use crate::rested::{Occurrence, Rested, kill_all};
 use arrayvec::ArrayVec;
@@ -21,37 +20,24 @@ use chr_base::rule::Rule;
 use chr_plans::react::Standing;
 use chr_plans::rows::Seat;
 
-/// The seats of so many places. What is not there is the first row of the first table.
-fn seats_of(seats: &[Seat], count: usize) -> ArrayVec<Seat, MAX_HEADS>
-    requires { count ≤ MAX_HEADS }
-    ensures count { length result.items ≡ count }
-    ensures same { (q : ℕ) → q < count → seat result.items q ≡ seat seats.now q }
+/// The seat at a place; the first row of the first table, where there is none.
+fn seat_at(seats: &[Seat], place: usize) -> Seat
+    ensures { result ≡ seat seats.now place }
 {
-    let mut all = ArrayVec::new();
-    for q in 0..count {
-        all.push(seats.get(q).copied().unwrap_or_default());
+    seats.get(place).copied().unwrap_or_default()
+}
+
+/// The rows of the removed heads other than the active one, which is at this place.
+fn leaving_rows(rule: &Rule, place: usize, seats: &[Seat]) -> ArrayVec<Seat, MAX_HEADS>
+    ensures { result.items ≡ leaving_seats rule.now place seats.now }
+{
+    let mut rows = ArrayVec::new();
+    for other in rule.kept.len()..rule.places() {
+        if other != place {
+            rows.push(seat_at(seats, other));
+        }
     }
-    all
-}
-
-/// The rows of the heads other than the active one, which is at this place.
-fn partner_rows(rule: &Rule, place: usize, seats: &[Seat]) -> ArrayVec<Seat, MAX_HEADS>
-    requires { place < length (heads_of rule.now) }
-    ensures count { length result.items + 1 ≡ length (heads_of rule.now) }
-    ensures sit { (tables : Grid) → (heads : List AtomValue) →
-        IsSeated rule.now (rows_in tables) place heads seats.now → SitIn tables (remove heads place) result.items }
-{
-    let mut rows = seats_of(seats, rule.places());
-    rows.remove(place);
     rows
-}
-
-/// How many of the heads without the active one, which is at this place, are kept.
-fn kept_others(rule: &Rule, place: usize) -> usize
-    ensures { result ≡ kept_others rule.now place }
-{
-    let kept = rule.kept.len();
-    if place < kept { kept - 1 } else { kept }
 }
 
 /// The body becomes fresh. Where there is none the heads aren't looked at.
@@ -117,12 +103,10 @@ impl Rested {
         ensures standing { Stands self.new fresh.new.items result }
     {
         let rule = &self.rules[o.rule];
-        let rows = partner_rows(rule, o.place, seats);
-        let first = kept_others(rule, o.place);
+        let rows = leaving_rows(rule, o.place, seats);
         put_fresh(rule, o.place, heads, fresh);
         let standing = standing_of(rule, o);
-        let (_, removed) = rows.split_at(first);
-        kill_all(&mut self.tables, removed);
+        kill_all(&mut self.tables, &rows);
         standing
     }
 }

@@ -167,7 +167,8 @@ fn add_plan(
     Ok(())
 }
 
-/// The plans of all head places of the rule with this number.
+/// The plans of all head places of the rule with this number, the last place first. So an active atom is first asked
+/// whether a rule removes it: where it would also be kept, the rows stay as they are.
 fn add_plans(
     keys: &mut Vec<Keys>,
     groups: &mut [Group],
@@ -181,9 +182,9 @@ fn add_plans(
     ensures planned { OnOk result ((rules : List RuleValue) → slice_get rules number ≡ Some rule.now →
         ArePlanned rules groups.old (columns_in keys.old.items) →
         ArePlanned rules groups.new (columns_in keys.new.items)) }
-    ensures plans { OnOk result (HavePlans groups.new number rule.now (length (heads_of rule.now))) }
+    ensures plans { OnOk result (HavePlans groups.new number rule.now 0) }
 {
-    for place in 0..rule.places() {
+    for place in (0..rule.places()).rev() {
         add_plan(keys, groups, rule, number, place)?;
     }
     Ok(())

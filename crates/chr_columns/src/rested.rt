@@ -25,6 +25,14 @@ pub(crate) struct Rested {
     pub(crate) tables: Tables,
 }
 
+/// Room for the heads and the rows of the instance that a search finds, as many as the rule has head places. It is kept
+/// from one search to the next, since to clear it costs as much as a look-up.
+#[derive(Debug, Default, Drop)]
+pub(crate) struct Found {
+    pub(crate) heads: ArrayVec<Atom, MAX_HEADS>,
+    pub(crate) seats: ArrayVec<Seat, MAX_HEADS>,
+}
+
 /// A head place of a rule, both by their numbers from 0, and where the search stands that has found an instance there.
 #[derive(Clone, Copy, Debug, PartialEq, Eq)]
 pub(crate) struct Occurrence {

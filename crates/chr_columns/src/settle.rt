@@ -9,9 +9,8 @@ ghost use Rattle.chr_actives.specs.Actives.{one};
 ghost use Rattle.chr_columns.specs.declared.settle.Outcome.TheVariants.{Fired, AtRest, OtherRules};
 ghost use Rattle.chr_columns.specs.working.Resting.{stored, IsRested, MayGoOn, Stands};
 
-use crate::rested::Rested;
+use crate::rested::{Found, Rested};
 use crate::same::stands_at;
-use arrayvec::ArrayVec;
 use chr_base::atom::Atom;
 use chr_base::limits::MAX_BODY;
 use chr_base::rule::Rule;
@@ -38,6 +37,7 @@ impl Rested {
         active: &Atom,
         fresh: &mut Vec<Atom>,
         standing: &mut Option<Standing>,
+        found: &mut Found,
     ) -> Result<Outcome, AllocError>
         requires rested { IsRested self.old }
         requires standing { IfSome standing.old (MayGoOn self.old active.now) }
@@ -56,17 +56,15 @@ impl Rested {
         ensures err { OnErr result (stored self.new ≡ stored self.old) }
         ensures err_same { OnErr result (fresh.new ≡ fresh.old) }
     {
-        let mut heads = ArrayVec::new();
-        let mut seats = ArrayVec::new();
         let from = standing.take();
-        let Some(occurrence) = self.react(active, from, &mut heads, &mut seats) else {
+        let Some(occurrence) = self.react(active, from, &mut found.heads, &mut found.seats) else {
             self.put(active)?;
             return Ok(Outcome::AtRest);
         };
         if !stands_at(rules, occurrence.rule, &self.rules[occurrence.rule]) {
             return Ok(Outcome::OtherRules);
         }
-        *standing = self.fire(occurrence, &heads, &seats, fresh);
+        *standing = self.fire(occurrence, &found.heads, &found.seats, fresh);
         Ok(Outcome::Fired)
     }
 
@@ -77,6 +75,7 @@ impl Rested {
         rules: &[Rule],
         fresh: &mut Vec<Atom>,
         standing: &mut Option<Standing>,
+        found: &mut Found,
     ) -> Result<Outcome, AllocError>
         requires rested { IsRested self.old }
         requires standing { Stands self.old fresh.old.items standing.old }
@@ -93,7 +92,7 @@ impl Rested {
         while !fresh.is_empty() {
             fresh.reserve(MAX_BODY + 1)?;
             let active = fresh.pop().unwrap();
-            match self.take(rules, &active, fresh, standing) {
+            match self.take(rules, &active, fresh, standing, found) {
                 Ok(Outcome::AtRest) => {}
                 Ok(Outcome::Fired) => return Ok(Outcome::Fired),
                 unsettled => {

@@ -10,7 +10,7 @@ ghost use Rattle.chr_columns.specs.working.Resting.{stored, IsRested, Stands};
 
 use crate::listing::push_live;
 use crate::making::rested_for;
-use crate::rested::Rested;
+use crate::rested::{Found, Rested};
 use crate::same::are_same;
 use crate::settle::Outcome;
 use chr_base::atom::Atom;
@@ -37,6 +37,7 @@ fn step_own(
     rested: &mut Rested,
     fresh: &mut Vec<Atom>,
     standing: &mut Option<Standing>,
+    found: &mut Found,
     rules: &[Rule],
 ) -> Result<bool, AllocError>
     requires rested { IsRested rested.old }
@@ -53,7 +54,7 @@ fn step_own(
     ensures err { OnErr result
         (stored rested.new ⊕ store_of fresh.new.items ≡ stored rested.old ⊕ store_of fresh.old.items) }
 {
-    match rested.settle(rules, fresh, standing)? {
+    match rested.settle(rules, fresh, standing, found)? {
         Outcome::Fired => Ok(true),
         Outcome::AtRest => Ok(false),
         Outcome::OtherRules => unreachable!(),
@@ -65,6 +66,7 @@ fn step_over(
     rested: &mut Rested,
     fresh: &mut Vec<Atom>,
     standing: &mut Option<Standing>,
+    found: &mut Found,
     rules: &[Rule],
 ) -> Result<bool, AllocError>
     requires { IsRested rested.old }
@@ -81,7 +83,7 @@ fn step_over(
 {
     *standing = None;
     start_over(rested, fresh, rules)?;
-    step_own(rested, fresh, standing, rules)
+    step_own(rested, fresh, standing, found, rules)
 }
 
 /// One step of some rule, or false where there is none. Where memory is refused the store is as before. The rules are
@@ -90,6 +92,7 @@ pub(crate) fn step_in(
     rested: &mut Rested,
     fresh: &mut Vec<Atom>,
     standing: &mut Option<Standing>,
+    found: &mut Found,
     rules: &[Rule],
 ) -> Result<bool, AllocError>
     requires rested { IsRested rested.old }
@@ -105,7 +108,7 @@ pub(crate) fn step_in(
     ensures err { OnErr result
         (stored rested.new ⊕ store_of fresh.new.items ≡ stored rested.old ⊕ store_of fresh.old.items) }
 {
-    match rested.settle(rules, fresh, standing)? {
+    match rested.settle(rules, fresh, standing, found)? {
         Outcome::Fired => return Ok(true),
         Outcome::AtRest => {
             if are_same(&rested.rules, rules) {
@@ -114,5 +117,5 @@ pub(crate) fn step_in(
         }
         Outcome::OtherRules => {}
     }
-    step_over(rested, fresh, standing, rules)
+    step_over(rested, fresh, standing, found, rules)
 }
