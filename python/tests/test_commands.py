@@ -1,6 +1,8 @@
 """Whole commands: words and standard input in, standard output, words of error and status out."""
 
 import subprocess
+import tempfile
+import tomllib
 import unittest
 from dataclasses import dataclass
 from pathlib import Path
@@ -8,6 +10,7 @@ from pathlib import Path
 from chrrep.node import program_path
 
 EXAMPLES = Path(__file__).resolve().parents[2] / "examples"
+PROJECT = Path(__file__).resolve().parents[1] / "pyproject.toml"
 SECONDS = 60.0
 
 COINS = """:- chr_constraint coin/0, note/0.
@@ -50,6 +53,7 @@ ROWS = (
         "accepted: rules 1, cases 6\ntold\ntold\nsynced 1\ncoin, note, note\nrefused 35\n",
     ),
     Row(("run", "run"), COINS + '["show",1]\n', 2, ""),
+    Row(("--version",), COINS, 2, ""),
     Row(
         ("explain",),
         ":- chr_constraint a/1, b/1.\npair @ a(X), a(Y) <=> X < Y | b(X).\n---\n",
@@ -86,6 +90,16 @@ class Commands(unittest.TestCase):
                 self.assertEqual((end.returncode, end.stdout.decode()), (row.status, row.output))
                 # only words that are refused are told with a reason
                 self.assertEqual(end.stderr != b"", row.status == 2)
+
+    def test_version(self) -> None:
+        """The program's version is that of the package, and its usage names it whatever its file is called."""
+        project = tomllib.loads(PROJECT.read_text())["project"]
+        self.assertEqual(run(("--version",), b"").stderr.decode(), f"chrrep {project['version']}\n")
+        with tempfile.TemporaryDirectory() as folder:
+            other = Path(folder) / "other"
+            other.symlink_to(Path(program_path()).resolve())
+            end = subprocess.run([other, "--help"], capture_output=True, timeout=SECONDS, check=False)
+            self.assertIn("Usage: chrrep ", end.stderr.decode())
 
     def test_examples(self) -> None:
         examples = sorted(EXAMPLES.glob("*.out"))

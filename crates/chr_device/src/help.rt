@@ -47,11 +47,9 @@ pub(crate) const EXPLAIN: &str =
 /// What `explain` reads and writes.
 pub(crate) const EXPLAIN_MORE: &str = with_statuses!(
     "Reads what `check` reads. Writes the verdict as sentences: where a text is wrong and what would be right, or the rules
-that disagree and how; with --dot a drawing of it for Graphviz. A program that `check` refuses as 22 is explained as
-with --wide too.
+that disagree and how; with --dot a drawing of it for Graphviz.
 
 Example: chrrep explain < FILE
-         chrrep explain --wide < FILE
          chrrep explain --dot < FILE | dot -Tsvg > FILE.svg"
 );
 

@@ -19,7 +19,7 @@ fn ends(rt: &(impl Abort + AllocGlobal), words: &[&str], line: &str) {
     assert!(rt; text.lines().last() == Some(line), "{text}");
 }
 
-const CAUSES: [(&[&str], &str); 11] = [
+const CAUSES: [(&[&str], &str); 12] = [
     (
         &["coins.chr"],
         "The input comes from standard input: chrrep run < coins.chr",
@@ -55,6 +55,10 @@ const CAUSES: [(&[&str], &str); 11] = [
     (
         &["explain", "--parts=2"],
         "'--parts' is an option of 'run' and 'serve'",
+    ),
+    (
+        &["explain", "--wide"],
+        "'--wide' is an option of 'check', 'run' and 'serve'",
     ),
     (
         &["--wide", "check"],
@@ -173,7 +177,7 @@ fn help_names_wide(rt: HostRuntime) {
         contains(&rt, &["serve", "--help"], part, true);
     }
     contains(&rt, &["--help"], "--wide", false);
-    contains(&rt, &["explain", "--help"], "--wide", true);
+    contains(&rt, &["explain", "--help"], "--wide", false);
 }
 
 #[test]
