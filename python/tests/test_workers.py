@@ -114,10 +114,11 @@ class Workers(unittest.TestCase):
                 self.expect("run", workers, parts, given, output)
 
     def test_many_routes(self) -> None:
-        """So many that they are rested in parts."""
+        """So many that they are rested in parts where an exchange brings them at once."""
         told = routes(20_000, 12)
-        lines = [*tells(told, 1), '["show",1]']
-        output = VERDICT + "told\n" * (len(lines) - 1) + shortest(told) + "\n"
+        lines = [*tells(told, 1), '["sync",1,2]', '["show",2]', '["show",1]']
+        shown = shortest(told)
+        output = VERDICT + "told\n" * (len(lines) - 3) + f"synced {len(lines) - 3}\n{shown}\n{shown}\n"
         for workers, parts in ((1, 1), (1, 16), (4, 1), (2, 3), (4, 16), (16, 64)):
             self.expect("run", workers, parts, input_of(lines), output)
         self.expect("serve", 4, 16, input_of(lines), output)

@@ -1,23 +1,21 @@
 -- Answers of lines, one line after another.
-use Rattle.std.proofs.Common.{◌≡◌, ℕ, ◌+◌, length, Bool, true, false, List, [], ◌∷◌, ◌++◌, refl, sym, ap, ◌∙◌, append_assoc, append-nil, subst}
-use Rattle.std.specs.Prelude.{Option, Some, None}
-use Rattle.chr_base.specs.Programs.{declarations, rules_of}
-use Rattle.chr_join.specs.declared.accepted.Accepted.{Accepted}
-use Rattle.chr_join.specs.AcceptedPrograms.{program_in}
+use Rattle.std.proofs.Common.{◌≡◌, ℕ, ◌+◌, ◌-◌, ◌<◌, length, take, drop, Bool, true, false, List, [], ◌∷◌, ◌++◌, refl, sym, ap, ◌∙◌, append_assoc, append-nil, length-append, subst, arith}
+use Rattle.std.proofs.lemmas.List.{drop_at, length-drop, take-append-drop}
+use Rattle.std.specs.Prelude.{Option, Some, None, string_bytes}
 use Rattle.std.specs.Borrow.{Bor}
+use Rattle.chr_base.specs.Programs.{declarations, rules_of}
+use Rattle.chr_join.specs.AcceptedPrograms.{program_in}
 use Rattle.std.specs.Bool.{MatchBool}
 use Rattle.chr_base.specs.declared.rule.Rule.{Rule}
 use Rattle.chr_base.specs.ProgramTests.{Declaration}
 use Rattle.chr_ops.specs.Operations.{Operations}
 use Rattle.chr_json.specs.Lines.{is_blank_line}
 use Rattle.chr_report.specs.Lines.{lines, without_return}
-use Rattle.chr_report.specs.working.LinesLeft.{lines_left}
+use Rattle.chr_report.specs.declared.answering.Answering.{Answering}
+use Rattle.chr_report.specs.working.Continuing.{last_of, left_lines, Continues, GoesOn}
+use Rattle.chr_report.specs.working.Services.{held, served, IsBetweenLines}
 use Rattle.chr_report.specs.Answers.{AnswersAll, AnswersFirst}
 use Rattle.chr_report.specs.working.Answered.{AnswersLine, AddsAnswer, AnswersRest}
-
--- with the answers of what is left, the answers so far are those of all lines
-pub record Continues (ds : List Declaration) (rules : List Rule) (all : List (List ℕ)) (start : List Operations) (before : List ℕ) (ls : List (List ℕ)) (now : List Operations) (out : List ℕ) : Type 0 where
-  pub with_rest : (tail : List ℕ) → AnswersAll ds rules ls now tail → (whole : List ℕ) × AnswersAll ds rules all start whole × (before ++ whole ≡ out ++ tail)
 
 pub begins : (ds : List Declaration) (rules : List Rule) (all : List (List ℕ)) (start : List Operations) (before : List ℕ) → Continues ds rules all start before all start before
 begins ds rules all start before = record { with_rest = λ tail a. (tail, a, refl) }
@@ -40,31 +38,79 @@ goes_on ds rules all start before line ls old out new more h g = record { with_r
         let w = h.with_rest (g.text ++ 10 ∷ tail) (rw e first) in
         (w.0, w.1, w.2 ∙ sym (ap (λ o. o ++ tail) g.out_is ∙ append_assoc (out ++ g.text) (10 ∷ []) tail ∙ append_assoc out g.text (10 ∷ tail)))
 
--- the bytes that are left, and one more where there are any
-abbrev pub left_size : Option (Bor (List ℕ)) → ℕ
-left_size None = 0
-left_size (Some s) = length s.now + 1
-
--- what holds at the next turn
-pub record Turn (w : Accepted) (all : List (List ℕ)) (start : List Operations) (before : List ℕ) (v : Accepted) (next : Option (Bor (List ℕ))) (now : List Operations) (out : List ℕ) : Type 0 where
-  pub program : v ≡ w
-  pub answered : Continues (declarations (program_in w)) (rules_of (program_in w)) all start before (lines_left next) now out
-
-pub one_more : (w : Accepted) (all : List (List ℕ)) (start : List Operations) (before : List ℕ) (v x : Accepted) (next : Option (Bor (List ℕ))) (rest : Bor (List ℕ)) (line stripped : List ℕ) (more : Option (Bor (List ℕ))) (old new : List Operations) (out longer : List ℕ)
-    → v ≡ w → Continues (declarations (program_in w)) (rules_of (program_in w)) all start before (lines_left next) old out → next ≡ Some rest
-    → lines rest.now ≡ line ∷ lines_left more → stripped ≡ without_return line → x ≡ v
-    → AnswersLine (declarations (program_in v)) (rules_of (program_in v)) old stripped out new longer
-    → Turn w all start before x more new longer
-one_more w all start before v x next rest line stripped more old new out longer e h is split strip same answers = record {
-  program = same ∙ e;
-  answered =
-      goes_on (declarations (program_in w)) (rules_of (program_in w)) all start before line (lines_left more) old out new longer
-      (subst (λ ls. Continues (declarations (program_in w)) (rules_of (program_in w)) all start before ls old out) (ap lines_left is ∙ split) h)
-      (subst (λ l. AnswersLine (declarations (program_in w)) (rules_of (program_in w)) old l out new longer) strip
-      (subst (λ u. AnswersLine (declarations (program_in u)) (rules_of (program_in u)) old stripped out new longer) e answers));
+-- what is answered first, and then more
+pub goes_through : (ds : List Declaration) (rules : List Rule) (all : List (List ℕ)) (start : List Operations) (before : List ℕ) (mid : List (List ℕ)) (now : List Operations) (out : List ℕ) (ls : List (List ℕ)) (new : List Operations) (more : List ℕ)
+    → Continues ds rules all start before mid now out → Continues ds rules mid now out ls new more → Continues ds rules all start before ls new more
+goes_through ds rules all start before mid now out ls new more h g = record {
+  with_rest = λ tail a. let m = g.with_rest tail a in let w = h.with_rest m.0 m.1 in (w.0, w.1, w.2 ∙ m.2);
 }
 
-pub all_answered : (w : Accepted) (all : List (List ℕ)) (start : List Operations) (before : List ℕ) (next : Option (Bor (List ℕ))) (now : List Operations) (out : List ℕ) → Continues (declarations (program_in w)) (rules_of (program_in w)) all start before (lines_left next) now out → next ≡ None
-    → AnswersRest (declarations (program_in w)) (rules_of (program_in w)) all start before out
-all_answered w all start before next now out h e =
-    ends _ _ all start before now out (subst (λ ls. Continues (declarations (program_in w)) (rules_of (program_in w)) all start before ls now out) (ap lines_left e) h)
+pub goes_further : (text : List ℕ) (s t u : Answering) → GoesOn text s t → GoesOn text t u → GoesOn text s u
+goes_further text s t u h g = record {
+  ready = g.ready;
+  program = g.program ∙ h.program;
+  answered =
+      goes_through (declarations (served s.service)) (rules_of (served s.service)) (left_lines text s.left) (held s.service) (string_bytes s.out) (left_lines text t.left) (held t.service) (string_bytes t.out) (left_lines text u.left) (held u.service) (string_bytes u.out)
+      h.answered
+      (subst (λ a. Continues (declarations (program_in a)) (rules_of (program_in a)) (left_lines text t.left) (held t.service) (string_bytes t.out) (left_lines text u.left) (held u.service) (string_bytes u.out)) h.program g.answered);
+}
+
+-- what comes after the end of the first line of a text's last bytes are last bytes of it
+pub last_after : (text line rest : List ℕ) (left : ℕ) → last_of left text ≡ line ++ 10 ∷ rest → last_of (length rest) text ≡ rest
+last_after text line rest left e =
+    let k = length text - left in
+    let before = (take k text ++ line) ++ 10 ∷ [] in
+    let whole : before ++ rest ≡ text = append_assoc (take k text ++ line) (10 ∷ []) rest ∙ append_assoc (take k text) line (10 ∷ rest) ∙ ap (λ d. take k text ++ d) (sym e) ∙ take-append-drop k text in
+    let sizes : length before + length rest ≡ length text = sym (length-append before rest) ∙ ap length whole in
+    let size : length before ≡ length text - length rest = omega (arith, sizes) in
+    subst (λ t. drop (length text - length rest) t ≡ rest) whole (drop_at before rest (length text - length rest) size)
+
+pub first_line_left : (text line rest : List ℕ) (left : ℕ) → last_of left text ≡ line ++ 10 ∷ rest → lines (last_of left text) ≡ line ∷ lines rest → left_lines text (Some left) ≡ line ∷ left_lines text (Some (length rest))
+first_line_left text line rest left e h = h ∙ ap (λ r. line ∷ lines r) (sym (last_after text line rest left e))
+
+pub fewer_left : (text rest : List ℕ) (left : ℕ) → length rest < length (last_of left text) → length rest + 1 < left + 1
+fewer_left text rest left h = let d = length-drop (length text - left) text in omega (arith, h, d)
+
+-- all bytes of a text are its last ones
+pub all_left : (text : List ℕ) → left_lines text (Some (length text)) ≡ lines text
+all_left text = let none : length text - length text ≡ 0 = omega arith in ap (λ n. lines (drop n text)) none
+
+-- the first line that is left is answered
+pub first_answered : (text : List ℕ) (s t : Answering) (left : ℕ) (line stripped : List ℕ) → s.left ≡ Some left
+    → left_lines text (Some left) ≡ line ∷ left_lines text t.left → stripped ≡ without_return line
+    → IsBetweenLines t.service → t.service.world.accepted ≡ s.service.world.accepted
+    → AnswersLine (declarations (served s.service)) (rules_of (served s.service)) (held s.service) stripped (string_bytes s.out) (held t.service) (string_bytes t.out)
+    → GoesOn text s t
+first_answered text s t left line stripped is split strip ready program answers = record {
+  ready = ready;
+  program = program;
+  answered =
+      let ds = declarations (served s.service) in
+      let rules = rules_of (served s.service) in
+      goes_on ds rules (left_lines text s.left) (held s.service) (string_bytes s.out) line (left_lines text t.left) (held s.service) (string_bytes s.out) (held t.service) (string_bytes t.out)
+      (subst (λ ls. Continues ds rules (left_lines text s.left) (held s.service) (string_bytes s.out) ls (held s.service) (string_bytes s.out)) (ap (left_lines text) is ∙ split)
+      (begins ds rules (left_lines text s.left) (held s.service) (string_bytes s.out)))
+      (subst (λ l. AnswersLine ds rules (held s.service) l (string_bytes s.out) (held t.service) (string_bytes t.out)) strip answers);
+}
+
+-- nothing is left
+pub stays : (text : List ℕ) (s : Answering) → IsBetweenLines s.service → GoesOn text s s
+stays text s ready = record {
+  ready = ready;
+  program = refl;
+  answered = begins (declarations (served s.service)) (rules_of (served s.service)) (left_lines text s.left) (held s.service) (string_bytes s.out);
+}
+
+pub all_answered : (text : List ℕ) (s t : Answering) → s.left ≡ Some (length text) → t.left ≡ None → GoesOn text s t
+    → AnswersRest (declarations (served s.service)) (rules_of (served s.service)) (lines text) (held s.service) (string_bytes s.out) (string_bytes t.out)
+all_answered text s t all none h =
+    let ds = declarations (served s.service) in
+    let rules = rules_of (served s.service) in
+    ends ds rules (lines text) (held s.service) (string_bytes s.out) (held t.service) (string_bytes t.out)
+    (subst (λ ls. Continues ds rules ls (held s.service) (string_bytes s.out) [] (held t.service) (string_bytes t.out)) (ap (left_lines text) all ∙ all_left text)
+    (subst (λ l. Continues ds rules (left_lines text s.left) (held s.service) (string_bytes s.out) (left_lines text l) (held t.service) (string_bytes t.out)) none h.answered))
+
+-- the bytes of a slice, and one more where there is one
+abbrev pub slice_size : Option (Bor (List ℕ)) → ℕ
+slice_size None = 0
+slice_size (Some s) = length s.now + 1

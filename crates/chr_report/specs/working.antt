@@ -8,3 +8,4 @@ pub mod Judged
 pub mod Divided
 pub mod Serving
 pub mod Shortened
+pub mod Continuing

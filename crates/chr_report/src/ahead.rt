@@ -22,10 +22,10 @@ const LEAST_PIECE: usize = 32_768;
 /// So many lines of them at most, so that what short lines ask for takes no more memory than that.
 const MOST_LINES: usize = 32_768;
 
-/// A line with what it asks for, if that is known.
+/// A copy of a line with what it asks for, if that is known.
 #[derive(Drop)]
-pub(crate) struct Heard<'a> {
-    pub(crate) line: &'a [u8],
+pub(crate) struct Heard {
+    pub(crate) line: Vec<u8>,
     pub(crate) request: Option<Request>,
 }
 
@@ -70,21 +70,17 @@ fn first_pieces(
 }
 
 /// What a line asks for, where memory is left.
-fn read_one<'a>(alloc: Global, program: &Program, line: &'a [u8]) -> Heard<'a>
-    ensures { IsHeard program.now result }
+fn read_one(alloc: Global, program: &Program, line: &[u8]) -> Result<Heard, AllocError>
+    ensures { IfOk result (IsHeard program.now) }
 {
-    Heard {
-        line,
+    Ok(Heard {
+        line: line.to_vec(alloc)?,
         request: request_of(alloc, program, line).ok(),
-    }
+    })
 }
 
 /// Reads the lines of a piece that are not blank.
-fn read_piece<'a>(
-    alloc: Global,
-    program: &Program,
-    text: &'a [u8],
-) -> Result<Vec<Heard<'a>>, AllocError>
+fn read_piece(alloc: Global, program: &Program, text: &[u8]) -> Result<Vec<Heard>, AllocError>
     ensures { IfOk result (λ lines. All (IsHeard program.now) lines.items) }
 {
     let mut found = Vec::new(alloc);
@@ -96,7 +92,8 @@ fn read_piece<'a>(
         let (line, more) = next_line(rest);
         let line = without_return(line);
         if !is_blank(line) {
-            found.push(read_one(alloc, program, line))?;
+            let heard = read_one(alloc, program, line)?;
+            found.push(heard)?;
         }
         next = more;
     }
@@ -104,12 +101,12 @@ fn read_piece<'a>(
 }
 
 /// Reads the lines of pieces, each in a thread. None where memory is refused.
-fn read_pieces<'a>(
+fn read_pieces(
     rt: &(impl Threads + Sync),
     alloc: Global,
     program: &Program,
-    pieces: &[Piece<'a>],
-) -> Result<Vec<Option<Vec<Heard<'a>>>>, AllocError>
+    pieces: &[Piece],
+) -> Result<Vec<Option<Vec<Heard>>>, AllocError>
     ensures { IfOk result (λ found. AreHeard program.now found.items) }
 {
     pieces
@@ -124,12 +121,8 @@ fn read_pieces<'a>(
 }
 
 /// The lines of the first pieces, up to one that was not read to its end.
-fn joined<'a>(
-    alloc: Global,
-    found: Vec<Option<Vec<Heard<'a>>>>,
-) -> Result<Vec<Heard<'a>>, AllocError>
-    ensures { IfOk result (λ lines. (p : ProgramValue) → AreHeard p found.entry.items
-        → All (IsHeard p) lines.items) }
+fn joined(alloc: Global, found: Vec<Option<Vec<Heard>>>) -> Result<Vec<Heard>, AllocError>
+    ensures { IfOk result (λ lines. (p : ProgramValue) → AreHeard p found.items → All (IsHeard p) lines.items) }
 {
     let mut lines = Vec::new(alloc);
     for piece in found {
@@ -145,64 +138,55 @@ fn joined<'a>(
     Ok(lines)
 }
 
-/// Reads the first lines of a text by so many threads, and answers how many bytes come after them.
-fn read_ahead<'a>(
+/// Lines of a text that were read before their turn, in order, and how many bytes come after all that was looked at.
+#[derive(Drop)]
+pub(crate) struct Ahead {
+    pub(crate) heard: IntoIter<Heard>,
+    pub(crate) left: usize,
+}
+
+/// Reads the first lines of a text by so many threads.
+fn read_ahead(
     rt: &(impl Threads + Sync),
     alloc: Global,
     program: &Program,
-    text: &'a [u8],
+    text: &[u8],
     workers: u32,
-) -> Result<(Vec<Heard<'a>>, usize), AllocError>
+) -> Result<Ahead, AllocError>
     requires { 1 ≤ workers }
-    ensures { IfOk result (λ r. All (IsHeard program.now) r.0.items) }
+    ensures { IfOk result (IsAhead program.now) }
 {
     let (pieces, left) = first_pieces(alloc, text, workers)?;
     let found = read_pieces(rt, alloc, program, &pieces)?;
-    Ok((joined(alloc, found)?, left))
+    let heard = joined(alloc, found)?.into_iter();
+    Ok(Ahead { heard, left })
 }
 
-/// Lines of a text that were read before their turn, in order.
-#[derive(Drop)]
-pub(crate) struct Ahead<'a> {
-    pub(crate) heard: IntoIter<Heard<'a>>,
-    /// So many bytes come after all that was looked at.
-    left: usize,
-    workers: u32,
-}
-
-impl<'a> Ahead<'a> {
-    /// None of a text was read yet, whose lines so many workers are to read.
-    pub(crate) fn new(alloc: Global, text: &[u8], workers: u32) -> Self
+impl Ahead {
+    /// Each line is left to be read in its turn.
+    pub(crate) fn none(alloc: Global) -> Self
         ensures { (p : ProgramValue) → IsAhead p result }
     {
         Ahead {
             heard: Vec::new(alloc).into_iter(),
-            left: text.len(),
-            workers,
+            left: 0,
         }
     }
 
-    /// Several workers read the next lines, where those that were read are all answered. Where memory is refused for
-    /// that, each line is read in its turn.
-    pub(crate) fn fill(
-        &mut self,
+    /// The first lines of a text, read by so many threads. Where memory is refused for that, none is.
+    pub(crate) fn read(
         rt: &(impl Threads + Sync),
         alloc: Global,
         program: &Program,
-        text: &'a [u8],
-    )
-        requires { IsAhead program.now self.old }
-        ensures { IsAhead program.now self.new }
+        text: &[u8],
+        workers: u32,
+    ) -> Self
+        requires { 1 ≤ workers }
+        ensures { IsAhead program.now result }
     {
-        if self.workers < 2 || text.len() > self.left {
-            return;
-        }
-        match read_ahead(rt, alloc, program, text, self.workers) {
-            Ok((heard, left)) => {
-                self.heard = heard.into_iter();
-                self.left = left;
-            }
-            Err(AllocError) => self.left = 0,
+        match read_ahead(rt, alloc, program, text, workers) {
+            Ok(ahead) => ahead,
+            Err(AllocError) => Ahead::none(alloc),
         }
     }
 
@@ -220,8 +204,12 @@ impl<'a> Ahead<'a> {
         let Some(heard) = self.heard.next() else {
             return request_of(alloc, program, line);
         };
-        match heard.request {
-            Some(request) if heard.line == line => Ok(request),
+        let Heard {
+            line: read,
+            request,
+        } = heard;
+        match request {
+            Some(request) if read.as_slice() == line => Ok(request),
             _ => request_of(alloc, program, line),
         }
     }

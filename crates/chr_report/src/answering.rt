@@ -1,8 +1,11 @@
 //! Command lines answered one after another.
-ghost use Rattle.std.specs.Prelude.{◌≡◌, OnOk, string_bytes};
+ghost use Rattle.std.specs.Prelude.{◌≡◌, ◌+◌, ◌<◌, ◌≤◌, ◌∷◌, IfOk, IsTrue, OnOk, Some, is_some, string_bytes};
+ghost use Rattle.std.specs.Bool.{OnTrue};
+ghost use Rattle.std.specs.Thread.{IsSync};
 ghost use Rattle.chr_base.specs.Programs.{declarations, rules_of};
 ghost use Rattle.chr_report.specs.Lines.{lines, without_return};
 ghost use Rattle.chr_report.specs.working.Answered.{AddsReply, AnswersLine, AnswersRest};
+ghost use Rattle.chr_report.specs.working.Continuing.{last_of, left_lines, left_size, GoesOn};
 ghost use Rattle.chr_report.specs.working.Requests.{FitsProgram, IsAhead};
 ghost use Rattle.chr_report.specs.working.Services.{held, served, IsBetweenLines};
 ghost use Rattle.chr_report.specs.working.LinesLeft.{lines_left};
@@ -12,10 +15,12 @@ use crate::input::{next_line, without_return};
 use crate::reply::push_reply;
 use crate::request::{Request, request_of};
 use crate::service::Service;
+use chr_base::program::Program;
 use chr_json::is_blank;
 use std::alloc::{AllocError, Global};
+use std::mem::forget;
 use std::sync::Wait;
-use std::thread::Threads;
+use std::thread::{Threads, join};
 
 /// Answers what is asked for.
 fn answer_request<R: Threads + Wait + Sync>(
@@ -81,43 +86,178 @@ fn answer_next<R: Threads + Wait + Sync>(
     answer_request(rt, alloc, service, request, out)
 }
 
+/// Lines of an input that are being answered: by whom, what has been written, and how many bytes of it are left.
+#[derive(Drop)]
+pub(crate) struct Answering {
+    pub(crate) service: Service,
+    pub(crate) out: String,
+    pub(crate) left: Option<usize>,
+}
+
+impl Answering {
+    /// Whether more than so many bytes are left.
+    fn has_more_than(&self, bytes: usize) -> bool
+        ensures { OnTrue result (IsTrue (is_some self.now.left)) }
+    {
+        match self.left {
+            Some(left) => left > bytes,
+            None => false,
+        }
+    }
+}
+
+/// The last bytes of a text, so many.
+fn last_of(text: &[u8], count: usize) -> &[u8]
+    ensures { result.now ≡ last_of count text.now }
+{
+    text.split_at(text.len().saturating_sub(count)).1
+}
+
+/// The first line of a text's last bytes, so many, and how many come after its end.
+fn next_of_last(text: &[u8], left: usize) -> (&[u8], Option<usize>)
+    ensures lines { left_lines text.now (Some left) ≡ result.0.now ∷ left_lines text.now result.1 }
+    ensures shorter { left_size result.1 < left + 1 }
+{
+    let (line, more) = next_line(last_of(text, left));
+    match more {
+        Some(rest) => (line, Some(rest.len())),
+        None => (line, None),
+    }
+}
+
+/// Answers the first line that is left, which may have been read before its turn.
+fn answer_first<R: Threads + Wait + Sync>(
+    rt: &R,
+    alloc: Global,
+    input: &[u8],
+    at: &mut Answering,
+    ahead: &mut Ahead,
+) -> Result<(), AllocError>
+    requires ready { IsBetweenLines at.old.service }
+    requires ahead { IsAhead (served at.old.service) ahead.old }
+    ensures ahead { IsAhead (served at.old.service) ahead.new }
+    ensures answered { OnOk result (GoesOn input.now at.old at.new) }
+    ensures shorter { OnOk result (IsTrue (is_some at.old.left) → left_size at.new.left < left_size at.old.left) }
+{
+    let Some(left) = at.left else {
+        return Ok(());
+    };
+    let (line, more) = next_of_last(input, left);
+    let line = without_return(line);
+    answer_next(rt, alloc, &mut at.service, line, ahead, &mut at.out)?;
+    at.left = more;
+    Ok(())
+}
+
+/// Answers the first line that is left, and then all others that were looked at before their turn.
+fn answer_heard<R: Threads + Wait + Sync>(
+    rt: &R,
+    alloc: Global,
+    input: &[u8],
+    at: Answering,
+    ahead: Ahead,
+) -> Result<Answering, AllocError>
+    requires ready { IsBetweenLines at.service }
+    requires ahead { IsAhead (served at.service) ahead }
+    ensures answered { IfOk result (GoesOn input.now at) }
+    ensures shorter { IfOk result (λ later. IsTrue (is_some at.left) → left_size later.left < left_size at.left) }
+{
+    let mut at = at;
+    let mut ahead = ahead;
+    answer_first(rt, alloc, input, &mut at, &mut ahead)?;
+    while at.has_more_than(ahead.left) {
+        answer_first(rt, alloc, input, &mut at, &mut ahead)?;
+    }
+    Ok(at)
+}
+
+/// Answers the lines that were looked at before their turn, while other threads read those after them.
+fn answer_and_read<R: Threads + Wait + Sync>(
+    rt: &R,
+    alloc: Global,
+    program: &Program,
+    input: &[u8],
+    at: Answering,
+    ahead: Ahead,
+) -> Result<(Answering, Ahead), AllocError>
+    requires ready { IsBetweenLines at.service }
+    requires program { served at.service ≡ program.now }
+    requires ahead { IsAhead program.now ahead }
+    ensures answered { IfOk result (λ r. GoesOn input.now at r.0) }
+    ensures ahead { IfOk result (λ r. IsAhead program.now r.1) }
+    ensures shorter { IfOk result (λ r. IsTrue (is_some at.left) → left_size r.0.left < left_size at.left) }
+{
+    if ahead.left == 0 {
+        let at = answer_heard(rt, alloc, input, at, ahead)?;
+        return Ok((at, Ahead::none(alloc)));
+    }
+    let after = last_of(input, ahead.left);
+    let readers = at.service.sharing.workers.saturating_sub(1).max(1);
+    let (later, answered) = join(
+        rt,
+        || -> Ahead
+            requires { IsSync R.row × (1 ≤ readers) }
+            ensures { IsAhead program.entry.now result }
+        { Ahead::read(rt, alloc, program, after, readers) },
+        move || -> Result<Answering, AllocError>
+            requires { IsBetweenLines at.service × IsAhead (served at.service) ahead }
+            ensures answered { IfOk result (GoesOn input.entry.now at) }
+            ensures shorter { IfOk result (λ later.
+                IsTrue (is_some at.left) → left_size later.left < left_size at.left) }
+        { answer_heard(rt, alloc, input, at, ahead) },
+    );
+    Ok((answered?, later))
+}
+
 /// Answers all lines of the input.
 fn answer_lines<R: Threads + Wait + Sync>(
     rt: &R,
     alloc: Global,
-    service: &mut Service,
+    service: Service,
     input: &[u8],
-    out: &mut String,
-) -> Result<(), AllocError>
-    requires { IsBetweenLines service.old }
-    ensures { OnOk result (AnswersRest (declarations (served service.old)) (rules_of (served service.old))
-        (lines input.now) (held service.old) (string_bytes out.old) (string_bytes out.new)) }
+    out: String,
+) -> Result<Answering, AllocError>
+    requires { IsBetweenLines service }
+    ensures { IfOk result (λ at. AnswersRest (declarations (served service)) (rules_of (served service))
+        (lines input.now) (held service) (string_bytes out) (string_bytes at.out)) }
 {
-    let mut ahead = Ahead::new(alloc, input, service.sharing.workers);
-    let mut next = Some(input);
-    while let Some(rest) = next {
-        ahead.fill(rt, alloc, service.program(), rest);
-        let (line, more) = next_line(rest);
-        answer_next(rt, alloc, service, without_return(line), &mut ahead, out)?;
-        next = more;
+    let accepted = service.world.program().clone()?;
+    let program = accepted.program();
+    let workers = service.sharing.workers;
+    let mut ahead = Ahead::none(alloc);
+    if workers > 1 {
+        ahead = Ahead::read(rt, alloc, program, input, workers);
     }
-    Ok(())
+    let mut at = Answering {
+        service,
+        out,
+        left: Some(input.len()),
+    };
+    while at.left.is_some() {
+        let (later, next) = answer_and_read(rt, alloc, program, input, at, ahead)?;
+        at = later;
+        ahead = next;
+    }
+    Ok(at)
 }
 
-/// Answers all commands, where there are any.
+/// Answers all commands, where there are any, after a text. The process is about to end then, and its memory with it:
+/// to free a million operations one by one would take a quarter of its time, so the replicas are left as they are.
 pub(crate) fn answer_commands<R: Threads + Wait + Sync>(
     rt: &R,
     alloc: Global,
-    service: &mut Service,
+    service: Service,
     commands: Option<&[u8]>,
-    out: &mut String,
-) -> Result<(), AllocError>
-    requires { IsBetweenLines service.old }
-    ensures { OnOk result (AnswersRest (declarations (served service.old)) (rules_of (served service.old))
-        (lines_left commands.entry) (held service.old) (string_bytes out.old) (string_bytes out.new)) }
+    text: String,
+) -> Result<String, AllocError>
+    requires { IsBetweenLines service }
+    ensures { IfOk result (λ out. AnswersRest (declarations (served service)) (rules_of (served service))
+        (lines_left commands.entry) (held service) (string_bytes text) (string_bytes out)) }
 {
-    match commands {
-        Some(input) => answer_lines(rt, alloc, service, input, out),
-        None => Ok(()),
-    }
+    let Some(input) = commands else {
+        return Ok(text);
+    };
+    let Answering { service, out, .. } = answer_lines(rt, alloc, service, input, text)?;
+    forget(service);
+    Ok(out)
 }

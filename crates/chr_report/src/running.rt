@@ -71,10 +71,9 @@ fn answer_program(
         wanted (lines_left commands.entry) (string_bytes s)) }
 {
     let rules = accepted.program().rules().len();
-    let mut text = accepted_line(alloc, rules, accepted.cases())?;
-    let mut service = Service::open(alloc, accepted, wanted.replicas, sharing)?;
-    answer_commands(rt, alloc, &mut service, commands, &mut text)?;
-    Ok(text)
+    let text = accepted_line(alloc, rules, accepted.cases())?;
+    let service = Service::open(alloc, accepted, wanted.replicas, sharing)?;
+    answer_commands(rt, alloc, service, commands, text)
 }
 
 /// The whole output for an input.

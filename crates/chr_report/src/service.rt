@@ -31,10 +31,13 @@ use std::alloc::{AllocError, Global};
 use std::sync::{Arc, Wait};
 use std::thread::Threads;
 
-/// As many told atoms wait at most in a replica's pool that is left to one worker, before those of one line more come.
+/// As many told atoms wait at most in a replica's pool, before those of one line more come.
 const MOST_WAITING: u64 = 1024;
 
-/// Several workers rest a pool where this part of what its replica was told waits in it, or more: they cut all of it.
+/// More than so many wait only where an exchange has brought them at once: then several workers may save time.
+const WORTH_SHARING: u64 = 16_384;
+
+/// They rest a pool where this part of what its replica was told waits in it, or more: they cut all of it.
 const LEAST_SHARE: u64 = 4;
 
 /// Replicas that answer command lines. `rested` has for each of them how many atoms it had been told when its pool was
@@ -129,7 +132,7 @@ impl Service {
     fn is_worth_sharing(&self, replica: u64) -> bool {
         let waiting = self.waiting(replica);
         self.sharing.workers > 1
-            && waiting > MOST_WAITING
+            && waiting > WORTH_SHARING
             && waiting >= self.told(replica) / LEAST_SHARE
     }
 
@@ -212,15 +215,15 @@ impl Service {
         }
     }
 
-    /// Rests a replica's pool where many told atoms wait in it for the only worker. They leave memory as they come
-    /// then, where the rules take them out. Several workers are left all that comes before it is shown.
+    /// Rests a replica's pool where many told atoms wait in it: where rules take them out, they leave memory as they
+    /// come. What an exchange brings at once is left to several workers, where they are asked for, until it is shown.
     fn rest_many(&mut self, alloc: Global, replica: u64) -> Result<(), AllocError>
         requires { IsBetweenLines self.old }
         ensures ready { OnOk result (IsBetweenLines self.new) }
         ensures program { self.new.world.accepted ≡ self.old.world.accepted }
         ensures operations { OnOk result (held self.new ≡ held self.old) }
     {
-        if self.sharing.workers == 1 && self.waiting(replica) > MOST_WAITING {
+        if self.waiting(replica) > MOST_WAITING && !self.is_worth_sharing(replica) {
             return self.settle_alone(alloc, replica);
         }
         Ok(())

@@ -48,7 +48,7 @@ pub record Asks (p : Program) (said : Result Said LineFault) (q : Request) : Typ
 
 -- what stands beside the line is what it asks for
 abbrev pub IsHeard : Program → Heard → Type 0
-IsHeard p h = IfSome h.request (Asks p (line_said h.line.now))
+IsHeard p h = IfSome h.request (Asks p (line_said h.line.items))
 
 -- so it is for the lines of each of these pieces that was read
 abbrev pub AreHeard : Program → List (Option (Vec Heard Global)) → Type 0

@@ -1,20 +1,14 @@
-use Rattle.std.proofs.Common.{◌≡◌}
-use Rattle.std.specs.Prelude.{string_bytes}
-use Rattle.chr_base.specs.Programs.{declarations, rules_of}
-use Rattle.chr_report.specs.working.Services.{held, served, IsBetweenLines}
-use Rattle.chr_report.specs.Lines.{lines}
-use Rattle.chr_report.specs.working.LinesLeft.{lines_left}
+use Rattle.std.specs.Prelude.{Some, length}
+use Rattle.chr_report.specs.working.Continuing.{left_size, GoesOn}
 use Rattle.chr_report.specs.working.Requests.{IsAhead}
-use Rattle.chr_report.proofs.Continuing.{left_size, Continues}
+use Rattle.chr_report.specs.working.Services.{served}
 use Rattle.chr_report.proofs.answering.answer_lines.Given as goal
 
-abbrev pub invariant-loop-next : goal.invariant-loop-next
-invariant-loop-next g l = record {
-  program : l.service.world.accepted ≡ l.fn.service.world.accepted;
-  reached : IsBetweenLines l.service;
+abbrev pub invariant-loop-program : goal.invariant-loop-program
+invariant-loop-program g l = record {
   ahead : IsAhead (served l.fn.service) l.ahead;
-  answered : Continues (declarations (served l.fn.service)) (rules_of (served l.fn.service)) (lines l.fn.input) (held l.fn.service) (string_bytes l.fn.out) (lines_left l.next) (held l.service) (string_bytes l.out);
+  answered : GoesOn l.fn.input (record { service = l.fn.service; out = l.fn.out; left = Some (length l.fn.input) }) l.at;
 }
 
-abbrev pub decreases-loop-next : goal.decreases-loop-next
-decreases-loop-next g l = left_size l.next
+abbrev pub decreases-loop-program : goal.decreases-loop-program
+decreases-loop-program g l = left_size l.at.left

@@ -1,4 +1,4 @@
-use Rattle.chr_report.proofs.Continuing.{left_size}
+use Rattle.chr_report.proofs.Continuing.{slice_size}
 use Rattle.chr_report.proofs.Cutting.{Cut}
 use Rattle.chr_report.proofs.input.split.Given as goal
 
@@ -6,4 +6,4 @@ abbrev pub invariant-loop-next : goal.invariant-loop-next
 invariant-loop-next l = Cut l.input l.next
 
 abbrev pub decreases-loop-next : goal.decreases-loop-next
-decreases-loop-next l = left_size l.next
+decreases-loop-next l = slice_size l.next
