@@ -10,6 +10,7 @@ ghost use Rattle.chr_join.specs.Verdicts.{HasJoinableCasesBy};
 ghost use Rattle.chr_join.specs.working.Checking.{AreAhead, IsListerOf, IsNumberOf};
 
 use crate::lister::Lister;
+use crate::portions::worth_thread;
 use chr_overlaps::Overlap;
 use chr_weights::Weighed;
 use rayon::prelude::*;
@@ -103,7 +104,7 @@ fn numbers_of(
 {
     overlaps
         .par_iter()
-        .with_min_len(lister.least_piece())
+        .with_min_len(worth_thread(alloc, lister.least_piece()))
         .map(
             |overlap: &Overlap| -> Option<usize>
                 requires { IsOverlapOf (rules_in weighed.now) overlap.now

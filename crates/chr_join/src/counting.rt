@@ -4,6 +4,7 @@ ghost use Rattle.std.specs.List.{AllZip};
 ghost use Rattle.chr_types.specs.OrderTypes.{Rises};
 ghost use Rattle.chr_join.specs.working.Counting.{AreCounts, CountsValues, HasFewTypes, IsCountIfThere, IsCountOf};
 
+use crate::portions::worth_thread;
 use chr_overlaps::Unified;
 use chr_types::{Visit, visit_types};
 use rayon::prelude::*;
@@ -77,7 +78,7 @@ fn numbers_of(
 {
     guards
         .par_iter()
-        .with_min_len(1)
+        .with_min_len(worth_thread(alloc, 1))
         .map(
             |unified: &Unified| -> Option<usize>
                 requires { Rises constants.now × HasFewTypes constants.now unified.now }

@@ -16,6 +16,18 @@ pub(crate) const FEW_OVERLAPS: usize = 32;
 /// So many overlaps are worth a thread of their own, where their sorted cases are looked at.
 pub(crate) const LEAST_PIECE: usize = 8;
 
+/// So much address space has to be left for threads: each asks for a heap of its own.
+const HEAPS: usize = 256 << 20;
+
+/// So many items are worth a thread of their own, where so many are wanted. No number of them is where the system
+/// refuses the address space for heaps: each growth in a thread would ask it anew.
+pub(crate) fn worth_thread(alloc: Global, wanted: usize) -> usize {
+    match Vec::<u8>::with_capacity(alloc, HEAPS) {
+        Ok(_) => wanted,
+        Err(_) => usize::MAX,
+    }
+}
+
 /// Overlaps in order, all those of some first rules.
 #[derive(Drop)]
 pub(crate) struct Portion {

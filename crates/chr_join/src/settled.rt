@@ -18,7 +18,7 @@ ghost use Rattle.chr_join.specs.working.Portions.{AreOriginals, IsSettled};
 
 use crate::copies::{is_copy, originals};
 use crate::once::accepted_are_confluent;
-use crate::portions::{LEAST_PIECE, alone_from, portion_from};
+use crate::portions::{LEAST_PIECE, alone_from, portion_from, worth_thread};
 use crate::sorted::{check_combinations, sorts_at};
 use chr_confluence::laws::peak;
 use chr_kinds::{Sorting, class_sorts, finest_sorts, has_more_combinations, visit_combinations};
@@ -146,15 +146,18 @@ fn many_settled(
     requires originals { AreOriginals (rules_in weighed.now) originals.now }
     ensures { OnTrue result (All (IsSettled (rules_in weighed.now)) overlaps.now) }
 {
-    overlaps.par_iter().with_min_len(LEAST_PIECE).all(
-        rt,
-        |overlap: &Overlap| -> bool
-            requires { IsOverlapOf (rules_in weighed.now) overlap.now
-                × AreFinest (rules_in weighed.now) (sorts_of sorting.now)
-                × AreOriginals (rules_in weighed.now) originals.now }
-            ensures { OnTrue result (IsSettled (rules_in weighed.entry.now) overlap.now) }
-        { is_settled(alloc, weighed, sorting, originals, overlap) },
-    )
+    overlaps
+        .par_iter()
+        .with_min_len(worth_thread(alloc, LEAST_PIECE))
+        .all(
+            rt,
+            |overlap: &Overlap| -> bool
+                requires { IsOverlapOf (rules_in weighed.now) overlap.now
+                    × AreFinest (rules_in weighed.now) (sorts_of sorting.now)
+                    × AreOriginals (rules_in weighed.now) originals.now }
+                ensures { OnTrue result (IsSettled (rules_in weighed.entry.now) overlap.now) }
+            { is_settled(alloc, weighed, sorting, originals, overlap) },
+        )
 }
 
 /// Whether these overlaps are settled. The first ones are looked at before threads are started.
