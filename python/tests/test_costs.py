@@ -30,6 +30,9 @@ RUNS, MOST_RUNS = 3, 15
 ROOMS = (*range(5_500, 8_000, 250), *range(8_000, 20_001, 3_000))
 """Limits of a run's address space in KB. Under the lesser ones most inputs are refused memory."""
 
+THREAD_ROOMS = (16_000, 66_000, 131_000, 200_000, 300_000)
+"""Limits under which the threads of a verdict get no heaps of their own, or not all of them do."""
+
 MORE_TIMES, MORE_SECONDS = 3.0, 0.1
 """Under each of them a run may take so many times what it takes without, and so many seconds."""
 
@@ -50,6 +53,9 @@ REACH = (
 UNEQUAL = ":- chr_constraint keep/2, item/2. keep(K,V) \\ item(K,W) <=> V =\\= W | true."
 RECTANGLE = ":- chr_constraint lim/2, pt/2. lim(X,Y) \\ pt(A,B) <=> A > X, B > Y | true."
 RULES = ":- chr_constraint k/2. " + " ".join(f"k({k},X) \\ k({k},X) <=> true." for k in range(64))
+CROSSED = ":- chr_constraint a/3. " + " ".join(
+    f"a(A,B,C) \\ a(A,D,E) <=> B < D, C > E, A > {k} | true." for k in range(4)
+)
 HALVES = 16
 
 Atoms = Iterable[tuple[str, tuple[int, ...]]]
@@ -275,6 +281,14 @@ class ShortMemory(unittest.TestCase):
                         self.assertEqual(fault, "")
         self.assertGreater(refused, 0)
         print(f"({refused} runs ended for want of memory)", end=" ", flush=True)
+
+    def test_verdicts_of_threads_under_limits_of_memory_end_soon(self) -> None:
+        words = ("check", "--wide")
+        free = min((run_of(words, CROSSED) for _ in range(RUNS)), key=lambda end: end.seconds)
+        self.assertEqual((free.status, free.output), (0, b"accepted: rules 4, cases 240\n"))
+        for room in THREAD_ROOMS:
+            with self.subTest(room=room):
+                self.assertEqual(self.fault(free, words, CROSSED, room), (0, ""))
 
 
 if __name__ == "__main__":

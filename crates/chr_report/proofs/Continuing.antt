@@ -12,7 +12,7 @@ use Rattle.chr_ops.specs.Operations.{Operations}
 use Rattle.chr_json.specs.Lines.{is_blank_line}
 use Rattle.chr_report.specs.Lines.{lines, without_return}
 use Rattle.chr_report.specs.declared.answering.Answering.{Answering}
-use Rattle.chr_report.specs.working.Continuing.{last_of, left_lines, Continues, GoesOn}
+use Rattle.chr_report.specs.working.Continuing.{last_bytes, left_lines, Continues, GoesOn}
 use Rattle.chr_report.specs.working.Services.{held, served, IsBetweenLines}
 use Rattle.chr_report.specs.Answers.{AnswersAll, AnswersFirst}
 use Rattle.chr_report.specs.working.Answered.{AnswersLine, AddsAnswer, AnswersRest}
@@ -56,7 +56,7 @@ goes_further text s t u h g = record {
 }
 
 -- what comes after the end of the first line of a text's last bytes are last bytes of it
-pub last_after : (text line rest : List ℕ) (left : ℕ) → last_of left text ≡ line ++ 10 ∷ rest → last_of (length rest) text ≡ rest
+pub last_after : (text line rest : List ℕ) (left : ℕ) → last_bytes left text ≡ line ++ 10 ∷ rest → last_bytes (length rest) text ≡ rest
 last_after text line rest left e =
     let k = length text - left in
     let before = (take k text ++ line) ++ 10 ∷ [] in
@@ -65,10 +65,10 @@ last_after text line rest left e =
     let size : length before ≡ length text - length rest = omega (arith, sizes) in
     subst (λ t. drop (length text - length rest) t ≡ rest) whole (drop_at before rest (length text - length rest) size)
 
-pub first_line_left : (text line rest : List ℕ) (left : ℕ) → last_of left text ≡ line ++ 10 ∷ rest → lines (last_of left text) ≡ line ∷ lines rest → left_lines text (Some left) ≡ line ∷ left_lines text (Some (length rest))
+pub first_line_left : (text line rest : List ℕ) (left : ℕ) → last_bytes left text ≡ line ++ 10 ∷ rest → lines (last_bytes left text) ≡ line ∷ lines rest → left_lines text (Some left) ≡ line ∷ left_lines text (Some (length rest))
 first_line_left text line rest left e h = h ∙ ap (λ r. line ∷ lines r) (sym (last_after text line rest left e))
 
-pub fewer_left : (text rest : List ℕ) (left : ℕ) → length rest < length (last_of left text) → length rest + 1 < left + 1
+pub fewer_left : (text rest : List ℕ) (left : ℕ) → length rest < length (last_bytes left text) → length rest + 1 < left + 1
 fewer_left text rest left h = let d = length-drop (length text - left) text in omega (arith, h, d)
 
 -- all bytes of a text are its last ones

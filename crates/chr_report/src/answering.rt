@@ -5,7 +5,7 @@ ghost use Rattle.std.specs.Thread.{IsSync};
 ghost use Rattle.chr_base.specs.Programs.{declarations, rules_of};
 ghost use Rattle.chr_report.specs.Lines.{lines, without_return};
 ghost use Rattle.chr_report.specs.working.Answered.{AddsReply, AnswersLine, AnswersRest};
-ghost use Rattle.chr_report.specs.working.Continuing.{last_of, left_lines, left_size, GoesOn};
+ghost use Rattle.chr_report.specs.working.Continuing.{last_bytes, left_lines, left_size, GoesOn};
 ghost use Rattle.chr_report.specs.working.Requests.{FitsProgram, IsAhead};
 ghost use Rattle.chr_report.specs.working.Services.{held, served, IsBetweenLines};
 ghost use Rattle.chr_report.specs.working.LinesLeft.{lines_left};
@@ -107,8 +107,8 @@ impl Answering {
 }
 
 /// The last bytes of a text, so many.
-fn last_of(text: &[u8], count: usize) -> &[u8]
-    ensures { result.now ≡ last_of count text.now }
+fn last_bytes(text: &[u8], count: usize) -> &[u8]
+    ensures { result.now ≡ last_bytes count text.now }
 {
     text.split_at(text.len().saturating_sub(count)).1
 }
@@ -118,7 +118,7 @@ fn next_of_last(text: &[u8], left: usize) -> (&[u8], Option<usize>)
     ensures lines { left_lines text.now (Some left) ≡ result.0.now ∷ left_lines text.now result.1 }
     ensures shorter { left_size result.1 < left + 1 }
 {
-    let (line, more) = next_line(last_of(text, left));
+    let (line, more) = next_line(last_bytes(text, left));
     match more {
         Some(rest) => (line, Some(rest.len())),
         None => (line, None),
@@ -191,7 +191,7 @@ fn answer_and_read<R: Threads + Wait + Sync>(
         let at = answer_heard(rt, alloc, input, at, ahead)?;
         return Ok((at, Ahead::none(alloc)));
     }
-    let after = last_of(input, ahead.left);
+    let after = last_bytes(input, ahead.left);
     let readers = at.service.sharing.workers.saturating_sub(1).max(1);
     let (later, answered) = join(
         rt,

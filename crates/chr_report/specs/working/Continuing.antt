@@ -16,13 +16,13 @@ pub record Continues (ds : List Declaration) (rules : List Rule) (all : List (Li
       → (whole : List ℕ) × AnswersAll ds rules all start whole × (before ++ whole ≡ out ++ tail)
 
 -- the last bytes of a text, so many
-abbrev pub last_of : ℕ → List ℕ → List ℕ
-last_of n text = drop (length text - n) text
+abbrev pub last_bytes : ℕ → List ℕ → List ℕ
+last_bytes n text = drop (length text - n) text
 
 -- the lines of a text's last bytes, none where there is no number of them
 abbrev pub left_lines : List ℕ → Option ℕ → List (List ℕ)
 left_lines text None = []
-left_lines text (Some n) = lines (last_of n text)
+left_lines text (Some n) = lines (last_bytes n text)
 
 -- some of the lines that were left of a text are answered
 pub record GoesOn (text : List ℕ) (s t : Answering) : Type 0 where
