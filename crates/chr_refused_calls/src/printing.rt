@@ -1,0 +1,106 @@
+//! States and answers are printed.
+use chr_base::bag::Bag;
+use chr_base::program::Program;
+use chr_join::{Done, Lease};
+use chr_ops::{Op, OpSet};
+use chr_replica::{Board, Refusal};
+use chr_testing::texts::atoms_text;
+use std::alloc::Global;
+
+/// More leases than are out at any board.
+const LEASES: u32 = 8;
+
+/// The text of a store. Of equal atoms one stands there, after their number.
+fn text_of(alloc: Global, program: &Program, bag: &Bag) -> Option<String> {
+    let mut text = String::new(alloc);
+    let mut equal: u64 = 1;
+    let mut later = bag.atoms().iter();
+    later.next();
+    for atom in bag.atoms() {
+        if later.next() == Some(atom) {
+            equal = equal.saturating_add(1);
+            continue;
+        }
+        let atom = atoms_text(alloc, program, &[atom.copy()]).ok()?;
+        let comma = if text.is_empty() { "" } else { ", " };
+        let more = match equal {
+            1 => format!(in alloc; "{comma}{atom}"),
+            _ => format!(in alloc; "{comma}{equal} times {atom}"),
+        };
+        text.push_str(&more.ok()?).ok()?;
+        equal = 1;
+    }
+    Some(text)
+}
+
+/// A store, under what it is.
+pub fn print_bag(rt: &impl Print, alloc: Global, program: &Program, what: &str, bag: &Bag) {
+    if let Some(text) = text_of(alloc, program, bag) {
+        let _ = println!(rt; "{what}: {text}");
+    }
+}
+
+pub fn print_lease(rt: &impl Print, alloc: Global, program: &Program, lease: &Lease) {
+    if let Some(text) = text_of(alloc, program, &lease.part) {
+        let _ = println!(rt; "lease {}: {text}", lease.number);
+    }
+}
+
+/// What came of a lease.
+pub fn print_done(rt: &impl Print, alloc: Global, program: &Program, done: &Done) {
+    let _ = println!(rt; "done {}", done.number());
+    print_bag(rt, alloc, program, "from", done.part());
+    print_bag(rt, alloc, program, "to", done.result());
+}
+
+pub fn print_operation(rt: &impl Print, alloc: Global, program: &Program, op: &Op) {
+    let _ = println!(rt; "operation {}/{}", op.id().origin, op.id().number);
+    print_bag(rt, alloc, program, "of", op.bag());
+}
+
+/// All operations of a set, and how many atoms they tell.
+pub fn print_set(rt: &impl Print, alloc: Global, program: &Program, set: &OpSet) -> Option<()> {
+    let _ = println!(rt; "told {}", set.told());
+    let none = OpSet::new(alloc).summary(alloc).ok()?;
+    for op in &set.lacks(alloc, &none).ok()? {
+        print_operation(rt, alloc, program, op);
+    }
+    Some(())
+}
+
+/// The least lease that is out, which comes back.
+fn print_least(rt: &impl Print, alloc: Global, board: &mut Board, number: u64) {
+    if let Ok(lease) = board.again(alloc, number) {
+        print_lease(rt, alloc, board.program().program(), &lease);
+    }
+    let _ = board.recall(number);
+}
+
+/// All leases that are out, which come back.
+pub fn print_leases(rt: &impl Print, alloc: Global, board: &mut Board) {
+    for _ in 0..LEASES {
+        if let Some(number) = board.least_lease() {
+            print_least(rt, alloc, board, number);
+        }
+    }
+}
+
+/// All that a board holds: its operations, the leases that are out, and last its pool, as the next lease.
+pub fn print_board(rt: &impl Print, alloc: Global, board: &mut Board) {
+    print_set(rt, alloc, board.program().program(), board.ops());
+    let _ = board.take_parts(alloc, 1);
+    print_leases(rt, alloc, board);
+}
+
+/// The call is made next.
+pub fn call(rt: &impl Print) {
+    let _ = println!(rt; "call");
+}
+
+/// It was answered so.
+pub fn answer(rt: &impl Print, refusal: Option<Refusal>) {
+    let _ = match refusal {
+        None => println!(rt; "answer done"),
+        Some(refusal) => println!(rt; "answer refused {}", refusal.number()),
+    };
+}

@@ -1,0 +1,62 @@
+//! Calls of operation sets.
+use crate::printing::{answer, call, print_set};
+use chr_ops::{Op, OpId, OpSet};
+use chr_replica::Refusal;
+use chr_testing::atoms::bag_of_values;
+use chr_testing::texts::{MINIMUM, program_of};
+use std::alloc::Global;
+
+#[derive(Clone, Copy)]
+pub enum SetCall {
+    Add,
+    Join,
+}
+
+/// The operation of this origin and number, of `min` at these values.
+pub fn minima(alloc: Global, origin: u32, number: u64, values: &[i64]) -> Option<Op> {
+    Op::of(OpId { origin, number }, bag_of_values(alloc, values).ok()?)
+}
+
+/// The set gets an operation, where there is one.
+fn grow(set: &mut OpSet, op: Option<Op>) {
+    if let Some(op) = op {
+        let _ = set.add(op);
+    }
+}
+
+/// What the set holds before the call: nothing yet where one operation is added, so that there is no room for it.
+fn prepare(alloc: Global, set: &mut OpSet, made: SetCall) {
+    if let SetCall::Join = made {
+        grow(set, minima(alloc, 1, 1, &[5, 3]));
+        grow(set, minima(alloc, 2, 7, &[9]));
+    }
+}
+
+fn add(rt: &impl Print, alloc: Global, set: &mut OpSet) -> Option<()> {
+    let op = minima(alloc, 3, 1, &[8, 2])?;
+    call(rt);
+    answer(rt, set.add(op).err().map(Refusal::from));
+    Some(())
+}
+
+fn join(rt: &impl Print, alloc: Global, set: &mut OpSet) -> Option<()> {
+    let mut ops = Vec::new(alloc);
+    ops.push(minima(alloc, 1, 2, &[1])?).ok()?;
+    ops.push(minima(alloc, 2, 7, &[9])?).ok()?;
+    ops.push(minima(alloc, 3, 1, &[8, 2])?).ok()?;
+    call(rt);
+    answer(rt, set.join(alloc, &ops).err().map(Refusal::from));
+    Some(())
+}
+
+pub fn make(rt: &impl Print, alloc: Global, made: SetCall) -> Option<()> {
+    let program = program_of(alloc, MINIMUM)?;
+    let mut set = OpSet::new(alloc);
+    prepare(alloc, &mut set, made);
+    print_set(rt, alloc, &program, &set);
+    match made {
+        SetCall::Add => add(rt, alloc, &mut set),
+        SetCall::Join => join(rt, alloc, &mut set),
+    };
+    print_set(rt, alloc, &program, &set)
+}
