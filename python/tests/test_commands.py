@@ -59,11 +59,11 @@ ROWS = (
         ":- chr_constraint a/1, b/1.\npair @ a(X), a(Y) <=> X < Y | b(X).\n---\n",
         1,
         """refused 21: one store comes to two ends
-  rule 1: pair @ a(V1), a(V2) <=> V1 < V2 | b(V1).
-  rule 1, again: pair @ a(W1), a(W2) <=> W1 < W2 | b(W1).
+  rule 1: pair @ a(X), a(Y) <=> X < Y | b(X).
+  rule 1, again: pair @ a(X'), a(Y') <=> X' < Y' | b(X').
 One atom stands for two heads:
-  head 2, `a(V2)`, of rule 1 and head 1, `a(W1)`, of rule 1, again
-Values with which they disagree: V1 = 0, V2 = 1, W1 = 1, W2 = 2
+  head 2, `a(Y)`, of rule 1 and head 1, `a(X')`, of rule 1, again
+Values with which they disagree: X = 0, Y = 1, X' = 1, Y' = 2
 The store: a(0), a(1), a(2)
 One way:
   1. rule 1 (pair) takes a(0), a(1), and leaves a(2), b(0)

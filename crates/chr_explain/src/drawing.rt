@@ -2,8 +2,9 @@
 
 use crate::diagnosis::{Census, Diagnosis, Peak};
 use crate::limits::MAX_DRAWN_BYTES;
+use crate::names::Names;
 use crate::pairs::{ToldPair, pairs_of};
-use crate::rule_text::{FIRST_LETTER, told_rule};
+use crate::rule_text::{NamedProgram, told_rule};
 use crate::telling::told_text;
 use chr_base::bag::Bag;
 use chr_base::derivation::Derivation;
@@ -90,14 +91,14 @@ fn push_ends(out: &mut String, name: &str, number: usize) -> Result<(), AllocErr
 fn push_edge(
     alloc: Global,
     out: &mut String,
-    program: &Program,
+    source: NamedProgram<'_>,
     side: Side<'_>,
     number: usize,
 ) -> Result<(), AllocError> {
     push_ends(out, side.name, number)?;
     let mut text = String::new(alloc);
     if let Some(step) = side.derivation.steps.get(number) {
-        if let Some(rule) = told_rule(program, step.rule as usize, FIRST_LETTER) {
+        if let Some(rule) = told_rule(source, step.rule as usize) {
             rule.push_step(alloc, &mut text, &step.heads)?;
         }
     }
@@ -109,7 +110,7 @@ fn push_edge(
 fn push_side(
     alloc: Global,
     out: &mut String,
-    program: &Program,
+    source: NamedProgram<'_>,
     side: Side<'_>,
 ) -> Result<(), AllocError> {
     let is_whole = side.stores.len() == side.derivation.steps.len();
@@ -119,17 +120,17 @@ fn push_side(
         push_store_node(
             alloc,
             out,
-            program,
+            source.program,
             store,
             is_whole && next == side.stores.len(),
         )?;
-        push_edge(alloc, out, program, side, number)?;
+        push_edge(alloc, out, source, side, number)?;
     }
     if is_whole {
         return Ok(());
     }
     write!(out, "  {}end ", side.name)?;
-    push_store_node(alloc, out, program, side.end, true)?;
+    push_store_node(alloc, out, source.program, side.end, true)?;
     Ok(write!(
         out,
         "  {}{} -> {}end [label=\"more steps\"];\n",
@@ -140,8 +141,14 @@ fn push_side(
 }
 
 /// Draws a case whose sides end in different stores.
-fn push_peak(alloc: Global, out: &mut String, peak: &Peak) -> Result<(), AllocError> {
+fn push_peak(
+    alloc: Global,
+    out: &mut String,
+    names: &Names,
+    peak: &Peak,
+) -> Result<(), AllocError> {
     let program = peak.weighed.program();
+    let source = NamedProgram { program, names };
     let failure = &peak.failure;
     out.push_str("digraph peak {\n  node [shape=box];\n  store ")?;
     push_store_node(alloc, out, program, &failure.left.start, false)?;
@@ -151,21 +158,21 @@ fn push_peak(alloc: Global, out: &mut String, peak: &Peak) -> Result<(), AllocEr
         stores: &peak.left,
         end: &failure.left_end,
     };
-    push_side(alloc, out, program, left)?;
+    push_side(alloc, out, source, left)?;
     let right = Side {
         name: "right",
         derivation: &failure.right,
         stores: &peak.right,
         end: &failure.right_end,
     };
-    push_side(alloc, out, program, right)?;
+    push_side(alloc, out, source, right)?;
     out.push_str("}\n")
 }
 
 /// Adds a node for each rule.
-fn push_rules(alloc: Global, out: &mut String, program: &Program) -> Result<(), AllocError> {
-    for number in 1..program.rules().len() + 1 {
-        if let Some(rule) = told_rule(program, number, FIRST_LETTER) {
+fn push_rules(alloc: Global, out: &mut String, source: NamedProgram<'_>) -> Result<(), AllocError> {
+    for number in 1..source.program.rules().len() + 1 {
+        if let Some(rule) = told_rule(source, number) {
             let mut text = String::new(alloc);
             rule.push_clause(alloc, &mut text)?;
             write!(out, "  rule{number} ")?;
@@ -189,9 +196,15 @@ fn push_pair(out: &mut String, pair: &ToldPair) -> Result<(), AllocError> {
 }
 
 /// Draws the rules of an accepted program, and their overlaps.
-fn push_census(alloc: Global, out: &mut String, census: &Census) -> Result<(), AllocError> {
+fn push_census(
+    alloc: Global,
+    out: &mut String,
+    names: &Names,
+    census: &Census,
+) -> Result<(), AllocError> {
+    let program = census.accepted.program();
     out.push_str("graph overlaps {\n  node [shape=box];\n")?;
-    push_rules(alloc, out, census.accepted.program())?;
+    push_rules(alloc, out, NamedProgram { program, names })?;
     for pair in &pairs_of(alloc, &census.counts)? {
         push_pair(out, pair)?;
     }
@@ -224,8 +237,14 @@ fn push_drawing(
     diagnosis: &Diagnosis,
 ) -> Result<(), AllocError> {
     match diagnosis {
-        Diagnosis::Fails(peak) => push_peak(alloc, out, peak),
-        Diagnosis::Accepted(census) => push_census(alloc, out, census),
+        Diagnosis::Fails(peak) => {
+            let names = Names::of(alloc, text)?;
+            push_peak(alloc, out, &names, peak)
+        }
+        Diagnosis::Accepted(census) => {
+            let names = Names::of(alloc, text)?;
+            push_census(alloc, out, &names, census)
+        }
         _ => push_told(alloc, out, text, diagnosis),
     }
 }

@@ -12,6 +12,7 @@ mod finding;
 mod foreign;
 mod limits;
 mod line;
+mod names;
 mod overlap_text;
 mod pairs;
 mod place;

@@ -1,7 +1,6 @@
 //! Overlaps of two rules as they are told.
 
-use crate::rule_text::{FIRST_LETTER, SECOND_LETTER, ToldRule, told_rule};
-use chr_base::program::Program;
+use crate::rule_text::{NamedProgram, ToldRule, told_rule};
 use chr_base::term::{Pattern, Term};
 use chr_overlaps::Overlap;
 use std::alloc::{AllocError, Global};
@@ -17,13 +16,15 @@ pub(crate) struct ToldOverlap<'a> {
 
 /// An overlap of rules of the program. None where it has no such rules.
 pub(crate) fn told_overlap<'a>(
-    program: &'a Program,
+    source: NamedProgram<'a>,
     overlap: &'a Overlap,
 ) -> Option<ToldOverlap<'a>> {
+    let first = told_rule(source, overlap.first as usize)?;
+    let second = told_rule(source, overlap.second as usize)?;
     Some(ToldOverlap {
         overlap,
-        first: told_rule(program, overlap.first as usize, FIRST_LETTER)?,
-        second: told_rule(program, overlap.second as usize, SECOND_LETTER)?,
+        first,
+        second: second.behind(first),
     })
 }
 

@@ -1,5 +1,6 @@
 //! Rules of a program as they are told.
 
+use crate::names::{ANONYMOUS, Names, RuleNames};
 use chr_base::atom::Atom;
 use chr_base::bag::Bag;
 use chr_base::program::Program;
@@ -11,33 +12,33 @@ use std::alloc::{AllocError, Global};
 use std::fmt;
 use std::fmt::Write;
 
-/// The letter of the variables of a rule, and of the first of two.
-pub(crate) const FIRST_LETTER: char = 'V';
+/// A program, with the names that its text gives the variables of its rules.
+#[derive(Clone, Copy)]
+pub(crate) struct NamedProgram<'a> {
+    pub program: &'a Program,
+    pub names: &'a Names,
+}
 
-/// The letter of the variables of the second of two rules.
-pub(crate) const SECOND_LETTER: char = 'W';
-
-/// A rule of a program, with the letter of its variables.
+/// A rule of a program, with the names of its variables.
 #[derive(Clone, Copy)]
 pub(crate) struct ToldRule<'a> {
     pub program: &'a Program,
     pub rule: &'a Rule,
     pub number: usize,
-    pub letter: char,
+    names: Option<&'a RuleNames>,
+    /// The names of the rule that is told before it: the same names get a prime here.
+    primed: Option<&'a RuleNames>,
 }
 
 /// The rule of this number, counted from 1.
-pub(crate) fn told_rule<'a>(
-    program: &'a Program,
-    number: usize,
-    letter: char,
-) -> Option<ToldRule<'a>> {
-    let rule = program.rules().get(number.saturating_sub(1))?;
+pub(crate) fn told_rule<'a>(source: NamedProgram<'a>, number: usize) -> Option<ToldRule<'a>> {
+    let rule = source.program.rules().get(number.saturating_sub(1))?;
     Some(ToldRule {
-        program,
+        program: source.program,
         rule,
         number,
-        letter,
+        names: source.names.of_rule(number),
+        primed: None,
     })
 }
 
@@ -51,28 +52,74 @@ impl fmt::Display for ToldRule<'_> {
     }
 }
 
-/// Adds the text with this letter for that of each variable. Names begin with small letters, so that a capital at the
-/// beginning of a word is a variable's.
-fn push_with_letter(out: &mut String, text: &str, letter: char) -> Result<(), AllocError> {
-    let mut in_word = false;
-    for c in text.chars() {
-        out.push(if c == FIRST_LETTER && !in_word {
-            letter
-        } else {
-            c
-        })?;
-        in_word = c == '_' || c.is_ascii_alphanumeric();
+/// The number of the variable that this word of a canonical text is. Names of symbols begin with small letters.
+fn variable_in(word: &str) -> Option<usize> {
+    let digits = word.strip_prefix("V")?;
+    digits.parse::<usize>().ok()
+}
+
+impl<'a> ToldRule<'a> {
+    /// The rule as it is told behind another one, whose names get a prime here.
+    pub(crate) fn behind(self, other: ToldRule<'a>) -> ToldRule<'a> {
+        ToldRule {
+            primed: other.names,
+            ..self
+        }
     }
-    Ok(())
+
+    /// The name of the variable of this number.
+    fn name_of(&self, variable: usize) -> Option<&'a str> {
+        self.names?.name_of(variable)
+    }
+
+    /// What stands behind this name of a variable.
+    fn prime_of(&self, name: &str) -> &'static str {
+        match self.primed {
+            Some(names) if name != ANONYMOUS && names.has(name) => "'",
+            _ => "",
+        }
+    }
 }
 
 impl ToldRule<'_> {
+    /// Adds the name of the variable of this number.
+    fn push_variable(&self, out: &mut String, variable: usize) -> Result<(), AllocError> {
+        let Some(name) = self.name_of(variable) else {
+            return Ok(write!(out, "V{variable}")?);
+        };
+        out.push_str(name)?;
+        out.push_str(self.prime_of(name))
+    }
+
+    /// Adds a word of a canonical text: of a variable its name.
+    fn push_word(&self, out: &mut String, word: &str) -> Result<(), AllocError> {
+        match variable_in(word) {
+            Some(variable) => self.push_variable(out, variable),
+            None => out.push_str(word),
+        }
+    }
+
+    /// Adds a canonical text of the rule with the names of its variables.
+    fn push_named(&self, alloc: Global, out: &mut String, text: &str) -> Result<(), AllocError> {
+        let mut word = String::new(alloc);
+        for c in text.chars() {
+            if c == '_' || c.is_ascii_alphanumeric() {
+                word.push(c)?;
+            } else {
+                self.push_word(out, word.as_str())?;
+                out.push(c)?;
+                word = String::new(alloc);
+            }
+        }
+        self.push_word(out, word.as_str())
+    }
+
     /// Adds the rule as a clause.
     pub(crate) fn push_clause(&self, alloc: Global, out: &mut String) -> Result<(), AllocError> {
         let mut text = String::new(alloc);
         push_rule(&mut text, self.program, self.rule)?;
         text.push_str(".")?;
-        push_with_letter(out, text.as_str(), self.letter)
+        self.push_named(alloc, out, text.as_str())
     }
 
     /// Adds an atom of the rule.
@@ -84,7 +131,7 @@ impl ToldRule<'_> {
     ) -> Result<(), AllocError> {
         let mut text = String::new(alloc);
         push_pattern(&mut text, self.program, pattern)?;
-        push_with_letter(out, text.as_str(), self.letter)
+        self.push_named(alloc, out, text.as_str())
     }
 
     /// Adds the head at a place, counted from 1, with that number.
@@ -104,6 +151,17 @@ impl ToldRule<'_> {
         Ok(())
     }
 
+    /// Adds the value of the variable of this number, where it has a name.
+    fn push_value(&self, out: &mut String, variable: u8, value: i64) -> Result<(), AllocError> {
+        let variable = usize::from(variable);
+        if self.name_of(variable) == Some(ANONYMOUS) {
+            return Ok(());
+        }
+        out.push_str(", ")?;
+        self.push_variable(out, variable)?;
+        Ok(write!(out, " = {value}")?)
+    }
+
     /// Adds the values of the variables of one head. They are numbered by first occurrence, so that the next number is a
     /// variable's that stands here first.
     fn push_head_values(
@@ -115,14 +173,14 @@ impl ToldRule<'_> {
     ) -> Result<(), AllocError> {
         for (term, value) in pattern.args.iter().zip(atom.args.iter()) {
             if *term == Term::Variable(*next) {
-                write!(out, ", {}{} = {value}", self.letter, *next)?;
+                self.push_value(out, *next, *value)?;
                 *next = u8::saturating_add(*next, 1);
             }
         }
         Ok(())
     }
 
-    /// Adds the values of all variables at an instance with these heads, each after a comma.
+    /// Adds the values of all variables with names at an instance with these heads, each after a comma.
     pub(crate) fn push_values(&self, out: &mut String, heads: &[Atom]) -> Result<(), AllocError> {
         let mut next = 1;
         for (place, atom) in heads.iter().enumerate() {

@@ -3,9 +3,10 @@
 use crate::diagnosis::{Census, Crowd, Diagnosis, Peak, Unlowered};
 use crate::fault_text::faults_told;
 use crate::limits::MAX_TOLD_PAIRS;
+use crate::names::Names;
 use crate::overlap_text::{ToldOverlap, told_overlap};
 use crate::pairs::{ToldPair, pairs_of};
-use crate::rule_text::{FIRST_LETTER, ToldRule, told_rule};
+use crate::rule_text::{NamedProgram, ToldRule, told_rule};
 use crate::weighing_text::{push_cycle, push_found};
 use crate::weight_text::{can_lower, push_lowering, push_weights};
 use chr_base::bag::Bag;
@@ -20,10 +21,19 @@ use std::alloc::{AllocError, Global};
 use std::fmt::Write;
 
 /// Tells of a rule that does not lower the weight.
-fn push_unlowered(alloc: Global, out: &mut String, told: &Unlowered) -> Result<(), AllocError> {
+fn push_unlowered(
+    alloc: Global,
+    out: &mut String,
+    names: &Names,
+    told: &Unlowered,
+) -> Result<(), AllocError> {
     let number = told.fault.rule;
+    let source = NamedProgram {
+        program: &told.program,
+        names,
+    };
     write!(out, "refused 20: rule {number} does not lower the weight\n")?;
-    let Some(rule) = told_rule(&told.program, number, FIRST_LETTER) else {
+    let Some(rule) = told_rule(source, number) else {
         return Ok(());
     };
     out.push_str("  ")?;
@@ -40,13 +50,14 @@ fn push_unlowered(alloc: Global, out: &mut String, told: &Unlowered) -> Result<(
     out.push_str(
         "\nThe removed heads have to weigh more than the body, so that the rules come to an end.\n",
     )?;
-    push_remedy(alloc, out, rule, told)
+    push_remedy(alloc, out, source, rule, told)
 }
 
 /// Adds what would lower the weight.
 fn push_remedy(
     alloc: Global,
     out: &mut String,
+    source: NamedProgram<'_>,
     rule: ToldRule<'_>,
     told: &Unlowered,
 ) -> Result<(), AllocError> {
@@ -57,7 +68,7 @@ fn push_remedy(
     }
     match &told.weighing {
         Weighing::Weights(weighed) => push_found(out, weighed.program()),
-        Weighing::Cycle(cycle) => push_cycle(alloc, out, &told.program, cycle),
+        Weighing::Cycle(cycle) => push_cycle(alloc, out, source, cycle),
         Weighing::Unknown => push_unknown(out, rule, &told.fault),
     }
 }
@@ -82,18 +93,18 @@ fn push_unknown(
 fn push_side(
     alloc: Global,
     out: &mut String,
-    program: &Program,
+    source: NamedProgram<'_>,
     side: &Derivation,
     stores: &[Bag],
     end: &Bag,
 ) -> Result<(), AllocError> {
     for (i, (step, store)) in side.steps.iter().zip(stores.iter()).enumerate() {
         write!(out, "  {}. ", usize::saturating_add(i, 1))?;
-        if let Some(rule) = told_rule(program, step.rule as usize, FIRST_LETTER) {
+        if let Some(rule) = told_rule(source, step.rule as usize) {
             rule.push_step(alloc, out, &step.heads)?;
         }
         out.push_str(", and leaves ")?;
-        push_store(alloc, out, program, store)?;
+        push_store(alloc, out, source.program, store)?;
         out.push_str("\n")?;
     }
     let more = side.steps.len().saturating_sub(stores.len());
@@ -101,7 +112,7 @@ fn push_side(
         write!(out, "  and {more} steps more\n")?;
     }
     out.push_str("  end: ")?;
-    push_store(alloc, out, program, end)?;
+    push_store(alloc, out, source.program, end)?;
     out.push_str("\n")
 }
 
@@ -126,10 +137,18 @@ fn push_values(
 }
 
 /// Tells of a case whose sides end in different stores.
-fn push_peak(alloc: Global, out: &mut String, peak: &Peak) -> Result<(), AllocError> {
+fn push_peak(
+    alloc: Global,
+    out: &mut String,
+    names: &Names,
+    peak: &Peak,
+) -> Result<(), AllocError> {
     let failure = &peak.failure;
-    let program = peak.weighed.program();
-    let Some(told) = told_overlap(program, &failure.overlap) else {
+    let source = NamedProgram {
+        program: peak.weighed.program(),
+        names,
+    };
+    let Some(told) = told_overlap(source, &failure.overlap) else {
         return Ok(());
     };
     out.push_str("refused 21: one store comes to two ends\n")?;
@@ -137,12 +156,12 @@ fn push_peak(alloc: Global, out: &mut String, peak: &Peak) -> Result<(), AllocEr
     told.push_matched(alloc, out)?;
     push_values(alloc, out, told, peak)?;
     out.push_str("The store: ")?;
-    push_store(alloc, out, program, &failure.left.start)?;
+    push_store(alloc, out, source.program, &failure.left.start)?;
     out.push_str("\nOne way:\n")?;
     push_side(
         alloc,
         out,
-        program,
+        source,
         &failure.left,
         &peak.left,
         &failure.left_end,
@@ -151,7 +170,7 @@ fn push_peak(alloc: Global, out: &mut String, peak: &Peak) -> Result<(), AllocEr
     push_side(
         alloc,
         out,
-        program,
+        source,
         &failure.right,
         &peak.right,
         &failure.right_end,
@@ -163,11 +182,16 @@ fn push_peak(alloc: Global, out: &mut String, peak: &Peak) -> Result<(), AllocEr
 }
 
 /// Tells of an overlap with too many order types.
-fn push_crowd(alloc: Global, out: &mut String, crowd: &Crowd) -> Result<(), AllocError> {
+fn push_crowd(
+    alloc: Global,
+    out: &mut String,
+    names: &Names,
+    crowd: &Crowd,
+) -> Result<(), AllocError> {
     let program = crowd.weighed.program();
     let overlap = &crowd.too_many.overlap;
     let classes = crowd.too_many.classes;
-    let Some(told) = told_overlap(program, overlap) else {
+    let Some(told) = told_overlap(NamedProgram { program, names }, overlap) else {
         return Ok(());
     };
     write!(
@@ -251,22 +275,29 @@ fn push_pair(out: &mut String, pair: &ToldPair) -> Result<(), AllocError> {
 fn push_program(
     alloc: Global,
     out: &mut String,
+    names: &Names,
     diagnosis: &Diagnosis,
     all: bool,
 ) -> Result<(), AllocError> {
     match diagnosis {
         Diagnosis::Text(_) => Ok(()),
-        Diagnosis::NotLowered(told) => push_unlowered(alloc, out, told),
-        Diagnosis::Fails(peak) => push_peak(alloc, out, peak),
-        Diagnosis::TooManyTypes(crowd) => push_crowd(alloc, out, crowd),
+        Diagnosis::NotLowered(told) => push_unlowered(alloc, out, names, told),
+        Diagnosis::Fails(peak) => push_peak(alloc, out, names, peak),
+        Diagnosis::TooManyTypes(crowd) => push_crowd(alloc, out, names, crowd),
         Diagnosis::Accepted(census) => push_census(alloc, out, census, all),
     }
 }
 
-/// What is to be told of a program, of all pairs of rules where `all`.
-fn program_told(alloc: Global, diagnosis: &Diagnosis, all: bool) -> Result<String, AllocError> {
+/// What is to be told of the program of a text, of all pairs of rules where `all`.
+fn program_told(
+    alloc: Global,
+    text: &[u8],
+    diagnosis: &Diagnosis,
+    all: bool,
+) -> Result<String, AllocError> {
+    let names = Names::of(alloc, text)?;
     let mut out = String::new(alloc);
-    push_program(alloc, &mut out, diagnosis, all)?;
+    push_program(alloc, &mut out, &names, diagnosis, all)?;
     Ok(out)
 }
 
@@ -279,6 +310,6 @@ pub(crate) fn told_text(
 ) -> Result<String, AllocError> {
     match diagnosis {
         Diagnosis::Text(faults) => faults_told(alloc, text, faults),
-        _ => program_told(alloc, diagnosis, all),
+        _ => program_told(alloc, text, diagnosis, all),
     }
 }

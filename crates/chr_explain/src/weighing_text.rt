@@ -1,6 +1,6 @@
 //! Weights of all symbols, and rules that show that there are none, as they are told.
 
-use crate::rule_text::{FIRST_LETTER, told_rule};
+use crate::rule_text::{NamedProgram, told_rule};
 use crate::weight_text::push_weight_clause;
 use chr_base::atom::SymbolId;
 use chr_base::program::Program;
@@ -46,11 +46,11 @@ fn push_times(out: &mut String, times: u64) -> Result<(), AllocError> {
 fn push_applied(
     alloc: Global,
     out: &mut String,
-    program: &Program,
+    source: NamedProgram<'_>,
     number: usize,
     times: u64,
 ) -> Result<(), AllocError> {
-    let Some(rule) = told_rule(program, number, FIRST_LETTER) else {
+    let Some(rule) = told_rule(source, number) else {
         return Ok(());
     };
     push_times(out, times)?;
@@ -63,7 +63,7 @@ fn push_applied(
 pub(crate) fn push_cycle(
     alloc: Global,
     out: &mut String,
-    program: &Program,
+    source: NamedProgram<'_>,
     cycle: &Cycle,
 ) -> Result<(), AllocError> {
     out.push_str(
@@ -71,7 +71,7 @@ pub(crate) fn push_cycle(
     )?;
     for (place, times) in cycle.times.iter().enumerate() {
         if *times != 0 {
-            push_applied(alloc, out, program, usize::saturating_add(place, 1), *times)?;
+            push_applied(alloc, out, source, usize::saturating_add(place, 1), *times)?;
         }
     }
     out.push_str("Remove more heads in one of them, or write a smaller body.\n")
