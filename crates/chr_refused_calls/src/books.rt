@@ -84,7 +84,12 @@ fn print_pool(rt: &impl Print, alloc: Global, book: &mut Book) -> Option<()> {
 /// The number of entries, and all that the board holds.
 fn print_book(rt: &impl Print, alloc: Global, book: &mut Book) {
     let _ = println!(rt; "entries {}", book.entries());
-    print_set(rt, alloc, book.board().program().program(), book.board().ops());
+    print_set(
+        rt,
+        alloc,
+        book.board().program().program(),
+        book.board().ops(),
+    );
     print_pool(rt, alloc, book);
 }
 
