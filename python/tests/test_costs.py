@@ -90,6 +90,28 @@ def doubled_keys(count: int) -> str:
     return shown(SAME, (("a", (key // 2,)) for key in range(count)))
 
 
+def unfolded(word: int, places: int) -> int:
+    """The word of which this one comes by folding its high bits down by so many places."""
+    found = word
+    for _ in range(64 // places):
+        found = word ^ (found >> places)
+    return found
+
+
+def chosen_keys(count: int) -> str:
+    """Keys that would all meet in one place of an index whose hash had no seed of its own in each process: by the
+    finalizer of SplitMix64, taken back, their low halves would be equal under the seed that stands in the sources."""
+    words = 2**64
+
+    def key(high: int) -> int:
+        once = unfolded(high << 32 | 12_345, 31) * pow(0x94D049BB133111EB, -1, words) % words
+        twice = unfolded(once, 27) * pow(0xBF58476D1CE4E5B9, -1, words) % words
+        value = unfolded(twice, 30) ^ 0x2545F4914F6CDD1D
+        return value - words if value >= words // 2 else value
+
+    return shown(SAME, (("a", (key(high),)) for high in range(count)))
+
+
 def routes(count: int) -> str:
     """The least of fifty under each of many keys."""
     return shown(ROUTES, (("p", (key // 50, key * 7919 % count)) for key in range(count)))
@@ -181,6 +203,7 @@ INPUTS = (
     Input(random_keys, 20_000),
     Input(keys_in_a_row, 20_000),
     Input(doubled_keys, 20_000),
+    Input(chosen_keys, 20_000),
     Input(routes, 20_000),
     Input(falling, 20_000),
     Input(links_of_one_node, 10_000),

@@ -1,5 +1,6 @@
 //! The index.
 ghost use Rattle.std.specs.Prelude.{◌≡◌, ℕ, ◌+◌, ◌-◌, ◌<◌, ◌≤◌, ◌^◌, ◌∷◌, ◌++◌, [], length, get_or, set, Some, None, OnOk, IfOk, IfSome, IfNone};
+ghost use Rattle.std.specs.Bool.{OnTrue};
 ghost use Rattle.chr_chains.specs.working.Chained.{IsChained};
 ghost use Rattle.chr_chains.specs.Rows.{HasHash};
 ghost use Rattle.chr_chains.specs.working.Entries.{slots_of, live_hashes, IsIndex};
@@ -118,16 +119,15 @@ impl Index {
         self.first_place(hash).checked_sub(1)
     }
 
-    /// The newest live row with this hash below a live row with it.
+    /// The newest live row with this hash below this row. It is near where the row lives and has the hash.
     pub fn next(&mut self, hash: u32, row: u32) -> Option<u32>
-        requires { HasHash self.old.rows hash row }
         ensures same { self.new ≡ self.old }
         ensures below { IfSome result (λ next. next < row) }
         ensures live { IfSome result (λ next. HasHash self.old.rows hash next) }
         ensures newest { IfSome result (λ next. (r : ℕ) → r < row → HasHash self.old.rows hash r → r ≤ next) }
         ensures none { IfNone result ((other : ℕ) → other < row → ¬ (HasHash self.old.rows hash other)) }
     {
-        self.next_place(hash, row).checked_sub(1)
+        self.place_below(hash, row).checked_sub(1)
     }
 
     /// The newest live row with this hash at this row or below it. The row itself may be dead, or past the last. It is
@@ -184,6 +184,29 @@ impl Index {
             hash,
             at,
         )
+    }
+
+    /// Whether a row lives and has this hash.
+    fn has(&self, hash: u32, row: u32) -> bool
+        ensures { OnTrue result (get_or self.now.rows row None ≡ Some hash) }
+    {
+        is_at(&self.hashes, row, hash) && self.alive[row as usize]
+    }
+
+    /// The same, below any row.
+    fn place_below(&mut self, hash: u32, row: u32) -> u32
+        ensures same { self.new ≡ self.old }
+        ensures within { result ≤ row }
+        ensures live { 0 < result → get_or self.old.rows (result - 1) None ≡ Some hash }
+        ensures none_between { (r : ℕ) → r < row → get_or self.old.rows r None ≡ Some hash → r < result }
+    {
+        if self.has(hash, row) {
+            return self.next_place(hash, row);
+        }
+        if row == 0 {
+            return 0;
+        }
+        self.place_at_or_below(hash, row - 1)
     }
 
     /// The same, at any row or below it.

@@ -8,7 +8,6 @@ use Rattle.std.proofs.lemmas.Option.{slice_get_read, slice_get-get_or, same_Some
 use Rattle.chr_base.specs.declared.atom.SymbolId.{SymbolId}
 use Rattle.chr_base.specs.declared.rule.Rule.{Rule}
 use Rattle.chr_base.specs.declared.term.Pattern.{Pattern}
-use Rattle.chr_base.specs.Rules.{heads_of}
 use Rattle.chr_plans.specs.declared.plan.Plan.{Plan}
 use Rattle.chr_plans.specs.Plans.{pattern_at}
 use Rattle.chr_plans.specs.Rows.{Columns}

@@ -1,5 +1,5 @@
 -- Instances among all rows of one table, each row active in turn.
-use Rattle.std.specs.Prelude.{Some, None, Option, ℤ, IsTrue, is_some, IfSome, IfNone}
+use Rattle.std.specs.Prelude.{Some, None, Option, IsTrue, is_some, IfSome, IfNone}
 use Rattle.std.proofs.Common.{◌≡◌, ℕ, zero, suc, ◌+◌, ◌<◌, List, [], ◌∷◌, length, get_or, set, refl, sym, ap, subst, ◌∙◌, arith, inl, inr, false}
 use Rattle.std.proofs.Math.ListN.{get_or-map}
 use Rattle.std.proofs.lemmas.Bool.{cases_lt}
@@ -16,24 +16,22 @@ use Rattle.chr_plans.specs.declared.plan.Lookup.{Lookup}
 use Rattle.chr_plans.specs.declared.plan.Partner.{Partner}
 use Rattle.chr_plans.specs.declared.rows.Seat.{Seat}
 use Rattle.chr_plans.specs.Plans.{IsPlan, IsKnown, AreKeys, AreTests, AreLimits, FitsTables, partners_of, places_of, columns_of}
-use Rattle.chr_plans.specs.Rows.{MayHaveKey}
 use Rattle.chr_plans.specs.Seats.{head, seat, no_seat, atom_in, IsSeated, IsOther, NoPartners}
 use Rattle.chr_actives.specs.Grids.{contents, rows_in, SitIn}
 use Rattle.chr_actives.proofs.Rows.{seated, count_contents, rows_leave}
 use Rattle.chr_columns.specs.working.Finding.{only_table, only_index, plain, ArePlain, Lives}
 use Rattle.chr_columns.proofs.Stored.{row_stays}
 
--- a row that is met by no columns
+-- a row of the one table lives
 pub lives_atom : (o : Option Atom) → IsTrue (is_some o) → (a : Atom) × (o ≡ Some a)
 lives_atom None h = absurd (cc)
 lives_atom (Some a) h = (a, refl)
 
-pub met_by_none : (rows : List (Option Atom)) (t i : ℕ) (key : List ℤ) (o : Option ℕ) → IsTrue (is_some (only_index t i)) → length key ≡ 0
-    → IfSome o (λ n. Lives rows n) → IfSome o (λ n. MayHaveKey (only_index t i) key (only_table rows t n))
-met_by_none rows t i key None is e h = h
-met_by_none rows (suc t) i key (Some n) is e h = absurd (cc)
-met_by_none rows zero i (x ∷ key) (Some n) is e h = absurd (omega (arith, e))
-met_by_none rows zero i [] (Some n) is e h = let w = lives_atom (get_or rows n None) h in (w.0, w.1, refl)
+pub lives_in_table : (rows : List (Option Atom)) (t i : ℕ) (o : Option ℕ) → IsTrue (is_some (only_index t i))
+    → IfSome o (λ n. Lives rows n) → IfSome o (λ n. IsTrue (is_some (only_table rows t n)))
+lives_in_table rows t i None is h = h
+lives_in_table rows (suc t) i (Some n) is h = absurd (cc)
+lives_in_table rows zero i (Some n) is h = h
 
 -- what lives is in the one table
 pub in_table : (rows : List (Option Atom)) (t n : ℕ) (a : Atom) → only_table rows t n ≡ Some a → t ≡ 0

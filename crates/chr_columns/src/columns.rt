@@ -19,6 +19,7 @@ use chr_base::bag::Bag;
 use chr_base::lists::push_copies;
 use chr_base::rule::Rule;
 use chr_plans::react::Standing;
+pub use chr_tables::hash::FIXED_SEED;
 use std::alloc::{AllocError, Global};
 use std::marker::Model;
 
@@ -53,17 +54,31 @@ impl Model for Columns {
 }
 
 impl Columns {
-    /// The empty one. It has copies of these rules: steps by them are what it is made for.
+    /// The empty one. It has copies of these rules: steps by them are what it is made for. Its keys are hashed under
+    /// `FIXED_SEED`.
     pub fn new(alloc: Global, rules: &[Rule]) -> Result<Columns, AllocError>
         ensures { IfOk result (λ c. c ≡ bag.empty) }
     {
-        let rested = rested_for(alloc, rules)?;
+        Columns::seeded(alloc, FIXED_SEED, rules)
+    }
+
+    /// The same, whose keys are hashed under this seed. No answer depends on it: who doesn't know it can't choose atoms
+    /// whose keys meet in one place.
+    pub fn seeded(alloc: Global, seed: u64, rules: &[Rule]) -> Result<Columns, AllocError>
+        ensures { IfOk result (λ c. c ≡ bag.empty) }
+    {
+        let rested = rested_for(alloc, seed, rules)?;
         Ok(Columns {
             rested,
             fresh: Vec::new(alloc),
             standing: None,
             found: Found::default(),
         })
+    }
+
+    /// The seed under which its keys are hashed.
+    pub fn seed(&self) -> u64 {
+        self.rested.seed
     }
 
     /// Puts all of these atoms in. Where memory is refused nothing changes.

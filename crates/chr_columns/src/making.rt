@@ -112,6 +112,8 @@ fn look_up(
 }
 
 /// The plan of a head place of the rule with this number, for which the tables get the indexes that it wants.
+// Not put into its caller, whose frame would hold the room that this one takes.
+#[inline(never)]
 fn plan_for(
     keys: &mut Vec<Keys>,
     groups: &[Group],
@@ -142,6 +144,8 @@ fn plan_for(
 }
 
 /// The plan of a head place of the rule with this number joins the group of its head.
+// Not put into its caller, whose frame would hold the room that this one takes.
+#[inline(never)]
 fn add_plan(
     keys: &mut Vec<Keys>,
     groups: &mut [Group],
@@ -234,30 +238,32 @@ fn copy_of(columns: &ArrayVec<usize, MAX_ARITY>) -> ArrayVec<usize, MAX_ARITY>
 }
 
 /// A table without rows, with these indexes.
-fn table_for(alloc: Global, keys: &Keys) -> Result<Table, AllocError>
+fn table_for(alloc: Global, seed: u64, keys: &Keys) -> Result<Table, AllocError>
     ensures rows { IfOk result (λ t. t.rows ≡ []) }
     ensures keys { IfOk result (λ t. t.keys ≡ lists_of keys.now) }
 {
     let mut table = Table::new(alloc);
     for way in &keys.ways {
-        table.add_index(alloc, copy_of(&way.columns), way.order)?;
+        table.add_index(alloc, seed, copy_of(&way.columns), way.order)?;
     }
     Ok(table)
 }
 
 /// Tables without rows, each with its indexes.
-fn tables_for(alloc: Global, keys: &[Keys]) -> Result<Tables, AllocError>
+fn tables_for(alloc: Global, seed: u64, keys: &[Keys]) -> Result<Tables, AllocError>
     ensures rows { IfOk result (λ ts. (t n : ℕ) → rows_of ts.tables.items t n ≡ None) }
     ensures keys { IfOk result (λ ts. map (λ t. t.keys) ts.tables.items ≡ map lists_of keys.now) }
 {
     let mut tables = Vec::new(alloc);
     for keys in keys {
-        tables.push(table_for(alloc, keys)?)?;
+        tables.push(table_for(alloc, seed, keys)?)?;
     }
     Ok(Tables { tables })
 }
 
 /// Copies of these rules.
+// Not put into its caller, whose frame would hold the room that this one takes.
+#[inline(never)]
 fn copies_of(alloc: Global, rules: &[Rule]) -> Result<Vec<Rule>, AllocError>
     ensures { IfOk result (λ copies. copies.items ≡ rules.now) }
 {
@@ -268,9 +274,9 @@ fn copies_of(alloc: Global, rules: &[Rule]) -> Result<Vec<Rule>, AllocError>
     Ok(copies)
 }
 
-/// No atoms, under copies of these rules, with the plans of their head places and the indexes that these want. It is
-/// refused where memory is, or where there would be `MAX_TABLES` tables.
-pub(crate) fn rested_for(alloc: Global, rules: &[Rule]) -> Result<Rested, AllocError>
+/// No atoms, under copies of these rules, with the plans of their head places and the indexes that these want, whose keys
+/// are hashed under the seed. It is refused where memory is, or where there would be `MAX_TABLES` tables.
+pub(crate) fn rested_for(alloc: Global, seed: u64, rules: &[Rule]) -> Result<Rested, AllocError>
     ensures rested { IfOk result IsRested }
     ensures rules { IfOk result (λ r. r.rules.items ≡ rules.now) }
     ensures empty { IfOk result (λ r. stored r ≡ empty) }
@@ -283,8 +289,9 @@ pub(crate) fn rested_for(alloc: Global, rules: &[Rule]) -> Result<Rested, AllocE
     }
     let mut keys = no_keys(alloc, count)?;
     add_all_plans(&mut keys, &mut groups, &rules)?;
-    let tables = tables_for(alloc, &keys)?;
+    let tables = tables_for(alloc, seed, &keys)?;
     Ok(Rested {
+        seed,
         rules,
         groups,
         tables,

@@ -17,9 +17,11 @@ use chr_plans::rows::Seat;
 use chr_tables::tables::Tables;
 use std::alloc::AllocError;
 
-/// Rules, with the plans of their head places, and atoms that are at rest under them.
+/// Rules, with the plans of their head places, and atoms that are at rest under them. Tables hash their keys under the
+/// seed.
 #[derive(Drop)]
 pub(crate) struct Rested {
+    pub(crate) seed: u64,
     pub(crate) rules: Vec<Rule>,
     pub(crate) groups: Vec<Group>,
     pub(crate) tables: Tables,

@@ -26,7 +26,7 @@ fn start_over(rested: &mut Rested, fresh: &mut Vec<Atom>, rules: &[Rule]) -> Res
     ensures same { stored rested.new ⊕ store_of fresh.new.items ≡ stored rested.old ⊕ store_of fresh.old.items }
     ensures rules { OnOk result (map parts_of rested.new.rules.items ≡ map parts_of rules.now) }
 {
-    let empty = rested_for(*fresh.allocator(), rules)?;
+    let empty = rested_for(*fresh.allocator(), rested.seed, rules)?;
     push_live(fresh, &rested.tables.tables)?;
     *rested = empty;
     Ok(())

@@ -15,17 +15,19 @@ use crate::once::accepted_are_confluent;
 use crate::parts::{rested, stepped};
 use chr_base::derivation::Step;
 use chr_base::program::Program;
+use chr_columns::columns::FIXED_SEED;
 use chr_weights::Weighed;
 use std::alloc::{AllocFailed, Global};
 use std::sync::Arc;
 
 /// A program that lowers, and of whose overlaps no case fails. So it is confluent: a store of 64-bit values has one
-/// normal form, however the rules are applied.
+/// normal form, however the rules are applied. Its stores hash the keys of their atoms under a seed.
 #[derive(Drop)]
 pub struct Accepted {
     weighed: Arc<Weighed>,
     coverage: Coverage,
     cases: u64,
+    seed: u64,
     ghost accepted: { ∥ IsAcceptedBy coverage (rules_in (arc_value weighed)) cases ∥₁ },
     ghost confluent: { Confluent (rules_in (arc_value weighed)) } by { Confluent-prop (rules_in (arc_value weighed)) },
 }
@@ -34,8 +36,8 @@ impl Accepted {
     ghost use Rattle.std.specs.Prelude.{◌≡◌, ℕ, IfOk, IfErr};
     ghost use Rattle.chr_join.specs.AcceptedPrograms.{weighed_of, program_in, coverage_of, cases_of};
 
-    /// A program of whose overlaps no case fails, with the number of all cases. Where memory is refused, the program is
-    /// handed back.
+    /// A program of whose overlaps no case fails, with the number of all cases. Its seed is `FIXED_SEED`. Where memory is
+    /// refused, the program is handed back.
     pub(crate) fn new(
         alloc: Global,
         weighed: Weighed,
@@ -54,7 +56,24 @@ impl Accepted {
             weighed,
             coverage,
             cases,
+            seed: FIXED_SEED,
         })
+    }
+
+    /// The same, whose stores hash keys under this seed. No answer depends on it; who doesn't know it can't choose facts
+    /// whose keys meet in one place.
+    pub fn seeded(mut self, seed: u64) -> Accepted
+        ensures weighed { weighed_of result ≡ weighed_of self }
+        ensures coverage { coverage_of result ≡ coverage_of self }
+        ensures cases { cases_of result ≡ cases_of self }
+    {
+        self.seed = seed;
+        self
+    }
+
+    /// The seed under which stores hash keys.
+    pub fn seed(&self) -> u64 {
+        self.seed
     }
 
     /// The program with its weights.
@@ -101,7 +120,7 @@ impl Accepted {
         let Ok(weighed) = self.weighed.clone() else {
             return Err(AllocFailed { value: lease });
         };
-        match rested(alloc, &weighed, &lease.part) {
+        match rested(alloc, self.seed, &weighed, &lease.part) {
             Ok(end) => Ok(Done::of(weighed, lease, end)),
             Err(_) => Err(AllocFailed { value: lease }),
         }
@@ -125,7 +144,7 @@ impl Accepted {
             let fault = StepFault::Memory;
             return Err(NotStepped { lease, fault });
         };
-        match stepped(alloc, &weighed, &lease.part, steps) {
+        match stepped(alloc, self.seed, &weighed, &lease.part, steps) {
             Ok(end) => Ok(Done::of(weighed, lease, end)),
             Err(fault) => Err(NotStepped { lease, fault }),
         }

@@ -21,6 +21,8 @@ use std::thread::Threads;
 
 /// The number of all joint cases, where all of them are joinable. Sorted cases are far fewer and are looked at first:
 /// where all of them are joinable, the joint ones are too, and are only counted.
+// Not put into its caller, whose frame would hold the room that this one takes.
+#[inline(never)]
 fn check_joint(rt: &(impl Threads + Sync), alloc: Global, weighed: &Weighed) -> Result<u64, Cause>
     ensures ok { IfOk result (IsAcceptedBy Joint (rules_in weighed.now)) }
     ensures err { IfErr result (IsRefusalBy Joint (rules_in weighed.now)) }
@@ -34,6 +36,8 @@ fn check_joint(rt: &(impl Threads + Sync), alloc: Global, weighed: &Weighed) -> 
 }
 
 /// The number of all sorted cases, where all of them are joinable.
+// Not put into its caller, whose frame would hold the room that this one takes.
+#[inline(never)]
 fn check_sorted(rt: &(impl Threads + Sync), alloc: Global, weighed: &Weighed) -> Result<u64, Cause>
     ensures ok { IfOk result (IsAcceptedBy Sorted (rules_in weighed.now)) }
     ensures err { IfErr result (IsRefusalBy Sorted (rules_in weighed.now)) }

@@ -102,6 +102,8 @@ pub(crate) fn made_one(
 }
 
 /// The number of cases of an overlap, where all of them are joinable.
+// Not put into its caller, whose frame would hold the room that this one takes.
+#[inline(never)]
 pub(crate) fn check_overlap(
     alloc: Global,
     weighed: &Weighed,

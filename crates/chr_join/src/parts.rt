@@ -14,20 +14,25 @@ use chr_rewrite::resting::rest;
 use chr_weights::Weighed;
 use std::alloc::{AllocError, Global};
 
-/// The pool of a part's atoms.
-fn pool_of(alloc: Global, weighed: &Weighed, part: &Bag) -> Result<Columns, AllocError>
+/// The pool of a part's atoms, whose keys are hashed under the seed.
+fn pool_of(alloc: Global, seed: u64, weighed: &Weighed, part: &Bag) -> Result<Columns, AllocError>
     ensures { IfOk result (λ pool. pool ≡ part.now) }
 {
-    let mut pool = Columns::new(alloc, weighed.program().rules())?;
+    let mut pool = Columns::seeded(alloc, seed, weighed.program().rules())?;
     pool.insert(part.atoms())?;
     Ok(pool)
 }
 
 /// The part at rest.
-pub(crate) fn rested(alloc: Global, weighed: &Weighed, part: &Bag) -> Result<Bag, AllocError>
+pub(crate) fn rested(
+    alloc: Global,
+    seed: u64,
+    weighed: &Weighed,
+    part: &Bag,
+) -> Result<Bag, AllocError>
     ensures { IfOk result (IsNormalForm (RuleStep (rules_in weighed.now)) part.now) }
 {
-    let mut pool = pool_of(alloc, weighed, part)?;
+    let mut pool = pool_of(alloc, seed, weighed, part)?;
     pool.arrange();
     match rest(weighed, &mut pool) {
         Ok(_) => pool.bag(alloc),
@@ -38,6 +43,7 @@ pub(crate) fn rested(alloc: Global, weighed: &Weighed, part: &Bag) -> Result<Bag
 /// The part after these steps, taken one after the other.
 pub(crate) fn stepped(
     alloc: Global,
+    seed: u64,
     weighed: &Weighed,
     part: &Bag,
     steps: &[Step],
@@ -46,7 +52,7 @@ pub(crate) fn stepped(
     ensures not_there { (n : ℕ) → result ≡ Err (IsNotThere n) →
         IsFirstInapplicable (rules_in weighed.now) steps.now part.now n }
 {
-    let mut pool = pool_of(alloc, weighed, part)?;
+    let mut pool = pool_of(alloc, seed, weighed, part)?;
     take_steps(weighed, &mut pool, steps)?;
     Ok(pool.bag(alloc)?)
 }

@@ -72,6 +72,8 @@ pub(crate) fn check_combinations<'a>(
 }
 
 /// The number of sorted cases of an overlap, where all of them are joinable.
+// Not put into its caller, whose frame would hold the room that this one takes.
+#[inline(never)]
 pub(crate) fn check_overlap(
     alloc: Global,
     weighed: &Weighed,

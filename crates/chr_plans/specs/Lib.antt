@@ -1,5 +1,4 @@
 pub mod Keys
-pub mod Hashes
 pub mod Rows
 pub mod Seats
 pub mod Plans

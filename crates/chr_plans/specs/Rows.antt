@@ -3,7 +3,6 @@ use Rattle.std.specs.Prelude.{◌≡◌, ℕ, ℤ, List, Option, Some, option_ma
 use Rattle.chr_base.specs.declared.atom.Atom.{Atom}
 use Rattle.chr_plans.specs.declared.key.Span.{Span}
 use Rattle.chr_plans.specs.Keys.{key_of, Spans}
-use Rattle.chr_plans.specs.Hashes.{key_hash}
 
 -- for each table and row its atom, where the row lives
 abbrev pub Tables : Type 0
@@ -17,11 +16,6 @@ Columns = ℕ → ℕ → Option (List ℕ)
 abbrev pub HasKey : Option (List ℕ) → List ℤ → Option Atom → Type 0
 HasKey columns key row =
     (a : Atom) × (row ≡ Some a) × (option_map (λ cs. key_of cs a) columns ≡ Some key)
-
--- the row lives, and its values in the index's columns have the hash of the key
-abbrev pub MayHaveKey : Option (List ℕ) → List ℤ → Option Atom → Type 0
-MayHaveKey columns key row =
-    (a : Atom) × (row ≡ Some a) × (option_map (λ cs. key_hash (key_of cs a)) columns ≡ Some (key_hash key))
 
 -- the row lives, and is in the span
 abbrev pub LiesIn : Span → Option Atom → Type 0

@@ -6,7 +6,6 @@
 //! is only a candidate: whether the heads are an instance is asked of the rule.
 #![tactic(auto)]
 
-pub mod hash;
 pub mod key;
 pub mod plan;
 pub mod planning;

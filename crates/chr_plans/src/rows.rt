@@ -2,7 +2,7 @@
 ghost use Rattle.std.specs.Prelude.{◌≡◌, ℕ, ◌<◌, ◌≤◌, List, Option, Some, IfSome, IfNone, IsTrue, is_some};
 ghost use Rattle.std.specs.Bool.{OnTrue, OnFalse};
 ghost use Rattle.chr_base.specs.declared.atom.Atom.{Atom as AtomValue};
-ghost use Rattle.chr_plans.specs.Rows.{Tables, Columns, HasKey, MayHaveKey, LiesIn};
+ghost use Rattle.chr_plans.specs.Rows.{Tables, Columns, HasKey, LiesIn};
 
 use crate::key::Span;
 use chr_base::atom::Atom;
@@ -25,7 +25,7 @@ pub(crate) fn is_same(left: Seat, right: Seat) -> bool
 /// Tables whose rows are found by the values in some of their columns.
 ///
 /// A look-up goes from the newest row down. It gives each live row that has the key and lies in the span; it may give
-/// others as well, whose values have the hash of the key.
+/// other live rows as well.
 pub trait Rows {
     /// The atom of each live row of each table.
     ghost rows: { Self → Tables };
@@ -42,8 +42,7 @@ pub trait Rows {
         ensures rows { rows self.new ≡ rows self.old }
         ensures columns { columns self.new ≡ columns self.old }
         ensures tables { tables self.new ≡ tables self.old }
-        ensures met { IfSome result (λ row.
-            MayHaveKey (columns self.old table index) key.now (rows self.old table row)) }
+        ensures lives { IfSome result (λ row. IsTrue (is_some (rows self.old table row))) }
         ensures newest { IfSome result (λ row. (other : ℕ) →
             HasKey (columns self.old table index) key.now (rows self.old table other) →
             LiesIn span.now (rows self.old table other) → other ≤ row) }
@@ -51,7 +50,7 @@ pub trait Rows {
             HasKey (columns self.old table index) key.now (rows self.old table other) →
             ¬ (LiesIn span.now (rows self.old table other))) };
 
-    /// The next one below a row that was met.
+    /// The next one below this row.
     fn next(
         &mut self,
         table: usize,
@@ -60,13 +59,12 @@ pub trait Rows {
         span: &Span,
         row: usize,
     ) -> Option<usize>
-        requires { MayHaveKey (columns self.old table index) key.now (rows self.old table row) }
+        requires { IsTrue (is_some (columns self.old table index)) }
         ensures rows { rows self.new ≡ rows self.old }
         ensures columns { columns self.new ≡ columns self.old }
         ensures tables { tables self.new ≡ tables self.old }
         ensures below { IfSome result (λ next. next < row) }
-        ensures met { IfSome result (λ next.
-            MayHaveKey (columns self.old table index) key.now (rows self.old table next)) }
+        ensures lives { IfSome result (λ next. IsTrue (is_some (rows self.old table next))) }
         ensures newest { IfSome result (λ next. (other : ℕ) → other < row →
             HasKey (columns self.old table index) key.now (rows self.old table other) →
             LiesIn span.now (rows self.old table other) → other ≤ next) }
@@ -89,8 +87,7 @@ pub trait Rows {
         ensures columns { columns self.new ≡ columns self.old }
         ensures tables { tables self.new ≡ tables self.old }
         ensures at_or_below { IfSome result (λ next. next ≤ row) }
-        ensures met { IfSome result (λ next.
-            MayHaveKey (columns self.old table index) key.now (rows self.old table next)) }
+        ensures lives { IfSome result (λ next. IsTrue (is_some (rows self.old table next))) }
         ensures newest { IfSome result (λ next. (other : ℕ) → other ≤ row →
             HasKey (columns self.old table index) key.now (rows self.old table other) →
             LiesIn span.now (rows self.old table other) → other ≤ next) }

@@ -4,7 +4,7 @@ ghost use Rattle.std.specs.Bool.{OnTrue, OnFalse};
 ghost use Rattle.chr_base.specs.Rules.{heads_of};
 ghost use Rattle.chr_plans.specs.Seats.{seat, head, no_seat, IsSeated, NoPartners};
 ghost use Rattle.chr_plans.specs.Plans.{IsPlan, FitsTables, FirstNoneAbove, first_place, partners_of, places_of};
-ghost use Rattle.chr_plans.specs.Rows.{HasKey, MayHaveKey, LiesIn};
+ghost use Rattle.chr_plans.specs.Rows.{HasKey, LiesIn};
 ghost use Rattle.chr_plans.specs.working.Searching.{AgreeAtKnown, NoneFrom, PastFrom, AreStarted, looked_in};
 
 use crate::key::{Span, key_values, pass, span_of};
@@ -44,8 +44,7 @@ fn newest_from<R: Rows>(
     ensures rows { R.rows rows.new ≡ R.rows rows.old }
     ensures columns { R.columns rows.new ≡ R.columns rows.old }
     ensures tables { R.tables rows.new ≡ R.tables rows.old }
-    ensures met { IfSome result (λ row. MayHaveKey (R.columns rows.old lookup.now.table lookup.now.index) key.now
-        (R.rows rows.old lookup.now.table row)) }
+    ensures lives { IfSome result (λ row. IsTrue (is_some (R.rows rows.old lookup.now.table row))) }
     ensures newest { IfSome result (λ row. (other : ℕ) → IfSome from (λ first. other ≤ first) →
         HasKey (R.columns rows.old lookup.now.table lookup.now.index) key.now
         (R.rows rows.old lookup.now.table other) →

@@ -5,7 +5,6 @@ use arrayvec::ArrayVec;
 use chr_base::limits::{MAX_COMPARISONS, MAX_HEADS};
 use chr_base::rule::Rule;
 use chr_base::term::Cmp;
-use chr_plans::hash::key_hash;
 use chr_plans::key::{Key, Source, Test, key_values, pass, value_of};
 use chr_plans::plan::Partner;
 use chr_plans::planning::plan_of;
@@ -13,40 +12,6 @@ use chr_testing::atoms::atom;
 use chr_testing::texts::rule_of;
 use std::alloc::Global;
 use std::process::Abort;
-
-/// Values with their hash.
-const HASHES: [(&[i64], u32); 6] = [
-    (&[], 1_332_534_557),
-    (&[0], 3_906_847_889),
-    (&[-1], 2_607_618_405),
-    (&[1, 2], 3_686_209_912),
-    (&[2, 1], 1_420_973_142),
-    (&[i64::MAX, i64::MIN, 0], 456_637_860),
-];
-
-#[test]
-fn hashes_of_keys(rt: HostRuntime) {
-    for (values, hash) in HASHES {
-        assert_eq!(rt; key_hash(values), hash);
-    }
-}
-
-/// In how many of 256 slots the numbers below 256 lie, times this factor.
-fn slots_of_multiples(factor: i64) -> usize {
-    let mut is_taken = [false; 256];
-    for i in 0..256i64 {
-        is_taken[(key_hash(&[i.wrapping_mul(factor)]) % 256) as usize] = true;
-    }
-    is_taken.iter().filter(|taken| **taken).count()
-}
-
-/// Drawn at random, 256 numbers take 162 slots. A node's number in the high bits of an id is such a factor.
-#[test]
-fn multiples_spread_over_the_slots(rt: HostRuntime) {
-    for shift in 0..8u32 {
-        assert!(rt; slots_of_multiples(1 << (8 * shift)) > 140);
-    }
-}
 
 /// Places and columns of arguments, with the value there under the heads that are tried.
 const ARGUMENTS: [(usize, usize, i64); 4] = [(0, 1, -3), (1, 0, 5), (1, 1, 0), (2, 0, 0)];

@@ -32,6 +32,10 @@ lives_within (x ∷ rows) (suc r) e = let l = lives_within rows r e in omega (ar
 pub hash_lives : (rows : List Row) (hash r : ℕ) → HasEntryHash (entries_of rows) hash r → ((row_at rows r).hash ≡ hash) × (r < length rows)
 hash_lives rows hash r w = let l = entry_lives rows r w.0 w.1 in (ap (λ e. e.hash) l.1 ∙ w.2, lives_within rows r l.0)
 
+pub lives_hash : (rows : List Row) (hash r : ℕ) → (row_at rows r).alive ≡ true → (row_at rows r).hash ≡ hash → HasEntryHash (entries_of rows) hash r
+lives_hash rows hash r lives e =
+    (record { hash = (row_at rows r).hash; value = (row_at rows r).value }, entry_at rows r ∙ ap (λ b. cond b (Some (record { hash = (row_at rows r).hash; value = (row_at rows r).value })) None) lives, e)
+
 pub wanted_sought : (rows : List Row) (hash : ℕ) (range : Range) (r : ℕ) → IsWanted (entries_of rows) hash range r → IsSought rows hash range r
 wanted_sought rows hash range r w =
     let l = entry_lives rows r w.0 w.1 in
@@ -51,7 +55,7 @@ found_none P None place is above = λ other p. (let a = above other p in is (ome
 found_none P (Some row) place is above = tt
 
 -- what is read below the end
-read_row : (rows : List Row) (r : ℕ) (x : Row) → r < length rows → x ≡ get_or rows r x → row_at rows r ≡ x
+pub read_row : (rows : List Row) (r : ℕ) (x : Row) → r < length rows → x ≡ get_or rows r x → row_at rows r ≡ x
 read_row rows r x here e = get_or_default rows r no_row x here ∙ sym e
 
 -- a row dies

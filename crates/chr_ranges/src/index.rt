@@ -1,5 +1,6 @@
 //! The index.
 ghost use Rattle.std.specs.Prelude.{◌≡◌, ℕ, ◌+◌, ◌-◌, ◌<◌, ◌≤◌, ◌^◌, ◌∷◌, ◌++◌, [], length, get_or, set, Some, None, OnOk, IfOk, IfSome, IfNone};
+ghost use Rattle.std.specs.Bool.{OnTrue};
 ghost use Rattle.chr_ranges.specs.Rows.{HasEntryHash, IsWanted};
 
 use crate::chain::{Chains, is_at, join, relink, seek};
@@ -112,9 +113,8 @@ impl Index {
         self.first_place(hash, range).checked_sub(1)
     }
 
-    /// The same, below a live row with this hash.
+    /// The same, below this row. It is near where the row lives and has the hash.
     pub fn next(&mut self, hash: u32, range: &Range, row: u32) -> Option<u32>
-        requires { HasEntryHash self.old.rows hash row }
         ensures same { self.new ≡ self.old }
         ensures below { IfSome result (λ next. next < row) }
         ensures wanted { IfSome result (λ next. IsWanted self.old.rows hash range.now next) }
@@ -122,7 +122,7 @@ impl Index {
             → IsWanted self.old.rows hash range.now other → other ≤ next) }
         ensures none { IfNone result ((other : ℕ) → other < row → ¬ (IsWanted self.old.rows hash range.now other)) }
     {
-        self.next_place(hash, range, row).checked_sub(1)
+        self.place_below(hash, range, row).checked_sub(1)
     }
 
     /// The newest live row with this hash and a value in the range at this row or below it. The row itself may be dead,
@@ -159,6 +159,29 @@ impl Index {
     {
         let from = self.chains.links[row as usize].next;
         seek(&self.rows, &mut self.chains, hash, range, from)
+    }
+
+    /// Whether a row lives and has this hash.
+    fn has(&self, hash: u32, row: u32) -> bool
+        ensures { OnTrue result (HasEntryHash self.now.rows hash row) }
+    {
+        is_at(&self.rows, row, hash) && self.rows[row as usize].alive
+    }
+
+    /// The same, below any row.
+    fn place_below(&mut self, hash: u32, range: &Range, row: u32) -> u32
+        ensures same { self.new ≡ self.old }
+        ensures within { result ≤ row }
+        ensures wanted { 0 < result → IsWanted self.old.rows hash range.now (result - 1) }
+        ensures none_between { (r : ℕ) → r < row → IsWanted self.old.rows hash range.now r → r < result }
+    {
+        if self.has(hash, row) {
+            return self.next_place(hash, range, row);
+        }
+        if row == 0 {
+            return 0;
+        }
+        self.place_at_or_below(hash, range, row - 1)
     }
 
     /// The same, at any row or below it.

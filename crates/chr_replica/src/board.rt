@@ -52,7 +52,7 @@ impl Board {
         ensures replica { IfOk result (λ board. board.replica ≡ first) }
     {
         events_keep_replicas_sound();
-        let state = State::new(alloc, accepted.program())?;
+        let state = State::new(alloc, accepted.seed(), accepted.program())?;
         Ok(Board { accepted, state })
     }
 

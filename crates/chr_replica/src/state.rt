@@ -36,11 +36,11 @@ impl Model for State {
 }
 
 impl State {
-    /// That of the replica that was told nothing. Its pool is made for the program's rules.
-    pub(crate) fn new(alloc: Global, program: &Program) -> Result<State, AllocError>
+    /// That of the replica that was told nothing. Its pool is made for the program's rules, and hashes keys under the seed.
+    pub(crate) fn new(alloc: Global, seed: u64, program: &Program) -> Result<State, AllocError>
         ensures { IfOk result (λ state. state ≡ first) }
     {
-        let pool = Columns::new(alloc, program.rules())?;
+        let pool = Columns::seeded(alloc, seed, program.rules())?;
         Ok(State {
             ops: OpSet::new(alloc),
             pool,

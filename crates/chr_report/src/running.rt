@@ -26,6 +26,7 @@ use chr_device::{RunFault, Settings, Verb, Watched, write_whole};
 use chr_join::Accepted;
 use std::alloc::{AllocError, Global};
 use std::io::{Read, Write};
+use std::random::RandomSource;
 use std::sync::Wait;
 use std::thread::Threads;
 
@@ -78,7 +79,7 @@ fn answer_program(
 
 /// The whole output for an input.
 pub(crate) fn output_of(
-    rt: &(impl Threads + Wait + Sync),
+    rt: &(impl RandomSource + Threads + Wait + Sync),
     alloc: Global,
     verb: Verb,
     wanted: Wanted,
@@ -111,7 +112,7 @@ pub(crate) fn output_of(
 /// and nothing where it was the reader. `Memory` where no memory was left and neither has failed: nothing is written
 /// then.
 pub fn run<R: Read, W: Write>(
-    rt: &(impl Threads + Wait + Sync),
+    rt: &(impl RandomSource + Threads + Wait + Sync),
     alloc: Global,
     reader: &mut Watched<R>,
     writer: &mut Watched<W>,

@@ -36,6 +36,7 @@ use crate::wire::Wire;
 use chr_device::{RunFault, Settings, Verb};
 use chr_join::Accepted;
 use std::alloc::Global;
+use std::random::RandomSource;
 use std::sync::Wait;
 use std::thread::Threads;
 
@@ -195,7 +196,7 @@ fn serve_program<T: Wire>(
 
 /// Sends the verdict on a program text, and answers the commands of one that is accepted.
 fn serve_text<T: Wire>(
-    rt: &(impl Threads + Wait + Sync),
+    rt: &(impl RandomSource + Threads + Wait + Sync),
     alloc: Global,
     text: &[u8],
     wanted: Wanted,
@@ -229,7 +230,7 @@ fn serve_text<T: Wire>(
 
 /// Sends the output of an input.
 fn send_output<T: Wire>(
-    rt: &(impl Threads + Wait + Sync),
+    rt: &(impl RandomSource + Threads + Wait + Sync),
     alloc: Global,
     input: &[u8],
     wanted: Wanted,
@@ -253,7 +254,7 @@ fn send_output<T: Wire>(
 
 /// Reads the program text, sends the verdict, and then the answers of the commands as they come.
 fn serve_wanted<T: Wire>(
-    rt: &(impl Threads + Wait + Sync),
+    rt: &(impl RandomSource + Threads + Wait + Sync),
     alloc: Global,
     wire: &mut T,
     wanted: Wanted,
@@ -300,7 +301,7 @@ fn serve_wanted<T: Wire>(
 /// `Device` where the wire has failed, and `Memory` where no memory was left and it has not. Nothing, or a beginning of
 /// the input's output is sent then.
 pub fn serve<T: Wire>(
-    rt: &(impl Threads + Wait + Sync),
+    rt: &(impl RandomSource + Threads + Wait + Sync),
     alloc: Global,
     wire: &mut T,
     settings: Settings,

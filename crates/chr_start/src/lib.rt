@@ -28,6 +28,7 @@ use std::alloc::{AllocError, Global};
 use std::env::Args;
 use std::io::{Read, Write};
 use std::process::ExitCode;
+use std::random::RandomSource;
 use std::rt::Env;
 use std::sync::Wait;
 use std::thread::Threads;
@@ -47,8 +48,10 @@ fn exit_code(outcome: Result<Status, RunFault>) -> ExitCode
 
 /// Does what these settings ask for.
 #[tactic(auto, using(crate::proofs::Served::service_ends, crate::proofs::VerdictEnds::explanation_ends))]
+// Not put into its caller, whose frame would hold the room that this one takes.
+#[inline(never)]
 fn run_settings<R: Read, W: Write>(
-    rt: &(impl Threads + Wait + Sync),
+    rt: &(impl RandomSource + Threads + Wait + Sync),
     alloc: Global,
     streams: &mut Streams<R, W>,
     settings: Settings,
@@ -75,6 +78,8 @@ fn run_settings<R: Read, W: Write>(
 
 /// The exit status for words that gave no settings. What `clap` says of them is told on the standard error, with the
 /// likely cause.
+// Not put into its caller, whose frame would hold the room that this one takes.
+#[inline(never)]
 fn refuse_words(rt: &(impl Eprint + AllocGlobal), words: &[String], fault: &WordsFault) -> ExitCode
     ensures memory { fault.now ≡ Memory → exit_status result ≡ 4 }
     ensures words { fault.now ≢ Memory → exit_status result ≡ 2 }
@@ -94,7 +99,7 @@ fn refuse_words(rt: &(impl Eprint + AllocGlobal), words: &[String], fault: &Word
 /// Does what the words ask for, of which the first is the program's name, and gives the status to end with. Words that
 /// `clap` refuses are told on the standard error; nothing is read or written then.
 pub fn run_words<R: Read, W: Write>(
-    rt: &(impl Eprint + AllocGlobal + Threads + Wait + Sync),
+    rt: &(impl Eprint + AllocGlobal + RandomSource + Threads + Wait + Sync),
     words: &[String],
     streams: &mut Streams<R, W>,
 ) -> ExitCode
@@ -148,7 +153,7 @@ fn words(rt: &(impl Env + AllocGlobal)) -> io::Result<Vec<String>> {
 
 /// Does what the program's words ask for, and gives the status to end with.
 pub fn start<R: Read, W: Write>(
-    rt: &(impl Env + Eprint + AllocGlobal + Threads + Wait + Sync),
+    rt: &(impl Env + Eprint + AllocGlobal + RandomSource + Threads + Wait + Sync),
     streams: &mut Streams<R, W>,
 ) -> ExitCode
     requires reads { has_failed streams.old.reader ≡ false }

@@ -1,6 +1,6 @@
 -- What is said of a row that was found, or of none, and of a refusal.
 use Rattle.std.proofs.Common.{◌≡◌, Option, true, false, refl}
-use Rattle.std.specs.Prelude.{Some, None, IfSome, IfNone, is_some, option_map, Result, Ok, Err, OnErr}
+use Rattle.std.specs.Prelude.{Some, None, IfSome, IfNone, is_some, Result, Ok, Err, OnErr}
 
 pub if_some : {X : Type 0} (P Q : X → Type 0) (o : Option X) → ((x : X) → P x → Q x) → IfSome o P → IfSome o Q
 if_some P Q None f h = h
@@ -14,10 +14,6 @@ if_none P Q (Some x) f h = h
 pub the_one : {X : Type 0} (o : Option X) → is_some o ≡ true → (x : X) × (o ≡ Some x)
 the_one None e = absurd (let f : false ≡ true = e in cc)
 the_one (Some x) e = (x, refl)
-
-pub is_there : {X Y : Type 0} (f : X → Y) (o : Option X) (y : Y) → option_map f o ≡ Some y → is_some o ≡ true
-is_there f None y e = absurd (let g : None ≡ Some y = e in cc)
-is_there f (Some x) y e = refl
 
 pub on_err : {A E : Type 0} (P : Type 0) (r : Result A E) → P → OnErr r P
 on_err P (Ok x) h = tt

@@ -71,9 +71,9 @@ length_entries ks = length-map ks (λ k. finder_rows k.index)
 pub length_rooms : (ks : List Keyed) → length (rooms_of ks) ≡ length ks
 length_rooms ks = length-map ks (λ k. room_in k.index)
 
--- an index with the same columns, whose finder is of the same order, has the same way
-pub same_way : (k l : Keyed) → k.columns.items ≡ l.columns.items → order_in k.index ≡ order_in l.index → way_of k ≡ way_of l
-same_way k l columns order i = record { columns = columns i; order = order i }
+-- an index with the same seed and columns, whose finder is of the same order, has the same way
+pub same_way : (k l : Keyed) → k.seed ≡ l.seed → k.columns.items ≡ l.columns.items → order_in k.index ≡ order_in l.index → way_of k ≡ way_of l
+same_way k l seed columns order i = record { seed = seed i; columns = columns i; order = order i }
 
 pub length_ways : (ks : List Keyed) → length (ways_of ks) ≡ length ks
 length_ways ks = length-map ks way_of

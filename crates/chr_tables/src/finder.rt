@@ -1,7 +1,7 @@
 //! How an index finds rows.
 ghost use Rattle.std.specs.Prelude.{◌≡◌, ℕ, ℤ, ◌+◌, ◌<◌, ◌≤◌, ◌^◌, ◌∷◌, ◌++◌, [], length, set, Some, None, OnOk, IfOk, IfSome, IfNone};
 ghost use Rattle.chr_plans.specs.Keys.{argument};
-ghost use Rattle.chr_ranges.specs.Rows.{HasEntryHash, IsIn};
+ghost use Rattle.chr_ranges.specs.Rows.{IsIn};
 ghost use Rattle.chr_tables.specs.working.Finders.{order_in, finder_rows, room_in, ordered, IsFinderRow};
 
 use chr_base::atom::Atom;
@@ -125,9 +125,8 @@ impl Finder {
         }
     }
 
-    /// The same, below a live row with this hash.
+    /// The same, below this row.
     pub(crate) fn next(&mut self, hash: u32, span: &Span, row: u32) -> Option<u32>
-        requires { HasEntryHash (finder_rows self.old) hash row }
         ensures same { self.new ≡ self.old }
         ensures below { IfSome result (λ next. next < row) }
         ensures met { IfSome result (λ next. IsFinderRow self.old hash span.now next) }

@@ -1,20 +1,21 @@
 //! The indexes of a table, changed one after another.
 ghost use Rattle.std.specs.Prelude.{◌≡◌, ℕ, ◌+◌, ◌<◌, ◌≤◌, ◌^◌, ◌∷◌, ◌++◌, [], length, map, get_or, set, Some, None, OnOk};
 ghost use Rattle.chr_plans.specs.Keys.{key_of};
-ghost use Rattle.chr_plans.specs.Hashes.{key_hash};
+ghost use Rattle.chr_tables.specs.Hashes.{key_hash};
 ghost use Rattle.chr_tables.specs.working.Indexes.{keyed_entries, atom_entry, ways_of, rooms_of, no_way, AreIndexed};
 
 use crate::cells::Cells;
 use crate::finder::{Finder, argument};
+use crate::hash::key_hash;
 use arrayvec::ArrayVec;
 use chr_base::atom::Atom;
 use chr_base::limits::MAX_ARITY;
-use chr_plans::hash::key_hash;
 use std::alloc::AllocError;
 
-/// An index by the values in some columns, which are counted from 0.
+/// An index by the values in some columns, which are counted from 0. Keys are hashed under the seed.
 #[derive(Drop)]
 pub(crate) struct Keyed {
+    pub(crate) seed: u64,
     pub(crate) columns: ArrayVec<usize, MAX_ARITY>,
     pub(crate) index: Finder,
 }
@@ -30,11 +31,11 @@ fn key_of(columns: &ArrayVec<usize, MAX_ARITY>, atom: &Atom) -> ArrayVec<i64, MA
     key
 }
 
-/// The hash of an atom's key in these columns.
-fn hash_of(columns: &ArrayVec<usize, MAX_ARITY>, atom: &Atom) -> u32
-    ensures { result ≡ key_hash (key_of columns.now.items atom.now) }
+/// The hash of an atom's key in an index.
+fn hash_of(keyed: &Keyed, atom: &Atom) -> u32
+    ensures { result ≡ key_hash keyed.now.seed (key_of keyed.now.columns.items atom.now) }
 {
-    key_hash(&key_of(columns, atom))
+    key_hash(keyed.seed, &key_of(&keyed.columns, atom))
 }
 
 /// A row dies in each index.
@@ -76,7 +77,7 @@ pub(crate) fn push_in(indexes: &mut [Keyed], atom: &Atom)
         ++ Some (atom_entry (get_or (ways_of indexes.old) j no_way) atom.now) ∷ [] }
 {
     for i in 0..indexes.len() {
-        let hash = hash_of(&indexes[i].columns, atom);
+        let hash = hash_of(&indexes[i], atom);
         indexes[i].index.push(hash, atom);
     }
 }

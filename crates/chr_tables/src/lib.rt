@@ -7,6 +7,7 @@
 
 mod cells;
 mod finder;
+pub mod hash;
 mod indexes;
 mod shape;
 pub mod table;

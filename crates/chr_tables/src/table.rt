@@ -2,17 +2,17 @@
 ghost use Rattle.std.specs.Prelude.{◌≡◌, ℕ, ◌+◌, ◌*◌, ◌<◌, ◌≤◌, ◌^◌, ◌∷◌, ◌++◌, [], length, filter, count_by, get_or, set, slice_get, Some, None, OnOk, OnErr, IfSome, IfNone, IsTrue, is_some};
 ghost use Rattle.std.specs.Bool.{OnTrue, OnFalse};
 ghost use Rattle.chr_base.specs.declared.limits.TheConstants.{MAX_ARITY};
-ghost use Rattle.chr_plans.specs.Rows.{HasKey, MayHaveKey, LiesIn};
+ghost use Rattle.chr_plans.specs.Rows.{HasKey, LiesIn};
 ghost use Rattle.chr_tables.specs.Contents.{HasArgument, GoesBy};
 ghost use Rattle.chr_tables.specs.working.Indexes.{chosen};
 
 use crate::cells::Cells;
 use crate::finder::Finder;
+use crate::hash::key_hash;
 use crate::indexes::{Keyed, clear_in, enter_all, kill_in, push_in, reserve_in};
 use arrayvec::ArrayVec;
 use chr_base::atom::Atom;
 use chr_base::limits::MAX_ARITY;
-use chr_plans::hash::key_hash;
 use chr_plans::key::Span;
 use std::alloc::{AllocError, Global};
 use std::marker::Model;
@@ -56,6 +56,7 @@ fn row_of(found: Option<u32>) -> Option<usize>
 fn number_of(row: usize) -> u32
     ensures low { result ≤ row }
     ensures same { (other : ℕ) → other ≤ row → other + 1 < 2 ^ 32 → other ≤ result }
+    ensures below { (other : ℕ) → other < row → other + 1 < 2 ^ 32 → other < result }
 {
     row.min(MAX_ROWS) as u32
 }
@@ -103,10 +104,12 @@ impl Table {
     }
 
     /// One more index, by these columns, of a table without rows. Its number is how many there were. Where `order` is a
-    /// column too, look-ups pass over rows whose value there lies outside a span of it.
+    /// column too, look-ups pass over rows whose value there lies outside a span of it. Keys are hashed under the seed,
+    /// of which no answer depends.
     pub fn add_index(
         &mut self,
         alloc: Global,
+        seed: u64,
         columns: ArrayVec<usize, MAX_ARITY>,
         order: Option<usize>,
     ) -> Result<(), AllocError>
@@ -119,18 +122,21 @@ impl Table {
     {
         let index = Finder::new(alloc, order)?;
         self.indexes.reserve(1)?;
-        self.indexes.push_reserved(Keyed { columns, index });
+        self.indexes.push_reserved(Keyed {
+            seed,
+            columns,
+            index,
+        });
         Ok(())
     }
 
     /// The newest row that a look-up of this key and span by an index meets. It meets each live row that has the key and
-    /// lies in the span, and may meet others whose values have the hash of the key; where the index goes by the order of
-    /// the span's column, all of them lie in the span.
+    /// lies in the span, and may meet other live rows, whose keys have the same hash; where the index goes by the order
+    /// of the span's column, all of them lie in the span.
     pub fn first(&mut self, index: usize, key: &[i64], span: &Span) -> Option<usize>
         requires { index < length self.old.keys }
         ensures same { self.new ≡ self.old }
-        ensures met { IfSome result (λ row.
-            MayHaveKey (slice_get self.old.keys index) key.now (get_or self.old.rows row None)) }
+        ensures lives { IfSome result (λ row. IsTrue (is_some (get_or self.old.rows row None))) }
         ensures within { GoesBy self.old.orders index span.now →
             IfSome result (λ row. LiesIn span.now (get_or self.old.rows row None)) }
         ensures newest { IfSome result (λ row. (other : ℕ) →
@@ -140,16 +146,17 @@ impl Table {
             HasKey (slice_get self.old.keys index) key.now (get_or self.old.rows other None) →
             ¬ (LiesIn span.now (get_or self.old.rows other None))) }
     {
-        row_of(self.indexes[index].index.first(key_hash(key), span))
+        let keyed = &mut self.indexes[index];
+        let hash = key_hash(keyed.seed, key);
+        row_of(keyed.index.first(hash, span))
     }
 
-    /// The next one below a row that was met.
+    /// The next one below this row. It is near where a look-up of the same key has met the row.
     pub fn next(&mut self, index: usize, key: &[i64], span: &Span, row: usize) -> Option<usize>
-        requires { MayHaveKey (slice_get self.old.keys index) key.now (get_or self.old.rows row None) }
+        requires { index < length self.old.keys }
         ensures same { self.new ≡ self.old }
         ensures below { IfSome result (λ next. next < row) }
-        ensures met { IfSome result (λ next.
-            MayHaveKey (slice_get self.old.keys index) key.now (get_or self.old.rows next None)) }
+        ensures lives { IfSome result (λ next. IsTrue (is_some (get_or self.old.rows next None))) }
         ensures within { GoesBy self.old.orders index span.now →
             IfSome result (λ next. LiesIn span.now (get_or self.old.rows next None)) }
         ensures newest { IfSome result (λ next. (other : ℕ) → other < row →
@@ -159,11 +166,10 @@ impl Table {
             HasKey (slice_get self.old.keys index) key.now (get_or self.old.rows other None) →
             ¬ (LiesIn span.now (get_or self.old.rows other None))) }
     {
-        row_of(
-            self.indexes[index]
-                .index
-                .next(key_hash(key), span, row as u32),
-        )
+        let keyed = &mut self.indexes[index];
+        let hash = key_hash(keyed.seed, key);
+        let row = number_of(row);
+        row_of(keyed.index.next(hash, span, row))
     }
 
     /// The newest row at this row or below it that a look-up of this key and span meets. The row itself may be dead, or
@@ -178,8 +184,7 @@ impl Table {
         requires { index < length self.old.keys }
         ensures same { self.new ≡ self.old }
         ensures at_or_below { IfSome result (λ next. next ≤ row) }
-        ensures met { IfSome result (λ next.
-            MayHaveKey (slice_get self.old.keys index) key.now (get_or self.old.rows next None)) }
+        ensures lives { IfSome result (λ next. IsTrue (is_some (get_or self.old.rows next None))) }
         ensures within { GoesBy self.old.orders index span.now →
             IfSome result (λ next. LiesIn span.now (get_or self.old.rows next None)) }
         ensures newest { IfSome result (λ next. (other : ℕ) → other ≤ row →
@@ -189,12 +194,10 @@ impl Table {
             HasKey (slice_get self.old.keys index) key.now (get_or self.old.rows other None) →
             ¬ (LiesIn span.now (get_or self.old.rows other None))) }
     {
+        let keyed = &mut self.indexes[index];
+        let hash = key_hash(keyed.seed, key);
         let row = number_of(row);
-        row_of(
-            self.indexes[index]
-                .index
-                .at_or_below(key_hash(key), span, row),
-        )
+        row_of(keyed.index.at_or_below(hash, span, row))
     }
 
     /// The atom of a live row.

@@ -3,6 +3,7 @@ ghost use Rattle.std.specs.Prelude.{◌≡◌, ◌<◌, length, IfOk};
 
 mod compacting;
 mod first_with;
+mod hashes;
 mod ordered;
 mod searches;
 
@@ -11,6 +12,7 @@ use chr_base::atom::Atom;
 use chr_base::limits::MAX_ARITY;
 use chr_plans::key::Span;
 use chr_plans::rows::Rows;
+use chr_tables::hash::FIXED_SEED;
 use chr_tables::table::Table;
 use chr_tables::tables::Tables;
 use chr_testing::atoms::atom;
@@ -32,8 +34,8 @@ fn table_of(alloc: Global, atoms: &[Atom]) -> Result<Table, AllocError>
     ensures keys { IfOk result (λ t. length t.keys ≡ 2) }
 {
     let mut table = Table::new(alloc);
-    table.add_index(alloc, columns(&[0]), None)?;
-    table.add_index(alloc, columns(&[2, 1]), None)?;
+    table.add_index(alloc, FIXED_SEED, columns(&[0]), None)?;
+    table.add_index(alloc, FIXED_SEED, columns(&[2, 1]), None)?;
     for atom in atoms {
         table.insert(atom)?;
     }

@@ -44,9 +44,10 @@ pub struct End {
     pub steps: u64,
 }
 
-/// The pool of columns for a program, with these atoms.
+/// The pool of columns for a program, with these atoms. Keys are hashed under another seed for each number of them.
 fn columns_of(rt: &impl Abort, alloc: Global, weighed: &Weighed, store: &Bag) -> Columns {
-    let mut pool = Columns::new(alloc, weighed.program().rules()).expect(rt, "memory");
+    let seed = store.atoms().len() as u64;
+    let mut pool = Columns::seeded(alloc, seed, weighed.program().rules()).expect(rt, "memory");
     pool.insert(store.atoms()).expect(rt, "memory");
     pool
 }

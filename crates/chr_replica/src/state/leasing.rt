@@ -67,7 +67,7 @@ impl State {
         if next > LAST_LEASE + 1 {
             return Err(Refusal::Full(Limit::Leases));
         }
-        let empty = Columns::new(alloc, program.rules())?;
+        let empty = Columns::seeded(alloc, self.pool.seed(), program.rules())?;
         let whole = self.pool.arranged(alloc)?;
         let leases = cut(alloc, &whole, count as usize, first)?;
         self.out.insert_all(alloc, first, &leases)?;

@@ -5,7 +5,7 @@ use Rattle.std.proofs.Common.{refl}
 use Rattle.chr_base.specs.declared.atom.Atom.{Atom}
 use Rattle.chr_base.specs.working.Codes.{coded_atom}
 use Rattle.chr_plans.specs.Keys.{key_of}
-use Rattle.chr_plans.specs.Hashes.{key_hash}
+use Rattle.chr_tables.specs.Hashes.{key_hash}
 use Rattle.chr_ranges.specs.Rows.{Entry}
 use Rattle.chr_tables.specs.working.Finders.{order_in, finder_rows, room_in, ordered}
 use Rattle.chr_tables.specs.declared.indexes.Keyed.{Keyed}
@@ -23,24 +23,25 @@ chosen [] bs = []
 chosen (a ∷ as') [] = []
 chosen (a ∷ as') (b ∷ bs) = cond b (a ∷ chosen as' bs) (chosen as' bs)
 
--- by which columns an index finds rows, and by the values in which column
+-- under which seed and by which columns an index finds rows, and by the values in which column
 pub record Way : Type 0 where
+  pub seed : ℕ
   pub columns : List ℕ
   pub order : Option ℕ
 
 -- what is read past the last index
 abbrev pub no_way : Way
-no_way = record { columns = []; order = None }
+no_way = record { seed = 0; columns = []; order = None }
 
 -- what such an index has of an atom, and of a row, or None where the row is dead
 abbrev pub atom_entry : Way → Atom → Entry
-atom_entry way a = record { hash = key_hash (key_of way.columns a); value = ordered way.order a }
+atom_entry way a = record { hash = key_hash way.seed (key_of way.columns a); value = ordered way.order a }
 
 abbrev pub entry_in : Way → Option Atom → Option Entry
 entry_in way row = option_map (atom_entry way) row
 
 abbrev pub way_of : Keyed → Way
-way_of k = record { columns = k.columns.items; order = order_in k.index }
+way_of k = record { seed = k.seed; columns = k.columns.items; order = order_in k.index }
 
 -- of each index its rows, its way, its columns, its order, and the room that it has
 abbrev pub keyed_entries : List Keyed → List (List (Option Entry))

@@ -55,7 +55,7 @@ fn rows_that_moved_are_found(rt: HostRuntime) {
 fn ordered_table(rt: &impl Abort, alloc: Global) -> Table {
     let mut table = Table::new(alloc);
     table
-        .add_index(alloc, columns(&[0]), Some(1))
+        .add_index(alloc, u64::MAX, columns(&[0]), Some(1))
         .expect(rt, "memory");
     table
 }

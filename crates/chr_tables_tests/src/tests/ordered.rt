@@ -13,6 +13,9 @@ use std::process::Abort;
 /// The column by whose order the indexes go.
 const ORDER: usize = 1;
 
+/// Any seed does.
+const SEED: u64 = 1;
+
 /// A row of a table: its atom has these two arguments.
 #[derive(Clone, Copy, Debug, PartialEq, Eq)]
 struct Entry {
@@ -61,10 +64,10 @@ fn empty_table(rt: &impl Abort, alloc: Global) -> Table
 {
     let mut table = Table::new(alloc);
     table
-        .add_index(alloc, columns(&[0]), Some(ORDER))
+        .add_index(alloc, SEED, columns(&[0]), Some(ORDER))
         .expect(rt, "memory");
     table
-        .add_index(alloc, columns(&[]), Some(ORDER))
+        .add_index(alloc, SEED, columns(&[]), Some(ORDER))
         .expect(rt, "memory");
     table
 }

@@ -15,6 +15,7 @@ use chr_plans::plan::{Lookup, Plan};
 use chr_plans::planning::plan_of;
 use chr_plans::react::react;
 use chr_plans::search::find_partners;
+use chr_tables::hash::FIXED_SEED;
 use chr_tables::table::Table;
 use chr_tables::tables::Tables;
 use std::alloc::{AllocError, Global};
@@ -85,7 +86,8 @@ fn prepared(alloc: Global, rule: &Rule, place: usize, atoms: &[Atom]) -> Result<
     let mut lookups = ArrayVec::new();
     for index in 0..partners.len() {
         let partner = &partners[index];
-        table.add_index(alloc, partner.columns(), first_column(&partner.limits))?;
+        let order = first_column(&partner.limits);
+        table.add_index(alloc, FIXED_SEED, partner.columns(), order)?;
         lookups.push(Lookup {
             partner: partner.copy(),
             table: 0,

@@ -34,7 +34,7 @@ loop-next-init g t c =
       heads = c.requires.heads;
       seats = c.requires.seats;
       same = λ k b. (refl, refl);
-      met = rw (← key) c.newest_from-next.ensures.met;
+      lives = c.newest_from-next.ensures.lives;
       past = past_begun c.args.rule.now c.args.active c.args.lookups.now c.args.done c.index-lookups-done.result _ (g.R.Rows.columns c.args.rows.now) c.args.heads.now c.args.seats.now c.requires.plan c.requires.fits n (sym c.index-lookups-done.is) c.span_of-span.result c.args.from c.newest_from-next.result c.span_of-span.ensures.all c.requires.passed
           (below_found _ _ _ c.newest_from-next.result (rw (← key) c.newest_from-next.ensures.newest) (rw (← key) c.newest_from-next.ensures.none));
     }
@@ -161,7 +161,7 @@ loop-next-preserved g t c =
         | then-not-is_taken+else-complete w ↦ rw (w.heads-is, w.seats-is) (same_deeper c.args.rule.now c.args.active c.args.lookups.now c.args.done c.index-lookups-done.result c.args.heads.now c.loop-next.heads _ c.args.seats.now c.loop-next.seats _ _ _ c.requires.plan n (sym c.index-lookups-done.is) c.loop-next.invariant.same w.complete.ensures.same)
         | else-not-is_taken w ↦ rw (w.heads-is, w.seats-is) c.loop-next.invariant.same
       ];
-      met = rw (← key, ← rows_now, ← columns_now) c.next-next.ensures.met;
+      lives = rw (← rows_now) c.next-next.ensures.lives;
       past = past_next c.args.rule.now c.args.active c.args.lookups.now c.args.done c.index-lookups-done.result _ (g.R.Rows.columns c.args.rows.now) c.args.heads.now c.args.seats.now c.requires.plan c.requires.fits n (sym c.index-lookups-done.is) c.span_of-span.result c.in-Some.row (bound c.next-next.result) c.span_of-span.ensures.all
           (below_next (λ q. IsWanted (g.R.Rows.columns c.args.rows.now c.index-lookups-done.result.table c.index-lookups-done.result.index) (map (λ k. source_value c.args.heads.now k.source) c.index-lookups-done.result.partner.key.items) c.span_of-span.result (g.R.Rows.rows c.args.rows.now c.index-lookups-done.result.table q)) c.in-Some.row c.next-next.result
           (newest_next _ _ c.in-Some.row c.next-next.result (rw (← key, ← rows_now, ← columns_now) c.next-next.ensures.newest)) (none_next _ _ c.in-Some.row c.next-next.result (rw (← key, ← rows_now, ← columns_now) c.next-next.ensures.none)))

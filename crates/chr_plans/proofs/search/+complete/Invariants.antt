@@ -1,8 +1,7 @@
 use Rattle.std.proofs.Common.{◌≡◌, ◌-◌, length, map}
-use Rattle.std.specs.Prelude.{IfSome}
+use Rattle.std.specs.Prelude.{IfSome, IsTrue, is_some}
 use Rattle.chr_base.specs.Rules.{heads_of}
 use Rattle.chr_plans.specs.Keys.{source_value}
-use Rattle.chr_plans.specs.Rows.{MayHaveKey}
 use Rattle.chr_plans.specs.working.Searching.{AgreeAtKnown, Past, looked_in}
 use Rattle.chr_plans.proofs.Searches.{bound}
 use Rattle.chr_plans.proofs.search.+complete.Given as goal
@@ -18,8 +17,7 @@ invariant-loop-next g l = record {
   heads : length l.heads ≡ length (heads_of l.rule);
   seats : length l.seats ≡ length (heads_of l.rule);
   same : AgreeAtKnown (looked_in l.lookups) l.active l.done l.heads l.seats l.fn.heads l.fn.seats;
-  met : IfSome l.next (λ row. MayHaveKey (g.R.Rows.columns l.fn.rows l.lookup.table l.lookup.index)
-      (map (λ k. source_value l.fn.heads k.source) l.lookup.partner.key.items) (g.R.Rows.rows l.fn.rows l.lookup.table row));
+  lives : IfSome l.next (λ row. IsTrue (is_some (g.R.Rows.rows l.fn.rows l.lookup.table row)));
   past : Past l.rule (g.R.Rows.rows l.fn.rows) l.active (looked_in l.lookups) l.done l.lookup.partner.place l.fn.heads l.fn.seats (bound l.next);
 }
 

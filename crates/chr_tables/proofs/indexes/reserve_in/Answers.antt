@@ -17,7 +17,7 @@ reserve-requires c =
     omega (arith, here, few)
 
 pub returns-in_err-reserve-clause-ways : goal.returns-in_err-reserve-clause-ways
-returns-in_err-reserve-clause-ways c = map-set_same way_of c.loop-i.indexes c.loop-i.i _ c.index-indexes-i.result (same_way _ _ refl c.in_err-reserve.ensures.order) ∙ c.loop-i.invariant.ways
+returns-in_err-reserve-clause-ways c = map-set_same way_of c.loop-i.indexes c.loop-i.i _ c.index-indexes-i.result (same_way _ _ refl refl c.in_err-reserve.ensures.order) ∙ c.loop-i.invariant.ways
 
 pub returns-in_err-reserve-clause-rows : goal.returns-in_err-reserve-clause-rows
 returns-in_err-reserve-clause-rows c = map-set_same (λ (k : Keyed). finder_rows k.index) c.loop-i.indexes c.loop-i.i _ c.index-indexes-i.result c.in_err-reserve.ensures.rows ∙ c.loop-i.invariant.rows
@@ -31,7 +31,7 @@ loop-i-preserved c =
     let ok = c.in_ok-reserve.ensures.ok in
     record {
       len = length-set c.loop-i.indexes _ _ ∙ len;
-      ways = map-set_same way_of c.loop-i.indexes c.loop-i.i _ c.index-indexes-i.result (same_way _ _ refl c.in_ok-reserve.ensures.order) ∙ c.loop-i.invariant.ways;
+      ways = map-set_same way_of c.loop-i.indexes c.loop-i.i _ c.index-indexes-i.result (same_way _ _ refl refl c.in_ok-reserve.ensures.order) ∙ c.loop-i.invariant.ways;
       rows = map-set_same (λ (k : Keyed). finder_rows k.index) c.loop-i.indexes c.loop-i.i _ c.index-indexes-i.result c.in_ok-reserve.ensures.rows ∙ c.loop-i.invariant.rows;
       done = λ j h. (rw (rooms_set c.loop-i.indexes c.loop-i.i) (elim (cases_lt j c.loop-i.i) as (λ _. length (get_or (keyed_entries c.args.indexes.now) j []) < get_or (set (rooms_of c.loop-i.indexes) c.loop-i.i (room_in c.reserve.new.self)) j 0) [
         | inl less ↦ (let e = get_or-set_other (rooms_of c.loop-i.indexes) c.loop-i.i j (room_in c.reserve.new.self) 0 (λ p. (absurd (omega (arith, p, less)))) in let d = c.loop-i.invariant.done j less in omega (arith, e, d))

@@ -1,4 +1,4 @@
-use Rattle.std.proofs.Common.{◌≡◌, ◌<◌, [], ◌∷◌, length, drop, refl, sym, ap, subst, ◌∙◌}
+use Rattle.std.proofs.Common.{◌≡◌, ◌<◌, [], ◌∷◌, length, refl, sym, ap, subst, ◌∙◌}
 use Rattle.std.specs.Prelude.{Some, remove}
 use Rattle.chr_base.specs.declared.rule.Rule.{Rule}
 use Rattle.chr_base.specs.FinBag.{◌⊕◌}
@@ -66,5 +66,5 @@ returns-clause-step c q standing =
 
 pub returns-clause-standing : goal.returns-clause-standing
 returns-clause-standing c =
-    stands_on c.args.self.now (record { rules = c.args.self.now.rules; groups = c.args.self.now.groups; tables = c.kill_all.new.tables }) c.put_fresh.new.fresh.items (head c.args.heads.now c.args.o.place) c.args.o.standing c.standing_of-standing.result _ c.standing_of-standing.ensures c.put_fresh.ensures.last
+    stands_on c.args.self.now (record { seed = c.args.self.now.seed; rules = c.args.self.now.rules; groups = c.args.self.now.groups; tables = c.kill_all.new.tables }) c.put_fresh.new.fresh.items (head c.args.heads.now c.args.o.place) c.args.o.standing c.standing_of-standing.result _ c.standing_of-standing.ensures c.put_fresh.ensures.last
     refl refl (only_died c.args.self.now.tables.tables.items c.kill_all.new.tables.tables.items c.deref.result.now c.kill_all.ensures.rows) c.requires.standing

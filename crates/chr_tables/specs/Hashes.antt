@@ -18,6 +18,6 @@ abbrev pub mixed : ℕ → List ℤ → ℕ
 mixed state [] = state
 mixed state (x ∷ xs) = mixed (mix (bit_xor state (cast_unsigned w64 x))) xs
 
--- the hash of a key, of 32 bits
-abbrev pub key_hash : List ℤ → ℕ
-key_hash key = mixed 0x2545F4914F6CDD1D key % 2 ^ 32
+-- the hash of a key, of 32 bits, under this seed
+abbrev pub key_hash : ℕ → List ℤ → ℕ
+key_hash seed key = mixed seed key % 2 ^ 32

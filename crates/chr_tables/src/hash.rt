@@ -1,6 +1,9 @@
 //! The hash of a key.
 ghost use Rattle.std.specs.Prelude.{◌≡◌};
-ghost use Rattle.chr_plans.specs.Hashes.{mix, mixed, key_hash};
+ghost use Rattle.chr_tables.specs.Hashes.{mix, mixed, key_hash};
+
+/// The seed where none is drawn.
+pub const FIXED_SEED: u64 = 0x2545_F491_4F6C_DD1D;
 
 /// The word with its bits mixed, so that a change of any one bit changes each with a chance of about a half: the finalizer
 /// of SplitMix64, which is variant 13 of David Stafford's "Better Bit Mixing".
@@ -22,9 +25,10 @@ fn mixed(state: u64, key: &[i64]) -> u64
     }
 }
 
-/// The hash of a key: 32 bits, in each of which all bits of each value have a part. It is a function of the key alone.
-pub fn key_hash(key: &[i64]) -> u32
-    ensures { result ≡ key_hash key.now }
+/// The hash of a key: 32 bits, in each of which all bits of the seed and of each value have a part. It is a function of
+/// these and no more. Who doesn't know the seed finds no keys whose hashes are equal.
+pub fn key_hash(seed: u64, key: &[i64]) -> u32
+    ensures { result ≡ key_hash seed key.now }
 {
-    (mixed(0x2545_F491_4F6C_DD1D, key) & 0xFFFF_FFFF) as u32
+    (mixed(seed, key) & 0xFFFF_FFFF) as u32
 }

@@ -1,0 +1,55 @@
+//! Hashes of keys.
+
+use chr_tables::hash::{FIXED_SEED, key_hash};
+
+/// Values with their hash under the fixed seed.
+const HASHES: [(&[i64], u32); 6] = [
+    (&[], 1_332_534_557),
+    (&[0], 3_906_847_889),
+    (&[-1], 2_607_618_405),
+    (&[1, 2], 3_686_209_912),
+    (&[2, 1], 1_420_973_142),
+    (&[i64::MAX, i64::MIN, 0], 456_637_860),
+];
+
+#[test]
+fn hashes_of_keys(rt: HostRuntime) {
+    for (values, hash) in HASHES {
+        assert_eq!(rt; key_hash(FIXED_SEED, values), hash);
+    }
+}
+
+/// In how many of 256 slots the numbers below 256 lie under a seed, times this factor.
+fn slots_of_multiples(seed: u64, factor: i64) -> usize {
+    let mut is_taken = [false; 256];
+    for i in 0..256i64 {
+        is_taken[(key_hash(seed, &[i.wrapping_mul(factor)]) % 256) as usize] = true;
+    }
+    is_taken.iter().filter(|taken| **taken).count()
+}
+
+/// Drawn at random, 256 numbers take 162 slots. A node's number in the high bits of an id is such a factor.
+#[test]
+fn multiples_spread_over_the_slots(rt: HostRuntime) {
+    for shift in 0..8u32 {
+        for seed in [0, 1, FIXED_SEED, u64::MAX] {
+            assert!(rt; slots_of_multiples(seed, 1 << (8 * shift)) > 140);
+        }
+    }
+}
+
+/// Keys that meet under one seed are apart under another: of 256 numbers whose hashes end in one byte under the fixed one,
+/// as many slots are taken as of numbers that are drawn at random.
+#[test]
+fn keys_chosen_for_one_seed_spread_under_another(rt: HostRuntime) {
+    let mut is_taken = [false; 256];
+    let mut chosen = 0;
+    for i in 0..200_000i64 {
+        if chosen < 256 && key_hash(FIXED_SEED, &[i]) % 256 == 0 {
+            is_taken[(key_hash(1, &[i]) % 256) as usize] = true;
+            chosen += 1;
+        }
+    }
+    assert_eq!(rt; chosen, 256);
+    assert!(rt; is_taken.iter().filter(|taken| **taken).count() > 140);
+}
