@@ -31,9 +31,9 @@ verdict_is text (TooManyTypes c) h = inr (
   h.0,
   h.1,
   inr (record {
-    lowers = h.2.1;
+    lowers = h.2.0;
     cause = cause.TooManyTypes c.too_many;
-    first = h.2.2;
+    first = h.2.1;
     some = λ e. cc;
   }),
 )

@@ -16,12 +16,16 @@ use Rattle.chr_overlaps.specs.OverlapLists.{AreOverlaps}
 use Rattle.chr_overlaps.specs.CaseLists.{AreCases, IsTooMany}
 use Rattle.chr_join.specs.declared.refused.Cause.TheVariants as cause
 use Rattle.chr_join.specs.AcceptedPrograms.{program_in, cases_of}
-use Rattle.chr_join.specs.Verdicts.{IsAccepted}
-use Rattle.chr_join.specs.Explanations.{IsRefusal, ReplaysApart}
+use Rattle.chr_join.specs.declared.coverage.Coverage.{Coverage}
+use Rattle.chr_join.specs.declared.coverage.Coverage.TheVariants.{Joint, Sorted}
+use Rattle.chr_join.specs.Verdicts.{IsAccepted, IsAcceptedBy}
+use Rattle.chr_join.specs.Explanations.{IsRefusal, IsRefusalBy, ReplaysApart}
 use Rattle.chr_read.specs.Meanings.{meaning_of}
 use Rattle.chr_read.specs.ProgramTexts.{IsAnswer}
 use Rattle.chr_explain.specs.declared.limits.TheConstants.{MAX_TOLD_STEPS}
-use Rattle.chr_explain.specs.declared.diagnosis.Peak.{Peak}
+use Rattle.chr_explain.specs.declared.peak.Peak.{Peak}
+use Rattle.chr_explain.specs.declared.sorted.SortedVerdict.{SortedVerdict}
+use Rattle.chr_explain.specs.declared.sorted.SortedVerdict.TheVariants as sorted
 use Rattle.chr_explain.specs.declared.diagnosis.Counted.{Counted}
 use Rattle.chr_explain.specs.declared.diagnosis.Diagnosis.{Diagnosis}
 use Rattle.chr_explain.specs.declared.diagnosis.Diagnosis.TheVariants.{Text, NotLowered, Fails, TooManyTypes, Accepted}
@@ -37,12 +41,26 @@ PassesThrough rules (st ∷ steps) s (t ∷ stores) = LeadsTo rules st s t × Pa
 abbrev pub AreFirstStores : List Rule → Derivation → List Store → Type 0
 AreFirstStores rules d stores = PassesThrough rules (take MAX_TOLD_STEPS d.steps.items) d.start stores
 
--- the first case that fails, whose two derivations replay to different ends, and the stores of both
-pub record IsPeakOf (rules : List Rule) (p : Peak) : Type 0 where
-  pub first : IsRefusal rules (cause.Fails p.failure)
+-- the first case that fails, of those that a coverage has, whose two derivations replay to different ends, and the
+-- stores of both
+pub record IsPeakBy (coverage : Coverage) (rules : List Rule) (p : Peak) : Type 0 where
+  pub first : IsRefusalBy coverage rules (cause.Fails p.failure)
   pub replays : ReplaysApart rules p.failure
   pub left : AreFirstStores rules p.failure.left p.left.items
   pub right : AreFirstStores rules p.failure.right p.right.items
+
+-- the first joint case that fails
+abbrev pub IsPeakOf : List Rule → Peak → Type 0
+IsPeakOf rules p = IsPeakBy Joint rules p
+
+-- what the sorted cases say of a program: that all are joinable, the first that fails, the first overlap of too many
+-- combinations of values, or nothing
+abbrev pub IsSortedVerdict : Program → SortedVerdict → Type 0
+IsSortedVerdict p (sorted.Accepted a) = (program_in a ≡ p) × IsAcceptedBy Sorted (rules_of p) (cases_of a)
+IsSortedVerdict p (sorted.Fails k) = (program_of k.weighed ≡ p) × IsPeakBy Sorted (rules_of p) k
+IsSortedVerdict p (sorted.TooMany t) =
+    (program_of t.weighed ≡ p) × IsRefusalBy Sorted (rules_of p) (cause.TooManyTypes t.too_many)
+IsSortedVerdict p (sorted.Unknown w) = program_of w ≡ p
 
 -- the number of the overlap's cases, or 0 where it has too many order types
 abbrev pub IsCounted : List Rule → Counted → Type 0
@@ -62,7 +80,7 @@ IsDiagnosisOf p (NotLowered u) = (meaning_of u.program ≡ meaning_of p)
     × IsWeighing u.program u.weighing
 IsDiagnosisOf p (Fails k) = (program_of k.weighed ≡ p) × ProgramLowers p × IsPeakOf (rules_of p) k
 IsDiagnosisOf p (TooManyTypes c) =
-    (program_of c.weighed ≡ p) × ProgramLowers p × IsRefusal (rules_of p) (cause.TooManyTypes c.too_many)
+    ProgramLowers p × IsRefusal (rules_of p) (cause.TooManyTypes c.too_many) × IsSortedVerdict p c.sorted
 IsDiagnosisOf p (Accepted c) = (program_in c.accepted ≡ p) × ProgramLowers p
     × IsAccepted (rules_of p) (cases_of c.accepted) × AreCounted (rules_of p) c.counts.items
 

@@ -3,14 +3,14 @@ ghost use Rattle.std.specs.Prelude.{◌≡◌, IfOk};
 ghost use Rattle.chr_weights.specs.WeighedPrograms.{program_of, rules_in};
 ghost use Rattle.chr_overlaps.specs.OverlapLists.{IsOverlapOf};
 ghost use Rattle.chr_explain.specs.Verdicts.{verdict_of};
-ghost use Rattle.chr_join.specs.declared.refused.Cause.TheVariants.{Fails};
+ghost use Rattle.chr_join.specs.declared.refused.Cause.TheVariants.{Fails, TooManyTypes as HasTooManyTypes};
 ghost use Rattle.chr_join.specs.Explanations.{IfFails, IsRefusal, ReplaysApart};
 ghost use Rattle.chr_explain.specs.BadClauses.{IsRefused};
-ghost use Rattle.chr_explain.specs.Diagnoses.{AreCounted, IsCounted, IsDiagnosis, IsDiagnosisOf, IsPeakOf};
+ghost use Rattle.chr_explain.specs.Diagnoses.{AreCounted, IsCounted, IsDiagnosis, IsDiagnosisOf};
 
 use crate::faults::{TextFaults, text_faults};
-use crate::stores::first_stores;
-use chr_base::bag::Bag;
+use crate::peak::{Peak, peak_of};
+use crate::sorted::{SortedVerdict, sorted_verdict};
 use chr_base::program::Program;
 use chr_join::{Accepted, Cause, Coverage, Failure, Refused, TooManyTypes, accept};
 use chr_overlaps::cases::cases;
@@ -38,24 +38,13 @@ pub struct Unlowered {
     pub weighing: Weighing,
 }
 
-/// A program with a case that fails.
-#[derive(Drop)]
-pub struct Peak {
-    pub weighed: Weighed,
-    /// The first case that fails, with the derivations of both sides.
-    pub failure: Failure,
-    /// The stores after the first steps of the left side, `MAX_TOLD_STEPS` at most.
-    pub left: Vec<Bag>,
-    /// The same of the right side.
-    pub right: Vec<Bag>,
-}
-
 /// A program with an overlap of too many order types.
 #[derive(Drop)]
 pub struct Crowd {
-    pub weighed: Weighed,
     /// The first such overlap.
     pub too_many: TooManyTypes,
+    /// What the sorted cases say of the program.
+    pub sorted: SortedVerdict,
 }
 
 /// An overlap, and the number of its cases.
@@ -128,37 +117,49 @@ fn all_counted(alloc: Global, weighed: &Weighed) -> Result<Vec<Counted>, AllocEr
     Ok(counts)
 }
 
-/// The case that fails, with the stores of both sides.
-fn peak_of(alloc: Global, weighed: Weighed, failure: Failure) -> Result<Peak, AllocError>
+/// What is to be told of a case that fails.
+fn failing_diagnosis(
+    alloc: Global,
+    weighed: Weighed,
+    failure: Failure,
+) -> Result<Diagnosis, AllocError>
     requires first { IsRefusal (rules_in weighed) (Fails failure) }
     requires replays { ReplaysApart (rules_in weighed) failure }
-    ensures weighed { IfOk result (λ p. p.weighed ≡ weighed) }
-    ensures peak { IfOk result (IsPeakOf (rules_in weighed)) }
+    ensures { IfOk result (IsDiagnosisOf (program_of weighed)) }
 {
-    let left = first_stores(alloc, &weighed, &failure.left)?;
-    let right = first_stores(alloc, &weighed, &failure.right)?;
-    Ok(Peak {
-        weighed,
-        failure,
-        left,
-        right,
-    })
+    match peak_of(alloc, weighed, failure) {
+        Ok(peak) => Ok(Diagnosis::Fails(peak)),
+        Err(_) => Err(AllocError),
+    }
 }
 
-fn refused_diagnosis(alloc: Global, refused: Refused) -> Result<Diagnosis, AllocError>
+/// What is to be told of an overlap with too many order types.
+fn crowd_diagnosis(
+    rt: &(impl Threads + Sync),
+    alloc: Global,
+    weighed: Weighed,
+    too_many: TooManyTypes,
+) -> Diagnosis
+    requires { IsRefusal (rules_in weighed) (HasTooManyTypes too_many) }
+    ensures { IsDiagnosisOf (program_of weighed) result }
+{
+    let sorted = sorted_verdict(rt, alloc, weighed);
+    Diagnosis::TooManyTypes(Crowd { too_many, sorted })
+}
+
+fn refused_diagnosis(
+    rt: &(impl Threads + Sync),
+    alloc: Global,
+    refused: Refused,
+) -> Result<Diagnosis, AllocError>
     requires first { IsRefusal (rules_in refused.weighed) refused.cause }
     requires replays { IfFails refused.cause (ReplaysApart (rules_in refused.weighed)) }
     ensures { IfOk result (IsDiagnosisOf (program_of refused.weighed)) }
 {
     let weighed = refused.weighed;
     match refused.cause {
-        Cause::Fails(failure) => {
-            let peak = peak_of(alloc, weighed, failure)?;
-            Ok(Diagnosis::Fails(peak))
-        }
-        Cause::TooManyTypes(too_many) => {
-            Ok(Diagnosis::TooManyTypes(Crowd { weighed, too_many }))
-        }
+        Cause::Fails(failure) => failing_diagnosis(alloc, weighed, failure),
+        Cause::TooManyTypes(too_many) => Ok(crowd_diagnosis(rt, alloc, weighed, too_many)),
         Cause::Memory => Err(AllocError),
     }
 }
@@ -175,7 +176,7 @@ fn weighed_diagnosis(
             let counts = all_counted(alloc, accepted.weighed())?;
             Ok(Diagnosis::Accepted(Census { accepted, counts }))
         }
-        Err(refused) => refused_diagnosis(alloc, refused),
+        Err(refused) => refused_diagnosis(rt, alloc, refused),
     }
 }
 

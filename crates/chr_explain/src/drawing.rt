@@ -1,9 +1,10 @@
 //! What is to be told of a text, as a drawing in the language of Graphviz.
 
-use crate::diagnosis::{Census, Diagnosis, Peak};
+use crate::diagnosis::{Census, Diagnosis};
 use crate::limits::MAX_DRAWN_BYTES;
 use crate::names::Names;
 use crate::pairs::{ToldPair, pairs_of};
+use crate::peak::Peak;
 use crate::rule_text::{NamedProgram, told_rule};
 use crate::telling::told_text;
 use chr_base::bag::Bag;

@@ -3,6 +3,7 @@
 
 mod cause;
 mod clause;
+mod crowd_text;
 mod diagnosis;
 mod drawing;
 mod explanation;
@@ -15,9 +16,12 @@ mod line;
 mod names;
 mod overlap_text;
 mod pairs;
+mod peak;
+mod peak_text;
 mod place;
 mod rule;
 mod rule_text;
+mod sorted;
 mod stores;
 mod syntax;
 mod telling;
@@ -26,10 +30,12 @@ mod weighing_text;
 mod weight_text;
 mod word;
 
-pub use diagnosis::{Census, Counted, Crowd, Diagnosis, Peak, Unlowered, Verdict, diagnose};
+pub use diagnosis::{Census, Counted, Crowd, Diagnosis, Unlowered, Verdict, diagnose};
 pub use explanation::{Explanation, Manner, explain};
 pub use fault_text::explain_text;
 pub use faults::{BadClause, TextFaults, text_faults, texts_have_one_list};
 pub use limits::{MAX_TOLD_FAULTS, MAX_TOLD_STEPS};
 pub use line::{line_end, line_start, push_line};
+pub use peak::Peak;
 pub use place::{Place, place_of, place_outside, places_are_outside};
+pub use sorted::{SortedVerdict, Throng};

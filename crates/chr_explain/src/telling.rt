@@ -1,20 +1,15 @@
 //! What is to be told of a text, as text.
 
-use crate::diagnosis::{Census, Crowd, Diagnosis, Peak, Unlowered};
+use crate::crowd_text::push_crowd;
+use crate::diagnosis::{Census, Diagnosis, Unlowered};
 use crate::fault_text::faults_told;
 use crate::limits::MAX_TOLD_PAIRS;
 use crate::names::Names;
-use crate::overlap_text::{ToldOverlap, told_overlap};
 use crate::pairs::{ToldPair, pairs_of};
+use crate::peak_text::push_peak;
 use crate::rule_text::{NamedProgram, ToldRule, told_rule};
 use crate::weighing_text::{push_cycle, push_found};
 use crate::weight_text::{can_lower, push_lowering, push_weights};
-use chr_base::bag::Bag;
-use chr_base::derivation::Derivation;
-use chr_base::program::Program;
-use chr_base::text::push_store;
-use chr_overlaps::cases::MAX_TYPES;
-use chr_overlaps::constants::constants;
 use chr_weighing::{MAX_SEARCH_STEPS, Weighing};
 use chr_weights::NotLowered;
 use std::alloc::{AllocError, Global};
@@ -87,145 +82,6 @@ fn push_unknown(
     out.push_str(
         "Where other rules leave no single number that does it, a weight can be a pair, of which the first number counts for more, as in `:- chr_weight a/0 = 1,0.`\n",
     )
-}
-
-/// Adds the steps of one side, a line for each, and its end.
-fn push_side(
-    alloc: Global,
-    out: &mut String,
-    source: NamedProgram<'_>,
-    side: &Derivation,
-    stores: &[Bag],
-    end: &Bag,
-) -> Result<(), AllocError> {
-    for (i, (step, store)) in side.steps.iter().zip(stores.iter()).enumerate() {
-        write!(out, "  {}. ", usize::saturating_add(i, 1))?;
-        if let Some(rule) = told_rule(source, step.rule as usize) {
-            rule.push_step(alloc, out, &step.heads)?;
-        }
-        out.push_str(", and leaves ")?;
-        push_store(alloc, out, source.program, store)?;
-        out.push_str("\n")?;
-    }
-    let more = side.steps.len().saturating_sub(stores.len());
-    if 0 < more {
-        write!(out, "  and {more} steps more\n")?;
-    }
-    out.push_str("  end: ")?;
-    push_store(alloc, out, source.program, end)?;
-    out.push_str("\n")
-}
-
-/// Adds the values of the variables of both rules, where they have some.
-fn push_values(
-    alloc: Global,
-    out: &mut String,
-    told: ToldOverlap<'_>,
-    peak: &Peak,
-) -> Result<(), AllocError> {
-    let mut values = String::new(alloc);
-    if let Some(step) = peak.failure.left.steps.first() {
-        told.first.push_values(&mut values, &step.heads)?;
-    }
-    if let Some(step) = peak.failure.right.steps.first() {
-        told.second.push_values(&mut values, &step.heads)?;
-    }
-    if let Some(values) = values.as_str().strip_prefix(", ") {
-        write!(out, "Values with which they disagree: {values}\n")?;
-    }
-    Ok(())
-}
-
-/// Tells of a case whose sides end in different stores.
-fn push_peak(
-    alloc: Global,
-    out: &mut String,
-    names: &Names,
-    peak: &Peak,
-) -> Result<(), AllocError> {
-    let failure = &peak.failure;
-    let source = NamedProgram {
-        program: peak.weighed.program(),
-        names,
-    };
-    let Some(told) = told_overlap(source, &failure.overlap) else {
-        return Ok(());
-    };
-    out.push_str("refused 21: one store comes to two ends\n")?;
-    told.push_rules(alloc, out)?;
-    told.push_matched(alloc, out)?;
-    push_values(alloc, out, told, peak)?;
-    out.push_str("The store: ")?;
-    push_store(alloc, out, source.program, &failure.left.start)?;
-    out.push_str("\nOne way:\n")?;
-    push_side(
-        alloc,
-        out,
-        source,
-        &failure.left,
-        &peak.left,
-        &failure.left_end,
-    )?;
-    out.push_str("The other way:\n")?;
-    push_side(
-        alloc,
-        out,
-        source,
-        &failure.right,
-        &peak.right,
-        &failure.right_end,
-    )?;
-    out.push_str("Two replicas that took these rules in another order would disagree for ever.\n")?;
-    out.push_str(
-        "Add a rule that takes one end to the other, or write a guard under which only one of the two steps is possible.\n",
-    )
-}
-
-/// Tells of an overlap with too many order types.
-fn push_crowd(
-    alloc: Global,
-    out: &mut String,
-    names: &Names,
-    crowd: &Crowd,
-) -> Result<(), AllocError> {
-    let program = crowd.weighed.program();
-    let overlap = &crowd.too_many.overlap;
-    let classes = crowd.too_many.classes;
-    let Some(told) = told_overlap(NamedProgram { program, names }, overlap) else {
-        return Ok(());
-    };
-    write!(
-        out,
-        "refused 22: an overlap has more than {MAX_TYPES} order types\n"
-    )?;
-    told.push_rules(alloc, out)?;
-    told.push_matched(alloc, out)?;
-    write!(
-        out,
-        "Their variables have {classes} classes of equal values that no constant binds"
-    )?;
-    push_constants(alloc, out, program)?;
-    out.push_str("Judge it with --wide, which looks only at what rules can compare.\nOr narrow ")?;
-    told.push_widest(alloc, out)?;
-    out.push_str(": write fewer arguments, or constants or one variable twice among them.\n")
-}
-
-/// Adds the constants with which free values are compared.
-fn push_constants(alloc: Global, out: &mut String, program: &Program) -> Result<(), AllocError> {
-    let constants = constants(alloc, program.rules())?;
-    for (i, constant) in constants.iter().enumerate() {
-        let before = if i == 0 {
-            "; the program's constants are "
-        } else {
-            ", "
-        };
-        write!(out, "{before}{constant}")?;
-    }
-    out.push_str(if constants.is_empty() {
-        "; the program has no constants.\n"
-    } else {
-        ".\n"
-    })
 }
 
 /// Tells of an accepted program.
