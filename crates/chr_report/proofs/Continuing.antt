@@ -38,23 +38,6 @@ goes_on ds rules all start before line ls old out new more h g = record { with_r
         let w = h.with_rest (g.text ++ 10 ∷ tail) (rw e first) in
         (w.0, w.1, w.2 ∙ sym (ap (λ o. o ++ tail) g.out_is ∙ append_assoc (out ++ g.text) (10 ∷ []) tail ∙ append_assoc out g.text (10 ∷ tail)))
 
--- what is answered first, and then more
-pub goes_through : (ds : List Declaration) (rules : List Rule) (all : List (List ℕ)) (start : List Operations) (before : List ℕ) (mid : List (List ℕ)) (now : List Operations) (out : List ℕ) (ls : List (List ℕ)) (new : List Operations) (more : List ℕ)
-    → Continues ds rules all start before mid now out → Continues ds rules mid now out ls new more → Continues ds rules all start before ls new more
-goes_through ds rules all start before mid now out ls new more h g = record {
-  with_rest = λ tail a. let m = g.with_rest tail a in let w = h.with_rest m.0 m.1 in (w.0, w.1, w.2 ∙ m.2);
-}
-
-pub goes_further : (text : List ℕ) (s t u : Answering) → GoesOn text s t → GoesOn text t u → GoesOn text s u
-goes_further text s t u h g = record {
-  ready = g.ready;
-  program = g.program ∙ h.program;
-  answered =
-      goes_through (declarations (served s.service)) (rules_of (served s.service)) (left_lines text s.left) (held s.service) (string_bytes s.out) (left_lines text t.left) (held t.service) (string_bytes t.out) (left_lines text u.left) (held u.service) (string_bytes u.out)
-      h.answered
-      (subst (λ a. Continues (declarations (program_in a)) (rules_of (program_in a)) (left_lines text t.left) (held t.service) (string_bytes t.out) (left_lines text u.left) (held u.service) (string_bytes u.out)) h.program g.answered);
-}
-
 -- what comes after the end of the first line of a text's last bytes are last bytes of it
 pub last_after : (text line rest : List ℕ) (left : ℕ) → last_bytes left text ≡ line ++ 10 ∷ rest → last_bytes (length rest) text ≡ rest
 last_after text line rest left e =
@@ -67,9 +50,6 @@ last_after text line rest left e =
 
 pub first_line_left : (text line rest : List ℕ) (left : ℕ) → last_bytes left text ≡ line ++ 10 ∷ rest → lines (last_bytes left text) ≡ line ∷ lines rest → left_lines text (Some left) ≡ line ∷ left_lines text (Some (length rest))
 first_line_left text line rest left e h = h ∙ ap (λ r. line ∷ lines r) (sym (last_after text line rest left e))
-
-pub fewer_left : (text rest : List ℕ) (left : ℕ) → length rest < length (last_bytes left text) → length rest + 1 < left + 1
-fewer_left text rest left h = let d = length-drop (length text - left) text in omega (arith, h, d)
 
 -- all bytes of a text are its last ones
 pub all_left : (text : List ℕ) → left_lines text (Some (length text)) ≡ lines text
@@ -94,13 +74,6 @@ first_answered text s t left line stripped is split strip ready program answers 
 }
 
 -- nothing is left
-pub stays : (text : List ℕ) (s : Answering) → IsBetweenLines s.service → GoesOn text s s
-stays text s ready = record {
-  ready = ready;
-  program = refl;
-  answered = begins (declarations (served s.service)) (rules_of (served s.service)) (left_lines text s.left) (held s.service) (string_bytes s.out);
-}
-
 pub all_answered : (text : List ℕ) (s t : Answering) → s.left ≡ Some (length text) → t.left ≡ None → GoesOn text s t
     → AnswersRest (declarations (served s.service)) (rules_of (served s.service)) (lines text) (held s.service) (string_bytes s.out) (string_bytes t.out)
 all_answered text s t all none h =

@@ -102,9 +102,10 @@ pub(crate) fn output_of(
     }
 }
 
-/// Reads all of the input, of which it holds what decides the output, and then writes that: the verdict on the program text, and by `Verb::Run` for an
-/// accepted program the answer line of each command. What is written does not depend on the numbers of workers and of
-/// parts, by which stores are rested.
+/// Reads all of the input, of which it holds what decides the output, and then writes that: the verdict on the program
+/// text, and by `Verb::Run` for an accepted program the answer line of each command. What is written does not depend on
+/// the numbers of workers and of parts, by which stores are rested. The replicas of a run are not freed: they
+/// are left to the end of the process.
 ///
 /// # Errors
 ///
