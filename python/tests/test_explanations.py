@@ -28,6 +28,8 @@ DECLARED = ":- chr_constraint a/0, b/0, c/0, d/0.\n"
 SMALL_WEIGHTS = list(itertools.product(range(1, 7), repeat=len(SYMBOLS)))
 IN_CYCLE = re.compile(r"  (?:once|(\d+) times) rule (\d+): ")
 
+PROPOSED = re.compile(r"with this in place of rule (\d+):\n((?:  .*\n)+)")
+
 Rule = tuple[list[str], list[str]]
 """What a rule removes, and its body."""
 
@@ -99,6 +101,27 @@ class Explanations(unittest.TestCase):
     def test_comments_and_nothing_are_programs(self) -> None:
         for text in (b"", b"% a. b\n"):
             self.assertEqual(run("explain", text)[0], 0)
+
+
+def pasted(text: str, number: int, rules: str) -> bytes:
+    """The text with these rules in place of the rule of this number."""
+    clauses = re.sub("%.*", "", text).split(".")
+    places = [place for place, clause in enumerate(clauses[:-1]) if not clause.strip().startswith(":-")]
+    clauses[places[number - 1]] = rules.strip().removesuffix(".")
+    return ".".join(clauses).encode()
+
+
+class Proposals(unittest.TestCase):
+    def test_proposed_rules_are_pasted(self) -> None:
+        """With each of them the text is accepted."""
+        told = 0
+        for file in sorted(TEXTS.glob("*.chr")):
+            text = file.read_bytes()
+            for number, rules in PROPOSED.findall(run("explain", text)[1]):
+                told += 1
+                with self.subTest(file.name, number=number, rules=rules):
+                    self.assertEqual(run("check", pasted(text.decode(), int(number), rules))[0], 0)
+        self.assertGreater(told, 20)
 
 
 def random_rules(chance: random.Random) -> list[Rule]:

@@ -1,6 +1,6 @@
 """Runs to which memory is refused, one growth after another: each ends as it would have, or with status 4 and nothing
 written. Of a service what was written by then is a beginning of the whole, of whole lines. An explanation may lack the
-weights that are searched for."""
+weights that are searched for, and the changes that are proposed."""
 
 import itertools
 import os
@@ -23,6 +23,8 @@ WORKERS = os.cpu_count() or 1
 WANT_OF_MEMORY = 4
 BEFORE_WEIGHTS = b"so that the rules come to an end.\n"
 WITHOUT_WEIGHTS = b"A search of at most 400 steps found neither weights for all rules, nor rules that have none.\n"
+
+BEFORE_PROPOSALS = b"under which only one of the two steps is possible.\n"
 
 EACH = 20
 """So many growths of an example are refused one by one. Later ones are chosen at random, farther and farther apart."""
@@ -49,9 +51,17 @@ class Case:
         before, mark, _ = self.output.partition(BEFORE_WEIGHTS)
         return bool(mark) and output.startswith(before + mark + WITHOUT_WEIGHTS)
 
+    def lacks_proposals(self, output: bytes) -> bool:
+        """Whether it is the explanation of a refusal 21 for which a try ran out of memory."""
+        before, mark, _ = self.output.partition(BEFORE_PROPOSALS)
+        return bool(mark) and output == before + mark
+
+    def lacks_something(self, output: bytes) -> bool:
+        return self.lacks_weights(output) or self.lacks_proposals(output)
+
     def allows(self, status: int, output: bytes) -> bool:
         if status != WANT_OF_MEMORY:
-            return status == self.status and (output == self.output or self.lacks_weights(output))
+            return status == self.status and (output == self.output or self.lacks_something(output))
         if self.words[0] != "serve":
             return not output
         return self.output.startswith(output) and (not output or output.endswith(b"\n"))

@@ -6,3 +6,4 @@ mod Rising
 mod Passing
 mod Counting
 mod Verdicts
+mod Proposals

@@ -3,4 +3,5 @@ pub mod Lines
 pub mod BadClauses
 pub mod Verdicts
 pub mod Diagnoses
+pub mod Proposals
 pub mod working

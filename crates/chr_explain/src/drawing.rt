@@ -226,7 +226,7 @@ fn push_told(
     text: &[u8],
     diagnosis: &Diagnosis,
 ) -> Result<(), AllocError> {
-    let told = told_text(alloc, text, diagnosis, false)?;
+    let told = told_text(alloc, text, diagnosis, &[], false)?;
     push_text(out, told.as_str())
 }
 

@@ -20,3 +20,9 @@ pub const MAX_TOLD_PAIRS: usize = 20;
 
 /// How many bytes of a store are drawn.
 pub const MAX_DRAWN_BYTES: usize = 2_000;
+
+/// How many changes of one rule are tried.
+pub const MAX_TRIES: usize = 12;
+
+/// How many proposals are told.
+pub const MAX_PROPOSALS: usize = 3;

@@ -58,7 +58,7 @@ fn rule_names(alloc: Global, tokens: &[PlacedToken<'_>]) -> Result<RuleNames, Al
 }
 
 /// Whether these are the tokens of a rule, in a text without bad clauses.
-fn is_rule(tokens: &[PlacedToken<'_>]) -> bool {
+pub(crate) fn is_rule(tokens: &[PlacedToken<'_>]) -> bool {
     match tokens {
         [first, ..] => first.kind != Kind::Directive,
         [] => false,

@@ -53,7 +53,7 @@ impl fmt::Display for ToldRule<'_> {
 }
 
 /// The number of the variable that this word of a canonical text is. Names of symbols begin with small letters.
-fn variable_in(word: &str) -> Option<usize> {
+pub(crate) fn variable_in(word: &str) -> Option<usize> {
     let digits = word.strip_prefix("V")?;
     digits.parse::<usize>().ok()
 }
@@ -100,7 +100,12 @@ impl ToldRule<'_> {
     }
 
     /// Adds a canonical text of the rule with the names of its variables.
-    fn push_named(&self, alloc: Global, out: &mut String, text: &str) -> Result<(), AllocError> {
+    pub(crate) fn push_named(
+        &self,
+        alloc: Global,
+        out: &mut String,
+        text: &str,
+    ) -> Result<(), AllocError> {
         let mut word = String::new(alloc);
         for c in text.chars() {
             if c == '_' || c.is_ascii_alphanumeric() {

@@ -7,6 +7,8 @@ use crate::limits::MAX_TOLD_PAIRS;
 use crate::names::Names;
 use crate::pairs::{ToldPair, pairs_of};
 use crate::peak_text::push_peak;
+use crate::proposal::Proposal;
+use crate::proposal_text::push_proposals;
 use crate::rule_text::{NamedProgram, ToldRule, told_rule};
 use crate::weighing_text::{push_cycle, push_found};
 use crate::weight_text::{can_lower, push_lowering, push_weights};
@@ -133,12 +135,16 @@ fn push_program(
     out: &mut String,
     names: &Names,
     diagnosis: &Diagnosis,
+    proposals: &[Proposal],
     all: bool,
 ) -> Result<(), AllocError> {
     match diagnosis {
         Diagnosis::Text(_) => Ok(()),
         Diagnosis::NotLowered(told) => push_unlowered(alloc, out, names, told),
-        Diagnosis::Fails(peak) => push_peak(alloc, out, names, peak),
+        Diagnosis::Fails(peak) => {
+            push_peak(alloc, out, names, peak)?;
+            push_proposals(out, proposals)
+        }
         Diagnosis::TooManyTypes(crowd) => push_crowd(alloc, out, names, crowd),
         Diagnosis::Accepted(census) => push_census(alloc, out, census, all),
     }
@@ -149,11 +155,12 @@ fn program_told(
     alloc: Global,
     text: &[u8],
     diagnosis: &Diagnosis,
+    proposals: &[Proposal],
     all: bool,
 ) -> Result<String, AllocError> {
     let names = Names::of(alloc, text)?;
     let mut out = String::new(alloc);
-    push_program(alloc, &mut out, &names, diagnosis, all)?;
+    push_program(alloc, &mut out, &names, diagnosis, proposals, all)?;
     Ok(out)
 }
 
@@ -162,10 +169,11 @@ pub(crate) fn told_text(
     alloc: Global,
     text: &[u8],
     diagnosis: &Diagnosis,
+    proposals: &[Proposal],
     all: bool,
 ) -> Result<String, AllocError> {
     match diagnosis {
         Diagnosis::Text(faults) => faults_told(alloc, text, faults),
-        _ => program_told(alloc, text, diagnosis, all),
+        _ => program_told(alloc, text, diagnosis, proposals, all),
     }
 }

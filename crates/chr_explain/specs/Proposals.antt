@@ -1,0 +1,13 @@
+-- What is proposed of a refused text is accepted.
+use Rattle.std.specs.Prelude.{ℕ, ◌++◌, List, take, drop, string_bytes}
+use Rattle.chr_explain.specs.declared.diagnosis.Verdict.TheVariants.{Accepted}
+use Rattle.chr_explain.specs.declared.proposal.Proposal.{Proposal}
+use Rattle.chr_explain.specs.Verdicts.{IsVerdict}
+
+-- the text with the proposed rules in place of the bytes of a clause
+abbrev pub proposed_text : List ℕ → Proposal → List ℕ
+proposed_text text p = take p.from text ++ string_bytes p.rules ++ drop p.to text
+
+-- that text is a program that is accepted
+abbrev pub IsProposal : List ℕ → Proposal → Type 0
+IsProposal text p = IsVerdict (proposed_text text p) Accepted

@@ -1,0 +1,130 @@
+//! What is proposed of a case that fails.
+ghost use Rattle.std.specs.Prelude.{IfOk};
+ghost use Rattle.std.specs.List.{All};
+ghost use Rattle.chr_explain.specs.Proposals.{IsProposal};
+
+use crate::diagnosis::Diagnosis;
+use crate::draft::candidates;
+use crate::draft_text::drafts_text;
+use crate::limits::{MAX_PROPOSALS, MAX_TRIES};
+use crate::names::{Names, is_rule};
+use crate::peak::Peak;
+use crate::place::place_outside;
+use crate::proposal::{Proposal, accepted_of};
+use crate::rule_text::{NamedProgram, told_rule};
+use crate::token::{PlacedToken, placed_tokens};
+use chr_syntax::{next_clause, without_comments};
+use std::alloc::{AllocError, Global};
+use std::thread::Threads;
+
+/// Where a clause begins in a text, and where it ends.
+#[derive(Clone, Copy)]
+struct Span {
+    from: usize,
+    to: usize,
+}
+
+/// Where a clause of so many bytes stands in a text, behind so many bytes outside comments.
+fn span_of(text: &[u8], before: usize, tokens: &[PlacedToken<'_>], len: usize) -> Option<Span> {
+    let first = tokens.first()?;
+    let from = place_outside(text, before.saturating_add(first.at))?;
+    let stop = place_outside(text, before.saturating_add(len))?;
+    Some(Span {
+        from,
+        to: stop.saturating_add(1),
+    })
+}
+
+/// Where the clause of the rule of this number stands in the text of a program.
+fn rule_span(alloc: Global, text: &[u8], number: usize) -> Result<Option<Span>, AllocError> {
+    let plain = without_comments(alloc, text)?;
+    let mut rest = plain.as_slice();
+    let mut rules: usize = 0;
+    for _ in 0..plain.len() {
+        if let Some((clause, after)) = next_clause(rest) {
+            let tokens = placed_tokens(alloc, clause)?;
+            rules = rules.saturating_add(usize::from(is_rule(&tokens)));
+            if rules == number {
+                let before = plain.len().saturating_sub(rest.len());
+                return Ok(span_of(text, before, &tokens, clause.len()));
+            }
+            rest = after;
+        }
+    }
+    Ok(None)
+}
+
+/// Adds what may stand in place of the rule of this number.
+fn push_tries(
+    alloc: Global,
+    tries: &mut Vec<Proposal>,
+    text: &[u8],
+    source: NamedProgram<'_>,
+    number: usize,
+) -> Result<(), AllocError> {
+    let Some(told) = told_rule(source, number) else {
+        return Ok(());
+    };
+    let Some(span) = rule_span(alloc, text, number)? else {
+        return Ok(());
+    };
+    let candidates = candidates(alloc, told.rule)?;
+    for drafts in candidates.iter().take(MAX_TRIES) {
+        if !drafts.is_empty() {
+            tries.push(Proposal {
+                rule: number,
+                from: span.from,
+                to: span.to,
+                rules: drafts_text(alloc, told, drafts)?,
+            })?;
+        }
+    }
+    Ok(())
+}
+
+/// What may stand in place of one of the two rules that lead to two ends.
+fn tries_of(alloc: Global, text: &[u8], peak: &Peak) -> Result<Vec<Proposal>, AllocError> {
+    let names = Names::of(alloc, text)?;
+    let source = NamedProgram {
+        program: peak.weighed.program(),
+        names: &names,
+    };
+    let overlap = &peak.failure.overlap;
+    let mut tries = Vec::new(alloc);
+    push_tries(alloc, &mut tries, text, source, overlap.first as usize)?;
+    if overlap.first != overlap.second {
+        push_tries(alloc, &mut tries, text, source, overlap.second as usize)?;
+    }
+    Ok(tries)
+}
+
+/// What is proposed of a case that fails.
+fn peak_proposals(
+    rt: &(impl Threads + Sync),
+    alloc: Global,
+    text: &[u8],
+    peak: &Peak,
+) -> Result<Vec<Proposal>, AllocError>
+    ensures { IfOk result (λ v. All (IsProposal text.now) v.items) }
+{
+    let tries = tries_of(alloc, text, peak)?;
+    accepted_of(rt, alloc, text, MAX_PROPOSALS, tries)
+}
+
+/// Rules with which a text is accepted of which a case fails, `MAX_PROPOSALS` at most; none where memory is refused.
+pub(crate) fn proposals(
+    rt: &(impl Threads + Sync),
+    alloc: Global,
+    text: &[u8],
+    diagnosis: &Diagnosis,
+) -> Vec<Proposal>
+    ensures { All (IsProposal text.now) result.items }
+{
+    let Diagnosis::Fails(peak) = diagnosis else {
+        return Vec::new(alloc);
+    };
+    match peak_proposals(rt, alloc, text, peak) {
+        Ok(proposals) => proposals,
+        Err(_) => Vec::new(alloc),
+    }
+}
