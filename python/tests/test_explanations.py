@@ -1,5 +1,5 @@
-"""Explanations of texts. `explanations/NAME.chr` is told as `NAME.out` has it, by `--all` as `NAME.all`, and drawn by
-`--dot` as `NAME.dot`."""
+"""Explanations of texts. `explanations/NAME.chr` is told as `NAME.out` has it, by `--all` as `NAME.all`, by `--wide` as
+`NAME.wide`, and drawn by `--dot` as `NAME.dot`, by `--wide --dot` as `NAME.wide_dot`."""
 
 import itertools
 import os
@@ -14,7 +14,13 @@ from pathlib import Path
 from chrrep.node import program_path
 
 TEXTS = Path(__file__).resolve().parent / "explanations"
-OPTIONS = {".out": (), ".all": ("--all",), ".dot": ("--dot",)}
+OPTIONS = {
+    ".out": (),
+    ".all": ("--all",),
+    ".dot": ("--dot",),
+    ".wide": ("--wide",),
+    ".wide_dot": ("--dot", "--wide"),
+}
 MAX_TEXT = 65_536
 SECONDS = 60.0
 WORKERS = os.cpu_count() or 1
@@ -44,8 +50,9 @@ class Explanations(unittest.TestCase):
     maxDiff = None
 
     def check(self, text: bytes, told: str, *options: str) -> None:
-        """An explanation ends with the status of a check."""
-        self.assertEqual(run("explain", text, *options), (run("check", text)[0], told))
+        """An explanation ends with the status of a check, by sorted cases where it is by them."""
+        judged = [option for option in options if option == "--wide"]
+        self.assertEqual(run("explain", text, *options), (run("check", text, *judged)[0], told))
 
     def test_texts(self) -> None:
         texts = sorted(TEXTS.glob("*.chr"))
