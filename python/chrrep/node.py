@@ -93,15 +93,20 @@ def check(
     answer = ended.stdout.decode()
     if ended.returncode not in (0, 1) or not answer.endswith("\n"):
         raise NodeDied("chrrep check gave no verdict", ended.returncode)
-    return _judged(answer.removesuffix("\n"), text, chrrep)
+    return _judged(answer.removesuffix("\n"), text, chrrep, wide)
 
 
 def explain(
-    program: ProgramText, chrrep: str | os.PathLike[str] | None = None, *, timeout: float | None = None
+    program: ProgramText,
+    chrrep: str | os.PathLike[str] | None = None,
+    *,
+    wide: bool = False,
+    timeout: float | None = None,
 ) -> str:
-    """Why a program text is refused and where, or why it is accepted, in sentences: what `chrrep explain` writes.
-    `NodeDied` where it takes longer than `timeout` seconds."""
-    return _run([program_path(chrrep), "explain"], text_bytes(program), timeout).stdout.decode()
+    """Why a program text is refused and where, or why it is accepted, in sentences: what `chrrep explain` writes; with
+    `wide` by sorted cases. `NodeDied` where it takes longer than `timeout` seconds."""
+    words = [program_path(chrrep), "explain", *_options(wide)]
+    return _run(words, text_bytes(program), timeout).stdout.decode()
 
 
 def _run(words: list[str], text: bytes, timeout: float | None) -> subprocess.CompletedProcess[bytes]:
@@ -112,12 +117,12 @@ def _run(words: list[str], text: bytes, timeout: float | None) -> subprocess.Com
         raise NodeDied(f"chrrep {words[1]} gave no answer within {timeout} seconds") from late
 
 
-def _judged(answer: str, text: bytes, chrrep: str | os.PathLike[str] | None) -> Verdict:
+def _judged(answer: str, text: bytes, chrrep: str | os.PathLike[str] | None, wide: bool) -> Verdict:
     """What a line of verdict says of an accepted program; raises what it says of another."""
     try:
         return verdict_of(answer) or raise_verdict(answer)
     except RefusedProgram as refusal:
-        refusal.explained_by(lambda: explain(text, chrrep))
+        refusal.explained_by(lambda: explain(text, chrrep, wide=wide))
         raise
 
 
@@ -165,7 +170,7 @@ class Node:
         self._dropped = weakref.finalize(self, _end_process, self._process)
         _LOG.debug("process %d of origin %d begins", self.pid, origin)
         try:
-            self.verdict = _judged(self._exchange(text + end), text, chrrep)
+            self.verdict = _judged(self._exchange(text + end), text, chrrep, wide)
         except BaseException as fault:
             self._end(NodeDied("the node never came up"), by_force=not isinstance(fault, Refused))
             raise

@@ -133,8 +133,7 @@ def told_first(verdict: str) -> str:
 
 
 def all_commands(of: Input) -> list[Words]:
-    explained = [] if of.wide else [("explain",)]
-    return [("check", *of.judged), ("run", *of.answered), ("serve", *of.answered), *explained]
+    return [("check", *of.judged), ("run", *of.answered), ("serve", *of.answered), ("explain", *of.judged)]
 
 
 def some_commands(chance: random.Random, of: Input, line: str, is_first: bool) -> list[Words]:

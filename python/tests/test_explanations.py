@@ -1,5 +1,5 @@
-"""Explanations of texts. `explanations/NAME.chr` is told as `NAME.out` has it, by `--all` as `NAME.all`, and drawn by
-`--dot` as `NAME.dot`."""
+"""Explanations of texts. `explanations/NAME.chr` is told as `NAME.out` has it, by `--all` as `NAME.all`, by `--wide` as
+`NAME.wide`, and drawn by `--dot` as `NAME.dot`, by `--wide --dot` as `NAME.wide_dot`."""
 
 import itertools
 import os
@@ -14,7 +14,13 @@ from pathlib import Path
 from chrrep.node import program_path
 
 TEXTS = Path(__file__).resolve().parent / "explanations"
-OPTIONS = {".out": (), ".all": ("--all",), ".dot": ("--dot",)}
+OPTIONS = {
+    ".out": (),
+    ".all": ("--all",),
+    ".dot": ("--dot",),
+    ".wide": ("--wide",),
+    ".wide_dot": ("--dot", "--wide"),
+}
 MAX_TEXT = 65_536
 SECONDS = 60.0
 WORKERS = os.cpu_count() or 1
@@ -44,8 +50,9 @@ class Explanations(unittest.TestCase):
     maxDiff = None
 
     def check(self, text: bytes, told: str, *options: str) -> None:
-        """An explanation ends with the status of a check."""
-        self.assertEqual(run("explain", text, *options), (run("check", text)[0], told))
+        """An explanation ends with the status of a check, by sorted cases where it is by them."""
+        judged = [option for option in options if option == "--wide"]
+        self.assertEqual(run("explain", text, *options), (run("check", text, *judged)[0], told))
 
     def test_texts(self) -> None:
         texts = sorted(TEXTS.glob("*.chr"))
@@ -113,15 +120,15 @@ def pasted(text: str, number: int, rules: str) -> bytes:
 
 class Proposals(unittest.TestCase):
     def test_proposed_rules_are_pasted(self) -> None:
-        """With each of them the text is accepted."""
+        """With each of them the text is accepted, by the cases that were asked for."""
         told = 0
-        for file in sorted(TEXTS.glob("*.chr")):
+        for file, options in itertools.product(sorted(TEXTS.glob("*.chr")), ((), ("--wide",))):
             text = file.read_bytes()
-            for number, rules in PROPOSED.findall(run("explain", text)[1]):
+            for number, rules in PROPOSED.findall(run("explain", text, *options)[1]):
                 told += 1
-                with self.subTest(file.name, number=number, rules=rules):
-                    self.assertEqual(run("check", pasted(text.decode(), int(number), rules))[0], 0)
-        self.assertGreater(told, 20)
+                with self.subTest(file.name, options=options, number=number, rules=rules):
+                    self.assertEqual(run("check", pasted(text.decode(), int(number), rules), *options)[0], 0)
+        self.assertGreater(told, 40)
 
 
 def random_rules(chance: random.Random) -> list[Rule]:

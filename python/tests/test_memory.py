@@ -78,11 +78,10 @@ def cases(given: bytes, options: Sequence[str], output: bytes) -> Iterator[Case]
     yield Case(("run", *options), given, status, output)
     yield Case(("serve", *options), given, status, output)
     yield Case(("check", *judged), given, status, output.partition(b"\n")[0] + b"\n")
-    if not judged:
-        words = [program_path(), "explain"]
-        told = subprocess.run(words, input=given, stdout=subprocess.PIPE, timeout=SECONDS, check=False)
-        assert told.returncode == status, told
-        yield Case(("explain",), given, status, told.stdout)
+    words = [program_path(), "explain", *judged]
+    told = subprocess.run(words, input=given, stdout=subprocess.PIPE, timeout=SECONDS, check=False)
+    assert told.returncode == status, told
+    yield Case(("explain", *judged), given, status, told.stdout)
 
 
 def row_cases() -> Iterator[Case]:

@@ -186,7 +186,10 @@ module _ (name : Text) (most : ℕ) (named : IsNamed name most) where
   commands_keep = (
     (flag_keeps false (codes "wide") named.wide, (help_keeps false, tt)),
     (
-      (flag_keeps false (codes "dot") named.dot, (flag_keeps false (codes "all") named.all, (help_keeps false, tt))),
+      (
+        flag_keeps false (codes "dot") named.dot,
+        (flag_keeps false (codes "all") named.all, (flag_keeps false (codes "wide") named.wide, (help_keeps false, tt))),
+      ),
       (answering_keep, (answering_keep, ((topic_keeps false, tt), tt))),
     ),
   )

@@ -47,9 +47,11 @@ pub(crate) const EXPLAIN: &str =
 /// What `explain` reads and writes.
 pub(crate) const EXPLAIN_MORE: &str = with_statuses!(
     "Reads what `check` reads. Writes the verdict as sentences: where a text is wrong and what would be right, or the rules
-that disagree and how; with --dot a drawing of it for Graphviz.
+that disagree and how; with --dot a drawing of it for Graphviz. Of a program that `check` refuses as 22 it tells what
+`check --wide` says too.
 
 Example: chrrep explain < FILE
+         chrrep explain --wide < FILE
          chrrep explain --dot < FILE | dot -Tsvg > FILE.svg"
 );
 

@@ -20,7 +20,7 @@ const ANSWERING: [&str; 2] = ["run", "serve"];
 /// The options of `explain` alone.
 const OF_EXPLAIN: [&str; 2] = ["--dot", "--all"];
 
-/// The option of the other commands.
+/// The option of all commands.
 const WIDE: &str = "--wide";
 
 /// What the words show of why they were refused.
@@ -113,7 +113,7 @@ fn commands_with(option: &str) -> Option<&'static str> {
     } else if OF_EXPLAIN.contains(&option) {
         Some("'explain'")
     } else if option == WIDE {
-        Some("'check', 'run' and 'serve'")
+        Some("each command")
     } else {
         None
     }
@@ -123,10 +123,8 @@ fn commands_with(option: &str) -> Option<&'static str> {
 fn has_option(command: &str, option: &str) -> bool {
     if WITH_VALUE.contains(&option) {
         ANSWERING.contains(&command)
-    } else if option == WIDE {
-        command != "explain"
     } else {
-        command == "explain"
+        option == WIDE || command == "explain"
     }
 }
 

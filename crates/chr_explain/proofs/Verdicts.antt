@@ -1,10 +1,12 @@
 -- The verdict of what is told of a text.
 use Rattle.std.specs.Prelude.{List, ℕ, Result, Ok, Err, IfOk}
 use Rattle.std.proofs.Common.{inl, inr}
+use Rattle.chr_join.specs.declared.coverage.Coverage.{Coverage}
+use Rattle.chr_join.specs.declared.coverage.Coverage.TheVariants.{Joint, Sorted}
 use Rattle.chr_join.specs.declared.refused.Cause.TheVariants as cause
 use Rattle.chr_join.specs.AcceptedPrograms.{cases_of}
 use Rattle.chr_explain.specs.declared.diagnosis.Diagnosis.{Diagnosis}
-use Rattle.chr_explain.specs.declared.diagnosis.Diagnosis.TheVariants.{Text, NotLowered, Fails, TooManyTypes, Accepted}
+use Rattle.chr_explain.specs.declared.diagnosis.Diagnosis.TheVariants.{Text, NotLowered, Fails, TooManyTypes, TooManyCombinations, Accepted}
 use Rattle.chr_explain.specs.Verdicts.{IsVerdict, verdict_of}
 use Rattle.chr_base.specs.declared.program.Program.{Program}
 use Rattle.chr_read.specs.declared.fault.Fault.{Fault}
@@ -13,11 +15,11 @@ use Rattle.chr_read.specs.ProgramTexts.{IsAnswer}
 use Rattle.chr_explain.specs.BadClauses.{IsRefused}
 use Rattle.chr_explain.specs.Diagnoses.{IsDiagnosis, IsDiagnosisOf}
 
-pub verdict_is : (text : List ℕ) (d : Diagnosis) → IsDiagnosis text d → IsVerdict text (verdict_of d)
-verdict_is text (Text f) h = inl h.0
-verdict_is text (NotLowered u) h =
+pub verdict_is : (coverage : Coverage) (text : List ℕ) (d : Diagnosis) → IsDiagnosis coverage text d → IsVerdict coverage text (verdict_of d)
+verdict_is coverage text (Text f) h = inl h.0
+verdict_is coverage text (NotLowered u) h =
     inr (h.0, h.1, inl (record { rule = u.fault.rule; before = u.fault.before; after = u.fault.after; first = h.2.1 }))
-verdict_is text (Fails k) h = inr (
+verdict_is coverage text (Fails k) h = inr (
   h.0,
   h.1,
   inr (record {
@@ -27,30 +29,43 @@ verdict_is text (Fails k) h = inr (
     some = λ e. cc;
   }),
 )
-verdict_is text (TooManyTypes c) h = inr (
+verdict_is Joint text (TooManyTypes c) h = inr (
   h.0,
   h.1,
   inr (record {
     lowers = h.2.0;
     cause = cause.TooManyTypes c.too_many;
-    first = h.2.1;
+    first = h.2.1.0;
     some = λ e. cc;
   }),
 )
-verdict_is text (Accepted c) h =
+verdict_is Sorted text (TooManyTypes c) h = absurd h.2.1
+verdict_is Joint text (TooManyCombinations t) h = absurd h.2.1
+verdict_is Sorted text (TooManyCombinations t) h = inr (
+  h.0,
+  h.1,
+  inr (record {
+    lowers = h.2.0;
+    cause = cause.TooManyTypes t.too_many;
+    first = h.2.1.1;
+    some = λ e. cc;
+  }),
+)
+verdict_is coverage text (Accepted c) h =
     (h.0, h.1, record { lowers = h.2.1; cases = cases_of c.accepted; accepted = h.2.2 })
 
 -- what is told of the program of a text is told of the text
-diagnosis_of : (text : List ℕ) (p : Program) (d : Diagnosis) → IsAnswer text (Ok p) → IsDiagnosisOf p d → IsDiagnosis text d
-diagnosis_of text p (Text f) a h = absurd h
-diagnosis_of text p (NotLowered u) a h = (p, a, h)
-diagnosis_of text p (Fails k) a h = (p, a, h)
-diagnosis_of text p (TooManyTypes c) a h = (p, a, h)
-diagnosis_of text p (Accepted c) a h = (p, a, h)
+diagnosis_of : (coverage : Coverage) (text : List ℕ) (p : Program) (d : Diagnosis) → IsAnswer text (Ok p) → IsDiagnosisOf coverage p d → IsDiagnosis coverage text d
+diagnosis_of coverage text p (Text f) a h = absurd h
+diagnosis_of coverage text p (NotLowered u) a h = (p, a, h)
+diagnosis_of coverage text p (Fails k) a h = (p, a, h)
+diagnosis_of coverage text p (TooManyTypes c) a h = (p, a, h)
+diagnosis_of coverage text p (TooManyCombinations t) a h = (p, a, h)
+diagnosis_of coverage text p (Accepted c) a h = (p, a, h)
 
-pub told_of_text : {E : Type 0} (text : List ℕ) (p : Program) (r : Result Diagnosis E) → IsAnswer text (Ok p) → IfOk r (IsDiagnosisOf p) → IfOk r (IsDiagnosis text)
-told_of_text text p (Ok d) a h = diagnosis_of text p d a h
-told_of_text text p (Err e) a h = h
+pub told_of_text : {E : Type 0} (coverage : Coverage) (text : List ℕ) (p : Program) (r : Result Diagnosis E) → IsAnswer text (Ok p) → IfOk r (IsDiagnosisOf coverage p) → IfOk r (IsDiagnosis coverage text)
+told_of_text coverage text p (Ok d) a h = diagnosis_of coverage text p d a h
+told_of_text coverage text p (Err e) a h = h
 
 -- a text that is no program is refused
 pub too_long_refused : (text : List ℕ) → IsAnswer text (Err TooLong) → IsRefused text

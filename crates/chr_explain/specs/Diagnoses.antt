@@ -18,17 +18,19 @@ use Rattle.chr_join.specs.declared.refused.Cause.TheVariants as cause
 use Rattle.chr_join.specs.AcceptedPrograms.{program_in, cases_of}
 use Rattle.chr_join.specs.declared.coverage.Coverage.{Coverage}
 use Rattle.chr_join.specs.declared.coverage.Coverage.TheVariants.{Joint, Sorted}
-use Rattle.chr_join.specs.Verdicts.{IsAccepted, IsAcceptedBy}
+use Rattle.chr_join.specs.Verdicts.{IsAcceptedBy}
 use Rattle.chr_join.specs.Explanations.{IsRefusal, IsRefusalBy, ReplaysApart}
 use Rattle.chr_read.specs.Meanings.{meaning_of}
 use Rattle.chr_read.specs.ProgramTexts.{IsAnswer}
 use Rattle.chr_explain.specs.declared.limits.TheConstants.{MAX_TOLD_STEPS}
 use Rattle.chr_explain.specs.declared.peak.Peak.{Peak}
 use Rattle.chr_explain.specs.declared.sorted.SortedVerdict.{SortedVerdict}
+use Rattle.chr_explain.specs.declared.sorted.Throng.{Throng}
 use Rattle.chr_explain.specs.declared.sorted.SortedVerdict.TheVariants as sorted
 use Rattle.chr_explain.specs.declared.diagnosis.Counted.{Counted}
+use Rattle.chr_explain.specs.declared.diagnosis.Crowd.{Crowd}
 use Rattle.chr_explain.specs.declared.diagnosis.Diagnosis.{Diagnosis}
-use Rattle.chr_explain.specs.declared.diagnosis.Diagnosis.TheVariants.{Text, NotLowered, Fails, TooManyTypes, Accepted}
+use Rattle.chr_explain.specs.declared.diagnosis.Diagnosis.TheVariants.{Text, NotLowered, Fails, TooManyTypes, TooManyCombinations, Accepted}
 use Rattle.chr_explain.specs.BadClauses.{IsRefused, AreFaults, TellsFirst}
 
 -- from s each step leads to the next of these stores
@@ -49,10 +51,6 @@ pub record IsPeakBy (coverage : Coverage) (rules : List Rule) (p : Peak) : Type 
   pub left : AreFirstStores rules p.failure.left p.left.items
   pub right : AreFirstStores rules p.failure.right p.right.items
 
--- the first joint case that fails
-abbrev pub IsPeakOf : List Rule → Peak → Type 0
-IsPeakOf rules p = IsPeakBy Joint rules p
-
 -- what the sorted cases say of a program: that all are joinable, the first that fails, the first overlap of too many
 -- combinations of values, or nothing
 abbrev pub IsSortedVerdict : Program → SortedVerdict → Type 0
@@ -62,32 +60,49 @@ IsSortedVerdict p (sorted.TooMany t) =
     (program_of t.weighed ≡ p) × IsRefusalBy Sorted (rules_of p) (cause.TooManyTypes t.too_many)
 IsSortedVerdict p (sorted.Unknown w) = program_of w ≡ p
 
--- the number of the overlap's cases, or 0 where it has too many order types
-abbrev pub IsCounted : List Rule → Counted → Type 0
-IsCounted rules c = ((cs : List Case) × AreCases rules c.overlap cs × (c.cases ≡ length cs))
+-- The number of the overlap's joint cases, or 0 where it has too many order types. Sorted cases are not counted by overlaps.
+abbrev pub IsCountedBy : Coverage → List Rule → Counted → Type 0
+IsCountedBy Joint rules c = ((cs : List Case) × AreCases rules c.overlap cs × (c.cases ≡ length cs))
     ⊎ ((n : ℕ) × IsTooMany rules c.overlap n × (c.cases ≡ 0))
+IsCountedBy Sorted rules c = c.cases ≡ 0
 
 -- all overlaps, each with that number
-pub record AreCounted (rules : List Rule) (counts : List Counted) : Type 0 where
+pub record AreCountedBy (coverage : Coverage) (rules : List Rule) (counts : List Counted) : Type 0 where
   pub overlaps : AreOverlaps rules (map (λ c. c.overlap) counts)
-  pub each : All (IsCounted rules) counts
+  pub each : All (IsCountedBy coverage rules) counts
 
--- what is told of a program
-abbrev pub IsDiagnosisOf : Program → Diagnosis → Type 0
-IsDiagnosisOf p (Text f) = ⊥
-IsDiagnosisOf p (NotLowered u) = (meaning_of u.program ≡ meaning_of p)
+-- the first overlap of too many order types, of which joint cases alone know, and what the sorted cases say
+abbrev pub IsCrowdBy : Coverage → Program → Crowd → Type 0
+IsCrowdBy Joint p c = IsRefusal (rules_of p) (cause.TooManyTypes c.too_many) × IsSortedVerdict p c.sorted
+IsCrowdBy Sorted p c = ⊥
+
+-- the first overlap of too many combinations of values, of which sorted cases alone know
+abbrev pub IsThrongBy : Coverage → Program → Throng → Type 0
+IsThrongBy Joint p t = ⊥
+IsThrongBy Sorted p t =
+    (program_of t.weighed ≡ p) × IsRefusalBy Sorted (rules_of p) (cause.TooManyTypes t.too_many)
+
+-- what is told of a program by the cases that a coverage has
+abbrev pub IsDiagnosisOf : Coverage → Program → Diagnosis → Type 0
+IsDiagnosisOf coverage p (Text f) = ⊥
+IsDiagnosisOf coverage p (NotLowered u) = (meaning_of u.program ≡ meaning_of p)
     × IsFirstNotLowered (declarations p) (rules_of p) u.fault.rule u.fault.before u.fault.after
     × IsWeighing u.program u.weighing
-IsDiagnosisOf p (Fails k) = (program_of k.weighed ≡ p) × ProgramLowers p × IsPeakOf (rules_of p) k
-IsDiagnosisOf p (TooManyTypes c) =
-    ProgramLowers p × IsRefusal (rules_of p) (cause.TooManyTypes c.too_many) × IsSortedVerdict p c.sorted
-IsDiagnosisOf p (Accepted c) = (program_in c.accepted ≡ p) × ProgramLowers p
-    × IsAccepted (rules_of p) (cases_of c.accepted) × AreCounted (rules_of p) c.counts.items
+IsDiagnosisOf coverage p (Fails k) =
+    (program_of k.weighed ≡ p) × ProgramLowers p × IsPeakBy coverage (rules_of p) k
+IsDiagnosisOf coverage p (TooManyTypes c) = ProgramLowers p × IsCrowdBy coverage p c
+IsDiagnosisOf coverage p (TooManyCombinations t) = ProgramLowers p × IsThrongBy coverage p t
+IsDiagnosisOf coverage p (Accepted c) = (program_in c.accepted ≡ p) × ProgramLowers p
+    × IsAcceptedBy coverage (rules_of p) (cases_of c.accepted) × AreCountedBy coverage (rules_of p) c.counts.items
 
 -- what is told of a text: that it is no program, with its bad clauses, or what is told of its program
-abbrev pub IsDiagnosis : List ℕ → Diagnosis → Type 0
-IsDiagnosis text (Text f) = IsRefused text × AreFaults text f × TellsFirst text f
-IsDiagnosis text (NotLowered u) = (p : Program) × IsAnswer text (Ok p) × IsDiagnosisOf p (NotLowered u)
-IsDiagnosis text (Fails k) = (p : Program) × IsAnswer text (Ok p) × IsDiagnosisOf p (Fails k)
-IsDiagnosis text (TooManyTypes c) = (p : Program) × IsAnswer text (Ok p) × IsDiagnosisOf p (TooManyTypes c)
-IsDiagnosis text (Accepted c) = (p : Program) × IsAnswer text (Ok p) × IsDiagnosisOf p (Accepted c)
+abbrev pub IsDiagnosis : Coverage → List ℕ → Diagnosis → Type 0
+IsDiagnosis coverage text (Text f) = IsRefused text × AreFaults text f × TellsFirst text f
+IsDiagnosis coverage text (NotLowered u) =
+    (p : Program) × IsAnswer text (Ok p) × IsDiagnosisOf coverage p (NotLowered u)
+IsDiagnosis coverage text (Fails k) = (p : Program) × IsAnswer text (Ok p) × IsDiagnosisOf coverage p (Fails k)
+IsDiagnosis coverage text (TooManyTypes c) =
+    (p : Program) × IsAnswer text (Ok p) × IsDiagnosisOf coverage p (TooManyTypes c)
+IsDiagnosis coverage text (TooManyCombinations t) =
+    (p : Program) × IsAnswer text (Ok p) × IsDiagnosisOf coverage p (TooManyCombinations t)
+IsDiagnosis coverage text (Accepted c) = (p : Program) × IsAnswer text (Ok p) × IsDiagnosisOf coverage p (Accepted c)

@@ -1,5 +1,6 @@
 -- What is proposed of a refused text is accepted.
 use Rattle.std.specs.Prelude.{ℕ, ◌++◌, List, take, drop, string_bytes}
+use Rattle.chr_join.specs.declared.coverage.Coverage.{Coverage}
 use Rattle.chr_explain.specs.declared.diagnosis.Verdict.TheVariants.{Accepted}
 use Rattle.chr_explain.specs.declared.proposal.Proposal.{Proposal}
 use Rattle.chr_explain.specs.Verdicts.{IsVerdict}
@@ -9,5 +10,5 @@ abbrev pub proposed_text : List ℕ → Proposal → List ℕ
 proposed_text text p = take p.from text ++ string_bytes p.rules ++ drop p.to text
 
 -- that text is a program that is accepted
-abbrev pub IsProposal : List ℕ → Proposal → Type 0
-IsProposal text p = IsVerdict (proposed_text text p) Accepted
+abbrev pub IsProposal : Coverage → List ℕ → Proposal → Type 0
+IsProposal coverage text p = IsVerdict coverage (proposed_text text p) Accepted

@@ -1,13 +1,14 @@
--- The verdict on a text, which a check of it gives too.
+-- The verdict on a text by the cases that a coverage has, which a check of it gives too.
 use Rattle.std.specs.Prelude.{◌≡◌, ℕ, ◌⊎◌, List, Ok}
 use Rattle.chr_base.specs.declared.program.Program.{Program}
 use Rattle.chr_base.specs.declared.weight.Weight.{Weight}
 use Rattle.chr_base.specs.Programs.{declarations, rules_of}
 use Rattle.chr_weights.specs.Weights.{ProgramLowers, IsFirstNotLowered}
+use Rattle.chr_join.specs.declared.coverage.Coverage.{Coverage}
 use Rattle.chr_join.specs.declared.refused.Cause.{Cause}
 use Rattle.chr_join.specs.declared.refused.Cause.TheVariants.{Memory}
-use Rattle.chr_join.specs.Verdicts.{IsAccepted}
-use Rattle.chr_join.specs.Explanations.{IsRefusal}
+use Rattle.chr_join.specs.Verdicts.{IsAcceptedBy}
+use Rattle.chr_join.specs.Explanations.{IsRefusalBy}
 use Rattle.chr_read.specs.ProgramTexts.{IsAnswer}
 use Rattle.chr_explain.specs.declared.diagnosis.Verdict.{Verdict}
 use Rattle.chr_explain.specs.declared.diagnosis.Verdict.TheVariants.{Accepted, Refused}
@@ -16,10 +17,10 @@ use Rattle.chr_explain.specs.declared.diagnosis.Diagnosis.TheVariants as diagnos
 use Rattle.chr_explain.specs.BadClauses.{IsRefused}
 
 -- each rule lowers the weight, and each case of each overlap is joinable
-pub record IsAcceptedProgram (p : Program) : Type 0 where
+pub record IsAcceptedProgram (coverage : Coverage) (p : Program) : Type 0 where
   pub lowers : ProgramLowers p
   pub cases : ℕ
-  pub accepted : IsAccepted (rules_of p) cases
+  pub accepted : IsAcceptedBy coverage (rules_of p) cases
 
 -- a rule does not lower the weight
 pub record IsUnlowered (p : Program) : Type 0 where
@@ -29,17 +30,17 @@ pub record IsUnlowered (p : Program) : Type 0 where
   pub first : IsFirstNotLowered (declarations p) (rules_of p) rule before after
 
 -- each rule lowers the weight, and there is a cause of refusal other than want of memory
-pub record IsRefusedByOverlap (p : Program) : Type 0 where
+pub record IsRefusedByOverlap (coverage : Coverage) (p : Program) : Type 0 where
   pub lowers : ProgramLowers p
   pub cause : Cause
-  pub first : IsRefusal (rules_of p) cause
+  pub first : IsRefusalBy coverage (rules_of p) cause
   pub some : ¬ (cause ≡ Memory)
 
 -- the text is a program that is accepted; it is none, or one that is refused
-abbrev pub IsVerdict : List ℕ → Verdict → Type 0
-IsVerdict text Accepted = (p : Program) × IsAnswer text (Ok p) × IsAcceptedProgram p
-IsVerdict text Refused =
-    IsRefused text ⊎ ((p : Program) × IsAnswer text (Ok p) × (IsUnlowered p ⊎ IsRefusedByOverlap p))
+abbrev pub IsVerdict : Coverage → List ℕ → Verdict → Type 0
+IsVerdict coverage text Accepted = (p : Program) × IsAnswer text (Ok p) × IsAcceptedProgram coverage p
+IsVerdict coverage text Refused =
+    IsRefused text ⊎ ((p : Program) × IsAnswer text (Ok p) × (IsUnlowered p ⊎ IsRefusedByOverlap coverage p))
 
 abbrev pub verdict_of : Diagnosis → Verdict
 verdict_of (diagnosis.Accepted c) = Accepted
@@ -47,3 +48,4 @@ verdict_of (diagnosis.Text f) = Refused
 verdict_of (diagnosis.NotLowered u) = Refused
 verdict_of (diagnosis.Fails p) = Refused
 verdict_of (diagnosis.TooManyTypes c) = Refused
+verdict_of (diagnosis.TooManyCombinations t) = Refused

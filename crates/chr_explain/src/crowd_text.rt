@@ -98,7 +98,7 @@ fn push_accepted(out: &mut String, accepted: &Accepted) -> Result<(), AllocError
 }
 
 /// Tells of an overlap with too many combinations of values, where this one was told before it.
-fn push_throng(
+pub(crate) fn push_throng(
     alloc: Global,
     out: &mut String,
     names: &Names,

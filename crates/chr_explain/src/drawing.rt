@@ -3,7 +3,7 @@
 use crate::diagnosis::{Census, Diagnosis};
 use crate::limits::MAX_DRAWN_BYTES;
 use crate::names::Names;
-use crate::pairs::{ToldPair, pairs_of};
+use crate::pairs::{ToldPair, pairs_of, push_numbers};
 use crate::peak::Peak;
 use crate::rule_text::{NamedProgram, told_rule};
 use crate::telling::told_text;
@@ -11,6 +11,7 @@ use chr_base::bag::Bag;
 use chr_base::derivation::Derivation;
 use chr_base::program::Program;
 use chr_base::text::store_text;
+use chr_join::Coverage;
 use std::alloc::{AllocError, Global};
 use std::fmt::Write;
 
@@ -185,15 +186,10 @@ fn push_rules(alloc: Global, out: &mut String, source: NamedProgram<'_>) -> Resu
 }
 
 /// Adds an edge between the rules of a pair.
-fn push_pair(out: &mut String, pair: &ToldPair) -> Result<(), AllocError> {
-    let ToldPair {
-        first,
-        second,
-        overlaps,
-        cases,
-    } = *pair;
-    write!(out, "  rule{first} -- rule{second} ")?;
-    Ok(write!(out, "[label=\"overlaps {overlaps}, cases {cases}\"];\n")?)
+fn push_pair(out: &mut String, pair: &ToldPair, coverage: Coverage) -> Result<(), AllocError> {
+    write!(out, "  rule{} -- rule{} [label=\"", pair.first, pair.second)?;
+    push_numbers(out, pair, coverage)?;
+    out.push_str("\"];\n")
 }
 
 /// Draws the rules of an accepted program, and their overlaps.
@@ -207,7 +203,7 @@ fn push_census(
     out.push_str("graph overlaps {\n  node [shape=box];\n")?;
     push_rules(alloc, out, NamedProgram { program, names })?;
     for pair in &pairs_of(alloc, &census.counts)? {
-        push_pair(out, pair)?;
+        push_pair(out, pair, census.accepted.coverage())?;
     }
     out.push_str("}\n")
 }

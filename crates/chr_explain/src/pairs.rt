@@ -1,7 +1,9 @@
 //! Overlaps summed over pairs of rules.
 
 use crate::diagnosis::Counted;
+use chr_join::Coverage;
 use std::alloc::{AllocError, Global};
+use std::fmt::Write;
 
 /// Two rules, or a rule twice, with the numbers of their overlaps and of the cases of these.
 #[derive(Clone, Copy, Debug, PartialEq, Eq)]
@@ -53,4 +55,17 @@ pub(crate) fn pairs_of(alloc: Global, counts: &[Counted]) -> Result<Vec<ToldPair
         pairs.push(pair)?;
     }
     Ok(pairs)
+}
+
+/// Adds the numbers of a pair: that of its cases where joint ones were looked at, since sorted ones are not counted.
+pub(crate) fn push_numbers(
+    out: &mut String,
+    pair: &ToldPair,
+    coverage: Coverage,
+) -> Result<(), AllocError> {
+    write!(out, "overlaps {}", pair.overlaps)?;
+    if coverage == Coverage::Joint {
+        write!(out, ", cases {}", pair.cases)?;
+    }
+    Ok(())
 }

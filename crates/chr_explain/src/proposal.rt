@@ -3,7 +3,7 @@ ghost use Rattle.std.specs.Prelude.{◌≡◌, ◌++◌, ◌≤◌, ℕ, IfOk, I
 ghost use Rattle.std.specs.Bool.{OnTrue};
 ghost use Rattle.std.specs.List.{All};
 ghost use Rattle.chr_weights.specs.WeighedPrograms.{rules_in};
-ghost use Rattle.chr_join.specs.Verdicts.{IsAccepted};
+ghost use Rattle.chr_join.specs.Verdicts.{IsAcceptedBy};
 ghost use Rattle.chr_explain.specs.declared.diagnosis.Verdict.TheVariants.{Accepted as IsTold};
 ghost use Rattle.chr_explain.specs.Verdicts.{IsAcceptedProgram, IsVerdict};
 ghost use Rattle.chr_explain.specs.Proposals.{IsProposal};
@@ -33,10 +33,11 @@ fn accepts_weighed(
     rt: &(impl Threads + Sync),
     alloc: Global,
     weighed: Weighed,
+    coverage: Coverage,
 ) -> Result<bool, AllocError>
-    ensures { IfOk result (λ accepts. OnTrue accepts ((n : ℕ) × IsAccepted (rules_in weighed) n)) }
+    ensures { IfOk result (λ accepts. OnTrue accepts ((n : ℕ) × IsAcceptedBy coverage (rules_in weighed) n)) }
 {
-    match accept(rt, alloc, weighed, Coverage::Joint) {
+    match accept(rt, alloc, weighed, coverage) {
         Ok(_) => Ok(true),
         Err(refused) => match refused.cause {
             Cause::Memory => Err(AllocError),
@@ -50,21 +51,27 @@ fn accepts_program(
     rt: &(impl Threads + Sync),
     alloc: Global,
     program: Program,
+    coverage: Coverage,
 ) -> Result<bool, AllocError>
-    ensures { IfOk result (λ accepts. OnTrue accepts (IsAcceptedProgram program)) }
+    ensures { IfOk result (λ accepts. OnTrue accepts (IsAcceptedProgram coverage program)) }
 {
     match weigh(program) {
-        Ok(weighed) => accepts_weighed(rt, alloc, weighed),
+        Ok(weighed) => accepts_weighed(rt, alloc, weighed, coverage),
         Err(_) => Ok(false),
     }
 }
 
 /// Whether a text is a program that is accepted.
-fn accepts_text(rt: &(impl Threads + Sync), alloc: Global, text: &[u8]) -> Result<bool, AllocError>
-    ensures { IfOk result (λ accepts. OnTrue accepts (IsVerdict text.now IsTold)) }
+fn accepts_text(
+    rt: &(impl Threads + Sync),
+    alloc: Global,
+    text: &[u8],
+    coverage: Coverage,
+) -> Result<bool, AllocError>
+    ensures { IfOk result (λ accepts. OnTrue accepts (IsVerdict coverage text.now IsTold)) }
 {
     match read(alloc, text) {
-        Ok(program) => accepts_program(rt, alloc, program),
+        Ok(program) => accepts_program(rt, alloc, program, coverage),
         Err(ReadFault::Memory) => Err(AllocError),
         Err(_) => Ok(false),
     }
@@ -93,9 +100,10 @@ fn tried(
     rt: &(impl Threads + Sync),
     alloc: Global,
     text: &[u8],
+    coverage: Coverage,
     proposal: Proposal,
 ) -> Result<Option<Proposal>, AllocError>
-    ensures { IfOk result (λ found. IfSome found (IsProposal text.now)) }
+    ensures { IfOk result (λ found. IfSome found (IsProposal coverage text.now)) }
 {
     let from = proposal.from;
     let to = proposal.to;
@@ -103,7 +111,7 @@ fn tried(
         return Ok(None);
     }
     let changed = changed_text(alloc, text, from, to, proposal.rules.as_str())?;
-    if accepts_text(rt, alloc, &changed)? {
+    if accepts_text(rt, alloc, &changed, coverage)? {
         Ok(Some(proposal))
     } else {
         Ok(None)
@@ -115,13 +123,14 @@ fn push_tried(
     rt: &(impl Threads + Sync),
     alloc: Global,
     text: &[u8],
+    coverage: Coverage,
     proposals: &mut Vec<Proposal>,
     proposal: Proposal,
 ) -> Result<(), AllocError>
-    requires { All (IsProposal text.now) proposals.old.items }
-    ensures { OnOk result (All (IsProposal text.now) proposals.new.items) }
+    requires { All (IsProposal coverage text.now) proposals.old.items }
+    ensures { OnOk result (All (IsProposal coverage text.now) proposals.new.items) }
 {
-    if let Some(accepted) = tried(rt, alloc, text, proposal)? {
+    if let Some(accepted) = tried(rt, alloc, text, coverage, proposal)? {
         proposals.push(accepted)?;
     }
     Ok(())
@@ -132,15 +141,16 @@ pub(crate) fn accepted_of(
     rt: &(impl Threads + Sync),
     alloc: Global,
     text: &[u8],
+    coverage: Coverage,
     most: usize,
     tries: Vec<Proposal>,
 ) -> Result<Vec<Proposal>, AllocError>
-    ensures { IfOk result (λ v. All (IsProposal text.now) v.items) }
+    ensures { IfOk result (λ v. All (IsProposal coverage text.now) v.items) }
 {
     let mut proposals = Vec::new(alloc);
     for proposal in tries {
         if proposals.len() < most {
-            push_tried(rt, alloc, text, &mut proposals, proposal)?;
+            push_tried(rt, alloc, text, coverage, &mut proposals, proposal)?;
         }
     }
     Ok(proposals)

@@ -13,6 +13,7 @@ use crate::place::place_outside;
 use crate::proposal::{Proposal, accepted_of};
 use crate::rule_text::{NamedProgram, told_rule};
 use crate::token::{PlacedToken, placed_tokens};
+use chr_join::Coverage;
 use chr_syntax::{next_clause, without_comments};
 use std::alloc::{AllocError, Global};
 use std::thread::Threads;
@@ -103,12 +104,13 @@ fn peak_proposals(
     rt: &(impl Threads + Sync),
     alloc: Global,
     text: &[u8],
+    coverage: Coverage,
     peak: &Peak,
 ) -> Result<Vec<Proposal>, AllocError>
-    ensures { IfOk result (λ v. All (IsProposal text.now) v.items) }
+    ensures { IfOk result (λ v. All (IsProposal coverage text.now) v.items) }
 {
     let tries = tries_of(alloc, text, peak)?;
-    accepted_of(rt, alloc, text, MAX_PROPOSALS, tries)
+    accepted_of(rt, alloc, text, coverage, MAX_PROPOSALS, tries)
 }
 
 /// Rules with which a text is accepted of which a case fails, `MAX_PROPOSALS` at most; none where memory is refused.
@@ -116,14 +118,15 @@ pub(crate) fn proposals(
     rt: &(impl Threads + Sync),
     alloc: Global,
     text: &[u8],
+    coverage: Coverage,
     diagnosis: &Diagnosis,
 ) -> Vec<Proposal>
-    ensures { All (IsProposal text.now) result.items }
+    ensures { All (IsProposal coverage text.now) result.items }
 {
     let Diagnosis::Fails(peak) = diagnosis else {
         return Vec::new(alloc);
     };
-    match peak_proposals(rt, alloc, text, peak) {
+    match peak_proposals(rt, alloc, text, coverage, peak) {
         Ok(proposals) => proposals,
         Err(_) => Vec::new(alloc),
     }

@@ -1,17 +1,18 @@
 //! What is to be told of a text, as text.
 
-use crate::crowd_text::push_crowd;
+use crate::crowd_text::{push_crowd, push_throng};
 use crate::diagnosis::{Census, Diagnosis, Unlowered};
 use crate::fault_text::faults_told;
 use crate::limits::MAX_TOLD_PAIRS;
 use crate::names::Names;
-use crate::pairs::{ToldPair, pairs_of};
+use crate::pairs::{ToldPair, pairs_of, push_numbers};
 use crate::peak_text::push_peak;
 use crate::proposal::Proposal;
 use crate::proposal_text::push_proposals;
 use crate::rule_text::{NamedProgram, ToldRule, told_rule};
 use crate::weighing_text::{push_cycle, push_found};
 use crate::weight_text::{can_lower, push_lowering, push_weights};
+use chr_join::Coverage;
 use chr_weighing::{MAX_SEARCH_STEPS, Weighing};
 use chr_weights::NotLowered;
 use std::alloc::{AllocError, Global};
@@ -110,23 +111,16 @@ fn push_census(
         )?);
     }
     for pair in &pairs {
-        push_pair(out, pair)?;
+        push_pair(out, pair, census.accepted.coverage())?;
     }
     Ok(())
 }
 
 /// Tells of the overlaps of two rules.
-fn push_pair(out: &mut String, pair: &ToldPair) -> Result<(), AllocError> {
-    let ToldPair {
-        first,
-        second,
-        overlaps,
-        cases,
-    } = *pair;
-    Ok(write!(
-        out,
-        "  rules {first} {second}: overlaps {overlaps}, cases {cases}\n"
-    )?)
+fn push_pair(out: &mut String, pair: &ToldPair, coverage: Coverage) -> Result<(), AllocError> {
+    write!(out, "  rules {} {}: ", pair.first, pair.second)?;
+    push_numbers(out, pair, coverage)?;
+    out.push_str("\n")
 }
 
 /// Tells of a program, of all pairs of rules where `all`.
@@ -146,6 +140,7 @@ fn push_program(
             push_proposals(out, proposals)
         }
         Diagnosis::TooManyTypes(crowd) => push_crowd(alloc, out, names, crowd),
+        Diagnosis::TooManyCombinations(throng) => push_throng(alloc, out, names, throng, None),
         Diagnosis::Accepted(census) => push_census(alloc, out, census, all),
     }
 }

@@ -8,6 +8,7 @@ use Rattle.chr_device.specs.declared.fault.RunFault.TheVariants as run
 use Rattle.chr_device.specs.declared.words.Verb.{Verb}
 use Rattle.chr_device.specs.declared.words.WordsFault.{WordsFault}
 use Rattle.chr_device.specs.declared.words.WordsFault.TheVariants as words
+use Rattle.chr_join.specs.declared.coverage.Coverage.{Coverage}
 use Rattle.chr_report.specs.declared.wanted.Wanted.{Wanted}
 use Rattle.chr_start.specs.Statuses.{ExplanationEnds, RunEnds}
 
@@ -21,6 +22,6 @@ pub memory_ends : (ws : List (List ℕ)) (fault : WordsFault) (bytes known : Opt
 memory_ends ws (words.Words e) bytes known verb wanted status none is told = absurd (subst (λ ks. IsOfFault ks (words.Words e)) none is).0
 memory_ends ws words.Memory bytes known verb wanted status none is told = record { outcome = Err run.Memory; status_is = told refl; ok = tt; err = inl (appends_nothing known) }
 
-pub memory_ends_explanation : (ws : List (List ℕ)) (fault : WordsFault) (bytes known : Option (List ℕ)) (status : ℕ) → faults_of ws ≡ [] → IsOfFault (faults_of ws) fault → (fault ≡ words.Memory → status ≡ 4) → ExplanationEnds bytes known known status
-memory_ends_explanation ws (words.Words e) bytes known status none is told = absurd (subst (λ ks. IsOfFault ks (words.Words e)) none is).0
-memory_ends_explanation ws words.Memory bytes known status none is told = record { outcome = Err run.Memory; status_is = told refl; ok = tt; memory = λ _. appends_nothing known }
+pub memory_ends_explanation : (coverage : Coverage) (ws : List (List ℕ)) (fault : WordsFault) (bytes known : Option (List ℕ)) (status : ℕ) → faults_of ws ≡ [] → IsOfFault (faults_of ws) fault → (fault ≡ words.Memory → status ≡ 4) → ExplanationEnds coverage bytes known known status
+memory_ends_explanation coverage ws (words.Words e) bytes known status none is told = absurd (subst (λ ks. IsOfFault ks (words.Words e)) none is).0
+memory_ends_explanation coverage ws words.Memory bytes known status none is told = record { outcome = Err run.Memory; status_is = told refl; ok = tt; memory = λ _. appends_nothing known }

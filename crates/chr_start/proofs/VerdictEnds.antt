@@ -5,10 +5,10 @@ use Rattle.std.specs.Io.KnownBytes.{Appends}
 use Rattle.chr_base.specs.declared.program.Program.{Program}
 use Rattle.chr_base.specs.ProgramTests.{some_paired}
 use Rattle.chr_base.specs.Programs.{declarations, rules_of}
-use Rattle.chr_join.specs.declared.coverage.Coverage.TheVariants.{Joint}
+use Rattle.chr_join.specs.declared.coverage.Coverage.{Coverage}
 use Rattle.chr_join.specs.declared.refused.Cause.{Cause}
 use Rattle.chr_join.specs.declared.refused.Cause.TheVariants as cause
-use Rattle.chr_join.specs.Explanations.{IsRefusal}
+use Rattle.chr_join.specs.Explanations.{IsRefusalBy}
 use Rattle.chr_weights.specs.Weights.{ProgramLowers}
 use Rattle.chr_read.specs.ProgramTexts.{IsAnswer}
 use Rattle.chr_read.specs.declared.fault.ReadFault.{ReadFault}
@@ -30,32 +30,32 @@ use Rattle.chr_start.specs.Statuses.{EndsAsCheck, ExplanationEnds, status_of}
 use Rattle.chr_start.specs.working.Verdicts.{as_status}
 
 -- what a check writes of a text with this status
-abbrev HasOutput : List ℕ → Status → Type 0
-HasOutput text status =
-    (out : List ℕ) × ((answer : Result Program ReadFault) × IsAnswer text answer × IsReadOutput answer (replicas_by Joint 1) [] status out)
+abbrev HasOutput : Coverage → List ℕ → Status → Type 0
+HasOutput coverage text status =
+    (out : List ℕ) × ((answer : Result Program ReadFault) × IsAnswer text answer × IsReadOutput answer (replicas_by coverage 1) [] status out)
 
-module _ (p : Program) where
-  by_cause : ProgramLowers p → (c : Cause) → IsRefusal (rules_of p) c → ¬ (c ≡ cause.Memory)
-      → (out : List ℕ) × IsRulesOutput (declarations p) (rules_of p) (replicas_by Joint 1) [] Refused out
+module _ (coverage : Coverage) (p : Program) where
+  by_cause : ProgramLowers p → (c : Cause) → IsRefusalBy coverage (rules_of p) c → ¬ (c ≡ cause.Memory)
+      → (out : List ℕ) × IsRulesOutput (declarations p) (rules_of p) (replicas_by coverage 1) [] Refused out
   by_cause lowers (cause.Fails f) first some =
       (failure_text (declarations p) f ++ 10 ∷ [], inr (record { lowers = lowers; cause = cause.Fails f; first = first; line = refl }))
   by_cause lowers (cause.TooManyTypes t) first some =
       (too_many_text t ++ 10 ∷ [], inr (record { lowers = lowers; cause = cause.TooManyTypes t; first = first; line = refl }))
   by_cause lowers cause.Memory first some = absurd (some refl)
 
-  by_rules : IsUnlowered p ⊎ IsRefusedByOverlap p → (out : List ℕ) × IsRulesOutput (declarations p) (rules_of p) (replicas_by Joint 1) [] Refused out
+  by_rules : IsUnlowered p ⊎ IsRefusedByOverlap coverage p → (out : List ℕ) × IsRulesOutput (declarations p) (rules_of p) (replicas_by coverage 1) [] Refused out
   by_rules (inl u) = (
     not_lowered_text (some_paired (declarations p)) u.rule u.before u.after ++ 10 ∷ [],
     inl (record { rule = u.rule; before = u.before; after = u.after; first = u.first; out_is = refl }),
   )
   by_rules (inr o) = by_cause o.lowers o.cause o.first o.some
 
-refused_output : (text : List ℕ) → IsRefused text → HasOutput text Refused
-refused_output text (inl long) = (_, (Err fault.TooLong, long, (refl, refl)))
-refused_output text (inr r) = (_, (Err (fault.Bad r.0 r.1), r.2, (refl, refl)))
+refused_output : (coverage : Coverage) (text : List ℕ) → IsRefused text → HasOutput coverage text Refused
+refused_output coverage text (inl long) = (_, (Err fault.TooLong, long, (refl, refl)))
+refused_output coverage text (inr r) = (_, (Err (fault.Bad r.0 r.1), r.2, (refl, refl)))
 
-text_output : (text : List ℕ) (v : Verdict) → IsVerdict text v → HasOutput text (as_status v)
-text_output text verdict.Accepted h = (
+text_output : (coverage : Coverage) (text : List ℕ) (v : Verdict) → IsVerdict coverage text v → HasOutput coverage text (as_status v)
+text_output coverage text verdict.Accepted h = (
   accepted_text (length (rules_of h.0)) h.2.cases ++ 10 ∷ [],
   (
     Ok h.0,
@@ -63,24 +63,24 @@ text_output text verdict.Accepted h = (
     record { lowers = h.2.lowers; cases = h.2.cases; accepted = h.2.accepted; answers = []; answered = refl; out_is = refl },
   ),
 )
-text_output text verdict.Refused (inl r) = refused_output text r
-text_output text verdict.Refused (inr h) = let o = by_rules h.0 h.2 in (o.0, (Ok h.0, h.1, o.1))
+text_output coverage text verdict.Refused (inl r) = refused_output coverage text r
+text_output coverage text verdict.Refused (inr h) = let o = by_rules coverage h.0 h.2 in (o.0, (Ok h.0, h.1, o.1))
 
-pub checked : (text input : List ℕ) (v : Verdict) → text ≡ text_of (lines input) → IsVerdict text v → (out : List ℕ) × IsOutput Check (replicas_by Joint 1) input (as_status v) out
-checked text input v is h = text_output (text_of (lines input)) v (subst (λ t. IsVerdict t v) is h)
+pub checked : (coverage : Coverage) (text input : List ℕ) (v : Verdict) → text ≡ text_of (lines input) → IsVerdict coverage text v → (out : List ℕ) × IsOutput Check (replicas_by coverage 1) input (as_status v) out
+checked coverage text input v is h = text_output coverage (text_of (lines input)) v (subst (λ t. IsVerdict coverage t v) is h)
 
 -- what a check writes of what is kept it writes of the input
-kept_ends : (bytes : Option (List ℕ)) (kept : List ℕ) (status : Status) → IfSome bytes (Decides kept) → (out : List ℕ) × IsOutput Check (replicas_by Joint 1) kept status out → EndsAsCheck bytes status
-kept_ends None kept status d o = (kept, tt, o.0, o.1)
-kept_ends (Some x) kept status d o = (x, refl, o.0, d Check (replicas_by Joint 1) status o.0 o.1)
+kept_ends : (coverage : Coverage) (bytes : Option (List ℕ)) (kept : List ℕ) (status : Status) → IfSome bytes (Decides kept) → (out : List ℕ) × IsOutput Check (replicas_by coverage 1) kept status out → EndsAsCheck coverage bytes status
+kept_ends coverage None kept status d o = (kept, tt, o.0, o.1)
+kept_ends coverage (Some x) kept status d o = (x, refl, o.0, d Check (replicas_by coverage 1) status o.0 o.1)
 
 -- the status of a verdict on the program text of what is kept of the input
-pub verdict_ends : (bytes : Option (List ℕ)) (text kept : List ℕ) (v : Verdict) (status : Status) → IfSome bytes (Decides kept) → text ≡ text_of (lines kept) → IsVerdict text v
-    → status ≡ as_status v → EndsAsCheck bytes status
-verdict_ends bytes text kept v status d is h same =
-    let o = checked text kept v is h in kept_ends bytes kept status d (o.0, subst (λ s. IsOutput Check (replicas_by Joint 1) kept s o.0) (sym same) o.1)
+pub verdict_ends : (coverage : Coverage) (bytes : Option (List ℕ)) (text kept : List ℕ) (v : Verdict) (status : Status) → IfSome bytes (Decides kept) → text ≡ text_of (lines kept) → IsVerdict coverage text v
+    → status ≡ as_status v → EndsAsCheck coverage bytes status
+verdict_ends coverage bytes text kept v status d is h same =
+    let o = checked coverage text kept v is h in kept_ends coverage bytes kept status d (o.0, subst (λ s. IsOutput Check (replicas_by coverage 1) kept s o.0) (sym same) o.1)
 
 -- an explanation has ended
-pub explanation_ends : (bytes old new : Option (List ℕ)) (r : Result Status RunFault) (status : ℕ) → status ≡ status_of r → IfOk r (EndsAsCheck bytes)
-    → (IsErrOf r Memory → Appends old new []) → ExplanationEnds bytes old new status
-explanation_ends bytes old new r status ends ok memory = record { outcome = r; status_is = ends; ok = ok; memory = memory }
+pub explanation_ends : (coverage : Coverage) (bytes old new : Option (List ℕ)) (r : Result Status RunFault) (status : ℕ) → status ≡ status_of r → IfOk r (EndsAsCheck coverage bytes)
+    → (IsErrOf r Memory → Appends old new []) → ExplanationEnds coverage bytes old new status
+explanation_ends coverage bytes old new r status ends ok memory = record { outcome = r; status_is = ends; ok = ok; memory = memory }

@@ -6,7 +6,7 @@ use Rattle.chr_device.specs.declared.fault.RunFault.TheVariants.{Device, Memory}
 use Rattle.chr_device.specs.declared.words.Verb.{Verb}
 use Rattle.chr_device.specs.declared.words.Verb.TheVariants.{Check}
 use Rattle.chr_device.specs.Words.{replicas_met, wide_met}
-use Rattle.chr_join.specs.declared.coverage.Coverage.TheVariants.{Joint}
+use Rattle.chr_join.specs.declared.coverage.Coverage.{Coverage}
 use Rattle.chr_report.specs.declared.running.Status.{Status}
 use Rattle.chr_report.specs.declared.running.Status.TheVariants.{Accepted, Refused}
 use Rattle.chr_report.specs.declared.wanted.Wanted.{Wanted}
@@ -31,15 +31,16 @@ pub record RunEnds (bytes old new : Option (List ℕ)) (verb : Verb) (wanted : W
   pub ok : IfOk outcome (WritesOutput bytes old new verb wanted)
   pub err : OnErr outcome (WritesBeginning bytes old new verb wanted)
 
--- a check of these bytes by joint cases, where they are known, ends with this status
-abbrev pub EndsAsCheck : Option (List ℕ) → Status → Type 0
-EndsAsCheck bytes status =
-    (input : List ℕ) × IfSome bytes (λ text. input ≡ text) × (out : List ℕ) × IsOutput Check (replicas_by Joint 1) input status out
+-- a check of these bytes by this coverage, where they are known, ends with this status
+abbrev pub EndsAsCheck : Coverage → Option (List ℕ) → Status → Type 0
+EndsAsCheck coverage bytes status =
+    (input : List ℕ) × IfSome bytes (λ text. input ≡ text) × (out : List ℕ)
+    × IsOutput Check (replicas_by coverage 1) input status out
 
--- an explanation ended with this status: where it ended well with that of a check of the same bytes, and where memory
--- ran out nothing was written
-pub record ExplanationEnds (bytes old new : Option (List ℕ)) (status : ℕ) : Type 0 where
+-- an explanation by this coverage ended with this status: where it ended well with that of a check of the same bytes,
+-- and where memory ran out nothing was written
+pub record ExplanationEnds (coverage : Coverage) (bytes old new : Option (List ℕ)) (status : ℕ) : Type 0 where
   pub outcome : Result Status RunFault
   pub status_is : status ≡ status_of outcome
-  pub ok : IfOk outcome (EndsAsCheck bytes)
+  pub ok : IfOk outcome (EndsAsCheck coverage bytes)
   pub memory : IsErrOf outcome Memory → Appends old new []

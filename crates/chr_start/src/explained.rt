@@ -3,12 +3,14 @@
 ghost use Rattle.std.specs.Prelude.{◌≡◌, [], IfOk, IsErrOf};
 ghost use Rattle.std.specs.Io.KnownBytes.{Appends};
 ghost use Rattle.chr_device.specs.declared.fault.RunFault.TheVariants.{Memory};
+ghost use Rattle.chr_report.specs.Asked.{coverage_for};
 ghost use Rattle.chr_report.specs.Wires.{reader_of, writer_of};
 ghost use Rattle.chr_start.specs.Statuses.{EndsAsCheck};
 ghost use Rattle.chr_start.specs.working.Verdicts.{as_status};
 
 use chr_device::{Style, write_whole};
 use chr_explain::{Manner, Verdict, explain};
+use chr_join::Coverage;
 use chr_report::{RunFault, Status, Streams, program_text, read_input};
 use std::alloc::Global;
 use std::io::{Read, Write};
@@ -33,8 +35,19 @@ fn status_of(verdict: Verdict) -> Status
     }
 }
 
-/// Reads all of the input, and writes the explanation of its program text: of a text that is too long no more is held
-/// than tells that it is.
+/// Which cases a verdict looks at.
+fn coverage_of(wide: bool) -> Coverage
+    ensures { result ≡ coverage_for wide }
+{
+    if wide {
+        Coverage::Sorted
+    } else {
+        Coverage::Joint
+    }
+}
+
+/// Reads all of the input, and writes the explanation of its program text, by sorted cases where `wide`: of a text that
+/// is too long no more is held than tells that it is.
 ///
 /// # Errors
 ///
@@ -44,14 +57,16 @@ pub(crate) fn explain_input<R: Read, W: Write>(
     rt: &(impl Threads + Sync),
     alloc: Global,
     streams: &mut Streams<R, W>,
+    wide: bool,
     style: Style,
 ) -> Result<Status, RunFault>
-    ensures ok { IfOk result (EndsAsCheck (R.remaining (reader_of streams.old))) }
+    ensures ok { IfOk result (EndsAsCheck (coverage_for wide) (R.remaining (reader_of streams.old))) }
     ensures memory { IsErrOf result Memory → Appends (W.contents (writer_of streams.old))
         (W.contents (writer_of streams.new)) [] }
 {
     let input = read_input(alloc, &mut streams.reader)?;
-    let explanation = explain(rt, alloc, program_text(&input), manner_of(style))?;
+    let coverage = coverage_of(wide);
+    let explanation = explain(rt, alloc, program_text(&input), coverage, manner_of(style))?;
     write_whole(&mut streams.writer, explanation.text.as_bytes())?;
     Ok(status_of(explanation.verdict))
 }

@@ -11,11 +11,11 @@ ghost use Rattle.std.specs.Process.{exit_status};
 ghost use Rattle.std.specs.declared.io.ErrorKind.TheVariants.{OutOfMemory};
 ghost use Rattle.chr_device.specs.Devices.{has_failed};
 ghost use Rattle.chr_device.specs.Settings.{IsWithinLimits};
-ghost use Rattle.chr_device.specs.Words.{faults_of, verb_met};
+ghost use Rattle.chr_device.specs.Words.{faults_of, verb_met, wide_met};
 ghost use Rattle.chr_device.specs.declared.words.Verb.TheVariants.{Explain};
 ghost use Rattle.chr_device.specs.declared.words.WordsFault.TheVariants.{Memory};
 ghost use Rattle.chr_report.specs.Wires.{reader_of, writer_of};
-ghost use Rattle.chr_report.specs.Asked.{wanted_by};
+ghost use Rattle.chr_report.specs.Asked.{coverage_for, wanted_by};
 ghost use Rattle.chr_start.specs.Statuses.{status_of, wanted_met, ExplanationEnds, RunEnds};
 
 mod explained;
@@ -60,11 +60,11 @@ fn run_settings<R: Read, W: Write>(
         RunEnds (R.remaining (reader_of streams.old)) (W.contents (writer_of streams.old))
         (W.contents (writer_of streams.new)) settings.command (wanted_by settings) (exit_status result) }
     ensures explained { settings.command ≡ Explain →
-        ExplanationEnds (R.remaining (reader_of streams.old)) (W.contents (writer_of streams.old))
+        ExplanationEnds (coverage_for settings.wide) (R.remaining (reader_of streams.old)) (W.contents (writer_of streams.old))
         (W.contents (writer_of streams.new)) (exit_status result) }
 {
     if settings.command == Verb::Explain {
-        return exit_code(explain_input(rt, alloc, streams, settings.style));
+        return exit_code(explain_input(rt, alloc, streams, settings.wide, settings.style));
     }
     if settings.command == Verb::Serve {
         return exit_code(serve(rt, alloc, streams, settings));
@@ -105,8 +105,8 @@ pub fn run_words<R: Read, W: Write>(
         (W.contents (writer_of streams.new)) (verb_met (map string_bytes words.now))
         (wanted_met (map string_bytes words.now)) (exit_status result) }
     ensures explained { faults_of (map string_bytes words.now) ≡ [] → verb_met (map string_bytes words.now) ≡ Explain →
-        ExplanationEnds (R.remaining (reader_of streams.old)) (W.contents (writer_of streams.old))
-        (W.contents (writer_of streams.new)) (exit_status result) }
+        ExplanationEnds (coverage_for (wide_met (map string_bytes words.now))) (R.remaining (reader_of streams.old))
+        (W.contents (writer_of streams.old)) (W.contents (writer_of streams.new)) (exit_status result) }
     ensures refused { faults_of (map string_bytes words.now) ≢ [] →
         (exit_status result ≡ 2) ⊎ (exit_status result ≡ 4) }
     ensures untouched { faults_of (map string_bytes words.now) ≢ [] → streams.new ≡ streams.old }

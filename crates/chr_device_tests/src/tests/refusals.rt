@@ -19,7 +19,7 @@ fn ends(rt: &(impl Abort + AllocGlobal), words: &[&str], line: &str) {
     assert!(rt; text.lines().last() == Some(line), "{text}");
 }
 
-const CAUSES: [(&[&str], &str); 12] = [
+const CAUSES: [(&[&str], &str); 11] = [
     (
         &["coins.chr"],
         "The input comes from standard input: chrrep run < coins.chr",
@@ -55,10 +55,6 @@ const CAUSES: [(&[&str], &str); 12] = [
     (
         &["explain", "--parts=2"],
         "'--parts' is an option of 'run' and 'serve'",
-    ),
-    (
-        &["explain", "--wide"],
-        "'--wide' is an option of 'check', 'run' and 'serve'",
     ),
     (
         &["--wide", "check"],
@@ -177,7 +173,7 @@ fn help_names_wide(rt: HostRuntime) {
         contains(&rt, &["serve", "--help"], part, true);
     }
     contains(&rt, &["--help"], "--wide", false);
-    contains(&rt, &["explain", "--help"], "--wide", false);
+    contains(&rt, &["explain", "--help"], "--wide", true);
 }
 
 #[test]

@@ -137,7 +137,7 @@ fn styles_are_read(rt: HostRuntime) {
 }
 
 /// The command, how many replicas, and whether the verdict is wide.
-const WIDE: [(&[&str], Verb, u32, bool); 10] = [
+const WIDE: [(&[&str], Verb, u32, bool); 12] = [
     (&["check", "--wide"], Verb::Check, 1, true),
     (&["check", "--wide", "--"], Verb::Check, 1, true),
     (&["run", "--wide"], Verb::Run, 1, true),
@@ -153,6 +153,8 @@ const WIDE: [(&[&str], Verb, u32, bool); 10] = [
     (&["run", "--replicas=2"], Verb::Run, 2, false),
     (&["serve", "--replicas=2"], Verb::Serve, 2, false),
     (&["explain", "--all"], Verb::Explain, 1, false),
+    (&["explain", "--wide"], Verb::Explain, 1, true),
+    (&["explain", "--wide", "--dot"], Verb::Explain, 1, true),
 ];
 
 /// The command, how many replicas, and whether the verdict is wide, where the words are taken.
@@ -201,8 +203,8 @@ const OTHER_WIDE: [(&[&str], ErrorKind, &str); 6] = [
     ),
     (&["serve", "--wid"], ErrorKind::UnknownArgument, "'--wid'"),
     (
-        &["explain", "--wide"],
-        ErrorKind::UnknownArgument,
+        &["explain", "--wide=true"],
+        ErrorKind::TooManyValues,
         "'--wide'",
     ),
     (&["--wide", "check"], ErrorKind::UnknownArgument, "'--wide'"),

@@ -1,8 +1,7 @@
 use Rattle.std.proofs.Common.{ap}
 use Rattle.chr_weights.specs.WeighedPrograms.{program_of}
-use Rattle.chr_join.specs.declared.coverage.Coverage.TheVariants.{Joint}
 use Rattle.chr_explain.proofs.diagnosis.failing_diagnosis.Goals as goal
 
 pub returns-in-Ok : goal.returns-in-Ok
 returns-in-Ok c =
-    (ap program_of c.in-Ok.ensures.weighed, c.args.weighed.lowers, c.in-Ok.ensures.peak Joint c.requires.first)
+    (ap program_of c.in-Ok.ensures.weighed, c.args.weighed.lowers, c.in-Ok.ensures.peak c.args.coverage c.requires.first)

@@ -3,4 +3,4 @@ use Rattle.chr_explain.specs.Proposals.{IsProposal}
 use Rattle.chr_explain.proofs.proposal.accepted_of.Given as goal
 
 abbrev pub invariant-loop-proposal : goal.invariant-loop-proposal
-invariant-loop-proposal g l = All (IsProposal l.text) l.proposals.items
+invariant-loop-proposal g l = All (IsProposal l.coverage l.text) l.proposals.items
