@@ -120,15 +120,15 @@ def pasted(text: str, number: int, rules: str) -> bytes:
 
 class Proposals(unittest.TestCase):
     def test_proposed_rules_are_pasted(self) -> None:
-        """With each of them the text is accepted."""
+        """With each of them the text is accepted, by the cases that were asked for."""
         told = 0
-        for file in sorted(TEXTS.glob("*.chr")):
+        for file, options in itertools.product(sorted(TEXTS.glob("*.chr")), ((), ("--wide",))):
             text = file.read_bytes()
-            for number, rules in PROPOSED.findall(run("explain", text)[1]):
+            for number, rules in PROPOSED.findall(run("explain", text, *options)[1]):
                 told += 1
-                with self.subTest(file.name, number=number, rules=rules):
-                    self.assertEqual(run("check", pasted(text.decode(), int(number), rules))[0], 0)
-        self.assertGreater(told, 20)
+                with self.subTest(file.name, options=options, number=number, rules=rules):
+                    self.assertEqual(run("check", pasted(text.decode(), int(number), rules), *options)[0], 0)
+        self.assertGreater(told, 40)
 
 
 def random_rules(chance: random.Random) -> list[Rule]:
