@@ -7,6 +7,7 @@ mod sharing;
 
 use chr_report::{RunFault, Settings, Status, Style, Verb, Watched, run};
 use std::alloc::Global;
+use std::random::RandomSource;
 use std::sync::Wait;
 use std::thread::Threads;
 
@@ -28,7 +29,7 @@ const ROOM: usize = 131_072;
 
 /// The status for the input, and all that was written.
 fn outcome(
-    rt: &(impl Threads + Wait + Sync),
+    rt: &(impl RandomSource + Threads + Wait + Sync),
     alloc: Global,
     settings: Settings,
     input: &[u8],
@@ -46,7 +47,7 @@ const ROUTES: &[u8] = b":- chr_constraint path/3. path(X,Y,D) \\ path(X,Y,E) <=>
 
 /// The verdict on routes, by joint or by sorted cases.
 fn routes_verdict(
-    rt: &(impl Threads + Wait + Sync),
+    rt: &(impl RandomSource + Threads + Wait + Sync),
     alloc: Global,
     wide: bool,
 ) -> Result<(Status, Vec<u8>), RunFault> {

@@ -7,6 +7,7 @@ use chr_device::testing::{Drips, FailsAt};
 use chr_report::{RunFault, Settings, Status, Streams, Watched, Wire, serve};
 use std::alloc::{AllocError, Global};
 use std::process::Abort;
+use std::random::RandomSource;
 use std::sync::Wait;
 use std::test::Fail;
 use std::thread::Threads;
@@ -116,7 +117,7 @@ fn lines_are_answered_at_once(rt: HostRuntime) -> Result<(), Fail> {
 
 /// What is sent is what a run writes.
 pub(super) fn expect_served(
-    rt: &(impl Abort + Threads + Wait + Sync),
+    rt: &(impl Abort + RandomSource + Threads + Wait + Sync),
     alloc: Global,
     input: &[u8],
 ) -> Result<(), RunFault> {

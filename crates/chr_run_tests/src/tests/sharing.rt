@@ -7,6 +7,7 @@ use chr_base::limits::{MAX_PARTS, MAX_WORKERS};
 use chr_report::{RunFault, Settings, Status};
 use std::alloc::{AllocError, Global};
 use std::process::Abort;
+use std::random::RandomSource;
 use std::sync::Wait;
 use std::thread::Threads;
 
@@ -44,7 +45,7 @@ path(1,2,5), path(1,3,4), path(2,3,1)
 
 /// The status and the output for an input, with so many workers and parts.
 fn shared(
-    rt: &(impl Threads + Wait + Sync),
+    rt: &(impl RandomSource + Threads + Wait + Sync),
     alloc: Global,
     workers: u32,
     parts: u32,
@@ -64,7 +65,7 @@ fn shared(
 
 /// The exchanges are answered as they are by one worker.
 fn answers_exchanges(
-    rt: &(impl Abort + Threads + Wait + Sync),
+    rt: &(impl Abort + RandomSource + Threads + Wait + Sync),
     alloc: Global,
     workers: u32,
     parts: u32,
