@@ -85,6 +85,8 @@ fn index_for(
 }
 
 /// The look-up of a partner, for which its table has an index.
+// Not put into its caller, whose frame would hold the room that this one takes.
+#[inline(never)]
 fn look_up(
     keys: &mut Vec<Keys>,
     groups: &[Group],

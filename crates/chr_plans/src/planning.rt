@@ -359,6 +359,8 @@ fn longer(best: Option<Partner>, next: Partner) -> Partner
 }
 
 /// The first partner with the longest key among the places that are not known; None where all are.
+// Not put into its caller, whose frame would hold the room that this one takes.
+#[inline(never)]
 fn next_partner(rule: &Rule, known: &[usize]) -> Option<Partner>
     requires { ArePlaces rule.now known.now }
     ensures { IsChoice rule.now known.now (length (heads_of rule.now)) result }
@@ -386,6 +388,8 @@ fn next_partner(rule: &Rule, known: &[usize]) -> Option<Partner>
 /// always a partner of which as many arguments are known as of any other that is left: constants, variables that stand
 /// in the active atom or in a partner before, and what the guard says is equal to such a one. Comparisons by an order
 /// limit it further, where its key alone may find many atoms that rest.
+// Not put into its caller, whose frame would hold the room that this one takes.
+#[inline(never)]
 pub fn plan_of(rule: &Rule, place: usize) -> ArrayVec<Partner, MAX_HEADS>
     requires { place < length (heads_of rule.now) }
     ensures plan { IsPlan rule.now place result.items }

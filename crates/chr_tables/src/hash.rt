@@ -26,7 +26,8 @@ fn mixed(state: u64, key: &[i64]) -> u64
 }
 
 /// The hash of a key: 32 bits, in each of which all bits of the seed and of each value have a part. It is a function of
-/// these and no more. Who doesn't know the seed finds no keys whose hashes are equal.
+/// these and no more. It is no cryptographic hash: a seed that is drawn for each process keeps keys that were chosen
+/// before it was known from meeting more often than others, and no more.
 pub fn key_hash(seed: u64, key: &[i64]) -> u32
     ensures { result ≡ key_hash seed key.now }
 {

@@ -105,7 +105,7 @@ impl Table {
 
     /// One more index, by these columns, of a table without rows. Its number is how many there were. Where `order` is a
     /// column too, look-ups pass over rows whose value there lies outside a span of it. Keys are hashed under the seed,
-    /// of which no answer depends.
+    /// on which no answer depends.
     pub fn add_index(
         &mut self,
         alloc: Global,
