@@ -28,7 +28,9 @@ SECONDS = 60.0
 
 # each document with the least number of its commands
 PATHS = {"README.md": 3, "docs/GUIDE.md": 11, "docs/REFERENCE.md": 1, "examples/README.md": 2}
-DOCUMENTS = (*PATHS, "CONTRIBUTING.md", "LICENSE.md")
+DOCUMENTS = ("README.md", "CONTRIBUTING.md", "LICENSE.md", "bench/README.md", "examples/README.md") + tuple(
+    f"docs/{path.name}" for path in sorted((TOP / "docs").glob("*.md"))
+)
 MAX_README = 8 * 1024
 MAX_COLUMNS = 120
 MAX_CELL = 200
@@ -39,6 +41,7 @@ LEAST_FIRST_FORMS = 32
 
 BLOCK = re.compile(r"^```([^\n]*)\n(.*?)^```$", re.MULTILINE | re.DOTALL)
 CELL_END = re.compile(r"(?<!\\)\|")
+NAMES = re.compile(r"(`\w+`(, )?)*")
 LINK = re.compile(r"\]\(([^)#]+)\)")
 # (NAME stands for any)
 QUOTED_FILE = re.compile(r"`((?:docs|examples|tools|python|bench|release)/(?!\S*NAME)[^`\s*{}.]+\.[a-z]+|[A-Z]+\.md)`")
@@ -135,13 +138,14 @@ class Paths(unittest.TestCase):
 
 class Documents(unittest.TestCase):
     def test_sizes(self) -> None:
-        """Lines and cells are short; a row of a table may be longer than a line."""
+        """Lines and cells are short; a row of a table may be longer than a line, and a list of crates than a cell."""
         self.assertLessEqual(len(read("README.md").encode()), MAX_README)
         for name in DOCUMENTS:
             for number, line in enumerate(read(name).splitlines(), 1):
                 with self.subTest(f"{name}: {number}"):
                     if line.startswith("|"):
-                        self.assertLessEqual(max(len(cell.strip()) for cell in CELL_END.split(line)), MAX_CELL)
+                        cells = [cell.strip() for cell in CELL_END.split(line)]
+                        self.assertLessEqual(max(len(NAMES.sub("", cell)) for cell in cells), MAX_CELL)
                     else:
                         self.assertLessEqual(len(line), MAX_COLUMNS)
 

@@ -47,16 +47,20 @@ pub(crate) const EXPLAIN: &str =
 /// What `explain` reads and writes.
 pub(crate) const EXPLAIN_MORE: &str = with_statuses!(
     "Reads what `check` reads. Writes the verdict as sentences: where a text is wrong and what would be right, or the rules
-that disagree and how; with --dot a drawing of it for Graphviz. Of a program that `check` refuses as 22 it tells what
-`check --wide` says too.
+that disagree and how; with --html a page with pictures, with --dot a drawing for Graphviz. Of a program that `check`
+refuses as 22 it tells what `check --wide` says too.
 
 Example: chrrep explain < FILE
          chrrep explain --wide < FILE
+         chrrep explain --html < FILE > FILE.html
          chrrep explain --dot < FILE | dot -Tsvg > FILE.svg"
 );
 
 /// What `--dot` is for.
 pub(crate) const DOT: &str = "Write a drawing for Graphviz";
+
+/// What `--html` is for.
+pub(crate) const HTML: &str = "Write a page that stands alone, for a browser";
 
 /// What `--all` is for.
 pub(crate) const ALL: &str = "Write a line for each pair of rules, however many there are";

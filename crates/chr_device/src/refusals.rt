@@ -18,7 +18,7 @@ const WITH_VALUE: [&str; 3] = ["--replicas", "--workers", "--parts"];
 const ANSWERING: [&str; 2] = ["run", "serve"];
 
 /// The options of `explain` alone.
-const OF_EXPLAIN: [&str; 2] = ["--dot", "--all"];
+const OF_EXPLAIN: [&str; 3] = ["--dot", "--html", "--all"];
 
 /// The option of all commands.
 const WIDE: &str = "--wide";

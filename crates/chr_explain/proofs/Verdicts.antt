@@ -24,7 +24,7 @@ verdict_is coverage text (Fails k) h = inr (
   h.1,
   inr (record {
     lowers = h.2.1;
-    cause = cause.Fails k.failure;
+    cause = cause.Fails k.first.failure;
     first = h.2.2.first;
     some = λ e. cc;
   }),

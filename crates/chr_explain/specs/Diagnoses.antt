@@ -1,5 +1,5 @@
 -- What is told of a text is true of it.
-use Rattle.std.specs.Prelude.{◌≡◌, ℕ, ◌⊎◌, List, [], ◌∷◌, length, map, take, Ok}
+use Rattle.std.specs.Prelude.{◌≡◌, ℕ, ◌⊎◌, List, [], ◌∷◌, length, map, take, Ok, IfSome}
 use Rattle.std.specs.List.{All}
 use Rattle.chr_base.specs.declared.program.Program.{Program}
 use Rattle.chr_base.specs.declared.rule.Rule.{Rule}
@@ -11,10 +11,13 @@ use Rattle.chr_weights.specs.Weights.{ProgramLowers, IsFirstNotLowered}
 use Rattle.chr_weights.specs.WeighedPrograms.{program_of}
 use Rattle.chr_weighing.specs.Weighings.{IsWeighing}
 use Rattle.chr_rewrite.specs.Derivations.{LeadsTo}
+use Rattle.chr_types.specs.OrderTypes.{In}
 use Rattle.chr_overlaps.specs.declared.cases.Case.{Case}
+use Rattle.chr_overlaps.specs.declared.overlap.Overlap.{Overlap}
 use Rattle.chr_overlaps.specs.OverlapLists.{AreOverlaps}
 use Rattle.chr_overlaps.specs.CaseLists.{AreCases, IsTooMany}
 use Rattle.chr_join.specs.declared.refused.Cause.TheVariants as cause
+use Rattle.chr_join.specs.declared.refused.Failure.{Failure}
 use Rattle.chr_join.specs.AcceptedPrograms.{program_in, cases_of}
 use Rattle.chr_join.specs.declared.coverage.Coverage.{Coverage}
 use Rattle.chr_join.specs.declared.coverage.Coverage.TheVariants.{Joint, Sorted}
@@ -24,6 +27,7 @@ use Rattle.chr_read.specs.Meanings.{meaning_of}
 use Rattle.chr_read.specs.ProgramTexts.{IsAnswer}
 use Rattle.chr_explain.specs.declared.limits.TheConstants.{MAX_TOLD_STEPS}
 use Rattle.chr_explain.specs.declared.peak.Peak.{Peak}
+use Rattle.chr_explain.specs.declared.ways.Ways.{Ways}
 use Rattle.chr_explain.specs.declared.sorted.SortedVerdict.{SortedVerdict}
 use Rattle.chr_explain.specs.declared.sorted.Throng.{Throng}
 use Rattle.chr_explain.specs.declared.sorted.SortedVerdict.TheVariants as sorted
@@ -43,13 +47,38 @@ PassesThrough rules (st ∷ steps) s (t ∷ stores) = LeadsTo rules st s t × Pa
 abbrev pub AreFirstStores : List Rule → Derivation → List Store → Type 0
 AreFirstStores rules d stores = PassesThrough rules (take MAX_TOLD_STEPS d.steps.items) d.start stores
 
--- the first case that fails, of those that a coverage has, whose two derivations replay to different ends, and the
--- stores of both
+-- two derivations of one store that replay to different ends, and the first stores of both
+pub record AreWaysOf (rules : List Rule) (w : Ways) : Type 0 where
+  pub replays : ReplaysApart rules w.failure
+  pub left : AreFirstStores rules w.failure.left w.left.items
+  pub right : AreFirstStores rules w.failure.right w.right.items
+
+-- the derivation begins with the step
+abbrev pub BeginsWith : Step → Derivation → Type 0
+BeginsWith st d = (rest : List Step) × (d.steps.items ≡ st ∷ rest)
+
+-- f has a derivation of each side of the case c of the overlap o, and these replay to different ends
+pub record IsFailureAt (rules : List Rule) (o : Overlap) (c : Case) (f : Failure) : Type 0 where
+  pub overlap : f.overlap ≡ o
+  pub start : f.left.start ≡ c.store
+  pub left : BeginsWith c.left f.left
+  pub right : BeginsWith c.right f.right
+  pub replays : ReplaysApart rules f
+
+-- f is that of some case of the overlap
+abbrev pub IsFailureOf : List Rule → Overlap → Failure → Type 0
+IsFailureOf rules o f =
+    (cs : List Case) × (c : Case) × AreCases rules o cs × In c cs × IsFailureAt rules o c f
+
+-- both ways of a case of the overlap
+abbrev pub AreSmallerWays : List Rule → Overlap → Ways → Type 0
+AreSmallerWays rules o w = IsFailureOf rules o w.failure × AreWaysOf rules w
+
+-- the first case that fails, of those that a coverage has, and another one of its overlap
 pub record IsPeakBy (coverage : Coverage) (rules : List Rule) (p : Peak) : Type 0 where
-  pub first : IsRefusalBy coverage rules (cause.Fails p.failure)
-  pub replays : ReplaysApart rules p.failure
-  pub left : AreFirstStores rules p.failure.left p.left.items
-  pub right : AreFirstStores rules p.failure.right p.right.items
+  pub first : IsRefusalBy coverage rules (cause.Fails p.first.failure)
+  pub ways : AreWaysOf rules p.first
+  pub smaller : IfSome p.smaller (AreSmallerWays rules p.first.failure.overlap)
 
 -- what the sorted cases say of a program: that all are joinable, the first that fails, the first overlap of too many
 -- combinations of values, or nothing

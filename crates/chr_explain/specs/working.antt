@@ -1,2 +1,3 @@
 pub mod ClausePlaces
 pub mod TextsWithout
+pub mod Sides

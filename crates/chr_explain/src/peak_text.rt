@@ -4,11 +4,16 @@ use crate::names::Names;
 use crate::overlap_text::{ToldOverlap, told_overlap};
 use crate::peak::Peak;
 use crate::rule_text::{NamedProgram, told_rule};
+use crate::ways::Ways;
 use chr_base::bag::Bag;
 use chr_base::derivation::Derivation;
 use chr_base::text::push_store;
+use chr_join::Failure;
 use std::alloc::{AllocError, Global};
 use std::fmt::Write;
+
+/// What stands before the smallest store.
+const SMALLER: &str = "The smallest store with which these heads come to two ends";
 
 /// Adds the steps of one side, a line for each, and its end.
 fn push_side(
@@ -42,13 +47,13 @@ fn push_values(
     alloc: Global,
     out: &mut String,
     told: ToldOverlap<'_>,
-    peak: &Peak,
+    failure: &Failure,
 ) -> Result<(), AllocError> {
     let mut values = String::new(alloc);
-    if let Some(step) = peak.failure.left.steps.first() {
+    if let Some(step) = failure.left.steps.first() {
         told.first.push_values(&mut values, &step.heads)?;
     }
-    if let Some(step) = peak.failure.right.steps.first() {
+    if let Some(step) = failure.right.steps.first() {
         told.second.push_values(&mut values, &step.heads)?;
     }
     if let Some(values) = values.as_str().strip_prefix(", ") {
@@ -57,19 +62,16 @@ fn push_values(
     Ok(())
 }
 
-/// Adds the rules, the store and both ways of a case that fails.
+/// Adds the store of a case that fails, which these words come before, and both ways from it.
 fn push_ways(
     alloc: Global,
     out: &mut String,
-    told: ToldOverlap<'_>,
     source: NamedProgram<'_>,
-    peak: &Peak,
+    before: &str,
+    ways: &Ways,
 ) -> Result<(), AllocError> {
-    let failure = &peak.failure;
-    told.push_rules(alloc, out)?;
-    told.push_matched(alloc, out)?;
-    push_values(alloc, out, told, peak)?;
-    out.push_str("The store: ")?;
+    let failure = &ways.failure;
+    write!(out, "{before}: ")?;
     push_store(alloc, out, source.program, &failure.left.start)?;
     out.push_str("\nOne way:\n")?;
     push_side(
@@ -77,7 +79,7 @@ fn push_ways(
         out,
         source,
         &failure.left,
-        &peak.left,
+        &ways.left,
         &failure.left_end,
     )?;
     out.push_str("The other way:\n")?;
@@ -86,9 +88,27 @@ fn push_ways(
         out,
         source,
         &failure.right,
-        &peak.right,
+        &ways.right,
         &failure.right_end,
     )
+}
+
+/// Adds the rules of a case that fails, and both ways of it and of a smaller one.
+fn push_case(
+    alloc: Global,
+    out: &mut String,
+    told: ToldOverlap<'_>,
+    source: NamedProgram<'_>,
+    peak: &Peak,
+) -> Result<(), AllocError> {
+    told.push_rules(alloc, out)?;
+    told.push_matched(alloc, out)?;
+    push_values(alloc, out, told, &peak.first.failure)?;
+    push_ways(alloc, out, source, "The store", &peak.first)?;
+    match &peak.smaller {
+        Some(smaller) => push_ways(alloc, out, source, SMALLER, smaller),
+        None => Ok(()),
+    }
 }
 
 /// Tells of a case whose sides end in different stores.
@@ -102,11 +122,11 @@ pub(crate) fn push_peak(
         program: peak.weighed.program(),
         names,
     };
-    let Some(told) = told_overlap(source, &peak.failure.overlap) else {
+    let Some(told) = told_overlap(source, &peak.first.failure.overlap) else {
         return Ok(());
     };
     out.push_str("refused 21: one store comes to two ends\n")?;
-    push_ways(alloc, out, told, source, peak)?;
+    push_case(alloc, out, told, source, peak)?;
     out.push_str("Two replicas that took these rules in another order would disagree for ever.\n")?;
     out.push_str(
         "Add a rule that takes one end to the other, or write a guard under which only one of the two steps is possible.\n",

@@ -90,7 +90,7 @@ fn tries_of(alloc: Global, text: &[u8], peak: &Peak) -> Result<Vec<Proposal>, Al
         program: peak.weighed.program(),
         names: &names,
     };
-    let overlap = &peak.failure.overlap;
+    let overlap = &peak.first.failure.overlap;
     let mut tries = Vec::new(alloc);
     push_tries(alloc, &mut tries, text, source, overlap.first as usize)?;
     if overlap.first != overlap.second {

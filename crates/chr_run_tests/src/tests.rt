@@ -18,6 +18,7 @@ const PLAIN: Settings = Settings {
     wide: false,
     style: Style {
         dot: false,
+        html: false,
         all: false,
     },
     workers: 1,

@@ -16,12 +16,13 @@ use std::alloc::Global;
 use std::io::{Read, Write};
 use std::thread::Threads;
 
-/// How an explanation is to be written: a drawing has all that there is in any case.
+/// How an explanation is to be written: a page has the drawing too, and both have all that there is in any case.
 fn manner_of(style: Style) -> Manner {
-    match (style.dot, style.all) {
-        (true, _) => Manner::Drawing,
-        (false, true) => Manner::FullText,
-        (false, false) => Manner::Text,
+    match (style.html, style.dot, style.all) {
+        (true, _, _) => Manner::Page,
+        (false, true, _) => Manner::Drawing,
+        (false, false, true) => Manner::FullText,
+        (false, false, false) => Manner::Text,
     }
 }
 

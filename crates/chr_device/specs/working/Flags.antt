@@ -14,4 +14,8 @@ wide_in met = has_flag_in (codes "wide") met
 
 -- how an explanation is to be written
 abbrev pub style_in : Option (List ℕ × List Row) → Style
-style_in met = record { dot = has_flag_in (codes "dot") met; all = has_flag_in (codes "all") met }
+style_in met = record {
+  dot = has_flag_in (codes "dot") met;
+  html = has_flag_in (codes "html") met;
+  all = has_flag_in (codes "all") met;
+}

@@ -5,15 +5,19 @@ use clap::Error;
 use clap::error::ErrorKind;
 use std::process::Abort;
 
+/// An explanation as text.
+const TEXT: Style = Style {
+    dot: false,
+    html: false,
+    all: false,
+};
+
 /// What `run` asks for. Each number is 1.
 const PLAIN: Settings = Settings {
     command: Verb::Run,
     wide: false,
     replicas: 1,
-    style: Style {
-        dot: false,
-        all: false,
-    },
+    style: TEXT,
     workers: 1,
     parts: 1,
 };
@@ -115,21 +119,44 @@ fn workers_and_parts_are_read(rt: HostRuntime) {
     }
 }
 
-/// Whether the explanation is a drawing, and whether it tells all.
-const STYLES: [(&[&str], bool, bool); 4] = [
-    (&["explain", "--dot"], true, false),
-    (&["explain", "--all"], false, true),
-    (&["explain", "--dot", "--all"], true, true),
-    (&["explain", "--all", "--dot"], true, true),
+/// How an explanation is to be written.
+const STYLES: [(&[&str], Style); 6] = [
+    (&["explain", "--dot"], Style { dot: true, ..TEXT }),
+    (&["explain", "--html"], Style { html: true, ..TEXT }),
+    (&["explain", "--all"], Style { all: true, ..TEXT }),
+    (
+        &["explain", "--dot", "--all"],
+        Style {
+            html: false,
+            dot: true,
+            all: true,
+        },
+    ),
+    (
+        &["explain", "--all", "--dot"],
+        Style {
+            html: false,
+            dot: true,
+            all: true,
+        },
+    ),
+    (
+        &["explain", "--html", "--dot"],
+        Style {
+            html: true,
+            dot: true,
+            all: false,
+        },
+    ),
 ];
 
 #[test]
 fn styles_are_read(rt: HostRuntime) {
     let command = Verb::Explain;
-    for (words, dot, all) in STYLES {
+    for (words, style) in STYLES {
         let expected = Settings {
             command,
-            style: Style { dot, all },
+            style,
             ..PLAIN
         };
         assert!(rt; asks_for(&rt, words, expected), "{words:?}");
