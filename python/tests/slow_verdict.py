@@ -411,40 +411,84 @@ class SortedLists:
 # ---- the verdict
 
 
-def failing_line(program: Program, overlap: Overlap, at: Valuation) -> str | None:
-    """The verdict's line where the sides of the case at this valuation end in different stores."""
+@dataclass(frozen=True)
+class Failing:
+    """A case whose sides end in different stores."""
+
+    store: tuple[Pattern, ...]
+    left: str
+    right: str
+
+
+def failing(program: Program, overlap: Overlap, at: Valuation) -> Failing | None:
+    """The case at this valuation, where it fails."""
     first, second = overlap.first, overlap.second
     unmatched = [head for place, head in enumerate(second.heads, 1) if place not in overlap.matching]
     store = atoms_at(first.heads + tuple(unmatched), at)
     left, right = (store_text(plain_end(program, after(rule, at, store))) for rule in (first, second))
-    return None if left == right else f"refused 21: {overlap}; store {store_text(store)}; left {left}; right {right}"
+    return None if left == right else Failing(tuple(program.in_order(store)), left, right)
 
 
 class TooSlow(Exception):
     """There are too many lists of values to be looked at here."""
 
 
-def refusal_or_count(program: Program, by: JointLists | SortedLists, overlap: Overlap, most: int) -> str | int:
-    """The line of an overlap that refuses the program, or else the number of its cases."""
+class TooManyTypes(Exception):
+    """The overlap has more lists of values of so many free classes than a verdict looks at."""
+
+    def __init__(self, free: int) -> None:
+        super().__init__()
+        self.free = free
+
+
+def cases(by: JointLists | SortedLists, overlap: Overlap, most: int) -> Iterator[Valuation]:
+    """The valuations of an overlap's cases, in order."""
     classes = by.classes(overlap)
     if classes is None:
-        return 0
+        return
     free = [name for name, term in classes.items() if term == name]
     count = by.count(overlap, free)
     if count > MAX_TYPES:
-        return f"refused 22: {overlap}; classes {len(free)}"
+        raise TooManyTypes(len(free))
     if count > most:
         raise TooSlow
-    cases = 0
     for values in by.lists(overlap, free):
         given = dict(zip(free, values, strict=True))
         at = {name: given[term] if isinstance(term, str) else term for name, term in classes.items()}
         if guard_holds(overlap.first, at) and guard_holds(overlap.second, at):
-            cases += 1
-            line = failing_line(program, overlap, at)
-            if line is not None:
-                return line
-    return cases
+            yield at
+
+
+def refusal_or_count(program: Program, by: JointLists | SortedLists, overlap: Overlap, most: int) -> str | int:
+    """The line of an overlap that refuses the program, or else the number of its cases."""
+    count = 0
+    try:
+        for at in cases(by, overlap, most):
+            count += 1
+            found = failing(program, overlap, at)
+            if found is not None:
+                store = store_text(list(found.store))
+                return f"refused 21: {overlap}; store {store}; left {found.left}; right {found.right}"
+    except TooManyTypes as fault:
+        return f"refused 22: {overlap}; classes {fault.free}"
+    return count
+
+
+def smallest_failing(program: Program, most: int) -> tuple[Failing, Failing] | None:
+    """Of the first overlap with a failing joint case the first one, and that with the smallest store: of fewest
+    different values, and then the least. None where there is no such overlap."""
+    by = JointLists(program)
+    places = list(program.symbols)
+
+    def size(case: Failing) -> tuple[int, list[tuple[int, tuple[Term, ...]]]]:
+        values = {value for atom in case.store for value in atom.terms}
+        return len(values), [(places.index((atom.name, len(atom.terms))), atom.terms) for atom in case.store]
+
+    for overlap in overlaps(program):
+        found = [case for at in cases(by, overlap, most) if (case := failing(program, overlap, at)) is not None]
+        if found:
+            return found[0], min(found, key=size)
+    return None
 
 
 def verdict(program: Program, most: int, wide: bool = False) -> str:
@@ -455,10 +499,10 @@ def verdict(program: Program, most: int, wide: bool = False) -> str:
         if before <= behind:
             return f"refused 20: rule {number}; before {before}; after {behind}"
     by: JointLists | SortedLists = SortedLists(program) if wide else JointLists(program)
-    cases = 0
+    count = 0
     for overlap in overlaps(program):
         found = refusal_or_count(program, by, overlap, most)
         if isinstance(found, str):
             return found
-        cases += found
-    return f"accepted: rules {len(program.rules)}, cases {cases}"
+        count += found
+    return f"accepted: rules {len(program.rules)}, cases {count}"

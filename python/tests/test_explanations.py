@@ -12,6 +12,8 @@ from concurrent.futures import ThreadPoolExecutor
 from pathlib import Path
 
 from chrrep.node import program_path
+from random_programs import program
+from slow_verdict import TooManyTypes, TooSlow, smallest_failing, store_text
 
 TEXTS = Path(__file__).resolve().parent / "explanations"
 OPTIONS = {
@@ -33,6 +35,12 @@ MAX_BODY = 4
 DECLARED = ":- chr_constraint a/0, b/0, c/0, d/0.\n"
 SMALL_WEIGHTS = list(itertools.product(range(1, 7), repeat=len(SYMBOLS)))
 IN_CYCLE = re.compile(r"  (?:once|(\d+) times) rule (\d+): ")
+
+MOST_TYPES = 200
+"""More order types of one overlap are not looked at."""
+WAYS = r"(.*)\nOne way:\n(?:  \d.*\n|  and .*\n)*  end: (.*)\nThe other way:\n(?:  \d.*\n|  and .*\n)*  end: (.*)\n"
+FIRST = re.compile(f"The store: {WAYS}")
+SMALLEST = re.compile(f"The smallest store with which these heads come to two ends: {WAYS}")
 
 PROPOSED = re.compile(r"with this in place of rule (\d+):\n((?:  .*\n)+)")
 
@@ -129,6 +137,30 @@ class Proposals(unittest.TestCase):
                 with self.subTest(file.name, options=options, number=number, rules=rules):
                     self.assertEqual(run("check", pasted(text.decode(), int(number), rules), *options)[0], 0)
         self.assertGreater(told, 40)
+
+
+class Smallest(unittest.TestCase):
+    def test_random_programs(self) -> None:
+        """Beside the first failing case of an overlap the smallest one is told, where that is another."""
+        chance = random.Random(SEED)
+        kinds: Counter[str] = Counter()
+        for _ in range(PROGRAMS):
+            made = program(chance)
+            told = run("explain", str(made).encode())[1]
+            if not told.startswith("refused 21"):
+                continue
+            try:
+                expected = smallest_failing(made, MOST_TYPES)
+            except (TooManyTypes, TooSlow):
+                kinds["too slow"] += 1
+                continue
+            with self.subTest(program=str(made)):
+                assert expected is not None
+                first, smallest = ((store_text(list(case.store)), case.left, case.right) for case in expected)
+                self.assertEqual(FIRST.findall(told), [first])
+                self.assertEqual(SMALLEST.findall(told), [] if smallest == first else [smallest])
+                kinds["the first" if smallest == first else "another"] += 1
+        self.assertGreater(min(kinds["the first"], kinds["another"]), PROGRAMS // 100, kinds)
 
 
 def random_rules(chance: random.Random) -> list[Rule]:
