@@ -7,3 +7,5 @@ mod Passing
 mod Counting
 mod Verdicts
 mod Proposals
+mod FirstOverlaps
+mod FoundCases

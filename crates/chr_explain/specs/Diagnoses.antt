@@ -1,5 +1,5 @@
 -- What is told of a text is true of it.
-use Rattle.std.specs.Prelude.{◌≡◌, ℕ, ◌⊎◌, List, [], ◌∷◌, length, map, take, Ok, IfSome}
+use Rattle.std.specs.Prelude.{◌≡◌, ℕ, ◌⊎◌, List, [], ◌∷◌, ◌++◌, length, map, take, Ok, IfSome}
 use Rattle.std.specs.List.{All}
 use Rattle.chr_base.specs.declared.program.Program.{Program}
 use Rattle.chr_base.specs.declared.rule.Rule.{Rule}
@@ -11,7 +11,6 @@ use Rattle.chr_weights.specs.Weights.{ProgramLowers, IsFirstNotLowered}
 use Rattle.chr_weights.specs.WeighedPrograms.{program_of}
 use Rattle.chr_weighing.specs.Weighings.{IsWeighing}
 use Rattle.chr_rewrite.specs.Derivations.{LeadsTo}
-use Rattle.chr_types.specs.OrderTypes.{In}
 use Rattle.chr_overlaps.specs.declared.cases.Case.{Case}
 use Rattle.chr_overlaps.specs.declared.overlap.Overlap.{Overlap}
 use Rattle.chr_overlaps.specs.OverlapLists.{AreOverlaps}
@@ -68,7 +67,8 @@ pub record IsFailureAt (rules : List Rule) (o : Overlap) (c : Case) (f : Failure
 -- f is that of some case of the overlap
 abbrev pub IsFailureOf : List Rule → Overlap → Failure → Type 0
 IsFailureOf rules o f =
-    (cs : List Case) × (c : Case) × AreCases rules o cs × In c cs × IsFailureAt rules o c f
+    (before : List Case) × (c : Case) × (after : List Case) × AreCases rules o (before ++ c ∷ after)
+    × IsFailureAt rules o c f
 
 -- both ways of a case of the overlap
 abbrev pub AreSmallerWays : List Rule → Overlap → Ways → Type 0

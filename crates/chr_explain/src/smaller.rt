@@ -98,7 +98,7 @@ fn steps_after(
 }
 
 /// The derivation that begins with a step at a store and goes on plainly, where it is one.
-fn side(
+fn side_from(
     alloc: Global,
     weighed: &Weighed,
     store: &Bag,
@@ -125,10 +125,10 @@ fn failing(
 ) -> Result<Option<Failure>, AllocError>
     ensures { IfOk result (λ found. IfSome found (IsFailureAt (rules_in weighed.now) overlap.now case.now)) }
 {
-    let Some(left) = side(alloc, weighed, &case.store, &case.left)? else {
+    let Some(left) = side_from(alloc, weighed, &case.store, &case.left)? else {
         return Ok(None);
     };
-    let Some(right) = side(alloc, weighed, &case.store, &case.right)? else {
+    let Some(right) = side_from(alloc, weighed, &case.store, &case.right)? else {
         return Ok(None);
     };
     if left.end.is_same(&right.end) {
