@@ -2,8 +2,11 @@
 #![tactic(auto)]
 
 mod cause;
+mod census_graph;
 mod clause;
+mod columns_graph;
 mod crowd_text;
+mod cycle_graph;
 mod diagnosis;
 mod draft;
 mod draft_text;
@@ -13,12 +16,17 @@ mod fault_text;
 mod faults;
 mod finding;
 mod foreign;
+mod graph;
+mod graph_drawing;
+mod groups;
+mod label;
 mod limits;
 mod line;
 mod names;
 mod overlap_text;
 mod pairs;
 mod peak;
+mod peak_drawing;
 mod peak_text;
 mod place;
 mod proposal;
@@ -28,6 +36,7 @@ mod rule;
 mod rule_text;
 mod sorted;
 mod stores;
+mod symbol_text;
 mod syntax;
 mod telling;
 mod token;

@@ -21,6 +21,9 @@ pub const MAX_TOLD_PAIRS: usize = 20;
 /// How many bytes of a store are drawn.
 pub const MAX_DRAWN_BYTES: usize = 2_000;
 
+/// How many copies of a rule are told by their numbers.
+pub const MAX_TOLD_COPIES: usize = 8;
+
 /// How many changes of one rule are tried.
 pub const MAX_TRIES: usize = 12;
 
