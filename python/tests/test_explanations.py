@@ -203,12 +203,11 @@ class Drawings(unittest.TestCase):
         self.assertTrue(drawn.startswith("digraph columns {\n"))
         for line in (
             '  symbol0 [label="best/6\\nby order 2, 3, 4, 5; by equality 6"];\n',
-            '  symbol0 -> symbol0 [label="2 < 2"];\n',
-            '  symbol0 -> symbol0 [label="6 =\\\\= 6"];\n',
+            '  symbol0 -> symbol0 [label="2 < 2, 3 < 3, 4 < 4, 5 < 5, 6 =\\\\= 6"];\n',
             '  text [label="refused 22: an overlap has more than 50000 combinations of values\\l',
         ):
             self.assertIn(line, drawn)
-        self.assertEqual(drawn.count("-> symbol0"), 5)
+        self.assertEqual(drawn.count("-> symbol0"), 1)
 
 
 def random_rules(chance: random.Random) -> list[Rule]:

@@ -217,7 +217,7 @@ class Pages(unittest.TestCase):
 
     def test_columns_are_drawn(self) -> None:
         page = self.page((TEXTS / "throngs.chr").read_bytes(), "--wide")
-        for word in ("best/6", "by order 2, 3, 4, 5; by equality 6", "2 < 2", "6 =\\= 6"):
+        for word in ("best/6", "by order 2, 3, 4, 5; by equality 6", "2 < 2, 3 < 3, 4 < 4, 5 < 5, 6 =\\= 6"):
             self.assertIn(word, page.words)
 
 

@@ -78,7 +78,11 @@ fn push_compared(compared: &mut Vec<Compared>, rule: &Rule) -> Result<(), AllocE
 }
 
 /// The symbols of the heads of two rules, in the order of their declaration.
-fn symbols_of(alloc: Global, program: &Program, overlap: &Overlap) -> Result<Vec<SymbolId>, AllocError> {
+fn symbols_of(
+    alloc: Global,
+    program: &Program,
+    overlap: &Overlap,
+) -> Result<Vec<SymbolId>, AllocError> {
     let mut symbols = Vec::new(alloc);
     let first = program.rules().get((overlap.first as usize).saturating_sub(1));
     let second = program.rules().get((overlap.second as usize).saturating_sub(1));
@@ -112,45 +116,80 @@ fn node_of(
     Ok(Node { name, text, more })
 }
 
-/// The edge of two columns, where their symbols have nodes.
-fn edge_of(
+/// Adds a further comparison to what an edge says.
+fn push_more(out: &mut String, text: &str) -> Result<(), AllocError> {
+    out.push_str(", ")?;
+    out.push_str(text)
+}
+
+/// Adds a comparison to the edge of these nodes, which may be a new one.
+fn add_edge(
     alloc: Global,
-    symbols: &[SymbolId],
-    compared: &Compared,
-) -> Result<Option<Edge>, AllocError> {
-    let left = compared.left;
-    let right = compared.right;
-    let from = symbols.iter().take_while(|symbol| **symbol != left.symbol).count();
-    let to = symbols.iter().take_while(|symbol| **symbol != right.symbol).count();
-    if symbols.len() <= from || symbols.len() <= to {
-        return Ok(None);
+    edges: &mut Vec<Edge>,
+    from: usize,
+    to: usize,
+    text: &str,
+) -> Result<(), AllocError> {
+    let place = edges
+        .iter()
+        .take_while(|edge| edge.from != from || edge.to != to)
+        .count();
+    if let Some(edge) = edges.get_mut(place) {
+        push_more(&mut edge.text, text)?;
+        return push_more(&mut edge.mark, text);
     }
-    let text = format!(in alloc; "{} {} {}", left.number, sign(compared.cmp), right.number)?;
-    let mark = text.clone()?;
-    Ok(Some(Edge {
+    let mark = String::from_str(alloc, text)?;
+    let text = String::from_str(alloc, text)?;
+    edges.push(Edge {
         from,
         to,
         text,
         mark,
-    }))
+    })?;
+    Ok(())
+}
+
+/// The place of the symbol among these: their number where it is none of them.
+fn place_of(symbols: &[SymbolId], symbol: SymbolId) -> usize {
+    symbols.iter().take_while(|other| **other != symbol).count()
+}
+
+/// Adds a comparison of two columns, where their symbols have nodes.
+fn push_edge(
+    alloc: Global,
+    edges: &mut Vec<Edge>,
+    symbols: &[SymbolId],
+    compared: &Compared,
+) -> Result<(), AllocError> {
+    let left = compared.left;
+    let right = compared.right;
+    let from = place_of(symbols, left.symbol);
+    let to = place_of(symbols, right.symbol);
+    if symbols.len() <= from || symbols.len() <= to {
+        return Ok(());
+    }
+    let text = format!(in alloc; "{} {} {}", left.number, sign(compared.cmp), right.number)?;
+    add_edge(alloc, edges, from, to, text.as_str())
 }
 
 /// The edges of all columns that rules compare, between these symbols.
-fn edges_of(alloc: Global, program: &Program, symbols: &[SymbolId]) -> Result<Vec<Edge>, AllocError> {
+fn edges_of(
+    alloc: Global,
+    program: &Program,
+    symbols: &[SymbolId],
+) -> Result<Vec<Edge>, AllocError> {
     let mut compared = Vec::new(alloc);
     for rule in program.rules() {
         push_compared(&mut compared, rule)?;
     }
     let mut edges = Vec::new(alloc);
     for one in &compared {
-        if let Some(edge) = edge_of(alloc, symbols, one)? {
-            edges.push(edge)?;
-        }
+        push_edge(alloc, &mut edges, symbols, one)?;
     }
     Ok(edges)
 }
 
-/// The symbols of an overlap's heads, with an edge for each comparison of two of their columns. None where there are no
+/// The symbols of an overlap's heads, with an edge between two of which rules compare columns. None where there are no
 /// such rules.
 pub(crate) fn columns_graph(
     alloc: Global,

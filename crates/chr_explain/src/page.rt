@@ -57,7 +57,7 @@ fn push_head(out: &mut String, diagnosis: &Diagnosis, told: &str) -> Result<(), 
 /// What the drawing shows.
 fn caption_of(meaning: Meaning) -> &'static str {
     match meaning {
-        Meaning::Overlaps => "Copies of a rule are one box. An arc joins rules that have cases in common, and tells how many.",
+        Meaning::Overlaps => "Copies of a rule are one box. An arc joins rules that have cases, and tells how many.",
         Meaning::Cycle => "An arrow goes from a rule to each rule that takes what the first one gives.",
         Meaning::Columns => "An arc joins symbols of which a rule compares columns, and tells which.",
     }
