@@ -67,7 +67,8 @@ fn passed_text(
     for number in 0..program.symbols() {
         let symbol = SymbolId(u16::try_from(number).unwrap_or(u16::MAX));
         if has_symbol(&from.body, symbol) && has_symbol(&to.removed, symbol) {
-            text.push_str(if text.is_empty() { "" } else { ", " })?;
+            let before = if text.is_empty() { "" } else { ", " };
+            text.push_str(before)?;
             push_symbol(&mut text, program, symbol)?;
         }
     }

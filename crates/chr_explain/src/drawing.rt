@@ -1,8 +1,8 @@
 //! What is to be told of a text, as a drawing in the language of Graphviz.
 
 use crate::diagnosis::Diagnosis;
-use crate::graph::graph_of;
 use crate::graph_drawing::push_graph;
+use crate::graphs::graph_of;
 use crate::label::{Align, push_label};
 use crate::names::Names;
 use crate::peak_drawing::push_peak_drawing;

@@ -19,6 +19,7 @@ mod foreign;
 mod graph;
 mod graph_drawing;
 mod graph_svg;
+mod graphs;
 mod groups;
 mod html;
 mod label;

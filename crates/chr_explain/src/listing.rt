@@ -59,8 +59,8 @@ fn is_marked(spans: &[Span], at: usize) -> bool {
 }
 
 /// Adds the begin or the end of a mark, where one is.
-fn push_turn(out: &mut String, was_marked: bool, is_marked: bool) -> Result<(), AllocError> {
-    out.push_str(match (was_marked, is_marked) {
+fn push_turn(out: &mut String, was_in: bool, is_in: bool) -> Result<(), AllocError> {
+    out.push_str(match (was_in, is_in) {
         (false, true) => "<mark>",
         (true, false) => "</mark>",
         _ => "",
@@ -78,14 +78,14 @@ fn push_byte(out: &mut String, byte: u8) -> Result<(), AllocError> {
 
 /// Adds the text with marks at these places. A mark ends with its line, and begins again with the next one.
 fn push_marked(out: &mut String, text: &[u8], spans: &[Span]) -> Result<(), AllocError> {
-    let mut was = false;
+    let mut was_in = false;
     for (at, byte) in text.iter().enumerate() {
-        let is = *byte != b'\n' && is_marked(spans, at);
-        push_turn(out, was, is)?;
+        let is_in = *byte != b'\n' && is_marked(spans, at);
+        push_turn(out, was_in, is_in)?;
         push_byte(out, *byte)?;
-        was = is;
+        was_in = is_in;
     }
-    push_turn(out, was, false)
+    push_turn(out, was_in, false)
 }
 
 /// Adds the text of a program with marks at its faulty places.

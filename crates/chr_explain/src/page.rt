@@ -2,8 +2,9 @@
 
 use crate::diagnosis::Diagnosis;
 use crate::faults::TextFaults;
-use crate::graph::{Graph, Meaning, graph_of};
+use crate::graph::{Graph, Meaning};
 use crate::graph_svg::push_graph_svg;
+use crate::graphs::graph_of;
 use crate::html::{push_first_line, push_html};
 use crate::listing::push_listing;
 use crate::names::Names;
