@@ -1,6 +1,7 @@
 //! What is wrong with a program text, where, and what is right, told to a person.
 #![tactic(auto)]
 
+mod cards;
 mod cause;
 mod census_graph;
 mod clause;
@@ -48,7 +49,6 @@ mod symbol_text;
 mod syntax;
 mod telling;
 mod token;
-mod ways;
 mod ways_page;
 mod ways_svg;
 mod weighing_text;

@@ -12,7 +12,7 @@ use crate::peak::Peak;
 use crate::proposal::Proposal;
 use crate::style::STYLE;
 use crate::telling::told_text;
-use crate::ways::{Ways, ways_of};
+use crate::cards::{Cards, cards_of};
 use crate::ways_page::push_ways;
 use crate::ways_svg::push_ways_svg;
 use chr_read::Fault;
@@ -78,7 +78,7 @@ fn push_graph_figure(
 }
 
 /// Adds a drawing of both ways.
-fn push_ways_figure(alloc: Global, out: &mut String, ways: &Ways) -> Result<(), AllocError> {
+fn push_ways_figure(alloc: Global, out: &mut String, ways: &Cards) -> Result<(), AllocError> {
     out.push_str("<section>\n<h2>Drawing</h2>\n<figure>\n")?;
     push_ways_svg(alloc, out, ways)?;
     out.push_str("<figcaption>The store, and below it both ways to their ends, which have two lines round them.")?;
@@ -92,7 +92,7 @@ fn push_peak(
     names: &Names,
     peak: &Peak,
 ) -> Result<(), AllocError> {
-    let ways = ways_of(alloc, names, peak)?;
+    let ways = cards_of(alloc, names, peak)?;
     push_ways(out, &ways)?;
     push_ways_figure(alloc, out, &ways)
 }

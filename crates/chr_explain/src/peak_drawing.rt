@@ -105,20 +105,20 @@ pub(crate) fn push_peak_drawing(
 ) -> Result<(), AllocError> {
     let program = peak.weighed.program();
     let source = NamedProgram { program, names };
-    let failure = &peak.failure;
+    let failure = &peak.first.failure;
     out.push_str("digraph peak {\n  node [shape=box];\n  store ")?;
     push_store_node(alloc, out, program, &failure.left.start, false)?;
     let left = Side {
         name: "left",
         derivation: &failure.left,
-        stores: &peak.left,
+        stores: &peak.first.left,
         end: &failure.left_end,
     };
     push_side(alloc, out, source, left)?;
     let right = Side {
         name: "right",
         derivation: &failure.right,
-        stores: &peak.right,
+        stores: &peak.first.right,
         end: &failure.right_end,
     };
     push_side(alloc, out, source, right)?;

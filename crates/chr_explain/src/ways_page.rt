@@ -1,7 +1,7 @@
 //! Both ways of a case that fails, side by side on a page.
 
 use crate::html::push_html;
-use crate::ways::{Card, Ways};
+use crate::cards::{Card, Cards};
 use std::alloc::AllocError;
 
 /// Adds a step, and the store that it leaves.
@@ -33,7 +33,7 @@ fn push_way(out: &mut String, heading: &str, cards: &[Card]) -> Result<(), Alloc
 }
 
 /// Adds both ways.
-pub(crate) fn push_ways(out: &mut String, ways: &Ways) -> Result<(), AllocError> {
+pub(crate) fn push_ways(out: &mut String, ways: &Cards) -> Result<(), AllocError> {
     out.push_str("<section>\n<h2>Step by step</h2>\n<p class=\"store\">The store: <code>")?;
     push_html(out, ways.start.as_str())?;
     out.push_str("</code></p>\n<div class=\"ways\">\n")?;

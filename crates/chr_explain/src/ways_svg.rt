@@ -1,7 +1,7 @@
 //! Both ways of a case that fails, as a drawing in SVG.
 
 use crate::svg::{CHARACTER, Frame, MARGIN, push_box, push_svg, push_svg_text, width_of};
-use crate::ways::{Card, Ways};
+use crate::cards::{Card, Cards};
 use std::alloc::{AllocError, Global};
 use std::fmt::Write;
 
@@ -78,7 +78,7 @@ fn push_way(
 }
 
 /// How high the drawing is.
-fn height_of(ways: &Ways) -> usize {
+fn height_of(ways: &Cards) -> usize {
     let steps = ways.left.len().max(ways.right.len());
     let below = steps.saturating_mul(ARROW.saturating_add(STORE));
     below.saturating_add(STORE).saturating_add(MARGIN.saturating_mul(2))
@@ -88,7 +88,7 @@ fn height_of(ways: &Ways) -> usize {
 pub(crate) fn push_ways_svg(
     alloc: Global,
     out: &mut String,
-    ways: &Ways,
+    ways: &Cards,
 ) -> Result<(), AllocError> {
     let left = way_width(&ways.left);
     let right = way_width(&ways.right);

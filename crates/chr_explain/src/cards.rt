@@ -19,7 +19,7 @@ pub(crate) struct Card {
 
 /// A store, and the steps of both ways from it.
 #[derive(Drop)]
-pub(crate) struct Ways {
+pub(crate) struct Cards {
     pub start: String,
     pub left: Vec<Card>,
     pub right: Vec<Card>,
@@ -35,7 +35,7 @@ fn step_text(alloc: Global, source: NamedProgram<'_>, step: &Step) -> Result<Str
 }
 
 /// The cards of one way whose first stores are these.
-fn cards_of(
+fn way_cards(
     alloc: Global,
     source: NamedProgram<'_>,
     way: &Derivation,
@@ -67,24 +67,24 @@ fn cards_of(
 }
 
 /// Both ways of a case that fails.
-pub(crate) fn ways_of(alloc: Global, names: &Names, peak: &Peak) -> Result<Ways, AllocError> {
+pub(crate) fn cards_of(alloc: Global, names: &Names, peak: &Peak) -> Result<Cards, AllocError> {
     let program = peak.weighed.program();
     let source = NamedProgram { program, names };
-    let failure = &peak.failure;
+    let failure = &peak.first.failure;
     let start = store_text(alloc, program, &failure.left.start)?;
-    let left = cards_of(
+    let left = way_cards(
         alloc,
         source,
         &failure.left,
-        &peak.left,
+        &peak.first.left,
         &failure.left_end,
     )?;
-    let right = cards_of(
+    let right = way_cards(
         alloc,
         source,
         &failure.right,
-        &peak.right,
+        &peak.first.right,
         &failure.right_end,
     )?;
-    Ok(Ways { start, left, right })
+    Ok(Cards { start, left, right })
 }
