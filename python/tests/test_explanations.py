@@ -44,6 +44,9 @@ SMALLEST = re.compile(f"The smallest store with which these heads come to two en
 
 PROPOSED = re.compile(r"with this in place of rule (\d+):\n((?:  .*\n)+)")
 
+PAIR = re.compile(r"^  rules (\d+) (\d+): overlaps (\d+), cases (\d+)$", re.M)
+EDGE = re.compile(r'^  rule(\d+) -- rule(\d+) \[label="overlaps (\d+), cases (\d+)"\];$', re.M)
+
 Rule = tuple[list[str], list[str]]
 """What a rule removes, and its body."""
 
@@ -161,6 +164,82 @@ class Smallest(unittest.TestCase):
                 self.assertEqual(SMALLEST.findall(told), [] if smallest == first else [smallest])
                 kinds["the first" if smallest == first else "another"] += 1
         self.assertGreater(min(kinds["the first"], kinds["another"]), PROGRAMS // 100, kinds)
+
+
+class Drawings(unittest.TestCase):
+    """Drawings for Graphviz."""
+
+    def drawn(self, text: str, *options: str) -> str:
+        return run("explain", text.encode(), "--dot", *options)[1]
+
+    def test_pairs_without_cases_have_no_edge(self) -> None:
+        """An edge stands for each pair of rules that has cases, in programs none of whose rules is a copy."""
+        found = 0
+        for file in sorted(TEXTS.glob("*.chr")):
+            text = file.read_text(errors="replace")
+            drawn = self.drawn(text)
+            if drawn.startswith("graph overlaps") and "more like it" not in drawn:
+                pairs = PAIR.findall(run("explain", text.encode(), "--all")[1])
+                found += len([pair for pair in pairs if pair[3] == "0"])
+                wanted = [pair for pair in pairs if pair[3] != "0"]
+                with self.subTest(file.name):
+                    self.assertEqual(EDGE.findall(drawn), wanted)
+        self.assertGreater(found, 0)
+
+    def test_copies_are_one_node(self) -> None:
+        """Names of rules, symbols and variables and the numbers in them don't matter, but which are the same."""
+        rules = [
+            "x1(A) \\ x1(B) <=> A =< B | true.",
+            "named @ x2(C) \\ x2(D) <=> C =< D | true.",
+            "x3(A) \\ x3(B) <=> A < B | true.",
+            "x4(7) \\ x4(B) <=> B > 7 | true.",
+            "x5(-1) \\ x5(X) <=> X > 0 | true.",
+            "x6(A) \\ x6(B) <=> A =< B | true.",
+            "x7(A), x7(A) <=> x8(A).",
+            "x9(A), x9(B) <=> x8(A).",
+        ]
+        declared = ":- chr_constraint " + ", ".join(f"x{number}/1" for number in range(1, 10)) + ".\n"
+        drawn = self.drawn(declared + "\n".join(rules[:7]))
+        nodes = re.findall(r'^  (rule\d+) \[label="(.*)"\];$', drawn, re.M)
+        self.assertEqual([name for name, _ in nodes], ["rule1", "rule3", "rule4", "rule7"])
+        self.assertEqual(
+            [text.partition("\\n")[2] for _, text in nodes],
+            ["and 2 more like it: rules 2, 6", "", "and 1 more like it: rules 5", ""],
+        )
+        pairs = PAIR.findall(run("explain", (declared + "\n".join(rules[:7])).encode(), "--all")[1])
+        cases = sum(int(pair[3]) for pair in pairs if pair[0] in {"1", "2", "6"})
+        self.assertEqual([int(edge[3]) for edge in EDGE.findall(drawn) if edge[0] == "1"], [cases])
+
+    def test_many_copies(self) -> None:
+        names = [f"x{number}" for number in range(40)]
+        rules = "".join(f"{name}, {name} <=> {name}.\n" for name in names)
+        drawn = self.drawn(f":- chr_constraint {', '.join(f'{name}/0' for name in names)}.\n{rules}")
+        self.assertIn("\\nand 39 more like it: rules 2, 3, 4, 5, 6, 7, 8, 9, ..\"];\n", drawn)
+        self.assertEqual(len(EDGE.findall(drawn)), 1)
+
+    def test_a_cycle_is_drawn(self) -> None:
+        drawn = self.drawn((TEXTS / "turns.chr").read_text())
+        self.assertTrue(drawn.startswith("digraph cycle {\n"))
+        for line in (
+            '  rule2 [label="split @ a(X) <=> b(X), b(X), b(X).\\nonce"];\n',
+            '  rule3 [label="join @ b(X), b(Y) <=> a(X).\\nonce"];\n',
+            '  rule2 -> rule3 [label="b/1"];\n',
+            '  rule3 -> rule2 [label="a/1"];\n',
+        ):
+            self.assertIn(line, drawn)
+        self.assertNotIn("rule1", drawn)
+        self.assertEqual(drawn.count("->"), 2)
+
+    def test_columns_are_drawn(self) -> None:
+        drawn = self.drawn((TEXTS / "throngs.chr").read_text(), "--wide")
+        self.assertTrue(drawn.startswith("digraph columns {\n"))
+        for line in (
+            '  symbol0 [label="best/6\\nby order 2, 3, 4, 5; by equality 6"];\n',
+            '  symbol0 -> symbol0 [label="2 < 2, 3 < 3, 4 < 4, 5 < 5, 6 =\\\\= 6"];\n',
+            '  text [label="refused 22: an overlap has more than 50000 combinations of values\\l',
+        ):
+            self.assertIn(line, drawn)
+        self.assertEqual(drawn.count("-> symbol0"), 1)
 
 
 def random_rules(chance: random.Random) -> list[Rule]:

@@ -6,6 +6,7 @@ use crate::overlap_text::{ToldOverlap, told_overlap};
 use crate::peak_text::push_peak;
 use crate::rule_text::NamedProgram;
 use crate::sorted::{SortedVerdict, Throng};
+use crate::symbol_text::push_symbol;
 use chr_base::atom::SymbolId;
 use chr_base::limits::MAX_ARITY;
 use chr_base::program::Program;
@@ -125,7 +126,7 @@ pub(crate) fn push_throng(
 }
 
 /// Whether a symbol stands in a head of the rule.
-fn has_head(rule: &Rule, symbol: SymbolId) -> bool {
+pub(crate) fn has_head(rule: &Rule, symbol: SymbolId) -> bool {
     for place in 0..rule.places() {
         if rule.head_at(place).symbol == symbol {
             return true;
@@ -148,7 +149,23 @@ fn push_compared(alloc: Global, out: &mut String, told: ToldOverlap<'_>) -> Resu
     Ok(())
 }
 
-/// Adds which columns of a symbol are compared by order, and which by equality.
+/// Which columns of a symbol are compared by order, and which by equality, each kind after a semicolon.
+pub(crate) fn columns_text(
+    alloc: Global,
+    program: &Program,
+    sorting: &Sorting,
+    symbol: SymbolId,
+) -> Result<String, AllocError> {
+    let mut columns = String::new(alloc);
+    if usize::from(symbol.0) < program.symbols() {
+        let arity = program.arity_of(symbol);
+        push_kind(&mut columns, sorting, symbol, arity, Kind::Ordered)?;
+        push_kind(&mut columns, sorting, symbol, arity, Kind::Equal)?;
+    }
+    Ok(columns)
+}
+
+/// Adds a line with the columns of a symbol that are compared, where there are some.
 fn push_columns(
     alloc: Global,
     out: &mut String,
@@ -156,16 +173,11 @@ fn push_columns(
     sorting: &Sorting,
     symbol: SymbolId,
 ) -> Result<(), AllocError> {
-    if program.symbols() <= usize::from(symbol.0) {
-        return Ok(());
-    }
-    let name = program.name_of(symbol);
-    let arity = program.arity_of(symbol);
-    let mut columns = String::new(alloc);
-    push_kind(&mut columns, sorting, symbol, arity, Kind::Ordered)?;
-    push_kind(&mut columns, sorting, symbol, arity, Kind::Equal)?;
+    let columns = columns_text(alloc, program, sorting, symbol)?;
     if let Some(columns) = columns.as_str().strip_prefix("; ") {
-        write!(out, "  {name}/{arity}: {columns}\n")?;
+        out.push_str("  ")?;
+        push_symbol(out, program, symbol)?;
+        write!(out, ": {columns}\n")?;
     }
     Ok(())
 }

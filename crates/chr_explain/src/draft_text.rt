@@ -9,7 +9,8 @@ use chr_read::push_pattern;
 use std::alloc::{AllocError, Global};
 use std::fmt::Write;
 
-fn sign(cmp: Cmp) -> &'static str {
+/// The sign of a comparison.
+pub(crate) fn sign(cmp: Cmp) -> &'static str {
     match cmp {
         Cmp::Less => "<",
         Cmp::AtMost => "=<",

@@ -13,6 +13,8 @@ use crate::finding::finding_in;
 use crate::limits::{MAX_TOLD_FAULTS, MAX_TOLD_SYMBOLS};
 use crate::line::push_line;
 use crate::place::{Place, place_of, place_outside};
+use crate::span::Span;
+use crate::token::placed_tokens;
 use crate::word::{ToldArity, ToldSymbol};
 use chr_base::atom::SymbolId;
 use chr_base::program::Program;
@@ -123,6 +125,50 @@ fn push_bad(
     )?;
     push_line(out, source.text, at)?;
     push_remedy(out, &finding.cause)
+}
+
+/// How many bytes the token at a place of a clause has: 1 where none begins there.
+fn token_len(alloc: Global, clause: &[u8], at: usize) -> Result<usize, AllocError> {
+    let tokens = placed_tokens(alloc, clause)?;
+    for token in &tokens {
+        if token.at == at {
+            return Ok(token.word.len());
+        }
+    }
+    Ok(1)
+}
+
+/// Where the fault of a bad clause stands.
+fn bad_span(alloc: Global, source: Source<'_>, told: BadClause) -> Result<Span, AllocError> {
+    let clause = clause_of(source.plain, told.number);
+    let program = program_before(alloc, source.plain, source.bad, told.number)?;
+    let finding = finding_in(alloc, clause.bytes, told.fault, &program)?;
+    let len = token_len(alloc, clause.bytes, finding.at)?;
+    let first = clause.before.saturating_add(finding.at);
+    let last = first.saturating_add(len.saturating_sub(1));
+    Ok(Span {
+        from: place_in(source.text, first),
+        to: place_in(source.text, last).saturating_add(1),
+    })
+}
+
+/// Where the faults of these bad clauses stand.
+pub(crate) fn bad_spans(
+    alloc: Global,
+    text: &[u8],
+    bad: &[BadClause],
+) -> Result<Vec<Span>, AllocError> {
+    let plain = without_comments(alloc, text)?;
+    let source = Source {
+        text,
+        plain: &plain,
+        bad,
+    };
+    let mut spans = Vec::new(alloc);
+    for clause in bad {
+        spans.push(bad_span(alloc, source, *clause)?)?;
+    }
+    Ok(spans)
 }
 
 /// The explanation of these bad clauses.

@@ -30,6 +30,15 @@ impl ToldPair {
         self.first == counted.overlap.first && self.second == counted.overlap.second
     }
 
+    /// Both pairs together, as the first one.
+    pub(crate) fn plus(self, other: &ToldPair) -> ToldPair {
+        ToldPair {
+            overlaps: self.overlaps.saturating_add(other.overlaps),
+            cases: self.cases.saturating_add(other.cases),
+            ..self
+        }
+    }
+
     /// Both together.
     fn with(self, counted: &Counted) -> ToldPair {
         ToldPair {

@@ -7,53 +7,14 @@ use crate::diagnosis::Diagnosis;
 use crate::draft::candidates;
 use crate::draft_text::drafts_text;
 use crate::limits::{MAX_PROPOSALS, MAX_TRIES};
-use crate::names::{Names, is_rule};
+use crate::names::Names;
 use crate::peak::Peak;
-use crate::place::place_outside;
 use crate::proposal::{Proposal, accepted_of};
 use crate::rule_text::{NamedProgram, told_rule};
-use crate::token::{PlacedToken, placed_tokens};
+use crate::span::rule_span;
 use chr_join::Coverage;
-use chr_syntax::{next_clause, without_comments};
 use std::alloc::{AllocError, Global};
 use std::thread::Threads;
-
-/// Where a clause begins in a text, and where it ends.
-#[derive(Clone, Copy)]
-struct Span {
-    from: usize,
-    to: usize,
-}
-
-/// Where a clause of so many bytes stands in a text, behind so many bytes outside comments.
-fn span_of(text: &[u8], before: usize, tokens: &[PlacedToken<'_>], len: usize) -> Option<Span> {
-    let first = tokens.first()?;
-    let from = place_outside(text, before.saturating_add(first.at))?;
-    let stop = place_outside(text, before.saturating_add(len))?;
-    Some(Span {
-        from,
-        to: stop.saturating_add(1),
-    })
-}
-
-/// Where the clause of the rule of this number stands in the text of a program.
-fn rule_span(alloc: Global, text: &[u8], number: usize) -> Result<Option<Span>, AllocError> {
-    let plain = without_comments(alloc, text)?;
-    let mut rest = plain.as_slice();
-    let mut rules: usize = 0;
-    for _ in 0..plain.len() {
-        if let Some((clause, after)) = next_clause(rest) {
-            let tokens = placed_tokens(alloc, clause)?;
-            rules = rules.saturating_add(usize::from(is_rule(&tokens)));
-            if rules == number {
-                let before = plain.len().saturating_sub(rest.len());
-                return Ok(span_of(text, before, &tokens, clause.len()));
-            }
-            rest = after;
-        }
-    }
-    Ok(None)
-}
 
 /// Adds what may stand in place of the rule of this number.
 fn push_tries(

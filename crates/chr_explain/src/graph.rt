@@ -1,0 +1,45 @@
+//! Nodes and edges that are drawn of a program: by Graphviz, or on a page.
+
+/// A node.
+#[derive(Drop)]
+pub(crate) struct Node {
+    /// Its name in the language of Graphviz.
+    pub name: String,
+    /// What it says in its first line.
+    pub text: String,
+    /// What it says below, if that is not empty.
+    pub more: String,
+}
+
+/// An edge.
+#[derive(Drop)]
+pub(crate) struct Edge {
+    /// The places of its nodes, counted from 0.
+    pub from: usize,
+    pub to: usize,
+    /// What it says.
+    pub text: String,
+    /// The same in a few characters.
+    pub mark: String,
+}
+
+/// What the edges say.
+#[derive(Clone, Copy, Debug, PartialEq, Eq)]
+pub(crate) enum Meaning {
+    /// Rules have cases in common.
+    Overlaps,
+    /// A rule gives what the next one takes.
+    Cycle,
+    /// Rules compare two columns.
+    Columns,
+}
+
+/// What is drawn.
+#[derive(Drop)]
+pub(crate) struct Graph {
+    pub meaning: Meaning,
+    pub nodes: Vec<Node>,
+    pub edges: Vec<Edge>,
+    /// Whether what is told of the program is to stand below, since the nodes and edges don't say all of it.
+    pub has_words: bool,
+}

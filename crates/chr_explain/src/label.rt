@@ -1,0 +1,46 @@
+//! Labels of nodes and edges in the language of Graphviz.
+
+use crate::limits::MAX_DRAWN_BYTES;
+use std::alloc::AllocError;
+
+/// Where the lines of a label end: in the middle, or on the left.
+#[derive(Clone, Copy)]
+pub(crate) enum Align {
+    Middle,
+    Left,
+}
+
+impl Align {
+    /// What ends a line.
+    fn line_end(self) -> &'static str {
+        match self {
+            Align::Middle => "\\n",
+            Align::Left => "\\l",
+        }
+    }
+}
+
+/// Adds one character of a label. Quotes end a label, backslashes and ampersands have a meaning in it.
+fn push_escaped(out: &mut String, c: char, align: Align) -> Result<(), AllocError> {
+    match c {
+        '"' => out.push_str("\\\""),
+        '\\' => out.push_str("\\\\"),
+        '&' => out.push_str("&amp;"),
+        '\n' => out.push_str(align.line_end()),
+        '\t' => out.push_str("    "),
+        _ => out.push(c),
+    }
+}
+
+/// Adds a label, `MAX_DRAWN_BYTES` characters of it at most.
+pub(crate) fn push_label(out: &mut String, text: &str, align: Align) -> Result<(), AllocError> {
+    out.push_str("[label=\"")?;
+    for c in text.chars().take(MAX_DRAWN_BYTES) {
+        push_escaped(out, c, align)?;
+    }
+    out.push_str(if MAX_DRAWN_BYTES < text.len() {
+        "..\"]"
+    } else {
+        "\"]"
+    })
+}

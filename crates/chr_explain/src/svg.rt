@@ -1,0 +1,110 @@
+//! Boxes, arrows and text of drawings in SVG. All lengths are whole units, of which a character takes 8.
+
+use crate::html::{push_html, push_html_char};
+use crate::limits::MAX_SVG_CHARACTERS;
+use std::alloc::AllocError;
+use std::fmt::Write;
+
+/// How wide a character is.
+pub(crate) const CHARACTER: usize = 8;
+
+/// How much room is left round a drawing, and beside the text in a box.
+pub(crate) const MARGIN: usize = 8;
+
+/// A box.
+#[derive(Clone, Copy)]
+pub(crate) struct Frame {
+    pub x: usize,
+    pub y: usize,
+    pub width: usize,
+    pub height: usize,
+}
+
+/// How wide a text is, of which the first `MAX_SVG_CHARACTERS` are drawn, and two stops for the rest.
+pub(crate) fn width_of(text: &str) -> usize {
+    let most = MAX_SVG_CHARACTERS.saturating_add(2);
+    text.chars().take(most).count().saturating_mul(CHARACTER)
+}
+
+/// Adds the beginning of a drawing of this size, with what it is for those who don't see it.
+pub(crate) fn push_svg(
+    out: &mut String,
+    width: usize,
+    height: usize,
+    label: &str,
+) -> Result<(), AllocError> {
+    write!(
+        out,
+        "<svg viewBox=\"0 0 {width} {height}\" width=\"{width}\" height=\"{height}\" role=\"img\" aria-label=\""
+    )?;
+    push_html(out, label)?;
+    out.push_str("\">\n")
+}
+
+/// Adds the first characters of a text.
+fn push_cut(out: &mut String, text: &str) -> Result<(), AllocError> {
+    for c in text.chars().take(MAX_SVG_CHARACTERS) {
+        push_html_char(out, c)?;
+    }
+    out.push_str(if MAX_SVG_CHARACTERS < text.chars().count() {
+        ".."
+    } else {
+        ""
+    })
+}
+
+/// Adds a text, from this place on. Where it is cut, all of it is the title.
+pub(crate) fn push_svg_text(
+    out: &mut String,
+    x: usize,
+    y: usize,
+    class: &str,
+    text: &str,
+) -> Result<(), AllocError> {
+    write!(out, "<text x=\"{x}\" y=\"{y}\" class=\"{class}\">")?;
+    push_cut(out, text)?;
+    if MAX_SVG_CHARACTERS < text.chars().count() {
+        out.push_str("<title>")?;
+        push_html(out, text)?;
+        out.push_str("</title>")?;
+    }
+    out.push_str("</text>\n")
+}
+
+/// Adds a line round a box.
+pub(crate) fn push_frame(out: &mut String, frame: Frame) -> Result<(), AllocError> {
+    Ok(write!(
+        out,
+        "<rect class=\"box\" x=\"{}\" y=\"{}\" width=\"{}\" height=\"{}\" rx=\"3\"/>\n",
+        frame.x,
+        frame.y,
+        frame.width,
+        frame.height
+    )?)
+}
+
+/// The box within another one.
+fn inner(frame: Frame) -> Frame {
+    Frame {
+        x: frame.x.saturating_add(3),
+        y: frame.y.saturating_add(3),
+        width: frame.width.saturating_sub(6),
+        height: frame.height.saturating_sub(6),
+    }
+}
+
+/// Adds a box with a text in it. An end has two lines round it.
+pub(crate) fn push_box(
+    out: &mut String,
+    frame: Frame,
+    text: &str,
+    is_end: bool,
+) -> Result<(), AllocError> {
+    push_frame(out, frame)?;
+    if is_end {
+        push_frame(out, inner(frame))?;
+    }
+    let x = frame.x.saturating_add(MARGIN);
+    let y = frame.y.saturating_add(frame.height / 2).saturating_add(4);
+    push_svg_text(out, x, y, "word", text)
+}
