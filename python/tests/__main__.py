@@ -23,13 +23,14 @@ from pathlib import Path
 from typing import TextIO
 
 HERE = Path(__file__).resolve().parent
-RUNS = ["test_texts", "test_commands", "test_runs", "test_model", "test_explanations", "test_verdicts", "test_lines"]
+RUNS = ["test_texts", "test_commands", "test_runs", "test_model", "test_verdicts", "test_lines"]
+EXPLAINED = ["test_explanations", "test_pages"]
 SHARED = ["test_workers"]
 READERS = ["test_documents"]
 HOSTILE = ["test_devices", "test_memory", "test_refused_calls", "test_costs"]
 NODES = ["test_node", "test_names", "test_writing", "test_asynchronous"]
 LOGS = ["test_embedded", "test_page", "test_lasting", "test_install", "test_launcher"]
-KINDS = {"node": [*RUNS, *SHARED, *READERS, *HOSTILE, *NODES, *LOGS], "engines": ["test_links"]}
+KINDS = {"node": [*RUNS, *EXPLAINED, *SHARED, *READERS, *HOSTILE, *NODES, *LOGS], "engines": ["test_links"]}
 
 LONGEST = [
     "test_install",

@@ -172,7 +172,8 @@ class Pages(unittest.TestCase):
         found = 0
         for file in sorted(TEXTS.glob("*.chr")):
             text = file.read_bytes()
-            told = run("explain", text)[1]
+            # the first case is drawn, and the smallest one is told in words alone
+            told = run("explain", text)[1].partition("The smallest store")[0]
             if told.startswith("refused 21"):
                 found += 1
                 with self.subTest(file.name):

@@ -42,6 +42,7 @@ record IsNamed (name : Text) (most : ℕ) : Type 0 where
   parts : bytes_eq (codes "parts") name ≡ true → MAX_PARTS ≡ most
   wide : bytes_eq (codes "wide") name ≡ false
   dot : bytes_eq (codes "dot") name ≡ false
+  html : bytes_eq (codes "html") name ≡ false
   all : bytes_eq (codes "all") name ≡ false
   topic : bytes_eq (codes "subcommand") name ≡ false
 
@@ -188,7 +189,10 @@ module _ (name : Text) (most : ℕ) (named : IsNamed name most) where
     (
       (
         flag_keeps false (codes "dot") named.dot,
-        (flag_keeps false (codes "all") named.all, (flag_keeps false (codes "wide") named.wide, (help_keeps false, tt))),
+        (
+          flag_keeps false (codes "html") named.html,
+          (flag_keeps false (codes "all") named.all, (flag_keeps false (codes "wide") named.wide, (help_keeps false, tt))),
+        ),
       ),
       (answering_keep, (answering_keep, ((topic_keeps false, tt), tt))),
     ),
@@ -282,13 +286,13 @@ no : {P : Type 0} → false ≡ true → P
 no e = cc
 
 replicas_named : IsNamed (codes "replicas") MAX_REPLICAS
-replicas_named = record { some = omega arith; few = omega arith; replicas = (λ e. refl); workers = no; parts = no; wide = refl; dot = refl; all = refl; topic = refl }
+replicas_named = record { some = omega arith; few = omega arith; replicas = (λ e. refl); workers = no; parts = no; wide = refl; dot = refl; html = refl; all = refl; topic = refl }
 
 workers_named : IsNamed (codes "workers") MAX_WORKERS
-workers_named = record { some = omega arith; few = omega arith; replicas = no; workers = (λ e. refl); parts = no; wide = refl; dot = refl; all = refl; topic = refl }
+workers_named = record { some = omega arith; few = omega arith; replicas = no; workers = (λ e. refl); parts = no; wide = refl; dot = refl; html = refl; all = refl; topic = refl }
 
 parts_named : IsNamed (codes "parts") MAX_PARTS
-parts_named = record { some = omega arith; few = omega arith; replicas = no; workers = no; parts = (λ e. refl); wide = refl; dot = refl; all = refl; topic = refl }
+parts_named = record { some = omega arith; few = omega arith; replicas = no; workers = no; parts = (λ e. refl); wide = refl; dot = refl; html = refl; all = refl; topic = refl }
 
 pub numbers_within_limits : NumbersAreWithinLimits
 numbers_within_limits words none = (

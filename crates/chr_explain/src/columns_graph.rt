@@ -84,8 +84,12 @@ fn symbols_of(
     overlap: &Overlap,
 ) -> Result<Vec<SymbolId>, AllocError> {
     let mut symbols = Vec::new(alloc);
-    let first = program.rules().get((overlap.first as usize).saturating_sub(1));
-    let second = program.rules().get((overlap.second as usize).saturating_sub(1));
+    let first = program
+        .rules()
+        .get((overlap.first as usize).saturating_sub(1));
+    let second = program
+        .rules()
+        .get((overlap.second as usize).saturating_sub(1));
     let (Some(first), Some(second)) = (first, second) else {
         return Ok(symbols);
     };

@@ -9,7 +9,8 @@ use std::fmt::Write;
 /// page.
 fn head_of(meaning: Meaning) -> &'static str {
     match meaning {
-        Meaning::Overlaps => "graph overlaps {\n  rankdir=LR;\n  nodesep=0.1;\n  node [shape=box, height=0.3];\n",
+        Meaning::Overlaps =>
+            "graph overlaps {\n  rankdir=LR;\n  nodesep=0.1;\n  node [shape=box, height=0.3];\n",
         Meaning::Cycle => "digraph cycle {\n  nodesep=0.1;\n  ranksep=0.3;\n  node [shape=box];\n",
         Meaning::Columns => "digraph columns {\n  node [shape=box];\n",
     }

@@ -80,7 +80,10 @@ fn layout_of(nodes: &[Node]) -> Layout {
 fn arc_of(layout: Layout, edge: &Edge) -> Arc {
     let from = middle(edge.from).saturating_add(4);
     let to = middle(edge.to).saturating_sub(4);
-    let rows = edge.from.max(edge.to).saturating_sub(edge.from.min(edge.to));
+    let rows = edge
+        .from
+        .max(edge.to)
+        .saturating_sub(edge.from.min(edge.to));
     let up = if edge.to < edge.from { layout.slope } else { 0 };
     let reach = rows
         .saturating_mul(layout.slope)
@@ -203,7 +206,9 @@ pub(crate) fn push_graph_svg(
 ) -> Result<(), AllocError> {
     let layout = layout_of(&graph.nodes);
     let rows = graph.nodes.len();
-    let height = rows.saturating_mul(ROW).saturating_add(MARGIN.saturating_mul(2));
+    let height = rows
+        .saturating_mul(ROW)
+        .saturating_add(MARGIN.saturating_mul(2));
     let label = format!(in alloc; "{rows} {}", subject_of(graph.meaning))?;
     push_svg(out, width_in(layout, graph), height, label.as_str())?;
     for (place, node) in graph.nodes.iter().enumerate() {

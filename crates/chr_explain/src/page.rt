@@ -1,5 +1,6 @@
 //! What is to be told of a text, as a page in HTML that stands alone.
 
+use crate::cards::{Cards, cards_of};
 use crate::diagnosis::Diagnosis;
 use crate::faults::TextFaults;
 use crate::graph::{Graph, Meaning};
@@ -12,7 +13,6 @@ use crate::peak::Peak;
 use crate::proposal::Proposal;
 use crate::style::STYLE;
 use crate::telling::told_text;
-use crate::cards::{Cards, cards_of};
 use crate::ways_page::push_ways;
 use crate::ways_svg::push_ways_svg;
 use chr_read::Fault;
@@ -58,18 +58,17 @@ fn push_head(out: &mut String, diagnosis: &Diagnosis, told: &str) -> Result<(), 
 /// What the drawing shows.
 fn caption_of(meaning: Meaning) -> &'static str {
     match meaning {
-        Meaning::Overlaps => "Copies of a rule are one box. An arc joins rules that have cases, and tells how many.",
-        Meaning::Cycle => "An arrow goes from a rule to each rule that takes what the first one gives.",
-        Meaning::Columns => "An arc joins symbols of which a rule compares columns, and tells which.",
+        Meaning::Overlaps =>
+            "Copies of a rule are one box. An arc joins rules that have cases, and tells how many.",
+        Meaning::Cycle =>
+            "An arrow goes from a rule to each rule that takes what the first one gives.",
+        Meaning::Columns =>
+            "An arc joins symbols of which a rule compares columns, and tells which.",
     }
 }
 
 /// Adds a drawing of nodes and edges.
-fn push_graph_figure(
-    alloc: Global,
-    out: &mut String,
-    graph: &Graph,
-) -> Result<(), AllocError> {
+fn push_graph_figure(alloc: Global, out: &mut String, graph: &Graph) -> Result<(), AllocError> {
     out.push_str("<section>\n<h2>Drawing</h2>\n<figure>\n")?;
     push_graph_svg(alloc, out, graph)?;
     out.push_str("<figcaption>")?;
@@ -81,7 +80,9 @@ fn push_graph_figure(
 fn push_ways_figure(alloc: Global, out: &mut String, ways: &Cards) -> Result<(), AllocError> {
     out.push_str("<section>\n<h2>Drawing</h2>\n<figure>\n")?;
     push_ways_svg(alloc, out, ways)?;
-    out.push_str("<figcaption>The store, and below it both ways to their ends, which have two lines round them.")?;
+    out.push_str(
+        "<figcaption>The store, and below it both ways to their ends, which have two lines round them.",
+    )?;
     out.push_str("</figcaption>\n</figure>\n</section>\n")
 }
 

@@ -76,10 +76,7 @@ pub(crate) fn push_frame(out: &mut String, frame: Frame) -> Result<(), AllocErro
     Ok(write!(
         out,
         "<rect class=\"box\" x=\"{}\" y=\"{}\" width=\"{}\" height=\"{}\" rx=\"3\"/>\n",
-        frame.x,
-        frame.y,
-        frame.width,
-        frame.height
+        frame.x, frame.y, frame.width, frame.height
     )?)
 }
 

@@ -1,7 +1,7 @@
 //! Both ways of a case that fails, as a drawing in SVG.
 
-use crate::svg::{CHARACTER, Frame, MARGIN, push_box, push_svg, push_svg_text, width_of};
 use crate::cards::{Card, Cards};
+use crate::svg::{CHARACTER, Frame, MARGIN, push_box, push_svg, push_svg_text, width_of};
 use std::alloc::{AllocError, Global};
 use std::fmt::Write;
 
@@ -30,10 +30,7 @@ fn push_arrow(out: &mut String, x: usize, y: usize) -> Result<(), AllocError> {
     let end = y.saturating_add(ARROW);
     let neck = end.saturating_sub(8);
     write!(out, "<path class=\"edge\" d=\"M{x} {y} V{neck}\"/>\n")?;
-    Ok(write!(
-        out,
-        "<path class=\"tip\" d=\"M{x} {end} l-4 -9 h8 z\"/>\n"
-    )?)
+    Ok(write!(out, "<path class=\"tip\" d=\"M{x} {end} l-4 -9 h8 z\"/>\n")?)
 }
 
 /// Adds a step below this place, and the store that it leaves.
@@ -63,12 +60,7 @@ fn push_card(
 }
 
 /// Adds one way, below the store.
-fn push_way(
-    out: &mut String,
-    cards: &[Card],
-    x: usize,
-    width: usize,
-) -> Result<(), AllocError> {
+fn push_way(out: &mut String, cards: &[Card], x: usize, width: usize) -> Result<(), AllocError> {
     let mut y = MARGIN.saturating_add(STORE);
     for card in cards {
         push_card(out, card, x, y, width)?;
@@ -81,7 +73,9 @@ fn push_way(
 fn height_of(ways: &Cards) -> usize {
     let steps = ways.left.len().max(ways.right.len());
     let below = steps.saturating_mul(ARROW.saturating_add(STORE));
-    below.saturating_add(STORE).saturating_add(MARGIN.saturating_mul(2))
+    below
+        .saturating_add(STORE)
+        .saturating_add(MARGIN.saturating_mul(2))
 }
 
 /// Adds the store, and both ways below it.
@@ -94,7 +88,10 @@ pub(crate) fn push_ways_svg(
     let right = way_width(&ways.right);
     let second = MARGIN.saturating_mul(4).saturating_add(left);
     let start = width_of(ways.start.as_str()).saturating_add(MARGIN.saturating_mul(2));
-    let inside = second.saturating_add(right).saturating_sub(MARGIN).max(start);
+    let inside = second
+        .saturating_add(right)
+        .saturating_sub(MARGIN)
+        .max(start);
     let label = format!(in alloc; "One store, {}, comes to two ends.", ways.start.as_str())?;
     let width = inside.saturating_add(MARGIN.saturating_mul(2));
     push_svg(out, width, height_of(ways), label.as_str())?;
