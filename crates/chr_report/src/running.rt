@@ -112,6 +112,8 @@ pub(crate) fn output_of(
 /// `Device` where the reader or the writer has failed: nothing, or a beginning of the input's output is written then,
 /// and nothing where it was the reader. `Memory` where no memory was left and neither has failed: nothing is written
 /// then.
+// Not put into its caller, whose frame would hold the room that this one takes.
+#[inline(never)]
 pub fn run<R: Read, W: Write>(
     rt: &(impl RandomSource + Threads + Wait + Sync),
     alloc: Global,

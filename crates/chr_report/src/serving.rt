@@ -41,7 +41,7 @@ use std::sync::Wait;
 use std::thread::Threads;
 
 /// The most bytes of a read.
-const CHUNK: usize = 8_192;
+const CHUNK: usize = 4_096;
 
 /// Answers of this many bytes are sent before the next line is answered, though more lines are there.
 const MOST_HELD: usize = 65_536;
@@ -300,6 +300,8 @@ fn serve_wanted<T: Wire>(
 ///
 /// `Device` where the wire has failed, and `Memory` where no memory was left and it has not. Nothing, or a beginning of
 /// the input's output is sent then.
+// Not put into its caller, whose frame would hold the room that this one takes.
+#[inline(never)]
 pub fn serve<T: Wire>(
     rt: &(impl RandomSource + Threads + Wait + Sync),
     alloc: Global,
