@@ -75,8 +75,13 @@ class Page(HTMLParser):
             self.words.append(data)
 
 
+COMMANDS = re.compile(b"^---\n", re.MULTILINE)
+"""Where a program text ends that has command lines behind it."""
+
+
 def shown(text: bytes) -> str:
-    """The text as a page has it: question marks for what isn't printable."""
+    """The program text as a page has it: question marks for what isn't printable."""
+    text = COMMANDS.split(text, maxsplit=1)[0]
     return "".join(chr(byte) if byte in b"\t\n" or 32 <= byte <= 126 else "?" for byte in text)
 
 
