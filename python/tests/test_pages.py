@@ -5,6 +5,7 @@ import itertools
 import os
 import re
 import unittest
+from dataclasses import dataclass
 from html.parser import HTMLParser
 from pathlib import Path
 from tempfile import TemporaryDirectory
@@ -27,6 +28,22 @@ HOSTILE = b"""% </pre><script>alert('x')</script> <mark> "quotes" &amp; & \x80\x
 THROW = b":- chr_constraint throw/0, head/0, tail/0. :- chr_weight throw/0 = 2. throw <=> head. throw <=> tail."
 SIGNS = ("<", "=<", ">", ">=", "=:=", "=\\=")
 WIDTHS = (1280, 360)
+ROW = 24
+CHARACTER = 8
+"""How high a row of a drawing is, and how wide a character."""
+
+
+@dataclass
+class Mark:
+    """A text beside an edge, and where its first character stands."""
+
+    x: int
+    y: int
+    text: str = ""
+
+    def hides(self, other: "Mark") -> bool:
+        """Whether it stands before the other one and reaches it, with less than a row between them."""
+        return abs(self.y - other.y) < ROW and self.x <= other.x <= self.x + len(self.text) * CHARACTER
 
 
 class Page(HTMLParser):
@@ -44,6 +61,8 @@ class Page(HTMLParser):
         """The parts of the text in drawings."""
         self.boxes: list[tuple[int, int]] = []
         """The width and the height of each drawing."""
+        self.marks: list[Mark] = []
+        """What stands beside edges, and what else is drawn like it."""
         self.feed(text)
         self.close()
         if self.path:
@@ -55,6 +74,11 @@ class Page(HTMLParser):
         if tag == "svg":
             width, height = dict(attrs)["viewbox"].split()[2:]  # type: ignore[union-attr]
             self.boxes.append((int(width), int(height)))
+        if tag == "text":
+            given = dict(attrs)
+            self.drawn = Mark(int(given["x"] or ""), int(given["y"] or ""))
+            if given["class"] == "mark":
+                self.marks.append(self.drawn)
         if tag not in VOID:
             if tag not in self.path:
                 self.texts.setdefault(tag, []).append("")
@@ -73,6 +97,8 @@ class Page(HTMLParser):
             self.texts[tag][-1] += data
         if "svg" in self.path:
             self.words.append(data)
+        if self.path[-1:] == ["text"]:
+            self.drawn.text += data
 
 
 COMMANDS = re.compile(b"^---\n", re.MULTILINE)
@@ -93,6 +119,12 @@ def different_rules(count: int) -> bytes:
     declared = ", ".join(f"{name}/1" for name in names)
     rules = "".join(f"{name}(X) <=> {guard} | true.\n" for name, guard in zip(names, guards, strict=False))
     return f":- chr_constraint {declared}.\n{rules}".encode()
+
+
+def rules_of(rules: str) -> bytes:
+    """A program of these rules, of symbols without arguments."""
+    names = sorted(set(re.findall("[a-z]+", rules)))
+    return f":- chr_constraint {', '.join(f'{name}/0' for name in names)}.\n{rules}".encode()
 
 
 class Pages(unittest.TestCase):
@@ -220,6 +252,22 @@ class Pages(unittest.TestCase):
         page = self.page((TEXTS / "swaps.chr").read_bytes())
         for word in ("a <=> b.", "b <=> a.", "once", "a/0", "b/0"):
             self.assertIn(word, page.words)
+
+    def test_marks_hide_none(self) -> None:
+        """Of two marks beside edges that are of about one height the one ends before the other one begins."""
+        both_ways = "".join(f"{one} <=> {other}.\n" for one, other in itertools.permutations("abcd", 2))
+        long_names = both_ways.translate({ord(name): name * 20 for name in "abcd"})
+        drawn = [rules_of(both_ways), rules_of(long_names), *(different_rules(count) for count in (2, 7, 24))]
+        drawn += [file.read_bytes() for file in [*sorted(TEXTS.glob("*.chr")), *sorted(EXAMPLES.glob("*.chr"))]]
+        marks = 0
+        for text in drawn:
+            with self.subTest(text):
+                page = Page(run("explain", text, "--html")[1])
+                if page.texts["title"] != ["chrrep: refused 21"]:
+                    marks += len(page.marks)
+                    hidden = [(one, other) for one, other in itertools.permutations(page.marks, 2) if one.hides(other)]
+                    self.assertEqual(hidden, [])
+        self.assertGreater(marks, 100)
 
     def test_columns_are_drawn(self) -> None:
         page = self.page((TEXTS / "throngs.chr").read_bytes(), "--wide")

@@ -23,15 +23,23 @@ struct Layout {
     slope: usize,
 }
 
-/// The two ends of an edge, and how far it goes to the right.
-#[derive(Clone, Copy)]
-struct Arc {
+/// The way of an edge: the heights of its two ends, how far it goes to the right, and its mark.
+struct Arc<'g> {
+    edge: &'g Edge,
     from: usize,
     to: usize,
     reach: usize,
-    /// Where its mark stands.
+    /// Empty where marks don't stand beside the edges.
+    mark: &'g str,
     mark_x: usize,
     mark_y: usize,
+}
+
+impl Arc<'_> {
+    /// Where its mark ends.
+    fn mark_end(&self) -> usize {
+        self.mark_x.saturating_add(width_of(self.mark))
+    }
 }
 
 /// The middle of the row of this place.
@@ -76,27 +84,66 @@ fn layout_of(nodes: &[Node]) -> Layout {
     }
 }
 
-/// How an edge goes. One that goes up passes beyond the one that goes down between the same rows.
-fn arc_of(layout: Layout, edge: &Edge) -> Arc {
-    let from = middle(edge.from).saturating_add(4);
-    let to = middle(edge.to).saturating_sub(4);
-    let rows = edge
-        .from
+/// How many rows an edge passes.
+fn rows_of(edge: &Edge) -> usize {
+    edge.from
         .max(edge.to)
-        .saturating_sub(edge.from.min(edge.to));
-    let up = if edge.to < edge.from { layout.slope } else { 0 };
-    let reach = rows
+        .saturating_sub(edge.from.min(edge.to))
+}
+
+/// Whether an edge goes up.
+fn goes_up(edge: &Edge) -> bool {
+    edge.to < edge.from
+}
+
+/// Whether less than a row is between the middles of two edges, so that their marks are of about one height.
+fn are_level(first: &Edge, second: &Edge) -> bool {
+    let first = first.from.saturating_add(first.to);
+    let second = second.from.saturating_add(second.to);
+    first.max(second).saturating_sub(first.min(second)) < 2
+}
+
+/// How far an edge goes to the right at least. One that goes up passes beyond the one that goes down between the same
+/// rows.
+fn least_reach(layout: Layout, edge: &Edge) -> usize {
+    let up = if goes_up(edge) { layout.slope } else { 0 };
+    rows_of(edge)
         .saturating_mul(layout.slope)
         .saturating_add(LEAST_REACH)
-        .saturating_add(up);
+        .saturating_add(up)
+}
+
+/// The way of an edge that goes so far, with its mark at the middle: a curve's is three quarters as far as its handles.
+fn arc_of<'g>(layout: Layout, edge: &'g Edge, mark: &'g str, reach: usize) -> Arc<'g> {
+    let from = middle(edge.from).saturating_add(4);
+    let to = middle(edge.to).saturating_sub(4);
     let wide = reach.saturating_mul(3) / 4;
     Arc {
+        edge,
         from,
         to,
         reach,
+        mark,
         mark_x: layout.x.saturating_add(wide).saturating_add(4),
         mark_y: (from.saturating_add(to) / 2).saturating_add(4),
     }
+}
+
+/// How far an edge has to go for its mark to begin beyond this place.
+fn reach_beyond(layout: Layout, x: usize) -> usize {
+    let wide = x.saturating_add(CHARACTER).saturating_sub(layout.x);
+    wide.saturating_mul(4) / 3
+}
+
+/// The way of an edge whose mark hides none of those of these ways.
+fn arc_beyond<'g>(layout: Layout, edge: &'g Edge, inner: &[Arc<'_>]) -> Arc<'g> {
+    let mut reach = least_reach(layout, edge);
+    for arc in inner {
+        if are_level(edge, arc.edge) {
+            reach = reach.max(reach_beyond(layout, arc.mark_end()));
+        }
+    }
+    arc_of(layout, edge, edge.mark.as_str(), reach)
 }
 
 /// Whether marks stand beside the edges: among many edges they would hide one another.
@@ -104,16 +151,40 @@ fn has_marks(graph: &Graph) -> bool {
     graph.edges.len() <= MAX_MARKED_EDGES
 }
 
-/// How wide the drawing is.
-fn width_in(layout: Layout, graph: &Graph) -> usize {
-    let mut width = layout.x;
+/// The edges, those that pass few rows first, and of those between the same rows the ones that go down.
+fn inner_first<'g>(alloc: Global, graph: &'g Graph) -> Result<Vec<&'g Edge>, AllocError> {
+    let mut edges = Vec::new(alloc);
     for edge in &graph.edges {
-        let mark = if has_marks(graph) {
-            width_of(edge.mark.as_str())
+        edges.push(edge)?;
+    }
+    edges.sort_by_key(|edge| (rows_of(*edge), goes_up(*edge)))?;
+    Ok(edges)
+}
+
+/// The ways of all edges.
+fn arcs_of<'g>(
+    alloc: Global,
+    layout: Layout,
+    graph: &'g Graph,
+) -> Result<Vec<Arc<'g>>, AllocError> {
+    let edges = inner_first(alloc, graph)?;
+    let mut arcs = Vec::new(alloc);
+    for edge in &edges {
+        let arc = if has_marks(graph) {
+            arc_beyond(layout, *edge, &arcs)
         } else {
-            0
+            arc_of(layout, *edge, "", least_reach(layout, *edge))
         };
-        width = width.max(arc_of(layout, edge).mark_x.saturating_add(mark));
+        arcs.push(arc)?;
+    }
+    Ok(arcs)
+}
+
+/// How wide the drawing is.
+fn width_in(layout: Layout, arcs: &[Arc<'_>]) -> usize {
+    let mut width = layout.x;
+    for arc in arcs {
+        width = width.max(arc.mark_end());
     }
     width.saturating_add(MARGIN)
 }
@@ -164,13 +235,12 @@ fn push_edge(
     out: &mut String,
     layout: Layout,
     graph: &Graph,
-    edge: &Edge,
+    arc: &Arc<'_>,
 ) -> Result<(), AllocError> {
-    let arc = arc_of(layout, edge);
     let x = layout.x;
     let far = x.saturating_add(arc.reach);
     out.push_str("<g>")?;
-    push_title(out, graph, edge)?;
+    push_title(out, graph, arc.edge)?;
     write!(
         out,
         "<path class=\"edge\" d=\"M{x} {} C{far} {} {far} {} {x} {}\"/>\n",
@@ -183,8 +253,8 @@ fn push_edge(
             arc.to
         )?;
     }
-    if has_marks(graph) {
-        push_svg_text(out, arc.mark_x, arc.mark_y, "mark", edge.mark.as_str())?;
+    if !arc.mark.is_empty() {
+        push_svg_text(out, arc.mark_x, arc.mark_y, "mark", arc.mark)?;
     }
     out.push_str("</g>\n")
 }
@@ -210,12 +280,13 @@ pub(crate) fn push_graph_svg(
         .saturating_mul(ROW)
         .saturating_add(MARGIN.saturating_mul(2));
     let label = format!(in alloc; "{rows} {}", subject_of(graph.meaning))?;
-    push_svg(out, width_in(layout, graph), height, label.as_str())?;
+    let arcs = arcs_of(alloc, layout, graph)?;
+    push_svg(out, width_in(layout, &arcs), height, label.as_str())?;
     for (place, node) in graph.nodes.iter().enumerate() {
         push_node(out, layout, place, node)?;
     }
-    for edge in &graph.edges {
-        push_edge(out, layout, graph, edge)?;
+    for arc in &arcs {
+        push_edge(out, layout, graph, arc)?;
     }
     out.push_str("</svg>\n")
 }

@@ -1,7 +1,7 @@
 //! The program, from its words to its exit status.
 //!
 //! It ends with 0 where the program was accepted, 1 where it was refused, 2 for words that are no command (their text
-//! and that of help go to standard error), 3 where a device failed and 4 for want of memory.
+//! and that of help go to standard error), 3 where a device failed and 4 for want of memory or of stack.
 #![tactic(auto)]
 
 ghost use Rattle.std.specs.Prelude.{◌≡◌, ◌≢◌, ◌⊎◌, [], false, IfOk, map, string_bytes};
@@ -19,13 +19,16 @@ ghost use Rattle.chr_report.specs.Asked.{coverage_for, wanted_by};
 ghost use Rattle.chr_start.specs.Statuses.{status_of, wanted_met, ExplanationEnds, RunEnds};
 
 mod explained;
+mod stack;
 
 use chr_device::{Verb, refusal_text};
 use chr_report::{RunFault, Settings, Status, WordsFault, read_words, run, serve};
 pub use chr_report::{Streams, Watched};
 use explained::explain_input;
+use stack::{ENOUGH_STACK, too_small_stack};
 use std::alloc::{AllocError, Global};
 use std::env::Args;
+use std::fs::Files;
 use std::io::{Read, Write};
 use std::process::ExitCode;
 use std::random::RandomSource;
@@ -151,14 +154,26 @@ fn words(rt: &(impl Env + AllocGlobal)) -> io::Result<Vec<String>> {
     Ok(words_of(rt.alloc(), args)?)
 }
 
-/// Does what the program's words ask for, and gives the status to end with.
+/// The exit status where the stack may have no more bytes than this, which are too few.
+fn without_stack(rt: &impl Eprint, limit: u64) -> ExitCode
+    ensures { exit_status result ≡ 4 }
+{
+    let _ = eprintln!(rt; "error: the stack may have {limit} bytes, and {ENOUGH_STACK} are needed");
+    ExitCode::from(4)
+}
+
+/// Does what the program's words ask for, and gives the status to end with. Where the system allows too little stack
+/// nothing is read or written.
 pub fn start<R: Read, W: Write>(
-    rt: &(impl Env + Eprint + AllocGlobal + RandomSource + Threads + Wait + Sync),
+    rt: &(impl Env + Eprint + Files + AllocGlobal + RandomSource + Threads + Wait + Sync),
     streams: &mut Streams<R, W>,
 ) -> ExitCode
     requires reads { has_failed streams.old.reader ≡ false }
     requires writes { has_failed streams.old.writer ≡ false }
 {
+    if let Some(limit) = too_small_stack(rt) {
+        return without_stack(rt, limit);
+    }
     match words(rt) {
         Ok(words) => run_words(rt, &words, streams),
         Err(error) => without_words(rt, &error),
