@@ -24,6 +24,7 @@ from .refusals import (
     raise_refusal,
     raise_verdict,
 )
+from .stores import StoreReader
 from .texts import (
     Atom,
     Id,
@@ -33,7 +34,6 @@ from .texts import (
     Summary,
     Verdict,
     Written,
-    atoms_of,
     atoms_text,
     delta_of,
     delta_text,
@@ -162,6 +162,7 @@ class Node:
         self._lock = threading.RLock()
         self._ended: NodeDied | None = None
         self._has_answer = False
+        self._store = StoreReader()
         self._text = text = text_bytes(program)
         end = b"---\n" if text.endswith(b"\n") or not text else b"\n---\n"
         words = [program_path(chrrep), "serve", *_options(wide)]
@@ -223,7 +224,7 @@ class Node:
         """The store at rest, in the order in which it is printed. With a symbol only its atoms, and with a pattern of
         arguments only those that have them, None being any: `show("path", 1, None, None)`."""
         text = self.show_text()
-        return atoms_of(text) if symbol is None else found_in(text, symbol, *pattern)
+        return self._store.atoms_of(text) if symbol is None else found_in(text, symbol, *pattern)
 
     def count(self, symbol: str, *pattern: int | None) -> int:
         """How many atoms `show` gives."""

@@ -62,6 +62,18 @@ class Change(NamedTuple):
     went: tuple[Atom, ...]
 
 
+class Difference(NamedTuple):
+    """Where an atom begins from which on two texts of a store differ, and how long what follows is that is equal again:
+    nothing, or a comma and whole atoms."""
+
+    start: int
+    same: int
+
+    def end(self, text: str) -> int:
+        """Where what differs ends in one of the two."""
+        return len(text) - self.same
+
+
 class Verdict(NamedTuple):
     """An accepted program: the number of its rules, and of the cases that were tried."""
 
@@ -137,13 +149,15 @@ def found_in(store: str, symbol: str, *pattern: int | None) -> tuple[Atom, ...]:
 
 def changes_between(before: str, after: str) -> Change:
     """What came and went from one store's text to another's, each in the order of its text."""
-    old, new = (Counter(text.split(", ")) - Counter(["true", ""]) for text in _differing(before, after))
+    differs = difference_of(before, after)
+    parts = (text[differs.start:differs.end(text)] for text in (before, after))
+    old, new = (Counter(part.split(", ")) - Counter(["true", ""]) for part in parts)
     came, went = (atoms_of(", ".join(more.elements()) or "true") for more in (new - old, old - new))
     return Change(came, went)
 
 
-def _differing(before: str, after: str) -> tuple[str, str]:
-    """Two stores' texts without the atoms at their ends that are equal. Most of a large store mostly is."""
+def difference_of(before: str, after: str) -> Difference:
+    """Where two stores' texts differ, from the first atom on that does to the last. Most of a large one is equal."""
     start = _shared(len(before), len(after), lambda lo, hi: before[lo:hi] == after[lo:hi])
     start = before.rfind(", ", 0, start) + 2 if ", " in before[:start] else 0
     before, after = before[start:], after[start:]
@@ -151,8 +165,7 @@ def _differing(before: str, after: str) -> tuple[str, str]:
     same = _shared(*ends, lambda lo, hi: before[ends[0] - hi:ends[0] - lo] == after[ends[1] - hi:ends[1] - lo])
     # an atom whose end alone is equal is another
     cut = before.find(", ", ends[0] - same)
-    same = ends[0] - cut if cut >= 0 else 0
-    return before[:ends[0] - same], after[:ends[1] - same]
+    return Difference(start, ends[0] - cut if cut >= 0 else 0)
 
 
 def _shared(one: int, other: int, is_equal: Callable[[int, int], bool]) -> int:

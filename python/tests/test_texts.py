@@ -3,13 +3,16 @@
 import random
 import unittest
 from collections import Counter
+from collections.abc import Iterable
 from pathlib import Path
 from tempfile import TemporaryDirectory
 from typing import Any
+from unittest.mock import patch
 
 import chrrep
 from chrrep import Atom, Id, Operation, atoms_of, pieces, refusals, store_text
 from chrrep.link.log import Program, has_more, position_of, position_text, program_of, program_text
+from chrrep.stores import StoreReader
 from chrrep.texts import (
     LINE_LIMIT,
     changes_between,
@@ -82,6 +85,49 @@ class Texts(unittest.TestCase):
             change = changes_between(store_text(before), store_text(after))
             self.assertEqual(Counter(change.came), Counter(after) - Counter(before))
             self.assertEqual(Counter(change.went), Counter(before) - Counter(after))
+
+    def test_stores_that_are_read_one_after_another(self) -> None:
+        chance = random.Random(4)
+        atoms: list[Atom] = [("a",), ("aa",), ("a", 1), ("a", 11), ("b", -1), ("b", 21), ("ba",)]
+        reader = StoreReader()
+        store: list[Atom] = []
+        for _ in range(4000):
+            store = [atom for atom in store if chance.random() < 0.9] + chance.choices(atoms, k=chance.randrange(3))
+            store.sort(key=str)
+            self.assertEqual(reader.atoms_of(store_text(store)), tuple(store))
+
+    def test_what_has_not_changed_is_not_read_again(self) -> None:
+        read: list[Atom] = []
+
+        def named(atoms: Iterable[Atom]) -> tuple[Atom, ...]:
+            new = tuple(atoms)
+            read.extend(new)
+            return new
+
+        reader = StoreReader(named)
+        store: list[Atom] = [("a", number) for number in range(10_000)]
+        self.assertEqual(reader.atoms_of(store_text(store)), tuple(store))
+        changed: tuple[tuple[int, Atom], ...] = ((5_000, ("a", -1)), (0, ("b", 7)), (9_999, ("c",)))
+        for place, atom in changed:
+            read.clear()
+            store[place] = atom
+            self.assertEqual(reader.atoms_of(store_text(store)), tuple(store))
+            self.assertLessEqual(len(read), 2)
+        read.clear()
+        self.assertEqual(reader.atoms_of(store_text(store)), tuple(store))
+        self.assertEqual(read, [])
+        with patch("chrrep.stores.KEPT_LENGTH", 1_000):
+            for _ in range(2):
+                read.clear()
+                self.assertEqual(reader.atoms_of(store_text(store[1:])), tuple(store[1:]))
+            self.assertEqual(len(read), len(store) - 1)
+
+    def test_names_that_come_to_be_known(self) -> None:
+        names = {1: "berlin"}
+        reader = StoreReader(lambda atoms: tuple((symbol, names.get(int(value), value)) for symbol, value in atoms))
+        self.assertEqual(reader.atoms_of("a(1), a(2), a(3)", 1), (("a", "berlin"), ("a", 2), ("a", 3)))
+        names[2] = "paris"
+        self.assertEqual(reader.atoms_of("a(1), a(2), a(4)", 2), (("a", "berlin"), ("a", "paris"), ("a", 4)))
 
     def test_programs_in_files(self) -> None:
         with TemporaryDirectory() as room:

@@ -11,13 +11,13 @@ from types import TracebackType
 from typing import Self, TypeVar
 
 from ..names import Names, check_name, named_text, number_of, numbered
+from ..stores import StoreReader
 from ..texts import (
     Atom,
     Change,
     Id,
     ProgramText,
     Verdict,
-    atoms_of,
     atoms_text,
     changes_between,
     found_in,
@@ -83,6 +83,7 @@ class Member:
         self._refused = 0
         self._unkept: list[SetAside] = []
         self._names = Names()
+        self._store = StoreReader(self._names.named)
         self._running = Running(chrrep, timeout)
         self._listeners: list[Callable[[Sequence[Entry]], object]] = []
         self.when_rejoined: Callable[[], object] | None = None
@@ -184,13 +185,15 @@ class Member:
         """The store at rest of all that is in the log by now, or of it the atoms that a `Node` shows for a pattern. A
         number whose name was told is given as the name."""
         text = self._show()
+        if symbol is None:
+            return self._store.atoms_of(text, len(self._names))
         numbers = (number_of(value) if isinstance(value, str) else value for value in pattern)
-        return self._names.named(atoms_of(text) if symbol is None else found_in(text, symbol, *numbers))
+        return self._names.named(found_in(text, symbol, *numbers))
 
     def show_text(self) -> str:
         """The store at rest of all that is in the log by now, as it is printed, with names."""
         text = self._show()
-        return named_text(self._names.named(atoms_of(text))) if len(self._names) else text
+        return named_text(self._store.atoms_of(text, len(self._names))) if len(self._names) else text
 
     def count(self, symbol: str, *pattern: str | int | None) -> int:
         """How many atoms `show` gives."""

@@ -1,0 +1,115 @@
+#!/usr/bin/env python3
+"""Times `chrrep run` on inputs of `generate.py` and `workloads.py`, and writes tables of it.
+
+    figures.py PROGRAM [--count 1000000] [--times 3]
+
+Each input is run so often. A row has the least seconds of a clock, the greatest peak of memory, and the first line that
+was written, which is the verdict. Facts of `workloads.py` are COUNT in number.
+"""
+
+import argparse
+import os
+import subprocess
+import sys
+import tempfile
+import time
+from collections.abc import Sequence
+from dataclasses import dataclass
+from pathlib import Path
+
+HERE = Path(__file__).resolve().parent
+TEXTS = (
+    "rules",
+    "names",
+    "clauses",
+    "comments",
+    "layout",
+    "items",
+    "symbols",
+    "dominated",
+    "near",
+    "ordered",
+    "over",
+    "constants",
+    "copies",
+    "choices",
+    "guarded",
+)
+LINES = (
+    "tells 100000",
+    "tells 100000 --show",
+    "wide 15625 --show",
+    "minimum 100000",
+    "renames 20000",
+    "paths 100000",
+    "exchange 100000",
+)
+FACTS = (
+    "falling",
+    "rising",
+    "routes",
+    "one_key",
+    "many_keys",
+    "all_keys",
+    "bids",
+    "settings",
+    "revoked",
+    "pairs",
+    "threes",
+)
+OPTIONS = {"exchange": ("--replicas", "8")}
+MEGABYTE = 1_000
+"""So many of the units in which the system tells the peak of memory."""
+
+
+@dataclass(frozen=True)
+class Figures:
+    seconds: float
+    peak: int
+    first: str
+
+
+def figures(program: str, options: Sequence[str], given: Path) -> Figures:
+    with given.open("rb") as source, tempfile.TemporaryFile() as told:
+        start = time.monotonic()
+        run = subprocess.Popen([program, "run", *options], stdin=source, stdout=told)
+        _, status, used = os.wait4(run.pid, 0)
+        seconds = time.monotonic() - start
+        run.returncode = os.waitstatus_to_exitcode(status)
+        told.seek(0)
+        return Figures(seconds, used.ru_maxrss, told.readline().decode().rstrip("\n"))
+
+
+def row(program: str, script: str, words: str, times: int, folder: Path) -> str:
+    given = folder / "input"
+    with given.open("wb") as out:
+        subprocess.run([sys.executable, str(HERE / script), *words.split()], stdout=out, check=True)
+    runs = [figures(program, OPTIONS.get(words.split()[0], ()), given) for _ in range(times)]
+    least = min(run.seconds for run in runs)
+    seconds = "under 0.01" if least < 0.01 else f"{least:.2f}"
+    peak = max(run.peak for run in runs) / MEGABYTE
+    shown = f"{peak:.1f}" if peak < 10 else f"{peak:.0f}"
+    return f"| `{words}` | {given.stat().st_size:,} | {seconds} | {shown} MB | `{runs[0].first}` |"
+
+
+def main() -> int:
+    words = argparse.ArgumentParser(description=__doc__, formatter_class=argparse.RawDescriptionHelpFormatter)
+    words.add_argument("program")
+    words.add_argument("--count", type=int, default=1_000_000)
+    words.add_argument("--times", type=int, default=3)
+    said = words.parse_args()
+    kinds = (
+        ("generate.py", TEXTS),
+        ("generate.py", LINES),
+        ("workloads.py", tuple(f"{name} {said.count}" for name in FACTS)),
+    )
+    with tempfile.TemporaryDirectory() as folder:
+        for script, inputs in kinds:
+            print("\n| Input | Bytes | Seconds | Peak memory | Verdict |\n|---|---|---|---|---|")
+            for name in inputs:
+                print(row(said.program, script, name, said.times, Path(folder)), flush=True)
+    return 0
+
+
+if __name__ == "__main__":
+    sys.exit(main())
