@@ -1,70 +1,14 @@
-//! What is wrong with a program text, where, and what is right, told to a person.
+//! Explanations of program texts: a verdict told to a person, in sentences or drawn.
 #![tactic(auto)]
 
-mod cards;
-mod cause;
-mod census_graph;
-mod clause;
-mod columns_graph;
-mod crowd_text;
-mod cycle_graph;
-mod diagnosis;
-mod draft;
-mod draft_text;
-mod drawing;
 mod explanation;
-mod fault_text;
-mod faults;
-mod finding;
-mod foreign;
-mod graph;
-mod graph_drawing;
-mod graph_svg;
-mod graphs;
-mod groups;
-mod html;
-mod label;
-mod limits;
-mod line;
-mod listing;
-mod names;
-mod overlap_text;
-mod page;
-mod pairs;
-mod peak;
-mod peak_drawing;
-mod peak_text;
-mod place;
-mod proposal;
-mod proposal_text;
-mod proposing;
-mod rule;
-mod rule_text;
-mod smaller;
-mod sorted;
-mod span;
-mod stores;
-mod style;
-mod svg;
-mod symbol_text;
-mod syntax;
-mod telling;
-mod token;
-mod ways;
-mod ways_page;
-mod ways_svg;
-mod weighing_text;
-mod weight_text;
-mod word;
 
-pub use diagnosis::{Census, Counted, Crowd, Diagnosis, Unlowered, Verdict, diagnose};
+pub use chr_diagnosis::{
+    Census, Counted, Crowd, Diagnosis, MAX_PROPOSALS, MAX_TOLD_STEPS, Peak, Proposal,
+    SortedVerdict, Throng, Unlowered, Verdict, Ways, diagnose,
+};
+pub use chr_faults::{
+    BadClause, MAX_TOLD_FAULTS, Place, TextFaults, explain_text, line_end, line_start, place_of,
+    place_outside, places_are_outside, push_line, text_faults, texts_have_one_list,
+};
 pub use explanation::{Explanation, Manner, explain};
-pub use fault_text::explain_text;
-pub use faults::{BadClause, TextFaults, text_faults, texts_have_one_list};
-pub use limits::{MAX_PROPOSALS, MAX_TOLD_FAULTS, MAX_TOLD_STEPS};
-pub use line::{line_end, line_start, push_line};
-pub use peak::Peak;
-pub use place::{Place, place_of, place_outside, places_are_outside};
-pub use proposal::Proposal;
-pub use sorted::{SortedVerdict, Throng};
-pub use ways::Ways;

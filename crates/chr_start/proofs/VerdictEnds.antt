@@ -16,10 +16,10 @@ use Rattle.chr_read.specs.declared.fault.ReadFault.TheVariants as fault
 use Rattle.chr_device.specs.declared.fault.RunFault.{RunFault}
 use Rattle.chr_device.specs.declared.fault.RunFault.TheVariants.{Memory}
 use Rattle.chr_device.specs.declared.words.Verb.TheVariants.{Check}
-use Rattle.chr_explain.specs.declared.diagnosis.Verdict.{Verdict}
-use Rattle.chr_explain.specs.declared.diagnosis.Verdict.TheVariants as verdict
-use Rattle.chr_explain.specs.BadClauses.{IsRefused}
-use Rattle.chr_explain.specs.Verdicts.{IsRefusedByOverlap, IsUnlowered, IsVerdict}
+use Rattle.chr_diagnosis.specs.declared.diagnosis.Verdict.{Verdict}
+use Rattle.chr_diagnosis.specs.declared.diagnosis.Verdict.TheVariants as verdict
+use Rattle.chr_faults.specs.BadClauses.{IsRefused}
+use Rattle.chr_diagnosis.specs.Verdicts.{IsRefusedByOverlap, IsUnlowered, IsVerdict}
 use Rattle.chr_report.specs.declared.running.Status.{Status}
 use Rattle.chr_report.specs.declared.running.Status.TheVariants.{Refused}
 use Rattle.chr_report.specs.Lines.{lines, text_of}

@@ -1,6 +1,6 @@
 -- The status of a verdict.
-use Rattle.chr_explain.specs.declared.diagnosis.Verdict.{Verdict}
-use Rattle.chr_explain.specs.declared.diagnosis.Verdict.TheVariants as verdict
+use Rattle.chr_diagnosis.specs.declared.diagnosis.Verdict.{Verdict}
+use Rattle.chr_diagnosis.specs.declared.diagnosis.Verdict.TheVariants as verdict
 use Rattle.chr_report.specs.declared.running.Status.{Status}
 use Rattle.chr_report.specs.declared.running.Status.TheVariants.{Accepted, Refused}
 

@@ -2,7 +2,7 @@ use Rattle.std.proofs.Common.{◌≡◌, rules, subst}
 use Rattle.chr_report.specs.Asked.{coverage_for}
 use Rattle.chr_report.specs.Lines.{lines, text_of}
 use Rattle.chr_report.specs.Wires.{reader_of}
-use Rattle.chr_explain.specs.Verdicts.{IsVerdict}
+use Rattle.chr_diagnosis.specs.Verdicts.{IsVerdict}
 use Rattle.chr_start.proofs.VerdictEnds.{verdict_ends}
 use Rattle.chr_start.proofs.explained.explain_input.Goals as goal
 

@@ -1,0 +1,6 @@
+mod Passing
+mod Counting
+pub mod Verdicts
+mod Proposals
+mod FirstOverlaps
+mod FoundCases

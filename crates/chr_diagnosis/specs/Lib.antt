@@ -1,0 +1,4 @@
+pub mod Verdicts
+pub mod Diagnoses
+pub mod Proposals
+pub mod working

@@ -1,0 +1,132 @@
+//! The rules of an accepted program and their cases, as nodes and edges.
+
+use crate::graph::{Edge, Graph, Meaning, Node};
+use crate::groups::{Group, groups_of, place_of_rule};
+use crate::limits::MAX_TOLD_COPIES;
+use chr_diagnosis::{Census, NamedProgram, told_rule};
+use chr_faults::Names;
+use chr_join::Coverage;
+use chr_sentences::{ToldPair, pairs_of, push_numbers};
+use std::alloc::{AllocError, Global};
+use std::fmt::Write;
+
+/// Two groups of copies, by their places, with what their pairs of rules have together.
+#[derive(Clone, Copy)]
+struct Link {
+    from: usize,
+    to: usize,
+    pair: ToldPair,
+}
+
+/// Tells of the copies of a group's first rule, where it has some.
+fn push_copies(out: &mut String, group: &Group) -> Result<(), AllocError> {
+    let copies = group.rules.len().saturating_sub(1);
+    if copies == 0 {
+        return Ok(());
+    }
+    write!(out, "and {copies} more like it: rules")?;
+    for (i, rule) in group.rules.iter().enumerate() {
+        if 0 < i && i <= MAX_TOLD_COPIES {
+            write!(out, "{} {rule}", if i == 1 { "" } else { "," })?;
+        }
+    }
+    out.push_str(if MAX_TOLD_COPIES < copies { ", .." } else { "" })
+}
+
+/// The node of a group: its first rule.
+fn node_of(alloc: Global, source: NamedProgram<'_>, group: &Group) -> Result<Node, AllocError> {
+    let number = group.first();
+    let name = format!(in alloc; "rule{number}")?;
+    let mut text = String::new(alloc);
+    if let Some(rule) = told_rule(source, number as usize) {
+        rule.push_clause(alloc, &mut text)?;
+    }
+    let mut more = String::new(alloc);
+    push_copies(&mut more, group)?;
+    Ok(Node { name, text, more })
+}
+
+/// The groups of a pair of rules.
+fn link_of(groups: &[Group], pair: &ToldPair) -> Link {
+    let first = place_of_rule(groups, pair.first);
+    let second = place_of_rule(groups, pair.second);
+    Link {
+        from: first.min(second),
+        to: first.max(second),
+        pair: *pair,
+    }
+}
+
+/// Adds a pair of rules to the link of its groups, which may be a new one.
+fn add_link(links: &mut Vec<Link>, link: Link) -> Result<(), AllocError> {
+    let place = links
+        .iter()
+        .take_while(|other| other.from != link.from || other.to != link.to)
+        .count();
+    if let Some(other) = links.get_mut(place) {
+        other.pair = other.pair.plus(&link.pair);
+        return Ok(());
+    }
+    links.push(link)?;
+    Ok(())
+}
+
+/// Whether the pair has cases: sorted ones are not counted, so that each pair may have some.
+fn has_cases(pair: &ToldPair, coverage: Coverage) -> bool {
+    coverage == Coverage::Sorted || pair.cases != 0
+}
+
+/// The edge of two groups.
+fn edge_of(alloc: Global, link: &Link, coverage: Coverage) -> Result<Edge, AllocError> {
+    let mut text = String::new(alloc);
+    push_numbers(&mut text, &link.pair, coverage)?;
+    let number = match coverage {
+        Coverage::Joint => link.pair.cases,
+        Coverage::Sorted => link.pair.overlaps,
+    };
+    let mark = format!(in alloc; "{number}")?;
+    Ok(Edge {
+        from: link.from,
+        to: link.to,
+        text,
+        mark,
+    })
+}
+
+/// The edges between groups, one for all pairs of rules of two groups.
+fn edges_of(alloc: Global, groups: &[Group], census: &Census) -> Result<Vec<Edge>, AllocError> {
+    let coverage = census.accepted.coverage();
+    let pairs = pairs_of(alloc, &census.counts)?;
+    let mut links = Vec::new(alloc);
+    for pair in &pairs {
+        if has_cases(pair, coverage) {
+            add_link(&mut links, link_of(groups, pair))?;
+        }
+    }
+    let mut edges = Vec::new(alloc);
+    for link in &links {
+        edges.push(edge_of(alloc, link, coverage)?)?;
+    }
+    Ok(edges)
+}
+
+/// The rules of an accepted program, copies as one node, with an edge where they have cases.
+pub(crate) fn census_graph(
+    alloc: Global,
+    names: &Names,
+    census: &Census,
+) -> Result<Graph, AllocError> {
+    let program = census.accepted.program();
+    let groups = groups_of(alloc, program)?;
+    let mut nodes = Vec::new(alloc);
+    for group in &groups {
+        nodes.push(node_of(alloc, NamedProgram { program, names }, group)?)?;
+    }
+    let edges = edges_of(alloc, &groups, census)?;
+    Ok(Graph {
+        meaning: Meaning::Overlaps,
+        nodes,
+        edges,
+        has_words: false,
+    })
+}

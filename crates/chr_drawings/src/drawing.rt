@@ -1,0 +1,69 @@
+//! What is to be told of a text, as a drawing in the language of Graphviz.
+
+use crate::graph_drawing::push_graph;
+use crate::graphs::graph_of;
+use crate::label::{Align, push_label};
+use crate::peak_drawing::push_peak_drawing;
+use chr_diagnosis::Diagnosis;
+use chr_faults::Names;
+use chr_sentences::told_text;
+use std::alloc::{AllocError, Global};
+
+/// Draws a text in one node.
+fn push_text(out: &mut String, text: &str) -> Result<(), AllocError> {
+    out.push_str("digraph explanation {\n  node [shape=box, fontname=monospace];\n  text ")?;
+    push_label(out, text, Align::Left)?;
+    out.push_str(";\n}\n")
+}
+
+/// Draws what is told of a text in one node.
+fn push_told(
+    alloc: Global,
+    out: &mut String,
+    text: &[u8],
+    diagnosis: &Diagnosis,
+) -> Result<(), AllocError> {
+    let told = told_text(alloc, text, diagnosis, &[], false)?;
+    push_text(out, told.as_str())
+}
+
+/// Draws what is told of a text that has no case that fails: as nodes and edges, or in one node.
+fn push_others(
+    alloc: Global,
+    out: &mut String,
+    text: &[u8],
+    diagnosis: &Diagnosis,
+) -> Result<(), AllocError> {
+    let names = Names::of(alloc, text)?;
+    let Some(graph) = graph_of(alloc, &names, diagnosis)? else {
+        return push_told(alloc, out, text, diagnosis);
+    };
+    if !graph.has_words {
+        return push_graph(out, &graph, "");
+    }
+    let told = told_text(alloc, text, diagnosis, &[], false)?;
+    push_graph(out, &graph, told.as_str())
+}
+
+/// Draws both ways of a case that fails, an accepted program, or what else is told of a text.
+fn push_drawing(
+    alloc: Global,
+    out: &mut String,
+    text: &[u8],
+    diagnosis: &Diagnosis,
+) -> Result<(), AllocError> {
+    match diagnosis {
+        Diagnosis::Fails(peak) => {
+            let names = Names::of(alloc, text)?;
+            push_peak_drawing(alloc, out, &names, peak)
+        }
+        _ => push_others(alloc, out, text, diagnosis),
+    }
+}
+
+/// What is to be told of a text, as a drawing.
+pub fn drawn_text(alloc: Global, text: &[u8], diagnosis: &Diagnosis) -> Result<String, AllocError> {
+    let mut out = String::new(alloc);
+    push_drawing(alloc, &mut out, text, diagnosis)?;
+    Ok(out)
+}

@@ -1,0 +1,26 @@
+//! A diagnosis as a drawing, and as a page.
+#![tactic(auto)]
+
+mod cards;
+mod census_graph;
+mod columns_graph;
+mod cycle_graph;
+mod drawing;
+mod graph;
+mod graph_drawing;
+mod graph_svg;
+mod graphs;
+mod groups;
+mod html;
+mod label;
+mod limits;
+mod listing;
+mod page;
+mod peak_drawing;
+mod style;
+mod svg;
+mod ways_page;
+mod ways_svg;
+
+pub use drawing::drawn_text;
+pub use page::page_text;

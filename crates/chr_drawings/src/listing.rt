@@ -1,0 +1,100 @@
+//! The text of a program on a page, with marks at its faulty places.
+
+use crate::html::push_html_char;
+use chr_diagnosis::Diagnosis;
+use chr_faults::{Span, TextFaults, bad_spans, rule_span, shown};
+use chr_overlaps::Overlap;
+use std::alloc::{AllocError, Global};
+
+/// The clauses of the rules of these numbers, which may be one.
+fn rule_spans(
+    alloc: Global,
+    text: &[u8],
+    first: usize,
+    second: usize,
+) -> Result<Vec<Span>, AllocError> {
+    let mut spans = Vec::new(alloc);
+    if let Some(span) = rule_span(alloc, text, first)? {
+        spans.push(span)?;
+    }
+    if let Some(span) = rule_span(alloc, text, second)? {
+        spans.push(span)?;
+    }
+    Ok(spans)
+}
+
+/// The clauses of an overlap's rules.
+fn overlap_spans(alloc: Global, text: &[u8], overlap: &Overlap) -> Result<Vec<Span>, AllocError> {
+    rule_spans(alloc, text, overlap.first as usize, overlap.second as usize)
+}
+
+/// The places of what is wrong with a text that is no program.
+fn fault_spans(alloc: Global, text: &[u8], faults: &TextFaults) -> Result<Vec<Span>, AllocError> {
+    match faults {
+        TextFaults::TooLong => Ok(Vec::new(alloc)),
+        TextFaults::Clauses(bad) => bad_spans(alloc, text, bad),
+    }
+}
+
+/// The faulty places of a text.
+fn spans_of(alloc: Global, text: &[u8], diagnosis: &Diagnosis) -> Result<Vec<Span>, AllocError> {
+    match diagnosis {
+        Diagnosis::Text(faults) => fault_spans(alloc, text, faults),
+        Diagnosis::NotLowered(told) => rule_spans(alloc, text, told.fault.rule, told.fault.rule),
+        Diagnosis::Fails(peak) => overlap_spans(alloc, text, &peak.first.failure.overlap),
+        Diagnosis::TooManyTypes(crowd) => overlap_spans(alloc, text, &crowd.too_many.overlap),
+        Diagnosis::TooManyCombinations(throng) => {
+            overlap_spans(alloc, text, &throng.too_many.overlap)
+        }
+        Diagnosis::Accepted(_) => Ok(Vec::new(alloc)),
+    }
+}
+
+/// Whether the byte at this place is in one of the spans.
+fn is_marked(spans: &[Span], at: usize) -> bool {
+    spans.iter().any(|span| span.has(at))
+}
+
+/// Adds the begin or the end of a mark, where one is.
+fn push_turn(out: &mut String, was_in: bool, is_in: bool) -> Result<(), AllocError> {
+    out.push_str(match (was_in, is_in) {
+        (false, true) => "<mark>",
+        (true, false) => "</mark>",
+        _ => "",
+    })
+}
+
+/// Adds a byte of the text. Each line is an element, so that it gets its number.
+fn push_byte(out: &mut String, byte: u8) -> Result<(), AllocError> {
+    if byte == b'\n' {
+        out.push_str("</span>\n<span class=\"line\">")
+    } else {
+        push_html_char(out, shown(byte))
+    }
+}
+
+/// Adds the text with marks at these places. A mark ends with its line, and begins again with the next one.
+fn push_marked(out: &mut String, text: &[u8], spans: &[Span]) -> Result<(), AllocError> {
+    let mut was_in = false;
+    for (at, byte) in text.iter().enumerate() {
+        let is_in = *byte != b'\n' && is_marked(spans, at);
+        push_turn(out, was_in, is_in)?;
+        push_byte(out, *byte)?;
+        was_in = is_in;
+    }
+    push_turn(out, was_in, false)
+}
+
+/// Adds the text of a program with marks at its faulty places.
+pub(crate) fn push_listing(
+    alloc: Global,
+    out: &mut String,
+    text: &[u8],
+    diagnosis: &Diagnosis,
+) -> Result<(), AllocError> {
+    let spans = spans_of(alloc, text, diagnosis)?;
+    out.push_str("<section>\n<h2>The program</h2>\n")?;
+    out.push_str("<pre class=\"listing\" tabindex=\"0\"><span class=\"line\">")?;
+    push_marked(out, text, &spans)?;
+    out.push_str("</span></pre>\n</section>\n")
+}

@@ -1,0 +1,139 @@
+//! What is to be told of a text, as a page in HTML that stands alone.
+
+use crate::cards::{Cards, cards_of};
+use crate::graph::{Graph, Meaning};
+use crate::graph_svg::push_graph_svg;
+use crate::graphs::graph_of;
+use crate::html::{push_first_line, push_html};
+use crate::listing::push_listing;
+use crate::style::STYLE;
+use crate::ways_page::push_ways;
+use crate::ways_svg::push_ways_svg;
+use chr_diagnosis::{Diagnosis, Peak, Proposal};
+use chr_faults::{Names, TextFaults};
+use chr_read::Fault;
+use chr_sentences::told_text;
+use std::alloc::{AllocError, Global};
+use std::fmt::Write;
+
+/// The number of the first fault of a text that is no program.
+fn first_fault(faults: &TextFaults) -> usize {
+    match faults {
+        TextFaults::TooLong => 2,
+        TextFaults::Clauses(bad) => match bad.first() {
+            Some(first) => usize::from(Fault::number(first.fault)),
+            None => 0,
+        },
+    }
+}
+
+/// Adds the verdict in a word or two.
+fn push_verdict(out: &mut String, diagnosis: &Diagnosis) -> Result<(), AllocError> {
+    match diagnosis {
+        Diagnosis::Text(faults) => Ok(write!(out, "refused {}", first_fault(faults))?),
+        Diagnosis::NotLowered(_) => out.push_str("refused 20"),
+        Diagnosis::Fails(_) => out.push_str("refused 21"),
+        Diagnosis::TooManyTypes(_) => out.push_str("refused 22"),
+        Diagnosis::TooManyCombinations(_) => out.push_str("refused 22"),
+        Diagnosis::Accepted(_) => out.push_str("accepted"),
+    }
+}
+
+/// Adds what stands before the program: the verdict, the style and the first line of what is told.
+fn push_head(out: &mut String, diagnosis: &Diagnosis, told: &str) -> Result<(), AllocError> {
+    out.push_str("<!DOCTYPE html>\n<html lang=\"en\">\n<head>\n<meta charset=\"utf-8\">\n")?;
+    out.push_str("<meta name=\"viewport\" content=\"width=device-width, initial-scale=1\">\n")?;
+    out.push_str("<title>chrrep: ")?;
+    push_verdict(out, diagnosis)?;
+    out.push_str("</title>\n")?;
+    out.push_str(STYLE)?;
+    out.push_str("</head>\n<body>\n<header>\n<h1>")?;
+    push_first_line(out, told)?;
+    out.push_str("</h1>\n</header>\n<main>\n")
+}
+
+/// What the drawing shows.
+fn caption_of(meaning: Meaning) -> &'static str {
+    match meaning {
+        Meaning::Overlaps =>
+            "Copies of a rule are one box. An arc joins rules that have cases, and tells how many.",
+        Meaning::Cycle =>
+            "An arrow goes from a rule to each rule that takes what the first one gives.",
+        Meaning::Columns =>
+            "An arc joins symbols of which a rule compares columns, and tells which.",
+    }
+}
+
+/// Adds a drawing of nodes and edges.
+fn push_graph_figure(alloc: Global, out: &mut String, graph: &Graph) -> Result<(), AllocError> {
+    out.push_str("<section>\n<h2>Drawing</h2>\n<figure>\n")?;
+    push_graph_svg(alloc, out, graph)?;
+    out.push_str("<figcaption>")?;
+    push_html(out, caption_of(graph.meaning))?;
+    out.push_str("</figcaption>\n</figure>\n</section>\n")
+}
+
+/// Adds a drawing of both ways.
+fn push_ways_figure(alloc: Global, out: &mut String, ways: &Cards) -> Result<(), AllocError> {
+    out.push_str("<section>\n<h2>Drawing</h2>\n<figure>\n")?;
+    push_ways_svg(alloc, out, ways)?;
+    out.push_str(
+        "<figcaption>The store, and below it both ways to their ends, which have two lines round them.",
+    )?;
+    out.push_str("</figcaption>\n</figure>\n</section>\n")
+}
+
+/// Adds both ways of a case that fails, step by step and as a drawing.
+fn push_peak(
+    alloc: Global,
+    out: &mut String,
+    names: &Names,
+    peak: &Peak,
+) -> Result<(), AllocError> {
+    let ways = cards_of(alloc, names, peak)?;
+    push_ways(out, &ways)?;
+    push_ways_figure(alloc, out, &ways)
+}
+
+/// Adds what is drawn of the text, where something is.
+fn push_pictures(
+    alloc: Global,
+    out: &mut String,
+    text: &[u8],
+    diagnosis: &Diagnosis,
+) -> Result<(), AllocError> {
+    let names = Names::of(alloc, text)?;
+    if let Diagnosis::Fails(peak) = diagnosis {
+        return push_peak(alloc, out, &names, peak);
+    }
+    let Some(graph) = graph_of(alloc, &names, diagnosis)? else {
+        return Ok(());
+    };
+    if graph.nodes.is_empty() {
+        return Ok(());
+    }
+    push_graph_figure(alloc, out, &graph)
+}
+
+/// Adds all that is told, in words.
+fn push_words(out: &mut String, told: &str) -> Result<(), AllocError> {
+    out.push_str("<section>\n<h2>In words</h2>\n<pre tabindex=\"0\">")?;
+    push_html(out, told)?;
+    out.push_str("</pre>\n</section>\n</main>\n</body>\n</html>\n")
+}
+
+/// What is to be told of a text, as a page.
+pub fn page_text(
+    alloc: Global,
+    text: &[u8],
+    diagnosis: &Diagnosis,
+    proposals: &[Proposal],
+) -> Result<String, AllocError> {
+    let told = told_text(alloc, text, diagnosis, proposals, true)?;
+    let mut out = String::new(alloc);
+    push_head(&mut out, diagnosis, told.as_str())?;
+    push_listing(alloc, &mut out, text, diagnosis)?;
+    push_pictures(alloc, &mut out, text, diagnosis)?;
+    push_words(&mut out, told.as_str())?;
+    Ok(out)
+}

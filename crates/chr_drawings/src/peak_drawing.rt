@@ -1,0 +1,125 @@
+//! A case that fails, as a drawing in the language of Graphviz.
+
+use crate::label::{Align, push_label};
+use chr_base::bag::Bag;
+use chr_base::derivation::Derivation;
+use chr_base::program::Program;
+use chr_base::text::store_text;
+use chr_diagnosis::{NamedProgram, Peak, told_rule};
+use chr_faults::Names;
+use std::alloc::{AllocError, Global};
+use std::fmt::Write;
+
+/// One of the two sides of a case.
+#[derive(Clone, Copy)]
+struct Side<'a> {
+    /// The name of its nodes.
+    name: &'static str,
+    derivation: &'a Derivation,
+    stores: &'a [Bag],
+    end: &'a Bag,
+}
+
+/// Adds a node for a store. An end has two lines round it.
+fn push_store_node(
+    alloc: Global,
+    out: &mut String,
+    program: &Program,
+    store: &Bag,
+    is_end: bool,
+) -> Result<(), AllocError> {
+    let text = store_text(alloc, program, store)?;
+    push_label(out, text.as_str(), Align::Middle)?;
+    out.push_str(if is_end { " [peripheries=2];\n" } else { ";\n" })
+}
+
+/// Adds the nodes that the edge to the store of this number of a side joins.
+fn push_ends(out: &mut String, name: &str, number: usize) -> Result<(), AllocError> {
+    if number == 0 {
+        return Ok(write!(out, "  store -> {name}1 ")?);
+    }
+    let next = usize::saturating_add(number, 1);
+    Ok(write!(out, "  {name}{number} -> {name}{next} ")?)
+}
+
+/// Adds the edge to the store of this number of a side.
+fn push_edge(
+    alloc: Global,
+    out: &mut String,
+    source: NamedProgram<'_>,
+    side: Side<'_>,
+    number: usize,
+) -> Result<(), AllocError> {
+    push_ends(out, side.name, number)?;
+    let mut text = String::new(alloc);
+    if let Some(step) = side.derivation.steps.get(number) {
+        if let Some(rule) = told_rule(source, step.rule as usize) {
+            rule.push_step(alloc, &mut text, &step.heads)?;
+        }
+    }
+    push_label(out, text.as_str(), Align::Middle)?;
+    out.push_str(";\n")
+}
+
+/// Adds the stores and steps of a side.
+fn push_side(
+    alloc: Global,
+    out: &mut String,
+    source: NamedProgram<'_>,
+    side: Side<'_>,
+) -> Result<(), AllocError> {
+    let is_whole = side.stores.len() == side.derivation.steps.len();
+    for (number, store) in side.stores.iter().enumerate() {
+        let next = usize::saturating_add(number, 1);
+        write!(out, "  {}{next} ", side.name)?;
+        push_store_node(
+            alloc,
+            out,
+            source.program,
+            store,
+            is_whole && next == side.stores.len(),
+        )?;
+        push_edge(alloc, out, source, side, number)?;
+    }
+    if is_whole {
+        return Ok(());
+    }
+    write!(out, "  {}end ", side.name)?;
+    push_store_node(alloc, out, source.program, side.end, true)?;
+    Ok(write!(
+        out,
+        "  {}{} -> {}end [label=\"more steps\"];\n",
+        side.name,
+        side.stores.len(),
+        side.name
+    )?)
+}
+
+/// Draws a case whose sides end in different stores.
+pub(crate) fn push_peak_drawing(
+    alloc: Global,
+    out: &mut String,
+    names: &Names,
+    peak: &Peak,
+) -> Result<(), AllocError> {
+    let program = peak.weighed.program();
+    let source = NamedProgram { program, names };
+    let failure = &peak.first.failure;
+    out.push_str("digraph peak {\n  node [shape=box];\n  store ")?;
+    push_store_node(alloc, out, program, &failure.left.start, false)?;
+    let left = Side {
+        name: "left",
+        derivation: &failure.left,
+        stores: &peak.first.left,
+        end: &failure.left_end,
+    };
+    push_side(alloc, out, source, left)?;
+    let right = Side {
+        name: "right",
+        derivation: &failure.right,
+        stores: &peak.first.right,
+        end: &failure.right_end,
+    };
+    push_side(alloc, out, source, right)?;
+    out.push_str("}\n")
+}

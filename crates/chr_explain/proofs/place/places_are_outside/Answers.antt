@@ -1,5 +1,0 @@
-use Rattle.chr_explain.proofs.Outside.{places_are_outside}
-use Rattle.chr_explain.proofs.place.places_are_outside.Goals as goal
-
-pub returns : goal.returns
-returns c = places_are_outside

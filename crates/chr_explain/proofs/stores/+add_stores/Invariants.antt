@@ -1,5 +1,0 @@
-use Rattle.std.proofs.Common.{length}
-use Rattle.chr_explain.proofs.stores.+add_stores.Given as goal
-
-abbrev pub decreases-add_stores : goal.decreases-add_stores
-decreases-add_stores l = length l.steps.now

@@ -1,3 +1,0 @@
-pub mod ClausePlaces
-pub mod TextsWithout
-pub mod Sides

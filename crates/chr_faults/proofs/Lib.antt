@@ -1,0 +1,5 @@
+mod Outside
+mod Shorter
+mod Firsts
+mod OneList
+mod Rising

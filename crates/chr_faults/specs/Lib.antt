@@ -1,0 +1,4 @@
+pub mod Places
+pub mod Lines
+pub mod BadClauses
+pub mod working

@@ -1,0 +1,2 @@
+pub mod ClausePlaces
+pub mod TextsWithout

@@ -1,0 +1,228 @@
+//! The faults of a text, told to a person.
+
+ghost use Rattle.std.specs.Prelude.{◌≡◌, ◌≤◌, IfOk, IfNone, IfSome, length, unwrap_or};
+ghost use Rattle.chr_faults.specs.BadClauses.{IsProgram, IsRefused};
+ghost use Rattle.std.specs.Bool.{OnTrue, OnFalse};
+ghost use Rattle.chr_faults.specs.working.TextsWithout.{AreNone};
+ghost use Rattle.chr_faults.specs.Places.{place_outside};
+
+use crate::cause::Cause;
+use crate::clause::{clause_of, clauses_before};
+use crate::faults::{BadClause, TextFaults, text_faults};
+use crate::finding::finding_in;
+use crate::limits::{MAX_TOLD_FAULTS, MAX_TOLD_SYMBOLS};
+use crate::line::push_line;
+use crate::place::{Place, place_of, place_outside};
+use crate::span::Span;
+use crate::token::placed_tokens;
+use crate::word::{ToldArity, ToldSymbol};
+use chr_base::atom::SymbolId;
+use chr_base::program::Program;
+use chr_read::{MAX_TEXT, ReadFault, read};
+use chr_syntax::without_comments;
+use std::alloc::{AllocError, Global};
+use std::fmt::Write;
+
+/// The program of the clauses before a bad one.
+fn program_before(
+    alloc: Global,
+    plain: &[u8],
+    bad: &[BadClause],
+    number: usize,
+) -> Result<Program, AllocError> {
+    let text = clauses_before(alloc, plain, bad, number)?;
+    match read(alloc, &text) {
+        Ok(program) => Ok(program),
+        Err(ReadFault::Memory) => Err(AllocError),
+        Err(_) => Ok(Program::empty(alloc)),
+    }
+}
+
+/// Adds the declared symbols, the first `MAX_TOLD_SYMBOLS` of them.
+fn push_symbols(out: &mut String, program: &Program) -> Result<(), AllocError> {
+    out.push_str(if program.symbols() == 0 {
+        "; nothing is declared before it"
+    } else {
+        "; declared are"
+    })?;
+    for i in 0..program.symbols().min(MAX_TOLD_SYMBOLS) {
+        let symbol = SymbolId(i as u16);
+        let told = ToldSymbol {
+            name: program.name_of(symbol).as_bytes(),
+            arity: ToldArity::Number(program.arity_of(symbol)),
+        };
+        write!(out, "{} {told}", if i == 0 { "" } else { "," })?;
+    }
+    out.push_str(if MAX_TOLD_SYMBOLS < program.symbols() {
+        ", .."
+    } else {
+        ""
+    })
+}
+
+/// Where the byte stands that has so many bytes outside comments before it: at the text's end where there is none.
+#[tactic(auto, using(crate::proofs::Outside::outside_within))]
+fn place_in(text: &[u8], outside: usize) -> usize
+    ensures value { result ≡ unwrap_or (place_outside text.now outside) (length text.now) }
+    ensures within { result ≤ length text.now }
+{
+    match place_outside(text, outside) {
+        Some(at) => at,
+        None => text.len(),
+    }
+}
+
+/// A text, its bytes outside comments, and its bad clauses that are told.
+#[derive(Clone, Copy)]
+struct Source<'a> {
+    text: &'a [u8],
+    plain: &'a [u8],
+    bad: &'a [BadClause],
+}
+
+/// Adds where a bad clause has its fault, and what that is.
+fn push_cause(
+    out: &mut String,
+    place: Place,
+    told: BadClause,
+    cause: &Cause<'_>,
+    program: &Program,
+) -> Result<(), AllocError> {
+    let fault = told.fault.number();
+    write!(out, "line {}, column {}, ", place.line, place.column)?;
+    write!(out, "clause {}, fault {fault}: {cause}", told.number)?;
+    if let Cause::Undeclared(_) = cause {
+        push_symbols(out, program)?;
+    }
+    out.push_str("\n")
+}
+
+/// Adds what would be right.
+fn push_remedy(out: &mut String, cause: &Cause<'_>) -> Result<(), AllocError> {
+    match cause.foreign() {
+        Some(foreign) => write!(out, "    {foreign}\n"),
+        None => write!(out, "    {}\n", cause.remedy()),
+    }
+}
+
+/// Adds what is wrong with a bad clause.
+fn push_bad(
+    alloc: Global,
+    out: &mut String,
+    source: Source<'_>,
+    told: BadClause,
+) -> Result<(), AllocError> {
+    let clause = clause_of(source.plain, told.number);
+    let program = program_before(alloc, source.plain, source.bad, told.number)?;
+    let finding = finding_in(alloc, clause.bytes, told.fault, &program)?;
+    let at = place_in(source.text, clause.before.saturating_add(finding.at));
+    push_cause(
+        out,
+        place_of(source.text, at),
+        told,
+        &finding.cause,
+        &program,
+    )?;
+    push_line(out, source.text, at)?;
+    push_remedy(out, &finding.cause)
+}
+
+/// How many bytes the token at a place of a clause has: 1 where none begins there.
+fn token_len(alloc: Global, clause: &[u8], at: usize) -> Result<usize, AllocError> {
+    let tokens = placed_tokens(alloc, clause)?;
+    for token in &tokens {
+        if token.at == at {
+            return Ok(token.word.len());
+        }
+    }
+    Ok(1)
+}
+
+/// Where the fault of a bad clause stands.
+fn bad_span(alloc: Global, source: Source<'_>, told: BadClause) -> Result<Span, AllocError> {
+    let clause = clause_of(source.plain, told.number);
+    let program = program_before(alloc, source.plain, source.bad, told.number)?;
+    let finding = finding_in(alloc, clause.bytes, told.fault, &program)?;
+    let len = token_len(alloc, clause.bytes, finding.at)?;
+    let first = clause.before.saturating_add(finding.at);
+    let last = first.saturating_add(len.saturating_sub(1));
+    Ok(Span {
+        from: place_in(source.text, first),
+        to: place_in(source.text, last).saturating_add(1),
+    })
+}
+
+/// Where the faults of these bad clauses stand.
+pub fn bad_spans(alloc: Global, text: &[u8], bad: &[BadClause]) -> Result<Vec<Span>, AllocError> {
+    let plain = without_comments(alloc, text)?;
+    let source = Source {
+        text,
+        plain: &plain,
+        bad,
+    };
+    let mut spans = Vec::new(alloc);
+    for clause in bad {
+        spans.push(bad_span(alloc, source, *clause)?)?;
+    }
+    Ok(spans)
+}
+
+/// The explanation of these bad clauses.
+fn told_of(alloc: Global, text: &[u8], bad: &[BadClause]) -> Result<String, AllocError> {
+    let plain = without_comments(alloc, text)?;
+    let mut out = String::new(alloc);
+    let source = Source {
+        text,
+        plain: &plain,
+        bad,
+    };
+    for clause in bad {
+        push_bad(alloc, &mut out, source, *clause)?;
+    }
+    if 1 < bad.len() {
+        out.push_str("A clause after a bad one is read as if the bad one were not there.\n")?;
+    }
+    if bad.len() == MAX_TOLD_FAULTS {
+        write!(
+            out,
+            "No more than {MAX_TOLD_FAULTS} bad clauses are told.\n"
+        )?;
+    }
+    Ok(out)
+}
+
+/// The explanation of what is wrong with a text.
+pub fn faults_told(alloc: Global, text: &[u8], faults: &TextFaults) -> Result<String, AllocError> {
+    match faults {
+        TextFaults::TooLong => {
+            let told = format!(in alloc; "fault 2: the text has more than {MAX_TEXT} bytes\n")?;
+            Ok(told)
+        }
+        TextFaults::Clauses(bad) => told_of(alloc, text, bad),
+    }
+}
+
+/// Whether these are the faults of a program, which has none.
+fn are_none(faults: &TextFaults) -> bool
+    ensures none { OnTrue result (AreNone faults.now) }
+    ensures some { OnFalse result (¬ (AreNone faults.now)) }
+{
+    match faults {
+        TextFaults::TooLong => false,
+        TextFaults::Clauses(bad) => bad.is_empty(),
+    }
+}
+
+/// Tells a person what is wrong with a text: its bad clauses, `MAX_TOLD_FAULTS` at most, each with its place, its line
+/// with a caret, and what would be right. None where the text is a program.
+pub fn explain_text(alloc: Global, text: &[u8]) -> Result<Option<String>, AllocError>
+    ensures program { IfOk result (λ told. IfNone told (IsProgram text.now)) }
+    ensures refused { IfOk result (λ told. IfSome told (λ _. IsRefused text.now)) }
+{
+    let faults = text_faults(alloc, text)?;
+    if are_none(&faults) {
+        return Ok(None);
+    }
+    let told = faults_told(alloc, text, &faults)?;
+    Ok(Some(told))
+}

@@ -1,0 +1,26 @@
+//! What is wrong with a program text, where, and what would be right, told to a person.
+#![tactic(auto)]
+
+mod cause;
+mod clause;
+mod fault_text;
+mod faults;
+mod finding;
+mod foreign;
+mod limits;
+mod line;
+mod names;
+mod place;
+mod rule;
+mod span;
+mod syntax;
+mod token;
+mod word;
+
+pub use fault_text::{bad_spans, explain_text, faults_told};
+pub use faults::{BadClause, TextFaults, text_faults, texts_have_one_list};
+pub use limits::MAX_TOLD_FAULTS;
+pub use line::{line_end, line_start, push_line, shown};
+pub use names::{ANONYMOUS, Names, RuleNames};
+pub use place::{Place, place_of, place_outside, places_are_outside};
+pub use span::{Span, rule_span};

@@ -1,0 +1,91 @@
+//! The names that a program's text gives the variables of its rules.
+
+use crate::rule::{before, without_label};
+use crate::token::{Kind, PlacedToken, placed_tokens};
+use chr_syntax::{next_clause, without_comments};
+use std::alloc::{AllocError, Global};
+
+/// A variable without a name, which is a new one each time.
+pub const ANONYMOUS: &str = "_";
+
+/// The names of a rule's variables, in the order of their numbers.
+#[derive(Drop)]
+pub struct RuleNames {
+    names: Vec<String>,
+}
+
+/// The names of the variables of each rule, in the order of the rules.
+#[derive(Drop)]
+pub struct Names {
+    rules: Vec<RuleNames>,
+}
+
+impl RuleNames {
+    /// The name of the variable of this number, counted from 1.
+    pub fn name_of(&self, variable: usize) -> Option<&str> {
+        let name = self.names.get(variable.checked_sub(1)?)?;
+        Some(name.as_str())
+    }
+
+    /// Whether a variable has this name.
+    pub fn has(&self, name: &str) -> bool {
+        self.names.iter().any(|other| other.as_str() == name)
+    }
+
+    /// Notes a variable, where it is met for the first time.
+    fn meet(&mut self, alloc: Global, word: &[u8]) -> Result<(), AllocError> {
+        let Ok(name) = str::from_utf8(word) else {
+            return Ok(());
+        };
+        if name == ANONYMOUS || !self.has(name) {
+            self.names.push(String::from_str(alloc, name)?)?;
+        }
+        Ok(())
+    }
+}
+
+/// The names of the variables of a rule with these tokens. They are numbered as they are met in its heads.
+fn rule_names(alloc: Global, tokens: &[PlacedToken<'_>]) -> Result<RuleNames, AllocError> {
+    let mut names = RuleNames {
+        names: Vec::new(alloc),
+    };
+    for token in before(without_label(tokens), Kind::Simplify) {
+        if token.kind == Kind::Variable {
+            names.meet(alloc, token.word)?;
+        }
+    }
+    Ok(names)
+}
+
+/// Whether these are the tokens of a rule, in a text without bad clauses.
+pub(crate) fn is_rule(tokens: &[PlacedToken<'_>]) -> bool {
+    match tokens {
+        [first, ..] => first.kind != Kind::Directive,
+        [] => false,
+    }
+}
+
+impl Names {
+    /// The names in the text of a program.
+    pub fn of(alloc: Global, text: &[u8]) -> Result<Names, AllocError> {
+        let plain = without_comments(alloc, text)?;
+        let stops = plain.iter().filter(|byte| **byte == b'.').count();
+        let mut rules = Vec::new(alloc);
+        let mut rest = plain.as_slice();
+        for _ in 0..stops {
+            if let Some((clause, after)) = next_clause(rest) {
+                let tokens = placed_tokens(alloc, clause)?;
+                if is_rule(&tokens) {
+                    rules.push(rule_names(alloc, &tokens)?)?;
+                }
+                rest = after;
+            }
+        }
+        Ok(Names { rules })
+    }
+
+    /// Those of the rule of this number, counted from 1.
+    pub fn of_rule(&self, number: usize) -> Option<&RuleNames> {
+        self.rules.get(number.checked_sub(1)?)
+    }
+}

@@ -1,0 +1,132 @@
+//! A case that fails, as text.
+
+use crate::overlap_text::{ToldOverlap, told_overlap};
+use chr_base::bag::Bag;
+use chr_base::derivation::Derivation;
+use chr_base::text::push_store;
+use chr_diagnosis::{NamedProgram, Peak, Ways, told_rule};
+use chr_faults::Names;
+use chr_join::Failure;
+use std::alloc::{AllocError, Global};
+use std::fmt::Write;
+
+/// What stands before the smallest store.
+const SMALLER: &str = "The smallest store with which these heads come to two ends";
+
+/// Adds the steps of one side, a line for each, and its end.
+fn push_side(
+    alloc: Global,
+    out: &mut String,
+    source: NamedProgram<'_>,
+    side: &Derivation,
+    stores: &[Bag],
+    end: &Bag,
+) -> Result<(), AllocError> {
+    for (i, (step, store)) in side.steps.iter().zip(stores.iter()).enumerate() {
+        write!(out, "  {}. ", usize::saturating_add(i, 1))?;
+        if let Some(rule) = told_rule(source, step.rule as usize) {
+            rule.push_step(alloc, out, &step.heads)?;
+        }
+        out.push_str(", and leaves ")?;
+        push_store(alloc, out, source.program, store)?;
+        out.push_str("\n")?;
+    }
+    let more = side.steps.len().saturating_sub(stores.len());
+    if 0 < more {
+        write!(out, "  and {more} steps more\n")?;
+    }
+    out.push_str("  end: ")?;
+    push_store(alloc, out, source.program, end)?;
+    out.push_str("\n")
+}
+
+/// Adds the values of the variables of both rules, where they have some.
+fn push_values(
+    alloc: Global,
+    out: &mut String,
+    told: ToldOverlap<'_>,
+    failure: &Failure,
+) -> Result<(), AllocError> {
+    let mut values = String::new(alloc);
+    if let Some(step) = failure.left.steps.first() {
+        told.first.push_values(&mut values, &step.heads)?;
+    }
+    if let Some(step) = failure.right.steps.first() {
+        told.second.push_values(&mut values, &step.heads)?;
+    }
+    if let Some(values) = values.as_str().strip_prefix(", ") {
+        write!(out, "Values with which they disagree: {values}\n")?;
+    }
+    Ok(())
+}
+
+/// Adds the store of a case that fails, which these words come before, and both ways from it.
+fn push_ways(
+    alloc: Global,
+    out: &mut String,
+    source: NamedProgram<'_>,
+    before: &str,
+    ways: &Ways,
+) -> Result<(), AllocError> {
+    let failure = &ways.failure;
+    write!(out, "{before}: ")?;
+    push_store(alloc, out, source.program, &failure.left.start)?;
+    out.push_str("\nOne way:\n")?;
+    push_side(
+        alloc,
+        out,
+        source,
+        &failure.left,
+        &ways.left,
+        &failure.left_end,
+    )?;
+    out.push_str("The other way:\n")?;
+    push_side(
+        alloc,
+        out,
+        source,
+        &failure.right,
+        &ways.right,
+        &failure.right_end,
+    )
+}
+
+/// Adds the rules of a case that fails, and both ways of it and of a smaller one.
+fn push_case(
+    alloc: Global,
+    out: &mut String,
+    told: ToldOverlap<'_>,
+    source: NamedProgram<'_>,
+    peak: &Peak,
+) -> Result<(), AllocError> {
+    told.push_rules(alloc, out)?;
+    told.push_matched(alloc, out)?;
+    push_values(alloc, out, told, &peak.first.failure)?;
+    push_ways(alloc, out, source, "The store", &peak.first)?;
+    match &peak.smaller {
+        Some(smaller) => push_ways(alloc, out, source, SMALLER, smaller),
+        None => Ok(()),
+    }
+}
+
+/// Tells of a case whose sides end in different stores.
+pub(crate) fn push_peak(
+    alloc: Global,
+    out: &mut String,
+    names: &Names,
+    peak: &Peak,
+) -> Result<(), AllocError> {
+    let source = NamedProgram {
+        program: peak.weighed.program(),
+        names,
+    };
+    let Some(told) = told_overlap(source, &peak.first.failure.overlap) else {
+        return Ok(());
+    };
+    out.push_str("refused 21: one store comes to two ends\n")?;
+    push_case(alloc, out, told, source, peak)?;
+    out.push_str("Two replicas that took these rules in another order would disagree for ever.\n")?;
+    out.push_str(
+        "Add a rule that takes one end to the other, or write a guard under which only one of the two steps is possible.\n",
+    )
+}

@@ -1,0 +1,20 @@
+//! Symbols as they are told.
+
+use chr_base::atom::SymbolId;
+use chr_base::program::Program;
+use std::alloc::AllocError;
+use std::fmt::Write;
+
+/// Adds the name and the number of arguments of a symbol of the program.
+pub fn push_symbol(
+    out: &mut String,
+    program: &Program,
+    symbol: SymbolId,
+) -> Result<(), AllocError> {
+    if usize::from(symbol.0) < program.symbols() {
+        let name = program.name_of(symbol);
+        let arity = program.arity_of(symbol);
+        write!(out, "{name}/{arity}")?;
+    }
+    Ok(())
+}

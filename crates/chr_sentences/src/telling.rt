@@ -1,0 +1,171 @@
+//! What is to be told of a text, as text.
+
+use crate::crowd_text::{push_crowd, push_throng};
+use crate::limits::MAX_TOLD_PAIRS;
+use crate::pairs::{ToldPair, pairs_of, push_numbers};
+use crate::peak_text::push_peak;
+use crate::proposal_text::push_proposals;
+use crate::weighing_text::{push_cycle, push_found};
+use crate::weight_text::{can_lower, push_lowering, push_weights};
+use chr_diagnosis::{Census, Diagnosis, NamedProgram, Proposal, ToldRule, Unlowered, told_rule};
+use chr_faults::{Names, faults_told};
+use chr_join::Coverage;
+use chr_weighing::{MAX_SEARCH_STEPS, Weighing};
+use chr_weights::NotLowered;
+use std::alloc::{AllocError, Global};
+use std::fmt::Write;
+
+/// Tells of a rule that does not lower the weight.
+fn push_unlowered(
+    alloc: Global,
+    out: &mut String,
+    names: &Names,
+    told: &Unlowered,
+) -> Result<(), AllocError> {
+    let number = told.fault.rule;
+    let source = NamedProgram {
+        program: &told.program,
+        names,
+    };
+    write!(out, "refused 20: rule {number} does not lower the weight\n")?;
+    let Some(rule) = told_rule(source, number) else {
+        return Ok(());
+    };
+    out.push_str("  ")?;
+    rule.push_clause(alloc, out)?;
+    out.push_str("\n")?;
+    let paired = told.program.has_pairs();
+    push_weights(alloc, out, rule, "removed", &rule.rule.removed, paired)?;
+    out.push_str("; together ")?;
+    told.fault.before.push_text(out, paired)?;
+    out.push_str("\n")?;
+    push_weights(alloc, out, rule, "body", &rule.rule.body, paired)?;
+    out.push_str("; together ")?;
+    told.fault.after.push_text(out, paired)?;
+    out.push_str(
+        "\nThe removed heads have to weigh more than the body, so that the rules come to an end.\n",
+    )?;
+    push_remedy(alloc, out, source, rule, told)
+}
+
+/// Adds what would lower the weight.
+fn push_remedy(
+    alloc: Global,
+    out: &mut String,
+    source: NamedProgram<'_>,
+    rule: ToldRule<'_>,
+    told: &Unlowered,
+) -> Result<(), AllocError> {
+    if !can_lower(rule.rule) {
+        return out.push_str(
+            "No weights do that: the body has each removed symbol at least as often. Remove more heads, or write a smaller body.\n",
+        );
+    }
+    match &told.weighing {
+        Weighing::Weights(weighed) => push_found(out, weighed.program()),
+        Weighing::Cycle(cycle) => push_cycle(alloc, out, source, cycle),
+        Weighing::Unknown => push_unknown(out, rule, &told.fault),
+    }
+}
+
+/// Adds what is known where nothing was found of all rules together.
+fn push_unknown(
+    out: &mut String,
+    rule: ToldRule<'_>,
+    fault: &NotLowered,
+) -> Result<(), AllocError> {
+    write!(
+        out,
+        "A search of at most {MAX_SEARCH_STEPS} steps found neither weights for all rules, nor rules that have none.\n"
+    )?;
+    push_lowering(out, rule, fault)?;
+    out.push_str(
+        "Where other rules leave no single number that does it, a weight can be a pair, of which the first number counts for more, as in `:- chr_weight a/0 = 1,0.`\n",
+    )
+}
+
+/// Tells of an accepted program.
+fn push_census(
+    alloc: Global,
+    out: &mut String,
+    census: &Census,
+    all: bool,
+) -> Result<(), AllocError> {
+    let rules = census.accepted.program().rules().len();
+    let overlaps = census.counts.len();
+    let cases = census.accepted.cases();
+    write!(
+        out,
+        "accepted: rules {rules}, overlaps {overlaps}, cases {cases}\n"
+    )?;
+    out.push_str("Every store comes to one end, in whatever order the rules are applied.\n")?;
+    let pairs = pairs_of(alloc, &census.counts)?;
+    if !all && MAX_TOLD_PAIRS < pairs.len() {
+        return Ok(write!(
+            out,
+            "{} pairs of rules overlap; `--all` tells each.\n",
+            pairs.len()
+        )?);
+    }
+    for pair in &pairs {
+        push_pair(out, pair, census.accepted.coverage())?;
+    }
+    Ok(())
+}
+
+/// Tells of the overlaps of two rules.
+fn push_pair(out: &mut String, pair: &ToldPair, coverage: Coverage) -> Result<(), AllocError> {
+    write!(out, "  rules {} {}: ", pair.first, pair.second)?;
+    push_numbers(out, pair, coverage)?;
+    out.push_str("\n")
+}
+
+/// Tells of a program, of all pairs of rules where `all`.
+fn push_program(
+    alloc: Global,
+    out: &mut String,
+    names: &Names,
+    diagnosis: &Diagnosis,
+    proposals: &[Proposal],
+    all: bool,
+) -> Result<(), AllocError> {
+    match diagnosis {
+        Diagnosis::Text(_) => Ok(()),
+        Diagnosis::NotLowered(told) => push_unlowered(alloc, out, names, told),
+        Diagnosis::Fails(peak) => {
+            push_peak(alloc, out, names, peak)?;
+            push_proposals(out, proposals)
+        }
+        Diagnosis::TooManyTypes(crowd) => push_crowd(alloc, out, names, crowd),
+        Diagnosis::TooManyCombinations(throng) => push_throng(alloc, out, names, throng, None),
+        Diagnosis::Accepted(census) => push_census(alloc, out, census, all),
+    }
+}
+
+/// What is to be told of the program of a text, of all pairs of rules where `all`.
+fn program_told(
+    alloc: Global,
+    text: &[u8],
+    diagnosis: &Diagnosis,
+    proposals: &[Proposal],
+    all: bool,
+) -> Result<String, AllocError> {
+    let names = Names::of(alloc, text)?;
+    let mut out = String::new(alloc);
+    push_program(alloc, &mut out, &names, diagnosis, proposals, all)?;
+    Ok(out)
+}
+
+/// What is to be told of a text, of all pairs of rules where `all`.
+pub fn told_text(
+    alloc: Global,
+    text: &[u8],
+    diagnosis: &Diagnosis,
+    proposals: &[Proposal],
+    all: bool,
+) -> Result<String, AllocError> {
+    match diagnosis {
+        Diagnosis::Text(faults) => faults_told(alloc, text, faults),
+        _ => program_told(alloc, text, diagnosis, proposals, all),
+    }
+}
