@@ -24,6 +24,7 @@ struct Layout {
 }
 
 /// The way of an edge: the heights of its two ends, how far it goes to the right, and its mark.
+#[derive(Drop)]
 struct Arc<'g> {
     edge: &'g Edge,
     from: usize,
