@@ -1,6 +1,6 @@
 mod Passing
 mod Counting
 pub mod Verdicts
-mod Proposals
+mod Proposed
 mod FirstOverlaps
 mod FoundCases

@@ -1,4 +1,4 @@
-use Rattle.chr_diagnosis.proofs.Proposals.{accepted_program, if_yes}
+use Rattle.chr_diagnosis.proofs.Proposed.{accepted_program, if_yes}
 use Rattle.chr_diagnosis.proofs.proposal.accepts_program.Goals as goal
 
 pub returns-in-Ok : goal.returns-in-Ok

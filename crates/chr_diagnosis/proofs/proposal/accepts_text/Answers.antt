@@ -1,4 +1,4 @@
-use Rattle.chr_diagnosis.proofs.Proposals.{if_yes}
+use Rattle.chr_diagnosis.proofs.Proposed.{if_yes}
 use Rattle.chr_diagnosis.proofs.proposal.accepts_text.Goals as goal
 
 pub returns-in-Ok : goal.returns-in-Ok

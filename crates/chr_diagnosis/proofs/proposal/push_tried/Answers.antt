@@ -1,4 +1,4 @@
-use Rattle.chr_diagnosis.proofs.Proposals.{one_more}
+use Rattle.chr_diagnosis.proofs.Proposed.{one_more}
 use Rattle.chr_diagnosis.proofs.proposal.push_tried.Goals as goal
 
 pub returns-in_ok-push : goal.returns-in_ok-push

@@ -1,4 +1,4 @@
-use Rattle.chr_diagnosis.proofs.Proposals.{proposed}
+use Rattle.chr_diagnosis.proofs.Proposed.{proposed}
 use Rattle.chr_diagnosis.proofs.proposal.tried.Goals as goal
 
 pub returns-then-branch : goal.returns-then-branch
