@@ -4,7 +4,8 @@
     figures.py PROGRAM [--count 1000000] [--times 3]
 
 Each input is run so often. A row has the least seconds of a clock, the greatest peak of memory, and the first line that
-was written, which is the verdict. Facts of `workloads.py` are COUNT in number.
+was written, which is the verdict. Facts of `workloads.py` are COUNT in number. A peak below that of Python itself, whose
+process becomes that of the program, can't be told.
 """
 
 import argparse
@@ -69,10 +70,10 @@ class Figures:
     first: str
 
 
-def figures(program: str, options: Sequence[str], given: Path) -> Figures:
+def figures(words: Sequence[str], given: Path) -> Figures:
     with given.open("rb") as source, tempfile.TemporaryFile() as told:
         start = time.monotonic()
-        run = subprocess.Popen([program, "run", *options], stdin=source, stdout=told)
+        run = subprocess.Popen(words, stdin=source, stdout=told)
         _, status, used = os.wait4(run.pid, 0)
         seconds = time.monotonic() - start
         run.returncode = os.waitstatus_to_exitcode(status)
@@ -80,16 +81,22 @@ def figures(program: str, options: Sequence[str], given: Path) -> Figures:
         return Figures(seconds, used.ru_maxrss, told.readline().decode().rstrip("\n"))
 
 
+def peak_text(peak: float, least: float) -> str:
+    if peak <= least:
+        return f"under {least / MEGABYTE + 1:.0f} MB"
+    return f"{peak / MEGABYTE:.0f} MB"
+
+
 def row(program: str, script: str, words: str, times: int, folder: Path) -> str:
     given = folder / "input"
     with given.open("wb") as out:
         subprocess.run([sys.executable, str(HERE / script), *words.split()], stdout=out, check=True)
-    runs = [figures(program, OPTIONS.get(words.split()[0], ()), given) for _ in range(times)]
+    options = OPTIONS.get(words.split()[0], ())
+    runs = [figures([program, "run", *options], given) for _ in range(times)]
     least = min(run.seconds for run in runs)
     seconds = "under 0.01" if least < 0.01 else f"{least:.2f}"
-    peak = max(run.peak for run in runs) / MEGABYTE
-    shown = f"{peak:.1f}" if peak < 10 else f"{peak:.0f}"
-    return f"| `{words}` | {given.stat().st_size:,} | {seconds} | {shown} MB | `{runs[0].first}` |"
+    peak = peak_text(max(run.peak for run in runs), 1.02 * figures(["true"], given).peak)
+    return f"| `{words}` | {given.stat().st_size:,} | {seconds} | {peak} | `{runs[0].first}` |"
 
 
 def main() -> int:
