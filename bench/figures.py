@@ -77,6 +77,8 @@ def figures(words: Sequence[str], given: Path) -> Figures:
         _, status, used = os.wait4(run.pid, 0)
         seconds = time.monotonic() - start
         run.returncode = os.waitstatus_to_exitcode(status)
+        if run.returncode > 1 or run.returncode < 0:
+            raise SystemExit(f"{' '.join(words)} ended with {run.returncode}")
         told.seek(0)
         return Figures(seconds, used.ru_maxrss, told.readline().decode().rstrip("\n"))
 
