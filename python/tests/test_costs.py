@@ -56,6 +56,8 @@ RULES = ":- chr_constraint k/2. " + " ".join(f"k({k},X) \\ k({k},X) <=> true." f
 CROSSED = ":- chr_constraint a/3. " + " ".join(
     f"a(A,B,C) \\ a(A,D,E) <=> B < D, C > E, A > {k} | true." for k in range(4)
 )
+STAIRS = ":- chr_constraint p/2. p(X,Y) \\ p(Z,W) <=> X =< Z, Y =< W | true."
+STEEPER = ":- chr_constraint p/3. p(K,X,A) \\ p(K,Y,B) <=> X < Y, A > B | true."
 HALVES = 16
 
 Atoms = Iterable[tuple[str, tuple[int, ...]]]
@@ -133,6 +135,21 @@ def one_that_is_kept(count: int) -> str:
     return shown(UNEQUAL, [*(("item", (0, key)) for key in range(1, count)), ("keep", (0, 0))])
 
 
+def equal_values(count: int) -> str:
+    """All values of a key are the one that is kept, so that none is another."""
+    return shown(UNEQUAL, (("keep" if key % 2 else "item", (1, 7)) for key in range(count)))
+
+
+def stairs(count: int) -> str:
+    """Of any two atoms one is less in one column, and the other in the other: all stay."""
+    return shown(STAIRS, (("p", (key, count - key)) for key in range(count)))
+
+
+def crossed_orders(count: int) -> str:
+    """Under one key both columns rise together, and no two atoms are in orders that cross."""
+    return shown(STEEPER, (("p", (1, key, key)) for key in range(count)))
+
+
 def one_limit(count: int) -> str:
     """One limit of two orders takes all others out."""
     return shown(RECTANGLE, [*(("pt", (key, count - key)) for key in range(count)), ("lim", (-1, -1))])
@@ -208,6 +225,9 @@ INPUTS = (
     Input(falling, 20_000),
     Input(links_of_one_node, 10_000),
     Input(one_that_is_kept, 20_000),
+    Input(equal_values, 20_000),
+    Input(stairs, 20_000, ("run", "--wide")),
+    Input(crossed_orders, 20_000, ("run", "--wide")),
     Input(one_limit, 20_000, ("run", "--wide")),
     Input(rules_of_one_symbol, 5_000),
     Input(ring, 4_000, ("run", "--replicas", "8")),

@@ -1,50 +1,111 @@
-//! Atoms are put in the order of the values by which rules join them.
+//! Atoms are put in the order in which partners are found best.
 ghost use Rattle.std.specs.Prelude.{◌≡◌, IfOk};
 ghost use Rattle.chr_base.specs.FinBag.{◌⊕◌};
 ghost use Rattle.chr_base.specs.Stores.{store_of};
 ghost use Rattle.chr_columns.specs.working.Listing.{all_of};
 
+use crate::groups::Group;
 use crate::joint::{Joint, joint_of};
 use crate::listing::push_live;
 use crate::rested::Rested;
 use chr_base::atom::Atom;
 use chr_base::lists::push_copies;
-use chr_base::rule::Rule;
+use chr_plans::key::Order;
+use chr_plans::plan::Plan;
 use std::alloc::{AllocError, Global};
 use std::cmp::Ordering;
 
-/// The order by values, and by that of a bag where these are equal.
-fn order(joint: &Joint, left: &Atom, right: &Atom) -> Ordering {
-    joint
-        .value(left)
-        .cmp(&joint.value(right))
-        .then(left.order(right))
+/// By what atoms are put in order: the arguments by which rules join them, and the column by whose values, and those of
+/// another, rows are left behind. A row that is left behind takes many with it where rows come in the order of one.
+#[derive(Drop)]
+struct Arrangement {
+    joint: Option<Joint>,
+    crossed: Option<usize>,
 }
 
-/// Whether the atoms are in that order.
-fn is_in_order(joint: &Joint, atoms: &[Atom]) -> bool {
-    for i in 1..atoms.len() {
-        if order(joint, &atoms[i - 1], &atoms[i]).is_gt() {
-            return false;
+/// The first column of a plan by which rows are left behind in two columns.
+fn crossed_in(plan: &Plan) -> Option<usize> {
+    for lookup in plan.lookups.as_slice() {
+        if let Order::ByBoth(first, _) = lookup.partner.order {
+            return Some(first);
         }
     }
-    true
+    None
 }
 
-/// Puts atoms in the order of the values by which these rules are joined, so that partners stand side by side. Where
-/// they have no joint nothing changes. It takes no memory.
-pub(crate) fn arrange(rules: &[Rule], atoms: &mut Vec<Atom>)
-    ensures { store_of atoms.new.items ≡ store_of atoms.old.items }
-{
-    let Some(joint) = joint_of(rules) else {
-        return;
-    };
-    if !is_in_order(&joint, atoms) {
-        atoms.sort_unstable_by(|left, right| order(&joint, left, right));
+/// The same of the first plan that has one.
+fn crossed_of(plans: &[Plan]) -> Option<usize> {
+    plans.iter().find_map(crossed_in)
+}
+
+/// The same of the plans of all head places.
+pub(crate) fn crossed(groups: &[Group]) -> Option<usize> {
+    groups.iter().find_map(|group| crossed_of(&group.plans))
+}
+
+fn argument(atom: &Atom, column: usize) -> i64 {
+    atom.args.get(column).copied().unwrap_or(0)
+}
+
+impl Arrangement {
+    /// The one of these rows.
+    fn of(rested: &Rested) -> Arrangement {
+        Arrangement {
+            joint: joint_of(&rested.rules),
+            crossed: crossed(&rested.groups),
+        }
+    }
+
+    /// Whether it says nothing.
+    fn is_any(&self) -> bool {
+        self.joint.is_none() && self.crossed.is_none()
+    }
+
+    fn by_joint(&self, left: &Atom, right: &Atom) -> Ordering {
+        match &self.joint {
+            Some(joint) => joint.value(left).cmp(&joint.value(right)),
+            None => Ordering::Equal,
+        }
+    }
+
+    fn by_crossed(&self, left: &Atom, right: &Atom) -> Ordering {
+        match self.crossed {
+            Some(column) => argument(left, column).cmp(&argument(right, column)),
+            None => Ordering::Equal,
+        }
+    }
+
+    /// The order by these values, and by that of a bag where they are equal.
+    fn order(&self, left: &Atom, right: &Atom) -> Ordering {
+        self.by_joint(left, right)
+            .then(self.by_crossed(left, right))
+            .then(left.order(right))
+    }
+
+    /// Whether the atoms are in that order.
+    fn is_kept_by(&self, atoms: &[Atom]) -> bool {
+        for i in 1..atoms.len() {
+            if self.order(&atoms[i - 1], &atoms[i]).is_gt() {
+                return false;
+            }
+        }
+        true
     }
 }
 
-/// All atoms, in the order of the values by which the rows' rules are joined; by tables, where they have no joint.
+/// Puts atoms in the order in which the plans of these rows find partners best. Where there is none nothing changes. It
+/// takes no memory.
+pub(crate) fn arrange(rested: &Rested, atoms: &mut Vec<Atom>)
+    ensures { store_of atoms.new.items ≡ store_of atoms.old.items }
+{
+    let arrangement = Arrangement::of(rested);
+    if arrangement.is_any() || arrangement.is_kept_by(atoms) {
+        return;
+    }
+    atoms.sort_unstable_by(|left, right| arrangement.order(left, right));
+}
+
+/// All atoms, in that order; by tables, where there is none.
 pub(crate) fn arranged(
     alloc: Global,
     rested: &Rested,
@@ -55,6 +116,6 @@ pub(crate) fn arranged(
     let mut atoms = Vec::with_capacity(alloc, fresh.len())?;
     push_live(&mut atoms, &rested.tables.tables)?;
     push_copies(&mut atoms, fresh)?;
-    arrange(&rested.rules, &mut atoms);
+    arrange(rested, &mut atoms);
     Ok(atoms)
 }

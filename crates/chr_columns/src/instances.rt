@@ -17,6 +17,7 @@ use arrayvec::ArrayVec;
 use chr_base::atom::Atom;
 use chr_base::limits::MAX_HEADS;
 use chr_base::rule::Rule;
+use chr_plans::key::Order;
 use chr_plans::plan::{Lookup, Partner};
 use chr_plans::rows::Seat;
 use chr_plans::search::find_partners;
@@ -32,6 +33,7 @@ fn plain_lookup(place: usize) -> Lookup
             key: ArrayVec::new(),
             tests: ArrayVec::new(),
             limits: ArrayVec::new(),
+            order: Order::Unordered,
         },
         table: 0,
         index: 0,

@@ -40,6 +40,18 @@ fn without(range: Range, value: i64) -> Range
     range.at_least(1).at_most(0)
 }
 
+/// Values of the range that the atom of a row, where it lives, does not have.
+fn free_beside(joint: &Joint, table: &Table, row: usize, range: Range) -> Range
+    ensures narrow { (x : ℤ) → IsIn result x → IsIn range x }
+    ensures free { (a : AtomValue) → get_or table.now.rows row None ≡ Some a →
+        IsIn result (value_in joint.now.columns.items a) → ⊥ }
+{
+    match table.get(row) {
+        Some(atom) => without(range, joint.value(&atom)),
+        None => range,
+    }
+}
+
 /// Values of the range that no atom of the table has.
 fn free_of(joint: &Joint, table: &Table, range: Range) -> Range
     ensures narrow { (x : ℤ) → IsIn result x → IsIn range x }
@@ -48,9 +60,7 @@ fn free_of(joint: &Joint, table: &Table, range: Range) -> Range
 {
     let mut free = range;
     for row in 0..table.len() {
-        if let Some(atom) = table.get(row) {
-            free = without(free, joint.value(&atom));
-        }
+        free = free_beside(joint, table, row, free);
     }
     free
 }
@@ -75,6 +85,7 @@ fn range_of(joint: &Joint, atoms: &[Atom]) -> Range {
         range = Range {
             least: Some(range.least.unwrap_or(value).min(value)),
             most: Some(range.most.unwrap_or(value).max(value)),
+            except: None,
         };
     }
     range

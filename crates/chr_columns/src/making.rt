@@ -15,7 +15,7 @@ use crate::rested::Rested;
 use arrayvec::ArrayVec;
 use chr_base::limits::MAX_ARITY;
 use chr_base::rule::Rule;
-use chr_plans::key::first_column;
+use chr_plans::key::Order;
 use chr_plans::plan::{Lookup, Partner, Plan};
 use chr_plans::planning::plan_of;
 use chr_tables::table::Table;
@@ -25,11 +25,11 @@ use std::alloc::{AllocError, Global};
 /// There are fewer tables than this, so that the rows of all of them can be counted.
 const MAX_TABLES: usize = 0x8000_0000;
 
-/// An index that look-ups want: by these columns, and where there is an order by the values in that column as well.
+/// An index that look-ups want: by these columns, and by the values in the order's columns as well.
 #[derive(Drop)]
 pub(crate) struct Way {
     pub(crate) columns: ArrayVec<usize, MAX_ARITY>,
-    pub(crate) order: Option<usize>,
+    pub(crate) order: Order,
 }
 
 /// The indexes of one table.
@@ -39,7 +39,7 @@ pub(crate) struct Keys {
 }
 
 /// Whether it is by these columns in this order, and by this order of values.
-fn is_by(way: &Way, columns: &[usize], order: Option<usize>) -> bool
+fn is_by(way: &Way, columns: &[usize], order: Order) -> bool
     ensures by { OnTrue result (made_way way.now ≡ (columns.now, order)) }
     ensures other { OnFalse result (made_way way.now ≡ (columns.now, order) → ⊥) }
 {
@@ -47,14 +47,17 @@ fn is_by(way: &Way, columns: &[usize], order: Option<usize>) -> bool
         return false;
     }
     match (way.order, order) {
-        (None, None) => true,
-        (Some(left), Some(right)) => left == right,
+        (Order::Unordered, Order::Unordered) => true,
+        (Order::By(left), Order::By(right)) => left == right,
+        (Order::ByBoth(first, second), Order::ByBoth(other, another)) => {
+            first == other && second == another
+        }
         _ => false,
     }
 }
 
 /// The index by these columns in this order and by this order of values, where there is one.
-fn index_by(keys: &Keys, columns: &[usize], order: Option<usize>) -> Option<usize>
+fn index_by(keys: &Keys, columns: &[usize], order: Order) -> Option<usize>
     ensures found { IfSome result (λ i. slice_get (made_ways keys.now) i ≡ Some (columns.now, order)) }
     ensures none { IfNone result ((i : ℕ) → ¬ (slice_get (made_ways keys.now) i ≡ Some (columns.now, order))) }
 {
@@ -70,7 +73,7 @@ fn index_by(keys: &Keys, columns: &[usize], order: Option<usize>) -> Option<usiz
 fn index_for(
     keys: &mut Keys,
     columns: ArrayVec<usize, MAX_ARITY>,
-    order: Option<usize>,
+    order: Order,
 ) -> Result<usize, AllocError>
     ensures stay { StayIndexed (lists_of keys.old) (lists_of keys.new) }
     ensures shared { (i : ℕ) → slice_get (made_ways keys.old) i ≡ Some (columns.items, order) → keys.new ≡ keys.old }
@@ -104,8 +107,7 @@ fn look_up(
 {
     let pattern = rule.head_at(partner.place);
     let table = table_of(groups, pattern.symbol, pattern.args.len());
-    let order = first_column(&partner.limits);
-    let index = index_for(&mut keys[table], partner.columns(), order)?;
+    let index = index_for(&mut keys[table], partner.columns(), partner.order)?;
     Ok(Lookup {
         partner: partner.copy(),
         table,

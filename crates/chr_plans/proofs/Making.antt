@@ -30,7 +30,7 @@ use Rattle.chr_plans.specs.declared.key.Limit.{Limit}
 use Rattle.chr_plans.specs.declared.plan.Partner.{Partner}
 use Rattle.chr_plans.specs.Keys.{argument, source_value, passes}
 use Rattle.chr_plans.specs.Plans.{pattern_at, places_of, IsKnown, IsReady, IsSource, AreKeys, IsTest, AreTests, IsLimit, AreLimits, IsPlan}
-use Rattle.chr_plans.specs.Planning.{is_in, column_of, variable_source, direct_source, is_equal, beside, equal_to, equal_source, term_source, with_key, keys_from, test_by, test_of, with_test, tests_from, is_order, turned, own_column, limit_by, limit_of, with_limit, limits_from, IsLongest, AreLongest}
+use Rattle.chr_plans.specs.Planning.{is_in, column_of, variable_source, direct_source, is_equal, beside, equal_to, equal_source, term_source, with_key, keys_from, test_by, test_of, with_test, tests_from, turned, own_column, limit_by, limit_of, with_limit, limits_from, IsLongest, AreLongest}
 use Rattle.chr_plans.specs.working.Choosing.{ArePlaces}
 use Rattle.chr_plans.proofs.Values.{term_at, no_term, argument_value}
 use Rattle.chr_plans.proofs.Distinct.{in_list, in_take, place_at, apart, few, distinct_more, places_more}
@@ -238,9 +238,9 @@ limit_sound r places p n q c l holds e = first (limit_by c.cmp (own_column r q c
             ap (term_at r q) (let h = w.1 in omega (arith, h)) ∙ w.2
         own (term.Constant d) column g = absurd (let z : ◌≡◌ {A = Option ℕ} None (Some column) = g in cc)
 
-        chosen : (b : Bool) (x : Limit) → (if b then Some x else None) ≡ Some l → x ≡ l
-        chosen true x h = same_Some x l h
-        chosen false x h = absurd (let z : ◌≡◌ {A = Option Limit} None (Some l) = h in cc)
+        chosen : (b : Bool) (x : Limit) → (if b then None else Some x) ≡ Some l → x ≡ l
+        chosen true x h = absurd (let z : ◌≡◌ {A = Option Limit} None (Some l) = h in cc)
+        chosen false x h = same_Some x l h
 
         by : (o : Option ℕ) → own_column r q t ≡ o → (o' : Option Source) → direct_source r (p ∷ take n places) u ≡ o' → limit_by k o o' ≡ Some l
             → IsReady places p n l.source × IsLimit r q l
@@ -248,7 +248,7 @@ limit_sound r places p n q c l holds e = first (limit_by c.cmp (own_column r q c
         by (Some column) g None h i = absurd (let z : ◌≡◌ {A = Option Limit} None (Some l) = i in cc)
         by (Some column) g (Some s) h i =
             let source = direct_sound r places p n u s h in
-            subst (λ x. IsReady places p n x.source × IsLimit r q x) (chosen (is_order k) (record { column = column; cmp = k; source = s }) i) (
+            subst (λ x. IsReady places p n x.source × IsLimit r q x) (chosen (is_equal k) (record { column = column; cmp = k; source = s }) i) (
               source.0,
               λ heads w. (
                   let value : argument (head heads q) column ≡ term_value w.0 t = argument_value r w.0 heads q column w.1 ∙ ap (term_value w.0) (own t column g) in

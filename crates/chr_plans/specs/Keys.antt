@@ -1,5 +1,5 @@
 -- Values that are known before a head is looked for, and tests of them.
-use Rattle.std.specs.Prelude.{ℕ, ℤ, List, map, get_or, pos, Bool}
+use Rattle.std.specs.Prelude.{ℕ, ℤ, List, [], ◌∷◌, map, get_or, pos, Bool}
 use Rattle.std.specs.Ordering.{int_cmp}
 use Rattle.chr_base.specs.declared.atom.Atom.{Atom}
 use Rattle.chr_base.specs.Atoms.{no_atom}
@@ -7,6 +7,9 @@ use Rattle.chr_base.specs.Rules.{compares}
 use Rattle.chr_ranges.specs.Rows.{IsIn}
 use Rattle.chr_plans.specs.declared.key.Test.{Test}
 use Rattle.chr_plans.specs.declared.key.Limit.{Limit}
+use Rattle.chr_plans.specs.declared.key.Order.{Order}
+use Rattle.chr_plans.specs.declared.key.Order.TheVariants.{Unordered, By, ByBoth}
+use Rattle.chr_plans.specs.declared.key.Band.{Band}
 use Rattle.chr_plans.specs.declared.key.Span.{Span}
 use Rattle.chr_plans.specs.declared.key.Source.{Source}
 use Rattle.chr_plans.specs.declared.key.Source.TheVariants.{Constant, Argument}
@@ -32,6 +35,15 @@ passes heads t = compares t.cmp (int_cmp (source_value heads t.left) (source_val
 abbrev pub allows : List Atom → Atom → Limit → Bool
 allows heads a l = compares l.cmp (int_cmp (argument a l.column) (source_value heads l.source))
 
--- the atom is in the span
+-- the columns of an order
+abbrev pub columns_by : Order → List ℕ
+columns_by Unordered = []
+columns_by (By column) = column ∷ []
+columns_by (ByBoth first second) = first ∷ second ∷ []
+
+-- the atom is in the band, and in the span
+abbrev pub IsInBand : Band → Atom → Type 0
+IsInBand b a = IsIn b.range (argument a b.column)
+
 abbrev pub Spans : Span → Atom → Type 0
-Spans s a = IsIn s.range (argument a s.column)
+Spans s a = IsInBand s.first a × IsInBand s.second a

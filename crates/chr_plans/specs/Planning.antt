@@ -107,15 +107,6 @@ tests_from r before known (c ∷ cs) =
 abbrev pub tests_at : Rule → List ℕ → List Test
 tests_at r known = tests_from r (take (length known - 1) known) known r.guard.items
 
--- the comparison sign for an order
-abbrev pub is_order : Cmp → Bool
-is_order Less = true
-is_order AtMost = true
-is_order Greater = true
-is_order AtLeast = true
-is_order Equal = false
-is_order NotEqual = false
-
 -- the comparison sign for the sides in the other order
 abbrev pub turned : Cmp → Cmp
 turned Less = Greater
@@ -135,7 +126,7 @@ abbrev pub limit_by : Cmp → Option ℕ → Option Source → Option Limit
 limit_by k None source = None
 limit_by k (Some column) None = None
 limit_by k (Some column) (Some s) =
-    if is_order k then Some (record { column = column; cmp = k; source = s }) else None
+    if is_equal k then None else Some (record { column = column; cmp = k; source = s })
 
 -- a comparison as a limit of the head at a place, where one side stands in it and the other is known
 abbrev pub limit_of : Rule → List ℕ → ℕ → Comparison → Option Limit

@@ -1,12 +1,13 @@
 //! What is known before a head is looked for: keys, the values of some of its arguments, and tests of what was found.
-ghost use Rattle.std.specs.Prelude.{◌≡◌, ℤ, pos, map, true, option_map, slice_get, IfSome};
+ghost use Rattle.std.specs.Prelude.{◌≡◌, ℤ, pos, map, true, slice_get, IfSome};
 ghost use Rattle.std.specs.List.{list_all};
 ghost use Rattle.std.specs.Ordering.{int_cmp};
 ghost use Rattle.chr_base.specs.declared.atom.Atom.{Atom as AtomValue};
 ghost use Rattle.chr_base.specs.Rules.{compares};
 ghost use Rattle.chr_base.specs.declared.term.Cmp.TheVariants.{Equal};
 ghost use Rattle.chr_plans.specs.declared.key.Source.TheVariants.{Constant};
-ghost use Rattle.chr_plans.specs.Keys.{argument, source_value, passes, allows, Spans};
+ghost use Rattle.chr_plans.specs.declared.key.Order.TheVariants.{Unordered};
+ghost use Rattle.chr_plans.specs.Keys.{argument, source_value, passes, allows, columns_by, IsInBand, Spans};
 ghost use Rattle.chr_ranges.specs.Rows.{IsIn};
 
 use arrayvec::ArrayVec;
@@ -79,11 +80,37 @@ impl Default for Limit {
     }
 }
 
+/// By which columns rows are found beside their key.
+#[derive(Clone, Copy, Debug, PartialEq, Eq)]
+pub enum Order {
+    /// By none.
+    Unordered,
+    /// By the values in this column, counted from 0.
+    By(usize),
+    /// By those in the first of these columns and those in the second.
+    ByBoth(usize, usize),
+}
+
+impl Default for Order {
+    fn default() -> Self
+        ensures { result ≡ Unordered }
+    {
+        Order::Unordered
+    }
+}
+
 /// Atoms whose argument in a column, counted from 0, is in a range.
 #[derive(Clone, Copy, Debug, Default, PartialEq, Eq)]
-pub struct Span {
+pub struct Band {
     pub column: usize,
     pub range: Range,
+}
+
+/// Atoms that lie in two bands.
+#[derive(Clone, Copy, Debug, Default, PartialEq, Eq)]
+pub struct Span {
+    pub first: Band,
+    pub second: Band,
 }
 
 /// The value that comes from a source under these heads, 0 where they have no such argument.
@@ -135,7 +162,7 @@ pub fn pass(heads: &[Atom], tests: &ArrayVec<Test, MAX_COMPARISONS>) -> bool
     tests.iter().all(|test| passes(heads, test))
 }
 
-/// Those values of a range that compare so with this one, and maybe others: only an order narrows it.
+/// Those values of a range that compare so with this one, and maybe others.
 fn narrowed(range: Range, cmp: Cmp, value: i64) -> Range
     ensures { (x : ℤ) → IsIn range x → compares cmp (int_cmp x value) ≡ true → IsIn result x }
 {
@@ -144,7 +171,8 @@ fn narrowed(range: Range, cmp: Cmp, value: i64) -> Range
         Cmp::AtMost => range.at_most(value),
         Cmp::Greater => range.at_least(value.saturating_add(1)),
         Cmp::AtLeast => range.at_least(value),
-        Cmp::Equal | Cmp::NotEqual => range,
+        Cmp::NotEqual => range.but(value),
+        Cmp::Equal => range,
     }
 }
 
@@ -172,23 +200,73 @@ fn narrowed_by(heads: &[Atom], limits: &[Limit], column: usize, range: Range) ->
     narrowed_by(heads, limits, column, range)
 }
 
-/// The column of the first limit, where there is one.
-pub fn first_column(limits: &ArrayVec<Limit, MAX_COMPARISONS>) -> Option<usize>
-    ensures { result ≡ option_map (λ l. l.column) (slice_get limits.now.items 0) }
-{
-    limits.first().map(|limit| limit.column)
+/// Whether the sign is one of an order.
+fn is_order(cmp: Cmp) -> bool {
+    match cmp {
+        Cmp::Less | Cmp::AtMost | Cmp::Greater | Cmp::AtLeast => true,
+        Cmp::Equal | Cmp::NotEqual => false,
+    }
 }
 
-/// A span with all atoms that these limits allow under these heads: that of the first limit's column.
-pub fn span_of(heads: &[Atom], limits: &ArrayVec<Limit, MAX_COMPARISONS>) -> Span
-    ensures all { (a : AtomValue) → list_all (allows heads.now a) limits.now.items ≡ true → Spans result a }
-    ensures column { IfSome (option_map (λ l. l.column) (slice_get limits.now.items 0)) (λ c. result.column ≡ c) }
-{
-    let Some(column) = first_column(limits) else {
-        return Span::default();
+/// The first column other than this one that is limited by an order, or by none.
+fn column_limited(limits: &[Limit], by_order: bool, other: Option<usize>) -> Option<usize> {
+    for limit in limits {
+        let is_other = match other {
+            Some(column) => limit.column != column,
+            None => true,
+        };
+        if is_order(limit.cmp) == by_order && is_other {
+            return Some(limit.column);
+        }
+    }
+    None
+}
+
+/// The first column other than this one that is limited, by an order where there is one so limited.
+fn column_beside(limits: &[Limit], other: Option<usize>) -> Option<usize> {
+    match column_limited(limits, true, other) {
+        Some(column) => Some(column),
+        None => column_limited(limits, false, other),
+    }
+}
+
+/// The columns by which the limits leave most rows behind: those of orders come before those of inequalities.
+pub fn order_of(limits: &[Limit]) -> Order {
+    let Some(first) = column_beside(limits, None) else {
+        return Order::Unordered;
     };
-    Span {
+    match column_beside(limits, Some(first)) {
+        Some(second) => Order::ByBoth(first, second),
+        None => Order::By(first),
+    }
+}
+
+/// A band with all atoms that these limits allow under these heads.
+fn band_of(heads: &[Atom], limits: &[Limit], column: usize) -> Band
+    ensures all { (a : AtomValue) → list_all (allows heads.now a) limits.now ≡ true → IsInBand result a }
+    ensures column { result.column ≡ column }
+{
+    Band {
         column,
         range: narrowed_by(heads, limits, column, Range::default()),
+    }
+}
+
+/// A span with all atoms that these limits allow under these heads: that of the order's columns.
+pub fn span_of(heads: &[Atom], order: Order, limits: &ArrayVec<Limit, MAX_COMPARISONS>) -> Span
+    ensures all { (a : AtomValue) → list_all (allows heads.now a) limits.now.items ≡ true → Spans result a }
+    ensures first { IfSome (slice_get (columns_by order) 0) (λ c. result.first.column ≡ c) }
+    ensures second { IfSome (slice_get (columns_by order) 1) (λ c. result.second.column ≡ c) }
+{
+    match order {
+        Order::Unordered => Span::default(),
+        Order::By(column) => Span {
+            first: band_of(heads, limits, column),
+            second: Band::default(),
+        },
+        Order::ByBoth(first, second) => Span {
+            first: band_of(heads, limits, first),
+            second: band_of(heads, limits, second),
+        },
     }
 }

@@ -2,19 +2,20 @@
 ghost use Rattle.std.specs.Prelude.{◌≡◌};
 ghost use Rattle.chr_plans.specs.Plans.{columns_of};
 
-use crate::key::{Key, Limit, Test};
+use crate::key::{Key, Limit, Order, Test};
 use arrayvec::ArrayVec;
 use chr_base::limits::{MAX_ARITY, MAX_COMPARISONS, MAX_HEADS};
 
 /// A partner: its head place, counted from 0, what is known of its arguments when it is looked for, and the tests that
 /// the heads before it must pass; where they fail one there is no need to look for it. Where the key alone would leave
-/// many to look at, there are limits of its arguments as well.
+/// many to look at, there are limits of its arguments as well, and an order by which these leave rows behind.
 #[derive(Debug, Default, Drop)]
 pub struct Partner {
     pub place: usize,
     pub key: ArrayVec<Key, MAX_ARITY>,
     pub tests: ArrayVec<Test, MAX_COMPARISONS>,
     pub limits: ArrayVec<Limit, MAX_COMPARISONS>,
+    pub order: Order,
 }
 
 /// The same items.
@@ -49,6 +50,7 @@ impl Partner {
             key: copy_of(&self.key),
             tests: copy_of(&self.tests),
             limits: copy_of(&self.limits),
+            order: self.order,
         }
     }
 }

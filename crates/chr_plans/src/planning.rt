@@ -3,10 +3,10 @@ ghost use Rattle.std.specs.Prelude.{◌≡◌, ◌<◌, ◌≤◌, ◌+◌, ◌+
 ghost use Rattle.chr_base.specs.Rules.{heads_of};
 ghost use Rattle.chr_base.specs.RuleTests.{is_variable};
 ghost use Rattle.chr_plans.specs.Plans.{IsPlan};
-ghost use Rattle.chr_plans.specs.Planning.{is_in, column_of, variable_source, direct_source, equal_to, equal_source, term_source, keys_from, key_at, test_of, tests_from, tests_at, is_order, turned, own_column, limit_by, limit_of, limits_from, MayLimit, AreLongest};
+ghost use Rattle.chr_plans.specs.Planning.{is_in, column_of, variable_source, direct_source, equal_to, equal_source, term_source, keys_from, key_at, test_of, tests_from, tests_at, is_equal, turned, own_column, limit_by, limit_of, limits_from, MayLimit, AreLongest};
 ghost use Rattle.chr_plans.specs.working.Choosing.{ArePlaces, IsChoice, longer};
 
-use crate::key::{Key, Limit, Source, Test};
+use crate::key::{Key, Limit, Source, Test, order_of};
 use crate::plan::Partner;
 use arrayvec::ArrayVec;
 use chr_base::limits::{MAX_ARITY, MAX_COMPARISONS, MAX_HEADS};
@@ -197,13 +197,13 @@ fn tests_at(rule: &Rule, known: &[usize]) -> ArrayVec<Test, MAX_COMPARISONS>
     tests
 }
 
-/// Whether the sign is one of an order.
-fn is_order(cmp: Cmp) -> bool
-    ensures { result ≡ is_order cmp }
+/// Whether the sign is that for equal values.
+fn is_equal(cmp: Cmp) -> bool
+    ensures { result ≡ is_equal cmp }
 {
     match cmp {
-        Cmp::Less | Cmp::AtMost | Cmp::Greater | Cmp::AtLeast => true,
-        Cmp::Equal | Cmp::NotEqual => false,
+        Cmp::Equal => true,
+        Cmp::Less | Cmp::AtMost | Cmp::Greater | Cmp::AtLeast | Cmp::NotEqual => false,
     }
 }
 
@@ -238,14 +238,14 @@ fn limit_by(cmp: Cmp, column: Option<usize>, source: Option<Source>) -> Option<L
 {
     let column = column?;
     let source = source?;
-    if is_order(cmp) {
+    if is_equal(cmp) {
+        None
+    } else {
         Some(Limit {
             column,
             cmp,
             source,
         })
-    } else {
-        None
     }
 }
 
@@ -370,6 +370,7 @@ fn next_partner(rule: &Rule, known: &[usize]) -> Option<Partner>
         if !is_in(place, known) {
             let key = key_at(rule, known, place);
             let limits = limits_at(rule, known, place, &key);
+            let order = order_of(&limits);
             best = Some(longer(
                 best,
                 Partner {
@@ -377,6 +378,7 @@ fn next_partner(rule: &Rule, known: &[usize]) -> Option<Partner>
                     key,
                     tests: tests_at(rule, known),
                     limits,
+                    order,
                 },
             ));
         }
@@ -386,8 +388,8 @@ fn next_partner(rule: &Rule, known: &[usize]) -> Option<Partner>
 
 /// The plan of an occurrence: partners in the order in which they are to be looked for, with their keys. Next comes
 /// always a partner of which as many arguments are known as of any other that is left: constants, variables that stand
-/// in the active atom or in a partner before, and what the guard says is equal to such a one. Comparisons by an order
-/// limit it further, where its key alone may find many atoms that rest.
+/// in the active atom or in a partner before, and what the guard says is equal to such a one. Other comparisons limit
+/// it further, where its key alone may find many atoms that rest.
 // Not put into its caller, whose frame would hold the room that this one takes.
 #[inline(never)]
 pub fn plan_of(rule: &Rule, place: usize) -> ArrayVec<Partner, MAX_HEADS>

@@ -99,7 +99,7 @@ fn complete<R: Rows>(
         return false;
     }
     let key = key_values(heads, &lookup.partner.key);
-    let span = span_of(heads, &lookup.partner.limits);
+    let span = span_of(heads, lookup.partner.order, &lookup.partner.limits);
     let mut next = newest_from(rows, lookup, &key, &span, from);
     while let Some(row) = next {
         let seat = Seat {

@@ -1,3 +1,4 @@
 pub mod Bounds
 pub mod Chained
 pub mod Entries
+pub mod Pairs

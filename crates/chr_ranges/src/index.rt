@@ -139,7 +139,7 @@ impl Index {
     }
 
     /// The place, its number and one, of the newest live row with this hash and a value in the range, or 0.
-    fn first_place(&mut self, hash: u32, range: &Range) -> u32
+    pub(crate) fn first_place(&mut self, hash: u32, range: &Range) -> u32
         ensures same { self.new ≡ self.old }
         ensures within { result ≤ length self.old.rows }
         ensures wanted { 0 < result → IsWanted self.old.rows hash range.now (result - 1) }
@@ -169,7 +169,7 @@ impl Index {
     }
 
     /// The same, below any row.
-    fn place_below(&mut self, hash: u32, range: &Range, row: u32) -> u32
+    pub(crate) fn place_below(&mut self, hash: u32, range: &Range, row: u32) -> u32
         ensures same { self.new ≡ self.old }
         ensures within { result ≤ row }
         ensures wanted { 0 < result → IsWanted self.old.rows hash range.now (result - 1) }
@@ -185,7 +185,7 @@ impl Index {
     }
 
     /// The same, at any row or below it.
-    fn place_at_or_below(&mut self, hash: u32, range: &Range, row: u32) -> u32
+    pub(crate) fn place_at_or_below(&mut self, hash: u32, range: &Range, row: u32) -> u32
         ensures same { self.new ≡ self.old }
         ensures within { result ≤ row + 1 }
         ensures wanted { 0 < result → IsWanted self.old.rows hash range.now (result - 1) }

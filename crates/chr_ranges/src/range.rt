@@ -1,14 +1,16 @@
 //! Ranges of values.
-ghost use Rattle.std.specs.Prelude.{◌≡◌, ◌≤ℤ◌, ℤ};
+ghost use Rattle.std.specs.Prelude.{◌≡◌, ◌≤ℤ◌, ℤ, None};
 ghost use Rattle.std.specs.Bool.{OnTrue, OnFalse};
-ghost use Rattle.chr_ranges.specs.Rows.{IsIn};
+ghost use Rattle.chr_ranges.specs.Rows.{IsIn, IsOther};
 ghost use Rattle.chr_ranges.specs.working.Bounds.{IsInBounds};
 
-/// The values from the least to the most, both among them. An end that is None bounds nothing.
+/// The values from the least to the most, both among them, but for one. An end that is None bounds nothing, and an
+/// exception that is None leaves nothing out.
 #[derive(Clone, Copy, Debug, Default, PartialEq, Eq)]
 pub struct Range {
     pub least: Option<i64>,
     pub most: Option<i64>,
+    pub except: Option<i64>,
 }
 
 /// Values from `low` to `high`; none, where `low` is above `high`.
@@ -55,6 +57,7 @@ impl Range {
         Range {
             least: Some(least),
             most: self.most,
+            except: self.except,
         }
     }
 
@@ -70,6 +73,31 @@ impl Range {
         Range {
             least: self.least,
             most: Some(most),
+            except: self.except,
+        }
+    }
+
+    /// Those of its values that are not this one; all of them, where it leaves out another one already.
+    pub fn but(self, except: i64) -> Range
+        ensures narrow { (x : ℤ) → IsIn result x → IsIn self x }
+        ensures wide { (x : ℤ) → IsIn self x → ¬ (x ≡ except) → IsIn result x }
+        ensures first { self.except ≡ None → (x : ℤ) → IsIn result x → ¬ (x ≡ except) }
+    {
+        Range {
+            least: self.least,
+            most: self.most,
+            except: Some(self.except.unwrap_or(except)),
+        }
+    }
+
+    /// Whether its exception is all that lies within these bounds.
+    fn leaves_out(&self, bounds: Bounds) -> bool
+        ensures itself { OnFalse result ((x : ℤ) → bounds.low ≡ x → bounds.high ≡ x → IsOther self.now.except x) }
+        ensures none { OnTrue result ((x : ℤ) → IsInBounds bounds x → IsOther self.now.except x → ⊥) }
+    {
+        match self.except {
+            Some(except) => bounds.low == except && bounds.high == except,
+            None => false,
         }
     }
 
@@ -86,6 +114,6 @@ impl Range {
             Some(most) => bounds.low <= most,
             None => true,
         };
-        above && below
+        above && below && !self.leaves_out(bounds)
     }
 }

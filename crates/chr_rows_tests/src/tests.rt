@@ -1,4 +1,5 @@
 //! Rows whose places are written out by hand.
 mod chains;
+mod crossings;
 mod lanes;
 mod ranges;

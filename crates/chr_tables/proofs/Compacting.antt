@@ -4,9 +4,9 @@ use Rattle.std.specs.Prelude.{Some, None, filter, is_some}
 use Rattle.std.proofs.lemmas.Bool.{cases_lt}
 use Rattle.std.proofs.lemmas.List.{get_or-set_same, get_or-set_other, get_or_past, take_more_set, drop-set-lt, drop_more, append_assoc, map_more}
 use Rattle.chr_base.specs.declared.atom.Atom.{Atom}
-use Rattle.chr_ranges.specs.Rows.{Entry}
 use Rattle.chr_tables.specs.declared.shape.Shape.{Shape}
 use Rattle.chr_tables.specs.working.Cells.{cell_value, arguments, row_atom, row_atoms}
+use Rattle.chr_tables.specs.working.Finders.{Found}
 use Rattle.chr_tables.specs.working.Indexes.{live, chosen, Way, no_way, atom_entry, AreIndexed}
 use Rattle.chr_tables.proofs.InColumns.{atom_at}
 use Rattle.chr_tables.proofs.Lives.{indexed_push}
@@ -157,7 +157,7 @@ all_live (a ∷ as') (b ∷ bs) e h =
     λ i. first i ∷ rest i
 
 -- one row more has entered each index
-pub entered_more : (atoms : List Atom) (ways : List Way) (entries entries' : List (List (Option Entry))) (row : ℕ) (a : Atom) → row < length atoms → a ≡ get_or atoms row a
+pub entered_more : (atoms : List Atom) (ways : List Way) (entries entries' : List (List (Option Found))) (row : ℕ) (a : Atom) → row < length atoms → a ≡ get_or atoms row a
     → AreIndexed (map (λ a. Some a) (take row atoms)) ways entries
     → ((j : ℕ) → j < length ways → get_or entries' j [] ≡ get_or entries j [] ++ Some (atom_entry (get_or ways j no_way) a) ∷ [])
     → AreIndexed (map (λ a. Some a) (take (row + 1) atoms)) ways entries'

@@ -1,32 +1,78 @@
--- Rows that are found by their hash alone.
-use Rattle.std.proofs.Common.{◌≡◌, ℕ, List, map, get_or, Option, refl, sym, ap, ◌∙◌}
+-- Rows as indexes have them.
+use Rattle.std.proofs.Common.{◌≡◌, ℕ, ℤ, pos, List, map, get_or, Option, refl, sym, ap, subst, ◌∙◌}
 use Rattle.std.specs.Prelude.{Some, None, option_map}
 use Rattle.std.proofs.Math.ListN.{get_or-map}
 use Rattle.std.proofs.lemmas.Option.{same_Some}
-use Rattle.chr_chains.specs.Rows.{HasHash}
-use Rattle.chr_ranges.specs.Rows as ranges
-use Rattle.chr_ranges.specs.Rows.{Entry}
-use Rattle.chr_chains.specs.Rows.{Listed}
+use Rattle.chr_chains.specs.Rows.{HasHash, Listed}
+use Rattle.chr_ranges.specs.Rows.{ListedEntries, ListedPairs, IsIn, IsWanted, IsCrossed}
+use Rattle.chr_ranges.specs.declared.range.Range.{Range}
+use Rattle.chr_plans.specs.declared.key.Band.{Band}
 use Rattle.chr_plans.specs.declared.key.Span.{Span}
-use Rattle.chr_tables.specs.working.Finders.{hashed, IsFinderRow}
-use Rattle.chr_tables.specs.declared.finder.Finder.TheVariants.{Chained}
+use Rattle.chr_tables.specs.working.Finders.{Found, hashed, ranged, crossed, IsFinderRow}
+use Rattle.chr_tables.specs.declared.finder.Finder.TheVariants.{Chained, Ranged, Crossed}
 
-entry_at : (rows : List (Option ℕ)) (r : ℕ) → get_or (map (option_map hashed) rows) r None ≡ option_map hashed (get_or rows r None)
-entry_at rows r = get_or-map (option_map hashed) rows r None
+module _ {X : Type 0} (f : X → Found) (rows : List (Option X)) (r : ℕ) where
+  found_at : (x : X) → get_or rows r None ≡ Some x → get_or (map (option_map f) rows) r None ≡ Some (f x)
+  found_at x e = get_or-map (option_map f) rows r None ∙ ap (option_map f) e
 
--- a row with the hash has an entry with it, and the other way round
-has_entry : (rows : List (Option ℕ)) (h r : ℕ) → HasHash rows h r → ranges.HasEntryHash (map (option_map hashed) rows) h r
-has_entry rows h r e = (hashed h, entry_at rows r ∙ ap (option_map hashed) e, refl)
+  mapped : (o : Option X) (e : Found) → option_map f o ≡ Some e → (x : X) × (o ≡ Some x) × (f x ≡ e)
+  mapped None e there = absurd (let z : ◌≡◌ {A = Option Found} None (Some e) = there in cc)
+  mapped (Some x) e there = (x, refl, same_Some (f x) e there)
 
-pub has_hash : (rows : List (Option ℕ)) (h r : ℕ) (e : Entry) → get_or (map (option_map hashed) rows) r None ≡ Some e → e.hash ≡ h → HasHash rows h r
-has_hash rows h r e there is = by (get_or rows r None) refl (sym (entry_at rows r) ∙ there)
-  where
-    by : (o : Option ℕ) → get_or rows r None ≡ o → option_map hashed o ≡ Some e → get_or rows r None ≡ Some h
-    by None f g = absurd (let z : ◌≡◌ {A = Option Entry} None (Some e) = g in cc)
-    by (Some x) f g = f ∙ ap Some (ap (λ (y : Entry). y.hash) (same_Some (hashed x) e g) ∙ is)
+  found_of : (e : Found) → get_or (map (option_map f) rows) r None ≡ Some e → (x : X) × (get_or rows r None ≡ Some x) × (f x ≡ e)
+  found_of e there = mapped (get_or rows r None) e (sym (get_or-map (option_map f) rows r None) ∙ there)
 
--- and is sought where there is no order, whatever the span
-pub plain_sought : (index : Listed) (h : ℕ) (span : Span) (r : ℕ) → HasHash index.rows h r → IsFinderRow (Chained index) h span r
-plain_sought index h span r e =
-    let w = has_entry index.rows h r e in
-    (w.0, w.1, w.2, λ o. absurd (let z : ◌≡◌ {A = Option ℕ} None (Some span.column) = o in cc))
+no_column : (c : ℕ) {P : Type 0} → ◌≡◌ {A = Option ℕ} None (Some c) → P
+no_column c e = absurd (let z : ◌≡◌ {A = Option ℕ} None (Some c) = e in cc)
+
+-- the range allows what the band's does, if the column is the band's
+abbrev pub IsWide : ℕ → Band → Range → Type 0
+IsWide column band range = (x : ℤ) → (column ≡ band.column → IsIn band.range x) → IsIn range x
+
+abbrev pub IsNarrow : ℕ → Band → Range → Type 0
+IsNarrow column band range = column ≡ band.column → (x : ℤ) → IsIn range x → IsIn band.range x
+
+-- by the hash alone
+pub chained_found : (index : Listed) (h : ℕ) (span : Span) (r : ℕ) → HasHash index.rows h r → IsFinderRow (Chained index) h span r
+chained_found index h span r e = (hashed h, found_at hashed index.rows r h e, refl, no_column span.first.column, no_column span.second.column)
+
+pub found_chained : (index : Listed) (h : ℕ) (span : Span) (r : ℕ) → IsFinderRow (Chained index) h span r → HasHash index.rows h r
+found_chained index h span r s =
+    let m = found_of hashed index.rows r s.0 s.1 in
+    m.1 ∙ ap Some (ap (λ (e : Found). e.hash) m.2 ∙ s.2)
+
+-- and by a value
+module _ (column : ℕ) (index : ListedEntries) (h : ℕ) (span : Span) (range : Range) (r : ℕ) where
+  pub ranged_found : IsNarrow column span.first range → IsWanted index.rows h range r → IsFinderRow (Ranged column index) h span r
+  ranged_found narrow w =
+      (ranged w.0, found_at ranged index.rows r w.0 w.1, w.2, λ e. narrow (same_Some _ _ e) w.0.value w.3, no_column span.second.column)
+
+  pub found_ranged : IsWide column span.first range → IsFinderRow (Ranged column index) h span r → IsWanted index.rows h range r
+  found_ranged wide s =
+      let m = found_of ranged index.rows r s.0 s.1 in (
+        m.0,
+        m.1,
+        ap (λ (e : Found). e.hash) m.2 ∙ s.2,
+        wide m.0.value (λ e. subst (IsIn span.first.range) (sym (ap (λ (x : Found). get_or x.values 0 (pos 0)) m.2)) (s.3 (ap Some e))),
+      )
+
+-- and by two
+module _ (one two : ℕ) (index : ListedPairs) (h : ℕ) (span : Span) (first second : Range) (r : ℕ) where
+  pub crossed_found : IsNarrow one span.first first → IsNarrow two span.second second → IsCrossed index.rows h first second r → IsFinderRow (Crossed one two index) h span r
+  crossed_found narrow narrow_too w = (
+    crossed w.0,
+    found_at crossed index.rows r w.0 w.1,
+    w.2,
+    λ e. narrow (same_Some _ _ e) w.0.first w.3,
+    λ e. narrow_too (same_Some _ _ e) w.0.second w.4,
+  )
+
+  pub found_crossed : IsWide one span.first first → IsWide two span.second second → IsFinderRow (Crossed one two index) h span r → IsCrossed index.rows h first second r
+  found_crossed wide wide_too s =
+      let m = found_of crossed index.rows r s.0 s.1 in (
+        m.0,
+        m.1,
+        ap (λ (e : Found). e.hash) m.2 ∙ s.2,
+        wide m.0.first (λ e. subst (IsIn span.first.range) (sym (ap (λ (x : Found). get_or x.values 0 (pos 0)) m.2)) (s.3 (ap Some e))),
+        wide_too m.0.second (λ e. subst (IsIn span.second.range) (sym (ap (λ (x : Found). get_or x.values 1 (pos 0)) m.2)) (s.4 (ap Some e))),
+      )

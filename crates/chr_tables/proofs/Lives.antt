@@ -5,10 +5,9 @@ use Rattle.std.proofs.lemmas.Bool.{cases_lt}
 use Rattle.std.proofs.Math.Seq.{get_or-append_seam}
 use Rattle.std.proofs.lemmas.List.{get_or-map, map-set, get_or_past, get_or_append_left, map-append, length-map}
 use Rattle.chr_base.specs.declared.atom.Atom.{Atom}
-use Rattle.chr_ranges.specs.Rows.{Entry}
 use Rattle.chr_tables.specs.declared.indexes.Keyed.{Keyed}
 use Rattle.chr_tables.specs.working.Indexes.{live, Way, no_way, way_of, atom_entry, entry_in, keyed_entries, ways_of, key_columns, rooms_of, AreIndexed, IsTable}
-use Rattle.chr_tables.specs.working.Finders.{order_in, finder_rows, room_in}
+use Rattle.chr_tables.specs.working.Finders.{Found, order_in, finder_rows, room_in}
 
 pub length_live : (as' : List Atom) (bs : List Bool) → length bs ≡ length as' → length (live as' bs) ≡ length as'
 length_live [] bs e = refl
@@ -82,7 +81,7 @@ pub length_columns : (ks : List Keyed) → length (key_columns ks) ≡ length ks
 length_columns ks = length-map (ways_of ks) (λ w. w.columns) ∙ length_ways ks
 
 -- each index has as many rows as the table
-pub as_many : (rows : List (Option Atom)) (ways : List Way) (entries : List (List (Option Entry))) → AreIndexed rows ways entries → (j : ℕ) → j < length ways
+pub as_many : (rows : List (Option Atom)) (ways : List Way) (entries : List (List (Option Found))) → AreIndexed rows ways entries → (j : ℕ) → j < length ways
     → length (get_or entries j []) ≡ length rows
 as_many rows ways entries h j l = ap length (h j l) ∙ length-map rows (entry_in (get_or ways j no_way))
 
@@ -95,11 +94,11 @@ each_few atoms alive ks t f j l =
     let k = length_live atoms alive t.as_alive in
     omega (arith, n, k, f)
 
-indexed_kill : (rows : List (Option Atom)) (ways : List Way) (entries entries' : List (List (Option Entry))) (r : ℕ) → AreIndexed rows ways entries
+indexed_kill : (rows : List (Option Atom)) (ways : List Way) (entries entries' : List (List (Option Found))) (r : ℕ) → AreIndexed rows ways entries
     → ((j : ℕ) → get_or entries' j [] ≡ set (get_or entries j []) r None) → AreIndexed (set rows r None) ways entries'
 indexed_kill rows ways entries entries' r h k j l = k j ∙ ap (λ xs. set xs r None) (h j l) ∙ sym (map-set (entry_in (get_or ways j no_way)) rows r None)
 
-pub indexed_push : (rows : List (Option Atom)) (ways : List Way) (entries entries' : List (List (Option Entry))) (a : Atom) → AreIndexed rows ways entries
+pub indexed_push : (rows : List (Option Atom)) (ways : List Way) (entries entries' : List (List (Option Found))) (a : Atom) → AreIndexed rows ways entries
     → ((j : ℕ) → j < length ways → get_or entries' j [] ≡ get_or entries j [] ++ Some (atom_entry (get_or ways j no_way) a) ∷ [])
     → AreIndexed (rows ++ Some a ∷ []) ways entries'
 indexed_push rows ways entries entries' a h k j l =

@@ -1,15 +1,17 @@
 -- Tables as callers see them.
 use Rattle.std.specs.Prelude.{◌≡◌, ℕ, ℤ, List, [], get_or, slice_get, Option, Some, None}
 use Rattle.chr_base.specs.declared.atom.Atom.{Atom}
+use Rattle.chr_plans.specs.declared.key.Band.{Band}
 use Rattle.chr_plans.specs.declared.key.Span.{Span}
+use Rattle.chr_plans.specs.Keys.{IsInBand}
 use Rattle.chr_plans.specs.Rows.{Tables, Columns}
 
--- the atom of each row, or None where the row is dead; of each index its columns, and the column in whose order it finds
--- rows, where there is one
+-- the atom of each row, or None where the row is dead; of each index its columns, and the columns by whose values it
+-- leaves rows behind
 pub record Contents : Type 0 where
   pub rows : List (Option Atom)
   pub keys : List (List ℕ)
-  pub orders : List (Option ℕ)
+  pub orders : List (List ℕ)
 
 -- what is read past the last table
 abbrev pub no_table : Contents
@@ -27,6 +29,11 @@ index_columns tables table index = slice_get (get_or tables table no_table).keys
 abbrev pub HasArgument : ℕ → ℤ → Option Atom → Type 0
 HasArgument column value row = (a : Atom) × (row ≡ Some a) × (slice_get a.args.items column ≡ Some value)
 
--- the index finds rows in the order of the span's column
-abbrev pub GoesBy : List (Option ℕ) → ℕ → Span → Type 0
-GoesBy orders index span = slice_get orders index ≡ Some (Some span.column)
+-- the atom is in the band, if the column of that number in the order is the band's
+abbrev pub IsInBandBy : List ℕ → ℕ → Band → Atom → Type 0
+IsInBandBy order j band a = slice_get order j ≡ Some band.column → IsInBand band a
+
+-- the row lives, and is in those bands of the span by which such an index leaves rows behind
+abbrev pub LiesBy : List ℕ → Span → Option Atom → Type 0
+LiesBy order span row =
+    (a : Atom) × (row ≡ Some a) × IsInBandBy order 0 span.first a × IsInBandBy order 1 span.second a

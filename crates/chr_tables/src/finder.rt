@@ -1,11 +1,11 @@
 //! How an index finds rows.
 ghost use Rattle.std.specs.Prelude.{◌≡◌, ℕ, ℤ, ◌+◌, ◌<◌, ◌≤◌, ◌^◌, ◌∷◌, ◌++◌, [], length, set, Some, None, OnOk, IfOk, IfSome, IfNone};
-ghost use Rattle.chr_plans.specs.Keys.{argument};
+ghost use Rattle.chr_plans.specs.Keys.{argument, key_of, columns_by};
 ghost use Rattle.chr_ranges.specs.Rows.{IsIn};
-ghost use Rattle.chr_tables.specs.working.Finders.{order_in, finder_rows, room_in, ordered, IsFinderRow};
+ghost use Rattle.chr_tables.specs.working.Finders.{order_in, finder_rows, room_in, IsFinderRow};
 
 use chr_base::atom::Atom;
-use chr_plans::key::Span;
+use chr_plans::key::{Band, Order, Span};
 use chr_ranges::Range;
 use std::alloc::{AllocError, Global};
 
@@ -30,31 +30,42 @@ pub(crate) enum Finder {
         column: usize,
         index: chr_ranges::Index,
     },
+    /// And by the values in two columns.
+    Crossed {
+        first: usize,
+        second: usize,
+        index: chr_ranges::Crossing,
+    },
 }
 
-/// The range of a span, where it speaks of this column; else all values.
-fn range_for(column: usize, span: &Span) -> Range
-    ensures wide { (x : ℤ) → (column ≡ span.now.column → IsIn span.now.range x) → IsIn result x }
-    ensures narrow { column ≡ span.now.column → (x : ℤ) → IsIn result x → IsIn span.now.range x }
+/// The range of a band, where it is of this column; else all values.
+fn range_for(column: usize, band: Band) -> Range
+    ensures wide { (x : ℤ) → (column ≡ band.column → IsIn band.range x) → IsIn result x }
+    ensures narrow { column ≡ band.column → (x : ℤ) → IsIn result x → IsIn band.range x }
 {
-    if column == span.column {
-        span.range
+    if column == band.column {
+        band.range
     } else {
         Range::default()
     }
 }
 
 impl Finder {
-    /// The one of no rows, by the values in this column, where there is one.
-    pub(crate) fn new(alloc: Global, order: Option<usize>) -> Result<Finder, AllocError>
-        ensures order { IfOk result (λ f. order_in f ≡ order) }
+    /// The one of no rows, by the values in the order's columns.
+    pub(crate) fn new(alloc: Global, order: Order) -> Result<Finder, AllocError>
+        ensures order { IfOk result (λ f. order_in f ≡ columns_by order) }
         ensures rows { IfOk result (λ f. finder_rows f ≡ []) }
     {
         match order {
-            None => Ok(Finder::Chained(chr_chains::Index::new(alloc)?)),
-            Some(column) => Ok(Finder::Ranged {
+            Order::Unordered => Ok(Finder::Chained(chr_chains::Index::new(alloc)?)),
+            Order::By(column) => Ok(Finder::Ranged {
                 column,
                 index: chr_ranges::Index::new(alloc)?,
+            }),
+            Order::ByBoth(first, second) => Ok(Finder::Crossed {
+                first,
+                second,
+                index: chr_ranges::Crossing::new(alloc)?,
             }),
         }
     }
@@ -69,6 +80,7 @@ impl Finder {
         match self {
             Finder::Chained(index) => index.reserve(1),
             Finder::Ranged { index, .. } => index.reserve(1),
+            Finder::Crossed { index, .. } => index.reserve(1),
         }
     }
 
@@ -78,12 +90,17 @@ impl Finder {
         requires few { length (finder_rows self.old) + 1 < 2 ^ 32 }
         ensures order { order_in self.new ≡ order_in self.old }
         ensures rows { finder_rows self.new ≡ finder_rows self.old
-            ++ Some (record { hash = hash; value = ordered (order_in self.old) atom.now }) ∷ [] }
+            ++ Some (record { hash = hash; values = key_of (order_in self.old) atom.now }) ∷ [] }
         ensures room { room_in self.new ≡ room_in self.old }
     {
         match self {
             Finder::Chained(index) => index.push(hash),
             Finder::Ranged { column, index } => index.push(hash, argument(atom, *column)),
+            Finder::Crossed {
+                first,
+                second,
+                index,
+            } => index.push(hash, argument(atom, *first), argument(atom, *second)),
         }
     }
 
@@ -96,6 +113,7 @@ impl Finder {
         match self {
             Finder::Chained(index) => index.clear(),
             Finder::Ranged { index, .. } => index.clear(),
+            Finder::Crossed { index, .. } => index.clear(),
         }
     }
 
@@ -109,6 +127,7 @@ impl Finder {
         match self {
             Finder::Chained(index) => index.kill(row),
             Finder::Ranged { index, .. } => index.kill(row),
+            Finder::Crossed { index, .. } => index.kill(row),
         }
     }
 
@@ -121,7 +140,15 @@ impl Finder {
     {
         match self {
             Finder::Chained(index) => index.first(hash),
-            Finder::Ranged { column, index } => index.first(hash, &range_for(*column, span)),
+            Finder::Ranged { column, index } => index.first(hash, &range_for(*column, span.first)),
+            Finder::Crossed {
+                first,
+                second,
+                index,
+            } => {
+                let first = range_for(*first, span.first);
+                index.first(hash, &first, &range_for(*second, span.second))
+            }
         }
     }
 
@@ -136,7 +163,17 @@ impl Finder {
     {
         match self {
             Finder::Chained(index) => index.next(hash, row),
-            Finder::Ranged { column, index } => index.next(hash, &range_for(*column, span), row),
+            Finder::Ranged { column, index } => {
+                index.next(hash, &range_for(*column, span.first), row)
+            }
+            Finder::Crossed {
+                first,
+                second,
+                index,
+            } => {
+                let first = range_for(*first, span.first);
+                index.next(hash, &first, &range_for(*second, span.second), row)
+            }
         }
     }
 
@@ -152,7 +189,15 @@ impl Finder {
         match self {
             Finder::Chained(index) => index.at_or_below(hash, row),
             Finder::Ranged { column, index } => {
-                index.at_or_below(hash, &range_for(*column, span), row)
+                index.at_or_below(hash, &range_for(*column, span.first), row)
+            }
+            Finder::Crossed {
+                first,
+                second,
+                index,
+            } => {
+                let first = range_for(*first, span.first);
+                index.at_or_below(hash, &first, &range_for(*second, span.second), row)
             }
         }
     }

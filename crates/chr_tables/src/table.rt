@@ -3,7 +3,8 @@ ghost use Rattle.std.specs.Prelude.{◌≡◌, ℕ, ◌+◌, ◌*◌, ◌<◌, �
 ghost use Rattle.std.specs.Bool.{OnTrue, OnFalse};
 ghost use Rattle.chr_base.specs.declared.limits.TheConstants.{MAX_ARITY};
 ghost use Rattle.chr_plans.specs.Rows.{HasKey, LiesIn};
-ghost use Rattle.chr_tables.specs.Contents.{HasArgument, GoesBy};
+ghost use Rattle.chr_plans.specs.Keys.{columns_by};
+ghost use Rattle.chr_tables.specs.Contents.{HasArgument, LiesBy};
 ghost use Rattle.chr_tables.specs.working.Indexes.{chosen};
 
 use crate::cells::Cells;
@@ -13,7 +14,7 @@ use crate::indexes::{Keyed, clear_in, enter_all, kill_in, push_in, reserve_in};
 use arrayvec::ArrayVec;
 use chr_base::atom::Atom;
 use chr_base::limits::MAX_ARITY;
-use chr_plans::key::Span;
+use chr_plans::key::{Order, Span};
 use std::alloc::{AllocError, Global};
 use std::marker::Model;
 
@@ -103,20 +104,19 @@ impl Table {
         self.atoms.len()
     }
 
-    /// One more index, by these columns, of a table without rows. Its number is how many there were. Where `order` is a
-    /// column too, look-ups pass over rows whose value there lies outside a span of it. Keys are hashed under the seed,
-    /// on which no answer depends.
+    /// One more index, by these columns, of a table without rows. Its number is how many there were. Look-ups leave rows
+    /// behind that lie outside a span by the order's columns. Keys are hashed under the seed, on which no answer depends.
     pub fn add_index(
         &mut self,
         alloc: Global,
         seed: u64,
         columns: ArrayVec<usize, MAX_ARITY>,
-        order: Option<usize>,
+        order: Order,
     ) -> Result<(), AllocError>
         requires { self.old.rows ≡ [] }
         ensures rows { self.new.rows ≡ [] }
         ensures ok { OnOk result (self.new.keys ≡ self.old.keys ++ columns.items ∷ []) }
-        ensures ordered { OnOk result (self.new.orders ≡ self.old.orders ++ order ∷ []) }
+        ensures ordered { OnOk result (self.new.orders ≡ self.old.orders ++ columns_by order ∷ []) }
         ensures err { OnErr result (self.new.keys ≡ self.old.keys) }
         ensures err_ordered { OnErr result (self.new.orders ≡ self.old.orders) }
     {
@@ -131,14 +131,14 @@ impl Table {
     }
 
     /// The newest row that a look-up of this key and span by an index meets. It meets each live row that has the key and
-    /// lies in the span, and may meet other live rows, whose keys have the same hash; where the index goes by the order
-    /// of the span's column, all of them lie in the span.
+    /// lies in the span, and may meet other live rows, whose keys have the same hash; all of them lie in those bands of the
+    /// span whose columns are those of the index's order.
     pub fn first(&mut self, index: usize, key: &[i64], span: &Span) -> Option<usize>
         requires { index < length self.old.keys }
         ensures same { self.new ≡ self.old }
         ensures lives { IfSome result (λ row. IsTrue (is_some (get_or self.old.rows row None))) }
-        ensures within { GoesBy self.old.orders index span.now →
-            IfSome result (λ row. LiesIn span.now (get_or self.old.rows row None)) }
+        ensures within { IfSome result (λ row.
+            LiesBy (get_or self.old.orders index []) span.now (get_or self.old.rows row None)) }
         ensures newest { IfSome result (λ row. (other : ℕ) →
             HasKey (slice_get self.old.keys index) key.now (get_or self.old.rows other None) →
             LiesIn span.now (get_or self.old.rows other None) → other ≤ row) }
@@ -157,8 +157,8 @@ impl Table {
         ensures same { self.new ≡ self.old }
         ensures below { IfSome result (λ next. next < row) }
         ensures lives { IfSome result (λ next. IsTrue (is_some (get_or self.old.rows next None))) }
-        ensures within { GoesBy self.old.orders index span.now →
-            IfSome result (λ next. LiesIn span.now (get_or self.old.rows next None)) }
+        ensures within { IfSome result (λ next.
+            LiesBy (get_or self.old.orders index []) span.now (get_or self.old.rows next None)) }
         ensures newest { IfSome result (λ next. (other : ℕ) → other < row →
             HasKey (slice_get self.old.keys index) key.now (get_or self.old.rows other None) →
             LiesIn span.now (get_or self.old.rows other None) → other ≤ next) }
@@ -185,8 +185,8 @@ impl Table {
         ensures same { self.new ≡ self.old }
         ensures at_or_below { IfSome result (λ next. next ≤ row) }
         ensures lives { IfSome result (λ next. IsTrue (is_some (get_or self.old.rows next None))) }
-        ensures within { GoesBy self.old.orders index span.now →
-            IfSome result (λ next. LiesIn span.now (get_or self.old.rows next None)) }
+        ensures within { IfSome result (λ next.
+            LiesBy (get_or self.old.orders index []) span.now (get_or self.old.rows next None)) }
         ensures newest { IfSome result (λ next. (other : ℕ) → other ≤ row →
             HasKey (slice_get self.old.keys index) key.now (get_or self.old.rows other None) →
             LiesIn span.now (get_or self.old.rows other None) → other ≤ next) }

@@ -10,7 +10,7 @@ mod searches;
 use arrayvec::ArrayVec;
 use chr_base::atom::Atom;
 use chr_base::limits::MAX_ARITY;
-use chr_plans::key::Span;
+use chr_plans::key::{Order, Span};
 use chr_plans::rows::Rows;
 use chr_tables::hash::FIXED_SEED;
 use chr_tables::table::Table;
@@ -34,8 +34,8 @@ fn table_of(alloc: Global, atoms: &[Atom]) -> Result<Table, AllocError>
     ensures keys { IfOk result (λ t. length t.keys ≡ 2) }
 {
     let mut table = Table::new(alloc);
-    table.add_index(alloc, FIXED_SEED, columns(&[0]), None)?;
-    table.add_index(alloc, FIXED_SEED, columns(&[2, 1]), None)?;
+    table.add_index(alloc, FIXED_SEED, columns(&[0]), Order::Unordered)?;
+    table.add_index(alloc, FIXED_SEED, columns(&[2, 1]), Order::Unordered)?;
     for atom in atoms {
         table.insert(atom)?;
     }

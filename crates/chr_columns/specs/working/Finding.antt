@@ -2,6 +2,7 @@
 use Rattle.std.specs.Prelude.{◌≡◌, ℕ, zero, suc, ◌+◌, ◌<◌, List, [], ◌∷◌, length, get_or, set}
 use Rattle.std.specs.Prelude.{Option, Some, None, IsTrue, is_some}
 use Rattle.chr_base.specs.declared.atom.Atom.{Atom}
+use Rattle.chr_plans.specs.declared.key.Order.TheVariants.{Unordered}
 use Rattle.chr_plans.specs.declared.plan.Lookup.{Lookup}
 use Rattle.chr_plans.specs.Rows.{Tables, Columns}
 use Rattle.chr_tables.specs.Contents.{Contents}
@@ -33,6 +34,7 @@ plain place = record {
     key = record { items = [] };
     tests = record { items = [] };
     limits = record { items = [] };
+    order = Unordered;
   };
   table = 0;
   index = 0;

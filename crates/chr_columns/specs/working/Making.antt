@@ -1,5 +1,6 @@
 -- The columns of indexes and the plans, as they are collected.
-use Rattle.std.specs.Prelude.{◌≡◌, ℕ, List, [], map, get_or, slice_get, Option, Some}
+use Rattle.std.specs.Prelude.{◌≡◌, ℕ, List, [], map, get_or, slice_get, Some}
+use Rattle.chr_plans.specs.declared.key.Order.{Order}
 use Rattle.chr_plans.specs.Rows.{Columns}
 use Rattle.chr_columns.specs.declared.groups.Group.{Group}
 use Rattle.chr_columns.specs.declared.making.Keys.{Keys}
@@ -7,11 +8,11 @@ use Rattle.chr_columns.specs.declared.making.Way.{Way}
 use Rattle.chr_columns.specs.working.Groups.{shapes_of}
 use Rattle.chr_columns.specs.working.Resting.{HasPlan}
 
--- the columns of an index, and the one by whose order of values it finds rows
-abbrev pub made_way : Way → List ℕ × Option ℕ
+-- the columns of an index, and those by whose values it leaves rows behind
+abbrev pub made_way : Way → List ℕ × Order
 made_way w = (w.columns.items, w.order)
 
-abbrev pub made_ways : Keys → List (List ℕ × Option ℕ)
+abbrev pub made_ways : Keys → List (List ℕ × Order)
 made_ways k = map made_way k.ways.items
 
 -- the columns of the indexes of a table

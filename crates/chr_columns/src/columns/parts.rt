@@ -5,7 +5,7 @@ ghost use Rattle.chr_base.specs.Rewriting.{IsAtRest};
 ghost use Rattle.chr_base.specs.Rules.{Step};
 ghost use Rattle.chr_base.specs.Stores.{size, store_of};
 
-use crate::arranging::{arrange, arranged};
+use crate::arranging::{arrange, arranged, crossed};
 use crate::columns::Columns;
 use crate::joining::join_in;
 use chr_base::atom::Atom;
@@ -24,13 +24,14 @@ impl Columns {
     }
 
     /// Many fresh atoms are put in the order of the arguments by which the pool's rules join them, for a rest that
-    /// comes next: partners are then taken one after another. The store stays the same. It takes no memory.
+    /// comes next: partners are then taken one after another. So are few where plans leave rows behind by two columns.
+    /// The store stays the same. It takes no memory.
     pub fn arrange(&mut self)
         ensures { self.new ≡ self.old }
     {
-        if self.fresh.len() > FEW_ATOMS {
+        if self.fresh.len() > FEW_ATOMS || crossed(&self.rested.groups).is_some() {
             self.standing = None;
-            arrange(&self.rested.rules, &mut self.fresh);
+            arrange(&self.rested, &mut self.fresh);
         }
     }
 

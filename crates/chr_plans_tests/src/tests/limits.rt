@@ -1,10 +1,10 @@
-//! Limits by an order, and the spans that they leave.
+//! Limits by orders and inequalities, and the spans that they leave.
 use super::{copied, partner, plan};
 use arrayvec::ArrayVec;
 use chr_base::atom::Atom;
 use chr_base::limits::MAX_COMPARISONS;
 use chr_base::term::Cmp;
-use chr_plans::key::{Limit, Source, Span, first_column, span_of};
+use chr_plans::key::{Band, Limit, Order, Source, Span, order_of, span_of};
 use chr_plans::plan::Partner;
 use chr_ranges::Range;
 use chr_testing::atoms::atom;
@@ -38,7 +38,7 @@ fn by_constant(column: usize, cmp: Cmp, value: i64) -> Limit {
 
 /// The span that limits leave under these heads.
 fn span_under(heads: &[Atom], limits: &ArrayVec<Limit, MAX_COMPARISONS>) -> Span {
-    span_of(heads, limits)
+    span_of(heads, order_of(limits), limits)
 }
 
 /// The span that one limit of the second column leaves, by this value of the first head.
@@ -56,12 +56,25 @@ fn span_of_both(first: Limit, second: Limit) -> Span {
     span_under(&[atom(0, &[7])], &limits)
 }
 
+fn range(least: Option<i64>, most: Option<i64>) -> Range {
+    Range {
+        least,
+        most,
+        except: None,
+    }
+}
+
+/// This range of the one column.
+fn alone(column: usize, range: Range) -> Span {
+    Span {
+        first: Band { column, range },
+        second: Band::default(),
+    }
+}
+
 /// These ends in the second column.
 fn between(least: Option<i64>, most: Option<i64>) -> Span {
-    Span {
-        column: 1,
-        range: Range { least, most },
-    }
+    alone(1, range(least, most))
 }
 
 /// A sign, a value, and the ends that it leaves.
@@ -76,18 +89,29 @@ fn expect_spans(rt: &impl Abort, rows: &[Row]) {
     }
 }
 
-const SIGNS: [Row; 6] = [
+const SIGNS: [Row; 5] = [
     (Cmp::Less, 7, None, Some(6)),
     (Cmp::AtMost, 7, None, Some(7)),
     (Cmp::Greater, 7, Some(8), None),
     (Cmp::AtLeast, 7, Some(7), None),
     (Cmp::Equal, 7, None, None),
-    (Cmp::NotEqual, 7, None, None),
 ];
 
 #[test]
 fn each_sign_of_an_order_bounds_a_span(rt: HostRuntime) {
     expect_spans(&rt, &SIGNS);
+}
+
+#[test]
+fn an_inequality_leaves_out_one_value(rt: HostRuntime) {
+    let but_seven = Range::default().but(7);
+    assert!(rt; span_by(Cmp::NotEqual, 7) == alone(1, but_seven));
+    assert!(rt; but_seven.has(6) && !but_seven.has(7) && but_seven.has(8));
+    let above = by_constant(1, Cmp::Greater, 3);
+    let both = span_of_both(by_known(1, Cmp::NotEqual), above);
+    assert!(rt; both == alone(1, but_seven.at_least(4)));
+    let first = span_of_both(by_constant(1, Cmp::NotEqual, 5), by_known(1, Cmp::NotEqual));
+    assert!(rt; first == alone(1, Range::default().but(5)));
 }
 
 /// Where no value is below or above, the one at the end stays, and the rule decides.
@@ -117,21 +141,60 @@ fn limits_of_one_column_meet(rt: HostRuntime) {
     assert!(rt; span_of_both(same, by_known(1, Cmp::AtMost)) == between(Some(7), Some(7)));
     let none = span_of_both(by_known(1, Cmp::Greater), by_known(1, Cmp::AtMost));
     assert!(rt; none == between(Some(8), Some(7)));
-    assert!(rt; !none.range.has(7) && !none.range.has(8));
+    assert!(rt; !none.first.range.has(7) && !none.first.range.has(8));
 }
 
 #[test]
-fn the_first_limit_names_the_column(rt: HostRuntime) {
-    let other = by_constant(0, Cmp::Greater, 3);
-    assert!(rt; span_of_both(by_known(1, Cmp::Less), other) == between(None, Some(6)));
-    let both = span_of_both(other, by_known(1, Cmp::Less));
-    assert!(rt; both.column == 0);
-    assert!(rt; both.range == Range::default().at_least(4));
+fn limits_of_two_columns_are_two_bands(rt: HostRuntime) {
+    let lower = by_known(1, Cmp::Less);
+    let higher = by_constant(0, Cmp::Greater, 3);
+    let below = Band {
+        column: 1,
+        range: range(None, Some(6)),
+    };
+    let above = Band {
+        column: 0,
+        range: range(Some(4), None),
+    };
+    let one = span_of_both(lower, higher);
+    assert!(rt; one.first == below && one.second == above);
+    let other = span_of_both(higher, lower);
+    assert!(rt; other.first == above && other.second == below);
+}
+
+/// The order of three limits of these columns, each by this sign.
+fn order_by(limits: [(usize, Cmp); 3]) -> Order {
+    order_of(&limits.map(|(column, cmp)| by_known(column, cmp)))
+}
+
+#[test]
+fn orders_come_before_inequalities(rt: HostRuntime) {
+    use Cmp::{Greater, Less, NotEqual};
+    let rows = [
+        ([(0, Less), (1, Less), (2, Less)], Order::ByBoth(0, 1)),
+        (
+            [(0, NotEqual), (1, Less), (2, Greater)],
+            Order::ByBoth(1, 2),
+        ),
+        (
+            [(0, NotEqual), (2, Less), (2, Greater)],
+            Order::ByBoth(2, 0),
+        ),
+        ([(2, NotEqual), (2, Less), (2, Greater)], Order::By(2)),
+        (
+            [(1, NotEqual), (1, NotEqual), (0, NotEqual)],
+            Order::ByBoth(1, 0),
+        ),
+        ([(1, NotEqual), (1, NotEqual), (1, NotEqual)], Order::By(1)),
+    ];
+    for (limits, order) in rows {
+        assert!(rt; order_by(limits) == order, "{order:?}");
+    }
 }
 
 #[test]
 fn no_limits_leave_all(rt: HostRuntime) {
-    assert!(rt; first_column(&ArrayVec::new()) == None);
+    assert!(rt; order_of(&[]) == Order::Unordered);
     assert!(rt; span_under(&[atom(0, &[7])], &ArrayVec::new()) == Span::default());
 }
 
@@ -170,9 +233,14 @@ fn an_order_limits_partners(rt: HostRuntime) {
     assert!(rt; below.limits.as_slice() == [limit_by(Cmp::Less, 1, 0)].as_slice());
 }
 
-/// Whether these are the ends in the first column.
-fn is_range(span: &Span, least: Option<i64>, most: Option<i64>) -> bool {
-    span.column == 0 && span.range == Range { least, most }
+const SAME: &str = ":- chr_constraint a/1, b/1. a(X) \\ b(Y) <=> X =\\= Y | true.";
+
+#[test]
+fn an_inequality_limits_partners(rt: HostRuntime) {
+    let plan = plan(&rt, rt.alloc(), SAME, 0);
+    let other = only(&rt, &plan);
+    assert!(rt; other.limits.as_slice() == [limit_by(Cmp::NotEqual, 0, 0)].as_slice());
+    assert!(rt; other.order == Order::By(0) && copied(other).order == Order::By(0));
 }
 
 #[test]
@@ -182,7 +250,7 @@ fn both_ends_limit_a_partner(rt: HostRuntime) {
     let ends = [limit_by(Cmp::AtLeast, 0, 0), limit_by(Cmp::Less, 0, 1)];
     assert!(rt; inside.limits.as_slice() == ends.as_slice());
     let span = span_under(&[atom(0, &[3, 9])], &inside.limits);
-    assert!(rt; is_range(&span, Some(3), Some(8)));
+    assert!(rt; span == alone(0, range(Some(3), Some(8))));
 }
 
 #[test]
@@ -195,9 +263,10 @@ fn both_columns_of_a_partner_are_limited(rt: HostRuntime) {
     };
     let ends = [limit_by(Cmp::AtMost, 1, 0), above];
     assert!(rt; around.limits.as_slice() == ends.as_slice());
-    assert!(rt; first_column(&around.limits) == Some(0));
+    assert!(rt; around.order == Order::ByBoth(0, 1));
     let span = span_under(&[atom(9, &[]), atom(1, &[5])], &around.limits);
-    assert!(rt; is_range(&span, None, Some(5)));
+    assert!(rt; span.first.range == range(None, Some(5)));
+    assert!(rt; span.second.range == range(Some(6), None));
 }
 
 #[test]

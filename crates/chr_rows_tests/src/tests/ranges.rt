@@ -70,6 +70,7 @@ fn expect_first(rt: &impl Abort, index: &mut Index, rows: &[Row])
         let range = Range {
             least: *least,
             most: *most,
+            except: None,
         };
         assert!(rt; first(index, *hash, range) == *row, "{hash} in {range:?}");
     }
@@ -136,6 +137,29 @@ fn ranges_are_made_by_their_ends(rt: HostRuntime) {
     let mut index = index(&rt, rt.alloc(), &ROWS);
     assert!(rt; first(&mut index, 7, at_least(4)) == Some(3));
     assert!(rt; first(&mut index, 7, at_most(3)) == Some(5));
+}
+
+/// Rows of one hash with one value but for one of them.
+const ALIKE: [(u32, i64); 9] = [
+    (7, 5),
+    (7, 5),
+    (7, 6),
+    (7, 5),
+    (7, 5),
+    (7, 5),
+    (7, 5),
+    (7, 5),
+    (7, 5),
+];
+
+#[test]
+fn a_range_leaves_out_one_value(rt: HostRuntime) {
+    let mut index = index(&rt, rt.alloc(), &ALIKE);
+    let but_five = Range::default().but(5);
+    assert!(rt; first(&mut index, 7, but_five) == Some(2));
+    assert!(rt; second(&mut index, 7, but_five, but_five) == None);
+    assert!(rt; first(&mut index, 7, but_five.but(6)) == Some(2));
+    assert!(rt; first(&mut index, 7, both(5, 6).but(6)) == Some(8));
 }
 
 #[test]

@@ -6,8 +6,7 @@ use Rattle.chr_base.specs.declared.atom.Atom.{Atom}
 use Rattle.chr_base.specs.working.Codes.{coded_atom}
 use Rattle.chr_plans.specs.Keys.{key_of}
 use Rattle.chr_tables.specs.Hashes.{key_hash}
-use Rattle.chr_ranges.specs.Rows.{Entry}
-use Rattle.chr_tables.specs.working.Finders.{order_in, finder_rows, room_in, ordered}
+use Rattle.chr_tables.specs.working.Finders.{Found, order_in, finder_rows, room_in}
 use Rattle.chr_tables.specs.declared.indexes.Keyed.{Keyed}
 use Rattle.chr_tables.specs.Contents.{Contents}
 
@@ -23,28 +22,28 @@ chosen [] bs = []
 chosen (a ∷ as') [] = []
 chosen (a ∷ as') (b ∷ bs) = cond b (a ∷ chosen as' bs) (chosen as' bs)
 
--- under which seed and by which columns an index finds rows, and by the values in which column
+-- under which seed and by which columns an index finds rows, and by the values in which columns it leaves rows behind
 pub record Way : Type 0 where
   pub seed : ℕ
   pub columns : List ℕ
-  pub order : Option ℕ
+  pub order : List ℕ
 
 -- what is read past the last index
 abbrev pub no_way : Way
-no_way = record { seed = 0; columns = []; order = None }
+no_way = record { seed = 0; columns = []; order = [] }
 
 -- what such an index has of an atom, and of a row, or None where the row is dead
-abbrev pub atom_entry : Way → Atom → Entry
-atom_entry way a = record { hash = key_hash way.seed (key_of way.columns a); value = ordered way.order a }
+abbrev pub atom_entry : Way → Atom → Found
+atom_entry way a = record { hash = key_hash way.seed (key_of way.columns a); values = key_of way.order a }
 
-abbrev pub entry_in : Way → Option Atom → Option Entry
+abbrev pub entry_in : Way → Option Atom → Option Found
 entry_in way row = option_map (atom_entry way) row
 
 abbrev pub way_of : Keyed → Way
 way_of k = record { seed = k.seed; columns = k.columns.items; order = order_in k.index }
 
 -- of each index its rows, its way, its columns, its order, and the room that it has
-abbrev pub keyed_entries : List Keyed → List (List (Option Entry))
+abbrev pub keyed_entries : List Keyed → List (List (Option Found))
 keyed_entries ks = map (λ k. finder_rows k.index) ks
 
 abbrev pub ways_of : List Keyed → List Way
@@ -53,14 +52,14 @@ ways_of ks = map way_of ks
 abbrev pub key_columns : List Keyed → List (List ℕ)
 key_columns ks = map (λ w. w.columns) (ways_of ks)
 
-abbrev pub orders_of : List Keyed → List (Option ℕ)
+abbrev pub orders_of : List Keyed → List (List ℕ)
 orders_of ks = map (λ w. w.order) (ways_of ks)
 
 abbrev pub rooms_of : List Keyed → List ℕ
 rooms_of ks = map (λ k. room_in k.index) ks
 
 -- each index has each row
-abbrev pub AreIndexed : List (Option Atom) → List Way → List (List (Option Entry)) → Type 0
+abbrev pub AreIndexed : List (Option Atom) → List Way → List (List (Option Found)) → Type 0
 AreIndexed rows ways entries =
     (j : ℕ) → j < length ways → get_or entries j [] ≡ map (entry_in (get_or ways j no_way)) rows
 
@@ -72,7 +71,7 @@ pub record IsTable (atoms : List Atom) (alive : List Bool) (indexes : List Keyed
 
 abbrev pub contents_code : Coded Contents
 contents_code =
-    code_by (List (Option Atom) × (List (List ℕ) × List (Option ℕ)))
+    code_by (List (Option Atom) × (List (List ℕ) × List (List ℕ)))
     (coded× (coded_list (coded_option coded_atom))
-    (coded× (coded_list (coded_list coded_ℕ)) (coded_list (coded_option coded_ℕ))))
+    (coded× (coded_list (coded_list coded_ℕ)) (coded_list (coded_list coded_ℕ))))
     (λ c. (c.rows, (c.keys, c.orders))) (λ p. record { rows = p.0; keys = p.1.0; orders = p.1.1 }) (λ _. refl)

@@ -2,6 +2,7 @@
 ghost use Rattle.std.specs.Prelude.{◌≡◌, length};
 
 use crate::tests::{columns, first, get, kill, rows, table};
+use chr_plans::key::Order;
 use chr_tables::table::Table;
 use chr_testing::atoms::atom;
 use std::alloc::Global;
@@ -55,7 +56,7 @@ fn rows_that_moved_are_found(rt: HostRuntime) {
 fn ordered_table(rt: &impl Abort, alloc: Global) -> Table {
     let mut table = Table::new(alloc);
     table
-        .add_index(alloc, u64::MAX, columns(&[0]), Some(1))
+        .add_index(alloc, u64::MAX, columns(&[0]), Order::By(1))
         .expect(rt, "memory");
     table
 }

@@ -3,7 +3,7 @@ ghost use Rattle.std.specs.Prelude.{◌≡◌, ◌<◌, length};
 
 use crate::tests::columns;
 use chr_base::atom::Atom;
-use chr_plans::key::Span;
+use chr_plans::key::{Band, Order, Span};
 use chr_ranges::Range;
 use chr_tables::table::Table;
 use chr_testing::atoms::atom;
@@ -43,7 +43,26 @@ impl Entry {
             Some(most) => self.value <= most,
             None => true,
         };
-        self.alive && has_key && is_above && is_below
+        self.alive && has_key && is_above && is_below && range.except != Some(self.value)
+    }
+}
+
+/// The atoms whose second argument is in this range.
+fn span_in(range: Range) -> Span {
+    Span {
+        first: Band {
+            column: ORDER,
+            range,
+        },
+        second: Band::default(),
+    }
+}
+
+fn between(least: Option<i64>, most: Option<i64>) -> Range {
+    Range {
+        least,
+        most,
+        except: None,
     }
 }
 
@@ -64,10 +83,10 @@ fn empty_table(rt: &impl Abort, alloc: Global) -> Table
 {
     let mut table = Table::new(alloc);
     table
-        .add_index(alloc, SEED, columns(&[0]), Some(ORDER))
+        .add_index(alloc, SEED, columns(&[0]), Order::By(ORDER))
         .expect(rt, "memory");
     table
-        .add_index(alloc, SEED, columns(&[]), Some(ORDER))
+        .add_index(alloc, SEED, columns(&[]), Order::By(ORDER))
         .expect(rt, "memory");
     table
 }
@@ -106,10 +125,7 @@ fn compare(
     requires { index < length table.old.keys }
     ensures { table.new ≡ table.old }
 {
-    let span = Span {
-        column: ORDER,
-        range,
-    };
+    let span = span_in(range);
     let mut found = table.first(index, key, &span);
     let mut wanted = newest_below(entries, entries.len(), key, range);
     while let Some(row) = found {
@@ -140,12 +156,30 @@ fn compare_all(rt: &impl Abort, table: &mut Table, entries: &[Entry])
 {
     for least in ENDS {
         for most in ENDS {
-            let range = Range { least, most };
+            let range = between(least, most);
             compare(rt, table, entries, 0, &[0], range);
             compare(rt, table, entries, 0, &[1], range);
             compare(rt, table, entries, 0, &[2], range);
             compare(rt, table, entries, 1, &[], range);
         }
+    }
+}
+
+/// The same where one value is left out, by a key and by none.
+fn compare_without(rt: &impl Abort, table: &mut Table, entries: &[Entry])
+    requires { length table.old.keys ≡ 2 }
+    ensures { table.new ≡ table.old }
+{
+    for value in VALUES {
+        compare(rt, table, entries, 0, &[1], Range::default().but(value));
+        compare(
+            rt,
+            table,
+            entries,
+            1,
+            &[],
+            between(Some(0), None).but(value),
+        );
     }
 }
 
@@ -185,6 +219,17 @@ fn as_by_a_plain_scan_while_slots_grow_and_rows_die(rt: HostRuntime) {
     compare_all(&rt, &mut table, &entries);
 }
 
+#[test]
+fn one_value_is_left_out(rt: HostRuntime) {
+    let alloc = rt.alloc();
+    let mut entries = live_entries(&rt, alloc, 40);
+    let mut table = empty_table(&rt, alloc);
+    add(&rt, &mut table, &entries);
+    compare_without(&rt, &mut table, &entries);
+    kill_some(&mut table, &mut entries);
+    compare_without(&rt, &mut table, &entries);
+}
+
 /// What a look-up meets at each row or below it, also at the one past the last, is what the scan gives.
 fn compare_from(
     rt: &impl Abort,
@@ -197,10 +242,7 @@ fn compare_from(
     requires { index < length table.old.keys }
     ensures { table.new ≡ table.old }
 {
-    let span = Span {
-        column: ORDER,
-        range,
-    };
+    let span = span_in(range);
     for row in 0..entries.len() + 1 {
         let wanted = newest_below(entries, row + 1, key, range);
         let found = table.at_or_below(index, key, &span, row);
@@ -223,7 +265,7 @@ fn compare_all_from(rt: &impl Abort, table: &mut Table, entries: &[Entry])
     ensures { table.new ≡ table.old }
 {
     for (least, most) in RANGES {
-        let range = Range { least, most };
+        let range = between(least, most);
         compare_from(rt, table, entries, 0, &[0], range);
         compare_from(rt, table, entries, 0, &[1], range);
         compare_from(rt, table, entries, 0, &[2], range);
@@ -258,11 +300,7 @@ fn first_between(table: &mut Table, least: Option<i64>, most: Option<i64>) -> Op
     requires { length table.old.keys ≡ 2 }
     ensures { table.new ≡ table.old }
 {
-    let span = Span {
-        column: ORDER,
-        range: Range { least, most },
-    };
-    table.first(0, &[1], &span)
+    table.first(0, &[1], &span_in(between(least, most)))
 }
 
 #[test]

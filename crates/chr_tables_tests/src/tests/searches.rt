@@ -10,7 +10,6 @@ use chr_base::atom::{Atom, SymbolId};
 use chr_base::limits::{MAX_ARITY, MAX_HEADS};
 use chr_base::rule::Rule;
 use chr_base::term::{Cmp, Comparison, Pattern, Term};
-use chr_plans::key::first_column;
 use chr_plans::plan::{Lookup, Plan};
 use chr_plans::planning::plan_of;
 use chr_plans::react::react;
@@ -86,8 +85,7 @@ fn prepared(alloc: Global, rule: &Rule, place: usize, atoms: &[Atom]) -> Result<
     let mut lookups = ArrayVec::new();
     for index in 0..partners.len() {
         let partner = &partners[index];
-        let order = first_column(&partner.limits);
-        table.add_index(alloc, FIXED_SEED, partner.columns(), order)?;
+        table.add_index(alloc, FIXED_SEED, partner.columns(), partner.order)?;
         lookups.push(Lookup {
             partner: partner.copy(),
             table: 0,

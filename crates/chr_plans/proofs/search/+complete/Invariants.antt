@@ -1,7 +1,6 @@
-use Rattle.std.proofs.Common.{◌≡◌, ◌-◌, length, map}
+use Rattle.std.proofs.Common.{◌≡◌, ◌-◌, length}
 use Rattle.std.specs.Prelude.{IfSome, IsTrue, is_some}
 use Rattle.chr_base.specs.Rules.{heads_of}
-use Rattle.chr_plans.specs.Keys.{source_value}
 use Rattle.chr_plans.specs.working.Searching.{AgreeAtKnown, Past, looked_in}
 use Rattle.chr_plans.proofs.Searches.{bound}
 use Rattle.chr_plans.proofs.search.+complete.Given as goal

@@ -4,7 +4,7 @@ use Rattle.std.proofs.lemmas.List.{length-set}
 use Rattle.std.proofs.Math.Seq.{map-set_same}
 use Rattle.chr_plans.specs.Keys.{key_of}
 use Rattle.chr_tables.specs.Hashes.{key_hash}
-use Rattle.chr_tables.specs.working.Finders.{room_in, ordered}
+use Rattle.chr_tables.specs.working.Finders.{room_in}
 use Rattle.chr_tables.specs.working.Indexes.{no_way, way_of, atom_entry, ways_of}
 use Rattle.chr_tables.specs.declared.indexes.Keyed.{Keyed}
 use Rattle.chr_tables.proofs.Walks.{done_more, left_more}
@@ -37,12 +37,12 @@ loop-i-preserved c =
     let way = sym (way_at c.loop-i.indexes c.loop-i.i c.index-indexes-i.result (omega (arith, g, len))) ∙ ap (λ ws. get_or ws c.loop-i.i no_way) c.loop-i.invariant.ways in
     let found = sym (way_at c.loop-i.indexes c.loop-i.i c.index-indexes-i-in-loop-i.result (omega (arith, g, len))) ∙ ap (λ ws. get_or ws c.loop-i.i no_way) c.loop-i.invariant.ways in
     let hash = c.hash_of-hash.ensures ∙ ap (λ w. key_hash w.seed (key_of w.columns c.args.atom.now)) way in
-    let value = ap (λ w. ordered w.order c.args.atom.now) found in
+    let values = ap (λ w. key_of w.order c.args.atom.now) found in
     record {
       len = length-set c.loop-i.indexes _ _ ∙ len;
       ways = map-set_same way_of c.loop-i.indexes c.loop-i.i _ c.index-indexes-i-in-loop-i.result (same_way _ _ refl refl c.push.ensures.order) ∙ c.loop-i.invariant.ways;
       rooms = map-set_same (λ (k : Keyed). room_in k.index) c.loop-i.indexes c.loop-i.i _ c.index-indexes-i-in-loop-i.result c.push.ensures.room ∙ c.loop-i.invariant.rooms;
       done = λ j h. (rw (entries_set c.loop-i.indexes c.loop-i.i) (done_more _ _ [] c.loop-i.i _ (λ k xs. xs ++ Some (atom_entry (get_or (ways_of c.args.indexes.now) k no_way) c.args.atom.now) ∷ []) (omega (arith, n, g, len)) c.loop-i.invariant.done
-          (c.push.ensures.rows ∙ (λ i. here i ++ Some (record { hash = hash i; value = value i }) ∷ [])) j h));
+          (c.push.ensures.rows ∙ (λ i. here i ++ Some (record { hash = hash i; values = values i }) ∷ [])) j h));
       left = λ j h. (rw (entries_set c.loop-i.indexes c.loop-i.i) (left_more _ _ [] c.loop-i.i _ c.loop-i.invariant.left j h));
     }

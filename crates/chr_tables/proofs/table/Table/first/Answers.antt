@@ -1,9 +1,10 @@
 use Rattle.std.proofs.Common.{◌≡◌, ℕ, ◌<◌, ◌≤◌, [], length, get_or, slice_get, refl, sym, ap, ◌∙◌, arith}
 use Rattle.std.specs.Prelude.{None, IsTrue, is_some}
 use Rattle.chr_plans.specs.Rows.{HasKey, LiesIn}
+use Rattle.chr_tables.specs.Contents.{LiesBy}
 use Rattle.chr_tables.specs.declared.indexes.Keyed.{Keyed}
 use Rattle.chr_tables.specs.working.Finders.{finder_rows, IsFinderRow}
-use Rattle.chr_tables.specs.working.Indexes.{no_way, way_of, key_columns, ways_of, keyed_entries, live}
+use Rattle.chr_tables.specs.working.Indexes.{orders_of, no_way, way_of, key_columns, ways_of, keyed_entries, live}
 use Rattle.chr_tables.proofs.Choices.{if_some, if_none}
 use Rattle.chr_tables.proofs.Keys.{lies, met, sought}
 use Rattle.chr_tables.proofs.Lives.{entries_at, way_at, length_ways, length_columns}
@@ -34,8 +35,8 @@ returns-clause-within c =
     sym (entries_at c.self.inside.indexes.items c.args.index c.index_mut-keyed.result.now b ∙ ap (λ (x : Keyed). finder_rows x.index) (sym c.index_mut-keyed.ensures.value)) in
     let this : get_or (ways_of c.self.inside.indexes.items) c.args.index no_way ≡ way_of c.index_mut-keyed.result.now =
     way_at c.self.inside.indexes.items c.args.index c.index_mut-keyed.result.now b ∙ ap way_of (sym c.index_mut-keyed.ensures.value) in
-    rw (c.row_of.ensures, ← c.self.view_is) (λ goes. if_some (λ row. IsFinderRow c.index_mut-keyed.result.now.index c.key_hash-hash.result c.args.span.now row) (λ row. LiesIn c.args.span.now (get_or (live c.self.inside.atoms c.self.inside.alive.items) row None)) c.first.result
-    (lies _ _ _ c.args.index c.index_mut-keyed.result.now.index (way_of c.index_mut-keyed.result.now) c.args.key.now c.key_hash-hash.result c.self.invariant.indexed l here this c.key_hash-hash.ensures c.args.span.now refl goes) c.first.ensures.met)
+    rw (c.row_of.ensures, ← c.self.view_is) (if_some (λ row. IsFinderRow c.index_mut-keyed.result.now.index c.key_hash-hash.result c.args.span.now row) (λ row. LiesBy (get_or (orders_of c.self.inside.indexes.items) c.args.index []) c.args.span.now (get_or (live c.self.inside.atoms c.self.inside.alive.items) row None)) c.first.result
+    (lies _ _ _ c.args.index c.index_mut-keyed.result.now.index (way_of c.index_mut-keyed.result.now) c.args.key.now c.key_hash-hash.result c.self.invariant.indexed l here this c.key_hash-hash.ensures c.args.span.now refl) c.first.ensures.met)
 
 pub returns-clause-newest : goal.returns-clause-newest
 returns-clause-newest c =
