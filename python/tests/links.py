@@ -43,6 +43,9 @@ from engines import Engine, Server
 from kills import KILLS, SECONDS, Command, Kills, chance_of_stop
 from programs import COINS, MARKED, PATHS, PLAIN, store_of
 
+STOPPED = "FATAL:  terminating connection due to administrator command\n"
+"""What libpq itself writes on standard error where it hears between two requests that PostgreSQL is stopped."""
+
 
 class Jumbled(Link):
     """A link that gives what it reads out of order and twice, what was read long ago among it, and appends twice."""
@@ -1127,7 +1130,8 @@ class Outages(Links):
             ends = [command.end(), self.command("--patience", "0.5").end()]
         finally:
             self.engine.start()
-        for status, said in ends:
-            self.assertEqual((status, said.count("\n")), (3, 1), said)
+        for status, told in ends:
+            said = told.removeprefix(STOPPED)
+            self.assertEqual((status, said.count("\n")), (3, 1), told)
             self.assertRegex(said, "^chrrep.link: LinkLost: the engine doesn't answer: ")
         self.assertEqual(self.member().show(), (("path", 1, 2, 3),))
