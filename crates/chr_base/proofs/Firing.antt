@@ -55,8 +55,13 @@ module _ (r : Rule) where
   by_guard heads vs b e g =
       ((λ t. (valued vs, e, sym g ∙ t)), λ h. g ∙ same_guard (heads_of r) (valued vs) h.0 r.guard.items (same_on r heads (valued vs) h.0 e h.1) (guard_known r) ∙ h.2)
 
+  -- the body is the same by all values by which the heads come out
+  pub body_same : (heads : List Atom) (vs : List ℤ) → heads_at (valued vs) r ≡ heads → (v : Valuation) → heads_at v r ≡ heads
+      → atoms_at (valued vs) r.body.items ≡ atoms_at v r.body.items
+  body_same heads vs f v h = same_atoms (heads_of r) r.body.items (valued vs) v (same_on r heads (valued vs) v f h) (body_known r)
+
   -- the body that was made of each pattern is the instance's
   pub body_whole : (heads : List Atom) (vs : List ℤ) (items : List Pattern) (i : ℕ) (bs : List Atom) → heads_at (valued vs) r ≡ heads → bs ≡ atoms_at (valued vs) (take i items)
       → items ≡ r.body.items → length items ≤ i → (v : Valuation) → heads_at v r ≡ heads → bs ≡ atoms_at v r.body.items
   body_whole heads vs items i bs f e is l v h =
-      e ∙ ap (atoms_at (valued vs)) (take_all i items l ∙ is) ∙ same_atoms (heads_of r) r.body.items (valued vs) v (same_on r heads (valued vs) v f h) (body_known r)
+      e ∙ ap (atoms_at (valued vs)) (take_all i items l ∙ is) ∙ body_same heads vs f v h

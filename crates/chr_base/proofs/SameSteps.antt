@@ -44,7 +44,7 @@ same_programs_step_alike p q same s t = (
   λ h. same_step (rules_of q) (rules_of p) s t (sym same.1) h,
 )
 
-same_runs : (rs qs : List Rule) (n : ℕ) (s t : Store) → map parts_of rs ≡ map parts_of qs → Runs (Step rs) n s t → Runs (Step qs) n s t
+pub same_runs : (rs qs : List Rule) (n : ℕ) (s t : Store) → map parts_of rs ≡ map parts_of qs → Runs (Step rs) n s t → Runs (Step qs) n s t
 same_runs rs qs zero s t e h = h
 same_runs rs qs (suc n) s t e h = (h.0, same_step rs qs s h.0 e h.1, same_runs rs qs n h.0 t e h.2)
 

@@ -1,6 +1,7 @@
 //! Symbols and atoms.
-ghost use Rattle.std.specs.Prelude.{◌≡◌};
+ghost use Rattle.std.specs.Prelude.{◌≡◌, ◌≤◌, length};
 ghost use Rattle.std.specs.Ordering.{eq_by_cmp, is_gt};
+ghost use Rattle.chr_base.specs.declared.limits.TheConstants.{MAX_ARITY};
 ghost use Rattle.chr_base.specs.Atoms.{atom_cmp};
 
 use crate::limits::MAX_ARITY;
@@ -44,17 +45,31 @@ impl Atom {
         self.order(other).is_eq()
     }
 
-    /// An equal atom. It takes no memory.
+    /// Becomes the atom of a symbol and these values.
+    pub fn set(&mut self, symbol: SymbolId, values: &[i64])
+        requires { length values.now ≤ MAX_ARITY }
+        ensures { self.new ≡ record { symbol = symbol; args = record { items = values.now } } }
+    {
+        self.symbol = symbol;
+        self.args.clear();
+        for value in values {
+            self.args.push(*value);
+        }
+    }
+
+    /// Becomes equal to another atom.
+    pub fn copy_from(&mut self, other: &Atom)
+        ensures { self.new ≡ other.now }
+    {
+        self.set(other.symbol, &other.args);
+    }
+
+    /// An equal atom. It takes no memory. Where it stays elsewhere, `copy_from` there saves a move.
     pub fn copy(&self) -> Atom
         ensures { result ≡ self.now }
     {
-        let mut copy = Atom {
-            symbol: self.symbol,
-            args: ArrayVec::new(),
-        };
-        for value in self.args.as_slice() {
-            copy.args.push(*value);
-        }
+        let mut copy = Atom::default();
+        copy.copy_from(self);
         copy
     }
 }

@@ -1,5 +1,5 @@
 //! Lists of atoms.
-ghost use Rattle.std.specs.Prelude.{◌≡◌, ◌+◌, ◌<◌, ◌≤◌, ◌↔◌, length, insert, remove, ◌++◌, vec_len, vec_capacity, IsTrue, OnOk, OnErr, IfSome, IfNone};
+ghost use Rattle.std.specs.Prelude.{◌≡◌, ◌+◌, ◌<◌, ◌≤◌, ◌↔◌, length, insert, remove, [], ◌∷◌, ◌++◌, vec_len, vec_capacity, IsTrue, OnOk, OnErr, IfSome, IfNone};
 ghost use Rattle.std.specs.Bool.{OnTrue, OnFalse};
 ghost use Rattle.std.specs.Ordering.{eq_by_cmp, is_gt};
 ghost use Rattle.chr_base.specs.declared.atom.Atom.{Atom as AtomValue};
@@ -173,19 +173,16 @@ pub(crate) fn same_atoms(left: &[Atom], right: &[Atom]) -> bool
     true
 }
 
-/// Adds copies of these atoms at the end: all of them, or none where memory is refused.
-pub fn push_copies(items: &mut Vec<Atom>, atoms: &[Atom]) -> Result<(), AllocError>
-    ensures ok { OnOk result (items.new.items ≡ items.old.items ++ atoms.now) }
-    ensures err { OnErr result (items.new.items ≡ items.old.items) }
+/// Puts a copy of an atom at the end, where there is room for it. It is made in its place, since an atom that was just
+/// made is slow to move.
+pub fn push_copy(items: &mut Vec<Atom>, atom: &Atom)
+    requires { vec_len items.old < vec_capacity items.old }
+    ensures items { items.new.items ≡ items.old.items ++ atom.now ∷ [] }
+    ensures capacity { vec_capacity items.new ≡ vec_capacity items.old }
 {
-    let before = items.len();
-    for atom in atoms {
-        if items.push(atom.copy()).is_err() {
-            items.truncate(before);
-            return Err(AllocError);
-        }
-    }
-    Ok(())
+    let last = items.len();
+    items.push_reserved(Atom::default());
+    items[last].copy_from(atom);
 }
 
 /// Puts copies of these atoms at the end, where there is room for them.
@@ -195,8 +192,18 @@ pub fn push_all(items: &mut Vec<Atom>, atoms: &[Atom])
     ensures capacity { vec_capacity items.new ≡ vec_capacity items.old }
 {
     for atom in atoms {
-        items.push_reserved(atom.copy());
+        push_copy(items, atom);
     }
+}
+
+/// Adds copies of these atoms at the end: all of them, or none where memory is refused.
+pub fn push_copies(items: &mut Vec<Atom>, atoms: &[Atom]) -> Result<(), AllocError>
+    ensures ok { OnOk result (items.new.items ≡ items.old.items ++ atoms.now) }
+    ensures err { OnErr result (items.new.items ≡ items.old.items) }
+{
+    items.reserve(atoms.len())?;
+    push_all(items, atoms);
+    Ok(())
 }
 
 /// Puts the atoms in order.

@@ -1,5 +1,5 @@
 //! Patterns matched with atoms, place by place.
-ghost use Rattle.std.specs.Prelude.{◌≡◌, ◌<◌, ◌≤◌, ◌+◌, ◌*◌, [], ◌∷◌, IsTrue, is_some, length, map};
+ghost use Rattle.std.specs.Prelude.{◌≡◌, ◌<◌, ◌≤◌, ◌+◌, ◌*◌, [], ◌∷◌, ◌++◌, IsTrue, is_some, length, map, vec_len, vec_capacity};
 ghost use Rattle.std.specs.Bool.{OnTrue, OnFalse};
 ghost use Rattle.chr_base.specs.RuleTests.{numbered, terms_of};
 ghost use Rattle.chr_base.specs.Rules.{atom_at, atoms_at, comparison_holds, term_value};
@@ -26,17 +26,45 @@ fn value_of(values: &[i64], term: &Term) -> i64
     }
 }
 
+/// The atom becomes what a pattern is under these values.
+fn set_instance(atom: &mut Atom, values: &[i64], pattern: &Pattern)
+    ensures { atom.new ≡ atom_at (valued values.now) pattern.now }
+{
+    atom.symbol = pattern.symbol;
+    atom.args.clear();
+    for term in pattern.args.as_slice() {
+        atom.args.push(value_of(values, term));
+    }
+}
+
 /// The atom that a pattern is under these values.
 pub(crate) fn instance_of(values: &[i64], pattern: &Pattern) -> Atom
     ensures { result ≡ atom_at (valued values.now) pattern.now }
 {
-    let mut args = ArrayVec::new();
-    for term in pattern.args.as_slice() {
-        args.push(value_of(values, term));
-    }
-    Atom {
-        symbol: pattern.symbol,
-        args,
+    let mut atom = Atom::default();
+    set_instance(&mut atom, values, pattern);
+    atom
+}
+
+/// Puts the atom that a pattern is under these values at the end, where there is room for it. It is made in its place.
+fn push_instance(items: &mut Vec<Atom>, values: &[i64], pattern: &Pattern)
+    requires { vec_len items.old < vec_capacity items.old }
+    ensures items { items.new.items ≡ items.old.items ++ atom_at (valued values.now) pattern.now ∷ [] }
+    ensures capacity { vec_capacity items.new ≡ vec_capacity items.old }
+{
+    let last = items.len();
+    items.push_reserved(Atom::default());
+    set_instance(&mut items[last], values, pattern);
+}
+
+/// Puts the atoms that patterns are under these values at the end, where there is room for them.
+pub(crate) fn push_instances(items: &mut Vec<Atom>, values: &[i64], patterns: &[Pattern])
+    requires { vec_len items.old + length patterns.now ≤ vec_capacity items.old }
+    ensures items { items.new.items ≡ items.old.items ++ atoms_at (valued values.now) patterns.now }
+    ensures capacity { vec_capacity items.new ≡ vec_capacity items.old }
+{
+    for pattern in patterns {
+        push_instance(items, values, pattern);
     }
 }
 

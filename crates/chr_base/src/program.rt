@@ -62,21 +62,6 @@ impl Symbol {
     }
 }
 
-/// The atom of a symbol and these values.
-fn atom_of(symbol: SymbolId, values: &[i64]) -> Atom
-    requires { length values.now ≤ MAX_ARITY }
-    ensures { result ≡ record { symbol = symbol; args = record { items = values.now } } }
-{
-    let mut atom = Atom {
-        symbol,
-        args: ArrayVec::new(),
-    };
-    for value in values {
-        atom.args.push(*value);
-    }
-    atom
-}
-
 /// Puts a new symbol last, with the default weight.
 fn add_symbol(symbols: &mut IndexMap<Symbol, Weight>, symbol: Symbol) -> Result<(), AllocError>
     requires new { position (declares symbol.name.bytes symbol.arity) (declarations_in symbols.old.entries) ≡ None }
@@ -108,7 +93,7 @@ fn some_paired(weights: &[Weight]) -> bool
 
 impl Program {
     ghost use Rattle.std.specs.Prelude.{◌≡◌, ◌<◌, ◌≤◌, ◌++◌, ◌↔◌, [], ◌∷◌, IsTrue, Some, None, OnOk, OnErr, IfOk, IfSome, option_map, position, length, slice_get};
-    ghost use Rattle.std.specs.Bool.{OnTrue};
+    ghost use Rattle.std.specs.Bool.{OnTrue, OnFalse};
     ghost use Rattle.chr_base.specs.ProgramTests.{Declaration, declared, declares, fits, new_declaration, some_paired, with_weight};
     ghost use Rattle.chr_base.specs.Programs.{declarations, rules_of, declares_atom, declared_atom};
     ghost use Rattle.chr_base.specs.Names.{is_name};
@@ -140,8 +125,12 @@ impl Program {
     pub fn atom(&self, name: &str, args: &[i64]) -> Option<Atom>
         ensures { result ≡ declared_atom (declarations self.now) name.now args.now }
     {
-        let symbol = self.symbol(name, args.len())?;
-        Some(atom_of(symbol, args))
+        let mut atom = Atom::default();
+        if self.set_atom(SymbolId(0), name, args, &mut atom) {
+            Some(atom)
+        } else {
+            None
+        }
     }
 
     /// Whether the symbol is declared with this name and number of arguments.
@@ -155,14 +144,27 @@ impl Program {
         }
     }
 
-    /// What `atom` gives, sooner where its symbol is this one: no table is asked then.
-    pub fn atom_near(&self, near: SymbolId, name: &str, args: &[i64]) -> Option<Atom>
-        ensures { result ≡ declared_atom (declarations self.now) name.now args.now }
+    /// What `symbol` gives, sooner where it is this one: no table is asked then.
+    fn symbol_near(&self, near: SymbolId, name: &str, arity: usize) -> Option<SymbolId>
+        ensures { option_map (λ s. s.0) result ≡ position (declares name.now arity) (declarations self.now) }
     {
-        if self.is_declared_as(near, name, args.len()) {
-            return Some(atom_of(near, args));
+        if self.is_declared_as(near, name, arity) {
+            return Some(near);
         }
-        self.atom(name, args)
+        self.symbol(name, arity)
+    }
+
+    /// Whether the program declares an atom of this name and these arguments, which the given atom then becomes. It is
+    /// found sooner where its symbol is this one.
+    pub fn set_atom(&self, near: SymbolId, name: &str, args: &[i64], atom: &mut Atom) -> bool
+        ensures found { OnTrue result (declared_atom (declarations self.now) name.now args.now ≡ Some atom.new) }
+        ensures none { OnFalse result (declared_atom (declarations self.now) name.now args.now ≡ None) }
+    {
+        let Some(symbol) = self.symbol_near(near, name, args.len()) else {
+            return false;
+        };
+        atom.set(symbol, args);
+        true
     }
 
     /// Declares one more symbol, of the default weight.

@@ -5,7 +5,7 @@ ghost use Rattle.chr_base.specs.RuleTests.{is_in_bounds, is_rule};
 
 use crate::atom::Atom;
 use crate::limits::{MAX_BODY, MAX_COMPARISONS, MAX_HEADS, MAX_NAME};
-use crate::matching::{Values, bind, holds, instance_of};
+use crate::matching::{Values, bind, holds, instance_of, push_instances};
 use crate::term::{Comparison, Pattern, Term};
 use arrayvec::{ArrayString, ArrayVec};
 
@@ -90,7 +90,7 @@ fn same_comparisons(left: &[Comparison], right: &[Comparison]) -> bool
 }
 
 impl Rule {
-    ghost use Rattle.std.specs.Prelude.{◌≡◌, ◌<◌, ◌≤◌, ◌+◌, ◌↔◌, IsTrue, length, get_or, List, [], ◌∷◌, ◌++◌};
+    ghost use Rattle.std.specs.Prelude.{◌≡◌, ◌<◌, ◌≤◌, ◌+◌, ◌↔◌, IsTrue, length, get_or, List, [], ◌∷◌, ◌++◌, vec_len, vec_capacity};
     ghost use Rattle.chr_base.specs.Rules.{heads_of, no_pattern, heads_at, atoms_at, guard_holds, HasInstance, Valuation};
     ghost use Rattle.chr_base.specs.working.Bindings.{valued};
     ghost use Rattle.std.specs.Bool.{OnTrue, OnFalse};
@@ -169,6 +169,22 @@ impl Rule {
             }
         }
         body
+    }
+
+    /// Puts the body of the instance with these heads at the end, where there is room for it.
+    pub fn push_body(&self, heads: &[Atom], items: &mut Vec<Atom>)
+        requires instance { HasInstance self.now heads.now }
+        requires room { vec_len items.old + MAX_BODY ≤ vec_capacity items.old }
+        ensures items { (v : Valuation) → heads_at v self.now ≡ heads.now →
+            items.new.items ≡ items.old.items ++ atoms_at v self.now.body.items }
+        ensures room { vec_len items.new ≤ vec_len items.old + MAX_BODY }
+        ensures capacity { vec_capacity items.new ≡ vec_capacity items.old }
+    {
+        let mut values = Values::new();
+        // The heads are an instance's, so they bind.
+        if self.bind(heads, &mut values) {
+            push_instances(items, values.as_slice(), self.body.as_slice());
+        }
     }
 
     /// An equal rule. It takes no memory.

@@ -1,7 +1,0 @@
-use Rattle.std.proofs.Common.{◌≡◌, take, map}
-use Rattle.chr_base.specs.Rules.{term_value}
-use Rattle.chr_base.specs.working.Bindings.{valued}
-use Rattle.chr_base.proofs.matching.instance_of.Given as goal
-
-abbrev pub invariant-loop-term : goal.invariant-loop-term
-invariant-loop-term l = l.args.items ≡ map (term_value (valued l.values)) (take l.term-index l.term-items)
