@@ -393,7 +393,12 @@ fn atom_of(program: &Program, name: &str, values: &[i64]) -> Option<Atom> {
 }
 
 fn near(program: &Program, near: u16, name: &str, values: &[i64]) -> Option<Atom> {
-    program.atom_near(SymbolId(near), name, values)
+    let mut atom = Atom::default();
+    if program.set_atom(SymbolId(near), name, values, &mut atom) {
+        Some(atom)
+    } else {
+        None
+    }
 }
 
 fn is_near(rt: &impl Abort, program: &Program, symbol: u16) {

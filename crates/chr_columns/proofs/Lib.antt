@@ -21,4 +21,5 @@ pub mod Passing
 pub mod OffEnd
 pub mod Tidying
 pub mod Resuming
+pub mod Running
 pub mod Together

@@ -1,8 +1,7 @@
 -- A pool's own rules.
-use Rattle.std.specs.Prelude.{Some, None, slice_get, IsTrue, ◌↔◌}
+use Rattle.std.specs.Prelude.{Some, slice_get}
 use Rattle.std.proofs.lemmas.Option.{none-some, same_Some}
-use mathlib.Core.Bool.{true≢false}
-use Rattle.std.proofs.Common.{◌≡◌, ℕ, zero, suc, List, [], ◌∷◌, length, Bool, true, false, refl, arith, ap, subst, ◌∙◌, sym}
+use Rattle.std.proofs.Common.{◌≡◌, ℕ, zero, suc, List, [], ◌∷◌, length, Bool, true, refl, arith, ap, subst, ◌∙◌, sym}
 use Rattle.std.specs.Bool.{◌==◌}
 use Rattle.std.proofs.lemmas.Bool.{eqb-true}
 use Rattle.chr_base.specs.declared.atom.Atom.{Atom}
@@ -10,11 +9,10 @@ use Rattle.chr_base.specs.declared.rule.Rule.{Rule}
 use Rattle.chr_base.specs.FinBag.{◌⊕◌}
 use Rattle.chr_base.specs.Rewriting.{IsAtRest}
 use Rattle.chr_base.specs.Rules.{Step, StepBy, HasNoStep}
-use Rattle.chr_base.specs.Sameness.{parts_of}
 use Rattle.chr_base.specs.Stores.{Store, store_of}
 use Rattle.chr_base.proofs.Stores.{plus_empty}
 use Rattle.chr_base.proofs.SameSteps.{same_rule}
-use Rattle.chr_columns.specs.working.Own.{IsOwn, IsRuleAt}
+use Rattle.chr_columns.specs.working.Own.{IsOwn}
 use Rattle.chr_columns.proofs.Pools.{no_store}
 
 -- under the rules at rest, an own rule has no step
@@ -30,17 +28,10 @@ nothing_fresh b xs e h = no_length xs (eqb-true _ _ (sym h ∙ e))
     no_length [] l = refl
     no_length (y ∷ ys) l = absurd (omega (arith, l))
 
--- a rule that stands there says the same
-pub stands : (rules : List Rule) (n : ℕ) (r q : Rule) (b : Bool) → slice_get rules n ≡ Some q → IsTrue b ↔ (parts_of r ≡ parts_of q) → IsTrue b ↔ IsRuleAt rules n r
-stands rules n r q b e h = (λ t. (q, e, h.0 t), λ s. h.1 (s.2 ∙ ap parts_of (same_Some s.0 q (sym s.1 ∙ e))))
-
-pub none_stands : (rules : List Rule) (n : ℕ) (r : Rule) → slice_get rules n ≡ None → IsTrue false ↔ IsRuleAt rules n r
-none_stands rules n r e = (λ t. absurd (true≢false (sym t)), λ s. absurd (none-some s.0 (sym e ∙ s.1)))
-
--- its steps are steps of the rules
-pub carried_one : (rules : List Rule) (n : ℕ) (r : Rule) (s t : Store) → IsRuleAt rules n r → Step (r ∷ []) s t → Step rules s t
+-- a step of the rule at that number is one of the rules
+pub carried_one : (rules : List Rule) (n : ℕ) (r : Rule) (s t : Store) → slice_get rules n ≡ Some r → Step (r ∷ []) s t → Step rules s t
 carried_one rules n r s t at h = by h.0 h.3
   where
     by : (i : ℕ) → slice_get (r ∷ []) i ≡ Some h.1 → Step rules s t
-    by zero e = (n, at.0, h.2, at.1, same_rule r at.0 h.2 s t at.2 (subst (λ x. StepBy x h.2 s t) (sym (same_Some r h.1 e)) h.4))
+    by zero e = (n, r, h.2, at, subst (λ x. StepBy x h.2 s t) (sym (same_Some r h.1 e)) h.4)
     by (suc i) e = absurd (none-some h.1 e)

@@ -18,7 +18,7 @@ use Rattle.chr_tables.specs.Contents.{Contents}
 use Rattle.chr_actives.specs.Grids.{contents}
 use Rattle.chr_actives.proofs.Actives.{same_rest}
 use Rattle.chr_columns.specs.declared.settle.Outcome.{Outcome}
-use Rattle.chr_columns.specs.declared.settle.Outcome.TheVariants.{Fired, AtRest, OtherRules}
+use Rattle.chr_columns.specs.declared.settle.Outcome.TheVariants.{Fired, AtRest}
 use Rattle.chr_columns.specs.working.Resting.{grid}
 use Rattle.chr_columns.specs.working.Listing.{live_in}
 use Rattle.chr_columns.proofs.Listed.{store_live}
@@ -77,9 +77,10 @@ module _ (r : Rule) (heads gone body : List Atom) (s t u : Store) (h : HasInstan
       → StepOn r heads s u
   fired_in b made there taken = fired_out made (OnTrue_at (there.1 (rw came (within_more (store_of gone) s (store_of body) within))) taken)
 
--- what joined those at rest, and what waits for other rules, has not fired
+-- what joined those at rest has not fired
 pub joined_unfired : {E : Type 0} (o : Result Outcome E) → o ≡ Ok AtRest → o ≡ Ok Fired → ⊥
 joined_unfired o e f = absurd (let g : Ok AtRest ≡ Ok Fired = sym e ∙ f in cc)
 
-pub other_unfired : {E : Type 0} (o : Result Outcome E) → o ≡ Ok OtherRules → o ≡ Ok Fired → ⊥
-other_unfired o e f = absurd (let g : Ok OtherRules ≡ Ok Fired = sym e ∙ f in cc)
+-- where memory was refused none has fired
+pub refused_unfired : {E : Type 0} (o : Result Outcome E) (x : E) → o ≡ Err x → o ≡ Ok Fired → ⊥
+refused_unfired {E} o x e f = absurd (let g : ◌≡◌ {A = Result Outcome E} (Err x) (Ok Fired) = sym e ∙ f in cc)

@@ -1,9 +1,9 @@
 //! The pool.
-ghost use Rattle.std.specs.Prelude.{◌≡◌, ◌↔◌, IfOk, IfSome, IfNone, IsTrue, OnOk, OnErr, length, drop};
+ghost use Rattle.std.specs.Prelude.{◌≡◌, ◌<◌, ◌≤◌, ◌↔◌, IfOk, IfErr, IfSome, IfNone, IsTrue, OnOk, OnErr, length, drop};
 ghost use Rattle.std.specs.Bool.{OnTrue, OnFalse};
 ghost use Rattle.chr_base.specs.FinBag as bag;
 ghost use Rattle.chr_base.specs.FinBag.{◌⊕◌, ◌⊖◌, IsWithin};
-ghost use Rattle.chr_base.specs.Rewriting.{IsAtRest};
+ghost use Rattle.chr_base.specs.Rewriting.{IsAtRest, Runs};
 ghost use Rattle.chr_base.specs.Rules.{HasInstance, HasNoStep, Step, StepOn};
 ghost use Rattle.chr_base.specs.Stores.{store_of};
 ghost use Rattle.chr_columns.specs.Rows.{AreApart};
@@ -13,7 +13,8 @@ use crate::making::rested_for;
 use crate::own::find_in;
 use crate::rested::{Found, Rested};
 use crate::rows::Rows;
-use crate::stepping::step_in;
+pub use crate::stepping::Stopped;
+use crate::stepping::take_in;
 use chr_base::atom::Atom;
 use chr_base::bag::Bag;
 use chr_base::lists::push_copies;
@@ -169,21 +170,38 @@ impl Columns {
         Ok(())
     }
 
+    /// Steps of these rules: so many, or fewer where the store is at rest then, or where memory is refused, after which
+    /// the steps taken so far stand. Those by the pool's own rules take near constant time each; under other rules it
+    /// makes copies of these, and all atoms become fresh. The rules are compared once. Where they are the pool's own and
+    /// no atom is fresh, no step is looked for, nor memory asked for.
+    pub fn take_steps(&mut self, rules: &[Rule], most: u64) -> Result<u64, Stopped>
+        ensures ok { IfOk result (λ n. Runs (Step rules.now) n self.old self.new) }
+        ensures most { IfOk result (λ n. n ≤ most) }
+        ensures rests { IfOk result (λ n. n < most → IsAtRest (Step rules.now) self.new) }
+        ensures stopped { IfErr result (λ e. Runs (Step rules.now) e.steps self.old self.new) }
+        ensures fewer { IfErr result (λ e. 0 < most → e.steps < most) }
+    {
+        take_in(
+            &mut self.rested,
+            &mut self.fresh,
+            &mut self.standing,
+            &mut self.found,
+            rules,
+            most,
+        )
+    }
+
     /// One step of some rule. False, and nothing changes, where the store is at rest; where memory is refused nothing
-    /// changes either. Steps by the pool's own rules take near constant time, and none is looked for, nor memory asked
-    /// for, where no atom is fresh; under other rules it makes copies of these, and all atoms become fresh.
+    /// changes either. It compares all rules, which `take_steps` does but once for many steps.
     pub fn step(&mut self, rules: &[Rule]) -> Result<bool, AllocError>
         ensures stepped { IfOk result (λ stepped. OnTrue stepped (Step rules.now self.old self.new)) }
         ensures same { IfOk result (λ stepped. OnFalse stepped (self.new ≡ self.old)) }
         ensures rests { IfOk result (λ stepped. OnFalse stepped (IsAtRest (Step rules.now) self.old)) }
         ensures err { OnErr result (self.new ≡ self.old) }
     {
-        step_in(
-            &mut self.rested,
-            &mut self.fresh,
-            &mut self.standing,
-            &mut self.found,
-            rules,
-        )
+        match self.take_steps(rules, 1) {
+            Ok(steps) => Ok(steps == 1),
+            Err(_) => Err(AllocError),
+        }
     }
 }

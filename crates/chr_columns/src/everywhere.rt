@@ -92,7 +92,7 @@ impl Rows for Everywhere<'_> {
         self.below(self.rows)
     }
 
-    fn atom(&self, _table: usize, row: usize) -> Atom {
-        self.get(row).unwrap()
+    fn read(&self, _table: usize, row: usize, atom: &mut Atom) {
+        *atom = self.get(row).unwrap();
     }
 }

@@ -15,7 +15,7 @@ use crate::rested::{Occurrence, Rested, kill_all};
 use arrayvec::ArrayVec;
 use chr_base::atom::Atom;
 use chr_base::limits::{MAX_BODY, MAX_HEADS};
-use chr_base::lists::push_all;
+use chr_base::lists::push_copy;
 use chr_base::rule::Rule;
 use chr_plans::react::Standing;
 use chr_plans::rows::Seat;
@@ -51,7 +51,7 @@ fn push_body(rule: &Rule, heads: &[Atom], fresh: &mut Vec<Atom>)
     if rule.body.is_empty() {
         return;
     }
-    push_all(fresh, &rule.body_of(heads));
+    rule.push_body(heads, fresh);
 }
 
 /// The body becomes fresh, and the active atom where it is kept.
@@ -66,7 +66,7 @@ fn put_fresh(rule: &Rule, place: usize, heads: &[Atom], fresh: &mut Vec<Atom>)
 {
     push_body(rule, heads, fresh);
     if place < rule.kept.len() {
-        fresh.push_reserved(heads[place].copy());
+        push_copy(fresh, &heads[place]);
     }
 }
 

@@ -17,7 +17,7 @@ use crate::joint::{Joint, joint_of};
 use crate::rested::Rested;
 use crate::same::are_same;
 use chr_base::atom::Atom;
-use chr_base::lists::push_all;
+use chr_base::lists::{push_all, push_copy};
 use chr_base::rule::Rule;
 use chr_ranges::Range;
 use chr_tables::table::Table;
@@ -118,7 +118,7 @@ fn settle_down(rested: &mut Rested, fresh: &mut Vec<Atom>, atom: &Atom)
 {
     match rested.put(atom) {
         Ok(()) => {}
-        Err(_) => fresh.push_reserved(atom.copy()),
+        Err(_) => push_copy(fresh, atom),
     }
 }
 
@@ -141,7 +141,7 @@ fn join_each(
         if free.has(joint.value(atom)) {
             settle_down(rested, fresh, atom);
         } else {
-            fresh.push_reserved(atom.copy());
+            push_copy(fresh, atom);
         }
     }
 }

@@ -1,8 +1,7 @@
 //! Whether rules say the same.
-ghost use Rattle.std.specs.Prelude.{◌≡◌, ◌↔◌, IsTrue, map};
+ghost use Rattle.std.specs.Prelude.{◌≡◌, map};
 ghost use Rattle.std.specs.Bool.{OnTrue};
 ghost use Rattle.chr_base.specs.Sameness.{parts_of};
-ghost use Rattle.chr_columns.specs.working.Own.{IsRuleAt};
 
 use chr_base::rule::Rule;
 
@@ -18,14 +17,4 @@ pub(crate) fn are_same(left: &[Rule], right: &[Rule]) -> bool
         return false;
     };
     first.is_same(second) && are_same(left, right)
-}
-
-/// Whether the rules have one at this number, from 0, that says the same.
-pub(crate) fn stands_at(rules: &[Rule], number: usize, rule: &Rule) -> bool
-    ensures { IsTrue result ↔ IsRuleAt rules.now number rule.now }
-{
-    if number >= rules.len() {
-        return false;
-    }
-    rule.is_same(&rules[number])
 }

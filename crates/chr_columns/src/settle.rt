@@ -1,19 +1,16 @@
 //! Fresh atoms, one after another.
-ghost use Rattle.std.specs.Prelude.{◌≡◌, ◌+◌, ◌≤◌, [], map, Ok, OnErr, IfSome, vec_len, vec_capacity};
+ghost use Rattle.std.specs.Prelude.{◌≡◌, ◌+◌, ◌≤◌, [], Ok, OnErr, IfSome, vec_len, vec_capacity};
 ghost use Rattle.chr_base.specs.declared.limits.TheConstants.{MAX_BODY};
 ghost use Rattle.chr_base.specs.FinBag.{◌⊕◌};
 ghost use Rattle.chr_base.specs.Stores.{store_of};
 ghost use Rattle.chr_base.specs.Rules.{Step};
-ghost use Rattle.chr_base.specs.Sameness.{parts_of};
 ghost use Rattle.chr_actives.specs.Actives.{one};
-ghost use Rattle.chr_columns.specs.declared.settle.Outcome.TheVariants.{Fired, AtRest, OtherRules};
+ghost use Rattle.chr_columns.specs.declared.settle.Outcome.TheVariants.{Fired, AtRest};
 ghost use Rattle.chr_columns.specs.working.Resting.{stored, IsRested, MayGoOn, Stands};
 
 use crate::rested::{Found, Rested};
-use crate::same::stands_at;
 use chr_base::atom::Atom;
 use chr_base::limits::MAX_BODY;
-use chr_base::rule::Rule;
 use chr_plans::react::Standing;
 use std::alloc::AllocError;
 
@@ -24,8 +21,6 @@ pub(crate) enum Outcome {
     Fired,
     /// They joined those at rest.
     AtRest,
-    /// One of them would fire a rule that the given rules don't have at its number.
-    OtherRules,
 }
 
 impl Rested {
@@ -33,7 +28,6 @@ impl Rested {
     /// where the atom is kept, it can go on there once more.
     fn take(
         &mut self,
-        rules: &[Rule],
         active: &Atom,
         fresh: &mut Vec<Atom>,
         standing: &mut Option<Standing>,
@@ -45,14 +39,11 @@ impl Rested {
         ensures rested { IsRested self.new }
         ensures rules { self.new.rules ≡ self.old.rules }
         ensures standing { Stands self.new fresh.new.items standing.new }
-        ensures fired { result ≡ Ok Fired → Step rules.now
+        ensures fired { result ≡ Ok Fired → Step self.old.rules.items
             ((stored self.old ⊕ store_of fresh.old.items) ⊕ one active.now)
             (stored self.new ⊕ store_of fresh.new.items) }
         ensures joined { result ≡ Ok AtRest → stored self.new ≡ stored self.old ⊕ one active.now }
         ensures joined_same { result ≡ Ok AtRest → fresh.new ≡ fresh.old }
-        ensures other { result ≡ Ok OtherRules → ¬ (map parts_of self.old.rules.items ≡ map parts_of rules.now) }
-        ensures other_stored { result ≡ Ok OtherRules → stored self.new ≡ stored self.old }
-        ensures other_same { result ≡ Ok OtherRules → fresh.new ≡ fresh.old }
         ensures err { OnErr result (stored self.new ≡ stored self.old) }
         ensures err_same { OnErr result (fresh.new ≡ fresh.old) }
     {
@@ -61,9 +52,6 @@ impl Rested {
             self.put(active)?;
             return Ok(Outcome::AtRest);
         };
-        if !stands_at(rules, occurrence.rule, &self.rules[occurrence.rule]) {
-            return Ok(Outcome::OtherRules);
-        }
         *standing = self.fire(occurrence, &found.heads, &found.seats, fresh);
         Ok(Outcome::Fired)
     }
@@ -72,7 +60,6 @@ impl Rested {
     /// is no step.
     pub(crate) fn settle(
         &mut self,
-        rules: &[Rule],
         fresh: &mut Vec<Atom>,
         standing: &mut Option<Standing>,
         found: &mut Found,
@@ -82,23 +69,22 @@ impl Rested {
         ensures rested { IsRested self.new }
         ensures rules { self.new.rules ≡ self.old.rules }
         ensures standing { Stands self.new fresh.new.items standing.new }
-        ensures fired { result ≡ Ok Fired → Step rules.now
+        ensures fired { result ≡ Ok Fired → Step self.old.rules.items
             (stored self.old ⊕ store_of fresh.old.items) (stored self.new ⊕ store_of fresh.new.items) }
         ensures joined { result ≡ Ok AtRest → fresh.new.items ≡ [] }
-        ensures other { result ≡ Ok OtherRules → ¬ (map parts_of self.old.rules.items ≡ map parts_of rules.now) }
         ensures same { ¬ (result ≡ Ok Fired) →
             stored self.new ⊕ store_of fresh.new.items ≡ stored self.old ⊕ store_of fresh.old.items }
     {
         while !fresh.is_empty() {
             fresh.reserve(MAX_BODY + 1)?;
             let active = fresh.pop().unwrap();
-            match self.take(rules, &active, fresh, standing, found) {
+            match self.take(&active, fresh, standing, found) {
                 Ok(Outcome::AtRest) => {}
                 Ok(Outcome::Fired) => return Ok(Outcome::Fired),
-                unsettled => {
+                Err(refused) => {
                     *standing = None;
                     fresh.push_reserved(active);
-                    return unsettled;
+                    return Err(refused);
                 }
             }
         }

@@ -1,8 +1,7 @@
 //! Steps under rules that are given.
-ghost use Rattle.std.specs.Prelude.{◌≡◌, IfOk, OnOk, OnErr, map};
-ghost use Rattle.std.specs.Bool.{OnTrue, OnFalse};
+ghost use Rattle.std.specs.Prelude.{◌≡◌, ◌<◌, ◌≤◌, [], IfOk, IfErr, OnOk, map};
 ghost use Rattle.chr_base.specs.FinBag.{◌⊕◌};
-ghost use Rattle.chr_base.specs.Rewriting.{IsAtRest};
+ghost use Rattle.chr_base.specs.Rewriting.{IsAtRest, Runs};
 ghost use Rattle.chr_base.specs.Rules.{Step};
 ghost use Rattle.chr_base.specs.Sameness.{parts_of};
 ghost use Rattle.chr_base.specs.Stores.{store_of};
@@ -18,6 +17,12 @@ use chr_base::rule::Rule;
 use chr_plans::react::Standing;
 use std::alloc::AllocError;
 
+/// Memory was refused after this many whole steps.
+#[derive(Clone, Copy, Debug, PartialEq, Eq)]
+pub struct Stopped {
+    pub steps: u64,
+}
+
 /// All atoms become fresh, and nothing is at rest, under copies of these rules. Where memory is refused nothing
 /// changes.
 fn start_over(rested: &mut Rested, fresh: &mut Vec<Atom>, rules: &[Rule]) -> Result<(), AllocError>
@@ -32,90 +37,83 @@ fn start_over(rested: &mut Rested, fresh: &mut Vec<Atom>, rules: &[Rule]) -> Res
     Ok(())
 }
 
-/// One step under rules that are those of the rows, or false where there is none.
-fn step_own(
+/// The rows are under these rules, whatever they were under: where they were under others all atoms become fresh.
+/// Where memory is refused nothing changes.
+fn stand_under(
     rested: &mut Rested,
     fresh: &mut Vec<Atom>,
     standing: &mut Option<Standing>,
-    found: &mut Found,
     rules: &[Rule],
-) -> Result<bool, AllocError>
+) -> Result<(), AllocError>
     requires rested { IsRested rested.old }
     requires standing { Stands rested.old fresh.old.items standing.old }
-    requires own { map parts_of rested.old.rules.items ≡ map parts_of rules.now }
     ensures rested { IsRested rested.new }
     ensures standing { Stands rested.new fresh.new.items standing.new }
-    ensures stepped { IfOk result (λ stepped. OnTrue stepped (Step rules.now
-        (stored rested.old ⊕ store_of fresh.old.items) (stored rested.new ⊕ store_of fresh.new.items))) }
-    ensures same { IfOk result (λ stepped. OnFalse stepped
-        (stored rested.new ⊕ store_of fresh.new.items ≡ stored rested.old ⊕ store_of fresh.old.items)) }
-    ensures rests { IfOk result (λ stepped. OnFalse stepped
-        (IsAtRest (Step rules.now) (stored rested.old ⊕ store_of fresh.old.items))) }
-    ensures err { OnErr result
-        (stored rested.new ⊕ store_of fresh.new.items ≡ stored rested.old ⊕ store_of fresh.old.items) }
+    ensures same { stored rested.new ⊕ store_of fresh.new.items ≡ stored rested.old ⊕ store_of fresh.old.items }
+    ensures rules { OnOk result (map parts_of rested.new.rules.items ≡ map parts_of rules.now) }
 {
-    match rested.settle(rules, fresh, standing, found)? {
-        Outcome::Fired => Ok(true),
-        Outcome::AtRest => Ok(false),
-        Outcome::OtherRules => unreachable!(),
+    if are_same(&rested.rules, rules) {
+        return Ok(());
     }
-}
-
-/// The same, where the rules may be others.
-fn step_over(
-    rested: &mut Rested,
-    fresh: &mut Vec<Atom>,
-    standing: &mut Option<Standing>,
-    found: &mut Found,
-    rules: &[Rule],
-) -> Result<bool, AllocError>
-    requires { IsRested rested.old }
-    ensures rested { IsRested rested.new }
-    ensures standing { Stands rested.new fresh.new.items standing.new }
-    ensures stepped { IfOk result (λ stepped. OnTrue stepped (Step rules.now
-        (stored rested.old ⊕ store_of fresh.old.items) (stored rested.new ⊕ store_of fresh.new.items))) }
-    ensures same { IfOk result (λ stepped. OnFalse stepped
-        (stored rested.new ⊕ store_of fresh.new.items ≡ stored rested.old ⊕ store_of fresh.old.items)) }
-    ensures rests { IfOk result (λ stepped. OnFalse stepped
-        (IsAtRest (Step rules.now) (stored rested.old ⊕ store_of fresh.old.items))) }
-    ensures err { OnErr result
-        (stored rested.new ⊕ store_of fresh.new.items ≡ stored rested.old ⊕ store_of fresh.old.items) }
-{
     *standing = None;
-    start_over(rested, fresh, rules)?;
-    step_own(rested, fresh, standing, found, rules)
+    start_over(rested, fresh, rules)
 }
 
-/// One step of some rule, or false where there is none. Where memory is refused the store is as before. The rules are
-/// compared with those of the rows where it matters: the one that fires, and all of them where nothing is fresh.
-pub(crate) fn step_in(
+/// Steps under the rules of the rows: so many, or fewer where nothing is fresh any more, or where memory is refused.
+fn take_own(
+    rested: &mut Rested,
+    fresh: &mut Vec<Atom>,
+    standing: &mut Option<Standing>,
+    found: &mut Found,
+    most: u64,
+) -> Result<u64, Stopped>
+    requires rested { IsRested rested.old }
+    requires standing { Stands rested.old fresh.old.items standing.old }
+    ensures rested { IsRested rested.new }
+    ensures rules { rested.new.rules ≡ rested.old.rules }
+    ensures standing { Stands rested.new fresh.new.items standing.new }
+    ensures ok { IfOk result (λ n. Runs (Step rested.old.rules.items) n
+        (stored rested.old ⊕ store_of fresh.old.items) (stored rested.new ⊕ store_of fresh.new.items)) }
+    ensures most { IfOk result (λ n. n ≤ most) }
+    ensures joined { IfOk result (λ n. n < most → fresh.new.items ≡ []) }
+    ensures stopped { IfErr result (λ e. Runs (Step rested.old.rules.items) e.steps
+        (stored rested.old ⊕ store_of fresh.old.items) (stored rested.new ⊕ store_of fresh.new.items)) }
+    ensures fewer { IfErr result (λ e. e.steps < most) }
+{
+    for steps in 0..most {
+        match rested.settle(fresh, standing, found) {
+            Ok(Outcome::Fired) => {}
+            Ok(Outcome::AtRest) => return Ok(steps),
+            Err(_) => return Err(Stopped { steps }),
+        }
+    }
+    Ok(most)
+}
+
+/// Steps under these rules: so many, or fewer where the store is at rest then, or where memory is refused.
+pub(crate) fn take_in(
     rested: &mut Rested,
     fresh: &mut Vec<Atom>,
     standing: &mut Option<Standing>,
     found: &mut Found,
     rules: &[Rule],
-) -> Result<bool, AllocError>
+    most: u64,
+) -> Result<u64, Stopped>
     requires rested { IsRested rested.old }
     requires standing { Stands rested.old fresh.old.items standing.old }
     ensures rested { IsRested rested.new }
     ensures standing { Stands rested.new fresh.new.items standing.new }
-    ensures stepped { IfOk result (λ stepped. OnTrue stepped (Step rules.now
-        (stored rested.old ⊕ store_of fresh.old.items) (stored rested.new ⊕ store_of fresh.new.items))) }
-    ensures same { IfOk result (λ stepped. OnFalse stepped
-        (stored rested.new ⊕ store_of fresh.new.items ≡ stored rested.old ⊕ store_of fresh.old.items)) }
-    ensures rests { IfOk result (λ stepped. OnFalse stepped
-        (IsAtRest (Step rules.now) (stored rested.old ⊕ store_of fresh.old.items))) }
-    ensures err { OnErr result
-        (stored rested.new ⊕ store_of fresh.new.items ≡ stored rested.old ⊕ store_of fresh.old.items) }
+    ensures ok { IfOk result (λ n. Runs (Step rules.now) n
+        (stored rested.old ⊕ store_of fresh.old.items) (stored rested.new ⊕ store_of fresh.new.items)) }
+    ensures most { IfOk result (λ n. n ≤ most) }
+    ensures rests { IfOk result (λ n. n < most →
+        IsAtRest (Step rules.now) (stored rested.new ⊕ store_of fresh.new.items)) }
+    ensures stopped { IfErr result (λ e. Runs (Step rules.now) e.steps
+        (stored rested.old ⊕ store_of fresh.old.items) (stored rested.new ⊕ store_of fresh.new.items)) }
+    ensures fewer { IfErr result (λ e. 0 < most → e.steps < most) }
 {
-    match rested.settle(rules, fresh, standing, found)? {
-        Outcome::Fired => return Ok(true),
-        Outcome::AtRest => {
-            if are_same(&rested.rules, rules) {
-                return Ok(false);
-            }
-        }
-        Outcome::OtherRules => {}
-    }
-    step_over(rested, fresh, standing, found, rules)
+    let Ok(()) = stand_under(rested, fresh, standing, rules) else {
+        return Err(Stopped { steps: 0 });
+    };
+    take_own(rested, fresh, standing, found, most)
 }

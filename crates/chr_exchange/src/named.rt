@@ -25,11 +25,12 @@ fn named_atoms(
     // Most atoms of an operation have the symbol of the one before.
     let mut symbol = SymbolId(0);
     for word in words {
-        let Some(atom) = program.atom_near(symbol, word.name.as_str(), &word.args) else {
+        let last = atoms.len();
+        atoms.push(Atom::default())?;
+        if !program.set_atom(symbol, word.name.as_str(), &word.args, &mut atoms[last]) {
             return Ok(None);
-        };
-        symbol = atom.symbol;
-        atoms.push(atom)?;
+        }
+        symbol = atoms[last].symbol;
     }
     Ok(Some(atoms))
 }

@@ -253,8 +253,8 @@ fn band_of(heads: &[Atom], limits: &[Limit], column: usize) -> Band
 }
 
 /// A span with all atoms that these limits allow under these heads: that of the order's columns.
-pub fn span_of(heads: &[Atom], order: Order, limits: &ArrayVec<Limit, MAX_COMPARISONS>) -> Span
-    ensures all { (a : AtomValue) → list_all (allows heads.now a) limits.now.items ≡ true → Spans result a }
+fn limited_span(heads: &[Atom], order: Order, limits: &[Limit]) -> Span
+    ensures all { (a : AtomValue) → list_all (allows heads.now a) limits.now ≡ true → Spans result a }
     ensures first { IfSome (slice_get (columns_by order) 0) (λ c. result.first.column ≡ c) }
     ensures second { IfSome (slice_get (columns_by order) 1) (λ c. result.second.column ≡ c) }
 {
@@ -269,4 +269,16 @@ pub fn span_of(heads: &[Atom], order: Order, limits: &ArrayVec<Limit, MAX_COMPAR
             second: band_of(heads, limits, second),
         },
     }
+}
+
+/// The same, sooner where there is no order, as in most look-ups.
+pub fn span_of(heads: &[Atom], order: Order, limits: &ArrayVec<Limit, MAX_COMPARISONS>) -> Span
+    ensures all { (a : AtomValue) → list_all (allows heads.now a) limits.now.items ≡ true → Spans result a }
+    ensures first { IfSome (slice_get (columns_by order) 0) (λ c. result.first.column ≡ c) }
+    ensures second { IfSome (slice_get (columns_by order) 1) (λ c. result.second.column ≡ c) }
+{
+    if let Order::Unordered = order {
+        return Span::default();
+    }
+    limited_span(heads, order, limits)
 }

@@ -107,7 +107,7 @@ fn complete<R: Rows>(
             row,
         };
         if !is_taken(&lookups[..done], seats, seat) {
-            heads[lookup.partner.place] = rows.atom(lookup.table, row);
+            rows.read(lookup.table, row, &mut heads[lookup.partner.place]);
             seats[lookup.partner.place] = seat;
             if complete(rows, rule, active, lookups, done + 1, None, heads, seats) {
                 return true;
@@ -146,7 +146,7 @@ fn start(
 {
     fit(heads, rule.places());
     fit(seats, rule.places());
-    heads[place] = active.copy();
+    heads[place].copy_from(active);
     seats[place] = Seat { table: 0, row: 0 };
 }
 

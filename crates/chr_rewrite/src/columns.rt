@@ -5,7 +5,7 @@ use chr_base::atom::Atom;
 use chr_base::bag::Bag;
 use chr_base::limits::MAX_HEADS;
 use chr_base::rule::Rule;
-use chr_columns::columns::Columns;
+use chr_columns::columns::{Columns, Stopped};
 use std::alloc::{AllocError, Global};
 
 impl Pool for Columns {
@@ -34,6 +34,10 @@ impl Pool for Columns {
 
     fn bag(&self, alloc: Global) -> Result<Bag, AllocError> {
         Columns::bag(self, alloc)
+    }
+
+    fn take_steps(&mut self, rules: &[Rule], most: u64) -> Result<u64, Stopped> {
+        Columns::take_steps(self, rules, most)
     }
 
     fn step(&mut self, rules: &[Rule]) -> Result<bool, AllocError> {

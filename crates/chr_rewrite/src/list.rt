@@ -11,6 +11,7 @@ use chr_base::bag::Bag;
 use chr_base::limits::MAX_HEADS;
 use chr_base::lists::{fits_in, push_all};
 use chr_base::rule::Rule;
+use chr_columns::columns::Stopped;
 use std::alloc::{AllocError, Global};
 use std::marker::Model;
 
@@ -76,6 +77,17 @@ impl Pool for ListPool {
 
     fn bag(&self, alloc: Global) -> Result<Bag, AllocError> {
         Bag::of(copies_of(alloc, &self.items)?)
+    }
+
+    fn take_steps(&mut self, rules: &[Rule], most: u64) -> Result<u64, Stopped> {
+        for steps in 0..most {
+            match self.step(rules) {
+                Ok(true) => {}
+                Ok(false) => return Ok(steps),
+                Err(_) => return Err(Stopped { steps }),
+            }
+        }
+        Ok(most)
     }
 
     fn step(&mut self, rules: &[Rule]) -> Result<bool, AllocError> {

@@ -1,16 +1,17 @@
 //! Stores in which rules are applied.
-ghost use Rattle.std.specs.Prelude.{◌≡◌, ◌↔◌, IfOk, IfSome, IfNone, IsTrue, OnOk, OnErr};
+ghost use Rattle.std.specs.Prelude.{◌≡◌, ◌<◌, ◌≤◌, ◌↔◌, IfOk, IfErr, IfSome, IfNone, IsTrue, OnOk, OnErr};
 ghost use Rattle.std.specs.Bool.{OnTrue, OnFalse};
 ghost use Rattle.chr_base.specs.FinBag.{◌⊕◌, ◌⊖◌, IsWithin};
 ghost use Rattle.chr_base.specs.Stores.{Store, store_of};
 ghost use Rattle.chr_base.specs.Rules.{Step, HasInstance, StepOn, HasNoStep};
-ghost use Rattle.chr_base.specs.Rewriting.{IsAtRest};
+ghost use Rattle.chr_base.specs.Rewriting.{IsAtRest, Runs};
 
 use arrayvec::ArrayVec;
 use chr_base::atom::Atom;
 use chr_base::bag::Bag;
 use chr_base::limits::MAX_HEADS;
 use chr_base::rule::Rule;
+use chr_columns::columns::Stopped;
 use std::alloc::{AllocError, Global};
 
 /// A store in which rules are applied: a multiset of atoms, however they are kept.
@@ -49,6 +50,14 @@ pub trait Pool {
     /// The atoms as a bag.
     fn bag(&self, alloc: Global) -> Result<Bag, AllocError>
         ensures { IfOk result (λ b. b ≡ contents self.now) };
+
+    /// Steps of these rules: so many, or fewer where the pool is at rest then, or where memory is refused, after which the
+    /// steps taken so far stand.
+    fn take_steps(&mut self, rules: &[Rule], most: u64) -> Result<u64, Stopped>
+        ensures ok { IfOk result (λ n. Runs (Step rules.now) n (contents self.old) (contents self.new)) }
+        ensures most { IfOk result (λ n. n ≤ most) }
+        ensures rests { IfOk result (λ n. n < most → IsAtRest (Step rules.now) (contents self.new)) }
+        ensures stopped { IfErr result (λ e. Runs (Step rules.now) e.steps (contents self.old) (contents self.new)) };
 
     /// One step of some rule. False, and nothing changes, where the pool is at rest; where memory is refused nothing
     /// changes either.

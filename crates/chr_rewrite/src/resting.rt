@@ -8,18 +8,14 @@ ghost use Rattle.chr_weights.specs.Weights.{store_rank};
 ghost use Rattle.chr_rewrite.specs.Pools.{TookSteps};
 
 use crate::pool::Pool;
+pub use chr_columns::columns::Stopped;
 use chr_weights::Weighed;
-
-/// Memory was refused after this many whole steps, or where it is the greatest u64, after that many or more.
-#[derive(Clone, Copy, Debug, PartialEq, Eq)]
-pub struct Stopped {
-    pub steps: u64,
-}
 
 /// Takes steps of the program until the pool is at rest. It answers their number, which stays at the greatest u64; a
 /// store whose rank fits 64 bits, as that of a million atoms does (`ranks_are_bounded`), takes as many as are told. A
-/// pool at rest stays as it is. Where memory is refused, the steps taken so far stand; that may be before it is known
-/// whether the pool is at rest, which [`at_rest`] tells without memory.
+/// pool at rest stays as it is. Where memory is refused, the steps taken so far stand, and [`Stopped`] has their number,
+/// which stays at the greatest u64 too; that may be before it is known whether the pool is at rest, which [`at_rest`]
+/// tells without memory.
 pub fn rest<P: Pool>(weighed: &Weighed, pool: &mut P) -> Result<u64, Stopped>
     ensures ok { IfOk result (λ n. TookSteps (program_of weighed.now) n (P.contents pool.old) (P.contents pool.new)) }
     ensures exact { store_rank (program_of weighed.now) (P.contents pool.old) < 2 ^ 64 →
@@ -35,10 +31,17 @@ pub fn rest<P: Pool>(weighed: &Weighed, pool: &mut P) -> Result<u64, Stopped>
     let rules = weighed.program().rules();
     let mut steps: u64 = 0;
     loop {
-        match pool.step(rules) {
-            Ok(true) => steps = steps.saturating_add(1),
-            Ok(false) => return Ok(steps),
-            Err(_) => return Err(Stopped { steps }),
+        match pool.take_steps(rules, u64::MAX) {
+            Ok(more) => {
+                steps = steps.saturating_add(more);
+                if more < u64::MAX {
+                    return Ok(steps);
+                }
+            }
+            Err(stopped) => {
+                let steps = steps.saturating_add(stopped.steps);
+                return Err(Stopped { steps });
+            }
         }
     }
 }

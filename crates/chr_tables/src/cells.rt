@@ -111,17 +111,16 @@ impl Column {
     }
 }
 
-/// The arguments of a row, so many of them.
-fn arguments(columns: &[Column], row: usize, count: usize) -> ArrayVec<i64, MAX_ARITY>
+/// The arguments become those of a row, so many of them.
+fn read_arguments(columns: &[Column], row: usize, count: usize, args: &mut ArrayVec<i64, MAX_ARITY>)
     requires columns { count ≤ length columns.now }
     requires few { count ≤ MAX_ARITY }
-    ensures { result.items ≡ arguments columns.now row 0 count }
+    ensures { args.new.items ≡ arguments columns.now row 0 count }
 {
-    let mut args = ArrayVec::new();
+    args.clear();
     for column in 0..count {
         args.push(columns[column].get(row));
     }
-    args
 }
 
 /// Puts the arguments of a row into the columns.
@@ -193,16 +192,24 @@ impl Cells {
         self.shapes.len()
     }
 
+    /// The given atom becomes that of a row.
+    pub(crate) fn read(&self, row: usize, atom: &mut Atom)
+        requires { row < length self.now }
+        ensures { (a : AtomValue) → atom.new ≡ get_or self.now row a }
+    {
+        let shape = self.shapes[row];
+        atom.symbol = shape.symbol;
+        read_arguments(&self.columns, row, usize::from(shape.arity), &mut atom.args);
+    }
+
     /// The atom of a row.
     pub(crate) fn atom(&self, row: usize) -> Atom
         requires { row < length self.now }
         ensures { (a : AtomValue) → result ≡ get_or self.now row a }
     {
-        let shape = self.shapes[row];
-        Atom {
-            symbol: shape.symbol,
-            args: arguments(&self.columns, row, usize::from(shape.arity)),
-        }
+        let mut atom = Atom::default();
+        self.read(row, &mut atom);
+        atom
     }
 
     /// A row from `from` on that may have this value as its argument in a column, counted from 0; none with it was

@@ -200,12 +200,12 @@ impl Table {
         row_of(keyed.index.at_or_below(hash, span, row))
     }
 
-    /// The atom of a live row.
-    pub fn atom(&self, row: usize) -> Atom
+    /// The given atom becomes that of a live row.
+    pub fn read(&self, row: usize, atom: &mut Atom)
         requires { IsTrue (is_some (get_or self.now.rows row None)) }
-        ensures { get_or self.now.rows row None ≡ Some result }
+        ensures { get_or self.now.rows row None ≡ Some atom.new }
     {
-        self.atoms.atom(row)
+        self.atoms.read(row, atom);
     }
 
     /// The atom of a row, where the row lives. A row past the last is dead.

@@ -46,7 +46,7 @@ impl Rows for Tables {
         self.tables[table].at_or_below(index, key, span, row)
     }
 
-    fn atom(&self, table: usize, row: usize) -> Atom {
-        self.tables[table].atom(row)
+    fn read(&self, table: usize, row: usize, atom: &mut Atom) {
+        self.tables[table].read(row, atom);
     }
 }

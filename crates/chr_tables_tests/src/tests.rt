@@ -122,7 +122,9 @@ fn newest_atom(table: &mut Table, key: &[i64]) -> Option<Atom>
     requires { 0 < length table.old.keys }
 {
     let row = table.first(0, key, &Span::default())?;
-    Some(table.atom(row))
+    let mut atom = Atom::default();
+    table.read(row, &mut atom);
+    Some(atom)
 }
 
 #[test]

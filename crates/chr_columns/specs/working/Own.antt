@@ -6,7 +6,3 @@ use Rattle.chr_base.specs.Sameness.{parts_of}
 -- one of the rules says the same as this one
 abbrev pub IsOwn : List Rule → Rule → Type 0
 IsOwn rules rule = (i : ℕ) × (r : Rule) × (slice_get rules i ≡ Some r) × (parts_of r ≡ parts_of rule)
-
--- the rule at this number says the same
-abbrev pub IsRuleAt : List Rule → ℕ → Rule → Type 0
-IsRuleAt rules n rule = (r : Rule) × (slice_get rules n ≡ Some r) × (parts_of rule ≡ parts_of r)

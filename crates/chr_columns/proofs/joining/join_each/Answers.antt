@@ -1,4 +1,4 @@
-use Rattle.std.proofs.Common.{rules, ◌++◌, [], ◌∷◌, refl, sym, ap, ◌∙◌, arith}
+use Rattle.std.proofs.Common.{rules, [], ◌∷◌, length, length-append, refl, sym, ap, ◌∙◌, arith}
 use Rattle.chr_base.specs.FinBag.{◌⊕◌}
 use Rattle.chr_base.specs.Stores.{store_of}
 use Rattle.chr_base.proofs.Stores.{plus_empty}
@@ -40,9 +40,9 @@ loop-atom-preserved c =
       | else-has w ↦ record {
         rested = rw w.rested-is c.loop-atom.invariant.rested;
         rules = rw w.rested-is c.loop-atom.invariant.rules;
-        room = rw w.fresh-is (let a = w.push_reserved.ensures.len in let b = w.push_reserved.ensures.capacity in let d = c.loop-atom.invariant.room in let e = c.loop-atom-test.true in omega (arith, a, b, d, e));
+        room = rw w.fresh-is (let a = ap length w.push_copy.ensures.items ∙ length-append c.loop-atom.fresh.items (c.atom-item.result ∷ []) in let b = w.push_copy.ensures.capacity in let d = c.loop-atom.invariant.room in let e = c.loop-atom-test.true in omega (arith, a, b, d, e));
         whole = rw (w.rested-is, w.fresh-is) (whole_next _ _ _ c.args.atoms.now c.loop-atom.atom-index c.atom-item.result c.loop-atom-test.true c.atom-item.is c.loop-atom.invariant.whole
-            (inserted (stored c.loop-atom.rested) c.loop-atom.fresh.items (c.atom-item.result ∷ []) w.push_reserved.new.self.items (w.push_reserved.ensures.items ∙ ap (λ a. c.loop-atom.fresh.items ++ a ∷ []) w.copy.ensures)));
+            (inserted (stored c.loop-atom.rested) c.loop-atom.fresh.items (c.atom-item.result ∷ []) w.push_copy.new.items.items w.push_copy.ensures.items));
         may = rw w.rested-is (walk_on c.args.joint.now.columns.items c.args.free.now c.args.rested.now.rules.items (stored c.loop-atom.rested) c.args.atoms.now c.loop-atom.atom-index c.atom-item.result c.loop-atom-test.true c.atom-item.is
             c.loop-atom.invariant.may);
       }

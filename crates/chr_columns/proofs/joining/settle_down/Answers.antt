@@ -1,4 +1,4 @@
-use Rattle.std.proofs.Common.{◌++◌, [], ◌∷◌, ap, ◌∙◌}
+use Rattle.std.proofs.Common.{[], ◌∷◌, ap, ◌∙◌}
 use Rattle.chr_base.specs.FinBag.{◌⊕◌}
 use Rattle.chr_base.specs.Stores.{store_of}
 use Rattle.chr_actives.specs.Actives.{one}
@@ -12,9 +12,9 @@ returns-in-Ok-clause-whole c = came_to (stored c.args.rested.now) (stored c.put.
 
 pub returns-in-Err-clause-whole : goal.returns-in-Err-clause-whole
 returns-in-Err-clause-whole c =
-    ap (λ s. s ⊕ store_of c.push_reserved.new.self.items) c.in-Err.ensures.err
-    ∙ inserted (stored c.args.rested.now) c.args.fresh.now.items (c.args.atom.now ∷ []) c.push_reserved.new.self.items
-    (c.push_reserved.ensures.items ∙ ap (λ a. c.args.fresh.now.items ++ a ∷ []) c.copy.ensures)
+    ap (λ s. s ⊕ store_of c.push_copy.new.items.items) c.in-Err.ensures.err
+    ∙ inserted (stored c.args.rested.now) c.args.fresh.now.items (c.args.atom.now ∷ []) c.push_copy.new.items.items
+    c.push_copy.ensures.items
 
 pub returns-in-Err-clause-within : goal.returns-in-Err-clause-within
 returns-in-Err-clause-within c = came_beside (stored c.args.rested.now) (stored c.put.new.self) (one c.args.atom.now) c.in-Err.ensures.err

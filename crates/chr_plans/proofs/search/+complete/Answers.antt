@@ -98,8 +98,8 @@ complete-requires g t c κs within =
                 (
                   length-set c.loop-next.seats _ _ ∙ s,
                   (
-                    rw c.loop-next.invariant.rows (started_more c.args.rule.now _ c.args.active c.args.lookups.now c.args.done c.index-lookups-done.result c.args.heads.now c.loop-next.heads c.args.seats.now c.loop-next.seats c.atom.result _ c.requires.plan n here
-                        (omega (arith, w, h)) (omega (arith, w, s)) c.requires.started c.loop-next.invariant.same (rw c.loop-next.invariant.rows at c.atom.ensures)
+                    rw c.loop-next.invariant.rows (started_more c.args.rule.now _ c.args.active c.args.lookups.now c.args.done c.index-lookups-done.result c.args.heads.now c.loop-next.heads c.args.seats.now c.loop-next.seats c.read.new.atom _ c.requires.plan n here
+                        (omega (arith, w, h)) (omega (arith, w, s)) c.requires.started c.loop-next.invariant.same (rw c.loop-next.invariant.rows at c.read.ensures)
                         (λ j g2 e. c.if-not-is_taken.ensures.free j (omega (arith, g2, many)) (ap (seat c.loop-next.seats) (places_take c.args.lookups.now c.args.done j g2) ∙ e))),
                     tt,
                   ),
@@ -166,7 +166,7 @@ loop-next-preserved g t c =
           (below_next (λ q. IsWanted (g.R.Rows.columns c.args.rows.now c.index-lookups-done.result.table c.index-lookups-done.result.index) (map (λ k. source_value c.args.heads.now k.source) c.index-lookups-done.result.partner.key.items) c.span_of-span.result (g.R.Rows.rows c.args.rows.now c.index-lookups-done.result.table q)) c.in-Some.row c.next-next.result
           (newest_next _ _ c.in-Some.row c.next-next.result (rw (← key, ← rows_now, ← columns_now) c.next-next.ensures.newest)) (none_next _ _ c.in-Some.row c.next-next.result (rw (← key, ← rows_now, ← columns_now) c.next-next.ensures.none)))
           (elim c.if-not-is_taken.branch [
-            | then-not-is_taken+else-complete w ↦ not_found c.args.rule.now c.args.active c.args.lookups.now c.args.done c.index-lookups-done.result _ (g.R.Rows.columns c.args.rows.now) c.args.heads.now c.args.seats.now c.requires.plan c.requires.fits n (sym c.index-lookups-done.is) _ w.atom.result c.loop-next.heads c.loop-next.seats (rw c.loop-next.invariant.rows at w.atom.ensures) (omega (arith, w0, h)) (omega (arith, w0, s)) c.loop-next.invariant.same (rw c.loop-next.invariant.rows at w.if-complete.ensures.none)
+            | then-not-is_taken+else-complete w ↦ not_found c.args.rule.now c.args.active c.args.lookups.now c.args.done c.index-lookups-done.result _ (g.R.Rows.columns c.args.rows.now) c.args.heads.now c.args.seats.now c.requires.plan c.requires.fits n (sym c.index-lookups-done.is) _ w.read.new.atom c.loop-next.heads c.loop-next.seats (rw c.loop-next.invariant.rows at w.read.ensures) (omega (arith, w0, h)) (omega (arith, w0, s)) c.loop-next.invariant.same (rw c.loop-next.invariant.rows at w.if-complete.ensures.none)
             | else-not-is_taken w ↦ (let v = w.if-not-is_taken.ensures.taken in
                 let g2 : v.0 < c.args.done = (let a = v.1 in omega (arith, a, many)) in
                 let same = c.loop-next.invariant.same (get_or (looked_in c.args.lookups.now) v.0 0) (inr (v.0, g2, refl)) in

@@ -1,7 +1,8 @@
+use Rattle.chr_columns.proofs.Running.{one_stepped, none_rests}
 use Rattle.chr_columns.proofs.columns.Columns.step.Goals as goal
 
-pub returns-clause-stepped : goal.returns-clause-stepped
-returns-clause-stepped c = rw (← c.self.view_is) c.step_in.ensures.stepped
+pub returns-in-Ok-clause-stepped : goal.returns-in-Ok-clause-stepped
+returns-in-Ok-clause-stepped c = one_stepped c.args.rules.now c.in-Ok.steps _ _ c.in-Ok.ensures.most c.in-Ok.ensures.ok
 
-pub returns-clause-rests : goal.returns-clause-rests
-returns-clause-rests c = rw (← c.self.view_is) c.step_in.ensures.rests
+pub returns-in-Ok-clause-rests : goal.returns-in-Ok-clause-rests
+returns-in-Ok-clause-rests c = none_rests c.args.rules.now c.in-Ok.steps _ _ c.in-Ok.ensures.most c.in-Ok.ensures.ok c.in-Ok.ensures.rests

@@ -14,7 +14,9 @@ returns-in-Ok-Fired-clause-fired c _ =
     let s = stored c.loop-fresh.self in
     let t = stored c.take.new.self ⊕ store_of c.take.new.fresh.items in
     let e = popped s c.reserve.new.self.items c.pop.new.self.items c.unwrap-active.result (rw c.unwrap-active.ensures at c.pop.ensures.items) ∙ ap (λ xs. s ⊕ store_of xs) c.reserve.ensures.items ∙ c.loop-fresh.invariant.same in
-    subst (λ x. Step c.args.rules.now x t) e (c.take.ensures.fired (c.in-Ok-Fired.is ∙ ap Ok c.in-Ok-Fired.field-0-is))
+    let fired = c.take.ensures.fired (c.in-Ok-Fired.is ∙ ap Ok c.in-Ok-Fired.field-0-is) in
+    let own_step = subst (λ v. Step v.items ((s ⊕ store_of c.pop.new.self.items) ⊕ one c.unwrap-active.result) t) c.loop-fresh.invariant.rules fired in
+    subst (λ x. Step c.args.self.now.rules.items x t) e own_step
 
 pub loop-fresh-preserved : goal.loop-fresh-preserved
 loop-fresh-preserved c =

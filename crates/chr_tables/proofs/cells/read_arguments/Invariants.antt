@@ -1,6 +1,6 @@
 use Rattle.std.proofs.Common.{◌≡◌, length}
 use Rattle.chr_tables.specs.working.Cells.{arguments}
-use Rattle.chr_tables.proofs.cells.arguments.Given as goal
+use Rattle.chr_tables.proofs.cells.read_arguments.Given as goal
 
 abbrev pub invariant-loop-column : goal.invariant-loop-column
 invariant-loop-column l = record {

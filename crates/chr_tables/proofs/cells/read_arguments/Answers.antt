@@ -5,7 +5,7 @@ use Rattle.std.proofs.lemmas.List.{get_or_default}
 use Rattle.std.proofs.lemmas.Int.{to_z-of_z}
 use Rattle.chr_tables.specs.working.Cells.{cell_value, arguments}
 use Rattle.chr_tables.proofs.InColumns.{arguments_more}
-use Rattle.chr_tables.proofs.cells.arguments.Goals as goal
+use Rattle.chr_tables.proofs.cells.read_arguments.Goals as goal
 
 pub loop-column-preserved : goal.loop-column-preserved
 loop-column-preserved c =
