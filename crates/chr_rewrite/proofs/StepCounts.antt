@@ -36,18 +36,30 @@ none_taken p n s t h rest = by h.steps h.counted h.run
     by zero e r = (e, r)
     by (suc m) e r = absurd (rest r.0 r.1)
 
-pub one_more : (p : Program) (rules : List Rule) (n k : ℕ) (s t u : Store) → ProgramLowers p → rules ≡ rules_of p → TookSteps p n s t → Step rules t u → k ≡ min (n + 1) (2 ^ 64 - 1) → TookSteps p k s u
-one_more p rules n k s t u lowers same h st e =
+-- steps and then some more
+pub many_more : (p : Program) (rules : List Rule) (n m k : ℕ) (s t u : Store) → ProgramLowers p → rules ≡ rules_of p → TookSteps p n s t → Runs (Step rules) m t u
+    → k ≡ min (n + m) (2 ^ 64 - 1) → TookSteps p k s u
+many_more p rules n m k s t u lowers same h more e =
     let is = h.counted in
-    let st' = subst (λ rs. Step rs t u) same st in
-    let r = Runs-append (Step (rules_of p)) h.steps 1 s t u h.run (u, st', refl) in
+    let more' = subst (λ rs. Runs (Step rs) m t u) same more in
+    let r = Runs-append (Step (rules_of p)) h.steps m s t u h.run more' in
     record {
-      steps = h.steps + 1;
+      steps = h.steps + m;
       counted = omega (arith, is, e);
       run = r;
-      rank = Runs-lowers (Step (rules_of p)) (store_rank p) (steps_lower p lowers) (h.steps + 1) s u r;
-      weight = λ none. Runs-lowers (Step (rules_of p)) (weight_of (λ a. (weight_in p a).first)) (step_lowers (λ a. (weight_in p a).first) (rules_of p) (lowers_first p none lowers)) (h.steps + 1) s u r;
+      rank = Runs-lowers (Step (rules_of p)) (store_rank p) (steps_lower p lowers) (h.steps + m) s u r;
+      weight = λ none. Runs-lowers (Step (rules_of p)) (weight_of (λ a. (weight_in p a).first)) (step_lowers (λ a. (weight_in p a).first) (rules_of p) (lowers_first p none lowers)) (h.steps + m) s u r;
     }
+
+-- some steps lower the rank
+pub some_lower : (p : Program) (rules : List Rule) (m : ℕ) (s t : Store) → ProgramLowers p → rules ≡ rules_of p → 0 < m → Runs (Step rules) m s t → store_rank p t < store_rank p s
+some_lower p rules m s t lowers same some h =
+    let low = Runs-lowers (Step (rules_of p)) (store_rank p) (steps_lower p lowers) m s t (subst (λ rs. Runs (Step rs) m s t) same h) in
+    omega (arith, low, some)
+
+-- at rest under the program's rules
+pub rests_so : (p : Program) (rules : List Rule) (t : Store) → rules ≡ rules_of p → IsAtRest (Step rules) t → IsAtRest (Step (rules_of p)) t
+rests_so p rules t same rest = subst (λ rs. IsAtRest (Step rs) t) same rest
 
 -- where the rank fits 64 bits, the steps are counted exactly
 pub exact_count : (p : Program) (n : ℕ) (s t : Store) → TookSteps p n s t → store_rank p s < 2 ^ 64 → Runs (Step (rules_of p)) n s t
