@@ -3,7 +3,9 @@ use Rattle.std.proofs.Common.{◌≡◌, ℕ, ◌+◌, ◌*◌, ◌-◌, ◌/◌
 use Rattle.std.specs.List.{prefix_len}
 use Rattle.std.proofs.lemmas.Bool.Decides.{nat_tests}
 use Rattle.std.proofs.lemmas.Fmt.{decimal_step, decimal_digit}
+use Rattle.std.proofs.lemmas.Grind.{pow_more}
 use Rattle.std.proofs.lemmas.List.{drop_more}
+use Rattle.std.proofs.Math.Nat.{pow-le-pow_right}
 use Rattle.json.specs.Print.{escape, escape_byte, quoted}
 use Rattle.json.proofs.Printed.Strings.{escape_byte_plain}
 use Rattle.chr_json.specs.working.Compact.{is_bare}
@@ -37,12 +39,24 @@ pub bare_front : (xs : List ℕ) → escape (take (prefix_len is_bare xs) xs) �
 bare_front [] = refl
 bare_front (x ∷ xs) = bare_case (is_bare x) x xs (prefix_len is_bare xs) (bare_byte x) (bare_front xs)
 
--- a name between quotation marks
-pub name_text : (text inner bytes back named rest : List ℕ)
-    → text ≡ 34 ∷ inner → inner ≡ bytes ++ back → bytes ≡ take (prefix_len is_bare inner) inner → back ≡ 34 ∷ rest → named ≡ bytes → text ≡ quoted named ++ rest
-name_text text inner bytes back named rest opened cut front closed same =
-    let plain : escape named ≡ bytes = ap escape (same ∙ front) ∙ bare_front inner ∙ sym front in
+-- a name that has no escapes, between quotation marks
+pub plain_text : (text inner named back rest : List ℕ) → text ≡ 34 ∷ inner → inner ≡ named ++ back → back ≡ 34 ∷ rest → escape named ≡ named → text ≡ quoted named ++ rest
+plain_text text inner named back rest opened cut closed plain =
     opened ∙ ap (λ l. 34 ∷ l) (cut ∙ (λ i. sym plain i ++ closed i) ∙ sym (append_assoc (escape named) (34 ∷ []) rest))
+
+-- the bytes before the first that does not stand for itself
+pub bare_name : (inner bytes named : List ℕ) → bytes ≡ take (prefix_len is_bare inner) inner → named ≡ bytes → escape named ≡ named
+bare_name inner bytes named front same = ap escape (same ∙ front) ∙ bare_front inner ∙ sym (same ∙ front)
+
+-- a power of ten bounds a number, and the next one that with one digit more
+pub digit_bound : (v d place : ℕ) → v < 10 ^ (place + 1) → 48 ≤ d → d ≤ 57 → v * 10 + (d - 48) < 10 ^ (place + 1 + 1)
+digit_bound v d place below low high = rw pow_more (omega arith)
+
+-- seventeen digits after the first leave it far below what 64 bits have room for
+pub digit_room : (v place : ℕ) → v < 10 ^ (place + 1) → place < 17 → v * 10 + 9 < 2 ^ 63
+digit_room v place below few =
+    let most : 10 ^ (place + 1) ≤ 10 ^ 17 = pow-le-pow_right (omega arith) {i = place + 1} {j = 17} (omega arith) in
+    omega (arith, most)
 
 -- a number that has a digit before the others
 pub digit_first : (d : ℕ) (rest : List ℕ) → 48 ≤ d → d < 58 → d ∷ rest ≡ decimal (d - 48) ++ rest

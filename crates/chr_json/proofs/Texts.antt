@@ -1,16 +1,14 @@
 -- The text of an array of JSON, element by element.
 use Rattle.std.proofs.Common.{◌≡◌, ℕ, ◌<◌, List, [], ◌∷◌, ◌++◌, drop, length, false, true, decimal, refl, sym, ap, ◌∙◌, append_assoc, arith}
-use Rattle.std.specs.Prelude.{flat_map, codes}
-use Rattle.std.proofs.lemmas.List.{flat_map_more}
+use Rattle.std.specs.Prelude.{codes, map}
+use Rattle.std.proofs.lemmas.List.{flat_map_more, map-append}
 use Rattle.serde_json.specs.Data.{Data, string, array}
 use Rattle.serde_json.specs.View.{items_of}
 use Rattle.serde_json.specs.Written.{compact_text, items_text}
-use Rattle.json.specs.Print.{escape, escape_byte}
-use Rattle.chr_json.specs.Printed.{natural_data}
-
--- elements, each after a comma
-abbrev pub later_text : List Data → List ℕ
-later_text = flat_map (λ d. 44 ∷ compact_text d)
+use Rattle.json.specs.Print.{escape, escape_byte, quoted}
+use Rattle.chr_json.specs.NamedAtoms.{NamedAtom}
+use Rattle.chr_json.specs.Printed.{natural_data, argument_data, atom_data}
+use Rattle.chr_json.specs.working.Compact.{later_text, arguments_later, atoms_later}
 
 -- the bytes so far, with one element more
 pub later_more : (ds : List Data) (d : Data) (text rest next : List ℕ) (after : List ℕ) → text ≡ later_text ds ++ rest → rest ≡ 44 ∷ next → next ≡ compact_text d ++ after → text ≡ later_text (ds ++ d ∷ []) ++ after
@@ -31,6 +29,21 @@ later_close (d ∷ ds) rest =
 pub later_close_whole : (ds : List Data) (text rest : List ℕ) → 0 < length ds → 44 ∷ text ≡ later_text ds ++ 93 ∷ rest → text ≡ items_text false (items_of ds) ++ rest
 later_close_whole [] text rest some so_far = absurd (omega arith)
 later_close_whole (d ∷ ds) text rest some so_far = ap (drop 1) (so_far ∙ later_close (d ∷ ds) rest)
+
+-- an atom, from its parts
+pub atom_text : (w : NamedAtom) (text rest-1 rest-2 rest : List ℕ) → text ≡ 91 ∷ rest-1 → rest-1 ≡ quoted w.name ++ rest-2 → rest-2 ≡ arguments_later w.args ++ 93 ∷ rest → text ≡ compact_text (atom_data w) ++ rest
+atom_text w text rest-1 rest-2 rest opened named list =
+    opened
+    ∙ ap (λ l. 91 ∷ l)
+    (named
+    ∙ ap (λ l. quoted w.name ++ l) (list ∙ later_close (map argument_data w.args) rest)
+    ∙ sym (append_assoc (quoted w.name) (items_text true (items_of (map argument_data w.args))) rest))
+
+-- the atoms so far, with one atom more
+pub atoms_more : (ws : List NamedAtom) (w : NamedAtom) (text rest : List ℕ) → text ≡ compact_text (atom_data w) ++ rest → atoms_later ws ++ 44 ∷ text ≡ atoms_later (ws ++ w ∷ []) ++ rest
+atoms_more ws w text rest here =
+    later_more (map atom_data ws) (atom_data w) (atoms_later ws ++ 44 ∷ text) (44 ∷ text) text rest refl refl here
+    ∙ ap (λ ds. later_text ds ++ rest) (sym (map-append atom_data ws (w ∷ [])))
 
 tell_word : escape (codes "tell") ≡ codes "tell"
 unfolding escape_byte

@@ -1,15 +1,16 @@
 //! Tells in compact JSON, read straight from their bytes: no tree of values is made for them.
 
-ghost use Rattle.std.specs.Prelude.{◌≡◌, ◌++◌, true, false, IfOk, OnOk, FitsSigned, map, vec_len};
+ghost use Rattle.std.specs.Prelude.{◌≡◌, ◌+◌, ◌∷◌, ◌++◌, IfOk, OnOk, FitsSigned, map, vec_len};
 ghost use Rattle.std.specs.Int.{w64};
 ghost use Rattle.std.specs.List.{AllByRecursion};
 ghost use Rattle.std.specs.Str.{IsUtf8};
-ghost use Rattle.serde_json.specs.View.{items_of};
-ghost use Rattle.serde_json.specs.Written.{compact_text, items_text};
+ghost use Rattle.json.specs.Print.{escape};
+ghost use Rattle.serde_json.specs.Written.{compact_text};
 ghost use Rattle.chr_json.specs.NamedAtoms.{IsOperationLength};
-ghost use Rattle.chr_json.specs.Printed.{argument_data, atom_data, atoms_data, id_data, ArgumentsFit};
+ghost use Rattle.chr_json.specs.Printed.{atoms_data, id_data, ArgumentsFit};
 ghost use Rattle.chr_json.specs.Reads.{IsSized, raw_atom_view, command_view};
 ghost use Rattle.chr_json.specs.Texts.{command_text, IsWithinTextLimits};
+ghost use Rattle.chr_json.specs.working.Compact.{arguments_later, atoms_later};
 
 use crate::atom::{Arguments, RawAtom};
 use crate::command::Command;
@@ -18,60 +19,77 @@ use chr_base::limits::MAX_OPERATION;
 use std::alloc::Global;
 use std::borrow::CowStr;
 
-/// Arguments that follow a name, to the end of their array.
-fn arguments(alloc: Global, text: &[u8]) -> Result<(Arguments, &[u8]), Stop>
-    ensures text { IfOk result (λ r. text.now ≡ items_text true (items_of (map argument_data r.0.items)) ++ r.1.now) }
-    ensures fit { IfOk result (λ r. AllByRecursion (FitsSigned w64) r.0.items) }
+/// Arguments that follow a name, to the end of their array, put behind those that are there.
+fn push_arguments<'a>(found: &mut Arguments, text: &'a [u8]) -> Result<&'a [u8], Stop>
+    requires { AllByRecursion (FitsSigned w64) found.old.items }
+    ensures text { IfOk result (λ rest. arguments_later found.old.items ++ text.now
+        ≡ arguments_later found.new.items ++ 93 ∷ rest.now) }
+    ensures fit { IfOk result (λ _. AllByRecursion (FitsSigned w64) found.new.items) }
 {
-    let mut found = Arguments::new(alloc);
     let mut rest = text;
     while let [b',', next @ ..] = rest {
         let (value, next) = integer(next)?;
         found.push(value)?;
         rest = next;
     }
-    let rest = after(b"]", rest)?;
-    Ok((found, rest))
+    after(b"]", rest)
 }
 
-/// An array of a name and arguments.
-fn atom(alloc: Global, text: &[u8]) -> Result<(RawAtom<'_>, &[u8]), Stop>
-    ensures text { IfOk result (λ r. text.now ≡ compact_text (atom_data (raw_atom_view r.0)) ++ r.1.now) }
-    ensures fit { IfOk result (λ r. ArgumentsFit (raw_atom_view r.0)) }
+/// An array of a name and arguments, put behind the atoms that are there, and its name. Most atoms of an operation have
+/// the name of the one before, which is the one that is near.
+fn push_atom<'a>(
+    found: &mut Vec<RawAtom<'a>>,
+    near: &'a str,
+    text: &'a [u8],
+) -> Result<(&'a str, &'a [u8]), Stop>
+    requires near { escape near.now ≡ near.now }
+    requires fit { AllByRecursion ArgumentsFit (map raw_atom_view found.old.items) }
+    ensures text { IfOk result (λ r. atoms_later (map raw_atom_view found.old.items) ++ 44 ∷ text.now
+        ≡ atoms_later (map raw_atom_view found.new.items) ++ r.1.now) }
+    ensures fit { IfOk result (λ _. AllByRecursion ArgumentsFit (map raw_atom_view found.new.items)) }
+    ensures len { IfOk result (λ _. vec_len found.new ≡ vec_len found.old + 1) }
+    ensures name { IfOk result (λ r. escape r.0.now ≡ r.0.now) }
+    ensures utf8 { IfOk result (λ r. IsUtf8 r.0.now) }
 {
     let rest = after(b"[", text)?;
-    let (name, rest) = name(rest)?;
-    let (args, rest) = arguments(alloc, rest)?;
-    let name = CowStr::Borrowed(name);
-    Ok((RawAtom { name, args }, rest))
+    let (name, rest) = name(near, rest)?;
+    let mut args = Arguments::new(*found.allocator());
+    let rest = push_arguments(&mut args, rest)?;
+    found.push(RawAtom {
+        name: CowStr::Borrowed(name),
+        args,
+    })?;
+    Ok((name, rest))
 }
 
-/// This atom and those that follow it, to the end of their array.
-fn with_more_atoms<'a>(
-    alloc: Global,
-    first: RawAtom<'a>,
+/// Atoms that follow the first, each after a comma, to the end of their array, put behind it. They are at most as many
+/// as an operation may have.
+fn push_more_atoms<'a>(
+    found: &mut Vec<RawAtom<'a>>,
+    name: &'a str,
     text: &'a [u8],
-) -> Result<(Vec<RawAtom<'a>>, &'a [u8]), Stop>
-    requires { ArgumentsFit (raw_atom_view first) }
-    ensures text { IfOk result (λ r. compact_text (atom_data (raw_atom_view first.entry)) ++ text.now
-        ≡ items_text false (items_of (map atom_data (map raw_atom_view r.0.items))) ++ r.1.now) }
-    ensures fit { IfOk result (λ r. AllByRecursion ArgumentsFit (map raw_atom_view r.0.items)) }
-    ensures sized { IfOk result (λ r. IsOperationLength (vec_len r.0)) }
+) -> Result<&'a [u8], Stop>
+    requires name { escape name.now ≡ name.now }
+    requires fit { AllByRecursion ArgumentsFit (map raw_atom_view found.old.items) }
+    requires first { vec_len found.old ≡ 1 }
+    ensures text { IfOk result (λ rest. atoms_later (map raw_atom_view found.old.items) ++ text.now
+        ≡ atoms_later (map raw_atom_view found.new.items) ++ 93 ∷ rest.now) }
+    ensures fit { IfOk result (λ _. AllByRecursion ArgumentsFit (map raw_atom_view found.new.items)) }
+    ensures sized { IfOk result (λ _. IsOperationLength (vec_len found.new)) }
 {
-    let mut found = Vec::new(alloc);
-    found.push(first)?;
+    let mut near = name;
     let mut rest = text;
-    while let [b',', next @ ..] = rest {
-        if found.len() == MAX_OPERATION {
-            return Err(Stop::Other);
-        }
-        let (atom, next) = atom(alloc, next)?;
-        found.push(atom)?;
-        rest = next;
+    for _count in 1..MAX_OPERATION {
+        let [b',', next @ ..] = rest else {
+            return after(b"]", rest);
+        };
+        (near, rest) = push_atom(found, near, next)?;
     }
-    let rest = after(b"]", rest)?;
-    Ok((found, rest))
+    after(b"]", rest)
 }
+
+/// Most atoms take at least so many bytes.
+const USUAL_LENGTH: usize = 8;
 
 /// An array of 1 to [`MAX_OPERATION`] atoms.
 fn atoms(alloc: Global, text: &[u8]) -> Result<(Vec<RawAtom<'_>>, &[u8]), Stop>
@@ -80,8 +98,11 @@ fn atoms(alloc: Global, text: &[u8]) -> Result<(Vec<RawAtom<'_>>, &[u8]), Stop>
     ensures sized { IfOk result (λ r. IsOperationLength (vec_len r.0)) }
 {
     let rest = after(b"[", text)?;
-    let (first, rest) = atom(alloc, rest)?;
-    with_more_atoms(alloc, first, rest)
+    let likely = MAX_OPERATION.min(1 + rest.len() / USUAL_LENGTH);
+    let mut found = Vec::with_capacity(alloc, likely)?;
+    let (name, rest) = push_atom(&mut found, "", rest)?;
+    let rest = push_more_atoms(&mut found, name, rest)?;
+    Ok((found, rest))
 }
 
 /// An array of an operation's origin and its number there.

@@ -1,13 +1,14 @@
 //! The pieces of compact JSON, read from the front of bytes. Each reader hands back the bytes after its piece.
 
-ghost use Rattle.std.specs.Prelude.{◌≡◌, ◌++◌, ◌≤◌, ◌<◌, IfOk, decimal, length};
+ghost use Rattle.std.specs.Prelude.{◌≡◌, ◌++◌, ◌∷◌, ◌≤◌, ◌<◌, IfOk, decimal, length};
 ghost use Rattle.std.specs.Fmt.{signed_decimal};
 ghost use Rattle.std.specs.List.{prefix_len};
-ghost use Rattle.json.specs.Print.{quoted};
+ghost use Rattle.std.specs.Str.{IsUtf8};
+ghost use Rattle.json.specs.Print.{escape, quoted};
 ghost use Rattle.chr_json.specs.working.Compact.{is_bare};
 ghost use Rattle.chr_json.specs.declared.piece.Stop.TheVariants.{Memory};
 
-use std::alloc::AllocFailed;
+use std::alloc::{AllocError, AllocFailed};
 
 /// Why a piece was not read.
 #[derive(Debug, Drop)]
@@ -22,6 +23,14 @@ impl<T: Drop> From<AllocFailed<T>> for Stop {
     ghost from_gives = { λ _ e. e ≡ Memory };
 
     fn from(_e: AllocFailed<T>) -> Stop {
+        Stop::Memory
+    }
+}
+
+impl From<AllocError> for Stop {
+    ghost from_gives = { λ _ e. e ≡ Memory };
+
+    fn from(_e: AllocError) -> Stop {
         Stop::Memory
     }
 }
@@ -57,13 +66,33 @@ fn with_more_digits(first: u64, text: &[u8]) -> Result<(u64, &[u8]), Stop>
     Ok((value, &[]))
 }
 
+/// So many digits after the first leave a number below 10^18, so that its size needs no look.
+const FREE_DIGITS: usize = 17;
+
+/// The number whose decimal digits are this one, and then those at the front.
+fn with_digits(first: u64, text: &[u8]) -> Result<(u64, &[u8]), Stop>
+    requires { (0 < first) × (first < 10) }
+    ensures { IfOk result (λ r. decimal first ++ text.now ≡ decimal r.0 ++ r.1.now) }
+{
+    let end = text.len().min(FREE_DIGITS);
+    let mut value = first;
+    for place in 0..end {
+        let byte = text[place];
+        if !byte.is_ascii_digit() {
+            return Ok((value, &text[place..]));
+        }
+        value = value * 10 + u64::from(byte - b'0');
+    }
+    with_more_digits(value, &text[end..])
+}
+
 /// A whole number without a sign, in 64 bits.
 pub fn natural(text: &[u8]) -> Result<(u64, &[u8]), Stop>
     ensures { IfOk result (λ r. text.now ≡ decimal r.0 ++ r.1.now) }
 {
     match text {
         [b'0', rest @ ..] => Ok((0, rest)),
-        [digit @ b'1'..=b'9', rest @ ..] => with_more_digits(u64::from(*digit - b'0'), rest),
+        [digit @ b'1'..=b'9', rest @ ..] => with_digits(u64::from(*digit - b'0'), rest),
         _ => Err(Stop::Other),
     }
 }
@@ -105,15 +134,33 @@ fn bare_len(text: &[u8]) -> usize
     text.iter().take_while(|byte| is_bare(**byte)).count()
 }
 
-/// A text between quotation marks, without escapes.
-pub fn name(text: &[u8]) -> Result<(&str, &[u8]), Stop>
-    ensures { IfOk result (λ r. text.now ≡ quoted r.0.now ++ r.1.now) }
+/// The text before a quotation mark, without escapes.
+fn name_before(text: &[u8]) -> Result<(&str, &[u8]), Stop>
+    ensures text { IfOk result (λ r. 34 ∷ text.now ≡ quoted r.0.now ++ r.1.now) }
+    ensures plain { IfOk result (λ r. escape r.0.now ≡ r.0.now) }
+    ensures utf8 { IfOk result (λ r. IsUtf8 r.0.now) }
 {
-    let inner = after(b"\"", text)?;
-    let (bytes, rest) = inner.split_at(bare_len(inner));
+    let (bytes, rest) = text.split_at(bare_len(text));
     let rest = after(b"\"", rest)?;
     match str::from_utf8(bytes) {
         Ok(name) => Ok((name, rest)),
         Err(_) => Err(Stop::Other),
     }
+}
+
+/// A text between quotation marks, without escapes. Where it is the one that is near, its bytes are compared with that
+/// and not looked at again.
+pub fn name<'a>(near: &'a str, text: &'a [u8]) -> Result<(&'a str, &'a [u8]), Stop>
+    requires { escape near.now ≡ near.now }
+    ensures text { IfOk result (λ r. text.now ≡ quoted r.0.now ++ r.1.now) }
+    ensures plain { IfOk result (λ r. escape r.0.now ≡ r.0.now) }
+    ensures utf8 { IfOk result (λ r. IsUtf8 r.0.now) }
+{
+    let inner = after(b"\"", text)?;
+    if let Ok(next) = after(near.as_bytes(), inner)
+        && let Ok(rest) = after(b"\"", next)
+    {
+        return Ok((near, rest));
+    }
+    name_before(inner)
 }
