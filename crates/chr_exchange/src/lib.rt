@@ -6,6 +6,7 @@
 
 mod fault;
 mod groups;
+mod keys;
 mod laws;
 mod named;
 mod order;

@@ -5,6 +5,7 @@ ghost use Rattle.chr_base.specs.Programs.{declarations};
 ghost use Rattle.chr_json.specs.Reads.{raw_atom_view, raw_op_view, IsSizedOperation};
 ghost use Rattle.chr_exchange.specs.Names.{declared_operation, declared_operations, named_atoms};
 
+use crate::keys::put_in_order;
 use chr_base::atom::{Atom, SymbolId};
 use chr_base::bag::Bag;
 use chr_base::program::Program;
@@ -44,9 +45,10 @@ pub fn declared_operation(
     requires { IsSizedOperation raw.now }
     ensures { IfOk result (λ found. found ≡ declared_operation (declarations program.now) (raw_op_view raw.now)) }
 {
-    let Some(atoms) = named_atoms(alloc, program, &raw.atoms)? else {
+    let Some(mut atoms) = named_atoms(alloc, program, &raw.atoms)? else {
         return Ok(None);
     };
+    put_in_order(&mut atoms);
     let bag = Bag::of(atoms)?;
     Ok(Op::of(raw.id, bag))
 }
