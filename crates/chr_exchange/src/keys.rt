@@ -55,7 +55,7 @@ fn span(atoms: &[Atom], column: usize) -> (i64, u64) {
         least = least.min(value);
         most = most.max(value);
     }
-    (least, most.abs_diff(least))
+    (least, most.wrapping_sub(least).cast_unsigned())
 }
 
 /// Puts the values of a column behind those that the keys have, in so many bits at most. How many bits are left.
@@ -71,7 +71,8 @@ fn push_column(keys: &mut [u64], atoms: &[Atom], column: usize, room: u32) -> u3
     let kept = width.min(room);
     let dropped = width - kept;
     for (key, atom) in keys.iter_mut().zip(atoms) {
-        *key = (*key << kept) | (value(atom, column).abs_diff(least) >> dropped);
+        let above = value(atom, column).wrapping_sub(least).cast_unsigned();
+        *key = (*key << kept) | (above >> dropped);
     }
     room - kept
 }
