@@ -14,7 +14,7 @@ use crate::own::find_in;
 use crate::rested::{Found, Rested};
 use crate::rows::Rows;
 pub use crate::stepping::Stopped;
-use crate::stepping::take_in;
+use crate::stepping::advance_in;
 use chr_base::atom::Atom;
 use chr_base::bag::Bag;
 use chr_base::lists::push_copies;
@@ -174,14 +174,14 @@ impl Columns {
     /// the steps taken so far stand. Those by the pool's own rules take near constant time each; under other rules it
     /// makes copies of these, and all atoms become fresh. The rules are compared once. Where they are the pool's own and
     /// no atom is fresh, no step is looked for, nor memory asked for.
-    pub fn take_steps(&mut self, rules: &[Rule], most: u64) -> Result<u64, Stopped>
+    pub fn advance(&mut self, rules: &[Rule], most: u64) -> Result<u64, Stopped>
         ensures ok { IfOk result (λ n. Runs (Step rules.now) n self.old self.new) }
         ensures most { IfOk result (λ n. n ≤ most) }
         ensures rests { IfOk result (λ n. n < most → IsAtRest (Step rules.now) self.new) }
         ensures stopped { IfErr result (λ e. Runs (Step rules.now) e.steps self.old self.new) }
         ensures fewer { IfErr result (λ e. 0 < most → e.steps < most) }
     {
-        take_in(
+        advance_in(
             &mut self.rested,
             &mut self.fresh,
             &mut self.standing,
@@ -192,14 +192,14 @@ impl Columns {
     }
 
     /// One step of some rule. False, and nothing changes, where the store is at rest; where memory is refused nothing
-    /// changes either. It compares all rules, which `take_steps` does but once for many steps.
+    /// changes either. It compares all rules, which `advance` does but once for many steps.
     pub fn step(&mut self, rules: &[Rule]) -> Result<bool, AllocError>
         ensures stepped { IfOk result (λ stepped. OnTrue stepped (Step rules.now self.old self.new)) }
         ensures same { IfOk result (λ stepped. OnFalse stepped (self.new ≡ self.old)) }
         ensures rests { IfOk result (λ stepped. OnFalse stepped (IsAtRest (Step rules.now) self.old)) }
         ensures err { OnErr result (self.new ≡ self.old) }
     {
-        match self.take_steps(rules, 1) {
+        match self.advance(rules, 1) {
             Ok(steps) => Ok(steps == 1),
             Err(_) => Err(AllocError),
         }

@@ -60,7 +60,7 @@ fn stand_under(
 }
 
 /// Steps under the rules of the rows: so many, or fewer where nothing is fresh any more, or where memory is refused.
-fn take_own(
+fn advance_own(
     rested: &mut Rested,
     fresh: &mut Vec<Atom>,
     standing: &mut Option<Standing>,
@@ -91,7 +91,7 @@ fn take_own(
 }
 
 /// Steps under these rules: so many, or fewer where the store is at rest then, or where memory is refused.
-pub(crate) fn take_in(
+pub(crate) fn advance_in(
     rested: &mut Rested,
     fresh: &mut Vec<Atom>,
     standing: &mut Option<Standing>,
@@ -115,5 +115,5 @@ pub(crate) fn take_in(
     let Ok(()) = stand_under(rested, fresh, standing, rules) else {
         return Err(Stopped { steps: 0 });
     };
-    take_own(rested, fresh, standing, found, most)
+    advance_own(rested, fresh, standing, found, most)
 }

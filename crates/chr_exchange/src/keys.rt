@@ -5,12 +5,16 @@
 //! far as there is room, and then its place. What such keys can't tell apart is left to the multiset.
 ghost use Rattle.std.specs.Prelude.{◌≡◌, ◌<◌, ◌≤◌, length, vec_len};
 ghost use Rattle.chr_base.specs.Stores.{store_of};
+ghost use Rattle.chr_exchange.specs.declared.keys.TheConstants.{VALUE_BITS};
 
 use chr_base::atom::Atom;
 use chr_base::limits::MAX_OPERATION;
 
 /// The bits of a key that say the place of its atom, which is below [`MAX_OPERATION`].
 const PLACE_BITS: u32 = 6;
+
+/// The greatest place.
+const LAST_PLACE: u64 = 63;
 
 /// The bits of a key that say the values of its atom.
 const VALUE_BITS: u32 = 58;
@@ -60,8 +64,8 @@ fn span(atoms: &[Atom], column: usize) -> (i64, u64) {
 
 /// Puts the values of a column behind those that the keys have, in so many bits at most. How many bits are left.
 fn push_column(keys: &mut [u64], atoms: &[Atom], column: usize, room: u32) -> u32
-    requires { room ≤ 58 }
-    ensures { result ≤ 58 }
+    requires { room ≤ VALUE_BITS }
+    ensures { result ≤ VALUE_BITS }
 {
     let (least, spread) = span(atoms, column);
     let width = 64u32.saturating_sub(spread.leading_zeros());
@@ -103,7 +107,7 @@ fn push_places(keys: &mut [u64]) {
 
 /// The place that a key says.
 fn place_of(key: u64) -> usize {
-    (key & 63) as usize
+    (key & LAST_PLACE) as usize
 }
 
 /// Puts an atom where its key stands, then the atom that stood there where its own key stands, and so on to the first.

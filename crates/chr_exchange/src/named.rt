@@ -1,9 +1,10 @@
 //! Operations of atoms that a program declares, from the names that a message or a command line spells.
 
-ghost use Rattle.std.specs.Prelude.{◌≡◌, All, IfOk, map, option_map};
+ghost use Rattle.std.specs.Prelude.{◌≡◌, ◌∷◌, ◌++◌, [], Some, None, All, IfOk, IfSome, IfNone, map, option_map};
+ghost use Rattle.chr_base.specs.declared.atom.Atom.{Atom as AtomValue};
 ghost use Rattle.chr_base.specs.Programs.{declarations};
 ghost use Rattle.chr_json.specs.Reads.{raw_atom_view, raw_op_view, IsSizedOperation};
-ghost use Rattle.chr_exchange.specs.Names.{declared_operation, declared_operations, named_atoms};
+ghost use Rattle.chr_exchange.specs.Names.{declared_operation, declared_operations, named_atom, named_atoms};
 
 use crate::keys::put_in_order;
 use chr_base::atom::{Atom, SymbolId};
@@ -12,6 +13,28 @@ use chr_base::program::Program;
 use chr_json::{RawAtom, RawOp};
 use chr_ops::Op;
 use std::alloc::{AllocError, Global};
+
+/// Puts the atom of this name and these arguments at the end, and tells its symbol. None where the program doesn't
+/// declare it. It is found sooner where its symbol is the one that is near.
+fn push_named(
+    program: &Program,
+    near: SymbolId,
+    word: &RawAtom,
+    atoms: &mut Vec<Atom>,
+) -> Result<Option<SymbolId>, AllocError>
+    ensures some { IfOk result (λ found. IfSome found (λ _. (a : AtomValue)
+        × (named_atom (declarations program.now) (raw_atom_view word.now) ≡ Some a)
+        × (atoms.new.items ≡ atoms.old.items ++ a ∷ []))) }
+    ensures none { IfOk result (λ found. IfNone found
+        (named_atom (declarations program.now) (raw_atom_view word.now) ≡ None)) }
+{
+    let last = atoms.len();
+    atoms.push(Atom::default())?;
+    if !program.set_atom(near, word.name.as_str(), &word.args, &mut atoms[last]) {
+        return Ok(None);
+    }
+    Ok(Some(atoms[last].symbol))
+}
 
 /// The atoms of these names and arguments. None where the program doesn't declare one of them.
 fn named_atoms(
@@ -24,14 +47,12 @@ fn named_atoms(
 {
     let mut atoms = Vec::with_capacity(alloc, words.len())?;
     // Most atoms of an operation have the symbol of the one before.
-    let mut symbol = SymbolId(0);
+    let mut near = SymbolId(0);
     for word in words {
-        let last = atoms.len();
-        atoms.push(Atom::default())?;
-        if !program.set_atom(symbol, word.name.as_str(), &word.args, &mut atoms[last]) {
+        let Some(symbol) = push_named(program, near, word, &mut atoms)? else {
             return Ok(None);
-        }
-        symbol = atoms[last].symbol;
+        };
+        near = symbol;
     }
     Ok(Some(atoms))
 }

@@ -36,8 +36,8 @@ impl Pool for Columns {
         Columns::bag(self, alloc)
     }
 
-    fn take_steps(&mut self, rules: &[Rule], most: u64) -> Result<u64, Stopped> {
-        Columns::take_steps(self, rules, most)
+    fn advance(&mut self, rules: &[Rule], most: u64) -> Result<u64, Stopped> {
+        Columns::advance(self, rules, most)
     }
 
     fn step(&mut self, rules: &[Rule]) -> Result<bool, AllocError> {

@@ -79,7 +79,7 @@ impl Pool for ListPool {
         Bag::of(copies_of(alloc, &self.items)?)
     }
 
-    fn take_steps(&mut self, rules: &[Rule], most: u64) -> Result<u64, Stopped> {
+    fn advance(&mut self, rules: &[Rule], most: u64) -> Result<u64, Stopped> {
         for steps in 0..most {
             match self.step(rules) {
                 Ok(true) => {}

@@ -53,7 +53,7 @@ pub trait Pool {
 
     /// Steps of these rules: so many, or fewer where the pool is at rest then, or where memory is refused, after which the
     /// steps taken so far stand.
-    fn take_steps(&mut self, rules: &[Rule], most: u64) -> Result<u64, Stopped>
+    fn advance(&mut self, rules: &[Rule], most: u64) -> Result<u64, Stopped>
         ensures ok { IfOk result (λ n. Runs (Step rules.now) n (contents self.old) (contents self.new)) }
         ensures most { IfOk result (λ n. n ≤ most) }
         ensures rests { IfOk result (λ n. n < most → IsAtRest (Step rules.now) (contents self.new)) }

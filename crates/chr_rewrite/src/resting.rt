@@ -31,7 +31,7 @@ pub fn rest<P: Pool>(weighed: &Weighed, pool: &mut P) -> Result<u64, Stopped>
     let rules = weighed.program().rules();
     let mut steps: u64 = 0;
     loop {
-        match pool.take_steps(rules, u64::MAX) {
+        match pool.advance(rules, u64::MAX) {
             Ok(more) => {
                 steps = steps.saturating_add(more);
                 if more < u64::MAX {

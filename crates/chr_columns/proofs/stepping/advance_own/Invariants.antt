@@ -4,7 +4,7 @@ use Rattle.chr_base.specs.Rewriting.{Runs}
 use Rattle.chr_base.specs.Rules.{Step}
 use Rattle.chr_base.specs.Stores.{store_of}
 use Rattle.chr_columns.specs.working.Resting.{stored, IsRested, Stands}
-use Rattle.chr_columns.proofs.stepping.take_own.Given as goal
+use Rattle.chr_columns.proofs.stepping.advance_own.Given as goal
 
 abbrev pub invariant-loop-steps : goal.invariant-loop-steps
 invariant-loop-steps l = record {

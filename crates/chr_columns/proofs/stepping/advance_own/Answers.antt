@@ -6,7 +6,7 @@ use Rattle.chr_base.specs.Stores.{store_of}
 use Rattle.chr_columns.specs.working.Resting.{stored}
 use Rattle.chr_columns.proofs.Pools.{joined_unfired, refused_unfired}
 use Rattle.chr_columns.proofs.Running.{run_on, run_to}
-use Rattle.chr_columns.proofs.stepping.take_own.Goals as goal
+use Rattle.chr_columns.proofs.stepping.advance_own.Goals as goal
 
 pub loop-steps-preserved : goal.loop-steps-preserved
 loop-steps-preserved c =

@@ -1,7 +1,7 @@
 use Rattle.std.proofs.Common.{refl}
 use Rattle.chr_base.specs.Rules.{Step}
 use Rattle.chr_base.proofs.Rewriting.{Runs-append}
-use Rattle.chr_rewrite.proofs.list.ListPoolPool.take_steps.Goals as goal
+use Rattle.chr_rewrite.proofs.list.ListPoolPool.advance.Goals as goal
 
 pub loop-steps-preserved : goal.loop-steps-preserved
 loop-steps-preserved c =
