@@ -24,6 +24,10 @@ RATIO = 8.0
 FLOOR = 0.008
 """Shorter times, in seconds, are taken for this one, ten times what it takes to start the program."""
 
+DISORDER, DISORDERED = 30.0, 10_000
+"""So many atoms that two orders compare may take so many times what they take in the order of one of these, where they
+come in none: they are put in that order before a rest. Some three times are usual."""
+
 RUNS, MOST_RUNS = 3, 15
 """The least time of so many runs counts; of more only where those have not shown what is wanted."""
 
@@ -143,6 +147,12 @@ def equal_values(count: int) -> str:
 def stairs(count: int) -> str:
     """Of any two atoms one is less in one column, and the other in the other: all stay."""
     return shown(STAIRS, (("p", (key, count - key)) for key in range(count)))
+
+
+def stairs_in_disorder(count: int) -> str:
+    steps = [("p", (key, count - key)) for key in range(count)]
+    random.Random(count).shuffle(steps)
+    return shown(STAIRS, steps)
 
 
 def crossed_orders(count: int) -> str:
@@ -294,6 +304,16 @@ class Costs(unittest.TestCase):
             with self.subTest(name, size=of.size):
                 self.assertLessEqual(growth, RATIO)
         print(f"(grown by {', '.join(told)})", end=" ", flush=True)
+
+
+    def test_atoms_that_come_in_no_order(self) -> None:
+        given = stairs(DISORDERED), stairs_in_disorder(DISORDERED)
+        ordered, disordered = (
+            min((run_of(("run", "--wide"), text) for _ in range(RUNS)), key=lambda end: end.seconds) for text in given
+        )
+        self.assertEqual((ordered.status, disordered.status), (0, 0))
+        self.assertEqual(ordered.output.splitlines()[-1], disordered.output.splitlines()[-1])
+        self.assertLessEqual(disordered.seconds, DISORDER * max(ordered.seconds, FLOOR))
 
 
 class ShortMemory(unittest.TestCase):
