@@ -1,11 +1,11 @@
 ghost use Rattle.std.specs.Prelude.{◌≡◌, ◌≤◌, [], ◌∷◌, IsTrue, codes, length};
 ghost use Rattle.chr_base.specs.ProgramTests.{fits};
-ghost use Rattle.chr_base.specs.Weights.{default_weight, is_weight};
+ghost use Rattle.chr_base.specs.Weights.{default_weight};
 
 use arrayvec::ArrayVec;
 use chr_base::atom::{Atom, SymbolId};
 use chr_base::bag::Bag;
-use chr_base::limits::{MAX_ARITY, MAX_SYMBOLS, MAX_WEIGHT};
+use chr_base::limits::{MAX_ARITY, MAX_WEIGHT};
 use chr_base::program::Program;
 use chr_base::rule::Rule;
 use chr_base::term::{Cmp, Comparison, Pattern, Term};
@@ -15,31 +15,22 @@ use chr_testing::atoms::{self, atom, bag};
 use std::alloc::{AllocError, Global};
 use std::process::Abort;
 
-fn weight(first: u64, second: u64) -> Weight
-    ensures { result ≡ record { first = first; second = second } }
-{
+fn weight(first: u64, second: u64) -> Weight {
     Weight { first, second }
 }
 
-/// Symbols `min/1`, `a/0` and `a/2`, in this order, without rules.
-fn declared(rt: &impl Abort, alloc: Global) -> Result<Program, AllocError> {
-    let mut program = Program::empty(alloc);
-    if program.symbol("min", 1).is_none() && program.symbols() < MAX_SYMBOLS {
-        program.declare("min", 1)?;
-    }
-    assert_eq!(rt; program.symbols(), 1);
-    if program.symbol("a", 0).is_none() && program.symbols() < MAX_SYMBOLS {
-        program.declare("a", 0)?;
-    }
-    if program.symbol("a", 2).is_none() && program.symbols() < MAX_SYMBOLS {
-        program.declare("a", 2)?;
-    }
-    Ok(program)
+fn symbols_of(program: &Program) -> usize {
+    program.symbols()
 }
 
-/// The same, with memory enough.
+/// Symbols `min/1`, `a/0` and `a/2`, in this order, without rules.
 fn three_symbols(rt: &impl Abort, alloc: Global) -> Program {
-    declared(rt, alloc).expect(rt, "memory")
+    let mut program = Program::empty(alloc);
+    program.declare("min", 1).expect(rt, "memory");
+    assert!(rt; symbols_of(&program) == 1);
+    program.declare("a", 0).expect(rt, "memory");
+    program.declare("a", 2).expect(rt, "memory");
+    program
 }
 
 /// Names with a number of arguments, and the symbol.
@@ -56,9 +47,9 @@ fn symbol_of(program: &Program, name: &str, arity: usize) -> Option<SymbolId> {
 #[test]
 fn symbols(rt: HostRuntime) {
     let program = three_symbols(&rt, rt.alloc());
-    assert_eq!(rt; program.symbols(), 3);
+    assert!(rt; symbols_of(&program) == 3);
     for (name, arity, symbol) in SYMBOLS {
-        assert_eq!(rt; symbol_of(&program, name, arity), symbol, "{name}");
+        assert!(rt; symbol_of(&program, name, arity) == symbol, "{name}");
     }
 }
 
@@ -78,23 +69,23 @@ fn weight_of(rt: &impl Abort, program: &Program, symbol: u16) -> Weight {
     program.weight_of(SymbolId(symbol))
 }
 
-fn set_weight(rt: &impl Abort, program: &mut Program, symbol: u16, weight: Weight)
-    requires { IsTrue (is_weight weight) }
-{
+/// Gives a declared symbol a weight whose first number is not 0.
+fn set_weight(rt: &impl Abort, program: &mut Program, symbol: u16, first: u64, second: u64) {
     assert!(rt; usize::from(symbol) < program.symbols());
-    program.set_weight(SymbolId(symbol), weight);
+    assert!(rt; 0 < first && first <= MAX_WEIGHT && second <= MAX_WEIGHT);
+    program.set_weight(SymbolId(symbol), Weight { first, second });
 }
 
 #[test]
 fn declarations(rt: HostRuntime) {
     let mut program = three_symbols(&rt, rt.alloc());
-    assert_eq!(rt; name_of(&rt, &program, 0), "min");
-    assert_eq!(rt; arity_of(&rt, &program, 2), 2);
-    assert_eq!(rt; weight_of(&rt, &program, 1), weight(1, 0));
-    set_weight(&rt, &mut program, 1, weight(MAX_WEIGHT, MAX_WEIGHT));
-    assert_eq!(rt; program.symbols(), 3);
-    assert_eq!(rt; weight_of(&rt, &program, 1), weight(MAX_WEIGHT, MAX_WEIGHT));
-    assert_eq!(rt; weight_of(&rt, &program, 2), weight(1, 0));
+    assert!(rt; name_of(&rt, &program, 0) == "min");
+    assert!(rt; arity_of(&rt, &program, 2) == 2);
+    assert!(rt; weight_of(&rt, &program, 1) == weight(1, 0));
+    set_weight(&rt, &mut program, 1, MAX_WEIGHT, MAX_WEIGHT);
+    assert!(rt; symbols_of(&program) == 3);
+    assert!(rt; weight_of(&rt, &program, 1) == weight(MAX_WEIGHT, MAX_WEIGHT));
+    assert!(rt; weight_of(&rt, &program, 2) == weight(1, 0));
 }
 
 fn has_pairs(program: &Program) -> bool {
@@ -104,9 +95,9 @@ fn has_pairs(program: &Program) -> bool {
 #[test]
 fn pairs_of_weights(rt: HostRuntime) {
     let mut program = three_symbols(&rt, rt.alloc());
-    set_weight(&rt, &mut program, 1, weight(MAX_WEIGHT, MAX_WEIGHT));
+    set_weight(&rt, &mut program, 1, MAX_WEIGHT, MAX_WEIGHT);
     assert!(rt; has_pairs(&program));
-    set_weight(&rt, &mut program, 1, weight(MAX_WEIGHT, 0));
+    set_weight(&rt, &mut program, 1, MAX_WEIGHT, 0);
     assert!(rt; !has_pairs(&program));
 }
 
@@ -135,6 +126,10 @@ fn expect_atoms(rt: &impl Abort, alloc: Global, bag: &Bag, rows: &[Row]) {
     assert!(rt; bag.atoms() == expected.as_slice());
 }
 
+fn len_of(bag: &Bag) -> usize {
+    bag.len()
+}
+
 fn is_same_bag(one: &Bag, other: &Bag) -> bool {
     one.is_same(other)
 }
@@ -157,14 +152,14 @@ const FIVES: [Row; 3] = [(0, &[5]), (0, &[-1]), (0, &[5])];
 fn bags(rt: HostRuntime) {
     let alloc = rt.alloc();
     let mut bag = store(&rt, alloc, &FIVES);
-    assert_eq!(rt; bag.len(), 3);
+    assert!(rt; len_of(&bag) == 3);
     expect_atoms(&rt, alloc, &bag, &[(0, &[-1]), (0, &[5]), (0, &[5])]);
     let copy = copied_bag(&rt, alloc, &bag);
     assert!(rt; is_same_bag(&bag, &copy));
     add(&rt, &mut bag, 0, &[2]);
     assert!(rt; !is_same_bag(&bag, &copy));
     unite(&rt, &mut bag, &copy);
-    assert_eq!(rt; bag.len(), 7);
+    assert!(rt; len_of(&bag) == 7);
 }
 
 #[test]
@@ -175,7 +170,7 @@ fn atoms_leave_bags(rt: HostRuntime) {
     add(&rt, &mut bag, 0, &[2]);
     unite(&rt, &mut bag, &fives);
     assert!(rt; !removes(&mut bag, &[atom(0, &[2]), atom(0, &[2])]));
-    assert_eq!(rt; bag.len(), 7);
+    assert!(rt; len_of(&bag) == 7);
     assert!(rt; removes(&mut bag, &[atom(0, &[5]), atom(0, &[2]), atom(0, &[5])]));
     expect_atoms(
         &rt,
@@ -183,8 +178,12 @@ fn atoms_leave_bags(rt: HostRuntime) {
         &bag,
         &[(0, &[-1]), (0, &[-1]), (0, &[5]), (0, &[5])],
     );
-    assert!(rt; !bag.is_empty());
-    assert!(rt; Bag::new(alloc).is_empty());
+    assert!(rt; !is_empty(&bag));
+    assert!(rt; is_empty(&Bag::new(alloc)));
+}
+
+fn is_empty(bag: &Bag) -> bool {
+    bag.is_empty()
 }
 
 fn add(rt: &impl Abort, bag: &mut Bag, symbol: u16, values: &[i64]) {
@@ -194,7 +193,7 @@ fn add(rt: &impl Abort, bag: &mut Bag, symbol: u16, values: &[i64]) {
 fn expect_text(rt: &impl Abort, alloc: Global, rows: &[Row], expected: &str) {
     let bag = store(rt, alloc, rows);
     let text = store_text(alloc, &three_symbols(rt, alloc), &bag).expect(rt, "memory");
-    assert_eq!(rt; text.as_str(), expected);
+    assert!(rt; text.as_str() == expected);
 }
 
 /// `a` before `min`, of one name fewer arguments first, and of one symbol the smaller arguments first.
@@ -242,13 +241,17 @@ fn atoms_in_print_order(rt: HostRuntime) {
 /// An atom that isn't declared, since its symbol has no arguments, stands among the declared ones of its name.
 const OTHER_ATOMS: [Row; 4] = [(2, &[7, 0]), (1, &[5, 6]), (2, &[1, 9]), (3, &[4])];
 
+fn add_text(rt: &impl Abort, alloc: Global, text: &mut String, rows: &[Row]) {
+    let bag = store(rt, alloc, rows);
+    push_store(alloc, text, &three_symbols(rt, alloc), &bag).expect(rt, "memory");
+}
+
 #[test]
 fn texts_of_other_atoms(rt: HostRuntime) {
     let alloc = rt.alloc();
-    let bag = store(&rt, alloc, &OTHER_ATOMS);
     let mut text = String::from_str(alloc, "shown: ").expect(&rt, "memory");
-    push_store(alloc, &mut text, &three_symbols(&rt, alloc), &bag).expect(&rt, "memory");
-    assert_eq!(rt; text.as_str(), "shown: (4), a(1,9), a(5,6), a(7,0)");
+    add_text(&rt, alloc, &mut text, &OTHER_ATOMS);
+    assert!(rt; text.as_str() == "shown: (4), a(1,9), a(5,6), a(7,0)");
 }
 
 fn pattern(symbol: u16, terms: &[Term]) -> Pattern
@@ -298,6 +301,11 @@ fn two_heads(cmp: Cmp) -> Rule
     }
 }
 
+/// The same, of which nothing is promised.
+fn rule(cmp: Cmp) -> Rule {
+    two_heads(cmp)
+}
+
 /// A sign, and whether the rule fires where X is below, equal to and above Y.
 const SIGNS: [(Cmp, bool, bool, bool); 6] = [
     (Cmp::Less, true, false, false),
@@ -320,20 +328,24 @@ fn fires_at(rule: &Rule, x: i64) -> bool {
 #[test]
 fn comparisons(rt: HostRuntime) {
     for (cmp, below, equal, above) in SIGNS {
-        let rule = two_heads(cmp);
-        assert_eq!(rt; fires_at(&rule, -2), below);
-        assert_eq!(rt; fires_at(&rule, 5), equal);
-        assert_eq!(rt; fires_at(&rule, 7), above);
+        let rule = rule(cmp);
+        assert!(rt; fires_at(&rule, -2) == below);
+        assert!(rt; fires_at(&rule, 5) == equal);
+        assert!(rt; fires_at(&rule, 7) == above);
     }
+}
+
+/// Whether the head at this place is of this symbol.
+fn has_head(rule: &Rule, place: usize, symbol: u16) -> bool {
+    place < rule.places() && rule.head_at(place).symbol == SymbolId(symbol)
 }
 
 #[test]
 fn heads(rt: HostRuntime) {
-    let rule = two_heads(Cmp::Less);
-    let places = rule.places();
-    assert_eq!(rt; places, 2);
-    assert_eq!(rt; rule.head_at(0).symbol, SymbolId(0));
-    assert_eq!(rt; rule.head_at(1).symbol, SymbolId(1));
+    let rule = rule(Cmp::Less);
+    assert!(rt; rule.places() == 2);
+    assert!(rt; has_head(&rule, 0, 0));
+    assert!(rt; has_head(&rule, 1, 1));
 }
 
 /// Heads that are no instance.
@@ -350,42 +362,43 @@ fn fires_on(rt: &impl Abort, alloc: Global, rule: &Rule, rows: &[Row]) -> bool {
 
 #[test]
 fn instances(rt: HostRuntime) {
-    let rule = two_heads(Cmp::Less);
+    let rule = rule(Cmp::Less);
     for rows in UNLIKE {
         assert!(rt; !fires_on(&rt, rt.alloc(), &rule, rows));
     }
 }
 
-#[test]
-fn bodies(rt: HostRuntime) {
-    let rule = two_heads(Cmp::Less);
-    let heads = [atom(0, &[2, 2, 3]), atom(1, &[9])];
-    assert!(rt; rule.fires(&heads));
-    let body = rule.body_of(&heads);
-    assert!(rt; body.as_slice() == [atom(2, &[9, 2]), atom(2, &[8, 2])].as_slice());
+/// Whether the rule fires on these heads, with this body.
+fn has_body(rule: &Rule, heads: &[Atom], body: &[Atom]) -> bool {
+    rule.fires(heads) && rule.body_of(heads).as_slice() == body
 }
 
-/// `p/3` with this weight, `q/1` and `r/2`, with the one rule `two_heads(cmp)`.
-fn one_rule(alloc: Global, cmp: Cmp, weight: Weight) -> Result<Program, AllocError>
-    requires { IsTrue (is_weight weight) }
-{
+#[test]
+fn bodies(rt: HostRuntime) {
+    let heads = [atom(0, &[2, 2, 3]), atom(1, &[9])];
+    let body = [atom(2, &[9, 2]), atom(2, &[8, 2])];
+    assert!(rt; has_body(&rule(Cmp::Less), &heads, &body));
+}
+
+/// `p/3`, `q/1` and `r/2`, with the one rule `two_heads(cmp)`.
+fn one_rule(alloc: Global, cmp: Cmp) -> Result<Program, AllocError> {
     let mut program = Program::empty(alloc);
     program.declare("p", 3)?;
     program.declare("q", 1)?;
     program.declare("r", 2)?;
     program.push_rule(two_heads(cmp))?;
-    program.set_weight(SymbolId(0), weight);
     Ok(program)
 }
 
-fn one(rt: &impl Abort, alloc: Global, cmp: Cmp, weight: Weight) -> Program
-    requires { IsTrue (is_weight weight) }
-{
-    one_rule(alloc, cmp, weight).expect(rt, "memory")
+/// The same, where `p` has a weight of these numbers.
+fn one(rt: &impl Abort, alloc: Global, cmp: Cmp, first: u64, second: u64) -> Program {
+    let mut program = one_rule(alloc, cmp).expect(rt, "memory");
+    set_weight(rt, &mut program, 0, first, second);
+    program
 }
 
 fn has_rule(program: &Program) -> bool {
-    program.rules() == [two_heads(Cmp::Less)].as_slice()
+    program.rules() == [rule(Cmp::Less)].as_slice()
 }
 
 fn atom_of(program: &Program, name: &str, values: &[i64]) -> Option<Atom> {
@@ -402,29 +415,28 @@ fn near(program: &Program, near: u16, name: &str, values: &[i64]) -> Option<Atom
 }
 
 fn is_near(rt: &impl Abort, program: &Program, symbol: u16) {
-    assert_eq!(rt;
-        near(program, symbol, "r", &[-1, 4]),
-        Some(atom(2, &[-1, 4]))
-    );
-    assert_eq!(rt; near(program, symbol, "r", &[-1]), None);
+    assert!(rt; near(program, symbol, "r", &[-1, 4]) == Some(atom(2, &[-1, 4])));
+    assert!(rt; near(program, symbol, "r", &[-1]).is_none());
 }
 
 fn is_same(one: &Program, other: &Program) -> bool {
     one.is_same(other)
 }
 
-fn is_less(rt: &impl Abort, alloc: Global, program: &Program, cmp: Cmp, weight: Weight) -> bool
-    requires { IsTrue (is_weight weight) }
-{
-    is_same(program, &one(rt, alloc, cmp, weight))
+/// A sign and the weight of `p`, and whether the program is that of `<` with the weight 5.
+const ALIKE: [(Cmp, u64, u64, bool); 4] = [
+    (Cmp::Less, 5, 0, true),
+    (Cmp::AtMost, 5, 0, false),
+    (Cmp::Less, 6, 0, false),
+    (Cmp::Less, 5, 1, false),
+];
+
+fn same_rules(one: &Rule, other: &Rule) -> bool {
+    one.is_same(other)
 }
 
-fn same_rules(one: Cmp, other: Cmp) -> bool {
-    two_heads(one).is_same(&two_heads(other))
-}
-
-fn copied_rule(cmp: Cmp) -> bool {
-    two_heads(cmp).copy().is_same(&two_heads(cmp))
+fn copied_rule(rule: &Rule) -> Rule {
+    rule.copy()
 }
 
 fn copied(rt: &impl Abort, alloc: Global, program: &Program) -> Program {
@@ -433,17 +445,17 @@ fn copied(rt: &impl Abort, alloc: Global, program: &Program) -> Program {
 
 #[test]
 fn programs(rt: HostRuntime) {
-    let program = one(&rt, rt.alloc(), Cmp::Less, weight(5, 0));
+    let program = one(&rt, rt.alloc(), Cmp::Less, 5, 0);
     assert!(rt; has_rule(&program));
     assert!(rt; is_same(&copied(&rt, rt.alloc(), &program), &program));
 }
 
 #[test]
 fn atoms_of_programs(rt: HostRuntime) {
-    let program = one(&rt, rt.alloc(), Cmp::Less, weight(5, 0));
-    assert_eq!(rt; atom_of(&program, "r", &[-1, 4]), Some(atom(2, &[-1, 4])));
-    assert_eq!(rt; atom_of(&program, "r", &[-1]), None);
-    assert_eq!(rt; atom_of(&program, "s", &[-1, 4]), None);
+    let program = one(&rt, rt.alloc(), Cmp::Less, 5, 0);
+    assert!(rt; atom_of(&program, "r", &[-1, 4]) == Some(atom(2, &[-1, 4])));
+    assert!(rt; atom_of(&program, "r", &[-1]).is_none());
+    assert!(rt; atom_of(&program, "s", &[-1, 4]).is_none());
     for symbol in [0, 2, 3] {
         is_near(&rt, &program, symbol);
     }
@@ -452,25 +464,25 @@ fn atoms_of_programs(rt: HostRuntime) {
 #[test]
 fn programs_alike(rt: HostRuntime) {
     let alloc = rt.alloc();
-    let program = one(&rt, alloc, Cmp::Less, weight(5, 0));
-    assert!(rt; is_less(&rt, alloc, &program, Cmp::Less, weight(5, 0)));
-    assert!(rt; !is_less(&rt, alloc, &program, Cmp::AtMost, weight(5, 0)));
-    assert!(rt; !is_less(&rt, alloc, &program, Cmp::Less, weight(6, 0)));
-    assert!(rt; !is_less(&rt, alloc, &program, Cmp::Less, weight(5, 1)));
+    let program = one(&rt, alloc, Cmp::Less, 5, 0);
+    for (cmp, first, second, alike) in ALIKE {
+        assert!(rt; is_same(&program, &one(&rt, alloc, cmp, first, second)) == alike);
+    }
 }
 
 #[test]
 fn rules_alike(rt: HostRuntime) {
-    assert!(rt; same_rules(Cmp::Less, Cmp::Less));
-    assert!(rt; !same_rules(Cmp::Less, Cmp::Equal));
-    assert!(rt; copied_rule(Cmp::Less));
+    let less = rule(Cmp::Less);
+    assert!(rt; same_rules(&less, &rule(Cmp::Less)));
+    assert!(rt; !same_rules(&less, &rule(Cmp::Equal)));
+    assert!(rt; same_rules(&less, &copied_rule(&less)));
 }
 
 #[test]
 fn steps(rt: HostRuntime) {
     let heads = [atom(0, &[2, 2, 3]), atom(1, &[9])];
     let copy = atoms::step(7, &heads).copy();
-    assert_eq!(rt; copy.rule, 7);
+    assert!(rt; copy.rule == 7);
     assert!(rt; copy.heads.as_slice() == heads.as_slice());
 }
 
@@ -511,7 +523,7 @@ fn is_lighter(left: (u64, u64), right: (u64, u64)) -> bool {
 #[test]
 fn lighter_weights(rt: HostRuntime) {
     for (left, right, lighter) in ORDER {
-        assert_eq!(rt; is_lighter(left, right), lighter);
+        assert!(rt; is_lighter(left, right) == lighter);
     }
 }
 
@@ -520,16 +532,32 @@ fn push_weight(rt: &impl Abort, text: &mut String, weight: Weight, is_paired: bo
     text.push_str(" ").expect(rt, "memory");
 }
 
+fn is_paired(weight: Weight) -> bool {
+    weight.is_paired()
+}
+
+/// The sum of the weights 1,2 and 30,400.
+fn summed() -> Weight {
+    let one = Weight {
+        first: 1,
+        second: 2,
+    };
+    one.plus(Weight {
+        first: 30,
+        second: 400,
+    })
+}
+
 #[test]
 fn weights_as_text(rt: HostRuntime) {
-    let sum = weight(1, 2).plus(weight(30, 400));
-    assert_eq!(rt; sum, weight(31, 402));
-    assert!(rt; sum.is_paired() && !DEFAULT_WEIGHT.is_paired());
+    let sum = summed();
+    assert!(rt; sum == weight(31, 402));
+    assert!(rt; is_paired(sum) && !is_paired(DEFAULT_WEIGHT));
     let mut text = String::new(rt.alloc());
     push_weight(&rt, &mut text, sum, true);
     push_weight(&rt, &mut text, sum, false);
     push_weight(&rt, &mut text, DEFAULT_WEIGHT, true);
-    assert_eq!(rt; text.as_str(), "31,402 31 1,0 ");
+    assert!(rt; text.as_str() == "31,402 31 1,0 ");
 }
 
 /// The program that declares `r/6` alone.
@@ -542,11 +570,8 @@ fn wide(rt: &impl Abort, alloc: Global) -> Program {
 #[test]
 fn six_arguments(rt: HostRuntime) {
     let program = wide(&rt, rt.alloc());
-    assert_eq!(rt; symbol_of(&program, "r", 6), Some(SymbolId(0)));
-    assert_eq!(rt; symbol_of(&program, "r", 7), None);
-    assert_eq!(rt;
-        atom_of(&program, "r", &[1, 2, 3, 4, 5, 6]),
-        Some(atom(0, &[1, 2, 3, 4, 5, 6]))
-    );
-    assert_eq!(rt; atom_of(&program, "r", &[1, 2, 3, 4, 5, 6, 7]), None);
+    assert!(rt; symbol_of(&program, "r", 6) == Some(SymbolId(0)));
+    assert!(rt; symbol_of(&program, "r", 7).is_none());
+    assert!(rt; atom_of(&program, "r", &[1, 2, 3, 4, 5, 6]) == Some(atom(0, &[1, 2, 3, 4, 5, 6])));
+    assert!(rt; atom_of(&program, "r", &[1, 2, 3, 4, 5, 6, 7]).is_none());
 }
