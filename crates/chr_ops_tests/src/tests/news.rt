@@ -1,5 +1,6 @@
 //! What is kept of what sets gained; exchanges that go by it are those that go by summaries.
-use super::exchange::{id, jumped, op};
+use super::exchange::jumped;
+use super::{add, id, lacked, op, own_summary};
 use chr_ops::{News, Op, OpId, OpSet};
 use std::alloc::Global;
 use std::process::Abort;
@@ -9,7 +10,8 @@ use std::slice::from_ref;
 fn ops_of(rt: &impl Abort, alloc: Global, numbers: &[u64]) -> Vec<Op> {
     let mut ops = Vec::new(alloc);
     for number in numbers {
-        ops.push(op(rt, alloc, id(1, *number))).expect(rt, "memory");
+        ops.push(op(rt, alloc, id(1, *number), &[0]))
+            .expect(rt, "memory");
     }
     ops
 }
@@ -30,7 +32,11 @@ fn carry_out(rt: &impl Abort, alloc: Global, news: &mut News, call: &Call) {
 }
 
 fn have_numbers(ids: &[OpId], numbers: &[u64]) -> bool {
-    ids.len() == numbers.len() && ids.iter().zip(numbers).all(|(a, n)| *a == id(1, *n))
+    let mut all = ids.len() == numbers.len();
+    for (found, number) in ids.iter().zip(numbers) {
+        all = all && *found == id(1, *number);
+    }
+    all
 }
 
 /// Whether what a giver gained since a taker held all is this, or is not known.
@@ -76,16 +82,18 @@ fn is_kept(rt: &impl Abort, alloc: Global, count: u64) -> bool {
     let mut news = News::new(alloc);
     news.met(alloc, 0, 1);
     for number in 0..count {
-        news.gained(0, from_ref(&op(rt, alloc, id(1, number))));
+        news.gained(0, from_ref(&op(rt, alloc, id(1, number), &[0])));
     }
     news.since(0, 1).is_some()
 }
 
+const KEPT: [(u64, bool); 4] = [(0, true), (4_096, true), (4_097, false), (9_000, false)];
+
 #[test]
 fn what_is_too_much_to_keep_is_forgotten(rt: HostRuntime) {
     let alloc = rt.alloc();
-    for (count, kept) in [(0, true), (4_096, true), (4_097, false), (9_000, false)] {
-        assert_eq!(rt; is_kept(&rt, alloc, count), kept, "{count}");
+    for (count, kept) in KEPT {
+        assert!(rt; is_kept(&rt, alloc, count) == kept, "{count}");
     }
 }
 
@@ -98,12 +106,11 @@ struct Sets {
 
 /// What the taker lacks, as a walk along summaries finds it.
 fn walked(rt: &impl Abort, alloc: Global, giver: &OpSet, taker: &OpSet) -> Vec<Op> {
-    let summary = taker.summary(alloc).expect(rt, "memory");
-    giver.lacks(alloc, &summary).expect(rt, "memory")
+    lacked(rt, alloc, giver, &own_summary(rt, alloc, taker))
 }
 
 /// What the taker lacks, among the ids that are known, where they are.
-fn lacked(
+fn lacked_of(
     rt: &impl Abort,
     alloc: Global,
     giver: &OpSet,
@@ -117,7 +124,11 @@ fn lacked(
 }
 
 fn have_same_ids(ops: &[Op], others: &[Op]) -> bool {
-    ops.len() == others.len() && ops.iter().zip(others).all(|(op, o)| op.id() == o.id())
+    let mut all = ops.len() == others.len();
+    for (op, other) in ops.iter().zip(others) {
+        all = all && op.id() == other.id();
+    }
+    all
 }
 
 /// What a taker lacks of a giver, both by their numbers modulo 3, and whether that is what a walk finds.
@@ -131,7 +142,7 @@ fn found(
     let from = &all.sets[giver % 3];
     let to = &all.sets[taker % 3];
     let known = all.news.since(giver % 3, taker % 3);
-    let ops = lacked(rt, alloc, from, to, known);
+    let ops = lacked_of(rt, alloc, from, to, known);
     let is_same = have_same_ids(&ops, &walked(rt, alloc, from, to));
     (ops, is_same)
 }
@@ -148,9 +159,9 @@ fn exchange(rt: &impl Abort, alloc: Global, all: &mut Sets, giver: usize, taker:
 /// An operation is told to a set, by its number modulo 3.
 fn tell(rt: &impl Abort, alloc: Global, all: &mut Sets, place: usize, id: OpId) {
     let place = place % 3;
-    let told = op(rt, alloc, id);
+    let told = op(rt, alloc, id, &[0]);
     all.news.gained(place, from_ref(&told));
-    assert!(rt; all.sets[place].add(told).is_ok());
+    add(rt, &mut all.sets[place], told);
 }
 
 /// One of some steps that jump about: mostly an operation is told, else two sets exchange.

@@ -1,48 +1,19 @@
 //! Each public call once, and the worked examples of operation sets. Where memory runs out a test ends.
-use chr_base::atom::{Atom, SymbolId};
+use super::{
+    GREATEST, add, bag, grow, have_ids, id, lacked, op, own_summary, put_in, set_of, summary_of,
+};
 use chr_base::bag::Bag;
 use chr_ops::{AddFault, Added, IdRange, Op, OpId, OpSet, Summary};
 use std::alloc::Global;
 use std::process::Abort;
 
-const GREATEST: u64 = 18_446_744_073_709_551_615;
-
-fn id(origin: u32, number: u64) -> OpId {
-    OpId { origin, number }
-}
-
-fn range(origin: u32, lo: u64, hi: u64) -> IdRange {
-    IdRange { origin, lo, hi }
-}
-
-/// An atom without arguments.
-fn atom(symbol: u16) -> Atom {
-    Atom {
-        symbol: SymbolId(symbol),
-        ..Atom::default()
-    }
-}
-
-/// A bag of atoms without arguments, named by their symbols.
-fn bag(rt: &impl Abort, alloc: Global, symbols: &[u16]) -> Bag {
-    let mut bag = Bag::new(alloc);
-    for symbol in symbols {
-        bag.add(atom(*symbol)).expect(rt, "memory");
-    }
-    bag
-}
-
 /// A bag of so many equal atoms.
 fn bag_of_equal(rt: &impl Abort, alloc: Global, atoms: u32) -> Bag {
     let mut bag = Bag::new(alloc);
     for _ in 0..atoms {
-        bag.add(atom(5)).expect(rt, "memory");
+        put_in(rt, &mut bag, 5);
     }
     bag
-}
-
-fn op(rt: &impl Abort, alloc: Global, id: OpId, symbols: &[u16]) -> Op {
-    Op::of(id, bag(rt, alloc, symbols)).expect(rt, "an operation")
 }
 
 /// An operation of so many equal atoms.
@@ -50,11 +21,11 @@ fn op_of_equal(rt: &impl Abort, alloc: Global, id: OpId, atoms: u32) -> Op {
     Op::of(id, bag_of_equal(rt, alloc, atoms)).expect(rt, "an operation")
 }
 
-/// Operations with these ids and symbols, of one atom each.
-fn ops(rt: &impl Abort, alloc: Global, told: &[(OpId, u16)]) -> Vec<Op> {
+/// Operations with these origins, numbers and symbols, of one atom each.
+fn ops(rt: &impl Abort, alloc: Global, told: &[(u32, u64, u16)]) -> Vec<Op> {
     let mut ops = Vec::new(alloc);
-    for (id, symbol) in told {
-        let op = op(rt, alloc, *id, &[*symbol]);
+    for (origin, number, symbol) in told {
+        let op = op(rt, alloc, id(*origin, *number), &[*symbol]);
         ops.push(op).expect(rt, "memory");
     }
     ops
@@ -85,25 +56,6 @@ fn is_missing(set: &OpSet, id: OpId) -> bool {
     set.get(id).is_none()
 }
 
-/// Adds an operation of so many equal atoms.
-fn grow_by(rt: &impl Abort, alloc: Global, set: &mut OpSet, id: OpId, atoms: u32) {
-    assert!(rt; set.add(op_of_equal(rt, alloc, id, atoms)).is_ok());
-}
-
-/// Adds an operation of one atom.
-fn grow(rt: &impl Abort, alloc: Global, set: &mut OpSet, id: OpId) {
-    assert!(rt; set.add(op(rt, alloc, id, &[0])).is_ok());
-}
-
-/// The set of operations with these ids, each of one atom, added one by one.
-fn set_of(rt: &impl Abort, alloc: Global, ids: &[OpId]) -> OpSet {
-    let mut set = OpSet::new(alloc);
-    for id in ids {
-        grow(rt, alloc, &mut set, *id);
-    }
-    set
-}
-
 /// The set of operations with these numbers of origin 1, each of one atom, added one by one.
 fn set_of_numbers(rt: &impl Abort, alloc: Global, numbers: &[u64]) -> OpSet {
     let mut set = OpSet::new(alloc);
@@ -116,7 +68,7 @@ fn set_of_numbers(rt: &impl Abort, alloc: Global, numbers: &[u64]) -> OpSet {
 /// Adds so many operations of origin 9, of 64 atoms each.
 fn add_full(rt: &impl Abort, alloc: Global, set: &mut OpSet, operations: u64) {
     for number in 0..operations {
-        grow_by(rt, alloc, set, id(9, number), 64);
+        add(rt, set, op_of_equal(rt, alloc, id(9, number), 64));
     }
 }
 
@@ -135,39 +87,36 @@ fn set_telling(rt: &impl Abort, alloc: Global, atoms: u64) -> OpSet {
     set
 }
 
-/// The summary of ranges, none of which is empty.
-fn summary_of(rt: &impl Abort, ranges: Vec<IdRange>) -> Summary {
-    let all = ranges.iter().all(|range| range.lo <= range.hi);
-    assert!(rt; all, "an empty range");
-    Summary::of(ranges).expect(rt, "memory")
-}
-
-/// The ids of operations that the set has and the summary doesn't, in order.
-fn lacked(rt: &impl Abort, alloc: Global, set: &OpSet, summary: &Summary) -> Vec<OpId> {
-    let ops = set.lacks(alloc, summary).expect(rt, "memory");
-    let mut ids = Vec::new(alloc);
-    for op in &ops {
-        ids.push(op.id()).expect(rt, "memory");
+/// Whether the ranges have these origins and ends.
+fn are_ranges(ranges: &[IdRange], ends: &[(u32, u64, u64)]) -> bool {
+    let mut all = ranges.len() == ends.len();
+    for (range, (origin, lo, hi)) in ranges.iter().zip(ends) {
+        all = all && range.origin == *origin && range.lo == *lo && range.hi == *hi;
     }
-    ids
+    all
 }
 
-fn has_ranges(summary: &Summary, ranges: &[IdRange]) -> bool {
-    summary.ranges() == ranges
+fn has_ranges(summary: &Summary, ends: &[(u32, u64, u64)]) -> bool {
+    are_ranges(summary.ranges(), ends)
+}
+
+fn copied(rt: &impl Abort, alloc: Global, summary: &Summary) -> Summary {
+    summary.copy(alloc).expect(rt, "memory")
 }
 
 /// Compares the ranges of the set's summary, and of a copy of it.
-fn expect_ranges(rt: &impl Abort, alloc: Global, set: &OpSet, ranges: &[IdRange]) {
-    let summary = set.summary(alloc).expect(rt, "memory");
-    assert!(rt; has_ranges(&summary, ranges));
-    let copy = summary.copy(alloc).expect(rt, "memory");
-    assert!(rt; has_ranges(&copy, ranges));
+fn expect_ranges(rt: &impl Abort, alloc: Global, set: &OpSet, ends: &[(u32, u64, u64)]) {
+    let summary = own_summary(rt, alloc, set);
+    assert!(rt; has_ranges(&summary, ends));
+    assert!(rt; has_ranges(&copied(rt, alloc, &summary), ends));
 }
 
 /// Whether the set has a bag of these atoms under this id.
 fn has(rt: &impl Abort, alloc: Global, set: &OpSet, id: OpId, symbols: &[u16]) -> bool {
-    let expected = bag(rt, alloc, symbols);
-    set.get(id).is_some_and(|held| held.is_same(&expected))
+    match set.get(id) {
+        Some(held) => held.is_same(&bag(rt, alloc, symbols)),
+        None => false,
+    }
 }
 
 fn is_op(id: OpId, bag: Bag) -> bool {
@@ -228,27 +177,27 @@ fn an_operation_counts_once(rt: HostRuntime) {
     assert!(rt; is_missing(&set, id(1, 2)));
 }
 
+const HELD: [(u32, u64); 4] = [(1, GREATEST), (1, 0), (0, 5), (1, 1)];
+
+const HELD_RANGES: [(u32, u64, u64); 3] = [(0, 5, 5), (1, 0, 1), (1, GREATEST, GREATEST)];
+
 #[test]
 fn summaries_cover_the_set(rt: HostRuntime) {
     let alloc = rt.alloc();
-    let ids = [id(1, GREATEST), id(1, 0), id(0, 5), id(1, 1)];
-    let set = set_of(&rt, alloc, &ids);
-    let whole = [range(0, 5, 5), range(1, 0, 1), range(1, GREATEST, GREATEST)];
-    expect_ranges(&rt, alloc, &set, &whole);
+    let set = set_of(&rt, alloc, &HELD);
+    expect_ranges(&rt, alloc, &set, &HELD_RANGES);
     set.told_has_values();
-    let summary = set.summary(alloc).expect(&rt, "memory");
+    let summary = own_summary(&rt, alloc, &set);
     assert!(rt; lacked(&rt, alloc, &set, &summary).is_empty());
 }
 
 #[test]
 fn what_a_summary_leaves_out_is_lacked(rt: HostRuntime) {
     let alloc = rt.alloc();
-    let ids = [id(1, GREATEST), id(1, 0), id(0, 5), id(1, 1)];
-    let set = set_of(&rt, alloc, &ids);
-    let ranges = vec![in alloc; range(1, 1, 1)].expect(&rt, "memory");
-    let middle = summary_of(&rt, ranges);
+    let set = set_of(&rt, alloc, &HELD);
+    let middle = summary_of(&rt, alloc, &[(1, 1, 1)]);
     let lacked = lacked(&rt, alloc, &set, &middle);
-    assert!(rt; lacked.as_slice() == [id(0, 5), id(1, 0), id(1, GREATEST)].as_slice());
+    assert!(rt; have_ids(&lacked, &[(0, 5), (1, 0), (1, GREATEST)]));
 }
 
 #[test]
@@ -257,37 +206,48 @@ fn an_empty_set_has_no_ranges(rt: HostRuntime) {
     expect_ranges(&rt, alloc, &OpSet::new(alloc), &[]);
 }
 
+const GIVEN: [(u32, u64, u64); 11] = [
+    (4_294_967_295, 0, GREATEST),
+    (7, 10, 20),
+    (0, GREATEST, GREATEST),
+    (7, 21, 21),
+    (7, 23, 30),
+    (0, 0, 0),
+    (7, 12, 14),
+    (7, 10, 20),
+    (7, 25, 40),
+    (0, 0, 3),
+    (4_294_967_295, 5, 6),
+];
+
+const MERGED: [(u32, u64, u64); 5] = [
+    (0, 0, 3),
+    (0, GREATEST, GREATEST),
+    (7, 10, 21),
+    (7, 23, 40),
+    (4_294_967_295, 0, GREATEST),
+];
+
 #[test]
 fn ranges_merge(rt: HostRuntime) {
-    let alloc = rt.alloc();
-    let given = vec![in alloc;
-        range(4_294_967_295, 0, GREATEST),
-        range(7, 10, 20),
-        range(0, GREATEST, GREATEST),
-        range(7, 21, 21),
-        range(7, 23, 30),
-        range(0, 0, 0),
-        range(7, 12, 14),
-        range(7, 10, 20),
-        range(7, 25, 40),
-        range(0, 0, 3),
-        range(4_294_967_295, 5, 6),
-    ];
-    let merged = [
-        range(0, 0, 3),
-        range(0, GREATEST, GREATEST),
-        range(7, 10, 21),
-        range(7, 23, 40),
-        range(4_294_967_295, 0, GREATEST),
-    ];
-    let summary = summary_of(&rt, given.expect(&rt, "memory"));
-    assert!(rt; has_ranges(&summary, merged.as_slice()));
+    let summary = summary_of(&rt, rt.alloc(), &GIVEN);
+    assert!(rt; has_ranges(&summary, &MERGED));
+}
+
+/// Whether the range of origin 7 from 10 to 21 has this number of it.
+fn has_number(number: u64) -> bool {
+    let range = IdRange {
+        origin: 7,
+        lo: 10,
+        hi: 21,
+    };
+    range.has(id(7, number))
 }
 
 #[test]
 fn ranges_end_where_they_say(rt: HostRuntime) {
-    assert!(rt; range(7, 10, 21).has(id(7, 21)));
-    assert!(rt; !range(7, 10, 21).has(id(7, 22)));
+    assert!(rt; has_number(21));
+    assert!(rt; !has_number(22));
 }
 
 /// Whether these atoms are those of the operations that the set lacks.
@@ -301,7 +261,7 @@ fn joins_count_new_operations(rt: HostRuntime) {
     let alloc = rt.alloc();
     let mut set = OpSet::new(alloc);
     assert!(rt; adds(&rt, alloc, &mut set, id(1, 1), &[5], Ok(Added::New)));
-    let repeated = ops(&rt, alloc, &[(id(1, 2), 1), (id(1, 2), 1), (id(1, 1), 5)]);
+    let repeated = ops(&rt, alloc, &[(1, 2, 1), (1, 2, 1), (1, 1, 5)]);
     assert!(rt; are_fresh(&rt, alloc, &set, &repeated, &[1]));
     assert!(rt; joins(alloc, &mut set, &repeated, Ok(1)));
     assert!(rt; are_fresh(&rt, alloc, &set, &repeated, &[]));
@@ -317,14 +277,14 @@ fn clashes(alloc: Global, set: &mut OpSet, ops: &[Op], id: OpId) -> bool {
 fn joins_take_all_or_none(rt: HostRuntime) {
     let alloc = rt.alloc();
     let mut set = OpSet::new(alloc);
-    let told = ops(&rt, alloc, &[(id(1, 1), 5), (id(1, 2), 1)]);
+    let told = ops(&rt, alloc, &[(1, 1, 5), (1, 2, 1)]);
     assert!(rt; joins(alloc, &mut set, &told, Ok(2)));
-    let held = ops(&rt, alloc, &[(id(1, 3), 0), (id(1, 1), 6)]);
+    let held = ops(&rt, alloc, &[(1, 3, 0), (1, 1, 6)]);
     assert!(rt; clashes(alloc, &mut set, &held, id(1, 1)));
-    let earlier = ops(&rt, alloc, &[(id(1, 4), 1), (id(1, 4), 2)]);
+    let earlier = ops(&rt, alloc, &[(1, 4, 1), (1, 4, 2)]);
     assert!(rt; clashes(alloc, &mut set, &earlier, id(1, 4)));
     assert!(rt; tells(&set, 2));
-    expect_ranges(&rt, alloc, &set, &[range(1, 1, 2)]);
+    expect_ranges(&rt, alloc, &set, &[(1, 1, 2)]);
 }
 
 /// A set that tells the most refuses one atom more, and these operations, and knows the operation 1 of origin 1.
@@ -340,7 +300,7 @@ fn expect_full(rt: &impl Abort, alloc: Global, set: &mut OpSet, ops: &[Op]) {
 fn at_most_a_million_atoms_are_told(rt: HostRuntime) {
     let alloc = rt.alloc();
     let mut set = set_telling(&rt, alloc, 999_999);
-    let two = ops(&rt, alloc, &[(id(1, 1), 1), (id(1, 2), 1)]);
+    let two = ops(&rt, alloc, &[(1, 1, 1), (1, 2, 1)]);
     assert!(rt; joins(alloc, &mut set, &two, Err(AddFault::Full)));
     assert!(rt; tells(&set, 999_999) && is_missing(&set, id(1, 1)));
     assert!(rt; adds(&rt, alloc, &mut set, id(1, 1), &[1], Ok(Added::New)));
@@ -351,71 +311,71 @@ fn at_most_a_million_atoms_are_told(rt: HostRuntime) {
 fn ranges_grow_at_both_ends_and_close_holes(rt: HostRuntime) {
     let alloc = rt.alloc();
     let mut set = set_of_numbers(&rt, alloc, &[4, 2]);
-    expect_ranges(&rt, alloc, &set, &[range(1, 2, 2), range(1, 4, 4)]);
+    expect_ranges(&rt, alloc, &set, &[(1, 2, 2), (1, 4, 4)]);
     grow(&rt, alloc, &mut set, id(1, 3));
-    expect_ranges(&rt, alloc, &set, &[range(1, 2, 4)]);
+    expect_ranges(&rt, alloc, &set, &[(1, 2, 4)]);
     grow(&rt, alloc, &mut set, id(1, 1));
-    expect_ranges(&rt, alloc, &set, &[range(1, 1, 4)]);
+    expect_ranges(&rt, alloc, &set, &[(1, 1, 4)]);
     grow(&rt, alloc, &mut set, id(1, 6));
-    expect_ranges(&rt, alloc, &set, &[range(1, 1, 4), range(1, 6, 6)]);
+    expect_ranges(&rt, alloc, &set, &[(1, 1, 4), (1, 6, 6)]);
 }
 
 #[test]
 fn the_greatest_numbers_make_a_range(rt: HostRuntime) {
     let alloc = rt.alloc();
     let ends = set_of_numbers(&rt, alloc, &[GREATEST, GREATEST - 1]);
-    expect_ranges(&rt, alloc, &ends, &[range(1, GREATEST - 1, GREATEST)]);
+    expect_ranges(&rt, alloc, &ends, &[(1, GREATEST - 1, GREATEST)]);
 }
 
 #[test]
 fn ranges_are_of_one_origin(rt: HostRuntime) {
     let alloc = rt.alloc();
-    let ids = [id(2, 0), id(1, GREATEST), id(3, 1), id(3, 0)];
-    let ranges = [range(1, GREATEST, GREATEST), range(2, 0, 0), range(3, 0, 1)];
-    expect_ranges(&rt, alloc, &set_of(&rt, alloc, &ids), &ranges);
+    let set = set_of(&rt, alloc, &[(2, 0), (1, GREATEST), (3, 1), (3, 0)]);
+    let ranges = &[(1, GREATEST, GREATEST), (2, 0, 0), (3, 0, 1)];
+    expect_ranges(&rt, alloc, &set, ranges);
 }
+
+const MISSING: [(u32, u64, u16); 6] = [
+    (1, 8, 0),
+    (1, 2, 0),
+    (1, 3, 0),
+    (1, 0, 0),
+    (0, 4, 0),
+    (1, 8, 0),
+];
 
 #[test]
 fn a_join_closes_holes(rt: HostRuntime) {
     let alloc = rt.alloc();
     let mut set = set_of_numbers(&rt, alloc, &[1, 3, 9]);
-    let missing = [
-        (id(1, 8), 0),
-        (id(1, 2), 0),
-        (id(1, 3), 0),
-        (id(1, 0), 0),
-        (id(0, 4), 0),
-        (id(1, 8), 0),
-    ];
-    let ops = ops(&rt, alloc, &missing);
+    let ops = ops(&rt, alloc, &MISSING);
     assert!(rt; joins(alloc, &mut set, &ops, Ok(4)));
-    let ranges = [range(0, 4, 4), range(1, 0, 3), range(1, 8, 9)];
-    expect_ranges(&rt, alloc, &set, &ranges);
+    expect_ranges(&rt, alloc, &set, &[(0, 4, 4), (1, 0, 3), (1, 8, 9)]);
 }
 
 /// Whether the number follows the last range.
-fn follows(ranges: &[IdRange], number: u64) -> bool {
+fn follows(ranges: &[(u32, u64, u64)], number: u64) -> bool {
     match ranges.last() {
-        Some(last) => last.hi.checked_add(1) == Some(number),
+        Some(last) => last.2.checked_add(1) == Some(number),
         None => false,
     }
 }
 
 /// Has the last range, if any, end with this number.
-fn lengthen(ranges: &mut Vec<IdRange>, number: u64) {
+fn lengthen(ranges: &mut Vec<(u32, u64, u64)>, number: u64) {
     if let Some(last) = ranges.last_mut() {
-        last.hi = number;
+        last.2 = number;
     }
 }
 
 /// The ranges of origin 1 as long as possible that numbers in order make, found one by one.
-fn plain_ranges(rt: &impl Abort, alloc: Global, sorted: &[u64]) -> Vec<IdRange> {
+fn plain_ranges(rt: &impl Abort, alloc: Global, sorted: &[u64]) -> Vec<(u32, u64, u64)> {
     let mut ranges = Vec::new(alloc);
     for number in sorted {
         if follows(&ranges, *number) {
             lengthen(&mut ranges, *number);
         } else {
-            ranges.push(range(1, *number, *number)).expect(rt, "memory");
+            ranges.push((1, *number, *number)).expect(rt, "memory");
         }
     }
     ranges
@@ -453,17 +413,23 @@ fn ids_in_any_order_make_the_same_ranges(rt: HostRuntime) {
     expect_ranges(&rt, alloc, &set, &ranges);
 }
 
-/// Whether there are so many ids, the first and the last of which are these.
-fn are_from_to(ids: &[OpId], count: usize, first: OpId, last: OpId) -> bool {
-    ids.len() == count && ids.first() == Some(&first) && ids.last() == Some(&last)
+fn is_at(op: Option<&Op>, id: OpId) -> bool {
+    match op {
+        Some(op) => op.id() == id,
+        None => false,
+    }
+}
+
+/// Whether there are so many operations, the first and the last of which have these ids.
+fn are_from_to(ops: &[Op], count: usize, first: OpId, last: OpId) -> bool {
+    ops.len() == count && is_at(ops.first(), first) && is_at(ops.last(), last)
 }
 
 #[test]
 fn what_ranges_leave_out_is_lacked(rt: HostRuntime) {
     let alloc = rt.alloc();
     let set = set_of_numbers(&rt, alloc, &scrambled(&rt, alloc));
-    let ranges = vec![in alloc; range(1, 1_000, 2_999), range(1, 3_998, 4_500)];
-    let held = summary_of(&rt, ranges.expect(&rt, "memory"));
+    let held = summary_of(&rt, alloc, &[(1, 1_000, 2_999), (1, 3_998, 4_500)]);
     let lacked = lacked(&rt, alloc, &set, &held);
     assert!(rt; are_from_to(&lacked, 1_712, id(1, 1), id(1, 3_996)));
 }
