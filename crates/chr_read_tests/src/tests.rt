@@ -16,7 +16,7 @@ use std::alloc::Global;
 use std::fmt::Write;
 use std::process::Abort;
 
-#[derive(Clone, Copy, Debug, PartialEq, Eq)]
+#[derive(Clone, Copy, PartialEq, Eq)]
 enum Outcome {
     /// How many symbols and rules it has.
     Program(usize, usize),
@@ -25,14 +25,52 @@ enum Outcome {
     TooLong,
 }
 
+fn counted(program: &Program) -> Outcome {
+    Outcome::Program(program.symbols(), program.rules().len())
+}
+
+fn refused(rt: &impl Abort, fault: ReadFault) -> Outcome {
+    match fault {
+        ReadFault::Bad { fault, clause } => Outcome::Bad(fault.number(), clause),
+        ReadFault::TooLong => Outcome::TooLong,
+        ReadFault::Memory => panic!(rt; "out of memory"),
+    }
+}
+
 /// What comes of a text. Where memory runs out the test ends, here and below.
 fn outcome_of(rt: &impl Abort, alloc: Global, text: &[u8]) -> Outcome {
     match read(alloc, text) {
-        Ok(program) => Outcome::Program(program.symbols(), program.rules().len()),
-        Err(ReadFault::Bad { fault, clause }) => Outcome::Bad(fault.number(), clause),
-        Err(ReadFault::TooLong) => Outcome::TooLong,
-        Err(ReadFault::Memory) => panic!(rt; "out of memory"),
+        Ok(program) => counted(&program),
+        Err(fault) => refused(rt, fault),
     }
+}
+
+fn push(rt: &impl Abort, text: &mut String, more: &str) {
+    text.push_str(more).expect(rt, "memory");
+}
+
+fn push_number(rt: &impl Abort, text: &mut String, number: u64) {
+    write!(text, "{number}").expect(rt, "memory");
+}
+
+fn push_numbered(rt: &impl Abort, text: &mut String, before: &str, number: u64) {
+    push(rt, text, before);
+    push_number(rt, text, number);
+}
+
+/// The text of these parts.
+fn joined(rt: &impl Abort, alloc: Global, parts: &[&str]) -> String {
+    let mut text = String::new(alloc);
+    for part in parts {
+        push(rt, &mut text, part);
+    }
+    text
+}
+
+/// Compares what comes of a text.
+fn expect_outcome(rt: &impl Abort, alloc: Global, text: &str, expected: Outcome) {
+    let found = outcome_of(rt, alloc, text.as_bytes());
+    assert!(rt; found == expected, "{text}");
 }
 
 /// Compares what comes of each text, between these ends.
@@ -44,9 +82,8 @@ fn expect_outcomes(
     after: &str,
 ) {
     for (part, expected) in rows {
-        let text = format!(in alloc; "{before}{part}{after}").expect(rt, "memory");
-        let found = outcome_of(rt, alloc, text.as_bytes());
-        assert!(rt; found == *expected, "{part}");
+        let text = joined(rt, alloc, &[before, part, after]);
+        expect_outcome(rt, alloc, &text, *expected);
     }
 }
 
@@ -60,37 +97,37 @@ fn expect_each(
     expected: Outcome,
 ) {
     for part in parts {
-        let text = format!(in alloc; "{before}{part}{after}").expect(rt, "memory");
-        let found = outcome_of(rt, alloc, text.as_bytes());
-        assert!(rt; found == expected, "{part}");
+        let text = joined(rt, alloc, &[before, part, after]);
+        expect_outcome(rt, alloc, &text, expected);
     }
 }
 
+const PROGRAMS: &[(&str, Outcome)] = &[
+    ("", Outcome::Program(0, 0)),
+    ("% a. b\n", Outcome::Program(0, 0)),
+    (" \t\r\n", Outcome::Program(0, 0)),
+    ("% \u{e9}", Outcome::Program(0, 0)),
+    (
+        ":-use_module(library(chr)).:-use_module ( library ( chr ) ) .",
+        Outcome::Program(0, 0),
+    ),
+    (
+        ":- chr_constraint coin/0, note/0. coin, coin <=> note.",
+        Outcome::Program(2, 1),
+    ),
+    (
+        ":- chr_constraint a/1, b/1. a(X), a(X) <=> b(X).",
+        Outcome::Program(2, 1),
+    ),
+    (
+        ":- chr_constraint coin/0, note/0. coin <=> note.",
+        Outcome::Program(2, 1),
+    ),
+];
+
 #[test]
 fn programs(rt: HostRuntime) {
-    let rows = [
-        ("", Outcome::Program(0, 0)),
-        ("% a. b\n", Outcome::Program(0, 0)),
-        (" \t\r\n", Outcome::Program(0, 0)),
-        ("% \u{e9}", Outcome::Program(0, 0)),
-        (
-            ":-use_module(library(chr)).:-use_module ( library ( chr ) ) .",
-            Outcome::Program(0, 0),
-        ),
-        (
-            ":- chr_constraint coin/0, note/0. coin, coin <=> note.",
-            Outcome::Program(2, 1),
-        ),
-        (
-            ":- chr_constraint a/1, b/1. a(X), a(X) <=> b(X).",
-            Outcome::Program(2, 1),
-        ),
-        (
-            ":- chr_constraint coin/0, note/0. coin <=> note.",
-            Outcome::Program(2, 1),
-        ),
-    ];
-    expect_outcomes(&rt, rt.alloc(), "", &rows, "");
+    expect_outcomes(&rt, rt.alloc(), "", PROGRAMS, "");
 }
 
 /// The program of a text.
@@ -98,20 +135,19 @@ fn program_of(rt: &impl Abort, alloc: Global, text: &str) -> Program {
     read(alloc, text.as_bytes()).expect(rt, "a program")
 }
 
-/// The canonical text of what is read from this text, where it is a program.
-fn rewritten(rt: &impl Abort, alloc: Global, text: &[u8]) -> String {
-    match read(alloc, text) {
-        Ok(program) => write(alloc, &program).expect(rt, "memory"),
-        Err(ReadFault::Memory) => panic!(rt; "out of memory"),
-        Err(_) => String::from_str(alloc, "no program").expect(rt, "memory"),
-    }
+fn canonical_of(rt: &impl Abort, alloc: Global, program: &Program) -> String {
+    write(alloc, program).expect(rt, "memory")
+}
+
+/// Whether the text is that of a program with this canonical text.
+fn is_rewritten(rt: &impl Abort, alloc: Global, text: &str, canonical: &str) -> bool {
+    canonical_of(rt, alloc, &program_of(rt, alloc, text)).as_str() == canonical
 }
 
 /// Compares the canonical text of each text.
 fn expect_canonical(rt: &impl Abort, alloc: Global, rows: &[(&str, &str)]) {
     for (text, canonical) in rows {
-        let found = rewritten(rt, alloc, text.as_bytes());
-        assert!(rt; found.as_str() == *canonical);
+        assert!(rt; is_rewritten(rt, alloc, text, canonical), "{text}");
     }
 }
 
@@ -135,63 +171,73 @@ fn expect_faults(rt: &impl Abort, alloc: Global, rows: &[(&str, u8)]) {
     }
 }
 
-fn push(rt: &impl Abort, text: &mut String, more: &str) {
-    text.push_str(more).expect(rt, "memory");
-}
-
 /// A symbol more of a declaration.
-fn push_symbol(rt: &impl Abort, text: &mut String, number: u32) {
-    write!(text, ", a{number}/0").expect(rt, "memory");
+fn push_symbol(rt: &impl Abort, text: &mut String, number: u64) {
+    push_numbered(rt, text, ", a", number);
+    push(rt, text, "/0");
 }
 
 /// A declaration of 64 symbols, and this after it.
 fn after_symbols(rt: &impl Abort, alloc: Global, after: &str) -> String {
-    let mut text = String::new(alloc);
-    push(rt, &mut text, ":- chr_constraint a0/0");
-    for number in 1..64 {
+    let mut text = joined(rt, alloc, &[":- chr_constraint a0/0"]);
+    for number in 1..64u64 {
         push_symbol(rt, &mut text, number);
     }
     push(rt, &mut text, after);
     text
 }
 
+/// The text so many times.
+fn repeated(rt: &impl Abort, alloc: Global, text: &str, times: usize) -> String {
+    let mut all = String::new(alloc);
+    for _ in 0..times {
+        push(rt, &mut all, text);
+    }
+    all
+}
+
 /// A declaration of 64 symbols, and as many rules.
 fn sixty_four(rt: &impl Abort, alloc: Global) -> String {
-    let mut text = after_symbols(rt, alloc, ".");
-    let rules = "a0 <=> true.".repeat(alloc, 64).expect(rt, "memory");
-    text.push_str(&rules).expect(rt, "memory");
-    text
+    let symbols = after_symbols(rt, alloc, ".");
+    let rules = repeated(rt, alloc, "a0 <=> true.", 64);
+    joined(rt, alloc, &[&symbols, &rules])
 }
+
+const SIXTY_FOUR_SYMBOLS: &[(&str, Outcome)] = &[
+    (".", Outcome::Program(64, 0)),
+    (", b/0.", Outcome::Bad(7, 1)),
+    (". :- chr_constraint b/0.", Outcome::Bad(7, 2)),
+];
 
 #[test]
 fn sixty_four_symbols(rt: HostRuntime) {
     let alloc = rt.alloc();
     let symbols = after_symbols(&rt, alloc, "");
-    let rows = [
-        (".", Outcome::Program(64, 0)),
-        (", b/0.", Outcome::Bad(7, 1)),
-        (". :- chr_constraint b/0.", Outcome::Bad(7, 2)),
-    ];
-    expect_outcomes(&rt, alloc, symbols.as_str(), &rows, "");
+    expect_outcomes(&rt, alloc, symbols.as_str(), SIXTY_FOUR_SYMBOLS, "");
 }
+
+const SIXTY_FOUR_RULES: &[(&str, Outcome)] = &[
+    ("", Outcome::Program(64, 64)),
+    ("a0 <=> true.", Outcome::Bad(7, 66)),
+];
 
 #[test]
 fn sixty_four_rules(rt: HostRuntime) {
     let alloc = rt.alloc();
     let rules = sixty_four(&rt, alloc);
-    let rows = [
-        ("", Outcome::Program(64, 64)),
-        ("a0 <=> true.", Outcome::Bad(7, 66)),
-    ];
-    expect_outcomes(&rt, alloc, rules.as_str(), &rows, "");
+    expect_outcomes(&rt, alloc, rules.as_str(), SIXTY_FOUR_RULES, "");
 }
+
+const THE_LONGEST_TEXT: &[(&str, Outcome)] = &[
+    ("", Outcome::Program(0, 0)),
+    ("\u{7}", Outcome::TooLong),
+];
 
 #[test]
 fn the_longest_text(rt: HostRuntime) {
     let alloc = rt.alloc();
-    let spaces = " ".repeat(alloc, 65_536).expect(&rt, "memory");
-    let rows = [("", Outcome::Program(0, 0)), ("\u{7}", Outcome::TooLong)];
-    expect_outcomes(&rt, alloc, spaces.as_str(), &rows, "");
+    let spaces = repeated(&rt, alloc, " ", 65_536);
+    expect_outcomes(&rt, alloc, spaces.as_str(), THE_LONGEST_TEXT, "");
 }
 
 /// Whether the pattern is of this symbol at these terms.
@@ -284,74 +330,72 @@ fn numbers_of_faults(rt: HostRuntime) {
     assert!(rt; Fault::Unended.number() == 11);
 }
 
+const CANONICAL_TEXTS: &[(&str, &str)] = &[
+    ("", ""),
+    ("% nothing\n", ""),
+    (
+        ":- use_module(library(chr)). :- chr_constraint p/2, q/0. :- chr_weight p/2 = 007.\nr @ p(X,_) \\ p(Y,-03) <=> true, X >= -5, Y =\\= X | true, q.",
+        ":- chr_constraint p/2, q/0.\n:- chr_weight p/2 = 7.\nr @ p(V1,V2) \\ p(V3,-3) <=> V1 >= -5, V3 =\\= V1 | q.\n",
+    ),
+    (
+        ":-chr_constraint min/1.m@min(X)\\min(Y)<=>X=<Y|true.",
+        ":- chr_constraint min/1.\nm @ min(V1) \\ min(V2) <=> V1 =< V2 | true.\n",
+    ),
+    (
+        ":- use_module(library(chr)).\n:- chr_constraint a/1, b/0. a(X) <=> X == 1 | b, true, b. b, b <=> true | b.",
+        ":- chr_constraint a/1, b/0.\na(V1) <=> V1 =:= 1 | b, b.\nb, b <=> b.\n",
+    ),
+    (
+        ":- chr_constraint a/0, b/2. :- chr_weight b/2 = 7. :- chr_constraint c/04. :- chr_weight a/0 = 1. :- chr_weight c/4 = 01000000.",
+        ":- chr_constraint a/0, b/2, c/4.\n:- chr_weight b/2 = 7.\n:- chr_weight c/4 = 1000000.\n",
+    ),
+    (
+        ":- chr_constraint p/3, q/0. p(_, Y, -9223372036854775808), q <=> Y < 0, 007 >= Y, Y > -1, 3 =< Y, Y =\\= 5, Y \\== 6, Y =:= 9223372036854775807 | p(Y, Y, 4).",
+        ":- chr_constraint p/3, q/0.\np(V1,V2,-9223372036854775808), q <=> V2 < 0, 7 >= V2, V2 > -1, 3 =< V2, V2 =\\= 5, V2 =\\= 6, V2 =:= 9223372036854775807 | p(V2,V2,4).\n",
+    ),
+];
+
 #[test]
 fn canonical_texts(rt: HostRuntime) {
-    let rows = [
-        ("", ""),
-        ("% nothing\n", ""),
-        (
-            ":- use_module(library(chr)). :- chr_constraint p/2, q/0. :- chr_weight p/2 = 007.\nr @ p(X,_) \\ p(Y,-03) <=> true, X >= -5, Y =\\= X | true, q.",
-            ":- chr_constraint p/2, q/0.\n:- chr_weight p/2 = 7.\nr @ p(V1,V2) \\ p(V3,-3) <=> V1 >= -5, V3 =\\= V1 | q.\n",
-        ),
-        (
-            ":-chr_constraint min/1.m@min(X)\\min(Y)<=>X=<Y|true.",
-            ":- chr_constraint min/1.\nm @ min(V1) \\ min(V2) <=> V1 =< V2 | true.\n",
-        ),
-        (
-            ":- use_module(library(chr)).\n:- chr_constraint a/1, b/0. a(X) <=> X == 1 | b, true, b. b, b <=> true | b.",
-            ":- chr_constraint a/1, b/0.\na(V1) <=> V1 =:= 1 | b, b.\nb, b <=> b.\n",
-        ),
-        (
-            ":- chr_constraint a/0, b/2. :- chr_weight b/2 = 7. :- chr_constraint c/04. :- chr_weight a/0 = 1. :- chr_weight c/4 = 01000000.",
-            ":- chr_constraint a/0, b/2, c/4.\n:- chr_weight b/2 = 7.\n:- chr_weight c/4 = 1000000.\n",
-        ),
-        (
-            ":- chr_constraint p/3, q/0. p(_, Y, -9223372036854775808), q <=> Y < 0, 007 >= Y, Y > -1, 3 =< Y, Y =\\= 5, Y \\== 6, Y =:= 9223372036854775807 | p(Y, Y, 4).",
-            ":- chr_constraint p/3, q/0.\np(V1,V2,-9223372036854775808), q <=> V2 < 0, 7 >= V2, V2 > -1, 3 =< V2, V2 =\\= 5, V2 =\\= 6, V2 =:= 9223372036854775807 | p(V2,V2,4).\n",
-        ),
-    ];
-    expect_canonical(&rt, rt.alloc(), &rows);
+    expect_canonical(&rt, rt.alloc(), CANONICAL_TEXTS);
 }
 
-/// Whether the program is written, and its canonical text is that of the same, and of no other.
-fn is_written(rt: &impl Abort, alloc: Global, program: &Program) -> bool {
-    let canonical = write(alloc, program).expect(rt, "memory");
-    let again = program_of(rt, alloc, canonical.as_str());
-    let rewritten = write(alloc, &again).expect(rt, "memory");
-    again.is_same(program) && rewritten.as_str() == canonical.as_str()
+fn is_same(one: &Program, other: &Program) -> bool {
+    one.is_same(other)
 }
 
-/// Whether the text is that of a program, and its canonical text that of the same.
-fn comes_back(rt: &impl Abort, alloc: Global, text: &[u8]) -> bool {
-    match read(alloc, text) {
-        Ok(program) => is_written(rt, alloc, &program),
-        Err(_) => false,
-    }
+/// Whether the text is that of a program, and its canonical text that of the same, and of no other.
+fn comes_back(rt: &impl Abort, alloc: Global, text: &str) -> bool {
+    let program = program_of(rt, alloc, text);
+    let canonical = canonical_of(rt, alloc, &program);
+    let again = program_of(rt, alloc, &canonical);
+    is_same(&again, &program) && canonical_of(rt, alloc, &again) == canonical
 }
 
 /// Compares each text with what comes back of it.
 fn expect_come_back(rt: &impl Abort, alloc: Global, texts: &[&str]) {
     for text in texts {
-        assert!(rt; comes_back(rt, alloc, text.as_bytes()), "{text}");
+        assert!(rt; comes_back(rt, alloc, text), "{text}");
     }
 }
 
+const PROGRAMS_COME_BACK: &[&str] = &[
+    "",
+    ":- chr_constraint coin/0, note/0. coin, coin <=> note.",
+    ":- chr_constraint a/1, b/1. a(X), a(X) <=> b(X).",
+    ":- chr_constraint a/1. a(X) <=> X == 1 | true.",
+    ":- chr_constraint a/1. a(-9223372036854775808) <=> true.",
+    ":- chr_constraint a/1. a(9223372036854775807) <=> true.",
+    ":-chr_constraint min/1.m@min(X)\\min(Y)<=>X=<Y|true.",
+    ":- chr_constraint a/0, a/1, a/2, a/3, a/4, a/5, a/6.",
+    ":- chr_constraint a234567890123456789012345678901x/0. :- chr_weight a234567890123456789012345678901x/0 = 1000000.",
+    ":- chr_constraint a/0. x234567890123456789012345678901y @ a <=> true.",
+    ":- chr_constraint a/2, b/4. a(_,X), b(Y,_,X,Z) \\ a(Z,_), a(_,_) <=> X < Y, Z =\\= 4, 3 >= X | b(X,Y,Z,-5), a(0,0).",
+    ":- chr_constraint e/2. :- chr_weight e/2 = 3. a @ e(X,Y) \\ e(X,Z) <=> Y =< Z | true. a @ e(1,2) <=> true.",
+    ":- chr_constraint truex/0, failing/0. truex @ truex <=> failing, failing, failing, failing, failing, failing, failing, failing.",
+];
+
 #[test]
 fn programs_come_back(rt: HostRuntime) {
-    let texts = [
-        "",
-        ":- chr_constraint coin/0, note/0. coin, coin <=> note.",
-        ":- chr_constraint a/1, b/1. a(X), a(X) <=> b(X).",
-        ":- chr_constraint a/1. a(X) <=> X == 1 | true.",
-        ":- chr_constraint a/1. a(-9223372036854775808) <=> true.",
-        ":- chr_constraint a/1. a(9223372036854775807) <=> true.",
-        ":-chr_constraint min/1.m@min(X)\\min(Y)<=>X=<Y|true.",
-        ":- chr_constraint a/0, a/1, a/2, a/3, a/4, a/5, a/6.",
-        ":- chr_constraint a234567890123456789012345678901x/0. :- chr_weight a234567890123456789012345678901x/0 = 1000000.",
-        ":- chr_constraint a/0. x234567890123456789012345678901y @ a <=> true.",
-        ":- chr_constraint a/2, b/4. a(_,X), b(Y,_,X,Z) \\ a(Z,_), a(_,_) <=> X < Y, Z =\\= 4, 3 >= X | b(X,Y,Z,-5), a(0,0).",
-        ":- chr_constraint e/2. :- chr_weight e/2 = 3. a @ e(X,Y) \\ e(X,Z) <=> Y =< Z | true. a @ e(1,2) <=> true.",
-        ":- chr_constraint truex/0, failing/0. truex @ truex <=> failing, failing, failing, failing, failing, failing, failing, failing.",
-    ];
-    expect_come_back(&rt, rt.alloc(), &texts);
+    expect_come_back(&rt, rt.alloc(), PROGRAMS_COME_BACK);
 }

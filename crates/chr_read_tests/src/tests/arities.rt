@@ -1,25 +1,32 @@
 //! Symbols of many arguments, and of one more than there may be.
-use super::{Outcome, expect_canonical, expect_come_back, expect_outcomes, outcome_of};
+use super::{Outcome, expect_canonical, expect_come_back, expect_each, expect_outcomes, joined};
 use std::alloc::Global;
 use std::process::Abort;
 
+const DECLARED_ARITIES: &[(&str, Outcome)] = &[
+    ("4", Outcome::Program(1, 0)),
+    ("5", Outcome::Program(1, 0)),
+    ("6", Outcome::Program(1, 0)),
+    ("06", Outcome::Program(1, 0)),
+    ("7", Outcome::Bad(7, 1)),
+    ("07", Outcome::Bad(7, 1)),
+    ("8", Outcome::Bad(7, 1)),
+    ("9", Outcome::Bad(7, 1)),
+    ("10", Outcome::Bad(7, 1)),
+    ("16", Outcome::Bad(7, 1)),
+    ("60", Outcome::Bad(7, 1)),
+    ("-6", Outcome::Bad(3, 1)),
+];
+
 #[test]
 fn declared_arities(rt: HostRuntime) {
-    let rows = [
-        ("4", Outcome::Program(1, 0)),
-        ("5", Outcome::Program(1, 0)),
-        ("6", Outcome::Program(1, 0)),
-        ("06", Outcome::Program(1, 0)),
-        ("7", Outcome::Bad(7, 1)),
-        ("07", Outcome::Bad(7, 1)),
-        ("8", Outcome::Bad(7, 1)),
-        ("9", Outcome::Bad(7, 1)),
-        ("10", Outcome::Bad(7, 1)),
-        ("16", Outcome::Bad(7, 1)),
-        ("60", Outcome::Bad(7, 1)),
-        ("-6", Outcome::Bad(3, 1)),
-    ];
-    expect_outcomes(&rt, rt.alloc(), ":- chr_constraint a/", &rows, ".");
+    expect_outcomes(
+        &rt,
+        rt.alloc(),
+        ":- chr_constraint a/",
+        DECLARED_ARITIES,
+        ".",
+    );
 }
 
 /// What may stand before and after the arguments of an atom in a rule.
@@ -35,13 +42,10 @@ const PLACES: [(&str, &str); 7] = [
 
 /// Compares what comes of an atom with these arguments in each place, after declarations of `a`.
 fn expect_atoms(rt: &impl Abort, alloc: Global, declared: &str, args: &str, expected: Outcome) {
+    let declared = joined(rt, alloc, &[":- chr_constraint ", declared, ", b/0. "]);
     for (before, after) in &PLACES {
-        let rule = format!(in alloc; "{before}{args}{after}").expect(rt, "memory");
-        let text = format!(in alloc; ":- chr_constraint {declared}, b/0. {rule}.").expect(
-            rt, "memory",
-        );
-        let found = outcome_of(rt, alloc, text.as_bytes());
-        assert!(rt; found == expected, "{rule}");
+        let atom = joined(rt, alloc, &[before, args, after]);
+        expect_each(rt, alloc, &declared, &[&atom], ".", expected);
     }
 }
 

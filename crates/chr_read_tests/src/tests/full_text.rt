@@ -1,7 +1,6 @@
 //! A program with as many parts as one may have, in a text as long as one may be.
-use super::{comes_back, push, rewritten};
+use super::{comes_back, is_rewritten, joined, push, push_number, push_numbered, repeated};
 use std::alloc::Global;
-use std::fmt::Write;
 use std::process::Abort;
 
 /// The names of the symbols, and of the rules, end with the numbers from here.
@@ -10,7 +9,9 @@ const FIRST: u64 = 10;
 const END: u64 = 74;
 
 fn push_symbol(rt: &impl Abort, text: &mut String, before: &str, number: u64) {
-    write!(text, "{before}constraint_{number}/6").expect(rt, "memory");
+    push(rt, text, before);
+    push_numbered(rt, text, "constraint_", number);
+    push(rt, text, "/6");
 }
 
 fn push_declarations(rt: &impl Abort, text: &mut String) {
@@ -23,7 +24,8 @@ fn push_declarations(rt: &impl Abort, text: &mut String) {
 
 fn push_weight(rt: &impl Abort, text: &mut String, number: u64) {
     push_symbol(rt, text, ":- chr_weight ", number);
-    write!(text, " = {number},1000000.\n").expect(rt, "memory");
+    push_numbered(rt, text, " = ", number);
+    push(rt, text, ",1000000.\n");
 }
 
 fn push_weights(rt: &impl Abort, text: &mut String) {
@@ -34,41 +36,42 @@ fn push_weights(rt: &impl Abort, text: &mut String) {
 
 /// An atom, with what stands before and after it.
 fn push_atom(rt: &impl Abort, text: &mut String, number: u64, args: &str, after: &str) {
-    write!(text, "constraint_{number}({args}){after}").expect(rt, "memory");
+    push_numbered(rt, text, "constraint_", number);
+    push(rt, text, args);
+    push(rt, text, after);
 }
 
 fn push_label(rt: &impl Abort, text: &mut String, number: u64) {
-    write!(text, "rule_with_parts_{number} @ ").expect(rt, "memory");
+    push_numbered(rt, text, "rule_with_parts_", number);
+    push(rt, text, " @ ");
 }
 
 /// The heads of a rule hold 24 variables, and each symbol twice.
 fn push_heads(rt: &impl Abort, text: &mut String, one: u64, other: u64) {
     push_label(rt, text, one);
-    push_atom(rt, text, one, "V1,V2,V3,V4,V5,V6", ", ");
-    push_atom(rt, text, other, "V7,V8,V9,V10,V11,V12", " \\ ");
-    push_atom(rt, text, one, "V13,V14,V15,V16,V17,V18", ", ");
-    push_atom(rt, text, other, "V19,V20,V21,V22,V23,V24", " <=> ");
+    push_atom(rt, text, one, "(V1,V2,V3,V4,V5,V6)", ", ");
+    push_atom(rt, text, other, "(V7,V8,V9,V10,V11,V12)", " \\ ");
+    push_atom(rt, text, one, "(V13,V14,V15,V16,V17,V18)", ", ");
+    push_atom(rt, text, other, "(V19,V20,V21,V22,V23,V24)", " <=> ");
 }
 
-/// What stands before each comparison, its sign, and its variable.
+/// What stands before each comparison, its sign and what stands around it, and the number of its variable.
 const COMPARISONS: [(&str, &str, u64); 8] = [
-    ("", "<", 1),
-    (", ", "=<", 2),
-    (", ", ">", 3),
-    (", ", ">=", 4),
-    (", ", "=:=", 5),
-    (", ", "=\\=", 6),
-    (", ", "<", 7),
-    (", ", ">=", 8),
+    ("", " < V", 1),
+    (", ", " =< V", 2),
+    (", ", " > V", 3),
+    (", ", " >= V", 4),
+    (", ", " =:= V", 5),
+    (", ", " =\\= V", 6),
+    (", ", " < V", 7),
+    (", ", " >= V", 8),
 ];
 
 /// A comparison of a number of nineteen digits that ends with this one.
 fn push_comparison(rt: &impl Abort, text: &mut String, before: &str, end: u64, sign: &str) {
-    write!(text, "{before}-92233720368547757{end} {sign} V").expect(rt, "memory");
-}
-
-fn push_number(rt: &impl Abort, text: &mut String, number: u64) {
-    write!(text, "{number}").expect(rt, "memory");
+    push(rt, text, before);
+    push_numbered(rt, text, "-92233720368547757", end);
+    push(rt, text, sign);
 }
 
 fn push_guard(rt: &impl Abort, text: &mut String, one: u64) {
@@ -91,27 +94,32 @@ const BODY: [(&str, u64, u64, u64); 8] = [
     (", ", 8, 16, 24),
 ];
 
-/// Two numbers of nineteen digits that end with these.
-fn push_constants(rt: &impl Abort, text: &mut String, one: u64, other: u64) {
-    write!(text, "92233720368547757{one},-92233720368547757{other}").expect(rt, "memory");
+/// Texts, each with the number after it.
+fn push_all_numbered(rt: &impl Abort, text: &mut String, parts: &[(&str, u64)]) {
+    for (before, number) in parts {
+        push_numbered(rt, text, before, *number);
+    }
 }
 
-fn push_variables(rt: &impl Abort, text: &mut String, second: u64, last: u64) {
-    write!(text, ",V{second},V{last},").expect(rt, "memory");
-}
-
-/// The first argument of an atom after the symbol of this number.
-fn push_first(rt: &impl Abort, text: &mut String, other: u64, first: u64) {
-    write!(text, "constraint_{other}(V{first},").expect(rt, "memory");
+/// An atom of three variables and three numbers, two of which have nineteen digits.
+fn push_body_atom(rt: &impl Abort, text: &mut String, one: u64, other: u64, row: (u64, u64, u64)) {
+    let (first, second, last) = row;
+    let parts = [
+        ("constraint_", other),
+        ("(V", first),
+        (",92233720368547757", one),
+        (",-92233720368547757", other),
+        (",V", second),
+        (",V", last),
+        (",", first),
+    ];
+    push_all_numbered(rt, text, &parts);
 }
 
 fn push_body(rt: &impl Abort, text: &mut String, one: u64, other: u64) {
     for (before, first, second, last) in BODY {
         push(rt, text, before);
-        push_first(rt, text, other, first);
-        push_constants(rt, text, one, other);
-        push_variables(rt, text, second, last);
-        push_number(rt, text, first);
+        push_body_atom(rt, text, one, other, (first, second, last));
         push(rt, text, ")");
     }
     push(rt, text, ".\n");
@@ -139,10 +147,8 @@ fn full_program(rt: &impl Abort, alloc: Global) -> String {
 /// The text with spaces at its end, as long as a text may be.
 fn longest(rt: &impl Abort, alloc: Global, canonical: &str) -> String {
     assert!(rt; 65_000 < canonical.len() && canonical.len() <= 65_536);
-    let mut text = String::from_str(alloc, canonical).expect(rt, "memory");
-    for _ in canonical.len()..65_536 {
-        push(rt, &mut text, " ");
-    }
+    let spaces = repeated(rt, alloc, " ", 65_536 - canonical.len());
+    let text = joined(rt, alloc, &[canonical, &spaces]);
     assert!(rt; text.len() == 65_536);
     text
 }
@@ -151,8 +157,7 @@ fn longest(rt: &impl Abort, alloc: Global, canonical: &str) -> String {
 fn a_full_program(rt: HostRuntime) {
     let alloc = rt.alloc();
     let canonical = full_program(&rt, alloc);
-    let text = longest(&rt, alloc, canonical.as_str());
-    let found = rewritten(&rt, alloc, text.as_bytes());
-    assert!(rt; found.as_str() == canonical.as_str());
-    assert!(rt; comes_back(&rt, alloc, text.as_bytes()));
+    let text = longest(&rt, alloc, &canonical);
+    assert!(rt; is_rewritten(&rt, alloc, &text, &canonical));
+    assert!(rt; comes_back(&rt, alloc, &text));
 }
