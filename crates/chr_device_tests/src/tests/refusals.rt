@@ -165,23 +165,38 @@ fn contains(rt: &(impl Abort + AllocGlobal), words: &[&str], part: &str, expecte
     assert!(rt; text.contains(part) == expected, "{text}");
 }
 
+/// The help of these commands has the text, or has not.
+fn all_contain(rt: &(impl Abort + AllocGlobal), commands: &[(&[&str], bool)], part: &str) {
+    for (words, expected) in commands {
+        contains(rt, words, part, *expected);
+    }
+}
+
+const WIDE_COMMANDS: [(&[&str], bool); 3] = [
+    (&["check", "--help"], true),
+    (&["run", "--help"], true),
+    (&["serve", "--help"], true),
+];
+
 #[test]
 fn help_names_wide(rt: HostRuntime) {
     for part in WIDE_HELP {
-        contains(&rt, &["check", "--help"], part, true);
-        contains(&rt, &["run", "--help"], part, true);
-        contains(&rt, &["serve", "--help"], part, true);
+        all_contain(&rt, &WIDE_COMMANDS, part);
     }
     contains(&rt, &["--help"], "--wide", false);
     contains(&rt, &["explain", "--help"], "--wide", true);
 }
 
+const SHARING_COMMANDS: [(&[&str], bool); 4] = [
+    (&["run", "--help"], true),
+    (&["serve", "--help"], true),
+    (&["check", "--help"], false),
+    (&["explain", "--help"], false),
+];
+
 #[test]
 fn help_names_workers_and_parts(rt: HostRuntime) {
     for part in ["--workers <N>", "--parts <N>"] {
-        contains(&rt, &["run", "--help"], part, true);
-        contains(&rt, &["serve", "--help"], part, true);
-        contains(&rt, &["check", "--help"], part, false);
-        contains(&rt, &["explain", "--help"], part, false);
+        all_contain(&rt, &SHARING_COMMANDS, part);
     }
 }

@@ -30,137 +30,224 @@ fn asks_for(rt: &(impl Abort + AllocGlobal), words: &[&str], expected: Settings)
     }
 }
 
-const COMMANDS: [(&[&str], Verb); 8] = [
-    (&["check"], Verb::Check),
-    (&["check", "--"], Verb::Check),
-    (&["run"], Verb::Run),
-    (&["run", "--"], Verb::Run),
-    (&["serve"], Verb::Serve),
-    (&["serve", "--"], Verb::Serve),
-    (&["explain"], Verb::Explain),
-    (&["explain", "--"], Verb::Explain),
+/// So asks each row's words.
+fn expect_asked(rt: &(impl Abort + AllocGlobal), rows: &[(&[&str], Settings)]) {
+    for (words, expected) in rows {
+        assert!(rt; asks_for(rt, words, *expected), "{words:?}");
+    }
+}
+
+const CHECK: Settings = Settings {
+    command: Verb::Check,
+    ..PLAIN
+};
+
+const SERVE: Settings = Settings {
+    command: Verb::Serve,
+    ..PLAIN
+};
+
+const EXPLAIN: Settings = Settings {
+    command: Verb::Explain,
+    ..PLAIN
+};
+
+const COMMANDS: [(&[&str], Settings); 8] = [
+    (&["check"], CHECK),
+    (&["check", "--"], CHECK),
+    (&["run"], PLAIN),
+    (&["run", "--"], PLAIN),
+    (&["serve"], SERVE),
+    (&["serve", "--"], SERVE),
+    (&["explain"], EXPLAIN),
+    (&["explain", "--"], EXPLAIN),
 ];
 
 #[test]
 fn commands_are_taken(rt: HostRuntime) {
-    for (words, command) in COMMANDS {
-        let expected = Settings { command, ..PLAIN };
-        assert!(rt; asks_for(&rt, words, expected), "{words:?}");
-    }
+    expect_asked(&rt, &COMMANDS);
 }
 
-const REPLICAS: [(&[&str], u32); 7] = [
-    (&["run", "--replicas", "1"], 1),
-    (&["run", "--replicas", "2"], 2),
-    (&["run", "--replicas", "16"], 16),
-    (&["run", "--replicas=2"], 2),
-    (&["run", "--replicas", "02"], 2),
-    (&["run", "--replicas", "+2"], 2),
-    (&["run", "--replicas", "2", "--"], 2),
+const REPLICAS: [(&[&str], Settings); 7] = [
+    (
+        &["run", "--replicas", "1"],
+        Settings {
+            replicas: 1,
+            ..PLAIN
+        },
+    ),
+    (
+        &["run", "--replicas", "2"],
+        Settings {
+            replicas: 2,
+            ..PLAIN
+        },
+    ),
+    (
+        &["run", "--replicas", "16"],
+        Settings {
+            replicas: 16,
+            ..PLAIN
+        },
+    ),
+    (
+        &["run", "--replicas=2"],
+        Settings {
+            replicas: 2,
+            ..PLAIN
+        },
+    ),
+    (
+        &["run", "--replicas", "02"],
+        Settings {
+            replicas: 2,
+            ..PLAIN
+        },
+    ),
+    (
+        &["run", "--replicas", "+2"],
+        Settings {
+            replicas: 2,
+            ..PLAIN
+        },
+    ),
+    (
+        &["run", "--replicas", "2", "--"],
+        Settings {
+            replicas: 2,
+            ..PLAIN
+        },
+    ),
 ];
 
 #[test]
 fn replicas_are_read(rt: HostRuntime) {
-    for (words, replicas) in REPLICAS {
-        let expected = Settings { replicas, ..PLAIN };
-        assert!(rt; asks_for(&rt, words, expected), "{words:?}");
-    }
+    expect_asked(&rt, &REPLICAS);
 }
 
-const SERVED: [(&[&str], u32); 2] = [
-    (&["serve", "--replicas", "2"], 2),
-    (&["serve", "--replicas=16"], 16),
+const SERVED: [(&[&str], Settings); 2] = [
+    (
+        &["serve", "--replicas", "2"],
+        Settings {
+            replicas: 2,
+            ..SERVE
+        },
+    ),
+    (
+        &["serve", "--replicas=16"],
+        Settings {
+            replicas: 16,
+            ..SERVE
+        },
+    ),
 ];
 
 #[test]
 fn replicas_are_served(rt: HostRuntime) {
-    let command = Verb::Serve;
-    for (words, replicas) in SERVED {
-        let expected = Settings {
-            command,
-            replicas,
-            ..PLAIN
-        };
-        assert!(rt; asks_for(&rt, words, expected), "{words:?}");
-    }
+    expect_asked(&rt, &SERVED);
 }
 
-/// The command, how many workers there are, and how many parts.
-const SHARED: [(&[&str], Verb, u32, u32); 7] = [
-    (&["run", "--workers", "2"], Verb::Run, 2, 1),
-    (&["run", "--workers=16"], Verb::Run, 16, 1),
-    (&["run", "--parts", "64"], Verb::Run, 1, 64),
+const SHARED: [(&[&str], Settings); 7] = [
+    (
+        &["run", "--workers", "2"],
+        Settings {
+            workers: 2,
+            ..PLAIN
+        },
+    ),
+    (
+        &["run", "--workers=16"],
+        Settings {
+            workers: 16,
+            ..PLAIN
+        },
+    ),
+    (&["run", "--parts", "64"], Settings { parts: 64, ..PLAIN }),
     (
         &["run", "--workers", "4", "--parts", "16"],
-        Verb::Run,
-        4,
-        16,
+        Settings {
+            workers: 4,
+            parts: 16,
+            ..PLAIN
+        },
     ),
     (
         &["run", "--parts=16", "--workers=4", "--"],
-        Verb::Run,
-        4,
-        16,
+        Settings {
+            workers: 4,
+            parts: 16,
+            ..PLAIN
+        },
     ),
-    (&["serve", "--workers", "+2"], Verb::Serve, 2, 1),
-    (&["serve", "--parts", "03"], Verb::Serve, 1, 3),
+    (
+        &["serve", "--workers", "+2"],
+        Settings {
+            workers: 2,
+            ..SERVE
+        },
+    ),
+    (&["serve", "--parts", "03"], Settings { parts: 3, ..SERVE }),
 ];
 
 #[test]
 fn workers_and_parts_are_read(rt: HostRuntime) {
-    for (words, command, workers, parts) in SHARED {
-        let expected = Settings {
-            command,
-            workers,
-            parts,
-            ..PLAIN
-        };
-        assert!(rt; asks_for(&rt, words, expected), "{words:?}");
-    }
+    expect_asked(&rt, &SHARED);
 }
 
-/// How an explanation is to be written.
-const STYLES: [(&[&str], Style); 6] = [
-    (&["explain", "--dot"], Style { dot: true, ..TEXT }),
-    (&["explain", "--html"], Style { html: true, ..TEXT }),
-    (&["explain", "--all"], Style { all: true, ..TEXT }),
+const DOT: Style = Style { dot: true, ..TEXT };
+
+const HTML: Style = Style { html: true, ..TEXT };
+
+const ALL: Style = Style { all: true, ..TEXT };
+
+const STYLES: [(&[&str], Settings); 6] = [
+    (
+        &["explain", "--dot"],
+        Settings {
+            style: DOT,
+            ..EXPLAIN
+        },
+    ),
+    (
+        &["explain", "--html"],
+        Settings {
+            style: HTML,
+            ..EXPLAIN
+        },
+    ),
+    (
+        &["explain", "--all"],
+        Settings {
+            style: ALL,
+            ..EXPLAIN
+        },
+    ),
     (
         &["explain", "--dot", "--all"],
-        Style {
-            html: false,
-            dot: true,
-            all: true,
+        Settings {
+            style: Style { all: true, ..DOT },
+            ..EXPLAIN
         },
     ),
     (
         &["explain", "--all", "--dot"],
-        Style {
-            html: false,
-            dot: true,
-            all: true,
+        Settings {
+            style: Style { all: true, ..DOT },
+            ..EXPLAIN
         },
     ),
     (
         &["explain", "--html", "--dot"],
-        Style {
-            html: true,
-            dot: true,
-            all: false,
+        Settings {
+            style: Style { dot: true, ..HTML },
+            ..EXPLAIN
         },
     ),
 ];
 
 #[test]
 fn styles_are_read(rt: HostRuntime) {
-    let command = Verb::Explain;
-    for (words, style) in STYLES {
-        let expected = Settings {
-            command,
-            style,
-            ..PLAIN
-        };
-        assert!(rt; asks_for(&rt, words, expected), "{words:?}");
-    }
+    expect_asked(&rt, &STYLES);
 }
 
 /// The command, how many replicas, and whether the verdict is wide.
@@ -217,6 +304,13 @@ fn refuses(rt: &(impl Abort + AllocGlobal), words: &[&str], kind: ErrorKind, tex
     }
 }
 
+/// So is each row refused.
+fn expect_refused(rt: &(impl Abort + AllocGlobal), rows: &[(&[&str], ErrorKind, &str)]) {
+    for (words, kind, text) in rows {
+        assert!(rt; refuses(rt, words, *kind, text), "{words:?}");
+    }
+}
+
 const OTHER_WIDE: [(&[&str], ErrorKind, &str); 6] = [
     (
         &["check", "--wide=true"],
@@ -244,9 +338,7 @@ const OTHER_WIDE: [(&[&str], ErrorKind, &str); 6] = [
 
 #[test]
 fn other_wide_is_refused(rt: HostRuntime) {
-    for (words, kind, text) in OTHER_WIDE {
-        assert!(rt; refuses(&rt, words, kind, text), "{words:?}");
-    }
+    expect_refused(&rt, &OTHER_WIDE);
 }
 
 const OTHER_WORKERS: [(&[&str], ErrorKind, &str); 8] = [
@@ -294,9 +386,7 @@ const OTHER_WORKERS: [(&[&str], ErrorKind, &str); 8] = [
 
 #[test]
 fn other_workers_are_refused(rt: HostRuntime) {
-    for (words, kind, text) in OTHER_WORKERS {
-        assert!(rt; refuses(&rt, words, kind, text), "{words:?}");
-    }
+    expect_refused(&rt, &OTHER_WORKERS);
 }
 
 /// Words after `run`.
@@ -417,7 +507,5 @@ const OTHER_WORDS: [(&[&str], ErrorKind, &str); 20] = [
 
 #[test]
 fn other_words_are_refused(rt: HostRuntime) {
-    for (words, kind, text) in OTHER_WORDS {
-        assert!(rt; refuses(&rt, words, kind, text), "{words:?}");
-    }
+    expect_refused(&rt, &OTHER_WORDS);
 }
