@@ -305,7 +305,6 @@ class Costs(unittest.TestCase):
                 self.assertLessEqual(growth, RATIO)
         print(f"(grown by {', '.join(told)})", end=" ", flush=True)
 
-
     def test_atoms_that_come_in_no_order(self) -> None:
         given = stairs(DISORDERED), stairs_in_disorder(DISORDERED)
         ordered, disordered = (
