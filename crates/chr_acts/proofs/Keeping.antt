@@ -3,7 +3,8 @@ use Rattle.std.proofs.Common.{sym, subst}
 use Rattle.chr_base.specs.declared.program.Program.{Program}
 use Rattle.chr_ops.specs.declared.fault.Added.TheVariants as added
 use Rattle.chr_replica.specs.Replicas.{Replica, IsSound}
-use Rattle.chr_replica.specs.Laws.{TellKeeps, MergeKeeps, StepKeeps, TakeKeeps, TakePartsKeeps, PutKeeps, RecallKeeps, SettleKeeps}
+use Rattle.chr_replica.specs.Laws.{TellKeeps, MergeKeeps, StepKeeps, TakeKeeps, TakePartsKeeps, PutKeeps, RecallKeeps}
+use Rattle.chr_replica.specs.Laws.{SettleKeeps}
 use Rattle.chr_acts.specs.declared.act.Act.{Act}
 use Rattle.chr_acts.specs.declared.act.Act.TheVariants as act
 use Rattle.chr_acts.specs.declared.reply.Reply.{Reply}
@@ -22,7 +23,8 @@ pub record EventsKeep : Type 0 where
   pub settle : SettleKeeps
 
 -- an event keeps replicas sound
-pub does_keeps : EventsKeep → (p : Program) (s : Replica) (a : Act) (x : Reply) (t : Replica) → Does p s a x t → IsSound p s → IsSound p t
+pub does_keeps : EventsKeep → (p : Program) (s : Replica) (a : Act) (x : Reply) (t : Replica) → Does p s a x t
+    → IsSound p s → IsSound p t
 does_keeps k p s a (reply.Refused r) t h sound = subst (IsSound p) (sym h.2) sound
 does_keeps k p s (act.Tell op) (reply.Told added.New) t h sound = k.tell p op s t h sound
 does_keeps k p s (act.Tell op) (reply.Told added.Again) t h sound = subst (IsSound p) (sym h.2) sound

@@ -13,8 +13,10 @@ use Rattle.chr_replica.specs.declared.refusal.Refusal.{Refusal}
 use Rattle.chr_replica.specs.declared.refusal.Refusal.TheVariants as refusal
 use Rattle.chr_replica.specs.Leases.{AreNumbered}
 use Rattle.chr_replica.specs.LeastOut.{IsLeastOut}
-use Rattle.chr_replica.specs.Replicas.{Replica, IsDeclared, IsSettled, Tells, Merges, Steps, Takes, TakesParts, Puts, Recalls, Settles}
-use Rattle.chr_replica.specs.Refusals.{RefusesTell, RefusesMerge, RefusesStep, RefusesTake, RefusesTakeParts, RefusesPut, RefusesRecall, RefusesShow}
+use Rattle.chr_replica.specs.Replicas.{Replica, IsDeclared, IsSettled, Tells, Merges, Steps, Takes, TakesParts, Puts}
+use Rattle.chr_replica.specs.Replicas.{Recalls, Settles}
+use Rattle.chr_replica.specs.Refusals.{RefusesTell, RefusesMerge, RefusesStep, RefusesTake, RefusesTakeParts}
+use Rattle.chr_replica.specs.Refusals.{RefusesPut, RefusesRecall, RefusesShow}
 use Rattle.chr_acts.specs.declared.act.Act.{Act}
 use Rattle.chr_acts.specs.declared.act.Act.TheVariants as act
 use Rattle.chr_acts.specs.declared.reply.Reply.{Reply}

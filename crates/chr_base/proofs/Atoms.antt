@@ -7,7 +7,8 @@ use Rattle.std.specs.declared.cmp.Ordering.{Ordering}
 use Rattle.std.specs.Ordering.{nat_cmp, int_cmp, ordering_then, eq_by_cmp, is_eq}
 use Rattle.std.specs.Cmp.{IsTotalOrder, on_total, then_total, nat_cmp_total, int_cmp_total}
 use Rattle.std.specs.Cmp.Lexicographic.{slice_cmp, lists_total}
-use Rattle.std.specs.FinMap.{IsAntisymmetric, nat_cmp-IsAntisymmetric, int_cmp-IsAntisymmetric, slice_cmp-IsAntisymmetric}
+use Rattle.std.specs.FinMap.{IsAntisymmetric, nat_cmp-IsAntisymmetric, int_cmp-IsAntisymmetric}
+use Rattle.std.specs.FinMap.{slice_cmp-IsAntisymmetric}
 use Rattle.std.proofs.lemmas.Map.Lookups.{exact_pairs}
 use Rattle.chr_base.specs.declared.atom.Atom.{Atom}
 use Rattle.chr_base.specs.Atoms.{atom_cmp}
@@ -15,9 +16,11 @@ use Rattle.chr_base.specs.Atoms.{atom_cmp}
 pub atom_total : IsTotalOrder atom_cmp
 atom_total =
     then_total (on_total (λ a. a.symbol.0) nat_cmp_total)
-    (then_total (on_total (λ a. length a.args.items) nat_cmp_total) (on_total (λ a. a.args.items) (lists_total int_cmp_total)))
+    (then_total (on_total (λ a. length a.args.items) nat_cmp_total)
+        (on_total (λ a. a.args.items) (lists_total int_cmp_total)))
 
-args_exact : IsAntisymmetric (λ (xs ys : List ℤ). ordering_then (nat_cmp (length xs) (length ys)) (slice_cmp int_cmp xs ys))
+args_exact : IsAntisymmetric (λ (xs ys : List ℤ). ordering_then (nat_cmp (length xs) (length ys))
+    (slice_cmp int_cmp xs ys))
 args_exact xs ys h = by (nat_cmp (length xs) (length ys)) h
   where
     by : (o : Ordering) → ordering_then o (slice_cmp int_cmp xs ys) ≡ order.Equal → xs ≡ ys
@@ -29,7 +32,8 @@ args_exact xs ys h = by (nat_cmp (length xs) (length ys)) h
 pub atom_exact : IsAntisymmetric atom_cmp
 atom_exact a b h =
     ap (λ (p : ℕ × List ℤ). record { symbol = record { 0 = p.0 }; args = record { items = p.1 } })
-    (exact_pairs nat_cmp (λ (xs ys : List ℤ). ordering_then (nat_cmp (length xs) (length ys)) (slice_cmp int_cmp xs ys)) nat_cmp-IsAntisymmetric args_exact (a.symbol.0, a.args.items) (b.symbol.0, b.args.items) h)
+    (exact_pairs nat_cmp (λ (xs ys : List ℤ). ordering_then (nat_cmp (length xs) (length ys)) (slice_cmp int_cmp xs ys))
+        nat_cmp-IsAntisymmetric args_exact (a.symbol.0, a.args.items) (b.symbol.0, b.args.items) h)
 
 -- atoms that are found the same are one
 pub same_is : (a b : Atom) → eq_by_cmp atom_cmp a b ≡ true → a ≡ b

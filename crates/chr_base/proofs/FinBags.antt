@@ -8,7 +8,8 @@ use Rattle.std.specs.declared.cmp.Ordering.TheVariants.{Less, Equal, Greater}
 use Rattle.std.specs.Ordering.{is_eq, is_gt, ordering_reverse, eq_by_cmp}
 use Rattle.std.specs.Cmp.{IsTotalOrder, tied_itself, alike_right, upto}
 use Rattle.std.specs.FinMap.{IsAntisymmetric}
-use Rattle.chr_base.specs.FinBag.{FinBag, total, none_below, is_rising, put, insertion_sort, without, without_all, count_in, items, empty, rising_bag, of_list, count, add, ◌⊕◌, ◌⊖◌, IsWithin, sum_over}
+use Rattle.chr_base.specs.FinBag.{FinBag, total, none_below, is_rising, put, insertion_sort, without, without_all}
+use Rattle.chr_base.specs.FinBag.{count_in, items, empty, rising_bag, of_list, count, add, ◌⊕◌, ◌⊖◌, IsWithin, sum_over}
 use Rattle.chr_base.specs.working.Codes.{same_items}
 
 pub both : (a b : Bool) → T a → T b → T (a && b)
@@ -47,12 +48,15 @@ pub total-append : {K : Type 0} (f : K → ℕ) (xs ys : List K) → total f (xs
 total-append f [] ys = omega arith
 total-append f (x ∷ xs) ys = let h = total-append f xs ys in omega (arith, h)
 
-pub total-flat : {X K : Type 0} (f : K → ℕ) (g : X → List K) (xs : List X) → total f (flat_map g xs) ≡ total (λ x. total f (g x)) xs
+pub total-flat : {X K : Type 0} (f : K → ℕ) (g : X → List K) (xs : List X) → total f (flat_map g xs)
+    ≡ total (λ x. total f (g x)) xs
 total-flat f g [] = refl
-total-flat f g (x ∷ xs) = let h = total-flat f g xs in let e = total-append f (g x) (flat_map g xs) in omega (arith, h, e)
+total-flat f g (x ∷ xs) = let h = total-flat f g xs in let e = total-append f (g x) (flat_map g xs) in
+    omega (arith, h, e)
 
 module _ {K : Type 0} (R : K → K → Ordering) where
-  none_below_put : (x k : K) (es : List K) → T (not (is_gt (R x k))) → T (none_below R x es) → T (none_below R x (put R k es))
+  none_below_put : (x k : K) (es : List K) → T (not (is_gt (R x k))) → T (none_below R x es)
+      → T (none_below R x (put R k es))
   none_below_put x k [] p h = both _ _ p tt
   none_below_put x k (e ∷ es) p h =
       elim (is_gt (R k e)) as (λ b. T (none_below R x (cond b (e ∷ put R k es) (k ∷ e ∷ es)))) [
@@ -98,35 +102,44 @@ module _ {K : Type 0} (R : K → K → Ordering) where
         back Equal p = tt
         back Greater p = tt
 
-    pub none_below_further : (x y : K) (es : List K) → is_gt (R x y) ≡ false → T (none_below R y es) → T (none_below R x es)
+    pub none_below_further : (x y : K) (es : List K) → is_gt (R x y) ≡ false → T (none_below R y es)
+        → T (none_below R x es)
     none_below_further x y [] p h = tt
     none_below_further x y (e ∷ es) p h =
-        both _ _ (subst (λ b. T (not b)) (sym (upto o x y e p (not_gt _ (first _ _ h)))) tt) (none_below_further x y es p (second _ _ h))
+        both _ _ (subst (λ b. T (not b)) (sym (upto o x y e p (not_gt _ (first _ _ h)))) tt)
+            (none_below_further x y es p (second _ _ h))
 
     pub is_rising-put : (k : K) (es : List K) → T (is_rising R es) → T (is_rising R (put R k es))
     is_rising-put k [] h = tt
     is_rising-put k (e ∷ es) h =
         elim (is_gt (R k e)) as (λ b. is_gt (R k e) ≡ b → T (is_rising R (cond b (e ∷ put R k es) (k ∷ e ∷ es)))) [
-          | true ↦ λ p. both _ _ (none_below_put e k es (turned k e p) (first _ _ h)) (is_rising-put k es (second _ _ h))
-          | false ↦ λ p. both _ _ (both _ _ (subst (λ b. T (not b)) (sym p) tt) (none_below_further k e es p (first _ _ h))) h
+          | true ↦ λ p. both _ _ (none_below_put e k es (turned k e p) (first _ _ h))
+                (is_rising-put k es (second _ _ h))
+          | false ↦ λ p. both _ _ (both _ _ (subst (λ b. T (not b)) (sym p) tt)
+                (none_below_further k e es p (first _ _ h))) h
         ] refl
 
     pub is_rising-sort : (ks : List K) → T (is_rising R (insertion_sort R ks))
     is_rising-sort [] = tt
     is_rising-sort (k ∷ ks) = is_rising-put k _ (is_rising-sort ks)
 
-    pub count_in-without : (q k : K) (es : List K) → count_in R q (without R k es) ≡ count_in R q es - cond (eq_by_cmp R q k) 1 0
+    pub count_in-without : (q k : K) (es : List K) → count_in R q (without R k es)
+        ≡ count_in R q es - cond (eq_by_cmp R q k) 1 0
     count_in-without q k [] = omega arith
     count_in-without q k (e ∷ es) =
-        elim (eq_by_cmp R k e) as (λ b. eq_by_cmp R k e ≡ b → count_in R q (cond b es (e ∷ without R k es)) ≡ (cond (eq_by_cmp R q e) 1 0 + count_in R q es) - cond (eq_by_cmp R q k) 1 0) [
+        elim (eq_by_cmp R k e) as (λ b. eq_by_cmp R k e ≡ b → count_in R q (cond b es (e ∷ without R k es))
+            ≡ (cond (eq_by_cmp R q e) 1 0 + count_in R q es) - cond (eq_by_cmp R q k) 1 0) [
           | true ↦ λ p. rw (ap is_eq (alike_right o k e q (eq_is _ p))) (omega arith)
           | false ↦ λ p. apart p (count_in-without q k es)
         ] refl
       where
         apart : eq_by_cmp R k e ≡ false → count_in R q (without R k es) ≡ count_in R q es - cond (eq_by_cmp R q k) 1 0
-            → cond (eq_by_cmp R q e) 1 0 + count_in R q (without R k es) ≡ (cond (eq_by_cmp R q e) 1 0 + count_in R q es) - cond (eq_by_cmp R q k) 1 0
+            → cond (eq_by_cmp R q e) 1 0 + count_in R q (without R k es)
+                ≡ (cond (eq_by_cmp R q e) 1 0 + count_in R q es) - cond (eq_by_cmp R q k) 1 0
         apart p h =
-            elim (eq_by_cmp R q k) as (λ b. eq_by_cmp R q k ≡ b → count_in R q (without R k es) ≡ count_in R q es - cond b 1 0 → cond (eq_by_cmp R q e) 1 0 + count_in R q (without R k es) ≡ (cond (eq_by_cmp R q e) 1 0 + count_in R q es) - cond b 1 0) [
+            elim (eq_by_cmp R q k) as (λ b. eq_by_cmp R q k ≡ b → count_in R q (without R k es)
+                ≡ count_in R q es - cond b 1 0 → cond (eq_by_cmp R q e) 1 0 + count_in R q (without R k es)
+                ≡ (cond (eq_by_cmp R q e) 1 0 + count_in R q es) - cond b 1 0) [
               | true ↦ λ t h. rw (ap is_eq (o.congr q k e (eq_is _ t)), p) (rw h (omega arith))
               | false ↦ λ t h. rw h (omega arith)
             ] refl h
@@ -148,13 +161,16 @@ module _ {K : Type 0} (R : K → K → Ordering) where
     counts_itself x xs = rw (tied_itself o x) refl
 
     module _ (same : IsAntisymmetric R) where
-      pub same_lists : (xs ys : List K) → T (is_rising R xs) → T (is_rising R ys) → ((q : K) → count_in R q xs ≡ count_in R q ys) → xs ≡ ys
+      pub same_lists : (xs ys : List K) → T (is_rising R xs) → T (is_rising R ys)
+          → ((q : K) → count_in R q xs ≡ count_in R q ys) → xs ≡ ys
       same_lists [] [] h g is = refl
       same_lists [] (y ∷ ys) h g is = absurd (let e = is y ∙ counts_itself y ys in omega (arith, e))
       same_lists (x ∷ xs) [] h g is = absurd (let e = sym (is x) ∙ counts_itself x xs in omega (arith, e))
-      same_lists (x ∷ xs) (y ∷ ys) h g is = by (R x y) refl (λ rest. same_lists xs ys (second _ _ h) (second _ _ g) rest)
+      same_lists (x ∷ xs) (y ∷ ys) h g is = by (R x y) refl
+          (λ rest. same_lists xs ys (second _ _ h) (second _ _ g) rest)
         where
-          gone : (x y : K) (xs ys : List K) → R x y ≡ Less → T (none_below R y ys) → count_in R x (x ∷ xs) ≡ count_in R x (y ∷ ys) → ⊥
+          gone : (x y : K) (xs ys : List K) → R x y ≡ Less → T (none_below R y ys) → count_in R x (x ∷ xs)
+              ≡ count_in R x (y ∷ ys) → ⊥
           gone x y xs ys p g e =
               let c = absent x y ys p g in
               let a : count_in R x (y ∷ ys) ≡ 0 = rw p (omega (arith, c)) in
@@ -163,10 +179,13 @@ module _ {K : Type 0} (R : K → K → Ordering) where
 
           by : (r : Ordering) → R x y ≡ r → (((q : K) → count_in R q xs ≡ count_in R q ys) → xs ≡ ys) → x ∷ xs ≡ y ∷ ys
           by Less p more = absurd (gone x y xs ys p (first _ _ g) (is x))
-          by Greater p more = absurd (gone y x ys xs (o.antisymm y x ∙ ap ordering_reverse p) (first _ _ h) (sym (is y)))
+          by Greater p more = absurd (gone y x ys xs (o.antisymm y x ∙ ap ordering_reverse p) (first _ _ h)
+              (sym (is y)))
           by Equal p more =
               let e : x ≡ y = same x y p in
-              let rest : (q : K) → count_in R q xs ≡ count_in R q ys = λ q. (let h = is q ∙ ap (λ z. cond (eq_by_cmp R q z) 1 0 + count_in R q ys) (sym e) in omega (arith, h)) in
+              let rest : (q : K) → count_in R q xs ≡ count_in R q ys =
+                  λ q. (let h = is q ∙ ap (λ z. cond (eq_by_cmp R q z) 1 0 + count_in R q ys) (sym e) in
+                  omega (arith, h)) in
               λ i. e i ∷ more rest i
 
 module _ {K : Type 0} {R : K → K → Ordering} where
@@ -235,9 +254,11 @@ module _ {K : Type 0} {R : K → K → Ordering} (o : IsTotalOrder R) where
       let d = sum_over-items f t in
       omega (arith, a, b, c, d)
 
-  count_in-without_all : (q : K) (ks es : List K) → count_in R q (without_all R ks es) ≡ count_in R q es - count_in R q ks
+  count_in-without_all : (q : K) (ks es : List K) → count_in R q (without_all R ks es)
+      ≡ count_in R q es - count_in R q ks
   count_in-without_all q [] es = omega arith
-  count_in-without_all q (k ∷ ks) es = let h = count_in-without_all q ks es in let g = count_in-without R o q k (without_all R ks es) in omega (arith, h, g)
+  count_in-without_all q (k ∷ ks) es = let h = count_in-without_all q ks es in let g =
+      count_in-without R o q k (without_all R ks es) in omega (arith, h, g)
 
   pub count-⊖ : (s t : FinBag R) (q : K) → count (s ⊖ t) q ≡ count s q - count t q
   unfolding ◌⊖◌
@@ -262,19 +283,28 @@ module _ {K : Type 0} {R : K → K → Ordering} (o : IsTotalOrder R) where
     items-of_list xs h = same_lists R o same _ _ (items_rise _) h (λ q. count-of_list xs q)
 
     pub of_list-put : (k : K) (xs : List K) → of_list {R = R} (put R k xs) ≡ add (of_list xs) k
-    of_list-put k xs = same_bag _ _ (λ q. (let a = count-of_list (put R k xs) q in let b = total-put R (λ x. cond (eq_by_cmp R q x) 1 0) k xs in
+    of_list-put k xs = same_bag _ _ (λ q. (let a = count-of_list (put R k xs) q in let b =
+        total-put R (λ x. cond (eq_by_cmp R q x) 1 0) k xs in
         let c = count-add (of_list xs) k q in let d = count-of_list xs q in omega (arith, a, b, c, d)))
 
     pub of_list-append : (xs ys : List K) → of_list {R = R} (xs ++ ys) ≡ of_list xs ⊕ of_list ys
-    of_list-append xs ys = same_bag _ _ (λ q. (let a = count-of_list (xs ++ ys) q in let b = total-append (λ x. cond (eq_by_cmp R q x) 1 0) xs ys in
-        let c = count-⊕ (of_list xs) (of_list ys) q in let d = count-of_list xs q in let e = count-of_list ys q in omega (arith, a, b, c, d, e)))
+    of_list-append xs ys = same_bag _ _ (λ q. (let a = count-of_list (xs ++ ys) q in let b =
+        total-append (λ x. cond (eq_by_cmp R q x) 1 0) xs ys in
+        let c = count-⊕ (of_list xs) (of_list ys) q in let d = count-of_list xs q in let e = count-of_list ys q in
+            omega (arith, a, b, c, d, e)))
 
-    pub of_list_less : (xs ys zs : List K) → ((q : K) → count_in R q zs ≡ count_in R q xs - count_in R q ys) → of_list {R = R} zs ≡ of_list xs ⊖ of_list ys
-    of_list_less xs ys zs h = same_bag _ _ (λ q. (let a = count-of_list xs q in let b = count-of_list ys q in let c = count-of_list zs q in
+    pub of_list_less : (xs ys zs : List K) → ((q : K) → count_in R q zs ≡ count_in R q xs - count_in R q ys)
+        → of_list {R = R} zs ≡ of_list xs ⊖ of_list ys
+    of_list_less xs ys zs h = same_bag _ _ (λ q. (let a = count-of_list xs q in let b = count-of_list ys q in let c =
+        count-of_list zs q in
         let d = count-⊖ (of_list xs) (of_list ys) q in let e = h q in omega (arith, a, b, c, d, e)))
 
-  pub within_lists : (xs ys : List K) → ((q : K) → count_in R q xs ≤ count_in R q ys) → IsWithin (of_list {R = R} xs) (of_list ys)
-  within_lists xs ys h q = let a = count-of_list xs q in let b = count-of_list ys q in let c = h q in omega (arith, a, b, c)
+  pub within_lists : (xs ys : List K) → ((q : K) → count_in R q xs ≤ count_in R q ys)
+      → IsWithin (of_list {R = R} xs) (of_list ys)
+  within_lists xs ys h q = let a = count-of_list xs q in let b = count-of_list ys q in let c = h q in
+      omega (arith, a, b, c)
 
-  pub lists_within : (xs ys : List K) → IsWithin (of_list {R = R} xs) (of_list ys) → (q : K) → count_in R q xs ≤ count_in R q ys
-  lists_within xs ys h q = let a = count-of_list xs q in let b = count-of_list ys q in let c = h q in omega (arith, a, b, c)
+  pub lists_within : (xs ys : List K) → IsWithin (of_list {R = R} xs) (of_list ys) → (q : K)
+      → count_in R q xs ≤ count_in R q ys
+  lists_within xs ys h q = let a = count-of_list xs q in let b = count-of_list ys q in let c = h q in
+      omega (arith, a, b, c)

@@ -20,7 +20,8 @@ list_counts_itself q xs =
 pub list_counts_no_other : ListCountsNoOther
 list_counts_no_other q x xs other = by (eq_by_cmp atom_cmp q x) (same_is q x) (count-of_list atom_total (x ∷ xs) q)
   where
-    by : (b : Bool) → (b ≡ true → q ≡ x) → count (store_of (x ∷ xs)) q ≡ cond b 1 0 + count_in atom_cmp q xs → count (store_of (x ∷ xs)) q ≡ count (store_of xs) q
+    by : (b : Bool) → (b ≡ true → q ≡ x) → count (store_of (x ∷ xs)) q ≡ cond b 1 0 + count_in atom_cmp q xs
+        → count (store_of (x ∷ xs)) q ≡ count (store_of xs) q
     by true e h = absurd (other (e (λ _. true)))
     by false e h = let c = count-of_list atom_total xs q in omega (arith, h, c)
 

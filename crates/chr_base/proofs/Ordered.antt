@@ -1,5 +1,6 @@
 -- Sorted lists of any kind, in a total order in which only equal items tie.
-use Rattle.std.proofs.Common.{◌≡◌, ℕ, suc, ◌+◌, ◌-◌, ◌<◌, true, false, cond, List, [], ◌∷◌, ◌++◌, length, get_or, refl, sym, ap, ◌∙◌, arith}
+use Rattle.std.proofs.Common.{◌≡◌, ℕ, suc, ◌+◌, ◌-◌, ◌<◌, true, false, cond, List, [], ◌∷◌, ◌++◌, length, get_or, refl}
+use Rattle.std.proofs.Common.{sym, ap, ◌∙◌, arith}
 use Rattle.std.specs.Prelude.{IsTrue, not, Some, slice_get}
 use mathlib.Core.Bool.{true≢false}
 use Rattle.std.specs.List.Sorted.{IsSorted, IsPermutation}
@@ -25,18 +26,22 @@ module _ {K : Type 0} {R : K → K → Ordering} (o : IsTotalOrder R) where
       by order.Greater p = refl
 
   -- one more in front of items that never fall
-  pub rising_more : (x y : K) (ys : List K) → is_gt (R x y) ≡ false → IsTrue (is_rising R (y ∷ ys)) → IsTrue (is_rising R (x ∷ y ∷ ys))
+  pub rising_more : (x y : K) (ys : List K) → is_gt (R x y) ≡ false → IsTrue (is_rising R (y ∷ ys))
+      → IsTrue (is_rising R (x ∷ y ∷ ys))
   rising_more x y ys step more =
-      let far : none_below R x ys ≡ true = is_true _ (none_below_further R o x y ys step (from_true _ ((and_parts (none_below R y ys) _ more).0))) in
+      let far : none_below R x ys ≡ true = is_true _ (none_below_further R o x y ys step
+          (from_true _ ((and_parts (none_below R y ys) _ more).0))) in
       and_from (none_below R x (y ∷ ys)) _ (and_from (not (is_gt (R x y))) _ (rw step refl) far) more
 
   -- items that never fall from one to the next never fall
-  pub rising_by_neighbours : (xs : List K) → ((k : ℕ) (d : K) → k + 1 < length xs → is_gt (R (get_or xs k d) (get_or xs (k + 1) d)) ≡ false) → IsTrue (is_rising R xs)
+  pub rising_by_neighbours : (xs : List K) → ((k : ℕ) (d : K) → k + 1 < length xs
+      → is_gt (R (get_or xs k d) (get_or xs (k + 1) d)) ≡ false) → IsTrue (is_rising R xs)
   rising_by_neighbours [] h = refl
   rising_by_neighbours (x ∷ []) h = refl
   rising_by_neighbours (x ∷ y ∷ ys) h =
       rising_more x y ys (h 0 x (omega arith))
-      (rising_by_neighbours (y ∷ ys) (λ k d l. let e : suc k + 1 ≡ suc (k + 1) = omega arith in rw e at (h (suc k) d (omega arith))))
+      (rising_by_neighbours (y ∷ ys) (λ k d l. let e : suc k + 1 ≡ suc (k + 1) = omega arith in
+          rw e at (h (suc k) d (omega arith))))
 
   -- what is sorted never falls
   pub rising_from_sorted : (xs : List K) → IsSorted R xs → IsTrue (is_rising R xs)
@@ -44,14 +49,16 @@ module _ {K : Type 0} {R : K → K → Ordering} (o : IsTotalOrder R) where
 
   -- lists that never fall, of which the one's last does not come after the other's first, never fall in a row
   pub rising_append : (xs ys : List K) → IsTrue (is_rising R xs) → IsTrue (is_rising R ys)
-      → ((x y : K) → slice_get xs (length xs - 1) ≡ Some x → slice_get ys 0 ≡ Some y → is_gt (R x y) ≡ false) → IsTrue (is_rising R (xs ++ ys))
+      → ((x y : K) → slice_get xs (length xs - 1) ≡ Some x → slice_get ys 0 ≡ Some y → is_gt (R x y) ≡ false)
+          → IsTrue (is_rising R (xs ++ ys))
   rising_append [] ys h g p = g
   rising_append (x ∷ []) [] h g p = refl
   rising_append (x ∷ []) (y ∷ ys) h g p = rising_more x y ys (p x y refl refl) g
   rising_append (x ∷ z ∷ zs) ys h g p =
       let parts = and_parts (none_below R x (z ∷ zs)) _ h in
       rising_more x z (zs ++ ys) (not_gt _ (from_true _ ((and_parts (not (is_gt (R x z))) _ (parts.0)).0)))
-      (rising_append (z ∷ zs) ys (parts.1) g (λ a b k l. let e : length (x ∷ z ∷ zs) - 1 ≡ suc (length (z ∷ zs) - 1) = omega arith in p a b (ap (slice_get (x ∷ z ∷ zs)) e ∙ k) l))
+      (rising_append (z ∷ zs) ys (parts.1) g (λ a b k l. let e : length (x ∷ z ∷ zs) - 1 ≡ suc (length (z ∷ zs) - 1) =
+          omega arith in p a b (ap (slice_get (x ∷ z ∷ zs)) e ∙ k) l))
 
   module _ (exact : IsAntisymmetric R) where
     -- another order, the same multiset
@@ -65,4 +72,5 @@ module _ {K : Type 0} {R : K → K → Ordering} (o : IsTotalOrder R) where
 
     -- sorted, it is the list in order
     pub in_order : (xs ys : List K) → IsPermutation xs ys → IsSorted R ys → ys ≡ bag.items (bag.of_list {R = R} xs)
-    in_order xs ys p s = sym (bag_laws.items-of_list o exact ys (from_true _ (rising_from_sorted ys s))) ∙ ap bag.items (same_multiset xs ys p)
+    in_order xs ys p s = sym (bag_laws.items-of_list o exact ys (from_true _ (rising_from_sorted ys s)))
+        ∙ ap bag.items (same_multiset xs ys p)

@@ -5,7 +5,8 @@ use Rattle.std.specs.declared.cmp.Ordering.TheVariants as order
 use Rattle.std.specs.Ordering.{nat_cmp, int_cmp, ordering_then}
 use Rattle.std.specs.Cmp.{IsTotalOrder, on_total, then_total, nat_cmp_total, int_cmp_total}
 use Rattle.std.specs.Cmp.Lexicographic.{slice_cmp, lists_total}
-use Rattle.std.specs.FinMap.{IsAntisymmetric, nat_cmp-IsAntisymmetric, int_cmp-IsAntisymmetric, slice_cmp-IsAntisymmetric}
+use Rattle.std.specs.FinMap.{IsAntisymmetric, nat_cmp-IsAntisymmetric, int_cmp-IsAntisymmetric}
+use Rattle.std.specs.FinMap.{slice_cmp-IsAntisymmetric}
 use Rattle.chr_base.specs.ProgramTests.{Declaration}
 use Rattle.chr_base.specs.Texts.{name_of, print_cmp}
 
@@ -26,6 +27,7 @@ print_exact ds a b h =
     let one = then_equal (slice_cmp nat_cmp (name_of ds a) (name_of ds b)) _ h in
     let two = then_equal (nat_cmp (length a.args.items) (length b.args.items)) _ one.1 in
     let three = then_equal (slice_cmp int_cmp a.args.items b.args.items) _ two.1 in
-    let args : a.args.items ≡ b.args.items = slice_cmp-IsAntisymmetric int_cmp-IsAntisymmetric a.args.items b.args.items three.0 in
+    let args : a.args.items ≡ b.args.items = slice_cmp-IsAntisymmetric int_cmp-IsAntisymmetric a.args.items b.args.items
+        three.0 in
     let symbol : a.symbol.0 ≡ b.symbol.0 = nat_cmp-IsAntisymmetric a.symbol.0 b.symbol.0 three.1 in
     λ i. record { symbol = record { 0 = symbol i }; args = record { items = args i } }

@@ -1,7 +1,8 @@
 -- Laws of runs, and Newman's lemma for a relation that lowers a weight.
 use Rattle.std.specs.Prelude.{◌≡◌, ℕ, zero, suc, ◌+◌, ◌<◌, ◌≤◌, List, [], ◌∷◌}
 use Rattle.std.proofs.Common.{refl, sym, ap, ◌∙◌, arith, inl, inr}
-use Rattle.chr_base.specs.Rewriting.{Runs, Reaches, IsAtRest, IsNormalForm, IsConfluent, IsLocallyConfluent, Stays, Lowers, StepsOrRests, Grows, sum_of, AreNormalForms}
+use Rattle.chr_base.specs.Rewriting.{Runs, Reaches, IsAtRest, IsNormalForm, IsConfluent, IsLocallyConfluent, Stays}
+use Rattle.chr_base.specs.Rewriting.{Lowers, StepsOrRests, Grows, sum_of, AreNormalForms}
 
 module _ {A : Type 0} (step : A → A → Type 0) where
   pub reaches_itself : (s : A) → Reaches step s s
@@ -12,7 +13,8 @@ module _ {A : Type 0} (step : A → A → Type 0) where
 
   pub Runs-append : (m n : ℕ) (s t u : A) → Runs step m s t → Runs step n t u → Runs step (m + n) s u
   Runs-append zero n s t u p q = rw p (let e : 0 + n ≡ n = omega arith in rw e q)
-  Runs-append (suc m) n s t u p q = let e : suc m + n ≡ suc (m + n) = omega arith in rw e (p.0, p.1, Runs-append m n p.0 t u p.2 q)
+  Runs-append (suc m) n s t u p q = let e : suc m + n ≡ suc (m + n) = omega arith in
+      rw e (p.0, p.1, Runs-append m n p.0 t u p.2 q)
 
   pub reaches_on : (s t u : A) → Reaches step s t → Reaches step t u → Reaches step s u
   reaches_on s t u p q = (p.0 + q.0, Runs-append p.0 q.0 s t u p.1 q.1)
@@ -32,7 +34,8 @@ module _ {A : Type 0} (step : A → A → Type 0) where
       normalises zero s h = absurd (omega arith)
       normalises (suc k) s h =
           elim (total s) as (λ _. (t : A) × IsNormalForm step s t) [
-            | inl w ↦ (let b = lowers s w.0 w.1 in let r = normalises k w.0 (omega (arith, b, h)) in (r.0, (reaches_after s w.0 r.0 w.1 r.1.0, r.1.1)))
+            | inl w ↦ (let b = lowers s w.0 w.1 in let r = normalises k w.0 (omega (arith, b, h)) in
+                  (r.0, (reaches_after s w.0 r.0 w.1 r.1.0, r.1.1)))
             | inr rest ↦ (s, (reaches_itself s, rest))
           ]
 
@@ -44,7 +47,8 @@ module _ {A : Type 0} (step : A → A → Type 0) where
         one_end zero s t u o h p q = absurd (omega arith)
         one_end (suc k) s t u o h p q = by p.0.0 p.0.1 q.0.0 q.0.1 (one_end k)
           where
-            by : (m : ℕ) → Runs step m s t → (n : ℕ) → Runs step n s u → ((s t u : A) → ok s → weight s < k → IsNormalForm step s t → IsNormalForm step s u → t ≡ u) → t ≡ u
+            by : (m : ℕ) → Runs step m s t → (n : ℕ) → Runs step n s u
+                → ((s t u : A) → ok s → weight s < k → IsNormalForm step s t → IsNormalForm step s u → t ≡ u) → t ≡ u
             by zero r n g more = sym r ∙ rest_reaches n s u (rw r p.1) g
             by (suc m) r zero g more = absurd (q.1 r.0 (rw (← g) r.1))
             by (suc m) r (suc n) g more =
@@ -52,8 +56,10 @@ module _ {A : Type 0} (step : A → A → Type 0) where
                 let z = normal_form_of j.0 in
                 let a = lowers s r.0 r.1 in
                 let b = lowers s g.0 g.1 in
-                let left : t ≡ z.0 = more r.0 t z.0 (stays s r.0 o r.1) (omega (arith, a, h)) ((m, r.2), p.1) (reaches_on r.0 j.0 z.0 j.1 z.1.0, z.1.1) in
-                let right : u ≡ z.0 = more g.0 u z.0 (stays s g.0 o g.1) (omega (arith, b, h)) ((n, g.2), q.1) (reaches_on g.0 j.0 z.0 j.2 z.1.0, z.1.1) in
+                let left : t ≡ z.0 = more r.0 t z.0 (stays s r.0 o r.1) (omega (arith, a, h)) ((m, r.2), p.1)
+                    (reaches_on r.0 j.0 z.0 j.1 z.1.0, z.1.1) in
+                let right : u ≡ z.0 = more g.0 u z.0 (stays s g.0 o g.1) (omega (arith, b, h)) ((n, g.2), q.1)
+                    (reaches_on g.0 j.0 z.0 j.2 z.1.0, z.1.1) in
                 left ∙ sym right
 
         -- Newman's lemma
@@ -74,12 +80,17 @@ module _ {A : Type 0} (step : A → A → Type 0) (none : A) (plus : A → A →
     reaches_both s t u v p q =
         reaches_on step _ _ _ (reaches_grows s t u p) (rw (comm t u, comm t v) (reaches_grows u v t q))
 
-    pub parts_reach : (ss ts : List A) → AreNormalForms step none plus ss ts → Reaches step (sum_of step none plus ss) (sum_of step none plus ts)
+    pub parts_reach : (ss ts : List A) → AreNormalForms step none plus ss ts → Reaches step (sum_of step none plus ss)
+        (sum_of step none plus ts)
     parts_reach [] [] h = reaches_itself step none
     parts_reach [] (t ∷ ts) h = absurd h
     parts_reach (s ∷ ss) [] h = absurd h
-    parts_reach (s ∷ ss) (t ∷ ts) h = reaches_both s t (sum_of step none plus ss) (sum_of step none plus ts) h.0.0 (parts_reach ss ts h.1)
+    parts_reach (s ∷ ss) (t ∷ ts) h = reaches_both s t (sum_of step none plus ss) (sum_of step none plus ts) h.0.0
+        (parts_reach ss ts h.1)
 
     -- Normal forms of parts, summed and rested, give the whole's normal form.
-    pub parts : (ok : A → Type 0) → IsConfluent step ok → (ss ts : List A) (t u : A) → ok (sum_of step none plus ss) → AreNormalForms step none plus ss ts → IsNormalForm step (sum_of step none plus ts) t → IsNormalForm step (sum_of step none plus ss) u → t ≡ u
-    parts ok confluent ss ts t u o h p q = confluent (sum_of step none plus ss) t u o (reaches_on step _ _ _ (parts_reach ss ts h) p.0, p.1) q
+    pub parts : (ok : A → Type 0) → IsConfluent step ok → (ss ts : List A) (t u : A) → ok (sum_of step none plus ss)
+        → AreNormalForms step none plus ss ts → IsNormalForm step (sum_of step none plus ts) t
+        → IsNormalForm step (sum_of step none plus ss) u → t ≡ u
+    parts ok confluent ss ts t u o h p q = confluent (sum_of step none plus ss) t u o
+        (reaches_on step _ _ _ (parts_reach ss ts h) p.0, p.1) q

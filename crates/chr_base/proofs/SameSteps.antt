@@ -20,7 +20,8 @@ record StepOf (p : Parts) (v : Valuation) (s t : Store) : Type 0 where
 -- a rule with the same parts takes the same steps
 pub same_rule : (r q : Rule) (v : Valuation) (s t : Store) → parts_of r ≡ parts_of q → StepBy r v s t → StepBy q v s t
 same_rule r q v s t e h =
-    let g : StepOf (parts_of q) v s t = subst (λ p. StepOf p v s t) e (record { guard = h.guard; there = h.there; after = h.after }) in
+    let g : StepOf (parts_of q) v s t = subst (λ p. StepOf p v s t) e
+        (record { guard = h.guard; there = h.there; after = h.after }) in
     record { guard = g.guard; there = g.there; after = g.after }
 
 -- the rule in the same place
@@ -29,14 +30,16 @@ pub rule_there : (rs qs : List Rule) (i : ℕ) (r : Rule) → map parts_of rs �
 rule_there rs qs i r e h = by (slice_get qs i) refl
   where
     both : option_map parts_of (slice_get qs i) ≡ Some (parts_of r)
-    both = sym (slice_get-map parts_of qs i) ∙ ap (λ l. slice_get l i) (sym e) ∙ slice_get-map parts_of rs i ∙ ap (option_map parts_of) h
+    both = sym (slice_get-map parts_of qs i) ∙ ap (λ l. slice_get l i) (sym e) ∙ slice_get-map parts_of rs i
+        ∙ ap (option_map parts_of) h
 
     by : (o : Option Rule) → slice_get qs i ≡ o → (q : Rule) × (slice_get qs i ≡ Some q) × (parts_of r ≡ parts_of q)
     by None g = absurd (none-some (parts_of r) (ap (option_map parts_of) (sym g) ∙ both))
     by (Some q) g = (q, g, sym (same_Some (parts_of q) (parts_of r) (ap (option_map parts_of) (sym g) ∙ both)))
 
 pub same_step : (rs qs : List Rule) (s t : Store) → map parts_of rs ≡ map parts_of qs → Step rs s t → Step qs s t
-same_step rs qs s t e h = let f = rule_there rs qs h.0 h.1 e h.3 in (h.0, f.0, h.2, f.1, same_rule h.1 f.0 h.2 s t f.2 h.4)
+same_step rs qs s t e h = let f = rule_there rs qs h.0 h.1 e h.3 in
+    (h.0, f.0, h.2, f.1, same_rule h.1 f.0 h.2 s t f.2 h.4)
 
 pub same_programs_step_alike : SameProgramsStepAlike
 same_programs_step_alike p q same s t = (
@@ -44,7 +47,8 @@ same_programs_step_alike p q same s t = (
   λ h. same_step (rules_of q) (rules_of p) s t (sym same.1) h,
 )
 
-pub same_runs : (rs qs : List Rule) (n : ℕ) (s t : Store) → map parts_of rs ≡ map parts_of qs → Runs (Step rs) n s t → Runs (Step qs) n s t
+pub same_runs : (rs qs : List Rule) (n : ℕ) (s t : Store) → map parts_of rs ≡ map parts_of qs → Runs (Step rs) n s t
+    → Runs (Step qs) n s t
 same_runs rs qs zero s t e h = h
 same_runs rs qs (suc n) s t e h = (h.0, same_step rs qs s h.0 e h.1, same_runs rs qs n h.0 t e h.2)
 

@@ -18,9 +18,11 @@ pub same_or : (s t : Store) → (s ≡ t) ⊎ (s ≢ t)
 same_or s t = by (slice_cmp atom_cmp (bag.items s) (bag.items t)) refl
   where
     tied : s ≡ t → slice_cmp atom_cmp (bag.items s) (bag.items t) ≡ order.Equal
-    tied e = ap (λ x. slice_cmp atom_cmp (bag.items s) (bag.items x)) (sym e) ∙ tied_itself (lists_total atom_total) (bag.items s)
+    tied e = ap (λ x. slice_cmp atom_cmp (bag.items s) (bag.items x)) (sym e) ∙ tied_itself (lists_total atom_total)
+        (bag.items s)
 
     by : (r : Ordering) → slice_cmp atom_cmp (bag.items s) (bag.items t) ≡ r → (s ≡ t) ⊎ (s ≢ t)
-    by order.Equal e = inl (bag_codes.same_items s t (finite.slice_cmp-IsAntisymmetric atom_exact (bag.items s) (bag.items t) e))
+    by order.Equal e = inl (bag_codes.same_items s t (finite.slice_cmp-IsAntisymmetric atom_exact (bag.items s)
+        (bag.items t) e))
     by order.Less e = inr (λ g. absurd (true≢false (ap is_eq (sym (tied g) ∙ e))))
     by order.Greater e = inr (λ g. absurd (true≢false (ap is_eq (sym (tied g) ∙ e))))

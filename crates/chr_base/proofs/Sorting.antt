@@ -30,7 +30,8 @@ pub items_in_order : (xs : List Atom) → IsTrue (is_rising atom_cmp xs) → bag
 items_in_order xs h = bag_laws.items-of_list atom_total atom_exact xs (from_true _ h)
 
 -- two lists in order are one where their multisets are
-pub one_list : (xs ys : List Atom) → IsTrue (is_rising atom_cmp xs) → IsTrue (is_rising atom_cmp ys) → (xs ≡ ys → store_of xs ≡ store_of ys) × (store_of xs ≡ store_of ys → xs ≡ ys)
+pub one_list : (xs ys : List Atom) → IsTrue (is_rising atom_cmp xs) → IsTrue (is_rising atom_cmp ys)
+    → (xs ≡ ys → store_of xs ≡ store_of ys) × (store_of xs ≡ store_of ys → xs ≡ ys)
 one_list xs ys h g = (λ e. ap store_of e, λ e. sym (items_in_order xs h) ∙ ap bag.items e ∙ items_in_order ys g)
 
 total_ones : (xs : List Atom) → total (λ y. 1) xs ≡ length xs
@@ -47,7 +48,8 @@ not_empty x xs h =
 
 listed_empty : (xs : List Atom) (b : Bool) → b ≡ nat_eq (length xs) 0 → IsTrue b ↔ (store_of xs ≡ bag.empty)
 listed_empty [] b e = (λ _. bag_laws.of_list-none atom_cmp, λ _. e)
-listed_empty (x ∷ xs) b e = (λ h. absurd (omega (arith, eqb-true (suc (length xs)) 0 (sym e ∙ h))), λ h. absurd (omega (arith, not_empty x xs h)))
+listed_empty (x ∷ xs) b e = (λ h. absurd (omega (arith, eqb-true (suc (length xs)) 0 (sym e ∙ h))),
+    λ h. absurd (omega (arith, not_empty x xs h)))
 
 pub empty_or_not : (s : Store) (b : Bool) → b ≡ nat_eq (length (bag.items s)) 0 → IsTrue b ↔ (s ≡ bag.empty)
 empty_or_not s b e = subst (λ t. IsTrue b ↔ (t ≡ bag.empty)) (store_of-items s) (listed_empty (bag.items s) b e)
@@ -56,18 +58,22 @@ are_same_sound : (xs ys : List Atom) → are_same xs ys ≡ true → xs ≡ ys
 are_same_sound [] [] h = refl
 are_same_sound [] (y ∷ ys) h = absurd (true≢false (sym h))
 are_same_sound (x ∷ xs) [] h = absurd (true≢false (sym h))
-are_same_sound (x ∷ xs) (y ∷ ys) h = λ i. same_is x y ((and_parts _ _ h).0) i ∷ are_same_sound xs ys ((and_parts (eq_by_cmp atom_cmp x y) _ h).1) i
+are_same_sound (x ∷ xs) (y ∷ ys) h = λ i. same_is x y ((and_parts _ _ h).0) i
+    ∷ are_same_sound xs ys ((and_parts (eq_by_cmp atom_cmp x y) _ h).1) i
 
 are_same_itself : (xs : List Atom) → are_same xs xs ≡ true
 are_same_itself [] = refl
-are_same_itself (x ∷ xs) = and_from _ _ (let e : eq_by_cmp atom_cmp x x ≡ true = rw (tied_itself atom_total x) refl in e) (are_same_itself xs)
+are_same_itself (x ∷ xs) = and_from _ _ (let e : eq_by_cmp atom_cmp x x ≡ true = rw (tied_itself atom_total x) refl in
+    e) (are_same_itself xs)
 
-pub same_or_not : (xs ys us vs : List Atom) (b : Bool) → us ≡ xs → vs ≡ ys → IsTrue (is_rising atom_cmp xs) → IsTrue (is_rising atom_cmp ys) → b ≡ are_same us vs → IsTrue b ↔ (store_of xs ≡ store_of ys)
+pub same_or_not : (xs ys us vs : List Atom) (b : Bool) → us ≡ xs → vs ≡ ys → IsTrue (is_rising atom_cmp xs)
+    → IsTrue (is_rising atom_cmp ys) → b ≡ are_same us vs → IsTrue b ↔ (store_of xs ≡ store_of ys)
 same_or_not xs ys us vs b e f h g k = (
   λ t. ap store_of (sym e ∙ are_same_sound us vs (sym k ∙ t) ∙ f),
   λ s. k ∙ subst (λ ws. are_same us ws ≡ true) (e ∙ (one_list xs ys h g).1 s ∙ sym f) (are_same_itself us),
 )
 
 -- more atoms, put in order
-pub union_is : (xs ys zs us : List Atom) → us ≡ xs ++ ys → store_of zs ≡ store_of us → store_of zs ≡ store_of xs ⊕ store_of ys
+pub union_is : (xs ys zs us : List Atom) → us ≡ xs ++ ys → store_of zs ≡ store_of us → store_of zs
+    ≡ store_of xs ⊕ store_of ys
 union_is xs ys zs us e h = h ∙ ap store_of e ∙ store_of-append xs ys

@@ -51,7 +51,8 @@ exchange_plus s r b t h = same_store _ _ (λ q. (let w = h q in simp (count_plus
 pub weight_plus : (w : Atom → ℕ) (s t : Store) → weight_of w (s ⊕ t) ≡ weight_of w s + weight_of w t
 weight_plus w s t = laws.sum_over-⊕ atom_total w s t
 
-pub weight_exchange : (w : Atom → ℕ) (s r b : Store) → bag.IsWithin r s → weight_of w ((s ⊖ r) ⊕ b) + weight_of w r ≡ weight_of w s + weight_of w b
+pub weight_exchange : (w : Atom → ℕ) (s r b : Store) → bag.IsWithin r s → weight_of w ((s ⊖ r) ⊕ b) + weight_of w r
+    ≡ weight_of w s + weight_of w b
 weight_exchange w s r b h =
     let a = weight_plus w (s ⊖ r) b in
     let e = weight_plus w (s ⊖ r) r in

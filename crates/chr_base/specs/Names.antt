@@ -1,5 +1,6 @@
 -- The names of symbols and rules: a lower-case letter, then letters, digits and underscores, and no reserved word.
-use Rattle.std.specs.Prelude.{ℕ, List, [], ◌∷◌, length, Bool, true, false, not, ◌&&◌, ◌||◌, ◌==◌, nat_le, Option, Some, None, codes}
+use Rattle.std.specs.Prelude.{ℕ, List, [], ◌∷◌, length, Bool, true, false, not, ◌&&◌, ◌||◌, ◌==◌, nat_le, Option, Some}
+use Rattle.std.specs.Prelude.{None, codes}
 use Rattle.std.specs.List.{list_all}
 use Rattle.std.specs.Str.{bytes_eq}
 use Rattle.chr_base.specs.declared.limits.TheConstants.{MAX_NAME}

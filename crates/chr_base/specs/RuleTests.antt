@@ -1,5 +1,6 @@
 -- What every rule keeps, as tests over its parts.
-use Rattle.std.specs.Prelude.{ℕ, ◌+◌, Bool, true, false, ◌&&◌, if◌then◌else◌, nat_eq, nat_le, nat_lt, List, [], ◌∷◌, ◌++◌, length, Option, Some, None, is_some}
+use Rattle.std.specs.Prelude.{ℕ, ◌+◌, Bool, true, false, ◌&&◌, if◌then◌else◌, nat_eq, nat_le, nat_lt, List, [], ◌∷◌}
+use Rattle.std.specs.Prelude.{◌++◌, length, Option, Some, None, is_some}
 use Rattle.std.specs.List.{list_all, list_any}
 use Rattle.chr_base.specs.declared.limits.TheConstants.{MAX_BODY, MAX_COMPARISONS, MAX_HEADS}
 use Rattle.chr_base.specs.declared.term.Term.{Term}

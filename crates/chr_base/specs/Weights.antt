@@ -1,5 +1,6 @@
 -- Weights, which are pairs of numbers.
-use Rattle.std.specs.Prelude.{◌≡◌, ℕ, ◌+◌, ◌*◌, ◌<◌, ◌⊎◌, Bool, true, false, not, ◌&&◌, nat_eq, nat_le, List, ◌++◌, codes, decimal}
+use Rattle.std.specs.Prelude.{◌≡◌, ℕ, ◌+◌, ◌*◌, ◌<◌, ◌⊎◌, Bool, true, false, not, ◌&&◌, nat_eq, nat_le, List, ◌++◌}
+use Rattle.std.specs.Prelude.{codes, decimal}
 use Rattle.chr_base.specs.declared.atom.Atom.{Atom}
 use Rattle.chr_base.specs.declared.limits.TheConstants.{MAX_BODY, MAX_WEIGHT}
 use Rattle.chr_base.specs.declared.weight.Weight.{Weight}

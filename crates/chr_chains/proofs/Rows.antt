@@ -1,5 +1,6 @@
 -- The rows of an index by their hashes and flags.
-use Rattle.std.proofs.Common.{◌≡◌, ℕ, zero, suc, ◌+◌, ◌-◌, ◌%◌, ◌<◌, ◌≤◌, ◌^◌, List, [], ◌∷◌, ◌++◌, length, get_or, set, cond, Bool, true, false, Option, sym, ap, ◌∙◌, arith, refl}
+use Rattle.std.proofs.Common.{◌≡◌, ℕ, zero, suc, ◌+◌, ◌-◌, ◌%◌, ◌<◌, ◌≤◌, ◌^◌, List, [], ◌∷◌, ◌++◌, length, get_or, set}
+use Rattle.std.proofs.Common.{cond, Bool, true, false, Option, sym, ap, ◌∙◌, arith, refl}
 use Rattle.std.specs.Prelude.{Some, None}
 use Rattle.std.proofs.lemmas.List.{get_or-map, length-set}
 use Rattle.std.proofs.lemmas.List.{map-append}
@@ -17,29 +18,34 @@ some_cond true x y e = (refl, cc)
 some_cond false x y e = cc
 
 -- a row with a hash lives, and has this hash
-pub entry_of : (hs : List ℕ) (bs : List Bool) (r h : ℕ) → get_or (live_hashes hs bs) r None ≡ Some h → (r < length hs) × (get_or bs r false ≡ true) × (get_or hs r 0 ≡ h)
+pub entry_of : (hs : List ℕ) (bs : List Bool) (r h : ℕ) → get_or (live_hashes hs bs) r None ≡ Some h → (r < length hs)
+    × (get_or bs r false ≡ true) × (get_or hs r 0 ≡ h)
 entry_of [] bs r h e = cc
 entry_of (x ∷ hs) [] r h e = cc
 entry_of (x ∷ hs) (b ∷ bs) zero h e = let w = some_cond b x h e in (omega arith, w.0, w.1)
 entry_of (x ∷ hs) (b ∷ bs) (suc r) h e = let w = entry_of hs bs r h e in (let l = w.0 in omega (arith, l), w.1, w.2)
 
-pub entry_is : (hs : List ℕ) (bs : List Bool) (r h : ℕ) → r < length hs → length bs ≡ length hs → get_or bs r false ≡ true → get_or hs r 0 ≡ h → get_or (live_hashes hs bs) r None ≡ Some h
+pub entry_is : (hs : List ℕ) (bs : List Bool) (r h : ℕ) → r < length hs → length bs ≡ length hs → get_or bs r false
+    ≡ true → get_or hs r 0 ≡ h → get_or (live_hashes hs bs) r None ≡ Some h
 entry_is [] bs r h l n e g = absurd (omega (arith, l))
 entry_is (x ∷ hs) [] r h l n e g = absurd (omega (arith, n))
 entry_is (x ∷ hs) (b ∷ bs) zero h l n e g = rw (e, g) refl
 entry_is (x ∷ hs) (b ∷ bs) (suc r) h l n e g = entry_is hs bs r h (omega (arith, l)) (omega (arith, n)) e g
 
-pub entries_push : (hs : List ℕ) (bs : List Bool) (h : ℕ) → length bs ≡ length hs → live_hashes (hs ++ h ∷ []) (bs ++ true ∷ []) ≡ live_hashes hs bs ++ Some h ∷ []
+pub entries_push : (hs : List ℕ) (bs : List Bool) (h : ℕ) → length bs ≡ length hs
+    → live_hashes (hs ++ h ∷ []) (bs ++ true ∷ []) ≡ live_hashes hs bs ++ Some h ∷ []
 entries_push [] [] h e = refl
 entries_push [] (b ∷ bs) h e = absurd (omega (arith, e))
 entries_push (x ∷ hs) [] h e = absurd (omega (arith, e))
 entries_push (x ∷ hs) (b ∷ bs) h e = ap (λ xs. cond b (Some x) None ∷ xs) (entries_push hs bs h (omega (arith, e)))
 
-pub entries_kill : (hs : List ℕ) (bs : List Bool) (r : ℕ) → length bs ≡ length hs → live_hashes hs (set bs r false) ≡ set (live_hashes hs bs) r None
+pub entries_kill : (hs : List ℕ) (bs : List Bool) (r : ℕ) → length bs ≡ length hs → live_hashes hs (set bs r false)
+    ≡ set (live_hashes hs bs) r None
 entries_kill [] bs r e = refl
 entries_kill (x ∷ hs) [] r e = absurd (omega (arith, e))
 entries_kill (x ∷ hs) (b ∷ bs) zero e = refl
-entries_kill (x ∷ hs) (b ∷ bs) (suc r) e = ap (λ xs. cond b (Some x) None ∷ xs) (entries_kill hs bs r (omega (arith, e)))
+entries_kill (x ∷ hs) (b ∷ bs) (suc r) e = ap (λ xs. cond b (Some x) None ∷ xs)
+    (entries_kill hs bs r (omega (arith, e)))
 
 -- the slot of a row
 pub slot_at : (n : ℕ) (hs : List ℕ) (r : ℕ) → r < length hs → get_or (slots_of n hs) r 0 ≡ get_or hs r 0 % n
@@ -52,7 +58,8 @@ pub slots_len : (n : ℕ) (hs : List ℕ) → length (slots_of n hs) ≡ length 
 slots_len n [] = refl
 slots_len n (h ∷ hs) = ap suc (slots_len n hs)
 
-pub as_many : (n : ℕ) (hs : List ℕ) (bs : List Bool) (links heads : List ℕ) → IsChained (slots_of n hs) bs links heads → length bs ≡ length hs
+pub as_many : (n : ℕ) (hs : List ℕ) (bs : List Bool) (links heads : List ℕ) → IsChained (slots_of n hs) bs links heads
+    → length bs ≡ length hs
 as_many n hs bs links heads c = c.as_alive ∙ slots_len n hs
 
 -- a row with this hash lies below the newest live place of its slot, and so below what was sought from there
@@ -64,8 +71,10 @@ first_above n hs bs hash at res r l above between e =
     let w = entry_of hs bs r hash e in
     between r (above r (let a = w.0 in omega (arith, a, l)) (slot_at n hs r w.0 ∙ ap (λ h. h % n) w.2) w.1) e
 
-pub next_above : (n : ℕ) (hs : List ℕ) (bs : List Bool) (hash row at res r : ℕ) → get_or (live_hashes hs bs) row None ≡ Some hash
-    → ((r : ℕ) → r < row → get_or (slots_of n hs) r 0 ≡ get_or (slots_of n hs) row 0 → get_or bs r false ≡ true → r < at)
+pub next_above : (n : ℕ) (hs : List ℕ) (bs : List Bool) (hash row at res r : ℕ) → get_or (live_hashes hs bs) row None
+    ≡ Some hash
+    → ((r : ℕ) → r < row → get_or (slots_of n hs) r 0 ≡ get_or (slots_of n hs) row 0 → get_or bs r false ≡ true
+        → r < at)
     → ((r : ℕ) → r < at → get_or (live_hashes hs bs) r None ≡ Some hash → r < res)
     → r < row → get_or (live_hashes hs bs) r None ≡ Some hash → r < res
 next_above n hs bs hash row at res r f below between l e =
@@ -74,17 +83,22 @@ next_above n hs bs hash row at res r f below between l e =
     between r (below r l (slot_at n hs r w.0 ∙ ap (λ h. h % n) (w.2 ∙ sym v.2) ∙ sym (slot_at n hs row v.0)) w.1) e
 
 -- the same from a row on that has this hash, dead or alive
-pub here_above : (n : ℕ) (hs : List ℕ) (bs : List Bool) (hash row at res r : ℕ) → row < length hs → get_or hs row 0 ≡ hash
-    → ((r : ℕ) → r < row + 1 → get_or (slots_of n hs) r 0 ≡ get_or (slots_of n hs) row 0 → get_or bs r false ≡ true → r < at)
+pub here_above : (n : ℕ) (hs : List ℕ) (bs : List Bool) (hash row at res r : ℕ) → row < length hs → get_or hs row 0
+    ≡ hash
+    → ((r : ℕ) → r < row + 1 → get_or (slots_of n hs) r 0 ≡ get_or (slots_of n hs) row 0 → get_or bs r false ≡ true
+        → r < at)
     → ((r : ℕ) → r < at → get_or (live_hashes hs bs) r None ≡ Some hash → r < res)
     → r ≤ row → get_or (live_hashes hs bs) r None ≡ Some hash → r < res
 here_above n hs bs hash row at res r here is below between l e =
     let w = entry_of hs bs r hash e in
-    between r (below r (omega (arith, l)) (slot_at n hs r w.0 ∙ ap (λ h. h % n) (w.2 ∙ sym is) ∙ sym (slot_at n hs row here)) w.1) e
+    between r (below r (omega (arith, l)) (slot_at n hs r w.0 ∙ ap (λ h. h % n) (w.2 ∙ sym is)
+        ∙ sym (slot_at n hs row here)) w.1) e
 
 -- the row that was looked at has another hash: none was passed
-pub passed : (n : ℕ) (hs : List ℕ) (bs : List Bool) (hash at to from r : ℕ) → 0 < at → at ≤ length hs → get_or (slots_of n hs) (at - 1) 0 ≡ hash % n → (get_or hs (at - 1) 0 ≡ hash → ⊥)
-    → ((r : ℕ) → r < at - 1 → get_or (slots_of n hs) r 0 ≡ get_or (slots_of n hs) (at - 1) 0 → get_or bs r false ≡ true → r < to)
+pub passed : (n : ℕ) (hs : List ℕ) (bs : List Bool) (hash at to from r : ℕ) → 0 < at → at ≤ length hs
+    → get_or (slots_of n hs) (at - 1) 0 ≡ hash % n → (get_or hs (at - 1) 0 ≡ hash → ⊥)
+    → ((r : ℕ) → r < at - 1 → get_or (slots_of n hs) r 0 ≡ get_or (slots_of n hs) (at - 1) 0 → get_or bs r false ≡ true
+        → r < to)
     → ((r : ℕ) → r < from → get_or (live_hashes hs bs) r None ≡ Some hash → r < at)
     → r < from → get_or (live_hashes hs bs) r None ≡ Some hash → r < to
 passed n hs bs hash at to from r p within slot other below above l e =
@@ -94,7 +108,8 @@ passed n hs bs hash at to from r p within slot other below above l e =
     below r (omega (arith, a, ne, p)) (slot_at n hs r w.0 ∙ ap (λ h. h % n) w.2 ∙ sym slot) w.1
 
 -- one more row
-pub index_push : (hs : List ℕ) (bs : List Bool) (links heads : List ℕ) (h s x n : ℕ) → IsIndex hs bs links heads → s ≡ h % length heads → x ≡ get_or heads s 0 → n ≡ length hs + 1 → length hs + 1 < 2 ^ 32
+pub index_push : (hs : List ℕ) (bs : List Bool) (links heads : List ℕ) (h s x n : ℕ) → IsIndex hs bs links heads
+    → s ≡ h % length heads → x ≡ get_or heads s 0 → n ≡ length hs + 1 → length hs + 1 < 2 ^ 32
     → IsIndex (hs ++ h ∷ []) (bs ++ true ∷ []) (links ++ x ∷ []) (set heads s n)
 index_push hs bs links heads h s x n i es ex en few =
     let size : length (set heads s n) ≡ length heads = length-set heads s n in
@@ -103,7 +118,9 @@ index_push hs bs links heads h s x n i es ex en few =
     let b = i.most in
     let sl : s < length heads = omega (arith, es, a) in
     record {
-      chained = rw (size, slots_push (length heads) hs h, ← es) (pushed (slots_of (length heads) hs) bs links heads s n x true i.chained sl (omega (arith, few, l)) (omega (arith, en, l)) ex);
+      chained = rw (size, slots_push (length heads) hs h, ← es)
+          (pushed (slots_of (length heads) hs) bs links heads s n x true i.chained sl (omega (arith, few, l))
+          (omega (arith, en, l)) ex);
       some = omega (arith, size, a);
       most = omega (arith, size, b);
     }

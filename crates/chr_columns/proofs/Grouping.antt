@@ -1,6 +1,7 @@
 -- Groups that are added one by one.
 use Rattle.std.specs.Prelude.{Bool, if◌then◌else◌}
-use Rattle.std.proofs.Common.{◌≡◌, ℕ, suc, ◌<◌, List, [], ◌∷◌, ◌++◌, length, true, false, refl, sym, ap, ◌∙◌, arith, inl, inr, length-append, eq-eqb}
+use Rattle.std.proofs.Common.{◌≡◌, ℕ, suc, ◌<◌, List, [], ◌∷◌, ◌++◌, length, true, false, refl, sym, ap, ◌∙◌, arith}
+use Rattle.std.proofs.Common.{inl, inr, length-append, eq-eqb}
 use Rattle.chr_base.specs.declared.atom.SymbolId.{SymbolId}
 use Rattle.chr_base.specs.declared.term.Pattern.{Pattern}
 use Rattle.chr_columns.specs.declared.groups.Group.{Group}
@@ -8,11 +9,13 @@ use Rattle.chr_columns.specs.working.Groups.{is_for, table_of, IsGrouped, StayGr
 use Rattle.chr_columns.proofs.Slices.{slice_more}
 
 -- the group of a symbol is the same when others come after it
-table_left : (gs hs : List Group) (s : SymbolId) (n : ℕ) → table_of gs s n < length gs → table_of (gs ++ hs) s n ≡ table_of gs s n
+table_left : (gs hs : List Group) (s : SymbolId) (n : ℕ) → table_of gs s n < length gs → table_of (gs ++ hs) s n
+    ≡ table_of gs s n
 table_left [] hs s n l = absurd (omega (arith, l))
 table_left (g ∷ gs) hs s n l = by (is_for s n g) (λ k. table_left gs hs s n k) l
   where
-    by : (b : Bool) → (table_of gs s n < length gs → table_of (gs ++ hs) s n ≡ table_of gs s n) → (if b then 0 else suc (table_of gs s n)) < suc (length gs)
+    by : (b : Bool) → (table_of gs s n < length gs → table_of (gs ++ hs) s n ≡ table_of gs s n)
+        → (if b then 0 else suc (table_of gs s n)) < suc (length gs)
         → ◌≡◌ {A = ℕ} (if b then 0 else suc (table_of (gs ++ hs) s n)) (if b then 0 else suc (table_of gs s n))
     by true more l = refl
     by false more l = ap suc (more (omega (arith, l)))
@@ -24,7 +27,8 @@ groups_stay gs hs p l =
     omega (arith, e, n, l)
 
 -- a group for the symbol is added
-table_here : (gs : List Group) (g : Group) (s : SymbolId) (n : ℕ) → is_for s n g ≡ true → table_of (gs ++ g ∷ []) s n < length (gs ++ g ∷ [])
+table_here : (gs : List Group) (g : Group) (s : SymbolId) (n : ℕ) → is_for s n g ≡ true
+    → table_of (gs ++ g ∷ []) s n < length (gs ++ g ∷ [])
 table_here [] g s n e = rw e (omega arith)
 table_here (x ∷ gs) g s n e = by (is_for s n x) (table_here gs g s n e)
   where
@@ -33,10 +37,12 @@ table_here (x ∷ gs) g s n e = by (is_for s n x) (table_here gs g s n e)
     by true more = omega arith
     by false more = omega (arith, more)
 
-pub group_here : (gs : List Group) (g : Group) (p : Pattern) → g.symbol ≡ p.symbol → g.arity ≡ length p.args.items → IsGrouped (gs ++ g ∷ []) p
+pub group_here : (gs : List Group) (g : Group) (p : Pattern) → g.symbol ≡ p.symbol → g.arity ≡ length p.args.items
+    → IsGrouped (gs ++ g ∷ []) p
 group_here gs g p e f =
     table_here gs g p.symbol (length p.args.items)
-    (let a = eq-eqb g.symbol.0 p.symbol.0 (ap (λ (s : SymbolId). s.0) e) in let b = eq-eqb g.arity (length p.args.items) f in rw (a, b) refl)
+    (let a = eq-eqb g.symbol.0 p.symbol.0 (ap (λ (s : SymbolId). s.0) e) in let b =
+        eq-eqb g.arity (length p.args.items) f in rw (a, b) refl)
 
 -- a group without plans is added
 pub no_plans_more : (gs : List Group) (g : Group) → g.plans.items ≡ [] → HaveNoPlans gs → HaveNoPlans (gs ++ g ∷ [])

@@ -1,9 +1,11 @@
 -- The rows of the removed heads without the active one, place by place.
-use Rattle.std.proofs.Common.{◌≡◌, ℕ, zero, suc, ◌+◌, ◌-◌, ◌<◌, ◌≤◌, List, [], ◌∷◌, ◌++◌, length, get_or, drop, true, false, refl, sym, ap, subst, ◌∙◌, arith, inl, inr, length-append}
+use Rattle.std.proofs.Common.{◌≡◌, ℕ, zero, suc, ◌+◌, ◌-◌, ◌<◌, ◌≤◌, List, [], ◌∷◌, ◌++◌, length, get_or, drop, true}
+use Rattle.std.proofs.Common.{false, refl, sym, ap, subst, ◌∙◌, arith, inl, inr, length-append}
 use Rattle.std.specs.Prelude.{remove, nat_lt}
 use Rattle.std.proofs.lemmas.Bool.{cases_lt}
 use Rattle.std.proofs.lemmas.Bool.Decides.{nat_tests}
-use Rattle.std.proofs.lemmas.List.{append-nil, take_all, drop_all, drop-append-le, length-drop, get_or_append_left, get_or-append_right}
+use Rattle.std.proofs.lemmas.List.{append-nil, take_all, drop_all, drop-append-le, length-drop, get_or_append_left}
+use Rattle.std.proofs.lemmas.List.{get_or-append_right}
 use Rattle.std.proofs.lemmas.List.Edits.{length-remove, remove-append_left, remove-append_right}
 use Rattle.chr_base.specs.declared.rule.Rule.{Rule}
 use Rattle.chr_base.specs.Rules.{heads_of}
@@ -17,7 +19,8 @@ use Rattle.chr_columns.proofs.Firings.{sit_removed}
 pub length-seats_to : (ss : List Seat) (n : ℕ) → length (seats_to ss n) ≡ n
 unfolding seats_to
 length-seats_to ss zero = refl
-length-seats_to ss (suc n) = length-append (seats_to ss n) (seat ss n ∷ []) ∙ (let m = length-seats_to ss n in omega (arith, m))
+length-seats_to ss (suc n) = length-append (seats_to ss n) (seat ss n ∷ [])
+    ∙ (let m = length-seats_to ss n in omega (arith, m))
 
 pub seat_to : (ss : List Seat) (n q : ℕ) → q < n → seat (seats_to ss n) q ≡ seat ss q
 unfolding seats_to
@@ -28,14 +31,17 @@ seat_to ss (suc n) q l =
     elim (cases_lt q n) as (λ _. seat (seats_to ss n ++ x) q ≡ seat ss q) [
       | inl less ↦ get_or_append_left (seats_to ss n) x no_seat q (omega (arith, less, m)) ∙ seat_to ss n q less
       | inr most ↦ subst (λ k. seat (seats_to ss n ++ x) k ≡ seat ss k) (let e : n ≡ q = omega (arith, l, most) in e)
-          (get_or-append_right (seats_to ss n) x n n no_seat m (omega arith) ∙ ap (λ k. get_or x k no_seat) (let e : n - n ≡ 0 = omega arith in e))
+          (get_or-append_right (seats_to ss n) x n n no_seat m (omega arith)
+              ∙ ap (λ k. get_or x k no_seat) (let e : n - n ≡ 0 = omega arith in e))
     ]
 
 -- all others of an instance sit in different rows
-pub sit_to : (r : Rule) (p : ℕ) (seats : List Seat) → p < length (heads_of r) → (g : Grid) (heads : List Atom) → IsSeated r (rows_in g) p heads seats
+pub sit_to : (r : Rule) (p : ℕ) (seats : List Seat) → p < length (heads_of r) → (g : Grid) (heads : List Atom)
+    → IsSeated r (rows_in g) p heads seats
     → SitIn g (remove heads p) (remove (seats_to seats (length (heads_of r))) p)
 sit_to r p seats place g heads is =
-    sit_removed r g p heads seats (seats_to seats (length (heads_of r))) place (length-seats_to seats (length (heads_of r))) (seat_to seats (length (heads_of r))) is
+    sit_removed r g p heads seats (seats_to seats (length (heads_of r))) place
+        (length-seats_to seats (length (heads_of r))) (seat_to seats (length (heads_of r))) is
 
 -- nothing is taken out past the end
 remove_past : (xs : List Seat) (p : ℕ) → length xs ≤ p → remove xs p ≡ xs
@@ -50,8 +56,10 @@ kept_most r p q l = elim (cases_lt p (length r.kept.items)) as (λ _. kept_other
 
 kept_below : (r : Rule) (p q : ℕ) → length r.kept.items ≤ q → p < q → kept_others r p + 1 ≤ q
 kept_below r p q l b = elim (cases_lt p (length r.kept.items)) as (λ _. kept_others r p + 1 ≤ q) [
-  | inl less ↦ (let t : nat_lt p (length r.kept.items) ≡ true = grind (arith, nat_tests) in rw t (omega (arith, l, less)))
-  | inr most ↦ (let t : nat_lt p (length r.kept.items) ≡ false = grind (arith, nat_tests) in rw t (omega (arith, most, b)))
+  | inl less ↦ (let t : nat_lt p (length r.kept.items) ≡ true = grind (arith, nat_tests) in
+        rw t (omega (arith, l, less)))
+  | inr most ↦ (let t : nat_lt p (length r.kept.items) ≡ false = grind (arith, nat_tests) in
+        rw t (omega (arith, most, b)))
 ]
 
 module _ (r : Rule) (p : ℕ) (ss : List Seat) where
@@ -81,7 +89,8 @@ module _ (r : Rule) (p : ℕ) (ss : List Seat) where
       elim (cases_lt p q) as (λ _. Left q ++ x ≡ Left (suc q)) [
         | inl less ↦ (let n = length-remove (seats_to ss q) p (omega (arith, less, m)) in
             let b = kept_below r p q l less in
-            sym (ap (drop f) (remove-append_left (seats_to ss q) x p (omega (arith, less, m))) ∙ drop-append-le f (remove (seats_to ss q) p) x (omega (arith, n, m, b))))
+            sym (ap (drop f) (remove-append_left (seats_to ss q) x p (omega (arith, less, m)))
+                ∙ drop-append-le f (remove (seats_to ss q) p) x (omega (arith, n, m, b))))
         | inr most ↦ (let s : q < p = elim (cases_lt q p) as (λ _. q < p) [
           | inl below ↦ below
           | inr above ↦ absurd (other (omega (arith, most, above)))
@@ -110,5 +119,6 @@ module _ (r : Rule) (p : ℕ) (ss : List Seat) where
       let d = length-drop (kept_others r p) (remove (seats_to ss q) p) in
       elim (cases_lt p q) as (λ _. length (Left q) ≤ q) [
         | inl less ↦ (let n = length-remove (seats_to ss q) p (omega (arith, less, m)) in omega (arith, n, m, d))
-        | inr most ↦ (let n = ap length (remove_past (seats_to ss q) p (omega (arith, most, m))) in omega (arith, n, m, d))
+        | inr most ↦ (let n = ap length (remove_past (seats_to ss q) p (omega (arith, most, m))) in
+              omega (arith, n, m, d))
       ]

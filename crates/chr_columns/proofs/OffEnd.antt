@@ -17,13 +17,15 @@ pub one_more : (xs ys : List Atom) (start i : ℕ) (x y : Atom) → start + leng
 one_more xs ys start i x y whole l at_x at_y same before =
     let e : x ≡ y = same_is x y same in
     let next : start + (i + 1) ≡ start + i + 1 = omega (arith) in
-    ap (λ n. take n xs) next ∙ take_more xs (start + i) x (omega (arith, whole, l)) ∙ ap (λ z. take (start + i) xs ++ z ∷ []) (sym at_x ∙ e)
+    ap (λ n. take n xs) next ∙ take_more xs (start + i) x (omega (arith, whole, l))
+        ∙ ap (λ z. take (start + i) xs ++ z ∷ []) (sym at_x ∙ e)
     ∙ ap (λ zs. zs ++ y ∷ []) before ∙ append_assoc (take start xs) (take i ys) (y ∷ [])
     ∙ ap (λ zs. take start xs ++ zs) (ap (λ z. take i ys ++ z ∷ []) at_y ∙ sym (take_more ys i y l))
 
 -- ---- a store, and a list of which these atoms are the end
 
-pub end_is_there : (s : Store) (fresh left atoms : List Atom) → fresh ≡ left ++ atoms → IsWithin (store_of atoms) (s ⊕ store_of fresh)
+pub end_is_there : (s : Store) (fresh left atoms : List Atom) → fresh ≡ left ++ atoms
+    → IsWithin (store_of atoms) (s ⊕ store_of fresh)
 end_is_there s fresh left atoms e q =
     let a = ap (λ xs. count (store_of xs) q) e ∙ ap (λ t. count t q) (store_of-append left atoms) in
     let b = count_plus (store_of left) (store_of atoms) q in

@@ -16,7 +16,8 @@ use Rattle.chr_columns.specs.working.Own.{IsOwn}
 use Rattle.chr_columns.proofs.Pools.{no_store}
 
 -- under the rules at rest, an own rule has no step
-pub own_rests : (rules : List Rule) (r : Rule) (s : Store) (xs : List Atom) → IsAtRest (Step rules) s → xs ≡ [] → IsOwn rules r → HasNoStep r (s ⊕ store_of xs)
+pub own_rests : (rules : List Rule) (r : Rule) (s : Store) (xs : List Atom) → IsAtRest (Step rules) s → xs ≡ []
+    → IsOwn rules r → HasNoStep r (s ⊕ store_of xs)
 own_rests rules r s xs rest none own v t h =
     let all : s ⊕ store_of xs ≡ s = ap (λ l. s ⊕ store_of l) none ∙ ap (λ x. s ⊕ x) no_store ∙ plus_empty s in
     rest t (own.0, own.1, v, own.2, same_rule r own.1 v s t (sym own.3) (subst (λ x. StepBy r v x t) all h))
@@ -29,7 +30,8 @@ nothing_fresh b xs e h = no_length xs (eqb-true _ _ (sym h ∙ e))
     no_length (y ∷ ys) l = absurd (omega (arith, l))
 
 -- a step of the rule at that number is one of the rules
-pub carried_one : (rules : List Rule) (n : ℕ) (r : Rule) (s t : Store) → slice_get rules n ≡ Some r → Step (r ∷ []) s t → Step rules s t
+pub carried_one : (rules : List Rule) (n : ℕ) (r : Rule) (s t : Store) → slice_get rules n ≡ Some r → Step (r ∷ []) s t
+    → Step rules s t
 carried_one rules n r s t at h = by h.0 h.3
   where
     by : (i : ℕ) → slice_get (r ∷ []) i ≡ Some h.1 → Step rules s t

@@ -1,6 +1,7 @@
 -- Plans that are added one by one.
 use Rattle.std.specs.Prelude.{◌&&◌, nat_eq, if◌then◌else◌, Some, slice_get}
-use Rattle.std.proofs.Common.{◌≡◌, ℕ, suc, ◌+◌, ◌<◌, List, [], ◌∷◌, ◌++◌, length, get_or, set, refl, sym, ap, subst, ◌∙◌, arith, inl, inr}
+use Rattle.std.proofs.Common.{◌≡◌, ℕ, suc, ◌+◌, ◌<◌, List, [], ◌∷◌, ◌++◌, length, get_or, set, refl, sym, ap, subst}
+use Rattle.std.proofs.Common.{◌∙◌, arith, inl, inr}
 use Rattle.std.proofs.Math.Seq.{map-set_same}
 use Rattle.std.proofs.lemmas.Bool.{cases_lt, cases_eq}
 use Rattle.std.proofs.lemmas.List.{length-map}
@@ -26,9 +27,11 @@ table_place : (gs : List Group) (s : SymbolId) (n : ℕ) → table_of gs s n ≡
 table_place [] s n = refl
 table_place (g ∷ gs) s n = ap (λ k. if nat_eq g.symbol.0 s.0 && nat_eq g.arity n then 0 else suc k) (table_place gs s n)
 
-pub same_table : (gs hs : List Group) (p : Pattern) → shapes_of gs ≡ shapes_of hs → table_of_pattern gs p ≡ table_of_pattern hs p
+pub same_table : (gs hs : List Group) (p : Pattern) → shapes_of gs ≡ shapes_of hs → table_of_pattern gs p
+    ≡ table_of_pattern hs p
 same_table gs hs p e =
-    table_place gs p.symbol (length p.args.items) ∙ ap (λ xs. place_of xs p.symbol (length p.args.items)) e ∙ sym (table_place hs p.symbol (length p.args.items))
+    table_place gs p.symbol (length p.args.items) ∙ ap (λ xs. place_of xs p.symbol (length p.args.items)) e
+        ∙ sym (table_place hs p.symbol (length p.args.items))
 
 pub same_many : (gs hs : List Group) → shapes_of gs ≡ shapes_of hs → length gs ≡ length hs
 same_many gs hs e =
@@ -49,7 +52,8 @@ keep_all gs hs ks a b = record {
   plans = λ t i p h. (b.plans t i p (a.plans t i p h));
 }
 
-planned_same : (rules : List Rule) (gs hs : List Group) (columns : Columns) (p : Plan) → shapes_of hs ≡ shapes_of gs → IsPlanned rules gs columns p → IsPlanned rules hs columns p
+planned_same : (rules : List Rule) (gs hs : List Group) (columns : Columns) (p : Plan) → shapes_of hs ≡ shapes_of gs
+    → IsPlanned rules gs columns p → IsPlanned rules hs columns p
 planned_same rules gs hs columns p e h = (
   h.0,
   h.1,
@@ -58,7 +62,8 @@ planned_same rules gs hs columns p e h = (
   λ j l k f. ((h.4 j l k f).0, (h.4 j l k f).1 ∙ sym (same_table hs gs (pattern_at h.0 l.partner.place) e)),
 )
 
-planned_grown : (rules : List Rule) (gs : List Group) (before after : Columns) (p : Plan) → Grows before after → IsPlanned rules gs before p → IsPlanned rules gs after p
+planned_grown : (rules : List Rule) (gs : List Group) (before after : Columns) (p : Plan) → Grows before after
+    → IsPlanned rules gs before p → IsPlanned rules gs after p
 planned_grown rules gs before after p grows h = (
   h.0,
   h.1,
@@ -68,7 +73,8 @@ planned_grown rules gs before after p grows h = (
 )
 
 -- a plan more in one group
-module _ (gs : List Group) (t : ℕ) (d k : Group) (plan : Plan) (within : t < length gs) (symbol : k.symbol ≡ (get_or gs t d).symbol) (arity : k.arity ≡ (get_or gs t d).arity)
+module _ (gs : List Group) (t : ℕ) (d k : Group) (plan : Plan) (within : t < length gs)
+    (symbol : k.symbol ≡ (get_or gs t d).symbol) (arity : k.arity ≡ (get_or gs t d).arity)
     (plans : k.plans.items ≡ (get_or gs t d).plans.items ++ plan ∷ []) where
   abbrev g : Group
   g = get_or gs t d
@@ -88,7 +94,8 @@ module _ (gs : List Group) (t : ℕ) (d k : Group) (plan : Plan) (within : t < l
         h.1,
         h.2,
         ap (slice_get (set gs t k)) same ∙ slice_set_same gs t k within,
-        ap (λ xs. slice_get xs h.1) plans ∙ slice_left g.plans.items (plan ∷ []) h.1 h.2 (ap (λ (x : Group). slice_get x.plans.items h.1) (sym old) ∙ h.4),
+        ap (λ xs. slice_get xs h.1) plans ∙ slice_left g.plans.items (plan ∷ []) h.1 h.2
+            (ap (λ (x : Group). slice_get x.plans.items h.1) (sym old) ∙ h.4),
         h.5,
         h.6,
       ))
@@ -97,35 +104,46 @@ module _ (gs : List Group) (t : ℕ) (d k : Group) (plan : Plan) (within : t < l
   }
 
   pub plan_there : HasPlan (set gs t k) t plan.rule plan.place
-  plan_there = (k, length g.plans.items, plan, slice_set_same gs t k within, ap (λ xs. slice_get xs (length g.plans.items)) plans ∙ slice_last g.plans.items plan, refl, refl)
+  plan_there = (k, length g.plans.items, plan, slice_set_same gs t k within,
+      ap (λ xs. slice_get xs (length g.plans.items)) plans ∙ slice_last g.plans.items plan, refl, refl)
 
-  pub planned_more : (rules : List Rule) (before after : Columns) → Grows before after → IsPlanned rules gs after plan → ArePlanned rules gs before → ArePlanned rules (set gs t k) after
+  pub planned_more : (rules : List Rule) (before after : Columns) → Grows before after → IsPlanned rules gs after plan
+      → ArePlanned rules gs before → ArePlanned rules (set gs t k) after
   planned_more rules before after grows new are u h j p e f = planned_same rules gs (set gs t k) after p shapes
       (elim (cases_eq u t) as (λ _. IsPlanned rules gs after p) [
-        | inl same ↦ (let is : k ≡ h = same_Some k h (sym (slice_set_same gs t k within) ∙ ap (slice_get (set gs t k)) (sym same) ∙ e) in
-            let at : slice_get (g.plans.items ++ plan ∷ []) j ≡ Some p = ap (λ xs. slice_get xs j) (sym plans) ∙ ap (λ (x : Group). slice_get x.plans.items j) is ∙ f in
+        | inl same ↦ (let is : k ≡ h = same_Some k h (sym (slice_set_same gs t k within)
+              ∙ ap (slice_get (set gs t k)) (sym same) ∙ e) in
+            let at : slice_get (g.plans.items ++ plan ∷ []) j ≡ Some p = ap (λ xs. slice_get xs j) (sym plans)
+                ∙ ap (λ (x : Group). slice_get x.plans.items j) is ∙ f in
             elim (slice_more g.plans.items plan p j at) as (λ _. IsPlanned rules gs after p) [
               | inl old ↦ planned_grown rules gs before after p grows (are t g j p at_t old)
               | inr one ↦ subst (IsPlanned rules gs after) one new
             ])
-        | inr other ↦ planned_grown rules gs before after p grows (are u h j p (sym (slice_set_other gs t u k other) ∙ e) f)
+        | inr other ↦ planned_grown rules gs before after p grows
+              (are u h j p (sym (slice_set_other gs t u k other) ∙ e) f)
       ])
 
 -- what has plans keeps them
-pub have_kept : (gs hs : List Group) (i : ℕ) (r : Rule) (n : ℕ) → KeepPlans gs hs → HavePlans gs i r n → HavePlans hs i r n
-have_kept gs hs i r n keep has p l k = subst (λ t. HasPlan hs t i p) (same_table gs hs (pattern_at r p) (sym keep.shapes)) (keep.plans _ i p (has p l k))
+pub have_kept : (gs hs : List Group) (i : ℕ) (r : Rule) (n : ℕ) → KeepPlans gs hs → HavePlans gs i r n
+    → HavePlans hs i r n
+have_kept gs hs i r n keep has p l k = subst (λ t. HasPlan hs t i p)
+    (same_table gs hs (pattern_at r p) (sym keep.shapes)) (keep.plans _ i p (has p l k))
 
-pub have_more : (gs : List Group) (i : ℕ) (r : Rule) (n : ℕ) → HavePlans gs i r (n + 1) → HasPlan gs (table_of_pattern gs (pattern_at r n)) i n → HavePlans gs i r n
+pub have_more : (gs : List Group) (i : ℕ) (r : Rule) (n : ℕ) → HavePlans gs i r (n + 1)
+    → HasPlan gs (table_of_pattern gs (pattern_at r n)) i n → HavePlans gs i r n
 have_more gs i r n has new p l k = elim (cases_lt n p) as (λ _. HasPlan gs (table_of_pattern gs (pattern_at r p)) i p) [
   | inl less ↦ has p (omega (arith, less)) k
-  | inr most ↦ subst (λ q. HasPlan gs (table_of_pattern gs (pattern_at r q)) i q) (let e : n ≡ p = omega (arith, l, most) in e) new
+  | inr most ↦ subst (λ q. HasPlan gs (table_of_pattern gs (pattern_at r q)) i q)
+        (let e : n ≡ p = omega (arith, l, most) in e) new
 ]
 
-pub covered_more : (rules : List Rule) (gs hs : List Group) (i : ℕ) (r : Rule) → KeepPlans gs hs → i < length rules → r ≡ get_or rules i r → AreCovered rules gs i
+pub covered_more : (rules : List Rule) (gs hs : List Group) (i : ℕ) (r : Rule) → KeepPlans gs hs → i < length rules
+    → r ≡ get_or rules i r → AreCovered rules gs i
     → HavePlans hs i r 0 → AreCovered rules hs (i + 1)
 covered_more rules gs hs i r keep within here are new k x l e = elim (cases_lt k i) as (λ _. HavePlans hs k x 0) [
   | inl less ↦ have_kept gs hs k x 0 keep (are k x less e)
   | inr most ↦ (let n : i ≡ k = omega (arith, l, most) in
-      let same : r ≡ x = same_Some r x (sym (slice_get_read rules (length rules) i r refl within here) ∙ ap (slice_get rules) n ∙ e) in
+      let same : r ≡ x = same_Some r x (sym (slice_get_read rules (length rules) i r refl within here)
+          ∙ ap (slice_get rules) n ∙ e) in
       subst (λ j. HavePlans hs j x 0) n (subst (λ (y : Rule). HavePlans hs i y 0) same new))
 ]

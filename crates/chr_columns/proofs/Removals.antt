@@ -1,6 +1,7 @@
 -- Atoms that are counted and taken out.
 use Rattle.std.specs.Prelude.{Some, None, Option}
-use Rattle.std.proofs.Common.{◌≡◌, ℕ, zero, suc, ◌+◌, ◌<◌, ◌≤◌, List, [], ◌∷◌, ◌++◌, length, get_or, take, cond, Bool, true, false, refl, sym, ap, ◌∙◌, arith, inl, inr, ◌⊎◌}
+use Rattle.std.proofs.Common.{◌≡◌, ℕ, zero, suc, ◌+◌, ◌<◌, ◌≤◌, List, [], ◌∷◌, ◌++◌, length, get_or, take, cond, Bool}
+use Rattle.std.proofs.Common.{true, false, refl, sym, ap, ◌∙◌, arith, inl, inr, ◌⊎◌}
 use Rattle.std.specs.Ordering.{eq_by_cmp}
 use Rattle.std.proofs.Math.ListN.{get_or-map}
 use Rattle.std.proofs.lemmas.List.{get_or_default}
@@ -27,7 +28,8 @@ use Rattle.chr_columns.proofs.Stored.{row_is}
 
 -- how often an atom lives in one row more
 pub counted_more : (q a : Atom) (rows : List (Option Atom)) (i : ℕ) → get_or rows i None ≡ Some a
-    → count_in atom_cmp q (live_atoms (take (i + 1) rows)) ≡ count_in atom_cmp q (live_atoms (take i rows)) + cond (eq_by_cmp atom_cmp q a) 1 0
+    → count_in atom_cmp q (live_atoms (take (i + 1) rows)) ≡ count_in atom_cmp q (live_atoms (take i rows)) + cond
+        (eq_by_cmp atom_cmp q a) 1 0
 counted_more q a rows i e =
     let f = ap (count_in atom_cmp q) (live_more rows i a e) in
     let g = total-append (λ x. cond (eq_by_cmp atom_cmp q x) 1 0) (live_atoms (take i rows)) (a ∷ []) in
@@ -37,7 +39,8 @@ pub counted_dead : (q : Atom) (rows : List (Option Atom)) (i : ℕ) → get_or r
     → count_in atom_cmp q (live_atoms (take (i + 1) rows)) ≡ count_in atom_cmp q (live_atoms (take i rows))
 counted_dead q rows i e = ap (count_in atom_cmp q) (dead_more rows i e)
 
-pub counts_as : (q a : Atom) (b : Bool) → eq_by_cmp atom_cmp q a ≡ b → ◌≡◌ {A = ℕ} (cond (eq_by_cmp atom_cmp q a) 1 0) (cond b 1 0)
+pub counts_as : (q a : Atom) (b : Bool) → eq_by_cmp atom_cmp q a ≡ b → ◌≡◌ {A = ℕ} (cond (eq_by_cmp atom_cmp q a) 1 0)
+    (cond b 1 0)
 counts_as q a b e = ap (λ t. cond t 1 0) e
 
 -- a row of a table that the code reads
@@ -49,30 +52,35 @@ module _ (ts : List Contents) (t : ℕ) (x : Contents) (within : t < length ts) 
   row_at n a e = ap (λ (c : Contents). get_or c.rows n None) it ∙ e
 
   -- an atom is counted in its table
-  pub counted_here : (rules : List Rule) (groups : List Group) (a : Atom) → t ≡ table_of_atom groups a → IsSetUp rules groups (rows_of ts) (index_columns ts) (length ts)
+  pub counted_here : (rules : List Rule) (groups : List Group) (a : Atom) → t ≡ table_of_atom groups a
+      → IsSetUp rules groups (rows_of ts) (index_columns ts) (length ts)
       → count (contents (grid ts)) a ≡ count_in atom_cmp a (live_atoms x.rows)
   counted_here rules groups a e up =
       count_contents a (grid ts)
       ∙ counted_at (grid ts) t a (λ u n there. up.placed u n a (sym (row_is ts u n) ∙ there) ∙ sym e)
-      ∙ ap (λ rows. count_in atom_cmp a (live_atoms rows)) (get_or-map (λ (c : Contents). c.rows) ts t no_table ∙ ap (λ (c : Contents). c.rows) it)
+      ∙ ap (λ rows. count_in atom_cmp a (live_atoms rows))
+          (get_or-map (λ (c : Contents). c.rows) ts t no_table ∙ ap (λ (c : Contents). c.rows) it)
 
 -- one row is killed
 pub only_seat : (P : Seat → Type 0) (s : Seat) → P s → (q : ℕ) → q < 1 → P (seat (s ∷ []) q)
 only_seat P s p zero l = p
 only_seat P s p (suc q) l = absurd (omega (arith, l))
 
-pub sits_alone : (ts : List Contents) (s : Seat) (a : Atom) → rows_of ts s.table s.row ≡ Some a → SitIn (grid ts) (a ∷ []) (s ∷ [])
+pub sits_alone : (ts : List Contents) (s : Seat) (a : Atom) → rows_of ts s.table s.row ≡ Some a
+    → SitIn (grid ts) (a ∷ []) (s ∷ [])
 sits_alone ts s a e = record {
   as_many = refl;
   there = there;
   apart = λ q k l h same. (absurd (omega (arith, l, h)));
 }
   where
-    there : (q : ℕ) → q < 1 → rows_in (grid ts) (seat (s ∷ []) q).table (seat (s ∷ []) q).row ≡ Some (get_or (a ∷ []) q no_atom)
+    there : (q : ℕ) → q < 1 → rows_in (grid ts) (seat (s ∷ []) q).table (seat (s ∷ []) q).row
+        ≡ Some (get_or (a ∷ []) q no_atom)
     there zero l = row_is ts s.table s.row ∙ e
     there (suc q) l = absurd (omega (arith, l))
 
-pub left_one : (ts us : List Contents) (s : Seat) (a : Atom) → rows_of ts s.table s.row ≡ Some a → grid us ≡ without_rows (grid ts) (s ∷ [])
+pub left_one : (ts us : List Contents) (s : Seat) (a : Atom) → rows_of ts s.table s.row ≡ Some a → grid us
+    ≡ without_rows (grid ts) (s ∷ [])
     → contents (grid us) ⊕ one a ≡ contents (grid ts)
 left_one ts us s a e f =
     let w = rows_leave (grid ts) (a ∷ []) (s ∷ []) (sits_alone ts s a e) in
@@ -88,7 +96,8 @@ less_at_rest s t f a e = same_store _ _ (λ q. (
     let h = count_minus (s ⊕ f) (one a) q in
     omega (arith, x, b, d, g, h)))
 
-pub less_fresh : (s : Store) (fresh : List Atom) (a : Atom) → count s a ≡ 0 → s ⊕ store_of (without atom_cmp a fresh) ≡ (s ⊕ store_of fresh) ⊖ one a
+pub less_fresh : (s : Store) (fresh : List Atom) (a : Atom) → count s a ≡ 0 → s ⊕ store_of (without atom_cmp a fresh)
+    ≡ (s ⊕ store_of fresh) ⊖ one a
 less_fresh s fresh a none = same_store _ _ (λ q. (
     let b = count_plus s (store_of (without atom_cmp a fresh)) q in
     let d = count_plus s (store_of fresh) q in
@@ -97,17 +106,20 @@ less_fresh s fresh a none = same_store _ _ (λ q. (
     let m = count_minus (s ⊕ store_of fresh) (one a) q in
     let n = count-of_list atom_total (a ∷ []) q in
     let k = count_in-without atom_cmp atom_total q a fresh in
-    elim (few q (eq_by_cmp atom_cmp q a) refl) as (λ _. count (s ⊕ store_of (without atom_cmp a fresh)) q ≡ count ((s ⊕ store_of fresh) ⊖ one a) q) [
+    elim (few q (eq_by_cmp atom_cmp q a) refl) as (λ _. count (s ⊕ store_of (without atom_cmp a fresh)) q
+        ≡ count ((s ⊕ store_of fresh) ⊖ one a) q) [
       | inl here ↦ omega (arith, b, d, g, h, m, n, k, here)
       | inr other ↦ omega (arith, b, d, g, h, m, n, k, other)
     ]))
   where
-    few : (q : Atom) (b : Bool) → eq_by_cmp atom_cmp q a ≡ b → (count s q ≡ 0) ⊎ (◌≡◌ {A = ℕ} (cond (eq_by_cmp atom_cmp q a) 1 0) 0)
+    few : (q : Atom) (b : Bool) → eq_by_cmp atom_cmp q a ≡ b → (count s q ≡ 0)
+        ⊎ (◌≡◌ {A = ℕ} (cond (eq_by_cmp atom_cmp q a) 1 0) 0)
     few q true e = inl (ap (count s) (same_is q a e) ∙ none)
     few q false e = inr (counts_as q a false e)
 
 -- atoms less, one after another
-pub less_more : (s : Store) (xs : List Atom) (i : ℕ) (x : Atom) → i < length xs → x ≡ get_or xs i x → (s ⊖ store_of (take i xs)) ⊖ one x ≡ s ⊖ store_of (take (i + 1) xs)
+pub less_more : (s : Store) (xs : List Atom) (i : ℕ) (x : Atom) → i < length xs → x ≡ get_or xs i x
+    → (s ⊖ store_of (take i xs)) ⊖ one x ≡ s ⊖ store_of (take (i + 1) xs)
 less_more s xs i x l e = same_store _ _ (λ q. (
     let a = count_minus (s ⊖ store_of (take i xs)) (one x) q in
     let b = count_minus s (store_of (take i xs)) q in
@@ -116,20 +128,24 @@ less_more s xs i x l e = same_store _ _ (λ q. (
     let g = count-of_list atom_total (take (i + 1) xs) q in
     let h = count-of_list atom_total (x ∷ []) q in
     let m = count_in_more atom_cmp q xs i x l in
-    let n : ◌≡◌ {A = ℕ} (cond (eq_by_cmp atom_cmp q x) 1 0) (cond (eq_by_cmp atom_cmp q (get_or xs i x)) 1 0) = ap (λ y. let n : ℕ = cond (eq_by_cmp atom_cmp q y) 1 0 in n) e in
+    let n : ◌≡◌ {A = ℕ} (cond (eq_by_cmp atom_cmp q x) 1 0) (cond (eq_by_cmp atom_cmp q (get_or xs i x)) 1 0) =
+        ap (λ y. let n : ℕ = cond (eq_by_cmp atom_cmp q y) 1 0 in n) e in
     omega (arith, a, b, d, f, g, h, m, n)))
 
 pub less_none : (s : Store) → s ⊖ store_of [] ≡ s
-less_none s = same_store _ _ (λ q. (let a = count_minus s (store_of []) q in let b = count-of_list atom_total [] q in omega (arith, a, b)))
+less_none s = same_store _ _ (λ q. (let a = count_minus s (store_of []) q in let b = count-of_list atom_total [] q in
+    omega (arith, a, b)))
 
 -- whether all are there is told atom by atom
 pub all_within : (s : Store) (xs fresh : List Atom)
-    → ((i : ℕ) (d : Atom) → i < length xs → count_in atom_cmp (get_or xs i d) xs ≤ count s (get_or xs i d) + count_in atom_cmp (get_or xs i d) fresh)
+    → ((i : ℕ) (d : Atom) → i < length xs → count_in atom_cmp (get_or xs i d) xs ≤ count s
+        (get_or xs i d) + count_in atom_cmp (get_or xs i d) fresh)
     → IsWithin (store_of xs) (s ⊕ store_of fresh)
 all_within s xs fresh each q =
     let both = λ (p : Atom). total-append (λ x. cond (eq_by_cmp atom_cmp p x) 1 0) (items s) fresh in
     let w = within_each atom_cmp atom_total xs (items s ++ fresh) (λ i d l.
-    (let a = each i d l in let b = both (get_or xs i d) in let e = count-items s (get_or xs i d) in omega (arith, a, b, e))) q in
+    (let a = each i d l in let b = both (get_or xs i d) in let e = count-items s (get_or xs i d) in
+        omega (arith, a, b, e))) q in
     let a = count-of_list atom_total xs q in
     let b = count_plus s (store_of fresh) q in
     let d = count-of_list atom_total fresh q in
@@ -137,7 +153,8 @@ all_within s xs fresh each q =
     let f = both q in
     omega (arith, w, a, b, d, e, f)
 
-pub too_few : (s : Store) (xs fresh : List Atom) (a : Atom) → count s a + count_in atom_cmp a fresh < count_in atom_cmp a xs → IsWithin (store_of xs) (s ⊕ store_of fresh) → ⊥
+pub too_few : (s : Store) (xs fresh : List Atom) (a : Atom)
+    → count s a + count_in atom_cmp a fresh < count_in atom_cmp a xs → IsWithin (store_of xs) (s ⊕ store_of fresh) → ⊥
 too_few s xs fresh a few w =
     let k = w a in
     let b = count-of_list atom_total xs a in

@@ -17,7 +17,8 @@ use Rattle.chr_columns.specs.declared.stepping.Stopped.{Stopped}
 use Rattle.chr_columns.proofs.Pools.{all_rest}
 
 -- one step more
-pub run_on : (rules : List Rule) (n : ℕ) (s t u : Store) → Runs (Step rules) n s t → Step rules t u → Runs (Step rules) (n + 1) s u
+pub run_on : (rules : List Rule) (n : ℕ) (s t u : Store) → Runs (Step rules) n s t → Step rules t u
+    → Runs (Step rules) (n + 1) s u
 run_on rules n s t u h st = Runs-append (Step rules) n 1 s t u h (u, st, refl)
 
 -- the end is the same store
@@ -25,13 +26,15 @@ pub run_to : (rules : List Rule) (n : ℕ) (s t u : Store) → Runs (Step rules)
 run_to rules n s t u h e = rw e h
 
 -- under rules that say the same, from the same store
-pub run_under : (own rules : List Rule) (n : ℕ) (s before t : Store) → map parts_of own ≡ map parts_of rules → s ≡ before
+pub run_under : (own rules : List Rule) (n : ℕ) (s before t : Store) → map parts_of own ≡ map parts_of rules
+    → s ≡ before
     → Runs (Step own) n s t → Runs (Step rules) n before t
 run_under own rules n s before t e same h = subst (λ x. Runs (Step rules) n x t) same (same_runs own rules n s t e h)
 
 -- the same of what steps came to
 module _ (own rules : List Rule) (e : map parts_of own ≡ map parts_of rules) where
-  pub ok_under : {E : Type 0} (o : Result ℕ E) (s before t : Store) → s ≡ before → IfOk o (λ n. Runs (Step own) n s t) → IfOk o (λ n. Runs (Step rules) n before t)
+  pub ok_under : {E : Type 0} (o : Result ℕ E) (s before t : Store) → s ≡ before → IfOk o (λ n. Runs (Step own) n s t)
+      → IfOk o (λ n. Runs (Step rules) n before t)
   ok_under (Ok n) s before t same h = run_under own rules n s before t e same h
   ok_under (Err x) s before t same h = h
 
@@ -40,7 +43,8 @@ module _ (own rules : List Rule) (e : map parts_of own ≡ map parts_of rules) w
   stopped_under (Ok n) s before t same h = h
   stopped_under (Err x) s before t same h = run_under own rules x.steps s before t e same h
 
-  pub rests_under : {E : Type 0} (o : Result ℕ E) (most : ℕ) (rested : Store) (xs : List Atom) → IsAtRest (Step own) rested
+  pub rests_under : {E : Type 0} (o : Result ℕ E) (most : ℕ) (rested : Store) (xs : List Atom)
+      → IsAtRest (Step own) rested
       → IfOk o (λ n. n < most → xs ≡ []) → IfOk o (λ n. n < most → IsAtRest (Step rules) (rested ⊕ store_of xs))
   rests_under (Ok n) most rested xs rest h = λ l. all_rest own rules rested (rested ⊕ store_of xs) xs e rest (h l) refl
   rests_under (Err x) most rested xs rest h = h
@@ -48,7 +52,8 @@ module _ (own rules : List Rule) (e : map parts_of own ≡ map parts_of rules) w
 -- at most one step was taken
 module _ (rules : List Rule) (n : ℕ) (s t : Store) (few : n ≤ 1) (h : Runs (Step rules) n s t) where
   pub one_stepped : OnTrue (n == 1) (Step rules s t)
-  one_stepped = OnTrue_from (n == 1) _ (λ e. (let r : Runs (Step rules) 1 s t = subst (λ m. Runs (Step rules) m s t) (eqb-true n 1 e) h in subst (λ x. Step rules s x) r.2 r.1))
+  one_stepped = OnTrue_from (n == 1) _ (λ e. (let r : Runs (Step rules) 1 s t =
+      subst (λ m. Runs (Step rules) m s t) (eqb-true n 1 e) h in subst (λ x. Step rules s x) r.2 r.1))
 
   pub none_rests : (n < 1 → IsAtRest (Step rules) t) → OnFalse (n == 1) (IsAtRest (Step rules) s)
   none_rests rest = OnFalse_from (n == 1) _ (λ e. by e (cases_lt n 1))

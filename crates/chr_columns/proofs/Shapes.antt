@@ -16,8 +16,11 @@ second : (a b : Bool) → (a && b) ≡ true → b ≡ true
 second true b e = e
 second false b e = cc
 
-pub shape_table : (groups : List Group) (p : Pattern) (a : Atom) → has_shape p a ≡ true → table_of_atom groups a ≡ table_of_pattern groups p
+pub shape_table : (groups : List Group) (p : Pattern) (a : Atom) → has_shape p a ≡ true → table_of_atom groups a
+    ≡ table_of_pattern groups p
 shape_table groups p a e =
-    let s : p.symbol.0 ≡ a.symbol.0 = eqb-true _ _ (first (nat_eq p.symbol.0 a.symbol.0) (nat_eq (length p.args.items) (length a.args.items)) e) in
-    let n : length p.args.items ≡ length a.args.items = eqb-true _ _ (second (nat_eq p.symbol.0 a.symbol.0) (nat_eq (length p.args.items) (length a.args.items)) e) in
+    let s : p.symbol.0 ≡ a.symbol.0 = eqb-true _ _ (first (nat_eq p.symbol.0 a.symbol.0)
+        (nat_eq (length p.args.items) (length a.args.items)) e) in
+    let n : length p.args.items ≡ length a.args.items =
+        eqb-true _ _ (second (nat_eq p.symbol.0 a.symbol.0) (nat_eq (length p.args.items) (length a.args.items)) e) in
     sym (ap (λ k. table_of groups (record { 0 = k }) (length p.args.items)) s ∙ ap (table_of groups a.symbol) n)

@@ -1,6 +1,7 @@
 -- From the numbers of rows to the rows of tables and of fresh atoms.
 use Rattle.std.specs.Prelude.{Some, None, if◌then◌else◌, nat_lt}
-use Rattle.std.proofs.Common.{◌≡◌, ℕ, suc, ◌+◌, ◌-◌, ◌<◌, ◌≤◌, List, [], ◌∷◌, ◌++◌, map, length, get_or, set, take, drop, Bool, true, false, refl, sym, ap, ◌∙◌, arith}
+use Rattle.std.proofs.Common.{◌≡◌, ℕ, suc, ◌+◌, ◌-◌, ◌<◌, ◌≤◌, List, [], ◌∷◌, ◌++◌, map, length, get_or, set, take}
+use Rattle.std.proofs.Common.{drop, Bool, true, false, refl, sym, ap, ◌∙◌, arith}
 use mathlib.Core.Bool.{true≢false}
 use Rattle.std.proofs.lemmas.Bool.Decides.{nat_tests}
 use Rattle.std.proofs.Math.ListN.{get_or-append, get_or-map}
@@ -52,9 +53,11 @@ row_by b k n other = if b then AtRest (record { table = k; row = n }) else other
 -- a row of later tables is fresh, or in one of them
 later : (ts : List Contents) (k n : ℕ) → is_fresh (row_from ts k n) ≡ false → k ≤ table_in (row_from ts k n)
 later [] k n e = absurd (true≢false e)
-later (t ∷ ts) k n e = by (nat_lt n (length t.rows)) (row_from ts (suc k) (n - length t.rows)) (later ts (suc k) (n - length t.rows)) e
+later (t ∷ ts) k n e = by (nat_lt n (length t.rows)) (row_from ts (suc k) (n - length t.rows))
+    (later ts (suc k) (n - length t.rows)) e
   where
-    by : (b : Bool) (other : Row) → (is_fresh other ≡ false → suc k ≤ table_in other) → is_fresh (row_by b k n other) ≡ false → k ≤ table_in (row_by b k n other)
+    by : (b : Bool) (other : Row) → (is_fresh other ≡ false → suc k ≤ table_in other) → is_fresh (row_by b k n other)
+        ≡ false → k ≤ table_in (row_by b k n other)
     by true other h f = omega arith
     by false other h f = let l = h f in omega (arith, l)
 
@@ -62,17 +65,21 @@ later (t ∷ ts) k n e = by (nat_lt n (length t.rows)) (row_from ts (suc k) (n -
 pub one_number : (ts : List Contents) (k m n : ℕ) → row_from ts k m ≡ row_from ts k n → m ≡ n
 one_number [] k m n e = ap number_in e
 one_number (t ∷ ts) k m n e =
-    by (nat_lt m (length t.rows)) (nat_lt n (length t.rows)) refl refl (row_from ts (suc k) (m - length t.rows)) (row_from ts (suc k) (n - length t.rows))
-    (later ts (suc k) (m - length t.rows)) (later ts (suc k) (n - length t.rows)) (one_number ts (suc k) (m - length t.rows) (n - length t.rows)) e
+    by (nat_lt m (length t.rows)) (nat_lt n (length t.rows)) refl refl (row_from ts (suc k) (m - length t.rows))
+        (row_from ts (suc k) (n - length t.rows))
+    (later ts (suc k) (m - length t.rows)) (later ts (suc k) (n - length t.rows))
+        (one_number ts (suc k) (m - length t.rows) (n - length t.rows)) e
   where
-    apart : (i : ℕ) (other : Row) → (is_fresh other ≡ false → suc k ≤ table_in other) → AtRest (record { table = k; row = i }) ≡ other → ⊥
+    apart : (i : ℕ) (other : Row) → (is_fresh other ≡ false → suc k ≤ table_in other)
+        → AtRest (record { table = k; row = i }) ≡ other → ⊥
     apart i other h f = absurd (
         let l = h (sym (ap is_fresh f)) in
         let g = ap table_in f in
         omega (arith, l, g))
 
     by : (b c : Bool) → nat_lt m (length t.rows) ≡ b → nat_lt n (length t.rows) ≡ c → (x y : Row)
-        → (is_fresh x ≡ false → suc k ≤ table_in x) → (is_fresh y ≡ false → suc k ≤ table_in y) → (x ≡ y → m - length t.rows ≡ n - length t.rows)
+        → (is_fresh x ≡ false → suc k ≤ table_in x) → (is_fresh y ≡ false → suc k ≤ table_in y)
+            → (x ≡ y → m - length t.rows ≡ n - length t.rows)
         → row_by b k m x ≡ row_by c k n y → m ≡ n
     by true true f g x y lx ly one h = ap number_in h
     by true false f g x y lx ly one h = absurd (apart m y ly h)
@@ -84,25 +91,32 @@ one_number (t ∷ ts) k m n e =
         omega (arith, l, i, j)
 
 -- the row with a number has the atom with this number; the tables are the last of all
-same_atom : (all ts : List Contents) (fresh : List Atom) (k n : ℕ) → ((t i : ℕ) → rows_of all (k + t) i ≡ rows_of ts t i)
+same_atom : (all ts : List Contents) (fresh : List Atom) (k n : ℕ)
+    → ((t i : ℕ) → rows_of all (k + t) i ≡ rows_of ts t i)
     → atom_of all fresh (row_from ts k n) ≡ get_or (rows_in_turn ts fresh) n None
 same_atom all [] fresh k n h = refl
 same_atom all (t ∷ ts) fresh k n h =
     by (nat_lt n (length t.rows)) refl (row_from ts (suc k) (n - length t.rows))
-    (same_atom all ts fresh (suc k) (n - length t.rows) (λ j i. ap (λ x. rows_of all x i) (let f : suc k + j ≡ k + suc j = omega arith in f) ∙ h (suc j) i))
+    (same_atom all ts fresh (suc k) (n - length t.rows)
+        (λ j i. ap (λ x. rows_of all x i) (let f : suc k + j ≡ k + suc j = omega arith in f) ∙ h (suc j) i))
   where
-    by : (b : Bool) → nat_lt n (length t.rows) ≡ b → (other : Row) → atom_of all fresh other ≡ get_or (rows_in_turn ts fresh) (n - length t.rows) None
+    by : (b : Bool) → nat_lt n (length t.rows) ≡ b → (other : Row) → atom_of all fresh other
+        ≡ get_or (rows_in_turn ts fresh) (n - length t.rows) None
         → atom_of all fresh (row_by b k n other) ≡ get_or (t.rows ++ rows_in_turn ts fresh) n None
     by true e other same =
         ap (λ j. rows_of all j n) (let f : k ≡ k + 0 = omega arith in f) ∙ h 0 n
         ∙ sym (get_or-append t.rows (rows_in_turn ts fresh) None n (less_than n (length t.rows) e))
-    by false e other same = same ∙ sym (get_or-append_right t.rows (rows_in_turn ts fresh) n None (at_least n (length t.rows) e))
+    by false e other same = same ∙ sym (get_or-append_right t.rows (rows_in_turn ts fresh) n None
+        (at_least n (length t.rows) e))
 
-pub atom_at_row : (ts : List Contents) (fresh : List Atom) (n : ℕ) → atom_of ts fresh (row_from ts 0 n) ≡ get_or (rows_in_turn ts fresh) n None
-atom_at_row ts fresh n = same_atom ts ts fresh 0 n (λ t i. ap (λ x. rows_of ts x i) (let f : 0 + t ≡ t = omega arith in f))
+pub atom_at_row : (ts : List Contents) (fresh : List Atom) (n : ℕ) → atom_of ts fresh (row_from ts 0 n)
+    ≡ get_or (rows_in_turn ts fresh) n None
+atom_at_row ts fresh n = same_atom ts ts fresh 0 n (λ t i. ap (λ x. rows_of ts x i)
+    (let f : 0 + t ≡ t = omega arith in f))
 
 -- what sits in rows by their numbers sits in these rows
-module _ (ts : List Contents) (fresh : List Atom) (heads : List Atom) (seats : List Seat) (sit : SitIn (rows_in_turn ts fresh ∷ []) heads seats) where
+module _ (ts : List Contents) (fresh : List Atom) (heads : List Atom) (seats : List Seat)
+    (sit : SitIn (rows_in_turn ts fresh ∷ []) heads seats) where
   abbrev rows : List Row
   rows = map (λ s. row_from ts 0 s.row) seats
 

@@ -11,7 +11,8 @@ use Rattle.chr_base.proofs.Stores.{same_store, count_plus, count_minus, plus_com
 use Rattle.chr_actives.specs.Actives.{one}
 
 -- an atom left its place, and the last came there
-pub left_place : (xs ys : List Atom) (i : ℕ) (a x : Atom) → i < length xs → a ≡ get_or xs i a → x ≡ get_or xs i x → ys ≡ swap_remove xs i x
+pub left_place : (xs ys : List Atom) (i : ℕ) (a x : Atom) → i < length xs → a ≡ get_or xs i a → x ≡ get_or xs i x
+    → ys ≡ swap_remove xs i x
     → store_of ys ⊕ one a ≡ store_of xs
 left_place xs ys i a x l e f g =
     let same : x ≡ a = f ∙ get_or_default xs i x a l ∙ sym e in

@@ -1,5 +1,6 @@
 -- Atoms at rest that join those of rows.
-use Rattle.std.specs.Prelude.{◌≡◌, ℕ, ◌+◌, ◌-◌, ◌<◌, ◌≤◌, List, [], ◌∷◌, ◌++◌, length, get_or, take, drop, All, Bool, true, false}
+use Rattle.std.specs.Prelude.{◌≡◌, ℕ, ◌+◌, ◌-◌, ◌<◌, ◌≤◌, List, [], ◌∷◌, ◌++◌, length, get_or, take, drop, All, Bool}
+use Rattle.std.specs.Prelude.{true, false}
 use Rattle.std.specs.Bool.{OnTrue}
 use Rattle.std.proofs.Common.{suc, sym, ap, subst, ◌∙◌, arith, inl, inr, drop-cons, take-suc}
 use Rattle.std.proofs.lemmas.List.{take_all}
@@ -12,7 +13,8 @@ use Rattle.chr_base.specs.Rules.{Step, heads_at}
 use Rattle.chr_base.specs.Stores.{Store, store_of, count, size}
 use Rattle.chr_base.proofs.FinBags.{count-of_list}
 use Rattle.chr_base.proofs.Atoms.{atom_total}
-use Rattle.chr_base.proofs.Stores.{count_plus, count_minus, same_store, plus_assoc, store_of-append, weight_plus, size_weight, size_store_of}
+use Rattle.chr_base.proofs.Stores.{count_plus, count_minus, same_store, plus_assoc, store_of-append, weight_plus}
+use Rattle.chr_base.proofs.Stores.{size_weight, size_store_of}
 use Rattle.chr_ranges.specs.declared.range.Range.{Range}
 use Rattle.chr_ranges.specs.Rows.{IsIn}
 use Rattle.chr_tables.specs.Contents.{Contents, rows_of}
@@ -28,23 +30,27 @@ use Rattle.chr_columns.proofs.Listed.{none_in}
 use Rattle.chr_columns.proofs.Stored.{row_is}
 
 -- an atom that is at rest with a store has no instance with it
-pub rests_alone : (rules : List Rule) (s : Store) (a : Atom) → IsAtRest (Step rules) (s ⊕ one a) → NoInstanceWith rules s a
+pub rests_alone : (rules : List Rule) (s : Store) (a : Atom) → IsAtRest (Step rules) (s ⊕ one a)
+    → NoInstanceWith rules s a
 rests_alone rules s a rest i r v at guard here = no_instance rules (s ⊕ one a) rest i r v at guard (λ q. (
     let w = here.1 q in
     let e = count_minus (store_of (heads_at v r)) (one a) q in
     let f = count_plus s (one a) q in
     omega (arith, w, e, f)))
 
-count_cons : (a : Atom) (xs : List Atom) (q : Atom) → count (store_of (a ∷ xs)) q ≡ count (one a) q + count (store_of xs) q
+count_cons : (a : Atom) (xs : List Atom) (q : Atom) → count (store_of (a ∷ xs)) q ≡ count (one a) q + count
+    (store_of xs) q
 count_cons a xs q =
     let e = count-of_list atom_total (a ∷ xs) q in
     let f = count-of_list atom_total (a ∷ []) q in
     let g = count-of_list atom_total xs q in
     omega (arith, e, f, g)
 
-module _ (columns : List ℕ) (range : Range) (rules : List Rule) (s : Store) (a : Atom) (xs : List Atom) (may : MayJoin columns range rules s (a ∷ xs)) where
+module _ (columns : List ℕ) (range : Range) (rules : List Rule) (s : Store) (a : Atom) (xs : List Atom)
+    (may : MayJoin columns range rules s (a ∷ xs)) where
   -- the atom and others that may join
-  both : (t : Store) → IsIn range (value_in columns a) → IsWithin t (store_of xs) → ((b : Atom) → 0 < count t b → IsIn range (value_in columns b))
+  both : (t : Store) → IsIn range (value_in columns a) → IsWithin t (store_of xs)
+      → ((b : Atom) → 0 < count t b → IsIn range (value_in columns b))
       → IsAtRest (Step rules) (s ⊕ (one a ⊕ t))
   both t inside within each = may (one a ⊕ t)
       (λ q. (let e = within q in let f = count_plus (one a) t q in let g = count_cons a xs q in omega (arith, e, f, g)))
@@ -61,7 +67,8 @@ module _ (columns : List ℕ) (range : Range) (rules : List Rule) (s : Store) (a
         | inr none ↦ absurd (omega (arith, none, l))
       ])))
 
-  pub may_after : (u : Store) → IsIn range (value_in columns a) → IsWithin u (s ⊕ one a) → MayJoin columns range rules u xs
+  pub may_after : (u : Store) → IsIn range (value_in columns a) → IsWithin u (s ⊕ one a)
+      → MayJoin columns range rules u xs
   may_after u inside less t within each = part_rests rules (s ⊕ (one a ⊕ t)) (u ⊕ t) (λ q. (
       let e = less q in
       let f = count_plus s (one a) q in
@@ -74,8 +81,10 @@ module _ (columns : List ℕ) (range : Range) (rules : List Rule) (s : Store) (a
   may_skip t within each = may t (λ q. (let e = within q in let g = count_cons a xs q in omega (arith, e, g))) each
 
 -- where no row has a value in the range, those at rest by themselves whose values are in it may join
-pub may_join : (columns : List ℕ) (range : Range) (rules : List Rule) (ts : List Contents) (xs : List Atom) → All (IsJoined columns) rules → IsFree columns range (rows_of ts)
-    → IsAtRest (Step rules) (contents (grid ts)) → IsAtRest (Step rules) (store_of xs) → MayJoin columns range rules (contents (grid ts)) xs
+pub may_join : (columns : List ℕ) (range : Range) (rules : List Rule) (ts : List Contents) (xs : List Atom)
+    → All (IsJoined columns) rules → IsFree columns range (rows_of ts)
+    → IsAtRest (Step rules) (contents (grid ts)) → IsAtRest (Step rules) (store_of xs)
+        → MayJoin columns range rules (contents (grid ts)) xs
 may_join columns range rules ts xs joined free rest rests t within each =
     apart_rests columns rules (contents (grid ts)) t joined
     (λ a b here there same. (outside a here (subst (λ x. IsIn range x) (sym same) (each b there))))
@@ -88,11 +97,13 @@ may_join columns range rules ts xs joined free rest rests t within each =
         absurd (omega (arith, here, z, c))
 
 -- what the checks of heads and of rules tell
-pub on_joined : (columns : List ℕ) (x : ℕ) (r : Rule) (b : Bool) → All (HasThere columns x) r.kept.items → OnTrue b (All (HasThere columns x) r.removed.items) → OnTrue b (IsJoined columns r)
+pub on_joined : (columns : List ℕ) (x : ℕ) (r : Rule) (b : Bool) → All (HasThere columns x) r.kept.items
+    → OnTrue b (All (HasThere columns x) r.removed.items) → OnTrue b (IsJoined columns r)
 on_joined columns x r true kept removed = (x, All-append (HasThere columns x) r.kept.items r.removed.items kept removed)
 on_joined columns x r false kept removed = tt
 
-pub all_joined : (columns : List ℕ) (rules : List Rule) (r : Rule) (b : Bool) → 1 ≤ length rules → r ≡ get_or rules 0 r → IsJoined columns r → OnTrue b (All (IsJoined columns) (take (length rules - 1) (drop 1 rules)))
+pub all_joined : (columns : List ℕ) (rules : List Rule) (r : Rule) (b : Bool) → 1 ≤ length rules → r ≡ get_or rules 0 r
+    → IsJoined columns r → OnTrue b (All (IsJoined columns) (take (length rules - 1) (drop 1 rules)))
     → OnTrue b (All (IsJoined columns) rules)
 all_joined columns [] r b l e h more = absurd (omega (arith, l))
 all_joined columns (x ∷ rules) r true l e h more =
@@ -121,12 +132,15 @@ came_to s u f a e = same_store _ _ (λ q. (
     omega (arith, b, c, d, g, h)))
 
 pub came_beside : (s u a : Store) → u ≡ s → IsWithin u (s ⊕ a)
-came_beside s u a e q = let b : count u q ≡ count s q = ap (λ x. count x q) e in let c = count_plus s a q in omega (arith, b, c)
+came_beside s u a e q = let b : count u q ≡ count s q = ap (λ x. count x q) e in let c = count_plus s a q in
+    omega (arith, b, c)
 
 -- one step of a walk over atoms that may join
-module _ (columns : List ℕ) (range : Range) (rules : List Rule) (s : Store) (atoms : List Atom) (i : ℕ) (a : Atom) (l : i < length atoms) (is : a ≡ get_or atoms i a) (may : MayJoin columns range rules s (drop i atoms)) where
+module _ (columns : List ℕ) (range : Range) (rules : List Rule) (s : Store) (atoms : List Atom) (i : ℕ) (a : Atom)
+    (l : i < length atoms) (is : a ≡ get_or atoms i a) (may : MayJoin columns range rules s (drop i atoms)) where
   at : drop i atoms ≡ a ∷ drop (i + 1) atoms
-  at = drop-cons atoms i a l ∙ ap (λ x. x ∷ drop (suc i) atoms) (sym is) ∙ ap (λ n. a ∷ drop n atoms) (let f : suc i ≡ i + 1 = omega arith in f)
+  at = drop-cons atoms i a l ∙ ap (λ x. x ∷ drop (suc i) atoms) (sym is)
+      ∙ ap (λ n. a ∷ drop n atoms) (let f : suc i ≡ i + 1 = omega arith in f)
 
   these : MayJoin columns range rules s (a ∷ drop (i + 1) atoms)
   these = let P : List Atom → Type 0 = MayJoin columns range rules s in subst P at may
@@ -134,13 +148,18 @@ module _ (columns : List ℕ) (range : Range) (rules : List Rule) (s : Store) (a
   pub none_now : IsIn range (value_in columns a) → NoInstanceWith rules s a
   none_now = joins_now columns range rules s a (drop (i + 1) atoms) these
 
-  pub walk_in : (u : Store) → IsIn range (value_in columns a) → IsWithin u (s ⊕ one a) → MayJoin columns range rules u (drop (i + 1) atoms)
+  pub walk_in : (u : Store) → IsIn range (value_in columns a) → IsWithin u (s ⊕ one a)
+      → MayJoin columns range rules u (drop (i + 1) atoms)
   walk_in = may_after columns range rules s a (drop (i + 1) atoms) these
 
   pub walk_on : MayJoin columns range rules s (drop (i + 1) atoms)
   walk_on = may_skip columns range rules s a (drop (i + 1) atoms) these
 
-pub whole_next : (s t u : Store) (atoms : List Atom) (i : ℕ) (a : Atom) → i < length atoms → a ≡ get_or atoms i a → s ≡ t ⊕ store_of (take i atoms) → u ≡ s ⊕ one a → u ≡ t ⊕ store_of (take (i + 1) atoms)
+pub whole_next : (s t u : Store) (atoms : List Atom) (i : ℕ) (a : Atom) → i < length atoms → a ≡ get_or atoms i a
+    → s ≡ t ⊕ store_of (take i atoms) → u ≡ s ⊕ one a → u ≡ t ⊕ store_of (take (i + 1) atoms)
 whole_next s t u atoms i a l is before now =
-    let n : take (i + 1) atoms ≡ take i atoms ++ a ∷ [] = ap (λ k. take k atoms) (let f : i + 1 ≡ suc i = omega arith in f) ∙ take-suc atoms i a l ∙ ap (λ x. take i atoms ++ x ∷ []) (sym is) in
-    now ∙ ap (λ x. x ⊕ one a) before ∙ plus_assoc t (store_of (take i atoms)) (one a) ∙ ap (λ x. t ⊕ x) (sym (store_of-append (take i atoms) (a ∷ [])) ∙ ap store_of (sym n))
+    let n : take (i + 1) atoms ≡ take i atoms ++ a ∷ [] =
+        ap (λ k. take k atoms) (let f : i + 1 ≡ suc i = omega arith in f) ∙ take-suc atoms i a l
+        ∙ ap (λ x. take i atoms ++ x ∷ []) (sym is) in
+    now ∙ ap (λ x. x ⊕ one a) before ∙ plus_assoc t (store_of (take i atoms)) (one a)
+        ∙ ap (λ x. t ⊕ x) (sym (store_of-append (take i atoms) (a ∷ [])) ∙ ap store_of (sym n))

@@ -1,9 +1,11 @@
 -- Instances among all rows of one table, each row active in turn.
 use Rattle.std.specs.Prelude.{Some, None, Option, IsTrue, is_some, IfSome, IfNone}
-use Rattle.std.proofs.Common.{◌≡◌, ℕ, zero, suc, ◌+◌, ◌<◌, List, [], ◌∷◌, length, get_or, set, refl, sym, ap, subst, ◌∙◌, arith, inl, inr, false}
+use Rattle.std.proofs.Common.{◌≡◌, ℕ, zero, suc, ◌+◌, ◌<◌, List, [], ◌∷◌, length, get_or, set, refl, sym, ap, subst}
+use Rattle.std.proofs.Common.{◌∙◌, arith, inl, inr, false}
 use Rattle.std.proofs.Math.ListN.{get_or-map}
 use Rattle.std.proofs.lemmas.Bool.{cases_lt}
-use Rattle.std.proofs.lemmas.List.{length-map, length-set, get_or_default, get_or_past, get_or-set_other, get_or-set_same}
+use Rattle.std.proofs.lemmas.List.{length-map, length-set, get_or_default, get_or_past, get_or-set_other}
+use Rattle.std.proofs.lemmas.List.{get_or-set_same}
 use Rattle.std.proofs.lemmas.Option.{same_Some}
 use Rattle.chr_base.specs.declared.atom.Atom.{Atom}
 use Rattle.chr_base.specs.declared.rule.Rule.{Rule}
@@ -15,7 +17,8 @@ use Rattle.chr_base.proofs.FinBags.{count-of_list}
 use Rattle.chr_plans.specs.declared.plan.Lookup.{Lookup}
 use Rattle.chr_plans.specs.declared.plan.Partner.{Partner}
 use Rattle.chr_plans.specs.declared.rows.Seat.{Seat}
-use Rattle.chr_plans.specs.Plans.{IsPlan, IsKnown, AreKeys, AreTests, AreLimits, FitsTables, partners_of, places_of, columns_of}
+use Rattle.chr_plans.specs.Plans.{IsPlan, IsKnown, AreKeys, AreTests, AreLimits, FitsTables, partners_of, places_of}
+use Rattle.chr_plans.specs.Plans.{columns_of}
 use Rattle.chr_plans.specs.Seats.{head, seat, no_seat, atom_in, IsSeated, IsOther, NoPartners}
 use Rattle.chr_actives.specs.Grids.{contents, rows_in, SitIn}
 use Rattle.chr_actives.proofs.Rows.{seated, count_contents, rows_leave}
@@ -43,11 +46,14 @@ module _ (r : Rule) (ls : List Lookup) (are : ArePlain (length (heads_of r)) ls)
   many : length (partners_of ls) ≡ length ls
   many = length-map ls (λ l. l.partner)
 
-  partner_is : (j : ℕ) → j < length (partners_of ls) → get_or (partners_of ls) j (plain 0).partner ≡ (plain (j + 1)).partner
-  partner_is j l = get_or-map (λ (k : Lookup). k.partner) ls j (plain 0) ∙ ap (λ (k : Lookup). k.partner) (are.1 j (let m = many in omega (arith, l, m)))
+  partner_is : (j : ℕ) → j < length (partners_of ls) → get_or (partners_of ls) j (plain 0).partner
+      ≡ (plain (j + 1)).partner
+  partner_is j l = get_or-map (λ (k : Lookup). k.partner) ls j (plain 0)
+      ∙ ap (λ (k : Lookup). k.partner) (are.1 j (let m = many in omega (arith, l, m)))
 
   place_is : (j : ℕ) → j < length (partners_of ls) → get_or (places_of (partners_of ls)) j 0 ≡ j + 1
-  place_is j l = get_or-map (λ (k : Partner). k.place) (partners_of ls) j (plain 0).partner ∙ ap (λ (k : Partner). k.place) (partner_is j l)
+  place_is j l = get_or-map (λ (k : Partner). k.place) (partners_of ls) j (plain 0).partner
+      ∙ ap (λ (k : Partner). k.place) (partner_is j l)
 
   covers : (q : ℕ) → q < length (heads_of r) → IsKnown (places_of (partners_of ls)) 0 (length (partners_of ls)) q
   covers zero l = inl refl
@@ -62,21 +68,26 @@ module _ (r : Rule) (ls : List Lookup) (are : ArePlain (length (heads_of r)) ls)
     covers = covers;
     within = λ j l. (let e = place_is j l in let m = many in let n = are.0 in omega (arith, e, m, n, l));
     others = λ j l h. (absurd (let e = place_is j l in omega (arith, e, h)));
-    once = λ i j l h same. (absurd (let e = place_is i (omega (arith, l, h)) in let f = place_is j h in omega (arith, e, f, same, l)));
+    once = λ i j l h same. (absurd (let e = place_is i (omega (arith, l, h)) in let f = place_is j h in
+        omega (arith, e, f, same, l)));
     keys = λ j l h same. (
-        let e : (plain (j + 1)).partner ≡ l = sym (partner_is j h) ∙ get_or_default (partners_of ls) j (plain 0).partner l h ∙ same in
+        let e : (plain (j + 1)).partner ≡ l = sym (partner_is j h) ∙ get_or_default (partners_of ls) j
+            (plain 0).partner l h ∙ same in
         subst (λ (k : Partner). AreKeys r (places_of (partners_of ls)) 0 j k.place k.key.items) e tt);
     tests = λ j l h same. (
-        let e : (plain (j + 1)).partner ≡ l = sym (partner_is j h) ∙ get_or_default (partners_of ls) j (plain 0).partner l h ∙ same in
+        let e : (plain (j + 1)).partner ≡ l = sym (partner_is j h) ∙ get_or_default (partners_of ls) j
+            (plain 0).partner l h ∙ same in
         subst (λ (k : Partner). AreTests r (places_of (partners_of ls)) 0 j k.tests.items) e tt);
     limits = λ j l h same. (
-        let e : (plain (j + 1)).partner ≡ l = sym (partner_is j h) ∙ get_or_default (partners_of ls) j (plain 0).partner l h ∙ same in
+        let e : (plain (j + 1)).partner ≡ l = sym (partner_is j h) ∙ get_or_default (partners_of ls) j
+            (plain 0).partner l h ∙ same in
         subst (λ (k : Partner). AreLimits r (places_of (partners_of ls)) 0 j k.place k.limits.items) e tt);
   }
 
   pub plain_fits : (rows : List (Option Atom)) → FitsTables r ls (only_table rows) only_index
   plain_fits rows = record {
-    index = λ j l h same. subst (λ (k : Lookup). only_index k.table k.index ≡ Some (columns_of k.partner.key.items)) (it j l h same) refl;
+    index = λ j l h same. subst (λ (k : Lookup). only_index k.table k.index ≡ Some (columns_of k.partner.key.items))
+        (it j l h same) refl;
     table = λ j l t n a h same there shape. (in_table rows t n a there ∙ ap (λ (k : Lookup). k.table) (it j l h same));
   }
     where
@@ -94,7 +105,8 @@ abbrev pub at_row : ℕ → Seat
 at_row n = record { table = 0; row = n }
 
 module _ (rows : List (Option Atom)) (n : ℕ) where
-  still_in : (s : Seat) (b : Atom) → atom_in (only_table (set rows n None)) s ≡ Some b → atom_in (only_table rows) s ≡ Some b
+  still_in : (s : Seat) (b : Atom) → atom_in (only_table (set rows n None)) s ≡ Some b → atom_in (only_table rows) s
+      ≡ Some b
   still_in s b e = by s.table s.row e
     where
       by : (t k : ℕ) → only_table (set rows n None) t k ≡ Some b → only_table rows t k ≡ Some b
@@ -107,16 +119,21 @@ module _ (rows : List (Option Atom)) (n : ℕ) where
       let h : ◌≡◌ {A = Option Atom} None (Some b) = sym (none_at rows n) ∙ f in
       cc)
 
-  stays_in : (s : Seat) (b : Atom) → (at_row n ≡ s → ⊥) → atom_in (only_table rows) s ≡ Some b → atom_in (only_table (set rows n None)) s ≡ Some b
+  stays_in : (s : Seat) (b : Atom) → (at_row n ≡ s → ⊥) → atom_in (only_table rows) s ≡ Some b
+      → atom_in (only_table (set rows n None)) s ≡ Some b
   stays_in s b other e = by s.table s.row other e
     where
-      by : (t k : ℕ) → (at_row n ≡ record { table = t; row = k } → ⊥) → only_table rows t k ≡ Some b → only_table (set rows n None) t k ≡ Some b
-      by zero k other e = get_or-set_other rows n k None None (λ f. other (λ i. record { table = 0; row = sym f i })) ∙ e
+      by : (t k : ℕ) → (at_row n ≡ record { table = t; row = k } → ⊥) → only_table rows t k ≡ Some b
+          → only_table (set rows n None) t k ≡ Some b
+      by zero k other e = get_or-set_other rows n k None None (λ f. other (λ i. record { table = 0; row = sym f i }))
+          ∙ e
       by (suc t) k other e = e
 
 -- an active row and its partners are within the rows
-module _ (rows : List (Option Atom)) (n : ℕ) (a : Atom) (r : Rule) (heads : List Atom) (seats : List Seat) (live : get_or rows n None ≡ Some a) (some : 0 < length (heads_of r))
-    (is : IsSeated r (only_table (set rows n None)) 0 heads seats) (active : head heads 0 ≡ a) (many : length seats ≡ length (heads_of r)) where
+module _ (rows : List (Option Atom)) (n : ℕ) (a : Atom) (r : Rule) (heads : List Atom) (seats : List Seat)
+    (live : get_or rows n None ≡ Some a) (some : 0 < length (heads_of r))
+    (is : IsSeated r (only_table (set rows n None)) 0 heads seats) (active : head heads 0 ≡ a)
+        (many : length seats ≡ length (heads_of r)) where
   abbrev all_seats : List Seat
   all_seats = set seats 0 (at_row n)
 
@@ -134,13 +151,16 @@ module _ (rows : List (Option Atom)) (n : ℕ) (a : Atom) (r : Rule) (heads : Li
 
   all_there : (q : ℕ) → q < length heads → atom_in (rows_in (rows ∷ [])) (seat all_seats q) ≡ Some (head heads q)
   all_there zero l = ap (atom_in (only_table rows)) first_seat ∙ live ∙ ap Some (sym active)
-  all_there (suc q) l = ap (atom_in (only_table rows)) (other_seat q) ∙ still_in rows n (seat seats (suc q)) (head heads (suc q)) (is.there (suc q) (other q l))
+  all_there (suc q) l = ap (atom_in (only_table rows)) (other_seat q) ∙ still_in rows n (seat seats (suc q))
+      (head heads (suc q)) (is.there (suc q) (other q l))
 
   all_apart : (q k : ℕ) → q < k → k < length heads → seat all_seats q ≡ seat all_seats k → ⊥
   all_apart q zero l h same = absurd (omega (arith, l))
-  all_apart zero (suc k) l h same = not_there rows n (seat seats (suc k)) (head heads (suc k)) (is.there (suc k) (other k h)) (sym first_seat ∙ same ∙ other_seat k)
+  all_apart zero (suc k) l h same = not_there rows n (seat seats (suc k)) (head heads (suc k))
+      (is.there (suc k) (other k h)) (sym first_seat ∙ same ∙ other_seat k)
   all_apart (suc q) (suc k) l h same =
-      is.apart (suc q) (suc k) (other q (omega (arith, l, h))) (other k h) (λ e. (absurd (omega (arith, e, l)))) (sym (other_seat q) ∙ same ∙ other_seat k)
+      is.apart (suc q) (suc k) (other q (omega (arith, l, h))) (other k h) (λ e. (absurd (omega (arith, e, l))))
+          (sym (other_seat q) ∙ same ∙ other_seat k)
 
   pub seated_in : SitIn (rows ∷ []) heads all_seats
   seated_in = record {
@@ -153,11 +173,13 @@ module _ (rows : List (Option Atom)) (n : ℕ) (a : Atom) (r : Rule) (heads : Li
   seated_within = (rows_leave (rows ∷ []) heads all_seats seated_in).0
 
 -- where no row has partners in the others, the rule has no step
-module _ (rows : List (Option Atom)) (r : Rule) (some : 0 < length (heads_of r)) (none : (n : ℕ) (a : Atom) → get_or rows n None ≡ Some a → NoPartners r (only_table (set rows n None)) 0 a) where
+module _ (rows : List (Option Atom)) (r : Rule) (some : 0 < length (heads_of r))
+    (none : (n : ℕ) (a : Atom) → get_or rows n None ≡ Some a → NoPartners r (only_table (set rows n None)) 0 a) where
   pub no_step : HasNoStep r (contents (rows ∷ []))
   no_step v t step =
       let heads = heads_at v r in
-      let w = seated (rows ∷ []) heads (λ q. (let x = step.there q in let y = count-of_list atom_total heads q in let z = count_contents q (rows ∷ []) in omega (arith, x, y, z))) in
+      let w = seated (rows ∷ []) heads (λ q. (let x = step.there q in let y = count-of_list atom_total heads q in
+          let z = count_contents q (rows ∷ []) in omega (arith, x, y, z))) in
       let ss = w.0 in
       let m : length heads ≡ length (heads_of r) = length-map (heads_of r) (atom_at v) in
       let here = w.1.there 0 (omega (arith, m, some)) in
@@ -172,7 +194,8 @@ module _ (rows : List (Option Atom)) (r : Rule) (some : 0 < length (heads_of r))
         instance = (v, refl, step.guard);
         there = λ q o. (
             let l : q < length heads = (let k = o.0 in omega (arith, k, m)) in
-            stays_in rows n (seat ss q) (head heads q) (λ same. apart 0 q (omega (arith, m, some)) l (λ f. o.1 (sym f)) (sym is ∙ same)) (w.1.there q l));
+            stays_in rows n (seat ss q) (head heads q)
+                (λ same. apart 0 q (omega (arith, m, some)) l (λ f. o.1 (sym f)) (sym is ∙ same)) (w.1.there q l));
         apart = λ q k o p ne same. (
             let l : q < length heads = (let j = o.0 in omega (arith, j, m)) in
             let h : k < length heads = (let j = p.0 in omega (arith, j, m)) in
@@ -184,7 +207,8 @@ module _ (rows : List (Option Atom)) (r : Rule) (i : ℕ) where
   abbrev pub NoneAt : ℕ → Atom → Type 0
   NoneAt n a = NoPartners r (only_table (set rows n None)) 0 a
 
-  pub none_more : ((n : ℕ) (a : Atom) → n < i → get_or rows n None ≡ Some a → NoneAt n a) → ((a : Atom) → get_or rows i None ≡ Some a → NoneAt i a)
+  pub none_more : ((n : ℕ) (a : Atom) → n < i → get_or rows n None ≡ Some a → NoneAt n a)
+      → ((a : Atom) → get_or rows i None ≡ Some a → NoneAt i a)
       → (n : ℕ) (a : Atom) → n < i + 1 → get_or rows n None ≡ Some a → NoneAt n a
   none_more before here n a l live = elim (cases_lt n i) as (λ _. NoneAt n a) [
     | inl less ↦ before n a less live
@@ -195,7 +219,8 @@ module _ (rows : List (Option Atom)) (r : Rule) (i : ℕ) where
   pub none_dead : None ≡ get_or rows i None → (a : Atom) → get_or rows i None ≡ Some a → NoneAt i a
   none_dead dead a live = absurd (let f : ◌≡◌ {A = Option Atom} None (Some a) = dead ∙ live in cc)
 
-  pub none_live : (b : Atom) → Some b ≡ get_or rows i None → NoneAt i b → (a : Atom) → get_or rows i None ≡ Some a → NoneAt i a
+  pub none_live : (b : Atom) → Some b ≡ get_or rows i None → NoneAt i b → (a : Atom) → get_or rows i None ≡ Some a
+      → NoneAt i a
   none_live b is none a live = subst (NoneAt i) (same_Some b a (is ∙ live)) none
 
 pub when_none : {A : Type 0} (P : Type 0) (o : Option A) → false ≡ is_some o → IfNone o P → P

@@ -39,15 +39,18 @@ guard_valued cs = list_all (λ c. is_valued c.left && is_valued c.right) cs
 
 in_guard : (cs : List Comparison) (t : Term) → guard_valued cs ≡ true → In t (guard_terms cs) → is_valued t ≡ true
 in_guard [] t h i = absurd i
-in_guard (c ∷ cs) t h (inl e) = ap is_valued e ∙ (and_parts _ (is_valued c.right) ((and_parts _ (guard_valued cs) h).0)).0
-in_guard (c ∷ cs) t h (inr (inl e)) = ap is_valued e ∙ (and_parts (is_valued c.left) _ ((and_parts _ (guard_valued cs) h).0)).1
+in_guard (c ∷ cs) t h (inl e) = ap is_valued e ∙ (and_parts _ (is_valued c.right)
+    ((and_parts _ (guard_valued cs) h).0)).0
+in_guard (c ∷ cs) t h (inr (inl e)) = ap is_valued e ∙ (and_parts (is_valued c.left) _
+    ((and_parts _ (guard_valued cs) h).0)).1
 in_guard (c ∷ cs) t h (inr (inr i)) = in_guard cs t ((and_parts (is_valued c.left && is_valued c.right) _ h).1) i
 
 in_rule : (r : Rule) (t : Term) → In t (rule_terms r) → is_valued t ≡ true
 in_rule r t i =
     let v = valued_rule r in
     let some = (and_parts (are_valued (heads_of r) && guard_valued r.guard.items) (are_valued r.body.items) v).0 in
-    elim (in_either t (terms_of (heads_of r) ++ guard_terms r.guard.items) (terms_of r.body.items) i) as (λ _. is_valued t ≡ true) [
+    elim (in_either t (terms_of (heads_of r) ++ guard_terms r.guard.items) (terms_of r.body.items) i) as (λ _.
+        is_valued t ≡ true) [
       | inl j ↦ elim (in_either t (terms_of (heads_of r)) (guard_terms r.guard.items) j) as (λ _. is_valued t ≡ true) [
         | inl k ↦ in_patterns (heads_of r) t ((and_parts _ (guard_valued r.guard.items) some).0) k
         | inr k ↦ in_guard r.guard.items t ((and_parts (are_valued (heads_of r)) _ some).1) k
@@ -60,5 +63,6 @@ constants_fit rules c h = in_rule h.1 (Constant c) h.3
 
 pub one_constants : (rules : List Rule) (cs ds : List ℤ) → AreConstants rules cs → AreConstants rules ds → cs ≡ ds
 one_constants rules cs ds a b =
-    same_members {A = ℤ} ◌<ℤ◌ (λ c h. omega (arith, ints, h)) (λ c d e h g. omega (arith, ints, h, g)) cs ds a.rise b.rise
+    same_members {A = ℤ} ◌<ℤ◌ (λ c h. omega (arith, ints, h)) (λ c d e h g. omega (arith, ints, h, g)) cs ds a.rise
+        b.rise
     (λ c i. b.all c (a.stand c i)) (λ c i. a.all c (b.stand c i))

@@ -1,6 +1,7 @@
 -- Matched heads are equal under two valuations just where the joint valuation unifies the overlap's equations.
 use Rattle.std.specs.List.{zip}
-use Rattle.std.specs.Prelude.{◌≡◌, ℕ, zero, suc, ◌+◌, ◌-◌, ◌<◌, true, false, cond, nat_le, List, [], ◌∷◌, ◌++◌, map, length, Some, slice_get, get_or}
+use Rattle.std.specs.Prelude.{◌≡◌, ℕ, zero, suc, ◌+◌, ◌-◌, ◌<◌, true, false, cond, nat_le, List, [], ◌∷◌, ◌++◌, map}
+use Rattle.std.specs.Prelude.{length, Some, slice_get, get_or}
 use Rattle.std.specs.Option.{option_map}
 use Rattle.std.proofs.Common.{refl, sym, ap, subst, ◌∙◌, inl, inr, arith}
 use Rattle.std.proofs.lemmas.Bool.{leb-true, le-leb}
@@ -54,31 +55,38 @@ heads_equal x y xs ys e = (ap (λ zs. get_or zs 0 x) e, ap (λ zs. rest zs) e)
     rest [] = []
     rest (z ∷ zs) = zs
 
-pairs_meet : (k : ℕ) (w v1 v2 : Valuation) (ts us : List Term) → LikeLeft w v1 ts → LikeRight k w v2 us → map (term_value v1) ts ≡ map (term_value v2) us → Unifies w (zip ts (map (renamed_apart k) us))
+pairs_meet : (k : ℕ) (w v1 v2 : Valuation) (ts us : List Term) → LikeLeft w v1 ts → LikeRight k w v2 us
+    → map (term_value v1) ts ≡ map (term_value v2) us → Unifies w (zip ts (map (renamed_apart k) us))
 pairs_meet k w v1 v2 [] us l r e = tt
 pairs_meet k w v1 v2 (t ∷ ts) [] l r e = tt
 pairs_meet k w v1 v2 (t ∷ ts) (u ∷ us) l r e = let h = heads_equal _ _ _ _ e in
-    (l t (inl refl) ∙ h.0 ∙ sym (r u (inl refl)), pairs_meet k w v1 v2 ts us (λ s i. l s (inr i)) (λ s i. r s (inr i)) h.1)
+    (l t (inl refl) ∙ h.0 ∙ sym (r u (inl refl)), pairs_meet k w v1 v2 ts us (λ s i. l s (inr i))
+        (λ s i. r s (inr i)) h.1)
 
-met_pairs : (k : ℕ) (w v1 v2 : Valuation) (ts us : List Term) → LikeLeft w v1 ts → LikeRight k w v2 us → length ts ≡ length us → Unifies w (zip ts (map (renamed_apart k) us)) → map (term_value v1) ts ≡ map (term_value v2) us
+met_pairs : (k : ℕ) (w v1 v2 : Valuation) (ts us : List Term) → LikeLeft w v1 ts → LikeRight k w v2 us → length ts
+    ≡ length us → Unifies w (zip ts (map (renamed_apart k) us)) → map (term_value v1) ts ≡ map (term_value v2) us
 met_pairs k w v1 v2 [] [] l r e m = refl
 met_pairs k w v1 v2 [] (u ∷ us) l r e m = absurd (omega (arith, e))
 met_pairs k w v1 v2 (t ∷ ts) [] l r e m = absurd (omega (arith, e))
 met_pairs k w v1 v2 (t ∷ ts) (u ∷ us) l r e m =
-    λ i. (sym (l t (inl refl)) ∙ m.0 ∙ r u (inl refl)) i ∷ met_pairs k w v1 v2 ts us (λ s j. l s (inr j)) (λ s j. r s (inr j)) (omega (arith, e)) m.1 i
+    λ i. (sym (l t (inl refl)) ∙ m.0 ∙ r u (inl refl)) i ∷ met_pairs k w v1 v2 ts us (λ s j. l s (inr j))
+        (λ s j. r s (inr j)) (omega (arith, e)) m.1 i
 
 -- ---- all places
 
-among : (qs : List Pattern) (e : ℕ) (q : Pattern) → slice_get qs e ≡ Some q → (t : Term) → In t q.args.items → In t (terms_of qs)
+among : (qs : List Pattern) (e : ℕ) (q : Pattern) → slice_get qs e ≡ Some q → (t : Term) → In t q.args.items
+    → In t (terms_of qs)
 among [] e q h t i = absurd cc
-among (p ∷ qs) zero q h t i = in_first t p.args.items (terms_of qs) (subst (λ x. In t x.args.items) (sym (same p q h)) i)
+among (p ∷ qs) zero q h t i = in_first t p.args.items (terms_of qs)
+    (subst (λ x. In t x.args.items) (sym (same p q h)) i)
   where
     same : (p q : Pattern) → Some p ≡ Some q → p ≡ q
     same p q h = cc
 among (p ∷ qs) (suc e) q h t i = in_second t p.args.items (terms_of qs) (among qs e q h t i)
 
 module _ (k : ℕ) (w v1 v2 : Valuation) (qs : List Pattern) (right : LikeRight k w v2 (terms_of qs)) where
-  agrees_meets : (m : List ℕ) (ps : List Pattern) → LikeLeft w v1 (terms_of ps) → MatchedAreEqual (atoms_at v2 qs) m (atoms_at v1 ps) → Unifies w (equations k qs m ps)
+  agrees_meets : (m : List ℕ) (ps : List Pattern) → LikeLeft w v1 (terms_of ps) → MatchedAreEqual (atoms_at v2 qs) m
+      (atoms_at v1 ps) → Unifies w (equations k qs m ps)
   agrees_meets [] ps left h = tt
   agrees_meets (e ∷ m) [] left h = tt
   agrees_meets (zero ∷ m) (p ∷ ps) left h = agrees_meets m ps (λ t i. left t (in_second t p.args.items _ i)) h
@@ -87,10 +95,12 @@ module _ (k : ℕ) (w v1 v2 : Valuation) (qs : List Pattern) (right : LikeRight 
       let q : get_or qs e no_pattern ≡ f.0 = get_or_from_slice_get qs e f.0 no_pattern f.1 in
       meets_both w _ _
       (subst (λ x. Unifies w (zip p.args.items (map (renamed_apart k) x.args.items))) (sym q)
-      (pairs_meet k w v1 v2 p.args.items f.0.args.items (λ t i. left t (in_first t p.args.items _ i)) (λ t i. right t (among qs e f.0 f.1 t i)) (ap (λ a. a.args.items) (sym f.2))))
+      (pairs_meet k w v1 v2 p.args.items f.0.args.items (λ t i. left t (in_first t p.args.items _ i))
+          (λ t i. right t (among qs e f.0 f.1 t i)) (ap (λ a. a.args.items) (sym f.2))))
       (agrees_meets m ps (λ t i. left t (in_second t p.args.items _ i)) h.1)
 
-  meets_agrees : (m : List ℕ) (ps : List Pattern) → LikeLeft w v1 (terms_of ps) → SameSymbols qs m ps → Unifies w (equations k qs m ps) → MatchedAreEqual (atoms_at v2 qs) m (atoms_at v1 ps)
+  meets_agrees : (m : List ℕ) (ps : List Pattern) → LikeLeft w v1 (terms_of ps) → SameSymbols qs m ps
+      → Unifies w (equations k qs m ps) → MatchedAreEqual (atoms_at v2 qs) m (atoms_at v1 ps)
   meets_agrees [] [] left s h = tt
   meets_agrees [] (p ∷ ps) left s h = s
   meets_agrees (e ∷ m) [] left s h = s
@@ -99,10 +109,12 @@ module _ (k : ℕ) (w v1 v2 : Valuation) (qs : List Pattern) (right : LikeRight 
       let f = s.0 in
       let q : get_or qs e no_pattern ≡ f.0 = get_or_from_slice_get qs e f.0 no_pattern f.1 in
       let args : map (term_value v2) f.0.args.items ≡ map (term_value v1) p.args.items =
-      sym (met_pairs k w v1 v2 p.args.items f.0.args.items (λ t i. left t (in_first t p.args.items _ i)) (λ t i. right t (among qs e f.0 f.1 t i)) f.3
+      sym (met_pairs k w v1 v2 p.args.items f.0.args.items (λ t i. left t (in_first t p.args.items _ i))
+          (λ t i. right t (among qs e f.0 f.1 t i)) f.3
       (subst (λ x. Unifies w (zip p.args.items (map (renamed_apart k) x.args.items))) q (meets_left w _ _ h))) in
       let symbol = sym f.2 in (
-        slice_get-map (atom_at v2) qs e ∙ ap (option_map (atom_at v2)) f.1 ∙ (λ i. Some (record { symbol = record { 0 = symbol i }; args = record { items = args i } })),
+        slice_get-map (atom_at v2) qs e ∙ ap (option_map (atom_at v2)) f.1
+            ∙ (λ i. Some (record { symbol = record { 0 = symbol i }; args = record { items = args i } })),
         meets_agrees m ps (λ t i. left t (in_second t p.args.items _ i)) s.1 (meets_right w _ _ h),
       )
 
@@ -117,35 +129,47 @@ like_left : (r1 r2 : Rule) (w v1 v2 : Valuation) → AreParts r1 r2 w v1 v2 → 
 like_left r1 r2 w v1 v2 h (Variable x) i = h.left x i
 like_left r1 r2 w v1 v2 h (Constant c) i = refl
 
-like_right : (r1 r2 : Rule) (w v1 v2 : Valuation) → AreParts r1 r2 w v1 v2 → LikeRight (variables_of r1) w v2 (terms_of (heads_of r2))
+like_right : (r1 r2 : Rule) (w v1 v2 : Valuation) → AreParts r1 r2 w v1 v2 → LikeRight (variables_of r1) w v2
+    (terms_of (heads_of r2))
 like_right r1 r2 w v1 v2 h (Variable x) i = h.right x i
 like_right r1 r2 w v1 v2 h (Constant c) i = refl
 
-pub parts_meet : (r1 r2 : Rule) (m : List ℕ) (w v1 v2 : Valuation) → AreParts r1 r2 w v1 v2 → MatchedAreEqual (both_heads r2 v2) m (both_heads r1 v1) → Unifies w (equations_of r1 r2 m)
+pub parts_meet : (r1 r2 : Rule) (m : List ℕ) (w v1 v2 : Valuation) → AreParts r1 r2 w v1 v2
+    → MatchedAreEqual (both_heads r2 v2) m (both_heads r1 v1) → Unifies w (equations_of r1 r2 m)
 parts_meet r1 r2 m w v1 v2 h a =
-    agrees_meets (variables_of r1) w v1 v2 (heads_of r2) (like_right r1 r2 w v1 v2 h) m (heads_of r1) (like_left r1 r2 w v1 v2 h)
-    (subst (λ as'. MatchedAreEqual as' m (atoms_at v1 (heads_of r1))) (both_heads_are r2 v2) (subst (MatchedAreEqual (both_heads r2 v2) m) (both_heads_are r1 v1) a))
+    agrees_meets (variables_of r1) w v1 v2 (heads_of r2) (like_right r1 r2 w v1 v2 h) m (heads_of r1)
+        (like_left r1 r2 w v1 v2 h)
+    (subst (λ as'. MatchedAreEqual as' m (atoms_at v1 (heads_of r1))) (both_heads_are r2 v2)
+        (subst (MatchedAreEqual (both_heads r2 v2) m) (both_heads_are r1 v1) a))
 
-pub parts_agree : (r1 r2 : Rule) (m : List ℕ) (w v1 v2 : Valuation) → AreParts r1 r2 w v1 v2 → IsMatching r1 r2 m → Unifies w (equations_of r1 r2 m) → MatchedAreEqual (both_heads r2 v2) m (both_heads r1 v1)
+pub parts_agree : (r1 r2 : Rule) (m : List ℕ) (w v1 v2 : Valuation) → AreParts r1 r2 w v1 v2 → IsMatching r1 r2 m
+    → Unifies w (equations_of r1 r2 m) → MatchedAreEqual (both_heads r2 v2) m (both_heads r1 v1)
 parts_agree r1 r2 m w v1 v2 h is e =
-    subst (λ as'. MatchedAreEqual as' m (both_heads r1 v1)) (sym (both_heads_are r2 v2)) (subst (MatchedAreEqual (atoms_at v2 (heads_of r2)) m) (sym (both_heads_are r1 v1))
-    (meets_agrees (variables_of r1) w v1 v2 (heads_of r2) (like_right r1 r2 w v1 v2 h) m (heads_of r1) (like_left r1 r2 w v1 v2 h) is.symbols e))
+    subst (λ as'. MatchedAreEqual as' m (both_heads r1 v1)) (sym (both_heads_are r2 v2))
+        (subst (MatchedAreEqual (atoms_at v2 (heads_of r2)) m) (sym (both_heads_are r1 v1))
+    (meets_agrees (variables_of r1) w v1 v2 (heads_of r2) (like_right r1 r2 w v1 v2 h) m (heads_of r1)
+        (like_left r1 r2 w v1 v2 h) is.symbols e))
 
 pub joint_parts : (r1 r2 : Rule) (v1 v2 : Valuation) → AreParts r1 r2 (joint (variables_of r1) v1 v2) v1 v2
 joint_parts r1 r2 v1 v2 = record {
-  left = λ x i. ap (λ b. cond b (v1 x) (v2 (x - variables_of r1))) (le-leb x (variables_of r1) (head_variable r1 x i).1);
+  left = λ x i. ap (λ b. cond b (v1 x) (v2 (x - variables_of r1)))
+      (le-leb x (variables_of r1) (head_variable r1 x i).1);
   right = λ x i. (let l = (head_variable r2 x i).0 in
-      ap (λ b. cond b (v1 (variables_of r1 + x)) (v2 (variables_of r1 + x - variables_of r1))) (gt (variables_of r1) x l) ∙ ap v2 (omega arith));
+      ap (λ b. cond b (v1 (variables_of r1 + x)) (v2 (variables_of r1 + x - variables_of r1)))
+          (gt (variables_of r1) x l) ∙ ap v2 (omega arith));
 }
   where
     gt : (k x : ℕ) → 0 < x → nat_le (k + x) k ≡ false
-    gt k x l = elim (nat_le (k + x) k) as (λ b. nat_le (k + x) k ≡ b → b ≡ false) [ true ↦ λ e. (let q = leb-true (k + x) k e in absurd (omega (arith, q, l))) | false ↦ λ e. refl ] refl
+    gt k x l = elim (nat_le (k + x) k) as (λ b. nat_le (k + x) k ≡ b → b ≡ false)
+        [ true ↦ λ e. (let q = leb-true (k + x) k e in absurd (omega (arith, q, l))) | false ↦ λ e. refl ] refl
 
 pub split_parts : (r1 r2 : Rule) (w : Valuation) → AreParts r1 r2 w w (λ x. w (variables_of r1 + x))
 split_parts r1 r2 w = record { left = λ x i. refl; right = λ x i. refl }
 
-pub joint_meets : (r1 r2 : Rule) (m : List ℕ) (v1 v2 : Valuation) → MatchedAreEqual (both_heads r2 v2) m (both_heads r1 v1) → Unifies (joint (variables_of r1) v1 v2) (equations_of r1 r2 m)
+pub joint_meets : (r1 r2 : Rule) (m : List ℕ) (v1 v2 : Valuation) → MatchedAreEqual (both_heads r2 v2) m
+    (both_heads r1 v1) → Unifies (joint (variables_of r1) v1 v2) (equations_of r1 r2 m)
 joint_meets r1 r2 m v1 v2 a = parts_meet r1 r2 m (joint (variables_of r1) v1 v2) v1 v2 (joint_parts r1 r2 v1 v2) a
 
-pub joint_agrees : (r1 r2 : Rule) (m : List ℕ) (w : Valuation) → IsMatching r1 r2 m → Unifies w (equations_of r1 r2 m) → MatchedAreEqual (both_heads r2 (λ x. w (variables_of r1 + x))) m (both_heads r1 w)
+pub joint_agrees : (r1 r2 : Rule) (m : List ℕ) (w : Valuation) → IsMatching r1 r2 m → Unifies w (equations_of r1 r2 m)
+    → MatchedAreEqual (both_heads r2 (λ x. w (variables_of r1 + x))) m (both_heads r1 w)
 joint_agrees r1 r2 m w is e = parts_agree r1 r2 m w w (λ x. w (variables_of r1 + x)) (split_parts r1 r2 w) is e

@@ -1,5 +1,6 @@
 -- The variables of a rule's heads are 1, 2, .. up to their number.
-use Rattle.std.specs.Prelude.{◌≡◌, ℕ, ◌+◌, ◌<◌, ◌≤◌, true, false, ◌&&◌, ◌||◌, cond, nat_eq, nat_le, nat_lt, List, [], ◌∷◌, ◌++◌, Option, Some, None, is_some, length}
+use Rattle.std.specs.Prelude.{◌≡◌, ℕ, ◌+◌, ◌<◌, ◌≤◌, true, false, ◌&&◌, ◌||◌, cond, nat_eq, nat_le, nat_lt, List, []}
+use Rattle.std.specs.Prelude.{◌∷◌, ◌++◌, Option, Some, None, is_some, length}
 use mathlib.Core.Bool.{true≢false}
 use Rattle.std.specs.Option.{unwrap_or}
 use Rattle.std.specs.List.{list_any}
@@ -21,7 +22,8 @@ use Rattle.chr_confluence.proofs.Solving.{same_variable}
 pub variable_in : (x : ℕ) (ts : List Term) → list_any (is_variable x) ts ≡ true → In (Variable x) ts
 variable_in x [] h = absurd (true≢false (sym h))
 variable_in x (Constant c ∷ ts) h = inr (variable_in x ts h)
-variable_in x (Variable y ∷ ts) h = elim (nat_eq x y) as (λ b. nat_eq x y ≡ b → (b || list_any (is_variable x) ts) ≡ true → In (Variable x) (Variable y ∷ ts)) [
+variable_in x (Variable y ∷ ts) h = elim (nat_eq x y) as (λ b. nat_eq x y ≡ b → (b || list_any (is_variable x) ts)
+    ≡ true → In (Variable x) (Variable y ∷ ts)) [
   | true ↦ λ e _. inl (ap Variable (eqb-true x y e))
   | false ↦ λ e h. inr (variable_in x ts h)
 ] refl h
@@ -35,7 +37,8 @@ in_variable x (Variable y ∷ ts) (inr i) = or_right (nat_eq x y) _ (in_variable
 
 pub occurs_in : (x : ℕ) (ps : List Pattern) → occurs x ps ≡ true → In (Variable x) (terms_of ps)
 occurs_in x [] h = absurd (true≢false (sym h))
-occurs_in x (p ∷ ps) h = elim (list_any (is_variable x) p.args.items) as (λ b. list_any (is_variable x) p.args.items ≡ b → (b || occurs x ps) ≡ true → In (Variable x) (p.args.items ++ terms_of ps)) [
+occurs_in x (p ∷ ps) h = elim (list_any (is_variable x) p.args.items) as (λ b. list_any (is_variable x) p.args.items ≡ b
+    → (b || occurs x ps) ≡ true → In (Variable x) (p.args.items ++ terms_of ps)) [
   | true ↦ λ e _. in_first _ p.args.items (terms_of ps) (variable_in x p.args.items e)
   | false ↦ λ e h. in_second _ p.args.items (terms_of ps) (occurs_in x ps h)
 ] refl h
@@ -55,13 +58,18 @@ record Numbers (k n : ℕ) (ts : List Term) : Type 0 where
   all : (x : ℕ) → k < x → x ≤ n → In (Variable x) ts
 
 numbers : (ts : List Term) (k n : ℕ) → numbered k ts ≡ Some n → Numbers k n ts
-numbers [] k n h = let e : k ≡ n = ap (λ o. unwrap_or o 0) h in record { from = omega (arith, e); each = λ x i. absurd i; all = λ x l g. absurd (omega (arith, e, l, g)) }
+numbers [] k n h = let e : k ≡ n = ap (λ o. unwrap_or o 0) h in
+    record { from = omega (arith, e); each = λ x i. absurd i; all = λ x l g. absurd (omega (arith, e, l, g)) }
 numbers (Constant c ∷ ts) k n h =
     let m = numbers ts k n h in
-    record { from = m.from; each = λ x i. elim i as (λ _. (0 < x) × (x ≤ n)) [ inl e ↦ absurd cc | inr j ↦ m.each x j ]; all = λ x l g. inr (m.all x l g) }
-numbers (Variable y ∷ ts) k n h = elim (nat_eq y (k + 1)) as (λ b. nat_eq y (k + 1) ≡ b → cond b (numbered (k + 1) ts) (cond (nat_lt 0 y && nat_le y k) (numbered k ts) None) ≡ Some n → Numbers k n (Variable y ∷ ts)) [
+    record { from = m.from; each = λ x i. elim i as (λ _. (0 < x) × (x ≤ n)) [ inl e ↦ absurd cc | inr j ↦ m.each x j ];
+        all = λ x l g. inr (m.all x l g) }
+numbers (Variable y ∷ ts) k n h = elim (nat_eq y (k + 1)) as (λ b. nat_eq y (k + 1) ≡ b
+    → cond b (numbered (k + 1) ts) (cond (nat_lt 0 y && nat_le y k) (numbered k ts) None) ≡ Some n
+    → Numbers k n (Variable y ∷ ts)) [
   | true ↦ λ e h. next (eqb-true y (k + 1) e) (numbers ts (k + 1) n h)
-  | false ↦ λ _ h. elim (nat_lt 0 y && nat_le y k) as (λ b. (nat_lt 0 y && nat_le y k) ≡ b → cond b (numbered k ts) None ≡ Some n → Numbers k n (Variable y ∷ ts)) [
+  | false ↦ λ _ h. elim (nat_lt 0 y && nat_le y k) as (λ b. (nat_lt 0 y && nat_le y k) ≡ b → cond b (numbered k ts) None
+        ≡ Some n → Numbers k n (Variable y ∷ ts)) [
     | true ↦ λ e h. again e (numbers ts k n h)
     | false ↦ λ _ h. absurd cc
   ] refl h
@@ -70,7 +78,9 @@ numbers (Variable y ∷ ts) k n h = elim (nat_eq y (k + 1)) as (λ b. nat_eq y (
     next : y ≡ k + 1 → Numbers (k + 1) n ts → Numbers k n (Variable y ∷ ts)
     next e m = let f = m.from in record {
       from = omega (arith, f);
-      each = λ x i. elim i as (λ _. (0 < x) × (x ≤ n)) [ inl q ↦ (let p = same_variable x y q in (omega (arith, p, e), omega (arith, p, e, f))) | inr j ↦ m.each x j ];
+      each = λ x i. elim i as (λ _. (0 < x) × (x ≤ n))
+          [ inl q ↦ (let p = same_variable x y q in (omega (arith, p, e), omega (arith, p, e, f))) | inr j ↦ m.each x j
+          ];
       all = λ x l g. elim (nat_eq x y) as (λ b. nat_eq x y ≡ b → In (Variable x) (Variable y ∷ ts)) [
         | true ↦ λ q. inl (ap Variable (eqb-true x y q))
         | false ↦ λ q. inr (m.all x (let p = eqb-false x y q in omega (arith, l, e, p)) g)
@@ -78,21 +88,27 @@ numbers (Variable y ∷ ts) k n h = elim (nat_eq y (k + 1)) as (λ b. nat_eq y (
     }
 
     again : (nat_lt 0 y && nat_le y k) ≡ true → Numbers k n ts → Numbers k n (Variable y ∷ ts)
-    again e m = let f = m.from in let z = ltb-true 0 y ((and_parts _ _ e).0) in let l = leb-true y k ((and_parts (nat_lt 0 y) _ e).1) in record {
+    again e m = let f = m.from in let z = ltb-true 0 y ((and_parts _ _ e).0) in let l =
+        leb-true y k ((and_parts (nat_lt 0 y) _ e).1) in record {
       from = f;
-      each = λ x i. elim i as (λ _. (0 < x) × (x ≤ n)) [ inl q ↦ (let p = same_variable x y q in (omega (arith, p, z), omega (arith, p, l, f))) | inr j ↦ m.each x j ];
+      each = λ x i. elim i as (λ _. (0 < x) × (x ≤ n))
+          [ inl q ↦ (let p = same_variable x y q in (omega (arith, p, z), omega (arith, p, l, f))) | inr j ↦ m.each x j
+          ];
       all = λ x l g. inr (m.all x l g);
     }
 
 rule_numbered : (r : Rule) → (n : ℕ) × (numbered 0 (terms_of (heads_of r)) ≡ Some n)
-rule_numbered r = by (numbered 0 (terms_of (heads_of r))) ((and_parts (nat_lt 0 (length r.removed.items) && nat_le (length r.kept.items + length r.removed.items) 4 && is_closed (heads_of r) r.guard.items r.body.items) _ r.well_formed).1)
+rule_numbered r = by (numbered 0 (terms_of (heads_of r)))
+    ((and_parts (nat_lt 0 (length r.removed.items) && nat_le (length r.kept.items + length r.removed.items) 4
+    && is_closed (heads_of r) r.guard.items r.body.items) _ r.well_formed).1)
   where
     by : (o : Option ℕ) → is_some o ≡ true → (n : ℕ) × (o ≡ Some n)
     by None h = absurd (true≢false (sym h))
     by (Some n) h = (n, refl)
 
 rule_numbers : (r : Rule) → Numbers 0 (variables_of r) (terms_of (heads_of r))
-rule_numbers r = let w = rule_numbered r in subst (λ n. Numbers 0 n (terms_of (heads_of r))) (sym (ap (λ o. unwrap_or o 0) w.1)) (numbers (terms_of (heads_of r)) 0 w.0 w.1)
+rule_numbers r = let w = rule_numbered r in subst (λ n. Numbers 0 n (terms_of (heads_of r)))
+    (sym (ap (λ o. unwrap_or o 0) w.1)) (numbers (terms_of (heads_of r)) 0 w.0 w.1)
 
 pub head_variable : (r : Rule) (x : ℕ) → In (Variable x) (terms_of (heads_of r)) → (0 < x) × (x ≤ variables_of r)
 head_variable r x i = (rule_numbers r).each x i

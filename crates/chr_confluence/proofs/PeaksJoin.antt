@@ -14,7 +14,8 @@ use Rattle.chr_base.proofs.Each.{each_within}
 use Rattle.chr_confluence.proofs.CaseSteps.{peak, case_joins}
 
 module _ (p : Atom → Bool) (rules : List Rule) (cases : CasesAreJoinable p rules) where
-  ordered : (s t u : Store) → Each p s → (i j : ℕ) (r1 r2 : Rule) (v1 v2 : Valuation) → slice_get rules i ≡ Some r1 → slice_get rules j ≡ Some r2 → i ≤ j → StepBy r1 v1 s t → StepBy r2 v2 s u → AreJoinable (Step rules) t u
+  ordered : (s t u : Store) → Each p s → (i j : ℕ) (r1 r2 : Rule) (v1 v2 : Valuation) → slice_get rules i ≡ Some r1
+      → slice_get rules j ≡ Some r2 → i ≤ j → StepBy r1 v1 s t → StepBy r2 v2 s u → AreJoinable (Step rules) t u
   ordered s t u each i j r1 r2 v1 v2 at1 at2 l st1 st2 =
       elim (peak r1 r2 v1 v2 s t u st1 st2) as (λ _. AreJoinable (Step rules) t u) [
         | inl c ↦ (
@@ -22,7 +23,8 @@ module _ (p : Atom → Bool) (rules : List Rule) (cases : CasesAreJoinable p rul
           reaches_after (Step rules) t c.0 c.0 (j, r2, v2, at2, c.1) (reaches_itself (Step rules) c.0),
           reaches_after (Step rules) u c.0 c.0 (i, r1, v1, at1, c.2) (reaches_itself (Step rules) c.0),
         )
-        | inr c ↦ case_joins r1 r2 v1 v2 s t u st1 st2 rules c.0 c.1 c.2 (cases i j r1 r2 at1 at2 l c.0 v1 v2 c.1 (each_within p (case_store r1 r2 c.0 v1 v2) s c.2 each))
+        | inr c ↦ case_joins r1 r2 v1 v2 s t u st1 st2 rules c.0 c.1 c.2
+              (cases i j r1 r2 at1 at2 l c.0 v1 v2 c.1 (each_within p (case_store r1 r2 c.0 v1 v2) s c.2 each))
       ]
 
   turned : (t u : Store) → AreJoinable (Step rules) u t → AreJoinable (Step rules) t u

@@ -10,4 +10,5 @@ use Rattle.chr_confluence.proofs.Rising.{values_kept}
 
 -- steps stay within 64-bit values, since the constants of rules are such
 pub values_stay : (rules : List Rule) → Stays (Step rules) HasValues
-values_stay rules s t each h = values_kept (λ x. x) is_value h.1 h.2 s t (λ c i. (constants_fit rules c (h.0, h.1, h.3, i), refl)) each h.4
+values_stay rules s t each h = values_kept (λ x. x) is_value h.1 h.2 s t
+    (λ c i. (constants_fit rules c (h.0, h.1, h.3, i), refl)) each h.4

@@ -1,6 +1,7 @@
 -- Overlaps of two rules of a program, and the equations that matched heads make.
 use Rattle.std.specs.List.{zip}
-use Rattle.std.specs.Prelude.{◌≡◌, ℕ, zero, suc, ◌+◌, ◌≤◌, true, List, [], ◌∷◌, ◌++◌, map, length, Some, slice_get, get_or}
+use Rattle.std.specs.Prelude.{◌≡◌, ℕ, zero, suc, ◌+◌, ◌≤◌, true, List, [], ◌∷◌, ◌++◌, map, length, Some, slice_get}
+use Rattle.std.specs.Prelude.{get_or}
 use Rattle.std.specs.Option.{unwrap_or}
 use Rattle.chr_base.specs.declared.term.Term.{Term}
 use Rattle.chr_base.specs.declared.term.Term.TheVariants.{Variable, Constant}

@@ -8,5 +8,6 @@ use Rattle.chr_join.specs.declared.coverage.Coverage.{Coverage}
 use Rattle.chr_join.specs.Verdicts.{IsFirstBy}
 
 -- it is one of the rules
-pub overlap_of : (coverage : Coverage) (rules : List Rule) (o : Overlap) → IsFirstBy coverage rules o → IsOverlapOf rules o
+pub overlap_of : (coverage : Coverage) (rules : List Rule) (o : Overlap) → IsFirstBy coverage rules o
+    → IsOverlapOf rules o
 overlap_of coverage rules o h = h.listed.each o (in_middle h.before o h.after)

@@ -1,5 +1,6 @@
 -- From tries to proposals.
-use Rattle.std.specs.Prelude.{◌≡◌, ℕ, ◌++◌, List, [], ◌∷◌, Bool, true, false, Option, Some, Result, Ok, Err, IfOk, IfSome, take, drop, string_bytes}
+use Rattle.std.specs.Prelude.{◌≡◌, ℕ, ◌++◌, List, [], ◌∷◌, Bool, true, false, Option, Some, Result, Ok, Err, IfOk}
+use Rattle.std.specs.Prelude.{IfSome, take, drop, string_bytes}
 use Rattle.std.specs.Bool.{OnTrue}
 use Rattle.std.specs.List.{All}
 use Rattle.std.proofs.Common.{sym, ap, subst, ◌∙◌}
@@ -21,17 +22,25 @@ if_yes (Ok true) f h = f h
 if_yes (Ok false) f h = h
 if_yes (Err e) f h = h
 
-pub accepted_program : (coverage : Coverage) (p : Program) (w : Weighed) → program_of w ≡ p → (n : ℕ) × IsAcceptedBy coverage (rules_in w) n → IsAcceptedProgram coverage p
-accepted_program coverage p w e a = subst (IsAcceptedProgram coverage) e (record { lowers = w.lowers; cases = a.0; accepted = a.1 })
+pub accepted_program : (coverage : Coverage) (p : Program) (w : Weighed) → program_of w ≡ p → (n : ℕ)
+    × IsAcceptedBy coverage (rules_in w) n → IsAcceptedProgram coverage p
+accepted_program coverage p w e a = subst (IsAcceptedProgram coverage) e
+    (record { lowers = w.lowers; cases = a.0; accepted = a.1 })
 
 -- a try that was accepted
-pub proposed : (coverage : Coverage) (text given changed bytes : List ℕ) (p : Proposal) (answer : Bool) → given ≡ changed → changed ≡ take p.from text ++ bytes ++ drop p.to text → bytes ≡ string_bytes p.rules → answer ≡ true
+pub proposed : (coverage : Coverage) (text given changed bytes : List ℕ) (p : Proposal) (answer : Bool)
+    → given ≡ changed → changed ≡ take p.from text ++ bytes ++ drop p.to text → bytes ≡ string_bytes p.rules → answer
+    ≡ true
     → OnTrue answer (IsVerdict coverage given Accepted) → IsProposal coverage text p
 proposed coverage text given changed bytes p answer e is told so h =
-    subst (λ t. IsVerdict coverage t Accepted) (e ∙ is ∙ ap (λ xs. take p.from text ++ xs ++ drop p.to text) told) (OnTrue_at so h)
+    subst (λ t. IsVerdict coverage t Accepted) (e ∙ is ∙ ap (λ xs. take p.from text ++ xs ++ drop p.to text) told)
+        (OnTrue_at so h)
 
 -- one more of them
-pub one_more : (coverage : Coverage) (text : List ℕ) (old new : List Proposal) (p : Proposal) (found : Option Proposal) → All (IsProposal coverage text) old → IfSome found (IsProposal coverage text) → found ≡ Some p → new ≡ old ++ p ∷ []
+pub one_more : (coverage : Coverage) (text : List ℕ) (old new : List Proposal) (p : Proposal) (found : Option Proposal)
+    → All (IsProposal coverage text) old → IfSome found (IsProposal coverage text) → found ≡ Some p → new ≡ old ++ p
+    ∷ []
     → All (IsProposal coverage text) new
 one_more coverage text old new p found all is e pushed =
-    subst (All (IsProposal coverage text)) (sym pushed) (All-push (IsProposal coverage text) old p all (subst (λ o. IfSome o (IsProposal coverage text)) e is))
+    subst (All (IsProposal coverage text)) (sym pushed)
+        (All-push (IsProposal coverage text) old p all (subst (λ o. IfSome o (IsProposal coverage text)) e is))

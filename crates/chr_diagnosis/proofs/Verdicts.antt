@@ -6,7 +6,8 @@ use Rattle.chr_join.specs.declared.coverage.Coverage.TheVariants.{Joint, Sorted}
 use Rattle.chr_join.specs.declared.refused.Cause.TheVariants as cause
 use Rattle.chr_join.specs.AcceptedPrograms.{cases_of}
 use Rattle.chr_diagnosis.specs.declared.diagnosis.Diagnosis.{Diagnosis}
-use Rattle.chr_diagnosis.specs.declared.diagnosis.Diagnosis.TheVariants.{Text, NotLowered, Fails, TooManyTypes, TooManyCombinations, Accepted}
+use Rattle.chr_diagnosis.specs.declared.diagnosis.Diagnosis.TheVariants.{Text, NotLowered, Fails, TooManyTypes}
+use Rattle.chr_diagnosis.specs.declared.diagnosis.Diagnosis.TheVariants.{TooManyCombinations, Accepted}
 use Rattle.chr_diagnosis.specs.Verdicts.{IsVerdict, verdict_of}
 use Rattle.chr_base.specs.declared.program.Program.{Program}
 use Rattle.chr_read.specs.declared.fault.Fault.{Fault}
@@ -15,7 +16,8 @@ use Rattle.chr_read.specs.ProgramTexts.{IsAnswer}
 use Rattle.chr_faults.specs.BadClauses.{IsRefused}
 use Rattle.chr_diagnosis.specs.Diagnoses.{IsDiagnosis, IsDiagnosisOf}
 
-pub verdict_is : (coverage : Coverage) (text : List ℕ) (d : Diagnosis) → IsDiagnosis coverage text d → IsVerdict coverage text (verdict_of d)
+pub verdict_is : (coverage : Coverage) (text : List ℕ) (d : Diagnosis) → IsDiagnosis coverage text d
+    → IsVerdict coverage text (verdict_of d)
 verdict_is coverage text (Text f) h = inl h.0
 verdict_is coverage text (NotLowered u) h =
     inr (h.0, h.1, inl (record { rule = u.fault.rule; before = u.fault.before; after = u.fault.after; first = h.2.1 }))
@@ -55,7 +57,8 @@ verdict_is coverage text (Accepted c) h =
     (h.0, h.1, record { lowers = h.2.1; cases = cases_of c.accepted; accepted = h.2.2 })
 
 -- what is told of the program of a text is told of the text
-diagnosis_of : (coverage : Coverage) (text : List ℕ) (p : Program) (d : Diagnosis) → IsAnswer text (Ok p) → IsDiagnosisOf coverage p d → IsDiagnosis coverage text d
+diagnosis_of : (coverage : Coverage) (text : List ℕ) (p : Program) (d : Diagnosis) → IsAnswer text (Ok p)
+    → IsDiagnosisOf coverage p d → IsDiagnosis coverage text d
 diagnosis_of coverage text p (Text f) a h = absurd h
 diagnosis_of coverage text p (NotLowered u) a h = (p, a, h)
 diagnosis_of coverage text p (Fails k) a h = (p, a, h)
@@ -63,7 +66,8 @@ diagnosis_of coverage text p (TooManyTypes c) a h = (p, a, h)
 diagnosis_of coverage text p (TooManyCombinations t) a h = (p, a, h)
 diagnosis_of coverage text p (Accepted c) a h = (p, a, h)
 
-pub told_of_text : {E : Type 0} (coverage : Coverage) (text : List ℕ) (p : Program) (r : Result Diagnosis E) → IsAnswer text (Ok p) → IfOk r (IsDiagnosisOf coverage p) → IfOk r (IsDiagnosis coverage text)
+pub told_of_text : {E : Type 0} (coverage : Coverage) (text : List ℕ) (p : Program) (r : Result Diagnosis E)
+    → IsAnswer text (Ok p) → IfOk r (IsDiagnosisOf coverage p) → IfOk r (IsDiagnosis coverage text)
 told_of_text coverage text p (Ok d) a h = diagnosis_of coverage text p d a h
 told_of_text coverage text p (Err e) a h = h
 

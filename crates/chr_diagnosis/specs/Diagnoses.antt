@@ -33,7 +33,8 @@ use Rattle.chr_diagnosis.specs.declared.sorted.SortedVerdict.TheVariants as sort
 use Rattle.chr_diagnosis.specs.declared.diagnosis.Counted.{Counted}
 use Rattle.chr_diagnosis.specs.declared.diagnosis.Crowd.{Crowd}
 use Rattle.chr_diagnosis.specs.declared.diagnosis.Diagnosis.{Diagnosis}
-use Rattle.chr_diagnosis.specs.declared.diagnosis.Diagnosis.TheVariants.{Text, NotLowered, Fails, TooManyTypes, TooManyCombinations, Accepted}
+use Rattle.chr_diagnosis.specs.declared.diagnosis.Diagnosis.TheVariants.{Text, NotLowered, Fails, TooManyTypes}
+use Rattle.chr_diagnosis.specs.declared.diagnosis.Diagnosis.TheVariants.{TooManyCombinations, Accepted}
 use Rattle.chr_faults.specs.BadClauses.{IsRefused, AreFaults, TellsFirst}
 
 -- from s each step leads to the next of these stores
@@ -89,7 +90,8 @@ IsSortedVerdict p (sorted.TooMany t) =
     (program_of t.weighed ≡ p) × IsRefusalBy Sorted (rules_of p) (cause.TooManyTypes t.too_many)
 IsSortedVerdict p (sorted.Unknown w) = program_of w ≡ p
 
--- The number of the overlap's joint cases, or 0 where it has too many order types. Sorted cases are not counted by overlaps.
+-- The number of the overlap's joint cases, or 0 where it has too many order types. Sorted cases are not counted by
+-- overlaps.
 abbrev pub IsCountedBy : Coverage → List Rule → Counted → Type 0
 IsCountedBy Joint rules c = ((cs : List Case) × AreCases rules c.overlap cs × (c.cases ≡ length cs))
     ⊎ ((n : ℕ) × IsTooMany rules c.overlap n × (c.cases ≡ 0))

@@ -1,5 +1,7 @@
 -- Messages are read from their own texts.
-use Rattle.std.proofs.Common.{◌≡◌, ℕ, zero, suc, ◌+◌, ◌-◌, ◌||◌, ◌<◌, List, [], ◌∷◌, length, map, Bool, true, false, not, cond, nat_lt, nat_eq, FitsSigned, Option, Some, None, Ok, option_map, option_and_then, position, refl, sym, ap, ◌∙◌, subst, arith}
+use Rattle.std.proofs.Common.{◌≡◌, ℕ, zero, suc, ◌+◌, ◌-◌, ◌||◌, ◌<◌, List, [], ◌∷◌, length, map, Bool, true, false}
+use Rattle.std.proofs.Common.{not, cond, nat_lt, nat_eq, FitsSigned, Option, Some, None, Ok, option_map}
+use Rattle.std.proofs.Common.{option_and_then, position, refl, sym, ap, ◌∙◌, subst, arith}
 use Rattle.std.specs.Prelude.{slice_get, int_le, ◌^◌, ℤ, pos, negsuc, neg_ℤ}
 use Rattle.std.specs.Int.{w64}
 use Rattle.std.specs.List.{AllByRecursion, list_all, list_any, position_or_len}
@@ -43,19 +45,22 @@ use Rattle.chr_exchange.specs.declared.fault.MessageFault.TheVariants as fault
 use Rattle.chr_exchange.specs.Names.{named_atom, named_atoms, declared_operation, declared_operations}
 use Rattle.chr_exchange.specs.Meant.{summary_meant, operations_meant, delta_meant, in_value}
 use Rattle.chr_exchange.specs.Texts.{spelt_atom, spelt, delta_text, delta_text_1, summary_text}
-use Rattle.chr_exchange.specs.ReadBack.{SummaryTextsAreMeant, IsDeclaredOperation, DeltaTextsAreRead, Delta1TextsAreMeant}
+use Rattle.chr_exchange.specs.ReadBack.{SummaryTextsAreMeant, IsDeclaredOperation, DeltaTextsAreRead}
+use Rattle.chr_exchange.specs.ReadBack.{Delta1TextsAreMeant}
 use Rattle.chr_exchange.proofs.Spelling.{of_name}
 
 -- ---- from shapes to what they mean
 
-summary_from : (o : Option Data) (rs : List IdRange) → option_and_then summary_of o ≡ Some rs → in_value summary_meant o ≡ Ok rs
+summary_from : (o : Option Data) (rs : List IdRange) → option_and_then summary_of o ≡ Some rs → in_value summary_meant o
+    ≡ Ok rs
 summary_from None rs h = absurd (let e : ◌≡◌ {A = Option (List IdRange)} None (Some rs) = h in cc)
 summary_from (Some d) rs h = ap (λ x. ok_or x fault.Shape) h
 
 pub summaries_read : SummaryTextsAreMeant
 summaries_read rs h = summary_from (json_in (summary_text rs)) rs (summaries_back rs h)
 
-delta_from : (ds : List Declaration) (o : Option Data) (os : List NamedOperation) (es : List Operation) → option_and_then delta_of o ≡ Some os → declared_operations ds os ≡ Some es → in_value (delta_meant ds) o ≡ Ok es
+delta_from : (ds : List Declaration) (o : Option Data) (os : List NamedOperation) (es : List Operation)
+    → option_and_then delta_of o ≡ Some os → declared_operations ds os ≡ Some es → in_value (delta_meant ds) o ≡ Ok es
 delta_from ds None os es h g = absurd (let e : ◌≡◌ {A = Option (List NamedOperation)} None (Some os) = h in cc)
 delta_from ds (Some d) os es h g = ap (operations_meant ds) h ∙ ap (λ x. ok_or x fault.UnknownSymbol) g
 
@@ -80,7 +85,8 @@ as_many ds s = sym (size_store_of (in_print_order ds s)) ∙ ap size (reordered 
 -- ---- a declared atom is the one of its name and arguments
 
 -- that of an earlier declaration is another
-other_name : (ds : List Declaration) (d : Declaration) (i n : ℕ) → list_any (declares d.name d.arity) ds ≡ false → takes (slice_get ds i) n ≡ true → declares (name_at ds i) n d ≡ false
+other_name : (ds : List Declaration) (d : Declaration) (i n : ℕ) → list_any (declares d.name d.arity) ds ≡ false
+    → takes (slice_get ds i) n ≡ true → declares (name_at ds i) n d ≡ false
 other_name [] d i n h t = absurd (true≢false (sym t))
 other_name (e ∷ es) d zero n h t = by (declares e.name n d) refl
   where
@@ -90,11 +96,14 @@ other_name (e ∷ es) d zero n h t = by (declares e.name n d) refl
         let parts = and_parts (bytes_eq e.name d.name) (nat_eq n d.arity) g in
         let name : d.name ≡ e.name = sym ((bytes_eq-Decides e.name d.name).0 parts.0) in
         let arity : nat_eq d.arity e.arity ≡ true = (let a = parts.1 in grind (arith, nat_tests)) in
-        let found : declares d.name d.arity e ≡ true = and_from (bytes_eq d.name e.name) (nat_eq d.arity e.arity) ((bytes_eq-Decides d.name e.name).1 name) arity in
-        absurd (let hit : (declares d.name d.arity e || list_any (declares d.name d.arity) es) ≡ true = ap (λ b. b || list_any (declares d.name d.arity) es) found in true≢false (sym hit ∙ h))
+        let found : declares d.name d.arity e ≡ true = and_from (bytes_eq d.name e.name) (nat_eq d.arity e.arity)
+            ((bytes_eq-Decides d.name e.name).1 name) arity in
+        absurd (let hit : (declares d.name d.arity e || list_any (declares d.name d.arity) es) ≡ true =
+            ap (λ b. b || list_any (declares d.name d.arity) es) found in true≢false (sym hit ∙ h))
 other_name (e ∷ es) d (suc i) n h t = other_name es d i n (later (declares d.name d.arity e) h) t
   where
-    later : (b : Bool) → b || list_any (declares d.name d.arity) es ≡ false → list_any (declares d.name d.arity) es ≡ false
+    later : (b : Bool) → b || list_any (declares d.name d.arity) es ≡ false → list_any (declares d.name d.arity) es
+        ≡ false
     later true g = absurd (true≢false g)
     later false g = g
 
@@ -102,19 +111,23 @@ not_true : (b : Bool) → not b ≡ true → b ≡ false
 not_true false h = refl
 not_true true h = absurd (true≢false (sym h))
 
-at_place : (ds : List Declaration) → are_distinct ds ≡ true → (i n : ℕ) → takes (slice_get ds i) n ≡ true → (position_or_len (declares (name_at ds i) n) ds ≡ i) × (i < length ds)
+at_place : (ds : List Declaration) → are_distinct ds ≡ true → (i n : ℕ) → takes (slice_get ds i) n ≡ true
+    → (position_or_len (declares (name_at ds i) n) ds ≡ i) × (i < length ds)
 at_place [] h i n t = absurd (true≢false (sym t))
 at_place (d ∷ ds) h zero n t =
     let arity : nat_eq n d.arity ≡ true = (let a = t in grind (arith, nat_tests)) in
-    let itself : declares d.name n d ≡ true = and_from (bytes_eq d.name d.name) (nat_eq n d.arity) ((bytes_eq-Decides d.name d.name).1 refl) arity in
+    let itself : declares d.name n d ≡ true = and_from (bytes_eq d.name d.name) (nat_eq n d.arity)
+        ((bytes_eq-Decides d.name d.name).1 refl) arity in
     (ap (λ b. cond (not b) (1 + position_or_len (declares d.name n) ds) 0) itself, omega arith)
 at_place (d ∷ ds) h (suc i) n t =
     let parts = and_parts (not (list_any (declares d.name d.arity) ds)) (are_distinct ds) h in
     let other = other_name ds d i n (not_true (list_any (declares d.name d.arity) ds) parts.0) t in
     let rest = at_place ds parts.1 i n t in
-    (ap (λ b. cond (not b) (1 + position_or_len (declares (name_at ds i) n) ds) 0) other ∙ (let e = rest.0 in omega (arith, e)), (let l = rest.1 in omega (arith, l)))
+    (ap (λ b. cond (not b) (1 + position_or_len (declares (name_at ds i) n) ds) 0) other
+        ∙ (let e = rest.0 in omega (arith, e)), (let l = rest.1 in omega (arith, l)))
 
-place_back : (ds : List Declaration) → are_distinct ds ≡ true → (i n : ℕ) → takes (slice_get ds i) n ≡ true → position (declares (name_at ds i) n) ds ≡ Some i
+place_back : (ds : List Declaration) → are_distinct ds ≡ true → (i n : ℕ) → takes (slice_get ds i) n ≡ true
+    → position (declares (name_at ds i) n) ds ≡ Some i
 place_back ds h i n t =
     let at = at_place ds h i n t in
     let inside : nat_lt i (length ds) ≡ true = (let l = at.1 in grind (arith, nat_tests)) in
@@ -128,28 +141,36 @@ module _ (p : Program) where
   keeps = kept_by ds (rules_of p) p.well_formed
 
   atom_back : (a : Atom) → declares_atom ds a ≡ true → named_atom ds (spelt_atom ds a) ≡ Some a
-  atom_back a h = ap (option_map (λ i. record { symbol = record { 0 = i }; args = record { items = a.args.items } })) (place_back ds keeps.distinct a.symbol.0 (length a.args.items) h)
+  atom_back a h = ap (option_map (λ i. record { symbol = record { 0 = i }; args = record { items = a.args.items } }))
+      (place_back ds keeps.distinct a.symbol.0 (length a.args.items) h)
 
   all_of : (q : Atom → Bool) (as' : List Atom) → list_all q as' ≡ true → AllByRecursion (λ a. q a ≡ true) as'
   all_of q [] h = tt
   all_of q (a ∷ as') h = let parts = and_parts (q a) (list_all q as') h in (parts.0, all_of q as' parts.1)
 
-  atoms_back : (s : Store) → Each (declares_atom ds) s → named_atoms ds (map (spelt_atom ds) (in_print_order ds s)) ≡ Some (in_print_order ds s)
-  atoms_back s h = named_back (in_print_order ds s) (all_of (declares_atom ds) (in_print_order ds s) (each_listed ds (declares_atom ds) s h))
+  atoms_back : (s : Store) → Each (declares_atom ds) s → named_atoms ds (map (spelt_atom ds) (in_print_order ds s))
+      ≡ Some (in_print_order ds s)
+  atoms_back s h = named_back (in_print_order ds s) (all_of (declares_atom ds) (in_print_order ds s)
+      (each_listed ds (declares_atom ds) s h))
     where
-      named_back : (as' : List Atom) → AllByRecursion (λ a. declares_atom ds a ≡ true) as' → named_atoms ds (map (spelt_atom ds) as') ≡ Some as'
+      named_back : (as' : List Atom) → AllByRecursion (λ a. declares_atom ds a ≡ true) as'
+          → named_atoms ds (map (spelt_atom ds) as') ≡ Some as'
       named_back [] g = refl
       named_back (a ∷ as') g =
-          ap (option_and_then (λ y. option_map (λ ys. y ∷ ys) (named_atoms ds (map (spelt_atom ds) as')))) (atom_back a g.0)
+          ap (option_and_then (λ y. option_map (λ ys. y ∷ ys) (named_atoms ds (map (spelt_atom ds) as'))))
+              (atom_back a g.0)
           ∙ ap (option_map (λ ys. a ∷ ys)) (named_back as' g.1)
 
   operation_back : (o : Operation) → IsDeclaredOperation ds o → declared_operation ds (spelt ds o) ≡ Some o
-  operation_back o h = ap (option_map (λ atoms. (o.0, store_of atoms))) (atoms_back o.1 h.declared) ∙ ap (λ s. Some (o.0, s)) (reordered ds o.1)
+  operation_back o h = ap (option_map (λ atoms. (o.0, store_of atoms))) (atoms_back o.1 h.declared)
+      ∙ ap (λ s. Some (o.0, s)) (reordered ds o.1)
 
-  operations_back : (os : List Operation) → AllByRecursion (IsDeclaredOperation ds) os → declared_operations ds (map (spelt ds) os) ≡ Some os
+  operations_back : (os : List Operation) → AllByRecursion (IsDeclaredOperation ds) os
+      → declared_operations ds (map (spelt ds) os) ≡ Some os
   operations_back [] h = refl
   operations_back (o ∷ os) h =
-      ap (option_and_then (λ y. option_map (λ ys. y ∷ ys) (declared_operations ds (map (spelt ds) os)))) (operation_back o h.0)
+      ap (option_and_then (λ y. option_map (λ ys. y ∷ ys) (declared_operations ds (map (spelt ds) os))))
+          (operation_back o h.0)
       ∙ ap (option_map (λ ys. o ∷ ys)) (operations_back os h.1)
 
   -- ---- what is spelt is within the limits
@@ -164,11 +185,13 @@ module _ (p : Program) where
   name_utf8 [] h = IsUtf8-are_ascii [] refl
   name_utf8 (b ∷ bs) h =
       let parts = and_parts (is_lower b) (list_all is_word_byte bs) h in
-      IsUtf8-are_ascii (b ∷ bs) (and_from (nat_lt b 128) (are_ascii bs) (let w = parts.0 in grind (arith, nat_tests)) (word_ascii bs parts.1))
+      IsUtf8-are_ascii (b ∷ bs) (and_from (nat_lt b 128) (are_ascii bs) (let w = parts.0 in grind (arith, nat_tests))
+          (word_ascii bs parts.1))
 
   names_utf8 : (as' : List Atom) → AllByRecursion (λ w. IsUtf8 w.name) (map (spelt_atom ds) as')
   names_utf8 [] = tt
-  names_utf8 (a ∷ as') = (of_name IsUtf8 (IsUtf8-are_ascii [] refl) name_utf8 ds keeps.ranges a.symbol.0, names_utf8 as')
+  names_utf8 (a ∷ as') = (of_name IsUtf8 (IsUtf8-are_ascii [] refl) name_utf8 ds keeps.ranges a.symbol.0,
+      names_utf8 as')
 
   value_fits : (z : ℤ) → is_value z ≡ true → FitsSigned w64 z
   value_fits (pos n) h =
@@ -182,11 +205,14 @@ module _ (p : Program) where
 
   values_fit : (zs : List ℤ) → list_all is_value zs ≡ true → AllByRecursion (FitsSigned w64) zs
   values_fit [] h = tt
-  values_fit (z ∷ zs) h = let parts = and_parts (is_value z) (list_all is_value zs) h in (value_fits z parts.0, values_fit zs parts.1)
+  values_fit (z ∷ zs) h = let parts = and_parts (is_value z) (list_all is_value zs) h in
+      (value_fits z parts.0, values_fit zs parts.1)
 
-  arguments_fit : (as' : List Atom) → list_all (args_in is_value) as' ≡ true → AllByRecursion ArgumentsFit (map (spelt_atom ds) as')
+  arguments_fit : (as' : List Atom) → list_all (args_in is_value) as' ≡ true
+      → AllByRecursion ArgumentsFit (map (spelt_atom ds) as')
   arguments_fit [] h = tt
-  arguments_fit (a ∷ as') h = let parts = and_parts (args_in is_value a) (list_all (args_in is_value) as') h in (values_fit a.args.items parts.0, arguments_fit as' parts.1)
+  arguments_fit (a ∷ as') h = let parts = and_parts (args_in is_value a) (list_all (args_in is_value) as') h in
+      (values_fit a.args.items parts.0, arguments_fit as' parts.1)
 
   within_limits : (o : Operation) → IsDeclaredOperation ds o → IsOperationWithinLimits (spelt ds o)
   within_limits o h =
@@ -200,7 +226,8 @@ module _ (p : Program) where
         arguments = arguments_fit atoms (each_listed ds (args_in is_value) o.1 h.bag.1);
       }
 
-  all_within_limits : (os : List Operation) → AllByRecursion (IsDeclaredOperation ds) os → AllByRecursion IsOperationWithinLimits (map (spelt ds) os)
+  all_within_limits : (os : List Operation) → AllByRecursion (IsDeclaredOperation ds) os
+      → AllByRecursion IsOperationWithinLimits (map (spelt ds) os)
   all_within_limits [] h = tt
   all_within_limits (o ∷ os) h = (within_limits o h.0, all_within_limits os h.1)
 
@@ -208,10 +235,12 @@ pub deltas_read : DeltaTextsAreRead
 deltas_read p m h =
     let ds = declarations p in
     let es = finite.entries m in
-    delta_from ds (json_in (delta_text ds m)) (map (spelt ds) es) es (deltas_2_back (map (spelt ds) es) (all_within_limits p es h)) (operations_back p es h)
+    delta_from ds (json_in (delta_text ds m)) (map (spelt ds) es) es
+        (deltas_2_back (map (spelt ds) es) (all_within_limits p es h)) (operations_back p es h)
 
 pub deltas_1_read : Delta1TextsAreMeant
 deltas_1_read p m h =
     let ds = declarations p in
     let es = finite.entries m in
-    delta_from ds (json_in (delta_text_1 ds m)) (map (spelt ds) es) es (deltas_1_back (map (spelt ds) es) (all_within_limits p es h)) (operations_back p es h)
+    delta_from ds (json_in (delta_text_1 ds m)) (map (spelt ds) es) es
+        (deltas_1_back (map (spelt ds) es) (all_within_limits p es h)) (operations_back p es h)

@@ -12,7 +12,8 @@ use Rattle.chr_ops.specs.Operations.{Operation, HasOperationSize}
 use Rattle.chr_exchange.specs.Names.{named_atom, named_atoms, declared_operation}
 
 -- it has the size of one
-spelt_size : (ds : List Declaration) (ws : List NamedAtom) (xs : List Atom) → Some xs ≡ named_atoms ds ws → IsOperationLength (length ws) → HasOperationSize (store_of xs)
+spelt_size : (ds : List Declaration) (ws : List NamedAtom) (xs : List Atom) → Some xs ≡ named_atoms ds ws
+    → IsOperationLength (length ws) → HasOperationSize (store_of xs)
 spelt_size ds ws xs e h =
     let n = length-each (named_atom ds) ws xs (sym e) in
     let s = size_store_of xs in
@@ -23,7 +24,8 @@ some_of None o there is = absurd (let f : ◌≡◌ {A = Bool} false true = ther
 some_of (Some p) o there is = ap Some is
 
 -- what is made of their bag is the operation that is spelt so
-pub made_of : (ds : List Declaration) (o : NamedOperation) (xs : List Atom) (b : Store) (got : Option Operation) → Some xs ≡ named_atoms ds o.atoms → IsOperationLength (length o.atoms) → b ≡ store_of xs
+pub made_of : (ds : List Declaration) (o : NamedOperation) (xs : List Atom) (b : Store) (got : Option Operation)
+    → Some xs ≡ named_atoms ds o.atoms → IsOperationLength (length o.atoms) → b ≡ store_of xs
     → (HasOperationSize b → IsSome got) → IfSome got (λ p. p ≡ (o.id, b)) → got ≡ declared_operation ds o
 made_of ds o xs b got named len e there is =
     some_of got (o.id, b) (there (rw e (spelt_size ds o.atoms xs named len))) is

@@ -1,5 +1,6 @@
 -- Lines and columns of bytes, and places of bytes outside comments.
-use Rattle.std.specs.Prelude.{◌≡◌, ◌<◌, ℕ, ◌+◌, ◌-◌, List, [], ◌∷◌, take, length, ◌==◌, ◌||◌, if◌then◌else◌, Bool, false, true, Option, Some, None, slice_get}
+use Rattle.std.specs.Prelude.{◌≡◌, ◌<◌, ℕ, ◌+◌, ◌-◌, List, [], ◌∷◌, take, length, ◌==◌, ◌||◌, if◌then◌else◌, Bool}
+use Rattle.std.specs.Prelude.{false, true, Option, Some, None, slice_get}
 use Rattle.chr_syntax.specs.Bytes.{line_feed, percent, without_comments}
 
 -- the number of line feeds

@@ -28,9 +28,11 @@ module _ (s : Sorts) (rules : List Rule) (finest : AreFinest rules s) (o : Overl
   Listed r1 r2 cs = (HasNoUnifier (all_equations r1 r2 o.matching.items) × (cs ≡ [])) ⊎ AreSortedListed s o r1 r2 cs
 
   -- the listing at these rules, which are those of the overlap
-  listed_at : (cs : List Case) (r1 r2 : Rule) → slice_get rules (o.first - 1) ≡ Some r1 → slice_get rules (o.second - 1) ≡ Some r2 → AreSortedCases s rules o cs → Listed r1 r2 cs
+  listed_at : (cs : List Case) (r1 r2 : Rule) → slice_get rules (o.first - 1) ≡ Some r1 → slice_get rules (o.second - 1)
+      ≡ Some r2 → AreSortedCases s rules o cs → Listed r1 r2 cs
   listed_at cs r1 r2 first second are =
-      subst (λ r. Listed r1 r cs) (same_Some _ _ (sym are.second ∙ second)) (subst (λ r. Listed r are.rule2 cs) (same_Some _ _ (sym are.first ∙ first)) are.listed)
+      subst (λ r. Listed r1 r cs) (same_Some _ _ (sym are.second ∙ second))
+          (subst (λ r. Listed r are.rule2 cs) (same_Some _ _ (sym are.first ∙ first)) are.listed)
 
   module _ (r1 r2 : Rule) where
     abbrev Solves : Substitution → Type 0
@@ -40,11 +42,14 @@ module _ (s : Sorts) (rules : List Rule) (finest : AreFinest rules s) (o : Overl
     one_classes σ τ a b = λ i x. one_solution σ τ (all_equations r1 r2 o.matching.items) a b x i
 
     -- under one unifier there is one list of combinations
-    same_combinations : (σ τ : Substitution) (rs ts : List (List ℤ)) → σ ≡ τ → AreCombinations s (class_sorts s σ r1 r2) rs → AreCombinations s (class_sorts s τ r1 r2) ts → rs ≡ ts
-    same_combinations σ τ rs ts same a b = combinations_one s (class_sorts s τ r1 r2) rs ts finest.rise (subst (λ υ. AreCombinations s (class_sorts s υ r1 r2) rs) same a) b
+    same_combinations : (σ τ : Substitution) (rs ts : List (List ℤ)) → σ ≡ τ
+        → AreCombinations s (class_sorts s σ r1 r2) rs → AreCombinations s (class_sorts s τ r1 r2) ts → rs ≡ ts
+    same_combinations σ τ rs ts same a b = combinations_one s (class_sorts s τ r1 r2) rs ts finest.rise
+        (subst (λ υ. AreCombinations s (class_sorts s υ r1 r2) rs) same a) b
 
     one_listed : (cs ds : List Case) → AreSortedListed s o r1 r2 cs → AreSortedListed s o r1 r2 ds → cs ≡ ds
-    one_listed cs ds a b = a.cases_are ∙ (λ i. map (case_at o r1 r2 (classes i)) (filter (guards_hold (classes i) r1 r2) (combinations i))) ∙ sym b.cases_are
+    one_listed cs ds a b = a.cases_are ∙ (λ i. map (case_at o r1 r2 (classes i))
+        (filter (guards_hold (classes i) r1 r2) (combinations i))) ∙ sym b.cases_are
       where
         classes : a.classes ≡ b.classes
         classes = one_classes a.classes b.classes a.solves b.solves
@@ -68,7 +73,8 @@ module _ (s : Sorts) (rules : List Rule) (finest : AreFinest rules s) (o : Overl
       by (inl x) = solved_meet many.classes _ many.solves x.0
       by (inr x) =
           let classes = one_classes many.rule1 many.rule2 x.classes many.classes x.solves many.solves in
-          let same = ap length (same_combinations many.rule1 many.rule2 x.classes many.classes x.combinations many.many.0 classes x.all many.many.1) in
+          let same = ap length (same_combinations many.rule1 many.rule2 x.classes many.classes x.combinations
+              many.many.0 classes x.all many.many.1) in
           let few = x.within in
           let more = many.many.2 in
           omega (arith, same, few, more)
@@ -83,21 +89,28 @@ module _ (s : Sorts) (rules : List Rule) (finest : AreFinest rules s) (o : Overl
       two = same_Some a.rule2 b.rule2 (sym a.second ∙ b.second)
 
       mine : IsMostGeneralUnifier a.classes (all_equations b.rule1 b.rule2 o.matching.items)
-      mine = subst (λ r. IsMostGeneralUnifier a.classes (all_equations b.rule1 r o.matching.items)) two (subst (λ r. IsMostGeneralUnifier a.classes (all_equations r a.rule2 o.matching.items)) one a.solves)
+      mine = subst (λ r. IsMostGeneralUnifier a.classes (all_equations b.rule1 r o.matching.items)) two
+          (subst (λ r. IsMostGeneralUnifier a.classes (all_equations r a.rule2 o.matching.items)) one a.solves)
 
       classes : a.classes ≡ b.classes
       classes = one_classes b.rule1 b.rule2 a.classes b.classes mine b.solves
 
 -- ---- by each coverage
 
-pub one_cases_by : (coverage : Coverage) (rules : List Rule) (o : Overlap) (cs ds : List Case) → AreCasesBy coverage rules o cs → AreCasesBy coverage rules o ds → cs ≡ ds
+pub one_cases_by : (coverage : Coverage) (rules : List Rule) (o : Overlap) (cs ds : List Case)
+    → AreCasesBy coverage rules o cs → AreCasesBy coverage rules o ds → cs ≡ ds
 one_cases_by Joint rules o cs ds a b = one_cases rules o cs ds a b
-one_cases_by Sorted rules o cs ds a b = one_sorted a.0 rules a.1 o cs ds a.2 (finest_have_one_cases rules b.0 a.0 b.1 a.1 o ds b.2)
+one_cases_by Sorted rules o cs ds a b = one_sorted a.0 rules a.1 o cs ds a.2
+    (finest_have_one_cases rules b.0 a.0 b.1 a.1 o ds b.2)
 
-pub cases_or_many_by : (coverage : Coverage) (rules : List Rule) (o : Overlap) (cs : List Case) (n : ℕ) → AreCasesBy coverage rules o cs → IsTooManyBy coverage rules o n → ⊥
+pub cases_or_many_by : (coverage : Coverage) (rules : List Rule) (o : Overlap) (cs : List Case) (n : ℕ)
+    → AreCasesBy coverage rules o cs → IsTooManyBy coverage rules o n → ⊥
 cases_or_many_by Joint rules o cs n a b = cases_or_many rules o cs n a b
-cases_or_many_by Sorted rules o cs n a b = sorted_or_many a.0 rules a.1 o cs n a.2 (finest_have_as_many rules b.0 a.0 b.1 a.1 o n b.2)
+cases_or_many_by Sorted rules o cs n a b = sorted_or_many a.0 rules a.1 o cs n a.2
+    (finest_have_as_many rules b.0 a.0 b.1 a.1 o n b.2)
 
-pub one_number_by : (coverage : Coverage) (rules : List Rule) (o : Overlap) (n m : ℕ) → IsTooManyBy coverage rules o n → IsTooManyBy coverage rules o m → n ≡ m
+pub one_number_by : (coverage : Coverage) (rules : List Rule) (o : Overlap) (n m : ℕ) → IsTooManyBy coverage rules o n
+    → IsTooManyBy coverage rules o m → n ≡ m
 one_number_by Joint rules o n m a b = one_number rules o n m a b
-one_number_by Sorted rules o n m a b = one_sorted_number a.0 rules a.1 o n m a.2 (finest_have_as_many rules b.0 a.0 b.1 a.1 o m b.2)
+one_number_by Sorted rules o n m a b = one_sorted_number a.0 rules a.1 o n m a.2
+    (finest_have_as_many rules b.0 a.0 b.1 a.1 o m b.2)

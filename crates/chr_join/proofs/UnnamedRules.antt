@@ -1,6 +1,7 @@
 -- Rules without their names. No instance, step, overlap or constant of a rule hangs on its name.
 --     unnamed r        the rule r without its name
-use Rattle.std.specs.Prelude.{◌≡◌, ℕ, zero, suc, ℤ, true, ◌&&◌, nat_le, List, [], ◌∷◌, ◌++◌, map, length, None, Some, option_map, slice_get}
+use Rattle.std.specs.Prelude.{◌≡◌, ℕ, zero, suc, ℤ, true, ◌&&◌, nat_le, List, [], ◌∷◌, ◌++◌, map, length, None, Some}
+use Rattle.std.specs.Prelude.{option_map, slice_get}
 use Rattle.std.proofs.Common.{refl, sym, ap, subst, ◌∙◌, arith}
 use Rattle.std.proofs.lemmas.Bool.{and_from, and_parts}
 use Rattle.std.proofs.lemmas.Option.{none-some, same_Some, slice_get-map}
@@ -29,7 +30,8 @@ bounds r =
     and_from _ _ (and_from _ _ guard body) (valued_rule r)
 
 abbrev pub unnamed : Rule → Rule
-unnamed r = record { name = None; kept = r.kept; removed = r.removed; guard = r.guard; body = r.body; well_formed = r.well_formed; bounded = bounds r }
+unnamed r = record { name = None; kept = r.kept; removed = r.removed; guard = r.guard; body = r.body; well_formed =
+    r.well_formed; bounded = bounds r }
 
 -- the parts of a rule but for its name, and what it keeps of them
 record UnnamedParts : Type 0 where
@@ -39,18 +41,21 @@ record UnnamedParts : Type 0 where
   body : List Pattern
 
 abbrev Keeps : UnnamedParts → Type 0
-Keeps p = (is_rule p.kept p.removed p.guard p.body ≡ true) × (is_in_bounds None (p.kept ++ p.removed) p.guard p.body ≡ true)
+Keeps p = (is_rule p.kept p.removed p.guard p.body ≡ true)
+    × (is_in_bounds None (p.kept ++ p.removed) p.guard p.body ≡ true)
 
 Keeps-prop : (p : UnnamedParts) → IsProp (Keeps p)
 Keeps-prop p = hlevel Bool-set
 
 abbrev unnamed_parts : Rule → (p : UnnamedParts) × Keeps p
-unnamed_parts r = (record { kept = r.kept.items; removed = r.removed.items; guard = r.guard.items; body = r.body.items }, (r.well_formed, bounds r))
+unnamed_parts r = (record { kept = r.kept.items; removed = r.removed.items; guard = r.guard.items; body =
+    r.body.items }, (r.well_formed, bounds r))
 
 -- rules of one meaning are one without their names
 pub one_unnamed : (r s : Rule) → parts_of r ≡ parts_of s → unnamed r ≡ unnamed s
 one_unnamed r s e =
-    let parts : (unnamed_parts r).0 ≡ (unnamed_parts s).0 = λ i. record { kept = (e i).kept; removed = (e i).removed; guard = (e i).guard; body = (e i).body } in
+    let parts : (unnamed_parts r).0 ≡ (unnamed_parts s).0 =
+        λ i. record { kept = (e i).kept; removed = (e i).removed; guard = (e i).guard; body = (e i).body } in
     let pairs : unnamed_parts r ≡ unnamed_parts s = Σ_prop_path Keeps-prop parts in
     λ i. record {
       name = None;
@@ -81,10 +86,12 @@ all_unnamed (r ∷ rs) (s ∷ ss) e =
 
 -- ---- places
 
-pub at_unnamed : (rules : List Rule) (i : ℕ) (r : Rule) → slice_get rules i ≡ Some r → slice_get (map unnamed rules) i ≡ Some (unnamed r)
+pub at_unnamed : (rules : List Rule) (i : ℕ) (r : Rule) → slice_get rules i ≡ Some r → slice_get (map unnamed rules) i
+    ≡ Some (unnamed r)
 at_unnamed rules i r h = slice_get-map unnamed rules i ∙ ap (option_map unnamed) h
 
-pub from_unnamed : (rules : List Rule) (i : ℕ) (x : Rule) → slice_get (map unnamed rules) i ≡ Some x → (r : Rule) × (slice_get rules i ≡ Some r) × (unnamed r ≡ x)
+pub from_unnamed : (rules : List Rule) (i : ℕ) (x : Rule) → slice_get (map unnamed rules) i ≡ Some x → (r : Rule)
+    × (slice_get rules i ≡ Some r) × (unnamed r ≡ x)
 from_unnamed [] i x h = absurd (none-some x h)
 from_unnamed (r ∷ rules) zero x h = (r, refl, same_Some (unnamed r) x h)
 from_unnamed (r ∷ rules) (suc i) x h = from_unnamed rules i x h
@@ -101,16 +108,19 @@ step_unnamed : (rules : List Rule) (s t : Store) → Step rules s t → Step (ma
 step_unnamed rules s t h = (h.0, unnamed h.1, h.2, at_unnamed rules h.0 h.1 h.3, by_unnamed h.1 h.2 s t h.4)
 
 step_named : (rules : List Rule) (s t : Store) → Step (map unnamed rules) s t → Step rules s t
-step_named rules s t h = let r = from_unnamed rules h.0 h.1 h.3 in (h.0, r.0, h.2, r.1, by_named r.0 h.2 s t (subst (λ x. StepBy x h.2 s t) (sym r.2) h.4))
+step_named rules s t h = let r = from_unnamed rules h.0 h.1 h.3 in
+    (h.0, r.0, h.2, r.1, by_named r.0 h.2 s t (subst (λ x. StepBy x h.2 s t) (sym r.2) h.4))
 
-runs_unnamed : (rules : List Rule) (n : ℕ) (s t : Store) → Runs (Step rules) n s t → Runs (Step (map unnamed rules)) n s t
+runs_unnamed : (rules : List Rule) (n : ℕ) (s t : Store) → Runs (Step rules) n s t
+    → Runs (Step (map unnamed rules)) n s t
 runs_unnamed rules zero s t h = h
 runs_unnamed rules (suc n) s t h = (h.0, step_unnamed rules s h.0 h.1, runs_unnamed rules n h.0 t h.2)
 
 pub rest_unnamed : (rules : List Rule) (t : Store) → IsAtRest (Step rules) t → IsAtRest (Step (map unnamed rules)) t
 rest_unnamed rules t h u step = h u (step_named rules t u step)
 
-pub normal_unnamed : (rules : List Rule) (s t : Store) → IsNormalForm (Step rules) s t → IsNormalForm (Step (map unnamed rules)) s t
+pub normal_unnamed : (rules : List Rule) (s t : Store) → IsNormalForm (Step rules) s t
+    → IsNormalForm (Step (map unnamed rules)) s t
 normal_unnamed rules s t h = ((h.0.0, runs_unnamed rules h.0.0 s t h.0.1), rest_unnamed rules t h.1)
 
 -- ---- overlaps and constants
@@ -121,7 +131,8 @@ matching_unnamed r1 r2 m h = record { symbols = h.symbols; apart = h.apart; touc
 matching_named : (r1 r2 : Rule) (m : List ℕ) → IsMatching (unnamed r1) (unnamed r2) m → IsMatching r1 r2 m
 matching_named r1 r2 m h = record { symbols = h.symbols; apart = h.apart; touching = h.touching }
 
-pub overlap_unnamed : (rules : List Rule) (i j : ℕ) (m : List ℕ) → IsOverlap rules i j m → IsOverlap (map unnamed rules) i j m
+pub overlap_unnamed : (rules : List Rule) (i j : ℕ) (m : List ℕ) → IsOverlap rules i j m
+    → IsOverlap (map unnamed rules) i j m
 overlap_unnamed rules i j m h = record {
   rule1 = unnamed h.rule1;
   rule2 = unnamed h.rule2;
@@ -131,7 +142,8 @@ overlap_unnamed rules i j m h = record {
   matching = matching_unnamed h.rule1 h.rule2 m h.matching;
 }
 
-pub overlap_named : (rules : List Rule) (i j : ℕ) (m : List ℕ) → IsOverlap (map unnamed rules) i j m → IsOverlap rules i j m
+pub overlap_named : (rules : List Rule) (i j : ℕ) (m : List ℕ) → IsOverlap (map unnamed rules) i j m
+    → IsOverlap rules i j m
 overlap_named rules i j m h =
     let r = from_unnamed rules i h.rule1 h.first in
     let s = from_unnamed rules j h.rule2 h.second in
@@ -141,14 +153,17 @@ overlap_named rules i j m h =
       first = r.1;
       second = s.1;
       ordered = h.ordered;
-      matching = matching_named r.0 s.0 m (subst (λ x. IsMatching (unnamed r.0) x m) (sym s.2) (subst (λ x. IsMatching x h.rule2 m) (sym r.2) h.matching));
+      matching = matching_named r.0 s.0 m (subst (λ x. IsMatching (unnamed r.0) x m) (sym s.2)
+          (subst (λ x. IsMatching x h.rule2 m) (sym r.2) h.matching));
     }
 
 constant_unnamed : (rules : List Rule) (c : ℤ) → IsConstantOf rules c → IsConstantOf (map unnamed rules) c
 constant_unnamed rules c h = (h.0, unnamed h.1, at_unnamed rules h.0 h.1 h.2, h.3)
 
 constant_named : (rules : List Rule) (c : ℤ) → IsConstantOf (map unnamed rules) c → IsConstantOf rules c
-constant_named rules c h = let r = from_unnamed rules h.0 h.1 h.2 in (h.0, r.0, r.1, subst (λ x. HasConstant x c) (sym r.2) h.3)
+constant_named rules c h = let r = from_unnamed rules h.0 h.1 h.2 in
+    (h.0, r.0, r.1, subst (λ x. HasConstant x c) (sym r.2) h.3)
 
 pub constants_unnamed : (rules : List Rule) (cs : List ℤ) → AreConstants rules cs → AreConstants (map unnamed rules) cs
-constants_unnamed rules cs h = record { rise = h.rise; stand = λ c i. constant_unnamed rules c (h.stand c i); all = λ c k. h.all c (constant_named rules c k) }
+constants_unnamed rules cs h = record { rise = h.rise; stand = λ c i. constant_unnamed rules c (h.stand c i); all =
+    λ c k. h.all c (constant_named rules c k) }

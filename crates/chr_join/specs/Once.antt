@@ -46,7 +46,8 @@ AcceptedOnce =
 -- Rules that are refused have one cause, but for want of memory.
 abbrev pub RefusedOnce : Type 0
 RefusedOnce =
-    (coverage : Coverage) (rules : List Rule) (e g : Cause) → IsRefusalBy coverage rules e → IsRefusalBy coverage rules g
+    (coverage : Coverage) (rules : List Rule) (e g : Cause) → IsRefusalBy coverage rules e
+        → IsRefusalBy coverage rules g
     → ¬ (e ≡ cause.Memory) → ¬ (g ≡ cause.Memory) → SameRefusal e g
 
 -- Accepted rules are refused for want of memory alone.

@@ -27,12 +27,14 @@ TellsValues s = HasValues (told_store s.operations)
 
 first_values : (s t u : Store) → u ≡ s ⊕ t → HasValues u → HasValues s
 first_values s t u is h =
-    each_within (args_in is_value) s (s ⊕ t) (λ q. (let e = count_plus s t q in omega (arith, e))) (subst HasValues is h)
+    each_within (args_in is_value) s (s ⊕ t) (λ q. (let e = count_plus s t q in omega (arith, e)))
+        (subst HasValues is h)
 
 same_values : (s t : Replica) → t.operations ≡ s.operations → TellsValues t → TellsValues s
 same_values s t same h = subst (λ m. HasValues (told_store m)) same h
 
-does_values : (p : Program) (s : Replica) (a : Act) (x : Reply) (t : Replica) → Does p s a x t → TellsValues t → TellsValues s
+does_values : (p : Program) (s : Replica) (a : Act) (x : Reply) (t : Replica) → Does p s a x t → TellsValues t
+    → TellsValues s
 does_values p s a (reply.Refused r) t h v = same_values s t (ap (λ r. r.operations) h.2) v
 does_values p s (act.Tell op) (reply.Told added.New) t h v =
     first_values (told_store s.operations) op.1 (told_store t.operations)
@@ -43,7 +45,8 @@ does_values p s (act.Merge ops) (reply.Merged n) t h v =
     (ap (λ r. told_store r.operations) h.after ∙ told_store-union s.operations ops) v
 does_values p s (act.Step step) reply.Stepped t h v = same_values s t (ap (λ r. r.operations) h.after) v
 does_values p s (act.Take part) (reply.Leased lease) t h v = same_values s t (ap (λ r. r.operations) h.1.after) v
-does_values p s (act.TakeParts n) (reply.LeasedParts leases) t h v = same_values s t (ap (λ r. r.operations) h.1.after) v
+does_values p s (act.TakeParts n) (reply.LeasedParts leases) t h v =
+    same_values s t (ap (λ r. r.operations) h.1.after) v
 does_values p s (act.Put done) reply.WasPut t h v = same_values s t (ap (λ r. r.operations) h.after) v
 does_values p s (act.Recall number) reply.Recalled t h v = same_values s t (ap (λ r. r.operations) h.after) v
 does_values p s act.Settle (reply.Settled n) t h v = same_values s t (ap (λ r. r.operations) h.0.after) v
@@ -55,7 +58,8 @@ does_values p s act.LeastLease (reply.LeastLease number) t h v = same_values s t
 does_values p s _ _ t h v = absurd h
 
 -- of the replica at the beginning of entries, where that at their end has
-pub leads_values : (p : Program) (before : List Entry) (s : Replica) (es : List Entry) (t : Replica) → Leads p before s es t → TellsValues t → TellsValues s
+pub leads_values : (p : Program) (before : List Entry) (s : Replica) (es : List Entry) (t : Replica)
+    → Leads p before s es t → TellsValues t → TellsValues s
 leads_values p before s [] t h v = subst TellsValues h v
 leads_values p before s (e ∷ es) t h v =
     does_values p s e.act e.reply h.0 h.2 (leads_values p (before ++ e ∷ []) h.0 es t h.3 v)

@@ -12,5 +12,6 @@ from_others (w ∷ r ∷ d ∷ []) two three four = absurd (three refl)
 from_others (w ∷ r ∷ d ∷ e ∷ []) two three four = absurd (four refl)
 from_others (w ∷ r ∷ d ∷ e ∷ f ∷ ds) two three four = refl
 
-pub of_others : (v : Data) (ds : List Data) → elements v ≡ Some ds → ¬ (length ds ≡ 2) → ¬ (length ds ≡ 3) → ¬ (length ds ≡ 4) → command_of v ≡ None
+pub of_others : (v : Data) (ds : List Data) → elements v ≡ Some ds → ¬ (length ds ≡ 2) → ¬ (length ds ≡ 3)
+    → ¬ (length ds ≡ 4) → command_of v ≡ None
 of_others v ds is two three four = ap (option_and_then command_from) is ∙ from_others ds two three four

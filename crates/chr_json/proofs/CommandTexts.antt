@@ -1,5 +1,6 @@
 -- A line with a command's own text says that command.
-use Rattle.std.proofs.Common.{◌≡◌, ℕ, ℤ, max, ◌≤◌, ◌<◌, ◌^◌, pos, negsuc, List, [], ◌∷◌, map, Some, refl, ap, subst, ◌∙◌, arith, FitsSigned, Ok, Err, cond, length, le-leb}
+use Rattle.std.proofs.Common.{◌≡◌, ℕ, ℤ, max, ◌≤◌, ◌<◌, ◌^◌, pos, negsuc, List, [], ◌∷◌, map, Some, refl, ap, subst}
+use Rattle.std.proofs.Common.{◌∙◌, arith, FitsSigned, Ok, Err, cond, length, le-leb}
 use Rattle.std.specs.Int.{w64}
 use Rattle.std.specs.List.{AllByRecursion}
 use Rattle.std.specs.Option.{ok_or}
@@ -38,7 +39,8 @@ plain_atoms : (ws : List NamedAtom) → AllByRecursion ArgumentsFit ws → ArePl
 plain_atoms [] h = tt
 plain_atoms (w ∷ ws) h = ((tt, plain_arguments w.args h.0), plain_atoms ws h.1)
 
-plain_tell : (r o n : ℕ) (ws : List NamedAtom) → IsWithinTextLimits (tell r o n ws) → IsPlain (command_data (tell r o n ws))
+plain_tell : (r o n : ℕ) (ws : List NamedAtom) → IsWithinTextLimits (tell r o n ws)
+    → IsPlain (command_data (tell r o n ws))
 plain_tell r o n ws h =
     let origin : o < 2 ^ 64 = omega (arith, h.0.0) in (tt, (h.1.0, ((origin, (h.1.1, tt)), (plain_atoms ws h.0.2, tt))))
 
@@ -60,29 +62,36 @@ version_writable : (v : DeltaVersion) → AllByRecursion (IsWritable 7) (version
 version_writable version.One = (natural_writable 7 1 (omega arith), tt)
 version_writable version.Two = tt
 
-words_writable : (s : Said) (ds : List Data) → IsUtf8 (word_of s) → AllByRecursion (IsWritable 7) ds → IsWritable 8 (array_data (string (word_of s) ∷ ds))
+words_writable : (s : Said) (ds : List Data) → IsUtf8 (word_of s) → AllByRecursion (IsWritable 7) ds
+    → IsWritable 8 (array_data (string (word_of s) ∷ ds))
 words_writable s ds word h = array_writable 7 (string (word_of s) ∷ ds) (name_writable 7 (word_of s) word, h)
 
-writable_command : (s : Said) → IsWritable 8 (command_data s) → read (compact_text (command_data s)) ≡ Some (command_data s)
+writable_command : (s : Said) → IsWritable 8 (command_data s) → read (compact_text (command_data s))
+    ≡ Some (command_data s)
 writable_command s h = texts_read (command_data s) h.plain (omega (arith, h.shallow))
 
 -- a command's text is read as its value
 command_text_read : (s : Said) → IsWithinTextLimits s → read (compact_text (command_data s)) ≡ Some (command_data s)
-command_text_read (tell r o n ws) h = texts_read (command_data (tell r o n ws)) (plain_tell r o n ws h) (tell_depth r o n ws)
+command_text_read (tell r o n ws) h = texts_read (command_data (tell r o n ws)) (plain_tell r o n ws h)
+    (tell_depth r o n ws)
 command_text_read (show r) h =
-    writable_command (show r) (words_writable (show r) (said_data (show r)) (IsUtf8-are_ascii _ refl) (natural_writable 7 r h.1, tt))
+    writable_command (show r) (words_writable (show r) (said_data (show r)) (IsUtf8-are_ascii _ refl)
+        (natural_writable 7 r h.1, tt))
 command_text_read (summary r) h =
-    writable_command (summary r) (words_writable (summary r) (said_data (summary r)) (IsUtf8-are_ascii _ refl) (natural_writable 7 r h.1, tt))
+    writable_command (summary r) (words_writable (summary r) (said_data (summary r)) (IsUtf8-are_ascii _ refl)
+        (natural_writable 7 r h.1, tt))
 command_text_read (sync a b) h =
     writable_command (sync a b)
-    (words_writable (sync a b) (said_data (sync a b)) (IsUtf8-are_ascii _ refl) (natural_writable 7 a h.1.0, (natural_writable 7 b h.1.1, tt)))
+    (words_writable (sync a b) (said_data (sync a b)) (IsUtf8-are_ascii _ refl)
+        (natural_writable 7 a h.1.0, (natural_writable 7 b h.1.1, tt)))
 command_text_read (lacks r rs v) h =
     writable_command (lacks r rs v)
     (words_writable (lacks r rs v) (said_data (lacks r rs v)) (IsUtf8-are_ascii _ refl)
     (natural_writable 7 r h.1, (deeper 4 7 _ (omega arith) (summary_writable rs h.0), version_writable v)))
 command_text_read (merge r os) h =
     writable_command (merge r os)
-    (words_writable (merge r os) (said_data (merge r os)) (IsUtf8-are_ascii _ refl) (natural_writable 7 r h.1, (delta_2_writable os h.0, tt)))
+    (words_writable (merge r os) (said_data (merge r os)) (IsUtf8-are_ascii _ refl)
+        (natural_writable 7 r h.1, (delta_2_writable os h.0, tt)))
 
 -- ---- so a line of this text says the command
 
@@ -94,6 +103,7 @@ texts_are_said s h utf8 within =
     ∙ ap (λ o. ok_or o fault.Shape) (commands_back s h.0)
 
 -- also where the line is known to be this text
-pub line_is_said : (line : List ℕ) (s : Said) → line ≡ command_text s → IsWithinTextLimits s → IsUtf8 line → length line ≤ MAX_LINE → line_said line ≡ Ok s
+pub line_is_said : (line : List ℕ) (s : Said) → line ≡ command_text s → IsWithinTextLimits s → IsUtf8 line
+    → length line ≤ MAX_LINE → line_said line ≡ Ok s
 line_is_said line s is h utf8 within =
     ap line_said is ∙ texts_are_said s h (subst IsUtf8 is utf8) (subst (λ l. length l ≤ MAX_LINE) is within)

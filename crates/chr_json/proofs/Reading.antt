@@ -1,5 +1,6 @@
 -- The compact text of a value of arrays, texts and whole numbers is read as that value.
-use Rattle.std.proofs.Common.{◌≡◌, suc, max, ◌≤◌, ◌<◌, ◌^◌, pos, negsuc, List, [], Option, Some, refl, sym, ap, ◌∙◌, append-nil, arith}
+use Rattle.std.proofs.Common.{◌≡◌, suc, max, ◌≤◌, ◌<◌, ◌^◌, pos, negsuc, List, [], Option, Some, refl, sym, ap, ◌∙◌}
+use Rattle.std.proofs.Common.{append-nil, arith}
 use Rattle.std.specs.Prelude.{option_map, option_and_then, ⊤}
 use Rattle.json.specs.Json as json
 use Rattle.json.specs.Tree as tree
@@ -9,7 +10,8 @@ use Rattle.json.specs.Lex.{tokens}
 use Rattle.json.proofs.Printed.Tokens.{tokens-print}
 use Rattle.json.proofs.Printed.Trees.{ArePrintable-json_tokens, value-json_tokens}
 use Rattle.json.specs.Token.{Token}
-use Rattle.serde_json.specs.Data.{Num, unsigned, negative, float, Data, null, boolean, number, string, array, object, Items, no_items, item, depth, items_depth}
+use Rattle.serde_json.specs.Data.{Num, unsigned, negative, float, Data, null, boolean, number, string, array, object}
+use Rattle.serde_json.specs.Data.{Items, no_items, item, depth, items_depth}
 use Rattle.serde_json.specs.Read.{number_of, of_json, of_items, max_depth, read}
 use Rattle.serde_json.specs.Written.{number_text, outline, items_outline, compact_text}
 use Rattle.serde_json.proofs.Numbers.{number_of-decimal, number_of-negative}
@@ -61,7 +63,8 @@ mutual
 
   items_back : (ds : Items) → ArePlain ds → of_items (items_outline ds) ≡ Some ds
   items_back no_items h = refl
-  items_back (item d ds) h = ap (option_and_then (λ e. option_map (item e) (of_items (items_outline ds)))) (value_back d h.0) ∙ ap (option_map (item d)) (items_back ds h.1)
+  items_back (item d ds) h = ap (option_and_then (λ e. option_map (item e) (of_items (items_outline ds))))
+      (value_back d h.0) ∙ ap (option_map (item d)) (items_back ds h.1)
 
 mutual
   value_numbers : (d : Data) → IsPlain d → tree.HasNumbers (outline d)
@@ -97,5 +100,7 @@ pub texts_read : (d : Data) → IsPlain d → depth d ≤ max_depth → read (co
 texts_read d plain shallow =
     let deep : tree.depth (outline d) ≤ max_depth = (let e = value_depth d plain in omega (arith, e, shallow)) in
     let lexed : tokens (compact_text d) ≡ tree.json_tokens (outline d) =
-    ap tokens (sym (print-outline d)) ∙ tokens-print (tree.json_tokens (outline d)) (ArePrintable-json_tokens (outline d) (value_numbers d plain)) in
-    ap whole (ap (json.value max_depth) (lexed ∙ sym (append-nil (tree.json_tokens (outline d)))) ∙ value-json_tokens (outline d) max_depth [] deep) ∙ value_back d plain
+    ap tokens (sym (print-outline d)) ∙ tokens-print (tree.json_tokens (outline d))
+        (ArePrintable-json_tokens (outline d) (value_numbers d plain)) in
+    ap whole (ap (json.value max_depth) (lexed ∙ sym (append-nil (tree.json_tokens (outline d))))
+        ∙ value-json_tokens (outline d) max_depth [] deep) ∙ value_back d plain

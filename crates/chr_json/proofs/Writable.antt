@@ -1,5 +1,7 @@
--- Values whose compact texts are read again: of arrays, of texts in UTF-8 and of whole numbers of 64 bits, so many deep.
-use Rattle.std.proofs.Common.{◌≡◌, ℕ, ℤ, true, false, suc, ◌≤◌, ◌<◌, ◌^◌, pos, negsuc, List, [], ◌∷◌, ◌++◌, map, Some, refl, arith, FitsSigned}
+-- Values whose compact texts are read again: of arrays, of texts in UTF-8 and of whole numbers of 64 bits, so many
+-- deep.
+use Rattle.std.proofs.Common.{◌≡◌, ℕ, ℤ, true, false, suc, ◌≤◌, ◌<◌, ◌^◌, pos, negsuc, List, [], ◌∷◌, ◌++◌, map, Some}
+use Rattle.std.proofs.Common.{refl, arith, FitsSigned}
 use Rattle.std.specs.Int.{w64}
 use Rattle.std.specs.List.{AllByRecursion}
 use Rattle.std.specs.Str.{IsUtf8}
@@ -47,7 +49,8 @@ comma = IsUtf8-are_ascii (44 ∷ []) refl
 later_utf8 : (k : ℕ) (ds : List Data) → AllByRecursion (IsWritable k) ds → IsUtf8 (items_text true (items_of ds))
 later_utf8 k [] h = IsUtf8-are_ascii (93 ∷ []) refl
 later_utf8 k (d ∷ ds) h =
-    IsUtf8-append (44 ∷ []) (compact_text d ++ items_text true (items_of ds)) comma (IsUtf8-append (compact_text d) (items_text true (items_of ds)) h.0.utf8 (later_utf8 k ds h.1))
+    IsUtf8-append (44 ∷ []) (compact_text d ++ items_text true (items_of ds)) comma
+        (IsUtf8-append (compact_text d) (items_text true (items_of ds)) h.0.utf8 (later_utf8 k ds h.1))
 
 items_utf8 : (k : ℕ) (ds : List Data) → AllByRecursion (IsWritable k) ds → IsUtf8 (items_text false (items_of ds))
 items_utf8 k [] h = IsUtf8-are_ascii (93 ∷ []) refl
@@ -61,11 +64,13 @@ array_writable k ds h = record {
 }
 
 -- what is written of each
-pub each_writable : {A : Type 0} (k : ℕ) (P : A → Type 0) (f : A → Data) → ((x : A) → P x → IsWritable k (f x)) → (xs : List A) → AllByRecursion P xs → AllByRecursion (IsWritable k) (map f xs)
+pub each_writable : {A : Type 0} (k : ℕ) (P : A → Type 0) (f : A → Data) → ((x : A) → P x → IsWritable k (f x))
+    → (xs : List A) → AllByRecursion P xs → AllByRecursion (IsWritable k) (map f xs)
 each_writable k P f one [] h = tt
 each_writable k P f one (x ∷ xs) h = (one x h.0, each_writable k P f one xs h.1)
 
-pub mapped_writable : {A : Type 0} (k : ℕ) (P : A → Type 0) (f : A → Data) → ((x : A) → P x → IsWritable k (f x)) → (xs : List A) → AllByRecursion P xs → IsWritable (suc k) (array_data (map f xs))
+pub mapped_writable : {A : Type 0} (k : ℕ) (P : A → Type 0) (f : A → Data) → ((x : A) → P x → IsWritable k (f x))
+    → (xs : List A) → AllByRecursion P xs → IsWritable (suc k) (array_data (map f xs))
 mapped_writable k P f one xs h = array_writable k (map f xs) (each_writable k P f one xs h)
 
 -- ---- numbers, names and atoms
@@ -81,7 +86,8 @@ argument_writable k (negsuc n) h =
     record {
       plain = omega (arith, fits);
       shallow = omega arith;
-      utf8 = IsUtf8-append (45 ∷ []) _ (IsUtf8-are_ascii (45 ∷ []) refl) (IsUtf8-from_ascii _ (IsAscii-decimal (suc n) small));
+      utf8 = IsUtf8-append (45 ∷ []) _ (IsUtf8-are_ascii (45 ∷ []) refl)
+          (IsUtf8-from_ascii _ (IsAscii-decimal (suc n) small));
     }
 
 pub name_writable : (k : ℕ) (name : List ℕ) → IsUtf8 name → IsWritable k (string name)
@@ -91,11 +97,15 @@ abbrev IsAtomWithinLimits : NamedAtom → Type 0
 IsAtomWithinLimits w = IsUtf8 w.name × ArgumentsFit w
 
 atom_writable : (w : NamedAtom) → IsAtomWithinLimits w → IsWritable 1 (atom_data w)
-atom_writable w h = array_writable 0 (string w.name ∷ map argument_data w.args) (name_writable 0 w.name h.0, each_writable 0 (FitsSigned w64) argument_data (argument_writable 0) w.args h.1)
+atom_writable w h = array_writable 0 (string w.name ∷ map argument_data w.args)
+    (name_writable 0 w.name h.0, each_writable 0 (FitsSigned w64) argument_data (argument_writable 0) w.args h.1)
 
-both : {A : Type 0} (P Q : A → Type 0) (xs : List A) → AllByRecursion P xs → AllByRecursion Q xs → AllByRecursion (λ x. P x × Q x) xs
+both : {A : Type 0} (P Q : A → Type 0) (xs : List A) → AllByRecursion P xs → AllByRecursion Q xs
+    → AllByRecursion (λ x. P x × Q x) xs
 both P Q [] h g = tt
 both P Q (x ∷ xs) h g = ((h.0, g.0), both P Q xs h.1 g.1)
 
-pub atoms_writable : (ws : List NamedAtom) → AllByRecursion (λ w. IsUtf8 w.name) ws → AllByRecursion ArgumentsFit ws → IsWritable 2 (atoms_data ws)
-atoms_writable ws names args = mapped_writable 1 IsAtomWithinLimits atom_data atom_writable ws (both (λ w. IsUtf8 w.name) ArgumentsFit ws names args)
+pub atoms_writable : (ws : List NamedAtom) → AllByRecursion (λ w. IsUtf8 w.name) ws → AllByRecursion ArgumentsFit ws
+    → IsWritable 2 (atoms_data ws)
+atoms_writable ws names args = mapped_writable 1 IsAtomWithinLimits atom_data atom_writable ws
+    (both (λ w. IsUtf8 w.name) ArgumentsFit ws names args)

@@ -1,5 +1,6 @@
 -- Atoms and ids over JSON values, by their shape alone.
-use Rattle.std.specs.Prelude.{ℕ, ℤ, List, [], ◌∷◌, length, ◌≤◌, nat_le, ◌&&◌, if◌then◌else◌, Option, None, option_map, option_and_then}
+use Rattle.std.specs.Prelude.{ℕ, ℤ, List, [], ◌∷◌, length, ◌≤◌, nat_le, ◌&&◌, if◌then◌else◌, Option, None, option_map}
+use Rattle.std.specs.Prelude.{option_and_then}
 use Rattle.serde_json.specs.Data.{Data}
 use Rattle.serde_json.specs.Find.{as_str}
 use Rattle.chr_base.specs.declared.limits.TheConstants.{MAX_OPERATION}

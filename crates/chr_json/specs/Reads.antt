@@ -1,5 +1,6 @@
 -- What a line says or why it is refused, and what the reader's answers mean.
-use Rattle.std.specs.Prelude.{◌≡◌, ℕ, ◌≤◌, List, All, map, if◌then◌else◌, Option, Some, None, Result, Ok, Err, vec_len, ⊤}
+use Rattle.std.specs.Prelude.{◌≡◌, ℕ, ◌≤◌, List, All, map, if◌then◌else◌, Option, Some, None, Result, Ok, Err, vec_len}
+use Rattle.std.specs.Prelude.{⊤}
 use Rattle.std.specs.Cow.{cow_str_bytes}
 use Rattle.std.specs.Option.{ok_or}
 use Rattle.serde_json.specs.Data.{Data}

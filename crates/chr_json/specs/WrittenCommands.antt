@@ -7,7 +7,8 @@ use Rattle.chr_json.specs.declared.command.DeltaVersion.TheVariants as version
 use Rattle.chr_json.specs.NamedAtoms.{IsOperationLength}
 use Rattle.chr_json.specs.Commands.{Said, show, tell, sync, summary, lacks, merge, command_of}
 use Rattle.chr_json.specs.Printed.{natural_data, atoms_data, id_data, ArgumentsFit}
-use Rattle.chr_json.specs.Messages.{array_data, summary_data, delta_2_data, IsRangeWithinLimits, IsOperationWithinLimits}
+use Rattle.chr_json.specs.Messages.{array_data, summary_data, delta_2_data, IsRangeWithinLimits}
+use Rattle.chr_json.specs.Messages.{IsOperationWithinLimits}
 
 -- version 2 is asked for by saying nothing
 abbrev pub version_data : DeltaVersion → List Data

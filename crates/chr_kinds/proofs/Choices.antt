@@ -1,5 +1,6 @@
 -- One value more among rising ones, and one choice more in the search.
-use Rattle.std.specs.Prelude.{◌≡◌, ℕ, zero, suc, ℤ, pos, ◌+◌, ◌-◌, ◌<◌, ◌≤◌, ◌<ℤ◌, ◌⊎◌, Bool, true, false, cond, List, [], ◌∷◌, ◌++◌, length, map, take, get_or, drop}
+use Rattle.std.specs.Prelude.{◌≡◌, ℕ, zero, suc, ℤ, pos, ◌+◌, ◌-◌, ◌<◌, ◌≤◌, ◌<ℤ◌, ◌⊎◌, Bool, true, false, cond, List}
+use Rattle.std.specs.Prelude.{[], ◌∷◌, ◌++◌, length, map, take, get_or, drop}
 use Rattle.std.specs.List.{flat_map}
 use Rattle.std.specs.Ordering.{int_eq}
 use Rattle.std.proofs.Common.{refl, sym, ap, ◌∙◌, inl, inr, arith}
@@ -37,10 +38,12 @@ never_less x l = absurd (omega (arith, ints, l))
 less_less : (x y z : ℤ) → x <ℤ y → y <ℤ z → x <ℤ z
 less_less x y z l m = omega (arith, ints, l, m)
 
-pub value_inserted : (v : ℤ) (ks new : List ℤ) → Rises ks → AreValues ks → Gathers (Constant v ∷ []) ks new → new ≡ inserted v ks
+pub value_inserted : (v : ℤ) (ks new : List ℤ) → Rises ks → AreValues ks → Gathers (Constant v ∷ []) ks new
+    → new ≡ inserted v ks
 value_inserted v ks new r values g =
     same_members {A = ℤ} (λ x y. x <ℤ y) never_less less_less new (inserted v ks) after.rise (inserted_rises v ks r)
-    (λ z i. inserted_in v z ks (elim (in_last (Constant z) (Constant v) (map Constant ks) (after.stand z i)) as (λ _. (z ≡ v) ⊎ In z ks) [
+    (λ z i. inserted_in v z ks (elim (in_last (Constant z) (Constant v) (map Constant ks) (after.stand z i)) as (λ _.
+        (z ≡ v) ⊎ In z ks) [
       | inl j ↦ inr (in_constants z ks j)
       | inr e ↦ inl (same_constant z v e)
     ]))
@@ -50,7 +53,8 @@ value_inserted v ks new r values g =
     ]))
   where
     after : AreConstantsIn (map Constant ks ++ Constant v ∷ []) new
-    after = g (map Constant ks) (record { rise = r; values = values; stand = λ c i. constant_in c ks i; all = λ c i. in_constants c ks i })
+    after = g (map Constant ks) (record { rise = r; values = values; stand = λ c i. constant_in c ks i; all =
+        λ c i. in_constants c ks i })
 
 -- ---- one choice more
 
@@ -58,9 +62,11 @@ value_inserted v ks new r values g =
 abbrev pub next_lists : ℕ → List ℤ → List ℤ → List ℤ → ℤ → List (List ℤ)
 next_lists left ks ns p z = going_on (lists_behind (left - 1)) ks ns p z
 
-by_choice : (left : ℕ) (ks ns p : List ℤ) → (left ≡ 0 → ⊥) → lists_behind left ks ns p ≡ flat_map (next_lists left ks ns p) (inserted (get_or ns 0 (pos 0)) ks)
+by_choice : (left : ℕ) (ks ns p : List ℤ) → (left ≡ 0 → ⊥) → lists_behind left ks ns p
+    ≡ flat_map (next_lists left ks ns p) (inserted (get_or ns 0 (pos 0)) ks)
 by_choice zero ks ns p n = absurd (n refl)
-by_choice (suc k) ks ns p n = ap (λ m. flat_map (going_on (lists_behind m) ks ns p) (inserted (get_or ns 0 (pos 0)) ks)) (less_one k)
+by_choice (suc k) ks ns p n = ap (λ m. flat_map (going_on (lists_behind m) ks ns p) (inserted (get_or ns 0 (pos 0)) ks))
+    (less_one k)
 
 no_same : (x y : ℤ) → (x ≡ y → ⊥) → int_eq x y ≡ false
 no_same x y n = by (int_eq x y) refl
@@ -70,27 +76,33 @@ no_same x y n = by (int_eq x y) refl
     by false e = e
 
 -- the next number goes on
-pub number_goes_on : (left : ℕ) (ks ns p more rest longer : List ℤ) (z n : ℤ) → n ≡ get_or ns 0 (pos 0) → z ≡ n → more ≡ inserted n ks → rest ≡ drop 1 ns → longer ≡ p ++ z ∷ []
+pub number_goes_on : (left : ℕ) (ks ns p more rest longer : List ℤ) (z n : ℤ) → n ≡ get_or ns 0 (pos 0) → z ≡ n
+    → more ≡ inserted n ks → rest ≡ drop 1 ns → longer ≡ p ++ z ∷ []
     → lists_behind (left - 1) more rest longer ≡ next_lists left ks ns p z
 number_goes_on left ks ns p more rest longer z n is same m r l =
     (λ i. lists_behind (left - 1) ((m ∙ ap (λ x. inserted x ks) is) i) (r i) (l i))
-    ∙ ap (λ b. cond b (lists_behind (left - 1) (inserted (get_or ns 0 (pos 0)) ks) (drop 1 ns) (p ++ z ∷ [])) (lists_behind (left - 1) ks ns (p ++ z ∷ []))) (sym (yes_same z (get_or ns 0 (pos 0)) (same ∙ is)))
+    ∙ ap (λ b. cond b (lists_behind (left - 1) (inserted (get_or ns 0 (pos 0)) ks) (drop 1 ns) (p ++ z ∷ []))
+        (lists_behind (left - 1) ks ns (p ++ z ∷ []))) (sym (yes_same z (get_or ns 0 (pos 0)) (same ∙ is)))
 
 -- another choice does
-pub choice_goes_on : (left : ℕ) (ks ns p longer : List ℤ) (z n : ℤ) → n ≡ get_or ns 0 (pos 0) → (z ≡ n → ⊥) → longer ≡ p ++ z ∷ []
+pub choice_goes_on : (left : ℕ) (ks ns p longer : List ℤ) (z n : ℤ) → n ≡ get_or ns 0 (pos 0) → (z ≡ n → ⊥) → longer ≡ p
+    ++ z ∷ []
     → lists_behind (left - 1) ks ns longer ≡ next_lists left ks ns p z
 choice_goes_on left ks ns p longer z n is other l =
     ap (lists_behind (left - 1) ks ns) l
-    ∙ ap (λ b. cond b (lists_behind (left - 1) (inserted (get_or ns 0 (pos 0)) ks) (drop 1 ns) (p ++ z ∷ [])) (lists_behind (left - 1) ks ns (p ++ z ∷ []))) (sym (no_same z (get_or ns 0 (pos 0)) (λ e. other (e ∙ sym is))))
+    ∙ ap (λ b. cond b (lists_behind (left - 1) (inserted (get_or ns 0 (pos 0)) ks) (drop 1 ns) (p ++ z ∷ []))
+        (lists_behind (left - 1) ks ns (p ++ z ∷ []))) (sym (no_same z (get_or ns 0 (pos 0)) (λ e. other (e ∙ sym is))))
 
 pub more_lists : (f : ℤ → List (List ℤ)) (old found new : List (List ℤ)) (ks : List ℤ) (i : ℕ) (d : ℤ)
     → i < length ks → found ≡ old ++ flat_map f (take i ks) → new ≡ found ++ f (get_or ks i d)
     → new ≡ old ++ flat_map f (take (i + 1) ks)
 more_lists f old found new ks i d l e n =
-    n ∙ ap (λ xs. xs ++ f (get_or ks i d)) e ∙ flat_map_more f old (take i ks) (get_or ks i d) ∙ ap (λ xs. old ++ flat_map f xs) (sym (take_more ks i d l))
+    n ∙ ap (λ xs. xs ++ f (get_or ks i d)) e ∙ flat_map_more f old (take i ks) (get_or ks i d)
+        ∙ ap (λ xs. old ++ flat_map f xs) (sym (take_more ks i d l))
 
 -- what there is, with the lists of one more choice, is no more than all of them
-pub no_more : (left : ℕ) (cs ns p : List ℤ) (old found : List (List ℤ)) (ks : List ℤ) (i : ℕ) (d : ℤ) → (left ≡ 0 → ⊥) → ks ≡ inserted (get_or ns 0 (pos 0)) cs
+pub no_more : (left : ℕ) (cs ns p : List ℤ) (old found : List (List ℤ)) (ks : List ℤ) (i : ℕ) (d : ℤ) → (left ≡ 0 → ⊥)
+    → ks ≡ inserted (get_or ns 0 (pos 0)) cs
     → i < length ks → found ≡ old ++ flat_map (next_lists left cs ns p) (take i ks)
     → length found + length (next_lists left cs ns p (get_or ks i d)) ≤ length old + length (lists_behind left cs ns p)
 no_more left cs ns p old found ks i d some is l e =
@@ -101,10 +113,12 @@ no_more left cs ns p old found ks i d some is l e =
     omega (arith, m, a, b)
 
 -- at the end what there is is all
-pub all_lists : (left i : ℕ) (cs ns p ks : List ℤ) (old found : List (List ℤ)) → (left ≡ 0 → ⊥) → ks ≡ inserted (get_or ns 0 (pos 0)) cs → length ks ≤ i
+pub all_lists : (left i : ℕ) (cs ns p ks : List ℤ) (old found : List (List ℤ)) → (left ≡ 0 → ⊥)
+    → ks ≡ inserted (get_or ns 0 (pos 0)) cs → length ks ≤ i
     → found ≡ old ++ flat_map (next_lists left cs ns p) (take i ks) → found ≡ old ++ lists_behind left cs ns p
 all_lists left i cs ns p ks old found some is l e =
-    e ∙ ap (λ xs. old ++ xs) (ap (flat_map (next_lists left cs ns p)) (take_all i ks l ∙ is) ∙ sym (by_choice left cs ns p some))
+    e ∙ ap (λ xs. old ++ xs) (ap (flat_map (next_lists left cs ns p)) (take_all i ks l ∙ is)
+        ∙ sym (by_choice left cs ns p some))
 
 -- ---- the numbers behind the next one
 

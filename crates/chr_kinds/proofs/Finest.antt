@@ -1,5 +1,6 @@
 -- What is gathered note by note are the finest sorts of the program.
-use Rattle.std.specs.Prelude.{◌≡◌, ℕ, zero, suc, ◌*◌, ◌/◌, ◌-◌, cond, ◌<◌, ◌≤◌, ℤ, Bool, true, false, nat_eq, nat_le, nat_lt, List, [], ◌∷◌, map, length, get_or, ◌&&◌, Some, slice_get}
+use Rattle.std.specs.Prelude.{◌≡◌, ℕ, zero, suc, ◌*◌, ◌/◌, ◌-◌, cond, ◌<◌, ◌≤◌, ℤ, Bool, true, false, nat_eq, nat_le}
+use Rattle.std.specs.Prelude.{nat_lt, List, [], ◌∷◌, map, length, get_or, ◌&&◌, Some, slice_get}
 use Rattle.std.specs.List.{All, flat_map, list_all}
 use mathlib.Core.Bool.{true≢false}
 use Rattle.std.proofs.Common.{refl, sym, ap, subst, ◌∙◌, arith, inl, inr}
@@ -26,19 +27,24 @@ use Rattle.chr_kinds.specs.declared.kind.Kind.TheVariants.{Free}
 use Rattle.chr_kinds.specs.declared.notes.Note.{Note}
 use Rattle.chr_kinds.specs.declared.notes.Note.TheVariants.{Joined, Stands, Compared}
 use Rattle.chr_kinds.specs.declared.sorting.Sorting.{Sorting}
-use Rattle.chr_kinds.specs.FinestSorts.{AreShort, AreFinest, AreAsFine, AreNamedByFirst, position_of, sort_in, kind_of, sorts_of}
-use Rattle.chr_kinds.specs.working.Notes.{IsBelow, Joins, MeetsJoin, MeetsKind, IsLeastKind, note_terms, terms_at, rule_notes}
+use Rattle.chr_kinds.specs.FinestSorts.{AreShort, AreFinest, AreAsFine, AreNamedByFirst, position_of, sort_in, kind_of}
+use Rattle.chr_kinds.specs.FinestSorts.{sorts_of}
+use Rattle.chr_kinds.specs.working.Notes.{IsBelow, Joins, MeetsJoin, MeetsKind, IsLeastKind, note_terms, terms_at}
+use Rattle.chr_kinds.specs.working.Notes.{rule_notes}
 use Rattle.chr_kinds.proofs.Fitting.{MeetsNote, in_flat, flat_in, fits_rule, meets_notes}
 use Rattle.chr_kinds.proofs.LeastKinds.{free_least}
 
 -- ---- atoms of a program have few arguments
 
 in_range_few : (d : Declaration) → is_in_range d ≡ true → d.arity ≤ MAX_ARITY
-in_range_few d h = le_from _ _ ((and_parts (is_name d.name && nat_le (length d.name) _) _ (and_parts _ (is_weight d.weight) h).0).1)
+in_range_few d h = le_from _ _ ((and_parts (is_name d.name && nat_le (length d.name) _) _
+    (and_parts _ (is_weight d.weight) h).0).1)
 
-takes_few : (ds : List Declaration) (k n : ℕ) → list_all is_in_range ds ≡ true → takes (slice_get ds k) n ≡ true → n ≤ MAX_ARITY
+takes_few : (ds : List Declaration) (k n : ℕ) → list_all is_in_range ds ≡ true → takes (slice_get ds k) n ≡ true
+    → n ≤ MAX_ARITY
 takes_few [] k n h t = absurd (true≢false (sym t))
-takes_few (d ∷ ds) zero n h t = let e = eqb-true d.arity n t in let l = in_range_few d (and_parts _ _ h).0 in omega (arith, e, l)
+takes_few (d ∷ ds) zero n h t = let e = eqb-true d.arity n t in let l = in_range_few d (and_parts _ _ h).0 in
+    omega (arith, e, l)
 takes_few (d ∷ ds) (suc k) n h t = takes_few ds k n (and_parts (is_in_range d) _ h).1 t
 
 pub rule_in : (rules : List Rule) (i : ℕ) (r : Rule) → slice_get rules i ≡ Some r → In r rules
@@ -59,10 +65,12 @@ module _ (p : Program) where
       (and_parts (nat_le (length (declarations p)) MAX_SYMBOLS && nat_le (length (rules_of p)) MAX_RULES) _ b).1
 
   fitting : list_all (fits (declarations p)) (rules_of p) ≡ true
-  fitting = (and_parts (nat_le (length (declarations p)) MAX_SYMBOLS && nat_le (length (rules_of p)) MAX_RULES && list_all is_in_range (declarations p) && are_distinct (declarations p)) _ p.well_formed).1
+  fitting = (and_parts (nat_le (length (declarations p)) MAX_SYMBOLS && nat_le (length (rules_of p)) MAX_RULES
+      && list_all is_in_range (declarations p) && are_distinct (declarations p)) _ p.well_formed).1
 
   short : (ps : List Pattern) → list_all (is_declared (declarations p)) ps ≡ true → AreShort ps
-  short ps h q i = takes_few (declarations p) q.symbol.0 (length q.args.items) ranges (all_in (is_declared (declarations p)) ps h q i)
+  short ps h q i = takes_few (declarations p) q.symbol.0 (length q.args.items) ranges
+      (all_in (is_declared (declarations p)) ps h q i)
 
   module _ (r : Rule) (i : In r (rules_of p)) where
     declared : fits (declarations p) r ≡ true
@@ -70,12 +78,15 @@ module _ (p : Program) where
 
     pub heads_short : AreShort (heads_of r)
     heads_short q j = elim (in_either q r.kept.items r.removed.items j) as (λ _. length q.args.items ≤ MAX_ARITY) [
-      | inl k ↦ short r.kept.items (and_parts _ _ (and_parts _ (list_all (is_declared (declarations p)) r.body.items) declared).0).0 q k
-      | inr k ↦ short r.removed.items (and_parts (list_all (is_declared (declarations p)) r.kept.items) _ (and_parts _ (list_all (is_declared (declarations p)) r.body.items) declared).0).1 q k
+      | inl k ↦ short r.kept.items (and_parts _ _ (and_parts _ (list_all (is_declared (declarations p)) r.body.items)
+            declared).0).0 q k
+      | inr k ↦ short r.removed.items (and_parts (list_all (is_declared (declarations p)) r.kept.items) _
+            (and_parts _ (list_all (is_declared (declarations p)) r.body.items) declared).0).1 q k
     ]
 
     pub body_short : AreShort r.body.items
-    body_short = short r.body.items (and_parts (list_all (is_declared (declarations p)) r.kept.items && list_all (is_declared (declarations p)) r.removed.items) _ declared).1
+    body_short = short r.body.items (and_parts (list_all (is_declared (declarations p)) r.kept.items
+        && list_all (is_declared (declarations p)) r.removed.items) _ declared).1
 
 -- ---- numbers of positions
 
@@ -103,7 +114,8 @@ below_at n (d ∷ notes) e h (inl q) = subst (IsBelow n) (sym q) (h 0 d (omega a
 below_at n (d ∷ notes) e h (inr i) = below_at n notes e (λ k x l. h (suc k) x (omega (arith, l))) i
 
 -- a constant of a sort stands in a note
-pub stands_in : (f : ℕ → ℕ) (n : ℕ) (c : ℤ) (notes : List Note) → In (Constant c) (terms_at f n notes) → (p : ℕ) × In (Stands p c) notes × (f p ≡ n)
+pub stands_in : (f : ℕ → ℕ) (n : ℕ) (c : ℤ) (notes : List Note) → In (Constant c) (terms_at f n notes) → (p : ℕ)
+    × In (Stands p c) notes × (f p ≡ n)
 stands_in f n c notes i = let w = in_flat (note_terms f n) (Constant c) notes i in of_note w.0 w.1 w.2
   where
     of_note : (e : Note) → In e notes → In (Constant c) (note_terms f n e) → (p : ℕ) × In (Stands p c) notes × (f p ≡ n)
@@ -111,7 +123,8 @@ stands_in f n c notes i = let w = in_flat (note_terms f n) (Constant c) notes i 
     of_note (Compared p s) j h = absurd h
     of_note (Stands p d) j h = by (nat_eq (f p) n) refl h
       where
-        by : (b : Bool) → nat_eq (f p) n ≡ b → In (Constant c) (cond b (Constant d ∷ []) []) → (x : ℕ) × In (Stands x c) notes × (f x ≡ n)
+        by : (b : Bool) → nat_eq (f p) n ≡ b → In (Constant c) (cond b (Constant d ∷ []) []) → (x : ℕ)
+            × In (Stands x c) notes × (f x ≡ n)
         by true e (inl q) = let same : d ≡ c = cc in (p, subst (λ x. In (Stands p x) notes) same j, eqb-true (f p) n e)
         by true e (inr q) = absurd q
         by false e q = absurd q
@@ -121,7 +134,8 @@ term_there f p c = subst (λ b. In (Constant c) (cond b (Constant c ∷ []) []))
 
 -- ---- the theorem
 
-module _ (p : Program) (notes : List Note) (all : notes ≡ flat_map rule_notes (rules_of p)) (ts : List ℕ) (joins : Joins notes ts)
+module _ (p : Program) (notes : List Note) (all : notes ≡ flat_map rule_notes (rules_of p)) (ts : List ℕ)
+    (joins : Joins notes ts)
     (kind : ℕ → Kind) (kinds : (n : ℕ) → IsLeastKind notes (sort_in ts) n (kind n))
     (constants : ℕ → List ℤ) (are : (n : ℕ) → AreConstantsIn (terms_at (sort_in ts) n notes) (constants n)) where
   abbrev t : ℕ → ℕ
@@ -139,7 +153,8 @@ module _ (p : Program) (notes : List Note) (all : notes ≡ flat_map rule_notes 
 
   met : MeetAll o t
   met (Joined a b) i = joins.meets (Joined a b) i
-  met (Stands a c) i = (are (t a)).all c (flat_in (note_terms t (t a)) (Constant c) (Stands a c) notes i (term_there t a c))
+  met (Stands a c) i = (are (t a)).all c (flat_in (note_terms t (t a)) (Constant c) (Stands a c) notes i
+      (term_there t a c))
   met (Compared a c) i = (kinds (t a)).meets (Compared a c) i refl
 
   of_rule : (r : Rule) → In r (rules_of p) → (n : Note) → In n (rule_notes r) → In n notes
@@ -158,7 +173,8 @@ module _ (p : Program) (notes : List Note) (all : notes ≡ flat_map rule_notes 
     others_met n i =
         let w = in_flat rule_notes n (rules_of p) (subst (In n) all i) in
         let place = in_place (rules_of p) w.0 w.1 in
-        meets_notes q f (by_number_is q) w.0 (heads_short p w.0 w.1) (body_short p w.0 w.1) (fits_all place.0 w.0 place.1) n w.2
+        meets_notes q f (by_number_is q) w.0 (heads_short p w.0 w.1) (body_short p w.0 w.1)
+            (fits_all place.0 w.0 place.1) n w.2
 
     through : (a : ℕ) → f a ≡ f (t a)
     through = joins.least f (λ n i. joins_from q f n (others_met n i))
@@ -170,18 +186,23 @@ module _ (p : Program) (notes : List Note) (all : notes ≡ flat_map rule_notes 
     same_sorts : (a k b l : ℕ) → k < MAX_ARITY → l < MAX_ARITY → o.sort a k ≡ o.sort b l → q.sort a k ≡ q.sort b l
     same_sorts a k b l lk ll e = by_number_is q a k lk ∙ at_sort b l (t (position_of b l)) (position_of a k) ll refl e
 
-    constants_kept : (a k : ℕ) (c : ℤ) → k < MAX_ARITY → In c (o.constants (o.sort a k)) → In c (q.constants (q.sort a k))
+    constants_kept : (a k : ℕ) (c : ℤ) → k < MAX_ARITY → In c (o.constants (o.sort a k))
+        → In c (q.constants (q.sort a k))
     constants_kept a k c l i =
         let w = stands_in t (t (position_of a k)) c notes ((are (t (position_of a k))).stand c i) in
-        subst (λ m. In c (q.constants m)) (at_sort a k (t (position_of a k)) w.0 l refl w.2) (others_met (Stands w.0 c) w.1)
+        subst (λ m. In c (q.constants m)) (at_sort a k (t (position_of a k)) w.0 l refl w.2)
+            (others_met (Stands w.0 c) w.1)
 
-    kinds_kept : (a k : ℕ) (c : Cmp) → k < MAX_ARITY → tells (o.kind (o.sort a k)) c ≡ true → tells (q.kind (q.sort a k)) c ≡ true
-    kinds_kept a k c l h = (kinds (t (position_of a k))).least (q.kind (q.sort a k)) (λ d i. told d (others_met d i)) c h
+    kinds_kept : (a k : ℕ) (c : Cmp) → k < MAX_ARITY → tells (o.kind (o.sort a k)) c ≡ true
+        → tells (q.kind (q.sort a k)) c ≡ true
+    kinds_kept a k c l h = (kinds (t (position_of a k))).least (q.kind (q.sort a k)) (λ d i. told d (others_met d i)) c
+        h
       where
         told : (e : Note) → MeetsNote q f e → MeetsKind t (t (position_of a k)) (q.kind (q.sort a k)) e
         told (Joined x y) m = tt
         told (Stands x d) m = tt
-        told (Compared x sign) m = λ g. subst (λ z. tells (q.kind z) sign ≡ true) (at_sort a k (t (position_of a k)) x l refl g) m
+        told (Compared x sign) m = λ g. subst (λ z. tells (q.kind z) sign ≡ true)
+            (at_sort a k (t (position_of a k)) x l refl g) m
 
     as_fine : AreAsFine o q
     as_fine = record { sorts = same_sorts; constants = constants_kept; kinds = kinds_kept }
@@ -217,15 +238,19 @@ module _ (p : Program) (s : Sorting) (notes : List Note)
     (joins : Joins notes s.sorts.items)
     (below : All (IsBelow (length s.sorts.items)) notes)
     (kinds_len : length s.kinds.items ≡ length s.sorts.items)
-    (kinds : (n : ℕ) → n < length s.sorts.items → IsLeastKind notes (sort_in s.sorts.items) n (kind_of (get_or s.kinds.items n Free)))
+    (kinds : (n : ℕ) → n < length s.sorts.items → IsLeastKind notes (sort_in s.sorts.items) n
+        (kind_of (get_or s.kinds.items n Free)))
     (constants_len : length s.constants.items ≡ length s.sorts.items)
-    (constants : (n : ℕ) → n < length s.sorts.items → AreConstantsIn (terms_at (sort_in s.sorts.items) n notes) (get_or (map (λ cs. cs.items) s.constants.items) n [])) where
+    (constants : (n : ℕ) → n < length s.sorts.items → AreConstantsIn (terms_at (sort_in s.sorts.items) n notes)
+        (get_or (map (λ cs. cs.items) s.constants.items) n [])) where
   abbrev size : ℕ
   size = length s.sorts.items
 
   -- no note speaks of a sort beyond the tables
-  not_beyond : (n a : ℕ) (e : Note) → In e notes → size ≤ n → (IsBelow size e → a < size) → sort_in s.sorts.items a ≡ n → ⊥
-  not_beyond n a e i le low g = let b = joins.below a in let l = low (below_at size notes e below i) in omega (arith, b, l, g, le)
+  not_beyond : (n a : ℕ) (e : Note) → In e notes → size ≤ n → (IsBelow size e → a < size) → sort_in s.sorts.items a ≡ n
+      → ⊥
+  not_beyond n a e i le low g = let b = joins.below a in let l = low (below_at size notes e below i) in
+      omega (arith, b, l, g, le)
 
   all_kinds : (n : ℕ) → IsLeastKind notes (sort_in s.sorts.items) n ((sorts_of s).kind n)
   all_kinds n = by (nat_lt n size) refl
@@ -240,12 +265,14 @@ module _ (p : Program) (s : Sorting) (notes : List Note)
       by false e =
           let le = ltb-false n size e in
           let past = get_or_past s.kinds.items n Free (omega (arith, le, kinds_len)) in
-          subst (λ k. IsLeastKind notes (sort_in s.sorts.items) n (kind_of k)) (sym past) (record { meets = none le; least = λ l m c h. free_least l c h })
+          subst (λ k. IsLeastKind notes (sort_in s.sorts.items) n (kind_of k)) (sym past)
+              (record { meets = none le; least = λ l m c h. free_least l c h })
 
   all_constants : (n : ℕ) → AreConstantsIn (terms_at (sort_in s.sorts.items) n notes) ((sorts_of s).constants n)
   all_constants n = by (nat_lt n size) refl
     where
-      by : (b : Bool) → nat_lt n size ≡ b → AreConstantsIn (terms_at (sort_in s.sorts.items) n notes) ((sorts_of s).constants n)
+      by : (b : Bool) → nat_lt n size ≡ b → AreConstantsIn (terms_at (sort_in s.sorts.items) n notes)
+          ((sorts_of s).constants n)
       by true e = constants n (ltb-true n size e)
       by false e =
           let le = ltb-false n size e in
@@ -255,8 +282,10 @@ module _ (p : Program) (s : Sorting) (notes : List Note)
             rise = tt;
             values = λ v i. absurd i;
             stand = λ c i. absurd i;
-            all = λ c i. (let w = stands_in (sort_in s.sorts.items) n c notes i in absurd (not_beyond n w.0 (Stands w.0 c) w.1 le (λ l. l) w.2));
+            all = λ c i. (let w = stands_in (sort_in s.sorts.items) n c notes i in
+                absurd (not_beyond n w.0 (Stands w.0 c) w.1 le (λ l. l) w.2));
           })
 
   pub are_finest : AreFinest (rules_of p) (sorts_of s)
-  are_finest = finest_by_notes p notes all s.sorts.items joins (sorts_of s).kind all_kinds (sorts_of s).constants all_constants
+  are_finest = finest_by_notes p notes all s.sorts.items joins (sorts_of s).kind all_kinds
+      (sorts_of s).constants all_constants

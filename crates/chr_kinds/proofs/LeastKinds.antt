@@ -89,7 +89,8 @@ equal_least equal h c g = g
 equal_least free h c g = absurd (true≢false (sym h))
 
 -- and no more than any kind does that tells both
-pub raised_least : (k l : Kind) (s : Cmp) → ((c : Cmp) → tells k c ≡ true → tells l c ≡ true) → tells l s ≡ true → (c : Cmp) → tells (raised k s) c ≡ true → tells l c ≡ true
+pub raised_least : (k l : Kind) (s : Cmp) → ((c : Cmp) → tells k c ≡ true → tells l c ≡ true) → tells l s ≡ true
+    → (c : Cmp) → tells (raised k s) c ≡ true → tells l c ≡ true
 raised_least ordered l s all one c h = all c h
 raised_least equal l Equal all one c h = all c h
 raised_least equal l NotEqual all one c h = all c h
@@ -114,40 +115,57 @@ module _ (f : ℕ → ℕ) (n : ℕ) where
   kept k s (Compared p t) m = λ same. raised_keeps k s t (m same)
 
   -- a sign more at the sort
-  pub kind_raised : (notes : List Note) (k : Kind) (p : ℕ) (s : Cmp) → IsLeastKind notes f n k → f p ≡ n → IsLeastKind (notes ++ Compared p s ∷ []) f n (raised k s)
+  pub kind_raised : (notes : List Note) (k : Kind) (p : ℕ) (s : Cmp) → IsLeastKind notes f n k → f p ≡ n
+      → IsLeastKind (notes ++ Compared p s ∷ []) f n (raised k s)
   kind_raised notes k p s is same = record {
     meets = λ e i. elim (in_last e (Compared p s) notes i) as (λ _. MeetsKind f n (raised k s) e) [
       | inl h ↦ kept k s e (is.meets e h)
       | inr q ↦ subst (MeetsKind f n (raised k s)) (sym q) (λ _. raised_tells k s)
     ];
-    least = λ l met. raised_least k l s (is.least l (λ e i. met e (in_first e notes (Compared p s ∷ []) i))) (met (Compared p s) (in_second (Compared p s) notes (Compared p s ∷ []) (inl refl)) same);
+    least = λ l met. raised_least k l s (is.least l (λ e i. met e (in_first e notes (Compared p s ∷ []) i)))
+        (met (Compared p s) (in_second (Compared p s) notes (Compared p s ∷ []) (inl refl)) same);
   }
 
-  passed : (notes : List Note) (k : Kind) (e : Note) → IsLeastKind notes f n k → ((l : Kind) → MeetsKind f n l e) → IsLeastKind (notes ++ e ∷ []) f n k
+  passed : (notes : List Note) (k : Kind) (e : Note) → IsLeastKind notes f n k → ((l : Kind) → MeetsKind f n l e)
+      → IsLeastKind (notes ++ e ∷ []) f n k
   passed notes k e is any = record {
-    meets = λ d i. elim (in_last d e notes i) as (λ _. MeetsKind f n k d) [ inl h ↦ is.meets d h | inr q ↦ subst (MeetsKind f n k) (sym q) (any k) ];
+    meets = λ d i. elim (in_last d e notes i) as (λ _. MeetsKind f n k d)
+        [ inl h ↦ is.meets d h | inr q ↦ subst (MeetsKind f n k) (sym q) (any k) ];
     least = λ l met. is.least l (λ d i. met d (in_first d notes (e ∷ []) i));
   }
 
   -- a sign at another sort, or no sign
-  pub elsewhere_passed : (notes : List Note) (k : Kind) (p : ℕ) (s : Cmp) → IsLeastKind notes f n k → ¬ (f p ≡ n) → IsLeastKind (notes ++ Compared p s ∷ []) f n k
+  pub elsewhere_passed : (notes : List Note) (k : Kind) (p : ℕ) (s : Cmp) → IsLeastKind notes f n k → ¬ (f p ≡ n)
+      → IsLeastKind (notes ++ Compared p s ∷ []) f n k
   elsewhere_passed notes k p s is other = passed notes k (Compared p s) is (λ l same. absurd (other same))
 
-  pub other_kept : (notes : List Note) (k : Kind) (e : Note) → IsLeastKind notes f n k → ((p : ℕ) (s : Cmp) → e ≡ Compared p s → ⊥) → IsLeastKind (notes ++ e ∷ []) f n k
+  pub other_kept : (notes : List Note) (k : Kind) (e : Note) → IsLeastKind notes f n k
+      → ((p : ℕ) (s : Cmp) → e ≡ Compared p s → ⊥) → IsLeastKind (notes ++ e ∷ []) f n k
   other_kept notes k (Joined p q) is other = passed notes k (Joined p q) is (λ l. tt)
   other_kept notes k (Stands p c) is other = passed notes k (Stands p c) is (λ l. tt)
   other_kept notes k (Compared p s) is other = absurd (other p s refl)
 
   -- ---- the next note
 
-  next_kind : (notes : List Note) (i : ℕ) (d e : Note) (k : Kind) → i < length notes → get_or notes i d ≡ e → IsLeastKind (take i notes ++ e ∷ []) f n k → IsLeastKind (take (i + 1) notes) f n k
-  next_kind notes i d e k l q is = subst (λ ns. IsLeastKind ns f n k) (ap (λ x. take i notes ++ x ∷ []) (sym q) ∙ sym (take_more notes i d l)) is
+  next_kind : (notes : List Note) (i : ℕ) (d e : Note) (k : Kind) → i < length notes → get_or notes i d ≡ e
+      → IsLeastKind (take i notes ++ e ∷ []) f n k → IsLeastKind (take (i + 1) notes) f n k
+  next_kind notes i d e k l q is = subst (λ ns. IsLeastKind ns f n k)
+      (ap (λ x. take i notes ++ x ∷ []) (sym q) ∙ sym (take_more notes i d l)) is
 
-  pub step_raised : (notes : List Note) (i : ℕ) (d : Note) (k : Kind) (p : ℕ) (s : Cmp) → i < length notes → get_or notes i d ≡ Compared p s → IsLeastKind (take i notes) f n k → f p ≡ n → IsLeastKind (take (i + 1) notes) f n (raised k s)
-  step_raised notes i d k p s l q is same = next_kind notes i d (Compared p s) (raised k s) l q (kind_raised (take i notes) k p s is same)
+  pub step_raised : (notes : List Note) (i : ℕ) (d : Note) (k : Kind) (p : ℕ) (s : Cmp) → i < length notes
+      → get_or notes i d ≡ Compared p s → IsLeastKind (take i notes) f n k → f p ≡ n
+      → IsLeastKind (take (i + 1) notes) f n (raised k s)
+  step_raised notes i d k p s l q is same = next_kind notes i d (Compared p s) (raised k s) l q
+      (kind_raised (take i notes) k p s is same)
 
-  pub step_elsewhere : (notes : List Note) (i : ℕ) (d : Note) (k : Kind) (p : ℕ) (s : Cmp) → i < length notes → get_or notes i d ≡ Compared p s → IsLeastKind (take i notes) f n k → ¬ (f p ≡ n) → IsLeastKind (take (i + 1) notes) f n k
-  step_elsewhere notes i d k p s l q is other = next_kind notes i d (Compared p s) k l q (elsewhere_passed (take i notes) k p s is other)
+  pub step_elsewhere : (notes : List Note) (i : ℕ) (d : Note) (k : Kind) (p : ℕ) (s : Cmp) → i < length notes
+      → get_or notes i d ≡ Compared p s → IsLeastKind (take i notes) f n k → ¬ (f p ≡ n)
+      → IsLeastKind (take (i + 1) notes) f n k
+  step_elsewhere notes i d k p s l q is other = next_kind notes i d (Compared p s) k l q
+      (elsewhere_passed (take i notes) k p s is other)
 
-  pub step_other : (notes : List Note) (i : ℕ) (d : Note) (k : Kind) → i < length notes → ((p : ℕ) (s : Cmp) → get_or notes i d ≡ Compared p s → ⊥) → IsLeastKind (take i notes) f n k → IsLeastKind (take (i + 1) notes) f n k
-  step_other notes i d k l other is = next_kind notes i d (get_or notes i d) k l refl (other_kept (take i notes) k (get_or notes i d) is other)
+  pub step_other : (notes : List Note) (i : ℕ) (d : Note) (k : Kind) → i < length notes
+      → ((p : ℕ) (s : Cmp) → get_or notes i d ≡ Compared p s → ⊥) → IsLeastKind (take i notes) f n k
+      → IsLeastKind (take (i + 1) notes) f n k
+  step_other notes i d k l other is = next_kind notes i d (get_or notes i d) k l refl
+      (other_kept (take i notes) k (get_or notes i d) is other)

@@ -19,23 +19,28 @@ use Rattle.chr_kinds.proofs.Numbers.{first_there}
 pub free_list : (cs us : List ℤ) (n : ℕ) → length us ≡ n → AreFirstNumbers cs us → AreListsAt free cs n (us ∷ [])
 free_list cs us n l f = (us, l, f, refl)
 
-pub equal_lists : (cs us : List ℤ) (n : ℕ) → Rises cs → length us ≡ n → AreFirstNumbers cs us → AreListsAt equal cs n (lists_behind n cs us [])
+pub equal_lists : (cs us : List ℤ) (n : ℕ) → Rises cs → length us ≡ n → AreFirstNumbers cs us
+    → AreListsAt equal cs n (lists_behind n cs us [])
 equal_lists cs us n r l f = (us, l, f, blocks_listed cs us n l f, behind_rise n cs us [] r)
 
 -- The constants are values, and there are no more of them and of the wanted values than values: else numbers that stand
 -- for them would be none.
-pub lists_there : (kind : Kind) (cs : List ℤ) (n : ℕ) → length cs + n ≤ 2 ^ 62 → Rises cs → AreValues cs → (ls : List (List ℤ)) × AreListsAt kind cs n ls
+pub lists_there : (kind : Kind) (cs : List ℤ) (n : ℕ) → length cs + n ≤ 2 ^ 62 → Rises cs → AreValues cs
+    → (ls : List (List ℤ)) × AreListsAt kind cs n ls
 lists_there free cs n few r v = let f = first_there cs n few r in (f.0 ∷ [], free_list cs f.0 n f.1 f.2)
-lists_there equal cs n few r v = let f = first_there cs n few r in (lists_behind n cs f.0 [], equal_lists cs f.0 n r f.1 f.2)
+lists_there equal cs n few r v = let f = first_there cs n few r in
+    (lists_behind n cs f.0 [], equal_lists cs f.0 n r f.1 f.2)
 lists_there ordered cs n few r v = types_there n cs (omega (arith, few)) r v
 
 -- ---- more than a limit
 
 -- where there are more order types than the limit, their list is longer
-pub more_ordered : (limit n : ℕ) (cs : List ℤ) → length cs + n ≤ 2 ^ 62 → Rises cs → AreValues cs → MoreTypesThan limit n cs → MoreListsThan limit ordered cs n
+pub more_ordered : (limit n : ℕ) (cs : List ℤ) → length cs + n ≤ 2 ^ 62 → Rises cs → AreValues cs
+    → MoreTypesThan limit n cs → MoreListsThan limit ordered cs n
 more_ordered limit n cs few r v more = by (types_there n cs (omega (arith, few)) r v)
   where
-    over : (ls : List (List ℤ)) → AreListsAt ordered cs n ls → (limit < length ls) ⊎ (length ls ≤ limit) → MoreListsThan limit ordered cs n
+    over : (ls : List (List ℤ)) → AreListsAt ordered cs n ls → (limit < length ls) ⊎ (length ls ≤ limit)
+        → MoreListsThan limit ordered cs n
     over ls are (inl l) = (ls, are, l)
     over ls are (inr l) = absurd (not_more limit n cs ls are l more)
 
@@ -43,7 +48,8 @@ more_ordered limit n cs few r v more = by (types_there n cs (omega (arith, few))
     by w = over w.0 w.1 (cases_lt limit (length w.0))
 
 -- of more than 64 values there are more lists of blocks than any limit
-pub more_blocks : (limit n : ℕ) (cs : List ℤ) → limit < 2 ^ 64 → 64 < n → length cs + n ≤ 2 ^ 62 → Rises cs → MoreListsThan limit equal cs n
+pub more_blocks : (limit n : ℕ) (cs : List ℤ) → limit < 2 ^ 64 → 64 < n → length cs + n ≤ 2 ^ 62 → Rises cs
+    → MoreListsThan limit equal cs n
 more_blocks limit n cs l m few r =
     let f = first_there cs n few r in
     (lists_behind n cs f.0 [], equal_lists cs f.0 n r f.1 f.2, many_blocks limit n cs f.0 l m f.1 f.2)
@@ -62,7 +68,8 @@ place_of (x ∷ cs) c (inr i) = let m = place_of cs c i in let l = m.1 in (suc m
 pub are_values : (cs : List ℤ) → ((k : ℕ) → k < length cs → IsValue (get_or cs k (pos 0))) → AreValues cs
 are_values cs f c i = let m = place_of cs c i in subst IsValue (sym m.2) (f m.0 m.1)
 
-pub one_more_value : (cs : List ℤ) (i : ℕ) → IsValue (get_or cs i (pos 0)) → ((k : ℕ) → k < i → IsValue (get_or cs k (pos 0))) → (k : ℕ) → k < i + 1 → IsValue (get_or cs k (pos 0))
+pub one_more_value : (cs : List ℤ) (i : ℕ) → IsValue (get_or cs i (pos 0))
+    → ((k : ℕ) → k < i → IsValue (get_or cs k (pos 0))) → (k : ℕ) → k < i + 1 → IsValue (get_or cs k (pos 0))
 one_more_value cs i v all k l = elim (cases_lt k i) as (λ _. IsValue (get_or cs k (pos 0))) [
   | inl h ↦ all k h
   | inr h ↦ subst (λ j. IsValue (get_or cs j (pos 0))) (let e : i ≡ k = omega (arith, h, l) in e) v

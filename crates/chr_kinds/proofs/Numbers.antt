@@ -1,5 +1,6 @@
 -- The first numbers that are no constants, found one after the other.
-use Rattle.std.specs.Prelude.{◌≡◌, ℕ, zero, suc, ℤ, pos, negsuc, ◌+ℤ◌, ◌≤ℤ◌, ◌<ℤ◌, ◌+◌, ◌-◌, ◌^◌, ◌<◌, ◌≤◌, ◌⊎◌, true, false, List, [], ◌∷◌, ◌++◌, length, take, get_or}
+use Rattle.std.specs.Prelude.{◌≡◌, ℕ, zero, suc, ℤ, pos, negsuc, ◌+ℤ◌, ◌≤ℤ◌, ◌<ℤ◌, ◌+◌, ◌-◌, ◌^◌, ◌<◌, ◌≤◌, ◌⊎◌, true}
+use Rattle.std.specs.Prelude.{false, List, [], ◌∷◌, ◌++◌, length, take, get_or}
 use Rattle.std.proofs.Common.{sym, ap, subst, ◌∙◌, inl, inr, arith}
 use Rattle.std.proofs.lemmas.Bool.{cases_lt}
 use Rattle.std.proofs.lemmas.Int.{ints, to_z-of_z, of_z-to_z}
@@ -26,25 +27,30 @@ none_found cs = record {
 }
 
 -- of rising numbers those behind the first ones are not below the next
-not_before : (cs : List ℤ) (k : ℕ) (d c : ℤ) → Rises cs → In c cs → In c (take k cs) ⊎ ((k < length cs) × (get_or cs k d ≤ℤ c))
+not_before : (cs : List ℤ) (k : ℕ) (d c : ℤ) → Rises cs → In c cs → In c (take k cs)
+    ⊎ ((k < length cs) × (get_or cs k d ≤ℤ c))
 not_before [] k d c r i = absurd i
 not_before (x ∷ cs) zero d c r (inl e) = inr (omega arith, omega (arith, ints, e))
 not_before (x ∷ cs) zero d c r (inr i) = let l = r.0 c i in inr (omega arith, omega (arith, ints, l))
 not_before (x ∷ cs) (suc k) d c r (inl e) = inl (inl e)
-not_before (x ∷ cs) (suc k) d c r (inr i) = elim (not_before cs k d c r.1 i) as (λ _. In c (x ∷ take k cs) ⊎ ((suc k < suc (length cs)) × (get_or cs k d ≤ℤ c))) [
+not_before (x ∷ cs) (suc k) d c r (inr i) = elim (not_before cs k d c r.1 i) as (λ _. In c (x ∷ take k cs)
+    ⊎ ((suc k < suc (length cs)) × (get_or cs k d ≤ℤ c))) [
   | inl j ↦ inl (inr j)
   | inr h ↦ (let l = h.0 in inr (omega (arith, l), h.1))
 ]
 
 -- one constant more is passed
-passed_before : (cs : List ℤ) (k : ℕ) (d b : ℤ) → k < length cs → get_or cs k d <ℤ b → ((c : ℤ) → In c (take k cs) → c <ℤ b) → (c : ℤ) → In c (take (k + 1) cs) → c <ℤ b
-passed_before cs k d b l h all c i = elim (in_last c (get_or cs k d) (take k cs) (subst (In c) (take_more cs k d l) i)) as (λ _. c <ℤ b) [
+passed_before : (cs : List ℤ) (k : ℕ) (d b : ℤ) → k < length cs → get_or cs k d <ℤ b
+    → ((c : ℤ) → In c (take k cs) → c <ℤ b) → (c : ℤ) → In c (take (k + 1) cs) → c <ℤ b
+passed_before cs k d b l h all c i = elim (in_last c (get_or cs k d) (take k cs)
+    (subst (In c) (take_more cs k d l) i)) as (λ _. c <ℤ b) [
   | inl j ↦ all c j
   | inr e ↦ subst (λ z. z <ℤ b) (sym e) h
 ]
 
 -- a lesser constant
-pub lesser_passed : (cs us : List ℤ) (k : ℕ) (b d : ℤ) → k < length cs → get_or cs k d <ℤ b → AreNumbersBelow cs k us b → AreNumbersBelow cs (k + 1) us b
+pub lesser_passed : (cs us : List ℤ) (k : ℕ) (b d : ℤ) → k < length cs → get_or cs k d <ℤ b → AreNumbersBelow cs k us b
+    → AreNumbersBelow cs (k + 1) us b
 lesser_passed cs us k b d l h f = record {
   from = f.from;
   few = (let w = f.few in omega (arith, ints, w));
@@ -56,22 +62,26 @@ lesser_passed cs us k b d l h f = record {
 }
 
 -- the number is a constant
-pub constant_passed : (cs us : List ℤ) (k : ℕ) (b d : ℤ) → k < length cs → get_or cs k d ≡ b → AreNumbersBelow cs k us b → AreNumbersBelow cs (k + 1) us (b +ℤ pos 1)
+pub constant_passed : (cs us : List ℤ) (k : ℕ) (b d : ℤ) → k < length cs → get_or cs k d ≡ b → AreNumbersBelow cs k us b
+    → AreNumbersBelow cs (k + 1) us (b +ℤ pos 1)
 constant_passed cs us k b d l e f = record {
   from = (let w = f.from in omega (arith, ints, w));
   few = (let w = f.few in omega (arith, ints, w));
   there = omega (arith, l);
-  before = passed_before cs k d (b +ℤ pos 1) l (omega (arith, ints, e)) (λ c i. (let h = f.before c i in omega (arith, ints, h)));
+  before = passed_before cs k d (b +ℤ pos 1) l (omega (arith, ints, e))
+      (λ c i. (let h = f.before c i in omega (arith, ints, h)));
   rise = f.rise;
   new = λ z i. (let h = f.new z i in let m = h.1 in (h.0, omega (arith, ints, m), h.2));
   all = λ x lo hi. elim (apart x b) as (λ _. In x us ⊎ In x cs) [
     | inl m ↦ f.all x lo m
-    | inr m ↦ inr (subst (λ z. In z cs) (let q : get_or cs k d ≡ x = omega (arith, ints, e, m, hi) in q) (in_at cs k d l))
+    | inr m ↦ inr (subst (λ z. In z cs) (let q : get_or cs k d ≡ x = omega (arith, ints, e, m, hi) in q)
+          (in_at cs k d l))
   ];
 }
 
 -- the number is none
-pub number_found : (cs us : List ℤ) (k : ℕ) (b d : ℤ) → Rises cs → (k < length cs → b <ℤ get_or cs k d) → AreNumbersBelow cs k us b → AreNumbersBelow cs k (us ++ b ∷ []) (b +ℤ pos 1)
+pub number_found : (cs us : List ℤ) (k : ℕ) (b d : ℤ) → Rises cs → (k < length cs → b <ℤ get_or cs k d)
+    → AreNumbersBelow cs k us b → AreNumbersBelow cs k (us ++ b ∷ []) (b +ℤ pos 1)
 number_found cs us k b d r h f = record {
   from = (let w = f.from in omega (arith, ints, w));
   few = (let w = f.few in let n = length-append us (b ∷ []) in omega (arith, ints, w, n));
@@ -80,10 +90,12 @@ number_found cs us k b d r h f = record {
   rise = rises_more us b f.rise (λ z i. (f.new z i).1);
   new = λ z i. elim (in_last z b us i) as (λ _. (pos 0 ≤ℤ z) × (z <ℤ (b +ℤ pos 1)) × (¬ In z cs)) [
     | inl j ↦ (let m = f.new z j in let w = m.1 in (m.0, omega (arith, ints, w), m.2))
-    | inr e ↦ (let w = f.from in (omega (arith, ints, w, e), omega (arith, ints, e), λ j. none (subst (λ y. In y cs) e j)))
+    | inr e ↦ (let w = f.from in (omega (arith, ints, w, e), omega (arith, ints, e),
+          λ j. none (subst (λ y. In y cs) e j)))
   ];
   all = λ x lo hi. elim (apart x b) as (λ _. In x (us ++ b ∷ []) ⊎ In x cs) [
-    | inl m ↦ elim (f.all x lo m) as (λ _. In x (us ++ b ∷ []) ⊎ In x cs) [ inl i ↦ inl (in_first x us (b ∷ []) i) | inr i ↦ inr i ]
+    | inl m ↦ elim (f.all x lo m) as (λ _. In x (us ++ b ∷ []) ⊎ In x cs)
+          [ inl i ↦ inl (in_first x us (b ∷ []) i) | inr i ↦ inr i ]
     | inr m ↦ inl (in_second x us (b ∷ []) (inl (omega (arith, ints, m, hi))))
   ];
 }
@@ -95,9 +107,11 @@ number_found cs us k b d r h f = record {
     ]
 
 -- what is found so is right
-pub first_found : (cs us : List ℤ) (k : ℕ) (b : ℤ) → length cs + length us ≤ 2 ^ 62 → AreNumbersBelow cs k us b → AreFirstNumbers cs us
+pub first_found : (cs us : List ℤ) (k : ℕ) (b : ℤ) → length cs + length us ≤ 2 ^ 62 → AreNumbersBelow cs k us b
+    → AreFirstNumbers cs us
 first_found cs us k b l f = record {
-  values = λ z i. (let h = f.new z i in let lo = h.0 in let hi = h.1 in let w = f.few in let t = f.there in (omega (arith, ints, lo), omega (arith, ints, hi, w, t, l)));
+  values = λ z i. (let h = f.new z i in let lo = h.0 in let hi = h.1 in let w = f.few in let t = f.there in
+      (omega (arith, ints, lo), omega (arith, ints, hi, w, t, l)));
   rise = f.rise;
   new = λ z i. (let h = f.new z i in (h.0, h.2));
   all = λ z x i lo hi. (let h = (f.new z i).1 in f.all x lo (omega (arith, ints, hi, h)));
@@ -111,9 +125,11 @@ HasFirst cs n = (us : List ℤ) × (length us ≡ n) × AreFirstNumbers cs us
 
 -- going on behind what is found, with so many steps left
 abbrev GoesOn : List ℤ → ℕ → ℕ → Type 0
-GoesOn cs n left = (k : ℕ) (us : List ℤ) (b : ℤ) → (length cs - k) + (n - length us) ≤ left → length us ≤ n → AreNumbersBelow cs k us b → HasFirst cs n
+GoesOn cs n left = (k : ℕ) (us : List ℤ) (b : ℤ) → (length cs - k) + (n - length us) ≤ left → length us ≤ n
+    → AreNumbersBelow cs k us b → HasFirst cs n
 
-one_more : (cs : List ℤ) (n : ℕ) → Rises cs → (left : ℕ) → GoesOn cs n left → (k : ℕ) (us : List ℤ) (b : ℤ) → (length cs - k) + (n - length us) ≤ suc left → length us < n → AreNumbersBelow cs k us b → HasFirst cs n
+one_more : (cs : List ℤ) (n : ℕ) → Rises cs → (left : ℕ) → GoesOn cs n left → (k : ℕ) (us : List ℤ) (b : ℤ)
+    → (length cs - k) + (n - length us) ≤ suc left → length us < n → AreNumbersBelow cs k us b → HasFirst cs n
 one_more cs n r left on k us b m h f = by (cases_lt k (length cs))
   where
     push : (k < length cs → b <ℤ get_or cs k b) → HasFirst cs n
@@ -122,10 +138,12 @@ one_more cs n r left on k us b m h f = by (cases_lt k (length cs))
         on k (us ++ b ∷ []) (b +ℤ pos 1) (omega (arith, m, h, t)) (omega (arith, h, t)) (number_found cs us k b b r g f)
         )
 
-    at : k < length cs → (get_or cs k b <ℤ b) ⊎ (b ≤ℤ get_or cs k b) → (b <ℤ get_or cs k b) ⊎ (get_or cs k b ≤ℤ b) → HasFirst cs n
+    at : k < length cs → (get_or cs k b <ℤ b) ⊎ (b ≤ℤ get_or cs k b) → (b <ℤ get_or cs k b) ⊎ (get_or cs k b ≤ℤ b)
+        → HasFirst cs n
     at g (inl lo) q = on (k + 1) us b (omega (arith, m, g)) (omega (arith, h)) (lesser_passed cs us k b b g lo f)
     at g (inr lo) (inl hi) = push (λ _. hi)
-    at g (inr lo) (inr hi) = on (k + 1) us (b +ℤ pos 1) (omega (arith, m, g)) (omega (arith, h)) (constant_passed cs us k b b g (omega (arith, ints, lo, hi)) f)
+    at g (inr lo) (inr hi) = on (k + 1) us (b +ℤ pos 1) (omega (arith, m, g)) (omega (arith, h))
+        (constant_passed cs us k b b g (omega (arith, ints, lo, hi)) f)
 
     by : (k < length cs) ⊎ (length cs ≤ k) → HasFirst cs n
     by (inl g) = at g (apart (get_or cs k b) b) (apart b (get_or cs k b))
@@ -147,7 +165,8 @@ pub small_fits : (z : ℤ) → pos 0 ≤ℤ z → z <ℤ pos (2 ^ 63) → SFits 
 small_fits (pos n) lo hi = record { sfits = omega (arith, ints, hi) }
 small_fits (negsuc n) lo hi = absurd (omega (arith, ints, lo))
 
-pub more_fits : (cs us : List ℤ) (k : ℕ) (b : ℤ) (n : ℕ) → length cs + n ≤ 2 ^ 62 → length us ≤ n → AreNumbersBelow cs k us b → SFits w64 (b +ℤ pos 1)
+pub more_fits : (cs us : List ℤ) (k : ℕ) (b : ℤ) (n : ℕ) → length cs + n ≤ 2 ^ 62 → length us ≤ n
+    → AreNumbersBelow cs k us b → SFits w64 (b +ℤ pos 1)
 more_fits cs us k b n l h f =
     let lo = f.from in let hi = f.few in let t = f.there in
     small_fits (b +ℤ pos 1) (omega (arith, ints, lo)) (omega (arith, ints, hi, t, l, h))

@@ -1,5 +1,6 @@
 -- Finest sorts are one at all positions, and so are the sorted cases by them.
-use Rattle.std.specs.Prelude.{◌≡◌, ℕ, suc, ◌+◌, ◌-◌, ◌<◌, ◌≤◌, ◌<ℤ◌, ◌⊎◌, ℤ, Bool, true, false, cond, nat_le, List, [], ◌∷◌, ◌++◌, map, length}
+use Rattle.std.specs.Prelude.{◌≡◌, ℕ, suc, ◌+◌, ◌-◌, ◌<◌, ◌≤◌, ◌<ℤ◌, ◌⊎◌, ℤ, Bool, true, false, cond, nat_le, List, []}
+use Rattle.std.specs.Prelude.{◌∷◌, ◌++◌, map, length}
 use Rattle.std.proofs.Common.{refl, sym, ap, subst, ◌∙◌, arith, inl, inr}
 use Rattle.std.proofs.lemmas.Int.{ints}
 use Rattle.std.proofs.lemmas.Bool.{leb-true, leb-false}
@@ -20,7 +21,8 @@ use Rattle.chr_confluence.specs.Overlaps.{variables_of}
 use Rattle.chr_confluence.specs.Representatives.{free_variables}
 use Rattle.chr_confluence.proofs.Frees.{free_is, in_map}
 use Rattle.chr_confluence.proofs.Numbered.{variable_stands}
-use Rattle.chr_sorts.specs.Sorts.{Sorts, Kind, ordered, equal, free, tells, terms_from, sorted_terms, first_sort, sort_of}
+use Rattle.chr_sorts.specs.Sorts.{Sorts, Kind, ordered, equal, free, tells, terms_from, sorted_terms, first_sort}
+use Rattle.chr_sorts.specs.Sorts.{sort_of}
 use Rattle.chr_sorts.specs.Lists.{sort_count}
 use Rattle.chr_sorts.specs.SortedCases.{all_equations, joint_sort, class_sorts}
 use Rattle.chr_sorts.proofs.Places.{stands_at_sort}
@@ -28,11 +30,13 @@ use Rattle.chr_sorts.proofs.Equations.{sort_left, sort_right}
 use Rattle.chr_overlaps.specs.declared.overlap.Overlap.{Overlap}
 use Rattle.chr_overlaps.specs.declared.cases.Case.{Case}
 use Rattle.chr_kinds.specs.FinestSorts.{AreShort, AreFinest}
-use Rattle.chr_kinds.specs.SortedCaseLists.{AreListsAt, AreCombinations, AreSortedListed, AreSortedCases, HasTooManyCombinations}
+use Rattle.chr_kinds.specs.SortedCaseLists.{AreListsAt, AreCombinations, AreSortedListed, AreSortedCases}
+use Rattle.chr_kinds.specs.SortedCaseLists.{HasTooManyCombinations}
 use Rattle.chr_kinds.specs.laws.FinestSorts.{AreSameAt, FinestAreOne, FinestHaveOneCases, FinestHaveAsMany}
 
 -- kinds that tell the same signs are one
-one_kind : (k l : Kind) → ((c : Cmp) → tells k c ≡ true → tells l c ≡ true) → ((c : Cmp) → tells l c ≡ true → tells k c ≡ true) → k ≡ l
+one_kind : (k l : Kind) → ((c : Cmp) → tells k c ≡ true → tells l c ≡ true)
+    → ((c : Cmp) → tells l c ≡ true → tells k c ≡ true) → k ≡ l
 one_kind ordered ordered f g = refl
 one_kind equal equal f g = refl
 one_kind free free f g = refl
@@ -44,14 +48,17 @@ one_kind free ordered f g = absurd (true≢false (sym (g Less refl)))
 one_kind free equal f g = absurd (true≢false (sym (g NotEqual refl)))
 
 -- where a term of short atoms stands, there is a position
-position_at : (o : Sorts) (ps : List Pattern) → AreShort ps → (j : ℕ) (t : Term) → In (j, t) (sorted_terms o ps) → (a : ℕ) × (k : ℕ) × (k < MAX_ARITY) × (j ≡ o.sort a k)
+position_at : (o : Sorts) (ps : List Pattern) → AreShort ps → (j : ℕ) (t : Term) → In (j, t) (sorted_terms o ps)
+    → (a : ℕ) × (k : ℕ) × (k < MAX_ARITY) × (j ≡ o.sort a k)
 position_at o [] short j t i = absurd i
-position_at o (p ∷ ps) short j t i = elim (in_either (j, t) (terms_from (o.sort p.symbol.0) 0 p.args.items) (sorted_terms o ps) i) as (λ _. (a : ℕ) × (k : ℕ) × (k < MAX_ARITY) × (j ≡ o.sort a k)) [
+position_at o (p ∷ ps) short j t i = elim (in_either (j, t) (terms_from (o.sort p.symbol.0) 0 p.args.items)
+    (sorted_terms o ps) i) as (λ _. (a : ℕ) × (k : ℕ) × (k < MAX_ARITY) × (j ≡ o.sort a k)) [
   | inl h ↦ (let l = short p (inl refl) in argument 0 p.args.items (omega (arith, l)) h)
   | inr h ↦ position_at o ps (λ q n. short q (inr n)) j t h
 ]
   where
-    argument : (k : ℕ) (ts : List Term) → k + length ts ≤ MAX_ARITY → In (j, t) (terms_from (o.sort p.symbol.0) k ts) → (a : ℕ) × (l : ℕ) × (l < MAX_ARITY) × (j ≡ o.sort a l)
+    argument : (k : ℕ) (ts : List Term) → k + length ts ≤ MAX_ARITY → In (j, t) (terms_from (o.sort p.symbol.0) k ts)
+        → (a : ℕ) × (l : ℕ) × (l < MAX_ARITY) × (j ≡ o.sort a l)
     argument k [] l h = absurd h
     argument k (u ∷ ts) l (inl e) = (p.symbol.0, k, omega (arith, l), ap (λ (q : ℕ × Term). q.0) e)
     argument k (u ∷ ts) l (inr h) = argument (suc k) ts (omega (arith, l)) h
@@ -83,7 +90,8 @@ module _ (rules : List Rule) (s t : Sorts) (a : AreFinest rules s) (b : AreFines
         kind = one_kind (s.kind (s.sort x k)) (t.kind (s.sort x k))
             (λ c h. subst (λ n. tells (t.kind n) c ≡ true) (sym e) ((a.finest t b.fit).kinds x k c l h))
             (λ c h. (b.finest s a.fit).kinds x k c l (subst (λ n. tells (t.kind n) c ≡ true) e h));
-        constants = same_members {A = ℤ} ◌<ℤ◌ (λ c h. omega (arith, ints, h)) (λ c d n h g. omega (arith, ints, h, g)) (s.constants (s.sort x k)) (t.constants (s.sort x k))
+        constants = same_members {A = ℤ} ◌<ℤ◌ (λ c h. omega (arith, ints, h)) (λ c d n h g. omega (arith, ints, h, g))
+            (s.constants (s.sort x k)) (t.constants (s.sort x k))
             (a.rise (s.sort x k)) (b.rise (s.sort x k))
             (λ c i. subst (λ n. In c (t.constants n)) (sym e) ((a.finest t b.fit).constants x k c l i))
             (λ c i. (b.finest s a.fit).constants x k c l (subst (λ n. In c (t.constants n)) e i));
@@ -91,7 +99,8 @@ module _ (rules : List Rule) (s t : Sorts) (a : AreFinest rules s) (b : AreFines
 
   -- ---- sorts of classes
 
-  arguments_same : (x k : ℕ) (ts : List Term) → k + length ts ≤ MAX_ARITY → terms_from (s.sort x) k ts ≡ terms_from (t.sort x) k ts
+  arguments_same : (x k : ℕ) (ts : List Term) → k + length ts ≤ MAX_ARITY → terms_from (s.sort x) k ts
+      ≡ terms_from (t.sort x) k ts
   arguments_same x k [] l = refl
   arguments_same x k (u ∷ ts) l =
       let here = one_sort x k (omega (arith, l)) in
@@ -116,10 +125,12 @@ module _ (rules : List Rule) (s t : Sorts) (a : AreFinest rules s) (b : AreFines
     pub classes_same : (σ : Substitution) → class_sorts s σ r1 r2 ≡ class_sorts t σ r1 r2
     classes_same σ = λ i. map (λ x. joint_same x i) (free_variables σ r1 r2)
 
-    joint_position : (x : ℕ) → 0 < x → x ≤ variables_of r1 + variables_of r2 → (y : ℕ) × (k : ℕ) × (k < MAX_ARITY) × (joint_sort s r1 r2 x ≡ s.sort y k)
+    joint_position : (x : ℕ) → 0 < x → x ≤ variables_of r1 + variables_of r2 → (y : ℕ) × (k : ℕ) × (k < MAX_ARITY)
+        × (joint_sort s r1 r2 x ≡ s.sort y k)
     joint_position x p l = by (nat_le x (variables_of r1)) refl
       where
-        by : (c : Bool) → nat_le x (variables_of r1) ≡ c → (y : ℕ) × (k : ℕ) × (k < MAX_ARITY) × (joint_sort s r1 r2 x ≡ s.sort y k)
+        by : (c : Bool) → nat_le x (variables_of r1) ≡ c → (y : ℕ) × (k : ℕ) × (k < MAX_ARITY)
+            × (joint_sort s r1 r2 x ≡ s.sort y k)
         by true e =
             let i = variable_stands r1 x p (leb-true x (variables_of r1) e) in
             let w = position_at s (heads_of r1) short1 (sort_of s r1 x) (Variable x) (stands_at_sort s r1 x i) in
@@ -130,12 +141,14 @@ module _ (rules : List Rule) (s t : Sorts) (a : AreFinest rules s) (b : AreFines
             let back : variables_of r1 + z ≡ x = omega (arith, g) in
             let i = variable_stands r2 z (omega (arith, g)) (omega (arith, g, l)) in
             let w = position_at s (heads_of r2) short2 (sort_of s r2 z) (Variable z) (stands_at_sort s r2 z i) in
-            let same : joint_sort s r1 r2 x ≡ joint_sort s r1 r2 (variables_of r1 + z) = ap (joint_sort s r1 r2) (sym back) in
+            let same : joint_sort s r1 r2 x ≡ joint_sort s r1 r2 (variables_of r1 + z) =
+                ap (joint_sort s r1 r2) (sym back) in
             let right : joint_sort s r1 r2 (variables_of r1 + z) ≡ s.sort w.0 w.1 = sort_right s r1 r2 z i ∙ w.3 in
             (w.0, w.1, w.2, same ∙ right)
 
     -- a class's sort is of one kind by both, with the same constants
-    class_same : (σ : Substitution) (k : ℕ) → In k (class_sorts s σ r1 r2) → (s.kind k ≡ t.kind k) × (s.constants k ≡ t.constants k)
+    class_same : (σ : Substitution) (k : ℕ) → In k (class_sorts s σ r1 r2) → (s.kind k ≡ t.kind k)
+        × (s.constants k ≡ t.constants k)
     class_same σ k i =
         let w = in_map (joint_sort s r1 r2) k (free_variables σ r1 r2) i in
         let f = free_is σ r1 r2 w.0 w.1 in
@@ -144,11 +157,13 @@ module _ (rules : List Rule) (s t : Sorts) (a : AreFinest rules s) (b : AreFines
         let e : s.sort p.0 p.1 ≡ k = sym (w.2 ∙ p.3) in
         (subst (λ n. s.kind n ≡ t.kind n) e h.kind, subst (λ n. s.constants n ≡ t.constants n) e h.constants)
 
-    pub combinations_same : (σ : Substitution) (rs : List (List ℤ)) → AreCombinations s (class_sorts s σ r1 r2) rs → AreCombinations t (class_sorts t σ r1 r2) rs
+    pub combinations_same : (σ : Substitution) (rs : List (List ℤ)) → AreCombinations s (class_sorts s σ r1 r2) rs
+        → AreCombinations t (class_sorts t σ r1 r2) rs
     combinations_same σ rs c = subst (λ ks. AreCombinations t ks rs) (classes_same σ) (record {
       lists = c.lists;
       each = λ k i. (let h = class_same σ k i in
-          subst (λ (q : Kind × List ℤ). AreListsAt q.0 q.1 (sort_count k (class_sorts s σ r1 r2)) (c.lists k)) (λ j. (h.0 j, h.1 j)) (c.each k i));
+          subst (λ (q : Kind × List ℤ). AreListsAt q.0 q.1 (sort_count k (class_sorts s σ r1 r2)) (c.lists k))
+              (λ j. (h.0 j, h.1 j)) (c.each k i));
       combined = c.combined;
       order = c.order;
     })
@@ -159,13 +174,15 @@ module _ (rules : List Rule) (s t : Sorts) (a : AreFinest rules s) (b : AreFines
     rule2 = c.rule2;
     first = c.first;
     second = c.second;
-    listed = elim c.listed as (λ _. (HasNoUnifier (all_equations c.rule1 c.rule2 o.matching.items) × (cs ≡ [])) ⊎ AreSortedListed t o c.rule1 c.rule2 cs) [
+    listed = elim c.listed as (λ _. (HasNoUnifier (all_equations c.rule1 c.rule2 o.matching.items) × (cs ≡ []))
+        ⊎ AreSortedListed t o c.rule1 c.rule2 cs) [
       | inl n ↦ inl n
       | inr l ↦ inr (record {
         classes = l.classes;
         combinations = l.combinations;
         solves = l.solves;
-        all = combinations_same c.rule1 c.rule2 (a.short (o.first - 1) c.rule1 c.first) (a.short (o.second - 1) c.rule2 c.second) l.classes l.combinations l.all;
+        all = combinations_same c.rule1 c.rule2 (a.short (o.first - 1) c.rule1 c.first)
+            (a.short (o.second - 1) c.rule2 c.second) l.classes l.combinations l.all;
         within = l.within;
         cases_are = l.cases_are;
       })

@@ -36,7 +36,8 @@ AreShort ps = (p : Pattern) → In p ps → length p.args.items ≤ MAX_ARITY
 abbrev pub HaveShortHeads : List Rule → Type 0
 HaveShortHeads rules = (i : ℕ) (r : Rule) → slice_get rules i ≡ Some r → AreShort (heads_of r)
 
--- The sorts fit the rules, whose heads are short, and are as fine as any that do. Constants are 64-bit values, and rise.
+-- The sorts fit the rules, whose heads are short, and are as fine as any that do. Constants are 64-bit values, and
+-- rise.
 pub record AreFinest (rules : List Rule) (o : Sorts) : Type 0 where
   pub short : HaveShortHeads rules
   pub fit : Fit o rules

@@ -11,11 +11,13 @@ module _ (columns : List (List ℤ)) (tests : List Test) (from at : ℕ) (before
     | inr g ↦ after row g h
   ]
 
-  pub least_joined : (found : Option ℕ) → IfSome found (NonePasses columns tests at) → IfSome found (NonePasses columns tests from)
+  pub least_joined : (found : Option ℕ) → IfSome found (NonePasses columns tests at)
+      → IfSome found (NonePasses columns tests from)
   least_joined None h = h
   least_joined (Some row) h = joined row h
 
-  pub none_joined : (found : Option ℕ) (to : ℕ) → IfNone found (NonePasses columns tests at to) → IfNone found (NonePasses columns tests from to)
+  pub none_joined : (found : Option ℕ) (to : ℕ) → IfNone found (NonePasses columns tests at to)
+      → IfNone found (NonePasses columns tests from to)
   none_joined None to h = joined to h
   none_joined (Some row) to h = h
 

@@ -56,7 +56,8 @@ module _ (x y : ℤ) (fits_x : SFits w64 x) (fits_y : SFits w64 y) where
     where
       by : (o : Ordering) → Ranks o → is_eq o ≡ false
       by Less r = refl
-      by Equal r = absurd (let t : nat_eq (of_z w64 x) (of_z w64 y) ≡ true = eq-eqb _ _ (ap (of_z w64) r) in let f : true ≡ false = sym t ∙ e in cc)
+      by Equal r = absurd (let t : nat_eq (of_z w64 x) (of_z w64 y) ≡ true = eq-eqb _ _ (ap (of_z w64) r) in
+          let f : true ≡ false = sym t ∙ e in cc)
       by Greater r = refl
 
   pub not_different : not (nat_eq (of_z w64 x) (of_z w64 y)) ≡ false → is_ne (int_cmp x y) ≡ false

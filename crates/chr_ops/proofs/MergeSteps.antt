@@ -29,11 +29,15 @@ all_start_further (r ∷ rs) s t h g = (starts_further r s t h.0 g, all_start_fu
 starts_from_sorted : (r s : IdRange) → is_lt (range_cmp s r) ≡ false → StartsBy r s
 starts_from_sorted r s h = (grind (arith, nat_tests, h), λ e. grind (arith, nat_tests, h, e))
 
-pub covers_more : (xs : List IdRange) (i : ℕ) (d : IdRange) (id : OpId) → i < length xs → covers (take (i + 1) xs) id ≡ (covers (take i xs) id || in_range (get_or xs i d) id)
+pub covers_more : (xs : List IdRange) (i : ℕ) (d : IdRange) (id : OpId) → i < length xs → covers (take (i + 1) xs) id
+    ≡ (covers (take i xs) id || in_range (get_or xs i d) id)
 covers_more xs i d id l =
-    ap (λ ys. covers ys id) (take_more xs i d l) ∙ list_any-append (λ r. in_range r id) (take i xs) (get_or xs i d ∷ []) ∙ ap (λ b. covers (take i xs) id || b) (or-false (in_range (get_or xs i d) id))
+    ap (λ ys. covers ys id) (take_more xs i d l) ∙ list_any-append (λ r. in_range r id) (take i xs) (get_or xs i d ∷ [])
+        ∙ ap (λ b. covers (take i xs) id || b) (or-false (in_range (get_or xs i d) id))
 
-pub starts_more : (xs : List IdRange) (i : ℕ) (d : IdRange) (old new : List IdRange) → IsSorted range_cmp xs → i + 1 < length xs → AllStartBy old (get_or xs i d) → IsMerged old (get_or xs i d) new → AllStartBy new (get_or xs (i + 1) d)
+pub starts_more : (xs : List IdRange) (i : ℕ) (d : IdRange) (old new : List IdRange) → IsSorted range_cmp xs
+    → i + 1 < length xs → AllStartBy old (get_or xs i d) → IsMerged old (get_or xs i d) new
+    → AllStartBy new (get_or xs (i + 1) d)
 starts_more xs i d old new sorted l h m =
     let step = starts_from_sorted (get_or xs i d) (get_or xs (i + 1) d) (sorted i d (omega arith) l) in
     m.in_order (get_or xs (i + 1) d) step (all_start_further old (get_or xs i d) (get_or xs (i + 1) d) h step)

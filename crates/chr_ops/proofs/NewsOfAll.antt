@@ -1,5 +1,6 @@
 -- News of the sets of a list, where one of them gains operations or holds all that another does.
-use Rattle.std.specs.Prelude.{◌≡◌, ◌≢◌, ℕ, zero, suc, ◌<◌, ◌⊎◌, Bool, true, false, ◌||◌, List, [], ◌∷◌, length, Option, Some, None, cond, slice_get, slice_set}
+use Rattle.std.specs.Prelude.{◌≡◌, ◌≢◌, ℕ, zero, suc, ◌<◌, ◌⊎◌, Bool, true, false, ◌||◌, List, [], ◌∷◌, length, Option}
+use Rattle.std.specs.Prelude.{Some, None, cond, slice_get, slice_set}
 use Rattle.std.proofs.Common.{refl, sym, ap, ◌∙◌, subst, arith, inl, inr}
 use mathlib.Core.Bool.{true≢false}
 use Rattle.std.specs.Option.{option_or, is_some}
@@ -21,7 +22,8 @@ use Rattle.chr_ops.proofs.Unions.{get-union}
 found_one : (q : OpId) (os : List Operation) → is_some (find id_cmp q os) ≡ is_one_of (ids_of os) q
 found_one q [] = refl
 found_one q (o ∷ os) =
-    elim (eq_by_cmp id_cmp q o.0) as (λ b. is_some (cond b (Some o.1) (find id_cmp q os)) ≡ (b || is_one_of (ids_of os) q)) [
+    elim (eq_by_cmp id_cmp q o.0) as (λ b. is_some (cond b (Some o.1) (find id_cmp q os))
+        ≡ (b || is_one_of (ids_of os) q)) [
       | true ↦ refl
       | false ↦ found_one q os
     ]
@@ -30,9 +32,11 @@ either_there : (x y : Option Store) → is_some (option_or x y) ≡ (is_some x |
 either_there None y = refl
 either_there (Some s) y = refl
 
-union_there : (m : Operations) (os : List Operation) (q : OpId) → map.contains_key (union m os) q ≡ (map.contains_key m q || is_one_of (ids_of os) q)
+union_there : (m : Operations) (os : List Operation) (q : OpId) → map.contains_key (union m os) q
+    ≡ (map.contains_key m q || is_one_of (ids_of os) q)
 union_there m os q =
-    ap is_some (get-union m os q) ∙ either_there (map.get m q) (find id_cmp q os) ∙ ap (λ b. map.contains_key m q || b) (found_one q os)
+    ap is_some (get-union m os q) ∙ either_there (map.get m q) (find id_cmp q os) ∙ ap (λ b. map.contains_key m q || b)
+        (found_one q os)
 
 -- a union holds no ids but those of the set and of the list
 pub union_gains : (m : Operations) (os : List Operation) → GainsOnly m (union m os) (ids_of os)
@@ -56,7 +60,8 @@ set_here [] i k l = absurd (omega (arith, l))
 set_here (m ∷ ms) zero k l = refl
 set_here (m ∷ ms) (suc i) k l = set_here ms i k (omega (arith, l))
 
-pub set_elsewhere : {X : Type 0} (ms : List X) (i j : ℕ) (k : X) → j ≢ i → slice_get (slice_set ms i k) j ≡ slice_get ms j
+pub set_elsewhere : {X : Type 0} (ms : List X) (i j : ℕ) (k : X) → j ≢ i → slice_get (slice_set ms i k) j
+    ≡ slice_get ms j
 set_elsewhere [] i j k n = refl
 set_elsewhere (m ∷ ms) zero zero k n = absurd (n refl)
 set_elsewhere (m ∷ ms) zero (suc j) k n = refl
@@ -69,12 +74,14 @@ record Was {X : Type 0} (ms : List X) (i : ℕ) (m k : X) (j : ℕ) (now : X) : 
   pub there : slice_get ms j ≡ Some before
   pub how : ((j ≡ i) × (before ≡ m) × (now ≡ k)) ⊎ ((j ≢ i) × (now ≡ before))
 
-was : {X : Type 0} (ms : List X) (i : ℕ) (m k : X) (j : ℕ) (now : X) → slice_get ms i ≡ Some m → slice_get (slice_set ms i k) j ≡ Some now → Was ms i m k j now
+was : {X : Type 0} (ms : List X) (i : ℕ) (m k : X) (j : ℕ) (now : X) → slice_get ms i ≡ Some m
+    → slice_get (slice_set ms i k) j ≡ Some now → Was ms i m k j now
 was ms i m k j now there at = elim (eqb_tells j i) as (λ _. Was ms i m k j now) [
   | inl e ↦ record {
     before = m;
     there = ap (slice_get ms) e.1 ∙ there;
-    how = inl (e.1, refl, same_Some now k (sym at ∙ ap (slice_get (slice_set ms i k)) e.1 ∙ set_here ms i k (slice_get_within ms i m there)));
+    how = inl (e.1, refl, same_Some now k (sym at ∙ ap (slice_get (slice_set ms i k)) e.1
+        ∙ set_here ms i k (slice_get_within ms i m there)));
   }
   | inr n ↦ record { before = now; there = sym (set_elsewhere ms i j k n.1) ∙ at; how = inr (n.1, refl) }
 ]
@@ -96,20 +103,23 @@ taker_gains w a b m n k holds right g found mark at =
 pub gained_all : (v w : News) (giver : ℕ) (ids : List OpId) (ms : List Operations) (m k : Operations)
     → ((b : ℕ) (m n k : Operations) → IsTrueOf v giver b m n → GainsOnly m k ids → IsTrueOf w giver b k n)
     → ((a b : ℕ) (m n : Operations) → a ≢ giver → IsTrueOf v a b m n → IsTrueOf w a b m n)
-    → slice_get ms giver ≡ Some m → GainsOnly m k ids → HoldsAll k m → IsTrueOfAll v ms → IsTrueOfAll w (slice_set ms giver k)
+    → slice_get ms giver ≡ Some m → GainsOnly m k ids → HoldsAll k m → IsTrueOfAll v ms
+        → IsTrueOfAll w (slice_set ms giver k)
 gained_all v w giver ids ms m k gives others there grows holds right a b s t at_a at_b =
     let x = was ms giver m k a s there at_a in
     let y = was ms giver m k b t there at_b in
     by_taker y.before y.how (by_giver x.before y.before x.how (right a b x.before y.before x.there y.there))
   where
-    by_giver : (x n : Operations) → ((a ≡ giver) × (x ≡ m) × (s ≡ k)) ⊎ ((a ≢ giver) × (s ≡ x)) → IsTrueOf v a b x n → IsTrueOf w a b s n
+    by_giver : (x n : Operations) → ((a ≡ giver) × (x ≡ m) × (s ≡ k)) ⊎ ((a ≢ giver) × (s ≡ x)) → IsTrueOf v a b x n
+        → IsTrueOf w a b s n
     by_giver x n (inl e) h =
         subst (λ s. IsTrueOf w a b s n) (sym e.2)
         (subst (λ a. IsTrueOf w a b k n) (sym e.0)
         (gives b m n k (subst (λ x. IsTrueOf v giver b x n) e.1 (subst (λ a. IsTrueOf v a b x n) e.0 h)) grows))
     by_giver x n (inr e) h = subst (λ s. IsTrueOf w a b s n) (sym e.1) (others a b x n e.0 h)
 
-    by_taker : (y : Operations) → ((b ≡ giver) × (y ≡ m) × (t ≡ k)) ⊎ ((b ≢ giver) × (t ≡ y)) → IsTrueOf w a b s y → IsTrueOf w a b s t
+    by_taker : (y : Operations) → ((b ≡ giver) × (y ≡ m) × (t ≡ k)) ⊎ ((b ≢ giver) × (t ≡ y)) → IsTrueOf w a b s y
+        → IsTrueOf w a b s t
     by_taker y (inl e) h =
         subst (IsTrueOf w a b s) (sym e.2) (taker_gains w a b s m k holds (subst (IsTrueOf w a b s) e.1 h))
     by_taker y (inr e) h = subst (IsTrueOf w a b s) (sym e.1) h
@@ -124,7 +134,8 @@ met_all v w giver taker ms m n meets takers others there_m there_n holds right a
     elim (eqb_tells a giver) as (λ _. IsTrueOf w a b s t) [
       | inl e ↦
           subst (λ a. IsTrueOf w a b s t) (sym e.1)
-          (of_giver (sym at_a ∙ ap (slice_get ms) e.1 ∙ there_m) (subst (λ a. IsTrueOf v a b s t) e.1 (right a b s t at_a at_b)))
+          (of_giver (sym at_a ∙ ap (slice_get ms) e.1 ∙ there_m)
+              (subst (λ a. IsTrueOf v a b s t) e.1 (right a b s t at_a at_b)))
       | inr far ↦ others a b s t far.1 (right a b s t at_a at_b)
     ]
   where

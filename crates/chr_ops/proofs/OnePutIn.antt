@@ -9,7 +9,8 @@ use Rattle.std.specs.FinMap as map
 use Rattle.chr_ops.specs.declared.id.OpId.{OpId}
 use Rattle.chr_ops.specs.Ids.{id_cmp}
 use Rattle.chr_ops.specs.Summaries.{covers}
-use Rattle.chr_ops.specs.working.Covering.{Ends, end_ranges, AreDisjoint, AreAsLongAsPossible, AreJoined, EndsRightBefore, IsLaid, IsPutIn, is_among_ends, is_beside, next_id}
+use Rattle.chr_ops.specs.working.Covering.{Ends, end_ranges, AreDisjoint, AreAsLongAsPossible, AreJoined}
+use Rattle.chr_ops.specs.working.Covering.{EndsRightBefore, IsLaid, IsPutIn, is_among_ends, is_beside, next_id}
 use Rattle.chr_ops.proofs.IdOrder.{id_total, id_exact, same_id}
 use Rattle.chr_ops.proofs.RangeJoins.{differs, eq_self, joined_for, joined_twice, none_ends, none_past, touching_joined}
 use Rattle.chr_ops.proofs.RangesLaid.{fresh_begin, joined_covers, joined_longest, laid_disjoint, laid_more, laid_none}
@@ -40,7 +41,8 @@ module _ (m : Ends) (id : OpId) (d : AreAsLongAsPossible m) (new : covers (end_r
   own_disjoint fit = laid_disjoint m (id ∷ []) own d all_new (own_laid fit)
 
   -- it becomes the last of the range that ends right before it
-  module _ (k : OpId) (h : ℕ) (at : map.get m k ≡ Some h) (same : k.origin ≡ id.origin) (touch : h + 1 ≡ id.number) where
+  module _ (k : OpId) (h : ℕ) (at : map.get m k ≡ Some h) (same : k.origin ≡ id.origin)
+      (touch : h + 1 ≡ id.number) where
     k_not_id : k ≡ id → ⊥
     k_not_id e = (
         let low = (d.disjoint.fits k h at).0 in
@@ -57,7 +59,8 @@ module _ (m : Ends) (id : OpId) (d : AreAsLongAsPossible m) (new : covers (end_r
     grown_is : map.remove (map.insert own k id.number) id ≡ map.insert m k id.number
     grown_is = map.same_map id_total id_exact _ _ (λ q.
         map.get-remove id_total (map.insert own k id.number) id q
-        ∙ ap (cond (eq_by_cmp id_cmp q id) None) (map.get-insert id_total own k id.number q ∙ ap (cond (eq_by_cmp id_cmp q k) (Some id.number)) (get_own q))
+        ∙ ap (cond (eq_by_cmp id_cmp q id) None) (map.get-insert id_total own k id.number q
+            ∙ ap (cond (eq_by_cmp id_cmp q k) (Some id.number)) (get_own q))
         ∙ by q (eq_by_cmp id_cmp q id) refl ∙ sym (map.get-insert id_total m k id.number q))
       where
         by : (q : OpId) (b : Bool) → eq_by_cmp id_cmp q id ≡ b
@@ -83,7 +86,8 @@ module _ (m : Ends) (id : OpId) (d : AreAsLongAsPossible m) (new : covers (end_r
     where
       by : (b : Bool) → eq_by_cmp id_cmp k id ≡ b → ⊥
       by true e = (
-          let last : h ≡ id.number = ap (λ o. unwrap_or o h) (sym at ∙ get_own k ∙ ap (λ b. cond b (Some id.number) (map.get m k)) e) in
+          let last : h ≡ id.number = ap (λ o. unwrap_or o h)
+              (sym at ∙ get_own k ∙ ap (λ b. cond b (Some id.number) (map.get m k)) e) in
           omega (arith, last, touch)
           )
       by false e = none k (h, sym (get_own k ∙ ap (λ b. cond b (Some id.number) (map.get m k)) e) ∙ at, org, touch)
@@ -105,10 +109,12 @@ module _ (m : Ends) (id : OpId) (d : AreAsLongAsPossible m) (new : covers (end_r
   covered_after n o put after =
       let joined = joined_for put.laid o (λ q. is_beside q id) (λ q. list_any (is_beside q) (id ∷ []))
       (λ q s e. ap (λ b. b || false) e) after in
-      (joined_longest m (id ∷ []) put.laid d all_new put.is o joined, joined_covers m (id ∷ []) put.laid d all_new put.is o joined)
+      (joined_longest m (id ∷ []) put.laid d all_new put.is o joined,
+          joined_covers m (id ∷ []) put.laid d all_new put.is o joined)
 
   -- where it is then joined to the range that begins right behind it
-  pub covered_before : (n o : Ends) → IsPutIn m id n → AreJoined n (λ q. eq_by_cmp id_cmp q (next_id id)) o → IsCoveredBy o
+  pub covered_before : (n o : Ends) → IsPutIn m id n → AreJoined n (λ q. eq_by_cmp id_cmp q (next_id id)) o
+      → IsCoveredBy o
   covered_before n o put next =
       covered_after n o put
       (joined_twice put.laid n o (λ q. eq_by_cmp id_cmp q id) (λ q. eq_by_cmp id_cmp q (next_id id)) put.joined next)

@@ -15,7 +15,8 @@ pub record Behind (r : IdRange) (id : OpId) : Type 0 where
   pub number : r.origin ≡ id.origin → r.hi + 1 < id.number
 
 -- an id of a later range is behind the first
-pub behind : (r : IdRange) (ss : List IdRange) (id : OpId) → AllByRecursion (IsBefore r) ss → covers ss id ≡ true → Behind r id
+pub behind : (r : IdRange) (ss : List IdRange) (id : OpId) → AllByRecursion (IsBefore r) ss → covers ss id ≡ true
+    → Behind r id
 behind r [] id all h = absurd (true≢false (sym h))
 behind r (s ∷ ss) id all h = by (in_range s id) refl h (behind r ss id all.1)
   where
@@ -25,14 +26,16 @@ behind r (s ∷ ss) id all h = by (in_range s id) refl h (behind r ss id all.1)
         let o = in_origin s id e in
         let l = in_low s id e in
         let first = all.0.0 in
-        record { origin = omega (arith, o, first); number = λ same. (let before = all.0.1 (same ∙ sym o) in omega (arith, before, l)) }
+        record { origin = omega (arith, o, first); number =
+            λ same. (let before = all.0.1 (same ∙ sym o) in omega (arith, before, l)) }
 
 -- an id of a list of ranges comes no earlier than the first one's beginning
 pub record From (r : IdRange) (id : OpId) : Type 0 where
   pub origin : r.origin ≤ id.origin
   pub number : r.origin ≡ id.origin → r.lo ≤ id.number
 
-pub from_first : (r : IdRange) (rs : List IdRange) (id : OpId) → IsApart (r ∷ rs) → covers (r ∷ rs) id ≡ true → From r id
+pub from_first : (r : IdRange) (rs : List IdRange) (id : OpId) → IsApart (r ∷ rs) → covers (r ∷ rs) id ≡ true
+    → From r id
 from_first r rs id apart h = by (in_range r id) refl h
   where
     by : (b : Bool) → in_range r id ≡ b → b || covers rs id ≡ true → From r id
@@ -58,7 +61,8 @@ next_not r rs apart h = by (in_range r (next_id r)) refl h
     by false e g = (let b = (behind r rs (next_id r) apart.1 g).number refl in omega (arith, b))
 
 -- the first range ends no earlier than the other's first
-ends : (r s : IdRange) (rs ss : List IdRange) → IsApart (r ∷ rs) → IsApart (s ∷ ss) → ((id : OpId) → covers (r ∷ rs) id ≡ covers (s ∷ ss) id) → r.origin ≡ s.origin → r.lo ≡ s.lo → s.hi ≤ r.hi
+ends : (r s : IdRange) (rs ss : List IdRange) → IsApart (r ∷ rs) → IsApart (s ∷ ss)
+    → ((id : OpId) → covers (r ∷ rs) id ≡ covers (s ∷ ss) id) → r.origin ≡ s.origin → r.lo ≡ s.lo → s.hi ≤ r.hi
 ends r s rs ss apart apart' same o l = by (nat_le s.hi r.hi) refl
   where
     by : (b : Bool) → nat_le s.hi r.hi ≡ b → s.hi ≤ r.hi
@@ -70,22 +74,26 @@ ends r s rs ss apart apart' same o l = by (nat_le s.hi r.hi) refl
         absurd (next_not r rs apart (same (next_id r) ∙ ap (λ b. b || covers ss (next_id r)) here))
 
 -- an id of the first range is in no later one
-pub not_later : (r : IdRange) (rs : List IdRange) (id : OpId) → AllByRecursion (IsBefore r) rs → in_range r id ≡ true → covers rs id ≡ false
+pub not_later : (r : IdRange) (rs : List IdRange) (id : OpId) → AllByRecursion (IsBefore r) rs → in_range r id ≡ true
+    → covers rs id ≡ false
 not_later r rs id all h = by (covers rs id) refl
   where
     by : (b : Bool) → covers rs id ≡ b → b ≡ false
     by false e = refl
-    by true e = absurd (let b = (behind r rs id all e).number (in_origin r id h) in let l = in_high r id h in omega (arith, b, l))
+    by true e = absurd (let b = (behind r rs id all e).number (in_origin r id h) in let l = in_high r id h in
+        omega (arith, b, l))
 
 -- what the later ones cover is the same
-later_same : (r : IdRange) (rs ss : List IdRange) → IsApart (r ∷ rs) → IsApart (r ∷ ss) → ((id : OpId) → covers (r ∷ rs) id ≡ covers (r ∷ ss) id) → (id : OpId) → covers rs id ≡ covers ss id
+later_same : (r : IdRange) (rs ss : List IdRange) → IsApart (r ∷ rs) → IsApart (r ∷ ss)
+    → ((id : OpId) → covers (r ∷ rs) id ≡ covers (r ∷ ss) id) → (id : OpId) → covers rs id ≡ covers ss id
 later_same r rs ss apart apart' same id = by (in_range r id) refl (same id)
   where
     by : (b : Bool) → in_range r id ≡ b → b || covers rs id ≡ b || covers ss id → covers rs id ≡ covers ss id
     by true e g = not_later r rs id apart.1 e ∙ sym (not_later r ss id apart'.1 e)
     by false e g = g
 
-same_first : (r s : IdRange) (rs ss : List IdRange) → IsApart (r ∷ rs) → IsApart (s ∷ ss) → ((id : OpId) → covers (r ∷ rs) id ≡ covers (s ∷ ss) id) → r ≡ s
+same_first : (r s : IdRange) (rs ss : List IdRange) → IsApart (r ∷ rs) → IsApart (s ∷ ss)
+    → ((id : OpId) → covers (r ∷ rs) id ≡ covers (s ∷ ss) id) → r ≡ s
 same_first r s rs ss apart apart' same =
     let left = from_first s ss (first_id r) apart' (sym (same (first_id r)) ∙ first_covered r rs apart) in
     let right = from_first r rs (first_id s) apart (same (first_id s) ∙ first_covered s ss apart') in
@@ -109,5 +117,6 @@ one (r ∷ rs) (s ∷ ss) apart apart' same = with_first (same_first r s rs ss a
     with_first : r ≡ s → (IsApart ss → ((id : OpId) → covers rs id ≡ covers ss id) → rs ≡ ss) → r ∷ rs ≡ s ∷ ss
     with_first e more =
         let moved : IsApart (r ∷ ss) = subst (λ x. IsApart (x ∷ ss)) (sym e) apart' in
-        let rest = more apart'.2 (later_same r rs ss apart moved (λ id. same id ∙ ap (λ x. covers (x ∷ ss) id) (sym e))) in
+        let rest = more apart'.2 (later_same r rs ss apart moved
+            (λ id. same id ∙ ap (λ x. covers (x ∷ ss) id) (sym e))) in
         λ i. e i ∷ rest i

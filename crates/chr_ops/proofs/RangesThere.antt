@@ -1,5 +1,6 @@
 -- Each set has a summary: the ids that it holds, merged one after the other as ranges of their own.
-use Rattle.std.specs.Prelude.{◌≡◌, ◌+◌, ◌≤◌, ◌⊎◌, Bool, true, false, ◌&&◌, ◌||◌, ◌==◌, nat_le, List, [], ◌∷◌, ◌++◌, Some, Option, cond}
+use Rattle.std.specs.Prelude.{◌≡◌, ◌+◌, ◌≤◌, ◌⊎◌, Bool, true, false, ◌&&◌, ◌||◌, ◌==◌, nat_le, List, [], ◌∷◌, ◌++◌}
+use Rattle.std.specs.Prelude.{Some, Option, cond}
 use Rattle.std.proofs.Common.{refl, sym, ap, ◌∙◌, subst, arith, inl, inr}
 use Rattle.std.specs.List.{AllByRecursion}
 use Rattle.std.specs.Option.{is_some}
@@ -50,24 +51,28 @@ Touches last next = (last.origin ≡ next.origin) × (next.lo ≤ last.hi + 1)
 touches_or : (last next : IdRange) → Touches last next ⊎ (¬ (Touches last next))
 touches_or last next = by (last.origin == next.origin && nat_le next.lo (last.hi + 1)) refl
   where
-    by : (b : Bool) → (last.origin == next.origin && nat_le next.lo (last.hi + 1)) ≡ b → Touches last next ⊎ (¬ (Touches last next))
+    by : (b : Bool) → (last.origin == next.origin && nat_le next.lo (last.hi + 1)) ≡ b → Touches last next
+        ⊎ (¬ (Touches last next))
     by true e = inl (grind (arith, nat_tests, e), grind (arith, nat_tests, e))
     by false e = inr (λ h. (let o = h.0 in let l = h.1 in grind (arith, nat_tests, e, o, l)))
 
-merged_with : (front : List IdRange) (last next : IdRange) → IsApart (front ++ last ∷ []) → AllStartBy (front ++ last ∷ []) next → next.lo ≤ next.hi → HasMerged (front ++ last ∷ []) next
+merged_with : (front : List IdRange) (last next : IdRange) → IsApart (front ++ last ∷ [])
+    → AllStartBy (front ++ last ∷ []) next → next.lo ≤ next.hi → HasMerged (front ++ last ∷ []) next
 merged_with front last next apart starts range =
     elim (touches_or last next) as (λ _. HasMerged (front ++ last ∷ []) next) [
       | inl t ↦ (front ++ hull last next ∷ [], merged_touching front last next apart starts range t.0 t.1)
       | inr n ↦ ((front ++ last ∷ []) ++ next ∷ [], merged_behind front last next apart starts range n)
     ]
 
-merged_there : (old : List IdRange) (next : IdRange) → IsApart old → AllStartBy old next → next.lo ≤ next.hi → HasMerged old next
+merged_there : (old : List IdRange) (next : IdRange) → IsApart old → AllStartBy old next → next.lo ≤ next.hi
+    → HasMerged old next
 merged_there old next apart starts range =
     elim (last_of old) as (λ _. HasMerged old next) [
       | inl none ↦ subst (λ rs. HasMerged rs next) (sym none) (next ∷ [], merged_first next range)
       | inr some ↦
           (let still = subst (λ rs. AllStartBy rs next) some.2 starts in
-          subst (λ rs. HasMerged rs next) (sym some.2) (merged_with some.0 some.1 next (subst IsApart some.2 apart) still range))
+          subst (λ rs. HasMerged rs next) (sym some.2)
+              (merged_with some.0 some.1 next (subst IsApart some.2 apart) still range))
     ]
 
 -- ---- ids in order
@@ -86,18 +91,22 @@ AllStartByEach rs es = AllByRecursion (λ e. AllStartBy rs (alone e.0)) es
 still_start : (old new : List IdRange) (k : OpId) (es : List Operation) → IsMerged old (alone k) new
     → AllByRecursion (λ q. id_cmp k q ≡ Less) (keys_of es) → AllStartByEach old es → AllStartByEach new es
 still_start old new k [] m below starts = tt
-still_start old new k (e ∷ es) m below starts = (m.in_order (alone e.0) (starts_by k e.0 below.0) starts.0, still_start old new k es m below.1 starts.1)
+still_start old new k (e ∷ es) m below starts = (m.in_order (alone e.0) (starts_by k e.0 below.0) starts.0,
+    still_start old new k es m below.1 starts.1)
 
-found_more : (past here : Bool) (e : Operation) (x : Option _) → ((past || here) || is_some x) ≡ (past || is_some (cond here (Some e.1) x))
+found_more : (past here : Bool) (e : Operation) (x : Option _) → ((past || here) || is_some x)
+    ≡ (past || is_some (cond here (Some e.1) x))
 found_more true here e x = refl
 found_more false true e x = refl
 found_more false false e x = refl
 
 -- ranges that cover what these do, and the ids of entries in order
 abbrev HasRanges : List Operation → List IdRange → Type 0
-HasRanges es old = (new : List IdRange) × IsApart new × ((q : OpId) → covers new q ≡ (covers old q || is_some (find id_cmp q es)))
+HasRanges es old = (new : List IdRange) × IsApart new × ((q : OpId) → covers new q
+    ≡ (covers old q || is_some (find id_cmp q es)))
 
-ranges_there : (es : List Operation) (old : List IdRange) → IsStrictlySortedBy id_cmp (keys_of es) → IsApart old → AllStartByEach old es → HasRanges es old
+ranges_there : (es : List Operation) (old : List IdRange) → IsStrictlySortedBy id_cmp (keys_of es) → IsApart old
+    → AllStartByEach old es → HasRanges es old
 ranges_there [] old rise apart starts = (old, apart, λ q. sym (or-false (covers old q)))
 ranges_there (e ∷ es) old rise apart starts =
     let m = merged_there old (alone e.0) apart starts.0 (omega arith) in
@@ -105,7 +114,8 @@ ranges_there (e ∷ es) old rise apart starts =
     let more = ranges_there es m.0 (sorted_tail id_cmp e.0 (keys_of es) rise) m.1.apart still in (
       more.0,
       more.1,
-      λ q. more.2 q ∙ ap (λ b. b || is_some (find id_cmp q es)) (m.1.covering q ∙ ap (λ b. covers old q || b) (in_alone e.0 q))
+      λ q. more.2 q ∙ ap (λ b. b || is_some (find id_cmp q es))
+          (m.1.covering q ∙ ap (λ b. covers old q || b) (in_alone e.0 q))
           ∙ found_more (covers old q) (eq_by_cmp id_cmp q e.0) e (find id_cmp q es),
     )
 

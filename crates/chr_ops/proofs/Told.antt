@@ -22,19 +22,23 @@ pub swap_front : (s t u : Store) → s ⊕ (t ⊕ u) ≡ t ⊕ (s ⊕ u)
 swap_front s t u = sym (plus_assoc s t u) ∙ ap (λ x. x ⊕ u) (plus_comm s t) ∙ plus_assoc t s u
 
 -- a new id's bag joins the sum
-sum_of-put : (k : OpId) (v : Store) (es : List Operation) → find id_cmp k es ≡ None → sum_of (put id_cmp k v es) ≡ v ⊕ sum_of es
+sum_of-put : (k : OpId) (v : Store) (es : List Operation) → find id_cmp k es ≡ None → sum_of (put id_cmp k v es)
+    ≡ v ⊕ sum_of es
 sum_of-put k v [] h = refl
 sum_of-put k v (e ∷ es) h = by (id_cmp k e.0) h (λ g. sum_of-put k v es g)
   where
-    by : (r : Ordering) → cond (is_eq r) (Some e.1) (find id_cmp k es) ≡ None → (find id_cmp k es ≡ None → sum_of (put id_cmp k v es) ≡ v ⊕ sum_of es)
+    by : (r : Ordering) → cond (is_eq r) (Some e.1) (find id_cmp k es) ≡ None
+        → (find id_cmp k es ≡ None → sum_of (put id_cmp k v es) ≡ v ⊕ sum_of es)
         → sum_of (by_order r ((k, v) ∷ e ∷ es) ((e.0, v) ∷ es) (e ∷ put id_cmp k v es)) ≡ v ⊕ (e.1 ⊕ sum_of es)
     by Less g more = refl
     by Equal g more = absurd (true≢false (ap is_some g))
     by Greater g more = ap (λ s. e.1 ⊕ s) (more g) ∙ swap_front e.1 v (sum_of es)
 
-pub told_store-insert : (m : Operations) (k : OpId) (v : Store) → map.get m k ≡ None → told_store (map.insert m k v) ≡ told_store m ⊕ v
+pub told_store-insert : (m : Operations) (k : OpId) (v : Store) → map.get m k ≡ None → told_store (map.insert m k v)
+    ≡ told_store m ⊕ v
 told_store-insert m k v h =
-    ap sum_of (map.entries-insert id_total m k v) ∙ sum_of-put k v (map.entries m) (sym (map.get-entries m k) ∙ h) ∙ plus_comm v (told_store m)
+    ap sum_of (map.entries-insert id_total m k v) ∙ sum_of-put k v (map.entries m) (sym (map.get-entries m k) ∙ h)
+        ∙ plus_comm v (told_store m)
 
 -- a set of none tells nothing
 pub told_store-empty : told_store map.empty ≡ bag.empty

@@ -43,11 +43,15 @@ entries_have_values m h = values_of_sum (map.entries m) h
 
 fresh_have_values : (os : List Operation) (m : Operations) → HaveValues os → HasValues (sum_of (fresh m os))
 fresh_have_values [] m h = each_empty (args_in is_value)
-fresh_have_values (o ∷ os) m h = by (map.contains_key m o.0) (fresh_have_values os m h.1) (fresh_have_values os (map.insert m o.0 o.1) h.1)
+fresh_have_values (o ∷ os) m h = by (map.contains_key m o.0) (fresh_have_values os m h.1)
+    (fresh_have_values os (map.insert m o.0 o.1) h.1)
   where
-    by : (b : Bool) → HasValues (sum_of (fresh m os)) → HasValues (sum_of (fresh (map.insert m o.0 o.1) os)) → HasValues (sum_of (cond b (fresh m os) (o ∷ fresh (map.insert m o.0 o.1) os)))
+    by : (b : Bool) → HasValues (sum_of (fresh m os)) → HasValues (sum_of (fresh (map.insert m o.0 o.1) os))
+        → HasValues (sum_of (cond b (fresh m os) (o ∷ fresh (map.insert m o.0 o.1) os)))
     by true held new = held
     by false held new = each_plus (args_in is_value) o.1 (sum_of (fresh (map.insert m o.0 o.1) os)) h.0 new
 
-pub union_has_values : (m : Operations) (os : List Operation) → HasValues (told_store m) → HaveValues os → HasValues (told_store (union m os))
-union_has_values m os h g = rw (told_store-union m os) (each_plus (args_in is_value) (told_store m) (sum_of (fresh m os)) h (fresh_have_values os m g))
+pub union_has_values : (m : Operations) (os : List Operation) → HasValues (told_store m) → HaveValues os
+    → HasValues (told_store (union m os))
+union_has_values m os h g = rw (told_store-union m os)
+    (each_plus (args_in is_value) (told_store m) (sum_of (fresh m os)) h (fresh_have_values os m g))

@@ -10,17 +10,22 @@ use Rattle.chr_base.proofs.Instances.{numbered_rule}
 use Rattle.chr_base.proofs.Terms.{first_numbered, then_numbered}
 
 -- the heads from a place on: its terms come first
-pub terms_from : (ps : List Pattern) (i : ℕ) → i < length ps → terms_of (drop i ps) ≡ (get_or ps i no_pattern).args.items ++ terms_of (drop (i + 1) ps)
+pub terms_from : (ps : List Pattern) (i : ℕ) → i < length ps → terms_of (drop i ps)
+    ≡ (get_or ps i no_pattern).args.items ++ terms_of (drop (i + 1) ps)
 terms_from ps i h = ap terms_of (drop_more ps i no_pattern h)
 
 -- counting place by place: the next place is numbered, and what follows is counted on from there
-pub place_numbered : (r : Rule) (i n : ℕ) → i < length (heads_of r) → numbered n (terms_of (drop i (heads_of r))) ≡ numbered 0 (terms_of (heads_of r))
+pub place_numbered : (r : Rule) (i n : ℕ) → i < length (heads_of r) → numbered n (terms_of (drop i (heads_of r)))
+    ≡ numbered 0 (terms_of (heads_of r))
     → is_some (numbered n (get_or (heads_of r) i no_pattern).args.items) ≡ true
 place_numbered r i n l e =
     first_numbered n (get_or (heads_of r) i no_pattern).args.items (terms_of (drop (i + 1) (heads_of r)))
     (ap (λ ts. is_some (numbered n ts)) (sym (terms_from (heads_of r) i l)) ∙ ap is_some e ∙ numbered_rule r)
 
-pub place_counted : (r : Rule) (i n m : ℕ) → i < length (heads_of r) → numbered n (terms_of (drop i (heads_of r))) ≡ numbered 0 (terms_of (heads_of r))
-    → numbered n (get_or (heads_of r) i no_pattern).args.items ≡ Some m → numbered m (terms_of (drop (i + 1) (heads_of r))) ≡ numbered 0 (terms_of (heads_of r))
+pub place_counted : (r : Rule) (i n m : ℕ) → i < length (heads_of r) → numbered n (terms_of (drop i (heads_of r)))
+    ≡ numbered 0 (terms_of (heads_of r))
+    → numbered n (get_or (heads_of r) i no_pattern).args.items ≡ Some m
+        → numbered m (terms_of (drop (i + 1) (heads_of r))) ≡ numbered 0 (terms_of (heads_of r))
 place_counted r i n m l e k =
-    sym (then_numbered n m (get_or (heads_of r) i no_pattern).args.items (terms_of (drop (i + 1) (heads_of r))) k) ∙ ap (numbered n) (sym (terms_from (heads_of r) i l)) ∙ e
+    sym (then_numbered n m (get_or (heads_of r) i no_pattern).args.items (terms_of (drop (i + 1) (heads_of r))) k)
+        ∙ ap (numbered n) (sym (terms_from (heads_of r) i l)) ∙ e

@@ -6,7 +6,8 @@ use Rattle.chr_base.specs.Stores.{store_of}
 use Rattle.chr_confluence.specs.Unifiers.{Substitution}
 use Rattle.chr_confluence.specs.Representatives.{left_at, right_at}
 
--- at all values of the classes: what the first rule puts in and the second takes away is what the second puts in and the
+-- at all values of the classes: what the first rule puts in and the second takes away is what the second puts in and
+-- the
 -- first takes away
 abbrev pub HaveEqualSides : Rule → Rule → Substitution → Type 0
 HaveEqualSides r1 r2 σ =

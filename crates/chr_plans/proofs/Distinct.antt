@@ -1,5 +1,6 @@
 -- Head places that are known, each once.
-use Rattle.std.proofs.Common.{◌≡◌, ℕ, zero, suc, ◌<◌, ◌≤◌, List, [], ◌∷◌, ◌++◌, length, get_or, take, Bool, true, false, nat_eq, refl, sym, ◌∙◌, arith}
+use Rattle.std.proofs.Common.{◌≡◌, ℕ, zero, suc, ◌<◌, ◌≤◌, List, [], ◌∷◌, ◌++◌, length, get_or, take, Bool, true, false}
+use Rattle.std.proofs.Common.{nat_eq, refl, sym, ◌∙◌, arith}
 use Rattle.std.specs.Prelude.{◌||◌}
 use Rattle.std.specs.List.{list_any, IsDistinct}
 use Rattle.std.specs.Cmp.{unsigned_Decides, nat_eq_equiv}
@@ -15,7 +16,8 @@ pub in_list : (xs : List ℕ) (q : ℕ) → is_in q xs ≡ true → (j : ℕ) ×
 in_list [] q e = absurd (let f : false ≡ true = e in cc)
 in_list (x ∷ xs) q e = by (nat_eq q x) refl e (in_list xs q)
   where
-    by : (b : Bool) → nat_eq q x ≡ b → (b || list_any (nat_eq q) xs) ≡ true → (is_in q xs ≡ true → (j : ℕ) × (j < length xs) × (get_or xs j 0 ≡ q))
+    by : (b : Bool) → nat_eq q x ≡ b → (b || list_any (nat_eq q) xs) ≡ true
+        → (is_in q xs ≡ true → (j : ℕ) × (j < length xs) × (get_or xs j 0 ≡ q))
         → (j : ℕ) × (j < suc (length xs)) × (get_or (x ∷ xs) j 0 ≡ q)
     by true f g more = (0, omega arith, sym ((unsigned_Decides q x).0 f))
     by false f g more = let w = more g in (suc w.0, (let l = w.1 in omega (arith, l)), w.2)
@@ -25,7 +27,8 @@ in_take zero xs q e = absurd (let f : false ≡ true = e in cc)
 in_take (suc n) [] q e = absurd (let f : false ≡ true = e in cc)
 in_take (suc n) (x ∷ xs) q e = by (nat_eq q x) refl e (in_take n xs q)
   where
-    by : (b : Bool) → nat_eq q x ≡ b → (b || list_any (nat_eq q) (take n xs)) ≡ true → (is_in q (take n xs) ≡ true → (j : ℕ) × (j < n) × (get_or xs j 0 ≡ q))
+    by : (b : Bool) → nat_eq q x ≡ b → (b || list_any (nat_eq q) (take n xs)) ≡ true
+        → (is_in q (take n xs) ≡ true → (j : ℕ) × (j < n) × (get_or xs j 0 ≡ q))
         → (j : ℕ) × (j < suc n) × (get_or (x ∷ xs) j 0 ≡ q)
     by true f g more = (0, omega arith, sym ((unsigned_Decides q x).0 f))
     by false f g more = let w = more g in (suc w.0, (let l = w.1 in omega (arith, l)), w.2)
@@ -35,7 +38,8 @@ place_of : (r : Rule) (xs : List ℕ) (q : ℕ) → ArePlaces r xs → is_in q x
 place_of r [] q a e = absurd (let f : false ≡ true = e in cc)
 place_of r (x ∷ xs) q a e = by (nat_eq q x) refl e (place_of r xs q a.1)
   where
-    by : (b : Bool) → nat_eq q x ≡ b → (b || list_any (nat_eq q) xs) ≡ true → (is_in q xs ≡ true → q < length (heads_of r)) → q < length (heads_of r)
+    by : (b : Bool) → nat_eq q x ≡ b → (b || list_any (nat_eq q) xs) ≡ true
+        → (is_in q xs ≡ true → q < length (heads_of r)) → q < length (heads_of r)
     by true f g more = let h : q ≡ x = (unsigned_Decides q x).0 f in let l = a.0 in omega (arith, h, l)
     by false f g more = more g
 
@@ -44,7 +48,8 @@ place_at r [] j a l = absurd (omega (arith, l))
 place_at r (x ∷ xs) zero a l = a.0
 place_at r (x ∷ xs) (suc j) a l = place_at r xs j a.1 (omega (arith, l))
 
-pub places_more : (r : Rule) (xs : List ℕ) (q : ℕ) → ArePlaces r xs → q < length (heads_of r) → ArePlaces r (xs ++ q ∷ [])
+pub places_more : (r : Rule) (xs : List ℕ) (q : ℕ) → ArePlaces r xs → q < length (heads_of r)
+    → ArePlaces r (xs ++ q ∷ [])
 places_more r [] q a l = (l, tt)
 places_more r (x ∷ xs) q a l = (a.0, places_more r xs q a.1 l)
 

@@ -1,5 +1,6 @@
 -- What is made is a plan.
-use Rattle.std.proofs.Common.{◌≡◌, ℕ, ℤ, zero, suc, ◌+◌, ◌<◌, List, [], ◌∷◌, ◌++◌, length, get_or, take, Bool, true, false, nat_eq, refl, sym, ap, ◌∙◌, arith, subst, inl, inr, Option}
+use Rattle.std.proofs.Common.{◌≡◌, ℕ, ℤ, zero, suc, ◌+◌, ◌<◌, List, [], ◌∷◌, ◌++◌, length, get_or, take, Bool, true}
+use Rattle.std.proofs.Common.{false, nat_eq, refl, sym, ap, ◌∙◌, arith, subst, inl, inr, Option}
 use Rattle.std.specs.Prelude.{Some, None, option_map, ◌||◌, if◌then◌else◌}
 use Rattle.std.proofs.Common.{Ordering}
 use Rattle.std.specs.Ordering.{int_cmp, ordering_reverse}
@@ -29,8 +30,12 @@ use Rattle.chr_plans.specs.declared.key.Test.{Test}
 use Rattle.chr_plans.specs.declared.key.Limit.{Limit}
 use Rattle.chr_plans.specs.declared.plan.Partner.{Partner}
 use Rattle.chr_plans.specs.Keys.{argument, source_value, passes}
-use Rattle.chr_plans.specs.Plans.{pattern_at, places_of, IsKnown, IsReady, IsSource, AreKeys, IsTest, AreTests, IsLimit, AreLimits, IsPlan}
-use Rattle.chr_plans.specs.Planning.{is_in, column_of, variable_source, direct_source, is_equal, beside, equal_to, equal_source, term_source, with_key, keys_from, test_by, test_of, with_test, tests_from, turned, own_column, limit_by, limit_of, with_limit, limits_from, IsLongest, AreLongest}
+use Rattle.chr_plans.specs.Plans.{pattern_at, places_of, IsKnown, IsReady, IsSource, AreKeys, IsTest, AreTests, IsLimit}
+use Rattle.chr_plans.specs.Plans.{AreLimits, IsPlan}
+use Rattle.chr_plans.specs.Planning.{is_in, column_of, variable_source, direct_source, is_equal, beside, equal_to}
+use Rattle.chr_plans.specs.Planning.{equal_source, term_source, with_key, keys_from, test_by, test_of, with_test}
+use Rattle.chr_plans.specs.Planning.{tests_from, turned, own_column, limit_by, limit_of, with_limit, limits_from}
+use Rattle.chr_plans.specs.Planning.{IsLongest, AreLongest}
 use Rattle.chr_plans.specs.working.Choosing.{ArePlaces}
 use Rattle.chr_plans.proofs.Values.{term_at, no_term, argument_value}
 use Rattle.chr_plans.proofs.Distinct.{in_list, in_take, place_at, apart, few, distinct_more, places_more}
@@ -39,7 +44,8 @@ variable_is : (x : ℕ) (t : Term) → is_variable x t ≡ true → t ≡ term.V
 variable_is x (term.Variable y) e = ap term.Variable (sym ((unsigned_Decides x y).0 e))
 variable_is x (term.Constant c) e = absurd (let f : false ≡ true = e in cc)
 
-column_sound : (ts : List Term) (x c k : ℕ) → column_of ts x c ≡ Some k → (j : ℕ) × (k ≡ c + j) × (get_or ts j no_term ≡ term.Variable x)
+column_sound : (ts : List Term) (x c k : ℕ) → column_of ts x c ≡ Some k → (j : ℕ) × (k ≡ c + j)
+    × (get_or ts j no_term ≡ term.Variable x)
 column_sound [] x c k e = absurd (let f : ◌≡◌ {A = Option ℕ} None (Some k) = e in cc)
 column_sound (t ∷ ts) x c k e = by (is_variable x t) refl e (column_sound ts x (c + 1) k)
   where
@@ -62,14 +68,17 @@ variable_sound r (p ∷ known) x s e = by (column_of (pattern_at r p).args.items
     itself : (n : ℕ) (b : Bool) → (nat_eq n n || b) ≡ true
     itself n b = ap (λ a. a || b) ((unsigned_Decides n n).1 refl)
 
-    by : (o : Option ℕ) → column_of (pattern_at r p).args.items x 0 ≡ o → option_or (option_map (λ c. Argument p c) o) (variable_source r known x) ≡ Some s
-        → (variable_source r known x ≡ Some s → (q : ℕ) × (c : ℕ) × (s ≡ Argument q c) × (is_in q known ≡ true) × (term_at r q c ≡ term.Variable x))
+    by : (o : Option ℕ) → column_of (pattern_at r p).args.items x 0 ≡ o → option_or (option_map (λ c. Argument p c) o)
+        (variable_source r known x) ≡ Some s
+        → (variable_source r known x ≡ Some s → (q : ℕ) × (c : ℕ) × (s ≡ Argument q c) × (is_in q known ≡ true)
+            × (term_at r q c ≡ term.Variable x))
         → (q : ℕ) × (c : ℕ) × (s ≡ Argument q c) × (is_in q (p ∷ known) ≡ true) × (term_at r q c ≡ term.Variable x)
     by None f g more = let w = more g in (w.0, w.1, w.2, or_right (nat_eq w.0 p) _ w.3, w.4)
     by (Some c) f g more =
         let w = column_sound (pattern_at r p).args.items x 0 c f in
         let k : c ≡ w.0 = (let h = w.1 in omega (arith, h)) in
-        (p, c, sym (same_Some (Argument p c) s g), itself p (list_any (nat_eq p) known), ap (λ j. get_or (pattern_at r p).args.items j no_term) k ∙ w.2)
+        (p, c, sym (same_Some (Argument p c) s g), itself p (list_any (nat_eq p) known),
+            ap (λ j. get_or (pattern_at r p).args.items j no_term) k ∙ w.2)
 
 -- a place that is known
 known_at : (places : List ℕ) (p n q : ℕ) → is_in q (p ∷ take n places) ≡ true → IsKnown places p n q
@@ -82,17 +91,21 @@ known_at places p n q e = by (nat_eq q p) refl e
 -- a source that is ready, and has the term's value under each valuation that makes the guard true
 abbrev IsTermSource : Rule → List ℕ → ℕ → ℕ → Term → Source → Type 0
 IsTermSource r places p n t s =
-    IsReady places p n s × ((v : Valuation) → guard_holds v r.guard.items ≡ true → source_value (heads_at v r) s ≡ term_value v t)
+    IsReady places p n s × ((v : Valuation) → guard_holds v r.guard.items ≡ true → source_value (heads_at v r) s
+        ≡ term_value v t)
 
-direct_sound : (r : Rule) (places : List ℕ) (p n : ℕ) (t : Term) (s : Source) → direct_source r (p ∷ take n places) t ≡ Some s → IsTermSource r places p n t s
+direct_sound : (r : Rule) (places : List ℕ) (p n : ℕ) (t : Term) (s : Source) → direct_source r (p ∷ take n places) t
+    ≡ Some s → IsTermSource r places p n t s
 direct_sound r places p n (term.Variable x) s e =
     let w = variable_sound r (p ∷ take n places) x s e in
     subst (IsTermSource r places p n (term.Variable x)) (sym w.2)
     (known_at places p n w.0 w.3, λ v g. (argument_value r v (heads_at v r) w.0 w.1 refl ∙ ap (term_value v) w.4))
-direct_sound r places p n (term.Constant c) s e = subst (IsTermSource r places p n (term.Constant c)) (same_Some (Constant c) s e) (tt, λ v g. refl)
+direct_sound r places p n (term.Constant c) s e = subst (IsTermSource r places p n (term.Constant c))
+    (same_Some (Constant c) s e) (tt, λ v g. refl)
 
 -- what a comparison that holds says a variable equals has its value
-equal_sound : (v : Valuation) (x : ℕ) (c : Comparison) (t : Term) → equal_to x c ≡ Some t → comparison_holds v c ≡ true → term_value v t ≡ v x
+equal_sound : (v : Valuation) (x : ℕ) (c : Comparison) (t : Term) → equal_to x c ≡ Some t → comparison_holds v c ≡ true
+    → term_value v t ≡ v x
 equal_sound v x c t e holds = by c.cmp c.left c.right e holds
   where
     sides : (l u : Term) → beside x l u ≡ Some t → term_value v l ≡ term_value v u → term_value v t ≡ v x
@@ -102,76 +115,94 @@ equal_sound v x c t e holds = by c.cmp c.left c.right e holds
         right true g h = ap (term_value v) (sym (same_Some l t h)) ∙ same ∙ ap (term_value v) (variable_is x u g)
         right false g h = absurd (let z : ◌≡◌ {A = Option Term} None (Some t) = h in cc)
 
-        left : (b : Bool) → is_variable x l ≡ b → (if b then Some u else (if is_variable x u then Some l else None)) ≡ Some t → term_value v t ≡ v x
+        left : (b : Bool) → is_variable x l ≡ b → (if b then Some u else (if is_variable x u then Some l else None))
+            ≡ Some t → term_value v t ≡ v x
         left true g h = ap (term_value v) (sym (same_Some u t h)) ∙ sym same ∙ ap (term_value v) (variable_is x l g)
         left false g h = right (is_variable x u) refl h
 
     none : None ≡ Some t → term_value v t ≡ v x
     none f = absurd (let z : ◌≡◌ {A = Option Term} None (Some t) = f in cc)
 
-    by : (k : Cmp) (l u : Term) → (if is_equal k then beside x l u else None) ≡ Some t → compares k (int_cmp (term_value v l) (term_value v u)) ≡ true → term_value v t ≡ v x
+    by : (k : Cmp) (l u : Term) → (if is_equal k then beside x l u else None) ≡ Some t
+        → compares k (int_cmp (term_value v l) (term_value v u)) ≡ true → term_value v t ≡ v x
     by Less l u f h = none f
     by AtMost l u f h = none f
     by Greater l u f h = none f
     by AtLeast l u f h = none f
-    by Equal l u f h = sides l u f (int_cmp-IsAntisymmetric _ _ ((Equal-is (int_cmp (term_value v l) (term_value v u))).0 h))
+    by Equal l u f h = sides l u f (int_cmp-IsAntisymmetric _ _
+        ((Equal-is (int_cmp (term_value v l) (term_value v u))).0 h))
     by NotEqual l u f h = none f
 
 -- a source that is ready, and has the variable's value where the guard and these comparisons hold
 abbrev IsEqualSource : Rule → List ℕ → ℕ → ℕ → ℕ → List Comparison → Source → Type 0
 IsEqualSource r places p n x cs s =
-    IsReady places p n s × ((v : Valuation) → guard_holds v r.guard.items ≡ true → guard_holds v cs ≡ true → source_value (heads_at v r) s ≡ v x)
+    IsReady places p n s × ((v : Valuation) → guard_holds v r.guard.items ≡ true → guard_holds v cs ≡ true
+        → source_value (heads_at v r) s ≡ v x)
 
-equal_source_sound : (r : Rule) (places : List ℕ) (p n x : ℕ) (cs : List Comparison) (s : Source) → equal_source r (p ∷ take n places) x cs ≡ Some s → IsEqualSource r places p n x cs s
+equal_source_sound : (r : Rule) (places : List ℕ) (p n x : ℕ) (cs : List Comparison) (s : Source)
+    → equal_source r (p ∷ take n places) x cs ≡ Some s → IsEqualSource r places p n x cs s
 equal_source_sound r places p n x [] s e = absurd (let z : ◌≡◌ {A = Option Source} None (Some s) = e in cc)
 equal_source_sound r places p n x (c ∷ cs) s e =
-    by (λ g. (let w = equal_source_sound r places p n x cs s g in (w.0, λ v h k. w.1 v h (and_parts (comparison_holds v c) _ k).1))) (equal_to x c) refl e
+    by (λ g. (let w = equal_source_sound r places p n x cs s g in
+        (w.0, λ v h k. w.1 v h (and_parts (comparison_holds v c) _ k).1))) (equal_to x c) refl e
   where
-    here : (equal_source r (p ∷ take n places) x cs ≡ Some s → IsEqualSource r places p n x (c ∷ cs) s) → (t : Term) → equal_to x c ≡ Some t
-        → (o : Option Source) → direct_source r (p ∷ take n places) t ≡ o → option_or o (equal_source r (p ∷ take n places) x cs) ≡ Some s → IsEqualSource r places p n x (c ∷ cs) s
+    here : (equal_source r (p ∷ take n places) x cs ≡ Some s → IsEqualSource r places p n x (c ∷ cs) s) → (t : Term)
+        → equal_to x c ≡ Some t
+        → (o : Option Source) → direct_source r (p ∷ take n places) t ≡ o
+            → option_or o (equal_source r (p ∷ take n places) x cs) ≡ Some s → IsEqualSource r places p n x (c ∷ cs) s
     here later t f None g h = later h
     here later t f (Some o) g h =
         let w = direct_sound r places p n t s (g ∙ h) in
         (w.0, λ v i k. (w.1 v i ∙ equal_sound v x c t f (and_parts (comparison_holds v c) _ k).0))
 
     by : (equal_source r (p ∷ take n places) x cs ≡ Some s → IsEqualSource r places p n x (c ∷ cs) s)
-        → (o : Option Term) → equal_to x c ≡ o → option_or (option_and_then (direct_source r (p ∷ take n places)) o) (equal_source r (p ∷ take n places) x cs) ≡ Some s
+        → (o : Option Term) → equal_to x c ≡ o → option_or (option_and_then (direct_source r (p ∷ take n places)) o)
+            (equal_source r (p ∷ take n places) x cs) ≡ Some s
         → IsEqualSource r places p n x (c ∷ cs) s
     by later None f g = later g
     by later (Some t) f g = here later t f (direct_source r (p ∷ take n places) t) refl g
 
-term_sound : (r : Rule) (places : List ℕ) (p n : ℕ) (t : Term) (s : Source) → term_source r (p ∷ take n places) t ≡ Some s → IsTermSource r places p n t s
+term_sound : (r : Rule) (places : List ℕ) (p n : ℕ) (t : Term) (s : Source) → term_source r (p ∷ take n places) t
+    ≡ Some s → IsTermSource r places p n t s
 term_sound r places p n (term.Variable x) s e = by (variable_source r (p ∷ take n places) x) refl e
   where
-    by : (o : Option Source) → variable_source r (p ∷ take n places) x ≡ o → option_or o (equal_source r (p ∷ take n places) x r.guard.items) ≡ Some s
+    by : (o : Option Source) → variable_source r (p ∷ take n places) x ≡ o
+        → option_or o (equal_source r (p ∷ take n places) x r.guard.items) ≡ Some s
         → IsTermSource r places p n (term.Variable x) s
     by None f g = let w = equal_source_sound r places p n x r.guard.items s g in (w.0, λ v h. w.1 v h h)
     by (Some o) f g = direct_sound r places p n (term.Variable x) s (f ∙ g)
 term_sound r places p n (term.Constant c) s e = direct_sound r places p n (term.Constant c) s e
 
-keys_sound : (r : Rule) (places : List ℕ) (p n q c : ℕ) (ts : List Term) → ((j : ℕ) → j < length ts → get_or ts j no_term ≡ term_at r q (c + j))
+keys_sound : (r : Rule) (places : List ℕ) (p n q c : ℕ) (ts : List Term)
+    → ((j : ℕ) → j < length ts → get_or ts j no_term ≡ term_at r q (c + j))
     → AreKeys r places p n q (keys_from r (p ∷ take n places) c ts)
 keys_sound r places p n q c [] are = tt
 keys_sound r places p n q c (t ∷ ts) are =
-    by (term_source r (p ∷ take n places) t) refl (keys_sound r places p n q (c + 1) ts (λ j l. (are (suc j) (omega (arith, l)) ∙ ap (term_at r q) (omega arith))))
+    by (term_source r (p ∷ take n places) t) refl (keys_sound r places p n q (c + 1) ts
+        (λ j l. (are (suc j) (omega (arith, l)) ∙ ap (term_at r q) (omega arith))))
   where
     here : t ≡ term_at r q c
     here = are 0 (omega arith) ∙ ap (term_at r q) (omega arith)
 
     is_source : (s : Source) → IsTermSource r places p n t s → IsSource r q c s
     is_source s is heads h =
-        argument_value r h.0 heads q c h.1 ∙ ap (term_value h.0) (sym here) ∙ sym (is.1 h.0 h.2) ∙ ap (λ hs. source_value hs s) h.1
+        argument_value r h.0 heads q c h.1 ∙ ap (term_value h.0) (sym here) ∙ sym (is.1 h.0 h.2)
+            ∙ ap (λ hs. source_value hs s) h.1
 
-    by : (o : Option Source) → term_source r (p ∷ take n places) t ≡ o → AreKeys r places p n q (keys_from r (p ∷ take n places) (c + 1) ts)
+    by : (o : Option Source) → term_source r (p ∷ take n places) t ≡ o
+        → AreKeys r places p n q (keys_from r (p ∷ take n places) (c + 1) ts)
         → AreKeys r places p n q (with_key c o (keys_from r (p ∷ take n places) (c + 1) ts))
     by None e rest = rest
     by (Some s) e rest = let is = term_sound r places p n t s e in (is.0, is_source s is, rest)
 
-test_sound : (r : Rule) (places : List ℕ) (p n : ℕ) (c : Comparison) (t : Test) → ((v : Valuation) → guard_holds v r.guard.items ≡ true → comparison_holds v c ≡ true)
+test_sound : (r : Rule) (places : List ℕ) (p n : ℕ) (c : Comparison) (t : Test)
+    → ((v : Valuation) → guard_holds v r.guard.items ≡ true → comparison_holds v c ≡ true)
     → test_of r (p ∷ take n places) c ≡ Some t → IsReady places p n t.left × IsReady places p n t.right × IsTest r t
-test_sound r places p n c t holds e = by (direct_source r (p ∷ take n places) c.left) refl (direct_source r (p ∷ take n places) c.right) refl e
+test_sound r places p n c t holds e = by (direct_source r (p ∷ take n places) c.left) refl
+    (direct_source r (p ∷ take n places) c.right) refl e
   where
-    by : (o : Option Source) → direct_source r (p ∷ take n places) c.left ≡ o → (o' : Option Source) → direct_source r (p ∷ take n places) c.right ≡ o' → test_by c.cmp o o' ≡ Some t
+    by : (o : Option Source) → direct_source r (p ∷ take n places) c.left ≡ o → (o' : Option Source)
+        → direct_source r (p ∷ take n places) c.right ≡ o' → test_by c.cmp o o' ≡ Some t
         → IsReady places p n t.left × IsReady places p n t.right × IsTest r t
     by None f o' g h = absurd (let z : ◌≡◌ {A = Option Test} None (Some t) = h in cc)
     by (Some s) f None g h = absurd (let z : ◌≡◌ {A = Option Test} None (Some t) = h in cc)
@@ -186,13 +217,16 @@ test_sound r places p n c t holds e = by (direct_source r (p ∷ take n places) 
               ((λ j. compares c.cmp (int_cmp (left.1 i.0 i.2 j) (right.1 i.0 i.2 j))) ∙ holds i.0 i.2)),
         )
 
-tests_sound : (r : Rule) (places before : List ℕ) (p n : ℕ) (cs : List Comparison) → ((v : Valuation) → guard_holds v r.guard.items ≡ true → guard_holds v cs ≡ true)
+tests_sound : (r : Rule) (places before : List ℕ) (p n : ℕ) (cs : List Comparison)
+    → ((v : Valuation) → guard_holds v r.guard.items ≡ true → guard_holds v cs ≡ true)
     → AreTests r places p n (tests_from r before (p ∷ take n places) cs)
 tests_sound r places before p n [] holds = tt
 tests_sound r places before p n (c ∷ cs) holds =
-    by (test_of r before c) (test_of r (p ∷ take n places) c) refl (tests_sound r places before p n cs (λ v g. (and_parts (comparison_holds v c) _ (holds v g)).1))
+    by (test_of r before c) (test_of r (p ∷ take n places) c) refl
+        (tests_sound r places before p n cs (λ v g. (and_parts (comparison_holds v c) _ (holds v g)).1))
   where
-    by : (old new : Option Test) → test_of r (p ∷ take n places) c ≡ new → AreTests r places p n (tests_from r before (p ∷ take n places) cs)
+    by : (old new : Option Test) → test_of r (p ∷ take n places) c ≡ new
+        → AreTests r places p n (tests_from r before (p ∷ take n places) cs)
         → AreTests r places p n (with_test old new (tests_from r before (p ∷ take n places) cs))
     by (Some t) new e rest = rest
     by None None e rest = rest
@@ -224,12 +258,16 @@ turned_order NotEqual order.Greater = refl
 turned_holds : (k : Cmp) (x y : ℤ) → compares (turned k) (int_cmp y x) ≡ compares k (int_cmp x y)
 turned_holds k x y = turned_order k (int_cmp y x) ∙ ap (compares k) (sym (int_cmp_total.antisymm x y))
 
-limit_sound : (r : Rule) (places : List ℕ) (p n q : ℕ) (c : Comparison) (l : Limit) → ((v : Valuation) → guard_holds v r.guard.items ≡ true → comparison_holds v c ≡ true)
+limit_sound : (r : Rule) (places : List ℕ) (p n q : ℕ) (c : Comparison) (l : Limit)
+    → ((v : Valuation) → guard_holds v r.guard.items ≡ true → comparison_holds v c ≡ true)
     → limit_of r (p ∷ take n places) q c ≡ Some l → IsReady places p n l.source × IsLimit r q l
-limit_sound r places p n q c l holds e = first (limit_by c.cmp (own_column r q c.left) (direct_source r (p ∷ take n places) c.right)) refl e
+limit_sound r places p n q c l holds e = first (limit_by c.cmp (own_column r q c.left)
+    (direct_source r (p ∷ take n places) c.right)) refl e
   where
-    one : (k : Cmp) (t u : Term) → ((v : Valuation) → guard_holds v r.guard.items ≡ true → compares k (int_cmp (term_value v t) (term_value v u)) ≡ true)
-        → limit_by k (own_column r q t) (direct_source r (p ∷ take n places) u) ≡ Some l → IsReady places p n l.source × IsLimit r q l
+    one : (k : Cmp) (t u : Term) → ((v : Valuation) → guard_holds v r.guard.items ≡ true
+        → compares k (int_cmp (term_value v t) (term_value v u)) ≡ true)
+        → limit_by k (own_column r q t) (direct_source r (p ∷ take n places) u) ≡ Some l → IsReady places p n l.source
+            × IsLimit r q l
     one k t u says f = by (own_column r q t) refl (direct_source r (p ∷ take n places) u) refl f
       where
         own : (t : Term) (column : ℕ) → own_column r q t ≡ Some column → term_at r q column ≡ t
@@ -242,32 +280,42 @@ limit_sound r places p n q c l holds e = first (limit_by c.cmp (own_column r q c
         chosen true x h = absurd (let z : ◌≡◌ {A = Option Limit} None (Some l) = h in cc)
         chosen false x h = same_Some x l h
 
-        by : (o : Option ℕ) → own_column r q t ≡ o → (o' : Option Source) → direct_source r (p ∷ take n places) u ≡ o' → limit_by k o o' ≡ Some l
+        by : (o : Option ℕ) → own_column r q t ≡ o → (o' : Option Source) → direct_source r (p ∷ take n places) u ≡ o'
+            → limit_by k o o' ≡ Some l
             → IsReady places p n l.source × IsLimit r q l
         by None g o' h i = absurd (let z : ◌≡◌ {A = Option Limit} None (Some l) = i in cc)
         by (Some column) g None h i = absurd (let z : ◌≡◌ {A = Option Limit} None (Some l) = i in cc)
         by (Some column) g (Some s) h i =
             let source = direct_sound r places p n u s h in
-            subst (λ x. IsReady places p n x.source × IsLimit r q x) (chosen (is_equal k) (record { column = column; cmp = k; source = s }) i) (
+            subst (λ x. IsReady places p n x.source × IsLimit r q x)
+                (chosen (is_equal k) (record { column = column; cmp = k; source = s }) i) (
               source.0,
               λ heads w. (
-                  let value : argument (head heads q) column ≡ term_value w.0 t = argument_value r w.0 heads q column w.1 ∙ ap (term_value w.0) (own t column g) in
-                  let known : source_value heads s ≡ term_value w.0 u = ap (λ hs. source_value hs s) (sym w.1) ∙ source.1 w.0 w.2 in
+                  let value : argument (head heads q) column ≡ term_value w.0 t =
+                      argument_value r w.0 heads q column w.1 ∙ ap (term_value w.0) (own t column g) in
+                  let known : source_value heads s ≡ term_value w.0 u = ap (λ hs. source_value hs s) (sym w.1)
+                      ∙ source.1 w.0 w.2 in
                   (λ j. compares k (int_cmp (value j) (known j))) ∙ says w.0 w.2),
             )
 
-    first : (o : Option Limit) → limit_by c.cmp (own_column r q c.left) (direct_source r (p ∷ take n places) c.right) ≡ o
-        → option_or o (limit_by (turned c.cmp) (own_column r q c.right) (direct_source r (p ∷ take n places) c.left)) ≡ Some l → IsReady places p n l.source × IsLimit r q l
+    first : (o : Option Limit) → limit_by c.cmp (own_column r q c.left) (direct_source r (p ∷ take n places) c.right)
+        ≡ o
+        → option_or o (limit_by (turned c.cmp) (own_column r q c.right) (direct_source r (p ∷ take n places) c.left))
+            ≡ Some l → IsReady places p n l.source × IsLimit r q l
     first (Some x) f g = one c.cmp c.left c.right holds (f ∙ g)
-    first None f g = one (turned c.cmp) c.right c.left (λ v h. (turned_holds c.cmp (term_value v c.left) (term_value v c.right) ∙ holds v h)) g
+    first None f g = one (turned c.cmp) c.right c.left
+        (λ v h. (turned_holds c.cmp (term_value v c.left) (term_value v c.right) ∙ holds v h)) g
 
-limits_sound : (r : Rule) (places : List ℕ) (p n q : ℕ) (cs : List Comparison) → ((v : Valuation) → guard_holds v r.guard.items ≡ true → guard_holds v cs ≡ true)
+limits_sound : (r : Rule) (places : List ℕ) (p n q : ℕ) (cs : List Comparison)
+    → ((v : Valuation) → guard_holds v r.guard.items ≡ true → guard_holds v cs ≡ true)
     → AreLimits r places p n q (limits_from r (p ∷ take n places) q cs)
 limits_sound r places p n q [] holds = tt
 limits_sound r places p n q (c ∷ cs) holds =
-    by (test_of r (p ∷ take n places) c) (limit_of r (p ∷ take n places) q c) refl (limits_sound r places p n q cs (λ v g. (and_parts (comparison_holds v c) _ (holds v g)).1))
+    by (test_of r (p ∷ take n places) c) (limit_of r (p ∷ take n places) q c) refl
+        (limits_sound r places p n q cs (λ v g. (and_parts (comparison_holds v c) _ (holds v g)).1))
   where
-    by : (old : Option Test) (new : Option Limit) → limit_of r (p ∷ take n places) q c ≡ new → AreLimits r places p n q (limits_from r (p ∷ take n places) q cs)
+    by : (old : Option Test) (new : Option Limit) → limit_of r (p ∷ take n places) q c ≡ new
+        → AreLimits r places p n q (limits_from r (p ∷ take n places) q cs)
         → AreLimits r places p n q (with_limit old new (limits_from r (p ∷ take n places) q cs))
     by (Some t) new e rest = rest
     by None None e rest = rest
@@ -278,30 +326,37 @@ limits_sound r places p n q (c ∷ cs) holds =
 -- ---- the list of partners
 
 -- one more partner, when the ones before it are known
-pub longest_more : (r : Rule) (p : ℕ) (ps : List Partner) (l : Partner) → AreLongest r p ps → IsLongest r (p ∷ places_of ps) (length (heads_of r)) l → AreLongest r p (ps ++ l ∷ [])
-longest_more r p ps l before next j k h here = elim (cases_lt j (length ps)) as (λ _. IsLongest r (p ∷ take j (places_of (ps ++ l ∷ []))) (length (heads_of r)) k) [
-  | inl less ↦ rw (map-append (λ (x : Partner). x.place) ps (l ∷ []), take-append-le j (places_of ps) (l.place ∷ []) (let n = length-map ps (λ x. x.place) in omega (arith, n, less)))
+pub longest_more : (r : Rule) (p : ℕ) (ps : List Partner) (l : Partner) → AreLongest r p ps
+    → IsLongest r (p ∷ places_of ps) (length (heads_of r)) l → AreLongest r p (ps ++ l ∷ [])
+longest_more r p ps l before next j k h here = elim (cases_lt j (length ps)) as (λ _. IsLongest r
+    (p ∷ take j (places_of (ps ++ l ∷ []))) (length (heads_of r)) k) [
+  | inl less ↦ rw (map-append (λ (x : Partner). x.place) ps (l ∷ []), take-append-le j (places_of ps) (l.place ∷ [])
+        (let n = length-map ps (λ x. x.place) in omega (arith, n, less)))
       (before j k less (sym (get_or_append_left ps (l ∷ []) k j less) ∙ here))
   | inr most ↦ (let n = length-append ps (l ∷ []) in
       let i : j ≡ length ps = omega (arith, h, n, most) in
       let m = length-map ps (λ x. x.place) in
       let same : l ≡ k = sym (get_or-append_seam ps l [] k) ∙ ap (λ i. get_or (ps ++ l ∷ []) i k) (sym i) ∙ here in
       let known : take j (places_of (ps ++ l ∷ [])) ≡ places_of ps =
-      ap (take j) (map-append (λ (x : Partner). x.place) ps (l ∷ [])) ∙ take-append-le j (places_of ps) (l.place ∷ []) (omega (arith, m, i)) ∙ take_all j (places_of ps) (omega (arith, m, i)) in
+      ap (take j) (map-append (λ (x : Partner). x.place) ps (l ∷ [])) ∙ take-append-le j (places_of ps) (l.place ∷ [])
+          (omega (arith, m, i)) ∙ take_all j (places_of ps) (omega (arith, m, i)) in
       rw known (subst (IsLongest r (p ∷ places_of ps) (length (heads_of r))) same next))
 ]
 
 -- distinct partners at all places, each a longest one, are a plan
-pub is_plan : (r : Rule) (p : ℕ) (ps : List Partner) → AreLongest r p ps → IsDistinct nat_eq (p ∷ places_of ps) → ArePlaces r (p ∷ places_of ps)
+pub is_plan : (r : Rule) (p : ℕ) (ps : List Partner) → AreLongest r p ps → IsDistinct nat_eq (p ∷ places_of ps)
+    → ArePlaces r (p ∷ places_of ps)
     → ((q : ℕ) → q < length (heads_of r) → is_in q (p ∷ places_of ps) ≡ true) → IsPlan r p ps
 is_plan r p ps longest distinct places all = record {
   covers = λ q l. covered q (in_list (p ∷ places_of ps) q (all q l));
   within = λ j l. place_at r (places_of ps) j places.1 (omega (arith, m, l));
   others = λ j l e. apart (p ∷ places_of ps) 0 (suc j) distinct (omega arith) (omega (arith, m, l)) (sym e);
   once = λ i j h l e. apart (p ∷ places_of ps) (suc i) (suc j) distinct (omega (arith, h)) (omega (arith, m, l)) e;
-  keys = λ j l h here. (rw (longest j l h here).key (keys_sound r (places_of ps) p j l.place 0 (pattern_at r l.place).args.items (λ k g. ap (term_at r l.place) (omega arith))));
+  keys = λ j l h here. (rw (longest j l h here).key (keys_sound r (places_of ps) p j l.place 0
+      (pattern_at r l.place).args.items (λ k g. ap (term_at r l.place) (omega arith))));
   tests = λ j l h here. (rw (longest j l h here).tests (tests_sound r (places_of ps) _ p j r.guard.items (λ v g. g)));
-  limits = λ j l h here. (elim (longest j l h here).limits as (λ _. AreLimits r (places_of ps) p j l.place l.limits.items) [
+  limits = λ j l h here. (elim (longest j l h here).limits as (λ _. AreLimits r
+      (places_of ps) p j l.place l.limits.items) [
     | inl e ↦ rw e tt
     | inr e ↦ rw e (limits_sound r (places_of ps) p j l.place r.guard.items (λ v g. g))
   ]);
@@ -310,17 +365,21 @@ is_plan r p ps longest distinct places all = record {
     m : length (places_of ps) ≡ length ps
     m = length-map ps (λ x. x.place)
 
-    covered : (q : ℕ) → (j : ℕ) × (j < suc (length (places_of ps))) × (get_or (p ∷ places_of ps) j 0 ≡ q) → IsKnown (places_of ps) p (length ps) q
+    covered : (q : ℕ) → (j : ℕ) × (j < suc (length (places_of ps))) × (get_or (p ∷ places_of ps) j 0 ≡ q)
+        → IsKnown (places_of ps) p (length ps) q
     covered q (zero, l, e) = inl (sym e)
     covered q (suc j, l, e) = inr (j, omega (arith, l, m), e)
 
 -- where there is another partner, there is room for it
-pub room : (r : Rule) (known : List ℕ) (l : Partner) → IsDistinct nat_eq known → ArePlaces r known → IsLongest r known (length (heads_of r)) l → length known < length (heads_of r)
+pub room : (r : Rule) (known : List ℕ) (l : Partner) → IsDistinct nat_eq known → ArePlaces r known
+    → IsLongest r known (length (heads_of r)) l → length known < length (heads_of r)
 room r known l distinct places next =
-    let n = few r (known ++ l.place ∷ []) (distinct_more known l.place distinct next.new) (places_more r known l.place places next.within) in
+    let n = few r (known ++ l.place ∷ []) (distinct_more known l.place distinct next.new)
+        (places_more r known l.place places next.within) in
     let m = length-append known (l.place ∷ []) in
     omega (arith, n, m)
 
 -- the places with one more
-pub places_push : (p : ℕ) (ps : List Partner) (l : Partner) → (p ∷ places_of ps) ++ l.place ∷ [] ≡ p ∷ places_of (ps ++ l ∷ [])
+pub places_push : (p : ℕ) (ps : List Partner) (l : Partner) → (p ∷ places_of ps) ++ l.place ∷ [] ≡ p
+    ∷ places_of (ps ++ l ∷ [])
 places_push p ps l = ap (λ xs. p ∷ xs) (sym (map-append (λ (x : Partner). x.place) ps (l ∷ [])))

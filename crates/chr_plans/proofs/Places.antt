@@ -11,15 +11,18 @@ pub partners_len : (ls : List Lookup) → length (partners_of ls) ≡ length ls
 partners_len ls = length-map ls (λ l. l.partner)
 
 -- the partner of a look-up
-pub partner_is : (ls : List Lookup) (j : ℕ) (l : Lookup) → j < length ls → get_or ls j l ≡ l → get_or (partners_of ls) j l.partner ≡ l.partner
+pub partner_is : (ls : List Lookup) (j : ℕ) (l : Lookup) → j < length ls → get_or ls j l ≡ l
+    → get_or (partners_of ls) j l.partner ≡ l.partner
 partner_is ls j l h e = get_or-map (λ (l : Lookup). l.partner) ls j l l.partner h ∙ ap (λ (l : Lookup). l.partner) e
 
 -- the place of a partner
-pub place_of_partner : (ps : List Partner) (j : ℕ) (l : Partner) → j < length ps → get_or ps j l ≡ l → get_or (places_of ps) j 0 ≡ l.place
+pub place_of_partner : (ps : List Partner) (j : ℕ) (l : Partner) → j < length ps → get_or ps j l ≡ l
+    → get_or (places_of ps) j 0 ≡ l.place
 place_of_partner ps j l h e = get_or-map (λ (l : Partner). l.place) ps j l 0 h ∙ ap (λ (l : Partner). l.place) e
 
 -- the place that a look-up looks in
-pub place_is : (ls : List Lookup) (j : ℕ) (l : Lookup) → j < length ls → get_or ls j l ≡ l → get_or (looked_in ls) j 0 ≡ l.partner.place
+pub place_is : (ls : List Lookup) (j : ℕ) (l : Lookup) → j < length ls → get_or ls j l ≡ l → get_or (looked_in ls) j 0
+    ≡ l.partner.place
 place_is ls j l h e =
     let n = partners_len ls in
     place_of_partner (partners_of ls) j l.partner (omega (arith, n, h)) (partner_is ls j l h e)

@@ -14,8 +14,10 @@ use Rattle.chr_plans.specs.Plans.{FirstNoneAbove, first_place}
 use Rattle.chr_plans.specs.Seats.{IsSeated, NoPartners, head, seat}
 use Rattle.chr_plans.specs.Reactions.{FitsPlan, NoneBy, NoneAboveBy, MayResume, Reacts, first_row}
 
-module _ (rules : List Rule) (rows : Tables) (columns : Columns) (a : Atom) (plans : List Plan) (j : ℕ) (plan : Plan) (r : Rule)
-    (left : j < length plans) (here : plan ≡ get_or plans j plan) (rule : r ≡ get_or rules plan.rule r) (fit : FitsPlan rules rows columns (slice_get plans j)) where
+module _ (rules : List Rule) (rows : Tables) (columns : Columns) (a : Atom) (plans : List Plan) (j : ℕ) (plan : Plan)
+    (r : Rule)
+    (left : j < length plans) (here : plan ≡ get_or plans j plan) (rule : r ≡ get_or rules plan.rule r)
+        (fit : FitsPlan rules rows columns (slice_get plans j)) where
   at : slice_get plans j ≡ Some plan
   at = slice_get_read plans (length plans) j plan refl left here
 
@@ -25,7 +27,8 @@ module _ (rules : List Rule) (rows : Tables) (columns : Columns) (a : Atom) (pla
       let f = rw at at fit in
       rw (rule ∙ get_or_from_slice_get rules plan.rule f.0 r f.1) f.1
 
-  pub reacts : (heads : List Atom) (seats : List Seat) → IsSeated r rows plan.place heads seats → head heads plan.place ≡ a → length seats ≡ length (heads_of r)
+  pub reacts : (heads : List Atom) (seats : List Seat) → IsSeated r rows plan.place heads seats → head heads plan.place
+      ≡ a → length seats ≡ length (heads_of r)
       → Reacts rules rows a (slice_get plans j) heads seats
   reacts heads seats s h n = rw at (r, is_rule, s, h, n)
 
@@ -37,11 +40,13 @@ module _ (rules : List Rule) (rows : Tables) (columns : Columns) (a : Atom) (pla
       → (k : ℕ) → k < j + 1 → NoneBy rules rows a (slice_get plans k)
   none_more before none k l = elim (cases_lt k j) as (λ _. NoneBy rules rows a (slice_get plans k)) [
     | inl less ↦ before k less
-    | inr most ↦ (let i : k ≡ j = omega (arith, l, most) in subst (λ n. NoneBy rules rows a (slice_get plans n)) (sym i) (none_here none))
+    | inr most ↦ (let i : k ≡ j = omega (arith, l, most) in subst (λ n. NoneBy rules rows a (slice_get plans n)) (sym i)
+          (none_here none))
   ]
 
   -- where this plan's search begins, and where it stops
-  pub row_passed : (from : Option Standing) (found : Option ℕ) → IfSome from (MayResume rules rows a plans) → IfSome found (λ row. from ≡ Some (record { plan = j; row = row }))
+  pub row_passed : (from : Option Standing) (found : Option ℕ) → IfSome from (MayResume rules rows a plans)
+      → IfSome found (λ row. from ≡ Some (record { plan = j; row = row }))
       → IfSome found (λ row. FirstNoneAbove r rows plan.place a plan.lookups.items row)
   row_passed from None m e = tt
   row_passed from (Some row) m e =
@@ -53,10 +58,12 @@ module _ (rules : List Rule) (rows : Tables) (columns : Columns) (a : Atom) (pla
       → FirstNoneAbove r rows plan.place a plan.lookups.items (seat seats (first_place plan.lookups.items)).row
       → MayResume rules rows a plans (record { plan = j; row = first_row (slice_get plans j) seats })
   resumes seats before above =
-      (before, rw at (λ q e. subst (λ x. FirstNoneAbove x rows plan.place a plan.lookups.items (seat seats (first_place plan.lookups.items)).row) (same_Some r q (sym is_rule ∙ e)) above))
+      (before, rw at (λ q e. subst (λ x. FirstNoneAbove x rows plan.place a plan.lookups.items
+          (seat seats (first_place plan.lookups.items)).row) (same_Some r q (sym is_rule ∙ e)) above))
 
 -- the plans before the one at which a search begins
-pub before_first : (rules : List Rule) (rows : Tables) (a : Atom) (plans : List Plan) (from : Option Standing) (n : ℕ) → IfSome from (MayResume rules rows a plans)
+pub before_first : (rules : List Rule) (rows : Tables) (a : Atom) (plans : List Plan) (from : Option Standing) (n : ℕ)
+    → IfSome from (MayResume rules rows a plans)
     → IfSome from (λ s. n ≡ s.plan) → IfNone from (n ≡ 0) → (k : ℕ) → k < n → NoneBy rules rows a (slice_get plans k)
 before_first rules rows a plans None n m some none k l = absurd (omega (arith, l, none))
 before_first rules rows a plans (Some s) n m some none k l = m.0 k (omega (arith, l, some))
@@ -66,7 +73,8 @@ abbrev pub OnlyDied : Tables → Tables → Type 0
 OnlyDied before after = (t n : ℕ) (b : Atom) → after t n ≡ Some b → before t n ≡ Some b
 
 module _ (rules : List Rule) (before after : Tables) (died : OnlyDied before after) (a : Atom) where
-  seated_before : (r : Rule) (p : ℕ) (heads : List Atom) (seats : List Seat) → IsSeated r after p heads seats → IsSeated r before p heads seats
+  seated_before : (r : Rule) (p : ℕ) (heads : List Atom) (seats : List Seat) → IsSeated r after p heads seats
+      → IsSeated r before p heads seats
   seated_before r p heads seats s = record {
     instance = s.instance;
     there = λ q o. died _ _ _ (s.there q o);
@@ -79,8 +87,11 @@ module _ (rules : List Rule) (before after : Tables) (died : OnlyDied before aft
 
   above_later : (o : Option Plan) (row : ℕ) → NoneAboveBy rules before a o row → NoneAboveBy rules after a o row
   above_later None row none = none
-  above_later (Some plan) row none = λ r e more heads seats s. none r e more heads seats (seated_before r plan.place heads seats s)
+  above_later (Some plan) row none = λ r e more heads seats s. none r e more heads seats
+      (seated_before r plan.place heads seats s)
 
   -- where a search may go on, it may do so after rows have died
-  pub resume_later : (plans : List Plan) (s : Standing) → MayResume rules before a plans s → MayResume rules after a plans s
-  resume_later plans s m = (λ k l. none_later (slice_get plans k) (m.0 k l), above_later (slice_get plans s.plan) s.row m.1)
+  pub resume_later : (plans : List Plan) (s : Standing) → MayResume rules before a plans s
+      → MayResume rules after a plans s
+  resume_later plans s m = (λ k l. none_later (slice_get plans k) (m.0 k l),
+      above_later (slice_get plans s.plan) s.row m.1)

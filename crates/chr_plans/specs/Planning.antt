@@ -1,5 +1,6 @@
 -- The plan that is made: which arguments are known, and which partner is next.
-use Rattle.std.specs.Prelude.{◌≡◌, ℕ, ◌+◌, ◌-◌, ◌<◌, ◌≤◌, ◌⊎◌, List, [], ◌∷◌, length, get_or, take, Option, Some, None, option_map, if◌then◌else◌, Bool, true, false, nat_eq}
+use Rattle.std.specs.Prelude.{◌≡◌, ℕ, ◌+◌, ◌-◌, ◌<◌, ◌≤◌, ◌⊎◌, List, [], ◌∷◌, length, get_or, take, Option, Some, None}
+use Rattle.std.specs.Prelude.{option_map, if◌then◌else◌, Bool, true, false, nat_eq}
 use Rattle.std.specs.List.{list_any}
 use Rattle.std.specs.Option.{option_or, option_and_then}
 use Rattle.chr_base.specs.declared.term.Term.{Term}

@@ -1,5 +1,6 @@
 -- What chains keep.
-use Rattle.std.proofs.Common.{◌≡◌, ℕ, ℤ, ◌+◌, ◌-◌, ◌%◌, ◌<◌, ◌≤◌, inl, inr, List, [], ◌∷◌, ◌++◌, length, get_or, set, true, false, refl, sym, ap, ◌∙◌, arith}
+use Rattle.std.proofs.Common.{◌≡◌, ℕ, ℤ, ◌+◌, ◌-◌, ◌%◌, ◌<◌, ◌≤◌, inl, inr, List, [], ◌∷◌, ◌++◌, length, get_or, set}
+use Rattle.std.proofs.Common.{true, false, refl, sym, ap, ◌∙◌, arith}
 use Rattle.std.proofs.lemmas.List.{get_or_default, get_or-set_same, get_or-set_other, get_or_append_left, length-set}
 use Rattle.std.proofs.lemmas.Bool.{cases_lt}
 use Rattle.chr_ranges.specs.Rows.{IsIn}
@@ -7,7 +8,8 @@ use Rattle.chr_ranges.specs.declared.range.Range.{Range}
 use Rattle.chr_ranges.specs.declared.row.Row.{Row}
 use Rattle.chr_ranges.specs.declared.row.Link.{Link}
 use Rattle.chr_ranges.specs.working.Bounds.{IsInBounds}
-use Rattle.chr_ranges.specs.working.Chained.{no_row, row_at, row_slot, no_link, link_at, LivesIn, IsNewest, IsLink, AreLinked, AreHeads, Passes, IsSought}
+use Rattle.chr_ranges.specs.working.Chained.{no_row, row_at, row_slot, no_link, link_at, LivesIn, IsNewest, IsLink}
+use Rattle.chr_ranges.specs.working.Chained.{AreLinked, AreHeads, Passes, IsSought}
 
 -- the first k rows that live were alive before, and have the hash and value that they had
 pub record IsKept (k : ℕ) (before after : List Row) : Type 0 where
@@ -38,7 +40,8 @@ module _ (n k : ℕ) (before after : List Row) (kept : IsKept k before after) wh
       let s : row_slot n after r ≡ row_slot n before r = same_slot r here in record {
         next = rw s (newest_kept r (row_slot n before r) l.next (omega (arith, here)) i.next);
         jump = i.jump;
-        jump_slot = λ some. (let w = i.jump in same_slot (l.jump - 1) (omega (arith, w, some, here)) ∙ i.jump_slot some ∙ sym s);
+        jump_slot = λ some. (let w = i.jump in same_slot (l.jump - 1) (omega (arith, w, some, here)) ∙ i.jump_slot some
+            ∙ sym s);
         bounded = λ q most from w. (let less : q < k = omega (arith, most, here) in
             rw (kept.value q less) (i.bounded q most from (lived q (row_slot n before r) less (w.0 ∙ s, w.1))));
       }
@@ -62,7 +65,8 @@ module _ (n : ℕ) (rows : List Row) where
   pub node : (r next : ℕ) (l left right : Link) → IsNewest n rows r (row_slot n rows r) next → 0 < next → 0 < left.jump
       → IsLink n rows (next - 1) left → IsLink n rows (left.jump - 1) right → l.next ≡ next → l.jump ≡ right.jump
       → ((row_at rows r).alive ≡ true → IsInBounds l.bounds (row_at rows r).value)
-      → ((x : ℤ) → IsInBounds left.bounds x → IsInBounds l.bounds x) → ((x : ℤ) → IsInBounds right.bounds x → IsInBounds l.bounds x)
+      → ((x : ℤ) → IsInBounds left.bounds x → IsInBounds l.bounds x)
+          → ((x : ℤ) → IsInBounds right.bounds x → IsInBounds l.bounds x)
       → IsLink n rows r l
   node r next l left right i some more a b en ej own inleft inright =
       let sa : row_slot n rows (next - 1) ≡ row_slot n rows r = i.of_slot some in
@@ -85,7 +89,8 @@ module _ (n : ℕ) (rows : List Row) where
       }
 
   -- one link is changed
-  pub linked_set : (links : List Link) (k r : ℕ) (l : Link) → AreLinked n rows links k → r < length links → IsLink n rows r l → AreLinked n rows (set links r l) k
+  pub linked_set : (links : List Link) (k r : ℕ) (l : Link) → AreLinked n rows links k → r < length links
+      → IsLink n rows r l → AreLinked n rows (set links r l) k
   linked_set links k r l are here i j g = elim (cases_lt j r) as (λ _. IsLink n rows j (link_at (set links r l) j)) [
     | inl less ↦ rw (get_or-set_other links r j l no_link (λ s. (absurd (omega (arith, less, s))))) (are j g)
     | inr most ↦ elim (cases_lt r j) as (λ _. IsLink n rows j (link_at (set links r l) j)) [
@@ -95,14 +100,16 @@ module _ (n : ℕ) (rows : List Row) where
   ]
 
   -- and is that of one row more
-  pub linked_more : (links : List Link) (k : ℕ) (l : Link) → AreLinked n rows links k → k < length links → IsLink n rows k l → AreLinked n rows (set links k l) (k + 1)
+  pub linked_more : (links : List Link) (k : ℕ) (l : Link) → AreLinked n rows links k → k < length links
+      → IsLink n rows k l → AreLinked n rows (set links k l) (k + 1)
   linked_more links k l are here i j g = elim (cases_lt j k) as (λ _. IsLink n rows j (link_at (set links k l) j)) [
     | inl less ↦ linked_set links k k l are here i j less
     | inr most ↦ (let s : j ≡ k = omega (arith, most, g) in rw (s, get_or-set_same links k l no_link here) i)
   ]
 
   -- what the bounds shut out is passed by a jump
-  pub jumped : (range : Range) (r : ℕ) (l : Link) → IsLink n rows r l → ((x : ℤ) → IsInBounds l.bounds x → IsIn range x → ⊥)
+  pub jumped : (range : Range) (r : ℕ) (l : Link) → IsLink n rows r l
+      → ((x : ℤ) → IsInBounds l.bounds x → IsIn range x → ⊥)
       → Passes n rows range r (r + 1) l.jump
   jumped range r l i none q g w has = elim (cases_lt q l.jump) as (λ _. q < l.jump) [
     | inl less ↦ less
@@ -110,7 +117,8 @@ module _ (n : ℕ) (rows : List Row) where
   ]
 
   -- what is sought and was not passed before is not passed now
-  pub passed : (hash : ℕ) (range : Range) (from at to bound : ℕ) → 0 < at → row_slot n rows (at - 1) ≡ hash % n → at ≤ bound + 1
+  pub passed : (hash : ℕ) (range : Range) (from at to bound : ℕ) → 0 < at → row_slot n rows (at - 1) ≡ hash % n
+      → at ≤ bound + 1
       → (at ≡ bound + 1 → IsSought rows hash range (at - 1) → ⊥)
       → Passes n rows range (at - 1) bound to → ((r : ℕ) → r < from → IsSought rows hash range r → r < at)
       → (r : ℕ) → r < from → IsSought rows hash range r → r < to
@@ -122,9 +130,11 @@ module _ (n : ℕ) (rows : List Row) where
   ]
 
 -- the row is the newest of its slot
-pub heads_more : (rows : List Row) (heads : List ℕ) (k s p : ℕ) → AreHeads rows heads k → 0 < length heads → s ≡ row_slot (length heads) rows k → p ≡ k + 1
+pub heads_more : (rows : List Row) (heads : List ℕ) (k s p : ℕ) → AreHeads rows heads k → 0 < length heads
+    → s ≡ row_slot (length heads) rows k → p ≡ k + 1
     → AreHeads rows (set heads s p) (k + 1)
-heads_more rows heads k s p are some es ep t g = rw size (elim (cases_lt t s) as (λ _. IsNewest (length heads) rows (k + 1) t (get_or (set heads s p) t 0)) [
+heads_more rows heads k s p are some es ep t g = rw size
+    (elim (cases_lt t s) as (λ _. IsNewest (length heads) rows (k + 1) t (get_or (set heads s p) t 0)) [
   | inl less ↦ other (λ e. (absurd (omega (arith, less, e))))
   | inr most ↦ elim (cases_lt s t) as (λ _. IsNewest (length heads) rows (k + 1) t (get_or (set heads s p) t 0)) [
     | inl less ↦ other (λ e. (absurd (omega (arith, less, e))))
@@ -144,13 +154,15 @@ heads_more rows heads k s p are some es ep t g = rw size (elim (cases_lt t s) as
       of_slot = i.of_slot;
       none_above = λ q l w. (elim (cases_lt q k) as (λ _. q < get_or heads t 0) [
         | inl less ↦ i.none_above q less w
-        | inr most ↦ (let e : q ≡ k = omega (arith, l, most) in absurd (d (sym w.0 ∙ ap (row_slot (length heads) rows) e ∙ sym es)))
+        | inr most ↦ (let e : q ≡ k = omega (arith, l, most) in
+              absurd (d (sym w.0 ∙ ap (row_slot (length heads) rows) e ∙ sym es)))
       ]);
     })
 
     same : t ≡ s → IsNewest (length heads) rows (k + 1) t (get_or (set heads s p) t 0)
     same e =
-        let v : get_or (set heads s p) t 0 ≡ k + 1 = ap (λ x. get_or (set heads s p) x 0) e ∙ get_or-set_same heads s p 0 (omega (arith, here, e)) ∙ ep in
+        let v : get_or (set heads s p) t 0 ≡ k + 1 = ap (λ x. get_or (set heads s p) x 0) e
+            ∙ get_or-set_same heads s p 0 (omega (arith, here, e)) ∙ ep in
         rw v (record {
           within = omega arith;
           of_slot = λ _. (ap (row_slot (length heads) rows) (omega arith) ∙ sym es ∙ sym e);
@@ -158,8 +170,10 @@ heads_more rows heads k s p are some es ep t g = rw size (elim (cases_lt t s) as
         })
 
 -- where rows are only pushed or killed every index goes on
-pub index_kept : (k : ℕ) (before after : List Row) (links more : List Link) (heads : List ℕ) → IsKept k before after → ((r : ℕ) → r < k → link_at more r ≡ link_at links r)
-    → AreLinked (length heads) before links k → AreHeads before heads k → AreLinked (length heads) after more k × AreHeads after heads k
+pub index_kept : (k : ℕ) (before after : List Row) (links more : List Link) (heads : List ℕ) → IsKept k before after
+    → ((r : ℕ) → r < k → link_at more r ≡ link_at links r)
+    → AreLinked (length heads) before links k → AreHeads before heads k → AreLinked (length heads) after more k
+        × AreHeads after heads k
 index_kept k before after links more heads kept same linked newest = (
   λ r l. rw (same r l) (link_kept (length heads) k before after kept r (link_at links r) l (linked r l)),
   λ s l. newest_kept (length heads) k before after kept k s (get_or heads s 0) (omega arith) (newest s l),
@@ -174,10 +188,12 @@ kept_push rows x = record {
 }
 
 -- one row dies
-pub kept_kill : (rows : List Row) (k : ℕ) (x : Row) → k < length rows → x.hash ≡ (row_at rows k).hash → x.value ≡ (row_at rows k).value → x.alive ≡ false → IsKept (length rows) rows (set rows k x)
+pub kept_kill : (rows : List Row) (k : ℕ) (x : Row) → k < length rows → x.hash ≡ (row_at rows k).hash → x.value
+    ≡ (row_at rows k).value → x.alive ≡ false → IsKept (length rows) rows (set rows k x)
 kept_kill rows k x here eh ev dead = record {
   hash = λ q l. by (λ r. r.hash ≡ (row_at rows q).hash) q refl (λ e. (eh ∙ ap (λ j. (row_at rows j).hash) (sym e)));
-  alive = λ q l. by (λ r. r.alive ≡ true → (row_at rows q).alive ≡ true) q (λ e. e) (λ _ e. (absurd (let f : false ≡ true = sym dead ∙ e in cc)));
+  alive = λ q l. by (λ r. r.alive ≡ true → (row_at rows q).alive ≡ true) q (λ e. e)
+      (λ _ e. (absurd (let f : false ≡ true = sym dead ∙ e in cc)));
   value = λ q l. by (λ r. r.value ≡ (row_at rows q).value) q refl (λ e. (ev ∙ ap (λ j. (row_at rows j).value) (sym e)));
 }
   where
@@ -186,6 +202,7 @@ kept_kill rows k x here eh ev dead = record {
       | inl less ↦ rw (get_or-set_other rows k q x no_row (λ e. (absurd (omega (arith, less, e))))) other
       | inr most ↦ elim (cases_lt k q) as (λ _. P (row_at (set rows k x) q)) [
         | inl less ↦ rw (get_or-set_other rows k q x no_row (λ e. (absurd (omega (arith, less, e))))) other
-        | inr least ↦ (let e : q ≡ k = omega (arith, most, least) in rw (e, get_or-set_same rows k x no_row here) (same e))
+        | inr least ↦ (let e : q ≡ k = omega (arith, most, least) in
+              rw (e, get_or-set_same rows k x no_row here) (same e))
       ]
     ]

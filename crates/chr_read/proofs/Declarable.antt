@@ -1,5 +1,7 @@
 -- Symbols that are not declared twice can be declared one after another.
-use Rattle.std.proofs.Common.{◌≡◌, ℕ, ◌+◌, ◌-◌, ◌≤◌, List, [], ◌∷◌, ◌++◌, length, Bool, true, false, not, cond, ◌||◌, ◌&&◌, nat_lt, nat_le, nat_eq, Option, Some, None, is_some, is_none, unwrap_or, option_and_then, position, refl, sym, ap, ◌∙◌, length-append, arith}
+use Rattle.std.proofs.Common.{◌≡◌, ℕ, ◌+◌, ◌-◌, ◌≤◌, List, [], ◌∷◌, ◌++◌, length, Bool, true, false, not, cond, ◌||◌}
+use Rattle.std.proofs.Common.{◌&&◌, nat_lt, nat_le, nat_eq, Option, Some, None, is_some, is_none, unwrap_or}
+use Rattle.std.proofs.Common.{option_and_then, position, refl, sym, ap, ◌∙◌, length-append, arith}
 use Rattle.std.proofs.lemmas.Bool.{false≢true, or_parts, and_from, and_parts}
 use Rattle.std.proofs.lemmas.Bool.Decides.{nat_tests}
 use Rattle.std.proofs.lemmas.List.Folds.{list_any-append}
@@ -27,11 +29,13 @@ small_digits [] n h = ap digits_for (same_Some _ _ h)
 small_digits (b ∷ c ∷ bs) n h = absurd (none-some n h)
 small_digits (b ∷ []) n h = by (nat_le 49 b && nat_le b (48 + MAX_ARITY)) refl h
   where
-    by : (t : Bool) → (nat_le 49 b && nat_le b (48 + MAX_ARITY)) ≡ t → cond t (Some (b - 48)) None ≡ Some n → b ∷ [] ≡ digits_for n
+    by : (t : Bool) → (nat_le 49 b && nat_le b (48 + MAX_ARITY)) ≡ t → cond t (Some (b - 48)) None ≡ Some n → b ∷ []
+        ≡ digits_for n
     by false e h = absurd (none-some n h)
     by true e h =
         let is = same_Some _ _ h in
-        let low : 49 ≤ b = let p = (and_parts (nat_le 49 b) (nat_le b (48 + MAX_ARITY)) e).0 in grind (arith, nat_tests) in
+        let low : 49 ≤ b = let p = (and_parts (nat_le 49 b) (nat_le b (48 + MAX_ARITY)) e).0 in
+            grind (arith, nat_tests) in
         let more : nat_eq n 0 ≡ false = grind (arith, nat_tests) in
         let back : b ≡ 48 + n = omega (arith, is, low) in
         ap (λ x. x ∷ []) back ∙ sym (ap (λ t. cond t [] ((48 + n) ∷ [])) more)
@@ -44,14 +48,17 @@ equal_bytes v w e = (bytes_eq-Decides v w).1 e
 
 -- ---- one more symbol
 
-differs : (s t : Symbol) (n : ℕ) → is_none (arity_of s.arity) ≡ false → arity_of t.arity ≡ Some n → is_same_symbol s t ≡ false → declares t.name n (declared_symbol s) ≡ false
+differs : (s t : Symbol) (n : ℕ) → is_none (arity_of s.arity) ≡ false → arity_of t.arity ≡ Some n → is_same_symbol s t
+    ≡ false → declares t.name n (declared_symbol s) ≡ false
 differs s t n some is other = by (declares t.name n (declared_symbol s)) refl
   where
-    same : (o : Option ℕ) → arity_of s.arity ≡ o → is_none o ≡ false → bytes_eq t.name s.name ≡ true → nat_eq n (unwrap_or o 0) ≡ true → is_same_symbol s t ≡ true
+    same : (o : Option ℕ) → arity_of s.arity ≡ o → is_none o ≡ false → bytes_eq t.name s.name ≡ true
+        → nat_eq n (unwrap_or o 0) ≡ true → is_same_symbol s t ≡ true
     same None e f names arities = absurd (false≢true (sym f))
     same (Some m) e f names arities =
         let is_n : m ≡ n = grind (arith, nat_tests) in
-        and_from _ _ (equal_bytes s.name t.name (sym ((bytes_eq-Decides t.name s.name).0 names))) (equal_bytes _ _ (same_digits s.arity t.arity n (e ∙ ap Some is_n) is))
+        and_from _ _ (equal_bytes s.name t.name (sym ((bytes_eq-Decides t.name s.name).0 names)))
+            (equal_bytes _ _ (same_digits s.arity t.arity n (e ∙ ap Some is_n) is))
 
     by : (b : Bool) → declares t.name n (declared_symbol s) ≡ b → b ≡ false
     by false e = refl
@@ -59,41 +66,54 @@ differs s t n some is other = by (declares t.name n (declared_symbol s)) refl
         let parts = and_parts (bytes_eq t.name s.name) _ e in
         absurd (false≢true (sym other ∙ same (arity_of s.arity) refl some parts.0 parts.1))
 
-known_more : (ds : List Declaration) (s t : Symbol) → is_none (arity_of s.arity) ≡ false → is_same_symbol s t ≡ false → is_declared_already ds t ≡ false → is_declared_already (ds ++ declared_symbol s ∷ []) t ≡ false
+known_more : (ds : List Declaration) (s t : Symbol) → is_none (arity_of s.arity) ≡ false → is_same_symbol s t ≡ false
+    → is_declared_already ds t ≡ false → is_declared_already (ds ++ declared_symbol s ∷ []) t ≡ false
 known_more ds s t some other h = by (arity_of t.arity) refl h
   where
     at : (n : ℕ) → declares t.name n (declared_symbol s) ≡ false → is_some (position (declares t.name n) ds) ≡ false
         → is_some (position (declares t.name n) (ds ++ declared_symbol s ∷ [])) ≡ false
     at n fresh h =
-        position_any (declares t.name n) (ds ++ declared_symbol s ∷ []) ∙ list_any-append (declares t.name n) ds (declared_symbol s ∷ [])
-        ∙ ap (λ b. b || (declares t.name n (declared_symbol s) || false)) (sym (position_any (declares t.name n) ds) ∙ h)
+        position_any (declares t.name n) (ds ++ declared_symbol s ∷ []) ∙ list_any-append (declares t.name n) ds
+            (declared_symbol s ∷ [])
+        ∙ ap (λ b. b || (declares t.name n (declared_symbol s) || false))
+            (sym (position_any (declares t.name n) ds) ∙ h)
         ∙ ap (λ b. b || false) fresh
 
-    by : (o : Option ℕ) → arity_of t.arity ≡ o → is_some (option_and_then (place_of ds t.name) o) ≡ false → is_some (option_and_then (place_of (ds ++ declared_symbol s ∷ []) t.name) (arity_of t.arity)) ≡ false
+    by : (o : Option ℕ) → arity_of t.arity ≡ o → is_some (option_and_then (place_of ds t.name) o) ≡ false
+        → is_some (option_and_then (place_of (ds ++ declared_symbol s ∷ []) t.name) (arity_of t.arity)) ≡ false
     by None is h = ap (λ o. is_some (option_and_then (place_of (ds ++ declared_symbol s ∷ []) t.name) o)) is
     by (Some n) is h =
-        ap (λ o. is_some (option_and_then (place_of (ds ++ declared_symbol s ∷ []) t.name) o)) is ∙ at n (differs s t n some is other) h
+        ap (λ o. is_some (option_and_then (place_of (ds ++ declared_symbol s ∷ []) t.name) o)) is
+            ∙ at n (differs s t n some is other) h
 
-all_known_more : (ds : List Declaration) (s : Symbol) (ts : List Symbol) → is_none (arity_of s.arity) ≡ false → list_any (is_same_symbol s) ts ≡ false → list_any (is_declared_already ds) ts ≡ false → list_any (is_declared_already (ds ++ declared_symbol s ∷ [])) ts ≡ false
+all_known_more : (ds : List Declaration) (s : Symbol) (ts : List Symbol) → is_none (arity_of s.arity) ≡ false
+    → list_any (is_same_symbol s) ts ≡ false → list_any (is_declared_already ds) ts ≡ false
+    → list_any (is_declared_already (ds ++ declared_symbol s ∷ [])) ts ≡ false
 all_known_more ds s [] some other h = refl
 all_known_more ds s (t ∷ ts) some other h =
     let n = or_parts (is_same_symbol s t) _ other in
     let m = or_parts (is_declared_already ds t) _ h in
-    ap (λ b. b || list_any (is_declared_already (ds ++ declared_symbol s ∷ [])) ts) (known_more ds s t some n.0 m.0) ∙ all_known_more ds s ts some n.1 m.1
+    ap (λ b. b || list_any (is_declared_already (ds ++ declared_symbol s ∷ [])) ts) (known_more ds s t some n.0 m.0)
+        ∙ all_known_more ds s ts some n.1 m.1
 
 -- ---- symbols that differ from those seen
 
-seen_differs : (front back : List Symbol) (s t : Symbol) → list_any (λ e. is_same_symbol e t) (front ++ s ∷ back) ≡ false → is_same_symbol s t ≡ false
+seen_differs : (front back : List Symbol) (s t : Symbol) → list_any (λ e. is_same_symbol e t) (front ++ s ∷ back)
+    ≡ false → is_same_symbol s t ≡ false
 seen_differs [] back s t h = (or_parts _ _ h).0
 seen_differs (f ∷ front) back s t h = seen_differs front back s t (or_parts _ _ h).1
 
-none_again : (front back : List Symbol) (s : Symbol) (ts : List Symbol) → comes_again (front ++ s ∷ back) ts ≡ false → list_any (is_same_symbol s) ts ≡ false
+none_again : (front back : List Symbol) (s : Symbol) (ts : List Symbol) → comes_again (front ++ s ∷ back) ts ≡ false
+    → list_any (is_same_symbol s) ts ≡ false
 none_again front back s [] h = refl
 none_again front back s (t ∷ ts) h =
     let n = or_parts _ _ h in
-    ap (λ b. b || list_any (is_same_symbol s) ts) (seen_differs front back s t n.0) ∙ none_again (t ∷ front) back s ts n.1
+    ap (λ b. b || list_any (is_same_symbol s) ts) (seen_differs front back s t n.0)
+        ∙ none_again (t ∷ front) back s ts n.1
 
-pub can_all : (ds : List Declaration) (seen ss : List Symbol) → nat_lt MAX_SYMBOLS (length ds + length ss) ≡ false → list_any symbol_over ss ≡ false → list_any (is_declared_already ds) ss ≡ false → comes_again seen ss ≡ false → can_declare_all ds ss ≡ true
+pub can_all : (ds : List Declaration) (seen ss : List Symbol) → nat_lt MAX_SYMBOLS (length ds + length ss) ≡ false
+    → list_any symbol_over ss ≡ false → list_any (is_declared_already ds) ss ≡ false → comes_again seen ss ≡ false
+    → can_declare_all ds ss ≡ true
 can_all ds seen [] room over known again = refl
 can_all ds seen (s ∷ ss) room over known again =
     let o = or_parts (symbol_over s) _ over in
@@ -101,6 +121,8 @@ can_all ds seen (s ∷ ss) room over known again =
     let g = or_parts (list_any (λ e. is_same_symbol e s) seen) (comes_again (s ∷ seen) ss) again in
     let below : nat_lt (length ds) MAX_SYMBOLS ≡ true = grind (arith, nat_tests) in
     let longer = length-append ds (declared_symbol s ∷ []) in
-    let more : nat_lt MAX_SYMBOLS (length (ds ++ declared_symbol s ∷ []) + length ss) ≡ false = grind (arith, nat_tests) in
+    let more : nat_lt MAX_SYMBOLS (length (ds ++ declared_symbol s ∷ []) + length ss) ≡ false =
+        grind (arith, nat_tests) in
     and_from _ _ (and_from _ _ (and_from _ _ below (ap not o.0)) (ap not k.0))
-    (can_all (ds ++ declared_symbol s ∷ []) (s ∷ seen) ss more o.1 (all_known_more ds s ss (or_parts _ _ o.0).1 (none_again [] seen s ss g.1) k.1) g.1)
+    (can_all (ds ++ declared_symbol s ∷ []) (s ∷ seen) ss more o.1
+        (all_known_more ds s ss (or_parts _ _ o.0).1 (none_again [] seen s ss g.1) k.1) g.1)

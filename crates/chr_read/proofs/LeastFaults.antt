@@ -1,5 +1,6 @@
 -- The fault of a clause that is found is its least.
-use Rattle.std.proofs.Common.{◌≡◌, ◌≤◌, ℕ, List, [], ◌∷◌, Bool, true, false, cond, ◌&&◌, ◌⊎◌, inl, inr, nat_le, nat_eq, Option, Some, None, Result, Ok, Err, refl, sym, ap, ◌∙◌, subst, arith}
+use Rattle.std.proofs.Common.{◌≡◌, ◌≤◌, ℕ, List, [], ◌∷◌, Bool, true, false, cond, ◌&&◌, ◌⊎◌, inl, inr, nat_le, nat_eq}
+use Rattle.std.proofs.Common.{Option, Some, None, Result, Ok, Err, refl, sym, ap, ◌∙◌, subst, arith}
 use Rattle.std.proofs.lemmas.Bool.{false≢true, and_parts}
 use Rattle.std.proofs.lemmas.Bool.Decides.{nat_tests}
 use Rattle.std.proofs.lemmas.Option.{none-some, same_Some}
@@ -16,7 +17,8 @@ use Rattle.chr_read.specs.declared.fault.Fault.TheVariants as fault
 use Rattle.chr_read.specs.Numbers.{number_of_fault}
 use Rattle.chr_read.specs.Meanings.{Progress}
 use Rattle.chr_read.specs.Faults.{fault_test}
-use Rattle.chr_read.specs.working.TextsRead.{by_number, first_of, fault_in, checked, formed, clause_read, with_rest, fault_of_rest, rest_read}
+use Rattle.chr_read.specs.working.TextsRead.{by_number, first_of, fault_in, checked, formed, clause_read, with_rest}
+use Rattle.chr_read.specs.working.TextsRead.{fault_of_rest, rest_read}
 use Rattle.chr_read.specs.Reading.{with_form}
 use Rattle.chr_read.specs.ProgramTexts.{HasFault, HasRestFault, IsLeast}
 
@@ -47,8 +49,10 @@ no_error {A = A} {E = E} a e h = false≢true (ap fails h)
 
 abbrev pub fault_of : ℕ → Fault
 fault_of k =
-    cond (nat_eq k 1) fault.BadByte (cond (nat_eq k 3) fault.Syntax (cond (nat_eq k 4) fault.Propagation (cond (nat_eq k 5) fault.Undeclared
-    (cond (nat_eq k 6) fault.DeclaredTwice (cond (nat_eq k 7) fault.Limit (cond (nat_eq k 8) fault.Unbound (cond (nat_eq k 9) fault.NumberRange
+    cond (nat_eq k 1) fault.BadByte (cond (nat_eq k 3) fault.Syntax
+        (cond (nat_eq k 4) fault.Propagation (cond (nat_eq k 5) fault.Undeclared
+    (cond (nat_eq k 6) fault.DeclaredTwice (cond (nat_eq k 7) fault.Limit
+        (cond (nat_eq k 8) fault.Unbound (cond (nat_eq k 9) fault.NumberRange
     (cond (nat_eq k 10) fault.WeightFault fault.Unended))))))))
 
 numbered_so : (n : Fault) → fault_of (number_of_fault n) ≡ n
@@ -95,13 +99,16 @@ first_least p [] n r h = absurd (none-some n h)
 first_least p (x ∷ xs) n r h = by (p x) refl h (first_least p xs n (and_parts (below x xs) (rising xs) r).1)
   where
     at_front : (p x ≡ true) → (m : Fault) → Among m (x ∷ xs) → p m ≡ true → number_of_fault x ≤ number_of_fault m
-    at_front e m a pm = elim a [ inl s ↦ let k = ap number_of_fault s in omega (arith, k) | inr b ↦ below_each x m xs (and_parts (below x xs) (rising xs) r).0 b ]
+    at_front e m a pm = elim a [ inl s ↦ let k = ap number_of_fault s in
+        omega (arith, k) | inr b ↦ below_each x m xs (and_parts (below x xs) (rising xs) r).0 b ]
 
     by : (b : Bool) → p x ≡ b → cond b (Some x) (first_of p xs) ≡ Some n
-        → (first_of p xs ≡ Some n → (p n ≡ true) × ((m : Fault) → Among m xs → p m ≡ true → number_of_fault n ≤ number_of_fault m))
+        → (first_of p xs ≡ Some n → (p n ≡ true) × ((m : Fault) → Among m xs → p m ≡ true
+            → number_of_fault n ≤ number_of_fault m))
         → (p n ≡ true) × ((m : Fault) → Among m (x ∷ xs) → p m ≡ true → number_of_fault n ≤ number_of_fault m)
     by true e h later =
-        let P : Fault → Type 0 = λ y. (p y ≡ true) × ((m : Fault) → Among m (x ∷ xs) → p m ≡ true → number_of_fault y ≤ number_of_fault m) in
+        let P : Fault → Type 0 = λ y. (p y ≡ true) × ((m : Fault) → Among m (x ∷ xs) → p m ≡ true
+            → number_of_fault y ≤ number_of_fault m) in
         subst P (same_Some x n h) (e, at_front e)
     by false e h later =
         let i = later h in
@@ -111,7 +118,8 @@ first_none : (p : Fault → Bool) (ns : List Fault) → first_of p ns ≡ None �
 first_none p [] h m a = absurd a
 first_none p (x ∷ xs) h m a = by (p x) refl h (first_none p xs)
   where
-    by : (b : Bool) → p x ≡ b → cond b (Some x) (first_of p xs) ≡ None → (first_of p xs ≡ None → (m : Fault) → Among m xs → p m ≡ false) → p m ≡ false
+    by : (b : Bool) → p x ≡ b → cond b (Some x) (first_of p xs) ≡ None
+        → (first_of p xs ≡ None → (m : Fault) → Among m xs → p m ≡ false) → p m ≡ false
     by true e h later = absurd (none-some x (sym h))
     by false e h later = elim a [ inl s ↦ ap p s ∙ e | inr b ↦ later h m b ]
 
@@ -157,10 +165,12 @@ has q c f fault.NumberRange a t = (f, a, t)
 has q c f fault.WeightFault a t = (f, a, t)
 has q c f fault.Unended a t = absurd (false≢true t)
 
-its : (q : Progress) (c : List ℕ) (f : Form) (m : Fault) → AreClause f c → ((g : Form) × AreClause g c × (fault_test m q g ≡ true)) → fault_test m q f ≡ true
+its : (q : Progress) (c : List ℕ) (f : Form) (m : Fault) → AreClause f c
+    → ((g : Form) × AreClause g c × (fault_test m q g ≡ true)) → fault_test m q f ≡ true
 its q c f m a h = ap (fault_test m q) (one_form c f h.0 a h.1) ∙ h.2
 
-had : (q : Progress) (c : List ℕ) (f : Form) (m : Fault) → is_text c ≡ true → AreClause f c → HasFault q c m → fault_test m q f ≡ true
+had : (q : Progress) (c : List ℕ) (f : Form) (m : Fault) → is_text c ≡ true → AreClause f c → HasFault q c m
+    → fault_test m q f ≡ true
 had q c f fault.BadByte text a h = absurd (false≢true (sym h ∙ text))
 had q c f fault.Syntax text a h = absurd (h f a)
 had q c f fault.Propagation text a h = its q c f fault.Propagation a h
@@ -202,7 +212,8 @@ abbrev pub ClauseMeans : Progress → List ℕ → Result Progress Fault → Typ
 ClauseMeans q c (Ok r) = (f : Form) × AreClause f c × ((n : Fault) → ¬ (HasFault q c n)) × (with_form q f ≡ r)
 ClauseMeans q c (Err n) = IsLeast (HasFault q c) n
 
-with_fault : (q : Progress) (c : List ℕ) (f : Form) → is_text c ≡ true → AreClause f c → ClauseMeans q c (checked q f (fault_in q f))
+with_fault : (q : Progress) (c : List ℕ) (f : Form) → is_text c ≡ true → AreClause f c
+    → ClauseMeans q c (checked q f (fault_in q f))
 with_fault q c f text a = by (fault_in q f) refl
   where
     by : (o : Option Fault) → fault_in q f ≡ o → ClauseMeans q c (checked q f o)
@@ -213,12 +224,14 @@ pub clause_means : (q : Progress) (c : List ℕ) → ClauseMeans q c (clause_rea
 unfolding clause_read
 clause_means q c = by (is_text c) refl (clause_of c) refl
   where
-    by : (b : Bool) → is_text c ≡ b → (o : Option Form) → clause_of c ≡ o → ClauseMeans q c (cond b (formed q o) (Err fault.BadByte))
+    by : (b : Bool) → is_text c ≡ b → (o : Option Form) → clause_of c ≡ o
+        → ClauseMeans q c (cond b (formed q o) (Err fault.BadByte))
     by false text o is = (text, λ m h. at_least_one m)
     by true text None is = (none_fits c is, at_least_three q c text)
     by true text (Some f) is = with_fault q c f text (read_is c f is)
 
-pub good : (q : Progress) (c : List ℕ) (f : Form) → AreClause f c → ((n : Fault) → ¬ (HasFault q c n)) → clause_read q c ≡ Ok (with_form q f)
+pub good : (q : Progress) (c : List ℕ) (f : Form) → AreClause f c → ((n : Fault) → ¬ (HasFault q c n)) → clause_read q c
+    ≡ Ok (with_form q f)
 good q c f a none = by (clause_read q c) refl (clause_means q c)
   where
     by : (r : Result Progress Fault) → clause_read q c ≡ r → ClauseMeans q c r → clause_read q c ≡ Ok (with_form q f)
@@ -266,7 +279,8 @@ pub rest_means : (q : Progress) (c : List ℕ) → RestMeans q c (rest_read q c)
 unfolding rest_read
 rest_means q c = by (is_text c) refl (list_all is_layout c) refl
   where
-    by : (b : Bool) → is_text c ≡ b → (l : Bool) → list_all is_layout c ≡ l → RestMeans q c (with_rest q (fault_of_rest (cond b (cond l None (Some rest.Unended)) (Some rest.BadByte))))
+    by : (b : Bool) → is_text c ≡ b → (l : Bool) → list_all is_layout c ≡ l
+        → RestMeans q c (with_rest q (fault_of_rest (cond b (cond l None (Some rest.Unended)) (Some rest.BadByte))))
     by false text l is = (text, λ m h. at_least_one m)
     by true text true is = (no_rest_fault c text is, refl)
     by true text false is = (is, unended_least c text)

@@ -1,5 +1,6 @@
 -- The names of a clause are words of letters, digits and underscores, and so text.
-use Rattle.std.proofs.Common.{◌≡◌, ◌<◌, ℕ, List, [], ◌∷◌, ◌++◌, map, true, not, Option, Some, None, option_to_list, refl, sym, ap, subst, arith}
+use Rattle.std.proofs.Common.{◌≡◌, ◌<◌, ℕ, List, [], ◌∷◌, ◌++◌, map, true, not, Option, Some, None, option_to_list}
+use Rattle.std.proofs.Common.{refl, sym, ap, subst, arith}
 use Rattle.std.proofs.lemmas.Bool.Decides.{nat_tests}
 use Rattle.std.proofs.lemmas.Str.{IsUtf8-from_ascii, is_utf8-from_IsUtf8}
 use Rattle.std.proofs.lemmas.Str.Ascii.{IsAscii-cons, IsAscii-nil}
@@ -11,7 +12,9 @@ use Rattle.chr_syntax.specs.declared.token.Sign.TheVariants as s
 use Rattle.chr_syntax.specs.Tokens.{Tok, name, variable, number, compare, sign}
 use Rattle.chr_base.specs.Names.{is_lower, is_word_byte}
 use Rattle.chr_syntax.specs.Clauses.{Atom, Symbol, Comparison, Form, use_module, declare, weight, rule, propagation}
-use Rattle.chr_syntax.specs.Grammar.{IsUnreserved, IsSymbol, IsForm, with_commas, spelled_list, spelled_atom, spelled_item, spelled_comparison, spelled_heads, spelled_right, spelled_label, spelled_symbol, spelled}
+use Rattle.chr_syntax.specs.Grammar.{IsUnreserved, IsSymbol, IsForm, with_commas, spelled_list, spelled_atom}
+use Rattle.chr_syntax.specs.Grammar.{spelled_item, spelled_comparison, spelled_heads, spelled_right, spelled_label}
+use Rattle.chr_syntax.specs.Grammar.{spelled_symbol, spelled}
 use Rattle.chr_syntax.specs.working.Spellings.{spelled_atoms, IsLabel, IsAtom, IsItem, spelled_body}
 use Rattle.chr_syntax.specs.Lexemes.{AllAre, IsWord, IsLexeme, AreTokens}
 use Rattle.chr_syntax.proofs.Spelled.{all_some}
@@ -37,7 +40,8 @@ words_ascii (b ∷ bs) h = IsAscii-cons b bs (word_below b h.0) (words_ascii bs 
 
 pub name_text : (w : List ℕ) → IsWord is_lower w → IsText w
 name_text [] h = absurd h
-name_text (b ∷ bs) h = is_utf8-from_IsUtf8 (b ∷ bs) (IsUtf8-from_ascii (b ∷ bs) (IsAscii-cons b bs (lower_below b h.0) (words_ascii bs h.1)))
+name_text (b ∷ bs) h = is_utf8-from_IsUtf8 (b ∷ bs) (IsUtf8-from_ascii (b ∷ bs)
+    (IsAscii-cons b bs (lower_below b h.0) (words_ascii bs h.1)))
 
 -- ---- lists
 
@@ -80,30 +84,37 @@ module _ (P : List ℕ → Type 0) (good : (w : List ℕ) → IsWord is_lower w 
 
   -- ---- parts of forms
 
-  atoms_each : (atoms : List Atom) → AllByRecursion AllText (map spelled_atom atoms) → AllByRecursion P (names_of_atoms atoms)
+  atoms_each : (atoms : List Atom) → AllByRecursion AllText (map spelled_atom atoms)
+      → AllByRecursion P (names_of_atoms atoms)
   atoms_each [] h = tt
   atoms_each (a ∷ atoms) h = (h.0.0, atoms_each atoms h.1)
 
   atoms_text : (atoms : List Atom) → AllText (spelled_atoms atoms) → AllByRecursion P (names_of_atoms atoms)
   atoms_text atoms h = atoms_each atoms (each_text (map spelled_atom atoms) h)
 
-  symbols_each : (ss : List Symbol) → AllByRecursion AllText (map spelled_symbol ss) → AllByRecursion P (map (λ s. s.name) ss)
+  symbols_each : (ss : List Symbol) → AllByRecursion AllText (map spelled_symbol ss)
+      → AllByRecursion P (map (λ s. s.name) ss)
   symbols_each [] h = tt
   symbols_each (s ∷ ss) h = (h.0.0, symbols_each ss h.1)
 
-  items_each : (items : List (Option Atom)) → AllByRecursion AllText (map (spelled_item spelled_atom) items) → AllByRecursion P (names_of_atoms (present items))
+  items_each : (items : List (Option Atom)) → AllByRecursion AllText (map (spelled_item spelled_atom) items)
+      → AllByRecursion P (names_of_atoms (present items))
   items_each [] h = tt
   items_each (None ∷ items) h = items_each items h.1
   items_each (Some a ∷ items) h = (h.0.0, items_each items h.1)
 
-  body_text : (items : List (Option Atom)) → AllText (spelled_body items) → AllByRecursion P (names_of_atoms (present items))
+  body_text : (items : List (Option Atom)) → AllText (spelled_body items)
+      → AllByRecursion P (names_of_atoms (present items))
   body_text items h = items_each items (each_text (map (spelled_item spelled_atom) items) h)
 
-  right_text : (guard : List (Option Comparison)) (body : List (Option Atom)) → AllText (spelled_right guard body) → AllByRecursion P (names_of_atoms (present body))
+  right_text : (guard : List (Option Comparison)) (body : List (Option Atom)) → AllText (spelled_right guard body)
+      → AllByRecursion P (names_of_atoms (present body))
   right_text [] body h = body_text body h
-  right_text (g ∷ gs) body h = body_text body (back IsTextToken (spelled_list (spelled_item spelled_comparison) (g ∷ gs)) (sign s.Bar ∷ spelled_body body) h).1
+  right_text (g ∷ gs) body h = body_text body (back IsTextToken
+      (spelled_list (spelled_item spelled_comparison) (g ∷ gs)) (sign s.Bar ∷ spelled_body body) h).1
 
-  heads_text : (kept removed : List Atom) → AllText (spelled_heads kept removed) → AllByRecursion P (names_of_atoms kept) × AllByRecursion P (names_of_atoms removed)
+  heads_text : (kept removed : List Atom) → AllText (spelled_heads kept removed)
+      → AllByRecursion P (names_of_atoms kept) × AllByRecursion P (names_of_atoms removed)
   heads_text [] removed h = (tt, atoms_text removed h)
   heads_text (k ∷ ks) removed h = (
     atoms_text (k ∷ ks) (front IsTextToken (spelled_atoms (k ∷ ks)) (sign s.Backslash ∷ spelled_atoms removed) h),
@@ -123,7 +134,8 @@ module _ (P : List ℕ → Type 0) (good : (w : List ℕ) → IsWord is_lower w 
       let hs = heads_text r.kept r.removed (front IsTextToken (spelled_heads r.kept r.removed) _ rest) in
       let after = back IsTextToken (spelled_heads r.kept r.removed) _ rest in
       all_append P (option_to_list r.label) _ (label_text r.label (front IsTextToken (spelled_label r.label) _ h))
-      (all_append P (names_of_atoms r.kept) _ hs.0 (all_append P (names_of_atoms r.removed) _ hs.1 (right_text r.guard r.body after.1)))
+      (all_append P (names_of_atoms r.kept) _ hs.0 (all_append P (names_of_atoms r.removed) _ hs.1
+          (right_text r.guard r.body after.1)))
   form_text (propagation r) h =
       let rest = back IsTextToken (spelled_label r.label) _ h in
       let hs = atoms_text r.removed (front IsTextToken (spelled_atoms r.removed) _ rest) in
@@ -150,7 +162,8 @@ atoms_unreserved : (atoms : List Atom) → AllByRecursion IsAtom atoms → AllUn
 atoms_unreserved [] h = tt
 atoms_unreserved (a ∷ atoms) h = (h.0, atoms_unreserved atoms h.1)
 
-items_unreserved : (items : List (Option Atom)) → AllByRecursion IsItem items → AllUnreserved (names_of_atoms (present items))
+items_unreserved : (items : List (Option Atom)) → AllByRecursion IsItem items
+    → AllUnreserved (names_of_atoms (present items))
 items_unreserved [] h = tt
 items_unreserved (None ∷ items) h = items_unreserved items h.1
 items_unreserved (Some a ∷ items) h = (h.0, items_unreserved items h.1)
@@ -170,14 +183,17 @@ form_unreserved (weight d first second) h = (h.0, tt)
 form_unreserved (rule r) h =
     all_append IsUnreserved (option_to_list r.label) _ (label_unreserved r.label h.0)
     (all_append IsUnreserved (names_of_atoms r.kept) _ (atoms_unreserved r.kept h.1)
-    (all_append IsUnreserved (names_of_atoms r.removed) _ (atoms_unreserved r.removed (all_some IsAtom r.removed h.2)) (items_unreserved r.body (all_some IsItem r.body h.3))))
+    (all_append IsUnreserved (names_of_atoms r.removed) _ (atoms_unreserved r.removed (all_some IsAtom r.removed h.2))
+        (items_unreserved r.body (all_some IsItem r.body h.3))))
 form_unreserved (propagation r) h =
     all_append IsUnreserved (option_to_list r.label) _ (label_unreserved r.label h.0.0)
-    (all_append IsUnreserved (names_of_atoms r.removed) _ (atoms_unreserved r.removed (all_some IsAtom r.removed h.0.2)) (items_unreserved r.body (all_some IsItem r.body h.0.3)))
+    (all_append IsUnreserved (names_of_atoms r.removed) _ (atoms_unreserved r.removed (all_some IsAtom r.removed h.0.2))
+        (items_unreserved r.body (all_some IsItem r.body h.0.3)))
 
 words_names : (ws : List (List ℕ)) → AllByRecursion IsWordName ws → AllUnreserved ws → list_all base.is_name ws ≡ true
 words_names [] h g = refl
 words_names (w ∷ ws) h g = and_from _ _ (and_from _ _ h.0 (ap not g.0)) (words_names ws h.1 g.1)
 
 pub names_names : NamesAreNames
-names_names f c h = words_names (names_in f) (form_text IsWordName name_word f (tokens_text IsWordName name_word (spelled f) c h.0)) (form_unreserved f h.1)
+names_names f c h = words_names (names_in f) (form_text IsWordName name_word f
+    (tokens_text IsWordName name_word (spelled f) c h.0)) (form_unreserved f h.1)

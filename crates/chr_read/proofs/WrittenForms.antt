@@ -14,7 +14,8 @@ use Rattle.chr_base.specs.ProgramTests.{Declaration}
 use Rattle.chr_base.specs.Weights.{is_paired}
 use Rattle.chr_syntax.specs.declared.clause.Comparator.{Comparator}
 use Rattle.chr_syntax.specs.declared.clause.Comparator.TheVariants as sign
-use Rattle.chr_syntax.specs.Clauses.{Term, Atom, Symbol, Comparison, Rule, Form, variable, number, declare, weight, rule}
+use Rattle.chr_syntax.specs.Clauses.{Term, Atom, Symbol, Comparison, Rule, Form, variable, number, declare, weight}
+use Rattle.chr_syntax.specs.Clauses.{rule}
 use Rattle.chr_base.specs.Texts.{name_at}
 use Rattle.chr_read.specs.CanonicalTexts.{is_default}
 
@@ -34,7 +35,8 @@ comparator_of cmp.Equal = sign.Equal
 comparator_of cmp.NotEqual = sign.NotEqual
 
 abbrev pub written_comparison : base_comparison.Comparison → Comparison
-written_comparison c = record { left = written_term c.left; comparator = comparator_of c.cmp; right = written_term c.right }
+written_comparison c = record { left = written_term c.left; comparator = comparator_of c.cmp; right =
+    written_term c.right }
 
 -- an empty body is `true`
 abbrev pub written_body : List Declaration → List Pattern → List (Option Atom)

@@ -1,11 +1,15 @@
 -- The faults of a clause that has a form, each as a test.
-use Rattle.std.specs.Prelude.{ℕ, ◌+◌, List, [], ◌∷◌, ◌++◌, length, Bool, true, false, not, ◌&&◌, ◌||◌, nat_eq, nat_le, nat_lt, Option, is_some, is_none, option_and_then, option_to_list, position, filter_map, codes}
+use Rattle.std.specs.Prelude.{ℕ, ◌+◌, List, [], ◌∷◌, ◌++◌, length, Bool, true, false, not, ◌&&◌, ◌||◌, nat_eq, nat_le}
+use Rattle.std.specs.Prelude.{nat_lt, Option, is_some, is_none, option_and_then, option_to_list, position, filter_map}
+use Rattle.std.specs.Prelude.{codes}
 use Rattle.std.specs.List.{list_any, flat_map}
 use Rattle.std.specs.Option.{option_map_or}
 use Rattle.std.specs.Str.{bytes_eq}
-use Rattle.chr_base.specs.declared.limits.TheConstants.{MAX_ARITY, MAX_BODY, MAX_COMPARISONS, MAX_HEADS, MAX_NAME, MAX_RULES, MAX_SYMBOLS}
+use Rattle.chr_base.specs.declared.limits.TheConstants.{MAX_ARITY, MAX_BODY, MAX_COMPARISONS, MAX_HEADS, MAX_NAME}
+use Rattle.chr_base.specs.declared.limits.TheConstants.{MAX_RULES, MAX_SYMBOLS}
 use Rattle.chr_base.specs.ProgramTests.{Declaration, declares}
-use Rattle.chr_syntax.specs.Clauses.{Term, Atom, Symbol, Rule, Form, variable, number, declare, weight, rule, propagation}
+use Rattle.chr_syntax.specs.Clauses.{Term, Atom, Symbol, Rule, Form, variable, number, declare, weight, rule}
+use Rattle.chr_syntax.specs.Clauses.{propagation}
 use Rattle.chr_read.specs.Numbers.{without_zeros, arity_of, number_of, weight_outside, weight_named_by}
 use Rattle.chr_read.specs.Meanings.{Progress}
 use Rattle.chr_read.specs.declared.fault.Fault.{Fault}

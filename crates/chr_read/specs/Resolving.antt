@@ -1,6 +1,7 @@
 -- The rule that a rule as written is: symbols by their places, variables by their numbers, digits by their values.
 -- Variables are numbered from 1 by first occurrence in the heads, kept ones first. Each `_` is a variable of its own.
-use Rattle.std.specs.Prelude.{ℕ, ◌+◌, pos, List, [], ◌∷◌, ◌++◌, length, map, Option, None, is_some, unwrap_or, position, if◌then◌else◌}
+use Rattle.std.specs.Prelude.{ℕ, ◌+◌, pos, List, [], ◌∷◌, ◌++◌, length, map, Option, None, is_some, unwrap_or, position}
+use Rattle.std.specs.Prelude.{if◌then◌else◌}
 use Rattle.std.specs.List.{fold}
 use Rattle.std.specs.Str.{bytes_eq}
 use Rattle.chr_base.specs.declared.term.Cmp.{Cmp}

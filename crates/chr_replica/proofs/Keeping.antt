@@ -21,8 +21,10 @@ use Rattle.chr_ops.proofs.Unions.{told_store-union}
 use Rattle.chr_rewrite.proofs.DerivationLemmas.{LeadsTo-steps}
 use Rattle.chr_replica.specs.Leases.{leased_store, stores_sum}
 use Rattle.chr_replica.specs.Replicas.{Replica, IsSound}
-use Rattle.chr_replica.specs.Laws.{FirstIsSound, TellKeeps, MergeKeeps, StepKeeps, TakeKeeps, TakePartsKeeps, PutKeeps, RecallKeeps, SettleKeeps}
-use Rattle.chr_replica.proofs.LeasedSums.{leased_more, leased_less, leased_parts, nothing_leased, not_out, below_next, below_less, below_parts}
+use Rattle.chr_replica.specs.Laws.{FirstIsSound, TellKeeps, MergeKeeps, StepKeeps, TakeKeeps, TakePartsKeeps, PutKeeps}
+use Rattle.chr_replica.specs.Laws.{RecallKeeps, SettleKeeps}
+use Rattle.chr_replica.proofs.LeasedSums.{leased_more, leased_less, leased_parts, nothing_leased, not_out, below_next}
+use Rattle.chr_replica.proofs.LeasedSums.{below_less, below_parts}
 
 -- ---- stores
 
@@ -43,7 +45,8 @@ reaches_beside p told s l part result h g =
     let whole : Reaches (Step (rules_of p)) told (part ⊕ (s ⊕ l)) =
     subst (Reaches (Step (rules_of p)) told) (sym (plus_assoc s l part) ∙ plus_comm (s ⊕ l) part) h in
     let more : Reaches (Step (rules_of p)) told (result ⊕ (s ⊕ l)) =
-    reaches_on (Step (rules_of p)) told (part ⊕ (s ⊕ l)) (result ⊕ (s ⊕ l)) whole (Reaches-grows (rules_of p) part result (s ⊕ l) g) in
+    reaches_on (Step (rules_of p)) told (part ⊕ (s ⊕ l)) (result ⊕ (s ⊕ l)) whole
+        (Reaches-grows (rules_of p) part result (s ⊕ l) g) in
     subst (Reaches (Step (rules_of p)) told) (plus_comm result (s ⊕ l) ∙ sym (swap_last s result l)) more
 
 -- what is told goes into the pool as well
@@ -53,7 +56,8 @@ told_beside p told s l b h =
     subst (Reaches (Step (rules_of p)) (told ⊕ b)) (sym (swap_last s b l)) (Reaches-grows (rules_of p) told (s ⊕ l) b h)
 
 -- the pool may go on
-pool_on : (p : Program) (told s t l : Store) → Reaches (Step (rules_of p)) told (s ⊕ l) → Reaches (Step (rules_of p)) s t
+pool_on : (p : Program) (told s t l : Store) → Reaches (Step (rules_of p)) told (s ⊕ l)
+    → Reaches (Step (rules_of p)) s t
     → Reaches (Step (rules_of p)) told (t ⊕ l)
 pool_on p told s t l h g =
     reaches_on (Step (rules_of p)) told (s ⊕ l) (t ⊕ l) h (Reaches-grows (rules_of p) s t l g)
@@ -78,14 +82,16 @@ pub merge_keeps : MergeKeeps
 merge_keeps p ops n s t h sound = subst (IsSound p) (sym h.after) (record {
   reached = subst (λ m. Reaches (Step (rules_of p)) m ((s.pool ⊕ sum_of (fresh s.operations ops)) ⊕ leased_store s.out))
       (sym (told_store-union s.operations ops))
-      (told_beside p (told_store s.operations) s.pool (leased_store s.out) (sum_of (fresh s.operations ops)) sound.reached);
+      (told_beside p (told_store s.operations) s.pool (leased_store s.out)
+          (sum_of (fresh s.operations ops)) sound.reached);
   below = sound.below;
 })
 
 pub step_keeps : StepKeeps
 step_keeps p step s t h sound = subst (IsSound p) (sym h.after) (record {
   reached = pool_on p (told_store s.operations) s.pool h.pool (leased_store s.out) sound.reached
-      (reaches_after (Step (rules_of p)) s.pool h.pool h.pool (LeadsTo-steps (rules_of p) step s.pool h.pool h.leads) (reaches_itself (Step (rules_of p)) h.pool));
+      (reaches_after (Step (rules_of p)) s.pool h.pool h.pool (LeadsTo-steps (rules_of p) step s.pool h.pool h.leads)
+          (reaches_itself (Step (rules_of p)) h.pool));
   below = sound.below;
 })
 
@@ -97,20 +103,23 @@ settle_keeps p n s t h sound = subst (IsSound p) (sym h.after) (record {
 
 pub take_keeps : TakeKeeps
 take_keeps p part number s t h sound = subst (IsSound p) (sym h.after) (subst Taken (sym h.numbered) (record {
-  reached = subst (FromTold p s) (sym (ap (λ l. (s.pool ⊖ part) ⊕ l) (leased_more s.out s.next part (not_out s.out s.next sound.below))
+  reached = subst (FromTold p s) (sym (ap (λ l. (s.pool ⊖ part) ⊕ l)
+      (leased_more s.out s.next part (not_out s.out s.next sound.below))
       ∙ part_moves s.pool part (leased_store s.out) h.there)) sound.reached;
   below = below_next s.out s.next part sound.below;
 }))
   where
     Taken : ℕ → Type 0
-    Taken k = IsSound p (record { operations = s.operations; pool = s.pool ⊖ part; out = map.insert s.out k part; next = k + 1 })
+    Taken k = IsSound p (record { operations = s.operations; pool = s.pool ⊖ part; out = map.insert s.out k part; next =
+        k + 1 })
 
 pub take_parts_keeps : TakePartsKeeps
 take_parts_keeps p n parts s t h sound = subst (IsSound p) (sym h.after) (record {
   reached = subst (FromTold p s) (sym (ap (λ l. bag.empty ⊕ l) (leased_parts parts s.out s.next sound.below)
       ∙ plus_comm bag.empty (leased_store s.out ⊕ stores_sum parts) ∙ plus_empty (leased_store s.out ⊕ stores_sum parts)
       ∙ plus_comm (leased_store s.out) (stores_sum parts) ∙ ap (λ x. x ⊕ leased_store s.out) h.whole)) sound.reached;
-  below = λ k w e. (let less = below_parts parts s.out s.next sound.below k w e in let count = h.count in omega (arith, less, count));
+  below = λ k w e. (let less = below_parts parts s.out s.next sound.below k w e in let count = h.count in
+      omega (arith, less, count));
 })
 
 pub put_keeps : PutKeeps

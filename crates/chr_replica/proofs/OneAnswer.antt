@@ -16,17 +16,20 @@ use Rattle.chr_replica.specs.Laws.{OneAnswer}
 use Rattle.chr_replica.proofs.LeasedSums.{nothing_leased}
 
 -- programs that are the same have the same normal forms
-same_normal : (p q : Program) → AreSame p q → (s t : Store) → IsNormalForm (Step (rules_of q)) s t → IsNormalForm (Step (rules_of p)) s t
+same_normal : (p q : Program) → AreSame p q → (s t : Store) → IsNormalForm (Step (rules_of q)) s t
+    → IsNormalForm (Step (rules_of p)) s t
 same_normal p q same s t h = (
   (same_programs_reach_alike p q same s t).1 h.0,
   λ u g. h.1 u (same_step (rules_of p) (rules_of q) t u same.1 g),
 )
 
 -- a settled replica holds a normal form of what was told
-normal : (p : Program) (s : Replica) → IsSound p s → IsSettled p s → IsNormalForm (Step (rules_of p)) (told_store s.operations) s.pool
+normal : (p : Program) (s : Replica) → IsSound p s → IsSettled p s → IsNormalForm (Step (rules_of p))
+    (told_store s.operations) s.pool
 normal p s sound settled = (
   subst (Reaches (Step (rules_of p)) (told_store s.operations))
-      (ap (λ l. s.pool ⊕ leased_store l) settled.0 ∙ ap (λ l. s.pool ⊕ l) nothing_leased ∙ plus_empty s.pool) sound.reached,
+      (ap (λ l. s.pool ⊕ leased_store l) settled.0 ∙ ap (λ l. s.pool ⊕ l) nothing_leased ∙ plus_empty s.pool)
+          sound.reached,
   settled.1,
 )
 

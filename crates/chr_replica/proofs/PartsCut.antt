@@ -8,7 +8,8 @@ use Rattle.chr_base.specs.declared.atom.Atom.{Atom}
 use Rattle.chr_base.specs.FinBag as bag
 use Rattle.chr_base.specs.FinBag.{◌⊕◌}
 use Rattle.chr_base.specs.Stores.{Store, store_of, size, count}
-use Rattle.chr_base.proofs.Stores.{store_of-append, plus_assoc, plus_comm, plus_empty, same_store, count_plus, count_empty, size_store_of}
+use Rattle.chr_base.proofs.Stores.{store_of-append, plus_assoc, plus_comm, plus_empty, same_store, count_plus}
+use Rattle.chr_base.proofs.Stores.{count_empty, size_store_of}
 use Rattle.chr_replica.specs.Leases.{stores_sum, parts_in, AreEven, AreNumbered}
 use Rattle.chr_join.specs.declared.lease.Lease.{Lease}
 use Rattle.chr_replica.specs.working.Cuts.{IsNear, AreCut}
@@ -21,7 +22,8 @@ stores_sum-push (x ∷ ss) s = ap (λ t. x ⊕ t) (stores_sum-push ss s) ∙ sym
 left_less : (m q : ℕ) → (m + 1) * q ≡ m * q + q
 left_less m q = grind arith
 
-pub wanted_fits : (q more n k w : ℕ) (atoms rest : List Atom) (parts : List Store) → k < n → (k < more → w ≡ q + 1) → (more ≤ k → w ≡ q) → AreCut q more n k atoms rest parts → w ≤ length rest
+pub wanted_fits : (q more n k w : ℕ) (atoms rest : List Atom) (parts : List Store) → k < n → (k < more → w ≡ q + 1)
+    → (more ≤ k → w ≡ q) → AreCut q more n k atoms rest parts → w ≤ length rest
 wanted_fits q more n k w atoms rest parts within big small cut = by (nat_lt k more) refl
   where
     m : ℕ
@@ -31,10 +33,13 @@ wanted_fits q more n k w atoms rest parts within big small cut = by (nat_lt k mo
     same = ap (λ x. x * q) (let e : n - k ≡ m + 1 = omega (arith, within) in e) ∙ left_less m q
 
     by : (b : Bool) → nat_lt k more ≡ b → w ≤ length rest
-    by true e = let less : k < more = grind (arith, nat_tests) in let is = big less in let l = cut.left in omega (arith, less, is, l, same)
-    by false e = let least : more ≤ k = grind (arith, nat_tests) in let is = small least in let l = cut.left in omega (arith, least, is, l, same)
+    by true e = let less : k < more = grind (arith, nat_tests) in let is = big less in let l = cut.left in
+        omega (arith, less, is, l, same)
+    by false e = let least : more ≤ k = grind (arith, nat_tests) in let is = small least in let l = cut.left in
+        omega (arith, least, is, l, same)
 
-pub cut_more : (q more n k w : ℕ) (atoms rest part after : List Atom) (parts : List Store) (b : Store) → k < n → (k < more → w ≡ q + 1) → (more ≤ k → w ≡ q) → rest ≡ part ++ after → length part ≡ w → b ≡ store_of part
+pub cut_more : (q more n k w : ℕ) (atoms rest part after : List Atom) (parts : List Store) (b : Store) → k < n
+    → (k < more → w ≡ q + 1) → (more ≤ k → w ≡ q) → rest ≡ part ++ after → length part ≡ w → b ≡ store_of part
     → AreCut q more n k atoms rest parts → AreCut q more n (k + 1) atoms after (parts ++ b ∷ [])
 cut_more q more n k w atoms rest part after parts b within big small split size_is bag_is cut = by (nat_lt k more) refl
   where
@@ -52,7 +57,8 @@ cut_more q more n k w atoms rest part after parts b within big small split size_
 
     whole : stores_sum (parts ++ b ∷ []) ⊕ store_of after ≡ store_of atoms
     whole =
-        ap (λ t. t ⊕ store_of after) (stores_sum-push parts b ∙ ap (λ x. stores_sum parts ⊕ x) bag_is) ∙ plus_assoc (stores_sum parts) (store_of part) (store_of after)
+        ap (λ t. t ⊕ store_of after) (stores_sum-push parts b ∙ ap (λ x. stores_sum parts ⊕ x) bag_is)
+            ∙ plus_assoc (stores_sum parts) (store_of part) (store_of after)
         ∙ ap (λ x. stores_sum parts ⊕ x) (sym (ap store_of split ∙ store_of-append part after)) ∙ cut.sum
 
     count : length (parts ++ b ∷ []) ≡ k + 1
@@ -63,31 +69,38 @@ cut_more q more n k w atoms rest part after parts b within big small split size_
         let less : k < more = grind (arith, nat_tests) in
         let is = big less in
         let l = cut.left in
-        record { count = count; left = omega (arith, less, is, l, same, lengths); sum = whole; even = All-push (IsNear q) parts b cut.even (omega (arith, sizes, is), omega (arith, sizes, is)) }
+        record { count = count; left = omega (arith, less, is, l, same, lengths); sum = whole; even =
+            All-push (IsNear q) parts b cut.even (omega (arith, sizes, is), omega (arith, sizes, is)) }
     by false e =
         let least : more ≤ k = grind (arith, nat_tests) in
         let is = small least in
         let l = cut.left in
-        record { count = count; left = omega (arith, least, is, l, same, lengths); sum = whole; even = All-push (IsNear q) parts b cut.even (omega (arith, sizes, is), omega (arith, sizes, is)) }
+        record { count = count; left = omega (arith, least, is, l, same, lengths); sum = whole; even =
+            All-push (IsNear q) parts b cut.even (omega (arith, sizes, is), omega (arith, sizes, is)) }
 
 pub cut_first : (q more n : ℕ) (atoms : List Atom) → n * q + more ≡ length atoms → AreCut q more n 0 atoms atoms []
 cut_first q more n atoms h =
-    record { count = refl; left = (let e : n - 0 ≡ n = omega arith in let f = ap (λ x. x * q) e in omega (arith, f, h)); sum = plus_comm bag.empty (store_of atoms) ∙ plus_empty (store_of atoms); even = All-nil }
+    record { count = refl; left = (let e : n - 0 ≡ n = omega arith in let f = ap (λ x. x * q) e in omega (arith, f, h));
+        sum = plus_comm bag.empty (store_of atoms) ∙ plus_empty (store_of atoms); even = All-nil }
   where
     All-nil : All (IsNear q) []
     All-nil = search rules
 
 nil_empty : store_of [] ≡ bag.empty
-nil_empty = same_store _ _ (λ q. (let e = ap (λ s. count s q) (store_of-append [] []) ∙ count_plus (store_of []) (store_of []) q in let z = count_empty q in omega (arith, e, z)))
+nil_empty = same_store _ _ (λ q. (let e = ap (λ s. count s q) (store_of-append [] [])
+    ∙ count_plus (store_of []) (store_of []) q in let z = count_empty q in omega (arith, e, z)))
 
 -- all parts are cut
-pub all_cut : (q more n k : ℕ) (atoms rest : List Atom) (parts : List Store) → k ≡ n → more < n → AreCut q more n k atoms rest parts → stores_sum parts ≡ store_of atoms
+pub all_cut : (q more n k : ℕ) (atoms rest : List Atom) (parts : List Store) → k ≡ n → more < n
+    → AreCut q more n k atoms rest parts → stores_sum parts ≡ store_of atoms
 all_cut q more n k atoms rest parts end less cut = by rest cut.sum none
   where
     none : length rest ≡ 0
-    none = let e : n - k ≡ 0 = omega (arith, end) in let f = ap (λ x. x * q) e in let l = cut.left in omega (arith, l, f, less, end)
+    none = let e : n - k ≡ 0 = omega (arith, end) in let f = ap (λ x. x * q) e in let l = cut.left in
+        omega (arith, l, f, less, end)
 
-    by : (rs : List Atom) → stores_sum parts ⊕ store_of rs ≡ store_of atoms → length rs ≡ 0 → stores_sum parts ≡ store_of atoms
+    by : (rs : List Atom) → stores_sum parts ⊕ store_of rs ≡ store_of atoms → length rs ≡ 0 → stores_sum parts
+        ≡ store_of atoms
     by [] h e = sym (ap (λ t. stores_sum parts ⊕ t) nil_empty ∙ plus_empty (stores_sum parts)) ∙ h
     by (r ∷ rs) h e = absurd (omega (arith, e))
 
@@ -101,7 +114,8 @@ near_even q ss h =
     by : (s t : Store) → IsNear q s → IsNear q t → size s ≤ size t + 1
     by s t a b = let above = a.1 in let below = b.0 in omega (arith, above, below)
 
-pub numbered_more : (k : ℕ) (ls : List Lease) (l : Lease) → AreNumbered k ls → l.number ≡ k + length (parts_in ls) → AreNumbered k (ls ++ l ∷ [])
+pub numbered_more : (k : ℕ) (ls : List Lease) (l : Lease) → AreNumbered k ls → l.number ≡ k + length (parts_in ls)
+    → AreNumbered k (ls ++ l ∷ [])
 numbered_more k [] l h e = (omega (arith, e), tt)
 numbered_more k (x ∷ ls) l h e = (h.0, numbered_more (k + 1) ls l h.1 (omega (arith, e)))
 

@@ -9,18 +9,21 @@ use Rattle.chr_replica.specs.declared.refusal.Refusal.{Refusal}
 use Rattle.chr_replica.specs.Replicas.{Replica, IsSound, Tells}
 use Rattle.chr_replica.specs.Laws.{TellKeeps}
 
-pub sound_after : {X E : Type 0} (p : Program) (s t : Replica) (r : Result X E) (Q : X → Type 0) → ((x : X) → Q x → IsSound p s → IsSound p t)
+pub sound_after : {X E : Type 0} (p : Program) (s t : Replica) (r : Result X E) (Q : X → Type 0)
+    → ((x : X) → Q x → IsSound p s → IsSound p t)
     → IfOk r Q → OnErr r (t ≡ s) → IsSound p s → IsSound p t
 sound_after p s t (Ok x) Q keep ok err sound = keep x ok sound
 sound_after p s t (Err e) Q keep ok err sound = subst (IsSound p) (sym err) sound
 
 -- where a refused call may have changed something
-pub sound_either : {X E : Type 0} (p : Program) (s t : Replica) (r : Result X E) (Q : X → Type 0) (R : E → Type 0) → ((x : X) → Q x → IsSound p s → IsSound p t)
+pub sound_either : {X E : Type 0} (p : Program) (s t : Replica) (r : Result X E) (Q : X → Type 0) (R : E → Type 0)
+    → ((x : X) → Q x → IsSound p s → IsSound p t)
     → ((e : E) → R e → IsSound p s → IsSound p t) → IfOk r Q → IfErr r R → IsSound p s → IsSound p t
 sound_either p s t (Ok x) Q R keep stop ok err sound = keep x ok sound
 sound_either p s t (Err e) Q R keep stop ok err sound = stop e err sound
 
-pub sound_after_tell : (p : Program) (s t : Replica) (op : Operation) (r : Result Added Refusal) → TellKeeps → (r ≡ Ok added.New → Tells p s op t) → (r ≡ Ok added.Again → t ≡ s)
+pub sound_after_tell : (p : Program) (s t : Replica) (op : Operation) (r : Result Added Refusal) → TellKeeps
+    → (r ≡ Ok added.New → Tells p s op t) → (r ≡ Ok added.Again → t ≡ s)
     → OnErr r (t ≡ s) → IsSound p s → IsSound p t
 sound_after_tell p s t op (Ok added.New) keep new kept err sound = keep p op s t (new refl) sound
 sound_after_tell p s t op (Ok added.Again) keep new kept err sound = subst (IsSound p) (sym (kept refl)) sound

@@ -1,5 +1,6 @@
 -- What is left of stores and states by the calls of a replica.
-use Rattle.std.specs.Prelude.{◌≡◌, ℕ, ◌+◌, ◌^◌, ◌<◌, ◌≤◌, List, length, All, Bool, true, false, IsTrue, ◌↔◌, Result, Ok, Err, IfErr, IsErrOf, Some}
+use Rattle.std.specs.Prelude.{◌≡◌, ℕ, ◌+◌, ◌^◌, ◌<◌, ◌≤◌, List, length, All, Bool, true, false, IsTrue, ◌↔◌, Result, Ok}
+use Rattle.std.specs.Prelude.{Err, IfErr, IsErrOf, Some}
 use Rattle.std.specs.Bool.{OnTrue}
 use Rattle.std.specs.List.{list_all}
 use mathlib.Core.Bool.{true≢false}
@@ -35,7 +36,8 @@ use Rattle.chr_replica.specs.declared.limits.TheConstants.{LAST_LEASE}
 use Rattle.chr_replica.specs.Leases.{Leases, stores_sum, with_parts}
 use Rattle.chr_replica.specs.working.Cuts.{IsNear}
 use Rattle.chr_replica.proofs.PartsCut.{near_even}
-use Rattle.chr_replica.specs.Replicas.{Replica, IsDeclared, Tells, Merges, Steps, Takes, TakesParts, Puts, Recalls, Settles, IsSound}
+use Rattle.chr_replica.specs.Replicas.{Replica, IsDeclared, Tells, Merges, Steps, Takes, TakesParts, Puts, Recalls}
+use Rattle.chr_replica.specs.Replicas.{Settles, IsSound}
 use Rattle.chr_replica.specs.Refusals.{refusal_of, RefusesMerge}
 use Rattle.chr_replica.proofs.PoolRanks.{rank_fits}
 
@@ -43,7 +45,8 @@ use Rattle.chr_replica.proofs.PoolRanks.{rank_fits}
 abbrev pub replica : Operations → Store → Leases → ℕ → Replica
 replica m s l k = record { operations = m; pool = s; out = l; next = k }
 
-pub replica_is : (m n : Operations) (s t : Store) (l k : Leases) (a b : ℕ) → m ≡ n → s ≡ t → l ≡ k → a ≡ b → replica m s l a ≡ replica n t k b
+pub replica_is : (m n : Operations) (s t : Store) (l k : Leases) (a b : ℕ) → m ≡ n → s ≡ t → l ≡ k → a ≡ b
+    → replica m s l a ≡ replica n t k b
 replica_is m n s t l k a b e f g h = λ i. record { operations = e i; pool = f i; out = g i; next = h i }
 
 -- what each item passes each atom does
@@ -54,22 +57,28 @@ each_item p s b e = (
 )
 
 -- atoms that were put in are taken out again
-pub put_out : (b : Bool) (s s' s'' x y z : Store) → s' ≡ s ⊕ x → y ≡ x → z ≡ x → IsTrue b ↔ IsWithin y s' → OnTrue b (s'' ≡ s' ⊖ z) → s'' ≡ s
+pub put_out : (b : Bool) (s s' s'' x y z : Store) → s' ≡ s ⊕ x → y ≡ x → z ≡ x → IsTrue b ↔ IsWithin y s'
+    → OnTrue b (s'' ≡ s' ⊖ z) → s'' ≡ s
 put_out true s s' s'' x y z put same again there taken =
     taken ∙ (λ i. put i ⊖ again i) ∙ same_store _ _ (λ q. simp (count_plus, count_minus) (omega arith))
 put_out false s s' s'' x y z put same again there taken =
-    absurd (true≢false (sym (there.1 (subst (λ w. IsWithin w s') (sym same) (subst (IsWithin x) (sym put) (λ q. simp count_plus (omega arith)))))))
+    absurd (true≢false (sym (there.1 (subst (λ w. IsWithin w s') (sym same)
+        (subst (IsWithin x) (sym put) (λ q. simp count_plus (omega arith)))))))
 
 -- ---- what each event leaves
 
-pub tells_is : (p : Program) (o o' : Operations) (s s' : Store) (l : Leases) (k : ℕ) (now : Replica) (op : Operation) → replica o s l k ≡ now → IsDeclared p op → IsNew o op → told_atoms o + size op.1 ≤ MAX_TOLD
+pub tells_is : (p : Program) (o o' : Operations) (s s' : Store) (l : Leases) (k : ℕ) (now : Replica) (op : Operation)
+    → replica o s l k ≡ now → IsDeclared p op → IsNew o op → told_atoms o + size op.1 ≤ MAX_TOLD
     → o' ≡ map.insert o op.0 op.1 → s' ≡ s ⊕ op.1 → Tells p now op (replica o' s' l k)
 tells_is p o o' s s' l k now op e declared new room joined put =
     subst (λ r. Tells p r op (replica o' s' l k)) e
     (record { declared = declared; new = new; room = room; after = replica_is o' _ s' _ l l k k joined put refl refl })
 
-pub merges_is : (p : Program) (o o' : Operations) (s s' : Store) (l : Leases) (k n : ℕ) (now : Replica) (ops : List Operation) → replica o s l k ≡ now → All (IsDeclared p) ops → HasNoClash o ops → told_atoms o' ≤ MAX_TOLD
-    → n + map.len o ≡ map.len o' → o' ≡ union o ops → s' ≡ s ⊕ sum_of (fresh o ops) → Merges p now ops n (replica o' s' l k)
+pub merges_is : (p : Program) (o o' : Operations) (s s' : Store) (l : Leases) (k n : ℕ) (now : Replica)
+    (ops : List Operation) → replica o s l k ≡ now → All (IsDeclared p) ops → HasNoClash o ops
+    → told_atoms o' ≤ MAX_TOLD
+    → n + map.len o ≡ map.len o' → o' ≡ union o ops → s' ≡ s ⊕ sum_of (fresh o ops)
+        → Merges p now ops n (replica o' s' l k)
 merges_is p o o' s s' l k n now ops e declared agree room count joined put =
     subst (λ r. Merges p r ops n (replica o' s' l k)) e (record {
       declared = declared;
@@ -79,20 +88,25 @@ merges_is p o o' s s' l k n now ops e declared agree room count joined put =
       after = replica_is o' _ s' _ l l k k joined put refl refl;
     })
 
-pub refuses_merge : (p : Program) (s : Replica) (o : Operations) (ops : List Operation) (r : Result ℕ AddFault) (f : AddFault) → o ≡ s.operations → All (IsDeclared p) ops → r ≡ Err f
-    → ((id : OpId) → IsErrOf r (fault.Clash id) → IsFirstClash o ops id) → (IsErrOf r fault.Full → HasNoClash o ops × IsOverLimit o ops) → RefusesMerge p s ops (refusal_of f)
-refuses_merge p s o ops r (fault.Clash id) same declared e clash full = (declared, subst (λ m. IsFirstClash m ops id) same (clash id e))
+pub refuses_merge : (p : Program) (s : Replica) (o : Operations) (ops : List Operation) (r : Result ℕ AddFault)
+    (f : AddFault) → o ≡ s.operations → All (IsDeclared p) ops → r ≡ Err f
+    → ((id : OpId) → IsErrOf r (fault.Clash id) → IsFirstClash o ops id)
+        → (IsErrOf r fault.Full → HasNoClash o ops × IsOverLimit o ops) → RefusesMerge p s ops (refusal_of f)
+refuses_merge p s o ops r (fault.Clash id) same declared e clash full =
+    (declared, subst (λ m. IsFirstClash m ops id) same (clash id e))
 refuses_merge p s o ops r fault.Full same declared e clash full =
     (declared, subst (λ m. HasNoClash m ops) same ((full e).0), subst (λ m. IsOverLimit m ops) same ((full e).1))
 refuses_merge p s o ops r fault.Memory same declared e clash full = tt
 
-pub steps_is : (p : Program) (rules : List Rule) (st : StepValue) (o : Operations) (s s' : Store) (l : Leases) (k : ℕ) (now : Replica) → replica o s l k ≡ now → rules ≡ rules_of p → LeadsTo rules st s s'
+pub steps_is : (p : Program) (rules : List Rule) (st : StepValue) (o : Operations) (s s' : Store) (l : Leases) (k : ℕ)
+    (now : Replica) → replica o s l k ≡ now → rules ≡ rules_of p → LeadsTo rules st s s'
     → Steps p now st (replica o s' l k)
 steps_is p rules st o s s' l k now e same leads =
     subst (λ q. Steps p q st (replica o s' l k)) e
     (record { pool = s'; leads = subst (λ rs. LeadsTo rs st s s') same leads; after = refl })
 
-pub recalls_is : (o : Operations) (s s' part : Store) (l l' : Leases) (k n : ℕ) (now : Replica) → replica o s l k ≡ now → map.get l n ≡ Some part → s' ≡ s ⊕ store_of (bag.items part) → l' ≡ map.remove l n
+pub recalls_is : (o : Operations) (s s' part : Store) (l l' : Leases) (k n : ℕ) (now : Replica) → replica o s l k ≡ now
+    → map.get l n ≡ Some part → s' ≡ s ⊕ store_of (bag.items part) → l' ≡ map.remove l n
     → Recalls now n (replica o s' l' k)
 recalls_is o s s' part l l' k n now e out put gone =
     subst (λ r. Recalls r n (replica o s' l' k)) e (record {
@@ -101,17 +115,22 @@ recalls_is o s s' part l l' k n now e out put gone =
       after = replica_is o o s' _ l' _ k k refl (put ∙ ap (λ x. s ⊕ x) (store_of-items part)) gone refl;
     })
 
-pub settles_is : (p : Program) (n : ℕ) (o : Operations) (s s' : Store) (l : Leases) (k : ℕ) (now : Replica) → replica o s l k ≡ now → ProgramLowers p → IsSound p now → told_atoms now.operations ≤ MAX_TOLD
+pub settles_is : (p : Program) (n : ℕ) (o : Operations) (s s' : Store) (l : Leases) (k : ℕ) (now : Replica)
+    → replica o s l k ≡ now → ProgramLowers p → IsSound p now → told_atoms now.operations ≤ MAX_TOLD
     → TookSteps p n s s' → Settles p now n (replica o s' l k)
 settles_is p n o s s' l k now e lowers sound few took =
-    let fits : store_rank p s < 2 ^ 64 = subst (λ r. store_rank p r.pool < 2 ^ 64) (sym e) (rank_fits p now lowers sound few) in
-    subst (λ r. Settles p r n (replica o s' l k)) e (record { pool = s'; run = exact_count p n s s' took fits; after = refl })
+    let fits : store_rank p s < 2 ^ 64 = subst (λ r. store_rank p r.pool < 2 ^ 64) (sym e)
+        (rank_fits p now lowers sound few) in
+    subst (λ r. Settles p r n (replica o s' l k)) e (record { pool = s'; run = exact_count p n s s' took fits; after =
+        refl })
 
 pub if_err : {X E : Type 0} (r : Result X E) (P Q : E → Type 0) → ((e : E) → P e → Q e) → IfErr r P → IfErr r Q
 if_err (Ok x) P Q k h = tt
 if_err (Err e) P Q k h = k e h
 
-pub takes_is : (o : Operations) (s s' part : Store) (l l' : Leases) (k k' : ℕ) (now : Replica) → replica o s l k ≡ now → k ≤ LAST_LEASE → IsWithin (store_of (bag.items part)) s → s' ≡ s ⊖ store_of (bag.items part) → l' ≡ map.insert l k part
+pub takes_is : (o : Operations) (s s' part : Store) (l l' : Leases) (k k' : ℕ) (now : Replica) → replica o s l k ≡ now
+    → k ≤ LAST_LEASE → IsWithin (store_of (bag.items part)) s → s' ≡ s ⊖ store_of (bag.items part)
+    → l' ≡ map.insert l k part
     → k' ≡ k + 1 → Takes now part k (replica o s' l' k')
 takes_is o s s' part l l' k k' now e room there out put next =
     let same = store_of-items part in
@@ -122,8 +141,10 @@ takes_is o s s' part l l' k k' now e room there out put next =
       after = replica_is o o s' _ l' _ k' _ refl (out ∙ ap (λ x. s ⊖ x) same) put next;
     })
 
-pub puts_is : (p q : Program) (o : Operations) (s s' part result : Store) (l l' : Leases) (k n : ℕ) (now : Replica) → replica o s l k ≡ now → map.get l n ≡ Some part → SameProgramsReachAlike → AreSame q p
-    → Reaches (Step (rules_of q)) part result → s' ≡ s ⊕ store_of (bag.items result) → l' ≡ map.remove l n → Puts p now n part result (replica o s' l' k)
+pub puts_is : (p q : Program) (o : Operations) (s s' part result : Store) (l l' : Leases) (k n : ℕ) (now : Replica)
+    → replica o s l k ≡ now → map.get l n ≡ Some part → SameProgramsReachAlike → AreSame q p
+    → Reaches (Step (rules_of q)) part result → s' ≡ s ⊕ store_of (bag.items result) → l' ≡ map.remove l n
+        → Puts p now n part result (replica o s' l' k)
 puts_is p q o s s' part result l l' k n now e out alike same reached put gone =
     subst (λ r. Puts p r n part result (replica o s' l' k)) e (record {
       out = out;
@@ -131,8 +152,11 @@ puts_is p q o s s' part result l l' k n now e out alike same reached put gone =
       after = replica_is o o s' _ l' _ k k refl (put ∙ ap (λ x. s ⊕ x) (store_of-items result)) gone refl;
     })
 
-pub takes_parts_is : (o : Operations) (s s' : Store) (l l' : Leases) (k k' n q : ℕ) (atoms : List Atom) (parts : List Store) (now : Replica) → replica o s l k ≡ now → k + n ≤ LAST_LEASE + 1 → length parts ≡ n → stores_sum parts ≡ store_of atoms
-    → store_of atoms ≡ s → All (IsNear q) parts → s' ≡ bag.empty → l' ≡ with_parts l k parts → k' ≡ k + n → TakesParts now n parts (replica o s' l' k')
+pub takes_parts_is : (o : Operations) (s s' : Store) (l l' : Leases) (k k' n q : ℕ) (atoms : List Atom)
+    (parts : List Store) (now : Replica) → replica o s l k ≡ now → k + n ≤ LAST_LEASE + 1 → length parts ≡ n
+    → stores_sum parts ≡ store_of atoms
+    → store_of atoms ≡ s → All (IsNear q) parts → s' ≡ bag.empty → l' ≡ with_parts l k parts → k' ≡ k + n
+        → TakesParts now n parts (replica o s' l' k')
 takes_parts_is o s s' l l' k k' n q atoms parts now e room count sum whole near none put next =
     subst (λ r. TakesParts r n parts (replica o s' l' k')) e (record {
       room = room;

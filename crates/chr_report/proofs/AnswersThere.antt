@@ -1,5 +1,6 @@
 -- For a program of which every store has a normal form, command lines have answers.
-use Rattle.std.proofs.Common.{◌≡◌, ℕ, ◌+◌, ◌-◌, Bool, true, false, List, [], ◌∷◌, ◌++◌, Some, None, Option, Err, refl, sym, subst, ◌∙◌, inl, inr, codes, arith, cond}
+use Rattle.std.proofs.Common.{◌≡◌, ℕ, ◌+◌, ◌-◌, Bool, true, false, List, [], ◌∷◌, ◌++◌, Some, None, Option, Err, refl}
+use Rattle.std.proofs.Common.{sym, subst, ◌∙◌, inl, inr, codes, arith, cond}
 use Rattle.std.specs.Prelude.{◌≢◌, IsSomeAnd, MatchOption, slice_set}
 use Rattle.std.specs.Fmt.{decimal}
 use Rattle.std.specs.Bool.{MatchBool}
@@ -35,7 +36,10 @@ use Rattle.chr_exchange.specs.Texts.{summary_text}
 use Rattle.chr_report.specs.declared.reply.Refusal.TheVariants as refusal
 use Rattle.chr_report.specs.Lines.{without_return}
 use Rattle.chr_report.specs.Replies.{refusal_text}
-use Rattle.chr_report.specs.Answers.{held_by, AnswersRefusal, OneAnswers, AnswersAt, AnswersShow, AnswersTell, AnswersUnion, AnswersMerge, AnswersSync, AnswersSummary, delta_text_of, AnswersLacks, AnswersAtoms, AnswersOperations, AnswersBetween, AnswersRead, Answers, AnswersFirst, AnswersAll}
+use Rattle.chr_report.specs.Answers.{held_by, AnswersRefusal, OneAnswers, AnswersAt, AnswersShow, AnswersTell}
+use Rattle.chr_report.specs.Answers.{AnswersUnion, AnswersMerge, AnswersSync, AnswersSummary, delta_text_of}
+use Rattle.chr_report.specs.Answers.{AnswersLacks, AnswersAtoms, AnswersOperations, AnswersBetween, AnswersRead}
+use Rattle.chr_report.specs.Answers.{Answers, AnswersFirst, AnswersAll}
 use Rattle.chr_report.specs.OneText.{AnswersExist}
 
 -- some answer, and what is held after it
@@ -56,7 +60,8 @@ tell_answered op old = by (finite.get old op.0) refl
             old,
             record {
               again = λ h. absurd (none-some op.1 (sym e ∙ h));
-              clash = λ h. absurd (let k : IsSomeAnd {T = Store} None (λ b. b ≢ op.1) = subst (λ o. IsSomeAnd o (λ b. b ≢ op.1)) e h in k);
+              clash = λ h. absurd (let k : IsSomeAnd {T = Store} None (λ b. b ≢ op.1) =
+                  subst (λ o. IsSomeAnd o (λ b. b ≢ op.1)) e h in k);
               full = λ _ _. (refl, refl);
               told = λ _ room. absurd (omega (arith, over, room));
             },
@@ -66,7 +71,8 @@ tell_answered op old = by (finite.get old op.0) refl
             finite.insert old op.0 op.1,
             record {
               again = λ h. absurd (none-some op.1 (sym e ∙ h));
-              clash = λ h. absurd (let k : IsSomeAnd {T = Store} None (λ b. b ≢ op.1) = subst (λ o. IsSomeAnd o (λ b. b ≢ op.1)) e h in k);
+              clash = λ h. absurd (let k : IsSomeAnd {T = Store} None (λ b. b ≢ op.1) =
+                  subst (λ o. IsSomeAnd o (λ b. b ≢ op.1)) e h in k);
               full = λ _ over. absurd (omega (arith, over, room));
               told = λ _ _. (refl, refl);
             },
@@ -79,7 +85,8 @@ tell_answered op old = by (finite.get old op.0) refl
             old,
             record {
               again = λ _. (refl, refl);
-              clash = λ h. absurd (let k : IsSomeAnd (Some s) (λ b. b ≢ op.1) = subst (λ o. IsSomeAnd o (λ b. b ≢ op.1)) e h in k same);
+              clash = λ h. absurd (let k : IsSomeAnd (Some s) (λ b. b ≢ op.1) =
+                  subst (λ o. IsSomeAnd o (λ b. b ≢ op.1)) e h in k same);
               full = λ n _. absurd (none-some s (sym n ∙ e));
               told = λ n _. absurd (none-some s (sym n ∙ e));
             },
@@ -100,61 +107,76 @@ tell_answered op old = by (finite.get old op.0) refl
 union_answered : (word : List ℕ) (ops : List Operation) (old : Operations) → HasAnswer (AnswersUnion word ops old)
 union_answered word ops old =
     elim (cases_lt MAX_TOLD (told_atoms (union old ops))) as (λ _. HasAnswer (AnswersUnion word ops old)) [
-      | inl over ↦ (refusal_text refusal.Full, old, record { full = λ _. (refl, refl); joined = λ room. absurd (omega (arith, over, room)) })
-      | inr room ↦ (word ++ decimal (finite.len (union old ops) - finite.len old), union old ops, record { full = λ over. absurd (omega (arith, over, room)); joined = λ _. (refl, refl) })
+      | inl over ↦ (refusal_text refusal.Full, old, record { full = λ _. (refl, refl); joined =
+            λ room. absurd (omega (arith, over, room)) })
+      | inr room ↦ (word ++ decimal (finite.len (union old ops) - finite.len old), union old ops,
+            record { full = λ over. absurd (omega (arith, over, room)); joined = λ _. (refl, refl) })
     ]
 
 -- one of them clashes, or none does
 merge_answered : (ops : List Operation) (old : Operations) → HasAnswer (AnswersMerge ops old)
 merge_answered ops old =
     elim (clash_or_none old ops) as (λ _. HasAnswer (AnswersMerge ops old)) [
-      | inl c ↦ (refusal_text refusal.Clash, old, record { clash = λ _ _ _. (refl, refl); unites = λ none. absurd (none c.0 c.1 c.2) })
+      | inl c ↦ (refusal_text refusal.Clash, old, record { clash = λ _ _ _. (refl, refl); unites =
+            λ none. absurd (none c.0 c.1 c.2) })
       | inr none ↦
           (let u = union_answered (codes "merged ") ops old in
           (u.0, u.1, record { clash = λ i id c. absurd (none i id c); unites = λ _. u.2 }))
     ]
 
 summary_answered : SummariesExist → (old : Operations) → HasAnswer (AnswersSummary old)
-summary_answered exist old = let s = exist old in (summary_text s.0, old, record { ranges = s.0; apart = s.1; just = s.2; text_is = refl; same = refl })
+summary_answered exist old = let s = exist old in (summary_text s.0, old,
+    record { ranges = s.0; apart = s.1; just = s.2; text_is = refl; same = refl })
 
 -- ---- of several replicas one
 
 -- the replica of a number answers where each replica does
-at_answered : (R : Operations → List ℕ → Operations → Type 0) → ((m : Operations) → HasAnswer (R m)) → (old : List Operations) (r : ℕ) → HasAnswer (AnswersAt old r R)
+at_answered : (R : Operations → List ℕ → Operations → Type 0) → ((m : Operations) → HasAnswer (R m))
+    → (old : List Operations) (r : ℕ) → HasAnswer (AnswersAt old r R)
 at_answered R answers old r = by (held_by old r)
   where
-    by : (o : Option Operations) → HasAnswer (λ text new. MatchOption o (AnswersRefusal refusal.NoReplica old text new) (OneAnswers old r R text new))
+    by : (o : Option Operations) → HasAnswer (λ text new. MatchOption o (AnswersRefusal refusal.NoReplica old text new)
+        (OneAnswers old r R text new))
     by None = (refusal_text refusal.NoReplica, old, (refl, refl))
-    by (Some m) = let a = answers m in (a.0, slice_set old (r - 1) a.1, record { after = a.1; answers = a.2; others = refl })
+    by (Some m) = let a = answers m in (a.0, slice_set old (r - 1) a.1,
+        record { after = a.1; answers = a.2; others = refl })
 
 between_answered : (old : List Operations) (a b : ℕ) → HasAnswer (AnswersBetween old a b)
 between_answered old a b = by (held_by old a)
   where
-    by : (o : Option Operations) → HasAnswer (λ text new. MatchOption o (AnswersRefusal refusal.NoReplica old text new) (λ from. AnswersAt old b (AnswersSync from) text new))
+    by : (o : Option Operations) → HasAnswer (λ text new. MatchOption o (AnswersRefusal refusal.NoReplica old text new)
+        (λ from. AnswersAt old b (AnswersSync from) text new))
     by None = (refusal_text refusal.NoReplica, old, (refl, refl))
     by (Some from) = at_answered (AnswersSync from) (union_answered (codes "synced ") (finite.entries from)) old b
 
-atoms_answered : (old : List Operations) (r : ℕ) (id : OpId) (atoms : Option (List Atom)) → HasAnswer (AnswersAtoms old r id atoms)
+atoms_answered : (old : List Operations) (r : ℕ) (id : OpId) (atoms : Option (List Atom))
+    → HasAnswer (AnswersAtoms old r id atoms)
 atoms_answered old r id None = (refusal_text refusal.UnknownSymbol, old, (refl, refl))
-atoms_answered old r id (Some atoms) = at_answered (AnswersTell (id, store_of atoms)) (tell_answered (id, store_of atoms)) old r
+atoms_answered old r id (Some atoms) = at_answered (AnswersTell (id, store_of atoms))
+    (tell_answered (id, store_of atoms)) old r
 
-operations_answered : (old : List Operations) (r : ℕ) (ops : Option (List Operation)) → HasAnswer (AnswersOperations old r ops)
+operations_answered : (old : List Operations) (r : ℕ) (ops : Option (List Operation))
+    → HasAnswer (AnswersOperations old r ops)
 operations_answered old r None = (refusal_text refusal.UnknownSymbol, old, (refl, refl))
 operations_answered old r (Some ops) = at_answered (AnswersMerge ops) (merge_answered ops) old r
 
 -- ---- lines
 
-module _ (exist : SummariesExist) (ds : List Declaration) (rules : List Rule) (rests : (s : Store) → (t : Store) × IsNormalForm (Step rules) s t) where
+module _ (exist : SummariesExist) (ds : List Declaration) (rules : List Rule)
+    (rests : (s : Store) → (t : Store) × IsNormalForm (Step rules) s t) where
   show_answered : (old : Operations) → HasAnswer (AnswersShow ds rules old)
-  show_answered old = let n = rests (told_store old) in (store_text ds n.0, old, (record { store = n.0; normal_form = n.1; text_is = refl }, refl))
+  show_answered old = let n = rests (told_store old) in
+      (store_text ds n.0, old, (record { store = n.0; normal_form = n.1; text_is = refl }, refl))
 
   lacks_answered : (rs : List IdRange) (v : DeltaVersion) (old : Operations) → HasAnswer (AnswersLacks ds rs v old)
   lacks_answered rs v old = (delta_text_of v ds (operations_of (lacking old rs)), old, (refl, refl))
 
-  said_answered : (old : List Operations) (said : Option Said) → HasAnswer (AnswersRead ds rules old (ok_or said fault.Shape))
+  said_answered : (old : List Operations) (said : Option Said)
+      → HasAnswer (AnswersRead ds rules old (ok_or said fault.Shape))
   said_answered old None = (refusal_text refusal.Shape, old, (refl, refl))
   said_answered old (Some (show r)) = at_answered (AnswersShow ds rules) show_answered old r
-  said_answered old (Some (tell r o n ws)) = atoms_answered old r (record { origin = o; number = n }) (named_atoms ds ws)
+  said_answered old (Some (tell r o n ws)) = atoms_answered old r (record { origin = o; number = n })
+      (named_atoms ds ws)
   said_answered old (Some (sync a b)) = between_answered old a b
   said_answered old (Some (summary r)) = at_answered AnswersSummary (summary_answered exist) old r
   said_answered old (Some (lacks r rs v)) = at_answered (AnswersLacks ds rs v) (lacks_answered rs v) old r
@@ -176,12 +198,15 @@ module _ (exist : SummariesExist) (ds : List Declaration) (rules : List Rule) (r
   lines_answered (l ∷ ls) old = by (is_blank_line (without_return l)) (lines_answered ls)
     where
       by : (b : Bool) → ((now : List Operations) → (out : List ℕ) × AnswersAll ds rules ls now out)
-          → (out : List ℕ) × MatchBool b (AnswersAll ds rules ls old out) (AnswersFirst ds rules old (without_return l) out (AnswersAll ds rules ls))
+          → (out : List ℕ) × MatchBool b (AnswersAll ds rules ls old out)
+              (AnswersFirst ds rules old (without_return l) out (AnswersAll ds rules ls))
       by true more = more old
       by false more =
           let a = line_answered old (without_return l) in
           let rest = more a.1 in
-          (a.0 ++ 10 ∷ rest.0, record { text = a.0; new = a.1; rest = rest.0; answers = a.2; more = rest.1; out_is = refl })
+          (a.0 ++ 10 ∷ rest.0, record { text = a.0; new = a.1; rest = rest.0; answers = a.2; more = rest.1; out_is =
+              refl })
 
 pub answers_exist : NormalFormsExist → SummariesExist → AnswersExist
-answers_exist rests exist ds rules lowers lines old = lines_answered exist ds rules (rests rules (rank_by ds) (lowers_rank_by ds rules lowers)) lines old
+answers_exist rests exist ds rules lowers lines old = lines_answered exist ds rules
+    (rests rules (rank_by ds) (lowers_rank_by ds rules lowers)) lines old

@@ -1,5 +1,6 @@
 -- Between lines no part of a replica is out, and what it holds is declared.
-use Rattle.std.proofs.Common.{◌≡◌, ℕ, zero, suc, ◌-◌, Bool, true, false, cond, List, [], ◌∷◌, All, refl, sym, ap, ◌∙◌, subst}
+use Rattle.std.proofs.Common.{◌≡◌, ℕ, zero, suc, ◌-◌, Bool, true, false, cond, List, [], ◌∷◌, All, refl, sym, ap, ◌∙◌}
+use Rattle.std.proofs.Common.{subst}
 use Rattle.std.specs.Prelude.{Option, Some, None, not, replicate, Result, Ok, Err, IfOk, OnOk}
 use Rattle.std.specs.List.{AllByRecursion}
 use Rattle.std.specs.Option.{option_or}
@@ -46,49 +47,63 @@ use Rattle.chr_report.specs.working.Services.{operations_held, AreBetweenLines, 
 abbrev HoldsDeclared : Program → Operations → Type 0
 HoldsDeclared p m = (id : OpId) (b : Store) → finite.get m id ≡ Some b → IsDeclared p (id, b)
 
-declared_more : (p : Program) (m : Operations) (k : OpId) (v : Store) → HoldsDeclared p m → Each (declares_atom (declarations p)) v → HoldsDeclared p (finite.insert m k v)
+declared_more : (p : Program) (m : Operations) (k : OpId) (v : Store) → HoldsDeclared p m
+    → Each (declares_atom (declarations p)) v → HoldsDeclared p (finite.insert m k v)
 declared_more p m k v h g id b e = by (eq_by_cmp id_cmp id k) (sym (finite.get-insert id_total m k v id) ∙ e)
   where
     by : (x : Bool) → cond x (Some v) (finite.get m id) ≡ Some b → Each (declares_atom (declarations p)) b
-    by true e = let k : ◌≡◌ {A = Option Store} (Some v) (Some b) = e in let same : v ≡ b = cc in subst (Each (declares_atom (declarations p))) same g
+    by true e = let k : ◌≡◌ {A = Option Store} (Some v) (Some b) = e in let same : v ≡ b = cc in
+        subst (Each (declares_atom (declarations p))) same g
     by false e = h id b e
 
 -- what is found among declared operations is declared
-found_declared : (p : Program) (os : List Operation) (id : OpId) (b : Store) → AllByRecursion (IsDeclared p) os → find id_cmp id os ≡ Some b → Each (declares_atom (declarations p)) b
+found_declared : (p : Program) (os : List Operation) (id : OpId) (b : Store) → AllByRecursion (IsDeclared p) os
+    → find id_cmp id os ≡ Some b → Each (declares_atom (declarations p)) b
 found_declared p [] id b h e = absurd (none-some b e)
 found_declared p (o ∷ os) id b h e = by (eq_by_cmp id_cmp id o.0) (found_declared p os id b h.1) e
   where
-    by : (x : Bool) → (find id_cmp id os ≡ Some b → Each (declares_atom (declarations p)) b) → cond x (Some o.1) (find id_cmp id os) ≡ Some b → Each (declares_atom (declarations p)) b
-    by true later e = let k : ◌≡◌ {A = Option Store} (Some o.1) (Some b) = e in let same : o.1 ≡ b = cc in subst (Each (declares_atom (declarations p))) same h.0
+    by : (x : Bool) → (find id_cmp id os ≡ Some b → Each (declares_atom (declarations p)) b)
+        → cond x (Some o.1) (find id_cmp id os) ≡ Some b → Each (declares_atom (declarations p)) b
+    by true later e = let k : ◌≡◌ {A = Option Store} (Some o.1) (Some b) = e in let same : o.1 ≡ b = cc in
+        subst (Each (declares_atom (declarations p))) same h.0
     by false later e = later e
 
-declared_union : (p : Program) (m : Operations) (os : List Operation) → HoldsDeclared p m → All (IsDeclared p) os → HoldsDeclared p (union m os)
+declared_union : (p : Program) (m : Operations) (os : List Operation) → HoldsDeclared p m → All (IsDeclared p) os
+    → HoldsDeclared p (union m os)
 declared_union p m os h g id b e = by (finite.get m id) refl (sym (get-union m os id) ∙ e)
   where
-    by : (x : Option Store) → finite.get m id ≡ x → option_or x (find id_cmp id os) ≡ Some b → Each (declares_atom (declarations p)) b
+    by : (x : Option Store) → finite.get m id ≡ x → option_or x (find id_cmp id os) ≡ Some b
+        → Each (declares_atom (declarations p)) b
     by (Some c) f e = h id b (f ∙ e)
     by None f e = found_declared p os id b (recursion_from_All (IsDeclared p) os g) e
 
 -- and so is what a replica lacks
-pub lacking_declared : (p : Program) (s : Replica) (rs : List IdRange) → IsIdle p s → All (IsDeclared p) (lacking s.operations rs)
+pub lacking_declared : (p : Program) (s : Replica) (rs : List IdRange) → IsIdle p s
+    → All (IsDeclared p) (lacking s.operations rs)
 lacking_declared p s rs idle =
     All-filter (λ o. not (covers rs o.0)) (IsDeclared p) (finite.entries s.operations)
-    (All-from_recursion (IsDeclared p) (finite.entries s.operations) (each_entry (Each (declares_atom (declarations p))) s.operations idle.declared))
+    (All-from_recursion (IsDeclared p) (finite.entries s.operations)
+        (each_entry (Each (declares_atom (declarations p))) s.operations idle.declared))
 
 -- ---- acts of lines
 
 same_idle : (p : Program) (s t : Replica) → t ≡ s → IsIdle p s → IsIdle p t
 same_idle p s t e h = subst (IsIdle p) (sym e) h
 
-does_idle : (p : Program) (s : Replica) (a : Act) (x : Reply) (t : Replica) → IsLineAct a → Does p s a x t → IsIdle p s → IsIdle p t
+does_idle : (p : Program) (s : Replica) (a : Act) (x : Reply) (t : Replica) → IsLineAct a → Does p s a x t → IsIdle p s
+    → IsIdle p t
 does_idle p s a (reply.Refused r) t line d idle = same_idle p s t d.2 idle
 does_idle p s (act.Tell op) (reply.Told added.New) t line d idle =
-    subst (IsIdle p) (sym d.after) (record { out = idle.out; declared = declared_more p s.operations op.0 op.1 idle.declared d.declared })
+    subst (IsIdle p) (sym d.after) (record { out = idle.out; declared =
+        declared_more p s.operations op.0 op.1 idle.declared d.declared })
 does_idle p s (act.Tell op) (reply.Told added.Again) t line d idle = same_idle p s t d.2 idle
 does_idle p s (act.Merge ops) (reply.Merged n) t line d idle =
-    subst (IsIdle p) (sym d.after) (record { out = idle.out; declared = declared_union p s.operations ops idle.declared d.declared })
-does_idle p s act.Settle (reply.Settled n) t line d idle = subst (IsIdle p) (sym d.0.after) (record { out = idle.out; declared = idle.declared })
-does_idle p s act.Settle (reply.Stopped n) t line d idle = subst (IsIdle p) (sym d.after) (record { out = idle.out; declared = idle.declared })
+    subst (IsIdle p) (sym d.after) (record { out = idle.out; declared =
+        declared_union p s.operations ops idle.declared d.declared })
+does_idle p s act.Settle (reply.Settled n) t line d idle =
+    subst (IsIdle p) (sym d.0.after) (record { out = idle.out; declared = idle.declared })
+does_idle p s act.Settle (reply.Stopped n) t line d idle =
+    subst (IsIdle p) (sym d.after) (record { out = idle.out; declared = idle.declared })
 does_idle p s act.Show (reply.Shown bag) t line d idle = same_idle p s t d.2 idle
 does_idle p s act.Summary (reply.Summed rs) t line d idle = same_idle p s t d.1 idle
 does_idle p s (act.Lacks rs) (reply.Lacked ops) t line d idle = same_idle p s t d.1 idle
@@ -100,23 +115,30 @@ does_idle p s (act.Recall number) _ t line d idle = absurd line
 does_idle p s act.LeastLease _ t line d idle = absurd line
 does_idle p s _ _ t line d idle = absurd d
 
-changes_idle : (p : Program) (w : Replicas) (r : ℕ) (R : Replica → Replica → Type 0) (v : Replicas) → ((s t : Replica) → R s t → IsIdle p s → IsIdle p t) → Changes w r R v → All (IsIdle p) w → All (IsIdle p) v
+changes_idle : (p : Program) (w : Replicas) (r : ℕ) (R : Replica → Replica → Type 0) (v : Replicas)
+    → ((s t : Replica) → R s t → IsIdle p s → IsIdle p t) → Changes w r R v → All (IsIdle p) w → All (IsIdle p) v
 changes_idle p w r R v keep h all =
-    subst (All (IsIdle p)) (sym h.world) (All-set (IsIdle p) w (r - 1) h.after (keep h.before h.after h.changed (holds_at (IsIdle p) w r h.before all h.there)) all)
+    subst (All (IsIdle p)) (sym h.world) (All-set (IsIdle p) w (r - 1) h.after
+        (keep h.before h.after h.changed (holds_at (IsIdle p) w r h.before all h.there)) all)
 
-happens_idle : (p : Program) (w : Replicas) (e : Event) (x : Answer) (v : Replicas) → IsLineEvent e → Happens p w e x v → All (IsIdle p) w → All (IsIdle p) v
-happens_idle p w (event.At r a) (answer.Replied x) v line h all = changes_idle p w r _ v (λ s t. does_idle p s a x t line) h all
+happens_idle : (p : Program) (w : Replicas) (e : Event) (x : Answer) (v : Replicas) → IsLineEvent e → Happens p w e x v
+    → All (IsIdle p) w → All (IsIdle p) v
+happens_idle p w (event.At r a) (answer.Replied x) v line h all =
+    changes_idle p w r _ v (λ s t. does_idle p s a x t line) h all
 happens_idle p w (event.At r a) answer.UnknownSymbol v line h all = subst (All (IsIdle p)) (sym h.2) all
 happens_idle p w (event.At r a) answer.NoReplica v line h all = subst (All (IsIdle p)) (sym h.2) all
 happens_idle p w (event.Sync a b) (answer.Replied x) v line h all =
-    changes_idle p w b _ v (λ t u g. does_idle p t (act.Merge (lacking (h.0).operations g.summary)) x u tt g.merged) h.2 all
+    changes_idle p w b _ v (λ t u g. does_idle p t (act.Merge (lacking (h.0).operations g.summary)) x u tt g.merged) h.2
+        all
 happens_idle p w (event.Sync a b) answer.UnknownSymbol v line h all = absurd h
 happens_idle p w (event.Sync a b) answer.NoReplica v line h all = subst (All (IsIdle p)) (sym h.1) all
 happens_idle p w (event.Work r number steps) x v line h all = absurd line
 
 -- an event of a line keeps replicas ready
-pub happens_ready : RunsKeep → (p : Program) (w : Replicas) (e : Event) (x : Answer) (v : Replicas) → IsLineEvent e → Happens p w e x v → AreBetweenLines p w → AreBetweenLines p v
-happens_ready keep p w e x v line h ready = (keep p w (e ∷ []) (x ∷ []) v (v, h, refl) ready.0, happens_idle p w e x v line h ready.1)
+pub happens_ready : RunsKeep → (p : Program) (w : Replicas) (e : Event) (x : Answer) (v : Replicas) → IsLineEvent e
+    → Happens p w e x v → AreBetweenLines p w → AreBetweenLines p v
+happens_ready keep p w e x v line h ready = (keep p w (e ∷ []) (x ∷ []) v (v, h, refl) ready.0,
+    happens_idle p w e x v line h ready.1)
 
 -- and fits
 pub line_fits : (e : Event) → IsLineEvent e → FitsEvent e
@@ -129,26 +151,32 @@ line_fits (event.At r a) line = act_fits a line
     act_fits _ line = tt
 
 -- the replica of a number
-pub ready_at : (p : Program) (w : Replicas) (r : ℕ) (s : Replica) → AreBetweenLines p w → IsAt w r s → IsSound p s × IsIdle p s
+pub ready_at : (p : Program) (w : Replicas) (r : ℕ) (s : Replica) → AreBetweenLines p w → IsAt w r s → IsSound p s
+    × IsIdle p s
 ready_at p w r s ready there = (holds_at (IsSound p) w r s ready.0 there, holds_at (IsIdle p) w r s ready.1 there)
 
 -- ready replicas of an accepted program, which is told by another name
-pub ready_for : (a b : Accepted) (w : Replicas) → b ≡ a → AreBetweenLines (program_in a) w → AreBetweenLines (program_in b) w
+pub ready_for : (a b : Accepted) (w : Replicas) → b ≡ a → AreBetweenLines (program_in a) w
+    → AreBetweenLines (program_in b) w
 ready_for a b w e h = subst (λ c. AreBetweenLines (program_in c) w) (sym e) h
 
 -- after a call
-pub act_ready : {E : Type 0} → RunsKeep → (a b : Accepted) (w v : Replicas) (e : Event) (r : Result Answer E) → IsLineEvent e → b ≡ a → IfOk r (λ x. Happens (program_in a) w e x v)
+pub act_ready : {E : Type 0} → RunsKeep → (a b : Accepted) (w v : Replicas) (e : Event) (r : Result Answer E)
+    → IsLineEvent e → b ≡ a → IfOk r (λ x. Happens (program_in a) w e x v)
     → AreBetweenLines (program_in a) w → OnOk r (AreBetweenLines (program_in b) v)
-act_ready keep a b w v e (Ok x) line same h ready = ready_for a b v same (happens_ready keep (program_in a) w e x v line h ready)
+act_ready keep a b w v e (Ok x) line same h ready = ready_for a b v same
+    (happens_ready keep (program_in a) w e x v line h ready)
 act_ready keep a b w v e (Err f) line same h ready = tt
 
 -- ---- replicas that were told nothing
 
 first_is_idle : (p : Program) → IsIdle p first
-first_is_idle p = record { out = refl; declared = λ id b e. absurd (none-some b (sym (finite.get-empty id_cmp id) ∙ e)) }
+first_is_idle p = record { out = refl; declared = λ id b e. absurd
+    (none-some b (sym (finite.get-empty id_cmp id) ∙ e)) }
 
 pub first_ready : FirstIsSound → (p : Program) (n : ℕ) (w : Replicas) → w ≡ replicate n first → AreBetweenLines p w
-first_ready sound p n w e = subst (AreBetweenLines p) (sym e) (All-replicate (IsSound p) n first (sound p), All-replicate (IsIdle p) n first (first_is_idle p))
+first_ready sound p n w e = subst (AreBetweenLines p) (sym e)
+    (All-replicate (IsSound p) n first (sound p), All-replicate (IsIdle p) n first (first_is_idle p))
 
 none_told : (n : ℕ) → operations_held (replicate n first) ≡ replicate n finite.empty
 none_told zero = refl

@@ -1,5 +1,6 @@
 -- Lines that are answered until the input ends, or a fault comes.
-use Rattle.std.proofs.Common.{◌≡◌, ℕ, List, [], ◌∷◌, ◌++◌, length, refl, sym, ap, ◌∙◌, append_assoc, append-nil, subst, inl, inr, take}
+use Rattle.std.proofs.Common.{◌≡◌, ℕ, List, [], ◌∷◌, ◌++◌, length, refl, sym, ap, ◌∙◌, append_assoc, append-nil, subst}
+use Rattle.std.proofs.Common.{inl, inr, take}
 use Rattle.std.specs.Prelude.{Option, Some, None, IfSome, Result, Ok, replicate}
 use Rattle.std.specs.FinMap as finite
 use Rattle.std.specs.Io.KnownBytes.{Appends, Consumes, IsAtEnd}
@@ -25,14 +26,17 @@ use Rattle.chr_report.specs.Answers.{AnswersAll}
 use Rattle.chr_report.specs.OneText.{AnswersExist}
 use Rattle.chr_report.specs.Outputs.{IsReadOutput, accepted_text}
 use Rattle.chr_report.specs.working.Answered.{AnswersRest}
-use Rattle.chr_report.specs.working.Serving.{AnswersFront, AnswersChunk, AnswersPart, AnswersFrontRead, AnswersInput, IsCut, SendsAnswer, AnswersCommands, WritesText, WritesTextPart}
+use Rattle.chr_report.specs.working.Serving.{AnswersFront, AnswersChunk, AnswersPart, AnswersFrontRead, AnswersInput}
+use Rattle.chr_report.specs.working.Serving.{IsCut, SendsAnswer, AnswersCommands, WritesText, WritesTextPart}
 use Rattle.chr_report.proofs.Feeds.{whole_both}
 use Rattle.chr_report.proofs.Outcomes.{program_answered}
-use Rattle.chr_report.proofs.Pieces.{part_of_whole, part_after, part_of_more, fronts_join, front_is_answered, last_is_answered}
+use Rattle.chr_report.proofs.Pieces.{part_of_whole, part_after, part_of_more, fronts_join, front_is_answered}
+use Rattle.chr_report.proofs.Pieces.{last_is_answered}
 
 -- ---- what is left to be read
 
-pub some_left : (from to : Option (List ℕ)) (bytes : List ℕ) → Consumes from to bytes → (left : List ℕ) × IfSome from (λ all. bytes ++ left ≡ all)
+pub some_left : (from to : Option (List ℕ)) (bytes : List ℕ) → Consumes from to bytes → (left : List ℕ)
+    × IfSome from (λ all. bytes ++ left ≡ all)
 some_left None to bytes c = ([], tt)
 some_left (Some x) None bytes c = absurd c
 some_left (Some x) (Some y) bytes c = (y, sym c)
@@ -44,21 +48,28 @@ some_input (Some x) = (x, refl)
 -- ---- the lines of a conversation
 
 -- the front of both
-joined : (first bytes chunk front line more left : List ℕ) → first ++ bytes ≡ front ++ line → line ++ chunk ≡ more ++ left → first ++ (bytes ++ chunk) ≡ (front ++ more) ++ left
+joined : (first bytes chunk front line more left : List ℕ) → first ++ bytes ≡ front ++ line → line ++ chunk ≡ more
+    ++ left → first ++ (bytes ++ chunk) ≡ (front ++ more) ++ left
 joined first bytes chunk front line more left e f =
-    sym (append_assoc first bytes chunk) ∙ ap (λ b. b ++ chunk) e ∙ append_assoc front line chunk ∙ ap (λ r. front ++ r) f ∙ sym (append_assoc front more left)
+    sym (append_assoc first bytes chunk) ∙ ap (λ b. b ++ chunk) e ∙ append_assoc front line chunk
+        ∙ ap (λ r. front ++ r) f ∙ sym (append_assoc front more left)
 
 module _ (ds : List Declaration) (rules : List Rule) where
   -- the bytes that were read first
-  pub starts : (first left : List ℕ) (from : Option (List ℕ)) (start now : List Operations) (old new : Option (List ℕ)) → AnswersChunk ds rules first left start now old new → AnswersFrontRead ds rules first from from left start now old new
+  pub starts : (first left : List ℕ) (from : Option (List ℕ)) (start now : List Operations) (old new : Option (List ℕ))
+      → AnswersChunk ds rules first left start now old new
+      → AnswersFrontRead ds rules first from from left start now old new
   starts first left from start now old new a = record {
     bytes = [];
     read = Consumes-nil from;
     chunk = subst (λ b. AnswersChunk ds rules b left start now old new) (sym (append-nil first)) a;
   }
 
-  pub goes_on : (first chunk line left : List ℕ) (from to next : Option (List ℕ)) (start mid now : List Operations) (old middle new : Option (List ℕ)) → AnswersFrontRead ds rules first from to line start mid old middle → Consumes to next chunk
-      → AnswersChunk ds rules (line ++ chunk) left mid now middle new → AnswersFrontRead ds rules first from next left start now old new
+  pub goes_on : (first chunk line left : List ℕ) (from to next : Option (List ℕ)) (start mid now : List Operations)
+      (old middle new : Option (List ℕ)) → AnswersFrontRead ds rules first from to line start mid old middle
+      → Consumes to next chunk
+      → AnswersChunk ds rules (line ++ chunk) left mid now middle new
+          → AnswersFrontRead ds rules first from next left start now old new
   goes_on first chunk line left from to next start mid now old middle new s c a = record {
     bytes = s.bytes ++ chunk;
     read = Consumes-trans from to next _ _ s.read c;
@@ -74,32 +85,45 @@ module _ (ds : List Declaration) (rules : List Rule) where
   }
 
   -- the end of the input, with the answer of the last line written
-  pub ended : (first line : List ℕ) (from to : Option (List ℕ)) (start mid now : List Operations) (old middle new : Option (List ℕ)) → AnswersFrontRead ds rules first from to line start mid old middle → IsAtEnd to
-      → SendsAnswer ds rules line mid now (Appends middle new) → AnswersInput ds rules first from start (Appends old new)
+  pub ended : (first line : List ℕ) (from to : Option (List ℕ)) (start mid now : List Operations)
+      (old middle new : Option (List ℕ)) → AnswersFrontRead ds rules first from to line start mid old middle
+      → IsAtEnd to
+      → SendsAnswer ds rules line mid now (Appends middle new) → AnswersInput ds rules first from start
+          (Appends old new)
   ended first line from to start mid now old middle new s e w = record {
     input = s.bytes;
     is_read = Consumes-all from to s.bytes [] s.bytes s.read e refl;
     answers = s.chunk.out ++ w.text;
-    answered = subst (λ b. AnswersAll ds rules (lines b) start (s.chunk.out ++ w.text)) (sym s.chunk.are) (last_is_answered ds rules s.chunk.front line s.chunk.out w.text start mid now s.chunk.unended s.chunk.answers w.answer);
+    answered = subst (λ b. AnswersAll ds rules (lines b) start (s.chunk.out ++ w.text)) (sym s.chunk.are)
+        (last_is_answered ds rules s.chunk.front line s.chunk.out w.text start mid now s.chunk.unended s.chunk.answers
+        w.answer);
     is_written = Appends-trans old middle new _ _ s.chunk.written w.is_written;
   }
 
-  ended_part : (first line : List ℕ) (from to : Option (List ℕ)) (start mid now : List Operations) (old middle new : Option (List ℕ)) → AnswersFrontRead ds rules first from to line start mid old middle → IsAtEnd to
-      → SendsAnswer ds rules line mid now (AppendsPart middle new) → AnswersInput ds rules first from start (AppendsPart old new)
+  ended_part : (first line : List ℕ) (from to : Option (List ℕ)) (start mid now : List Operations)
+      (old middle new : Option (List ℕ)) → AnswersFrontRead ds rules first from to line start mid old middle
+      → IsAtEnd to
+      → SendsAnswer ds rules line mid now (AppendsPart middle new) → AnswersInput ds rules first from start
+          (AppendsPart old new)
   ended_part first line from to start mid now old middle new s e w = record {
     input = s.bytes;
     is_read = Consumes-all from to s.bytes [] s.bytes s.read e refl;
     answers = s.chunk.out ++ w.text;
-    answered = subst (λ b. AnswersAll ds rules (lines b) start (s.chunk.out ++ w.text)) (sym s.chunk.are) (last_is_answered ds rules s.chunk.front line s.chunk.out w.text start mid now s.chunk.unended s.chunk.answers w.answer);
+    answered = subst (λ b. AnswersAll ds rules (lines b) start (s.chunk.out ++ w.text)) (sym s.chunk.are)
+        (last_is_answered ds rules s.chunk.front line s.chunk.out w.text start mid now s.chunk.unended s.chunk.answers
+        w.answer);
     is_written = part_after old middle new _ _ s.chunk.written w.is_written;
   }
 
   -- a read that gave nothing
-  pub at_end : (first line buf : List ℕ) (n : ℕ) (from to next : Option (List ℕ)) (start now : List Operations) (old new : Option (List ℕ)) → n ≡ 0 → AnswersFrontRead ds rules first from to line start now old new → Consumes to next (take n buf)
+  pub at_end : (first line buf : List ℕ) (n : ℕ) (from to next : Option (List ℕ)) (start now : List Operations)
+      (old new : Option (List ℕ)) → n ≡ 0 → AnswersFrontRead ds rules first from to line start now old new
+      → Consumes to next (take n buf)
       → AnswersFrontRead ds rules first from next line start now old new
   at_end first line buf n from to next start now old new e s c = record {
     bytes = s.bytes;
-    read = subst (Consumes from next) (append-nil s.bytes) (Consumes-trans from to next s.bytes [] s.read (subst (λ m. Consumes to next (take m buf)) e c));
+    read = subst (Consumes from next) (append-nil s.bytes)
+        (Consumes-trans from to next s.bytes [] s.read (subst (λ m. Consumes to next (take m buf)) e c));
     chunk = s.chunk;
   }
 
@@ -107,52 +131,72 @@ module _ (ds : List Declaration) (rules : List Rule) where
 
   module _ (exist : AnswersExist) (lowers : AreLowering (weight_by ds) rules) where
     -- what comes after whole lines has answers too
-    pub breaks_off : (first bytes front rest out : List ℕ) (from to : Option (List ℕ)) (start now : List Operations) (old new : Option (List ℕ)) → Consumes from to bytes → first ++ bytes ≡ front ++ rest
-        → AnswersFront ds rules front start out now → AppendsPart old new out → AnswersInput ds rules first from start (AppendsPart old new)
+    pub breaks_off : (first bytes front rest out : List ℕ) (from to : Option (List ℕ)) (start now : List Operations)
+        (old new : Option (List ℕ)) → Consumes from to bytes → first ++ bytes ≡ front ++ rest
+        → AnswersFront ds rules front start out now → AppendsPart old new out → AnswersInput ds rules first from start
+            (AppendsPart old new)
     breaks_off first bytes front rest out from to start now old new c e f w =
         let left = some_left from to bytes c in
         let tail = exist ds rules lowers (lines (rest ++ left.0)) now in
-        let all : first ++ (bytes ++ left.0) ≡ front ++ (rest ++ left.0) = sym (append_assoc first bytes left.0) ∙ ap (λ b. b ++ left.0) e ∙ append_assoc front rest left.0 in
+        let all : first ++ (bytes ++ left.0) ≡ front ++ (rest ++ left.0) = sym (append_assoc first bytes left.0)
+            ∙ ap (λ b. b ++ left.0) e ∙ append_assoc front rest left.0 in
         record {
           input = bytes ++ left.0;
           is_read = left.1;
           answers = out ++ tail.0;
-          answered = subst (λ b. AnswersAll ds rules (lines b) start (out ++ tail.0)) (sym all) (f (rest ++ left.0) tail.0 tail.1);
+          answered = subst (λ b. AnswersAll ds rules (lines b) start (out ++ tail.0)) (sym all)
+              (f (rest ++ left.0) tail.0 tail.1);
           is_written = part_of_more old new out tail.0 w;
         }
 
-    pub stops : (first line : List ℕ) (from to : Option (List ℕ)) (start now : List Operations) (old new : Option (List ℕ)) → AnswersFrontRead ds rules first from to line start now old new → AnswersInput ds rules first from start (AppendsPart old new)
+    pub stops : (first line : List ℕ) (from to : Option (List ℕ)) (start now : List Operations)
+        (old new : Option (List ℕ)) → AnswersFrontRead ds rules first from to line start now old new
+        → AnswersInput ds rules first from start (AppendsPart old new)
     stops first line from to start now old new s =
-        breaks_off first s.bytes s.chunk.front line s.chunk.out from to start now old new s.read s.chunk.are s.chunk.answers (part_of_whole old new _ s.chunk.written)
+        breaks_off first s.bytes s.chunk.front line s.chunk.out from to start now old new s.read s.chunk.are
+            s.chunk.answers (part_of_whole old new _ s.chunk.written)
 
     -- the first bytes were answered in part
-    pub breaks_first : (first : List ℕ) (from : Option (List ℕ)) (start : List Operations) (old new : Option (List ℕ)) → AnswersPart ds rules first start old new → AnswersInput ds rules first from start (AppendsPart old new)
+    pub breaks_first : (first : List ℕ) (from : Option (List ℕ)) (start : List Operations) (old new : Option (List ℕ))
+        → AnswersPart ds rules first start old new → AnswersInput ds rules first from start (AppendsPart old new)
     breaks_first first from start old new a =
-        breaks_off first [] a.front a.rest a.out from from start a.now old new (Consumes-nil from) (append-nil first ∙ a.are) a.answers a.written
+        breaks_off first [] a.front a.rest a.out from from start a.now old new (Consumes-nil from)
+            (append-nil first ∙ a.are) a.answers a.written
 
     -- the last line was answered in part, or not at all
-    pub ends_early : (first line : List ℕ) (from to : Option (List ℕ)) (start mid : List Operations) (old middle new : Option (List ℕ)) → AnswersFrontRead ds rules first from to line start mid old middle → IsAtEnd to
+    pub ends_early : (first line : List ℕ) (from to : Option (List ℕ)) (start mid : List Operations)
+        (old middle new : Option (List ℕ)) → AnswersFrontRead ds rules first from to line start mid old middle
+        → IsAtEnd to
         → IsCut ds rules line mid middle new → AnswersInput ds rules first from start (AppendsPart old new)
     ends_early first line from to start mid old middle new s e (inl w) =
-        breaks_off first s.bytes s.chunk.front line s.chunk.out from to start mid old new s.read s.chunk.are s.chunk.answers
-        (part_of_whole old new _ (subst (Appends old new) (append-nil s.chunk.out) (Appends-trans old middle new _ _ s.chunk.written w)))
-    ends_early first line from to start mid old middle new s e (inr (now, w)) = ended_part first line from to start mid now old middle new s e w
+        breaks_off first s.bytes s.chunk.front line s.chunk.out from to start mid old new s.read s.chunk.are
+            s.chunk.answers
+        (part_of_whole old new _ (subst (Appends old new) (append-nil s.chunk.out)
+            (Appends-trans old middle new _ _ s.chunk.written w)))
+    ends_early first line from to start mid old middle new s e (inr (now, w)) =
+        ended_part first line from to start mid now old middle new s e w
 
 -- ---- a program
 
 -- the verdict, and then the answers of any commands
 abbrev pub IsOpened : Program → Wanted → List Operations → List ℕ → Type 0
 IsOpened p wanted start verdict =
-    (commands : List (List ℕ)) (answers : List ℕ) → AnswersAll (declarations p) (rules_of p) commands start answers → IsReadOutput (Ok p) wanted commands status.Accepted (verdict ++ answers)
+    (commands : List (List ℕ)) (answers : List ℕ) → AnswersAll (declarations p) (rules_of p) commands start answers
+        → IsReadOutput (Ok p) wanted commands status.Accepted (verdict ++ answers)
 
-pub program_opened : (a : Accepted) (n m : ℕ) (wanted : Wanted) (start : List Operations) (verdict : List ℕ) → IsAcceptedBy wanted.coverage (rules_of (program_in a)) (cases_of a) → n ≡ length (rules_of (program_in a)) → m ≡ cases_of a → verdict ≡ accepted_text n m ++ 10 ∷ []
+pub program_opened : (a : Accepted) (n m : ℕ) (wanted : Wanted) (start : List Operations) (verdict : List ℕ)
+    → IsAcceptedBy wanted.coverage (rules_of (program_in a)) (cases_of a) → n ≡ length (rules_of (program_in a))
+    → m ≡ cases_of a → verdict ≡ accepted_text n m ++ 10 ∷ []
     → start ≡ replicate wanted.replicas finite.empty → IsOpened (program_in a) wanted start verdict
 program_opened a n m wanted start verdict accepted f q g h commands answers answered =
-    let rest : AnswersRest (declarations (program_in a)) (rules_of (program_in a)) commands start verdict (verdict ++ answers) = record { out = answers; answers = answered; out_is = refl } in
+    let rest : AnswersRest (declarations (program_in a)) (rules_of (program_in a)) commands start verdict
+        (verdict ++ answers) = record { out = answers; answers = answered; out_is = refl } in
     program_answered a a commands n m wanted start verdict (verdict ++ answers) accepted refl f q g h rest
 
-module _ (p : Program) (wanted : Wanted) (start : List Operations) (verdict : List ℕ) (opened : IsOpened p wanted start verdict) where
-  pub program_served : (first : List ℕ) (known : Option (List ℕ)) (old middle new : Option (List ℕ)) → Appends old middle verdict → AnswersInput (declarations p) (rules_of p) first known start (Appends middle new)
+module _ (p : Program) (wanted : Wanted) (start : List Operations) (verdict : List ℕ)
+    (opened : IsOpened p wanted start verdict) where
+  pub program_served : (first : List ℕ) (known : Option (List ℕ)) (old middle new : Option (List ℕ))
+      → Appends old middle verdict → AnswersInput (declarations p) (rules_of p) first known start (Appends middle new)
       → WritesText (λ answer. answer ≡ Ok p) first known wanted status.Accepted (Appends old new)
   program_served first known old middle new w a = record {
     input = a.input;
@@ -164,7 +208,9 @@ module _ (p : Program) (wanted : Wanted) (start : List Operations) (verdict : Li
     is_written = Appends-trans old middle new _ _ w a.is_written;
   }
 
-  pub program_part : (first : List ℕ) (known : Option (List ℕ)) (old middle new : Option (List ℕ)) → Appends old middle verdict → AnswersInput (declarations p) (rules_of p) first known start (AppendsPart middle new)
+  pub program_part : (first : List ℕ) (known : Option (List ℕ)) (old middle new : Option (List ℕ))
+      → Appends old middle verdict → AnswersInput (declarations p) (rules_of p) first known start
+      (AppendsPart middle new)
       → WritesTextPart (λ answer. answer ≡ Ok p) first known wanted old new
   program_part first known old middle new w a =
       let part : WritesText (λ answer. answer ≡ Ok p) first known wanted status.Accepted (AppendsPart old new) =
@@ -180,7 +226,8 @@ module _ (p : Program) (wanted : Wanted) (start : List Operations) (verdict : Li
       inr (status.Accepted, part)
 
   -- the verdict is written in part
-  pub verdict_part : AnswersExist → AreLowering (weight_by (declarations p)) (rules_of p) → (first : List ℕ) (known : Option (List ℕ)) (old new : Option (List ℕ)) → AppendsPart old new verdict
+  pub verdict_part : AnswersExist → AreLowering (weight_by (declarations p)) (rules_of p)
+      → (first : List ℕ) (known : Option (List ℕ)) (old new : Option (List ℕ)) → AppendsPart old new verdict
       → WritesTextPart (λ answer. answer ≡ Ok p) first known wanted old new
   verdict_part exist lowers first known old new w =
       let i = some_input known in
@@ -198,8 +245,10 @@ module _ (p : Program) (wanted : Wanted) (start : List Operations) (verdict : Li
       inr (status.Accepted, part)
 
   -- while it is waited
-  pub commands_answered : (first line : List ℕ) (from to : Option (List ℕ)) (now : List Operations) (old middle new : Option (List ℕ)) → Appends old middle verdict
-      → AnswersFrontRead (declarations p) (rules_of p) first from to line start now middle new → AnswersCommands (Ok p) wanted first from to old new
+  pub commands_answered : (first line : List ℕ) (from to : Option (List ℕ)) (now : List Operations)
+      (old middle new : Option (List ℕ)) → Appends old middle verdict
+      → AnswersFrontRead (declarations p) (rules_of p) first from to line start now middle new
+          → AnswersCommands (Ok p) wanted first from to old new
   commands_answered first line from to now old middle new w s = record {
     bytes = s.bytes;
     front = s.chunk.front;
@@ -209,24 +258,34 @@ module _ (p : Program) (wanted : Wanted) (start : List Operations) (verdict : Li
     whole = s.chunk.whole;
     unended = s.chunk.unended;
     out = verdict ++ s.chunk.out;
-    output = opened (lines s.chunk.front) s.chunk.out (front_is_answered (declarations p) (rules_of p) s.chunk.front s.chunk.out start now s.chunk.answers);
+    output = opened (lines s.chunk.front) s.chunk.out (front_is_answered (declarations p)
+        (rules_of p) s.chunk.front s.chunk.out start now s.chunk.answers);
     written = Appends-trans old middle new _ _ w s.chunk.written;
   }
 
 -- ---- a text
 
-pub refused_written : (text first : List ℕ) (known : Option (List ℕ)) (wanted : Wanted) (answer : Result Program ReadFault) (out : List ℕ) (IsWritten : List ℕ → Type 0) → IsAnswer text answer
-    → ((replicas : ℕ) (commands : List (List ℕ)) → IsReadOutput answer (replicas_by wanted.coverage replicas) commands status.Refused out) → IsWritten out → WritesText (IsAnswer text) first known wanted status.Refused IsWritten
+pub refused_written : (text first : List ℕ) (known : Option (List ℕ)) (wanted : Wanted)
+    (answer : Result Program ReadFault) (out : List ℕ) (IsWritten : List ℕ → Type 0) → IsAnswer text answer
+    → ((replicas : ℕ) (commands : List (List ℕ)) → IsReadOutput answer (replicas_by wanted.coverage replicas) commands
+        status.Refused out) → IsWritten out → WritesText (IsAnswer text) first known wanted status.Refused IsWritten
 refused_written text first known wanted answer out IsWritten a h w =
     let i = some_input known in
-    record { input = i.0; is_read = i.1; answer = answer; is_answer = a; out = out; output = h wanted.replicas (lines (first ++ i.0)); is_written = w }
+    record { input = i.0; is_read = i.1; answer = answer; is_answer = a; out = out; output =
+        h wanted.replicas (lines (first ++ i.0)); is_written = w }
 
-pub text_written : (text first : List ℕ) (known : Option (List ℕ)) (wanted : Wanted) (answer : Result Program ReadFault) (s : Status) (IsWritten : List ℕ → Type 0) → IsAnswer text answer
-    → WritesText (λ a. a ≡ answer) first known wanted s IsWritten → WritesText (IsAnswer text) first known wanted s IsWritten
+pub text_written : (text first : List ℕ) (known : Option (List ℕ)) (wanted : Wanted) (answer : Result Program ReadFault)
+    (s : Status) (IsWritten : List ℕ → Type 0) → IsAnswer text answer
+    → WritesText (λ a. a ≡ answer) first known wanted s IsWritten
+        → WritesText (IsAnswer text) first known wanted s IsWritten
 text_written text first known wanted answer s IsWritten a w =
-    record { input = w.input; is_read = w.is_read; answer = w.answer; is_answer = subst (IsAnswer text) (sym w.is_answer) a; out = w.out; output = w.output; is_written = w.is_written }
+    record { input = w.input; is_read = w.is_read; answer = w.answer; is_answer =
+        subst (IsAnswer text) (sym w.is_answer) a; out = w.out; output = w.output; is_written = w.is_written }
 
-pub text_part : (text first : List ℕ) (known : Option (List ℕ)) (wanted : Wanted) (answer : Result Program ReadFault) (old new : Option (List ℕ)) → IsAnswer text answer
-    → WritesTextPart (λ a. a ≡ answer) first known wanted old new → WritesTextPart (IsAnswer text) first known wanted old new
+pub text_part : (text first : List ℕ) (known : Option (List ℕ)) (wanted : Wanted) (answer : Result Program ReadFault)
+    (old new : Option (List ℕ)) → IsAnswer text answer
+    → WritesTextPart (λ a. a ≡ answer) first known wanted old new
+        → WritesTextPart (IsAnswer text) first known wanted old new
 text_part text first known wanted answer old new a (inl w) = inl w
-text_part text first known wanted answer old new a (inr (s, w)) = inr (s, text_written text first known wanted answer s (AppendsPart old new) a w)
+text_part text first known wanted answer old new a (inr (s, w)) =
+    inr (s, text_written text first known wanted answer s (AppendsPart old new) a w)

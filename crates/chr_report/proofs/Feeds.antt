@@ -1,5 +1,6 @@
 -- Bytes without line feeds, and whole lines.
-use Rattle.std.proofs.Common.{◌≡◌, ℕ, suc, ◌+◌, List, [], ◌∷◌, ◌++◌, take, Bool, true, false, not, cond, refl, sym, ap, ◌∙◌, arith, subst, inl, inr, append_assoc, append-nil}
+use Rattle.std.proofs.Common.{◌≡◌, ℕ, suc, ◌+◌, List, [], ◌∷◌, ◌++◌, take, Bool, true, false, not, cond, refl, sym, ap}
+use Rattle.std.proofs.Common.{◌∙◌, arith, subst, inl, inr, append_assoc, append-nil}
 use Rattle.std.specs.Prelude.{◌==◌, ◌||◌}
 use Rattle.std.specs.List.{list_any, position_or_len, onto_first}
 use Rattle.chr_report.specs.Lines.{lines, is_divider, text_of, commands_of}
@@ -7,7 +8,8 @@ use Rattle.chr_report.specs.Served.{HasNoFeed, AreWholeLines, has_divider}
 use Rattle.chr_report.specs.working.Divided.{AreText, Divides}
 use Rattle.chr_report.proofs.LineLaws.{text_more, text_ended, commands_later, commands_here}
 
-none_at : (b : Bool) (n x : ℕ) (xs : List ℕ) → (x == 10) ≡ b → HasNoFeed (take n xs) → HasNoFeed (take (cond (not b) (1 + n) 0) (x ∷ xs))
+none_at : (b : Bool) (n x : ℕ) (xs : List ℕ) → (x == 10) ≡ b → HasNoFeed (take n xs)
+    → HasNoFeed (take (cond (not b) (1 + n) 0) (x ∷ xs))
 none_at true n x xs e h = tt
 none_at false n x xs e h = let one : suc n ≡ 1 + n = omega arith in subst (λ m. HasNoFeed (take m (x ∷ xs))) one (e, h)
 
@@ -32,7 +34,8 @@ lines_last (b ∷ bs) h = rw h.0 (ap (onto_first b) (lines_last bs h.1))
 
 -- one line more
 pub ended_more : (front line more : List ℕ) → (front ++ (line ++ 10 ∷ [])) ++ more ≡ front ++ (line ++ 10 ∷ more)
-ended_more front line more = append_assoc front (line ++ 10 ∷ []) more ∙ ap (λ m. front ++ m) (append_assoc line (10 ∷ []) more)
+ended_more front line more = append_assoc front (line ++ 10 ∷ []) more
+    ∙ ap (λ m. front ++ m) (append_assoc line (10 ∷ []) more)
 
 pub whole_ended : (front line : List ℕ) → AreWholeLines (front ++ (line ++ 10 ∷ []))
 whole_ended front line = inr (front ++ line, sym (append_assoc front line (10 ∷ [])))
@@ -46,22 +49,32 @@ whole_both a b h (inr g) = inr (a ++ g.0, ap (λ l. a ++ l) g.1 ∙ sym (append_
 pub no_text : AreText []
 no_text = record { whole = inl refl; divider = λ more. refl; text = λ more. refl; commands = λ more. refl }
 
-pub text_grows : (front line : List ℕ) → AreText front → HasNoFeed line → is_divider line ≡ false → AreText (front ++ (line ++ 10 ∷ []))
+pub text_grows : (front line : List ℕ) → AreText front → HasNoFeed line → is_divider line ≡ false
+    → AreText (front ++ (line ++ 10 ∷ []))
 text_grows front line t h apart =
     let cut : (more : List ℕ) → lines (line ++ 10 ∷ more) ≡ line ∷ lines more = λ more. lines_more line more h in
     record {
       whole = whole_ended front line;
-      divider = λ more. ap has_divider (ended_more front line more) ∙ t.divider (line ++ 10 ∷ more) ∙ ap (list_any is_divider) (cut more) ∙ ap (λ b. b || has_divider more) apart;
-      text = λ more. ap (λ i. text_of (lines i)) (ended_more front line more) ∙ t.text (line ++ 10 ∷ more) ∙ ap (λ ls. front ++ text_of ls) (cut more) ∙ ap (λ bs. front ++ bs) (text_more line more apart) ∙ sym (ended_more front line (text_of (lines more)));
-      commands = λ more. ap (λ i. commands_of (lines i)) (ended_more front line more) ∙ t.commands (line ++ 10 ∷ more) ∙ ap commands_of (cut more) ∙ commands_later line (lines more) apart;
+      divider = λ more. ap has_divider (ended_more front line more) ∙ t.divider (line ++ 10 ∷ more)
+          ∙ ap (list_any is_divider) (cut more) ∙ ap (λ b. b || has_divider more) apart;
+      text = λ more. ap (λ i. text_of (lines i)) (ended_more front line more) ∙ t.text (line ++ 10 ∷ more)
+          ∙ ap (λ ls. front ++ text_of ls) (cut more) ∙ ap (λ bs. front ++ bs) (text_more line more apart)
+          ∙ sym (ended_more front line (text_of (lines more)));
+      commands = λ more. ap (λ i. commands_of (lines i)) (ended_more front line more) ∙ t.commands (line ++ 10 ∷ more)
+          ∙ ap commands_of (cut more) ∙ commands_later line (lines more) apart;
     }
 
-pub text_divides : (front line : List ℕ) → AreText front → HasNoFeed line → is_divider line ≡ true → Divides front (front ++ (line ++ 10 ∷ []))
+pub text_divides : (front line : List ℕ) → AreText front → HasNoFeed line → is_divider line ≡ true
+    → Divides front (front ++ (line ++ 10 ∷ []))
 text_divides front line t h found =
     let cut : (more : List ℕ) → lines (line ++ 10 ∷ more) ≡ line ∷ lines more = λ more. lines_more line more h in
     record {
       whole = whole_ended front line;
-      divider = λ more. ap has_divider (ended_more front line more) ∙ t.divider (line ++ 10 ∷ more) ∙ ap (list_any is_divider) (cut more) ∙ ap (λ b. b || has_divider more) found;
-      text_is = λ more. ap (λ i. text_of (lines i)) (ended_more front line more) ∙ t.text (line ++ 10 ∷ more) ∙ ap (λ ls. front ++ text_of ls) (cut more) ∙ ap (λ bs. front ++ bs) (text_ended line (lines more) found) ∙ append-nil front;
-      commands = λ more. ap (λ i. commands_of (lines i)) (ended_more front line more) ∙ t.commands (line ++ 10 ∷ more) ∙ ap commands_of (cut more) ∙ commands_here line (lines more) found;
+      divider = λ more. ap has_divider (ended_more front line more) ∙ t.divider (line ++ 10 ∷ more)
+          ∙ ap (list_any is_divider) (cut more) ∙ ap (λ b. b || has_divider more) found;
+      text_is = λ more. ap (λ i. text_of (lines i)) (ended_more front line more) ∙ t.text (line ++ 10 ∷ more)
+          ∙ ap (λ ls. front ++ text_of ls) (cut more) ∙ ap (λ bs. front ++ bs) (text_ended line (lines more) found)
+          ∙ append-nil front;
+      commands = λ more. ap (λ i. commands_of (lines i)) (ended_more front line more) ∙ t.commands (line ++ 10 ∷ more)
+          ∙ ap commands_of (cut more) ∙ commands_here line (lines more) found;
     }

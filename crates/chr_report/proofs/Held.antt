@@ -1,10 +1,12 @@
 -- The operations of replicas, and the answers of the one of a number.
-use Rattle.std.proofs.Common.{◌≡◌, ℕ, zero, suc, ◌-◌, ◌<◌, ◌≤◌, false, nat_eq, List, length, refl, sym, ap, ◌∙◌, subst, arith, inl, inr, ◌⊎◌, get_or}
+use Rattle.std.proofs.Common.{◌≡◌, ℕ, zero, suc, ◌-◌, ◌<◌, ◌≤◌, false, nat_eq, List, length, refl, sym, ap, ◌∙◌, subst}
+use Rattle.std.proofs.Common.{arith, inl, inr, ◌⊎◌, get_or}
 use Rattle.std.specs.Prelude.{Some, None, MatchOption, slice_get, slice_set, if◌then◌else◌}
 use Rattle.std.proofs.lemmas.Bool.Decides.{nat_tests}
 use Rattle.std.specs.Option.{option_map}
 use Rattle.std.proofs.lemmas.List.{map-set, set-get_or}
-use Rattle.std.proofs.lemmas.Option.{get_or_from_slice_get, slice_get-map, slice_get_past, slice_get_cases, slice_get_within}
+use Rattle.std.proofs.lemmas.Option.{get_or_from_slice_get, slice_get-map, slice_get_past, slice_get_cases}
+use Rattle.std.proofs.lemmas.Option.{slice_get_within}
 use Rattle.chr_ops.specs.Operations.{Operations}
 use Rattle.chr_replica.specs.Replicas.{Replica}
 use Rattle.chr_worlds.specs.Worlds.{Replicas, HasReplica, IsAt}
@@ -52,26 +54,35 @@ pub has_one : (w : Replicas) (r : ℕ) (s : Replica) → IsAt w r s → HasRepli
 has_one w r s h = let l = slice_get_within w (r - 1) s h.1 in let m = h.0 in (m, omega (arith, l, m))
 
 -- where one replica changes and answers
-pub answers_at : (w v : Replicas) (r : ℕ) (R : Operations → List ℕ → Operations → Type 0) (text : List ℕ) (s t : Replica) → IsAt w r s → v ≡ slice_set w (r - 1) t
+pub answers_at : (w v : Replicas) (r : ℕ) (R : Operations → List ℕ → Operations → Type 0) (text : List ℕ)
+    (s t : Replica) → IsAt w r s → v ≡ slice_set w (r - 1) t
     → R s.operations text t.operations → AnswersAt (operations_held w) r R text (operations_held v)
 answers_at w v r R text s t there e h =
     let one : OneAnswers (operations_held w) r R text (operations_held v) s.operations =
-    record { after = t.operations; answers = h; others = ap operations_held e ∙ map-set (λ t. t.operations) w (r - 1) t } in
-    subst (λ o. MatchOption o (AnswersRefusal refusal.NoReplica (operations_held w) text (operations_held v)) (OneAnswers (operations_held w) r R text (operations_held v))) (sym (held_at w r s there)) one
+    record { after = t.operations; answers = h; others = ap operations_held e
+        ∙ map-set (λ t. t.operations) w (r - 1) t } in
+    subst (λ o. MatchOption o (AnswersRefusal refusal.NoReplica (operations_held w) text (operations_held v))
+        (OneAnswers (operations_held w) r R text (operations_held v))) (sym (held_at w r s there)) one
 
 -- where there is none of the number
 pub none_answers : (w v : Replicas) (r : ℕ) (R : Operations → List ℕ → Operations → Type 0) → ¬ HasReplica w r → v ≡ w
     → AnswersAt (operations_held w) r R (refusal_text refusal.NoReplica) (operations_held v)
 none_answers w v r R n e =
-    let none : AnswersRefusal refusal.NoReplica (operations_held w) (refusal_text refusal.NoReplica) (operations_held v) = (refl, ap operations_held e) in
-    subst (λ o. MatchOption o (AnswersRefusal refusal.NoReplica (operations_held w) (refusal_text refusal.NoReplica) (operations_held v)) (OneAnswers (operations_held w) r R (refusal_text refusal.NoReplica) (operations_held v))) (sym (none_held w r n)) none
+    let none : AnswersRefusal refusal.NoReplica (operations_held w) (refusal_text refusal.NoReplica)
+        (operations_held v) = (refl, ap operations_held e) in
+    subst (λ o. MatchOption o (AnswersRefusal refusal.NoReplica (operations_held w) (refusal_text refusal.NoReplica)
+        (operations_held v)) (OneAnswers (operations_held w) r R (refusal_text refusal.NoReplica) (operations_held v)))
+        (sym (none_held w r n)) none
 
 -- ---- a replica that changes and holds what it held
 
 same_set : {A : Type 0} (xs : List A) (i : ℕ) (x : A) → slice_get xs i ≡ Some x → slice_set xs i x ≡ xs
 same_set xs i x e = ap (λ y. slice_set xs i y) (sym (get_or_from_slice_get xs i x x e)) ∙ set-get_or xs i x
 
-pub same_held : (w v : Replicas) (r : ℕ) (s t : Replica) → IsAt w r s → v ≡ slice_set w (r - 1) t → t.operations ≡ s.operations → operations_held v ≡ operations_held w
+pub same_held : (w v : Replicas) (r : ℕ) (s t : Replica) → IsAt w r s → v ≡ slice_set w (r - 1) t → t.operations
+    ≡ s.operations → operations_held v ≡ operations_held w
 same_held w v r s t there e same =
-    ap operations_held e ∙ map-set (λ t. t.operations) w (r - 1) t ∙ ap (λ m. slice_set (operations_held w) (r - 1) m) same
-    ∙ same_set (operations_held w) (r - 1) s.operations (slice_get-map (λ t. t.operations) w (r - 1) ∙ ap (option_map (λ t. t.operations)) there.1)
+    ap operations_held e ∙ map-set (λ t. t.operations) w (r - 1) t
+        ∙ ap (λ m. slice_set (operations_held w) (r - 1) m) same
+    ∙ same_set (operations_held w) (r - 1) s.operations
+        (slice_get-map (λ t. t.operations) w (r - 1) ∙ ap (option_map (λ t. t.operations)) there.1)

@@ -1,5 +1,6 @@
 -- What is written for an input of which a beginning was read.
-use Rattle.std.proofs.Common.{◌≡◌, ℕ, ◌+◌, ◌-◌, ◌<◌, ◌≤◌, ◌⊎◌, Bool, true, false, List, [], ◌∷◌, ◌++◌, length, take, refl, sym, ap, ◌∙◌, append_assoc, append-nil, length-append, subst, inl, inr, arith}
+use Rattle.std.proofs.Common.{◌≡◌, ℕ, ◌+◌, ◌-◌, ◌<◌, ◌≤◌, ◌⊎◌, Bool, true, false, List, [], ◌∷◌, ◌++◌, length, take}
+use Rattle.std.proofs.Common.{refl, sym, ap, ◌∙◌, append_assoc, append-nil, length-append, subst, inl, inr, arith}
 use Rattle.std.specs.Prelude.{Option, Some, None, IfSome, Result, Ok, Err, codes, nat_eq, if◌then◌else◌, ⊤}
 use Rattle.std.specs.List.{ends_with, onto_first}
 use Rattle.std.proofs.lemmas.Bool.Decides.{Decides-eqb}
@@ -38,40 +39,53 @@ nothing_read bytes e = record { front = []; line = []; are = e; begins = no_text
 
 -- ---- after the divider
 
-output_divided : (text front more out : List ℕ) (wanted : Wanted) (answer : Result Program ReadFault) (status : Status) → Divides text front → IsAnswer text answer → IsReadOutput answer wanted (lines more) status out → IsOutput Run wanted (front ++ more) status out
+output_divided : (text front more out : List ℕ) (wanted : Wanted) (answer : Result Program ReadFault) (status : Status)
+    → Divides text front → IsAnswer text answer → IsReadOutput answer wanted (lines more) status out
+    → IsOutput Run wanted (front ++ more) status out
 output_divided text front more out wanted answer status d a h =
-    (answer, subst (λ t. IsAnswer t answer) (sym (d.text_is more)) a, subst (λ cs. IsReadOutput answer wanted cs status out) (sym (d.commands more)) h)
+    (answer, subst (λ t. IsAnswer t answer) (sym (d.text_is more)) a,
+        subst (λ cs. IsReadOutput answer wanted cs status out) (sym (d.commands more)) h)
 
 -- all that the reader had
-all_read : (from to : Option (List ℕ)) (bytes input : List ℕ) → Consumes from to bytes → IfSome to (λ all. input ≡ all) → IfSome from (λ all. bytes ++ input ≡ all)
+all_read : (from to : Option (List ℕ)) (bytes input : List ℕ) → Consumes from to bytes → IfSome to (λ all. input ≡ all)
+    → IfSome from (λ all. bytes ++ input ≡ all)
 all_read None to bytes input c i = tt
 all_read (Some x) None bytes input c i = absurd c
 all_read (Some x) (Some y) bytes input c i = ap (λ l. bytes ++ l) i ∙ sym c
 
-pub divided_written : (from to : Option (List ℕ)) (bytes text first : List ℕ) (wanted : Wanted) (status : Status) (IsWritten : List ℕ → Type 0) → Consumes from to bytes → IsDivided bytes text first
+pub divided_written : (from to : Option (List ℕ)) (bytes text first : List ℕ) (wanted : Wanted) (status : Status)
+    (IsWritten : List ℕ → Type 0) → Consumes from to bytes → IsDivided bytes text first
     → WritesText (IsAnswer text) first to wanted status IsWritten → Writes from Run wanted status IsWritten
 divided_written from to bytes text first wanted status IsWritten c d w = record {
   input = bytes ++ w.input;
   is_read = all_read from to bytes w.input c w.is_read;
   out = w.out;
   is_output =
-      subst (λ b. IsOutput Run wanted b status w.out) (sym (ap (λ b. b ++ w.input) d.are ∙ append_assoc d.front first w.input))
+      subst (λ b. IsOutput Run wanted b status w.out) (sym
+          (ap (λ b. b ++ w.input) d.are ∙ append_assoc d.front first w.input))
       (output_divided text d.front (first ++ w.input) w.out wanted w.answer status d.divides w.is_answer w.output);
   is_written = w.is_written;
 }
 
-pub divided_part : (from to : Option (List ℕ)) (bytes text first : List ℕ) (wanted : Wanted) (old new : Option (List ℕ)) → Consumes from to bytes → IsDivided bytes text first
+pub divided_part : (from to : Option (List ℕ)) (bytes text first : List ℕ) (wanted : Wanted) (old new : Option (List ℕ))
+    → Consumes from to bytes → IsDivided bytes text first
     → WritesTextPart (IsAnswer text) first to wanted old new → WritesBeginning from old new Run wanted
 divided_part from to bytes text first wanted old new c d (inl w) = inl w
-divided_part from to bytes text first wanted old new c d (inr (status, w)) = inr (status, divided_written from to bytes text first wanted status (AppendsPart old new) c d w)
+divided_part from to bytes text first wanted old new c d (inr (status, w)) =
+    inr (status, divided_written from to bytes text first wanted status (AppendsPart old new) c d w)
 
-pub divided_answered : (from to next : Option (List ℕ)) (bytes text first : List ℕ) (wanted : Wanted) (answer : Result Program ReadFault) (old new : Option (List ℕ)) → Consumes from to bytes → IsDivided bytes text first
+pub divided_answered : (from to next : Option (List ℕ)) (bytes text first : List ℕ) (wanted : Wanted)
+    (answer : Result Program ReadFault) (old new : Option (List ℕ)) → Consumes from to bytes
+    → IsDivided bytes text first
     → IsAnswer text answer → AnswersCommands answer wanted first to next old new → AllAnswered from next old new wanted
 divided_answered from to next bytes text first wanted answer old new c d a s =
     let front = d.front ++ s.front in
-    let all : bytes ++ s.bytes ≡ front ++ s.line = ap (λ b. b ++ s.bytes) d.are ∙ append_assoc d.front first s.bytes ∙ ap (λ b. d.front ++ b) s.are ∙ sym (append_assoc d.front s.front s.line) in
+    let all : bytes ++ s.bytes ≡ front ++ s.line = ap (λ b. b ++ s.bytes) d.are ∙ append_assoc d.front first s.bytes
+        ∙ ap (λ b. d.front ++ b) s.are ∙ sym (append_assoc d.front s.front s.line) in
     let wrote : WritesOutput (Some front) old new Run wanted Accepted =
-    record { input = front; is_read = refl; out = s.out; is_output = output_divided text d.front s.front s.out wanted answer Accepted d.divides a s.output; is_written = s.written } in
+    record { input = front; is_read = refl; out = s.out; is_output =
+        output_divided text d.front s.front s.out wanted answer Accepted d.divides a s.output; is_written =
+        s.written } in
     record {
       front = front;
       line = s.line;
@@ -86,7 +100,8 @@ divided_answered from to next bytes text first wanted answer old new c d a s =
 no_divider : (front : List ℕ) → AreText front → has_divider front ≡ false
 no_divider front t = ap has_divider (sym (append-nil front)) ∙ t.divider []
 
-pub undivided_answered : (from to : Option (List ℕ)) (bytes : List ℕ) (wanted : Wanted) (old new : Option (List ℕ)) → Consumes from to bytes → IsUndivided bytes → Appends old new [] → AllAnswered from to old new wanted
+pub undivided_answered : (from to : Option (List ℕ)) (bytes : List ℕ) (wanted : Wanted) (old new : Option (List ℕ))
+    → Consumes from to bytes → IsUndivided bytes → Appends old new [] → AllAnswered from to old new wanted
 undivided_answered from to bytes wanted old new c u w = record {
   front = u.front;
   line = u.line;
@@ -98,22 +113,31 @@ undivided_answered from to bytes wanted old new c u w = record {
 
 -- ---- the end of the input
 
-all_there : (from to : Option (List ℕ)) (bytes input : List ℕ) → Consumes from to bytes → IsAtEnd to → input ≡ bytes → IfSome from (λ all. input ≡ all)
+all_there : (from to : Option (List ℕ)) (bytes input : List ℕ) → Consumes from to bytes → IsAtEnd to → input ≡ bytes
+    → IfSome from (λ all. input ≡ all)
 all_there None to bytes input c e i = tt
 all_there (Some x) None bytes input c e i = absurd c
 all_there (Some x) (Some y) bytes input c e i = i ∙ sym (c ∙ ap (λ l. bytes ++ l) e ∙ append-nil bytes)
 
-pub ended_written : (from to : Option (List ℕ)) (bytes : List ℕ) (wanted : Wanted) (status : Status) (IsWritten : List ℕ → Type 0) → Consumes from to bytes → IsAtEnd to → Writes (Some bytes) Run wanted status IsWritten → Writes from Run wanted status IsWritten
-ended_written from to bytes wanted status IsWritten c e w = record { input = w.input; is_read = all_there from to bytes w.input c e w.is_read; out = w.out; is_output = w.is_output; is_written = w.is_written }
+pub ended_written : (from to : Option (List ℕ)) (bytes : List ℕ) (wanted : Wanted) (status : Status)
+    (IsWritten : List ℕ → Type 0) → Consumes from to bytes → IsAtEnd to
+    → Writes (Some bytes) Run wanted status IsWritten → Writes from Run wanted status IsWritten
+ended_written from to bytes wanted status IsWritten c e w =
+    record { input = w.input; is_read = all_there from to bytes w.input c e w.is_read; out = w.out; is_output =
+    w.is_output; is_written = w.is_written }
 
-pub ended_part : (from to : Option (List ℕ)) (bytes : List ℕ) (wanted : Wanted) (old new : Option (List ℕ)) → Consumes from to bytes → IsAtEnd to → WritesBeginning (Some bytes) old new Run wanted → WritesBeginning from old new Run wanted
+pub ended_part : (from to : Option (List ℕ)) (bytes : List ℕ) (wanted : Wanted) (old new : Option (List ℕ))
+    → Consumes from to bytes → IsAtEnd to → WritesBeginning (Some bytes) old new Run wanted
+    → WritesBeginning from old new Run wanted
 ended_part from to bytes wanted old new c e (inl w) = inl w
-ended_part from to bytes wanted old new c e (inr (status, w)) = inr (status, ended_written from to bytes wanted status (AppendsPart old new) c e w)
+ended_part from to bytes wanted old new c e (inr (status, w)) =
+    inr (status, ended_written from to bytes wanted status (AppendsPart old new) c e w)
 
 -- ---- a text that is too long
 
 -- a line that has begun is the beginning of the first line
-first_line : (line more : List ℕ) → HasNoFeed line → (rest : List ℕ) × (ls : List (List ℕ)) × (lines (line ++ more) ≡ (line ++ rest) ∷ ls)
+first_line : (line more : List ℕ) → HasNoFeed line → (rest : List ℕ) × (ls : List (List ℕ))
+    × (lines (line ++ more) ≡ (line ++ rest) ∷ ls)
 first_line [] more h = some_line more
 first_line (b ∷ bs) more h =
     let f = first_line bs more h.1 in
@@ -124,47 +148,66 @@ no_shorter l [] e = rw e (omega arith)
 no_shorter l (m ∷ ls) e = rw e (omega (arith, length-append l (10 ∷ text_of (m ∷ ls))))
 
 three : (b : Bool) (l : List ℕ) → (if b then take (length l - 1) l else l) ≡ codes "---" → length l ≤ 4
-three true l e = let size = ap length e in let cut = length-take-le (length l - 1) l (omega arith) in omega (arith, size, cut)
+three true l e = let size = ap length e in let cut = length-take-le (length l - 1) l (omega arith) in
+    omega (arith, size, cut)
 three false l e = let size = ap length e in omega (arith, size)
 
 divider_short : (l : List ℕ) → is_divider l ≡ true → length l ≤ 4
-divider_short l e = three (ends_with nat_eq l (13 ∷ [])) l ((slice_eq-Decides Decides-eqb (without_return l) (codes "---") _ refl).0 e)
+divider_short l e = three (ends_with nat_eq l (13 ∷ [])) l
+    ((slice_eq-Decides Decides-eqb (without_return l) (codes "---") _ refl).0 e)
 
-text_longer : (b : Bool) (line rest : List ℕ) (ls : List (List ℕ)) → is_divider (line ++ rest) ≡ b → (length line ≤ 4) ⊎ (length line ≤ length (text_of ((line ++ rest) ∷ ls)))
-text_longer true line rest ls e = let short = divider_short (line ++ rest) e in inl (omega (arith, short, length-append line rest))
-text_longer false line rest ls e = let long = no_shorter (line ++ rest) ls e in inr (omega (arith, long, length-append line rest))
+text_longer : (b : Bool) (line rest : List ℕ) (ls : List (List ℕ)) → is_divider (line ++ rest) ≡ b → (length line ≤ 4)
+    ⊎ (length line ≤ length (text_of ((line ++ rest) ∷ ls)))
+text_longer true line rest ls e = let short = divider_short (line ++ rest) e in
+    inl (omega (arith, short, length-append line rest))
+text_longer false line rest ls e = let long = no_shorter (line ++ rest) ls e in
+    inr (omega (arith, long, length-append line rest))
 
-long_enough : (all front line rest whole : ℕ) → MAX_TEXT + 4 < all → all ≡ front + line → whole ≡ front + rest → (line ≤ 4) ⊎ (line ≤ rest) → MAX_TEXT < whole
+long_enough : (all front line rest whole : ℕ) → MAX_TEXT + 4 < all → all ≡ front + line → whole ≡ front + rest
+    → (line ≤ 4) ⊎ (line ≤ rest) → MAX_TEXT < whole
 long_enough all front line rest whole l e f (inl s) = omega (arith, l, e, f, s)
 long_enough all front line rest whole l e f (inr s) = omega (arith, l, e, f, s)
 
-pub text_too_long : (bytes more : List ℕ) → IsUndivided bytes → MAX_TEXT + 4 < length bytes → MAX_TEXT < length (text_of (lines (bytes ++ more)))
+pub text_too_long : (bytes more : List ℕ) → IsUndivided bytes → MAX_TEXT + 4 < length bytes
+    → MAX_TEXT < length (text_of (lines (bytes ++ more)))
 text_too_long bytes more u l =
     let f = first_line u.line more u.unended in
     let text : text_of (lines (bytes ++ more)) ≡ u.front ++ text_of ((u.line ++ f.0) ∷ f.1) =
-    ap (λ b. text_of (lines (b ++ more))) u.are ∙ ap (λ b. text_of (lines b)) (append_assoc u.front u.line more) ∙ u.begins.text (u.line ++ more) ∙ ap (λ ls. u.front ++ text_of ls) f.2 in
+    ap (λ b. text_of (lines (b ++ more))) u.are ∙ ap (λ b. text_of (lines b)) (append_assoc u.front u.line more)
+        ∙ u.begins.text (u.line ++ more) ∙ ap (λ ls. u.front ++ text_of ls) f.2 in
     let size : length bytes ≡ length u.front + length u.line = ap length u.are ∙ length-append u.front u.line in
     let sum = length-append u.front (text_of ((u.line ++ f.0) ∷ f.1)) in
-    rw text (long_enough (length bytes) (length u.front) (length u.line) _ _ l size sum (text_longer (is_divider (u.line ++ f.0)) u.line f.0 f.1 refl))
+    rw text (long_enough (length bytes) (length u.front) (length u.line) _ _ l size sum
+        (text_longer (is_divider (u.line ++ f.0)) u.line f.0 f.1 refl))
 
 -- its line, whatever comes after it
-pub too_long_output : (verb : Verb) (short long out : List ℕ) (wanted : Wanted) (status : Status) → MAX_TEXT < length (text_of (lines short)) → MAX_TEXT < length (text_of (lines long)) → IsOutput verb wanted short status out → IsOutput verb wanted long status out
+pub too_long_output : (verb : Verb) (short long out : List ℕ) (wanted : Wanted) (status : Status)
+    → MAX_TEXT < length (text_of (lines short)) → MAX_TEXT < length (text_of (lines long))
+    → IsOutput verb wanted short status out → IsOutput verb wanted long status out
 too_long_output verb short long out wanted status s l (Ok p, a, h) = let fits = a.0 in absurd (omega (arith, s, fits))
 too_long_output verb short long out wanted status s l (Err fault.TooLong, a, h) = (Err fault.TooLong, l, h)
-too_long_output verb short long out wanted status s l (Err (fault.Bad n k), a, h) = let fits = a.0 in absurd (omega (arith, s, fits))
+too_long_output verb short long out wanted status s l (Err (fault.Bad n k), a, h) = let fits = a.0 in
+    absurd (omega (arith, s, fits))
 too_long_output verb short long out wanted status s l (Err fault.Memory, a, h) = absurd h.1
 
-pub long_written : (from to : Option (List ℕ)) (bytes : List ℕ) (wanted : Wanted) (status : Status) (IsWritten : List ℕ → Type 0) → Consumes from to bytes → IsUndivided bytes → MAX_TEXT + 4 < length bytes
+pub long_written : (from to : Option (List ℕ)) (bytes : List ℕ) (wanted : Wanted) (status : Status)
+    (IsWritten : List ℕ → Type 0) → Consumes from to bytes → IsUndivided bytes → MAX_TEXT + 4 < length bytes
     → Writes (Some bytes) Run wanted status IsWritten → Writes from Run wanted status IsWritten
 long_written from to bytes wanted status IsWritten c u l w =
     let left = some_left from to bytes c in
-    let here : MAX_TEXT < length (text_of (lines w.input)) = subst (λ b. MAX_TEXT < length (text_of (lines b))) (append-nil bytes ∙ sym w.is_read) (text_too_long bytes [] u l) in
-    record { input = bytes ++ left.0; is_read = left.1; out = w.out; is_output = too_long_output Run w.input (bytes ++ left.0) w.out wanted status here (text_too_long bytes left.0 u l) w.is_output; is_written = w.is_written }
+    let here : MAX_TEXT < length (text_of (lines w.input)) =
+        subst (λ b. MAX_TEXT < length (text_of (lines b))) (append-nil bytes ∙ sym w.is_read)
+        (text_too_long bytes [] u l) in
+    record { input = bytes ++ left.0; is_read = left.1; out = w.out; is_output =
+        too_long_output Run w.input (bytes ++ left.0) w.out wanted status here
+        (text_too_long bytes left.0 u l) w.is_output; is_written = w.is_written }
 
-pub long_part : (from to : Option (List ℕ)) (bytes : List ℕ) (wanted : Wanted) (old new : Option (List ℕ)) → Consumes from to bytes → IsUndivided bytes → MAX_TEXT + 4 < length bytes
+pub long_part : (from to : Option (List ℕ)) (bytes : List ℕ) (wanted : Wanted) (old new : Option (List ℕ))
+    → Consumes from to bytes → IsUndivided bytes → MAX_TEXT + 4 < length bytes
     → WritesBeginning (Some bytes) old new Run wanted → WritesBeginning from old new Run wanted
 long_part from to bytes wanted old new c u l (inl w) = inl w
-long_part from to bytes wanted old new c u l (inr (status, w)) = inr (status, long_written from to bytes wanted status (AppendsPart old new) c u l w)
+long_part from to bytes wanted old new c u l (inr (status, w)) =
+    inr (status, long_written from to bytes wanted status (AppendsPart old new) c u l w)
 
 abbrev IsRefusal : Status → Type 0
 IsRefusal Accepted = ⊥
@@ -174,20 +217,28 @@ pub not_accepted : {P : Type 0} (s : Status) → s ≡ Refused → s ≡ Accepte
 not_accepted s e f = absurd (subst IsRefusal (sym e ∙ f) tt)
 
 -- its program is refused
-too_long_refused : (input out : List ℕ) (wanted : Wanted) (status : Status) → MAX_TEXT < length (text_of (lines input)) → IsOutput Run wanted input status out → status ≡ Refused
+too_long_refused : (input out : List ℕ) (wanted : Wanted) (status : Status) → MAX_TEXT < length (text_of (lines input))
+    → IsOutput Run wanted input status out → status ≡ Refused
 too_long_refused input out wanted status l (Ok p, a, h) = let fits = a.0 in absurd (omega (arith, l, fits))
 too_long_refused input out wanted status l (Err e, a, h) = h.0
 
-pub long_refused : (bytes : List ℕ) (wanted : Wanted) (status : Status) (IsWritten : List ℕ → Type 0) → IsUndivided bytes → MAX_TEXT + 4 < length bytes → Writes (Some bytes) Run wanted status IsWritten → status ≡ Refused
+pub long_refused : (bytes : List ℕ) (wanted : Wanted) (status : Status) (IsWritten : List ℕ → Type 0)
+    → IsUndivided bytes → MAX_TEXT + 4 < length bytes → Writes (Some bytes) Run wanted status IsWritten → status
+    ≡ Refused
 long_refused bytes wanted status IsWritten u l w =
-    too_long_refused w.input w.out wanted status (subst (λ b. MAX_TEXT < length (text_of (lines b))) (append-nil bytes ∙ sym w.is_read) (text_too_long bytes [] u l)) w.is_output
+    too_long_refused w.input w.out wanted status (subst (λ b. MAX_TEXT < length (text_of (lines b)))
+        (append-nil bytes ∙ sym w.is_read) (text_too_long bytes [] u l)) w.is_output
 
 -- ---- reads
 
 -- a read that gave nothing
-pub read_nothing : (from to next : Option (List ℕ)) (bytes buf : List ℕ) (n : ℕ) → n ≡ 0 → Consumes from to bytes → Consumes to next (take n buf) → Consumes from next bytes
-read_nothing from to next bytes buf n e c d = subst (Consumes from next) (append-nil bytes) (Consumes-trans from to next bytes [] c (subst (λ m. Consumes to next (take m buf)) e d))
+pub read_nothing : (from to next : Option (List ℕ)) (bytes buf : List ℕ) (n : ℕ) → n ≡ 0 → Consumes from to bytes
+    → Consumes to next (take n buf) → Consumes from next bytes
+read_nothing from to next bytes buf n e c d = subst (Consumes from next) (append-nil bytes)
+    (Consumes-trans from to next bytes [] c (subst (λ m. Consumes to next (take m buf)) e d))
 
 -- bytes that were read are kept
-pub read_more : (from to next : Option (List ℕ)) (bytes more all : List ℕ) → all ≡ bytes ++ more → Consumes from to bytes → Consumes to next more → Consumes from next all
-read_more from to next bytes more all e c d = subst (Consumes from next) (sym e) (Consumes-trans from to next bytes more c d)
+pub read_more : (from to next : Option (List ℕ)) (bytes more all : List ℕ) → all ≡ bytes ++ more
+    → Consumes from to bytes → Consumes to next more → Consumes from next all
+read_more from to next bytes more all e c d = subst (Consumes from next) (sym e)
+    (Consumes-trans from to next bytes more c d)

@@ -1,5 +1,6 @@
 -- The first line of an input, and its end.
-use Rattle.std.proofs.Common.{◌≡◌, ℕ, ◌+◌, ◌<◌, List, [], ◌∷◌, ◌++◌, length, drop, suc, Bool, true, false, not, cond, refl, sym, ap, ◌∙◌, arith}
+use Rattle.std.proofs.Common.{◌≡◌, ℕ, ◌+◌, ◌<◌, List, [], ◌∷◌, ◌++◌, length, drop, suc, Bool, true, false, not, cond}
+use Rattle.std.proofs.Common.{refl, sym, ap, ◌∙◌, arith}
 use Rattle.std.specs.Prelude.{◌==◌}
 use Rattle.std.specs.List.{position_or_len, before_first, after_first, onto_first}
 use Rattle.std.proofs.lemmas.Bool.{eqb-true}
@@ -10,16 +11,20 @@ use Rattle.chr_report.specs.Lines.{lines, is_divider, text_of, commands_of}
 use Rattle.chr_report.specs.Laws.{LinesAreTheInput}
 
 pub lines_none : (t : List ℕ) → position_or_len (λ b. b == 10) t ≡ length t → lines t ≡ t ∷ []
-lines_none t e = slice_split_none (λ b. b == 10) t (λ k d l. fails_before_first (λ b. b == 10) t k d (omega (arith, e, l)))
+lines_none t e = slice_split_none (λ b. b == 10) t (λ k d l. fails_before_first (λ b. b == 10) t k d
+    (omega (arith, e, l)))
 
-pub lines_some : (t : List ℕ) → position_or_len (λ b. b == 10) t < length t → lines t ≡ before_first (λ b. b == 10) t ∷ lines (after_first (λ b. b == 10) t)
+pub lines_some : (t : List ℕ) → position_or_len (λ b. b == 10) t < length t → lines t ≡ before_first (λ b. b == 10) t
+    ∷ lines (after_first (λ b. b == 10) t)
 lines_some t l = slice_split_first (λ b. b == 10) t 0 l
 
 -- the first line, its line feed and the rest
-pub split_at_feed : (t : List ℕ) → position_or_len (λ b. b == 10) t < length t → t ≡ before_first (λ b. b == 10) t ++ 10 ∷ after_first (λ b. b == 10) t
+pub split_at_feed : (t : List ℕ) → position_or_len (λ b. b == 10) t < length t → t ≡ before_first (λ b. b == 10) t ++ 10
+    ∷ after_first (λ b. b == 10) t
 split_at_feed t l =
     split_at_first (λ b. b == 10) t 0 l
-    ∙ ap (λ x. before_first (λ b. b == 10) t ++ x ∷ after_first (λ b. b == 10) t) (eqb-true _ 10 (passes_at_first (λ b. b == 10) t 0 l))
+    ∙ ap (λ x. before_first (λ b. b == 10) t ++ x ∷ after_first (λ b. b == 10) t)
+        (eqb-true _ 10 (passes_at_first (λ b. b == 10) t 0 l))
 
 pub lines_are_the_input : LinesAreTheInput
 lines_are_the_input input = join_with_byte-slice_split 10 input
@@ -29,7 +34,8 @@ pub some_line : (r : List ℕ) → (l : List ℕ) × (ls : List (List ℕ)) × (
 some_line [] = ([], [], refl)
 some_line (b ∷ bs) = by (b == 10) (lines bs)
   where
-    by : (x : Bool) (ls : List (List ℕ)) → (l : List ℕ) × (more : List (List ℕ)) × (cond x ([] ∷ ls) (onto_first b ls) ≡ l ∷ more)
+    by : (x : Bool) (ls : List (List ℕ)) → (l : List ℕ) × (more : List (List ℕ))
+        × (cond x ([] ∷ ls) (onto_first b ls) ≡ l ∷ more)
     by true ls = ([], ls, refl)
     by false [] = (b ∷ [], [], refl)
     by false (l ∷ ls) = (b ∷ l, ls, refl)
@@ -39,7 +45,8 @@ some_line (b ∷ bs) = by (b == 10) (lines bs)
 pub text_more : (line r : List ℕ) → is_divider line ≡ false → text_of (line ∷ lines r) ≡ line ++ 10 ∷ text_of (lines r)
 text_more line r apart =
     let s = some_line r in
-    ap (λ ls. text_of (line ∷ ls)) s.2 ∙ ap (λ b. cond b [] (line ++ 10 ∷ text_of (s.0 ∷ s.1))) apart ∙ ap (λ ls. line ++ 10 ∷ text_of ls) (sym s.2)
+    ap (λ ls. text_of (line ∷ ls)) s.2 ∙ ap (λ b. cond b [] (line ++ 10 ∷ text_of (s.0 ∷ s.1))) apart
+        ∙ ap (λ ls. line ++ 10 ∷ text_of ls) (sym s.2)
 
 pub text_last : (line : List ℕ) → is_divider line ≡ false → text_of (line ∷ []) ≡ line
 text_last line apart = ap (λ b. cond b [] line) apart
@@ -48,10 +55,12 @@ pub text_ended : (line : List ℕ) (ls : List (List ℕ)) → is_divider line �
 text_ended line [] found = ap (λ b. cond b [] line) found
 text_ended line (m ∷ ls) found = ap (λ b. cond b [] (line ++ 10 ∷ text_of (m ∷ ls))) found
 
-pub commands_later : (line : List ℕ) (ls : List (List ℕ)) → is_divider line ≡ false → commands_of (line ∷ ls) ≡ commands_of ls
+pub commands_later : (line : List ℕ) (ls : List (List ℕ)) → is_divider line ≡ false → commands_of (line ∷ ls)
+    ≡ commands_of ls
 commands_later line ls apart =
     let n = position_or_len is_divider ls in
-    ap (λ b. drop (cond (not b) (1 + n) 0 + 1) (line ∷ ls)) apart ∙ ap (λ k. drop k (line ∷ ls)) (let e : 1 + n + 1 ≡ suc (n + 1) = omega arith in e)
+    ap (λ b. drop (cond (not b) (1 + n) 0 + 1) (line ∷ ls)) apart
+        ∙ ap (λ k. drop k (line ∷ ls)) (let e : 1 + n + 1 ≡ suc (n + 1) = omega arith in e)
 
 pub commands_here : (line : List ℕ) (ls : List (List ℕ)) → is_divider line ≡ true → commands_of (line ∷ ls) ≡ ls
 commands_here line ls found = ap (λ b. drop (cond (not b) (1 + position_or_len is_divider ls) 0 + 1) (line ∷ ls)) found
@@ -62,10 +71,14 @@ no_test : (b : Bool) → ¬ (b ≡ true) → b ≡ false
 no_test true h = absurd (h refl)
 no_test false h = refl
 
-pub feed_at : (bytes : List ℕ) (k : ℕ) → NoneBefore (Passes (is_byte 10) bytes) 0 (length bytes) k → Passes (is_byte 10) bytes k → k ≡ position_or_len (λ b. b == 10) bytes
+pub feed_at : (bytes : List ℕ) (k : ℕ) → NoneBefore (Passes (is_byte 10) bytes) 0 (length bytes) k
+    → Passes (is_byte 10) bytes k → k ≡ position_or_len (λ b. b == 10) bytes
 feed_at bytes k h there =
     let high = h.high in
-    sym (position_or_len_is (λ b. b == 10) bytes k 0 (omega (arith, high)) (λ j l. no_test _ (h.before j (omega arith) l)) (λ _. there))
+    sym (position_or_len_is (λ b. b == 10) bytes k 0 (omega (arith, high))
+        (λ j l. no_test _ (h.before j (omega arith) l)) (λ _. there))
 
-pub no_feed : (bytes : List ℕ) → Nowhere (Passes (is_byte 10) bytes) 0 (length bytes) → length bytes ≡ position_or_len (λ b. b == 10) bytes
-no_feed bytes h = sym (position_or_len_is (λ b. b == 10) bytes (length bytes) 0 (omega arith) (λ j l. no_test _ (h j (omega arith) l)) (λ l. absurd (omega (arith, l))))
+pub no_feed : (bytes : List ℕ) → Nowhere (Passes (is_byte 10) bytes) 0 (length bytes) → length bytes
+    ≡ position_or_len (λ b. b == 10) bytes
+no_feed bytes h = sym (position_or_len_is (λ b. b == 10) bytes (length bytes) 0 (omega arith)
+    (λ j l. no_test _ (h j (omega arith) l)) (λ l. absurd (omega (arith, l))))

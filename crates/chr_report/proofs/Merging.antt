@@ -1,5 +1,6 @@
 -- What a replica answers to a merge, and to an exchange.
-use Rattle.std.proofs.Common.{◌≡◌, ℕ, ◌+◌, ◌-◌, ◌≤◌, List, ◌++◌, All, codes, refl, sym, ap, ◌∙◌, subst, arith, inl, inr, ◌⊎◌}
+use Rattle.std.proofs.Common.{◌≡◌, ℕ, ◌+◌, ◌-◌, ◌≤◌, List, ◌++◌, All, codes, refl, sym, ap, ◌∙◌, subst, arith, inl, inr}
+use Rattle.std.proofs.Common.{◌⊎◌}
 use Rattle.std.specs.Prelude.{MatchOption}
 use Rattle.std.specs.Fmt.{decimal}
 use Rattle.std.specs.FinMap as map
@@ -34,7 +35,8 @@ use Rattle.chr_report.specs.working.Services.{operations_held, AreBetweenLines}
 use Rattle.chr_report.proofs.BetweenLines.{lacking_declared, ready_at}
 use Rattle.chr_report.proofs.Held.{answers_at, none_answers, held_at, none_held, has_one, there_or_not}
 
-joined : (word : List ℕ) (ops : List Operation) (old new : Operations) (n : ℕ) → told_atoms (union old ops) ≤ MAX_TOLD → n + map.len old ≡ map.len new → new ≡ union old ops
+joined : (word : List ℕ) (ops : List Operation) (old new : Operations) (n : ℕ) → told_atoms (union old ops) ≤ MAX_TOLD
+    → n + map.len old ≡ map.len new → new ≡ union old ops
     → AnswersUnion word ops old (word ++ decimal n) new
 joined word ops old new n room count e =
     let len : n + map.len old ≡ map.len (union old ops) = count ∙ ap map.len e in
@@ -44,14 +46,17 @@ joined word ops old new n room count e =
       joined = λ _. (ap (λ k. word ++ decimal k) more, e);
     }
 
-over : (word : List ℕ) (ops : List Operation) (old new : Operations) → ¬ (told_atoms (union old ops) ≤ MAX_TOLD) → new ≡ old → AnswersUnion word ops old (refusal_text refusal.Full) new
+over : (word : List ℕ) (ops : List Operation) (old new : Operations) → ¬ (told_atoms (union old ops) ≤ MAX_TOLD)
+    → new ≡ old → AnswersUnion word ops old (refusal_text refusal.Full) new
 over word ops old new full e = record { full = λ _. (refl, e); joined = λ l. absurd (full l) }
 
-does_merge : (ds : List Declaration) (k : DeltaVersion) (p : Program) (s : Replica) (ops : List Operation) (x : Reply) (t : Replica) → All (IsDeclared p) ops → Does p s (act.Merge ops) x t
+does_merge : (ds : List Declaration) (k : DeltaVersion) (p : Program) (s : Replica) (ops : List Operation) (x : Reply)
+    (t : Replica) → All (IsDeclared p) ops → Does p s (act.Merge ops) x t
     → AnswersMerge ops s.operations (replied_text ds (codes "merged ") k x) t.operations
 does_merge ds k p s ops (reply.Merged n) t declared d = record {
   clash = λ i id h. absurd (d.no_clash i id h);
-  unites = λ _. joined (codes "merged ") ops s.operations t.operations n d.room d.count (ap (λ r. r.operations) d.after);
+  unites = λ _. joined (codes "merged ") ops s.operations t.operations n d.room d.count
+      (ap (λ r. r.operations) d.after);
 }
 does_merge ds k p s ops (reply.Refused refused.UnknownSymbol) t declared d = absurd (d.0 declared)
 does_merge ds k p s ops (reply.Refused (refused.Clash id)) t declared d = record {
@@ -60,59 +65,80 @@ does_merge ds k p s ops (reply.Refused (refused.Clash id)) t declared d = record
 }
 does_merge ds k p s ops (reply.Refused (refused.Full limit.Told)) t declared d = record {
   clash = λ i id h. absurd (d.0.1 i id h);
-  unites = λ _. over (codes "merged ") ops s.operations t.operations (λ l. let m = d.0.2 in omega (arith, l, m)) (ap (λ r. r.operations) d.2);
+  unites = λ _. over (codes "merged ") ops s.operations t.operations (λ l. let m = d.0.2 in omega (arith, l, m))
+      (ap (λ r. r.operations) d.2);
 }
 does_merge ds k p s ops (reply.Refused refused.Memory) t declared d = absurd (d.1 refl)
 does_merge ds k p s ops (reply.Refused _) t declared d = absurd d.0
 does_merge ds k p s ops _ t declared d = absurd d
 
 -- of operations whose atoms are declared
-pub merge_answers : (ds : List Declaration) (k : DeltaVersion) (p : Program) (w v : Replicas) (r : ℕ) (ops : List Operation) (x : Answer) → All (IsDeclared p) ops → Happens p w (event.At r (act.Merge ops)) x v
+pub merge_answers : (ds : List Declaration) (k : DeltaVersion) (p : Program) (w v : Replicas) (r : ℕ)
+    (ops : List Operation) (x : Answer) → All (IsDeclared p) ops → Happens p w (event.At r (act.Merge ops)) x v
     → AnswersAt (operations_held w) r (AnswersMerge ops) (answer_text ds (codes "merged ") k x) (operations_held v)
 merge_answers ds k p w v r ops (answer.Replied x) declared h =
-    answers_at w v r (AnswersMerge ops) (replied_text ds (codes "merged ") k x) h.before h.after h.there h.world (does_merge ds k p h.before ops x h.after declared h.changed)
+    answers_at w v r (AnswersMerge ops) (replied_text ds (codes "merged ") k x) h.before h.after h.there h.world
+        (does_merge ds k p h.before ops x h.after declared h.changed)
 merge_answers ds k p w v r ops answer.UnknownSymbol declared h = absurd (h.1 declared)
 merge_answers ds k p w v r ops answer.NoReplica declared h = none_answers w v r (AnswersMerge ops) h.0 h.2
 
 -- what is lacked is merged
-does_sync : (ds : List Declaration) (k : DeltaVersion) (p : Program) (from : Operations) (t : Replica) (rs : List IdRange) (x : Reply) (u : Replica) → CoversJust rs t.operations → All (IsDeclared p) (lacking from rs)
-    → Does p t (act.Merge (lacking from rs)) x u → AnswersSync from t.operations (replied_text ds (codes "synced ") k x) u.operations
+does_sync : (ds : List Declaration) (k : DeltaVersion) (p : Program) (from : Operations) (t : Replica)
+    (rs : List IdRange) (x : Reply) (u : Replica) → CoversJust rs t.operations → All (IsDeclared p) (lacking from rs)
+    → Does p t (act.Merge (lacking from rs)) x u → AnswersSync from t.operations (replied_text ds (codes "synced ") k x)
+        u.operations
 does_sync ds k p from t rs (reply.Merged n) u just declared d =
     let e = exchange t.operations from rs just in
-    joined (codes "synced ") (map.entries from) t.operations u.operations n (subst (λ m. told_atoms m ≤ MAX_TOLD) e d.room) d.count (ap (λ r. r.operations) d.after ∙ e)
+    joined (codes "synced ") (map.entries from) t.operations u.operations n
+        (subst (λ m. told_atoms m ≤ MAX_TOLD) e d.room) d.count (ap (λ r. r.operations) d.after ∙ e)
 does_sync ds k p from t rs (reply.Refused refused.UnknownSymbol) u just declared d = absurd (d.0 declared)
-does_sync ds k p from t rs (reply.Refused (refused.Clash id)) u just declared d = absurd (no_clash t.operations from rs just d.0.1.0 id d.0.1.1)
+does_sync ds k p from t rs (reply.Refused (refused.Clash id)) u just declared d =
+    absurd (no_clash t.operations from rs just d.0.1.0 id d.0.1.1)
 does_sync ds k p from t rs (reply.Refused (refused.Full limit.Told)) u just declared d =
     let e = exchange t.operations from rs just in
     over (codes "synced ") (map.entries from) t.operations u.operations
-    (λ l. let m = d.0.2 in let l' = subst (λ m. told_atoms m ≤ MAX_TOLD) (sym e) l in omega (arith, l', m)) (ap (λ r. r.operations) d.2)
+    (λ l. let m = d.0.2 in let l' = subst (λ m. told_atoms m ≤ MAX_TOLD) (sym e) l in omega (arith, l', m))
+        (ap (λ r. r.operations) d.2)
 does_sync ds k p from t rs (reply.Refused refused.Memory) u just declared d = absurd (d.1 refl)
 does_sync ds k p from t rs (reply.Refused _) u just declared d = absurd d.0
 does_sync ds k p from t rs _ u just declared d = absurd d
 
-between : (w : Replicas) (a b : ℕ) (s : Replica) (text : List ℕ) (new : List Operations) → IsAt w a s → AnswersAt (operations_held w) b (AnswersSync s.operations) text new → AnswersBetween (operations_held w) a b text new
+between : (w : Replicas) (a b : ℕ) (s : Replica) (text : List ℕ) (new : List Operations) → IsAt w a s
+    → AnswersAt (operations_held w) b (AnswersSync s.operations) text new
+    → AnswersBetween (operations_held w) a b text new
 between w a b s text new there h =
-    subst (λ o. MatchOption o (AnswersRefusal refusal.NoReplica (operations_held w) text new) (λ from. AnswersAt (operations_held w) b (AnswersSync from) text new)) (sym (held_at w a s there)) h
+    subst (λ o. MatchOption o (AnswersRefusal refusal.NoReplica (operations_held w) text new)
+        (λ from. AnswersAt (operations_held w) b (AnswersSync from) text new)) (sym (held_at w a s there)) h
 
 -- of replicas that hold declared atoms alone
-pub sync_answers : (ds : List Declaration) (k : DeltaVersion) (p : Program) (w v : Replicas) (a b : ℕ) (x : Answer) → ((s : Replica) (rs : List IdRange) → IsAt w a s → All (IsDeclared p) (lacking s.operations rs))
-    → Happens p w (event.Sync a b) x v → AnswersBetween (operations_held w) a b (answer_text ds (codes "synced ") k x) (operations_held v)
+pub sync_answers : (ds : List Declaration) (k : DeltaVersion) (p : Program) (w v : Replicas) (a b : ℕ) (x : Answer)
+    → ((s : Replica) (rs : List IdRange) → IsAt w a s → All (IsDeclared p) (lacking s.operations rs))
+    → Happens p w (event.Sync a b) x v → AnswersBetween (operations_held w) a b (answer_text ds (codes "synced ") k x)
+        (operations_held v)
 sync_answers ds k p w v a b (answer.Replied x) declared h =
     let c = h.2 in
     between w a b h.0 _ _ h.1
-    (answers_at w v b (AnswersSync h.0.operations) (replied_text ds (codes "synced ") k x) c.before c.after c.there c.world
-    (does_sync ds k p h.0.operations c.before c.changed.summary x c.after c.changed.covers (declared h.0 c.changed.summary h.1) c.changed.merged))
+    (answers_at w v b (AnswersSync h.0.operations) (replied_text ds (codes "synced ") k x) c.before c.after c.there
+        c.world
+    (does_sync ds k p h.0.operations c.before c.changed.summary x c.after c.changed.covers
+        (declared h.0 c.changed.summary h.1) c.changed.merged))
 sync_answers ds k p w v a b answer.UnknownSymbol declared h = absurd h
 sync_answers ds k p w v a b answer.NoReplica declared h = by (there_or_not w a)
   where
-    by : ((s : Replica) × IsAt w a s) ⊎ (¬ HasReplica w a) → AnswersBetween (operations_held w) a b (refusal_text refusal.NoReplica) (operations_held v)
-    by (inl g) = between w a b g.0 _ _ g.1 (none_answers w v b (AnswersSync g.0.operations) (λ there. h.0 (has_one w a g.0 g.1, there)) h.1)
+    by : ((s : Replica) × IsAt w a s) ⊎ (¬ HasReplica w a) → AnswersBetween (operations_held w) a b
+        (refusal_text refusal.NoReplica) (operations_held v)
+    by (inl g) = between w a b g.0 _ _ g.1 (none_answers w v b (AnswersSync g.0.operations)
+        (λ there. h.0 (has_one w a g.0 g.1, there)) h.1)
     by (inr n) =
-        let none : AnswersRefusal refusal.NoReplica (operations_held w) (refusal_text refusal.NoReplica) (operations_held v) = (refl, ap operations_held h.1) in
-        subst (λ o. MatchOption o (AnswersRefusal refusal.NoReplica (operations_held w) (refusal_text refusal.NoReplica) (operations_held v)) (λ from. AnswersAt (operations_held w) b (AnswersSync from) (refusal_text refusal.NoReplica) (operations_held v))) (sym (none_held w a n)) none
+        let none : AnswersRefusal refusal.NoReplica (operations_held w) (refusal_text refusal.NoReplica)
+            (operations_held v) = (refl, ap operations_held h.1) in
+        subst (λ o. MatchOption o (AnswersRefusal refusal.NoReplica (operations_held w) (refusal_text refusal.NoReplica)
+            (operations_held v)) (λ from. AnswersAt (operations_held w) b (AnswersSync from)
+            (refusal_text refusal.NoReplica) (operations_held v))) (sym (none_held w a n)) none
 
 -- of operations of the program's atoms, after which a pool may be rested
-pub merged : (p : Program) (w v : Replicas) (new : List Operations) (r : ℕ) (ops : List Operation) (x : Answer) → All (IsDeclared p) ops
+pub merged : (p : Program) (w v : Replicas) (new : List Operations) (r : ℕ) (ops : List Operation) (x : Answer)
+    → All (IsDeclared p) ops
     → Happens p w (event.At r (act.Merge ops)) x v → new ≡ operations_held v
     → AnswersAt (operations_held w) r (AnswersMerge ops) (reply_text (declarations p) (replies.Answered x)) new
 merged p w v new r ops x declared h e =
@@ -121,7 +147,8 @@ merged p w v new r ops x declared h e =
     (merge_answers ds version.Two p w v r ops x declared h)
 
 -- of ready replicas, after which a pool may be rested
-pub synced : (p : Program) (w v : Replicas) (new : List Operations) (a b : ℕ) (x : Answer) → AreBetweenLines p w → Happens p w (event.Sync a b) x v → new ≡ operations_held v
+pub synced : (p : Program) (w v : Replicas) (new : List Operations) (a b : ℕ) (x : Answer) → AreBetweenLines p w
+    → Happens p w (event.Sync a b) x v → new ≡ operations_held v
     → AnswersBetween (operations_held w) a b (reply_text (declarations p) (replies.Synced x)) new
 synced p w v new a b x ready h e =
     let ds = declarations p in

@@ -1,5 +1,6 @@
 -- What lines tell are 64-bit values.
-use Rattle.std.proofs.Common.{◌≡◌, ◌-◌, ◌<◌, ◌^◌, leb, ℤ, pos, negsuc, true, List, [], ◌∷◌, length, position, None, refl, arith, FitsSigned, IfSome}
+use Rattle.std.proofs.Common.{◌≡◌, ◌-◌, ◌<◌, ◌^◌, leb, ℤ, pos, negsuc, true, List, [], ◌∷◌, length, position, None}
+use Rattle.std.proofs.Common.{refl, arith, FitsSigned, IfSome}
 use Rattle.std.proofs.lemmas.Bool.{and_from, le-leb}
 use Rattle.std.proofs.lemmas.Option.{IfSome_then}
 use Rattle.std.specs.Int.{w64}
@@ -23,16 +24,19 @@ use Rattle.chr_exchange.specs.Names.{named_atom, named_atoms, declared_operation
 
 value : (z : ℤ) → FitsSigned w64 z → is_value z ≡ true
 value (pos n) h = let f : n < 2 ^ 63 = h.sfits in le-leb n (2 ^ 63 - 1) (omega (arith, f))
-value (negsuc n) h = let f : n < 2 ^ 63 = h.sfits in and_from (leb n (2 ^ 63 - 1)) true (le-leb n (2 ^ 63 - 1) (omega (arith, f))) refl
+value (negsuc n) h = let f : n < 2 ^ 63 = h.sfits in and_from (leb n (2 ^ 63 - 1)) true
+    (le-leb n (2 ^ 63 - 1) (omega (arith, f))) refl
 
 values : (zs : List ℤ) → AllByRecursion (FitsSigned w64) zs → list_all is_value zs ≡ true
 values [] h = refl
 values (z ∷ zs) h = and_from (is_value z) (list_all is_value zs) (value z h.0) (values zs h.1)
 
 -- the atom of a word keeps its arguments
-atom_values : (ds : List Declaration) (w : NamedAtom) → ArgumentsFit w → IfSome (named_atom ds w) (λ a. args_in is_value a ≡ true)
+atom_values : (ds : List Declaration) (w : NamedAtom) → ArgumentsFit w
+    → IfSome (named_atom ds w) (λ a. args_in is_value a ≡ true)
 atom_values ds w h =
-    if_map (λ _. Unit {0}) (λ (a : Atom). args_in is_value a ≡ true) (λ i. record { symbol = record { 0 = i }; args = record { items = w.args } }) (λ _ _. values w.args h)
+    if_map (λ _. Unit {0}) (λ (a : Atom). args_in is_value a ≡ true)
+        (λ i. record { symbol = record { 0 = i }; args = record { items = w.args } }) (λ _ _. values w.args h)
     (position (declares w.name (length w.args)) ds) (always (position (declares w.name (length w.args)) ds))
 
 listed : (xs : List Atom) → AllByRecursion (λ a. args_in is_value a ≡ true) xs → list_all (args_in is_value) xs ≡ true
@@ -40,20 +44,27 @@ listed [] h = refl
 listed (a ∷ xs) h = and_from (args_in is_value a) (list_all (args_in is_value) xs) h.0 (listed xs h.1)
 
 -- the atoms of words are a store of values
-pub atoms_values : (ds : List Declaration) (ws : List NamedAtom) → AllByRecursion ArgumentsFit ws → IfSome (named_atoms ds ws) (λ xs. HasValues (store_of xs))
+pub atoms_values : (ds : List Declaration) (ws : List NamedAtom) → AllByRecursion ArgumentsFit ws
+    → IfSome (named_atoms ds ws) (λ xs. HasValues (store_of xs))
 atoms_values ds ws h =
-    IfSome_then (named_atoms ds ws) (if_each ArgumentsFit (λ a. args_in is_value a ≡ true) (named_atom ds) (atom_values ds) ws h) (λ xs p. each_of_list (args_in is_value) xs (listed xs p))
+    IfSome_then (named_atoms ds ws) (if_each ArgumentsFit (λ a. args_in is_value a ≡ true) (named_atom ds)
+        (atom_values ds) ws h) (λ xs p. each_of_list (args_in is_value) xs (listed xs p))
 
-operation_values : (ds : List Declaration) (o : NamedOperation) → OperationFits o → IfSome (declared_operation ds o) (λ p. HasValues p.1)
+operation_values : (ds : List Declaration) (o : NamedOperation) → OperationFits o → IfSome (declared_operation ds o)
+    (λ p. HasValues p.1)
 operation_values ds o h =
-    if_map (λ xs. HasValues (store_of xs)) (λ (p : Operation). HasValues p.1) (λ xs. (o.id, store_of xs)) (λ xs v. v) (named_atoms ds o.atoms) (atoms_values ds o.atoms h)
+    if_map (λ xs. HasValues (store_of xs)) (λ (p : Operation). HasValues p.1) (λ xs. (o.id, store_of xs)) (λ xs v. v)
+        (named_atoms ds o.atoms) (atoms_values ds o.atoms h)
 
 -- the operations of words have stores of values
-pub operations_values : (ds : List Declaration) (os : List NamedOperation) → AllByRecursion OperationFits os → IfSome (declared_operations ds os) HaveValues
-operations_values ds os h = if_each OperationFits (λ (p : Operation). HasValues p.1) (declared_operation ds) (operation_values ds) os h
+pub operations_values : (ds : List Declaration) (os : List NamedOperation) → AllByRecursion OperationFits os
+    → IfSome (declared_operations ds os) HaveValues
+operations_values ds os h = if_each OperationFits (λ (p : Operation). HasValues p.1) (declared_operation ds)
+    (operation_values ds) os h
 
 -- an operation more
-pub told_values : (old : Operations) (k : OpId) (s : Store) → finite.get old k ≡ None → HasValues (told_store old) → HasValues s → HasValues (told_store (finite.insert old k s))
+pub told_values : (old : Operations) (k : OpId) (s : Store) → finite.get old k ≡ None → HasValues (told_store old)
+    → HasValues s → HasValues (told_store (finite.insert old k s))
 told_values old k s new h g = rw (told_store-insert old k s new) (each_plus (args_in is_value) (told_store old) s h g)
 
 -- none at all

@@ -1,5 +1,6 @@
 -- The parts of a run's output put together.
-use Rattle.std.proofs.Common.{◌≡◌, ℕ, List, [], ◌∷◌, ◌++◌, length, refl, sym, ap, ◌∙◌, subst, append_assoc, append-nil, ◌⊎◌, inr}
+use Rattle.std.proofs.Common.{◌≡◌, ℕ, List, [], ◌∷◌, ◌++◌, length, refl, sym, ap, ◌∙◌, subst, append_assoc, append-nil}
+use Rattle.std.proofs.Common.{◌⊎◌, inr}
 use Rattle.std.specs.Prelude.{Option, None, Some, Result, Ok, Err, IfSome, IfOk, replicate}
 use Rattle.std.specs.Borrow.{Bor}
 use Rattle.std.specs.FinMap as finmap
@@ -24,52 +25,78 @@ use Rattle.chr_report.specs.Lines.{lines, text_of, commands_of}
 use Rattle.chr_report.specs.Answers.{AnswersAll}
 use Rattle.chr_report.specs.working.Answered.{AnswersRest}
 use Rattle.chr_report.specs.working.LinesLeft.{lines_left}
-use Rattle.chr_report.specs.Outputs.{asked, Decides, IsOutput, IsReadOutput, IsAnswered, IsRefusedByWeights, IsRefusedByOverlaps, accepted_text}
+use Rattle.chr_report.specs.Outputs.{asked, Decides, IsOutput, IsReadOutput, IsAnswered, IsRefusedByWeights}
+use Rattle.chr_report.specs.Outputs.{IsRefusedByOverlaps, accepted_text}
 use Rattle.chr_report.specs.Written.{Writes, WritesOutput, WritesBeginning}
 
 -- what is kept of an input decides what is written for it
-kept_written : (from : Option (List ℕ)) (kept out : List ℕ) (verb : Verb) (wanted : Wanted) (status : Status) (IsWritten : List ℕ → Type 0) → IfSome from (Decides kept) → IsOutput verb wanted kept status out → IsWritten out
+kept_written : (from : Option (List ℕ)) (kept out : List ℕ) (verb : Verb) (wanted : Wanted) (status : Status)
+    (IsWritten : List ℕ → Type 0) → IfSome from (Decides kept) → IsOutput verb wanted kept status out → IsWritten out
     → Writes from verb wanted status IsWritten
-kept_written None kept out verb wanted status IsWritten d o w = record { input = kept; is_read = tt; out = out; is_output = o; is_written = w }
-kept_written (Some x) kept out verb wanted status IsWritten d o w = record { input = x; is_read = refl; out = out; is_output = d verb wanted status out o; is_written = w }
+kept_written None kept out verb wanted status IsWritten d o w =
+    record { input = kept; is_read = tt; out = out; is_output = o; is_written = w }
+kept_written (Some x) kept out verb wanted status IsWritten d o w =
+    record { input = x; is_read = refl; out = out; is_output = d verb wanted status out o; is_written = w }
 
 -- a whole write leaves all
-pub whole_written : (old new bytes : Option (List ℕ)) (verb : Verb) (wanted : Wanted) (kept written out : List ℕ) (status : Status) → IfSome bytes (Decides kept) → IsOutput verb wanted kept status out → written ≡ out → Appends old new written → WritesOutput bytes old new verb wanted status
-whole_written old new bytes verb wanted kept written out status d o e a = kept_written bytes kept out verb wanted status (Appends old new) d o (subst (Appends old new) e a)
+pub whole_written : (old new bytes : Option (List ℕ)) (verb : Verb) (wanted : Wanted) (kept written out : List ℕ)
+    (status : Status) → IfSome bytes (Decides kept) → IsOutput verb wanted kept status out → written ≡ out
+    → Appends old new written → WritesOutput bytes old new verb wanted status
+whole_written old new bytes verb wanted kept written out status d o e a =
+    kept_written bytes kept out verb wanted status (Appends old new) d o (subst (Appends old new) e a)
 
 -- a failed write leaves a beginning
-pub part_written : (old new bytes : Option (List ℕ)) (verb : Verb) (wanted : Wanted) (kept written out : List ℕ) (status : Status) → IfSome bytes (Decides kept) → IsOutput verb wanted kept status out → written ≡ out → AppendsPart old new written → WritesBeginning bytes old new verb wanted
-part_written old new bytes verb wanted kept written out status d o e a = inr (status, kept_written bytes kept out verb wanted status (AppendsPart old new) d o (subst (AppendsPart old new) e a))
+pub part_written : (old new bytes : Option (List ℕ)) (verb : Verb) (wanted : Wanted) (kept written out : List ℕ)
+    (status : Status) → IfSome bytes (Decides kept) → IsOutput verb wanted kept status out → written ≡ out
+    → AppendsPart old new written → WritesBeginning bytes old new verb wanted
+part_written old new bytes verb wanted kept written out status d o e a =
+    inr (status, kept_written bytes kept out verb wanted status (AppendsPart old new) d o
+    (subst (AppendsPart old new) e a))
 
 -- no lines, no answers
-pub nothing_to_answer : (ds : List Declaration) (rules : List Rule) (commands : Option (Bor (List ℕ))) (old : List Operations) (before : List ℕ) → commands ≡ None → AnswersRest ds rules (lines_left commands) old before before
+pub nothing_to_answer : (ds : List Declaration) (rules : List Rule) (commands : Option (Bor (List ℕ)))
+    (old : List Operations) (before : List ℕ) → commands ≡ None
+    → AnswersRest ds rules (lines_left commands) old before before
 nothing_to_answer ds rules commands old before e =
-    rw e (let r : AnswersRest ds rules [] old before before = record { out = []; answers = refl; out_is = sym (append-nil before) } in r)
+    rw e (let r : AnswersRest ds rules [] old before before =
+        record { out = []; answers = refl; out_is = sym (append-nil before) } in r)
 
 -- the verdict's line and the answers
-pub program_answered : (a b : Accepted) (ls : List (List ℕ)) (n m : ℕ) (wanted : Wanted) (start : List Operations) (before out : List ℕ) → IsAcceptedBy wanted.coverage (rules_of (program_in a)) (cases_of a) → b ≡ a → n ≡ length (rules_of (program_in a)) → m ≡ cases_of a → before ≡ accepted_text n m ++ 10 ∷ [] → start ≡ replicate wanted.replicas finmap.empty
-    → AnswersRest (declarations (program_in b)) (rules_of (program_in b)) ls start before out → IsAnswered (declarations (program_in a)) (rules_of (program_in a)) wanted ls out
+pub program_answered : (a b : Accepted) (ls : List (List ℕ)) (n m : ℕ) (wanted : Wanted) (start : List Operations)
+    (before out : List ℕ) → IsAcceptedBy wanted.coverage (rules_of (program_in a)) (cases_of a) → b ≡ a
+    → n ≡ length (rules_of (program_in a)) → m ≡ cases_of a → before ≡ accepted_text n m ++ 10 ∷ []
+    → start ≡ replicate wanted.replicas finmap.empty
+    → AnswersRest (declarations (program_in b)) (rules_of (program_in b)) ls start before out
+        → IsAnswered (declarations (program_in a)) (rules_of (program_in a)) wanted ls out
 program_answered a b ls n m wanted start before out accepted e f q g h r =
-    let k : AnswersRest (declarations (program_in a)) (rules_of (program_in a)) ls start before out = subst (λ u. AnswersRest (declarations (program_in u)) (rules_of (program_in u)) ls start before out) e r in
+    let k : AnswersRest (declarations (program_in a)) (rules_of (program_in a)) ls start before out =
+        subst (λ u. AnswersRest (declarations (program_in u)) (rules_of (program_in u)) ls start before out) e r in
     record {
       lowers = (weighed_of a).lowers;
       cases = cases_of a;
       accepted = accepted;
       answers = k.out;
       answered = subst (λ o. AnswersAll (declarations (program_in a)) (rules_of (program_in a)) ls o k.out) h k.answers;
-      out_is = k.out_is ∙ ap (λ x. x ++ k.out) (g ∙ (λ i. accepted_text (f i) (q i) ++ 10 ∷ [])) ∙ append_assoc (accepted_text (length (rules_of (program_in a))) (cases_of a)) (10 ∷ []) k.out;
+      out_is = k.out_is ∙ ap (λ x. x ++ k.out) (g ∙ (λ i. accepted_text (f i) (q i) ++ 10 ∷ []))
+          ∙ append_assoc (accepted_text (length (rules_of (program_in a))) (cases_of a)) (10 ∷ []) k.out;
     }
 
 -- a program that is refused
-pub refused_by : (p : Program) (wanted : Wanted) (ls : List (List ℕ)) (status : Status) (out line : List ℕ) → status ≡ Refused → out ≡ line → IsRefusedByWeights (declarations p) (rules_of p) line ⊎ IsRefusedByOverlaps wanted.coverage (declarations p) (rules_of p) line → IsReadOutput (Ok p) wanted ls status out
+pub refused_by : (p : Program) (wanted : Wanted) (ls : List (List ℕ)) (status : Status) (out line : List ℕ) → status
+    ≡ Refused → out ≡ line → IsRefusedByWeights (declarations p) (rules_of p) line ⊎ IsRefusedByOverlaps wanted.coverage
+    (declarations p) (rules_of p) line → IsReadOutput (Ok p) wanted ls status out
 refused_by p wanted ls status out line e f h = rw (e, f) h
 
 -- what the text is read as decides
-pub read_output : (verb : Verb) (wanted : Wanted) (input text : List ℕ) (rest commands : Option (Bor (List ℕ))) (answer : Result Program ReadFault) (status : Status) (out : List ℕ)
-    → text ≡ text_of (lines input) → commands_of (lines input) ≡ lines_left rest → lines_left commands ≡ asked verb (lines_left rest)
-    → IsAnswer text answer → IsReadOutput answer wanted (lines_left commands) status out → IsOutput verb wanted input status out
+pub read_output : (verb : Verb) (wanted : Wanted) (input text : List ℕ) (rest commands : Option (Bor (List ℕ)))
+    (answer : Result Program ReadFault) (status : Status) (out : List ℕ)
+    → text ≡ text_of (lines input) → commands_of (lines input) ≡ lines_left rest → lines_left commands
+        ≡ asked verb (lines_left rest)
+    → IsAnswer text answer → IsReadOutput answer wanted (lines_left commands) status out
+        → IsOutput verb wanted input status out
 read_output verb wanted input text rest commands answer status out e f g a h =
-    (answer, subst (λ x. IsAnswer x answer) e a, subst (λ cs. IsReadOutput answer wanted cs status out) (g ∙ ap (asked verb) (sym f)) h)
+    (answer, subst (λ x. IsAnswer x answer) e a, subst (λ cs. IsReadOutput answer wanted cs status out)
+        (g ∙ ap (asked verb) (sym f)) h)
 
 pub if_ok : {A E : Type 0} {P Q : A → Type 0} (r : Result A E) → ((x : A) → P x → Q x) → IfOk r P → IfOk r Q
 if_ok (Ok x) f h = f x h

@@ -37,7 +37,8 @@ module _ (answers : AnswersExist) (p : Program) (replicas : ℕ) (commands : Lis
   abbrev Rules : Status → List ℕ → Type 0
   Rules = IsRulesOutput (declarations p) (rules_of p) (replicas_by Joint replicas) commands
 
-  weighed : (i : ℕ) (before after : Weight) → IsFirstNotLowered (declarations p) (rules_of p) i before after → HasOutput Rules
+  weighed : (i : ℕ) (before after : Weight) → IsFirstNotLowered (declarations p) (rules_of p) i before after
+      → HasOutput Rules
   weighed i before after first = (
     Refused,
     not_lowered_text (some_paired (declarations p)) i before after ++ 10 ∷ [],
@@ -47,23 +48,29 @@ module _ (answers : AnswersExist) (p : Program) (replicas : ℕ) (commands : Lis
   judged : AreLowering (weight_by (declarations p)) (rules_of p) → HasVerdict (rules_of p) → HasOutput Rules
   judged lowers (inl v) =
       let w = answers (declarations p) (rules_of p) lowers commands (replicate replicas map.empty) in
-      (Accepted, accepted_text (length (rules_of p)) v.0 ++ 10 ∷ w.0, record { lowers = lowers; cases = v.0; accepted = v.1; answers = w.0; answered = w.1; out_is = refl })
+      (Accepted, accepted_text (length (rules_of p)) v.0 ++ 10
+          ∷ w.0, record { lowers = lowers; cases = v.0; accepted = v.1; answers = w.0; answered = w.1; out_is = refl })
   judged lowers (inr (inl f)) =
-      (Refused, failure_text (declarations p) f.0 ++ 10 ∷ [], inr (record { lowers = lowers; cause = cause.Fails f.0; first = f.1; line = refl }))
+      (Refused, failure_text (declarations p) f.0 ++ 10
+          ∷ [], inr (record { lowers = lowers; cause = cause.Fails f.0; first = f.1; line = refl }))
   judged lowers (inr (inr t)) =
-      (Refused, too_many_text t.0 ++ 10 ∷ [], inr (record { lowers = lowers; cause = cause.TooManyTypes t.0; first = t.1; line = refl }))
+      (Refused, too_many_text t.0 ++ 10 ∷ [], inr (record { lowers = lowers; cause = cause.TooManyTypes t.0; first =
+          t.1; line = refl }))
 
   program_output : HasOutput Rules
   program_output = by (lowers_or_first (declarations p) (rules_of p))
     where
-      by : AreLowering (weight_by (declarations p)) (rules_of p) ⊎ ((i : ℕ) × (before : Weight) × (after : Weight) × IsFirstNotLowered (declarations p) (rules_of p) i before after) → HasOutput Rules
+      by : AreLowering (weight_by (declarations p)) (rules_of p)
+          ⊎ ((i : ℕ) × (before : Weight) × (after : Weight) × IsFirstNotLowered (declarations p)
+          (rules_of p) i before after) → HasOutput Rules
       by (inl lowers) = judged lowers (program_verdict p lowers)
       by (inr w) = weighed w.0 w.1 w.2 w.3
 
 -- ---- texts
 
 abbrev HasTextOutput : List ℕ → ℕ → List (List ℕ) → Type 0
-HasTextOutput text replicas commands = HasOutput (λ status out. (answer : Result Program ReadFault) × IsAnswer text answer × IsReadOutput answer (replicas_by Joint replicas) commands status out)
+HasTextOutput text replicas commands = HasOutput (λ status out. (answer : Result Program ReadFault)
+    × IsAnswer text answer × IsReadOutput answer (replicas_by Joint replicas) commands status out)
 
 module _ (answers : AnswersExist) (text : List ℕ) (replicas : ℕ) (commands : List (List ℕ)) where
   of_program : (m : Meaning) → IsProgramText text m → HasTextOutput text replicas commands
@@ -72,10 +79,12 @@ module _ (answers : AnswersExist) (text : List ℕ) (replicas : ℕ) (commands :
       let o = program_output answers p.0 replicas commands in
       (o.0, o.1, (Ok p.0, subst (IsProgramText text) (sym p.1) h, o.2))
 
-  text_output : ((m : Meaning) × IsProgramText text m) ⊎ ((n : Fault) × (k : ℕ) × IsRefusedText text n k) ⊎ (MAX_TEXT < length text) → HasTextOutput text replicas commands
+  text_output : ((m : Meaning) × IsProgramText text m) ⊎ ((n : Fault) × (k : ℕ) × IsRefusedText text n k)
+      ⊎ (MAX_TEXT < length text) → HasTextOutput text replicas commands
   text_output (inl m) = of_program m.0 m.1
   text_output (inr (inl r)) = (Refused, _, (Err (fault.Bad r.0 r.1), r.2, (refl, refl)))
   text_output (inr (inr l)) = (Refused, _, (Err fault.TooLong, l, (refl, refl)))
 
 pub outputs_exist : TextsHaveSomeAnswer → AnswersExist → OutputsExist
-outputs_exist read answers verb replicas input = text_output answers (text_of (lines input)) replicas (asked verb (commands_of (lines input))) (read (text_of (lines input)))
+outputs_exist read answers verb replicas input = text_output answers (text_of (lines input)) replicas
+    (asked verb (commands_of (lines input))) (read (text_of (lines input)))

@@ -1,5 +1,6 @@
 -- Answers of an input that comes piece by piece.
-use Rattle.std.proofs.Common.{◌≡◌, ℕ, Bool, true, false, List, [], ◌∷◌, ◌++◌, refl, sym, ap, ◌∙◌, append_assoc, append-nil, subst, inl}
+use Rattle.std.proofs.Common.{◌≡◌, ℕ, Bool, true, false, List, [], ◌∷◌, ◌++◌, refl, sym, ap, ◌∙◌, append_assoc}
+use Rattle.std.proofs.Common.{append-nil, subst, inl}
 use Rattle.std.specs.Prelude.{Option, Some, Result, Ok, Err, OnErr}
 use Rattle.std.specs.Bool.{MatchBool}
 use Rattle.std.specs.Io.KnownBytes.{Appends}
@@ -21,10 +22,13 @@ use Rattle.chr_report.proofs.Feeds.{ended_more, lines_more, lines_last, none_in_
 pub part_of_whole : (old new : Option (List ℕ)) (bs : List ℕ) → Appends old new bs → AppendsPart old new bs
 part_of_whole old new bs a = (bs, [], sym (append-nil bs), a)
 
-pub part_after : (old mid new : Option (List ℕ)) (bs cs : List ℕ) → Appends old mid bs → AppendsPart mid new cs → AppendsPart old new (bs ++ cs)
-part_after old mid new bs cs a p = (bs ++ p.0, p.1, ap (λ l. bs ++ l) p.2 ∙ sym (append_assoc bs p.0 p.1), Appends-trans old mid new bs p.0 a p.3)
+pub part_after : (old mid new : Option (List ℕ)) (bs cs : List ℕ) → Appends old mid bs → AppendsPart mid new cs
+    → AppendsPart old new (bs ++ cs)
+part_after old mid new bs cs a p = (bs ++ p.0, p.1, ap (λ l. bs ++ l) p.2 ∙ sym (append_assoc bs p.0 p.1),
+    Appends-trans old mid new bs p.0 a p.3)
 
-pub part_of_more : (old new : Option (List ℕ)) (bs more : List ℕ) → AppendsPart old new bs → AppendsPart old new (bs ++ more)
+pub part_of_more : (old new : Option (List ℕ)) (bs more : List ℕ) → AppendsPart old new bs
+    → AppendsPart old new (bs ++ more)
 part_of_more old new bs more p = (p.0, p.1 ++ more, ap (λ l. l ++ more) p.2 ∙ append_assoc p.0 p.1 more, p.3)
 
 pub on_err : {A E P : Type 0} (r : Result A E) → P → OnErr r P
@@ -41,44 +45,59 @@ module _ (ds : List Declaration) (rules : List Rule) where
   pub front_begins : (old : List Operations) → AnswersFront ds rules [] old [] old
   front_begins old more tail a = a
 
-  line_first : (line more text tail : List ℕ) (old new : List Operations) → AnswersLine ds rules old (without_return line) [] new text
+  line_first : (line more text tail : List ℕ) (old new : List Operations)
+      → AnswersLine ds rules old (without_return line) [] new text
       → AnswersAll ds rules (lines more) new tail → AnswersAll ds rules (line ∷ lines more) old (text ++ tail)
   line_first line more text tail old new g a = by (is_blank_line (without_return line)) refl g
     where
-      by : (b : Bool) → is_blank_line (without_return line) ≡ b → MatchBool b ((new ≡ old) × (text ≡ [])) (AddsAnswer ds rules old (without_return line) [] new text) → AnswersAll ds rules (line ∷ lines more) old (text ++ tail)
-      by true e k = rw e (subst (λ o. AnswersAll ds rules (lines more) o (text ++ tail)) k.0 (subst (λ t. AnswersAll ds rules (lines more) new (t ++ tail)) (sym k.1) a))
+      by : (b : Bool) → is_blank_line (without_return line) ≡ b → MatchBool b ((new ≡ old) × (text ≡ []))
+          (AddsAnswer ds rules old (without_return line) [] new text) → AnswersAll ds rules (line ∷ lines more) old
+          (text ++ tail)
+      by true e k = rw e (subst (λ o. AnswersAll ds rules (lines more) o (text ++ tail)) k.0
+          (subst (λ t. AnswersAll ds rules (lines more) new (t ++ tail)) (sym k.1) a))
       by false e k =
-          let first : AnswersFirst ds rules old (without_return line) (text ++ tail) (AnswersAll ds rules (lines more)) =
-          record { text = k.text; new = new; rest = tail; answers = k.answers; more = a; out_is = ap (λ t. t ++ tail) k.out_is ∙ append_assoc k.text (10 ∷ []) tail } in
+          let first : AnswersFirst ds rules old (without_return line) (text ++ tail)
+              (AnswersAll ds rules (lines more)) =
+          record { text = k.text; new = new; rest = tail; answers = k.answers; more = a; out_is =
+              ap (λ t. t ++ tail) k.out_is ∙ append_assoc k.text (10 ∷ []) tail } in
           rw e first
 
   -- one line more
   pub front_goes_on : (front line out text : List ℕ) (old mid new : List Operations) → HasNoFeed line
-      → AnswersFront ds rules front old out mid → AnswersLine ds rules mid (without_return line) [] new text → AnswersFront ds rules (front ++ (line ++ 10 ∷ [])) old (out ++ text) new
+      → AnswersFront ds rules front old out mid → AnswersLine ds rules mid (without_return line) []
+          new text → AnswersFront ds rules (front ++ (line ++ 10 ∷ [])) old (out ++ text) new
   front_goes_on front line out text old mid new h f g more tail a =
       subst (λ i. AnswersAll ds rules (lines i) old ((out ++ text) ++ tail)) (sym (ended_more front line more))
       (subst (λ o. AnswersAll ds rules (lines (front ++ (line ++ 10 ∷ more))) old o) (sym (append_assoc out text tail))
-      (f (line ++ 10 ∷ more) (text ++ tail) (subst (λ ls. AnswersAll ds rules ls mid (text ++ tail)) (sym (lines_more line more h)) (line_first line more text tail mid new g a))))
+      (f (line ++ 10 ∷ more) (text ++ tail) (subst (λ ls. AnswersAll ds rules ls mid (text ++ tail))
+          (sym (lines_more line more h)) (line_first line more text tail mid new g a))))
 
   -- two pieces
   pub fronts_join : (one two out text : List ℕ) (old mid new : List Operations)
-      → AnswersFront ds rules one old out mid → AnswersFront ds rules two mid text new → AnswersFront ds rules (one ++ two) old (out ++ text) new
+      → AnswersFront ds rules one old out mid → AnswersFront ds rules two mid text new
+          → AnswersFront ds rules (one ++ two) old (out ++ text) new
   fronts_join one two out text old mid new f g more tail a =
       subst (λ i. AnswersAll ds rules (lines i) old ((out ++ text) ++ tail)) (sym (append_assoc one two more))
-      (subst (λ o. AnswersAll ds rules (lines (one ++ (two ++ more))) old o) (sym (append_assoc out text tail)) (f (two ++ more) (text ++ tail) (g more tail a)))
+      (subst (λ o. AnswersAll ds rules (lines (one ++ (two ++ more))) old o) (sym (append_assoc out text tail))
+          (f (two ++ more) (text ++ tail) (g more tail a)))
 
   -- nothing comes after them
-  pub front_is_answered : (front out : List ℕ) (old now : List Operations) → AnswersFront ds rules front old out now → AnswersAll ds rules (lines front) old out
+  pub front_is_answered : (front out : List ℕ) (old now : List Operations) → AnswersFront ds rules front old out now
+      → AnswersAll ds rules (lines front) old out
   front_is_answered front out old now f =
-      subst (λ i. AnswersAll ds rules (lines i) old out) (append-nil front) (subst (λ o. AnswersAll ds rules (lines (front ++ [])) old o) (append-nil out) (f [] [] refl))
+      subst (λ i. AnswersAll ds rules (lines i) old out) (append-nil front)
+          (subst (λ o. AnswersAll ds rules (lines (front ++ [])) old o) (append-nil out) (f [] [] refl))
 
   -- a last line without its line feed
   pub last_is_answered : (front line out text : List ℕ) (old mid new : List Operations) → HasNoFeed line
-      → AnswersFront ds rules front old out mid → AnswersLine ds rules mid (without_return line) [] new text → AnswersAll ds rules (lines (front ++ line)) old (out ++ text)
+      → AnswersFront ds rules front old out mid → AnswersLine ds rules mid (without_return line) []
+          new text → AnswersAll ds rules (lines (front ++ line)) old (out ++ text)
   last_is_answered front line out text old mid new h f g =
-      f line text (subst (λ ls. AnswersAll ds rules ls mid text) (sym (lines_last line h)) (last (is_blank_line (without_return line)) refl g))
+      f line text (subst (λ ls. AnswersAll ds rules ls mid text) (sym (lines_last line h))
+          (last (is_blank_line (without_return line)) refl g))
     where
-      last : (b : Bool) → is_blank_line (without_return line) ≡ b → MatchBool b ((new ≡ mid) × (text ≡ [])) (AddsAnswer ds rules mid (without_return line) [] new text) → AnswersAll ds rules (line ∷ []) mid text
+      last : (b : Bool) → is_blank_line (without_return line) ≡ b → MatchBool b ((new ≡ mid) × (text ≡ []))
+          (AddsAnswer ds rules mid (without_return line) [] new text) → AnswersAll ds rules (line ∷ []) mid text
       last true e k = rw e k.1
       last false e k =
           let first : AnswersFirst ds rules mid (without_return line) text (AnswersAll ds rules []) =
@@ -97,14 +116,20 @@ module _ (ds : List Declaration) (rules : List Rule) where
     pub answers : AnswersFront ds rules front start out now
     pub written : Appends old new out
 
-  pub begins : (line chunk : List ℕ) (start : List Operations) (old : Option (List ℕ)) → HasNoFeed line → SoFar (line ++ chunk) line chunk start start old old
-  begins line chunk start old h = record { front = []; out = []; are = refl; whole = inl refl; unended = h; answers = front_begins start; written = Appends-nil old }
+  pub begins : (line chunk : List ℕ) (start : List Operations) (old : Option (List ℕ)) → HasNoFeed line
+      → SoFar (line ++ chunk) line chunk start start old old
+  begins line chunk start old h = record { front = []; out = []; are = refl; whole = inl refl; unended = h; answers =
+      front_begins start; written = Appends-nil old }
 
-  cut_bytes : (bytes front line end more rest : List ℕ) → bytes ≡ front ++ (line ++ rest) → rest ≡ end ++ 10 ∷ more → bytes ≡ (front ++ ((line ++ end) ++ 10 ∷ [])) ++ more
+  cut_bytes : (bytes front line end more rest : List ℕ) → bytes ≡ front ++ (line ++ rest) → rest ≡ end ++ 10 ∷ more
+      → bytes ≡ (front ++ ((line ++ end) ++ 10 ∷ [])) ++ more
   cut_bytes bytes front line end more rest are is =
-      are ∙ ap (λ r. front ++ (line ++ r)) is ∙ ap (λ r. front ++ r) (sym (append_assoc line end (10 ∷ more))) ∙ sym (ended_more front (line ++ end) more)
+      are ∙ ap (λ r. front ++ (line ++ r)) is ∙ ap (λ r. front ++ r) (sym (append_assoc line end (10 ∷ more)))
+          ∙ sym (ended_more front (line ++ end) more)
 
-  pub answered : (bytes line rest end more : List ℕ) (start mid now : List Operations) (old middle new : Option (List ℕ)) → SoFar bytes line rest start mid old middle → rest ≡ end ++ 10 ∷ more → HasNoFeed end
+  pub answered : (bytes line rest end more : List ℕ) (start mid now : List Operations)
+      (old middle new : Option (List ℕ)) → SoFar bytes line rest start mid old middle → rest ≡ end ++ 10 ∷ more
+      → HasNoFeed end
       → SendsAnswer ds rules (line ++ end) mid now (Appends middle new) → SoFar bytes [] more start now old new
   answered bytes line rest end more start mid now old middle new s is h w =
       let g = none_in_both line end s.unended h in
@@ -118,11 +143,16 @@ module _ (ds : List Declaration) (rules : List Rule) where
         written = Appends-trans old middle new _ _ s.written w.is_written;
       }
 
-  pub chunk_done : (bytes line rest : List ℕ) (start now : List Operations) (old new : Option (List ℕ)) → SoFar bytes line rest start now old new → HasNoFeed rest → AnswersChunk ds rules bytes (line ++ rest) start now old new
-  chunk_done bytes line rest start now old new s h = record { front = s.front; out = s.out; are = s.are; whole = s.whole; unended = none_in_both line rest s.unended h; answers = s.answers; written = s.written }
+  pub chunk_done : (bytes line rest : List ℕ) (start now : List Operations) (old new : Option (List ℕ))
+      → SoFar bytes line rest start now old new → HasNoFeed rest
+      → AnswersChunk ds rules bytes (line ++ rest) start now old new
+  chunk_done bytes line rest start now old new s h = record { front = s.front; out = s.out; are = s.are; whole =
+      s.whole; unended = none_in_both line rest s.unended h; answers = s.answers; written = s.written }
 
-  pub part_done : (bytes line rest : List ℕ) (start now : List Operations) (old new : Option (List ℕ)) → SoFar bytes line rest start now old new → AnswersPart ds rules bytes start old new
-  part_done bytes line rest start now old new s = record { front = s.front; rest = line ++ rest; out = s.out; now = now; are = s.are; answers = s.answers; written = part_of_whole old new _ s.written }
+  pub part_done : (bytes line rest : List ℕ) (start now : List Operations) (old new : Option (List ℕ))
+      → SoFar bytes line rest start now old new → AnswersPart ds rules bytes start old new
+  part_done bytes line rest start now old new s = record { front = s.front; rest = line ++ rest; out = s.out; now = now;
+      are = s.are; answers = s.answers; written = part_of_whole old new _ s.written }
 
   -- ---- answers that are held until they are sent together
 
@@ -131,40 +161,55 @@ module _ (ds : List Declaration) (rules : List Rule) where
       → (text : List ℕ) × AnswersLine ds rules old line [] new text × (after ≡ before ++ text)
   adds line before after old new g = by (is_blank_line line) refl g
     where
-      by : (b : Bool) → is_blank_line line ≡ b → MatchBool b ((new ≡ old) × (after ≡ before)) (AddsAnswer ds rules old line before new after) → (text : List ℕ) × AnswersLine ds rules old line [] new text × (after ≡ before ++ text)
+      by : (b : Bool) → is_blank_line line ≡ b → MatchBool b ((new ≡ old) × (after ≡ before))
+          (AddsAnswer ds rules old line before new after) → (text : List ℕ) × AnswersLine ds rules old line []
+          new text × (after ≡ before ++ text)
       by true e k =
           let none : AnswersLine ds rules old line [] new [] = rw e (k.0, refl) in
           ([], none, k.1 ∙ sym (append-nil before))
       by false e k =
-          let one : AddsAnswer ds rules old line [] new (k.text ++ 10 ∷ []) = record { text = k.text; answers = k.answers; out_is = refl } in
+          let one : AddsAnswer ds rules old line [] new (k.text ++ 10 ∷ []) =
+              record { text = k.text; answers = k.answers; out_is = refl } in
           let some : AnswersLine ds rules old line [] new (k.text ++ 10 ∷ []) = rw e one in
           (k.text ++ 10 ∷ [], some, k.out_is ∙ append_assoc before k.text (10 ∷ []))
 
   -- of the answers so far some were sent, and the others are held
-  pub record Gathers (bytes line rest : List ℕ) (start now : List Operations) (old new : Option (List ℕ)) (holds : List ℕ) : Type 0 where
+  pub record Gathers (bytes line rest : List ℕ) (start now : List Operations) (old new : Option (List ℕ))
+      (holds : List ℕ) : Type 0 where
     pub sent : List ℕ
     pub written : Appends old new sent
     pub so_far : SoFar bytes line rest start now (Some []) (Some (sent ++ holds))
 
-  pub gathers_none : (line chunk : List ℕ) (start : List Operations) (old : Option (List ℕ)) → HasNoFeed line → Gathers (line ++ chunk) line chunk start start old old []
-  gathers_none line chunk start old h = record { sent = []; written = Appends-nil old; so_far = begins line chunk start (Some []) h }
+  pub gathers_none : (line chunk : List ℕ) (start : List Operations) (old : Option (List ℕ)) → HasNoFeed line
+      → Gathers (line ++ chunk) line chunk start start old old []
+  gathers_none line chunk start old h = record { sent = []; written = Appends-nil old; so_far =
+      begins line chunk start (Some []) h }
 
-  pub gathers_one : (bytes line rest end more holds after : List ℕ) (start mid now : List Operations) (old new : Option (List ℕ)) → Gathers bytes line rest start mid old new holds → rest ≡ end ++ 10 ∷ more → HasNoFeed end
-      → AnswersLine ds rules mid (without_return (line ++ end)) holds now after → Gathers bytes [] more start now old new after
+  pub gathers_one : (bytes line rest end more holds after : List ℕ) (start mid now : List Operations)
+      (old new : Option (List ℕ)) → Gathers bytes line rest start mid old new holds → rest ≡ end ++ 10 ∷ more
+      → HasNoFeed end
+      → AnswersLine ds rules mid (without_return (line ++ end)) holds now after → Gathers bytes []
+          more start now old new after
   gathers_one bytes line rest end more holds after start mid now old new s is h g =
       let a = adds (without_return (line ++ end)) holds after mid now g in
       let w : SendsAnswer ds rules (line ++ end) mid now (Appends (Some (s.sent ++ holds)) (Some (s.sent ++ after))) =
-      record { text = a.0; answer = a.1; is_written = ap (λ l. s.sent ++ l) a.2 ∙ sym (append_assoc s.sent holds a.0) } in
-      record { sent = s.sent; written = s.written; so_far = answered bytes line rest end more start mid now (Some []) _ _ s.so_far is h w }
+      record { text = a.0; answer = a.1; is_written = ap (λ l. s.sent ++ l) a.2
+          ∙ sym (append_assoc s.sent holds a.0) } in
+      record { sent = s.sent; written = s.written; so_far =
+          answered bytes line rest end more start mid now (Some []) _ _ s.so_far is h w }
 
-  pub gathered_sent : (bytes line rest holds left : List ℕ) (start now : List Operations) (old middle new : Option (List ℕ)) → Gathers bytes line rest start now old middle holds → SendsSome middle new holds left → Gathers bytes line rest start now old new left
+  pub gathered_sent : (bytes line rest holds left : List ℕ) (start now : List Operations)
+      (old middle new : Option (List ℕ)) → Gathers bytes line rest start now old middle holds
+      → SendsSome middle new holds left → Gathers bytes line rest start now old new left
   gathered_sent bytes line rest holds left start now old middle new s w = record {
     sent = s.sent ++ w.0;
     written = Appends-trans old middle new _ _ s.written w.1;
-    so_far = subst (λ l. SoFar bytes line rest start now (Some []) (Some l)) (ap (λ l. s.sent ++ l) w.2 ∙ sym (append_assoc s.sent w.0 left)) s.so_far;
+    so_far = subst (λ l. SoFar bytes line rest start now (Some []) (Some l))
+        (ap (λ l. s.sent ++ l) w.2 ∙ sym (append_assoc s.sent w.0 left)) s.so_far;
   }
 
-  pub gathered_all : (bytes line rest : List ℕ) (start now : List Operations) (old new : Option (List ℕ)) → Gathers bytes line rest start now old new [] → SoFar bytes line rest start now old new
+  pub gathered_all : (bytes line rest : List ℕ) (start now : List Operations) (old new : Option (List ℕ))
+      → Gathers bytes line rest start now old new [] → SoFar bytes line rest start now old new
   gathered_all bytes line rest start now old new s =
       let f = s.so_far in
       record {
@@ -178,18 +223,25 @@ module _ (ds : List Declaration) (rules : List Rule) where
       }
 
   -- all of it is sent
-  pub gathered_whole : (bytes line rest holds : List ℕ) (start now : List Operations) (old middle new : Option (List ℕ)) → Gathers bytes line rest start now old middle holds → Appends middle new holds → SoFar bytes line rest start now old new
+  pub gathered_whole : (bytes line rest holds : List ℕ) (start now : List Operations) (old middle new : Option (List ℕ))
+      → Gathers bytes line rest start now old middle holds → Appends middle new holds
+      → SoFar bytes line rest start now old new
   gathered_whole bytes line rest holds start now old middle new s w =
-      gathered_all bytes line rest start now old new (gathered_sent bytes line rest holds [] start now old middle new s (holds, w, sym (append-nil holds)))
+      gathered_all bytes line rest start now old new (gathered_sent bytes line rest holds []
+          start now old middle new s (holds, w, sym (append-nil holds)))
 
   -- those that are held are not sent
-  pub part_gathered : (bytes line rest holds : List ℕ) (start now : List Operations) (old new : Option (List ℕ)) → Gathers bytes line rest start now old new holds → AnswersPart ds rules bytes start old new
+  pub part_gathered : (bytes line rest holds : List ℕ) (start now : List Operations) (old new : Option (List ℕ))
+      → Gathers bytes line rest start now old new holds → AnswersPart ds rules bytes start old new
   part_gathered bytes line rest holds start now old new s =
       let f = s.so_far in
-      record { front = f.front; rest = line ++ rest; out = f.out; now = now; are = f.are; answers = f.answers; written = (s.sent, holds, sym f.written, s.written) }
+      record { front = f.front; rest = line ++ rest; out = f.out; now = now; are = f.are; answers = f.answers; written =
+          (s.sent, holds, sym f.written, s.written) }
 
   -- a beginning of those that are held is sent
-  pub part_sent : (bytes line rest holds : List ℕ) (start now : List Operations) (old middle new : Option (List ℕ)) → Gathers bytes line rest start now old middle holds → AppendsPart middle new holds → AnswersPart ds rules bytes start old new
+  pub part_sent : (bytes line rest holds : List ℕ) (start now : List Operations) (old middle new : Option (List ℕ))
+      → Gathers bytes line rest start now old middle holds → AppendsPart middle new holds
+      → AnswersPart ds rules bytes start old new
   part_sent bytes line rest holds start now old middle new s w =
       let f = s.so_far in
       record {

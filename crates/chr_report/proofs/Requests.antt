@@ -20,7 +20,8 @@ use Rattle.chr_report.specs.working.Requests.{AreHeard, Asks, IsHeard}
 use Rattle.chr_report.proofs.Declared.{tell_known, merge_known, spelt_declared, all_spelt_declared}
 
 -- an operation that is spelt with declared names
-pub asks_tell : (p : Program) (r : ℕ) (o : NamedOperation) (op : Operation) → Some op ≡ declared_operation (declarations p) o
+pub asks_tell : (p : Program) (r : ℕ) (o : NamedOperation) (op : Operation) → Some op
+    ≡ declared_operation (declarations p) o
     → Asks p (Ok (tell r o.id.origin o.id.number o.atoms)) (request.Tell r op)
 asks_tell p r o op known = record {
   fits = spelt_declared p o op known;
@@ -35,13 +36,16 @@ refuses_tell p r o unknown = record {
   answers = λ rules old text new h. by old text new h (named_atoms (declarations p) o.atoms) unknown;
 }
   where
-    by : (old : List Operations) (text : List ℕ) (new : List Operations) → AnswersRefusal refusal.UnknownSymbol old text new
-        → (got : Option (List Atom)) → ◌≡◌ {A = Option Operation} None (option_map (λ atoms. (o.id, store_of atoms)) got) → AnswersAtoms old r o.id got text new
+    by : (old : List Operations) (text : List ℕ) (new : List Operations)
+        → AnswersRefusal refusal.UnknownSymbol old text new
+        → (got : Option (List Atom)) → ◌≡◌ {A = Option Operation} None
+            (option_map (λ atoms. (o.id, store_of atoms)) got) → AnswersAtoms old r o.id got text new
     by old text new h None e = h
     by old text new h (Some atoms) e = absurd (none-some _ e)
 
 -- operations that are spelt with declared names
-pub asks_merge : (p : Program) (r : ℕ) (os : List NamedOperation) (ops : Vec Operation Global) → Some ops.items ≡ declared_operations (declarations p) os
+pub asks_merge : (p : Program) (r : ℕ) (os : List NamedOperation) (ops : Vec Operation Global) → Some ops.items
+    ≡ declared_operations (declarations p) os
     → Asks p (Ok (merge r os)) (request.Merge r ops)
 asks_merge p r os ops known = record {
   fits = all_spelt_declared p os ops.items known;
@@ -64,7 +68,8 @@ second_of_each P (x ∷ xs) [] h = absurd h
 second_of_each P (x ∷ xs) (y ∷ ys) h = All-cons P y ys h.0 (second_of_each P xs ys h.1)
 
 -- one more piece that was read
-pub one_piece : (p : Program) (o : Option (Vec Heard Global)) (more : Vec Heard Global) (lines new : List Heard) (all rest : List (Option (Vec Heard Global))) → all ≡ o ∷ rest → o ≡ Some more
+pub one_piece : (p : Program) (o : Option (Vec Heard Global)) (more : Vec Heard Global) (lines new : List Heard)
+    (all rest : List (Option (Vec Heard Global))) → all ≡ o ∷ rest → o ≡ Some more
     → All (IsHeard p) lines → AreHeard p all → new ≡ lines ++ more.items → All (IsHeard p) new × AreHeard p rest
 one_piece p o more lines new all rest split is before are e =
     let read = λ (q : Option (Vec Heard Global)). IfSome q (λ ls. All (IsHeard p) ls.items) in

@@ -22,37 +22,44 @@ use Rattle.chr_worlds.specs.declared.answer.Answer.TheVariants as answer
 use Rattle.chr_report.specs.working.Services.{operations_held, was_stopped}
 use Rattle.chr_report.proofs.Held.{same_held, has_one}
 
-does_settle : (p : Program) (s : Replica) (x : Reply) (t : Replica) → Does p s act.Settle x t → t.operations ≡ s.operations
+does_settle : (p : Program) (s : Replica) (x : Reply) (t : Replica) → Does p s act.Settle x t → t.operations
+    ≡ s.operations
 does_settle p s (reply.Refused r) t d = absurd d.0
 does_settle p s (reply.Settled n) t d = ap (λ r. r.operations) d.0.after
 does_settle p s (reply.Stopped n) t d = ap (λ r. r.operations) d.after
 does_settle p s _ t d = absurd d
 
 -- it holds what it held
-pub settled_held : (p : Program) (w v : Replicas) (r : ℕ) (x : Answer) → Happens p w (event.At r act.Settle) x v → operations_held v ≡ operations_held w
-settled_held p w v r (answer.Replied x) h = same_held w v r h.before h.after h.there h.world (does_settle p h.before x h.after h.changed)
+pub settled_held : (p : Program) (w v : Replicas) (r : ℕ) (x : Answer) → Happens p w (event.At r act.Settle) x v
+    → operations_held v ≡ operations_held w
+settled_held p w v r (answer.Replied x) h = same_held w v r h.before h.after h.there h.world
+    (does_settle p h.before x h.after h.changed)
 settled_held p w v r answer.UnknownSymbol h = absurd h.1
 settled_held p w v r answer.NoReplica h = ap operations_held h.2
 
-does_rest : (p : Program) (s : Replica) (x : Reply) (t : Replica) → was_stopped (answer.Replied x) ≡ false → Does p s act.Settle x t → IsAtRest (Step (rules_of p)) t.pool
+does_rest : (p : Program) (s : Replica) (x : Reply) (t : Replica) → was_stopped (answer.Replied x) ≡ false
+    → Does p s act.Settle x t → IsAtRest (Step (rules_of p)) t.pool
 does_rest p s (reply.Refused r) t went d = absurd d.0
 does_rest p s (reply.Settled n) t went d = d.1
 does_rest p s (reply.Stopped n) t went d = absurd (true≢false went)
 does_rest p s _ t went d = absurd d
 
 -- and is at rest, where it was not stopped
-pub settled_rests : (p : Program) (w v : Replicas) (r : ℕ) (x : Answer) → was_stopped x ≡ false → Happens p w (event.At r act.Settle) x v
+pub settled_rests : (p : Program) (w v : Replicas) (r : ℕ) (x : Answer) → was_stopped x ≡ false
+    → Happens p w (event.At r act.Settle) x v
     → (t : Replica) → IsAt v r t → IsAtRest (Step (rules_of p)) t.pool
 settled_rests p w v r (answer.Replied x) went h t there =
     let e : ◌≡◌ {A = Option Replica} (Some h.after) (Some t) =
-    sym (slice_set_same w (r - 1) h.after (slice_get_within w (r - 1) h.before h.there.1)) ∙ sym (ap (λ l. slice_get l (r - 1)) h.world) ∙ there.1 in
+    sym (slice_set_same w (r - 1) h.after (slice_get_within w (r - 1) h.before h.there.1))
+        ∙ sym (ap (λ l. slice_get l (r - 1)) h.world) ∙ there.1 in
     let same : h.after ≡ t = cc in
     subst (λ u. IsAtRest (Step (rules_of p)) u.pool) same (does_rest p h.before x h.after went h.changed)
 settled_rests p w v r answer.UnknownSymbol went h t there = absurd h.1
 settled_rests p w v r answer.NoReplica went h t there = absurd (h.0 (has_one w r t (subst (λ u. IsAt u r t) h.2 there)))
 
 -- the replicas that a run has after it
-pub rested : (w v u : Shared) (r : ℕ) (x : Answer) → was_stopped x ≡ false → v.accepted ≡ w.accepted → Happens (shared_program w) w.replicas (event.At r act.Settle) x v.replicas → u ≡ v
+pub rested : (w v u : Shared) (r : ℕ) (x : Answer) → was_stopped x ≡ false → v.accepted ≡ w.accepted
+    → Happens (shared_program w) w.replicas (event.At r act.Settle) x v.replicas → u ≡ v
     → (t : Replica) → IsAt u.replicas r t → IsAtRest (Step (rules_of (shared_program u))) t.pool
 rested w v u r x went same h e =
     subst (λ z. (t : Replica) → IsAt z.replicas r t → IsAtRest (Step (rules_of (shared_program z))) t.pool) (sym e)

@@ -1,13 +1,15 @@
 -- What is held of a line that has not ended, and the answers of the lines that it stands for.
 use mathlib.Core.Bool.{true≢false}
-use Rattle.std.proofs.Common.{◌≡◌, ℕ, suc, ◌+◌, ◌-◌, ◌<◌, ◌⊎◌, Bool, true, false, List, [], ◌∷◌, ◌++◌, length, take, drop, refl, sym, ap, ◌∙◌, arith, append_assoc, append-nil, length-append, subst, inl, inr}
+use Rattle.std.proofs.Common.{◌≡◌, ℕ, suc, ◌+◌, ◌-◌, ◌<◌, ◌⊎◌, Bool, true, false, List, [], ◌∷◌, ◌++◌, length, take}
+use Rattle.std.proofs.Common.{drop, refl, sym, ap, ◌∙◌, arith, append_assoc, append-nil, length-append, subst, inl, inr}
 use Rattle.std.specs.Prelude.{◌==◌, ◌&&◌, ◌||◌, nat_eq, slice_index_or, slice_set, ◌≤◌, if◌then◌else◌, Option, Err}
 use Rattle.std.specs.Bool.{MatchBool}
 use Rattle.std.specs.Cmp.Lexicographic.{pointwise}
 use Rattle.std.specs.Io.KnownBytes.{Consumes}
 use Rattle.std.proofs.KnownBytes.{Consumes-trans}
 use Rattle.std.proofs.lemmas.Bool.{eqb-true, lt-leb}
-use Rattle.std.proofs.lemmas.List.{get_or-drop, length-drop, length-take-le, take-append-drop, take_all, take_more, take_more_set}
+use Rattle.std.proofs.lemmas.List.{get_or-drop, length-drop, length-take-le, take-append-drop, take_all, take_more}
+use Rattle.std.proofs.lemmas.List.{take_more_set}
 use Rattle.std.proofs.lemmas.List.Folds.{list_all-append}
 use Rattle.chr_base.specs.declared.rule.Rule.{Rule}
 use Rattle.chr_base.specs.ProgramTests.{Declaration}
@@ -24,7 +26,8 @@ use Rattle.chr_report.specs.Answers.{AnswersAll, AnswersFirst, AnswersRead}
 use Rattle.chr_report.specs.OneText.{AnswersExist}
 use Rattle.chr_report.specs.Served.{HasNoFeed}
 use Rattle.chr_report.specs.working.Answered.{AnswersLine, AddsAnswer}
-use Rattle.chr_report.specs.working.Serving.{AnswersFront, AnswersChunk, AnswersPart, AnswersFrontRead, AnswersInput, IsCut, SendsAnswer}
+use Rattle.chr_report.specs.working.Serving.{AnswersFront, AnswersChunk, AnswersPart, AnswersFrontRead, AnswersInput}
+use Rattle.chr_report.specs.working.Serving.{IsCut, SendsAnswer}
 use Rattle.chr_report.specs.working.Shortened.{AreAlike, StandsFor}
 use Rattle.chr_report.proofs.Feeds.{ended_more, lines_last, lines_more, none_in_both, whole_ended}
 use Rattle.chr_report.proofs.Pieces.{part_after, part_of_more}
@@ -40,8 +43,10 @@ stands_after a b c f g rest = ((f rest).0 ∙ (g rest).0, (f rest).1 ∙ (g rest
 
 pub stands_more : (cut whole more : List ℕ) → StandsFor cut whole → StandsFor (cut ++ more) (whole ++ more)
 stands_more cut whole more f rest =
-    subst (λ a. AreAlike (without_return a) (without_return ((whole ++ more) ++ rest))) (sym (append_assoc cut more rest))
-    (subst (λ b. AreAlike (without_return (cut ++ (more ++ rest))) (without_return b)) (sym (append_assoc whole more rest)) (f (more ++ rest)))
+    subst (λ a. AreAlike (without_return a) (without_return ((whole ++ more) ++ rest)))
+        (sym (append_assoc cut more rest))
+    (subst (λ b. AreAlike (without_return (cut ++ (more ++ rest))) (without_return b))
+        (sym (append_assoc whole more rest)) (f (more ++ rest)))
 
 -- the line ends here
 pub stands_now : (cut whole : List ℕ) → StandsFor cut whole → AreAlike (without_return cut) (without_return whole)
@@ -69,16 +74,20 @@ return_later [] b c = refl
 return_later (x ∷ []) b c = return_next x b c
 return_later (x ∷ y ∷ ys) b c = return_next x y (ys ++ b ∷ c) ∙ ap (λ l. x ∷ l) (return_later (y ∷ ys) b c)
 
-blank_after : (a : List ℕ) (b : ℕ) (c : List ℕ) → is_blank_line (without_return (a ++ b ∷ c)) ≡ (is_blank_line a && is_blank_line (without_return (b ∷ c)))
-blank_after a b c = ap is_blank_line (return_later a b c) ∙ list_all-append (λ b. b == 32 || b == 9) a (without_return (b ∷ c))
+blank_after : (a : List ℕ) (b : ℕ) (c : List ℕ) → is_blank_line (without_return (a ++ b ∷ c))
+    ≡ (is_blank_line a && is_blank_line (without_return (b ∷ c)))
+blank_after a b c = ap is_blank_line (return_later a b c) ∙ list_all-append (λ b. b == 32 || b == 9) a
+    (without_return (b ∷ c))
 
 too_long : (a b : List ℕ) → MAX_LINE < length a → has_line_length (a ++ b) ≡ false
 too_long a b l = lt-leb (length (a ++ b)) MAX_LINE (simp length-append (omega (arith, l)))
 
-long_after : (a : List ℕ) (b : ℕ) (c : List ℕ) → MAX_LINE < length a → line_said (without_return (a ++ b ∷ c)) ≡ Err fault.BadLine
+long_after : (a : List ℕ) (b : ℕ) (c : List ℕ) → MAX_LINE < length a → line_said (without_return (a ++ b ∷ c))
+    ≡ Err fault.BadLine
 long_after a b c l =
     ap line_said (return_later a b c)
-    ∙ ap (λ h. if h then value_said (json_in (a ++ without_return (b ∷ c))) else Err fault.BadLine) (too_long a (without_return (b ∷ c)) l)
+    ∙ ap (λ h. if h then value_said (json_in (a ++ without_return (b ∷ c))) else Err fault.BadLine)
+        (too_long a (without_return (b ∷ c)) l)
 
 not_blank : (c : List ℕ) → is_blank_line (without_return (120 ∷ c)) ≡ false
 not_blank [] = refl
@@ -91,20 +100,25 @@ blank_both false m k l f g = refl
 
 -- After more bytes than a line may have, those up to the last one are left out: one that is not blank stands for them
 -- where they are not.
-pub cut_stands : (head mid : List ℕ) (last kept : ℕ) → MAX_LINE < length head → (is_blank_line mid ≡ true → kept ≡ last) → (is_blank_line mid ≡ false → kept ≡ 120)
+pub cut_stands : (head mid : List ℕ) (last kept : ℕ) → MAX_LINE < length head → (is_blank_line mid ≡ true → kept ≡ last)
+    → (is_blank_line mid ≡ false → kept ≡ 120)
     → StandsFor (head ++ kept ∷ []) (head ++ (mid ++ last ∷ []))
 cut_stands head mid last kept long same marked rest =
     let cut : (head ++ kept ∷ []) ++ rest ≡ head ++ kept ∷ rest = append_assoc head (kept ∷ []) rest in
     let whole : (head ++ (mid ++ last ∷ [])) ++ rest ≡ (head ++ mid) ++ last ∷ rest =
-    append_assoc head (mid ++ last ∷ []) rest ∙ ap (λ l. head ++ l) (append_assoc mid (last ∷ []) rest) ∙ sym (append_assoc head mid (last ∷ rest)) in
+    append_assoc head (mid ++ last ∷ []) rest ∙ ap (λ l. head ++ l) (append_assoc mid (last ∷ []) rest)
+        ∙ sym (append_assoc head mid (last ∷ rest)) in
     let both : MAX_LINE < length (head ++ mid) = simp length-append (omega (arith, long)) in
-    let blank = blank_both (is_blank_line head) (is_blank_line mid) (is_blank_line (without_return (kept ∷ rest))) (is_blank_line (without_return (last ∷ rest)))
+    let blank = blank_both (is_blank_line head) (is_blank_line mid) (is_blank_line (without_return (kept ∷ rest)))
+        (is_blank_line (without_return (last ∷ rest)))
     (λ e. ap (λ k. is_blank_line (without_return (k ∷ rest))) (same e))
     (λ e. ap (λ k. is_blank_line (without_return (k ∷ rest))) (marked e) ∙ not_blank rest) in (
       ap (λ l. is_blank_line (without_return l)) cut ∙ blank_after head kept rest ∙ blank
-          ∙ ap (λ b. b && is_blank_line (without_return (last ∷ rest))) (sym (list_all-append (λ b. b == 32 || b == 9) head mid))
+          ∙ ap (λ b. b && is_blank_line (without_return (last ∷ rest)))
+              (sym (list_all-append (λ b. b == 32 || b == 9) head mid))
           ∙ sym (blank_after (head ++ mid) last rest) ∙ sym (ap (λ l. is_blank_line (without_return l)) whole),
-      ap (λ l. line_said (without_return l)) cut ∙ long_after head kept rest long ∙ sym (long_after (head ++ mid) last rest both) ∙ sym (ap (λ l. line_said (without_return l)) whole),
+      ap (λ l. line_said (without_return l)) cut ∙ long_after head kept rest long
+          ∙ sym (long_after (head ++ mid) last rest both) ∙ sym (ap (λ l. line_said (without_return l)) whole),
     )
 
 abbrev pub between : List ℕ → ℕ → List ℕ
@@ -123,14 +137,18 @@ line_parts line n l =
     let all : length rest ≤ k + 1 = omega (arith, l, len) in
     let place : n + k ≡ length line - 1 = omega (arith, l) in
     sym (take-append-drop n line)
-    ∙ ap (λ r. take n line ++ r) (sym (take_all (k + 1) rest all) ∙ take_more rest k 0 within ∙ ap (λ b. take k rest ++ b ∷ []) (get_or-drop n line k 0 ∙ ap (λ i. slice_index_or line i 0) place))
+    ∙ ap (λ r. take n line ++ r) (sym (take_all (k + 1) rest all) ∙ take_more rest k 0 within
+        ∙ ap (λ b. take k rest ++ b ∷ []) (get_or-drop n line k 0 ∙ ap (λ i. slice_index_or line i 0) place))
 
-pub shortened : (line : List ℕ) (n kept : ℕ) → MAX_LINE < n → n + 1 < length line → (is_blank_line (between line n) ≡ true → kept ≡ last_of line) → (is_blank_line (between line n) ≡ false → kept ≡ 120)
+pub shortened : (line : List ℕ) (n kept : ℕ) → MAX_LINE < n → n + 1 < length line
+    → (is_blank_line (between line n) ≡ true → kept ≡ last_of line)
+    → (is_blank_line (between line n) ≡ false → kept ≡ 120)
     → StandsFor (take (n + 1) (slice_set line n kept)) line
 shortened line n kept long l same marked =
     let len : length (take n line) ≡ n = length-take-le n line (omega (arith, l)) in
     subst (λ cut. StandsFor cut line) (sym (take_more_set line n kept (omega (arith, l))))
-    (subst (StandsFor (take n line ++ kept ∷ [])) (sym (line_parts line n l)) (cut_stands (take n line) (between line n) (last_of line) kept (omega (arith, long, len)) same marked))
+    (subst (StandsFor (take n line ++ kept ∷ [])) (sym (line_parts line n l))
+        (cut_stands (take n line) (between line n) (last_of line) kept (omega (arith, long, len)) same marked))
 
 -- ---- a line feed, if any
 
@@ -146,9 +164,11 @@ feed_or_none (b ∷ bs) = by (b == 10) refl (feed_or_none bs)
     by false e (inl h) = inl (e, h)
     by false e (inr f) = inr (b ∷ f.0, f.1, ap (λ l. b ∷ l) f.2, (e, f.3))
 
-first_line : (line rest end more : List ℕ) → HasNoFeed line → HasNoFeed end → rest ≡ end ++ 10 ∷ more → lines (line ++ rest) ≡ (line ++ end) ∷ lines more
+first_line : (line rest end more : List ℕ) → HasNoFeed line → HasNoFeed end → rest ≡ end ++ 10 ∷ more
+    → lines (line ++ rest) ≡ (line ++ end) ∷ lines more
 first_line line rest end more h g e =
-    ap (λ r. lines (line ++ r)) e ∙ ap lines (sym (append_assoc line end (10 ∷ more))) ∙ lines_more (line ++ end) more (none_in_both line end h g)
+    ap (λ r. lines (line ++ r)) e ∙ ap lines (sym (append_assoc line end (10 ∷ more)))
+        ∙ lines_more (line ++ end) more (none_in_both line end h g)
 
 none_in_second : (l m : List ℕ) → HasNoFeed (l ++ m) → HasNoFeed m
 none_in_second [] m h = h
@@ -158,21 +178,27 @@ none_in_first : (l m : List ℕ) → HasNoFeed (l ++ m) → HasNoFeed l
 none_in_first [] m h = tt
 none_in_first (b ∷ bs) m h = (h.0, none_in_first bs m h.1)
 
-pub shortened_none : (line : List ℕ) (n kept : ℕ) → n + 1 < length line → HasNoFeed line → (kept ≡ last_of line) ⊎ (kept ≡ 120) → HasNoFeed (take (n + 1) (slice_set line n kept))
+pub shortened_none : (line : List ℕ) (n kept : ℕ) → n + 1 < length line → HasNoFeed line → (kept ≡ last_of line)
+    ⊎ (kept ≡ 120) → HasNoFeed (take (n + 1) (slice_set line n kept))
 shortened_none line n kept l h which =
-    let parts : HasNoFeed (take n line ++ (between line n ++ last_of line ∷ [])) = subst HasNoFeed (line_parts line n l) h in
-    let last = none_in_second (between line n) (last_of line ∷ []) (none_in_second (take n line) (between line n ++ last_of line ∷ []) parts) in
+    let parts : HasNoFeed (take n line ++ (between line n ++ last_of line ∷ [])) =
+        subst HasNoFeed (line_parts line n l) h in
+    let last = none_in_second (between line n) (last_of line ∷ [])
+        (none_in_second (take n line) (between line n ++ last_of line ∷ []) parts) in
     subst HasNoFeed (sym (take_more_set line n kept (omega (arith, l))))
-    (none_in_both (take n line) (kept ∷ []) (none_in_first (take n line) (between line n ++ last_of line ∷ []) parts) (by which last.0, tt))
+    (none_in_both (take n line) (kept ∷ []) (none_in_first (take n line) (between line n ++ last_of line ∷ []) parts)
+        (by which last.0, tt))
   where
     by : (kept ≡ last_of line) ⊎ (kept ≡ 120) → (last_of line == 10) ≡ false → (kept == 10) ≡ false
     by (inl e) f = ap (λ b. b == 10) e ∙ f
     by (inr e) f = ap (λ b. b == 10) e
 
 -- what ends with a line feed and begins as a line without one goes on after it
-feed_later : (line chunk bytes left : List ℕ) → HasNoFeed line → line ++ chunk ≡ bytes ++ 10 ∷ left → (more : List ℕ) × (bytes ≡ line ++ more) × (chunk ≡ more ++ 10 ∷ left)
+feed_later : (line chunk bytes left : List ℕ) → HasNoFeed line → line ++ chunk ≡ bytes ++ 10 ∷ left → (more : List ℕ)
+    × (bytes ≡ line ++ more) × (chunk ≡ more ++ 10 ∷ left)
 feed_later [] chunk bytes left h e = (bytes, refl, e)
-feed_later (x ∷ xs) chunk [] left h e = let same : x ≡ 10 = cc in absurd (true≢false (ap (λ y. y == 10) (sym same) ∙ h.0))
+feed_later (x ∷ xs) chunk [] left h e = let same : x ≡ 10 = cc in
+    absurd (true≢false (ap (λ y. y == 10) (sym same) ∙ h.0))
 feed_later (x ∷ xs) chunk (b ∷ bs) left h e =
     let same : x ≡ b = cc in
     let tails : xs ++ chunk ≡ bs ++ 10 ∷ left = cc in
@@ -186,30 +212,42 @@ match_bool P Q R true b e f h = subst (λ c. MatchBool c P R) e h
 match_bool P Q R false b e f h = subst (λ c. MatchBool c P R) e (f h)
 
 module _ (ds : List Declaration) (rules : List Rule) where
-  line_for : (a b before after : List ℕ) (old new : List Operations) → AreAlike a b → AnswersLine ds rules old a before new after → AnswersLine ds rules old b before new after
+  line_for : (a b before after : List ℕ) (old new : List Operations) → AreAlike a b
+      → AnswersLine ds rules old a before new after → AnswersLine ds rules old b before new after
   line_for a b before after old new alike =
       match_bool _ _ _ (is_blank_line a) (is_blank_line b) alike.0
-      (λ k. let h : AddsAnswer ds rules old b before new after = record { text = k.text; answers = subst (λ s. AnswersRead ds rules old s k.text new) alike.1 k.answers; out_is = k.out_is } in h)
+      (λ k. let h : AddsAnswer ds rules old b before new after =
+          record { text = k.text; answers = subst (λ s. AnswersRead ds rules old s k.text new) alike.1 k.answers;
+          out_is = k.out_is } in h)
 
   -- the answer of the line that is held is that of the line that was read
-  pub sends_for : (cut whole : List ℕ) (old now : List Operations) (IsWritten : List ℕ → Type 0) → StandsFor cut whole → SendsAnswer ds rules cut old now IsWritten → SendsAnswer ds rules whole old now IsWritten
+  pub sends_for : (cut whole : List ℕ) (old now : List Operations) (IsWritten : List ℕ → Type 0) → StandsFor cut whole
+      → SendsAnswer ds rules cut old now IsWritten → SendsAnswer ds rules whole old now IsWritten
   sends_for cut whole old now IsWritten stands s =
-      record { text = s.text; answer = line_for (without_return cut) (without_return whole) [] s.text old now (stands_now cut whole stands) s.answer; is_written = s.is_written }
+      record { text = s.text; answer = line_for (without_return cut) (without_return whole) []
+          s.text old now (stands_now cut whole stands) s.answer; is_written = s.is_written }
 
-  pub cut_for : (cut whole : List ℕ) (old : List Operations) (before after : Option (List ℕ)) → StandsFor cut whole → IsCut ds rules cut old before after → IsCut ds rules whole old before after
+  pub cut_for : (cut whole : List ℕ) (old : List Operations) (before after : Option (List ℕ)) → StandsFor cut whole
+      → IsCut ds rules cut old before after → IsCut ds rules whole old before after
   cut_for cut whole old before after stands (inl w) = inl w
-  cut_for cut whole old before after stands (inr (now, s)) = inr (now, sends_for cut whole old now (AppendsPart before after) stands s)
+  cut_for cut whole old before after stands (inr (now, s)) =
+      inr (now, sends_for cut whole old now (AppendsPart before after) stands s)
 
-  first_for : (a b : List ℕ) (ls : List (List ℕ)) (old : List Operations) (out : List ℕ) → AreAlike (without_return a) (without_return b) → AnswersAll ds rules (a ∷ ls) old out → AnswersAll ds rules (b ∷ ls) old out
+  first_for : (a b : List ℕ) (ls : List (List ℕ)) (old : List Operations) (out : List ℕ)
+      → AreAlike (without_return a) (without_return b) → AnswersAll ds rules (a ∷ ls) old out
+      → AnswersAll ds rules (b ∷ ls) old out
   first_for a b ls old out alike =
       match_bool _ _ _ (is_blank_line (without_return a)) (is_blank_line (without_return b)) alike.0
       (λ k.
       let h : AnswersFirst ds rules old (without_return b) out (AnswersAll ds rules ls) =
-      record { text = k.text; new = k.new; rest = k.rest; answers = subst (λ s. AnswersRead ds rules old s k.text k.new) alike.1 k.answers; more = k.more; out_is = k.out_is } in
+      record { text = k.text; new = k.new; rest = k.rest; answers =
+          subst (λ s. AnswersRead ds rules old s k.text k.new) alike.1 k.answers; more = k.more; out_is = k.out_is } in
       h)
 
   -- and so are the answers of whatever it goes on with
-  all_for : (cut whole rest : List ℕ) (old : List Operations) (out : List ℕ) → HasNoFeed cut → HasNoFeed whole → StandsFor cut whole → AnswersAll ds rules (lines (cut ++ rest)) old out → AnswersAll ds rules (lines (whole ++ rest)) old out
+  all_for : (cut whole rest : List ℕ) (old : List Operations) (out : List ℕ) → HasNoFeed cut → HasNoFeed whole
+      → StandsFor cut whole → AnswersAll ds rules (lines (cut ++ rest)) old out
+      → AnswersAll ds rules (lines (whole ++ rest)) old out
   all_for cut whole rest old out h g stands a = by (feed_or_none rest)
     where
       by : HasNoFeed rest ⊎ HasFeed rest → AnswersAll ds rules (lines (whole ++ rest)) old out
@@ -219,22 +257,27 @@ module _ (ds : List Declaration) (rules : List Rule) where
           (subst (λ ls. AnswersAll ds rules ls old out) (lines_last (cut ++ rest) (none_in_both cut rest h n)) a))
       by (inr f) =
           subst (λ ls. AnswersAll ds rules ls old out) (sym (first_line whole rest f.0 f.1 g f.3 f.2))
-          (first_for (cut ++ f.0) (whole ++ f.0) (lines f.1) old out (stands_now (cut ++ f.0) (whole ++ f.0) (stands_more cut whole f.0 stands))
+          (first_for (cut ++ f.0) (whole ++ f.0) (lines f.1) old out
+              (stands_now (cut ++ f.0) (whole ++ f.0) (stands_more cut whole f.0 stands))
           (subst (λ ls. AnswersAll ds rules ls old out) (first_line cut rest f.0 f.1 h f.3 f.2) a))
 
   -- ---- a conversation of which the line that has not ended may be cut
 
-  pub record HoldsRead (first : List ℕ) (from to : Option (List ℕ)) (line : List ℕ) (old now : List Operations) (before after : Option (List ℕ)) : Type 0 where
+  pub record HoldsRead (first : List ℕ) (from to : Option (List ℕ)) (line : List ℕ) (old now : List Operations)
+      (before after : Option (List ℕ)) : Type 0 where
     pub whole : List ℕ
     pub stands : StandsFor line whole
     pub unended : HasNoFeed line
     pub read : AnswersFrontRead ds rules first from to whole old now before after
 
   abbrev HoldsChunk : List ℕ → List ℕ → List Operations → List Operations → Option (List ℕ) → Option (List ℕ) → Type 0
-  HoldsChunk bytes left old now before after = (whole : List ℕ) × StandsFor left whole × AnswersChunk ds rules bytes whole old now before after
+  HoldsChunk bytes left old now before after = (whole : List ℕ) × StandsFor left whole
+      × AnswersChunk ds rules bytes whole old now before after
 
-  none_ended : (cut whole chunk left : List ℕ) (old now : List Operations) (before after : Option (List ℕ)) → HasNoFeed whole → StandsFor cut whole
-      → (a : AnswersChunk ds rules (cut ++ chunk) left old now before after) → a.front ≡ [] → HoldsChunk (whole ++ chunk) left old now before after
+  none_ended : (cut whole chunk left : List ℕ) (old now : List Operations) (before after : Option (List ℕ))
+      → HasNoFeed whole → StandsFor cut whole
+      → (a : AnswersChunk ds rules (cut ++ chunk) left old now before after) → a.front ≡ []
+          → HoldsChunk (whole ++ chunk) left old now before after
   none_ended cut whole chunk left old now before after g stands a e =
       let are : cut ++ chunk ≡ left = a.are ∙ ap (λ f. f ++ left) e in
       let c : AnswersChunk ds rules (whole ++ chunk) (whole ++ chunk) old now before after =
@@ -249,8 +292,10 @@ module _ (ds : List Declaration) (rules : List Rule) where
       } in
       (whole ++ chunk, subst (λ l. StandsFor l (whole ++ chunk)) are (stands_more cut whole chunk stands), c)
 
-  one_ended : (cut whole chunk left bytes : List ℕ) (old now : List Operations) (before after : Option (List ℕ)) → HasNoFeed cut → HasNoFeed whole → StandsFor cut whole
-      → (a : AnswersChunk ds rules (cut ++ chunk) left old now before after) → a.front ≡ bytes ++ 10 ∷ [] → HoldsChunk (whole ++ chunk) left old now before after
+  one_ended : (cut whole chunk left bytes : List ℕ) (old now : List Operations) (before after : Option (List ℕ))
+      → HasNoFeed cut → HasNoFeed whole → StandsFor cut whole
+      → (a : AnswersChunk ds rules (cut ++ chunk) left old now before after) → a.front ≡ bytes ++ 10 ∷ []
+          → HoldsChunk (whole ++ chunk) left old now before after
   one_ended cut whole chunk left bytes old now before after h g stands a e =
       let f = feed_later cut chunk bytes left h (a.are ∙ ap (λ l. l ++ left) e ∙ append_assoc bytes (10 ∷ []) left) in
       let c : AnswersChunk ds rules (whole ++ chunk) left old now before after =
@@ -261,7 +306,8 @@ module _ (ds : List Declaration) (rules : List Rule) where
         whole = whole_ended whole f.0;
         unended = a.unended;
         answers = λ more tail t.
-            let front : a.front ++ more ≡ cut ++ (f.0 ++ 10 ∷ more) = ap (λ l. l ++ more) e ∙ append_assoc bytes (10 ∷ []) more ∙ ap (λ l. l ++ 10 ∷ more) f.1 ∙ append_assoc cut f.0 (10 ∷ more) in
+            let front : a.front ++ more ≡ cut ++ (f.0 ++ 10 ∷ more) = ap (λ l. l ++ more) e
+                ∙ append_assoc bytes (10 ∷ []) more ∙ ap (λ l. l ++ 10 ∷ more) f.1 ∙ append_assoc cut f.0 (10 ∷ more) in
             subst (λ l. AnswersAll ds rules (lines l) old (a.out ++ tail)) (sym (ended_more whole f.0 more))
             (all_for cut whole (f.0 ++ 10 ∷ more) old (a.out ++ tail) h g stands
             (subst (λ l. AnswersAll ds rules (lines l) old (a.out ++ tail)) front (a.answers more tail t)));
@@ -269,21 +315,30 @@ module _ (ds : List Declaration) (rules : List Rule) where
       } in
       (left, stands_itself left, c)
 
-  chunk_for : (cut whole chunk left : List ℕ) (old now : List Operations) (before after : Option (List ℕ)) → HasNoFeed cut → HasNoFeed whole → StandsFor cut whole
-      → AnswersChunk ds rules (cut ++ chunk) left old now before after → HoldsChunk (whole ++ chunk) left old now before after
+  chunk_for : (cut whole chunk left : List ℕ) (old now : List Operations) (before after : Option (List ℕ))
+      → HasNoFeed cut → HasNoFeed whole → StandsFor cut whole
+      → AnswersChunk ds rules (cut ++ chunk) left old now before after
+          → HoldsChunk (whole ++ chunk) left old now before after
   chunk_for cut whole chunk left old now before after h g stands a = by a.whole
     where
-      by : (a.front ≡ []) ⊎ ((bytes : List ℕ) × (a.front ≡ bytes ++ 10 ∷ [])) → HoldsChunk (whole ++ chunk) left old now before after
+      by : (a.front ≡ []) ⊎ ((bytes : List ℕ) × (a.front ≡ bytes ++ 10 ∷ []))
+          → HoldsChunk (whole ++ chunk) left old now before after
       by (inl e) = none_ended cut whole chunk left old now before after g stands a e
       by (inr (bytes, e)) = one_ended cut whole chunk left bytes old now before after h g stands a e
 
   -- the bytes that were read first
-  pub holds_first : (first left : List ℕ) (from : Option (List ℕ)) (start now : List Operations) (old new : Option (List ℕ)) → AnswersChunk ds rules first left start now old new → HoldsRead first from from left start now old new
-  holds_first first left from start now old new a = record { whole = left; stands = stands_itself left; unended = a.unended; read = starts ds rules first left from start now old new a }
+  pub holds_first : (first left : List ℕ) (from : Option (List ℕ)) (start now : List Operations)
+      (old new : Option (List ℕ)) → AnswersChunk ds rules first left start now old new
+      → HoldsRead first from from left start now old new
+  holds_first first left from start now old new a = record { whole = left; stands = stands_itself left; unended =
+      a.unended; read = starts ds rules first left from start now old new a }
 
   -- more of them, after which the line that is left is cut
-  pub holds_more : (first chunk line left cut : List ℕ) (from to next : Option (List ℕ)) (start mid now : List Operations) (old middle new : Option (List ℕ)) → HoldsRead first from to line start mid old middle → Consumes to next chunk
-      → AnswersChunk ds rules (line ++ chunk) left mid now middle new → StandsFor cut left → HasNoFeed cut → HoldsRead first from next cut start now old new
+  pub holds_more : (first chunk line left cut : List ℕ) (from to next : Option (List ℕ))
+      (start mid now : List Operations) (old middle new : Option (List ℕ))
+      → HoldsRead first from to line start mid old middle → Consumes to next chunk
+      → AnswersChunk ds rules (line ++ chunk) left mid now middle new → StandsFor cut left → HasNoFeed cut
+          → HoldsRead first from next cut start now old new
   holds_more first chunk line left cut from to next start mid now old middle new s c a stands unended =
       let held = chunk_for line s.whole chunk left mid now middle new s.unended s.read.chunk.unended s.stands a in
       record {
@@ -294,23 +349,30 @@ module _ (ds : List Declaration) (rules : List Rule) where
       }
 
   -- a chunk that was answered in part
-  pub holds_part : AnswersExist → AreLowering (weight_by ds) rules → (first chunk line : List ℕ) (from to next : Option (List ℕ)) (start mid : List Operations) (old middle new : Option (List ℕ)) → HoldsRead first from to line start mid old middle
-      → Consumes to next chunk → AnswersPart ds rules (line ++ chunk) mid middle new → AnswersInput ds rules first from start (AppendsPart old new)
+  pub holds_part : AnswersExist → AreLowering (weight_by ds) rules
+      → (first chunk line : List ℕ) (from to next : Option (List ℕ)) (start mid : List Operations)
+      (old middle new : Option (List ℕ)) → HoldsRead first from to line start mid old middle
+      → Consumes to next chunk → AnswersPart ds rules (line ++ chunk) mid middle new
+          → AnswersInput ds rules first from start (AppendsPart old new)
   holds_part exist lowers first chunk line from to next start mid old middle new s c a =
       let r = s.read in
       let left = some_left from next (r.bytes ++ chunk) (Consumes-trans from to next _ _ r.read c) in
       let tail = exist ds rules lowers (lines (a.rest ++ left.0)) a.now in
-      let parts : a.front ++ (a.rest ++ left.0) ≡ line ++ (chunk ++ left.0) = sym (append_assoc a.front a.rest left.0) ∙ ap (λ b. b ++ left.0) (sym a.are) ∙ append_assoc line chunk left.0 in
+      let parts : a.front ++ (a.rest ++ left.0) ≡ line ++ (chunk ++ left.0) = sym (append_assoc a.front a.rest left.0)
+          ∙ ap (λ b. b ++ left.0) (sym a.are) ∙ append_assoc line chunk left.0 in
       let all : first ++ ((r.bytes ++ chunk) ++ left.0) ≡ r.chunk.front ++ (s.whole ++ (chunk ++ left.0)) =
-      ap (λ b. first ++ b) (append_assoc r.bytes chunk left.0) ∙ sym (append_assoc first r.bytes (chunk ++ left.0)) ∙ ap (λ b. b ++ (chunk ++ left.0)) r.chunk.are
+      ap (λ b. first ++ b) (append_assoc r.bytes chunk left.0) ∙ sym (append_assoc first r.bytes (chunk ++ left.0))
+          ∙ ap (λ b. b ++ (chunk ++ left.0)) r.chunk.are
       ∙ append_assoc r.chunk.front s.whole (chunk ++ left.0) in
       let later : AnswersAll ds rules (lines (s.whole ++ (chunk ++ left.0))) mid (a.out ++ tail.0) =
       all_for line s.whole (chunk ++ left.0) mid (a.out ++ tail.0) s.unended r.chunk.unended s.stands
-      (subst (λ b. AnswersAll ds rules (lines b) mid (a.out ++ tail.0)) parts (a.answers (a.rest ++ left.0) tail.0 tail.1)) in
+      (subst (λ b. AnswersAll ds rules (lines b) mid (a.out ++ tail.0)) parts
+          (a.answers (a.rest ++ left.0) tail.0 tail.1)) in
       record {
         input = (r.bytes ++ chunk) ++ left.0;
         is_read = left.1;
         answers = r.chunk.out ++ (a.out ++ tail.0);
-        answered = subst (λ b. AnswersAll ds rules (lines b) start (r.chunk.out ++ (a.out ++ tail.0))) (sym all) (r.chunk.answers (s.whole ++ (chunk ++ left.0)) (a.out ++ tail.0) later);
+        answered = subst (λ b. AnswersAll ds rules (lines b) start (r.chunk.out ++ (a.out ++ tail.0))) (sym all)
+            (r.chunk.answers (s.whole ++ (chunk ++ left.0)) (a.out ++ tail.0) later);
         is_written = part_after old middle new _ _ r.chunk.written (part_of_more middle new a.out tail.0 a.written);
       }

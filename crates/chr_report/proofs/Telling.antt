@@ -35,12 +35,14 @@ new_unheld : (m : Operations) (op : Operation) → IsNew m op → ¬ IsHeld m op
 new_unheld m op new held = none-some op.1 (sym new ∙ held)
 
 no_other : (x : Option Store) (s : Store) → x ≡ None → ¬ (IsSomeAnd x (λ t. t ≢ s))
-no_other x s e h = let k : IsSomeAnd {T = Store} None (λ t. t ≢ s) = subst (λ y. IsSomeAnd y (λ t. t ≢ s)) e h in absurd k
+no_other x s e h = let k : IsSomeAnd {T = Store} None (λ t. t ≢ s) = subst (λ y. IsSomeAnd y (λ t. t ≢ s)) e h in
+    absurd k
 
 no_same : (x : Option Store) (s : Store) → x ≡ Some s → ¬ (IsSomeAnd x (λ t. t ≢ s))
 no_same x s e h = let k : IsSomeAnd (Some s) (λ t. t ≢ s) = subst (λ y. IsSomeAnd y (λ t. t ≢ s)) e h in k refl
 
-clash_told : (op : Operation) (old new : Operations) → IsHeldOtherwise old op → new ≡ old → AnswersTell op old (refusal_text refusal.Clash) new
+clash_told : (op : Operation) (old new : Operations) → IsHeldOtherwise old op → new ≡ old
+    → AnswersTell op old (refusal_text refusal.Clash) new
 clash_told op old new held same = record {
   again = λ h. absurd (no_same _ op.1 h held);
   clash = λ _. (refl, same);
@@ -48,7 +50,8 @@ clash_told op old new held same = record {
   told = λ h _. absurd (no_other _ op.1 h held);
 }
 
-does_tell : (ds : List Declaration) (word : List ℕ) (k : DeltaVersion) (p : Program) (s : Replica) (op : Operation) (x : Reply) (t : Replica) → IsDeclared p op → Does p s (act.Tell op) x t
+does_tell : (ds : List Declaration) (word : List ℕ) (k : DeltaVersion) (p : Program) (s : Replica) (op : Operation)
+    (x : Reply) (t : Replica) → IsDeclared p op → Does p s (act.Tell op) x t
     → AnswersTell op s.operations (replied_text ds word k x) t.operations
 does_tell ds word k p s op (reply.Told added.New) t declared d = record {
   again = λ h. absurd (new_unheld s.operations op d.new h);
@@ -63,7 +66,8 @@ does_tell ds word k p s op (reply.Told added.Again) t declared d = record {
   told = λ h _. absurd (new_unheld s.operations op h d.1);
 }
 does_tell ds word k p s op (reply.Refused refused.UnknownSymbol) t declared d = absurd (d.0 declared)
-does_tell ds word k p s op (reply.Refused (refused.Clash id)) t declared d = clash_told op s.operations t.operations d.0.2 (ap (λ r. r.operations) d.2)
+does_tell ds word k p s op (reply.Refused (refused.Clash id)) t declared d =
+    clash_told op s.operations t.operations d.0.2 (ap (λ r. r.operations) d.2)
 does_tell ds word k p s op (reply.Refused (refused.Full limit.Told)) t declared d = record {
   again = λ h. absurd (new_unheld s.operations op d.0.1 h);
   clash = λ h. absurd (no_other _ op.1 d.0.1 h);
@@ -75,14 +79,18 @@ does_tell ds word k p s op (reply.Refused _) t declared d = absurd d.0
 does_tell ds word k p s op _ t declared d = absurd d
 
 -- of an operation whose atoms are declared
-pub tell_answers : (ds : List Declaration) (word : List ℕ) (k : DeltaVersion) (p : Program) (w v : Replicas) (r : ℕ) (op : Operation) (x : Answer) → IsDeclared p op → Happens p w (event.At r (act.Tell op)) x v
+pub tell_answers : (ds : List Declaration) (word : List ℕ) (k : DeltaVersion) (p : Program) (w v : Replicas) (r : ℕ)
+    (op : Operation) (x : Answer) → IsDeclared p op → Happens p w (event.At r (act.Tell op)) x v
     → AnswersAt (operations_held w) r (AnswersTell op) (answer_text ds word k x) (operations_held v)
-tell_answers ds word k p w v r op (answer.Replied x) declared h = answers_at w v r (AnswersTell op) (replied_text ds word k x) h.before h.after h.there h.world (does_tell ds word k p h.before op x h.after declared h.changed)
+tell_answers ds word k p w v r op (answer.Replied x) declared h =
+    answers_at w v r (AnswersTell op) (replied_text ds word k x) h.before h.after h.there h.world
+    (does_tell ds word k p h.before op x h.after declared h.changed)
 tell_answers ds word k p w v r op answer.UnknownSymbol declared h = absurd (h.1 declared)
 tell_answers ds word k p w v r op answer.NoReplica declared h = none_answers w v r (AnswersTell op) h.0 h.2
 
 -- of an operation of the program's atoms, after which a pool may be rested
-pub told : (p : Program) (w v : Replicas) (new : List Operations) (r : ℕ) (op : Operation) (x : Answer) → IsDeclared p op
+pub told : (p : Program) (w v : Replicas) (new : List Operations) (r : ℕ) (op : Operation) (x : Answer)
+    → IsDeclared p op
     → Happens p w (event.At r (act.Tell op)) x v → new ≡ operations_held v
     → AnswersAt (operations_held w) r (AnswersTell op) (reply_text (declarations p) (replies.Answered x)) new
 told p w v new r op x declared h e =

@@ -17,5 +17,7 @@ pub took_reaches : (p : Program) (n : ℕ) (s t : Store) → TookSteps p n s t �
 took_reaches p n s t h = (h.steps, h.run)
 
 -- a pool to which the atoms of a store were added, and nothing else, is that store
-pub pool_of_atoms : (none pool s : Store) (atoms : List Atom) → none ≡ bag.empty → atoms ≡ bag.items s → pool ≡ none ⊕ store_of atoms → pool ≡ s
-pool_of_atoms none pool s atoms e a is = is ∙ (λ i. e i ⊕ store_of (a i)) ∙ plus_comm bag.empty (store_of (bag.items s)) ∙ plus_empty (store_of (bag.items s)) ∙ store_of-items s
+pub pool_of_atoms : (none pool s : Store) (atoms : List Atom) → none ≡ bag.empty → atoms ≡ bag.items s
+    → pool ≡ none ⊕ store_of atoms → pool ≡ s
+pool_of_atoms none pool s atoms e a is = is ∙ (λ i. e i ⊕ store_of (a i)) ∙ plus_comm bag.empty (store_of (bag.items s))
+    ∙ plus_empty (store_of (bag.items s)) ∙ store_of-items s

@@ -19,14 +19,16 @@ use Rattle.chr_shared.specs.declared.settled.Settled.TheVariants as settled
 use Rattle.chr_shared.specs.Settling.{EndsWith, IsAnswerOf, IsPair, IsShowReply, IsShown, is_stopped, refusal_in}
 
 -- a settle that was not stopped leaves the pool at rest
-pub settle_rests : (p : Program) (s : Replica) (x : Reply) (t : Replica) → Does p s act.Settle x t → is_stopped x ≡ false → IsAtRest (Step (rules_of p)) t.pool
+pub settle_rests : (p : Program) (s : Replica) (x : Reply) (t : Replica) → Does p s act.Settle x t → is_stopped x
+    ≡ false → IsAtRest (Step (rules_of p)) t.pool
 settle_rests p s (reply.Refused r) t d went = absurd d.0
 settle_rests p s (reply.Settled n) t d went = d.1
 settle_rests p s (reply.Stopped n) t d went = absurd (true≢false went)
 settle_rests p s _ t d went = absurd d
 
 -- what is shown of a pool at rest is the pool, or the leases that are out
-pub show_replies : (p : Program) (s : Replica) (x : Reply) (t : Replica) → Does p s act.Show x t → IsAtRest (Step (rules_of p)) s.pool → IsShowReply x
+pub show_replies : (p : Program) (s : Replica) (x : Reply) (t : Replica) → Does p s act.Show x t
+    → IsAtRest (Step (rules_of p)) s.pool → IsShowReply x
 show_replies p s (reply.Shown bag) t d rest = tt
 show_replies p s (reply.Refused (refusal.Leased n)) t d rest = tt
 show_replies p s (reply.Refused refusal.NotAtRest) t d rest = absurd (d.0.1 rest)
@@ -39,7 +41,8 @@ refusal_or d (Some r) = r
 refusal_or d None = d
 
 -- a show that was refused
-pub refused_answer : (shown : Entry) (x : Reply) (r : Refusal) → shown.reply ≡ x → IsShowReply x → refusal_in x ≡ Some r → IsAnswerOf shown (settled.NotRested r)
+pub refused_answer : (shown : Entry) (x : Reply) (r : Refusal) → shown.reply ≡ x → IsShowReply x → refusal_in x ≡ Some r
+    → IsAnswerOf shown (settled.NotRested r)
 refused_answer shown (reply.Refused (refusal.Leased n)) r is h e =
     subst (λ q. IsAnswerOf shown (settled.NotRested q)) (ap (refusal_or r) e) is
 refused_answer shown (reply.Refused _) r is h e = absurd h
@@ -53,7 +56,9 @@ shown_answer (reply.Refused r) h e = absurd (none-some r (sym e))
 shown_answer _ h e = absurd h
 
 -- a settle, and a show that is answered so
-pub answer_ends : (old mid new : List Entry) (a shown : Entry) (r : Settled) → mid ≡ old ++ a ∷ [] → new ≡ mid ++ shown ∷ [] → a.act ≡ act.Settle → shown.act ≡ act.Show → IsAnswerOf shown r → (es : List Entry) × (new ≡ old ++ es) × EndsWith r es
+pub answer_ends : (old mid new : List Entry) (a shown : Entry) (r : Settled) → mid ≡ old ++ a ∷ [] → new ≡ mid ++ shown
+    ∷ [] → a.act ≡ act.Settle → shown.act ≡ act.Show → IsAnswerOf shown r → (es : List Entry) × (new ≡ old ++ es)
+    × EndsWith r es
 answer_ends old mid new a shown (settled.Rest receipt) first next settle show h = (
   a ∷ shown ∷ [],
   next ∙ ap (λ l. l ++ shown ∷ []) first ∙ append_assoc old (a ∷ []) (shown ∷ []),

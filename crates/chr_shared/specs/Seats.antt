@@ -43,7 +43,8 @@ abbrev pub GetsAll : (List Entry → Type 0) → SeatView → SeatView → Type 
 GetsAll P old new = (es : List Entry) × (new.list ≡ old.list ++ es) × P es
 
 -- The seat got the receipt of what was asked, under its next number. The journal is the one before the opening.
-pub record Receives (journal : List Entry) (asked : Act) (old : SeatView) (receipt : Entry) (new : SeatView) : Type 0 where
+pub record Receives (journal : List Entry) (asked : Act) (old : SeatView) (receipt : Entry)
+    (new : SeatView) : Type 0 where
   pub list : new.list ≡ old.list ++ receipt ∷ []
   pub seat : receipt.seat ≡ old.number
   pub number : receipt.number ≡ count_of old.number journal + length old.list + 1

@@ -18,10 +18,18 @@ appends_nothing None = tt
 appends_nothing (Some xs) = sym (append-nil xs)
 
 -- where `clap` takes the words, memory ran out
-pub memory_ends : (ws : List (List ℕ)) (fault : WordsFault) (bytes known : Option (List ℕ)) (verb : Verb) (wanted : Wanted) (status : ℕ) → faults_of ws ≡ [] → IsOfFault (faults_of ws) fault → (fault ≡ words.Memory → status ≡ 4) → RunEnds bytes known known verb wanted status
-memory_ends ws (words.Words e) bytes known verb wanted status none is told = absurd (subst (λ ks. IsOfFault ks (words.Words e)) none is).0
-memory_ends ws words.Memory bytes known verb wanted status none is told = record { outcome = Err run.Memory; status_is = told refl; ok = tt; err = inl (appends_nothing known) }
+pub memory_ends : (ws : List (List ℕ)) (fault : WordsFault) (bytes known : Option (List ℕ)) (verb : Verb)
+    (wanted : Wanted) (status : ℕ) → faults_of ws ≡ [] → IsOfFault (faults_of ws) fault
+    → (fault ≡ words.Memory → status ≡ 4) → RunEnds bytes known known verb wanted status
+memory_ends ws (words.Words e) bytes known verb wanted status none is told =
+    absurd (subst (λ ks. IsOfFault ks (words.Words e)) none is).0
+memory_ends ws words.Memory bytes known verb wanted status none is told =
+    record { outcome = Err run.Memory; status_is = told refl; ok = tt; err = inl (appends_nothing known) }
 
-pub memory_ends_explanation : (coverage : Coverage) (ws : List (List ℕ)) (fault : WordsFault) (bytes known : Option (List ℕ)) (status : ℕ) → faults_of ws ≡ [] → IsOfFault (faults_of ws) fault → (fault ≡ words.Memory → status ≡ 4) → ExplanationEnds coverage bytes known known status
-memory_ends_explanation coverage ws (words.Words e) bytes known status none is told = absurd (subst (λ ks. IsOfFault ks (words.Words e)) none is).0
-memory_ends_explanation coverage ws words.Memory bytes known status none is told = record { outcome = Err run.Memory; status_is = told refl; ok = tt; memory = λ _. appends_nothing known }
+pub memory_ends_explanation : (coverage : Coverage) (ws : List (List ℕ)) (fault : WordsFault)
+    (bytes known : Option (List ℕ)) (status : ℕ) → faults_of ws ≡ [] → IsOfFault (faults_of ws) fault
+    → (fault ≡ words.Memory → status ≡ 4) → ExplanationEnds coverage bytes known known status
+memory_ends_explanation coverage ws (words.Words e) bytes known status none is told =
+    absurd (subst (λ ks. IsOfFault ks (words.Words e)) none is).0
+memory_ends_explanation coverage ws words.Memory bytes known status none is told =
+    record { outcome = Err run.Memory; status_is = told refl; ok = tt; memory = λ _. appends_nothing known }

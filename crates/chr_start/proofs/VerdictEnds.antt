@@ -32,18 +32,22 @@ use Rattle.chr_start.specs.working.Verdicts.{as_status}
 -- what a check writes of a text with this status
 abbrev HasOutput : Coverage → List ℕ → Status → Type 0
 HasOutput coverage text status =
-    (out : List ℕ) × ((answer : Result Program ReadFault) × IsAnswer text answer × IsReadOutput answer (replicas_by coverage 1) [] status out)
+    (out : List ℕ) × ((answer : Result Program ReadFault) × IsAnswer text answer
+        × IsReadOutput answer (replicas_by coverage 1) [] status out)
 
 module _ (coverage : Coverage) (p : Program) where
   by_cause : ProgramLowers p → (c : Cause) → IsRefusalBy coverage (rules_of p) c → ¬ (c ≡ cause.Memory)
       → (out : List ℕ) × IsRulesOutput (declarations p) (rules_of p) (replicas_by coverage 1) [] Refused out
   by_cause lowers (cause.Fails f) first some =
-      (failure_text (declarations p) f ++ 10 ∷ [], inr (record { lowers = lowers; cause = cause.Fails f; first = first; line = refl }))
+      (failure_text (declarations p) f ++ 10 ∷ [], inr
+          (record { lowers = lowers; cause = cause.Fails f; first = first; line = refl }))
   by_cause lowers (cause.TooManyTypes t) first some =
-      (too_many_text t ++ 10 ∷ [], inr (record { lowers = lowers; cause = cause.TooManyTypes t; first = first; line = refl }))
+      (too_many_text t ++ 10 ∷ [], inr (record { lowers = lowers; cause = cause.TooManyTypes t; first = first; line =
+          refl }))
   by_cause lowers cause.Memory first some = absurd (some refl)
 
-  by_rules : IsUnlowered p ⊎ IsRefusedByOverlap coverage p → (out : List ℕ) × IsRulesOutput (declarations p) (rules_of p) (replicas_by coverage 1) [] Refused out
+  by_rules : IsUnlowered p ⊎ IsRefusedByOverlap coverage p → (out : List ℕ)
+      × IsRulesOutput (declarations p) (rules_of p) (replicas_by coverage 1) [] Refused out
   by_rules (inl u) = (
     not_lowered_text (some_paired (declarations p)) u.rule u.before u.after ++ 10 ∷ [],
     inl (record { rule = u.rule; before = u.before; after = u.after; first = u.first; out_is = refl }),
@@ -54,33 +58,43 @@ refused_output : (coverage : Coverage) (text : List ℕ) → IsRefused text → 
 refused_output coverage text (inl long) = (_, (Err fault.TooLong, long, (refl, refl)))
 refused_output coverage text (inr r) = (_, (Err (fault.Bad r.0 r.1), r.2, (refl, refl)))
 
-text_output : (coverage : Coverage) (text : List ℕ) (v : Verdict) → IsVerdict coverage text v → HasOutput coverage text (as_status v)
+text_output : (coverage : Coverage) (text : List ℕ) (v : Verdict) → IsVerdict coverage text v
+    → HasOutput coverage text (as_status v)
 text_output coverage text verdict.Accepted h = (
   accepted_text (length (rules_of h.0)) h.2.cases ++ 10 ∷ [],
   (
     Ok h.0,
     h.1,
-    record { lowers = h.2.lowers; cases = h.2.cases; accepted = h.2.accepted; answers = []; answered = refl; out_is = refl },
+    record { lowers = h.2.lowers; cases = h.2.cases; accepted = h.2.accepted; answers = []; answered = refl; out_is =
+        refl },
   ),
 )
 text_output coverage text verdict.Refused (inl r) = refused_output coverage text r
 text_output coverage text verdict.Refused (inr h) = let o = by_rules coverage h.0 h.2 in (o.0, (Ok h.0, h.1, o.1))
 
-pub checked : (coverage : Coverage) (text input : List ℕ) (v : Verdict) → text ≡ text_of (lines input) → IsVerdict coverage text v → (out : List ℕ) × IsOutput Check (replicas_by coverage 1) input (as_status v) out
-checked coverage text input v is h = text_output coverage (text_of (lines input)) v (subst (λ t. IsVerdict coverage t v) is h)
+pub checked : (coverage : Coverage) (text input : List ℕ) (v : Verdict) → text ≡ text_of (lines input)
+    → IsVerdict coverage text v → (out : List ℕ) × IsOutput Check (replicas_by coverage 1) input (as_status v) out
+checked coverage text input v is h = text_output coverage (text_of (lines input)) v
+    (subst (λ t. IsVerdict coverage t v) is h)
 
 -- what a check writes of what is kept it writes of the input
-kept_ends : (coverage : Coverage) (bytes : Option (List ℕ)) (kept : List ℕ) (status : Status) → IfSome bytes (Decides kept) → (out : List ℕ) × IsOutput Check (replicas_by coverage 1) kept status out → EndsAsCheck coverage bytes status
+kept_ends : (coverage : Coverage) (bytes : Option (List ℕ)) (kept : List ℕ) (status : Status)
+    → IfSome bytes (Decides kept) → (out : List ℕ) × IsOutput Check (replicas_by coverage 1) kept status out
+    → EndsAsCheck coverage bytes status
 kept_ends coverage None kept status d o = (kept, tt, o.0, o.1)
 kept_ends coverage (Some x) kept status d o = (x, refl, o.0, d Check (replicas_by coverage 1) status o.0 o.1)
 
 -- the status of a verdict on the program text of what is kept of the input
-pub verdict_ends : (coverage : Coverage) (bytes : Option (List ℕ)) (text kept : List ℕ) (v : Verdict) (status : Status) → IfSome bytes (Decides kept) → text ≡ text_of (lines kept) → IsVerdict coverage text v
+pub verdict_ends : (coverage : Coverage) (bytes : Option (List ℕ)) (text kept : List ℕ) (v : Verdict) (status : Status)
+    → IfSome bytes (Decides kept) → text ≡ text_of (lines kept) → IsVerdict coverage text v
     → status ≡ as_status v → EndsAsCheck coverage bytes status
 verdict_ends coverage bytes text kept v status d is h same =
-    let o = checked coverage text kept v is h in kept_ends coverage bytes kept status d (o.0, subst (λ s. IsOutput Check (replicas_by coverage 1) kept s o.0) (sym same) o.1)
+    let o = checked coverage text kept v is h in kept_ends coverage bytes kept status d
+        (o.0, subst (λ s. IsOutput Check (replicas_by coverage 1) kept s o.0) (sym same) o.1)
 
 -- an explanation has ended
-pub explanation_ends : (coverage : Coverage) (bytes old new : Option (List ℕ)) (r : Result Status RunFault) (status : ℕ) → status ≡ status_of r → IfOk r (EndsAsCheck coverage bytes)
+pub explanation_ends : (coverage : Coverage) (bytes old new : Option (List ℕ)) (r : Result Status RunFault) (status : ℕ)
+    → status ≡ status_of r → IfOk r (EndsAsCheck coverage bytes)
     → (IsErrOf r Memory → Appends old new []) → ExplanationEnds coverage bytes old new status
-explanation_ends coverage bytes old new r status ends ok memory = record { outcome = r; status_is = ends; ok = ok; memory = memory }
+explanation_ends coverage bytes old new r status ends ok memory =
+    record { outcome = r; status_is = ends; ok = ok; memory = memory }

@@ -24,7 +24,8 @@ status_of (Err Memory) = 4
 abbrev pub wanted_met : List (List ℕ) → Wanted
 wanted_met words = replicas_by (coverage_for (wide_met words)) (replicas_met words)
 
--- a run of this verb, of which this is wanted, ended with this status: after the whole output, or after a beginning of it
+-- a run of this verb, of which this is wanted, ended with this status: after the whole output, or after a beginning of
+-- it
 pub record RunEnds (bytes old new : Option (List ℕ)) (verb : Verb) (wanted : Wanted) (status : ℕ) : Type 0 where
   pub outcome : Result Status RunFault
   pub status_is : status ≡ status_of outcome

@@ -1,8 +1,10 @@
 -- Live rows that move together.
-use Rattle.std.proofs.Common.{◌≡◌, ℕ, zero, suc, ◌+◌, ◌<◌, ◌≤◌, ℤ, pos, List, [], ◌∷◌, ◌++◌, map, length, get_or, set, take, drop, cond, Bool, true, false, Option, refl, sym, ap, ◌∙◌, arith, inl, inr}
+use Rattle.std.proofs.Common.{◌≡◌, ℕ, zero, suc, ◌+◌, ◌<◌, ◌≤◌, ℤ, pos, List, [], ◌∷◌, ◌++◌, map, length, get_or, set}
+use Rattle.std.proofs.Common.{take, drop, cond, Bool, true, false, Option, refl, sym, ap, ◌∙◌, arith, inl, inr}
 use Rattle.std.specs.Prelude.{Some, None, filter, is_some}
 use Rattle.std.proofs.lemmas.Bool.{cases_lt}
-use Rattle.std.proofs.lemmas.List.{get_or-set_same, get_or-set_other, get_or_past, take_more_set, drop-set-lt, drop_more, append_assoc, map_more}
+use Rattle.std.proofs.lemmas.List.{get_or-set_same, get_or-set_other, get_or_past, take_more_set, drop-set-lt}
+use Rattle.std.proofs.lemmas.List.{drop_more, append_assoc, map_more}
 use Rattle.chr_base.specs.declared.atom.Atom.{Atom}
 use Rattle.chr_tables.specs.declared.shape.Shape.{Shape}
 use Rattle.chr_tables.specs.working.Cells.{cell_value, arguments, row_atom, row_atoms}
@@ -56,28 +58,34 @@ moved_more cs ds to from j c l h e f = record {
     ]
 
 -- all columns have
-pub all_moved : (cs ds : List (List ℤ)) (to from n : ℕ) → length ds ≤ n → HaveMoved cs ds to from n → (k : ℕ) → cell_value cs k to ≡ cell_value ds k from
+pub all_moved : (cs ds : List (List ℤ)) (to from n : ℕ) → length ds ≤ n → HaveMoved cs ds to from n → (k : ℕ)
+    → cell_value cs k to ≡ cell_value ds k from
 all_moved cs ds to from n l h k = elim (cases_lt k n) as (λ _. cell_value cs k to ≡ cell_value ds k from) [
   | inl less ↦ h.moved k less
   | inr most ↦ (let past = get_or_past ds k [] (omega (arith, l, most)) in
       h.left k to most ∙ ap (λ x. get_or x to (pos 0)) past ∙ sym (ap (λ x. get_or x from (pos 0)) past))
 ]
 
-arguments_as : (cs ds : List (List ℤ)) (to from : ℕ) → ((j : ℕ) → cell_value cs j to ≡ cell_value ds j from) → (j n : ℕ) → arguments cs to j n ≡ arguments ds from j n
+arguments_as : (cs ds : List (List ℤ)) (to from : ℕ) → ((j : ℕ) → cell_value cs j to ≡ cell_value ds j from) → (j n : ℕ)
+    → arguments cs to j n ≡ arguments ds from j n
 arguments_as cs ds to from e j zero = refl
 arguments_as cs ds to from e j (suc n) = λ i. e j i ∷ arguments_as cs ds to from e (suc j) n i
 
-row_as : (cs ds : List (List ℤ)) (to from : ℕ) (s : Shape) → ((j : ℕ) → cell_value cs j to ≡ cell_value ds j from) → row_atom cs to s ≡ row_atom ds from s
-row_as cs ds to from s e = ap (λ xs. record { symbol = s.symbol; args = record { items = xs } }) (arguments_as cs ds to from e 0 s.arity)
+row_as : (cs ds : List (List ℤ)) (to from : ℕ) (s : Shape) → ((j : ℕ) → cell_value cs j to ≡ cell_value ds j from)
+    → row_atom cs to s ≡ row_atom ds from s
+row_as cs ds to from s e = ap (λ xs. record { symbol = s.symbol; args = record { items = xs } })
+    (arguments_as cs ds to from e 0 s.arity)
 
-rows_above : (cs ds : List (List ℤ)) (to row : ℕ) (ss : List Shape) → AgreeBut cs ds to → to < row → row_atoms cs row ss ≡ row_atoms ds row ss
+rows_above : (cs ds : List (List ℤ)) (to row : ℕ) (ss : List Shape) → AgreeBut cs ds to → to < row → row_atoms cs row ss
+    ≡ row_atoms ds row ss
 rows_above cs ds to row [] others l = refl
 rows_above cs ds to row (s ∷ ss) others l =
     let first = row_as cs ds row row s (λ k. others k row (λ p. (absurd (omega (arith, p, l))))) in
     let rest = rows_above cs ds to (suc row) ss others (omega (arith, l)) in
     λ i. first i ∷ rest i
 
-rows_moved : (cs ds : List (List ℤ)) (to row n : ℕ) (ss : List Shape) (s : Shape) (a : Atom) → AgreeBut cs ds to → row + n ≡ to → row_atom cs to s ≡ a
+rows_moved : (cs ds : List (List ℤ)) (to row n : ℕ) (ss : List Shape) (s : Shape) (a : Atom) → AgreeBut cs ds to
+    → row + n ≡ to → row_atom cs to s ≡ a
     → row_atoms cs row (set ss n s) ≡ set (row_atoms ds row ss) n a
 rows_moved cs ds to row n [] s a others e is = refl
 rows_moved cs ds to row zero (x ∷ ss) s a others e is =
@@ -97,9 +105,11 @@ pub atoms_moved : (cs ds : List (List ℤ)) (ss : List Shape) (to from : ℕ) (s
 atoms_moved cs ds ss to from s a l moved others e =
     let here : from ≡ 0 + from = omega arith in
     rows_moved cs ds to 0 to ss s (get_or (row_atoms ds 0 ss) from a) others (omega arith)
-    (row_as cs ds to from s moved ∙ ap (λ k. row_atom ds k s) here ∙ ap (row_atom ds (0 + from)) e ∙ sym (atom_at ds 0 ss from s a l))
+    (row_as cs ds to from s moved ∙ ap (λ k. row_atom ds k s) here ∙ ap (row_atom ds (0 + from)) e
+        ∙ sym (atom_at ds 0 ss from s a l))
 
-pub atoms_taken : (cs : List (List ℤ)) (row : ℕ) (ss : List Shape) (n : ℕ) → row_atoms cs row (take n ss) ≡ take n (row_atoms cs row ss)
+pub atoms_taken : (cs : List (List ℤ)) (row : ℕ) (ss : List Shape) (n : ℕ) → row_atoms cs row (take n ss)
+    ≡ take n (row_atoms cs row ss)
 atoms_taken cs row [] zero = refl
 atoms_taken cs row [] (suc n) = refl
 atoms_taken cs row (s ∷ ss) zero = refl
@@ -109,14 +119,19 @@ atoms_taken cs row (s ∷ ss) (suc n) = ap (λ xs. row_atom cs row s ∷ xs) (at
 abbrev pub AreKept : List Atom → List Bool → ℕ → ℕ → List Atom → Type 0
 AreKept atoms bs count row all = take count atoms ++ chosen (drop row atoms) (drop row bs) ≡ all
 
-chosen_at : (atoms : List Atom) (bs : List Bool) (row : ℕ) (x : Atom) (b d : Bool) → row < length atoms → row < length bs → x ≡ get_or atoms row x → get_or bs row d ≡ b
-    → chosen (drop row atoms) (drop row bs) ≡ cond b (x ∷ chosen (drop (row + 1) atoms) (drop (row + 1) bs)) (chosen (drop (row + 1) atoms) (drop (row + 1) bs))
+chosen_at : (atoms : List Atom) (bs : List Bool) (row : ℕ) (x : Atom) (b d : Bool) → row < length atoms
+    → row < length bs → x ≡ get_or atoms row x → get_or bs row d ≡ b
+    → chosen (drop row atoms) (drop row bs) ≡ cond b (x ∷ chosen (drop (row + 1) atoms) (drop (row + 1) bs))
+        (chosen (drop (row + 1) atoms) (drop (row + 1) bs))
 chosen_at atoms bs row x b d l m is flag =
     (λ i. chosen (drop_more atoms row x l i) (drop_more bs row d m i))
-    ∙ (λ i. cond (flag i) (sym is i ∷ chosen (drop (row + 1) atoms) (drop (row + 1) bs)) (chosen (drop (row + 1) atoms) (drop (row + 1) bs)))
+    ∙ (λ i. cond (flag i) (sym is i ∷ chosen (drop (row + 1) atoms) (drop (row + 1) bs))
+        (chosen (drop (row + 1) atoms) (drop (row + 1) bs)))
 
-pub kept_more : (atoms : List Atom) (bs : List Bool) (count row : ℕ) (all : List Atom) (x : Atom) → count ≤ row → row < length atoms → row < length bs
-    → x ≡ get_or atoms row x → get_or bs row false ≡ true → AreKept atoms bs count row all → AreKept (set atoms count x) bs (count + 1) (row + 1) all
+pub kept_more : (atoms : List Atom) (bs : List Bool) (count row : ℕ) (all : List Atom) (x : Atom) → count ≤ row
+    → row < length atoms → row < length bs
+    → x ≡ get_or atoms row x → get_or bs row false ≡ true → AreKept atoms bs count row all
+        → AreKept (set atoms count x) bs (count + 1) (row + 1) all
 kept_more atoms bs count row all x le l m is flag kept =
     let new = take_more_set atoms count x (omega (arith, le, l)) in
     let old = drop-set-lt (row + 1) atoms count x (omega (arith, le)) in
@@ -124,8 +139,10 @@ kept_more atoms bs count row all x le l m is flag kept =
     ∙ append_assoc (take count atoms) (x ∷ []) (chosen (drop (row + 1) atoms) (drop (row + 1) bs))
     ∙ ap (λ xs. take count atoms ++ xs) (sym (chosen_at atoms bs row x true false l m is flag)) ∙ kept
 
-pub kept_same : (atoms : List Atom) (bs : List Bool) (count row : ℕ) (all : List Atom) (x : Atom) → row < length atoms → row < length bs
-    → x ≡ get_or atoms row x → get_or bs row false ≡ false → AreKept atoms bs count row all → AreKept atoms bs count (row + 1) all
+pub kept_same : (atoms : List Atom) (bs : List Bool) (count row : ℕ) (all : List Atom) (x : Atom) → row < length atoms
+    → row < length bs
+    → x ≡ get_or atoms row x → get_or bs row false ≡ false → AreKept atoms bs count row all
+        → AreKept atoms bs count (row + 1) all
 kept_same atoms bs count row all x l m is flag kept =
     ap (λ xs. take count atoms ++ xs) (sym (chosen_at atoms bs row x false false l m is flag)) ∙ kept
 
@@ -141,14 +158,16 @@ chosen_rows (a ∷ as') [] = refl
 chosen_rows (a ∷ as') (true ∷ bs) = ap (λ xs. Some a ∷ xs) (chosen_rows as' bs)
 chosen_rows (a ∷ as') (false ∷ bs) = chosen_rows as' bs
 
-pub count_rows : (as' : List Atom) (bs : List Bool) → length bs ≡ length as' → length (filter (λ b. b) bs) ≡ length (filter is_some (live as' bs))
+pub count_rows : (as' : List Atom) (bs : List Bool) → length bs ≡ length as' → length (filter (λ b. b) bs)
+    ≡ length (filter is_some (live as' bs))
 count_rows [] [] e = refl
 count_rows [] (b ∷ bs) e = absurd (omega (arith, e))
 count_rows (a ∷ as') [] e = refl
 count_rows (a ∷ as') (true ∷ bs) e = ap suc (count_rows as' bs (omega (arith, e)))
 count_rows (a ∷ as') (false ∷ bs) e = count_rows as' bs (omega (arith, e))
 
-pub all_live : (as' : List Atom) (bs : List Bool) → length bs ≡ length as' → ((i : ℕ) → i < length bs → get_or bs i true ≡ true) → live as' bs ≡ map (λ a. Some a) as'
+pub all_live : (as' : List Atom) (bs : List Bool) → length bs ≡ length as'
+    → ((i : ℕ) → i < length bs → get_or bs i true ≡ true) → live as' bs ≡ map (λ a. Some a) as'
 all_live [] bs e h = refl
 all_live (a ∷ as') [] e h = absurd (omega (arith, e))
 all_live (a ∷ as') (b ∷ bs) e h =
@@ -157,9 +176,12 @@ all_live (a ∷ as') (b ∷ bs) e h =
     λ i. first i ∷ rest i
 
 -- one row more has entered each index
-pub entered_more : (atoms : List Atom) (ways : List Way) (entries entries' : List (List (Option Found))) (row : ℕ) (a : Atom) → row < length atoms → a ≡ get_or atoms row a
+pub entered_more : (atoms : List Atom) (ways : List Way) (entries entries' : List (List (Option Found))) (row : ℕ)
+    (a : Atom) → row < length atoms → a ≡ get_or atoms row a
     → AreIndexed (map (λ a. Some a) (take row atoms)) ways entries
-    → ((j : ℕ) → j < length ways → get_or entries' j [] ≡ get_or entries j [] ++ Some (atom_entry (get_or ways j no_way) a) ∷ [])
+    → ((j : ℕ) → j < length ways → get_or entries' j [] ≡ get_or entries j []
+        ++ Some (atom_entry (get_or ways j no_way) a) ∷ [])
     → AreIndexed (map (λ a. Some a) (take (row + 1) atoms)) ways entries'
 entered_more atoms ways entries entries' row a l is h k =
-    rw (map_more (λ (x : Atom). Some x) atoms row a l, sym is) (indexed_push (map (λ a. Some a) (take row atoms)) ways entries entries' a h k)
+    rw (map_more (λ (x : Atom). Some x) atoms row a l, sym is)
+        (indexed_push (map (λ a. Some a) (take row atoms)) ways entries entries' a h k)

@@ -1,5 +1,6 @@
 -- Look-ups in one table, each by the index of its number.
-use Rattle.std.proofs.Common.{◌≡◌, ℕ, zero, suc, ◌<◌, List, [], ◌∷◌, ◌++◌, map, length, get_or, slice_get, refl, sym, ap, ◌∙◌, arith, inl, inr, length-append}
+use Rattle.std.proofs.Common.{◌≡◌, ℕ, zero, suc, ◌<◌, List, [], ◌∷◌, ◌++◌, map, length, get_or, slice_get, refl, sym}
+use Rattle.std.proofs.Common.{ap, ◌∙◌, arith, inl, inr, length-append}
 use Rattle.std.specs.Prelude.{Some, option_map}
 use Rattle.std.proofs.lemmas.Bool.{cases_lt}
 use Rattle.std.proofs.lemmas.List.{get_or_append_left}
@@ -24,8 +25,10 @@ wanted ls = map (λ l. columns_of l.partner.key.items) ls
 abbrev pub AreInOrder : List Lookup → Type 0
 AreInOrder ls = (j : ℕ) (l : Lookup) → j < length ls → get_or ls j l ≡ l → (l.table ≡ 0) × (l.index ≡ j)
 
-pub in_order_more : (ls : List Lookup) (l : Lookup) → AreInOrder ls → l.table ≡ 0 → l.index ≡ length ls → AreInOrder (ls ++ l ∷ [])
-in_order_more ls l before table index j k h here = elim (cases_lt j (length ls)) as (λ _. (k.table ≡ 0) × (k.index ≡ j)) [
+pub in_order_more : (ls : List Lookup) (l : Lookup) → AreInOrder ls → l.table ≡ 0 → l.index ≡ length ls
+    → AreInOrder (ls ++ l ∷ [])
+in_order_more ls l before table index j k h here = elim (cases_lt j (length ls)) as (λ _. (k.table ≡ 0) × (k.index ≡ j))
+    [
   | inl less ↦ before j k less (sym (get_or_append_left ls (l ∷ []) k j less) ∙ here)
   | inr most ↦ (let n = length-append ls (l ∷ []) in
       let i : j ≡ length ls = omega (arith, h, n, most) in
@@ -33,11 +36,15 @@ in_order_more ls l before table index j k h here = elim (cases_lt j (length ls))
       (ap (λ (x : Lookup). x.table) (sym same) ∙ table, ap (λ (x : Lookup). x.index) (sym same) ∙ index ∙ sym i))
 ]
 
-pub fits_one : (r : Rule) (ls : List Lookup) (t : Contents) → AreInOrder ls → t.keys ≡ wanted ls → FitsTables r ls (rows_of (t ∷ [])) (contents.index_columns (t ∷ []))
+pub fits_one : (r : Rule) (ls : List Lookup) (t : Contents) → AreInOrder ls → t.keys ≡ wanted ls
+    → FitsTables r ls (rows_of (t ∷ [])) (contents.index_columns (t ∷ []))
 fits_one r ls t order keys = record {
   index = λ j l h e. (let o = order j l h e in
-      ap (λ n. contents.index_columns (t ∷ []) n l.index) o.0 ∙ ap (slice_get t.keys) o.1 ∙ ap (λ ks. slice_get ks j) keys
-      ∙ slice_get-map (λ (x : Lookup). columns_of x.partner.key.items) ls j ∙ ap (option_map (λ (x : Lookup). columns_of x.partner.key.items)) (slice_get_read ls (length ls) j l refl h (sym e)));
+      ap (λ n. contents.index_columns (t ∷ []) n l.index) o.0 ∙ ap (slice_get t.keys) o.1
+          ∙ ap (λ ks. slice_get ks j) keys
+      ∙ slice_get-map (λ (x : Lookup). columns_of x.partner.key.items) ls j
+          ∙ ap (option_map (λ (x : Lookup). columns_of x.partner.key.items))
+          (slice_get_read ls (length ls) j l refl h (sym e)));
   table = λ j l n m a h e is shape. (only n m a is ∙ sym (order j l h e).0);
 }
   where
@@ -46,7 +53,8 @@ fits_one r ls t order keys = record {
     only (suc n) m a e = cc
 
 -- one plan of one rule
-pub fits_plans : (r : Rule) (plan : Plan) (rows : Tables) (columns : Columns) → slice_get (r ∷ []) plan.rule ≡ Some r → plan.place < length (heads_of r)
+pub fits_plans : (r : Rule) (plan : Plan) (rows : Tables) (columns : Columns) → slice_get (r ∷ []) plan.rule ≡ Some r
+    → plan.place < length (heads_of r)
     → IsPlan r plan.place (partners_of plan.lookups.items) → FitsTables r plan.lookups.items rows columns
     → (j : ℕ) → j < length (plan ∷ []) → FitsPlan (r ∷ []) rows columns (slice_get (plan ∷ []) j)
 fits_plans r plan rows columns at place is fits zero l = (r, at, place, is, fits)

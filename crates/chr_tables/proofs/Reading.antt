@@ -11,15 +11,18 @@ use Rattle.chr_tables.proofs.Choices.{the_one}
 pub table_there : (tables : List Contents) (t i : ℕ) → is_some (index_columns tables t i) ≡ true → t < length tables
 table_there tables t i e = elim (cases_lt t (length tables)) as (λ _. t < length tables) [
   | inl less ↦ less
-  | inr most ↦ absurd (let z : is_some (index_columns tables t i) ≡ false = ap (λ (x : Contents). is_some (slice_get x.keys i)) (get_or_past tables t no_table most) in cc)
+  | inr most ↦ absurd (let z : is_some (index_columns tables t i) ≡ false =
+        ap (λ (x : Contents). is_some (slice_get x.keys i)) (get_or_past tables t no_table most) in cc)
 ]
 
 -- and the one that the code reads is it
-pub table_is : (tables : List Contents) (t i : ℕ) (x : Contents) → is_some (index_columns tables t i) ≡ true → x ≡ get_or tables t x → x ≡ get_or tables t no_table
+pub table_is : (tables : List Contents) (t i : ℕ) (x : Contents) → is_some (index_columns tables t i) ≡ true
+    → x ≡ get_or tables t x → x ≡ get_or tables t no_table
 table_is tables t i x e f = f ∙ get_or_default tables t x no_table (table_there tables t i e)
 
 -- with an index of it
-pub index_there : (tables : List Contents) (t i : ℕ) (x : Contents) → is_some (index_columns tables t i) ≡ true → x ≡ get_or tables t x → i < length x.keys
+pub index_there : (tables : List Contents) (t i : ℕ) (x : Contents) → is_some (index_columns tables t i) ≡ true
+    → x ≡ get_or tables t x → i < length x.keys
 index_there tables t i x e f =
     let o = the_one (index_columns tables t i) e in
     slice_get_within x.keys i o.0 (ap (λ (y : Contents). slice_get y.keys i) (table_is tables t i x e f) ∙ o.1)

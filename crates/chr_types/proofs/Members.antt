@@ -21,19 +21,24 @@ in_second u (x ∷ xs) ys i = inr (in_second u xs ys i)
 pub in_either : {A : Type 0} (u : A) (xs ys : List A) → In u (xs ++ ys) → In u xs ⊎ In u ys
 in_either u [] ys i = inr i
 in_either u (x ∷ xs) ys (inl e) = inl (inl e)
-in_either u (x ∷ xs) ys (inr i) = elim (in_either u xs ys i) as (λ _. In u (x ∷ xs) ⊎ In u ys) [ inl j ↦ inl (inr j) | inr j ↦ inr j ]
+in_either u (x ∷ xs) ys (inr i) = elim (in_either u xs ys i) as (λ _. In u (x ∷ xs) ⊎ In u ys)
+    [ inl j ↦ inl (inr j) | inr j ↦ inr j ]
 
 pub in_last : {A : Type 0} (u v : A) (xs : List A) → In u (xs ++ v ∷ []) → In u xs ⊎ (u ≡ v)
-in_last u v xs i = elim (in_either u xs (v ∷ []) i) as (λ _. In u xs ⊎ (u ≡ v)) [ inl j ↦ inl j | inr j ↦ elim j as (λ _. In u xs ⊎ (u ≡ v)) [ inl e ↦ inr e | inr n ↦ absurd n ] ]
+in_last u v xs i = elim (in_either u xs (v ∷ []) i) as (λ _. In u xs ⊎ (u ≡ v))
+    [ inl j ↦ inl j | inr j ↦ elim j as (λ _. In u xs ⊎ (u ≡ v)) [ inl e ↦ inr e | inr n ↦ absurd n ] ]
 
-pub in_flat_map : {A B : Type 0} (r : A) (f : B → List A) (ks : List B) → In r (flat_map f ks) → (v : B) × In v ks × In r (f v)
+pub in_flat_map : {A B : Type 0} (r : A) (f : B → List A) (ks : List B) → In r (flat_map f ks) → (v : B) × In v ks
+    × In r (f v)
 in_flat_map r f [] i = elim i [ ]
-in_flat_map {A} {B} r f (k ∷ ks) i = elim (in_either r (f k) (flat_map f ks) i) as (λ _. (v : B) × In v (k ∷ ks) × In r (f v)) [
+in_flat_map {A} {B} r f (k ∷ ks) i = elim (in_either r (f k) (flat_map f ks) i) as (λ _. (v : B) × In v (k ∷ ks)
+    × In r (f v)) [
   | inl j ↦ (k, inl refl, j)
   | inr j ↦ (let m = in_flat_map r f ks j in (m.0, inr m.1, m.2))
 ]
 
-pub flat_map_in : {A B : Type 0} (r : A) (f : B → List A) (v : B) (ks : List B) → In v ks → In r (f v) → In r (flat_map f ks)
+pub flat_map_in : {A B : Type 0} (r : A) (f : B → List A) (v : B) (ks : List B) → In v ks → In r (f v)
+    → In r (flat_map f ks)
 flat_map_in r f v [] i j = elim i [ ]
 flat_map_in r f v (k ∷ ks) (inl e) j = in_first r (f k) (flat_map f ks) (subst (λ z. In r (f z)) e j)
 flat_map_in r f v (k ∷ ks) (inr i) j = in_second r (f k) (flat_map f ks) (flat_map_in r f v ks i j)

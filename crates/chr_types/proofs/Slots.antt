@@ -1,4 +1,5 @@
--- There are no more order types than ways to choose, class by class, where a value stands among constants and values before it.
+-- There are no more order types than ways to choose, class by class, where a value stands among constants and values
+-- before it.
 use Rattle.std.specs.List.{zip}
 use Rattle.std.specs.Prelude.{◌≡◌, ℕ, suc, zero, ℤ, ◌≤ℤ◌, ◌<ℤ◌, ◌+◌, ◌*◌, ◌<◌, ◌≤◌, ⊤, List, [], ◌∷◌, ◌⊎◌, length, map}
 use Rattle.std.specs.Ordering.{int_cmp}
@@ -39,7 +40,8 @@ slot_most : (ys : List ℤ) (x : ℤ) → slot ys x ≤ length ys + length ys
 slot_most [] x = omega arith
 slot_most (y ∷ ys) x = by (slot_most ys x) (apart x y) (apart y x)
   where
-    by : slot ys x ≤ length ys + length ys → (a : (x <ℤ y) ⊎ (y ≤ℤ x)) (b : (y <ℤ x) ⊎ (x ≤ℤ y)) → slot_by a b (slot ys x) ≤ suc (length ys) + suc (length ys)
+    by : slot ys x ≤ length ys + length ys → (a : (x <ℤ y) ⊎ (y ≤ℤ x)) (b : (y <ℤ x) ⊎ (x ≤ℤ y))
+        → slot_by a b (slot ys x) ≤ suc (length ys) + suc (length ys)
     by ih (inl l) b = omega arith
     by ih (inr m) (inl l) = omega (arith, ih)
     by ih (inr m) (inr l) = omega arith
@@ -48,7 +50,8 @@ one_longer : (ys : List ℤ) (x : ℤ) (j : ℕ) → slot ys x ≡ j + j → len
 one_longer [] x j e = refl
 one_longer (y ∷ ys) x j e = by (one_longer ys x) j (apart x y) (apart y x) e
   where
-    by : ((i : ℕ) → slot ys x ≡ i + i → length (added ys x) ≡ suc (length ys)) → (j : ℕ) (a : (x <ℤ y) ⊎ (y ≤ℤ x)) (b : (y <ℤ x) ⊎ (x ≤ℤ y)) → slot_by a b (slot ys x) ≡ j + j
+    by : ((i : ℕ) → slot ys x ≡ i + i → length (added ys x) ≡ suc (length ys)) → (j : ℕ) (a : (x <ℤ y) ⊎ (y ≤ℤ x))
+        (b : (y <ℤ x) ⊎ (x ≤ℤ y)) → slot_by a b (slot ys x) ≡ j + j
         → length (added_by x y a b ys (added ys x)) ≡ suc (suc (length ys))
     by ih j (inl l) b e = refl
     by ih zero (inr m) (inl l) e = absurd (omega (arith, e))
@@ -59,7 +62,8 @@ as_long : (ys : List ℤ) (x : ℤ) (j : ℕ) → slot ys x ≡ suc (j + j) → 
 as_long [] x j e = absurd (omega (arith, e))
 as_long (y ∷ ys) x j e = by (as_long ys x) j (apart x y) (apart y x) e
   where
-    by : ((i : ℕ) → slot ys x ≡ suc (i + i) → length (added ys x) ≡ length ys) → (j : ℕ) (a : (x <ℤ y) ⊎ (y ≤ℤ x)) (b : (y <ℤ x) ⊎ (x ≤ℤ y)) → slot_by a b (slot ys x) ≡ suc (j + j)
+    by : ((i : ℕ) → slot ys x ≡ suc (i + i) → length (added ys x) ≡ length ys) → (j : ℕ) (a : (x <ℤ y) ⊎ (y ≤ℤ x))
+        (b : (y <ℤ x) ⊎ (x ≤ℤ y)) → slot_by a b (slot ys x) ≡ suc (j + j)
         → length (added_by x y a b ys (added ys x)) ≡ suc (length ys)
     by ih j (inl l) b e = absurd (omega (arith, e))
     by ih zero (inr m) (inl l) e = absurd (omega (arith, e))
@@ -93,7 +97,8 @@ abbrev Adds : Pairs → ℤ → ℤ → List ℤ → List ℤ → Type 0
 Adds ps x u ls rs = (ns : Pairs) × RisesBy IsLess ns × (lefts ns ≡ ls) × (rights ns ≡ rs) × In (x, u) ns
     × ((q : ℤ × ℤ) → In q ps → In q ns) × ((q : ℤ × ℤ) → In q ns → In q ps ⊎ (q ≡ (x, u)))
 
-pair_added : (ps : Pairs) (x u : ℤ) → RisesBy IsLess ps → slot (lefts ps) x ≡ slot (rights ps) u → Adds ps x u (added (lefts ps) x) (added (rights ps) u)
+pair_added : (ps : Pairs) (x u : ℤ) → RisesBy IsLess ps → slot (lefts ps) x ≡ slot (rights ps) u
+    → Adds ps x u (added (lefts ps) x) (added (rights ps) u)
 pair_added [] x u r e = (
   (x, u) ∷ [],
   (λ q i. elim i [ ], tt),
@@ -111,7 +116,8 @@ pair_added (p ∷ ps) x u r e = by (pair_added ps x u r.1) (apart x p.0) (apart 
       (
         λ q i. elim i as (λ _. IsLess (x, u) q) [
           | inl f ↦ subst (IsLess (x, u)) (sym f) (l, m)
-          | inr j ↦ (let k = r.0 q j in let k0 = k.0 in let k1 = k.1 in (omega (arith, ints, k0, l), omega (arith, ints, k1, m)))
+          | inr j ↦ (let k = r.0 q j in let k0 = k.0 in let k1 = k.1 in
+                (omega (arith, ints, k0, l), omega (arith, ints, k1, m)))
         ],
         r,
       ),
@@ -141,9 +147,11 @@ pair_added (p ∷ ps) x u r e = by (pair_added ps x u r.1) (apart x p.0) (apart 
     there f g = (p ∷ ps, r, refl, refl, inl (λ t. (f t, g t)), λ q i. i, λ q i. inl i)
 
     by : (slot (lefts ps) x ≡ slot (rights ps) u → Adds ps x u (added (lefts ps) x) (added (rights ps) u))
-        → (a : (x <ℤ p.0) ⊎ (p.0 ≤ℤ x)) (b : (p.0 <ℤ x) ⊎ (x ≤ℤ p.0)) (c : (u <ℤ p.1) ⊎ (p.1 ≤ℤ u)) (d : (p.1 <ℤ u) ⊎ (u ≤ℤ p.1))
+        → (a : (x <ℤ p.0) ⊎ (p.0 ≤ℤ x)) (b : (p.0 <ℤ x) ⊎ (x ≤ℤ p.0)) (c : (u <ℤ p.1) ⊎ (p.1 ≤ℤ u))
+            (d : (p.1 <ℤ u) ⊎ (u ≤ℤ p.1))
         → slot_by a b (slot (lefts ps) x) ≡ slot_by c d (slot (rights ps) u)
-        → Adds (p ∷ ps) x u (added_by x p.0 a b (lefts ps) (added (lefts ps) x)) (added_by u p.1 c d (rights ps) (added (rights ps) u))
+        → Adds (p ∷ ps) x u (added_by x p.0 a b (lefts ps) (added (lefts ps) x))
+            (added_by u p.1 c d (rights ps) (added (rights ps) u))
     by ih (inl l) b (inl m) d f = first l m
     by ih (inl l) b (inr m) (inl n) f = absurd (omega (arith, f))
     by ih (inl l) b (inr m) (inr n) f = absurd (omega (arith, f))
@@ -156,7 +164,8 @@ pair_added (p ∷ ps) x u r e = by (pair_added ps x u r.1) (apart x p.0) (apart 
 
 -- the pairs of both lists and what is paired before them stand in rising pairs
 pairs_rise : (vs us : List ℤ) (ps : Pairs) → RisesBy IsLess ps → ChooseAlike (lefts ps) vs (rights ps) us
-    → (ns : Pairs) × RisesBy IsLess ns × ((q : ℤ × ℤ) → In q ps → In q ns) × ((q : ℤ × ℤ) → In q (zip vs us) → In q ns) × (length vs ≡ length us)
+    → (ns : Pairs) × RisesBy IsLess ns × ((q : ℤ × ℤ) → In q ps → In q ns) × ((q : ℤ × ℤ) → In q (zip vs us) → In q ns)
+        × (length vs ≡ length us)
 pairs_rise [] [] ps r c = (ps, r, λ q i. i, λ q i. elim i [ ], refl)
 pairs_rise [] (u ∷ us) ps r c = absurd c
 pairs_rise (v ∷ vs) [] ps r c = absurd c
@@ -172,24 +181,29 @@ pairs_rise (v ∷ vs) (u ∷ us) ps r c =
       ap suc n.4,
     )
 
-members_ordered : (ps : Pairs) → RisesBy IsLess ps → (p q : ℤ × ℤ) → In p ps → In q ps → (p ≡ q) ⊎ (IsLess p q ⊎ IsLess q p)
+members_ordered : (ps : Pairs) → RisesBy IsLess ps → (p q : ℤ × ℤ) → In p ps → In q ps → (p ≡ q)
+    ⊎ (IsLess p q ⊎ IsLess q p)
 members_ordered [] r p q i j = elim i [ ]
 members_ordered (n ∷ ps) r p q (inl e) (inl f) = inl (e ∙ sym f)
 members_ordered (n ∷ ps) r p q (inl e) (inr j) = inr (inl (subst (λ z. IsLess z q) (sym e) (r.0 q j)))
 members_ordered (n ∷ ps) r p q (inr i) (inl f) = inr (inr (subst (λ z. IsLess z p) (sym f) (r.0 p i)))
 members_ordered (n ∷ ps) r p q (inr i) (inr j) = members_ordered ps r.1 p q i j
 
-compared_alike : (ps : Pairs) → RisesBy IsLess ps → (p q : ℤ × ℤ) → In p ps → In q ps → int_cmp p.0 q.0 ≡ int_cmp p.1 q.1
+compared_alike : (ps : Pairs) → RisesBy IsLess ps → (p q : ℤ × ℤ) → In p ps → In q ps → int_cmp p.0 q.0
+    ≡ int_cmp p.1 q.1
 compared_alike ps r p q i j = elim (members_ordered ps r p q i j) as (λ _. int_cmp p.0 q.0 ≡ int_cmp p.1 q.1) [
   | inl e ↦ (λ t. int_cmp (e t).0 q.0) ∙ same ∙ sym (λ t. int_cmp (e t).1 q.1)
   | inr o ↦ elim o as (λ _. int_cmp p.0 q.0 ≡ int_cmp p.1 q.1) [
-    | inl l ↦ (let a = l.0 in let b = l.1 in cmp_like p.1 q.1 p.0 q.0 (λ _. a) (λ f. absurd (omega (arith, ints, b, f))) (λ f. absurd (omega (arith, ints, b, f))))
-    | inr l ↦ (let a = l.0 in let b = l.1 in cmp_like p.1 q.1 p.0 q.0 (λ f. absurd (omega (arith, ints, b, f))) (λ f. absurd (omega (arith, ints, b, f))) (λ _. a))
+    | inl l ↦ (let a = l.0 in let b = l.1 in cmp_like p.1 q.1 p.0 q.0 (λ _. a) (λ f. absurd (omega (arith, ints, b, f)))
+          (λ f. absurd (omega (arith, ints, b, f))))
+    | inr l ↦ (let a = l.0 in let b = l.1 in cmp_like p.1 q.1 p.0 q.0 (λ f. absurd (omega (arith, ints, b, f)))
+          (λ f. absurd (omega (arith, ints, b, f))) (λ _. a))
   ]
 ]
   where
     same : int_cmp q.0 q.0 ≡ int_cmp q.1 q.1
-    same = cmp_like q.1 q.1 q.0 q.0 (λ f. absurd (omega (arith, ints, f))) (λ _. refl) (λ f. absurd (omega (arith, ints, f)))
+    same = cmp_like q.1 q.1 q.0 q.0 (λ f. absurd (omega (arith, ints, f))) (λ _. refl)
+        (λ f. absurd (omega (arith, ints, f)))
 
 twice : List ℤ → Pairs
 twice = map (λ c. (c, c))
@@ -274,7 +288,8 @@ comes k [] b i = elim i [ ]
 comes k ((ps, []) ∷ bs) b i = comes_later k (ps, []) bs b (comes k bs b i)
 comes k ((ps, v ∷ vs) ∷ bs) b i = by (comes k bs b) (same_or_not (slot ps v) k) i
   where
-    by : (In b (taken k bs) → Comes k bs b) → (s : (slot ps v ≡ k) ⊎ (slot ps v ≡ k → ⊥)) → In b (taken_by s (added ps v, vs) (taken k bs)) → Comes k ((ps, v ∷ vs) ∷ bs) b
+    by : (In b (taken k bs) → Comes k bs b) → (s : (slot ps v ≡ k) ⊎ (slot ps v ≡ k → ⊥))
+        → In b (taken_by s (added ps v, vs) (taken k bs)) → Comes k ((ps, v ∷ vs) ∷ bs) b
     by ih (inl e) (inl f) = (ps, v, vs, inl refl, e, f)
     by ih (inl e) (inr j) = comes_later k (ps, v ∷ vs) bs b (ih j)
     by ih (inr n) j = comes_later k (ps, v ∷ vs) bs b (ih j)
@@ -284,7 +299,8 @@ taken_apart k [] a = tt
 taken_apart k ((ps, []) ∷ bs) a = taken_apart k bs a.1
 taken_apart k ((ps, v ∷ vs) ∷ bs) a = by (taken_apart k bs a.1) (same_or_not (slot ps v) k)
   where
-    by : ChooseApart (taken k bs) → (s : (slot ps v ≡ k) ⊎ (slot ps v ≡ k → ⊥)) → ChooseApart (taken_by s (added ps v, vs) (taken k bs))
+    by : ChooseApart (taken k bs) → (s : (slot ps v ≡ k) ⊎ (slot ps v ≡ k → ⊥))
+        → ChooseApart (taken_by s (added ps v, vs) (taken k bs))
     by ih (inl e) = (
       λ d i same. (let w = comes k bs d i in
           let alike = subst (λ (z : Begun). ChooseAlike (added ps v) vs z.0 z.1) w.5 same in
@@ -328,7 +344,8 @@ TakesWhere k ps v vs bs = (slot ps v ≡ k → length (taken k ((ps, v ∷ vs) �
 takes_where : (k : ℕ) (ps : List ℤ) (v : ℤ) (vs : List ℤ) (bs : List Begun) → TakesWhere k ps v vs bs
 takes_where k ps v vs bs = by (same_or_not (slot ps v) k)
   where
-    by : (s : (slot ps v ≡ k) ⊎ (slot ps v ≡ k → ⊥)) → (slot ps v ≡ k → length (taken_by s (added ps v, vs) (taken k bs)) ≡ suc (length (taken k bs)))
+    by : (s : (slot ps v ≡ k) ⊎ (slot ps v ≡ k → ⊥)) → (slot ps v ≡ k
+        → length (taken_by s (added ps v, vs) (taken k bs)) ≡ suc (length (taken k bs)))
         × ((slot ps v ≡ k → ⊥) → length (taken_by s (added ps v, vs) (taken k bs)) ≡ length (taken k bs))
     by (inl e) = (λ _. refl, λ n. absurd (n e))
     by (inr n) = (λ e. absurd (n e), λ _. refl)
@@ -343,10 +360,12 @@ one_taken : (d : ℕ) (ps : List ℤ) (v : ℤ) (vs : List ℤ) (bs : List Begun
 one_taken zero ps v vs bs =
     let at = takes_where 0 ps v vs bs in
     (λ l. at.0 (omega (arith, l)), λ l. at.1 (λ e. omega (arith, l, e)))
-one_taken (suc d) ps v vs bs = by (one_taken d ps v vs bs) (same_or_not (slot ps v) (suc (d + d))) (same_or_not (slot ps v) (suc d + suc d))
+one_taken (suc d) ps v vs bs = by (one_taken d ps v vs bs) (same_or_not (slot ps v) (suc (d + d)))
+    (same_or_not (slot ps v) (suc d + suc d))
     (takes_where (suc (d + d)) ps v vs bs) (takes_where (suc d + suc d) ps v vs bs)
   where
-    below : (slot ps v ≡ suc (d + d) → ⊥) → (slot ps v ≡ suc d + suc d → ⊥) → slot ps v ≤ suc d + suc d → slot ps v ≤ d + d
+    below : (slot ps v ≡ suc (d + d) → ⊥) → (slot ps v ≡ suc d + suc d → ⊥) → slot ps v ≤ suc d + suc d
+        → slot ps v ≤ d + d
     below n m l = elim (cases_lt (d + d) (slot ps v)) as (λ _. slot ps v ≤ d + d) [
       | inr h ↦ h
       | inl h ↦ elim (cases_lt (suc (d + d)) (slot ps v)) as (λ _. slot ps v ≤ d + d) [
@@ -355,7 +374,8 @@ one_taken (suc d) ps v vs bs = by (one_taken d ps v vs bs) (same_or_not (slot ps
       ]
     ]
 
-    by : TakesOne d ps v vs bs → (slot ps v ≡ suc (d + d)) ⊎ (slot ps v ≡ suc (d + d) → ⊥) → (slot ps v ≡ suc d + suc d) ⊎ (slot ps v ≡ suc d + suc d → ⊥)
+    by : TakesOne d ps v vs bs → (slot ps v ≡ suc (d + d)) ⊎ (slot ps v ≡ suc (d + d) → ⊥) → (slot ps v ≡ suc d + suc d)
+        ⊎ (slot ps v ≡ suc d + suc d → ⊥)
         → TakesWhere (suc (d + d)) ps v vs bs → TakesWhere (suc d + suc d) ps v vs bs → TakesOne (suc d) ps v vs bs
     by ih (inl e) f odd even =
         let a = ih.1 (omega (arith, e)) in
@@ -385,7 +405,8 @@ all_taken n d ((ps, v ∷ vs) ∷ bs) are =
     omega (arith, ih, t)
 
 -- bounds for each slot make one for all
-within_slots : (d x y : ℕ) (bs : List Begun) → ((j : ℕ) → length (taken (suc (j + j)) bs) ≤ x) → ((j : ℕ) → length (taken (j + j) bs) ≤ y)
+within_slots : (d x y : ℕ) (bs : List Begun) → ((j : ℕ) → length (taken (suc (j + j)) bs) ≤ x)
+    → ((j : ℕ) → length (taken (j + j) bs) ≤ y)
     → taken_up_to d bs ≤ d * x + suc d * y
 within_slots zero x y bs odd even = let a = even 0 in let b = suc-mul 0 y in omega (arith, a, b)
 within_slots (suc d) x y bs odd even =
@@ -401,7 +422,8 @@ begun_few zero d [] are a = omega arith
 begun_few zero d (b ∷ []) are a = omega arith
 begun_few zero d ((ps, []) ∷ (qs, []) ∷ bs) are a = absurd (a.0 (qs, []) (inl refl) tt)
 begun_few zero d ((ps, v ∷ vs) ∷ b ∷ bs) are a = absurd (let l = (are (ps, v ∷ vs) (inl refl)).1 in omega (arith, l))
-begun_few zero d (b ∷ (qs, u ∷ us) ∷ bs) are a = absurd (let l = (are (qs, u ∷ us) (inr (inl refl))).1 in omega (arith, l))
+begun_few zero d (b ∷ (qs, u ∷ us) ∷ bs) are a = absurd
+    (let l = (are (qs, u ∷ us) (inr (inl refl))).1 in omega (arith, l))
 begun_few (suc n) d bs are a =
     let all = all_taken n d bs are in
     let few = within_slots d (most_types n d) (most_types n (suc d)) bs
@@ -414,7 +436,8 @@ begun_few (suc n) d bs are a =
 begin : List ℤ → List (List ℤ) → List Begun
 begin cs = map (λ vs. (cs, vs))
 
-in_begin : (cs : List ℤ) (b : Begun) (lists : List (List ℤ)) → In b (begin cs lists) → (vs : List ℤ) × In vs lists × (b ≡ (cs, vs))
+in_begin : (cs : List ℤ) (b : Begun) (lists : List (List ℤ)) → In b (begin cs lists) → (vs : List ℤ) × In vs lists
+    × (b ≡ (cs, vs))
 unfolding begin
 in_begin cs b [] i = elim i [ ]
 in_begin cs b (vs ∷ lists) (inl e) = (vs, inl refl, e)
@@ -430,7 +453,8 @@ begin_apart cs (vs ∷ lists) rises differ = (
 )
 
 -- no more order types than choices of slots
-pub within_most : (limit n : ℕ) (cs : List ℤ) → Rises cs → most_types n (length cs) ≤ limit → MoreTypesThan limit n cs → ⊥
+pub within_most : (limit n : ℕ) (cs : List ℤ) → Rises cs → most_types n (length cs) ≤ limit → MoreTypesThan limit n cs
+    → ⊥
 unfolding begin
 within_most limit n cs rises few more =
     let are : AreBegun n (length cs) (begin cs more.lists) = λ b i. (let w = in_begin cs b more.lists i in

@@ -1,5 +1,6 @@
 -- The order types of n values among rising constants have a list, or are too many.
-use Rattle.std.specs.Prelude.{◌≡◌, ℕ, suc, zero, ℤ, pos, neg_ℤ, negsuc, ◌+ℤ◌, ◌-ℤ◌, ◌≤ℤ◌, ◌<ℤ◌, ◌+◌, ◌^◌, ◌<◌, ◌≤◌, List, [], ◌∷◌, ◌++◌, ◌⊎◌, length}
+use Rattle.std.specs.Prelude.{◌≡◌, ℕ, suc, zero, ℤ, pos, neg_ℤ, negsuc, ◌+ℤ◌, ◌-ℤ◌, ◌≤ℤ◌, ◌<ℤ◌, ◌+◌, ◌^◌, ◌<◌, ◌≤◌}
+use Rattle.std.specs.Prelude.{List, [], ◌∷◌, ◌++◌, ◌⊎◌, length}
 use Rattle.std.proofs.Common.{refl, sym, subst, ◌∙◌, inl, inr, arith}
 use Rattle.std.proofs.lemmas.Bool.{cases_lt}
 use Rattle.std.proofs.lemmas.Int.{ints}
@@ -28,7 +29,8 @@ joined v (x ∷ ks) r = by (apart v x) (apart x v) (joined v ks r.1)
     first l = (
       v ∷ x ∷ ks,
       record {
-        rise = (λ d i. elim i as (λ _. v <ℤ d) [ inl e ↦ subst (λ z. v <ℤ z) (sym e) l | inr j ↦ (let m = r.0 d j in omega (arith, ints, l, m)) ], r);
+        rise = (λ d i. elim i as (λ _. v <ℤ d) [ inl e ↦ subst (λ z. v <ℤ z) (sym e) l | inr j ↦
+            (let m = r.0 d j in omega (arith, ints, l, m)) ], r);
         only = λ u i. i;
         all = λ u i. i;
       },
@@ -38,7 +40,8 @@ joined v (x ∷ ks) r = by (apart v x) (apart x v) (joined v ks r.1)
     later l w = (
       x ∷ w.0,
       record {
-        rise = (λ d i. elim (w.1.only d i) as (λ _. x <ℤ d) [ inl e ↦ subst (λ z. x <ℤ z) (sym e) l | inr j ↦ r.0 d j ], w.1.rise);
+        rise = (λ d i. elim (w.1.only d i) as (λ _. x <ℤ d) [ inl e ↦ subst (λ z. x <ℤ z) (sym e) l | inr j ↦ r.0 d j ],
+            w.1.rise);
         only = λ u i. elim i as (λ _. (u ≡ v) ⊎ ((u ≡ x) ⊎ In u ks)) [
           | inl e ↦ inr (inl e)
           | inr j ↦ elim (w.1.only u j) as (λ _. (u ≡ v) ⊎ ((u ≡ x) ⊎ In u ks)) [ inl e ↦ inl e | inr k ↦ inr (inr k) ]
@@ -56,7 +59,8 @@ joined v (x ∷ ks) r = by (apart v x) (apart x v) (joined v ks r.1)
       record {
         rise = r;
         only = λ u i. inr i;
-        all = λ u i. elim i as (λ _. (u ≡ x) ⊎ In u ks) [ inl e ↦ inl (let q : v ≡ x = omega (arith, ints, l, m) in e ∙ q) | inr j ↦ j ];
+        all = λ u i. elim i as (λ _. (u ≡ x) ⊎ In u ks)
+            [ inl e ↦ inl (let q : v ≡ x = omega (arith, ints, l, m) in e ∙ q) | inr j ↦ j ];
       },
     )
 
@@ -75,13 +79,15 @@ picked : (P : ℤ → Type 0) → ((v : ℤ) → P v ⊎ (P v → ⊥)) → (xs 
 picked P test [] = ([], record { rise = tt; good = λ v i. elim i [ ]; all = λ v i. elim i [ ] })
 picked P test (x ∷ xs) = by (test x) (picked P test xs)
   where
-    taken : P x → (w : (ks : List ℤ) × Picks P xs ks) → (ls : List ℤ) × Joins x w.0 ls → (ks : List ℤ) × Picks P (x ∷ xs) ks
+    taken : P x → (w : (ks : List ℤ) × Picks P xs ks) → (ls : List ℤ) × Joins x w.0 ls → (ks : List ℤ)
+        × Picks P (x ∷ xs) ks
     taken h w j = (
       j.0,
       record {
         rise = j.1.rise;
         good = λ v i. elim (j.1.only v i) as (λ _. P v) [ inl e ↦ subst P (sym e) h | inr k ↦ w.1.good v k ];
-        all = λ v i g. elim i as (λ _. In v j.0) [ inl e ↦ j.1.all v (inl e) | inr k ↦ j.1.all v (inr (w.1.all v k g)) ];
+        all = λ v i g. elim i as (λ _. In v j.0) [ inl e ↦ j.1.all v (inl e) | inr k ↦ j.1.all v
+            (inr (w.1.all v k g)) ];
       },
     )
 
@@ -116,8 +122,10 @@ around n b = upward (n + n) (b -ℤ pos n)
 in_around : (n : ℕ) (b u : ℤ) → distance b u ≤ n → In u (around n b)
 unfolding around
 in_around n b u d = elim (apart u b) as (λ _. In u (upward (n + n) (b -ℤ pos n))) [
-  | inl l ↦ (let e = distance_below b u l in in_upward (n + n) (b -ℤ pos n) u (omega (arith, ints, e, d)) (omega (arith, ints, e, d)))
-  | inr l ↦ (let e = distance_above b u l in in_upward (n + n) (b -ℤ pos n) u (omega (arith, ints, e, d)) (omega (arith, ints, e, d)))
+  | inl l ↦ (let e = distance_below b u l in in_upward (n + n) (b -ℤ pos n) u (omega (arith, ints, e, d))
+        (omega (arith, ints, e, d)))
+  | inr l ↦ (let e = distance_above b u l in in_upward (n + n) (b -ℤ pos n) u (omega (arith, ints, e, d))
+        (omega (arith, ints, e, d)))
 ]
 
 near_any : ℕ → List ℤ → List ℤ
@@ -127,7 +135,8 @@ near_any n (b ∷ bs) = around n b ++ near_any n bs
 in_near : (n : ℕ) (b u : ℤ) (bs : List ℤ) → In b bs → distance b u ≤ n → In u (near_any n bs)
 unfolding near_any
 in_near n b u [] i d = elim i [ ]
-in_near n b u (c ∷ bs) (inl e) d = in_first u (around n c) (near_any n bs) (in_around n c u (subst (λ z. distance z u ≤ n) e d))
+in_near n b u (c ∷ bs) (inl e) d = in_first u (around n c) (near_any n bs)
+    (in_around n c u (subst (λ z. distance z u ≤ n) e d))
 in_near n b u (c ∷ bs) (inr i) d = in_second u (around n c) (near_any n bs) (in_near n b u bs i d)
 
 -- what values are counted from
@@ -191,11 +200,13 @@ pub types_or_more : (limit n : ℕ) (cs : List ℤ) → limit < 2 ^ 64 → Rises
     → ((rs : List (List ℤ)) × AreTypes n cs rs × (length rs ≤ limit)) ⊎ MoreTypesThan limit n cs
 types_or_more limit n cs l rises values = by (cases_lt 64 n)
   where
-    listed : (w : (rs : List (List ℤ)) × AreTypes n cs rs) → (limit < length w.0) ⊎ (length w.0 ≤ limit) → ((rs : List (List ℤ)) × AreTypes n cs rs × (length rs ≤ limit)) ⊎ MoreTypesThan limit n cs
+    listed : (w : (rs : List (List ℤ)) × AreTypes n cs rs) → (limit < length w.0) ⊎ (length w.0 ≤ limit)
+        → ((rs : List (List ℤ)) × AreTypes n cs rs × (length rs ≤ limit)) ⊎ MoreTypesThan limit n cs
     listed w (inl more) = inr (more_types limit n cs w.0 w.1 more)
     listed w (inr few) = inl (w.0, w.1, few)
 
-    by : (64 < n) ⊎ (n ≤ 64) → ((rs : List (List ℤ)) × AreTypes n cs rs × (length rs ≤ limit)) ⊎ MoreTypesThan limit n cs
+    by : (64 < n) ⊎ (n ≤ 64) → ((rs : List (List ℤ)) × AreTypes n cs rs × (length rs ≤ limit))
+        ⊎ MoreTypesThan limit n cs
     by (inl h) = inr (many_classes limit n cs l h)
     by (inr h) =
         let w = types_there n cs (omega (arith, h)) rises values in

@@ -8,14 +8,17 @@ use Rattle.chr_base.specs.Programs.{declarations, rules_of}
 use Rattle.chr_base.specs.Weights.{default_weight}
 use Rattle.chr_weighing.specs.Reweighing.{IsReweighed, without_weights}
 
-pub reweighed_at : (ds : List Declaration) (i : ℕ) (w : Weight) → without_weights (with_weight ds i w) ≡ without_weights ds
+pub reweighed_at : (ds : List Declaration) (i : ℕ) (w : Weight) → without_weights (with_weight ds i w)
+    ≡ without_weights ds
 reweighed_at [] i w = refl
 reweighed_at (d ∷ ds) zero w = refl
 reweighed_at (d ∷ ds) (suc i) w = ap (λ es. record d { weight = default_weight } ∷ es) (reweighed_at ds i w)
 
 -- one weight more
-pub put_at : (p q : Program) (i : ℕ) (w : Weight) → declarations q ≡ with_weight (declarations p) i w → rules_of q ≡ rules_of p → IsReweighed p q
-put_at p q i w symbols rules = record { rules = rules; symbols = ap without_weights symbols ∙ reweighed_at (declarations p) i w }
+pub put_at : (p q : Program) (i : ℕ) (w : Weight) → declarations q ≡ with_weight (declarations p) i w → rules_of q
+    ≡ rules_of p → IsReweighed p q
+put_at p q i w symbols rules = record { rules = rules; symbols = ap without_weights symbols
+    ∙ reweighed_at (declarations p) i w }
 
 pub reweighed_on : (p q r : Program) → IsReweighed p q → IsReweighed q r → IsReweighed p r
 reweighed_on p q r h k = record { rules = k.rules ∙ h.rules; symbols = k.symbols ∙ h.symbols }

@@ -1,5 +1,6 @@
 -- Numbers of symbols, each taken as often as the symbol stands somewhere.
-use Rattle.std.specs.Prelude.{◌≡◌, ℕ, zero, suc, ◌+◌, ◌*◌, ◌<◌, ◌≤◌, Bool, true, false, cond, nat_eq, List, [], ◌∷◌, length, sum, Some, slice_get}
+use Rattle.std.specs.Prelude.{◌≡◌, ℕ, zero, suc, ◌+◌, ◌*◌, ◌<◌, ◌≤◌, Bool, true, false, cond, nat_eq, List, [], ◌∷◌}
+use Rattle.std.specs.Prelude.{length, sum, Some, slice_get}
 use Rattle.std.proofs.Common.{refl, ap, arith}
 use Rattle.std.proofs.Math.Nat.{mul-le-mul_left, mul-suc}
 use Rattle.std.proofs.lemmas.Bool.Decides.{nat_tests}
@@ -45,7 +46,8 @@ dot_other (suc n) f x l =
     let m : f n * once x n ≡ f n * 0 = ap (λ o. f n * o) k in
     omega (arith, h, m)
 
-one_more : (n : ℕ) (f : ℕ → ℕ) (x : ℕ) → x < suc n → (x < n → dot n f (once x) ≡ f x) → (b : Bool) → nat_eq x n ≡ b → dot (suc n) f (once x) ≡ f x
+one_more : (n : ℕ) (f : ℕ → ℕ) (x : ℕ) → x < suc n → (x < n → dot n f (once x) ≡ f x) → (b : Bool) → nat_eq x n ≡ b
+    → dot (suc n) f (once x) ≡ f x
 one_more n f x l more true e =
     let same : x ≡ n = grind (arith, nat_tests) in
     let h = dot_other n f x (omega (arith, same)) in
@@ -71,7 +73,9 @@ taken_times f (x ∷ xs) [] = 0
 taken_times f (x ∷ xs) (k ∷ times) = k * f x + taken_times f xs times
 
 -- where each number is less than another
-pub taken_less : {A : Type 0} (f g : A → ℕ) (xs : List A) (times : List ℕ) → length times ≡ length xs → ((i : ℕ) (x : A) → slice_get xs i ≡ Some x → f x < g x) → taken_times f xs times + sum times ≤ taken_times g xs times
+pub taken_less : {A : Type 0} (f g : A → ℕ) (xs : List A) (times : List ℕ) → length times ≡ length xs
+    → ((i : ℕ) (x : A) → slice_get xs i ≡ Some x → f x < g x)
+    → taken_times f xs times + sum times ≤ taken_times g xs times
 taken_less f g [] [] l h = omega arith
 taken_less f g [] (k ∷ times) l h = absurd (omega (arith, l))
 taken_less f g (x ∷ xs) [] l h = absurd (omega (arith, l))

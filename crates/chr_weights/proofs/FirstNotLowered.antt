@@ -40,13 +40,16 @@ lighter_or_not v w = elim (cases_lt v.first w.first) as (λ _. IsLighter v w ⊎
 module _ (ds : List Declaration) where
   -- values don't change what a pattern's atom weighs
   pattern_weighs : (v w : Valuation) (p : Pattern) → weight_by ds (atom_at v p) ≡ weight_by ds (atom_at w p)
-  pattern_weighs v w p = ap (declared_weight (slice_get ds p.symbol.0)) (length-map p.args.items (term_value v) ∙ sym (length-map p.args.items (term_value w)))
+  pattern_weighs v w p = ap (declared_weight (slice_get ds p.symbol.0))
+      (length-map p.args.items (term_value v) ∙ sym (length-map p.args.items (term_value w)))
 
-  total_weighs : (f : Weight → ℕ) (v w : Valuation) (ps : List Pattern) → total (λ a. f (weight_by ds a)) (atoms_at v ps) ≡ total (λ a. f (weight_by ds a)) (atoms_at w ps)
+  total_weighs : (f : Weight → ℕ) (v w : Valuation) (ps : List Pattern)
+      → total (λ a. f (weight_by ds a)) (atoms_at v ps) ≡ total (λ a. f (weight_by ds a)) (atoms_at w ps)
   total_weighs f v w [] = refl
   total_weighs f v w (p ∷ ps) = let a = ap f (pattern_weighs v w p) in let b = total_weighs f v w ps in λ k. a k + b k
 
-  patterns_weigh : (v w : Valuation) (ps : List Pattern) → total_weight (weight_by ds) (atoms_at v ps) ≡ total_weight (weight_by ds) (atoms_at w ps)
+  patterns_weigh : (v w : Valuation) (ps : List Pattern) → total_weight (weight_by ds) (atoms_at v ps)
+      ≡ total_weight (weight_by ds) (atoms_at w ps)
   patterns_weigh v w ps =
       let a = total_weighs (λ x. x.first) v w ps in
       let b = total_weighs (λ x. x.second) v w ps in
@@ -60,21 +63,26 @@ module _ (ds : List Declaration) where
 
   lowers_where : (r : Rule) → IsLighter (after r) (before r) → IsLowering (weight_by ds) r
   lowers_where r h v =
-      subst (λ x. IsLighter x (total_weight (weight_by ds) (atoms_at v r.removed.items))) (patterns_weigh zeros v r.body.items)
+      subst (λ x. IsLighter x (total_weight (weight_by ds) (atoms_at v r.removed.items)))
+          (patterns_weigh zeros v r.body.items)
       (subst (IsLighter (after r)) (patterns_weigh zeros v r.removed.items) h)
 
   -- the first rule of the list that doesn't lower, which is the n-th after it
-  first_here : (r : Rule) (rules : List Rule) → (¬ IsLighter (after r) (before r)) → IsFirstNotLowered ds (r ∷ rules) 1 (before r) (after r)
+  first_here : (r : Rule) (rules : List Rule) → (¬ IsLighter (after r) (before r)) → IsFirstNotLowered ds (r ∷ rules) 1
+      (before r) (after r)
   first_here r rules heavy = record {
     first = omega arith;
     within = omega arith;
     earlier = λ j q l e. absurd (omega (arith, l));
-    weight_before = λ q v e. (let f : Some r ≡ Some q = e in let g : r ≡ q = cc in ap before g ∙ patterns_weigh zeros v q.removed.items);
-    weight_after = λ q v e. (let f : Some r ≡ Some q = e in let g : r ≡ q = cc in ap after g ∙ patterns_weigh zeros v q.body.items);
+    weight_before = λ q v e. (let f : Some r ≡ Some q = e in let g : r ≡ q = cc in
+        ap before g ∙ patterns_weigh zeros v q.removed.items);
+    weight_after = λ q v e. (let f : Some r ≡ Some q = e in let g : r ≡ q = cc in
+        ap after g ∙ patterns_weigh zeros v q.body.items);
     not_lowered = heavy;
   }
 
-  first_later : (r : Rule) (rules : List Rule) (i : ℕ) (b a : Weight) → IsLowering (weight_by ds) r → IsFirstNotLowered ds rules (suc i) b a → IsFirstNotLowered ds (r ∷ rules) (suc (suc i)) b a
+  first_later : (r : Rule) (rules : List Rule) (i : ℕ) (b a : Weight) → IsLowering (weight_by ds) r
+      → IsFirstNotLowered ds rules (suc i) b a → IsFirstNotLowered ds (r ∷ rules) (suc (suc i)) b a
   first_later r rules i b a lowers h = record {
     first = omega arith;
     within = (let w = h.within in omega (arith, w));
@@ -91,12 +99,16 @@ module _ (ds : List Declaration) where
           let f : slice_get rules i ≡ Some q = subst (λ k. slice_get (r ∷ rules) k ≡ Some q) m e in
           subst (λ k. slice_get rules k ≡ Some q) n f
 
-      earlier : (j : ℕ) (q : Rule) → j + 1 < suc (suc i) → slice_get (r ∷ rules) j ≡ Some q → IsLowering (weight_by ds) q
-      earlier zero q l e = let f : Some r ≡ Some q = e in let g : r ≡ q = cc in subst (IsLowering (weight_by ds)) g lowers
+      earlier : (j : ℕ) (q : Rule) → j + 1 < suc (suc i) → slice_get (r ∷ rules) j ≡ Some q
+          → IsLowering (weight_by ds) q
+      earlier zero q l e = let f : Some r ≡ Some q = e in let g : r ≡ q = cc in
+          subst (IsLowering (weight_by ds)) g lowers
       earlier (suc j) q l e = h.earlier j q (omega (arith, l)) e
 
-  all_later : (r : Rule) (rules : List Rule) → IsLowering (weight_by ds) r → AreLowering (weight_by ds) rules → AreLowering (weight_by ds) (r ∷ rules)
-  all_later r rules lowers all zero q e = let f : Some r ≡ Some q = e in let g : r ≡ q = cc in subst (IsLowering (weight_by ds)) g lowers
+  all_later : (r : Rule) (rules : List Rule) → IsLowering (weight_by ds) r → AreLowering (weight_by ds) rules
+      → AreLowering (weight_by ds) (r ∷ rules)
+  all_later r rules lowers all zero q e = let f : Some r ≡ Some q = e in let g : r ≡ q = cc in
+      subst (IsLowering (weight_by ds)) g lowers
   all_later r rules lowers all (suc j) q e = all j q e
 
   abbrev HasFirst : List Rule → Type 0
@@ -107,14 +119,17 @@ module _ (ds : List Declaration) where
   all_or_first [] = inl (λ i r e. absurd (none-some r e))
   all_or_first (r ∷ rules) = by (lighter_or_not (after r) (before r)) (all_or_first rules)
     where
-      by : IsLighter (after r) (before r) ⊎ (¬ IsLighter (after r) (before r)) → AreLowering (weight_by ds) rules ⊎ HasFirst rules → AreLowering (weight_by ds) (r ∷ rules) ⊎ HasFirst (r ∷ rules)
+      by : IsLighter (after r) (before r) ⊎ (¬ IsLighter (after r) (before r)) → AreLowering (weight_by ds) rules
+          ⊎ HasFirst rules → AreLowering (weight_by ds) (r ∷ rules) ⊎ HasFirst (r ∷ rules)
       by (inr heavy) more = inr (0, before r, after r, first_here r rules heavy)
       by (inl l) (inl all) = inl (all_later r rules (lowers_where r l) all)
       by (inl l) (inr w) = inr (suc w.0, w.1, w.2, first_later r rules w.0 w.1 w.2 (lowers_where r l) w.3)
 
 pub lowers_or_first : (ds : List Declaration) (rules : List Rule)
-    → AreLowering (weight_by ds) rules ⊎ ((i : ℕ) × (before : Weight) × (after : Weight) × IsFirstNotLowered ds rules i before after)
-lowers_or_first ds rules = elim (all_or_first ds rules) as (λ _. AreLowering (weight_by ds) rules ⊎ ((i : ℕ) × (b : Weight) × (a : Weight) × IsFirstNotLowered ds rules i b a)) [
+    → AreLowering (weight_by ds) rules ⊎ ((i : ℕ) × (before : Weight) × (after : Weight)
+        × IsFirstNotLowered ds rules i before after)
+lowers_or_first ds rules = elim (all_or_first ds rules) as (λ _. AreLowering (weight_by ds) rules
+    ⊎ ((i : ℕ) × (b : Weight) × (a : Weight) × IsFirstNotLowered ds rules i b a)) [
   | inl all ↦ inl all
   | inr w ↦ inr (suc w.0, w.1, w.2, w.3)
 ]

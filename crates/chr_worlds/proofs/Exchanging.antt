@@ -44,7 +44,8 @@ changed_at w v r R h = (
 )
 
 -- the others are as they were
-same_at : (w v : Replicas) (r k : ℕ) (R : Replica → Replica → Type 0) (s : Replica) (h : Changes w r R v) → (k ≡ r → ⊥) → IsAt w k s → IsAt v k s
+same_at : (w v : Replicas) (r k : ℕ) (R : Replica → Replica → Type 0) (s : Replica) (h : Changes w r R v) → (k ≡ r → ⊥)
+    → IsAt w k s → IsAt v k s
 same_at w v r k R s h n there =
     let zero_below_r = h.there.0 in
     let zero_below_k = there.0 in (
@@ -55,7 +56,8 @@ same_at w v r k R s h n there =
 
 -- ---- operations
 
-pub took_in : ExchangeLaw → (p : Program) (s t u : Replica) (n : ℕ) → TakesIn p s t (reply.Merged n) u → u.operations ≡ union t.operations (map.entries s.operations)
+pub took_in : ExchangeLaw → (p : Program) (s t u : Replica) (n : ℕ) → TakesIn p s t (reply.Merged n) u → u.operations
+    ≡ union t.operations (map.entries s.operations)
 took_in exchange p s t u n h =
     ap (λ r. r.operations) h.merged.after ∙ exchange t.operations s.operations h.summary h.covers
 
@@ -69,12 +71,14 @@ syncs_unite exchange p w v a b n s t u h at_a at_b after =
     ∙ (λ i. union ((before i).operations) (map.entries ((from i).operations)))
 
 -- what joins both is there after a second join
-both_held : (x y : Option Store) → ((s t : Store) → x ≡ Some s → y ≡ Some t → s ≡ t) → option_or x (option_or y x) ≡ option_or y x
+both_held : (x y : Option Store) → ((s t : Store) → x ≡ Some s → y ≡ Some t → s ≡ t) → option_or x (option_or y x)
+    ≡ option_or y x
 both_held None y same = refl
 both_held (Some s) None same = refl
 both_held (Some s) (Some t) same = ap Some (same s t refl refl)
 
-joined_twice : (m n : Operations) → HaveOneBag m n → union m (map.entries (union n (map.entries m))) ≡ union n (map.entries m)
+joined_twice : (m n : Operations) → HaveOneBag m n → union m (map.entries (union n (map.entries m)))
+    ≡ union n (map.entries m)
 joined_twice m n same = map.same_map id_total id_exact _ _ (λ q.
     get-union m (map.entries (union n (map.entries m))) q
     ∙ ap (option_or (map.get m q)) (sym (map.get-entries (union n (map.entries m)) q) ∙ found q)

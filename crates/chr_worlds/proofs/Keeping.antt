@@ -18,7 +18,8 @@ use Rattle.chr_worlds.specs.declared.answer.Answer.{Answer}
 use Rattle.chr_worlds.specs.declared.answer.Answer.TheVariants as answer
 use Rattle.chr_worlds.specs.Worlds.{Replicas, IsAt, Changes, Works, Happens, Runs}
 
-works_keeps : EventsKeep → (p : Program) (s : Replica) (number : ℕ) (steps : List StepValue) (x : Reply) (t : Replica) → Works p s number steps x t → IsSound p s → IsSound p t
+works_keeps : EventsKeep → (p : Program) (s : Replica) (number : ℕ) (steps : List StepValue) (x : Reply) (t : Replica)
+    → Works p s number steps x t → IsSound p s → IsSound p t
 works_keeps k p s number steps reply.WasPut t h sound = k.put p number h.0 h.1 s t h.3 sound
 works_keeps k p s number steps (reply.Refused (refusal.NoLease n)) t h sound = subst (IsSound p) (sym h.1) sound
 works_keeps k p s number steps (reply.Refused refusal.NotThere) t h sound = subst (IsSound p) (sym h.4) sound
@@ -33,9 +34,11 @@ changes_keeps : (p : Program) (w : Replicas) (r : ℕ) (R : Replica → Replica 
     → ((s t : Replica) → R s t → IsSound p s → IsSound p t) → Changes w r R v → All (IsSound p) w → All (IsSound p) v
 changes_keeps p w r R v keep h all =
     subst (All (IsSound p)) (sym h.world)
-    (All-set (IsSound p) w (r - 1) h.after (keep h.before h.after h.changed (holds_at (IsSound p) w r h.before all h.there)) all)
+    (All-set (IsSound p) w (r - 1) h.after (keep h.before h.after h.changed
+        (holds_at (IsSound p) w r h.before all h.there)) all)
 
-happens_keeps : EventsKeep → (p : Program) (w : Replicas) (e : Event) (x : Answer) (v : Replicas) → Happens p w e x v → All (IsSound p) w → All (IsSound p) v
+happens_keeps : EventsKeep → (p : Program) (w : Replicas) (e : Event) (x : Answer) (v : Replicas) → Happens p w e x v
+    → All (IsSound p) w → All (IsSound p) v
 happens_keeps k p w (event.At r a) (answer.Replied x) v h all =
     changes_keeps p w r _ v (λ s t. does_keeps k p s a x t) h all
 happens_keeps k p w (event.At r a) answer.UnknownSymbol v h all = subst (All (IsSound p)) (sym h.2) all
@@ -50,7 +53,8 @@ happens_keeps k p w (event.Work r number steps) (answer.Replied x) v h all =
 happens_keeps k p w (event.Work r number steps) answer.UnknownSymbol v h all = absurd h
 happens_keeps k p w (event.Work r number steps) answer.NoReplica v h all = subst (All (IsSound p)) (sym h.1) all
 
-pub runs_keep : EventsKeep → (p : Program) (w : Replicas) (es : List Event) (xs : List Answer) (v : Replicas) → Runs p w es xs v → All (IsSound p) w → All (IsSound p) v
+pub runs_keep : EventsKeep → (p : Program) (w : Replicas) (es : List Event) (xs : List Answer) (v : Replicas)
+    → Runs p w es xs v → All (IsSound p) w → All (IsSound p) v
 runs_keep k p w [] [] v h all = subst (All (IsSound p)) (sym h) all
 runs_keep k p w (e ∷ es) (x ∷ xs) v h all =
     runs_keep k p h.0 es xs v h.2 (happens_keeps k p w e x h.0 h.1 all)

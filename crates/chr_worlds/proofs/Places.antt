@@ -1,5 +1,6 @@
 -- The boards of a world in a list, and their replicas.
-use Rattle.std.specs.Prelude.{◌≡◌, ℕ, suc, ◌+◌, ◌<◌, List, length, replicate, zero, ◌∷◌, take, drop, ◌++◌, Option, Some, slice_get, slice_index_or, slice_set, Result, Ok, Err, OnErr}
+use Rattle.std.specs.Prelude.{◌≡◌, ℕ, suc, ◌+◌, ◌<◌, List, length, replicate, zero, ◌∷◌, take, drop, ◌++◌, Option, Some}
+use Rattle.std.specs.Prelude.{slice_get, slice_index_or, slice_set, Result, Ok, Err, OnErr}
 use Rattle.std.proofs.Common.{refl, sym, ap, ◌∙◌, subst, arith}
 use Rattle.std.specs.Option.{option_map}
 use Rattle.std.proofs.lemmas.List.{map-set, set-get_or, take-append-le, take_all}
@@ -21,46 +22,56 @@ use Rattle.chr_worlds.specs.Sharing.{Shared, shared_program}
 use Rattle.chr_worlds.specs.working.Boards.{replicas_on, AreOf, ChangesAt, AreLacked, AreLackedAt, ExchangesAt}
 
 -- a board that was read is at its place
-pub is_there : (bs : List Held) (place : ℕ) (b : Held) → place < length bs → b ≡ slice_index_or bs place b → slice_get bs place ≡ Some b
+pub is_there : (bs : List Held) (place : ℕ) (b : Held) → place < length bs → b ≡ slice_index_or bs place b
+    → slice_get bs place ≡ Some b
 is_there bs place b within read =
     slice_get-get_or bs place b within ∙ ap Some (sym read)
 
 -- a board that stayed as it was is written back
-pub set_again : {A E : Type 0} (r : Result A E) (bs : List Held) (place : ℕ) (d b : Held) → OnErr r (b ≡ slice_index_or bs place d) → OnErr r (slice_set bs place b ≡ bs)
+pub set_again : {A E : Type 0} (r : Result A E) (bs : List Held) (place : ℕ) (d b : Held)
+    → OnErr r (b ≡ slice_index_or bs place d) → OnErr r (slice_set bs place b ≡ bs)
 set_again (Ok x) bs place d b same = tt
 set_again (Err e) bs place d b same = ap (slice_set bs place) same ∙ set-get_or bs place d
 
 -- the replica of a board stands at its place
-pub replica_at : (bs : List Held) (place : ℕ) (b : Held) → slice_get bs place ≡ Some b → slice_get (replicas_on bs) place ≡ Some b.replica
+pub replica_at : (bs : List Held) (place : ℕ) (b : Held) → slice_get bs place ≡ Some b
+    → slice_get (replicas_on bs) place ≡ Some b.replica
 replica_at bs place b there = slice_get-map (λ b. b.replica) bs place ∙ ap (option_map (λ b. b.replica)) there
 
 -- and has the next number
-pub number_at : (bs : List Held) (number place : ℕ) (b : Held) → number ≡ place + 1 → slice_get bs place ≡ Some b → IsAt (replicas_on bs) number b.replica
+pub number_at : (bs : List Held) (number place : ℕ) (b : Held) → number ≡ place + 1 → slice_get bs place ≡ Some b
+    → IsAt (replicas_on bs) number b.replica
 number_at bs number place b is there = (
   omega (arith, is),
   ap (slice_get (replicas_on bs)) (omega (arith, is)) ∙ replica_at bs place b there,
 )
 
 -- what holds of each board holds of the one at a place
-pub of_program : (a : Accepted) (bs : List Held) (place : ℕ) (b : Held) → AreOf a bs → slice_get bs place ≡ Some b → b.accepted ≡ a
+pub of_program : (a : Accepted) (bs : List Held) (place : ℕ) (b : Held) → AreOf a bs → slice_get bs place ≡ Some b
+    → b.accepted ≡ a
 of_program a bs place b all there =
     subst (λ b. b.accepted ≡ a) (get_or_from_slice_get bs place b b there)
     (all place b (slice_get_within bs place b there))
 
 -- where one board changes, all are of the program as they were
-pub still_of : (a : Accepted) (bs cs : List Held) (place : ℕ) (R : Held → Replica → Type 0) → AreOf a bs → ChangesAt bs place R cs → AreOf a cs
+pub still_of : (a : Accepted) (bs cs : List Held) (place : ℕ) (R : Held → Replica → Type 0) → AreOf a bs
+    → ChangesAt bs place R cs → AreOf a cs
 still_of a bs cs place R all h =
     subst (AreOf a) (sym h.boards)
     (All-set (λ b. b.accepted ≡ a) bs place h.after (h.program ∙ of_program a bs place h.before all h.there) all)
 
 -- and its replica changes
-pub replicas_change : (a : Accepted) (bs cs : List Held) (number place : ℕ) (R : Held → Replica → Type 0) (Q : Replica → Replica → Type 0) → number ≡ place + 1 → AreOf a bs → ((b : Held) (t : Replica) → b.accepted ≡ a → R b t → Q b.replica t) → ChangesAt bs place R cs → Changes (replicas_on bs) number Q (replicas_on cs)
+pub replicas_change : (a : Accepted) (bs cs : List Held) (number place : ℕ) (R : Held → Replica → Type 0)
+    (Q : Replica → Replica → Type 0) → number ≡ place + 1 → AreOf a bs
+    → ((b : Held) (t : Replica) → b.accepted ≡ a → R b t → Q b.replica t) → ChangesAt bs place R cs
+    → Changes (replicas_on bs) number Q (replicas_on cs)
 replicas_change a bs cs number place R Q is all follows h = record {
   before = h.before.replica;
   after = h.after.replica;
   there = number_at bs number place h.before is h.there;
   changed = follows h.before h.after.replica (of_program a bs place h.before all h.there) h.changed;
-  world = ap replicas_on h.boards ∙ map-set (λ b. b.replica) bs place h.after ∙ ap (λ k. slice_set (replicas_on bs) k h.after.replica) (omega (arith, is));
+  world = ap replicas_on h.boards ∙ map-set (λ b. b.replica) bs place h.after
+      ∙ ap (λ k. slice_set (replicas_on bs) k h.after.replica) (omega (arith, is));
 }
 
 -- boards that were told nothing
@@ -69,7 +80,8 @@ untold zero b = refl
 untold (suc n) b = ap (λ l. b.replica ∷ l) (untold n b)
 
 -- the boards are those that a slice of them came to
-pub slice_back : (n : ℕ) (xs ys : List Held) → length xs ≡ length ys → n ≡ length ys → take n (xs ++ drop (length xs) ys) ≡ xs
+pub slice_back : (n : ℕ) (xs ys : List Held) → length xs ≡ length ys → n ≡ length ys
+    → take n (xs ++ drop (length xs) ys) ≡ xs
 slice_back n xs ys same is =
     take-append-le n xs (drop (length xs) ys) (omega (arith, same, is)) ∙ take_all n xs (omega (arith, same, is))
 

@@ -18,7 +18,8 @@ is_new n (Constant c) = false
 abbrev pub Keeps : List ℤ → Valuation → Type 0
 Keeps vs w = (x : ℕ) → x < length vs → w (x + 1) ≡ get_or vs x (pos 0)
 
--- ws has a value for each variable of vs and of the terms, and a valuation has these values just where it has those of vs
+-- ws has a value for each variable of vs and of the terms, and a valuation has these values just where it has those of
+-- vs
 -- and makes Q hold
 pub record Binds (vs ws : List ℤ) (ts : List Term) (Q : Valuation → Type 0) : Type 0 where
   pub counted : numbered (length vs) ts ≡ Some (length ws)

@@ -1,5 +1,6 @@
 -- What an index keeps of its rows: a hash and a flag each, in chains by slot.
-use Rattle.std.specs.Prelude.{◌≡◌, ℕ, ◌-◌, ◌<◌, ◌^◌, ◌%◌, List, [], ◌∷◌, length, get_or, map, cond, Bool, true, false, Option, Some, None}
+use Rattle.std.specs.Prelude.{◌≡◌, ℕ, ◌-◌, ◌<◌, ◌^◌, ◌%◌, List, [], ◌∷◌, length, get_or, map, cond, Bool, true, false}
+use Rattle.std.specs.Prelude.{Option, Some, None}
 use Rattle.std.specs.Coded.{Coded, code_by, coded×, coded_ℕ, coded_list, coded_option}
 use Rattle.std.proofs.Common.{refl}
 use Rattle.chr_chains.specs.Rows.{Listed}

@@ -1,5 +1,6 @@
 -- Atoms at rest in tables, and the plans by which they are found.
-use Rattle.std.specs.Prelude.{◌≡◌, ℕ, ◌+◌, ◌^◌, ◌<◌, ◌≤◌, List, [], ◌∷◌, ◌++◌, length, map, get_or, Option, Some, None, slice_get, ⊤}
+use Rattle.std.specs.Prelude.{◌≡◌, ℕ, ◌+◌, ◌^◌, ◌<◌, ◌≤◌, List, [], ◌∷◌, ◌++◌, length, map, get_or, Option, Some, None}
+use Rattle.std.specs.Prelude.{slice_get, ⊤}
 use Rattle.chr_base.specs.declared.atom.Atom.{Atom}
 use Rattle.chr_base.specs.declared.rule.Rule.{Rule}
 use Rattle.chr_base.specs.Rules.{Step, heads_of}
@@ -54,7 +55,8 @@ HasPlan groups t i p =
     (g : Group) × (j : ℕ) × (plan : Plan) × (slice_get groups t ≡ Some g)
     × (slice_get g.plans.items j ≡ Some plan) × (plan.rule ≡ i) × (plan.place ≡ p)
 
--- the head places of a rule from the nth on have plans in the groups of their heads, and all places of the first n rules
+-- the head places of a rule from the nth on have plans in the groups of their heads, and all places of the first n
+-- rules
 abbrev pub HavePlans : List Group → ℕ → Rule → ℕ → Type 0
 HavePlans groups i r n =
     (p : ℕ) → n ≤ p → p < length (heads_of r) → HasPlan groups (table_of_pattern groups (pattern_at r p)) i p
@@ -64,7 +66,8 @@ AreCovered rules groups n =
     (i : ℕ) (r : Rule) → i < n → slice_get rules i ≡ Some r → HavePlans groups i r 0
 
 -- there is a table for each group and one more, each atom is in its table, and each head place has a plan
-pub record IsSetUp (rules : List Rule) (groups : List Group) (rows : Tables) (columns : Columns) (count : ℕ) : Type 0 where
+pub record IsSetUp (rules : List Rule) (groups : List Group) (rows : Tables) (columns : Columns)
+    (count : ℕ) : Type 0 where
   pub tables : count ≡ length groups + 1
   pub few : length groups < 2 ^ 31
   pub placed : (t n : ℕ) (a : Atom) → rows t n ≡ Some a → t ≡ table_of_atom groups a
@@ -73,7 +76,8 @@ pub record IsSetUp (rules : List Rule) (groups : List Group) (rows : Tables) (co
 
 -- the atoms are at rest under the rules
 pub record IsRested (r : Rested) : Type 0 where
-  pub set_up : IsSetUp r.rules.items r.groups.items (rows_of r.tables.tables.items) (index_columns r.tables.tables.items)
+  pub set_up : IsSetUp r.rules.items r.groups.items (rows_of r.tables.tables.items)
+      (index_columns r.tables.tables.items)
       (length r.tables.tables.items)
   pub rests : IsAtRest (Step r.rules.items) (stored r)
 

@@ -1,5 +1,6 @@
 -- The rows of tables and of fresh atoms in which heads sit.
-use Rattle.std.specs.Prelude.{◌≡◌, ℕ, suc, ◌-◌, ◌<◌, List, [], ◌∷◌, length, get_or, nat_lt, nat_eq, if◌then◌else◌, Option, Some, None}
+use Rattle.std.specs.Prelude.{◌≡◌, ℕ, suc, ◌-◌, ◌<◌, List, [], ◌∷◌, length, get_or, nat_lt, nat_eq, if◌then◌else◌}
+use Rattle.std.specs.Prelude.{Option, Some, None}
 use Rattle.chr_base.specs.declared.atom.Atom.{Atom}
 use Rattle.chr_plans.specs.Seats.{head}
 use Rattle.chr_tables.specs.Contents.{Contents, rows_of}

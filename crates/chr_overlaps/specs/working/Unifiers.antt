@@ -12,7 +12,8 @@ use Rattle.chr_overlaps.specs.working.Tables.{class_in, class_pattern, class_com
 abbrev pub classes_of : Unified → Substitution
 classes_of u = class_in u.classes.terms.items
 
--- the heads and guards of both rules with each term's class, the classes that are bound to no constant, and an entry for
+-- the heads and guards of both rules with each term's class, the classes that are bound to no constant, and an entry
+-- for
 -- each variable
 pub record IsUnified (r1 r2 : Rule) (u : Unified) : Type 0 where
   pub first : u.first.items ≡ map (class_pattern (classes_of u) 0) (heads_of r1)

@@ -1,11 +1,13 @@
 -- The tests of a clause as the code makes them: list by list.
-use Rattle.std.specs.Prelude.{ℕ, ◌+◌, List, [], ◌∷◌, ◌++◌, if◌then◌else◌, length, Bool, false, not, ◌&&◌, ◌||◌, nat_lt, Option, Some, None, is_some, is_none, unwrap_or, position, nat_eq}
+use Rattle.std.specs.Prelude.{ℕ, ◌+◌, List, [], ◌∷◌, ◌++◌, if◌then◌else◌, length, Bool, false, not, ◌&&◌, ◌||◌, nat_lt}
+use Rattle.std.specs.Prelude.{Option, Some, None, is_some, is_none, unwrap_or, position, nat_eq}
 use Rattle.std.specs.List.{list_any}
 use Rattle.std.specs.Option.{option_map_or}
 use Rattle.chr_base.specs.declared.limits.TheConstants.{MAX_BODY, MAX_COMPARISONS, MAX_HEADS}
 use Rattle.chr_base.specs.ProgramTests.{Declaration, declares}
 use Rattle.chr_syntax.specs.Clauses.{Term, Atom, Symbol, Comparison, Rule, variable, number}
-use Rattle.chr_read.specs.Faults.{present, place_of_symbol, is_undeclared, is_same_symbol, is_long, is_long_variable, atom_over, is_anonymous, is_named, is_outside}
+use Rattle.chr_read.specs.Faults.{present, place_of_symbol, is_undeclared, is_same_symbol, is_long, is_long_variable}
+use Rattle.chr_read.specs.Faults.{atom_over, is_anonymous, is_named, is_outside}
 use Rattle.chr_read.specs.Resolving.{met_at}
 use Rattle.chr_read.specs.Meanings.{Progress}
 use Rattle.chr_read.specs.Numbers.{weight_named_by}

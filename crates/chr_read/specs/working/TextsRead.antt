@@ -1,5 +1,6 @@
 -- The meaning of a text as it is read: clause by clause, up to the first bad one.
-use Rattle.std.specs.Prelude.{◌≡◌, ◌<◌, ◌+◌, ◌↔◌, ℕ, List, [], ◌∷◌, length, nat_le, Bool, Option, Some, None, Result, Ok, Err, if◌then◌else◌}
+use Rattle.std.specs.Prelude.{◌≡◌, ◌<◌, ◌+◌, ◌↔◌, ℕ, List, [], ◌∷◌, length, nat_le, Bool, Option, Some, None, Result}
+use Rattle.std.specs.Prelude.{Ok, Err, if◌then◌else◌}
 use Rattle.chr_syntax.specs.Bytes.{is_text, pieces, without_comments}
 use Rattle.chr_syntax.specs.working.Forms.{clause_of}
 use Rattle.chr_syntax.specs.Clauses.{Form}

@@ -1,6 +1,7 @@
 -- The form of a clause, by splitting its tokens at signs and commas, and reading each part whole.
 use Rattle.chr_base.specs.Traversals.{each}
-use Rattle.std.specs.Prelude.{ℕ, ◌+◌, ◌-◌, length, take, drop, List, [], ◌∷◌, Bool, true, false, not, ◌==◌, ◌&&◌, ◌||◌, if◌then◌else◌, Option, Some, None, option_map, option_and_then, codes}
+use Rattle.std.specs.Prelude.{ℕ, ◌+◌, ◌-◌, length, take, drop, List, [], ◌∷◌, Bool, true, false, not, ◌==◌, ◌&&◌, ◌||◌}
+use Rattle.std.specs.Prelude.{if◌then◌else◌, Option, Some, None, option_map, option_and_then, codes}
 use Rattle.std.specs.List.{position_or_len, onto_first}
 use Rattle.std.specs.Str.{bytes_eq}
 use Rattle.chr_syntax.specs.declared.token.Sign.{Sign}
@@ -9,7 +10,8 @@ use Rattle.chr_base.specs.Names.{is_reserved}
 use Rattle.std.specs.Str.Parse.{starts_with_minus}
 use Rattle.chr_syntax.specs.Tokens.{Tok, name, variable, number, compare, sign}
 use Rattle.chr_syntax.specs.working.Tokens.{tokens_of}
-use Rattle.chr_syntax.specs.Clauses.{Term, Atom, Symbol, Comparison, Rule, Form, use_module, declare, weight, rule, propagation}
+use Rattle.chr_syntax.specs.Clauses.{Term, Atom, Symbol, Comparison, Rule, Form, use_module, declare, weight, rule}
+use Rattle.chr_syntax.specs.Clauses.{propagation}
 use Rattle.chr_syntax.specs.Clauses as clauses
 
 -- ---- splitting

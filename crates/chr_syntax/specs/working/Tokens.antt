@@ -1,5 +1,6 @@
 -- The tokens of a clause as they are found, each the longest that fits, and the bytes before its full stop.
-use Rattle.std.specs.Prelude.{ℕ, zero, suc, not, ◌+◌, ◌-◌, List, [], ◌∷◌, take, ◌==◌, ◌||◌, nat_lt, nat_eq, if◌then◌else◌, Option, Some, None, option_map, codes}
+use Rattle.std.specs.Prelude.{ℕ, zero, suc, not, ◌+◌, ◌-◌, List, [], ◌∷◌, take, ◌==◌, ◌||◌, nat_lt, nat_eq}
+use Rattle.std.specs.Prelude.{if◌then◌else◌, Option, Some, None, option_map, codes}
 use Rattle.std.specs.List.{prefix_len, starts_with}
 use Rattle.chr_syntax.specs.declared.clause.Comparator.TheVariants as c
 use Rattle.chr_syntax.specs.declared.token.Sign.TheVariants as s

@@ -35,4 +35,5 @@ NoneIs values value from to = (row : ℕ) → from ≤ row → row < to → ¬ (
 -- and no atom of such a row has it as its argument in this column
 abbrev pub NoneHasArgument : List Atom → ℕ → ℤ → ℕ → ℕ → Type 0
 NoneHasArgument atoms column value from to =
-    (row : ℕ) (a : Atom) → from ≤ row → row < to → get_or atoms row a ≡ a → ¬ (slice_get a.args.items column ≡ Some value)
+    (row : ℕ) (a : Atom) → from ≤ row → row < to → get_or atoms row a ≡ a
+        → ¬ (slice_get a.args.items column ≡ Some value)

@@ -1,5 +1,6 @@
 -- How the search goes: one class after the other, each with the values that a list which begins so must still have.
-use Rattle.std.specs.Prelude.{◌≡◌, ℕ, suc, zero, ℤ, pos, neg_ℤ, ◌+ℤ◌, ◌-ℤ◌, ◌⊎◌, int_lt, ◌≤ℤ◌, ◌<ℤ◌, ◌^◌, ◌≤◌, Bool, ◌||◌, if◌then◌else◌, List, [], ◌∷◌, ◌++◌, length, map, nat_le, unsigned_abs}
+use Rattle.std.specs.Prelude.{◌≡◌, ℕ, suc, zero, ℤ, pos, neg_ℤ, ◌+ℤ◌, ◌-ℤ◌, ◌⊎◌, int_lt, ◌≤ℤ◌, ◌<ℤ◌, ◌^◌, ◌≤◌, Bool}
+use Rattle.std.specs.Prelude.{◌||◌, if◌then◌else◌, List, [], ◌∷◌, ◌++◌, length, map, nat_le, unsigned_abs}
 use Rattle.std.proofs.Math.ListN.{get_or}
 use mathlib.Core.Bool.{not}
 use Rattle.std.specs.List.{list_any, filter, flat_map}

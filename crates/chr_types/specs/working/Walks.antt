@@ -5,7 +5,8 @@ use Rattle.chr_types.specs.declared.search.Candidate.{Candidate}
 use Rattle.chr_types.specs.working.Search.{holes_by}
 
 -- the lists that go on with the candidate, where its holes fit and it is admitted
-abbrev pub walked_at : (List ℤ → Bool) → (List ℤ → List ℤ → List (List ℤ)) → ℕ → List ℤ → List ℤ → Candidate → List (List ℤ)
+abbrev pub walked_at : (List ℤ → Bool) → (List ℤ → List ℤ → List (List ℤ)) → ℕ → List ℤ → List ℤ → Candidate
+    → List (List ℤ)
 walked_at admits deeper k p h c =
     if nat_le (length (holes_by c p h)) k
     then (if admits (p ++ c.value ∷ []) then deeper (p ++ c.value ∷ []) (holes_by c p h) else []) else []

@@ -5,4 +5,5 @@ use Rattle.chr_base.specs.FinBag.{count_in}
 use Rattle.chr_base.proofs.lists.fits_in.Given as goal
 
 abbrev pub invariant-loop-atom : goal.invariant-loop-atom
-invariant-loop-atom l = (k : ℕ) (d : Atom) → k < l.atom-index → count_in atom_cmp (get_or l.atoms k d) l.atoms ≤ count_in atom_cmp (get_or l.atoms k d) l.items
+invariant-loop-atom l = (k : ℕ) (d : Atom) → k < l.atom-index
+    → count_in atom_cmp (get_or l.atoms k d) l.atoms ≤ count_in atom_cmp (get_or l.atoms k d) l.items

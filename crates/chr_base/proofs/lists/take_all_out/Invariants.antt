@@ -7,6 +7,7 @@ use Rattle.chr_base.proofs.lists.take_all_out.Given as goal
 
 abbrev pub invariant-loop-atom : goal.invariant-loop-atom
 invariant-loop-atom l = record {
-  counts : (q : Atom) → count_in atom_cmp q l.items.items ≡ count_in atom_cmp q l.fn.items.items - count_in atom_cmp q (take l.atom-index l.atoms);
+  counts : (q : Atom) → count_in atom_cmp q l.items.items ≡ count_in atom_cmp q l.fn.items.items - count_in atom_cmp q
+      (take l.atom-index l.atoms);
   rising : IsTrue (is_rising atom_cmp l.fn.items.items) → IsTrue (is_rising atom_cmp l.items.items);
 }

@@ -4,4 +4,5 @@ use Rattle.chr_base.specs.working.Bindings.{valued}
 use Rattle.chr_base.proofs.matching.set_instance.Given as goal
 
 abbrev pub invariant-loop-term : goal.invariant-loop-term
-invariant-loop-term l = (l.atom.symbol ≡ l.pattern.symbol) × (l.atom.args.items ≡ map (term_value (valued l.values)) (take l.term-index l.term-items))
+invariant-loop-term l = (l.atom.symbol ≡ l.pattern.symbol)
+    × (l.atom.args.items ≡ map (term_value (valued l.values)) (take l.term-index l.term-items))

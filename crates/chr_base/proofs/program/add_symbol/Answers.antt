@@ -7,4 +7,6 @@ use Rattle.chr_base.proofs.program.add_symbol.Goals as goal
 pub returns-clause-ok : goal.returns-clause-ok
 returns-clause-ok c =
     ap declarations_in c.in_ok-insert.ensures.entries
-    ∙ declared_last _ c.args.symbol default_weight (λ k. refl) c.args.symbols.now.entries (not_declared (declarations_in c.args.symbols.now.entries) c.args.symbol.name.bytes c.args.symbol.arity c.requires.new)
+    ∙ declared_last _ c.args.symbol default_weight (λ k. refl) c.args.symbols.now.entries
+        (not_declared (declarations_in c.args.symbols.now.entries) c.args.symbol.name.bytes c.args.symbol.arity
+        c.requires.new)

@@ -13,7 +13,8 @@ loop-at-preserved c =
     let r = c.requires.row in
     let dead : get_or c.args.alive.now (c.loop-at.at - 1) false ≡ false = grind (arith, common_steps) in
     record {
-      chained = skip_link_to _ _ _ _ c.args.row c.loop-at.at _ c.loop-at.invariant.chained (omega (arith, b, r)) c.loop-at.invariant.at (omega arith) dead (grind (arith, common_steps));
+      chained = skip_link_to _ _ _ _ c.args.row c.loop-at.at _ c.loop-at.invariant.chained
+          (omega (arith, b, r)) c.loop-at.invariant.at (omega arith) dead (grind (arith, common_steps));
       size = length-set c.loop-at.links c.args.row _ ∙ size;
       at = sym (get_or-set_same c.loop-at.links c.args.row _ 0 (omega (arith, a, b, r)));
     }

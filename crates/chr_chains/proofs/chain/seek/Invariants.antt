@@ -8,7 +8,8 @@ invariant-loop-at l = record {
   index : IsIndex l.hashes l.alive l.links l.heads;
   size : length l.links ≡ length l.fn.links;
   within : l.at ≤ l.from;
-  live : 0 < l.at → (get_or (slots_of (length l.heads) l.hashes) (l.at - 1) 0 ≡ l.hash % length l.heads) × (get_or l.alive (l.at - 1) false ≡ true);
+  live : 0 < l.at → (get_or (slots_of (length l.heads) l.hashes) (l.at - 1) 0 ≡ l.hash % length l.heads)
+      × (get_or l.alive (l.at - 1) false ≡ true);
   above : (r : ℕ) → r < l.from → get_or (live_hashes l.hashes l.alive) r None ≡ Some l.hash → r < l.at;
 }
 

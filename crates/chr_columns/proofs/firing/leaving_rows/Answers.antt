@@ -13,7 +13,8 @@ loop-other-init c =
     let ss = c.args.seats.now in
     let v = c.len-other.ensures.value in
     record {
-      rows = c.new-rows.ensures ∙ left_first r p ss ∙ ap (λ n. drop (kept_others r p) (remove (seats_to ss n) p)) (sym v);
+      rows = c.new-rows.ensures ∙ left_first r p ss ∙ ap (λ n. drop (kept_others r p) (remove (seats_to ss n) p))
+          (sym v);
       kept = omega (arith, v);
     }
 
@@ -34,10 +35,14 @@ loop-other-preserved c =
     let q = c.loop-other.other in
     let kept = c.loop-other.invariant.kept in
     let rows : c.if-other-place.rows.items ≡ Left r p ss (suc q) = elim c.if-other-place.branch [
-      | then-other-place w ↦ ap (λ x. x.items) w.rows-is ∙ w.push.ensures.items ∙ (λ i. c.loop-other.invariant.rows i ++ w.seat_at.ensures i ∷ []) ∙ left_more r p ss q kept w.if-other-place.true
-      | else-other-place w ↦ ap (λ x. x.items) w.rows-is ∙ c.loop-other.invariant.rows ∙ left_same r p ss q w.if-other-place.false
+      | then-other-place w ↦ ap (λ x. x.items) w.rows-is ∙ w.push.ensures.items
+            ∙ (λ i. c.loop-other.invariant.rows i ++ w.seat_at.ensures i ∷ [])
+            ∙ left_more r p ss q kept w.if-other-place.true
+      | else-other-place w ↦ ap (λ x. x.items) w.rows-is ∙ c.loop-other.invariant.rows
+            ∙ left_same r p ss q w.if-other-place.false
     ] in
     record {
-      rows = rows ∙ ap (λ n. drop (kept_others r p) (remove (seats_to ss n) p)) (let e : suc q ≡ q + 1 = omega arith in e);
+      rows = rows ∙ ap (λ n. drop (kept_others r p) (remove (seats_to ss n) p))
+          (let e : suc q ≡ q + 1 = omega arith in e);
       kept = omega (arith, kept);
     }

@@ -7,6 +7,7 @@ use Rattle.chr_columns.proofs.groups.groups_for.Given as goal
 
 abbrev pub invariant-loop-rule : goal.invariant-loop-rule
 invariant-loop-rule l = record {
-  grouped : (i : ℕ) (r : Rule) → i < l.rule-index → slice_get l.rules i ≡ Some r → AreGrouped l.groups.items r (length (heads_of r));
+  grouped : (i : ℕ) (r : Rule) → i < l.rule-index → slice_get l.rules i ≡ Some r
+      → AreGrouped l.groups.items r (length (heads_of r));
   no_plans : HaveNoPlans l.groups.items;
 }

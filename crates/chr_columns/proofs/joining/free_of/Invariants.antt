@@ -7,5 +7,6 @@ use Rattle.chr_columns.proofs.joining.free_of.Given as goal
 abbrev pub invariant-loop-row : goal.invariant-loop-row
 invariant-loop-row l = record {
   narrow : (x : ℤ) → IsIn l.free x → IsIn l.fn.range x;
-  free : (n : ℕ) (a : Atom) → n < l.row → get_or l.table.rows n None ≡ Some a → IsIn l.free (value_in l.joint.columns.items a) → ⊥;
+  free : (n : ℕ) (a : Atom) → n < l.row → get_or l.table.rows n None ≡ Some a
+      → IsIn l.free (value_in l.joint.columns.items a) → ⊥;
 }

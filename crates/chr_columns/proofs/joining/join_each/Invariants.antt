@@ -10,6 +10,7 @@ invariant-loop-atom l = record {
   rested : IsRested l.rested;
   rules : l.rested.rules ≡ l.fn.rested.rules;
   room : vec_len l.fresh + (length l.atoms - l.atom-index) ≤ vec_capacity l.fresh;
-  whole : stored l.rested ⊕ store_of l.fresh.items ≡ (stored l.fn.rested ⊕ store_of l.fn.fresh.items) ⊕ store_of (take l.atom-index l.atoms);
+  whole : stored l.rested ⊕ store_of l.fresh.items ≡ (stored l.fn.rested ⊕ store_of l.fn.fresh.items) ⊕ store_of
+      (take l.atom-index l.atoms);
   may : MayJoin l.joint.columns.items l.free l.fn.rested.rules.items (stored l.rested) (drop l.atom-index l.atoms);
 }

@@ -5,4 +5,5 @@ use Rattle.chr_columns.proofs.joining.joint_for.Goals as goal
 
 pub returns-then-are_same-clause-joined : goal.returns-then-are_same-clause-joined
 returns-then-are_same-clause-joined c =
-    subst (λ (rules : List Rule). IfSome c.joint_of.result (λ joint. All (IsJoined joint.columns.items) rules)) c.deref-then-are_same.ensures.value c.joint_of.ensures
+    subst (λ (rules : List Rule). IfSome c.joint_of.result (λ joint. All (IsJoined joint.columns.items) rules))
+        c.deref-then-are_same.ensures.value c.joint_of.ensures

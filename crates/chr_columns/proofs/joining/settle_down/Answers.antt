@@ -8,7 +8,8 @@ use Rattle.chr_columns.proofs.Together.{came_to, came_beside}
 use Rattle.chr_columns.proofs.joining.settle_down.Goals as goal
 
 pub returns-in-Ok-clause-whole : goal.returns-in-Ok-clause-whole
-returns-in-Ok-clause-whole c = came_to (stored c.args.rested.now) (stored c.put.new.self) (store_of c.args.fresh.now.items) (one c.args.atom.now) c.in-Ok.ensures.ok
+returns-in-Ok-clause-whole c = came_to (stored c.args.rested.now) (stored c.put.new.self)
+    (store_of c.args.fresh.now.items) (one c.args.atom.now) c.in-Ok.ensures.ok
 
 pub returns-in-Err-clause-whole : goal.returns-in-Err-clause-whole
 returns-in-Err-clause-whole c =
@@ -17,4 +18,5 @@ returns-in-Err-clause-whole c =
     c.push_copy.ensures.items
 
 pub returns-in-Err-clause-within : goal.returns-in-Err-clause-within
-returns-in-Err-clause-within c = came_beside (stored c.args.rested.now) (stored c.put.new.self) (one c.args.atom.now) c.in-Err.ensures.err
+returns-in-Err-clause-within c = came_beside (stored c.args.rested.now) (stored c.put.new.self)
+    (one c.args.atom.now) c.in-Err.ensures.err

@@ -10,7 +10,8 @@ add_plan-requires-clause-grouped c =
     let n = c.places-place.ensures.places in
     let l = c.loop-place-test.true in
     let m = c.loop-place.auto.place in
-    grouped_same _ _ (pattern_at c.args.rule.now place) c.loop-place.invariant.keep.shapes (c.requires.grouped place (omega (arith, n, l, m)))
+    grouped_same _ _ (pattern_at c.args.rule.now place) c.loop-place.invariant.keep.shapes
+        (c.requires.grouped place (omega (arith, n, l, m)))
 
 pub loop-place-preserved : goal.loop-place-preserved
 loop-place-preserved c =
@@ -24,8 +25,10 @@ loop-place-preserved c =
     record {
       tables = c.add_plan.ensures.tables;
       keep = keep_all _ _ _ c.loop-place.invariant.keep c.in_ok-add_plan.ensures.keep;
-      planned = λ rules at are. (c.in_ok-add_plan.ensures.planned rules at (c.loop-place.invariant.planned rules at are));
-      plans = have_more groups i r place (subst (λ n. HavePlans groups i r n) next before) c.in_ok-add_plan.ensures.plan;
+      planned = λ rules at are. (c.in_ok-add_plan.ensures.planned rules at
+          (c.loop-place.invariant.planned rules at are));
+      plans = have_more groups i r place (subst (λ n. HavePlans groups i r n) next before)
+          c.in_ok-add_plan.ensures.plan;
     }
 
 pub returns-clause-plans : goal.returns-clause-plans

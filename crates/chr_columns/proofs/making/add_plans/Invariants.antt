@@ -9,6 +9,7 @@ abbrev pub invariant-loop-place : goal.invariant-loop-place
 invariant-loop-place l = record {
   tables : length l.keys.items ≡ length l.groups + 1;
   keep : KeepPlans l.fn.groups l.groups;
-  planned : (rules : List Rule) → slice_get rules l.number ≡ Some l.rule → ArePlanned rules l.fn.groups (columns_in l.fn.keys.items) → ArePlanned rules l.groups (columns_in l.keys.items);
+  planned : (rules : List Rule) → slice_get rules l.number ≡ Some l.rule
+      → ArePlanned rules l.fn.groups (columns_in l.fn.keys.items) → ArePlanned rules l.groups (columns_in l.keys.items);
   plans : HavePlans l.groups l.number l.rule l.place;
 }

@@ -6,6 +6,7 @@ pub returns-then-is_same : goal.returns-then-is_same
 returns-then-is_same c = (
   c.loop-own.own-index,
   c.own-item.result,
-  slice_get_read c.args.rules.now (length c.args.rules.now) c.loop-own.own-index c.own-item.result refl c.loop-own-test.true c.own-item.is,
+  slice_get_read c.args.rules.now (length c.args.rules.now) c.loop-own.own-index c.own-item.result refl
+      c.loop-own-test.true c.own-item.is,
   c.is_same.ensures.0 c.if-is_same.true,
 )

@@ -16,9 +16,12 @@ loop-seat-preserved c =
     let x = c.index_mut.result.now in
     let y = c.kill.new.self in
     record {
-      rows = kill_rows ts us ss i x y c.loop-seat-test.true within c.index_mut.ensures.value c.kill.ensures.rows c.kill.ensures.keys c.loop-seat.invariant.rows;
-      keys = kill_keys ts us ss i x y c.loop-seat-test.true within c.index_mut.ensures.value c.kill.ensures.rows c.kill.ensures.keys c.loop-seat.invariant.keys;
-      many = kill_many ts us ss i x y c.loop-seat-test.true within c.index_mut.ensures.value c.kill.ensures.rows c.kill.ensures.keys c.loop-seat.invariant.many;
+      rows = kill_rows ts us ss i x y c.loop-seat-test.true within c.index_mut.ensures.value c.kill.ensures.rows
+          c.kill.ensures.keys c.loop-seat.invariant.rows;
+      keys = kill_keys ts us ss i x y c.loop-seat-test.true within c.index_mut.ensures.value c.kill.ensures.rows
+          c.kill.ensures.keys c.loop-seat.invariant.keys;
+      many = kill_many ts us ss i x y c.loop-seat-test.true within c.index_mut.ensures.value c.kill.ensures.rows
+          c.kill.ensures.keys c.loop-seat.invariant.many;
     }
 
 pub returns-clause-columns : goal.returns-clause-columns

@@ -11,5 +11,6 @@ invariant-loop-steps l = record {
   rested : IsRested l.rested;
   rules : l.rested.rules ≡ l.fn.rested.rules;
   standing : Stands l.rested l.fresh.items l.standing;
-  run : Runs (Step l.fn.rested.rules.items) l.steps (stored l.fn.rested ⊕ store_of l.fn.fresh.items) (stored l.rested ⊕ store_of l.fresh.items);
+  run : Runs (Step l.fn.rested.rules.items) l.steps (stored l.fn.rested ⊕ store_of l.fn.fresh.items)
+      (stored l.rested ⊕ store_of l.fresh.items);
 }

@@ -6,4 +6,5 @@ pub returns-clause-rests : goal.returns-clause-rests
 returns-clause-rests c = λ rules w lower s. rests rules w lower s
 
 pub returns-clause-confluent : goal.returns-clause-confluent
-returns-clause-confluent c = λ rules w ok lower stays peaks. confluent_over rules w (λ s. IsTrue (ok s)) lower stays peaks
+returns-clause-confluent c = λ rules w ok lower stays peaks. confluent_over rules w
+    (λ s. IsTrue (ok s)) lower stays peaks

@@ -6,4 +6,5 @@ pub returns-clause-reached : goal.returns-clause-reached
 returns-clause-reached c = λ rules ss ts t h p. rested rules ss ts t h p
 
 pub returns-clause-determined : goal.returns-clause-determined
-returns-clause-determined c = λ rules ss ts t u confluent values h p q. confluent (whole rules ss) t u values (rested rules ss ts t h p) q
+returns-clause-determined c = λ rules ss ts t u confluent values h p q. confluent (whole rules ss) t u values
+    (rested rules ss ts t h p) q

@@ -4,7 +4,8 @@ use Rattle.chr_device.proofs.whole.read_on.Given as goal
 
 abbrev pub invariant-loop-chunk : goal.invariant-loop-chunk
 invariant-loop-chunk g l = record {
-  read : ReadsOn (g.R.Read.remaining (inner_of l.fn.reader)) (g.R.Read.remaining (inner_of l.reader)) l.fn.held.items l.held.items;
+  read : ReadsOn (g.R.Read.remaining (inner_of l.fn.reader)) (g.R.Read.remaining (inner_of l.reader)) l.fn.held.items
+      l.held.items;
   whole : has_failed l.reader ≡ has_failed l.fn.reader;
 }
 

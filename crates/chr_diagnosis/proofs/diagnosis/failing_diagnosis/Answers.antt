@@ -8,4 +8,5 @@ peak_of-requires-clause-overlap c = overlap_of _ _ _ c.requires.first.0
 
 pub returns-in-Ok : goal.returns-in-Ok
 returns-in-Ok c =
-    (ap program_of c.in-Ok.ensures.weighed, c.args.weighed.lowers, c.in-Ok.ensures.peak c.args.coverage c.requires.first)
+    (ap program_of c.in-Ok.ensures.weighed, c.args.weighed.lowers,
+        c.in-Ok.ensures.peak c.args.coverage c.requires.first)

@@ -16,6 +16,8 @@ loop-turn-preserved c =
     let there : from < length items = omega (arith, length-set {A = ℕ}) in
     record {
       at = grind (arith, common_steps);
-      same = same_multiset items c.swap.new.self.items (IsPermutation-swap items c.swap.new.self.items at from here there c.swap.ensures.items) ∙ c.loop-turn.invariant.same;
+      same = same_multiset items c.swap.new.self.items
+          (IsPermutation-swap items c.swap.new.self.items at from here there c.swap.ensures.items)
+          ∙ c.loop-turn.invariant.same;
       len = omega arith;
     }

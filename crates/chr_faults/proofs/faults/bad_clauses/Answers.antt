@@ -20,23 +20,33 @@ pub returns-in_default : goal.returns-in_default
 returns-in_default c =
     let same : c.deref.result.now ≡ c.loop-gone.left.items = search rules in
     no_more c.loop-gone.gone c.args.text.now c.loop-gone.left.items c.loop-gone.bad.items (omega arith)
-    (none_left c.in_ok-first.field-0 c.deref.result.now c.loop-gone.left.items same c.in_default.is c.in_ok-first.ensures.none)
+    (none_left c.in_ok-first.field-0 c.deref.result.now c.loop-gone.left.items same c.in_default.is
+        c.in_ok-first.ensures.none)
     c.loop-gone.invariant.completed
 
 pub loop-gone-preserved : goal.loop-gone-preserved
 loop-gone-preserved c =
     let same : c.deref.result.now ≡ c.loop-gone.left.items = search rules in
     let again : c.deref-in-loop-gone.result.now ≡ c.loop-gone.left.items = search rules in
-    let refused = some_left c.in_ok-first.field-0 c.in-Some.first c.deref.result.now c.loop-gone.left.items same c.in-Some.is c.in_ok-first.ensures.some in
-    let left : c.in_ok-left-2.left.items ≡ without_clause c.in-Some.first.number c.loop-gone.left.items = c.in_ok-left-2.ensures.value ∙ ap (without_clause c.in-Some.first.number) again in
-    let shorter : length (without_clause c.in-Some.first.number c.loop-gone.left.items) ≤ length c.loop-gone.left.items = length_without_clause c.in-Some.first.number c.loop-gone.left.items in
-    let next = one_more c.loop-gone.gone c.args.text.now c.loop-gone.left.items c.loop-gone.bad.items (record { number = c.loop-gone.gone + c.in-Some.first.number; fault = c.in-Some.first.fault }) c.in-Some.first.number
+    let refused = some_left c.in_ok-first.field-0 c.in-Some.first c.deref.result.now c.loop-gone.left.items same
+        c.in-Some.is c.in_ok-first.ensures.some in
+    let left : c.in_ok-left-2.left.items ≡ without_clause c.in-Some.first.number c.loop-gone.left.items =
+        c.in_ok-left-2.ensures.value ∙ ap (without_clause c.in-Some.first.number) again in
+    let shorter : length (without_clause c.in-Some.first.number c.loop-gone.left.items) ≤ length
+        c.loop-gone.left.items = length_without_clause c.in-Some.first.number c.loop-gone.left.items in
+    let next = one_more c.loop-gone.gone c.args.text.now c.loop-gone.left.items c.loop-gone.bad.items
+        (record { number = c.loop-gone.gone + c.in-Some.first.number; fault = c.in-Some.first.fault })
+        c.in-Some.first.number
     (omega arith) refused refl c.loop-gone.invariant.completed in
     record {
       short = subst IsShort (sym left) (omega (arith, shorter, c.loop-gone.invariant.short));
-      completed = subst (λ xs. IsCompleted (c.loop-gone.gone + 1) c.args.text.now c.in_ok-left-2.left.items xs) (sym c.in_ok-push.ensures.items)
-          (subst (λ t. IsCompleted (c.loop-gone.gone + 1) c.args.text.now t (c.loop-gone.bad.items ++ record { number = c.loop-gone.gone + c.in-Some.first.number; fault = c.in-Some.first.fault } ∷ [])) (sym left) next);
+      completed = subst (λ xs. IsCompleted (c.loop-gone.gone + 1) c.args.text.now c.in_ok-left-2.left.items xs)
+          (sym c.in_ok-push.ensures.items)
+          (subst (λ t. IsCompleted (c.loop-gone.gone + 1) c.args.text.now t
+              (c.loop-gone.bad.items ++ record { number = c.loop-gone.gone + c.in-Some.first.number; fault =
+              c.in-Some.first.fault } ∷ [])) (sym left) next);
     }
 
 pub returns : goal.returns
-returns c = full c.loop-gone.gone c.args.text.now c.loop-gone.left.items c.loop-gone.bad.items (omega arith) c.loop-gone.invariant.completed
+returns c = full c.loop-gone.gone c.args.text.now c.loop-gone.left.items c.loop-gone.bad.items
+    (omega arith) c.loop-gone.invariant.completed

@@ -6,7 +6,8 @@ use Rattle.chr_join.proofs.Verdicts.{total_fits, joinable_more}
 use Rattle.chr_join.proofs.OverlapPortions.{refuses_in}
 use Rattle.chr_join.specs.working.Checking.{AreAhead}
 use Rattle.chr_join.proofs.checking.check_portion.Goals as goal
-use Rattle.chr_join.proofs.checking.check_portion.Goals.{then-start-place+then-place-end+then-ends_before+in_ok-ahead, else-start-place}
+use Rattle.chr_join.proofs.checking.check_portion.Goals.{then-start-place+then-place-end+then-ends_before+in_ok-ahead}
+use Rattle.chr_join.proofs.checking.check_portion.Goals.{else-start-place}
 
 pub checked-requires-clause-overlap : goal.checked-requires-clause-overlap
 checked-requires-clause-overlap g c =

@@ -15,6 +15,9 @@ returns-then-not-branch-clause-err c first =
     let n = c.free_classes-classes.result in
     let more = OnFalse_at c.if-not-branch.true c.in_ok-are_few.ensures.many in (
       subst (IsFirst rules) (sym c.copy.ensures) first,
-      subst (λ o. IsTooMany rules o n) (sym c.copy.ensures) (too_many rules c.args.overlap.now u.rule1 u.rule2 c.in-Some.unified c.args.constants.now n u.are_rules.0 u.are_rules.1 c.requires.constants u.solves u.unified
-          (c.free_classes-classes.ensures, subst (λ k. MoreTypesThan MAX_TYPES k c.args.constants.now) c.free_classes-classes.ensures more)),
+      subst (λ o. IsTooMany rules o n) (sym c.copy.ensures)
+          (too_many rules c.args.overlap.now u.rule1 u.rule2 c.in-Some.unified c.args.constants.now n u.are_rules.0
+          u.are_rules.1 c.requires.constants u.solves u.unified
+          (c.free_classes-classes.ensures, subst (λ k. MoreTypesThan MAX_TYPES k c.args.constants.now)
+              c.free_classes-classes.ensures more)),
     )

@@ -4,4 +4,5 @@ use Rattle.chr_overlaps.specs.OverlapLists.{IsOverlapOf}
 use Rattle.chr_join.proofs.sharing.have_many_types.Goals as goal
 
 pub unified-requires : goal.unified-requires
-unified-requires c = subst (IsOverlapOf (rules_in c.args.weighed.now)) (sym c.overlap-item.is) (c.requires c.loop-overlap.overlap-index c.overlap-item.result c.loop-overlap-test.true)
+unified-requires c = subst (IsOverlapOf (rules_in c.args.weighed.now)) (sym c.overlap-item.is)
+    (c.requires c.loop-overlap.overlap-index c.overlap-item.result c.loop-overlap-test.true)

@@ -12,10 +12,13 @@ use Rattle.chr_join.proofs.totals.count_portion.Goals.{then-place-eq0+in_ok-coun
 pub count_ahead-requires-clause-overlaps : goal.count_ahead-requires-clause-overlaps
 count_ahead-requires-clause-overlaps g c κs within =
     let of = IsOverlapOf (rules_in c.args.weighed.now) in
-    subst (All of) (sym c.batch_from-batch.ensures) (All-take of (length c.batch_from-batch.result.now) _ (All-drop of c.loop-place.place c.args.overlaps.now c.requires.overlaps))
+    subst (All of) (sym c.batch_from-batch.ensures) (All-take of (length c.batch_from-batch.result.now) _
+        (All-drop of c.loop-place.place c.args.overlaps.now c.requires.overlaps))
 
 pub count_overlap-requires-clause-overlap : goal.count_overlap-requires-clause-overlap
-count_overlap-requires-clause-overlap g c = subst (IsOverlapOf (rules_in c.args.weighed.now)) (sym c.index-overlaps-place.is) (c.requires.overlaps c.loop-place.place c.index-overlaps-place.result c.loop-place-test.true)
+count_overlap-requires-clause-overlap g c = subst (IsOverlapOf (rules_in c.args.weighed.now))
+    (sym c.index-overlaps-place.is) (c.requires.overlaps c.loop-place.place c.index-overlaps-place.result
+    c.loop-place-test.true)
 
 pub count_overlap-requires-clause-few : goal.count_overlap-requires-clause-few
 count_overlap-requires-clause-few g c = elim c.if-place-eq0.branch [
@@ -31,16 +34,22 @@ count_overlap-requires-clause-counts g c = elim c.if-place-eq0.branch [
 
 pub overflow_add-total : goal.overflow_add-total
 overflow_add-total g c =
-    let fits : c.loop-place.total + c.in-Ok.cases < 2 ^ 64 = total_fits Joint (rules_in c.args.weighed.now) c.args.overlaps.now c.loop-place.place c.index-overlaps-place.result c.loop-place.total c.in-Ok.cases c.requires.number c.loop-place-test.true c.loop-place.invariant.joinable c.in-Ok.ensures.ok in
+    let fits : c.loop-place.total + c.in-Ok.cases < 2 ^ 64 =
+        total_fits Joint (rules_in c.args.weighed.now) c.args.overlaps.now c.loop-place.place
+        c.index-overlaps-place.result c.loop-place.total c.in-Ok.cases c.requires.number c.loop-place-test.true
+        c.loop-place.invariant.joinable c.in-Ok.ensures.ok in
     search rules
 
 pub returns-in-Err-clause-err : goal.returns-in-Err-clause-err
 returns-in-Err-clause-err g c =
-    refuses_in Joint (rules_in c.args.weighed.now) c.args.overlaps.now c.loop-place.place c.index-overlaps-place.result c.loop-place.total _ c.loop-place.invariant.joinable c.loop-place-test.true c.index-overlaps-place.is c.in-Err.ensures.err
+    refuses_in Joint (rules_in c.args.weighed.now) c.args.overlaps.now c.loop-place.place c.index-overlaps-place.result
+        c.loop-place.total _ c.loop-place.invariant.joinable c.loop-place-test.true c.index-overlaps-place.is
+        c.in-Err.ensures.err
 
 pub loop-place-preserved : goal.loop-place-preserved
 loop-place-preserved g c = record {
-  joinable = joinable_more Joint (rules_in c.args.weighed.now) c.args.overlaps.now c.loop-place.place c.index-overlaps-place.result c.loop-place.total c.in-Ok.cases
+  joinable = joinable_more Joint (rules_in c.args.weighed.now) c.args.overlaps.now c.loop-place.place
+      c.index-overlaps-place.result c.loop-place.total c.in-Ok.cases
       c.loop-place-test.true c.index-overlaps-place.is c.loop-place.invariant.joinable c.in-Ok.ensures.ok;
   few = c.in-Ok.ensures.few;
   counts = c.in-Ok.ensures.counts;

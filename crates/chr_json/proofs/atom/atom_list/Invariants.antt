@@ -8,4 +8,6 @@ use Rattle.std.specs.Prelude.{vec_len}
 use Rattle.chr_json.proofs.atom.atom_list.Given as goal
 
 abbrev pub invariant-loop-value : goal.invariant-loop-value
-invariant-loop-value l = (front (map raw_atom_view l.found.items) (each named_atom_of (map data_of (drop l.value-index l.values))) ≡ each named_atom_of (map data_of l.values)) × (vec_len l.found ≡ l.value-index)
+invariant-loop-value l = (front (map raw_atom_view l.found.items)
+    (each named_atom_of (map data_of (drop l.value-index l.values))) ≡ each named_atom_of (map data_of l.values))
+    × (vec_len l.found ≡ l.value-index)

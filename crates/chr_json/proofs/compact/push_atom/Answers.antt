@@ -17,6 +17,8 @@ returns-clause-text c =
     let atom : NamedAtom = record { name = c.in_ok-name.name.now; args = c.push_arguments.new.found.items } in
     let list = rw c.new-args.ensures.items at c.in_ok-rest-2.ensures.text in
     let read : text ≡ compact_text (atom_data atom) ++ rest =
-    atom_text atom text c.in_ok-rest.rest.now c.in_ok-name.rest.now rest c.in_ok-rest.ensures c.in_ok-name.ensures.text list in
+    atom_text atom text c.in_ok-rest.rest.now c.in_ok-name.rest.now rest c.in_ok-rest.ensures c.in_ok-name.ensures.text
+        list in
     atoms_more (map raw_atom_view found) atom text rest read
-    ∙ ap (λ ws. atoms_later ws ++ rest) (sym (ap (map raw_atom_view) c.in_ok-push.ensures.items ∙ map-append raw_atom_view found (_ ∷ [])))
+    ∙ ap (λ ws. atoms_later ws ++ rest) (sym (ap (map raw_atom_view) c.in_ok-push.ensures.items
+        ∙ map-append raw_atom_view found (_ ∷ [])))

@@ -4,4 +4,5 @@ use Rattle.std.proofs.lemmas.Slice.Eq.{strip_prefix_is}
 use Rattle.chr_json.proofs.piece.after.Goals as goal
 
 pub returns-in-Some : goal.returns-in-Some
-returns-in-Some c = strip_prefix_is Decides-eqb c.args.text.now c.args.front.now (Some c.in-Some.rest) c.in-Some.ensures.cases
+returns-in-Some c = strip_prefix_is Decides-eqb c.args.text.now c.args.front.now
+    (Some c.in-Some.rest) c.in-Some.ensures.cases

@@ -1,4 +1,5 @@
-use Rattle.std.proofs.Common.{◌≡◌, ◌++◌, ◌<◌, ◌≤◌, ◌-◌, decimal, drop, get_or, length, take, refl, sym, ap, ◌∙◌, subst, arith}
+use Rattle.std.proofs.Common.{◌≡◌, ◌++◌, ◌<◌, ◌≤◌, ◌-◌, decimal, drop, get_or, length, take, refl, sym, ap, ◌∙◌, subst}
+use Rattle.std.proofs.Common.{arith}
 use Rattle.std.specs.Prelude.{IfOk}
 use Rattle.std.proofs.lemmas.Fmt.{decimal_digit}
 use Rattle.chr_json.proofs.Lists.{first_and_rest}
@@ -21,5 +22,6 @@ returns-in-49-to-57 c =
     let low : 48 ≤ digit = omega arith in
     let high : digit < 58 = omega arith in
     let whole : text ≡ decimal c.from.result ++ rest =
-    first_and_rest text digit (omega arith) refl ∙ digit_first digit rest low high ∙ ap (λ n. decimal n ++ rest) (sym c.from.ensures) in
+    first_and_rest text digit (omega arith) refl ∙ digit_first digit rest low high
+        ∙ ap (λ n. decimal n ++ rest) (sym c.from.ensures) in
     subst (λ l. IfOk c.with_digits.result (λ r. l ≡ decimal r.0 ++ r.1.now)) (sym whole) c.with_digits.ensures

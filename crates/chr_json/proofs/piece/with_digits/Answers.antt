@@ -5,13 +5,15 @@ use Rattle.chr_json.proofs.piece.with_digits.Goals as goal
 pub overflow_mul-value : goal.overflow_mul-value
 overflow_mul-value c =
     let few : c.loop-place.place < 17 = omega arith in
-    let room : c.loop-place.value * 10 + 9 < 2 ^ 63 = digit_room c.loop-place.value c.loop-place.place c.loop-place.invariant.1 few in
+    let room : c.loop-place.value * 10 + 9 < 2 ^ 63 = digit_room c.loop-place.value c.loop-place.place
+        c.loop-place.invariant.1 few in
     omega (arith, room)
 
 pub overflow_add-value : goal.overflow_add-value
 overflow_add-value c =
     let few : c.loop-place.place < 17 = omega arith in
-    let room : c.loop-place.value * 10 + 9 < 2 ^ 63 = digit_room c.loop-place.value c.loop-place.place c.loop-place.invariant.1 few in
+    let room : c.loop-place.value * 10 + 9 < 2 ^ 63 = digit_room c.loop-place.value c.loop-place.place
+        c.loop-place.invariant.1 few in
     let at_most : get_or c.args.text.now c.loop-place.place 0 ≤ 57 = c.if-not-is_ascii_digit.ensures.cases.1 in
     omega (arith, room, c.from.ensures)
 
@@ -31,5 +33,6 @@ loop-place-preserved c =
     let high : digit < 58 = omega arith in (
       omega arith,
       rw last (digit_bound value digit place c.loop-place.invariant.1 low at_most),
-      rw last (c.loop-place.invariant.2 ∙ digits_more value digit text place within refl c.loop-place.invariant.0 low high fits),
+      rw last (c.loop-place.invariant.2 ∙ digits_more value digit text place within refl c.loop-place.invariant.0 low
+          high fits),
     )

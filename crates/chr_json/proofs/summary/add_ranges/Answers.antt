@@ -11,7 +11,8 @@ loop-value-preserved c =
     let found = c.loop-value.found.items in
     let range = c.in-Some-range.range in
     rw pushed (
-      sym (front_step (range_of c.args.origin) data_of c.in-Some.values.now c.loop-value.value-index c.value-item.result range found c.loop-value-test.true c.value-item.is (sym c.in-Some-range.ensures.read))
+      sym (front_step (range_of c.args.origin) data_of c.in-Some.values.now c.loop-value.value-index c.value-item.result
+          range found c.loop-value-test.true c.value-item.is (sym c.in-Some-range.ensures.read))
           ∙ c.loop-value.invariant.0,
       λ h. All-push (λ r. r.lo ≤ r.hi) found range (c.loop-value.invariant.1 h) c.in-Some-range.ensures.some,
     )

@@ -12,14 +12,17 @@ loop-class-preserved c =
     let k = c.args.sort in
     let l = c.loop-class-test.true in
     let most = c.loop-class.invariant.most in
-    let more : sort_count k (take (i + 1) ks) ≡ sort_count k (take i ks ++ get_or ks i 0 ∷ []) = ap (sort_count k) (take_more ks i 0 l) in
+    let more : sort_count k (take (i + 1) ks) ≡ sort_count k (take i ks ++ get_or ks i 0 ∷ []) =
+        ap (sort_count k) (take_more ks i 0 l) in
     elim c.if-class-sort.branch [
       | then-class-sort w ↦ record {
-        count = w.count-is ∙ ap (λ n. n + 1) c.loop-class.invariant.count ∙ sym (counted_same (take i ks) (get_or ks i 0) k w.if-class-sort.true) ∙ sym more;
+        count = w.count-is ∙ ap (λ n. n + 1) c.loop-class.invariant.count
+            ∙ sym (counted_same (take i ks) (get_or ks i 0) k w.if-class-sort.true) ∙ sym more;
         most = (let e = w.count-is in omega (arith, e, most));
       }
       | else-class-sort w ↦ record {
-        count = w.count-is ∙ c.loop-class.invariant.count ∙ sym (counted_other (take i ks) (get_or ks i 0) k w.if-class-sort.false) ∙ sym more;
+        count = w.count-is ∙ c.loop-class.invariant.count
+            ∙ sym (counted_other (take i ks) (get_or ks i 0) k w.if-class-sort.false) ∙ sym more;
         most = (let e = w.count-is in omega (arith, e, most));
       }
     ]

@@ -12,7 +12,8 @@ use Rattle.chr_kinds.proofs.combinations.visit_combinations.Goals as goal
 
 pub unreachable-requires : goal.unreachable-requires
 unreachable-requires g c =
-    c.requires.few (more_there (sorts_of c.args.sorting.now) c.args.classes.now c.requires.rise c.leave_room.ensures c.args.limit (rw c.in_default-2.is at c.in_ok-lists.ensures.more))
+    c.requires.few (more_there (sorts_of c.args.sorting.now) c.args.classes.now c.requires.rise c.leave_room.ensures
+        c.args.limit (rw c.in_default-2.is at c.in_ok-lists.ensures.more))
 
 pub returns-clause-visited : goal.returns-clause-visited
 returns-clause-visited g c =
@@ -27,6 +28,7 @@ returns-in-Some-clause-visited g c =
     let ks = c.args.classes.now in
     ok_then c.visit_types.result _ _ (λ stopped v. (
       v.0,
-      types_combined s ks c.in-Some.sort c.in-Some.ensures v.0 (subst (λ cs. AreTypes (length ks) cs v.0) c.constants-constants.ensures v.1),
+      types_combined s ks c.in-Some.sort c.in-Some.ensures v.0
+          (subst (λ cs. AreTypes (length ks) cs v.0) c.constants-constants.ensures v.1),
       subst (λ rs. Visited g.V.Visit.step c.args.visitor.now rs stopped c.visit_types.new.visitor) (all_pass v.0) v.2,
     )) c.visit_types.ensures.visited

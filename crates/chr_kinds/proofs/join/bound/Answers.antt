@@ -6,7 +6,9 @@ use Rattle.chr_kinds.proofs.Joining.{step_below}
 use Rattle.chr_kinds.proofs.join.bound.Goals as goal
 
 pub loop-note-preserved : goal.loop-note-preserved
-loop-note-preserved c = step_below c.args.notes.now c.loop-note.note-index _ c.loop-note.bound c.raised-bound.result c.loop-note-test.true c.raised-bound.ensures.least c.loop-note.invariant c.raised-bound.ensures.below
+loop-note-preserved c = step_below c.args.notes.now c.loop-note.note-index _ c.loop-note.bound c.raised-bound.result
+    c.loop-note-test.true c.raised-bound.ensures.least c.loop-note.invariant c.raised-bound.ensures.below
 
 pub returns : goal.returns
-returns c = subst (All (IsBelow c.loop-note.bound)) (take_all c.loop-note.note-index c.args.notes.now c.loop-note-test.false) c.loop-note.invariant
+returns c = subst (All (IsBelow c.loop-note.bound)) (take_all c.loop-note.note-index c.args.notes.now
+    c.loop-note-test.false) c.loop-note.invariant

@@ -24,13 +24,17 @@ loop-note-preserved c =
           let q = w.in-Joined.other in
           let before = c.loop-note.sorts.items in
           let e = w.deref.ensures.value in
-          let more = w.in_ok-sorts-2.ensures.joins (take i notes) (subst (λ (ts : List ℕ). Joins (take i notes) ts) (sym e) c.loop-note.invariant.joins) in
+          let more = w.in_ok-sorts-2.ensures.joins (take i notes)
+              (subst (λ (ts : List ℕ). Joins (take i notes) ts) (sym e) c.loop-note.invariant.joins) in
           record {
-            joins = subst (λ (ts : List ℕ). Joins (take (i + 1) notes) ts) (sym (ap (λ v. v.items) w.sorts-is)) (step_joined notes i _ p q w.in_ok-sorts-2.sorts.items l w.in-Joined.is more);
-            len = ap (λ v. length v.items) w.sorts-is ∙ w.in_ok-sorts-2.ensures.len ∙ ap length e ∙ c.loop-note.invariant.len;
+            joins = subst (λ (ts : List ℕ). Joins (take (i + 1) notes) ts) (sym (ap (λ v. v.items) w.sorts-is))
+                (step_joined notes i _ p q w.in_ok-sorts-2.sorts.items l w.in-Joined.is more);
+            len = ap (λ v. length v.items) w.sorts-is ∙ w.in_ok-sorts-2.ensures.len ∙ ap length e
+                ∙ c.loop-note.invariant.len;
           }
       | in_default w ↦ record {
-        joins = subst (λ (ts : List ℕ). Joins (take (i + 1) notes) ts) (sym (ap (λ v. v.items) w.sorts-is)) (step_other notes i _ c.loop-note.sorts.items l w.in_default.not-Joined c.loop-note.invariant.joins);
+        joins = subst (λ (ts : List ℕ). Joins (take (i + 1) notes) ts) (sym (ap (λ v. v.items) w.sorts-is))
+            (step_other notes i _ c.loop-note.sorts.items l w.in_default.not-Joined c.loop-note.invariant.joins);
         len = ap (λ v. length v.items) w.sorts-is ∙ c.loop-note.invariant.len;
       }
     ]

@@ -10,4 +10,5 @@ loop-number-preserved c =
     one_more_value c.args.numbers.now c.loop-number.number-index (value_fits _ fits) c.loop-number.invariant
 
 pub returns : goal.returns
-returns c = are_values c.args.numbers.now (λ k l. c.loop-number.invariant k (let e = c.loop-number-test.false in omega (arith, l, e)))
+returns c = are_values c.args.numbers.now (λ k l. c.loop-number.invariant k
+    (let e = c.loop-number-test.false in omega (arith, l, e)))

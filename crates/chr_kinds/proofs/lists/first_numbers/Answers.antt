@@ -1,12 +1,16 @@
-use Rattle.std.proofs.Common.{rules, arith, sym, ap, subst, ◌∙◌, ◌≡◌, ◌+◌, length, ◌<◌, get_or, ℤ, pos, ◌+ℤ◌, ◌≤ℤ◌, ◌<ℤ◌, ◌∷◌, [], to_z}
+use Rattle.std.proofs.Common.{rules, arith, sym, ap, subst, ◌∙◌, ◌≡◌, ◌+◌, length, ◌<◌, get_or, ℤ, pos, ◌+ℤ◌, ◌≤ℤ◌}
+use Rattle.std.proofs.Common.{◌<ℤ◌, ◌∷◌, [], to_z}
 use mir.Val.{SFits}
 use mir.Syntax.{w64}
 use Rattle.std.proofs.lemmas.Int.{to_z-of_z}
 use Rattle.std.proofs.lemmas.List.{length-append}
 use Rattle.chr_kinds.specs.working.Numbers.{AreNumbersBelow}
-use Rattle.chr_kinds.proofs.Numbers.{lesser_passed, constant_passed, number_found, first_found, more_fits, same_bits, below_bits, above_bits, other_bits, below}
+use Rattle.chr_kinds.proofs.Numbers.{lesser_passed, constant_passed, number_found, first_found, more_fits, same_bits}
+use Rattle.chr_kinds.proofs.Numbers.{below_bits, above_bits, other_bits, below}
 use Rattle.chr_kinds.proofs.lists.first_numbers.Goals as goal
-use Rattle.chr_kinds.proofs.lists.first_numbers.Goals.{then-constants-passed-2, else-constants-passed-2, else-passed-constants-via-then-passed-constants+else-constants-passed, else-passed-constants-via-else-passed-constants}
+use Rattle.chr_kinds.proofs.lists.first_numbers.Goals.{then-constants-passed-2, else-constants-passed-2}
+use Rattle.chr_kinds.proofs.lists.first_numbers.Goals.{else-passed-constants-via-then-passed-constants+else-constants-passed}
+use Rattle.chr_kinds.proofs.lists.first_numbers.Goals.{else-passed-constants-via-else-passed-constants}
 
 pub loop-number-preserved-then-constants-passed : goal.loop-number-preserved-then-constants-passed
 loop-number-preserved-then-constants-passed c =
@@ -18,11 +22,13 @@ loop-number-preserved-then-constants-passed c =
     let inv = c.loop-number.invariant.found in
     let at : ℤ = get_or cs k (pos 0) in
     let fits : SFits w64 at = search rules in
-    let on : SFits w64 (b +ℤ pos 1) = more_fits cs us k b c.args.count c.requires.few c.loop-number.invariant.within inv in
+    let on : SFits w64 (b +ℤ pos 1) = more_fits cs us k b c.args.count c.requires.few c.loop-number.invariant.within
+        inv in
     elim c.if-constants-passed-2.branch [
       | then-constants-passed-2 w ↦ (
           let e : at ≡ b = same_bits at c.loop-number.number-bits fits w.if-constants-passed-2.true in
-          let n : to_z w64 c.if-constants-passed-2.number-bits ≡ b +ℤ pos 1 = w.number-is ∙ to_z-of_z w64 (b +ℤ pos 1) on in
+          let n : to_z w64 c.if-constants-passed-2.number-bits ≡ b +ℤ pos 1 =
+              w.number-is ∙ to_z-of_z w64 (b +ℤ pos 1) on in
           record {
             found = subst (λ z. AreNumbersBelow cs (k + 1) us z) (sym n) (constant_passed cs us k b (pos 0) l e inv);
             within = c.loop-number.invariant.within;
@@ -30,9 +36,12 @@ loop-number-preserved-then-constants-passed c =
           )
       | else-constants-passed-2 w ↦ (
           let le : at ≤ℤ b = below_bits at b fits c.if-constants-passed.true in
-          let ne : (at ≡ b → ⊥) = λ e. w.if-constants-passed-2.false (other_bits at c.loop-number.number-bits fits (let f = c.loop-number.auto.number-fits in omega (arith, f)) e) in
+          let ne : (at ≡ b → ⊥) = λ e. w.if-constants-passed-2.false
+              (other_bits at c.loop-number.number-bits fits (let f = c.loop-number.auto.number-fits in omega (arith, f))
+              e) in
           record {
-            found = subst (λ z. AreNumbersBelow cs (k + 1) us z) (sym w.number-is) (lesser_passed cs us k b (pos 0) l (below at b le ne) inv);
+            found = subst (λ z. AreNumbersBelow cs (k + 1) us z) (sym w.number-is)
+                (lesser_passed cs us k b (pos 0) l (below at b le ne) inv);
             within = c.loop-number.invariant.within;
           }
           )
@@ -47,18 +56,25 @@ loop-number-preserved c =
     let inv = c.loop-number.invariant.found in
     let it = c.in_ok-push.ensures.items in
     let at : ℤ = get_or cs k (pos 0) in
-    let on : SFits w64 (b +ℤ pos 1) = more_fits cs us k b c.args.count c.requires.few c.loop-number.invariant.within inv in
+    let on : SFits w64 (b +ℤ pos 1) = more_fits cs us k b c.args.count c.requires.few c.loop-number.invariant.within
+        inv in
     let above : (k < length cs → b <ℤ at) = elim c.else-passed-constants.branch as (λ _. k < length cs → b <ℤ at) [
-      | else-passed-constants-via-then-passed-constants+else-constants-passed w ↦ (let fits : SFits w64 at = search rules in λ _. above_bits at b fits w.if-constants-passed.false)
-      | else-passed-constants-via-else-passed-constants w ↦ (let n = w.if-passed-constants.false in λ l. absurd (omega (arith, l, n)))
+      | else-passed-constants-via-then-passed-constants+else-constants-passed w ↦
+            (let fits : SFits w64 at = search rules in λ _. above_bits at b fits w.if-constants-passed.false)
+      | else-passed-constants-via-else-passed-constants w ↦
+            (let n = w.if-passed-constants.false in λ l. absurd (omega (arith, l, n)))
     ] in
     record {
-      found = subst (λ z. AreNumbersBelow cs k c.push.new.self.items z) (sym (to_z-of_z w64 (b +ℤ pos 1) on)) (subst (λ xs. AreNumbersBelow cs k xs (b +ℤ pos 1)) (sym it) (number_found cs us k b (pos 0) c.requires.rise above inv));
-      within = (let l = c.loop-number-test.true in let e = c.len.ensures in let t = length-append us (b ∷ []) in omega (arith, ap length it, l, e, t));
+      found = subst (λ z. AreNumbersBelow cs k c.push.new.self.items z) (sym (to_z-of_z w64 (b +ℤ pos 1) on))
+          (subst (λ xs. AreNumbersBelow cs k xs (b +ℤ pos 1)) (sym it)
+          (number_found cs us k b (pos 0) c.requires.rise above inv));
+      within = (let l = c.loop-number-test.true in let e = c.len.ensures in let t = length-append us (b ∷ []) in
+          omega (arith, ap length it, l, e, t));
     }
 
 pub returns-clause-first : goal.returns-clause-first
 returns-clause-first c =
     let few = c.requires.few in
     let w = c.loop-number.invariant.within in
-    first_found c.args.constants.now c.loop-number.numbers.items c.loop-number.passed (to_z w64 c.loop-number.number-bits) (omega (arith, few, w)) c.loop-number.invariant.found
+    first_found c.args.constants.now c.loop-number.numbers.items c.loop-number.passed
+        (to_z w64 c.loop-number.number-bits) (omega (arith, few, w)) c.loop-number.invariant.found

@@ -6,4 +6,5 @@ pub returns-then-limit-eq0-clause-more : goal.returns-then-limit-eq0-clause-more
 returns-then-limit-eq0-clause-more c =
     let us = c.in_ok-numbers.numbers.items in
     let none = c.if-limit-eq0.true in
-    (us ∷ [], free_list c.args.constants.now us c.args.count c.in_ok-numbers.ensures.count c.in_ok-numbers.ensures.first, omega (arith, none))
+    (us ∷ [], free_list c.args.constants.now us c.args.count c.in_ok-numbers.ensures.count
+        c.in_ok-numbers.ensures.first, omega (arith, none))

@@ -4,4 +4,5 @@ use Rattle.chr_kinds.specs.working.Notes.{numbering}
 use Rattle.chr_kinds.proofs.notes.add_patterns.Given as goal
 
 abbrev pub invariant-loop-pattern : goal.invariant-loop-pattern
-invariant-loop-pattern l = l.placed.items ≡ l.initial.placed.items ++ sorted_terms numbering (take l.pattern-index l.patterns)
+invariant-loop-pattern l = l.placed.items ≡ l.initial.placed.items ++ sorted_terms numbering
+    (take l.pattern-index l.patterns)

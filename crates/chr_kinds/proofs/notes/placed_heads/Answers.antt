@@ -7,4 +7,6 @@ use Rattle.chr_kinds.proofs.notes.placed_heads.Goals as goal
 pub returns : goal.returns
 returns c =
     let r = c.args.rule.now in
-    c.in_ok-add_patterns-2.ensures ∙ (λ i. (c.in_ok-add_patterns.ensures ∙ (λ j. c.new-heads.ensures.items j ++ sorted_terms numbering (c.deref.ensures.0 j))) i ++ sorted_terms numbering (c.deref-2.ensures.0 i)) ∙ sym (sorted-append numbering r.kept.items r.removed.items)
+    c.in_ok-add_patterns-2.ensures ∙ (λ i. (c.in_ok-add_patterns.ensures
+        ∙ (λ j. c.new-heads.ensures.items j ++ sorted_terms numbering (c.deref.ensures.0 j))) i
+        ++ sorted_terms numbering (c.deref-2.ensures.0 i)) ∙ sym (sorted-append numbering r.kept.items r.removed.items)

@@ -7,5 +7,6 @@ use Rattle.chr_kinds.proofs.sorting.constants.Given as goal
 abbrev pub invariant-loop-sort : goal.invariant-loop-sort
 invariant-loop-sort l = record {
   len : length l.found.items ≡ l.sort;
-  each : (n : ℕ) → n < l.sort → AreConstantsIn (terms_at (sort_in l.sorts) n l.notes) (get_or (map (λ cs. cs.items) l.found.items) n []);
+  each : (n : ℕ) → n < l.sort → AreConstantsIn (terms_at (sort_in l.sorts) n l.notes)
+      (get_or (map (λ cs. cs.items) l.found.items) n []);
 }

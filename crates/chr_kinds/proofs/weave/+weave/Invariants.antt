@@ -11,5 +11,7 @@ abbrev pub invariant-loop-value : goal.invariant-loop-value
 invariant-loop-value g l = record {
   ready : g.V.Visit.ready l.visitor;
   same : l.all.items ≡ l.initial.all.items;
-  visited : Visited g.V.Visit.step l.initial.visitor (flat_map (λ z. woven l.rest (begun l.sort z (held l.initial.all.items)) (l.prefix ++ z ∷ [])) (take l.value-index l.value-items)) false l.visitor;
+  visited : Visited g.V.Visit.step l.initial.visitor (flat_map
+      (λ z. woven l.rest (begun l.sort z (held l.initial.all.items)) (l.prefix ++ z ∷ []))
+      (take l.value-index l.value-items)) false l.visitor;
 }

@@ -21,10 +21,14 @@ loop-op-preserved c =
     let before = c.args.held.now in
     let now = c.loop-op.held in
     record {
-      taken = taken_more before now c.args.ops.now c.loop-op.op-index c.op-item.result c.loop-op-test.true c.op-item.is c.loop-op.invariant.taken c.take_in.new.held c.in_ok-atoms.ensures.ok;
+      taken = taken_more before now c.args.ops.now c.loop-op.op-index c.op-item.result c.loop-op-test.true c.op-item.is
+          c.loop-op.invariant.taken c.take_in.new.held c.in_ok-atoms.ensures.ok;
       told = omega (arith, c.saturating_add-told.ensures, c.in_ok-atoms.ensures.atoms, c.loop-op.invariant.told);
       count = omega (arith, c.in_ok-atoms.ensures.count, c.loop-op.invariant.count);
-      no_clash = no_clash_more before now c.args.ops.now c.loop-op.op-index c.op-item.result c.loop-op-test.true c.op-item.is c.loop-op.invariant.taken c.loop-op.invariant.no_clash (λ held. (let failed = (c.take_in.ensures.clash c.op-item.result.0).1 (refl, held) in search (rules, failed)));
+      no_clash = no_clash_more before now c.args.ops.now c.loop-op.op-index c.op-item.result c.loop-op-test.true
+          c.op-item.is c.loop-op.invariant.taken c.loop-op.invariant.no_clash
+          (λ held. (let failed = (c.take_in.ensures.clash c.op-item.result.0).1 (refl, held) in
+          search (rules, failed)));
       sized = λ h. c.take_in.ensures.sized (c.loop-op.invariant.sized h);
       ids = λ m h. c.in_ok-atoms.ensures.ids m (c.loop-op.invariant.ids m h);
       back = λ m h. c.take_in.ensures.back m (c.loop-op.invariant.back m h);
@@ -34,10 +38,12 @@ pub returns-in_err-atoms-clause-clash : goal.returns-in_err-atoms-clause-clash
 returns-in_err-atoms-clause-clash c = λ id e.
     let failed : c.take_in.result ≡ Err (Clash id) = search rules in
     let clash = (c.take_in.ensures.clash id).0 failed in
-    first_clash c.args.held.now c.loop-op.held c.args.ops.now c.loop-op.op-index c.op-item.result c.loop-op-test.true c.op-item.is c.loop-op.invariant.taken id c.loop-op.invariant.no_clash clash.0 clash.1
+    first_clash c.args.held.now c.loop-op.held c.args.ops.now c.loop-op.op-index c.op-item.result c.loop-op-test.true
+        c.op-item.is c.loop-op.invariant.taken id c.loop-op.invariant.no_clash clash.0 clash.1
 
 pub returns-in_err-atoms-clause-sized : goal.returns-in_err-atoms-clause-sized
 returns-in_err-atoms-clause-sized c = λ h. c.take_in.ensures.sized (c.loop-op.invariant.sized h)
 
 pub returns-clause-no_clash : goal.returns-clause-no_clash
-returns-clause-no_clash c = λ i id clash. c.loop-op.invariant.no_clash i id (let within = slice_get_within c.args.ops.now i clash.0 clash.1 in search (rules, within)) clash
+returns-clause-no_clash c = λ i id clash. c.loop-op.invariant.no_clash i id
+    (let within = slice_get_within c.args.ops.now i clash.0 clash.1 in search (rules, within)) clash

@@ -6,6 +6,7 @@ use Rattle.chr_ops.proofs.lacking.copies.Given as goal
 
 abbrev pub invariant-loop-range : goal.invariant-loop-range
 invariant-loop-range l = record {
-  found : l.ops.items ++ covered (drop l.range-index l.ranges) (map.entries l.held) ≡ covered l.ranges (map.entries l.held);
+  found : l.ops.items ++ covered (drop l.range-index l.ranges) (map.entries l.held)
+      ≡ covered l.ranges (map.entries l.held);
   apart : IsApart (drop l.range-index l.ranges);
 }

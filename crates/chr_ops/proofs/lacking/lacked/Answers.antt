@@ -9,5 +9,7 @@ returns c =
     let held = c.args.held.now in
     let parts = c.in_ok-lacked.lacked.items in
     let lent : c.deref.result.now ≡ parts = search rules in
-    let all = covered_lacking held c.args.ranges.now c.args.others.now parts c.requires.covers c.in_ok-lacked.ensures.covers in
-    subst (λ os. IfOk c.copies.result (λ ops. ops.items ≡ os)) (ap (λ rs. covered rs (map.entries held)) lent ∙ all) c.copies.ensures
+    let all = covered_lacking held c.args.ranges.now c.args.others.now parts c.requires.covers
+        c.in_ok-lacked.ensures.covers in
+    subst (λ os. IfOk c.copies.result (λ ops. ops.items ≡ os)) (ap (λ rs. covered rs (map.entries held)) lent ∙ all)
+        c.copies.ensures

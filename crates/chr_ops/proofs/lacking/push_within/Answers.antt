@@ -13,7 +13,8 @@ loop-id-init c =
     let all : c.into_iter-id-iterator.result ≡ within c.args.range.now (map.entries c.args.held.now) = search rules in
     rw all (record {
       found = refl;
-      sized = kept_all (λ o. IsOperationBag o.1) (λ o. in_range c.args.range.now o.0) (map.entries c.args.held.now) (each_entry IsOperationBag c.args.held.now c.requires.sized);
+      sized = kept_all (λ o. IsOperationBag o.1) (λ o. in_range c.args.range.now o.0) (map.entries c.args.held.now)
+          (each_entry IsOperationBag c.args.held.now c.requires.sized);
     })
 
 split : (c : goal.In_ok-push) → c.loop-id.id-iterator ≡ (c.in-Some.id, c.in-Some.bag.now) ∷ c.next.new.self
@@ -34,4 +35,5 @@ loop-id-preserved c =
 
 pub returns : goal.returns
 returns c =
-    sym (append-nil c.loop-id.ops.items) ∙ ap (λ os. c.loop-id.ops.items ++ os) (sym c.in-None.ensures.steps.0) ∙ c.loop-id.invariant.found
+    sym (append-nil c.loop-id.ops.items) ∙ ap (λ os. c.loop-id.ops.items ++ os) (sym c.in-None.ensures.steps.0)
+        ∙ c.loop-id.invariant.found

@@ -8,5 +8,6 @@ use Rattle.chr_ops.proofs.lacking.ranges_not_held.Given as goal
 abbrev pub invariant-loop-id : goal.invariant-loop-id
 invariant-loop-id l = record {
   ranges : All (λ r. r.lo ≤ r.hi) l.ranges.items;
-  covers : (id : OpId) → covers l.ranges.items id ≡ (is_one_of (take l.id-index l.ids) id && not (map.contains_key l.held id));
+  covers : (id : OpId) → covers l.ranges.items id ≡ (is_one_of (take l.id-index l.ids) id
+      && not (map.contains_key l.held id));
 }

@@ -10,6 +10,10 @@ loop-range-preserved c =
     let merged = c.in_ok-push_range.ensures in
     record {
       apart = merged.apart;
-      covering = λ id. merged.covering id ∙ ap (λ b. b || in_range (get_or c.args.ranges.now c.loop-range.range-index first) id) (c.loop-range.invariant.covering id) ∙ sym (covers_more c.args.ranges.now c.loop-range.range-index first id c.loop-range-test.true);
-      in_order = λ more. starts_more c.args.ranges.now c.loop-range.range-index first c.loop-range.merged.items c.push_range.new.merged.items c.requires.in_order more (c.loop-range.invariant.in_order c.loop-range-test.true) merged;
+      covering = λ id. merged.covering id ∙ ap (λ b. b
+          || in_range (get_or c.args.ranges.now c.loop-range.range-index first) id) (c.loop-range.invariant.covering id)
+          ∙ sym (covers_more c.args.ranges.now c.loop-range.range-index first id c.loop-range-test.true);
+      in_order = λ more. starts_more c.args.ranges.now c.loop-range.range-index first c.loop-range.merged.items
+          c.push_range.new.merged.items c.requires.in_order more
+          (c.loop-range.invariant.in_order c.loop-range-test.true) merged;
     }

@@ -8,5 +8,6 @@ abbrev pub invariant-loop-range : goal.invariant-loop-range
 invariant-loop-range l = record {
   apart : IsApart l.merged.items;
   covering : (id : OpId) → covers l.merged.items id ≡ covers (take l.range-index l.ranges) id;
-  in_order : l.range-index < length l.ranges → AllStartBy l.merged.items (get_or l.ranges l.range-index record { origin = 0; lo = 0; hi = 0 });
+  in_order : l.range-index < length l.ranges → AllStartBy l.merged.items
+      (get_or l.ranges l.range-index record { origin = 0; lo = 0; hi = 0 });
 }

@@ -8,10 +8,13 @@ pub returns-then-left-other : goal.returns-then-left-other
 returns-then-left-other c =
     let xs = c.loop-rest.rest.now in
     let left = c.loop-rest.left in
-    let near : ((front xs).origin ≡ left.origin) × ((front xs).lo ≤ left.hi) = search (rules, c.begins_by_end_of.ensures) in
+    let near : ((front xs).origin ≡ left.origin) × ((front xs).lo ≤ left.hi) =
+        search (rules, c.begins_by_end_of.ensures) in
     let past : left.hi ≤ (front xs).hi = search (rules, arith) in
     rw c.in_ok-push_before.ensures
-    (c.loop-rest.invariant.to_come (c.loop-rest.parts.items ++ part_before left (front xs)) (past_front c.loop-rest.parts.items left xs c.in-len1-up.len_at_least c.loop-rest.invariant.next near.0 near.1 past))
+    (c.loop-rest.invariant.to_come (c.loop-rest.parts.items ++ part_before left (front xs))
+        (past_front c.loop-rest.parts.items left xs c.in-len1-up.len_at_least c.loop-rest.invariant.next near.0 near.1
+        past))
 
 pub overflow_add-left : goal.overflow_add-left
 overflow_add-left c =
@@ -24,12 +27,16 @@ pub loop-rest-preserved : goal.loop-rest-preserved
 loop-rest-preserved c =
     let xs = c.loop-rest.rest.now in
     let left = c.loop-rest.left in
-    let near : ((front xs).origin ≡ left.origin) × ((front xs).lo ≤ left.hi) = search (rules, c.begins_by_end_of.ensures) in
+    let near : ((front xs).origin ≡ left.origin) × ((front xs).lo ≤ left.hi) =
+        search (rules, c.begins_by_end_of.ensures) in
     let less : (front xs).hi < left.hi = search (rules, arith) in
     rw c.in_ok-push_before.ensures (record {
-      next = left_front c.loop-rest.parts.items left xs c.in-len1-up.len_at_least c.loop-rest.invariant.next near.0 near.1 less;
+      next = left_front c.loop-rest.parts.items left xs c.in-len1-up.len_at_least c.loop-rest.invariant.next near.0
+          near.1 less;
       ends = c.loop-rest.invariant.ends;
-      to_come = λ new h. c.loop-rest.invariant.to_come new (added_front c.loop-rest.parts.items left xs c.in-len1-up.len_at_least c.loop-rest.invariant.next near.0 near.1 new h);
+      to_come = λ new h. c.loop-rest.invariant.to_come new
+          (added_front c.loop-rest.parts.items left xs c.in-len1-up.len_at_least c.loop-rest.invariant.next near.0
+          near.1 new h);
     })
 
 pub returns : goal.returns
@@ -37,10 +44,13 @@ returns c = elim c.if-rest-lt1.branch [
   | in_default w ↦
       let left = c.loop-rest.left in
       let pushed : c.push.new.self.items ≡ c.loop-rest.parts.items ++ left ∷ [] = search rules in
-      rw pushed (c.loop-rest.invariant.to_come (c.loop-rest.parts.items ++ left ∷ []) (none_front c.loop-rest.parts.items left c.loop-rest.rest.now w.in_default.len_below c.loop-rest.invariant.next))
+      rw pushed (c.loop-rest.invariant.to_come (c.loop-rest.parts.items ++ left ∷ [])
+          (none_front c.loop-rest.parts.items left c.loop-rest.rest.now w.in_default.len_below
+          c.loop-rest.invariant.next))
   | in-len1-up+then-not-begins_by_end_of w ↦
       let left = c.loop-rest.left in
       let pushed : c.push.new.self.items ≡ c.loop-rest.parts.items ++ left ∷ [] = search rules in
       rw pushed (c.loop-rest.invariant.to_come (c.loop-rest.parts.items ++ left ∷ [])
-      (behind_front c.loop-rest.parts.items left c.loop-rest.rest.now w.in-len1-up.len_at_least c.loop-rest.invariant.next (search (rules, w.begins_by_end_of.ensures))))
+      (behind_front c.loop-rest.parts.items left c.loop-rest.rest.now w.in-len1-up.len_at_least
+          c.loop-rest.invariant.next (search (rules, w.begins_by_end_of.ensures))))
 ]

@@ -7,7 +7,8 @@ pub returns-clause-ranges : goal.returns-clause-ranges
 returns-clause-ranges c = λ rs ss apart apart' same. one rs ss apart apart' same
 
 pub returns-clause-summaries : goal.returns-clause-summaries
-returns-clause-summaries c = λ m rs ss apart apart' covers covers'. one rs ss apart apart' (λ id. covers id ∙ sym (covers' id))
+returns-clause-summaries c = λ m rs ss apart apart' covers covers'. one rs ss apart apart'
+    (λ id. covers id ∙ sym (covers' id))
 
 pub returns-clause-exist : goal.returns-clause-exist
 returns-clause-exist c = summaries_there

@@ -8,4 +8,5 @@ abbrev pub decreases-add_overlaps : goal.decreases-add_overlaps
 decreases-add_overlaps l = length (heads_of l.first.now) - length l.begun.now.matching.items
 
 abbrev pub invariant-loop-entry : goal.invariant-loop-entry
-invariant-loop-entry l = l.found.items ≡ l.initial.found.items ++ flat_map (next l.first l.second l.begun) (range_with_len 0 l.entry)
+invariant-loop-entry l = l.found.items ≡ l.initial.found.items ++ flat_map (next l.first l.second l.begun)
+    (range_with_len 0 l.entry)

@@ -5,6 +5,7 @@ use Rattle.chr_overlaps.proofs.listing.overlaps_of.Given as goal
 
 abbrev pub invariant-loop-place : goal.invariant-loop-place
 invariant-loop-place l = record {
-  found : l.found.items ≡ flat_map (overlaps_of_rule l.rules) (range_with_len l.fn.places.start (l.place - l.fn.places.start));
+  found : l.found.items ≡ flat_map (overlaps_of_rule l.rules)
+      (range_with_len l.fn.places.start (l.place - l.fn.places.start));
   reach : (l.place ≤ l.end) ⊎ (l.place ≡ l.fn.places.start);
 }

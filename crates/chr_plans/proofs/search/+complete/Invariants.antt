@@ -17,7 +17,8 @@ invariant-loop-next g l = record {
   seats : length l.seats ≡ length (heads_of l.rule);
   same : AgreeAtKnown (looked_in l.lookups) l.active l.done l.heads l.seats l.fn.heads l.fn.seats;
   lives : IfSome l.next (λ row. IsTrue (is_some (g.R.Rows.rows l.fn.rows l.lookup.table row)));
-  past : Past l.rule (g.R.Rows.rows l.fn.rows) l.active (looked_in l.lookups) l.done l.lookup.partner.place l.fn.heads l.fn.seats (bound l.next);
+  past : Past l.rule (g.R.Rows.rows l.fn.rows) l.active (looked_in l.lookups) l.done l.lookup.partner.place l.fn.heads
+      l.fn.seats (bound l.next);
 }
 
 abbrev pub decreases-loop-next : goal.decreases-loop-next

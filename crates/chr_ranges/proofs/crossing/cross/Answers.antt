@@ -35,4 +35,5 @@ loop-at-preserved c =
     }
 
 pub returns-clause-none_between : goal.returns-clause-none_between
-returns-clause-none_between c = λ r l v w. (let a = c.loop-at.invariant.none r l v w in let f = c.loop-at-test.false in omega (arith, a, f))
+returns-clause-none_between c = λ r l v w. (let a = c.loop-at.invariant.none r l v w in let f = c.loop-at-test.false in
+    omega (arith, a, f))

@@ -8,7 +8,8 @@ invariant-loop-at l = record {
   right : l.right ≡ l.fn.right;
   within : l.at ≤ l.from;
   wanted : 0 < l.at → IsWanted l.fn.left.rows l.hash l.first (l.at - 1);
-  none : (r : ℕ) → r < l.from → IsWanted l.fn.left.rows l.hash l.first r → IsWanted l.fn.right.rows l.hash l.second r → r < l.at;
+  none : (r : ℕ) → r < l.from → IsWanted l.fn.left.rows l.hash l.first r → IsWanted l.fn.right.rows l.hash l.second r
+      → r < l.at;
 }
 
 abbrev pub decreases-loop-at : goal.decreases-loop-at

@@ -15,7 +15,8 @@ pub push_rule-requires-clause-declared : goal.push_rule-requires-clause-declared
 push_rule-requires-clause-declared c =
     let ds = declarations c.args.reader.now.program in
     let r = rule_view c.args.raw.now in
-    resolved_fits ds r c.in_ok-rule.rule c.in_ok-rule.ensures (rule_faultless (progress_of c.args.reader.now) r c.requires.none).0
+    resolved_fits ds r c.in_ok-rule.rule c.in_ok-rule.ensures
+        (rule_faultless (progress_of c.args.reader.now) r c.requires.none).0
 
 pub push_rule-requires-clause-room : goal.push_rule-requires-clause-room
 push_rule-requires-clause-room c =
@@ -27,7 +28,9 @@ push_rule-requires-clause-room c =
     room rs h = let l = length-map rs parts_of in grind (arith, nat_tests)
 
 pub resolved-requires-clause-over : goal.resolved-requires-clause-over
-resolved-requires-clause-over c = (rule_faultless (progress_of c.args.reader.now) (rule_view c.args.raw.now) c.requires.none).2
+resolved-requires-clause-over c = (rule_faultless (progress_of c.args.reader.now)
+    (rule_view c.args.raw.now) c.requires.none).2
 
 pub resolved-requires-clause-unbound : goal.resolved-requires-clause-unbound
-resolved-requires-clause-unbound c = (rule_faultless (progress_of c.args.reader.now) (rule_view c.args.raw.now) c.requires.none).3
+resolved-requires-clause-unbound c = (rule_faultless (progress_of c.args.reader.now)
+    (rule_view c.args.raw.now) c.requires.none).3

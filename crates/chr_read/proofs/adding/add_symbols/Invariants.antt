@@ -9,7 +9,8 @@ use Rattle.chr_read.proofs.adding.add_symbols.Given as goal
 
 abbrev pub invariant-loop-symbol : goal.invariant-loop-symbol
 invariant-loop-symbol l = record {
-  symbols : declarations l.program ++ map declared_symbol (map symbol_view (drop l.symbol-index l.symbols)) ≡ declarations l.fn.program ++ map declared_symbol (map symbol_view l.symbols);
+  symbols : declarations l.program ++ map declared_symbol (map symbol_view (drop l.symbol-index l.symbols))
+      ≡ declarations l.fn.program ++ map declared_symbol (map symbol_view l.symbols);
   rules : rules_of l.program ≡ rules_of l.fn.program;
   words : list_all is_name (map (λ s. s.name) (map symbol_view (drop l.symbol-index l.symbols))) ≡ true;
   can : can_declare_all (declarations l.program) (map symbol_view (drop l.symbol-index l.symbols)) ≡ true;

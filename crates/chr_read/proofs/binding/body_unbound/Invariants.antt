@@ -6,4 +6,6 @@ use Rattle.chr_read.specs.working.RuleParts.{atom_unbound}
 use Rattle.chr_read.proofs.binding.body_unbound.Given as goal
 
 abbrev pub invariant-loop-item : goal.invariant-loop-item
-invariant-loop-item l = list_any (atom_unbound (rule_view l.rule)) (present (map (option_map atom_view) (drop l.item-index l.item-items))) ≡ list_any (atom_unbound (rule_view l.rule)) (present (map (option_map atom_view) l.item-items))
+invariant-loop-item l = list_any (atom_unbound (rule_view l.rule))
+    (present (map (option_map atom_view) (drop l.item-index l.item-items))) ≡ list_any (atom_unbound (rule_view l.rule))
+    (present (map (option_map atom_view) l.item-items))

@@ -10,7 +10,8 @@ returns-then-not-branch c =
     let s = get_or c.args.symbols.now c.loop-symbol.symbol-index _ in
     let met = sym (inv.1 (s.name, c.without_zeros.result)) ∙ there in
     let at = rw c.without_zeros.ensures at met in
-    sym (sym inv.2 ∙ one_more inv.0 symbol_view c.args.symbols.now c.loop-symbol.symbol-index _ c.loop-symbol-test.true ∙ found _ _ at)
+    sym (sym inv.2 ∙ one_more inv.0 symbol_view c.args.symbols.now c.loop-symbol.symbol-index _ c.loop-symbol-test.true
+        ∙ found _ _ at)
 
 pub loop-symbol-preserved : goal.loop-symbol-preserved
 loop-symbol-preserved c =
@@ -20,6 +21,8 @@ loop-symbol-preserved c =
     let unmet = sym (inv.1 (s.name, c.without_zeros.result)) ∙ absent in
     let at = rw c.without_zeros.ensures at unmet in (
       symbol_view s ∷ inv.0,
-      λ q. c.in_ok-insert.ensures.updates.0 q ∙ one_more_key _ q.0.now q.1.now _ inv.0 (symbol_view s) c.without_zeros.ensures (inv.1 q),
-      sym (not_found _ _ at) ∙ sym (one_more inv.0 symbol_view c.args.symbols.now c.loop-symbol.symbol-index _ c.loop-symbol-test.true) ∙ inv.2,
+      λ q. c.in_ok-insert.ensures.updates.0 q ∙ one_more_key _ q.0.now q.1.now _ inv.0
+          (symbol_view s) c.without_zeros.ensures (inv.1 q),
+      sym (not_found _ _ at) ∙ sym (one_more inv.0 symbol_view c.args.symbols.now c.loop-symbol.symbol-index _
+          c.loop-symbol-test.true) ∙ inv.2,
     )

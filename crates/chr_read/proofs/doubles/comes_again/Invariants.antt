@@ -8,4 +8,5 @@ use Rattle.chr_read.proofs.doubles.comes_again.Given as goal
 abbrev pub invariant-loop-symbol : goal.invariant-loop-symbol
 invariant-loop-symbol l =
     (earlier : List Symbol) × ((q : Key) → has_key q l.seen.keys ≡ among q.0.now q.1.now earlier)
-    × (comes_again earlier (map symbol_view (drop l.symbol-index l.symbols)) ≡ comes_again [] (map symbol_view l.symbols))
+    × (comes_again earlier (map symbol_view (drop l.symbol-index l.symbols)) ≡ comes_again []
+        (map symbol_view l.symbols))

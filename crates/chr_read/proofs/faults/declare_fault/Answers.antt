@@ -15,7 +15,8 @@ returns-then-has_no_room c =
     let ss = map symbol_view c.args.symbols.now in
     let long = length-map c.args.symbols.now symbol_view in
     let a : declared_twice q.meaning.declarations ss ≡ false = search rules in
-    let b : (nat_lt MAX_SYMBOLS (length q.meaning.declarations + length ss) || list_any symbol_over ss) ≡ true = search rules in
+    let b : (nat_lt MAX_SYMBOLS (length q.meaning.declarations + length ss) || list_any symbol_over ss) ≡ true =
+        search rules in
     declare_faults q ss false true a b
 
 pub returns : goal.returns
@@ -24,7 +25,8 @@ returns c =
     let ss = map symbol_view c.args.symbols.now in
     let long = length-map c.args.symbols.now symbol_view in
     let a : declared_twice q.meaning.declarations ss ≡ false = search rules in
-    let b : (nat_lt MAX_SYMBOLS (length q.meaning.declarations + length ss) || list_any symbol_over ss) ≡ false = search rules in
+    let b : (nat_lt MAX_SYMBOLS (length q.meaning.declarations + length ss) || list_any symbol_over ss) ≡ false =
+        search rules in
     declare_faults q ss false false a b
 
 pub returns-then-branch : goal.returns-then-branch

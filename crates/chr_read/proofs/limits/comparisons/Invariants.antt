@@ -5,6 +5,7 @@ use Rattle.chr_read.proofs.limits.comparisons.Given as goal
 
 abbrev pub invariant-loop-item : goal.invariant-loop-item
 invariant-loop-item l = record {
-  counted : l.count + length (present (map (option_map comparison_view) (drop l.item-index l.items))) ≡ length (present (map (option_map comparison_view) l.items));
+  counted : l.count + length (present (map (option_map comparison_view) (drop l.item-index l.items)))
+      ≡ length (present (map (option_map comparison_view) l.items));
   within : l.count ≤ l.item-index;
 }

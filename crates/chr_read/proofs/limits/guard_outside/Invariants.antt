@@ -6,4 +6,6 @@ use Rattle.chr_read.specs.working.RuleParts.{comparison_outside}
 use Rattle.chr_read.proofs.limits.guard_outside.Given as goal
 
 abbrev pub invariant-loop-item : goal.invariant-loop-item
-invariant-loop-item l = list_any comparison_outside (present (map (option_map comparison_view) (drop l.item-index l.items))) ≡ list_any comparison_outside (present (map (option_map comparison_view) l.items))
+invariant-loop-item l = list_any comparison_outside (present
+    (map (option_map comparison_view) (drop l.item-index l.items))) ≡ list_any comparison_outside
+    (present (map (option_map comparison_view) l.items))

@@ -6,4 +6,6 @@ use Rattle.chr_read.specs.working.RuleParts.{comparison_over}
 use Rattle.chr_read.proofs.limits.guard_over.Given as goal
 
 abbrev pub invariant-loop-item : goal.invariant-loop-item
-invariant-loop-item l = list_any comparison_over (present (map (option_map comparison_view) (drop l.item-index l.items))) ≡ list_any comparison_over (present (map (option_map comparison_view) l.items))
+invariant-loop-item l = list_any comparison_over (present
+    (map (option_map comparison_view) (drop l.item-index l.items))) ≡ list_any comparison_over
+    (present (map (option_map comparison_view) l.items))

@@ -5,4 +5,5 @@ use Rattle.chr_read.specs.working.RuleParts.{atom_outside}
 use Rattle.chr_read.proofs.limits.heads_outside.Given as goal
 
 abbrev pub invariant-loop-atom : goal.invariant-loop-atom
-invariant-loop-atom l = list_any atom_outside (map atom_view (drop l.atom-index l.atoms)) ≡ list_any atom_outside (map atom_view l.atoms)
+invariant-loop-atom l = list_any atom_outside (map atom_view (drop l.atom-index l.atoms))
+    ≡ list_any atom_outside (map atom_view l.atoms)

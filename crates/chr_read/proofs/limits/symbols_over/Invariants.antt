@@ -5,4 +5,5 @@ use Rattle.chr_read.specs.Faults.{symbol_over}
 use Rattle.chr_read.proofs.limits.symbols_over.Given as goal
 
 abbrev pub invariant-loop-symbol : goal.invariant-loop-symbol
-invariant-loop-symbol l = list_any symbol_over (map symbol_view (drop l.symbol-index l.symbols)) ≡ list_any symbol_over (map symbol_view l.symbols)
+invariant-loop-symbol l = list_any symbol_over (map symbol_view (drop l.symbol-index l.symbols))
+    ≡ list_any symbol_over (map symbol_view l.symbols)

@@ -5,4 +5,5 @@ use Rattle.chr_read.specs.Faults.{is_long_variable}
 use Rattle.chr_read.proofs.limits.terms_over.Given as goal
 
 abbrev pub invariant-loop-term : goal.invariant-loop-term
-invariant-loop-term l = list_any is_long_variable (map term_view (drop l.term-index l.terms)) ≡ list_any is_long_variable (map term_view l.terms)
+invariant-loop-term l = list_any is_long_variable (map term_view (drop l.term-index l.terms))
+    ≡ list_any is_long_variable (map term_view l.terms)

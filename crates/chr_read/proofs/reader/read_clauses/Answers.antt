@@ -19,6 +19,7 @@ loop-clause-preserved c =
     let good : clause_read q c.in-Some.clause.now ≡ Ok (progress_of c.read_clause.new.reader) = search rules in
     record {
       counted = omega (arith, c.in-Some.ensures.shorter);
-      read = sym (good_clause c.loop-clause.number q (progress_of c.read_clause.new.reader) c.in-Some.clause.now c.in-Some.after.now good)
+      read = sym (good_clause c.loop-clause.number q (progress_of c.read_clause.new.reader) c.in-Some.clause.now
+          c.in-Some.after.now good)
           ∙ sym (ap (pieces_read c.loop-clause.number q) c.in-Some.ensures.some) ∙ c.loop-clause.invariant.read;
     }

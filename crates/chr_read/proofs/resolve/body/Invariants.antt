@@ -11,7 +11,9 @@ use Rattle.chr_read.proofs.resolve.body.Given as goal
 
 abbrev pub invariant-loop-item : goal.invariant-loop-item
 invariant-loop-item l = record {
-  found : l.found.items ++ map (body_atom (declarations l.program) (names_view l.names)) (present (map (option_map atom_view) (drop l.item-index l.items))) ≡ map (body_atom (declarations l.program) (names_view l.names)) (present (map (option_map atom_view) l.items));
+  found : l.found.items ++ map (body_atom (declarations l.program) (names_view l.names))
+      (present (map (option_map atom_view) (drop l.item-index l.items)))
+      ≡ map (body_atom (declarations l.program) (names_view l.names)) (present (map (option_map atom_view) l.items));
   sound : list_any parts_of_atom_over (present (map (option_map atom_view) (drop l.item-index l.items))) ≡ false;
   count : length l.found.items + length (present (map (option_map atom_view) (drop l.item-index l.items))) ≤ MAX_BODY;
 }

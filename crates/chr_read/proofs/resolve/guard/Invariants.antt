@@ -8,6 +8,9 @@ use Rattle.chr_read.proofs.resolve.guard.Given as goal
 
 abbrev pub invariant-loop-item : goal.invariant-loop-item
 invariant-loop-item l = record {
-  found : l.found.items ++ map (resolved_comparison (names_view l.names)) (present (map (option_map comparison_view) (drop l.item-index l.items))) ≡ map (resolved_comparison (names_view l.names)) (present (map (option_map comparison_view) l.items));
-  count : length l.found.items + length (present (map (option_map comparison_view) (drop l.item-index l.items))) ≤ MAX_COMPARISONS;
+  found : l.found.items ++ map (resolved_comparison (names_view l.names))
+      (present (map (option_map comparison_view) (drop l.item-index l.items)))
+      ≡ map (resolved_comparison (names_view l.names)) (present (map (option_map comparison_view) l.items));
+  count : length l.found.items + length (present (map (option_map comparison_view)
+      (drop l.item-index l.items))) ≤ MAX_COMPARISONS;
 }

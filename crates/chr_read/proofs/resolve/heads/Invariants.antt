@@ -10,8 +10,11 @@ use Rattle.chr_read.proofs.resolve.heads.Given as goal
 
 abbrev pub invariant-loop-atom : goal.invariant-loop-atom
 invariant-loop-atom l = record {
-  found : l.found.items ++ heads (declarations l.program) (names_view l.names.items) (map atom_view (drop l.atom-index l.atoms)) ≡ heads (declarations l.program) (names_view l.fn.names.items) (map atom_view l.atoms);
-  names : after_heads (names_view l.names.items) (map atom_view (drop l.atom-index l.atoms)) ≡ after_heads (names_view l.fn.names.items) (map atom_view l.atoms);
+  found : l.found.items ++ heads (declarations l.program) (names_view l.names.items)
+      (map atom_view (drop l.atom-index l.atoms)) ≡ heads (declarations l.program) (names_view l.fn.names.items)
+      (map atom_view l.atoms);
+  names : after_heads (names_view l.names.items) (map atom_view (drop l.atom-index l.atoms))
+      ≡ after_heads (names_view l.fn.names.items) (map atom_view l.atoms);
   sound : list_any parts_of_atom_over (map atom_view (drop l.atom-index l.atoms)) ≡ false;
   bound : length l.names.items ≤ length l.fn.names.items + MAX_ARITY * l.atom-index;
   count : length l.found.items ≡ l.atom-index;

@@ -4,4 +4,5 @@ use Rattle.chr_read.specs.working.Views.{names_view}
 use Rattle.chr_read.proofs.resolve.met_at.Given as goal
 
 abbrev pub invariant-loop-i : goal.invariant-loop-i
-invariant-loop-i l = option_map (λ k. l.i + k) (position (bytes_eq l.name) (names_view (drop l.i l.names))) ≡ position (bytes_eq l.name) (names_view l.names)
+invariant-loop-i l = option_map (λ k. l.i + k) (position (bytes_eq l.name) (names_view (drop l.i l.names)))
+    ≡ position (bytes_eq l.name) (names_view l.names)

@@ -5,4 +5,5 @@ use Rattle.chr_read.specs.working.RuleParts.{any_undeclared}
 use Rattle.chr_read.proofs.symbols.any_undeclared.Given as goal
 
 abbrev pub invariant-loop-atom : goal.invariant-loop-atom
-invariant-loop-atom l = any_undeclared (declarations l.program) (map atom_view (drop l.atom-index l.atoms)) ≡ any_undeclared (declarations l.program) (map atom_view l.atoms)
+invariant-loop-atom l = any_undeclared (declarations l.program) (map atom_view (drop l.atom-index l.atoms))
+    ≡ any_undeclared (declarations l.program) (map atom_view l.atoms)

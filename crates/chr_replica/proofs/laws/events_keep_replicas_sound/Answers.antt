@@ -1,4 +1,5 @@
-use Rattle.chr_replica.proofs.Keeping.{first_is_sound, tell_keeps, merge_keeps, step_keeps, take_keeps, take_parts_keeps, put_keeps, recall_keeps, settle_keeps}
+use Rattle.chr_replica.proofs.Keeping.{first_is_sound, tell_keeps, merge_keeps, step_keeps, take_keeps}
+use Rattle.chr_replica.proofs.Keeping.{take_parts_keeps, put_keeps, recall_keeps, settle_keeps}
 use Rattle.chr_replica.proofs.laws.events_keep_replicas_sound.Goals as goal
 
 pub returns-clause-first : goal.returns-clause-first

@@ -5,4 +5,5 @@ use Rattle.chr_report.specs.working.Requests.{AreHeard, IsHeard}
 use Rattle.chr_report.proofs.ahead.joined.Given as goal
 
 abbrev pub invariant-loop-piece : goal.invariant-loop-piece
-invariant-loop-piece l = (p : Program) → AreHeard p l.fn.found.items → All (IsHeard p) l.lines.items × AreHeard p (into_iter_items l.piece-iterator)
+invariant-loop-piece l = (p : Program) → AreHeard p l.fn.found.items → All (IsHeard p) l.lines.items
+    × AreHeard p (into_iter_items l.piece-iterator)

@@ -7,4 +7,5 @@ pub loop-next-preserved-in_ok-push : goal.loop-next-preserved-in_ok-push
 loop-next-preserved-in_ok-push c =
     let is = IsHeard c.args.program.now in
     subst (All is) (sym c.in_ok-push.ensures.items)
-    (All-append is c.loop-next.found.items (c.in_ok-heard.heard ∷ []) c.loop-next.invariant (All-cons is c.in_ok-heard.heard [] c.in_ok-heard.ensures (All-nil is)))
+    (All-append is c.loop-next.found.items (c.in_ok-heard.heard ∷ []) c.loop-next.invariant
+        (All-cons is c.in_ok-heard.heard [] c.in_ok-heard.ensures (All-nil is)))

@@ -7,7 +7,8 @@ use Rattle.chr_report.proofs.answering.answer_lines.Given as goal
 abbrev pub invariant-loop-program : goal.invariant-loop-program
 invariant-loop-program g l = record {
   ahead : IsAhead (served l.fn.service) l.ahead;
-  answered : GoesOn l.fn.input (record { service = l.fn.service; out = l.fn.out; left = Some (length l.fn.input) }) l.at;
+  answered : GoesOn l.fn.input (record { service = l.fn.service; out = l.fn.out; left = Some (length l.fn.input) })
+      l.at;
 }
 
 abbrev pub decreases-loop-program : goal.decreases-loop-program

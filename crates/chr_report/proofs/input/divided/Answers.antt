@@ -9,11 +9,13 @@ returns-then-is_divider-clause-some c =
     let i = c.loop-line.invariant in
     let line = c.in-Some.line.now in
     let rest = c.loop-line.rest.now in
-    let text : take (length c.args.input.now - length rest) c.args.input.now ≡ i.0 = subst (λ b. take (length b - length rest) b ≡ i.0) (sym i.1) (take_front i.0 rest) in
+    let text : take (length c.args.input.now - length rest) c.args.input.now ≡ i.0 =
+        subst (λ b. take (length b - length rest) b ≡ i.0) (sym i.1) (take_front i.0 rest) in
     record {
       front = i.0 ++ (line ++ 10 ∷ []);
       are = i.1 ∙ ap (λ r. i.0 ++ r) c.in-Some.ensures.some ∙ sym (ended_more i.0 line c.in-Some.more.now);
-      divides = subst (λ t. Divides t (i.0 ++ (line ++ 10 ∷ []))) (sym text) (text_divides i.0 line i.2 c.in-Some.ensures.unended (sym c.is_divider.ensures ∙ c.if-is_divider.true));
+      divides = subst (λ t. Divides t (i.0 ++ (line ++ 10 ∷ []))) (sym text)
+          (text_divides i.0 line i.2 c.in-Some.ensures.unended (sym c.is_divider.ensures ∙ c.if-is_divider.true));
     }
 
 pub loop-line-preserved : goal.loop-line-preserved

@@ -4,7 +4,9 @@ use Rattle.chr_report.proofs.Requests.{asks_tell, refuses_tell}
 use Rattle.chr_report.proofs.request.tell_request.Goals as goal
 
 pub returns-in-Some : goal.returns-in-Some
-returns-in-Some c = asks_tell c.args.program.now c.args.replica (raw_op_view c.args.raw.now) c.in-Some.op (sym c.in-Some.is ∙ c.in_ok-op.ensures)
+returns-in-Some c = asks_tell c.args.program.now c.args.replica (raw_op_view c.args.raw.now) c.in-Some.op
+    (sym c.in-Some.is ∙ c.in_ok-op.ensures)
 
 pub returns-in-None : goal.returns-in-None
-returns-in-None c = refuses_tell c.args.program.now c.args.replica (raw_op_view c.args.raw.now) (sym c.in-None.is ∙ c.in_ok-op.ensures)
+returns-in-None c = refuses_tell c.args.program.now c.args.replica (raw_op_view c.args.raw.now)
+    (sym c.in-None.is ∙ c.in_ok-op.ensures)

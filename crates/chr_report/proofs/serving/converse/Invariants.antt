@@ -8,7 +8,8 @@ abbrev pub invariant-loop-turn : goal.invariant-loop-turn
 invariant-loop-turn g l = record {
   program : l.service.world.accepted ≡ l.fn.service.world.accepted;
   ready : IsBetweenLines l.service;
-  answered : HoldsRead (declarations (served l.fn.service)) (rules_of (served l.fn.service)) l.fn.first (g.T.Wire.unread l.fn.wire) (g.T.Wire.unread l.wire) l.line.items (held l.fn.service) (held l.service)
+  answered : HoldsRead (declarations (served l.fn.service)) (rules_of (served l.fn.service)) l.fn.first
+      (g.T.Wire.unread l.fn.wire) (g.T.Wire.unread l.wire) l.line.items (held l.fn.service) (held l.service)
       (g.T.Wire.sent l.fn.wire) (g.T.Wire.sent l.wire);
   whole : g.T.Wire.is_broken l.wire ≡ g.T.Wire.is_broken l.fn.wire;
 }

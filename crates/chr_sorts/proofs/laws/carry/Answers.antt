@@ -1,4 +1,5 @@
-use Rattle.chr_confluence.proofs.Carrying.{image_list, image_plus, image_within, image_minus, step_carried, reaches_carried, join_carried}
+use Rattle.chr_confluence.proofs.Carrying.{image_list, image_plus, image_within, image_minus, step_carried}
+use Rattle.chr_confluence.proofs.Carrying.{reaches_carried, join_carried}
 use Rattle.chr_sorts.proofs.laws.carry.Goals as goal
 
 pub returns-clause-lists : goal.returns-clause-lists

@@ -7,4 +7,5 @@ use Rattle.chr_syntax.specs.Views.{term_view}
 use Rattle.chr_syntax.proofs.form.args_from.Given as goal
 
 abbrev pub invariant-loop-item : goal.invariant-loop-item
-invariant-loop-item l = front (map term_view l.args.items) (each term_from (map tokens_view (drop l.item-index l.item-items))) ≡ each term_from (map tokens_view l.item-items)
+invariant-loop-item l = front (map term_view l.args.items)
+    (each term_from (map tokens_view (drop l.item-index l.item-items))) ≡ each term_from (map tokens_view l.item-items)

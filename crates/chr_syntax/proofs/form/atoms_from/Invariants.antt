@@ -7,4 +7,5 @@ use Rattle.chr_syntax.specs.Views.{atom_view}
 use Rattle.chr_syntax.proofs.form.atoms_from.Given as goal
 
 abbrev pub invariant-loop-item : goal.invariant-loop-item
-invariant-loop-item l = front (map atom_view l.atoms.items) (each atom_from (map tokens_view (drop l.item-index l.item-items))) ≡ each atom_from (map tokens_view l.item-items)
+invariant-loop-item l = front (map atom_view l.atoms.items)
+    (each atom_from (map tokens_view (drop l.item-index l.item-items))) ≡ each atom_from (map tokens_view l.item-items)

@@ -13,6 +13,8 @@ loop-row-preserved c =
     record {
       ways = c.push_in.ensures.ways ∙ ways;
       rooms = c.push_in.ensures.rooms ∙ c.loop-row.invariant.rooms;
-      rows = entered_more c.args.atoms.now (ways_of c.args.indexes.now) (keyed_entries c.loop-row.indexes) (keyed_entries c.push_in.new.indexes) c.loop-row.row c.atom.result (omega (arith, g))
-          (c.atom.ensures c.atom.result) c.loop-row.invariant.rows (λ j l. (rw ways at (c.push_in.ensures.rows j (omega (arith, l, m, n)))));
+      rows = entered_more c.args.atoms.now (ways_of c.args.indexes.now) (keyed_entries c.loop-row.indexes)
+          (keyed_entries c.push_in.new.indexes) c.loop-row.row c.atom.result (omega (arith, g))
+          (c.atom.ensures c.atom.result) c.loop-row.invariant.rows
+              (λ j l. (rw ways at (c.push_in.ensures.rows j (omega (arith, l, m, n)))));
     }

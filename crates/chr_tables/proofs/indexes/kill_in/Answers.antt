@@ -16,7 +16,12 @@ loop-i-preserved c =
     let old = c.loop-i.invariant.left c.loop-i.i (omega arith) in
     record {
       len = length-set c.loop-i.indexes _ _ ∙ c.loop-i.invariant.len;
-      ways = map-set_same way_of c.loop-i.indexes c.loop-i.i _ c.index-indexes-i.result (same_way _ _ refl refl c.kill.ensures.order) ∙ c.loop-i.invariant.ways;
-      done = λ j h. (rw (entries_set c.loop-i.indexes c.loop-i.i) (done_more _ _ [] c.loop-i.i _ (λ _ xs. set xs c.args.row None) (omega (arith, n, g, len)) c.loop-i.invariant.done (c.kill.ensures.rows ∙ ap (λ xs. set xs c.args.row None) (sym here ∙ old)) j h));
-      left = λ j h. (rw (entries_set c.loop-i.indexes c.loop-i.i) (left_more _ _ [] c.loop-i.i _ c.loop-i.invariant.left j h));
+      ways = map-set_same way_of c.loop-i.indexes c.loop-i.i _ c.index-indexes-i.result
+          (same_way _ _ refl refl c.kill.ensures.order) ∙ c.loop-i.invariant.ways;
+      done = λ j h. (rw (entries_set c.loop-i.indexes c.loop-i.i)
+          (done_more _ _ [] c.loop-i.i _ (λ _ xs. set xs c.args.row None)
+          (omega (arith, n, g, len)) c.loop-i.invariant.done
+          (c.kill.ensures.rows ∙ ap (λ xs. set xs c.args.row None) (sym here ∙ old)) j h));
+      left = λ j h. (rw (entries_set c.loop-i.indexes c.loop-i.i)
+          (left_more _ _ [] c.loop-i.i _ c.loop-i.invariant.left j h));
     }

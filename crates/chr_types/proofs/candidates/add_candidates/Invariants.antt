@@ -6,5 +6,6 @@ abbrev pub invariant-loop-value : goal.invariant-loop-value
 invariant-loop-value l = record {
   near : l.first ≤ℤ l.value;
   within : l.value ≤ℤ l.last;
-  below : (n : ℕ) (cs : List ℤ) → CandidatesBelow n cs l.initial.found.items l.first → AreCountedFrom cs l.base l.first l.last → CandidatesBelow n cs l.found.items l.value;
+  below : (n : ℕ) (cs : List ℤ) → CandidatesBelow n cs l.initial.found.items l.first
+      → AreCountedFrom cs l.base l.first l.last → CandidatesBelow n cs l.found.items l.value;
 }

@@ -11,5 +11,7 @@ abbrev pub invariant-loop-candidate : goal.invariant-loop-candidate
 invariant-loop-candidate g l = record {
   prefix : l.prefix.items ≡ l.initial.prefix.items;
   ready : g.V.Visit.ready l.visitor;
-  visited : Visited g.V.Visit.step l.initial.visitor (flat_map (walked_at (g.T.Beginnings.admits l.wanted) (walked (g.T.Beginnings.admits l.wanted) l.candidates (l.left - 1)) (l.left - 1) l.initial.prefix.items l.holes) (take l.candidate-index l.candidates)) false l.visitor;
+  visited : Visited g.V.Visit.step l.initial.visitor (flat_map
+      (walked_at (g.T.Beginnings.admits l.wanted) (walked (g.T.Beginnings.admits l.wanted) l.candidates (l.left - 1))
+      (l.left - 1) l.initial.prefix.items l.holes) (take l.candidate-index l.candidates)) false l.visitor;
 }

@@ -11,5 +11,6 @@ returns c =
     let confluent = subst (λ w. Confluent (rules_in w)) same c.weighed.ensures.confluent in
     let b = c.args.board.now in
     let sound = c.is_sound.ensures in
-    let one = c.one_answer.ensures (program_on b) (program_on b) b.replica b.replica (refl, refl) confluent sound.values refl sound.sound sound.sound c.requires c.requires in
+    let one = c.one_answer.ensures (program_on b) (program_on b) b.replica b.replica (refl, refl) confluent sound.values
+        refl sound.sound sound.sound c.requires c.requires in
     record { normal = one.1; only = one.2 }

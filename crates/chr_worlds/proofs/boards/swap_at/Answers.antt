@@ -11,7 +11,8 @@ returns-clause-swapped c =
       before = before;
       after = c.swap.new.x;
       there = there;
-      program = ap (λ b. b.accepted) c.swap.ensures.x_after ∙ sym (of_program c.args.board.now.accepted bs c.args.place before c.requires.program there);
+      program = ap (λ b. b.accepted) c.swap.ensures.x_after
+          ∙ sym (of_program c.args.board.now.accepted bs c.args.place before c.requires.program there);
       changed = (ap (λ b. b.replica) (sym c.swap.ensures.y_after), ap (λ b. b.replica) c.swap.ensures.x_after);
       boards = refl;
     }

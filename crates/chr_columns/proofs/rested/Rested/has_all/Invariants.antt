@@ -9,4 +9,5 @@ use Rattle.chr_columns.proofs.rested.Rested.has_all.Given as goal
 abbrev pub invariant-loop-atom : goal.invariant-loop-atom
 invariant-loop-atom l =
     (k : ℕ) (d : Atom) → k < l.atom-index
-    → count_in atom_cmp (get_or l.atoms k d) l.atoms ≤ count (stored l.self) (get_or l.atoms k d) + count_in atom_cmp (get_or l.atoms k d) l.fresh
+    → count_in atom_cmp (get_or l.atoms k d) l.atoms ≤ count (stored l.self) (get_or l.atoms k d) + count_in atom_cmp
+        (get_or l.atoms k d) l.fresh

@@ -8,5 +8,6 @@ abbrev pub invariant-loop-atom : goal.invariant-loop-atom
 invariant-loop-atom l = record {
   rested : IsRested l.self;
   rules : l.self.rules ≡ l.fn.self.rules;
-  left : stored l.self ⊕ store_of l.fresh.items ≡ (stored l.fn.self ⊕ store_of l.fn.fresh.items) ⊖ store_of (take l.atom-index l.atoms);
+  left : stored l.self ⊕ store_of l.fresh.items ≡ (stored l.fn.self ⊕ store_of l.fn.fresh.items) ⊖ store_of
+      (take l.atom-index l.atoms);
 }

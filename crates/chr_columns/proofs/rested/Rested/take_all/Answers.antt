@@ -19,8 +19,10 @@ pub loop-k-preserved : goal.loop-k-preserved
 loop-k-preserved c = record {
   rested = c.take_row.ensures.rested;
   rules = c.take_row.ensures.rules ∙ c.loop-k.invariant.rules;
-  count = ap length c.followed-rows.ensures ∙ length-map c.deref-in-loop-k.result.now _ ∙ ap length c.deref-in-loop-k.ensures.0 ∙ c.loop-k.invariant.count;
+  count = ap length c.followed-rows.ensures ∙ length-map c.deref-in-loop-k.result.now _
+      ∙ ap length c.deref-in-loop-k.ensures.0 ∙ c.loop-k.invariant.count;
   left =
       c.take_row.ensures.left ∙ ap (λ s. s ⊖ one c.index-atoms-k.result) c.loop-k.invariant.left
-      ∙ less_more (stored c.args.self.now ⊕ store_of c.args.fresh.now.items) c.args.atoms.now c.loop-k.k c.index-atoms-k.result c.loop-k-test.true c.index-atoms-k.is;
+      ∙ less_more (stored c.args.self.now ⊕ store_of c.args.fresh.now.items) c.args.atoms.now c.loop-k.k
+          c.index-atoms-k.result c.loop-k-test.true c.index-atoms-k.is;
 }

@@ -9,5 +9,6 @@ invariant-loop-k l = record {
   rested : IsRested l.self;
   rules : l.self.rules ≡ l.fn.self.rules;
   count : length l.rows.items ≡ length l.atoms;
-  left : stored l.self ⊕ store_of l.fresh.items ≡ (stored l.fn.self ⊕ store_of l.fn.fresh.items) ⊖ store_of (take l.k l.atoms);
+  left : stored l.self ⊕ store_of l.fresh.items ≡ (stored l.fn.self ⊕ store_of l.fn.fresh.items) ⊖ store_of
+      (take l.k l.atoms);
 }

@@ -9,4 +9,5 @@ returns-in_ok-push-clause-known c =
     let is = IsCounted c.args.constants.now in
     let entry : Count = record { unified = c.args.unified; number = c.in_ok-number.number } in
     subst (AreCounts c.args.constants.now) (sym c.in_ok-push.ensures.items)
-    (All-append is c.args.self.now.entries.items (entry ∷ []) c.requires.known (All-cons is entry [] c.in_ok-number.ensures (All-nil is)))
+    (All-append is c.args.self.now.entries.items (entry ∷ []) c.requires.known
+        (All-cons is entry [] c.in_ok-number.ensures (All-nil is)))

@@ -4,4 +4,5 @@ use Rattle.chr_ops.proofs.EntryLists.{get_value}
 use Rattle.chr_ops.proofs.entries.Entries.get.Goals as goal
 
 pub returns : goal.returns
-returns c = c.get.ensures.value ∙ sym (get_value c.self.inside.bags.entries c.args.id) ∙ ap (λ m. map.get m c.args.id) c.self.view_is
+returns c = c.get.ensures.value ∙ sym (get_value c.self.inside.bags.entries c.args.id)
+    ∙ ap (λ m. map.get m c.args.id) c.self.view_is

@@ -6,7 +6,8 @@ use Rattle.chr_overlaps.proofs.classes.Classes.free.Given as goal
 
 abbrev pub invariant-loop-variable : goal.invariant-loop-variable
 invariant-loop-variable l = record {
-  items : l.free.items ≡ filter (λ x. is_variable x (class_in l.self.terms.items x)) (range_with_len 1 (l.variable - 1));
+  items : l.free.items ≡ filter (λ x. is_variable x (class_in l.self.terms.items x))
+      (range_with_len 1 (l.variable - 1));
   len : length l.free.items ≤ l.variable - 1;
   within : l.variable - 1 ≤ length l.self.terms.items - 1;
 }

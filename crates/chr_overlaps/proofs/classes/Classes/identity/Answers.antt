@@ -7,14 +7,16 @@ use Rattle.chr_overlaps.proofs.classes.Classes.identity.Goals as goal
 
 pub loop-variable-preserved : goal.loop-variable-preserved
 loop-variable-preserved c = record {
-  items = c.push.ensures.items ∙ ap (λ xs. xs ++ Variable c.loop-variable.variable ∷ []) c.loop-variable.invariant.items ∙ sym (map-range_with_len_more Variable 0 c.loop-variable.variable c.loop-variable.variable (omega arith));
+  items = c.push.ensures.items ∙ ap (λ xs. xs ++ Variable c.loop-variable.variable ∷ []) c.loop-variable.invariant.items
+      ∙ sym (map-range_with_len_more Variable 0 c.loop-variable.variable c.loop-variable.variable (omega arith));
   len = omega arith;
 }
 
 pub invariant_of-result : goal.invariant_of-result
 invariant_of-result c = record {
   few = (let l = c.loop-variable.invariant.len in let e = c.loop-variable.auto.variable-end in omega arith);
-  below = rw (c.loop-variable.invariant.len, c.loop-variable.invariant.items) (single_below c.loop-variable.variable 0 c.loop-variable.variable (omega arith));
+  below = rw (c.loop-variable.invariant.len, c.loop-variable.invariant.items)
+      (single_below c.loop-variable.variable 0 c.loop-variable.variable (omega arith));
 }
 
 pub returns-clause-classes : goal.returns-clause-classes

@@ -3,7 +3,9 @@ use Rattle.chr_ranges.proofs.Entries.{found_newest_below, found_none_below}
 use Rattle.chr_ranges.proofs.index.Index.next.Goals as goal
 
 pub returns-clause-newest : goal.returns-clause-newest
-returns-clause-newest c = found_newest_below (λ other. IsWanted c.args.self.now.rows c.args.hash c.args.range.now other) c.args.row c.checked_sub.result c.place_below.result c.checked_sub.ensures c.place_below.ensures.none_between
+returns-clause-newest c = found_newest_below (λ other. IsWanted c.args.self.now.rows c.args.hash c.args.range.now other)
+    c.args.row c.checked_sub.result c.place_below.result c.checked_sub.ensures c.place_below.ensures.none_between
 
 pub returns-clause-none : goal.returns-clause-none
-returns-clause-none c = found_none_below (λ other. IsWanted c.args.self.now.rows c.args.hash c.args.range.now other) c.args.row c.checked_sub.result c.place_below.result c.checked_sub.ensures c.place_below.ensures.none_between
+returns-clause-none c = found_none_below (λ other. IsWanted c.args.self.now.rows c.args.hash c.args.range.now other)
+    c.args.row c.checked_sub.result c.place_below.result c.checked_sub.ensures c.place_below.ensures.none_between

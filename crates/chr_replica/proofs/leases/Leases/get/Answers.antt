@@ -4,4 +4,5 @@ use Rattle.chr_replica.proofs.LeaseLists.{get_part}
 use Rattle.chr_replica.proofs.leases.Leases.get.Goals as goal
 
 pub returns : goal.returns
-returns c = c.get.ensures.value ∙ sym (get_part c.self.inside.parts.entries c.args.number) ∙ ap (λ m. map.get m c.args.number) c.self.view_is
+returns c = c.get.ensures.value ∙ sym (get_part c.self.inside.parts.entries c.args.number)
+    ∙ ap (λ m. map.get m c.args.number) c.self.view_is

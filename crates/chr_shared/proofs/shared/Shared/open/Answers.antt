@@ -17,5 +17,6 @@ loop-k-preserved g c =
       search rules,
       search rules,
       search rules,
-      subst AreNew (sym p.items) (each_pushed (λ (k : ℕ) (s : SeatView). (s.number ≡ k + 1) × (s.list ≡ [])) c.loop-k.seats.items _ i.4 (search rules, search rules)),
+      subst AreNew (sym p.items) (each_pushed (λ (k : ℕ) (s : SeatView). (s.number ≡ k + 1) × (s.list ≡ []))
+          c.loop-k.seats.items _ i.4 (search rules, search rules)),
     )

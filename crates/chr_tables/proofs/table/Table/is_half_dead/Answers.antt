@@ -16,4 +16,5 @@ returns-then-len-capacity c =
     let m = length_live c.self.inside.atoms c.self.inside.alive.items c.self.invariant.as_alive in
     let a = c.self.invariant.as_alive in
     let len = c.len-then-len-capacity.ensures in
-    OnTrue_from _ (2 * length (filter is_some c.args.self.now.rows) ≤ length c.args.self.now.rows) (λ t. (let l = leb-true _ _ t in omega (arith, live, n, e, v, w, m, a, len, l, c.self.inside.alive.ok.0)))
+    OnTrue_from _ (2 * length (filter is_some c.args.self.now.rows) ≤ length c.args.self.now.rows)
+        (λ t. (let l = leb-true _ _ t in omega (arith, live, n, e, v, w, m, a, len, l, c.self.inside.alive.ok.0)))

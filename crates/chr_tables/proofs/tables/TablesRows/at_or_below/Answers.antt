@@ -2,12 +2,15 @@ use Rattle.chr_tables.proofs.Reading.{table_is, index_there}
 use Rattle.chr_tables.proofs.tables.TablesRows.at_or_below.Goals as goal
 
 pub at_or_below-requires : goal.at_or_below-requires
-at_or_below-requires c = index_there c.args.self.now.tables.items c.args.table c.args.index c.index_mut.result.now c.requires c.index_mut.ensures.value
+at_or_below-requires c = index_there c.args.self.now.tables.items c.args.table c.args.index c.index_mut.result.now
+    c.requires c.index_mut.ensures.value
 
 pub returns-clause-newest : goal.returns-clause-newest
 returns-clause-newest c =
-    rw (← table_is c.args.self.now.tables.items c.args.table c.args.index c.index_mut.result.now c.requires c.index_mut.ensures.value) c.at_or_below.ensures.newest
+    rw (← table_is c.args.self.now.tables.items c.args.table c.args.index c.index_mut.result.now c.requires
+        c.index_mut.ensures.value) c.at_or_below.ensures.newest
 
 pub returns-clause-none : goal.returns-clause-none
 returns-clause-none c =
-    rw (← table_is c.args.self.now.tables.items c.args.table c.args.index c.index_mut.result.now c.requires c.index_mut.ensures.value) c.at_or_below.ensures.none
+    rw (← table_is c.args.self.now.tables.items c.args.table c.args.index c.index_mut.result.now c.requires
+        c.index_mut.ensures.value) c.at_or_below.ensures.none

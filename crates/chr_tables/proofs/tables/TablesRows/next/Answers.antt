@@ -2,12 +2,15 @@ use Rattle.chr_tables.proofs.Reading.{table_is, index_there}
 use Rattle.chr_tables.proofs.tables.TablesRows.next.Goals as goal
 
 pub next-requires : goal.next-requires
-next-requires c = index_there c.args.self.now.tables.items c.args.table c.args.index c.index_mut.result.now c.requires c.index_mut.ensures.value
+next-requires c = index_there c.args.self.now.tables.items c.args.table c.args.index c.index_mut.result.now c.requires
+    c.index_mut.ensures.value
 
 pub returns-clause-newest : goal.returns-clause-newest
 returns-clause-newest c =
-    rw (← table_is c.args.self.now.tables.items c.args.table c.args.index c.index_mut.result.now c.requires c.index_mut.ensures.value) c.next.ensures.newest
+    rw (← table_is c.args.self.now.tables.items c.args.table c.args.index c.index_mut.result.now c.requires
+        c.index_mut.ensures.value) c.next.ensures.newest
 
 pub returns-clause-none : goal.returns-clause-none
 returns-clause-none c =
-    rw (← table_is c.args.self.now.tables.items c.args.table c.args.index c.index_mut.result.now c.requires c.index_mut.ensures.value) c.next.ensures.none
+    rw (← table_is c.args.self.now.tables.items c.args.table c.args.index c.index_mut.result.now c.requires
+        c.index_mut.ensures.value) c.next.ensures.none
