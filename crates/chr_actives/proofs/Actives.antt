@@ -28,12 +28,12 @@ pub no_instance : (rules : List Rule) (s : Store) → IsAtRest (Step rules) s �
     → IsWithin (store_of (heads_at v r)) s → ⊥
 no_instance rules s rest i r v e g h =
     rest ((s ⊖ store_of (atoms_at v r.removed.items)) ⊕ store_of (atoms_at v r.body.items))
-        (i, r, v, e, record { guard = g; there = h; after = refl })
+    (i, r, v, e, record { guard = g; there = h; after = refl })
 
 pub part_rests : PartsRest
 part_rests rules s t part rest u h =
     no_instance rules s rest h.0 h.1 h.2 h.3 h.4.guard
-        (λ q. (let a = h.4.there q in let b = part q in omega (arith, a, b)))
+    (λ q. (let a = h.4.there q in let b = part q in omega (arith, a, b)))
 
 pub one_count : (a q : Atom) → count (one a) q ≡ cond (eq_by_cmp atom_cmp q a) 1 0
 one_count a q = let e = count-of_list atom_total (a ∷ []) q in omega (arith, e)
@@ -51,14 +51,17 @@ with_or_without : (h s : Store) (a : Atom) → IsWithin h (s ⊕ one a) → IsWi
     ⊎ ((0 < count h a) × IsWithin (h ⊖ one a) s)
 with_or_without h s a w = elim (cases_lt (count s a) (count h a)) as (λ _. IsWithin h s
     ⊎ ((0 < count h a) × IsWithin (h ⊖ one a) s)) [
-  | inl more ↦ inr (omega (arith, more), λ q. (let e = w q in let f = count_plus s (one a) q in let g =
-        count_minus h (one a) q in omega (arith, e, f, g)))
-  | inr few ↦ inl (λ q. (let p = w q in let f = count_plus s (one a) q in
-        elim (one_other a q) as (λ _. count h q ≤ count s q) [
-    | inl same ↦ rw same few
-    | inr none ↦ omega (arith, p, f, none)
-  ]))
-]
+      | inl more ↦ inr (
+        omega (arith, more),
+        λ q. (let e = w q in let f = count_plus s (one a) q in let g =
+            count_minus h (one a) q in omega (arith, e, f, g)),
+      )
+      | inr few ↦ inl (λ q. (let p = w q in let f = count_plus s (one a) q in
+          elim (one_other a q) as (λ _. count h q ≤ count s q) [
+            | inl same ↦ rw same few
+            | inr none ↦ omega (arith, p, f, none)
+          ]))
+    ]
 
 pub absorbed : Absorbs
 absorbed rules s a rest none u h =
@@ -158,13 +161,13 @@ others_of ys zs a = same_store _ _ (λ q. (
 -- head place by head place: where at no place the atom has the others in the store, it has no instance with it
 pub by_places : (rules : List Rule) (s : Store) (a : Atom)
     → ((i : ℕ) (r : Rule) (v : Valuation) (ys zs : List Atom) → slice_get rules i ≡ Some r
-        → IsTrue (guard_holds v r.guard.items) → heads_at v r ≡ ys ++ a ∷ zs → IsWithin (store_of (ys ++ zs)) s → ⊥)
+    → IsTrue (guard_holds v r.guard.items) → heads_at v r ≡ ys ++ a ∷ zs → IsWithin (store_of (ys ++ zs)) s → ⊥)
     → NoInstanceWith rules s a
 by_places rules s a none i r v at guard here =
     let w = among (heads_at v r) a (let e = count-of_list atom_total (heads_at v r) a in let h = here.0 in
-        omega (arith, e, h)) in
+    omega (arith, e, h)) in
     none i r v w.0 w.1 at guard w.2 (subst (λ x. IsWithin x s)
-        (ap (λ xs. store_of xs ⊖ one a) w.2 ∙ others_of w.0 w.1 a) here.1)
+    (ap (λ xs. store_of xs ⊖ one a) w.2 ∙ others_of w.0 w.1 a) here.1)
 
 pub empty_rests : EmptyRests
 empty_rests rules u h = by (heads_at h.2 h.1) (some_head h.1 h.2) h.4.there
@@ -172,7 +175,7 @@ empty_rests rules u h = by (heads_at h.2 h.1) (some_head h.1 h.2) h.4.there
     some_head : (r : Rule) (v : Valuation) → 0 < length (heads_at v r)
     some_head r v =
         let some = (and_parts (nat_lt 0 (length r.removed.items))
-            (nat_le (length r.kept.items + length r.removed.items) MAX_HEADS) (sized_rule r)).0 in
+        (nat_le (length r.kept.items + length r.removed.items) MAX_HEADS) (sized_rule r)).0 in
         let both = length-append r.kept.items r.removed.items in
         let many = length-map (heads_of r) (atom_at v) in
         let n : 0 < length r.removed.items = grind (arith, nat_tests) in
@@ -185,7 +188,7 @@ empty_rests rules u h = by (heads_at h.2 h.1) (some_head h.1 h.2) h.4.there
         let e = count-of_list atom_total (x ∷ xs) x in
         let z = count-empty atom_cmp x in
         let t : ◌≡◌ {A = ℕ} (cond (eq_by_cmp atom_cmp x x) 1 0) 1 =
-            ap (λ o. cond (is_eq o) 1 0) (tied_itself atom_total x) in
+        ap (λ o. cond (is_eq o) 1 0) (tied_itself atom_total x) in
         absurd (omega (arith, a, e, z, t))
 
 pub same_rest : SameRulesRest

@@ -62,7 +62,7 @@ seats_of : (r : Rule) (v : Valuation) (ts : Grid) (a : Atom) (ys zs : List Atom)
     → (ss : List Seat) × IsSeated r (rows_in ts) (length ys) (ys ++ a ∷ zs) ss × (length ys < length (heads_of r))
 seats_of r v ts a ys zs guard e within =
     let w = seated ts (ys ++ zs) (λ q. (let x = within q in let y = count-of_list atom_total (ys ++ zs) q in let z =
-        count_contents q ts in omega (arith, x, y, z))) in
+    count_contents q ts in omega (arith, x, y, z))) in
     let many = w.1.as_many in
     let la = length-append ys zs in
     let lb = length-append ys (a ∷ zs) in
@@ -76,17 +76,17 @@ seats_of r v ts a ys zs guard e within =
         instance = (v, e, guard);
         there = λ q o. (elim (side p q o.1) as (λ _. atom_in (rows_in ts) (seat (around p no_seat w.0) q)
             ≡ Some (head (ys ++ a ∷ zs) q)) [
-          | inl before ↦ (let s = around_before p q no_seat no_seat w.0 before ps in
-              let g : head (ys ++ a ∷ zs) q ≡ head (ys ++ zs) q = ap (λ xs. head xs q) h
+              | inl before ↦ (let s = around_before p q no_seat no_seat w.0 before ps in
+                  let g : head (ys ++ a ∷ zs) q ≡ head (ys ++ zs) q = ap (λ xs. head xs q) h
                   ∙ around_before p q a no_atom (ys ++ zs) before px in
-              ap (atom_in (rows_in ts)) s ∙ w.1.there q (omega (arith, before, px)) ∙ ap Some (sym g))
-          | inr k ↦ (let s : seat (around p no_seat w.0) q ≡ seat w.0 k.0 = ap (seat (around p no_seat w.0)) k.1
-                ∙ around_after p k.0 no_seat no_seat w.0 k.2 ps in
-              let g : head (ys ++ a ∷ zs) q ≡ head (ys ++ zs) k.0 = ap (λ xs. head xs q) h
+                  ap (atom_in (rows_in ts)) s ∙ w.1.there q (omega (arith, before, px)) ∙ ap Some (sym g))
+              | inr k ↦ (let s : seat (around p no_seat w.0) q ≡ seat w.0 k.0 = ap (seat (around p no_seat w.0)) k.1
+                  ∙ around_after p k.0 no_seat no_seat w.0 k.2 ps in
+                  let g : head (ys ++ a ∷ zs) q ≡ head (ys ++ zs) k.0 = ap (λ xs. head xs q) h
                   ∙ ap (head (around p a (ys ++ zs))) k.1 ∙ around_after p k.0 a no_atom (ys ++ zs) k.2 px in
-              let low : k.0 < length (ys ++ zs) = (let i = k.1 in let l = o.0 in omega (arith, l, n, la, lb, i)) in
-              ap (atom_in (rows_in ts)) s ∙ w.1.there k.0 low ∙ ap Some (sym g))
-        ]);
+                  let low : k.0 < length (ys ++ zs) = (let i = k.1 in let l = o.0 in omega (arith, l, n, la, lb, i)) in
+                  ap (atom_in (rows_in ts)) s ∙ w.1.there k.0 low ∙ ap Some (sym g))
+            ]);
         apart = λ q k o t ne same. apart_at p (ys ++ zs) w.0 ts w.1 ps q k (length (heads_of r))
             (omega (arith, n, la, lb)) o.0 t.0 o.1 t.1 ne same;
       },
@@ -96,8 +96,11 @@ seats_of r v ts a ys zs guard e within =
     from : (p : ℕ) (ss : List Seat) → p ≤ length ss → (q : ℕ) → Side p q → (i : ℕ)
         × (seat (around p no_seat ss) q ≡ seat ss i) × (((q < p) × (i ≡ q)) ⊎ ((p ≤ i) × (q ≡ suc i)))
     from p ss l q (inl b) = (q, around_before p q no_seat no_seat ss b l, inl (b, refl))
-    from p ss l q (inr k) = (k.0, ap (seat (around p no_seat ss)) k.1 ∙ around_after p k.0 no_seat no_seat ss k.2 l,
-        inr (k.2, k.1))
+    from p ss l q (inr k) = (
+      k.0,
+      ap (seat (around p no_seat ss)) k.1 ∙ around_after p k.0 no_seat no_seat ss k.2 l,
+      inr (k.2, k.1),
+    )
 
     apart_at : (p : ℕ) (xs : List Atom) (ss : List Seat) (ts : Grid) → SitIn ts xs ss → p ≤ length ss → (q k n : ℕ)
         → n ≡ suc (length xs) → q < n → k < n → (q ≡ p → ⊥) → (k ≡ p → ⊥) → (q ≡ k → ⊥)
@@ -134,4 +137,4 @@ rows_are_enough rules ts a none = by_places rules (contents ts) a (λ i r v ys z
     (let w = seats_of r v ts a ys zs guard e within in
     none i r (length ys) at w.2 (ys ++ a ∷ zs) w.0 w.1
     (ap (λ xs. head xs (length ys)) (append_around ys zs a) ∙ around_at (length ys) a no_atom (ys ++ zs)
-        (let l = length-append ys zs in omega (arith, l)))))
+    (let l = length-append ys zs in omega (arith, l)))))

@@ -62,12 +62,12 @@ in_other : (columns : List ℕ) (w : ℤ) (s t h : Store) (a : Atom) → ((q : A
     → IsWithin h (s ⊕ t) → IsWithin h t
 in_other columns w s t h a one apart here there within q =
     elim (cases_lt 0 (count h q)) as (λ _. count h q ≤ count t q) [
-  | inr none ↦ omega (arith, none)
-  | inl some ↦ elim (cases_lt 0 (count s q)) as (λ _. count h q ≤ count t q) [
-    | inl both ↦ absurd (apart q a both there (one q some ∙ sym (one a here)))
-    | inr other ↦ (let e = within q in let f = count_plus s t q in omega (arith, e, f, other))
-  ]
-]
+      | inr none ↦ omega (arith, none)
+      | inl some ↦ elim (cases_lt 0 (count s q)) as (λ _. count h q ≤ count t q) [
+        | inl both ↦ absurd (apart q a both there (one q some ∙ sym (one a here)))
+        | inr other ↦ (let e = within q in let f = count_plus s t q in omega (arith, e, f, other))
+      ]
+    ]
 
 -- an instance that is in both stores together is in one of them
 in_either : (columns : List ℕ) (w : ℤ) (s t : Store) (xs : List Atom)
@@ -78,19 +78,19 @@ in_either columns w s t [] one apart within = inl (λ q. (let e = count-of_list 
 in_either columns w s t (a ∷ xs) one apart within =
     let c = count-of_list atom_total (a ∷ xs) a in
     let k : ◌≡◌ {A = ℕ} (cond (eq_by_cmp atom_cmp a a) 1 0) 1 =
-        ap (λ o. cond (is_eq o) 1 0) (tied_itself atom_total a) in
+    ap (λ o. cond (is_eq o) 1 0) (tied_itself atom_total a) in
     let here : 0 < count (store_of (a ∷ xs)) a = omega (arith, c, k) in
     elim (cases_lt 0 (count s a)) as (λ _. IsWithin (store_of (a ∷ xs)) s ⊎ IsWithin (store_of (a ∷ xs)) t) [
       | inl there ↦ inl (in_one columns w s t (store_of (a ∷ xs)) a one apart here there within)
       | inr none ↦ inr (in_other columns w s t (store_of (a ∷ xs)) a one apart here
-            (let e = within a in let f = count_plus s t a in omega (arith, e, f, none, here)) within)
+          (let e = within a in let f = count_plus s t a in omega (arith, e, f, none, here)) within)
     ]
 
 pub apart_rests : ApartRest
 apart_rests columns rules s t joined apart rs rt u h =
     let j = rule_of h.0 h.1 h.3 in
     let one = λ (q : Atom) (l : 0 < count (store_of (heads_at h.2 h.1)) q). shared_value columns h.2 j.0
-        (heads_of h.1) j.1 q (let e = count-of_list atom_total (heads_at h.2 h.1) q in omega (arith, e, l)) in
+    (heads_of h.1) j.1 q (let e = count-of_list atom_total (heads_at h.2 h.1) q in omega (arith, e, l)) in
     elim (in_either columns (h.2 j.0) s t (heads_at h.2 h.1) one apart h.4.there) as (λ _. ⊥) [
       | inl first ↦ no_instance rules s rs h.0 h.1 h.2 h.3 h.4.guard first
       | inr second ↦ no_instance rules t rt h.0 h.1 h.2 h.3 h.4.guard second

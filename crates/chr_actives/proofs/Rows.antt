@@ -45,9 +45,14 @@ row_of (Some a ∷ rows) x h = by (eq_by_cmp atom_cmp x a) refl (row_of rows x)
     by : (b : Bool) → eq_by_cmp atom_cmp x a ≡ b → (0 < count_in atom_cmp x (live_atoms rows) → RowOf rows x)
         → RowOf (Some a ∷ rows) x
     by true e more =
-        let same : x ≡ a = same_is x a e in
-        (0, omega arith, ap Some (sym same), λ q. (let f : ◌≡◌ {A = ℕ} (cond (eq_by_cmp atom_cmp q x) 1 0)
-            (cond (eq_by_cmp atom_cmp q a) 1 0) = ap (λ k. cond (eq_by_cmp atom_cmp q k) 1 0) same in omega (arith, f)))
+        let same : x ≡ a = same_is x a e in (
+          0,
+          omega arith,
+          ap Some (sym same),
+          λ q. (let f : ◌≡◌ {A = ℕ} (cond (eq_by_cmp atom_cmp q x) 1 0)
+              (cond (eq_by_cmp atom_cmp q a) 1 0) = ap (λ k. cond (eq_by_cmp atom_cmp q k) 1 0) same in
+              omega (arith, f)),
+        )
     by false e more =
         let f : ◌≡◌ {A = ℕ} (cond (eq_by_cmp atom_cmp x a) 1 0) 0 = ap (λ b. cond b 1 0) e in
         let w = more (omega (arith, h, f)) in
@@ -63,29 +68,35 @@ place_of [] x h = absurd (omega (arith, h))
 place_of (rows ∷ ts) x h = elim (cases_lt 0 (count_in atom_cmp x (live_atoms rows))) as (λ _. PlaceOf (rows ∷ ts) x) [
   | inl some ↦ (let w = row_of rows x some in (0, w.0, w.2, λ q. (let g = w.3 q in omega (arith, g))))
   | inr none ↦ (let w = place_of ts x (omega (arith, h, none)) in
-        (suc w.0, w.1, w.2, λ q. (let g = w.3 q in omega (arith, g))))
+      (suc w.0, w.1, w.2, λ q. (let g = w.3 q in omega (arith, g))))
 ]
 
 -- a row that lives after another is gone lived before, and is another
 killed_row : (ts : Grid) (t n t' n' : ℕ) (y : Atom) → rows_in (without_row ts (record { table = t; row = n })) t' n'
     ≡ Some y → (rows_in ts t' n' ≡ Some y) × (t' ≡ t → n' ≡ n → ⊥)
 killed_row ts t n t' n' y e = elim (same_or t' t) as (λ _. (rows_in ts t' n' ≡ Some y) × (t' ≡ t → n' ≡ n → ⊥)) [
-  | inr other ↦ (ap (λ rows. get_or rows n' None) (sym (get_or-set_other ts t t' (set (get_or ts t []) n None) []
-        other)) ∙ e, λ a b. other a)
+  | inr other ↦ (
+    ap (λ rows. get_or rows n' None) (sym (get_or-set_other ts t t' (set (get_or ts t []) n None) []
+        other)) ∙ e,
+    λ a b. other a,
+  )
   | inl same ↦ elim (cases_lt t (length ts)) as (λ _. (rows_in ts t' n' ≡ Some y) × (t' ≡ t → n' ≡ n → ⊥)) [
     | inr past ↦ (let z : rows_in (without_row ts (record { table = t; row = n })) t' n' ≡ None =
-          ap (λ rows. get_or rows n' None) (get_or_past (without_row ts (record { table = t; row = n })) t' []
-          (let l = length-set ts t (set (get_or ts t []) n None) in omega (arith, l, same, past))) in cc)
+        ap (λ rows. get_or rows n' None) (get_or_past (without_row ts (record { table = t; row = n })) t' []
+        (let l = length-set ts t (set (get_or ts t []) n None) in omega (arith, l, same, past))) in cc)
     | inl within ↦ (let here : get_or (without_row ts (record { table = t; row = n })) t' []
-          ≡ set (get_or ts t []) n None = ap (λ k. get_or (without_row ts (record { table = t; row = n })) k []) same
-          ∙ get_or-set_same ts t (set (get_or ts t []) n None) [] within in
+        ≡ set (get_or ts t []) n None = ap (λ k. get_or (without_row ts (record { table = t; row = n })) k []) same
+        ∙ get_or-set_same ts t (set (get_or ts t []) n None) [] within in
         let f : get_or (set (get_or ts t []) n None) n' None ≡ Some y = ap (λ rows. get_or rows n' None) (sym here)
-            ∙ e in
+        ∙ e in
         elim (same_or n' n) as (λ _. (rows_in ts t' n' ≡ Some y) × (t' ≡ t → n' ≡ n → ⊥)) [
-          | inr differ ↦ (ap (λ k. rows_in ts k n') same ∙ sym (get_or-set_other (get_or ts t []) n n' None None differ)
-                ∙ f, λ a b. differ b)
+          | inr differ ↦ (
+            ap (λ k. rows_in ts k n') same ∙ sym (get_or-set_other (get_or ts t []) n n' None None differ)
+                ∙ f,
+            λ a b. differ b,
+          )
           | inl alike ↦ absurd (let z : get_or (set (get_or ts t []) n None) n' None ≡ None =
-                ap (λ k. get_or (set (get_or ts t []) n None) k None) alike ∙ none_at (get_or ts t []) n in cc)
+              ap (λ k. get_or (set (get_or ts t []) n None) k None) alike ∙ none_at (get_or ts t []) n in cc)
         ])
   ]
 ]
@@ -107,16 +118,23 @@ killed_row ts t n t' n' y e = elim (same_or t' t) as (λ _. (rows_in ts t' n' �
 -- what is within the tables has rows in them
 pub seated : (ts : Grid) (xs : List Atom) → ((q : Atom) → count_in atom_cmp q xs ≤ total_in q ts) → (ss : List Seat)
     × SitIn ts xs ss
-seated ts [] h = ([], record { as_many = refl; there = λ q l. (absurd (omega (arith, l))); apart =
-    λ q k l g e. (absurd (omega (arith, g))) })
+seated ts [] h = (
+  [],
+  record {
+    as_many = refl;
+    there = λ q l. (absurd (omega (arith, l)));
+    apart =
+        λ q k l g e. (absurd (omega (arith, g)));
+  },
+)
 seated ts (x ∷ xs) h =
     let e : ◌≡◌ {A = ℕ} (cond (eq_by_cmp atom_cmp x x) 1 0) 1 =
-        ap (λ o. cond (is_eq o) 1 0) (tied_itself atom_total x) in
+    ap (λ o. cond (is_eq o) 1 0) (tied_itself atom_total x) in
     let w = place_of ts x (let a = h x in omega (arith, a, e)) in
     let more = seated (without_row ts (record { table = w.0; row = w.1 })) xs
-        (λ q. (let a = h q in let b = w.3 q in omega (arith, a, b))) in
+    (λ q. (let a = h q in let b = w.3 q in omega (arith, a, b))) in
     let old = λ (q : ℕ) (l : q < length xs). killed_row ts w.0 w.1 (seat more.0 q).table (seat more.0 q).row (head xs q)
-        (more.1.there q l) in (
+    (more.1.there q l) in (
       record { table = w.0; row = w.1 } ∷ more.0,
       record {
         as_many = ap suc more.1.as_many;
@@ -128,7 +146,7 @@ seated ts (x ∷ xs) h =
     there : (x : Atom) (xs : List Atom) (t n : ℕ) → rows_in ts t n ≡ Some x → (ss : List Seat)
         → ((q : ℕ) → q < length xs → rows_in ts (seat ss q).table (seat ss q).row ≡ Some (head xs q))
         → (q : ℕ) → q < suc (length xs) → rows_in ts (seat (record { table = t; row = n } ∷ ss) q).table
-            (seat (record { table = t; row = n } ∷ ss) q).row ≡ Some (head (x ∷ xs) q)
+        (seat (record { table = t; row = n } ∷ ss) q).row ≡ Some (head (x ∷ xs) q)
     there x xs t n is ss more zero l = is
     there x xs t n is ss more (suc q) l = more q (omega (arith, l))
 
@@ -136,7 +154,7 @@ seated ts (x ∷ xs) h =
         → ((i j : ℕ) → i < j → j < length xs → seat ss i ≡ seat ss j → ⊥)
         → ((i : ℕ) → i < length xs → (seat ss i).table ≡ t → (seat ss i).row ≡ n → ⊥)
         → (q k : ℕ) → q < k → k < suc (length xs) → seat (record { table = t; row = n } ∷ ss) q
-            ≡ seat (record { table = t; row = n } ∷ ss) k → ⊥
+        ≡ seat (record { table = t; row = n } ∷ ss) k → ⊥
     apart xs t n ss more other q zero l g e = absurd (omega (arith, l))
     apart xs t n ss more other zero (suc k) l g e = other k (omega (arith, g)) (ap (λ (s : Seat). s.table) (sym e))
         (ap (λ (s : Seat). s.row) (sym e))
@@ -151,7 +169,7 @@ row_gone (None ∷ rows) zero x q e = cc
 row_gone (Some a ∷ rows) zero x q e =
     let same : a ≡ x = cc in
     let f : ◌≡◌ {A = ℕ} (cond (eq_by_cmp atom_cmp q a) 1 0) (cond (eq_by_cmp atom_cmp q x) 1 0) =
-        ap (λ k. cond (eq_by_cmp atom_cmp q k) 1 0) same in
+    ap (λ k. cond (eq_by_cmp atom_cmp q k) 1 0) same in
     omega (arith, f)
 row_gone (None ∷ rows) (suc n) x q e = row_gone rows n x q e
 row_gone (Some a ∷ rows) (suc n) x q e = let more = row_gone rows n x q e in omega (arith, more)

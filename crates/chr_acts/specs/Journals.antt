@@ -15,7 +15,7 @@ abbrev pub Leads : Program → List Entry → Replica → List Entry → Replica
 Leads p before s [] t = t ≡ s
 Leads p before s (e ∷ es) t =
     (u : Replica) × (e.number ≡ count_of e.seat before + 1) × Does p s e.act e.reply u
-        × Leads p (before ++ e ∷ []) u es t
+    × Leads p (before ++ e ∷ []) u es t
 
 -- the entries lead from the replica that was told nothing to s
 abbrev pub IsLegal : Program → List Entry → Replica → Type 0

@@ -17,7 +17,7 @@ pub atom_total : IsTotalOrder atom_cmp
 atom_total =
     then_total (on_total (λ a. a.symbol.0) nat_cmp_total)
     (then_total (on_total (λ a. length a.args.items) nat_cmp_total)
-        (on_total (λ a. a.args.items) (lists_total int_cmp_total)))
+    (on_total (λ a. a.args.items) (lists_total int_cmp_total)))
 
 args_exact : IsAntisymmetric (λ (xs ys : List ℤ). ordering_then (nat_cmp (length xs) (length ys))
     (slice_cmp int_cmp xs ys))
@@ -33,7 +33,7 @@ pub atom_exact : IsAntisymmetric atom_cmp
 atom_exact a b h =
     ap (λ (p : ℕ × List ℤ). record { symbol = record { 0 = p.0 }; args = record { items = p.1 } })
     (exact_pairs nat_cmp (λ (xs ys : List ℤ). ordering_then (nat_cmp (length xs) (length ys)) (slice_cmp int_cmp xs ys))
-        nat_cmp-IsAntisymmetric args_exact (a.symbol.0, a.args.items) (b.symbol.0, b.args.items) h)
+    nat_cmp-IsAntisymmetric args_exact (a.symbol.0, a.args.items) (b.symbol.0, b.args.items) h)
 
 -- atoms that are found the same are one
 pub same_is : (a b : Atom) → eq_by_cmp atom_cmp a b ≡ true → a ≡ b

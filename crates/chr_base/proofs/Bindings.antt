@@ -28,8 +28,11 @@ pub binds_then : (vs us ws : List ℤ) (ts rs : List Term) (P Q R : Valuation �
     → Binds vs ws (ts ++ rs) R
 binds_then vs us ws ts rs P Q R b c f = record {
   counted = then_numbered (length vs) (length us) ts rs b.counted ∙ c.counted;
-  keeps = λ w. (λ k. let m = (c.keeps w).0 k in let n = (b.keeps w).0 m.0 in (n.0, (f w).1 (n.1, m.1)), λ p. let q =
-      (f w).0 p.1 in (c.keeps w).1 ((b.keeps w).1 (p.0, q.0), q.1));
+  keeps = λ w. (
+    λ k. let m = (c.keeps w).0 k in let n = (b.keeps w).0 m.0 in (n.0, (f w).1 (n.1, m.1)),
+    λ p. let q =
+        (f w).0 p.1 in (c.keeps w).1 ((b.keeps w).1 (p.0, q.0), q.1),
+  );
 }
 
 pub refuses_first : (vs : List ℤ) (P R : Valuation → Type 0) → Refuses vs P → ((w : Valuation) → R w → P w)
@@ -50,13 +53,21 @@ rest_numbered vs us ts rs P h b = ap is_some (sym (then_numbered (length vs) (le
 
 pub each_iff : {A B : Type 0} (f : A → B) (x : A) (xs : List A) (y : B) (ys : List B)
     → (map f (x ∷ xs) ≡ y ∷ ys) ↔ ((f x ≡ y) × (map f xs ≡ ys))
-each_iff f x xs y ys = ((λ e. (let h : f x ∷ map f xs ≡ y ∷ ys = e in cc, let h : f x ∷ map f xs ≡ y ∷ ys = e in cc)),
-    λ p i. p.0 i ∷ p.1 i)
+each_iff f x xs y ys = (
+  (λ e. (let h : f x ∷ map f xs ≡ y ∷ ys = e in cc, let h : f x ∷ map f xs ≡ y ∷ ys = e in cc)),
+  λ p i. p.0 i ∷ p.1 i,
+)
 
 pub atom_iff : (w : Valuation) (p : Pattern) (a : Atom) → p.symbol.0 ≡ a.symbol.0
     → (atom_at w p ≡ a) ↔ (map (term_value w) p.args.items ≡ a.args.items)
-atom_iff w p a s = (ap (λ b. b.args.items), λ e i. record { symbol = record { 0 = s i }; args =
-    record { items = e i } })
+atom_iff w p a s = (
+  ap (λ b. b.args.items),
+  λ e i. record {
+    symbol = record { 0 = s i };
+    args =
+        record { items = e i };
+  },
+)
 
 pub cut_iff : (w : Valuation) (ps qs : List Pattern) (as' : List Atom) → length ps ≤ length as'
     → (atoms_at w (ps ++ qs) ≡ as') ↔ ((atoms_at w ps ≡ take (length ps) as') × (atoms_at w qs ≡ drop (length ps) as'))
@@ -90,18 +101,18 @@ first_rest (x ∷ xs) d l = ap (λ ys. x ∷ ys) (rest_is x xs)
 
 pub all_iff : {A B : Type 0} (f : A → B) (xs : List A) (ys : List B) (d : A) (e : B) → 1 ≤ length xs → 1 ≤ length ys
     → (map f xs ≡ ys) ↔ ((f (get_or xs 0 d) ≡ get_or ys 0 e)
-        × (map f (take (length xs - 1) (drop 1 xs)) ≡ take (length ys - 1) (drop 1 ys)))
+    × (map f (take (length xs - 1) (drop 1 xs)) ≡ take (length ys - 1) (drop 1 ys)))
 all_iff f [] ys d e l m = absurd (omega arith)
 all_iff f (x ∷ xs) [] d e l m = absurd (omega arith)
 all_iff f (x ∷ xs) (y ∷ ys) d e l m = subst (λ vs. (map f (x ∷ xs) ≡ y ∷ ys) ↔
     ((f x ≡ y) × (map f vs ≡ take (length (y ∷ ys) - 1) (drop 1 (y ∷ ys))))) (sym (rest_is x xs))
     (subst (λ ws. (map f (x ∷ xs) ≡ y ∷ ys) ↔ ((f x ≡ y) × (map f xs ≡ ws))) (sym (rest_is y ys))
-        (each_iff f x xs y ys))
+    (each_iff f x xs y ys))
 
 pub terms_bound : (vs us ws : List ℤ) (ts : List Term) (zs : List ℤ) (d : Term) (e : ℤ) → 1 ≤ length ts → 1 ≤ length zs
     → Binds vs us (get_or ts 0 d ∷ []) (λ w. term_value w (get_or ts 0 d) ≡ get_or zs 0 e)
     → Binds us ws (take (length ts - 1) (drop 1 ts)) (λ w. map (term_value w) (take (length ts - 1) (drop 1 ts))
-        ≡ take (length zs - 1) (drop 1 zs))
+    ≡ take (length zs - 1) (drop 1 zs))
     → Binds vs ws ts (λ w. map (term_value w) ts ≡ zs)
 terms_bound vs us ws ts zs d e l m b c =
     subst (λ rs. Binds vs ws rs (λ w. map (term_value w) ts ≡ zs)) (first_rest ts d l)
@@ -118,7 +129,7 @@ pub patterns_bound : (vs us ws : List ℤ) (ps : List Pattern) (as' : List Atom)
     → 1 ≤ length as'
     → Binds vs us (get_or ps 0 d).args.items (λ w. atom_at w (get_or ps 0 d) ≡ get_or as' 0 e)
     → Binds us ws (terms_of (take (length ps - 1) (drop 1 ps)))
-        (λ w. atoms_at w (take (length ps - 1) (drop 1 ps)) ≡ take (length as' - 1) (drop 1 as'))
+    (λ w. atoms_at w (take (length ps - 1) (drop 1 ps)) ≡ take (length as' - 1) (drop 1 as'))
     → Binds vs ws (terms_of ps) (λ w. atoms_at w ps ≡ as')
 patterns_bound vs us ws ps as' d e l m b c =
     subst (λ qs. Binds vs ws (terms_of qs) (λ w. atoms_at w ps ≡ as')) (first_rest ps d l)
@@ -142,7 +153,7 @@ first_pattern vs ps d l h =
 pub rest_patterns : (vs us : List ℤ) (ps : List Pattern) (d : Pattern) (P : Valuation → Type 0) → 1 ≤ length ps
     → is_some (numbered (length vs) (terms_of ps)) ≡ true
     → Binds vs us (get_or ps 0 d).args.items P → is_some
-        (numbered (length us) (terms_of (take (length ps - 1) (drop 1 ps)))) ≡ true
+    (numbered (length us) (terms_of (take (length ps - 1) (drop 1 ps)))) ≡ true
 rest_patterns vs us ps d P l h b =
     rest_numbered vs us (get_or ps 0 d).args.items (terms_of (take (length ps - 1) (drop 1 ps))) P
     (subst (λ qs. is_some (numbered (length vs) (terms_of qs)) ≡ true) (sym (first_rest ps d l)) h) b

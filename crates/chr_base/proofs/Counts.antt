@@ -10,7 +10,7 @@ use Rattle.chr_base.proofs.ListEdits.{count_in_more}
 
 pub more : (q : Atom) (xs : List Atom) (i : ℕ) (d : Atom) → i < length xs
     → count_in atom_cmp q (take (i + 1) xs) ≡ cond (eq_by_cmp atom_cmp q (get_or xs i d)) 1 0 + count_in atom_cmp q
-        (take i xs)
+    (take i xs)
 more q xs i d h = count_in_more atom_cmp q xs i d h
 
 pub more_at : (q : Atom) (xs es fs : List Atom) (i : ℕ) (x : Atom) → i < length xs → x ≡ get_or xs i x
@@ -20,7 +20,7 @@ more_at q xs es fs i x l is h =
     let a = count_in-without atom_cmp atom_total q x es in
     let b = count_in_more atom_cmp q xs i x l in
     let d : ◌≡◌ {A = ℕ} (cond (eq_by_cmp atom_cmp q x) 1 0) (cond (eq_by_cmp atom_cmp q (get_or xs i x)) 1 0) =
-        ap (λ y. let n : ℕ = cond (eq_by_cmp atom_cmp q y) 1 0 in n) is in
+    ap (λ y. let n : ℕ = cond (eq_by_cmp atom_cmp q y) 1 0 in n) is in
     omega (arith, a, b, d, h)
 
 pub counted_yes : (q : Atom) (xs : List Atom) (i n m : ℕ) (x : Atom) → i < length xs → x ≡ get_or xs i x

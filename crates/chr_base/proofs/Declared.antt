@@ -63,9 +63,10 @@ is_same_name xs ys h = (bytes_eq-Decides xs ys).0 h
 name_fits : (d : Declaration) → is_in_range d ≡ true → (length d.name ≤ MAX_NAME) × (d.arity ≤ MAX_ARITY)
 name_fits d h =
     let a : (is_name d.name && nat_le (length d.name) MAX_NAME && nat_le d.arity MAX_ARITY) ≡ true =
-        (and_parts _ (is_weight d.weight) h).0 in
-    (le_from _ _ ((and_parts (is_name d.name) _ ((and_parts _ (nat_le d.arity MAX_ARITY) a).0)).1),
-        le_from _ _ ((and_parts (is_name d.name && nat_le (length d.name) MAX_NAME) _ a).1))
+    (and_parts _ (is_weight d.weight) h).0 in (
+      le_from _ _ ((and_parts (is_name d.name) _ ((and_parts _ (nat_le d.arity MAX_ARITY) a).0)).1),
+      le_from _ _ ((and_parts (is_name d.name && nat_le (length d.name) MAX_NAME) _ a).1),
+    )
 
 too_long : (name : List ℕ) (arity : ℕ) (d : Declaration) → is_in_range d ≡ true → (MAX_NAME < length name)
     ⊎ (MAX_ARITY < arity) → declares name arity d ≡ false
@@ -103,11 +104,11 @@ pub record Keeps (ds : List Declaration) (rs : List Rule) : Type 0 where
 pub kept_by : (ds : List Declaration) (rs : List Rule) → IsTrue (is_program ds rs) → Keeps ds rs
 kept_by ds rs h =
     let a : (nat_le (length ds) MAX_SYMBOLS && nat_le (length rs) MAX_RULES && list_all is_in_range ds
-        && are_distinct ds) ≡ true = (and_parts _ (list_all (fits ds) rs) h).0 in
+    && are_distinct ds) ≡ true = (and_parts _ (list_all (fits ds) rs) h).0 in
     let b : (nat_le (length ds) MAX_SYMBOLS && nat_le (length rs) MAX_RULES && list_all is_in_range ds) ≡ true =
-        (and_parts _ (are_distinct ds) a).0 in
+    (and_parts _ (are_distinct ds) a).0 in
     let c : (nat_le (length ds) MAX_SYMBOLS && nat_le (length rs) MAX_RULES) ≡ true =
-        (and_parts _ (list_all is_in_range ds) b).0 in
+    (and_parts _ (list_all is_in_range ds) b).0 in
     record {
       symbols = le_from _ _ ((and_parts _ (nat_le (length rs) MAX_RULES) c).0);
       rules = le_from _ _ ((and_parts (nat_le (length ds) MAX_SYMBOLS) _ c).1);
@@ -121,7 +122,7 @@ kept_by ds rs h =
 pub keep : (ds : List Declaration) (rs : List Rule) → Keeps ds rs → IsTrue (is_program ds rs)
 keep ds rs k =
     and_from _ _ (and_from _ _ (and_from _ _ (and_from _ _ (to_le _ _ k.symbols) (to_le _ _ k.rules)) k.ranges)
-        k.distinct) k.fitting
+    k.distinct) k.fitting
 
 pub not_declared_long : (ds : List Declaration) (rs : List Rule) (name : List ℕ) (arity : ℕ) → IsTrue (is_program ds rs)
     → (MAX_NAME < length name) ⊎ (MAX_ARITY < arity) → position (declares name arity) ds ≡ None
@@ -148,7 +149,7 @@ declared_more : (ds : List Declaration) (d : Declaration) (ps : List Pattern) �
 declared_more ds d [] h = refl
 declared_more ds d (p ∷ ps) h =
     and_from _ _ (takes_more ds d p.symbol.0 _ ((and_parts (is_declared ds p) (list_all (is_declared ds) ps) h).0))
-        (declared_more ds d ps ((and_parts (is_declared ds p) _ h).1))
+    (declared_more ds d ps ((and_parts (is_declared ds p) _ h).1))
 
 fits_more : (ds : List Declaration) (d : Declaration) (rs : List Rule) → list_all (fits ds) rs ≡ true
     → list_all (fits (ds ++ d ∷ [])) rs ≡ true
@@ -156,13 +157,13 @@ fits_more ds d [] h = refl
 fits_more ds d (r ∷ rs) h =
     let one : fits ds r ≡ true = (and_parts _ (list_all (fits ds) rs) h).0 in
     let heads : (list_all (is_declared ds) r.kept.items && list_all (is_declared ds) r.removed.items) ≡ true =
-        (and_parts _ (list_all (is_declared ds) r.body.items) one).0 in
+    (and_parts _ (list_all (is_declared ds) r.body.items) one).0 in
     and_from _ _
     (and_from _ _
     (and_from _ _ (declared_more ds d r.kept.items ((and_parts _ (list_all (is_declared ds) r.removed.items) heads).0))
-        (declared_more ds d r.removed.items ((and_parts (list_all (is_declared ds) r.kept.items) _ heads).1)))
+    (declared_more ds d r.removed.items ((and_parts (list_all (is_declared ds) r.kept.items) _ heads).1)))
     (declared_more ds d r.body.items ((and_parts (list_all (is_declared ds) r.kept.items
-        && list_all (is_declared ds) r.removed.items) _ one).1)))
+    && list_all (is_declared ds) r.removed.items) _ one).1)))
     (fits_more ds d rs ((and_parts (fits ds r) _ h).1))
 
 -- not declared yet: nothing passes
@@ -199,7 +200,7 @@ pub key_within : (test : Symbol → Bool) (es : List (Symbol × Weight)) (rs : L
     → IsTrue (is_program (declarations_in es) rs) → position test (keys_of es) ≡ Some i → i < MAX_SYMBOLS
 key_within test es rs i h e =
     let a = place_within test (keys_of es) i e in let b = length-keys es in let c = length-declarations es in let d =
-        (kept_by _ rs h).symbols in omega (arith, a, b, c, d)
+    (kept_by _ rs h).symbols in omega (arith, a, b, c, d)
 
 -- the table with one more symbol
 pub declared_last : (test : Symbol → Symbol → Bool) (k : Symbol) (w : Weight) → SameTest (test k) k.name.bytes k.arity
@@ -213,7 +214,7 @@ declared_last test k w same (e ∷ es) h = by (declares k.name.bytes k.arity (de
         → (declares k.name.bytes k.arity (declared e) || list_any (declares k.name.bytes k.arity) (declarations_in es))
         ≡ false
         → (list_any (declares k.name.bytes k.arity) (declarations_in es) ≡ false
-            → declarations_in (insert_entry test es k w) ≡ declarations_in es ++ declared (k, w) ∷ [])
+        → declarations_in (insert_entry test es k w) ≡ declarations_in es ++ declared (k, w) ∷ [])
         → declarations_in (insert_entry test (e ∷ es) k w) ≡ declared e ∷ (declarations_in es ++ declared (k, w) ∷ [])
     by true q h more = absurd (let m : true ≡ false = rw q at h in true≢false m)
     by false q h more = let t : test k e.0 ≡ false = same e.0 ∙ q in
@@ -225,8 +226,8 @@ distinct_more : (ds : List Declaration) (d : Declaration) → are_distinct ds �
 distinct_more [] d h g = refl
 distinct_more (c ∷ ds) d h g =
     and_from _ _ (apart (list_any (declares c.name c.arity) ds) refl ((and_parts _ (are_distinct ds) h).0))
-        (distinct_more ds d ((and_parts (not (list_any (declares c.name c.arity) ds)) _ h).1)
-        (rest (declares d.name d.arity c) g))
+    (distinct_more ds d ((and_parts (not (list_any (declares c.name c.arity) ds)) _ h).1)
+    (rest (declares d.name d.arity c) g))
   where
     rest : (b : Bool) → (b || list_any (declares d.name d.arity) ds) ≡ false → list_any (declares d.name d.arity) ds
         ≡ false
@@ -242,7 +243,7 @@ distinct_more (c ∷ ds) d h g =
             let n : c.name ≡ d.name = is_same_name c.name d.name ((and_parts _ _ q).0) in
             let a : c.arity ≡ d.arity = eqb-true c.arity d.arity ((and_parts (bytes_eq c.name d.name) _ q).1) in
             absurd (true≢false (sym (and_from _ _ ((bytes_eq-Decides d.name c.name).1 (sym n))
-                (eq-eqb d.arity c.arity (sym a))) ∙ e))
+            (eq-eqb d.arity c.arity (sym a))) ∙ e))
 
     front : (b : Bool) → (b || list_any (declares d.name d.arity) ds) ≡ false → b ≡ false
     front true g = absurd (true≢false g)
@@ -251,8 +252,11 @@ distinct_more (c ∷ ds) d h g =
     apart : (b : Bool) → list_any (declares c.name c.arity) ds ≡ b → not b ≡ true
         → not (list_any (declares c.name c.arity) (ds ++ d ∷ [])) ≡ true
     apart true e q = absurd (true≢false (sym q))
-    apart false e q = rw (list_any-append (declares c.name c.arity) ds (d ∷ []), e,
-        turned (front (declares d.name d.arity c) g)) refl
+    apart false e q = rw (
+      list_any-append (declares c.name c.arity) ds (d ∷ []),
+      e,
+      turned (front (declares d.name d.arity c) g),
+    ) refl
 
 pub symbol_pushed : (ds cs : List Declaration) (rs : List Rule) (d : Declaration) → cs ≡ ds ++ d ∷ []
     → IsTrue (is_program ds rs) → length ds < MAX_SYMBOLS → is_in_range d ≡ true → position (declares d.name d.arity) ds
@@ -260,7 +264,7 @@ pub symbol_pushed : (ds cs : List Declaration) (rs : List Rule) (d : Declaration
 symbol_pushed ds cs rs d e h l r new =
     let k = kept_by ds rs h in
     let most : length cs ≤ MAX_SYMBOLS = let a = ap length e in let b = length-append ds (d ∷ []) in
-        omega (arith, a, b, l) in
+    omega (arith, a, b, l) in
     keep cs rs record {
       symbols = most;
       rules = k.rules;
@@ -282,11 +286,11 @@ pub after_adding : {E : Type 0} (ds cs : List Declaration) (rs : List Rule) (nam
     (a : ℕ) (r : Result (Unit {0}) E) → n ≡ name → a ≡ arity
     → OnOk r (cs ≡ ds ++ record { name = n; arity = a; weight = default_weight } ∷ []) → OnErr r (cs ≡ ds)
     → IsTrue (is_program ds rs) → length ds < MAX_SYMBOLS → IsTrue (is_name name) → length name ≤ MAX_NAME
-        → arity ≤ MAX_ARITY → position (declares name arity) ds ≡ None → IsTrue (is_program cs rs)
+    → arity ≤ MAX_ARITY → position (declares name arity) ds ≡ None → IsTrue (is_program cs rs)
 after_adding ds cs rs name arity n a (Ok x) p q e f h l w u v new =
     symbol_pushed ds cs rs record { name = name; arity = arity; weight = default_weight }
-        (e ∙ (λ i. ds ++ record { name = p i; arity = q i; weight = default_weight } ∷ [])) h l
-        (new_in_range name arity w u v) new
+    (e ∙ (λ i. ds ++ record { name = p i; arity = q i; weight = default_weight } ∷ [])) h l
+    (new_in_range name arity w u v) new
 after_adding ds cs rs name arity n a (Err x) p q e f h l w u v new = rw f h
 
 pub slice_get-declarations : (es : List (Symbol × Weight)) (i : ℕ) → slice_get (declarations_in es) i

@@ -35,7 +35,7 @@ first_there name n (x ∷ ds) zero d apart at is =
     (rw e refl, omega arith)
 first_there name n (x ∷ ds) (suc i) d apart at is =
     by (first_there name n ds i d ((and_parts (not (list_any (declares x.name x.arity) ds)) _ apart).1) at is)
-        (declares name n x) refl
+    (declares name n x) refl
   where
     by : (position_or_len (declares name n) ds ≡ i) × (i < length ds) → (b : Bool) → declares name n x ≡ b
         → (position_or_len (declares name n) (x ∷ ds) ≡ suc i) × (suc i < suc (length ds))
@@ -44,7 +44,7 @@ first_there name n (x ∷ ds) (suc i) d apart at is =
         let names : name ≡ x.name = (bytes_eq-Decides name x.name).0 ((and_parts _ _ e).0) in
         let sizes : n ≡ x.arity = eqb-true n x.arity ((and_parts (bytes_eq name x.name) _ e).1) in
         let again : declares x.name x.arity d ≡ true = ap (λ m. declares x.name m d) (sym sizes)
-            ∙ ap (λ m. declares m n d) (sym names) ∙ is in
+        ∙ ap (λ m. declares m n d) (sym names) ∙ is in
         let some = one_passes (declares x.name x.arity) ds i d at again in
         let none : not (list_any (declares x.name x.arity) ds) ≡ true = (and_parts _ (are_distinct ds) apart).0 in
         absurd (true≢false (sym none ∙ ap not some))

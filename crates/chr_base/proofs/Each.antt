@@ -34,7 +34,7 @@ listed_each : (p : Atom → Bool) (xs : List Atom) → ((q : Atom) → 0 < count
 listed_each p [] h = refl
 listed_each p (x ∷ xs) h =
     let one : cond (eq_by_cmp atom_cmp x x) 1 0 + count_in atom_cmp x xs ≡ 1 + count_in atom_cmp x xs =
-        rw (tied_itself atom_total x) refl in
+    rw (tied_itself atom_total x) refl in
     and_from _ _ (h x (omega (arith, one))) (listed_each p xs (λ q g. h q (omega (arith, g))))
 
 pub list_of_each : (p : Atom → Bool) (xs : List Atom) → Each p (store_of xs) → list_all p xs ≡ true
@@ -55,7 +55,7 @@ pub each_plus : (p : Atom → Bool) (s t : Store) → Each p s → Each p t → 
 each_plus p s t h k q g =
     let e = count_plus s t q in
     elim (some_left (count s q) (count t q) (omega (arith, e, g))) as (λ _. p q ≡ true)
-        [ inl l ↦ h q l | inr l ↦ k q l ]
+    [ inl l ↦ h q l | inr l ↦ k q l ]
 
 pub each_minus : (p : Atom → Bool) (s t : Store) → Each p s → Each p (s ⊖ t)
 each_minus p s t h q g = let e = count_minus s t q in h q (omega (arith, e, g))

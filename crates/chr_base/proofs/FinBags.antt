@@ -107,16 +107,16 @@ module _ {K : Type 0} (R : K → K → Ordering) where
     none_below_further x y [] p h = tt
     none_below_further x y (e ∷ es) p h =
         both _ _ (subst (λ b. T (not b)) (sym (upto o x y e p (not_gt _ (first _ _ h)))) tt)
-            (none_below_further x y es p (second _ _ h))
+        (none_below_further x y es p (second _ _ h))
 
     pub is_rising-put : (k : K) (es : List K) → T (is_rising R es) → T (is_rising R (put R k es))
     is_rising-put k [] h = tt
     is_rising-put k (e ∷ es) h =
         elim (is_gt (R k e)) as (λ b. is_gt (R k e) ≡ b → T (is_rising R (cond b (e ∷ put R k es) (k ∷ e ∷ es)))) [
           | true ↦ λ p. both _ _ (none_below_put e k es (turned k e p) (first _ _ h))
-                (is_rising-put k es (second _ _ h))
+              (is_rising-put k es (second _ _ h))
           | false ↦ λ p. both _ _ (both _ _ (subst (λ b. T (not b)) (sym p) tt)
-                (none_below_further k e es p (first _ _ h))) h
+              (none_below_further k e es p (first _ _ h))) h
         ] refl
 
     pub is_rising-sort : (ks : List K) → T (is_rising R (insertion_sort R ks))
@@ -128,18 +128,18 @@ module _ {K : Type 0} (R : K → K → Ordering) where
     count_in-without q k [] = omega arith
     count_in-without q k (e ∷ es) =
         elim (eq_by_cmp R k e) as (λ b. eq_by_cmp R k e ≡ b → count_in R q (cond b es (e ∷ without R k es))
-            ≡ (cond (eq_by_cmp R q e) 1 0 + count_in R q es) - cond (eq_by_cmp R q k) 1 0) [
+        ≡ (cond (eq_by_cmp R q e) 1 0 + count_in R q es) - cond (eq_by_cmp R q k) 1 0) [
           | true ↦ λ p. rw (ap is_eq (alike_right o k e q (eq_is _ p))) (omega arith)
           | false ↦ λ p. apart p (count_in-without q k es)
         ] refl
       where
         apart : eq_by_cmp R k e ≡ false → count_in R q (without R k es) ≡ count_in R q es - cond (eq_by_cmp R q k) 1 0
             → cond (eq_by_cmp R q e) 1 0 + count_in R q (without R k es)
-                ≡ (cond (eq_by_cmp R q e) 1 0 + count_in R q es) - cond (eq_by_cmp R q k) 1 0
+            ≡ (cond (eq_by_cmp R q e) 1 0 + count_in R q es) - cond (eq_by_cmp R q k) 1 0
         apart p h =
             elim (eq_by_cmp R q k) as (λ b. eq_by_cmp R q k ≡ b → count_in R q (without R k es)
-                ≡ count_in R q es - cond b 1 0 → cond (eq_by_cmp R q e) 1 0 + count_in R q (without R k es)
-                ≡ (cond (eq_by_cmp R q e) 1 0 + count_in R q es) - cond b 1 0) [
+            ≡ count_in R q es - cond b 1 0 → cond (eq_by_cmp R q e) 1 0 + count_in R q (without R k es)
+            ≡ (cond (eq_by_cmp R q e) 1 0 + count_in R q es) - cond b 1 0) [
               | true ↦ λ t h. rw (ap is_eq (o.congr q k e (eq_is _ t)), p) (rw h (omega arith))
               | false ↦ λ t h. rw h (omega arith)
             ] refl h
@@ -184,8 +184,8 @@ module _ {K : Type 0} (R : K → K → Ordering) where
           by Equal p more =
               let e : x ≡ y = same x y p in
               let rest : (q : K) → count_in R q xs ≡ count_in R q ys =
-                  λ q. (let h = is q ∙ ap (λ z. cond (eq_by_cmp R q z) 1 0 + count_in R q ys) (sym e) in
-                  omega (arith, h)) in
+              λ q. (let h = is q ∙ ap (λ z. cond (eq_by_cmp R q z) 1 0 + count_in R q ys) (sym e) in
+              omega (arith, h)) in
               λ i. e i ∷ more rest i
 
 module _ {K : Type 0} {R : K → K → Ordering} where
@@ -291,7 +291,7 @@ module _ {K : Type 0} {R : K → K → Ordering} (o : IsTotalOrder R) where
     of_list-append xs ys = same_bag _ _ (λ q. (let a = count-of_list (xs ++ ys) q in let b =
         total-append (λ x. cond (eq_by_cmp R q x) 1 0) xs ys in
         let c = count-⊕ (of_list xs) (of_list ys) q in let d = count-of_list xs q in let e = count-of_list ys q in
-            omega (arith, a, b, c, d, e)))
+        omega (arith, a, b, c, d, e)))
 
     pub of_list_less : (xs ys zs : List K) → ((q : K) → count_in R q zs ≡ count_in R q xs - count_in R q ys)
         → of_list {R = R} zs ≡ of_list xs ⊖ of_list ys

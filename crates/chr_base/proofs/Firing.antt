@@ -45,7 +45,7 @@ module _ (r : Rule) where
   pub heads_bound : (heads : List Atom) (us ws : List ℤ) → length kept ≤ length heads → Binds []
       us (terms_of kept) (λ w. atoms_at w kept ≡ take (length kept) heads)
       → Binds us ws (terms_of removed) (λ w. atoms_at w removed ≡ drop (length kept) heads) → heads_at (valued ws) r
-          ≡ heads
+      ≡ heads
   heads_bound heads us ws l b c =
       comes_out ws (terms_of kept ++ terms_of removed) (λ w. heads_at w r ≡ heads)
       (binds_then [] us ws (terms_of kept) (terms_of removed) _ _ _ b c (λ w. cut_iff w kept removed heads l))
@@ -59,9 +59,11 @@ module _ (r : Rule) where
   -- where the heads come out by these values, the guard decides
   pub by_guard : (heads : List Atom) (vs : List ℤ) (b : Bool) → heads_at (valued vs) r ≡ heads
       → b ≡ guard_holds (valued vs) r.guard.items → IsTrue b ↔ HasInstance r heads
-  by_guard heads vs b e g =
-      ((λ t. (valued vs, e, sym g ∙ t)), λ h. g ∙ same_guard (heads_of r) (valued vs) h.0 r.guard.items
-          (same_on r heads (valued vs) h.0 e h.1) (guard_known r) ∙ h.2)
+  by_guard heads vs b e g = (
+    (λ t. (valued vs, e, sym g ∙ t)),
+    λ h. g ∙ same_guard (heads_of r) (valued vs) h.0 r.guard.items
+        (same_on r heads (valued vs) h.0 e h.1) (guard_known r) ∙ h.2,
+  )
 
   -- the body is the same by all values by which the heads come out
   pub body_same : (heads : List Atom) (vs : List ℤ) → heads_at (valued vs) r ≡ heads → (v : Valuation) → heads_at v r

@@ -38,26 +38,26 @@ alike_order ds a b h =
     let symbols : a.symbol.0 ≡ b.symbol.0 = eqb-true _ _ (parts.0) in
     let lengths : length a.args.items ≡ length b.args.items = eqb-true _ _ (parts.1) in
     let names : slice_cmp nat_cmp (name_of ds a) (name_of ds b) ≡ order.Equal =
-        ap (λ n. slice_cmp nat_cmp (option_map_or (λ d. d.name) (slice_get ds n) []) (name_of ds b)) symbols
-        ∙ tied_itself (lists_total nat_cmp_total) (name_of ds b) in
+    ap (λ n. slice_cmp nat_cmp (option_map_or (λ d. d.name) (slice_get ds n) []) (name_of ds b)) symbols
+    ∙ tied_itself (lists_total nat_cmp_total) (name_of ds b) in
     let one : nat_cmp a.symbol.0 b.symbol.0 ≡ order.Equal = ap (λ n. nat_cmp n b.symbol.0) symbols
-        ∙ tied_itself nat_cmp_total b.symbol.0 in
+    ∙ tied_itself nat_cmp_total b.symbol.0 in
     let two : nat_cmp (length a.args.items) (length b.args.items) ≡ order.Equal =
-        ap (λ n. nat_cmp n (length b.args.items)) lengths ∙ tied_itself nat_cmp_total (length b.args.items) in
+    ap (λ n. nat_cmp n (length b.args.items)) lengths ∙ tied_itself nat_cmp_total (length b.args.items) in
     rw (names, one, two) (then_equal (slice_cmp int_cmp a.args.items b.args.items))
 
 -- neighbours that are alike, at the front of atoms in order, never fall as they are printed
 run_rises : (ds : List Declaration) (xs ys : List Atom) → T (is_rising atom_cmp (xs ++ ys))
     → ((k : ℕ) (d : Atom) → k + 1 < length xs → are_alike (get_or (xs ++ ys) k d) (get_or (xs ++ ys) (k + 1) d) ≡ true)
-        → IsTrue (is_rising (print_cmp ds) xs)
+    → IsTrue (is_rising (print_cmp ds) xs)
 run_rises ds [] ys h a = refl
 run_rises ds (x ∷ []) ys h a = refl
 run_rises ds (x ∷ z ∷ zs) ys h a =
     let step : is_gt (atom_cmp x z) ≡ false = not_gt _
-        (first (not (is_gt (atom_cmp x z))) _ (first (none_below atom_cmp x (z ∷ zs ++ ys)) _ h)) in
+    (first (not (is_gt (atom_cmp x z))) _ (first (none_below atom_cmp x (z ∷ zs ++ ys)) _ h)) in
     rising_more (print_total ds) x z zs (ap is_gt (alike_order ds x z (a 0 x (omega arith))) ∙ step)
     (run_rises ds (z ∷ zs) ys (second (none_below atom_cmp x (z ∷ zs ++ ys)) _ h)
-        (λ k d l. let e : suc k + 1 ≡ suc (k + 1) = omega arith in rw e at (a (suc k) d (omega arith))))
+    (λ k d l. let e : suc k + 1 ≡ suc (k + 1) = omega arith in rw e at (a (suc k) d (omega arith))))
 
 back_rises : (xs ys : List Atom) → T (is_rising atom_cmp (xs ++ ys)) → T (is_rising atom_cmp ys)
 back_rises [] ys h = h
@@ -85,14 +85,14 @@ first_of (x ∷ xs) ys y l h = h
 -- runs of which each precedes the next never fall in a row
 runs_rise : (ds : List Declaration) (rs : List (Bor (List Atom))) → All (λ r. IsRun r.now) rs
     → ((k : ℕ) (d : Bor (List Atom)) → k + 1 < length rs → Precedes ds (get_or rs k d).now (get_or rs (k + 1) d).now)
-        → IsTrue (is_rising (print_cmp ds) (flat rs))
+    → IsTrue (is_rising (print_cmp ds) (flat rs))
 runs_rise ds [] runs apart = refl
 runs_rise ds (r ∷ []) runs apart =
     rising_append (print_total ds) r.now [] ((runs 0 r (omega arith)).rises ds) refl (λ x y k l. absurd (cc))
 runs_rise ds (r ∷ q ∷ qs) runs apart =
     rising_append (print_total ds) r.now (flat (q ∷ qs)) ((runs 0 r (omega arith)).rises ds)
     (runs_rise ds (q ∷ qs) (λ k d l. runs (suc k) d (omega (arith, l)))
-        (λ k d l. let e : suc k + 1 ≡ suc (k + 1) = omega arith in rw e at (apart (suc k) d (omega (arith, l)))))
+    (λ k d l. let e : suc k + 1 ≡ suc (k + 1) = omega arith in rw e at (apart (suc k) d (omega (arith, l)))))
     (λ x y k l. apart 0 r (omega arith) x y k (first_of q.now (flat qs) y ((runs 1 q (omega arith)).some) l))
 
 counts_flat : (ds : List Declaration) (rs ss : List (Bor (List Atom))) (q : Atom) → IsPermutation rs ss
@@ -109,13 +109,13 @@ counts_flat ds rs ss q p =
 pub runs_in_order : (ds : List Declaration) (atoms : List Atom) (rs ss : List (Bor (List Atom))) → flat rs ≡ atoms
     → All (λ r. IsRun r.now) rs → IsPermutation rs ss
     → ((k : ℕ) (d : Bor (List Atom)) → k + 1 < length ss → Precedes ds (get_or ss k d).now (get_or ss (k + 1) d).now)
-        → flat ss ≡ bag.items (bag.of_list {R = print_cmp ds} atoms)
+    → flat ss ≡ bag.items (bag.of_list {R = print_cmp ds} atoms)
 runs_in_order ds atoms rs ss e runs p apart =
     sym (bag_laws.items-of_list (print_total ds) (print_exact ds) (flat ss)
-        (from_true _ (runs_rise ds ss (All-permutation (λ r. IsRun r.now) rs ss p runs) apart)))
+    (from_true _ (runs_rise ds ss (All-permutation (λ r. IsRun r.now) rs ss p runs) apart)))
     ∙ ap bag.items (bag_laws.same_bag (print_total ds) (print_exact ds) _ _
-        (λ q. bag_laws.count-of_list (print_total ds) (flat ss) q ∙ counts_flat ds rs ss q p
-        ∙ sym (bag_laws.count-of_list (print_total ds) (flat rs) q)))
+    (λ q. bag_laws.count-of_list (print_total ds) (flat ss) q ∙ counts_flat ds rs ss q p
+    ∙ sym (bag_laws.count-of_list (print_total ds) (flat rs) q)))
     ∙ ap (λ xs. bag.items (bag.of_list {R = print_cmp ds} xs)) e
 
 -- an atom after another one
@@ -138,12 +138,12 @@ joined ds (x ∷ xs) ys h = ap (λ bs. atom_text ds x ++ bs) (flat_map-append (a
 pub runs_text : (ds : List Declaration) (whole : List (Bor (List Atom))) (r : Bor (List Atom))
     (rs : List (Bor (List Atom))) (out mid new : List ℕ) → whole ≡ r ∷ rs → All (λ r. IsRun r.now) whole
     → mid ≡ out ++ atoms_text ds r.now → new ≡ mid ++ flat_map (λ r. flat_map (after ds) r.now) rs → new ≡ out
-        ++ atoms_text ds (flat whole)
+    ++ atoms_text ds (flat whole)
 runs_text ds whole r rs out mid new e runs m n =
     let one : IsRun r.now = (rw e at runs) 0 r (omega arith) in
     n ∙ ap (λ bs. bs ++ flat_map (λ r. flat_map (after ds) r.now) rs) m ∙ append_assoc out _ _
     ∙ ap (λ bs. out ++ bs) (ap (λ bs. atoms_text ds r.now ++ bs) (sym (flat_after ds rs))
-        ∙ sym (joined ds r.now (flat rs) one.some))
+    ∙ sym (joined ds r.now (flat rs) one.some))
     ∙ ap (λ w. out ++ atoms_text ds (flat w)) (sym e)
 
 -- one piece more is written, and so many fewer are left
@@ -154,4 +154,4 @@ one_piece h xs i x out new whole l is before n =
     let next : suc i ≡ i + 1 = omega arith in
     let cut : drop i xs ≡ x ∷ drop (i + 1) xs = drop-cons xs i x l ∙ (λ j. sym is j ∷ drop (next j) xs) in
     ap (λ bs. bs ++ flat_map h (drop (i + 1) xs)) n ∙ append_assoc out (h x) _
-        ∙ ap (λ ys. out ++ flat_map h ys) (sym cut) ∙ before
+    ∙ ap (λ ys. out ++ flat_map h ys) (sym cut) ∙ before

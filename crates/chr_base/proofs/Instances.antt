@@ -42,8 +42,11 @@ same_values ps v w (t ∷ ts) h k = λ i. same_value ps v w t h ((and_parts _ _ 
 pub same_atoms : (ps qs : List Pattern) (v w : Valuation) → SameOn ps v w
     → list_all (λ p. list_all (is_bound_in ps) p.args.items) qs ≡ true → atoms_at v qs ≡ atoms_at w qs
 same_atoms ps [] v w h k = refl
-same_atoms ps (q ∷ qs) v w h k = λ i. record { symbol = q.symbol; args =
-    record { items = same_values ps v w q.args.items h ((and_parts _ _ k).0) i } }
+same_atoms ps (q ∷ qs) v w h k = λ i. record {
+  symbol = q.symbol;
+  args =
+      record { items = same_values ps v w q.args.items h ((and_parts _ _ k).0) i };
+}
     ∷ same_atoms ps qs v w h ((and_parts _ _ k).1) i
 
 pub same_guard : (ps : List Pattern) (v w : Valuation) (cs : List Comparison) → SameOn ps v w
@@ -52,7 +55,7 @@ same_guard ps v w [] h k = refl
 same_guard ps v w (c ∷ cs) h k =
     let here : (is_bound_in ps c.left && is_bound_in ps c.right) ≡ true = (and_parts _ _ k).0 in
     let more : list_all (λ c. is_bound_in ps c.left && is_bound_in ps c.right) cs ≡ true =
-        (and_parts (is_bound_in ps c.left && is_bound_in ps c.right) _ k).1 in
+    (and_parts (is_bound_in ps c.left && is_bound_in ps c.right) _ k).1 in
     let one = same_value ps v w c.left h ((and_parts _ _ here).0) in
     let two = same_value ps v w c.right h ((and_parts (is_bound_in ps c.left) _ here).1) in
     let rest = same_guard ps v w cs h more in
@@ -68,7 +71,7 @@ first_value_at w (Variable y ∷ ts) x = by (nat_eq x y) refl (first_value_at w 
     by : (b : Bool) → nat_eq x y ≡ b → first_value ts (map (term_value w) ts) x ≡ cond (list_any (is_variable x) ts)
         (Some (w x)) None
         → cond (nat_eq x y) (Some (w y)) (first_value ts (map (term_value w) ts) x)
-            ≡ cond (nat_eq x y || list_any (is_variable x) ts) (Some (w x)) None
+        ≡ cond (nat_eq x y || list_any (is_variable x) ts) (Some (w x)) None
     by true e more = rw e (ap (λ z. Some (w z)) (sym (eqb-true x y e)))
     by false e more = rw e more
 
@@ -80,7 +83,7 @@ value_at w (p ∷ ps) x = rw (first_value_at w p.args.items x)
   where
     by : (b : Bool) → value_among ps (atoms_at w ps) x ≡ cond (occurs x ps) (Some (w x)) None
         → option_or (cond b (Some (w x)) None) (value_among ps (atoms_at w ps) x) ≡ cond (b || occurs x ps)
-            (Some (w x)) None
+        (Some (w x)) None
     by true more = refl
     by false more = more
 
@@ -94,7 +97,7 @@ known_terms ps [] h = refl
 known_terms ps (Constant c ∷ ts) h = known_terms ps ts h
 known_terms ps (Variable y ∷ ts) h =
     and_from _ _ (h y (let e : nat_eq y y ≡ true = eq-eqb y y refl in rw e refl))
-        (known_terms ps ts (λ x o. h x (later x o)))
+    (known_terms ps ts (λ x o. h x (later x o)))
   where
     later : (x : ℕ) → list_any (is_variable x) ts ≡ true → (nat_eq x y || list_any (is_variable x) ts) ≡ true
     later x o = elim (nat_eq x y) as (λ b. (b || list_any (is_variable x) ts) ≡ true) [ true ↦ refl | false ↦ o ]
@@ -104,9 +107,9 @@ known_among : (ps qs : List Pattern) → ((x : ℕ) → occurs x qs ≡ true →
 known_among ps [] h = refl
 known_among ps (q ∷ qs) h =
     and_from _ _ (known_terms ps q.args.items (λ x o. h x (let e : list_any (is_variable x) q.args.items ≡ true = o in
-        rw e refl)))
+    rw e refl)))
     (known_among ps qs (λ x o. h x (elim (list_any (is_variable x) q.args.items) as (λ b. (b || occurs x qs) ≡ true)
-        [ true ↦ refl | false ↦ o ])))
+    [ true ↦ refl | false ↦ o ])))
 
 pub known_itself : (ps : List Pattern) → list_all (λ p. list_all (is_bound_in ps) p.args.items) ps ≡ true
 known_itself ps = known_among ps ps (λ x o. o)
@@ -126,8 +129,11 @@ agree_itself v (p ∷ ps) = and_from _ _ (by (atom_at v p)) (agree_itself v ps)
     by a = rw (tied_itself atom_total a) refl
 
 pub fires_sound : (r : Rule) (heads : List Atom) → fires r heads ≡ true → HasInstance r heads
-fires_sound r heads h = (valuation (heads_of r) heads, agree_sound _ (heads_of r) heads ((and_parts _ _ h).0),
-    (and_parts _ _ h).1)
+fires_sound r heads h = (
+  valuation (heads_of r) heads,
+  agree_sound _ (heads_of r) heads ((and_parts _ _ h).0),
+  (and_parts _ _ h).1,
+)
 
 -- The valuation that the heads give is that of the instance, on the rule's variables.
 pub the_valuation : (r : Rule) (heads : List Atom) (w : Valuation) → heads_at w r ≡ heads
@@ -188,11 +194,11 @@ pub fires_complete : (r : Rule) (heads : List Atom) → HasInstance r heads → 
 fires_complete r heads h =
     let same = the_valuation r heads h.0 h.1 in
     let heads_are : atoms_at (valuation (heads_of r) heads) (heads_of r) ≡ heads =
-        same_atoms (heads_of r) (heads_of r) _ h.0 same (known_itself (heads_of r)) ∙ h.1 in
+    same_atoms (heads_of r) (heads_of r) _ h.0 same (known_itself (heads_of r)) ∙ h.1 in
     and_from (agree (valuation (heads_of r) heads) (heads_of r) heads)
-        (guard_holds (valuation (heads_of r) heads) r.guard.items)
+    (guard_holds (valuation (heads_of r) heads) r.guard.items)
     (subst (λ as'. agree (valuation (heads_of r) heads) (heads_of r) as' ≡ true) heads_are
-        (agree_itself (valuation (heads_of r) heads) (heads_of r)))
+    (agree_itself (valuation (heads_of r) heads) (heads_of r)))
     (same_guard (heads_of r) _ h.0 r.guard.items same (guard_known r) ∙ h.2)
 
 -- the body is the same under each valuation that makes these heads

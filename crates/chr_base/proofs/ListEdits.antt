@@ -52,13 +52,13 @@ module _ {K : Type 0} (R : K → K → Ordering) where
   stands q [] d = inl refl
   stands q (x ∷ xs) d =
       elim (eq_by_cmp R q x) as (λ b. eq_by_cmp R q x ≡ b → (cond b 1 0 + count_in R q xs ≡ 0)
-          ⊎ ((i : ℕ) × (i < suc (length xs)) × (eq_by_cmp R q (get_or (x ∷ xs) i d) ≡ true))) [
+      ⊎ ((i : ℕ) × (i < suc (length xs)) × (eq_by_cmp R q (get_or (x ∷ xs) i d) ≡ true))) [
         | true ↦ λ p. inr (0, omega arith, p)
         | false ↦ λ p. elim (stands q xs d) as (λ _. (0 + count_in R q xs ≡ 0)
-              ⊎ ((i : ℕ) × (i < suc (length xs)) × (eq_by_cmp R q (get_or (x ∷ xs) i d) ≡ true))) [
-          | inl h ↦ inl (omega (arith, h))
-          | inr w ↦ inr (suc w.0, omega (arith, w.1), w.2)
-        ]
+            ⊎ ((i : ℕ) × (i < suc (length xs)) × (eq_by_cmp R q (get_or (x ∷ xs) i d) ≡ true))) [
+              | inl h ↦ inl (omega (arith, h))
+              | inr w ↦ inr (suc w.0, omega (arith, w.1), w.2)
+            ]
       ] refl
 
   module _ (o : IsTotalOrder R) where

@@ -30,7 +30,7 @@ module _ {K : Type 0} {R : K → K → Ordering} (o : IsTotalOrder R) where
       → IsTrue (is_rising R (x ∷ y ∷ ys))
   rising_more x y ys step more =
       let far : none_below R x ys ≡ true = is_true _ (none_below_further R o x y ys step
-          (from_true _ ((and_parts (none_below R y ys) _ more).0))) in
+      (from_true _ ((and_parts (none_below R y ys) _ more).0))) in
       and_from (none_below R x (y ∷ ys)) _ (and_from (not (is_gt (R x y))) _ (rw step refl) far) more
 
   -- items that never fall from one to the next never fall
@@ -41,7 +41,7 @@ module _ {K : Type 0} {R : K → K → Ordering} (o : IsTotalOrder R) where
   rising_by_neighbours (x ∷ y ∷ ys) h =
       rising_more x y ys (h 0 x (omega arith))
       (rising_by_neighbours (y ∷ ys) (λ k d l. let e : suc k + 1 ≡ suc (k + 1) = omega arith in
-          rw e at (h (suc k) d (omega arith))))
+      rw e at (h (suc k) d (omega arith))))
 
   -- what is sorted never falls
   pub rising_from_sorted : (xs : List K) → IsSorted R xs → IsTrue (is_rising R xs)
@@ -50,7 +50,7 @@ module _ {K : Type 0} {R : K → K → Ordering} (o : IsTotalOrder R) where
   -- lists that never fall, of which the one's last does not come after the other's first, never fall in a row
   pub rising_append : (xs ys : List K) → IsTrue (is_rising R xs) → IsTrue (is_rising R ys)
       → ((x y : K) → slice_get xs (length xs - 1) ≡ Some x → slice_get ys 0 ≡ Some y → is_gt (R x y) ≡ false)
-          → IsTrue (is_rising R (xs ++ ys))
+      → IsTrue (is_rising R (xs ++ ys))
   rising_append [] ys h g p = g
   rising_append (x ∷ []) [] h g p = refl
   rising_append (x ∷ []) (y ∷ ys) h g p = rising_more x y ys (p x y refl refl) g
@@ -58,7 +58,7 @@ module _ {K : Type 0} {R : K → K → Ordering} (o : IsTotalOrder R) where
       let parts = and_parts (none_below R x (z ∷ zs)) _ h in
       rising_more x z (zs ++ ys) (not_gt _ (from_true _ ((and_parts (not (is_gt (R x z))) _ (parts.0)).0)))
       (rising_append (z ∷ zs) ys (parts.1) g (λ a b k l. let e : length (x ∷ z ∷ zs) - 1 ≡ suc (length (z ∷ zs) - 1) =
-          omega arith in p a b (ap (slice_get (x ∷ z ∷ zs)) e ∙ k) l))
+      omega arith in p a b (ap (slice_get (x ∷ z ∷ zs)) e ∙ k) l))
 
   module _ (exact : IsAntisymmetric R) where
     -- another order, the same multiset

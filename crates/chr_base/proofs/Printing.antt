@@ -28,6 +28,6 @@ print_exact ds a b h =
     let two = then_equal (nat_cmp (length a.args.items) (length b.args.items)) _ one.1 in
     let three = then_equal (slice_cmp int_cmp a.args.items b.args.items) _ two.1 in
     let args : a.args.items ≡ b.args.items = slice_cmp-IsAntisymmetric int_cmp-IsAntisymmetric a.args.items b.args.items
-        three.0 in
+    three.0 in
     let symbol : a.symbol.0 ≡ b.symbol.0 = nat_cmp-IsAntisymmetric a.symbol.0 b.symbol.0 three.1 in
     λ i. record { symbol = record { 0 = symbol i }; args = record { items = args i } }

@@ -35,7 +35,7 @@ module _ {A : Type 0} (step : A → A → Type 0) where
       normalises (suc k) s h =
           elim (total s) as (λ _. (t : A) × IsNormalForm step s t) [
             | inl w ↦ (let b = lowers s w.0 w.1 in let r = normalises k w.0 (omega (arith, b, h)) in
-                  (r.0, (reaches_after s w.0 r.0 w.1 r.1.0, r.1.1)))
+                (r.0, (reaches_after s w.0 r.0 w.1 r.1.0, r.1.1)))
             | inr rest ↦ (s, (reaches_itself s, rest))
           ]
 
@@ -57,9 +57,9 @@ module _ {A : Type 0} (step : A → A → Type 0) where
                 let a = lowers s r.0 r.1 in
                 let b = lowers s g.0 g.1 in
                 let left : t ≡ z.0 = more r.0 t z.0 (stays s r.0 o r.1) (omega (arith, a, h)) ((m, r.2), p.1)
-                    (reaches_on r.0 j.0 z.0 j.1 z.1.0, z.1.1) in
+                (reaches_on r.0 j.0 z.0 j.1 z.1.0, z.1.1) in
                 let right : u ≡ z.0 = more g.0 u z.0 (stays s g.0 o g.1) (omega (arith, b, h)) ((n, g.2), q.1)
-                    (reaches_on g.0 j.0 z.0 j.2 z.1.0, z.1.1) in
+                (reaches_on g.0 j.0 z.0 j.2 z.1.0, z.1.1) in
                 left ∙ sym right
 
         -- Newman's lemma

@@ -20,10 +20,14 @@ use Rattle.chr_base.proofs.SameRules.{both_decide, parts_decide, pattern_decides
 seen_alike : {A B : Type 0} (E : A → A → Bool) (g : A → B) → ((a b : A) → Decides (E a b) (g a ≡ g b))
     → (xs ys : List A) → Decides (pointwise E xs ys) (map g xs ≡ map g ys)
 seen_alike E g d [] [] = (λ h. refl, λ e. refl)
-seen_alike {A} {B} E g d [] (y ∷ ys) = (λ h. absurd (true≢false (sym h)),
-    λ e. (let f : ◌≡◌ {A = List B} [] (g y ∷ map g ys) = e in cc))
-seen_alike {A} {B} E g d (x ∷ xs) [] = (λ h. absurd (true≢false (sym h)),
-    λ e. (let f : ◌≡◌ {A = List B} (g x ∷ map g xs) [] = e in cc))
+seen_alike {A} {B} E g d [] (y ∷ ys) = (
+  λ h. absurd (true≢false (sym h)),
+  λ e. (let f : ◌≡◌ {A = List B} [] (g y ∷ map g ys) = e in cc),
+)
+seen_alike {A} {B} E g d (x ∷ xs) [] = (
+  λ h. absurd (true≢false (sym h)),
+  λ e. (let f : ◌≡◌ {A = List B} (g x ∷ map g xs) [] = e in cc),
+)
 seen_alike {A} {B} E g d (x ∷ xs) (y ∷ ys) =
     let more = seen_alike E g d xs ys in
     let both = both_decide (E x y) (pointwise E xs ys) (d x y) more in (
@@ -47,7 +51,7 @@ entry_decides : (e f : Symbol × Weight) → Decides (symbol.eq-value.it e.0 f.0
     (declared e ≡ declared f)
 entry_decides e f =
     let both = both_decide _ _ (both_decide _ _ (pointwise_decides unsigned_Decides e.0.name.bytes f.0.name.bytes)
-        (unsigned_Decides e.0.arity f.0.arity)) (weight_decides e.1 f.1) in (
+    (unsigned_Decides e.0.arity f.0.arity)) (weight_decides e.1 f.1) in (
       λ h. (let w = both.0 h in λ i. record { name = w.0.0 i; arity = w.0.1 i; weight = w.1 i }),
       λ q. both.1 ((ap (λ d. d.name) q, ap (λ d. d.arity) q), ap (λ d. d.weight) q),
     )
@@ -60,29 +64,31 @@ symbols_decide : (es fs : List (Symbol × Weight)) → Decides
     (declarations_in es ≡ declarations_in fs)
 symbols_decide es fs =
     let d = seen_alike (λ (e f : Symbol × Weight). symbol.eq-value.it e.0 f.0 && weight.eq-value.it e.1 f.1) declared
-        entry_decides es fs in
+    entry_decides es fs in
     (λ h. declared_each es ∙ d.0 h ∙ sym (declared_each fs), λ q. d.1 (sym (declared_each es) ∙ q ∙ declared_each fs))
 
 pub programs_decide : (p q : Program) (es fs : List (Symbol × Weight)) (rs ss : List Rule) (a b : Bool)
     → es ≡ p.symbols.entries → fs ≡ q.symbols.entries → rs ≡ p.rules.items → ss ≡ q.rules.items
     → a ≡ pointwise (λ e f. symbol.eq-value.it e.0 f.0 && weight.eq-value.it e.1 f.1) es fs → a ≡ true
-        → b ≡ pointwise rule.eq-value.it rs ss → Decides b (AreSame p q)
+    → b ≡ pointwise rule.eq-value.it rs ss → Decides b (AreSame p q)
 programs_decide p q es fs rs ss a b is_es is_fs is_rs is_ss x t y =
     let d = symbols_decide p.symbols.entries q.symbols.entries in
     let r = seen_alike rule.eq-value.it parts_of rule_decides p.rules.items q.rules.items in
     let u : b ≡ pointwise rule.eq-value.it p.rules.items q.rules.items =
-        y ∙ (λ i. pointwise rule.eq-value.it (is_rs i) (is_ss i)) in
+    y ∙ (λ i. pointwise rule.eq-value.it (is_rs i) (is_ss i)) in
     let v : pointwise (λ e f. symbol.eq-value.it e.0 f.0 && weight.eq-value.it e.1 f.1) p.symbols.entries
-        q.symbols.entries ≡ true
+    q.symbols.entries ≡ true
     = sym (x ∙ (λ i. pointwise (λ e f. symbol.eq-value.it e.0 f.0 && weight.eq-value.it e.1 f.1) (is_es i) (is_fs i)))
-        ∙ t in
+    ∙ t in
     (λ h. (d.0 v, r.0 (sym u ∙ h)), λ w. u ∙ r.1 w.1)
 
 pub other_symbols : (p q : Program) (es fs : List (Symbol × Weight)) (a : Bool) → es ≡ p.symbols.entries
     → fs ≡ q.symbols.entries
     → a ≡ pointwise (λ e f. symbol.eq-value.it e.0 f.0 && weight.eq-value.it e.1 f.1) es fs → a ≡ false
-        → Decides a (AreSame p q)
+    → Decides a (AreSame p q)
 other_symbols p q es fs a is_es is_fs x n =
-    let d = symbols_decide p.symbols.entries q.symbols.entries in
-    (λ h. absurd (true≢false (sym h ∙ n)), λ w. x ∙ (λ i. pointwise
-        (λ e f. symbol.eq-value.it e.0 f.0 && weight.eq-value.it e.1 f.1) (is_es i) (is_fs i)) ∙ d.1 w.0)
+    let d = symbols_decide p.symbols.entries q.symbols.entries in (
+      λ h. absurd (true≢false (sym h ∙ n)),
+      λ w. x ∙ (λ i. pointwise
+          (λ e f. symbol.eq-value.it e.0 f.0 && weight.eq-value.it e.1 f.1) (is_es i) (is_fs i)) ∙ d.1 w.0,
+    )

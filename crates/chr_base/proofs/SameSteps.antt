@@ -21,7 +21,7 @@ record StepOf (p : Parts) (v : Valuation) (s t : Store) : Type 0 where
 pub same_rule : (r q : Rule) (v : Valuation) (s t : Store) → parts_of r ≡ parts_of q → StepBy r v s t → StepBy q v s t
 same_rule r q v s t e h =
     let g : StepOf (parts_of q) v s t = subst (λ p. StepOf p v s t) e
-        (record { guard = h.guard; there = h.there; after = h.after }) in
+    (record { guard = h.guard; there = h.there; after = h.after }) in
     record { guard = g.guard; there = g.there; after = g.after }
 
 -- the rule in the same place

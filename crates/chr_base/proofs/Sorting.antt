@@ -48,8 +48,10 @@ not_empty x xs h =
 
 listed_empty : (xs : List Atom) (b : Bool) → b ≡ nat_eq (length xs) 0 → IsTrue b ↔ (store_of xs ≡ bag.empty)
 listed_empty [] b e = (λ _. bag_laws.of_list-none atom_cmp, λ _. e)
-listed_empty (x ∷ xs) b e = (λ h. absurd (omega (arith, eqb-true (suc (length xs)) 0 (sym e ∙ h))),
-    λ h. absurd (omega (arith, not_empty x xs h)))
+listed_empty (x ∷ xs) b e = (
+  λ h. absurd (omega (arith, eqb-true (suc (length xs)) 0 (sym e ∙ h))),
+  λ h. absurd (omega (arith, not_empty x xs h)),
+)
 
 pub empty_or_not : (s : Store) (b : Bool) → b ≡ nat_eq (length (bag.items s)) 0 → IsTrue b ↔ (s ≡ bag.empty)
 empty_or_not s b e = subst (λ t. IsTrue b ↔ (t ≡ bag.empty)) (store_of-items s) (listed_empty (bag.items s) b e)

@@ -54,7 +54,7 @@ step_lowers w rules lowers s t h =
     let r = h.1 in let v = h.2 in let st = h.4 in
     let a = lowers h.0 r h.3 v in
     let b = weight_exchange w s (store_of (atoms_at v r.removed.items)) (store_of (atoms_at v r.body.items))
-        (removed_there r v s st.there) in
+    (removed_there r v s st.there) in
     let c = ap (weight_of w) st.after in
     let d = weight_store_of w (atoms_at v r.removed.items) in
     let e = weight_store_of w (atoms_at v r.body.items) in
@@ -66,8 +66,8 @@ pub removed_heads : (r : Rule) (heads : List Atom) (v : Valuation) → heads_at 
 removed_heads r heads v e =
     ap (drop (length r.kept.items)) (sym e ∙ map-append (atom_at v) r.kept.items r.removed.items)
     ∙ ap (λ n. drop n (atoms_at v r.kept.items ++ atoms_at v r.removed.items))
-        (sym (length-map r.kept.items (atom_at v))) ∙ drop-append_seam (atoms_at v r.kept.items)
-        (atoms_at v r.removed.items)
+    (sym (length-map r.kept.items (atom_at v))) ∙ drop-append_seam (atoms_at v r.kept.items)
+    (atoms_at v r.removed.items)
 
 -- an instance has one atom for each head place
 pub heads_length : (r : Rule) (heads : List Atom) → HasInstance r heads → length heads
@@ -88,21 +88,30 @@ pub instance_steps : (r : Rule) (heads : List Atom) (s : Store) → HasInstance 
     → HasNoStep r s → ⊥
 instance_steps r heads s h w none =
     none h.0 ((s ⊖ store_of (atoms_at h.0 r.removed.items)) ⊕ store_of (atoms_at h.0 r.body.items))
-        (record { guard = h.2; there = rw h.1 w; after = refl })
+    (record { guard = h.2; there = rw h.1 w; after = refl })
 
 -- heads that are there make a step of the program
 pub heads_step : (rules : List Rule) (i : ℕ) (r : Rule) (heads : List Atom) (s : Store) → i < length rules
     → r ≡ get_or rules i r → HasInstance r heads → IsWithin (store_of heads) s → IsAtRest (Step rules) s → ⊥
 heads_step rules i r heads s l is h w rest =
-    rest ((s ⊖ store_of (atoms_at h.0 r.removed.items)) ⊕ store_of (atoms_at h.0 r.body.items))
-    (i, r, h.0, slice_get_read rules (length rules) i r refl l is,
-        record { guard = h.2; there = rw h.1 w; after = refl })
+    rest ((s ⊖ store_of (atoms_at h.0 r.removed.items)) ⊕ store_of (atoms_at h.0 r.body.items)) (
+      i,
+      r,
+      h.0,
+      slice_get_read rules (length rules) i r refl l is,
+      record { guard = h.2; there = rw h.1 w; after = refl },
+    )
 
 -- a step of one rule of the program
 pub step_found : (rules : List Rule) (i : ℕ) (r : Rule) (heads : List Atom) (s s' t : Store) → i < length rules
     → r ≡ get_or rules i r → s' ≡ s → StepOn r heads s' t → Step rules s t
-step_found rules i r heads s s' t l is same h = (i, r, h.0, slice_get_read rules (length rules) i r refl l is,
-    subst (λ x. StepBy r h.0 x t) same h.2)
+step_found rules i r heads s s' t l is same h = (
+  i,
+  r,
+  h.0,
+  slice_get_read rules (length rules) i r refl l is,
+  subst (λ x. StepBy r h.0 x t) same h.2,
+)
 
 -- no rule has a step
 pub rests : (rules : List Rule) (s : Store) → ((k : ℕ) (d : Rule) → k < length rules → HasNoStep (get_or rules k d) s)
@@ -117,5 +126,7 @@ pub found_step : {A : Type 0} (items : A → List Atom) (rules : List Rule) (i :
     → IfSome o (λ a. IsWithin (store_of (items a)) s)
     → is_some o ≡ true → IsTrue false ↔ IsAtRest (Step rules) s
 found_step items rules i r None s l is h w e = absurd (true≢false (sym e))
-found_step items rules i r (Some a) s l is h w e = ((λ f. absurd (true≢false (sym f))),
-    λ rest. absurd (heads_step rules i r (items a) s l is h w rest))
+found_step items rules i r (Some a) s l is h w e = (
+  (λ f. absurd (true≢false (sym f))),
+  λ rest. absurd (heads_step rules i r (items a) s l is h w rest),
+)

@@ -26,13 +26,13 @@ counts_without [] (y ∷ ys) h q = absurd (true≢false (sym h))
 counts_without (x ∷ xs) [] h q = let e = counts_without xs [] h q in omega (arith, e)
 counts_without (x ∷ xs) (y ∷ ys) h q =
     elim (eq_by_cmp atom_cmp y x) as (λ b. eq_by_cmp atom_cmp y x ≡ b → cond b (is_subsequence atom_cmp xs ys)
-        (is_subsequence atom_cmp xs (y ∷ ys)) ≡ true
+    (is_subsequence atom_cmp xs (y ∷ ys)) ≡ true
     → count_in atom_cmp q (cond b (without_subsequence atom_cmp xs ys)
-        (x ∷ without_subsequence atom_cmp xs (y ∷ ys))) + (cond (eq_by_cmp atom_cmp q y) 1 0 + count_in atom_cmp q ys)
-        ≡ cond (eq_by_cmp atom_cmp q x) 1 0 + count_in atom_cmp q xs) [
+    (x ∷ without_subsequence atom_cmp xs (y ∷ ys))) + (cond (eq_by_cmp atom_cmp q y) 1 0 + count_in atom_cmp q ys)
+    ≡ cond (eq_by_cmp atom_cmp q x) 1 0 + count_in atom_cmp q xs) [
       | true ↦ λ p k. (let e = counts_without xs ys k q in
           let d : ◌≡◌ {A = ℕ} (cond (eq_by_cmp atom_cmp q y) 1 0) (cond (eq_by_cmp atom_cmp q x) 1 0) =
-              ap (λ z. let n : ℕ = cond (eq_by_cmp atom_cmp q z) 1 0 in n) (same_is y x p) in
+          ap (λ z. let n : ℕ = cond (eq_by_cmp atom_cmp q z) 1 0 in n) (same_is y x p) in
           omega (arith, e, d))
       | false ↦ λ p k. (let e = counts_without xs (y ∷ ys) k q in omega (arith, e))
     ] refl h
@@ -43,7 +43,7 @@ below_without z [] ys h = tt
 below_without z (x ∷ xs) [] h = both _ _ (first _ _ h) (below_without z xs [] (second (not (is_gt (atom_cmp z x))) _ h))
 below_without z (x ∷ xs) (y ∷ ys) h =
     elim (eq_by_cmp atom_cmp y x) as (λ b. T (none_below atom_cmp z
-        (cond b (without_subsequence atom_cmp xs ys) (x ∷ without_subsequence atom_cmp xs (y ∷ ys))))) [
+    (cond b (without_subsequence atom_cmp xs ys) (x ∷ without_subsequence atom_cmp xs (y ∷ ys))))) [
       | true ↦ below_without z xs ys (second (not (is_gt (atom_cmp z x))) _ h)
       | false ↦ both _ _ (first _ _ h) (below_without z xs (y ∷ ys) (second (not (is_gt (atom_cmp z x))) _ h))
     ]
@@ -54,10 +54,10 @@ rises (x ∷ xs) [] h = both _ _ (below_without x xs [] (first _ _ h))
     (rises xs [] (second (none_below atom_cmp x xs) _ h))
 rises (x ∷ xs) (y ∷ ys) h =
     elim (eq_by_cmp atom_cmp y x) as (λ b. T (is_rising atom_cmp
-        (cond b (without_subsequence atom_cmp xs ys) (x ∷ without_subsequence atom_cmp xs (y ∷ ys))))) [
+    (cond b (without_subsequence atom_cmp xs ys) (x ∷ without_subsequence atom_cmp xs (y ∷ ys))))) [
       | true ↦ rises xs ys (second (none_below atom_cmp x xs) _ h)
       | false ↦ both _ _ (below_without x xs (y ∷ ys) (first _ _ h))
-            (rises xs (y ∷ ys) (second (none_below atom_cmp x xs) _ h))
+          (rises xs (y ∷ ys) (second (none_below atom_cmp x xs) _ h))
     ]
 
 -- what is left of a list in order is in order
@@ -88,7 +88,7 @@ found (x ∷ xs) (y ∷ ys) h g c = by (atom_cmp y x) refl
     by Equal p same more =
         rw p (same (λ q. (let a = c q in
         let d : ◌≡◌ {A = ℕ} (cond (eq_by_cmp atom_cmp q y) 1 0) (cond (eq_by_cmp atom_cmp q x) 1 0) =
-            ap (λ z. let n : ℕ = cond (eq_by_cmp atom_cmp q z) 1 0 in n) (same_is y x (rw p refl)) in
+        ap (λ z. let n : ℕ = cond (eq_by_cmp atom_cmp q z) 1 0 in n) (same_is y x (rw p refl)) in
         omega (arith, a, d))))
     by Greater p same more = rw p (more (λ q. fewer q (eq_by_cmp atom_cmp q x) refl))
       where
@@ -169,8 +169,8 @@ passed xs ys ws whole kept i x w l is same h = record {
   unread = unread_more xs ys i x l h.length h.unread;
   done = (let e : without_subsequence atom_cmp (drop i ys) (w ∷ ws) ≡ without_subsequence atom_cmp (drop (i + 1) ys) ws
       = ap (λ zs. without_subsequence atom_cmp zs (w ∷ ws)) (next_item xs ys i x l h.length h.unread is)
-          ∙ ap (λ b. cond b (without_subsequence atom_cmp (drop (i + 1) ys) ws)
-          (x ∷ without_subsequence atom_cmp (drop (i + 1) ys) (w ∷ ws))) same in
+      ∙ ap (λ b. cond b (without_subsequence atom_cmp (drop (i + 1) ys) ws)
+      (x ∷ without_subsequence atom_cmp (drop (i + 1) ys) (w ∷ ws))) same in
       ap (λ zs. take kept xs ++ zs) (sym e) ∙ h.done);
 }
 
@@ -193,10 +193,10 @@ moved xs ys ws whole kept i x l is stays h =
       done = rw t (
           ap (λ zs. take (suc kept) zs ++ without_subsequence atom_cmp (drop (i + 1) ys) ws) (sym e)
           ∙ ap (λ zs. zs ++ without_subsequence atom_cmp (drop (i + 1) ys) ws)
-              (keeps ∙ ap (λ z. take kept xs ++ z ∷ []) (sym is))
+          (keeps ∙ ap (λ z. take kept xs ++ z ∷ []) (sym is))
           ∙ append_assoc (take kept xs) (x ∷ []) (without_subsequence atom_cmp (drop (i + 1) ys) ws)
           ∙ ap (λ zs. take kept xs ++ zs) (sym (ap (λ zs. without_subsequence atom_cmp zs ws)
-              (next_item xs ys i x l h.length h.unread is) ∙ stays))
+          (next_item xs ys i x l h.length h.unread is) ∙ stays))
           ∙ h.done);
     }
 
@@ -209,7 +209,7 @@ pub moved_other : (xs ys ws whole : List Atom) (kept i : ℕ) (x w : Atom) → i
     (kept + 1) (i + 1)
 moved_other xs ys ws whole kept i x w l is other h =
     moved xs ys (w ∷ ws) whole kept i x l is (ap (λ b. cond b (without_subsequence atom_cmp (drop (i + 1) ys) ws)
-        (x ∷ without_subsequence atom_cmp (drop (i + 1) ys) (w ∷ ws))) other) h
+    (x ∷ without_subsequence atom_cmp (drop (i + 1) ys) (w ∷ ws))) other) h
 
 -- of items in order none comes after the next
 falls_between : (xs : List Atom) (k : ℕ) (d e : Atom) → k + 1 < length xs → IsTrue (is_rising atom_cmp xs)
@@ -225,7 +225,7 @@ falls_between (x ∷ y ∷ ys) zero d e l h = by (is_gt (atom_cmp x y))
 falls_between (x ∷ y ∷ ys) (suc k) d e l h =
     let n : suc k + 1 ≡ suc (k + 1) = omega arith in
     rw n (falls_between (y ∷ ys) k d e (omega arith) (is_true _
-        (second (none_below atom_cmp x (y ∷ ys)) _ (from_true _ h))))
+    (second (none_below atom_cmp x (y ∷ ys)) _ (from_true _ h))))
 
 pub none_falls : (xs : List Atom) (k i : ℕ) (x y : Atom) → k + 1 ≡ i → i < length xs → x ≡ get_or xs k x
     → y ≡ get_or xs i y → is_gt (atom_cmp x y) ≡ true → IsTrue (is_rising atom_cmp xs) → false ≡ true
@@ -252,7 +252,7 @@ pub passed_at : (xs ys ws whole : List Atom) (kept i n : ℕ) (x w : Atom) → i
     → IsAt xs ys (drop n ws) whole kept i → IsAt xs ys (drop (n + 1) ws) whole kept (i + 1)
 passed_at xs ys ws whole kept i n x w l m is_x is_w same h =
     passed xs ys (drop (n + 1) ws) whole kept i x w l is_x same
-        (subst (λ us. IsAt xs ys us whole kept i) (opened ws n w m is_w) h)
+    (subst (λ us. IsAt xs ys us whole kept i) (opened ws n w m is_w) h)
 
 pub other_at : (xs ys ws whole : List Atom) (kept i n : ℕ) (x w : Atom) → i < length xs → n < length ws
     → x ≡ get_or xs i x → w ≡ get_or ws n w → eq_by_cmp atom_cmp w x ≡ false
@@ -260,8 +260,8 @@ pub other_at : (xs ys ws whole : List Atom) (kept i n : ℕ) (x w : Atom) → i 
 other_at xs ys ws whole kept i n x w l m is_x is_w other h =
     let e = opened ws n w m is_w in
     subst (λ us. IsAt (swap xs kept i) ys us whole (kept + 1) (i + 1)) (sym e)
-        (moved_other xs ys (drop (n + 1) ws) whole kept i x w l is_x other
-        (subst (λ us. IsAt xs ys us whole kept i) e h))
+    (moved_other xs ys (drop (n + 1) ws) whole kept i x w l is_x other
+    (subst (λ us. IsAt xs ys us whole kept i) e h))
 
 pub rest_at : (xs ys ws whole : List Atom) (kept i n : ℕ) → i < length xs → length ws ≤ n
     → IsAt xs ys (drop n ws) whole kept i → IsAt (swap xs kept i) ys (drop n ws) whole (kept + 1) (i + 1)
@@ -270,14 +270,14 @@ rest_at xs ys ws whole kept i n l m h =
     let e : drop n ws ≡ [] = drop_all n ws m in
     subst (λ us. IsAt (swap xs kept i) ys us whole (kept + 1) (i + 1)) (sym e)
     (moved_last xs ys whole kept i (get_or xs i none) l (get_or_default xs i none (get_or xs i none) l)
-        (subst (λ us. IsAt xs ys us whole kept i) e h))
+    (subst (λ us. IsAt xs ys us whole kept i) e h))
 
 -- at the end only what is kept is left
 pub all_read : (xs ys ws whole : List Atom) (kept i : ℕ) → length ys ≤ i → IsAt xs ys ws whole kept i → take kept xs
     ≡ whole
 all_read xs ys ws whole kept i l h =
     sym (append-nil (take kept xs)) ∙ ap (λ zs. take kept xs ++ without_subsequence atom_cmp zs ws)
-        (sym (drop_all i ys l)) ∙ h.done
+    (sym (drop_all i ys l)) ∙ h.done
 
 pub taken_out : (xs ys zs : List Atom) (b : Bool) → OnTrue b
     ((q : Atom) → count_in atom_cmp q zs ≡ count_in atom_cmp q xs - count_in atom_cmp q ys)

@@ -25,7 +25,7 @@ numbered-append n (Variable x ∷ ts) us = by (nat_eq x (n + 1)) (nat_lt 0 x && 
     by : (a b : Bool) → numbered (n + 1) (ts ++ us) ≡ option_and_then (λ m. numbered m us) (numbered (n + 1) ts)
         → numbered n (ts ++ us) ≡ option_and_then (λ m. numbered m us) (numbered n ts)
         → cond a (numbered (n + 1) (ts ++ us)) (cond b (numbered n (ts ++ us)) None)
-            ≡ option_and_then (λ m. numbered m us) (cond a (numbered (n + 1) ts) (cond b (numbered n ts) None))
+        ≡ option_and_then (λ m. numbered m us) (cond a (numbered (n + 1) ts) (cond b (numbered n ts) None))
     by true b p q = p
     by false true p q = q
     by false false p q = refl

@@ -66,7 +66,7 @@ fits_with_weight : (ds : List Declaration) (i : ℕ) (w : Weight) (rs : List Rul
 fits_with_weight ds i w [] = refl
 fits_with_weight ds i w (r ∷ rs) =
     let a = declared_with_weight ds i w r.kept.items in let b = declared_with_weight ds i w r.removed.items in let c =
-        declared_with_weight ds i w r.body.items in let d = fits_with_weight ds i w rs in
+    declared_with_weight ds i w r.body.items in let d = fits_with_weight ds i w rs in
     λ j. (a j && b j && c j) && d j
 
 pub still_program : (ds cs : List Declaration) (rs : List Rule) (i : ℕ) (w : Weight) → cs ≡ with_weight ds i w

@@ -74,7 +74,7 @@ first_above n hs bs hash at res r l above between e =
 pub next_above : (n : ℕ) (hs : List ℕ) (bs : List Bool) (hash row at res r : ℕ) → get_or (live_hashes hs bs) row None
     ≡ Some hash
     → ((r : ℕ) → r < row → get_or (slots_of n hs) r 0 ≡ get_or (slots_of n hs) row 0 → get_or bs r false ≡ true
-        → r < at)
+    → r < at)
     → ((r : ℕ) → r < at → get_or (live_hashes hs bs) r None ≡ Some hash → r < res)
     → r < row → get_or (live_hashes hs bs) r None ≡ Some hash → r < res
 next_above n hs bs hash row at res r f below between l e =
@@ -86,19 +86,19 @@ next_above n hs bs hash row at res r f below between l e =
 pub here_above : (n : ℕ) (hs : List ℕ) (bs : List Bool) (hash row at res r : ℕ) → row < length hs → get_or hs row 0
     ≡ hash
     → ((r : ℕ) → r < row + 1 → get_or (slots_of n hs) r 0 ≡ get_or (slots_of n hs) row 0 → get_or bs r false ≡ true
-        → r < at)
+    → r < at)
     → ((r : ℕ) → r < at → get_or (live_hashes hs bs) r None ≡ Some hash → r < res)
     → r ≤ row → get_or (live_hashes hs bs) r None ≡ Some hash → r < res
 here_above n hs bs hash row at res r here is below between l e =
     let w = entry_of hs bs r hash e in
     between r (below r (omega (arith, l)) (slot_at n hs r w.0 ∙ ap (λ h. h % n) (w.2 ∙ sym is)
-        ∙ sym (slot_at n hs row here)) w.1) e
+    ∙ sym (slot_at n hs row here)) w.1) e
 
 -- the row that was looked at has another hash: none was passed
 pub passed : (n : ℕ) (hs : List ℕ) (bs : List Bool) (hash at to from r : ℕ) → 0 < at → at ≤ length hs
     → get_or (slots_of n hs) (at - 1) 0 ≡ hash % n → (get_or hs (at - 1) 0 ≡ hash → ⊥)
     → ((r : ℕ) → r < at - 1 → get_or (slots_of n hs) r 0 ≡ get_or (slots_of n hs) (at - 1) 0 → get_or bs r false ≡ true
-        → r < to)
+    → r < to)
     → ((r : ℕ) → r < from → get_or (live_hashes hs bs) r None ≡ Some hash → r < at)
     → r < from → get_or (live_hashes hs bs) r None ≡ Some hash → r < to
 passed n hs bs hash at to from r p within slot other below above l e =

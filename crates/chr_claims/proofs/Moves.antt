@@ -42,13 +42,22 @@ fair_set size word views k w others mine j u at =
 -- the word can go on by one
 word_below : (size : Size) (state : State ℕ Hand) (kept : IsKept size state) → kept.word ≤ size.parts + size.seats
 word_below size state kept =
-    omega (arith, kept.bound, kept.shares, total_le (λ (v : Hand). v.over) (λ (v : Hand). v.shares) state.views
-        (λ k v at. (kept.each k v at).over))
+    omega (
+      arith,
+      kept.bound,
+      kept.shares,
+      total_le (λ (v : Hand). v.over) (λ (v : Hand). v.shares) state.views
+          (λ k v at. (kept.each k v at).over),
+    )
 
 draws_next : (size : Size) (state : State ℕ Hand) (kept : IsKept size state) (id : ℕ) (v : Hand)
     → get_elem? state.views id ≡ some v → 0 < v.shares → v.over < v.shares
-    → IsKept size record { words = (kept.word + 1) % 2 ^ 64 ∷ []; homes = state.homes; views =
-    set state.views id (drawing v kept.word) }
+    → IsKept size record {
+      words = (kept.word + 1) % 2 ^ 64 ∷ [];
+      homes = state.homes;
+      views =
+          set state.views id (drawing v kept.word);
+    }
 draws_next size state kept id v at some_share room =
     let below = word_below size state kept in
     let fair = kept.each id v at in
@@ -57,18 +66,23 @@ draws_next size state kept id v at some_share room =
     let over : w.over ≤ v.over + 1 = grind (arith, nat_tests) in
     let past : 0 < w.over → size.parts < kept.word + 1 = λ h. grind (arith, nat_tests, fair.past) in
     let bound : kept.word + v.over + 1 ≤ size.parts + sum_by (λ (u : Hand). u.over) state.views + w.over = let b =
-        kept.bound in grind (arith, nat_tests) in
+    kept.bound in grind (arith, nat_tests) in
     record {
       word = kept.word + 1;
       words = ap (λ (n : ℕ). n ∷ []) (grind (arith, kept.room));
       room = kept.room;
       shares = omega (arith, kept.shares, total_set (λ (u : Hand). u.shares) state.views id v w at);
-      once = λ x. omega (arith, kept.once x, once_more x kept.word, times_push x v.drawn kept.word,
-          total_set (λ (u : Hand). times x u.drawn) state.views id v w at);
+      once = λ x. omega (
+        arith,
+        kept.once x,
+        once_more x kept.word,
+        times_push x v.drawn kept.word,
+        total_set (λ (u : Hand). times x u.drawn) state.views id v w at,
+      );
       bound = omega (arith, bound, total_set (λ (u : Hand). u.over) state.views id v w at);
       each = fair_set size (kept.word + 1) state.views id w
           (λ j u apart there. let f = kept.each j u there in
-              record { limit = f.limit; over = f.over; past = (λ h. let p = f.past h in omega arith); idle = f.idle })
+          record { limit = f.limit; over = f.over; past = (λ h. let p = f.past h in omega arith); idle = f.idle })
           record { limit = fair.limit; over = omega arith; past = past; idle = (λ h. absurd (omega arith)) };
     }
 
@@ -77,9 +91,9 @@ pub draws : (size : Size) (slots id : ℕ) (v : Hand) → 0 < v.shares → v.ove
     → Allows (IsKept size) slots id (v, []) 0 (λ n. (n + 1) % 2 ^ 64) (Draws (step slots 0 1 0 none) (v, []))
 draws size slots id v some_share room state kept long at fits =
     let P : List ℕ → Type 0 = λ words. (w : Hand) × (a : Act ℕ) × Valid state.homes []
-        a × IsKept size (stepped record { words = words; homes = state.homes; views = state.views } 0
-        ((slice_index words 0 + 1) % 2 ^ 64) id [] w a) × Draws (step slots 0 1 0 none) (v, []) (slice_index words 0)
-        (w, carried_after [] a) in
+    a × IsKept size (stepped record { words = words; homes = state.homes; views = state.views } 0
+    ((slice_index words 0 + 1) % 2 ^ 64) id [] w a) × Draws (step slots 0 1 0 none) (v, []) (slice_index words 0)
+    (w, carried_after [] a) in
     subst P (sym kept.words) (drawing v kept.word, keeps, tt, draws_next size state kept id v at some_share room, refl)
 
 -- the step of `open`: a share goes to a new seat
@@ -91,7 +105,7 @@ deals size id v shares over drawn state kept at =
     let one = newcomer v in
     let views = set state.views id (dealt v) in
     let more : (f : Hand → ℕ) → sum_by f (views ++ one ∷ []) + f v ≡ sum_by f state.views + f (dealt v) + f one =
-        λ f. omega (arith, sum_by_push f views one, total_set f state.views id v (dealt v) at) in
+    λ f. omega (arith, sum_by_push f views one, total_set f state.views id v (dealt v) at) in
     record {
       word = kept.word;
       words = kept.words;
@@ -103,9 +117,13 @@ deals size id v shares over drawn state kept at =
           (λ (was : get_elem? views j ≡ some u).
           fair_set size kept.word state.views id (dealt v) (λ i t _ e. kept.each i t e)
           record { limit = (λ _. limit); over = omega arith; past = (λ h. absurd (omega arith)); idle = (λ _. drawn) } j
-              u was)
-          (λ (same : one ≡ u). subst (IsFair size kept.word) same record { limit = (λ _. limit); over = omega arith;
-              past = (λ h. absurd (omega arith)); idle = (λ _. refl) })
+          u was)
+          (λ (same : one ≡ u). subst (IsFair size kept.word) same record {
+            limit = (λ _. limit);
+            over = omega arith;
+            past = (λ h. absurd (omega arith));
+            idle = (λ _. refl);
+          })
           (at_snoc views one u j there);
     }
 
@@ -120,8 +138,8 @@ gathers size id v other u some_share state kept at apart there =
     let first = set state.views id both in
     let past_either : (0 < v.over) ⊎ (0 < u.over) → size.parts < kept.word = ⊎_elim mine.past theirs.past in
     let total : (f : Hand → ℕ) → sum_by f (set first other nobody) + f v + f u
-        ≡ sum_by f state.views + f both + f nobody = λ f. omega
-        (arith, total_set f state.views id v both at, total_set f first other u nobody there) in
+    ≡ sum_by f state.views + f both + f nobody = λ f. omega
+    (arith, total_set f state.views id v both at, total_set f first other u nobody there) in
     record {
       word = kept.word;
       words = kept.words;
@@ -137,8 +155,13 @@ gathers size id v other u some_share state kept at apart there =
             past = (λ h. past_either (some_over v.over u.over h));
             idle = (λ h. absurd (omega arith));
           } j t e)
-          record { limit = (λ h. absurd (omega arith)); over = omega arith; past = (λ h. absurd (omega arith)); idle =
-              (λ _. refl) };
+          record {
+            limit = (λ h. absurd (omega arith));
+            over = omega arith;
+            past = (λ h. absurd (omega arith));
+            idle =
+                (λ _. refl);
+          };
     }
 
 -- who has every share knows every number
@@ -146,7 +169,7 @@ pub knows : (size : Size) (state : State ℕ Hand) (id : ℕ) (v : Hand) (kept :
     → get_elem? state.views id ≡ some v → v.shares ≡ size.seats → (x : ℕ) → times x v.drawn ≡ once_below x kept.word
 knows size state id v kept at whole x =
     sym (total_one (λ (u : Hand). u.shares) (λ (u : Hand). times x u.drawn) state.views id v at
-        (kept.shares ∙ sym whole) (λ j u there none. ap (times x) ((kept.each j u there).idle none))) ∙ kept.once x
+    (kept.shares ∙ sym whole) (λ j u there none. ap (times x) ((kept.each j u there).idle none))) ∙ kept.once x
 
 -- the steps, at a seat that is known by its parts
 pub draws_as : (size : Size) (slots id : ℕ) (me : Me ℕ Hand) → me.1 ≡ [] → 0 < me.0.shares → me.0.over < me.0.shares
@@ -169,8 +192,12 @@ begins size parts seats = record {
 }
   where
     one : (k : ℕ) (v : Hand) → get_elem? (first_hand size ∷ []) k ≡ some v → IsFair size 0 v
-    one zero v at = subst (IsFair size 0) (some-injective _ _ at) record { limit = (λ _. refl); over = omega arith;
-        past = (λ h. absurd (omega arith)); idle = (λ _. refl) }
+    one zero v at = subst (IsFair size 0) (some-injective _ _ at) record {
+      limit = (λ _. refl);
+      over = omega arith;
+      past = (λ h. absurd (omega arith));
+      idle = (λ _. refl);
+    }
     one (suc k) v at = absurd (some-ne-none v (sym at))
 
 -- what the word and the list of all numbers are at the end

@@ -18,7 +18,7 @@ pub made_columns : (ts : List Contents) (keys : List Keys) → map (λ (c : Cont
     → index_columns ts ≡ columns_in keys
 made_columns ts keys e j t i = (
     ap (λ ks. slice_get ks i) (sym (get_or-map (λ (c : Contents). c.keys) ts t no_table) ∙ ap (λ ks. get_or ks t []) e))
-        j
+    j
 
 pub none_stored : (ts : List Contents) → ((t n : ℕ) → rows_of ts t n ≡ None) → contents (grid ts) ≡ empty
 none_stored ts none = same_contents (grid ts) [] (λ j t n. (row_is ts t n ∙ none t n) j)
@@ -27,7 +27,7 @@ none_stored ts none = same_contents (grid ts) [] (λ j t n. (row_is ts t n ∙ n
 pub set_up_empty : (rules : List Rule) (gs : List Group) (ts : List Contents) (keys : List Keys) → length keys
     ≡ length gs + 1 → length gs < 2 ^ 31 → ((t n : ℕ) → rows_of ts t n ≡ None)
     → map (λ (c : Contents). c.keys) ts ≡ map lists_of keys → ArePlanned rules gs (columns_in keys)
-        → AreCovered rules gs (length rules)
+    → AreCovered rules gs (length rules)
     → IsSetUp rules gs (rows_of ts) (index_columns ts) (length ts)
 set_up_empty rules gs ts keys many few none e are covered = record {
   tables = (let a = length-map ts (λ (c : Contents). c.keys) in let b = length-map keys lists_of in let c =

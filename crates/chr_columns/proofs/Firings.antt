@@ -70,7 +70,7 @@ picked_out xs i d l = same_store _ _ (λ q. (
 module _ (r : Rule) (g : Grid) (p : ℕ) (heads : List Atom) (seats ss : List Seat) (place : p < length (heads_of r))
     (many : length ss ≡ length (heads_of r))
     (same : (q : ℕ) → q < length (heads_of r) → seat ss q ≡ seat seats q)
-        (is : IsSeated r (rows_in g) p heads seats) where
+    (is : IsSeated r (rows_in g) p heads seats) where
   heads_many : length heads ≡ length (heads_of r)
   heads_many = let v = is.instance in sym (ap length v.1) ∙ length-map (heads_of r) (atom_at v.0)
 
@@ -177,10 +177,10 @@ module _ (rules : List Rule) (i : ℕ) (r : Rule) (v : Valuation) (s : Store) (p
       ap (λ xs. drop (length r.kept.items - 1) (remove xs p)) heads_are
       ∙ ap (drop (length r.kept.items - 1)) (remove-append_left K R p lk)
       ∙ ap (λ k. drop k (remove K p ++ R)) (let f : length r.kept.items - 1 ≡ length (remove K p) =
-          omega (arith, m, n) in f)
+      omega (arith, m, n) in f)
       ∙ drop-append_seam (remove K p) R in
       let here : get_or K p no_atom ≡ a = sym (get_or_append_left K R no_atom p lk)
-          ∙ sym (ap (λ xs. get_or xs p no_atom) heads_are) ∙ active in
+      ∙ sym (ap (λ xs. get_or xs p no_atom) heads_are) ∙ active in
       let some : 0 < count (store_of K) a = subst (λ x. 0 < count (store_of K) x) here (picked_in K p no_atom lk) in
       subst (λ xs. Step rules (s ⊕ one a) ((s ⊖ store_of xs) ⊕ (store_of (atoms_at v r.body.items) ⊕ one a))) (sym e)
       (kept_reacts rules i r v s a at guard (some, fits)).step
@@ -200,26 +200,27 @@ module _ (rules : List Rule) (i : ℕ) (r : Rule) (v : Valuation) (s : Store) (p
       ∙ ap (λ k. drop k (K ++ remove R (p - length K))) (sym m)
       ∙ drop-append_seam K (remove R (p - length K)) in
       let here : get_or R (p - length K) no_atom ≡ a = sym (get_or-append_right K R (length K) p no_atom refl lk)
-          ∙ sym (ap (λ xs. get_or xs p no_atom) heads_are) ∙ active in
+      ∙ sym (ap (λ xs. get_or xs p no_atom) heads_are) ∙ active in
       let some : 0 < count (store_of R) a = subst (λ x. 0 < count (store_of R) x) here
-          (picked_in R (p - length K) no_atom lr) in
+      (picked_in R (p - length K) no_atom lr) in
       let out : store_of (remove R (p - length K)) ≡ store_of R ⊖ one a = picked_out R (p - length K) no_atom lr
-          ∙ ap (λ x. store_of R ⊖ one x) here in
+      ∙ ap (λ x. store_of R ⊖ one x) here in
       subst (λ x. Step rules (s ⊕ one a) ((s ⊖ x) ⊕ store_of (atoms_at v r.body.items))) (sym (ap store_of e ∙ out))
       (removed_reacts rules i r v s a at guard (some, fits)).step
 
   pub fire_step : Step rules (s ⊕ one a) ((s ⊖ store_of (leaving r p (heads_at v r))) ⊕ coming r p v)
   fire_step = elim (cases_lt p (length r.kept.items)) as (λ _. Step rules (s ⊕ one a)
       ((s ⊖ store_of (leaving r p (heads_at v r))) ⊕ coming r p v)) [
-    | inl less ↦ (let t : nat_lt p (length r.kept.items) ≡ true = grind (arith, nat_tests) in rw t (kept_step less))
-    | inr most ↦ (let t : nat_lt p (length r.kept.items) ≡ false = grind (arith, nat_tests) in rw t (removed_step most))
-  ]
+        | inl less ↦ (let t : nat_lt p (length r.kept.items) ≡ true = grind (arith, nat_tests) in rw t (kept_step less))
+        | inr most ↦ (let t : nat_lt p (length r.kept.items) ≡ false = grind (arith, nat_tests) in
+            rw t (removed_step most))
+      ]
 
 -- a pool is at rest without rows
 pub left_over : (rules : List Rule) (groups : List Group) (ts us : List Contents) (xs : List Atom) (ss : List Seat)
     → grid us ≡ without_rows (grid ts) ss → index_columns us ≡ index_columns ts
     → IsSetUp rules groups (rows_of ts) (index_columns ts) (length ts) → IsSetUp rules groups (rows_of us)
-        (index_columns us) (length us)
+    (index_columns us) (length us)
 left_over rules groups ts us xs ss e f up = record {
   tables = (let n = as_many_left ts us ss e in omega (arith, n, up.tables));
   few = up.few;
@@ -235,8 +236,8 @@ pub part_left : (rules : List Rule) (ts us : List Contents) (xs : List Atom) (ss
 part_left rules ts us xs ss e sit rest =
     let w = rows_leave (grid ts) xs ss sit in
     part_rests rules (contents (grid ts)) (contents (grid us))
-        (λ q. (let a = ap (λ g. count (contents g) q) e in let b = ap (λ x. count x q) w.1 in let d =
-        count_minus (contents (grid ts)) (store_of xs) q in omega (arith, a, b, d))) rest
+    (λ q. (let a = ap (λ g. count (contents g) q) e in let b = ap (λ x. count x q) w.1 in let d =
+    count_minus (contents (grid ts)) (store_of xs) q in omega (arith, a, b, d))) rest
 
 -- with what is fresh beside it
 pub fire_beside : (rules : List Rule) (s left fresh out more : Store) (a : Atom) → Step rules (s ⊕ one a) (left ⊕ out)
@@ -244,9 +245,9 @@ pub fire_beside : (rules : List Rule) (s left fresh out more : Store) (a : Atom)
 fire_beside rules s left fresh out more a step e =
     let before : (s ⊕ one a) ⊕ fresh ≡ (s ⊕ fresh) ⊕ one a = same_store _ _ (λ q. simp count_plus (omega arith)) in
     let after : (left ⊕ out) ⊕ fresh ≡ left ⊕ more = same_store _ _ (λ q. simp count_plus (omega arith))
-        ∙ ap (λ x. left ⊕ x) (sym e) in
+    ∙ ap (λ x. left ⊕ x) (sym e) in
     subst (λ x. Step rules x (left ⊕ more)) before (subst (λ x. Step rules ((s ⊕ one a) ⊕ fresh) x) after
-        (grows rules _ _ fresh step))
+    (grows rules _ _ fresh step))
 
 -- what becomes fresh
 module _ (r : Rule) (p : ℕ) (v : Valuation) (heads F B : List Atom) (place : p < length (heads_of r))
@@ -259,9 +260,9 @@ module _ (r : Rule) (p : ℕ) (v : Valuation) (heads F B : List Atom) (place : p
       let m = length-map (heads_of r) (atom_at v) in
       let is : x ≡ atom_at v (pattern_at r p) =
       here ∙ get_or_default heads p x no_atom (omega (arith, n, m, place)) ∙ ap (λ xs. get_or xs p no_atom) (sym e)
-          ∙ get_or-map (atom_at v) (heads_of r) p no_pattern in
+      ∙ get_or-map (atom_at v) (heads_of r) p no_pattern in
       rw t (store_of-append (F ++ B) (x ∷ []) ∙ ap (λ s. s ⊕ one x) (store_of-append F B)
-          ∙ plus_assoc (store_of F) (store_of B) (one x)
+      ∙ plus_assoc (store_of F) (store_of B) (one x)
       ∙ (λ i. store_of F ⊕ (store_of (body i) ⊕ one (is i))))
 
   pub come_removed : length r.kept.items ≤ p → store_of (F ++ B) ≡ store_of F ⊕ coming r p v
@@ -278,12 +279,12 @@ pub sit_there : (ts : List Contents) (xs : List Atom) (ss : List Seat) → SitIn
     → IsTrue (is_some (atom_in (rows_of ts) (seat ss q)))
 sit_there ts xs ss sit q l =
     ap is_some (sym (row_is ts (seat ss q).table (seat ss q).row)
-        ∙ sit.there q (let m = sit.as_many in omega (arith, l, m)))
+    ∙ sit.there q (let m = sit.as_many in omega (arith, l, m)))
 
 module _ (rules : List Rule) (i : ℕ) (r : Rule) (p : ℕ) (heads : List Atom) (seats rows ss : List Seat)
     (ts : List Contents) (at : slice_get rules i ≡ Some r) (place : p < length (heads_of r))
     (is : IsSeated r (rows_of ts) p heads seats) (sits : (g : Grid) (hs : List Atom) → IsSeated r (rows_in g) p hs seats
-        → SitIn g (remove hs p) rows) (back : ss ≡ drop (kept_others r p) rows) where
+    → SitIn g (remove hs p) rows) (back : ss ≡ drop (kept_others r p) rows) where
   pub sit_all : SitIn (grid ts) (remove heads p) rows
   sit_all = sits (grid ts) heads (subst (λ f. IsSeated r f p heads seats) (sym (rows_are ts)) is)
 
@@ -298,19 +299,19 @@ module _ (rules : List Rule) (i : ℕ) (r : Rule) (p : ℕ) (heads : List Atom) 
       let v = is.instance in
       let s = contents (grid ts) in
       let left : contents (grid us) ≡ s ⊖ store_of (leaving r p heads) =
-          ap contents e ∙ (rows_leave (grid ts) (leaving r p heads) ss sit_left).1 in
+      ap contents e ∙ (rows_leave (grid ts) (leaving r p heads) ss sit_left).1 in
       let within : IsWithin (store_of (remove (heads_at v.0 r) p)) s =
-          subst (λ hs. IsWithin (store_of (remove hs p)) s) (sym v.1)
-          (rows_leave (grid ts) (remove heads p) rows sit_all).0 in
+      subst (λ hs. IsWithin (store_of (remove hs p)) s) (sym v.1)
+      (rows_leave (grid ts) (remove heads p) rows sit_all).0 in
       let step = fire_step rules i r v.0 s p at v.2 place within in
       let a : atom_at v.0 (pattern_at r p) ≡ head heads p = sym (get_or-map (atom_at v.0) (heads_of r) p no_pattern)
-          ∙ ap (λ hs. head hs p) v.1 in
+      ∙ ap (λ hs. head hs p) v.1 in
       let same : Step rules (s ⊕ one (head heads p)) (contents (grid us) ⊕ coming r p v.0) =
       subst (λ x. Step rules (s ⊕ one x) (contents (grid us) ⊕ coming r p v.0)) a
       (subst (λ x. Step rules (s ⊕ one (atom_at v.0 (pattern_at r p))) (x ⊕ coming r p v.0))
-          (ap (λ hs. s ⊖ store_of (leaving r p hs)) v.1 ∙ sym left) step) in
+      (ap (λ hs. s ⊖ store_of (leaving r p hs)) v.1 ∙ sym left) step) in
       fire_beside rules s (contents (grid us)) (store_of F) (coming r p v.0) (store_of M) (head heads p) same
-          (come v.0 v.1)
+      (come v.0 v.1)
 
 -- an atom that was the last of the fresh ones
 pub popped : (s : Store) (xs ys : List Atom) (a : Atom) → xs ≡ ys ++ a ∷ [] → (s ⊕ store_of ys) ⊕ one a

@@ -42,7 +42,7 @@ pub group_here : (gs : List Group) (g : Group) (p : Pattern) → g.symbol ≡ p.
 group_here gs g p e f =
     table_here gs g p.symbol (length p.args.items)
     (let a = eq-eqb g.symbol.0 p.symbol.0 (ap (λ (s : SymbolId). s.0) e) in let b =
-        eq-eqb g.arity (length p.args.items) f in rw (a, b) refl)
+    eq-eqb g.arity (length p.args.items) f in rw (a, b) refl)
 
 -- a group without plans is added
 pub no_plans_more : (gs : List Group) (g : Group) → g.plans.items ≡ [] → HaveNoPlans gs → HaveNoPlans (gs ++ g ∷ [])

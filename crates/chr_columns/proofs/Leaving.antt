@@ -32,7 +32,7 @@ seat_to ss (suc n) q l =
       | inl less ↦ get_or_append_left (seats_to ss n) x no_seat q (omega (arith, less, m)) ∙ seat_to ss n q less
       | inr most ↦ subst (λ k. seat (seats_to ss n ++ x) k ≡ seat ss k) (let e : n ≡ q = omega (arith, l, most) in e)
           (get_or-append_right (seats_to ss n) x n n no_seat m (omega arith)
-              ∙ ap (λ k. get_or x k no_seat) (let e : n - n ≡ 0 = omega arith in e))
+          ∙ ap (λ k. get_or x k no_seat) (let e : n - n ≡ 0 = omega arith in e))
     ]
 
 -- all others of an instance sit in different rows
@@ -41,7 +41,7 @@ pub sit_to : (r : Rule) (p : ℕ) (seats : List Seat) → p < length (heads_of r
     → SitIn g (remove heads p) (remove (seats_to seats (length (heads_of r))) p)
 sit_to r p seats place g heads is =
     sit_removed r g p heads seats (seats_to seats (length (heads_of r))) place
-        (length-seats_to seats (length (heads_of r))) (seat_to seats (length (heads_of r))) is
+    (length-seats_to seats (length (heads_of r))) (seat_to seats (length (heads_of r))) is
 
 -- nothing is taken out past the end
 remove_past : (xs : List Seat) (p : ℕ) → length xs ≤ p → remove xs p ≡ xs
@@ -57,9 +57,9 @@ kept_most r p q l = elim (cases_lt p (length r.kept.items)) as (λ _. kept_other
 kept_below : (r : Rule) (p q : ℕ) → length r.kept.items ≤ q → p < q → kept_others r p + 1 ≤ q
 kept_below r p q l b = elim (cases_lt p (length r.kept.items)) as (λ _. kept_others r p + 1 ≤ q) [
   | inl less ↦ (let t : nat_lt p (length r.kept.items) ≡ true = grind (arith, nat_tests) in
-        rw t (omega (arith, l, less)))
+      rw t (omega (arith, l, less)))
   | inr most ↦ (let t : nat_lt p (length r.kept.items) ≡ false = grind (arith, nat_tests) in
-        rw t (omega (arith, most, b)))
+      rw t (omega (arith, most, b)))
 ]
 
 module _ (r : Rule) (p : ℕ) (ss : List Seat) where
@@ -90,7 +90,7 @@ module _ (r : Rule) (p : ℕ) (ss : List Seat) where
         | inl less ↦ (let n = length-remove (seats_to ss q) p (omega (arith, less, m)) in
             let b = kept_below r p q l less in
             sym (ap (drop f) (remove-append_left (seats_to ss q) x p (omega (arith, less, m)))
-                ∙ drop-append-le f (remove (seats_to ss q) p) x (omega (arith, n, m, b))))
+            ∙ drop-append-le f (remove (seats_to ss q) p) x (omega (arith, n, m, b))))
         | inr most ↦ (let s : q < p = elim (cases_lt q p) as (λ _. q < p) [
           | inl below ↦ below
           | inr above ↦ absurd (other (omega (arith, most, above)))
@@ -120,5 +120,5 @@ module _ (r : Rule) (p : ℕ) (ss : List Seat) where
       elim (cases_lt p q) as (λ _. length (Left q) ≤ q) [
         | inl less ↦ (let n = length-remove (seats_to ss q) p (omega (arith, less, m)) in omega (arith, n, m, d))
         | inr most ↦ (let n = ap length (remove_past (seats_to ss q) p (omega (arith, most, m))) in
-              omega (arith, n, m, d))
+            omega (arith, n, m, d))
       ]

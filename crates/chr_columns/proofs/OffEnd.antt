@@ -18,7 +18,7 @@ one_more xs ys start i x y whole l at_x at_y same before =
     let e : x ≡ y = same_is x y same in
     let next : start + (i + 1) ≡ start + i + 1 = omega (arith) in
     ap (λ n. take n xs) next ∙ take_more xs (start + i) x (omega (arith, whole, l))
-        ∙ ap (λ z. take (start + i) xs ++ z ∷ []) (sym at_x ∙ e)
+    ∙ ap (λ z. take (start + i) xs ++ z ∷ []) (sym at_x ∙ e)
     ∙ ap (λ zs. zs ++ y ∷ []) before ∙ append_assoc (take start xs) (take i ys) (y ∷ [])
     ∙ ap (λ zs. take start xs ++ zs) (ap (λ z. take i ys ++ z ∷ []) at_y ∙ sym (take_more ys i y l))
 

@@ -63,19 +63,19 @@ pub first_passed : (known : Option Known) (ts : List Contents) (fresh : List Ato
 first_passed known [] fresh t from to e is l pass = absurd (omega (arith, e))
 first_passed known (x ∷ ts) fresh t from to e is l pass =
     subst (λ (y : Contents). Pass known (y.rows ++ rows_in_turn ts fresh) from to) is
-        (pass_here known t.rows (rows_in_turn ts fresh) from to l pass)
+    (pass_here known t.rows (rows_in_turn ts fresh) from to l pass)
 
 pub others_passed : (known : Option Known) (ts : List Contents) (fresh : List Atom) (t : Contents) (from to : ℕ)
     → 1 ≤ length ts → t ≡ get_or ts 0 t
     → length t.rows ≤ from → Pass known (rows_in_turn (take (length ts - 1) (drop 1 ts)) fresh)
-        (from - length t.rows) to
+    (from - length t.rows) to
     → Pass known (rows_in_turn ts fresh) from (length t.rows + to)
 others_passed known [] fresh t from to e is l pass = absurd (omega (arith, e))
 others_passed known (x ∷ ts) fresh t from to e is l pass =
     let all : take (length (x ∷ ts) - 1) ts ≡ ts = take_all (length (x ∷ ts) - 1) ts (omega arith) in
     subst (λ (y : Contents). Pass known (y.rows ++ rows_in_turn ts fresh) from (length t.rows + to)) is
     (pass_there known t.rows (rows_in_turn ts fresh) from to l
-        (subst (λ us. Pass known (rows_in_turn us fresh) (from - length t.rows) to) all pass))
+    (subst (λ us. Pass known (rows_in_turn us fresh) (from - length t.rows) to) all pass))
 
 -- an atom without the argument is the first head of no instance
 pub missed : (r : Rule) (rows : Tables) (known : Option Known) (a : Atom) → IsKnownConstant (pattern_at r 0) known
@@ -86,13 +86,13 @@ missed r rows (Some k) a is misses = λ heads seats s e.
     let at : heads_at v r ≡ heads = s.instance.1 in
     let shape = shape_known r v 0 heads at in
     let same : length (pattern_at r 0).args.items ≡ length (head heads 0).args.items =
-        eqb-true (length (pattern_at r 0).args.items) (length (head heads 0).args.items) (and_parts _ _ shape).1 in
+    eqb-true (length (pattern_at r 0).args.items) (length (head heads 0).args.items) (and_parts _ _ shape).1 in
     let l : k.column < length (pattern_at r 0).args.items =
-        slice_get_within (pattern_at r 0).args.items k.column _ is in
+    slice_get_within (pattern_at r 0).args.items k.column _ is in
     let term : term_at r 0 k.column ≡ Constant k.value = get_or_from_slice_get (pattern_at r 0).args.items k.column
-        (Constant k.value) no_term is in
+    (Constant k.value) no_term is in
     let value : argument (head heads 0) k.column ≡ k.value = argument_value r v heads 0 k.column at
-        ∙ ap (term_value v) term in
+    ∙ ap (term_value v) term in
     let here : slice_get (head heads 0).args.items k.column ≡ Some k.value =
     slice_get-get_or (head heads 0).args.items k.column (pos 0) (omega (arith, l, same)) ∙ ap Some value in
     misses (ap (λ (b : Atom). slice_get b.args.items k.column) (sym e) ∙ here))

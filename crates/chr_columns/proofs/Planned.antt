@@ -31,7 +31,7 @@ pub same_table : (gs hs : List Group) (p : Pattern) → shapes_of gs ≡ shapes_
     ≡ table_of_pattern hs p
 same_table gs hs p e =
     table_place gs p.symbol (length p.args.items) ∙ ap (λ xs. place_of xs p.symbol (length p.args.items)) e
-        ∙ sym (table_place hs p.symbol (length p.args.items))
+    ∙ sym (table_place hs p.symbol (length p.args.items))
 
 pub same_many : (gs hs : List Group) → shapes_of gs ≡ shapes_of hs → length gs ≡ length hs
 same_many gs hs e =
@@ -104,23 +104,30 @@ module _ (gs : List Group) (t : ℕ) (d k : Group) (plan : Plan) (within : t < l
   }
 
   pub plan_there : HasPlan (set gs t k) t plan.rule plan.place
-  plan_there = (k, length g.plans.items, plan, slice_set_same gs t k within,
-      ap (λ xs. slice_get xs (length g.plans.items)) plans ∙ slice_last g.plans.items plan, refl, refl)
+  plan_there = (
+    k,
+    length g.plans.items,
+    plan,
+    slice_set_same gs t k within,
+    ap (λ xs. slice_get xs (length g.plans.items)) plans ∙ slice_last g.plans.items plan,
+    refl,
+    refl,
+  )
 
   pub planned_more : (rules : List Rule) (before after : Columns) → Grows before after → IsPlanned rules gs after plan
       → ArePlanned rules gs before → ArePlanned rules (set gs t k) after
   planned_more rules before after grows new are u h j p e f = planned_same rules gs (set gs t k) after p shapes
       (elim (cases_eq u t) as (λ _. IsPlanned rules gs after p) [
         | inl same ↦ (let is : k ≡ h = same_Some k h (sym (slice_set_same gs t k within)
-              ∙ ap (slice_get (set gs t k)) (sym same) ∙ e) in
+            ∙ ap (slice_get (set gs t k)) (sym same) ∙ e) in
             let at : slice_get (g.plans.items ++ plan ∷ []) j ≡ Some p = ap (λ xs. slice_get xs j) (sym plans)
-                ∙ ap (λ (x : Group). slice_get x.plans.items j) is ∙ f in
+            ∙ ap (λ (x : Group). slice_get x.plans.items j) is ∙ f in
             elim (slice_more g.plans.items plan p j at) as (λ _. IsPlanned rules gs after p) [
               | inl old ↦ planned_grown rules gs before after p grows (are t g j p at_t old)
               | inr one ↦ subst (IsPlanned rules gs after) one new
             ])
         | inr other ↦ planned_grown rules gs before after p grows
-              (are u h j p (sym (slice_set_other gs t u k other) ∙ e) f)
+            (are u h j p (sym (slice_set_other gs t u k other) ∙ e) f)
       ])
 
 -- what has plans keeps them
@@ -134,7 +141,7 @@ pub have_more : (gs : List Group) (i : ℕ) (r : Rule) (n : ℕ) → HavePlans g
 have_more gs i r n has new p l k = elim (cases_lt n p) as (λ _. HasPlan gs (table_of_pattern gs (pattern_at r p)) i p) [
   | inl less ↦ has p (omega (arith, less)) k
   | inr most ↦ subst (λ q. HasPlan gs (table_of_pattern gs (pattern_at r q)) i q)
-        (let e : n ≡ p = omega (arith, l, most) in e) new
+      (let e : n ≡ p = omega (arith, l, most) in e) new
 ]
 
 pub covered_more : (rules : List Rule) (gs hs : List Group) (i : ℕ) (r : Rule) → KeepPlans gs hs → i < length rules
@@ -144,6 +151,6 @@ covered_more rules gs hs i r keep within here are new k x l e = elim (cases_lt k
   | inl less ↦ have_kept gs hs k x 0 keep (are k x less e)
   | inr most ↦ (let n : i ≡ k = omega (arith, l, most) in
       let same : r ≡ x = same_Some r x (sym (slice_get_read rules (length rules) i r refl within here)
-          ∙ ap (slice_get rules) n ∙ e) in
+      ∙ ap (slice_get rules) n ∙ e) in
       subst (λ j. HavePlans hs j x 0) n (subst (λ (y : Rule). HavePlans hs i y 0) same new))
 ]

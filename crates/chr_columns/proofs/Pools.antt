@@ -45,9 +45,9 @@ pub all_fresh : (s : Store) (ts : List Contents) (xs ys : List Atom) → s ≡ e
     → s ⊕ store_of ys ≡ contents (grid ts) ⊕ store_of xs
 all_fresh s ts xs ys none e =
     let came : store_of ys ≡ store_of xs ⊕ contents (grid ts) = ap store_of e ∙ store_of-append xs (live_in ts)
-        ∙ ap (λ t. store_of xs ⊕ t) (store_live ts) in
+    ∙ ap (λ t. store_of xs ⊕ t) (store_live ts) in
     (λ i. none i ⊕ came i) ∙ plus_comm empty (store_of xs ⊕ contents (grid ts))
-        ∙ plus_empty (store_of xs ⊕ contents (grid ts)) ∙ plus_comm (store_of xs) (contents (grid ts))
+    ∙ plus_empty (store_of xs ⊕ contents (grid ts)) ∙ plus_comm (store_of xs) (contents (grid ts))
 
 -- nothing is fresh, and what is at rest is so under rules that say the same
 pub all_rest : (own rules : List Rule) (rested before : Store) (xs : List Atom) → map parts_of own ≡ map parts_of rules
@@ -55,7 +55,7 @@ pub all_rest : (own rules : List Rule) (rested before : Store) (xs : List Atom) 
     → rested ⊕ store_of xs ≡ before → IsAtRest (Step rules) before
 all_rest own rules rested before xs e rest none same =
     let all : rested ≡ before = sym (plus_empty rested) ∙ ap (λ t. rested ⊕ t) (sym no_store)
-        ∙ ap (λ l. rested ⊕ store_of l) (sym none) ∙ same in
+    ∙ ap (λ l. rested ⊕ store_of l) (sym none) ∙ same in
     subst (λ s. IsAtRest (Step rules) s) all (same_rest own rules rested e rest)
 
 -- what leaves may leave after something else came in
@@ -80,9 +80,16 @@ module _ (r : Rule) (heads gone body : List Atom) (s t u : Store) (h : HasInstan
   fired_out made left =
       let v = h.0 in
       let removed : gone ≡ atoms_at v r.removed.items = is ∙ removed_heads r heads v h.1 in
-      let after = left ∙ ap (λ x. x ⊖ store_of gone) came ∙ leaves_later s (store_of gone) (store_of body) within in
-      (v, h.1, record { guard = h.2; there = rw h.1 w; after =
-          after ∙ (λ i. (s ⊖ store_of (removed i)) ⊕ store_of (made v h.1 i)) })
+      let after = left ∙ ap (λ x. x ⊖ store_of gone) came ∙ leaves_later s (store_of gone) (store_of body) within in (
+        v,
+        h.1,
+        record {
+          guard = h.2;
+          there = rw h.1 w;
+          after =
+              after ∙ (λ i. (s ⊖ store_of (removed i)) ⊕ store_of (made v h.1 i));
+        },
+      )
 
   pub fired_in : (b : Bool) → ((v : Valuation) → heads_at v r ≡ heads → body ≡ atoms_at v r.body.items)
       → IsTrue b ↔ IsWithin (store_of gone) t → OnTrue b (u ≡ t ⊖ store_of gone)

@@ -31,7 +31,7 @@ module _ (ts : List Contents) (t : ℕ) (x y : Contents) (a : Atom) (within : t 
   grid_put =
       grid_set ts t y
       ∙ ap (set (grid ts) t) (rows ∙ ap (λ (c : Contents). c.rows ++ Some a ∷ []) it
-          ∙ ap (λ rs. rs ++ Some a ∷ []) (sym (get_or-map (λ (c : Contents). c.rows) ts t no_table)))
+      ∙ ap (λ rs. rs ++ Some a ∷ []) (sym (get_or-map (λ (c : Contents). c.rows) ts t no_table)))
 
   pub stored_put : contents (grid (set ts t y)) ≡ contents (grid ts) ⊕ one a
   stored_put = ap contents grid_put ∙ contents_more (grid ts) t a (let n = length-map ts (λ (c : Contents). c.rows) in
@@ -48,9 +48,9 @@ module _ (ts : List Contents) (t : ℕ) (x y : Contents) (a : Atom) (within : t 
         placed = λ t' n b h. (elim (row_more (grid ts) t t' n a b
             (ap (λ (g : Grid). rows_in g t' n) (sym grid_put) ∙ row_is (set ts t y) t' n ∙ h)) as (λ _. t'
             ≡ table_of_atom groups b) [
-          | inl old ↦ up.placed t' n b (sym (row_is ts t' n) ∙ old)
-          | inr new ↦ new.0 ∙ e ∙ ap (table_of_atom groups) new.1
-        ]);
+              | inl old ↦ up.placed t' n b (sym (row_is ts t' n) ∙ old)
+              | inr new ↦ new.0 ∙ e ∙ ap (table_of_atom groups) new.1
+            ]);
         plans = subst (ArePlanned rules groups) (sym same) up.plans;
         covered = up.covered;
       }

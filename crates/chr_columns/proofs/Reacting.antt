@@ -42,9 +42,9 @@ module _ (rules : List Rule) (groups : List Group) (rows : Tables) (columns : Co
       → FitsPlan rules rows columns (slice_get g.plans.items j)
   all_fit t g e j l = elim (slice_get_cases g.plans.items j).1 as (λ _. FitsPlan rules rows columns
       (slice_get g.plans.items j)) [
-    | inl w ↦ rw w.2 (fits w.0 (up.plans t g j w.0 e w.2))
-    | inr past ↦ absurd (let p = past.0 in omega (arith, l, p))
-  ]
+        | inl w ↦ rw w.2 (fits w.0 (up.plans t g j w.0 e w.2))
+        | inr past ↦ absurd (let p = past.0 in omega (arith, l, p))
+      ]
 
 module _ (rules : List Rule) (groups : List Group) (ts : List Contents)
     (up : IsSetUp rules groups (rows_of ts) (index_columns ts) (length ts)) (a : Atom) where
@@ -57,22 +57,22 @@ module _ (rules : List Rule) (groups : List Group) (ts : List Contents)
       let v = seated.instance in
       let shape = shape_known r v.0 p heads v.1 in
       let t : table_of_atom groups a ≡ table_of_pattern groups (pattern_at r p) = ap (table_of_atom groups) (sym is)
-          ∙ shape_table groups (pattern_at r p) (head heads p) shape in
+      ∙ shape_table groups (pattern_at r p) (head heads p) shape in
       let g : slice_get groups (table_of_atom groups a) ≡ Some c.0 = ap (slice_get groups) t ∙ c.3 in
       let n = none c.0 g c.1 (slice_get_within c.0.plans.items c.1 c.2 c.4) in
       let m : NoneBy rules (rows_of ts) a (Some c.2) = subst (λ o. NoneBy rules (rows_of ts) a o) c.4 n in
       let k : NoPartners r (rows_of ts) c.2.place a = m r (ap (slice_get rules) c.5 ∙ at) in
       subst (λ q. NoPartners r (rows_of ts) q a) c.6 k heads seats
-          (subst (λ f. IsSeated r f p heads seats) (rows_are ts) seated) is))
+      (subst (λ f. IsSeated r f p heads seats) (rows_are ts) seated) is))
 
 -- what a plan finds is an instance of its rule at its place
 pub reacting : (rules : List Rule) (groups : List Group) (rows : Tables) (columns : Columns) (n : ℕ)
     → IsSetUp rules groups rows columns n
     → (a : Atom) (t j : ℕ) (g : Group) (p : Plan) (heads : List Atom) (seats : List Seat) → slice_get groups t ≡ Some g
-        → slice_get g.plans.items j ≡ Some p
+    → slice_get g.plans.items j ≡ Some p
     → Reacts rules rows a (slice_get g.plans.items j) heads seats
     → (r : Rule) × (slice_get rules p.rule ≡ Some r) × (p.place < length (heads_of r))
-        × IsSeated r rows p.place heads seats × (head heads p.place ≡ a)
+    × IsSeated r rows p.place heads seats × (head heads p.place ≡ a)
 reacting rules groups rows columns n up a t j g p heads seats e f h =
     let k : Reacts rules rows a (Some p) heads seats = subst (λ o. Reacts rules rows a o heads seats) f h in
     let w = up.plans t g j p e f in
@@ -83,7 +83,7 @@ reacting rules groups rows columns n up a t j g p heads seats e f h =
 pub same_set_up : (rules : List Rule) (groups : List Group) (ts us : List Contents) → rows_of us ≡ rows_of ts
     → index_columns us ≡ index_columns ts → length us ≡ length ts
     → IsSetUp rules groups (rows_of ts) (index_columns ts) (length ts) → IsSetUp rules groups (rows_of us)
-        (index_columns us) (length us)
+    (index_columns us) (length us)
 same_set_up rules groups ts us e f n up = rw (e, f, n) up
 
 pub same_stored : (ts us : List Contents) → rows_of us ≡ rows_of ts → contents (grid us) ≡ contents (grid ts)
@@ -95,7 +95,7 @@ pub group_at : (groups xs : List Group) (a : Atom) (t : ℕ) (g : Group) → xs 
     → slice_get groups (table_of_atom groups a) ≡ Some g
 group_at groups xs a t g e f l h =
     ap (λ ys. slice_get ys (table_of_atom groups a)) (sym e) ∙ ap (slice_get xs) (sym f)
-        ∙ slice_get_read xs (length xs) t g refl l h
+    ∙ slice_get_read xs (length xs) t g refl l h
 
 -- a plan that reacts is one of them
 pub is_one : (rules : List Rule) (rows : Tables) (a : Atom) (ps : List Plan) (j : ℕ) (heads : List Atom)

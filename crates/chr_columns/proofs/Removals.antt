@@ -29,7 +29,7 @@ use Rattle.chr_columns.proofs.Stored.{row_is}
 -- how often an atom lives in one row more
 pub counted_more : (q a : Atom) (rows : List (Option Atom)) (i : ℕ) → get_or rows i None ≡ Some a
     → count_in atom_cmp q (live_atoms (take (i + 1) rows)) ≡ count_in atom_cmp q (live_atoms (take i rows)) + cond
-        (eq_by_cmp atom_cmp q a) 1 0
+    (eq_by_cmp atom_cmp q a) 1 0
 counted_more q a rows i e =
     let f = ap (count_in atom_cmp q) (live_more rows i a e) in
     let g = total-append (λ x. cond (eq_by_cmp atom_cmp q x) 1 0) (live_atoms (take i rows)) (a ∷ []) in
@@ -59,7 +59,7 @@ module _ (ts : List Contents) (t : ℕ) (x : Contents) (within : t < length ts) 
       count_contents a (grid ts)
       ∙ counted_at (grid ts) t a (λ u n there. up.placed u n a (sym (row_is ts u n) ∙ there) ∙ sym e)
       ∙ ap (λ rows. count_in atom_cmp a (live_atoms rows))
-          (get_or-map (λ (c : Contents). c.rows) ts t no_table ∙ ap (λ (c : Contents). c.rows) it)
+      (get_or-map (λ (c : Contents). c.rows) ts t no_table ∙ ap (λ (c : Contents). c.rows) it)
 
 -- one row is killed
 pub only_seat : (P : Seat → Type 0) (s : Seat) → P s → (q : ℕ) → q < 1 → P (seat (s ∷ []) q)
@@ -107,7 +107,7 @@ less_fresh s fresh a none = same_store _ _ (λ q. (
     let n = count-of_list atom_total (a ∷ []) q in
     let k = count_in-without atom_cmp atom_total q a fresh in
     elim (few q (eq_by_cmp atom_cmp q a) refl) as (λ _. count (s ⊕ store_of (without atom_cmp a fresh)) q
-        ≡ count ((s ⊕ store_of fresh) ⊖ one a) q) [
+    ≡ count ((s ⊕ store_of fresh) ⊖ one a) q) [
       | inl here ↦ omega (arith, b, d, g, h, m, n, k, here)
       | inr other ↦ omega (arith, b, d, g, h, m, n, k, other)
     ]))
@@ -129,7 +129,7 @@ less_more s xs i x l e = same_store _ _ (λ q. (
     let h = count-of_list atom_total (x ∷ []) q in
     let m = count_in_more atom_cmp q xs i x l in
     let n : ◌≡◌ {A = ℕ} (cond (eq_by_cmp atom_cmp q x) 1 0) (cond (eq_by_cmp atom_cmp q (get_or xs i x)) 1 0) =
-        ap (λ y. let n : ℕ = cond (eq_by_cmp atom_cmp q y) 1 0 in n) e in
+    ap (λ y. let n : ℕ = cond (eq_by_cmp atom_cmp q y) 1 0 in n) e in
     omega (arith, a, b, d, f, g, h, m, n)))
 
 pub less_none : (s : Store) → s ⊖ store_of [] ≡ s
@@ -139,13 +139,13 @@ less_none s = same_store _ _ (λ q. (let a = count_minus s (store_of []) q in le
 -- whether all are there is told atom by atom
 pub all_within : (s : Store) (xs fresh : List Atom)
     → ((i : ℕ) (d : Atom) → i < length xs → count_in atom_cmp (get_or xs i d) xs ≤ count s
-        (get_or xs i d) + count_in atom_cmp (get_or xs i d) fresh)
+    (get_or xs i d) + count_in atom_cmp (get_or xs i d) fresh)
     → IsWithin (store_of xs) (s ⊕ store_of fresh)
 all_within s xs fresh each q =
     let both = λ (p : Atom). total-append (λ x. cond (eq_by_cmp atom_cmp p x) 1 0) (items s) fresh in
     let w = within_each atom_cmp atom_total xs (items s ++ fresh) (λ i d l.
     (let a = each i d l in let b = both (get_or xs i d) in let e = count-items s (get_or xs i d) in
-        omega (arith, a, b, e))) q in
+    omega (arith, a, b, e))) q in
     let a = count-of_list atom_total xs q in
     let b = count_plus s (store_of fresh) q in
     let d = count-of_list atom_total fresh q in

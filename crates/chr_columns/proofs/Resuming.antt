@@ -27,7 +27,7 @@ last_same xs ys a b e =
     let m = length-append ys (b ∷ []) in
     let same : length xs ≡ length ys = omega (arith, n, l, m) in
     sym (get_or-append_seam xs a [] no_atom) ∙ ap (λ zs. get_or zs (length xs) no_atom) e
-        ∙ ap (λ k. get_or (ys ++ b ∷ []) k no_atom) same ∙ get_or-append_seam ys b [] no_atom
+    ∙ ap (λ k. get_or (ys ++ b ∷ []) k no_atom) same ∙ get_or-append_seam ys b [] no_atom
 
 -- without some rows the others are as before
 pub only_died : (ts us : List Contents) (ss : List Seat) → grid us ≡ without_rows (grid ts) ss
@@ -46,18 +46,18 @@ stands_on r r' fresh a s (Some x) kept is last rules groups died goes = λ xs b 
     let same : a ≡ b = last_same w.0 xs a b (sym w.1 ∙ e) in
     let here : slice_get r.groups.items (table_of_atom r.groups.items a) ≡ Some g =
     ap (λ gs. slice_get gs.items (table_of_atom gs.items a)) (sym groups)
-        ∙ ap (λ c. slice_get r'.groups.items (table_of_atom r'.groups.items c)) same ∙ at in
+    ∙ ap (λ c. slice_get r'.groups.items (table_of_atom r'.groups.items c)) same ∙ at in
     let after = rows_of r'.tables.tables.items in
     let later = resume_later r.rules.items (rows_of r.tables.tables.items) after died a g.plans.items s (goes g here) in
     subst (λ y. MayResume r'.rules.items after b g.plans.items y) (sym is.0)
     (subst (λ c. MayResume r'.rules.items after c g.plans.items s) same
-        (subst (λ rs. MayResume rs.items after a g.plans.items s) (sym rules) later)))
+    (subst (λ rs. MayResume rs.items after a g.plans.items s) (sym rules) later)))
 
 -- the plans of the atom's group
 pub goes_by : (rules : List Rule) (groups : List Group) (rows : Tables) (a : Atom) (from : Option Standing) (h : Group)
     → slice_get groups (table_of_atom groups a) ≡ Some h
     → IfSome from (λ s. (g : Group) → slice_get groups (table_of_atom groups a) ≡ Some g
-        → MayResume rules rows a g.plans.items s)
+    → MayResume rules rows a g.plans.items s)
     → IfSome from (MayResume rules rows a h.plans.items)
 goes_by rules groups rows a None h at goes = tt
 goes_by rules groups rows a (Some s) h at goes = goes h at
@@ -65,7 +65,7 @@ goes_by rules groups rows a (Some s) h at goes = goes h at
 pub goes_on : (rules : List Rule) (groups : List Group) (rows : Tables) (a : Atom) (s : Standing) (h : Group)
     → slice_get groups (table_of_atom groups a) ≡ Some h
     → MayResume rules rows a h.plans.items s → (g : Group) → slice_get groups (table_of_atom groups a) ≡ Some g
-        → MayResume rules rows a g.plans.items s
+    → MayResume rules rows a g.plans.items s
 goes_on rules groups rows a s h at may g e = subst (λ x. MayResume rules rows a x.plans.items s)
     (same_Some h g (sym at ∙ e)) may
 

@@ -20,7 +20,7 @@ pub shape_table : (groups : List Group) (p : Pattern) (a : Atom) → has_shape p
     ≡ table_of_pattern groups p
 shape_table groups p a e =
     let s : p.symbol.0 ≡ a.symbol.0 = eqb-true _ _ (first (nat_eq p.symbol.0 a.symbol.0)
-        (nat_eq (length p.args.items) (length a.args.items)) e) in
+    (nat_eq (length p.args.items) (length a.args.items)) e) in
     let n : length p.args.items ≡ length a.args.items =
-        eqb-true _ _ (second (nat_eq p.symbol.0 a.symbol.0) (nat_eq (length p.args.items) (length a.args.items)) e) in
+    eqb-true _ _ (second (nat_eq p.symbol.0 a.symbol.0) (nat_eq (length p.args.items) (length a.args.items)) e) in
     sym (ap (λ k. table_of groups (record { 0 = k }) (length p.args.items)) s ∙ ap (table_of groups a.symbol) n)

@@ -66,9 +66,9 @@ pub one_number : (ts : List Contents) (k m n : ℕ) → row_from ts k m ≡ row_
 one_number [] k m n e = ap number_in e
 one_number (t ∷ ts) k m n e =
     by (nat_lt m (length t.rows)) (nat_lt n (length t.rows)) refl refl (row_from ts (suc k) (m - length t.rows))
-        (row_from ts (suc k) (n - length t.rows))
+    (row_from ts (suc k) (n - length t.rows))
     (later ts (suc k) (m - length t.rows)) (later ts (suc k) (n - length t.rows))
-        (one_number ts (suc k) (m - length t.rows) (n - length t.rows)) e
+    (one_number ts (suc k) (m - length t.rows) (n - length t.rows)) e
   where
     apart : (i : ℕ) (other : Row) → (is_fresh other ≡ false → suc k ≤ table_in other)
         → AtRest (record { table = k; row = i }) ≡ other → ⊥
@@ -79,7 +79,7 @@ one_number (t ∷ ts) k m n e =
 
     by : (b c : Bool) → nat_lt m (length t.rows) ≡ b → nat_lt n (length t.rows) ≡ c → (x y : Row)
         → (is_fresh x ≡ false → suc k ≤ table_in x) → (is_fresh y ≡ false → suc k ≤ table_in y)
-            → (x ≡ y → m - length t.rows ≡ n - length t.rows)
+        → (x ≡ y → m - length t.rows ≡ n - length t.rows)
         → row_by b k m x ≡ row_by c k n y → m ≡ n
     by true true f g x y lx ly one h = ap number_in h
     by true false f g x y lx ly one h = absurd (apart m y ly h)
@@ -98,7 +98,7 @@ same_atom all [] fresh k n h = refl
 same_atom all (t ∷ ts) fresh k n h =
     by (nat_lt n (length t.rows)) refl (row_from ts (suc k) (n - length t.rows))
     (same_atom all ts fresh (suc k) (n - length t.rows)
-        (λ j i. ap (λ x. rows_of all x i) (let f : suc k + j ≡ k + suc j = omega arith in f) ∙ h (suc j) i))
+    (λ j i. ap (λ x. rows_of all x i) (let f : suc k + j ≡ k + suc j = omega arith in f) ∙ h (suc j) i))
   where
     by : (b : Bool) → nat_lt n (length t.rows) ≡ b → (other : Row) → atom_of all fresh other
         ≡ get_or (rows_in_turn ts fresh) (n - length t.rows) None

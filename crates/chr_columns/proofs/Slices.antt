@@ -39,4 +39,4 @@ pub slice_read : {X Y : Type 0} (f : X → Y) (xs ys : List X) (i : ℕ) (x : X)
     → x ≡ get_or ys i x → y ≡ f x → slice_get (map f xs) i ≡ Some y
 slice_read f xs ys i x y e l h g =
     slice_get-map f xs i ∙ ap (option_map f) (ap (λ zs. slice_get zs i) (sym e)
-        ∙ slice_get_read ys (length ys) i x refl l h) ∙ ap Some (sym g)
+    ∙ slice_get_read ys (length ys) i x refl l h) ∙ ap Some (sym g)

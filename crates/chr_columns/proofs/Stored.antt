@@ -47,12 +47,12 @@ same_total : (q : Atom) (g h : Grid) → ((t n : ℕ) → rows_in g t n ≡ rows
 same_total q [] [] e = refl
 same_total q [] (rows ∷ h) e =
     let a : ◌≡◌ {A = ℕ} 0 (count_in atom_cmp q (live_atoms rows)) =
-        ap (count_in atom_cmp q) (same_live [] rows (λ n. e 0 n)) in
+    ap (count_in atom_cmp q) (same_live [] rows (λ n. e 0 n)) in
     let b = same_total q [] h (λ t n. e (suc t) n) in
     omega (arith, a, b)
 same_total q (rows ∷ g) [] e =
     let a : ◌≡◌ {A = ℕ} (count_in atom_cmp q (live_atoms rows)) 0 =
-        ap (count_in atom_cmp q) (same_live rows [] (λ n. e 0 n)) in
+    ap (count_in atom_cmp q) (same_live rows [] (λ n. e 0 n)) in
     let b = same_total q g [] (λ t n. e (suc t) n) in
     omega (arith, a, b)
 same_total q (rows ∷ g) (more ∷ h) e =
@@ -74,13 +74,13 @@ row_there ts t n e =
     let l : t < length ts = elim (cases_lt t (length ts)) as (λ _. t < length ts) [
       | inl less ↦ less
       | inr most ↦ absurd (let z : is_some (rows_of ts t n) ≡ false =
-            ap (λ (x : Contents). is_some (get_or x.rows n None)) (get_or_past ts t no_table most) in cc)
+          ap (λ (x : Contents). is_some (get_or x.rows n None)) (get_or_past ts t no_table most) in cc)
     ] in (
       l,
       elim (cases_lt n (length (get_or ts t no_table).rows)) as (λ _. n < length (get_or ts t no_table).rows) [
         | inl less ↦ less
         | inr most ↦ absurd (let z : is_some (rows_of ts t n) ≡ false =
-              ap is_some (get_or_past (get_or ts t no_table).rows n None most) in cc)
+            ap is_some (get_or_past (get_or ts t no_table).rows n None most) in cc)
       ],
     )
 
@@ -89,7 +89,7 @@ pub same_columns : (ts us : List Contents) → map (λ (c : Contents). c.keys) t
     → index_columns ts ≡ index_columns us
 same_columns ts us e j t i = (
     ap (λ ks. slice_get ks i) (sym (get_or-map (λ (c : Contents). c.keys) ts t no_table) ∙ ap (λ ks. get_or ks t []) e
-        ∙ get_or-map (λ (c : Contents). c.keys) us t no_table)) j
+    ∙ get_or-map (λ (c : Contents). c.keys) us t no_table)) j
 
 pub keys_set : (ts : List Contents) (t : ℕ) (x : Contents) → x.keys ≡ (get_or ts t no_table).keys
     → map (λ (c : Contents). c.keys) (set ts t x) ≡ map (λ (c : Contents). c.keys) ts
@@ -178,7 +178,7 @@ pub killed_set : (ts : List Contents) (s : Seat) (x : Contents) → x.rows
 killed_set ts s x e =
     grid_set ts s.table x
     ∙ ap (set (grid ts) s.table) (e ∙ ap (λ rows. set rows s.row None)
-        (sym (get_or-map (λ (c : Contents). c.rows) ts s.table no_table)))
+    (sym (get_or-map (λ (c : Contents). c.rows) ts s.table no_table)))
 
 -- as many tables when rows die
 length_without : (g : Grid) (ss : List Seat) → length (without_rows g ss) ≡ length g
@@ -189,7 +189,7 @@ pub as_many_left : (ts us : List Contents) (ss : List Seat) → grid us ≡ with
     ≡ length ts
 as_many_left ts us ss e =
     sym (length-map us (λ (c : Contents). c.rows)) ∙ ap length e ∙ length_without (grid ts) ss
-        ∙ length-map ts (λ (c : Contents). c.rows)
+    ∙ length-map ts (λ (c : Contents). c.rows)
 
 -- as many rows in each table
 abbrev pub AsMany : List Contents → List Contents → Type 0

@@ -50,7 +50,7 @@ module _ (ts : List Contents) (t : ℕ) (x y : Contents) (within : t < length ts
   grid_tidy =
       grid_set ts t y
       ∙ ap (set (grid ts) t) (rows ∙ ap (λ (c : Contents). filter is_some c.rows) it
-          ∙ ap (filter is_some) (sym (get_or-map (λ (c : Contents). c.rows) ts t no_table)))
+      ∙ ap (filter is_some) (sym (get_or-map (λ (c : Contents). c.rows) ts t no_table)))
 
   pub stored_tidy : contents (grid (set ts t y)) ≡ contents (grid ts)
   stored_tidy = ap contents grid_tidy ∙ contents_set (grid ts) t (filter is_some (get_or (grid ts) t []))

@@ -84,7 +84,7 @@ module _ (columns : List ℕ) (range : Range) (rules : List Rule) (s : Store) (a
 pub may_join : (columns : List ℕ) (range : Range) (rules : List Rule) (ts : List Contents) (xs : List Atom)
     → All (IsJoined columns) rules → IsFree columns range (rows_of ts)
     → IsAtRest (Step rules) (contents (grid ts)) → IsAtRest (Step rules) (store_of xs)
-        → MayJoin columns range rules (contents (grid ts)) xs
+    → MayJoin columns range rules (contents (grid ts)) xs
 may_join columns range rules ts xs joined free rest rests t within each =
     apart_rests columns rules (contents (grid ts)) t joined
     (λ a b here there same. (outside a here (subst (λ x. IsIn range x) (sym same) (each b there))))
@@ -159,7 +159,7 @@ pub whole_next : (s t u : Store) (atoms : List Atom) (i : ℕ) (a : Atom) → i 
     → s ≡ t ⊕ store_of (take i atoms) → u ≡ s ⊕ one a → u ≡ t ⊕ store_of (take (i + 1) atoms)
 whole_next s t u atoms i a l is before now =
     let n : take (i + 1) atoms ≡ take i atoms ++ a ∷ [] =
-        ap (λ k. take k atoms) (let f : i + 1 ≡ suc i = omega arith in f) ∙ take-suc atoms i a l
-        ∙ ap (λ x. take i atoms ++ x ∷ []) (sym is) in
+    ap (λ k. take k atoms) (let f : i + 1 ≡ suc i = omega arith in f) ∙ take-suc atoms i a l
+    ∙ ap (λ x. take i atoms ++ x ∷ []) (sym is) in
     now ∙ ap (λ x. x ⊕ one a) before ∙ plus_assoc t (store_of (take i atoms)) (one a)
-        ∙ ap (λ x. t ⊕ x) (sym (store_of-append (take i atoms) (a ∷ [])) ∙ ap store_of (sym n))
+    ∙ ap (λ x. t ⊕ x) (sym (store_of-append (take i atoms) (a ∷ [])) ∙ ap store_of (sym n))

@@ -72,15 +72,15 @@ module _ (r : Rule) (ls : List Lookup) (are : ArePlain (length (heads_of r)) ls)
         omega (arith, e, f, same, l)));
     keys = λ j l h same. (
         let e : (plain (j + 1)).partner ≡ l = sym (partner_is j h) ∙ get_or_default (partners_of ls) j
-            (plain 0).partner l h ∙ same in
+        (plain 0).partner l h ∙ same in
         subst (λ (k : Partner). AreKeys r (places_of (partners_of ls)) 0 j k.place k.key.items) e tt);
     tests = λ j l h same. (
         let e : (plain (j + 1)).partner ≡ l = sym (partner_is j h) ∙ get_or_default (partners_of ls) j
-            (plain 0).partner l h ∙ same in
+        (plain 0).partner l h ∙ same in
         subst (λ (k : Partner). AreTests r (places_of (partners_of ls)) 0 j k.tests.items) e tt);
     limits = λ j l h same. (
         let e : (plain (j + 1)).partner ≡ l = sym (partner_is j h) ∙ get_or_default (partners_of ls) j
-            (plain 0).partner l h ∙ same in
+        (plain 0).partner l h ∙ same in
         subst (λ (k : Partner). AreLimits r (places_of (partners_of ls)) 0 j k.place k.limits.items) e tt);
   }
 
@@ -133,7 +133,7 @@ module _ (rows : List (Option Atom)) (n : ℕ) where
 module _ (rows : List (Option Atom)) (n : ℕ) (a : Atom) (r : Rule) (heads : List Atom) (seats : List Seat)
     (live : get_or rows n None ≡ Some a) (some : 0 < length (heads_of r))
     (is : IsSeated r (only_table (set rows n None)) 0 heads seats) (active : head heads 0 ≡ a)
-        (many : length seats ≡ length (heads_of r)) where
+    (many : length seats ≡ length (heads_of r)) where
   abbrev all_seats : List Seat
   all_seats = set seats 0 (at_row n)
 
@@ -160,7 +160,7 @@ module _ (rows : List (Option Atom)) (n : ℕ) (a : Atom) (r : Rule) (heads : Li
       (is.there (suc k) (other k h)) (sym first_seat ∙ same ∙ other_seat k)
   all_apart (suc q) (suc k) l h same =
       is.apart (suc q) (suc k) (other q (omega (arith, l, h))) (other k h) (λ e. (absurd (omega (arith, e, l))))
-          (sym (other_seat q) ∙ same ∙ other_seat k)
+      (sym (other_seat q) ∙ same ∙ other_seat k)
 
   pub seated_in : SitIn (rows ∷ []) heads all_seats
   seated_in = record {
@@ -179,7 +179,7 @@ module _ (rows : List (Option Atom)) (r : Rule) (some : 0 < length (heads_of r))
   no_step v t step =
       let heads = heads_at v r in
       let w = seated (rows ∷ []) heads (λ q. (let x = step.there q in let y = count-of_list atom_total heads q in
-          let z = count_contents q (rows ∷ []) in omega (arith, x, y, z))) in
+      let z = count_contents q (rows ∷ []) in omega (arith, x, y, z))) in
       let ss = w.0 in
       let m : length heads ≡ length (heads_of r) = length-map (heads_of r) (atom_at v) in
       let here = w.1.there 0 (omega (arith, m, some)) in
@@ -195,7 +195,7 @@ module _ (rows : List (Option Atom)) (r : Rule) (some : 0 < length (heads_of r))
         there = λ q o. (
             let l : q < length heads = (let k = o.0 in omega (arith, k, m)) in
             stays_in rows n (seat ss q) (head heads q)
-                (λ same. apart 0 q (omega (arith, m, some)) l (λ f. o.1 (sym f)) (sym is ∙ same)) (w.1.there q l));
+            (λ same. apart 0 q (omega (arith, m, some)) l (λ f. o.1 (sym f)) (sym is ∙ same)) (w.1.there q l));
         apart = λ q k o p ne same. (
             let l : q < length heads = (let j = o.0 in omega (arith, j, m)) in
             let h : k < length heads = (let j = p.0 in omega (arith, j, m)) in

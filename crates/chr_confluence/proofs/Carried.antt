@@ -42,9 +42,9 @@ module _ (f : ℤ → ℤ) (d : ℤ → Bool) where
       → map (rename_atom f) (both_heads r w) ≡ both_heads r v
   heads_carried r v w fixes same =
       let kept = sym (atoms_move f d w r.kept.items (fixes_kept f d r fixes))
-          ∙ same_atoms (heads_of r) r.kept.items _ v same (kept_known r) in
+      ∙ same_atoms (heads_of r) r.kept.items _ v same (kept_known r) in
       let removed = sym (atoms_move f d w r.removed.items (fixes_removed f d r fixes))
-          ∙ same_atoms (heads_of r) r.removed.items _ v same (removed_known r) in
+      ∙ same_atoms (heads_of r) r.removed.items _ v same (removed_known r) in
       map-append (rename_atom f) _ _ ∙ (λ i. kept i ++ removed i)
 
   -- a side of a case is carried to the side of the carried case
@@ -54,9 +54,9 @@ module _ (f : ℤ → ℤ) (d : ℤ → Bool) where
   side_carried r v w c c' fixes same inside e =
       carrying.side_carried (rename_atom f) r w v c c'
       (sym (atoms_move f d w r.removed.items (fixes_removed f d r fixes))
-          ∙ same_atoms (heads_of r) r.removed.items _ v same (removed_known r))
+      ∙ same_atoms (heads_of r) r.removed.items _ v same (removed_known r))
       (sym (atoms_move f d w r.body.items (fixes_body f d r fixes)) ∙ same_atoms (heads_of r) r.body.items _ v same
-          (body_known r)) inside e
+      (body_known r)) inside e
 
   module _ (keeps : KeepsOrder f d) (rules : List Rule)
       (fixes : (i : ℕ) (r : Rule) → slice_get rules i ≡ Some r → FixesRule f d r) where
@@ -73,5 +73,5 @@ module _ (f : ℤ → ℤ) (d : ℤ → Bool) where
 pub case_carried : (f : ℤ → ℤ) (r1 r2 : Rule) (m : List ℕ) (v1 v2 w1 w2 : Valuation)
     → map (rename_atom f) (both_heads r1 w1) ≡ both_heads r1 v1
     → map (rename_atom f) (both_heads r2 w2) ≡ both_heads r2 v2 → rename f (case_store r1 r2 m w1 w2)
-        ≡ case_store r1 r2 m v1 v2
+    ≡ case_store r1 r2 m v1 v2
 case_carried f r1 r2 m v1 v2 w1 w2 e g = carrying.case_carried (rename_atom f) r1 r2 m w1 w2 v1 v2 e g

@@ -38,7 +38,7 @@ image_plus f s t = same_store _ _ (λ q.
 pub image_list : (f : Atom → Atom) (xs : List Atom) → image f (store_of xs) ≡ store_of (map f xs)
 image_list f xs = same_store _ _ (λ q.
     count_image f (store_of xs) q ∙ bag_laws.sum_over-of_list atom_total _ xs ∙ sym (total-map _ f xs)
-        ∙ sym (bag_laws.count-of_list atom_total (map f xs) q))
+    ∙ sym (bag_laws.count-of_list atom_total (map f xs) q))
 
 pub image_within : (f : Atom → Atom) (s t : Store) → IsWithin s t → IsWithin (image f s) (image f t)
 image_within f s t h q =
@@ -58,7 +58,7 @@ pub heads_carried : (f : Atom → Atom) (r : Rule) (v w : Valuation) → Carries
     ≡ heads_at w r
 heads_carried f r v w c =
     ap (map f) (map-append (atom_at v) r.kept.items r.removed.items) ∙ map-append f (atoms_at v r.kept.items)
-        (atoms_at v r.removed.items)
+    (atoms_at v r.removed.items)
     ∙ (λ i. c.kept i ++ c.removed i) ∙ sym (map-append (atom_at w) r.kept.items r.removed.items)
 
 pub step_carried : (f : Atom → Atom) (r : Rule) (v w : Valuation) (s t : Store) → Carries f r v w → StepBy r v s t
@@ -66,11 +66,11 @@ pub step_carried : (f : Atom → Atom) (r : Rule) (v w : Valuation) (s t : Store
 step_carried f r v w s t c st =
     let removed = removed_there r v s st.there in
     let there : IsWithin (store_of (heads_at w r)) (image f s) =
-        rw (← heads_carried f r v w c, ← image_list f (heads_at v r)) (image_within f _ s st.there) in
+    rw (← heads_carried f r v w c, ← image_list f (heads_at v r)) (image_within f _ s st.there) in
     let after : image f t ≡ (image f s ⊖ store_of (atoms_at w r.removed.items)) ⊕ store_of (atoms_at w r.body.items) =
     rw (← c.removed, ← c.body, ← image_list f (atoms_at v r.removed.items), ← image_list f (atoms_at v r.body.items))
     (ap (image f) st.after ∙ image_plus f _ _ ∙ ap (λ x. x ⊕ image f (store_of (atoms_at v r.body.items)))
-        (image_minus f s _ removed)) in
+    (image_minus f s _ removed)) in
     record { guard = c.guard; there = there; after = after }
 
 module _ (f : Atom → Atom) (p : Atom → Bool) (rules : List Rule) (all : CarriesSteps f p rules) where
@@ -101,9 +101,9 @@ pub side_carried : (f : Atom → Atom) (r : Rule) (v w : Valuation) (c c' : Stor
     → IsWithin (store_of (atoms_at v r.removed.items)) c → image f c ≡ c' → image f (side r v c) ≡ side r w c'
 side_carried f r v w c c' k l inside e =
     let removed : image f (store_of (atoms_at v r.removed.items)) ≡ store_of (atoms_at w r.removed.items) =
-        image_list f _ ∙ ap store_of k in
+    image_list f _ ∙ ap store_of k in
     let body : image f (store_of (atoms_at v r.body.items)) ≡ store_of (atoms_at w r.body.items) =
-        image_list f _ ∙ ap store_of l in
+    image_list f _ ∙ ap store_of l in
     image_plus f _ _ ∙ (λ i. (image_minus f c _ inside ∙ (λ j. e j ⊖ removed j)) i ⊕ body i)
 
 left_over_map : (f : Atom → Atom) (m : List ℕ) (k : ℕ) (bs : List Atom) → left_over m k (map f bs)
@@ -111,7 +111,7 @@ left_over_map : (f : Atom → Atom) (m : List ℕ) (k : ℕ) (bs : List Atom) �
 left_over_map f m k [] = refl
 left_over_map f m k (b ∷ bs) =
     elim (names m (suc k)) as (λ x. cond x (left_over m (suc k) (map f bs)) (f b ∷ left_over m (suc k) (map f bs))
-        ≡ map f (cond x (left_over m (suc k) bs) (b ∷ left_over m (suc k) bs))) [
+    ≡ map f (cond x (left_over m (suc k) bs) (b ∷ left_over m (suc k) bs))) [
       | true ↦ left_over_map f m (suc k) bs
       | false ↦ ap (λ xs. f b ∷ xs) (left_over_map f m (suc k) bs)
     ]
@@ -125,4 +125,4 @@ pub case_carried : (f : Atom → Atom) (r1 r2 : Rule) (m : List ℕ) (v1 v2 w1 w
     → image f (case_store r1 r2 m v1 v2) ≡ case_store r1 r2 m w1 w2
 case_carried f r1 r2 m v1 v2 w1 w2 e g =
     image_list f _ ∙ ap store_of (map-append f _ _ ∙ (λ i. e i
-        ++ (sym (left_over_map f m 0 _) ∙ ap (left_over m 0) g) i))
+    ++ (sym (left_over_map f m 0 _) ∙ ap (left_over m 0) g) i))

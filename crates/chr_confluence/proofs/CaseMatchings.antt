@@ -27,10 +27,16 @@ symbols_agree v1 v2 qs [] (p ∷ ps) h = h
 symbols_agree v1 v2 qs (e ∷ m) [] h = h
 symbols_agree v1 v2 qs (zero ∷ m) (p ∷ ps) h = symbols_agree v1 v2 qs m ps h
 symbols_agree v1 v2 qs (suc e ∷ m) (p ∷ ps) h =
-    let f = found v2 qs e (atom_at v1 p) h.0 in
-    ((f.0, f.1, ap (λ a. a.symbol.0) (sym f.2), sym (length-map p.args.items (term_value v1))
-        ∙ ap (λ a. length a.args.items) (sym f.2) ∙ length-map f.0.args.items (term_value v2)),
-        symbols_agree v1 v2 qs m ps h.1)
+    let f = found v2 qs e (atom_at v1 p) h.0 in (
+      (
+        f.0,
+        f.1,
+        ap (λ a. a.symbol.0) (sym f.2),
+        sym (length-map p.args.items (term_value v1))
+            ∙ ap (λ a. length a.args.items) (sym f.2) ∙ length-map f.0.args.items (term_value v2),
+      ),
+      symbols_agree v1 v2 qs m ps h.1,
+    )
 
 pub both_heads_are : (r : Rule) (v : Valuation) → both_heads r v ≡ atoms_at v (heads_of r)
 both_heads_are r v = sym (map-append (atom_at v) r.kept.items r.removed.items)
@@ -44,7 +50,7 @@ pub matching_of : (r1 r2 : Rule) (m : List ℕ) (v1 v2 : Valuation) → IsCase r
 matching_of r1 r2 m v1 v2 h = record {
   symbols = symbols_agree v1 v2 (heads_of r2) m (heads_of r1)
       (subst (λ as'. MatchedAreEqual as' m (atoms_at v1 (heads_of r1))) (both_heads_are r2 v2)
-          (subst (MatchedAreEqual (both_heads r2 v2) m) (both_heads_are r1 v1) h.matches.agrees));
+      (subst (MatchedAreEqual (both_heads r2 v2) m) (both_heads_are r1 v1) h.matches.agrees));
   apart = h.matches.apart;
   touching = sym (touching_at r1 r2 v1 v2 m) ∙ h.matches.touching;
 }
@@ -52,6 +58,10 @@ matching_of r1 r2 m v1 v2 h = record {
 pub matches_at : (r1 r2 : Rule) (m : List ℕ) (v1 v2 : Valuation) → IsMatching r1 r2 m
     → MatchedAreEqual (both_heads r2 v2) m (both_heads r1 v1)
     → Matches (atoms_at v1 r1.kept.items) (atoms_at v1 r1.removed.items) (atoms_at v2 r2.kept.items)
-        (atoms_at v2 r2.removed.items) m
-matches_at r1 r2 m v1 v2 is a = record { agrees = a; apart = is.apart; touching = touching_at r1 r2 v1 v2 m
-    ∙ is.touching }
+    (atoms_at v2 r2.removed.items) m
+matches_at r1 r2 m v1 v2 is a = record {
+  agrees = a;
+  apart = is.apart;
+  touching = touching_at r1 r2 v1 v2 m
+      ∙ is.touching;
+}

@@ -48,8 +48,12 @@ module _ (r1 r2 : Rule) (m : List ℕ) (v1 v2 : Valuation) where
 
   -- both instances are steps from their case's store
   pub left_step : IsCase r1 r2 m v1 v2 → StepBy r1 v1 (case_store r1 r2 m v1 v2) (side r1 v1 (case_store r1 r2 m v1 v2))
-  left_step case = record { guard = case.guard1; there =
-      heads_there r1 v1 _ (λ q. (let a = case_counted q in omega (arith, a))); after = refl }
+  left_step case = record {
+    guard = case.guard1;
+    there =
+        heads_there r1 v1 _ (λ q. (let a = case_counted q in omega (arith, a)));
+    after = refl;
+  }
 
   pub right_step : IsCase r1 r2 m v1 v2 → StepBy r2 v2 (case_store r1 r2 m v1 v2)
       (side r2 v2 (case_store r1 r2 m v1 v2))
@@ -81,31 +85,33 @@ module _ (r1 r2 : Rule) (v1 v2 : Valuation) (s t u : Store) (st1 : StepBy r1 v1 
       let a1 = moved r1 v1 s t st1.after in
       let a2 = moved r2 v2 s u st2.after in
       let there2 = heads_there r2 v2 t (λ q. (let a = a1 q in let b = (c q).0 in let x = there_heads r1 v1 s t st1 q in
-          let y = there_heads r2 v2 s u st2 q in omega (arith, a, b, x, y))) in
+      let y = there_heads r2 v2 s u st2 q in omega (arith, a, b, x, y))) in
       let there1 = heads_there r1 v1 u (λ q. (let a = a2 q in let b = (c q).1 in let x = there_heads r1 v1 s t st1 q in
-          let y = there_heads r2 v2 s u st2 q in omega (arith, a, b, x, y))) in
+      let y = there_heads r2 v2 s u st2 q in omega (arith, a, b, x, y))) in
       let same : w ≡ side r1 v1 u = same_store _ _ (λ q.
       (let a = a1 q in let b = a2 q in let d = moved r2 v2 t w refl q in let e = moved r1 v1 u (side r1 v1 u) refl q in
       let x = there_heads r1 v1 s t st1 q in let y = there_heads r2 v2 s u st2 q in let z = (c q).0 in let g =
-          (c q).1 in
+      (c q).1 in
       let r = counted_both (atoms_at v1 r1.kept.items) (atoms_at v1 r1.removed.items) q in
       let k = counted_both (atoms_at v2 r2.kept.items) (atoms_at v2 r2.removed.items) q in
-      omega (arith, a, b, d, e, x, y, z, g, r, k))) in
-      (w, record { guard = st2.guard; there = there2; after = refl },
-          record { guard = st1.guard; there = there1; after = same })
+      omega (arith, a, b, d, e, x, y, z, g, r, k))) in (
+        w,
+        record { guard = st2.guard; there = there2; after = refl },
+        record { guard = st1.guard; there = there1; after = same },
+      )
 
   inside : (m : List ℕ) → ((q : Atom) → count_of q (both_heads r1 v1) + count_of q
       (left_over m 0 (both_heads r2 v2)) ≤ Most q) → IsWithin (case_store r1 r2 m v1 v2) s
   inside m bound q =
       let a = case_counted r1 r2 m v1 v2 q in let b = bound q in let x = there_heads r1 v1 s t st1 q in let y =
-          there_heads r2 v2 s u st2 q in
+      there_heads r2 v2 s u st2 q in
       omega (arith, a, b, x, y)
 
   -- Two steps from one store commute, or it holds a case of their instances.
   pub peak : Commute r1 r2 v1 v2 t u ⊎ HoldsCase r1 r2 v1 v2 s
   peak =
       elim (touching_or_apart (atoms_at v1 r1.kept.items) (atoms_at v1 r1.removed.items) (atoms_at v2 r2.kept.items)
-          (atoms_at v2 r2.removed.items)) as (λ _. Commute r1 r2 v1 v2 t u ⊎ HoldsCase r1 r2 v1 v2 s) [
+      (atoms_at v2 r2.removed.items)) as (λ _. Commute r1 r2 v1 v2 t u ⊎ HoldsCase r1 r2 v1 v2 s) [
         | inl w ↦ inr (w.0, record { matches = w.1; guard1 = st1.guard; guard2 = st2.guard }, inside w.0 w.2)
         | inr c ↦ inl (apart c)
       ]
@@ -113,15 +119,15 @@ module _ (r1 r2 : Rule) (v1 v2 : Valuation) (s t u : Store) (st1 : StepBy r1 v1 
   -- a join of the sides of the case is one of the two steps' ends
   pub case_joins : (rules : List Rule) (m : List ℕ) → IsCase r1 r2 m v1 v2 → IsWithin (case_store r1 r2 m v1 v2) s
       → AreJoinable (Step rules) (side r1 v1 (case_store r1 r2 m v1 v2)) (side r2 v2 (case_store r1 r2 m v1 v2))
-          → AreJoinable (Step rules) t u
+      → AreJoinable (Step rules) t u
   case_joins rules m case within j =
       let c = case_store r1 r2 m v1 v2 in
       let x = s ⊖ c in
       let whole : c ⊕ x ≡ s = plus_comm c x ∙ split s c within in
       let e1 : side r1 v1 c ⊕ x ≡ t = (StepBy-grows r1 v1 c (side r1 v1 c) x (left_step r1 r2 m v1 v2 case)).after
-          ∙ ap (side r1 v1) whole ∙ sym st1.after in
+      ∙ ap (side r1 v1) whole ∙ sym st1.after in
       let e2 : side r2 v2 c ⊕ x ≡ u = (StepBy-grows r2 v2 c (side r2 v2 c) x (right_step r1 r2 m v1 v2 case)).after
-          ∙ ap (side r2 v2) whole ∙ sym st2.after in (
+      ∙ ap (side r2 v2) whole ∙ sym st2.after in (
         j.0 ⊕ x,
         subst (λ y. Reaches (Step rules) y (j.0 ⊕ x)) e1
             (reaches_grows (Step rules) bag.empty ◌⊕◌ (grows rules) plus_comm (side r1 v1 c) j.0 x j.1),

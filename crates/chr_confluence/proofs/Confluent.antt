@@ -26,8 +26,11 @@ confluent rules w lower peaks = confluent_over rules w HasValues lower (values_s
 
 pub rested : (rules : List Rule) (ss ts : List Store) (t : Store) → AreRested rules ss ts
     → IsNormalForm (Step rules) (whole rules ts) t → IsNormalForm (Step rules) (whole rules ss) t
-rested rules ss ts t h p = (reaches_on (Step rules) (whole rules ss) (whole rules ts) t
-    (parts_reach (Step rules) bag.empty ◌⊕◌ (grows rules) plus_comm ss ts h) p.0, p.1)
+rested rules ss ts t h p = (
+  reaches_on (Step rules) (whole rules ss) (whole rules ts) t
+      (parts_reach (Step rules) bag.empty ◌⊕◌ (grows rules) plus_comm ss ts h) p.0,
+  p.1,
+)
 
 -- the normal forms of two stores that one store reaches are equal
 pub joinable : (rules : List Rule) (w : Atom → ℕ) → RulesLower w rules → Confluent rules → ReachedAreJoinable rules
@@ -36,7 +39,7 @@ joinable rules w lower one s t u values p q =
     let b = rests rules w lower u in
     let same : a.0 ≡ b.0 =
     one s a.0 b.0 values (reaches_on (Step rules) s t a.0 p a.1.0, a.1.1)
-        (reaches_on (Step rules) s u b.0 q b.1.0, b.1.1) in
+    (reaches_on (Step rules) s u b.0 q b.1.0, b.1.1) in
     (a.0, a.1.0, subst (Reaches (Step rules) u) (sym same) b.1.0)
 
 -- two normal forms that are joinable are equal, since no step leads on

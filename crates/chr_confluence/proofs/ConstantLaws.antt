@@ -50,7 +50,7 @@ in_rule r t i =
     let v = valued_rule r in
     let some = (and_parts (are_valued (heads_of r) && guard_valued r.guard.items) (are_valued r.body.items) v).0 in
     elim (in_either t (terms_of (heads_of r) ++ guard_terms r.guard.items) (terms_of r.body.items) i) as (λ _.
-        is_valued t ≡ true) [
+    is_valued t ≡ true) [
       | inl j ↦ elim (in_either t (terms_of (heads_of r)) (guard_terms r.guard.items) j) as (λ _. is_valued t ≡ true) [
         | inl k ↦ in_patterns (heads_of r) t ((and_parts _ (guard_valued r.guard.items) some).0) k
         | inr k ↦ in_guard r.guard.items t ((and_parts (are_valued (heads_of r)) _ some).1) k
@@ -64,5 +64,5 @@ constants_fit rules c h = in_rule h.1 (Constant c) h.3
 pub one_constants : (rules : List Rule) (cs ds : List ℤ) → AreConstants rules cs → AreConstants rules ds → cs ≡ ds
 one_constants rules cs ds a b =
     same_members {A = ℤ} ◌<ℤ◌ (λ c h. omega (arith, ints, h)) (λ c d e h g. omega (arith, ints, h, g)) cs ds a.rise
-        b.rise
+    b.rise
     (λ c i. b.all c (a.stand c i)) (λ c i. a.all c (b.stand c i))

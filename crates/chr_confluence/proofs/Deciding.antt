@@ -47,9 +47,9 @@ any_chosen p a [] ts h g = absurd (omega arith)
 any_chosen p a (x ∷ xs) ts h g =
     list_any-append p (map (λ t. x ∷ t) ts) (chosen xs ts)
     ∙ elim (eq_by_cmp atom_cmp a x) as (λ b. eq_by_cmp atom_cmp a x ≡ b → 0 < cond b 1 0 + count_in atom_cmp a xs
-        → (list_any p (map (λ t. x ∷ t) ts) || list_any p (chosen xs ts)) ≡ true) [
+    → (list_any p (map (λ t. x ∷ t) ts) || list_any p (chosen xs ts)) ≡ true) [
       | true ↦ λ e _. or_left _ _ (any_map p (λ t. x ∷ t) ts ∙ subst (λ y. list_any (λ t. p (y ∷ t)) ts ≡ true)
-            (same_is a x e) g)
+          (same_is a x e) g)
       | false ↦ λ e h. or_right _ _ (any_chosen p a xs ts (omega (arith, h)) g)
     ] refl h
 
@@ -60,7 +60,7 @@ any_tuples : (p : List Atom → Bool) (heads xs : List Atom)
 any_tuples p [] xs h g = or_left _ _ g
 any_tuples p (a ∷ heads) xs h g =
     any_chosen p a xs (tuples (length heads) xs) (h a (let e : cond (eq_by_cmp atom_cmp a a) 1 0 + count_in atom_cmp a
-        heads ≡ 1 + count_in atom_cmp a heads = rw (tied_itself atom_total a) refl in omega (arith, e)))
+    heads ≡ 1 + count_in atom_cmp a heads = rw (tied_itself atom_total a) refl in omega (arith, e)))
     (any_tuples (λ t. p (a ∷ t)) heads xs (λ q l. h q (omega (arith, l))) g)
 
 found_one : {A : Type 0} (p : A → Bool) (xs : List A) → list_any p xs ≡ true → (x : A) × (p x ≡ true)
@@ -83,8 +83,8 @@ within_sound heads s h q =
     let a = bag_laws.count-of_list atom_total heads q in
     let b = bag_laws.count-items s q in
     let c = within_each atom_cmp atom_total heads (items s)
-        (λ i d l. (let x = leb-true _ _ (all_at (λ a. nat_le (count_in atom_cmp a heads) (count s a)) heads h i d l) in
-        let y = bag_laws.count-items s (get_or heads i d) in omega (arith, x, y))) q in
+    (λ i d l. (let x = leb-true _ _ (all_at (λ a. nat_le (count_in atom_cmp a heads) (count s a)) heads h i d l) in
+    let y = bag_laws.count-items s (get_or heads i d) in omega (arith, x, y))) q in
     omega (arith, a, b, c)
 
 within_complete : (heads : List Atom) (s : Store) → IsWithin (store_of heads) s → is_within heads s ≡ true
@@ -101,19 +101,26 @@ decide_rule r s = by (list_any (applies r s) (tuples (length (heads_of r)) (item
     by true e =
         let f = found_one (applies r s) _ e in
         let i = fires_sound r f.0 ((and_parts _ _ f.1).0) in
-        inl (i.0, (s ⊖ store_of (atoms_at i.0 r.removed.items)) ⊕ store_of (atoms_at i.0 r.body.items),
-            record { guard = i.2; there = rw i.1 (within_sound f.0 s ((and_parts (fires r f.0) _ f.1).1)); after =
-            refl })
+        inl (
+          i.0,
+          (s ⊖ store_of (atoms_at i.0 r.removed.items)) ⊕ store_of (atoms_at i.0 r.body.items),
+          record {
+            guard = i.2;
+            there = rw i.1 (within_sound f.0 s ((and_parts (fires r f.0) _ f.1).1));
+            after =
+                refl;
+          },
+        )
     by false e = inr (λ v t st.
         (let heads = heads_at v r in
         let p : applies r s heads ≡ true = and_from _ _ (fires_complete r heads (v, refl, st.guard))
-            (within_complete heads s st.there) in
+        (within_complete heads s st.there) in
         let among : (q : Atom) → 0 < count_in atom_cmp q heads → 0 < count_in atom_cmp q (items s) =
-            λ q l. (let a = bag_laws.count-of_list atom_total heads q in let b = bag_laws.count-items s q in let c =
-            st.there q in omega (arith, a, b, c, l)) in
+        λ q l. (let a = bag_laws.count-of_list atom_total heads q in let b = bag_laws.count-items s q in let c =
+        st.there q in omega (arith, a, b, c, l)) in
         let found = any_tuples (applies r s) heads (items s) among p in
         true≢false (sym found ∙ ap (λ n. list_any (applies r s) (tuples n (items s)))
-            (length-map (heads_of r) (atom_at v)) ∙ e)))
+        (length-map (heads_of r) (atom_at v)) ∙ e)))
 
 pub steps_or_rests : (rules : List Rule) → StepsOrRests (Step rules)
 steps_or_rests [] s = inr (λ u h. none h.1 h.3)
@@ -124,10 +131,10 @@ steps_or_rests (r ∷ rules) s =
     elim (decide_rule r s) as (λ _. ((t : Store) × Step (r ∷ rules) s t) ⊎ ((u : Store) → Step (r ∷ rules) s u → ⊥)) [
       | inl w ↦ inl (w.1, (0, r, w.0, refl, w.2))
       | inr no_step ↦ elim (steps_or_rests rules s) as (λ _. ((t : Store) × Step (r ∷ rules) s t)
-            ⊎ ((u : Store) → Step (r ∷ rules) s u → ⊥)) [
-        | inl w ↦ inl (w.0, (suc w.1.0, w.1.1, w.1.2, w.1.3, w.1.4))
-        | inr rest ↦ inr (λ u h. later h.0 h.1 h.2 h.3 u h.4 no_step rest)
-      ]
+          ⊎ ((u : Store) → Step (r ∷ rules) s u → ⊥)) [
+            | inl w ↦ inl (w.0, (suc w.1.0, w.1.1, w.1.2, w.1.3, w.1.4))
+            | inr rest ↦ inr (λ u h. later h.0 h.1 h.2 h.3 u h.4 no_step rest)
+          ]
     ]
   where
     later : (i : ℕ) (x : Rule) (v : Valuation) → slice_get (r ∷ rules) i ≡ Some x → (u : Store) → StepBy x v s u

@@ -51,10 +51,10 @@ pub filter_in : {A : Type 0} (p : A → Bool) (x : A) (xs : List A) → In x (fi
 filter_in p x [] i = absurd i
 filter_in p x (y ∷ xs) i = elim (p y) as (λ b. p y ≡ b → In x (cond b (y ∷ filter p xs) (filter p xs)) → In x (y ∷ xs)
     × (p x ≡ true)) [
-  | true ↦ λ e i. elim i as (λ _. In x (y ∷ xs) × (p x ≡ true))
-        [ inl q ↦ (inl q, ap p q ∙ e) | inr j ↦ (let h = filter_in p x xs j in (inr h.0, h.1)) ]
-  | false ↦ λ e i. (let h = filter_in p x xs i in (inr h.0, h.1))
-] refl i
+      | true ↦ λ e i. elim i as (λ _. In x (y ∷ xs) × (p x ≡ true))
+          [ inl q ↦ (inl q, ap p q ∙ e) | inr j ↦ (let h = filter_in p x xs j in (inr h.0, h.1)) ]
+      | false ↦ λ e i. (let h = filter_in p x xs i in (inr h.0, h.1))
+    ] refl i
 
 pub own_is : (x : ℕ) (t : Term) → is_variable x t ≡ true → t ≡ Variable x
 own_is x (Variable y) h = ap Variable (sym (eqb-true x y h))
@@ -64,8 +64,8 @@ pub is_free : (σ : Substitution) (r1 r2 : Rule) (x : ℕ) → 0 < x → x ≤ v
     → σ x ≡ Variable x → In x (free_variables σ r1 r2)
 is_free σ r1 r2 x l g e =
     in_filter (λ y. is_variable y (σ y)) x (range_with_len 1 (variables_of r1 + variables_of r2))
-        (in_range 1 (variables_of r1 + variables_of r2) x (omega (arith, l)) (omega (arith, g)))
-        (ap (is_variable x) e ∙ eq-eqb x x refl)
+    (in_range 1 (variables_of r1 + variables_of r2) x (omega (arith, l)) (omega (arith, g)))
+    (ap (is_variable x) e ∙ eq-eqb x x refl)
 
 pub free_is : (σ : Substitution) (r1 r2 : Rule) (x : ℕ) → In x (free_variables σ r1 r2) → (0 < x)
     × (x ≤ variables_of r1 + variables_of r2) × (σ x ≡ Variable x)
@@ -116,20 +116,25 @@ of_equations k qs (zero ∷ m) (p ∷ ps) t i = elim (of_equations k qs m ps t i
 of_equations k qs (suc e ∷ m) (p ∷ ps) t i = elim (sides_either t
     (zip p.args.items (map (renamed_apart k) (get_or qs e no_pattern).args.items)) (equations k qs m ps) i) as (λ _.
     Stands k qs (p ∷ ps) t) [
-  | inl j ↦ elim (of_pairs t p.args.items (map (renamed_apart k) (get_or qs e no_pattern).args.items) j) as (λ _.
-        Stands k qs (p ∷ ps) t) [
-    | inl h ↦ inl (in_first t p.args.items (terms_of ps) h)
-    | inr h ↦ (let w = in_map (renamed_apart k) t (get_or qs e no_pattern).args.items h in
-          inr (w.0, of_pattern w.0 qs e w.1, w.2))
-  ]
-  | inr j ↦ elim (of_equations k qs m ps t j) as (λ _. Stands k qs (p ∷ ps) t)
-        [ inl h ↦ inl (in_second t p.args.items (terms_of ps) h) | inr h ↦ inr h ]
-]
+      | inl j ↦ elim (of_pairs t p.args.items (map (renamed_apart k) (get_or qs e no_pattern).args.items) j) as (λ _.
+          Stands k qs (p ∷ ps) t) [
+            | inl h ↦ inl (in_first t p.args.items (terms_of ps) h)
+            | inr h ↦ (let w = in_map (renamed_apart k) t (get_or qs e no_pattern).args.items h in
+                inr (w.0, of_pattern w.0 qs e w.1, w.2))
+          ]
+      | inr j ↦ elim (of_equations k qs m ps t j) as (λ _. Stands k qs (p ∷ ps) t)
+          [ inl h ↦ inl (in_second t p.args.items (terms_of ps) h) | inr h ↦ inr h ]
+    ]
 
 pub head_constant : (rules : List Rule) (i : ℕ) (r : Rule) → slice_get rules i ≡ Some r → (c : ℤ)
     → In (Constant c) (terms_of (heads_of r)) → IsConstantOf rules c
-head_constant rules i r at c h = (i, r, at, in_first (Constant c) (terms_of (heads_of r) ++ guard_terms r.guard.items)
-    (terms_of r.body.items) (in_first (Constant c) (terms_of (heads_of r)) (guard_terms r.guard.items) h))
+head_constant rules i r at c h = (
+  i,
+  r,
+  at,
+  in_first (Constant c) (terms_of (heads_of r) ++ guard_terms r.guard.items)
+      (terms_of r.body.items) (in_first (Constant c) (terms_of (heads_of r)) (guard_terms r.guard.items) h),
+)
 
 -- ---- values assignment classes
 
@@ -139,15 +144,14 @@ beside_map f [] zs y e i = absurd i
 beside_map f (x ∷ fs) [] y e i = absurd (omega (arith, e))
 beside_map f (x ∷ fs) (z ∷ zs) y e i = elim (nat_eq y x) as (λ b. nat_eq y x ≡ b → f (cond b z (assignment fs zs y))
     ≡ cond b (f z) (assignment fs (map f zs) y)) [
-  | true ↦ λ _. refl
-  | false ↦ λ t. beside_map f fs zs y (omega (arith, e))
-        (elim i as (λ _. In y fs) [ inl q ↦ absurd (eqb-false y x t q) | inr j ↦ j ])
-] refl
+      | true ↦ λ _. refl
+      | false ↦ λ t. beside_map f fs zs y (omega (arith, e))
+          (elim i as (λ _. In y fs) [ inl q ↦ absurd (eqb-false y x t q) | inr j ↦ j ])
+    ] refl
 
 beside_own : (w : Valuation) (fs : List ℕ) (y : ℕ) → In y fs → assignment fs (map w fs) y ≡ w y
 beside_own w [] y i = absurd i
-beside_own w (x ∷ fs) y i = elim (nat_eq y x) as (λ b. nat_eq y x ≡ b → cond b (w x) (assignment fs (map w fs) y) ≡ w y)
-    [
+beside_own w (x ∷ fs) y i = elim (nat_eq y x) as (λ b. nat_eq y x ≡ b → cond b (w x) (assignment fs (map w fs) y) ≡ w y) [
   | true ↦ λ t. ap w (sym (eqb-true y x t))
   | false ↦ λ t. beside_own w fs y (elim i as (λ _. In y fs) [ inl q ↦ absurd (eqb-false y x t q) | inr j ↦ j ])
 ] refl
@@ -157,10 +161,10 @@ beside_in [] zs y e i = absurd i
 beside_in (x ∷ fs) [] y e i = absurd (omega (arith, e))
 beside_in (x ∷ fs) (z ∷ zs) y e i = elim (nat_eq y x) as (λ b. nat_eq y x ≡ b → In (cond b z (assignment fs zs y))
     (z ∷ zs)) [
-  | true ↦ λ _. inl refl
-  | false ↦ λ t. inr (beside_in fs zs y (omega (arith, e))
-        (elim i as (λ _. In y fs) [ inl q ↦ absurd (eqb-false y x t q) | inr j ↦ j ]))
-] refl
+      | true ↦ λ _. inl refl
+      | false ↦ λ t. inr (beside_in fs zs y (omega (arith, e))
+          (elim i as (λ _. In y fs) [ inl q ↦ absurd (eqb-false y x t q) | inr j ↦ j ]))
+    ] refl
 
 -- ---- the classes of the heads' variables
 
@@ -176,9 +180,9 @@ module _ (rules : List Rule) (i j : ℕ) (r1 r2 : Rule) (at1 : slice_get rules i
       × (y ≤ variables_of r1 + variables_of r2)
   stands_variable y h = elim (of_equations (variables_of r1) (heads_of r2) m (heads_of r1) (Variable y) h) as (λ _.
       (0 < y) × (y ≤ variables_of r1 + variables_of r2)) [
-    | inl k ↦ (let g = head_variable r1 y k in let l = g.1 in (g.0, omega (arith, l)))
-    | inr p ↦ by p.0 p.1 p.2
-  ]
+        | inl k ↦ (let g = head_variable r1 y k in let l = g.1 in (g.0, omega (arith, l)))
+        | inr p ↦ by p.0 p.1 p.2
+      ]
     where
       by : (u : Term) → In u (terms_of (heads_of r2)) → Variable y ≡ renamed_apart (variables_of r1) u → (0 < y)
           × (y ≤ variables_of r1 + variables_of r2)
@@ -189,9 +193,9 @@ module _ (rules : List Rule) (i j : ℕ) (r1 r2 : Rule) (at1 : slice_get rules i
   stands_constant : (c : ℤ) → In (Constant c) (equation_terms (equations_of r1 r2 m)) → IsConstantOf rules c
   stands_constant c h = elim (of_equations (variables_of r1) (heads_of r2) m (heads_of r1) (Constant c) h) as (λ _.
       IsConstantOf rules c) [
-    | inl k ↦ head_constant rules i r1 at1 c k
-    | inr p ↦ by p.0 p.1 p.2
-  ]
+        | inl k ↦ head_constant rules i r1 at1 c k
+        | inr p ↦ by p.0 p.1 p.2
+      ]
     where
       by : (u : Term) → In u (terms_of (heads_of r2)) → Constant c ≡ renamed_apart (variables_of r1) u
           → IsConstantOf rules c
@@ -220,29 +224,29 @@ module _ (rules : List Rule) (i j : ℕ) (r1 r2 : Rule) (at1 : slice_get rules i
         → image (zip zs (map w (free_variables σ r1 r2))) (instance_at σ (free_variables σ r1 r2) zs x) ≡ w x
     carried x l g = elim (classified x l g) as (λ _. image (zip zs (map w (free_variables σ r1 r2)))
         (instance_at σ (free_variables σ r1 r2) zs x) ≡ w x) [
-      | inl h ↦ ap (image (zip zs (map w (free_variables σ r1 r2))))
-            (ap (term_value (assignment (free_variables σ r1 r2) zs)) h.1)
-          ∙ image-constant cs zs (map w (free_variables σ r1 r2)) type h.0 (constants.all h.0 h.2)
-          ∙ sym (on x ∙ ap (term_value w) h.1)
-      | inr h ↦ ap (image (zip zs (map w (free_variables σ r1 r2))))
-            (ap (term_value (assignment (free_variables σ r1 r2) zs)) h.1)
-          ∙ beside_map (image (zip zs (map w (free_variables σ r1 r2)))) (free_variables σ r1 r2) zs h.0 counts h.2
-          ∙ ap (λ vs. assignment (free_variables σ r1 r2) vs h.0)
+          | inl h ↦ ap (image (zip zs (map w (free_variables σ r1 r2))))
+              (ap (term_value (assignment (free_variables σ r1 r2) zs)) h.1)
+              ∙ image-constant cs zs (map w (free_variables σ r1 r2)) type h.0 (constants.all h.0 h.2)
+              ∙ sym (on x ∙ ap (term_value w) h.1)
+          | inr h ↦ ap (image (zip zs (map w (free_variables σ r1 r2))))
+              (ap (term_value (assignment (free_variables σ r1 r2) zs)) h.1)
+              ∙ beside_map (image (zip zs (map w (free_variables σ r1 r2)))) (free_variables σ r1 r2) zs h.0 counts h.2
+              ∙ ap (λ vs. assignment (free_variables σ r1 r2) vs h.0)
               (map-image cs zs (map w (free_variables σ r1 r2)) type)
-          ∙ beside_own w (free_variables σ r1 r2) h.0 h.2
-          ∙ sym (on x ∙ ap (term_value w) h.1)
-    ]
+              ∙ beside_own w (free_variables σ r1 r2) h.0 h.2
+              ∙ sym (on x ∙ ap (term_value w) h.1)
+        ]
 
     -- and its values are among the representative's values and the constants
     pub within : (x : ℕ) → 0 < x → x ≤ variables_of r1 + variables_of r2
         → among (zip zs (map w (free_variables σ r1 r2))) cs (instance_at σ (free_variables σ r1 r2) zs x) ≡ true
     within x l g = elim (classified x l g) as (λ _. among (zip zs (map w (free_variables σ r1 r2))) cs
         (instance_at σ (free_variables σ r1 r2) zs x) ≡ true) [
-      | inl h ↦ ap (among (zip zs (map w (free_variables σ r1 r2))) cs)
-            (ap (term_value (assignment (free_variables σ r1 r2) zs)) h.1)
-          ∙ among-constant cs zs (map w (free_variables σ r1 r2)) type h.0 (constants.all h.0 h.2)
-      | inr h ↦ ap (among (zip zs (map w (free_variables σ r1 r2))) cs)
-            (ap (term_value (assignment (free_variables σ r1 r2) zs)) h.1)
-          ∙ among-value cs zs (map w (free_variables σ r1 r2)) type (assignment (free_variables σ r1 r2) zs h.0)
+          | inl h ↦ ap (among (zip zs (map w (free_variables σ r1 r2))) cs)
+              (ap (term_value (assignment (free_variables σ r1 r2) zs)) h.1)
+              ∙ among-constant cs zs (map w (free_variables σ r1 r2)) type h.0 (constants.all h.0 h.2)
+          | inr h ↦ ap (among (zip zs (map w (free_variables σ r1 r2))) cs)
+              (ap (term_value (assignment (free_variables σ r1 r2) zs)) h.1)
+              ∙ among-value cs zs (map w (free_variables σ r1 r2)) type (assignment (free_variables σ r1 r2) zs h.0)
               (beside_in (free_variables σ r1 r2) zs h.0 counts h.2)
-    ]
+        ]

@@ -24,7 +24,7 @@ pub in_constants : (x : ℤ) (cs : List ℤ) → list_any (int_eq x) cs ≡ true
 in_constants x [] h = absurd (true≢false (sym h))
 in_constants x (c ∷ cs) h =
     elim (int_eq x c) as (λ b. int_eq x c ≡ b → (b || list_any (int_eq x) cs) ≡ true → (x ≡ c) ⊎ In x cs)
-        [ true ↦ λ e _. inl (same_yes x c e) | false ↦ λ e h. inr (in_constants x cs h) ] refl h
+    [ true ↦ λ e _. inl (same_yes x c e) | false ↦ λ e h. inr (in_constants x cs h) ] refl h
 
 pub any_constant : (x : ℤ) (cs : List ℤ) → In x cs → list_any (int_eq x) cs ≡ true
 any_constant x [] h = absurd h
@@ -42,10 +42,10 @@ image_in x [] = inr (refl, refl)
 image_in x (q ∷ qs) = elim (int_eq x q.0) as (λ b. int_eq x q.0 ≡ b
     → (((x, cond b q.1 (image qs x)) ≡ q) ⊎ In (x, cond b q.1 (image qs x)) qs)
     ⊎ ((cond b q.1 (image qs x) ≡ x) × ((b || list_any (λ p. int_eq x p.0) qs) ≡ false))) [
-  | true ↦ λ e. inl (inl (λ i. (same_yes x q.0 e i, q.1)))
-  | false ↦ λ e. elim (image_in x qs) as (λ _. (((x, image qs x) ≡ q) ⊎ In (x, image qs x) qs)
-        ⊎ ((image qs x ≡ x) × (list_any (λ p. int_eq x p.0) qs ≡ false))) [ inl h ↦ inl (inr h) | inr h ↦ inr h ]
-] refl
+      | true ↦ λ e. inl (inl (λ i. (same_yes x q.0 e i, q.1)))
+      | false ↦ λ e. elim (image_in x qs) as (λ _. (((x, image qs x) ≡ q) ⊎ In (x, image qs x) qs)
+          ⊎ ((image qs x ≡ x) × (list_any (λ p. int_eq x p.0) qs ≡ false))) [ inl h ↦ inl (inr h) | inr h ↦ inr h ]
+    ] refl
 
 module _ (cs us vs : List ℤ) (type : SameType cs us vs) where
   abbrev Sends : ℤ → ℤ → Type 0
@@ -56,7 +56,7 @@ module _ (cs us vs : List ℤ) (type : SameType cs us vs) where
   sends_alike x y x' y' (inl p) (inr q) = type.against (x, y) x' p q.0 ∙ ap (int_cmp y) (sym q.1)
   sends_alike x y x' y' (inr p) (inl q) =
       int_cmp_total.antisymm x x' ∙ ap ordering_reverse (type.against (x', y') x q p.0)
-          ∙ sym (int_cmp_total.antisymm x y') ∙ ap (λ z. int_cmp z y') (sym p.1)
+      ∙ sym (int_cmp_total.antisymm x y') ∙ ap (λ z. int_cmp z y') (sym p.1)
   sends_alike x y x' y' (inr p) (inr q) = let e = sym p.1 in let f = sym q.1 in λ i. int_cmp (e i) (f i)
 
   sends_one : (x y y' : ℤ) → Sends x y → Sends x y' → y ≡ y'
@@ -65,8 +65,11 @@ module _ (cs us vs : List ℤ) (type : SameType cs us vs) where
   sends_image : (x : ℤ) → among (zip us vs) cs x ≡ true → Sends x (image (zip us vs) x)
   sends_image x h = elim (image_in x (zip us vs)) as (λ _. Sends x (image (zip us vs) x)) [
     | inl p ↦ inl p
-    | inr q ↦ inr (in_constants x cs (let e : (false || list_any (int_eq x) cs) ≡ true =
-          subst (λ b. (b || list_any (int_eq x) cs) ≡ true) q.1 h in e), q.0)
+    | inr q ↦ inr (
+      in_constants x cs (let e : (false || list_any (int_eq x) cs) ≡ true =
+          subst (λ b. (b || list_any (int_eq x) cs) ≡ true) q.1 h in e),
+      q.0,
+    )
   ]
 
   pub image-keeps : KeepsOrder (image (zip us vs)) (among (zip us vs) cs)
@@ -119,7 +122,7 @@ module _ (cs us vs : List ℤ) (type : SameType cs us vs) where
 pub from_representative : (n : ℕ) (cs : List ℤ) (rs : List (List ℤ)) → AreTypes n cs rs → (vs : List ℤ) → length vs ≡ n
     → AreValues vs
     → (r : List ℤ) × (f : ℤ → ℤ) × In r rs × KeepsOrder f (among (zip r vs) cs) × ((c : ℤ) → In c cs → f c ≡ c)
-        × (map f r ≡ vs)
+    × (map f r ≡ vs)
 from_representative n cs rs types vs count values =
     let w = types.complete vs count values in
     (w.0, image (zip w.0 vs), w.1, image-keeps cs w.0 vs w.2, image-constant cs w.0 vs w.2, map-image cs w.0 vs w.2)

@@ -59,9 +59,11 @@ pairs_meet : (k : ℕ) (w v1 v2 : Valuation) (ts us : List Term) → LikeLeft w 
     → map (term_value v1) ts ≡ map (term_value v2) us → Unifies w (zip ts (map (renamed_apart k) us))
 pairs_meet k w v1 v2 [] us l r e = tt
 pairs_meet k w v1 v2 (t ∷ ts) [] l r e = tt
-pairs_meet k w v1 v2 (t ∷ ts) (u ∷ us) l r e = let h = heads_equal _ _ _ _ e in
-    (l t (inl refl) ∙ h.0 ∙ sym (r u (inl refl)), pairs_meet k w v1 v2 ts us (λ s i. l s (inr i))
-        (λ s i. r s (inr i)) h.1)
+pairs_meet k w v1 v2 (t ∷ ts) (u ∷ us) l r e = let h = heads_equal _ _ _ _ e in (
+  l t (inl refl) ∙ h.0 ∙ sym (r u (inl refl)),
+  pairs_meet k w v1 v2 ts us (λ s i. l s (inr i))
+      (λ s i. r s (inr i)) h.1,
+)
 
 met_pairs : (k : ℕ) (w v1 v2 : Valuation) (ts us : List Term) → LikeLeft w v1 ts → LikeRight k w v2 us → length ts
     ≡ length us → Unifies w (zip ts (map (renamed_apart k) us)) → map (term_value v1) ts ≡ map (term_value v2) us
@@ -70,7 +72,7 @@ met_pairs k w v1 v2 [] (u ∷ us) l r e m = absurd (omega (arith, e))
 met_pairs k w v1 v2 (t ∷ ts) [] l r e m = absurd (omega (arith, e))
 met_pairs k w v1 v2 (t ∷ ts) (u ∷ us) l r e m =
     λ i. (sym (l t (inl refl)) ∙ m.0 ∙ r u (inl refl)) i ∷ met_pairs k w v1 v2 ts us (λ s j. l s (inr j))
-        (λ s j. r s (inr j)) (omega (arith, e)) m.1 i
+    (λ s j. r s (inr j)) (omega (arith, e)) m.1 i
 
 -- ---- all places
 
@@ -96,7 +98,7 @@ module _ (k : ℕ) (w v1 v2 : Valuation) (qs : List Pattern) (right : LikeRight 
       meets_both w _ _
       (subst (λ x. Unifies w (zip p.args.items (map (renamed_apart k) x.args.items))) (sym q)
       (pairs_meet k w v1 v2 p.args.items f.0.args.items (λ t i. left t (in_first t p.args.items _ i))
-          (λ t i. right t (among qs e f.0 f.1 t i)) (ap (λ a. a.args.items) (sym f.2))))
+      (λ t i. right t (among qs e f.0 f.1 t i)) (ap (λ a. a.args.items) (sym f.2))))
       (agrees_meets m ps (λ t i. left t (in_second t p.args.items _ i)) h.1)
 
   meets_agrees : (m : List ℕ) (ps : List Pattern) → LikeLeft w v1 (terms_of ps) → SameSymbols qs m ps
@@ -110,7 +112,7 @@ module _ (k : ℕ) (w v1 v2 : Valuation) (qs : List Pattern) (right : LikeRight 
       let q : get_or qs e no_pattern ≡ f.0 = get_or_from_slice_get qs e f.0 no_pattern f.1 in
       let args : map (term_value v2) f.0.args.items ≡ map (term_value v1) p.args.items =
       sym (met_pairs k w v1 v2 p.args.items f.0.args.items (λ t i. left t (in_first t p.args.items _ i))
-          (λ t i. right t (among qs e f.0 f.1 t i)) f.3
+      (λ t i. right t (among qs e f.0 f.1 t i)) f.3
       (subst (λ x. Unifies w (zip p.args.items (map (renamed_apart k) x.args.items))) q (meets_left w _ _ h))) in
       let symbol = sym f.2 in (
         slice_get-map (atom_at v2) qs e ∙ ap (option_map (atom_at v2)) f.1
@@ -138,17 +140,17 @@ pub parts_meet : (r1 r2 : Rule) (m : List ℕ) (w v1 v2 : Valuation) → ArePart
     → MatchedAreEqual (both_heads r2 v2) m (both_heads r1 v1) → Unifies w (equations_of r1 r2 m)
 parts_meet r1 r2 m w v1 v2 h a =
     agrees_meets (variables_of r1) w v1 v2 (heads_of r2) (like_right r1 r2 w v1 v2 h) m (heads_of r1)
-        (like_left r1 r2 w v1 v2 h)
+    (like_left r1 r2 w v1 v2 h)
     (subst (λ as'. MatchedAreEqual as' m (atoms_at v1 (heads_of r1))) (both_heads_are r2 v2)
-        (subst (MatchedAreEqual (both_heads r2 v2) m) (both_heads_are r1 v1) a))
+    (subst (MatchedAreEqual (both_heads r2 v2) m) (both_heads_are r1 v1) a))
 
 pub parts_agree : (r1 r2 : Rule) (m : List ℕ) (w v1 v2 : Valuation) → AreParts r1 r2 w v1 v2 → IsMatching r1 r2 m
     → Unifies w (equations_of r1 r2 m) → MatchedAreEqual (both_heads r2 v2) m (both_heads r1 v1)
 parts_agree r1 r2 m w v1 v2 h is e =
     subst (λ as'. MatchedAreEqual as' m (both_heads r1 v1)) (sym (both_heads_are r2 v2))
-        (subst (MatchedAreEqual (atoms_at v2 (heads_of r2)) m) (sym (both_heads_are r1 v1))
+    (subst (MatchedAreEqual (atoms_at v2 (heads_of r2)) m) (sym (both_heads_are r1 v1))
     (meets_agrees (variables_of r1) w v1 v2 (heads_of r2) (like_right r1 r2 w v1 v2 h) m (heads_of r1)
-        (like_left r1 r2 w v1 v2 h) is.symbols e))
+    (like_left r1 r2 w v1 v2 h) is.symbols e))
 
 pub joint_parts : (r1 r2 : Rule) (v1 v2 : Valuation) → AreParts r1 r2 (joint (variables_of r1) v1 v2) v1 v2
 joint_parts r1 r2 v1 v2 = record {
@@ -156,7 +158,7 @@ joint_parts r1 r2 v1 v2 = record {
       (le-leb x (variables_of r1) (head_variable r1 x i).1);
   right = λ x i. (let l = (head_variable r2 x i).0 in
       ap (λ b. cond b (v1 (variables_of r1 + x)) (v2 (variables_of r1 + x - variables_of r1)))
-          (gt (variables_of r1) x l) ∙ ap v2 (omega arith));
+      (gt (variables_of r1) x l) ∙ ap v2 (omega arith));
 }
   where
     gt : (k x : ℕ) → 0 < x → nat_le (k + x) k ≡ false

@@ -85,7 +85,7 @@ left_over_all p m k [] h = refl
 left_over_all p m k (b ∷ bs) h =
     let more = left_over_all p m (suc k) bs ((and_parts (p b) _ h).1) in
     elim (names m (suc k)) as (λ x. list_all p (cond x (left_over m (suc k) bs) (b ∷ left_over m (suc k) bs)) ≡ true)
-        [ true ↦ more | false ↦ and_from (p b) _ ((and_parts (p b) _ h).0) more ]
+    [ true ↦ more | false ↦ and_from (p b) _ ((and_parts (p b) _ h).0) more ]
 
 -- a test that all heads pass is passed by each atom of the case's store
 pub case_each : (p : Atom → Bool) (r1 r2 : Rule) (m : List ℕ) (v1 v2 : Valuation)
@@ -95,8 +95,8 @@ case_each p r1 r2 m v1 v2 h g =
     let a : list_all p (both_heads r1 v1) ≡ true = ap (list_all p) (both_heads_are r1 v1) ∙ h in
     let b : list_all p (both_heads r2 v2) ≡ true = ap (list_all p) (both_heads_are r2 v2) ∙ g in
     each_of_list p (both_heads r1 v1 ++ left_over m 0 (both_heads r2 v2))
-        (list_all-append p (both_heads r1 v1) (left_over m 0 (both_heads r2 v2))
-        ∙ and_from _ _ a (left_over_all p m 0 (both_heads r2 v2) b))
+    (list_all-append p (both_heads r1 v1) (left_over m 0 (both_heads r2 v2))
+    ∙ and_from _ _ a (left_over_all p m 0 (both_heads r2 v2) b))
 
 -- ---- a case of 64-bit values
 
@@ -106,13 +106,13 @@ module _ (r1 r2 : Rule) (m : List ℕ) (v1 v2 : Valuation) (case : IsCase r1 r2 
   left_values x i =
       pattern_found (λ z. z) is_value v1 x (heads_of r1) (in_occurs x (heads_of r1) i)
       (list_of_each (args_in is_value) (heads_at v1 r1)
-          (each_within (args_in is_value) _ _ (left_step r1 r2 m v1 v2 case).there each))
+      (each_within (args_in is_value) _ _ (left_step r1 r2 m v1 v2 case).there each))
 
   right_values : (x : ℕ) → In (Variable x) (terms_of (heads_of r2)) → is_value (v2 x) ≡ true
   right_values x i =
       pattern_found (λ z. z) is_value v2 x (heads_of r2) (in_occurs x (heads_of r2) i)
       (list_of_each (args_in is_value) (heads_at v2 r2)
-          (each_within (args_in is_value) _ _ (right_step r1 r2 m v1 v2 case).there each))
+      (each_within (args_in is_value) _ _ (right_step r1 r2 m v1 v2 case).there each))
 
   -- each joint variable of the heads has a 64-bit value
   head_value : (x : ℕ) → 0 < x → x ≤ variables_of r1 + variables_of r2 → is_value (joint (variables_of r1) v1 v2 x)
@@ -121,8 +121,8 @@ module _ (r1 r2 : Rule) (m : List ℕ) (v1 v2 : Valuation) (case : IsCase r1 r2 
     | inl h ↦ (let i = variable_stands r2 (x - variables_of r1) (omega (arith, h)) (omega (arith, h, g)) in
         let e : variables_of r1 + (x - variables_of r1) ≡ x = omega (arith, h) in
         ap (λ y. is_value (joint (variables_of r1) v1 v2 y)) (sym e)
-            ∙ ap is_value ((joint_parts r1 r2 v1 v2).right (x - variables_of r1) i)
-            ∙ right_values (x - variables_of r1) i)
+        ∙ ap is_value ((joint_parts r1 r2 v1 v2).right (x - variables_of r1) i)
+        ∙ right_values (x - variables_of r1) i)
     | inr h ↦ (let i = variable_stands r1 x l h in ap is_value ((joint_parts r1 r2 v1 v2).left x i) ∙ left_values x i)
   ]
 
@@ -137,7 +137,7 @@ module _ (r1 r2 : Rule) (m : List ℕ) (v1 v2 : Valuation) (case : IsCase r1 r2 
 module _ (rules : List Rule) (i j : ℕ) (r1 r2 : Rule) (at1 : slice_get rules i ≡ Some r1)
     (at2 : slice_get rules j ≡ Some r2) (m : List ℕ) (v1 v2 : Valuation)
     (case : IsCase r1 r2 m v1 v2) (σ : Substitution) (solves : IsMostGeneralUnifier σ (equations_of r1 r2 m))
-        (cs : List ℤ) (constants : AreConstants rules cs) (zs : List ℤ)
+    (cs : List ℤ) (constants : AreConstants rules cs) (zs : List ℤ)
     (type : SameType cs zs (map (joint (variables_of r1) v1 v2) (free_variables σ r1 r2))) where
   abbrev image_of : ℤ → ℤ
   image_of = image (zip zs (map (joint (variables_of r1) v1 v2) (free_variables σ r1 r2)))
@@ -158,13 +158,13 @@ module _ (rules : List Rule) (i j : ℕ) (r1 r2 : Rule) (at1 : slice_get rules i
   left_same x o =
       let h = occurs_in x (heads_of r1) o in let b = head_variable r1 x h in let l = b.1 in
       carried rules i j r1 r2 at1 at2 m σ solves cs constants (joint (variables_of r1) v1 v2) on zs type x b.0
-          (omega (arith, l)) ∙ (joint_parts r1 r2 v1 v2).left x h
+      (omega (arith, l)) ∙ (joint_parts r1 r2 v1 v2).left x h
 
   right_same : SameOn (heads_of r2) (λ x. image_of (right_at σ r1 r2 zs x)) v2
   right_same x o =
       let h = occurs_in x (heads_of r2) o in let b = head_variable r2 x h in let l = b.0 in let g = b.1 in
       carried rules i j r1 r2 at1 at2 m σ solves cs constants (joint (variables_of r1) v1 v2) on zs type
-          (variables_of r1 + x) (omega (arith, l)) (omega (arith, g)) ∙ (joint_parts r1 r2 v1 v2).right x h
+      (variables_of r1 + x) (omega (arith, l)) (omega (arith, g)) ∙ (joint_parts r1 r2 v1 v2).right x h
 
   left_within : list_all (args_in values) (atoms_at (left_at σ r1 r2 zs) (heads_of r1)) ≡ true
   left_within = atoms_in values (left_at σ r1 r2 zs) (heads_of r1) by
@@ -172,7 +172,7 @@ module _ (rules : List Rule) (i j : ℕ) (r1 r2 : Rule) (at1 : slice_get rules i
       by : (t : Term) → In t (terms_of (heads_of r1)) → values (term_value (left_at σ r1 r2 zs) t) ≡ true
       by (Variable x) h = let b = head_variable r1 x h in let l = b.1 in
           within rules i j r1 r2 at1 at2 m σ solves cs constants (joint (variables_of r1) v1 v2) on zs type x b.0
-              (omega (arith, l))
+          (omega (arith, l))
       by (Constant c) h = (fixes_heads image_of values r1 (fixes_rules i r1 at1) c h).0
 
   right_within : list_all (args_in values) (atoms_at (right_at σ r1 r2 zs) (heads_of r2)) ≡ true
@@ -181,17 +181,17 @@ module _ (rules : List Rule) (i j : ℕ) (r1 r2 : Rule) (at1 : slice_get rules i
       by : (t : Term) → In t (terms_of (heads_of r2)) → values (term_value (right_at σ r1 r2 zs) t) ≡ true
       by (Variable x) h = let b = head_variable r2 x h in let l = b.0 in let g = b.1 in
           within rules i j r1 r2 at1 at2 m σ solves cs constants (joint (variables_of r1) v1 v2) on zs type
-              (variables_of r1 + x) (omega (arith, l)) (omega (arith, g))
+          (variables_of r1 + x) (omega (arith, l)) (omega (arith, g))
       by (Constant c) h = (fixes_heads image_of values r2 (fixes_rules j r2 at2) c h).0
 
   guards_here : guards_hold σ r1 r2 zs ≡ true
   guards_here =
       and_from _ _
       (sym (guard_moves image_of values keeps_order (left_at σ r1 r2 zs) (heads_of r1) r1.guard.items left_within
-          (guard_known r1) (fixes_guard image_of values r1 (fixes_rules i r1 at1)))
+      (guard_known r1) (fixes_guard image_of values r1 (fixes_rules i r1 at1)))
       ∙ same_guard (heads_of r1) _ v1 r1.guard.items left_same (guard_known r1) ∙ case.guard1)
       (sym (guard_moves image_of values keeps_order (right_at σ r1 r2 zs) (heads_of r2) r2.guard.items right_within
-          (guard_known r2) (fixes_guard image_of values r2 (fixes_rules j r2 at2)))
+      (guard_known r2) (fixes_guard image_of values r2 (fixes_rules j r2 at2)))
       ∙ same_guard (heads_of r2) _ v2 r2.guard.items right_same (guard_known r2) ∙ case.guard2)
 
   here : IsCase r1 r2 m (left_at σ r1 r2 zs) (right_at σ r1 r2 zs)
@@ -224,18 +224,18 @@ module _ (rules : List Rule) (i j : ℕ) (r1 r2 : Rule) (at1 : slice_get rules i
     left = side_carried image_of values r1 v1 (left_at σ r1 r2 zs) (listed_store σ r1 r2 m zs)
         (case_store r1 r2 m v1 v2) (fixes_rules i r1 at1) left_same
         (removed_there r1 (left_at σ r1 r2 zs) (listed_store σ r1 r2 m zs)
-            (left_step r1 r2 m (left_at σ r1 r2 zs) (right_at σ r1 r2 zs) here).there) store_is;
+        (left_step r1 r2 m (left_at σ r1 r2 zs) (right_at σ r1 r2 zs) here).there) store_is;
     right = side_carried image_of values r2 v2 (right_at σ r1 r2 zs) (listed_store σ r1 r2 m zs)
         (case_store r1 r2 m v1 v2) (fixes_rules j r2 at2) right_same
         (removed_there r2 (right_at σ r1 r2 zs) (listed_store σ r1 r2 m zs)
-            (right_step r1 r2 m (left_at σ r1 r2 zs) (right_at σ r1 r2 zs) here).there) store_is;
+        (right_step r1 r2 m (left_at σ r1 r2 zs) (right_at σ r1 r2 zs) here).there) store_is;
   }
 
 pub every_case : EveryCaseIsListed
 every_case rules i j r1 r2 at1 at2 m v1 v2 case each σ rs solves reps =
     let types = reps.2 in
     let w = types.complete (map (joint (variables_of r1) v1 v2) (free_variables σ r1 r2))
-        (length-map (free_variables σ r1 r2) _) (class_values r1 r2 m v1 v2 case each σ) in
+    (length-map (free_variables σ r1 r2) _) (class_values r1 r2 m v1 v2 case each σ) in
     image_is rules i j r1 r2 at1 at2 m v1 v2 case σ solves reps.0 reps.1 w.0 w.2 rs w.1
 
 -- ---- a case joins where the listed one does
@@ -244,23 +244,23 @@ image_joins : (rules : List Rule) (i j : ℕ) (r1 r2 : Rule) → slice_get rules
     → (m : List ℕ) (σ : Substitution) (rs : List (List ℤ)) (v1 v2 : Valuation)
     → (im : IsImageOfListed rules r1 r2 m σ rs v1 v2)
     → ListedCaseIsJoinable rules r1 r2 m σ im.zs → AreJoinable (Step rules) (side r1 v1 (case_store r1 r2 m v1 v2))
-        (side r2 v2 (case_store r1 r2 m v1 v2))
+    (side r2 v2 (case_store r1 r2 m v1 v2))
 image_joins rules i j r1 r2 at1 at2 m σ rs v1 v2 im joins =
     let one = values_kept im.to im.values r1 _ _ _ (im.fixes i r1 at1) im.there (left_step r1 r2 m _ _ im.case) in
     let two = values_kept im.to im.values r2 _ _ _ (im.fixes j r2 at2) im.there (right_step r1 r2 m _ _ im.case) in
     let j = join_carried im.to im.values im.keeps rules im.fixes (left_side σ r1 r2 m im.zs)
-        (right_side σ r1 r2 m im.zs) one two joins in
+    (right_side σ r1 r2 m im.zs) one two joins in
     subst (λ s. AreJoinable (Step rules) s (side r2 v2 (case_store r1 r2 m v1 v2))) im.left
-        (subst (AreJoinable (Step rules) (rename im.to (left_side σ r1 r2 m im.zs))) im.right j)
+    (subst (AreJoinable (Step rules) (rename im.to (left_side σ r1 r2 m im.zs))) im.right j)
 
 pub listed_suffice : ListedSuffice
 listed_suffice rules listed i j r1 r2 at1 at2 ordered m v1 v2 case each =
     elim (listed i j r1 r2 at1 at2 ordered m (matching_of r1 r2 m v1 v2 case)) as (λ _. AreJoinable (Step rules)
     (side r1 v1 (case_store r1 r2 m v1 v2)) (side r2 v2 (case_store r1 r2 m v1 v2))) [
-  | inl none ↦ absurd (none (joint (variables_of r1) v1 v2) (joint_meets r1 r2 m v1 v2 case.matches.agrees))
-  | inr h ↦ (let im = every_case rules i j r1 r2 at1 at2 m v1 v2 case each h.0 h.1 h.2 h.3 in
-        image_joins rules i j r1 r2 at1 at2 m h.0 h.1 v1 v2 im (h.4 im.zs im.listed im.guards))
-]
+      | inl none ↦ absurd (none (joint (variables_of r1) v1 v2) (joint_meets r1 r2 m v1 v2 case.matches.agrees))
+      | inr h ↦ (let im = every_case rules i j r1 r2 at1 at2 m v1 v2 case each h.0 h.1 h.2 h.3 in
+          image_joins rules i j r1 r2 at1 at2 m h.0 h.1 v1 v2 im (h.4 im.zs im.listed im.guards))
+    ]
 
 -- ---- listed cases have 64-bit values, and decide confluence
 
@@ -279,12 +279,13 @@ module _ (rules : List Rule) (i j : ℕ) (r1 r2 : Rule) (at1 : slice_get rules i
   listed_value : (x : ℕ) → 0 < x → x ≤ variables_of r1 + variables_of r2 → is_value (left_at σ r1 r2 zs x) ≡ true
   listed_value x l g = let stated = reps.2.stated zs listed in
       elim (classified rules i j r1 r2 at1 at2 m σ solves x l g) as (λ _. is_value (left_at σ r1 r2 zs x) ≡ true) [
-    | inl h ↦ ap is_value (ap (term_value (assignment (free_variables σ r1 r2) zs)) h.1) ∙ constants_fit rules h.0 h.2
-    | inr h ↦ ap is_value (ap (term_value (assignment (free_variables σ r1 r2) zs)) h.1)
-        ∙ is_value_of (assignment (free_variables σ r1 r2) zs h.0)
+        | inl h ↦ ap is_value (ap (term_value (assignment (free_variables σ r1 r2) zs)) h.1)
+            ∙ constants_fit rules h.0 h.2
+        | inr h ↦ ap is_value (ap (term_value (assignment (free_variables σ r1 r2) zs)) h.1)
+            ∙ is_value_of (assignment (free_variables σ r1 r2) zs h.0)
             (stated.1.values (assignment (free_variables σ r1 r2) zs h.0)
             (beside_in (free_variables σ r1 r2) zs h.0 (sym stated.0) h.2))
-  ]
+      ]
 
   left_terms : (t : Term) → In t (terms_of (heads_of r1)) → is_value (term_value (left_at σ r1 r2 zs) t) ≡ true
   left_terms (Variable x) h = let b = head_variable r1 x h in let l = b.1 in listed_value x b.0 (omega (arith, l))
@@ -312,6 +313,6 @@ pub failing_listed : FailingListedRefutes
 failing_listed rules i j r1 r2 at1 at2 m is σ rs solves reps zs listed guards a b x y differ =
     let case = listed_case r1 r2 m is σ solves zs guards in
     not_confluent rules (listed_store σ r1 r2 m zs) (left_side σ r1 r2 m zs) (right_side σ r1 r2 m zs) a b
-        (listed_values rules i j r1 r2 at1 at2 m σ rs solves reps zs listed)
+    (listed_values rules i j r1 r2 at1 at2 m σ rs solves reps zs listed)
     (i, r1, left_at σ r1 r2 zs, at1, left_step r1 r2 m _ _ case)
-        (j, r2, right_at σ r1 r2 zs, at2, right_step r1 r2 m _ _ case) x y differ
+    (j, r2, right_at σ r1 r2 zs, at2, right_step r1 r2 m _ _ case) x y differ

@@ -24,9 +24,9 @@ variable_in x [] h = absurd (true≢false (sym h))
 variable_in x (Constant c ∷ ts) h = inr (variable_in x ts h)
 variable_in x (Variable y ∷ ts) h = elim (nat_eq x y) as (λ b. nat_eq x y ≡ b → (b || list_any (is_variable x) ts)
     ≡ true → In (Variable x) (Variable y ∷ ts)) [
-  | true ↦ λ e _. inl (ap Variable (eqb-true x y e))
-  | false ↦ λ e h. inr (variable_in x ts h)
-] refl h
+      | true ↦ λ e _. inl (ap Variable (eqb-true x y e))
+      | false ↦ λ e h. inr (variable_in x ts h)
+    ] refl h
 
 pub in_variable : (x : ℕ) (ts : List Term) → In (Variable x) ts → list_any (is_variable x) ts ≡ true
 in_variable x [] i = absurd i
@@ -39,9 +39,9 @@ pub occurs_in : (x : ℕ) (ps : List Pattern) → occurs x ps ≡ true → In (V
 occurs_in x [] h = absurd (true≢false (sym h))
 occurs_in x (p ∷ ps) h = elim (list_any (is_variable x) p.args.items) as (λ b. list_any (is_variable x) p.args.items ≡ b
     → (b || occurs x ps) ≡ true → In (Variable x) (p.args.items ++ terms_of ps)) [
-  | true ↦ λ e _. in_first _ p.args.items (terms_of ps) (variable_in x p.args.items e)
-  | false ↦ λ e h. in_second _ p.args.items (terms_of ps) (occurs_in x ps h)
-] refl h
+      | true ↦ λ e _. in_first _ p.args.items (terms_of ps) (variable_in x p.args.items e)
+      | false ↦ λ e h. in_second _ p.args.items (terms_of ps) (occurs_in x ps h)
+    ] refl h
 
 pub in_occurs : (x : ℕ) (ps : List Pattern) → In (Variable x) (terms_of ps) → occurs x ps ≡ true
 in_occurs x [] i = absurd i
@@ -62,25 +62,30 @@ numbers [] k n h = let e : k ≡ n = ap (λ o. unwrap_or o 0) h in
     record { from = omega (arith, e); each = λ x i. absurd i; all = λ x l g. absurd (omega (arith, e, l, g)) }
 numbers (Constant c ∷ ts) k n h =
     let m = numbers ts k n h in
-    record { from = m.from; each = λ x i. elim i as (λ _. (0 < x) × (x ≤ n)) [ inl e ↦ absurd cc | inr j ↦ m.each x j ];
-        all = λ x l g. inr (m.all x l g) }
+    record {
+      from = m.from;
+      each = λ x i. elim i as (λ _. (0 < x) × (x ≤ n)) [ inl e ↦ absurd cc | inr j ↦ m.each x j ];
+      all = λ x l g. inr (m.all x l g);
+    }
 numbers (Variable y ∷ ts) k n h = elim (nat_eq y (k + 1)) as (λ b. nat_eq y (k + 1) ≡ b
     → cond b (numbered (k + 1) ts) (cond (nat_lt 0 y && nat_le y k) (numbered k ts) None) ≡ Some n
     → Numbers k n (Variable y ∷ ts)) [
-  | true ↦ λ e h. next (eqb-true y (k + 1) e) (numbers ts (k + 1) n h)
-  | false ↦ λ _ h. elim (nat_lt 0 y && nat_le y k) as (λ b. (nat_lt 0 y && nat_le y k) ≡ b → cond b (numbered k ts) None
-        ≡ Some n → Numbers k n (Variable y ∷ ts)) [
-    | true ↦ λ e h. again e (numbers ts k n h)
-    | false ↦ λ _ h. absurd cc
-  ] refl h
-] refl h
+      | true ↦ λ e h. next (eqb-true y (k + 1) e) (numbers ts (k + 1) n h)
+      | false ↦ λ _ h. elim (nat_lt 0 y && nat_le y k) as (λ b. (nat_lt 0 y && nat_le y k) ≡ b
+          → cond b (numbered k ts) None
+          ≡ Some n → Numbers k n (Variable y ∷ ts)) [
+            | true ↦ λ e h. again e (numbers ts k n h)
+            | false ↦ λ _ h. absurd cc
+          ] refl h
+    ] refl h
   where
     next : y ≡ k + 1 → Numbers (k + 1) n ts → Numbers k n (Variable y ∷ ts)
     next e m = let f = m.from in record {
       from = omega (arith, f);
-      each = λ x i. elim i as (λ _. (0 < x) × (x ≤ n))
-          [ inl q ↦ (let p = same_variable x y q in (omega (arith, p, e), omega (arith, p, e, f))) | inr j ↦ m.each x j
-          ];
+      each = λ x i. elim i as (λ _. (0 < x) × (x ≤ n)) [
+        | inl q ↦ (let p = same_variable x y q in (omega (arith, p, e), omega (arith, p, e, f)))
+        | inr j ↦ m.each x j
+      ];
       all = λ x l g. elim (nat_eq x y) as (λ b. nat_eq x y ≡ b → In (Variable x) (Variable y ∷ ts)) [
         | true ↦ λ q. inl (ap Variable (eqb-true x y q))
         | false ↦ λ q. inr (m.all x (let p = eqb-false x y q in omega (arith, l, e, p)) g)
@@ -90,12 +95,13 @@ numbers (Variable y ∷ ts) k n h = elim (nat_eq y (k + 1)) as (λ b. nat_eq y (
     again : (nat_lt 0 y && nat_le y k) ≡ true → Numbers k n ts → Numbers k n (Variable y ∷ ts)
     again e m = let f = m.from in let z = ltb-true 0 y ((and_parts _ _ e).0) in let l =
         leb-true y k ((and_parts (nat_lt 0 y) _ e).1) in record {
-      from = f;
-      each = λ x i. elim i as (λ _. (0 < x) × (x ≤ n))
-          [ inl q ↦ (let p = same_variable x y q in (omega (arith, p, z), omega (arith, p, l, f))) | inr j ↦ m.each x j
+          from = f;
+          each = λ x i. elim i as (λ _. (0 < x) × (x ≤ n)) [
+            | inl q ↦ (let p = same_variable x y q in (omega (arith, p, z), omega (arith, p, l, f)))
+            | inr j ↦ m.each x j
           ];
-      all = λ x l g. inr (m.all x l g);
-    }
+          all = λ x l g. inr (m.all x l g);
+        }
 
 rule_numbered : (r : Rule) → (n : ℕ) × (numbered 0 (terms_of (heads_of r)) ≡ Some n)
 rule_numbered r = by (numbered 0 (terms_of (heads_of r)))

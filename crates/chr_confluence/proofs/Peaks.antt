@@ -54,7 +54,7 @@ left_over_before m p k [] h = refl
 left_over_before m p k (b ∷ bs) h =
     let e : nat_eq (suc k) p ≡ false = grind (arith, nat_tests) in
     rw e (λ i. cond (names m (suc k)) (left_over_before m p (suc k) bs (omega arith) i)
-        (b ∷ left_over_before m p (suc k) bs (omega arith) i))
+    (b ∷ left_over_before m p (suc k) bs (omega arith) i))
 
 place_left : (used : List ℕ) (a : Atom) (k : ℕ) (bs : List Atom) → place_for used a k bs ≡ 0
     → count_of a (left_over used k bs) ≡ 0
@@ -64,7 +64,7 @@ place_left used a k (b ∷ bs) h = by (names used (suc k)) refl (is_same_atom a 
     by : (x : Bool) → names used (suc k) ≡ x → (y : Bool) → is_same_atom a b ≡ y
         → (place_for used a (suc k) bs ≡ 0 → count_of a (left_over used (suc k) bs) ≡ 0)
         → cond (not (names used (suc k)) && is_same_atom a b) (suc k) (place_for used a (suc k) bs) ≡ 0
-            → count_of a (left_over used k (b ∷ bs)) ≡ 0
+        → count_of a (left_over used k (b ∷ bs)) ≡ 0
     by true e y g more h = rw e (more (rw e at h))
     by false e true g more h = absurd (let z : suc k ≡ 0 = rw (e, g) at h in omega (arith, z))
     by false e false g more h = rw e (rw g (let z = more (rw (e, g) at h) in omega (arith, z)))
@@ -103,7 +103,7 @@ place_found used a k (b ∷ bs) p h = by (names used (suc k)) refl (is_same_atom
     by : (x : Bool) → names used (suc k) ≡ x → (y : Bool) → is_same_atom a b ≡ y
         → (place_for used a (suc k) bs ≡ suc p → Found used a (suc k) bs p)
         → cond (not (names used (suc k)) && is_same_atom a b) (suc k) (place_for used a (suc k) bs) ≡ suc p
-            → Found used a k (b ∷ bs) p
+        → Found used a k (b ∷ bs) p
     by true e y g more h = later (more (rw e at h)) h
     by false e false g more h = later (more (rw (e, g) at h)) h
     by false e true g more h =
@@ -116,8 +116,12 @@ place_found used a k (b ∷ bs) p h = by (names used (suc k)) refl (is_same_atom
           free = subst (λ x. names used (suc x) ≡ false) kp e;
           counts = λ q. subst (λ x. count_of q (left_over used k (b ∷ bs)) ≡ cond (is_same_atom q a) 1 0 + count_of q
               (left_over (suc x ∷ used) k (b ∷ bs))) kp
-              (rw (e, eq-eqb (suc k) (suc k) refl, left_over_before used (suc k) (suc k) bs (omega arith),
-                  same_is a b g) refl);
+              (rw (
+                e,
+                eq-eqb (suc k) (suc k) refl,
+                left_over_before used (suc k) (suc k) bs (omega arith),
+                same_is a b g,
+              ) refl);
         }
 
 or_assoc : (a b c : Bool) → ((a || b) || c) ≡ (b || (a || c))
@@ -171,8 +175,11 @@ greedy_agrees bs used (a ∷ as') = by (place_for used a 0 bs) refl (greedy bs (
     by : (e : ℕ) → place_for used a 0 bs ≡ e → (m : List ℕ) → MatchedAreEqual bs m as'
         → MatchedAreEqual bs (e ∷ m) (a ∷ as')
     by zero h m g = g
-    by (suc p) h m g = (let f = place_found used a 0 bs p h in let j : f.j ≡ p = (let i = f.is in omega (arith, i)) in
-        subst (λ x. slice_get bs x ≡ Some a) j f.at, g)
+    by (suc p) h m g = (
+      let f = place_found used a 0 bs p h in let j : f.j ≡ p = (let i = f.is in omega (arith, i)) in
+          subst (λ x. slice_get bs x ≡ Some a) j f.at,
+      g,
+    )
 
 -- what is left over and what is matched make up what was there
 greedy_counts : (bs : List Atom) (used : List ℕ) (as' : List Atom) (q : Atom) → count_of q (left_over used 0 bs)
@@ -184,7 +191,7 @@ greedy_counts bs used (a ∷ as') q = by (place_for used a 0 bs) refl
     by : (e : ℕ) → place_for used a 0 bs ≡ e → count_of q (left_over (e ∷ used) 0 bs)
         ≡ count_of q (matched (greedy bs (e ∷ used) as') as') + count_of q (left_over (taken bs (e ∷ used) as') 0 bs)
         → count_of q (left_over used 0 bs) ≡ count_of q (matched (e ∷ greedy bs (e ∷ used) as') (a ∷ as')) + count_of q
-            (left_over (taken bs (e ∷ used) as') 0 bs)
+        (left_over (taken bs (e ∷ used) as') 0 bs)
     by zero h more = sym (ap (count_of q) (left_over_before used 0 0 bs (omega arith))) ∙ more
     by (suc p) h more = let f = place_found used a 0 bs p h in let c = f.counts q in omega (arith, c, more)
 
@@ -199,15 +206,15 @@ greedy_bound bs used (a ∷ as') q = by (place_for used a 0 bs) refl
     by : (e : ℕ) → place_for used a 0 bs ≡ e → count_of q as' + count_of q
         (left_over (taken bs (e ∷ used) as') 0 bs) ≤ max (count_of q as') (count_of q (left_over (e ∷ used) 0 bs))
         → (cond (is_same_atom q a) 1 0 + count_of q as') + count_of q (left_over (taken bs (e ∷ used) as') 0 bs) ≤ max
-            (cond (is_same_atom q a) 1 0 + count_of q as') (count_of q (left_over used 0 bs))
+        (cond (is_same_atom q a) 1 0 + count_of q as') (count_of q (left_over used 0 bs))
     by (suc p) h more = let f = place_found used a 0 bs p h in let c = f.counts q in omega (arith, c, more)
     by zero h more =
         let same = ap (count_of q) (left_over_before used 0 0 bs (omega arith)) in
         elim (is_same_atom q a) as (λ x. is_same_atom q a ≡ x → (cond x 1 0 + count_of q as') + count_of q
-            (left_over (taken bs (zero ∷ used) as') 0 bs) ≤ max (cond x 1 0 + count_of q as')
-            (count_of q (left_over used 0 bs))) [
+        (left_over (taken bs (zero ∷ used) as') 0 bs) ≤ max (cond x 1 0 + count_of q as')
+        (count_of q (left_over used 0 bs))) [
           | true ↦ λ e. (let gone : count_of q (left_over used 0 bs) ≡ 0 =
-                rw (same_is q a e) (place_left used a 0 bs h) in omega (arith, gone, more, same))
+              rw (same_is q a e) (place_left used a 0 bs h) in omega (arith, gone, more, same))
           | false ↦ λ e. omega (arith, more, same)
         ] refl
 
@@ -219,10 +226,10 @@ one_out m p k zero (b ∷ bs) a q e h =
     let kp : k ≡ p = omega (arith, e) in
     let same : b ≡ a = unwrapped b a h in
     subst (λ x. count_of q (left_over m k (b ∷ bs)) ≤ cond (is_same_atom q a) 1 0 + count_of q
-        (left_over (suc x ∷ m) k (b ∷ bs))) kp
+    (left_over (suc x ∷ m) k (b ∷ bs))) kp
     (rw (eq-eqb (suc k) (suc k) refl, left_over_before m (suc k) (suc k) bs (omega arith), ← same)
     (elim (names m (suc k)) as (λ x. count_of q (cond x (left_over m (suc k) bs) (b ∷ left_over m (suc k) bs)) ≤ cond
-        (is_same_atom q b) 1 0 + count_of q (left_over m (suc k) bs)) [ true ↦ omega arith | false ↦ omega arith ]))
+    (is_same_atom q b) 1 0 + count_of q (left_over m (suc k) bs)) [ true ↦ omega arith | false ↦ omega arith ]))
   where
     unwrapped : (b a : Atom) → Some b ≡ Some a → b ≡ a
     unwrapped b a h = cc
@@ -230,9 +237,9 @@ one_out m p k (suc j) (b ∷ bs) a q e h =
     let more = one_out m p (suc k) j bs a q (omega (arith, e)) h in
     let apart : nat_eq (suc k) (suc p) ≡ false = grind (arith, nat_tests, e) in
     rw apart (elim (names m (suc k)) as (λ x. count_of q
-        (cond x (left_over m (suc k) bs) (b ∷ left_over m (suc k) bs)) ≤ cond (is_same_atom q a) 1 0 + count_of q
-        (cond x (left_over (suc p ∷ m) (suc k) bs) (b ∷ left_over (suc p ∷ m) (suc k) bs)))
-        [ true ↦ more | false ↦ omega (arith, more) ])
+    (cond x (left_over m (suc k) bs) (b ∷ left_over m (suc k) bs)) ≤ cond (is_same_atom q a) 1 0 + count_of q
+    (cond x (left_over (suc p ∷ m) (suc k) bs) (b ∷ left_over (suc p ∷ m) (suc k) bs)))
+    [ true ↦ more | false ↦ omega (arith, more) ])
 
 none_named : (k : ℕ) (bs : List Atom) → left_over [] k bs ≡ bs
 none_named k [] = refl
@@ -246,10 +253,10 @@ second_there bs [] (a ∷ as') q h = absurd h
 second_there bs (e ∷ m) [] q h = absurd h
 second_there bs (zero ∷ m) (a ∷ as') q h =
     let more = second_there bs m as' q h in let e = ap (count_of q) (left_over_before m 0 0 bs (omega arith)) in
-        omega (arith, more, e)
+    omega (arith, more, e)
 second_there bs (suc p ∷ m) (a ∷ as') q h =
     let more = second_there bs m as' q h.1 in let one = one_out m p 0 p bs a q (omega arith) h.0 in
-        omega (arith, more, one)
+    omega (arith, more, one)
 
 none_matched : (m : List ℕ) (rs : List Atom) (n2 : ℕ) (q : Atom) → matches_removed zero n2 m ≡ false
     → count_of q (matched m rs) ≡ 0
@@ -290,8 +297,8 @@ removed_left m k n2 [] rs q l h = let e = ap (count_of q) (all_left m k n2 rs (o
 removed_left m k n2 (x ∷ ks) rs q l h =
     let more = removed_left m (suc k) n2 ks rs q (omega arith) h in
     elim (names m (suc k)) as (λ b. count_of q rs ≤ count_of q
-        (cond b (left_over m (suc k) (ks ++ rs)) (x ∷ left_over m (suc k) (ks ++ rs))))
-        [ true ↦ more | false ↦ omega (arith, more) ]
+    (cond b (left_over m (suc k) (ks ++ rs)) (x ∷ left_over m (suc k) (ks ++ rs))))
+    [ true ↦ more | false ↦ omega (arith, more) ]
 
 module _ (ks1 rs1 ks2 rs2 : List Atom) where
   abbrev best : List ℕ
@@ -306,8 +313,8 @@ module _ (ks1 rs1 ks2 rs2 : List Atom) where
       × ((q : Atom) → count_of q (ks1 ++ rs1) + count_of q (left_over m 0 (ks2 ++ rs2)) ≤ max (count_of q (ks1 ++ rs1))
       (count_of q (ks2 ++ rs2))))
       ⊎ ((q : Atom) → (count_of q (ks2 ++ rs2) + count_of q rs1 ≤ max (count_of q (ks1 ++ rs1))
-          (count_of q (ks2 ++ rs2))) × (count_of q (ks1 ++ rs1) + count_of q rs2 ≤ max (count_of q (ks1 ++ rs1))
-          (count_of q (ks2 ++ rs2))))
+      (count_of q (ks2 ++ rs2))) × (count_of q (ks1 ++ rs1) + count_of q rs2 ≤ max (count_of q (ks1 ++ rs1))
+      (count_of q (ks2 ++ rs2))))
   touching_or_apart = by (matches_removed (length ks1) (length ks2) best) refl
     where
       within : (q : Atom) → count_of q (ks1 ++ rs1) + count_of q (left_over best 0 (ks2 ++ rs2)) ≤ max
@@ -320,12 +327,20 @@ module _ (ks1 rs1 ks2 rs2 : List Atom) where
 
       by : (x : Bool) → matches_removed (length ks1) (length ks2) best ≡ x
           → ((m : List ℕ) × Matches ks1 rs1 ks2 rs2 m × ((q : Atom) → count_of q (ks1 ++ rs1) + count_of q
-              (left_over m 0 (ks2 ++ rs2)) ≤ max (count_of q (ks1 ++ rs1)) (count_of q (ks2 ++ rs2))))
+          (left_over m 0 (ks2 ++ rs2)) ≤ max (count_of q (ks1 ++ rs1)) (count_of q (ks2 ++ rs2))))
           ⊎ ((q : Atom) → (count_of q (ks2 ++ rs2) + count_of q rs1 ≤ max (count_of q (ks1 ++ rs1))
-              (count_of q (ks2 ++ rs2))) × (count_of q (ks1 ++ rs1) + count_of q rs2 ≤ max (count_of q (ks1 ++ rs1))
-              (count_of q (ks2 ++ rs2))))
-      by true h = inl (best, record { agrees = greedy_agrees (ks2 ++ rs2) [] (ks1 ++ rs1); apart =
-          greedy_apart (ks2 ++ rs2) [] (ks1 ++ rs1); touching = h }, within)
+          (count_of q (ks2 ++ rs2))) × (count_of q (ks1 ++ rs1) + count_of q rs2 ≤ max (count_of q (ks1 ++ rs1))
+          (count_of q (ks2 ++ rs2))))
+      by true h = inl (
+        best,
+        record {
+          agrees = greedy_agrees (ks2 ++ rs2) [] (ks1 ++ rs1);
+          apart =
+              greedy_apart (ks2 ++ rs2) [] (ks1 ++ rs1);
+          touching = h;
+        },
+        within,
+      )
       by false h = inr (λ q.
           (let a = within q in
           let b = ap (count_of q) left_best in
@@ -333,6 +348,6 @@ module _ (ks1 rs1 ks2 rs2 : List Atom) where
           let d = greedy_counts (ks2 ++ rs2) [] (ks1 ++ rs1) q in
           let e = matched_kept best ks1 rs1 (length ks2) q h in
           let f = removed_left best 0 (length ks2) ks2 rs2 q (omega arith)
-              (λ p l. not_named (length ks1) (length ks2) best p h l) in
+          (λ p l. not_named (length ks1) (length ks2) best p h l) in
           let g = total-append (λ x. cond (eq_by_cmp atom_cmp q x) 1 0) ks1 rs1 in
           (omega (arith, a, b, c, d, e, g), omega (arith, a, f))))

@@ -24,7 +24,7 @@ module _ (p : Atom → Bool) (rules : List Rule) (cases : CasesAreJoinable p rul
           reaches_after (Step rules) u c.0 c.0 (i, r1, v1, at1, c.2) (reaches_itself (Step rules) c.0),
         )
         | inr c ↦ case_joins r1 r2 v1 v2 s t u st1 st2 rules c.0 c.1 c.2
-              (cases i j r1 r2 at1 at2 l c.0 v1 v2 c.1 (each_within p (case_store r1 r2 c.0 v1 v2) s c.2 each))
+            (cases i j r1 r2 at1 at2 l c.0 v1 v2 c.1 (each_within p (case_store r1 r2 c.0 v1 v2) s c.2 each))
       ]
 
   turned : (t u : Store) → AreJoinable (Step rules) u t → AreJoinable (Step rules) t u

@@ -20,4 +20,4 @@ pub not_confluent : (rules : List Rule) (s t u a b : Store) → HasValues s → 
     → IsNormalForm (Step rules) t a → IsNormalForm (Step rules) u b → (a ≡ b → ⊥) → Confluent rules → ⊥
 not_confluent rules s t u a b values h g x y differ confluent =
     differ (confluent s a b values (reaches_after (Step rules) s t a h x.0, x.1)
-        (reaches_after (Step rules) s u b g y.0, y.1))
+    (reaches_after (Step rules) s u b g y.0, y.1))

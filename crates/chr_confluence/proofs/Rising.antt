@@ -63,12 +63,12 @@ module _ (f : ℤ → ℤ) (d : ℤ → Bool) where
   pub fixes_kept : (r : Rule) → FixesRule f d r → FixesTerms f d (terms_of r.kept.items)
   fixes_kept r h =
       fixes_left (terms_of r.kept.items) (terms_of r.removed.items)
-          (subst (FixesTerms f d) (terms_of-append r.kept.items r.removed.items) (fixes_heads r h))
+      (subst (FixesTerms f d) (terms_of-append r.kept.items r.removed.items) (fixes_heads r h))
 
   pub fixes_removed : (r : Rule) → FixesRule f d r → FixesTerms f d (terms_of r.removed.items)
   fixes_removed r h =
       fixes_right (terms_of r.kept.items) (terms_of r.removed.items)
-          (subst (FixesTerms f d) (terms_of-append r.kept.items r.removed.items) (fixes_heads r h))
+      (subst (FixesTerms f d) (terms_of-append r.kept.items r.removed.items) (fixes_heads r h))
 
   value_moves : (v : Valuation) (t : Term) → FixesTerm t → term_value (λ x. f (v x)) t ≡ f (term_value v t)
   value_moves v (Variable x) h = refl
@@ -83,9 +83,14 @@ module _ (f : ℤ → ℤ) (d : ℤ → Bool) where
       ≡ map (rename_atom f) (atoms_at v ps)
   atoms_move v [] h = refl
   atoms_move v (p ∷ ps) h =
-      λ i. record { symbol = p.symbol; args = record { items =
-          values_move v p.args.items (fixes_left p.args.items (terms_of ps) h) i } }
-          ∷ atoms_move v ps (fixes_right p.args.items (terms_of ps) h) i
+      λ i. record {
+        symbol = p.symbol;
+        args = record {
+          items =
+              values_move v p.args.items (fixes_left p.args.items (terms_of ps) h) i;
+        };
+      }
+      ∷ atoms_move v ps (fixes_right p.args.items (terms_of ps) h) i
 
   value_found : (v : Valuation) (x : ℕ) (ts : List Term) → list_any (is_variable x) ts ≡ true
       → list_all d (map (term_value v) ts) ≡ true → d (v x) ≡ true
@@ -102,7 +107,7 @@ module _ (f : ℤ → ℤ) (d : ℤ → Bool) where
   pattern_found v x [] h g = absurd (true≢false (sym h))
   pattern_found v x (p ∷ ps) h g =
       elim (list_any (is_variable x) p.args.items) as (λ b. list_any (is_variable x) p.args.items ≡ b
-          → (b || occurs x ps) ≡ true → d (v x) ≡ true) [
+      → (b || occurs x ps) ≡ true → d (v x) ≡ true) [
         | true ↦ λ e _. value_found v x p.args.items e ((and_parts _ _ g).0)
         | false ↦ λ e h. pattern_found v x ps h ((and_parts _ _ g).1)
       ] refl h
@@ -116,19 +121,19 @@ module _ (f : ℤ → ℤ) (d : ℤ → Bool) where
     pub guard_moves : (v : Valuation) (ps : List Pattern) (cs : List Comparison) → list_all (args_in d) (atoms_at v ps)
         ≡ true
         → list_all (λ c. is_bound_in ps c.left && is_bound_in ps c.right) cs ≡ true → FixesTerms f d (guard_terms cs)
-            → guard_holds (λ x. f (v x)) cs ≡ guard_holds v cs
+        → guard_holds (λ x. f (v x)) cs ≡ guard_holds v cs
     guard_moves v ps [] g k h = refl
     guard_moves v ps (c ∷ cs) g k h =
         let here : (is_bound_in ps c.left && is_bound_in ps c.right) ≡ true = (and_parts _ _ k).0 in
         let more : list_all (λ c. is_bound_in ps c.left && is_bound_in ps c.right) cs ≡ true =
-            (and_parts (is_bound_in ps c.left && is_bound_in ps c.right) _ k).1 in
+        (and_parts (is_bound_in ps c.left && is_bound_in ps c.right) _ k).1 in
         let left : FixesTerm c.left = λ x e. h x (inl e) in
         let right : FixesTerm c.right = λ x e. h x (inr (inl e)) in
         let order : int_cmp (term_value (λ x. f (v x)) c.left) (term_value (λ x. f (v x)) c.right)
-            ≡ int_cmp (term_value v c.left) (term_value v c.right) =
+        ≡ int_cmp (term_value v c.left) (term_value v c.right) =
         (λ i. int_cmp (value_moves v c.left left i) (value_moves v c.right right i))
         ∙ keeps _ _ (known_in v ps c.left g ((and_parts _ _ here).0) left)
-            (known_in v ps c.right g ((and_parts (is_bound_in ps c.left) _ here).1) right) in
+        (known_in v ps c.right g ((and_parts (is_bound_in ps c.left) _ here).1) right) in
         let rest = guard_moves v ps cs g more (λ x i. h x (inr (inr i))) in
         λ i. compares c.cmp (order i) && rest i
 
@@ -138,8 +143,8 @@ module _ (f : ℤ → ℤ) (d : ℤ → Bool) where
   body_in v ps [] g k h = refl
   body_in v ps (q ∷ qs) g k h =
       and_from _ _ (terms_in q.args.items ((and_parts _ _ k).0) (fixes_left q.args.items (terms_of qs) h))
-          (body_in v ps qs g ((and_parts (list_all (is_bound_in ps) q.args.items) _ k).1)
-          (fixes_right q.args.items (terms_of qs) h))
+      (body_in v ps qs g ((and_parts (list_all (is_bound_in ps) q.args.items) _ k).1)
+      (fixes_right q.args.items (terms_of qs) h))
     where
       terms_in : (ts : List Term) → list_all (is_bound_in ps) ts ≡ true → FixesTerms f d ts
           → list_all d (map (term_value v) ts) ≡ true
@@ -157,7 +162,7 @@ module _ (f : ℤ → ℤ) (d : ℤ → Bool) where
   values_kept r v s t fixes each st =
       rw st.after (each_plus (args_in d) _ _ (each_minus (args_in d) s _ each)
       (each_of_list (args_in d) _ (body_in v (heads_of r) r.body.items (heads_in r v s t each st) (body_known r)
-          (fixes_body r fixes))))
+      (fixes_body r fixes))))
 
   -- the instance of a step from a store with values in the set is carried to that of the mapped values
   pub rising_carries : KeepsOrder f d → (r : Rule) (v : Valuation) (s t : Store) → FixesRule f d r → Each (args_in d) s

@@ -46,18 +46,18 @@ module _ (σ τ : Substitution) (a : AreClasses σ) (b : AreClasses τ)
   same_by : (x : ℕ) (s t : Term) → σ x ≡ s → τ x ≡ t → s ≡ t
   same_by x (Constant c) (Constant d) e g =
       let q : d ≡ c = ap (term_value (λ _. pos 0)) (sym g) ∙ one_side σ τ b to x (λ _. pos 0)
-          ∙ ap (term_value (spread τ (λ _. pos 0))) e in ap Constant (sym q)
+      ∙ ap (term_value (spread τ (λ _. pos 0))) e in ap Constant (sym q)
   same_by x (Constant c) (Variable z) e g =
       let q : c +ℤ pos 1 ≡ c = ap (term_value (λ _. c +ℤ pos 1)) (sym g) ∙ one_side σ τ b to x (λ _. c +ℤ pos 1)
-          ∙ ap (term_value (spread τ (λ _. c +ℤ pos 1))) e in absurd (omega (arith, ints, q))
+      ∙ ap (term_value (spread τ (λ _. c +ℤ pos 1))) e in absurd (omega (arith, ints, q))
   same_by x (Variable z) (Constant d) e g =
       let q : d +ℤ pos 1 ≡ d = ap (term_value (λ _. d +ℤ pos 1)) (sym e) ∙ one_side τ σ a from x (λ _. d +ℤ pos 1)
-          ∙ ap (term_value (spread σ (λ _. d +ℤ pos 1))) g in absurd (omega (arith, ints, q))
+      ∙ ap (term_value (spread σ (λ _. d +ℤ pos 1))) g in absurd (omega (arith, ints, q))
   same_by x (Variable y) (Variable z) e g =
       let p = before τ b y z (λ f. ap (term_value f) (sym g) ∙ one_side σ τ b to x f
-          ∙ ap (term_value (spread τ f)) e) in
+      ∙ ap (term_value (spread τ f)) e) in
       let q = before σ a z y (λ f. ap (term_value f) (sym e) ∙ one_side τ σ a from x f
-          ∙ ap (term_value (spread σ f)) g) in
+      ∙ ap (term_value (spread σ f)) g) in
       ap Variable (omega (arith, p, q))
 
   pub same_classes : (x : ℕ) → σ x ≡ τ x
@@ -75,16 +75,16 @@ same_constant x y e = cc
 alike : (s t : Term) → (s ≡ t) ⊎ (s ≡ t → ⊥)
 alike (Variable x) (Variable y) = elim (nat_eq x y) as (λ b. nat_eq x y ≡ b → (Variable x ≡ Variable y)
     ⊎ (Variable x ≡ Variable y → ⊥)) [
-  | true ↦ λ e. inl (ap Variable (eqb-true x y e))
-  | false ↦ λ e. inr (λ q. eqb-false x y e (same_variable x y q))
-] refl
+      | true ↦ λ e. inl (ap Variable (eqb-true x y e))
+      | false ↦ λ e. inr (λ q. eqb-false x y e (same_variable x y q))
+    ] refl
 alike (Variable x) (Constant d) = inr (λ e. cc)
 alike (Constant c) (Variable y) = inr (λ e. cc)
 alike (Constant c) (Constant d) = elim (int_eq c d) as (λ b. int_eq c d ≡ b → (Constant c ≡ Constant d)
     ⊎ (Constant c ≡ Constant d → ⊥)) [
-  | true ↦ λ e. inl (ap Constant ((Decides-int_eq c d).0 e))
-  | false ↦ λ e. inr (λ q. true≢false (sym ((Decides-int_eq c d).1 (same_constant c d q)) ∙ e))
-] refl
+      | true ↦ λ e. inl (ap Constant ((Decides-int_eq c d).0 e))
+      | false ↦ λ e. inr (λ q. true≢false (sym ((Decides-int_eq c d).1 (same_constant c d q)) ∙ e))
+    ] refl
 
 stands : (t : Term) (ts : List Term) → In t ts ⊎ (In t ts → ⊥)
 stands t [] = inr (λ i. i)
@@ -100,8 +100,11 @@ stands t (u ∷ ts) = elim (alike t u) as (λ _. ((t ≡ u) ⊎ In t ts) ⊎ ((t
 meets_moved : (g : ℤ → ℤ) (v w : Valuation) (es : List (Term × Term))
     → ((t : Term) → In t (equation_terms es) → term_value w t ≡ g (term_value v t)) → Unifies v es → Unifies w es
 meets_moved g v w [] h m = tt
-meets_moved g v w (e ∷ es) h m = (h e.0 (inl refl) ∙ ap g m.0 ∙ sym (h e.1 (inr (inl refl))), meets_moved g v w es
-    (λ t i. h t (inr (inr i))) m.1)
+meets_moved g v w (e ∷ es) h m = (
+  h e.0 (inl refl) ∙ ap g m.0 ∙ sym (h e.1 (inr (inl refl))),
+  meets_moved g v w es
+      (λ t i. h t (inr (inr i))) m.1,
+)
 
 -- one more at y
 bump : ℕ → Valuation → Valuation
@@ -167,26 +170,26 @@ module _ (σ : Substitution) (es : List (Term × Term)) (solves : IsMostGeneralU
   there : (x : ℕ) (t : Term) → σ x ≡ t → (t ≡ Variable x → ⊥) → In t (equation_terms es)
   there x (Constant c) e n = elim (stands (Constant c) (equation_terms es)) as (λ _. In (Constant c)
       (equation_terms es)) [
-    | inl i ↦ i
-    | inr k ↦ (let p : lift c (zeros x) ≡ c = lifted c k x ∙ ap (term_value (λ x. lift c (zeros x))) e in
-        let q : zeros x ≡ c = on_zeros x ∙ ap (term_value zeros) e in
-        let s : c +ℤ pos 1 ≡ c = sym (lift_same c) ∙ ap (lift c) (sym q) ∙ p in
-        absurd (omega (arith, ints, s)))
-  ]
+        | inl i ↦ i
+        | inr k ↦ (let p : lift c (zeros x) ≡ c = lifted c k x ∙ ap (term_value (λ x. lift c (zeros x))) e in
+            let q : zeros x ≡ c = on_zeros x ∙ ap (term_value zeros) e in
+            let s : c +ℤ pos 1 ≡ c = sym (lift_same c) ∙ ap (lift c) (sym q) ∙ p in
+            absurd (omega (arith, ints, s)))
+      ]
   there x (Variable a) e n = elim (stands (Variable a) (equation_terms es)) as (λ _. In (Variable a)
       (equation_terms es)) [
-    | inl i ↦ i
-    | inr k ↦ (let p : bump a zeros x ≡ bump a zeros a = bumped a k x ∙ ap (term_value (bump a zeros)) e in
-        let q : zeros x ≡ zeros a = on_zeros x ∙ ap (term_value zeros) e in
-        let s = bump_same a zeros in
-        let o = bump_other a zeros x (λ d. n (ap Variable (sym d))) in
-        absurd (omega (arith, ints, p, q, s, o)))
-  ]
+        | inl i ↦ i
+        | inr k ↦ (let p : bump a zeros x ≡ bump a zeros a = bumped a k x ∙ ap (term_value (bump a zeros)) e in
+            let q : zeros x ≡ zeros a = on_zeros x ∙ ap (term_value zeros) e in
+            let s = bump_same a zeros in
+            let o = bump_other a zeros x (λ d. n (ap Variable (sym d))) in
+            absurd (omega (arith, ints, p, q, s, o)))
+      ]
 
   -- a variable that does not stand for itself stands in the equations, and so does what stands for it
   pub terms_stand : (x : ℕ) → (σ x ≡ Variable x) ⊎ (In (Variable x) (equation_terms es) × In (σ x) (equation_terms es))
   terms_stand x = elim (alike (σ x) (Variable x)) as (λ _. (σ x ≡ Variable x)
       ⊎ (In (Variable x) (equation_terms es) × In (σ x) (equation_terms es))) [
-    | inl e ↦ inl e
-    | inr n ↦ inr (here x (σ x) refl n, there x (σ x) refl n)
-  ]
+        | inl e ↦ inl e
+        | inr n ↦ inr (here x (σ x) refl n, there x (σ x) refl n)
+      ]

@@ -22,8 +22,7 @@ same_variable x y e = cc
 put_value : (v : Valuation) (x : ℕ) (t : Term) → v x ≡ term_value v t → (s : Term) → term_value v (put_term x t s)
     ≡ term_value v s
 put_value v x t h (Constant c) = refl
-put_value v x t h (Variable y) = elim (nat_eq y x) as (λ b. nat_eq y x ≡ b → term_value v (cond b t (Variable y)) ≡ v y)
-    [
+put_value v x t h (Variable y) = elim (nat_eq y x) as (λ b. nat_eq y x ≡ b → term_value v (cond b t (Variable y)) ≡ v y) [
   | true ↦ λ e. sym h ∙ ap v (sym (eqb-true y x e))
   | false ↦ λ e. refl
 ] refl
@@ -54,12 +53,14 @@ join_adds σ is x t own other = record {
     own_by y z (Constant c) e h = absurd cc
     own_by y z (Variable w) e h = elim (nat_eq w x) as (λ b. nat_eq w x ≡ b → cond b t (Variable w) ≡ Variable z
         → (put_term x t (σ z) ≡ Variable z) × (z ≤ y)) [
-      | true ↦ λ b q. (let o = other z q in let wx = eqb-true w x b in let f = is.first y w e in let less = o.1 in
-            (ap (put_term x t) o.0 ∙ stays z (λ k. omega (arith, k, less)), omega (arith, wx, f, less)))
-      | false ↦ λ b q. (let wz : w ≡ z = same_variable w z q in let f = is.first y w e in
-            (subst (λ u. put_term x t (σ u) ≡ Variable u) wz
-            (ap (put_term x t) (is.own y w e) ∙ stays w (eqb-false w x b)), omega (arith, wz, f)))
-    ] refl h
+          | true ↦ λ b q. (let o = other z q in let wx = eqb-true w x b in let f = is.first y w e in let less = o.1 in
+              (ap (put_term x t) o.0 ∙ stays z (λ k. omega (arith, k, less)), omega (arith, wx, f, less)))
+          | false ↦ λ b q. (let wz : w ≡ z = same_variable w z q in let f = is.first y w e in (
+            subst (λ u. put_term x t (σ u) ≡ Variable u) wz
+                (ap (put_term x t) (is.own y w e) ∙ stays w (eqb-false w x b)),
+            omega (arith, wz, f),
+          ))
+        ] refl h
 
     owns : (y z : ℕ) → put_term x t (σ y) ≡ Variable z → put_term x t (σ z) ≡ Variable z
     owns y z h = (own_by y z (σ y) refl h).0
@@ -72,8 +73,12 @@ Out σ a b None = (v : Valuation) → term_value v a ≡ term_value v b → ⊥
 Out σ a b (Some τ) = Adds σ a b τ
 
 swapped : (σ : Substitution) (a b : Term) (τ : Substitution) → Adds σ a b τ → Adds σ b a τ
-swapped σ a b τ h = record { classes = h.classes; meets = λ v k e. h.meets v k (sym e); met =
-    λ v k. (let m = h.met v k in (m.0, sym m.1)) }
+swapped σ a b τ h = record {
+  classes = h.classes;
+  meets = λ v k e. h.meets v k (sym e);
+  met =
+      λ v k. (let m = h.met v k in (m.0, sym m.1));
+}
 
 nothing_added : (σ : Substitution) (a b : Term) → AreClasses σ → ((v : Valuation) → term_value v a ≡ term_value v b)
     → Adds σ a b σ
@@ -84,27 +89,30 @@ joined_is : (σ : Substitution) → AreClasses σ → (a b : Term) → ((z : ℕ
 unfolding Out
 joined_is σ is (Constant c) (Constant d) oa ob = elim (int_eq c d) as (λ t. int_eq c d ≡ t
     → Out σ (Constant c) (Constant d) (cond t (Some σ) None)) [
-  | true ↦ λ t. nothing_added σ (Constant c) (Constant d) is (λ v. (Decides-int_eq c d).0 t)
-  | false ↦ λ t v e. true≢false (sym ((Decides-int_eq c d).1 e) ∙ t)
-] refl
+      | true ↦ λ t. nothing_added σ (Constant c) (Constant d) is (λ v. (Decides-int_eq c d).0 t)
+      | false ↦ λ t v e. true≢false (sym ((Decides-int_eq c d).1 e) ∙ t)
+    ] refl
 joined_is σ is (Constant c) (Variable y) oa ob = swapped σ (Variable y) (Constant c) _
     (join_adds σ is y (Constant c) (ob y refl) (λ z e. absurd cc))
 joined_is σ is (Variable x) (Constant d) oa ob = join_adds σ is x (Constant d) (oa x refl) (λ z e. absurd cc)
 joined_is σ is (Variable x) (Variable y) oa ob = elim (nat_eq x y) as (λ t. nat_eq x y ≡ t
     → Out σ (Variable x) (Variable y) (cond t (Some σ)
     (cond (nat_lt x y) (Some (put_everywhere y (Variable x) σ)) (Some (put_everywhere x (Variable y) σ))))) [
-  | true ↦ λ t. nothing_added σ (Variable x) (Variable y) is (λ v. ap v (eqb-true x y t))
-  | false ↦ λ t. elim (nat_lt x y) as (λ s. nat_lt x y ≡ s
-        → Out σ (Variable x) (Variable y) (cond s (Some (put_everywhere y (Variable x) σ))
-        (Some (put_everywhere x (Variable y) σ)))) [
-    | true ↦ λ s. swapped σ (Variable y) (Variable x) _
-          (join_adds σ is y (Variable x) (ob y refl) (λ z e.
-          (oa z e, (let q : x ≡ z = same_variable x z e in let l = ltb-true x y s in omega (arith, q, l)))))
-    | false ↦ λ s. join_adds σ is x (Variable y) (oa x refl)
-          (λ z e. (ob z e, (let q : y ≡ z = same_variable y z e in let l = ltb-false x y s in let n = eqb-false x y t in
-          omega (arith, q, l, n))))
-  ] refl
-] refl
+      | true ↦ λ t. nothing_added σ (Variable x) (Variable y) is (λ v. ap v (eqb-true x y t))
+      | false ↦ λ t. elim (nat_lt x y) as (λ s. nat_lt x y ≡ s
+          → Out σ (Variable x) (Variable y) (cond s (Some (put_everywhere y (Variable x) σ))
+          (Some (put_everywhere x (Variable y) σ)))) [
+            | true ↦ λ s. swapped σ (Variable y) (Variable x) _
+                (join_adds σ is y (Variable x) (ob y refl) (λ z e.
+                (oa z e, (let q : x ≡ z = same_variable x z e in let l = ltb-true x y s in omega (arith, q, l)))))
+            | false ↦ λ s. join_adds σ is x (Variable y) (oa x refl)
+                (λ z e. (
+                  ob z e,
+                  (let q : y ≡ z = same_variable y z e in let l = ltb-false x y s in let n = eqb-false x y t in
+                      omega (arith, q, l, n)),
+                ))
+          ] refl
+    ] refl
 
 value_class : (σ : Substitution) (v : Valuation) → IsInstanceOf σ v → (t : Term) → term_value v t
     ≡ term_value v (class_of σ t)
@@ -152,8 +160,11 @@ refined (e ∷ es) σ is = after (unify_terms σ (class_of σ e.0) (class_of σ 
     after (Some τ) k more = on τ k (solve τ es) (more τ k.classes)
 
 single_classes : AreClasses identity_substitution
-single_classes = record { own = λ y x e. ap Variable (sym (same_variable y x e)) ∙ e; first =
-    λ y x e. (let q = same_variable y x e in omega (arith, q)) }
+single_classes = record {
+  own = λ y x e. ap Variable (sym (same_variable y x e)) ∙ e;
+  first =
+      λ y x e. (let q = same_variable y x e in omega (arith, q));
+}
 
 -- a valuation meets the equations just where it is constant on the classes
 pub solved : (es : List (Term × Term)) → Solved es (solve identity_substitution es)

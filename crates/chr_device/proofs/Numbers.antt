@@ -100,7 +100,7 @@ module _ (name : Text) (most : ℕ) (named : IsNamed name most) where
   own_sound values rows accepted sound =
       at_row_sound name (more_values CommandLine values) _
       (λ r e s. ((λ is. ((s is).0, accepted_append r.values values (s is).1 accepted)), tt))
-          ((λ is. (refl, accepted)), tt) _ (without_sound name rows sound)
+      ((λ is. (refl, accepted)), tt) _ (without_sound name rows sound)
 
   -- another argument with any values
   other_sound : (id : Text) (how : Reading) (source : ValueSource) (values : List Text) (rows : List Row)
@@ -108,7 +108,7 @@ module _ (name : Text) (most : ℕ) (named : IsNamed name most) where
       → AreSound (with_values id how source values rows)
   other_sound id how source values rows other sound =
       at_row_sound id (more_values source values) _ (λ r e s. ((λ is. absurd (apart r e is)), tt))
-          ((λ is. absurd (clash is)), tt) rows sound
+      ((λ is. absurd (clash is)), tt) rows sound
     where
       clash : bytes_eq id name ≡ true → ⊥
       clash is = let bad : false ≡ true = sym other ∙ is in cc
@@ -120,8 +120,10 @@ module _ (name : Text) (most : ℕ) (named : IsNamed name most) where
 
   values_accepted : (values : List Text) → values_kinds false range values ≡ [] → AreAccepted values
   values_accepted [] e = tt
-  values_accepted (v ∷ vs) e = (go (accepts false range v) (first_none (value_kinds false range v) _ e),
-      values_accepted vs (next_none (value_kinds false range v) _ e))
+  values_accepted (v ∷ vs) e = (
+    go (accepts false range v) (first_none (value_kinds false range v) _ e),
+    values_accepted vs (next_none (value_kinds false range v) _ e),
+  )
     where
       go : (b : Bool) → cond b [] (kind.ValueValidation ∷ []) ≡ [] → b ≡ true
       go true e = refl
@@ -147,7 +149,7 @@ module _ (name : Text) (most : ℕ) (named : IsNamed name most) where
       on values rows e sound = own_sound (values_or_missing (with_index 1 (filled (number_option name most))) values)
           rows
           (values_accepted _ (next_none (repeat_fault again name rows) _
-              (next_none (range_kinds 1 1 (length values)) _ e))) sound
+          (next_none (range_kinds 1 1 (length values)) _ e))) sound
 
   -- an option with a number: this one, with its limit, or another one
   number_keeps : (again : Bool) (id : Text) (limit : ℕ) → (bytes_eq id name ≡ true → limit ≡ most)
@@ -158,7 +160,7 @@ module _ (name : Text) (most : ℕ) (named : IsNamed name most) where
       go true e = subst (λ (t : Text). Keeps AreSound again (with_index 1 (filled (number_option t limit))))
           (sym ((bytes_eq-Decides id name).0 e))
           (subst (λ (k : ℕ). Keeps AreSound again (with_index 1 (filled (number_option name k)))) (sym (same e))
-              (own_keeps again))
+          (own_keeps again))
       go false e = (
         (λ values rows f sound. other_sound id _ CommandLine
             (values_or_missing (with_index 1 (filled (number_option id limit))) values) (without id rows) e
@@ -206,8 +208,10 @@ module _ (name : Text) (most : ℕ) (named : IsNamed name most) where
     number_keeps false (codes "replicas") MAX_REPLICAS named.replicas,
     (
       number_keeps false (codes "workers") MAX_WORKERS named.workers,
-      (number_keeps false (codes "parts") MAX_PARTS named.parts,
-          (flag_keeps false (codes "wide") named.wide, (help_keeps false, tt))),
+      (
+        number_keeps false (codes "parts") MAX_PARTS named.parts,
+        (flag_keeps false (codes "wide") named.wide, (help_keeps false, tt)),
+      ),
     ),
   )
 
@@ -219,8 +223,13 @@ module _ (name : Text) (most : ℕ) (named : IsNamed name most) where
         flag_keeps false (codes "dot") named.dot,
         (
           flag_keeps false (codes "html") named.html,
-          (flag_keeps false (codes "all") named.all, (flag_keeps false (codes "wide") named.wide,
-              (help_keeps false, tt))),
+          (
+            flag_keeps false (codes "all") named.all,
+            (
+              flag_keeps false (codes "wide") named.wide,
+              (help_keeps false, tt),
+            ),
+          ),
         ),
       ),
       (answering_keep, (answering_keep, ((topic_keeps false, tt), tt))),
@@ -255,7 +264,7 @@ module _ (name : Text) (most : ℕ) (named : IsNamed name most) where
   command_passes : (words : List Text) → faults_of words ≡ [] → entered_fault (built chrrep) (stop_met words) ≡ []
   command_passes words e = first_none (entered_fault (built chrrep) (stop_met words)) _
       (next_none (walk_fault (built chrrep).top (names_of (built chrrep)) (walk_from nothing_held)
-          (argument_words chrrep words)) _ e)
+      (argument_words chrrep words)) _ e)
 
   -- ---- the option's text
 
@@ -290,7 +299,7 @@ module _ (name : Text) (most : ℕ) (named : IsNamed name most) where
     where
       go : (b : Bool) → bytes_eq r.id name ≡ b → IfSome (one_of name rest) (WritesNumber most)
           → IfSome (option_and_then row_text (cond b (Some r) (find (λ x. bytes_eq x.id name) rest)))
-              (WritesNumber most)
+          (WritesNumber most)
       go true e later = value_writes r.reading r.values (sound.0 e).0 (sound.0 e).1
       go false e later = later
 
@@ -327,16 +336,48 @@ no : {P : Type 0} → false ≡ true → P
 no e = cc
 
 replicas_named : IsNamed (codes "replicas") MAX_REPLICAS
-replicas_named = record { some = omega arith; few = omega arith; replicas = (λ e. refl); workers = no; parts = no;
-    wide = refl; dot = refl; html = refl; all = refl; topic = refl }
+replicas_named = record {
+  some = omega arith;
+  few = omega arith;
+  replicas = (λ e. refl);
+  workers = no;
+  parts = no;
+  wide = refl;
+  dot = refl;
+  html = refl;
+  all = refl;
+  topic = refl;
+}
 
 workers_named : IsNamed (codes "workers") MAX_WORKERS
-workers_named = record { some = omega arith; few = omega arith; replicas = no; workers = (λ e. refl); parts = no; wide =
-    refl; dot = refl; html = refl; all = refl; topic = refl }
+workers_named = record {
+  some = omega arith;
+  few = omega arith;
+  replicas = no;
+  workers = (λ e. refl);
+  parts = no;
+  wide =
+      refl;
+  dot = refl;
+  html = refl;
+  all = refl;
+  topic = refl;
+}
 
 parts_named : IsNamed (codes "parts") MAX_PARTS
-parts_named = record { some = omega arith; few = omega arith; replicas = no; workers = no; parts = (λ e. refl); wide =
-    refl; dot = refl; html = refl; all = refl; topic = refl }
+parts_named = record {
+  some = omega arith;
+  few = omega arith;
+  replicas = no;
+  workers = no;
+  parts = (λ e. refl);
+  wide =
+      refl;
+  dot = refl;
+  html = refl;
+  all = refl;
+  topic = refl;
+}
 
 pub numbers_within_limits : NumbersAreWithinLimits
 numbers_within_limits words none = (

@@ -72,7 +72,7 @@ module _ (P : List Row → Type 0) (again : Bool) (c : List Rule) (each : EachKe
       → P h.rows → P (reacted c a values h).rows
   reacted_keeps a keeps values h e r =
       keeps.0 values (settled c h).rows (next_none (settle_fault c again h) _ e)
-          (settled_keeps h (first_none (settle_fault c again h) _ e) r)
+      (settled_keeps h (first_none (settle_fault c again h) _ e) r)
 
   option_keeps : (a : Rule) → Keeps P again a → (v : Option Text) (h : Held) → option_fault c again a v h ≡ []
       → P h.rows → P (option_met c a v h).0.rows
@@ -98,7 +98,7 @@ module _ (P : List Row → Type 0) (again : Bool) (c : List Rule) (each : EachKe
   short_keeps : (o : Option Rule) → IfSome o (Keeps P again) → (rest : Text) (h : Held) (fault : Held → Kinds)
       (after : Held → Held × Outcome)
       → ((g : Held) → fault g ≡ [] → P g.rows → P (after g).0.rows) → short_fault c again o rest h fault ≡ [] → P h.rows
-          → P (short_met c o rest h after).0.rows
+      → P (short_met c o rest h after).0.rows
   short_keeps None keeps rest h fault after on e r = r
   short_keeps (Some a) keeps rest h fault after on e r = go (takes_values a) e
     where
@@ -108,7 +108,7 @@ module _ (P : List Row → Type 0) (again : Bool) (c : List Rule) (each : EachKe
       go true e = option_keeps a keeps (attached_value rest) h e r
       go false e =
           on (reacted c a [] h) (next_none (react_fault c again a [] h) _ e)
-              (reacted_keeps a keeps [] h (first_none (react_fault c again a [] h) _ e) r)
+          (reacted_keeps a keeps [] h (first_none (react_fault c again a [] h) _ e) r)
 
   bundle_keeps : (k : ℕ) (flags : Text) (skip : ℕ) (so_far : Outcome) (h : Held) → flags_fault c again k flags skip h
       ≡ [] → P h.rows
@@ -120,12 +120,12 @@ module _ (P : List Row → Type 0) (again : Bool) (c : List Rule) (each : EachKe
       go : (o : Option ℕ) (s : ℕ) → ((text : Text) (n : ℕ) (outcome : Outcome) (g : Held)
           → flags_fault c again k text n g ≡ [] → P g.rows → P (bundle_met c k text n outcome g).0.rows)
           → bundle_step_fault c again o flags s h (flags_fault c again k) ≡ []
-              → P (bundle_step c o flags s so_far h (bundle_met c k)).0.rows
+          → P (bundle_step c o flags s so_far h (bundle_met c k)).0.rows
       go None s later e = r
       go (Some x) zero later e = short_keeps (arg_by_short c x) (found_keeps P again _ c each)
           (drop (length (encode_utf8 x)) flags) h
           (flags_fault c again k (drop (length (encode_utf8 x)) flags) 0)
-              (bundle_met c k (drop (length (encode_utf8 x)) flags) 0 done)
+          (bundle_met c k (drop (length (encode_utf8 x)) flags) 0 done)
           (λ g. later (drop (length (encode_utf8 x)) flags) 0 done g) e r
       go (Some x) (suc s) later e = later (drop (length (encode_utf8 x)) flags) s so_far h e r
 
@@ -150,7 +150,7 @@ module _ (P : List Row → Type 0) (again : Bool) (c : List Rule) (each : EachKe
       → P (long_or_other c waiting word o h).0.rows
   flag_word_keeps waiting word (Some p) h e r =
       after_keeps waiting word _ (long_met c (arg_by_long c p.0) p.1 h).1
-          (long_keeps (arg_by_long c p.0) (found_keeps P again _ c each) p.1 h e r)
+      (long_keeps (arg_by_long c p.0) (found_keeps P again _ c each) p.1 h e r)
   flag_word_keeps waiting word None h e r = go (short_of word) e
     where
       go : (o : Option Text) → option_map_or (λ flags. bundle_fault c again flags h) o [] ≡ []
@@ -158,7 +158,7 @@ module _ (P : List Row → Type 0) (again : Bool) (c : List Rule) (each : EachKe
       go None e = plain_keeps waiting word h r
       go (Some flags) e =
           after_keeps waiting word _ (bundle c flags h).1
-              (bundle_keeps (length flags) flags h.skip plain (record h { skip = 0 }) e r)
+          (bundle_keeps (length flags) flags h.skip plain (record h { skip = 0 }) e r)
 
 module _ (P : List Row → Type 0) (s : Shape) (each : EachKeeps P s.args_override_self s.rules) where
   other_keeps : (o : Option Text) (waiting : Waiting) (position : ℕ) (word : Text) (h : Held) → other_fault s o word h
@@ -206,11 +206,11 @@ module _ (P : List Row → Type 0) (s : Shape) (each : EachKeeps P s.args_overri
           (or_else (word_fault s names w.is_trailing w.waiting word w.held)
           (step_fault s w.position (word_met s.rules names w.is_trailing w.waiting w.position word w.held).0
           (word_met s.rules names w.is_trailing w.waiting w.position word w.held).1)) ≡ []
-              → P (walked_from s.rules names o w word).held.rows
+          → P (walked_from s.rules names o w word).held.rows
       go (Some p) e = r
       go None e = step_keeps word w _ _ (next_none (word_fault s names w.is_trailing w.waiting word w.held) _ e)
           (word_keeps names w.is_trailing w.waiting w.position word w.held
-              (first_none (word_fault s names w.is_trailing w.waiting word w.held) _ e) r)
+          (first_none (word_fault s names w.is_trailing w.waiting word w.held) _ e) r)
 
   walk_keeps : (names : Names) (words : List Text) (w : Walk) → walk_fault s names w words ≡ [] → P w.held.rows
       → P (fold (walked s.rules names) w words).held.rows
@@ -231,4 +231,4 @@ module _ (P : List Row → Type 0) (s : Shape) (each : EachKeeps P s.args_overri
       let settle_none = first_none (settle_fault s.rules s.args_override_self end) _ rest in
       default_keeps P s.args_override_self s.rules each (settled s.rules end).rows
       (settled_keeps P s.args_override_self s.rules each end settle_none
-          (walk_keeps names words (walk_from nothing_held) walk_none none))
+      (walk_keeps names words (walk_from nothing_held) walk_none none))

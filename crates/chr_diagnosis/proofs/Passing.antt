@@ -55,7 +55,9 @@ pub stores_passed : {E : Type 0} (rules : List Rule) (steps : List Step) (st : S
     → more ≡ old ++ u ∷ []
     → OnOk r ((passed : List Store) × (new ≡ more ++ passed) × PassesThrough rules (rest_of steps) u passed)
     → OnOk r ((passed : List Store) × (new ≡ old ++ passed) × PassesThrough rules steps s passed)
-stores_passed rules steps st s u old more new (Ok x) l e leads pushed h =
-    (u ∷ h.0, h.1 ∙ ap (λ xs. xs ++ h.0) pushed ∙ append_assoc old (u ∷ []) h.0,
-        passes_on rules steps st s u h.0 l e leads h.2)
+stores_passed rules steps st s u old more new (Ok x) l e leads pushed h = (
+  u ∷ h.0,
+  h.1 ∙ ap (λ xs. xs ++ h.0) pushed ∙ append_assoc old (u ∷ []) h.0,
+  passes_on rules steps st s u h.0 l e leads h.2,
+)
 stores_passed rules steps st s u old more new (Err x) l e leads pushed h = h

@@ -34,7 +34,7 @@ pub proposed : (coverage : Coverage) (text given changed bytes : List ℕ) (p : 
     → OnTrue answer (IsVerdict coverage given Accepted) → IsProposal coverage text p
 proposed coverage text given changed bytes p answer e is told so h =
     subst (λ t. IsVerdict coverage t Accepted) (e ∙ is ∙ ap (λ xs. take p.from text ++ xs ++ drop p.to text) told)
-        (OnTrue_at so h)
+    (OnTrue_at so h)
 
 -- one more of them
 pub one_more : (coverage : Coverage) (text : List ℕ) (old new : List Proposal) (p : Proposal) (found : Option Proposal)
@@ -43,4 +43,4 @@ pub one_more : (coverage : Coverage) (text : List ℕ) (old new : List Proposal)
     → All (IsProposal coverage text) new
 one_more coverage text old new p found all is e pushed =
     subst (All (IsProposal coverage text)) (sym pushed)
-        (All-push (IsProposal coverage text) old p all (subst (λ o. IfSome o (IsProposal coverage text)) e is))
+    (All-push (IsProposal coverage text) old p all (subst (λ o. IfSome o (IsProposal coverage text)) e is))

@@ -27,7 +27,7 @@ pub delta_2_written : (os ps : List NamedOperation) (none start middle new : Lis
 delta_2_written os ps none start middle new same h0 h1 h2 h3 =
     let grouped = compact_text (grouped_data (λ o. o.id.origin) numbered_data ps) in
     let whole : new ≡ codes "[2," ++ (grouped ++ codes "]") =
-        rw (h3, h2, h1, h0) (append_assoc (codes "[2,") grouped (codes "]")) in
+    rw (h3, h2, h1, h0) (append_assoc (codes "[2,") grouped (codes "]")) in
     whole
     ∙ ap (λ d. 91 ∷ (d ++ (44 ∷ (grouped ++ 93 ∷ [])))) (sym (decimal_digit 2 (omega arith)))
     ∙ ap (λ l. compact_text (delta_2_data l)) same

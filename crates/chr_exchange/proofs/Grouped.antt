@@ -22,7 +22,7 @@ module _ {A : Type 0} (key : A → ℕ) (written : A → Data) where
   behind k [] = codes "]]]"
   behind k (g ∷ gs) =
       cond (k == g.0) (items_text true (items_of (map written g.1)) ++ 93 ∷ later_groups gs)
-          (93 ∷ 93 ∷ later_groups (g ∷ gs))
+      (93 ∷ 93 ∷ later_groups (g ∷ gs))
 
   -- a group, from its beginning
   group_text : (k : ℕ) (xs : List A) (gs : List (ℕ × List A)) → compact_text (group_data written (k, xs))
@@ -30,16 +30,16 @@ module _ {A : Type 0} (key : A → ℕ) (written : A → Data) where
   group_text k xs gs =
       let inner = items_text false (items_of (map written xs)) in
       ap (λ l. 91 ∷ l) (append_assoc (decimal k) (44 ∷ 91 ∷ (inner ++ 93 ∷ [])) (later_groups gs)
-          ∙ ap (λ l. decimal k ++ 44 ∷ 91 ∷ l) (append_assoc inner (93 ∷ []) (later_groups gs)))
+      ∙ ap (λ l. decimal k ++ 44 ∷ 91 ∷ l) (append_assoc inner (93 ∷ []) (later_groups gs)))
 
   opening_case : (b : Bool) (k : ℕ) (x : A) (xs : List A) (gs : List (ℕ × List A))
       → cond b (codes ",") (codes "]],[" ++ decimal k ++ codes ",[") ++ from_items (x ∷ xs) gs
       ≡ cond b (items_text true (items_of (map written (x ∷ xs))) ++ 93 ∷ later_groups gs)
-          (93 ∷ 93 ∷ later_groups ((k, x ∷ xs) ∷ gs))
+      (93 ∷ 93 ∷ later_groups ((k, x ∷ xs) ∷ gs))
   opening_case true k x xs gs = refl
   opening_case false k x xs gs =
       ap (λ l. 93 ∷ 93 ∷ 44 ∷ l) (ap (λ l. 91 ∷ l) (append_assoc (decimal k) (44 ∷ 91 ∷ []) (from_items (x ∷ xs) gs))
-          ∙ sym (group_text k (x ∷ xs) gs))
+      ∙ sym (group_text k (x ∷ xs) gs))
 
   -- the first group from its first item, given what stands behind that
   abbrev first_from : List (ℕ × List A) → List ℕ
@@ -48,7 +48,7 @@ module _ {A : Type 0} (key : A → ℕ) (written : A → Data) where
 
   first_case : (b : Bool) (k : ℕ) (x : A) (g : ℕ × List A) (gs : List (ℕ × List A))
       → compact_text (written x) ++ cond b (items_text true (items_of (map written g.1)) ++ 93 ∷ later_groups gs)
-          (93 ∷ 93 ∷ later_groups (g ∷ gs))
+      (93 ∷ 93 ∷ later_groups (g ∷ gs))
       ≡ first_from (cond b ((k, x ∷ g.1) ∷ gs) ((k, x ∷ []) ∷ g ∷ gs))
   first_case true k x g gs = sym (append_assoc (compact_text (written x)) (items_text true (items_of (map written g.1)))
       (93 ∷ later_groups gs))
@@ -62,7 +62,7 @@ module _ {A : Type 0} (key : A → ℕ) (written : A → Data) where
   opened_case : (o : Option ℕ) (b : Bool) (k : ℕ) (x : A) (g : ℕ × List A) (gs : List (ℕ × List A))
       (P : List (ℕ × List A) → Type 0)
       → ((xs : List A) (hs : List (ℕ × List A)) → P ((k, x ∷ xs) ∷ hs))
-          → P (cond b ((k, x ∷ g.1) ∷ gs) ((k, x ∷ []) ∷ g ∷ gs))
+      → P (cond b ((k, x ∷ g.1) ∷ gs) ((k, x ∷ []) ∷ g ∷ gs))
   opened_case o true k x g gs P h = h g.1 gs
   opened_case o false k x g gs P h = h [] (g ∷ gs)
 
@@ -82,7 +82,7 @@ module _ {A : Type 0} (key : A → ℕ) (written : A → Data) where
   opened_first k x gs = begun k x gs (λ hs. opening None k ++ first_from hs ≡ 91
       ∷ items_text false (items_of (map (group_data written) hs)))
       (λ xs hs. ap (λ l. 91 ∷ 91 ∷ l) (append_assoc (decimal k) (44 ∷ 91 ∷ []) (from_items (x ∷ xs) hs))
-          ∙ ap (λ l. 91 ∷ l) (sym (group_text k (x ∷ xs) hs)))
+      ∙ ap (λ l. 91 ∷ l) (sym (group_text k (x ∷ xs) hs)))
 
   abbrev text : A → List ℕ
   text x = compact_text (written x)
@@ -109,7 +109,7 @@ module _ {A : Type 0} (key : A → ℕ) (written : A → Data) where
       → new ≡ old ++ compact_text (grouped_data key written xs)
   grouped_whole xs i last old out new past so_far ended =
       ended ∙ ap (λ l. out ++ grouped_from key (λ x. compact_text (written x)) last l) (sym (drop_all i xs past))
-          ∙ so_far ∙ ap (λ l. old ++ l) (grouped xs)
+      ∙ so_far ∙ ap (λ l. old ++ l) (grouped xs)
 
 -- the text of items that are seen as others
 seen : {A B : Type 0} (key : B → ℕ) (text : B → List ℕ) (view : A → B) (last : Option ℕ) (xs : List A)
@@ -121,9 +121,9 @@ seen key text view last (x ∷ xs) = ap (λ l. opening last (key (view x)) ++ (t
 pub mapped_whole : {A B : Type 0} (key : B → ℕ) (written : B → Data) (view : A → B) (xs : List A) (i : ℕ)
     (last : Option ℕ) (old out new : List ℕ) → length xs ≤ i
     → out ++ grouped_from (λ x. key (view x)) (λ x. compact_text (written (view x))) last (drop i xs) ≡ old
-        ++ grouped_from (λ x. key (view x)) (λ x. compact_text (written (view x))) None xs
+    ++ grouped_from (λ x. key (view x)) (λ x. compact_text (written (view x))) None xs
     → new ≡ out ++ closing last → new ≡ old ++ compact_text (grouped_data key written (map view xs))
 mapped_whole key written view xs i last old out new past so_far ended =
     ended ∙ ap (λ l. out ++ grouped_from (λ x. key (view x)) (λ x. compact_text (written (view x))) last l)
-        (sym (drop_all i xs past)) ∙ so_far
+    (sym (drop_all i xs past)) ∙ so_far
     ∙ ap (λ l. old ++ l) (seen key (λ y. compact_text (written y)) view None xs ∙ grouped key written (map view xs))

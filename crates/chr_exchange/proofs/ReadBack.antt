@@ -97,9 +97,9 @@ other_name (e ∷ es) d zero n h t = by (declares e.name n d) refl
         let name : d.name ≡ e.name = sym ((bytes_eq-Decides e.name d.name).0 parts.0) in
         let arity : nat_eq d.arity e.arity ≡ true = (let a = parts.1 in grind (arith, nat_tests)) in
         let found : declares d.name d.arity e ≡ true = and_from (bytes_eq d.name e.name) (nat_eq d.arity e.arity)
-            ((bytes_eq-Decides d.name e.name).1 name) arity in
+        ((bytes_eq-Decides d.name e.name).1 name) arity in
         absurd (let hit : (declares d.name d.arity e || list_any (declares d.name d.arity) es) ≡ true =
-            ap (λ b. b || list_any (declares d.name d.arity) es) found in true≢false (sym hit ∙ h))
+        ap (λ b. b || list_any (declares d.name d.arity) es) found in true≢false (sym hit ∙ h))
 other_name (e ∷ es) d (suc i) n h t = other_name es d i n (later (declares d.name d.arity e) h) t
   where
     later : (b : Bool) → b || list_any (declares d.name d.arity) es ≡ false → list_any (declares d.name d.arity) es
@@ -117,14 +117,16 @@ at_place [] h i n t = absurd (true≢false (sym t))
 at_place (d ∷ ds) h zero n t =
     let arity : nat_eq n d.arity ≡ true = (let a = t in grind (arith, nat_tests)) in
     let itself : declares d.name n d ≡ true = and_from (bytes_eq d.name d.name) (nat_eq n d.arity)
-        ((bytes_eq-Decides d.name d.name).1 refl) arity in
+    ((bytes_eq-Decides d.name d.name).1 refl) arity in
     (ap (λ b. cond (not b) (1 + position_or_len (declares d.name n) ds) 0) itself, omega arith)
 at_place (d ∷ ds) h (suc i) n t =
     let parts = and_parts (not (list_any (declares d.name d.arity) ds)) (are_distinct ds) h in
     let other = other_name ds d i n (not_true (list_any (declares d.name d.arity) ds) parts.0) t in
-    let rest = at_place ds parts.1 i n t in
-    (ap (λ b. cond (not b) (1 + position_or_len (declares (name_at ds i) n) ds) 0) other
-        ∙ (let e = rest.0 in omega (arith, e)), (let l = rest.1 in omega (arith, l)))
+    let rest = at_place ds parts.1 i n t in (
+      ap (λ b. cond (not b) (1 + position_or_len (declares (name_at ds i) n) ds) 0) other
+          ∙ (let e = rest.0 in omega (arith, e)),
+      (let l = rest.1 in omega (arith, l)),
+    )
 
 place_back : (ds : List Declaration) → are_distinct ds ≡ true → (i n : ℕ) → takes (slice_get ds i) n ≡ true
     → position (declares (name_at ds i) n) ds ≡ Some i
@@ -158,7 +160,7 @@ module _ (p : Program) where
       named_back [] g = refl
       named_back (a ∷ as') g =
           ap (option_and_then (λ y. option_map (λ ys. y ∷ ys) (named_atoms ds (map (spelt_atom ds) as'))))
-              (atom_back a g.0)
+          (atom_back a g.0)
           ∙ ap (option_map (λ ys. a ∷ ys)) (named_back as' g.1)
 
   operation_back : (o : Operation) → IsDeclaredOperation ds o → declared_operation ds (spelt ds o) ≡ Some o
@@ -170,7 +172,7 @@ module _ (p : Program) where
   operations_back [] h = refl
   operations_back (o ∷ os) h =
       ap (option_and_then (λ y. option_map (λ ys. y ∷ ys) (declared_operations ds (map (spelt ds) os))))
-          (operation_back o h.0)
+      (operation_back o h.0)
       ∙ ap (option_map (λ ys. o ∷ ys)) (operations_back os h.1)
 
   -- ---- what is spelt is within the limits
@@ -186,12 +188,14 @@ module _ (p : Program) where
   name_utf8 (b ∷ bs) h =
       let parts = and_parts (is_lower b) (list_all is_word_byte bs) h in
       IsUtf8-are_ascii (b ∷ bs) (and_from (nat_lt b 128) (are_ascii bs) (let w = parts.0 in grind (arith, nat_tests))
-          (word_ascii bs parts.1))
+      (word_ascii bs parts.1))
 
   names_utf8 : (as' : List Atom) → AllByRecursion (λ w. IsUtf8 w.name) (map (spelt_atom ds) as')
   names_utf8 [] = tt
-  names_utf8 (a ∷ as') = (of_name IsUtf8 (IsUtf8-are_ascii [] refl) name_utf8 ds keeps.ranges a.symbol.0,
-      names_utf8 as')
+  names_utf8 (a ∷ as') = (
+    of_name IsUtf8 (IsUtf8-are_ascii [] refl) name_utf8 ds keeps.ranges a.symbol.0,
+    names_utf8 as',
+  )
 
   value_fits : (z : ℤ) → is_value z ≡ true → FitsSigned w64 z
   value_fits (pos n) h =
@@ -236,11 +240,11 @@ deltas_read p m h =
     let ds = declarations p in
     let es = finite.entries m in
     delta_from ds (json_in (delta_text ds m)) (map (spelt ds) es) es
-        (deltas_2_back (map (spelt ds) es) (all_within_limits p es h)) (operations_back p es h)
+    (deltas_2_back (map (spelt ds) es) (all_within_limits p es h)) (operations_back p es h)
 
 pub deltas_1_read : Delta1TextsAreMeant
 deltas_1_read p m h =
     let ds = declarations p in
     let es = finite.entries m in
     delta_from ds (json_in (delta_text_1 ds m)) (map (spelt ds) es) es
-        (deltas_1_back (map (spelt ds) es) (all_within_limits p es h)) (operations_back p es h)
+    (deltas_1_back (map (spelt ds) es) (all_within_limits p es h)) (operations_back p es h)

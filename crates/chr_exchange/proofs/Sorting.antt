@@ -49,9 +49,11 @@ still_found e es (f ∷ fs) apart h =
 all_found : (es : List Operation) → IsDistinct same (keys_of es) → AllByRecursion (IsFoundIn es) es
 all_found [] h = tt
 all_found (e ∷ es) h =
-    let itself : same e.0 e.0 ≡ true = rw (tied_itself id_total e.0) refl in
-    (ap (λ b. cond b (Some e.1) (find id_cmp e.0 es)) itself, still_found e es es
-        (IsDistinct-head same e.0 (keys_of es) h) (all_found es (IsDistinct-tail same e.0 (keys_of es) h)))
+    let itself : same e.0 e.0 ≡ true = rw (tied_itself id_total e.0) refl in (
+      ap (λ b. cond b (Some e.1) (find id_cmp e.0 es)) itself,
+      still_found e es es
+          (IsDistinct-head same e.0 (keys_of es) h) (all_found es (IsDistinct-tail same e.0 (keys_of es) h)),
+    )
 
 -- what holds of each operation holds of one that is found
 of_found : (P : Operation → Type 0) (es : List Operation) (q : OpId) (s : Store) → AllByRecursion P es
@@ -70,7 +72,7 @@ found_too : (xs ys : List Operation) → IsPermutation xs ys → IsDistinct same
     → find id_cmp q xs ≡ Some s → find id_cmp q ys ≡ Some s
 found_too xs ys p distinct q s found =
     let each = All-permutation (IsFoundIn ys) ys xs (IsPermutation-sym xs ys p)
-        (All-from_recursion (IsFoundIn ys) ys (all_found ys distinct)) in
+    (All-from_recursion (IsFoundIn ys) ys (all_found ys distinct)) in
     of_found (IsFoundIn ys) xs q s (recursion_from_All (IsFoundIn ys) xs each) found
 
 same_option : {A : Type 0} (o p : Option A) → ((x : A) → o ≡ Some x → p ≡ Some x) → ((x : A) → p ≡ Some x → o ≡ Some x)
@@ -88,8 +90,8 @@ same_set : (xs ys : List Operation) → IsPermutation xs ys → IsDistinct same 
     → operations_of ys ≡ operations_of xs
 same_set xs ys p dx dy =
     finite.same_map id_total id_exact (operations_of ys) (operations_of xs)
-        (λ q. finite.get-from_entries id_total ys q ∙ same_found xs ys p dx dy q
-        ∙ sym (finite.get-from_entries id_total xs q))
+    (λ q. finite.get-from_entries id_total ys q ∙ same_found xs ys p dx dy q
+    ∙ sym (finite.get-from_entries id_total xs q))
 
 -- ---- sorted, they are in order
 
@@ -118,9 +120,10 @@ strictly : (es : List Operation) → IsTrue (is_rising by_id es) → IsDistinct 
 unfolding IsStrictlySortedBy
 strictly [] h d = tt
 strictly (e ∷ es) h d =
-    let p = and_parts (none_below by_id e es) (is_rising by_id es) h in
-    (all_less e es p.0 (IsDistinct-head same e.0 (keys_of es) d),
-        strictly es p.1 (IsDistinct-tail same e.0 (keys_of es) d))
+    let p = and_parts (none_below by_id e es) (is_rising by_id es) h in (
+      all_less e es p.0 (IsDistinct-head same e.0 (keys_of es) d),
+      strictly es p.1 (IsDistinct-tail same e.0 (keys_of es) d),
+    )
 
 -- ---- the same of operations that are lent
 
@@ -147,11 +150,11 @@ sorted_entries ops xs ys different is p sorted =
     let dx : IsDistinct same (keys_of there) = subst (λ l. IsDistinct same (keys_of l)) (sym is) different in
     let shuffled : IsPermutation there here = IsPermutation-map (λ o. o.now) xs ys p in
     let dy : IsDistinct same (keys_of here) = IsDistinct-IsPermutation same ((eq_by_cmp_equiv id_total).symm)
-        (keys_of there) (keys_of here) (IsPermutation-map (λ o. o.0) there here shuffled) dx in
+    (keys_of there) (keys_of here) (IsPermutation-map (λ o. o.0) there here shuffled) dx in
     let rising : IsTrue (is_rising by_id here) = subst IsTrue (rising_lent ys)
-        (rising_from_sorted lent_total ys sorted) in
+    (rising_from_sorted lent_total ys sorted) in
     sym (entries_of here (strictly here rising dy)) ∙ ap finite.entries
-        (same_set there here shuffled dx dy ∙ ap operations_of is)
+    (same_set there here shuffled dx dy ∙ ap operations_of is)
 
 -- ---- what a set lacks
 

@@ -50,7 +50,7 @@ word_bare (b ∷ bs) h =
 word_in : (d : Declaration) → is_in_range d ≡ true → is_word d.name ≡ true
 word_in d h =
     let weight = (and_parts (is_name d.name && nat_le (length d.name) MAX_NAME && nat_le d.arity MAX_ARITY)
-        (is_weight d.weight) h).0 in
+    (is_weight d.weight) h).0 in
     let arity = (and_parts (is_name d.name && nat_le (length d.name) MAX_NAME) (nat_le d.arity MAX_ARITY) weight).0 in
     let name = (and_parts (is_name d.name) (nat_le (length d.name) MAX_NAME) arity).0 in
     (and_parts (is_word d.name) (not (is_reserved d.name)) name).0
@@ -77,18 +77,18 @@ arguments_text (pos n ∷ zs) = ap (λ l. 44 ∷ l) (append_assoc (decimal n) (f
     (93 ∷ []) ∙ ap (λ l. decimal n ++ l) (arguments_text zs))
 arguments_text (negsuc n ∷ zs) =
     ap (λ l. 44 ∷ l) (append_assoc (signed_decimal (negsuc n)) (flat_map (λ z. 44 ∷ signed_decimal z) zs) (93 ∷ [])
-        ∙ ap (λ l. signed_decimal (negsuc n) ++ l) (arguments_text zs))
+    ∙ ap (λ l. signed_decimal (negsuc n) ++ l) (arguments_text zs))
 
 -- an atom, from the text before it
 pub atom_pushed : (p : Program) (a : Atom) (old bracket named quoted more new : List ℕ)
     → bracket ≡ old ++ codes "[\"" → named ≡ bracket ++ name_of (declarations p) a → quoted ≡ named ++ codes "\""
-        → more ≡ quoted ++ flat_map (λ z. 44 ∷ signed_decimal z) a.args.items → new ≡ more ++ codes "]"
+    → more ≡ quoted ++ flat_map (λ z. 44 ∷ signed_decimal z) a.args.items → new ≡ more ++ codes "]"
     → new ≡ old ++ compact_text (atom_data (spelt_atom (declarations p) a))
 atom_pushed p a old bracket named quoted more new h1 h2 h3 h4 h5 =
     let name = name_of (declarations p) a in
     let args = flat_map (λ z. 44 ∷ signed_decimal z) a.args.items in
     let later = items_text true (items_of (map argument_data a.args.items)) in
     let all : new ≡ old ++ (codes "[\"" ++ (name ++ (codes "\"" ++ (args ++ codes "]")))) =
-        rw (h5, h4, h3, h2, h1) (simp append_assoc) in
+    rw (h5, h4, h3, h2, h1) (simp append_assoc) in
     all ∙ ap (λ l. old ++ (91 ∷ 34 ∷ l)) (ap (λ l. name ++ 34 ∷ l) (arguments_text a.args.items)
-        ∙ ap (λ s. s ++ 34 ∷ later) (sym (name_bare p a)) ∙ sym (append_assoc (escape name) (34 ∷ []) later))
+    ∙ ap (λ s. s ++ 34 ∷ later) (sym (name_bare p a)) ∙ sym (append_assoc (escape name) (34 ∷ []) later))

@@ -50,14 +50,14 @@ pub no_more : (gone : ℕ) (text left : List ℕ) (bad : List BadClause) → gon
 no_more gone text left bad lt p done =
     let room : MAX_TOLD_FAULTS - gone ≡ suc ((MAX_TOLD_FAULTS - gone) - 1) = omega arith in
     subst (λ xs. AreBadClauses MAX_TOLD_FAULTS 0 text xs) (append-nil bad)
-        (done [] (stop (MAX_TOLD_FAULTS - gone) gone left room p))
+    (done [] (stop (MAX_TOLD_FAULTS - gone) gone left room p))
 
 pub full : (gone : ℕ) (text left : List ℕ) (bad : List BadClause) → MAX_TOLD_FAULTS ≤ gone
     → IsCompleted gone text left bad → AreBadClauses MAX_TOLD_FAULTS 0 text bad
 full gone text left bad le done =
     let room : 0 ≡ MAX_TOLD_FAULTS - gone = omega arith in
     subst (λ xs. AreBadClauses MAX_TOLD_FAULTS 0 text xs) (append-nil bad)
-        (done [] (subst (λ x. AreBadClauses x gone left []) room refl))
+    (done [] (subst (λ x. AreBadClauses x gone left []) room refl))
 
 pub none_left : (o : Option BadClause) (text left : List ℕ) → text ≡ left → o ≡ None → IfNone o (IsProgram text)
     → IsProgram left

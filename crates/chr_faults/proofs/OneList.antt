@@ -15,10 +15,12 @@ Lists limit gone text = (bad : List BadClause) × AreBadClauses limit gone text 
 
 lists : (limit gone : ℕ) (text : List ℕ) → IsShort text → ((k : ℕ) → Lists limit (gone + 1) (without_clause k text))
     → (((m : Meaning) × IsProgramText text m) ⊎ ((n : Fault) × (k : ℕ) × IsRefusedText text n k)
-        ⊎ (MAX_TEXT < length text)) → Lists (suc limit) gone text
+    ⊎ (MAX_TEXT < length text)) → Lists (suc limit) gone text
 lists limit gone text s more (inl p) = ([], p)
-lists limit gone text s more (inr (inl r)) = (record { number = gone + r.1; fault = r.0 } ∷ (more r.1).0,
-    (r.1, r.2, refl, (more r.1).1))
+lists limit gone text s more (inr (inl r)) = (
+  record { number = gone + r.1; fault = r.0 } ∷ (more r.1).0,
+  (r.1, r.2, refl, (more r.1).1),
+)
 lists limit gone text s more (inr (inr long)) = absurd (omega (arith, s, long))
 
 short : (k : ℕ) (text : List ℕ) → IsShort text → IsShort (without_clause k text)
@@ -46,5 +48,5 @@ one (suc limit) gone text (b ∷ bs) (c ∷ cs) h k =
     let e = one_fault text b.fault c.fault h.0 k.0 h.1 k.1 in
     let number : b.number ≡ c.number = h.2 ∙ ap (λ j. gone + j) e.1 ∙ sym k.2 in
     let rest : AreBadClauses limit (gone + 1) (without_clause k.0 text) bs =
-        subst (λ j. AreBadClauses limit (gone + 1) (without_clause j text) bs) e.1 h.3 in
+    subst (λ j. AreBadClauses limit (gone + 1) (without_clause j text) bs) e.1 h.3 in
     both b c bs cs (same b c number e.0) (one limit (gone + 1) (without_clause k.0 text) bs cs rest k.3)

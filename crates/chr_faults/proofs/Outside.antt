@@ -46,7 +46,7 @@ skipped : (s : Bool) (b : ℕ) (bs : List ℕ) (left i j : ℕ) → goes_on s b 
 skipped s b bs left i j g f =
     let all : outside s (b ∷ bs) ≡ outside true bs = step s b bs ∙ ap (λ x. kept x b (outside x bs)) g in
     let first : outside s (b ∷ take f.k bs) ≡ outside true (take f.k bs) = step s b (take f.k bs)
-        ∙ ap (λ x. kept x b (outside x (take f.k bs))) g in
+    ∙ ap (λ x. kept x b (outside x (take f.k bs))) g in
     record {
       k = suc f.k;
       at = f.at ∙ omega arith;
@@ -71,7 +71,7 @@ later : (s : Bool) (b : ℕ) (bs : List ℕ) (left i j : ℕ) → goes_on s b �
 later s b bs left i j g f =
     let all : outside s (b ∷ bs) ≡ b ∷ outside false bs = step s b bs ∙ ap (λ x. kept x b (outside x bs)) g in
     let first : outside s (b ∷ take f.k bs) ≡ b ∷ outside false (take f.k bs) = step s b (take f.k bs)
-        ∙ ap (λ x. kept x b (outside x (take f.k bs))) g in
+    ∙ ap (λ x. kept x b (outside x (take f.k bs))) g in
     record {
       k = suc f.k;
       at = f.at ∙ omega arith;
@@ -83,14 +83,14 @@ later s b bs left i j g f =
 at_byte : (x s : Bool) (left i b : ℕ) (bs : List ℕ) (j : ℕ)
     → ((t : Bool) (m k : ℕ) → place_from t m k bs ≡ Some j → Found t m k bs j) → goes_on s b ≡ x
     → cond x (place_from true left (i + 1) bs) (cond (left == 0) (Some i) (place_from false (left - 1) (i + 1) bs))
-        ≡ Some j → Found s left i (b ∷ bs) j
+    ≡ Some j → Found s left i (b ∷ bs) j
 at_byte true s left i b bs j more g e = skipped s b bs left i j g (more true left (i + 1) e)
 at_byte false s zero i b bs j more g e = here s b bs i j g (some_is i j e)
 at_byte false s (suc left) i b bs j more g e =
     let not_zero : (suc left == 0) ≡ false = grind arith in
     let less : suc left - 1 ≡ left = omega arith in
     let same : cond (suc left == 0) (Some i) (place_from false (suc left - 1) (i + 1) bs)
-        ≡ place_from false left (i + 1) bs = rw (not_zero, less) refl in
+    ≡ place_from false left (i + 1) bs = rw (not_zero, less) refl in
     later s b bs left i j g (more false left (i + 1) (sym same ∙ e))
 
 abbrev IsNothing : Option ℕ → Type 0
@@ -105,9 +105,12 @@ pub places_are_outside : PlacesAreOutside
 places_are_outside text n i e =
     let f = find false n 0 text i e in
     let zero_more : 0 + f.k ≡ f.k = omega arith in
-    let is : f.k ≡ i = sym (f.at ∙ zero_more) in
-    (subst (λ k. k < length text) is f.within, subst (λ k. slice_get text k ≡ slice_get (without_comments text) n) is
-        f.same, subst (λ k. without_comments (take k text) ≡ take n (without_comments text)) is f.before)
+    let is : f.k ≡ i = sym (f.at ∙ zero_more) in (
+      subst (λ k. k < length text) is f.within,
+      subst (λ k. slice_get text k ≡ slice_get (without_comments text) n) is
+          f.same,
+      subst (λ k. without_comments (take k text) ≡ take n (without_comments text)) is f.before,
+    )
 
 pub outside_within : (text : List ℕ) (n i : ℕ) → place_outside text n ≡ Some i → i < length text
 outside_within text n i e = (places_are_outside text n i e).0

@@ -66,20 +66,20 @@ first_stays k i b d (e ∷ es) t = ap (λ x. onto_first b (cond x (cut k (i + 1)
 byte : (s t : Bool) (k i b : ℕ) (bs d : List ℕ) (ds : Pieces) → is_stop b ≡ s → (i == k) ≡ t → pieces bs ≡ d ∷ ds
     → ((n : ℕ) → pieces (apart_from k n bs) ≡ cut k n (pieces bs))
     → pieces (cond t (apart_from k (cond s (i + 1) i) bs) (b ∷ apart_from k (cond s (i + 1) i) bs))
-        ≡ cut k i (cond s ([] ∷ pieces bs) (onto_first b (pieces bs)))
+    ≡ cut k i (cond s ([] ∷ pieces bs) (onto_first b (pieces bs)))
 byte true true k i b bs d ds s t some more =
     more (i + 1) ∙ sym (cut_two k i [] d (pieces bs) ds some
-        ∙ ap (λ x. cond x (cut k (i + 1) (pieces bs)) ([] ∷ cut k (i + 1) (pieces bs))) t)
+    ∙ ap (λ x. cond x (cut k (i + 1) (pieces bs)) ([] ∷ cut k (i + 1) (pieces bs))) t)
 byte true false k i b bs d ds s t some more =
     ap (λ x. cond x ([] ∷ pieces (apart_from k (i + 1) bs)) (onto_first b (pieces (apart_from k (i + 1) bs)))) s
-        ∙ ap (λ l. [] ∷ l) (more (i + 1))
+    ∙ ap (λ l. [] ∷ l) (more (i + 1))
     ∙ sym (cut_two k i [] d (pieces bs) ds some ∙ ap (λ x. cond x (cut k (i + 1) (pieces bs))
-        ([] ∷ cut k (i + 1) (pieces bs))) t)
+    ([] ∷ cut k (i + 1) (pieces bs))) t)
 byte false true k i b bs d ds s t some more =
     more i ∙ ap (cut k i) some ∙ first_goes k i d (b ∷ d) ds t ∙ sym (ap (λ l. cut k i (onto_first b l)) some)
 byte false false k i b bs d ds s t some more =
     ap (λ x. cond x ([] ∷ pieces (apart_from k i bs)) (onto_first b (pieces (apart_from k i bs)))) s
-        ∙ ap (onto_first b) (more i ∙ ap (cut k i) some)
+    ∙ ap (onto_first b) (more i ∙ ap (cut k i) some)
     ∙ first_stays k i b d ds t ∙ sym (ap (λ l. cut k i (onto_first b l)) some)
 
 pieces_apart : (k i : ℕ) (bs : List ℕ) → pieces (apart_from k i bs) ≡ cut k i (pieces bs)
@@ -123,7 +123,7 @@ plain : (k : ℕ) (text : List ℕ) → without_comments (without_clause k text)
 plain k text =
     let none = apart_plain k 1 (without_comments text) (outside_plain false text) in
     ap without_comments (sym (append-nil (without_clause k text))) ∙ plain_stay (without_clause k text) []
-        none ∙ append-nil (without_clause k text)
+    none ∙ append-nil (without_clause k text)
 
 -- ---- reading
 
@@ -148,7 +148,7 @@ step : (i : ℕ) (q r : Progress) (c e : List ℕ) (l es : Pieces) → l ≡ e �
     → pieces_read i q (c ∷ l) ≡ pieces_read (i + 1) r l
 step i q r c e l es s is =
     ap (λ x. pieces_read i q (c ∷ x)) s ∙ ap (λ o. in_clause i o >>= λ p. pieces_read (i + 1) p (e ∷ es)) is
-        ∙ sym (ap (λ x. pieces_read (i + 1) r x) s)
+    ∙ sym (ap (λ x. pieces_read (i + 1) r x) s)
 
 abbrev Later : (n m : Fault) (i k j : ℕ) (l : Pieces) → Type 0
 Later n m i k j l = (r : Progress) → pieces_read i r l ≡ Err (Bad n k) → pieces_read i r (cut k i l) ≡ Err (Bad m j)
@@ -157,7 +157,7 @@ Later n m i k j l = (r : Progress) → pieces_read i r l ≡ Err (Bad n k) → p
 kept : (b : Bool) (n m : Fault) (i k j : ℕ) (q r : Progress) (c d : List ℕ) (ds : Pieces) → (i == k) ≡ b
     → clause_read q c ≡ Ok r → Later n m (i + 1) k j (d ∷ ds)
     → pieces_read (i + 1) r (d ∷ ds) ≡ Err (Bad n k) → pieces_read i q
-        (cond b (cut k (i + 1) (d ∷ ds)) (c ∷ cut k (i + 1) (d ∷ ds))) ≡ Err (Bad m j) → k ≤ j
+    (cond b (cut k (i + 1) (d ∷ ds)) (c ∷ cut k (i + 1) (d ∷ ds))) ≡ Err (Bad m j) → k ≤ j
 kept true n m i k j q r c d ds t is more e h =
     let same : i ≡ k = eqb-true i k t in
     let least : i ≤ j = low i j m q (cut k (i + 1) (d ∷ ds)) h in
@@ -169,7 +169,7 @@ kept false n m i k j q r c d ds t is more e h =
 front : (n m : Fault) (i k j : ℕ) (q : Progress) (c d : List ℕ) (ds : Pieces) (o : Result Progress Fault)
     → clause_read q c ≡ o → Later n m (i + 1) k j (d ∷ ds)
     → (in_clause i o >>= λ r. pieces_read (i + 1) r (d ∷ ds)) ≡ Err (Bad n k) → pieces_read i q (cut k i (c ∷ d ∷ ds))
-        ≡ Err (Bad m j) → k ≤ j
+    ≡ Err (Bad m j) → k ≤ j
 front n m i k j q c d ds (Ok r) is more e h = kept (i == k) n m i k j q r c d ds refl is more e h
 front n m i k j q c d ds (Err x) is more e h =
     let y : ◌≡◌ {A = Result Progress ReadFault} (Err (Bad x i)) (Err (Bad n k)) = e in
@@ -202,7 +202,7 @@ later : (text : List ℕ) (n m : Fault) (k j : ℕ) → IsRefusedText text n k �
     → k ≤ j
 later text n m k j r s =
     let left : pieces (without_comments (without_clause k text)) ≡ cut k 1 (pieces (without_comments text)) =
-        ap pieces (plain k text) ∙ pieces_apart k 1 (without_comments text) in
+    ap pieces (plain k text) ∙ pieces_apart k 1 (without_comments text) in
     later_piece n m 1 k j (pieces (without_comments text)) nothing (bad_piece text n k r)
     (sym (ap (pieces_read 1 nothing) left) ∙ bad_piece (without_clause k text) m j s)
 
@@ -227,9 +227,11 @@ rises : (limit gone : ℕ) (text : List ℕ) (bad : List BadClause) → AreBadCl
 rises zero gone text bad h = subst AreRising (sym h) tt
 rises (suc limit) gone text [] h = tt
 rises (suc limit) gone text (b ∷ []) h = tt
-rises (suc limit) gone text (b ∷ c ∷ more) h =
-    (rise gone h.0 text b c h.1 h.2 (next limit (gone + 1) (without_clause h.0 text) c more h.3), rises limit (gone + 1)
-        (without_clause h.0 text) (c ∷ more) h.3)
+rises (suc limit) gone text (b ∷ c ∷ more) h = (
+  rise gone h.0 text b c h.1 h.2 (next limit (gone + 1) (without_clause h.0 text) c more h.3),
+  rises limit (gone + 1)
+      (without_clause h.0 text) (c ∷ more) h.3,
+)
 
 pub in_order : (text : List ℕ) (bad : List BadClause) → AreBadClauses MAX_TOLD_FAULTS 0 text bad → AreRising bad
 in_order text bad h = rises MAX_TOLD_FAULTS 0 text bad h

@@ -34,7 +34,7 @@ length_apart k n [] = omega arith
 length_apart k n (b ∷ bs) =
     let h : length (apart_from k (clause_after n b) bs) ≤ length bs = length_apart k (clause_after n b) bs in
     either (n == k) (apart_from k (clause_after n b) bs) (b ∷ apart_from k (clause_after n b) bs) (length (b ∷ bs))
-        (omega arith) (omega arith)
+    (omega arith) (omega arith)
 
 pub length_without_clause : (k : ℕ) (text : List ℕ) → length (without_clause k text) ≤ length text
 length_without_clause k text = let a : length (apart_from k 1 (without_comments text)) ≤ length
@@ -45,9 +45,9 @@ length_without_clause k text = let a : length (apart_from k 1 (without_comments 
 pub refused_within : (text : List ℕ) (n : Fault) (k : ℕ) → IsRefusedText text n k → k ≤ length text + 1
 refused_within text n k r =
     let all : length (slice_split is_stop (without_comments text)) ≡ count_by is_stop (without_comments text) + 1 =
-        length-slice_split is_stop (without_comments text) in
+    length-slice_split is_stop (without_comments text) in
     let few : count_by is_stop (without_comments text) ≤ length (without_comments text) =
-        count_by-le-length is_stop (without_comments text) in
+    count_by-le-length is_stop (without_comments text) in
     let less : length (without_comments text) ≤ length text = length_without_comments text in
     let parts : length (slice_split is_stop (without_comments text)) ≡ length (r.1 ++ r.2 ∷ r.3) = ap length r.5 in
     let sum : length (r.1 ++ r.2 ∷ r.3) ≡ length r.1 + length (r.2 ∷ r.3) = length-append r.1 (r.2 ∷ r.3) in

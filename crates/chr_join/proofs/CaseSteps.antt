@@ -32,7 +32,7 @@ matching_at rules o r1 r2 h e g =
     let same1 : is.rule1 ≡ r1 = same_Some _ _ (sym is.first ∙ subst (λ n. slice_get rules n ≡ Some r1) place1 e) in
     let same2 : is.rule2 ≡ r2 = same_Some _ _ (sym is.second ∙ subst (λ n. slice_get rules n ≡ Some r2) place2 g) in
     subst (λ r. IsMatching r1 r o.matching.items) same2
-        (subst (λ r. IsMatching r is.rule2 o.matching.items) same1 is.matching)
+    (subst (λ r. IsMatching r is.rule2 o.matching.items) same1 is.matching)
 
 -- what the laws say of cases
 pub record CaseLaws : Type 0 where
@@ -47,7 +47,7 @@ pub steps_at : LeftSideIsStep → RightSideIsStep → (rules : List Rule) (o : O
     ≡ Some r2
     → IsCase r1 r2 o.matching.items (left_at σ r1 r2 zs) (right_at σ r1 r2 zs)
     → IsApplicable rules (case_at o r1 r2 σ zs).store (case_at o r1 r2 σ zs).left
-        × IsApplicable rules (case_at o r1 r2 σ zs).store (case_at o r1 r2 σ zs).right
+    × IsApplicable rules (case_at o r1 r2 σ zs).store (case_at o r1 r2 σ zs).right
 steps_at to_left to_right rules o r1 r2 σ zs h first second case =
     let m = o.matching.items in
     let v1 = left_at σ r1 r2 zs in
@@ -55,10 +55,22 @@ steps_at to_left to_right rules o r1 r2 σ zs h first second case =
     let left = to_left r1 r2 m v1 v2 case in
     let right = to_right r1 r2 m v1 v2 case in
     let a = h.2.0 in let b = h.2.1 in (
-      record { rule = r1; numbered = omega (arith, a); named = first; instance = (v1, refl, left.guard); there =
-          left.there },
-      record { rule = r2; numbered = omega (arith, b); named = second; instance = (v2, refl, right.guard); there =
-          right.there },
+      record {
+        rule = r1;
+        numbered = omega (arith, a);
+        named = first;
+        instance = (v1, refl, left.guard);
+        there =
+            left.there;
+      },
+      record {
+        rule = r2;
+        numbered = omega (arith, b);
+        named = second;
+        instance = (v2, refl, right.guard);
+        there =
+            right.there;
+      },
     )
 
 -- a listed one, which a list of values makes
@@ -66,30 +78,31 @@ module _ (laws : CaseLaws) (rules : List Rule) (o : Overlap) (r1 r2 : Rule) (h :
     (first : slice_get rules (o.first - 1) ≡ Some r1) (second : slice_get rules (o.second - 1) ≡ Some r2)
     (σ : Substitution)
     (are : (zs : List ℤ) → guards_hold σ r1 r2 zs ≡ true → IsCase r1 r2 o.matching.items (left_at σ r1 r2 zs)
-        (right_at σ r1 r2 zs)) where
+    (right_at σ r1 r2 zs)) where
   steps_of : (rs : List (List ℤ)) (cs : List Case) → cs ≡ map (case_at o r1 r2 σ) (filter (guards_hold σ r1 r2) rs)
       → (c : Case) → In c cs → IsApplicable rules c.store c.left × IsApplicable rules c.store c.right
   steps_of rs cs e c i =
       let at = picked (case_at o r1 r2 σ) (guards_hold σ r1 r2) rs c (subst (In c) e i) in
       subst (λ x. IsApplicable rules x.store x.left × IsApplicable rules x.store x.right) at.3
-          (steps_at laws.left laws.right rules o r1 r2 σ at.0 h first second (are at.0 at.2))
+      (steps_at laws.left laws.right rules o r1 r2 σ at.0 h first second (are at.0 at.2))
 
 pub case_steps : CaseLaws → (coverage : Coverage) (rules : List Rule) (o : Overlap) (cs : List Case)
     → IsOverlapOf rules o → AreCasesBy coverage rules o cs → (c : Case) → In c cs → IsApplicable rules c.store c.left
     × IsApplicable rules c.store c.right
 case_steps laws Joint rules o cs h is c i = elim is.listed as (λ _. IsApplicable rules c.store c.left
     × IsApplicable rules c.store c.right) [
-  | inl n ↦ absurd (subst (In c) n.1 i)
-  | inr l ↦ steps_of laws rules o is.rule1 is.rule2 h is.first is.second l.classes
-        (λ zs g. laws.cases is.rule1 is.rule2 o.matching.items
-        (matching_at rules o is.rule1 is.rule2 h is.first is.second) l.classes l.solves zs g) l.representatives cs
-        l.cases_are c i
-]
+      | inl n ↦ absurd (subst (In c) n.1 i)
+      | inr l ↦ steps_of laws rules o is.rule1 is.rule2 h is.first is.second l.classes
+          (λ zs g. laws.cases is.rule1 is.rule2 o.matching.items
+          (matching_at rules o is.rule1 is.rule2 h is.first is.second) l.classes l.solves zs g) l.representatives cs
+          l.cases_are c i
+    ]
 case_steps laws Sorted rules o cs h is c i = elim is.2.listed as (λ _. IsApplicable rules c.store c.left
     × IsApplicable rules c.store c.right) [
-  | inl n ↦ absurd (subst (In c) n.1 i)
-  | inr l ↦ steps_of laws rules o is.2.rule1 is.2.rule2 h is.2.first is.2.second l.classes
-        (λ zs g. laws.sorted is.2.rule1 is.2.rule2 o.matching.items
-        (matching_at rules o is.2.rule1 is.2.rule2 h is.2.first is.2.second) l.classes l.solves zs g) l.combinations cs
-        l.cases_are c i
-]
+      | inl n ↦ absurd (subst (In c) n.1 i)
+      | inr l ↦ steps_of laws rules o is.2.rule1 is.2.rule2 h is.2.first is.2.second l.classes
+          (λ zs g. laws.sorted is.2.rule1 is.2.rule2 o.matching.items
+          (matching_at rules o is.2.rule1 is.2.rule2 h is.2.first is.2.second) l.classes l.solves zs g) l.combinations
+          cs
+          l.cases_are c i
+    ]

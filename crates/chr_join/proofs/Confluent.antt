@@ -64,9 +64,9 @@ listed_joins laws rules o r1 r2 m first second same is cs l joinable =
           let v2 = right_at l.classes r1 r2 zs in
           let case = laws.cases r1 r2 o.matching.items is l.classes l.solves zs g in
           let left = side_taken rules c.store j.left.1.0 c.left r1 v1 first refl
-              (laws.left r1 r2 o.matching.items v1 v2 case) j.left.1.1 in
+          (laws.left r1 r2 o.matching.items v1 v2 case) j.left.1.1 in
           let right = side_taken rules c.store j.right.1.0 c.right r2 v2 second refl
-              (laws.right r1 r2 o.matching.items v1 v2 case) j.right.1.1 in (
+          (laws.right r1 r2 o.matching.items v1 v2 case) j.right.1.1 in (
             j.end,
             plain_reaches rules j.left.0 _ j.end (subst (λ x. IsPlainComputation rules j.left.0 x j.end) left
                 j.left.1.2),
@@ -78,14 +78,14 @@ listed_joins laws rules o r1 r2 m first second same is cs l joinable =
 pub accepted_joins : CaseLaws → (rules : List Rule) (n : ℕ) → IsAccepted rules n → ListedAreJoinable rules
 accepted_joins laws rules n h i j r1 r2 first second ordered m is =
     let found = overlap_listed rules h.overlaps h.listed i j m
-        (record { rule1 = r1; rule2 = r2; first = first; second = second; ordered = ordered; matching = is }) in
+    (record { rule1 = r1; rule2 = r2; first = first; second = second; ordered = ordered; matching = is }) in
     let o = found.0 in
     let joinable = joinable_in Joint rules h.overlaps n o h.joinable found.1 in
     let a = found.2 in let b = found.3 in
     let place1 : i ≡ o.first - 1 = omega (arith, a) in
     let place2 : j ≡ o.second - 1 = omega (arith, b) in
     by o joinable.1 (subst (λ n. slice_get rules n ≡ Some r1) place1 first)
-        (subst (λ n. slice_get rules n ≡ Some r2) place2 second) found.4
+    (subst (λ n. slice_get rules n ≡ Some r2) place2 second) found.4
   where
     by : (o : Overlap) {k : ℕ} → HasJoinableCases rules o k → slice_get rules (o.first - 1) ≡ Some r1
         → slice_get rules (o.second - 1) ≡ Some r2 → o.matching.items ≡ m → OverlapIsJoinable rules r1 r2 m
@@ -94,9 +94,9 @@ accepted_joins laws rules n h i j r1 r2 first second ordered m is =
         let same1 = same_Some _ _ (sym are.first ∙ f) in
         let same2 = same_Some _ _ (sym are.second ∙ s) in
         elim (subst (λ r. (HasNoUnifier (equations_of r1 r o.matching.items) × (cj.cases ≡ []))
-            ⊎ AreListed rules o r1 r cj.cases) same2
+        ⊎ AreListed rules o r1 r cj.cases) same2
         (subst (λ r. (HasNoUnifier (equations_of r are.rule2 o.matching.items) × (cj.cases ≡ []))
-            ⊎ AreListed rules o r are.rule2 cj.cases) same1 are.listed)) as (λ _. OverlapIsJoinable rules r1 r2 m) [
+        ⊎ AreListed rules o r are.rule2 cj.cases) same1 are.listed)) as (λ _. OverlapIsJoinable rules r1 r2 m) [
           | inl none ↦ inl (subst (λ m. HasNoUnifier (equations_of r1 r2 m)) e none.0)
           | inr l ↦ listed_joins laws rules o r1 r2 m f s e is cj.cases l cj.joinable
         ]
@@ -110,7 +110,7 @@ joint_confluent law laws rules w n lowers h = law rules w lowers (accepted_joins
 pub apart_refutes : FailingListedRefutes → CaseLaws → (rules : List Rule) (o : Overlap) → IsOverlapOf rules o
     → (cs : List Case) → AreCases rules o cs → (c : Case) → In c cs
     → (t u : Store) → SideEnds rules c.store c.left t → SideEnds rules c.store c.right u → ¬ (t ≡ u)
-        → ¬ (Confluent rules)
+    → ¬ (Confluent rules)
 apart_refutes law laws rules o of cs are c i t u left_ends right_ends differ = by are.listed
   where
     r1 : Rule
@@ -125,7 +125,7 @@ apart_refutes law laws rules o of cs are c i t u left_ends right_ends differ = b
     by (inr l) =
         let m = o.matching.items in
         let at = picked (case_at o r1 r2 l.classes) (guards_hold l.classes r1 r2) l.representatives c
-            (subst (In c) l.cases_are i) in
+        (subst (In c) l.cases_are i) in
         let zs = at.0 in
         let is = matching_at rules o r1 r2 of are.first are.second in
         let v1 = left_at l.classes r1 r2 zs in
@@ -136,9 +136,9 @@ apart_refutes law laws rules o of cs are c i t u left_ends right_ends differ = b
         let q = subst (λ (y : Case). SideEnds rules y.store y.right u) (sym at.3) right_ends in
         let left = side_taken rules x.store p.1.0 x.left r1 v1 are.first refl (laws.left r1 r2 m v1 v2 case) p.1.1 in
         let right = side_taken rules x.store q.1.0 x.right r2 v2 are.second refl
-            (laws.right r1 r2 m v1 v2 case) q.1.1 in
+        (laws.right r1 r2 m v1 v2 case) q.1.1 in
         law rules (o.first - 1) (o.second - 1) r1 r2 are.first are.second m is l.classes l.representatives l.solves
-            l.types zs at.1 at.2 t u
+        l.types zs at.1 at.2 t u
         (plain_normal rules p.0 _ t (subst (λ y. IsPlainComputation rules p.0 y t) left p.1.2))
         (plain_normal rules q.0 _ u (subst (λ y. IsPlainComputation rules q.0 y u) right q.1.2)) differ
 
@@ -149,9 +149,9 @@ failing_refutes law laws rules f h =
     let first = h.1.first in
     let e = h.1.explains in
     apart_refutes law laws rules f.overlap (h.0.listed.each f.overlap (in_middle h.0.before f.overlap h.0.after))
-        (first.before ++ h.1.case ∷ first.after) first.listed h.1.case
+    (first.before ++ h.1.case ∷ first.after) first.listed h.1.case
     (in_middle first.before h.1.case first.after) f.left_end f.right_end (e.left.rest, e.left.runs)
-        (e.right.rest, e.right.runs) e.differ
+    (e.right.rest, e.right.runs) e.differ
 
 pub refusal_refutes : RefusedAreNotConfluent → (coverage : Coverage) (rules : List Rule) (e : Cause)
     → IsRefusalBy coverage rules e → IfFails e (λ _. ¬ (Confluent rules))

@@ -30,7 +30,7 @@ module _ (rules : List Rule) (w : Atom → ℕ) (lowers : RulesLower w rules) wh
   -- both sides end in one store, or they end apart
   joins_or : (c : Case) → IsApplicable rules c.store c.left × IsApplicable rules c.store c.right
       → ((t u : Store) → SideEnds rules c.store c.left t → SideEnds rules c.store c.right u → ¬ (t ≡ u) → ⊥)
-          → IsJoinable rules c
+      → IsJoinable rules c
   joins_or c at never =
       let x = end_there c.store c.left at.0 in
       let y = end_there c.store c.right at.1 in
@@ -42,4 +42,4 @@ module _ (rules : List Rule) (w : Atom → ℕ) (lowers : RulesLower w rules) wh
 pub confluent_joins : FailingListedRefutes → CaseLaws → JointCasesJoin
 confluent_joins law laws rules w lowers confluent o of cs are = from_each (IsJoinable rules) cs (λ c i.
     joins_or rules w lowers c (case_steps laws Joint rules o cs of are c i)
-        (λ t u l r n. apart_refutes law laws rules o of cs are c i t u l r n confluent))
+    (λ t u l r n. apart_refutes law laws rules o of cs are c i t u l r n confluent))

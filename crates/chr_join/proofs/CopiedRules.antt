@@ -45,7 +45,7 @@ pub copies_unnamed : (rules : List Rule) (k i : ℕ) → AreCopies rules k i →
 copies_unnamed rules k i same =
     slice_get-map unnamed rules k
     ∙ by (slice_get rules k) (slice_get rules i) (sym (slice_get-map parts_of rules k) ∙ same
-        ∙ slice_get-map parts_of rules i)
+    ∙ slice_get-map parts_of rules i)
     ∙ sym (slice_get-map unnamed rules i)
   where
     by : (a b : Option Rule) → option_map parts_of a ≡ option_map parts_of b → option_map unnamed a
@@ -61,9 +61,9 @@ pub equal_rules : (rules : List Rule) (k i : ℕ) (r s : Rule) (b : Bool) → k 
 equal_rules rules k i r s b within there is_r is_s e t =
     let parts : parts_of r ≡ parts_of s = (parts_decide _ _ pattern_decides comparison_decides r s b e).0 t in
     slice_get-map parts_of rules k ∙ ap (option_map parts_of) (slice_get_read rules (length rules) k r refl within is_r)
-        ∙ ap Some parts
+    ∙ ap Some parts
     ∙ sym (slice_get-map parts_of rules i ∙ ap (option_map parts_of)
-        (slice_get_read rules (length rules) i s refl there is_s))
+    (slice_get_read rules (length rules) i s refl there is_s))
 
 -- ---- a step of a copy
 
@@ -71,7 +71,7 @@ module _ (rules : List Rule) where
   step_of_copy : (s t : Store) (heads : List Atom) (k l : ℕ) → 0 < l → slice_get (map unnamed rules) (k - 1)
       ≡ slice_get (map unnamed rules) (l - 1)
       → LeadsTo rules (record { rule = k; heads = record { items = heads } }) s t
-          → LeadsTo rules (record { rule = l; heads = record { items = heads } }) s t
+      → LeadsTo rules (record { rule = l; heads = record { items = heads } }) s t
   step_of_copy s t heads k l numbered same step =
       let r = step.0.rule in
       let f = from_unnamed rules (l - 1) (unnamed r) (sym same ∙ at_unnamed rules (k - 1) r step.0.named) in
@@ -90,9 +90,11 @@ module _ (rules : List Rule) where
   side_of_copy : (s t : Store) (heads : List Atom) (k l : ℕ) → 0 < l → slice_get (map unnamed rules) (k - 1)
       ≡ slice_get (map unnamed rules) (l - 1)
       → SideEnds rules s (record { rule = k; heads = record { items = heads } }) t
-          → SideEnds rules s (record { rule = l; heads = record { items = heads } }) t
-  side_of_copy s t heads k l numbered same side = (side.0,
-      (side.1.0, step_of_copy s side.1.0 heads k l numbered same side.1.1, side.1.2))
+      → SideEnds rules s (record { rule = l; heads = record { items = heads } }) t
+  side_of_copy s t heads k l numbered same side = (
+    side.0,
+    (side.1.0, step_of_copy s side.1.0 heads k l numbered same side.1.1, side.1.2),
+  )
 
   -- ---- a case of a copy
 
@@ -107,8 +109,8 @@ module _ (rules : List Rule) where
       → IsJoinable rules (case_at p r1 r2 σ zs) → IsJoinable rules (case_at o r1 r2 σ zs)
   case_of_copy p o like r1 r2 σ zs h =
       let here : IsJoinable rules (case_at (record p { matching = o.matching }) r1 r2 σ zs) =
-          subst (λ m. IsJoinable rules (case_at (record p { matching = record { items = m } }) r1 r2 σ zs))
-          like.matching h in
+      subst (λ m. IsJoinable rules (case_at (record p { matching = record { items = m } }) r1 r2 σ zs))
+      like.matching h in
       record {
         end = here.end;
         left = side_of_copy _ here.end _ p.first o.first like.numbered.0 like.first here.left;
@@ -120,9 +122,9 @@ module _ (rules : List Rule) where
   cases_of_copy p o like r1 r2 σ [] all = All-nil (IsJoinable rules)
   cases_of_copy p o like r1 r2 σ (zs ∷ rs) all =
       All-cons (IsJoinable rules) (case_at o r1 r2 σ zs) (map (case_at o r1 r2 σ) rs)
-          (case_of_copy p o like r1 r2 σ zs (all 0 (case_at p r1 r2 σ zs) (omega arith)))
+      (case_of_copy p o like r1 r2 σ zs (all 0 (case_at p r1 r2 σ zs) (omega arith)))
       (cases_of_copy p o like r1 r2 σ rs (all_rest (IsJoinable rules) (case_at p r1 r2 σ zs)
-          (map (case_at p r1 r2 σ) rs) all))
+      (map (case_at p r1 r2 σ) rs) all))
 
   -- the list of an overlap's sorted cases, by its rules
   abbrev ListedBy : Sorts → Overlap → List Case → Rule → Rule → Type 0
@@ -132,14 +134,28 @@ module _ (rules : List Rule) where
   listed_unnamed : (s : Sorts) (o : Overlap) (cs : List Case) (r1 r2 : Rule) → ListedBy s o cs r1 r2
       → ListedBy s o cs (unnamed r1) (unnamed r2)
   listed_unnamed s o cs r1 r2 (inl n) = inl n
-  listed_unnamed s o cs r1 r2 (inr l) = inr (record { classes = l.classes; combinations = l.combinations; solves =
-      l.solves; all = l.all; within = l.within; cases_are = l.cases_are })
+  listed_unnamed s o cs r1 r2 (inr l) = inr (record {
+    classes = l.classes;
+    combinations = l.combinations;
+    solves =
+        l.solves;
+    all = l.all;
+    within = l.within;
+    cases_are = l.cases_are;
+  })
 
   listed_named : (s : Sorts) (o : Overlap) (cs : List Case) (r1 r2 : Rule) → ListedBy s o cs (unnamed r1) (unnamed r2)
       → ListedBy s o cs r1 r2
   listed_named s o cs r1 r2 (inl n) = inl n
-  listed_named s o cs r1 r2 (inr l) = inr (record { classes = l.classes; combinations = l.combinations; solves =
-      l.solves; all = l.all; within = l.within; cases_are = l.cases_are })
+  listed_named s o cs r1 r2 (inr l) = inr (record {
+    classes = l.classes;
+    combinations = l.combinations;
+    solves =
+        l.solves;
+    all = l.all;
+    within = l.within;
+    cases_are = l.cases_are;
+  })
 
   -- where the cases of p are listed by the rules r1 and r2
   joins_by : (p o : Overlap) → AreAlike p o → (s : Sorts) → AreFinest rules s → (r1 r2 : Rule)
@@ -147,16 +163,26 @@ module _ (rules : List Rule) where
       → (cs : List Case) → All (IsJoinable rules) cs → ListedBy s o cs r1 r2 → Joins Sorted rules o
   joins_by p o like s finest r1 r2 first second cs joinable listed =
       let f = from_unnamed rules (o.first - 1) (unnamed r1)
-          (sym like.first ∙ at_unnamed rules (p.first - 1) r1 first) in
+      (sym like.first ∙ at_unnamed rules (p.first - 1) r1 first) in
       let g = from_unnamed rules (o.second - 1) (unnamed r2)
-          (sym like.second ∙ at_unnamed rules (p.second - 1) r2 second) in
+      (sym like.second ∙ at_unnamed rules (p.second - 1) r2 second) in
       let copied : ListedBy s o cs (unnamed f.0) (unnamed g.0) = subst (λ x. ListedBy s o cs x (unnamed g.0)) (sym f.2)
-          (subst (λ x. ListedBy s o cs (unnamed r1) x) (sym g.2) (listed_unnamed s o cs r1 r2 listed)) in (
+      (subst (λ x. ListedBy s o cs (unnamed r1) x) (sym g.2) (listed_unnamed s o cs r1 r2 listed)) in (
         length cs,
         record {
           cases = cs;
-          listed = (s, finest, record { rule1 = f.0; rule2 = g.0; first = f.1; second = g.1; listed =
-              listed_named s o cs f.0 g.0 copied });
+          listed = (
+            s,
+            finest,
+            record {
+              rule1 = f.0;
+              rule2 = g.0;
+              first = f.1;
+              second = g.1;
+              listed =
+                  listed_named s o cs f.0 g.0 copied;
+            },
+          );
           joinable = joinable;
           number = refl;
         },
@@ -177,14 +203,16 @@ module _ (rules : List Rule) where
       by : ListedBy s p h.1.cases r1 r2 → Joins Sorted rules o
       by (inl none) =
           joins_by p o like s h.1.listed.1 r1 r2 h.1.listed.2.first h.1.listed.2.second []
-              (All-nil (IsJoinable rules)) (inl (subst (λ m. HasNoUnifier (all_equations r1 r2 m)) like.matching none.0,
-              refl))
+          (All-nil (IsJoinable rules)) (inl (
+            subst (λ m. HasNoUnifier (all_equations r1 r2 m)) like.matching none.0,
+            refl,
+          ))
       by (inr x) =
           let rs = filter (guards_hold x.classes r1 r2) x.combinations in
           let joinable = cases_of_copy p o like r1 r2 x.classes rs
-              (subst (All (IsJoinable rules)) x.cases_are h.1.joinable) in
+          (subst (All (IsJoinable rules)) x.cases_are h.1.joinable) in
           joins_by p o like s h.1.listed.1 r1 r2 h.1.listed.2.first h.1.listed.2.second
-              (map (case_at o r1 r2 x.classes) rs) joinable (inr (record {
+          (map (case_at o r1 r2 x.classes) rs) joinable (inr (record {
             classes = x.classes;
             combinations = x.combinations;
             solves = subst (λ m. IsMostGeneralUnifier x.classes (all_equations r1 r2 m)) like.matching x.solves;
@@ -199,8 +227,13 @@ module _ (rules : List Rule) where
   alike o c h =
       let one = h.2.0 in
       let two = h.2.1 in
-      record { first = copies_unnamed rules _ _ c.first; second = copies_unnamed rules _ _ c.second; matching =
-          c.matching; numbered = (omega (arith, one), omega (arith, two)) }
+      record {
+        first = copies_unnamed rules _ _ c.first;
+        second = copies_unnamed rules _ _ c.second;
+        matching =
+            c.matching;
+        numbered = (omega (arith, one), omega (arith, two));
+      }
 
   -- by the sum of the numbers of both rules
   joins_below : (os : List Overlap) → AreOverlaps rules os → All (IsSettled rules) os → (n : ℕ) (o : Overlap)
@@ -210,7 +243,7 @@ module _ (rules : List Rule) where
       elim (all_in (IsSettled rules) os o settled (are.all o h)) as (λ _. Joins Sorted rules o) [
         | inl joins ↦ joins
         | inr c ↦ (let less = c.lesser in copy_joins c.original o (alike o c h)
-              (joins_below os are settled n c.original (omega (arith, less, l)) c.overlap))
+            (joins_below os are settled n c.original (omega (arith, less, l)) c.overlap))
       ]
 
 -- ---- copies of rules
@@ -240,8 +273,16 @@ first_copied rules ks o k are h at earlier =
     let same = (are.same (o.first - 1) k at).1 in
     record {
       original = record { first = k + 1; second = o.second; matching = o.matching };
-      overlap = (k, h.1, (refl, h.2.1, copied_overlap rules h.0 h.1 k h.1 o.matching.items h.2.2
-          (subst (AreCopies rules k) here same) refl (omega (arith, earlier, here, ordered))));
+      overlap = (
+        k,
+        h.1,
+        (
+          refl,
+          h.2.1,
+          copied_overlap rules h.0 h.1 k h.1 o.matching.items h.2.2
+              (subst (AreCopies rules k) here same) refl (omega (arith, earlier, here, ordered)),
+        ),
+      );
       lesser = omega (arith, earlier);
       first = subst (λ n. AreCopies rules n (o.first - 1)) (sym back) same;
       second = refl;
@@ -260,8 +301,16 @@ second_copied rules ks o e k are h at there from earlier =
     let same : AreCopies rules e (o.second - 1) = sym (are.same e k at).1 ∙ (are.same (o.second - 1) k there).1 in
     record {
       original = record { first = o.first; second = e + 1; matching = o.matching };
-      overlap = (h.0, e, (one, refl, copied_overlap rules h.0 h.1 h.0 e o.matching.items h.2.2 refl
-          (subst (AreCopies rules e) here same) (omega (arith, from, one))));
+      overlap = (
+        h.0,
+        e,
+        (
+          one,
+          refl,
+          copied_overlap rules h.0 h.1 h.0 e o.matching.items h.2.2 refl
+              (subst (AreCopies rules e) here same) (omega (arith, from, one)),
+        ),
+      );
       lesser = omega (arith, earlier);
       first = refl;
       second = subst (λ n. AreCopies rules n (o.second - 1)) (sym back) same;
@@ -271,7 +320,7 @@ second_copied rules ks o e k are h at there from earlier =
 pub second_among : (rules : List Rule) (ks : List ℕ) (o : Overlap) (x : ℕ) → AreOriginals rules ks → IsOverlapOf rules o
     → x < length (take (o.second - 1 - (o.first - 1)) (drop (o.first - 1) ks))
     → ((d : ℕ) → eqb (get_or (take (o.second - 1 - (o.first - 1)) (drop (o.first - 1) ks)) x d)
-        (get_or ks (o.second - 1) 0) ≡ true) → IsCopy rules o
+    (get_or ks (o.second - 1) 0) ≡ true) → IsCopy rules o
 second_among rules ks o x are h within same =
     let two = h.2.1 in
     let there = slice_get_within rules h.1 h.2.2.rule2 h.2.2.second in
@@ -284,9 +333,9 @@ second_among rules ks o x are h within same =
     let inside : e < length ks = omega (arith, within, taken, front, less) in
     let k = get_or ks (o.second - 1) 0 in
     let equal : get_or ks e 0 ≡ k = sym (get_or-take n (drop (o.first - 1) ks) x 0 less
-        ∙ get_or-drop (o.first - 1) ks x 0) ∙ eqb-true _ _ (same 0) in
+    ∙ get_or-drop (o.first - 1) ks x 0) ∙ eqb-true _ _ (same 0) in
     second_copied rules ks o e k are h (slice_get-get_or ks e 0 inside ∙ ap Some equal)
-        (slice_get-get_or ks (o.second - 1) 0 (omega (arith, two, there, number))) (omega arith) (omega (arith, less))
+    (slice_get-get_or ks (o.second - 1) 0 (omega (arith, two, there, number))) (omega arith) (omega (arith, less))
 
 in_front : (ks : List ℕ) (m i : ℕ) → i < length ks → slice_get (ks ++ m ∷ []) i ≡ slice_get ks i
 in_front [] m i l = absurd (omega (arith, l))
@@ -311,7 +360,7 @@ one_more rules ks ls n m number more same at is i k h = by (cases_lt i n)
         let both = length-append ks (m ∷ []) in
         let here : i ≡ length ks = omega (arith, within, long, both, l, number) in
         let new : Some m ≡ Some k = sym (at_end ks m) ∙ ap (slice_get (ks ++ m ∷ [])) (sym here)
-            ∙ ap (λ xs. slice_get xs i) (sym more) ∙ h in
+        ∙ ap (λ xs. slice_get xs i) (sym more) ∙ h in
         let old : m ≡ k = same_Some m k new in
         let place : i ≡ n = omega (arith, here, number) in
         (omega (arith, old, place, at), subst (λ x. AreCopies rules x i) old (subst (AreCopies rules m) (sym place) is))
@@ -322,6 +371,6 @@ pub all_settled : (rules : List Rule) (n : ℕ) → length rules ≤ n → HaveS
 all_settled rules n most h =
     let are = of_all rules n h.0 most h.1 in
     let all = from_each (Joins Sorted rules) h.0 (λ o i. joins_below rules h.0 are h.2 (o.first + o.second) o
-        (omega arith) (are.each o i)) in
+    (omega arith) (are.each o i)) in
     let total = all_counted Sorted rules h.0 all in
     (total.0, record { overlaps = h.0; listed = are; joinable = total.1 })

@@ -49,22 +49,22 @@ module _ (u : Unified) where
   counted (zs ∷ zss) v w stopped same (inl h) l = absurd (true≢false h.1.goes_on)
   counted (zs ∷ zss) v w stopped same (inr h) l =
       by (holds_at u zs) refl (held v h.0 zs false same h.1) (failed v h.0 zs false same h.1)
-          (counted zss h.0 w stopped (h.1.same ∙ same) h.2)
+      (counted zss h.0 w stopped (h.1.same ∙ same) h.2)
     where
       by : (b : Bool) → holds_at u zs ≡ b → (holds_at u zs ≡ true → v.counted + 1 < 2 ^ 64 → h.0.counted
           ≡ v.counted + 1) → (holds_at u zs ≡ false → h.0.counted ≡ v.counted)
           → (h.0.counted + length (filter (holds_at u) zss) < 2 ^ 64 → w.counted
-              ≡ h.0.counted + length (filter (holds_at u) zss)) → w.counted
-              ≡ v.counted + length (filter (holds_at u) (zs ∷ zss))
+          ≡ h.0.counted + length (filter (holds_at u) zss)) → w.counted
+          ≡ v.counted + length (filter (holds_at u) (zs ∷ zss))
       by true e one none more =
           let f : length (filter (holds_at u) (zs ∷ zss)) ≡ suc (length (filter (holds_at u) zss)) =
-              ap (λ b. length (cond b (zs ∷ filter (holds_at u) zss) (filter (holds_at u) zss))) e in
+          ap (λ b. length (cond b (zs ∷ filter (holds_at u) zss) (filter (holds_at u) zss))) e in
           let a = one e (omega (arith, l, f)) in
           let g = more (omega (arith, l, f, a)) in
           omega (arith, f, a, g)
       by false e one none more =
           let f : length (filter (holds_at u) (zs ∷ zss)) ≡ length (filter (holds_at u) zss) =
-              ap (λ b. length (cond b (zs ∷ filter (holds_at u) zss) (filter (holds_at u) zss))) e in
+          ap (λ b. length (cond b (zs ∷ filter (holds_at u) zss) (filter (holds_at u) zss))) e in
           let a = none e in
           let g = more (omega (arith, l, f, a)) in
           omega (arith, f, a, g)
@@ -73,18 +73,18 @@ module _ (u : Unified) where
   pub count_is : (constants : List ℤ) (rs : List (List ℤ)) → AreTypes (length u.free.items) constants rs
       → ¬ MoreTypesThan MAX_TYPES (length u.free.items) constants
       → (v w : Counter) (stopped : Bool) → v.unified.now ≡ u → v.counted ≡ 0
-          → Visited CountsValues v (filter (are_admitted (all_may_hold u.free.items u.guards.items) []) rs) stopped w
+      → Visited CountsValues v (filter (are_admitted (all_may_hold u.free.items u.guards.items) []) rs) stopped w
       → IsCountOf constants u w.counted
   count_is constants rs types none v w stopped same start h =
       let all : filter (holds_at u) (filter (are_admitted (all_may_hold u.free.items u.guards.items) []) rs)
-          ≡ filter (holds_at u) rs =
+      ≡ filter (holds_at u) rs =
       filter_within (holds_at u) (are_admitted (all_may_hold u.free.items u.guards.items) [])
-          (λ zs. admitted u.free.items u.guards.items [] zs) rs in
+      (λ zs. admitted u.free.items u.guards.items [] zs) rs in
       let number = ap length all in
       let passed = filter_few (holds_at u) rs in
       let few = few_types (length u.free.items) constants rs types none in
       let count = counted (filter (are_admitted (all_may_hold u.free.items u.guards.items) []) rs) v w stopped same h
-          (omega (arith, number, passed, few, start)) in
+      (omega (arith, number, passed, few, start)) in
       (rs, types, omega (arith, count, number, start))
 
 -- ---- what was remembered
@@ -102,7 +102,7 @@ same_count constants u w n free guards h = (
 pub overlap_counted : (s : Setting) (constants : List ℤ) (n : ℕ) → IsUnifiedAt (rules_in s.weighed) s.overlap s.unified
     → AreConstants (rules_in s.weighed) constants → ¬ MoreTypesThan MAX_TYPES (length s.unified.free.items) constants
     → ((cs : List Case) → AreCases (rules_in s.weighed) s.overlap cs → All (IsJoinable (rules_in s.weighed)) cs)
-        → IsCountOf constants s.unified n → HasJoinableCasesBy Joint (rules_in s.weighed) s.overlap n
+    → IsCountOf constants s.unified n → HasJoinableCasesBy Joint (rules_in s.weighed) s.overlap n
 overlap_counted s constants n u are none join h =
     let rs = h.0 in
     let cases = joint_cases s constants rs u are h.1 none in
@@ -120,7 +120,7 @@ pub cases_counted : {E : Type 0} (s : Setting) (constants : List ℤ) (result : 
     → IsUnifiedAt (rules_in s.weighed) s.overlap s.unified → AreConstants (rules_in s.weighed) constants
     → ¬ MoreTypesThan MAX_TYPES (length s.unified.free.items) constants
     → ((cs : List Case) → AreCases (rules_in s.weighed) s.overlap cs → All (IsJoinable (rules_in s.weighed)) cs)
-        → IfOk result (IsCountOf constants s.unified) → IfOk result
-        (HasJoinableCasesBy Joint (rules_in s.weighed) s.overlap)
+    → IfOk result (IsCountOf constants s.unified) → IfOk result
+    (HasJoinableCasesBy Joint (rules_in s.weighed) s.overlap)
 cases_counted s constants (Ok n) u are none join h = overlap_counted s constants n u are none join h
 cases_counted s constants (Err e) u are none join h = tt

@@ -32,7 +32,7 @@ module _ (s : Sorts) (rules : List Rule) (finest : AreFinest rules s) (o : Overl
       ≡ Some r2 → AreSortedCases s rules o cs → Listed r1 r2 cs
   listed_at cs r1 r2 first second are =
       subst (λ r. Listed r1 r cs) (same_Some _ _ (sym are.second ∙ second))
-          (subst (λ r. Listed r are.rule2 cs) (same_Some _ _ (sym are.first ∙ first)) are.listed)
+      (subst (λ r. Listed r are.rule2 cs) (same_Some _ _ (sym are.first ∙ first)) are.listed)
 
   module _ (r1 r2 : Rule) where
     abbrev Solves : Substitution → Type 0
@@ -74,7 +74,7 @@ module _ (s : Sorts) (rules : List Rule) (finest : AreFinest rules s) (o : Overl
       by (inr x) =
           let classes = one_classes many.rule1 many.rule2 x.classes many.classes x.solves many.solves in
           let same = ap length (same_combinations many.rule1 many.rule2 x.classes many.classes x.combinations
-              many.many.0 classes x.all many.many.1) in
+          many.many.0 classes x.all many.many.1) in
           let few = x.within in
           let more = many.many.2 in
           omega (arith, same, few, more)

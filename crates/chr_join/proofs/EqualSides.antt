@@ -57,7 +57,7 @@ removed_within r v s q within =
 
 side_counted : (r : Rule) (v : Valuation) (s : Store) (q : Atom)
     → count (side r v s) q ≡ (count s q - count (store_of (atoms_at v r.removed.items)) q) + count
-        (store_of (atoms_at v r.body.items)) q
+    (store_of (atoms_at v r.body.items)) q
 side_counted r v s q =
     let sum = count_plus (s ⊖ store_of (atoms_at v r.removed.items)) (store_of (atoms_at v r.body.items)) q in
     let rest = count_minus s (store_of (atoms_at v r.removed.items)) q in
@@ -66,7 +66,7 @@ side_counted r v s q =
 same_side : (r1 r2 : Rule) (v1 v2 : Valuation) (s : Store) → IsWithin (store_of (heads_at v1 r1)) s
     → IsWithin (store_of (heads_at v2 r2)) s
     → store_of (atoms_at v1 r1.body.items ++ atoms_at v2 r2.removed.items)
-        ≡ store_of (atoms_at v2 r2.body.items ++ atoms_at v1 r1.removed.items)
+    ≡ store_of (atoms_at v2 r2.body.items ++ atoms_at v1 r1.removed.items)
     → side r1 v1 s ≡ side r2 v2 s
 same_side r1 r2 v1 v2 s there1 there2 same = same_store _ _ (λ q. (
     let left = side_counted r1 v1 s q in
@@ -81,7 +81,7 @@ same_side r1 r2 v1 v2 s there1 there2 same = same_store _ _ (λ q. (
 pub equal_joins : LeftSideIsStep → RightSideIsStep → (rules : List Rule) (w : Atom → ℕ) → RulesLower w rules
     → (o : Overlap) (r1 r2 : Rule) (σ : Substitution) (zs : List ℤ) → IsOverlapOf rules o
     → slice_get rules (o.first - 1) ≡ Some r1 → slice_get rules (o.second - 1) ≡ Some r2
-        → IsCase r1 r2 o.matching.items (left_at σ r1 r2 zs) (right_at σ r1 r2 zs) → HaveEqualSides r1 r2 σ
+    → IsCase r1 r2 o.matching.items (left_at σ r1 r2 zs) (right_at σ r1 r2 zs) → HaveEqualSides r1 r2 σ
     → IsJoinable rules (case_at o r1 r2 σ zs)
 equal_joins to_left to_right rules w lowers o r1 r2 σ zs h first second case equal =
     let m = o.matching.items in
@@ -93,11 +93,27 @@ equal_joins to_left to_right rules w lowers o r1 r2 σ zs h first second case eq
     let a = h.2.0 in
     let b = h.2.1 in
     joined_early rules w lowers (case_at o r1 r2 σ zs) (side r1 v1 s) (side r2 v2 s)
-        (same_side r1 r2 v1 v2 s left.there right.there (equal zs))
-    (record { rule = r1; numbered = omega (arith, a); named = first; instance = (v1, refl, left.guard); there =
-        left.there }, (v1, refl, left))
-    (record { rule = r2; numbered = omega (arith, b); named = second; instance = (v2, refl, right.guard); there =
-        right.there }, (v2, refl, right))
+    (same_side r1 r2 v1 v2 s left.there right.there (equal zs)) (
+      record {
+        rule = r1;
+        numbered = omega (arith, a);
+        named = first;
+        instance = (v1, refl, left.guard);
+        there =
+            left.there;
+      },
+      (v1, refl, left),
+    ) (
+      record {
+        rule = r2;
+        numbered = omega (arith, b);
+        named = second;
+        instance = (v2, refl, right.guard);
+        there =
+            right.there;
+      },
+      (v2, refl, right),
+    )
 
 -- so a visit at which both guards hold finds a case that joins
 module _ (s : Setting) (zs : List ℤ) (h : IsOverlapOf (rules_in s.weighed) s.overlap)
@@ -114,13 +130,17 @@ module _ (s : Setting) (zs : List ℤ) (h : IsOverlapOf (rules_in s.weighed) s.o
   pub passes_one : LeftSideIsStep → RightSideIsStep → HaveCases s
       → ((r1 r2 : Rule) → AreRulesOf (rules_in s.weighed) s.overlap r1 r2 → HaveEqualSides r1 r2 (classes_of s.unified))
       → (n m : ℕ) → true ≡ guard_holds (assignment s.unified.free.items zs) s.unified.guards.items
-          → (n + 1 < 2 ^ 64 → m ≡ n + 1) → GoesOn s n zs m
+      → (n + 1 < 2 ^ 64 → m ≡ n + 1) → GoesOn s n zs m
   passes_one to_left to_right cases equal n m is more r1 r2 are =
       let holds = guards_at true is r1 r2 are in
       let p = program_of s.weighed in
-      inr (holds, equal_joins to_left to_right (rules_in s.weighed) (rank_in p)
-          (lowers_rank p s.weighed.lowers) s.overlap r1 r2 (classes_of s.unified) zs h are.0 are.1
-          (cases r1 r2 are zs holds) (equal r1 r2 are), more)
+      inr (
+        holds,
+        equal_joins to_left to_right (rules_in s.weighed) (rank_in p)
+            (lowers_rank p s.weighed.lowers) s.overlap r1 r2 (classes_of s.unified) zs h are.0 are.1
+            (cases r1 r2 are zs holds) (equal r1 r2 are),
+        more,
+      )
 
 -- and all sorted cases of the overlap join
 equal_all : LeftSideIsStep → RightSideIsStep → (s : Setting) (r1 r2 : Rule)
@@ -133,8 +153,8 @@ equal_all to_left to_right s r1 r2 are h cases equal (zs ∷ zss) = by (guards_h
   where
     same : (b : Bool) → guards_hold (classes_of s.unified) r1 r2 zs ≡ b → cases_of s r1 r2 are (zs ∷ zss)
         ≡ map (case_at s.overlap r1 r2 (classes_of s.unified))
-            (cond b (zs ∷ filter (guards_hold (classes_of s.unified) r1 r2) zss)
-            (filter (guards_hold (classes_of s.unified) r1 r2) zss))
+        (cond b (zs ∷ filter (guards_hold (classes_of s.unified) r1 r2) zss)
+        (filter (guards_hold (classes_of s.unified) r1 r2) zss))
     same b e = ap (λ b. map (case_at s.overlap r1 r2 (classes_of s.unified))
         (cond b (zs ∷ filter (guards_hold (classes_of s.unified) r1 r2) zss)
         (filter (guards_hold (classes_of s.unified) r1 r2) zss))) e
@@ -144,18 +164,18 @@ equal_all to_left to_right s r1 r2 are h cases equal (zs ∷ zss) = by (guards_h
     by true e ih =
         let p = program_of s.weighed in
         let one = equal_joins to_left to_right (rules_in s.weighed) (rank_in p)
-            (lowers_rank p s.weighed.lowers) s.overlap r1 r2 (classes_of s.unified) zs h are.0 are.1
-            (cases r1 r2 are zs e) equal in
+        (lowers_rank p s.weighed.lowers) s.overlap r1 r2 (classes_of s.unified) zs h are.0 are.1
+        (cases r1 r2 are zs e) equal in
         subst (All (IsJoinable (rules_in s.weighed))) (sym (same true e))
-            (All-cons (IsJoinable (rules_in s.weighed)) _ _ one ih)
+        (All-cons (IsJoinable (rules_in s.weighed)) _ _ one ih)
     by false e ih = subst (All (IsJoinable (rules_in s.weighed))) (sym (same false e)) ih
 
 pub equal_sorted : SortedAreCases → LeftSideIsStep → RightSideIsStep
     → (sorts : Sorts) (s : Setting) (rs : List (List ℤ)) → IsOverlapOf (rules_in s.weighed) s.overlap
     → (u : IsSortedUnifiedAt (rules_in s.weighed) s.overlap s.unified)
     → AreFinest (rules_in s.weighed) sorts → AreCombinations sorts
-        (class_sorts sorts (classes_of s.unified) u.rule1 u.rule2) rs → length rs ≤ MAX_TYPES
-        → HaveEqualSides u.rule1 u.rule2 (classes_of s.unified)
+    (class_sorts sorts (classes_of s.unified) u.rule1 u.rule2) rs → length rs ≤ MAX_TYPES
+    → HaveEqualSides u.rule1 u.rule2 (classes_of s.unified)
     → Joins Sorted (rules_in s.weighed) s.overlap
 equal_sorted law to_left to_right sorts s rs h u finest all within equal =
     let cases = sorted_cases sorts s rs u finest all within in (

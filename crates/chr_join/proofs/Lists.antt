@@ -18,7 +18,7 @@ pub split_at : {A : Type 0} (xs : List A) (k : ℕ) (x : A) → k < length xs �
     ∷ drop (k + 1) xs ≡ xs
 split_at xs k x l e =
     ap (λ y. take k xs ++ y ∷ drop (k + 1) xs) e ∙ ap (λ ys. take k xs ++ ys) (sym (drop_more xs k x l))
-        ∙ take-append-drop k xs
+    ∙ take-append-drop k xs
 
 pub in_at : {A : Type 0} (xs : List A) (k : ℕ) (x : A) → k < length xs → x ≡ get_or xs k x → In x xs
 in_at xs k x l e = subst (In x) (split_at xs k x l e) (in_middle (take k xs) x (drop (k + 1) xs))
@@ -76,7 +76,7 @@ first_once P (z ∷ xs) [] x y us vs e h g no_x no_y =
     absurd (no_y (subst P (let same : z ≡ y = cc in same) (h zero z (omega arith))))
 first_once P (z ∷ xs) (w ∷ ys) x y us vs e h g no_x no_y =
     first_once P xs ys x y us vs (let same : xs ++ x ∷ us ≡ ys ++ y ∷ vs = cc in same) (all_rest P z xs h)
-        (all_rest P w ys g) no_x no_y
+    (all_rest P w ys g) no_x no_y
 
 pub from_none : {X : Type 0} (o : Option X) (P : Type 0) → ((x : X) → ¬ (o ≡ Some x)) → IfNone o P → P
 from_none None P h p = p

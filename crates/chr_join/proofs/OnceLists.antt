@@ -29,8 +29,12 @@ use Rattle.chr_overlaps.specs.CaseLists.{case_at, AreListed, AreCases, IsTooMany
 -- ---- overlaps
 
 same_overlap : (o p : Overlap) → o.first ≡ p.first → o.second ≡ p.second → o.matching.items ≡ p.matching.items → o ≡ p
-same_overlap o p first second matching = λ t. record { first = first t; second = second t; matching =
-    record { items = matching t } }
+same_overlap o p first second matching = λ t. record {
+  first = first t;
+  second = second t;
+  matching =
+      record { items = matching t };
+}
 
 pub one_overlaps : (rules : List Rule) (os ps : List Overlap) → AreOverlaps rules os → AreOverlaps rules ps → os ≡ ps
 one_overlaps rules os ps a b =
@@ -64,10 +68,10 @@ one_listed rules o r1 r2 cs ds a b = a.cases_are ∙ (λ t. map (case_at o r1 r2
     representatives =
         let n = length (free_variables b.classes r1 r2) in
         let mine : AreRepresentatives rules r1 r2 b.classes a.representatives =
-            subst (λ σ. AreRepresentatives rules r1 r2 σ a.representatives) classes a.types in
+        subst (λ σ. AreRepresentatives rules r1 r2 σ a.representatives) classes a.types in
         one_list n b.types.0 a.representatives b.representatives b.types.1.rise
-            (subst (λ cs. AreTypes n cs a.representatives) (one_constants rules mine.0 b.types.0 mine.1 b.types.1)
-            mine.2) b.types.2
+        (subst (λ cs. AreTypes n cs a.representatives) (one_constants rules mine.0 b.types.0 mine.1 b.types.1)
+        mine.2) b.types.2
 
 abbrev Listed : List Rule → Overlap → Rule → Rule → List Case → Type 0
 Listed rules o r1 r2 cs = (HasNoUnifier (equations_of r1 r2 o.matching.items) × (cs ≡ [])) ⊎ AreListed rules o r1 r2 cs
@@ -99,14 +103,14 @@ cases_or_many rules o cs n are many = by (listed_at rules o cs many.rule1 many.r
     by (inl x) = solved_meet many.classes _ many.solves x.0
     by (inr x) =
         let classes : x.classes ≡ many.classes = λ t y. one_solution x.classes many.classes
-            (equations_of many.rule1 many.rule2 o.matching.items) x.solves many.solves y t in
+        (equations_of many.rule1 many.rule2 o.matching.items) x.solves many.solves y t in
         let number : n ≡ length (free_variables x.classes many.rule1 many.rule2) =
-            many.number ∙ (λ t. length (free_variables (sym classes t) many.rule1 many.rule2)) in
+        many.number ∙ (λ t. length (free_variables (sym classes t) many.rule1 many.rule2)) in
         let constants = one_constants rules many.constants x.types.0 many.are_constants x.types.1 in
         not_more MAX_TYPES (length (free_variables x.classes many.rule1 many.rule2)) x.types.0 x.representatives
-            x.types.2 x.within
+        x.types.2 x.within
         (subst (λ k. MoreTypesThan MAX_TYPES k x.types.0) number
-            (subst (λ cs. MoreTypesThan MAX_TYPES n cs) constants many.more))
+        (subst (λ cs. MoreTypesThan MAX_TYPES n cs) constants many.more))
 
 pub one_number : (rules : List Rule) (o : Overlap) (n m : ℕ) → IsTooMany rules o n → IsTooMany rules o m → n ≡ m
 one_number rules o n m a b = a.number ∙ (λ t. length (free_variables (classes t) (one t) (two t))) ∙ sym b.number

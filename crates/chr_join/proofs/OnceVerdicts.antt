@@ -34,7 +34,7 @@ one_explanation : (rules : List Rule) (c : Case) (f g : Failure) → f.overlap �
 one_explanation rules c f g overlap a b =
     let left = side_once rules c.store c.left a.left.rest b.left.rest f.left_end g.left_end a.left.runs b.left.runs in
     let right = side_once rules c.store c.right a.right.rest b.right.rest f.right_end g.right_end a.right.runs
-        b.right.runs in
+    b.right.runs in
     record {
       overlap = overlap;
       left_start = a.left.start ∙ sym b.left.start;
@@ -52,7 +52,7 @@ one_first : (coverage : Coverage) (rules : List Rule) (o p : Overlap) → IsFirs
     → ¬ ((n : ℕ) × HasJoinableCasesBy coverage rules p n) → o ≡ p
 one_first coverage rules o p a b =
     first_once {A = Overlap} (λ q. (n : ℕ) × HasJoinableCasesBy coverage rules q n) a.before b.before o p a.after
-        b.after (one_overlaps rules _ _ a.listed b.listed) a.joinable b.joinable
+    b.after (one_overlaps rules _ _ a.listed b.listed) a.joinable b.joinable
 
 one_first_case : (coverage : Coverage) (rules : List Rule) (o : Overlap) (c d : Case) → IsFirstCaseBy coverage rules o c
     → IsFirstCaseBy coverage rules o d → ¬ (IsJoinable rules c) → ¬ (IsJoinable rules d) → c ≡ d
@@ -66,9 +66,9 @@ failing_case : (coverage : Coverage) (rules : List Rule) (f : Failure) → Expla
 failing_case coverage rules f h j =
     let first = h.first in
     let same = one_cases_by coverage rules f.overlap (first.before ++ h.case ∷ first.after) j.1.cases first.listed
-        j.1.listed in
+    j.1.listed in
     not_joinable rules h.case f h.explains (all_in (IsJoinable rules) j.1.cases h.case j.1.joinable
-        (subst (In h.case) same (in_middle first.before h.case first.after)))
+    (subst (In h.case) same (in_middle first.before h.case first.after)))
 
 too_many : (coverage : Coverage) (rules : List Rule) (o : Overlap) (k : ℕ) → IsTooManyBy coverage rules o k
     → ¬ ((n : ℕ) × HasJoinableCasesBy coverage rules o n)
@@ -92,7 +92,7 @@ one_total coverage rules (o ∷ os) n m a b =
 pub accepted_once : AcceptedOnce
 accepted_once coverage rules n m a b =
     one_total coverage rules b.overlaps n m (subst (λ os. HaveJoinableCasesBy coverage rules os n)
-        (one_overlaps rules a.overlaps b.overlaps a.listed b.listed) a.joinable) b.joinable
+    (one_overlaps rules a.overlaps b.overlaps a.listed b.listed) a.joinable) b.joinable
 
 -- ---- refused rules
 
@@ -113,20 +113,20 @@ fails_once : (coverage : Coverage) (rules : List Rule) (f g : Failure) → IsRef
     → IsRefusalBy coverage rules (cause.Fails g) → SameFailure f g
 fails_once coverage rules f g h k =
     let overlap = one_first coverage rules f.overlap g.overlap h.0 k.0 (failing_case coverage rules f h.1)
-        (failing_case coverage rules g k.1) in
+    (failing_case coverage rules g k.1) in
     let first : IsFirstCaseBy coverage rules g.overlap h.1.case =
-        subst (λ o. IsFirstCaseBy coverage rules o h.1.case) overlap h.1.first in
+    subst (λ o. IsFirstCaseBy coverage rules o h.1.case) overlap h.1.first in
     let case = one_first_case coverage rules g.overlap h.1.case k.1.case first k.1.first
-        (not_joinable rules h.1.case f h.1.explains) (not_joinable rules k.1.case g k.1.explains) in
+    (not_joinable rules h.1.case f h.1.explains) (not_joinable rules k.1.case g k.1.explains) in
     one_explanation rules k.1.case f g overlap (subst (λ c. Explains rules c f) case h.1.explains) k.1.explains
 
 fails_or_many : (coverage : Coverage) (rules : List Rule) (f : Failure) (t : TooManyTypes)
     → IsRefusalBy coverage rules (cause.Fails f) → IsRefusalBy coverage rules (cause.TooManyTypes t) → ⊥
 fails_or_many coverage rules f t h k =
     let overlap = one_first coverage rules f.overlap t.overlap h.0 k.0 (failing_case coverage rules f h.1)
-        (too_many coverage rules t.overlap t.classes k.1) in
+    (too_many coverage rules t.overlap t.classes k.1) in
     let first : IsFirstCaseBy coverage rules t.overlap h.1.case =
-        subst (λ o. IsFirstCaseBy coverage rules o h.1.case) overlap h.1.first in
+    subst (λ o. IsFirstCaseBy coverage rules o h.1.case) overlap h.1.first in
     cases_or_many_by coverage rules t.overlap (first.before ++ h.1.case ∷ first.after) t.classes first.listed k.1
 
 many_once : (coverage : Coverage) (rules : List Rule) (t u : TooManyTypes)
@@ -134,9 +134,11 @@ many_once : (coverage : Coverage) (rules : List Rule) (t u : TooManyTypes)
     → (t.overlap ≡ u.overlap) × (t.classes ≡ u.classes)
 many_once coverage rules t u h k =
     let overlap = one_first coverage rules t.overlap u.overlap h.0 k.0 (too_many coverage rules t.overlap t.classes h.1)
-        (too_many coverage rules u.overlap u.classes k.1) in
-    (overlap, one_number_by coverage rules u.overlap t.classes u.classes
-        (subst (λ o. IsTooManyBy coverage rules o t.classes) overlap h.1) k.1)
+    (too_many coverage rules u.overlap u.classes k.1) in (
+      overlap,
+      one_number_by coverage rules u.overlap t.classes u.classes
+          (subst (λ o. IsTooManyBy coverage rules o t.classes) overlap h.1) k.1,
+    )
 
 pub refused_once : RefusedOnce
 refused_once coverage rules (cause.Fails f) (cause.Fails g) h k _ _ = fails_once coverage rules f g h k

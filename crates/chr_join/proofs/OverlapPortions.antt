@@ -85,8 +85,12 @@ portion_fits coverage rules a total k p most h is more =
 -- at the end
 pub all_joined : (coverage : Coverage) (rules : List Rule) (n total : ℕ) → length rules ≤ n
     → HaveJoined coverage rules n total → IsAcceptedBy coverage rules total
-all_joined coverage rules n total most h = record { overlaps = h.overlaps; listed =
-    of_all rules n h.overlaps most h.listed; joinable = h.joinable }
+all_joined coverage rules n total most h = record {
+  overlaps = h.overlaps;
+  listed =
+      of_all rules n h.overlaps most h.listed;
+  joinable = h.joinable;
+}
 
 -- a portion that has a cause for which the rules are refused
 pub portion_refuses : (coverage : Coverage) (rules : List Rule) (a total : ℕ) (p : Portion) (e : Cause)
@@ -96,12 +100,12 @@ portion_refuses coverage rules a total p e h is refuses =
     let rest = part_there rules p.end in
     let begins = is.begins in
     let after = joined rules a p.end (length rules) p.overlaps.items rest.0 (omega (arith, begins)) is.within is.listed
-        rest.1 in
+    rest.1 in
     let within = is.within in
     let all = joined rules 0 a (length rules) h.overlaps (p.overlaps.items ++ rest.0) (omega arith)
-        (omega (arith, begins, within)) h.listed after in
+    (omega (arith, begins, within)) h.listed after in
     refuses h.overlaps rest.0 (of_all rules (length rules) (h.overlaps ++ (p.overlaps.items ++ rest.0))
-        (omega arith) all) (each_joinable coverage rules h.overlaps total h.joinable)
+    (omega arith) all) (each_joinable coverage rules h.overlaps total h.joinable)
 
 -- an overlap of these that has such a cause
 pub refuses_in : (coverage : Coverage) (rules : List Rule) (os : List Overlap) (i : ℕ) (o : Overlap) (n : ℕ) (e : Cause)

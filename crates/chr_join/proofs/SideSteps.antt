@@ -25,9 +25,11 @@ takes : (rules listed : List Rule) (st : Step) (s s' t : Store) (r : Rule) (head
     → LeadsTo rules st s t
 takes rules listed st s s' t r heads at same is heads_are stores step =
     let rule : r ≡ at.rule = is ∙ (λ i. get_or (same i) (st.rule - 1) r)
-        ∙ get_or_from_slice_get rules (st.rule - 1) at.rule r at.named in
-    (at, subst (λ x. StepOn x st.heads.items s t) rule
-        (subst (λ x. StepOn r st.heads.items x t) stores (subst (λ hs. StepOn r hs s' t) heads_are step)))
+    ∙ get_or_from_slice_get rules (st.rule - 1) at.rule r at.named in (
+      at,
+      subst (λ x. StepOn x st.heads.items s t) rule
+          (subst (λ x. StepOn r st.heads.items x t) stores (subst (λ hs. StepOn r hs s' t) heads_are step)),
+    )
 
 pub taken : {E : Type 0} (rules listed : List Rule) (st : Step) (s : Store) (result : Result Store E) (r : Rule)
     (heads : List Atom) → IsApplicable rules s st → listed ≡ rules → r ≡ get_or listed (st.rule - 1) r
@@ -46,8 +48,12 @@ pub joined_early : (rules : List Rule) (w : Atom → ℕ) (lowers : RulesLower w
     → LeadsTo rules c.left c.store t → LeadsTo rules c.right c.store u → IsJoinable rules c
 joined_early rules w lowers c t u e l r =
     let p = plain_there rules w lowers u in
-    record { end = p.1; left = (p.0, (t, l, subst (λ x. IsPlainComputation rules p.0 x p.1) (sym e) p.2)); right =
-        (p.0, (u, r, p.2)) }
+    record {
+      end = p.1;
+      left = (p.0, (t, l, subst (λ x. IsPlainComputation rules p.0 x p.1) (sym e) p.2));
+      right =
+          (p.0, (u, r, p.2));
+    }
 
 -- from the store after a step to its side
 pub side_ends : (rules : List Rule) (s u t : Store) (st : Step) → LeadsTo rules st s u → EndsIn rules u t
@@ -74,7 +80,7 @@ side_replays : (rules : List Rule) (s : Store) (st : Step) (d : Derivation) (t :
 side_replays rules s st d t h = (
   subst (λ xs. IsDerivation rules xs d.start t) (sym h.steps)
       (subst (λ x. IsDerivation rules (st ∷ h.rest) x t) (sym h.start)
-          (h.runs.0, h.runs.1, plain_replays rules h.rest h.runs.0 t h.runs.2)),
+      (h.runs.0, h.runs.1, plain_replays rules h.rest h.runs.0 t h.runs.2)),
   h.runs.2.1,
 )
 

@@ -50,7 +50,7 @@ sorted_joins : SortedLaws → (s : Sorts) (rules : List Rule) (o : Overlap) (r1 
     → slice_get rules (o.first - 1) ≡ Some r1 → slice_get rules (o.second - 1) ≡ Some r2 → o.matching.items ≡ m
     → IsMatching r1 r2 m
     → (cs : List Case) → AreSortedListed s o r1 r2 cs → All (IsJoinable rules) cs
-        → SortedOverlapIsJoinable s rules r1 r2 m
+    → SortedOverlapIsJoinable s rules r1 r2 m
 sorted_joins laws s rules o r1 r2 m first second same is cs l joinable =
     subst (λ m. IsMatching r1 r2 m → SortedOverlapIsJoinable s rules r1 r2 m) same (λ is. inr (
       l.classes,
@@ -65,9 +65,9 @@ sorted_joins laws s rules o r1 r2 m first second same is cs l joinable =
           let v2 = right_at l.classes r1 r2 zs in
           let case = laws.steps.sorted r1 r2 o.matching.items is l.classes l.solves zs g in
           let left = side_taken rules c.store j.left.1.0 c.left r1 v1 first refl
-              (laws.steps.left r1 r2 o.matching.items v1 v2 case) j.left.1.1 in
+          (laws.steps.left r1 r2 o.matching.items v1 v2 case) j.left.1.1 in
           let right = side_taken rules c.store j.right.1.0 c.right r2 v2 second refl
-              (laws.steps.right r1 r2 o.matching.items v1 v2 case) j.right.1.1 in (
+          (laws.steps.right r1 r2 o.matching.items v1 v2 case) j.right.1.1 in (
             j.end,
             plain_reaches rules j.left.0 _ j.end (subst (λ x. IsPlainComputation rules j.left.0 x j.end) left
                 j.left.1.2),
@@ -80,27 +80,27 @@ accepted_joins : SortedLaws → (rules : List Rule) (n : ℕ) → IsAcceptedBy S
     → AreFinest rules s → SortedAreJoinable s rules
 accepted_joins laws rules n h s finest i j r1 r2 first second ordered m is =
     let found = overlap_listed rules h.overlaps h.listed i j m
-        (record { rule1 = r1; rule2 = r2; first = first; second = second; ordered = ordered; matching = is }) in
+    (record { rule1 = r1; rule2 = r2; first = first; second = second; ordered = ordered; matching = is }) in
     let o = found.0 in
     let joinable = joinable_in Sorted rules h.overlaps n o h.joinable found.1 in
     let a = found.2 in let b = found.3 in
     let place1 : i ≡ o.first - 1 = omega (arith, a) in
     let place2 : j ≡ o.second - 1 = omega (arith, b) in
     by o joinable.1 (subst (λ n. slice_get rules n ≡ Some r1) place1 first)
-        (subst (λ n. slice_get rules n ≡ Some r2) place2 second) found.4
+    (subst (λ n. slice_get rules n ≡ Some r2) place2 second) found.4
   where
     by : (o : Overlap) {k : ℕ} → HasJoinableCasesBy Sorted rules o k → slice_get rules (o.first - 1) ≡ Some r1
         → slice_get rules (o.second - 1) ≡ Some r2 → o.matching.items ≡ m → SortedOverlapIsJoinable s rules r1 r2 m
     by o cj f g e =
         let are : AreSortedCases s rules o cj.cases = finest_have_one_cases rules cj.listed.0 s cj.listed.1 finest o
-            cj.cases cj.listed.2 in
+        cj.cases cj.listed.2 in
         let same1 = same_Some _ _ (sym are.first ∙ f) in
         let same2 = same_Some _ _ (sym are.second ∙ g) in
         elim (subst (λ r. (HasNoUnifier (all_equations r1 r o.matching.items) × (cj.cases ≡ []))
-            ⊎ AreSortedListed s o r1 r cj.cases) same2
+        ⊎ AreSortedListed s o r1 r cj.cases) same2
         (subst (λ r. (HasNoUnifier (all_equations r are.rule2 o.matching.items) × (cj.cases ≡ []))
-            ⊎ AreSortedListed s o r are.rule2 cj.cases) same1 are.listed)) as (λ _. SortedOverlapIsJoinable s rules r1
-            r2 m) [
+        ⊎ AreSortedListed s o r are.rule2 cj.cases) same1 are.listed)) as (λ _. SortedOverlapIsJoinable s rules r1
+        r2 m) [
           | inl none ↦ inl (subst (λ m. HasNoUnifier (all_equations r1 r2 m)) e none.0)
           | inr l ↦ sorted_joins laws s rules o r1 r2 m f g e is cj.cases l cj.joinable
         ]
@@ -155,7 +155,7 @@ sorted_refutes law laws rules f h = by are.listed
     by (inr l) =
         let m = f.overlap.matching.items in
         let at = picked (case_at f.overlap r1 r2 l.classes) (guards_hold l.classes r1 r2) l.combinations c
-            (subst (In c) l.cases_are (in_middle first.before c first.after)) in
+        (subst (In c) l.cases_are (in_middle first.before c first.after)) in
         let zs = at.0 in
         let is = matching_at rules f.overlap r1 r2 is_overlap are.first are.second in
         let v1 = left_at l.classes r1 r2 zs in
@@ -164,18 +164,18 @@ sorted_refutes law laws rules f h = by are.listed
         let x = case_at f.overlap r1 r2 l.classes zs in
         let e = subst (λ y. Explains rules y f) (sym at.3) h.1.explains in
         let left = side_taken rules x.store e.left.runs.0 x.left r1 v1 are.first refl
-            (laws.steps.left r1 r2 m v1 v2 case) e.left.runs.1 in
+        (laws.steps.left r1 r2 m v1 v2 case) e.left.runs.1 in
         let right = side_taken rules x.store e.right.runs.0 x.right r2 v2 are.second refl
-            (laws.steps.right r1 r2 m v1 v2 case) e.right.runs.1 in
+        (laws.steps.right r1 r2 m v1 v2 case) e.right.runs.1 in
         let combined = (l.all.combined zs).0 at.1 in
         law rules (f.overlap.first - 1) (f.overlap.second - 1) r1 r2 are.first are.second m is l.classes l.solves zs
         (combined.0 ∙ length-map (free_variables l.classes r1 r2) (joint_sort s r1 r2))
-            (laws.values s (class_sorts s l.classes r1 r2) l.combinations first.listed.1.values l.all zs at.1) at.2
-            f.left_end f.right_end
+        (laws.values s (class_sorts s l.classes r1 r2) l.combinations first.listed.1.values l.all zs at.1) at.2
+        f.left_end f.right_end
         (plain_normal rules e.left.rest _ f.left_end (subst (λ y. IsPlainComputation rules e.left.rest y f.left_end)
-            left e.left.runs.2))
+        left e.left.runs.2))
         (plain_normal rules e.right.rest _ f.right_end
-            (subst (λ y. IsPlainComputation rules e.right.rest y f.right_end) right e.right.runs.2)) e.differ
+        (subst (λ y. IsPlainComputation rules e.right.rest y f.right_end) right e.right.runs.2)) e.differ
 
 pub refused_not_confluent : FailingListedRefutes → FailingSortedRefutes → SortedLaws → RefusedAreNotConfluent
 refused_not_confluent joint law laws Joint rules f h = failing_refutes joint laws.steps rules f h

@@ -30,8 +30,16 @@ bounds r =
     and_from _ _ (and_from _ _ guard body) (valued_rule r)
 
 abbrev pub unnamed : Rule → Rule
-unnamed r = record { name = None; kept = r.kept; removed = r.removed; guard = r.guard; body = r.body; well_formed =
-    r.well_formed; bounded = bounds r }
+unnamed r = record {
+  name = None;
+  kept = r.kept;
+  removed = r.removed;
+  guard = r.guard;
+  body = r.body;
+  well_formed =
+      r.well_formed;
+  bounded = bounds r;
+}
 
 -- the parts of a rule but for its name, and what it keeps of them
 record UnnamedParts : Type 0 where
@@ -48,14 +56,22 @@ Keeps-prop : (p : UnnamedParts) → IsProp (Keeps p)
 Keeps-prop p = hlevel Bool-set
 
 abbrev unnamed_parts : Rule → (p : UnnamedParts) × Keeps p
-unnamed_parts r = (record { kept = r.kept.items; removed = r.removed.items; guard = r.guard.items; body =
-    r.body.items }, (r.well_formed, bounds r))
+unnamed_parts r = (
+  record {
+    kept = r.kept.items;
+    removed = r.removed.items;
+    guard = r.guard.items;
+    body =
+        r.body.items;
+  },
+  (r.well_formed, bounds r),
+)
 
 -- rules of one meaning are one without their names
 pub one_unnamed : (r s : Rule) → parts_of r ≡ parts_of s → unnamed r ≡ unnamed s
 one_unnamed r s e =
     let parts : (unnamed_parts r).0 ≡ (unnamed_parts s).0 =
-        λ i. record { kept = (e i).kept; removed = (e i).removed; guard = (e i).guard; body = (e i).body } in
+    λ i. record { kept = (e i).kept; removed = (e i).removed; guard = (e i).guard; body = (e i).body } in
     let pairs : unnamed_parts r ≡ unnamed_parts s = Σ_prop_path Keeps-prop parts in
     λ i. record {
       name = None;
@@ -165,5 +181,9 @@ constant_named rules c h = let r = from_unnamed rules h.0 h.1 h.2 in
     (h.0, r.0, r.1, subst (λ x. HasConstant x c) (sym r.2) h.3)
 
 pub constants_unnamed : (rules : List Rule) (cs : List ℤ) → AreConstants rules cs → AreConstants (map unnamed rules) cs
-constants_unnamed rules cs h = record { rise = h.rise; stand = λ c i. constant_unnamed rules c (h.stand c i); all =
-    λ c k. h.all c (constant_named rules c k) }
+constants_unnamed rules cs h = record {
+  rise = h.rise;
+  stand = λ c i. constant_unnamed rules c (h.stand c i);
+  all =
+      λ c k. h.all c (constant_named rules c k);
+}

@@ -82,11 +82,25 @@ first_of P Fails [] test = inl (all_none P)
 first_of P Fails (x ∷ xs) test = by (test x (inl refl)) (first_of P Fails xs (λ y i. test y (inr i)))
   where
     by : P x ⊎ Fails x → All P xs ⊎ FirstOf P Fails xs → All P (x ∷ xs) ⊎ FirstOf P Fails (x ∷ xs)
-    by (inr bad) more = inr (record { before = []; item = x; after = xs; whole = refl; passed = all_none P; fails =
-        bad })
+    by (inr bad) more = inr (record {
+      before = [];
+      item = x;
+      after = xs;
+      whole = refl;
+      passed = all_none P;
+      fails =
+          bad;
+    })
     by (inl good) (inl all) = inl (all_more P x xs good all)
-    by (inl good) (inr w) = inr (record { before = x ∷ w.before; item = w.item; after = w.after; whole =
-        ap (λ ys. x ∷ ys) w.whole; passed = all_more P x w.before good w.passed; fails = w.fails })
+    by (inl good) (inr w) = inr (record {
+      before = x ∷ w.before;
+      item = w.item;
+      after = w.after;
+      whole =
+          ap (λ ys. x ∷ ys) w.whole;
+      passed = all_more P x w.before good w.passed;
+      fails = w.fails;
+    })
 
 -- ---- cases have few atoms
 
@@ -126,9 +140,9 @@ listed_few rules o cs is c i = by is.listed
     by (inl n) = absurd (subst (In c) n.1 i)
     by (inr l) =
         let at = picked (case_at o is.rule1 is.rule2 l.classes) (guards_hold l.classes is.rule1 is.rule2)
-            l.representatives c (subst (In c) l.cases_are i) in
+        l.representatives c (subst (In c) l.cases_are i) in
         subst (λ (x : Case). size x.store ≤ 8) at.3 (case_few is.rule1 is.rule2 o.matching.items
-            (left_at l.classes is.rule1 is.rule2 at.0) (right_at l.classes is.rule1 is.rule2 at.0))
+        (left_at l.classes is.rule1 is.rule2 at.0) (right_at l.classes is.rule1 is.rule2 at.0))
 
 -- ---- the verdict
 
@@ -147,9 +161,11 @@ module _ (rules : List Rule) (w : Atom → ℕ) (lowers : RulesLower w rules)
       let p = plain_there rules w lowers u.0 in
       let n = plain_few rules w lowers p.0 u.0 p.1 p.2.0 in
       let l = step_lowers w rules lowers s u.0 (LeadsTo-steps rules st s u.0 u.1) in
-      let m = light s few in
-      (record { start = s; steps = vec_of (st ∷ p.0) (omega (arith, n, l, m)) }, p.1,
-          record { start = refl; rest = p.0; steps = refl {A = List StepValue}; runs = (u.0, u.1, p.2) })
+      let m = light s few in (
+        record { start = s; steps = vec_of (st ∷ p.0) (omega (arith, n, l, m)) },
+        p.1,
+        record { start = refl; rest = p.0; steps = refl {A = List StepValue}; runs = (u.0, u.1, p.2) },
+      )
 
   abbrev Unjoined : Overlap → Case → Type 0
   Unjoined o c = (f : Failure) × (f.overlap ≡ o) × Explains rules c f
@@ -160,8 +176,12 @@ module _ (rules : List Rule) (w : Atom → ℕ) (lowers : RulesLower w rules)
       let x = side_there c.store c.left few at.0 in
       let y = side_there c.store c.right few at.1 in
       elim (same_or x.1 y.1) as (λ _. IsJoinable rules c ⊎ Unjoined o c) [
-        | inl e ↦ inl (record { end = y.1; left = subst (SideEnds rules c.store c.left) e (x.2.rest, x.2.runs); right =
-              (y.2.rest, y.2.runs) })
+        | inl e ↦ inl (record {
+          end = y.1;
+          left = subst (SideEnds rules c.store c.left) e (x.2.rest, x.2.runs);
+          right =
+              (y.2.rest, y.2.runs);
+        })
         | inr n ↦ inr (
           record { overlap = o; left = x.0; left_end = x.1; right = y.0; right_end = y.1 },
           refl,
@@ -183,9 +203,14 @@ module _ (rules : List Rule) (w : Atom → ℕ) (lowers : RulesLower w rules)
         f.1,
         record {
           case = x.item;
-          first = record { before = x.before; after = x.after; listed =
-              subst (λ p. AreCases rules p (x.before ++ x.item ∷ x.after)) (sym f.1)
-              (subst (AreCases rules o) x.whole is); joinable = x.passed };
+          first = record {
+            before = x.before;
+            after = x.after;
+            listed =
+                subst (λ p. AreCases rules p (x.before ++ x.item ∷ x.after)) (sym f.1)
+                (subst (AreCases rules o) x.whole is);
+            joinable = x.passed;
+          };
           explains = f.2;
         },
       )
@@ -218,10 +243,23 @@ module _ (rules : List Rule) (w : Atom → ℕ) (lowers : RulesLower w rules)
       listed = subst (AreOverlaps rules) x.whole are
 
       by : Refuses x.item → HasVerdict rules
-      by (inl f) = inr (inl (f.0, (record { before = x.before; after = x.after; listed =
-          subst (λ o. AreOverlaps rules (x.before ++ o ∷ x.after)) (sym f.1) listed; joinable = x.passed }, f.2)))
-      by (inr m) = inr (inr (record { overlap = x.item; classes = m.0 },
-          (record { before = x.before; after = x.after; listed = listed; joinable = x.passed }, m.1)))
+      by (inl f) = inr (inl (
+        f.0,
+        (
+          record {
+            before = x.before;
+            after = x.after;
+            listed =
+                subst (λ o. AreOverlaps rules (x.before ++ o ∷ x.after)) (sym f.1) listed;
+            joinable = x.passed;
+          },
+          f.2,
+        ),
+      ))
+      by (inr m) = inr (inr (
+        record { overlap = x.item; classes = m.0 },
+        (record { before = x.before; after = x.after; listed = listed; joinable = x.passed }, m.1),
+      ))
 
   verdict_there : HasVerdict rules
   verdict_there = by (overlaps_there rules)
@@ -260,10 +298,10 @@ pub verdicts_exist : VerdictsExist
 unfolding IsTold
 verdicts_exist p lowers = elim (program_verdict p lowers) as (λ _. ((n : ℕ) × IsAccepted (rules_of p) n)
     ⊎ ((e : Cause) × IsRefusal (rules_of p) e × (¬ (e ≡ cause.Memory)))) [
-  | inl v ↦ inl v
-  | inr r ↦ elim r as (λ _. ((n : ℕ) × IsAccepted (rules_of p) n)
-        ⊎ ((e : Cause) × IsRefusal (rules_of p) e × (¬ (e ≡ cause.Memory)))) [
-    | inl f ↦ inr (cause.Fails f.0, f.1, not_memory (cause.Fails f.0) tt)
-    | inr t ↦ inr (cause.TooManyTypes t.0, t.1, not_memory (cause.TooManyTypes t.0) tt)
-  ]
-]
+      | inl v ↦ inl v
+      | inr r ↦ elim r as (λ _. ((n : ℕ) × IsAccepted (rules_of p) n)
+          ⊎ ((e : Cause) × IsRefusal (rules_of p) e × (¬ (e ≡ cause.Memory)))) [
+            | inl f ↦ inr (cause.Fails f.0, f.1, not_memory (cause.Fails f.0) tt)
+            | inr t ↦ inr (cause.TooManyTypes t.0, t.1, not_memory (cause.TooManyTypes t.0) tt)
+          ]
+    ]

@@ -39,8 +39,8 @@ pub joinable_more : (coverage : Coverage) (rules : List Rule) (os : List Overlap
     → HasJoinableCasesBy coverage rules o k → HaveJoinableCasesBy coverage rules (take (i + 1) os) (total + k)
 joinable_more coverage rules os i o total k l e h c =
     subst (λ xs. HaveJoinableCasesBy coverage rules xs (total + k))
-        (sym (take_more os i o l ∙ ap (λ x. take i os ++ x ∷ []) (sym e)))
-        (more_joinable coverage rules (take i os) o total k h c)
+    (sym (take_more os i o l ∙ ap (λ x. take i os ++ x ∷ []) (sym e)))
+    (more_joinable coverage rules (take i os) o total k h c)
 
 -- so where each overlap has joinable cases, they have so many in all
 pub all_counted : (coverage : Coverage) (rules : List Rule) (os : List Overlap) → All (Joins coverage rules) os
@@ -69,12 +69,12 @@ pub listed_few : (coverage : Coverage) (rules : List Rule) (o : Overlap) (cs : L
 listed_few Joint rules o cs h = elim h.listed as (λ _. length cs ≤ MAX_TYPES) [
   | inl x ↦ none_few cs x.1
   | inr x ↦ mapped_few (case_at o h.rule1 h.rule2 x.classes) (guards_hold x.classes h.rule1 h.rule2) x.representatives
-        cs x.cases_are x.within
+      cs x.cases_are x.within
 ]
 listed_few Sorted rules o cs h = elim h.2.listed as (λ _. length cs ≤ MAX_TYPES) [
   | inl x ↦ none_few cs x.1
   | inr x ↦ mapped_few (case_at o h.2.rule1 h.2.rule2 x.classes) (guards_hold x.classes h.2.rule1 h.2.rule2)
-        x.combinations cs x.cases_are x.within
+      x.combinations cs x.cases_are x.within
 ]
 
 few_cases : (coverage : Coverage) (rules : List Rule) (o : Overlap) (n : ℕ) → HasJoinableCasesBy coverage rules o n

@@ -78,7 +78,7 @@ module _ (s : Setting) (r1 r2 : Rule) (are : AreRulesOf (rules_in s.weighed) s.o
           × (n + 1 < 2 ^ 64 → k ≡ n + 1)) → HavePassed n (zs ∷ zss) m
       by (inl none) =
           let same : cases_of (zs ∷ zss) ≡ cases_of zss =
-              ap (λ b. map case_of (cond b (zs ∷ filter guards zss) (filter guards zss))) none.0 in
+          ap (λ b. map case_of (cond b (zs ∷ filter guards zss) (filter guards zss))) none.0 in
           record {
             joinable = subst (All (IsJoinable (rules_in s.weighed))) (sym same) more.joinable;
             number = λ l. (let e = none.1 in let f = ap length same in let g = more.number (omega (arith, l, e, f)) in
@@ -86,7 +86,7 @@ module _ (s : Setting) (r1 r2 : Rule) (are : AreRulesOf (rules_in s.weighed) s.o
           }
       by (inr one) =
           let same : cases_of (zs ∷ zss) ≡ case_of zs ∷ cases_of zss =
-              ap (λ b. map case_of (cond b (zs ∷ filter guards zss) (filter guards zss))) one.0 in
+          ap (λ b. map case_of (cond b (zs ∷ filter guards zss) (filter guards zss))) one.0 in
           record {
             joinable = subst (All (IsJoinable (rules_in s.weighed))) (sym same)
                 (All-cons (IsJoinable (rules_in s.weighed)) (case_of zs) (cases_of zss) one.1 more.joinable);
@@ -96,13 +96,16 @@ module _ (s : Setting) (r1 r2 : Rule) (are : AreRulesOf (rules_in s.weighed) s.o
 
   pub all_passed : (zss : List (List ℤ)) (v w : Checker) → setting_of v ≡ s → Visited Checks v zss false w
       → HavePassed v.passed zss w.passed
-  all_passed [] v w same h = record { joinable = All-nil (IsJoinable (rules_in s.weighed)); number =
-      λ _. (let e = ap (λ (x : Checker). x.passed) h.1 in omega (arith, e)) }
+  all_passed [] v w same h = record {
+    joinable = All-nil (IsJoinable (rules_in s.weighed));
+    number =
+        λ _. (let e = ap (λ (x : Checker). x.passed) h.1 in omega (arith, e));
+  }
   all_passed (zs ∷ zss) v w same (inl h) = absurd (true≢false (sym h.0))
   all_passed (zs ∷ zss) v w same (inr h) =
       let u : Checker = h.0 in
       let goes_on : GoesOn s v.passed zs u.passed = subst (λ x. GoesOn x v.passed zs u.passed) same
-          (h.1.goes_on refl) in
+      (h.1.goes_on refl) in
       passed_one v.passed u.passed w.passed zs zss goes_on (all_passed zss u w (h.1.same ∙ same) h.2)
 
   -- the first that is not joinable is explained
@@ -162,7 +165,7 @@ module _ (s : Setting) (r1 r2 : Rule) (are : AreRulesOf (rules_in s.weighed) s.o
   first_found (zs ∷ zss) v w same (inr h) =
       let u : Checker = h.0 in
       found_later v.passed u.passed zs zss w.failing (subst (λ x. GoesOn x v.passed zs u.passed) same
-          (h.1.goes_on refl)) (first_found zss u w (h.1.same ∙ same) h.2)
+      (h.1.goes_on refl)) (first_found zss u w (h.1.same ∙ same) h.2)
 
 -- ---- one visit
 
@@ -174,7 +177,7 @@ none_there found false x e none = refl
 pub no_case : (s : Setting) (zs : List ℤ) (n : ℕ) (found : Option Case) → ((y : Case) → found ≡ Some y → ⊥)
     → ((r1 r2 : Rule) → AreRulesOf (rules_in s.weighed) s.overlap r1 r2
     → found ≡ cond (guards_hold (classes_of s.unified) r1 r2 zs)
-        (Some (case_at s.overlap r1 r2 (classes_of s.unified) zs)) None) → GoesOn s n zs n
+    (Some (case_at s.overlap r1 r2 (classes_of s.unified) zs)) None) → GoesOn s n zs n
 no_case s zs n found none is r1 r2 are = inl (none_there found _ _ (is r1 r2 are) none, refl)
 
 some_there : (y x : Case) (b : Bool) → Some y ≡ cond b (Some x) None → (b ≡ true) × (y ≡ x)
@@ -186,7 +189,7 @@ abbrev pub IsCaseAt : Setting → List ℤ → Case → Type 0
 IsCaseAt s zs c =
     (r1 r2 : Rule) → AreRulesOf (rules_in s.weighed) s.overlap r1 r2
     → Some c ≡ cond (guards_hold (classes_of s.unified) r1 r2 zs)
-        (Some (case_at s.overlap r1 r2 (classes_of s.unified) zs)) None
+    (Some (case_at s.overlap r1 r2 (classes_of s.unified) zs)) None
 
 pub applicable : LeftSideIsStep → RightSideIsStep → (s : Setting) (zs : List ℤ) (c : Case)
     → IsOverlapOf (rules_in s.weighed) s.overlap → HasUnified (rules_in s.weighed) s.overlap s.unified → HaveCases s
@@ -195,9 +198,9 @@ pub applicable : LeftSideIsStep → RightSideIsStep → (s : Setting) (zs : List
 applicable left right s zs c of u cases is =
     let at = some_there c _ _ (is u.rule1 u.rule2 u.are_rules) in
     subst (λ x. IsApplicable (rules_in s.weighed) x.store x.left × IsApplicable (rules_in s.weighed) x.store x.right)
-        (sym at.1)
+    (sym at.1)
     (steps_at left right (rules_in s.weighed) s.overlap u.rule1 u.rule2 (classes_of s.unified) zs of u.are_rules.0
-        u.are_rules.1 (cases u.rule1 u.rule2 u.are_rules zs at.0))
+    u.are_rules.1 (cases u.rule1 u.rule2 u.are_rules zs at.0))
 
 pub joins : (s : Setting) (zs : List ℤ) (c : Case) (n m : ℕ) → IsCaseAt s zs c → IsJoinable (rules_in s.weighed) c
     → (n + 1 < 2 ^ 64 → m ≡ n + 1) → GoesOn s n zs m
@@ -238,9 +241,9 @@ pub few_types : (n : ℕ) (constants : List ℤ) (rs : List (List ℤ)) → AreT
     → ¬ MoreTypesThan MAX_TYPES n constants → length rs ≤ MAX_TYPES
 few_types n constants rs are none = elim (nat_lt MAX_TYPES (length rs)) as (λ b. nat_lt MAX_TYPES (length rs) ≡ b
     → length rs ≤ MAX_TYPES) [
-  | true ↦ λ e. absurd (none (more_types MAX_TYPES n constants rs are (grind (arith, nat_tests))))
-  | false ↦ λ e. grind (arith, nat_tests)
-] refl
+      | true ↦ λ e. absurd (none (more_types MAX_TYPES n constants rs are (grind (arith, nat_tests))))
+      | false ↦ λ e. grind (arith, nat_tests)
+    ] refl
 
 -- the values that were seen are those at which there are cases
 module _ (coverage : Coverage) (s : Setting) (r1 r2 : Rule) (are : AreRulesOf (rules_in s.weighed) s.overlap r1 r2)
@@ -283,7 +286,7 @@ module _ (coverage : Coverage) (s : Setting) (r1 r2 : Rule) (are : AreRulesOf (r
       → IfOk result (HasJoinableCasesBy coverage (rules_in s.weighed) s.overlap)
   told_joins v w stopped (Ok n) same zero h t =
       subst (HasJoinableCasesBy coverage (rules_in s.weighed) s.overlap) (sym t.1)
-          (overlap_joins v w same zero (subst (λ b. Visited Checks v seen b w) t.0 h))
+      (overlap_joins v w same zero (subst (λ b. Visited Checks v seen b w) t.0 h))
   told_joins v w stopped (Err e) same zero h t = t
 
   pub told_fails : (v w : Checker) (stopped : Bool) (result : Result ℕ Cause) → setting_of v ≡ s
@@ -300,7 +303,7 @@ module _ (coverage : Coverage) (s : Setting) (r1 r2 : Rule) (are : AreRulesOf (r
 module _ (s : Setting) (constants : List ℤ) (rs : List (List ℤ))
     (u : IsUnifiedAt (rules_in s.weighed) s.overlap s.unified) (are : AreConstants (rules_in s.weighed) constants)
     (types : AreTypes (length s.unified.free.items) constants rs)
-        (none : ¬ MoreTypesThan MAX_TYPES (length s.unified.free.items) constants) where
+    (none : ¬ MoreTypesThan MAX_TYPES (length s.unified.free.items) constants) where
   abbrev pub joint_cases : List Case
   joint_cases = cases_of s u.rule1 u.rule2 u.are_rules rs
 
@@ -315,8 +318,8 @@ module _ (s : Setting) (constants : List ℤ) (rs : List (List ℤ))
   pub same_joint_cases : cases_of s u.rule1 u.rule2 u.are_rules seen_types ≡ joint_cases
   same_joint_cases = ap (map (case_at s.overlap u.rule1 u.rule2 (classes_of s.unified)))
       (filter_within (guards_hold (classes_of s.unified) u.rule1 u.rule2)
-          (are_admitted (all_may_hold s.unified.free.items s.unified.guards.items) [])
-          (λ zs. guards_admitted u.rule1 u.rule2 s.unified zs u.unified) rs)
+      (are_admitted (all_may_hold s.unified.free.items s.unified.guards.items) [])
+      (λ zs. guards_admitted u.rule1 u.rule2 s.unified zs u.unified) rs)
 
 -- what a walk over order types meets makes cases
 pub joint_values : ListedAreCases → (s : Setting) → IsOverlapOf (rules_in s.weighed) s.overlap
@@ -324,9 +327,9 @@ pub joint_values : ListedAreCases → (s : Setting) → IsOverlapOf (rules_in s.
 joint_values law s of u r1 r2 are zs hold =
     let e = rules_once (rules_in s.weighed) s.overlap u.rule1 u.rule2 r1 r2 u.are_rules are in
     let solves = subst (λ (r : Rule × Rule). IsMostGeneralUnifier (classes_of s.unified)
-        (equations_of r.0 r.1 s.overlap.matching.items)) (λ i. (e.0 i, e.1 i)) u.solves in
+    (equations_of r.0 r.1 s.overlap.matching.items)) (λ i. (e.0 i, e.1 i)) u.solves in
     law r1 r2 s.overlap.matching.items (matching_at (rules_in s.weighed) s.overlap r1 r2 of are.0 are.1)
-        (classes_of s.unified) solves zs hold
+    (classes_of s.unified) solves zs hold
 
 -- ---- by sorted cases
 
@@ -334,14 +337,14 @@ pub few_combinations : (sorts : Sorts) (ks : List ℕ) (rs : List (List ℤ)) �
     → ¬ MoreCombinationsThan sorts ks MAX_TYPES → length rs ≤ MAX_TYPES
 few_combinations sorts ks rs are none = elim (nat_lt MAX_TYPES (length rs)) as (λ b. nat_lt MAX_TYPES (length rs) ≡ b
     → length rs ≤ MAX_TYPES) [
-  | true ↦ λ e. absurd (none (rs, are, grind (arith, nat_tests)))
-  | false ↦ λ e. grind (arith, nat_tests)
-] refl
+      | true ↦ λ e. absurd (none (rs, are, grind (arith, nat_tests)))
+      | false ↦ λ e. grind (arith, nat_tests)
+    ] refl
 
 module _ (sorts : Sorts) (s : Setting) (rs : List (List ℤ))
     (u : IsSortedUnifiedAt (rules_in s.weighed) s.overlap s.unified) (finest : AreFinest (rules_in s.weighed) sorts)
     (all : AreCombinations sorts (class_sorts sorts (classes_of s.unified) u.rule1 u.rule2) rs)
-        (within : length rs ≤ MAX_TYPES) where
+    (within : length rs ≤ MAX_TYPES) where
   abbrev pub sorted_cases : List Case
   sorted_cases = cases_of s u.rule1 u.rule2 u.are_rules rs
 
@@ -354,8 +357,15 @@ module _ (sorts : Sorts) (s : Setting) (rs : List (List ℤ))
       rule2 = u.rule2;
       first = u.are_rules.0;
       second = u.are_rules.1;
-      listed = inr (record { classes = classes_of s.unified; combinations = rs; solves = u.solves; all = all; within =
-          within; cases_are = refl });
+      listed = inr (record {
+        classes = classes_of s.unified;
+        combinations = rs;
+        solves = u.solves;
+        all = all;
+        within =
+            within;
+        cases_are = refl;
+      });
     },
   )
 
@@ -364,16 +374,25 @@ pub sorted_values : SortedAreCases → (s : Setting) → IsOverlapOf (rules_in s
 sorted_values law s of u r1 r2 are zs hold =
     let e = rules_once (rules_in s.weighed) s.overlap u.rule1 u.rule2 r1 r2 u.are_rules are in
     let solves = subst (λ (r : Rule × Rule). IsMostGeneralUnifier (classes_of s.unified)
-        (all_equations r.0 r.1 s.overlap.matching.items)) (λ i. (e.0 i, e.1 i)) u.solves in
+    (all_equations r.0 r.1 s.overlap.matching.items)) (λ i. (e.0 i, e.1 i)) u.solves in
     law r1 r2 s.overlap.matching.items (matching_at (rules_in s.weighed) s.overlap r1 r2 of are.0 are.1)
-        (classes_of s.unified) solves zs hold
+    (classes_of s.unified) solves zs hold
 
 pub no_sorted_cases : (rules : List Rule) (sorts : Sorts) (o : Overlap) → AreFinest rules sorts
     → HasNoSortedUnifier rules o → HasJoinableCasesBy Sorted rules o 0
 no_sorted_cases rules sorts o finest h = record {
   cases = [];
-  listed = (sorts, finest, record { rule1 = h.rule1; rule2 = h.rule2; first = h.are_rules.0; second = h.are_rules.1;
-      listed = inl (h.none, refl) });
+  listed = (
+    sorts,
+    finest,
+    record {
+      rule1 = h.rule1;
+      rule2 = h.rule2;
+      first = h.are_rules.0;
+      second = h.are_rules.1;
+      listed = inl (h.none, refl);
+    },
+  );
   joinable = All-nil (IsJoinable rules);
   number = refl;
 }

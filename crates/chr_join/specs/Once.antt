@@ -47,7 +47,7 @@ AcceptedOnce =
 abbrev pub RefusedOnce : Type 0
 RefusedOnce =
     (coverage : Coverage) (rules : List Rule) (e g : Cause) → IsRefusalBy coverage rules e
-        → IsRefusalBy coverage rules g
+    → IsRefusalBy coverage rules g
     → ¬ (e ≡ cause.Memory) → ¬ (g ≡ cause.Memory) → SameRefusal e g
 
 -- Accepted rules are refused for want of memory alone.

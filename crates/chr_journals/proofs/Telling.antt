@@ -105,7 +105,7 @@ answers_are_shown k start one p es t confluent legal values before after e bag t
     let o = one p p a.here a.here (refl, refl) confluent a.values refl a.sound a.sound a.settled a.settled in
     subst (λ m. IsOnlyNormalForm (rules_of p) (told_store m) bag) a.held
     (subst (IsOnlyNormalForm (rules_of p) (told_store a.here.operations)) (sym a.shows)
-        (record { normal = o.1; only = o.2 }))
+    (record { normal = o.1; only = o.2 }))
 
 pub answers_agree : EventsKeep → FirstIsSound → OneAnswer → AnswersAgree
 answers_agree k start one p q es fs s t same confluent legal values legal' values' before after before' after' e e' bag
@@ -113,4 +113,4 @@ answers_agree k start one p q es fs s t same confluent legal values legal' value
     let a = at k start p es before after e s bag legal values there is in
     let b = at k start q fs before' after' e' t bag' legal' values' there' is' in
     a.shows ∙ (one p q a.here b.here same confluent a.values (a.held ∙ equal ∙ sym b.held) a.sound b.sound a.settled
-        b.settled).0 ∙ sym b.shows
+    b.settled).0 ∙ sym b.shows

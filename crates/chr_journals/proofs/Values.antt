@@ -28,7 +28,7 @@ TellsValues s = HasValues (told_store s.operations)
 first_values : (s t u : Store) → u ≡ s ⊕ t → HasValues u → HasValues s
 first_values s t u is h =
     each_within (args_in is_value) s (s ⊕ t) (λ q. (let e = count_plus s t q in omega (arith, e)))
-        (subst HasValues is h)
+    (subst HasValues is h)
 
 same_values : (s t : Replica) → t.operations ≡ s.operations → TellsValues t → TellsValues s
 same_values s t same h = subst (λ m. HasValues (told_store m)) same h

@@ -34,7 +34,7 @@ pub atom_back : (w : NamedAtom) → ArgumentsFit w → named_atom_of (atom_data 
 atom_back w h =
     ap (λ l. named_atom_from l) (listed-items_of (string w.name ∷ map argument_data w.args))
     ∙ ap (λ o. option_map (λ zs. record { name = w.name; args = zs }) o)
-        (each_back integer_of argument_data (FitsSigned w64) integer_back w.args h)
+    (each_back integer_of argument_data (FitsSigned w64) integer_back w.args h)
 
 count_back : (ws : List NamedAtom) → 1 ≤ length ws → length ws ≤ MAX_OPERATION → nat_le 1 (length (map atom_data ws))
     && nat_le (length (map atom_data ws)) MAX_OPERATION ≡ true

@@ -76,14 +76,14 @@ command_text_read (tell r o n ws) h = texts_read (command_data (tell r o n ws)) 
     (tell_depth r o n ws)
 command_text_read (show r) h =
     writable_command (show r) (words_writable (show r) (said_data (show r)) (IsUtf8-are_ascii _ refl)
-        (natural_writable 7 r h.1, tt))
+    (natural_writable 7 r h.1, tt))
 command_text_read (summary r) h =
     writable_command (summary r) (words_writable (summary r) (said_data (summary r)) (IsUtf8-are_ascii _ refl)
-        (natural_writable 7 r h.1, tt))
+    (natural_writable 7 r h.1, tt))
 command_text_read (sync a b) h =
     writable_command (sync a b)
     (words_writable (sync a b) (said_data (sync a b)) (IsUtf8-are_ascii _ refl)
-        (natural_writable 7 a h.1.0, (natural_writable 7 b h.1.1, tt)))
+    (natural_writable 7 a h.1.0, (natural_writable 7 b h.1.1, tt)))
 command_text_read (lacks r rs v) h =
     writable_command (lacks r rs v)
     (words_writable (lacks r rs v) (said_data (lacks r rs v)) (IsUtf8-are_ascii _ refl)
@@ -91,7 +91,7 @@ command_text_read (lacks r rs v) h =
 command_text_read (merge r os) h =
     writable_command (merge r os)
     (words_writable (merge r os) (said_data (merge r os)) (IsUtf8-are_ascii _ refl)
-        (natural_writable 7 r h.1, (delta_2_writable os h.0, tt)))
+    (natural_writable 7 r h.1, (delta_2_writable os h.0, tt)))
 
 -- ---- so a line of this text says the command
 

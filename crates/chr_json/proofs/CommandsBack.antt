@@ -14,7 +14,7 @@ commands_back (summary r) h = refl
 commands_back (sync a b) h = refl
 commands_back (tell r o n ws) h =
     ap (λ p. option_and_then (λ q. option_map (λ xs. tell r q.0 q.1 xs) (named_atoms_of (atoms_data ws))) p)
-        (id_back o n h.0)
+    (id_back o n h.0)
     ∙ ap (option_map (tell r o n)) (atoms_back ws h.1.0 h.1.1 h.2)
 commands_back (lacks r rs version.One) h = ap (option_map (λ xs. lacks r xs version.One)) (summary_back rs h)
 commands_back (lacks r rs version.Two) h = ap (option_map (λ xs. lacks r xs version.Two)) (summary_back rs h)

@@ -70,7 +70,7 @@ module _ {A : Type 0} (key : A → ℕ) (P : A → Type 0) (small : (x : A) → 
   joined_flat : (f : Data → Option (List A)) (written : A → Data)
       → ((g : ℕ × List A) → IsGroup key P g → f (group_data written g) ≡ Some g.1)
       → (gs : List (ℕ × List A)) → AllByRecursion (IsGroup key P) gs → joined f (map (group_data written) gs)
-          ≡ Some (flat gs)
+      ≡ Some (flat gs)
   joined_flat f written one [] h = refl
   joined_flat f written one (g ∷ gs) h =
       ap (option_and_then (λ ys. option_map (λ zs. ys ++ zs) (joined f (map (group_data written) gs)))) (one g h.0)
@@ -80,18 +80,23 @@ module _ {A : Type 0} (key : A → ℕ) (P : A → Type 0) (small : (x : A) → 
   pub groups_back : (f : Data → Option (List A)) (written : A → Data)
       → ((g : ℕ × List A) → IsGroup key P g → f (group_data written g) ≡ Some g.1)
       → (xs : List A) → AllByRecursion P xs → option_and_then (joined f) (elements (grouped_data key written xs))
-          ≡ Some xs
+      ≡ Some xs
   groups_back f written one xs h =
       of_array (joined f) (map (group_data written) (groups key xs)) (Some xs)
-          (joined_flat f written one (groups key xs) (in_groups xs h) ∙ ap Some (flat_groups xs))
+      (joined_flat f written one (groups key xs) (in_groups xs h) ∙ ap Some (flat_groups xs))
 
   group_writable : (k : ℕ) (written : A → Data) → ((x : A) → P x → IsWritable k (written x)) → (g : ℕ × List A)
       → IsGroup key P g → IsWritable (suc (suc k)) (group_data written g)
   group_writable k written one g h =
       let key_small : g.0 < 2 ^ 64 = (let s = h.0 in omega (arith, s)) in
-      array_writable (suc k) (natural_data g.0 ∷ array_data (map written g.1) ∷ [])
-      (natural_writable (suc k) g.0 key_small, (mapped_writable k (λ x. (key x ≡ g.0) × P x) written
-          (λ x p. one x p.1) g.1 h.1, tt))
+      array_writable (suc k) (natural_data g.0 ∷ array_data (map written g.1) ∷ []) (
+        natural_writable (suc k) g.0 key_small,
+        (
+          mapped_writable k (λ x. (key x ≡ g.0) × P x) written
+              (λ x p. one x p.1) g.1 h.1,
+          tt,
+        ),
+      )
 
   pub grouped_writable : (k : ℕ) (written : A → Data) → ((x : A) → P x → IsWritable k (written x)) → (xs : List A)
       → AllByRecursion P xs → IsWritable (suc (suc (suc k))) (grouped_data key written xs)
@@ -113,7 +118,7 @@ ranges_back : (g : ℕ × List IdRange) → IsGroup (λ r. r.origin) IsRangeWith
 ranges_back g h =
     ap (option_and_then (λ origin. ranges_of origin (array_data (map range_data g.1)))) (origin_back g.0 h.0)
     ∙ of_array (each (range_of g.0)) (map range_data g.1) (Some g.1)
-        (each_back (range_of g.0) range_data (λ r. (r.origin ≡ g.0) × IsRangeWithinLimits r) (range_back g.0) g.1 h.1)
+    (each_back (range_of g.0) range_data (λ r. (r.origin ≡ g.0) × IsRangeWithinLimits r) (range_back g.0) g.1 h.1)
 
 range_writable : (r : IdRange) → IsRangeWithinLimits r → IsWritable 1 (range_data r)
 range_writable r h =
@@ -121,7 +126,7 @@ range_writable r h =
     let hi = h.hi in
     let lo : r.lo < 2 ^ 64 = omega (arith, some, hi) in
     array_writable 0 (natural_data r.lo ∷ natural_data r.hi ∷ [])
-        (natural_writable 0 r.lo lo, (natural_writable 0 r.hi hi, tt))
+    (natural_writable 0 r.lo lo, (natural_writable 0 r.hi hi, tt))
 
 pub summary_writable : (rs : List IdRange) → AllByRecursion IsRangeWithinLimits rs → IsWritable 4 (summary_data rs)
 summary_writable rs h = grouped_writable (λ r. r.origin) IsRangeWithinLimits
@@ -140,7 +145,7 @@ summaries_back rs h = ap (option_and_then summary_of) (writable_read 4 (summary_
 operation_back : (o : NamedOperation) → IsOperationWithinLimits o → operation_of (operation_data o) ≡ Some o
 operation_back o h =
     ap (λ p. option_and_then (λ q. option_map (named_operation q.0 q.1) (named_atoms_of (atoms_data o.atoms))) p)
-        (id_back o.id.origin o.id.number h.origin)
+    (id_back o.id.origin o.id.number h.origin)
     ∙ ap (option_map (named_operation o.id.origin o.id.number)) (atoms_back o.atoms h.length.0 h.length.1 h.arguments)
 
 numbered_back : (origin : ℕ) (o : NamedOperation) → (o.id.origin ≡ origin) × IsOperationWithinLimits o
@@ -154,14 +159,14 @@ group_back : (g : ℕ × List NamedOperation) → IsGroup (λ o. o.id.origin) Is
 group_back g h =
     ap (option_and_then (λ origin. all_numbered_of origin (array_data (map numbered_data g.1)))) (origin_back g.0 h.0)
     ∙ of_array (each (numbered_of g.0)) (map numbered_data g.1) (Some g.1)
-        (each_back (numbered_of g.0) numbered_data (λ o. (o.id.origin ≡ g.0) × IsOperationWithinLimits o)
-        (numbered_back g.0) g.1 h.1)
+    (each_back (numbered_of g.0) numbered_data (λ o. (o.id.origin ≡ g.0) × IsOperationWithinLimits o)
+    (numbered_back g.0) g.1 h.1)
 
 id_writable : (o n : ℕ) → o < 2 ^ 32 → n < 2 ^ 64 → IsWritable 2 (id_data o n)
 id_writable o n small fits =
     let origin : o < 2 ^ 64 = omega (arith, small) in
     array_writable 1 (natural_data o ∷ natural_data n ∷ [])
-        (natural_writable 1 o origin, (natural_writable 1 n fits, tt))
+    (natural_writable 1 o origin, (natural_writable 1 n fits, tt))
 
 operation_writable : (o : NamedOperation) → IsOperationWithinLimits o → IsWritable 3 (operation_data o)
 operation_writable o h = array_writable 2 (id_data o.id.origin o.id.number ∷ atoms_data o.atoms ∷ [])
@@ -181,15 +186,20 @@ operations_back (o ∷ os) h = each_back operation_of operation_data IsOperation
 pub deltas_1_back : Delta1TextsAreRead
 deltas_1_back os h =
     ap (option_and_then delta_of) (writable_read 4 (delta_1_data os)
-        (mapped_writable 3 IsOperationWithinLimits operation_data operation_writable os h) (omega arith))
+    (mapped_writable 3 IsOperationWithinLimits operation_data operation_writable os h) (omega arith))
     ∙ of_array delta_from (map operation_data os) (Some os) (operations_back os h)
 
 pub delta_2_writable : (os : List NamedOperation) → AllByRecursion IsOperationWithinLimits os
     → IsWritable 7 (delta_2_data os)
 delta_2_writable os h =
-    array_writable 6 (natural_data 2 ∷ grouped_data (λ o. o.id.origin) numbered_data os ∷ [])
-    (natural_writable 6 2 (omega arith), (grouped_writable (λ o. o.id.origin) IsOperationWithinLimits
-        (λ o p. p.origin) 3 numbered_data numbered_writable os h, tt))
+    array_writable 6 (natural_data 2 ∷ grouped_data (λ o. o.id.origin) numbered_data os ∷ []) (
+      natural_writable 6 2 (omega arith),
+      (
+        grouped_writable (λ o. o.id.origin) IsOperationWithinLimits
+            (λ o p. p.origin) 3 numbered_data numbered_writable os h,
+        tt,
+      ),
+    )
 
 pub delta_2_back : (os : List NamedOperation) → AllByRecursion IsOperationWithinLimits os → delta_of (delta_2_data os)
     ≡ Some os

@@ -93,7 +93,7 @@ if_each P Q f k [] h = tt
 if_each P Q f k (x ∷ xs) h =
     if_then Q (AllByRecursion Q) (λ y. option_map (λ ys. y ∷ ys) (each f xs))
     (λ y g. if_map (AllByRecursion Q) (AllByRecursion Q) (λ ys. y ∷ ys) (λ ys r. (g, r)) (each f xs)
-        (if_each P Q f k xs h.1)) (f x) (k x h.0)
+    (if_each P Q f k xs h.1)) (f x) (k x h.0)
 
 -- ---- what is read has ranges
 
@@ -115,18 +115,18 @@ float_ranged sign p = if_either HasRange (float_is_finite (nearest_float binary6
 number_from_ranged : (sign : Bool) (p : Parts) → IfSome (number_from sign p) HasRange
 number_from_ranged false p =
     if_either HasRange (is_integer p && nat_lt (numeral_digits p) (2 ^ 64)) (Some (unsigned (numeral_digits p)))
-        (float_of false p) (λ _. small (numeral_digits p)) (float_ranged false p)
+    (float_of false p) (λ _. small (numeral_digits p)) (float_ranged false p)
 number_from_ranged true p =
     if_either HasRange (is_integer p && nat_lt 0 (numeral_digits p) && nat_le (numeral_digits p) (2 ^ 63))
-        (Some (negative (neg_ℤ (pos (numeral_digits p))))) (float_of true p)
+    (Some (negative (neg_ℤ (pos (numeral_digits p))))) (float_of true p)
     (λ e. below_zero (numeral_digits p) (within (is_integer p && nat_lt 0 (numeral_digits p)) (numeral_digits p)
-        (2 ^ 63) e)) (float_ranged true p)
+    (2 ^ 63) e)) (float_ranged true p)
 
 number_ranged : (s : List ℕ) → IfSome (number_of s) HasRange
 unfolding number_of
 number_ranged s =
     if_either HasRange (slice_index s 0 == minus) (number_from true (scan_numeral (drop 1 s)))
-        (number_from false (scan_numeral s))
+    (number_from false (scan_numeral s))
     (λ _. number_from_ranged true (scan_numeral (drop 1 s))) (number_from_ranged false (scan_numeral s))
 
 mutual
@@ -143,13 +143,13 @@ mutual
   items_ranged json.no_items = tt
   items_ranged (json.item j js) =
       if_then HasRanges HaveRanges (λ d. option_map (item d) (of_items js))
-          (λ d h. if_map HaveRanges HaveRanges (item d) (λ ds g. (h, g)) (of_items js) (items_ranged js)) (of_json j)
-          (json_ranged j)
+      (λ d h. if_map HaveRanges HaveRanges (item d) (λ ds g. (h, g)) (of_items js) (items_ranged js)) (of_json j)
+      (json_ranged j)
 
 read_ranged : (text : List ℕ) → IfSome (read text) HasRanges
 read_ranged text =
     if_then (λ _. ⊤) HasRanges of_json (λ j _. json_ranged j)
-        (option_and_then (λ p. json.if_last p.0 p.1) (json.value max_depth (tokens text)))
+    (option_and_then (λ p. json.if_last p.0 p.1) (json.value max_depth (tokens text)))
     (always (option_and_then (λ p. json.if_last p.0 p.1) (json.value max_depth (tokens text))))
 
 value_ranged : (bytes : List ℕ) → IfSome (json_in bytes) HasRanges
@@ -189,7 +189,7 @@ named_atom_from_fits [] h = tt
 named_atom_from_fits (d ∷ ds) h =
     if_then (λ _. ⊤) ArgumentsFit (λ name. option_map (λ zs. record { name = name; args = zs }) (each integer_of ds))
     (λ name _. if_map (AllByRecursion (FitsSigned w64)) ArgumentsFit (λ zs. record { name = name; args = zs })
-        (λ zs g. g) (each integer_of ds) (if_each HasRanges (FitsSigned w64) integer_of integer_ranged ds h.1))
+    (λ zs g. g) (each integer_of ds) (if_each HasRanges (FitsSigned w64) integer_of integer_ranged ds h.1))
     (as_str d) (always (as_str d))
 
 named_atom_fits : (d : Data) → HasRanges d → IfSome (named_atom_of d) ArgumentsFit
@@ -207,10 +207,10 @@ named_atoms_fit d h = of_elements (AllByRecursion ArgumentsFit) named_atoms_from
 tell_fits : (r id atoms : Data) → HasRanges atoms → IfSome (tell_of r id atoms) HasFittingArguments
 tell_fits r id atoms h =
     if_then (λ _. ⊤) HasFittingArguments (λ replica. option_and_then
-        (λ p. option_map (tell replica p.0 p.1) (named_atoms_of atoms)) (id_of id))
+    (λ p. option_map (tell replica p.0 p.1) (named_atoms_of atoms)) (id_of id))
     (λ replica _. if_then (λ _. ⊤) HasFittingArguments (λ p. option_map (tell replica p.0 p.1) (named_atoms_of atoms))
     (λ p _. if_map (AllByRecursion ArgumentsFit) HasFittingArguments (tell replica p.0 p.1) (λ ws g. g)
-        (named_atoms_of atoms) (named_atoms_fit atoms h)) (id_of id) (always (id_of id)))
+    (named_atoms_of atoms) (named_atoms_fit atoms h)) (id_of id) (always (id_of id)))
     (natural_of r) (always (natural_of r))
 
 -- ---- operations of a delta
@@ -219,7 +219,7 @@ operation_with_fits : (id atoms : Data) → HasRanges atoms → IfSome (operatio
 operation_with_fits id atoms h =
     if_then (λ _. ⊤) OperationFits (λ p. option_map (named_operation p.0 p.1) (named_atoms_of atoms))
     (λ p _. if_map (AllByRecursion ArgumentsFit) OperationFits (named_operation p.0 p.1) (λ ws g. g)
-        (named_atoms_of atoms) (named_atoms_fit atoms h)) (id_of id) (always (id_of id))
+    (named_atoms_of atoms) (named_atoms_fit atoms h)) (id_of id) (always (id_of id))
 
 operation_from_fits : (ds : List Data) → AllByRecursion HasRanges ds → IfSome (operation_from ds) OperationFits
 operation_from_fits [] h = tt
@@ -236,7 +236,7 @@ numbered_from_fits o (n ∷ []) h = tt
 numbered_from_fits o (n ∷ atoms ∷ []) h =
     if_then (λ _. ⊤) OperationFits (λ number. option_map (named_operation o number) (named_atoms_of atoms))
     (λ number _. if_map (AllByRecursion ArgumentsFit) OperationFits (named_operation o number) (λ ws g. g)
-        (named_atoms_of atoms) (named_atoms_fit atoms h.1.0)) (natural_of n) (always (natural_of n))
+    (named_atoms_of atoms) (named_atoms_fit atoms h.1.0)) (natural_of n) (always (natural_of n))
 numbered_from_fits o (n ∷ atoms ∷ d ∷ ds) h = tt
 
 numbered_fits : (o : ℕ) (d : Data) → HasRanges d → IfSome (numbered_of o d) OperationFits
@@ -254,7 +254,7 @@ group_from_fits [] h = tt
 group_from_fits (o ∷ []) h = tt
 group_from_fits (o ∷ ops ∷ []) h =
     if_then (λ _. ⊤) OperationsFit (λ origin. all_numbered_of origin ops)
-        (λ origin _. all_numbered_fit origin ops h.1.0) (origin_of o) (always (origin_of o))
+    (λ origin _. all_numbered_fit origin ops h.1.0) (origin_of o) (always (origin_of o))
 group_from_fits (o ∷ ops ∷ d ∷ ds) h = tt
 
 group_fits : (d : Data) → HasRanges d → IfSome (group_of d) OperationsFit
@@ -269,7 +269,7 @@ joined_fit [] h = tt
 joined_fit (d ∷ ds) h =
     if_then OperationsFit OperationsFit (λ os. option_map (λ ps. os ++ ps) (joined group_of ds))
     (λ os g. if_map OperationsFit OperationsFit (λ ps. os ++ ps) (λ ps k. appended_fit os ps g k) (joined group_of ds)
-        (joined_fit ds h.1)) (group_of d) (group_fits d h.0)
+    (joined_fit ds h.1)) (group_of d) (group_fits d h.0)
 
 groups_fit : (d : Data) → HasRanges d → IfSome (groups_of d) OperationsFit
 groups_fit d h = of_elements OperationsFit (joined group_of) joined_fit d h
@@ -284,7 +284,7 @@ delta_2_from_fits (v ∷ gs ∷ d ∷ ds) h = tt
 delta_from_fits : (ds : List Data) → AllByRecursion HasRanges ds → IfSome (delta_from ds) OperationsFit
 delta_from_fits ds h =
     if_either OperationsFit (begins_with_number ds) (delta_2_from ds) (each operation_of ds)
-        (λ _. delta_2_from_fits ds h)
+    (λ _. delta_2_from_fits ds h)
     (if_each HasRanges OperationFits operation_of operation_fits ds h)
 
 delta_fits : (d : Data) → HasRanges d → IfSome (delta_of d) OperationsFit
@@ -294,14 +294,14 @@ merge_fits : (r d : Data) → HasRanges d → IfSome (merge_of r d) HasFittingAr
 merge_fits r d h =
     if_then (λ _. ⊤) HasFittingArguments (λ replica. option_map (merge replica) (delta_of d))
     (λ replica _. if_map OperationsFit HasFittingArguments (merge replica) (λ os g. g) (delta_of d) (delta_fits d h))
-        (natural_of r) (always (natural_of r))
+    (natural_of r) (always (natural_of r))
 
 -- ---- commands without atoms
 
 one_fits : (w r : Data) → IfSome (command_of_one w r) HasFittingArguments
 one_fits w r =
     if_either HasFittingArguments (is_string (codes "show") w) (option_map show (natural_of r))
-        (cond (is_string (codes "summary") w) (option_map summary (natural_of r)) None)
+    (cond (is_string (codes "summary") w) (option_map summary (natural_of r)) None)
     (λ _. if_map (λ _. ⊤) HasFittingArguments show (λ _ h. h) (natural_of r) (always (natural_of r)))
     (if_either HasFittingArguments (is_string (codes "summary") w) (option_map summary (natural_of r)) None
     (λ _. if_map (λ _. ⊤) HasFittingArguments summary (λ _ h. h) (natural_of r) (always (natural_of r))) tt)
@@ -310,31 +310,31 @@ sync_fits : (a b : Data) → IfSome (sync_of a b) HasFittingArguments
 sync_fits a b =
     if_then (λ _. ⊤) HasFittingArguments (λ from. option_map (sync from) (natural_of b))
     (λ from _. if_map (λ _. ⊤) HasFittingArguments (sync from) (λ _ h. h) (natural_of b) (always (natural_of b)))
-        (natural_of a) (always (natural_of a))
+    (natural_of a) (always (natural_of a))
 
 lacks_fits : (r d : Data) (v : DeltaVersion) → IfSome (lacks_of r d v) HasFittingArguments
 lacks_fits r d v =
     if_then (λ _. ⊤) HasFittingArguments (λ replica. option_map (λ rs. lacks replica rs v) (summary_of d))
     (λ replica _. if_map (λ _. ⊤) HasFittingArguments (λ rs. lacks replica rs v) (λ _ h. h) (summary_of d)
-        (always (summary_of d))) (natural_of r) (always (natural_of r))
+    (always (summary_of d))) (natural_of r) (always (natural_of r))
 
 two_fits : (w r d : Data) → HasRanges d → IfSome (command_of_two w r d) HasFittingArguments
 two_fits w r d h =
     let merged = cond (is_string (codes "merge") w) (merge_of r d) None in
     if_either HasFittingArguments (is_string (codes "sync") w) (sync_of r d)
-        (cond (is_string (codes "lacks") w) (lacks_of r d version.Two) merged) (λ _. sync_fits r d)
+    (cond (is_string (codes "lacks") w) (lacks_of r d version.Two) merged) (λ _. sync_fits r d)
     (if_either HasFittingArguments (is_string (codes "lacks") w) (lacks_of r d version.Two) merged
-        (λ _. lacks_fits r d version.Two)
+    (λ _. lacks_fits r d version.Two)
     (if_either HasFittingArguments (is_string (codes "merge") w) (merge_of r d) None (λ _. merge_fits r d h) tt))
 
 three_fits : (w r d e : Data) → HasRanges e → IfSome (command_of_three w r d e) HasFittingArguments
 three_fits w r d e h =
     let lacked = option_and_then (lacks_of r d) (version_of e) in
     if_either HasFittingArguments (is_string (codes "tell") w) (tell_of r d e)
-        (cond (is_string (codes "lacks") w) lacked None) (λ _. tell_fits r d e h)
+    (cond (is_string (codes "lacks") w) lacked None) (λ _. tell_fits r d e h)
     (if_either HasFittingArguments (is_string (codes "lacks") w) lacked None
     (λ _. if_then (λ _. ⊤) HasFittingArguments (lacks_of r d) (λ v _. lacks_fits r d v) (version_of e)
-        (always (version_of e))) tt)
+    (always (version_of e))) tt)
 
 command_from_fits : (ds : List Data) → AllByRecursion HasRanges ds → IfSome (command_from ds) HasFittingArguments
 command_from_fits [] h = tt

@@ -101,6 +101,6 @@ texts_read d plain shallow =
     let deep : tree.depth (outline d) ≤ max_depth = (let e = value_depth d plain in omega (arith, e, shallow)) in
     let lexed : tokens (compact_text d) ≡ tree.json_tokens (outline d) =
     ap tokens (sym (print-outline d)) ∙ tokens-print (tree.json_tokens (outline d))
-        (ArePrintable-json_tokens (outline d) (value_numbers d plain)) in
+    (ArePrintable-json_tokens (outline d) (value_numbers d plain)) in
     ap whole (ap (json.value max_depth) (lexed ∙ sym (append-nil (tree.json_tokens (outline d))))
-        ∙ value-json_tokens (outline d) max_depth [] deep) ∙ value_back d plain
+    ∙ value-json_tokens (outline d) max_depth [] deep) ∙ value_back d plain

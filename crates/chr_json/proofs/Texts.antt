@@ -26,7 +26,7 @@ later_close [] rest = refl
 later_close (d ∷ ds) rest =
     ap (λ l. 44 ∷ l)
     (append_assoc (compact_text d) (later_text ds) (93 ∷ rest) ∙ ap (λ l. compact_text d ++ l) (later_close ds rest)
-        ∙ sym (append_assoc (compact_text d) (items_text true (items_of ds)) rest))
+    ∙ sym (append_assoc (compact_text d) (items_text true (items_of ds)) rest))
 
 -- so it closes one that begins without the comma
 pub later_close_whole : (ds : List Data) (text rest : List ℕ) → 0 < length ds → 44 ∷ text ≡ later_text ds ++ 93 ∷ rest
@@ -58,7 +58,7 @@ tell_word = refl
 -- the text of a tell, from its parts
 pub tell_text : (r : ℕ) (id atoms : Data) (line rest-1 rest-2 rest-3 rest-4 rest-5 : List ℕ)
     → line ≡ codes "[\"tell\"," ++ rest-1 → rest-1 ≡ decimal r ++ rest-2 → rest-2 ≡ 44 ∷ rest-3 → rest-3
-        ≡ compact_text id ++ rest-4 → rest-4 ≡ 44 ∷ rest-5 → rest-5 ≡ compact_text atoms ++ codes "]"
+    ≡ compact_text id ++ rest-4 → rest-4 ≡ 44 ∷ rest-5 → rest-5 ≡ compact_text atoms ++ codes "]"
     → line ≡ compact_text (array (items_of (string (codes "tell") ∷ natural_data r ∷ id ∷ atoms ∷ [])))
 tell_text r id atoms line rest-1 rest-2 rest-3 rest-4 rest-5 opened replica comma-1 name comma-2 list =
     let id_on = comma-1 ∙ ap (λ l. 44 ∷ l) (name ∙ ap (λ l. compact_text id ++ l) (comma-2 ∙ ap (λ l. 44 ∷ l) list)) in

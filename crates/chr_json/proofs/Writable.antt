@@ -50,7 +50,7 @@ later_utf8 : (k : ℕ) (ds : List Data) → AllByRecursion (IsWritable k) ds →
 later_utf8 k [] h = IsUtf8-are_ascii (93 ∷ []) refl
 later_utf8 k (d ∷ ds) h =
     IsUtf8-append (44 ∷ []) (compact_text d ++ items_text true (items_of ds)) comma
-        (IsUtf8-append (compact_text d) (items_text true (items_of ds)) h.0.utf8 (later_utf8 k ds h.1))
+    (IsUtf8-append (compact_text d) (items_text true (items_of ds)) h.0.utf8 (later_utf8 k ds h.1))
 
 items_utf8 : (k : ℕ) (ds : List Data) → AllByRecursion (IsWritable k) ds → IsUtf8 (items_text false (items_of ds))
 items_utf8 k [] h = IsUtf8-are_ascii (93 ∷ []) refl

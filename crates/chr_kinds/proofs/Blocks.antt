@@ -58,7 +58,7 @@ inserted_in v u (k ∷ ks) i = by_order (In u (inserted v (k ∷ ks))) k v
     ]))
     (λ e f. subst (In u) (sym (at_greater v k ks e f)) i)
     (λ e f same. subst (In u) (sym (at_same v k ks e f))
-        (elim i as (λ _. In u (k ∷ ks)) [ inl q ↦ inl (q ∙ sym same) | inr j ↦ j ]))
+    (elim i as (λ _. In u (k ∷ ks)) [ inl q ↦ inl (q ∙ sym same) | inr j ↦ j ]))
 
 pub inserted_rises : (v : ℤ) (ks : List ℤ) → Rises ks → Rises (inserted v ks)
 inserted_rises v [] r = (λ y i. absurd i, tt)
@@ -104,7 +104,7 @@ begins (suc k) ks ns p r i =
     let z = m.0 in
     let next = get_or ns 0 (pos 0) in
     let w = by_next (λ xs. In r xs → (q : List ℤ) × (r ≡ (p ++ z ∷ []) ++ q)) (int_eq z next)
-        (lists_behind k (inserted next ks) (drop 1 ns) (p ++ z ∷ [])) (lists_behind k ks ns (p ++ z ∷ []))
+    (lists_behind k (inserted next ks) (drop 1 ns) (p ++ z ∷ [])) (lists_behind k ks ns (p ++ z ∷ []))
     (begins k (inserted next ks) (drop 1 ns) (p ++ z ∷ []) r) (begins k ks ns (p ++ z ∷ []) r) m.2 in
     (z ∷ w.0, w.1 ∙ append_assoc p (z ∷ []) w.0)
 
@@ -114,7 +114,7 @@ goes_on_with : (k : ℕ) (ks ns p : List ℤ) (z : ℤ) (r : List ℤ) → In r 
 goes_on_with k ks ns p z r i =
     let next = get_or ns 0 (pos 0) in
     by_next (λ xs. In r xs → (q : List ℤ) × (r ≡ (p ++ z ∷ []) ++ q)) (int_eq z next)
-        (lists_behind k (inserted next ks) (drop 1 ns) (p ++ z ∷ [])) (lists_behind k ks ns (p ++ z ∷ []))
+    (lists_behind k (inserted next ks) (drop 1 ns) (p ++ z ∷ [])) (lists_behind k ks ns (p ++ z ∷ []))
     (begins k (inserted next ks) (drop 1 ns) (p ++ z ∷ []) r) (begins k ks ns (p ++ z ∷ []) r) i
 
 pub behind_rise : (k : ℕ) (ks ns p : List ℤ) → Rises ks → ListsRise (lists_behind k ks ns p)
@@ -123,11 +123,11 @@ behind_rise (suc k) ks ns p r =
     let next = get_or ns 0 (pos 0) in
     flat_rises (going_on (lists_behind k) ks ns p) (inserted next ks) (inserted_rises next ks r)
     (λ z _. by_next ListsRise (int_eq z next) (lists_behind k (inserted next ks) (drop 1 ns) (p ++ z ∷ []))
-        (lists_behind k ks ns (p ++ z ∷ []))
+    (lists_behind k ks ns (p ++ z ∷ []))
     (behind_rise k (inserted next ks) (drop 1 ns) (p ++ z ∷ []) (inserted_rises next ks r))
-        (behind_rise k ks ns (p ++ z ∷ []) r))
+    (behind_rise k ks ns (p ++ z ∷ []) r))
     (λ v w x y _ _ l i j. (let a = goes_on_with k ks ns p v x i in let b = goes_on_with k ks ns p w y j in
-        (λ t. slice_cmp int_cmp (a.1 t) (b.1 t)) ∙ lex p a.0 b.0 v w l))
+    (λ t. slice_cmp int_cmp (a.1 t) (b.1 t)) ∙ lex p a.0 b.0 v w l))
 
 -- ---- just the lists of blocks
 
@@ -170,13 +170,13 @@ are_blocks (suc k) cs before ks (n ∷ ns) p r c l i =
     let m = in_flat_map r (going_on (lists_behind k) ks (n ∷ ns) p) (inserted n ks) i in
     let z = m.0 in
     elim (int_eq z n) as (λ b. int_eq z n ≡ b → In r (cond b (lists_behind k (inserted n ks) ns (p ++ z ∷ []))
-        (lists_behind k ks (n ∷ ns) (p ++ z ∷ []))) → Rest (suc k) cs before (n ∷ ns) p r) [
+    (lists_behind k ks (n ∷ ns) (p ++ z ∷ []))) → Rest (suc k) cs before (n ∷ ns) p r) [
       | true ↦ λ e j. (let w = are_blocks k cs (n ∷ before) (inserted n ks) ns (p ++ z ∷ []) r
-            (choices_on cs before ks n ns c) (omega (arith, l)) j in
+          (choices_on cs before ks n ns c) (omega (arith, l)) j in
           (z ∷ w.0, w.1 ∙ append_assoc p (z ∷ []) w.0, ap suc w.2, inr (same_yes z n e, w.3)))
       | false ↦ λ e j. (let w = are_blocks k cs before ks (n ∷ ns) (p ++ z ∷ []) r c (omega (arith, l)) j in
           let there = elim (in_inserted n z ks m.1) as (λ _. In z ks)
-              [ inl q ↦ absurd (same_no z n e q) | inr h ↦ h ] in
+          [ inl q ↦ absurd (same_no z n e q) | inr h ↦ h ] in
           (z ∷ w.0, w.1 ∙ append_assoc p (z ∷ []) w.0, ap suc w.2, inl (c.is z there, w.3)))
     ] refl m.2
 
@@ -188,24 +188,24 @@ all_blocks (z ∷ q) cs before ks (n ∷ ns) p c l (inl h) =
     let i : In z ks = c.all z h.0 in
     let ih = all_blocks q cs before ks (n ∷ ns) (p ++ z ∷ []) c (omega (arith, l)) h.1 in
     let here : In (p ++ z ∷ q) (lists_behind (length q) ks (n ∷ ns) (p ++ z ∷ [])) =
-        subst (λ x. In x (lists_behind (length q) ks (n ∷ ns) (p ++ z ∷ []))) (append_assoc p (z ∷ []) q) ih in
+    subst (λ x. In x (lists_behind (length q) ks (n ∷ ns) (p ++ z ∷ []))) (append_assoc p (z ∷ []) q) ih in
     flat_map_in (p ++ z ∷ q) (going_on (lists_behind (length q)) ks (n ∷ ns) p) z (inserted n ks)
-        (inserted_in n z ks (inr i))
+    (inserted_in n z ks (inr i))
     (elim (int_eq z n) as (λ b. int_eq z n ≡ b → In (p ++ z ∷ q)
-        (cond b (lists_behind (length q) (inserted n ks) ns (p ++ z ∷ []))
-        (lists_behind (length q) ks (n ∷ ns) (p ++ z ∷ [])))) [
+    (cond b (lists_behind (length q) (inserted n ks) ns (p ++ z ∷ []))
+    (lists_behind (length q) ks (n ∷ ns) (p ++ z ∷ [])))) [
       | true ↦ λ e. absurd (c.new n (inl refl) (subst (λ x. In x ks) (same_yes z n e) i))
       | false ↦ λ e. here
     ] refl)
 all_blocks (z ∷ q) cs before ks (n ∷ ns) p c l (inr h) =
     let ih = all_blocks q cs (n ∷ before) (inserted n ks) ns (p ++ z ∷ []) (choices_on cs before ks n ns c)
-        (omega (arith, l)) h.1 in
+    (omega (arith, l)) h.1 in
     let here : In (p ++ z ∷ q) (lists_behind (length q) (inserted n ks) ns (p ++ z ∷ [])) =
-        subst (λ x. In x (lists_behind (length q) (inserted n ks) ns (p ++ z ∷ []))) (append_assoc p (z ∷ []) q) ih in
+    subst (λ x. In x (lists_behind (length q) (inserted n ks) ns (p ++ z ∷ []))) (append_assoc p (z ∷ []) q) ih in
     flat_map_in (p ++ z ∷ q) (going_on (lists_behind (length q)) ks (n ∷ ns) p) z (inserted n ks)
-        (inserted_in n z ks (inl h.0))
+    (inserted_in n z ks (inl h.0))
     (subst (λ b. In (p ++ z ∷ q) (cond b (lists_behind (length q) (inserted n ks) ns (p ++ z ∷ []))
-        (lists_behind (length q) ks (n ∷ ns) (p ++ z ∷ [])))) (sym (yes_same z n h.0)) here)
+    (lists_behind (length q) ks (n ∷ ns) (p ++ z ∷ [])))) (sym (yes_same z n h.0)) here)
 
 at_first : (cs us : List ℤ) → AreFirstNumbers cs us → Choices cs [] cs us
 at_first cs us f = record {
@@ -255,9 +255,9 @@ many_behind (suc k) cs before ks (n ∷ ns) p c l some =
     let twice : 2 ^ suc k ≡ 2 ^ k * 2 = pow-suc 2 k in
     let m = two_joined (going_on (lists_behind k) ks (n ∷ ns) p) (2 ^ k) (inserted n ks)
     (λ z. by_next (λ xs. 2 ^ k ≤ length xs) (int_eq z n) (lists_behind k (inserted n ks) ns (p ++ z ∷ []))
-        (lists_behind k ks (n ∷ ns) (p ++ z ∷ []))
+    (lists_behind k ks (n ∷ ns) (p ++ z ∷ []))
     (many_behind k cs (n ∷ before) (inserted n ks) ns (p ++ z ∷ []) (choices_on cs before ks n ns c) (omega (arith, l))
-        (omega (arith, longer)))
+    (omega (arith, longer)))
     (many_behind k cs before ks (n ∷ ns) (p ++ z ∷ []) c (omega (arith, l)) some))
     (omega (arith, longer, some)) in
     omega (arith, m, twice)
@@ -270,10 +270,10 @@ many_first k cs before ks (n ∷ ns) p c l =
     let f = going_on (lists_behind k) ks (n ∷ ns) p in
     let longer = length-inserted n ks (λ i. c.new n (inl refl) i) in
     let more = many_behind k cs (n ∷ before) (inserted n ks) ns (p ++ n ∷ []) (choices_on cs before ks n ns c)
-        (omega (arith, l)) (omega (arith, longer)) in
+    (omega (arith, l)) (omega (arith, longer)) in
     let is : f n ≡ lists_behind k (inserted n ks) ns (p ++ n ∷ []) =
-        ap (λ b. cond b (lists_behind k (inserted n ks) ns (p ++ n ∷ [])) (lists_behind k ks (n ∷ ns) (p ++ n ∷ [])))
-        (yes_same n n refl) in
+    ap (λ b. cond b (lists_behind k (inserted n ks) ns (p ++ n ∷ [])) (lists_behind k ks (n ∷ ns) (p ++ n ∷ [])))
+    (yes_same n n refl) in
     let same = ap length is in
     let all = flat_some f n (inserted n ks) (inserted_in n n ks (inl refl)) in
     omega (arith, more, same, all)

@@ -43,7 +43,7 @@ pub value_inserted : (v : ℤ) (ks new : List ℤ) → Rises ks → AreValues ks
 value_inserted v ks new r values g =
     same_members {A = ℤ} (λ x y. x <ℤ y) never_less less_less new (inserted v ks) after.rise (inserted_rises v ks r)
     (λ z i. inserted_in v z ks (elim (in_last (Constant z) (Constant v) (map Constant ks) (after.stand z i)) as (λ _.
-        (z ≡ v) ⊎ In z ks) [
+    (z ≡ v) ⊎ In z ks) [
       | inl j ↦ inr (in_constants z ks j)
       | inr e ↦ inl (same_constant z v e)
     ]))
@@ -53,8 +53,13 @@ value_inserted v ks new r values g =
     ]))
   where
     after : AreConstantsIn (map Constant ks ++ Constant v ∷ []) new
-    after = g (map Constant ks) (record { rise = r; values = values; stand = λ c i. constant_in c ks i; all =
-        λ c i. in_constants c ks i })
+    after = g (map Constant ks) (record {
+      rise = r;
+      values = values;
+      stand = λ c i. constant_in c ks i;
+      all =
+          λ c i. in_constants c ks i;
+    })
 
 -- ---- one choice more
 
@@ -82,7 +87,7 @@ pub number_goes_on : (left : ℕ) (ks ns p more rest longer : List ℤ) (z n : �
 number_goes_on left ks ns p more rest longer z n is same m r l =
     (λ i. lists_behind (left - 1) ((m ∙ ap (λ x. inserted x ks) is) i) (r i) (l i))
     ∙ ap (λ b. cond b (lists_behind (left - 1) (inserted (get_or ns 0 (pos 0)) ks) (drop 1 ns) (p ++ z ∷ []))
-        (lists_behind (left - 1) ks ns (p ++ z ∷ []))) (sym (yes_same z (get_or ns 0 (pos 0)) (same ∙ is)))
+    (lists_behind (left - 1) ks ns (p ++ z ∷ []))) (sym (yes_same z (get_or ns 0 (pos 0)) (same ∙ is)))
 
 -- another choice does
 pub choice_goes_on : (left : ℕ) (ks ns p longer : List ℤ) (z n : ℤ) → n ≡ get_or ns 0 (pos 0) → (z ≡ n → ⊥) → longer ≡ p
@@ -91,14 +96,14 @@ pub choice_goes_on : (left : ℕ) (ks ns p longer : List ℤ) (z n : ℤ) → n 
 choice_goes_on left ks ns p longer z n is other l =
     ap (lists_behind (left - 1) ks ns) l
     ∙ ap (λ b. cond b (lists_behind (left - 1) (inserted (get_or ns 0 (pos 0)) ks) (drop 1 ns) (p ++ z ∷ []))
-        (lists_behind (left - 1) ks ns (p ++ z ∷ []))) (sym (no_same z (get_or ns 0 (pos 0)) (λ e. other (e ∙ sym is))))
+    (lists_behind (left - 1) ks ns (p ++ z ∷ []))) (sym (no_same z (get_or ns 0 (pos 0)) (λ e. other (e ∙ sym is))))
 
 pub more_lists : (f : ℤ → List (List ℤ)) (old found new : List (List ℤ)) (ks : List ℤ) (i : ℕ) (d : ℤ)
     → i < length ks → found ≡ old ++ flat_map f (take i ks) → new ≡ found ++ f (get_or ks i d)
     → new ≡ old ++ flat_map f (take (i + 1) ks)
 more_lists f old found new ks i d l e n =
     n ∙ ap (λ xs. xs ++ f (get_or ks i d)) e ∙ flat_map_more f old (take i ks) (get_or ks i d)
-        ∙ ap (λ xs. old ++ flat_map f xs) (sym (take_more ks i d l))
+    ∙ ap (λ xs. old ++ flat_map f xs) (sym (take_more ks i d l))
 
 -- what there is, with the lists of one more choice, is no more than all of them
 pub no_more : (left : ℕ) (cs ns p : List ℤ) (old found : List (List ℤ)) (ks : List ℤ) (i : ℕ) (d : ℤ) → (left ≡ 0 → ⊥)
@@ -118,7 +123,7 @@ pub all_lists : (left i : ℕ) (cs ns p ks : List ℤ) (old found : List (List �
     → found ≡ old ++ flat_map (next_lists left cs ns p) (take i ks) → found ≡ old ++ lists_behind left cs ns p
 all_lists left i cs ns p ks old found some is l e =
     e ∙ ap (λ xs. old ++ xs) (ap (flat_map (next_lists left cs ns p)) (take_all i ks l ∙ is)
-        ∙ sym (by_choice left cs ns p some))
+    ∙ sym (by_choice left cs ns p some))
 
 -- ---- the numbers behind the next one
 

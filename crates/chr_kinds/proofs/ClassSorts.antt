@@ -30,7 +30,7 @@ module _ (s : Sorting) (r1 r2 : Rule) (short1 : AreShort (heads_of r1)) (short2 
   own_sort r short x i =
       let w = term_at numbering (heads_of r) (Variable x) i in
       ap (λ qs. first_sort qs x) (terms_moved (sorts_of s) (sort_in s.sorts.items) (λ a k l. refl) (heads_of r) short)
-          ∙ first_moved (sorts_of s) (sort_in s.sorts.items) (λ a k l. refl) (placed_heads r) w.0 x w.1
+      ∙ first_moved (sorts_of s) (sort_in s.sorts.items) (λ a k l. refl) (placed_heads r) w.0 x w.1
 
   pub class_sort : (x p : ℕ) → 0 < x → x ≤ variables_of r1 + variables_of r2 → p ≡ cond (nat_le x (variables_of r1))
       (first_sort (placed_heads r1) x) (first_sort (placed_heads r2) (x - variables_of r1))
@@ -50,14 +50,14 @@ module _ (s : Sorting) (r1 r2 : Rule) (short1 : AreShort (heads_of r1)) (short2 
   pub next_sort : (σ : Substitution) (xs : List ℕ) (i p : ℕ) (done now : List ℕ) → xs ≡ free_variables σ r1 r2
       → i < length xs
       → p ≡ cond (nat_le (get_or xs i 0) (variables_of r1)) (first_sort (placed_heads r1) (get_or xs i 0))
-          (first_sort (placed_heads r2) (get_or xs i 0 - variables_of r1))
+      (first_sort (placed_heads r2) (get_or xs i 0 - variables_of r1))
       → done ≡ map (joint_sort (sorts_of s) r1 r2) (take i xs) → now ≡ done ++ sort_in s.sorts.items p ∷ []
-          → now ≡ map (joint_sort (sorts_of s) r1 r2) (take (i + 1) xs)
+      → now ≡ map (joint_sort (sorts_of s) r1 r2) (take (i + 1) xs)
   next_sort σ xs i p done now all l is d n =
       let x = get_or xs i 0 in
       let f = free_is σ r1 r2 x (subst (In x) all (in_at xs i 0 l)) in
       let sort = class_sort x p f.0 f.1 is in
       let joined : map (joint_sort (sorts_of s) r1 r2) (take i xs ++ x ∷ []) ≡ map (joint_sort (sorts_of s) r1 r2)
-          (take i xs) ++ joint_sort (sorts_of s) r1 r2 x ∷ [] = map-append (joint_sort (sorts_of s) r1 r2) (take i xs)
-          (x ∷ []) in
+      (take i xs) ++ joint_sort (sorts_of s) r1 r2 x ∷ [] = map-append (joint_sort (sorts_of s) r1 r2) (take i xs)
+      (x ∷ []) in
       n ∙ (λ j. d j ++ sort j ∷ []) ∙ sym joined ∙ ap (map (joint_sort (sorts_of s) r1 r2)) (sym (take_more xs i 0 l))

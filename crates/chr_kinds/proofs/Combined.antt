@@ -34,9 +34,9 @@ pub none_counted : (k : ℕ) (ks : List ℕ) → is_one k ks ≡ false → sort_
 none_counted k [] h = refl
 none_counted k (j ∷ ks) h = elim (nat_eq j k) as (λ b. cond b true (is_one k ks) ≡ false
     → cond b (suc (sort_count k ks)) (sort_count k ks) ≡ 0) [
-  | true ↦ λ g. absurd cc
-  | false ↦ λ g. none_counted k ks g
-] h
+      | true ↦ λ g. absurd cc
+      | false ↦ λ g. none_counted k ks g
+    ] h
 
 -- ---- one sort
 
@@ -79,11 +79,11 @@ combinations_stand new_values blocks types combine s ks rs all =
     each : (k : ℕ) → CoverAt (s.kind k) (s.constants k) (sort_count k ks) (chosen (is_one k ks) (all.lists k))
     each k = elim (is_one k ks) as (λ b. is_one k ks ≡ b → CoverAt (s.kind k) (s.constants k) (sort_count k ks)
         (chosen b (all.lists k))) [
-      | true ↦ λ e. lists_cover new_values blocks types (s.kind k) (s.constants k) (sort_count k ks) (all.lists k)
-            (all.each k (one_in k ks e))
-      | false ↦ λ e. subst (λ n. CoverAt (s.kind k) (s.constants k) n ([] ∷ [])) (sym (none_counted k ks e))
-            (none_cover (s.kind k) (s.constants k))
-    ] refl
+          | true ↦ λ e. lists_cover new_values blocks types (s.kind k) (s.constants k) (sort_count k ks) (all.lists k)
+              (all.each k (one_in k ks e))
+          | false ↦ λ e. subst (λ n. CoverAt (s.kind k) (s.constants k) n ([] ∷ [])) (sym (none_counted k ks e))
+              (none_cover (s.kind k) (s.constants k))
+        ] refl
 
     there : (us : List ℤ) → ((k : ℕ) → In (values_at k ks us) (chosen (is_one k ks) (all.lists k))) → (k : ℕ)
         → is_one k ks ≡ true → In (values_at k ks us) (all.lists k)
@@ -103,13 +103,16 @@ blocks_values cs before (m ∷ ns) (y ∷ zs) c b n (inl h) z (inr i) = blocks_v
 blocks_values cs before (m ∷ ns) (y ∷ zs) c b n (inr h) z (inl e) = subst IsValue (sym (e ∙ h.0)) (n m (inl refl))
 blocks_values cs before (m ∷ ns) (y ∷ zs) c b n (inr h) z (inr i) =
     blocks_values cs (m ∷ before) ns zs c (λ v j. elim j as (λ _. IsValue v)
-        [ inl q ↦ subst IsValue (sym q) (n m (inl refl)) | inr k ↦ b v k ]) (λ v j. n v (inr j)) h.1 z i
+    [ inl q ↦ subst IsValue (sym q) (n m (inl refl)) | inr k ↦ b v k ]) (λ v j. n v (inr j)) h.1 z i
 
 lists_values : (k : Kind) (cs : List ℤ) (n : ℕ) (ls : List (List ℤ)) → AreValues cs → AreListsAt k cs n ls
     → (zs : List ℤ) → In zs ls → AreValues zs
 lists_values free cs n ls c h zs i =
-    elim (subst (In zs) h.3 i) as (λ _. AreValues zs) [ inl e ↦ subst AreValues (sym e) h.2.values | inr none ↦ absurd
-        none ]
+    elim (subst (In zs) h.3 i) as (λ _. AreValues zs) [
+      | inl e ↦ subst AreValues (sym e) h.2.values
+      | inr none ↦ absurd
+          none
+    ]
 lists_values equal cs n ls c h zs i = blocks_values cs [] h.0 zs c (λ v j. absurd j) h.2.values ((h.3 zs).0 i).1
 lists_values ordered cs n ls c h zs i = (h.stated zs i).1.values
 
@@ -118,16 +121,22 @@ at_some_sort : (ks : List ℕ) (zs : List ℤ) (z : ℤ) → length zs ≡ lengt
     × In z (values_at k ks zs)
 at_some_sort ks [] z l i = absurd i
 at_some_sort [] (y ∷ zs) z l i = absurd (omega (arith, l))
-at_some_sort (k ∷ ks) (y ∷ zs) z l (inl e) = (k, inl refl,
-    subst (λ b. In z (cond b (y ∷ values_at k ks zs) (values_at k ks zs))) (sym (eq-eqb k k refl)) (inl e))
+at_some_sort (k ∷ ks) (y ∷ zs) z l (inl e) = (
+  k,
+  inl refl,
+  subst (λ b. In z (cond b (y ∷ values_at k ks zs) (values_at k ks zs))) (sym (eq-eqb k k refl)) (inl e),
+)
 at_some_sort (k ∷ ks) (y ∷ zs) z l (inr i) =
-    let w = at_some_sort ks zs z (omega (arith, l)) i in
-    (w.0, inr w.1, elim (nat_eq k w.0) as (λ b. In z (cond b (y ∷ values_at w.0 ks zs) (values_at w.0 ks zs)))
-        [ true ↦ inr w.2 | false ↦ w.2 ])
+    let w = at_some_sort ks zs z (omega (arith, l)) i in (
+      w.0,
+      inr w.1,
+      elim (nat_eq k w.0) as (λ b. In z (cond b (y ∷ values_at w.0 ks zs) (values_at w.0 ks zs)))
+          [ true ↦ inr w.2 | false ↦ w.2 ],
+    )
 
 pub combinations_values : CombinationsAreValues
 combinations_values s ks rs constants all zs i z j =
     let c = (all.combined zs).0 i in
     let w = at_some_sort ks zs z c.0 j in
     lists_values (s.kind w.0) (s.constants w.0) (sort_count w.0 ks) (all.lists w.0) (constants w.0) (all.each w.0 w.1)
-        (values_at w.0 ks zs) (c.1 w.0 w.1) z w.2
+    (values_at w.0 ks zs) (c.1 w.0 w.1) z w.2

@@ -79,9 +79,9 @@ module _ (p : Program) where
     pub heads_short : AreShort (heads_of r)
     heads_short q j = elim (in_either q r.kept.items r.removed.items j) as (λ _. length q.args.items ≤ MAX_ARITY) [
       | inl k ↦ short r.kept.items (and_parts _ _ (and_parts _ (list_all (is_declared (declarations p)) r.body.items)
-            declared).0).0 q k
+          declared).0).0 q k
       | inr k ↦ short r.removed.items (and_parts (list_all (is_declared (declarations p)) r.kept.items) _
-            (and_parts _ (list_all (is_declared (declarations p)) r.body.items) declared).0).1 q k
+          (and_parts _ (list_all (is_declared (declarations p)) r.body.items) declared).0).1 q k
     ]
 
     pub body_short : AreShort r.body.items
@@ -174,7 +174,7 @@ module _ (p : Program) (notes : List Note) (all : notes ≡ flat_map rule_notes 
         let w = in_flat rule_notes n (rules_of p) (subst (In n) all i) in
         let place = in_place (rules_of p) w.0 w.1 in
         meets_notes q f (by_number_is q) w.0 (heads_short p w.0 w.1) (body_short p w.0 w.1)
-            (fits_all place.0 w.0 place.1) n w.2
+        (fits_all place.0 w.0 place.1) n w.2
 
     through : (a : ℕ) → f a ≡ f (t a)
     through = joins.least f (λ n i. joins_from q f n (others_met n i))
@@ -191,7 +191,7 @@ module _ (p : Program) (notes : List Note) (all : notes ≡ flat_map rule_notes 
     constants_kept a k c l i =
         let w = stands_in t (t (position_of a k)) c notes ((are (t (position_of a k))).stand c i) in
         subst (λ m. In c (q.constants m)) (at_sort a k (t (position_of a k)) w.0 l refl w.2)
-            (others_met (Stands w.0 c) w.1)
+        (others_met (Stands w.0 c) w.1)
 
     kinds_kept : (a k : ℕ) (c : Cmp) → k < MAX_ARITY → tells (o.kind (o.sort a k)) c ≡ true
         → tells (q.kind (q.sort a k)) c ≡ true
@@ -239,10 +239,10 @@ module _ (p : Program) (s : Sorting) (notes : List Note)
     (below : All (IsBelow (length s.sorts.items)) notes)
     (kinds_len : length s.kinds.items ≡ length s.sorts.items)
     (kinds : (n : ℕ) → n < length s.sorts.items → IsLeastKind notes (sort_in s.sorts.items) n
-        (kind_of (get_or s.kinds.items n Free)))
+    (kind_of (get_or s.kinds.items n Free)))
     (constants_len : length s.constants.items ≡ length s.sorts.items)
     (constants : (n : ℕ) → n < length s.sorts.items → AreConstantsIn (terms_at (sort_in s.sorts.items) n notes)
-        (get_or (map (λ cs. cs.items) s.constants.items) n [])) where
+    (get_or (map (λ cs. cs.items) s.constants.items) n [])) where
   abbrev size : ℕ
   size = length s.sorts.items
 
@@ -266,7 +266,7 @@ module _ (p : Program) (s : Sorting) (notes : List Note)
           let le = ltb-false n size e in
           let past = get_or_past s.kinds.items n Free (omega (arith, le, kinds_len)) in
           subst (λ k. IsLeastKind notes (sort_in s.sorts.items) n (kind_of k)) (sym past)
-              (record { meets = none le; least = λ l m c h. free_least l c h })
+          (record { meets = none le; least = λ l m c h. free_least l c h })
 
   all_constants : (n : ℕ) → AreConstantsIn (terms_at (sort_in s.sorts.items) n notes) ((sorts_of s).constants n)
   all_constants n = by (nat_lt n size) refl

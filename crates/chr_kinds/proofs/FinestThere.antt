@@ -70,13 +70,24 @@ module _ (n : ℕ) where
       let b2 = b.1 in
       let len = w.2 in
       let low = min (get_or w.0 p 0) (get_or w.0 q 0) in
-      let high = max (get_or w.0 p 0) (get_or w.0 q 0) in
-      (map (merged low high) w.0, pair_in_order done w.0 p q low high w.1 (omega (arith, b1, len))
-          (omega (arith, b2, len)) refl refl, length-map w.0 (merged low high) ∙ len)
-  one_more done (Stands p c) b w = (w.0, other_joined done w.0 (Stands p c) w.1
-      (λ x y e. (let q : Stands p c ≡ Joined x y = e in cc)), w.2)
-  one_more done (Compared p s) b w = (w.0, other_joined done w.0 (Compared p s) w.1
-      (λ x y e. (let q : Compared p s ≡ Joined x y = e in cc)), w.2)
+      let high = max (get_or w.0 p 0) (get_or w.0 q 0) in (
+        map (merged low high) w.0,
+        pair_in_order done w.0 p q low high w.1 (omega (arith, b1, len))
+            (omega (arith, b2, len)) refl refl,
+        length-map w.0 (merged low high) ∙ len,
+      )
+  one_more done (Stands p c) b w = (
+    w.0,
+    other_joined done w.0 (Stands p c) w.1
+        (λ x y e. (let q : Stands p c ≡ Joined x y = e in cc)),
+    w.2,
+  )
+  one_more done (Compared p s) b w = (
+    w.0,
+    other_joined done w.0 (Compared p s) w.1
+        (λ x y e. (let q : Compared p s ≡ Joined x y = e in cc)),
+    w.2,
+  )
 
   all_joined : (done rest : List Note) → ((e : Note) → In e rest → IsBelow n e) → Sorted done → Sorted (done ++ rest)
   all_joined done [] below w = subst Sorted (sym (append-nil done)) w
@@ -87,7 +98,7 @@ sorts_there : (notes : List Note) → (ts : List ℕ) × Joins notes ts
 sorts_there notes =
     let n = bounded notes in
     let w = all_joined n.0 [] notes (λ e i. below_bound n.0 e (n.1 e i))
-        (range_with_len 0 n.0, none_joined n.0, length-range_with_len 0 n.0) in
+    (range_with_len 0 n.0, none_joined n.0, length-range_with_len 0 n.0) in
     (w.0, w.1)
 
 -- ---- the least kind of a sort
@@ -95,10 +106,16 @@ sorts_there notes =
 module _ (f : ℕ → ℕ) (n : ℕ) where
   kind_more : (done : List Note) (e : Note) → (k : Kind) × IsLeastKind done f n k → (k : Kind)
       × IsLeastKind (done ++ e ∷ []) f n k
-  kind_more done (Joined p q) w = (w.0, other_kept f n done w.0 (Joined p q) w.1
-      (λ x y e. (let h : Joined p q ≡ Compared x y = e in cc)))
-  kind_more done (Stands p c) w = (w.0, other_kept f n done w.0 (Stands p c) w.1
-      (λ x y e. (let h : Stands p c ≡ Compared x y = e in cc)))
+  kind_more done (Joined p q) w = (
+    w.0,
+    other_kept f n done w.0 (Joined p q) w.1
+        (λ x y e. (let h : Joined p q ≡ Compared x y = e in cc)),
+  )
+  kind_more done (Stands p c) w = (
+    w.0,
+    other_kept f n done w.0 (Stands p c) w.1
+        (λ x y e. (let h : Stands p c ≡ Compared x y = e in cc)),
+  )
   kind_more done (Compared p s) w = by (nat_eq (f p) n) refl
     where
       by : (b : Bool) → nat_eq (f p) n ≡ b → (k : Kind) × IsLeastKind (done ++ Compared p s ∷ []) f n k
@@ -173,22 +190,22 @@ module _ (r : Rule) (p : ℕ) (c : ℤ) where
   of_rule i = elim (in_either (Stands p c) (map (term_note hs) hs
       ++ map (term_note hs) (sorted_terms numbering r.body.items)) (guard_notes hs r.guard.items) i) as (λ _. In
       (Constant c) (rule_terms r)) [
-    | inl j ↦ elim (in_either (Stands p c) (map (term_note hs) hs)
-          (map (term_note hs) (sorted_terms numbering r.body.items)) j) as (λ _. In (Constant c) (rule_terms r)) [
-      | inl k ↦ (let w = in_map (term_note hs) (Stands p c) hs k in
-            in_head (term_in numbering (heads_of r) w.0.0 (Constant c)
-            (subst (λ t. In (w.0.0, t) hs) (of_term w.0 w.2) w.1)))
-      | inr k ↦ (let w = in_map (term_note hs) (Stands p c) (sorted_terms numbering r.body.items) k in
-            in_body (term_in numbering r.body.items w.0.0 (Constant c)
-            (subst (λ t. In (w.0.0, t) (sorted_terms numbering r.body.items)) (of_term w.0 w.2) w.1)))
-    ]
-    | inr j ↦ (let w = in_flat (λ (d : Comparison). comparison_notes hs d.cmp d.left d.right)
-          (Stands p c) r.guard.items j in in_guard (elim
-          (of_comparison w.0.cmp w.0.left w.0.right w.2) as (λ _. In (Constant c) (guard_terms r.guard.items)) [
-      | inl e ↦ subst (λ t. In t (guard_terms r.guard.items)) e (guard_left w.0 r.guard.items w.1)
-      | inr e ↦ subst (λ t. In t (guard_terms r.guard.items)) e (guard_right w.0 r.guard.items w.1)
-    ]))
-  ]
+        | inl j ↦ elim (in_either (Stands p c) (map (term_note hs) hs)
+            (map (term_note hs) (sorted_terms numbering r.body.items)) j) as (λ _. In (Constant c) (rule_terms r)) [
+              | inl k ↦ (let w = in_map (term_note hs) (Stands p c) hs k in
+                  in_head (term_in numbering (heads_of r) w.0.0 (Constant c)
+                  (subst (λ t. In (w.0.0, t) hs) (of_term w.0 w.2) w.1)))
+              | inr k ↦ (let w = in_map (term_note hs) (Stands p c) (sorted_terms numbering r.body.items) k in
+                  in_body (term_in numbering r.body.items w.0.0 (Constant c)
+                  (subst (λ t. In (w.0.0, t) (sorted_terms numbering r.body.items)) (of_term w.0 w.2) w.1)))
+            ]
+        | inr j ↦ (let w = in_flat (λ (d : Comparison). comparison_notes hs d.cmp d.left d.right)
+            (Stands p c) r.guard.items j in in_guard (elim
+            (of_comparison w.0.cmp w.0.left w.0.right w.2) as (λ _. In (Constant c) (guard_terms r.guard.items)) [
+              | inl e ↦ subst (λ t. In t (guard_terms r.guard.items)) e (guard_left w.0 r.guard.items w.1)
+              | inr e ↦ subst (λ t. In t (guard_terms r.guard.items)) e (guard_right w.0 r.guard.items w.1)
+            ]))
+      ]
 
 note_value : (rules : List Rule) (f : ℕ → ℕ) (n : ℕ) (c : ℤ)
     → In (Constant c) (terms_at f n (flat_map rule_notes rules)) → IsValue c
@@ -204,7 +221,7 @@ finest_exist p =
     let w = sorts_there notes in
     let f = sort_in w.0 in
     let constants : (n : ℕ) → (cs : List ℤ) × AreConstantsIn (terms_at f n notes) cs =
-        λ n. constants_in (terms_at f n notes) (λ c i. note_value (rules_of p) f n c i) in
+    λ n. constants_in (terms_at f n notes) (λ c i. note_value (rules_of p) f n c i) in
     let kinds : (n : ℕ) → (k : Kind) × IsLeastKind notes f n k = λ n. kind_there f n notes in (
       sorts_by_notes p notes refl w.0 w.1 (λ n. (kinds n).0) (λ n. (kinds n).1) (λ n. (constants n).0)
           (λ n. (constants n).1),

@@ -73,18 +73,20 @@ module _ (o : Sorts) (f : ℕ → ℕ) (same : (s k : ℕ) → k < MAX_ARITY →
       let here = arguments_moved p.symbol.0 0 p.args.items (omega (arith, l)) in
       let more = terms_moved ps (λ q i. short q (inr i)) in
       (λ i. here i ++ more i) ∙ sym (map-append moved (terms_from (position_of p.symbol.0) 0 p.args.items)
-          (sorted_terms numbering ps))
+      (sorted_terms numbering ps))
 
   pub first_moved : (qs : List (ℕ × Term)) (p x : ℕ) → In (p, Variable x) qs → first_sort (map moved qs) x
       ≡ f (first_sort qs x)
   first_moved [] p x i = absurd i
   first_moved (q ∷ qs) p x i = elim (is_variable x q.1) as (λ b. is_variable x q.1 ≡ b
       → cond b (f q.0) (first_sort (map moved qs) x) ≡ f (cond b q.0 (first_sort qs x))) [
-    | true ↦ λ e. refl
-    | false ↦ λ e. first_moved qs p x (elim i as (λ _. In (p, Variable x) qs)
-          [ inl h ↦ absurd (let t : Variable x ≡ q.1 = ap (λ (z : ℕ × Term). z.1) h in
-          let n : is_variable x (Variable x) ≡ false = ap (is_variable x) t ∙ e in own x n) | inr h ↦ h ])
-  ] refl
+        | true ↦ λ e. refl
+        | false ↦ λ e. first_moved qs p x (elim i as (λ _. In (p, Variable x) qs) [
+          | inl h ↦ absurd (let t : Variable x ≡ q.1 = ap (λ (z : ℕ × Term). z.1) h in
+              let n : is_variable x (Variable x) ≡ false = ap (is_variable x) t ∙ e in own x n)
+          | inr h ↦ h
+        ])
+      ] refl
     where
       own : (y : ℕ) → nat_eq y y ≡ false → ⊥
       own y n = eqb-false y y n refl
@@ -132,14 +134,14 @@ module _ (o : Sorts) (f : ℕ → ℕ) (same : (s k : ℕ) → k < MAX_ARITY →
           (map (term_note hs) hs ++ map (term_note hs) (sorted_terms numbering r.body.items))
           (guard_notes hs r.guard.items)
           (in_first _ (map (term_note hs) hs) (map (term_note hs) (sorted_terms numbering r.body.items))
-              (in_mapped (term_note hs) (p, t) hs i)))
+          (in_mapped (term_note hs) (p, t) hs i)))
 
       body_met : (p : ℕ) (t : Term) → In (p, t) (sorted_terms numbering r.body.items) → MeetsNote o f (note_at hs p t)
       body_met p t i = met (note_at hs p t) (in_first _
           (map (term_note hs) hs ++ map (term_note hs) (sorted_terms numbering r.body.items))
           (guard_notes hs r.guard.items)
           (in_second _ (map (term_note hs) hs) (map (term_note hs) (sorted_terms numbering r.body.items))
-              (in_mapped (term_note hs) (p, t) (sorted_terms numbering r.body.items) i)))
+          (in_mapped (term_note hs) (p, t) (sorted_terms numbering r.body.items) i)))
 
       guard_met : (c : Comparison) → In c r.guard.items → (n : Note) → In n (comparison_notes hs c.cmp c.left c.right)
           → MeetsNote o f n
@@ -151,9 +153,11 @@ module _ (o : Sorts) (f : ℕ → ℕ) (same : (s k : ℕ) → k < MAX_ARITY →
           → ((n : Note) → In n (comparison_notes hs s t u) → MeetsNote o f n) → FitComparison o (sort_of o r) s t u
       fit_comparison s (Variable x) (Variable y) b1 b2 m =
           let one = sort_moved x (bound_stands x b1) in
-          let other = sort_moved y (bound_stands y b2) in
-          (one ∙ m (Joined (first_sort hs x) (first_sort hs y)) (inl refl)
-              ∙ sym other, λ n. rw one (told (nat_eq x y) refl n m))
+          let other = sort_moved y (bound_stands y b2) in (
+            one ∙ m (Joined (first_sort hs x) (first_sort hs y)) (inl refl)
+                ∙ sym other,
+            λ n. rw one (told (nat_eq x y) refl n m),
+          )
         where
           told : (b : Bool) → nat_eq x y ≡ b → ¬ (x ≡ y)
               → ((n : Note) → In n (Joined (first_sort hs x) (first_sort hs y) ∷ cond b []
@@ -161,31 +165,33 @@ module _ (o : Sorts) (f : ℕ → ℕ) (same : (s k : ℕ) → k < MAX_ARITY →
           told true e n m = absurd (n (eqb-true x y e))
           told false e n m = m (Compared (first_sort hs x) s) (inr (inl refl))
       fit_comparison s (Variable x) (Constant d) b1 b2 m =
-          let one = sort_moved x (bound_stands x b1) in
-          (rw one (m (Stands (first_sort hs x) d) (inl refl)),
-              rw one (m (Compared (first_sort hs x) s) (inr (inl refl))))
+          let one = sort_moved x (bound_stands x b1) in (
+            rw one (m (Stands (first_sort hs x) d) (inl refl)),
+            rw one (m (Compared (first_sort hs x) s) (inr (inl refl))),
+          )
       fit_comparison s (Constant d) (Variable x) b1 b2 m =
-          let one = sort_moved x (bound_stands x b2) in
-          (rw one (m (Stands (first_sort hs x) d) (inl refl)),
-              rw one (m (Compared (first_sort hs x) s) (inr (inl refl))))
+          let one = sort_moved x (bound_stands x b2) in (
+            rw one (m (Stands (first_sort hs x) d) (inl refl)),
+            rw one (m (Compared (first_sort hs x) s) (inr (inl refl))),
+          )
       fit_comparison s (Constant d) (Constant e) b1 b2 m = tt
 
       pub fits_rule : FitRule o r
       fits_rule = record {
         variables = λ k x i. elim (in_either (k, Variable x) (sorted_terms o (heads_of r))
             (sorted_terms o r.body.items) i) as (λ _. k ≡ sort_of o r x) [
-          | inl j ↦ (let w = placed (heads_of r) heads_short k (Variable x) j in w.2 ∙ head_met w.0 (Variable x) w.1
-                ∙ sym (sort_moved x (head_stands w.0 x w.1)))
-          | inr j ↦ (let w = placed r.body.items body_short k (Variable x) j in w.2 ∙ body_met w.0 (Variable x) w.1
-                ∙ sym (sort_moved x (body_stands w.0 x w.1)))
-        ];
+              | inl j ↦ (let w = placed (heads_of r) heads_short k (Variable x) j in w.2 ∙ head_met w.0 (Variable x) w.1
+                  ∙ sym (sort_moved x (head_stands w.0 x w.1)))
+              | inr j ↦ (let w = placed r.body.items body_short k (Variable x) j in w.2 ∙ body_met w.0 (Variable x) w.1
+                  ∙ sym (sort_moved x (body_stands w.0 x w.1)))
+            ];
         constants = λ k c i. elim (in_either (k, Constant c) (sorted_terms o (heads_of r))
             (sorted_terms o r.body.items) i) as (λ _. In c (o.constants k)) [
-          | inl j ↦ (let w = placed (heads_of r) heads_short k (Constant c) j in
-                subst (λ n. In c (o.constants n)) (sym w.2) (head_met w.0 (Constant c) w.1))
-          | inr j ↦ (let w = placed r.body.items body_short k (Constant c) j in
-                subst (λ n. In c (o.constants n)) (sym w.2) (body_met w.0 (Constant c) w.1))
-        ];
+              | inl j ↦ (let w = placed (heads_of r) heads_short k (Constant c) j in
+                  subst (λ n. In c (o.constants n)) (sym w.2) (head_met w.0 (Constant c) w.1))
+              | inr j ↦ (let w = placed r.body.items body_short k (Constant c) j in
+                  subst (λ n. In c (o.constants n)) (sym w.2) (body_met w.0 (Constant c) w.1))
+            ];
         compared = λ c i. (let b = guard_bound r c i in fit_comparison c.cmp c.left c.right b.0 b.1 (guard_met c i));
       }
 
@@ -236,20 +242,22 @@ module _ (o : Sorts) (f : ℕ → ℕ) (same : (s k : ℕ) → k < MAX_ARITY →
       meets_notes n i = elim (in_either n (map (term_note hs) hs
           ++ map (term_note hs) (sorted_terms numbering r.body.items)) (guard_notes hs r.guard.items) i) as (λ _.
           MeetsNote o f n) [
-        | inl j ↦ elim (in_either n (map (term_note hs) hs) (map (term_note hs) (sorted_terms numbering r.body.items))
-              j) as (λ _. MeetsNote o f n) [
-          | inl k ↦ (let w = in_map (term_note hs) n hs k in
-                subst (MeetsNote o f) (sym w.2) (term_meets w.0.0 w.0.1
-                (in_first _ (sorted_terms o (heads_of r)) (sorted_terms o r.body.items)
-                (sorted (heads_of r) heads_short w.0.0 w.0.1 w.1)) (head_bound w.0.0 w.0.1 w.1)))
-          | inr k ↦ (let w = in_map (term_note hs) n (sorted_terms numbering r.body.items) k in
-                subst (MeetsNote o f) (sym w.2) (term_meets w.0.0 w.0.1
-                (in_second _ (sorted_terms o (heads_of r)) (sorted_terms o r.body.items)
-                (sorted r.body.items body_short w.0.0 w.0.1 w.1))
-                (bound_in (heads_of r) r.body.items (body_known r) w.0.1
-                (term_in numbering r.body.items w.0.0 w.0.1 w.1))))
-        ]
-        | inr j ↦ (let w = in_flat (λ (d : Comparison). comparison_notes hs d.cmp d.left d.right) n r.guard.items j in
-              let b = guard_bound r w.0 w.1 in comparison_meets w.0.cmp w.0.left w.0.right b.0 b.1
-              (fit.compared w.0 w.1) n w.2)
-      ]
+            | inl j ↦ elim (in_either n (map (term_note hs) hs)
+                (map (term_note hs) (sorted_terms numbering r.body.items))
+                j) as (λ _. MeetsNote o f n) [
+                  | inl k ↦ (let w = in_map (term_note hs) n hs k in
+                      subst (MeetsNote o f) (sym w.2) (term_meets w.0.0 w.0.1
+                      (in_first _ (sorted_terms o (heads_of r)) (sorted_terms o r.body.items)
+                      (sorted (heads_of r) heads_short w.0.0 w.0.1 w.1)) (head_bound w.0.0 w.0.1 w.1)))
+                  | inr k ↦ (let w = in_map (term_note hs) n (sorted_terms numbering r.body.items) k in
+                      subst (MeetsNote o f) (sym w.2) (term_meets w.0.0 w.0.1
+                      (in_second _ (sorted_terms o (heads_of r)) (sorted_terms o r.body.items)
+                      (sorted r.body.items body_short w.0.0 w.0.1 w.1))
+                      (bound_in (heads_of r) r.body.items (body_known r) w.0.1
+                      (term_in numbering r.body.items w.0.0 w.0.1 w.1))))
+                ]
+            | inr j ↦ (let w = in_flat (λ (d : Comparison). comparison_notes hs d.cmp d.left d.right) n r.guard.items
+                j in
+                let b = guard_bound r w.0 w.1 in comparison_meets w.0.cmp w.0.left w.0.right b.0 b.1
+                (fit.compared w.0 w.1) n w.2)
+          ]

@@ -207,8 +207,8 @@ pair_in_order notes ts p q low high j lp lq is_low is_high = by (nat_lt (get_or 
     by true e =
         let l = ltb-true (get_or ts q 0) (get_or ts p 0) e in
         pair_joined notes ts p q low high j lq lp (omega (arith, is_low, is_high))
-            (inr (omega (arith, is_high, one, l), omega (arith, is_low, other, l)))
+        (inr (omega (arith, is_high, one, l), omega (arith, is_low, other, l)))
     by false e =
         let l = ltb-false (get_or ts q 0) (get_or ts p 0) e in
         pair_joined notes ts p q low high j lq lp (omega (arith, is_low, is_high))
-            (inl (omega (arith, is_low, one, l), omega (arith, is_high, other, l)))
+        (inl (omega (arith, is_low, one, l), omega (arith, is_high, other, l)))

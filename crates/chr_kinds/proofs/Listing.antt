@@ -22,13 +22,13 @@ pub pattern_placed : (ps : List Pattern) (i : ℕ) (q : Pattern) (begun now late
     → later ≡ begun ++ sorted_terms numbering (take (i + 1) ps)
 pattern_placed ps i q begun now later l e a b =
     let more : sorted_terms numbering (take (i + 1) ps) ≡ sorted_terms numbering (take i ps)
-        ++ terms_from (position_of q.symbol.0) 0 q.args.items =
+    ++ terms_from (position_of q.symbol.0) 0 q.args.items =
     ap (sorted_terms numbering) (take_more ps i q l ∙ ap (λ x. take i ps ++ x ∷ []) (sym e))
-        ∙ sorted-append numbering (take i ps) (q ∷ []) ∙ ap (λ ts. sorted_terms numbering (take i ps) ++ ts)
-        (append-nil (terms_from (position_of q.symbol.0) 0 q.args.items)) in
+    ∙ sorted-append numbering (take i ps) (q ∷ []) ∙ ap (λ ts. sorted_terms numbering (take i ps) ++ ts)
+    (append-nil (terms_from (position_of q.symbol.0) 0 q.args.items)) in
     b ∙ ap (λ ts. ts ++ terms_from (position_of q.symbol.0) 0 q.args.items) a
-        ∙ append_assoc begun (sorted_terms numbering (take i ps)) (terms_from (position_of q.symbol.0) 0 q.args.items)
-        ∙ ap (λ ts. begun ++ ts) (sym more)
+    ∙ append_assoc begun (sorted_terms numbering (take i ps)) (terms_from (position_of q.symbol.0) 0 q.args.items)
+    ∙ ap (λ ts. begun ++ ts) (sym more)
 
 -- ---- the constants of a sort
 
@@ -37,7 +37,7 @@ module _ (f : ℕ → ℕ) (n : ℕ) where
       → terms_at f n (take (i + 1) notes) ≡ terms_at f n (take i notes) ++ note_terms f n e
   next_terms notes i d e l q =
       ap (terms_at f n) (take_more notes i d l ∙ ap (λ x. take i notes ++ x ∷ []) q) ∙ flat_map-append (note_terms f n)
-          (take i notes) (e ∷ []) ∙ ap (λ ts. terms_at f n (take i notes) ++ ts) (append-nil (note_terms f n e))
+      (take i notes) (e ∷ []) ∙ ap (λ ts. terms_at f n (take i notes) ++ ts) (append-nil (note_terms f n e))
 
   terms_here : (p : ℕ) (c : ℤ) → f p ≡ n → note_terms f n (Stands p c) ≡ Constant c ∷ []
   terms_here p c e = ap (λ b. cond b (Constant c ∷ []) []) (eq-eqb (f p) n e)
@@ -55,14 +55,14 @@ module _ (f : ℕ → ℕ) (n : ℕ) where
       → AreConstantsIn (terms_at f n (take (i + 1) notes)) ds
   constant_gathered notes i d p c cs ds l q e g is =
       subst (λ ts. AreConstantsIn ts ds) (ap (λ ts. terms_at f n (take i notes) ++ ts) (sym (terms_here p c e))
-          ∙ sym (next_terms notes i d (Stands p c) l q)) (g (terms_at f n (take i notes)) is)
+      ∙ sym (next_terms notes i d (Stands p c) l q)) (g (terms_at f n (take i notes)) is)
 
   passed : (notes : List Note) (i : ℕ) (d e : Note) (cs : List ℤ) → i < length notes → get_or notes i d ≡ e
       → note_terms f n e ≡ [] → AreConstantsIn (terms_at f n (take i notes)) cs
       → AreConstantsIn (terms_at f n (take (i + 1) notes)) cs
   passed notes i d e cs l q none is =
       subst (λ ts. AreConstantsIn ts cs) (sym (next_terms notes i d e l q
-          ∙ ap (λ ts. terms_at f n (take i notes) ++ ts) none ∙ append-nil (terms_at f n (take i notes)))) is
+      ∙ ap (λ ts. terms_at f n (take i notes) ++ ts) none ∙ append-nil (terms_at f n (take i notes)))) is
 
   pub elsewhere_passed : (notes : List Note) (i : ℕ) (d : Note) (p : ℕ) (c : ℤ) (cs : List ℤ) → i < length notes
       → get_or notes i d ≡ Stands p c → ¬ (f p ≡ n) → AreConstantsIn (terms_at f n (take i notes)) cs

@@ -28,9 +28,9 @@ counted_more [] j k = refl
 counted_more (i ∷ ks) j k = elim (nat_eq i k) as (λ b. cond b (suc (sort_count k (ks ++ j ∷ [])))
     (sort_count k (ks ++ j ∷ [])) ≡ cond (nat_eq j k) (suc (cond b (suc (sort_count k ks)) (sort_count k ks)))
     (cond b (suc (sort_count k ks)) (sort_count k ks))) [
-  | true ↦ ap suc (counted_more ks j k) ∙ by (nat_eq j k) (sort_count k ks)
-  | false ↦ counted_more ks j k
-]
+      | true ↦ ap suc (counted_more ks j k) ∙ by (nat_eq j k) (sort_count k ks)
+      | false ↦ counted_more ks j k
+    ]
   where
     by : (b : Bool) (n : ℕ) → suc (cond b (suc n) n) ≡ cond b (suc (suc n)) (suc n)
     by true n = refl
@@ -53,7 +53,7 @@ counted_most [] k = omega arith
 counted_most (j ∷ ks) k =
     let l = counted_most ks k in
     elim (nat_eq j k) as (λ b. cond b (suc (sort_count k ks)) (sort_count k ks) ≤ suc (length ks))
-        [ true ↦ omega (arith, l) | false ↦ omega (arith, l) ]
+    [ true ↦ omega (arith, l) | false ↦ omega (arith, l) ]
 
 pub more_like : (limit : ℕ) (a b : Kind) (cs ds : List ℤ) (m n : ℕ) → a ≡ b → cs ≡ ds → m ≡ n
     → MoreListsThan limit a cs m → MoreListsThan limit b ds n
@@ -69,22 +69,22 @@ pub room_more : (s : Sorts) (n : ℕ) (js : List ℕ) (k : ℕ) → LeaveRoom s 
     → length (s.constants k) + n ≤ 2 ^ 62 → LeaveRoom s n (js ++ k ∷ [])
 room_more s n js k h v l j i = elim (in_last j k js i) as (λ _. AreValues (s.constants j)
     × (length (s.constants j) + n ≤ 2 ^ 62)) [
-  | inl m ↦ h j m
-  | inr e ↦ subst (λ x. AreValues (s.constants x) × (length (s.constants x) + n ≤ 2 ^ 62)) (sym e) (v, l)
-]
+      | inl m ↦ h j m
+      | inr e ↦ subst (λ x. AreValues (s.constants x) × (length (s.constants x) + n ≤ 2 ^ 62)) (sym e) (v, l)
+    ]
 
 pub lists_known : (s : Sorts) (js ks : List ℕ) (k : ℕ) (lists : ℕ → List (List ℤ)) → AreListsOf s js ks lists → In k js
     → AreListsOf s (js ++ k ∷ []) ks lists
 lists_known s js ks k lists h i j m = elim (in_last j k js m) as (λ _. AreListsAt (s.kind j) (s.constants j)
     (sort_count j ks) (lists j)) [
-  | inl n ↦ h j n
-  | inr e ↦ h j (subst (λ x. In x js) (sym e) i)
-]
+      | inl n ↦ h j n
+      | inr e ↦ h j (subst (λ x. In x js) (sym e) i)
+    ]
 
 pub lists_pushed : (s : Sorts) (js ks : List ℕ) (k : ℕ) (all : List SortLists) (one : SortLists)
     → AreListsOf s js ks (held all) → one.sort ≡ k
     → AreListsAt (s.kind k) (s.constants k) (sort_count k ks) (map (λ l. l.items) one.lists.items)
-        → AreListsOf s (js ++ k ∷ []) ks (held (all ++ one ∷ []))
+    → AreListsOf s (js ++ k ∷ []) ks (held (all ++ one ∷ []))
 lists_pushed s js ks k all one h e are j m = by (nat_eq k j) refl
   where
     by : (b : Bool) → nat_eq k j ≡ b → AreListsAt (s.kind j) (s.constants j) (sort_count j ks)
@@ -93,13 +93,13 @@ lists_pushed s js ks k all one h e are j m = by (nat_eq k j) refl
         let same : k ≡ j = eqb-true k j g in
         subst (AreListsAt (s.kind j) (s.constants j) (sort_count j ks)) (sym (held_here all one j (e ∙ same)))
         (subst (λ x. AreListsAt (s.kind x) (s.constants x) (sort_count x ks) (map (λ l. l.items) one.lists.items)) same
-            are)
+        are)
     by false g =
         let other : k ≡ j → ⊥ = λ same. true≢false (sym (eq-eqb k j same) ∙ g) in
         elim (in_last j k js m) as (λ _. AreListsAt (s.kind j) (s.constants j) (sort_count j ks)
-            (held (all ++ one ∷ []) j)) [
+        (held (all ++ one ∷ []) j)) [
           | inl n ↦ subst (AreListsAt (s.kind j) (s.constants j) (sort_count j ks))
-                (sym (held_elsewhere all one j (λ f. other (sym e ∙ f)))) (h j n)
+              (sym (held_elsewhere all one j (λ f. other (sym e ∙ f)))) (h j n)
           | inr f ↦ absurd (other (sym f))
         ]
 
@@ -127,8 +127,11 @@ module _ (s : Sorts) (ks : List ℕ) (rises : (k : ℕ) → Rises (s.constants k
   abbrev with_lists : (k : ℕ) (ls : List (List ℤ)) → AreListsAt (s.kind k) (s.constants k) (sort_count k ks) ls
       → (j : ℕ) (b : Bool) → nat_eq k j ≡ b
       → (ms : List (List ℤ)) × (In j ks → AreListsAt (s.kind j) (s.constants j) (sort_count j ks) ms)
-  with_lists k ls are j true e = (ls, λ _. subst (λ x. AreListsAt (s.kind x) (s.constants x) (sort_count x ks) ls)
-      (eqb-true k j e) are)
+  with_lists k ls are j true e = (
+    ls,
+    λ _. subst (λ x. AreListsAt (s.kind x) (s.constants x) (sort_count x ks) ls)
+        (eqb-true k j e) are,
+  )
   with_lists k ls are j false e = made j (is_one j ks) refl
 
   -- where a sort has more lists than the limit, there are more combinations
@@ -154,8 +157,14 @@ module _ (s : Sorts) (ks : List ℕ) (rises : (k : ℕ) → Rises (s.constants k
 pub told_more : (s : Sorts) (ks : List ℕ) (limit : ℕ) (rs : List (List ℤ)) (w : LimitedCount) (more : Bool)
     → ((k : ℕ) → Rises (s.constants k)) → AreCombinations s ks rs
     → Visited Step (record { found = 0; limit = limit }) rs more w → IsTrue more ↔ MoreCombinationsThan s ks limit
-told_more s ks limit rs w true rises are v = (λ _. (rs, are,
-    (let l = counted_past rs (record { found = 0; limit = limit }) w v in omega (arith, l))), λ _. refl)
+told_more s ks limit rs w true rises are v = (
+  λ _. (
+    rs,
+    are,
+    (let l = counted_past rs (record { found = 0; limit = limit }) w v in omega (arith, l)),
+  ),
+  λ _. refl,
+)
 told_more s ks limit rs w false rises are v = (
   λ i. absurd (true≢false (sym i)),
   λ m. absurd (

@@ -35,18 +35,18 @@ not_before (x ∷ cs) zero d c r (inr i) = let l = r.0 c i in inr (omega arith, 
 not_before (x ∷ cs) (suc k) d c r (inl e) = inl (inl e)
 not_before (x ∷ cs) (suc k) d c r (inr i) = elim (not_before cs k d c r.1 i) as (λ _. In c (x ∷ take k cs)
     ⊎ ((suc k < suc (length cs)) × (get_or cs k d ≤ℤ c))) [
-  | inl j ↦ inl (inr j)
-  | inr h ↦ (let l = h.0 in inr (omega (arith, l), h.1))
-]
+      | inl j ↦ inl (inr j)
+      | inr h ↦ (let l = h.0 in inr (omega (arith, l), h.1))
+    ]
 
 -- one constant more is passed
 passed_before : (cs : List ℤ) (k : ℕ) (d b : ℤ) → k < length cs → get_or cs k d <ℤ b
     → ((c : ℤ) → In c (take k cs) → c <ℤ b) → (c : ℤ) → In c (take (k + 1) cs) → c <ℤ b
 passed_before cs k d b l h all c i = elim (in_last c (get_or cs k d) (take k cs)
     (subst (In c) (take_more cs k d l) i)) as (λ _. c <ℤ b) [
-  | inl j ↦ all c j
-  | inr e ↦ subst (λ z. z <ℤ b) (sym e) h
-]
+      | inl j ↦ all c j
+      | inr e ↦ subst (λ z. z <ℤ b) (sym e) h
+    ]
 
 -- a lesser constant
 pub lesser_passed : (cs us : List ℤ) (k : ℕ) (b d : ℤ) → k < length cs → get_or cs k d <ℤ b → AreNumbersBelow cs k us b
@@ -75,7 +75,7 @@ constant_passed cs us k b d l e f = record {
   all = λ x lo hi. elim (apart x b) as (λ _. In x us ⊎ In x cs) [
     | inl m ↦ f.all x lo m
     | inr m ↦ inr (subst (λ z. In z cs) (let q : get_or cs k d ≡ x = omega (arith, ints, e, m, hi) in q)
-          (in_at cs k d l))
+        (in_at cs k d l))
   ];
 }
 
@@ -90,12 +90,15 @@ number_found cs us k b d r h f = record {
   rise = rises_more us b f.rise (λ z i. (f.new z i).1);
   new = λ z i. elim (in_last z b us i) as (λ _. (pos 0 ≤ℤ z) × (z <ℤ (b +ℤ pos 1)) × (¬ In z cs)) [
     | inl j ↦ (let m = f.new z j in let w = m.1 in (m.0, omega (arith, ints, w), m.2))
-    | inr e ↦ (let w = f.from in (omega (arith, ints, w, e), omega (arith, ints, e),
-          λ j. none (subst (λ y. In y cs) e j)))
+    | inr e ↦ (let w = f.from in (
+      omega (arith, ints, w, e),
+      omega (arith, ints, e),
+      λ j. none (subst (λ y. In y cs) e j),
+    ))
   ];
   all = λ x lo hi. elim (apart x b) as (λ _. In x (us ++ b ∷ []) ⊎ In x cs) [
     | inl m ↦ elim (f.all x lo m) as (λ _. In x (us ++ b ∷ []) ⊎ In x cs)
-          [ inl i ↦ inl (in_first x us (b ∷ []) i) | inr i ↦ inr i ]
+        [ inl i ↦ inl (in_first x us (b ∷ []) i) | inr i ↦ inr i ]
     | inr m ↦ inl (in_second x us (b ∷ []) (inl (omega (arith, ints, m, hi))))
   ];
 }

@@ -28,8 +28,11 @@ not_less : (b : ℤ) (cs us vs : List ℤ) (u v : ℤ) → AreFrom b cs (u ∷ u
 not_less b cs us vs u v f g l =
     let n = f.new u (inl refl) in
     elim (g.all v u (inl refl) n.0 l) as (λ _. ⊥) [
-      | inl i ↦ elim i as (λ _. ⊥) [ inl e ↦ absurd (omega (arith, ints, e, l)) | inr j ↦
-            (let h = g.rise.0 u j in absurd (omega (arith, ints, h, l))) ]
+      | inl i ↦ elim i as (λ _. ⊥) [
+        | inl e ↦ absurd (omega (arith, ints, e, l))
+        | inr j ↦
+            (let h = g.rise.0 u j in absurd (omega (arith, ints, h, l)))
+      ]
       | inr i ↦ n.1 i
     ]
 
@@ -63,7 +66,7 @@ same_from b cs (u ∷ us) (v ∷ vs) l f g =
     let c = not_less b cs vs us v u g f in
     let e : u ≡ v = same_number u v a c in
     let more = same_from (u +ℤ pos 1) cs us vs (omega (arith, l)) (rest_from b u cs us f)
-        (subst (λ x. AreFrom (x +ℤ pos 1) cs vs) (sym e) (rest_from b v cs vs g)) in
+    (subst (λ x. AreFrom (x +ℤ pos 1) cs vs) (sym e) (rest_from b v cs vs g)) in
     λ i. e i ∷ more i
 
 first_from : (cs us : List ℤ) → AreFirstNumbers cs us → AreFrom (pos 0) cs us
@@ -82,7 +85,7 @@ one_lists free cs n ls ms r a b =
 one_lists equal cs n ls ms r a b =
     let e = same_numbers cs a.0 b.0 (a.1 ∙ sym b.1) a.2 b.2 in
     same_members {A = List ℤ} (λ r t. slice_cmp int_cmp r t ≡ Less) never
-        (λ r t u. (lists_total int_cmp_total).trans r t u) ls ms a.4 b.4
+    (λ r t u. (lists_total int_cmp_total).trans r t u) ls ms a.4 b.4
     (λ zs i. (let h = (a.3 zs).0 i in (b.3 zs).1 (h.0, subst (λ us. AreBlocks cs [] us zs) e h.1)))
     (λ zs i. (let h = (b.3 zs).0 i in (a.3 zs).1 (h.0, subst (λ us. AreBlocks cs [] us zs) (sym e) h.1)))
 one_lists ordered cs n ls ms r a b = one_list n cs ls ms r a b
@@ -96,11 +99,14 @@ lists_alike k cs n ls ms r a b zs i = subst (In zs) (one_lists k cs n ls ms r a 
 pub combinations_one : CombinationsAreOne
 combinations_one s ks rs ts rises a b =
     same_members {A = List ℤ} (λ r t. slice_cmp int_cmp r t ≡ Less) never
-        (λ r t u. (lists_total int_cmp_total).trans r t u) rs ts a.order b.order (over rs ts a b) (over ts rs b a)
+    (λ r t u. (lists_total int_cmp_total).trans r t u) rs ts a.order b.order (over rs ts a b) (over ts rs b a)
   where
     over : (xs ys : List (List ℤ)) → AreCombinations s ks xs → AreCombinations s ks ys → (r : List ℤ) → In r xs
         → In r ys
     over xs ys x y r i =
         let h = (x.combined r).0 i in
-        (y.combined r).1 (h.0, λ k j. lists_alike (s.kind k) (s.constants k) (sort_count k ks) (x.lists k) (y.lists k)
-            (rises k) (x.each k j) (y.each k j) (values_at k ks r) (h.1 k j))
+        (y.combined r).1 (
+          h.0,
+          λ k j. lists_alike (s.kind k) (s.constants k) (sort_count k ks) (x.lists k) (y.lists k)
+              (rises k) (x.each k j) (y.each k j) (values_at k ks r) (h.1 k j),
+        )

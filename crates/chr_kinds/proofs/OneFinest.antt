@@ -53,9 +53,9 @@ position_at : (o : Sorts) (ps : List Pattern) → AreShort ps → (j : ℕ) (t :
 position_at o [] short j t i = absurd i
 position_at o (p ∷ ps) short j t i = elim (in_either (j, t) (terms_from (o.sort p.symbol.0) 0 p.args.items)
     (sorted_terms o ps) i) as (λ _. (a : ℕ) × (k : ℕ) × (k < MAX_ARITY) × (j ≡ o.sort a k)) [
-  | inl h ↦ (let l = short p (inl refl) in argument 0 p.args.items (omega (arith, l)) h)
-  | inr h ↦ position_at o ps (λ q n. short q (inr n)) j t h
-]
+      | inl h ↦ (let l = short p (inl refl) in argument 0 p.args.items (omega (arith, l)) h)
+      | inr h ↦ position_at o ps (λ q n. short q (inr n)) j t h
+    ]
   where
     argument : (k : ℕ) (ts : List Term) → k + length ts ≤ MAX_ARITY → In (j, t) (terms_from (o.sort p.symbol.0) k ts)
         → (a : ℕ) × (l : ℕ) × (l < MAX_ARITY) × (j ≡ o.sort a l)
@@ -142,7 +142,7 @@ module _ (rules : List Rule) (s t : Sorts) (a : AreFinest rules s) (b : AreFines
             let i = variable_stands r2 z (omega (arith, g)) (omega (arith, g, l)) in
             let w = position_at s (heads_of r2) short2 (sort_of s r2 z) (Variable z) (stands_at_sort s r2 z i) in
             let same : joint_sort s r1 r2 x ≡ joint_sort s r1 r2 (variables_of r1 + z) =
-                ap (joint_sort s r1 r2) (sym back) in
+            ap (joint_sort s r1 r2) (sym back) in
             let right : joint_sort s r1 r2 (variables_of r1 + z) ≡ s.sort w.0 w.1 = sort_right s r1 r2 z i ∙ w.3 in
             (w.0, w.1, w.2, same ∙ right)
 
@@ -163,7 +163,7 @@ module _ (rules : List Rule) (s t : Sorts) (a : AreFinest rules s) (b : AreFines
       lists = c.lists;
       each = λ k i. (let h = class_same σ k i in
           subst (λ (q : Kind × List ℤ). AreListsAt q.0 q.1 (sort_count k (class_sorts s σ r1 r2)) (c.lists k))
-              (λ j. (h.0 j, h.1 j)) (c.each k i));
+          (λ j. (h.0 j, h.1 j)) (c.each k i));
       combined = c.combined;
       order = c.order;
     })
@@ -176,17 +176,17 @@ module _ (rules : List Rule) (s t : Sorts) (a : AreFinest rules s) (b : AreFines
     second = c.second;
     listed = elim c.listed as (λ _. (HasNoUnifier (all_equations c.rule1 c.rule2 o.matching.items) × (cs ≡ []))
         ⊎ AreSortedListed t o c.rule1 c.rule2 cs) [
-      | inl n ↦ inl n
-      | inr l ↦ inr (record {
-        classes = l.classes;
-        combinations = l.combinations;
-        solves = l.solves;
-        all = combinations_same c.rule1 c.rule2 (a.short (o.first - 1) c.rule1 c.first)
-            (a.short (o.second - 1) c.rule2 c.second) l.classes l.combinations l.all;
-        within = l.within;
-        cases_are = l.cases_are;
-      })
-    ];
+          | inl n ↦ inl n
+          | inr l ↦ inr (record {
+            classes = l.classes;
+            combinations = l.combinations;
+            solves = l.solves;
+            all = combinations_same c.rule1 c.rule2 (a.short (o.first - 1) c.rule1 c.first)
+                (a.short (o.second - 1) c.rule2 c.second) l.classes l.combinations l.all;
+            within = l.within;
+            cases_are = l.cases_are;
+          })
+        ];
   }
 
   pub as_many : (o : Overlap) (n : ℕ) → HasTooManyCombinations s rules o n → HasTooManyCombinations t rules o n

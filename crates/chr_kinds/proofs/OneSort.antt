@@ -29,11 +29,11 @@ all_like k (l ∷ ks) e j i = by (nat_eq l k) refl (all_like k ks) i
     by true g rest (inl f) = f ∙ eqb-true l k g
     by true g rest (inr m) =
         let more : suc (sort_count k ks) ≡ suc (length ks) =
-            sym (ap (λ b. cond b (suc (sort_count k ks)) (sort_count k ks)) g) ∙ e in
+        sym (ap (λ b. cond b (suc (sort_count k ks)) (sort_count k ks)) g) ∙ e in
         rest (omega (arith, more)) j m
     by false g rest m =
         let fewer : sort_count k ks ≡ suc (length ks) =
-            sym (ap (λ b. cond b (suc (sort_count k ks)) (sort_count k ks)) g) ∙ e in
+        sym (ap (λ b. cond b (suc (sort_count k ks)) (sort_count k ks)) g) ∙ e in
         let most = counted_most ks k in
         absurd (omega (arith, fewer, most))
 
@@ -41,7 +41,7 @@ all_counted : (k : ℕ) (ks : List ℕ) → ((j : ℕ) → In j ks → j ≡ k) 
 all_counted k [] all = refl
 all_counted k (j ∷ ks) all =
     ap (λ b. cond b (suc (sort_count k ks)) (sort_count k ks)) (eq-eqb j k (all j (inl refl)))
-        ∙ ap suc (all_counted k ks (λ i m. all i (inr m)))
+    ∙ ap suc (all_counted k ks (λ i m. all i (inr m)))
 
 all_values : (k : ℕ) (ks : List ℕ) (us : List ℤ) → ((j : ℕ) → In j ks → j ≡ k) → length us ≡ length ks
     → values_at k ks us ≡ us
@@ -66,9 +66,11 @@ module _ (s : Sorts) (ks : List ℕ) (k : ℕ) (only : IsOnlyOrdered s ks k) whe
         (listed rs types);
     combined = λ us. (
       λ i. (
-          let l = (types.stated us i).0 in
-          (l, λ j m. subst (λ x. In (values_at x ks us) rs) (sym (only.all j m))
-              (subst (λ xs. In xs rs) (sym (all_values k ks us only.all l)) i))
+          let l = (types.stated us i).0 in (
+            l,
+            λ j m. subst (λ x. In (values_at x ks us) rs) (sym (only.all j m))
+                (subst (λ xs. In xs rs) (sym (all_values k ks us only.all l)) i),
+          )
           ),
       λ h. subst (λ xs. In xs rs) (all_values k ks us only.all h.0) (h.1 k only.there),
     );
@@ -86,7 +88,7 @@ module _ (s : Sorts) (ks : List ℕ) (k : ℕ) (only : IsOnlyOrdered s ks k) whe
         λ m. (
             let there = lists_there ordered (s.constants k) (length ks) (omega (arith, fits)) (rises k) r.0 in
             let same = ap (λ (xs : List (List ℤ)). length xs)
-                (combinations_one s ks m.0 there.0 rises m.1 (types_combined there.0 there.1)) in
+            (combinations_one s ks m.0 there.0 rises m.1 (types_combined there.0 there.1)) in
             let l = m.2 in
             h.1 (more_types limit (length ks) (s.constants k) there.0 there.1 (omega (arith, same, l)))
             ),

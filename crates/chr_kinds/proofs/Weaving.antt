@@ -19,7 +19,7 @@ pub next_list : (vs : List (Vec ℤ Global)) (i : ℕ) (v : Vec ℤ Global) → 
     → map (λ l. l.items) (take (i + 1) vs) ≡ map (λ l. l.items) (take i vs) ++ v.items ∷ []
 next_list vs i v l is =
     ap (map (λ l. l.items)) (take_more vs i v l) ∙ map_push (λ l. l.items) (take i vs) (get_or vs i v)
-        ∙ ap (λ (x : Vec ℤ Global). map (λ l. l.items) (take i vs) ++ x.items ∷ []) (sym is)
+    ∙ ap (λ (x : Vec ℤ Global). map (λ l. l.items) (take i vs) ++ x.items ∷ []) (sym is)
 
 -- ---- the first values, each once
 
@@ -44,7 +44,7 @@ in_once z (x ∷ xs) (inr i) = elim (equal_or_not z x) as (λ _. In z (each_once
 others_last : (x z : ℤ) (xs : List ℤ) → x ≡ z → others x (xs ++ z ∷ []) ≡ others x xs
 others_last x z xs e =
     filter-append (λ y. not (int_eq y x)) xs (z ∷ []) ∙ ap (λ b. others x xs ++ cond (not b) (z ∷ []) [])
-        (yes_same z x (sym e)) ∙ append-nil (others x xs)
+    (yes_same z x (sym e)) ∙ append-nil (others x xs)
 
 others_more : (x z : ℤ) (xs : List ℤ) → (z ≡ x → ⊥) → others x (xs ++ z ∷ []) ≡ others x xs ++ z ∷ []
 others_more x z xs n = filter-append (λ y. not (int_eq y x)) xs (z ∷ []) ∙ by (int_eq z x) refl
@@ -60,7 +60,7 @@ mutual
     | inl j ↦ ap (λ ys. x ∷ others x ys) (once_known z xs j)
     | inr n ↦ elim i as (λ _. each_once ((x ∷ xs) ++ z ∷ []) ≡ each_once (x ∷ xs)) [
       | inl e ↦ ap (λ ys. x ∷ others x ys) (once_new z xs n)
-            ∙ ap (λ ys. x ∷ ys) (others_last x z (each_once xs) (sym e))
+          ∙ ap (λ ys. x ∷ ys) (others_last x z (each_once xs) (sym e))
       | inr j ↦ absurd (n j)
     ]
   ]
@@ -69,7 +69,7 @@ mutual
   once_new z [] n = refl
   once_new z (x ∷ xs) n =
       ap (λ ys. x ∷ others x ys) (once_new z xs (λ i. n (inr i)))
-          ∙ ap (λ ys. x ∷ ys) (others_more x z (each_once xs) (λ e. n (inl e)))
+      ∙ ap (λ ys. x ∷ ys) (others_more x z (each_once xs) (λ e. n (inl e)))
 
 pub none_begins : (ls : List (List ℤ)) (l : List ℤ) → l ≡ [] → each_once (firsts (ls ++ l ∷ [])) ≡ each_once (firsts ls)
 none_begins ls l e = ap (λ x. each_once (firsts (ls ++ x ∷ []))) e
@@ -79,14 +79,14 @@ pub known_begins : (ls : List (List ℤ)) (l : List ℤ) (z : ℤ) (zs : List �
     → each_once (firsts (ls ++ l ∷ [])) ≡ each_once (firsts ls)
 known_begins ls l z zs e i =
     ap (λ x. each_once (firsts (ls ++ x ∷ []))) e ∙ ap each_once (firsts_more ls (z ∷ zs))
-        ∙ once_known z (firsts ls) (once_in z (firsts ls) i)
+    ∙ once_known z (firsts ls) (once_in z (firsts ls) i)
 
 pub new_begins : (ls : List (List ℤ)) (l : List ℤ) (z : ℤ) (zs : List ℤ) → l ≡ z ∷ zs
     → (In z (each_once (firsts ls)) → ⊥)
     → each_once (firsts (ls ++ l ∷ [])) ≡ each_once (firsts ls) ++ z ∷ []
 new_begins ls l z zs e n =
     ap (λ x. each_once (firsts (ls ++ x ∷ []))) e ∙ ap each_once (firsts_more ls (z ∷ zs))
-        ∙ once_new z (firsts ls) (λ i. n (in_once z (firsts ls) i))
+    ∙ once_new z (firsts ls) (λ i. n (in_once z (firsts ls) i))
 
 -- ---- what follows a value
 
@@ -95,9 +95,9 @@ tails_more z [] l = refl
 tails_more z ([] ∷ ls) l = tails_more z ls l
 tails_more z ((y ∷ ys) ∷ ls) l = elim (int_eq y z) as (λ b. cond b (ys ∷ tails z (ls ++ l ∷ []))
     (tails z (ls ++ l ∷ [])) ≡ cond b (ys ∷ tails z ls) (tails z ls) ++ tails z (l ∷ [])) [
-  | true ↦ ap (λ ts. ys ∷ ts) (tails_more z ls l)
-  | false ↦ tails_more z ls l
-]
+      | true ↦ ap (λ ts. ys ∷ ts) (tails_more z ls l)
+      | false ↦ tails_more z ls l
+    ]
 
 pub no_tail : (z : ℤ) (ls : List (List ℤ)) (l : List ℤ) → l ≡ [] → tails z (ls ++ l ∷ []) ≡ tails z ls
 no_tail z ls l e = ap (λ x. tails z (ls ++ x ∷ [])) e ∙ tails_more z ls [] ∙ append-nil (tails z ls)
@@ -114,7 +114,7 @@ pub next_tail : (z y : ℤ) (ys : List ℤ) (ls : List (List ℤ)) (l : List ℤ
     ≡ tails z ls ++ ys ∷ []
 next_tail z y ys ls l e s =
     ap (λ x. tails z (ls ++ x ∷ [])) e ∙ tails_more z ls (y ∷ ys) ∙ ap (λ b. tails z ls ++ cond b (ys ∷ []) [])
-        (yes_same y z s)
+    (yes_same y z s)
 
 -- ---- lists as they are held
 
@@ -146,7 +146,7 @@ pub held_begun : (hs : List SortLists) (h : SortLists) (k : ℕ) (z : ℤ) → h
     → held (hs ++ h ∷ []) ≡ begun k z (held hs)
 held_begun hs h k z s t i j =
     (held_more hs h j ∙ ap (λ n. cond (nat_eq n j) (map (λ l. l.items) h.lists.items) (held hs j)) s
-        ∙ ap (λ ls. cond (nat_eq k j) ls (held hs j)) t) i
+    ∙ ap (λ ls. cond (nat_eq k j) ls (held hs j)) t) i
 
 -- ---- one value of a walk
 

@@ -67,10 +67,10 @@ tails_in z l [] i = absurd i
 tails_in z l ([] ∷ ls) i = inr (tails_in z l ls i)
 tails_in z l ((y ∷ ys) ∷ ls) i = elim (int_eq y z) as (λ b. int_eq y z ≡ b
     → In l (cond b (ys ∷ tails z ls) (tails z ls)) → In (z ∷ l) ((y ∷ ys) ∷ ls)) [
-  | true ↦ λ e j. elim j as (λ _. In (z ∷ l) ((y ∷ ys) ∷ ls))
-        [ inl g ↦ inl (λ t. sym (same_yes y z e) t ∷ g t) | inr k ↦ inr (tails_in z l ls k) ]
-  | false ↦ λ e j. inr (tails_in z l ls j)
-] refl i
+      | true ↦ λ e j. elim j as (λ _. In (z ∷ l) ((y ∷ ys) ∷ ls))
+          [ inl g ↦ inl (λ t. sym (same_yes y z e) t ∷ g t) | inr k ↦ inr (tails_in z l ls k) ]
+      | false ↦ λ e j. inr (tails_in z l ls j)
+    ] refl i
 
 in_tails : (z : ℤ) (l : List ℤ) (ls : List (List ℤ)) → In (z ∷ l) ls → In l (tails z ls)
 in_tails z l [] i = absurd i
@@ -78,27 +78,30 @@ in_tails z l ([] ∷ ls) (inl g) = absurd (let n = ap length g in omega (arith, 
 in_tails z l ([] ∷ ls) (inr i) = in_tails z l ls i
 in_tails z l ((y ∷ ys) ∷ ls) i = elim (int_eq y z) as (λ b. int_eq y z ≡ b
     → In l (cond b (ys ∷ tails z ls) (tails z ls))) [
-  | true ↦ λ e. elim i as (λ _. In l (ys ∷ tails z ls))
-        [ inl g ↦ inl (ap (drop 1) g) | inr j ↦ inr (in_tails z l ls j) ]
-  | false ↦ λ e. elim i as (λ _. In l (tails z ls)) [ inl g ↦ absurd (same_no y z e (sym (ap next_number g))) | inr j ↦
-        in_tails z l ls j ]
-] refl
+      | true ↦ λ e. elim i as (λ _. In l (ys ∷ tails z ls))
+          [ inl g ↦ inl (ap (drop 1) g) | inr j ↦ inr (in_tails z l ls j) ]
+      | false ↦ λ e. elim i as (λ _. In l (tails z ls)) [
+        | inl g ↦ absurd (same_no y z e (sym (ap next_number g)))
+        | inr j ↦
+            in_tails z l ls j
+      ]
+    ] refl
 
 tails_rise : (z : ℤ) (ls : List (List ℤ)) → ListsRise ls → ListsRise (tails z ls)
 tails_rise z [] h = tt
 tails_rise z ([] ∷ ls) h = tails_rise z ls h.1
 tails_rise z ((y ∷ ys) ∷ ls) h = elim (int_eq y z) as (λ b. int_eq y z ≡ b
     → ListsRise (cond b (ys ∷ tails z ls) (tails z ls))) [
-  | true ↦ λ e. (
-    λ t i. (
-        let l : slice_cmp int_cmp (z ∷ ys) (z ∷ t) ≡ Less = subst (λ x. slice_cmp int_cmp (x ∷ ys) (z ∷ t) ≡ Less)
+      | true ↦ λ e. (
+        λ t i. (
+            let l : slice_cmp int_cmp (z ∷ ys) (z ∷ t) ≡ Less = subst (λ x. slice_cmp int_cmp (x ∷ ys) (z ∷ t) ≡ Less)
             (same_yes y z e) (h.0 (z ∷ t) (tails_in z t ls i)) in
-        sym (ap (λ o. ordering_then o (slice_cmp int_cmp ys t)) (tied_itself int_cmp_total z)) ∙ l
-        ),
-    tails_rise z ls h.1,
-  )
-  | false ↦ λ e. tails_rise z ls h.1
-] refl
+            sym (ap (λ o. ordering_then o (slice_cmp int_cmp ys t)) (tied_itself int_cmp_total z)) ∙ l
+            ),
+        tails_rise z ls h.1,
+      )
+      | false ↦ λ e. tails_rise z ls h.1
+    ] refl
 
 firsts_rise : (ls : List (List ℤ)) → ListsRise ls → RisesBy ◌≤ℤ◌ (firsts ls)
 firsts_rise [] h = tt
@@ -108,7 +111,7 @@ firsts_rise ((z ∷ zs) ∷ ls) h = (
       let m = firsts_in y ls i in
       elim (apart y z) as (λ _. z ≤ℤ y) [
         | inl l ↦ absurd (never (z ∷ zs) ((lists_total int_cmp_total).trans (z ∷ zs) (y ∷ m.0) (z ∷ zs)
-              (h.0 (y ∷ m.0) m.1) (lex [] m.0 zs y z l)))
+            (h.0 (y ∷ m.0) m.1) (lex [] m.0 zs y z l)))
         | inr l ↦ l
       ]
       ),
@@ -131,14 +134,14 @@ come_on : (k : ℕ) (ks : List ℕ) (lists : ℕ → List (List ℤ)) (z : ℤ) 
 come_on k ks lists z h i = record {
   counts = λ j l. elim (nat_eq k j) as (λ b. nat_eq k j ≡ b → In l (cond b (tails z (lists k)) (lists j)) → length l
       ≡ sort_count j ks) [
-    | true ↦ λ e g. (
-        let n = h.counts k (z ∷ l) (tails_in z l (lists k) g) in
-        let m = counted_here k ks in
-        let here : length l ≡ sort_count k ks = omega (arith, n, m) in
-        here ∙ ap (λ x. sort_count x ks) (eqb-true k j e)
-        )
-    | false ↦ λ e g. h.counts j l g ∙ ap (λ b. cond b (suc (sort_count j ks)) (sort_count j ks)) e
-  ] refl;
+        | true ↦ λ e g. (
+            let n = h.counts k (z ∷ l) (tails_in z l (lists k) g) in
+            let m = counted_here k ks in
+            let here : length l ≡ sort_count k ks = omega (arith, n, m) in
+            here ∙ ap (λ x. sort_count x ks) (eqb-true k j e)
+            )
+        | false ↦ λ e g. h.counts j l g ∙ ap (λ b. cond b (suc (sort_count j ks)) (sort_count j ks)) e
+      ] refl;
   some = λ j. elim (nat_eq k j) as (λ b. (l : List ℤ) × In l (cond b (tails z (lists k)) (lists j))) [
     | true ↦ (let m = firsts_in z (lists k) i in (m.0, in_tails z m.0 (lists k) m.1))
     | false ↦ h.some j
@@ -180,10 +183,10 @@ woven_in (k ∷ ks) lists p r h i =
       each = λ j. elim (nat_eq k j) as (λ b. nat_eq k j ≡ b
           → In (values_at j ks w.us) (cond b (tails z (lists k)) (lists j))
           → In (cond b (z ∷ values_at j ks w.us) (values_at j ks w.us)) (lists j)) [
-        | true ↦ λ e g. subst (λ x. In (z ∷ values_at j ks w.us) (lists x)) (eqb-true k j e)
-              (tails_in z (values_at j ks w.us) (lists k) g)
-        | false ↦ λ e g. g
-      ] refl (w.each j);
+            | true ↦ λ e g. subst (λ x. In (z ∷ values_at j ks w.us) (lists x)) (eqb-true k j e)
+                (tails_in z (values_at j ks w.us) (lists k) g)
+            | false ↦ λ e g. g
+          ] refl (w.each j);
     }
 
 in_woven : (ks : List ℕ) (lists : ℕ → List (List ℤ)) (p us : List ℤ) → length us ≡ length ks
@@ -193,30 +196,30 @@ in_woven [] lists p (u ∷ us) l h = absurd (omega (arith, l))
 in_woven (k ∷ ks) lists p [] l h = absurd (omega (arith, l))
 in_woven (k ∷ ks) lists p (u ∷ us) l h =
     let here : In (u ∷ values_at k ks us) (lists k) = subst
-        (λ b. In (cond b (u ∷ values_at k ks us) (values_at k ks us)) (lists k)) (eq-eqb k k refl) (h k) in
+    (λ b. In (cond b (u ∷ values_at k ks us) (values_at k ks us)) (lists k)) (eq-eqb k k refl) (h k) in
     let ih = in_woven ks (begun k u lists) (p ++ u ∷ []) us (omega (arith, l)) each in
     flat_map_in (p ++ u ∷ us) (λ z. woven ks (begun k z lists) (p ++ z ∷ [])) u (each_once (firsts (lists k)))
-        (in_once u (firsts (lists k)) (in_firsts u (values_at k ks us) (u ∷ values_at k ks us) (lists k) refl here))
+    (in_once u (firsts (lists k)) (in_firsts u (values_at k ks us) (u ∷ values_at k ks us) (lists k) refl here))
     (subst (λ r. In r (woven ks (begun k u lists) (p ++ u ∷ []))) (append_assoc p (u ∷ []) us) ih)
   where
     each : (j : ℕ) → In (values_at j ks us) (begun k u lists j)
     each j = elim (nat_eq k j) as (λ b. nat_eq k j ≡ b → In (cond b (u ∷ values_at j ks us) (values_at j ks us))
         (lists j) → In (values_at j ks us) (cond b (tails u (lists k)) (lists j))) [
-      | true ↦ λ e g. in_tails u (values_at j ks us) (lists k)
-            (subst (λ x. In (u ∷ values_at j ks us) (lists x)) (sym (eqb-true k j e)) g)
-      | false ↦ λ e g. g
-    ] refl (h j)
+          | true ↦ λ e g. in_tails u (values_at j ks us) (lists k)
+              (subst (λ x. In (u ∷ values_at j ks us) (lists x)) (sym (eqb-true k j e)) g)
+          | false ↦ λ e g. g
+        ] refl (h j)
 
 woven_rises : (ks : List ℕ) (lists : ℕ → List (List ℤ)) (p : List ℤ) → AreToCome ks lists → ListsRise (woven ks lists p)
 woven_rises [] lists p h = (λ y i. absurd i, tt)
 woven_rises (k ∷ ks) lists p h =
     flat_rises (λ z. woven ks (begun k z lists) (p ++ z ∷ [])) (each_once (firsts (lists k)))
-        (once_rise (firsts (lists k)) (firsts_rise (lists k) (h.rise k)))
+    (once_rise (firsts (lists k)) (firsts_rise (lists k) (h.rise k)))
     (λ z i. woven_rises ks (begun k z lists) (p ++ z ∷ []) (come_on k ks lists z h (once_in z (firsts (lists k)) i)))
     (λ v v' r r' i i' l j j'. (
     let a = woven_in ks (begun k v lists) (p ++ v ∷ []) r (come_on k ks lists v h (once_in v (firsts (lists k)) i)) j in
     let b = woven_in ks (begun k v' lists) (p ++ v' ∷ []) r'
-        (come_on k ks lists v' h (once_in v' (firsts (lists k)) i')) j' in
+    (come_on k ks lists v' h (once_in v' (firsts (lists k)) i')) j' in
     (λ t. slice_cmp int_cmp (a.begins t) (b.begins t)) ∙ lex p a.us b.us v v' l
     ))
 
@@ -228,14 +231,14 @@ woven_like (k ∷ ks) lists others p h =
     let here = h k (inl refl) in
     ap (λ ls. flat_map (λ z. woven ks (begun k z lists) (p ++ z ∷ [])) (each_once (firsts ls))) here
     ∙ (λ t. flat_map (λ z. woven_like ks (begun k z lists) (begun k z others) (p ++ z ∷ []) (λ j i. like j z i) t)
-        (each_once (firsts (others k))))
+    (each_once (firsts (others k))))
   where
     like : (j : ℕ) (z : ℤ) → In j ks → begun k z lists j ≡ begun k z others j
     like j z i = elim (nat_eq k j) as (λ b. cond b (tails z (lists k)) (lists j) ≡ cond b (tails z (others k))
         (others j)) [
-      | true ↦ ap (tails z) (h k (inl refl))
-      | false ↦ h j (inr i)
-    ]
+          | true ↦ ap (tails z) (h k (inl refl))
+          | false ↦ h j (inr i)
+        ]
 
 -- ---- one list at each sort
 
@@ -300,12 +303,12 @@ one_more_tail y ys ls (x ∷ zs) i =
     let a = length-append (tails x ls) (flat_map (λ z. tails z ls) zs) in
     let b = length-append (tails x ((y ∷ ys) ∷ ls)) (flat_map (λ z. tails z ((y ∷ ys) ∷ ls)) zs) in
     elim i as (λ _. length (flat_map (λ z. tails z ls) (x ∷ zs)) < length
-        (flat_map (λ z. tails z ((y ∷ ys) ∷ ls)) (x ∷ zs))) [
+    (flat_map (λ z. tails z ((y ∷ ys) ∷ ls)) (x ∷ zs))) [
       | inl e ↦ (
           let rest = flat_longer (λ z. tails z ls) (λ z. tails z ((y ∷ ys) ∷ ls)) zs
-              (λ z j. tails_grow z (y ∷ ys) ls) in
+          (λ z j. tails_grow z (y ∷ ys) ls) in
           let here : length (tails x ((y ∷ ys) ∷ ls)) ≡ suc (length (tails x ls)) =
-              ap (λ c. length (cond c (ys ∷ tails x ls) (tails x ls))) (yes_same y x e) in
+          ap (λ c. length (cond c (ys ∷ tails x ls) (tails x ls))) (yes_same y x e) in
           omega (arith, a, b, rest, here)
           )
       | inr j ↦ (
@@ -352,8 +355,8 @@ by_value j ks lists h f at k true e =
     let zs = each_once (firsts (lists j)) in
     let cover = tails_cover zs (lists j) (full_lists j ks lists h) (λ z i. in_once z (firsts (lists j)) i) in
     let longer = flat_longer (λ z. tails z (lists j)) f zs
-        (λ z i. subst (λ b. length (cond b (tails z (lists j)) (lists j)) ≤ length (f z)) (eq-eqb j j refl)
-        (at z i j)) in
+    (λ z i. subst (λ b. length (cond b (tails z (lists j)) (lists j)) ≤ length (f z)) (eq-eqb j j refl)
+    (at z i j)) in
     let same : length (lists k) ≡ length (lists j) = ap (λ x. length (lists x)) (sym (eqb-true j k e)) in
     omega (arith, cover, longer, same)
 by_value j ks lists h f at k false e =
@@ -371,8 +374,8 @@ woven_longer : (ks : List ℕ) (lists : ℕ → List (List ℤ)) (p : List ℤ) 
 woven_longer [] lists p h k = at_most_one (lists k) (h.rise k) (h.counts k)
 woven_longer (j ∷ ks) lists p h k =
     by_value j ks lists h (λ z. woven ks (begun j z lists) (p ++ z ∷ []))
-        (λ z i. woven_longer ks (begun j z lists) (p ++ z ∷ [])
-        (come_on j ks lists z h (once_in z (firsts (lists j)) i))) k (nat_eq j k) refl
+    (λ z i. woven_longer ks (begun j z lists) (p ++ z ∷ [])
+    (come_on j ks lists z h (once_in z (firsts (lists j)) i))) k (nat_eq j k) refl
 
 module _ (s : Sorts) (ks : List ℕ) (lists : ℕ → List (List ℤ))
     (each : (k : ℕ) → In k ks → AreListsAt (s.kind k) (s.constants k) (sort_count k ks) (lists k)) where
@@ -386,10 +389,10 @@ module _ (s : Sorts) (ks : List ℕ) (lists : ℕ → List (List ℤ))
   to_come = record {
     counts = λ k l. elim (is_one k ks) as (λ b. is_one k ks ≡ b → In l (chosen b (lists k)) → length l
         ≡ sort_count k ks) [
-      | true ↦ λ e i. list_count (s.kind k) (s.constants k) (sort_count k ks) (lists k) (each k (one_in k ks e)) l i
-      | false ↦ λ e i. elim i as (λ _. length l ≡ sort_count k ks)
-            [ inl g ↦ ap length g ∙ sym (none_counted k ks e) | inr none ↦ absurd none ]
-    ] refl;
+          | true ↦ λ e i. list_count (s.kind k) (s.constants k) (sort_count k ks) (lists k) (each k (one_in k ks e)) l i
+          | false ↦ λ e i. elim i as (λ _. length l ≡ sort_count k ks)
+              [ inl g ↦ ap length g ∙ sym (none_counted k ks e) | inr none ↦ absurd none ]
+        ] refl;
     some = λ k. elim (is_one k ks) as (λ b. is_one k ks ≡ b → (l : List ℤ) × In l (chosen b (lists k))) [
       | true ↦ λ e. some_list (s.kind k) (s.constants k) (sort_count k ks) (lists k) (each k (one_in k ks e))
       | false ↦ λ e. ([], inl refl)
@@ -405,17 +408,19 @@ module _ (s : Sorts) (ks : List ℕ) (lists : ℕ → List (List ℤ))
   none_at k (j ∷ js) [] h = refl
   none_at k (j ∷ js) (u ∷ us) h = elim (nat_eq j k) as (λ b. cond b true (is_one k js) ≡ false
       → cond b (u ∷ values_at k js us) (values_at k js us) ≡ []) [
-    | true ↦ λ g. absurd cc
-    | false ↦ λ g. none_at k js us g
-  ] h
+        | true ↦ λ g. absurd cc
+        | false ↦ λ g. none_at k js us g
+      ] h
 
   combined : (us : List ℤ) → In us (woven ks all []) ↔
       ((length us ≡ length ks) × ((k : ℕ) → In k ks → In (values_at k ks us) (lists k)))
   combined us = (
     λ i. (
-        let w = woven_in ks all [] us to_come i in
-        (ap length w.begins ∙ w.count, λ k j. subst (In (values_at k ks us)) (at_one k j)
-            (subst (λ r. In (values_at k ks r) (all k)) (sym w.begins) (w.each k)))
+        let w = woven_in ks all [] us to_come i in (
+          ap length w.begins ∙ w.count,
+          λ k j. subst (In (values_at k ks us)) (at_one k j)
+              (subst (λ r. In (values_at k ks r) (all k)) (sym w.begins) (w.each k)),
+        )
         ),
     λ h. in_woven ks all [] us h.0
         (λ k. elim (is_one k ks) as (λ b. is_one k ks ≡ b → In (values_at k ks us) (chosen b (lists k))) [

@@ -38,9 +38,9 @@ fails_in_block columns test at left ls fails values row from below =
     let here : at + lane ≡ row = omega arith in
     let l : lane < 8 = omega arith in
     let x : get_or left lane (pos 0) ≡ value_at columns row test.column =
-        ls lane l ∙ ap (λ k. value_at columns k test.column) here in
+    ls lane l ∙ ap (λ k. value_at columns k test.column) here in
     let fits : SFits w64 (get_or left lane (pos 0)) = subst (SFits w64) (sym x)
-        (fits_lanes _ (values test.column row)) in
+    (fits_lanes _ (values test.column row)) in
     ap (λ a. compares test.cmp (int_cmp a (against_at columns row test.against))) (sym x)
     ∙ ap (λ k. compares test.cmp (int_cmp (get_or left lane (pos 0)) (against_at columns k test.against))) (sym here)
     ∙ fails lane l fits

@@ -26,7 +26,7 @@ bits_of xs = map (of_z w64) xs
 -- where the mask of the comparison t of eight lanes is empty, t fails in each
 pub fails_in_each : (t : ℕ → ℕ → Bool) (xs ys : List ℤ) → length xs ≡ 8 → length ys ≡ 8
     → not (nat_eq (mask_l (map (top 63) (zip2 (λ a b. cond (t a b) (2 ^ 64 - 1) 0) (bits_of (take 8 xs))
-        (bits_of (take 8 ys)))) % 2 ^ 64) 0) ≡ false
+    (bits_of (take 8 ys)))) % 2 ^ 64) 0) ≡ false
     → (lane : ℕ) → lane < 8 → t (of_z w64 (get_or xs lane (pos 0))) (of_z w64 (get_or ys lane (pos 0))) ≡ false
 fails_in_each t xs ys l m e lane below =
     let all_x : take 8 xs ≡ xs = take_all 8 xs (omega (arith, l)) in
@@ -38,12 +38,12 @@ fails_in_each t xs ys l m e lane below =
     let whole = rw (all_x, all_y) at (zero_of _ e) in
     let tops = tops_compared w64 t (bits_of xs) (bits_of ys) in
     let none : mask_l ms ≡ 0 = sym (mask_l-mod ms 64 (omega (arith, long))) ∙ ap (λ bs. mask_l bs % 2 ^ 64) (sym tops)
-        ∙ whole in
+    ∙ whole in
     let here : get_or ms lane false ≡ t (get_or (bits_of xs) lane 0) (get_or (bits_of ys) lane 0) =
     get_or-zip2 t (bits_of xs) (bits_of ys) lane 0 0 false (omega (arith, lx, below)) (omega (arith, ly, below)) in
     let x : get_or (bits_of xs) lane 0 ≡ of_z w64 (get_or xs lane (pos 0)) =
-        get_or-map (of_z w64) xs lane (pos 0) 0 (omega (arith, l, below)) in
+    get_or-map (of_z w64) xs lane (pos 0) 0 (omega (arith, l, below)) in
     let y : get_or (bits_of ys) lane 0 ≡ of_z w64 (get_or ys lane (pos 0)) =
-        get_or-map (of_z w64) ys lane (pos 0) 0 (omega (arith, m, below)) in
+    get_or-map (of_z w64) ys lane (pos 0) 0 (omega (arith, m, below)) in
     ap (λ b. t (of_z w64 (get_or xs lane (pos 0))) b) (sym y) ∙ ap (λ a. t a (get_or (bits_of ys) lane 0)) (sym x)
-        ∙ sym here ∙ bit_of_zero ms lane none
+    ∙ sym here ∙ bit_of_zero ms lane none

@@ -30,7 +30,7 @@ none_from : (m : Operations) (o : Operation) (os : List Operation) → ¬ (IsHel
     → HasNoClash (union m (o ∷ [])) os → HasNoClash m (o ∷ os)
 none_from m o os first rest zero id h =
     first (subst (IsHeldOtherwise m) (sym (same_Some o h.0 h.1))
-        (subst (λ n. IsHeldOtherwise n h.0) (union_none m) h.3))
+    (subst (λ n. IsHeldOtherwise n h.0) (union_none m) h.3))
 none_from m o os first rest (suc i) id h =
     rest i id (h.0, h.1, h.2, subst (λ n. IsHeldOtherwise n h.0) (sym (union_more m (o ∷ []) (take i os))) h.3)
 

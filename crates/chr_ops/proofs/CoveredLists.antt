@@ -43,28 +43,28 @@ parts_follow p q (o ∷ os) later apart sorted = by (parts_follow p q os later a
     by : filter (λ x. p x.0 || q x.0) os ≡ filter (λ x. p x.0) os ++ filter (λ x. q x.0) os → (b c : Bool) → p o.0 ≡ b
         → q o.0 ≡ c
         → cond (b || c) (o ∷ filter (λ x. p x.0 || q x.0) os) (filter (λ x. p x.0 || q x.0) os)
-            ≡ cond b (o ∷ filter (λ x. p x.0) os) (filter (λ x. p x.0) os) ++ cond c (o ∷ filter (λ x. q x.0) os)
-            (filter (λ x. q x.0) os)
+        ≡ cond b (o ∷ filter (λ x. p x.0) os) (filter (λ x. p x.0) os) ++ cond c (o ∷ filter (λ x. q x.0) os)
+        (filter (λ x. q x.0) os)
     by rest true true e g = absurd (true≢false (sym g ∙ apart o.0 e))
     by rest true false e g = ap (λ xs. o ∷ xs) rest
     by rest false true e g =
         let first = none os (sorted_head id_cmp o.0 (keys_of os) sorted) g in
         ap (λ xs. o ∷ xs) (rest ∙ ap (λ xs. xs ++ filter (λ x. q x.0) os) first)
-            ∙ ap (λ xs. xs ++ o ∷ filter (λ x. q x.0) os) (sym first)
+        ∙ ap (λ xs. xs ++ o ∷ filter (λ x. q x.0) os) (sym first)
     by rest false false e g = rest
 
 behind_has_not : (r : IdRange) (a b : OpId) → Behind r a → id_cmp a b ≡ order.Less → in_range r b ≡ false
 behind_has_not r a b far less =
     let origin = far.origin in
     ⊎_elim (λ e. (let number = far.number e in grind (arith, nat_tests, e, number, less)))
-        (λ ne. grind (arith, nat_tests, ne, origin, less)) (cases_eq r.origin a.origin)
+    (λ ne. grind (arith, nat_tests, ne, origin, less)) (cases_eq r.origin a.origin)
 
 -- the operations of ranges are those of the first, and then those of the others
 pub covered_first : (r : IdRange) (rs : List IdRange) (os : List Operation) → AllByRecursion (IsBefore r) rs
     → IsStrictlySortedBy id_cmp (keys_of os) → covered (r ∷ rs) os ≡ within r os ++ covered rs os
 covered_first r rs os before sorted =
     parts_follow (in_range r) (covers rs) os (λ a b less has. behind_has_not r a b (behind r rs a before has) less)
-        (λ a has. not_later r rs a before has) sorted
+    (λ a has. not_later r rs a before has) sorted
 
 pub covered_none : (os : List Operation) → covered [] os ≡ []
 covered_none [] = refl
@@ -90,7 +90,7 @@ pub covered_lacking : (m : Operations) (ranges others parts : List IdRange) → 
 covered_lacking m ranges others parts just split =
     filter_same (λ o. covers parts o.0) (λ o. not (covers others o.0)) (map.entries m)
     (each_id (λ id. covers parts id ≡ not (covers others id)) m (map.entries m)
-        (λ id there. split id ∙ ap (λ b. b && not (covers others id)) (just id ∙ there)) (each_found m))
+    (λ id there. split id ∙ ap (λ b. b && not (covers others id)) (just id ∙ there)) (each_found m))
 
 -- what holds of each of a list holds of each that a test keeps
 pub kept_all : (P : Operation → Type 0) (p : Operation → Bool) (os : List Operation) → AllByRecursion P os
@@ -133,11 +133,11 @@ copied_more os all es ranges i there apart sorted found =
     let rs = drop (i + 1) ranges in
     let parted = one_apart ranges i there apart in
     append_assoc os (within r es) (covered rs es) ∙ ap (λ xs. os ++ xs) (sym (covered_first r rs es parted.1 sorted))
-        ∙ ap (λ xs. os ++ covered xs es) (sym (drop_more ranges i blank there)) ∙ found
+    ∙ ap (λ xs. os ++ covered xs es) (sym (drop_more ranges i blank there)) ∙ found
 
 -- and at the end they are there
 pub copied_all : (os all es : List Operation) (ranges : List IdRange) (i : ℕ) → length ranges ≤ i
     → os ++ covered (drop i ranges) es ≡ all → os ≡ all
 copied_all os all es ranges i over found =
     sym (append-nil os) ∙ ap (λ xs. os ++ xs) (sym (covered_none es))
-        ∙ ap (λ xs. os ++ covered xs es) (sym (drop_all i ranges over)) ∙ found
+    ∙ ap (λ xs. os ++ covered xs es) (sym (drop_all i ranges over)) ∙ found

@@ -67,7 +67,7 @@ pub entries_of : {X : Type 0} (es : List (OpId × X)) → IsStrictlySortedBy id_
     ≡ es
 entries_of es h =
     same_lists id_cmp id_total id_exact (map.entries (map_of es)) es (map.entries_sorted (map_of es)) (sorted_from es h)
-        (λ q. sym (map.get-entries (map_of es) q) ∙ map.get-from_entries id_total es q)
+    (λ q. sym (map.get-entries (map_of es) q) ∙ map.get-from_entries id_total es q)
 
 is_less : (r : Ordering) → T (is_lt r) → r ≡ Less
 is_less Less h = refl
@@ -103,8 +103,8 @@ pub each_entry : {X : Type 0} (P : X → Type 0) (m : map.FinMap id_cmp X)
 each_entry P m h =
     let es = map.entries m in
     by_values P es (recursion_from_All P (values_of es)
-        (All-values_from_lookup (eq_by_cmp_equiv id_total) P es
-        (IsDistinct-from_sorted id_cmp (keys_of es) (ids_rise m))
+    (All-values_from_lookup (eq_by_cmp_equiv id_total) P es
+    (IsDistinct-from_sorted id_cmp (keys_of es) (ids_rise m))
     (λ q. some_of P (value_at es q) (λ s e. h q s (map.get-entries m q ∙ find_value es q ∙ e)))))
 
 apart : (r : Ordering) → T (is_lt r) → is_eq r ≡ false
@@ -126,10 +126,10 @@ place_finds [] i o h e = absurd (true≢false (sym (ap is_some e)))
 place_finds (x ∷ es) zero o h e =
     let same : x ≡ o = ap (λ u. unwrap_or u x) e in
     ap (λ y. find id_cmp y.0 (x ∷ es)) (sym same) ∙ ap (λ r. cond (is_eq r) (Some x.1) (find id_cmp x.0 es))
-        (tied_itself id_total x.0) ∙ ap (λ y. Some y.1) same
+    (tied_itself id_total x.0) ∙ ap (λ y. Some y.1) same
 place_finds (x ∷ es) (suc i) o h e =
     ap (λ b. cond b (Some x.1) (find id_cmp o.0 es)) ((eq_by_cmp_equiv id_total).symm o.0 x.0
-        ∙ later_differs x.0 es i o (first _ _ h) e) ∙ place_finds es i o (second _ _ h) e
+    ∙ later_differs x.0 es i o (first _ _ h) e) ∙ place_finds es i o (second _ _ h) e
 
 all_at : {X : Type 0} (P : X → Type 0) (xs : List X) → ((i : ℕ) (x : X) → slice_get xs i ≡ Some x → P x)
     → AllByRecursion P xs

@@ -63,26 +63,26 @@ fresh_push m (p ∷ os) o = by (map.get m p.0) refl (fresh_push m os o) (fresh_p
     by : (x : Option Store) → map.get m p.0 ≡ x → sum_of (fresh m (os ++ o ∷ [])) ≡ sum_of (fresh m os) ⊕ added
         (map.contains_key (union m os) o.0) o.1
         → sum_of (fresh (map.insert m p.0 p.1) (os ++ o ∷ [])) ≡ sum_of (fresh (map.insert m p.0 p.1) os) ⊕ added
-            (map.contains_key (union (map.insert m p.0 p.1) os) o.0) o.1
+        (map.contains_key (union (map.insert m p.0 p.1) os) o.0) o.1
         → sum_of (fresh m (p ∷ (os ++ o ∷ []))) ≡ sum_of (fresh m (p ∷ os)) ⊕ added
-            (map.contains_key (union m (p ∷ os)) o.0) o.1
+        (map.contains_key (union m (p ∷ os)) o.0) o.1
     by (Some s) e old new =
         let same : union m (p ∷ os) ≡ union m os = sym (union_more m (p ∷ []) os)
-            ∙ ap (λ n. union n os) (union_held m p s e) in
+        ∙ ap (λ n. union n os) (union_held m p s e) in
         choose_old (map.contains_key m p.0) (fresh m (os ++ o ∷ [])) (p ∷ fresh (map.insert m p.0 p.1) (os ++ o ∷ []))
-            (fresh m os) (p ∷ fresh (map.insert m p.0 p.1) os)
+        (fresh m os) (p ∷ fresh (map.insert m p.0 p.1) os)
         (added (map.contains_key (union m (p ∷ os)) o.0) o.1) (ap is_some e)
         (old ∙ ap (λ n. sum_of (fresh m os) ⊕ added (map.contains_key n o.0) o.1) (sym same))
     by None e old new =
         let same : union m (p ∷ os) ≡ union (map.insert m p.0 p.1) os = sym (union_more m (p ∷ []) os)
-            ∙ ap (λ n. union n os) (union_new m p e) in
+        ∙ ap (λ n. union n os) (union_new m p e) in
         choose_new (map.contains_key m p.0) (fresh m (os ++ o ∷ [])) (p ∷ fresh (map.insert m p.0 p.1) (os ++ o ∷ []))
-            (fresh m os) (p ∷ fresh (map.insert m p.0 p.1) os)
+        (fresh m os) (p ∷ fresh (map.insert m p.0 p.1) os)
         (added (map.contains_key (union m (p ∷ os)) o.0) o.1) (ap is_some e)
         (ap (λ t. p.1 ⊕ t) (new ∙ ap (λ n. sum_of (fresh (map.insert m p.0 p.1) os) ⊕ added
-            (map.contains_key n o.0) o.1) (sym same))
+        (map.contains_key n o.0) o.1) (sym same))
         ∙ sym (plus_assoc p.1 (sum_of (fresh (map.insert m p.0 p.1) os))
-            (added (map.contains_key (union m (p ∷ os)) o.0) o.1)))
+        (added (map.contains_key (union m (p ∷ os)) o.0) o.1)))
 
 noted : (a old new here : Bool) → new ≡ cond here true old → (a || new) ≡ ((a || old) || here)
 noted true old new here e = refl
@@ -110,7 +110,7 @@ module _ (m : Operations) (ops : List Operation) (i : ℕ) (o : Operation) (ther
       → (q : OpId) → map.contains_key (union m (take (i + 1) ops)) q ≡ is_held_or_seen m new q
   known_more old new h g q =
       ap (λ os. map.contains_key (union m os) q) next ∙ known_push m (take i ops) o q
-          ∙ ap (λ b. b || eq_by_cmp id_cmp q o.0) (h q) ∙ sym (g q)
+      ∙ ap (λ b. b || eq_by_cmp id_cmp q o.0) (h q) ∙ sym (g q)
 
   -- what is new by then
   sum_more : (known : Bool) (atoms : List Atom) → store_of atoms ≡ sum_of (fresh m (take i ops))
@@ -124,7 +124,7 @@ module _ (m : Operations) (ops : List Operation) (i : ℕ) (o : Operation) (ther
       ≡ sum_of (fresh m (take (i + 1) ops))
   atoms_more atoms more h k e =
       ap store_of e ∙ store_of-append atoms (bag.items o.1) ∙ ap (λ s. store_of atoms ⊕ s) (store_of-items o.1)
-          ∙ sym (sum_more false atoms h k)
+      ∙ sym (sum_more false atoms h k)
 
   pub atoms_kept : (atoms : List Atom) → store_of atoms ≡ sum_of (fresh m (take i ops))
       → map.contains_key (union m (take i ops)) o.0 ≡ true → store_of atoms ≡ sum_of (fresh m (take (i + 1) ops))
@@ -134,4 +134,4 @@ pub known_first : (m : Operations) (seen : BTreeSet OpId) → seen.keys ≡ [] �
     → map.contains_key (union m []) q ≡ is_held_or_seen m seen q
 known_first m seen none q =
     ap (λ n. map.contains_key n q) (union_none m) ∙ sym (or-false (map.contains_key m q))
-        ∙ ap (λ ks. map.contains_key m q || list_any (eq_by_cmp id_cmp q) ks) (sym none)
+    ∙ ap (λ ks. map.contains_key m q || list_any (eq_by_cmp id_cmp q) ks) (sym none)

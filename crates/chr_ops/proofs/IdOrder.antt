@@ -16,7 +16,7 @@ pub id_exact : IsAntisymmetric id_cmp
 id_exact a b h =
     ap (λ (p : ℕ × ℕ). record { origin = p.0; number = p.1 })
     (exact_pairs nat_cmp nat_cmp nat_cmp-IsAntisymmetric nat_cmp-IsAntisymmetric (a.origin, a.number)
-        (b.origin, b.number) h)
+    (b.origin, b.number) h)
 
 -- ids that are found the same are one
 pub same_id : (a b : OpId) → eq_by_cmp id_cmp a b ≡ true → a ≡ b

@@ -28,5 +28,5 @@ module _ (before now : Operations) (ops : List Operation) (i : ℕ) (x : Operati
       let same : j ≡ i = omega (arith, l, more) in
       let o_is : x ≡ o = is ∙ ap (λ k. get_or ops k x) (sym same) ∙ get_or_from_slice_get ops j o x at in
       free (subst (λ m. IsHeldOtherwise m x) (ap (λ k. union before (take k ops)) same ∙ sym taken)
-          (subst (IsHeldOtherwise (union before (take j ops))) (sym o_is) held))
+      (subst (IsHeldOtherwise (union before (take j ops))) (sym o_is) held))
       )) (cases_lt j i)

@@ -47,7 +47,7 @@ sized_inserted m k v sized h q s g = by (eq_by_cmp id_cmp q k) (sym (map.get-ins
 pub kept_insert : (told : ℕ) (rs ss : List IdRange) (m : Operations) (k : OpId) (v : Store) → IsKept told rs m
     → map.get m k ≡ None → IsOperationBag v → told + size v ≤ MAX_TOLD
     → IsApart ss → ((q : OpId) → covers ss q ≡ (covers rs q || is_among_ends (k ∷ []) q))
-        → IsKept (told + size v) ss (map.insert m k v)
+    → IsKept (told + size v) ss (map.insert m k v)
 kept_insert told rs ss m k v h new sized room apart covered = record {
   counted = ap (λ n. n + size v) h.counted ∙ sym (size_inserted m k v new);
   within = room;

@@ -29,7 +29,7 @@ find-lacking : (n : Operations) (rs : List IdRange) (q : OpId) → find id_cmp q
     (map.get n q)
 find-lacking n rs q =
     find-where_key id_cmp (λ k. not (covers rs k)) q (λ x t. ap (λ k. not (covers rs k)) (sym (id_exact q x t)))
-        (map.entries n)
+    (map.entries n)
     ∙ flip (covers rs q) (find id_cmp q (map.entries n)) ∙ ap (cond (covers rs q) None) (sym (map.get-entries n q))
 
 pub lacked : law.LackedLaw
@@ -42,7 +42,7 @@ either (Some s) y = refl
 pub exchange : law.ExchangeLaw
 exchange m n rs just = map.same_map id_total id_exact _ _ (λ q.
     get-union m (lacking n rs) q ∙ ap (option_or (map.get m q)) (lacked m n rs just q)
-        ∙ either (map.get m q) (map.get n q)
+    ∙ either (map.get m q) (map.get n q)
     ∙ ap (option_or (map.get m q)) (map.get-entries n q) ∙ sym (get-union m (map.entries n) q))
 
 one_or_other : (x y : Option Store) → ((s t : Store) → x ≡ Some s → y ≡ Some t → s ≡ t) → option_or x y ≡ option_or y x
@@ -54,7 +54,7 @@ one_or_other (Some s) (Some t) h = ap Some (h s t refl refl)
 pub one_union : law.OneUnionLaw
 one_union m n one = map.same_map id_total id_exact _ _ (λ q.
     get-union m (map.entries n) q ∙ ap (option_or (map.get m q)) (sym (map.get-entries n q))
-        ∙ one_or_other (map.get m q) (map.get n q) (one q)
+    ∙ one_or_other (map.get m q) (map.get n q) (one q)
     ∙ ap (option_or (map.get n q)) (map.get-entries m q) ∙ sym (get-union n (map.entries m) q))
 
 -- a front finds what the whole list finds, or nothing
@@ -65,7 +65,7 @@ front_finds [] (suc i) q = inl refl
 front_finds (x ∷ es) zero q = inl refl
 front_finds (x ∷ es) (suc i) q =
     elim (eq_by_cmp id_cmp q x.0) as (λ b. (cond b (Some x.1) (find id_cmp q (take i es)) ≡ None)
-        ⊎ (cond b (Some x.1) (find id_cmp q (take i es)) ≡ cond b (Some x.1) (find id_cmp q es))) [
+    ⊎ (cond b (Some x.1) (find id_cmp q (take i es)) ≡ cond b (Some x.1) (find id_cmp q es))) [
       | true ↦ inr refl
       | false ↦ front_finds es i q
     ]
@@ -84,6 +84,6 @@ no_clash m n rs just i id (o, at, e, held) =
     let found = place_finds (lacking n rs) i o sorted at in
     let new = none_held (map.get m o.0) (map.get n o.0) o.1 (sym (lacked m n rs just o.0) ∙ found) in
     let got = get-union m (take i (lacking n rs)) o.0 ∙ ap (λ x. option_or x (find id_cmp o.0 (take i (lacking n rs))))
-        new in
+    new in
     no_other (map.get (union m (take i (lacking n rs))) o.0) o.1
-        (⊎_elim (λ none. inl (got ∙ none)) (λ same. inr (got ∙ same ∙ found)) (front_finds (lacking n rs) i o.0)) held
+    (⊎_elim (λ none. inl (got ∙ none)) (λ same. inr (got ∙ same ∙ found)) (front_finds (lacking n rs) i o.0)) held

@@ -33,7 +33,7 @@ pub covers_more : (xs : List IdRange) (i : ℕ) (d : IdRange) (id : OpId) → i 
     ≡ (covers (take i xs) id || in_range (get_or xs i d) id)
 covers_more xs i d id l =
     ap (λ ys. covers ys id) (take_more xs i d l) ∙ list_any-append (λ r. in_range r id) (take i xs) (get_or xs i d ∷ [])
-        ∙ ap (λ b. covers (take i xs) id || b) (or-false (in_range (get_or xs i d) id))
+    ∙ ap (λ b. covers (take i xs) id || b) (or-false (in_range (get_or xs i d) id))
 
 pub starts_more : (xs : List IdRange) (i : ℕ) (d : IdRange) (old new : List IdRange) → IsSorted range_cmp xs
     → i + 1 < length xs → AllStartBy old (get_or xs i d) → IsMerged old (get_or xs i d) new

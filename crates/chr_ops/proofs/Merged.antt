@@ -89,8 +89,8 @@ module _ (front : List IdRange) (last next : IdRange) (apart : IsApart (front ++
         covering = λ id. covers_push front (hull last next) id
             ∙ regroup (covers front id) (in_range last id) (in_range (hull last next) id) (in_range next id)
             (hull_has last.origin last.lo last.hi next.lo next.hi id.origin id.number first near
-                ∙ ap (λ o. in_range last id || (o == id.origin && nat_le next.lo id.number && nat_le id.number next.hi))
-                same)
+            ∙ ap (λ o. in_range last id || (o == id.origin && nat_le next.lo id.number && nat_le id.number next.hi))
+            same)
             ∙ ap (λ b. b || in_range next id) (sym (covers_push front last id));
         in_order = λ later h g. all_push (λ r. StartsBy r later) front (hull last next)
             (all_front (λ r. StartsBy r later) front last g) (all_last (λ r. StartsBy r later) front last g);
@@ -101,8 +101,11 @@ module _ (front : List IdRange) (last next : IdRange) (apart : IsApart (front ++
   merged_behind far =
       let parts = apart_front front last apart in
       let first = all_last (λ r. StartsBy r next) front last starts in
-      let before : IsBefore last next = (first.0, λ same. ⊎_elim (λ less. less) (λ more. absurd (far (same, more)))
-          (cases_lt (last.hi + 1) next.lo)) in
+      let before : IsBefore last next = (
+        first.0,
+        λ same. ⊎_elim (λ less. less) (λ more. absurd (far (same, more)))
+            (cases_lt (last.hi + 1) next.lo),
+      ) in
       record {
         apart = apart_push (front ++ last ∷ []) next apart
             (all_push (λ r. IsBefore r next) front last

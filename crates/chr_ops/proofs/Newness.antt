@@ -37,7 +37,7 @@ among_lacking m n ids summary lacks just =
     filter_same (λ o. is_one_of ids o.0 && not (map.contains_key n o.0)) (λ o. not (covers summary o.0)) (map.entries m)
     (each_id (λ id. (is_one_of ids id && not (map.contains_key n id)) ≡ not (covers summary id)) m (map.entries m)
     (λ id there. wanted (is_one_of ids id) (map.contains_key n id) (lacks id there) ∙ ap not (sym (just id)))
-        (each_found m))
+    (each_found m))
 
 -- what ranges of just some wanted ids cover
 pub covered_among : (m n : Operations) (ids : List OpId) (ranges : List IdRange)
@@ -46,7 +46,7 @@ pub covered_among : (m n : Operations) (ids : List OpId) (ranges : List IdRange)
 covered_among m n ids ranges split =
     filter_same (λ o. covers ranges o.0) (λ o. is_one_of ids o.0 && not (map.contains_key n o.0)) (map.entries m)
     (each_id (λ id. covers ranges id ≡ (is_one_of ids id && not (map.contains_key n id))) m (map.entries m)
-        (λ id there. split id) (each_found m))
+    (λ id there. split id) (each_found m))
 
 either_one : (x y z : Bool) → (x ≡ true → y ≡ true) → (x || z) ≡ true → (y || z) ≡ true
 either_one true y z h e = ap (λ b. b || z) (h refl)
@@ -61,14 +61,14 @@ gained_true g h ids taker m n k (inr same) right grows mark at =
     let old = right mark (sym (ap (λ es. lookup (is_at (nat_cmp taker)) es) same.0) ∙ at) in
     let within = old.0 in
     let longer : length h.ids.items ≡ length g.ids.items + length ids =
-        ap length same.1 ∙ length-append g.ids.items ids in (
+    ap length same.1 ∙ length-append g.ids.items ids in (
       omega (arith, within, longer),
       λ q there lacks.
           ap (λ xs. is_one_of (drop mark xs) q) same.1
           ∙ ap (λ xs. is_one_of xs q) (drop-append-le mark g.ids.items ids within)
           ∙ list_any-append (eq_by_cmp id_cmp q) (drop mark g.ids.items) ids
           ∙ either_one (map.contains_key m q) (is_one_of (drop mark g.ids.items) q) (is_one_of ids q)
-              (λ had. old.1 q had lacks) (grows q there),
+          (λ had. old.1 q had lacks) (grows q there),
     )
 
 -- what stands under a number after it was written there

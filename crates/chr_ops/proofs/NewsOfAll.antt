@@ -23,7 +23,7 @@ found_one : (q : OpId) (os : List Operation) → is_some (find id_cmp q os) ≡ 
 found_one q [] = refl
 found_one q (o ∷ os) =
     elim (eq_by_cmp id_cmp q o.0) as (λ b. is_some (cond b (Some o.1) (find id_cmp q os))
-        ≡ (b || is_one_of (ids_of os) q)) [
+    ≡ (b || is_one_of (ids_of os) q)) [
       | true ↦ refl
       | false ↦ found_one q os
     ]
@@ -36,7 +36,7 @@ union_there : (m : Operations) (os : List Operation) (q : OpId) → map.contains
     ≡ (map.contains_key m q || is_one_of (ids_of os) q)
 union_there m os q =
     ap is_some (get-union m os q) ∙ either_there (map.get m q) (find id_cmp q os) ∙ ap (λ b. map.contains_key m q || b)
-        (found_one q os)
+    (found_one q os)
 
 -- a union holds no ids but those of the set and of the list
 pub union_gains : (m : Operations) (os : List Operation) → GainsOnly m (union m os) (ids_of os)
@@ -80,8 +80,12 @@ was ms i m k j now there at = elim (eqb_tells j i) as (λ _. Was ms i m k j now)
   | inl e ↦ record {
     before = m;
     there = ap (slice_get ms) e.1 ∙ there;
-    how = inl (e.1, refl, same_Some now k (sym at ∙ ap (slice_get (slice_set ms i k)) e.1
-        ∙ set_here ms i k (slice_get_within ms i m there)));
+    how = inl (
+      e.1,
+      refl,
+      same_Some now k (sym at ∙ ap (slice_get (slice_set ms i k)) e.1
+          ∙ set_here ms i k (slice_get_within ms i m there)),
+    );
   }
   | inr n ↦ record { before = now; there = sym (set_elsewhere ms i j k n.1) ∙ at; how = inr (n.1, refl) }
 ]
@@ -104,7 +108,7 @@ pub gained_all : (v w : News) (giver : ℕ) (ids : List OpId) (ms : List Operati
     → ((b : ℕ) (m n k : Operations) → IsTrueOf v giver b m n → GainsOnly m k ids → IsTrueOf w giver b k n)
     → ((a b : ℕ) (m n : Operations) → a ≢ giver → IsTrueOf v a b m n → IsTrueOf w a b m n)
     → slice_get ms giver ≡ Some m → GainsOnly m k ids → HoldsAll k m → IsTrueOfAll v ms
-        → IsTrueOfAll w (slice_set ms giver k)
+    → IsTrueOfAll w (slice_set ms giver k)
 gained_all v w giver ids ms m k gives others there grows holds right a b s t at_a at_b =
     let x = was ms giver m k a s there at_a in
     let y = was ms giver m k b t there at_b in
@@ -135,7 +139,7 @@ met_all v w giver taker ms m n meets takers others there_m there_n holds right a
       | inl e ↦
           subst (λ a. IsTrueOf w a b s t) (sym e.1)
           (of_giver (sym at_a ∙ ap (slice_get ms) e.1 ∙ there_m)
-              (subst (λ a. IsTrueOf v a b s t) e.1 (right a b s t at_a at_b)))
+          (subst (λ a. IsTrueOf v a b s t) e.1 (right a b s t at_a at_b)))
       | inr far ↦ others a b s t far.1 (right a b s t at_a at_b)
     ]
   where

@@ -60,7 +60,7 @@ module _ (m : Ends) (id : OpId) (d : AreAsLongAsPossible m) (new : covers (end_r
     grown_is = map.same_map id_total id_exact _ _ (λ q.
         map.get-remove id_total (map.insert own k id.number) id q
         ∙ ap (cond (eq_by_cmp id_cmp q id) None) (map.get-insert id_total own k id.number q
-            ∙ ap (cond (eq_by_cmp id_cmp q k) (Some id.number)) (get_own q))
+        ∙ ap (cond (eq_by_cmp id_cmp q k) (Some id.number)) (get_own q))
         ∙ by q (eq_by_cmp id_cmp q id) refl ∙ sym (map.get-insert id_total m k id.number q))
       where
         by : (q : OpId) (b : Bool) → eq_by_cmp id_cmp q id ≡ b
@@ -87,7 +87,7 @@ module _ (m : Ends) (id : OpId) (d : AreAsLongAsPossible m) (new : covers (end_r
       by : (b : Bool) → eq_by_cmp id_cmp k id ≡ b → ⊥
       by true e = (
           let last : h ≡ id.number = ap (λ o. unwrap_or o h)
-              (sym at ∙ get_own k ∙ ap (λ b. cond b (Some id.number) (map.get m k)) e) in
+          (sym at ∙ get_own k ∙ ap (λ b. cond b (Some id.number) (map.get m k)) e) in
           omega (arith, last, touch)
           )
       by false e = none k (h, sym (get_own k ∙ ap (λ b. cond b (Some id.number) (map.get m k)) e) ∙ at, org, touch)
@@ -108,9 +108,10 @@ module _ (m : Ends) (id : OpId) (d : AreAsLongAsPossible m) (new : covers (end_r
   covered_after : (n o : Ends) (put : IsPutIn m id n) → AreJoined put.laid (λ q. is_beside q id) o → IsCoveredBy o
   covered_after n o put after =
       let joined = joined_for put.laid o (λ q. is_beside q id) (λ q. list_any (is_beside q) (id ∷ []))
-      (λ q s e. ap (λ b. b || false) e) after in
-      (joined_longest m (id ∷ []) put.laid d all_new put.is o joined,
-          joined_covers m (id ∷ []) put.laid d all_new put.is o joined)
+      (λ q s e. ap (λ b. b || false) e) after in (
+        joined_longest m (id ∷ []) put.laid d all_new put.is o joined,
+        joined_covers m (id ∷ []) put.laid d all_new put.is o joined,
+      )
 
   -- where it is then joined to the range that begins right behind it
   pub covered_before : (n o : Ends) → IsPutIn m id n → AreJoined n (λ q. eq_by_cmp id_cmp q (next_id id)) o

@@ -26,8 +26,11 @@ behind r (s ∷ ss) id all h = by (in_range s id) refl h (behind r ss id all.1)
         let o = in_origin s id e in
         let l = in_low s id e in
         let first = all.0.0 in
-        record { origin = omega (arith, o, first); number =
-            λ same. (let before = all.0.1 (same ∙ sym o) in omega (arith, before, l)) }
+        record {
+          origin = omega (arith, o, first);
+          number =
+              λ same. (let before = all.0.1 (same ∙ sym o) in omega (arith, before, l));
+        }
 
 -- an id of a list of ranges comes no earlier than the first one's beginning
 pub record From (r : IdRange) (id : OpId) : Type 0 where
@@ -118,5 +121,5 @@ one (r ∷ rs) (s ∷ ss) apart apart' same = with_first (same_first r s rs ss a
     with_first e more =
         let moved : IsApart (r ∷ ss) = subst (λ x. IsApart (x ∷ ss)) (sym e) apart' in
         let rest = more apart'.2 (later_same r rs ss apart moved
-            (λ id. same id ∙ ap (λ x. covers (x ∷ ss) id) (sym e))) in
+        (λ id. same id ∙ ap (λ x. covers (x ∷ ss) id) (sym e))) in
         λ i. e i ∷ rest i

@@ -23,7 +23,7 @@ IsBehind r s = (r.origin ≤ s.origin) × (r.origin ≡ s.origin → r.hi < s.lo
 behind_misses : (r s : IdRange) (id : OpId) → IsBehind r s → in_range r id ≡ true → in_range s id ≡ false
 behind_misses r s id behind has =
     ⊎_elim (λ e. (let far = behind.1 e in grind (arith, nat_tests, e, far, has)))
-        (λ ne. (let far = behind.0 in grind (arith, nat_tests, ne, far, has))) (cases_eq r.origin s.origin)
+    (λ ne. (let far = behind.0 in grind (arith, nat_tests, ne, far, has))) (cases_eq r.origin s.origin)
 
 behind_further : (r s t : IdRange) → IsBehind r s → s.lo ≤ s.hi → IsBefore s t → IsBehind r t
 behind_further r s t h l g = (
@@ -39,7 +39,7 @@ all_miss : (r s : IdRange) (rs : List IdRange) (id : OpId) → IsBehind r s → 
 all_miss r s [] id behind range before has = refl
 all_miss r s (t ∷ rs) id behind range before has =
     ap (λ b. b || covers rs id) (behind_misses r t id (behind_further r s t behind range before.0) has)
-        ∙ all_miss r s rs id behind range before.1 has
+    ∙ all_miss r s rs id behind range before.1 has
 
 whole : (a c : Bool) → (a ≡ true → c ≡ false) → (a || false) ≡ (a && not c)
 whole true c h = ap not (sym (h refl))
@@ -64,10 +64,13 @@ none_left parts r next = all_left parts r [] next (λ id _. refl)
 pub next_behind : (parts : List IdRange) (r o : IdRange) (os : List IdRange) → IsNext parts r (o ∷ os)
     → ¬ ((o.origin ≡ r.origin) × (o.lo ≤ r.hi)) → AddsOutside parts r (o ∷ os) (parts ++ r ∷ [])
 next_behind parts r o os next far =
-    let behind : IsBehind r o = (begins_by r o next.not_ended.0, λ e. ⊎_elim (λ less. less)
-        (λ more. absurd (far (sym e, more))) (cases_lt r.hi o.lo)) in
+    let behind : IsBehind r o = (
+      begins_by r o next.not_ended.0,
+      λ e. ⊎_elim (λ less. less)
+          (λ more. absurd (far (sym e, more))) (cases_lt r.hi o.lo),
+    ) in
     all_left parts r (o ∷ os) next (λ id has. ap (λ b. b || covers os id) (behind_misses r o id behind has)
-        ∙ all_miss r o os id behind next.others_apart.0 next.others_apart.1 has)
+    ∙ all_miss r o os id behind next.others_apart.0 next.others_apart.1 has)
 
 -- whether an id is in the part of a range before another begins
 abbrev has_before : IdRange → IdRange → OpId → Bool
@@ -118,7 +121,7 @@ part_added parts r o apart behind near = ⊎_elim some none (cases_lt r.lo o.lo)
     none more =
         let is : nat_lt r.lo o.lo ≡ false = grind (arith, nat_tests, more) in
         subst (λ b. AddsPart parts r o (parts ++ cond b (part ∷ []) [])) (sym is)
-            (subst (AddsPart parts r o) (sym (append-nil parts)) (record {
+        (subst (AddsPart parts r o) (sym (append-nil parts)) (record {
           apart = apart;
           covering = λ id. or_none (covers parts id) ∙ ap (λ b. covers parts id || b) (sym (no_part r o id more));
           in_order = λ later h g. h;
@@ -130,14 +133,14 @@ other_misses : (r o s : IdRange) (id : OpId) → o.origin ≡ r.origin → o.lo 
     → nat_lt id.number o.lo ≡ true → in_range s id ≡ false
 other_misses r o s id same range before has less =
     ⊎_elim (λ e. (let far = before.1 e in grind (arith, nat_tests, same, range, e, far, has, less)))
-        (λ ne. (let far = before.0 in grind (arith, nat_tests, same, ne, far, has, less))) (cases_eq o.origin s.origin)
+    (λ ne. (let far = before.0 in grind (arith, nat_tests, same, ne, far, has, less))) (cases_eq o.origin s.origin)
 
 first_misses : (r o : IdRange) (os : List IdRange) (id : OpId) → o.origin ≡ r.origin → o.lo ≤ o.hi
     → AllByRecursion (IsBefore o) os → in_range r id ≡ true → nat_lt id.number o.lo ≡ true → covers os id ≡ false
 first_misses r o [] id same range before has less = refl
 first_misses r o (s ∷ os) id same range before has less =
     ap (λ b. b || covers os id) (other_misses r o s id same range before.0 has less)
-        ∙ first_misses r o os id same range before.1 has less
+    ∙ first_misses r o os id same range before.1 has less
 
 here_misses : (o : IdRange) (id : OpId) → nat_lt id.number o.lo ≡ true → in_range o id ≡ false
 here_misses o id less = grind (arith, nat_tests, less)
@@ -212,8 +215,11 @@ module _ (parts : List IdRange) (r o : IdRange) (os : List IdRange) (next : IsNe
     holds = omega (arith, less);
     apart = added.apart;
     behind = added.behind (left_behind r o) (all_map (λ s. IsBefore s r) (λ s. IsBefore s (left_behind r o)) parts
-        (λ s h. (h.0, λ e. (let far = h.1 e in let in_it = ends_in r o next.not_ended.0 same in
-        omega (arith, far, in_it)))) next.behind)
+        (λ s h. (
+          h.0,
+          λ e. (let far = h.1 e in let in_it = ends_in r o next.not_ended.0 same in
+              omega (arith, far, in_it)),
+        )) next.behind)
         refl (let range = next.others_apart.0 in omega (arith, range));
     others_apart = next.others_apart.2;
     not_ended = left_not_ended r o os same next.others_apart.1 next.others_apart.2;
@@ -226,11 +232,11 @@ module _ (parts : List IdRange) (r o : IdRange) (os : List IdRange) (next : IsNe
     covering = λ id. h.covering id ∙ ap (λ b. b || (in_range (left_behind r o) id && not (covers os id)))
         (added.covering id)
         ∙ regroup (covers parts id) (has_before r o id) (in_range (left_behind r o) id && not (covers os id))
-            (in_range r id && not (in_range o id || covers os id))
+        (in_range r id && not (in_range o id || covers os id))
         (ap (λ b. has_before r o id || (b && not (covers os id)))
-            (left_has r o id same next.others_apart.0 (ends_in r o next.not_ended.0 same))
+        (left_has r o id same next.others_apart.0 (ends_in r o next.not_ended.0 same))
         ∙ settle_more (in_range r id) (nat_lt id.number o.lo) (in_range o id) (covers os id) (here_misses o id)
-            (misses id));
+        (misses id));
     in_order = λ later before after. h.in_order later (added.in_order later before after) after;
   }
 
@@ -255,7 +261,7 @@ pub none_front : (parts : List IdRange) (r : IdRange) (xs : List IdRange) → le
 none_front parts r xs below next =
     let none = no_front xs below in
     subst (λ ys. AddsOutside parts r ys (parts ++ r ∷ [])) (sym none)
-        (none_left parts r (subst (IsNext parts r) none next))
+    (none_left parts r (subst (IsNext parts r) none next))
 
 pub behind_front : (parts : List IdRange) (r : IdRange) (xs : List IdRange) → 1 ≤ length xs → IsNext parts r xs
     → ¬ (((front xs).origin ≡ r.origin) × ((front xs).lo ≤ r.hi)) → AddsOutside parts r xs (parts ++ r ∷ [])
@@ -278,11 +284,11 @@ left_front parts r (x ∷ xs) some next same near less = subst (IsNext (parts ++
 pub added_front : (parts : List IdRange) (r : IdRange) (xs : List IdRange) → 1 ≤ length xs → IsNext parts r xs
     → (front xs).origin ≡ r.origin → (front xs).lo ≤ r.hi
     → (new : List IdRange) → AddsOutside (parts ++ part_before r (front xs)) (left_behind r (front xs))
-        (others_of xs) new → AddsOutside parts r xs new
+    (others_of xs) new → AddsOutside parts r xs new
 added_front parts r [] some next same near new h = absurd (omega (arith, some))
 added_front parts r (x ∷ xs) some next same near new h =
     added_left parts r x xs next same near new (subst (λ ys. AddsOutside (parts ++ part_before r x)
-        (left_behind r x) ys new) (cut x xs) h)
+    (left_behind r x) ys new) (cut x xs) h)
 
 -- parts are had of the ranges before some, and others are left that none of these begins behind
 pub record IsWalked (parts rs rest ranges others : List IdRange) : Type 0 where

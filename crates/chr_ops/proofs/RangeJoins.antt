@@ -68,8 +68,12 @@ module _ (m : Ends) (k id : OpId) (h g : ℕ) (d : AreDisjoint m) (at_k : map.ge
           → cond b None (cond c (Some g) (map.get m q)) ≡ Some x → ((q ≡ k) × (x ≡ g)) ⊎ IsOther q x
       by true c p r f = absurd (some_not_none None x refl f)
       by false true p r f = inl (same_id q k r, sym (ap (λ o. unwrap_or o g) f))
-      by false false p r f = inr record { not_id = λ s. true≢false (sym (eq_from q id s) ∙ p); not_k =
-          λ s. true≢false (sym (eq_from q k s) ∙ r); at = f }
+      by false false p r f = inr record {
+        not_id = λ s. true≢false (sym (eq_from q id s) ∙ p);
+        not_k =
+            λ s. true≢false (sym (eq_from q k s) ∙ r);
+        at = f;
+      }
 
   other_stays : (q : OpId) (x : ℕ) → IsOther q x → map.get joined q ≡ Some x
   other_stays q x o = get_joined q ∙ ap (λ b. cond b None (cond (eq_by_cmp id_cmp q k) (Some g) (map.get m q)))
@@ -88,15 +92,15 @@ module _ (m : Ends) (k id : OpId) (h g : ℕ) (d : AreDisjoint m) (at_k : map.ge
       let last = f.1 in
       let big = (d.fits id g at_id).1 in
       (omega (arith, n, last, k_low, id_low, touch), omega (arith, last, big)))) (λ o. d.fits q x o.at)
-          (is_either q x e)
+      (is_either q x e)
 
   -- an other range that begins behind the first begins behind the second
   behind : (l : OpId) (y : ℕ) → IsOther l y → k.origin ≡ l.origin → k.number < l.number → g < l.number
   behind l y o org less =
       let past = d.apart k l h y at_k o.at org less in
       ⊎_elim (λ more. d.apart id l g y at_id o.at (sym same ∙ org) more)
-          (λ no. absurd (o.not_id (one_id l id (sym org ∙ same) (omega (arith, past, no, touch)))))
-          (cases_lt id.number l.number)
+      (λ no. absurd (o.not_id (one_id l id (sym org ∙ same) (omega (arith, past, no, touch)))))
+      (cases_lt id.number l.number)
 
   apart : (q l : OpId) (x y : ℕ) → map.get joined q ≡ Some x → map.get joined l ≡ Some y → q.origin ≡ l.origin
       → q.number < l.number → x < l.number
@@ -136,9 +140,9 @@ module _ (m : Ends) (k id : OpId) (h g : ℕ) (d : AreDisjoint m) (at_k : map.ge
           let high = in_high (end_range (j, x)) q has in
           let last = f.1 in
           ⊎_elim (λ far. has_covers m q id g at_id (in_from (end_range (id, g)) q (sym same ∙ sym org ∙ o)
-              (omega (arith, far, touch)) (omega (arith, high, last))))
+          (omega (arith, far, touch)) (omega (arith, high, last))))
           (λ near. has_covers m q k h at_k (in_from (end_range (k, h)) q (sym org ∙ o) (omega (arith, low, n)) near))
-              side
+          side
 
   new_covers : (q : OpId) → HasOne m q → covers (end_ranges joined) q ≡ true
   new_covers q (j, x, at, has) = by (eq_by_cmp id_cmp j id) (eq_by_cmp id_cmp j k) refl refl
@@ -162,16 +166,20 @@ module _ (m : Ends) (k id : OpId) (h g : ℕ) (d : AreDisjoint m) (at_k : map.ge
           let org : j.origin ≡ id.origin = ap (λ a. a.origin) e in
           let last = value g (ap (map.get m) e ∙ at_id) in
           has_covers joined q k g first_stays (in_from (end_range (k, g)) q (same ∙ sym org ∙ o)
-              (omega (arith, k_low, touch, n, low)) (omega (arith, high, last)))
+          (omega (arith, k_low, touch, n, low)) (omega (arith, high, last)))
       by false true p r =
           let e = same_id j k r in
           let n : j.number ≡ k.number = ap (λ a. a.number) e in
           let org : j.origin ≡ k.origin = ap (λ a. a.origin) e in
           let last = value h (ap (map.get m) e ∙ at_k) in
           has_covers joined q k g first_stays (in_from (end_range (k, g)) q (sym org ∙ o) (omega (arith, n, low))
-              (omega (arith, high, last, touch, id_low)))
-      by false false p r = has_covers joined q j x (other_stays j x record { not_id =
-          λ s. true≢false (sym (eq_from j id s) ∙ p); not_k = λ s. true≢false (sym (eq_from j k s) ∙ r); at = at }) has
+          (omega (arith, high, last, touch, id_low)))
+      by false false p r = has_covers joined q j x (other_stays j x record {
+        not_id =
+            λ s. true≢false (sym (eq_from j id s) ∙ p);
+        not_k = λ s. true≢false (sym (eq_from j k s) ∙ r);
+        at = at;
+      }) has
 
   begins : (q : OpId) (x : ℕ) → map.get joined q ≡ Some x → IsSome (map.get m q)
   begins q x at = ⊎_elim (λ f. ap is_some (ap (map.get m) f.0 ∙ at_k)) (λ o. ap is_some o.at) (is_either q x at)
@@ -182,15 +190,17 @@ module _ (m : Ends) (k id : OpId) (h g : ℕ) (d : AreDisjoint m) (at_k : map.ge
       let b : j.origin ≡ k.origin = ap (λ a. a.origin) f.0 in
       let last = f.1 in
       (id, (g, at_id, sym same ∙ sym b ∙ org, omega (arith, next, last)), there)))
-          (λ o. (j, (x, o.at, org, next), there)) (is_either j x at)
+      (λ o. (j, (x, o.at, org, next), there)) (is_either j x at)
 
   seams : (q : OpId) → IsSeam joined q → IsSeam m q × (eq_by_cmp id_cmp q id ≡ false)
   seams q (j, (x, at, org, next), there) = by (map.get joined q) refl there
     where
       by : (v : Option ℕ) → map.get joined q ≡ v → IsSome v → IsSeam m q × (eq_by_cmp id_cmp q id ≡ false)
       by None e t = absurd (true≢false (sym t))
-      by (Some y) e t = (old_seam q (begins q y e) j x at org next,
-          differs q id (λ s. some_not_none (map.get joined q) y (ap (map.get joined) s ∙ id_gone) e))
+      by (Some y) e t = (
+        old_seam q (begins q y e) j x at org next,
+        differs q id (λ s. some_not_none (map.get joined q) y (ap (map.get joined) s ∙ id_gone) e),
+      )
 
   pub touching_joined : AreJoined m (λ q. eq_by_cmp id_cmp q id) (map.remove (map.insert m k g) id)
   unfolding joined

@@ -44,8 +44,13 @@ entry_has (e ∷ es) q h = by (in_range (end_range e) q) refl h (λ g. later_has
     by false is g more = more g
 
 found_has : (m : Ends) (q : OpId) → EntryHas (map.entries m) q → HasOne m q
-found_has m q (i, e, at, has) = (e.0, e.1, map.get-entries m e.0
-    ∙ place_finds (map.entries m) i e (map.entries_sorted m) at, has)
+found_has m q (i, e, at, has) = (
+  e.0,
+  e.1,
+  map.get-entries m e.0
+      ∙ place_finds (map.entries m) i e (map.entries_sorted m) at,
+  has,
+)
 
 pub covers_has : (m : Ends) (q : OpId) → covers (end_ranges m) q ≡ true → HasOne m q
 covers_has m q h = found_has m q (entry_has (map.entries m) q h)
@@ -62,7 +67,7 @@ entry_covers (e ∷ es) q k h g has = by (eq_by_cmp id_cmp k e.0) refl g (λ f. 
         let key = same_id k e.0 same in
         let last : e.1 ≡ h = ap (λ o. unwrap_or o e.1) f in
         ap (λ b. b || covers (each end_range es) q) (sym
-            (ap (λ x. in_range (end_range (x, h)) q) key ∙ ap (λ y. in_range (end_range (e.0, y)) q) (sym last)) ∙ has)
+        (ap (λ x. in_range (end_range (x, h)) q) key ∙ ap (λ y. in_range (end_range (e.0, y)) q) (sym last)) ∙ has)
     by false same f more = ap (λ b. in_range (end_range e) q || b) (more f) ∙ or-true (in_range (end_range e) q)
 
 pub has_covers : (m : Ends) (q k : OpId) (h : ℕ) → map.get m k ≡ Some h → in_range (end_range (k, h)) q ≡ true
@@ -101,7 +106,7 @@ module _ (m : Ends) (d : AreAsLongAsPossible m) where
     λ same. (
         let ends = d.disjoint.apart e.0 f.0 e.1 f.1 at_e at_f same (less_number e.0 f.0 less same) in
         ⊎_elim (λ far. far) (λ near. absurd (d.closed f.0
-            (e.0, (e.1, at_e, same, omega (arith, ends, near)), ap is_some at_f))) (cases_lt (e.1 + 1) f.0.number)),
+        (e.0, (e.1, at_e, same, omega (arith, ends, near)), ap is_some at_f))) (cases_lt (e.1 + 1) f.0.number)),
   )
 
   all_before : (e : OpId × ℕ) (fs : List (OpId × ℕ)) → map.get m e.0 ≡ Some e.1
@@ -113,9 +118,11 @@ module _ (m : Ends) (d : AreAsLongAsPossible m) where
   entries_apart : (es : List (OpId × ℕ)) → AllByRecursion (λ e. map.get m e.0 ≡ Some e.1) es
       → IsStrictlySortedBy id_cmp (keys_of es) → IsApart (each end_range es)
   entries_apart [] at sorted = tt
-  entries_apart (e ∷ es) at sorted =
-      ((d.disjoint.fits e.0 e.1 at.0).0, all_before e es at.0 at.1 (sorted_head id_cmp e.0 (keys_of es) sorted),
-          entries_apart es at.1 (sorted_tail id_cmp e.0 (keys_of es) sorted))
+  entries_apart (e ∷ es) at sorted = (
+    (d.disjoint.fits e.0 e.1 at.0).0,
+    all_before e es at.0 at.1 (sorted_head id_cmp e.0 (keys_of es) sorted),
+    entries_apart es at.1 (sorted_tail id_cmp e.0 (keys_of es) sorted),
+  )
 
   -- ranges that are as long as possible are apart
   pub ranges_apart : IsApart (end_ranges m)
@@ -131,7 +138,7 @@ less_from j id e l = grind (arith, nat_tests, e, l)
 -- where the last range below an id does not end right before it, none does
 pub not_before : (m : Ends) (id k : OpId) (h : ℕ) → AreDisjoint m → map.get m k ≡ Some h → id_cmp k id ≡ order.Less
     → ((q : OpId) → id_cmp q id ≡ order.Less → IsSome (map.get m q) → is_lt (id_cmp k q) ≡ false)
-        → (k.origin ≡ id.origin → h + 1 ≡ id.number → ⊥) → (j : OpId) → ¬ (EndsRightBefore m id j)
+    → (k.origin ≡ id.origin → h + 1 ≡ id.number → ⊥) → (j : OpId) → ¬ (EndsRightBefore m id j)
 not_before m id k h d at below last apart j (x, at_j, org, touch) =
     let low = (d.fits j x at_j).0 in
     let less : j.number < id.number = omega (arith, low, touch) in
@@ -143,8 +150,11 @@ not_before m id k h d at below last apart j (x, at_j, org, touch) =
     let upto = less_number k id below (sym same ∙ org) in
     ⊎_elim (λ l. (let far = d.apart j k x h at_j at same l in omega (arith, far, upto, touch)))
     (λ g. (
-    let one : j ≡ k = (λ i. record { origin = same i; number =
-        (let n : j.number ≡ k.number = omega (arith, from, g) in n) i }) in
+    let one : j ≡ k = (λ i. record {
+      origin = same i;
+      number =
+          (let n : j.number ≡ k.number = omega (arith, from, g) in n) i;
+    }) in
     let last_one : x ≡ h = ap (λ u. unwrap_or u x) (sym at_j ∙ ap (map.get m) one ∙ at) in
     apart (sym same ∙ org) (omega (arith, last_one, touch)))) (cases_lt j.number k.number)
 
@@ -182,8 +192,11 @@ module _ (m : Ends) (d : AreDisjoint m) (id : OpId) where
           let below : k.number ≤ id.number = (up_to k id first).1 (sym same ∙ org) in
           ⊎_elim (λ l. (let far = d.apart j k x h at_j at same l in absurd (omega (arith, far, below, high))))
           (λ g. (
-          let one : j ≡ k = (λ i. record { origin = same i; number =
-              (let n : j.number ≡ k.number = omega (arith, later, g) in n) i }) in
+          let one : j ≡ k = (λ i. record {
+            origin = same i;
+            number =
+                (let n : j.number ≡ k.number = omega (arith, later, g) in n) i;
+          }) in
           let last_one : x ≡ h = ap (λ u. unwrap_or u x) (sym at_j ∙ ap (map.get m) one ∙ at) in
           (sym same ∙ org, omega (arith, last_one, high)))) (cases_lt j.number k.number)
 

@@ -30,7 +30,7 @@ none_among [] q h = refl
 none_among (id ∷ ids) q h =
     let parts = false_or (is_beside q id) (list_any (is_beside q) ids) h in
     ap (λ b. b || is_among_ends ids q) (false_or (eq_by_cmp id_cmp q id) (eq_by_cmp id_cmp q (next_id id)) parts.0).0
-        ∙ none_among ids q parts.1
+    ∙ none_among ids q parts.1
 
 after_among : (ids : List OpId) (k q : OpId) → q ≡ next_id k → is_among_ends ids k ≡ true → list_any (is_beside q) ids
     ≡ true
@@ -42,7 +42,7 @@ after_among (id ∷ ids) k q e h = by (eq_by_cmp id_cmp k id) refl h (λ g. afte
         → (is_beside q id || list_any (is_beside q) ids) ≡ true
     by true same g more =
         ap (λ b. (eq_by_cmp id_cmp q id || b) || list_any (is_beside q) ids)
-            (eq_from q (next_id id) (e ∙ ap next_id (same_id k id same)))
+        (eq_from q (next_id id) (e ∙ ap next_id (same_id k id same)))
         ∙ ap (λ b. b || list_any (is_beside q) ids) (or-true (eq_by_cmp id_cmp q id))
     by false same g more = ap (λ b. is_beside q id || b) (more g) ∙ or-true (is_beside q id)
 
@@ -91,7 +91,7 @@ module _ (m : Ends) (ids : List OpId) (n : Ends) (d : AreAsLongAsPossible m)
           let high = in_high (end_range (j, x)) q has in
           let is : j ≡ q = one_id j q (in_origin (end_range (j, x)) q has) (omega (arith, same, low, high)) in
           ap (λ b. covers (end_ranges m) q || b) (sym (ap (is_among_ends ids) is) ∙ a)
-              ∙ or-true (covers (end_ranges m) q)
+          ∙ or-true (covers (end_ranges m) q)
       by false a = ap (λ b. b || is_among_ends ids q) (has_covers m q j x (sym (at_other j a) ∙ at) has)
 
   stays : (q : OpId) → HasOne m q → covers (end_ranges n) q ≡ true
@@ -121,12 +121,18 @@ module _ (m : Ends) (ids : List OpId) (n : Ends) (d : AreAsLongAsPossible m)
       by : (b : Bool) → is_among_ends ids k ≡ b → ⊥
       by true a = (let same = at_among k h a at in true≢false
           (sym (after_among ids k q (one_id q (next_id k) (sym org) (omega (arith, same, touch))) a) ∙ far))
-      by false a = d.closed q (k, (h, sym (at_other k a) ∙ at, org, touch),
-          subst IsSome (at_other q (none_among ids q far)) there)
+      by false a = d.closed q (
+        k,
+        (h, sym (at_other k a) ∙ at, org, touch),
+        subst IsSome (at_other q (none_among ids q far)) there,
+      )
 
   pub joined_longest : (o : Ends) → AreJoined n (λ q. list_any (is_beside q) ids) o → AreAsLongAsPossible o
-  joined_longest o h = record { disjoint = h.disjoint; closed =
-      λ q s. (let old = h.seams q s in seam_beside q old.0 old.1) }
+  joined_longest o h = record {
+    disjoint = h.disjoint;
+    closed =
+        λ q s. (let old = h.seams q s in seam_beside q old.0 old.1);
+  }
 
   pub joined_covers : (o : Ends) → AreJoined n (λ q. list_any (is_beside q) ids) o → (q : OpId)
       → covers (end_ranges o) q ≡ (covers (end_ranges m) q || is_among_ends ids q)
@@ -174,13 +180,13 @@ laid_more before now ids i d there fit h =
       at = λ q.
           map.get-insert id_total now k k.number q ∙ ap (cond (eq_by_cmp id_cmp q k) (Some k.number)) (h.at q)
           ∙ stepped (is_among_ends (take i ids) q) (eq_by_cmp id_cmp q k) k.number q.number (map.get before q)
-              (λ e. ap (λ x. x.number) (sym (same_id q k e)))
+          (λ e. ap (λ x. x.number) (sym (same_id q k e)))
           ∙ ap (λ b. cond b (Some q.number) (map.get before q))
-              (sym (list_any_more (eq_by_cmp id_cmp q) ids i d there));
+          (sym (list_any_more (eq_by_cmp id_cmp q) ids i d there));
       fits = λ q a. ⊎_elim (λ e. h.fits q e) (λ e. (let n : q.number ≡ k.number = ap (λ x. x.number) (same_id q k e) in
           omega (arith, n, fit)))
           (either_one (is_among_ends (take i ids) q) (eq_by_cmp id_cmp q k)
-              (sym (list_any_more (eq_by_cmp id_cmp q) ids i d there) ∙ a));
+          (sym (list_any_more (eq_by_cmp id_cmp q) ids i d there) ∙ a));
     }
 
 pub laid_none : (m : Ends) → IsLaid m [] m
@@ -201,8 +207,8 @@ same_but before now ids i h q far = h.at q ∙ ap (λ b. cond b (Some q.number) 
 pub joined_more : (before now after : Ends) (ids : List OpId) (i : ℕ) (d : OpId) → i < length ids
     → AreJoined before (λ q. list_any (is_beside q) (take i ids)) now
     → AreJoined now (λ q. is_beside q (get_or ids i d)) after
-        → AreJoined before (λ q. list_any (is_beside q) (take (i + 1) ids)) after
+    → AreJoined before (λ q. list_any (is_beside q) (take (i + 1) ids)) after
 joined_more before now after ids i d there h g =
     joined_for before after (λ q. list_any (is_beside q) (take i ids) || is_beside q (get_or ids i d))
-        (λ q. list_any (is_beside q) (take (i + 1) ids)) (λ q s e. list_any_more (is_beside q) ids i d there ∙ e)
+    (λ q. list_any (is_beside q) (take (i + 1) ids)) (λ q s e. list_any_more (is_beside q) ids i d there ∙ e)
     (joined_twice before now after (λ q. list_any (is_beside q) (take i ids)) (λ q. is_beside q (get_or ids i d)) h g)

@@ -72,7 +72,7 @@ merged_there old next apart starts range =
       | inr some ↦
           (let still = subst (λ rs. AllStartBy rs next) some.2 starts in
           subst (λ rs. HasMerged rs next) (sym some.2)
-              (merged_with some.0 some.1 next (subst IsApart some.2 apart) still range))
+          (merged_with some.0 some.1 next (subst IsApart some.2 apart) still range))
     ]
 
 -- ---- ids in order
@@ -91,8 +91,10 @@ AllStartByEach rs es = AllByRecursion (λ e. AllStartBy rs (alone e.0)) es
 still_start : (old new : List IdRange) (k : OpId) (es : List Operation) → IsMerged old (alone k) new
     → AllByRecursion (λ q. id_cmp k q ≡ Less) (keys_of es) → AllStartByEach old es → AllStartByEach new es
 still_start old new k [] m below starts = tt
-still_start old new k (e ∷ es) m below starts = (m.in_order (alone e.0) (starts_by k e.0 below.0) starts.0,
-    still_start old new k es m below.1 starts.1)
+still_start old new k (e ∷ es) m below starts = (
+  m.in_order (alone e.0) (starts_by k e.0 below.0) starts.0,
+  still_start old new k es m below.1 starts.1,
+)
 
 found_more : (past here : Bool) (e : Operation) (x : Option _) → ((past || here) || is_some x)
     ≡ (past || is_some (cond here (Some e.1) x))

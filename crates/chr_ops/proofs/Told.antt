@@ -38,7 +38,7 @@ pub told_store-insert : (m : Operations) (k : OpId) (v : Store) → map.get m k 
     ≡ told_store m ⊕ v
 told_store-insert m k v h =
     ap sum_of (map.entries-insert id_total m k v) ∙ sum_of-put k v (map.entries m) (sym (map.get-entries m k) ∙ h)
-        ∙ plus_comm v (told_store m)
+    ∙ plus_comm v (told_store m)
 
 -- a set of none tells nothing
 pub told_store-empty : told_store map.empty ≡ bag.empty

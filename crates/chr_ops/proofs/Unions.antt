@@ -31,7 +31,7 @@ find-append : (es os : List Operation) (q : OpId) → find id_cmp q (es ++ os) �
 find-append [] os q = refl
 find-append (e ∷ es) os q =
     elim (eq_by_cmp id_cmp q e.0) as (λ b. cond b (Some e.1) (find id_cmp q (es ++ os))
-        ≡ option_or (cond b (Some e.1) (find id_cmp q es)) (find id_cmp q os)) [
+    ≡ option_or (cond b (Some e.1) (find id_cmp q es)) (find id_cmp q os)) [
       | true ↦ refl
       | false ↦ find-append es os q
     ]
@@ -40,7 +40,7 @@ pub get-union : (m : Operations) (os : List Operation) (q : OpId) → map.get (u
     (find id_cmp q os)
 get-union m os q =
     map.get-from_entries id_total (map.entries m ++ os) q ∙ find-append (map.entries m) os q
-        ∙ ap (λ x. option_or x (find id_cmp q os)) (sym (map.get-entries m q))
+    ∙ ap (λ x. option_or x (find id_cmp q os)) (sym (map.get-entries m q))
 
 pub union_none : (m : Operations) → union m [] ≡ m
 union_none m = map.same_map id_total id_exact _ _ (λ q. get-union m [] q ∙ or_none (map.get m q))
@@ -88,7 +88,7 @@ without_pushed : {X : Type 0} (m n r : map.FinMap id_cmp X) (ids : List OpId) (k
 without_pushed m n r ids k new others h q =
     h q
     ∙ settle (list_any (eq_by_cmp id_cmp q) ids) (eq_by_cmp id_cmp q k) (map.get n q) (map.get r q)
-        (λ e. ap (map.get n) (same_id q k e) ∙ new) (others q)
+    (λ e. ap (map.get n) (same_id q k e) ∙ new) (others q)
     ∙ ap (λ b. cond b None (map.get r q)) (sym (list_any-append (eq_by_cmp id_cmp q) ids (k ∷ [])))
 
 -- an id that is not there may go into the list
@@ -101,7 +101,7 @@ pub without_inserted : {X : Type 0} (m n : map.FinMap id_cmp X) (ids : List OpId
     ≡ None → IsWithout m ids n → IsWithout m (ids ++ k ∷ []) (map.insert n k v)
 without_inserted m n ids k v new h =
     without_pushed m n (map.insert n k v) ids k new (λ q e. map.get-insert id_total n k v q
-        ∙ ap (λ b. cond b (Some v) (map.get n q)) e) h
+    ∙ ap (λ b. cond b (Some v) (map.get n q)) e) h
 
 gone : {X : Type 0} (past here : Bool) (g : Option X) → cond here None (cond past None g)
     ≡ cond (past || (here || false)) None g
@@ -124,7 +124,7 @@ pub ids_inserted : (m n : Operations) (ids : List OpId) (k : OpId) (v : Store) �
     → AddsIds m (ids ++ k ∷ []) (map.insert n k v)
 ids_inserted m n ids k v h q =
     settle_ids (list_any (eq_by_cmp id_cmp q) ids) (eq_by_cmp id_cmp q k) (map.contains_key m q)
-        (map.get (map.insert n k v) q) (map.get n q) (h q)
+    (map.get (map.insert n k v) q) (map.get n q) (h q)
     (ap is_some (map.get-insert id_total n k v q) ∙ some_there (eq_by_cmp id_cmp q k) v (map.get n q))
     ∙ ap (λ b. map.contains_key m q || b) (sym (list_any-append (eq_by_cmp id_cmp q) ids (k ∷ [])))
 
@@ -141,7 +141,7 @@ without_removed before now ids i d there h q =
     map.get-remove id_total now k q ∙ ap (cond (eq_by_cmp id_cmp q k) None) (h q)
     ∙ gone (list_any (eq_by_cmp id_cmp q) (take i ids)) (eq_by_cmp id_cmp q k) (map.get before q)
     ∙ ap (λ b. cond b None (map.get before q)) (sym (ap (list_any (eq_by_cmp id_cmp q)) (take_more ids i d there)
-        ∙ list_any-append (eq_by_cmp id_cmp q) (take i ids) (k ∷ [])))
+    ∙ list_any-append (eq_by_cmp id_cmp q) (take i ids) (k ∷ [])))
 
 -- what is without the ids that came is what was there
 pub had_back : {X : Type 0} (m n r : map.FinMap id_cmp X) (ids : List OpId) → IsWithout m ids n → IsWithout r ids n
@@ -163,15 +163,15 @@ told_store-union m (o ∷ os) = ap told_store (sym (union_more m (o ∷ []) os))
   where
     by : (x : Option Store) → map.get m o.0 ≡ x → told_store (union m os) ≡ told_store m ⊕ sum_of (fresh m os)
         → told_store (union (map.insert m o.0 o.1) os) ≡ told_store (map.insert m o.0 o.1) ⊕ sum_of
-            (fresh (map.insert m o.0 o.1) os)
+        (fresh (map.insert m o.0 o.1) os)
         → told_store (union (union m (o ∷ [])) os) ≡ told_store m ⊕ sum_of (fresh m (o ∷ os))
     by (Some s) e old new =
         ap (λ n. told_store (union n os)) (union_held m o s e) ∙ old
         ∙ ap (λ ps. told_store m ⊕ sum_of ps) (skip (map.get m o.0) (fresh m os) (o ∷ fresh (map.insert m o.0 o.1) os) s
-            e)
+        e)
     by None e old new =
         ap (λ n. told_store (union n os)) (union_new m o e) ∙ new
         ∙ ap (λ t. t ⊕ sum_of (fresh (map.insert m o.0 o.1) os)) (told_store-insert m o.0 o.1 e)
-            ∙ plus_assoc (told_store m) o.1 (sum_of (fresh (map.insert m o.0 o.1) os))
+        ∙ plus_assoc (told_store m) o.1 (sum_of (fresh (map.insert m o.0 o.1) os))
         ∙ ap (λ ps. told_store m ⊕ sum_of ps) (take_new (map.get m o.0) (fresh m os)
-            (o ∷ fresh (map.insert m o.0 o.1) os) e)
+        (o ∷ fresh (map.insert m o.0 o.1) os) e)

@@ -56,9 +56,9 @@ pub admitted : (fs : List ℕ) (cs : List Comparison) (p q : List ℤ) → guard
 admitted fs cs p [] h = refl
 admitted fs cs p (v ∷ q) h =
     let longer : guard_holds (assignment fs ((p ++ v ∷ []) ++ q)) cs ≡ true =
-        subst (λ zs. guard_holds (assignment fs zs) cs ≡ true) (sym (append_assoc p (v ∷ []) q)) h in
+    subst (λ zs. guard_holds (assignment fs zs) cs ≡ true) (sym (append_assoc p (v ∷ []) q)) h in
     and_from (all_may_hold fs cs (p ++ v ∷ [])) (are_admitted (all_may_hold fs cs) (p ++ v ∷ []) q)
-        (all_begin fs cs (p ++ v ∷ []) q longer) (admitted fs cs (p ++ v ∷ []) q longer)
+    (all_begin fs cs (p ++ v ∷ []) q longer) (admitted fs cs (p ++ v ∷ []) q longer)
 
 -- values at which both guards hold are admitted
 pub guards_admitted : (r1 r2 : Rule) (u : Unified) (zs : List ℤ) → IsUnified r1 r2 u

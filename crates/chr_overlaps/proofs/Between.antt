@@ -25,7 +25,7 @@ pub joined : (rules : List Rule) (a n m : ℕ) (os ps : List Overlap) → a ≤ 
 joined rules a n m os ps from before first second = record {
   each = λ o i. elim (in_either o os ps i) as (λ _. IsOverlapOf rules o × (a < o.first) × (o.first ≤ m)) [
     | inl j ↦ (let e = first.each o j in let x = e.1 in let y = e.2 in
-          (e.0, omega (arith, x), omega (arith, y, before)))
+        (e.0, omega (arith, x), omega (arith, y, before)))
     | inr j ↦ (let e = second.each o j in let x = e.1 in let y = e.2 in (e.0, omega (arith, x, from), omega (arith, y)))
   ];
   all = all;

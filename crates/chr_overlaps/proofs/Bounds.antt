@@ -81,21 +81,21 @@ held_at p xs i d l h = elim (p (get_or xs i d)) as (λ b. p (get_or xs i d) ≡ 
 pub comparisons_below : (r : Rule) (k n i : ℕ) (cs : List Comparison) (d : Comparison) → cs ≡ r.guard.items
     → i < length cs → k + variables_of r < n
     → (is_below n (renamed_apart k (get_or cs i d).left) ≡ true)
-        × (is_below n (renamed_apart k (get_or cs i d).right) ≡ true)
+    × (is_below n (renamed_apart k (get_or cs i d).right) ≡ true)
 comparisons_below r k n i cs d e less l =
     let known : list_all (λ c. is_bound_in (heads_of r) c.left && is_bound_in (heads_of r) c.right) cs ≡ true =
-        subst (λ ds. list_all (λ c. is_bound_in (heads_of r) c.left && is_bound_in (heads_of r) c.right) ds ≡ true)
-        (sym e) (guard_known r) in
+    subst (λ ds. list_all (λ c. is_bound_in (heads_of r) c.left && is_bound_in (heads_of r) c.right) ds ≡ true)
+    (sym e) (guard_known r) in
     let both = held_at (λ c. is_bound_in (heads_of r) c.left && is_bound_in (heads_of r) c.right) cs i d less known in
     let parts = and_parts (is_bound_in (heads_of r) (get_or cs i d).left)
-        (is_bound_in (heads_of r) (get_or cs i d).right) both in
+    (is_bound_in (heads_of r) (get_or cs i d).right) both in
     (bound_below r k n _ l parts.0, bound_below r k n _ l parts.1)
 
 -- and these are few
 pub guard_few : (r : Rule) → length r.guard.items ≤ MAX_COMPARISONS
 guard_few r =
     let a = and_parts (is_label (option_map (λ n. n.bytes) r.name) && nat_le (length r.guard.items) MAX_COMPARISONS)
-        (nat_le (length r.body.items) MAX_BODY) (few_rule r) in
+    (nat_le (length r.body.items) MAX_BODY) (few_rule r) in
     leb-true (length r.guard.items) MAX_COMPARISONS (and_parts (is_label (option_map (λ n. n.bytes) r.name)) _ a.0).1
 
 pub joint_guards_few : (r1 r2 : Rule) (f : Comparison → Comparison) (gs hs : List Comparison) → gs ≡ [] → hs ≡ gs

@@ -63,7 +63,7 @@ constants_in (Constant d ∷ ts) fit =
 pub constants_there : (rules : List Rule) → (cs : List ℤ) × AreConstants rules cs × AreValues cs
 constants_there rules =
     let w = constants_in (all_terms rules) (λ c i. value_is c
-        (constants_fit rules c (of_some_rule rules (Constant c) i))) in
+    (constants_fit rules c (of_some_rule rules (Constant c) i))) in
     (w.0, all_gathered rules w.0 w.1, w.1.values)
 
 -- ---- overlaps
@@ -95,16 +95,33 @@ module _ (rules : List Rule) (o : Overlap) (r1 r2 : Rule) (first : slice_get rul
         rule2 = r2;
         first = first;
         second = second;
-        listed = inr (record { classes = σ; representatives = rs; solves = solves; types = (cs, are, types); within =
-            within; cases_are = refl });
+        listed = inr (record {
+          classes = σ;
+          representatives = rs;
+          solves = solves;
+          types = (cs, are, types);
+          within =
+              within;
+          cases_are = refl;
+        });
       },
     )
 
     many_there : MoreTypesThan MAX_TYPES free cs → HasCases rules o
     many_there more = inr (
       free,
-      record { rule1 = r1; rule2 = r2; first = first; second = second; classes = σ; solves = solves; number = refl;
-          constants = cs; are_constants = are; more = more },
+      record {
+        rule1 = r1;
+        rule2 = r2;
+        first = first;
+        second = second;
+        classes = σ;
+        solves = solves;
+        number = refl;
+        constants = cs;
+        are_constants = are;
+        more = more;
+      },
     )
 
     by_types : AreValues cs → HasCases rules o
@@ -130,4 +147,4 @@ cases_there rules o h =
     let place1 : h.0 ≡ o.first - 1 = omega (arith, a) in
     let place2 : h.1 ≡ o.second - 1 = omega (arith, b) in
     cases_at rules o is.rule1 is.rule2 (subst (λ n. slice_get rules n ≡ Some is.rule1) place1 is.first)
-        (subst (λ n. slice_get rules n ≡ Some is.rule2) place2 is.second)
+    (subst (λ n. slice_get rules n ≡ Some is.rule2) place2 is.second)

@@ -44,9 +44,15 @@ follows_means qs m p zero l h = (tt, tt)
 follows_means qs m p (suc k) l h =
     let q : Pattern = get_or qs k no_pattern in
     let parts = and_parts (not (names m (suc k))) (has_same_symbol p q) h in
-    let same = and_parts (nat_eq p.symbol.0 q.symbol.0) (nat_eq (length p.args.items) (length q.args.items)) parts.1 in
-    (not-true (names m (suc k)) parts.0, (q, slice_get-get_or qs k no_pattern (omega arith),
-        eqb-true p.symbol.0 q.symbol.0 same.0, eqb-true (length p.args.items) (length q.args.items) same.1))
+    let same = and_parts (nat_eq p.symbol.0 q.symbol.0) (nat_eq (length p.args.items) (length q.args.items)) parts.1 in (
+      not-true (names m (suc k)) parts.0,
+      (
+        q,
+        slice_get-get_or qs k no_pattern (omega arith),
+        eqb-true p.symbol.0 q.symbol.0 same.0,
+        eqb-true (length p.args.items) (length q.args.items) same.1,
+      ),
+    )
 
 pub means_follows : (qs : List Pattern) (m : List ℕ) (p : Pattern) (e : ℕ) → IsNew m e → HasSymbol qs p e
     → may_follow qs m p e ≡ true
@@ -56,9 +62,9 @@ means_follows qs m p (suc k) n h =
     let at : get_or qs k no_pattern ≡ q = get_or_from_slice_get qs k q no_pattern h.1 in
     let s : nat_eq p.symbol.0 q.symbol.0 ≡ true = eq-eqb p.symbol.0 q.symbol.0 h.2 in
     let a : nat_eq (length p.args.items) (length q.args.items) ≡ true =
-        eq-eqb (length p.args.items) (length q.args.items) h.3 in
+    eq-eqb (length p.args.items) (length q.args.items) h.3 in
     ap (λ b. not b && has_same_symbol p (get_or qs k no_pattern)) n ∙ ap (λ (x : Pattern). has_same_symbol p x) at
-        ∙ ap (λ b. b && nat_eq (length p.args.items) (length q.args.items)) s ∙ a
+    ∙ ap (λ b. b && nat_eq (length p.args.items) (length q.args.items)) s ∙ a
 
 -- two different places
 other_way : (k l : ℕ) → nat_eq k l ≡ false → nat_eq l k ≡ false
@@ -82,9 +88,12 @@ apart_more [] (suc k) a n = (refl, tt)
 apart_more (zero ∷ m) zero a n = apart_more m zero a tt
 apart_more (zero ∷ m) (suc k) a n = apart_more m (suc k) a (or_parts (nat_eq (suc k) 0) (names m (suc k)) n).1
 apart_more (suc l ∷ m) zero a n = (names_more m (suc l) 0 a.0 (zero_other l), apart_more m zero a.1 tt)
-apart_more (suc l ∷ m) (suc k) a n = (names_more m (suc l) (suc k) a.0
-    (other_way (suc k) (suc l) (or_parts (nat_eq (suc k) (suc l)) (names m (suc k)) n).0), apart_more m (suc k) a.1
-    (or_parts (nat_eq (suc k) (suc l)) (names m (suc k)) n).1)
+apart_more (suc l ∷ m) (suc k) a n = (
+  names_more m (suc l) (suc k) a.0
+      (other_way (suc k) (suc l) (or_parts (nat_eq (suc k) (suc l)) (names m (suc k)) n).0),
+  apart_more m (suc k) a.1
+      (or_parts (nat_eq (suc k) (suc l)) (names m (suc k)) n).1,
+)
 
 -- in such a list each entry is new behind those before it
 pub new_there : (m t : List ℕ) (e : ℕ) → IsInjective (m ++ e ∷ t) → IsNew m e

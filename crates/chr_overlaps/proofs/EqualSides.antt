@@ -43,16 +43,16 @@ pub body_below : (r : Rule) (k n : ℕ) (p : Pattern) → k + variables_of r < n
     → are_below n (map (renamed_apart k) p.args.items) ≡ true
 body_below r k n p l i =
     let known = all_in (λ (q : Pattern). list_all (is_bound_in (heads_of r)) q.args.items) r.body.items
-        (body_known r) p i in
+    (body_known r) p i in
     shifted_room k (variables_of r) n p.args.items l (λ x j.
-        (head_variable r x (occurs_in x (heads_of r) (all_in (is_bound_in (heads_of r)) p.args.items known
-        (Variable x) j))).1)
+    (head_variable r x (occurs_in x (heads_of r) (all_in (is_bound_in (heads_of r)) p.args.items known
+    (Variable x) j))).1)
 
 pub removed_below : (r : Rule) (k n : ℕ) (p : Pattern) → k + variables_of r < n → In p r.removed.items
     → are_below n (map (renamed_apart k) p.args.items) ≡ true
 removed_below r k n p l i =
     shifted_room k (variables_of r) n p.args.items l (λ x j.
-        (head_variable r x (in_terms (Variable x) p (heads_of r) (in_second p r.kept.items r.removed.items i) j)).1)
+    (head_variable r x (in_terms (Variable x) p (heads_of r) (in_second p r.kept.items r.removed.items i) j)).1)
 
 -- ---- the same patterns in another order
 
@@ -65,7 +65,7 @@ counted_without f v (q ∷ ps) (suc i) p e = let ih = counted_without f v ps i p
 
 same_without : (v : Valuation) (p : Pattern) (left right : List Pattern) (i : ℕ) → slice_get right i ≡ Some p
     → store_of (atoms_at v left) ≡ store_of (atoms_at v (remove right i)) → store_of (atoms_at v (p ∷ left))
-        ≡ store_of (atoms_at v right)
+    ≡ store_of (atoms_at v right)
 same_without v p left right i found same = same_store _ _ (λ q. (
     let a = count-of_list atom_total (atoms_at v (p ∷ left)) q in
     let b = count-of_list atom_total (atoms_at v left) q in
@@ -78,7 +78,7 @@ same_without v p left right i found same = same_store _ _ (λ q. (
 pub same_behind : (v : Valuation) (p : Pattern) (left right : List Pattern) (i : ℕ) → 1 ≤ length left
     → p ≡ get_or left 0 p → slice_get right i ≡ Some p
     → store_of (atoms_at v (drop 1 left)) ≡ store_of (atoms_at v (remove right i)) → store_of (atoms_at v left)
-        ≡ store_of (atoms_at v right)
+    ≡ store_of (atoms_at v right)
 same_behind v p [] right i l e found same = absurd (omega (arith, l))
 same_behind v p (q ∷ left) right i l e found same = same_without v q left right i (found ∙ ap Some e) same
 
@@ -87,23 +87,23 @@ same_behind v p (q ∷ left) right i l e found same = same_without v q left righ
 -- patterns of both rules in their classes, at values of these, are the instances' atoms
 changed_atoms : (r1 r2 : Rule) (σ : Substitution) (zs : List ℤ) (ps qs : List Pattern)
     → atoms_at (assignment (free_variables σ r1 r2) zs)
-        (map (class_pattern σ 0) ps ++ map (class_pattern σ (variables_of r1)) qs)
+    (map (class_pattern σ 0) ps ++ map (class_pattern σ (variables_of r1)) qs)
     ≡ atoms_at (left_at σ r1 r2 zs) ps ++ atoms_at (right_at σ r1 r2 zs) qs
 changed_atoms r1 r2 σ zs ps qs =
     let fs = free_variables σ r1 r2 in
     map-append (atom_at (assignment fs zs)) (map (class_pattern σ 0) ps) (map (class_pattern σ (variables_of r1)) qs)
     ∙ (λ i. (class_atoms σ 0 fs zs ps ∙ (λ j. atoms_at (λ x. left_at σ r1 r2 zs (zero-add x j)) ps)) i
-        ++ class_atoms σ (variables_of r1) fs zs qs i)
+    ++ class_atoms σ (variables_of r1) fs zs qs i)
 
 changed_other : (r1 r2 : Rule) (σ : Substitution) (zs : List ℤ) (ps qs : List Pattern)
     → atoms_at (assignment (free_variables σ r1 r2) zs)
-        (map (class_pattern σ (variables_of r1)) qs ++ map (class_pattern σ 0) ps)
+    (map (class_pattern σ (variables_of r1)) qs ++ map (class_pattern σ 0) ps)
     ≡ atoms_at (right_at σ r1 r2 zs) qs ++ atoms_at (left_at σ r1 r2 zs) ps
 changed_other r1 r2 σ zs ps qs =
     let fs = free_variables σ r1 r2 in
     map-append (atom_at (assignment fs zs)) (map (class_pattern σ (variables_of r1)) qs) (map (class_pattern σ 0) ps)
     ∙ (λ i. class_atoms σ (variables_of r1) fs zs qs i
-        ++ (class_atoms σ 0 fs zs ps ∙ (λ j. atoms_at (λ x. left_at σ r1 r2 zs (zero-add x j)) ps)) i)
+    ++ (class_atoms σ 0 fs zs ps ∙ (λ j. atoms_at (λ x. left_at σ r1 r2 zs (zero-add x j)) ps)) i)
 
 pub have_equal_sides : (r1 r2 : Rule) (σ : Substitution) (left right : List Pattern)
     → left ≡ map (class_pattern σ 0) r1.body.items ++ map (class_pattern σ (variables_of r1)) r2.removed.items

@@ -51,11 +51,11 @@ few_behind r s [] o = few_if (matches_removed (length r.kept.items) (length s.ke
 few_behind r s (p ∷ ps) o =
     let m = entries_most ^ length ps in
     let each : (e : ℕ) → length (going_on (overlaps_behind r s ps) (heads_of s) o p e) ≤ m =
-        λ e. few_if (may_follow (heads_of s) o.matching.items p e) (overlaps_behind r s ps (with_entry o e)) m
-        (few_behind r s ps (with_entry o e)) in
+    λ e. few_if (may_follow (heads_of s) o.matching.items p e) (overlaps_behind r s ps (with_entry o e)) m
+    (few_behind r s ps (with_entry o e)) in
     let heads = heads_few s in
     let few = few_range (going_on (overlaps_behind r s ps) (heads_of s) o p) m entries_most 0
-        (length (heads_of s) + 1) each (omega (arith, heads)) in
+    (length (heads_of s) + 1) each (omega (arith, heads)) in
     subst (λ n. length (overlaps_behind r s (p ∷ ps) o) ≤ n) (sym (pow-succ' entries_most (length ps))) few
 
 few_of_pair : (rules : List Rule) (i j : ℕ) → length (overlaps_of_pair rules i j) ≤ entries_most ^ MAX_HEADS

@@ -23,7 +23,7 @@ in_inserted [] (suc i) c d h = h
 in_inserted (x ∷ cs) (suc i) c d h = elim h as (λ _. (d ≡ c) ⊎ ((d ≡ x) ⊎ In d cs)) [
   | inl e ↦ inr (inl e)
   | inr j ↦ elim (in_inserted cs i c d j) as (λ _. (d ≡ c) ⊎ ((d ≡ x) ⊎ In d cs))
-        [ inl e ↦ inl e | inr k ↦ inr (inr k) ]
+      [ inl e ↦ inl e | inr k ↦ inr (inr k) ]
 ]
 
 inserted_in : (cs : List ℤ) (i : ℕ) (c : ℤ) → i ≤ length cs → In c (insert cs i c)
@@ -38,8 +38,11 @@ still_in (x ∷ cs) (suc i) c d h = elim h as (λ _. (d ≡ x) ⊎ In d (insert 
     [ inl e ↦ inl e | inr j ↦ inr (still_in cs i c d j) ]
 
 less_all : (c x : ℤ) (cs : List ℤ) → c <ℤ x → Rises (x ∷ cs) → (d : ℤ) → In d (x ∷ cs) → c <ℤ d
-less_all c x cs l r d h = elim h as (λ _. c <ℤ d) [ inl e ↦ subst (λ y. c <ℤ y) (sym e) l | inr j ↦
-    (let m = r.0 d j in omega (arith, ints, l, m)) ]
+less_all c x cs l r d h = elim h as (λ _. c <ℤ d) [
+  | inl e ↦ subst (λ y. c <ℤ y) (sym e) l
+  | inr j ↦
+      (let m = r.0 d j in omega (arith, ints, l, m))
+]
 
 rises_inserted : (cs : List ℤ) (i : ℕ) (c : ℤ) → Rises cs → ((k : ℕ) → k < i → get_or cs k c <ℤ c)
     → (i < length cs → c <ℤ get_or cs i c) → i ≤ length cs → Rises (insert cs i c)
@@ -59,8 +62,11 @@ constant_there cs c h before is = record {
   stand = λ d j. in_first (Constant d) before (Constant c ∷ []) (is.stand d j);
   all = λ d j. elim (in_either (Constant d) before (Constant c ∷ []) j) as (λ _. In d cs) [
     | inl k ↦ is.all d k
-    | inr k ↦ elim k as (λ _. In d cs) [ inl e ↦ (let q : Constant d ≡ Constant c = e in let same : c ≡ d = cc in
-          subst (λ z. In z cs) same h) | inr n ↦ absurd n ]
+    | inr k ↦ elim k as (λ _. In d cs) [
+      | inl e ↦ (let q : Constant d ≡ Constant c = e in let same : c ≡ d = cc in
+          subst (λ z. In z cs) same h)
+      | inr n ↦ absurd n
+    ]
   ];
 }
 
@@ -78,9 +84,11 @@ constant_inserted cs ds i c v l b a e before is =
       ];
       all = λ d j. elim (in_either (Constant d) before (Constant c ∷ []) j) as (λ _. In d (insert cs i c)) [
         | inl k ↦ still_in cs i c d (is.all d k)
-        | inr k ↦ elim k as (λ _. In d (insert cs i c))
-              [ inl f ↦ (let q : Constant d ≡ Constant c = f in let same : c ≡ d = cc in
-              subst (λ z. In z (insert cs i c)) same (inserted_in cs i c l)) | inr n ↦ absurd n ]
+        | inr k ↦ elim k as (λ _. In d (insert cs i c)) [
+          | inl f ↦ (let q : Constant d ≡ Constant c = f in let same : c ≡ d = cc in
+              subst (λ z. In z (insert cs i c)) same (inserted_in cs i c l))
+          | inr n ↦ absurd n
+        ]
       ];
     })
 
@@ -129,30 +137,30 @@ pub pattern_gathered : (ps : List Pattern) (i : ℕ) (d : Pattern) (cs ds es : L
     → Gathers (terms_of (take (i + 1) ps)) cs es
 pattern_gathered ps i d cs ds es l g h =
     let e : terms_of (take (i + 1) ps) ≡ terms_of (take i ps) ++ (get_or ps i d).args.items =
-        ap terms_of (take_more ps i d l) ∙ terms_of-append (take i ps) (get_or ps i d ∷ [])
-        ∙ ap (λ ts. terms_of (take i ps) ++ ts) (append-nil (get_or ps i d).args.items) in
+    ap terms_of (take_more ps i d l) ∙ terms_of-append (take i ps) (get_or ps i d ∷ [])
+    ∙ ap (λ ts. terms_of (take i ps) ++ ts) (append-nil (get_or ps i d).args.items) in
     subst (λ us. Gathers us cs es) (sym e) (gathered_both (terms_of (take i ps)) (get_or ps i d).args.items cs ds es g
-        h)
+    h)
 
 pub comparison_gathered : (as' : List Comparison) (i : ℕ) (d : Comparison) (cs ds es : List ℤ) → i < length as'
     → Gathers (guard_terms (take i as')) cs ds → Gathers ((get_or as' i d).left ∷ (get_or as' i d).right ∷ []) ds es
     → Gathers (guard_terms (take (i + 1) as')) cs es
 comparison_gathered as' i d cs ds es l g h =
     let e : guard_terms (take (i + 1) as') ≡ guard_terms (take i as')
-        ++ ((get_or as' i d).left ∷ (get_or as' i d).right ∷ []) = ap guard_terms (take_more as' i d l)
-        ∙ guard_terms-append (take i as') (get_or as' i d ∷ []) in
+    ++ ((get_or as' i d).left ∷ (get_or as' i d).right ∷ []) = ap guard_terms (take_more as' i d l)
+    ∙ guard_terms-append (take i as') (get_or as' i d ∷ []) in
     subst (λ us. Gathers us cs es) (sym e) (gathered_both (guard_terms (take i as'))
-        ((get_or as' i d).left ∷ (get_or as' i d).right ∷ []) cs ds es g h)
+    ((get_or as' i d).left ∷ (get_or as' i d).right ∷ []) cs ds es g h)
 
 pub rule_gathered : (r : Rule) (as' bs cs ds es : List ℤ) → Gathers (terms_of r.kept.items) as' bs
     → Gathers (terms_of r.removed.items) bs cs → Gathers (guard_terms r.guard.items) cs ds
     → Gathers (terms_of r.body.items) ds es → Gathers (rule_terms r) as' es
 rule_gathered r as' bs cs ds es k m g b =
     let heads : Gathers (terms_of (r.kept.items ++ r.removed.items)) as' cs =
-        subst (λ us. Gathers us as' cs) (sym (terms_of-append r.kept.items r.removed.items))
-        (gathered_both (terms_of r.kept.items) (terms_of r.removed.items) as' bs cs k m) in
+    subst (λ us. Gathers us as' cs) (sym (terms_of-append r.kept.items r.removed.items))
+    (gathered_both (terms_of r.kept.items) (terms_of r.removed.items) as' bs cs k m) in
     gathered_both (terms_of (r.kept.items ++ r.removed.items) ++ guard_terms r.guard.items)
-        (terms_of r.body.items) as' ds es
+    (terms_of r.body.items) as' ds es
     (gathered_both (terms_of (r.kept.items ++ r.removed.items)) (guard_terms r.guard.items) as' cs ds heads g) b
 
 pub rules_gathered : (rs : List Rule) (i : ℕ) (d : Rule) (cs ds : List ℤ) → i < length rs
@@ -160,8 +168,8 @@ pub rules_gathered : (rs : List Rule) (i : ℕ) (d : Rule) (cs ds : List ℤ) �
     → AreConstantsIn (all_terms (take (i + 1) rs)) ds
 rules_gathered rs i d cs ds l is g =
     let e : all_terms (take (i + 1) rs) ≡ all_terms (take i rs) ++ rule_terms (get_or rs i d) =
-        ap all_terms (take_more rs i d l) ∙ all_terms-append (take i rs) (get_or rs i d ∷ [])
-        ∙ ap (λ ts. all_terms (take i rs) ++ ts) (append-nil (rule_terms (get_or rs i d))) in
+    ap all_terms (take_more rs i d l) ∙ all_terms-append (take i rs) (get_or rs i d ∷ [])
+    ∙ ap (λ ts. all_terms (take i rs) ++ ts) (append-nil (rule_terms (get_or rs i d))) in
     subst (λ ts. AreConstantsIn ts ds) (sym e) (g (all_terms (take i rs)) is)
 
 pub none_yet : AreConstantsIn [] []
@@ -173,9 +181,9 @@ pub of_some_rule : (rs : List Rule) (t : Term) → In t (all_terms rs) → (i : 
 of_some_rule [] t h = absurd h
 of_some_rule (r ∷ rs) t h = elim (in_either t (rule_terms r) (all_terms rs) h) as (λ _. (i : ℕ) × (s : Rule)
     × (slice_get (r ∷ rs) i ≡ Some s) × In t (rule_terms s)) [
-  | inl j ↦ (0, r, refl, j)
-  | inr j ↦ (let w = of_some_rule rs t j in (suc w.0, w.1, w.2, w.3))
-]
+      | inl j ↦ (0, r, refl, j)
+      | inr j ↦ (let w = of_some_rule rs t j in (suc w.0, w.1, w.2, w.3))
+    ]
 
 of_all_rules : (rs : List Rule) (t : Term) (i : ℕ) (r : Rule) → slice_get rs i ≡ Some r → In t (rule_terms r)
     → In t (all_terms rs)

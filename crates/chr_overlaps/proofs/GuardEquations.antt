@@ -27,7 +27,7 @@ equation_next k (c ∷ cs) zero d l e = ap (λ b. map (equation_apart k)
 equation_next k (c ∷ cs) (suc i) d l e =
     let z : suc (i + 1) ≡ suc i + 1 = omega arith in
     subst (λ j. left_from k cs i ≡ sides_of k (get_or cs i d) ∷ left_from k (c ∷ cs) j) z
-        (equation_next k cs i d (omega (arith, l)) e)
+    (equation_next k cs i d (omega (arith, l)) e)
 
 pub other_next : (k : ℕ) (cs : List Comparison) (i : ℕ) (d : Comparison) → i < length cs
     → is_equation (get_or cs i d).cmp ≡ false → left_from k cs i ≡ left_from k cs (i + 1)

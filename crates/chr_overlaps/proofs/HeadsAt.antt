@@ -35,8 +35,11 @@ class_values σ k fs zs (Constant c ∷ ts) = ap (λ vs. c ∷ vs) (class_values
 pub class_atoms : (σ : Substitution) (k : ℕ) (fs : List ℕ) (zs : List ℤ) (ps : List Pattern)
     → atoms_at (assignment fs zs) (map (class_pattern σ k) ps) ≡ atoms_at (λ x. instance_at σ fs zs (k + x)) ps
 class_atoms σ k fs zs [] = refl
-class_atoms σ k fs zs (p ∷ ps) = λ i. record { symbol = p.symbol; args =
-    record { items = class_values σ k fs zs p.args.items i } } ∷ class_atoms σ k fs zs ps i
+class_atoms σ k fs zs (p ∷ ps) = λ i. record {
+  symbol = p.symbol;
+  args =
+      record { items = class_values σ k fs zs p.args.items i };
+} ∷ class_atoms σ k fs zs ps i
 
 -- the heads in their classes, each class with its value, are the heads of the instances
 pub left_heads : (r1 r2 : Rule) (u : Unified) (zs : List ℤ) → IsUnified r1 r2 u
@@ -50,7 +53,7 @@ pub right_heads : (r1 r2 : Rule) (u : Unified) (zs : List ℤ) → IsUnified r1 
     → atoms_at (assignment u.free.items zs) u.second.items ≡ heads_at (right_at (classes_of u) r1 r2 zs) r2
 right_heads r1 r2 u zs is =
     (λ i. atoms_at (assignment (is.free i) zs) (is.second i)) ∙ class_atoms (classes_of u) (variables_of r1) _ zs
-        (heads_of r2)
+    (heads_of r2)
 
 class_value : (σ : Substitution) (k : ℕ) (fs : List ℕ) (zs : List ℤ) (t : Term)
     → term_value (assignment fs zs) (class_term σ k t) ≡ term_value (λ x. instance_at σ fs zs (k + x)) t
@@ -70,11 +73,11 @@ guards_are r1 r2 u zs is =
     let fs = free_variables (classes_of u) r1 r2 in
     (λ i. guard_holds (assignment (is.free i) zs) (is.guards i))
     ∙ list_all-append (comparison_holds (assignment fs zs)) (map (class_comparison (classes_of u) 0) r1.guard.items)
-        (map (class_comparison (classes_of u) (variables_of r1)) r2.guard.items)
+    (map (class_comparison (classes_of u) (variables_of r1)) r2.guard.items)
     ∙ (λ i. class_guard (classes_of u) 0 fs zs r1.guard.items i && class_guard (classes_of u)
-        (variables_of r1) fs zs r2.guard.items i)
+    (variables_of r1) fs zs r2.guard.items i)
     ∙ (λ i. guard_holds (λ x. left_at (classes_of u) r1 r2 zs (zero-add x i)) r1.guard.items
-        && guard_holds (right_at (classes_of u) r1 r2 zs) r2.guard.items)
+    && guard_holds (right_at (classes_of u) r1 r2 zs) r2.guard.items)
 
 pub store_at : (r1 r2 : Rule) (m : List ℕ) (v1 v2 : Valuation)
     → store_of (case_atoms (heads_at v1 r1) (heads_at v2 r2) m) ≡ case_store r1 r2 m v1 v2
@@ -88,13 +91,21 @@ case_fails a x e = λ i. cond (sym e i) (Some x) None
 pub case_is : (o : Overlap) (r1 r2 : Rule) (σ : Substitution) (zs : List ℤ) (as' bs : List Atom) (s : Store)
     → as' ≡ heads_at (left_at σ r1 r2 zs) r1 → bs ≡ heads_at (right_at σ r1 r2 zs) r2
     → s ≡ store_of (case_atoms as' bs o.matching.items) → guards_hold σ r1 r2 zs ≡ true
-    → Some (record { store = s; left = record { rule = o.first; heads = record { items = as' } }; right =
-        record { rule = o.second; heads = record { items = bs } } })
+    → Some (record {
+      store = s;
+      left = record { rule = o.first; heads = record { items = as' } };
+      right =
+          record { rule = o.second; heads = record { items = bs } };
+    })
     ≡ cond (guards_hold σ r1 r2 zs) (Some (case_at o r1 r2 σ zs)) None
 case_is o r1 r2 σ zs as' bs s l r e g =
     let store : s ≡ case_store r1 r2 o.matching.items (left_at σ r1 r2 zs) (right_at σ r1 r2 zs) =
     e ∙ (λ i. store_of (case_atoms (l i) (r i) o.matching.items)) ∙ store_at r1 r2 o.matching.items (left_at σ r1 r2 zs)
-        (right_at σ r1 r2 zs) in
-    (λ i. Some (record { store = store i; left = record { rule = o.first; heads = record { items = l i } }; right =
-        record { rule = o.second; heads = record { items = r i } } }))
+    (right_at σ r1 r2 zs) in
+    (λ i. Some (record {
+      store = store i;
+      left = record { rule = o.first; heads = record { items = l i } };
+      right =
+          record { rule = o.second; heads = record { items = r i } };
+    }))
     ∙ (λ i. cond (sym g i) (Some (case_at o r1 r2 σ zs)) None)

@@ -33,7 +33,7 @@ all_rise f a zero each less = tt
 all_rise f a (suc n) each less = rise_append (λ o p. overlap_cmp o p ≡ Less) (f a)
     (flat_map f (range_with_len (a + 1) n)) (each a) (all_rise f (a + 1) n each less)
     (λ x y i j. (let m = in_flat_map y f (range_with_len (a + 1) n) j in let b = range_in (a + 1) n m.0 m.1 in
-        less a m.0 x y (omega (arith, b)) i m.2))
+    less a m.0 x y (omega (arith, b)) i m.2))
 
 pub cond_rises : (b : Bool) (xs : List Overlap) → OverlapsRise xs → OverlapsRise (cond b xs [])
 cond_rises true xs h = h

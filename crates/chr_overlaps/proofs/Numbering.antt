@@ -25,7 +25,7 @@ place_numbered r i n l e =
 pub place_counted : (r : Rule) (i n m : ℕ) → i < length (heads_of r) → numbered n (terms_of (drop i (heads_of r)))
     ≡ numbered 0 (terms_of (heads_of r))
     → numbered n (get_or (heads_of r) i no_pattern).args.items ≡ Some m
-        → numbered m (terms_of (drop (i + 1) (heads_of r))) ≡ numbered 0 (terms_of (heads_of r))
+    → numbered m (terms_of (drop (i + 1) (heads_of r))) ≡ numbered 0 (terms_of (heads_of r))
 place_counted r i n m l e k =
     sym (then_numbered n m (get_or (heads_of r) i no_pattern).args.items (terms_of (drop (i + 1) (heads_of r))) k)
-        ∙ ap (numbered n) (sym (terms_from (heads_of r) i l)) ∙ e
+    ∙ ap (numbered n) (sym (terms_from (heads_of r) i l)) ∙ e

@@ -42,7 +42,7 @@ pub listed_cases : (rules : List Rule) (o : Overlap) (r1 r2 : Rule) (u : Unified
     (rs : List (List ℤ)) (cs : List Case)
     → slice_get rules (o.first - 1) ≡ Some r1 → slice_get rules (o.second - 1) ≡ Some r2 → AreConstants rules constants
     → IsMostGeneralUnifier (classes_of u) (equations_of r1 r2 o.matching.items) → IsUnified r1 r2 u
-        → AreTypes (length u.free.items) constants rs → length rs ≤ MAX_TYPES
+    → AreTypes (length u.free.items) constants rs → length rs ≤ MAX_TYPES
     → cs ≡ map (case_at o r1 r2 (classes_of u)) (filter (guards_hold (classes_of u) r1 r2) rs) → AreCases rules o cs
 listed_cases rules o r1 r2 u constants rs cs a b are solves is types within e = record {
   rule1 = r1;
@@ -62,7 +62,7 @@ listed_cases rules o r1 r2 u constants rs cs a b are solves is types within e = 
 pub too_many : (rules : List Rule) (o : Overlap) (r1 r2 : Rule) (u : Unified) (constants : List ℤ) (n : ℕ)
     → slice_get rules (o.first - 1) ≡ Some r1 → slice_get rules (o.second - 1) ≡ Some r2 → AreConstants rules constants
     → IsMostGeneralUnifier (classes_of u) (equations_of r1 r2 o.matching.items) → IsUnified r1 r2 u
-        → (n ≡ length u.free.items) × MoreTypesThan MAX_TYPES (length u.free.items) constants → IsTooMany rules o n
+    → (n ≡ length u.free.items) × MoreTypesThan MAX_TYPES (length u.free.items) constants → IsTooMany rules o n
 too_many rules o r1 r2 u constants n a b are solves is more = record {
   rule1 = r1;
   rule2 = r2;
@@ -80,32 +80,32 @@ too_many rules o r1 r2 u constants n a b are solves is more = record {
 pub not_too_many : (rules : List Rule) (o : Overlap) (r1 r2 : Rule) (u : Unified) (constants : List ℤ) (n : ℕ)
     → slice_get rules (o.first - 1) ≡ Some r1 → slice_get rules (o.second - 1) ≡ Some r2 → AreConstants rules constants
     → IsMostGeneralUnifier (classes_of u) (equations_of r1 r2 o.matching.items) → IsUnified r1 r2 u
-        → (MoreTypesThan MAX_TYPES (length u.free.items) constants → ⊥) → IsTooMany rules o n → ⊥
+    → (MoreTypesThan MAX_TYPES (length u.free.items) constants → ⊥) → IsTooMany rules o n → ⊥
 not_too_many rules o r1 r2 u constants n a b are solves is none t =
     let one : t.rule1 ≡ r1 = same_Some t.rule1 r1 (sym t.first ∙ a) in
     let two : t.rule2 ≡ r2 = same_Some t.rule2 r2 (sym t.second ∙ b) in
     let theirs : IsMostGeneralUnifier t.classes (equations_of r1 r2 o.matching.items) =
-        subst (λ r. IsMostGeneralUnifier t.classes (equations_of r1 r o.matching.items)) two
-        (subst (λ r. IsMostGeneralUnifier t.classes (equations_of r t.rule2 o.matching.items)) one t.solves) in
+    subst (λ r. IsMostGeneralUnifier t.classes (equations_of r1 r o.matching.items)) two
+    (subst (λ r. IsMostGeneralUnifier t.classes (equations_of r t.rule2 o.matching.items)) one t.solves) in
     let same : t.classes ≡ classes_of u = (λ i x. one_solution t.classes (classes_of u)
-        (equations_of r1 r2 o.matching.items) theirs solves x i) in
+    (equations_of r1 r2 o.matching.items) theirs solves x i) in
     let k : n ≡ length u.free.items = t.number ∙ (λ i. length (free_variables (same i) (one i) (two i)))
-        ∙ ap length (sym is.free) in
+    ∙ ap length (sym is.free) in
     none (subst (λ cs. MoreTypesThan MAX_TYPES (length u.free.items) cs)
-        (one_constants rules t.constants constants t.are_constants are)
-        (subst (λ m. MoreTypesThan MAX_TYPES m t.constants) k t.more))
+    (one_constants rules t.constants constants t.are_constants are)
+    (subst (λ m. MoreTypesThan MAX_TYPES m t.constants) k t.more))
 
 -- what has a most general unifier does not have none, however the rules are told
 pub never_clash : (rules : List Rule) (o : Overlap) (r1 r2 : Rule) (σ : Substitution) (m : List ℕ)
     → slice_get rules (o.first - 1) ≡ Some r1 → slice_get rules (o.second - 1) ≡ Some r2
     → m ≡ o.matching.items → IsMostGeneralUnifier σ (equations_of r1 r2 m)
     → (s1 s2 : Rule) → slice_get rules (o.first - 1) ≡ Some s1 → slice_get rules (o.second - 1) ≡ Some s2
-        → HasNoUnifier (equations_of s1 s2 o.matching.items) → ⊥
+    → HasNoUnifier (equations_of s1 s2 o.matching.items) → ⊥
 never_clash rules o r1 r2 σ m a b same solves s1 s2 c d none =
     let one : s1 ≡ r1 = same_Some s1 r1 (sym c ∙ a) in
     let two : s2 ≡ r2 = same_Some s2 r2 (sym d ∙ b) in
     let here : HasNoUnifier (equations_of r1 r2 m) = subst HasNoUnifier (λ i. equations_of (one i) (two i) (sym same i))
-        none in
+    none in
     here (spread σ (λ _. pos 0)) (solves.met (spread σ (λ _. pos 0)) (spread_constant σ (λ _. pos 0) solves.classes))
 
 -- an overlap in which two constants would be one has no order types

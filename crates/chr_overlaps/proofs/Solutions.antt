@@ -21,7 +21,7 @@ solve-append σ (e ∷ es) fs = by (unify_terms σ (class_of σ e.0) (class_of �
     by : (o : Option Substitution) → ((τ : Substitution) → solve τ (es ++ fs) ≡ option_and_then (λ ρ. solve ρ fs)
         (solve τ es))
         → option_and_then (λ τ. solve τ (es ++ fs)) o ≡ option_and_then (λ τ. solve τ fs)
-            (option_and_then (λ τ. solve τ es) o)
+        (option_and_then (λ τ. solve τ es) o)
     by None more = refl
     by (Some τ) more = more τ
 
@@ -41,8 +41,10 @@ places_there qs [] [] i h l = absurd (omega (arith, l))
 places_there qs [] (p ∷ ps) i h l = absurd h
 places_there qs (e ∷ m) [] i h l = absurd h
 places_there qs (zero ∷ m) (p ∷ ps) zero h l = (omega arith, λ g. absurd (omega (arith, g)))
-places_there qs (suc e ∷ m) (p ∷ ps) zero h l = (omega arith,
-    λ g. (let w = slice_get_within qs e h.0.0 h.0.1 in let z : suc e - 1 ≡ e = omega arith in rw z w))
+places_there qs (suc e ∷ m) (p ∷ ps) zero h l = (
+  omega arith,
+  λ g. (let w = slice_get_within qs e h.0.0 h.0.1 in let z : suc e - 1 ≡ e = omega arith in rw z w),
+)
 places_there qs (zero ∷ m) (p ∷ ps) (suc i) h l = (let r = places_there qs m ps i h (omega (arith, l)) in let a = r.0 in
     (omega (arith, a), r.1))
 places_there qs (suc e ∷ m) (p ∷ ps) (suc i) h l = (let r = places_there qs m ps i h.1 (omega (arith, l)) in let a =
@@ -57,7 +59,7 @@ rest_unmatched k qs (d ∷ m) (p ∷ ps) zero l h e = ap (λ x. equations k qs (
 rest_unmatched k qs (d ∷ m) (p ∷ ps) (suc i) l h e =
     let z : suc (i + 1) ≡ suc i + 1 = omega arith in
     subst (λ j. rest_of k qs m ps i ≡ rest_of k qs (d ∷ m) (p ∷ ps) j) z
-        (rest_unmatched k qs m ps i (omega (arith, l)) (omega (arith, h)) e)
+    (rest_unmatched k qs m ps i (omega (arith, l)) (omega (arith, h)) e)
 
 pub rest_matched : (k : ℕ) (qs : List Pattern) (m : List ℕ) (ps : List Pattern) (i : ℕ) → i < length m → i < length ps
     → 0 < get_or m i 0
@@ -71,7 +73,7 @@ rest_matched k qs (suc d ∷ m) (p ∷ ps) zero l h e =
 rest_matched k qs (d ∷ m) (p ∷ ps) (suc i) l h e =
     let z : suc (i + 1) ≡ suc i + 1 = omega arith in
     subst (λ j. rest_of k qs m ps i ≡ pairs_at k qs m ps i ++ rest_of k qs (d ∷ m) (p ∷ ps) j) z
-        (rest_matched k qs m ps i (omega (arith, l)) (omega (arith, h)) e)
+    (rest_matched k qs m ps i (omega (arith, l)) (omega (arith, h)) e)
 
 -- the first equations are solved, or can't be
 pub solved_first : (σ τ : Substitution) (es fs : List (Term × Term)) → Some τ ≡ solve σ es → solve σ (es ++ fs)

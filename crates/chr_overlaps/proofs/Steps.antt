@@ -23,8 +23,8 @@ pub more_overlaps : (f : ℕ → List Overlap) (old found new : List Overlap) (a
     → new ≡ old ++ flat_map f (range_with_len a (n + 1))
 more_overlaps f old found new a n e h g k =
     g ∙ ap (λ xs. xs ++ f e) h ∙ flat_map_more f old (range_with_len a n) e
-        ∙ ap (λ m. old ++ flat_map f (range_with_len a n ++ m ∷ [])) k
-        ∙ ap (λ xs. old ++ flat_map f xs) (sym (range_more a n))
+    ∙ ap (λ m. old ++ flat_map f (range_with_len a n ++ m ∷ [])) k
+    ∙ ap (λ xs. old ++ flat_map f xs) (sym (range_more a n))
 
 -- nothing is added
 pub none_added : (f : ℕ → List Overlap) (found : List Overlap) (e : ℕ) → f e ≡ [] → found ≡ found ++ f e
@@ -37,11 +37,11 @@ next r s o = going_on (overlaps_behind r s (drop (length o.matching.items + 1) (
 
 pub by_next : (r s : Rule) (o : Overlap) → length o.matching.items < length (heads_of r)
     → overlaps_behind r s (drop (length o.matching.items) (heads_of r)) o
-        ≡ flat_map (next r s o) (range_with_len 0 (length (heads_of s) + 1))
+    ≡ flat_map (next r s o) (range_with_len 0 (length (heads_of s) + 1))
 by_next r s o h =
     let n = length o.matching.items in
     let e : drop n (heads_of r) ≡ get_or (heads_of r) n no_pattern ∷ drop (n + 1) (heads_of r) =
-        rw add-one (drop-cons (heads_of r) n no_pattern h) in
+    rw add-one (drop-cons (heads_of r) n no_pattern h) in
     ap (λ ps. overlaps_behind r s ps o) e
 
 -- whether the entry may follow there
@@ -55,13 +55,13 @@ entry_follows r s o longer m e b l same is t =
     ap (λ (x : Overlap). overlaps_behind r s (drop (length x.matching.items) (heads_of r)) x) l
     ∙ ap (λ n. overlaps_behind r s (drop n (heads_of r)) (with_entry o e)) (length-append o.matching.items (e ∷ []))
     ∙ ap (λ b. cond b (overlaps_behind r s (drop (length o.matching.items + 1) (heads_of r)) (with_entry o e)) [])
-        (sym t ∙ is ∙ ap (λ k. follows r s k e) same)
+    (sym t ∙ is ∙ ap (λ k. follows r s k e) same)
 
 pub entry_not : (r s : Rule) (o : Overlap) (m : List ℕ) (e : ℕ) (b : Bool) → m ≡ o.matching.items → b ≡ follows r s m e
     → b ≡ false → next r s o e ≡ []
 entry_not r s o m e b same is t =
     ap (λ b. cond b (overlaps_behind r s (drop (length o.matching.items + 1) (heads_of r)) (with_entry o e)) [])
-        (sym (ap (λ k. follows r s k e) same) ∙ sym is ∙ t)
+    (sym (ap (λ k. follows r s k e) same) ∙ sym is ∙ t)
 
 -- the overlaps of one pair
 pub pair_added : (rules : List Rule) (i j : ℕ) (r s : Rule) (o : Overlap) → i < length rules → j < length rules
@@ -70,4 +70,4 @@ pub pair_added : (rules : List Rule) (i j : ℕ) (r s : Rule) (o : Overlap) → 
 pair_added rules i j r s o h g e f b =
     ap (λ (x : Overlap). overlaps_behind r s (drop (length x.matching.items) (heads_of r)) x) b
     ∙ sym (λ k. overlaps_at i j (slice_get_read rules (length rules) i r refl h e k)
-        (slice_get_read rules (length rules) j s refl g f k))
+    (slice_get_read rules (length rules) j s refl g f k))

@@ -18,7 +18,7 @@ at_own_number a (suc n) zero = let e : a ≡ a + 0 = omega arith in ap Variable 
 at_own_number a (suc n) (suc i) =
     let e : a + 1 + i ≡ a + suc i = omega arith in
     subst (λ j. get_or (map Variable (range_with_len (a + 1) n)) i (Variable j) ≡ Variable j) e
-        (at_own_number (a + 1) n i)
+    (at_own_number (a + 1) n i)
 
 pub table_single : (n : ℕ) → class_in (map Variable (range_with_len 0 n)) ≡ identity_substitution
 table_single n i x = all x i

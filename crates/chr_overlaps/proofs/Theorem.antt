@@ -25,12 +25,20 @@ abbrev with_entries : Overlap → List ℕ → Overlap
 with_entries o t = record { first = o.first; second = o.second; matching = record { items = o.matching.items ++ t } }
 
 no_more_entries : (o : Overlap) → with_entries o [] ≡ o
-no_more_entries o = λ i. record { first = o.first; second = o.second; matching =
-    record { items = append-nil o.matching.items i } }
+no_more_entries o = λ i. record {
+  first = o.first;
+  second = o.second;
+  matching =
+      record { items = append-nil o.matching.items i };
+}
 
 one_more_entry : (o : Overlap) (e : ℕ) (t : List ℕ) → with_entries (with_entry o e) t ≡ with_entries o (e ∷ t)
-one_more_entry o e t = λ i. record { first = o.first; second = o.second; matching =
-    record { items = append_assoc o.matching.items (e ∷ []) t i } }
+one_more_entry o e t = λ i. record {
+  first = o.first;
+  second = o.second;
+  matching =
+      record { items = append_assoc o.matching.items (e ∷ []) t i };
+}
 
 -- the overlaps of two rules that begin with the entries of o, where ps are the heads of the first that have none yet
 module _ (r s : Rule) where
@@ -56,7 +64,7 @@ module _ (r s : Rule) where
       let m = in_flat_map x (going_on (overlaps_behind r s ps) (heads_of s) o p) range i in
       let b = range_in 0 (length (heads_of s) + 1) m.0 m.1 in
       let c = if_in x (may_follow (heads_of s) o.matching.items p m.0) (overlaps_behind r s ps (with_entry o m.0))
-          m.2 in
+      m.2 in
       let f = follows_means (heads_of s) o.matching.items p m.0 (omega (arith, b)) c.0 in
       let g = shape ps (with_entry o m.0) x c.1 in
       record {
@@ -71,13 +79,16 @@ module _ (r s : Rule) where
       → IsInjective x.matching.items
   apart [] o x a i =
       let m = if_in x (is_touching o) (o ∷ []) i in
-      elim m.1 as (λ _. IsInjective x.matching.items) [ inl e ↦ subst (λ (y : Overlap). IsInjective y.matching.items)
-          (sym e) a | inr n ↦ absurd n ]
+      elim m.1 as (λ _. IsInjective x.matching.items) [
+        | inl e ↦ subst (λ (y : Overlap). IsInjective y.matching.items)
+            (sym e) a
+        | inr n ↦ absurd n
+      ]
   apart (p ∷ ps) o x a i =
       let m = in_flat_map x (going_on (overlaps_behind r s ps) (heads_of s) o p) range i in
       let b = range_in 0 (length (heads_of s) + 1) m.0 m.1 in
       let c = if_in x (may_follow (heads_of s) o.matching.items p m.0) (overlaps_behind r s ps (with_entry o m.0))
-          m.2 in
+      m.2 in
       let f = follows_means (heads_of s) o.matching.items p m.0 (omega (arith, b)) c.0 in
       apart ps (with_entry o m.0) x (apart_more o.matching.items m.0 a f.0) c.1
 
@@ -95,29 +106,29 @@ module _ (r s : Rule) where
       let parts = symbols_first (heads_of s) p ps e t h in
       let new : IsNew o.matching.items e = new_there o.matching.items t e a in
       let f : may_follow (heads_of s) o.matching.items p e ≡ true =
-          means_follows (heads_of s) o.matching.items p e new parts.0 in
+      means_follows (heads_of s) o.matching.items p e new parts.0 in
       let w = symbol_within (heads_of s) p e parts.0 in
       let q = append_assoc o.matching.items (e ∷ []) t in
       let more : In (with_entries (with_entry o e) t) (overlaps_behind r s ps (with_entry o e)) =
-          complete ps (with_entry o e) t parts.1 (subst IsInjective (sym q) a)
-          (ap is_touching (one_more_entry o e t) ∙ g) in
+      complete ps (with_entry o e) t parts.1 (subst IsInjective (sym q) a)
+      (ap is_touching (one_more_entry o e t) ∙ g) in
       let there : In (with_entries o (e ∷ t)) (overlaps_behind r s ps (with_entry o e)) =
-          subst (λ (y : Overlap). In y (overlaps_behind r s ps (with_entry o e))) (one_more_entry o e t) more in
+      subst (λ (y : Overlap). In y (overlaps_behind r s ps (with_entry o e))) (one_more_entry o e t) more in
       flat_map_in (with_entries o (e ∷ t)) (going_on (overlaps_behind r s ps) (heads_of s) o p) e range
-          (in_range 0 (length (heads_of s) + 1) e (omega arith) (omega (arith, w)))
+      (in_range 0 (length (heads_of s) + 1) e (omega arith) (omega (arith, w)))
       (subst (λ b. In (with_entries o (e ∷ t)) (cond b (overlaps_behind r s ps (with_entry o e)) [])) (sym f) there)
 
   pub rising : (ps : List Pattern) (o : Overlap) → OverlapsRise (overlaps_behind r s ps o)
   rising [] o = cond_rises (is_touching o) (o ∷ []) ((λ p i. elim i [ ]), tt)
   rising (p ∷ ps) o = all_rise (going_on (overlaps_behind r s ps) (heads_of s) o p) 0 (length (heads_of s) + 1)
       (λ e. cond_rises (may_follow (heads_of s) o.matching.items p e) (overlaps_behind r s ps (with_entry o e))
-          (rising ps (with_entry o e)))
+      (rising ps (with_entry o e)))
       (λ d e x y l i j. (let a = shape ps (with_entry o d) x
-          (if_in x (may_follow (heads_of s) o.matching.items p d) (overlaps_behind r s ps (with_entry o d)) i).1 in
+      (if_in x (may_follow (heads_of s) o.matching.items p d) (overlaps_behind r s ps (with_entry o d)) i).1 in
       let b = shape ps (with_entry o e) y (if_in y (may_follow (heads_of s) o.matching.items p e)
-          (overlaps_behind r s ps (with_entry o e)) j).1 in
+      (overlaps_behind r s ps (with_entry o e)) j).1 in
       (λ k. overlap_cmp ((a.same ∙ one_more_entry o d a.entries) k) ((b.same ∙ one_more_entry o e b.entries) k))
-          ∙ less_at (o.first ∷ o.second ∷ o.matching.items) a.entries b.entries d e l))
+      ∙ less_at (o.first ∷ o.second ∷ o.matching.items) a.entries b.entries d e l))
 
 -- x is an overlap of the rules a and b, which stand at the places i and j
 record OfPair (i j : ℕ) (a b : Option Rule) (x : Overlap) : Type 0 where
@@ -189,8 +200,14 @@ module _ (rules : List Rule) where
             first,
             ap (λ (y : Overlap). y.second) p.same,
             subst (λ (y : Overlap). IsOverlap rules m.0 w.place y.matching.items) (sym p.same)
-                (record { rule1 = p.rule1; rule2 = p.rule2; first = p.first; second = p.second; ordered = w.after;
-                    matching = p.matching }),
+                (record {
+                  rule1 = p.rule1;
+                  rule2 = p.rule2;
+                  first = p.first;
+                  second = p.second;
+                  ordered = w.after;
+                  matching = p.matching;
+                }),
           ),
         ),
         omega (arith, first, b),
@@ -206,12 +223,12 @@ module _ (rules : List Rule) where
       let n = slice_get_within rules j o.rule2 o.second in
       let le = o.ordered in
       let in_these : In x (overlaps_at i j (Some o.rule1) (Some o.rule2)) =
-          complete o.rule1 o.rule2 (heads_of o.rule1) (begun i j) m q.symbols q.apart q.touching in
+      complete o.rule1 o.rule2 (heads_of o.rule1) (begun i j) m q.symbols q.apart q.touching in
       let pair : In x (overlaps_of_pair rules i j) = subst
-          (λ (p : Option Rule × Option Rule). In x (overlaps_at i j p.0 p.1)) (λ t. (sym o.first t, sym o.second t))
-          in_these in
+      (λ (p : Option Rule × Option Rule). In x (overlaps_at i j p.0 p.1)) (λ t. (sym o.first t, sym o.second t))
+      in_these in
       let rule : In x (overlaps_of_rule rules i) = flat_map_in x (overlaps_of_pair rules i) j
-          (range_with_len i (length rules - i)) (in_range i (length rules - i) j le (omega (arith, l, n, le))) pair in
+      (range_with_len i (length rules - i)) (in_range i (length rules - i) j le (omega (arith, l, n, le))) pair in
       flat_map_in x (overlaps_of_rule rules) i (range_with_len a k) (in_range a k i from before) rule
 
   rise : (a k : ℕ) → OverlapsRise (some a k)
@@ -220,10 +237,10 @@ module _ (rules : List Rule) where
       (λ j. pairs_rise i j (slice_get rules i) (slice_get rules j))
       (λ d e x y l h g. (let a = in_pair i d x h in let b = in_pair i e y g in
       (λ k. overlap_cmp (a.same k) (b.same k)) ∙ less_at ((i + 1) ∷ []) a.entries b.entries (d + 1) (e + 1)
-          (omega arith))))
+      (omega arith))))
       (λ d e x y l h g. (let v = in_rule d x h in let w = in_rule e y g in let a = v.pair in let b = w.pair in
       (λ k. overlap_cmp (a.same k) (b.same k)) ∙ less_at [] ((v.place + 1) ∷ a.entries) ((w.place + 1) ∷ b.entries)
-          (d + 1) (e + 1) (omega arith)))
+      (d + 1) (e + 1) (omega arith)))
 
   are_between : (a k n : ℕ) → a + k ≤ n ⊎ (k ≡ 0) → ((i : ℕ) → a ≤ i → i < n → i < length rules → i < a + k)
       → AreOverlapsBetween rules a n (some a k)
@@ -244,7 +261,7 @@ module _ (rules : List Rule) where
           let first = h.2.0 in
           let within = slice_get_within rules h.0 h.2.2.rule1 h.2.2.first in
           listed a k h.0 h.1 o.matching.items (omega (arith, from, first))
-              (reach h.0 (omega (arith, from, first)) (omega (arith, before, first)) within) h.2.2
+          (reach h.0 (omega (arith, from, first)) (omega (arith, before, first)) within) h.2.2
 
 -- at the end of the loop over the rules from the place a to the place n
 pub all_listed : (rules of_program : List Rule) (a k n : ℕ) (found : List Overlap) → rules ≡ of_program → a + k ≤ n
@@ -252,4 +269,4 @@ pub all_listed : (rules of_program : List Rule) (a k n : ℕ) (found : List Over
     → found ≡ flat_map (overlaps_of_rule rules) (range_with_len a k) → AreOverlapsBetween of_program a n found
 all_listed rules of_program a k n found e within reach f =
     subst (λ (rs : List Rule). AreOverlapsBetween rs a n found) e
-        (subst (AreOverlapsBetween rules a n) (sym f) (are_between rules a k n within reach))
+    (subst (AreOverlapsBetween rules a n) (sym f) (are_between rules a k n within reach))

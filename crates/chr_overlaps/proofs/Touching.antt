@@ -18,4 +18,4 @@ touches_by_parts (suc n) k (zero ∷ m) =
     touches_by_parts n k m ∙ ap (λ b. (b || list_any (nat_lt k) (take n m)) || list_any (nat_lt 0) (drop n m)) (sym e)
 touches_by_parts (suc n) k (suc p ∷ m) =
     ap (λ b. nat_lt k (suc p) || b) (touches_by_parts n k m)
-        ∙ sym (or_assoc (nat_lt k (suc p)) (list_any (nat_lt k) (take n m)) (list_any (nat_lt 0) (drop n m)))
+    ∙ sym (or_assoc (nat_lt k (suc p)) (list_any (nat_lt k) (take n m)) (list_any (nat_lt 0) (drop n m)))

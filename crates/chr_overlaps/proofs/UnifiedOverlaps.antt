@@ -26,8 +26,13 @@ unified_has rules o u is = record { rule1 = is.rule1; rule2 = is.rule2; are_rule
 
 pub sorted_unified_has : (rules : List Rule) (o : Overlap) (u : Unified) → IsSortedUnifiedAt rules o u
     → HasUnified rules o u
-sorted_unified_has rules o u is = record { rule1 = is.rule1; rule2 = is.rule2; are_rules = is.are_rules; unified =
-    is.unified }
+sorted_unified_has rules o u is = record {
+  rule1 = is.rule1;
+  rule2 = is.rule2;
+  are_rules = is.are_rules;
+  unified =
+      is.unified;
+}
 
 pub unified_in : (rules : List Rule) (o : Overlap) (r1 r2 : Rule) (u : Unified) → AreRulesOf rules o r1 r2
     → HasUnified rules o u → IsUnified r1 r2 u
@@ -43,7 +48,7 @@ none_unified rules o r1 r2 (Some x) a h = h
 
 pub is_unified : (rules : List Rule) (o : Overlap) (r1 r2 : Rule) (found : Option Unified) → AreRulesOf rules o r1 r2
     → IfSome found (λ u. IsMostGeneralUnifier (classes_of u) (equations_of r1 r2 o.matching.items))
-        → IfSome found (IsUnified r1 r2) → IfSome found (IsUnifiedAt rules o)
+    → IfSome found (IsUnified r1 r2) → IfSome found (IsUnifiedAt rules o)
 is_unified rules o r1 r2 None a s u = s
 is_unified rules o r1 r2 (Some x) a s u = record { rule1 = r1; rule2 = r2; are_rules = a; solves = s; unified = u }
 
@@ -55,18 +60,18 @@ none_sorted rules o r1 r2 (Some x) a h = h
 
 pub is_sorted : (rules : List Rule) (o : Overlap) (r1 r2 : Rule) (found : Option Unified) → AreRulesOf rules o r1 r2
     → IfSome found (λ u. IsMostGeneralUnifier (classes_of u) (all_equations r1 r2 o.matching.items))
-        → IfSome found (IsUnified r1 r2) → IfSome found (IsSortedUnifiedAt rules o)
+    → IfSome found (IsUnified r1 r2) → IfSome found (IsSortedUnifiedAt rules o)
 is_sorted rules o r1 r2 None a s u = s
 is_sorted rules o r1 r2 (Some x) a s u = record { rule1 = r1; rule2 = r2; are_rules = a; solves = s; unified = u }
 
 pub case_in : {E : Type 0} (rules : List Rule) (o : Overlap) (r1 r2 s1 s2 : Rule) (u : Unified) (zs : List ℤ)
     (result : Result (Option Case) E) → AreRulesOf rules o r1 r2 → AreRulesOf rules o s1 s2
     → IfOk result (λ found. found ≡ (if guards_hold (classes_of u) r1 r2 zs then Some
-        (case_at o r1 r2 (classes_of u) zs) else None))
+    (case_at o r1 r2 (classes_of u) zs) else None))
     → IfOk result (λ found. found ≡ (if guards_hold (classes_of u) s1 s2 zs then Some
-        (case_at o s1 s2 (classes_of u) zs) else None))
+    (case_at o s1 s2 (classes_of u) zs) else None))
 case_in rules o r1 r2 s1 s2 u zs result a b h =
     let e = rules_once rules o r1 r2 s1 s2 a b in
     subst (λ (r : Rule × Rule). IfOk result (λ found. found
-        ≡ (if guards_hold (classes_of u) r.0 r.1 zs then Some (case_at o r.0 r.1 (classes_of u) zs) else None)))
-        (λ i. (e.0 i, e.1 i)) h
+    ≡ (if guards_hold (classes_of u) r.0 r.1 zs then Some (case_at o r.0 r.1 (classes_of u) zs) else None)))
+    (λ i. (e.0 i, e.1 i)) h

@@ -71,14 +71,18 @@ variable_sound r (p ∷ known) x s e = by (column_of (pattern_at r p).args.items
     by : (o : Option ℕ) → column_of (pattern_at r p).args.items x 0 ≡ o → option_or (option_map (λ c. Argument p c) o)
         (variable_source r known x) ≡ Some s
         → (variable_source r known x ≡ Some s → (q : ℕ) × (c : ℕ) × (s ≡ Argument q c) × (is_in q known ≡ true)
-            × (term_at r q c ≡ term.Variable x))
+        × (term_at r q c ≡ term.Variable x))
         → (q : ℕ) × (c : ℕ) × (s ≡ Argument q c) × (is_in q (p ∷ known) ≡ true) × (term_at r q c ≡ term.Variable x)
     by None f g more = let w = more g in (w.0, w.1, w.2, or_right (nat_eq w.0 p) _ w.3, w.4)
     by (Some c) f g more =
         let w = column_sound (pattern_at r p).args.items x 0 c f in
-        let k : c ≡ w.0 = (let h = w.1 in omega (arith, h)) in
-        (p, c, sym (same_Some (Argument p c) s g), itself p (list_any (nat_eq p) known),
-            ap (λ j. get_or (pattern_at r p).args.items j no_term) k ∙ w.2)
+        let k : c ≡ w.0 = (let h = w.1 in omega (arith, h)) in (
+          p,
+          c,
+          sym (same_Some (Argument p c) s g),
+          itself p (list_any (nat_eq p) known),
+          ap (λ j. get_or (pattern_at r p).args.items j no_term) k ∙ w.2,
+        )
 
 -- a place that is known
 known_at : (places : List ℕ) (p n q : ℕ) → is_in q (p ∷ take n places) ≡ true → IsKnown places p n q
@@ -92,7 +96,7 @@ known_at places p n q e = by (nat_eq q p) refl e
 abbrev IsTermSource : Rule → List ℕ → ℕ → ℕ → Term → Source → Type 0
 IsTermSource r places p n t s =
     IsReady places p n s × ((v : Valuation) → guard_holds v r.guard.items ≡ true → source_value (heads_at v r) s
-        ≡ term_value v t)
+    ≡ term_value v t)
 
 direct_sound : (r : Rule) (places : List ℕ) (p n : ℕ) (t : Term) (s : Source) → direct_source r (p ∷ take n places) t
     ≡ Some s → IsTermSource r places p n t s
@@ -137,19 +141,19 @@ equal_sound v x c t e holds = by c.cmp c.left c.right e holds
 abbrev IsEqualSource : Rule → List ℕ → ℕ → ℕ → ℕ → List Comparison → Source → Type 0
 IsEqualSource r places p n x cs s =
     IsReady places p n s × ((v : Valuation) → guard_holds v r.guard.items ≡ true → guard_holds v cs ≡ true
-        → source_value (heads_at v r) s ≡ v x)
+    → source_value (heads_at v r) s ≡ v x)
 
 equal_source_sound : (r : Rule) (places : List ℕ) (p n x : ℕ) (cs : List Comparison) (s : Source)
     → equal_source r (p ∷ take n places) x cs ≡ Some s → IsEqualSource r places p n x cs s
 equal_source_sound r places p n x [] s e = absurd (let z : ◌≡◌ {A = Option Source} None (Some s) = e in cc)
 equal_source_sound r places p n x (c ∷ cs) s e =
     by (λ g. (let w = equal_source_sound r places p n x cs s g in
-        (w.0, λ v h k. w.1 v h (and_parts (comparison_holds v c) _ k).1))) (equal_to x c) refl e
+    (w.0, λ v h k. w.1 v h (and_parts (comparison_holds v c) _ k).1))) (equal_to x c) refl e
   where
     here : (equal_source r (p ∷ take n places) x cs ≡ Some s → IsEqualSource r places p n x (c ∷ cs) s) → (t : Term)
         → equal_to x c ≡ Some t
         → (o : Option Source) → direct_source r (p ∷ take n places) t ≡ o
-            → option_or o (equal_source r (p ∷ take n places) x cs) ≡ Some s → IsEqualSource r places p n x (c ∷ cs) s
+        → option_or o (equal_source r (p ∷ take n places) x cs) ≡ Some s → IsEqualSource r places p n x (c ∷ cs) s
     here later t f None g h = later h
     here later t f (Some o) g h =
         let w = direct_sound r places p n t s (g ∙ h) in
@@ -157,7 +161,7 @@ equal_source_sound r places p n x (c ∷ cs) s e =
 
     by : (equal_source r (p ∷ take n places) x cs ≡ Some s → IsEqualSource r places p n x (c ∷ cs) s)
         → (o : Option Term) → equal_to x c ≡ o → option_or (option_and_then (direct_source r (p ∷ take n places)) o)
-            (equal_source r (p ∷ take n places) x cs) ≡ Some s
+        (equal_source r (p ∷ take n places) x cs) ≡ Some s
         → IsEqualSource r places p n x (c ∷ cs) s
     by later None f g = later g
     by later (Some t) f g = here later t f (direct_source r (p ∷ take n places) t) refl g
@@ -179,7 +183,7 @@ keys_sound : (r : Rule) (places : List ℕ) (p n q c : ℕ) (ts : List Term)
 keys_sound r places p n q c [] are = tt
 keys_sound r places p n q c (t ∷ ts) are =
     by (term_source r (p ∷ take n places) t) refl (keys_sound r places p n q (c + 1) ts
-        (λ j l. (are (suc j) (omega (arith, l)) ∙ ap (term_at r q) (omega arith))))
+    (λ j l. (are (suc j) (omega (arith, l)) ∙ ap (term_at r q) (omega arith))))
   where
     here : t ≡ term_at r q c
     here = are 0 (omega arith) ∙ ap (term_at r q) (omega arith)
@@ -187,7 +191,7 @@ keys_sound r places p n q c (t ∷ ts) are =
     is_source : (s : Source) → IsTermSource r places p n t s → IsSource r q c s
     is_source s is heads h =
         argument_value r h.0 heads q c h.1 ∙ ap (term_value h.0) (sym here) ∙ sym (is.1 h.0 h.2)
-            ∙ ap (λ hs. source_value hs s) h.1
+        ∙ ap (λ hs. source_value hs s) h.1
 
     by : (o : Option Source) → term_source r (p ∷ take n places) t ≡ o
         → AreKeys r places p n q (keys_from r (p ∷ take n places) (c + 1) ts)
@@ -223,7 +227,7 @@ tests_sound : (r : Rule) (places before : List ℕ) (p n : ℕ) (cs : List Compa
 tests_sound r places before p n [] holds = tt
 tests_sound r places before p n (c ∷ cs) holds =
     by (test_of r before c) (test_of r (p ∷ take n places) c) refl
-        (tests_sound r places before p n cs (λ v g. (and_parts (comparison_holds v c) _ (holds v g)).1))
+    (tests_sound r places before p n cs (λ v g. (and_parts (comparison_holds v c) _ (holds v g)).1))
   where
     by : (old new : Option Test) → test_of r (p ∷ take n places) c ≡ new
         → AreTests r places p n (tests_from r before (p ∷ take n places) cs)
@@ -267,7 +271,7 @@ limit_sound r places p n q c l holds e = first (limit_by c.cmp (own_column r q c
     one : (k : Cmp) (t u : Term) → ((v : Valuation) → guard_holds v r.guard.items ≡ true
         → compares k (int_cmp (term_value v t) (term_value v u)) ≡ true)
         → limit_by k (own_column r q t) (direct_source r (p ∷ take n places) u) ≡ Some l → IsReady places p n l.source
-            × IsLimit r q l
+        × IsLimit r q l
     one k t u says f = by (own_column r q t) refl (direct_source r (p ∷ take n places) u) refl f
       where
         own : (t : Term) (column : ℕ) → own_column r q t ≡ Some column → term_at r q column ≡ t
@@ -288,20 +292,20 @@ limit_sound r places p n q c l holds e = first (limit_by c.cmp (own_column r q c
         by (Some column) g (Some s) h i =
             let source = direct_sound r places p n u s h in
             subst (λ x. IsReady places p n x.source × IsLimit r q x)
-                (chosen (is_equal k) (record { column = column; cmp = k; source = s }) i) (
+            (chosen (is_equal k) (record { column = column; cmp = k; source = s }) i) (
               source.0,
               λ heads w. (
                   let value : argument (head heads q) column ≡ term_value w.0 t =
-                      argument_value r w.0 heads q column w.1 ∙ ap (term_value w.0) (own t column g) in
+                  argument_value r w.0 heads q column w.1 ∙ ap (term_value w.0) (own t column g) in
                   let known : source_value heads s ≡ term_value w.0 u = ap (λ hs. source_value hs s) (sym w.1)
-                      ∙ source.1 w.0 w.2 in
+                  ∙ source.1 w.0 w.2 in
                   (λ j. compares k (int_cmp (value j) (known j))) ∙ says w.0 w.2),
             )
 
     first : (o : Option Limit) → limit_by c.cmp (own_column r q c.left) (direct_source r (p ∷ take n places) c.right)
         ≡ o
         → option_or o (limit_by (turned c.cmp) (own_column r q c.right) (direct_source r (p ∷ take n places) c.left))
-            ≡ Some l → IsReady places p n l.source × IsLimit r q l
+        ≡ Some l → IsReady places p n l.source × IsLimit r q l
     first (Some x) f g = one c.cmp c.left c.right holds (f ∙ g)
     first None f g = one (turned c.cmp) c.right c.left
         (λ v h. (turned_holds c.cmp (term_value v c.left) (term_value v c.right) ∙ holds v h)) g
@@ -312,7 +316,7 @@ limits_sound : (r : Rule) (places : List ℕ) (p n q : ℕ) (cs : List Compariso
 limits_sound r places p n q [] holds = tt
 limits_sound r places p n q (c ∷ cs) holds =
     by (test_of r (p ∷ take n places) c) (limit_of r (p ∷ take n places) q c) refl
-        (limits_sound r places p n q cs (λ v g. (and_parts (comparison_holds v c) _ (holds v g)).1))
+    (limits_sound r places p n q cs (λ v g. (and_parts (comparison_holds v c) _ (holds v g)).1))
   where
     by : (old : Option Test) (new : Option Limit) → limit_of r (p ∷ take n places) q c ≡ new
         → AreLimits r places p n q (limits_from r (p ∷ take n places) q cs)
@@ -330,18 +334,22 @@ pub longest_more : (r : Rule) (p : ℕ) (ps : List Partner) (l : Partner) → Ar
     → IsLongest r (p ∷ places_of ps) (length (heads_of r)) l → AreLongest r p (ps ++ l ∷ [])
 longest_more r p ps l before next j k h here = elim (cases_lt j (length ps)) as (λ _. IsLongest r
     (p ∷ take j (places_of (ps ++ l ∷ []))) (length (heads_of r)) k) [
-  | inl less ↦ rw (map-append (λ (x : Partner). x.place) ps (l ∷ []), take-append-le j (places_of ps) (l.place ∷ [])
-        (let n = length-map ps (λ x. x.place) in omega (arith, n, less)))
-      (before j k less (sym (get_or_append_left ps (l ∷ []) k j less) ∙ here))
-  | inr most ↦ (let n = length-append ps (l ∷ []) in
-      let i : j ≡ length ps = omega (arith, h, n, most) in
-      let m = length-map ps (λ x. x.place) in
-      let same : l ≡ k = sym (get_or-append_seam ps l [] k) ∙ ap (λ i. get_or (ps ++ l ∷ []) i k) (sym i) ∙ here in
-      let known : take j (places_of (ps ++ l ∷ [])) ≡ places_of ps =
-      ap (take j) (map-append (λ (x : Partner). x.place) ps (l ∷ [])) ∙ take-append-le j (places_of ps) (l.place ∷ [])
+      | inl less ↦ rw (
+        map-append (λ (x : Partner). x.place) ps (l ∷ []),
+        take-append-le j (places_of ps) (l.place ∷ [])
+            (let n = length-map ps (λ x. x.place) in omega (arith, n, less)),
+      )
+          (before j k less (sym (get_or_append_left ps (l ∷ []) k j less) ∙ here))
+      | inr most ↦ (let n = length-append ps (l ∷ []) in
+          let i : j ≡ length ps = omega (arith, h, n, most) in
+          let m = length-map ps (λ x. x.place) in
+          let same : l ≡ k = sym (get_or-append_seam ps l [] k) ∙ ap (λ i. get_or (ps ++ l ∷ []) i k) (sym i) ∙ here in
+          let known : take j (places_of (ps ++ l ∷ [])) ≡ places_of ps =
+          ap (take j) (map-append (λ (x : Partner). x.place) ps (l ∷ []))
+          ∙ take-append-le j (places_of ps) (l.place ∷ [])
           (omega (arith, m, i)) ∙ take_all j (places_of ps) (omega (arith, m, i)) in
-      rw known (subst (IsLongest r (p ∷ places_of ps) (length (heads_of r))) same next))
-]
+          rw known (subst (IsLongest r (p ∷ places_of ps) (length (heads_of r))) same next))
+    ]
 
 -- distinct partners at all places, each a longest one, are a plan
 pub is_plan : (r : Rule) (p : ℕ) (ps : List Partner) → AreLongest r p ps → IsDistinct nat_eq (p ∷ places_of ps)
@@ -357,9 +365,9 @@ is_plan r p ps longest distinct places all = record {
   tests = λ j l h here. (rw (longest j l h here).tests (tests_sound r (places_of ps) _ p j r.guard.items (λ v g. g)));
   limits = λ j l h here. (elim (longest j l h here).limits as (λ _. AreLimits r
       (places_of ps) p j l.place l.limits.items) [
-    | inl e ↦ rw e tt
-    | inr e ↦ rw e (limits_sound r (places_of ps) p j l.place r.guard.items (λ v g. g))
-  ]);
+        | inl e ↦ rw e tt
+        | inr e ↦ rw e (limits_sound r (places_of ps) p j l.place r.guard.items (λ v g. g))
+      ]);
 }
   where
     m : length (places_of ps) ≡ length ps
@@ -375,7 +383,7 @@ pub room : (r : Rule) (known : List ℕ) (l : Partner) → IsDistinct nat_eq kno
     → IsLongest r known (length (heads_of r)) l → length known < length (heads_of r)
 room r known l distinct places next =
     let n = few r (known ++ l.place ∷ []) (distinct_more known l.place distinct next.new)
-        (places_more r known l.place places next.within) in
+    (places_more r known l.place places next.within) in
     let m = length-append known (l.place ∷ []) in
     omega (arith, n, m)
 

@@ -17,7 +17,7 @@ use Rattle.chr_plans.specs.Reactions.{FitsPlan, NoneBy, NoneAboveBy, MayResume, 
 module _ (rules : List Rule) (rows : Tables) (columns : Columns) (a : Atom) (plans : List Plan) (j : ℕ) (plan : Plan)
     (r : Rule)
     (left : j < length plans) (here : plan ≡ get_or plans j plan) (rule : r ≡ get_or rules plan.rule r)
-        (fit : FitsPlan rules rows columns (slice_get plans j)) where
+    (fit : FitsPlan rules rows columns (slice_get plans j)) where
   at : slice_get plans j ≡ Some plan
   at = slice_get_read plans (length plans) j plan refl left here
 
@@ -41,7 +41,7 @@ module _ (rules : List Rule) (rows : Tables) (columns : Columns) (a : Atom) (pla
   none_more before none k l = elim (cases_lt k j) as (λ _. NoneBy rules rows a (slice_get plans k)) [
     | inl less ↦ before k less
     | inr most ↦ (let i : k ≡ j = omega (arith, l, most) in subst (λ n. NoneBy rules rows a (slice_get plans n)) (sym i)
-          (none_here none))
+        (none_here none))
   ]
 
   -- where this plan's search begins, and where it stops
@@ -57,9 +57,11 @@ module _ (rules : List Rule) (rows : Tables) (columns : Columns) (a : Atom) (pla
   pub resumes : (seats : List Seat) → ((k : ℕ) → k < j → NoneBy rules rows a (slice_get plans k))
       → FirstNoneAbove r rows plan.place a plan.lookups.items (seat seats (first_place plan.lookups.items)).row
       → MayResume rules rows a plans (record { plan = j; row = first_row (slice_get plans j) seats })
-  resumes seats before above =
-      (before, rw at (λ q e. subst (λ x. FirstNoneAbove x rows plan.place a plan.lookups.items
-          (seat seats (first_place plan.lookups.items)).row) (same_Some r q (sym is_rule ∙ e)) above))
+  resumes seats before above = (
+    before,
+    rw at (λ q e. subst (λ x. FirstNoneAbove x rows plan.place a plan.lookups.items
+        (seat seats (first_place plan.lookups.items)).row) (same_Some r q (sym is_rule ∙ e)) above),
+  )
 
 -- the plans before the one at which a search begins
 pub before_first : (rules : List Rule) (rows : Tables) (a : Atom) (plans : List Plan) (from : Option Standing) (n : ℕ)
@@ -93,5 +95,7 @@ module _ (rules : List Rule) (before after : Tables) (died : OnlyDied before aft
   -- where a search may go on, it may do so after rows have died
   pub resume_later : (plans : List Plan) (s : Standing) → MayResume rules before a plans s
       → MayResume rules after a plans s
-  resume_later plans s m = (λ k l. none_later (slice_get plans k) (m.0 k l),
-      above_later (slice_get plans s.plan) s.row m.1)
+  resume_later plans s m = (
+    λ k l. none_later (slice_get plans k) (m.0 k l),
+    above_later (slice_get plans s.plan) s.row m.1,
+  )

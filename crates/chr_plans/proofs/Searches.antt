@@ -69,7 +69,7 @@ none_next P Q at (Some row) h = tt
 module _ (r : Rule) (p : ℕ) (lookups : List Lookup) (n : ℕ) (l : Lookup) (rows : Tables) (columns : Columns)
     (heads : List Atom) (seats : List Seat)
     (plan : IsPlan r p (partners_of lookups)) (fits : FitsTables r lookups rows columns) (left : n < length lookups)
-        (here : get_or lookups n l ≡ l) where
+    (here : get_or lookups n l ≡ l) where
   within : (j : ℕ) → j < length lookups → j < length (partners_of lookups)
   within j h = let e = partners_len lookups in omega (arith, e, h)
 
@@ -90,17 +90,17 @@ module _ (r : Rule) (p : ℕ) (lookups : List Lookup) (n : ℕ) (l : Lookup) (ro
       → AgreeAtKnown (looked_in lookups) p n hs ss heads seats
       → ((seat ss l.partner.place).table ≡ l.table)
       × HasKey (columns l.table l.index) (map (λ k. source_value heads k.source) l.partner.key.items)
-          (rows l.table (seat ss l.partner.place).row)
+      (rows l.table (seat ss l.partner.place).row)
       × ((span : Span) → ((a : Atom) → list_all (allows heads a) l.partner.limits.items ≡ true → Spans span a)
-          → LiesIn span (rows l.table (seat ss l.partner.place).row))
+      → LiesIn span (rows l.table (seat ss l.partner.place).row))
   row_known hs ss s same =
       let there = s.there l.partner.place is_other in
       let table : (seat ss l.partner.place).table ≡ l.table =
       fits.table n l (seat ss l.partner.place).table (seat ss l.partner.place).row (head hs l.partner.place) left here
-          there
+      there
       (shape_known r s.instance.0 l.partner.place hs s.instance.1) in
       let key : key_of (columns_of l.partner.key.items) (head hs l.partner.place)
-          ≡ map (λ k. source_value heads k.source) l.partner.key.items =
+      ≡ map (λ k. source_value heads k.source) l.partner.key.items =
       key_known r (looked_in lookups) p n l.partner.place hs heads ss seats l.partner.key.items s.instance same
       (plan.keys n l.partner (within n left) (partner_is lookups n l left here)) in (
         table,
@@ -132,21 +132,21 @@ module _ (r : Rule) (p : ℕ) (lookups : List Lookup) (n : ℕ) (l : Lookup) (ro
   reached : (from : Option ℕ) → IfSome from (λ row. PastFrom r rows p lookups n heads seats (row + 1))
       → (hs : List Atom) (ss : List Seat) → IsSeated r rows p hs ss
       → AgreeAtKnown (looked_in lookups) p n hs ss heads seats
-          → IfSome from (λ first. (seat ss l.partner.place).row ≤ first)
+      → IfSome from (λ first. (seat ss l.partner.place).row ≤ first)
   reached None before hs ss s same = tt
   reached (Some first) before hs ss s same = elim (cases_lt first (seat ss l.partner.place).row) as (λ _.
       (seat ss l.partner.place).row ≤ first) [
-    | inl less ↦ absurd (before left hs ss s same (let e = ap (λ k. (seat ss k).row) place_here in
-          omega (arith, less, e)))
-    | inr most ↦ most
-  ]
+        | inl less ↦ absurd (before left hs ss s same (let e = ap (λ k. (seat ss k).row) place_here in
+            omega (arith, less, e)))
+        | inr most ↦ most
+      ]
 
   pub past_begun : (span : Span) (from found : Option ℕ)
       → ((a : Atom) → list_all (allows heads a) l.partner.limits.items ≡ true → Spans span a)
       → IfSome from (λ row. PastFrom r rows p lookups n heads seats (row + 1))
       → ((q : ℕ) → IfSome from (λ first. q ≤ first) → HasKey (columns l.table l.index)
-          (map (λ k. source_value heads k.source) l.partner.key.items) (rows l.table q) → LiesIn span (rows l.table q)
-          → q < bound found)
+      (map (λ k. source_value heads k.source) l.partner.key.items) (rows l.table q) → LiesIn span (rows l.table q)
+      → q < bound found)
       → Past r rows p (looked_in lookups) n l.partner.place heads seats (bound found)
   past_begun span from found all before below hs ss s same above =
       let w = row_known hs ss s same in
@@ -156,7 +156,7 @@ module _ (r : Rule) (p : ℕ) (lookups : List Lookup) (n : ℕ) (l : Lookup) (ro
   -- the seat of this look-up, after the search of the next
   pub seat_found : (heads2 as' : List Atom) (seats2 ts : List Seat) (a : Atom) (x : Seat) → l.partner.place < length ts
       → AgreeAtKnown (looked_in lookups) p (n + 1) heads2 seats2 (set as' l.partner.place a) (set ts l.partner.place x)
-          → seat seats2 l.partner.place ≡ x
+      → seat seats2 l.partner.place ≡ x
   seat_found heads2 as' seats2 ts a x lt same = (same l.partner.place (inr (n, omega arith, place_here))).1
       ∙ get_or-set_same ts l.partner.place x no_seat lt
 
@@ -172,12 +172,12 @@ module _ (r : Rule) (p : ℕ) (lookups : List Lookup) (n : ℕ) (l : Lookup) (ro
   pub past_next : (span : Span) (row to : ℕ) → ((a : Atom) → list_all (allows heads a) l.partner.limits.items ≡ true
       → Spans span a)
       → ((q : ℕ) → q < row → IsWanted (columns l.table l.index)
-          (map (λ k. source_value heads k.source) l.partner.key.items) span (rows l.table q) → q < to)
+      (map (λ k. source_value heads k.source) l.partner.key.items) span (rows l.table q) → q < to)
       → ((hs : List Atom) (ss : List Seat) → IsSeated r rows p hs ss
-          → AgreeAtKnown (looked_in lookups) p n hs ss heads seats
+      → AgreeAtKnown (looked_in lookups) p n hs ss heads seats
       → seat ss l.partner.place ≡ record { table = l.table; row = row } → ⊥)
       → Past r rows p (looked_in lookups) n l.partner.place heads seats (row + 1)
-          → Past r rows p (looked_in lookups) n l.partner.place heads seats to
+      → Past r rows p (looked_in lookups) n l.partner.place heads seats to
   past_next span row to all below not past hs ss s same from =
       let w = row_known hs ss s same in
       elim (cases_lt row (seat ss l.partner.place).row) as (λ _. ⊥) [
@@ -192,7 +192,7 @@ module _ (r : Rule) (p : ℕ) (lookups : List Lookup) (n : ℕ) (l : Lookup) (ro
   -- a row in which an earlier partner sits
   pub not_taken : (x : Seat) (j : ℕ) → j < n → seat seats (get_or (looked_in lookups) j 0) ≡ x
       → (hs : List Atom) (ss : List Seat) → IsSeated r rows p hs ss
-          → AgreeAtKnown (looked_in lookups) p n hs ss heads seats → seat ss l.partner.place ≡ x → ⊥
+      → AgreeAtKnown (looked_in lookups) p n hs ss heads seats → seat ss l.partner.place ≡ x → ⊥
   not_taken x j g taken hs ss s same is =
       let early : j < length (partners_of lookups) = within j (omega (arith, g, left)) in
       s.apart (get_or (looked_in lookups) j 0) l.partner.place (plan.within j early, plan.others j early) is_other
@@ -207,20 +207,24 @@ module _ (r : Rule) (p : ℕ) (lookups : List Lookup) (n : ℕ) (l : Lookup) (ro
   same_at : (k : ℕ) (hs as' : List Atom) (ss ts : List Seat) → AgreeAtKnown (looked_in lookups) p n hs ss as' ts
       → (a : Atom) (x : Seat)
       → l.partner.place < length as' → l.partner.place < length ts → head hs l.partner.place ≡ a
-          → seat ss l.partner.place ≡ x → IsKnown (looked_in lookups) p (n + 1) k
+      → seat ss l.partner.place ≡ x → IsKnown (looked_in lookups) p (n + 1) k
       → (head hs k ≡ head (set as' l.partner.place a) k) × (seat ss k ≡ seat (set ts l.partner.place x) k)
   same_at k hs as' ss ts same a x la lt ea ex (inl e) =
       let w = same k (inl e) in
-      let ne : k ≡ l.partner.place → ⊥ = not_known k (inl e) in
-      (w.0 ∙ sym (get_or-set_other as' l.partner.place k a no_atom ne), w.1
-          ∙ sym (get_or-set_other ts l.partner.place k x no_seat ne))
+      let ne : k ≡ l.partner.place → ⊥ = not_known k (inl e) in (
+        w.0 ∙ sym (get_or-set_other as' l.partner.place k a no_atom ne),
+        w.1
+            ∙ sym (get_or-set_other ts l.partner.place k x no_seat ne),
+      )
   same_at k hs as' ss ts same a x la lt ea ex (inr b) =
       elim (cases_lt b.0 n) as (λ _. (head hs k ≡ head (set as' l.partner.place a) k)
-          × (seat ss k ≡ seat (set ts l.partner.place x) k)) [
+      × (seat ss k ≡ seat (set ts l.partner.place x) k)) [
         | inl less ↦ (let w = same k (inr (b.0, less, b.2)) in
-            let ne : k ≡ l.partner.place → ⊥ = not_known k (inr (b.0, less, b.2)) in
-            (w.0 ∙ sym (get_or-set_other as' l.partner.place k a no_atom ne), w.1
-                ∙ sym (get_or-set_other ts l.partner.place k x no_seat ne)))
+            let ne : k ≡ l.partner.place → ⊥ = not_known k (inr (b.0, less, b.2)) in (
+              w.0 ∙ sym (get_or-set_other as' l.partner.place k a no_atom ne),
+              w.1
+                  ∙ sym (get_or-set_other ts l.partner.place k x no_seat ne),
+            ))
         | inr most ↦ (let i : b.0 ≡ n = (let g = b.1 in omega (arith, g, most)) in
             let q : k ≡ l.partner.place = sym b.2 ∙ ap (λ j. get_or (looked_in lookups) j 0) i ∙ place_here in (
               ap (head hs) q ∙ ea ∙ sym (get_or-set_same as' l.partner.place a no_atom la)
@@ -236,19 +240,19 @@ module _ (r : Rule) (p : ℕ) (lookups : List Lookup) (n : ℕ) (l : Lookup) (ro
       → AgreeAtKnown (looked_in lookups) p n as' ts heads seats
       → NoneFrom r rows p (looked_in lookups) (n + 1) (set as' l.partner.place a) (set ts l.partner.place x)
       → (hs : List Atom) (ss : List Seat) → IsSeated r rows p hs ss
-          → AgreeAtKnown (looked_in lookups) p n hs ss heads seats → seat ss l.partner.place ≡ x → ⊥
+      → AgreeAtKnown (looked_in lookups) p n hs ss heads seats → seat ss l.partner.place ≡ x → ⊥
   not_found x a as' ts is la lt kept none hs ss s same sits =
       let there = s.there l.partner.place is_other in
       let both : Some (head hs l.partner.place) ≡ Some a = sym there ∙ ap (atom_in rows) sits ∙ is in
       let atom : head hs l.partner.place ≡ a = cc in
       none hs ss s (λ k b. same_at k hs as' ss ts (λ j c.
-          ((same j c).0 ∙ sym (kept j c).0, (same j c).1 ∙ sym (kept j c).1)) a x la lt atom sits b)
+      ((same j c).0 ∙ sym (kept j c).0, (same j c).1 ∙ sym (kept j c).1)) a x la lt atom sits b)
 
 -- heads at all places, each in a row of its own
 pub seated_all : (r : Rule) (rows : Tables) (p : ℕ) (lookups : List Lookup) (heads : List Atom) (seats : List Seat)
     → IsPlan r p (partners_of lookups)
     → AreStarted rows (looked_in lookups) (length lookups) heads seats → HasInstance r heads
-        → IsSeated r rows p heads seats
+    → IsSeated r rows p heads seats
 seated_all r rows p lookups heads seats plan started h = record {
   instance = h;
   there = λ q o. (elim (plan.covers q o.0) as (λ _. atom_in rows (seat seats q) ≡ Some (head heads q)) [
@@ -260,14 +264,14 @@ seated_all r rows p lookups heads seats plan started h = record {
     | inr w ↦ elim (plan.covers k t.0) as (λ _. ⊥) [
       | inl z ↦ t.1 z
       | inr v ↦ (let same : seat seats (get_or (looked_in lookups) w.0 0)
-            ≡ seat seats (get_or (looked_in lookups) v.0 0) =
+          ≡ seat seats (get_or (looked_in lookups) v.0 0) =
           ap (seat seats) w.2 ∙ e ∙ sym (ap (seat seats) v.2) in
           elim (cases_lt w.0 v.0) as (λ _. ⊥) [
             | inl less ↦ started.apart w.0 v.0 less (within v.0 v.1) same
             | inr most ↦ elim (cases_lt v.0 w.0) as (λ _. ⊥) [
               | inl more ↦ started.apart v.0 w.0 more (within w.0 w.1) (sym same)
               | inr least ↦ (let i : w.0 ≡ v.0 = omega (arith, most, least) in
-                    ne (sym w.2 ∙ ap (λ j. get_or (looked_in lookups) j 0) i ∙ v.2))
+                  ne (sym w.2 ∙ ap (λ j. get_or (looked_in lookups) j 0) i ∙ v.2))
             ]
           ])
     ]
@@ -281,11 +285,11 @@ seated_all r rows p lookups heads seats plan started h = record {
 pub none_all : (r : Rule) (rows : Tables) (p : ℕ) (lookups : List Lookup) (heads : List Atom) (seats : List Seat)
     → IsPlan r p (partners_of lookups)
     → length heads ≡ length (heads_of r) → (HasInstance r heads → ⊥) → NoneFrom r rows p (looked_in lookups)
-        (length lookups) heads seats
+    (length lookups) heads seats
 none_all r rows p lookups heads seats plan len not hs ss s same =
     let n = instance_places r hs s.instance in
     let e : hs ≡ heads = ext_get_or no_atom hs heads (n ∙ sym len)
-        (λ i l. (same i (known i (plan.covers i (omega (arith, l, n))))).0) in
+    (λ i l. (same i (known i (plan.covers i (omega (arith, l, n))))).0) in
     not (subst (HasInstance r) e s.instance)
   where
     known : (i : ℕ) → IsKnown (looked_in lookups) p (length (partners_of lookups)) i
@@ -297,38 +301,39 @@ none_all r rows p lookups heads seats plan len not hs ss s same =
 pub started_more : (r : Rule) (rows : Tables) (p : ℕ) (lookups : List Lookup) (n : ℕ) (l : Lookup)
     (heads heads' : List Atom) (seats seats' : List Seat) (a : Atom) (x : Seat)
     → IsPlan r p (partners_of lookups) → n < length lookups → get_or lookups n l ≡ l → l.partner.place < length heads'
-        → l.partner.place < length seats'
+    → l.partner.place < length seats'
     → AreStarted rows (looked_in lookups) n heads seats → AgreeAtKnown (looked_in lookups) p n heads' seats' heads seats
-        → atom_in rows x ≡ Some a
+    → atom_in rows x ≡ Some a
     → ((j : ℕ) → j < n → seat seats' (get_or (looked_in lookups) j 0) ≡ x → ⊥)
     → AreStarted rows (looked_in lookups) (n + 1) (set heads' l.partner.place a) (set seats' l.partner.place x)
 started_more r rows p lookups n l heads heads' seats seats' a x plan left here lh ls started same is free = record {
   there = λ j g. (elim (cases_lt j n) as (λ _. atom_in rows
       (seat (set seats' l.partner.place x) (get_or (looked_in lookups) j 0))
       ≡ Some (head (set heads' l.partner.place a) (get_or (looked_in lookups) j 0))) [
-    | inl less ↦ (let w = same (get_or (looked_in lookups) j 0) (inr (j, less, refl)) in
-        let hh : head (set heads' l.partner.place a) (get_or (looked_in lookups) j 0)
+        | inl less ↦ (let w = same (get_or (looked_in lookups) j 0) (inr (j, less, refl)) in
+            let hh : head (set heads' l.partner.place a) (get_or (looked_in lookups) j 0)
             ≡ head heads (get_or (looked_in lookups) j 0) =
-        get_or-set_other heads' l.partner.place (get_or (looked_in lookups) j 0) a no_atom (other j less) ∙ w.0 in
-        ap (atom_in rows) (kept j less ∙ w.1) ∙ started.there j less ∙ ap Some (sym hh))
-    | inr most ↦ (let i : j ≡ n = omega (arith, g, most) in
-        let q : get_or (looked_in lookups) j 0 ≡ l.partner.place = ap (λ j. get_or (looked_in lookups) j 0) i ∙ mine in
-        let hh : head (set heads' l.partner.place a) (get_or (looked_in lookups) j 0) ≡ a =
-        ap (head (set heads' l.partner.place a)) q ∙ get_or-set_same heads' l.partner.place a no_atom lh in
-        ap (atom_in rows) (ap (seat (set seats' l.partner.place x)) q
+            get_or-set_other heads' l.partner.place (get_or (looked_in lookups) j 0) a no_atom (other j less) ∙ w.0 in
+            ap (atom_in rows) (kept j less ∙ w.1) ∙ started.there j less ∙ ap Some (sym hh))
+        | inr most ↦ (let i : j ≡ n = omega (arith, g, most) in
+            let q : get_or (looked_in lookups) j 0 ≡ l.partner.place = ap (λ j. get_or (looked_in lookups) j 0) i
+            ∙ mine in
+            let hh : head (set heads' l.partner.place a) (get_or (looked_in lookups) j 0) ≡ a =
+            ap (head (set heads' l.partner.place a)) q ∙ get_or-set_same heads' l.partner.place a no_atom lh in
+            ap (atom_in rows) (ap (seat (set seats' l.partner.place x)) q
             ∙ get_or-set_same seats' l.partner.place x no_seat ls) ∙ is ∙ ap Some (sym hh))
-  ]);
+      ]);
   apart = λ i j less g e. (
       let low : i < n = omega (arith, less, g) in
       elim (cases_lt j n) as (λ _. ⊥) [
         | inl below ↦ started.apart i j less below (sym (same (get_or (looked_in lookups) i 0) (inr (i, low, refl))).1
-              ∙ sym (kept i low) ∙ e ∙ kept j below
+            ∙ sym (kept i low) ∙ e ∙ kept j below
             ∙ (same (get_or (looked_in lookups) j 0) (inr (j, below, refl))).1)
         | inr most ↦ (let k : j ≡ n = omega (arith, g, most) in
             let q : get_or (looked_in lookups) j 0 ≡ l.partner.place = ap (λ j. get_or (looked_in lookups) j 0) k
-                ∙ mine in
+            ∙ mine in
             free i low (sym (kept i low) ∙ e ∙ ap (seat (set seats' l.partner.place x)) q
-                ∙ get_or-set_same seats' l.partner.place x no_seat ls))
+            ∙ get_or-set_same seats' l.partner.place x no_seat ls))
       ]);
 }
   where
@@ -346,16 +351,18 @@ started_more r rows p lookups n l heads heads' seats seats' a x plan left here l
 pub same_deeper : (r : Rule) (p : ℕ) (lookups : List Lookup) (n : ℕ) (l : Lookup) (heads heads' heads2 : List Atom)
     (seats seats' seats2 : List Seat) (a : Atom) (x : Seat)
     → IsPlan r p (partners_of lookups) → n < length lookups → get_or lookups n l ≡ l
-        → AgreeAtKnown (looked_in lookups) p n heads' seats' heads seats
+    → AgreeAtKnown (looked_in lookups) p n heads' seats' heads seats
     → AgreeAtKnown (looked_in lookups) p (n + 1) heads2 seats2 (set heads' l.partner.place a)
-        (set seats' l.partner.place x)
+    (set seats' l.partner.place x)
     → AgreeAtKnown (looked_in lookups) p n heads2 seats2 heads seats
 same_deeper r p lookups n l heads heads' heads2 seats seats' seats2 a x plan left here same deeper k b =
     let w = same k b in
     let d = deeper k (more b) in
-    let ne : k ≡ l.partner.place → ⊥ = other b in
-    (d.0 ∙ get_or-set_other heads' l.partner.place k a no_atom ne ∙ w.0, d.1
-        ∙ get_or-set_other seats' l.partner.place k x no_seat ne ∙ w.1)
+    let ne : k ≡ l.partner.place → ⊥ = other b in (
+      d.0 ∙ get_or-set_other heads' l.partner.place k a no_atom ne ∙ w.0,
+      d.1
+          ∙ get_or-set_other seats' l.partner.place k x no_seat ne ∙ w.1,
+    )
   where
     left' : n < length (partners_of lookups)
     left' = let m = partners_len lookups in omega (arith, m, left)

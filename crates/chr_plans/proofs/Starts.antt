@@ -55,7 +55,7 @@ none_started r rows p places heads seats a h z none hs ss s active =
 pub past_started : (r : Rule) (rows : Tables) (p : ℕ) (lookups : List Lookup) (heads : List Atom) (seats : List Seat)
     (a : Atom) (from : Option ℕ) → head heads p ≡ a
     → IfSome from (λ row. FirstNoneAbove r rows p a lookups row)
-        → IfSome from (λ row. PastFrom r rows p lookups 0 heads seats (row + 1))
+    → IfSome from (λ row. PastFrom r rows p lookups 0 heads seats (row + 1))
 past_started r rows p lookups heads seats a None h none = tt
 past_started r rows p lookups heads seats a (Some row) h none =
     λ more hs ss s same above. none more hs ss s ((same p (inl refl)).0 ∙ h) (omega (arith, above))
@@ -67,10 +67,10 @@ above_started r rows p lookups heads seats a row plan h z past more hs ss s acti
     let other : first_place lookups ≡ p → ⊥ = plan.others 0 (let n = partners_len lookups in omega (arith, n, more)) in
     let e = ap (λ (x : Seat). x.row) (get_or-set_other ss p (first_place lookups) no_seat no_seat other) in
     past more hs (set ss p no_seat) (forgotten r rows p hs ss s)
-        (agree_started p (looked_in lookups) heads seats a hs ss h z active) (omega (arith, above, e))
+    (agree_started p (looked_in lookups) heads seats a hs ss h z active) (omega (arith, above, e))
 
 -- a slice of a whole list is put back
 pub put_back : (xs ys : List Seat) → length xs ≡ length ys → take (length ys) (xs ++ drop (length xs) ys) ≡ xs
 put_back xs ys e =
     ap (λ zs. take (length ys) (xs ++ zs)) (drop_all (length xs) ys (omega (arith, e)))
-        ∙ ap (take (length ys)) (append-nil xs) ∙ take_all (length ys) xs (omega (arith, e))
+    ∙ ap (take (length ys)) (append-nil xs) ∙ take_all (length ys) xs (omega (arith, e))

@@ -57,14 +57,14 @@ pub key_known : (r : Rule) (places : List ℕ) (p n q : ℕ) (hs heads : List At
 key_known r places p n q hs heads ss seats [] h same are = refl
 key_known r places p n q hs heads ss seats (k ∷ ks) h same are =
     let one : argument (head hs q) k.column ≡ source_value heads k.source =
-        are.1 hs h ∙ same_value places p n hs heads ss seats k.source same are.0 in
+    are.1 hs h ∙ same_value places p n hs heads ss seats k.source same are.0 in
     let more = key_known r places p n q hs heads ss seats ks h same are.2 in
     λ i. one i ∷ more i
 
 -- and the heads that are known pass the tests
 pub tests_known : (r : Rule) (places : List ℕ) (p n : ℕ) (hs heads : List Atom) (ss seats : List Seat) (ts : List Test)
     → HasInstance r hs → AgreeAtKnown places p n hs ss heads seats → AreTests r places p n ts
-        → list_all (passes heads) ts ≡ true
+    → list_all (passes heads) ts ≡ true
 tests_known r places p n hs heads ss seats [] h same are = refl
 tests_known r places p n hs heads ss seats (t ∷ ts) h same are =
     let left = same_value places p n hs heads ss seats t.left same are.0 in
@@ -76,12 +76,12 @@ tests_known r places p n hs heads ss seats (t ∷ ts) h same are =
 pub limits_known : (r : Rule) (places : List ℕ) (p n q : ℕ) (hs heads : List Atom) (ss seats : List Seat)
     (ls : List Limit)
     → HasInstance r hs → AgreeAtKnown places p n hs ss heads seats → AreLimits r places p n q ls
-        → list_all (allows heads (head hs q)) ls ≡ true
+    → list_all (allows heads (head hs q)) ls ≡ true
 limits_known r places p n q hs heads ss seats [] h same are = refl
 limits_known r places p n q hs heads ss seats (l ∷ ls) h same are =
     let value = same_value places p n hs heads ss seats l.source same are.0 in
     let one : allows heads (head hs q) l ≡ true = sym (ap
-        (λ x. compares l.cmp (int_cmp (argument (head hs q) l.column) x)) value) ∙ are.1 hs h in
+    (λ x. compares l.cmp (int_cmp (argument (head hs q) l.column) x)) value) ∙ are.1 hs h in
     and_from (allows heads (head hs q) l) _ one (limits_known r places p n q hs heads ss seats ls h same are.2)
 
 -- what all items pass, the first passes and the rest

@@ -23,7 +23,7 @@ some_cond false x e f = cc
 -- the row of an entry lives, and has its hash and value
 entry_lives : (rows : List Row) (r : ℕ) (e : Entry) → get_or (entries_of rows) r None ≡ Some e
     → ((row_at rows r).alive ≡ true) × (◌≡◌ {A = Entry}
-        (record { hash = (row_at rows r).hash; value = (row_at rows r).value }) e)
+    (record { hash = (row_at rows r).hash; value = (row_at rows r).value }) e)
 entry_lives rows r e f = some_cond (row_at rows r).alive _ e (sym (entry_at rows r) ∙ f)
 
 pub lives_within : (rows : List Row) (r : ℕ) → (row_at rows r).alive ≡ true → r < length rows
@@ -37,9 +37,12 @@ hash_lives rows hash r w = let l = entry_lives rows r w.0 w.1 in (ap (λ e. e.ha
 
 pub lives_hash : (rows : List Row) (hash r : ℕ) → (row_at rows r).alive ≡ true → (row_at rows r).hash ≡ hash
     → HasEntryHash (entries_of rows) hash r
-lives_hash rows hash r lives e =
-    (record { hash = (row_at rows r).hash; value = (row_at rows r).value }, entry_at rows r
-        ∙ ap (λ b. cond b (Some (record { hash = (row_at rows r).hash; value = (row_at rows r).value })) None) lives, e)
+lives_hash rows hash r lives e = (
+  record { hash = (row_at rows r).hash; value = (row_at rows r).value },
+  entry_at rows r
+      ∙ ap (λ b. cond b (Some (record { hash = (row_at rows r).hash; value = (row_at rows r).value })) None) lives,
+  e,
+)
 
 pub wanted_sought : (rows : List Row) (hash : ℕ) (range : Range) (r : ℕ) → IsWanted (entries_of rows) hash range r
     → IsSought rows hash range r
@@ -49,10 +52,13 @@ wanted_sought rows hash range r w =
 
 pub sought_wanted : (rows : List Row) (hash : ℕ) (range : Range) (r : ℕ) → IsSought rows hash range r
     → IsWanted (entries_of rows) hash range r
-sought_wanted rows hash range r w =
-    (record { hash = (row_at rows r).hash; value = (row_at rows r).value }, entry_at rows r
-        ∙ ap (λ b. cond b (Some (record { hash = (row_at rows r).hash; value = (row_at rows r).value })) None) w.0, w.1,
-        w.2)
+sought_wanted rows hash range r w = (
+  record { hash = (row_at rows r).hash; value = (row_at rows r).value },
+  entry_at rows r
+      ∙ ap (λ b. cond b (Some (record { hash = (row_at rows r).hash; value = (row_at rows r).value })) None) w.0,
+  w.1,
+  w.2,
+)
 
 -- the number below a place
 pub found_newest : (P : ℕ → Type 0) (found : Option ℕ) (place : ℕ) → SomeIff found (1 ≤ place) (place - 1)
@@ -84,7 +90,7 @@ index_kill rows links heads k x y i here e eh ev dead =
     let is = read_row rows k x here e in
     let size = length-set rows k y in
     let kept = kept_kill rows k y here (eh ∙ ap (λ (r : Row). r.hash) (sym is))
-        (ev ∙ ap (λ (r : Row). r.value) (sym is)) dead in
+    (ev ∙ ap (λ (r : Row). r.value) (sym is)) dead in
     let both = index_kept (length rows) rows (set rows k y) links links heads kept (λ r l. refl) i.linked i.newest in
     let few = i.few in
     record {
@@ -114,7 +120,7 @@ first_above rows links heads hash range n from r i en e w =
     let here : hash % n < length heads = omega (arith, en, some) in
     let is : get_or heads (hash % n) 0 ≡ from = get_or_default heads (hash % n) 0 from here ∙ sym e in
     rw is at ((i.newest (hash % n) here).none_above r (lives_within rows r w.0)
-        (ap (λ h. h % length heads) w.1 ∙ ap (λ k. hash % k) (sym en), w.0))
+    (ap (λ h. h % length heads) w.1 ∙ ap (λ k. hash % k) (sym en), w.0))
 
 pub found_newest_below : (P : ℕ → Type 0) (row : ℕ) (found : Option ℕ) (place : ℕ)
     → SomeIff found (1 ≤ place) (place - 1) → ((r : ℕ) → r < row → P r → r < place)

@@ -66,7 +66,7 @@ module _ (n : ℕ) (rows : List Row) where
       → IsLink n rows (next - 1) left → IsLink n rows (left.jump - 1) right → l.next ≡ next → l.jump ≡ right.jump
       → ((row_at rows r).alive ≡ true → IsInBounds l.bounds (row_at rows r).value)
       → ((x : ℤ) → IsInBounds left.bounds x → IsInBounds l.bounds x)
-          → ((x : ℤ) → IsInBounds right.bounds x → IsInBounds l.bounds x)
+      → ((x : ℤ) → IsInBounds right.bounds x → IsInBounds l.bounds x)
       → IsLink n rows r l
   node r next l left right i some more a b en ej own inleft inright =
       let sa : row_slot n rows (next - 1) ≡ row_slot n rows r = i.of_slot some in
@@ -135,12 +135,12 @@ pub heads_more : (rows : List Row) (heads : List ℕ) (k s p : ℕ) → AreHeads
     → AreHeads rows (set heads s p) (k + 1)
 heads_more rows heads k s p are some es ep t g = rw size
     (elim (cases_lt t s) as (λ _. IsNewest (length heads) rows (k + 1) t (get_or (set heads s p) t 0)) [
-  | inl less ↦ other (λ e. (absurd (omega (arith, less, e))))
-  | inr most ↦ elim (cases_lt s t) as (λ _. IsNewest (length heads) rows (k + 1) t (get_or (set heads s p) t 0)) [
-    | inl less ↦ other (λ e. (absurd (omega (arith, less, e))))
-    | inr least ↦ same (omega (arith, most, least))
-  ]
-])
+      | inl less ↦ other (λ e. (absurd (omega (arith, less, e))))
+      | inr most ↦ elim (cases_lt s t) as (λ _. IsNewest (length heads) rows (k + 1) t (get_or (set heads s p) t 0)) [
+        | inl less ↦ other (λ e. (absurd (omega (arith, less, e))))
+        | inr least ↦ same (omega (arith, most, least))
+      ]
+    ])
   where
     size : length (set heads s p) ≡ length heads
     size = length-set heads s p
@@ -155,14 +155,14 @@ heads_more rows heads k s p are some es ep t g = rw size
       none_above = λ q l w. (elim (cases_lt q k) as (λ _. q < get_or heads t 0) [
         | inl less ↦ i.none_above q less w
         | inr most ↦ (let e : q ≡ k = omega (arith, l, most) in
-              absurd (d (sym w.0 ∙ ap (row_slot (length heads) rows) e ∙ sym es)))
+            absurd (d (sym w.0 ∙ ap (row_slot (length heads) rows) e ∙ sym es)))
       ]);
     })
 
     same : t ≡ s → IsNewest (length heads) rows (k + 1) t (get_or (set heads s p) t 0)
     same e =
         let v : get_or (set heads s p) t 0 ≡ k + 1 = ap (λ x. get_or (set heads s p) x 0) e
-            ∙ get_or-set_same heads s p 0 (omega (arith, here, e)) ∙ ep in
+        ∙ get_or-set_same heads s p 0 (omega (arith, here, e)) ∙ ep in
         rw v (record {
           within = omega arith;
           of_slot = λ _. (ap (row_slot (length heads) rows) (omega arith) ∙ sym es ∙ sym e);
@@ -173,7 +173,7 @@ heads_more rows heads k s p are some es ep t g = rw size
 pub index_kept : (k : ℕ) (before after : List Row) (links more : List Link) (heads : List ℕ) → IsKept k before after
     → ((r : ℕ) → r < k → link_at more r ≡ link_at links r)
     → AreLinked (length heads) before links k → AreHeads before heads k → AreLinked (length heads) after more k
-        × AreHeads after heads k
+    × AreHeads after heads k
 index_kept k before after links more heads kept same linked newest = (
   λ r l. rw (same r l) (link_kept (length heads) k before after kept r (link_at links r) l (linked r l)),
   λ s l. newest_kept (length heads) k before after kept k s (get_or heads s 0) (omega arith) (newest s l),
@@ -203,6 +203,6 @@ kept_kill rows k x here eh ev dead = record {
       | inr most ↦ elim (cases_lt k q) as (λ _. P (row_at (set rows k x) q)) [
         | inl less ↦ rw (get_or-set_other rows k q x no_row (λ e. (absurd (omega (arith, less, e))))) other
         | inr least ↦ (let e : q ≡ k = omega (arith, most, least) in
-              rw (e, get_or-set_same rows k x no_row here) (same e))
+            rw (e, get_or-set_same rows k x no_row here) (same e))
       ]
     ]

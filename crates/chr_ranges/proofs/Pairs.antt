@@ -33,11 +33,11 @@ record AreBoth (l r : Option Entry) (p : Pair) : Type 0 where
 
 pair_cond : (b : Bool) (e f : Entry) (p : Pair) → nat_eq e.hash f.hash ≡ b
     → ◌≡◌ {A = Option Pair} (cond b (Some (record { hash = e.hash; first = e.value; second = f.value })) None) (Some p)
-        → AreBoth (Some e) (Some f) p
+    → AreBoth (Some e) (Some f) p
 pair_cond true e f p is there =
     let same : e.hash ≡ f.hash = (unsigned_Decides e.hash f.hash).0 is in
     let p_is : ◌≡◌ {A = Pair} (record { hash = e.hash; first = e.value; second = f.value }) p = same_Some _ p there in
-        record {
+    record {
       e = e;
       f = f;
       left = refl;
@@ -81,7 +81,7 @@ both_crossed lefts rights hash first second r v w = (
 -- rows come, die, and are as many
 pub pairs_push : (lefts rights : List (Option Entry)) (hash : ℕ) (first second : ℤ) → length lefts ≡ length rights
     → pairs_of (lefts ++ Some (record { hash = hash; value = first }) ∷ [])
-        (rights ++ Some (record { hash = hash; value = second }) ∷ [])
+    (rights ++ Some (record { hash = hash; value = second }) ∷ [])
     ≡ pairs_of lefts rights ++ Some (record { hash = hash; first = first; second = second }) ∷ []
 pairs_push [] [] hash first second e =
     ap (λ p. p ∷ []) (pair_made (record { hash = hash; value = first }) (record { hash = hash; value = second }) refl)

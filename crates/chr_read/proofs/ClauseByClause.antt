@@ -12,7 +12,7 @@ one_clause : (k : ℕ) (q : Progress) (c t : List ℕ) → pieces_read k q (c �
 one_clause k q c t =
     let s = some_piece t in
     ap (λ l. pieces_read k q (c ∷ l)) s.2 ∙ sym (ap (λ l. in_clause k (clause_read q c) >>= λ r. pieces_read
-        (k + 1) r l) s.2)
+    (k + 1) r l) s.2)
 
 pub good_clause : (k : ℕ) (q after : Progress) (c t : List ℕ) → clause_read q c ≡ Ok after
     → pieces_read k q (c ∷ pieces t) ≡ pieces_read (k + 1) after (pieces t)

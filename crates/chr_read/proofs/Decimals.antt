@@ -51,7 +51,7 @@ pub signed_number : (z : ℤ) → is_value z ≡ true → IsNumber (signed_decim
 signed_number (pos n) h = let l = value_pos n h in decimal_number n (omega (arith, l))
 signed_number (negsuc n) h =
     let l = value_neg n h in let m : suc n < 2 ^ 64 = omega (arith, l) in
-        inr (refl, are_digits (decimal (suc n)) (decimal_nonempty (suc n) m) (decimal_digits (suc n) m))
+    inr (refl, are_digits (decimal (suc n)) (decimal_nonempty (suc n) m) (decimal_digits (suc n) m))
 
 numeral : (w : List ℕ) → 0 < length w → list_all is_digit w ≡ true → is_numeral w ≡ true
 numeral w l h = and_from (nat_lt 0 (length w)) _ (grind (arith, nat_tests)) h
@@ -65,17 +65,17 @@ plain_read (b ∷ bs) n l h v small =
     let fits : nat_lt n (2 ^ 63) ≡ true = grind (arith, nat_tests) in
     ap (λ m. cond (is_numeral (cond m bs (b ∷ bs))) (signed m (digits_value 10 (cond m bs (b ∷ bs)))) None) no_minus
     ∙ ap (λ t. cond t (signed false (digits_value 10 (b ∷ bs))) None) (numeral (b ∷ bs) l h) ∙ ap (signed false) v
-        ∙ ap (λ t. cond t (Some (pos n)) None) fits
+    ∙ ap (λ t. cond t (Some (pos n)) None) fits
 
 pub number_back : (z : ℤ) → is_value z ≡ true → number_of (signed_decimal z) ≡ Some z
 number_back (pos n) h =
     let l = value_pos n h in let m : n < 2 ^ 64 = omega (arith, l) in
-        plain_read (decimal n) n (decimal_nonempty n m) (decimal_digits n m) (digits_value-decimal own n m) l
+    plain_read (decimal n) n (decimal_nonempty n m) (decimal_digits n m) (digits_value-decimal own n m) l
 number_back (negsuc n) h =
     let l = value_neg n h in let m : suc n < 2 ^ 64 = omega (arith, l) in
     let fits : nat_le (suc n) (2 ^ 63) ≡ true = grind (arith, nat_tests) in
     ap (λ t. cond t (signed true (digits_value 10 (decimal (suc n)))) None)
-        (numeral (decimal (suc n)) (decimal_nonempty (suc n) m) (decimal_digits (suc n) m))
+    (numeral (decimal (suc n)) (decimal_nonempty (suc n) m) (decimal_digits (suc n) m))
     ∙ ap (signed true) (digits_value-decimal own (suc n) m) ∙ ap (λ t. cond t (Some (negsuc n)) None) fits
 
 -- ---- arities and weights
@@ -110,5 +110,5 @@ pub weight_back : (w : Weight) → w.first ≤ MAX_WEIGHT → w.second ≤ MAX_W
     → weight_named_by (decimal w.first) (written_second w) ≡ Some w
 weight_back w f s h =
     ap (option_and_then (λ v. option_and_then (as_weight v) (second_number_of (written_second w))))
-        (weight_number w.first f)
+    (weight_number w.first f)
     ∙ ap (option_and_then (as_weight (pos w.first))) (second_back w s) ∙ ap (λ t. cond t (Some w) None) h

@@ -35,7 +35,7 @@ small_digits (b ∷ []) n h = by (nat_le 49 b && nat_le b (48 + MAX_ARITY)) refl
     by true e h =
         let is = same_Some _ _ h in
         let low : 49 ≤ b = let p = (and_parts (nat_le 49 b) (nat_le b (48 + MAX_ARITY)) e).0 in
-            grind (arith, nat_tests) in
+        grind (arith, nat_tests) in
         let more : nat_eq n 0 ≡ false = grind (arith, nat_tests) in
         let back : b ≡ 48 + n = omega (arith, is, low) in
         ap (λ x. x ∷ []) back ∙ sym (ap (λ t. cond t [] ((48 + n) ∷ [])) more)
@@ -58,7 +58,7 @@ differs s t n some is other = by (declares t.name n (declared_symbol s)) refl
     same (Some m) e f names arities =
         let is_n : m ≡ n = grind (arith, nat_tests) in
         and_from _ _ (equal_bytes s.name t.name (sym ((bytes_eq-Decides t.name s.name).0 names)))
-            (equal_bytes _ _ (same_digits s.arity t.arity n (e ∙ ap Some is_n) is))
+        (equal_bytes _ _ (same_digits s.arity t.arity n (e ∙ ap Some is_n) is))
 
     by : (b : Bool) → declares t.name n (declared_symbol s) ≡ b → b ≡ false
     by false e = refl
@@ -74,9 +74,9 @@ known_more ds s t some other h = by (arity_of t.arity) refl h
         → is_some (position (declares t.name n) (ds ++ declared_symbol s ∷ [])) ≡ false
     at n fresh h =
         position_any (declares t.name n) (ds ++ declared_symbol s ∷ []) ∙ list_any-append (declares t.name n) ds
-            (declared_symbol s ∷ [])
+        (declared_symbol s ∷ [])
         ∙ ap (λ b. b || (declares t.name n (declared_symbol s) || false))
-            (sym (position_any (declares t.name n) ds) ∙ h)
+        (sym (position_any (declares t.name n) ds) ∙ h)
         ∙ ap (λ b. b || false) fresh
 
     by : (o : Option ℕ) → arity_of t.arity ≡ o → is_some (option_and_then (place_of ds t.name) o) ≡ false
@@ -84,7 +84,7 @@ known_more ds s t some other h = by (arity_of t.arity) refl h
     by None is h = ap (λ o. is_some (option_and_then (place_of (ds ++ declared_symbol s ∷ []) t.name) o)) is
     by (Some n) is h =
         ap (λ o. is_some (option_and_then (place_of (ds ++ declared_symbol s ∷ []) t.name) o)) is
-            ∙ at n (differs s t n some is other) h
+        ∙ at n (differs s t n some is other) h
 
 all_known_more : (ds : List Declaration) (s : Symbol) (ts : List Symbol) → is_none (arity_of s.arity) ≡ false
     → list_any (is_same_symbol s) ts ≡ false → list_any (is_declared_already ds) ts ≡ false
@@ -94,7 +94,7 @@ all_known_more ds s (t ∷ ts) some other h =
     let n = or_parts (is_same_symbol s t) _ other in
     let m = or_parts (is_declared_already ds t) _ h in
     ap (λ b. b || list_any (is_declared_already (ds ++ declared_symbol s ∷ [])) ts) (known_more ds s t some n.0 m.0)
-        ∙ all_known_more ds s ts some n.1 m.1
+    ∙ all_known_more ds s ts some n.1 m.1
 
 -- ---- symbols that differ from those seen
 
@@ -109,7 +109,7 @@ none_again front back s [] h = refl
 none_again front back s (t ∷ ts) h =
     let n = or_parts _ _ h in
     ap (λ b. b || list_any (is_same_symbol s) ts) (seen_differs front back s t n.0)
-        ∙ none_again (t ∷ front) back s ts n.1
+    ∙ none_again (t ∷ front) back s ts n.1
 
 pub can_all : (ds : List Declaration) (seen ss : List Symbol) → nat_lt MAX_SYMBOLS (length ds + length ss) ≡ false
     → list_any symbol_over ss ≡ false → list_any (is_declared_already ds) ss ≡ false → comes_again seen ss ≡ false
@@ -122,7 +122,7 @@ can_all ds seen (s ∷ ss) room over known again =
     let below : nat_lt (length ds) MAX_SYMBOLS ≡ true = grind (arith, nat_tests) in
     let longer = length-append ds (declared_symbol s ∷ []) in
     let more : nat_lt MAX_SYMBOLS (length (ds ++ declared_symbol s ∷ []) + length ss) ≡ false =
-        grind (arith, nat_tests) in
+    grind (arith, nat_tests) in
     and_from _ _ (and_from _ _ (and_from _ _ below (ap not o.0)) (ap not k.0))
     (can_all (ds ++ declared_symbol s ∷ []) (s ∷ seen) ss more o.1
-        (all_known_more ds s ss (or_parts _ _ o.0).1 (none_again [] seen s ss g.1) k.1) g.1)
+    (all_known_more ds s ss (or_parts _ _ o.0).1 (none_again [] seen s ss g.1) k.1) g.1)

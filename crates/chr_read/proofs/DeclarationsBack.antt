@@ -61,14 +61,20 @@ pub in_range : (d : Declaration) → is_in_range d ≡ true → InRange d
 in_range d h =
     let w = d.weight in
     let b = and_parts (base.is_name d.name && nat_le (length d.name) MAX_NAME && nat_le d.arity MAX_ARITY)
-        (is_weight w) h in
+    (is_weight w) h in
     let c = and_parts (base.is_name d.name && nat_le (length d.name) MAX_NAME) (nat_le d.arity MAX_ARITY) b.0 in
     let e = and_parts (base.is_name d.name) (nat_le (length d.name) MAX_NAME) c.0 in
     let f = and_parts (nat_le w.first MAX_WEIGHT && nat_le w.second MAX_WEIGHT)
-        (not (nat_eq w.first 0 && nat_eq w.second 0)) b.1 in
+    (not (nat_eq w.first 0 && nat_eq w.second 0)) b.1 in
     let g = and_parts (nat_le w.first MAX_WEIGHT) (nat_le w.second MAX_WEIGHT) f.0 in
-    record { name = e.0; short = leb-true _ _ e.1; arity = leb-true _ _ c.1; weight = b.1; first = leb-true _ _ g.0;
-        second = leb-true _ _ g.1 }
+    record {
+      name = e.0;
+      short = leb-true _ _ e.1;
+      arity = leb-true _ _ c.1;
+      weight = b.1;
+      first = leb-true _ _ g.0;
+      second = leb-true _ _ g.1;
+    }
 
 pub name_is_word : (w : List ℕ) → base.is_name w ≡ true → IsWord is_lower w
 name_is_word w h = by w (and_parts (base.is_word w) _ h).0
@@ -92,7 +98,7 @@ place_skip p [] y ys h g = ap (λ b. cond b (Some 0) (option_map suc (place p ys
 place_skip p (x ∷ xs) y ys h g =
     let n = or_parts (p x) (list_any p xs) h in
     ap (λ b. cond b (Some 0) (option_map suc (place p (xs ++ y ∷ ys)))) n.0
-        ∙ ap (option_map suc) (place_skip p xs y ys n.1 g)
+    ∙ ap (option_map suc) (place_skip p xs y ys n.1 g)
 
 pub turned : (a b : Declaration) → declares a.name a.arity b ≡ false → declares b.name b.arity a ≡ false
 turned a b h = by (declares b.name b.arity a) refl
@@ -104,7 +110,7 @@ turned a b h = by (declares b.name b.arity a) refl
         let n : a.name ≡ b.name = sym ((bytes_eq-Decides b.name a.name).0 p.0) in
         let same : bytes_eq a.name b.name ≡ true = subst (λ w. bytes_eq a.name w ≡ true) n (itself a.name) in
         absurd (false≢true (sym h ∙ and_from (bytes_eq a.name b.name) _ same
-            (eq-eqb a.arity b.arity (sym (eqb-true b.arity a.arity p.1)))))
+        (eq-eqb a.arity b.arity (sym (eqb-true b.arity a.arity p.1)))))
 
 pub declares_itself : (d : Declaration) → declares d.name d.arity d ≡ true
 declares_itself d = and_from (bytes_eq d.name d.name) (nat_eq d.arity d.arity) (itself d.name)
@@ -136,10 +142,10 @@ other_symbol a b l m h = by (is_same_symbol (written_symbol a) (written_symbol b
     by false e = e
     by true e =
         let p = and_parts (bytes_eq a.name b.name) (bytes_eq (without_zeros (decimal a.arity))
-            (without_zeros (decimal b.arity))) e in
+        (without_zeros (decimal b.arity))) e in
         let digits = (bytes_eq-Decides (without_zeros (decimal a.arity)) (without_zeros (decimal b.arity))).0 p.1 in
         let arity : a.arity ≡ b.arity = same_Some a.arity b.arity
-            (sym (arity_back a.arity l) ∙ ap small digits ∙ arity_back b.arity m) in
+        (sym (arity_back a.arity l) ∙ ap small digits ∙ arity_back b.arity m) in
         absurd (false≢true (sym h ∙ and_from (bytes_eq a.name b.name) _ p.0 (eq-eqb a.arity b.arity arity)))
 
 -- those that came are none of these
@@ -166,7 +172,7 @@ none_again es (d ∷ ds) h r u =
     let distinct = and_parts (not (list_any (declares d.name d.arity) ds)) (are_distinct ds) u in
     or_from (list_any (λ e. is_same_symbol e (written_symbol d)) (map written_symbol es)) _ first.0
     (none_again (d ∷ es) ds (not-true (list_any (declares d.name d.arity) ds) distinct.0, few, first.1) range.1
-        distinct.1)
+    distinct.1)
 
 none_over : (ds : List Declaration) → list_all is_in_range ds ≡ true → list_any symbol_over (map written_symbol ds)
     ≡ false
@@ -175,7 +181,7 @@ none_over (d ∷ ds) h =
     let e = and_parts (is_in_range d) (list_all is_in_range ds) h in
     let r = in_range d e.0 in
     or_from (symbol_over (written_symbol d)) _ (or_from (is_long d.name) _ (name_is_short d.name r.short)
-        (ap is_none (arity_back d.arity r.arity))) (none_over ds e.1)
+    (ap is_none (arity_back d.arity r.arity))) (none_over ds e.1)
 
 all_declared : (ds : List Declaration) → list_all is_in_range ds ≡ true → map declared_symbol (map written_symbol ds)
     ≡ map plain ds
@@ -195,11 +201,15 @@ declarations_back (d ∷ ds) l r u =
     let long = length-map (d ∷ ds) written_symbol in
     let room : nat_lt MAX_SYMBOLS (0 + length ss) ≡ false = grind (arith, nat_tests) in
     let twice = or_from (list_any (is_declared_already []) ss) (comes_twice ss) (none_known ss)
-        (sym (twice_is ss) ∙ none_again [] (d ∷ ds) tt r u) in
-    let over = or_from (nat_lt MAX_SYMBOLS (0 + length ss)) (list_any symbol_over ss) room (none_over (d ∷ ds) r) in
-    ((pass (list_any (is_declared_already []) ss || comes_twice ss) _ _ twice
-        (pass (nat_lt MAX_SYMBOLS (0 + length ss) || list_any symbol_over ss) _ _ over refl), tt),
-        ap (λ x. state x [] []) (all_declared (d ∷ ds) r))
+    (sym (twice_is ss) ∙ none_again [] (d ∷ ds) tt r u) in
+    let over = or_from (nat_lt MAX_SYMBOLS (0 + length ss)) (list_any symbol_over ss) room (none_over (d ∷ ds) r) in (
+      (
+        pass (list_any (is_declared_already []) ss || comes_twice ss) _ _ twice
+            (pass (nat_lt MAX_SYMBOLS (0 + length ss) || list_any symbol_over ss) _ _ over refl),
+        tt,
+      ),
+      ap (λ x. state x [] []) (all_declared (d ∷ ds) r),
+    )
 
 -- ---- a clause for each weight
 
@@ -209,9 +219,9 @@ apart [] d ds h = refl
 apart (e ∷ pre) d ds h =
     let p = and_parts (not (list_any (declares e.name e.arity) (pre ++ d ∷ ds))) (are_distinct (pre ++ d ∷ ds)) h in
     let n = or_parts (list_any (declares e.name e.arity) pre) _
-        (sym (list_any-append (declares e.name e.arity) pre (d ∷ ds)) ∙ not-true _ p.0) in
+    (sym (list_any-append (declares e.name e.arity) pre (d ∷ ds)) ∙ not-true _ p.0) in
     or_from (declares d.name d.arity e) _ (turned e d (or_parts (declares e.name e.arity d) _ n.1).0)
-        (apart pre d ds p.1)
+    (apart pre d ds p.1)
 
 weight_at : (pre : List Declaration) (d : Declaration) (ds : List Declaration) (w : Weight)
     → with_weight (pre ++ d ∷ ds) (length pre) w ≡ pre ++ record d { weight = w } ∷ ds
@@ -224,7 +234,7 @@ symbol_place : (pre : List Declaration) (d : Declaration) (ds : List Declaration
 symbol_place pre d ds r h =
     ap (option_and_then (place_of (pre ++ plain d ∷ ds) d.name)) (arity_back d.arity r.arity)
     ∙ position_is (declares d.name d.arity) (pre ++ plain d ∷ ds) ∙ place_skip (declares d.name d.arity) pre
-        (plain d) ds h (declares_itself d)
+    (plain d) ds h (declares_itself d)
 
 default_is : (w : Weight) → is_default w ≡ true → w ≡ default_weight
 default_is w h =
@@ -240,7 +250,7 @@ one_more : (ws : List ℕ) (n : ℕ) → AreBefore ws n → AreBefore (ws ++ n �
 one_more ws n h i l =
     let e : nat_eq i n ≡ false = grind (arith, nat_tests) in
     list_any-append (nat_eq i) ws (n ∷ []) ∙ or_from (list_any (nat_eq i) ws) _ (h i (omega (arith, l)))
-        (or_from (nat_eq i n) false e refl)
+    (or_from (nat_eq i n) false e refl)
 
 still : (ws : List ℕ) (n : ℕ) → AreBefore ws n → AreBefore ws (n + 1)
 still ws n h i l = h i (omega (arith, l))
@@ -254,9 +264,9 @@ weights_from pre [] ws b r u = (tt, ws, refl)
 weights_from pre (d ∷ rest) ws b r u =
     by (is_default d.weight) refl
     (λ vs c. subst (λ ds. Weighed (state ((pre ++ d ∷ []) ++ map plain rest) [] vs) rest ds)
-        (append_assoc pre (d ∷ []) rest)
+    (append_assoc pre (d ∷ []) rest)
     (weights_from (pre ++ d ∷ []) rest vs c range.1 (subst (λ l. are_distinct l ≡ true)
-        (sym (append_assoc pre (d ∷ []) rest)) u)))
+    (sym (append_assoc pre (d ∷ []) rest)) u)))
   where
     range : (is_in_range d ≡ true) × (list_all is_in_range rest ≡ true)
     range = and_parts (is_in_range d) (list_all is_in_range rest) r
@@ -292,32 +302,32 @@ weights_from pre (d ∷ rest) ws b r u =
         (pass (weight_outside first second) _ _ inside
         (pass (weight_bad (state here [] ws) (written_symbol d) first second) _ _
         (or_from (is_none (weight_named_by first second)) _ (ap is_none named)
-            (ap (is_among ws) placed ∙ b (length pre) (omega arith))) refl))
+        (ap (is_among ws) placed ∙ b (length pre) (omega arith))) refl))
 
     made : with_form (state here [] ws) (written_weight d) ≡ state ((pre ++ d ∷ []) ++ map plain rest) []
         (ws ++ length pre ∷ [])
     made =
         (λ i. state (with_weight here (unwrap_or (placed i) 0) (unwrap_or (named i) default_weight)) []
-            (ws ++ unwrap_or (placed i) 0 ∷ []))
+        (ws ++ unwrap_or (placed i) 0 ∷ []))
         ∙ ap (λ ds. state ds [] (ws ++ length pre ∷ []))
-            (weight_at pre (plain d) (map plain rest) d.weight ∙ sym (append_assoc pre (d ∷ []) (map plain rest)))
+        (weight_at pre (plain d) (map plain rest) d.weight ∙ sym (append_assoc pre (d ∷ []) (map plain rest)))
 
     by : (t : Bool) → is_default d.weight ≡ t
         → ((vs : List ℕ) → AreBefore vs (length (pre ++ d ∷ []))
-            → Weighed (state ((pre ++ d ∷ []) ++ map plain rest) [] vs) rest (pre ++ d ∷ rest))
+        → Weighed (state ((pre ++ d ∷ []) ++ map plain rest) [] vs) rest (pre ++ d ∷ rest))
         → AreFaultless (state here [] ws) (cond t (weight_forms rest) (written_weight d ∷ weight_forms rest))
         × (vs : List ℕ) × (after (state here [] ws) (cond t (weight_forms rest) (written_weight d ∷ weight_forms rest))
-            ≡ state (pre ++ d ∷ rest) [] vs)
+        ≡ state (pre ++ d ∷ rest) [] vs)
     by true e more =
         let one = default_is d.weight e in
         let same : (pre ++ d ∷ []) ++ map plain rest ≡ here = append_assoc pre (d ∷ []) (map plain rest)
-            ∙ (λ i. pre ++ record d { weight = one i } ∷ map plain rest) in
+        ∙ (λ i. pre ++ record d { weight = one i } ∷ map plain rest) in
         subst (λ ds. Weighed (state ds [] ws) rest (pre ++ d ∷ rest)) same
-            (more ws (subst (AreBefore ws) (sym longer) (still ws (length pre) b)))
+        (more ws (subst (AreBefore ws) (sym longer) (still ws (length pre) b)))
     by false e more =
         let w = subst (λ q. Weighed q rest (pre ++ d ∷ rest)) (sym made)
-            (more (ws ++ length pre ∷ []) (subst (AreBefore (ws ++ length pre ∷ [])) (sym longer)
-            (one_more ws (length pre) b))) in
+        (more (ws ++ length pre ∷ []) (subst (AreBefore (ws ++ length pre ∷ [])) (sym longer)
+        (one_more ws (length pre) b))) in
         ((faultless, w.0), w.1, w.2)
 
 pub weights_back : (ds : List Declaration) → list_all is_in_range ds ≡ true → are_distinct ds ≡ true

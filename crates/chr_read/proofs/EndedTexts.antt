@@ -67,7 +67,7 @@ ended_plain (c ∷ cs) [] h = absurd h
 ended_plain (c ∷ cs) (f ∷ fs) h =
     let P : ℕ → Type 0 = λ b. (b == percent) ≡ false in
     all_append P c (codes ".\n" ++ ended_clauses cs) (no_percent c (plain_clause c f h.0))
-        (refl, (refl, ended_plain cs fs h.2))
+    (refl, (refl, ended_plain cs fs h.2))
 
 pub no_comments : (cs : List (List ℕ)) (fs : List Form) → AreClauses cs fs → without_comments (ended_clauses cs)
     ≡ ended_clauses cs
@@ -81,8 +81,8 @@ clause_good : (q : Progress) (bytes : List ℕ) (f : Form) → is_text bytes ≡
 unfolding clause_read
 clause_good q bytes f text tokens form none =
     ap (λ t. cond t (formed q (clause_of bytes)) (Err fault.BadByte)) text
-        ∙ ap (λ o. formed q (option_and_then form_in o)) tokens ∙ ap (formed q) (forms_read f form)
-        ∙ ap (checked q f) none
+    ∙ ap (λ o. formed q (option_and_then form_in o)) tokens ∙ ap (formed q) (forms_read f form)
+    ∙ ap (checked q f) none
 
 -- what the last full stop left
 abbrev pub lead : Bool → List ℕ
@@ -115,4 +115,4 @@ ended_read b k q (c ∷ cs) (f ∷ fs) h g =
     ap (λ t. pieces_read k q (pieces t)) (sym (append_assoc (lead b) c (codes ".\n" ++ ended_clauses cs)))
     ∙ ap (pieces_read k q) (first_piece bytes (codes "\n" ++ ended_clauses cs) (no_stop bytes plain))
     ∙ good_clause k q (with_form q f) bytes (codes "\n" ++ ended_clauses cs) good
-        ∙ ended_read true (k + 1) (with_form q f) cs fs h.2 g.1
+    ∙ ended_read true (k + 1) (with_form q f) cs fs h.2 g.1

@@ -25,7 +25,7 @@ passed false n rest h = (refl, h)
 -- in order: undeclared; over a limit; unbound; a number outside
 pub rule_faultless : (q : Progress) (r : Rule) → fault_in q (rule r) ≡ None
     → (rule_undeclared q.meaning.declarations r ≡ false) × (nat_le MAX_RULES (length q.meaning.rules) ≡ false)
-        × (some_part_over r ≡ false) × (rule_unbound r ≡ false)
+    × (some_part_over r ≡ false) × (rule_unbound r ≡ false)
 rule_faultless q r h =
     let a = passed (list_any (is_undeclared q.meaning.declarations) (rule_atoms r)) _ _ h in
     let b = passed (nat_le MAX_RULES (length q.meaning.rules) || rule_over r) _ _ a.1 in
@@ -38,14 +38,14 @@ pub rule_faults : (q : Progress) (r : Rule) (a b c d : Bool) → rule_undeclared
     → (nat_le MAX_RULES (length q.meaning.rules) || some_part_over r) ≡ b
     → rule_unbound r ≡ c → rule_outside r ≡ d
     → cond a (Some fault.Undeclared) (cond b (Some fault.Limit)
-        (cond c (Some fault.Unbound) (cond d (Some fault.NumberRange) None))) ≡ fault_in q (rule r)
+    (cond c (Some fault.Unbound) (cond d (Some fault.NumberRange) None))) ≡ fault_in q (rule r)
 rule_faults q r a b c d h k l m =
     let ha = sym h ∙ undeclared_is q.meaning.declarations r in
     let kb = sym k ∙ ap (λ x. nat_le MAX_RULES (length q.meaning.rules) || x) (over_is r) in
     let lc = sym l ∙ unbound_is r in
     let md = sym m ∙ outside_is r in
     λ i. cond (ha i) (Some fault.Undeclared) (cond (kb i) (Some fault.Limit)
-        (cond (lc i) (Some fault.Unbound) (cond (md i) (Some fault.NumberRange) None)))
+    (cond (lc i) (Some fault.Unbound) (cond (md i) (Some fault.NumberRange) None)))
 
 pub declare_faults : (q : Progress) (ss : List Symbol) (a b : Bool) → declared_twice q.meaning.declarations ss ≡ a
     → (nat_lt MAX_SYMBOLS (length q.meaning.declarations + length ss) || list_any symbol_over ss) ≡ b

@@ -50,9 +50,9 @@ no_error {A = A} {E = E} a e h = false≢true (ap fails h)
 abbrev pub fault_of : ℕ → Fault
 fault_of k =
     cond (nat_eq k 1) fault.BadByte (cond (nat_eq k 3) fault.Syntax
-        (cond (nat_eq k 4) fault.Propagation (cond (nat_eq k 5) fault.Undeclared
+    (cond (nat_eq k 4) fault.Propagation (cond (nat_eq k 5) fault.Undeclared
     (cond (nat_eq k 6) fault.DeclaredTwice (cond (nat_eq k 7) fault.Limit
-        (cond (nat_eq k 8) fault.Unbound (cond (nat_eq k 9) fault.NumberRange
+    (cond (nat_eq k 8) fault.Unbound (cond (nat_eq k 9) fault.NumberRange
     (cond (nat_eq k 10) fault.WeightFault fault.Unended))))))))
 
 numbered_so : (n : Fault) → fault_of (number_of_fault n) ≡ n
@@ -99,16 +99,19 @@ first_least p [] n r h = absurd (none-some n h)
 first_least p (x ∷ xs) n r h = by (p x) refl h (first_least p xs n (and_parts (below x xs) (rising xs) r).1)
   where
     at_front : (p x ≡ true) → (m : Fault) → Among m (x ∷ xs) → p m ≡ true → number_of_fault x ≤ number_of_fault m
-    at_front e m a pm = elim a [ inl s ↦ let k = ap number_of_fault s in
-        omega (arith, k) | inr b ↦ below_each x m xs (and_parts (below x xs) (rising xs) r).0 b ]
+    at_front e m a pm = elim a [
+      | inl s ↦ let k = ap number_of_fault s in
+          omega (arith, k)
+      | inr b ↦ below_each x m xs (and_parts (below x xs) (rising xs) r).0 b
+    ]
 
     by : (b : Bool) → p x ≡ b → cond b (Some x) (first_of p xs) ≡ Some n
         → (first_of p xs ≡ Some n → (p n ≡ true) × ((m : Fault) → Among m xs → p m ≡ true
-            → number_of_fault n ≤ number_of_fault m))
+        → number_of_fault n ≤ number_of_fault m))
         → (p n ≡ true) × ((m : Fault) → Among m (x ∷ xs) → p m ≡ true → number_of_fault n ≤ number_of_fault m)
     by true e h later =
         let P : Fault → Type 0 = λ y. (p y ≡ true) × ((m : Fault) → Among m (x ∷ xs) → p m ≡ true
-            → number_of_fault y ≤ number_of_fault m) in
+        → number_of_fault y ≤ number_of_fault m) in
         subst P (same_Some x n h) (e, at_front e)
     by false e h later =
         let i = later h in

@@ -34,7 +34,7 @@ none_declares w n [] bad h = refl
 none_declares w n (d ∷ ds) bad h =
     let e = and_parts (is_in_range d) (list_all is_in_range ds) h in
     or_from (declares w n d) _ (by (declares w n d) refl (name_is_text d.name (in_range d e.0).name))
-        (none_declares w n ds bad e.1)
+    (none_declares w n ds bad e.1)
   where
     by : (b : Bool) → declares w n d ≡ b → is_utf8 d.name ≡ true → b ≡ false
     by false is text = refl
@@ -47,8 +47,8 @@ pub no_text_is_declared : (p : Program) (w : List ℕ) (n : ℕ) → is_utf8 w �
 no_text_is_declared p w n bad =
     let ds = declarations p in let rs = rules_of p in
     let a = and_parts (nat_le (length ds) MAX_SYMBOLS && nat_le (length rs) MAX_RULES && list_all is_in_range ds
-        && are_distinct ds) (list_all (fits ds) rs) p.well_formed in
+    && are_distinct ds) (list_all (fits ds) rs) p.well_formed in
     let b = and_parts (nat_le (length ds) MAX_SYMBOLS && nat_le (length rs) MAX_RULES && list_all is_in_range ds)
-        (are_distinct ds) a.0 in
+    (are_distinct ds) a.0 in
     no_position (declares w n) ds (none_declares w n ds bad
-        (and_parts (nat_le (length ds) MAX_SYMBOLS && nat_le (length rs) MAX_RULES) (list_all is_in_range ds) b.0).1)
+    (and_parts (nat_le (length ds) MAX_SYMBOLS && nat_le (length rs) MAX_RULES) (list_all is_in_range ds) b.0).1)

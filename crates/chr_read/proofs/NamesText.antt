@@ -135,7 +135,7 @@ module _ (P : List ℕ → Type 0) (good : (w : List ℕ) → IsWord is_lower w 
       let after = back IsTextToken (spelled_heads r.kept r.removed) _ rest in
       all_append P (option_to_list r.label) _ (label_text r.label (front IsTextToken (spelled_label r.label) _ h))
       (all_append P (names_of_atoms r.kept) _ hs.0 (all_append P (names_of_atoms r.removed) _ hs.1
-          (right_text r.guard r.body after.1)))
+      (right_text r.guard r.body after.1)))
   form_text (propagation r) h =
       let rest = back IsTextToken (spelled_label r.label) _ h in
       let hs = atoms_text r.removed (front IsTextToken (spelled_atoms r.removed) _ rest) in
@@ -184,11 +184,11 @@ form_unreserved (rule r) h =
     all_append IsUnreserved (option_to_list r.label) _ (label_unreserved r.label h.0)
     (all_append IsUnreserved (names_of_atoms r.kept) _ (atoms_unreserved r.kept h.1)
     (all_append IsUnreserved (names_of_atoms r.removed) _ (atoms_unreserved r.removed (all_some IsAtom r.removed h.2))
-        (items_unreserved r.body (all_some IsItem r.body h.3))))
+    (items_unreserved r.body (all_some IsItem r.body h.3))))
 form_unreserved (propagation r) h =
     all_append IsUnreserved (option_to_list r.label) _ (label_unreserved r.label h.0.0)
     (all_append IsUnreserved (names_of_atoms r.removed) _ (atoms_unreserved r.removed (all_some IsAtom r.removed h.0.2))
-        (items_unreserved r.body (all_some IsItem r.body h.0.3)))
+    (items_unreserved r.body (all_some IsItem r.body h.0.3)))
 
 words_names : (ws : List (List ℕ)) → AllByRecursion IsWordName ws → AllUnreserved ws → list_all base.is_name ws ≡ true
 words_names [] h g = refl

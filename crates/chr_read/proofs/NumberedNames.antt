@@ -59,7 +59,7 @@ not_named x (suc n) l h =
     list_any-append (bytes_eq (variable_name x)) (first_names n) (variable_name (suc n) ∷ [])
     ∙ or_from (list_any (bytes_eq (variable_name x)) (first_names n)) _ (not_named x n l (omega (arith, h)))
     (or_from (bytes_eq (variable_name x) (variable_name (suc n))) false
-        (other_name x (suc n) l (omega (arith, h, l)) (λ e. omega (arith, h, e))) refl)
+    (other_name x (suc n) l (omega (arith, h, l)) (λ e. omega (arith, h, e))) refl)
 
 -- a variable that was met stands before its number
 named_place : (x n : ℕ) → suc x ≤ n → n < 2 ^ 64 → place (bytes_eq (variable_name (suc x))) (first_names n) ≡ Some x
@@ -70,7 +70,7 @@ named_place x (suc n) l m = by (nat_le (suc x) n) refl (λ h. named_place x n h 
         ≡ Some x
     last s =
         place_skip (bytes_eq (variable_name (suc x))) (first_names n) (variable_name (suc n)) []
-            (not_named (suc x) n (omega (arith, l, m)) (omega (arith, s)))
+        (not_named (suc x) n (omega (arith, l, m)) (omega (arith, s)))
         (subst (λ y. bytes_eq (variable_name (suc x)) (variable_name y) ≡ true) s (itself (variable_name (suc x))))
         ∙ ap Some (let g = names_length n in omega (arith, g, s))
 
@@ -89,12 +89,12 @@ not_anonymous x = refl
 pub met : (x n : ℕ) → suc x ≤ n → n < 2 ^ 64 → met_at (first_names n) (variable_name (suc x)) ≡ Some x
 met x n l m =
     ap (λ b. cond b None (position (bytes_eq (variable_name (suc x))) (first_names n))) (not_anonymous (suc x))
-        ∙ position_is (bytes_eq (variable_name (suc x))) (first_names n) ∙ named_place x n l m
+    ∙ position_is (bytes_eq (variable_name (suc x))) (first_names n) ∙ named_place x n l m
 
 pub not_met : (x n : ℕ) → x < 2 ^ 64 → n < x → met_at (first_names n) (variable_name x) ≡ None
 not_met x n l h =
     ap (λ b. cond b None (position (bytes_eq (variable_name x)) (first_names n))) (not_anonymous x)
-        ∙ no_position (bytes_eq (variable_name x)) (first_names n) (not_named x n l h)
+    ∙ no_position (bytes_eq (variable_name x)) (first_names n) (not_named x n l h)
 
 pub variable_back : (x n : ℕ) → suc x ≤ n → n < 2 ^ 64 → variable_of (first_names n) (variable_name (suc x)) ≡ suc x
 variable_back x n l m = ap (λ o. unwrap_or o (length (first_names n)) + 1) (met x n l m) ∙ omega arith
@@ -112,10 +112,10 @@ one_number m n x ts l k h more = by (nat_eq x (m + 1)) refl h
     is_new e g =
         let none = not_met x m l (omega (arith, e)) in
         let number : variable_of (first_names m) (variable_name x) ≡ x =
-            ap (λ o. unwrap_or o (length (first_names m)) + 1) none ∙ (let a = names_length m in omega (arith, a, e)) in
+        ap (λ o. unwrap_or o (length (first_names m)) + 1) none ∙ (let a = names_length m in omega (arith, a, e)) in
         let names : with_variable (first_names m) (variable_name x) ≡ first_names (suc m) =
-            ap (λ o. cond (is_some o) (first_names m) (first_names m ++ variable_name x ∷ [])) none
-            ∙ ap (λ y. first_names m ++ variable_name y ∷ []) e in
+        ap (λ o. cond (is_some o) (first_names m) (first_names m ++ variable_name x ∷ [])) none
+        ∙ ap (λ y. first_names m ++ variable_name y ∷ []) e in
         let step : m + 1 ≡ suc m = omega arith in
         let later = more (suc m) (omega (arith, e, l)) (subst (λ y. numbered y ts ≡ Some n) step g) in (
           (λ i. Variable (number i) ∷ head_terms (names i) (map written_term ts)) ∙ ap (λ us. Variable x ∷ us) later.0,
@@ -125,11 +125,11 @@ one_number m n x ts l k h more = by (nat_eq x (m + 1)) refl h
     is_old : (y : ℕ) → x ≡ suc y → x ≤ m → numbered m ts ≡ Some n → Numbers m (Variable x ∷ ts) n
     is_old y e g h =
         let found : met_at (first_names m) (variable_name x) ≡ Some y =
-            ap (λ z. met_at (first_names m) (variable_name z)) e ∙ met y m (omega (arith, e, g)) k in
+        ap (λ z. met_at (first_names m) (variable_name z)) e ∙ met y m (omega (arith, e, g)) k in
         let number : variable_of (first_names m) (variable_name x) ≡ x =
-            ap (λ o. unwrap_or o (length (first_names m)) + 1) found ∙ omega (arith, e) in
+        ap (λ o. unwrap_or o (length (first_names m)) + 1) found ∙ omega (arith, e) in
         let names : with_variable (first_names m) (variable_name x) ≡ first_names m =
-            ap (λ o. cond (is_some o) (first_names m) (first_names m ++ variable_name x ∷ [])) found in
+        ap (λ o. cond (is_some o) (first_names m) (first_names m ++ variable_name x ∷ [])) found in
         let later = more m k h in (
           (λ i. Variable (number i) ∷ head_terms (names i) (map written_term ts)) ∙ ap (λ us. Variable x ∷ us) later.0,
           ap (λ ns. after_terms ns (map written_term ts)) names ∙ later.1,

@@ -40,13 +40,13 @@ one_variable names w rest = by (met_at names w) refl
     by : (o : Option ℕ) → met_at names w ≡ o
         → cond (nat_eq (unwrap_or o (length names) + 1) (length names + 1)) (numbered (length names + 1) rest)
         (cond (nat_lt 0 (unwrap_or o (length names) + 1) && nat_le (unwrap_or o (length names) + 1) (length names))
-            (numbered (length names) rest) None)
+        (numbered (length names) rest) None)
         ≡ numbered (length (cond (is_some o) names (names ++ w ∷ []))) rest
     by None is =
         let e : nat_eq (length names + 1) (length names + 1) ≡ true = grind (arith, nat_tests) in
         ap (λ b. cond b (numbered (length names + 1) rest)
-            (cond (nat_lt 0 (length names + 1) && nat_le (length names + 1) (length names))
-            (numbered (length names) rest) None)) e
+        (cond (nat_lt 0 (length names + 1) && nat_le (length names + 1) (length names))
+        (numbered (length names) rest) None)) e
         ∙ ap (λ n. numbered n rest) (sym (length-append names (w ∷ [])))
     by (Some i) is =
         let below = met_within names w i is in
@@ -55,8 +55,8 @@ one_variable names w rest = by (met_at names w) refl
         let k : nat_le (i + 1) (length names) ≡ true = grind (arith, nat_tests) in
         let f : (nat_lt 0 (i + 1) && nat_le (i + 1) (length names)) ≡ true = and_from _ _ g k in
         ap (λ b. cond b (numbered (length names + 1) rest)
-            (cond (nat_lt 0 (i + 1) && nat_le (i + 1) (length names)) (numbered (length names) rest) None)) e
-            ∙ ap (λ b. cond b (numbered (length names) rest) None) f
+        (cond (nat_lt 0 (i + 1) && nat_le (i + 1) (length names)) (numbered (length names) rest) None)) e
+        ∙ ap (λ b. cond b (numbered (length names) rest) None) f
 
 numbered_terms : (names : Names) (ts : List Term) (rest : List base.Term)
     → numbered (length names) (head_terms names ts ++ rest) ≡ numbered (length (after_terms names ts)) rest
@@ -67,16 +67,16 @@ numbered_terms names (number w ∷ ts) rest = numbered_terms names ts rest
 
 numbered_heads : (ds : List Declaration) (names : Names) (atoms : List Atom) (rest : List base.Term)
     → numbered (length names) (terms_of (heads ds names atoms) ++ rest)
-        ≡ numbered (length (after_heads names atoms)) rest
+    ≡ numbered (length (after_heads names atoms)) rest
 numbered_heads ds names [] rest = refl
 numbered_heads ds names (a ∷ atoms) rest =
     ap (numbered (length names)) (append_assoc (head_terms names a.args)
-        (terms_of (heads ds (after_terms names a.args) atoms)) rest)
+    (terms_of (heads ds (after_terms names a.args) atoms)) rest)
     ∙ numbered_terms names a.args _ ∙ numbered_heads ds (after_terms names a.args) atoms rest
 
 pub numbers : (ds : List Declaration) (kept removed : List Atom)
     → numbered 0 (terms_of (heads ds [] kept ++ heads ds (after_heads [] kept) removed))
-        ≡ Some (length (after_heads (after_heads [] kept) removed))
+    ≡ Some (length (after_heads (after_heads [] kept) removed))
 numbers ds kept removed =
     let names = after_heads [] kept in
     ap (numbered 0) (terms_of-append (heads ds [] kept) (heads ds names removed))
@@ -115,7 +115,7 @@ all_occur m n (Variable y ∷ ts) h x above below = first (nat_eq y (m + 1)) ref
     first : (b : Bool) → nat_eq y (m + 1) ≡ b → cond b (numbered (m + 1) ts)
         (cond (nat_lt 0 y && nat_le y m) (numbered m ts) None) ≡ Some n
         → (numbered (m + 1) ts ≡ Some n → m + 1 < x → list_any (rules.is_variable x) ts ≡ true)
-            → (numbered m ts ≡ Some n → list_any (rules.is_variable x) ts ≡ true)
+        → (numbered m ts ≡ Some n → list_any (rules.is_variable x) ts ≡ true)
         → (nat_eq x y || list_any (rules.is_variable x) ts) ≡ true
     first true e h new further = is_next (nat_eq x (m + 1)) refl e (new h)
     first false e h new further = old (nat_lt 0 y && nat_le y m) h further

@@ -35,16 +35,16 @@ by_sign : {E : Type 0} (minus : Bool) (w : List ℕ) (r : Result ℤ E) → star
     → result_ok r ≡ signed minus (digits_value 10 (cond minus (drop 1 w) w))
 by_sign true w r is h num =
     by_test r _ _ _ (parse_signed_minus own w64 w r h (grind (arith, nat_tests))) (λ t. grind (arith, nat_tests))
-        (λ q. grind (arith, nat_tests))
+    (λ q. grind (arith, nat_tests))
 by_sign false w r is h num =
     by_test r _ _ _ (parse_signed_digits own w64 w r h (grind (arith, nat_tests))) (λ t. grind (arith, nat_tests))
-        (λ q. grind (arith, nat_tests))
+    (λ q. grind (arith, nat_tests))
 
 pub parsed : {E : Type 0} (w : List ℕ) (r : Result ℤ E) → ParsesSigned w64 10 w r → is_numeral (unsigned w) ≡ true
     → result_ok r ≡ number_of w
 parsed w r h num =
     by_sign (starts_with_minus w) w r refl h num ∙ sym
-        (ap (λ b. cond b (signed (starts_with_minus w) (digits_value 10 (unsigned w))) None) num)
+    (ap (λ b. cond b (signed (starts_with_minus w) (digits_value 10 (unsigned w))) None) num)
 
 digits_are_ascii : (ds : List ℕ) → list_all is_digit ds ≡ true → IsAscii ds
 digits_are_ascii [] h = IsAscii-nil

@@ -16,7 +16,7 @@ some_answer text = by (text_read text) (text_means text)
   where
     by : (r : Result Meaning ReadFault) → TextMeans text r
         → ((m : Meaning) × IsProgramText text m) ⊎ ((n : Fault) × (k : ℕ) × IsRefusedText text n k)
-            ⊎ (MAX_TEXT < length text)
+        ⊎ (MAX_TEXT < length text)
     by (Ok m) h = inl (m, h)
     by (Err TooLong) h = inr (inr h)
     by (Err Memory) h = absurd h
@@ -29,9 +29,9 @@ one_meaning text m n p q =
 pub apart : RefusedTextsAreNoPrograms
 apart text m n k p q =
     absurd (let e : ◌≡◌ {A = Result Meaning ReadFault} (Ok m) (Err (Bad n k)) = sym ((programs text m).1 p)
-        ∙ (refused text n k).1 q in cc)
+    ∙ (refused text n k).1 q in cc)
 
 pub one_fault : TextsHaveOneFault
 one_fault text n m k j p q =
     let e : ◌≡◌ {A = Result Meaning ReadFault} (Err (Bad n k)) (Err (Bad m j)) = sym ((refused text n k).1 p)
-        ∙ (refused text m j).1 q in (cc, cc)
+    ∙ (refused text m j).1 q in (cc, cc)

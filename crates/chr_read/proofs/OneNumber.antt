@@ -39,14 +39,14 @@ heads_list : (ds : List Declaration) (names : Names) (atoms : List Atom) → ter
 heads_list ds names [] = refl
 heads_list ds names (a ∷ atoms) =
     ap (λ l. head_terms names a.args ++ l) (heads_list ds (after_terms names a.args) atoms)
-        ∙ sym (terms_appended names a.args (args_of atoms))
+    ∙ sym (terms_appended names a.args (args_of atoms))
 
 pub one_list : HeadsAreOneList
 one_list ds kept removed =
     terms_of-append (heads ds [] kept) (heads ds (after_heads [] kept) removed)
     ∙ ap (λ l. l ++ terms_of (heads ds (after_heads [] kept) removed)) (heads_list ds [] kept)
     ∙ ap (λ l. head_terms [] (args_of kept) ++ l) (heads_list ds (after_heads [] kept) removed
-        ∙ ap (λ n. head_terms n (args_of removed)) (after_heads_is [] kept))
+    ∙ ap (λ n. head_terms n (args_of removed)) (after_heads_is [] kept))
     ∙ sym (terms_appended [] (args_of kept) (args_of removed))
 
 -- ---- names only grow
@@ -60,8 +60,11 @@ grows names (variable w ∷ ts) = by (is_some (met_at names w)) refl (grows (wit
         × (after_terms (with_variable names w) ts ≡ with_variable names w ++ more) → (more : Names)
         × (after_terms (with_variable names w) ts ≡ names ++ more)
     by true is m = (m.0, m.1 ∙ ap (λ b. cond b names (names ++ w ∷ []) ++ m.0) is)
-    by false is m = (w ∷ m.0, m.1 ∙ ap (λ b. cond b names (names ++ w ∷ []) ++ m.0) is
-        ∙ append_assoc names (w ∷ []) m.0)
+    by false is m = (
+      w ∷ m.0,
+      m.1 ∙ ap (λ b. cond b names (names ++ w ∷ []) ++ m.0) is
+          ∙ append_assoc names (w ∷ []) m.0,
+    )
 
 get_front : (xs ys : Names) (i : ℕ) (x : List ℕ) → slice_get xs i ≡ Some x → slice_get (xs ++ ys) i ≡ Some x
 get_front [] ys i x h = absurd (none-some x h)
@@ -110,8 +113,8 @@ stands names v = by (met_at names v) refl
   where
     by : (o : Option ℕ) → met_at names v ≡ o
         → (k : ℕ) × (unwrap_or o (length names) + 1 ≡ k + 1)
-            × (slice_get (cond (is_some o) names (names ++ v ∷ [])) k ≡ Some v)
-            × (k < length (cond (is_some o) names (names ++ v ∷ [])))
+        × (slice_get (cond (is_some o) names (names ++ v ∷ [])) k ≡ Some v)
+        × (k < length (cond (is_some o) names (names ++ v ∷ [])))
     by None is = (length names, refl, get_last names v, let e = length-append names (v ∷ []) in omega (arith, e))
     by (Some i) is = (i, refl, met_is names v i is, met_within names v i is)
 
@@ -136,7 +139,7 @@ same_so names ts v named =
     let later : met_at (after_terms (with_variable names v) ts) v ≡ Some f.0 =
     ap (λ l. met_at l v) g.1 ∙ ap (λ b. cond b None (position (bytes_eq v) (with_variable names v ++ g.0))) named
     ∙ position_is (bytes_eq v) (with_variable names v ++ g.0)
-        ∙ place_front (bytes_eq v) (with_variable names v) g.0 f.0 f.2 in
+    ∙ place_front (bytes_eq v) (with_variable names v) g.0 f.0 f.2 in
     ap (λ o. unwrap_or o (length (after_terms (with_variable names v) ts)) + 1) later ∙ sym f.1
 
 only_so : (names : Names) (ts : List Term) (v w : List ℕ) → variable_of (after_terms (with_variable names v) ts) w
@@ -155,11 +158,12 @@ only_so names ts v w h = by (met_at (after_terms (with_variable names v) ts) w) 
         let st = stands names v in
         let g = grows (with_variable names v) ts in
         let there : slice_get (after_terms (with_variable names v) ts) st.0 ≡ Some v = ap (λ l. slice_get l st.0) g.1
-            ∙ get_front (with_variable names v) g.0 st.0 v st.2 in
+        ∙ get_front (with_variable names v) g.0 st.0 v st.2 in
         let here = met_is (after_terms (with_variable names v) ts) w q is in
-        let one : q ≡ st.0 = omega (arith, e, st.1) in
-        (same_Some v w (sym there ∙ ap (slice_get (after_terms (with_variable names v) ts)) (sym one) ∙ here),
-            (not_anonymous (after_terms (with_variable names v) ts) w q is).0)
+        let one : q ≡ st.0 = omega (arith, e, st.1) in (
+          same_Some v w (sym there ∙ ap (slice_get (after_terms (with_variable names v) ts)) (sym one) ∙ here),
+          (not_anonymous (after_terms (with_variable names v) ts) w q is).0,
+        )
 
 pub one_number : OneNumberIsOneVariable
 one_number before between v w =
@@ -173,4 +177,4 @@ one_number before between v w =
         → variable_of (after_terms (with_variable names v) ts) w ≡ variable_of names v
     again names ts v w same named =
         ap (λ u. variable_of (after_terms (with_variable names v) ts) u) (sym same)
-            ∙ same_so names ts v (ap is_anonymous same ∙ named)
+        ∙ same_so names ts v (ap is_anonymous same ∙ named)

@@ -27,7 +27,7 @@ plain_between b l h =
     let p : (b == 37) ≡ false = grind (arith, nat_tests) in
     let q : (b == 46) ≡ false = grind (arith, nat_tests) in
     and_from (is_text_byte b) _ (or_right (is_layout b) _ (and_from (nat_le 32 b) _ low high))
-        (and_from (not (b == 37)) _ (ap not p) (ap not q))
+    (and_from (not (b == 37)) _ (ap not p) (ap not q))
 
 word_low : (b : ℕ) → is_word_byte b ≡ true → 47 ≤ b
 word_low b h = grind (arith, nat_tests)
@@ -93,8 +93,10 @@ lexeme_plain : (t : Tok) (w : List ℕ) → IsLexeme t w → AllAre is_plain w
 lexeme_plain (name v) [] h = tt
 lexeme_plain (name v) (b ∷ bs) h = (word_plain b (lower_word b h.1.0), all_so is_word_byte is_plain word_plain bs h.1.1)
 lexeme_plain (variable v) [] h = tt
-lexeme_plain (variable v) (b ∷ bs) h = (word_plain b (variable_word b h.1.0),
-    all_so is_word_byte is_plain word_plain bs h.1.1)
+lexeme_plain (variable v) (b ∷ bs) h = (
+  word_plain b (variable_word b h.1.0),
+  all_so is_word_byte is_plain word_plain bs h.1.1,
+)
 lexeme_plain (number v) w h = by w h.1
   where
     digits : (w : List ℕ) → AllAre is_digit w → AllAre is_plain w
@@ -113,17 +115,23 @@ tokens_plain [] bs h = all_so is_layout is_plain layout_plain bs h
 tokens_plain (t ∷ ts) bs h =
     let P : ℕ → Type 0 = λ b. is_plain b ≡ true in
     subst (AllAre is_plain) (sym h.3) (all_append P h.0 (h.1 ++ h.2) (all_so is_layout is_plain layout_plain h.0 h.4)
-        (all_append P h.1 h.2 (lexeme_plain t h.1 h.5) (tokens_plain ts h.2 h.7)))
+    (all_append P h.1 h.2 (lexeme_plain t h.1 h.5) (tokens_plain ts h.2 h.7)))
 
 pub no_percent : (bs : List ℕ) → AllAre is_plain bs → HasNo percent bs
 no_percent [] h = tt
-no_percent (b ∷ bs) h = (not-true (b == 37) (and_parts (not (b == 37)) (not (b == 46))
-    (and_parts (is_text_byte b) _ h.0).1).0, no_percent bs h.1)
+no_percent (b ∷ bs) h = (
+  not-true (b == 37) (and_parts (not (b == 37)) (not (b == 46))
+      (and_parts (is_text_byte b) _ h.0).1).0,
+  no_percent bs h.1,
+)
 
 pub no_stop : (bs : List ℕ) → AllAre is_plain bs → HasNo full_stop bs
 no_stop [] h = tt
-no_stop (b ∷ bs) h = (not-true (b == 46) (and_parts (not (b == 37)) (not (b == 46))
-    (and_parts (is_text_byte b) _ h.0).1).1, no_stop bs h.1)
+no_stop (b ∷ bs) h = (
+  not-true (b == 46) (and_parts (not (b == 37)) (not (b == 46))
+      (and_parts (is_text_byte b) _ h.0).1).1,
+  no_stop bs h.1,
+)
 
 pub all_text : (bs : List ℕ) → AllAre is_plain bs → is_text bs ≡ true
 all_text [] h = refl

@@ -93,8 +93,8 @@ pub declared_takes : (w : List ℕ) (n : ℕ) (ds : List Declaration) (i : ℕ) 
     → takes (slice_get ds i) n ≡ true
 declared_takes w n ds i h =
     at_place (declares w n) (λ o. takes o n ≡ true) ds i
-        (λ d good. takes_so d (and_parts (bytes_eq w d.name) (nat_eq n d.arity) good).1)
-        (sym (position_is (declares w n) ds) ∙ h)
+    (λ d good. takes_so d (and_parts (bytes_eq w d.name) (nat_eq n d.arity) good).1)
+    (sym (position_is (declares w n) ds) ∙ h)
   where
     takes_so : (d : Declaration) → nat_eq n d.arity ≡ true → nat_eq d.arity n ≡ true
     takes_so d e = grind (arith, nat_tests)

@@ -77,11 +77,31 @@ rule_of d h = by d.name
   where
     by : (name : Option (List ℕ)) → is_in_bounds name (d.kept ++ d.removed) d.guard d.body ≡ true → (r : base.Rule)
         × (parts_of r ≡ record { name = name; kept = d.kept; removed = d.removed; guard = d.guard; body = d.body })
-    by None b = (record { name = None; kept = record { items = d.kept }; removed = record { items = d.removed }; guard =
-        record { items = d.guard }; body = record { items = d.body }; well_formed = h; bounded = b }, refl)
-    by (Some w) b = (record { name = Some (record { bytes = w; spare = [] }); kept = record { items = d.kept };
-        removed = record { items = d.removed }; guard = record { items = d.guard }; body = record { items = d.body };
-        well_formed = h; bounded = b }, refl)
+    by None b = (
+      record {
+        name = None;
+        kept = record { items = d.kept };
+        removed = record { items = d.removed };
+        guard =
+            record { items = d.guard };
+        body = record { items = d.body };
+        well_formed = h;
+        bounded = b;
+      },
+      refl,
+    )
+    by (Some w) b = (
+      record {
+        name = Some (record { bytes = w; spare = [] });
+        kept = record { items = d.kept };
+        removed = record { items = d.removed };
+        guard = record { items = d.guard };
+        body = record { items = d.body };
+        well_formed = h;
+        bounded = b;
+      },
+      refl,
+    )
 
 -- ---- clauses without faults
 
@@ -104,8 +124,13 @@ faultless q c f a none =
           λ t. none fault.DeclaredTwice (f, a, t),
           (
             λ t. none fault.Limit (f, a, t),
-            (λ t. none fault.Unbound (f, a, t), (λ t. none fault.NumberRange (f, a, t),
-                (λ t. none fault.WeightFault (f, a, t), tt))),
+            (
+              λ t. none fault.Unbound (f, a, t),
+              (
+                λ t. none fault.NumberRange (f, a, t),
+                (λ t. none fault.WeightFault (f, a, t), tt),
+              ),
+            ),
           ),
         ),
       ),
@@ -162,13 +187,17 @@ symbol_built ds rs s h can named = by (arity_of s.arity) refl
     by None e = absurd (false≢true (sym over.1 ∙ ap is_none e))
     by (Some n) e =
         let d : Declaration = record { name = s.name; arity = n; weight = default_weight } in
-        let is : declared_symbol s ≡ d = ap (λ (o : Option ℕ). record { name = s.name; arity = unwrap_or o 0; weight =
-            default_weight }) e in
+        let is : declared_symbol s ≡ d = ap (λ (o : Option ℕ). record {
+          name = s.name;
+          arity = unwrap_or o 0;
+          weight =
+              default_weight;
+        }) e in
         let none : position (declares s.name n) ds ≡ None =
-            is_nothing _ (sym (ap (λ o. is_some (option_and_then (place_of ds s.name) o)) e) ∙ fresh) in
+        is_nothing _ (sym (ap (λ o. is_some (option_and_then (place_of ds s.name) o)) e) ∙ fresh) in
         subst (λ x. IsTrue (is_program (ds ++ x ∷ []) rs)) (sym is)
         (symbol_pushed ds (ds ++ d ∷ []) rs d refl h room
-            (new_in_range s.name n named short (small_fits (without_zeros s.arity) n e)) none)
+        (new_in_range s.name n named short (small_fits (without_zeros s.arity) n e)) none)
 
 symbols_built : (ds : List Declaration) (rs : List base.Rule) (ss : List Symbol) → IsTrue (is_program ds rs)
     → can_declare_all ds ss ≡ true → list_all is_name (map (λ (s : Symbol). s.name) ss) ≡ true
@@ -234,9 +263,9 @@ form_built q c (rule r) a none b =
     let some = some_removed r a.1 in
     let named : has_names (rule r) ≡ true = names_names (rule r) c a in
     let made = rule_of (resolved ds r) (resolved_is_rule ds r free.2 free.3 some)
-        (resolved_in_bounds ds r free.2 named) in
+    (resolved_in_bounds ds r free.2 named) in
     let room : length b.rules < MAX_RULES = (let few : nat_le MAX_RULES (length q.meaning.rules) ≡ false = free.1 in
-        let l = length-map b.rules parts_of in let m = ap length b.same in grind (arith, nat_tests)) in
+    let l = length-map b.rules parts_of in let m = ap length b.same in grind (arith, nat_tests)) in
     record {
       rules = b.rules ++ made.0 ∷ [];
       program = rule_built ds b.rules made.0 b.program room (resolved_fits ds r made.0 made.1 free.0);
@@ -255,6 +284,8 @@ pub program_there : (text : List ℕ) (m : Meaning) → IsProgramText text m →
 program_there text m h =
     let q = h.3 in
     let b = makes_built nothing h.1 q h.5 nothing_built in
-    let p = program_of q.meaning.declarations b.rules b.program in
-    (p.0, (λ i. record { declarations = p.1 i; rules = map parts_of (p.2 i) })
-        ∙ (λ i. record { declarations = q.meaning.declarations; rules = b.same i }) ∙ sym h.7)
+    let p = program_of q.meaning.declarations b.rules b.program in (
+      p.0,
+      (λ i. record { declarations = p.1 i; rules = map parts_of (p.2 i) })
+          ∙ (λ i. record { declarations = q.meaning.declarations; rules = b.same i }) ∙ sym h.7,
+    )

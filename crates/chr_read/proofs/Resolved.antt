@@ -65,9 +65,9 @@ bound_is_met r w h =
 pub label_is : (r : Rule) → some_part_over r ≡ false → has_names (rule r) ≡ true → is_label r.label ≡ true
 label_is r over named =
     let o = (or_parts (label_over r.label) (parts_over r)
-        (or_parts (has_long_lists r) (label_over r.label || parts_over r) over).1).0 in
+    (or_parts (has_long_lists r) (label_over r.label || parts_over r) over).1).0 in
     by r.label o (front (option_to_list r.label) (names_of_atoms r.kept
-        ++ (names_of_atoms r.removed ++ names_of_atoms (present r.body))) named)
+    ++ (names_of_atoms r.removed ++ names_of_atoms (present r.body))) named)
   where
     front : (xs ys : List (List ℕ)) → list_all names.is_name (xs ++ ys) ≡ true → list_all names.is_name xs ≡ true
     front [] ys h = refl
@@ -143,7 +143,7 @@ module _ (ds : List Declaration) (r : Rule) where
       let met = bound_is_met r w (not-false (is_bound r w) h) in
       let range = in_range w (names_of r) met.0 met.1 in
       occurs_in all_heads (length (names_of r)) (numbers ds r.kept r.removed) (variable_of (names_of r) w) range.0
-          range.1
+      range.1
 
   known_comparison : (c : Comparison) → comparison_unbound r c ≡ false
       → (is_bound_in all_heads (resolved_comparison (names_of r) c).left
@@ -159,16 +159,16 @@ module _ (ds : List Declaration) (r : Rule) where
       let n = or_parts _ _ h in
       and_from _ _
       (all_pass (comparison_unbound r) (resolved_comparison (names_of r))
-          (λ c. is_bound_in all_heads c.left && is_bound_in all_heads c.right) known_comparison (present r.guard) n.0)
+      (λ c. is_bound_in all_heads c.left && is_bound_in all_heads c.right) known_comparison (present r.guard) n.0)
       (all_pass (atom_unbound r) (body_atom ds (names_of r)) (λ p. list_all (is_bound_in all_heads) p.args.items)
-          known_atom (present r.body) n.1)
+      known_atom (present r.body) n.1)
 
   few_heads : some_part_over r ≡ false → nat_le (length (resolved ds r).kept + length (resolved ds r).removed) MAX_HEADS
       ≡ true
   few_heads h =
       let lists = (or_parts (has_long_lists r) (label_over r.label || parts_over r) h).0 in
       let over = (or_parts (nat_lt MAX_HEADS (length r.kept + length r.removed))
-          (nat_lt MAX_COMPARISONS (length (present r.guard)) || nat_lt MAX_BODY (length (present r.body))) lists).0 in
+      (nat_lt MAX_COMPARISONS (length (present r.guard)) || nat_lt MAX_BODY (length (present r.body))) lists).0 in
       let a = heads_length ds [] r.kept in
       let b = heads_length ds (after_heads [] r.kept) r.removed in
       grind (arith, nat_tests)
@@ -178,11 +178,11 @@ module _ (ds : List Declaration) (r : Rule) where
   few_items h =
       let lists = (or_parts (has_long_lists r) (label_over r.label || parts_over r) h).0 in
       let over = or_parts (nat_lt MAX_COMPARISONS (length (present r.guard)))
-          (nat_lt MAX_BODY (length (present r.body))) (or_parts (nat_lt MAX_HEADS (length r.kept + length r.removed)) _
-          lists).1 in
+      (nat_lt MAX_BODY (length (present r.body))) (or_parts (nat_lt MAX_HEADS (length r.kept + length r.removed)) _
+      lists).1 in
       and_from (nat_le (length (resolved ds r).guard) MAX_COMPARISONS) (nat_le (length (resolved ds r).body) MAX_BODY)
       (let a = length-map (present r.guard) (resolved_comparison (names_of r)) in let b = over.0 in
-          grind (arith, nat_tests))
+      grind (arith, nat_tests))
       (let a = length-map (present r.body) (body_atom ds (names_of r)) in let b = over.1 in grind (arith, nat_tests))
 
   valued : (are_valued all_heads && list_all (λ c. is_valued c.left && is_valued c.right) (resolved ds r).guard
@@ -190,11 +190,11 @@ module _ (ds : List Declaration) (r : Rule) where
   valued =
       and_from _ _
       (and_from _ _ (are_valued-append (heads ds [] r.kept) (heads ds (after_heads [] r.kept) r.removed)
-          (heads_valued ds [] r.kept) (heads_valued ds (after_heads [] r.kept) r.removed))
+      (heads_valued ds [] r.kept) (heads_valued ds (after_heads [] r.kept) r.removed))
       (all_map _ _ (λ c. and_from _ _ (term_valued (names_of r) c.left) (term_valued (names_of r) c.right))
-          (present r.guard)))
+      (present r.guard)))
       (all_map _ _ (λ a. all_map is_valued (resolved_term (names_of r)) (term_valued (names_of r)) a.args)
-          (present r.body))
+      (present r.body))
 
   some_head : 0 < length r.removed → nat_lt 0 (length (resolved ds r).removed) ≡ true
   some_head h = let b = heads_length ds (after_heads [] r.kept) r.removed in grind (arith, nat_tests)
@@ -203,7 +203,7 @@ module _ (ds : List Declaration) (r : Rule) where
       → is_rule (resolved ds r).kept (resolved ds r).removed (resolved ds r).guard (resolved ds r).body ≡ true
   resolved_is_rule over unbound some =
       and_from _ _ (and_from _ _ (and_from _ _ (some_head some) (few_heads over)) (closed unbound))
-          (ap is_some (numbers ds r.kept r.removed))
+      (ap is_some (numbers ds r.kept r.removed))
 
   pub resolved_in_bounds : some_part_over r ≡ false → has_names (rule r) ≡ true
       → is_in_bounds (resolved ds r).name all_heads (resolved ds r).guard (resolved ds r).body ≡ true
@@ -229,7 +229,7 @@ heads_declared ds names [] h = refl
 heads_declared ds names (a ∷ atoms) h =
     let n = or_parts _ _ h in
     and_from _ _ (declared_pattern ds a (head_terms names a.args) (head_terms_length names a.args) n.0)
-        (heads_declared ds (after_terms names a.args) atoms n.1)
+    (heads_declared ds (after_terms names a.args) atoms n.1)
 
 abbrev fits_so : List Declaration → Parts → Bool
 fits_so ds d = list_all (is_declared ds) d.kept && list_all (is_declared ds) d.removed
@@ -240,10 +240,10 @@ fits_resolved ds r h =
     let n = or_parts (any_undeclared ds r.kept) _ h in
     let m = or_parts (any_undeclared ds r.removed) _ n.1 in
     and_from _ _ (and_from _ _ (heads_declared ds [] r.kept n.0)
-        (heads_declared ds (after_heads [] r.kept) r.removed m.0))
+    (heads_declared ds (after_heads [] r.kept) r.removed m.0))
     (all_pass (is_undeclared ds) (body_atom ds (names_of r)) (is_declared ds)
     (λ a e. declared_pattern ds a (map (resolved_term (names_of r)) a.args)
-        (length-map a.args (resolved_term (names_of r))) e) (present r.body) m.1)
+    (length-map a.args (resolved_term (names_of r))) e) (present r.body) m.1)
 
 pub resolved_fits : (ds : List Declaration) (r : Rule) (made : base_rule.Rule) → parts_of made ≡ resolved ds r
     → rule_undeclared ds r ≡ false → fits ds made ≡ true

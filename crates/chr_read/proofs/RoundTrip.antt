@@ -103,7 +103,7 @@ few_terms ds (p ∷ ps) r h =
     let e = and_parts (is_declared ds p) (list_all (is_declared ds) ps) h in
     let q = placed ds p r e.0 in
     let a = length-append p.args.items (terms_of ps) in let b = few_terms ds ps r e.1 in let t = q.takes in let s =
-        q.range.arity in
+    q.range.arity in
     omega (arith, a, b, t, s)
 
 declared_both : (ds : List Declaration) (ps qs : List Pattern) → list_all (is_declared ds) ps ≡ true
@@ -117,9 +117,11 @@ head_atoms : (ds : List Declaration) (n : ℕ) (ps : List Pattern) → list_all 
     → list_all (is_declared ds) ps ≡ true → AllByRecursion (Good n) (terms_of ps) → AllByRecursion (GoodAtom ds n) ps
 head_atoms ds n [] r h g = tt
 head_atoms ds n (p ∷ ps) r h g =
-    let e = and_parts (is_declared ds p) (list_all (is_declared ds) ps) h in
-    (record { placed = placed ds p r e.0; args = front (Good n) p.args.items (terms_of ps) g }, head_atoms ds n ps r e.1
-        (back (Good n) p.args.items (terms_of ps) g))
+    let e = and_parts (is_declared ds p) (list_all (is_declared ds) ps) h in (
+      record { placed = placed ds p r e.0; args = front (Good n) p.args.items (terms_of ps) g },
+      head_atoms ds n ps r e.1
+          (back (Good n) p.args.items (terms_of ps) g),
+    )
 
 -- the body
 body_terms : (n : ℕ) (hs : List Pattern) → AllByRecursion (Good n) (terms_of hs) → (ts : List base.Term)
@@ -127,59 +129,61 @@ body_terms : (n : ℕ) (hs : List Pattern) → AllByRecursion (Good n) (terms_of
 body_terms n hs g [] k v = tt
 body_terms n hs g (t ∷ ts) k v =
     let a = and_parts (is_bound_in hs t) (list_all (is_bound_in hs) ts) k in let b =
-        and_parts (is_valued t) (list_all is_valued ts) v in (good_term n hs g t a.0 b.0, body_terms n hs g ts a.1 b.1)
+    and_parts (is_valued t) (list_all is_valued ts) v in (good_term n hs g t a.0 b.0, body_terms n hs g ts a.1 b.1)
 
 body_atoms : (ds : List Declaration) (n : ℕ) (hs ps : List Pattern) → list_all is_in_range ds ≡ true
     → AllByRecursion (Good n) (terms_of hs) → list_all (is_declared ds) ps ≡ true
     → list_all (λ p. list_all (is_bound_in hs) p.args.items) ps ≡ true → are_valued ps ≡ true
-        → AllByRecursion (GoodAtom ds n) ps
+    → AllByRecursion (GoodAtom ds n) ps
 body_atoms ds n hs [] r g h k v = tt
 body_atoms ds n hs (p ∷ ps) r g h k v =
     let e = and_parts (is_declared ds p) (list_all (is_declared ds) ps) h in
     let a = and_parts (list_all (is_bound_in hs) p.args.items)
-        (list_all (λ p. list_all (is_bound_in hs) p.args.items) ps) k in
-    let b = and_parts (list_all is_valued p.args.items) (are_valued ps) v in
-    (record { placed = placed ds p r e.0; args = body_terms n hs g p.args.items a.0 b.0 },
-        body_atoms ds n hs ps r g e.1 a.1 b.1)
+    (list_all (λ p. list_all (is_bound_in hs) p.args.items) ps) k in
+    let b = and_parts (list_all is_valued p.args.items) (are_valued ps) v in (
+      record { placed = placed ds p r e.0; args = body_terms n hs g p.args.items a.0 b.0 },
+      body_atoms ds n hs ps r g e.1 a.1 b.1,
+    )
 
 guard_terms : (n : ℕ) (hs : List Pattern) → AllByRecursion (Good n) (terms_of hs)
     → (cs : List base_comparison.Comparison)
     → list_all (λ c. is_bound_in hs c.left && is_bound_in hs c.right) cs ≡ true
-        → list_all (λ c. is_valued c.left && is_valued c.right) cs ≡ true → AllByRecursion (GoodComparison n) cs
+    → list_all (λ c. is_valued c.left && is_valued c.right) cs ≡ true → AllByRecursion (GoodComparison n) cs
 guard_terms n hs g [] k v = tt
 guard_terms n hs g (c ∷ cs) k v =
     let a = and_parts (is_bound_in hs c.left && is_bound_in hs c.right)
-        (list_all (λ c. is_bound_in hs c.left && is_bound_in hs c.right) cs) k in
+    (list_all (λ c. is_bound_in hs c.left && is_bound_in hs c.right) cs) k in
     let b = and_parts (is_valued c.left && is_valued c.right) (list_all (λ c. is_valued c.left && is_valued c.right) cs)
-        v in
+    v in
     let x = and_parts (is_bound_in hs c.left) (is_bound_in hs c.right) a.0 in let y =
-        and_parts (is_valued c.left) (is_valued c.right) b.0 in
-    (record { left = good_term n hs g c.left x.0 y.0; right = good_term n hs g c.right x.1 y.1 },
-        guard_terms n hs g cs a.1 b.1)
+    and_parts (is_valued c.left) (is_valued c.right) b.0 in (
+      record { left = good_term n hs g c.left x.0 y.0; right = good_term n hs g c.right x.1 y.1 },
+      guard_terms n hs g cs a.1 b.1,
+    )
 
 good_rule : (ds : List Declaration) (r : base_rule.Rule) → list_all is_in_range ds ≡ true → fits ds r ≡ true
     → GoodRule ds r
 good_rule ds r range fit =
     let hs = heads_of r in
     let f = and_parts (list_all (is_declared ds) r.kept.items && list_all (is_declared ds) r.removed.items)
-        (list_all (is_declared ds) r.body.items) fit in
+    (list_all (is_declared ds) r.body.items) fit in
     let g = and_parts (list_all (is_declared ds) r.kept.items) (list_all (is_declared ds) r.removed.items) f.0 in
     let v = and_parts (are_valued hs && list_all (λ c. is_valued c.left && is_valued c.right) r.guard.items)
-        (are_valued r.body.items) (valued_rule r) in
+    (are_valued r.body.items) (valued_rule r) in
     let w = and_parts (are_valued hs) (list_all (λ c. is_valued c.left && is_valued c.right) r.guard.items) v.0 in
     let k = and_parts (list_all (λ c. is_bound_in hs c.left && is_bound_in hs c.right) r.guard.items)
-        (list_all (λ p. list_all (is_bound_in hs) p.args.items) r.body.items) (closed_rule r) in
+    (list_all (λ p. list_all (is_bound_in hs) p.args.items) r.body.items) (closed_rule r) in
     let s = some_of (numbered 0 (terms_of hs)) (numbered_rule r) in
     let b = bounds 0 s.0 (terms_of hs) s.1 (valued_terms hs w.0) in
     let good = b.good in
     let z = (and_parts (nat_lt 0 (length r.removed.items))
-        (nat_le (length r.kept.items + length r.removed.items) MAX_HEADS) (sized_rule r)).1 in
+    (nat_le (length r.kept.items + length r.removed.items) MAX_HEADS) (sized_rule r)).1 in
     let heads : length hs ≤ MAX_HEADS = (let a = length-append r.kept.items r.removed.items in
-        let c : length r.kept.items + length r.removed.items ≤ MAX_HEADS = grind (arith, nat_tests) in
-        omega (arith, a, c)) in
+    let c : length r.kept.items + length r.removed.items ≤ MAX_HEADS = grind (arith, nat_tests) in
+    omega (arith, a, c)) in
     let most = few_terms ds hs range (declared_both ds r.kept.items r.removed.items g.0 g.1) in
     let split : AllByRecursion (Good s.0) (terms_of r.kept.items ++ terms_of r.removed.items) =
-        subst (AllByRecursion (Good s.0)) (terms_of-append r.kept.items r.removed.items) good in
+    subst (AllByRecursion (Good s.0)) (terms_of-append r.kept.items r.removed.items) good in
     record {
       n = s.0;
       few = (let m = b.most in omega (arith, m, most, heads));
@@ -209,18 +213,18 @@ stands : (ds : List Declaration) (x : ℕ) (ps : List Pattern) → occurs x ps �
     → stands_in (variable_name x) (map (written_atom ds) ps) ≡ true
 stands ds x ps h =
     any_pass (λ p. list_any (rules.is_variable x) p.args.items)
-        (λ a. list_any (faults.is_named (variable_name x)) a.args) (written_atom ds)
+    (λ a. list_any (faults.is_named (variable_name x)) a.args) (written_atom ds)
     (λ p g. any_pass (rules.is_variable x) (faults.is_named (variable_name x)) written_term
-        (term_stands x) p.args.items g) ps h
+    (term_stands x) p.args.items g) ps h
 
 term_bound : (ds : List Declaration) (r : base_rule.Rule) (t : base.Term) → is_bound_in (heads_of r) t ≡ true
     → term_unbound (written_rule ds r) (written_term t) ≡ false
 term_bound ds r (Variable x) h =
     let w = written_rule ds r in
     ap not (either_any (occurs x r.kept.items) (occurs x r.removed.items)
-        (sym (list_any-append (λ p. list_any (rules.is_variable x) p.args.items) r.kept.items r.removed.items) ∙ h)
+    (sym (list_any-append (λ p. list_any (rules.is_variable x) p.args.items) r.kept.items r.removed.items) ∙ h)
     (stands_in (variable_name x) w.kept) (stands_in (variable_name x) w.removed) (stands ds x r.kept.items)
-        (stands ds x r.removed.items))
+    (stands ds x r.removed.items))
 term_bound ds r (Constant c) h = refl
 
 -- ---- a rule has no fault
@@ -232,11 +236,11 @@ module _ (ds : List Declaration) (r : base_rule.Rule) (u : are_distinct ds ≡ t
   undeclared : rule_undeclared ds w ≡ false
   undeclared =
       or_from (any_undeclared ds w.kept) _ (none_pass (is_undeclared ds) (written_atom ds) (GoodAtom ds g.n)
-          (atom_declared ds g.n u) r.kept.items g.kept)
+      (atom_declared ds g.n u) r.kept.items g.kept)
       (or_from (any_undeclared ds w.removed) _ (none_pass (is_undeclared ds) (written_atom ds) (GoodAtom ds g.n)
-          (atom_declared ds g.n u) r.removed.items g.removed)
+      (atom_declared ds g.n u) r.removed.items g.removed)
       (ap (any_undeclared ds) (present_body ds r.body.items) ∙ none_pass (is_undeclared ds) (written_atom ds)
-          (GoodAtom ds g.n) (atom_declared ds g.n u) r.body.items g.body))
+      (GoodAtom ds g.n) (atom_declared ds g.n u) r.body.items g.body))
 
   comparisons : present w.guard ≡ map written_comparison r.guard.items
   comparisons = present_map written_comparison r.guard.items
@@ -247,24 +251,24 @@ module _ (ds : List Declaration) (r : base_rule.Rule) (u : are_distinct ds ≡ t
   limits : (labelled ≡ true) × (length r.guard.items ≤ MAX_COMPARISONS) × (length r.body.items ≤ MAX_BODY)
   limits =
       let a = and_parts (labelled && nat_le (length r.guard.items) MAX_COMPARISONS)
-          (nat_le (length r.body.items) MAX_BODY) (few_rule r) in
+      (nat_le (length r.body.items) MAX_BODY) (few_rule r) in
       let b = and_parts labelled (nat_le (length r.guard.items) MAX_COMPARISONS) a.0 in
       (b.0, (let b1 = b.1 in grind (arith, nat_tests)), (let a1 = a.1 in grind (arith, nat_tests)))
 
   few_lists : has_long_lists w ≡ false
   few_lists =
       let z = (and_parts (nat_lt 0 (length r.removed.items))
-          (nat_le (length r.kept.items + length r.removed.items) MAX_HEADS) (sized_rule r)).1 in
+      (nat_le (length r.kept.items + length r.removed.items) MAX_HEADS) (sized_rule r)).1 in
       let k = length-map r.kept.items (written_atom ds) in
       let m = length-map r.removed.items (written_atom ds) in
       let c : length (present w.guard) ≤ MAX_COMPARISONS =
-          (let e = ap length comparisons in let f = length-map r.guard.items written_comparison in let l = limits.1 in
-          omega (arith, e, f, l)) in
+      (let e = ap length comparisons in let f = length-map r.guard.items written_comparison in let l = limits.1 in
+      omega (arith, e, f, l)) in
       let b : length (present w.body) ≤ MAX_BODY = (let e = ap length (present_body ds r.body.items) in let f =
-          length-map r.body.items (written_atom ds) in let l = limits.2 in omega (arith, e, f, l)) in
+      length-map r.body.items (written_atom ds) in let l = limits.2 in omega (arith, e, f, l)) in
       or_from (nat_lt MAX_HEADS (length w.kept + length w.removed)) _ (grind (arith, nat_tests))
       (or_from (nat_lt MAX_COMPARISONS (length (present w.guard))) (nat_lt MAX_BODY (length (present w.body)))
-          (grind (arith, nat_tests)) (grind (arith, nat_tests)))
+      (grind (arith, nat_tests)) (grind (arith, nat_tests)))
 
   label_short : (o : Option (List ℕ)) → names.is_label o ≡ true → label_over o ≡ false
   label_short None h = refl
@@ -274,17 +278,17 @@ module _ (ds : List Declaration) (r : base_rule.Rule) (u : are_distinct ds ≡ t
   few_parts : parts_over w ≡ false
   few_parts =
       let over = λ (c : base_comparison.Comparison) (h : GoodComparison g.n c). or_from _ _
-          (within g.n g.few c.left h.left) (within g.n g.few c.right h.right) in
+      (within g.n g.few c.left h.left) (within g.n g.few c.right h.right) in
       or_from (list_any parts_of_atom_over w.kept) _ (none_pass parts_of_atom_over (written_atom ds) (GoodAtom ds g.n)
-          (atom_within ds g.n g.few) r.kept.items g.kept)
+      (atom_within ds g.n g.few) r.kept.items g.kept)
       (or_from (list_any parts_of_atom_over w.removed) _
-          (none_pass parts_of_atom_over (written_atom ds) (GoodAtom ds g.n) (atom_within ds g.n g.few) r.removed.items
-          g.removed)
+      (none_pass parts_of_atom_over (written_atom ds) (GoodAtom ds g.n) (atom_within ds g.n g.few) r.removed.items
+      g.removed)
       (or_from (list_any comparison_over (present w.guard)) _
-          (ap (list_any comparison_over) comparisons ∙ none_pass comparison_over written_comparison
-          (GoodComparison g.n) over r.guard.items g.guard)
+      (ap (list_any comparison_over) comparisons ∙ none_pass comparison_over written_comparison
+      (GoodComparison g.n) over r.guard.items g.guard)
       (ap (list_any parts_of_atom_over) (present_body ds r.body.items) ∙ none_pass parts_of_atom_over (written_atom ds)
-          (GoodAtom ds g.n) (atom_within ds g.n g.few) r.body.items g.body)))
+      (GoodAtom ds g.n) (atom_within ds g.n g.few) r.body.items g.body)))
 
   not_over : some_part_over w ≡ false
   not_over = or_from (has_long_lists w) _ few_lists (or_from (label_over w.label) _
@@ -294,56 +298,56 @@ module _ (ds : List Declaration) (r : base_rule.Rule) (u : are_distinct ds ≡ t
   not_unbound =
       let hs = heads_of r in
       let k = and_parts (list_all (λ c. is_bound_in hs c.left && is_bound_in hs c.right) r.guard.items)
-          (list_all (λ p. list_all (is_bound_in hs) p.args.items) r.body.items) (closed_rule r) in
+      (list_all (λ p. list_all (is_bound_in hs) p.args.items) r.body.items) (closed_rule r) in
       or_from (list_any (comparison_unbound w) (present w.guard)) _
       (ap (list_any (comparison_unbound w)) comparisons
       ∙ none_pass (comparison_unbound w) written_comparison
-          (λ c. (is_bound_in hs c.left && is_bound_in hs c.right) ≡ true)
+      (λ c. (is_bound_in hs c.left && is_bound_in hs c.right) ≡ true)
       (λ c h. (let e = and_parts (is_bound_in hs c.left) (is_bound_in hs c.right) h in
-          or_from _ _ (term_bound ds r c.left e.0) (term_bound ds r c.right e.1))) r.guard.items
+      or_from _ _ (term_bound ds r c.left e.0) (term_bound ds r c.right e.1))) r.guard.items
       (tested (λ c. is_bound_in hs c.left && is_bound_in hs c.right)
-          (λ c. (is_bound_in hs c.left && is_bound_in hs c.right) ≡ true) (λ c h. h) r.guard.items k.0))
+      (λ c. (is_bound_in hs c.left && is_bound_in hs c.right) ≡ true) (λ c h. h) r.guard.items k.0))
       (ap (list_any (atom_unbound w)) (present_body ds r.body.items)
       ∙ none_pass (atom_unbound w) (written_atom ds) (λ p. list_all (is_bound_in hs) p.args.items ≡ true)
       (λ p h. none_pass (term_unbound w) written_term (λ t. is_bound_in hs t ≡ true) (term_bound ds r) p.args.items
-          (tested (is_bound_in hs) (λ t. is_bound_in hs t ≡ true) (λ t e. e) p.args.items h)) r.body.items
+      (tested (is_bound_in hs) (λ t. is_bound_in hs t ≡ true) (λ t e. e) p.args.items h)) r.body.items
       (tested (λ p. list_all (is_bound_in hs) p.args.items) (λ p. list_all (is_bound_in hs) p.args.items ≡ true)
-          (λ p h. h) r.body.items k.1))
+      (λ p h. h) r.body.items k.1))
 
   not_outside : rule_outside w ≡ false
   not_outside =
       let out = λ (c : base_comparison.Comparison) (h : GoodComparison g.n c). or_from _ _ (inside g.n c.left h.left)
-          (inside g.n c.right h.right) in
+      (inside g.n c.right h.right) in
       or_from (list_any atom_outside w.kept) _ (none_pass atom_outside (written_atom ds) (GoodAtom ds g.n)
-          (atom_inside ds g.n) r.kept.items g.kept)
+      (atom_inside ds g.n) r.kept.items g.kept)
       (or_from (list_any atom_outside w.removed) _ (none_pass atom_outside (written_atom ds) (GoodAtom ds g.n)
-          (atom_inside ds g.n) r.removed.items g.removed)
+      (atom_inside ds g.n) r.removed.items g.removed)
       (or_from (list_any comparison_outside (present w.guard)) _
-          (ap (list_any comparison_outside) comparisons ∙ none_pass comparison_outside written_comparison
-          (GoodComparison g.n) out r.guard.items g.guard)
+      (ap (list_any comparison_outside) comparisons ∙ none_pass comparison_outside written_comparison
+      (GoodComparison g.n) out r.guard.items g.guard)
       (ap (list_any atom_outside) (present_body ds r.body.items) ∙ none_pass atom_outside (written_atom ds)
-          (GoodAtom ds g.n) (atom_inside ds g.n) r.body.items g.body)))
+      (GoodAtom ds g.n) (atom_inside ds g.n) r.body.items g.body)))
 
   rule_faultless : (q : Progress) → q.meaning.declarations ≡ ds → length q.meaning.rules < MAX_RULES
       → fault_in q (rule w) ≡ None
   rule_faultless q is l =
       let room : nat_le MAX_RULES (length q.meaning.rules) ≡ false = grind (arith, nat_tests) in
       pass (list_any (is_undeclared q.meaning.declarations) (rule_atoms w)) _ _
-          (sym (undeclared_is q.meaning.declarations w) ∙ ap (λ d. rule_undeclared d w) is ∙ undeclared)
+      (sym (undeclared_is q.meaning.declarations w) ∙ ap (λ d. rule_undeclared d w) is ∙ undeclared)
       (pass (nat_le MAX_RULES (length q.meaning.rules) || rule_over w) _ _
-          (or_from (nat_le MAX_RULES (length q.meaning.rules)) _ room (sym (over_is w) ∙ not_over))
+      (or_from (nat_le MAX_RULES (length q.meaning.rules)) _ room (sym (over_is w) ∙ not_over))
       (pass (list_any (is_unbound w) (right_terms w)) _ _ (sym (unbound_is w) ∙ not_unbound)
-          (pass (list_any is_outside (terms_in w)) _ _ (sym (outside_is w) ∙ not_outside) refl)))
+      (pass (list_any is_outside (terms_in w)) _ _ (sym (outside_is w) ∙ not_outside) refl)))
 
   -- ---- it is resolved to the rule
 
   rule_back : resolved ds w ≡ parts_of r
   rule_back =
       let s = numbered_split 0 g.n (terms_of r.kept.items) (terms_of r.removed.items)
-          (ap (numbered 0) (sym (terms_of-append r.kept.items r.removed.items)) ∙ g.count) in
+      (ap (numbered 0) (sym (terms_of-append r.kept.items r.removed.items)) ∙ g.count) in
       let v = (and_parts (are_valued (heads_of r)) (list_all (λ c. is_valued c.left && is_valued c.right) r.guard.items)
-          (and_parts (are_valued (heads_of r) && list_all (λ c. is_valued c.left && is_valued c.right) r.guard.items)
-          (are_valued r.body.items) (valued_rule r)).0).0 in
+      (and_parts (are_valued (heads_of r) && list_all (λ c. is_valued c.left && is_valued c.right) r.guard.items)
+      (are_valued r.body.items) (valued_rule r)).0).0 in
       let vs = valued_parts r.kept.items r.removed.items v in
       let b = (bounds s.0 g.n (terms_of r.removed.items) s.2 (valued_terms r.removed.items vs.1)).least in
       let few : s.0 ≤ MAX_VARIABLES = (let f = g.few in omega (arith, b, f)) in
@@ -351,30 +355,38 @@ module _ (ds : List Declaration) (r : base_rule.Rule) (u : are_distinct ds ≡ t
       let k = heads_back ds 0 s.0 r.kept.items few (omega arith) u good_kept (valued_terms r.kept.items vs.0) s.1 in
       let m = heads_back ds s.0 g.n r.removed.items g.few few u g.removed (valued_terms r.removed.items vs.1) s.2 in
       let removed : heads ds (after_heads [] w.kept) w.removed ≡ r.removed.items = ap (λ ns. heads ds ns w.removed) k.1
-          ∙ m.0 in
+      ∙ m.0 in
       let all : names_of w ≡ first_names g.n = ap (λ ns. after_heads ns w.removed) k.1 ∙ m.1 in
       let guard : map (resolved_comparison (names_of w)) (present w.guard) ≡ r.guard.items
       = (λ i. map (resolved_comparison (all i)) (comparisons i))
-          ∙ same_each (resolved_comparison (first_names g.n)) written_comparison (GoodComparison g.n)
-          (comparison_back g.n g.few) r.guard.items g.guard in
+      ∙ same_each (resolved_comparison (first_names g.n)) written_comparison (GoodComparison g.n)
+      (comparison_back g.n g.few) r.guard.items g.guard in
       let body : map (body_atom ds (names_of w)) (present w.body) ≡ r.body.items
       = (λ i. map (body_atom ds (all i)) (present_body ds r.body.items i)) ∙ same_each (body_atom ds (first_names g.n))
-          (written_atom ds) (GoodAtom ds g.n) (body_atom_back ds g.n g.few u) r.body.items g.body in
-      λ i. record { name = option_map (λ n. n.bytes) r.name; kept = k.0 i; removed = removed i; guard = guard i; body =
-          body i }
+      (written_atom ds) (GoodAtom ds g.n) (body_atom_back ds g.n g.few u) r.body.items g.body in
+      λ i. record {
+        name = option_map (λ n. n.bytes) r.name;
+        kept = k.0 i;
+        removed = removed i;
+        guard = guard i;
+        body =
+            body i;
+      }
     where
       valued_parts : (ps qs : List Pattern) → are_valued (ps ++ qs) ≡ true → (are_valued ps ≡ true)
           × (are_valued qs ≡ true)
       valued_parts [] qs h = (refl, h)
       valued_parts (p ∷ ps) qs h =
           let e = and_parts (list_all is_valued p.args.items) (are_valued (ps ++ qs)) h in let m =
-              valued_parts ps qs e.1 in (and_from (list_all is_valued p.args.items) _ e.0 m.0, m.1)
+          valued_parts ps qs e.1 in (and_from (list_all is_valued p.args.items) _ e.0 m.0, m.1)
 
       fewer : (n : ℕ) (ps : List Pattern) → AllByRecursion (GoodAtom ds g.n) ps → AllByRecursion (Good n) (terms_of ps)
           → AllByRecursion (GoodAtom ds n) ps
       fewer n [] h t = tt
-      fewer n (p ∷ ps) h t = (record { placed = h.0.placed; args = front (Good n) p.args.items (terms_of ps) t },
-          fewer n ps h.1 (back (Good n) p.args.items (terms_of ps) t))
+      fewer n (p ∷ ps) h t = (
+        record { placed = h.0.placed; args = front (Good n) p.args.items (terms_of ps) t },
+        fewer n ps h.1 (back (Good n) p.args.items (terms_of ps) t),
+      )
 
       good_at : (n : ℕ) (ps : List Pattern) → AllByRecursion (GoodAtom ds g.n) ps → numbered 0 (terms_of ps) ≡ Some n
           → list_all is_valued (terms_of ps) ≡ true → AllByRecursion (GoodAtom ds n) ps
@@ -453,7 +465,7 @@ rules_back ds made ws (r ∷ rs) range u h l =
     let a = length-append made (parts_of r ∷ []) in
     let more = rules_back ds (made ++ parts_of r ∷ []) ws rs range u e.1 (omega (arith, a, l)) in
     let step : state ds (made ++ parts_of r ∷ []) ws ≡ with_form (state ds made ws) (rule (written_rule ds r)) =
-        ap (λ x. state ds (made ++ x ∷ []) ws) (sym (rule_back ds r u g)) in
+    ap (λ x. state ds (made ++ x ∷ []) ws) (sym (rule_back ds r u g)) in
     let faultless = rule_faultless ds r u g (state ds made ws) refl (omega (arith, l)) in (
       (faultless, subst (λ q. AreFaultless q (rule_forms ds rs)) step more.0),
       ap (λ q. after q (rule_forms ds rs)) (sym step) ∙ more.1
@@ -466,11 +478,14 @@ digits_are_positive : (w : List ℕ) → list_all is_digit w ≡ true → starts
 digits_are_positive [] h = refl
 digits_are_positive (b ∷ bs) h =
     let d = (and_parts (is_digit b) (list_all is_digit bs) h).0 in let n : (b == 45) ≡ false =
-        grind (arith, nat_tests) in n
+    grind (arith, nat_tests) in n
 
 symbol_form : (d : Declaration) → InRange d → IsSymbol (written_symbol d)
-symbol_form d r = let a = r.arity in (name_is_unreserved d.name r.name, digits_are_positive (decimal d.arity)
-    (decimal_digits d.arity (omega (arith, a))))
+symbol_form d r = let a = r.arity in (
+  name_is_unreserved d.name r.name,
+  digits_are_positive (decimal d.arity)
+      (decimal_digits d.arity (omega (arith, a))),
+)
 
 symbol_writable : (d : Declaration) → InRange d → IsWritableSymbol d
 symbol_writable d r = let a = r.arity in record { word = name_is_word d.name r.name; arity = omega (arith, a) }
@@ -478,8 +493,12 @@ symbol_writable d r = let a = r.arity in record { word = name_is_word d.name r.n
 declaration_is : (ds : List Declaration) → list_all is_in_range ds ≡ true → AreClauses (declaration_clauses ds)
     (declaration_forms ds)
 declaration_is [] h = tt
-declaration_is (d ∷ ds) h = (declaration_tokens d ds (tested is_in_range IsWritableSymbol
-    (λ e k. symbol_writable e (in_range e k)) (d ∷ ds) h), symbols (d ∷ ds) h, tt)
+declaration_is (d ∷ ds) h = (
+  declaration_tokens d ds (tested is_in_range IsWritableSymbol
+      (λ e k. symbol_writable e (in_range e k)) (d ∷ ds) h),
+  symbols (d ∷ ds) h,
+  tt,
+)
   where
     symbols : (ds : List Declaration) → list_all is_in_range ds ≡ true → AllByRecursion IsSymbol (map written_symbol ds)
     symbols [] h = tt
@@ -491,14 +510,20 @@ weights_are : (ds : List Declaration) → list_all is_in_range ds ≡ true
 weights_are [] h = tt
 weights_are (d ∷ ds) h =
     let e = and_parts (is_in_range d) (list_all is_in_range ds) h in let r = in_range d e.0 in let m = r.first in
-        let n = r.second in
-    by (is_default d.weight) (weight_tokens d (symbol_writable d r) record { first = omega (arith, m); second =
-        omega (arith, n) }, symbol_form d r) (weights_are ds e.1)
+    let n = r.second in
+    by (is_default d.weight) (
+      weight_tokens d (symbol_writable d r) record {
+        first = omega (arith, m);
+        second =
+            omega (arith, n);
+      },
+      symbol_form d r,
+    ) (weights_are ds e.1)
   where
     by : (t : Bool) → (tokens_of (weight_clause d) ≡ Some (spelled (written_weight d))) × IsForm (written_weight d)
         → AreClauses (weight_clauses ds) (weight_forms ds)
         → AreClauses (cond t (weight_clauses ds) (weight_clause d ∷ weight_clauses ds))
-            (cond t (weight_forms ds) (written_weight d ∷ weight_forms ds))
+        (cond t (weight_forms ds) (written_weight d ∷ weight_forms ds))
     by true one more = more
     by false one more = (one.0, one.1, more)
 
@@ -509,9 +534,9 @@ comes_back : (p : Program) → length (canonical (declarations p) (rules_of p)) 
 comes_back p short =
     let ds = declarations p in let rs = rules_of p in
     let a = and_parts (nat_le (length ds) MAX_SYMBOLS && nat_le (length rs) MAX_RULES && list_all is_in_range ds
-        && are_distinct ds) (list_all (fits ds) rs) p.well_formed in
+    && are_distinct ds) (list_all (fits ds) rs) p.well_formed in
     let b = and_parts (nat_le (length ds) MAX_SYMBOLS && nat_le (length rs) MAX_RULES && list_all is_in_range ds)
-        (are_distinct ds) a.0 in
+    (are_distinct ds) a.0 in
     let c = and_parts (nat_le (length ds) MAX_SYMBOLS && nat_le (length rs) MAX_RULES) (list_all is_in_range ds) b.0 in
     let e = and_parts (nat_le (length ds) MAX_SYMBOLS) (nat_le (length rs) MAX_RULES) c.0 in
     let few : length ds ≤ MAX_SYMBOLS = (let e0 = e.0 in grind (arith, nat_tests)) in
@@ -523,19 +548,19 @@ comes_back p short =
     let later = weight_forms ds ++ rule_forms ds rs in
     let forms = declaration_forms ds ++ later in
     let are = clauses_append (declaration_clauses ds) (declaration_forms ds)
-        (weight_clauses ds ++ map (rule_clause ds) rs) later (declaration_is ds range)
+    (weight_clauses ds ++ map (rule_clause ds) rs) later (declaration_is ds range)
     (clauses_append (weight_clauses ds) (weight_forms ds) (map (rule_clause ds) rs) (rule_forms ds rs)
-        (weights_are ds range) (rules_clauses ds rs range u a.1)) in
+    (weights_are ds range) (rules_clauses ds rs range u a.1)) in
     let faultless = faultless_append nothing (declaration_forms ds) later first.0
     (subst (λ q. AreFaultless q later) (sym first.1)
     (faultless_append (state (map plain ds) [] []) (weight_forms ds) (rule_forms ds rs) second.0
-        (subst (λ q. AreFaultless q (rule_forms ds rs)) (sym second.2) third.0))) in
+    (subst (λ q. AreFaultless q (rule_forms ds rs)) (sym second.2) third.0))) in
     let end : after nothing forms ≡ state ds (map parts_of rs) second.1
     = after_append nothing (declaration_forms ds) later ∙ ap (λ q. after q later) first.1
-        ∙ after_append (state (map plain ds) [] []) (weight_forms ds) (rule_forms ds rs)
-        ∙ ap (λ q. after q (rule_forms ds rs)) second.2 ∙ third.1 in
+    ∙ after_append (state (map plain ds) [] []) (weight_forms ds) (rule_forms ds rs)
+    ∙ ap (λ q. after q (rule_forms ds rs)) second.2 ∙ third.1 in
     short_read (canonical ds rs) short ∙ ap (λ t. meaning_in (pieces_read 1 nothing (pieces t)))
-        (no_comments (clauses ds rs) forms are)
+    (no_comments (clauses ds rs) forms are)
     ∙ ap meaning_in (ended_read false 1 nothing (clauses ds rs) forms are faultless) ∙ ap (λ q. Ok q.meaning) end
 
 pub round_trip : ProgramsComeBack

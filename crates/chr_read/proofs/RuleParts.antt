@@ -45,7 +45,7 @@ any_atoms : (p : Atom → Bool) (r : Rule) → (list_any p r.kept || (list_any p
 any_atoms p r =
     sym (or_assoc (list_any p r.kept) (list_any p r.removed) (list_any p (present r.body)))
     ∙ ap (λ b. b || list_any p (present r.body)) (sym (any_heads p r))
-        ∙ sym (list_any-append p (rule_heads r) (present r.body))
+    ∙ sym (list_any-append p (rule_heads r) (present r.body))
 
 pub undeclared_is : (ds : List Declaration) (r : Rule) → rule_undeclared ds r ≡ list_any (is_undeclared ds)
     (rule_atoms r)
@@ -66,7 +66,7 @@ module _ (p : Term → Bool) where
   any_sides : (cs : List Comparison) → list_any in_sides cs ≡ list_any p (flat_map (λ c. c.left ∷ c.right ∷ []) cs)
   any_sides cs =
       any_same in_sides (λ c. list_any p (c.left ∷ c.right ∷ []))
-          (λ c. ap (λ b. p c.left || b) (sym (or-false (p c.right)))) cs
+      (λ c. ap (λ b. p c.left || b) (sym (or-false (p c.right)))) cs
       ∙ sym (any_flat p (λ c. c.left ∷ c.right ∷ []) cs)
 
   any_right : (r : Rule) → (list_any in_sides (present r.guard) || list_any in_args (present r.body))
@@ -84,7 +84,7 @@ module _ (p : Term → Bool) where
   any_terms r =
       sym (or_assoc (list_any in_args r.kept) (list_any in_args r.removed) _)
       ∙ (let a = any_head_terms r in let b = any_right r in λ i. a i || b i)
-          ∙ sym (list_any-append p (args_of (rule_heads r)) (right_terms r))
+      ∙ sym (list_any-append p (args_of (rule_heads r)) (right_terms r))
 
 pub outside_is : (r : Rule) → rule_outside r ≡ list_any is_outside (written_terms r)
 outside_is r = any_terms is_outside r
@@ -112,17 +112,17 @@ apart : (a b c d g e f : Bool) → ((a || b) || ((c || d) || (g || (e || f))))
     ≡ ((a || (c || e)) || (b || (d || (g || f))))
 apart a b c d g e f =
     ap (λ x. (a || b) || ((c || d) || x)) (swap_or false g e f) ∙ ap (λ x. (a || b) || x) (swap_or c d e (g || f))
-        ∙ swap_or a b (c || e) (d || (g || f))
+    ∙ swap_or a b (c || e) (d || (g || f))
 
 parts_are : (r : Rule) → parts_over r ≡ (list_any atom_over (rule_atoms r) || list_any is_long_variable
     (written_terms r))
 parts_are r =
     let v : Atom → Bool = λ a. list_any is_long_variable a.args in
     let k = any_or atom_over v r.kept in let m = any_or atom_over v r.removed in let b =
-        any_or atom_over v (present r.body) in
+    any_or atom_over v (present r.body) in
     (λ i. k i || (m i || (list_any comparison_over (present r.guard) || b i)))
     ∙ apart (list_any atom_over r.kept) (list_any v r.kept) (list_any atom_over r.removed) (list_any v r.removed)
-        (list_any comparison_over (present r.guard))
+    (list_any comparison_over (present r.guard))
     (list_any atom_over (present r.body)) (list_any v (present r.body))
     ∙ (let x = any_atoms atom_over r in let y = any_terms is_long_variable r in λ i. x i || y i)
 
@@ -132,7 +132,7 @@ over_is r =
     let guard = nat_lt MAX_COMPARISONS (length (present r.guard)) in
     let body = nat_lt MAX_BODY (length (present r.body)) in
     let n : heads ≡ nat_lt MAX_HEADS (length (rule_heads r)) =
-        ap (nat_lt MAX_HEADS) (sym (length-append r.kept r.removed)) in
+    ap (nat_lt MAX_HEADS) (sym (length-append r.kept r.removed)) in
     let l = label_is r.label in let q = parts_are r in
     or_assoc heads (guard || body) _ ∙ ap (λ b. heads || b) (or_assoc guard body _)
     ∙ λ i. n i || (guard || (body || (l i || q i)))
@@ -150,7 +150,7 @@ again_is seen (s ∷ ss) =
     let m = any_or (λ t. is_same_symbol s t) (λ t. list_any (λ e. is_same_symbol e t) seen) ss in
     ap (λ b. old || b) (again_is (s ∷ seen) ss ∙ ap (λ b. b || comes_twice ss) m)
     ∙ turn old (list_any (is_same_symbol s) ss) (list_any (λ t. list_any (λ e. is_same_symbol e t) seen) ss)
-        (comes_twice ss)
+    (comes_twice ss)
   where
     turn : (a b c d : Bool) → (a || ((b || c) || d)) ≡ ((a || c) || (b || d))
     turn true b c d = refl

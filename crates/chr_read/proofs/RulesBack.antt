@@ -99,8 +99,13 @@ placed ds p r h = by (slice_get ds p.symbol.0) refl h
   where
     by : (o : Option Declaration) → slice_get ds p.symbol.0 ≡ o → takes o (length p.args.items) ≡ true → Placed ds p
     by None e h = absurd (false≢true h)
-    by (Some d) e h = record { d = d; there = e; takes = sym (eqb-true d.arity (length p.args.items) h); range =
-        in_range d (range_at ds p.symbol.0 d r e) }
+    by (Some d) e h = record {
+      d = d;
+      there = e;
+      takes = sym (eqb-true d.arity (length p.args.items) h);
+      range =
+          in_range d (range_at ds p.symbol.0 d r e);
+    }
 
 any_there : (p : Declaration → Bool) (ds : List Declaration) (i : ℕ) (d : Declaration) → list_any p ds ≡ false
     → slice_get ds i ≡ Some d → p d ≡ false
@@ -117,7 +122,7 @@ place_at (e ∷ ds) (suc i) d h g =
     let u = and_parts (not (list_any (declares e.name e.arity) ds)) (are_distinct ds) h in
     let other = turned e d (any_there (declares e.name e.arity) ds i d (not-true _ u.0) g) in
     ap (λ b. cond b (Some 0) (option_map suc (place (declares d.name d.arity) ds))) other
-        ∙ ap (option_map suc) (place_at ds i d u.1 g)
+    ∙ ap (option_map suc) (place_at ds i d u.1 g)
 
 name_here : (ds : List Declaration) (p : Pattern) (q : Placed ds p) → name_at ds p.symbol.0 ≡ q.d.name
 name_here ds p q = ap (λ o. option_map_or (λ d. d.name) o []) q.there
@@ -128,7 +133,7 @@ atom_place ds p u q =
     let name = name_here ds p q in
     let count = length-map p.args.items written_term ∙ q.takes in
     (λ i. place_of ds (name i) (count i)) ∙ position_is (declares q.d.name q.d.arity) ds
-        ∙ place_at ds p.symbol.0 q.d u q.there
+    ∙ place_at ds p.symbol.0 q.d u q.there
 
 -- ---- terms
 
@@ -184,7 +189,7 @@ pub bounds : (m n : ℕ) (ts : List base.Term) → numbered m ts ≡ Some n → 
 bounds m n [] h v = let e = same_Some m n h in record { least = omega (arith, e); most = omega (arith, e); good = tt }
 bounds m n (Constant c ∷ ts) h v =
     let e = and_parts (is_value c) (list_all is_valued ts) v in let b = bounds m n ts h e.1 in
-        record { least = b.least; most = (let k = b.most in omega (arith, k)); good = (e.0, b.good) }
+    record { least = b.least; most = (let k = b.most in omega (arith, k)); good = (e.0, b.good) }
 bounds m n (Variable x ∷ ts) h v = by (nat_eq x (m + 1)) (nat_lt 0 x && nat_le x m) refl refl h
     (λ k g. bounds k n ts g v)
   where
@@ -193,12 +198,16 @@ bounds m n (Variable x ∷ ts) h v = by (nat_eq x (m + 1)) (nat_lt 0 x && nat_le
         → ((k : ℕ) → numbered k ts ≡ Some n → Bounds k n ts) → Bounds m n (Variable x ∷ ts)
     by true t e g h more =
         let b = more (m + 1) h in let is = eqb-true x (m + 1) e in let l = b.least in let k = b.most in
-        record { least = omega (arith, l); most = omega (arith, k); good =
-            ((omega (arith, is), omega (arith, is, l)), b.good) }
+        record {
+          least = omega (arith, l);
+          most = omega (arith, k);
+          good =
+              ((omega (arith, is), omega (arith, is, l)), b.good);
+        }
     by false true e g h more =
         let b = more m h in let p = and_parts (nat_lt 0 x) (nat_le x m) g in let l = b.least in let k = b.most in
         let some : 0 < x = (let p0 = p.0 in grind (arith, nat_tests)) in let below : x ≤ m =
-            (let p1 = p.1 in grind (arith, nat_tests)) in
+        (let p1 = p.1 in grind (arith, nat_tests)) in
         record { least = l; most = omega (arith, k); good = ((some, omega (arith, below, l)), b.good) }
     by false false e g h more = absurd (none-some n h)
 
@@ -234,8 +243,8 @@ pub atom_within : (ds : List Declaration) (n : ℕ) → n ≤ MAX_VARIABLES → 
 atom_within ds n l p h =
     let q = h.placed in
     let few : nat_lt MAX_ARITY (length (map written_term p.args.items)) ≡ false =
-        (let a = length-map p.args.items written_term in let b = q.takes in let c = q.range.arity in
-        grind (arith, nat_tests)) in
+    (let a = length-map p.args.items written_term in let b = q.takes in let c = q.range.arity in
+    grind (arith, nat_tests)) in
     let short = ap is_long (name_here ds p q) ∙ name_is_short q.d.name q.range.short in
     or_from (atom_over (written_atom ds p)) _ (or_from (is_long (name_at ds p.symbol.0)) _ short few)
     (none_pass is_long_variable written_term (Good n) (within n l) p.args.items h.args)
@@ -270,14 +279,14 @@ pub heads_back : (ds : List Declaration) (m n : ℕ) (ps : List Pattern) → n �
     → are_distinct ds ≡ true → AllByRecursion (GoodAtom ds n) ps → list_all is_valued (terms_of ps) ≡ true
     → numbered m (terms_of ps) ≡ Some n
     → (heads ds (first_names m) (map (written_atom ds) ps) ≡ ps)
-        × (after_heads (first_names m) (map (written_atom ds) ps) ≡ first_names n)
+    × (after_heads (first_names m) (map (written_atom ds) ps) ≡ first_names n)
 heads_back ds m n [] l k u h v e = (refl, ap first_names (same_Some m n e))
 heads_back ds m n (p ∷ ps) l k u h v e =
     let s = numbered_split m n p.args.items (terms_of ps) e in
     let rest = valued_back p.args.items (terms_of ps) v in
     let b = (bounds s.0 n (terms_of ps) s.2 rest).least in
     let here = terms_back m s.0 p.args.items (omega (arith, k))
-        (each_so (Good n) IsWritable (writable n l) p.args.items h.0.args) s.1 in
+    (each_so (Good n) IsWritable (writable n l) p.args.items h.0.args) s.1 in
     let later = heads_back ds s.0 n ps l (omega (arith, b, l)) u h.1 rest s.2 in
     let symbol = ap (λ o. unwrap_or o 0) (atom_place ds p u h.0.placed) in (
       (λ i. record { symbol = record { 0 = symbol i }; args = record { items = here.0 i } }

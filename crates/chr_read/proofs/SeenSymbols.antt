@@ -21,8 +21,8 @@ among name digits earlier = list_any (λ e. bytes_eq e.name name && bytes_eq (wi
 
 pub one_more : {A : Type 0} (earlier : List Symbol) (v : A → Symbol) (xs : List A) (k : ℕ) (d : A) → k < length xs
     → comes_again earlier (map v (drop k xs)) ≡ (among (v (get_or xs k d)).name
-        (without_zeros (v (get_or xs k d)).arity) earlier || comes_again (v (get_or xs k d) ∷ earlier)
-        (map v (drop (k + 1) xs)))
+    (without_zeros (v (get_or xs k d)).arity) earlier || comes_again (v (get_or xs k d) ∷ earlier)
+    (map v (drop (k + 1) xs)))
 one_more earlier v xs k d within = ap (λ l. comes_again earlier (map v l)) (drop_more xs k d within)
 
 pub is_not : (a b : Bool) → a ≡ not b → a ≡ false → b ≡ true
@@ -44,7 +44,7 @@ pub one_more_key : (other : List ℕ) (name digits : List ℕ) (before : Bool) (
     → cond (bytes_eq s.name name && bytes_eq other digits) true before ≡ among name digits (s ∷ earlier)
 one_more_key other name digits before earlier s same was =
     ap (λ o. cond (bytes_eq s.name name && bytes_eq o digits) true before) same
-        ∙ by (bytes_eq s.name name && bytes_eq (without_zeros s.arity) digits)
+    ∙ by (bytes_eq s.name name && bytes_eq (without_zeros s.arity) digits)
   where
     by : (b : Bool) → cond b true before ≡ (b || among name digits earlier)
     by true = refl

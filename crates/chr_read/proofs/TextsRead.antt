@@ -70,10 +70,10 @@ read_good : (k : ℕ) (q : Progress) (cs : Pieces) (rest : List ℕ) (r : Progre
 read_good k q [] rest r is none = ap (in_clause k) (good_rest q rest none) ∙ ap Ok is
 read_good k q (c ∷ []) rest r m none =
     ap (λ o. in_clause k o >>= λ p. pieces_read (k + 1) p (rest ∷ [])) (good q c m.0 m.1 m.2)
-        ∙ read_good (k + 1) (with_form q m.0) [] rest r m.3 none
+    ∙ read_good (k + 1) (with_form q m.0) [] rest r m.3 none
 read_good k q (c ∷ d ∷ ds) rest r m none =
     ap (λ o. in_clause k o >>= λ p. pieces_read (k + 1) p (d ∷ (ds ++ rest ∷ []))) (good q c m.0 m.1 m.2)
-        ∙ read_good (k + 1) (with_form q m.0) (d ∷ ds) rest r m.3 none
+    ∙ read_good (k + 1) (with_form q m.0) (d ∷ ds) rest r m.3 none
 
 at_clause : (k : ℕ) (q : Progress) (c : List ℕ) (after : Pieces) (n : Fault) → IsLeastAt after q c n
     → pieces_read k q (c ∷ after) ≡ Err (Bad n k)
@@ -90,11 +90,11 @@ read_bad k q [] c after p n is l =
     ap (λ x. pieces_read k x (c ∷ after)) is ∙ at_clause k p c after n l ∙ numbered n k (0 + k) (omega arith)
 read_bad k q (b ∷ []) c after p n m l =
     ap (λ o. in_clause k o >>= λ x. pieces_read (k + 1) x (c ∷ after)) (good q b m.0 m.1 m.2)
-        ∙ read_bad (k + 1) (with_form q m.0) [] c after p n m.3 l
+    ∙ read_bad (k + 1) (with_form q m.0) [] c after p n m.3 l
     ∙ numbered n _ _ (omega arith)
 read_bad k q (b ∷ d ∷ ds) c after p n m l =
     ap (λ o. in_clause k o >>= λ x. pieces_read (k + 1) x (d ∷ (ds ++ c ∷ after))) (good q b m.0 m.1 m.2)
-        ∙ read_bad (k + 1) (with_form q m.0) (d ∷ ds) c after p n m.3 l
+    ∙ read_bad (k + 1) (with_form q m.0) (d ∷ ds) c after p n m.3 l
     ∙ numbered n _ _ (omega arith)
 
 -- ---- texts
@@ -118,7 +118,7 @@ read_pieces text short =
     let s = some_piece (without_comments text) in
     let P : Pieces → Type 0 = λ l. TextMeans text (meaning_in (pieces_read 1 nothing l)) in
     subst P (sym s.2) (from_pieces text (s.0 ∷ s.1) short s.2 (pieces_read 1 nothing (s.0 ∷ s.1))
-        (pieces_mean 1 nothing s.0 s.1))
+    (pieces_mean 1 nothing s.0 s.1))
 
 pub text_means : (text : List ℕ) → TextMeans text (text_read text)
 unfolding text_read
@@ -147,7 +147,7 @@ programs text m = (
   λ h. (let P : Result Meaning ReadFault → Type 0 = TextMeans text in subst P h (text_means text)),
   λ (short, cs, rest, q, is, made, none, same).
       short_read text short ∙ ap (λ l. meaning_in (pieces_read 1 nothing l)) is
-          ∙ ap meaning_in (read_good 1 nothing cs rest q made none) ∙ ap Ok (sym same),
+      ∙ ap meaning_in (read_good 1 nothing cs rest q made none) ∙ ap Ok (sym same),
 )
 
 pub refused : BadTextsAreRefused
@@ -155,7 +155,7 @@ refused text n k = (
   λ h. (let P : Result Meaning ReadFault → Type 0 = TextMeans text in subst P h (text_means text)),
   λ (short, before, c, after, q, is, number, made, least).
       short_read text short ∙ ap (λ l. meaning_in (pieces_read 1 nothing l)) is
-          ∙ ap meaning_in (read_bad 1 nothing before c after q n made least) ∙ ap (λ x. Err (Bad n x)) (sym number),
+      ∙ ap meaning_in (read_bad 1 nothing before c after q n made least) ∙ ap (λ x. Err (Bad n x)) (sym number),
 )
 
 pub long : LongTextsAreRefused

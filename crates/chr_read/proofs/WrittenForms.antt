@@ -35,8 +35,12 @@ comparator_of cmp.Equal = sign.Equal
 comparator_of cmp.NotEqual = sign.NotEqual
 
 abbrev pub written_comparison : base_comparison.Comparison → Comparison
-written_comparison c = record { left = written_term c.left; comparator = comparator_of c.cmp; right =
-    written_term c.right }
+written_comparison c = record {
+  left = written_term c.left;
+  comparator = comparator_of c.cmp;
+  right =
+      written_term c.right;
+}
 
 -- an empty body is `true`
 abbrev pub written_body : List Declaration → List Pattern → List (Option Atom)

@@ -87,8 +87,10 @@ spaced_sign x w rest l e = layout_goes (codes " ") (w ++ (codes " " ++ rest)) (r
 
 digits_words : (w : List ℕ) → AllAre is_digit w → AllAre is_word_byte w
 digits_words [] h = tt
-digits_words (b ∷ bs) h = (or_right (is_lower b) _ (or_right (is_upper b) _ (or_left (is_digit b) (b == 95) h.0)),
-    digits_words bs h.1)
+digits_words (b ∷ bs) h = (
+  or_right (is_lower b) _ (or_right (is_upper b) _ (or_left (is_digit b) (b == 95) h.0)),
+  digits_words bs h.1,
+)
 
 abbrev pub IsWritable : base.Term → Type 0
 IsWritable (Variable x) = x < 2 ^ 64
@@ -96,8 +98,14 @@ IsWritable (Constant c) = is_value c ≡ true
 
 term_reads : (t : base.Term) → IsWritable t → Reads (term_text t) (term_token (written_term t) ∷ [])
 term_reads (Variable x) h rest p = let w = codes "V" ++ decimal x in
-    one (variable w) w rest (refl, (refl, digits_words (decimal x)
-    (from_test is_digit (decimal x) (decimal_digits x h)))) p.word
+    one (variable w) w rest (
+      refl,
+      (
+        refl,
+        digits_words (decimal x)
+            (from_test is_digit (decimal x) (decimal_digits x h)),
+      ),
+    ) p.word
 term_reads (Constant c) h rest p = let w = signed_decimal c in one (number w) w rest (refl, signed_number c h) p.digit
 
 -- ---- lists
@@ -128,15 +136,15 @@ module _ {A : Type 0} (separator : List ℕ) (comma : (rest : List ℕ) → toke
   more_reads [] h rest p = onto_none (tokens_of rest)
   more_reads (x ∷ xs) h rest p =
       two separator (f x ++ more separator f xs) rest (sign s.Comma ∷ []) (g x ++ more_tokens xs)
-          (comma ((f x ++ more separator f xs) ++ rest))
+      (comma ((f x ++ more separator f xs) ++ rest))
       (two (f x) (more separator f xs) rest (g x) (more_tokens xs)
-          (reads x h.0 (more separator f xs ++ rest) (more_parted xs rest p)) (more_reads xs h.1 rest p))
+      (reads x h.0 (more separator f xs ++ rest) (more_parted xs rest p)) (more_reads xs h.1 rest p))
 
   pub list_reads : (x : A) (xs : List A) → AllByRecursion Good (x ∷ xs) → Reads (separated separator f (x ∷ xs))
       (grammar.with_commas (map g (x ∷ xs)))
   list_reads x xs h rest p =
       two (f x) (more separator f xs) rest (g x) (more_tokens xs)
-          (reads x h.0 (more separator f xs ++ rest) (more_parted xs rest p)) (more_reads xs h.1 rest p)
+      (reads x h.0 (more separator f xs ++ rest) (more_parted xs rest p)) (more_reads xs h.1 rest p)
       ∙ ap (λ ts. onto ts (tokens_of rest)) (sym (spelled_more x xs))
 
 comma_reads : (rest : List ℕ) → tokens_of (codes "," ++ rest) ≡ onto (sign s.Comma ∷ []) (tokens_of rest)
@@ -162,10 +170,10 @@ args_reads (t ∷ ts) h rest p =
     let list = separated (codes ",") term_text (t ∷ ts) in
     let same = map_twice spelled_term written_term (t ∷ ts) in
     two (codes "(") (list ++ codes ")") rest (sign s.Open ∷ []) (inner ++ sign s.Close ∷ [])
-        (one (sign s.Open) (codes "(") ((list ++ codes ")") ++ rest) refl tt)
+    (one (sign s.Open) (codes "(") ((list ++ codes ")") ++ rest) refl tt)
     (two list (codes ")") rest inner (sign s.Close ∷ [])
     (list_reads (codes ",") comma_reads comma_parts term_text (λ t. term_token (written_term t) ∷ []) IsWritable
-        term_reads t ts h (codes ")" ++ rest) record { word = refl; digit = refl }
+    term_reads t ts h (codes ")" ++ rest) record { word = refl; digit = refl }
     ∙ ap (λ l. onto (grammar.with_commas l) (tokens_of (codes ")" ++ rest))) (sym same))
     (one (sign s.Close) (codes ")") rest refl tt))
 
@@ -183,14 +191,14 @@ atom_reads ds a h rest p =
     let w = name_at ds a.symbol.0 in
     let parted = args_parted a.args.items rest p in
     two w (args_text a.args.items) rest (name w ∷ []) (spelled_args (map written_term a.args.items))
-        (one (name w) w (args_text a.args.items ++ rest) (refl, h.word) parted.word)
-        (args_reads a.args.items h.args rest p)
+    (one (name w) w (args_text a.args.items ++ rest) (refl, h.word) parted.word)
+    (args_reads a.args.items h.args rest p)
 
 atoms_reads : (ds : List Declaration) (a : Pattern) (as' : List Pattern) → AllByRecursion (IsWritableAtom ds) (a ∷ as')
     → Reads (patterns_text ds (a ∷ as')) (spelled_atoms (map (written_atom ds) (a ∷ as')))
 atoms_reads ds a as' h rest p =
     list_reads (codes ", ") comma_space_reads comma_space_parts (pattern_text ds)
-        (λ a. spelled_atom (written_atom ds a)) (IsWritableAtom ds) (atom_reads ds) a as' h rest p
+    (λ a. spelled_atom (written_atom ds a)) (IsWritableAtom ds) (atom_reads ds) a as' h rest p
     ∙ ap (λ l. onto (grammar.with_commas l) (tokens_of rest)) (sym (map_twice spelled_atom (written_atom ds) (a ∷ as')))
 
 -- ---- comparisons
@@ -218,14 +226,14 @@ comparison_reads c h rest p =
     let l = term_text c.left in let r = term_text c.right in let m = cmp_text c.cmp in
     let tail = codes " " ++ r in
     two l (codes " " ++ (m ++ tail)) rest (term_token (written_term c.left) ∷ [])
-        (compare (comparator_of c.cmp) ∷ term_token (written_term c.right) ∷ [])
+    (compare (comparator_of c.cmp) ∷ term_token (written_term c.right) ∷ [])
     (term_reads c.left h.left ((codes " " ++ (m ++ tail)) ++ rest) (space_parts ((m ++ tail) ++ rest)))
     (two (codes " ") (m ++ tail) rest [] (compare (comparator_of c.cmp) ∷ term_token (written_term c.right) ∷ [])
-        (space ((m ++ tail) ++ rest))
+    (space ((m ++ tail) ++ rest))
     (two m tail rest (compare (comparator_of c.cmp) ∷ []) (term_token (written_term c.right) ∷ [])
-        (cmp_reads c.cmp (r ++ rest))
+    (cmp_reads c.cmp (r ++ rest))
     (two (codes " ") r rest [] (term_token (written_term c.right) ∷ []) (space (r ++ rest))
-        (term_reads c.right h.right rest p))))
+    (term_reads c.right h.right rest p))))
 
 -- ---- rules
 
@@ -234,7 +242,7 @@ label_reads : (o : Option (List ℕ)) → ((w : List ℕ) → o ≡ Some w → I
 label_reads None h rest = onto_none (tokens_of rest)
 label_reads (Some w) h rest =
     two w (codes " @ ") rest (name w ∷ []) (sign s.At ∷ []) (one (name w) w (codes " @ " ++ rest) (refl, h w refl) refl)
-        (spaced_sign s.At (codes "@") rest refl tt)
+    (spaced_sign s.At (codes "@") rest refl tt)
 
 kept_tokens : List Atom → List Tok
 kept_tokens [] = []
@@ -246,7 +254,7 @@ unfolding kept_tokens
 kept_reads ds [] h rest = onto_none (tokens_of rest)
 kept_reads ds (a ∷ as') h rest =
     two (patterns_text ds (a ∷ as')) (codes " \\ ") rest (spelled_atoms (map (written_atom ds) (a ∷ as')))
-        (sign s.Backslash ∷ []) (atoms_reads ds a as' h (codes " \\ " ++ rest) record { word = refl; digit = refl })
+    (sign s.Backslash ∷ []) (atoms_reads ds a as' h (codes " \\ " ++ rest) record { word = refl; digit = refl })
     (spaced_sign s.Backslash (codes "\\") rest refl refl)
 
 heads_are : (kept removed : List Atom) → kept_tokens kept ++ spelled_atoms removed ≡ spelled_heads kept removed
@@ -267,10 +275,10 @@ guard_reads (c ∷ cs) h rest =
     let items = map (λ c. Some (written_comparison c)) (c ∷ cs) in
     two list (codes " | ") rest (spelled_list (spelled_item spelled_comparison) items) (sign s.Bar ∷ [])
     (list_reads (codes ", ") comma_space_reads comma_space_parts comparison_text
-        (λ c. spelled_comparison (written_comparison c)) IsWritableComparison comparison_reads c cs h
-        (codes " | " ++ rest) record { word = refl; digit = refl }
+    (λ c. spelled_comparison (written_comparison c)) IsWritableComparison comparison_reads c cs h
+    (codes " | " ++ rest) record { word = refl; digit = refl }
     ∙ ap (λ l. onto (grammar.with_commas l) (tokens_of (codes " | " ++ rest)))
-        (sym (map_twice (spelled_item spelled_comparison) (λ c. Some (written_comparison c)) (c ∷ cs))))
+    (sym (map_twice (spelled_item spelled_comparison) (λ c. Some (written_comparison c)) (c ∷ cs))))
     (spaced_sign s.Bar (codes "|") rest refl tt)
 
 right_is : (guard : List (Option Comparison)) (body : List (Option Atom)) → guard_tokens guard ++ spelled_body body
@@ -286,9 +294,9 @@ body_reads ds [] h rest p = one (name (codes "true")) (codes "true") rest (refl,
     p.word
 body_reads ds (a ∷ as') h rest p =
     list_reads (codes ", ") comma_space_reads comma_space_parts (pattern_text ds)
-        (λ a. spelled_atom (written_atom ds a)) (IsWritableAtom ds) (atom_reads ds) a as' h rest p
+    (λ a. spelled_atom (written_atom ds a)) (IsWritableAtom ds) (atom_reads ds) a as' h rest p
     ∙ ap (λ l. onto (grammar.with_commas l) (tokens_of rest))
-        (sym (map_twice (spelled_item spelled_atom) (λ a. Some (written_atom ds a)) (a ∷ as')))
+    (sym (map_twice (spelled_item spelled_atom) (λ a. Some (written_atom ds a)) (a ∷ as')))
 
 pub record IsWritableRule (ds : List Declaration) (r : base_rule.Rule) : Type 0 where
   pub label : (w : List ℕ) → option_map (λ n. n.bytes) r.name ≡ Some w → IsWord is_lower w
@@ -317,21 +325,21 @@ rule_reads ds r h rest p =
     let body = body_text ds r.body.items in
     let after = codes " <=> " ++ (guard ++ body) in
     two label (kept ++ (removed ++ after)) rest (spelled_label w.label)
-        (kept_tokens w.kept ++ (spelled_atoms w.removed
-        ++ (sign s.Simplify ∷ (guard_tokens w.guard ++ spelled_body w.body))))
+    (kept_tokens w.kept ++ (spelled_atoms w.removed
+    ++ (sign s.Simplify ∷ (guard_tokens w.guard ++ spelled_body w.body))))
     (label_reads (option_map (λ n. n.bytes) r.name) h.label ((kept ++ (removed ++ after)) ++ rest))
     (two kept (removed ++ after) rest (kept_tokens w.kept)
-        (spelled_atoms w.removed ++ (sign s.Simplify ∷ (guard_tokens w.guard ++ spelled_body w.body)))
-        (kept_reads ds r.kept.items h.kept ((removed ++ after) ++ rest))
+    (spelled_atoms w.removed ++ (sign s.Simplify ∷ (guard_tokens w.guard ++ spelled_body w.body)))
+    (kept_reads ds r.kept.items h.kept ((removed ++ after) ++ rest))
     (two removed after rest (spelled_atoms w.removed) (sign s.Simplify ∷ (guard_tokens w.guard ++ spelled_body w.body))
     (removed_reads ds r.removed.items h.some h.removed (after ++ rest) record { word = refl; digit = refl })
     (two (codes " <=> ") (guard ++ body) rest (sign s.Simplify ∷ []) (guard_tokens w.guard ++ spelled_body w.body)
-        (simplify_reads ((guard ++ body) ++ rest))
+    (simplify_reads ((guard ++ body) ++ rest))
     (two guard body rest (guard_tokens w.guard) (spelled_body w.body) (guard_reads r.guard.items h.guard (body ++ rest))
-        (body_reads ds r.body.items h.body rest p)))))
+    (body_reads ds r.body.items h.body rest p)))))
     ∙ ap (λ ts. onto (spelled_label w.label ++ ts) (tokens_of rest))
     (sym (append_assoc (kept_tokens w.kept) (spelled_atoms w.removed)
-        (sign s.Simplify ∷ (guard_tokens w.guard ++ spelled_body w.body)))
+    (sign s.Simplify ∷ (guard_tokens w.guard ++ spelled_body w.body)))
     ∙ (λ i. heads_are w.kept w.removed i ++ (sign s.Simplify ∷ right_is w.guard w.body i)))
 
 -- ---- declarations
@@ -343,9 +351,9 @@ pub record IsWritableSymbol (d : Declaration) : Type 0 where
 symbol_reads : (d : Declaration) → IsWritableSymbol d → Reads (symbol_text d) (spelled_symbol (written_symbol d))
 symbol_reads d h rest p =
     two d.name (codes "/" ++ decimal d.arity) rest (name d.name ∷ []) (sign s.Slash ∷ number (decimal d.arity) ∷ [])
-        (one (name d.name) d.name ((codes "/" ++ decimal d.arity) ++ rest) (refl, h.word) refl)
+    (one (name d.name) d.name ((codes "/" ++ decimal d.arity) ++ rest) (refl, h.word) refl)
     (two (codes "/") (decimal d.arity) rest (sign s.Slash ∷ []) (number (decimal d.arity) ∷ [])
-        (one (sign s.Slash) (codes "/") (decimal d.arity ++ rest) refl tt)
+    (one (sign s.Slash) (codes "/") (decimal d.arity ++ rest) refl tt)
     (one (number (decimal d.arity)) (decimal d.arity) rest (refl, decimal_number d.arity h.arity) p.digit))
 
 -- `:-` and a word, each with a space behind it
@@ -353,10 +361,10 @@ directive_reads : (b : ℕ) (w : List ℕ) → is_lower b ≡ true → AllAre is
     → AlwaysReads (codes ":- " ++ ((b ∷ w) ++ codes " ")) (sign s.Directive ∷ name (b ∷ w) ∷ [])
 directive_reads b w l h rest =
     two (codes ":-") (codes " " ++ ((b ∷ w) ++ codes " ")) rest (sign s.Directive ∷ []) (name (b ∷ w) ∷ [])
-        (one (sign s.Directive) (codes ":-") ((codes " " ++ ((b ∷ w) ++ codes " ")) ++ rest) refl tt)
+    (one (sign s.Directive) (codes ":-") ((codes " " ++ ((b ∷ w) ++ codes " ")) ++ rest) refl tt)
     (two (codes " ") ((b ∷ w) ++ codes " ") rest [] (name (b ∷ w) ∷ []) (space (((b ∷ w) ++ codes " ") ++ rest))
     (two (b ∷ w) (codes " ") rest (name (b ∷ w) ∷ []) []
-        (one (name (b ∷ w)) (b ∷ w) (codes " " ++ rest) (refl, (l, h)) refl) (space rest)))
+    (one (name (b ∷ w)) (b ∷ w) (codes " " ++ rest) (refl, (l, h)) refl) (space rest)))
 
 declaration_reads : (d : Declaration) (ds : List Declaration) → AllByRecursion IsWritableSymbol (d ∷ ds)
     → Reads (codes ":- chr_constraint " ++ separated (codes ", ") symbol_text (d ∷ ds))
@@ -364,11 +372,11 @@ declaration_reads : (d : Declaration) (ds : List Declaration) → AllByRecursion
 declaration_reads d ds h rest p =
     let list = separated (codes ", ") symbol_text (d ∷ ds) in
     two (codes ":- chr_constraint ") list rest (sign s.Directive ∷ name (codes "chr_constraint") ∷ [])
-        (spelled_list spelled_symbol (map written_symbol (d ∷ ds)))
+    (spelled_list spelled_symbol (map written_symbol (d ∷ ds)))
     (directive_reads 99 (codes "hr_constraint") refl (from_test is_word_byte (codes "hr_constraint") refl)
-        (list ++ rest))
+    (list ++ rest))
     (list_reads (codes ", ") comma_space_reads comma_space_parts symbol_text (λ d. spelled_symbol (written_symbol d))
-        IsWritableSymbol symbol_reads d ds h rest p
+    IsWritableSymbol symbol_reads d ds h rest p
     ∙ ap (λ l. onto (grammar.with_commas l) (tokens_of rest)) (sym (map_twice spelled_symbol written_symbol (d ∷ ds))))
 
 -- numbers of a weight that can be written
@@ -390,24 +398,24 @@ numbers_read w h = by (is_paired w)
         let first = decimal w.first in let second = decimal w.second in
         two (first ++ codes ",") second rest (number first ∷ sign s.Comma ∷ []) (number second ∷ [])
         (two first (codes ",") (second ++ rest) (number first ∷ []) (sign s.Comma ∷ [])
-            (last w.first h.first (codes "," ++ (second ++ rest)) record { word = refl; digit = refl })
-            (comma_reads (second ++ rest)))
+        (last w.first h.first (codes "," ++ (second ++ rest)) record { word = refl; digit = refl })
+        (comma_reads (second ++ rest)))
         (last w.second h.second rest p)
 
 weight_reads : (d : Declaration) → IsWritableSymbol d → IsWritableWeight d.weight
     → Reads (weight_clause d) (spelled (written_weight d))
 weight_reads d h l rest p =
     let symbol = symbol_text d in let value = weight_text (is_paired d.weight) d.weight in let after =
-        codes " = " ++ value in
+    codes " = " ++ value in
     let numbers = spelled_numbers (decimal d.weight.first) (written_second d.weight) in
     two (codes ":- chr_weight ") (symbol ++ after) rest (sign s.Directive ∷ name (codes "chr_weight") ∷ [])
-        (spelled_symbol (written_symbol d) ++ (sign s.Equals ∷ numbers))
+    (spelled_symbol (written_symbol d) ++ (sign s.Equals ∷ numbers))
     (directive_reads 99 (codes "hr_weight") refl (from_test is_word_byte (codes "hr_weight") refl)
-        ((symbol ++ after) ++ rest))
+    ((symbol ++ after) ++ rest))
     (two symbol after rest (spelled_symbol (written_symbol d)) (sign s.Equals ∷ numbers)
-        (symbol_reads d h (after ++ rest) record { word = refl; digit = refl })
+    (symbol_reads d h (after ++ rest) record { word = refl; digit = refl })
     (two (codes " = ") value rest (sign s.Equals ∷ []) numbers
-        (spaced_sign s.Equals (codes "=") (value ++ rest) refl refl) (numbers_read d.weight l rest p)))
+    (spaced_sign s.Equals (codes "=") (value ++ rest) refl refl) (numbers_read d.weight l rest p)))
 
 -- ---- whole clauses
 
@@ -418,7 +426,7 @@ no_bytes = refl
 whole_reads : (c : List ℕ) (ts : List Tok) → Reads c ts → tokens_of c ≡ Some ts
 whole_reads c ts h =
     ap tokens_of (sym (append-nil c)) ∙ h [] record { word = refl; digit = refl } ∙ ap (onto ts) no_bytes
-        ∙ ap Some (append-nil ts)
+    ∙ ap Some (append-nil ts)
 
 pub rule_tokens : (ds : List Declaration) (r : base_rule.Rule) → IsWritableRule ds r → tokens_of (rule_clause ds r)
     ≡ Some (spelled (rule (written_rule ds r)))
@@ -426,7 +434,7 @@ rule_tokens ds r h = whole_reads (rule_clause ds r) (spelled (rule (written_rule
 
 pub declaration_tokens : (d : Declaration) (ds : List Declaration) → AllByRecursion IsWritableSymbol (d ∷ ds)
     → tokens_of (codes ":- chr_constraint " ++ separated (codes ", ") symbol_text (d ∷ ds))
-        ≡ Some (spelled (declare (map written_symbol (d ∷ ds))))
+    ≡ Some (spelled (declare (map written_symbol (d ∷ ds))))
 declaration_tokens d ds h = whole_reads _ (spelled (declare (map written_symbol (d ∷ ds)))) (declaration_reads d ds h)
 
 pub weight_tokens : (d : Declaration) → IsWritableSymbol d → IsWritableWeight d.weight → tokens_of (weight_clause d)

@@ -46,7 +46,7 @@ reaches_beside p told s l part result h g =
     subst (Reaches (Step (rules_of p)) told) (sym (plus_assoc s l part) ∙ plus_comm (s ⊕ l) part) h in
     let more : Reaches (Step (rules_of p)) told (result ⊕ (s ⊕ l)) =
     reaches_on (Step (rules_of p)) told (part ⊕ (s ⊕ l)) (result ⊕ (s ⊕ l)) whole
-        (Reaches-grows (rules_of p) part result (s ⊕ l) g) in
+    (Reaches-grows (rules_of p) part result (s ⊕ l) g) in
     subst (Reaches (Step (rules_of p)) told) (plus_comm result (s ⊕ l) ∙ sym (swap_last s result l)) more
 
 -- what is told goes into the pool as well
@@ -83,7 +83,7 @@ merge_keeps p ops n s t h sound = subst (IsSound p) (sym h.after) (record {
   reached = subst (λ m. Reaches (Step (rules_of p)) m ((s.pool ⊕ sum_of (fresh s.operations ops)) ⊕ leased_store s.out))
       (sym (told_store-union s.operations ops))
       (told_beside p (told_store s.operations) s.pool (leased_store s.out)
-          (sum_of (fresh s.operations ops)) sound.reached);
+      (sum_of (fresh s.operations ops)) sound.reached);
   below = sound.below;
 })
 
@@ -91,7 +91,7 @@ pub step_keeps : StepKeeps
 step_keeps p step s t h sound = subst (IsSound p) (sym h.after) (record {
   reached = pool_on p (told_store s.operations) s.pool h.pool (leased_store s.out) sound.reached
       (reaches_after (Step (rules_of p)) s.pool h.pool h.pool (LeadsTo-steps (rules_of p) step s.pool h.pool h.leads)
-          (reaches_itself (Step (rules_of p)) h.pool));
+      (reaches_itself (Step (rules_of p)) h.pool));
   below = sound.below;
 })
 
@@ -110,8 +110,13 @@ take_keeps p part number s t h sound = subst (IsSound p) (sym h.after) (subst Ta
 }))
   where
     Taken : ℕ → Type 0
-    Taken k = IsSound p (record { operations = s.operations; pool = s.pool ⊖ part; out = map.insert s.out k part; next =
-        k + 1 })
+    Taken k = IsSound p (record {
+      operations = s.operations;
+      pool = s.pool ⊖ part;
+      out = map.insert s.out k part;
+      next =
+          k + 1;
+    })
 
 pub take_parts_keeps : TakePartsKeeps
 take_parts_keeps p n parts s t h sound = subst (IsSound p) (sym h.after) (record {

@@ -40,7 +40,7 @@ pub one_inserted : (es fs : Parts) (k : ℕ) (v : Store)
 one_inserted es fs k v h = map.same_map nat_cmp_total nat_cmp-IsAntisymmetric _ _ (λ q.
     get_part fs q ∙ h q ∙ ap (λ b. cond b (Some v) (part_at es q)) ((eq_by_cmp_equiv nat_cmp_total).symm k q)
     ∙ sym (map.get-insert nat_cmp_total (leases_of es) k v q ∙ ap (cond (eq_by_cmp nat_cmp q k) (Some v))
-        (get_part es q)))
+    (get_part es q)))
 
 -- and where one of them has nothing there
 pub one_removed : (es fs : Parts) (k : ℕ) → ((q : ℕ) → part_at fs q ≡ cond (is_at (nat_cmp k) q) None (part_at es q))
@@ -57,13 +57,13 @@ sorted_from : (es : Parts) → IsStrictlySortedBy nat_cmp (keys_of es) → T (is
 sorted_from [] h = tt
 sorted_from (e ∷ es) h =
     both _ _ (below_from e.0 es (sorted_head nat_cmp e.0 (keys_of es) h))
-        (sorted_from es (sorted_tail nat_cmp e.0 (keys_of es) h))
+    (sorted_from es (sorted_tail nat_cmp e.0 (keys_of es) h))
 
 -- entries in order are those of the leases that they make
 entries_of : (es : Parts) → IsStrictlySortedBy nat_cmp (keys_of es) → map.entries (leases_of es) ≡ es
 entries_of es h =
     same_lists nat_cmp nat_cmp_total nat_cmp-IsAntisymmetric (map.entries (leases_of es)) es
-        (map.entries_sorted (leases_of es)) (sorted_from es h)
+    (map.entries_sorted (leases_of es)) (sorted_from es h)
     (λ q. sym (map.get-entries (leases_of es) q) ∙ map.get-from_entries nat_cmp_total es q)
 
 pub leases_len : (es : Parts) → IsStrictlySortedBy nat_cmp (keys_of es) → map.len (leases_of es) ≡ length es

@@ -118,14 +118,14 @@ leased_parts [] m k below = sym (plus_empty (leased_store m))
 leased_parts (p ∷ ps) m k below =
     leased_parts ps (finite.insert m k p) (k + 1) (below_next m k p below)
     ∙ ap (λ s. s ⊕ stores_sum ps) (leased_more m k p (not_out m k below))
-        ∙ plus_assoc (leased_store m) p (stores_sum ps)
+    ∙ plus_assoc (leased_store m) p (stores_sum ps)
 
 -- what is put in under a number that is not out and taken out again leaves nothing
 pub without_again : (m : Leases) (k : ℕ) (v : Store) → finite.get m k ≡ None → finite.remove (finite.insert m k v) k ≡ m
 without_again m k v h = finite.same_map nat_cmp_total nat_cmp-IsAntisymmetric _ _ (λ q.
     finite.get-remove nat_cmp_total (finite.insert m k v) k q
     ∙ ap (cond (eq_by_cmp nat_cmp q k) None) (finite.get-insert nat_cmp_total m k v q)
-        ∙ by q (eq_by_cmp nat_cmp q k) refl)
+    ∙ by q (eq_by_cmp nat_cmp q k) refl)
   where
     by : (q : ℕ) (b : Bool) → eq_by_cmp nat_cmp q k ≡ b → cond b None (cond b (Some v) (finite.get m q))
         ≡ finite.get m q

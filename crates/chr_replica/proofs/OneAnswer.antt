@@ -29,7 +29,7 @@ normal : (p : Program) (s : Replica) → IsSound p s → IsSettled p s → IsNor
 normal p s sound settled = (
   subst (Reaches (Step (rules_of p)) (told_store s.operations))
       (ap (λ l. s.pool ⊕ leased_store l) settled.0 ∙ ap (λ l. s.pool ⊕ l) nothing_leased ∙ plus_empty s.pool)
-          sound.reached,
+      sound.reached,
   settled.1,
 )
 

@@ -58,7 +58,7 @@ cut_more q more n k w atoms rest part after parts b within big small split size_
     whole : stores_sum (parts ++ b ∷ []) ⊕ store_of after ≡ store_of atoms
     whole =
         ap (λ t. t ⊕ store_of after) (stores_sum-push parts b ∙ ap (λ x. stores_sum parts ⊕ x) bag_is)
-            ∙ plus_assoc (stores_sum parts) (store_of part) (store_of after)
+        ∙ plus_assoc (stores_sum parts) (store_of part) (store_of after)
         ∙ ap (λ x. stores_sum parts ⊕ x) (sym (ap store_of split ∙ store_of-append part after)) ∙ cut.sum
 
     count : length (parts ++ b ∷ []) ≡ k + 1
@@ -69,19 +69,33 @@ cut_more q more n k w atoms rest part after parts b within big small split size_
         let less : k < more = grind (arith, nat_tests) in
         let is = big less in
         let l = cut.left in
-        record { count = count; left = omega (arith, less, is, l, same, lengths); sum = whole; even =
-            All-push (IsNear q) parts b cut.even (omega (arith, sizes, is), omega (arith, sizes, is)) }
+        record {
+          count = count;
+          left = omega (arith, less, is, l, same, lengths);
+          sum = whole;
+          even =
+              All-push (IsNear q) parts b cut.even (omega (arith, sizes, is), omega (arith, sizes, is));
+        }
     by false e =
         let least : more ≤ k = grind (arith, nat_tests) in
         let is = small least in
         let l = cut.left in
-        record { count = count; left = omega (arith, least, is, l, same, lengths); sum = whole; even =
-            All-push (IsNear q) parts b cut.even (omega (arith, sizes, is), omega (arith, sizes, is)) }
+        record {
+          count = count;
+          left = omega (arith, least, is, l, same, lengths);
+          sum = whole;
+          even =
+              All-push (IsNear q) parts b cut.even (omega (arith, sizes, is), omega (arith, sizes, is));
+        }
 
 pub cut_first : (q more n : ℕ) (atoms : List Atom) → n * q + more ≡ length atoms → AreCut q more n 0 atoms atoms []
 cut_first q more n atoms h =
-    record { count = refl; left = (let e : n - 0 ≡ n = omega arith in let f = ap (λ x. x * q) e in omega (arith, f, h));
-        sum = plus_comm bag.empty (store_of atoms) ∙ plus_empty (store_of atoms); even = All-nil }
+    record {
+      count = refl;
+      left = (let e : n - 0 ≡ n = omega arith in let f = ap (λ x. x * q) e in omega (arith, f, h));
+      sum = plus_comm bag.empty (store_of atoms) ∙ plus_empty (store_of atoms);
+      even = All-nil;
+    }
   where
     All-nil : All (IsNear q) []
     All-nil = search rules

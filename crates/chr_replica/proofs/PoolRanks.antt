@@ -25,7 +25,7 @@ pub rank_fits : (p : Program) (s : Replica) → ProgramLowers p → IsSound p s 
     → store_rank p s.pool < 2 ^ 64
 rank_fits p s lowers sound few =
     let run = Runs-lowers (Step (rules_of p)) (store_rank p) (λ t u h. one_lowers p (rules_of p) t u lowers refl h)
-        sound.reached.0 (told_store s.operations) (s.pool ⊕ leased_store s.out) sound.reached.1 in
+    sound.reached.0 (told_store s.operations) (s.pool ⊕ leased_store s.out) sound.reached.1 in
     let whole = rank_plus p s.pool (leased_store s.out) in
     let bound = ranks_bounded p (told_store s.operations) in
     omega (arith, run, whole, bound, few)

@@ -63,7 +63,7 @@ put_out true s s' s'' x y z put same again there taken =
     taken ∙ (λ i. put i ⊖ again i) ∙ same_store _ _ (λ q. simp (count_plus, count_minus) (omega arith))
 put_out false s s' s'' x y z put same again there taken =
     absurd (true≢false (sym (there.1 (subst (λ w. IsWithin w s') (sym same)
-        (subst (IsWithin x) (sym put) (λ q. simp count_plus (omega arith)))))))
+    (subst (IsWithin x) (sym put) (λ q. simp count_plus (omega arith)))))))
 
 -- ---- what each event leaves
 
@@ -78,7 +78,7 @@ pub merges_is : (p : Program) (o o' : Operations) (s s' : Store) (l : Leases) (k
     (ops : List Operation) → replica o s l k ≡ now → All (IsDeclared p) ops → HasNoClash o ops
     → told_atoms o' ≤ MAX_TOLD
     → n + map.len o ≡ map.len o' → o' ≡ union o ops → s' ≡ s ⊕ sum_of (fresh o ops)
-        → Merges p now ops n (replica o' s' l k)
+    → Merges p now ops n (replica o' s' l k)
 merges_is p o o' s s' l k n now ops e declared agree room count joined put =
     subst (λ r. Merges p r ops n (replica o' s' l k)) e (record {
       declared = declared;
@@ -91,7 +91,7 @@ merges_is p o o' s s' l k n now ops e declared agree room count joined put =
 pub refuses_merge : (p : Program) (s : Replica) (o : Operations) (ops : List Operation) (r : Result ℕ AddFault)
     (f : AddFault) → o ≡ s.operations → All (IsDeclared p) ops → r ≡ Err f
     → ((id : OpId) → IsErrOf r (fault.Clash id) → IsFirstClash o ops id)
-        → (IsErrOf r fault.Full → HasNoClash o ops × IsOverLimit o ops) → RefusesMerge p s ops (refusal_of f)
+    → (IsErrOf r fault.Full → HasNoClash o ops × IsOverLimit o ops) → RefusesMerge p s ops (refusal_of f)
 refuses_merge p s o ops r (fault.Clash id) same declared e clash full =
     (declared, subst (λ m. IsFirstClash m ops id) same (clash id e))
 refuses_merge p s o ops r fault.Full same declared e clash full =
@@ -120,9 +120,13 @@ pub settles_is : (p : Program) (n : ℕ) (o : Operations) (s s' : Store) (l : Le
     → TookSteps p n s s' → Settles p now n (replica o s' l k)
 settles_is p n o s s' l k now e lowers sound few took =
     let fits : store_rank p s < 2 ^ 64 = subst (λ r. store_rank p r.pool < 2 ^ 64) (sym e)
-        (rank_fits p now lowers sound few) in
-    subst (λ r. Settles p r n (replica o s' l k)) e (record { pool = s'; run = exact_count p n s s' took fits; after =
-        refl })
+    (rank_fits p now lowers sound few) in
+    subst (λ r. Settles p r n (replica o s' l k)) e (record {
+      pool = s';
+      run = exact_count p n s s' took fits;
+      after =
+          refl;
+    })
 
 pub if_err : {X E : Type 0} (r : Result X E) (P Q : E → Type 0) → ((e : E) → P e → Q e) → IfErr r P → IfErr r Q
 if_err (Ok x) P Q k h = tt
@@ -144,7 +148,7 @@ takes_is o s s' part l l' k k' now e room there out put next =
 pub puts_is : (p q : Program) (o : Operations) (s s' part result : Store) (l l' : Leases) (k n : ℕ) (now : Replica)
     → replica o s l k ≡ now → map.get l n ≡ Some part → SameProgramsReachAlike → AreSame q p
     → Reaches (Step (rules_of q)) part result → s' ≡ s ⊕ store_of (bag.items result) → l' ≡ map.remove l n
-        → Puts p now n part result (replica o s' l' k)
+    → Puts p now n part result (replica o s' l' k)
 puts_is p q o s s' part result l l' k n now e out alike same reached put gone =
     subst (λ r. Puts p r n part result (replica o s' l' k)) e (record {
       out = out;
@@ -156,7 +160,7 @@ pub takes_parts_is : (o : Operations) (s s' : Store) (l l' : Leases) (k k' n q :
     (parts : List Store) (now : Replica) → replica o s l k ≡ now → k + n ≤ LAST_LEASE + 1 → length parts ≡ n
     → stores_sum parts ≡ store_of atoms
     → store_of atoms ≡ s → All (IsNear q) parts → s' ≡ bag.empty → l' ≡ with_parts l k parts → k' ≡ k + n
-        → TakesParts now n parts (replica o s' l' k')
+    → TakesParts now n parts (replica o s' l' k')
 takes_parts_is o s s' l l' k k' n q atoms parts now e room count sum whole near none put next =
     subst (λ r. TakesParts r n parts (replica o s' l' k')) e (record {
       room = room;

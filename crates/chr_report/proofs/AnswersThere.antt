@@ -107,26 +107,46 @@ tell_answered op old = by (finite.get old op.0) refl
 union_answered : (word : List ℕ) (ops : List Operation) (old : Operations) → HasAnswer (AnswersUnion word ops old)
 union_answered word ops old =
     elim (cases_lt MAX_TOLD (told_atoms (union old ops))) as (λ _. HasAnswer (AnswersUnion word ops old)) [
-      | inl over ↦ (refusal_text refusal.Full, old, record { full = λ _. (refl, refl); joined =
-            λ room. absurd (omega (arith, over, room)) })
-      | inr room ↦ (word ++ decimal (finite.len (union old ops) - finite.len old), union old ops,
-            record { full = λ over. absurd (omega (arith, over, room)); joined = λ _. (refl, refl) })
+      | inl over ↦ (
+        refusal_text refusal.Full,
+        old,
+        record {
+          full = λ _. (refl, refl);
+          joined =
+              λ room. absurd (omega (arith, over, room));
+        },
+      )
+      | inr room ↦ (
+        word ++ decimal (finite.len (union old ops) - finite.len old),
+        union old ops,
+        record { full = λ over. absurd (omega (arith, over, room)); joined = λ _. (refl, refl) },
+      )
     ]
 
 -- one of them clashes, or none does
 merge_answered : (ops : List Operation) (old : Operations) → HasAnswer (AnswersMerge ops old)
 merge_answered ops old =
     elim (clash_or_none old ops) as (λ _. HasAnswer (AnswersMerge ops old)) [
-      | inl c ↦ (refusal_text refusal.Clash, old, record { clash = λ _ _ _. (refl, refl); unites =
-            λ none. absurd (none c.0 c.1 c.2) })
+      | inl c ↦ (
+        refusal_text refusal.Clash,
+        old,
+        record {
+          clash = λ _ _ _. (refl, refl);
+          unites =
+              λ none. absurd (none c.0 c.1 c.2);
+        },
+      )
       | inr none ↦
           (let u = union_answered (codes "merged ") ops old in
           (u.0, u.1, record { clash = λ i id c. absurd (none i id c); unites = λ _. u.2 }))
     ]
 
 summary_answered : SummariesExist → (old : Operations) → HasAnswer (AnswersSummary old)
-summary_answered exist old = let s = exist old in (summary_text s.0, old,
-    record { ranges = s.0; apart = s.1; just = s.2; text_is = refl; same = refl })
+summary_answered exist old = let s = exist old in (
+  summary_text s.0,
+  old,
+  record { ranges = s.0; apart = s.1; just = s.2; text_is = refl; same = refl },
+)
 
 -- ---- of several replicas one
 
@@ -138,8 +158,11 @@ at_answered R answers old r = by (held_by old r)
     by : (o : Option Operations) → HasAnswer (λ text new. MatchOption o (AnswersRefusal refusal.NoReplica old text new)
         (OneAnswers old r R text new))
     by None = (refusal_text refusal.NoReplica, old, (refl, refl))
-    by (Some m) = let a = answers m in (a.0, slice_set old (r - 1) a.1,
-        record { after = a.1; answers = a.2; others = refl })
+    by (Some m) = let a = answers m in (
+      a.0,
+      slice_set old (r - 1) a.1,
+      record { after = a.1; answers = a.2; others = refl },
+    )
 
 between_answered : (old : List Operations) (a b : ℕ) → HasAnswer (AnswersBetween old a b)
 between_answered old a b = by (held_by old a)
@@ -199,13 +222,22 @@ module _ (exist : SummariesExist) (ds : List Declaration) (rules : List Rule)
     where
       by : (b : Bool) → ((now : List Operations) → (out : List ℕ) × AnswersAll ds rules ls now out)
           → (out : List ℕ) × MatchBool b (AnswersAll ds rules ls old out)
-              (AnswersFirst ds rules old (without_return l) out (AnswersAll ds rules ls))
+          (AnswersFirst ds rules old (without_return l) out (AnswersAll ds rules ls))
       by true more = more old
       by false more =
           let a = line_answered old (without_return l) in
-          let rest = more a.1 in
-          (a.0 ++ 10 ∷ rest.0, record { text = a.0; new = a.1; rest = rest.0; answers = a.2; more = rest.1; out_is =
-              refl })
+          let rest = more a.1 in (
+            a.0 ++ 10 ∷ rest.0,
+            record {
+              text = a.0;
+              new = a.1;
+              rest = rest.0;
+              answers = a.2;
+              more = rest.1;
+              out_is =
+                  refl;
+            },
+          )
 
 pub answers_exist : NormalFormsExist → SummariesExist → AnswersExist
 answers_exist rests exist ds rules lowers lines old = lines_answered exist ds rules

@@ -83,7 +83,7 @@ pub lacking_declared : (p : Program) (s : Replica) (rs : List IdRange) → IsIdl
 lacking_declared p s rs idle =
     All-filter (λ o. not (covers rs o.0)) (IsDeclared p) (finite.entries s.operations)
     (All-from_recursion (IsDeclared p) (finite.entries s.operations)
-        (each_entry (Each (declares_atom (declarations p))) s.operations idle.declared))
+    (each_entry (Each (declares_atom (declarations p))) s.operations idle.declared))
 
 -- ---- acts of lines
 
@@ -94,12 +94,18 @@ does_idle : (p : Program) (s : Replica) (a : Act) (x : Reply) (t : Replica) → 
     → IsIdle p t
 does_idle p s a (reply.Refused r) t line d idle = same_idle p s t d.2 idle
 does_idle p s (act.Tell op) (reply.Told added.New) t line d idle =
-    subst (IsIdle p) (sym d.after) (record { out = idle.out; declared =
-        declared_more p s.operations op.0 op.1 idle.declared d.declared })
+    subst (IsIdle p) (sym d.after) (record {
+      out = idle.out;
+      declared =
+          declared_more p s.operations op.0 op.1 idle.declared d.declared;
+    })
 does_idle p s (act.Tell op) (reply.Told added.Again) t line d idle = same_idle p s t d.2 idle
 does_idle p s (act.Merge ops) (reply.Merged n) t line d idle =
-    subst (IsIdle p) (sym d.after) (record { out = idle.out; declared =
-        declared_union p s.operations ops idle.declared d.declared })
+    subst (IsIdle p) (sym d.after) (record {
+      out = idle.out;
+      declared =
+          declared_union p s.operations ops idle.declared d.declared;
+    })
 does_idle p s act.Settle (reply.Settled n) t line d idle =
     subst (IsIdle p) (sym d.0.after) (record { out = idle.out; declared = idle.declared })
 does_idle p s act.Settle (reply.Stopped n) t line d idle =
@@ -119,7 +125,7 @@ changes_idle : (p : Program) (w : Replicas) (r : ℕ) (R : Replica → Replica �
     → ((s t : Replica) → R s t → IsIdle p s → IsIdle p t) → Changes w r R v → All (IsIdle p) w → All (IsIdle p) v
 changes_idle p w r R v keep h all =
     subst (All (IsIdle p)) (sym h.world) (All-set (IsIdle p) w (r - 1) h.after
-        (keep h.before h.after h.changed (holds_at (IsIdle p) w r h.before all h.there)) all)
+    (keep h.before h.after h.changed (holds_at (IsIdle p) w r h.before all h.there)) all)
 
 happens_idle : (p : Program) (w : Replicas) (e : Event) (x : Answer) (v : Replicas) → IsLineEvent e → Happens p w e x v
     → All (IsIdle p) w → All (IsIdle p) v
@@ -129,7 +135,7 @@ happens_idle p w (event.At r a) answer.UnknownSymbol v line h all = subst (All (
 happens_idle p w (event.At r a) answer.NoReplica v line h all = subst (All (IsIdle p)) (sym h.2) all
 happens_idle p w (event.Sync a b) (answer.Replied x) v line h all =
     changes_idle p w b _ v (λ t u g. does_idle p t (act.Merge (lacking (h.0).operations g.summary)) x u tt g.merged) h.2
-        all
+    all
 happens_idle p w (event.Sync a b) answer.UnknownSymbol v line h all = absurd h
 happens_idle p w (event.Sync a b) answer.NoReplica v line h all = subst (All (IsIdle p)) (sym h.1) all
 happens_idle p w (event.Work r number steps) x v line h all = absurd line
@@ -137,8 +143,10 @@ happens_idle p w (event.Work r number steps) x v line h all = absurd line
 -- an event of a line keeps replicas ready
 pub happens_ready : RunsKeep → (p : Program) (w : Replicas) (e : Event) (x : Answer) (v : Replicas) → IsLineEvent e
     → Happens p w e x v → AreBetweenLines p w → AreBetweenLines p v
-happens_ready keep p w e x v line h ready = (keep p w (e ∷ []) (x ∷ []) v (v, h, refl) ready.0,
-    happens_idle p w e x v line h ready.1)
+happens_ready keep p w e x v line h ready = (
+  keep p w (e ∷ []) (x ∷ []) v (v, h, refl) ready.0,
+  happens_idle p w e x v line h ready.1,
+)
 
 -- and fits
 pub line_fits : (e : Event) → IsLineEvent e → FitsEvent e
@@ -171,8 +179,11 @@ act_ready keep a b w v e (Err f) line same h ready = tt
 -- ---- replicas that were told nothing
 
 first_is_idle : (p : Program) → IsIdle p first
-first_is_idle p = record { out = refl; declared = λ id b e. absurd
-    (none-some b (sym (finite.get-empty id_cmp id) ∙ e)) }
+first_is_idle p = record {
+  out = refl;
+  declared = λ id b e. absurd
+      (none-some b (sym (finite.get-empty id_cmp id) ∙ e));
+}
 
 pub first_ready : FirstIsSound → (p : Program) (n : ℕ) (w : Replicas) → w ≡ replicate n first → AreBetweenLines p w
 first_ready sound p n w e = subst (AreBetweenLines p) (sym e)

@@ -18,10 +18,20 @@ Begins IsVerdict out = (verdict : List ℕ) × (answers : List ℕ) × (out ≡ 
 program_begins : (p : Program) (wanted : Wanted) (ls : List (List ℕ)) (status : Status) (out : List ℕ)
     → IsReadOutput (Ok p) wanted ls status out → Begins (IsReadOutput (Ok p) wanted [] status) out
 program_begins p wanted ls Accepted out h =
-    let line = accepted_text (length (rules_of p)) h.cases in
-    (line ++ 10 ∷ [], h.answers, h.out_is ∙ sym (append_assoc line (10 ∷ []) h.answers),
-        record { lowers = h.lowers; cases = h.cases; accepted = h.accepted; answers = []; answered = refl; out_is =
-        refl })
+    let line = accepted_text (length (rules_of p)) h.cases in (
+      line ++ 10 ∷ [],
+      h.answers,
+      h.out_is ∙ sym (append_assoc line (10 ∷ []) h.answers),
+      record {
+        lowers = h.lowers;
+        cases = h.cases;
+        accepted = h.accepted;
+        answers = [];
+        answered = refl;
+        out_is =
+            refl;
+      },
+    )
 program_begins p wanted ls Refused out h = (out, [], sym (append-nil out), h)
 
 read_begins : (answer : Result Program ReadFault) (wanted : Wanted) (ls : List (List ℕ)) (status : Status)

@@ -32,23 +32,26 @@ pub goes_on : (ds : List Declaration) (rules : List Rule) (all : List (List ℕ)
     (before line : List ℕ) (ls : List (List ℕ)) (old : List Operations) (out : List ℕ) (new : List Operations)
     (more : List ℕ)
     → Continues ds rules all start before (line ∷ ls) old out
-        → AnswersLine ds rules old (without_return line) out new more → Continues ds rules all start before ls new more
+    → AnswersLine ds rules old (without_return line) out new more → Continues ds rules all start before ls new more
 goes_on ds rules all start before line ls old out new more h g =
     record { with_rest = λ tail a. by (is_blank_line (without_return line)) refl g tail a }
   where
     by : (b : Bool) → is_blank_line (without_return line) ≡ b → MatchBool b ((new ≡ old) × (more ≡ out))
         (AddsAnswer ds rules old (without_return line) out new more)
         → (tail : List ℕ) → AnswersAll ds rules ls new tail → (whole : List ℕ) × AnswersAll ds rules all start whole
-            × (before ++ whole ≡ more ++ tail)
+        × (before ++ whole ≡ more ++ tail)
     by true e g tail a =
         let w = h.with_rest tail (rw (e, ← g.0) a) in
         (w.0, w.1, w.2 ∙ ap (λ o. o ++ tail) (sym g.1))
     by false e g tail a =
         let first : AnswersFirst ds rules old (without_return line) (g.text ++ 10 ∷ tail) (AnswersAll ds rules ls) =
         record { text = g.text; new = new; rest = tail; answers = g.answers; more = a; out_is = refl } in
-        let w = h.with_rest (g.text ++ 10 ∷ tail) (rw e first) in
-        (w.0, w.1, w.2 ∙ sym (ap (λ o. o ++ tail) g.out_is ∙ append_assoc (out ++ g.text) (10 ∷ []) tail
-            ∙ append_assoc out g.text (10 ∷ tail)))
+        let w = h.with_rest (g.text ++ 10 ∷ tail) (rw e first) in (
+          w.0,
+          w.1,
+          w.2 ∙ sym (ap (λ o. o ++ tail) g.out_is ∙ append_assoc (out ++ g.text) (10 ∷ []) tail
+              ∙ append_assoc out g.text (10 ∷ tail)),
+        )
 
 -- what comes after the end of the first line of a text's last bytes are last bytes of it
 pub last_after : (text line rest : List ℕ) (left : ℕ) → last_bytes left text ≡ line ++ 10 ∷ rest
@@ -57,7 +60,7 @@ last_after text line rest left e =
     let k = length text - left in
     let before = (take k text ++ line) ++ 10 ∷ [] in
     let whole : before ++ rest ≡ text = append_assoc (take k text ++ line) (10 ∷ []) rest
-        ∙ append_assoc (take k text) line (10 ∷ rest) ∙ ap (λ d. take k text ++ d) (sym e) ∙ take-append-drop k text in
+    ∙ append_assoc (take k text) line (10 ∷ rest) ∙ ap (λ d. take k text ++ d) (sym e) ∙ take-append-drop k text in
     let sizes : length before + length rest ≡ length text = sym (length-append before rest) ∙ ap length whole in
     let size : length before ≡ length text - length rest = omega (arith, sizes) in
     subst (λ t. drop (length text - length rest) t ≡ rest) whole (drop_at before rest (length text - length rest) size)
@@ -76,7 +79,7 @@ pub first_answered : (text : List ℕ) (s t : Answering) (left : ℕ) (line stri
     → left_lines text (Some left) ≡ line ∷ left_lines text t.left → stripped ≡ without_return line
     → IsBetweenLines t.service → t.service.world.accepted ≡ s.service.world.accepted
     → AnswersLine (declarations (served s.service)) (rules_of (served s.service)) (held s.service) stripped
-        (string_bytes s.out) (held t.service) (string_bytes t.out)
+    (string_bytes s.out) (held t.service) (string_bytes t.out)
     → GoesOn text s t
 first_answered text s t left line stripped is split strip ready program answers = record {
   ready = ready;
@@ -85,26 +88,26 @@ first_answered text s t left line stripped is split strip ready program answers 
       let ds = declarations (served s.service) in
       let rules = rules_of (served s.service) in
       goes_on ds rules (left_lines text s.left) (held s.service) (string_bytes s.out) line (left_lines text t.left)
-          (held s.service) (string_bytes s.out) (held t.service) (string_bytes t.out)
+      (held s.service) (string_bytes s.out) (held t.service) (string_bytes t.out)
       (subst (λ ls. Continues ds rules (left_lines text s.left) (held s.service) (string_bytes s.out) ls
-          (held s.service) (string_bytes s.out)) (ap (left_lines text) is ∙ split)
+      (held s.service) (string_bytes s.out)) (ap (left_lines text) is ∙ split)
       (begins ds rules (left_lines text s.left) (held s.service) (string_bytes s.out)))
       (subst (λ l. AnswersLine ds rules (held s.service) l (string_bytes s.out) (held t.service) (string_bytes t.out))
-          strip answers);
+      strip answers);
 }
 
 -- nothing is left
 pub all_answered : (text : List ℕ) (s t : Answering) → s.left ≡ Some (length text) → t.left ≡ None → GoesOn text s t
     → AnswersRest (declarations (served s.service)) (rules_of (served s.service)) (lines text) (held s.service)
-        (string_bytes s.out) (string_bytes t.out)
+    (string_bytes s.out) (string_bytes t.out)
 all_answered text s t all none h =
     let ds = declarations (served s.service) in
     let rules = rules_of (served s.service) in
     ends ds rules (lines text) (held s.service) (string_bytes s.out) (held t.service) (string_bytes t.out)
     (subst (λ ls. Continues ds rules ls (held s.service) (string_bytes s.out) [] (held t.service) (string_bytes t.out))
-        (ap (left_lines text) all ∙ all_left text)
+    (ap (left_lines text) all ∙ all_left text)
     (subst (λ l. Continues ds rules (left_lines text s.left) (held s.service) (string_bytes s.out) (left_lines text l)
-        (held t.service) (string_bytes t.out)) none h.answered))
+    (held t.service) (string_bytes t.out)) none h.answered))
 
 -- the bytes of a slice, and one more where there is one
 abbrev pub slice_size : Option (Bor (List ℕ)) → ℕ

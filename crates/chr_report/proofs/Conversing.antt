@@ -52,7 +52,7 @@ joined : (first bytes chunk front line more left : List ℕ) → first ++ bytes 
     ++ left → first ++ (bytes ++ chunk) ≡ (front ++ more) ++ left
 joined first bytes chunk front line more left e f =
     sym (append_assoc first bytes chunk) ∙ ap (λ b. b ++ chunk) e ∙ append_assoc front line chunk
-        ∙ ap (λ r. front ++ r) f ∙ sym (append_assoc front more left)
+    ∙ ap (λ r. front ++ r) f ∙ sym (append_assoc front more left)
 
 module _ (ds : List Declaration) (rules : List Rule) where
   -- the bytes that were read first
@@ -69,7 +69,7 @@ module _ (ds : List Declaration) (rules : List Rule) where
       (old middle new : Option (List ℕ)) → AnswersFrontRead ds rules first from to line start mid old middle
       → Consumes to next chunk
       → AnswersChunk ds rules (line ++ chunk) left mid now middle new
-          → AnswersFrontRead ds rules first from next left start now old new
+      → AnswersFrontRead ds rules first from next left start now old new
   goes_on first chunk line left from to next start mid now old middle new s c a = record {
     bytes = s.bytes ++ chunk;
     read = Consumes-trans from to next _ _ s.read c;
@@ -89,7 +89,7 @@ module _ (ds : List Declaration) (rules : List Rule) where
       (old middle new : Option (List ℕ)) → AnswersFrontRead ds rules first from to line start mid old middle
       → IsAtEnd to
       → SendsAnswer ds rules line mid now (Appends middle new) → AnswersInput ds rules first from start
-          (Appends old new)
+      (Appends old new)
   ended first line from to start mid now old middle new s e w = record {
     input = s.bytes;
     is_read = Consumes-all from to s.bytes [] s.bytes s.read e refl;
@@ -104,7 +104,7 @@ module _ (ds : List Declaration) (rules : List Rule) where
       (old middle new : Option (List ℕ)) → AnswersFrontRead ds rules first from to line start mid old middle
       → IsAtEnd to
       → SendsAnswer ds rules line mid now (AppendsPart middle new) → AnswersInput ds rules first from start
-          (AppendsPart old new)
+      (AppendsPart old new)
   ended_part first line from to start mid now old middle new s e w = record {
     input = s.bytes;
     is_read = Consumes-all from to s.bytes [] s.bytes s.read e refl;
@@ -134,12 +134,12 @@ module _ (ds : List Declaration) (rules : List Rule) where
     pub breaks_off : (first bytes front rest out : List ℕ) (from to : Option (List ℕ)) (start now : List Operations)
         (old new : Option (List ℕ)) → Consumes from to bytes → first ++ bytes ≡ front ++ rest
         → AnswersFront ds rules front start out now → AppendsPart old new out → AnswersInput ds rules first from start
-            (AppendsPart old new)
+        (AppendsPart old new)
     breaks_off first bytes front rest out from to start now old new c e f w =
         let left = some_left from to bytes c in
         let tail = exist ds rules lowers (lines (rest ++ left.0)) now in
         let all : first ++ (bytes ++ left.0) ≡ front ++ (rest ++ left.0) = sym (append_assoc first bytes left.0)
-            ∙ ap (λ b. b ++ left.0) e ∙ append_assoc front rest left.0 in
+        ∙ ap (λ b. b ++ left.0) e ∙ append_assoc front rest left.0 in
         record {
           input = bytes ++ left.0;
           is_read = left.1;
@@ -154,14 +154,14 @@ module _ (ds : List Declaration) (rules : List Rule) where
         → AnswersInput ds rules first from start (AppendsPart old new)
     stops first line from to start now old new s =
         breaks_off first s.bytes s.chunk.front line s.chunk.out from to start now old new s.read s.chunk.are
-            s.chunk.answers (part_of_whole old new _ s.chunk.written)
+        s.chunk.answers (part_of_whole old new _ s.chunk.written)
 
     -- the first bytes were answered in part
     pub breaks_first : (first : List ℕ) (from : Option (List ℕ)) (start : List Operations) (old new : Option (List ℕ))
         → AnswersPart ds rules first start old new → AnswersInput ds rules first from start (AppendsPart old new)
     breaks_first first from start old new a =
         breaks_off first [] a.front a.rest a.out from from start a.now old new (Consumes-nil from)
-            (append-nil first ∙ a.are) a.answers a.written
+        (append-nil first ∙ a.are) a.answers a.written
 
     -- the last line was answered in part, or not at all
     pub ends_early : (first line : List ℕ) (from to : Option (List ℕ)) (start mid : List Operations)
@@ -170,9 +170,9 @@ module _ (ds : List Declaration) (rules : List Rule) where
         → IsCut ds rules line mid middle new → AnswersInput ds rules first from start (AppendsPart old new)
     ends_early first line from to start mid old middle new s e (inl w) =
         breaks_off first s.bytes s.chunk.front line s.chunk.out from to start mid old new s.read s.chunk.are
-            s.chunk.answers
+        s.chunk.answers
         (part_of_whole old new _ (subst (Appends old new) (append-nil s.chunk.out)
-            (Appends-trans old middle new _ _ s.chunk.written w)))
+        (Appends-trans old middle new _ _ s.chunk.written w)))
     ends_early first line from to start mid old middle new s e (inr (now, w)) =
         ended_part first line from to start mid now old middle new s e w
 
@@ -182,7 +182,7 @@ module _ (ds : List Declaration) (rules : List Rule) where
 abbrev pub IsOpened : Program → Wanted → List Operations → List ℕ → Type 0
 IsOpened p wanted start verdict =
     (commands : List (List ℕ)) (answers : List ℕ) → AnswersAll (declarations p) (rules_of p) commands start answers
-        → IsReadOutput (Ok p) wanted commands status.Accepted (verdict ++ answers)
+    → IsReadOutput (Ok p) wanted commands status.Accepted (verdict ++ answers)
 
 pub program_opened : (a : Accepted) (n m : ℕ) (wanted : Wanted) (start : List Operations) (verdict : List ℕ)
     → IsAcceptedBy wanted.coverage (rules_of (program_in a)) (cases_of a) → n ≡ length (rules_of (program_in a))
@@ -190,7 +190,7 @@ pub program_opened : (a : Accepted) (n m : ℕ) (wanted : Wanted) (start : List 
     → start ≡ replicate wanted.replicas finite.empty → IsOpened (program_in a) wanted start verdict
 program_opened a n m wanted start verdict accepted f q g h commands answers answered =
     let rest : AnswersRest (declarations (program_in a)) (rules_of (program_in a)) commands start verdict
-        (verdict ++ answers) = record { out = answers; answers = answered; out_is = refl } in
+    (verdict ++ answers) = record { out = answers; answers = answered; out_is = refl } in
     program_answered a a commands n m wanted start verdict (verdict ++ answers) accepted refl f q g h rest
 
 module _ (p : Program) (wanted : Wanted) (start : List Operations) (verdict : List ℕ)
@@ -248,7 +248,7 @@ module _ (p : Program) (wanted : Wanted) (start : List Operations) (verdict : Li
   pub commands_answered : (first line : List ℕ) (from to : Option (List ℕ)) (now : List Operations)
       (old middle new : Option (List ℕ)) → Appends old middle verdict
       → AnswersFrontRead (declarations p) (rules_of p) first from to line start now middle new
-          → AnswersCommands (Ok p) wanted first from to old new
+      → AnswersCommands (Ok p) wanted first from to old new
   commands_answered first line from to now old middle new w s = record {
     bytes = s.bytes;
     front = s.chunk.front;
@@ -268,24 +268,40 @@ module _ (p : Program) (wanted : Wanted) (start : List Operations) (verdict : Li
 pub refused_written : (text first : List ℕ) (known : Option (List ℕ)) (wanted : Wanted)
     (answer : Result Program ReadFault) (out : List ℕ) (IsWritten : List ℕ → Type 0) → IsAnswer text answer
     → ((replicas : ℕ) (commands : List (List ℕ)) → IsReadOutput answer (replicas_by wanted.coverage replicas) commands
-        status.Refused out) → IsWritten out → WritesText (IsAnswer text) first known wanted status.Refused IsWritten
+    status.Refused out) → IsWritten out → WritesText (IsAnswer text) first known wanted status.Refused IsWritten
 refused_written text first known wanted answer out IsWritten a h w =
     let i = some_input known in
-    record { input = i.0; is_read = i.1; answer = answer; is_answer = a; out = out; output =
-        h wanted.replicas (lines (first ++ i.0)); is_written = w }
+    record {
+      input = i.0;
+      is_read = i.1;
+      answer = answer;
+      is_answer = a;
+      out = out;
+      output =
+          h wanted.replicas (lines (first ++ i.0));
+      is_written = w;
+    }
 
 pub text_written : (text first : List ℕ) (known : Option (List ℕ)) (wanted : Wanted) (answer : Result Program ReadFault)
     (s : Status) (IsWritten : List ℕ → Type 0) → IsAnswer text answer
     → WritesText (λ a. a ≡ answer) first known wanted s IsWritten
-        → WritesText (IsAnswer text) first known wanted s IsWritten
+    → WritesText (IsAnswer text) first known wanted s IsWritten
 text_written text first known wanted answer s IsWritten a w =
-    record { input = w.input; is_read = w.is_read; answer = w.answer; is_answer =
-        subst (IsAnswer text) (sym w.is_answer) a; out = w.out; output = w.output; is_written = w.is_written }
+    record {
+      input = w.input;
+      is_read = w.is_read;
+      answer = w.answer;
+      is_answer =
+          subst (IsAnswer text) (sym w.is_answer) a;
+      out = w.out;
+      output = w.output;
+      is_written = w.is_written;
+    }
 
 pub text_part : (text first : List ℕ) (known : Option (List ℕ)) (wanted : Wanted) (answer : Result Program ReadFault)
     (old new : Option (List ℕ)) → IsAnswer text answer
     → WritesTextPart (λ a. a ≡ answer) first known wanted old new
-        → WritesTextPart (IsAnswer text) first known wanted old new
+    → WritesTextPart (IsAnswer text) first known wanted old new
 text_part text first known wanted answer old new a (inl w) = inl w
 text_part text first known wanted answer old new a (inr (s, w)) =
     inr (s, text_written text first known wanted answer s (AppendsPart old new) a w)

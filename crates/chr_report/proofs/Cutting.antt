@@ -40,7 +40,7 @@ texts_more line (Some r) apart = text_more line r.now apart ∙ sym (append_asso
 pub cut_more : (input : List ℕ) (next : Option (Bor (List ℕ))) (rest : Bor (List ℕ)) (line : List ℕ)
     (more : Option (Bor (List ℕ))) → Cut input next → next ≡ Some rest
     → lines rest.now ≡ line ∷ lines_left more → IfNone more (rest.now ≡ line)
-        → IfSome more (λ r. rest.now ≡ line ++ 10 ∷ r.now) → is_divider line ≡ false → Cut input more
+    → IfSome more (λ r. rest.now ≡ line ++ 10 ∷ r.now) → is_divider line ≡ false → Cut input more
 cut_more input next rest line more c is split alone before apart =
     let first : lines_left next ≡ line ∷ lines_left more = ap lines_left is ∙ split in
     record {
@@ -62,19 +62,20 @@ pub cut_text : (input : List ℕ) (next : Option (Bor (List ℕ))) (rest : Bor (
     (more : Option (Bor (List ℕ))) → Cut input next → next ≡ Some rest → lines rest.now ≡ line ∷ lines_left more
     → is_divider line ≡ true
     → (take (length input - length rest.now) input ≡ text_of (lines input))
-        × (commands_of (lines input) ≡ lines_left more)
+    × (commands_of (lines input) ≡ lines_left more)
 cut_text input next rest line more c is split found =
     let first : lines_left next ≡ line ∷ lines_left more = ap lines_left is ∙ split in
     let whole : input ≡ c.front ++ rest.now = c.whole ∙ ap (λ n. c.front ++ bytes_left n) is in (
       subst (λ bs. take (length bs - length rest.now) bs ≡ c.front) (sym whole) (take_front c.front rest.now)
           ∙ sym (c.text ∙ ap (λ ls. c.front ++ text_of ls) first
-              ∙ ap (λ bs. c.front ++ bs) (text_ended line (lines_left more) found) ∙ append-nil c.front),
+          ∙ ap (λ bs. c.front ++ bs) (text_ended line (lines_left more) found) ∙ append-nil c.front),
       c.commands ∙ ap commands_of first ∙ commands_here line (lines_left more) found,
     )
 
 -- no divider
 pub cut_none : (input : List ℕ) (next : Option (Bor (List ℕ))) → Cut input next → next ≡ None
     → (input ≡ text_of (lines input)) × (commands_of (lines input) ≡ [])
-cut_none input next c e =
-    (c.whole ∙ ap (λ n. c.front ++ bytes_left n) e ∙ sym (c.text ∙ ap (λ n. c.front ++ text_of (lines_left n)) e),
-        c.commands ∙ ap (λ n. commands_of (lines_left n)) e)
+cut_none input next c e = (
+  c.whole ∙ ap (λ n. c.front ++ bytes_left n) e ∙ sym (c.text ∙ ap (λ n. c.front ++ text_of (lines_left n)) e),
+  c.commands ∙ ap (λ n. commands_of (lines_left n)) e,
+)

@@ -33,7 +33,7 @@ takes_them [] name n i e = absurd (none-some i e)
 takes_them (d ∷ ds) name n i e =
     let h = position-Some (declares name n) (d ∷ ds) i d e in
     ap (λ o. takes o n) (slice_get-get_or (d ∷ ds) i d h.0) ∙ eq_back n (get_or (d ∷ ds) i d).arity
-        (and_parts _ _ h.1).1
+    (and_parts _ _ h.1).1
 
 -- a spelt atom
 atom_declared : (ds : List Declaration) (w : NamedAtom) → IfSome (named_atom ds w) (λ a. declares_atom ds a ≡ true)
@@ -41,7 +41,7 @@ atom_declared ds w = by (position (declares w.name (length w.args)) ds) refl
   where
     by : (o : Option ℕ) → position (declares w.name (length w.args)) ds ≡ o
         → IfSome (option_map (λ i. record { symbol = record { 0 = i }; args = record { items = w.args } }) o)
-            (λ (a : Atom). declares_atom ds a ≡ true)
+        (λ (a : Atom). declares_atom ds a ≡ true)
     by None e = tt
     by (Some i) e = takes_them ds w.name (length w.args) i e
 
@@ -57,11 +57,11 @@ everywhere (x ∷ xs) = (tt, everywhere xs)
 operation_declared : (p : Program) (o : NamedOperation) → IfSome (declared_operation (declarations p) o) (IsDeclared p)
 operation_declared p o =
     if_map (λ xs. AllByRecursion (λ a. declares_atom (declarations p) a ≡ true) xs) (IsDeclared p)
-        (λ atoms. (o.id, store_of atoms))
+    (λ atoms. (o.id, store_of atoms))
     (λ xs h. each_of_list (declares_atom (declarations p)) xs (listed (declarations p) xs h))
-        (named_atoms (declarations p) o.atoms)
+    (named_atoms (declarations p) o.atoms)
     (if_each (λ _. Unit {0}) (λ a. declares_atom (declarations p) a ≡ true) (named_atom (declarations p))
-        (λ w _. atom_declared (declarations p) w) o.atoms (everywhere o.atoms))
+    (λ w _. atom_declared (declarations p) w) o.atoms (everywhere o.atoms))
 
 some_has : {A : Type 0} (P : A → Type 0) (o : Option A) (x : A) → IfSome o P → Some x ≡ o → P x
 some_has P o x h e = let k : IfSome (Some x) P = subst (λ y. IfSome y P) (sym e) h in k
@@ -77,7 +77,7 @@ pub all_spelt_declared : (p : Program) (os : List NamedOperation) (ops : List Op
 all_spelt_declared p os ops e =
     All-from_recursion (IsDeclared p) ops
     (some_has (AllByRecursion (IsDeclared p)) _ ops (if_each (λ _. Unit {0}) (IsDeclared p)
-        (declared_operation (declarations p)) (λ o _. operation_declared p o) os (everywhere os)) e)
+    (declared_operation (declarations p)) (λ o _. operation_declared p o) os (everywhere os)) e)
 
 -- ---- answers to spelt operations
 

@@ -59,20 +59,24 @@ pub answers_at : (w v : Replicas) (r : ℕ) (R : Operations → List ℕ → Ope
     → R s.operations text t.operations → AnswersAt (operations_held w) r R text (operations_held v)
 answers_at w v r R text s t there e h =
     let one : OneAnswers (operations_held w) r R text (operations_held v) s.operations =
-    record { after = t.operations; answers = h; others = ap operations_held e
-        ∙ map-set (λ t. t.operations) w (r - 1) t } in
+    record {
+      after = t.operations;
+      answers = h;
+      others = ap operations_held e
+          ∙ map-set (λ t. t.operations) w (r - 1) t;
+    } in
     subst (λ o. MatchOption o (AnswersRefusal refusal.NoReplica (operations_held w) text (operations_held v))
-        (OneAnswers (operations_held w) r R text (operations_held v))) (sym (held_at w r s there)) one
+    (OneAnswers (operations_held w) r R text (operations_held v))) (sym (held_at w r s there)) one
 
 -- where there is none of the number
 pub none_answers : (w v : Replicas) (r : ℕ) (R : Operations → List ℕ → Operations → Type 0) → ¬ HasReplica w r → v ≡ w
     → AnswersAt (operations_held w) r R (refusal_text refusal.NoReplica) (operations_held v)
 none_answers w v r R n e =
     let none : AnswersRefusal refusal.NoReplica (operations_held w) (refusal_text refusal.NoReplica)
-        (operations_held v) = (refl, ap operations_held e) in
+    (operations_held v) = (refl, ap operations_held e) in
     subst (λ o. MatchOption o (AnswersRefusal refusal.NoReplica (operations_held w) (refusal_text refusal.NoReplica)
-        (operations_held v)) (OneAnswers (operations_held w) r R (refusal_text refusal.NoReplica) (operations_held v)))
-        (sym (none_held w r n)) none
+    (operations_held v)) (OneAnswers (operations_held w) r R (refusal_text refusal.NoReplica) (operations_held v)))
+    (sym (none_held w r n)) none
 
 -- ---- a replica that changes and holds what it held
 
@@ -83,6 +87,6 @@ pub same_held : (w v : Replicas) (r : ℕ) (s t : Replica) → IsAt w r s → v 
     ≡ s.operations → operations_held v ≡ operations_held w
 same_held w v r s t there e same =
     ap operations_held e ∙ map-set (λ t. t.operations) w (r - 1) t
-        ∙ ap (λ m. slice_set (operations_held w) (r - 1) m) same
+    ∙ ap (λ m. slice_set (operations_held w) (r - 1) m) same
     ∙ same_set (operations_held w) (r - 1) s.operations
-        (slice_get-map (λ t. t.operations) w (r - 1) ∙ ap (option_map (λ t. t.operations)) there.1)
+    (slice_get-map (λ t. t.operations) w (r - 1) ∙ ap (option_map (λ t. t.operations)) there.1)

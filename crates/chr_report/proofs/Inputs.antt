@@ -42,9 +42,11 @@ nothing_read bytes e = record { front = []; line = []; are = e; begins = no_text
 output_divided : (text front more out : List ℕ) (wanted : Wanted) (answer : Result Program ReadFault) (status : Status)
     → Divides text front → IsAnswer text answer → IsReadOutput answer wanted (lines more) status out
     → IsOutput Run wanted (front ++ more) status out
-output_divided text front more out wanted answer status d a h =
-    (answer, subst (λ t. IsAnswer t answer) (sym (d.text_is more)) a,
-        subst (λ cs. IsReadOutput answer wanted cs status out) (sym (d.commands more)) h)
+output_divided text front more out wanted answer status d a h = (
+  answer,
+  subst (λ t. IsAnswer t answer) (sym (d.text_is more)) a,
+  subst (λ cs. IsReadOutput answer wanted cs status out) (sym (d.commands more)) h,
+)
 
 -- all that the reader had
 all_read : (from to : Option (List ℕ)) (bytes input : List ℕ) → Consumes from to bytes → IfSome to (λ all. input ≡ all)
@@ -62,7 +64,7 @@ divided_written from to bytes text first wanted status IsWritten c d w = record 
   out = w.out;
   is_output =
       subst (λ b. IsOutput Run wanted b status w.out) (sym
-          (ap (λ b. b ++ w.input) d.are ∙ append_assoc d.front first w.input))
+      (ap (λ b. b ++ w.input) d.are ∙ append_assoc d.front first w.input))
       (output_divided text d.front (first ++ w.input) w.out wanted w.answer status d.divides w.is_answer w.output);
   is_written = w.is_written;
 }
@@ -81,11 +83,17 @@ pub divided_answered : (from to next : Option (List ℕ)) (bytes text first : Li
 divided_answered from to next bytes text first wanted answer old new c d a s =
     let front = d.front ++ s.front in
     let all : bytes ++ s.bytes ≡ front ++ s.line = ap (λ b. b ++ s.bytes) d.are ∙ append_assoc d.front first s.bytes
-        ∙ ap (λ b. d.front ++ b) s.are ∙ sym (append_assoc d.front s.front s.line) in
+    ∙ ap (λ b. d.front ++ b) s.are ∙ sym (append_assoc d.front s.front s.line) in
     let wrote : WritesOutput (Some front) old new Run wanted Accepted =
-    record { input = front; is_read = refl; out = s.out; is_output =
-        output_divided text d.front s.front s.out wanted answer Accepted d.divides a s.output; is_written =
-        s.written } in
+    record {
+      input = front;
+      is_read = refl;
+      out = s.out;
+      is_output =
+          output_divided text d.front s.front s.out wanted answer Accepted d.divides a s.output;
+      is_written =
+          s.written;
+    } in
     record {
       front = front;
       line = s.line;
@@ -123,8 +131,14 @@ pub ended_written : (from to : Option (List ℕ)) (bytes : List ℕ) (wanted : W
     (IsWritten : List ℕ → Type 0) → Consumes from to bytes → IsAtEnd to
     → Writes (Some bytes) Run wanted status IsWritten → Writes from Run wanted status IsWritten
 ended_written from to bytes wanted status IsWritten c e w =
-    record { input = w.input; is_read = all_there from to bytes w.input c e w.is_read; out = w.out; is_output =
-    w.is_output; is_written = w.is_written }
+    record {
+      input = w.input;
+      is_read = all_there from to bytes w.input c e w.is_read;
+      out = w.out;
+      is_output =
+          w.is_output;
+      is_written = w.is_written;
+    }
 
 pub ended_part : (from to : Option (List ℕ)) (bytes : List ℕ) (wanted : Wanted) (old new : Option (List ℕ))
     → Consumes from to bytes → IsAtEnd to → WritesBeginning (Some bytes) old new Run wanted
@@ -174,11 +188,11 @@ text_too_long bytes more u l =
     let f = first_line u.line more u.unended in
     let text : text_of (lines (bytes ++ more)) ≡ u.front ++ text_of ((u.line ++ f.0) ∷ f.1) =
     ap (λ b. text_of (lines (b ++ more))) u.are ∙ ap (λ b. text_of (lines b)) (append_assoc u.front u.line more)
-        ∙ u.begins.text (u.line ++ more) ∙ ap (λ ls. u.front ++ text_of ls) f.2 in
+    ∙ u.begins.text (u.line ++ more) ∙ ap (λ ls. u.front ++ text_of ls) f.2 in
     let size : length bytes ≡ length u.front + length u.line = ap length u.are ∙ length-append u.front u.line in
     let sum = length-append u.front (text_of ((u.line ++ f.0) ∷ f.1)) in
     rw text (long_enough (length bytes) (length u.front) (length u.line) _ _ l size sum
-        (text_longer (is_divider (u.line ++ f.0)) u.line f.0 f.1 refl))
+    (text_longer (is_divider (u.line ++ f.0)) u.line f.0 f.1 refl))
 
 -- its line, whatever comes after it
 pub too_long_output : (verb : Verb) (short long out : List ℕ) (wanted : Wanted) (status : Status)
@@ -196,11 +210,17 @@ pub long_written : (from to : Option (List ℕ)) (bytes : List ℕ) (wanted : Wa
 long_written from to bytes wanted status IsWritten c u l w =
     let left = some_left from to bytes c in
     let here : MAX_TEXT < length (text_of (lines w.input)) =
-        subst (λ b. MAX_TEXT < length (text_of (lines b))) (append-nil bytes ∙ sym w.is_read)
-        (text_too_long bytes [] u l) in
-    record { input = bytes ++ left.0; is_read = left.1; out = w.out; is_output =
-        too_long_output Run w.input (bytes ++ left.0) w.out wanted status here
-        (text_too_long bytes left.0 u l) w.is_output; is_written = w.is_written }
+    subst (λ b. MAX_TEXT < length (text_of (lines b))) (append-nil bytes ∙ sym w.is_read)
+    (text_too_long bytes [] u l) in
+    record {
+      input = bytes ++ left.0;
+      is_read = left.1;
+      out = w.out;
+      is_output =
+          too_long_output Run w.input (bytes ++ left.0) w.out wanted status here
+          (text_too_long bytes left.0 u l) w.is_output;
+      is_written = w.is_written;
+    }
 
 pub long_part : (from to : Option (List ℕ)) (bytes : List ℕ) (wanted : Wanted) (old new : Option (List ℕ))
     → Consumes from to bytes → IsUndivided bytes → MAX_TEXT + 4 < length bytes
@@ -227,7 +247,7 @@ pub long_refused : (bytes : List ℕ) (wanted : Wanted) (status : Status) (IsWri
     ≡ Refused
 long_refused bytes wanted status IsWritten u l w =
     too_long_refused w.input w.out wanted status (subst (λ b. MAX_TEXT < length (text_of (lines b)))
-        (append-nil bytes ∙ sym w.is_read) (text_too_long bytes [] u l)) w.is_output
+    (append-nil bytes ∙ sym w.is_read) (text_too_long bytes [] u l)) w.is_output
 
 -- ---- reads
 

@@ -22,7 +22,7 @@ pub both_decide : (from to next : Option (List ℕ)) (start some kept : List ℕ
     → ReadsOn to next some kept → IsAtEnd next → IfSome from (Decides kept)
 both_decide from to next start some kept s r q e =
     all_decide from next kept (read_more from to next r.bytes q.bytes kept
-        (q.held ∙ ap (λ l. l ++ q.bytes) (r.held ∙ ap (λ l. l ++ r.bytes) s)) r.read q.read) e
+    (q.held ∙ ap (λ l. l ++ q.bytes) (r.held ∙ ap (λ l. l ++ r.bytes) s)) r.read q.read) e
 
 -- no bytes are more than any number of a word
 pub all_are_read : (next : Option (List ℕ)) (kept : List ℕ) → length kept < 2 ^ 64 → IsAtEnd next
@@ -37,9 +37,9 @@ long_decides None to kept c l u = tt
 long_decides (Some x) None kept c l u = absurd c
 long_decides (Some x) (Some y) kept c l u = λ verb wanted status out o.
     let here : MAX_TEXT < length (text_of (lines kept)) =
-        subst (λ b. MAX_TEXT < length (text_of (lines b))) (append-nil kept) (text_too_long kept [] u l) in
+    subst (λ b. MAX_TEXT < length (text_of (lines b))) (append-nil kept) (text_too_long kept [] u l) in
     let all : MAX_TEXT < length (text_of (lines x)) = subst (λ b. MAX_TEXT < length (text_of (lines b))) (sym c)
-        (text_too_long kept y u l) in
+    (text_too_long kept y u l) in
     too_long_output verb kept x out wanted status here all o
 
 pub beginning_decides : (from to : Option (List ℕ)) (start kept : List ℕ) → start ≡ [] → ReadsOn from to start kept

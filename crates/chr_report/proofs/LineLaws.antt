@@ -24,7 +24,7 @@ pub split_at_feed : (t : List ℕ) → position_or_len (λ b. b == 10) t < lengt
 split_at_feed t l =
     split_at_first (λ b. b == 10) t 0 l
     ∙ ap (λ x. before_first (λ b. b == 10) t ++ x ∷ after_first (λ b. b == 10) t)
-        (eqb-true _ 10 (passes_at_first (λ b. b == 10) t 0 l))
+    (eqb-true _ 10 (passes_at_first (λ b. b == 10) t 0 l))
 
 pub lines_are_the_input : LinesAreTheInput
 lines_are_the_input input = join_with_byte-slice_split 10 input
@@ -46,7 +46,7 @@ pub text_more : (line r : List ℕ) → is_divider line ≡ false → text_of (l
 text_more line r apart =
     let s = some_line r in
     ap (λ ls. text_of (line ∷ ls)) s.2 ∙ ap (λ b. cond b [] (line ++ 10 ∷ text_of (s.0 ∷ s.1))) apart
-        ∙ ap (λ ls. line ++ 10 ∷ text_of ls) (sym s.2)
+    ∙ ap (λ ls. line ++ 10 ∷ text_of ls) (sym s.2)
 
 pub text_last : (line : List ℕ) → is_divider line ≡ false → text_of (line ∷ []) ≡ line
 text_last line apart = ap (λ b. cond b [] line) apart
@@ -60,7 +60,7 @@ pub commands_later : (line : List ℕ) (ls : List (List ℕ)) → is_divider lin
 commands_later line ls apart =
     let n = position_or_len is_divider ls in
     ap (λ b. drop (cond (not b) (1 + n) 0 + 1) (line ∷ ls)) apart
-        ∙ ap (λ k. drop k (line ∷ ls)) (let e : 1 + n + 1 ≡ suc (n + 1) = omega arith in e)
+    ∙ ap (λ k. drop k (line ∷ ls)) (let e : 1 + n + 1 ≡ suc (n + 1) = omega arith in e)
 
 pub commands_here : (line : List ℕ) (ls : List (List ℕ)) → is_divider line ≡ true → commands_of (line ∷ ls) ≡ ls
 commands_here line ls found = ap (λ b. drop (cond (not b) (1 + position_or_len is_divider ls) 0 + 1) (line ∷ ls)) found
@@ -76,7 +76,7 @@ pub feed_at : (bytes : List ℕ) (k : ℕ) → NoneBefore (Passes (is_byte 10) b
 feed_at bytes k h there =
     let high = h.high in
     sym (position_or_len_is (λ b. b == 10) bytes k 0 (omega (arith, high))
-        (λ j l. no_test _ (h.before j (omega arith) l)) (λ _. there))
+    (λ j l. no_test _ (h.before j (omega arith) l)) (λ _. there))
 
 pub no_feed : (bytes : List ℕ) → Nowhere (Passes (is_byte 10) bytes) 0 (length bytes) → length bytes
     ≡ position_or_len (λ b. b == 10) bytes

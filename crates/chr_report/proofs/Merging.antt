@@ -78,7 +78,7 @@ pub merge_answers : (ds : List Declaration) (k : DeltaVersion) (p : Program) (w 
     → AnswersAt (operations_held w) r (AnswersMerge ops) (answer_text ds (codes "merged ") k x) (operations_held v)
 merge_answers ds k p w v r ops (answer.Replied x) declared h =
     answers_at w v r (AnswersMerge ops) (replied_text ds (codes "merged ") k x) h.before h.after h.there h.world
-        (does_merge ds k p h.before ops x h.after declared h.changed)
+    (does_merge ds k p h.before ops x h.after declared h.changed)
 merge_answers ds k p w v r ops answer.UnknownSymbol declared h = absurd (h.1 declared)
 merge_answers ds k p w v r ops answer.NoReplica declared h = none_answers w v r (AnswersMerge ops) h.0 h.2
 
@@ -86,11 +86,11 @@ merge_answers ds k p w v r ops answer.NoReplica declared h = none_answers w v r 
 does_sync : (ds : List Declaration) (k : DeltaVersion) (p : Program) (from : Operations) (t : Replica)
     (rs : List IdRange) (x : Reply) (u : Replica) → CoversJust rs t.operations → All (IsDeclared p) (lacking from rs)
     → Does p t (act.Merge (lacking from rs)) x u → AnswersSync from t.operations (replied_text ds (codes "synced ") k x)
-        u.operations
+    u.operations
 does_sync ds k p from t rs (reply.Merged n) u just declared d =
     let e = exchange t.operations from rs just in
     joined (codes "synced ") (map.entries from) t.operations u.operations n
-        (subst (λ m. told_atoms m ≤ MAX_TOLD) e d.room) d.count (ap (λ r. r.operations) d.after ∙ e)
+    (subst (λ m. told_atoms m ≤ MAX_TOLD) e d.room) d.count (ap (λ r. r.operations) d.after ∙ e)
 does_sync ds k p from t rs (reply.Refused refused.UnknownSymbol) u just declared d = absurd (d.0 declared)
 does_sync ds k p from t rs (reply.Refused (refused.Clash id)) u just declared d =
     absurd (no_clash t.operations from rs just d.0.1.0 id d.0.1.1)
@@ -98,7 +98,7 @@ does_sync ds k p from t rs (reply.Refused (refused.Full limit.Told)) u just decl
     let e = exchange t.operations from rs just in
     over (codes "synced ") (map.entries from) t.operations u.operations
     (λ l. let m = d.0.2 in let l' = subst (λ m. told_atoms m ≤ MAX_TOLD) (sym e) l in omega (arith, l', m))
-        (ap (λ r. r.operations) d.2)
+    (ap (λ r. r.operations) d.2)
 does_sync ds k p from t rs (reply.Refused refused.Memory) u just declared d = absurd (d.1 refl)
 does_sync ds k p from t rs (reply.Refused _) u just declared d = absurd d.0
 does_sync ds k p from t rs _ u just declared d = absurd d
@@ -108,20 +108,20 @@ between : (w : Replicas) (a b : ℕ) (s : Replica) (text : List ℕ) (new : List
     → AnswersBetween (operations_held w) a b text new
 between w a b s text new there h =
     subst (λ o. MatchOption o (AnswersRefusal refusal.NoReplica (operations_held w) text new)
-        (λ from. AnswersAt (operations_held w) b (AnswersSync from) text new)) (sym (held_at w a s there)) h
+    (λ from. AnswersAt (operations_held w) b (AnswersSync from) text new)) (sym (held_at w a s there)) h
 
 -- of replicas that hold declared atoms alone
 pub sync_answers : (ds : List Declaration) (k : DeltaVersion) (p : Program) (w v : Replicas) (a b : ℕ) (x : Answer)
     → ((s : Replica) (rs : List IdRange) → IsAt w a s → All (IsDeclared p) (lacking s.operations rs))
     → Happens p w (event.Sync a b) x v → AnswersBetween (operations_held w) a b (answer_text ds (codes "synced ") k x)
-        (operations_held v)
+    (operations_held v)
 sync_answers ds k p w v a b (answer.Replied x) declared h =
     let c = h.2 in
     between w a b h.0 _ _ h.1
     (answers_at w v b (AnswersSync h.0.operations) (replied_text ds (codes "synced ") k x) c.before c.after c.there
-        c.world
+    c.world
     (does_sync ds k p h.0.operations c.before c.changed.summary x c.after c.changed.covers
-        (declared h.0 c.changed.summary h.1) c.changed.merged))
+    (declared h.0 c.changed.summary h.1) c.changed.merged))
 sync_answers ds k p w v a b answer.UnknownSymbol declared h = absurd h
 sync_answers ds k p w v a b answer.NoReplica declared h = by (there_or_not w a)
   where
@@ -131,10 +131,10 @@ sync_answers ds k p w v a b answer.NoReplica declared h = by (there_or_not w a)
         (λ there. h.0 (has_one w a g.0 g.1, there)) h.1)
     by (inr n) =
         let none : AnswersRefusal refusal.NoReplica (operations_held w) (refusal_text refusal.NoReplica)
-            (operations_held v) = (refl, ap operations_held h.1) in
+        (operations_held v) = (refl, ap operations_held h.1) in
         subst (λ o. MatchOption o (AnswersRefusal refusal.NoReplica (operations_held w) (refusal_text refusal.NoReplica)
-            (operations_held v)) (λ from. AnswersAt (operations_held w) b (AnswersSync from)
-            (refusal_text refusal.NoReplica) (operations_held v))) (sym (none_held w a n)) none
+        (operations_held v)) (λ from. AnswersAt (operations_held w) b (AnswersSync from)
+        (refusal_text refusal.NoReplica) (operations_held v))) (sym (none_held w a n)) none
 
 -- of operations of the program's atoms, after which a pool may be rested
 pub merged : (p : Program) (w v : Replicas) (new : List Operations) (r : ℕ) (ops : List Operation) (x : Answer)

@@ -83,8 +83,11 @@ module _ (ds : List Declaration) (rules : List Rule) where
   one_rule i b a j d c h g =
       elim (cases_lt i j) as (λ _. i ≡ j) [
         | inl l ↦ absurd (not_later i b a j d c h g l)
-        | inr m ↦ elim (cases_lt j i) as (λ _. i ≡ j) [ inl l ↦ absurd (not_later j d c i b a g h l) | inr n ↦ omega
-              (arith, m, n) ]
+        | inr m ↦ elim (cases_lt j i) as (λ _. i ≡ j) [
+          | inl l ↦ absurd (not_later j d c i b a g h l)
+          | inr n ↦ omega
+              (arith, m, n)
+        ]
       ]
 
   by_weights : (out out' : List ℕ) → IsRefusedByWeights ds rules out → IsRefusedByWeights ds rules out' → out ≡ out'
@@ -100,14 +103,14 @@ module _ (ds : List Declaration) (rules : List Rule) where
       → out ≡ out'
   one_line (cause.Fails f) (cause.Fails g) out out' s h k =
       h ∙ (λ i. (codes "refused 21: " ++ overlap_text (s.overlap i) ++ codes "; store "
-          ++ store_text ds (s.left_start i) ++ codes "; left " ++ store_text ds (s.left_end i) ++ codes "; right "
-          ++ store_text ds (s.right_end i)) ++ 10 ∷ []) ∙ sym k
+      ++ store_text ds (s.left_start i) ++ codes "; left " ++ store_text ds (s.left_end i) ++ codes "; right "
+      ++ store_text ds (s.right_end i)) ++ 10 ∷ []) ∙ sym k
   one_line (cause.Fails f) (cause.TooManyTypes t) out out' s h k = absurd s
   one_line (cause.Fails f) cause.Memory out out' s h k = absurd s
   one_line (cause.TooManyTypes t) (cause.Fails g) out out' s h k = absurd s
   one_line (cause.TooManyTypes t) (cause.TooManyTypes u) out out' s h k =
       h ∙ (λ i. (codes "refused 22: " ++ overlap_text (s.0 i) ++ codes "; classes " ++ decimal (s.1 i)) ++ 10 ∷ [])
-          ∙ sym k
+      ∙ sym k
   one_line (cause.TooManyTypes t) cause.Memory out out' s h k = absurd s
   one_line cause.Memory g out out' s h k = absurd h
 
@@ -118,14 +121,14 @@ module _ (ds : List Declaration) (rules : List Rule) where
       → IsRefusedByOverlaps coverage ds rules out' → out ≡ out'
   by_overlaps laws coverage out out' h g =
       one_line h.cause g.cause out out' (laws.refused coverage rules h.cause g.cause h.first g.first
-          (no_memory h.cause out h.line) (no_memory g.cause out' g.line)) h.line g.line
+      (no_memory h.cause out h.line) (no_memory g.cause out' g.line)) h.line g.line
 
   one_answer : VerdictLaws → (wanted : Wanted) (commands : List (List ℕ)) (out out' : List ℕ)
       → IsAnswered ds rules wanted commands out → IsAnswered ds rules wanted commands out' → out ≡ out'
   one_answer laws wanted commands out out' h g =
       let cases = laws.accepted wanted.coverage rules h.cases g.cases h.accepted g.accepted in
       let confluent = laws.confluent wanted.coverage rules (rank_by ds) h.cases (lowers_rank_by ds rules h.lowers)
-          h.accepted in
+      h.accepted in
       let t = laws.answers ds rules confluent wanted.replicas commands h.answers g.answers h.answered g.answered in
       h.out_is ∙ (λ i. accepted_text (length rules) (cases i) ++ 10 ∷ t i) ∙ sym g.out_is
 
@@ -160,9 +163,9 @@ same_output : VerdictLaws → (p q : Program) → meaning_of p ≡ meaning_of q 
 same_output laws p q e wanted commands s s' out out' h g =
     rules_output (declarations q) (map unnamed (rules_of q)) laws wanted commands s s' out out'
     (subst (λ rs. IsRulesOutput (declarations q) rs wanted commands s out)
-        (all_unnamed (rules_of p) (rules_of q) (ap (λ m. m.rules) e))
+    (all_unnamed (rules_of p) (rules_of q) (ap (λ m. m.rules) e))
     (subst (λ ds. IsRulesOutput ds (map unnamed (rules_of p)) wanted commands s out) (ap (λ m. m.declarations) e)
-        (output_unnamed (declarations p) (rules_of p) wanted commands s out h)))
+    (output_unnamed (declarations p) (rules_of p) wanted commands s out h)))
     (output_unnamed (declarations q) (rules_of q) wanted commands s' out' g)
 
 -- no text is too long and short
@@ -186,9 +189,11 @@ one_of_text laws text wanted commands s s' out out' (Err fault.TooLong) (Err fau
 one_of_text laws text wanted commands s s' out out' (Err fault.TooLong) (Err (fault.Bad n k)) r t h g = long text r t.0
 one_of_text laws text wanted commands s s' out out' (Err (fault.Bad n k)) (Err fault.TooLong) r t h g = long text t r.0
 one_of_text laws text wanted commands s s' out out' (Err (fault.Bad n k)) (Err (fault.Bad m j)) r t h g =
-    let e = laws.fault text n m k j r t in
-    (h.0 ∙ sym g.0, h.1 ∙ (λ i. codes "refused " ++ decimal (number_of_fault (e.0 i)) ++ codes ": clause "
-        ++ decimal (e.1 i) ++ 10 ∷ []) ∙ sym g.1)
+    let e = laws.fault text n m k j r t in (
+      h.0 ∙ sym g.0,
+      h.1 ∙ (λ i. codes "refused " ++ decimal (number_of_fault (e.0 i)) ++ codes ": clause "
+          ++ decimal (e.1 i) ++ 10 ∷ []) ∙ sym g.1,
+    )
 one_of_text laws text wanted commands s s' out out' (Err fault.Memory) b r t h g = absurd h.1
 one_of_text laws text wanted commands s s' out out' (Ok p) (Err fault.Memory) r t h g = absurd g.1
 one_of_text laws text wanted commands s s' out out' (Err fault.TooLong) (Err fault.Memory) r t h g = absurd g.1

@@ -68,17 +68,17 @@ one_tell op w old v text other new next h g = by (finite.get old op.0) refl
     by None e =
         elim (cases_lt MAX_TOLD (size (told_store old) + size op.1)) as (λ _. IsOne Valued text other new next) [
           | inl over ↦ both_are Valued text other new next (refusal_text refusal.Full) old v (h.full e over)
-                (g.full e over)
+              (g.full e over)
           | inr room ↦ both_are Valued text other new next (codes "told") (finite.insert old op.0 op.1)
-                (told_values old op.0 op.1 e v w) (h.told e room) (g.told e room)
+              (told_values old op.0 op.1 e v w) (h.told e room) (g.told e room)
         ]
     by (Some s) e =
         elim (same_or s op.1) as (λ _. IsOne Valued text other new next) [
           | inl same ↦ (let held : finite.get old op.0 ≡ Some op.1 = e ∙ ap Some same in
-                both_are Valued text other new next (codes "again") old v (h.again held) (g.again held))
+              both_are Valued text other new next (codes "again") old v (h.again held) (g.again held))
           | inr apart ↦
               (let clash : IsSomeAnd (finite.get old op.0) (λ b. b ≢ op.1) =
-                  subst (λ o. IsSomeAnd o (λ b. b ≢ op.1)) (sym e) apart in
+              subst (λ o. IsSomeAnd o (λ b. b ≢ op.1)) (sym e) apart in
               both_are Valued text other new next (refusal_text refusal.Clash) old v (h.clash clash) (g.clash clash))
         ]
 
@@ -90,7 +90,7 @@ one_union word ops w old v text other new next h g =
     elim (cases_lt MAX_TOLD (told_atoms (union old ops))) as (λ _. IsOne Valued text other new next) [
       | inl over ↦ both_are Valued text other new next (refusal_text refusal.Full) old v (h.full over) (g.full over)
       | inr room ↦ both_are Valued text other new next (word ++ decimal (finite.len (union old ops) - finite.len old))
-            (union old ops) (union_has_values old ops v w) (h.joined room) (g.joined room)
+          (union old ops) (union_has_values old ops v w) (h.joined room) (g.joined room)
     ]
 
 -- one of them clashes, or none does
@@ -100,15 +100,18 @@ one_merge : (ops : List Operation) → HaveValues ops → (old : Operations) →
 one_merge ops w old v text other new next h g =
     elim (clash_or_none old ops) as (λ _. IsOne Valued text other new next) [
       | inl c ↦ both_are Valued text other new next (refusal_text refusal.Clash) old v (h.clash c.0 c.1 c.2)
-            (g.clash c.0 c.1 c.2)
+          (g.clash c.0 c.1 c.2)
       | inr none ↦ one_union (codes "merged ") ops w old v text other new next (h.unites none) (g.unites none)
     ]
 
 one_summary : SummariesAreOne → (old : Operations) → Valued old → (text other : List ℕ) (new next : Operations)
     → AnswersSummary old text new → AnswersSummary old other next → IsOne Valued text other new next
-one_summary are_one old v text other new next h g =
-    (h.text_is ∙ ap summary_text (are_one old h.ranges g.ranges h.apart g.apart h.just g.just) ∙ sym g.text_is, h.same
-        ∙ sym g.same, subst Valued (sym h.same) v)
+one_summary are_one old v text other new next h g = (
+  h.text_is ∙ ap summary_text (are_one old h.ranges g.ranges h.apart g.apart h.just g.just) ∙ sym g.text_is,
+  h.same
+      ∙ sym g.same,
+  subst Valued (sym h.same) v,
+)
 
 -- the normal form that is shown is the only one
 one_shown : (ds : List Declaration) (rules : List Rule) (told : Store) (text other : List ℕ) → Confluent rules
@@ -135,9 +138,9 @@ AnswersHeld old r R text new o = MatchOption o (AnswersRefusal refusal.NoReplica
 -- an answer of the replica of a number is one where each replica's is
 one_at : (R : Operations → List ℕ → Operations → Type 0)
     → ((m : Operations) → Valued m → (text other : List ℕ) (new next : Operations) → R m text new → R m other next
-        → IsOne Valued text other new next)
+    → IsOne Valued text other new next)
     → (old : List Operations) (r : ℕ) → AllValued old → (text other : List ℕ) (new next : List Operations)
-        → AnswersAt old r R text new → AnswersAt old r R other next → IsOne AllValued text other new next
+    → AnswersAt old r R text new → AnswersAt old r R other next → IsOne AllValued text other new next
 one_at R one old r v text other new next h g = by (held_by old r) refl h g
   where
     by : (o : Option Operations) → held_by old r ≡ o → AnswersHeld old r R text new o → AnswersHeld old r R other next o
@@ -145,9 +148,12 @@ one_at R one old r v text other new next h g = by (held_by old r) refl h g
     by None e h g = both_are AllValued text other new next (refusal_text refusal.NoReplica) old v h g
     by (Some m) e h g =
         let same : IsOne Valued text other h.after g.after =
-            one m (value_held old r m v e) text other h.after g.after h.answers g.answers in
-        (same.0, h.others ∙ ap (slice_set old (r - 1)) same.1 ∙ sym g.others, subst AllValued (sym h.others)
-            (All-set Valued old (r - 1) h.after same.2 v))
+        one m (value_held old r m v e) text other h.after g.after h.answers g.answers in (
+          same.0,
+          h.others ∙ ap (slice_set old (r - 1)) same.1 ∙ sym g.others,
+          subst AllValued (sym h.others)
+              (All-set Valued old (r - 1) h.after same.2 v),
+        )
 
 -- what is answered by the second replica where the first one is this, or none
 abbrev AnswersFrom : List Operations → ℕ → List ℕ → List Operations → Option Operations → Type 0
@@ -163,12 +169,12 @@ one_between old a b v text other new next h g = by (held_by old a) refl h g
     by None e h g = both_are AllValued text other new next (refusal_text refusal.NoReplica) old v h g
     by (Some from) e h g =
         one_at (AnswersSync from) (one_union (codes "synced ") (finite.entries from)
-            (entries_have_values from (value_held old a from v e))) old b v text other new next h g
+        (entries_have_values from (value_held old a from v e))) old b v text other new next h g
 
 one_atoms : (old : List Operations) (r : ℕ) (id : OpId) (atoms : Option (List Atom)) (text other : List ℕ)
     (new next : List Operations) → AllValued old → IfSome atoms (λ xs. HasValues (store_of xs))
     → AnswersAtoms old r id atoms text new → AnswersAtoms old r id atoms other next
-        → IsOne AllValued text other new next
+    → IsOne AllValued text other new next
 one_atoms old r id None text other new next v w h g = both_are AllValued text other new next
     (refusal_text refusal.UnknownSymbol) old v h g
 one_atoms old r id (Some atoms) text other new next v w h g =
@@ -177,7 +183,7 @@ one_atoms old r id (Some atoms) text other new next v w h g =
 one_operations : (old : List Operations) (r : ℕ) (ops : Option (List Operation)) (text other : List ℕ)
     (new next : List Operations) → AllValued old → IfSome ops HaveValues
     → AnswersOperations old r ops text new → AnswersOperations old r ops other next
-        → IsOne AllValued text other new next
+    → IsOne AllValued text other new next
 one_operations old r None text other new next v w h g =
     both_are AllValued text other new next (refusal_text refusal.UnknownSymbol) old v h g
 one_operations old r (Some ops) text other new next v w h g =
@@ -194,7 +200,7 @@ module _ (are_one : SummariesAreOne) (ds : List Declaration) (rules : List Rule)
   one_read : (old : List Operations) (read : Result Said LineFault) (text other : List ℕ) (new next : List Operations)
       → AllValued old → IfOk read HasFittingArguments
       → AnswersRead ds rules old read text new → AnswersRead ds rules old read other next
-          → IsOne AllValued text other new next
+      → IsOne AllValued text other new next
   one_read old (Ok (show r)) text other new next v w h g =
       one_at (AnswersShow ds rules) one_show old r v text other new next h g
   one_read old (Ok (tell r o n ws)) text other new next v w h g = one_atoms old r (record { origin = o; number = n })
@@ -204,7 +210,7 @@ module _ (are_one : SummariesAreOne) (ds : List Declaration) (rules : List Rule)
       one_at AnswersSummary (one_summary are_one) old r v text other new next h g
   one_read old (Ok (lacks r rs version)) text other new next v w h g =
       one_at (AnswersLacks ds rs version) (λ m u text other new next h g. both_are Valued text other new next
-          (delta_text_of version ds (operations_of (lacking m rs))) m u h g) old r v text other new next h g
+      (delta_text_of version ds (operations_of (lacking m rs))) m u h g) old r v text other new next h g
   one_read old (Ok (merge r os)) text other new next v w h g =
       one_operations old r (declared_operations ds os) text other new next v (operations_values ds os w) h g
   one_read old (Err fault.Memory) text other new next v w h g = absurd h
@@ -226,15 +232,15 @@ module _ (are_one : SummariesAreOne) (ds : List Declaration) (rules : List Rule)
       by : (b : Bool) → MatchBool b (AnswersAll ds rules ls old out)
           (AnswersFirst ds rules old (without_return l) out (AnswersAll ds rules ls))
           → MatchBool b (AnswersAll ds rules ls old other)
-              (AnswersFirst ds rules old (without_return l) other (AnswersAll ds rules ls))
+          (AnswersFirst ds rules old (without_return l) other (AnswersAll ds rules ls))
           → ((now : List Operations) → AllValued now → (out other : List ℕ) → AnswersAll ds rules ls now out
-              → AnswersAll ds rules ls now other → out ≡ other) → out ≡ other
+          → AnswersAll ds rules ls now other → out ≡ other) → out ≡ other
       by true h g more = more old v out other h g
       by false h g more =
           let one : IsOne AllValued h.text g.text h.new g.new =
-              one_answer old (without_return l) h.text g.text h.new g.new v h.answers g.answers in
+          one_answer old (without_return l) h.text g.text h.new g.new v h.answers g.answers in
           let rest : h.rest ≡ g.rest = more h.new one.2 h.rest g.rest h.more
-              (subst (λ o. AnswersAll ds rules ls o g.rest) (sym one.1) g.more) in
+          (subst (λ o. AnswersAll ds rules ls o g.rest) (sym one.1) g.more) in
           h.out_is ∙ (λ i. one.0 i ++ 10 ∷ rest i) ∙ sym g.out_is
 
 pub answers_are_one : SummariesAreOne → AnswersAreOne
@@ -244,4 +250,4 @@ answers_are_one are_one ds rules confluent lines old v out other h g =
 pub first_answers_are_one : SummariesAreOne → FirstAnswersAreOne
 first_answers_are_one are_one ds rules confluent replicas lines out other h g =
     all_one are_one ds rules confluent lines (replicate replicas finite.empty)
-        (All-replicate Valued replicas finite.empty nothing_told) out other h g
+    (All-replicate Valued replicas finite.empty nothing_told) out other h g

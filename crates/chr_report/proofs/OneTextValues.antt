@@ -36,7 +36,7 @@ atom_values : (ds : List Declaration) (w : NamedAtom) → ArgumentsFit w
     → IfSome (named_atom ds w) (λ a. args_in is_value a ≡ true)
 atom_values ds w h =
     if_map (λ _. Unit {0}) (λ (a : Atom). args_in is_value a ≡ true)
-        (λ i. record { symbol = record { 0 = i }; args = record { items = w.args } }) (λ _ _. values w.args h)
+    (λ i. record { symbol = record { 0 = i }; args = record { items = w.args } }) (λ _ _. values w.args h)
     (position (declares w.name (length w.args)) ds) (always (position (declares w.name (length w.args)) ds))
 
 listed : (xs : List Atom) → AllByRecursion (λ a. args_in is_value a ≡ true) xs → list_all (args_in is_value) xs ≡ true
@@ -48,13 +48,13 @@ pub atoms_values : (ds : List Declaration) (ws : List NamedAtom) → AllByRecurs
     → IfSome (named_atoms ds ws) (λ xs. HasValues (store_of xs))
 atoms_values ds ws h =
     IfSome_then (named_atoms ds ws) (if_each ArgumentsFit (λ a. args_in is_value a ≡ true) (named_atom ds)
-        (atom_values ds) ws h) (λ xs p. each_of_list (args_in is_value) xs (listed xs p))
+    (atom_values ds) ws h) (λ xs p. each_of_list (args_in is_value) xs (listed xs p))
 
 operation_values : (ds : List Declaration) (o : NamedOperation) → OperationFits o → IfSome (declared_operation ds o)
     (λ p. HasValues p.1)
 operation_values ds o h =
     if_map (λ xs. HasValues (store_of xs)) (λ (p : Operation). HasValues p.1) (λ xs. (o.id, store_of xs)) (λ xs v. v)
-        (named_atoms ds o.atoms) (atoms_values ds o.atoms h)
+    (named_atoms ds o.atoms) (atoms_values ds o.atoms h)
 
 -- the operations of words have stores of values
 pub operations_values : (ds : List Declaration) (os : List NamedOperation) → AllByRecursion OperationFits os

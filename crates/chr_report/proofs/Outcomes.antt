@@ -50,8 +50,11 @@ pub part_written : (old new bytes : Option (List ℕ)) (verb : Verb) (wanted : W
     (status : Status) → IfSome bytes (Decides kept) → IsOutput verb wanted kept status out → written ≡ out
     → AppendsPart old new written → WritesBeginning bytes old new verb wanted
 part_written old new bytes verb wanted kept written out status d o e a =
-    inr (status, kept_written bytes kept out verb wanted status (AppendsPart old new) d o
-    (subst (AppendsPart old new) e a))
+    inr (
+      status,
+      kept_written bytes kept out verb wanted status (AppendsPart old new) d o
+          (subst (AppendsPart old new) e a),
+    )
 
 -- no lines, no answers
 pub nothing_to_answer : (ds : List Declaration) (rules : List Rule) (commands : Option (Bor (List ℕ)))
@@ -59,7 +62,7 @@ pub nothing_to_answer : (ds : List Declaration) (rules : List Rule) (commands : 
     → AnswersRest ds rules (lines_left commands) old before before
 nothing_to_answer ds rules commands old before e =
     rw e (let r : AnswersRest ds rules [] old before before =
-        record { out = []; answers = refl; out_is = sym (append-nil before) } in r)
+    record { out = []; answers = refl; out_is = sym (append-nil before) } in r)
 
 -- the verdict's line and the answers
 pub program_answered : (a b : Accepted) (ls : List (List ℕ)) (n m : ℕ) (wanted : Wanted) (start : List Operations)
@@ -67,10 +70,10 @@ pub program_answered : (a b : Accepted) (ls : List (List ℕ)) (n m : ℕ) (want
     → n ≡ length (rules_of (program_in a)) → m ≡ cases_of a → before ≡ accepted_text n m ++ 10 ∷ []
     → start ≡ replicate wanted.replicas finmap.empty
     → AnswersRest (declarations (program_in b)) (rules_of (program_in b)) ls start before out
-        → IsAnswered (declarations (program_in a)) (rules_of (program_in a)) wanted ls out
+    → IsAnswered (declarations (program_in a)) (rules_of (program_in a)) wanted ls out
 program_answered a b ls n m wanted start before out accepted e f q g h r =
     let k : AnswersRest (declarations (program_in a)) (rules_of (program_in a)) ls start before out =
-        subst (λ u. AnswersRest (declarations (program_in u)) (rules_of (program_in u)) ls start before out) e r in
+    subst (λ u. AnswersRest (declarations (program_in u)) (rules_of (program_in u)) ls start before out) e r in
     record {
       lowers = (weighed_of a).lowers;
       cases = cases_of a;
@@ -91,12 +94,15 @@ refused_by p wanted ls status out line e f h = rw (e, f) h
 pub read_output : (verb : Verb) (wanted : Wanted) (input text : List ℕ) (rest commands : Option (Bor (List ℕ)))
     (answer : Result Program ReadFault) (status : Status) (out : List ℕ)
     → text ≡ text_of (lines input) → commands_of (lines input) ≡ lines_left rest → lines_left commands
-        ≡ asked verb (lines_left rest)
+    ≡ asked verb (lines_left rest)
     → IsAnswer text answer → IsReadOutput answer wanted (lines_left commands) status out
-        → IsOutput verb wanted input status out
-read_output verb wanted input text rest commands answer status out e f g a h =
-    (answer, subst (λ x. IsAnswer x answer) e a, subst (λ cs. IsReadOutput answer wanted cs status out)
-        (g ∙ ap (asked verb) (sym f)) h)
+    → IsOutput verb wanted input status out
+read_output verb wanted input text rest commands answer status out e f g a h = (
+  answer,
+  subst (λ x. IsAnswer x answer) e a,
+  subst (λ cs. IsReadOutput answer wanted cs status out)
+      (g ∙ ap (asked verb) (sym f)) h,
+)
 
 pub if_ok : {A E : Type 0} {P Q : A → Type 0} (r : Result A E) → ((x : A) → P x → Q x) → IfOk r P → IfOk r Q
 if_ok (Ok x) f h = f x h

@@ -47,15 +47,29 @@ module _ (answers : AnswersExist) (p : Program) (replicas : ℕ) (commands : Lis
 
   judged : AreLowering (weight_by (declarations p)) (rules_of p) → HasVerdict (rules_of p) → HasOutput Rules
   judged lowers (inl v) =
-      let w = answers (declarations p) (rules_of p) lowers commands (replicate replicas map.empty) in
-      (Accepted, accepted_text (length (rules_of p)) v.0 ++ 10
-          ∷ w.0, record { lowers = lowers; cases = v.0; accepted = v.1; answers = w.0; answered = w.1; out_is = refl })
-  judged lowers (inr (inl f)) =
-      (Refused, failure_text (declarations p) f.0 ++ 10
-          ∷ [], inr (record { lowers = lowers; cause = cause.Fails f.0; first = f.1; line = refl }))
-  judged lowers (inr (inr t)) =
-      (Refused, too_many_text t.0 ++ 10 ∷ [], inr (record { lowers = lowers; cause = cause.TooManyTypes t.0; first =
-          t.1; line = refl }))
+      let w = answers (declarations p) (rules_of p) lowers commands (replicate replicas map.empty) in (
+        Accepted,
+        accepted_text (length (rules_of p)) v.0 ++ 10
+            ∷ w.0,
+        record { lowers = lowers; cases = v.0; accepted = v.1; answers = w.0; answered = w.1; out_is = refl },
+      )
+  judged lowers (inr (inl f)) = (
+    Refused,
+    failure_text (declarations p) f.0 ++ 10
+        ∷ [],
+    inr (record { lowers = lowers; cause = cause.Fails f.0; first = f.1; line = refl }),
+  )
+  judged lowers (inr (inr t)) = (
+    Refused,
+    too_many_text t.0 ++ 10 ∷ [],
+    inr (record {
+      lowers = lowers;
+      cause = cause.TooManyTypes t.0;
+      first =
+          t.1;
+      line = refl;
+    }),
+  )
 
   program_output : HasOutput Rules
   program_output = by (lowers_or_first (declarations p) (rules_of p))

@@ -24,8 +24,12 @@ part_of_whole old new bs a = (bs, [], sym (append-nil bs), a)
 
 pub part_after : (old mid new : Option (List ℕ)) (bs cs : List ℕ) → Appends old mid bs → AppendsPart mid new cs
     → AppendsPart old new (bs ++ cs)
-part_after old mid new bs cs a p = (bs ++ p.0, p.1, ap (λ l. bs ++ l) p.2 ∙ sym (append_assoc bs p.0 p.1),
-    Appends-trans old mid new bs p.0 a p.3)
+part_after old mid new bs cs a p = (
+  bs ++ p.0,
+  p.1,
+  ap (λ l. bs ++ l) p.2 ∙ sym (append_assoc bs p.0 p.1),
+  Appends-trans old mid new bs p.0 a p.3,
+)
 
 pub part_of_more : (old new : Option (List ℕ)) (bs more : List ℕ) → AppendsPart old new bs
     → AppendsPart old new (bs ++ more)
@@ -57,44 +61,51 @@ module _ (ds : List Declaration) (rules : List Rule) where
           (subst (λ t. AnswersAll ds rules (lines more) new (t ++ tail)) (sym k.1) a))
       by false e k =
           let first : AnswersFirst ds rules old (without_return line) (text ++ tail)
-              (AnswersAll ds rules (lines more)) =
-          record { text = k.text; new = new; rest = tail; answers = k.answers; more = a; out_is =
-              ap (λ t. t ++ tail) k.out_is ∙ append_assoc k.text (10 ∷ []) tail } in
+          (AnswersAll ds rules (lines more)) =
+          record {
+            text = k.text;
+            new = new;
+            rest = tail;
+            answers = k.answers;
+            more = a;
+            out_is =
+                ap (λ t. t ++ tail) k.out_is ∙ append_assoc k.text (10 ∷ []) tail;
+          } in
           rw e first
 
   -- one line more
   pub front_goes_on : (front line out text : List ℕ) (old mid new : List Operations) → HasNoFeed line
       → AnswersFront ds rules front old out mid → AnswersLine ds rules mid (without_return line) []
-          new text → AnswersFront ds rules (front ++ (line ++ 10 ∷ [])) old (out ++ text) new
+      new text → AnswersFront ds rules (front ++ (line ++ 10 ∷ [])) old (out ++ text) new
   front_goes_on front line out text old mid new h f g more tail a =
       subst (λ i. AnswersAll ds rules (lines i) old ((out ++ text) ++ tail)) (sym (ended_more front line more))
       (subst (λ o. AnswersAll ds rules (lines (front ++ (line ++ 10 ∷ more))) old o) (sym (append_assoc out text tail))
       (f (line ++ 10 ∷ more) (text ++ tail) (subst (λ ls. AnswersAll ds rules ls mid (text ++ tail))
-          (sym (lines_more line more h)) (line_first line more text tail mid new g a))))
+      (sym (lines_more line more h)) (line_first line more text tail mid new g a))))
 
   -- two pieces
   pub fronts_join : (one two out text : List ℕ) (old mid new : List Operations)
       → AnswersFront ds rules one old out mid → AnswersFront ds rules two mid text new
-          → AnswersFront ds rules (one ++ two) old (out ++ text) new
+      → AnswersFront ds rules (one ++ two) old (out ++ text) new
   fronts_join one two out text old mid new f g more tail a =
       subst (λ i. AnswersAll ds rules (lines i) old ((out ++ text) ++ tail)) (sym (append_assoc one two more))
       (subst (λ o. AnswersAll ds rules (lines (one ++ (two ++ more))) old o) (sym (append_assoc out text tail))
-          (f (two ++ more) (text ++ tail) (g more tail a)))
+      (f (two ++ more) (text ++ tail) (g more tail a)))
 
   -- nothing comes after them
   pub front_is_answered : (front out : List ℕ) (old now : List Operations) → AnswersFront ds rules front old out now
       → AnswersAll ds rules (lines front) old out
   front_is_answered front out old now f =
       subst (λ i. AnswersAll ds rules (lines i) old out) (append-nil front)
-          (subst (λ o. AnswersAll ds rules (lines (front ++ [])) old o) (append-nil out) (f [] [] refl))
+      (subst (λ o. AnswersAll ds rules (lines (front ++ [])) old o) (append-nil out) (f [] [] refl))
 
   -- a last line without its line feed
   pub last_is_answered : (front line out text : List ℕ) (old mid new : List Operations) → HasNoFeed line
       → AnswersFront ds rules front old out mid → AnswersLine ds rules mid (without_return line) []
-          new text → AnswersAll ds rules (lines (front ++ line)) old (out ++ text)
+      new text → AnswersAll ds rules (lines (front ++ line)) old (out ++ text)
   last_is_answered front line out text old mid new h f g =
       f line text (subst (λ ls. AnswersAll ds rules ls mid text) (sym (lines_last line h))
-          (last (is_blank_line (without_return line)) refl g))
+      (last (is_blank_line (without_return line)) refl g))
     where
       last : (b : Bool) → is_blank_line (without_return line) ≡ b → MatchBool b ((new ≡ mid) × (text ≡ []))
           (AddsAnswer ds rules mid (without_return line) [] new text) → AnswersAll ds rules (line ∷ []) mid text
@@ -118,14 +129,22 @@ module _ (ds : List Declaration) (rules : List Rule) where
 
   pub begins : (line chunk : List ℕ) (start : List Operations) (old : Option (List ℕ)) → HasNoFeed line
       → SoFar (line ++ chunk) line chunk start start old old
-  begins line chunk start old h = record { front = []; out = []; are = refl; whole = inl refl; unended = h; answers =
-      front_begins start; written = Appends-nil old }
+  begins line chunk start old h = record {
+    front = [];
+    out = [];
+    are = refl;
+    whole = inl refl;
+    unended = h;
+    answers =
+        front_begins start;
+    written = Appends-nil old;
+  }
 
   cut_bytes : (bytes front line end more rest : List ℕ) → bytes ≡ front ++ (line ++ rest) → rest ≡ end ++ 10 ∷ more
       → bytes ≡ (front ++ ((line ++ end) ++ 10 ∷ [])) ++ more
   cut_bytes bytes front line end more rest are is =
       are ∙ ap (λ r. front ++ (line ++ r)) is ∙ ap (λ r. front ++ r) (sym (append_assoc line end (10 ∷ more)))
-          ∙ sym (ended_more front (line ++ end) more)
+      ∙ sym (ended_more front (line ++ end) more)
 
   pub answered : (bytes line rest end more : List ℕ) (start mid now : List Operations)
       (old middle new : Option (List ℕ)) → SoFar bytes line rest start mid old middle → rest ≡ end ++ 10 ∷ more
@@ -146,13 +165,28 @@ module _ (ds : List Declaration) (rules : List Rule) where
   pub chunk_done : (bytes line rest : List ℕ) (start now : List Operations) (old new : Option (List ℕ))
       → SoFar bytes line rest start now old new → HasNoFeed rest
       → AnswersChunk ds rules bytes (line ++ rest) start now old new
-  chunk_done bytes line rest start now old new s h = record { front = s.front; out = s.out; are = s.are; whole =
-      s.whole; unended = none_in_both line rest s.unended h; answers = s.answers; written = s.written }
+  chunk_done bytes line rest start now old new s h = record {
+    front = s.front;
+    out = s.out;
+    are = s.are;
+    whole =
+        s.whole;
+    unended = none_in_both line rest s.unended h;
+    answers = s.answers;
+    written = s.written;
+  }
 
   pub part_done : (bytes line rest : List ℕ) (start now : List Operations) (old new : Option (List ℕ))
       → SoFar bytes line rest start now old new → AnswersPart ds rules bytes start old new
-  part_done bytes line rest start now old new s = record { front = s.front; rest = line ++ rest; out = s.out; now = now;
-      are = s.are; answers = s.answers; written = part_of_whole old new _ s.written }
+  part_done bytes line rest start now old new s = record {
+    front = s.front;
+    rest = line ++ rest;
+    out = s.out;
+    now = now;
+    are = s.are;
+    answers = s.answers;
+    written = part_of_whole old new _ s.written;
+  }
 
   -- ---- answers that are held until they are sent together
 
@@ -169,7 +203,7 @@ module _ (ds : List Declaration) (rules : List Rule) where
           ([], none, k.1 ∙ sym (append-nil before))
       by false e k =
           let one : AddsAnswer ds rules old line [] new (k.text ++ 10 ∷ []) =
-              record { text = k.text; answers = k.answers; out_is = refl } in
+          record { text = k.text; answers = k.answers; out_is = refl } in
           let some : AnswersLine ds rules old line [] new (k.text ++ 10 ∷ []) = rw e one in
           (k.text ++ 10 ∷ [], some, k.out_is ∙ append_assoc before k.text (10 ∷ []))
 
@@ -182,21 +216,33 @@ module _ (ds : List Declaration) (rules : List Rule) where
 
   pub gathers_none : (line chunk : List ℕ) (start : List Operations) (old : Option (List ℕ)) → HasNoFeed line
       → Gathers (line ++ chunk) line chunk start start old old []
-  gathers_none line chunk start old h = record { sent = []; written = Appends-nil old; so_far =
-      begins line chunk start (Some []) h }
+  gathers_none line chunk start old h = record {
+    sent = [];
+    written = Appends-nil old;
+    so_far =
+        begins line chunk start (Some []) h;
+  }
 
   pub gathers_one : (bytes line rest end more holds after : List ℕ) (start mid now : List Operations)
       (old new : Option (List ℕ)) → Gathers bytes line rest start mid old new holds → rest ≡ end ++ 10 ∷ more
       → HasNoFeed end
       → AnswersLine ds rules mid (without_return (line ++ end)) holds now after → Gathers bytes []
-          more start now old new after
+      more start now old new after
   gathers_one bytes line rest end more holds after start mid now old new s is h g =
       let a = adds (without_return (line ++ end)) holds after mid now g in
       let w : SendsAnswer ds rules (line ++ end) mid now (Appends (Some (s.sent ++ holds)) (Some (s.sent ++ after))) =
-      record { text = a.0; answer = a.1; is_written = ap (λ l. s.sent ++ l) a.2
-          ∙ sym (append_assoc s.sent holds a.0) } in
-      record { sent = s.sent; written = s.written; so_far =
-          answered bytes line rest end more start mid now (Some []) _ _ s.so_far is h w }
+      record {
+        text = a.0;
+        answer = a.1;
+        is_written = ap (λ l. s.sent ++ l) a.2
+            ∙ sym (append_assoc s.sent holds a.0);
+      } in
+      record {
+        sent = s.sent;
+        written = s.written;
+        so_far =
+            answered bytes line rest end more start mid now (Some []) _ _ s.so_far is h w;
+      }
 
   pub gathered_sent : (bytes line rest holds left : List ℕ) (start now : List Operations)
       (old middle new : Option (List ℕ)) → Gathers bytes line rest start now old middle holds
@@ -228,15 +274,23 @@ module _ (ds : List Declaration) (rules : List Rule) where
       → SoFar bytes line rest start now old new
   gathered_whole bytes line rest holds start now old middle new s w =
       gathered_all bytes line rest start now old new (gathered_sent bytes line rest holds []
-          start now old middle new s (holds, w, sym (append-nil holds)))
+      start now old middle new s (holds, w, sym (append-nil holds)))
 
   -- those that are held are not sent
   pub part_gathered : (bytes line rest holds : List ℕ) (start now : List Operations) (old new : Option (List ℕ))
       → Gathers bytes line rest start now old new holds → AnswersPart ds rules bytes start old new
   part_gathered bytes line rest holds start now old new s =
       let f = s.so_far in
-      record { front = f.front; rest = line ++ rest; out = f.out; now = now; are = f.are; answers = f.answers; written =
-          (s.sent, holds, sym f.written, s.written) }
+      record {
+        front = f.front;
+        rest = line ++ rest;
+        out = f.out;
+        now = now;
+        are = f.are;
+        answers = f.answers;
+        written =
+            (s.sent, holds, sym f.written, s.written);
+      }
 
   -- a beginning of those that are held is sent
   pub part_sent : (bytes line rest holds : List ℕ) (start now : List Operations) (old middle new : Option (List ℕ))

@@ -49,8 +49,12 @@ does_show : (ds : List Declaration) (word : List ℕ) (k : DeltaVersion) (p : Pr
     (t : Replica) → IsSound p s → IsIdle p s → IsAtRest (Step (rules_of p)) s.pool → Does p s act.Show x t
     → AnswersShow ds (rules_of p) s.operations (replied_text ds word k x) t.operations
 does_show ds word k p s (reply.Shown bag) t sound idle rest d = (
-  record { store = bag; normal_form = subst (IsNormalForm (Step (rules_of p)) (told_store s.operations)) (sym d.0)
-      (normal_form p s sound idle.out rest); text_is = refl },
+  record {
+    store = bag;
+    normal_form = subst (IsNormalForm (Step (rules_of p)) (told_store s.operations)) (sym d.0)
+        (normal_form p s sound idle.out rest);
+    text_is = refl;
+  },
   ap (λ r. r.operations) d.2,
 )
 does_show ds word k p s (reply.Refused (refused.Leased n)) t sound idle rest d =
@@ -65,12 +69,12 @@ does_show ds word k p s _ t sound idle rest d = absurd d
 pub show_answers : (ds : List Declaration) (word : List ℕ) (k : DeltaVersion) (p : Program) (w v : Replicas) (r : ℕ)
     (x : Answer)
     → ((s : Replica) → IsAt w r s → IsSound p s × IsIdle p s × IsAtRest (Step (rules_of p)) s.pool)
-        → Happens p w (event.At r act.Show) x v
+    → Happens p w (event.At r act.Show) x v
     → AnswersAt (operations_held w) r (AnswersShow ds (rules_of p)) (answer_text ds word k x) (operations_held v)
 show_answers ds word k p w v r (answer.Replied x) ready h =
     let g = ready h.before h.there in
     answers_at w v r (AnswersShow ds (rules_of p)) (replied_text ds word k x) h.before h.after h.there h.world
-        (does_show ds word k p h.before x h.after g.0 g.1 g.2 h.changed)
+    (does_show ds word k p h.before x h.after g.0 g.1 g.2 h.changed)
 show_answers ds word k p w v r answer.UnknownSymbol ready h = absurd h.1
 show_answers ds word k p w v r answer.NoReplica ready h = none_answers w v r (AnswersShow ds (rules_of p)) h.0 h.2
 
@@ -101,9 +105,10 @@ does_lacks : (ds : List Declaration) (word : List ℕ) (k : DeltaVersion) (p : P
     (rs ss : List IdRange) (x : Reply) (t : Replica) → ((id : OpId) → covers rs id ≡ covers ss id)
     → Does p s (act.Lacks rs) x t
     → AnswersLacks ds ss k s.operations (replied_text ds word k x) t.operations
-does_lacks ds word k p s rs ss (reply.Lacked ops) t same d =
-    (ap (λ os. delta_text_of k ds (operations_of os)) (d.0 ∙ same_lacking s.operations rs ss same),
-    ap (λ r. r.operations) d.1)
+does_lacks ds word k p s rs ss (reply.Lacked ops) t same d = (
+  ap (λ os. delta_text_of k ds (operations_of os)) (d.0 ∙ same_lacking s.operations rs ss same),
+  ap (λ r. r.operations) d.1,
+)
 does_lacks ds word k p s rs ss (reply.Refused r) t same d = absurd d.0
 does_lacks ds word k p s rs ss _ t same d = absurd d
 
@@ -111,10 +116,10 @@ does_lacks ds word k p s rs ss _ t same d = absurd d
 pub lacks_answers : (ds : List Declaration) (word : List ℕ) (k : DeltaVersion) (p : Program) (w v : Replicas) (r : ℕ)
     (rs ss : List IdRange) (x : Answer) → ((id : OpId) → covers rs id ≡ covers ss id)
     → Happens p w (event.At r (act.Lacks rs)) x v → AnswersAt (operations_held w) r (AnswersLacks ds ss k)
-        (answer_text ds word k x) (operations_held v)
+    (answer_text ds word k x) (operations_held v)
 lacks_answers ds word k p w v r rs ss (answer.Replied x) same h =
     answers_at w v r (AnswersLacks ds ss k) (replied_text ds word k x) h.before h.after h.there h.world
-        (does_lacks ds word k p h.before rs ss x h.after same h.changed)
+    (does_lacks ds word k p h.before rs ss x h.after same h.changed)
 lacks_answers ds word k p w v r rs ss answer.UnknownSymbol same h = absurd h.1
 lacks_answers ds word k p w v r rs ss answer.NoReplica same h = none_answers w v r (AnswersLacks ds ss k) h.0 h.2
 
@@ -123,11 +128,11 @@ pub shown : (p q : Program) (w v : Replicas) (old : List Operations) (r : ℕ) (
     → ((s : Replica) → IsAt w r s → IsAtRest (Step (rules_of q)) s.pool)
     → Happens q w (event.At r act.Show) x v → operations_held w ≡ old
     → AnswersAt old r (AnswersShow (declarations p) (rules_of p)) (reply_text (declarations p) (replies.Answered x))
-        (operations_held v)
+    (operations_held v)
 shown p q w v old r x same ready rest h e =
     subst (λ u. AnswersAt old r (AnswersShow (declarations u) (rules_of u))
-        (reply_text (declarations u) (replies.Answered x)) (operations_held v)) same
+    (reply_text (declarations u) (replies.Answered x)) (operations_held v)) same
     (subst (λ m. AnswersAt m r (AnswersShow (declarations q) (rules_of q))
-        (reply_text (declarations q) (replies.Answered x)) (operations_held v)) e
+    (reply_text (declarations q) (replies.Answered x)) (operations_held v)) e
     (show_answers (declarations q) (codes "merged ") version.Two q w v r x
-        (λ s there. let g = ready_at q w r s ready there in (g.0, g.1, rest s there)) h))
+    (λ s there. let g = ready_at q w r s ready there in (g.0, g.1, rest s there)) h))

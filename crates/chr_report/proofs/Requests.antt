@@ -39,7 +39,7 @@ refuses_tell p r o unknown = record {
     by : (old : List Operations) (text : List ℕ) (new : List Operations)
         → AnswersRefusal refusal.UnknownSymbol old text new
         → (got : Option (List Atom)) → ◌≡◌ {A = Option Operation} None
-            (option_map (λ atoms. (o.id, store_of atoms)) got) → AnswersAtoms old r o.id got text new
+        (option_map (λ atoms. (o.id, store_of atoms)) got) → AnswersAtoms old r o.id got text new
     by old text new h None e = h
     by old text new h (Some atoms) e = absurd (none-some _ e)
 

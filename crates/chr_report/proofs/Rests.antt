@@ -20,7 +20,7 @@ use Rattle.chr_report.proofs.Held.{same_held, has_one}
 changed_at : (w : Replicas) (r : ℕ) (s t u : Replica) → IsAt w r s → IsAt (slice_set w (r - 1) t) r u → t ≡ u
 changed_at w r s t u there now =
     let e : ◌≡◌ {A = Option Replica} (Some t) (Some u) =
-        sym (slice_set_same w (r - 1) t (slice_get_within w (r - 1) s there.1)) ∙ now.1 in
+    sym (slice_set_same w (r - 1) t (slice_get_within w (r - 1) s there.1)) ∙ now.1 in
     let same : t ≡ u = cc in
     same
 
@@ -34,10 +34,15 @@ pub rests_ready : (p : Program) (w v : Replicas) (r : ℕ) → RestsAt p w r v �
 rests_ready p w v r (inl h) ready = subst (AreBetweenLines p) (sym h.1) ready
 rests_ready p w v r (inr h) ready =
     let before = ready_at p w r h.before ready h.there in
-    let idle : IsIdle p h.after = record { out = h.changed.settled.0; declared =
-        λ id b e. before.1.declared id b (ap (λ m. finite.get m id) (sym h.changed.operations) ∙ e) } in
-    subst (AreBetweenLines p) (sym h.world) (All-set (IsSound p) w (r - 1) h.after h.changed.sound ready.0,
-        All-set (IsIdle p) w (r - 1) h.after idle ready.1)
+    let idle : IsIdle p h.after = record {
+      out = h.changed.settled.0;
+      declared =
+          λ id b e. before.1.declared id b (ap (λ m. finite.get m id) (sym h.changed.operations) ∙ e);
+    } in
+    subst (AreBetweenLines p) (sym h.world) (
+      All-set (IsSound p) w (r - 1) h.after h.changed.sound ready.0,
+      All-set (IsIdle p) w (r - 1) h.after idle ready.1,
+    )
 
 -- and it is at rest
 pub rests_at : (p : Program) (w v : Replicas) (r : ℕ) → RestsAt p w r v → (t : Replica) → IsAt v r t
@@ -45,7 +50,7 @@ pub rests_at : (p : Program) (w v : Replicas) (r : ℕ) → RestsAt p w r v → 
 rests_at p w v r (inl h) t there = absurd (h.0 (has_one w r t (subst (λ u. IsAt u r t) h.1 there)))
 rests_at p w v r (inr h) t there =
     subst (λ u. IsAtRest (Step (rules_of p)) u.pool) (changed_at w r h.before h.after t h.there
-        (subst (λ u. IsAt u r t) h.world there)) h.changed.settled.1
+    (subst (λ u. IsAt u r t) h.world there)) h.changed.settled.1
 
 -- there is still a replica of the number after a change
 pub still_there : (w u : Replicas) (r : ℕ) (R : Replica → Replica → Type 0) → Changes w r R u → HasReplica u r
@@ -57,11 +62,11 @@ still_there w u r R h =
 pub back_at_rest : {E : Type 0} (result : Result (Unit {0}) E) (p : Program) (w u v : Replicas) (r : ℕ)
     (spare s again t : Replica) → Changes w r (λ x y. (x ≡ s) × (y ≡ spare)) u
     → Changes u r (λ x y. (x ≡ again) × (y ≡ t)) v → t.operations ≡ s.operations → IsSound p t
-        → OnOk result (IsSettled p t) → OnOk result (RestsAt p w r v)
+    → OnOk result (IsSettled p t) → OnOk result (RestsAt p w r v)
 back_at_rest (Err e) p w u v r spare s again t out back operations sound settled = tt
 back_at_rest (Ok done) p w u v r spare s again t out back operations sound settled =
     let world : v ≡ slice_set w (r - 1) back.after = back.world
-        ∙ (ap (λ l. slice_set l (r - 1) back.after) out.world ∙ set-set w (r - 1) out.after back.after) in
+    ∙ (ap (λ l. slice_set l (r - 1) back.after) out.world ∙ set-set w (r - 1) out.after back.after) in
     let rests : ComesToRest p s t = record { operations = operations; sound = sound; settled = settled } in
     inr record {
       before = out.before;

@@ -51,7 +51,7 @@ pub settled_rests : (p : Program) (w v : Replicas) (r : ℕ) (x : Answer) → wa
 settled_rests p w v r (answer.Replied x) went h t there =
     let e : ◌≡◌ {A = Option Replica} (Some h.after) (Some t) =
     sym (slice_set_same w (r - 1) h.after (slice_get_within w (r - 1) h.before h.there.1))
-        ∙ sym (ap (λ l. slice_get l (r - 1)) h.world) ∙ there.1 in
+    ∙ sym (ap (λ l. slice_get l (r - 1)) h.world) ∙ there.1 in
     let same : h.after ≡ t = cc in
     subst (λ u. IsAtRest (Step (rules_of p)) u.pool) same (does_rest p h.before x h.after went h.changed)
 settled_rests p w v r answer.UnknownSymbol went h t there = absurd h.1

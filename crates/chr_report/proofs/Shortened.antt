@@ -44,9 +44,9 @@ stands_after a b c f g rest = ((f rest).0 ∙ (g rest).0, (f rest).1 ∙ (g rest
 pub stands_more : (cut whole more : List ℕ) → StandsFor cut whole → StandsFor (cut ++ more) (whole ++ more)
 stands_more cut whole more f rest =
     subst (λ a. AreAlike (without_return a) (without_return ((whole ++ more) ++ rest)))
-        (sym (append_assoc cut more rest))
+    (sym (append_assoc cut more rest))
     (subst (λ b. AreAlike (without_return (cut ++ (more ++ rest))) (without_return b))
-        (sym (append_assoc whole more rest)) (f (more ++ rest)))
+    (sym (append_assoc whole more rest)) (f (more ++ rest)))
 
 -- the line ends here
 pub stands_now : (cut whole : List ℕ) → StandsFor cut whole → AreAlike (without_return cut) (without_return whole)
@@ -87,7 +87,7 @@ long_after : (a : List ℕ) (b : ℕ) (c : List ℕ) → MAX_LINE < length a →
 long_after a b c l =
     ap line_said (return_later a b c)
     ∙ ap (λ h. if h then value_said (json_in (a ++ without_return (b ∷ c))) else Err fault.BadLine)
-        (too_long a (without_return (b ∷ c)) l)
+    (too_long a (without_return (b ∷ c)) l)
 
 not_blank : (c : List ℕ) → is_blank_line (without_return (120 ∷ c)) ≡ false
 not_blank [] = refl
@@ -107,15 +107,15 @@ cut_stands head mid last kept long same marked rest =
     let cut : (head ++ kept ∷ []) ++ rest ≡ head ++ kept ∷ rest = append_assoc head (kept ∷ []) rest in
     let whole : (head ++ (mid ++ last ∷ [])) ++ rest ≡ (head ++ mid) ++ last ∷ rest =
     append_assoc head (mid ++ last ∷ []) rest ∙ ap (λ l. head ++ l) (append_assoc mid (last ∷ []) rest)
-        ∙ sym (append_assoc head mid (last ∷ rest)) in
+    ∙ sym (append_assoc head mid (last ∷ rest)) in
     let both : MAX_LINE < length (head ++ mid) = simp length-append (omega (arith, long)) in
     let blank = blank_both (is_blank_line head) (is_blank_line mid) (is_blank_line (without_return (kept ∷ rest)))
-        (is_blank_line (without_return (last ∷ rest)))
+    (is_blank_line (without_return (last ∷ rest)))
     (λ e. ap (λ k. is_blank_line (without_return (k ∷ rest))) (same e))
     (λ e. ap (λ k. is_blank_line (without_return (k ∷ rest))) (marked e) ∙ not_blank rest) in (
       ap (λ l. is_blank_line (without_return l)) cut ∙ blank_after head kept rest ∙ blank
           ∙ ap (λ b. b && is_blank_line (without_return (last ∷ rest)))
-              (sym (list_all-append (λ b. b == 32 || b == 9) head mid))
+          (sym (list_all-append (λ b. b == 32 || b == 9) head mid))
           ∙ sym (blank_after (head ++ mid) last rest) ∙ sym (ap (λ l. is_blank_line (without_return l)) whole),
       ap (λ l. line_said (without_return l)) cut ∙ long_after head kept rest long
           ∙ sym (long_after (head ++ mid) last rest both) ∙ sym (ap (λ l. line_said (without_return l)) whole),
@@ -138,7 +138,7 @@ line_parts line n l =
     let place : n + k ≡ length line - 1 = omega (arith, l) in
     sym (take-append-drop n line)
     ∙ ap (λ r. take n line ++ r) (sym (take_all (k + 1) rest all) ∙ take_more rest k 0 within
-        ∙ ap (λ b. take k rest ++ b ∷ []) (get_or-drop n line k 0 ∙ ap (λ i. slice_index_or line i 0) place))
+    ∙ ap (λ b. take k rest ++ b ∷ []) (get_or-drop n line k 0 ∙ ap (λ i. slice_index_or line i 0) place))
 
 pub shortened : (line : List ℕ) (n kept : ℕ) → MAX_LINE < n → n + 1 < length line
     → (is_blank_line (between line n) ≡ true → kept ≡ last_of line)
@@ -148,7 +148,7 @@ shortened line n kept long l same marked =
     let len : length (take n line) ≡ n = length-take-le n line (omega (arith, l)) in
     subst (λ cut. StandsFor cut line) (sym (take_more_set line n kept (omega (arith, l))))
     (subst (StandsFor (take n line ++ kept ∷ [])) (sym (line_parts line n l))
-        (cut_stands (take n line) (between line n) (last_of line) kept (omega (arith, long, len)) same marked))
+    (cut_stands (take n line) (between line n) (last_of line) kept (omega (arith, long, len)) same marked))
 
 -- ---- a line feed, if any
 
@@ -168,7 +168,7 @@ first_line : (line rest end more : List ℕ) → HasNoFeed line → HasNoFeed en
     → lines (line ++ rest) ≡ (line ++ end) ∷ lines more
 first_line line rest end more h g e =
     ap (λ r. lines (line ++ r)) e ∙ ap lines (sym (append_assoc line end (10 ∷ more)))
-        ∙ lines_more (line ++ end) more (none_in_both line end h g)
+    ∙ lines_more (line ++ end) more (none_in_both line end h g)
 
 none_in_second : (l m : List ℕ) → HasNoFeed (l ++ m) → HasNoFeed m
 none_in_second [] m h = h
@@ -182,12 +182,12 @@ pub shortened_none : (line : List ℕ) (n kept : ℕ) → n + 1 < length line �
     ⊎ (kept ≡ 120) → HasNoFeed (take (n + 1) (slice_set line n kept))
 shortened_none line n kept l h which =
     let parts : HasNoFeed (take n line ++ (between line n ++ last_of line ∷ [])) =
-        subst HasNoFeed (line_parts line n l) h in
+    subst HasNoFeed (line_parts line n l) h in
     let last = none_in_second (between line n) (last_of line ∷ [])
-        (none_in_second (take n line) (between line n ++ last_of line ∷ []) parts) in
+    (none_in_second (take n line) (between line n ++ last_of line ∷ []) parts) in
     subst HasNoFeed (sym (take_more_set line n kept (omega (arith, l))))
     (none_in_both (take n line) (kept ∷ []) (none_in_first (take n line) (between line n ++ last_of line ∷ []) parts)
-        (by which last.0, tt))
+    (by which last.0, tt))
   where
     by : (kept ≡ last_of line) ⊎ (kept ≡ 120) → (last_of line == 10) ≡ false → (kept == 10) ≡ false
     by (inl e) f = ap (λ b. b == 10) e ∙ f
@@ -217,15 +217,22 @@ module _ (ds : List Declaration) (rules : List Rule) where
   line_for a b before after old new alike =
       match_bool _ _ _ (is_blank_line a) (is_blank_line b) alike.0
       (λ k. let h : AddsAnswer ds rules old b before new after =
-          record { text = k.text; answers = subst (λ s. AnswersRead ds rules old s k.text new) alike.1 k.answers;
-          out_is = k.out_is } in h)
+      record {
+        text = k.text;
+        answers = subst (λ s. AnswersRead ds rules old s k.text new) alike.1 k.answers;
+        out_is = k.out_is;
+      } in h)
 
   -- the answer of the line that is held is that of the line that was read
   pub sends_for : (cut whole : List ℕ) (old now : List Operations) (IsWritten : List ℕ → Type 0) → StandsFor cut whole
       → SendsAnswer ds rules cut old now IsWritten → SendsAnswer ds rules whole old now IsWritten
   sends_for cut whole old now IsWritten stands s =
-      record { text = s.text; answer = line_for (without_return cut) (without_return whole) []
-          s.text old now (stands_now cut whole stands) s.answer; is_written = s.is_written }
+      record {
+        text = s.text;
+        answer = line_for (without_return cut) (without_return whole) []
+            s.text old now (stands_now cut whole stands) s.answer;
+        is_written = s.is_written;
+      }
 
   pub cut_for : (cut whole : List ℕ) (old : List Operations) (before after : Option (List ℕ)) → StandsFor cut whole
       → IsCut ds rules cut old before after → IsCut ds rules whole old before after
@@ -240,8 +247,15 @@ module _ (ds : List Declaration) (rules : List Rule) where
       match_bool _ _ _ (is_blank_line (without_return a)) (is_blank_line (without_return b)) alike.0
       (λ k.
       let h : AnswersFirst ds rules old (without_return b) out (AnswersAll ds rules ls) =
-      record { text = k.text; new = k.new; rest = k.rest; answers =
-          subst (λ s. AnswersRead ds rules old s k.text k.new) alike.1 k.answers; more = k.more; out_is = k.out_is } in
+      record {
+        text = k.text;
+        new = k.new;
+        rest = k.rest;
+        answers =
+            subst (λ s. AnswersRead ds rules old s k.text k.new) alike.1 k.answers;
+        more = k.more;
+        out_is = k.out_is;
+      } in
       h)
 
   -- and so are the answers of whatever it goes on with
@@ -258,7 +272,7 @@ module _ (ds : List Declaration) (rules : List Rule) where
       by (inr f) =
           subst (λ ls. AnswersAll ds rules ls old out) (sym (first_line whole rest f.0 f.1 g f.3 f.2))
           (first_for (cut ++ f.0) (whole ++ f.0) (lines f.1) old out
-              (stands_now (cut ++ f.0) (whole ++ f.0) (stands_more cut whole f.0 stands))
+          (stands_now (cut ++ f.0) (whole ++ f.0) (stands_more cut whole f.0 stands))
           (subst (λ ls. AnswersAll ds rules ls old out) (first_line cut rest f.0 f.1 h f.3 f.2) a))
 
   -- ---- a conversation of which the line that has not ended may be cut
@@ -277,7 +291,7 @@ module _ (ds : List Declaration) (rules : List Rule) where
   none_ended : (cut whole chunk left : List ℕ) (old now : List Operations) (before after : Option (List ℕ))
       → HasNoFeed whole → StandsFor cut whole
       → (a : AnswersChunk ds rules (cut ++ chunk) left old now before after) → a.front ≡ []
-          → HoldsChunk (whole ++ chunk) left old now before after
+      → HoldsChunk (whole ++ chunk) left old now before after
   none_ended cut whole chunk left old now before after g stands a e =
       let are : cut ++ chunk ≡ left = a.are ∙ ap (λ f. f ++ left) e in
       let c : AnswersChunk ds rules (whole ++ chunk) (whole ++ chunk) old now before after =
@@ -295,7 +309,7 @@ module _ (ds : List Declaration) (rules : List Rule) where
   one_ended : (cut whole chunk left bytes : List ℕ) (old now : List Operations) (before after : Option (List ℕ))
       → HasNoFeed cut → HasNoFeed whole → StandsFor cut whole
       → (a : AnswersChunk ds rules (cut ++ chunk) left old now before after) → a.front ≡ bytes ++ 10 ∷ []
-          → HoldsChunk (whole ++ chunk) left old now before after
+      → HoldsChunk (whole ++ chunk) left old now before after
   one_ended cut whole chunk left bytes old now before after h g stands a e =
       let f = feed_later cut chunk bytes left h (a.are ∙ ap (λ l. l ++ left) e ∙ append_assoc bytes (10 ∷ []) left) in
       let c : AnswersChunk ds rules (whole ++ chunk) left old now before after =
@@ -307,7 +321,7 @@ module _ (ds : List Declaration) (rules : List Rule) where
         unended = a.unended;
         answers = λ more tail t.
             let front : a.front ++ more ≡ cut ++ (f.0 ++ 10 ∷ more) = ap (λ l. l ++ more) e
-                ∙ append_assoc bytes (10 ∷ []) more ∙ ap (λ l. l ++ 10 ∷ more) f.1 ∙ append_assoc cut f.0 (10 ∷ more) in
+            ∙ append_assoc bytes (10 ∷ []) more ∙ ap (λ l. l ++ 10 ∷ more) f.1 ∙ append_assoc cut f.0 (10 ∷ more) in
             subst (λ l. AnswersAll ds rules (lines l) old (a.out ++ tail)) (sym (ended_more whole f.0 more))
             (all_for cut whole (f.0 ++ 10 ∷ more) old (a.out ++ tail) h g stands
             (subst (λ l. AnswersAll ds rules (lines l) old (a.out ++ tail)) front (a.answers more tail t)));
@@ -318,7 +332,7 @@ module _ (ds : List Declaration) (rules : List Rule) where
   chunk_for : (cut whole chunk left : List ℕ) (old now : List Operations) (before after : Option (List ℕ))
       → HasNoFeed cut → HasNoFeed whole → StandsFor cut whole
       → AnswersChunk ds rules (cut ++ chunk) left old now before after
-          → HoldsChunk (whole ++ chunk) left old now before after
+      → HoldsChunk (whole ++ chunk) left old now before after
   chunk_for cut whole chunk left old now before after h g stands a = by a.whole
     where
       by : (a.front ≡ []) ⊎ ((bytes : List ℕ) × (a.front ≡ bytes ++ 10 ∷ []))
@@ -330,15 +344,20 @@ module _ (ds : List Declaration) (rules : List Rule) where
   pub holds_first : (first left : List ℕ) (from : Option (List ℕ)) (start now : List Operations)
       (old new : Option (List ℕ)) → AnswersChunk ds rules first left start now old new
       → HoldsRead first from from left start now old new
-  holds_first first left from start now old new a = record { whole = left; stands = stands_itself left; unended =
-      a.unended; read = starts ds rules first left from start now old new a }
+  holds_first first left from start now old new a = record {
+    whole = left;
+    stands = stands_itself left;
+    unended =
+        a.unended;
+    read = starts ds rules first left from start now old new a;
+  }
 
   -- more of them, after which the line that is left is cut
   pub holds_more : (first chunk line left cut : List ℕ) (from to next : Option (List ℕ))
       (start mid now : List Operations) (old middle new : Option (List ℕ))
       → HoldsRead first from to line start mid old middle → Consumes to next chunk
       → AnswersChunk ds rules (line ++ chunk) left mid now middle new → StandsFor cut left → HasNoFeed cut
-          → HoldsRead first from next cut start now old new
+      → HoldsRead first from next cut start now old new
   holds_more first chunk line left cut from to next start mid now old middle new s c a stands unended =
       let held = chunk_for line s.whole chunk left mid now middle new s.unended s.read.chunk.unended s.stands a in
       record {
@@ -353,21 +372,21 @@ module _ (ds : List Declaration) (rules : List Rule) where
       → (first chunk line : List ℕ) (from to next : Option (List ℕ)) (start mid : List Operations)
       (old middle new : Option (List ℕ)) → HoldsRead first from to line start mid old middle
       → Consumes to next chunk → AnswersPart ds rules (line ++ chunk) mid middle new
-          → AnswersInput ds rules first from start (AppendsPart old new)
+      → AnswersInput ds rules first from start (AppendsPart old new)
   holds_part exist lowers first chunk line from to next start mid old middle new s c a =
       let r = s.read in
       let left = some_left from next (r.bytes ++ chunk) (Consumes-trans from to next _ _ r.read c) in
       let tail = exist ds rules lowers (lines (a.rest ++ left.0)) a.now in
       let parts : a.front ++ (a.rest ++ left.0) ≡ line ++ (chunk ++ left.0) = sym (append_assoc a.front a.rest left.0)
-          ∙ ap (λ b. b ++ left.0) (sym a.are) ∙ append_assoc line chunk left.0 in
+      ∙ ap (λ b. b ++ left.0) (sym a.are) ∙ append_assoc line chunk left.0 in
       let all : first ++ ((r.bytes ++ chunk) ++ left.0) ≡ r.chunk.front ++ (s.whole ++ (chunk ++ left.0)) =
       ap (λ b. first ++ b) (append_assoc r.bytes chunk left.0) ∙ sym (append_assoc first r.bytes (chunk ++ left.0))
-          ∙ ap (λ b. b ++ (chunk ++ left.0)) r.chunk.are
+      ∙ ap (λ b. b ++ (chunk ++ left.0)) r.chunk.are
       ∙ append_assoc r.chunk.front s.whole (chunk ++ left.0) in
       let later : AnswersAll ds rules (lines (s.whole ++ (chunk ++ left.0))) mid (a.out ++ tail.0) =
       all_for line s.whole (chunk ++ left.0) mid (a.out ++ tail.0) s.unended r.chunk.unended s.stands
       (subst (λ b. AnswersAll ds rules (lines b) mid (a.out ++ tail.0)) parts
-          (a.answers (a.rest ++ left.0) tail.0 tail.1)) in
+      (a.answers (a.rest ++ left.0) tail.0 tail.1)) in
       record {
         input = (r.bytes ++ chunk) ++ left.0;
         is_read = left.1;

@@ -59,8 +59,14 @@ module _ (rules : List Rule) where
   -- ---- derivations
 
   abbrev step_at : (s : Store) (st : StepValue) → IsApplicable rules s st → IsApplicable bare s st
-  step_at s st h = record { rule = unnamed h.rule; numbered = h.numbered; named =
-      at_unnamed rules (st.rule - 1) h.rule h.named; instance = h.instance; there = h.there }
+  step_at s st h = record {
+    rule = unnamed h.rule;
+    numbered = h.numbered;
+    named =
+        at_unnamed rules (st.rule - 1) h.rule h.named;
+    instance = h.instance;
+    there = h.there;
+  }
 
   takes : (s t : Store) (st : StepValue) → LeadsTo rules st s t → LeadsTo bare st s t
   takes s t st h = (step_at s st h.0, (h.1.0, h.1.1, by_unnamed h.0.rule h.1.0 s t h.1.2))
@@ -90,15 +96,22 @@ module _ (rules : List Rule) where
   side_runs s t st steps h = (h.0, takes s h.0 st h.1, plain_runs steps h.0 t h.2)
 
   joinable : (c : Case) → IsJoinable rules c → IsJoinable bare c
-  joinable c h = record { end = h.end; left = (h.left.0, side_runs c.store h.end c.left h.left.0 h.left.1); right =
-      (h.right.0, side_runs c.store h.end c.right h.right.0 h.right.1) }
+  joinable c h = record {
+    end = h.end;
+    left = (h.left.0, side_runs c.store h.end c.left h.left.0 h.left.1);
+    right =
+        (h.right.0, side_runs c.store h.end c.right h.right.0 h.right.1);
+  }
 
   -- ---- overlaps and cases
 
   are_overlaps : (os : List Overlap) → AreOverlaps rules os → AreOverlaps bare os
   are_overlaps os h = record {
-    each = λ o i. (let is = h.each o i in (is.0, is.1,
-        (is.2.0, is.2.1, overlap_unnamed rules is.0 is.1 o.matching.items is.2.2)));
+    each = λ o i. (let is = h.each o i in (
+      is.0,
+      is.1,
+      (is.2.0, is.2.1, overlap_unnamed rules is.0 is.1 o.matching.items is.2.2),
+    ));
     all = λ o is. h.all o (is.0, is.1, (is.2.0, is.2.1, overlap_named rules is.0 is.1 o.matching.items is.2.2));
     rise = h.rise;
   }
@@ -215,48 +228,88 @@ module _ (rules : List Rule) where
 
   has_joinable : (coverage : Coverage) (o : Overlap) (n : ℕ) → HasJoinableCasesBy coverage rules o n
       → HasJoinableCasesBy coverage bare o n
-  has_joinable coverage o n h = record { cases = h.cases; listed = are_cases_by coverage o h.cases h.listed; joinable =
-      all_joinable h.cases h.joinable; number = h.number }
+  has_joinable coverage o n h = record {
+    cases = h.cases;
+    listed = are_cases_by coverage o h.cases h.listed;
+    joinable =
+        all_joinable h.cases h.joinable;
+    number = h.number;
+  }
 
   have_joinable : (coverage : Coverage) (os : List Overlap) (n : ℕ) → HaveJoinableCasesBy coverage rules os n
       → HaveJoinableCasesBy coverage bare os n
   have_joinable coverage [] n h = h
-  have_joinable coverage (o ∷ os) n h = (h.0, h.1, has_joinable coverage o h.0 h.2, have_joinable coverage os h.1 h.3,
-      h.4)
+  have_joinable coverage (o ∷ os) n h = (
+    h.0,
+    h.1,
+    has_joinable coverage o h.0 h.2,
+    have_joinable coverage os h.1 h.3,
+    h.4,
+  )
 
   is_accepted : (coverage : Coverage) (n : ℕ) → IsAcceptedBy coverage rules n → IsAcceptedBy coverage bare n
-  is_accepted coverage n h = record { overlaps = h.overlaps; listed = are_overlaps h.overlaps h.listed; joinable =
-      have_joinable coverage h.overlaps n h.joinable }
+  is_accepted coverage n h = record {
+    overlaps = h.overlaps;
+    listed = are_overlaps h.overlaps h.listed;
+    joinable =
+        have_joinable coverage h.overlaps n h.joinable;
+  }
 
   is_first : (coverage : Coverage) (o : Overlap) → IsFirstBy coverage rules o → IsFirstBy coverage bare o
   is_first coverage o h = record {
     before = h.before;
     after = h.after;
     listed = are_overlaps (h.before ++ o ∷ h.after) h.listed;
-    joinable = λ k d l. (let j = h.joinable k d l in (j.0, has_joinable coverage
-        (slice_index_or h.before k d) j.0 j.1));
+    joinable = λ k d l. (let j = h.joinable k d l in (
+      j.0,
+      has_joinable coverage
+          (slice_index_or h.before k d) j.0 j.1,
+    ));
   }
 
   is_first_case : (coverage : Coverage) (o : Overlap) (c : Case) → IsFirstCaseBy coverage rules o c
       → IsFirstCaseBy coverage bare o c
-  is_first_case coverage o c h = record { before = h.before; after = h.after; listed =
-      are_cases_by coverage o (h.before ++ c ∷ h.after) h.listed; joinable = all_joinable h.before h.joinable }
+  is_first_case coverage o c h = record {
+    before = h.before;
+    after = h.after;
+    listed =
+        are_cases_by coverage o (h.before ++ c ∷ h.after) h.listed;
+    joinable = all_joinable h.before h.joinable;
+  }
 
   explains : (c : Case) (f : Failure) → Explains rules c f → Explains bare c f
   explains c f h = record {
-    left = record { start = h.left.start; rest = h.left.rest; steps = h.left.steps; runs =
-        side_runs c.store f.left_end c.left h.left.rest h.left.runs };
-    right = record { start = h.right.start; rest = h.right.rest; steps = h.right.steps; runs =
-        side_runs c.store f.right_end c.right h.right.rest h.right.runs };
+    left = record {
+      start = h.left.start;
+      rest = h.left.rest;
+      steps = h.left.steps;
+      runs =
+          side_runs c.store f.left_end c.left h.left.rest h.left.runs;
+    };
+    right = record {
+      start = h.right.start;
+      rest = h.right.rest;
+      steps = h.right.steps;
+      runs =
+          side_runs c.store f.right_end c.right h.right.rest h.right.runs;
+    };
     differ = h.differ;
   }
 
   is_refusal : (coverage : Coverage) (e : Cause) → IsRefusalBy coverage rules e → IsRefusalBy coverage bare e
-  is_refusal coverage (cause.Fails f) h = (is_first coverage f.overlap h.0,
-      record { case = h.1.case; first = is_first_case coverage f.overlap h.1.case h.1.first; explains =
-      explains h.1.case f h.1.explains })
-  is_refusal coverage (cause.TooManyTypes t) h = (is_first coverage t.overlap h.0,
-      too_many_by coverage t.overlap t.classes h.1)
+  is_refusal coverage (cause.Fails f) h = (
+    is_first coverage f.overlap h.0,
+    record {
+      case = h.1.case;
+      first = is_first_case coverage f.overlap h.1.case h.1.first;
+      explains =
+          explains h.1.case f h.1.explains;
+    },
+  )
+  is_refusal coverage (cause.TooManyTypes t) h = (
+    is_first coverage t.overlap h.0,
+    too_many_by coverage t.overlap t.classes h.1,
+  )
   is_refusal coverage cause.Memory h = h
 
   lower : (w : Atom → Weight) → AreLowering w rules → AreLowering w bare
@@ -279,13 +332,20 @@ module _ (rules : List Rule) where
     }
 
     shows : (told : Store) (text : List ℕ) → ShowsNormalForm ds rules told text → ShowsNormalForm ds bare told text
-    shows told text h = record { store = h.store; normal_form = normal_unnamed rules told h.store h.normal_form;
-        text_is = h.text_is }
+    shows told text h = record {
+      store = h.store;
+      normal_form = normal_unnamed rules told h.store h.normal_form;
+      text_is = h.text_is;
+    }
 
     one_shows : (old : List Operations) (r : ℕ) (text : List ℕ) (new : List Operations) (m : Operations)
         → OneAnswers old r (AnswersShow ds rules) text new m → OneAnswers old r (AnswersShow ds bare) text new m
-    one_shows old r text new m h = record { after = h.after; answers =
-        (shows (told_store m) text h.answers.0, h.answers.1); others = h.others }
+    one_shows old r text new m h = record {
+      after = h.after;
+      answers =
+          (shows (told_store m) text h.answers.0, h.answers.1);
+      others = h.others;
+    }
 
     answers_show : (old : List Operations) (r : ℕ) (text : List ℕ) (new : List Operations)
         → AnswersAt old r (AnswersShow ds rules) text new → AnswersAt old r (AnswersShow ds bare) text new
@@ -318,9 +378,9 @@ module _ (rules : List Rule) where
         by : (b : Bool) → MatchBool b (AnswersAll ds rules ls old out)
             (AnswersFirst ds rules old (without_return l) out (AnswersAll ds rules ls))
             → ((now : List Operations) (rest : List ℕ) → AnswersAll ds rules ls now rest
-                → AnswersAll ds bare ls now rest)
+            → AnswersAll ds bare ls now rest)
             → MatchBool b (AnswersAll ds bare ls old out)
-                (AnswersFirst ds bare old (without_return l) out (AnswersAll ds bare ls))
+            (AnswersFirst ds bare old (without_return l) out (AnswersAll ds bare ls))
         by true h more = more old out h
         by false h more = record {
           text = h.text;
@@ -345,11 +405,22 @@ module _ (rules : List Rule) where
 pub output_unnamed : (ds : List Declaration) (rules : List Rule) (wanted : Wanted) (commands : List (List ℕ))
     (status : Status) (out : List ℕ)
     → IsRulesOutput ds rules wanted commands status out
-        → IsRulesOutput ds (map unnamed rules) wanted commands status out
+    → IsRulesOutput ds (map unnamed rules) wanted commands status out
 output_unnamed ds rules wanted commands Accepted out h = answered rules ds wanted commands out h
 output_unnamed ds rules wanted commands Refused out (inl h) =
-    inl (record { rule = h.rule; before = h.before; after = h.after; first =
-    first_not_lowered rules ds h.rule h.before h.after h.first; out_is = h.out_is })
+    inl (record {
+      rule = h.rule;
+      before = h.before;
+      after = h.after;
+      first =
+          first_not_lowered rules ds h.rule h.before h.after h.first;
+      out_is = h.out_is;
+    })
 output_unnamed ds rules wanted commands Refused out (inr h) =
-    inr (record { lowers = lower rules (weight_by ds) h.lowers; cause = h.cause; first =
-    is_refusal rules wanted.coverage h.cause h.first; line = h.line })
+    inr (record {
+      lowers = lower rules (weight_by ds) h.lowers;
+      cause = h.cause;
+      first =
+          is_refusal rules wanted.coverage h.cause h.first;
+      line = h.line;
+    })

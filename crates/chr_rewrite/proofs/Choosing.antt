@@ -40,7 +40,7 @@ free_beyond : (n i : ℕ) (taken : List ℕ) (xs : List Atom) (q : Atom) → i <
 free_beyond n i taken [] q h = refl
 free_beyond n i taken (x ∷ xs) q h =
     let e : is_taken n (taken ++ i ∷ []) ≡ is_taken n taken = taken_more i n taken
-        ∙ other (nat_eq i n) (is_taken n taken) (λ t. absurd (let f = eqb-true i n t in omega (arith, f, h))) in
+    ∙ other (nat_eq i n) (is_taken n taken) (λ t. absurd (let f = eqb-true i n t in omega (arith, f, h))) in
     let more = free_beyond (suc n) i taken xs q (omega (arith, h)) in
     λ k. cond (e k) 0 (cond (eq_by_cmp atom_cmp q x) 1 0) + more k
   where
@@ -53,13 +53,13 @@ free_beyond n i taken (x ∷ xs) q h =
 pub free_taken : (n i : ℕ) (taken : List ℕ) (xs : List Atom) (d q : Atom) → i < length xs → is_taken (n + i) taken
     ≡ false
     → cond (eq_by_cmp atom_cmp q (get_or xs i d)) 1 0 + free_from n (taken ++ (n + i) ∷ []) xs q
-        ≡ free_from n taken xs q
+    ≡ free_from n taken xs q
 free_taken n i taken [] d q h g = absurd (omega (arith, h))
 free_taken n zero taken (x ∷ xs) d q h g =
     let z : n + 0 ≡ n = omega arith in
     let g' : is_taken n taken ≡ false = ap (λ m. is_taken m taken) (sym z) ∙ g in
     let t : is_taken n (taken ++ n ∷ []) ≡ true = taken_more n n taken
-        ∙ (let e : nat_eq n n ≡ true = eq-eqb n n refl in rw (e, g') refl) in
+    ∙ (let e : nat_eq n n ≡ true = eq-eqb n n refl in rw (e, g') refl) in
     let more = free_beyond (suc n) n taken xs q (omega arith) in
     rw (z, t, g') (omega (arith, more))
 free_taken n (suc i) taken (x ∷ xs) d q h g =
@@ -67,8 +67,8 @@ free_taken n (suc i) taken (x ∷ xs) d q h g =
     let g' : is_taken (suc n + i) taken ≡ false = ap (λ m. is_taken m taken) (sym z) ∙ g in
     let more = free_taken (suc n) i taken xs d q (omega (arith, h)) g' in
     let t : is_taken n (taken ++ (suc n + i) ∷ []) ≡ is_taken n taken = taken_more (suc n + i) n taken
-        ∙ other (nat_eq (suc n + i) n) (is_taken n taken)
-        (λ t. absurd (let f = eqb-true (suc n + i) n t in omega (arith, f))) in
+    ∙ other (nat_eq (suc n + i) n) (is_taken n taken)
+    (λ t. absurd (let f = eqb-true (suc n + i) n t in omega (arith, f))) in
     rw (z, t) (omega (arith, more))
   where
     other : (b a : Bool) → (b ≡ true → ⊥) → (a || (b || false)) ≡ a
@@ -89,12 +89,16 @@ free_index n taken (x ∷ xs) d q h = by (is_taken n taken) refl (eq_by_cmp atom
 
     later : (i : ℕ) × (i < length xs) × (is_taken (suc n + i) taken ≡ false)
         × (eq_by_cmp atom_cmp q (get_or xs i d) ≡ true) → Found
-    later w = (suc w.0, (let a = w.1 in omega (arith, a)),
-        (let z : n + suc w.0 ≡ suc n + w.0 = omega arith in ap (λ m. is_taken m taken) z ∙ w.2), w.3)
+    later w = (
+      suc w.0,
+      (let a = w.1 in omega (arith, a)),
+      (let z : n + suc w.0 ≡ suc n + w.0 = omega arith in ap (λ m. is_taken m taken) z ∙ w.2),
+      w.3,
+    )
 
     by : (t : Bool) → is_taken n taken ≡ t → (b : Bool) → eq_by_cmp atom_cmp q x ≡ b
         → (0 < free_from (suc n) taken xs q → (i : ℕ) × (i < length xs) × (is_taken (suc n + i) taken ≡ false)
-            × (eq_by_cmp atom_cmp q (get_or xs i d) ≡ true)) → Found
+        × (eq_by_cmp atom_cmp q (get_or xs i d) ≡ true)) → Found
     by true e b f more = later (more (let g : 0 < cond true 0 (cond (eq_by_cmp atom_cmp q x) 1 0) + free_from
         (suc n) taken xs q = rw e at h in omega (arith, g)))
     by false e true f more = (0, omega arith, (let z : n + 0 ≡ n = omega arith in ap (λ m. is_taken m taken) z ∙ e), f)
@@ -107,14 +111,14 @@ pub choice_within : (items : List Atom) (taken is : List ℕ) (q : Atom) → is_
 choice_within items taken [] q h = omega arith
 choice_within items taken (i ∷ is) q h =
     let two : (nat_lt i (length items) && not (is_taken i taken)) ≡ true =
-        (and_parts _ (is_choice items (taken ++ i ∷ []) is) h).0 in
+    (and_parts _ (is_choice items (taken ++ i ∷ []) is) h).0 in
     let rest : is_choice items (taken ++ i ∷ []) is ≡ true =
-        (and_parts (nat_lt i (length items) && not (is_taken i taken)) _ h).1 in
+    (and_parts (nat_lt i (length items) && not (is_taken i taken)) _ h).1 in
     let l : nat_lt i (length items) ≡ true = (and_parts _ (not (is_taken i taken)) two).0 in
     let fresh : is_taken i taken ≡ false = not-true _ (and_parts (nat_lt i (length items)) _ two).1 in
     let within : i < length items = grind (arith, nat_tests) in
     let here = free_taken 0 i taken items no_atom q within
-        (let z : 0 + i ≡ i = omega arith in ap (λ m. is_taken m taken) z ∙ fresh) in
+    (let z : 0 + i ≡ i = omega arith in ap (λ m. is_taken m taken) z ∙ fresh) in
     let z : 0 + i ≡ i = omega arith in
     let here' = rw z at here in
     let more = choice_within items (taken ++ i ∷ []) is q rest in
@@ -137,14 +141,16 @@ choose items taken (a ∷ heads) h =
     let more = choose items (taken ++ w.0 ∷ []) heads (λ q.
     (let here = free_taken 0 w.0 taken items no_atom q w.1 w.2 in
     let here' : cond (eq_by_cmp atom_cmp q (get_or items w.0 no_atom)) 1 0 + free_from 0 (taken ++ w.0 ∷ []) items q
-        ≡ free_from 0 taken items q = rw z at here in
+    ≡ free_from 0 taken items q = rw z at here in
     let l : cond (eq_by_cmp atom_cmp q (get_or items w.0 no_atom)) 1 0 + count_in atom_cmp q heads ≤ free_from 0 taken
-        items q = rw (← is) (h q) in
+    items q = rw (← is) (h q) in
     omega (arith, here', l))) in
-    let within : nat_lt w.0 (length items) ≡ true = (let l = w.1 in grind (arith, nat_tests)) in
-    (w.0 ∷ more.0, and_from (nat_lt w.0 (length items) && not (is_taken w.0 taken))
-        (is_choice items (taken ++ w.0 ∷ []) more.0) (and_from _ _ within (not_from_false _ fresh)) more.1,
-        (λ k. sym is k ∷ more.2 k))
+    let within : nat_lt w.0 (length items) ≡ true = (let l = w.1 in grind (arith, nat_tests)) in (
+      w.0 ∷ more.0,
+      and_from (nat_lt w.0 (length items) && not (is_taken w.0 taken))
+          (is_choice items (taken ++ w.0 ∷ []) more.0) (and_from _ _ within (not_from_false _ fresh)) more.1,
+      (λ k. sym is k ∷ more.2 k),
+    )
 
 -- each index of a choice is within the list
 pub choice_index : (items : List Atom) (taken is : List ℕ) (n : ℕ) → is_choice items taken is ≡ true → n < length is
@@ -152,7 +158,7 @@ pub choice_index : (items : List Atom) (taken is : List ℕ) (n : ℕ) → is_ch
 choice_index items taken [] n h l = absurd (omega (arith, l))
 choice_index items taken (i ∷ is) zero h l =
     let t : nat_lt i (length items) ≡ true = (and_parts _ _
-        (and_parts _ (is_choice items (taken ++ i ∷ []) is) h).0).0 in
+    (and_parts _ (is_choice items (taken ++ i ∷ []) is) h).0).0 in
     grind (arith, nat_tests)
 choice_index items taken (i ∷ is) (suc n) h l = choice_index items (taken ++ i ∷ []) is n
     (and_parts (nat_lt i (length items) && not (is_taken i taken)) _ h).1 (omega (arith, l))
@@ -176,4 +182,4 @@ choice_more items taken [] i h l f =
 choice_more items taken (j ∷ is) i h l f =
     and_from _ _ (and_parts _ (is_choice items (taken ++ j ∷ []) is) h).0
     (choice_more items (taken ++ j ∷ []) is i (and_parts (nat_lt j (length items) && not (is_taken j taken)) _ h).1 l
-        (subst (λ xs. is_taken i xs ≡ false) (sym (append_assoc taken (j ∷ []) is)) f))
+    (subst (λ xs. is_taken i xs ≡ false) (sym (append_assoc taken (j ∷ []) is)) f))

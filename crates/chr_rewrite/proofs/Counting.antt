@@ -60,7 +60,7 @@ count_itself a = rw (tied_itself atom_total a) refl
 -- an atom that is missing stands in the list too seldom
 pub missing : (xs ys as' : List Atom) (i : ℕ) (a : Atom) → i < length as' → a ≡ get_or as' i a
     → ((q : Atom) → count_in atom_cmp q xs ≡ count_in atom_cmp q ys + count_in atom_cmp q (take i as'))
-        → count_in atom_cmp a ys ≡ 0
+    → count_in atom_cmp a ys ≡ 0
     → (q : Atom) × (count_in atom_cmp q xs < count_in atom_cmp q as')
 missing xs ys as' i a l is h z =
     let b = count_in_more atom_cmp a as' i a l in
@@ -102,7 +102,7 @@ not_within xs as' w h = let a = lists_within atom_total as' xs h w.0 in let b = 
 pub taken_there : (b : Bool) (xs ys as' : List Atom) → OnTrue b
     ((q : Atom) → count_in atom_cmp q xs ≡ count_in atom_cmp q ys + count_in atom_cmp q as')
     → OnFalse b ((q : Atom) × (count_in atom_cmp q xs < count_in atom_cmp q as')) → IsTrue b ↔ IsWithin (store_of as')
-        (store_of xs)
+    (store_of xs)
 taken_there true xs ys as' h g = (λ _. store_within xs ys as' h, λ _. refl)
 taken_there false xs ys as' h g = (λ e. absurd (true≢false (sym e)), λ w. absurd (not_within xs as' g w))
 
@@ -118,8 +118,8 @@ on_false false A B h f = f h
 pub taken_all : (b : Bool) (xs ys as' : List Atom) → OnTrue b
     ((q : Atom) → count_in atom_cmp q xs ≡ count_in atom_cmp q ys + count_in atom_cmp q as')
     → OnFalse b ((q : Atom) × (count_in atom_cmp q xs < count_in atom_cmp q as'))
-        → IsWithin (store_of as') (store_of xs) → (q : Atom) → count_in atom_cmp q xs
-        ≡ count_in atom_cmp q ys + count_in atom_cmp q as'
+    → IsWithin (store_of as') (store_of xs) → (q : Atom) → count_in atom_cmp q xs
+    ≡ count_in atom_cmp q ys + count_in atom_cmp q as'
 taken_all true xs ys as' h g w = h
 taken_all false xs ys as' h g w = absurd (not_within xs as' g w)
 

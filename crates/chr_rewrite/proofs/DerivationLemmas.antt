@@ -26,9 +26,9 @@ use Rattle.chr_rewrite.specs.Derivations.{IsPlainDerivation, IsPlainComputation,
 pub StepOn-once : (r : Rule) (heads : List Atom) (s t u : Store) → StepOn r heads s t → StepOn r heads s u → t ≡ u
 StepOn-once r heads s t u h g =
     let left : atoms_at h.0 r.removed.items ≡ atoms_at g.0 r.removed.items = sym (removed_heads r heads h.0 h.1)
-        ∙ removed_heads r heads g.0 g.1 in
+    ∙ removed_heads r heads g.0 g.1 in
     let came : atoms_at h.0 r.body.items ≡ atoms_at g.0 r.body.items = sym (body_is r heads h.0 h.1)
-        ∙ body_is r heads g.0 g.1 in
+    ∙ body_is r heads g.0 g.1 in
     h.2.after ∙ (λ i. (s ⊖ store_of (left i)) ⊕ store_of (came i)) ∙ sym g.2.after
 
 pub LeadsTo-steps : (rules : List Rule) (st : StepValue) (s t : Store) → LeadsTo rules st s t → Step rules s t
@@ -81,7 +81,7 @@ not_before : (rules : List Rule) (s : Store) (x y : StepValue) → IsLeastStep r
 not_before rules s x y h g l =
     let n = h.at.numbered in
     instance_steps h.at.rule x.heads.items s h.at.instance h.at.there
-        (g.least_rule (x.rule - 1) h.at.rule (omega (arith, n, l)) h.at.named)
+    (g.least_rule (x.rule - 1) h.at.rule (omega (arith, n, l)) h.at.named)
 
 -- and have the same heads
 same_tuple : (r : Rule) (s : Store) (xs ys : List Atom) → HasInstance r xs → IsWithin (store_of xs) s
@@ -98,13 +98,13 @@ pub least_once : (rules : List Rule) (s : Store) (x y : StepValue) → IsLeastSt
     → x ≡ y
 least_once rules s x y h g =
     let number : x.rule ≡ y.rule = (let a = not_before rules s x y h g in let b = not_before rules s y x g h in
-        omega (arith, a, b)) in
+    omega (arith, a, b)) in
     let rule : h.at.rule ≡ g.at.rule = same_rule rules (y.rule - 1) h.at.rule g.at.rule
-        (ap (λ n. slice_get rules (n - 1)) (sym number) ∙ h.at.named) g.at.named in
+    (ap (λ n. slice_get rules (n - 1)) (sym number) ∙ h.at.named) g.at.named in
     let heads : x.heads.items ≡ y.heads.items =
     same_tuple g.at.rule s x.heads.items y.heads.items (subst (λ r. HasInstance r x.heads.items) rule h.at.instance)
-        h.at.there (subst (λ r. IsLeastInstance r s x.heads.items) rule h.least_heads) g.at.instance g.at.there
-        g.least_heads in
+    h.at.there (subst (λ r. IsLeastInstance r s x.heads.items) rule h.least_heads) g.at.instance g.at.there
+    g.least_heads in
     λ i. record { rule = number i; heads = record { items = heads i } }
 
 -- a store has one plain derivation
@@ -118,9 +118,9 @@ plain_once rules (x ∷ xs) [] s t u h g = absurd (subst (λ x. IsAtRest (Step r
 plain_once rules (x ∷ xs) (y ∷ ys) s t u h g =
     let same : x ≡ y = least_once rules s x y h.0.1 g.0.1 in
     let next : h.0.0 ≡ g.0.0 = LeadsTo-once rules y s h.0.0 g.0.0 (subst (λ st. LeadsTo rules st s h.0.0) same h.0.2)
-        g.0.2 in
+    g.0.2 in
     let more = plain_once rules xs ys g.0.0 t u (subst (λ z. IsPlainDerivation rules xs z t) next h.0.3, h.1)
-        (g.0.3, g.1) in
+    (g.0.3, g.1) in
     (λ i. same i ∷ more.0 i, more.1)
 
 -- what stops at some place has no end
@@ -133,5 +133,10 @@ stops_endless rules (st ∷ steps) s zero h t g =
     h.4 (subst (λ x. IsApplicable rules x h.1) h.2 (subst (λ x. IsApplicable rules s x) same g.1.0))
 stops_endless rules (st ∷ steps) s (suc n) h t g =
     let same = LeadsTo-once rules st s h.2.0 g.0 h.2.1 g.1 in
-    stops_endless rules steps g.0 n (h.0, h.1, subst (λ x. IsDerivation rules (take n steps) x h.0) same h.2.2, h.3,
-        h.4) t g.2
+    stops_endless rules steps g.0 n (
+      h.0,
+      h.1,
+      subst (λ x. IsDerivation rules (take n steps) x h.0) same h.2.2,
+      h.3,
+      h.4,
+    ) t g.2

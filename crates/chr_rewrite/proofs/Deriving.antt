@@ -31,14 +31,21 @@ use Rattle.chr_rewrite.proofs.StepCounts.{one_lowers}
 pub fired_bag : (r : Rule) (heads gone body : List Atom) (s t u : Store) (b : Bool) → HasInstance r heads
     → IsWithin (store_of heads) s → gone ≡ drop (length r.kept.items) heads
     → IsTrue b ↔ IsWithin (store_of gone) s → OnTrue b (t ≡ s ⊖ store_of gone)
-        → ((v : Valuation) → heads_at v r ≡ heads → body ≡ atoms_at v r.body.items) → u ≡ t ⊕ store_of body
-        → StepOn r heads s u
+    → ((v : Valuation) → heads_at v r ≡ heads → body ≡ atoms_at v r.body.items) → u ≡ t ⊕ store_of body
+    → StepOn r heads s u
 fired_bag r heads gone body s t u b h w e there taken made came =
     let v = h.0 in
     let taken' : t ≡ s ⊖ store_of gone = OnTrue_at (there.1 (rw e (removed_within r heads s h w))) taken in
-    let left : gone ≡ atoms_at v r.removed.items = e ∙ removed_heads r heads v h.1 in
-    (v, h.1, record { guard = h.2; there = rw h.1 w; after = came ∙ ap (λ z. z ⊕ store_of body) taken'
-        ∙ (λ i. (s ⊖ store_of (left i)) ⊕ store_of (made v h.1 i)) })
+    let left : gone ≡ atoms_at v r.removed.items = e ∙ removed_heads r heads v h.1 in (
+      v,
+      h.1,
+      record {
+        guard = h.2;
+        there = rw h.1 w;
+        after = came ∙ ap (λ z. z ⊕ store_of body) taken'
+            ∙ (λ i. (s ⊖ store_of (left i)) ⊕ store_of (made v h.1 i));
+      },
+    )
 
 in_order : (s : Store) (xs : List Atom) → xs ≡ bag.items s → IsTrue (bag.is_rising atom_cmp xs)
 in_order s xs e = rw e (bag_laws.is_true _ (bag_laws.items_rise s))
@@ -50,7 +57,7 @@ its_atoms s xs e = ap store_of e ∙ store_of-items s
 pub least_of : (rules : List Rule) (i : ℕ) (r : Rule) (s : Store) (xs : List Atom) (st : StepValue) → i < length rules
     → r ≡ get_or rules i r → xs ≡ bag.items s → ((k : ℕ) (d : Rule) → k < i → HasNoStep (get_or rules k d) s)
     → st.rule ≡ i + 1 → HasInstance r st.heads.items → IsWithin (store_of st.heads.items) (store_of xs)
-        → (IsTrue (bag.is_rising atom_cmp xs) → IsLeastInstance r (store_of xs) st.heads.items) → IsLeastStep rules s st
+    → (IsTrue (bag.is_rising atom_cmp xs) → IsLeastInstance r (store_of xs) st.heads.items) → IsLeastStep rules s st
 least_of rules i r s xs st l is e below number h w least = record {
   at = record {
     rule = r;
@@ -106,14 +113,17 @@ LeadsTo-lowers p rules st s t lowers same h = one_lowers p rules s t lowers same
 -- the step was taken by its rule
 pub took_step : (rules : List Rule) (st : StepValue) (s t : Store) (r : Rule) → IsLeastStep rules s st
     → r ≡ get_or rules (st.rule - 1) r → StepOn r st.heads.items s t → LeadsTo rules st s t
-took_step rules st s t r h is step = (h.at, subst (λ q. StepOn q st.heads.items s t)
-    (rule_there rules s st r h.at is) step)
+took_step rules st s t r h is step = (
+  h.at,
+  subst (λ q. StepOn q st.heads.items s t)
+      (rule_there rules s st r h.at is) step,
+)
 
 -- the step was taken by the rule that it names
 pub took_there : (rules : List Rule) (st : StepValue) (r : Rule) (s t : Store) → (st.rule ≡ 0 → ⊥)
     → st.rule - 1 < length rules → r ≡ get_or rules (st.rule - 1) r
     → HasInstance r st.heads.items → IsWithin (store_of st.heads.items) s → StepOn r st.heads.items s t
-        → LeadsTo rules st s t
+    → LeadsTo rules st s t
 took_there rules st r s t some l is h w step = (
   record {
     rule = r;
@@ -131,17 +141,22 @@ pub IsDerivation-next : (rules rules' : List Rule) (steps : List StepValue) (i :
     → b ≡ true → OnTrue b (LeadsTo rules' st t u) → IsDerivation rules (take (i + 1) steps) s u
 IsDerivation-next rules rules' steps i st s t u b same l is h yes' takes =
     let next : take (i + 1) steps ≡ take i steps ++ st ∷ [] = take_more steps i st l ∙ ap (λ y. take i steps ++ y ∷ [])
-        (sym is) in
+    (sym is) in
     rw next (IsDerivation-push rules (take i steps) st s t u h
-        (subst (λ rs. LeadsTo rs st t u) same (OnTrue_at yes' takes)))
+    (subst (λ rs. LeadsTo rs st t u) same (OnTrue_at yes' takes)))
 
 -- the step at a place is no instance there
 pub stops_here : (rules rules' : List Rule) (steps : List StepValue) (i : ℕ) (st : StepValue) (s t : Store) (b : Bool)
     → rules' ≡ rules → i < length steps → st ≡ get_or steps i st → IsDerivation rules (take i steps) s t
     → b ≡ false → OnFalse b (IsApplicable rules' t st → ⊥) → IsFirstInapplicable rules steps s i
-stops_here rules rules' steps i st s t b same l is h missed none =
-    (t, st, h, slice_get_read steps (length steps) i st refl l is, subst (λ rs. IsApplicable rs t st → ⊥) same
-        (OnFalse_at missed none))
+stops_here rules rules' steps i st s t b same l is h missed none = (
+  t,
+  st,
+  h,
+  slice_get_read steps (length steps) i st refl l is,
+  subst (λ rs. IsApplicable rs t st → ⊥) same
+      (OnFalse_at missed none),
+)
 
 -- what a search for the next step found, and what was done then
 module _ (p : Program) (rules : List Rule) (same : rules ≡ rules_of p) where
@@ -154,8 +169,11 @@ module _ (p : Program) (rules : List Rule) (same : rules ≡ rules_of p) where
       → IfSome o (λ st. LeadsTo rules st t u) → (steps : List StepValue) × IsPlainDerivation (rules_of p) steps s t
       → (steps : List StepValue) × IsPlainDerivation (rules_of p) steps s u
   found_more None s t u e h g w = absurd (true≢false (sym e))
-  found_more (Some st) s t u e h g w = (w.0 ++ st ∷ [], IsPlainDerivation-push (rules_of p) w.0 st s t u w.1
-      (subst (λ rs. IsLeastStep rs t st) same h) (subst (λ rs. LeadsTo rs st t u) same g))
+  found_more (Some st) s t u e h g w = (
+    w.0 ++ st ∷ [],
+    IsPlainDerivation-push (rules_of p) w.0 st s t u w.1
+        (subst (λ rs. IsLeastStep rs t st) same h) (subst (λ rs. LeadsTo rs st t u) same g),
+  )
 
   pub at_end : (o : Option StepValue) (s t u : Store) → is_some o ≡ false → IfNone o (IsAtRest (Step rules) t)
       → IfNone o (u ≡ t) → (steps : List StepValue) × IsPlainDerivation (rules_of p) steps s t

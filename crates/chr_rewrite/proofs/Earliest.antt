@@ -40,7 +40,7 @@ stands_before [] i j h l m e = absurd (omega (arith, l))
 stands_before (x ∷ xs) zero zero h l m e = absurd (let t : Equal ≡ Less = sym (tied_itself atom_total x) ∙ e in cc)
 stands_before (x ∷ xs) zero (suc j) h l m e =
     absurd (not_above x xs j (and_parts _ (is_rising atom_cmp xs) h).0 (omega (arith, m))
-        (atom_total.antisymm x (get_or xs j no_atom) ∙ ap ordering_reverse e))
+    (atom_total.antisymm x (get_or xs j no_atom) ∙ ap ordering_reverse e))
 stands_before (x ∷ xs) (suc i) zero h l m e = omega arith
 stands_before (x ∷ xs) (suc i) (suc j) h l m e = let f =
     stands_before xs i j (and_parts (none_below atom_cmp x xs) _ h).1 (omega (arith, l)) (omega (arith, m)) e in
@@ -55,7 +55,7 @@ index_within : (items : List Atom) (taken is : List ℕ) (i : ℕ) → is_choice
     → i < length items
 index_within items taken is i c =
     let t : nat_lt i (length items) ≡ true = (and_parts _ _
-        (and_parts _ (is_choice items (taken ++ i ∷ []) is) c).0).0 in
+    (and_parts _ (is_choice items (taken ++ i ∷ []) is) c).0).0 in
     grind (arith, nat_tests)
 
 -- what is free and comes before a choice can be chosen before it
@@ -67,7 +67,7 @@ chosen_before items taken (i ∷ is) [] rising c e free = ([], refl, refl, refl)
 chosen_before items taken [] (a ∷ heads) rising c e free = absurd (let t : Greater ≡ Less = e in cc)
 chosen_before items taken (i ∷ is) (a ∷ heads) rising c e free =
     by (atom_cmp a (get_or items i no_atom)) refl (λ f g. chosen_before items (taken ++ i ∷ []) is heads rising rest f
-        g)
+    g)
   where
     two : (nat_lt i (length items) && not (is_taken i taken)) ≡ true
     two = (and_parts _ (is_choice items (taken ++ i ∷ []) is) c).0
@@ -82,7 +82,7 @@ chosen_before items taken (i ∷ is) (a ∷ heads) rising c e free =
         let q : get_or items j no_atom ∷ chosen_atoms items js ≡ a ∷ heads = p in
         let same : get_or items j no_atom ≡ a = cc in
         let l = stands_before items i j rising (index_within items taken is i c) (index_within items taken js j d)
-            (ap (λ x. atom_cmp x (get_or items i no_atom)) same ∙ less) in
+        (ap (λ x. atom_cmp x (get_or items i no_atom)) same ∙ less) in
         let f : nat_cmp j i ≡ Less = sym (nat_cmp_is j i Less l) in
         (j ∷ js, d, p, ap (λ o. ordering_then o (slice_cmp nat_cmp js is)) f)
 
@@ -90,9 +90,13 @@ chosen_before items taken (i ∷ is) (a ∷ heads) rising c e free =
         → ChosenBefore items taken (i ∷ is) (a ∷ heads)
     later equal w =
         let same = atom_exact a (get_or items i no_atom) equal in
-        let f : nat_cmp i i ≡ Equal = tied_itself nat_cmp_total i in
-        (i ∷ w.0, and_from (nat_lt i (length items) && not (is_taken i taken)) (is_choice items (taken ++ i ∷ []) w.0)
-            two w.1, (λ k. sym same k ∷ w.2 k), ap (λ o. ordering_then o (slice_cmp nat_cmp w.0 is)) f ∙ w.3)
+        let f : nat_cmp i i ≡ Equal = tied_itself nat_cmp_total i in (
+          i ∷ w.0,
+          and_from (nat_lt i (length items) && not (is_taken i taken)) (is_choice items (taken ++ i ∷ []) w.0)
+              two w.1,
+          (λ k. sym same k ∷ w.2 k),
+          ap (λ o. ordering_then o (slice_cmp nat_cmp w.0 is)) f ∙ w.3,
+        )
 
     left : atom_cmp a (get_or items i no_atom) ≡ Equal → (q : Atom) → count_in atom_cmp q heads ≤ free_from 0
         (taken ++ i ∷ []) items q
@@ -101,11 +105,11 @@ chosen_before items taken (i ∷ is) (a ∷ heads) rising c e free =
         let z : 0 + i ≡ i = omega arith in
         let fresh : is_taken i taken ≡ false = not-true _ (and_parts (nat_lt i (length items)) _ two).1 in
         let here = free_taken 0 i taken items no_atom q (index_within items taken is i c)
-            (ap (λ m. is_taken m taken) z ∙ fresh) in
+        (ap (λ m. is_taken m taken) z ∙ fresh) in
         let here' : cond (eq_by_cmp atom_cmp q (get_or items i no_atom)) 1 0 + free_from 0 (taken ++ i ∷ []) items q
-            ≡ free_from 0 taken items q = rw z at here in
+        ≡ free_from 0 taken items q = rw z at here in
         let l : cond (eq_by_cmp atom_cmp q (get_or items i no_atom)) 1 0 + count_in atom_cmp q heads ≤ free_from 0 taken
-            items q = rw (← same) (free q) in
+        items q = rw (← same) (free q) in
         omega (arith, here', l)
 
     by : (o : Ordering) → atom_cmp a (get_or items i no_atom) ≡ o
@@ -124,11 +128,11 @@ pub least_found : (r : Rule) (items : List Atom) (is : List ℕ) → is_choice i
     is → is_rising atom_cmp items ≡ true → IsLeastInstance r (store_of items) (chosen_atoms items is)
 least_found r items is c first rising others e h w =
     let free : (q : Atom) → count_in atom_cmp q others ≤ free_from 0 [] items q =
-        (λ q. (let a = lists_within atom_total others items w q in let b = free_none 0 items q in
-        omega (arith, a, b))) in
+    (λ q. (let a = lists_within atom_total others items w q in let b = free_none 0 items q in
+    omega (arith, a, b))) in
     let found = chosen_before items [] is others rising c e free in
     first.none found.0 (subst (λ js. slice_cmp nat_cmp found.0 js ≡ Less) first.whole found.3) found.1
-        (subst (HasInstance r) (sym found.2) h)
+    (subst (HasInstance r) (sym found.2) h)
 
 -- as many were chosen as there are places
 pub first_itself : (r : Rule) (items : List Atom) (is : List ℕ) → IsFirstChoice r items is is
@@ -163,8 +167,8 @@ first_of_next r items is js n below short first = record {
     by k ks Equal f e c h =
         let same : k ≡ n = ranked k n Equal (sym f) in
         at ks (ap (λ o. ordering_then o (slice_cmp nat_cmp ks first.more)) (sym f) ∙ e)
-            (subst (λ m. IsTrue (is_choice items is (m ∷ ks))) same c)
-            (subst (λ m. HasInstance r (chosen_atoms items (is ++ m ∷ ks))) same h)
+        (subst (λ m. IsTrue (is_choice items is (m ∷ ks))) same c)
+        (subst (λ m. HasInstance r (chosen_atoms items (is ++ m ∷ ks))) same h)
     by k ks Greater f e c h = let t : Greater ≡ Less = ap (λ o. ordering_then o (slice_cmp nat_cmp ks first.more))
         (sym f) ∙ e in cc
 

@@ -49,8 +49,13 @@ module _ (r : Rule) (items : List Atom) where
           omega (arith, a, b, l)
 
       by : (b : Bool) → fires r (chosen_atoms items is) ≡ b → Searched is
-      by true e = inl (record { indices = is; choice = c; first = first_itself r items is; instance =
-          fires_sound r (chosen_atoms items is) e })
+      by true e = inl (record {
+        indices = is;
+        choice = c;
+        first = first_itself r items is;
+        instance =
+            fires_sound r (chosen_atoms items is) e;
+      })
       by false e = inr (λ js d h. other e js h)
 
   -- the next index is tried from n on
@@ -65,8 +70,13 @@ module _ (r : Rule) (items : List Atom) where
       longer = let a = length-append is (n ∷ []) in omega (arith, a)
 
       after : Searched (is ++ n ∷ []) → (NoneBelow r items is (n + 1) → Searched is) → Searched is
-      after (inl w) more = inl (record { indices = w.indices; choice = w.choice; first =
-          first_of_next r items is w.indices n below short w.first; instance = w.instance })
+      after (inl w) more = inl (record {
+        indices = w.indices;
+        choice = w.choice;
+        first =
+            first_of_next r items is w.indices n below short w.first;
+        instance = w.instance;
+      })
       after (inr none) more = more (tried_chosen r items is n below none)
 
       by : (b : Bool) → list_any (λ j. nat_eq j n) is ≡ b → (NoneBelow r items is (n + 1) → Searched is) → Searched is
@@ -78,7 +88,7 @@ module _ (r : Rule) (items : List Atom) where
   search zero is e c = whole is (omega (arith, e)) c
   search (suc k) is e c =
       next is (λ f. omega (arith, e, f)) c (λ js l d. search k js (omega (arith, e, l)) d) (length items) 0
-          (omega arith)
+      (omega arith)
       (λ i l. absurd (omega (arith, l)))
 
 -- ---- all rules
@@ -118,10 +128,13 @@ module _ (rules : List Rule) (s : Store) where
           → (NoneBefore (i + 1) → TakesLeast rules s ⊎ IsAtRest (Step rules) s) → TakesLeast rules s
           ⊎ IsAtRest (Step rules) s
       here r is (inl w) more =
-          let st : StepValue = record { rule = i + 1; heads =
-              record { items = chosen_atoms (bag.items s) w.indices } } in
+          let st : StepValue = record {
+            rule = i + 1;
+            heads =
+                record { items = chosen_atoms (bag.items s) w.indices };
+          } in
           inl (takes rules s st (least_of rules i r s (bag.items s) st within is refl below refl w.instance
-              (choice_there (bag.items s) w.indices w.choice)
+          (choice_there (bag.items s) w.indices w.choice)
           (λ rising. least_found r (bag.items s) w.indices w.choice w.first rising)))
       here r is (inr none) more = more (no_step_more rules i r s (bag.items s) within is refl below
           (none_found r (bag.items s) none))

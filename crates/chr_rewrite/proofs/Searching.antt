@@ -31,7 +31,7 @@ choice_there items is h = within_lists atom_total (chosen_atoms items is) items
 pub none_found : (r : Rule) (items : List Atom) → NoCompletion r items [] → HasNoStep r (store_of items)
 none_found r items none v t st =
     let w = choose items [] (heads_at v r) (λ q. (let a = lists_within atom_total (heads_at v r) items st.there q in
-        let b = free_none 0 items q in omega (arith, a, b))) in
+    let b = free_none 0 items q in omega (arith, a, b))) in
     none w.0 w.1 (v, sym w.2, st.guard)
 
 -- no choice that goes on with an index below n makes an instance
@@ -67,7 +67,7 @@ one_more r items is n none here k l js c h = by (nat_eq k n) refl
     by true e =
         let same : k ≡ n = grind (arith, nat_tests) in
         here js (subst (λ m. is_choice items is (m ∷ js) ≡ true) same c)
-            (subst (λ m. HasInstance r (chosen_atoms items (is ++ m ∷ js))) same h)
+        (subst (λ m. HasInstance r (chosen_atoms items (is ++ m ∷ js))) same h)
     by false e = none k (grind (arith, nat_tests)) js c h
 
 -- it was chosen, and nothing went on from there
@@ -75,14 +75,14 @@ pub tried_chosen : (r : Rule) (items : List Atom) (is : List ℕ) (n : ℕ) → 
     → NoCompletion r items (is ++ n ∷ []) → NoneBelow r items is (n + 1)
 tried_chosen r items is n none no_more =
     one_more r items is n none (λ js c h. no_more js (and_parts _ (is_choice items (is ++ n ∷ []) js) c).1
-        (subst (λ xs. HasInstance r (chosen_atoms items xs)) (sym (append_assoc is (n ∷ []) js)) h))
+    (subst (λ xs. HasInstance r (chosen_atoms items xs)) (sym (append_assoc is (n ∷ []) js)) h))
 
 -- it had been chosen already
 pub tried_taken : (r : Rule) (items : List Atom) (is : List ℕ) (n : ℕ) → NoneBelow r items is n
     → list_any (λ j. nat_eq j n) is ≡ true → NoneBelow r items is (n + 1)
 tried_taken r items is n none taken =
     one_more r items is n none (λ js c h. (let two : (nat_lt n (length items) && not (list_any (λ j. nat_eq j n) is))
-        ≡ true = (and_parts _ (is_choice items (is ++ n ∷ []) js) c).0 in
+    ≡ true = (and_parts _ (is_choice items (is ++ n ∷ []) js) c).0 in
     true≢false (sym taken ∙ not-true _ (and_parts (nat_lt n (length items)) _ two).1)))
 
 instance_shape : (v : Valuation) (p : Pattern) → has_shape p (atom_at v p) ≡ true
@@ -103,11 +103,11 @@ tried_shape r items is n none room differs =
     one_more r items is n none (λ js c h.
     (let p : Pattern = get_or (heads_of r) (length is) no_pattern in
     let here : get_or (chosen_atoms items (is ++ n ∷ js)) (length is) no_atom ≡ get_or items n no_atom =
-        at_seam items is n js in
+    at_seam items is n js in
     let there : get_or (heads_at h.0 r) (length is) no_atom ≡ atom_at h.0 p =
-        get_or-map (atom_at h.0) (heads_of r) (length is) no_pattern no_atom room in
+    get_or-map (atom_at h.0) (heads_of r) (length is) no_pattern no_atom room in
     let same : get_or items n no_atom ≡ atom_at h.0 p = sym here ∙ ap (λ xs. get_or xs (length is) no_atom) (sym h.1)
-        ∙ there in
+    ∙ there in
     true≢false (sym (instance_shape h.0 p) ∙ ap (has_shape p) (sym same) ∙ differs)))
 
 -- the last index is dropped again
@@ -133,5 +133,5 @@ pub shape_missed : (r : Rule) (items : List Atom) (is js : List ℕ) (n k : ℕ)
     → NoneBelow r items is (n + 1)
 shape_missed r items is js n k x b none same len room l at e f =
     tried_shape r items is n none room (let y : x ≡ get_or items n no_atom = at ∙ get_or_default items n x no_atom l in
-        ap (λ xs. has_shape_at r (length xs) (get_or items n no_atom)) (sym same)
-        ∙ ap (λ m. has_shape_at r m (get_or items n no_atom)) (sym len) ∙ ap (has_shape_at r k) (sym y) ∙ sym e ∙ f)
+    ap (λ xs. has_shape_at r (length xs) (get_or items n no_atom)) (sym same)
+    ∙ ap (λ m. has_shape_at r m (get_or items n no_atom)) (sym len) ∙ ap (has_shape_at r k) (sym y) ∙ sym e ∙ f)

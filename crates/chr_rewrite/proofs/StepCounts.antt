@@ -60,7 +60,7 @@ pub some_lower : (p : Program) (rules : List Rule) (m : ℕ) (s t : Store) → P
     → Runs (Step rules) m s t → store_rank p t < store_rank p s
 some_lower p rules m s t lowers same some h =
     let low = Runs-lowers (Step (rules_of p)) (store_rank p) (steps_lower p lowers) m s t
-        (subst (λ rs. Runs (Step rs) m s t) same h) in
+    (subst (λ rs. Runs (Step rs) m s t) same h) in
     omega (arith, low, some)
 
 -- at rest under the program's rules

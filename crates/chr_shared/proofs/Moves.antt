@@ -75,36 +75,71 @@ fits_moved : (keeper_at count : ℕ) (log : List Entry) (places : ℕ → ℕ) (
     → Fits keeper_at count log places j u → (u.sits ≡ true → u.number ≢ n)
     → Fits keeper_at count log (moved places n k) j u
 fits_moved keeper_at count log places n k j u f apart =
-    record { head = f.head; all = f.all; dealt = f.dealt; place =
-        (λ s. f.place s ∙ sym (moved_else places n k u.number (apart s))); mine = f.mine; number = f.number }
+    record {
+      head = f.head;
+      all = f.all;
+      dealt = f.dealt;
+      place =
+          (λ s. f.place s ∙ sym (moved_else places n k u.number (apart s)));
+      mine = f.mine;
+      number = f.number;
+    }
 
 fits_nobody : (keeper_at count : ℕ) (log : List Entry) (places : ℕ → ℕ) (j : ℕ)
     → Fits keeper_at count log places j nobody
 fits_nobody keeper_at count log places j =
-    record { head = (λ h. absurd (off h)); all = (λ h. absurd (off h)); dealt = (λ h. absurd (off h)); place =
-        (λ h. absurd (off h)); mine = (λ h. absurd (off h)); number = (λ h. absurd (off h)) }
+    record {
+      head = (λ h. absurd (off h));
+      all = (λ h. absurd (off h));
+      dealt = (λ h. absurd (off h));
+      place =
+          (λ h. absurd (off h));
+      mine = (λ h. absurd (off h));
+      number = (λ h. absurd (off h));
+    }
 
 -- the keeper alone, where it fits with a visitor or without
 fits_alone : (keeper_at count : ℕ) (log : List Entry) (places now : ℕ → ℕ) (j : ℕ) (v : Known) → v.keeps ≡ true
     → Fits keeper_at count log places j v → Fits keeper_at count log now j (alone v)
 fits_alone keeper_at count log places now j v holds f =
-    record { head = (λ _. f.head holds); all = (λ _. f.all holds); dealt = (λ _. f.dealt holds); place =
-        (λ h. absurd (off h)); mine = (λ h. absurd (off h)); number = (λ h. absurd (off h)) }
+    record {
+      head = (λ _. f.head holds);
+      all = (λ _. f.all holds);
+      dealt = (λ _. f.dealt holds);
+      place =
+          (λ h. absurd (off h));
+      mine = (λ h. absurd (off h));
+      number = (λ h. absurd (off h));
+    }
 
 fits_seat : (keeper_at count : ℕ) (log : List Entry) (places : ℕ → ℕ) (n j : ℕ) (mine : List Entry)
     → mine ≡ of_seat n log → (0 < n) × (n ≤ count) → Fits keeper_at count log (moved places n j) j (sitting n mine)
 fits_seat keeper_at count log places n j mine is number =
-    record { head = (λ h. absurd (off h)); all = (λ h. absurd (off h)); dealt = (λ h. absurd (off h)); place =
-        (λ _. sym (moved_here places n j n refl)); mine = (λ _. is); number = (λ _. number) }
+    record {
+      head = (λ h. absurd (off h));
+      all = (λ h. absurd (off h));
+      dealt = (λ h. absurd (off h));
+      place =
+          (λ _. sym (moved_here places n j n refl));
+      mine = (λ _. is);
+      number = (λ _. number);
+    }
 
 -- the table as it is made
 pub begins : IsTied (opening (0 ∷ []) [] (keeper [] 0))
 begins = record { keeper_at = 0; count = 0; log = []; places = (λ _. 0); each = one; seats = All-nil (IsBySeat 0) }
   where
     one : (k : ℕ) (v : Known) → get_elem? (keeper [] 0 ∷ []) k ≡ some v → Fits 0 0 [] (λ _. 0) k v
-    one zero v at = subst (Fits 0 0 [] (λ _. 0) 0) (some-injective _ _ at) record { head = (λ _. refl); all =
-        (λ _. refl); dealt = (λ _. refl); place = (λ h. absurd (off h)); mine = (λ h. absurd (off h)); number =
-        (λ h. absurd (off h)) }
+    one zero v at = subst (Fits 0 0 [] (λ _. 0) 0) (some-injective _ _ at) record {
+      head = (λ _. refl);
+      all =
+          (λ _. refl);
+      dealt = (λ _. refl);
+      place = (λ h. absurd (off h));
+      mine = (λ h. absurd (off h));
+      number =
+          (λ h. absurd (off h));
+    }
     one (suc k) v at = absurd (some-ne-none v (sym at))
 
 -- the caller's seat comes to the keeper
@@ -126,14 +161,21 @@ visits id v other u holds sits state tied at apart there =
           (λ j t away e.
           ⊎_elim
           (λ (h : (j ≡ id) × (host ≡ t)). subst (λ (y : ℕ × Known). Fits tied.keeper_at tied.count tied.log places y.0
-              y.1) (λ i. (sym h.0 i, h.1 i))
-          record { head = (λ _. mine.head holds); all = (λ _. mine.all holds); dealt = (λ _. mine.dealt holds); place =
-              (λ _. sym (moved_here tied.places u.number id u.number refl)); mine = (λ _. theirs.mine sits); number =
-              (λ _. theirs.number sits) })
+          y.1) (λ i. (sym h.0 i, h.1 i))
+          record {
+            head = (λ _. mine.head holds);
+            all = (λ _. mine.all holds);
+            dealt = (λ _. mine.dealt holds);
+            place =
+                (λ _. sym (moved_here tied.places u.number id u.number refl));
+            mine = (λ _. theirs.mine sits);
+            number =
+                (λ _. theirs.number sits);
+          })
           (λ (h : (j ≢ id) × (get_elem? state.views j ≡ some t)).
           let f = tied.each j t h.1 in
           fits_moved tied.keeper_at tied.count tied.log tied.places u.number id j t f
-              (λ s same. away (f.place s ∙ ap tied.places same ∙ sym (theirs.place sits))))
+          (λ s same. away (f.place s ∙ ap tied.places same ∙ sym (theirs.place sits))))
           (at_set state.views id j host t e))
           (fits_nobody tied.keeper_at tied.count tied.log places other);
     }
@@ -177,9 +219,13 @@ appended_tied e state words tied id v at holds sits own =
 pub appends : (e : Entry) (slots id : ℕ) (me : Me ℕ Known) → me.0.keeps ≡ true → me.0.sits ≡ true → me.0.number ≡ e.seat
     → Allows IsTied slots id me 0 (λ n. n) (λ found after. Appends e me after)
 appends e slots id me holds sits own state tied long at fits =
-    let mine = tied.each id me.0 at in
-    (appended me.0 e, keeps, tt, appended_tied e state _ tied id me.0 at holds sits own,
-        (refl, mine.mine sits ∙ ap (of_seat me.0.number) (sym (mine.all holds))))
+    let mine = tied.each id me.0 at in (
+      appended me.0 e,
+      keeps,
+      tt,
+      appended_tied e state _ tied id me.0 at holds sits own,
+      (refl, mine.mine sits ∙ ap (of_seat me.0.number) (sym (mine.all holds))),
+    )
 
 -- the caller's list goes back
 pub parts : (id : ℕ) (v : Known) → v.keeps ≡ true → v.sits ≡ true → Splits IsTied id v (alone v) (visitor v)
@@ -197,15 +243,15 @@ parts id v holds sits state tied at =
           (λ j u below e.
           ⊎_elim
           (λ (h : (j ≡ id) × (alone v ≡ u)). subst (λ (y : ℕ × Known). Fits tied.keeper_at tied.count tied.log places
-              y.0 y.1) (λ i. (sym h.0 i, h.1 i)) (fits_alone tied.keeper_at tied.count tied.log tied.places places id v
-              holds mine))
+          y.0 y.1) (λ i. (sym h.0 i, h.1 i)) (fits_alone tied.keeper_at tied.count tied.log tied.places places id v
+          holds mine))
           (λ (h : (j ≢ id) × (get_elem? state.views j ≡ some u)).
           let f = tied.each j u h.1 in
           fits_moved tied.keeper_at tied.count tied.log tied.places v.number (length views) j u f
-              (λ s same. h.0 (f.place s ∙ ap tied.places same ∙ sym (mine.place sits))))
+          (λ s same. h.0 (f.place s ∙ ap tied.places same ∙ sym (mine.place sits))))
           (at_set state.views id j (alone v) u e))
           (fits_seat tied.keeper_at tied.count tied.log tied.places v.number (length views) v.mine (mine.mine sits)
-              (mine.number sits));
+          (mine.number sits));
     }
 
 -- the one view of a badge
@@ -237,18 +283,31 @@ deals id v holds empty state tied at =
           (λ j u below e.
           ⊎_elim
           (λ (h : (j ≡ id) × (dealing v ≡ u)). subst (λ (y : ℕ × Known). Fits tied.keeper_at
-              (tied.count + 1) tied.log places y.0 y.1) (λ i. (sym h.0 i, h.1 i))
-          record { head = (λ _. mine.head holds); all = (λ _. mine.all holds); dealt = (λ _. ap (λ n. n + 1) count);
-              place = (λ h. absurd (off h)); mine = (λ h. absurd (off h)); number = (λ h. absurd (off h)) })
+          (tied.count + 1) tied.log places y.0 y.1) (λ i. (sym h.0 i, h.1 i))
+          record {
+            head = (λ _. mine.head holds);
+            all = (λ _. mine.all holds);
+            dealt = (λ _. ap (λ n. n + 1) count);
+            place = (λ h. absurd (off h));
+            mine = (λ h. absurd (off h));
+            number = (λ h. absurd (off h));
+          })
           (λ (h : (j ≢ id) × (get_elem? state.views j ≡ some u)).
           let f = tied.each j u h.1 in
           let g = fits_moved tied.keeper_at tied.count tied.log tied.places (v.dealt + 1) (length views) j u f
-              (λ s same. let b = f.number s in absurd (omega arith)) in
-          record { head = g.head; all = g.all; dealt = (λ k. absurd (h.0 (f.head k ∙ sym (mine.head holds)))); place =
-              g.place; mine = g.mine; number = (λ s. let b = f.number s in (b.0, omega arith)) })
+          (λ s same. let b = f.number s in absurd (omega arith)) in
+          record {
+            head = g.head;
+            all = g.all;
+            dealt = (λ k. absurd (h.0 (f.head k ∙ sym (mine.head holds))));
+            place =
+                g.place;
+            mine = g.mine;
+            number = (λ s. let b = f.number s in (b.0, omega arith));
+          })
           (at_set state.views id j (dealing v) u e))
           (fits_seat tied.keeper_at (tied.count + 1) tied.log tied.places (v.dealt + 1) (length views) []
-              (no_entries (v.dealt + 1) tied.log no_log) (omega arith, omega arith));
+          (no_entries (v.dealt + 1) tied.log no_log) (omega arith, omega arith));
     }
 
 -- the visitor's list is compared with all entries
@@ -309,8 +368,14 @@ pub numbered : (n k : ℕ) (journal all entries mine : List Entry) → entries �
 numbered n k journal all entries mine is own number =
     let p : Entry → Bool = λ (e : Entry). e.seat == n in
     let whole : count_of n (journal ++ all) ≡ count_of n journal + count_of n all =
-    omega (arith, length-filter p (journal ++ all), length-filter p journal, length-filter p all,
-        ap length (filter-append p journal all), length-append (filter p journal) (filter p all)) in
+    omega (
+      arith,
+      length-filter p (journal ++ all),
+      length-filter p journal,
+      length-filter p all,
+      ap length (filter-append p journal all),
+      length-append (filter p journal) (filter p all),
+    ) in
     let kept : length mine ≡ count_of n all = ap length own ∙ length-filter p all in
     let all_of : count_of n entries ≡ count_of n (journal ++ all) = ap (count_of n) is in
     omega (arith, whole, kept, all_of, number)

@@ -33,11 +33,11 @@ placed journal all log is seats own r h =
 pub numbered_more : (seats : List SeatView) (k : ℕ) (x : SeatView) → x ≡ get_or seats k x → k < length seats → x.number
     ≡ k + 1
     → ((j : ℕ) (d : SeatView) → j < k → (get_or seats j d).number ≡ j + 1) → (j : ℕ) (d : SeatView) → j < k + 1
-        → (get_or seats j d).number ≡ j + 1
+    → (get_or seats j d).number ≡ j + 1
 numbered_more seats k x at lt is before j d below =
     let up_to : j ≤ k = omega (arith, below) in
     ⊎_elim
     (λ (same : j ≡ k). subst (λ i. (get_or seats i d).number ≡ i + 1) (sym same)
-        (ap (λ (s : SeatView). s.number) (get_or_default seats k d x lt ∙ sym at) ∙ is))
+    (ap (λ (s : SeatView). s.number) (get_or_default seats k d x lt ∙ sym at) ∙ is))
     (λ (less : j < k). before j d less)
     (eq-or-lt_of_le up_to)

@@ -33,10 +33,16 @@ pub gives_more : {E : Type 0} (n : ℕ) (ns : List ℕ) (a b c : List Entry) (r 
     → ((e : Entry) × (b ≡ a ++ e ∷ []) × IsReturn n e)
     → ((es : List Entry) × (c ≡ b ++ es) × (Returns ns es × OnOk r (length es ≡ length ns))) → (es : List Entry)
     × (c ≡ a ++ es) × (Returns (n ∷ ns) es × OnOk r (length es ≡ length (n ∷ ns)))
-gives_more n ns a b c (Ok x) h g = (h.0 ∷ g.0, g.1 ∙ ap (λ l. l ++ g.0) h.1 ∙ append_assoc a (h.0 ∷ []) g.0,
-    ((h.2, g.2.0), ap suc g.2.1))
-gives_more n ns a b c (Err e) h g = (h.0 ∷ g.0, g.1 ∙ ap (λ l. l ++ g.0) h.1 ∙ append_assoc a (h.0 ∷ []) g.0,
-    ((h.2, g.2.0), g.2.1))
+gives_more n ns a b c (Ok x) h g = (
+  h.0 ∷ g.0,
+  g.1 ∙ ap (λ l. l ++ g.0) h.1 ∙ append_assoc a (h.0 ∷ []) g.0,
+  ((h.2, g.2.0), ap suc g.2.1),
+)
+gives_more n ns a b c (Err e) h g = (
+  h.0 ∷ g.0,
+  g.1 ∙ ap (λ l. l ++ g.0) h.1 ∙ append_assoc a (h.0 ∷ []) g.0,
+  ((h.2, g.2.0), g.2.1),
+)
 
 pub taken_ok : {A : Type 0} (items : A → List Lease) (parts : ℕ) (olds news old new : List Entry) (r : Result A Refusal)
     → ((e : Entry) × (news ≡ olds ++ e ∷ []) × (new ≡ old ++ e ∷ []) × (e.act ≡ act.TakeParts parts))
@@ -71,8 +77,17 @@ pub rests_with : (parts : ℕ) (old a b : List Entry) (leases : List Lease) (res
 rests_with parts old a b leases result h g = (
   h.0 ∷ (g.0 ++ g.1),
   g.2 ∙ ap (λ l. l ++ (g.0 ++ g.1)) h.1 ∙ append_assoc old (h.0 ∷ []) (g.0 ++ g.1),
-  inr record { taken = h.0; leases = leases; returns = g.0; tail = g.1; taking = h.2; back = g.3; ends = g.4; list =
-      refl },
+  inr record {
+    taken = h.0;
+    leases = leases;
+    returns = g.0;
+    tail = g.1;
+    taking = h.2;
+    back = g.3;
+    ends = g.4;
+    list =
+        refl;
+  },
 )
 
 pub stops_with : (parts : ℕ) (old new : List Entry) (x : Refusal)
@@ -88,5 +103,10 @@ pub ends_with : (numbers : List ℕ) (old a b : List Entry) (result : Settled)
     → ((es : List Entry) × (a ≡ old ++ es) × (Returns numbers es × (length es ≡ length numbers)))
     → ((es : List Entry) × (b ≡ a ++ es) × EndsWith result es) → (returns : List Entry) × (tail : List Entry)
     × (b ≡ old ++ (returns ++ tail)) × Returns numbers returns × IsEnd returns numbers tail result
-ends_with numbers old a b result h g = (h.0, g.0, g.1 ∙ ap (λ l. l ++ g.0) h.1 ∙ append_assoc old h.0 g.0, h.2.0,
-    inr (h.2.1, g.2))
+ends_with numbers old a b result h g = (
+  h.0,
+  g.0,
+  g.1 ∙ ap (λ l. l ++ g.0) h.1 ∙ append_assoc old h.0 g.0,
+  h.2.0,
+  inr (h.2.1, g.2),
+)

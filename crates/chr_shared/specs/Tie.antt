@@ -23,8 +23,15 @@ sitting number mine = record { keeps = false; all = []; dealt = 0; sits = true; 
 
 -- the keeper with a visitor
 abbrev pub hosting : List Entry → ℕ → ℕ → List Entry → Known
-hosting all dealt number mine = record { keeps = true; all = all; dealt = dealt; sits = true; number = number; mine =
-    mine }
+hosting all dealt number mine = record {
+  keeps = true;
+  all = all;
+  dealt = dealt;
+  sits = true;
+  number = number;
+  mine =
+      mine;
+}
 
 abbrev pub nobody : Known
 nobody = record { keeps = false; all = []; dealt = 0; sits = false; number = 0; mine = [] }
@@ -58,7 +65,7 @@ IsBySeat dealt e = (0 < e.seat) × (e.seat ≤ dealt)
 abbrev pub Checks : Me ℕ Known → Me ℕ Known → Type 0
 Checks before after =
     (after ≡ before) × (before.0.mine ≡ of_seat before.0.number before.0.all)
-        × All (IsBySeat before.0.dealt) before.0.all
+    × All (IsBySeat before.0.dealt) before.0.all
 
 -- What the tie says of the view v at the place k, where the keeper's view is at `keeper_at`, so many seats were dealt,
 -- and the seat n has its view at `places n`.

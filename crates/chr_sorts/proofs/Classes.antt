@@ -50,20 +50,20 @@ shift_fixes : (o : Sorts) (s k : ℕ) (c : ℤ) → In c (o.constants k) → shi
 unfolding shift
 shift_fixes o s k c i = elim (nat_eq k s) as (λ b. nat_eq k s ≡ b
     → cond b (cond (has c (o.constants s)) c (c +ℤ pos 1)) c ≡ c) [
-  | true ↦ λ e. elim (has c (o.constants s)) as (λ b. has c (o.constants s) ≡ b → cond b c (c +ℤ pos 1) ≡ c) [
-    | true ↦ λ _. refl
-    | false ↦ λ n. absurd (has_not c (o.constants s) n (subst (λ j. In c (o.constants j)) (eqb-true k s e) i))
-  ] refl
-  | false ↦ λ _. refl
-] refl
+      | true ↦ λ e. elim (has c (o.constants s)) as (λ b. has c (o.constants s) ≡ b → cond b c (c +ℤ pos 1) ≡ c) [
+        | true ↦ λ _. refl
+        | false ↦ λ n. absurd (has_not c (o.constants s) n (subst (λ j. In c (o.constants j)) (eqb-true k s e) i))
+      ] refl
+      | false ↦ λ _. refl
+    ] refl
 
 shift_other : (o : Sorts) (s k : ℕ) (z : ℤ) → (k ≡ s → ⊥) → shift o s k z ≡ z
 unfolding shift
 shift_other o s k z n = elim (nat_eq k s) as (λ b. nat_eq k s ≡ b
     → cond b (cond (has z (o.constants s)) z (z +ℤ pos 1)) z ≡ z) [
-  | true ↦ λ e. absurd (n (eqb-true k s e))
-  | false ↦ λ _. refl
-] refl
+      | true ↦ λ e. absurd (n (eqb-true k s e))
+      | false ↦ λ _. refl
+    ] refl
 
 shift_new : (o : Sorts) (s : ℕ) (z : ℤ) → (In z (o.constants s) → ⊥) → shift o s s z ≡ z +ℤ pos 1
 unfolding shift
@@ -78,8 +78,11 @@ above : (cs : List ℤ) → (z : ℤ) × ((c : ℤ) → In c cs → c <ℤ z)
 above [] = (pos 0, λ c i. absurd i)
 above (d ∷ cs) = let w = above cs in elim (apart d w.0) as (λ _. (z : ℤ) × ((c : ℤ) → In c (d ∷ cs) → c <ℤ z)) [
   | inl l ↦ (w.0, λ c i. elim i as (λ _. c <ℤ w.0) [ inl e ↦ omega (arith, ints, e, l) | inr j ↦ w.1 c j ])
-  | inr l ↦ (d +ℤ pos 1, λ c i. elim i as (λ _. c <ℤ (d +ℤ pos 1))
-        [ inl e ↦ omega (arith, ints, e) | inr j ↦ (let g = w.1 c j in omega (arith, ints, g, l)) ])
+  | inr l ↦ (
+    d +ℤ pos 1,
+    λ c i. elim i as (λ _. c <ℤ (d +ℤ pos 1))
+        [ inl e ↦ omega (arith, ints, e) | inr j ↦ (let g = w.1 c j in omega (arith, ints, g, l)) ],
+  )
 ]
 
 new_number : (cs : List ℤ) → (z : ℤ) × (In z cs → ⊥)
@@ -103,11 +106,11 @@ module _ (o : Sorts) (at : ℕ → ℕ) (σ : Substitution) (es : List (Term × 
         let vx : spread σ f x ≡ w.0 = ap (term_value f) e in
         let vy : spread σ f y ≡ w.0 = ap (term_value f) (solves.classes.own x y e) in
         let both : shift o (at x) (at x) (spread σ f x) ≡ shift o (at x) (at y) (spread σ f y) = shifted (at x) f x
-            ∙ ap (term_value (λ z. shift o (at x) (at z) (spread σ f z))) e in
+        ∙ ap (term_value (λ z. shift o (at x) (at z) (spread σ f z))) e in
         let one : shift o (at x) (at x) (spread σ f x) ≡ w.0 +ℤ pos 1 = ap (shift o (at x) (at x)) vx
-            ∙ shift_new o (at x) w.0 w.1 in
+        ∙ shift_new o (at x) w.0 w.1 in
         let two : shift o (at x) (at y) (spread σ f y) ≡ w.0 =
-            shift_other o (at x) (at y) (spread σ f y) (λ k. eqb-false (at x) (at y) q (sym k)) ∙ vy in
+        shift_other o (at x) (at y) (spread σ f y) (λ k. eqb-false (at x) (at y) q (sym k)) ∙ vy in
         let bad : w.0 +ℤ pos 1 ≡ w.0 = sym one ∙ both ∙ two in
         absurd (omega (arith, ints, bad)))
   ] refl
@@ -116,16 +119,16 @@ module _ (o : Sorts) (at : ℕ → ℕ) (σ : Substitution) (es : List (Term × 
   pub own_constant : (x : ℕ) (c : ℤ) → σ x ≡ Constant c → In c (o.constants (at x))
   own_constant x c e = elim (has c (o.constants (at x))) as (λ b. has c (o.constants (at x)) ≡ b
       → In c (o.constants (at x))) [
-    | true ↦ λ q. has_in c (o.constants (at x)) q
-    | false ↦ λ q. (let f : Valuation = λ _. pos 0 in
-        let vx : spread σ f x ≡ c = ap (term_value f) e in
-        let one : shift o (at x) (at x) (spread σ f x) ≡ c = shifted (at x) f x
+        | true ↦ λ q. has_in c (o.constants (at x)) q
+        | false ↦ λ q. (let f : Valuation = λ _. pos 0 in
+            let vx : spread σ f x ≡ c = ap (term_value f) e in
+            let one : shift o (at x) (at x) (spread σ f x) ≡ c = shifted (at x) f x
             ∙ ap (term_value (λ z. shift o (at x) (at z) (spread σ f z))) e in
-        let two : shift o (at x) (at x) (spread σ f x) ≡ c +ℤ pos 1 = ap (shift o (at x) (at x)) vx
+            let two : shift o (at x) (at x) (spread σ f x) ≡ c +ℤ pos 1 = ap (shift o (at x) (at x)) vx
             ∙ shift_new o (at x) c (has_not c (o.constants (at x)) q) in
-        let bad : c +ℤ pos 1 ≡ c = sym two ∙ one in
-        absurd (omega (arith, ints, bad)))
-  ] refl
+            let bad : c +ℤ pos 1 ≡ c = sym two ∙ one in
+            absurd (omega (arith, ints, bad)))
+      ] refl
 
 -- ---- where a variable of the rules goes
 

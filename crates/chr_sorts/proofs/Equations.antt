@@ -56,9 +56,16 @@ zip_sides : (sort : ℕ → ℕ) (k n : ℕ) (ts us : List Term) (e : Term × Te
     → (j : ℕ) × Sides k j (terms_from sort n ts) (terms_from sort n us) e
 zip_sides sort k n [] us e i = absurd i
 zip_sides sort k n (t ∷ ts) [] e i = absurd i
-zip_sides sort k n (t ∷ ts) (u ∷ us) e (inl q) = (sort n,
-    record { right = u; stands1 = inl (λ i. (sort n, (q i).0)); stands2 = inl refl; apart =
-    ap (λ (p : Term × Term). p.1) q })
+zip_sides sort k n (t ∷ ts) (u ∷ us) e (inl q) = (
+  sort n,
+  record {
+    right = u;
+    stands1 = inl (λ i. (sort n, (q i).0));
+    stands2 = inl refl;
+    apart =
+        ap (λ (p : Term × Term). p.1) q;
+  },
+)
 zip_sides sort k n (t ∷ ts) (u ∷ us) e (inr i) = let w = zip_sides sort k (suc n) ts us e i in
     (w.0, record { right = w.1.right; stands1 = inr w.1.stands1; stands2 = inr w.1.stands2; apart = w.1.apart })
 
@@ -77,16 +84,23 @@ equation_sides : (o : Sorts) (k : ℕ) (qs : List Pattern) (m : List ℕ) (ps : 
     → (e : Term × Term) → In e (equations k qs m ps) → (j : ℕ) × Sides k j (sorted_terms o ps) (sorted_terms o qs) e
 equation_sides o k qs [] ps s e i = absurd i
 equation_sides o k qs (n ∷ m) [] s e i = absurd s
-equation_sides o k qs (zero ∷ m) (p ∷ ps) s e i = let w = equation_sides o k qs m ps s e i in
-    (w.0, record { right = w.1.right; stands1 = in_second (w.0, e.0) (terms_from (o.sort p.symbol.0) 0 p.args.items)
-        (sorted_terms o ps) w.1.stands1; stands2 = w.1.stands2; apart = w.1.apart })
+equation_sides o k qs (zero ∷ m) (p ∷ ps) s e i = let w = equation_sides o k qs m ps s e i in (
+  w.0,
+  record {
+    right = w.1.right;
+    stands1 = in_second (w.0, e.0) (terms_from (o.sort p.symbol.0) 0 p.args.items)
+        (sorted_terms o ps) w.1.stands1;
+    stands2 = w.1.stands2;
+    apart = w.1.apart;
+  },
+)
 equation_sides o k qs (suc n ∷ m) (p ∷ ps) s e i =
     elim (in_either e (zip p.args.items (map (renamed_apart k) (get_or qs n no_pattern).args.items))
-        (equations k qs m ps) i) as (λ _. (j : ℕ) × Sides k j (sorted_terms o (p ∷ ps)) (sorted_terms o qs) e) [
+    (equations k qs m ps) i) as (λ _. (j : ℕ) × Sides k j (sorted_terms o (p ∷ ps)) (sorted_terms o qs) e) [
       | inl q ↦ (let f = s.0 in
           let at : get_or qs n no_pattern ≡ f.0 = get_or_from_slice_get qs n f.0 no_pattern f.1 in
           let w = zip_sides (o.sort p.symbol.0) k 0 p.args.items f.0.args.items e
-              (subst (λ x. In e (zip p.args.items (map (renamed_apart k) x.args.items))) at q) in (
+          (subst (λ x. In e (zip p.args.items (map (renamed_apart k) x.args.items))) at q) in (
             w.0,
             record {
               right = w.1.right;
@@ -97,10 +111,16 @@ equation_sides o k qs (suc n ∷ m) (p ∷ ps) s e i =
               apart = w.1.apart;
             },
           ))
-      | inr q ↦ (let w = equation_sides o k qs m ps s.1 e q in
-          (w.0, record { right = w.1.right; stands1 = in_second (w.0, e.0)
-              (terms_from (o.sort p.symbol.0) 0 p.args.items) (sorted_terms o ps) w.1.stands1; stands2 = w.1.stands2;
-              apart = w.1.apart }))
+      | inr q ↦ (let w = equation_sides o k qs m ps s.1 e q in (
+        w.0,
+        record {
+          right = w.1.right;
+          stands1 = in_second (w.0, e.0)
+              (terms_from (o.sort p.symbol.0) 0 p.args.items) (sorted_terms o ps) w.1.stands1;
+          stands2 = w.1.stands2;
+          apart = w.1.apart;
+        },
+      ))
     ]
 
 -- ---- the equations of a guard
@@ -127,12 +147,12 @@ pub guard_equation : (cs : List Comparison) (e : Term × Term) → In e (guard_e
 guard_equation [] e i = absurd i
 guard_equation (c ∷ cs) e i = elim (is_equation c.cmp) as (λ b. is_equation c.cmp ≡ b
     → In e (cond b ((c.left, c.right) ∷ guard_equations cs) (guard_equations cs)) → IsGuardEquation (c ∷ cs) e) [
-  | true ↦ λ t i. elim i as (λ _. IsGuardEquation (c ∷ cs) e) [
-    | inl q ↦ record { comparison = c; stands = inl refl; sign = equation_is c.cmp t; sides = q }
-    | inr j ↦ later_equation c cs e (guard_equation cs e j)
-  ]
-  | false ↦ λ t i. later_equation c cs e (guard_equation cs e i)
-] refl i
+      | true ↦ λ t i. elim i as (λ _. IsGuardEquation (c ∷ cs) e) [
+        | inl q ↦ record { comparison = c; stands = inl refl; sign = equation_is c.cmp t; sides = q }
+        | inr j ↦ later_equation c cs e (guard_equation cs e j)
+      ]
+      | false ↦ λ t i. later_equation c cs e (guard_equation cs e i)
+    ] refl i
 
 pub has_equation : (cs : List Comparison) (c : Comparison) → In c cs → c.cmp ≡ Equal
     → In (c.left, c.right) (guard_equations cs)
@@ -140,7 +160,7 @@ has_equation [] c i s = absurd i
 has_equation (d ∷ cs) c (inl q) s = let t : is_equation d.cmp ≡ true =
     ap is_equation (ap (λ (x : Comparison). x.cmp) (sym q) ∙ s) in
     subst (λ b. In (c.left, c.right) (cond b ((d.left, d.right) ∷ guard_equations cs) (guard_equations cs))) (sym t)
-        (inl (λ i. ((q i).left, (q i).right)))
+    (inl (λ i. ((q i).left, (q i).right)))
 has_equation (d ∷ cs) c (inr i) s = elim (is_equation d.cmp) as (λ b. In (c.left, c.right)
     (cond b ((d.left, d.right) ∷ guard_equations cs) (guard_equations cs)))
     [ true ↦ inr (has_equation cs c i s) | false ↦ has_equation cs c i s ]
@@ -157,21 +177,21 @@ module _ (r1 r2 : Rule) (m : List ℕ) (P : Term × Term → Type 0) where
   pub by_parts : ((e : Term × Term) → In e (equations_of r1 r2 m) → P e)
       → ((e : Term × Term) → In e (guard_equations r1.guard.items) → P e)
       → ((e : Term × Term) → In e (guard_equations r2.guard.items) → P (equation_apart (variables_of r1) e))
-          → (e : Term × Term) → In e (all_equations r1 r2 m) → P e
+      → (e : Term × Term) → In e (all_equations r1 r2 m) → P e
   by_parts one two three e i = elim (in_either e (equations_of r1 r2 m ++ guard_equations r1.guard.items)
       (map (equation_apart (variables_of r1)) (guard_equations r2.guard.items)) i) as (λ _. P e) [
-    | inl j ↦ elim (in_either e (equations_of r1 r2 m) (guard_equations r1.guard.items) j) as (λ _. P e)
-          [ inl k ↦ one e k | inr k ↦ two e k ]
-    | inr j ↦ (let w = in_map (equation_apart (variables_of r1)) e (guard_equations r2.guard.items) j in
-          subst P (sym w.2) (three w.0 w.1))
-  ]
+        | inl j ↦ elim (in_either e (equations_of r1 r2 m) (guard_equations r1.guard.items) j) as (λ _. P e)
+            [ inl k ↦ one e k | inr k ↦ two e k ]
+        | inr j ↦ (let w = in_map (equation_apart (variables_of r1)) e (guard_equations r2.guard.items) j in
+            subst P (sym w.2) (three w.0 w.1))
+      ]
 
 -- both terms of a comparison are bound in the heads
 pub guard_bound : (r : Rule) (c : Comparison) → In c r.guard.items → (is_bound_in (heads_of r) c.left ≡ true)
     × (is_bound_in (heads_of r) c.right ≡ true)
 guard_bound r c i =
     let b = all_in (λ (k : Comparison). is_bound_in (heads_of r) k.left && is_bound_in (heads_of r) k.right)
-        r.guard.items (guard_known r) c i in
+    r.guard.items (guard_known r) c i in
     ((and_parts _ _ b).0, (and_parts (is_bound_in (heads_of r) c.left) _ b).1)
 
 -- ---- a variable of the rules, or a 64-bit constant
@@ -194,23 +214,33 @@ ranged_apart k n (Constant c) h = h
 module _ (r : Rule) where
   pub head_ranged : (t : Term) → In t (terms_of (heads_of r)) → Ranged (variables_of r) t
   head_ranged (Variable x) i = head_variable r x i
-  head_ranged (Constant c) i = constants_fit (r ∷ []) c
-      (0, r, refl, in_first (Constant c) (terms_of (heads_of r) ++ guard_terms r.guard.items) (terms_of r.body.items)
-      (in_first (Constant c) (terms_of (heads_of r)) (guard_terms r.guard.items) i))
+  head_ranged (Constant c) i = constants_fit (r ∷ []) c (
+    0,
+    r,
+    refl,
+    in_first (Constant c) (terms_of (heads_of r) ++ guard_terms r.guard.items) (terms_of r.body.items)
+        (in_first (Constant c) (terms_of (heads_of r)) (guard_terms r.guard.items) i),
+  )
 
   guard_terms_in : (cs : List Comparison) (c : Comparison) → In c cs → In c.left (guard_terms cs)
       × In c.right (guard_terms cs)
   guard_terms_in [] c i = absurd i
-  guard_terms_in (d ∷ cs) c (inl q) = (inl (ap (λ (x : Comparison). x.left) q),
-      inr (inl (ap (λ (x : Comparison). x.right) q)))
+  guard_terms_in (d ∷ cs) c (inl q) = (
+    inl (ap (λ (x : Comparison). x.left) q),
+    inr (inl (ap (λ (x : Comparison). x.right) q)),
+  )
   guard_terms_in (d ∷ cs) c (inr i) = let w = guard_terms_in cs c i in (inr (inr w.0), inr (inr w.1))
 
   guard_ranged : (t : Term) → In t (guard_terms r.guard.items) → is_bound_in (heads_of r) t ≡ true
       → Ranged (variables_of r) t
   guard_ranged (Variable x) i b = head_variable r x (occurs_in x (heads_of r) b)
-  guard_ranged (Constant c) i b = constants_fit (r ∷ []) c
-      (0, r, refl, in_first (Constant c) (terms_of (heads_of r) ++ guard_terms r.guard.items) (terms_of r.body.items)
-      (in_second (Constant c) (terms_of (heads_of r)) (guard_terms r.guard.items) i))
+  guard_ranged (Constant c) i b = constants_fit (r ∷ []) c (
+    0,
+    r,
+    refl,
+    in_first (Constant c) (terms_of (heads_of r) ++ guard_terms r.guard.items) (terms_of r.body.items)
+        (in_second (Constant c) (terms_of (heads_of r)) (guard_terms r.guard.items) i),
+  )
 
   guard_equation_ranged : (e : Term × Term) → In e (guard_equations r.guard.items) → BothRanged (variables_of r) e
   guard_equation_ranged e i =
@@ -218,7 +248,7 @@ module _ (r : Rule) where
       let b = guard_bound r w.comparison w.stands in
       let t = guard_terms_in r.guard.items w.comparison w.stands in
       subst (BothRanged (variables_of r)) (sym w.sides)
-          (guard_ranged w.comparison.left t.0 b.0, guard_ranged w.comparison.right t.1 b.1)
+      (guard_ranged w.comparison.left t.0 b.0, guard_ranged w.comparison.right t.1 b.1)
 
 -- sorts that say nothing
 no_sorts : Sorts
@@ -234,10 +264,15 @@ all_ranged r1 r2 m is = by_parts r1 r2 m (BothRanged (variables_of r1 + variable
           (ranged_apart (variables_of r1) (variables_of r2) w.1.right
           (head_ranged r2 w.1.right (term_in no_sorts (heads_of r2) w.0 w.1.right w.1.stands2))),
     )))
-    (λ e i. (let w = guard_equation_ranged r1 e i in (ranged_on (variables_of r1) (variables_of r1 + variables_of r2)
-        e.0 (omega arith) w.0, ranged_on (variables_of r1) (variables_of r1 + variables_of r2) e.1 (omega arith) w.1)))
-    (λ e i. (let w = guard_equation_ranged r2 e i in (ranged_apart (variables_of r1) (variables_of r2) e.0 w.0,
-        ranged_apart (variables_of r1) (variables_of r2) e.1 w.1)))
+    (λ e i. (let w = guard_equation_ranged r1 e i in (
+      ranged_on (variables_of r1) (variables_of r1 + variables_of r2)
+          e.0 (omega arith) w.0,
+      ranged_on (variables_of r1) (variables_of r1 + variables_of r2) e.1 (omega arith) w.1,
+    )))
+    (λ e i. (let w = guard_equation_ranged r2 e i in (
+      ranged_apart (variables_of r1) (variables_of r2) e.0 w.0,
+      ranged_apart (variables_of r1) (variables_of r2) e.1 w.1,
+    )))
 
 -- ---- both sides are of one sort
 
@@ -268,7 +303,7 @@ module _ (o : Sorts) (r1 r2 : Rule) where
       ≡ sort_of o r2 x
   sort_right x i =
       ap (λ b. cond b (sort_of o r1 (variables_of r1 + x)) (sort_of o r2 (variables_of r1 + x - variables_of r1)))
-          (gt (variables_of r1) x (head_variable r2 x i).0) ∙ ap (sort_of o r2) (omega arith)
+      (gt (variables_of r1) x (head_variable r2 x i).0) ∙ ap (sort_of o r2) (omega arith)
     where
       gt : (k x : ℕ) → 0 < x → nat_le (k + x) k ≡ false
       gt k x l = elim (nat_le (k + x) k) as (λ b. nat_le (k + x) k ≡ b → b ≡ false)
@@ -312,14 +347,14 @@ module _ (o : Sorts) (r1 r2 : Rule) where
     all_alike m is = by_parts r1 r2 m (λ e. Alike o (joint_sort o r1 r2) e.0 e.1)
         (λ e i. (let w = equation_sides o (variables_of r1) (heads_of r2) m (heads_of r1) is.symbols e i in
         subst (Alike o (joint_sort o r1 r2) e.0) (sym w.1.apart)
-            (alike_at o (joint_sort o r1 r2) w.0 e.0 _ (left_has w.0 e.0 w.1.stands1)
-            (right_has w.0 w.1.right w.1.stands2))))
+        (alike_at o (joint_sort o r1 r2) w.0 e.0 _ (left_has w.0 e.0 w.1.stands1)
+        (right_has w.0 w.1.right w.1.stands2))))
         (λ e i. (let w = guard_equation r1.guard.items e i in let b = guard_bound r1 w.comparison w.stands in
         subst (λ (z : Term × Term). Alike o (joint_sort o r1 r2) z.0 z.1) (sym w.sides)
-            (left_alike w.comparison.cmp w.comparison.left w.comparison.right (fit1.compared w.comparison w.stands) b.0
-            b.1)))
+        (left_alike w.comparison.cmp w.comparison.left w.comparison.right (fit1.compared w.comparison w.stands) b.0
+        b.1)))
         (λ e i. (let w = guard_equation r2.guard.items e i in let b = guard_bound r2 w.comparison w.stands in
         subst (λ (z : Term × Term). Alike o (joint_sort o r1 r2) (renamed_apart (variables_of r1) z.0)
-            (renamed_apart (variables_of r1) z.1)) (sym w.sides)
-            (right_alike w.comparison.cmp w.comparison.left w.comparison.right (fit2.compared w.comparison w.stands) b.0
-            b.1)))
+        (renamed_apart (variables_of r1) z.1)) (sym w.sides)
+        (right_alike w.comparison.cmp w.comparison.left w.comparison.right (fit2.compared w.comparison w.stands) b.0
+        b.1)))

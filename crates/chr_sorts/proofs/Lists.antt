@@ -65,13 +65,17 @@ itself p = (λ e. refl, λ e. refl)
 -- a constant beside another proper pair
 constant_beside : (cs : List ℤ) (v : ℤ) (q : ℤ × ℤ) → In v cs → IsProper cs q → Together (v, v) q
 constant_beside cs v q i (inl h) = (λ e. e ∙ h.1, λ e. e ∙ sym h.1)
-constant_beside cs v q i (inr h) = (λ e. absurd (h.0 (subst (λ z. In z cs) e i)),
-    λ e. absurd (h.1 (subst (λ z. In z cs) e i)))
+constant_beside cs v q i (inr h) = (
+  λ e. absurd (h.0 (subst (λ z. In z cs) e i)),
+  λ e. absurd (h.1 (subst (λ z. In z cs) e i)),
+)
 
 proper_against : (cs : List ℤ) (p : ℤ × ℤ) (c : ℤ) → IsProper cs p → In c cs → (p.0 ≡ c) ↔ (p.1 ≡ c)
 proper_against cs p c (inl h) i = (λ e. sym h.1 ∙ e, λ e. h.1 ∙ e)
-proper_against cs p c (inr h) i = (λ e. absurd (h.0 (subst (λ z. In z cs) (sym e) i)),
-    λ e. absurd (h.1 (subst (λ z. In z cs) (sym e) i)))
+proper_against cs p c (inr h) i = (
+  λ e. absurd (h.0 (subst (λ z. In z cs) (sym e) i)),
+  λ e. absurd (h.1 (subst (λ z. In z cs) (sym e) i)),
+)
 
 -- the first parts of pairs
 abbrev firsts : List (ℤ × ℤ) → List ℤ
@@ -88,14 +92,17 @@ find : (v : ℤ) (ps : List (ℤ × ℤ)) → ((p : ℤ × ℤ) × In p ps × (v
 find v [] = inr (λ p i e. i)
 find v (q ∷ ps) = elim (int_eq v q.1) as (λ b. int_eq v q.1 ≡ b → ((p : ℤ × ℤ) × In p (q ∷ ps) × (v ≡ p.1))
     ⊎ ((p : ℤ × ℤ) → In p (q ∷ ps) → v ≡ p.1 → ⊥)) [
-  | true ↦ λ e. inl (q, inl refl, same_yes v q.1 e)
-  | false ↦ λ e. elim (find v ps) as (λ _. ((p : ℤ × ℤ) × In p (q ∷ ps) × (v ≡ p.1))
-        ⊎ ((p : ℤ × ℤ) → In p (q ∷ ps) → v ≡ p.1 → ⊥)) [
-    | inl w ↦ inl (w.0, inr w.1, w.2)
-    | inr n ↦ inr (λ p i h. elim i as (λ _. ⊥) [ inl k ↦ same_no v q.1 e (h ∙ ap (λ (r : ℤ × ℤ). r.1) k) | inr j ↦ n p j
-          h ])
-  ]
-] refl
+      | true ↦ λ e. inl (q, inl refl, same_yes v q.1 e)
+      | false ↦ λ e. elim (find v ps) as (λ _. ((p : ℤ × ℤ) × In p (q ∷ ps) × (v ≡ p.1))
+          ⊎ ((p : ℤ × ℤ) → In p (q ∷ ps) → v ≡ p.1 → ⊥)) [
+            | inl w ↦ inl (w.0, inr w.1, w.2)
+            | inr n ↦ inr (λ p i h. elim i as (λ _. ⊥) [
+              | inl k ↦ same_no v q.1 e (h ∙ ap (λ (r : ℤ × ℤ). r.1) k)
+              | inr j ↦ n p j
+                  h
+            ])
+          ]
+    ] refl
 
 -- the blocks begun so far, each with the value that it stands for
 record AreBegun (cs ns : List ℤ) (seen : List (ℤ × ℤ)) : Type 0 where
@@ -116,7 +123,7 @@ record Blocks (cs ns : List ℤ) (seen : List (ℤ × ℤ)) (vs : List ℤ) : Ty
 more_blocks : (cs ns : List ℤ) (seen : List (ℤ × ℤ)) (u v : ℤ) (vs : List ℤ) (ns' : List ℤ) (seen' : List (ℤ × ℤ))
     (b : Blocks cs ns' seen' vs) → AreBlocks cs (firsts seen) ns (u ∷ b.us) → IsProper cs (u, v)
     → ((q : ℤ × ℤ) → In q (zip b.us vs) → Together (u, v) q) → ((q : ℤ × ℤ) → In q seen → Together (u, v) q)
-        → ((q : ℤ × ℤ) → In q seen → In q seen') → Blocks cs ns seen (v ∷ vs)
+    → ((q : ℤ × ℤ) → In q seen → In q seen') → Blocks cs ns seen (v ∷ vs)
 more_blocks cs ns seen u v vs ns' seen' b blocks proper later before sub = record {
   us = u ∷ b.us;
   count = ap suc b.count;
@@ -132,8 +139,11 @@ more_blocks cs ns seen u v vs ns' seen' b blocks proper later before sub = recor
       | inr k ↦ b.together p q h k
     ]
   ];
-  beside = λ p q i j. elim i as (λ _. Together p q) [ inl e ↦ subst (λ z. Together z q) (sym e)
-      (before q j) | inr h ↦ b.beside p q h (sub q j) ];
+  beside = λ p q i j. elim i as (λ _. Together p q) [
+    | inl e ↦ subst (λ z. Together z q) (sym e)
+        (before q j)
+    | inr h ↦ b.beside p q h (sub q j)
+  ];
 }
 
 -- a value of a block before, or a constant
@@ -157,7 +167,7 @@ new_block cs v vs rec plain [] seen differ new l begun none = absurd (omega (ari
 new_block cs v vs rec plain (n ∷ ns) seen differ new l begun none =
     let b = rec ns ((n, v) ∷ seen) differ.1 (λ z i. new z (inr i)) (omega (arith, l)) begun' in
     more_blocks cs (n ∷ ns) seen n v vs ns ((n, v) ∷ seen) b (inr (refl, b.blocks)) (inr (new n (inl refl), plain))
-        (λ q i. turned q (n, v) (b.beside q (n, v) i (inl refl))) fresh (λ q i. inr i)
+    (λ q i. turned q (n, v) (b.beside q (n, v) i (inl refl))) fresh (λ q i. inr i)
   where
     fresh : (q : ℤ × ℤ) → In q seen → Together (n, v) q
     fresh q i = (λ h. absurd (begun.apart q i (inl (sym h))), λ h. absurd (none q i h))
@@ -165,30 +175,40 @@ new_block cs v vs rec plain (n ∷ ns) seen differ new l begun none =
     begun' : AreBegun cs ns ((n, v) ∷ seen)
     begun' = record {
       together = λ p q i j. elim i as (λ _. Together p q) [
-        | inl e ↦ elim j as (λ _. Together p q) [ inl g ↦ subst (Together p) (e ∙ sym g) (itself p) | inr k ↦ subst
-              (λ z. Together z q) (sym e) (fresh q k) ]
-        | inr h ↦ elim j as (λ _. Together p q) [ inl g ↦ subst (Together p) (sym g) (turned (n, v) p (fresh p h)) | inr
-              k ↦ begun.together p q h k ]
+        | inl e ↦ elim j as (λ _. Together p q) [
+          | inl g ↦ subst (Together p) (e ∙ sym g) (itself p)
+          | inr k ↦ subst
+              (λ z. Together z q) (sym e) (fresh q k)
+        ]
+        | inr h ↦ elim j as (λ _. Together p q) [
+          | inl g ↦ subst (Together p) (sym g) (turned (n, v) p (fresh p h))
+          | inr
+              k ↦ begun.together p q h k
+        ]
       ];
-      others = λ p i. elim i as (λ _. (In p.0 cs → ⊥) × (In p.1 cs → ⊥))
-          [ inl e ↦ subst (λ (z : ℤ × ℤ). (In z.0 cs → ⊥) × (In z.1 cs → ⊥)) (sym e) (new n (inl refl), plain) | inr h ↦
-          begun.others p h ];
-      apart = λ p i j. elim i as (λ _. ⊥) [ inl e ↦ differ.0 p.0 j (sym (ap (λ (z : ℤ × ℤ). z.0) e)) | inr h ↦
-          begun.apart p h (inr j) ];
+      others = λ p i. elim i as (λ _. (In p.0 cs → ⊥) × (In p.1 cs → ⊥)) [
+        | inl e ↦ subst (λ (z : ℤ × ℤ). (In z.0 cs → ⊥) × (In z.1 cs → ⊥)) (sym e) (new n (inl refl), plain)
+        | inr h ↦
+            begun.others p h
+      ];
+      apart = λ p i j. elim i as (λ _. ⊥) [
+        | inl e ↦ differ.0 p.0 j (sym (ap (λ (z : ℤ × ℤ). z.0) e))
+        | inr h ↦
+            begun.apart p h (inr j)
+      ];
     }
 
 next_value : (cs : List ℤ) (v : ℤ) (vs : List ℤ) → BlocksFor cs vs → BlocksFor cs (v ∷ vs)
-next_value cs v vs rec ns seen differ new l begun = elim (has v cs) as (λ b. has v cs ≡ b → Blocks cs ns seen (v ∷ vs))
-    [
+next_value cs v vs rec ns seen differ new l begun = elim (has v cs) as (λ b. has v cs ≡ b → Blocks cs ns seen (v ∷ vs)) [
   | true ↦ λ e. (let i = has_in v cs e in let b = rec ns seen differ new (omega (arith, l)) begun in
       more_blocks cs ns seen v v vs ns seen b (old_block cs (firsts seen) ns v b.us (inl i) b.blocks) (inl (i, refl))
-          (λ q j. constant_beside cs v q i (b.proper q j)) (λ q j. constant_beside cs v q i (inr (begun.others q j)))
-          (λ q j. j))
+      (λ q j. constant_beside cs v q i (b.proper q j)) (λ q j. constant_beside cs v q i (inr (begun.others q j)))
+      (λ q j. j))
   | false ↦ λ e. elim (find v seen) as (λ _. Blocks cs ns seen (v ∷ vs)) [
     | inl w ↦ (let b = rec ns seen differ new (omega (arith, l)) begun in
         let k : (w.0.0, v) ≡ w.0 = λ i. (w.0.0, w.2 i) in
         more_blocks cs ns seen w.0.0 v vs ns seen b (old_block cs (firsts seen) ns w.0.0 b.us
-            (inr (in_firsts w.0 seen w.1)) b.blocks)
+        (inr (in_firsts w.0 seen w.1)) b.blocks)
         (inr ((begun.others w.0 w.1).0, has_not v cs e))
         (λ q j. subst (λ z. Together z q) (sym k) (turned q w.0 (b.beside q w.0 j w.1)))
         (λ q j. subst (λ z. Together z q) (sym k) (begun.together w.0 q w.1 j)) (λ q j. j))
@@ -197,16 +217,29 @@ next_value cs v vs rec ns seen differ new l begun = elim (has v cs) as (λ b. ha
 ] refl
 
 blocks_for : (cs vs : List ℤ) → BlocksFor cs vs
-blocks_for cs [] ns seen differ new l begun = record { us = []; count = refl; blocks = tt; proper = λ p i. absurd i;
-    together = λ p q i j. absurd i; beside = λ p q i j. absurd i }
+blocks_for cs [] ns seen differ new l begun = record {
+  us = [];
+  count = refl;
+  blocks = tt;
+  proper = λ p i. absurd i;
+  together = λ p q i j. absurd i;
+  beside = λ p q i j. absurd i;
+}
 blocks_for cs (v ∷ vs) ns seen differ new l begun = next_value cs v vs (blocks_for cs vs) ns seen differ new l begun
 
 pub blocks_cover : BlocksCover
 blocks_cover cs ns n rs new l all vs count values =
     let b = blocks_for cs vs ns [] new.0 new.1 (omega (arith, count, l))
-        (record { together = λ p q i j. absurd i; others = λ p i. absurd i; apart = λ p i j. i }) in
-    (b.us, all b.us (b.count ∙ count) b.blocks, record { count = b.count; classes = b.together; against =
-        λ p c i j. proper_against cs p c (b.proper p i) j })
+    (record { together = λ p q i j. absurd i; others = λ p i. absurd i; apart = λ p i j. i }) in (
+      b.us,
+      all b.us (b.count ∙ count) b.blocks,
+      record {
+        count = b.count;
+        classes = b.together;
+        against =
+            λ p c i j. proper_against cs p c (b.proper p i) j;
+      },
+    )
 
 -- ---- combinations
 
@@ -248,7 +281,7 @@ unfolding merge
 merged [] f h k = no_values (f k) (h k)
 merged (j ∷ ks) f h k =
     elim (nat_eq j k) as (λ b. nat_eq j k ≡ b → values_at k ks (merge ks g) ≡ cond b (rest (f k)) (f k) → length (f k)
-        ≡ cond b (suc (sort_count k ks)) (sort_count k ks)
+    ≡ cond b (suc (sort_count k ks)) (sort_count k ks)
     → cond b (first (f j) ∷ values_at k ks (merge ks g)) (values_at k ks (merge ks g)) ≡ f k) [
       | true ↦ λ e m l. (λ i. first (f (eqb-true j k e i)) ∷ m i) ∙ first_rest (f k) (sort_count k ks) l
       | false ↦ λ e m l. m
@@ -260,27 +293,27 @@ merged (j ∷ ks) f h k =
     fewer : (i : ℕ) → length (g i) ≡ sort_count i ks
     fewer i = elim (nat_eq j i) as (λ b. length (f i) ≡ cond b (suc (sort_count i ks)) (sort_count i ks)
         → length (cond b (rest (f i)) (f i)) ≡ sort_count i ks) [
-      | true ↦ λ l. length-rest (f i) (sort_count i ks) l
-      | false ↦ λ l. l
-    ] (h i)
+          | true ↦ λ l. length-rest (f i) (sort_count i ks) l
+          | false ↦ λ l. l
+        ] (h i)
 
 length-at : (k : ℕ) (ks : List ℕ) (vs : List ℤ) → length vs ≡ length ks → length (values_at k ks vs) ≡ sort_count k ks
 length-at k [] vs e = refl
 length-at k (j ∷ ks) [] e = absurd (omega (arith, e))
 length-at k (j ∷ ks) (v ∷ vs) e = elim (nat_eq j k) as (λ b. length (cond b (v ∷ values_at k ks vs) (values_at k ks vs))
     ≡ cond b (suc (sort_count k ks)) (sort_count k ks)) [
-  | true ↦ ap suc (length-at k ks vs (omega (arith, e)))
-  | false ↦ length-at k ks vs (omega (arith, e))
-]
+      | true ↦ ap suc (length-at k ks vs (omega (arith, e)))
+      | false ↦ length-at k ks vs (omega (arith, e))
+    ]
 
 in_values_at : (k : ℕ) (ks : List ℕ) (vs : List ℤ) (z : ℤ) → In z (values_at k ks vs) → In z vs
 in_values_at k [] vs z i = absurd i
 in_values_at k (j ∷ ks) [] z i = absurd i
 in_values_at k (j ∷ ks) (v ∷ vs) z i = elim (nat_eq j k) as (λ b. In z
     (cond b (v ∷ values_at k ks vs) (values_at k ks vs)) → In z (v ∷ vs)) [
-  | true ↦ λ i. elim i as (λ _. In z (v ∷ vs)) [ inl e ↦ inl e | inr h ↦ inr (in_values_at k ks vs z h) ]
-  | false ↦ λ i. inr (in_values_at k ks vs z i)
-] i
+      | true ↦ λ i. elim i as (λ _. In z (v ∷ vs)) [ inl e ↦ inl e | inr h ↦ inr (in_values_at k ks vs z h) ]
+      | false ↦ λ i. inr (in_values_at k ks vs z i)
+    ] i
 
 module _ (o : Sorts) (ks : List ℕ) (lists : ℕ → List (List ℤ))
     (covers : (k : ℕ) → CoverAt (o.kind k) (o.constants k) (sort_count k ks) (lists k)) (vs : List ℤ)

@@ -55,9 +55,9 @@ module _ (o : Sorts) (h : Map) (v w : Valuation) where
   atoms_moved [] m = refl
   atoms_moved (p ∷ ps) m =
       let here = args_moved (o.sort p.symbol.0) 0 p.args.items
-          (λ j t q. m j t (in_first (j, t) _ (sorted_terms o ps) q)) in
+      (λ j t q. m j t (in_first (j, t) _ (sorted_terms o ps) q)) in
       let more = atoms_moved ps (λ j t q. m j t (in_second (j, t) (terms_from (o.sort p.symbol.0) 0 p.args.items) _
-          q)) in
+      q)) in
       λ i. record { symbol = p.symbol; args = record { items = here i } } ∷ more i
 
 -- ---- values within their sorts' sets
@@ -75,10 +75,11 @@ module _ (o : Sorts) (d : Sets) (v : Valuation) where
   terms_within [] g j t i = absurd i
   terms_within (p ∷ ps) g j t i = elim (in_either (j, t) (terms_from (o.sort p.symbol.0) 0 p.args.items)
       (sorted_terms o ps) i) as (λ _. d j (term_value v t) ≡ true) [
-    | inl q ↦ args_within (o.sort p.symbol.0) 0 p.args.items (and_parts _ _ g).0 j t q
-    | inr q ↦ terms_within ps (and_parts (all_from (λ k. d (o.sort p.symbol.0 k)) 0 (map (term_value v) p.args.items)) _
-          g).1 j t q
-  ]
+        | inl q ↦ args_within (o.sort p.symbol.0) 0 p.args.items (and_parts _ _ g).0 j t q
+        | inr q ↦ terms_within ps (and_parts (all_from (λ k. d (o.sort p.symbol.0 k)) 0
+            (map (term_value v) p.args.items)) _
+            g).1 j t q
+      ]
 
   within_args : (sort : ℕ → ℕ) (k : ℕ) (ts : List Term)
       → ((j : ℕ) (t : Term) → In (j, t) (terms_from sort k ts) → d j (term_value v t) ≡ true)
@@ -238,31 +239,32 @@ module _ (o : Sorts) (r : Rule) (fit : FitRule o r) where
           → compares c (int_cmp (term_value moved t) (term_value moved u)) ≡ true
       answer c (Variable x) (Variable y) g b1 b2 a = elim (nat_eq x y) as (λ b. nat_eq x y ≡ b
           → compares c (int_cmp (moved x) (moved y)) ≡ true) [
-        | true ↦ λ e. (let q = eqb-true x y e in subst (λ z. compares c (int_cmp (moved x) (moved z)) ≡ true) q
-              (itself c (v x) (moved x) (subst (λ z. compares c (int_cmp (v x) (v z)) ≡ true) (sym q) a)))
-        | false ↦ λ e. subst (λ k. compares c (int_cmp (moved x) (h k (v y))) ≡ true) g.0
-            (answers_kept (o.kind (sort_of o r x)) c (h (sort_of o r x)) (d (sort_of o r x)) (is.keeps (sort_of o r x))
+            | true ↦ λ e. (let q = eqb-true x y e in subst (λ z. compares c (int_cmp (moved x) (moved z)) ≡ true) q
+                (itself c (v x) (moved x) (subst (λ z. compares c (int_cmp (v x) (v z)) ≡ true) (sym q) a)))
+            | false ↦ λ e. subst (λ k. compares c (int_cmp (moved x) (h k (v y))) ≡ true) g.0
+                (answers_kept (o.kind (sort_of o r x)) c (h (sort_of o r x)) (d (sort_of o r x))
+                (is.keeps (sort_of o r x))
                 (g.1 (eqb-false x y e)) (v x) (v y) (variable_within x (occurs_in x (heads_of r) b1))
-            (ap (λ k. d k (v y)) g.0 ∙ variable_within y (occurs_in y (heads_of r) b2)) a)
-      ] refl
+                (ap (λ k. d k (v y)) g.0 ∙ variable_within y (occurs_in y (heads_of r) b2)) a)
+          ] refl
       answer c (Variable x) (Constant e) g b1 b2 a = subst (λ z. compares c (int_cmp (moved x) z) ≡ true)
           (is.fixes (sort_of o r x) e g.0)
           (answers_kept (o.kind (sort_of o r x)) c (h (sort_of o r x)) (d (sort_of o r x))
-              (is.keeps (sort_of o r x)) g.1 (v x) e (variable_within x (occurs_in x (heads_of r) b1))
-              (is.there (sort_of o r x) e g.0) a)
+          (is.keeps (sort_of o r x)) g.1 (v x) e (variable_within x (occurs_in x (heads_of r) b1))
+          (is.there (sort_of o r x) e g.0) a)
       answer c (Constant e) (Variable y) g b1 b2 a = subst (λ z. compares c (int_cmp z (moved y)) ≡ true)
           (is.fixes (sort_of o r y) e g.0)
           (answers_kept (o.kind (sort_of o r y)) c (h (sort_of o r y)) (d (sort_of o r y))
-              (is.keeps (sort_of o r y)) g.1 e (v y) (is.there (sort_of o r y) e g.0)
-              (variable_within y (occurs_in y (heads_of r) b2)) a)
+          (is.keeps (sort_of o r y)) g.1 e (v y) (is.there (sort_of o r y) e g.0)
+          (variable_within y (occurs_in y (heads_of r) b2)) a)
       answer c (Constant e) (Constant e') g b1 b2 a = a
 
       pub guard_moved : guard_holds v r.guard.items ≡ true → guard_holds moved r.guard.items ≡ true
       guard_moved = guard_by v moved r.guard.items (λ c i. (
           let b = all_in (λ (k : Comparison). is_bound_in (heads_of r) k.left && is_bound_in (heads_of r) k.right)
-              r.guard.items (guard_known r) c i in
+          r.guard.items (guard_known r) c i in
           answer c.cmp c.left c.right (fit.compared c i) (and_parts _ _ b).0
-              (and_parts (is_bound_in (heads_of r) c.left) _ b).1))
+          (and_parts (is_bound_in (heads_of r) c.left) _ b).1))
 
 -- a guard that holds at the mapped values holds where its equations are met
 module _ (o : Sorts) (r : Rule) (fit : FitRule o r) (h : Map) (d : Sets) (is : IsSortedMap o h d) (v w : Valuation)
@@ -271,36 +273,36 @@ module _ (o : Sorts) (r : Rule) (fit : FitRule o r) (h : Map) (d : Sets) (is : I
   answer_back : (c : Cmp) (t u : Term) → FitComparison o (sort_of o r) c t u → is_bound_in (heads_of r) t ≡ true
       → is_bound_in (heads_of r) u ≡ true → (c ≡ Equal → term_value v t ≡ term_value v u)
       → compares c (int_cmp (term_value w t) (term_value w u)) ≡ true
-          → compares c (int_cmp (term_value v t) (term_value v u)) ≡ true
+      → compares c (int_cmp (term_value v t) (term_value v u)) ≡ true
   answer_back c (Variable x) (Variable y) g b1 b2 e a =
       elim (nat_eq x y) as (λ b. nat_eq x y ≡ b → compares c (int_cmp (v x) (v y)) ≡ true) [
-    | true ↦ λ q. (let p = eqb-true x y q in subst (λ z. compares c (int_cmp (v x) (v z)) ≡ true) p
-          (itself c (w x) (v x) (subst (λ z. compares c (int_cmp (w x) (w z)) ≡ true) (sym p) a)))
-    | false ↦ λ q. answers_back (o.kind (sort_of o r x)) c (h (sort_of o r x)) (d (sort_of o r x))
-          (is.keeps (sort_of o r x)) (g.1 (eqb-false x y q)) (v x) (v y) (inside x (occurs_in x (heads_of r) b1))
-        (ap (λ k. d k (v y)) g.0 ∙ inside y (occurs_in y (heads_of r) b2)) e
-        (ap (compares c) (λ i. int_cmp (sym (same x (occurs_in x (heads_of r) b1)) i)
+        | true ↦ λ q. (let p = eqb-true x y q in subst (λ z. compares c (int_cmp (v x) (v z)) ≡ true) p
+            (itself c (w x) (v x) (subst (λ z. compares c (int_cmp (w x) (w z)) ≡ true) (sym p) a)))
+        | false ↦ λ q. answers_back (o.kind (sort_of o r x)) c (h (sort_of o r x)) (d (sort_of o r x))
+            (is.keeps (sort_of o r x)) (g.1 (eqb-false x y q)) (v x) (v y) (inside x (occurs_in x (heads_of r) b1))
+            (ap (λ k. d k (v y)) g.0 ∙ inside y (occurs_in y (heads_of r) b2)) e
+            (ap (compares c) (λ i. int_cmp (sym (same x (occurs_in x (heads_of r) b1)) i)
             ((ap (λ k. h k (v y)) g.0 ∙ sym (same y (occurs_in y (heads_of r) b2))) i)) ∙ a)
-  ] refl
+      ] refl
   answer_back c (Variable x) (Constant n) g b1 b2 e a =
       answers_back (o.kind (sort_of o r x)) c (h (sort_of o r x)) (d (sort_of o r x)) (is.keeps (sort_of o r x)) g.1
-          (v x) n (inside x (occurs_in x (heads_of r) b1)) (is.there (sort_of o r x) n g.0) e
+      (v x) n (inside x (occurs_in x (heads_of r) b1)) (is.there (sort_of o r x) n g.0) e
       (ap (compares c) (λ i. int_cmp (sym (same x (occurs_in x (heads_of r) b1)) i) (is.fixes (sort_of o r x) n g.0 i))
-          ∙ a)
+      ∙ a)
   answer_back c (Constant n) (Variable y) g b1 b2 e a =
       answers_back (o.kind (sort_of o r y)) c (h (sort_of o r y)) (d (sort_of o r y)) (is.keeps (sort_of o r y)) g.1 n
-          (v y) (is.there (sort_of o r y) n g.0) (inside y (occurs_in y (heads_of r) b2)) e
+      (v y) (is.there (sort_of o r y) n g.0) (inside y (occurs_in y (heads_of r) b2)) e
       (ap (compares c) (λ i. int_cmp (is.fixes (sort_of o r y) n g.0 i) (sym (same y (occurs_in y (heads_of r) b2)) i))
-          ∙ a)
+      ∙ a)
   answer_back c (Constant n) (Constant n') g b1 b2 e a = a
 
   pub guard_back : ((c : Comparison) → In c r.guard.items → c.cmp ≡ Equal → term_value v c.left ≡ term_value v c.right)
       → guard_holds w r.guard.items ≡ true → guard_holds v r.guard.items ≡ true
   guard_back met = guard_by w v r.guard.items (λ c i. (
       let b = all_in (λ (k : Comparison). is_bound_in (heads_of r) k.left && is_bound_in (heads_of r) k.right)
-          r.guard.items (guard_known r) c i in
+      r.guard.items (guard_known r) c i in
       answer_back c.cmp c.left c.right (fit.compared c i) (and_parts _ _ b).0
-          (and_parts (is_bound_in (heads_of r) c.left) _ b).1 (met c i)))
+      (and_parts (is_bound_in (heads_of r) c.left) _ b).1 (met c i)))
 
 -- ---- steps
 
@@ -319,7 +321,7 @@ instance_carried : (o : Sorts) (h : Map) (d : Sets) (r : Rule) (v : Valuation) (
     → Carries (move o h) r v (λ x. h (sort_of o r x) (v x))
 instance_carried o h d r v s t fit is each st =
     carries o r fit h is.fixes v (λ x. h (sort_of o r x) (v x)) (λ x i. refl)
-        (guard_moved o r fit d is.there v (heads_within o d r v s t each st) h is st.guard)
+    (guard_moved o r fit d is.there v (heads_within o d r v s t each st) h is st.guard)
 
 pub sorted_steps : SortedStepsAreCarried
 sorted_steps o h d r v s t fit is each st = step_carried (move o h) r v _ s t

@@ -26,11 +26,14 @@ pub term_at : (o : Sorts) (ps : List Pattern) (t : Term) → In t (terms_of ps) 
 term_at o [] t i = absurd i
 term_at o (p ∷ ps) t i = elim (in_either t p.args.items (terms_of ps) i) as (λ _. (j : ℕ)
     × In (j, t) (sorted_terms o (p ∷ ps))) [
-  | inl h ↦ (let w = argument_at (o.sort p.symbol.0) 0 p.args.items t h in
-        (w.0, in_first (w.0, t) (terms_from (o.sort p.symbol.0) 0 p.args.items) (sorted_terms o ps) w.1))
-  | inr h ↦ (let w = term_at o ps t h in (w.0, in_second (w.0, t) (terms_from (o.sort p.symbol.0) 0 p.args.items)
-        (sorted_terms o ps) w.1))
-]
+      | inl h ↦ (let w = argument_at (o.sort p.symbol.0) 0 p.args.items t h in
+          (w.0, in_first (w.0, t) (terms_from (o.sort p.symbol.0) 0 p.args.items) (sorted_terms o ps) w.1))
+      | inr h ↦ (let w = term_at o ps t h in (
+        w.0,
+        in_second (w.0, t) (terms_from (o.sort p.symbol.0) 0 p.args.items)
+            (sorted_terms o ps) w.1,
+      ))
+    ]
 
 -- ---- the first sort
 
@@ -43,11 +46,13 @@ pub first_there : (ps : List (ℕ × Term)) (j x : ℕ) → In (j, Variable x) p
 first_there [] j x i = absurd i
 first_there (p ∷ ps) j x i = elim (is_variable x p.1) as (λ b. is_variable x p.1 ≡ b
     → In (cond b p.0 (first_sort ps x), Variable x) (p ∷ ps)) [
-  | true ↦ λ e. inl (λ k. (p.0, sym (own_is x p.1 e) k))
-  | false ↦ λ e. inr (first_there ps j x (elim i as (λ _. In (j, Variable x) ps)
-        [ inl q ↦ absurd (let w : is_variable x p.1 ≡ true = is_own x p.1 (sym (ap (λ (z : ℕ × Term). z.1) q)) in
-        let n : true ≡ false = sym w ∙ e in cc) | inr h ↦ h ]))
-] refl
+      | true ↦ λ e. inl (λ k. (p.0, sym (own_is x p.1 e) k))
+      | false ↦ λ e. inr (first_there ps j x (elim i as (λ _. In (j, Variable x) ps) [
+        | inl q ↦ absurd (let w : is_variable x p.1 ≡ true = is_own x p.1 (sym (ap (λ (z : ℕ × Term). z.1) q)) in
+            let n : true ≡ false = sym w ∙ e in cc)
+        | inr h ↦ h
+      ]))
+    ] refl
 
 -- a variable of the heads stands there at its sort
 pub stands_at_sort : (o : Sorts) (r : Rule) (x : ℕ) → In (Variable x) (terms_of (heads_of r))
@@ -74,6 +79,6 @@ pub term_in : (o : Sorts) (ps : List Pattern) (j : ℕ) (t : Term) → In (j, t)
 term_in o [] j t i = absurd i
 term_in o (p ∷ ps) j t i = elim (in_either (j, t) (terms_from (o.sort p.symbol.0) 0 p.args.items)
     (sorted_terms o ps) i) as (λ _. In t (p.args.items ++ terms_of ps)) [
-  | inl q ↦ in_first t p.args.items (terms_of ps) (argument_in (o.sort p.symbol.0) 0 p.args.items j t q)
-  | inr q ↦ in_second t p.args.items (terms_of ps) (term_in o ps j t q)
-]
+      | inl q ↦ in_first t p.args.items (terms_of ps) (argument_in (o.sort p.symbol.0) 0 p.args.items j t q)
+      | inr q ↦ in_second t p.args.items (terms_of ps) (term_in o ps j t q)
+    ]

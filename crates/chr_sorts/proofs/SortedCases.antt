@@ -74,17 +74,17 @@ joint_solves r1 r2 m v1 v2 case = unifies_from w (all_equations r1 r2 m)
     (λ e i. unifies_at w (equations_of r1 r2 m) (joint_meets r1 r2 m v1 v2 case.matches.agrees) e i)
     (λ e i. (let g = guard_equation r1.guard.items e i in let b = guard_bound r1 g.comparison g.stands in
     let q = equation_holds v1 g.comparison g.sign (all_in (comparison_holds v1) r1.guard.items case.guard1 g.comparison
-        g.stands) in
+    g.stands) in
     subst (λ (z : Term × Term). term_value w z.0 ≡ term_value w z.1) (sym g.sides)
     (like_bound r1 (variables_of r1) w v1 (joint_parts r1 r2 v1 v2).left g.comparison.left b.0 ∙ q
-        ∙ sym (like_bound r1 (variables_of r1) w v1 (joint_parts r1 r2 v1 v2).left g.comparison.right b.1))))
+    ∙ sym (like_bound r1 (variables_of r1) w v1 (joint_parts r1 r2 v1 v2).left g.comparison.right b.1))))
     (λ e i. (let g = guard_equation r2.guard.items e i in let b = guard_bound r2 g.comparison g.stands in
     let q = equation_holds v2 g.comparison g.sign (all_in (comparison_holds v2) r2.guard.items case.guard2 g.comparison
-        g.stands) in
+    g.stands) in
     subst (λ (z : Term × Term). term_value w (renamed_apart (variables_of r1) z.0)
-        ≡ term_value w (renamed_apart (variables_of r1) z.1)) (sym g.sides)
+    ≡ term_value w (renamed_apart (variables_of r1) z.1)) (sym g.sides)
     (like_apart r2 (variables_of r1) w v2 (joint_parts r1 r2 v1 v2).right g.comparison.left b.0 ∙ q
-        ∙ sym (like_apart r2 (variables_of r1) w v2 (joint_parts r1 r2 v1 v2).right g.comparison.right b.1)))))
+    ∙ sym (like_apart r2 (variables_of r1) w v2 (joint_parts r1 r2 v1 v2).right g.comparison.right b.1)))))
   where
     w : Valuation
     w = joint (variables_of r1) v1 v2
@@ -101,8 +101,8 @@ module _ (r1 r2 : Rule) (m : List ℕ) (is : IsMatching r1 r2 m) (σ : Substitut
   sorted_meets = unifies_from (left_at σ r1 r2 zs) (equations_of r1 r2 m)
       (λ e i. unifies_at (left_at σ r1 r2 zs) (all_equations r1 r2 m) sorted_solves e
       (in_first e (equations_of r1 r2 m ++ guard_equations r1.guard.items)
-          (map (equation_apart (variables_of r1)) (guard_equations r2.guard.items))
-          (in_first e (equations_of r1 r2 m) (guard_equations r1.guard.items) i)))
+      (map (equation_apart (variables_of r1)) (guard_equations r2.guard.items))
+      (in_first e (equations_of r1 r2 m) (guard_equations r1.guard.items) i)))
 
   pub sorted_is_case : guards_hold σ r1 r2 zs ≡ true → IsCase r1 r2 m (left_at σ r1 r2 zs) (right_at σ r1 r2 zs)
   sorted_is_case guards = record {
@@ -117,9 +117,9 @@ module _ (r1 r2 : Rule) (m : List ℕ) (is : IsMatching r1 r2 m) (σ : Substitut
       ≡ term_value (left_at σ r1 r2 zs) c.right
   left_met c i e = unifies_at (left_at σ r1 r2 zs) (all_equations r1 r2 m) sorted_solves (c.left, c.right)
       (in_first (c.left, c.right) (equations_of r1 r2 m ++ guard_equations r1.guard.items)
-          (map (equation_apart (variables_of r1)) (guard_equations r2.guard.items))
+      (map (equation_apart (variables_of r1)) (guard_equations r2.guard.items))
       (in_second (c.left, c.right) (equations_of r1 r2 m) (guard_equations r1.guard.items)
-          (has_equation r1.guard.items c i e)))
+      (has_equation r1.guard.items c i e)))
 
   apart_value : (t : Term) → term_value (left_at σ r1 r2 zs) (renamed_apart (variables_of r1) t)
       ≡ term_value (right_at σ r1 r2 zs) t
@@ -131,10 +131,10 @@ module _ (r1 r2 : Rule) (m : List ℕ) (is : IsMatching r1 r2 m) (σ : Substitut
   right_met c i e = sym (apart_value c.left) ∙ unifies_at (left_at σ r1 r2 zs) (all_equations r1 r2 m) sorted_solves
       (equation_apart (variables_of r1) (c.left, c.right))
       (in_second (equation_apart (variables_of r1) (c.left, c.right))
-          (equations_of r1 r2 m ++ guard_equations r1.guard.items)
-          (map (equation_apart (variables_of r1)) (guard_equations r2.guard.items))
+      (equations_of r1 r2 m ++ guard_equations r1.guard.items)
+      (map (equation_apart (variables_of r1)) (guard_equations r2.guard.items))
       (in_mapped (equation_apart (variables_of r1)) (c.left, c.right) (guard_equations r2.guard.items)
-          (has_equation r2.guard.items c i e))) ∙ apart_value c.right
+      (has_equation r2.guard.items c i e))) ∙ apart_value c.right
 
   -- 64-bit values of the free classes make a case of 64-bit values
   module _ (count : length zs ≡ length (free_variables σ r1 r2)) (values : AreValues zs) where
@@ -143,8 +143,8 @@ module _ (r1 r2 : Rule) (m : List ℕ) (is : IsMatching r1 r2 m) (σ : Substitut
       | inl h ↦ ap is_value (ap (term_value (assignment (free_variables σ r1 r2) zs)) h.1) ∙ h.2
       | inr h ↦ ap is_value (ap (term_value (assignment (free_variables σ r1 r2) zs)) h.1)
           ∙ is_value_of (assignment (free_variables σ r1 r2) zs h.0)
-              (values (assignment (free_variables σ r1 r2) zs h.0)
-              (beside_in (free_variables σ r1 r2) zs h.0 (sym count) h.2))
+          (values (assignment (free_variables σ r1 r2) zs h.0)
+          (beside_in (free_variables σ r1 r2) zs h.0 (sym count) h.2))
     ]
 
     left_value : (t : Term) → In t (terms_of (heads_of r1)) → is_value (term_value (left_at σ r1 r2 zs) t) ≡ true
@@ -172,7 +172,7 @@ sorted_values r1 r2 m is σ solves zs count values = sorted_store_values r1 r2 m
 module _ (o : Sorts) (r1 r2 : Rule) (fit1 : FitRule o r1) (fit2 : FitRule o r2) (m : List ℕ) (v1 v2 : Valuation)
     (case : IsCase r1 r2 m v1 v2) (σ : Substitution) (solves : IsMostGeneralUnifier σ (all_equations r1 r2 m))
     (zs : List ℤ) (stands : StandsFor o (class_sorts o σ r1 r2) zs
-        (map (joint (variables_of r1) v1 v2) (free_variables σ r1 r2))) where
+    (map (joint (variables_of r1) v1 v2) (free_variables σ r1 r2))) where
   is : IsMatching r1 r2 m
   is = matching_of r1 r2 m v1 v2 case
 
@@ -202,45 +202,50 @@ module _ (o : Sorts) (r1 r2 : Rule) (fit1 : FitRule o r1) (fit2 : FitRule o r2) 
       × (sets (at x) (left_at σ r1 r2 zs x) ≡ true)
   sent x l g = elim (goes r1 r2 m is σ solves x l g) as (λ _. (to (at x) (left_at σ r1 r2 zs x) ≡ w x)
       × (sets (at x) (left_at σ r1 r2 zs x) ≡ true)) [
-    | inl h ↦ (let e : left_at σ r1 r2 zs x ≡ h.0 = ap (term_value (assignment (free_variables σ r1 r2) zs)) h.1 in
-        let c : In h.0 (o.constants (at x)) = own_constant o at σ (all_equations r1 r2 m) solves
-            (all_alike o r1 r2 fit1 fit2 m is) x h.0 h.1 in
-        (ap (to (at x)) e ∙ sorted_map.fixes (at x) h.0 c ∙ sym (on x ∙ ap (term_value w) h.1), ap (sets (at x)) e
-            ∙ sorted_map.there (at x) h.0 c))
-    | inr h ↦ (let e : left_at σ r1 r2 zs x ≡ assignment (free_variables σ r1 r2) zs h.0 =
-          ap (term_value (assignment (free_variables σ r1 r2) zs)) h.1 in
-        let k : at x ≡ at h.0 = one_sort o at σ (all_equations r1 r2 m) solves (all_alike o r1 r2 fit1 fit2 m is) x h.0
+        | inl h ↦ (let e : left_at σ r1 r2 zs x ≡ h.0 = ap (term_value (assignment (free_variables σ r1 r2) zs)) h.1 in
+            let c : In h.0 (o.constants (at x)) = own_constant o at σ (all_equations r1 r2 m) solves
+            (all_alike o r1 r2 fit1 fit2 m is) x h.0 h.1 in (
+              ap (to (at x)) e ∙ sorted_map.fixes (at x) h.0 c ∙ sym (on x ∙ ap (term_value w) h.1),
+              ap (sets (at x)) e
+                  ∙ sorted_map.there (at x) h.0 c,
+            ))
+        | inr h ↦ (let e : left_at σ r1 r2 zs x ≡ assignment (free_variables σ r1 r2) zs h.0 =
+            ap (term_value (assignment (free_variables σ r1 r2) zs)) h.1 in
+            let k : at x ≡ at h.0 = one_sort o at σ (all_equations r1 r2 m) solves (all_alike o r1 r2 fit1 fit2 m is) x
+            h.0
             h.1 in
-        let p = sends_pair o (class_sorts o σ r1 r2) zs (map w (free_variables σ r1 r2)) stands (at h.0)
+            let p = sends_pair o (class_sorts o σ r1 r2) zs (map w (free_variables σ r1 r2)) stands (at h.0)
             (assignment (free_variables σ r1 r2) zs h.0, w h.0)
             (assigned at w (free_variables σ r1 r2) zs h.0 counts h.2) in
-        ((λ i. to (k i) (e i)) ∙ p.0 ∙ sym (on x ∙ ap (term_value w) h.1), (λ i. sets (k i) (e i)) ∙ p.1))
-  ]
+            ((λ i. to (k i) (e i)) ∙ p.0 ∙ sym (on x ∙ ap (term_value w) h.1), (λ i. sets (k i) (e i)) ∙ p.1))
+      ]
 
   left_sent : (x : ℕ) → In (Variable x) (terms_of (heads_of r1)) → (v1 x ≡ to (sort_of o r1 x) (left_at σ r1 r2 zs x))
       × (sets (sort_of o r1 x) (left_at σ r1 r2 zs x) ≡ true)
   left_sent x i =
       let b = head_variable r1 x i in let l = b.1 in
       let s = sent x b.0 (omega (arith, l)) in
-      let k = sort_left o r1 r2 x i in
-      (sym ((joint_parts r1 r2 v1 v2).left x i) ∙ sym s.0 ∙ ap (λ j. to j (left_at σ r1 r2 zs x)) k,
-          ap (λ j. sets j (left_at σ r1 r2 zs x)) (sym k) ∙ s.1)
+      let k = sort_left o r1 r2 x i in (
+        sym ((joint_parts r1 r2 v1 v2).left x i) ∙ sym s.0 ∙ ap (λ j. to j (left_at σ r1 r2 zs x)) k,
+        ap (λ j. sets j (left_at σ r1 r2 zs x)) (sym k) ∙ s.1,
+      )
 
   right_sent : (x : ℕ) → In (Variable x) (terms_of (heads_of r2)) → (v2 x ≡ to (sort_of o r2 x) (right_at σ r1 r2 zs x))
       × (sets (sort_of o r2 x) (right_at σ r1 r2 zs x) ≡ true)
   right_sent x i =
       let b = head_variable r2 x i in let l = b.0 in let g = b.1 in
       let s = sent (variables_of r1 + x) (omega (arith, l)) (omega (arith, g)) in
-      let k = sort_right o r1 r2 x i in
-      (sym ((joint_parts r1 r2 v1 v2).right x i) ∙ sym s.0 ∙ ap (λ j. to j (right_at σ r1 r2 zs x)) k,
-          ap (λ j. sets j (right_at σ r1 r2 zs x)) (sym k) ∙ s.1)
+      let k = sort_right o r1 r2 x i in (
+        sym ((joint_parts r1 r2 v1 v2).right x i) ∙ sym s.0 ∙ ap (λ j. to j (right_at σ r1 r2 zs x)) k,
+        ap (λ j. sets j (right_at σ r1 r2 zs x)) (sym k) ∙ s.1,
+      )
 
   guards_here : guards_hold σ r1 r2 zs ≡ true
   guards_here = and_from _ _
       (guard_back o r1 fit1 to sets sorted_map (left_at σ r1 r2 zs) v1 (λ x i. (left_sent x i).0)
-          (λ x i. (left_sent x i).1) (left_met r1 r2 m is σ solves zs) case.guard1)
+      (λ x i. (left_sent x i).1) (left_met r1 r2 m is σ solves zs) case.guard1)
       (guard_back o r2 fit2 to sets sorted_map (right_at σ r1 r2 zs) v2 (λ x i. (right_sent x i).0)
-          (λ x i. (right_sent x i).1) (right_met r1 r2 m is σ solves zs) case.guard2)
+      (λ x i. (right_sent x i).1) (right_met r1 r2 m is σ solves zs) case.guard2)
 
   here : IsCase r1 r2 m (left_at σ r1 r2 zs) (right_at σ r1 r2 zs)
   here = sorted_is_case r1 r2 m is σ solves zs guards_here
@@ -296,8 +301,8 @@ module _ (o : Sorts) (r1 r2 : Rule) (fit1 : FitRule o r1) (fit2 : FitRule o r2) 
 pub every_case : EveryCaseIsSorted
 every_case o rules fit i j r1 r2 at1 at2 m v1 v2 case each σ rs solves cover =
     let w = cover (map (joint (variables_of r1) v1 v2) (free_variables σ r1 r2))
-        (length-map (free_variables σ r1 r2) _ ∙ sym (length-map (free_variables σ r1 r2) (joint_sort o r1 r2)))
-        (class_values r1 r2 m v1 v2 case each σ) in
+    (length-map (free_variables σ r1 r2) _ ∙ sym (length-map (free_variables σ r1 r2) (joint_sort o r1 r2)))
+    (class_values r1 r2 m v1 v2 case each σ) in
     image_is o r1 r2 (fit i r1 at1) (fit j r2 at2) m v1 v2 case σ solves w.0 w.2 rs w.1
 
 -- ---- sorted cases decide
@@ -305,23 +310,23 @@ every_case o rules fit i j r1 r2 at1 at2 m v1 v2 case each σ rs solves cover =
 image_joins : (o : Sorts) (rules : List Rule) → Fit o rules → (i j : ℕ) (r1 r2 : Rule) → slice_get rules i ≡ Some r1
     → slice_get rules j ≡ Some r2 → (m : List ℕ) (σ : Substitution) (rs : List (List ℤ)) (v1 v2 : Valuation)
     → (im : IsImageOfSorted o r1 r2 m σ rs v1 v2) → ListedCaseIsJoinable rules r1 r2 m σ im.zs
-        → AreJoinable (Step rules) (side r1 v1 (case_store r1 r2 m v1 v2)) (side r2 v2 (case_store r1 r2 m v1 v2))
+    → AreJoinable (Step rules) (side r1 v1 (case_store r1 r2 m v1 v2)) (side r2 v2 (case_store r1 r2 m v1 v2))
 image_joins o rules fit i j r1 r2 at1 at2 m σ rs v1 v2 im joins =
     let one = sorts_stay o im.sets r1 _ _ _ (fit i r1 at1) im.sorted.there im.there (left_step r1 r2 m _ _ im.case) in
     let two = sorts_stay o im.sets r2 _ _ _ (fit j r2 at2) im.sorted.there im.there (right_step r1 r2 m _ _ im.case) in
     let j = sorted_joins o im.to im.sets rules (left_side σ r1 r2 m im.zs) (right_side σ r1 r2 m im.zs) fit im.sorted
-        one two joins in
+    one two joins in
     subst (λ s. AreJoinable (Step rules) s (side r2 v2 (case_store r1 r2 m v1 v2))) im.left
-        (subst (AreJoinable (Step rules) (image (move o im.to) (left_side σ r1 r2 m im.zs))) im.right j)
+    (subst (AreJoinable (Step rules) (image (move o im.to) (left_side σ r1 r2 m im.zs))) im.right j)
 
 pub sorted_suffice : SortedSuffice
 sorted_suffice o rules fit sorted i j r1 r2 at1 at2 ordered m v1 v2 case each =
     elim (sorted i j r1 r2 at1 at2 ordered m (matching_of r1 r2 m v1 v2 case)) as (λ _. AreJoinable (Step rules)
     (side r1 v1 (case_store r1 r2 m v1 v2)) (side r2 v2 (case_store r1 r2 m v1 v2))) [
-  | inl none ↦ absurd (none (joint (variables_of r1) v1 v2) (joint_solves r1 r2 m v1 v2 case))
-  | inr h ↦ (let im = every_case o rules fit i j r1 r2 at1 at2 m v1 v2 case each h.0 h.1 h.2 h.3 in
-        image_joins o rules fit i j r1 r2 at1 at2 m h.0 h.1 v1 v2 im (h.4 im.zs im.listed im.guards))
-]
+      | inl none ↦ absurd (none (joint (variables_of r1) v1 v2) (joint_solves r1 r2 m v1 v2 case))
+      | inr h ↦ (let im = every_case o rules fit i j r1 r2 at1 at2 m v1 v2 case each h.0 h.1 h.2 h.3 in
+          image_joins o rules fit i j r1 r2 at1 at2 m h.0 h.1 v1 v2 im (h.4 im.zs im.listed im.guards))
+    ]
 
 pub sorted_confluent : SortedMakeConfluent
 sorted_confluent o rules w fit lower sorted = confluent rules w lower
@@ -331,6 +336,6 @@ pub failing_sorted : FailingSortedRefutes
 failing_sorted rules i j r1 r2 at1 at2 m is σ solves zs count values guards a b x y differ =
     let case = sorted_is_case r1 r2 m is σ solves zs guards in
     not_confluent rules (listed_store σ r1 r2 m zs) (left_side σ r1 r2 m zs) (right_side σ r1 r2 m zs) a b
-        (sorted_store_values r1 r2 m is σ solves zs count values)
+    (sorted_store_values r1 r2 m is σ solves zs count values)
     (i, r1, left_at σ r1 r2 zs, at1, left_step r1 r2 m _ _ case)
-        (j, r2, right_at σ r1 r2 zs, at2, right_step r1 r2 m _ _ case) x y differ
+    (j, r2, right_at σ r1 r2 zs, at2, right_step r1 r2 m _ _ case) x y differ

@@ -38,7 +38,7 @@ module _ (cs us vs : List ℤ) (s : AtMostEqual cs us vs) where
   pairs_image (q ∷ ps) sub p i = elim (int_eq p.0 q.0) as (λ b. int_eq p.0 q.0 ≡ b → cond b q.1 (image ps p.0) ≡ p.1) [
     | true ↦ λ e. s.classes q p (sub q (inl refl)) (sub p i) (sym (same_yes p.0 q.0 e))
     | false ↦ λ e. pairs_image ps (λ r j. sub r (inr j)) p
-          (elim i as (λ _. In p ps) [ inl k ↦ absurd (same_no p.0 q.0 e (ap (λ (r : ℤ × ℤ). r.0) k)) | inr j ↦ j ])
+        (elim i as (λ _. In p ps) [ inl k ↦ absurd (same_no p.0 q.0 e (ap (λ (r : ℤ × ℤ). r.0) k)) | inr j ↦ j ])
   ] refl
 
   constant_image : (ps : List (ℤ × ℤ)) → ((p : ℤ × ℤ) → In p ps → In p (zip us vs)) → (c : ℤ) → In c cs → image ps c ≡ c
@@ -65,9 +65,9 @@ first_of_pair : (x : ℤ) (ps : List (ℤ × ℤ)) → list_any (λ (p : ℤ × 
 first_of_pair x [] h = absurd (true≢false (sym h))
 first_of_pair x (p ∷ ps) h = elim (or_cases (int_eq x p.0) (list_any (λ (q : ℤ × ℤ). int_eq x q.0) ps) h) as (λ _.
     (q : ℤ × ℤ) × In q (p ∷ ps) × (x ≡ q.0)) [
-  | inl e ↦ (p, inl refl, same_yes x p.0 e)
-  | inr t ↦ (let w = first_of_pair x ps t in (w.0, inr w.1, w.2))
-]
+      | inl e ↦ (p, inl refl, same_yes x p.0 e)
+      | inr t ↦ (let w = first_of_pair x ps t in (w.0, inr w.1, w.2))
+    ]
 
 -- a value of the set is one of the list's, or a constant
 abbrev IsOne : List (ℤ × ℤ) → List ℤ → ℤ → Type 0
@@ -76,9 +76,9 @@ IsOne ps cs x = ((p : ℤ × ℤ) × In p ps × (x ≡ p.0)) ⊎ In x cs
 one_of : (ps : List (ℤ × ℤ)) (cs : List ℤ) (x : ℤ) → among ps cs x ≡ true → IsOne ps cs x
 one_of ps cs x h = elim (or_cases (list_any (λ (p : ℤ × ℤ). int_eq x p.0) ps) (list_any (int_eq x) cs) h) as (λ _.
     IsOne ps cs x) [
-  | inl t ↦ inl (first_of_pair x ps t)
-  | inr t ↦ inr (in_constants x cs t)
-]
+      | inl t ↦ inl (first_of_pair x ps t)
+      | inr t ↦ inr (in_constants x cs t)
+    ]
 
 -- the map between lists of one partition keeps values apart
 module _ (cs us vs : List ℤ) (s : SamePartition cs us vs) where
@@ -127,8 +127,10 @@ module _ (o : Sorts) (ks : List ℕ) (us vs : List ℤ) where
 
     pub sends_pair : (k : ℕ) (p : ℤ × ℤ) → In p (zip (values_at k ks us) (values_at k ks vs))
         → (map_between k p.0 ≡ p.1) × (sets_between k p.0 ≡ true)
-    sends_pair k p i = (image_pair (o.constants k) (values_at k ks us) (values_at k ks vs) (weak k) p i,
-        among_pair (zip (values_at k ks us) (values_at k ks vs)) (o.constants k) p i)
+    sends_pair k p i = (
+      image_pair (o.constants k) (values_at k ks us) (values_at k ks vs) (weak k) p i,
+      among_pair (zip (values_at k ks us) (values_at k ks vs)) (o.constants k) p i,
+    )
 
 -- the values that two lists give a variable stand beside each other in its sort
 pub assigned : (at : ℕ → ℕ) (w : Valuation) (fs : List ℕ) (zs : List ℤ) (y : ℕ) → length fs ≡ length zs → In y fs
@@ -138,16 +140,16 @@ assigned at w (f ∷ fs) [] y e i = absurd (omega (arith, e))
 assigned at w (f ∷ fs) (z ∷ zs) y e i = elim (nat_eq y f) as (λ b. nat_eq y f ≡ b
     → In (cond b z (assignment fs zs y), w y)
     (zip (cond (nat_eq (at f) (at y)) (z ∷ values_at (at y) (map at fs) zs) (values_at (at y) (map at fs) zs))
-        (cond (nat_eq (at f) (at y)) (w f ∷ values_at (at y) (map at fs) (map w fs))
-        (values_at (at y) (map at fs) (map w fs))))) [
+    (cond (nat_eq (at f) (at y)) (w f ∷ values_at (at y) (map at fs) (map w fs))
+    (values_at (at y) (map at fs) (map w fs))))) [
       | true ↦ λ t. (let q : y ≡ f = eqb-true y f t in
           subst (λ b. In (z, w y) (zip (cond b (z ∷ values_at (at y) (map at fs) zs) (values_at (at y) (map at fs) zs))
-              (cond b (w f ∷ values_at (at y) (map at fs) (map w fs)) (values_at (at y) (map at fs) (map w fs)))))
+          (cond b (w f ∷ values_at (at y) (map at fs) (map w fs)) (values_at (at y) (map at fs) (map w fs)))))
           (sym (eq-eqb (at f) (at y) (ap at (sym q)))) (inl (λ k. (z, w (q k)))))
       | false ↦ λ t. (let more = assigned at w fs zs y (omega (arith, e))
-            (elim i as (λ _. In y fs) [ inl q ↦ absurd (eqb-false y f t q) | inr j ↦ j ]) in
+          (elim i as (λ _. In y fs) [ inl q ↦ absurd (eqb-false y f t q) | inr j ↦ j ]) in
           elim (nat_eq (at f) (at y)) as (λ b. In (assignment fs zs y, w y)
-              (zip (cond b (z ∷ values_at (at y) (map at fs) zs) (values_at (at y) (map at fs) zs))
-              (cond b (w f ∷ values_at (at y) (map at fs) (map w fs)) (values_at (at y) (map at fs) (map w fs)))))
-              [ true ↦ inr more | false ↦ more ])
+          (zip (cond b (z ∷ values_at (at y) (map at fs) zs) (values_at (at y) (map at fs) zs))
+          (cond b (w f ∷ values_at (at y) (map at fs) (map w fs)) (values_at (at y) (map at fs) (map w fs)))))
+          [ true ↦ inr more | false ↦ more ])
     ] refl

@@ -11,8 +11,13 @@ use Rattle.chr_start.specs.Statuses.{RunEnds, status_of}
 
 as_served : (bytes : Option (List ℕ)) (wanted : Wanted) (status : Status) (P : List ℕ → Type 0)
     → Writes bytes Run wanted status P → Writes bytes Serve wanted status P
-as_served bytes wanted status P w = record { input = w.input; is_read = w.is_read; out = w.out; is_output = w.is_output;
-    is_written = w.is_written }
+as_served bytes wanted status P w = record {
+  input = w.input;
+  is_read = w.is_read;
+  out = w.out;
+  is_output = w.is_output;
+  is_written = w.is_written;
+}
 
 pub output_served : (bytes old new : Option (List ℕ)) (wanted : Wanted) (status : Status)
     → WritesOutput bytes old new Run wanted status → WritesOutput bytes old new Serve wanted status
@@ -41,7 +46,12 @@ err_served bytes old new wanted verb (Err e) is w = subst (λ v. WritesBeginning
 pub service_ends : (bytes old new : Option (List ℕ)) (wanted : Wanted) (verb : Verb) (r : Result Status RunFault)
     (status : ℕ) → verb ≡ Serve → status ≡ status_of r
     → IfOk r (WritesOutput bytes old new Run wanted) → OnErr r (WritesBeginning bytes old new Run wanted)
-        → RunEnds bytes old new verb wanted status
+    → RunEnds bytes old new verb wanted status
 service_ends bytes old new wanted verb r status is ends ok err =
-    record { outcome = r; status_is = ends; ok = ok_served bytes old new wanted verb r is ok; err =
-        err_served bytes old new wanted verb r is err }
+    record {
+      outcome = r;
+      status_is = ends;
+      ok = ok_served bytes old new wanted verb r is ok;
+      err =
+          err_served bytes old new wanted verb r is err;
+    }

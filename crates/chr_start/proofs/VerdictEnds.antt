@@ -33,17 +33,26 @@ use Rattle.chr_start.specs.working.Verdicts.{as_status}
 abbrev HasOutput : Coverage → List ℕ → Status → Type 0
 HasOutput coverage text status =
     (out : List ℕ) × ((answer : Result Program ReadFault) × IsAnswer text answer
-        × IsReadOutput answer (replicas_by coverage 1) [] status out)
+    × IsReadOutput answer (replicas_by coverage 1) [] status out)
 
 module _ (coverage : Coverage) (p : Program) where
   by_cause : ProgramLowers p → (c : Cause) → IsRefusalBy coverage (rules_of p) c → ¬ (c ≡ cause.Memory)
       → (out : List ℕ) × IsRulesOutput (declarations p) (rules_of p) (replicas_by coverage 1) [] Refused out
-  by_cause lowers (cause.Fails f) first some =
-      (failure_text (declarations p) f ++ 10 ∷ [], inr
-          (record { lowers = lowers; cause = cause.Fails f; first = first; line = refl }))
-  by_cause lowers (cause.TooManyTypes t) first some =
-      (too_many_text t ++ 10 ∷ [], inr (record { lowers = lowers; cause = cause.TooManyTypes t; first = first; line =
-          refl }))
+  by_cause lowers (cause.Fails f) first some = (
+    failure_text (declarations p) f ++ 10 ∷ [],
+    inr
+        (record { lowers = lowers; cause = cause.Fails f; first = first; line = refl }),
+  )
+  by_cause lowers (cause.TooManyTypes t) first some = (
+    too_many_text t ++ 10 ∷ [],
+    inr (record {
+      lowers = lowers;
+      cause = cause.TooManyTypes t;
+      first = first;
+      line =
+          refl;
+    }),
+  )
   by_cause lowers cause.Memory first some = absurd (some refl)
 
   by_rules : IsUnlowered p ⊎ IsRefusedByOverlap coverage p → (out : List ℕ)
@@ -65,8 +74,15 @@ text_output coverage text verdict.Accepted h = (
   (
     Ok h.0,
     h.1,
-    record { lowers = h.2.lowers; cases = h.2.cases; accepted = h.2.accepted; answers = []; answered = refl; out_is =
-        refl },
+    record {
+      lowers = h.2.lowers;
+      cases = h.2.cases;
+      accepted = h.2.accepted;
+      answers = [];
+      answered = refl;
+      out_is =
+          refl;
+    },
   ),
 )
 text_output coverage text verdict.Refused (inl r) = refused_output coverage text r
@@ -90,7 +106,7 @@ pub verdict_ends : (coverage : Coverage) (bytes : Option (List ℕ)) (text kept 
     → status ≡ as_status v → EndsAsCheck coverage bytes status
 verdict_ends coverage bytes text kept v status d is h same =
     let o = checked coverage text kept v is h in kept_ends coverage bytes kept status d
-        (o.0, subst (λ s. IsOutput Check (replicas_by coverage 1) kept s o.0) (sym same) o.1)
+    (o.0, subst (λ s. IsOutput Check (replicas_by coverage 1) kept s o.0) (sym same) o.1)
 
 -- an explanation has ended
 pub explanation_ends : (coverage : Coverage) (bytes old new : Option (List ℕ)) (r : Result Status RunFault) (status : ℕ)

@@ -26,7 +26,7 @@ written_first t w rest us lexeme ends = (
   λ h. by (tokens_of rest) refl (sym (written_read t w rest lexeme ends) ∙ tokens_found (w ++ rest) us h),
   λ (ts, is, h).
       found_are (w ++ rest) us (written_read t w rest lexeme ends
-          ∙ ap (option_map (λ l. t ∷ l)) (tokens_found rest ts h) ∙ ap Some (sym is)),
+      ∙ ap (option_map (λ l. t ∷ l)) (tokens_found rest ts h) ∙ ap Some (sym is)),
 )
   where
     by : (o : Option (List Tok)) → tokens_of rest ≡ o → option_map (λ l. t ∷ l) o ≡ Some us → (ts : List Tok)

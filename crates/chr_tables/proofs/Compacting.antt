@@ -106,7 +106,7 @@ atoms_moved cs ds ss to from s a l moved others e =
     let here : from ≡ 0 + from = omega arith in
     rows_moved cs ds to 0 to ss s (get_or (row_atoms ds 0 ss) from a) others (omega arith)
     (row_as cs ds to from s moved ∙ ap (λ k. row_atom ds k s) here ∙ ap (row_atom ds (0 + from)) e
-        ∙ sym (atom_at ds 0 ss from s a l))
+    ∙ sym (atom_at ds 0 ss from s a l))
 
 pub atoms_taken : (cs : List (List ℤ)) (row : ℕ) (ss : List Shape) (n : ℕ) → row_atoms cs row (take n ss)
     ≡ take n (row_atoms cs row ss)
@@ -122,16 +122,16 @@ AreKept atoms bs count row all = take count atoms ++ chosen (drop row atoms) (dr
 chosen_at : (atoms : List Atom) (bs : List Bool) (row : ℕ) (x : Atom) (b d : Bool) → row < length atoms
     → row < length bs → x ≡ get_or atoms row x → get_or bs row d ≡ b
     → chosen (drop row atoms) (drop row bs) ≡ cond b (x ∷ chosen (drop (row + 1) atoms) (drop (row + 1) bs))
-        (chosen (drop (row + 1) atoms) (drop (row + 1) bs))
+    (chosen (drop (row + 1) atoms) (drop (row + 1) bs))
 chosen_at atoms bs row x b d l m is flag =
     (λ i. chosen (drop_more atoms row x l i) (drop_more bs row d m i))
     ∙ (λ i. cond (flag i) (sym is i ∷ chosen (drop (row + 1) atoms) (drop (row + 1) bs))
-        (chosen (drop (row + 1) atoms) (drop (row + 1) bs)))
+    (chosen (drop (row + 1) atoms) (drop (row + 1) bs)))
 
 pub kept_more : (atoms : List Atom) (bs : List Bool) (count row : ℕ) (all : List Atom) (x : Atom) → count ≤ row
     → row < length atoms → row < length bs
     → x ≡ get_or atoms row x → get_or bs row false ≡ true → AreKept atoms bs count row all
-        → AreKept (set atoms count x) bs (count + 1) (row + 1) all
+    → AreKept (set atoms count x) bs (count + 1) (row + 1) all
 kept_more atoms bs count row all x le l m is flag kept =
     let new = take_more_set atoms count x (omega (arith, le, l)) in
     let old = drop-set-lt (row + 1) atoms count x (omega (arith, le)) in
@@ -142,7 +142,7 @@ kept_more atoms bs count row all x le l m is flag kept =
 pub kept_same : (atoms : List Atom) (bs : List Bool) (count row : ℕ) (all : List Atom) (x : Atom) → row < length atoms
     → row < length bs
     → x ≡ get_or atoms row x → get_or bs row false ≡ false → AreKept atoms bs count row all
-        → AreKept atoms bs count (row + 1) all
+    → AreKept atoms bs count (row + 1) all
 kept_same atoms bs count row all x l m is flag kept =
     ap (λ xs. take count atoms ++ xs) (sym (chosen_at atoms bs row x false false l m is flag)) ∙ kept
 
@@ -180,8 +180,8 @@ pub entered_more : (atoms : List Atom) (ways : List Way) (entries entries' : Lis
     (a : Atom) → row < length atoms → a ≡ get_or atoms row a
     → AreIndexed (map (λ a. Some a) (take row atoms)) ways entries
     → ((j : ℕ) → j < length ways → get_or entries' j [] ≡ get_or entries j []
-        ++ Some (atom_entry (get_or ways j no_way) a) ∷ [])
+    ++ Some (atom_entry (get_or ways j no_way) a) ∷ [])
     → AreIndexed (map (λ a. Some a) (take (row + 1) atoms)) ways entries'
 entered_more atoms ways entries entries' row a l is h k =
     rw (map_more (λ (x : Atom). Some x) atoms row a l, sym is)
-        (indexed_push (map (λ a. Some a) (take row atoms)) ways entries entries' a h k)
+    (indexed_push (map (λ a. Some a) (take row atoms)) ways entries entries' a h k)

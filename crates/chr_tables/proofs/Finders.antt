@@ -36,8 +36,13 @@ IsNarrow column band range = column ≡ band.column → (x : ℤ) → IsIn range
 -- by the hash alone
 pub chained_found : (index : Listed) (h : ℕ) (span : Span) (r : ℕ) → HasHash index.rows h r
     → IsFinderRow (Chained index) h span r
-chained_found index h span r e = (hashed h, found_at hashed index.rows r h e, refl, no_column span.first.column,
-    no_column span.second.column)
+chained_found index h span r e = (
+  hashed h,
+  found_at hashed index.rows r h e,
+  refl,
+  no_column span.first.column,
+  no_column span.second.column,
+)
 
 pub found_chained : (index : Listed) (h : ℕ) (span : Span) (r : ℕ) → IsFinderRow (Chained index) h span r
     → HasHash index.rows h r
@@ -49,9 +54,13 @@ found_chained index h span r s =
 module _ (column : ℕ) (index : ListedEntries) (h : ℕ) (span : Span) (range : Range) (r : ℕ) where
   pub ranged_found : IsNarrow column span.first range → IsWanted index.rows h range r
       → IsFinderRow (Ranged column index) h span r
-  ranged_found narrow w =
-      (ranged w.0, found_at ranged index.rows r w.0 w.1, w.2, λ e. narrow (same_Some _ _ e) w.0.value w.3,
-          no_column span.second.column)
+  ranged_found narrow w = (
+    ranged w.0,
+    found_at ranged index.rows r w.0 w.1,
+    w.2,
+    λ e. narrow (same_Some _ _ e) w.0.value w.3,
+    no_column span.second.column,
+  )
 
   pub found_ranged : IsWide column span.first range → IsFinderRow (Ranged column index) h span r
       → IsWanted index.rows h range r

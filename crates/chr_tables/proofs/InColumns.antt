@@ -21,7 +21,7 @@ arguments_more cs row j zero = let e : j ≡ j + 0 = omega arith in ap (λ k. ce
 arguments_more cs row j (suc n) =
     let e : suc j + n ≡ j + suc n = omega arith in
     ap (λ xs. cell_value cs j row ∷ xs) (arguments_more cs row (suc j) n
-        ∙ ap (λ k. arguments cs row (suc j) n ++ cell_value cs k row ∷ []) e)
+    ∙ ap (λ k. arguments cs row (suc j) n ++ cell_value cs k row ∷ []) e)
 
 arguments_same : (cs ds : List (List ℤ)) (row : ℕ) → ((j : ℕ) → cell_value cs j row ≡ cell_value ds j row) → (j n : ℕ)
     → arguments cs row j n ≡ arguments ds row j n
@@ -37,8 +37,8 @@ arguments_are cs row (x ∷ xs) k e =
     let more : (j : ℕ) → suc k + j ≡ k + suc j = λ j. (omega arith) in
     let first : cell_value cs k row ≡ x = ap (λ n. cell_value cs n row) here ∙ e 0 (omega arith) in
     let rest : arguments cs row (suc k) (length xs) ≡ xs =
-        arguments_are cs row xs (suc k) (λ j l. ap (λ n. cell_value cs n row) (more j)
-        ∙ e (suc j) (omega (arith, l))) in
+    arguments_are cs row xs (suc k) (λ j l. ap (λ n. cell_value cs n row) (more j)
+    ∙ e (suc j) (omega (arith, l))) in
     λ i. first i ∷ rest i
 
 -- a row with these values
@@ -86,12 +86,12 @@ pushed_from cs ds n row (x ∷ ss) s a e l is =
 pub atoms_pushed : (cs ds : List (List ℤ)) (n : ℕ) (ss : List Shape) (s : Shape) (old : List Atom) (a : Atom)
     → AgreeBelow cs ds n → length ss ≡ n
     → s.symbol ≡ a.symbol → s.arity ≡ length a.args.items → arguments cs n 0 (length a.args.items) ≡ a.args.items
-        → row_atoms ds 0 ss ≡ old
+    → row_atoms ds 0 ss ≡ old
     → row_atoms cs 0 (ss ++ s ∷ []) ≡ old ++ a ∷ []
 atoms_pushed cs ds n ss s old a e l symbol arity args was =
     let items : arguments cs n 0 s.arity ≡ a.args.items = ap (arguments cs n 0) arity ∙ args in
     pushed_from cs ds n 0 ss s a e (omega (arith, l)) (λ i.
-        record { symbol = symbol i; args = record { items = items i } }) ∙ ap (λ xs. xs ++ a ∷ []) was
+    record { symbol = symbol i; args = record { items = items i } }) ∙ ap (λ xs. xs ++ a ∷ []) was
 
 -- a column is put back whose first rows are the same
 pub column_put : (cs : List (List ℤ)) (j : ℕ) (c : List ℤ) (n : ℕ) → j < length cs
@@ -102,7 +102,7 @@ column_put cs j c n l e k i h = elim (cases_lt k j) as (λ _. cell_value (set cs
     | inl less ↦ ap (λ x. get_or x i (pos 0)) (get_or-set_other cs j k c [] (λ p. (absurd (omega (arith, p, less)))))
     | inr least ↦ (let p : k ≡ j = omega (arith, most, least) in
         ap (λ m. cell_value (set cs j c) m i) p ∙ ap (λ x. get_or x i (pos 0)) (get_or-set_same cs j c [] l) ∙ e i h
-            ∙ ap (λ m. cell_value cs m i) (sym p))
+        ∙ ap (λ m. cell_value cs m i) (sym p))
   ]
 ]
 
@@ -110,12 +110,13 @@ column_put cs j c n l e k i h = elim (cases_lt k j) as (λ _. cell_value (set cs
 pub values_put : (cs : List (List ℤ)) (j : ℕ) (c : List ℤ) (row : ℕ) (xs : List ℤ) → j < length cs
     → ((k : ℕ) → k < j → cell_value cs k row ≡ get_or xs k (pos 0))
     → get_or c row (pos 0) ≡ get_or xs j (pos 0) → (k : ℕ) → k < j + 1 → cell_value (set cs j c) k row
-        ≡ get_or xs k (pos 0)
+    ≡ get_or xs k (pos 0)
 values_put cs j c row xs l done e k h = elim (cases_lt k j) as (λ _. cell_value (set cs j c) k row
     ≡ get_or xs k (pos 0)) [
-  | inl less ↦ ap (λ x. get_or x row (pos 0)) (get_or-set_other cs j k c [] (λ p. (absurd (omega (arith, p, less)))))
-        ∙ done k less
-  | inr most ↦ (let p : k ≡ j = omega (arith, h, most) in
-      ap (λ m. cell_value (set cs j c) m row) p ∙ ap (λ x. get_or x row (pos 0)) (get_or-set_same cs j c [] l) ∙ e
+      | inl less ↦ ap (λ x. get_or x row (pos 0)) (get_or-set_other cs j k c []
+          (λ p. (absurd (omega (arith, p, less)))))
+          ∙ done k less
+      | inr most ↦ (let p : k ≡ j = omega (arith, h, most) in
+          ap (λ m. cell_value (set cs j c) m row) p ∙ ap (λ x. get_or x row (pos 0)) (get_or-set_same cs j c [] l) ∙ e
           ∙ ap (λ m. get_or xs m (pos 0)) (sym p))
-]
+    ]

@@ -46,7 +46,7 @@ value_at (x ∷ order) a (suc j) c e = value_at order a j c e
 module _ (rows : List (Option Atom)) (ways : List Way) (entries : List (List (Option Found))) (i : ℕ) (f : Finder)
     (way : Way) (key : List ℤ) (h : ℕ)
     (is : AreIndexed rows ways entries) (l : i < length ways) (here : finder_rows f ≡ get_or entries i [])
-        (this : get_or ways i no_way ≡ way) (hash : h ≡ key_hash way.seed key) where
+    (this : get_or ways i no_way ≡ way) (hash : h ≡ key_hash way.seed key) where
   columns_here : slice_get (map (λ w. w.columns) ways) i ≡ Some way.columns
   columns_here = slice_get-map (λ w. w.columns) ways i ∙ ap (option_map (λ w. w.columns))
       (slice_get-get_or ways i no_way l ∙ ap Some this)
@@ -63,9 +63,12 @@ module _ (rows : List (Option Atom)) (ways : List Way) (entries : List (List (Op
       → HasFoundHash (finder_rows f) h r
   has_hash r e =
       let g : key_of way.columns e.0 ≡ key = same_Some _ _
-          (sym (ap (option_map (λ cs. key_of cs e.0)) columns_here) ∙ e.2) in
-      (atom_entry way e.0, ap (λ ys. get_or ys r None) rows_are ∙ row_entry rows way r e.0 e.1, ap (key_hash way.seed) g
-          ∙ sym hash)
+      (sym (ap (option_map (λ cs. key_of cs e.0)) columns_here) ∙ e.2) in (
+        atom_entry way e.0,
+        ap (λ ys. get_or ys r None) rows_are ∙ row_entry rows way r e.0 e.1,
+        ap (key_hash way.seed) g
+            ∙ sym hash,
+      )
 
   found_is : (r : ℕ) (e : Found) → get_or (finder_rows f) r None ≡ Some e → (a : Atom) × (get_or rows r None ≡ Some a)
       × (atom_entry way a ≡ e)
@@ -75,7 +78,7 @@ module _ (rows : List (Option Atom)) (ways : List Way) (entries : List (List (Op
       ≡ Some c → argument a c ≡ get_or e.values j (pos 0)
   value_is order j c a e is at =
       sym (value_at way.order a j c (ap (λ o. slice_get o j) (sym order) ∙ at))
-          ∙ ap (λ (x : Found). get_or x.values j (pos 0)) is
+      ∙ ap (λ (x : Found). get_or x.values j (pos 0)) is
 
   has_value : order_in f ≡ way.order → (j : ℕ) (band : Band) (a : Atom) (e : Found) → atom_entry way a ≡ e
       → IsInBand band a → HasValueIn (order_in f) j band e.values
@@ -86,7 +89,7 @@ module _ (rows : List (Option Atom)) (ways : List Way) (entries : List (List (Op
       → IsInBandBy (get_or (map (λ w. w.order) ways) i []) j band a
   in_band order j band a e is has at =
       let there : get_or (map (λ w. w.order) ways) i [] ≡ way.order = get_or-map (λ (w : Way). w.order) ways i no_way []
-          l ∙ ap (λ (w : Way). w.order) this in
+      l ∙ ap (λ (w : Way). w.order) this in
       let here : slice_get (order_in f) j ≡ Some band.column = ap (λ o. slice_get o j) (order ∙ sym there) ∙ at in
       subst (IsIn band.range) (sym (value_is order j band.column a e is here)) (has here)
 
@@ -98,9 +101,13 @@ module _ (rows : List (Option Atom)) (ways : List Way) (entries : List (List (Op
       let w = has_hash r e in
       let x = found_is r w.0 w.1 in
       let a : s.0 ≡ x.0 = same_Some _ _ (sym s.1 ∙ x.1) in
-      let in_span : Spans span x.0 = subst (Spans span) a s.2 in
-      (w.0, w.1, w.2, has_value order 0 span.first x.0 w.0 x.2 in_span.0,
-          has_value order 1 span.second x.0 w.0 x.2 in_span.1)
+      let in_span : Spans span x.0 = subst (Spans span) a s.2 in (
+        w.0,
+        w.1,
+        w.2,
+        has_value order 0 span.first x.0 w.0 x.2 in_span.0,
+        has_value order 1 span.second x.0 w.0 x.2 in_span.1,
+      )
 
   -- what it finds lies in the bands of its order's columns
   pub lies : (span : Span) → order_in f ≡ way.order → (r : ℕ) → IsFinderRow f h span r

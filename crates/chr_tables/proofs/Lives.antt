@@ -116,11 +116,11 @@ indexed_kill rows ways entries entries' r h k j l = k j ∙ ap (λ xs. set xs r 
 pub indexed_push : (rows : List (Option Atom)) (ways : List Way) (entries entries' : List (List (Option Found)))
     (a : Atom) → AreIndexed rows ways entries
     → ((j : ℕ) → j < length ways → get_or entries' j [] ≡ get_or entries j []
-        ++ Some (atom_entry (get_or ways j no_way) a) ∷ [])
+    ++ Some (atom_entry (get_or ways j no_way) a) ∷ [])
     → AreIndexed (rows ++ Some a ∷ []) ways entries'
 indexed_push rows ways entries entries' a h k j l =
     k j l ∙ ap (λ xs. xs ++ Some (atom_entry (get_or ways j no_way) a) ∷ []) (h j l)
-        ∙ sym (map-append (entry_in (get_or ways j no_way)) rows (Some a ∷ []))
+    ∙ sym (map-append (entry_in (get_or ways j no_way)) rows (Some a ∷ []))
 
 pub table_same : (atoms : List Atom) (alive : List Bool) (ks ks' : List Keyed) → IsTable atoms alive ks → ways_of ks'
     ≡ ways_of ks → keyed_entries ks' ≡ keyed_entries ks
@@ -130,7 +130,7 @@ table_same atoms alive ks ks' t c r = record { as_alive = t.as_alive; few = t.fe
 pub table_kill : (atoms : List Atom) (alive : List Bool) (ks ks' : List Keyed) (r : ℕ) → IsTable atoms alive ks
     → ways_of ks' ≡ ways_of ks
     → ((j : ℕ) → get_or (keyed_entries ks') j [] ≡ set (get_or (keyed_entries ks) j []) r None)
-        → length (set alive r false) ≡ length alive
+    → length (set alive r false) ≡ length alive
     → IsTable atoms (set alive r false) ks'
 table_kill atoms alive ks ks' r t c k len = record {
   as_alive = len ∙ t.as_alive;
@@ -142,7 +142,7 @@ table_kill atoms alive ks ks' r t c k len = record {
 pub table_push : (atoms : List Atom) (alive : List Bool) (ks ks' : List Keyed) (a : Atom) → IsTable atoms alive ks
     → length atoms + 1 < 2 ^ 32 → ways_of ks' ≡ ways_of ks
     → ((j : ℕ) → j < length ks → get_or (keyed_entries ks') j [] ≡ get_or (keyed_entries ks) j []
-        ++ Some (atom_entry (get_or (ways_of ks) j no_way) a) ∷ [])
+    ++ Some (atom_entry (get_or (ways_of ks) j no_way) a) ∷ [])
     → IsTable (atoms ++ a ∷ []) (alive ++ true ∷ []) ks'
 table_push atoms alive ks ks' a t f c r = record {
   as_alive = (let x = length-append atoms (a ∷ []) in let y = length-append alive (true ∷ []) in let z = t.as_alive in
@@ -150,7 +150,7 @@ table_push atoms alive ks ks' a t f c r = record {
   few = (let x = length-append atoms (a ∷ []) in omega (arith, x, f));
   indexed = rw (c, live_push atoms alive a t.as_alive)
       (indexed_push (live atoms alive) (ways_of ks) (keyed_entries ks) (keyed_entries ks') a t.indexed
-          (λ j l. r j (let n = length_ways ks in omega (arith, n, l))));
+      (λ j l. r j (let n = length_ways ks in omega (arith, n, l))));
 }
 
 -- one more index, of a table without rows
@@ -162,17 +162,17 @@ table_index atoms alive ks k t none empty = record {
   few = t.few;
   indexed = λ j l. (rw (none, map-append (λ (x : Keyed). finder_rows x.index) ks (k ∷ []))
       (elim (cases_lt j (length (keyed_entries ks))) as (λ _. get_or (keyed_entries ks ++ finder_rows k.index ∷ []) j []
-          ≡ []) [
+      ≡ []) [
         | inl less ↦ get_or_append_left (keyed_entries ks) (finder_rows k.index ∷ []) [] j less
             ∙ t.indexed j (let n = length_ways ks in let m = length_entries ks in omega (arith, n, m, less))
-                ∙ ap (map (entry_in (get_or (ways_of ks) j no_way))) none
+            ∙ ap (map (entry_in (get_or (ways_of ks) j no_way))) none
         | inr most ↦ elim (cases_lt (length (keyed_entries ks)) j) as (λ _. get_or
-              (keyed_entries ks ++ finder_rows k.index ∷ []) j [] ≡ []) [
-          | inl more ↦ (let n = length-append (keyed_entries ks) (finder_rows k.index ∷ []) in
-                get_or_past (keyed_entries ks ++ finder_rows k.index ∷ []) j [] (omega (arith, n, more)))
-          | inr least ↦ (let e : j ≡ length (keyed_entries ks) = omega (arith, most, least) in
-              ap (λ i. get_or (keyed_entries ks ++ finder_rows k.index ∷ []) i []) e
+            (keyed_entries ks ++ finder_rows k.index ∷ []) j [] ≡ []) [
+              | inl more ↦ (let n = length-append (keyed_entries ks) (finder_rows k.index ∷ []) in
+                  get_or_past (keyed_entries ks ++ finder_rows k.index ∷ []) j [] (omega (arith, n, more)))
+              | inr least ↦ (let e : j ≡ length (keyed_entries ks) = omega (arith, most, least) in
+                  ap (λ i. get_or (keyed_entries ks ++ finder_rows k.index ∷ []) i []) e
                   ∙ get_or-append_seam (keyed_entries ks) (finder_rows k.index) [] [] ∙ empty)
-        ]
+            ]
       ]));
 }

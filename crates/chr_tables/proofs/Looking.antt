@@ -23,13 +23,13 @@ argument_is cs row j (suc n) (suc i) value e = let here : j + suc i ≡ suc j + 
 argument_at : (cs : List (List ℤ)) (first : ℕ) (ss : List Shape) (r : ℕ) (a : Atom) (column : ℕ) (value : ℤ)
     → r < length ss
     → get_or (row_atoms cs first ss) r a ≡ a → slice_get a.args.items column ≡ Some value
-        → cell_value cs column (first + r) ≡ value
+    → cell_value cs column (first + r) ≡ value
 argument_at cs first [] r a column value l e h = absurd (omega (arith, l))
 argument_at cs first (s ∷ ss) zero a column value l e h =
     let here : first + 0 ≡ first = omega arith in
     let same : column ≡ 0 + column = omega arith in
     ap (cell_value cs column) here ∙ ap (λ k. cell_value cs k first) same ∙ argument_is cs first 0 s.arity column value
-        (ap (λ (b : Atom). slice_get b.args.items column) e ∙ h)
+    (ap (λ (b : Atom). slice_get b.args.items column) e ∙ h)
 argument_at cs first (s ∷ ss) (suc r) a column value l e h =
     let here : first + suc r ≡ suc first + r = omega arith in
     ap (cell_value cs column) here ∙ argument_at cs (suc first) ss r a column value (omega (arith, l)) e h
@@ -43,7 +43,7 @@ module _ (cs : List (List ℤ)) (ss : List Shape) (atoms : List Atom) (is : atom
       let same : row ≡ 0 + row = omega arith in
       none row l m
       (ap (λ ys. get_or ys row (pos 0)) at ∙ ap (cell_value cs column) same
-          ∙ argument_at cs 0 ss row a column value here (ap (λ as'. get_or as' row a) is ∙ e) h)
+      ∙ argument_at cs 0 ss row a column value here (ap (λ as'. get_or as' row a) is ∙ e) h)
 
   pub least_has : (found : Option ℕ) → IfSome found (λ row. row < length ss) → IfSome found (NoneIs xs value from)
       → IfSome found (NoneHasArgument atoms column value from)

@@ -27,8 +27,7 @@ AreInOrder ls = (j : ℕ) (l : Lookup) → j < length ls → get_or ls j l ≡ l
 
 pub in_order_more : (ls : List Lookup) (l : Lookup) → AreInOrder ls → l.table ≡ 0 → l.index ≡ length ls
     → AreInOrder (ls ++ l ∷ [])
-in_order_more ls l before table index j k h here = elim (cases_lt j (length ls)) as (λ _. (k.table ≡ 0) × (k.index ≡ j))
-    [
+in_order_more ls l before table index j k h here = elim (cases_lt j (length ls)) as (λ _. (k.table ≡ 0) × (k.index ≡ j)) [
   | inl less ↦ before j k less (sym (get_or_append_left ls (l ∷ []) k j less) ∙ here)
   | inr most ↦ (let n = length-append ls (l ∷ []) in
       let i : j ≡ length ls = omega (arith, h, n, most) in
@@ -41,10 +40,10 @@ pub fits_one : (r : Rule) (ls : List Lookup) (t : Contents) → AreInOrder ls �
 fits_one r ls t order keys = record {
   index = λ j l h e. (let o = order j l h e in
       ap (λ n. contents.index_columns (t ∷ []) n l.index) o.0 ∙ ap (slice_get t.keys) o.1
-          ∙ ap (λ ks. slice_get ks j) keys
+      ∙ ap (λ ks. slice_get ks j) keys
       ∙ slice_get-map (λ (x : Lookup). columns_of x.partner.key.items) ls j
-          ∙ ap (option_map (λ (x : Lookup). columns_of x.partner.key.items))
-          (slice_get_read ls (length ls) j l refl h (sym e)));
+      ∙ ap (option_map (λ (x : Lookup). columns_of x.partner.key.items))
+      (slice_get_read ls (length ls) j l refl h (sym e)));
   table = λ j l n m a h e is shape. (only n m a is ∙ sym (order j l h e).0);
 }
   where

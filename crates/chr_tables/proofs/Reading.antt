@@ -12,7 +12,7 @@ pub table_there : (tables : List Contents) (t i : ℕ) → is_some (index_column
 table_there tables t i e = elim (cases_lt t (length tables)) as (λ _. t < length tables) [
   | inl less ↦ less
   | inr most ↦ absurd (let z : is_some (index_columns tables t i) ≡ false =
-        ap (λ (x : Contents). is_some (slice_get x.keys i)) (get_or_past tables t no_table most) in cc)
+      ap (λ (x : Contents). is_some (slice_get x.keys i)) (get_or_past tables t no_table most) in cc)
 ]
 
 -- and the one that the code reads is it

@@ -14,7 +14,7 @@ counted_past [] v w x = absurd (true≢false x.0)
 counted_past (r ∷ rs) v w x = elim x as (λ _. v.limit < v.found + length (r ∷ rs)) [
   | inl s ↦ (let l = s.1.full refl in omega (arith, l))
   | inr s ↦ (let ih = counted_past rs s.0 w s.2 in let m = s.1.more refl in let a = m.0 in let b = m.1 in
-        omega (arith, ih, a, b))
+      omega (arith, ih, a, b))
 ]
 
 pub counted_within : (rs : List (List ℤ)) (v w : LimitedCount) → v.found ≤ v.limit → Visited Step v rs false w
@@ -23,7 +23,7 @@ counted_within [] v w l x = omega (arith, l)
 counted_within (r ∷ rs) v w l x = elim x as (λ _. v.found + length (r ∷ rs) ≤ v.limit) [
   | inl s ↦ absurd (true≢false (sym s.0))
   | inr s ↦ (let m = s.1.more refl in let a = m.0 in let b = m.1 in let c = m.2 in let ih =
-        counted_within rs s.0 w (omega (arith, a, b, c)) s.2 in omega (arith, ih, a, b))
+      counted_within rs s.0 w (omega (arith, a, b, c)) s.2 in omega (arith, ih, a, b))
 ]
 
 any_passes : (p q : List ℤ) → are_admitted (λ _. true) p q ≡ true

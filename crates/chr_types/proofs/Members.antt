@@ -33,9 +33,9 @@ pub in_flat_map : {A B : Type 0} (r : A) (f : B → List A) (ks : List B) → In
 in_flat_map r f [] i = elim i [ ]
 in_flat_map {A} {B} r f (k ∷ ks) i = elim (in_either r (f k) (flat_map f ks) i) as (λ _. (v : B) × In v (k ∷ ks)
     × In r (f v)) [
-  | inl j ↦ (k, inl refl, j)
-  | inr j ↦ (let m = in_flat_map r f ks j in (m.0, inr m.1, m.2))
-]
+      | inl j ↦ (k, inl refl, j)
+      | inr j ↦ (let m = in_flat_map r f ks j in (m.0, inr m.1, m.2))
+    ]
 
 pub flat_map_in : {A B : Type 0} (r : A) (f : B → List A) (v : B) (ks : List B) → In v ks → In r (f v)
     → In r (flat_map f ks)

@@ -45,8 +45,8 @@ begins ks zero p h r i = elim i as (λ _. (q : List ℤ) × (r ≡ p ++ q))
 begins ks (suc k) p h r i =
     let m = in_flat r (lists_at (lists_over ks k) k p h) ks i in
     let b = begins ks k (p ++ m.0.value ∷ []) (holes_by m.0 p h) r
-        (if_in r (nat_le (length (holes_by m.0 p h)) k) (lists_over ks k (p ++ m.0.value ∷ []) (holes_by m.0 p h))
-        m.1) in
+    (if_in r (nat_le (length (holes_by m.0 p h)) k) (lists_over ks k (p ++ m.0.value ∷ []) (holes_by m.0 p h))
+    m.1) in
     (m.0.value ∷ b.0, b.1 ∙ append_assoc p (m.0.value ∷ []) b.0)
 
 drop_own : (p q : List ℤ) → drop (length p) (p ++ q) ≡ q
@@ -95,5 +95,5 @@ walked_passes t ks zero p h = sym (ap (λ b. cond b (p ∷ []) [])
     (ap (are_admitted t p) (ap (drop (length p)) (sym (append-nil p)) ∙ drop_own p [])))
 walked_passes t ks (suc k) p h =
     flat_same (walked_at t (walked t ks k) k p h) (λ c. filter (behind t p) (lists_at (lists_over ks k) k p h c)) ks
-        (at_candidate t ks k (walked_passes t ks k) p h)
+    (at_candidate t ks k (walked_passes t ks k) p h)
     ∙ sym (filter_flat (behind t p) (lists_at (lists_over ks k) k p h) ks)

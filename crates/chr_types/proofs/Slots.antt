@@ -117,7 +117,7 @@ pair_added (p ∷ ps) x u r e = by (pair_added ps x u r.1) (apart x p.0) (apart 
         λ q i. elim i as (λ _. IsLess (x, u) q) [
           | inl f ↦ subst (IsLess (x, u)) (sym f) (l, m)
           | inr j ↦ (let k = r.0 q j in let k0 = k.0 in let k1 = k.1 in
-                (omega (arith, ints, k0, l), omega (arith, ints, k1, m)))
+              (omega (arith, ints, k0, l), omega (arith, ints, k1, m)))
         ],
         r,
       ),
@@ -148,10 +148,10 @@ pair_added (p ∷ ps) x u r e = by (pair_added ps x u r.1) (apart x p.0) (apart 
 
     by : (slot (lefts ps) x ≡ slot (rights ps) u → Adds ps x u (added (lefts ps) x) (added (rights ps) u))
         → (a : (x <ℤ p.0) ⊎ (p.0 ≤ℤ x)) (b : (p.0 <ℤ x) ⊎ (x ≤ℤ p.0)) (c : (u <ℤ p.1) ⊎ (p.1 ≤ℤ u))
-            (d : (p.1 <ℤ u) ⊎ (u ≤ℤ p.1))
+        (d : (p.1 <ℤ u) ⊎ (u ≤ℤ p.1))
         → slot_by a b (slot (lefts ps) x) ≡ slot_by c d (slot (rights ps) u)
         → Adds (p ∷ ps) x u (added_by x p.0 a b (lefts ps) (added (lefts ps) x))
-            (added_by u p.1 c d (rights ps) (added (rights ps) u))
+        (added_by u p.1 c d (rights ps) (added (rights ps) u))
     by ih (inl l) b (inl m) d f = first l m
     by ih (inl l) b (inr m) (inl n) f = absurd (omega (arith, f))
     by ih (inl l) b (inr m) (inr n) f = absurd (omega (arith, f))
@@ -165,7 +165,7 @@ pair_added (p ∷ ps) x u r e = by (pair_added ps x u r.1) (apart x p.0) (apart 
 -- the pairs of both lists and what is paired before them stand in rising pairs
 pairs_rise : (vs us : List ℤ) (ps : Pairs) → RisesBy IsLess ps → ChooseAlike (lefts ps) vs (rights ps) us
     → (ns : Pairs) × RisesBy IsLess ns × ((q : ℤ × ℤ) → In q ps → In q ns) × ((q : ℤ × ℤ) → In q (zip vs us) → In q ns)
-        × (length vs ≡ length us)
+    × (length vs ≡ length us)
 pairs_rise [] [] ps r c = (ps, r, λ q i. i, λ q i. elim i [ ], refl)
 pairs_rise [] (u ∷ us) ps r c = absurd c
 pairs_rise (v ∷ vs) [] ps r c = absurd c
@@ -195,9 +195,9 @@ compared_alike ps r p q i j = elim (members_ordered ps r p q i j) as (λ _. int_
   | inl e ↦ (λ t. int_cmp (e t).0 q.0) ∙ same ∙ sym (λ t. int_cmp (e t).1 q.1)
   | inr o ↦ elim o as (λ _. int_cmp p.0 q.0 ≡ int_cmp p.1 q.1) [
     | inl l ↦ (let a = l.0 in let b = l.1 in cmp_like p.1 q.1 p.0 q.0 (λ _. a) (λ f. absurd (omega (arith, ints, b, f)))
-          (λ f. absurd (omega (arith, ints, b, f))))
+        (λ f. absurd (omega (arith, ints, b, f))))
     | inr l ↦ (let a = l.0 in let b = l.1 in cmp_like p.1 q.1 p.0 q.0 (λ f. absurd (omega (arith, ints, b, f)))
-          (λ f. absurd (omega (arith, ints, b, f))) (λ _. a))
+        (λ f. absurd (omega (arith, ints, b, f))) (λ _. a))
   ]
 ]
   where

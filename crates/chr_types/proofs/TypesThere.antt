@@ -29,8 +29,14 @@ joined v (x ∷ ks) r = by (apart v x) (apart x v) (joined v ks r.1)
     first l = (
       v ∷ x ∷ ks,
       record {
-        rise = (λ d i. elim i as (λ _. v <ℤ d) [ inl e ↦ subst (λ z. v <ℤ z) (sym e) l | inr j ↦
-            (let m = r.0 d j in omega (arith, ints, l, m)) ], r);
+        rise = (
+          λ d i. elim i as (λ _. v <ℤ d) [
+            | inl e ↦ subst (λ z. v <ℤ z) (sym e) l
+            | inr j ↦
+                (let m = r.0 d j in omega (arith, ints, l, m))
+          ],
+          r,
+        );
         only = λ u i. i;
         all = λ u i. i;
       },
@@ -40,8 +46,10 @@ joined v (x ∷ ks) r = by (apart v x) (apart x v) (joined v ks r.1)
     later l w = (
       x ∷ w.0,
       record {
-        rise = (λ d i. elim (w.1.only d i) as (λ _. x <ℤ d) [ inl e ↦ subst (λ z. x <ℤ z) (sym e) l | inr j ↦ r.0 d j ],
-            w.1.rise);
+        rise = (
+          λ d i. elim (w.1.only d i) as (λ _. x <ℤ d) [ inl e ↦ subst (λ z. x <ℤ z) (sym e) l | inr j ↦ r.0 d j ],
+          w.1.rise,
+        );
         only = λ u i. elim i as (λ _. (u ≡ v) ⊎ ((u ≡ x) ⊎ In u ks)) [
           | inl e ↦ inr (inl e)
           | inr j ↦ elim (w.1.only u j) as (λ _. (u ≡ v) ⊎ ((u ≡ x) ⊎ In u ks)) [ inl e ↦ inl e | inr k ↦ inr (inr k) ]
@@ -86,8 +94,11 @@ picked P test (x ∷ xs) = by (test x) (picked P test xs)
       record {
         rise = j.1.rise;
         good = λ v i. elim (j.1.only v i) as (λ _. P v) [ inl e ↦ subst P (sym e) h | inr k ↦ w.1.good v k ];
-        all = λ v i g. elim i as (λ _. In v j.0) [ inl e ↦ j.1.all v (inl e) | inr k ↦ j.1.all v
-            (inr (w.1.all v k g)) ];
+        all = λ v i g. elim i as (λ _. In v j.0) [
+          | inl e ↦ j.1.all v (inl e)
+          | inr k ↦ j.1.all v
+              (inr (w.1.all v k g))
+        ];
       },
     )
 
@@ -123,9 +134,9 @@ in_around : (n : ℕ) (b u : ℤ) → distance b u ≤ n → In u (around n b)
 unfolding around
 in_around n b u d = elim (apart u b) as (λ _. In u (upward (n + n) (b -ℤ pos n))) [
   | inl l ↦ (let e = distance_below b u l in in_upward (n + n) (b -ℤ pos n) u (omega (arith, ints, e, d))
-        (omega (arith, ints, e, d)))
+      (omega (arith, ints, e, d)))
   | inr l ↦ (let e = distance_above b u l in in_upward (n + n) (b -ℤ pos n) u (omega (arith, ints, e, d))
-        (omega (arith, ints, e, d)))
+      (omega (arith, ints, e, d)))
 ]
 
 near_any : ℕ → List ℤ → List ℤ

@@ -51,7 +51,7 @@ pub at_passing : (t : List ℤ → Bool) (ks : List Candidate) (k : ℕ) (p h : 
     → walked_at t (walked t ks k) k p h c ≡ walked t ks k longer after
 at_passing t ks k p h c longer after l a f y =
     ap (λ b. cond b (cond (t (p ++ c.value ∷ [])) (walked t ks k (p ++ c.value ∷ []) (holes_by c p h)) []) [])
-        (le-leb (length (holes_by c p h)) k f)
+    (le-leb (length (holes_by c p h)) k f)
     ∙ ap (λ b. cond b (walked t ks k (p ++ c.value ∷ []) (holes_by c p h)) []) (ap t (sym l) ∙ y)
     ∙ sym (λ i. walked t ks k (l i) (a i))
 
@@ -59,7 +59,7 @@ pub at_failing : (t : List ℤ → Bool) (ks : List Candidate) (k : ℕ) (p h : 
     → longer ≡ p ++ c.value ∷ [] → t longer ≡ false → walked_at t (walked t ks k) k p h c ≡ []
 at_failing t ks k p h c longer l n =
     ap (λ b. cond (nat_le (length (holes_by c p h)) k) (cond b (walked t ks k (p ++ c.value ∷ []) (holes_by c p h)) [])
-        []) (ap t (sym l) ∙ n)
+    []) (ap t (sym l) ∙ n)
     ∙ either (nat_le (length (holes_by c p h)) k)
   where
     either : (b : Bool) → cond {A = List (List ℤ)} b [] [] ≡ []
@@ -88,7 +88,7 @@ flat_rest f ks i = ap (flat_map f) (sym (take-append-drop i ks)) ∙ flat_map-ap
 pub one_more : {V X : Type 0} (step : V → List ℤ → Bool → V → Type 0) (f : X → List (List ℤ)) (ks : List X) (i : ℕ)
     (d : X) (v u w : V)
     → i < length ks → Visited step v (flat_map f (take i ks)) false u → Visited step u (f (get_or ks i d)) false w
-        → Visited step v (flat_map f (take (i + 1) ks)) false w
+    → Visited step v (flat_map f (take (i + 1) ks)) false w
 one_more step f ks i d v u w l x y = subst (λ rs. Visited step v rs false w) (sym (flat_more f ks i d l))
     (visited_on step (flat_map f (take i ks)) (f (get_or ks i d)) false v u w x y)
 
@@ -96,18 +96,18 @@ one_more step f ks i d v u w l x y = subst (λ rs. Visited step v rs false w) (s
 pub stops_in : {V X : Type 0} (step : V → List ℤ → Bool → V → Type 0) (f : X → List (List ℤ)) (ks : List X) (i : ℕ)
     (d : X) (v u w : V)
     → i < length ks → Visited step v (flat_map f (take i ks)) false u → Visited step u (f (get_or ks i d)) true w
-        → Visited step v (flat_map f ks) true w
+    → Visited step v (flat_map f ks) true w
 stops_in step f ks i d v u w l x y =
     let here = subst (λ rs. Visited step v rs true w) (sym (flat_more f ks i d l))
-        (visited_on step (flat_map f (take i ks)) (f (get_or ks i d)) true v u w x y) in
+    (visited_on step (flat_map f (take i ks)) (f (get_or ks i d)) true v u w x y) in
     subst (λ rs. Visited step v rs true w) (sym (flat_rest f ks (i + 1)))
-        (visited_off step (flat_map f (take (i + 1) ks)) (flat_map f (drop (i + 1) ks)) v w here)
+    (visited_off step (flat_map f (take (i + 1) ks)) (flat_map f (drop (i + 1) ks)) v w here)
 
 -- a candidate with no lists
 pub no_more_at : {V X : Type 0} (step : V → List ℤ → Bool → V → Type 0) (f : X → List (List ℤ)) (ks : List X) (i : ℕ)
     (d : X) (v u : V)
     → i < length ks → Visited step v (flat_map f (take i ks)) false u → f (get_or ks i d) ≡ []
-        → Visited step v (flat_map f (take (i + 1) ks)) false u
+    → Visited step v (flat_map f (take (i + 1) ks)) false u
 no_more_at step f ks i d v u l x e = one_more step f ks i d v u u l x
     (subst (λ rs. Visited step u rs false u) (sym e) (none_visited step u))
 

@@ -43,12 +43,12 @@ ranks_counted : (ds : List Declaration) (f : ℕ → ℕ) (ps : List Pattern) �
 ranks_counted ds f [] h = dot_none (length ds) f
 ranks_counted ds f (p ∷ ps) h =
     let here = declared_within ds p.symbol.0 (length p.args.items)
-        ((and_parts (is_declared ds p) (list_all (is_declared ds) ps) h).0) in
+    ((and_parts (is_declared ds p) (list_all (is_declared ds) ps) h).0) in
     let more = ranks_counted ds f ps ((and_parts (is_declared ds p) (list_all (is_declared ds) ps) h).1) in
     let one = dot_once (length ds) f p.symbol.0 here in
     let both = dot_plus (length ds) f (once p.symbol.0) (λ s. count_of s ps) in
     let split = dot_same (length ds) f (λ s. count_of s (p ∷ ps)) (λ s. once p.symbol.0 s + count_of s ps)
-        (λ s. count_cons s p ps) in
+    (λ s. count_cons s p ps) in
     omega (arith, more, one, both, split)
 
 side_fits : (ds : List Declaration) (side : Side) (r : Rule) → fits ds r ≡ true
@@ -66,12 +66,12 @@ sides_counted ds f side [] times h = dot_none (length ds) f
 sides_counted ds f side (r ∷ rs) [] h = dot_none (length ds) f
 sides_counted ds f side (r ∷ rs) (k ∷ times) h =
     let one = ranks_counted ds f (side_of side r) (side_fits ds side r
-        ((and_parts (fits ds r) (list_all (fits ds) rs) h).0)) in
+    ((and_parts (fits ds r) (list_all (fits ds) rs) h).0)) in
     let more = sides_counted ds f side rs times ((and_parts (fits ds r) (list_all (fits ds) rs) h).1) in
     let here = dot_times (length ds) f (λ s. count_of s (side_of side r)) k in
     let both = dot_plus (length ds) f (λ s. k * count_of s (side_of side r)) (λ s. total_of side s rs times) in
     let product : k * dot (length ds) f (λ s. count_of s (side_of side r)) ≡ k * ranks f (side_of side r) =
-        ap (λ n. k * n) one in
+    ap (λ n. k * n) one in
     omega (arith, more, here, both, product)
 
 -- the rank that a pattern's atom has in the program
@@ -89,9 +89,9 @@ atoms_rank : (q : Program) (v : Valuation) (ps : List Pattern) → list_all (is_
 atoms_rank q v [] h = refl
 atoms_rank q v (p ∷ ps) h =
     let one = pattern_ranks q v p ((and_parts (is_declared (declarations q) p)
-        (list_all (is_declared (declarations q)) ps) h).0) in
+    (list_all (is_declared (declarations q)) ps) h).0) in
     let more = atoms_rank q v ps ((and_parts (is_declared (declarations q) p)
-        (list_all (is_declared (declarations q)) ps) h).1) in
+    (list_all (is_declared (declarations q)) ps) h).1) in
     omega (arith, one, more)
 
 all_fit : (q : Program) → list_all (fits (declarations q)) (rules_of q) ≡ true
@@ -115,7 +115,7 @@ no_weights p times cycle q same lowers =
     let v : Valuation = λ _. pos 0 in
     let f : ℕ → ℕ = λ s. rank_at (slice_get ds s) in
     let less = taken_less (λ r. ranks f (side_of Body r)) (λ r. ranks f (side_of Removed r)) rs times
-        (cycle.each ∙ ap length (sym same.rules)) (λ i r e.
+    (cycle.each ∙ ap length (sym same.rules)) (λ i r e.
     (let fit = fits_at ds rs i r (all_fit q) e in
     let low = lowers_rank q lowers i r e v in
     let body = atoms_rank q v r.body.items (side_fits ds Body r fit) in
@@ -125,6 +125,6 @@ no_weights p times cycle q same lowers =
     let given = sides_counted ds f Body rs times (all_fit q) in
     let rises = dot_rises (length ds) f (λ s. total_of Removed s rs times) (λ s. total_of Body s rs times) (λ s l.
     subst (λ xs. total_of Removed s xs times ≤ total_of Body s xs times) (sym same.rules)
-        (cycle.back s (let n = same_length p q same in omega (arith, n, l)))) in
+    (cycle.back s (let n = same_length p q same in omega (arith, n, l)))) in
     let some = cycle.some in
     omega (arith, less, taken, given, rises, some)

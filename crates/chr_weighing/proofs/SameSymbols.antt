@@ -17,8 +17,11 @@ reweighed_at (d ∷ ds) (suc i) w = ap (λ es. record d { weight = default_weigh
 -- one weight more
 pub put_at : (p q : Program) (i : ℕ) (w : Weight) → declarations q ≡ with_weight (declarations p) i w → rules_of q
     ≡ rules_of p → IsReweighed p q
-put_at p q i w symbols rules = record { rules = rules; symbols = ap without_weights symbols
-    ∙ reweighed_at (declarations p) i w }
+put_at p q i w symbols rules = record {
+  rules = rules;
+  symbols = ap without_weights symbols
+      ∙ reweighed_at (declarations p) i w;
+}
 
 pub reweighed_on : (p q r : Program) → IsReweighed p q → IsReweighed q r → IsReweighed p r
 reweighed_on p q r h k = record { rules = k.rules ∙ h.rules; symbols = k.symbols ∙ h.symbols }

@@ -64,7 +64,7 @@ module _ (ds : List Declaration) where
   lowers_where : (r : Rule) → IsLighter (after r) (before r) → IsLowering (weight_by ds) r
   lowers_where r h v =
       subst (λ x. IsLighter x (total_weight (weight_by ds) (atoms_at v r.removed.items)))
-          (patterns_weigh zeros v r.body.items)
+      (patterns_weigh zeros v r.body.items)
       (subst (IsLighter (after r)) (patterns_weigh zeros v r.removed.items) h)
 
   -- the first rule of the list that doesn't lower, which is the n-th after it
@@ -127,9 +127,9 @@ module _ (ds : List Declaration) where
 
 pub lowers_or_first : (ds : List Declaration) (rules : List Rule)
     → AreLowering (weight_by ds) rules ⊎ ((i : ℕ) × (before : Weight) × (after : Weight)
-        × IsFirstNotLowered ds rules i before after)
+    × IsFirstNotLowered ds rules i before after)
 lowers_or_first ds rules = elim (all_or_first ds rules) as (λ _. AreLowering (weight_by ds) rules
     ⊎ ((i : ℕ) × (b : Weight) × (a : Weight) × IsFirstNotLowered ds rules i b a)) [
-  | inl all ↦ inl all
-  | inr w ↦ inr (suc w.0, w.1, w.2, w.3)
-]
+      | inl all ↦ inl all
+      | inr w ↦ inr (suc w.0, w.1, w.2, w.3)
+    ]

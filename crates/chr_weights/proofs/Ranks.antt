@@ -60,7 +60,7 @@ lowering_ranks m w small rules lowers i r e v =
     let b = total_ranked k w (atoms_at v r.removed.items) in
     let c = total_at_most (λ q. (w q).second) m small body in
     let few : length body ≤ MAX_BODY = (let n = length-map r.body.items (atom_at v) in let f = few_in_body r in
-        omega (arith, n, f)) in
+    omega (arith, n, f)) in
     let d = mul-le-mul_left {m = length body} {n = MAX_BODY} m few in
     let s : total (λ q. (w q).second) body < k = omega (arith, c, d) in
     let l = lighter_ranks k _ _ (lowers i r e v) s in
@@ -117,7 +117,7 @@ lowers_first p none lowers i r e v = by (lowers i r e v)
     by : IsLighter (total_weight (weight_in p) (atoms_at v r.body.items))
         (total_weight (weight_in p) (atoms_at v r.removed.items))
         → total (λ q. (weight_in p q).first) (atoms_at v r.body.items) < total (λ q. (weight_in p q).first)
-            (atoms_at v r.removed.items)
+        (atoms_at v r.removed.items)
     by (inl h) = h
     by (inr h) = absurd (let a = nothing (atoms_at v r.removed.items) in let b = h.1 in omega (arith, a, b))
 

@@ -63,7 +63,7 @@ pub pattern_weight : (p : Program) (x : Pattern) (w : Weight) (v : Valuation) �
     → Some w ≡ option_map (λ d. d.weight) (slice_get (declarations p) x.symbol.0) → w ≡ weight_in p (atom_at v x)
 pattern_weight p x w v h e =
     weight_found (declarations p) x.symbol.0 (length x.args.items) w h e
-        ∙ ap (declared_weight (slice_get (declarations p) x.symbol.0)) (sym (length-map x.args.items (term_value v)))
+    ∙ ap (declared_weight (slice_get (declarations p) x.symbol.0)) (sym (length-map x.args.items (term_value v)))
 
 -- one pattern more, by one number of the weights
 pattern_more : (f : Atom → ℕ) (ps : List Pattern) (i : ℕ) (x : Pattern) (v : Valuation) → i < length ps
@@ -143,7 +143,7 @@ pub at_place : (p : Program) (rs : List Rule) (n : ℕ) (x : Rule) (w : Weight) 
     → rs ≡ rules_of p → n < length rs → x ≡ get_or rs n x
     → ((v : Valuation) → w ≡ total_weight (weight_in p) (atoms_at v (f x)))
     → (r : Rule) (v : Valuation) → slice_get (rules_of p) (n + 1 - 1) ≡ Some r
-        → w ≡ total_weight (weight_in p) (atoms_at v (f r))
+    → w ≡ total_weight (weight_in p) (atoms_at v (f r))
 at_place p rs n x w f same l is h r v e =
     let a : slice_get (rules_of p) n ≡ Some x = rw (← same) (slice_get_read rs (length rs) n x refl l is) in
     let m : n + 1 - 1 ≡ n = omega arith in
@@ -158,8 +158,8 @@ refuted p n before after h all =
     elim (slice_get_cases (rules_of p) (n - 1)).1 as (λ _. ⊥) [
       | inl w ↦ (let z : Valuation = λ _. pos 0 in
           h.not_lowered (subst (λ x. IsLighter x before) (sym (h.weight_after w.0 z w.2))
-              (subst (IsLighter (total_weight (weight_in p) (atoms_at z w.0.body.items)))
-              (sym (h.weight_before w.0 z w.2)) (all (n - 1) w.0 w.2 z))))
+          (subst (IsLighter (total_weight (weight_in p) (atoms_at z w.0.body.items)))
+          (sym (h.weight_before w.0 z w.2)) (all (n - 1) w.0 w.2 z))))
       | inr w ↦ (let l = w.0 in let f = h.first in let g = h.within in omega (arith, l, f, g))
     ]
 

@@ -26,7 +26,7 @@ IsSmall w = (w.first ≤ MAX_WEIGHT) × (w.second ≤ MAX_WEIGHT)
 weight_small : (w : Weight) → is_weight w ≡ true → IsSmall w
 weight_small w h =
     let both = (and_parts (nat_le w.first MAX_WEIGHT && nat_le w.second MAX_WEIGHT)
-        (not (nat_eq w.first 0 && nat_eq w.second 0)) h).0 in
+    (not (nat_eq w.first 0 && nat_eq w.second 0)) h).0 in
     let a = (and_parts (nat_le w.first MAX_WEIGHT) (nat_le w.second MAX_WEIGHT) both).0 in
     let b = (and_parts (nat_le w.first MAX_WEIGHT) (nat_le w.second MAX_WEIGHT) both).1 in
     (grind (arith, nat_tests), grind (arith, nat_tests))
@@ -50,7 +50,7 @@ ranges p =
     let ds = declarations p in
     let distinct = (and_parts _ (list_all (fits ds) (rules_of p)) p.well_formed).0 in
     (and_parts (nat_le (length ds) MAX_SYMBOLS && nat_le (length (rules_of p)) MAX_RULES) _
-        ((and_parts _ (are_distinct ds) distinct).0)).1
+    ((and_parts _ (are_distinct ds) distinct).0)).1
 
 pub weight_at_most : (p : Program) (a : Atom) → IsSmall (weight_in p a)
 weight_at_most p a = declared_small (declarations p) a.symbol.0 (length a.args.items) (ranges p)
@@ -75,9 +75,9 @@ total_at_most w m h (x ∷ xs) = let a = h x in let b = total_at_most w m h xs i
 pub first_at_most : (p : Program) (s : Store) → (store_weight p s).first ≤ MAX_WEIGHT * length (items s)
 first_at_most p s =
     let w : Atom → ℕ = λ a. (weight_in p a).first in let a = sum_over-items w s in let b =
-        total_at_most w MAX_WEIGHT (λ q. (weight_at_most p q).0) (items s) in omega (arith, a, b)
+    total_at_most w MAX_WEIGHT (λ q. (weight_at_most p q).0) (items s) in omega (arith, a, b)
 
 pub second_at_most : (p : Program) (s : Store) → (store_weight p s).second ≤ MAX_WEIGHT * length (items s)
 second_at_most p s =
     let w : Atom → ℕ = λ a. (weight_in p a).second in let a = sum_over-items w s in let b =
-        total_at_most w MAX_WEIGHT (λ q. (weight_at_most p q).1) (items s) in omega (arith, a, b)
+    total_at_most w MAX_WEIGHT (λ q. (weight_at_most p q).1) (items s) in omega (arith, a, b)

@@ -16,12 +16,12 @@ comes_sound : RunsKeep → FirstIsSound → (p : Program) (s : Replica) → Come
 comes_sound keep first p s h =
     holds_at (IsSound p) h.world h.number s
     (keep p h.start h.events h.answers h.world h.run (λ k d l. subst (IsSound p) (sym (h.untold k d l)) (first p)))
-        h.there
+    h.there
 
 pub replicas_agree : RunsKeep → FirstIsSound → OneAnswer → ReplicasAgree
 replicas_agree keep first one p q s t same confluent values hs ht equal settled settled' =
     one p q s t same confluent values equal (comes_sound keep first p s hs) (comes_sound keep first q t ht) settled
-        settled'
+    settled'
 
 pub parts_agree : ReplicasAgree → PartsDetermine → PartsAgree
 parts_agree agree determine p s ss ts t confluent values hs settled whole rested rests =

@@ -35,7 +35,7 @@ changes_keeps : (p : Program) (w : Replicas) (r : ℕ) (R : Replica → Replica 
 changes_keeps p w r R v keep h all =
     subst (All (IsSound p)) (sym h.world)
     (All-set (IsSound p) w (r - 1) h.after (keep h.before h.after h.changed
-        (holds_at (IsSound p) w r h.before all h.there)) all)
+    (holds_at (IsSound p) w r h.before all h.there)) all)
 
 happens_keeps : EventsKeep → (p : Program) (w : Replicas) (e : Event) (x : Answer) (v : Replicas) → Happens p w e x v
     → All (IsSound p) w → All (IsSound p) v

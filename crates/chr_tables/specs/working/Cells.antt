@@ -36,4 +36,4 @@ NoneIs values value from to = (row : ℕ) → from ≤ row → row < to → ¬ (
 abbrev pub NoneHasArgument : List Atom → ℕ → ℤ → ℕ → ℕ → Type 0
 NoneHasArgument atoms column value from to =
     (row : ℕ) (a : Atom) → from ≤ row → row < to → get_or atoms row a ≡ a
-        → ¬ (slice_get a.args.items column ≡ Some value)
+    → ¬ (slice_get a.args.items column ≡ Some value)

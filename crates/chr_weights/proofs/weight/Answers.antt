@@ -20,4 +20,4 @@ returns c =
     let first = sum_over-items (λ a. (w a).first) c.args.bag.now in
     let second = sum_over-items (λ a. (w a).second) c.args.bag.now in
     rw (c.atoms_weight.ensures, c.program.ensures, c.atoms.ensures)
-        (λ i. record { first = sym first i; second = sym second i })
+    (λ i. record { first = sym first i; second = sym second i })

@@ -7,9 +7,9 @@ pub loop-item-preserved : goal.loop-item-preserved
 loop-item-preserved c = record {
   value = elim c.if-is_same.branch [
     | then-is_same w ↦ counted_yes _ _ _ _ _ c.item-item.result c.loop-item-test.true c.item-item.is
-          (sym c.is_same.ensures ∙ w.if-is_same.true) c.loop-item.invariant.value w.count-is
+        (sym c.is_same.ensures ∙ w.if-is_same.true) c.loop-item.invariant.value w.count-is
     | else-is_same w ↦ counted_no _ _ _ _ _ c.item-item.result c.loop-item-test.true c.item-item.is
-          (sym c.is_same.ensures ∙ w.if-is_same.false) c.loop-item.invariant.value w.count-is
+        (sym c.is_same.ensures ∙ w.if-is_same.false) c.loop-item.invariant.value w.count-is
   ];
   bound = elim c.if-is_same.branch [ then-is_same w ↦ omega arith | else-is_same w ↦ omega arith ];
 }

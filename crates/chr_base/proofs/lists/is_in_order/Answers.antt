@@ -13,5 +13,7 @@ returns-then-is_after c = (
 )
 
 pub returns : goal.returns
-returns c = (λ _. rising_by_neighbours atom_total c.args.atoms.now (λ k d h. c.loop-i.invariant k d (omega arith)),
-    λ _. refl)
+returns c = (
+  λ _. rising_by_neighbours atom_total c.args.atoms.now (λ k d h. c.loop-i.invariant k d (omega arith)),
+  λ _. refl,
+)

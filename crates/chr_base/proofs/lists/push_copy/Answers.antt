@@ -6,4 +6,4 @@ pub returns-clause-items : goal.returns-clause-items
 returns-clause-items c =
     let last : c.len-last.result ≡ length c.args.items.now.items = search rules in
     rw (c.push_reserved.ensures.items, c.copy_from.ensures, last)
-        (set-append_seam c.args.items.now.items c.default.result [] c.args.atom.now)
+    (set-append_seam c.args.items.now.items c.default.result [] c.args.atom.now)

@@ -10,7 +10,7 @@ use Rattle.chr_base.proofs.lists.put_in_order.Goals as goal
 pub returns-clause-rising : goal.returns-clause-rising
 returns-clause-rising c =
     rising_from_sorted _ (c.sort_unstable_by.ensures.sorted (λ x y. is_lt (atom_cmp x y)) (ranks_by atom_total (λ x. x))
-        (always_returns_same _ _ _ (λ a r f' h. search rules)))
+    (always_returns_same _ _ _ (λ a r f' h. search rules)))
 
 pub returns-clause-same : goal.returns-clause-same
 returns-clause-same c = same_multiset _ _ c.sort_unstable_by.ensures.permutation

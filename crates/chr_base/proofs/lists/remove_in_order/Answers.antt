@@ -16,9 +16,12 @@ returns-then-not-is_subsequence-clause-there c = (
 )
 
 pub returns-clause-there : goal.returns-clause-there
-returns-clause-there c = (λ _. within_counts c.args.items.now.items c.args.atoms.now
-    (ap (λ xs. is_subsequence atom_cmp xs c.args.atoms.now) (sym c.deref.ensures.value) ∙ sym c.is_subsequence.ensures
-    ∙ c.if-not-is_subsequence.false), λ _. refl)
+returns-clause-there c = (
+  λ _. within_counts c.args.items.now.items c.args.atoms.now
+      (ap (λ xs. is_subsequence atom_cmp xs c.args.atoms.now) (sym c.deref.ensures.value) ∙ sym c.is_subsequence.ensures
+      ∙ c.if-not-is_subsequence.false),
+  λ _. refl,
+)
 
 pub returns-clause-taken : goal.returns-clause-taken
 returns-clause-taken c = λ q. ap (count_in atom_cmp q) c.take_subsequence_out.ensures

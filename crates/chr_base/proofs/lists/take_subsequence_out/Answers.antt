@@ -12,15 +12,15 @@ loop-i-preserved c =
       | then-taken-atoms+then-is_same w ↦
           rw (w.items-is, w.kept-is, w.taken-is)
           (passed_at _ _ _ _ _ _ _ _ _ l w.if-taken-atoms.true w.index.ensures w.index-atoms-taken.is
-              (sym w.is_same.ensures ∙ w.if-is_same.true) c.loop-i.invariant)
+          (sym w.is_same.ensures ∙ w.if-is_same.true) c.loop-i.invariant)
       | else-taken-atoms w ↦ elim w.else-taken-atoms.branch [
         | else-taken-atoms-via-then-taken-atoms+else-is_same v ↦
             rw (w.items-is, w.kept-is, w.taken-is, w.swap.ensures.items)
             (other_at _ _ _ _ _ _ _ _ _ l v.if-taken-atoms.true v.index.ensures v.index-atoms-taken.is
-                (sym v.is_same.ensures ∙ v.if-is_same.false) c.loop-i.invariant)
+            (sym v.is_same.ensures ∙ v.if-is_same.false) c.loop-i.invariant)
         | else-taken-atoms-via-else-taken-atoms v ↦
             rw (w.items-is, w.kept-is, w.taken-is, w.swap.ensures.items)
-                (rest_at _ _ _ _ _ _ _ l v.if-taken-atoms.false c.loop-i.invariant)
+            (rest_at _ _ _ _ _ _ _ l v.if-taken-atoms.false c.loop-i.invariant)
       ]
     ]
 

@@ -8,5 +8,5 @@ pub returns-clause-ok : goal.returns-clause-ok
 returns-clause-ok c =
     ap declarations_in c.in_ok-insert.ensures.entries
     ∙ declared_last _ c.args.symbol default_weight (λ k. refl) c.args.symbols.now.entries
-        (not_declared (declarations_in c.args.symbols.now.entries) c.args.symbol.name.bytes c.args.symbol.arity
-        c.requires.new)
+    (not_declared (declarations_in c.args.symbols.now.entries) c.args.symbol.name.bytes c.args.symbol.arity
+    c.requires.new)

@@ -15,6 +15,6 @@ returns c =
     let ds = declarations c.args.program.now in
     in_order (print_total ds) (print_exact ds) _ _ c.sort_unstable_by.ensures.permutation
     (c.sort_unstable_by.ensures.sorted (λ x y. is_lt (print_cmp ds x y)) (ranks_by (print_total ds) (λ x. x))
-        (always_returns_same _ _ _ (λ a r f' h. search rules)))
+    (always_returns_same _ _ _ (λ a r f' h. search rules)))
     ∙ ap (λ xs. bag.items (bag.of_list {R = print_cmp ds} xs))
-        (c.in_ok-push_copies.ensures.ok ∙ (λ i. c.new-atoms.ensures.items i ++ c.atoms.ensures i))
+    (c.in_ok-push_copies.ensures.ok ∙ (λ i. c.new-atoms.ensures.items i ++ c.atoms.ensures i))

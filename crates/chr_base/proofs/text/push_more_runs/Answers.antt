@@ -7,5 +7,5 @@ use Rattle.chr_base.proofs.text.push_more_runs.Goals as goal
 pub loop-run-preserved : goal.loop-run-preserved
 loop-run-preserved c =
     one_piece (λ r. flat_map (after (declarations c.args.program.now)) r.now) c.args.runs.now c.loop-run.run-index
-        c.run-item.result (string_bytes c.loop-run.out) _ _ c.loop-run-test.true c.run-item.is c.loop-run.invariant
-        c.in_ok-push_more_atoms.ensures
+    c.run-item.result (string_bytes c.loop-run.out) _ _ c.loop-run-test.true c.run-item.is c.loop-run.invariant
+    c.in_ok-push_more_atoms.ensures

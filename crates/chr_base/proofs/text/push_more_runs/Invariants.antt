@@ -8,6 +8,6 @@ use Rattle.chr_base.proofs.text.push_more_runs.Given as goal
 abbrev pub invariant-loop-run : goal.invariant-loop-run
 invariant-loop-run l =
     string_bytes l.out ++ flat_map (λ r. flat_map (λ a. codes ", " ++ atom_text (declarations l.program) a) r.now)
-        (drop l.run-index l.runs)
+    (drop l.run-index l.runs)
     ≡ string_bytes l.fn.out ++ flat_map (λ r. flat_map (λ a. codes ", " ++ atom_text (declarations l.program) a) r.now)
-        l.runs
+    l.runs

@@ -6,5 +6,5 @@ use Rattle.chr_base.proofs.text.push_runs.Goals as goal
 pub returns-in_ok-push_more_runs-in-Some : goal.returns-in_ok-push_more_runs-in-Some
 returns-in_ok-push_more_runs-in-Some c =
     runs_text (declarations c.args.program.now) c.args.runs.now c.in-Some.first.now c.in-Some.rest.now
-        (string_bytes c.args.out.now) _ _ (c.in-Some.ensures.cases.0) c.requires c.in_ok-push_atoms-in-Some.ensures
-        c.in_ok-push_more_runs-in-Some.ensures
+    (string_bytes c.args.out.now) _ _ (c.in-Some.ensures.cases.0) c.requires c.in_ok-push_atoms-in-Some.ensures
+    c.in_ok-push_more_runs-in-Some.ensures

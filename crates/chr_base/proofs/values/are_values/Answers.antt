@@ -10,6 +10,6 @@ pub loop-x-preserved : goal.loop-x-preserved
 loop-x-preserved c =
     let fits : SFits w64 (get_or c.args.xs.now c.loop-x.x-index (pos 0)) = search rules in
     let test : is_value (get_or c.args.xs.now c.loop-x.x-index (pos 0)) ≡ true =
-        (simp to_z-of_z at c.is_value_of.ensures.test) in
+    (simp to_z-of_z at c.is_value_of.ensures.test) in
     list_all_more is_value c.args.xs.now c.loop-x.x-index (pos 0) c.loop-x-test.true
-        ∙ (λ j. c.loop-x.invariant j && test j)
+    ∙ (λ j. c.loop-x.invariant j && test j)

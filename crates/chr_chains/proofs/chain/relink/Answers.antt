@@ -15,11 +15,11 @@ loop-i-preserved c =
     let few = c.requires.few in
     let g = c.loop-i-test.true in
     let m : length (slots_of (length c.args.heads.now) c.args.hashes.now) ≡ length c.args.hashes.now =
-        slots_len (length c.args.heads.now) c.args.hashes.now in
+    slots_len (length c.args.heads.now) c.args.hashes.now in
     let s : get_or c.args.hashes.now c.loop-i.i 0 % length c.loop-i.heads
-        ≡ get_or (slots_of (length c.args.heads.now) c.args.hashes.now) c.loop-i.i 0 =
-        ap (λ n. get_or c.args.hashes.now c.loop-i.i 0 % n) size
-        ∙ sym (slot_at (length c.args.heads.now) c.args.hashes.now c.loop-i.i g) in
+    ≡ get_or (slots_of (length c.args.heads.now) c.args.hashes.now) c.loop-i.i 0 =
+    ap (λ n. get_or c.args.hashes.now c.loop-i.i 0 % n) size
+    ∙ sym (slot_at (length c.args.heads.now) c.args.hashes.now c.loop-i.i g) in
     record {
       chained = chained_more (slots_of (length c.args.heads.now) c.args.hashes.now) c.args.alive.now c.loop-i.links
           c.loop-i.heads c.loop-i.i (get_or c.args.hashes.now c.loop-i.i 0 % length c.loop-i.heads)

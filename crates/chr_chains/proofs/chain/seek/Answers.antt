@@ -10,7 +10,7 @@ returns-then-hashes-row-clause-live c = λ p.
     let v = c.requires.within in
     let l : c.loop-at.at - 1 < length c.args.hashes.now = omega (arith, n, w, v, p) in
     entry_is c.args.hashes.now c.args.alive.now (c.loop-at.at - 1) c.args.hash l n (c.loop-at.invariant.live p).1
-        (grind (arith, common_steps))
+    (grind (arith, common_steps))
 
 pub loop-at-preserved : goal.loop-at-preserved
 loop-at-preserved c =
@@ -20,12 +20,18 @@ loop-at-preserved c =
     let v = c.requires.within in
     let e = c.next_live-at.ensures.within in
     record {
-      index = record { chained = c.next_live-at.ensures.chained; some = c.requires.index.some; most =
-          c.requires.index.most };
+      index = record {
+        chained = c.next_live-at.ensures.chained;
+        some = c.requires.index.some;
+        most =
+            c.requires.index.most;
+      };
       size = c.next_live-at.ensures.size ∙ c.loop-at.invariant.size;
       within = omega (arith, w, e);
-      live = λ q. ((c.next_live-at.ensures.live q).0 ∙ (c.loop-at.invariant.live p).0,
-          (c.next_live-at.ensures.live q).1);
+      live = λ q. (
+        (c.next_live-at.ensures.live q).0 ∙ (c.loop-at.invariant.live p).0,
+        (c.next_live-at.ensures.live q).1,
+      );
       above = λ r l f. (passed (length c.args.heads.now) c.args.hashes.now c.args.alive.now c.args.hash c.loop-at.at
           c.next_live-at.result c.args.from r p (omega (arith, n, w, v)) (c.loop-at.invariant.live p).0
           (λ g. absurd (grind (arith, common_steps))) c.next_live-at.ensures.none_between c.loop-at.invariant.above l

@@ -9,6 +9,6 @@ returns c =
     let tables = c.args.rested.now.tables.tables.items in
     let fresh = c.args.fresh.now in
     let live : c.push_live.new.atoms.items ≡ live_in tables = c.in_ok-push_live.ensures.ok
-        ∙ (λ i. c.in_ok-atoms.ensures.items i ++ live_in (c.deref.ensures.value i)) in
+    ∙ (λ i. c.in_ok-atoms.ensures.items i ++ live_in (c.deref.ensures.value i)) in
     c.arrange.ensures ∙ ap store_of (c.in_ok-push_copies.ensures.ok ∙ ap (λ xs. xs ++ fresh) live)
-        ∙ store_all tables fresh
+    ∙ store_all tables fresh

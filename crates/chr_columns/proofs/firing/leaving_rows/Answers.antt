@@ -36,10 +36,10 @@ loop-other-preserved c =
     let kept = c.loop-other.invariant.kept in
     let rows : c.if-other-place.rows.items ≡ Left r p ss (suc q) = elim c.if-other-place.branch [
       | then-other-place w ↦ ap (λ x. x.items) w.rows-is ∙ w.push.ensures.items
-            ∙ (λ i. c.loop-other.invariant.rows i ++ w.seat_at.ensures i ∷ [])
-            ∙ left_more r p ss q kept w.if-other-place.true
+          ∙ (λ i. c.loop-other.invariant.rows i ++ w.seat_at.ensures i ∷ [])
+          ∙ left_more r p ss q kept w.if-other-place.true
       | else-other-place w ↦ ap (λ x. x.items) w.rows-is ∙ c.loop-other.invariant.rows
-            ∙ left_same r p ss q w.if-other-place.false
+          ∙ left_same r p ss q w.if-other-place.false
     ] in
     record {
       rows = rows ∙ ap (λ n. drop (kept_others r p) (remove (seats_to ss n) p))

@@ -14,8 +14,8 @@ returns-then-place-len-clause-store c v e =
     let items = c.push_body.ensures.items v e in
     ap store_of (c.push_copy.ensures.items ∙ (λ i. items i ++ c.index-heads-place.result ∷ []))
     ∙ come_kept c.args.rule.now c.args.place v c.args.heads.now c.args.fresh.now.items
-        (atoms_at v c.args.rule.now.body.items) c.requires.place e refl c.index-heads-place.result
-        (omega (arith, l, n)) c.index-heads-place.is
+    (atoms_at v c.args.rule.now.body.items) c.requires.place e refl c.index-heads-place.result
+    (omega (arith, l, n)) c.index-heads-place.is
 
 pub returns-else-place-len-clause-store : goal.returns-else-place-len-clause-store
 returns-else-place-len-clause-store c v e =
@@ -23,14 +23,14 @@ returns-else-place-len-clause-store c v e =
     let n = c.len.ensures.value in
     ap store_of (c.push_body.ensures.items v e)
     ∙ come_removed c.args.rule.now c.args.place v c.args.heads.now c.args.fresh.now.items
-        (atoms_at v c.args.rule.now.body.items) c.requires.place e refl (omega (arith, l, n))
+    (atoms_at v c.args.rule.now.body.items) c.requires.place e refl (omega (arith, l, n))
 
 pub returns-then-place-len-clause-last : goal.returns-then-place-len-clause-last
 returns-then-place-len-clause-last c _ =
     let n = instance_places c.args.rule.now c.args.heads.now c.requires.instance in
     let place = c.requires.place in
     let is = get_or_default c.args.heads.now c.args.place no_atom c.index-heads-place.result (omega (arith, n, place))
-        ∙ sym c.index-heads-place.is in
+    ∙ sym c.index-heads-place.is in
     (c.push_body.new.fresh.items, c.push_copy.ensures.items ∙ ap (λ x. c.push_body.new.fresh.items ++ x ∷ []) (sym is))
 
 pub returns-else-place-len-clause-last : goal.returns-else-place-len-clause-last

@@ -15,10 +15,10 @@ loop-rule-preserved c =
     record {
       grouped = λ i r l e. (elim (cases_lt i c.loop-rule.rule-index) as (λ _. AreGrouped gs r (length (heads_of r))) [
         | inl less ↦ (λ p k. (c.add_groups.ensures.stay (pattern_at r p)
-              (c.loop-rule.invariant.grouped i r less e p k)))
+            (c.loop-rule.invariant.grouped i r less e p k)))
         | inr most ↦ (let at : i ≡ c.loop-rule.rule-index = omega (arith, l, most) in
             let same : x ≡ r = c.rule-item.is ∙ get_or_from_slice_get c.args.rules.now c.loop-rule.rule-index r x
-                (ap (slice_get c.args.rules.now) (sym at) ∙ e) in
+            (ap (slice_get c.args.rules.now) (sym at) ∙ e) in
             subst (λ (y : Rule). AreGrouped gs y (length (heads_of y))) same c.in_ok-add_groups.ensures.grouped)
       ]);
       no_plans = c.add_groups.ensures.no_plans c.loop-rule.invariant.no_plans;

@@ -14,7 +14,7 @@ pub loop-active-init : goal.loop-active-init
 loop-active-init c =
     let rows = rows_in_turn c.args.tables.now c.args.fresh.now in
     let is = subst (λ p. IsKnownConstant p c.known_argument-known.result) c.head_at.ensures
-        c.known_argument-known.ensures.known in
+    c.known_argument-known.ensures.known in
     let n = c.row_count-rows.ensures.rows in
     let m = c.next_candidate-active.ensures.within in
     record {
@@ -29,13 +29,13 @@ loop-active-preserved c =
     let r = c.args.rule.now in
     let i = c.loop-active.active in
     let is = subst (λ p. IsKnownConstant p c.known_argument-known.result) c.head_at.ensures
-        c.known_argument-known.ensures.known in
+    c.known_argument-known.ensures.known in
     let n = c.row_count-rows.ensures.rows in
     let m = c.next_candidate-active-in-loop-active.ensures.within in
     let here : (a : Atom) → get_or rows i None ≡ Some a → NoneAt rows r i i a =
     elim c.match-atom_at.branch as (λ _. (a : Atom) → get_or rows i None ≡ Some a → NoneAt rows r i i a) [
       | in-Some+else-is_some w ↦ none_live rows r i w.in-Some.atom w.in-Some.ensures
-            (when_none _ w.find_with-found.result w.if-is_some.ensures w.find_with-found.ensures.none)
+          (when_none _ w.find_with-found.result w.if-is_some.ensures w.find_with-found.ensures.none)
       | in_default w ↦ none_dead rows r i w.in_default.ensures
     ] in
     record {
@@ -53,5 +53,5 @@ returns-clause-none c =
     let some : 0 < length (heads_of c.args.rule.now) = omega (arith, n) in
     subst (λ s. HasNoStep c.args.rule.now s) (contents_turn ts fresh)
     (no_step (rows_in_turn ts fresh) c.args.rule.now some
-        (λ k a live. c.loop-active.invariant.none k a (let l = live_below (rows_in_turn ts fresh) k a live in let m =
-        c.row_count-rows.ensures.rows in let t = c.loop-active-test.false in omega (arith, l, m, t)) live))
+    (λ k a live. c.loop-active.invariant.none k a (let l = live_below (rows_in_turn ts fresh) k a live in let m =
+    c.row_count-rows.ensures.rows in let t = c.loop-active-test.false in omega (arith, l, m, t)) live))

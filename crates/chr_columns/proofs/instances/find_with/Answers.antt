@@ -25,9 +25,9 @@ returns-clause-there c =
     let some : 0 < length (heads_of c.args.rule.now) = omega (arith, n) in
     subst (λ s. IsWithin (store_of c.find_partners.new.heads.items) s) (contents_turn e.tables.now e.fresh.now)
     (seated_within (rows_in_turn e.tables.now e.fresh.now) e.active c.args.atom.now c.args.rule.now
-        c.find_partners.new.heads.items c.find_partners.new.seats.items
+    c.find_partners.new.heads.items c.find_partners.new.seats.items
     c.requires.active some c.if-not-find_partners.ensures.found c.if-not-find_partners.ensures.active
-        c.find_partners.ensures.seats)
+    c.find_partners.ensures.seats)
 
 pub returns-clause-sit : goal.returns-clause-sit
 returns-clause-sit c =
@@ -40,10 +40,10 @@ returns-clause-sit c =
     let some : 0 < length (heads_of c.args.rule.now) = omega (arith, n) in
     let sit =
     seated_in (rows_in_turn ts fresh) e.active c.args.atom.now c.args.rule.now heads seats c.requires.active some
-        c.if-not-find_partners.ensures.found c.if-not-find_partners.ensures.active
+    c.if-not-find_partners.ensures.found c.if-not-find_partners.ensures.active
     c.find_partners.ensures.seats in
     let put : c.deref.result.now ≡ set seats 0 (at_row e.active) = c.deref.ensures.0
-        ∙ set_back seats c.deref_mut.result.now 0 (at_row e.active) c.deref_mut.ensures.value in
+    ∙ set_back seats c.deref_mut.result.now 0 (at_row e.active) c.deref_mut.ensures.value in
     let rows : map (λ s. row_from ts 0 s.row) (set seats 0 (at_row e.active)) ≡ c.rows_at.result.items =
-        ap (λ ss. map (λ s. row_from ts 0 s.row) ss) (sym put) ∙ sym c.rows_at.ensures in
+    ap (λ ss. map (λ s. row_from ts 0 s.row) ss) (sym put) ∙ sym c.rows_at.ensures in
     subst (λ rs. SitAmong ts fresh heads rs) rows (sit_among ts fresh heads (set seats 0 (at_row e.active)) sit)

@@ -25,8 +25,8 @@ settle_down-requires-clause-none c =
     let inside : IsIn c.args.free.now (value_in c.args.joint.now.columns.items c.atom-item.result) = search rules in
     rw c.loop-atom.invariant.rules
     (none_now c.args.joint.now.columns.items c.args.free.now c.args.rested.now.rules.items
-        (stored c.loop-atom.rested) c.args.atoms.now c.loop-atom.atom-index c.atom-item.result c.loop-atom-test.true
-        c.atom-item.is
+    (stored c.loop-atom.rested) c.args.atoms.now c.loop-atom.atom-index c.atom-item.result c.loop-atom-test.true
+    c.atom-item.is
     c.loop-atom.invariant.may inside)
 
 pub loop-atom-preserved : goal.loop-atom-preserved
@@ -44,8 +44,8 @@ loop-atom-preserved c =
             (stored c.loop-atom.rested) c.args.atoms.now c.loop-atom.atom-index c.atom-item.result c.loop-atom-test.true
             c.atom-item.is
             c.loop-atom.invariant.may _ (let inside : IsIn c.args.free.now
-                (value_in c.args.joint.now.columns.items c.atom-item.result) = search rules in inside)
-                w.settle_down.ensures.within);
+            (value_in c.args.joint.now.columns.items c.atom-item.result) = search rules in inside)
+            w.settle_down.ensures.within);
       }
       | else-has w ↦ record {
         rested = rw w.rested-is c.loop-atom.invariant.rested;
@@ -56,7 +56,7 @@ loop-atom-preserved c =
         whole = rw (w.rested-is, w.fresh-is) (whole_next _ _ _ c.args.atoms.now c.loop-atom.atom-index
             c.atom-item.result c.loop-atom-test.true c.atom-item.is c.loop-atom.invariant.whole
             (inserted (stored c.loop-atom.rested) c.loop-atom.fresh.items
-                (c.atom-item.result ∷ []) w.push_copy.new.items.items w.push_copy.ensures.items));
+            (c.atom-item.result ∷ []) w.push_copy.new.items.items w.push_copy.ensures.items));
         may = rw w.rested-is (walk_on c.args.joint.now.columns.items c.args.free.now c.args.rested.now.rules.items
             (stored c.loop-atom.rested) c.args.atoms.now c.loop-atom.atom-index c.atom-item.result c.loop-atom-test.true
             c.atom-item.is

@@ -17,7 +17,7 @@ pub join_each-requires-clause-may : goal.join_each-requires-clause-may
 join_each-requires-clause-may c =
     let own = c.args.rested.now.rules.items in
     let free = subst (λ (ts : List Contents). IsFree c.in-Some.joint.columns.items c.free_of_all-free.result
-        (rows_of ts)) c.deref.ensures.value c.free_of_all-free.ensures.free in
+    (rows_of ts)) c.deref.ensures.value c.free_of_all-free.ensures.free in
     may_join c.in-Some.joint.columns.items c.free_of_all-free.result own c.args.rested.now.tables.tables.items
-        c.args.atoms.now c.in-Some.ensures.joined free c.requires.rested.rests
+    c.args.atoms.now c.in-Some.ensures.joined free c.requires.rested.rests
     (same_rest c.args.rules.now own (store_of c.args.atoms.now) (sym c.in-Some.ensures.same) c.requires.rests)

@@ -6,4 +6,4 @@ use Rattle.chr_columns.proofs.joining.joint_for.Goals as goal
 pub returns-then-are_same-clause-joined : goal.returns-then-are_same-clause-joined
 returns-then-are_same-clause-joined c =
     subst (λ (rules : List Rule). IfSome c.joint_of.result (λ joint. All (IsJoined joint.columns.items) rules))
-        c.deref-then-are_same.ensures.value c.joint_of.ensures
+    c.deref-then-are_same.ensures.value c.joint_of.ensures

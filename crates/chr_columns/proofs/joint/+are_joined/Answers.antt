@@ -7,4 +7,4 @@ pub returns : goal.returns
 returns t c =
     let first : IsJoined c.args.columns.now c.rule-item.result = search rules in
     all_joined c.args.columns.now c.args.rules.now c.rule-item.result c.are_joined.result c.in-len1-up.len_at_least
-        c.rule-item.is first c.are_joined.ensures
+    c.rule-item.is first c.are_joined.ensures

@@ -10,6 +10,6 @@ returns c =
     let fresh = c.args.fresh.now in
     let all = c.in_ok-push_copies.ensures.ok
     ∙ ap (λ xs. xs ++ fresh) (c.in_ok-push_live.ensures.ok
-        ∙ ap (λ xs. xs ++ live_in c.args.tables.now) c.new-atoms.ensures.items) in
+    ∙ ap (λ xs. xs ++ live_in c.args.tables.now) c.new-atoms.ensures.items) in
     subst (λ (s : Store). IfOk c.of.result (λ b. b ≡ s)) (ap store_of all ∙ store_all c.args.tables.now fresh)
-        c.of.ensures.store
+    c.of.ensures.store

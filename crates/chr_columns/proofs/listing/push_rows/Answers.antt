@@ -11,10 +11,10 @@ loop-row-preserved c =
     let old = c.args.atoms.now.items in
     elim c.match-get.branch [
       | in-Some+else-is_err w ↦ (let new : w.push.new.self.items ≡ c.loop-row.atoms.items ++ w.in-Some.atom ∷ [] =
-            grind (arith, common_steps) in
+          grind (arith, common_steps) in
           ap (λ v. v.items) w.atoms-is ∙ new ∙ ap (λ as'. as' ++ w.in-Some.atom ∷ []) c.loop-row.invariant
-              ∙ append_assoc old _ (w.in-Some.atom ∷ [])
+          ∙ append_assoc old _ (w.in-Some.atom ∷ [])
           ∙ ap (λ as'. old ++ as') (sym (live_more rows i w.in-Some.atom (sym w.in-Some.ensures))))
       | in_default w ↦ ap (λ v. v.items) w.atoms-is ∙ c.loop-row.invariant
-            ∙ ap (λ as'. old ++ as') (sym (dead_more rows i (sym w.in_default.ensures)))
+          ∙ ap (λ as'. old ++ as') (sym (dead_more rows i (sym w.in_default.ensures)))
     ]

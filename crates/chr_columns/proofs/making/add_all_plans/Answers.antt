@@ -8,15 +8,15 @@ pub add_plans-requires-clause-grouped : goal.add_plans-requires-clause-grouped
 add_plans-requires-clause-grouped c p l =
     let x = c.index-rules-number.result in
     let at = slice_get_read c.args.rules.now (length c.args.rules.now) c.loop-number.number x refl
-        c.loop-number-test.true c.index-rules-number.is in
+    c.loop-number-test.true c.index-rules-number.is in
     grouped_same c.args.groups.now c.loop-number.groups (pattern_at x p) c.loop-number.invariant.keep.shapes
-        (c.requires.grouped c.loop-number.number x at p l)
+    (c.requires.grouped c.loop-number.number x at p l)
 
 pub loop-number-preserved : goal.loop-number-preserved
 loop-number-preserved c =
     let x = c.index-rules-number.result in
     let at = slice_get_read c.args.rules.now (length c.args.rules.now) c.loop-number.number x refl
-        c.loop-number-test.true c.index-rules-number.is in
+    c.loop-number-test.true c.index-rules-number.is in
     record {
       tables = c.add_plans.ensures.tables;
       keep = keep_all _ _ _ c.loop-number.invariant.keep c.in_ok-add_plans.ensures.keep;

@@ -11,7 +11,7 @@ table_is : (c : goal.In_ok-push) → c.table_of-table.result ≡ table_of_patter
 table_is c =
     let e = c.head_at-pattern.ensures in
     c.table_of-table.ensures ∙ (λ i. table_of c.args.groups.now c.head_at-pattern.result.now.symbol
-        (c.len.ensures.value i)) ∙ ap (table_of_pattern c.args.groups.now) e
+    (c.len.ensures.value i)) ∙ ap (table_of_pattern c.args.groups.now) e
 
 within : (c : goal.In_ok-push) → c.table_of-table.result < length c.args.groups.now
 within c = let e = table_is c in let l = c.requires.grouped in omega (arith, e, l)
@@ -32,16 +32,16 @@ returns-clause-planned c rules at are =
       c.in_ok-plan.ensures.indexed,
     ) in
     planned_more c.args.groups.now c.table_of-table.result c.index-groups-table.result _ p
-        (within c) refl refl c.in_ok-push.ensures.items rules
+    (within c) refl refl c.in_ok-push.ensures.items rules
     (columns_in c.args.keys.now.items) (columns_in c.plan_for.new.keys.items) c.plan_for.ensures.grows new are
 
 pub returns-clause-plan : goal.returns-clause-plan
 returns-clause-plan c =
     let p = c.in_ok-plan.plan in
     let h = plan_there c.args.groups.now c.table_of-table.result c.index-groups-table.result _ p
-        (within c) refl refl c.in_ok-push.ensures.items in
+    (within c) refl refl c.in_ok-push.ensures.items in
     let keep : KeepPlans c.args.groups.now _ = plan_keeps c.args.groups.now c.table_of-table.result
-        c.index-groups-table.result _ p (within c) refl refl c.in_ok-push.ensures.items in (
+    c.index-groups-table.result _ p (within c) refl refl c.in_ok-push.ensures.items in (
       h.0,
       h.1,
       h.2,

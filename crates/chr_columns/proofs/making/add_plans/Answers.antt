@@ -11,7 +11,7 @@ add_plan-requires-clause-grouped c =
     let l = c.loop-place-test.true in
     let m = c.loop-place.auto.place in
     grouped_same _ _ (pattern_at c.args.rule.now place) c.loop-place.invariant.keep.shapes
-        (c.requires.grouped place (omega (arith, n, l, m)))
+    (c.requires.grouped place (omega (arith, n, l, m)))
 
 pub loop-place-preserved : goal.loop-place-preserved
 loop-place-preserved c =

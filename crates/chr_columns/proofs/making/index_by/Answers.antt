@@ -10,18 +10,18 @@ use Rattle.chr_columns.proofs.making.index_by.Goals as goal
 pub returns-then-is_by-clause-found : goal.returns-then-is_by-clause-found
 returns-then-is_by-clause-found c =
     slice_read made_way c.args.keys.now.ways.items c.deref-way-items.result.now c.loop-i.i c.way-item.result
-        (c.args.columns.now, c.args.order)
+    (c.args.columns.now, c.args.order)
     c.deref-way-items.ensures.value c.loop-i-test.true c.way-item.is (sym c.if-is_by.ensures.by)
 
 pub loop-i-preserved : goal.loop-i-preserved
 loop-i-preserved c k l e = elim (cases_lt k c.loop-i.i) as (λ _. ⊥) [
   | inl less ↦ c.loop-i.invariant k less e
   | inr most ↦ (let at = slice_read made_way c.args.keys.now.ways.items c.deref-way-items.result.now c.loop-i.i
-        c.way-item.result (made_way c.way-item.result)
+      c.way-item.result (made_way c.way-item.result)
       c.deref-way-items.ensures.value c.loop-i-test.true c.way-item.is refl in
       let i : k ≡ c.loop-i.i = omega (arith, l, most) in
       c.if-is_by.ensures.other (same_Some (made_way c.way-item.result) (c.args.columns.now, c.args.order)
-          (sym at ∙ ap (slice_get (made_ways c.args.keys.now)) (sym i) ∙ e)))
+      (sym at ∙ ap (slice_get (made_ways c.args.keys.now)) (sym i) ∙ e)))
 ]
 
 pub returns-clause-none : goal.returns-clause-none

@@ -9,7 +9,7 @@ use Rattle.chr_columns.proofs.making.index_for.Goals as goal
 pub returns-clause-stay : goal.returns-clause-stay
 returns-clause-stay c i cs e =
     ap (λ (xs : List (List ℕ)). slice_get xs i) (ap (map (λ w. w.0))
-        (ap (map made_way) c.in_ok-push.ensures.items ∙ map-append made_way c.args.keys.now.ways.items _)
+    (ap (map made_way) c.in_ok-push.ensures.items ∙ map-append made_way c.args.keys.now.ways.items _)
     ∙ map-append (λ w. w.0) (made_ways c.args.keys.now) _)
     ∙ slice_left (lists_of c.args.keys.now) (c.args.columns.items ∷ []) i cs e
 
@@ -20,6 +20,6 @@ returns-clause-index c =
     let ok = c.args.keys.now.ways.ok.0 in
     let i : c.len-index.result ≡ length (made_ways c.args.keys.now) = omega (arith, ways, n, ok) in
     ap (λ (xs : List (List ℕ × Order)). slice_get xs c.len-index.result)
-        (ap (map made_way) c.in_ok-push.ensures.items ∙ map-append made_way c.args.keys.now.ways.items _)
+    (ap (map made_way) c.in_ok-push.ensures.items ∙ map-append made_way c.args.keys.now.ways.items _)
     ∙ ap (slice_get (made_ways c.args.keys.now ++ (c.args.columns.items, c.args.order) ∷ [])) i
     ∙ slice_last (made_ways c.args.keys.now) (c.args.columns.items, c.args.order)

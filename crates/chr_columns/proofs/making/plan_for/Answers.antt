@@ -18,14 +18,14 @@ loop-index-preserved c =
       grows = λ t i cs h. c.look_up.ensures.grows t i cs (c.loop-index.invariant.grows t i cs h);
       partners = map-append (λ (x : Lookup). x.partner) c.loop-index.lookups.items _
           ∙ rw (c.loop-index.invariant.partners, is) (ap
-              (λ x. take c.loop-index.index c.plan_of-partners.result.items ++ x ∷ [])
-              (rw c.deref.ensures.0 at c.index-deref-index.is)
-              ∙ sym (take_more c.plan_of-partners.result.items c.loop-index.index c.index-deref-index.result
-              (omega arith)));
+          (λ x. take c.loop-index.index c.plan_of-partners.result.items ++ x ∷ [])
+          (rw c.deref.ensures.0 at c.index-deref-index.is)
+          ∙ sym (take_more c.plan_of-partners.result.items c.loop-index.index c.index-deref-index.result
+          (omega arith)));
       indexed = indexed_more c.args.rule.now c.args.groups.now (columns_in c.loop-index.keys.items)
           (columns_in c.look_up.new.keys.items) c.loop-index.lookups.items _ c.look_up.ensures.grows
           c.loop-index.invariant.indexed
           (c.in_ok-look_up.ensures.index ∙ ap (λ (x : Partner). Some (columns_of x.key.items)) (sym is))
           (c.in_ok-look_up.ensures.table ∙ ap (λ (x : Partner). table_of_pattern c.args.groups.now
-              (pattern_at c.args.rule.now x.place)) (sym is));
+          (pattern_at c.args.rule.now x.place)) (sym is));
     })

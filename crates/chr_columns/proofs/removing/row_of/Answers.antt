@@ -8,7 +8,7 @@ use Rattle.chr_columns.proofs.removing.row_of.Goals.{in-Some+else-is_same, in_de
 pub returns-then-is_same-clause-found : goal.returns-then-is_same-clause-found
 returns-then-is_same-clause-found c =
     sym c.in-Some.ensures ∙ ap Some (sym (same_is c.args.atom.now c.in-Some.other
-        (sym c.is_same.ensures ∙ c.if-is_same.true)))
+    (sym c.is_same.ensures ∙ c.if-is_same.true)))
 
 pub loop-row-preserved : goal.loop-row-preserved
 loop-row-preserved c =

@@ -13,7 +13,7 @@ loop-steps-preserved c =
     let before = stored c.loop-steps.rested ⊕ store_of c.loop-steps.fresh.items in
     let after = stored c.settle.new.self ⊕ store_of c.settle.new.fresh.items in
     let step = subst (λ v. Step v.items before after) c.loop-steps.invariant.rules
-        (c.settle.ensures.fired (c.in-Ok-Fired.is ∙ ap Ok c.in-Ok-Fired.field-0-is)) in
+    (c.settle.ensures.fired (c.in-Ok-Fired.is ∙ ap Ok c.in-Ok-Fired.field-0-is)) in
     record {
       rested = c.settle.ensures.rested;
       rules = c.settle.ensures.rules ∙ c.loop-steps.invariant.rules;

@@ -26,4 +26,4 @@ pub returns-clause-failing : goal.returns-clause-failing
 returns-clause-failing c = λ rules i j r1 r2 m v1 v2 a b at1 at2 case values x y differ.
     (let s = case_store r1 r2 m v1 v2 in
     not_confluent rules s (side r1 v1 s) (side r2 v2 s) a b values (i, r1, v1, at1, left_step r1 r2 m v1 v2 case)
-        (j, r2, v2, at2, right_step r1 r2 m v1 v2 case) x y differ)
+    (j, r2, v2, at2, right_step r1 r2 m v1 v2 case) x y differ)

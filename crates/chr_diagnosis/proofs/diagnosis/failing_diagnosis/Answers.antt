@@ -7,6 +7,8 @@ pub peak_of-requires-clause-overlap : goal.peak_of-requires-clause-overlap
 peak_of-requires-clause-overlap c = overlap_of _ _ _ c.requires.first.0
 
 pub returns-in-Ok : goal.returns-in-Ok
-returns-in-Ok c =
-    (ap program_of c.in-Ok.ensures.weighed, c.args.weighed.lowers,
-        c.in-Ok.ensures.peak c.args.coverage c.requires.first)
+returns-in-Ok c = (
+  ap program_of c.in-Ok.ensures.weighed,
+  c.args.weighed.lowers,
+  c.in-Ok.ensures.peak c.args.coverage c.requires.first,
+)

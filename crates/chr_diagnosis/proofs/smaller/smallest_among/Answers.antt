@@ -15,7 +15,7 @@ loop-case-preserved c =
       | in-Some-2 w ↦
           let at : IsFailureAt program o c.case-item.result w.in-Some-2.failure = search common.rules in
           let of = found_among program o c.args.cases.now c.loop-case.case-index c.case-item.result w.in-Some-2.failure
-              c.requires c.loop-case-test.true c.case-item.is at in
+          c.requires c.loop-case-test.true c.case-item.is at in
           subst (λ s. IfSome s (IsFailureOf program o)) (sym w.smallest-is) of
       | in_default w ↦ subst (λ s. IfSome s (IsFailureOf program o)) (sym w.smallest-is) c.loop-case.invariant
     ]

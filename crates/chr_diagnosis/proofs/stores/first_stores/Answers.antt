@@ -21,8 +21,8 @@ returns c =
     let told : c.min-told.result ≡ min MAX_TOLD_STEPS (length d.steps.items) = search rules in
     let steps : take c.min-told.result c.deref.result.now ≡ take MAX_TOLD_STEPS d.steps.items =
     ap (take c.min-told.result) c.deref.ensures.value ∙ ap (λ n. take n d.steps.items) told
-        ∙ take_min MAX_TOLD_STEPS d.steps.items in
+    ∙ take_min MAX_TOLD_STEPS d.steps.items in
     let items : c.add_stores.new.stores.items ≡ passed.0 =
-        passed.1 ∙ ap (λ xs. xs ++ passed.0) c.new-stores.ensures.items in
+    passed.1 ∙ ap (λ xs. xs ++ passed.0) c.new-stores.ensures.items in
     subst (λ xs. PassesThrough program (take MAX_TOLD_STEPS d.steps.items) d.start xs) (sym items)
     (subst (λ xs. PassesThrough program xs d.start passed.0) steps passed.2)

@@ -11,7 +11,7 @@ returns c =
     let words = c.args.raw.now.atoms.items in
     let len : length words ≡ vec_len c.args.raw.now.atoms = search rules in
     made_of (declarations c.args.program.now) (raw_op_view c.args.raw.now) c.in-Some.atoms.items c.in_ok-bag.bag
-        c.of-2.result
+    c.of-2.result
     (ap (option_map (λ v. v.items)) (sym c.in-Some.is) ∙ (rw c.deref.ensures.value at c.in_ok-atoms.ensures))
     (rw (length-map words raw_atom_view, len) c.requires) (c.in_ok-bag.ensures.store ∙ c.put_in_order.ensures)
-        c.of-2.ensures.sized.1 c.of-2.ensures.op
+    c.of-2.ensures.sized.1 c.of-2.ensures.op

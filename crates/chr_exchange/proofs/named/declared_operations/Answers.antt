@@ -9,5 +9,5 @@ pub loop-raw-preserved : goal.loop-raw-preserved
 loop-raw-preserved c =
     let pushed : c.push.new.self.items ≡ c.loop-raw.ops.items ++ c.in-Some.op ∷ [] = search rules in
     rw pushed (sym (front_step (declared_operation (declarations c.args.program.now)) raw_op_view c.args.raws.now
-        c.loop-raw.raw-index c.raw-item.result c.in-Some.op c.loop-raw.ops.items c.loop-raw-test.true c.raw-item.is
-        (sym (sym c.in-Some.is ∙ c.in_ok-op.ensures))) ∙ c.loop-raw.invariant)
+    c.loop-raw.raw-index c.raw-item.result c.in-Some.op c.loop-raw.ops.items c.loop-raw-test.true c.raw-item.is
+    (sym (sym c.in-Some.is ∙ c.in_ok-op.ensures))) ∙ c.loop-raw.invariant)

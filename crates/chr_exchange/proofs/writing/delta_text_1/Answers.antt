@@ -15,4 +15,4 @@ returns c =
     (rw c.deref.ensures.value at c.in_ok-push_operations.ensures)
     ∙ ap (λ l. l ++ compact_text (delta_1_data (map (λ o. spelt ds o.now) sorted))) c.new-out.ensures.bytes
     ∙ ap (λ l. compact_text (delta_1_data l)) (spelt_lent ds sorted (finite.entries (operations_of c.args.ops.now))
-        c.in_ok-sorted.ensures)
+    c.in_ok-sorted.ensures)

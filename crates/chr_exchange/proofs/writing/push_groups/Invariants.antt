@@ -10,7 +10,7 @@ abbrev pub invariant-loop-op : goal.invariant-loop-op
 invariant-loop-op l =
     string_bytes l.out
     ++ grouped_from (λ o. o.now.0.origin) (λ o. compact_text (numbered_data (spelt (declarations l.program) o.now)))
-        l.last (drop l.op-index l.ops)
+    l.last (drop l.op-index l.ops)
     ≡ string_bytes l.fn.out
     ++ grouped_from (λ o. o.now.0.origin) (λ o. compact_text (numbered_data (spelt (declarations l.program) o.now)))
-        None l.ops
+    None l.ops

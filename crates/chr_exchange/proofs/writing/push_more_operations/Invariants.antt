@@ -8,6 +8,6 @@ use Rattle.chr_exchange.proofs.writing.push_more_operations.Given as goal
 abbrev pub invariant-loop-op : goal.invariant-loop-op
 invariant-loop-op l =
     string_bytes l.out ++ flat_map (λ o. 44 ∷ compact_text (operation_data (spelt (declarations l.program) o.now)))
-        (drop l.op-index l.ops)
+    (drop l.op-index l.ops)
     ≡ string_bytes l.fn.out ++ flat_map (λ o. 44 ∷ compact_text (operation_data (spelt (declarations l.program) o.now)))
-        l.ops
+    l.ops

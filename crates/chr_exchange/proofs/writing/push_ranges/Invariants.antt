@@ -7,5 +7,5 @@ use Rattle.chr_exchange.proofs.writing.push_ranges.Given as goal
 abbrev pub invariant-loop-range : goal.invariant-loop-range
 invariant-loop-range l =
     string_bytes l.out ++ grouped_from (λ r. r.origin) (λ r. compact_text (range_data r)) l.last
-        (drop l.range-index l.ranges)
+    (drop l.range-index l.ranges)
     ≡ string_bytes l.fn.out ++ grouped_from (λ r. r.origin) (λ r. compact_text (range_data r)) None l.ranges

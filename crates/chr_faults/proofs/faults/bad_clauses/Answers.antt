@@ -21,7 +21,7 @@ returns-in_default c =
     let same : c.deref.result.now ≡ c.loop-gone.left.items = search rules in
     no_more c.loop-gone.gone c.args.text.now c.loop-gone.left.items c.loop-gone.bad.items (omega arith)
     (none_left c.in_ok-first.field-0 c.deref.result.now c.loop-gone.left.items same c.in_default.is
-        c.in_ok-first.ensures.none)
+    c.in_ok-first.ensures.none)
     c.loop-gone.invariant.completed
 
 pub loop-gone-preserved : goal.loop-gone-preserved
@@ -29,22 +29,25 @@ loop-gone-preserved c =
     let same : c.deref.result.now ≡ c.loop-gone.left.items = search rules in
     let again : c.deref-in-loop-gone.result.now ≡ c.loop-gone.left.items = search rules in
     let refused = some_left c.in_ok-first.field-0 c.in-Some.first c.deref.result.now c.loop-gone.left.items same
-        c.in-Some.is c.in_ok-first.ensures.some in
+    c.in-Some.is c.in_ok-first.ensures.some in
     let left : c.in_ok-left-2.left.items ≡ without_clause c.in-Some.first.number c.loop-gone.left.items =
-        c.in_ok-left-2.ensures.value ∙ ap (without_clause c.in-Some.first.number) again in
+    c.in_ok-left-2.ensures.value ∙ ap (without_clause c.in-Some.first.number) again in
     let shorter : length (without_clause c.in-Some.first.number c.loop-gone.left.items) ≤ length
-        c.loop-gone.left.items = length_without_clause c.in-Some.first.number c.loop-gone.left.items in
+    c.loop-gone.left.items = length_without_clause c.in-Some.first.number c.loop-gone.left.items in
     let next = one_more c.loop-gone.gone c.args.text.now c.loop-gone.left.items c.loop-gone.bad.items
-        (record { number = c.loop-gone.gone + c.in-Some.first.number; fault = c.in-Some.first.fault })
-        c.in-Some.first.number
+    (record { number = c.loop-gone.gone + c.in-Some.first.number; fault = c.in-Some.first.fault })
+    c.in-Some.first.number
     (omega arith) refused refl c.loop-gone.invariant.completed in
     record {
       short = subst IsShort (sym left) (omega (arith, shorter, c.loop-gone.invariant.short));
       completed = subst (λ xs. IsCompleted (c.loop-gone.gone + 1) c.args.text.now c.in_ok-left-2.left.items xs)
           (sym c.in_ok-push.ensures.items)
           (subst (λ t. IsCompleted (c.loop-gone.gone + 1) c.args.text.now t
-              (c.loop-gone.bad.items ++ record { number = c.loop-gone.gone + c.in-Some.first.number; fault =
-              c.in-Some.first.fault } ∷ [])) (sym left) next);
+          (c.loop-gone.bad.items ++ record {
+            number = c.loop-gone.gone + c.in-Some.first.number;
+            fault =
+                c.in-Some.first.fault;
+          } ∷ [])) (sym left) next);
     }
 
 pub returns : goal.returns

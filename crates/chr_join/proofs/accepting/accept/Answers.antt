@@ -7,7 +7,7 @@ use Rattle.chr_join.proofs.accepting.accept.Goals as goal
 pub returns-in-Ok-new-clause-confluent : goal.returns-in-Ok-new-clause-confluent
 returns-in-Ok-new-clause-confluent g c =
     c.accepted_are_confluent.ensures c.args.coverage (rules_in c.args.weighed) (rank_in (program_of c.args.weighed))
-        c.in-Ok.cases (lowers_rank (program_of c.args.weighed) c.args.weighed.lowers) c.in-Ok.ensures.ok
+    c.in-Ok.cases (lowers_rank (program_of c.args.weighed) c.args.weighed.lowers) c.in-Ok.ensures.ok
 
 pub returns-in-Err-clause-not_confluent : goal.returns-in-Err-clause-not_confluent
 returns-in-Err-clause-not_confluent g c = refusal_refutes c.refused_are_not_confluent.ensures c.args.coverage

@@ -10,10 +10,12 @@ pub numbers_of-requires-clause-overlaps : goal.numbers_of-requires-clause-overla
 numbers_of-requires-clause-overlaps g c κs within =
     let of = IsOverlapOf (rules_in c.args.weighed.now) in
     subst (All of) (sym c.batch_from-batch.ensures) (All-take of (length c.batch_from-batch.result.now) _
-        (All-drop of c.args.places.start c.args.overlaps.now c.requires.overlaps))
+    (All-drop of c.args.places.start c.args.overlaps.now c.requires.overlaps))
 
 pub returns : goal.returns
 returns g c =
-    let number = IsNumberOf c.args.lister.now.coverage (rules_in c.args.weighed.now) in
-    (length c.batch_from-batch.result.now, subst (λ os. AllZip number os c.in_ok-numbers_of.field-0.items)
-        c.batch_from-batch.ensures c.in_ok-numbers_of.ensures)
+    let number = IsNumberOf c.args.lister.now.coverage (rules_in c.args.weighed.now) in (
+      length c.batch_from-batch.result.now,
+      subst (λ os. AllZip number os c.in_ok-numbers_of.field-0.items)
+          c.batch_from-batch.ensures c.in_ok-numbers_of.ensures,
+    )

@@ -11,7 +11,7 @@ pub collect-requires-clause-ready : goal.collect-requires-clause-ready
 collect-requires-clause-ready g c κs within =
     let of = IsOverlapOf (rules_in c.args.weighed.now) in
     rw (c.map.ensures.base, c.map.ensures.f, c.with_min_len.ensures.base, c.par_iter.ensures)
-        (λ k d lt x e. ((subst of (sym e) (c.requires.overlaps k d lt), c.requires.lister), λ y p. tt))
+    (λ k d lt x e. ((subst of (sym e) (c.requires.overlaps k d lt), c.requires.lister), λ y p. tt))
 
 pub returns : goal.returns
 returns g c =
@@ -19,4 +19,4 @@ returns g c =
     IfOk-then c.collect.result _ _ c.collect.ensures (λ v h.
     let chain = rw (c.map.ensures.base, c.map.ensures.f, c.with_min_len.ensures.base) at h.1 in
     subst (AllZip number c.args.overlaps.now) (sym h.2)
-        (slice-AllZip chain.0 c.args.overlaps.now (chain.1 ∙ c.par_iter.ensures) number h.0 chain.2))
+    (slice-AllZip chain.0 c.args.overlaps.now (chain.1 ∙ c.par_iter.ensures) number h.0 chain.2))

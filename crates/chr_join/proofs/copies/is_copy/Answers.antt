@@ -17,7 +17,7 @@ returns-then-originals-first c =
     let there = slice_get_within rules h.0 h.2.2.rule1 h.2.2.first in
     let number = c.requires.originals.number in
     OnTrue_from _ (IsCopy rules o) (λ _. first_copied rules ks o (get_or ks (o.first - 1) 0) c.requires.originals h
-        (slice_get-get_or ks (o.first - 1) 0 (omega (arith, one, there, number))) c.if-originals-first.true)
+    (slice_get-get_or ks (o.first - 1) 0 (omega (arith, one, there, number))) c.if-originals-first.true)
 
 pub returns-else-originals-first : goal.returns-else-originals-first
 returns-else-originals-first c =
@@ -26,5 +26,5 @@ returns-else-originals-first c =
     let o = c.args.overlap.now in
     let h = c.requires.overlap in
     OnTrue_from c.contains.result (IsCopy rules o) (λ e.
-        (let at = match_true c.contains.result _ _ e c.contains.ensures.cases in
-        second_among rules ks o at.0 c.requires.originals h at.1 at.2))
+    (let at = match_true c.contains.result _ _ e c.contains.ensures.cases in
+    second_among rules ks o at.0 c.requires.originals h at.1 at.2))

@@ -7,5 +7,5 @@ returns-then-eq-clause-same c =
     let earlier = c.loop-earlier-test.true in
     let there = c.requires in
     equal_rules c.args.rules.now c.loop-earlier.earlier c.args.place c.index-rules-earlier.result
-        c.index-rules-place.result c.eq.result (omega (arith, earlier, there)) there c.index-rules-earlier.is
-        c.index-rules-place.is c.eq.ensures c.if-eq.true
+    c.index-rules-place.result c.eq.result (omega (arith, earlier, there)) there c.index-rules-earlier.is
+    c.index-rules-place.is c.eq.ensures c.if-eq.true

@@ -22,7 +22,7 @@ returns c =
     let ended = c.loop-place-test.false in
     let number = c.loop-place.invariant.number in
     let same : length c.loop-place.places.items ≡ length c.rules-rules.result.now =
-        omega (arith, most, ended, number) in
+    omega (arith, most, ended, number) in
     record {
       number = same ∙ ap length rules;
       same = subst (λ (rs : List Rule). (i k : ℕ) → slice_get c.loop-place.places.items i ≡ Some k → (k ≤ i)

@@ -13,4 +13,4 @@ returns c =
     let v = c.in_ok-visit_types.ensures.visited in
     let types = subst (λ n. AreTypes n c.args.constants.now v.0) c.free_classes-classes.ensures v.1 in
     count_is c.args.unified.now c.args.constants.now v.0 types c.requires.few _ c.visit_types.new.visitor _ refl refl
-        v.2
+    v.2

@@ -21,4 +21,4 @@ returns-clause-known c =
     subst (HaveFewTypes c.args.constants.now) (sym c.in_ok-push.ensures.items)
     (All-append (IsFew c) c.args.known.now.items (c.args.classes ∷ []) c.requires.known
     (All-cons (IsFew c) c.args.classes [] (λ m. true≢false
-        (sym (c.in_ok-has_more_types.ensures.1 m) ∙ c.if-branch.false)) (All-nil (IsFew c))))
+    (sym (c.in_ok-has_more_types.ensures.1 m) ∙ c.if-branch.false)) (All-nil (IsFew c))))

@@ -17,7 +17,9 @@ returns-then-not-branch-clause-err c first =
       subst (IsFirst rules) (sym c.copy.ensures) first,
       subst (λ o. IsTooMany rules o n) (sym c.copy.ensures)
           (too_many rules c.args.overlap.now u.rule1 u.rule2 c.in-Some.unified c.args.constants.now n u.are_rules.0
-          u.are_rules.1 c.requires.constants u.solves u.unified
-          (c.free_classes-classes.ensures, subst (λ k. MoreTypesThan MAX_TYPES k c.args.constants.now)
-              c.free_classes-classes.ensures more)),
+          u.are_rules.1 c.requires.constants u.solves u.unified (
+            c.free_classes-classes.ensures,
+            subst (λ k. MoreTypesThan MAX_TYPES k c.args.constants.now)
+                c.free_classes-classes.ensures more,
+          )),
     )

@@ -11,7 +11,7 @@ use Rattle.chr_join.proofs.settled.few_settled.Goals as goal
 pub is_settled-requires-clause-overlap : goal.is_settled-requires-clause-overlap
 is_settled-requires-clause-overlap c =
     subst (IsOverlapOf (rules_in c.args.weighed.now)) (sym c.overlap-item.is)
-        (c.requires.overlaps c.loop-overlap.overlap-index c.overlap-item.result c.loop-overlap-test.true)
+    (c.requires.overlaps c.loop-overlap.overlap-index c.overlap-item.result c.loop-overlap-test.true)
 
 pub loop-overlap-preserved : goal.loop-overlap-preserved
 loop-overlap-preserved c =
@@ -21,8 +21,8 @@ loop-overlap-preserved c =
     let o = c.overlap-item.result in
     let here = subst J c.overlap-item.is (OnTrue_at c.if-not-is_settled.false c.is_settled.ensures) in
     subst (All J) (sym (take_more os i o c.loop-overlap-test.true))
-        (All-append J (take i os) (get_or os i o ∷ []) c.loop-overlap.invariant
-        (All-cons J (get_or os i o) [] here (All-nil J)))
+    (All-append J (take i os) (get_or os i o ∷ []) c.loop-overlap.invariant
+    (All-cons J (get_or os i o) [] here (All-nil J)))
 
 pub returns : goal.returns
 returns c = subst (All (IsSettled (rules_in c.args.weighed.now)))

@@ -6,4 +6,4 @@ use Rattle.chr_join.proofs.settled.few_types.Goals as goal
 pub unified-requires : goal.unified-requires
 unified-requires c =
     subst (IsOverlapOf (rules_in c.args.weighed.now)) (sym c.index-overlaps-place.is)
-        (c.requires.overlaps c.loop-place.place c.index-overlaps-place.result c.loop-place-test.true)
+    (c.requires.overlaps c.loop-place.place c.index-overlaps-place.result c.loop-place-test.true)

@@ -6,4 +6,4 @@ use Rattle.chr_join.proofs.settled.joining_overlaps.Goals as goal
 pub overlap_joins-requires-clause-overlap : goal.overlap_joins-requires-clause-overlap
 overlap_joins-requires-clause-overlap c =
     subst (IsOverlapOf (rules_in c.args.weighed.now)) (sym c.index-overlaps-place.is)
-        (c.requires.overlaps c.loop-place.place c.index-overlaps-place.result c.loop-place-test.true)
+    (c.requires.overlaps c.loop-place.place c.index-overlaps-place.result c.loop-place-test.true)

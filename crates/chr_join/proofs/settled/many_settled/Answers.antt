@@ -19,4 +19,4 @@ returns g c =
     let J = IsSettled (rules_in c.args.weighed.now) in
     let h = rw c.with_min_len.ensures.base at c.all.ensures in
     OnTrue_from c.all.result (All J c.args.overlaps.now)
-        (λ e. slice-All h.0 c.args.overlaps.now (h.1 ∙ c.par_iter.ensures) J (match_true c.all.result _ _ e h.2))
+    (λ e. slice-All h.0 c.args.overlaps.now (h.1 ∙ c.par_iter.ensures) J (match_true c.all.result _ _ e h.2))

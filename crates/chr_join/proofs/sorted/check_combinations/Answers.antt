@@ -15,37 +15,49 @@ new-checker-requires-clause-unified c = sorted_unified_has (rules_in c.args.weig
 
 pub visit_combinations-requires-clause-ready : goal.visit_combinations-requires-clause-ready
 visit_combinations-requires-clause-ready c =
-    let s : Setting = record { weighed = c.args.weighed.now; overlap = c.args.overlap.now; unified =
-        c.args.unified.now } in
+    let s : Setting = record {
+      weighed = c.args.weighed.now;
+      overlap = c.args.overlap.now;
+      unified =
+          c.args.unified.now;
+    } in
     may_check c.new-checker.result s c.new-checker.ensures.setting c.requires.overlap
-        (sorted_unified_has (rules_in s.weighed) s.overlap s.unified c.requires.unified)
-        (sorted_values c.sorted_cases.ensures.cases s c.requires.overlap c.requires.unified) c.new-checker.ensures.equal
-        c.new-checker.ensures.ends
+    (sorted_unified_has (rules_in s.weighed) s.overlap s.unified c.requires.unified)
+    (sorted_values c.sorted_cases.ensures.cases s c.requires.overlap c.requires.unified) c.new-checker.ensures.equal
+    c.new-checker.ensures.ends
 
 pub returns-clause-ok : goal.returns-clause-ok
 returns-clause-ok c =
-    let s : Setting = record { weighed = c.args.weighed.now; overlap = c.args.overlap.now; unified =
-        c.args.unified.now } in
+    let s : Setting = record {
+      weighed = c.args.weighed.now;
+      overlap = c.args.overlap.now;
+      unified =
+          c.args.unified.now;
+    } in
     let u = c.requires.unified in
     let o = sorts_of c.args.sorting.now in
     let v = c.in_ok-stopped.ensures.visited in
     let all = subst (λ ks. AreCombinations o ks v.0) (c.requires.sorts u.rule1 u.rule2 u.are_rules) v.1 in
     let within = few_combinations o c.args.sorts.now v.0 v.1 c.requires.few in
     told_joins Sorted s u.rule1 u.rule2 u.are_rules v.0 (sorted_cases o s v.0 u c.requires.finest all within)
-        (are_sorted_cases o s v.0 u c.requires.finest all within) refl
+    (are_sorted_cases o s v.0 u c.requires.finest all within) refl
     c.new-checker.result c.visit_combinations.new.visitor c.in_ok-stopped.stopped c.told.result
-        c.new-checker.ensures.setting c.new-checker.ensures.passed v.2 c.told.ensures.passed
+    c.new-checker.ensures.setting c.new-checker.ensures.passed v.2 c.told.ensures.passed
 
 pub returns-clause-err : goal.returns-clause-err
 returns-clause-err c =
-    let s : Setting = record { weighed = c.args.weighed.now; overlap = c.args.overlap.now; unified =
-        c.args.unified.now } in
+    let s : Setting = record {
+      weighed = c.args.weighed.now;
+      overlap = c.args.overlap.now;
+      unified =
+          c.args.unified.now;
+    } in
     let u = c.requires.unified in
     let o = sorts_of c.args.sorting.now in
     let v = c.in_ok-stopped.ensures.visited in
     let all = subst (λ ks. AreCombinations o ks v.0) (c.requires.sorts u.rule1 u.rule2 u.are_rules) v.1 in
     let within = few_combinations o c.args.sorts.now v.0 v.1 c.requires.few in
     told_fails Sorted s u.rule1 u.rule2 u.are_rules v.0 (sorted_cases o s v.0 u c.requires.finest all within)
-        (are_sorted_cases o s v.0 u c.requires.finest all within) refl
+    (are_sorted_cases o s v.0 u c.requires.finest all within) refl
     c.new-checker.result c.visit_combinations.new.visitor c.in_ok-stopped.stopped c.told.result
-        c.new-checker.ensures.setting v.2 c.told.ensures.failing
+    c.new-checker.ensures.setting v.2 c.told.ensures.failing

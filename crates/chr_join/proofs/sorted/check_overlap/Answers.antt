@@ -22,7 +22,7 @@ returns-then-branch-clause-err c first =
     let e = c.in_ok-sorts.ensures is.rule1 is.rule2 is.are_rules in
     let count : c.len.result ≡ length ks = c.len.ensures ∙ c.in_ok-sorts.sorts.ok.0 in
     let more = subst (λ xs. MoreCombinationsThan sorts xs MAX_TYPES) c.deref.ensures.value
-        (c.in_ok-has_more_combinations.ensures.0 c.if-branch.true) in (
+    (c.in_ok-has_more_combinations.ensures.0 c.if-branch.true) in (
       subst (IsFirstBy Sorted rules) (sym c.copy.ensures) first,
       subst (λ o. IsTooManyBy Sorted rules o c.len.result) (sym c.copy.ensures)
           (too_many_sorted rules sorts c.args.overlap.now c.in-Some.unified ks c.len.result c.requires.finest is e count

@@ -11,6 +11,6 @@ pub returns-clause-guards : goal.returns-clause-guards
 returns-clause-guards c =
     let few = HasFewTypes c.args.constants.now in
     let here : few c.args.unified = subst (λ (n : ℕ). ¬ MoreTypesThan MAX_TYPES n c.args.constants.now)
-        c.free_classes.ensures (OnTrue_at c.if-not-branch.false c.in_ok-are_few.ensures.few) in
+    c.free_classes.ensures (OnTrue_at c.if-not-branch.false c.in_ok-are_few.ensures.few) in
     subst (All few) (sym c.in_ok-push.ensures.items) (All-append few c.args.guards.now.items
-        (c.args.unified ∷ []) c.requires.guards (All-cons few c.args.unified [] here (All-nil few)))
+    (c.args.unified ∷ []) c.requires.guards (All-cons few c.args.unified [] here (All-nil few)))

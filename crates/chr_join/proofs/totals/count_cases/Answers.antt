@@ -10,4 +10,4 @@ returns-clause-number c =
     let p = program_of c.args.weighed.now in
     cases_counted s c.args.constants.now c.count.result c.requires.unified c.requires.constants c.requires.few
     (c.joint_cases_join.ensures (rules_in s.weighed) (rank_in p) (lowers_rank p c.args.weighed.now.lowers)
-        c.requires.confluent s.overlap c.requires.overlap) c.count.ensures.number
+    c.requires.confluent s.overlap c.requires.overlap) c.count.ensures.number

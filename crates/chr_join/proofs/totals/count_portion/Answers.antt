@@ -13,7 +13,7 @@ pub count_ahead-requires-clause-overlaps : goal.count_ahead-requires-clause-over
 count_ahead-requires-clause-overlaps g c κs within =
     let of = IsOverlapOf (rules_in c.args.weighed.now) in
     subst (All of) (sym c.batch_from-batch.ensures) (All-take of (length c.batch_from-batch.result.now) _
-        (All-drop of c.loop-place.place c.args.overlaps.now c.requires.overlaps))
+    (All-drop of c.loop-place.place c.args.overlaps.now c.requires.overlaps))
 
 pub count_overlap-requires-clause-overlap : goal.count_overlap-requires-clause-overlap
 count_overlap-requires-clause-overlap g c = subst (IsOverlapOf (rules_in c.args.weighed.now))
@@ -35,16 +35,16 @@ count_overlap-requires-clause-counts g c = elim c.if-place-eq0.branch [
 pub overflow_add-total : goal.overflow_add-total
 overflow_add-total g c =
     let fits : c.loop-place.total + c.in-Ok.cases < 2 ^ 64 =
-        total_fits Joint (rules_in c.args.weighed.now) c.args.overlaps.now c.loop-place.place
-        c.index-overlaps-place.result c.loop-place.total c.in-Ok.cases c.requires.number c.loop-place-test.true
-        c.loop-place.invariant.joinable c.in-Ok.ensures.ok in
+    total_fits Joint (rules_in c.args.weighed.now) c.args.overlaps.now c.loop-place.place
+    c.index-overlaps-place.result c.loop-place.total c.in-Ok.cases c.requires.number c.loop-place-test.true
+    c.loop-place.invariant.joinable c.in-Ok.ensures.ok in
     search rules
 
 pub returns-in-Err-clause-err : goal.returns-in-Err-clause-err
 returns-in-Err-clause-err g c =
     refuses_in Joint (rules_in c.args.weighed.now) c.args.overlaps.now c.loop-place.place c.index-overlaps-place.result
-        c.loop-place.total _ c.loop-place.invariant.joinable c.loop-place-test.true c.index-overlaps-place.is
-        c.in-Err.ensures.err
+    c.loop-place.total _ c.loop-place.invariant.joinable c.loop-place-test.true c.index-overlaps-place.is
+    c.in-Err.ensures.err
 
 pub loop-place-preserved : goal.loop-place-preserved
 loop-place-preserved g c = record {

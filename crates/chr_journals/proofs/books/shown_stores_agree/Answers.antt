@@ -13,7 +13,7 @@ returns c =
     let confluent = subst (λ w. Confluent (rules_in w)) same c.weighed.ensures.confluent in
     let values = subst (λ b. HasValues (told_store b.replica.operations)) c.board.ensures c.is_sound.ensures.values in
     let values' = subst (λ b. HasValues (told_store b.replica.operations)) c.board-2.ensures
-        c.is_sound-2.ensures.values in
+    c.is_sound-2.ensures.values in
     c.journals_tell.ensures.agree (program_on c.args.left.now.board) (program_on c.args.right.now.board)
     c.args.left.now.entries c.args.right.now.entries c.args.left.now.board.replica c.args.right.now.board.replica
     c.requires confluent c.is_legal.ensures values c.is_legal-2.ensures values'

@@ -10,7 +10,7 @@ use Rattle.chr_journals.proofs.books.shown_stores_are_answers.Goals as goal
 pub returns-clause-held : goal.returns-clause-held
 returns-clause-held c =
     c.journals_tell.ensures.hold (program_on c.args.book.now.board) c.args.book.now.entries
-        c.args.book.now.board.replica c.is_legal.ensures
+    c.args.book.now.board.replica c.is_legal.ensures
 
 pub returns-clause-answers : goal.returns-clause-answers
 returns-clause-answers c =
@@ -18,5 +18,5 @@ returns-clause-answers c =
     let confluent = subst (λ w. Confluent (rules_in w)) same c.weighed.ensures.confluent in
     let values = subst (λ b. HasValues (told_store b.replica.operations)) c.board.ensures c.is_sound.ensures.values in
     c.journals_tell.ensures.answer (program_on c.args.book.now.board) c.args.book.now.entries
-        c.args.book.now.board.replica
+    c.args.book.now.board.replica
     confluent c.is_legal.ensures values

@@ -12,14 +12,23 @@ use Rattle.chr_json.proofs.command.command_in.Goals as goal
 pub returns-in_default-values-3-clause-read : goal.returns-in_default-values-3-clause-read
 returns-in_default-values-3-clause-read c =
     let there : elements (data_of c.args.value.now) ≡ Some (map data_of c.in-Some.values.now) = sym c.elements.ensures
-        ∙ ap (λ o. option_map (λ s. map data_of s.now) o) c.in-Some.is in
+    ∙ ap (λ o. option_map (λ s. map data_of s.now) o) c.in-Some.is in
     let count : length (map data_of c.in-Some.values.now) ≡ length c.in-Some.values.now =
-        length-map c.in-Some.values.now data_of in
+    length-map c.in-Some.values.now data_of in
     of_others (data_of c.args.value.now) (map data_of c.in-Some.values.now) there
-    (λ two. elim c.if-values-lt2.branch [ then-values-lt2 w ↦ grind
-        (arith, count, two, w) | else-values-lt2+else-values-lt3 w ↦ grind (arith, count, two, w) ])
-    (λ three. elim c.if-values-lt3-2.branch [ then-values-lt3-2 w ↦ grind
-        (arith, count, three, w) | else-values-lt3-2+else-values-lt4 w ↦ grind (arith, count, three, w) ])
-    (λ four. elim c.in_default-values-3.branch [ in_default-values-3-via-then-values-lt4-2 w ↦ grind
-        (arith, count, four, w) | in_default-values-3-via-else-values-lt4-2+else-values-lt5 w ↦ grind
-        (arith, count, four, w) ])
+    (λ two. elim c.if-values-lt2.branch [
+      | then-values-lt2 w ↦ grind
+          (arith, count, two, w)
+      | else-values-lt2+else-values-lt3 w ↦ grind (arith, count, two, w)
+    ])
+    (λ three. elim c.if-values-lt3-2.branch [
+      | then-values-lt3-2 w ↦ grind
+          (arith, count, three, w)
+      | else-values-lt3-2+else-values-lt4 w ↦ grind (arith, count, three, w)
+    ])
+    (λ four. elim c.in_default-values-3.branch [
+      | in_default-values-3-via-then-values-lt4-2 w ↦ grind
+          (arith, count, four, w)
+      | in_default-values-3-via-else-values-lt4-2+else-values-lt5 w ↦ grind
+          (arith, count, four, w)
+    ])

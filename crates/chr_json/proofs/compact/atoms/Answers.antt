@@ -11,9 +11,13 @@ returns-clause-text c =
     let items = c.push_more_atoms.new.found.items in
     let views = map raw_atom_view items in
     let found = map atom_data views in
-    let some : 0 < length found = omega (arith, length-map views atom_data, length-map items raw_atom_view,
-        c.in_ok-rest-2.ensures.sized) in
+    let some : 0 < length found = omega (
+      arith,
+      length-map views atom_data,
+      length-map items raw_atom_view,
+      c.in_ok-rest-2.ensures.sized,
+    ) in
     let first = rw c.in_ok-found.ensures.items at c.in_ok-name.ensures.text in
     c.in_ok-rest.ensures
     ∙ ap (λ l. 91 ∷ l) (later_close_whole found c.in_ok-rest.rest.now c.in_ok-rest-2.rest.now some
-        (first ∙ c.in_ok-rest-2.ensures.text))
+    (first ∙ c.in_ok-rest-2.ensures.text))

@@ -18,7 +18,7 @@ returns-clause-text c =
     let list = rw c.new-args.ensures.items at c.in_ok-rest-2.ensures.text in
     let read : text ≡ compact_text (atom_data atom) ++ rest =
     atom_text atom text c.in_ok-rest.rest.now c.in_ok-name.rest.now rest c.in_ok-rest.ensures c.in_ok-name.ensures.text
-        list in
+    list in
     atoms_more (map raw_atom_view found) atom text rest read
     ∙ ap (λ ws. atoms_later ws ++ rest) (sym (ap (map raw_atom_view) c.in_ok-push.ensures.items
-        ∙ map-append raw_atom_view found (_ ∷ [])))
+    ∙ map-append raw_atom_view found (_ ∷ [])))

@@ -16,7 +16,7 @@ returns-clause-text c =
     let atoms = atoms_data (map raw_atom_view c.in_ok-atoms.atoms.items) in
     tell_text c.in_ok-replica.replica (id_data c.in_ok-origin.origin c.in_ok-origin.number) atoms
     c.args.line.now c.in_ok-rest.rest.now c.in_ok-replica.rest.now c.in_ok-rest-2.rest.now c.in_ok-origin.rest.now
-        c.in_ok-rest-3.rest.now
+    c.in_ok-rest-3.rest.now
     c.in_ok-rest.ensures c.in_ok-replica.ensures c.in_ok-rest-2.ensures c.in_ok-origin.ensures c.in_ok-rest-3.ensures
     (c.in_ok-atoms.ensures.text ∙ ap (λ l. compact_text atoms ++ l) closed)
 

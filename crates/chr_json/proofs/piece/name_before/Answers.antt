@@ -10,7 +10,7 @@ returns-in-Ok-clause-text c =
     let back = c.split_at.result.1.now in
     let named = c.in-Ok.name.now in
     let plain : escape named ≡ named = bare_name inner bytes named
-        (c.split_at.ensures.front ∙ ap (λ n. take n inner) c.bare_len.ensures.value) c.in-Ok.ensures.cases.0 in
+    (c.split_at.ensures.front ∙ ap (λ n. take n inner) c.bare_len.ensures.value) c.in-Ok.ensures.cases.0 in
     plain_text (34 ∷ inner) inner named back c.in_ok-rest.rest.now refl
     (c.split_at.ensures.by_index.0 ∙ ap (λ l. l ++ back) (sym c.in-Ok.ensures.cases.0)) c.in_ok-rest.ensures plain
 

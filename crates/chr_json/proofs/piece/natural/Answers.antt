@@ -23,5 +23,5 @@ returns-in-49-to-57 c =
     let high : digit < 58 = omega arith in
     let whole : text ≡ decimal c.from.result ++ rest =
     first_and_rest text digit (omega arith) refl ∙ digit_first digit rest low high
-        ∙ ap (λ n. decimal n ++ rest) (sym c.from.ensures) in
+    ∙ ap (λ n. decimal n ++ rest) (sym c.from.ensures) in
     subst (λ l. IfOk c.with_digits.result (λ r. l ≡ decimal r.0 ++ r.1.now)) (sym whole) c.with_digits.ensures

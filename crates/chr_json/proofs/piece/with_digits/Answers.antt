@@ -6,14 +6,14 @@ pub overflow_mul-value : goal.overflow_mul-value
 overflow_mul-value c =
     let few : c.loop-place.place < 17 = omega arith in
     let room : c.loop-place.value * 10 + 9 < 2 ^ 63 = digit_room c.loop-place.value c.loop-place.place
-        c.loop-place.invariant.1 few in
+    c.loop-place.invariant.1 few in
     omega (arith, room)
 
 pub overflow_add-value : goal.overflow_add-value
 overflow_add-value c =
     let few : c.loop-place.place < 17 = omega arith in
     let room : c.loop-place.value * 10 + 9 < 2 ^ 63 = digit_room c.loop-place.value c.loop-place.place
-        c.loop-place.invariant.1 few in
+    c.loop-place.invariant.1 few in
     let at_most : get_or c.args.text.now c.loop-place.place 0 ≤ 57 = c.if-not-is_ascii_digit.ensures.cases.1 in
     omega (arith, room, c.from.ensures)
 

@@ -13,7 +13,7 @@ loop-class-preserved c =
     let l = c.loop-class-test.true in
     let most = c.loop-class.invariant.most in
     let more : sort_count k (take (i + 1) ks) ≡ sort_count k (take i ks ++ get_or ks i 0 ∷ []) =
-        ap (sort_count k) (take_more ks i 0 l) in
+    ap (sort_count k) (take_more ks i 0 l) in
     elim c.if-class-sort.branch [
       | then-class-sort w ↦ record {
         count = w.count-is ∙ ap (λ n. n + 1) c.loop-class.invariant.count

@@ -22,13 +22,13 @@ returns c =
     let lists = held c.in-Some-2.lists.items in
     let are = woven_are s ks lists (rw c.in-Some-2.is at c.in_ok-lists.ensures.lists) in
     ok_then c.weave.result _ _ (λ more visited. told_more s ks c.args.limit (woven ks lists []) c.weave.new.visitor more
-        c.requires.rise are visited) c.weave.ensures.visited
+    c.requires.rise are visited) c.weave.ensures.visited
 
 pub returns-in-Some : goal.returns-in-Some
 returns-in-Some c =
     let s = sorts_of c.args.sorting.now in
     let ks = c.args.classes.now in
     ok_then c.has_more_types.result _ _ (λ more told. more_combined s ks c.in-Some.sort c.in-Some.ensures c.args.limit
-        more c.requires.rise c.leave_room.ensures
+    more c.requires.rise c.leave_room.ensures
     (subst (λ cs. IsTrue more ↔ MoreTypesThan c.args.limit (length ks) cs) c.constants.ensures told))
-        c.has_more_types.ensures
+    c.has_more_types.ensures

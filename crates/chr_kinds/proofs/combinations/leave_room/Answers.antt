@@ -16,4 +16,4 @@ loop-class-preserved c =
     let same : c.constants.result.now ≡ s.constants k = c.constants.ensures in
     subst (LeaveRoom s (length ks)) (sym (take_more ks i 0 c.loop-class-test.true))
     (room_more s (length ks) (take i ks) k c.loop-class.invariant (subst AreValues same c.are_values.ensures)
-        (subst (λ cs. length cs + length ks ≤ 2 ^ 62) same room))
+    (subst (λ cs. length cs + length ks ≤ 2 ^ 62) same room))

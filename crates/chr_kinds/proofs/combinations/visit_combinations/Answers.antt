@@ -13,7 +13,7 @@ use Rattle.chr_kinds.proofs.combinations.visit_combinations.Goals as goal
 pub unreachable-requires : goal.unreachable-requires
 unreachable-requires g c =
     c.requires.few (more_there (sorts_of c.args.sorting.now) c.args.classes.now c.requires.rise c.leave_room.ensures
-        c.args.limit (rw c.in_default-2.is at c.in_ok-lists.ensures.more))
+    c.args.limit (rw c.in_default-2.is at c.in_ok-lists.ensures.more))
 
 pub returns-clause-visited : goal.returns-clause-visited
 returns-clause-visited g c =

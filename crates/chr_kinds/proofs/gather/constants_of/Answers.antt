@@ -27,21 +27,21 @@ loop-note-preserved c =
           let p = w.in-Stands.position in
           let fits : SFits w64 w.in-Stands.constant = search (rules, w) in
           let one : Gathers (Constant w.in-Stands.constant ∷ []) cs w.add_constant.new.found.items =
-              simp to_z-of_z at w.in_ok-add_constant.ensures in
+          simp to_z-of_z at w.in_ok-add_constant.ensures in
           let here = subst (IsBelow (length sorts)) w.in-Stands.is (c.requires i _ l) in
           subst (λ (ds : List ℤ). AreConstantsIn (terms_at f n (take (i + 1) notes)) ds)
-              (sym (ap (λ v. v.items) w.found-is))
+          (sym (ap (λ v. v.items) w.found-is))
           (constant_gathered f n notes i _ p w.in-Stands.constant cs w.add_constant.new.found.items l w.in-Stands.is
-              (sort_here sorts p p 0 here ∙ w.if-sorts-position.true) one c.loop-note.invariant)
+          (sort_here sorts p p 0 here ∙ w.if-sorts-position.true) one c.loop-note.invariant)
       | in-Stands+else-sorts-position w ↦
           let p = w.in-Stands.position in
           let here = subst (IsBelow (length sorts)) w.in-Stands.is (c.requires i _ l) in
           subst (λ (ds : List ℤ). AreConstantsIn (terms_at f n (take (i + 1) notes)) ds)
-              (sym (ap (λ v. v.items) w.found-is))
+          (sym (ap (λ v. v.items) w.found-is))
           (elsewhere_passed f n notes i _ p w.in-Stands.constant cs l w.in-Stands.is
-              (λ e. w.if-sorts-position.false (sort_here sorts p 0 p here ∙ e)) c.loop-note.invariant)
+          (λ e. w.if-sorts-position.false (sort_here sorts p 0 p here ∙ e)) c.loop-note.invariant)
       | in_default w ↦
           subst (λ (ds : List ℤ). AreConstantsIn (terms_at f n (take (i + 1) notes)) ds)
-              (sym (ap (λ v. v.items) w.found-is))
+          (sym (ap (λ v. v.items) w.found-is))
           (other_passed f n notes i _ cs l w.in_default.not-Stands c.loop-note.invariant)
     ]

@@ -23,15 +23,15 @@ loop-note-preserved c =
           let p = w.in-Compared.position in
           let here = subst (IsBelow (length sorts)) w.in-Compared.is (c.requires i _ l) in
           subst (λ (x : Kind). IsLeastKind (take (i + 1) notes) f n x)
-              (sym (ap kind_of w.kind-is ∙ w.raised-kind.ensures))
+          (sym (ap kind_of w.kind-is ∙ w.raised-kind.ensures))
           (step_raised f n notes i _ k p w.in-Compared.cmp l w.in-Compared.is c.loop-note.invariant
-              (sort_here sorts p p 0 here ∙ w.if-sorts-position.true))
+          (sort_here sorts p p 0 here ∙ w.if-sorts-position.true))
       | in-Compared+else-sorts-position w ↦
           let p = w.in-Compared.position in
           let here = subst (IsBelow (length sorts)) w.in-Compared.is (c.requires i _ l) in
           subst (λ (x : Kind). IsLeastKind (take (i + 1) notes) f n x) (sym (ap kind_of w.kind-is))
           (step_elsewhere f n notes i _ k p w.in-Compared.cmp l w.in-Compared.is c.loop-note.invariant
-              (λ e. w.if-sorts-position.false (sort_here sorts p 0 p here ∙ e)))
+          (λ e. w.if-sorts-position.false (sort_here sorts p 0 p here ∙ e)))
       | in_default w ↦
           subst (λ (x : Kind). IsLeastKind (take (i + 1) notes) f n x) (sym (ap kind_of w.kind-is))
           (step_other f n notes i _ k l w.in_default.not-Compared c.loop-note.invariant)

@@ -25,7 +25,7 @@ loop-note-preserved c =
           let before = c.loop-note.sorts.items in
           let e = w.deref.ensures.value in
           let more = w.in_ok-sorts-2.ensures.joins (take i notes)
-              (subst (λ (ts : List ℕ). Joins (take i notes) ts) (sym e) c.loop-note.invariant.joins) in
+          (subst (λ (ts : List ℕ). Joins (take i notes) ts) (sym e) c.loop-note.invariant.joins) in
           record {
             joins = subst (λ (ts : List ℕ). Joins (take (i + 1) notes) ts) (sym (ap (λ v. v.items) w.sorts-is))
                 (step_joined notes i _ p q w.in_ok-sorts-2.sorts.items l w.in-Joined.is more);

@@ -21,9 +21,14 @@ add_lists-requires t c =
     let d = c.decreases in
     let some = c.if-left-eq0.false in
     let e = c.requires.enough in
-    let r = ap length (rest_of ns) ∙ length-rest ns in
-    (omega (arith, d, some), (subst Rises (sym (c.deref.ensures.value ∙ m))
-        (inserted_rises n c.args.choices.now c.requires.rise), omega (arith, e, r)))
+    let r = ap length (rest_of ns) ∙ length-rest ns in (
+      omega (arith, d, some),
+      (
+        subst Rises (sym (c.deref.ensures.value ∙ m))
+            (inserted_rises n c.args.choices.now c.requires.rise),
+        omega (arith, e, r),
+      ),
+    )
 
 pub returns-then-stops-clause-many : goal.returns-then-stops-clause-many
 returns-then-stops-clause-many t c =
@@ -43,19 +48,19 @@ returns-then-stops-clause-many t c =
     let old = length-map c.args.found.now.items (λ x. x.items) in
     let now = length-map c.loop-value.found.items (λ x. x.items) in
     let all = no_more left ks ns p (map (λ x. x.items) c.args.found.now.items)
-        (map (λ x. x.items) c.loop-value.found.items) items i (pos 0) c.if-left-eq0.false
-        (c.deref-value-items.ensures.value ∙ m) (omega (arith, l)) c.loop-value.invariant.lists in
+    (map (λ x. x.items) c.loop-value.found.items) items i (pos 0) c.if-left-eq0.false
+    (c.deref-value-items.ensures.value ∙ m) (omega (arith, l)) c.loop-value.invariant.lists in
     elim c.if-value-numbers.branch [
       | then-value-numbers+in_ok-stops w ↦ λ _. (
           let d = ap length (number_goes_on left ks ns p w.deref.result.now _ w.deref-then-value-numbers.result.now z n
-              refl (same_value z n fz fn w.if-value-numbers.true) (w.deref.ensures.value ∙ m) (rest_of ns)
-              (w.deref-then-value-numbers.ensures.value ∙ lo)) in
+          refl (same_value z n fz fn w.if-value-numbers.true) (w.deref.ensures.value ∙ m) (rest_of ns)
+          (w.deref-then-value-numbers.ensures.value ∙ lo)) in
           let more = w.in_ok-stops.ensures.many (sym w.stops-is ∙ c.if-stops.true) in
           omega (arith, d, more, all, old, now)
           )
       | else-value-numbers+in_ok-stops-2 w ↦ λ _. (
           let d = ap length (choice_goes_on left ks ns p w.deref-else-value-numbers.result.now z n refl
-              (λ e. w.if-value-numbers.false (ap (of_z w64) e)) (w.deref-else-value-numbers.ensures.value ∙ lo)) in
+          (λ e. w.if-value-numbers.false (ap (of_z w64) e)) (w.deref-else-value-numbers.ensures.value ∙ lo)) in
           let more = w.in_ok-stops-2.ensures.many (sym w.stops-is ∙ c.if-stops.true) in
           omega (arith, d, more, all, old, now)
           )
@@ -80,10 +85,10 @@ loop-value-preserved t c =
     elim c.if-value-numbers.branch [
       | then-value-numbers+in_ok-stops w ↦ (
           let d = number_goes_on left ks ns p w.deref.result.now _ w.deref-then-value-numbers.result.now z n refl
-              (same_value z n fz fn w.if-value-numbers.true) (w.deref.ensures.value ∙ m) (rest_of ns)
-              (w.deref-then-value-numbers.ensures.value ∙ lo) in
+          (same_value z n fz fn w.if-value-numbers.true) (w.deref.ensures.value ∙ m) (rest_of ns)
+          (w.deref-then-value-numbers.ensures.value ∙ lo) in
           let now = w.in_ok-stops.ensures.lists (sym w.stops-is ∙ c.if-stops.false)
-              ∙ ap (λ (xs : List (List ℤ)). before ++ xs) d in
+          ∙ ap (λ (xs : List (List ℤ)). before ++ xs) d in
           record {
             lists = ap (λ v. map (λ x. x.items) v.items) w.found-is ∙ more_lists (next_lists left ks ns p)
                 (map (λ x. x.items) c.args.found.now.items) before (map (λ x. x.items) w.add_lists.new.found.items)
@@ -95,9 +100,9 @@ loop-value-preserved t c =
           )
       | else-value-numbers+in_ok-stops-2 w ↦ (
           let d = choice_goes_on left ks ns p w.deref-else-value-numbers.result.now z n refl
-              (λ e. w.if-value-numbers.false (ap (of_z w64) e)) (w.deref-else-value-numbers.ensures.value ∙ lo) in
+          (λ e. w.if-value-numbers.false (ap (of_z w64) e)) (w.deref-else-value-numbers.ensures.value ∙ lo) in
           let now = w.in_ok-stops-2.ensures.lists (sym w.stops-is ∙ c.if-stops.false)
-              ∙ ap (λ (xs : List (List ℤ)). before ++ xs) d in
+          ∙ ap (λ (xs : List (List ℤ)). before ++ xs) d in
           record {
             lists = ap (λ v. map (λ x. x.items) v.items) w.found-is ∙ more_lists (next_lists left ks ns p)
                 (map (λ x. x.items) c.args.found.now.items) before
@@ -118,6 +123,6 @@ returns-clause-lists t c =
     let m : c.in_ok-more.more.items ≡ inserted n c.args.choices.now = simp to_z-of_z at c.in_ok-more.ensures in
     let l = c.loop-value-test.false in
     λ _. all_lists c.args.left c.loop-value.value-index c.args.choices.now ns c.args.begun.now
-        c.deref-value-items.result.now (map (λ x. x.items) c.args.found.now.items)
-        (map (λ x. x.items) c.loop-value.found.items) c.if-left-eq0.false (c.deref-value-items.ensures.value ∙ m)
-        (omega (arith, l)) c.loop-value.invariant.lists
+    c.deref-value-items.result.now (map (λ x. x.items) c.args.found.now.items)
+    (map (λ x. x.items) c.loop-value.found.items) c.if-left-eq0.false (c.deref-value-items.ensures.value ∙ m)
+    (omega (arith, l)) c.loop-value.invariant.lists

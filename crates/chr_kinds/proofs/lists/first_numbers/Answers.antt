@@ -23,12 +23,12 @@ loop-number-preserved-then-constants-passed c =
     let at : ℤ = get_or cs k (pos 0) in
     let fits : SFits w64 at = search rules in
     let on : SFits w64 (b +ℤ pos 1) = more_fits cs us k b c.args.count c.requires.few c.loop-number.invariant.within
-        inv in
+    inv in
     elim c.if-constants-passed-2.branch [
       | then-constants-passed-2 w ↦ (
           let e : at ≡ b = same_bits at c.loop-number.number-bits fits w.if-constants-passed-2.true in
           let n : to_z w64 c.if-constants-passed-2.number-bits ≡ b +ℤ pos 1 =
-              w.number-is ∙ to_z-of_z w64 (b +ℤ pos 1) on in
+          w.number-is ∙ to_z-of_z w64 (b +ℤ pos 1) on in
           record {
             found = subst (λ z. AreNumbersBelow cs (k + 1) us z) (sym n) (constant_passed cs us k b (pos 0) l e inv);
             within = c.loop-number.invariant.within;
@@ -37,8 +37,8 @@ loop-number-preserved-then-constants-passed c =
       | else-constants-passed-2 w ↦ (
           let le : at ≤ℤ b = below_bits at b fits c.if-constants-passed.true in
           let ne : (at ≡ b → ⊥) = λ e. w.if-constants-passed-2.false
-              (other_bits at c.loop-number.number-bits fits (let f = c.loop-number.auto.number-fits in omega (arith, f))
-              e) in
+          (other_bits at c.loop-number.number-bits fits (let f = c.loop-number.auto.number-fits in omega (arith, f))
+          e) in
           record {
             found = subst (λ z. AreNumbersBelow cs (k + 1) us z) (sym w.number-is)
                 (lesser_passed cs us k b (pos 0) l (below at b le ne) inv);
@@ -57,12 +57,12 @@ loop-number-preserved c =
     let it = c.in_ok-push.ensures.items in
     let at : ℤ = get_or cs k (pos 0) in
     let on : SFits w64 (b +ℤ pos 1) = more_fits cs us k b c.args.count c.requires.few c.loop-number.invariant.within
-        inv in
+    inv in
     let above : (k < length cs → b <ℤ at) = elim c.else-passed-constants.branch as (λ _. k < length cs → b <ℤ at) [
       | else-passed-constants-via-then-passed-constants+else-constants-passed w ↦
-            (let fits : SFits w64 at = search rules in λ _. above_bits at b fits w.if-constants-passed.false)
+          (let fits : SFits w64 at = search rules in λ _. above_bits at b fits w.if-constants-passed.false)
       | else-passed-constants-via-else-passed-constants w ↦
-            (let n = w.if-passed-constants.false in λ l. absurd (omega (arith, l, n)))
+          (let n = w.if-passed-constants.false in λ l. absurd (omega (arith, l, n)))
     ] in
     record {
       found = subst (λ z. AreNumbersBelow cs k c.push.new.self.items z) (sym (to_z-of_z w64 (b +ℤ pos 1) on))
@@ -77,4 +77,4 @@ returns-clause-first c =
     let few = c.requires.few in
     let w = c.loop-number.invariant.within in
     first_found c.args.constants.now c.loop-number.numbers.items c.loop-number.passed
-        (to_z w64 c.loop-number.number-bits) (omega (arith, few, w)) c.loop-number.invariant.found
+    (to_z w64 c.loop-number.number-bits) (omega (arith, few, w)) c.loop-number.invariant.found

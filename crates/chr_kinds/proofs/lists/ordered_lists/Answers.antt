@@ -8,5 +8,5 @@ pub returns-in-Err-TooManyTypes-clause-more : goal.returns-in-Err-TooManyTypes-c
 returns-in-Err-TooManyTypes-clause-more c =
     let cs = c.args.constants.now in
     let more = subst (λ e. WhereTooMany e (MoreTypesThan c.args.limit c.args.count cs)) c.in-Err-TooManyTypes.field-0-is
-        c.in-Err-TooManyTypes.ensures.many in
+    c.in-Err-TooManyTypes.ensures.many in
     more_ordered c.args.limit c.args.count cs c.requires.few c.requires.rise c.are_values.ensures more

@@ -13,7 +13,7 @@ returns c =
     let v = c.args.value in
     let fv : SFits w64 v = c.ranges.value in
     let given : Gathers (Constant v ∷ []) c.in_ok-more.more.items c.add_constant.new.found.items =
-        simp to_z-of_z at c.in_ok-add_constant.ensures in
+    simp to_z-of_z at c.in_ok-add_constant.ensures in
     value_inserted v ks c.add_constant.new.found.items c.requires c.are_values.ensures
-        (subst (λ (xs : List ℤ). Gathers (Constant v ∷ []) xs c.add_constant.new.found.items) c.in_ok-more.ensures.items
-        given)
+    (subst (λ (xs : List ℤ). Gathers (Constant v ∷ []) xs c.add_constant.new.found.items) c.in_ok-more.ensures.items
+    given)

@@ -15,11 +15,11 @@ returns c =
     let three = guard_notes (placed_heads r) r.guard.items in
     let first : c.add_term_notes.new.notes.items ≡ old ++ one =
     c.in_ok-add_term_notes.ensures ∙ (λ i. old ++ map (term_note ((c.deref-2.ensures.value ∙ heads) i))
-        ((c.deref-3.ensures.value ∙ heads) i)) in
+    ((c.deref-3.ensures.value ∙ heads) i)) in
     let second : c.add_term_notes-2.new.notes.items ≡ (old ++ one) ++ two =
     c.in_ok-add_term_notes-2.ensures ∙ (λ i. first i ++ map (term_note ((c.deref-4.ensures.value ∙ heads) i))
-        ((c.deref-5.ensures.value ∙ body) i)) in
+    ((c.deref-5.ensures.value ∙ body) i)) in
     c.in_ok-add_guard.ensures ∙ (λ i. second i ++ guard_notes ((c.deref-6.ensures.value ∙ heads) i)
-        (c.deref-7.ensures.0 i))
+    (c.deref-7.ensures.0 i))
     ∙ append_assoc (old ++ one) two three ∙ append_assoc old one (two ++ three)
-        ∙ ap (λ ns. old ++ ns) (sym (append_assoc one two three))
+    ∙ ap (λ ns. old ++ ns) (sym (append_assoc one two three))

@@ -8,5 +8,5 @@ pub returns : goal.returns
 returns c =
     let r = c.args.rule.now in
     c.in_ok-add_patterns-2.ensures ∙ (λ i. (c.in_ok-add_patterns.ensures
-        ∙ (λ j. c.new-heads.ensures.items j ++ sorted_terms numbering (c.deref.ensures.0 j))) i
-        ++ sorted_terms numbering (c.deref-2.ensures.0 i)) ∙ sym (sorted-append numbering r.kept.items r.removed.items)
+    ∙ (λ j. c.new-heads.ensures.items j ++ sorted_terms numbering (c.deref.ensures.0 j))) i
+    ++ sorted_terms numbering (c.deref-2.ensures.0 i)) ∙ sym (sorted-append numbering r.kept.items r.removed.items)

@@ -18,7 +18,7 @@ loop-sort-preserved c =
       each = λ n l. subst (λ (all : List (List ℤ)). AreConstantsIn
           (terms_at (sort_in c.args.sorts.now) n c.args.notes.now) (get_or all n [])) (sym lists)
           (each_pushed (λ m cs. AreConstantsIn (terms_at (sort_in c.args.sorts.now) m c.args.notes.now) cs)
-              (map (λ cs. cs.items) before) one.items []
-              c.loop-sort.sort (length-map before (λ cs. cs.items) ∙ c.loop-sort.invariant.len)
-              c.loop-sort.invariant.each c.in_ok-constants_of.ensures n l);
+          (map (λ cs. cs.items) before) one.items []
+          c.loop-sort.sort (length-map before (λ cs. cs.items) ∙ c.loop-sort.invariant.len)
+          c.loop-sort.invariant.each c.in_ok-constants_of.ensures n l);
     }

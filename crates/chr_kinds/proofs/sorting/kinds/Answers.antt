@@ -15,6 +15,6 @@ loop-sort-preserved c =
       each = λ n l. subst (λ ks. IsLeastKind c.args.notes.now (sort_in c.args.sorts.now) n (kind_of (get_or ks n Free)))
           (sym now)
           (each_pushed (λ m k. IsLeastKind c.args.notes.now (sort_in c.args.sorts.now) m (kind_of k))
-              c.loop-sort.kinds.items c.least_kind.result Free c.loop-sort.sort c.loop-sort.invariant.len
-              c.loop-sort.invariant.each c.least_kind.ensures n l);
+          c.loop-sort.kinds.items c.least_kind.result Free c.loop-sort.sort c.loop-sort.invariant.len
+          c.loop-sort.invariant.each c.least_kind.ensures n l);
     }

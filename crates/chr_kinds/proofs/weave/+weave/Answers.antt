@@ -24,32 +24,32 @@ returns-then-stopped-clause-visited g t c =
     let z : ℤ = get_or values i (pos 0) in
     let fits : SFits w64 z = search rules in
     let values_are : values ≡ each_once (firsts (held hs k)) = c.deref-value-items.ensures.value
-        ∙ c.in_ok-values.ensures ∙ ap (λ ls. each_once (firsts ls))
-        (c.lists_held.ensures ∙ ap (λ h. held h k) c.deref.ensures.value) in
+    ∙ c.in_ok-values.ensures ∙ ap (λ ls. each_once (firsts ls))
+    (c.lists_held.ensures ∙ ap (λ h. held h k) c.deref.ensures.value) in
     let all : flat_map (λ (x : ℤ). woven rest (begun k x (held hs)) (p ++ x ∷ [])) values ≡ woven ks (held hs) p =
-        all_values ks rest hs k p values c.in-Some.ensures.cases.0 values_are in
+    all_values ks rest hs k p values c.in-Some.ensures.cases.0 values_are in
     let told : c.in_ok-longer.longer.items ≡ p ++ to_z w64 (of_z w64 z) ∷ [] = c.in_ok-longer.ensures in
     let longer : c.in_ok-longer.longer.items ≡ p ++ z ∷ [] = told ∙ ap (λ x. p ++ x ∷ []) (to_z-of_z w64 z fits) in
     let told_begun : held c.begin.new.all.items ≡ begun k (to_z w64 (of_z w64 z)) (held c.loop-value.all.items) =
-        c.in_ok-begin.ensures.begun in
+    c.in_ok-begin.ensures.begun in
     let now : held c.begin.new.all.items ≡ begun k z (held c.loop-value.all.items) =
-        told_begun ∙ ap (λ x. begun k x (held c.loop-value.all.items)) (to_z-of_z w64 z fits) in
+    told_begun ∙ ap (λ x. begun k x (held c.loop-value.all.items)) (to_z-of_z w64 z fits) in
     let same : woven rest (held c.begin.new.all.items) c.deref-in-loop-value.result.now
-        ≡ woven rest (begun k z (held hs)) (p ++ z ∷ []) =
+    ≡ woven rest (begun k z (held hs)) (p ++ z ∷ []) =
     at_value rest (held hs) (held c.begin.new.all.items) p c.deref-in-loop-value.result.now k z
-        (now ∙ ap (λ h. begun k z (held h)) c.loop-value.invariant.same)
-        (c.deref-in-loop-value.ensures.value ∙ longer) in
+    (now ∙ ap (λ h. begun k z (held h)) c.loop-value.invariant.same)
+    (c.deref-in-loop-value.ensures.value ∙ longer) in
     let l = c.loop-value-test.true in
     let stopped : Visited step c.loop-value.visitor (woven rest
-        (held c.begin.new.all.items) c.deref-in-loop-value.result.now) true c.weave.new.visitor =
-        rw (← c.if-stopped.true) c.in_ok-stopped.ensures.visited in
+    (held c.begin.new.all.items) c.deref-in-loop-value.result.now) true c.weave.new.visitor =
+    rw (← c.if-stopped.true) c.in_ok-stopped.ensures.visited in
     let here : Visited step c.loop-value.visitor (woven rest (begun k z (held hs)) (p ++ z ∷ [])) true
-        c.weave.new.visitor = subst (λ rs. Visited step c.loop-value.visitor rs true c.weave.new.visitor) same
-        stopped in
+    c.weave.new.visitor = subst (λ rs. Visited step c.loop-value.visitor rs true c.weave.new.visitor) same
+    stopped in
     subst (λ rs. Visited step c.args.visitor.now rs true c.weave.new.visitor) all
     (stops_in step (λ (x : ℤ). woven rest (begun k x (held hs)) (p ++ x ∷ [])) values i
-        (pos 0) c.args.visitor.now c.loop-value.visitor c.weave.new.visitor
-        (omega (arith, l)) c.loop-value.invariant.visited here)
+    (pos 0) c.args.visitor.now c.loop-value.visitor c.weave.new.visitor
+    (omega (arith, l)) c.loop-value.invariant.visited here)
 
 pub loop-value-preserved : goal.loop-value-preserved
 loop-value-preserved g t c =
@@ -65,24 +65,24 @@ loop-value-preserved g t c =
     let told : c.in_ok-longer.longer.items ≡ p ++ to_z w64 (of_z w64 z) ∷ [] = c.in_ok-longer.ensures in
     let longer : c.in_ok-longer.longer.items ≡ p ++ z ∷ [] = told ∙ ap (λ x. p ++ x ∷ []) (to_z-of_z w64 z fits) in
     let told_begun : held c.begin.new.all.items ≡ begun k (to_z w64 (of_z w64 z)) (held c.loop-value.all.items) =
-        c.in_ok-begin.ensures.begun in
+    c.in_ok-begin.ensures.begun in
     let now : held c.begin.new.all.items ≡ begun k z (held c.loop-value.all.items) =
-        told_begun ∙ ap (λ x. begun k x (held c.loop-value.all.items)) (to_z-of_z w64 z fits) in
+    told_begun ∙ ap (λ x. begun k x (held c.loop-value.all.items)) (to_z-of_z w64 z fits) in
     let same : woven rest (held c.begin.new.all.items) c.deref-in-loop-value.result.now
-        ≡ woven rest (begun k z (held hs)) (p ++ z ∷ []) =
+    ≡ woven rest (begun k z (held hs)) (p ++ z ∷ []) =
     at_value rest (held hs) (held c.begin.new.all.items) p c.deref-in-loop-value.result.now k z
-        (now ∙ ap (λ h. begun k z (held h)) c.loop-value.invariant.same)
-        (c.deref-in-loop-value.ensures.value ∙ longer) in
+    (now ∙ ap (λ h. begun k z (held h)) c.loop-value.invariant.same)
+    (c.deref-in-loop-value.ensures.value ∙ longer) in
     let l = c.loop-value-test.true in
     let went_on : Visited step c.loop-value.visitor (woven rest
-        (held c.begin.new.all.items) c.deref-in-loop-value.result.now) false c.weave.new.visitor =
-        rw (← c.if-stopped.false) c.in_ok-stopped.ensures.visited in
+    (held c.begin.new.all.items) c.deref-in-loop-value.result.now) false c.weave.new.visitor =
+    rw (← c.if-stopped.false) c.in_ok-stopped.ensures.visited in
     let here : Visited step c.loop-value.visitor (woven rest (begun k z (held hs)) (p ++ z ∷ [])) false
-        c.weave.new.visitor = subst (λ rs. Visited step c.loop-value.visitor rs false c.weave.new.visitor) same
-        went_on in
+    c.weave.new.visitor = subst (λ rs. Visited step c.loop-value.visitor rs false c.weave.new.visitor) same
+    went_on in
     let size : c.weave.new.all.len ≡ length c.weave.new.all.items = c.weave.new.all.ok.0 in
     let popped : c.pop.new.self.items ≡ take (length c.weave.new.all.items - 1) c.weave.new.all.items =
-        c.pop.ensures.rest ∙ ap (λ n. take (n - 1) c.weave.new.all.items) size in
+    c.pop.ensures.rest ∙ ap (λ n. take (n - 1) c.weave.new.all.items) size in
     record {
       ready = c.in_ok-stopped.ensures.ready;
       same = popped_back c.loop-value.all.items c.weave.new.all.items c.begin.new.all.items c.pop.new.self.items popped

@@ -13,9 +13,9 @@ returns-clause-begun c =
     let z = c.args.value in
     let fits : SFits w64 z = search (rules, c.ranges.value.sfits) in
     let told : map (λ l. l.items) c.in_ok-tails.tails.items ≡ tails (to_z w64 (of_z w64 z))
-        (map (λ l. l.items) c.lists_held.result.now) = c.in_ok-tails.ensures in
+    (map (λ l. l.items) c.lists_held.result.now) = c.in_ok-tails.ensures in
     let listed : map (λ l. l.items) c.lists_held.result.now ≡ held hs k = c.lists_held.ensures
-        ∙ ap (λ h. held h k) c.deref.ensures.value in
+    ∙ ap (λ h. held h k) c.deref.ensures.value in
     let one : map (λ l. l.items) c.in_ok-tails.tails.items ≡ tails z (held hs k) =
-        told ∙ (λ i. tails (to_z-of_z w64 z fits i) (listed i)) in
+    told ∙ (λ i. tails (to_z-of_z w64 z fits i) (listed i)) in
     ap held c.in_ok-push.ensures.items ∙ held_begun hs (record { sort = k; lists = c.in_ok-tails.tails }) k z refl one

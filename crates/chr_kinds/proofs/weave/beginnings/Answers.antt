@@ -25,22 +25,22 @@ loop-list-preserved c =
           let z = w.in-Some.first.now in
           let fits : SFits w64 z = search (rules, w) in
           let pushed : w.push.new.self.items ≡ c.loop-list.found.items ++ z ∷ [] =
-              simp to_z-of_z at w.in_ok-push.ensures.items in
+          simp to_z-of_z at w.in_ok-push.ensures.items in
           let no : has z w.deref-in-Some.result.now ≡ false = sym w.contains.ensures.value ∙ w.if-not-contains.true in
           let known = w.deref-in-Some.ensures.value ∙ c.loop-list.invariant in
           ap (λ x. x.items) w.found-is ∙ pushed ∙ ap (λ xs. xs ++ z ∷ []) c.loop-list.invariant
           ∙ sym (new_begins ls v.items z w.in-Some.field-0-1.now (sym c.deref.ensures.value ∙ w.in-Some.ensures.cases.0)
-              (λ j. has_not z w.deref-in-Some.result.now no (subst (In z) (sym known) j))) ∙ all
+          (λ j. has_not z w.deref-in-Some.result.now no (subst (In z) (sym known) j))) ∙ all
       | in-Some+else-not-contains w ↦
           let z = w.in-Some.first.now in
           let yes : has z w.deref-in-Some.result.now ≡ true = sym w.contains.ensures.value ∙ w.if-not-contains.false in
           let known = w.deref-in-Some.ensures.value ∙ c.loop-list.invariant in
           ap (λ x. x.items) w.found-is ∙ c.loop-list.invariant
           ∙ sym (known_begins ls v.items z w.in-Some.field-0-1.now
-              (sym c.deref.ensures.value ∙ w.in-Some.ensures.cases.0)
-              (subst (In z) known (has_in z w.deref-in-Some.result.now yes))) ∙ all
+          (sym c.deref.ensures.value ∙ w.in-Some.ensures.cases.0)
+          (subst (In z) known (has_in z w.deref-in-Some.result.now yes))) ∙ all
       | in_default w ↦
           ap (λ x. x.items) w.found-is ∙ c.loop-list.invariant
-              ∙ sym (none_begins ls v.items (sym c.deref.ensures.value
-              ∙ nil_from_length c.deref.result.now w.in_default.ensures.cases)) ∙ all
+          ∙ sym (none_begins ls v.items (sym c.deref.ensures.value
+          ∙ nil_from_length c.deref.result.now w.in_default.ensures.cases)) ∙ all
     ]

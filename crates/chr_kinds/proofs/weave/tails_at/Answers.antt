@@ -20,36 +20,36 @@ loop-list-preserved c =
     let fits : SFits w64 z = search (rules, c.ranges.value.sfits) in
     let same = to_z-of_z w64 z fits in
     let now : map (λ l. l.items) c.loop-list.found.items ≡ tails z ls = c.loop-list.invariant
-        ∙ ap (λ x. tails x ls) same in
+    ∙ ap (λ x. tails x ls) same in
     let all = ap (tails z) (sym more) ∙ ap (λ x. tails x (map (λ l. l.items) (take (i + 1) vs))) (sym same) in
     elim c.match-split_first.branch [
       | in-Some+then-first-value+in_ok-tail+in_ok-extend_from_slice+in_ok-push w ↦
           let rest = w.in-Some.rest.now in
           let first_fits : SFits w64 w.in-Some.first.now = search (rules, w) in
           let equal : w.in-Some.first.now ≡ z = sym (to_z-of_z w64 w.in-Some.first.now first_fits)
-              ∙ ap (to_z w64) w.if-first-value.true ∙ same in
+          ∙ ap (to_z w64) w.if-first-value.true ∙ same in
           let tail : w.extend_from_slice.new.self.items ≡ rest = w.in_ok-extend_from_slice.ensures.items
-              ∙ ap (λ (x : List ℤ). x ++ rest) w.in_ok-tail.ensures.items in
+          ∙ ap (λ (x : List ℤ). x ++ rest) w.in_ok-tail.ensures.items in
           ap (λ x. map (λ l. l.items) x.items) w.found-is ∙ ap (map (λ l. l.items)) w.in_ok-push.ensures.items
-              ∙ map_push (λ l. l.items) c.loop-list.found.items w.extend_from_slice.new.self
+          ∙ map_push (λ l. l.items) c.loop-list.found.items w.extend_from_slice.new.self
           ∙ (λ j. now j ++ tail j ∷ [])
           ∙ sym (next_tail z w.in-Some.first.now rest ls v.items (sym c.deref.ensures.value ∙ w.in-Some.ensures.cases.0)
-              equal) ∙ all
+          equal) ∙ all
       | in-Some+else-first-value w ↦
           ap (λ x. map (λ l. l.items) x.items) w.found-is ∙ now
           ∙ sym (other_tail z w.in-Some.first.now w.in-Some.rest.now ls v.items
-              (sym c.deref.ensures.value ∙ w.in-Some.ensures.cases.0) (λ e. w.if-first-value.false (ap (of_z w64) e)))
-              ∙ all
+          (sym c.deref.ensures.value ∙ w.in-Some.ensures.cases.0) (λ e. w.if-first-value.false (ap (of_z w64) e)))
+          ∙ all
       | in_default w ↦
           ap (λ x. map (λ l. l.items) x.items) w.found-is ∙ now
-              ∙ sym (no_tail z ls v.items (sym c.deref.ensures.value
-              ∙ nil_from_length c.deref.result.now w.in_default.ensures.cases)) ∙ all
+          ∙ sym (no_tail z ls v.items (sym c.deref.ensures.value
+          ∙ nil_from_length c.deref.result.now w.in_default.ensures.cases)) ∙ all
     ]
 
 pub returns : goal.returns
 returns c =
     let fits : SFits w64 c.args.value = search (rules, c.ranges.value.sfits) in
     c.loop-list.invariant ∙ ap (λ x. tails x (map (λ l. l.items) (take c.loop-list.list-index c.args.lists.now)))
-        (to_z-of_z w64 c.args.value fits)
+    (to_z-of_z w64 c.args.value fits)
     ∙ ap (λ x. tails c.args.value (map (λ l. l.items) x))
-        (take_all c.loop-list.list-index c.args.lists.now c.loop-list-test.false)
+    (take_all c.loop-list.list-index c.args.lists.now c.loop-list-test.false)

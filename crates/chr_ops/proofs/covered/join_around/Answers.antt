@@ -9,7 +9,7 @@ pub returns-in-Some : goal.returns-in-Some
 returns-in-Some c =
     let next : c.in-Some.number ≡ c.args.id.number + 1 = search rules in
     joined_twice c.args.ends.now c.join_at.new.ends c.join_at-in-Some.new.ends (λ q. eq_by_cmp id_cmp q c.args.id)
-        (λ q. eq_by_cmp id_cmp q (next_id c.args.id)) c.join_at.ensures (rw next at c.join_at-in-Some.ensures)
+    (λ q. eq_by_cmp id_cmp q (next_id c.args.id)) c.join_at.ensures (rw next at c.join_at-in-Some.ensures)
 
 pub returns-in_default : goal.returns-in_default
 returns-in_default c =

@@ -8,7 +8,7 @@ use Rattle.chr_ops.proofs.covered.join_beside.Goals as goal
 pub loop-id-preserved : goal.loop-id-preserved
 loop-id-preserved c =
     joined_more c.args.ends.now c.loop-id.ends c.join_around.new.ends c.args.ids.now c.loop-id.id-index
-        record { origin = 0; number = 0 } c.loop-id-test.true c.loop-id.invariant c.join_around.ensures
+    record { origin = 0; number = 0 } c.loop-id-test.true c.loop-id.invariant c.join_around.ensures
 
 pub returns : goal.returns
 returns c =

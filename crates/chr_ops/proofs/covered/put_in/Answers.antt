@@ -9,7 +9,7 @@ returns-in-Some-clause-ok c =
     let fit : c.args.id.number < 2 ^ 64 = search (rules, arith) in
     rw (c.set.ensures)
     (grown c.args.ends.now c.args.id c.requires.longest c.requires.new c.in-Some.first before.0 before.1 before.2
-        before.3 fit)
+    before.3 fit)
 
 pub returns-in_ok-insert-in-None-clause-ok : goal.returns-in_ok-insert-in-None-clause-ok
 returns-in_ok-insert-in-None-clause-ok c =

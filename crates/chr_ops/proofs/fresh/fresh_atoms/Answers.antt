@@ -25,24 +25,24 @@ loop-op-preserved c =
     let i = c.loop-op.op-index in
     let o = c.op-item.result in
     let noted : (q : OpId) → is_held_or_seen m c.take_note.new.seen q
-        ≡ (is_held_or_seen m c.loop-op.seen q || eq_by_cmp id_cmp q o.0) =
-        rw c.id.ensures at c.in_ok-take_note.ensures.known in
+    ≡ (is_held_or_seen m c.loop-op.seen q || eq_by_cmp id_cmp q o.0) =
+    rw c.id.ensures at c.in_ok-take_note.ensures.known in
     let asked : c.in_ok-take_note.field-0 ≡ not (is_held_or_seen m c.loop-op.seen o.0) =
-        rw c.id.ensures at c.in_ok-take_note.ensures.fresh in
+    rw c.id.ensures at c.in_ok-take_note.ensures.fresh in
     record {
       atoms = elim c.if-branch.branch [
         | then-branch+in_ok-push_atoms w ↦
             let new : is_held_or_seen m c.loop-op.seen o.0 ≡ false =
-                not-true (is_held_or_seen m c.loop-op.seen o.0) (sym asked ∙ w.if-branch.true) in
+            not-true (is_held_or_seen m c.loop-op.seen o.0) (sym asked ∙ w.if-branch.true) in
             let more : c.if-branch.atoms.items ≡ c.loop-op.atoms.items ++ bag.items o.1 = ap (λ v. v.items) w.atoms-is
-                ∙ w.in_ok-push_atoms.ensures ∙ ap (λ b. c.loop-op.atoms.items ++ bag.items b) w.bag.ensures.bag in
+            ∙ w.in_ok-push_atoms.ensures ∙ ap (λ b. c.loop-op.atoms.items ++ bag.items b) w.bag.ensures.bag in
             atoms_more m ops i o c.loop-op-test.true c.op-item.is c.loop-op.atoms.items c.if-branch.atoms.items
-                c.loop-op.invariant.atoms (c.loop-op.invariant.known o.0 ∙ new) more
+            c.loop-op.invariant.atoms (c.loop-op.invariant.known o.0 ∙ new) more
         | else-branch w ↦
             let old : is_held_or_seen m c.loop-op.seen o.0 ≡ true =
-                not-false (is_held_or_seen m c.loop-op.seen o.0) (sym asked ∙ w.if-branch.false) in
+            not-false (is_held_or_seen m c.loop-op.seen o.0) (sym asked ∙ w.if-branch.false) in
             rw w.atoms-is (atoms_kept m ops i o c.loop-op-test.true c.op-item.is c.loop-op.atoms.items
-                c.loop-op.invariant.atoms (c.loop-op.invariant.known o.0 ∙ old))
+            c.loop-op.invariant.atoms (c.loop-op.invariant.known o.0 ∙ old))
       ];
       known = known_more m ops i o c.loop-op-test.true c.op-item.is c.loop-op.seen c.take_note.new.seen
           c.loop-op.invariant.known noted;

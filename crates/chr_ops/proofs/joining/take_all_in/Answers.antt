@@ -39,7 +39,7 @@ returns-in_err-atoms-clause-clash c = λ id e.
     let failed : c.take_in.result ≡ Err (Clash id) = search rules in
     let clash = (c.take_in.ensures.clash id).0 failed in
     first_clash c.args.held.now c.loop-op.held c.args.ops.now c.loop-op.op-index c.op-item.result c.loop-op-test.true
-        c.op-item.is c.loop-op.invariant.taken id c.loop-op.invariant.no_clash clash.0 clash.1
+    c.op-item.is c.loop-op.invariant.taken id c.loop-op.invariant.no_clash clash.0 clash.1
 
 pub returns-in_err-atoms-clause-sized : goal.returns-in_err-atoms-clause-sized
 returns-in_err-atoms-clause-sized c = λ h. c.take_in.ensures.sized (c.loop-op.invariant.sized h)

@@ -24,7 +24,7 @@ pub returns-clause-atoms : goal.returns-clause-atoms
 returns-clause-atoms c =
     let atoms : c.len-atoms.result ≡ size c.args.op.now.1 = search rules in
     ap (λ m. size (told_store m)) (inserted c) ∙ size_inserted c.args.held.now c.args.op.now.0 c.args.op.now.1
-        (new_id c)
+    (new_id c)
     ∙ ap (λ n. size (told_store c.args.held.now) + n) (sym atoms)
 
 pub returns-clause-count : goal.returns-clause-count
@@ -41,14 +41,14 @@ pub returns-clause-back : goal.returns-clause-back
 returns-clause-back c = λ m h.
     let pushed : c.push.new.self.items ≡ c.args.fresh.now.items ++ c.args.op.now.0 ∷ [] = search rules in
     rw (inserted c, pushed) (without_inserted m c.args.held.now c.args.fresh.now.items c.args.op.now.0 c.args.op.now.1
-        (new_id c) h)
+    (new_id c) h)
 
 pub returns-in_err-insert-clause-back : goal.returns-in_err-insert-clause-back
 returns-in_err-insert-clause-back c = λ m h.
     let new : map.get c.args.held.now c.args.op.now.0 ≡ None = search rules in
     let pushed : c.push.new.self.items ≡ c.args.fresh.now.items ++ c.args.op.now.0 ∷ [] = search rules in
     rw (c.in_err-insert.ensures.err, pushed) (without_more m c.args.held.now c.args.fresh.now.items c.args.op.now.0 new
-        h)
+    h)
 
 pub returns-in_err-insert-clause-sized : goal.returns-in_err-insert-clause-sized
 returns-in_err-insert-clause-sized c = λ h. subst AreOperationBags (sym c.in_err-insert.ensures.err) h

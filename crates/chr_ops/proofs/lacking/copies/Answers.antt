@@ -23,4 +23,4 @@ pub returns : goal.returns
 returns c =
     let es = map.entries c.args.held.now in
     copied_all c.loop-range.ops.items (covered c.args.ranges.now es) es c.args.ranges.now c.loop-range.range-index
-        c.loop-range-test.false c.loop-range.invariant.found
+    c.loop-range-test.false c.loop-range.invariant.found

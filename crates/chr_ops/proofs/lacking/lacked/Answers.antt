@@ -10,6 +10,6 @@ returns c =
     let parts = c.in_ok-lacked.lacked.items in
     let lent : c.deref.result.now ≡ parts = search rules in
     let all = covered_lacking held c.args.ranges.now c.args.others.now parts c.requires.covers
-        c.in_ok-lacked.ensures.covers in
+    c.in_ok-lacked.ensures.covers in
     subst (λ os. IfOk c.copies.result (λ ops. ops.items ≡ os)) (ap (λ rs. covered rs (map.entries held)) lent ∙ all)
-        c.copies.ensures
+    c.copies.ensures

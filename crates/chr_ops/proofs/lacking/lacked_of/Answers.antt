@@ -10,4 +10,4 @@ returns c =
     found
     ∙ covered_among c.args.held.now c.args.other.now c.args.ids.now c.ranges-2.result.now
     (λ id. ap (λ rs. covers rs id) c.ranges-2.ensures.ranges ∙ c.in_ok-wanted.ensures id
-        ∙ c.in_ok-ranges_not_held.ensures.covers id)) c.copies.ensures
+    ∙ c.in_ok-ranges_not_held.ensures.covers id)) c.copies.ensures

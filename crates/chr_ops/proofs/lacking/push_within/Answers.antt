@@ -36,4 +36,4 @@ loop-id-preserved c =
 pub returns : goal.returns
 returns c =
     sym (append-nil c.loop-id.ops.items) ∙ ap (λ os. c.loop-id.ops.items ++ os) (sym c.in-None.ensures.steps.0)
-        ∙ c.loop-id.invariant.found
+    ∙ c.loop-id.invariant.found

@@ -9,12 +9,12 @@ returns-then-left-other c =
     let xs = c.loop-rest.rest.now in
     let left = c.loop-rest.left in
     let near : ((front xs).origin ≡ left.origin) × ((front xs).lo ≤ left.hi) =
-        search (rules, c.begins_by_end_of.ensures) in
+    search (rules, c.begins_by_end_of.ensures) in
     let past : left.hi ≤ (front xs).hi = search (rules, arith) in
     rw c.in_ok-push_before.ensures
     (c.loop-rest.invariant.to_come (c.loop-rest.parts.items ++ part_before left (front xs))
-        (past_front c.loop-rest.parts.items left xs c.in-len1-up.len_at_least c.loop-rest.invariant.next near.0 near.1
-        past))
+    (past_front c.loop-rest.parts.items left xs c.in-len1-up.len_at_least c.loop-rest.invariant.next near.0 near.1
+    past))
 
 pub overflow_add-left : goal.overflow_add-left
 overflow_add-left c =
@@ -28,7 +28,7 @@ loop-rest-preserved c =
     let xs = c.loop-rest.rest.now in
     let left = c.loop-rest.left in
     let near : ((front xs).origin ≡ left.origin) × ((front xs).lo ≤ left.hi) =
-        search (rules, c.begins_by_end_of.ensures) in
+    search (rules, c.begins_by_end_of.ensures) in
     let less : (front xs).hi < left.hi = search (rules, arith) in
     rw c.in_ok-push_before.ensures (record {
       next = left_front c.loop-rest.parts.items left xs c.in-len1-up.len_at_least c.loop-rest.invariant.next near.0
@@ -45,12 +45,12 @@ returns c = elim c.if-rest-lt1.branch [
       let left = c.loop-rest.left in
       let pushed : c.push.new.self.items ≡ c.loop-rest.parts.items ++ left ∷ [] = search rules in
       rw pushed (c.loop-rest.invariant.to_come (c.loop-rest.parts.items ++ left ∷ [])
-          (none_front c.loop-rest.parts.items left c.loop-rest.rest.now w.in_default.len_below
-          c.loop-rest.invariant.next))
+      (none_front c.loop-rest.parts.items left c.loop-rest.rest.now w.in_default.len_below
+      c.loop-rest.invariant.next))
   | in-len1-up+then-not-begins_by_end_of w ↦
       let left = c.loop-rest.left in
       let pushed : c.push.new.self.items ≡ c.loop-rest.parts.items ++ left ∷ [] = search rules in
       rw pushed (c.loop-rest.invariant.to_come (c.loop-rest.parts.items ++ left ∷ [])
       (behind_front c.loop-rest.parts.items left c.loop-rest.rest.now w.in-len1-up.len_at_least
-          c.loop-rest.invariant.next (search (rules, w.begins_by_end_of.ensures))))
+      c.loop-rest.invariant.next (search (rules, w.begins_by_end_of.ensures))))
 ]

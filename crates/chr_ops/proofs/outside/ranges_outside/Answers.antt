@@ -13,9 +13,9 @@ push_outside-requires c =
     let parts = c.loop-range.parts.items in
     let rest = c.loop-range.rest.now in
     let walked = subst (λ rs. IsWalked parts rs rest ranges c.args.others.now)
-        (drop_more ranges i blank c.loop-range-test.true) c.loop-range.invariant in
+    (drop_more ranges i blank c.loop-range-test.true) c.loop-range.invariant in
     rw (c.skip_ended-rest.ensures, c.first.ensures) (walked_next parts (get_or ranges i blank)
-        (drop (i + 1) ranges) rest ranges c.args.others.now walked)
+    (drop (i + 1) ranges) rest ranges c.args.others.now walked)
 
 pub loop-range-preserved : goal.loop-range-preserved
 loop-range-preserved c =
@@ -25,8 +25,8 @@ loop-range-preserved c =
     let rest = c.loop-range.rest.now in
     let r = get_or ranges i blank in
     let walked = subst (λ rs. IsWalked parts rs rest ranges c.args.others.now)
-        (drop_more ranges i blank c.loop-range-test.true) c.loop-range.invariant in
+    (drop_more ranges i blank c.loop-range-test.true) c.loop-range.invariant in
     let adds : AddsOutside parts r (rest_from rest (first_id r)) c.push_outside.new.parts.items =
-        rw (c.skip_ended-rest.ensures, c.first.ensures) at c.in_ok-push_outside.ensures in
+    rw (c.skip_ended-rest.ensures, c.first.ensures) at c.in_ok-push_outside.ensures in
     rw (c.skip_ended-rest.ensures, c.first.ensures) (walked_more parts r
-        (drop (i + 1) ranges) rest ranges c.args.others.now walked c.push_outside.new.parts.items adds)
+    (drop (i + 1) ranges) rest ranges c.args.others.now walked c.push_outside.new.parts.items adds)

@@ -12,16 +12,16 @@ returns-clause-none c =
     let r1 = c.rule_of-first.result.now in
     let r2 = c.rule_of-second.result.now in
     none_sorted (rules_in c.args.weighed.now) c.args.overlap.now r1 r2 c.sorted_unify.result
-        (c.rule_of-first.ensures, c.rule_of-second.ensures)
+    (c.rule_of-first.ensures, c.rule_of-second.ensures)
     (subst (λ (m : List ℕ). IfNone c.sorted_unify.result (HasNoUnifier (all_equations r1 r2 m))) c.deref.ensures.0
-        c.sorted_unify.ensures.none)
+    c.sorted_unify.ensures.none)
 
 pub returns-clause-unified : goal.returns-clause-unified
 returns-clause-unified c =
     let r1 = c.rule_of-first.result.now in
     let r2 = c.rule_of-second.result.now in
     is_sorted (rules_in c.args.weighed.now) c.args.overlap.now r1 r2 c.sorted_unify.result
-        (c.rule_of-first.ensures, c.rule_of-second.ensures)
+    (c.rule_of-first.ensures, c.rule_of-second.ensures)
     (subst (λ (m : List ℕ). IfSome c.sorted_unify.result
-        (λ u. IsMostGeneralUnifier (classes_of u) (all_equations r1 r2 m))) c.deref.ensures.0
-        c.sorted_unify.ensures.solves) c.sorted_unify.ensures.unified
+    (λ u. IsMostGeneralUnifier (classes_of u) (all_equations r1 r2 m))) c.deref.ensures.0
+    c.sorted_unify.ensures.solves) c.sorted_unify.ensures.unified

@@ -12,15 +12,15 @@ returns-clause-none c =
     let r1 = c.rule_of-first.result.now in
     let r2 = c.rule_of-second.result.now in
     none_unified (rules_in c.args.weighed.now) c.args.overlap.now r1 r2 c.unify.result
-        (c.rule_of-first.ensures, c.rule_of-second.ensures)
+    (c.rule_of-first.ensures, c.rule_of-second.ensures)
     (subst (λ (m : List ℕ). IfNone c.unify.result (HasNoUnifier (equations_of r1 r2 m))) c.deref.ensures.0
-        c.unify.ensures.none)
+    c.unify.ensures.none)
 
 pub returns-clause-unified : goal.returns-clause-unified
 returns-clause-unified c =
     let r1 = c.rule_of-first.result.now in
     let r2 = c.rule_of-second.result.now in
     is_unified (rules_in c.args.weighed.now) c.args.overlap.now r1 r2 c.unify.result
-        (c.rule_of-first.ensures, c.rule_of-second.ensures)
+    (c.rule_of-first.ensures, c.rule_of-second.ensures)
     (subst (λ (m : List ℕ). IfSome c.unify.result (λ u. IsMostGeneralUnifier (classes_of u) (equations_of r1 r2 m)))
-        c.deref.ensures.0 c.unify.ensures.solves) c.unify.ensures.unified
+    c.deref.ensures.0 c.unify.ensures.solves) c.unify.ensures.unified

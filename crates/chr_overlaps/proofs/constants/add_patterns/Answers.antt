@@ -10,9 +10,9 @@ use Rattle.chr_overlaps.proofs.constants.add_patterns.Goals as goal
 pub loop-pattern-preserved : goal.loop-pattern-preserved
 loop-pattern-preserved c =
     pattern_gathered c.args.patterns.now c.loop-pattern.pattern-index c.pattern-item.result c.args.found.now.items
-        c.loop-pattern.found.items c.add_terms.new.found.items c.loop-pattern-test.true c.loop-pattern.invariant
+    c.loop-pattern.found.items c.add_terms.new.found.items c.loop-pattern-test.true c.loop-pattern.invariant
     (subst (λ (ts : List Term). Gathers ts c.loop-pattern.found.items c.add_terms.new.found.items)
-        (c.deref.ensures.0 ∙ ap (λ p. p.args.items) c.pattern-item.is) c.in_ok-add_terms.ensures)
+    (c.deref.ensures.0 ∙ ap (λ p. p.args.items) c.pattern-item.is) c.in_ok-add_terms.ensures)
 
 pub returns : goal.returns
 returns c = subst (λ (ps : List Pattern). Gathers (terms_of ps) c.args.found.now.items c.loop-pattern.found.items)

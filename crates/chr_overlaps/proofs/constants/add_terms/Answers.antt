@@ -20,15 +20,15 @@ loop-term-preserved c =
       | in-Constant+in_ok-add_constant w ↦
           let fits : SFits w64 w.in-Constant.constant = search (rules, w) in
           let one : Gathers (Constant w.in-Constant.constant ∷ []) ds w.add_constant.new.found.items =
-              simp to_z-of_z at w.in_ok-add_constant.ensures in
+          simp to_z-of_z at w.in_ok-add_constant.ensures in
           subst (λ (es : List ℤ). Gathers (take (i + 1) ts) cs es) (sym (ap (λ f. f.items) w.found-is))
           (term_gathered ts i (Variable 0) cs ds w.add_constant.new.found.items c.loop-term-test.true
-              c.loop-term.invariant (constant_gathered (get_or ts i (Variable 0)) w.in-Constant.constant ds
-              w.add_constant.new.found.items w.in-Constant.is one))
+          c.loop-term.invariant (constant_gathered (get_or ts i (Variable 0)) w.in-Constant.constant ds
+          w.add_constant.new.found.items w.in-Constant.is one))
       | in_default w ↦
           subst (λ (es : List ℤ). Gathers (take (i + 1) ts) cs es) (sym (ap (λ f. f.items) w.found-is))
           (term_gathered ts i (Variable 0) cs ds ds c.loop-term-test.true c.loop-term.invariant
-              (term_passed (get_or ts i (Variable 0)) ds w.in_default.not-Constant))
+          (term_passed (get_or ts i (Variable 0)) ds w.in_default.not-Constant))
     ]
 
 pub returns : goal.returns

@@ -9,9 +9,9 @@ use Rattle.chr_overlaps.proofs.constants.constants.Goals as goal
 pub loop-rule-preserved : goal.loop-rule-preserved
 loop-rule-preserved c =
     rules_gathered c.args.rules.now c.loop-rule.rule-index c.rule-item.result c.loop-rule.found.items
-        c.add_rule.new.found.items c.loop-rule-test.true c.loop-rule.invariant
+    c.add_rule.new.found.items c.loop-rule-test.true c.loop-rule.invariant
     (subst (λ (r : Rule). Gathers (rule_terms r) c.loop-rule.found.items c.add_rule.new.found.items) c.rule-item.is
-        c.in_ok-add_rule.ensures)
+    c.in_ok-add_rule.ensures)
 
 pub returns-clause-constants : goal.returns-clause-constants
 returns-clause-constants c = all_gathered c.args.rules.now c.loop-rule.found.items

@@ -14,8 +14,8 @@ returns-in-Some t c =
     let right = c.args.right.now.items in
     let p = c.pattern-item.result in
     let found = subst (λ (qs : List Pattern). slice_get qs c.in-Some.place ≡ Some p) c.deref.ensures.0
-        c.in-Some.ensures in
+    c.in-Some.ensures in
     OnTrue_from c.are_same.result _ (λ e v.
     same_behind v p left right c.in-Some.place c.in-len1-up.len_at_least c.pattern-item.is found
     (ap (λ (qs : List Pattern). store_of (atoms_at v qs)) (sym (take_rest left 1)) ∙ OnTrue_at e c.are_same.ensures v
-        ∙ ap (λ (qs : List Pattern). store_of (atoms_at v qs)) c.remove.ensures.items))
+    ∙ ap (λ (qs : List Pattern). store_of (atoms_at v qs)) c.remove.ensures.items))

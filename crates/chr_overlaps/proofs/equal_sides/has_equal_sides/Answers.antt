@@ -19,14 +19,14 @@ returns c r1 r2 are =
     let s = c.rule_of-second.result.now in
     let σ = classes_of c.args.unified.now in
     let e = rules_once (rules_in c.args.weighed.now) c.args.overlap.now r s r1 r2
-        (c.rule_of-first.ensures, c.rule_of-second.ensures) are in
+    (c.rule_of-first.ensures, c.rule_of-second.ensures) are in
     let k = c.variables-shift.ensures.number in
     let left = c.changes-left.ensures ∙ ap (λ (k : ℕ). map (class_pattern σ 0) r.body.items
-        ++ map (class_pattern σ k) s.removed.items) k in
+    ++ map (class_pattern σ k) s.removed.items) k in
     let right = c.changes-right.ensures ∙ ap (λ (k : ℕ). map (class_pattern σ k) s.body.items
-        ++ map (class_pattern σ 0) r.removed.items) k in
+    ++ map (class_pattern σ 0) r.removed.items) k in
     OnTrue_from c.are_same.result _ (λ h.
     subst (λ (p : Rule × Rule). HaveEqualSides p.0 p.1 σ) (λ i. (e.0 i, e.1 i))
     (have_equal_sides r s σ c.changes-left.result.items c.changes-right.result.items left right
     (λ v. ap (λ (ps : List Pattern). store_of (atoms_at v ps)) (sym c.deref.ensures.0)
-        ∙ OnTrue_at h c.are_same.ensures v)))
+    ∙ OnTrue_at h c.are_same.ensures v)))

@@ -8,4 +8,4 @@ pub class_pattern-requires : goal.class_pattern-requires
 class_pattern-requires c =
     let p = c.pattern-item.result in
     c.requires.below p (subst (λ (q : Pattern). In q c.args.patterns.now) (sym c.pattern-item.is)
-        (in_at c.args.patterns.now c.loop-pattern.pattern-index p c.loop-pattern-test.true))
+    (in_at c.args.patterns.now c.loop-pattern.pattern-index p c.loop-pattern-test.true))

@@ -15,7 +15,7 @@ returns-clause-overlaps c =
     let rules = rules_of (program_of c.args.weighed.now) in
     let same = same_number c in
     IfOk-weaker c.overlaps_of.result _ _ (λ os are. of_all rules (length c.rules-rules.result.now) os.items
-        (omega (arith, same)) are) c.overlaps_of.ensures.overlaps
+    (omega (arith, same)) are) c.overlaps_of.ensures.overlaps
 
 pub returns-clause-few : goal.returns-clause-few
 returns-clause-few c =

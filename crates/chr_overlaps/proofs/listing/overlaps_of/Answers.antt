@@ -42,9 +42,9 @@ returns-clause-overlaps c =
     let least = c.min-end.ensures in
     let ended = c.loop-place-test.false in
     all_listed rules _ a (n - a) c.args.places.end c.loop-place.found.items
-        (c.rules-rules.ensures ∙ ap rules_of c.program.ensures)
+    (c.rules-rules.ensures ∙ ap rules_of c.program.ensures)
     (elim c.loop-place.invariant.reach as (λ _. (a + (n - a) ≤ c.args.places.end) ⊎ (n - a ≡ 0))
-        [ inl e ↦ inl (omega (arith, e, from, least)) | inr e ↦ inr (omega (arith, e)) ])
+    [ inl e ↦ inl (omega (arith, e, from, least)) | inr e ↦ inr (omega (arith, e)) ])
     (λ i l m within. omega (arith, l, m, within, least, ended, from)) c.loop-place.invariant.found
 
 pub returns-clause-few : goal.returns-clause-few
@@ -57,5 +57,5 @@ returns-clause-few c =
     let few = few_overlaps c.rules-rules.result.now a (n - a) (omega (arith, rules, most)) in
     let is = ap length c.loop-place.invariant.found in
     let reach : n - a ≤ c.args.places.end - a = elim c.loop-place.invariant.reach as (λ _.
-        n - a ≤ c.args.places.end - a) [ inl e ↦ omega (arith, e, least) | inr e ↦ omega (arith, e) ] in
+    n - a ≤ c.args.places.end - a) [ inl e ↦ omega (arith, e, least) | inr e ↦ omega (arith, e) ] in
     omega (arith, few, is, reach)

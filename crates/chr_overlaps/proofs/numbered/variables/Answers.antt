@@ -6,17 +6,17 @@ use Rattle.chr_overlaps.proofs.numbered.variables.Goals as goal
 pub count_in_terms-count-requires-clause-numbered : goal.count_in_terms-count-requires-clause-numbered
 count_in_terms-count-requires-clause-numbered c =
     let l : c.loop-place.place < length (heads_of c.args.rule.now) =
-        (let p = c.places-place-end.ensures.places in let t = c.loop-place-test.true in omega (arith, p, t)) in
+    (let p = c.places-place-end.ensures.places in let t = c.loop-place-test.true in omega (arith, p, t)) in
     let is : c.deref.result.now ≡ (get_or (heads_of c.args.rule.now) c.loop-place.place no_pattern).args.items =
-        c.deref.ensures.0 ∙ ap (λ p. p.args.items) c.head_at.ensures in
+    c.deref.ensures.0 ∙ ap (λ p. p.args.items) c.head_at.ensures in
     rw is (place_numbered c.args.rule.now c.loop-place.place c.loop-place.count l c.loop-place.invariant.same)
 
 pub loop-place-preserved : goal.loop-place-preserved
 loop-place-preserved c =
     let l : c.loop-place.place < length (heads_of c.args.rule.now) =
-        (let p = c.places-place-end.ensures.places in let t = c.loop-place-test.true in omega (arith, p, t)) in
+    (let p = c.places-place-end.ensures.places in let t = c.loop-place-test.true in omega (arith, p, t)) in
     let is : c.deref.result.now ≡ (get_or (heads_of c.args.rule.now) c.loop-place.place no_pattern).args.items =
-        c.deref.ensures.0 ∙ ap (λ p. p.args.items) c.head_at.ensures in
+    c.deref.ensures.0 ∙ ap (λ p. p.args.items) c.head_at.ensures in
     record {
       same = place_counted c.args.rule.now c.loop-place.place c.loop-place.count c.count_in_terms-count.result l
           c.loop-place.invariant.same (rw is at c.count_in_terms-count.ensures.number);

@@ -15,7 +15,7 @@ returns-then-not-join_heads-clause-classes c =
     let m = c.args.matching.now in
     let σ = class_in c.args.classes.now.terms.items in
     let heads : None ≡ solve σ (equations_of r1 r2 m) = c.if-not-join_heads.ensures.classes
-        ∙ ap (λ n. solve σ (equations n (heads_of r2) m (heads_of r1))) c.requires.shift in
+    ∙ ap (λ n. solve σ (equations n (heads_of r2) m (heads_of r1))) c.requires.shift in
     let fs = guard_equations r1.guard.items in
     let gs = map (equation_apart (variables_of r1)) (guard_equations r2.guard.items) in
     sym (first_clash σ (equations_of r1 r2 m ++ fs) gs (sym (first_clash σ (equations_of r1 r2 m) fs heads)))
@@ -30,7 +30,7 @@ returns-then-not-join_guard-clause-classes c =
     let fs = guard_equations r1.guard.items in
     let gs = map (equation_apart (variables_of r1)) (guard_equations r2.guard.items) in
     let heads : Some τ ≡ solve σ (equations_of r1 r2 m) = c.if-not-join_heads.ensures.classes
-        ∙ ap (λ n. solve σ (equations n (heads_of r2) m (heads_of r1))) c.requires.shift in
+    ∙ ap (λ n. solve σ (equations n (heads_of r2) m (heads_of r1))) c.requires.shift in
     let guard : None ≡ solve τ fs = c.if-not-join_guard.ensures.classes ∙ ap (solve τ) (not_moved fs) in
     sym (first_clash σ (equations_of r1 r2 m ++ fs) gs (guard ∙ sym (solved_first σ τ (equations_of r1 r2 m) fs heads)))
 
@@ -45,9 +45,9 @@ returns-clause-classes c =
     let fs = guard_equations r1.guard.items in
     let gs = map (equation_apart (variables_of r1)) (guard_equations r2.guard.items) in
     let heads : Some τ ≡ solve σ (equations_of r1 r2 m) = c.if-not-join_heads.ensures.classes
-        ∙ ap (λ n. solve σ (equations n (heads_of r2) m (heads_of r1))) c.requires.shift in
+    ∙ ap (λ n. solve σ (equations n (heads_of r2) m (heads_of r1))) c.requires.shift in
     let guard : Some ρ ≡ solve τ fs = c.if-not-join_guard.ensures.classes ∙ ap (solve τ) (not_moved fs) in
     c.join_guard-2.ensures.classes ∙ ap (λ n. solve ρ (map (equation_apart n) (guard_equations r2.guard.items)))
-        c.requires.shift
+    c.requires.shift
     ∙ sym (solved_first σ ρ (equations_of r1 r2 m ++ fs) gs
-        (guard ∙ sym (solved_first σ τ (equations_of r1 r2 m) fs heads)))
+    (guard ∙ sym (solved_first σ τ (equations_of r1 r2 m) fs heads)))

@@ -17,4 +17,4 @@ returns-clause-solves c =
     let es = all_equations c.args.first.now c.args.second.now c.args.matching.now in
     subst (λ (k : Classes). IsMostGeneralUnifier (class_in k.terms.items) es) (sym c.unified_by.ensures.classes)
     (some_solve es (class_in c.join_all.new.classes.terms.items)
-        (sym (c.if-not-join_all.ensures.classes ∙ ap (λ σ. solve σ es) c.identity-classes.ensures.classes)))
+    (sym (c.if-not-join_all.ensures.classes ∙ ap (λ σ. solve σ es) c.identity-classes.ensures.classes)))

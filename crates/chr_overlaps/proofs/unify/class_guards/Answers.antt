@@ -11,4 +11,4 @@ push_guard-requires-clause-room c =
 pub push_guard-requires-2-clause-room : goal.push_guard-requires-2-clause-room
 push_guard-requires-2-clause-room c =
     joint_guards_few c.args.first.now c.args.second.now _ c.new-guards.result.items c.push_guard.new.guards.items
-        c.new-guards.ensures c.push_guard.ensures
+    c.new-guards.ensures c.push_guard.ensures

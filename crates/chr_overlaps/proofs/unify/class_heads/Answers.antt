@@ -9,4 +9,4 @@ pub class_pattern-requires : goal.class_pattern-requires
 class_pattern-requires c =
     let n = length c.args.classes.now.terms.items in
     subst (λ (p : Pattern). are_below n (map (renamed_apart c.args.shift) p.args.items) ≡ true) (sym c.head_at.ensures)
-        (shifted_below c.args.rule.now c.args.shift n c.loop-place.place c.requires)
+    (shifted_below c.args.rule.now c.args.shift n c.loop-place.place c.requires)

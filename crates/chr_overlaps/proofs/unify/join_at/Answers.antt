@@ -10,14 +10,14 @@ join_terms-requires-clause-left c =
     let n = length c.args.classes.now.terms.items in
     let l : variables_of c.args.first.now < n = (let t = c.requires.table in omega (arith, t)) in
     subst (λ (ts : List Term). are_below n ts ≡ true) (sym
-        (c.deref.ensures.0 ∙ ap (λ p. p.args.items) c.head_at-left.ensures))
-        (args_below c.args.first.now n c.args.place l)
+    (c.deref.ensures.0 ∙ ap (λ p. p.args.items) c.head_at-left.ensures))
+    (args_below c.args.first.now n c.args.place l)
 
 pub join_terms-requires-clause-right : goal.join_terms-requires-clause-right
 join_terms-requires-clause-right c =
     let n = length c.args.classes.now.terms.items in
     let l : c.args.shift + variables_of c.args.second.now < n =
-        (let t = c.requires.table in let s = c.requires.shift in omega (arith, t, s)) in
+    (let t = c.requires.table in let s = c.requires.shift in omega (arith, t, s)) in
     subst (λ (ts : List Term). are_below n (map (renamed_apart c.args.shift) ts) ≡ true)
-        (sym (c.deref-2.ensures.0 ∙ ap (λ p. p.args.items) c.head_at-right.ensures))
-        (shifted_below c.args.second.now c.args.shift n c.args.matched l)
+    (sym (c.deref-2.ensures.0 ∙ ap (λ p. p.args.items) c.head_at-right.ensures))
+    (shifted_below c.args.second.now c.args.shift n c.args.matched l)

@@ -16,7 +16,7 @@ pub join_at-requires-clause-matched : goal.join_at-requires-clause-matched
 join_at-requires-clause-matched c =
     let e : c.from-entry.result ≡ get_or c.args.matching.now c.loop-place.place 0 = c.from-entry.ensures in
     rw e ((places_there _ c.args.matching.now _ c.loop-place.place c.requires.symbols c.loop-place-test.true).1
-        (let t = c.if-entry-gt0.true in omega (arith, e, t)))
+    (let t = c.if-entry-gt0.true in omega (arith, e, t)))
 
 pub returns-then-not-join_at-clause-classes : goal.returns-then-not-join_at-clause-classes
 returns-then-not-join_at-clause-classes c =
@@ -28,9 +28,9 @@ returns-then-not-join_at-clause-classes c =
     let there = places_there qs m ps c.loop-place.place c.requires.symbols c.loop-place-test.true in
     let next = rest_matched c.args.shift qs m ps c.loop-place.place c.loop-place-test.true there.0 g in
     let clash : None ≡ solve (class_in c.loop-place.classes.terms.items)
-        (pairs_at c.args.shift qs m ps c.loop-place.place) = rw e at c.if-not-join_at.ensures.classes in
+    (pairs_at c.args.shift qs m ps c.loop-place.place) = rw e at c.if-not-join_at.ensures.classes in
     sym (first_clash (class_in c.loop-place.classes.terms.items) (pairs_at c.args.shift qs m ps c.loop-place.place)
-        (rest_of c.args.shift qs m ps (c.loop-place.place + 1)) clash)
+    (rest_of c.args.shift qs m ps (c.loop-place.place + 1)) clash)
     ∙ ap (solve (class_in c.loop-place.classes.terms.items)) (sym next) ∙ c.loop-place.invariant.same
 
 pub loop-place-preserved : goal.loop-place-preserved
@@ -47,13 +47,13 @@ loop-place-preserved c =
           let σ = class_in c.loop-place.classes.terms.items in
           let τ = class_in w.join_at.new.classes.terms.items in
           let one : Some τ ≡ solve σ (pairs_at c.args.shift qs m ps c.loop-place.place) =
-              rw e at w.if-not-join_at.ensures.classes in
+          rw e at w.if-not-join_at.ensures.classes in
           record {
             same = ap (λ k. solve (class_in k.terms.items) (rest_of c.args.shift qs m ps (c.loop-place.place + 1)))
                 w.classes-is
                 ∙ sym (solved_first σ τ (pairs_at c.args.shift qs m ps c.loop-place.place)
-                    (rest_of c.args.shift qs m ps (c.loop-place.place + 1)) one) ∙ ap (solve σ) (sym next)
-                    ∙ c.loop-place.invariant.same;
+                (rest_of c.args.shift qs m ps (c.loop-place.place + 1)) one) ∙ ap (solve σ) (sym next)
+                ∙ c.loop-place.invariant.same;
             len = ap (λ k. length k.terms.items) w.classes-is ∙ w.if-not-join_at.ensures.len
                 ∙ c.loop-place.invariant.len;
           }
@@ -63,8 +63,8 @@ loop-place-preserved c =
             same = ap (λ k. solve (class_in k.terms.items) (rest_of c.args.shift qs m ps (c.loop-place.place + 1)))
                 w.classes-is
                 ∙ ap (solve (class_in c.loop-place.classes.terms.items))
-                    (sym (rest_unmatched c.args.shift qs m ps c.loop-place.place c.loop-place-test.true there.0 z))
-                    ∙ c.loop-place.invariant.same;
+                (sym (rest_unmatched c.args.shift qs m ps c.loop-place.place c.loop-place-test.true there.0 z))
+                ∙ c.loop-place.invariant.same;
             len = ap (λ k. length k.terms.items) w.classes-is ∙ c.loop-place.invariant.len;
           }
     ]

@@ -10,6 +10,6 @@ invariant-loop-place l = record {
   same : solve (class_in l.classes.terms.items) (rest_of l.shift (heads_of l.second) l.matching
       (heads_of l.first) l.place)
       ≡ solve (class_in l.initial.classes.terms.items)
-          (rest_of l.shift (heads_of l.second) l.matching (heads_of l.first) 0);
+      (rest_of l.shift (heads_of l.second) l.matching (heads_of l.first) 0);
   len : length l.classes.terms.items ≡ length l.initial.classes.terms.items;
 }

@@ -18,9 +18,9 @@ loop-partner-init c = rw (c.push.ensures.items, c.new-known.ensures, c.new-partn
 pub push-requires-in-Some : goal.push-requires-in-Some
 push-requires-in-Some c =
     let next : IsLongest c.args.rule.now c.loop-partner.known.items (length (heads_of c.args.rule.now))
-        c.in-Some.partner = rw c.deref.ensures.0 at c.in-Some.ensures in
+    c.in-Some.partner = rw c.deref.ensures.0 at c.in-Some.ensures in
     let n = room c.args.rule.now c.loop-partner.known.items c.in-Some.partner c.loop-partner.invariant.distinct
-        c.loop-partner.invariant.places next in
+    c.loop-partner.invariant.places next in
     let m = heads_few c.args.rule.now in
     let l : length c.loop-partner.known.items < MAX_HEADS = omega (arith, n, m) in
     (omega arith, l)
@@ -28,16 +28,16 @@ push-requires-in-Some c =
 pub loop-partner-smaller : goal.loop-partner-smaller
 loop-partner-smaller c =
     let next : IsLongest c.args.rule.now c.loop-partner.known.items (length (heads_of c.args.rule.now))
-        c.in-Some.partner = rw c.deref.ensures.0 at c.in-Some.ensures in
+    c.in-Some.partner = rw c.deref.ensures.0 at c.in-Some.ensures in
     let n = room c.args.rule.now c.loop-partner.known.items c.in-Some.partner c.loop-partner.invariant.distinct
-        c.loop-partner.invariant.places next in
+    c.loop-partner.invariant.places next in
     let e = c.push-in-Some.ensures.len in
     omega (arith, n, e)
 
 pub loop-partner-preserved : goal.loop-partner-preserved
 loop-partner-preserved c =
     let next : IsLongest c.args.rule.now c.loop-partner.known.items (length (heads_of c.args.rule.now))
-        c.in-Some.partner = rw c.deref.ensures.0 at c.in-Some.ensures in
+    c.in-Some.partner = rw c.deref.ensures.0 at c.in-Some.ensures in
     rw (c.push-in-Some.ensures.items, c.push-in-Some-2.ensures.items) (record {
       known = ap (λ xs. xs ++ c.in-Some.partner.place ∷ []) c.loop-partner.invariant.known
           ∙ places_push c.args.place c.loop-partner.partners.items c.in-Some.partner;

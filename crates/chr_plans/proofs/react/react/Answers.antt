@@ -5,10 +5,10 @@ use Rattle.chr_plans.proofs.react.react.Goals as goal
 pub returns-then-find_partners-clause-found : goal.returns-then-find_partners-clause-found
 returns-then-find_partners-clause-found g c =
     reacts c.args.rules.now _ (g.R.Rows.columns c.args.rows.now) c.args.active.now c.args.plans.now c.loop-j.j
-        c.index-plans-j.result c.index-rules-plan.result
+    c.index-plans-j.result c.index-rules-plan.result
     c.loop-j-test.true c.index-plans-j.is c.index-rules-plan.is (c.requires.fits c.loop-j.j c.loop-j-test.true)
     _ _ (rw c.loop-j.invariant.rows at c.if-find_partners.ensures.found) c.if-find_partners.ensures.active
-        c.if-find_partners.ensures.seats
+    c.if-find_partners.ensures.seats
 
 pub loop-j-preserved : goal.loop-j-preserved
 loop-j-preserved g c = record {
@@ -33,13 +33,13 @@ loop-j-init g c = record {
 pub find_partners-requires-clause-passed : goal.find_partners-requires-clause-passed
 find_partners-requires-clause-passed g c =
     rw (c.loop-j.invariant.rows, c.deref.ensures.0) (row_passed c.args.rules.now _ (g.R.Rows.columns c.args.rows.now)
-        c.args.active.now c.args.plans.now c.loop-j.j c.index-plans-j.result c.index-rules-plan.result
+    c.args.active.now c.args.plans.now c.loop-j.j c.index-plans-j.result c.index-rules-plan.result
     c.loop-j-test.true c.index-plans-j.is c.index-rules-plan.is (c.requires.fits c.loop-j.j c.loop-j-test.true)
-        c.args.from c.row_in-row.result c.requires.passed c.row_in-row.ensures)
+    c.args.from c.row_in-row.result c.requires.passed c.row_in-row.ensures)
 
 pub returns-then-find_partners-clause-standing : goal.returns-then-find_partners-clause-standing
 returns-then-find_partners-clause-standing g c =
     resumes c.args.rules.now _ (g.R.Rows.columns c.args.rows.now) c.args.active.now c.args.plans.now c.loop-j.j
-        c.index-plans-j.result c.index-rules-plan.result
+    c.index-plans-j.result c.index-rules-plan.result
     c.loop-j-test.true c.index-plans-j.is c.index-rules-plan.is (c.requires.fits c.loop-j.j c.loop-j-test.true)
     _ c.loop-j.invariant.none (rw (c.loop-j.invariant.rows, c.deref.ensures.0) at c.if-find_partners.ensures.passed)

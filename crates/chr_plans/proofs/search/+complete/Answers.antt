@@ -15,27 +15,27 @@ use Rattle.chr_plans.proofs.search.+complete.Goals as goal
 pub returns-then-done-lookups-clause-found : goal.returns-then-done-lookups-clause-found
 returns-then-done-lookups-clause-found g t c = OnTrue_from c.fires.result _ (λ e.
     seated_all c.args.rule.now _ c.args.active c.args.lookups.now _ _ c.requires.plan
-        (rw (← c.if-done-lookups.true) c.requires.started) (c.fires.ensures.0 e))
+    (rw (← c.if-done-lookups.true) c.requires.started) (c.fires.ensures.0 e))
 
 pub returns-then-done-lookups-clause-none : goal.returns-then-done-lookups-clause-none
 returns-then-done-lookups-clause-none g t c = OnFalse_from c.fires.result _ (λ e.
     rw c.if-done-lookups.true (none_all c.args.rule.now _ c.args.active c.args.lookups.now _ _ c.requires.plan
-        c.requires.heads (λ h. (let f = c.fires.ensures.1 h in cc))))
+    c.requires.heads (λ h. (let f = c.fires.ensures.1 h in cc))))
 
 pub returns-then-not-pass-clause-none : goal.returns-then-not-pass-clause-none
 returns-then-not-pass-clause-none g t c =
     let n : c.args.done < length c.args.lookups.now = (let a = c.requires.done in let b = c.if-done-lookups.false in
-        omega (arith, a, b)) in
+    omega (arith, a, b)) in
     not_passed c.args.rule.now c.args.active c.args.lookups.now c.args.done c.index-lookups-done.result _
-        (g.R.Rows.columns c.args.rows.now) c.args.heads.now c.args.seats.now c.requires.plan c.requires.fits n
-        (sym c.index-lookups-done.is) c.if-not-pass.ensures
+    (g.R.Rows.columns c.args.rows.now) c.args.heads.now c.args.seats.now c.requires.plan c.requires.fits n
+    (sym c.index-lookups-done.is) c.if-not-pass.ensures
 
 pub loop-next-init : goal.loop-next-init
 loop-next-init g t c =
     let n : c.args.done < length c.args.lookups.now = (let a = c.requires.done in let b = c.if-done-lookups.false in
-        omega (arith, a, b)) in
+    omega (arith, a, b)) in
     let key : c.deref.result.now ≡ map (λ k. source_value c.args.heads.now k.source)
-        c.index-lookups-done.result.partner.key.items = c.deref.ensures.0 ∙ c.key_values-key.ensures in
+    c.index-lookups-done.result.partner.key.items = c.deref.ensures.0 ∙ c.key_values-key.ensures in
     record {
       rows = c.newest_from-next.ensures.rows;
       columns = c.newest_from-next.ensures.columns;
@@ -49,7 +49,7 @@ loop-next-init g t c =
           (sym c.index-lookups-done.is) c.span_of-span.result c.args.from c.newest_from-next.result
           c.span_of-span.ensures.all c.requires.passed
           (below_found _ _ _ c.newest_from-next.result (rw (← key) c.newest_from-next.ensures.newest)
-              (rw (← key) c.newest_from-next.ensures.none));
+          (rw (← key) c.newest_from-next.ensures.none));
     }
 
 pub is_taken-requires-clause-places : goal.is_taken-requires-clause-places
@@ -64,51 +64,51 @@ is_taken-requires-clause-places g t c = λ j l.
 pub bounds-heads-lookup : goal.bounds-heads-lookup
 bounds-heads-lookup g t c =
     let n : c.args.done < length c.args.lookups.now = (let a = c.requires.done in let b = c.if-done-lookups.false in
-        omega (arith, a, b)) in
+    omega (arith, a, b)) in
     let w = place_within c.args.rule.now c.args.active c.args.lookups.now c.args.done c.index-lookups-done.result _
-        (g.R.Rows.columns c.args.rows.now) c.args.heads.now c.args.seats.now c.requires.plan c.requires.fits n
-        (sym c.index-lookups-done.is) in
+    (g.R.Rows.columns c.args.rows.now) c.args.heads.now c.args.seats.now c.requires.plan c.requires.fits n
+    (sym c.index-lookups-done.is) in
     let s = c.loop-next.invariant.heads in
     omega (arith, w, s)
 
 pub offset_bounds-heads-lookup : goal.offset_bounds-heads-lookup
 offset_bounds-heads-lookup g t c =
     let n : c.args.done < length c.args.lookups.now = (let a = c.requires.done in let b = c.if-done-lookups.false in
-        omega (arith, a, b)) in
+    omega (arith, a, b)) in
     let w = place_within c.args.rule.now c.args.active c.args.lookups.now c.args.done c.index-lookups-done.result _
-        (g.R.Rows.columns c.args.rows.now) c.args.heads.now c.args.seats.now c.requires.plan c.requires.fits n
-        (sym c.index-lookups-done.is) in
+    (g.R.Rows.columns c.args.rows.now) c.args.heads.now c.args.seats.now c.requires.plan c.requires.fits n
+    (sym c.index-lookups-done.is) in
     let f = heads_few c.args.rule.now in
     omega (arith, w, f)
 
 pub bounds-seats-lookup : goal.bounds-seats-lookup
 bounds-seats-lookup g t c =
     let n : c.args.done < length c.args.lookups.now = (let a = c.requires.done in let b = c.if-done-lookups.false in
-        omega (arith, a, b)) in
+    omega (arith, a, b)) in
     let w = place_within c.args.rule.now c.args.active c.args.lookups.now c.args.done c.index-lookups-done.result _
-        (g.R.Rows.columns c.args.rows.now) c.args.heads.now c.args.seats.now c.requires.plan c.requires.fits n
-        (sym c.index-lookups-done.is) in
+    (g.R.Rows.columns c.args.rows.now) c.args.heads.now c.args.seats.now c.requires.plan c.requires.fits n
+    (sym c.index-lookups-done.is) in
     let s = c.loop-next.invariant.seats in
     omega (arith, w, s)
 
 pub offset_bounds-seats-lookup : goal.offset_bounds-seats-lookup
 offset_bounds-seats-lookup g t c =
     let n : c.args.done < length c.args.lookups.now = (let a = c.requires.done in let b = c.if-done-lookups.false in
-        omega (arith, a, b)) in
+    omega (arith, a, b)) in
     let w = place_within c.args.rule.now c.args.active c.args.lookups.now c.args.done c.index-lookups-done.result _
-        (g.R.Rows.columns c.args.rows.now) c.args.heads.now c.args.seats.now c.requires.plan c.requires.fits n
-        (sym c.index-lookups-done.is) in
+    (g.R.Rows.columns c.args.rows.now) c.args.heads.now c.args.seats.now c.requires.plan c.requires.fits n
+    (sym c.index-lookups-done.is) in
     let f = heads_few c.args.rule.now in
     omega (arith, w, f)
 
 pub complete-requires : goal.complete-requires
 complete-requires g t c κs within =
     let n : c.args.done < length c.args.lookups.now = (let a = c.requires.done in let b = c.if-done-lookups.false in
-        omega (arith, a, b)) in
+    omega (arith, a, b)) in
     let here = sym c.index-lookups-done.is in
     let w = place_within c.args.rule.now c.args.active c.args.lookups.now c.args.done c.index-lookups-done.result _
-        (g.R.Rows.columns c.args.rows.now) c.args.heads.now c.args.seats.now c.requires.plan c.requires.fits n
-        (sym c.index-lookups-done.is) in
+    (g.R.Rows.columns c.args.rows.now) c.args.heads.now c.args.seats.now c.requires.plan c.requires.fits n
+    (sym c.index-lookups-done.is) in
     let h = c.loop-next.invariant.heads in
     let s = c.loop-next.invariant.seats in
     let many = length-take-le c.args.done c.args.lookups.now c.requires.done in (
@@ -130,9 +130,9 @@ complete-requires g t c κs within =
                         c.args.done c.index-lookups-done.result c.args.heads.now c.loop-next.heads c.args.seats.now
                         c.loop-next.seats c.read.new.atom _ c.requires.plan n here
                         (omega (arith, w, h)) (omega (arith, w, s)) c.requires.started c.loop-next.invariant.same
-                            (rw c.loop-next.invariant.rows at c.read.ensures)
+                        (rw c.loop-next.invariant.rows at c.read.ensures)
                         (λ j g2 e. c.if-not-is_taken.ensures.free j (omega (arith, g2, many))
-                            (ap (seat c.loop-next.seats) (places_take c.args.lookups.now c.args.done j g2) ∙ e))),
+                        (ap (seat c.loop-next.seats) (places_take c.args.lookups.now c.args.done j g2) ∙ e))),
                     tt,
                   ),
                 ),
@@ -146,50 +146,50 @@ complete-requires g t c κs within =
 pub returns-then-complete-clause-same : goal.returns-then-complete-clause-same
 returns-then-complete-clause-same g t c =
     let n : c.args.done < length c.args.lookups.now = (let a = c.requires.done in let b = c.if-done-lookups.false in
-        omega (arith, a, b)) in
+    omega (arith, a, b)) in
     same_deeper c.args.rule.now c.args.active c.args.lookups.now c.args.done c.index-lookups-done.result
-        c.args.heads.now c.loop-next.heads _ c.args.seats.now c.loop-next.seats _ _ _ c.requires.plan n
-        (sym c.index-lookups-done.is) c.loop-next.invariant.same c.complete.ensures.same
+    c.args.heads.now c.loop-next.heads _ c.args.seats.now c.loop-next.seats _ _ _ c.requires.plan n
+    (sym c.index-lookups-done.is) c.loop-next.invariant.same c.complete.ensures.same
 
 pub returns-then-complete-clause-passed : goal.returns-then-complete-clause-passed
 returns-then-complete-clause-passed g t c =
     let n : c.args.done < length c.args.lookups.now = (let a = c.requires.done in let b = c.if-done-lookups.false in
-        omega (arith, a, b)) in
+    omega (arith, a, b)) in
     let here = sym c.index-lookups-done.is in
     let w = place_within c.args.rule.now c.args.active c.args.lookups.now c.args.done c.index-lookups-done.result _
-        (g.R.Rows.columns c.args.rows.now) c.args.heads.now c.args.seats.now c.requires.plan c.requires.fits n here in
+    (g.R.Rows.columns c.args.rows.now) c.args.heads.now c.args.seats.now c.requires.plan c.requires.fits n here in
     let s = c.loop-next.invariant.seats in
     past_found c.args.rule.now c.args.active c.args.lookups.now c.args.done c.index-lookups-done.result _
-        (g.R.Rows.columns c.args.rows.now) c.args.heads.now c.args.seats.now c.requires.plan c.requires.fits n here _
-        c.in-Some.row
+    (g.R.Rows.columns c.args.rows.now) c.args.heads.now c.args.seats.now c.requires.plan c.requires.fits n here _
+    c.in-Some.row
     (rw c.in-Some.is at c.loop-next.invariant.past)
     (ap (λ x. x.row) (seat_found c.args.rule.now c.args.active c.args.lookups.now c.args.done
-        c.index-lookups-done.result _ (g.R.Rows.columns c.args.rows.now) c.args.heads.now c.args.seats.now
-        c.requires.plan c.requires.fits n here _ c.loop-next.heads _ c.loop-next.seats _ _
-        (omega (arith, w, s)) c.complete.ensures.same))
+    c.index-lookups-done.result _ (g.R.Rows.columns c.args.rows.now) c.args.heads.now c.args.seats.now
+    c.requires.plan c.requires.fits n here _ c.loop-next.heads _ c.loop-next.seats _ _
+    (omega (arith, w, s)) c.complete.ensures.same))
 
 pub loop-next-preserved : goal.loop-next-preserved
 loop-next-preserved g t c =
     let n : c.args.done < length c.args.lookups.now = (let a = c.requires.done in let b = c.if-done-lookups.false in
-        omega (arith, a, b)) in
+    omega (arith, a, b)) in
     let key : c.deref-in-Some.result.now ≡ map (λ k. source_value c.args.heads.now k.source)
-        c.index-lookups-done.result.partner.key.items = c.deref-in-Some.ensures.0 ∙ c.key_values-key.ensures in
+    c.index-lookups-done.result.partner.key.items = c.deref-in-Some.ensures.0 ∙ c.key_values-key.ensures in
     let w0 = place_within c.args.rule.now c.args.active c.args.lookups.now c.args.done c.index-lookups-done.result _
-        (g.R.Rows.columns c.args.rows.now) c.args.heads.now c.args.seats.now c.requires.plan c.requires.fits n
-        (sym c.index-lookups-done.is) in
+    (g.R.Rows.columns c.args.rows.now) c.args.heads.now c.args.seats.now c.requires.plan c.requires.fits n
+    (sym c.index-lookups-done.is) in
     let h = c.loop-next.invariant.heads in
     let s = c.loop-next.invariant.seats in
     let many = length-take-le c.args.done c.args.lookups.now c.requires.done in
     let rows_now : g.R.Rows.rows c.if-not-is_taken.rows ≡ g.R.Rows.rows c.args.rows.now =
-        elim c.if-not-is_taken.branch [
+    elim c.if-not-is_taken.branch [
       | then-not-is_taken+else-complete w ↦ ap g.R.Rows.rows w.rows-is ∙ w.complete.ensures.rows
-            ∙ c.loop-next.invariant.rows
+          ∙ c.loop-next.invariant.rows
       | else-not-is_taken w ↦ ap g.R.Rows.rows w.rows-is ∙ c.loop-next.invariant.rows
     ] in
     let columns_now : g.R.Rows.columns c.if-not-is_taken.rows ≡ g.R.Rows.columns c.args.rows.now =
-        elim c.if-not-is_taken.branch [
+    elim c.if-not-is_taken.branch [
       | then-not-is_taken+else-complete w ↦ ap g.R.Rows.columns w.rows-is ∙ w.complete.ensures.columns
-            ∙ c.loop-next.invariant.columns
+          ∙ c.loop-next.invariant.columns
       | else-not-is_taken w ↦ ap g.R.Rows.columns w.rows-is ∙ c.loop-next.invariant.columns
     ] in
     record {
@@ -197,24 +197,24 @@ loop-next-preserved g t c =
       columns = c.next-next.ensures.columns ∙ columns_now;
       tables = c.next-next.ensures.tables ∙ elim c.if-not-is_taken.branch [
         | then-not-is_taken+else-complete w ↦ ap g.R.Rows.tables w.rows-is ∙ w.complete.ensures.tables
-              ∙ c.loop-next.invariant.tables
+            ∙ c.loop-next.invariant.tables
         | else-not-is_taken w ↦ ap g.R.Rows.tables w.rows-is ∙ c.loop-next.invariant.tables
       ];
       heads = elim c.if-not-is_taken.branch [
         | then-not-is_taken+else-complete w ↦ ap length w.heads-is ∙ w.complete.ensures.lengths.0
-              ∙ length-set c.loop-next.heads _ _ ∙ h
+            ∙ length-set c.loop-next.heads _ _ ∙ h
         | else-not-is_taken w ↦ ap length w.heads-is ∙ h
       ];
       seats = elim c.if-not-is_taken.branch [
         | then-not-is_taken+else-complete w ↦ ap length w.seats-is ∙ w.complete.ensures.lengths.1
-              ∙ length-set c.loop-next.seats _ _ ∙ s
+            ∙ length-set c.loop-next.seats _ _ ∙ s
         | else-not-is_taken w ↦ ap length w.seats-is ∙ s
       ];
       same = elim c.if-not-is_taken.branch [
         | then-not-is_taken+else-complete w ↦ rw (w.heads-is, w.seats-is)
-              (same_deeper c.args.rule.now c.args.active c.args.lookups.now c.args.done c.index-lookups-done.result
-              c.args.heads.now c.loop-next.heads _ c.args.seats.now c.loop-next.seats _ _ _ c.requires.plan n
-              (sym c.index-lookups-done.is) c.loop-next.invariant.same w.complete.ensures.same)
+            (same_deeper c.args.rule.now c.args.active c.args.lookups.now c.args.done c.index-lookups-done.result
+            c.args.heads.now c.loop-next.heads _ c.args.seats.now c.loop-next.seats _ _ _ c.requires.plan n
+            (sym c.index-lookups-done.is) c.loop-next.invariant.same w.complete.ensures.same)
         | else-not-is_taken w ↦ rw (w.heads-is, w.seats-is) c.loop-next.invariant.same
       ];
       lives = rw (← rows_now) c.next-next.ensures.lives;
@@ -223,29 +223,29 @@ loop-next-preserved g t c =
           (sym c.index-lookups-done.is) c.span_of-span.result c.in-Some.row
           (bound c.next-next.result) c.span_of-span.ensures.all
           (below_next (λ q. IsWanted (g.R.Rows.columns c.args.rows.now c.index-lookups-done.result.table
-              c.index-lookups-done.result.index) (map (λ k. source_value c.args.heads.now k.source)
-              c.index-lookups-done.result.partner.key.items) c.span_of-span.result
-              (g.R.Rows.rows c.args.rows.now c.index-lookups-done.result.table q)) c.in-Some.row c.next-next.result
+          c.index-lookups-done.result.index) (map (λ k. source_value c.args.heads.now k.source)
+          c.index-lookups-done.result.partner.key.items) c.span_of-span.result
+          (g.R.Rows.rows c.args.rows.now c.index-lookups-done.result.table q)) c.in-Some.row c.next-next.result
           (newest_next _ _ c.in-Some.row c.next-next.result
-              (rw (← key, ← rows_now, ← columns_now) c.next-next.ensures.newest))
-              (none_next _ _ c.in-Some.row c.next-next.result
-              (rw (← key, ← rows_now, ← columns_now) c.next-next.ensures.none)))
+          (rw (← key, ← rows_now, ← columns_now) c.next-next.ensures.newest))
+          (none_next _ _ c.in-Some.row c.next-next.result
+          (rw (← key, ← rows_now, ← columns_now) c.next-next.ensures.none)))
           (elim c.if-not-is_taken.branch [
             | then-not-is_taken+else-complete w ↦ not_found c.args.rule.now c.args.active c.args.lookups.now c.args.done
-                  c.index-lookups-done.result _ (g.R.Rows.columns c.args.rows.now) c.args.heads.now c.args.seats.now
-                  c.requires.plan c.requires.fits n (sym c.index-lookups-done.is) _ w.read.new.atom c.loop-next.heads
-                  c.loop-next.seats (rw c.loop-next.invariant.rows at w.read.ensures) (omega (arith, w0, h))
-                  (omega (arith, w0, s)) c.loop-next.invariant.same
-                  (rw c.loop-next.invariant.rows at w.if-complete.ensures.none)
+                c.index-lookups-done.result _ (g.R.Rows.columns c.args.rows.now) c.args.heads.now c.args.seats.now
+                c.requires.plan c.requires.fits n (sym c.index-lookups-done.is) _ w.read.new.atom c.loop-next.heads
+                c.loop-next.seats (rw c.loop-next.invariant.rows at w.read.ensures) (omega (arith, w0, h))
+                (omega (arith, w0, s)) c.loop-next.invariant.same
+                (rw c.loop-next.invariant.rows at w.if-complete.ensures.none)
             | else-not-is_taken w ↦ (let v = w.if-not-is_taken.ensures.taken in
                 let g2 : v.0 < c.args.done = (let a = v.1 in omega (arith, a, many)) in
                 let same = c.loop-next.invariant.same (get_or (looked_in c.args.lookups.now) v.0 0)
-                    (inr (v.0, g2, refl)) in
+                (inr (v.0, g2, refl)) in
                 not_taken c.args.rule.now c.args.active c.args.lookups.now c.args.done c.index-lookups-done.result _
-                    (g.R.Rows.columns c.args.rows.now) c.args.heads.now c.args.seats.now c.requires.plan c.requires.fits
-                    n (sym c.index-lookups-done.is) _ v.0 g2
-                    (sym same.1 ∙ ap (seat c.loop-next.seats) (sym (places_take c.args.lookups.now c.args.done v.0 g2))
-                    ∙ v.2))
+                (g.R.Rows.columns c.args.rows.now) c.args.heads.now c.args.seats.now c.requires.plan c.requires.fits
+                n (sym c.index-lookups-done.is) _ v.0 g2
+                (sym same.1 ∙ ap (seat c.loop-next.seats) (sym (places_take c.args.lookups.now c.args.done v.0 g2))
+                ∙ v.2))
           ])
           (rw c.in-Some.is at c.loop-next.invariant.past);
     }

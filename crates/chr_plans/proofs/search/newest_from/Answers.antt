@@ -11,13 +11,13 @@ returns-in-Some-clause-none g c = rw c.in-Some.is c.at_or_below.ensures.none
 pub returns-in-None-clause-newest : goal.returns-in-None-clause-newest
 returns-in-None-clause-newest g c =
     rw c.in-None.is (newest_of_all (λ other. HasKey (g.R.Rows.columns c.args.rows.now c.args.lookup.now.table
-        c.args.lookup.now.index) c.args.key.now (g.R.Rows.rows c.args.rows.now c.args.lookup.now.table other))
+    c.args.lookup.now.index) c.args.key.now (g.R.Rows.rows c.args.rows.now c.args.lookup.now.table other))
     (λ other. LiesIn c.args.span.now (g.R.Rows.rows c.args.rows.now c.args.lookup.now.table other)) c.first.result
-        c.first.ensures.newest)
+    c.first.ensures.newest)
 
 pub returns-in-None-clause-none : goal.returns-in-None-clause-none
 returns-in-None-clause-none g c =
     rw c.in-None.is (none_of_all (λ other. HasKey (g.R.Rows.columns c.args.rows.now c.args.lookup.now.table
-        c.args.lookup.now.index) c.args.key.now (g.R.Rows.rows c.args.rows.now c.args.lookup.now.table other))
+    c.args.lookup.now.index) c.args.key.now (g.R.Rows.rows c.args.rows.now c.args.lookup.now.table other))
     (λ other. LiesIn c.args.span.now (g.R.Rows.rows c.args.rows.now c.args.lookup.now.table other)) c.first.result
-        c.first.ensures.none)
+    c.first.ensures.none)

@@ -17,4 +17,4 @@ returns-else-meets-clause-linked c =
 pub returns-else-meets-clause-passed : goal.returns-else-meets-clause-passed
 returns-else-meets-clause-passed c = λ q l.
     jumped _ c.args.rows.now c.args.range.now c.args.row _ c.link_for-link.ensures c.if-meets.ensures.none q
-        (omega (arith, l))
+    (omega (arith, l))

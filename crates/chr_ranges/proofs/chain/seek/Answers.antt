@@ -10,7 +10,7 @@ loop-at-preserved-then-not-meets c =
     let w = i.within in
     let v = c.requires.within in
     let link = read c.loop-at.chains.links.items (c.loop-at.at - 1) c.index-link.result.now
-        (omega (arith, some, w, v, many)) c.index-link.ensures in
+    (omega (arith, some, w, v, many)) c.index-link.ensures in
     let is = rw link at (i.linked (c.loop-at.at - 1) (omega (arith, some, w, v))) in
     let jump = is.jump in
     record {
@@ -24,7 +24,7 @@ loop-at-preserved-then-not-meets c =
           c.index-link.result.now.jump c.loop-at.at some (i.slot some) (omega arith)
           (λ e. (absurd (omega (arith, e))))
           (λ q l. jumped _ c.args.rows.now c.args.range.now (c.loop-at.at - 1) _ is c.if-not-meets.ensures.none q
-              (omega (arith, l))) i.above;
+          (omega (arith, l))) i.above;
     }
 
 pub returns-then-is_wanted-clause-linked : goal.returns-then-is_wanted-clause-linked
@@ -38,7 +38,7 @@ loop-at-preserved c =
     let w = i.within in
     let b = c.below-at.ensures.within in
     let size : length c.below-at.new.chains.heads.items ≡ length c.loop-at.chains.heads.items =
-        ap (λ h. length h.items) c.below-at.ensures.heads in
+    ap (λ h. length h.items) c.below-at.ensures.heads in
     record {
       as_many = c.below-at.ensures.as_many;
       heads = c.below-at.ensures.heads ∙ i.heads;

@@ -17,5 +17,5 @@ add_symbols-requires c = record {
 pub returns-in-Weight : goal.returns-in-Weight
 returns-in-Weight c =
     let P : RawClause → Type 0 = λ clause. OnOk c.add_weight.result
-        (progress_of c.add_weight.new.reader ≡ with_form (progress_of c.args.reader.now) (clause_view clause)) in
+    (progress_of c.add_weight.new.reader ≡ with_form (progress_of c.args.reader.now) (clause_view clause)) in
     subst P (sym c.in-Weight.is) c.add_weight.ensures

@@ -16,7 +16,7 @@ push_rule-requires-clause-declared c =
     let ds = declarations c.args.reader.now.program in
     let r = rule_view c.args.raw.now in
     resolved_fits ds r c.in_ok-rule.rule c.in_ok-rule.ensures
-        (rule_faultless (progress_of c.args.reader.now) r c.requires.none).0
+    (rule_faultless (progress_of c.args.reader.now) r c.requires.none).0
 
 pub push_rule-requires-clause-room : goal.push_rule-requires-clause-room
 push_rule-requires-clause-room c =

@@ -11,7 +11,7 @@ returns-then-not-branch c =
     let met = sym (inv.1 (s.name, c.without_zeros.result)) ∙ there in
     let at = rw c.without_zeros.ensures at met in
     sym (sym inv.2 ∙ one_more inv.0 symbol_view c.args.symbols.now c.loop-symbol.symbol-index _ c.loop-symbol-test.true
-        ∙ found _ _ at)
+    ∙ found _ _ at)
 
 pub loop-symbol-preserved : goal.loop-symbol-preserved
 loop-symbol-preserved c =

@@ -9,4 +9,4 @@ abbrev pub invariant-loop-symbol : goal.invariant-loop-symbol
 invariant-loop-symbol l =
     (earlier : List Symbol) × ((q : Key) → has_key q l.seen.keys ≡ among q.0.now q.1.now earlier)
     × (comes_again earlier (map symbol_view (drop l.symbol-index l.symbols)) ≡ comes_again []
-        (map symbol_view l.symbols))
+    (map symbol_view l.symbols))

@@ -16,7 +16,7 @@ returns-then-has_no_room c =
     let long = length-map c.args.symbols.now symbol_view in
     let a : declared_twice q.meaning.declarations ss ≡ false = search rules in
     let b : (nat_lt MAX_SYMBOLS (length q.meaning.declarations + length ss) || list_any symbol_over ss) ≡ true =
-        search rules in
+    search rules in
     declare_faults q ss false true a b
 
 pub returns : goal.returns
@@ -26,7 +26,7 @@ returns c =
     let long = length-map c.args.symbols.now symbol_view in
     let a : declared_twice q.meaning.declarations ss ≡ false = search rules in
     let b : (nat_lt MAX_SYMBOLS (length q.meaning.declarations + length ss) || list_any symbol_over ss) ≡ false =
-        search rules in
+    search rules in
     declare_faults q ss false false a b
 
 pub returns-then-branch : goal.returns-then-branch

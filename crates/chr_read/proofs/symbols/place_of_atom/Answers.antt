@@ -9,4 +9,4 @@ pub returns : goal.returns
 returns c =
     let a = c.args.atom.now in
     c.place_of.ensures ∙ ap (place_of (declarations c.args.program.now) a.name.now)
-        (ap length c.as_slice.ensures.value ∙ sym (length-map a.args.items term_view))
+    (ap length c.as_slice.ensures.value ∙ sym (length-map a.args.items term_view))

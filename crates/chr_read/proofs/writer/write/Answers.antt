@@ -13,11 +13,11 @@ returns c =
     let ds = declarations c.args.program.now in
     let all = map declared_view c.in_ok-all.all.items in
     let text = whole_written (string_bytes c.push_declaration.new.out) (string_bytes c.push_weights.new.out)
-        (string_bytes c.push_rules.new.out) all ds (rules_of c.args.program.now) c.in_ok-all.ensures
+    (string_bytes c.push_rules.new.out) all ds (rules_of c.args.program.now) c.in_ok-all.ensures
     (c.in_ok-push_declaration.ensures ∙ (λ i. c.new-out.ensures.bytes i
-        ++ ended_clauses (declaration_clauses (map declared_view (c.deref.ensures.value i)))))
+    ++ ended_clauses (declaration_clauses (map declared_view (c.deref.ensures.value i)))))
     (c.in_ok-push_weights.ensures ∙ ap (λ x. string_bytes c.push_declaration.new.out
-        ++ ended_clauses (weight_clauses (map declared_view x))) c.deref-2.ensures.value)
+    ++ ended_clauses (weight_clauses (map declared_view x))) c.deref-2.ensures.value)
     (c.in_ok-push_rules.ensures ∙ ap (λ x. string_bytes c.push_weights.new.out
-        ++ ended_clauses (map (rule_clause ds) x)) c.rules.ensures) in
+    ++ ended_clauses (map (rule_clause ds) x)) c.rules.ensures) in
     record { text = text; round_trip = subst (ComesBack c.args.program.now) (sym text) (round_trip c.args.program.now) }

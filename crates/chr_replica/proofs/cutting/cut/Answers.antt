@@ -13,7 +13,7 @@ loop-k-init c =
     let none : c.in_ok-leases.leases.items ≡ [] = search rules in
     let n = length c.args.atoms.now in
     subst (λ ls. AreCut (n / c.args.count) (n % c.args.count) c.args.count 0 c.args.atoms.now c.args.atoms.now
-        (parts_in ls) × AreNumbered c.args.first ls) (sym none)
+    (parts_in ls) × AreNumbered c.args.first ls) (sym none)
     (cut_first (n / c.args.count) (n % c.args.count) c.args.count c.args.atoms.now (div-add-mod n c.args.count), tt)
 
 pub loop-k-preserved : goal.loop-k-preserved
@@ -25,7 +25,7 @@ loop-k-preserved c =
     let wanted = c.if-k-more.wanted in
     let part = c.in_ok-part_of.field-0 in
     let sizes : (k < more → wanted ≡ q + 1) × (more ≤ k → wanted ≡ q) =
-        elim c.if-k-more.branch as (λ _. (k < more → wanted ≡ q + 1) × (more ≤ k → wanted ≡ q)) [
+    elim c.if-k-more.branch as (λ _. (k < more → wanted ≡ q + 1) × (more ≤ k → wanted ≡ q)) [
       | then-k-more w ↦ (λ _. w.wanted-is, λ h. absurd (let l : k < more = w.if-k-more.true in omega (arith, h, l)))
       | else-k-more w ↦ (λ h. absurd (let l : more ≤ k = w.if-k-more.false in omega (arith, h, l)), λ _. w.wanted-is)
     ] in
@@ -35,21 +35,23 @@ loop-k-preserved c =
     let lease : Lease = record { number = c.args.first + k; part = part } in
     let pushed : c.push.new.self.items ≡ ls ++ lease ∷ [] = c.in_ok-push.ensures.items in
     let cut = cut_more q more c.args.count k wanted c.args.atoms.now c.loop-k.rest.now c.split_at.result.0.now
-        c.split_at.result.1.now (parts_in ls) part c.loop-k-test.true sizes.0 sizes.1 split size bag
-        c.loop-k.invariant.0 in
+    c.split_at.result.1.now (parts_in ls) part c.loop-k-test.true sizes.0 sizes.1 split size bag
+    c.loop-k.invariant.0 in
     let numbered = numbered_more c.args.first ls lease c.loop-k.invariant.1
-        (sym (ap (λ n. c.args.first + n) c.loop-k.invariant.0.count)) in
+    (sym (ap (λ n. c.args.first + n) c.loop-k.invariant.0.count)) in
     subst (λ xs. AreCut q more c.args.count (k + 1) c.args.atoms.now c.split_at.result.1.now (parts_in xs)
-        × AreNumbered c.args.first xs) (sym pushed)
-    (subst (λ ps. AreCut q more c.args.count (k + 1) c.args.atoms.now c.split_at.result.1.now ps)
-        (sym (parts_in-push ls lease)) cut, numbered)
+    × AreNumbered c.args.first xs) (sym pushed) (
+      subst (λ ps. AreCut q more c.args.count (k + 1) c.args.atoms.now c.split_at.result.1.now ps)
+          (sym (parts_in-push ls lease)) cut,
+      numbered,
+    )
 
 pub returns-clause-sum : goal.returns-clause-sum
 returns-clause-sum c =
     let n = length c.args.atoms.now in
     let end : c.loop-k.k ≡ c.args.count = search rules in
     all_cut (n / c.args.count) (n % c.args.count) c.args.count c.loop-k.k c.args.atoms.now c.loop-k.rest.now
-        (parts_in c.loop-k.leases.items) end (mod-lt n c.requires.some) c.loop-k.invariant.0
+    (parts_in c.loop-k.leases.items) end (mod-lt n c.requires.some) c.loop-k.invariant.0
 
 pub returns-clause-count : goal.returns-clause-count
 returns-clause-count c = c.loop-k.invariant.0.count ∙ (let end : c.loop-k.k ≡ c.args.count = search rules in end)

@@ -8,4 +8,4 @@ loop-next-preserved-in_ok-push c =
     let is = IsHeard c.args.program.now in
     subst (All is) (sym c.in_ok-push.ensures.items)
     (All-append is c.loop-next.found.items (c.in_ok-heard.heard ∷ []) c.loop-next.invariant
-        (All-cons is c.in_ok-heard.heard [] c.in_ok-heard.ensures (All-nil is)))
+    (All-cons is c.in_ok-heard.heard [] c.in_ok-heard.ensures (All-nil is)))

@@ -13,7 +13,7 @@ returns g c =
     let p = c.args.program.now in
     let read = λ (piece : Piece) (o : Option (Vec Heard Global)). IfSome o (λ lines. All (IsHeard p) lines.items) in
     let slice = ap (λ it. it.base.slice.now) c.map.ensures.base ∙ ap (λ it. it.slice.now) c.with_min_len.ensures.base
-        ∙ c.par_iter.ensures in
+    ∙ c.par_iter.ensures in
     IfOk-then c.collect.result _ _ c.collect.ensures (λ v h.
     let chain = h.1 in
     subst (AreHeard p) (sym h.2)

@@ -7,5 +7,9 @@ pub returns : goal.returns
 returns g c =
     let at = c.loop-program.at in
     let none : at.left ≡ None = search rules in
-    all_answered c.args.input.now (record { service = c.args.service; out = c.args.out; left =
-        Some (length c.args.input.now) }) at refl none c.loop-program.invariant.answered
+    all_answered c.args.input.now (record {
+      service = c.args.service;
+      out = c.args.out;
+      left =
+          Some (length c.args.input.now);
+    }) at refl none c.loop-program.invariant.answered

@@ -10,7 +10,7 @@ returns-then-is_divider-clause-some c =
     let line = c.in-Some.line.now in
     let rest = c.loop-line.rest.now in
     let text : take (length c.args.input.now - length rest) c.args.input.now ≡ i.0 =
-        subst (λ b. take (length b - length rest) b ≡ i.0) (sym i.1) (take_front i.0 rest) in
+    subst (λ b. take (length b - length rest) b ≡ i.0) (sym i.1) (take_front i.0 rest) in
     record {
       front = i.0 ++ (line ++ 10 ∷ []);
       are = i.1 ∙ ap (λ r. i.0 ++ r) c.in-Some.ensures.some ∙ sym (ended_more i.0 line c.in-Some.more.now);

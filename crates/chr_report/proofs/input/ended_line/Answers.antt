@@ -21,7 +21,7 @@ returns-clause-some c =
     let found = split_at_feed bytes (omega arith) in
     let at : bytes ≡ take n bytes ++ 10 ∷ drop (n + 1) bytes = rw c.line_len-n.ensures.value found in
     at ∙ ap (λ l. take n bytes ++ 10 ∷ l) (sym (take_all _ (drop (n + 1) bytes)
-        (omega (arith, length-drop (n + 1) bytes))))
+    (omega (arith, length-drop (n + 1) bytes))))
 
 pub returns-clause-unended : goal.returns-clause-unended
 returns-clause-unended c = subst (λ n. HasNoFeed (take n c.args.bytes.now)) (sym c.line_len-n.ensures.value)

@@ -14,14 +14,17 @@ rest_board-rested-requires-clause-out g c κs within =
     let there : c.swap_board-there.result ≡ true = search rules in
     let out = c.swap_board-there.ensures.swapped there in
     subst (λ s. s.out ≡ finite.empty) out.changed.0 (ready_at
-        (shared_program c.args.world.now) c.args.world.now.replicas c.args.replica out.before c.requires
-        out.there).1.out
+    (shared_program c.args.world.now) c.args.world.now.replicas c.args.replica out.before c.requires
+    out.there).1.out
 
 pub returns-then-not-there-clause-rests : goal.returns-then-not-there-clause-rests
 returns-then-not-there-clause-rests g c =
     let none : c.swap_board-there.result ≡ false = search rules in
-    inl ((λ h. true≢false (sym (c.swap_board-there.ensures.there.1 h) ∙ none)), ap (λ x. x.replicas)
-        (c.swap_board-there.ensures.world none))
+    inl (
+      (λ h. true≢false (sym (c.swap_board-there.ensures.there.1 h) ∙ none)),
+      ap (λ x. x.replicas)
+          (c.swap_board-there.ensures.world none),
+    )
 
 pub returns-clause-rests : goal.returns-clause-rests
 returns-clause-rests g c =
@@ -33,8 +36,8 @@ returns-clause-rests g c =
     let kept = c.rest_board-rested.ensures.kept in
     let same : c.swap_board-there.new.board.accepted ≡ c.args.world.now.accepted = search rules in
     back_at_rest c.rest_board-rested.result (shared_program c.args.world.now) w u c.swap_board.new.self.replicas
-        c.args.replica c.in_ok-board.board.replica c.swap_board-there.new.board.replica
+    c.args.replica c.in_ok-board.board.replica c.swap_board-there.new.board.replica
     c.swap_board.new.board.replica c.rest_board-rested.new.board.replica out back kept.operations
     (subst (λ a. IsSound (program_in a) c.rest_board-rested.new.board.replica) same c.rest_board-rested.ensures.sound)
     (subst (λ a. OnOk c.rest_board-rested.result (IsSettled (program_in a) c.rest_board-rested.new.board.replica)) same
-        c.rest_board-rested.ensures.settled)
+    c.rest_board-rested.ensures.settled)

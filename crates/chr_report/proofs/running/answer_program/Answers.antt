@@ -10,7 +10,7 @@ pub returns : goal.returns
 returns g c =
     IfOk-then c.answer_commands.result _ _ c.answer_commands.ensures (λ out answered.
     program_answered c.args.accepted c.in_ok-service.service.world.accepted
-        (lines_left c.args.commands) _ _ c.args.wanted (held c.in_ok-service.service) _ _ c.requires.accepted
-        c.in_ok-service.ensures.program (ap length c.rules-rules.ensures
-        ∙ ap (λ p. length (rules_of p)) c.program.ensures) c.cases.ensures.number c.in_ok-text.ensures
-        c.in_ok-service.ensures.operations answered)
+    (lines_left c.args.commands) _ _ c.args.wanted (held c.in_ok-service.service) _ _ c.requires.accepted
+    c.in_ok-service.ensures.program (ap length c.rules-rules.ensures
+    ∙ ap (λ p. length (rules_of p)) c.program.ensures) c.cases.ensures.number c.in_ok-text.ensures
+    c.in_ok-service.ensures.operations answered)

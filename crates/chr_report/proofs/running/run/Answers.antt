@@ -11,27 +11,27 @@ returns-in-Ok-clause-ok g c =
     let output = c.in_ok-output.output in
     let read : c.deref.result.now ≡ c.in_ok-input.input.items = search rules in
     let judged : IsOutput c.args.settings.command c.from_settings.result c.in_ok-input.input.items output.status
-        (string_bytes output.text) = subst (λ i. IsOutput c.args.settings.command c.from_settings.result i output.status
-        (string_bytes output.text)) read c.in_ok-output.ensures in
+    (string_bytes output.text) = subst (λ i. IsOutput c.args.settings.command c.from_settings.result i output.status
+    (string_bytes output.text)) read c.in_ok-output.ensures in
     let is : IsOutput c.args.settings.command (wanted_by c.args.settings) c.in_ok-input.input.items output.status
-        (string_bytes output.text) = subst (λ w. IsOutput c.args.settings.command w c.in_ok-input.input.items
-        output.status (string_bytes output.text)) c.from_settings.ensures judged in
+    (string_bytes output.text) = subst (λ w. IsOutput c.args.settings.command w c.in_ok-input.input.items
+    output.status (string_bytes output.text)) c.from_settings.ensures judged in
     whole_written (g.W.Write.contents (inner_of c.args.writer.now))
-        (g.W.Write.contents (inner_of c.write_whole.new.writer)) (g.R.Read.remaining (inner_of c.args.reader.now))
+    (g.W.Write.contents (inner_of c.write_whole.new.writer)) (g.R.Read.remaining (inner_of c.args.reader.now))
     c.args.settings.command (wanted_by c.args.settings) c.in_ok-input.input.items c.as_bytes.result.now
-        (string_bytes output.text) output.status c.in_ok-input.ensures.ok is (search rules) c.in-Ok.ensures.ok
+    (string_bytes output.text) output.status c.in_ok-input.ensures.ok is (search rules) c.in-Ok.ensures.ok
 
 pub returns-clause-err : goal.returns-clause-err
 returns-clause-err g c =
     let output = c.in_ok-output.output in
     let read : c.deref.result.now ≡ c.in_ok-input.input.items = search rules in
     let judged : IsOutput c.args.settings.command c.from_settings.result c.in_ok-input.input.items output.status
-        (string_bytes output.text) = subst (λ i. IsOutput c.args.settings.command c.from_settings.result i output.status
-        (string_bytes output.text)) read c.in_ok-output.ensures in
+    (string_bytes output.text) = subst (λ i. IsOutput c.args.settings.command c.from_settings.result i output.status
+    (string_bytes output.text)) read c.in_ok-output.ensures in
     let is : IsOutput c.args.settings.command (wanted_by c.args.settings) c.in_ok-input.input.items output.status
-        (string_bytes output.text) = subst (λ w. IsOutput c.args.settings.command w c.in_ok-input.input.items
-        output.status (string_bytes output.text)) c.from_settings.ensures judged in
+    (string_bytes output.text) = subst (λ w. IsOutput c.args.settings.command w c.in_ok-input.input.items
+    output.status (string_bytes output.text)) c.from_settings.ensures judged in
     part_written (g.W.Write.contents (inner_of c.args.writer.now))
-        (g.W.Write.contents (inner_of c.write_whole.new.writer)) (g.R.Read.remaining (inner_of c.args.reader.now))
+    (g.W.Write.contents (inner_of c.write_whole.new.writer)) (g.R.Read.remaining (inner_of c.args.reader.now))
     c.args.settings.command (wanted_by c.args.settings) c.in_ok-input.input.items c.as_bytes.result.now
-        (string_bytes output.text) output.status c.in_ok-input.ensures.ok is (search rules) c.in-Err.ensures.err
+    (string_bytes output.text) output.status c.in_ok-input.ensures.ok is (search rules) c.in-Err.ensures.err

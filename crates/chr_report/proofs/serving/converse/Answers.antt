@@ -25,9 +25,9 @@ returns-in_err-answer_chunk-clause-err g c =
     let new = W.sent c.answer_chunk.new.wire in
     let part : AnswersPart (declarations (served start)) (rules_of (served start)) first (held start) old new =
     subst (λ l. AnswersPart (declarations (served start)) (rules_of (served start)) (l ++ first) (held start) old new)
-        c.new-line.ensures.items c.in_err-answer_chunk.ensures.err in
+    c.new-line.ensures.items c.in_err-answer_chunk.ensures.err in
     on_err c.from_residual.result (breaks_first _ _ c.answers_exist.ensures (weighed_of start.world.accepted).lowers
-        first (W.unread c.args.wire.now) (held start) old new part)
+    first (W.unread c.args.wire.now) (held start) old new part)
 
 pub returns-in_err-n-clause-err : goal.returns-in_err-n-clause-err
 returns-in_err-n-clause-err g c =
@@ -38,9 +38,9 @@ returns-in_err-n-clause-err g c =
     let old = W.sent c.args.wire.now in
     on_err c.from_residual-in_err-n.result
     (subst (λ n. AnswersInput (declarations (served start)) (rules_of (served start)) first from (held start)
-        (AppendsPart old n)) (sym c.wait.ensures.kept)
+    (AppendsPart old n)) (sym c.wait.ensures.kept)
     (stops _ _ c.answers_exist.ensures (weighed_of start.world.accepted).lowers first _ from _
-        (held start) _ old _ c.loop-turn.invariant.answered.read))
+    (held start) _ old _ c.loop-turn.invariant.answered.read))
 
 pub returns-then-n-eq0-clause-ok : goal.returns-then-n-eq0-clause-ok
 returns-then-n-eq0-clause-ok g c =
@@ -58,23 +58,23 @@ returns-then-n-eq0-clause-ok g c =
     let middle = W.sent c.loop-turn.wire in
     let new = W.sent c.send_answer.new.wire in
     let s : AnswersFrontRead (declarations (served start)) (rules_of (served start)) first from to whole
-        (held start) mid old middle =
+    (held start) mid old middle =
     at_end _ _ first whole c.wait.new.buf c.in_ok-n.n from _ to (held start) mid old middle c.if-n-eq0.true
-        c.loop-turn.invariant.answered.read c.in_ok-n.ensures.bytes.0 in
+    c.loop-turn.invariant.answered.read c.in_ok-n.ensures.bytes.0 in
     if_ok c.send_answer.result (λ _ w.
     let at : SendsAnswer (declarations (served start)) (rules_of (served start)) c.deref.result.now mid now
-        (Appends (W.sent c.wait.new.self) new) =
+    (Appends (W.sent c.wait.new.self) new) =
     subst (λ a. SendsAnswer (declarations (program_in a)) (rules_of (program_in a)) c.deref.result.now mid now
-        (Appends (W.sent c.wait.new.self) new)) c.loop-turn.invariant.program w in
+    (Appends (W.sent c.wait.new.self) new)) c.loop-turn.invariant.program w in
     let is : SendsAnswer (declarations (served start)) (rules_of (served start)) line mid now
-        (Appends (W.sent c.wait.new.self) new) =
+    (Appends (W.sent c.wait.new.self) new) =
     subst (λ l. SendsAnswer (declarations (served start)) (rules_of (served start)) l mid now
-        (Appends (W.sent c.wait.new.self) new)) c.deref.ensures.value at in
+    (Appends (W.sent c.wait.new.self) new)) c.deref.ensures.value at in
     ended _ _ first whole from to (held start) mid now old middle new s
-        (c.in_ok-n.ensures.bytes.1 c.if-n-eq0.true (omega arith))
+    (c.in_ok-n.ensures.bytes.1 c.if-n-eq0.true (omega arith))
     (sends_for _ _ line whole mid now (Appends middle new) stands
     (subst (λ m. SendsAnswer (declarations (served start)) (rules_of (served start)) line mid now (Appends m new))
-        c.wait.ensures.kept is))) c.send_answer.ensures.ok
+    c.wait.ensures.kept is))) c.send_answer.ensures.ok
 
 pub returns-then-n-eq0-clause-err : goal.returns-then-n-eq0-clause-err
 returns-then-n-eq0-clause-err g c =
@@ -91,22 +91,22 @@ returns-then-n-eq0-clause-err g c =
     let middle = W.sent c.loop-turn.wire in
     let new = W.sent c.send_answer.new.wire in
     let s : AnswersFrontRead (declarations (served start)) (rules_of (served start)) first from to whole
-        (held start) mid old middle =
+    (held start) mid old middle =
     at_end _ _ first whole c.wait.new.buf c.in_ok-n.n from _ to (held start) mid old middle c.if-n-eq0.true
-        c.loop-turn.invariant.answered.read c.in_ok-n.ensures.bytes.0 in
+    c.loop-turn.invariant.answered.read c.in_ok-n.ensures.bytes.0 in
     if_err c.send_answer.result (λ w.
     let at : IsCut (declarations (served start)) (rules_of (served start)) c.deref.result.now mid
-        (W.sent c.wait.new.self) new =
+    (W.sent c.wait.new.self) new =
     subst (λ a. IsCut (declarations (program_in a)) (rules_of (program_in a)) c.deref.result.now mid
-        (W.sent c.wait.new.self) new) c.loop-turn.invariant.program w in
+    (W.sent c.wait.new.self) new) c.loop-turn.invariant.program w in
     let is : IsCut (declarations (served start)) (rules_of (served start)) line mid (W.sent c.wait.new.self) new =
     subst (λ l. IsCut (declarations (served start)) (rules_of (served start)) l mid (W.sent c.wait.new.self) new)
-        c.deref.ensures.value at in
+    c.deref.ensures.value at in
     ends_early _ _ c.answers_exist.ensures (weighed_of start.world.accepted).lowers first whole from to
-        (held start) mid old middle new s (c.in_ok-n.ensures.bytes.1 c.if-n-eq0.true (omega arith))
+    (held start) mid old middle new s (c.in_ok-n.ensures.bytes.1 c.if-n-eq0.true (omega arith))
     (cut_for _ _ line whole mid middle new stands
     (subst (λ m. IsCut (declarations (served start)) (rules_of (served start)) line mid m new) c.wait.ensures.kept is)))
-        c.send_answer.ensures.err
+    c.send_answer.ensures.err
 
 pub returns-in_err-answer_chunk-2-clause-err : goal.returns-in_err-answer_chunk-2-clause-err
 returns-in_err-answer_chunk-2-clause-err g c =
@@ -121,14 +121,14 @@ returns-in_err-answer_chunk-2-clause-err g c =
     let middle = W.sent c.loop-turn.wire in
     let new = W.sent c.answer_chunk-in-loop-turn.new.wire in
     let at : AnswersPart (declarations (served start)) (rules_of (served start)) (line ++ bytes) mid
-        (W.sent c.wait.new.self) new =
+    (W.sent c.wait.new.self) new =
     subst (λ a. AnswersPart (declarations (program_in a)) (rules_of (program_in a)) (line ++ bytes) mid
-        (W.sent c.wait.new.self) new) c.loop-turn.invariant.program c.in_err-answer_chunk-2.ensures.err in
+    (W.sent c.wait.new.self) new) c.loop-turn.invariant.program c.in_err-answer_chunk-2.ensures.err in
     on_err c.from_residual-in_err-answer_chunk-2.result
     (holds_part _ _ c.answers_exist.ensures (weighed_of start.world.accepted).lowers first bytes line from _ _
-        (held start) mid old middle new c.loop-turn.invariant.answered c.in_ok-n.ensures.bytes.0
+    (held start) mid old middle new c.loop-turn.invariant.answered c.in_ok-n.ensures.bytes.0
     (subst (λ m. AnswersPart (declarations (served start)) (rules_of (served start)) (line ++ bytes) mid m new)
-        c.wait.ensures.kept at))
+    c.wait.ensures.kept at))
 
 pub loop-turn-preserved : goal.loop-turn-preserved
 loop-turn-preserved g c =
@@ -147,19 +147,19 @@ loop-turn-preserved g c =
     let middle = W.sent c.loop-turn.wire in
     let new = W.sent after.wire in
     let at : AnswersChunk (declarations (served start)) (rules_of (served start)) (line ++ bytes) left mid now
-        (W.sent c.wait.new.self) new =
+    (W.sent c.wait.new.self) new =
     subst (λ a. AnswersChunk (declarations (program_in a)) (rules_of (program_in a)) (line ++ bytes) left mid now
-        (W.sent c.wait.new.self) new) c.loop-turn.invariant.program c.in_ok-answer_chunk-2.ensures.ok in
+    (W.sent c.wait.new.self) new) c.loop-turn.invariant.program c.in_ok-answer_chunk-2.ensures.ok in
     record {
       program = c.answer_chunk-in-loop-turn.ensures.program ∙ c.loop-turn.invariant.program;
       ready = c.in_ok-answer_chunk-2.ensures.ready;
       answered = subst (λ u. HoldsRead (declarations (served start)) (rules_of (served start)) first from u cut
           (held start) now old new) (sym c.in_ok-answer_chunk-2.ensures.kept)
           (holds_more _ _ first bytes line left cut from _ _ (held start) mid now old middle new
-              c.loop-turn.invariant.answered c.in_ok-n.ensures.bytes.0
+          c.loop-turn.invariant.answered c.in_ok-n.ensures.bytes.0
           (subst (λ m. AnswersChunk (declarations (served start)) (rules_of (served start))
-              (line ++ bytes) left mid now m new) c.wait.ensures.kept at) c.shorten.ensures.stands
-              (c.shorten.ensures.unended c.in_ok-answer_chunk-2.ensures.ok.unended));
+          (line ++ bytes) left mid now m new) c.wait.ensures.kept at) c.shorten.ensures.stands
+          (c.shorten.ensures.unended c.in_ok-answer_chunk-2.ensures.ok.unended));
       whole = search rules;
     }
 
@@ -171,6 +171,6 @@ returns-clause-err g c =
     let from = W.unread c.args.wire.now in
     let old = W.sent c.args.wire.now in
     subst (λ n. AnswersInput (declarations (served start)) (rules_of (served start)) first from (held start)
-        (AppendsPart old n)) (sym c.fail.ensures.sent)
+    (AppendsPart old n)) (sym c.fail.ensures.sent)
     (stops _ _ c.answers_exist.ensures (weighed_of start.world.accepted).lowers first _ from _
-        (held start) _ old _ c.loop-turn.invariant.answered.read)
+    (held start) _ old _ c.loop-turn.invariant.answered.read)

@@ -18,13 +18,13 @@ returns-clause-err g c =
     let new = g.T.Wire.sent c.send.new.self in
     let empty : string_bytes c.new-out.result ≡ [] = search rules in
     let answer : AnswersLine (declarations (served start)) (rules_of (served start)) (held start)
-        (without_return c.args.line.now) [] now text =
+    (without_return c.args.line.now) [] now text =
     subst (λ l. AnswersLine (declarations (served start)) (rules_of (served start)) (held start) l [] now text)
-        c.without_return.ensures
+    c.without_return.ensures
     (subst (λ b. AnswersLine (declarations (served start)) (rules_of (served start))
-        (held start) c.without_return.result.now b now text) empty c.in_ok-answer_line.ensures.answer) in
+    (held start) c.without_return.result.now b now text) empty c.in_ok-answer_line.ensures.answer) in
     if_err c.send.result (λ w.
     let s : SendsAnswer (declarations (served start)) (rules_of (served start)) c.args.line.now (held start) now
-        (AppendsPart old new) =
+    (AppendsPart old new) =
     record { text = text; answer = answer; is_written = subst (AppendsPart old new) c.as_bytes.ensures.value w } in
     inr (now, s)) c.send.ensures.err

@@ -8,4 +8,4 @@ pub returns-clause-err : goal.returns-clause-err
 returns-clause-err g c =
     let W = g.T.Wire in
     if_err c.serve_wanted.result (λ h. subst (λ w. WritesBeginning (W.unread c.args.wire.now) (W.sent c.args.wire.now)
-        (W.sent c.serve_wanted.new.wire) Run w) c.from_settings.ensures h) c.serve_wanted.ensures.err
+    (W.sent c.serve_wanted.new.wire) Run w) c.from_settings.ensures h) c.serve_wanted.ensures.err

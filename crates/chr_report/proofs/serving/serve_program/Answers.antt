@@ -23,11 +23,11 @@ returns-in_err-send-clause-err g c =
     let new = g.T.Wire.sent c.send.new.self in
     let opened : IsOpened (program_in a) c.args.wanted start verdict =
     program_opened a _ _ c.args.wanted start verdict c.requires.accepted
-        (ap length c.rules.ensures ∙ ap (λ p. length (rules_of p)) c.program.ensures) c.cases.ensures.number
-        c.in_ok-line.ensures c.in_ok-service.ensures.operations in
+    (ap length c.rules.ensures ∙ ap (λ p. length (rules_of p)) c.program.ensures) c.cases.ensures.number
+    c.in_ok-line.ensures c.in_ok-service.ensures.operations in
     on_err c.from_residual-in_err-send.result
     (verdict_part (program_in a) c.args.wanted start verdict opened c.answers_exist.ensures
-        (weighed_of a).lowers c.args.first.now (g.T.Wire.unread c.args.wire.now) old new
+    (weighed_of a).lowers c.args.first.now (g.T.Wire.unread c.args.wire.now) old new
     (subst (AppendsPart old new) c.as_bytes.ensures.value c.in_err-send.ensures.err))
 
 pub converse-requires-clause-prompt : goal.converse-requires-clause-prompt
@@ -42,17 +42,17 @@ converse-requires-clause-prompt g c κs within w line now s =
     let mid = W.sent c.send.new.self in
     let opened : IsOpened (program_in a) c.args.wanted start verdict =
     program_opened a _ _ c.args.wanted start verdict c.requires.accepted
-        (ap length c.rules.ensures ∙ ap (λ p. length (rules_of p)) c.program.ensures) c.cases.ensures.number
-        c.in_ok-line.ensures c.in_ok-service.ensures.operations in
+    (ap length c.rules.ensures ∙ ap (λ p. length (rules_of p)) c.program.ensures) c.cases.ensures.number
+    c.in_ok-line.ensures c.in_ok-service.ensures.operations in
     let wrote : Appends old mid verdict = subst (Appends old mid) c.as_bytes.ensures.value c.in_ok-send.ensures.ok in
     let read : AnswersFrontRead (declarations (program_in a)) (rules_of (program_in a)) first from
-        (W.unread w) line start now mid (W.sent w) =
+    (W.unread w) line start now mid (W.sent w) =
     subst (λ x. AnswersFrontRead (declarations (program_in x)) (rules_of (program_in x)) first from
-        (W.unread w) line start now mid (W.sent w)) c.in_ok-service.ensures.program s in
+    (W.unread w) line start now mid (W.sent w)) c.in_ok-service.ensures.program s in
     c.requires.prompt w (subst (λ u. AnswersCommands (Ok (program_in a)) c.args.wanted first u (W.unread w) old
-        (W.sent w)) c.in_ok-send.ensures.kept
+    (W.sent w)) c.in_ok-send.ensures.kept
     (commands_answered (program_in a) c.args.wanted start verdict opened first line from (W.unread w) now old mid
-        (W.sent w) wrote read))
+    (W.sent w) wrote read))
 
 pub returns-clause-ok : goal.returns-clause-ok
 returns-clause-ok g c =
@@ -67,15 +67,15 @@ returns-clause-ok g c =
     let new = W.sent c.converse.new.wire in
     let opened : IsOpened (program_in a) c.args.wanted start verdict =
     program_opened a _ _ c.args.wanted start verdict c.requires.accepted
-        (ap length c.rules.ensures ∙ ap (λ p. length (rules_of p)) c.program.ensures) c.cases.ensures.number
-        c.in_ok-line.ensures c.in_ok-service.ensures.operations in
+    (ap length c.rules.ensures ∙ ap (λ p. length (rules_of p)) c.program.ensures) c.cases.ensures.number
+    c.in_ok-line.ensures c.in_ok-service.ensures.operations in
     let wrote : Appends old mid verdict = subst (Appends old mid) c.as_bytes.ensures.value c.in_ok-send.ensures.ok in
     if_ok c.converse.result (λ _ s.
     subst (λ u. WritesText (λ answer. answer ≡ Ok (program_in a)) first u c.args.wanted Accepted (Appends old new))
-        c.in_ok-send.ensures.kept
+    c.in_ok-send.ensures.kept
     (program_served (program_in a) c.args.wanted start verdict opened first from old mid new wrote
     (subst (λ x. AnswersInput (declarations (program_in x)) (rules_of (program_in x)) first from start
-        (Appends mid new)) c.in_ok-service.ensures.program s))) c.converse.ensures.ok
+    (Appends mid new)) c.in_ok-service.ensures.program s))) c.converse.ensures.ok
 
 pub returns-clause-err : goal.returns-clause-err
 returns-clause-err g c =
@@ -90,12 +90,12 @@ returns-clause-err g c =
     let new = W.sent c.converse.new.wire in
     let opened : IsOpened (program_in a) c.args.wanted start verdict =
     program_opened a _ _ c.args.wanted start verdict c.requires.accepted
-        (ap length c.rules.ensures ∙ ap (λ p. length (rules_of p)) c.program.ensures) c.cases.ensures.number
-        c.in_ok-line.ensures c.in_ok-service.ensures.operations in
+    (ap length c.rules.ensures ∙ ap (λ p. length (rules_of p)) c.program.ensures) c.cases.ensures.number
+    c.in_ok-line.ensures c.in_ok-service.ensures.operations in
     let wrote : Appends old mid verdict = subst (Appends old mid) c.as_bytes.ensures.value c.in_ok-send.ensures.ok in
     if_err c.converse.result (λ s.
     subst (λ u. WritesTextPart (λ answer. answer ≡ Ok (program_in a)) first u c.args.wanted old new)
-        c.in_ok-send.ensures.kept
+    c.in_ok-send.ensures.kept
     (program_part (program_in a) c.args.wanted start verdict opened first from old mid new wrote
     (subst (λ x. AnswersInput (declarations (program_in x)) (rules_of (program_in x)) first from start
-        (AppendsPart mid new)) c.in_ok-service.ensures.program s))) c.converse.ensures.err
+    (AppendsPart mid new)) c.in_ok-service.ensures.program s))) c.converse.ensures.err

@@ -20,13 +20,13 @@ returns-clause-stands c =
     let long : 1048577 + 1 < length line = omega (arith, first, more) in
     let blank : c.is_blank.result ≡ is_blank_line (between line 1048577) =
     c.is_blank.ensures ∙ ap (λ l. is_blank_line (take (c.len-end.result - 1 - 1048577) (drop 1048577 l))) all
-        ∙ ap (λ n. is_blank_line (take (n - 1 - 1048577) (drop 1048577 line))) len in
+    ∙ ap (λ n. is_blank_line (take (n - 1 - 1048577) (drop 1048577 line))) len in
     subst (λ cut. StandsFor cut line) (sym c.truncate.ensures.items)
     (shortened line 1048577 kept (omega arith) long
     (λ e. elim c.if-is_blank.branch as (λ _. kept ≡ last_of line) [
       | then-is_blank w ↦ (let k : kept ≡ last_of line = w.kept-is ∙ w.index.ensures
-            ∙ get_or_default_zero line (c.len-end.result - 1) w.index.result.now (omega (arith, len, long))
-            ∙ ap (λ n. slice_index_or line (n - 1) 0) len in k)
+          ∙ get_or_default_zero line (c.len-end.result - 1) w.index.result.now (omega (arith, len, long))
+          ∙ ap (λ n. slice_index_or line (n - 1) 0) len in k)
       | else-is_blank w ↦ absurd (true≢false (sym (blank ∙ e) ∙ w.if-is_blank.false))
     ])
     (λ e. elim c.if-is_blank.branch as (λ _. kept ≡ 120) [
@@ -46,7 +46,7 @@ returns-clause-unended c none =
     (shortened_none line 1048577 kept long none
     (elim c.if-is_blank.branch as (λ _. (kept ≡ last_of line) ⊎ (kept ≡ 120)) [
       | then-is_blank w ↦ inl (let k : kept ≡ last_of line = w.kept-is ∙ w.index.ensures
-            ∙ get_or_default_zero line (c.len-end.result - 1) w.index.result.now (omega (arith, len, long))
-            ∙ ap (λ n. slice_index_or line (n - 1) 0) len in k)
+          ∙ get_or_default_zero line (c.len-end.result - 1) w.index.result.now (omega (arith, len, long))
+          ∙ ap (λ n. slice_index_or line (n - 1) 0) len in k)
       | else-is_blank w ↦ inr w.kept-is
     ]))

@@ -14,7 +14,7 @@ use Rattle.chr_rewrite.proofs.choose.+complete.Goals.{else-has_shape_at-via-else
 pub complete-requires : goal.complete-requires
 complete-requires t c =
     let left = place_left _ _ _ _ c.len-place.ensures.value c.places.ensures.places c.if-place-places.false
-        c.requires.room in
+    c.requires.room in
     let same = ap length c.loop-i.invariant.same in
     let len = c.push.ensures.len in (
       omega (arith, left, same, len),
@@ -22,7 +22,7 @@ complete-requires t c =
         next_choice c.args.items.now c.loop-i.chosen.items _ c.loop-i.i-counter
             (rw c.loop-i.invariant.same c.requires.choice) c.loop-i-test.true
             (ap (list_any (λ j. nat_eq j c.loop-i.i-counter)) (sym c.deref-then-has_shape_at.ensures.0)
-                ∙ sym c.contains.ensures.value ∙ c.if-not-contains.true) c.push.ensures.items,
+            ∙ sym c.contains.ensures.value ∙ c.if-not-contains.true) c.push.ensures.items,
         omega (arith, left, same, len),
       ),
     )
@@ -31,27 +31,27 @@ pub loop-i-preserved : goal.loop-i-preserved
 loop-i-preserved t c = record {
   same = elim c.if-has_shape_at.branch [
     | then-has_shape_at+then-not-contains+else-complete w ↦ ap (λ v. v.items) w.chosen-is
-          ∙ dropped _ _ _ _ (w.if-complete.ensures.same ∙ w.push.ensures.items) w.pop.ensures.rest
-          ∙ c.loop-i.invariant.same
+        ∙ dropped _ _ _ _ (w.if-complete.ensures.same ∙ w.push.ensures.items) w.pop.ensures.rest
+        ∙ c.loop-i.invariant.same
     | else-has_shape_at w ↦ ap (λ v. v.items) w.chosen-is ∙ c.loop-i.invariant.same
   ];
   none = elim c.if-has_shape_at.branch [
     | then-has_shape_at+then-not-contains+else-complete w ↦ tried_chosen c.args.rule.now c.args.items.now
-          c.args.chosen.now.items c.loop-i.i-counter c.loop-i.invariant.none
-          (rw (w.push.ensures.items, c.loop-i.invariant.same) at w.if-complete.ensures.none)
+        c.args.chosen.now.items c.loop-i.i-counter c.loop-i.invariant.none
+        (rw (w.push.ensures.items, c.loop-i.invariant.same) at w.if-complete.ensures.none)
     | else-has_shape_at w ↦ elim w.else-has_shape_at.branch [
       | else-has_shape_at-via-then-has_shape_at+else-not-contains w' ↦ tried_taken c.args.rule.now c.args.items.now
-            c.args.chosen.now.items c.loop-i.i-counter c.loop-i.invariant.none
+          c.args.chosen.now.items c.loop-i.i-counter c.loop-i.invariant.none
           (ap (list_any (λ j. nat_eq j c.loop-i.i-counter))
-              (sym c.loop-i.invariant.same ∙ sym w'.deref-then-has_shape_at.ensures.0) ∙ sym w'.contains.ensures.value
-              ∙ w'.if-not-contains.false)
+          (sym c.loop-i.invariant.same ∙ sym w'.deref-then-has_shape_at.ensures.0) ∙ sym w'.contains.ensures.value
+          ∙ w'.if-not-contains.false)
       | else-has_shape_at-via-else-has_shape_at w' ↦ (let left =
-            place_left _ _ _ _ c.len-place.ensures.value c.places.ensures.places c.if-place-places.false
-            c.requires.room in
+          place_left _ _ _ _ c.len-place.ensures.value c.places.ensures.places c.if-place-places.false
+          c.requires.room in
           shape_missed c.args.rule.now c.args.items.now c.args.chosen.now.items c.args.chosen.now.items
-              c.loop-i.i-counter c.len-place.result c.index-items-i.result c.has_shape_at.result c.loop-i.invariant.none
-              refl c.len-place.ensures.value left c.loop-i-test.true c.index-items-i.is c.has_shape_at.ensures
-              w'.if-has_shape_at.false)
+          c.loop-i.i-counter c.len-place.result c.index-items-i.result c.has_shape_at.result c.loop-i.invariant.none
+          refl c.len-place.ensures.value left c.loop-i-test.true c.index-items-i.is c.has_shape_at.ensures
+          w'.if-has_shape_at.false)
     ]
   ];
 }
@@ -68,6 +68,6 @@ returns-then-place-places-clause-first t c = OnTrue_from c.fires.result _
 pub returns-then-complete-clause-first : goal.returns-then-complete-clause-first
 returns-then-complete-clause-first t c =
     first_of_next c.args.rule.now c.args.items.now c.args.chosen.now.items c.complete.new.chosen.items
-        c.loop-i.i-counter c.loop-i.invariant.none (λ e. c.if-place-places.false
-        (c.len-place.ensures.value ∙ e ∙ sym c.places.ensures.places))
+    c.loop-i.i-counter c.loop-i.invariant.none (λ e. c.if-place-places.false
+    (c.len-place.ensures.value ∙ e ∙ sym c.places.ensures.places))
     (rw (c.push.ensures.items, c.loop-i.invariant.same) at c.if-complete.ensures.first)

@@ -6,8 +6,8 @@ use Rattle.chr_rewrite.proofs.plain.least_step.Goals as goal
 pub returns-in-Some-clause-least : goal.returns-in-Some-clause-least
 returns-in-Some-clause-least c =
     least_of c.args.rules.now c.loop-i.i c.index-rules-i.result c.args.bag.now c.atoms.result.now
-        (record { rule = c.loop-i.i + 1; heads = c.in-Some.heads }) c.loop-i-test.true c.index-rules-i.is
-        c.atoms.ensures c.loop-i.invariant refl
+    (record { rule = c.loop-i.i + 1; heads = c.in-Some.heads }) c.loop-i-test.true c.index-rules-i.is
+    c.atoms.ensures c.loop-i.invariant refl
     c.in-Some.ensures.instance c.in-Some.ensures.there c.in-Some.ensures.least
 
 pub loop-i-preserved : goal.loop-i-preserved

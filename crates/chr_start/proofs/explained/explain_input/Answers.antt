@@ -13,7 +13,7 @@ returns-clause-ok g c =
     let read : c.deref.result.now ≡ input = search rules in
     let same : c.coverage_of-coverage.result ≡ coverage_for c.args.wide = c.coverage_of-coverage.ensures in
     verdict_ends (coverage_for c.args.wide) (g.R.Read.remaining (reader_of c.args.streams.now)) text input
-        c.in_ok-explanation.explanation.verdict c.status_of.result
+    c.in_ok-explanation.explanation.verdict c.status_of.result
     c.in_ok-input.ensures.ok (subst (λ i. text ≡ text_of (lines i)) read c.program_text.ensures)
-        (subst (λ k. IsVerdict k text c.in_ok-explanation.explanation.verdict) same c.in_ok-explanation.ensures.verdict)
-        c.status_of.ensures
+    (subst (λ k. IsVerdict k text c.in_ok-explanation.explanation.verdict) same c.in_ok-explanation.ensures.verdict)
+    c.status_of.ensures

@@ -15,7 +15,7 @@ loop-i-preserved c =
     let n = length_entries c.loop-i.indexes in
     let m = length_rooms c.loop-i.indexes in
     let here = ap length (sym (entries_at c.loop-i.indexes c.loop-i.i c.index-indexes-i.result (omega (arith, g, len)))
-        ∙ c.loop-i.invariant.left c.loop-i.i (omega arith)) in
+    ∙ c.loop-i.invariant.left c.loop-i.i (omega arith)) in
     let fits = c.clear.ensures.fits in
     record {
       len = length-set c.loop-i.indexes _ _ ∙ len;
@@ -27,15 +27,16 @@ loop-i-preserved c =
       fits = λ j h. (rw (rooms_set c.loop-i.indexes c.loop-i.i)
           (elim (cases_lt j c.loop-i.i) as (λ _. length (get_or (keyed_entries c.args.indexes.now) j []) ≤ get_or
           (set (rooms_of c.loop-i.indexes) c.loop-i.i (room_in c.clear.new.self)) j 0) [
-        | inl less ↦ (let e = get_or-set_other (rooms_of c.loop-i.indexes) c.loop-i.i j (room_in c.clear.new.self) 0
-              (λ p. (absurd (omega (arith, p, less)))) in let d = c.loop-i.invariant.fits j less in omega (arith, e, d))
-        | inr most ↦ (let p : j ≡ c.loop-i.i = omega (arith, h, most) in
-            let e = ap (λ k. get_or (set (rooms_of c.loop-i.indexes) c.loop-i.i (room_in c.clear.new.self)) k 0) p
+            | inl less ↦ (let e = get_or-set_other (rooms_of c.loop-i.indexes) c.loop-i.i j (room_in c.clear.new.self) 0
+                (λ p. (absurd (omega (arith, p, less)))) in let d = c.loop-i.invariant.fits j less in
+                omega (arith, e, d))
+            | inr most ↦ (let p : j ≡ c.loop-i.i = omega (arith, h, most) in
+                let e = ap (λ k. get_or (set (rooms_of c.loop-i.indexes) c.loop-i.i (room_in c.clear.new.self)) k 0) p
                 ∙ get_or-set_same (rooms_of c.loop-i.indexes) c.loop-i.i (room_in c.clear.new.self) 0
                 (omega (arith, m, g, len)) in
-            let q = ap (λ k. length (get_or (keyed_entries c.args.indexes.now) k [])) p in
-            omega (arith, e, here, fits, q))
-      ]));
+                let q = ap (λ k. length (get_or (keyed_entries c.args.indexes.now) k [])) p in
+                omega (arith, e, here, fits, q))
+          ]));
       left = λ j h. (rw (entries_set c.loop-i.indexes c.loop-i.i)
           (left_more _ _ [] c.loop-i.i _ c.loop-i.invariant.left j h));
     }

@@ -16,5 +16,5 @@ loop-row-preserved c =
       rows = entered_more c.args.atoms.now (ways_of c.args.indexes.now) (keyed_entries c.loop-row.indexes)
           (keyed_entries c.push_in.new.indexes) c.loop-row.row c.atom.result (omega (arith, g))
           (c.atom.ensures c.atom.result) c.loop-row.invariant.rows
-              (λ j l. (rw ways at (c.push_in.ensures.rows j (omega (arith, l, m, n)))));
+          (λ j l. (rw ways at (c.push_in.ensures.rows j (omega (arith, l, m, n)))));
     }

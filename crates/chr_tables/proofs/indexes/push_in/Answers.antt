@@ -16,9 +16,9 @@ push-requires-clause-room c =
     let g = c.loop-i-test.true in
     let len = c.loop-i.invariant.len in
     let here = ap length (sym (entries_at c.loop-i.indexes c.loop-i.i c.index-indexes-i-in-loop-i.result
-        (omega (arith, g, len))) ∙ c.loop-i.invariant.left c.loop-i.i (omega arith)) in
+    (omega (arith, g, len))) ∙ c.loop-i.invariant.left c.loop-i.i (omega arith)) in
     let room = sym (rooms_at c.loop-i.indexes c.loop-i.i c.index-indexes-i-in-loop-i.result (omega (arith, g, len)))
-        ∙ ap (λ xs. get_or xs c.loop-i.i 0) c.loop-i.invariant.rooms in
+    ∙ ap (λ xs. get_or xs c.loop-i.i 0) c.loop-i.invariant.rooms in
     let r = c.requires.room c.loop-i.i (omega (arith, g, len)) in
     omega (arith, here, room, r)
 
@@ -27,7 +27,7 @@ push-requires-clause-few c =
     let g = c.loop-i-test.true in
     let len = c.loop-i.invariant.len in
     let here = ap length (sym (entries_at c.loop-i.indexes c.loop-i.i c.index-indexes-i-in-loop-i.result
-        (omega (arith, g, len))) ∙ c.loop-i.invariant.left c.loop-i.i (omega arith)) in
+    (omega (arith, g, len))) ∙ c.loop-i.invariant.left c.loop-i.i (omega arith)) in
     let r = c.requires.few c.loop-i.i (omega (arith, g, len)) in
     omega (arith, here, r)
 
@@ -37,11 +37,11 @@ loop-i-preserved c =
     let g = c.loop-i-test.true in
     let len = c.loop-i.invariant.len in
     let here = sym (entries_at c.loop-i.indexes c.loop-i.i c.index-indexes-i-in-loop-i.result (omega (arith, g, len)))
-        ∙ c.loop-i.invariant.left c.loop-i.i (omega arith) in
+    ∙ c.loop-i.invariant.left c.loop-i.i (omega arith) in
     let way = sym (way_at c.loop-i.indexes c.loop-i.i c.index-indexes-i.result (omega (arith, g, len)))
-        ∙ ap (λ ws. get_or ws c.loop-i.i no_way) c.loop-i.invariant.ways in
+    ∙ ap (λ ws. get_or ws c.loop-i.i no_way) c.loop-i.invariant.ways in
     let found = sym (way_at c.loop-i.indexes c.loop-i.i c.index-indexes-i-in-loop-i.result (omega (arith, g, len)))
-        ∙ ap (λ ws. get_or ws c.loop-i.i no_way) c.loop-i.invariant.ways in
+    ∙ ap (λ ws. get_or ws c.loop-i.i no_way) c.loop-i.invariant.ways in
     let hash = c.hash_of-hash.ensures ∙ ap (λ w. key_hash w.seed (key_of w.columns c.args.atom.now)) way in
     let values = ap (λ w. key_of w.order c.args.atom.now) found in
     record {

@@ -13,7 +13,7 @@ reserve-requires c =
     let g = c.loop-i-test.true in
     let len = c.loop-i.invariant.len in
     let here = ap length (sym (entries_at c.loop-i.indexes c.loop-i.i c.index-indexes-i.result (omega (arith, g, len)))
-        ∙ ap (λ xs. get_or xs c.loop-i.i []) c.loop-i.invariant.rows) in
+    ∙ ap (λ xs. get_or xs c.loop-i.i []) c.loop-i.invariant.rows) in
     let few = c.requires c.loop-i.i (omega (arith, g, len)) in
     omega (arith, here, few)
 
@@ -31,7 +31,7 @@ loop-i-preserved c =
     let len = c.loop-i.invariant.len in
     let n = length_rooms c.loop-i.indexes in
     let here = ap length (sym (entries_at c.loop-i.indexes c.loop-i.i c.index-indexes-i.result (omega (arith, g, len)))
-        ∙ ap (λ xs. get_or xs c.loop-i.i []) c.loop-i.invariant.rows) in
+    ∙ ap (λ xs. get_or xs c.loop-i.i []) c.loop-i.invariant.rows) in
     let ok = c.in_ok-reserve.ensures.ok in
     record {
       len = length-set c.loop-i.indexes _ _ ∙ len;
@@ -42,13 +42,15 @@ loop-i-preserved c =
       done = λ j h. (rw (rooms_set c.loop-i.indexes c.loop-i.i)
           (elim (cases_lt j c.loop-i.i) as (λ _. length (get_or (keyed_entries c.args.indexes.now) j []) < get_or
           (set (rooms_of c.loop-i.indexes) c.loop-i.i (room_in c.reserve.new.self)) j 0) [
-        | inl less ↦ (let e = get_or-set_other (rooms_of c.loop-i.indexes) c.loop-i.i j (room_in c.reserve.new.self) 0
-              (λ p. (absurd (omega (arith, p, less)))) in let d = c.loop-i.invariant.done j less in omega (arith, e, d))
-        | inr most ↦ (let p : j ≡ c.loop-i.i = omega (arith, h, most) in
-            let e = ap (λ k. get_or (set (rooms_of c.loop-i.indexes) c.loop-i.i (room_in c.reserve.new.self)) k 0) p
+            | inl less ↦ (let e = get_or-set_other (rooms_of c.loop-i.indexes) c.loop-i.i j
+                (room_in c.reserve.new.self) 0
+                (λ p. (absurd (omega (arith, p, less)))) in let d = c.loop-i.invariant.done j less in
+                omega (arith, e, d))
+            | inr most ↦ (let p : j ≡ c.loop-i.i = omega (arith, h, most) in
+                let e = ap (λ k. get_or (set (rooms_of c.loop-i.indexes) c.loop-i.i (room_in c.reserve.new.self)) k 0) p
                 ∙ get_or-set_same (rooms_of c.loop-i.indexes) c.loop-i.i (room_in c.reserve.new.self) 0
                 (omega (arith, n, g, len)) in
-            let q = ap (λ k. length (get_or (keyed_entries c.args.indexes.now) k [])) p in
-            omega (arith, e, here, ok, q))
-      ]));
+                let q = ap (λ k. length (get_or (keyed_entries c.args.indexes.now) k [])) p in
+                omega (arith, e, here, ok, q))
+          ]));
     }

@@ -16,10 +16,12 @@ loop-row-preserved c =
     let m : c.loop-row.row < length c.args.alive.now = omega (arith, g) in
     let l : c.loop-row.row < length c.loop-row.atoms = omega (arith, m, len, e) in
     let is = sym (get_or_default c.loop-row.atoms c.loop-row.row x no_atom l) in
-    elim c.if-alive-row.branch as (λ _. record { few : c.if-alive-row.count ≤ c.loop-row.row + 1;
-        len : length c.if-alive-row.atoms ≡ length c.args.atoms.now;
-        kept : AreKept c.if-alive-row.atoms c.args.alive.now c.if-alive-row.count (c.loop-row.row + 1)
-        (chosen c.args.atoms.now c.args.alive.now) }) [
+    elim c.if-alive-row.branch as (λ _. record {
+      few : c.if-alive-row.count ≤ c.loop-row.row + 1;
+      len : length c.if-alive-row.atoms ≡ length c.args.atoms.now;
+      kept : AreKept c.if-alive-row.atoms c.args.alive.now c.if-alive-row.count (c.loop-row.row + 1)
+          (chosen c.args.atoms.now c.args.alive.now);
+    }) [
       | then-alive-row w ↦ rw (w.count-is, w.atoms-is, w.move_down.ensures no_atom) (record {
         few = omega (arith, few);
         len = length-set c.loop-row.atoms c.loop-row.count x ∙ len;

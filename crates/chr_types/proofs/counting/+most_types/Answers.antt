@@ -10,7 +10,7 @@ one_class_more n k d m x y some e f g =
     let equal : x ≡ most_types k d = f ∙ ap (λ j. most_types j d) less in
     let between : y ≡ most_types k m = g ∙ ap (λ j. most_types j m) less in
     ap (λ z. d * z + m * y) equal ∙ ap (λ z. d * most_types k d + m * z) between
-        ∙ ap (λ i. d * most_types k d + i * most_types k i) next ∙ sym (ap (λ j. most_types j d) some)
+    ∙ ap (λ i. d * most_types k d + i * most_types k i) next ∙ sym (ap (λ j. most_types j d) some)
 
 pub returns : goal.returns
 returns t c =
@@ -22,4 +22,4 @@ returns t c =
     sum ∙ ap (λ z. z + c.in_ok-between.between) equal
     ∙ ap (λ z. c.args.values * c.in_ok-most_types.field-0 + z) between
     ∙ one_class_more c.args.classes (c.args.classes - 1) c.args.values _ _ _ some
-        (c.in_ok-more.ensures).1 c.in_ok-most_types.ensures c.in_ok-most_types-2.ensures
+    (c.in_ok-more.ensures).1 c.in_ok-most_types.ensures c.in_ok-most_types-2.ensures

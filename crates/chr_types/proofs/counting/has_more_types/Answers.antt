@@ -17,8 +17,11 @@ use Rattle.chr_types.proofs.Walking.{ok_then}
 use Rattle.chr_types.proofs.counting.has_more_types.Goals as goal
 
 pub returns-then-classes-gt-MAX_CLASSES : goal.returns-then-classes-gt-MAX_CLASSES
-returns-then-classes-gt-MAX_CLASSES c = (λ _. many_classes c.args.limit c.args.classes c.args.constants.now
-    c.ranges.limit.fits c.if-classes-gt-MAX_CLASSES.true, λ _. refl)
+returns-then-classes-gt-MAX_CLASSES c = (
+  λ _. many_classes c.args.limit c.args.classes c.args.constants.now
+      c.ranges.limit.fits c.if-classes-gt-MAX_CLASSES.true,
+  λ _. refl,
+)
 
 pub returns-then-has_more_lists : goal.returns-then-has_more_lists
 returns-then-has_more_lists c = (
@@ -29,11 +32,16 @@ returns-then-has_more_lists c = (
 
 told : (limit n : ℕ) (cs : List ℤ) (rs : List (List ℤ)) (w : LimitedCount) (b : Bool) → AreTypes n cs rs
     → Visited Step (record { found = 0; limit = limit }) rs b w → IsTrue b ↔ MoreTypesThan limit n cs
-told limit n cs rs w true are v = (λ _. let l = counted_past rs (record { found = 0; limit = limit }) w v in
-    more_types limit n cs rs are (omega (arith, l)), λ _. refl)
-told limit n cs rs w false are v = (λ i. absurd (true≢false (sym i)),
-    λ m. absurd (let l = counted_within rs (record { found = 0; limit = limit }) w (omega arith) v in
-    not_more limit n cs rs are (omega (arith, l)) m))
+told limit n cs rs w true are v = (
+  λ _. let l = counted_past rs (record { found = 0; limit = limit }) w v in
+      more_types limit n cs rs are (omega (arith, l)),
+  λ _. refl,
+)
+told limit n cs rs w false are v = (
+  λ i. absurd (true≢false (sym i)),
+  λ m. absurd (let l = counted_within rs (record { found = 0; limit = limit }) w (omega arith) v in
+      not_more limit n cs rs are (omega (arith, l)) m),
+)
 
 pub returns : goal.returns
 returns c =
@@ -41,13 +49,13 @@ returns c =
     let n = c.args.classes in
     let ks = c.deref.result.now in
     let are : AreTypes n cs (lists_over ks n [] []) = lists_are n cs ks
-        (let l = c.if-classes-gt-MAX_CLASSES.false in omega (arith, l)) c.requires.rising
-        c.in_ok-candidates.ensures.values (subst (λ (ps : List Candidate). AreCandidates n cs ps)
-        (sym c.deref.ensures.value) c.in_ok-candidates.ensures.candidates) in
+    (let l = c.if-classes-gt-MAX_CLASSES.false in omega (arith, l)) c.requires.rising
+    c.in_ok-candidates.ensures.values (subst (λ (ps : List Candidate). AreCandidates n cs ps)
+    (sym c.deref.ensures.value) c.in_ok-candidates.ensures.candidates) in
     ok_then c.walk.result _ _ (λ b x. told c.args.limit n cs (lists_over ks n [] []) c.walk.new.visitor b are
-        (subst (λ rs. Visited Step (record { found = 0; limit = c.args.limit }) rs b c.walk.new.visitor)
-        (walked_passes (λ _. true) ks n [] [] ∙ all_pass (lists_over ks n [] [])) x))
-        (rw c.new-prefix.ensures.items at c.walk.ensures.visited)
+    (subst (λ rs. Visited Step (record { found = 0; limit = c.args.limit }) rs b c.walk.new.visitor)
+    (walked_passes (λ _. true) ks n [] [] ∙ all_pass (lists_over ks n [] [])) x))
+    (rw c.new-prefix.ensures.items at c.walk.ensures.visited)
 
 pub returns-then-are_few : goal.returns-then-are_few
 returns-then-are_few c = (

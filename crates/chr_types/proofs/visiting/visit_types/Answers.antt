@@ -15,9 +15,16 @@ returns g c =
     let n = c.args.classes in
     let t = g.T.Beginnings.admits c.args.wanted.now in
     let are : AreTypes n cs (lists_over ks n [] []) = lists_are n cs ks c.requires.few c.requires.rising
-        c.in_ok-candidates.ensures.values (subst (λ (ps : List Candidate). AreCandidates n cs ps)
-        (sym c.deref.ensures.value) c.in_ok-candidates.ensures.candidates) in
+    c.in_ok-candidates.ensures.values (subst (λ (ps : List Candidate). AreCandidates n cs ps)
+    (sym c.deref.ensures.value) c.in_ok-candidates.ensures.candidates) in
     let begun = rw c.new-prefix.ensures.items at c.walk.ensures.visited in
-    record { ready = c.walk.ensures.ready; visited = ok_then c.walk.result _ _
-        (λ b v. (lists_over ks n [] [], are, subst (λ rs. Visited g.V.Visit.step c.args.visitor.now rs b
-        c.walk.new.visitor) (walked_passes t ks n [] []) v)) begun }
+    record {
+      ready = c.walk.ensures.ready;
+      visited = ok_then c.walk.result _ _
+          (λ b v. (
+            lists_over ks n [] [],
+            are,
+            subst (λ rs. Visited g.V.Visit.step c.args.visitor.now rs b
+                c.walk.new.visitor) (walked_passes t ks n [] []) v,
+          )) begun;
+    }

@@ -28,24 +28,24 @@ returns-then-branch-clause-visited g t c =
     let candidate : Candidate = get_or ks i d in
     let fv : SFits w64 candidate.value = search rules in
     let before : c.deref-in-loop-candidate.result.now ≡ p = c.deref-in-loop-candidate.ensures.value
-        ∙ c.loop-candidate.invariant.prefix in
+    ∙ c.loop-candidate.invariant.prefix in
     let fits : length (holes_by candidate p h) ≤ k = subst (λ x. length (holes_by candidate x h) ≤ k) before
-        (c.in_ok-after.ensures.fits.0 (subst IsSome (sym c.in-Some.is) refl)) in
+    (c.in_ok-after.ensures.fits.0 (subst IsSome (sym c.in-Some.is) refl)) in
     let after : c.in-Some.after.items ≡ holes_by candidate p h = (rw c.in-Some.is at c.in_ok-after.ensures.holes)
-        ∙ ap (λ x. holes_by candidate x h) before in
+    ∙ ap (λ x. holes_by candidate x h) before in
     let pushed = simp to_z-of_z at c.in_ok-push.ensures.items in
     let longer : c.push.new.self.items ≡ p ++ candidate.value ∷ [] =
-        pushed ∙ ap (λ (x : List ℤ). x ++ candidate.value ∷ []) c.loop-candidate.invariant.prefix in
+    pushed ∙ ap (λ (x : List ℤ). x ++ candidate.value ∷ []) c.loop-candidate.invariant.prefix in
     let yes : test c.push.new.self.items ≡ true = ap test (sym c.deref-in-loop-candidate-2.ensures.value)
-        ∙ sym c.goes_on.ensures ∙ c.if-goes_on.true in
+    ∙ sym c.goes_on.ensures ∙ c.if-goes_on.true in
     let same = at_passing test ks k p h candidate c.push.new.self.items c.deref-then-goes_on.result.now longer
-        (c.deref-then-goes_on.ensures.value ∙ after) fits yes in
+    (c.deref-then-goes_on.ensures.value ∙ after) fits yes in
     let here : Visited g.V.Visit.step c.loop-candidate.visitor (walked_at test (walked test ks k) k p h candidate) true
-        c.walk.new.visitor = rw (same, ← c.if-branch.true) c.in_ok-walk.ensures.visited in
+    c.walk.new.visitor = rw (same, ← c.if-branch.true) c.in_ok-walk.ensures.visited in
     let l = c.loop-candidate-test.true in
     rw (walked_next test ks c.args.left p h c.if-left-eq0.false)
-        (stops_in g.V.Visit.step (walked_at test (walked test ks k) k p h) ks i d c.args.visitor.now
-        c.loop-candidate.visitor c.walk.new.visitor (omega (arith, l)) c.loop-candidate.invariant.visited here)
+    (stops_in g.V.Visit.step (walked_at test (walked test ks k) k p h) ks i d c.args.visitor.now
+    c.loop-candidate.visitor c.walk.new.visitor (omega (arith, l)) c.loop-candidate.invariant.visited here)
 
 pub loop-candidate-preserved : goal.loop-candidate-preserved
 loop-candidate-preserved g t c =
@@ -62,23 +62,23 @@ loop-candidate-preserved g t c =
     let inv = c.loop-candidate.invariant.visited in
     let fv : SFits w64 candidate.value = search rules in
     let before : c.deref-in-loop-candidate.result.now ≡ p = c.deref-in-loop-candidate.ensures.value
-        ∙ c.loop-candidate.invariant.prefix in
+    ∙ c.loop-candidate.invariant.prefix in
     let fits : length (holes_by candidate p h) ≤ k = subst (λ x. length (holes_by candidate x h) ≤ k) before
-        (c.in_ok-after.ensures.fits.0 (subst IsSome (sym c.in-Some.is) refl)) in
+    (c.in_ok-after.ensures.fits.0 (subst IsSome (sym c.in-Some.is) refl)) in
     let after : c.in-Some.after.items ≡ holes_by candidate p h = (rw c.in-Some.is at c.in_ok-after.ensures.holes)
-        ∙ ap (λ x. holes_by candidate x h) before in
+    ∙ ap (λ x. holes_by candidate x h) before in
     let pushed = simp to_z-of_z at c.in_ok-push.ensures.items in
     let longer : c.push.new.self.items ≡ p ++ candidate.value ∷ [] =
-        pushed ∙ ap (λ (x : List ℤ). x ++ candidate.value ∷ []) c.loop-candidate.invariant.prefix in
+    pushed ∙ ap (λ (x : List ℤ). x ++ candidate.value ∷ []) c.loop-candidate.invariant.prefix in
     let kept : c.if-goes_on.prefix.items ≡ p ++ candidate.value ∷ [] = elim c.if-goes_on.branch [
       | then-goes_on+in_ok-walk+else-branch w ↦ rw w.prefix-is
-            (OnFalse_at w.if-branch.false w.in_ok-walk.ensures.prefix ∙ longer)
+          (OnFalse_at w.if-branch.false w.in_ok-walk.ensures.prefix ∙ longer)
       | else-goes_on w ↦ rw w.prefix-is longer
     ] in
     let size : vec_len c.if-goes_on.prefix ≡ length c.if-goes_on.prefix.items =
-        omega (arith, c.if-goes_on.prefix.ok.0) in
+    omega (arith, c.if-goes_on.prefix.ok.0) in
     let one : vec_len c.if-goes_on.prefix - 1 ≡ length p = let a = ap length kept in let b =
-        length-append p (candidate.value ∷ []) in omega (arith, size, a, b) in
+    length-append p (candidate.value ∷ []) in omega (arith, size, a, b) in
     record {
       prefix = c.pop.ensures.rest ∙ (λ j. take (one j) (kept j)) ∙ take-append_seam p (candidate.value ∷ []);
       ready = elim c.if-goes_on.branch [
@@ -88,15 +88,15 @@ loop-candidate-preserved g t c =
       visited = elim c.if-goes_on.branch [
         | then-goes_on+in_ok-walk+else-branch w ↦ (
             let yes : test c.push.new.self.items ≡ true = ap test (sym c.deref-in-loop-candidate-2.ensures.value)
-                ∙ sym c.goes_on.ensures ∙ w.if-goes_on.true in
+            ∙ sym c.goes_on.ensures ∙ w.if-goes_on.true in
             let same = at_passing test ks k p h candidate c.push.new.self.items w.deref-then-goes_on.result.now longer
-                (w.deref-then-goes_on.ensures.value ∙ after) fits yes in
+            (w.deref-then-goes_on.ensures.value ∙ after) fits yes in
             let here : Visited g.V.Visit.step c.loop-candidate.visitor (f candidate) false w.walk.new.visitor =
-                rw (same, ← w.if-branch.false) w.in_ok-walk.ensures.visited in
+            rw (same, ← w.if-branch.false) w.in_ok-walk.ensures.visited in
             rw w.visitor-is (one_more g.V.Visit.step f ks i d _ _ _ (omega (arith, l)) inv here))
         | else-goes_on w ↦ (
             let none : f candidate ≡ [] = at_failing test ks k p h candidate c.deref-in-loop-candidate-2.result.now
-                (c.deref-in-loop-candidate-2.ensures.value ∙ longer) (sym c.goes_on.ensures ∙ w.if-goes_on.false) in
+            (c.deref-in-loop-candidate-2.ensures.value ∙ longer) (sym c.goes_on.ensures ∙ w.if-goes_on.false) in
             rw w.visitor-is (no_more_at g.V.Visit.step f ks i d _ _ (omega (arith, l)) inv none))
       ];
     }
@@ -111,4 +111,4 @@ returns-clause-visited g t c =
     let f = walked_at test (walked test ks (c.args.left - 1)) (c.args.left - 1) p h in
     rw (walked_next test ks c.args.left p h c.if-left-eq0.false)
     (subst (λ xs. Visited g.V.Visit.step c.args.visitor.now (flat_map f xs) false c.loop-candidate.visitor)
-        (take_all c.loop-candidate.candidate-index ks (omega (arith, l))) c.loop-candidate.invariant.visited)
+    (take_all c.loop-candidate.candidate-index ks (omega (arith, l))) c.loop-candidate.invariant.visited)

@@ -10,11 +10,11 @@ plus-sum-requires c =
     let so_far = c.loop-atom.invariant in
     let xs = c.args.atoms.now in
     let next_first = next_fits (λ a. (weight_in c.args.program.now a).first) xs c.loop-atom.atom-index
-        (2 ^ 64) c.atom-item.result c.atom_weight.result.first c.requires.first c.loop-atom-test.true c.atom-item.is
-        (ap (λ (w : Weight). w.first) one) in
+    (2 ^ 64) c.atom-item.result c.atom_weight.result.first c.requires.first c.loop-atom-test.true c.atom-item.is
+    (ap (λ (w : Weight). w.first) one) in
     let next_second = next_fits (λ a. (weight_in c.args.program.now a).second) xs c.loop-atom.atom-index
-        (2 ^ 64) c.atom-item.result c.atom_weight.result.second c.requires.second c.loop-atom-test.true c.atom-item.is
-        (ap (λ (w : Weight). w.second) one) in
+    (2 ^ 64) c.atom-item.result c.atom_weight.result.second c.requires.second c.loop-atom-test.true c.atom-item.is
+    (ap (λ (w : Weight). w.second) one) in
     record {
       first = rw so_far next_first;
       second = rw so_far next_second;
@@ -23,5 +23,5 @@ plus-sum-requires c =
 pub loop-atom-preserved : goal.loop-atom-preserved
 loop-atom-preserved c =
     atoms_more (weight_in c.args.program.now) c.args.atoms.now c.loop-atom.atom-index c.atom-item.result c.loop-atom.sum
-        c.atom_weight.result c.plus-sum.result c.loop-atom-test.true c.atom-item.is c.loop-atom.invariant
-        c.atom_weight.ensures c.plus-sum.ensures
+    c.atom_weight.result c.plus-sum.result c.loop-atom-test.true c.atom-item.is c.loop-atom.invariant
+    c.atom_weight.ensures c.plus-sum.ensures

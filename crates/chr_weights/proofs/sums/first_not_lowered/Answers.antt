@@ -16,11 +16,11 @@ returns-then-not-is_lighter-clause-first c =
       weight_before = λ r v e. at_place p c.rules-rule-items.result.now c.loop-i.i c.rule-item.result _
           (λ x. x.removed.items) c.rules-rule-items.ensures c.loop-i-test.true c.rule-item.is
           (λ u. c.patterns_weight-before.ensures u ∙ ap (λ ps. total_weight (weight_in p) (atoms_at u ps))
-              c.deref.ensures.0) r v e;
+          c.deref.ensures.0) r v e;
       weight_after = λ r v e. at_place p c.rules-rule-items.result.now c.loop-i.i c.rule-item.result _
           (λ x. x.body.items) c.rules-rule-items.ensures c.loop-i-test.true c.rule-item.is
           (λ u. c.patterns_weight-after.ensures u ∙ ap (λ ps. total_weight (weight_in p) (atoms_at u ps))
-              c.deref-in-loop-i.ensures.0) r v e;
+          c.deref-in-loop-i.ensures.0) r v e;
       not_lowered = refuted_by c.is_lighter.result c.is_lighter.ensures c.if-not-is_lighter.true;
     }
 
@@ -28,14 +28,14 @@ pub loop-i-preserved : goal.loop-i-preserved
 loop-i-preserved c =
     let p = c.args.program.now in
     lowers_more p c.rules-rule-items.result.now c.loop-i.i c.rule-item.result c.rules-rule-items.ensures
-        c.loop-i-test.true c.rule-item.is c.loop-i.invariant (λ v. (
+    c.loop-i-test.true c.rule-item.is c.loop-i.invariant (λ v. (
     let a = c.patterns_weight-before.ensures v ∙ ap (λ ps. total_weight (weight_in p) (atoms_at v ps))
-        c.deref.ensures.0 in
+    c.deref.ensures.0 in
     let b = c.patterns_weight-after.ensures v ∙ ap (λ ps. total_weight (weight_in p) (atoms_at v ps))
-        c.deref-in-loop-i.ensures.0 in
+    c.deref-in-loop-i.ensures.0 in
     subst (λ x. IsLighter x (total_weight (weight_in p) (atoms_at v c.rule-item.result.removed.items))) b
-        (subst (IsLighter c.patterns_weight-after.result) a
-        (shown_by c.is_lighter.result c.is_lighter.ensures c.if-not-is_lighter.false))))
+    (subst (IsLighter c.patterns_weight-after.result) a
+    (shown_by c.is_lighter.result c.is_lighter.ensures c.if-not-is_lighter.false))))
 
 pub returns-clause-none : goal.returns-clause-none
 returns-clause-none c = all_lower c.args.program.now c.rules-rule-items.result.now c.loop-i.i c.rules-rule-items.ensures

@@ -9,9 +9,9 @@ use Rattle.chr_weights.proofs.sums.patterns_weight.Goals as goal
 pub weight_of-requires : goal.weight_of-requires
 weight_of-requires c =
     declared_within (declarations c.args.program.now) c.pattern-item.result.symbol.0
-        (length c.pattern-item.result.args.items)
+    (length c.pattern-item.result.args.items)
     (next_declared c.args.program.now c.args.patterns.now c.loop-pattern.pattern-index c.pattern-item.result
-        c.requires.declared c.loop-pattern-test.true c.pattern-item.is)
+    c.requires.declared c.loop-pattern-test.true c.pattern-item.is)
 
 pub plus-sum-requires : goal.plus-sum-requires
 plus-sum-requires c =
@@ -34,10 +34,10 @@ loop-pattern-preserved c =
       sum = λ v. (let d = next_declared c.args.program.now c.args.patterns.now c.loop-pattern.pattern-index
           c.pattern-item.result c.requires.declared c.loop-pattern-test.true c.pattern-item.is in
           patterns_more (weight_in c.args.program.now) c.args.patterns.now c.loop-pattern.pattern-index
-              c.pattern-item.result v c.loop-pattern.sum c.weight_of.result c.plus-sum.result c.loop-pattern-test.true
-              c.pattern-item.is
+          c.pattern-item.result v c.loop-pattern.sum c.weight_of.result c.plus-sum.result c.loop-pattern-test.true
+          c.pattern-item.is
           (pattern_weight c.args.program.now c.pattern-item.result c.weight_of.result v d c.weight_of.ensures)
-              (c.loop-pattern.invariant.sum v) c.plus-sum.ensures);
+          (c.loop-pattern.invariant.sum v) c.plus-sum.ensures);
       first = omega (arith, first, a, c.loop-pattern.invariant.first);
       second = omega (arith, second, b, c.loop-pattern.invariant.second);
     }

@@ -12,5 +12,5 @@ returns c =
     let b = c.args.board.now in
     let sound = c.is_sound.ensures in
     let one = c.one_answer.ensures (program_on b) (program_on b) b.replica b.replica (refl, refl) confluent sound.values
-        refl sound.sound sound.sound c.requires c.requires in
+    refl sound.sound sound.sound c.requires c.requires in
     record { normal = one.1; only = one.2 }

@@ -7,4 +7,4 @@ returns-clause-settled g c =
     let t = c.in_ok-rest_in_parts.ensures in
     let r = c.rest.ensures in
     settled_by c.args.board.now c.rest_in_parts.new.board c.rest.new.board c.rest.result t.kept.program
-        (r.out ∙ t.out) r.rests
+    (r.out ∙ t.out) r.rests

@@ -6,4 +6,4 @@ use Rattle.chr_workers.proofs.resting.rest_board.Goals as goal
 pub has_the_answer-requires : goal.has_the_answer-requires
 has_the_answer-requires g c =
     subst (λ a. IsSettled (program_in a) c.rest_all-rested.new.board.replica)
-        (sym c.rest_all-rested.ensures.kept.program) c.in_ok-rested.ensures.settled
+    (sym c.rest_all-rested.ensures.kept.program) c.in_ok-rested.ensures.settled

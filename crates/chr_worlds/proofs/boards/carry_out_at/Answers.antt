@@ -21,4 +21,4 @@ returns-clause-ok c =
 pub returns-clause-err : goal.returns-clause-err
 returns-clause-err c =
     set_again c.carry_out.result c.args.boards.now c.args.place c.index-boards-place.result c.carry_out.new.board
-        c.carry_out.ensures.err
+    c.carry_out.ensures.err

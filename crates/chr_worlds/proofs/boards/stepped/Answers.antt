@@ -13,10 +13,10 @@ returns-after-not_stepped-clause-refused c n =
     let same : c.deref.result.now ≡ c.args.board.now.accepted = search rules in
     elim c.match-not_stepped.branch [
       | in-NotThere w ↦ not_there (program_on c.args.board.now) c.args.board.now.replica c.args.number c.args.steps.now
-            part w.in-NotThere.field-0 _
+          part w.in-NotThere.field-0 _
           c.in_ok-lease.ensures.part
           (subst (λ a. IsFirstInapplicable (rules_of (program_in a)) c.args.steps.now part w.in-NotThere.field-0) same
-              (c.in-Err.ensures.not_there w.in-NotThere.field-0 w.in-NotThere.is))
+          (c.in-Err.ensures.not_there w.in-NotThere.field-0 w.in-NotThere.is))
           w.result-is
       | in-Memory w ↦ absurd (n w.result-is)
     ]

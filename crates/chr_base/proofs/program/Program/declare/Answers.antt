@@ -7,8 +7,8 @@ pub invariant_of-self : goal.invariant_of-self
 invariant_of-self c = record {
   well_formed =
       after_adding (declarations c.args.self.now) (declarations_in c.add_symbol.new.symbols.entries)
-          (rules_of c.args.self.now) c.args.name.now c.args.arity c.of-symbol.result.name.bytes c.of-symbol.result.arity
-          c.add_symbol.result
+      (rules_of c.args.self.now) c.args.name.now c.args.arity c.of-symbol.result.name.bytes c.of-symbol.result.arity
+      c.add_symbol.result
       c.of-symbol.ensures.name c.of-symbol.ensures.arity c.add_symbol.ensures.ok c.add_symbol.ensures.err
-          c.args.self.now.well_formed c.requires.room c.requires.word c.requires.name c.requires.arity c.requires.new;
+      c.args.self.now.well_formed c.requires.room c.requires.word c.requires.name c.requires.arity c.requires.new;
 }

@@ -13,4 +13,4 @@ returns-then-from-arity c = OnTrue_from c.eq.result _ (λ e.
     place_of c.args.name.now c.args.arity (declarations c.args.self.now) (rules_of c.args.self.now) c.args.symbol.0
     d c.args.self.now.well_formed (sym c.in-Some.ensures)
     (declared_as d c.args.name.now c.args.arity (sym c.as_str.ensures.value ∙ same)
-        (sym c.from.ensures ∙ c.if-from-arity.true)))
+    (sym c.from.ensures ∙ c.if-from-arity.true)))

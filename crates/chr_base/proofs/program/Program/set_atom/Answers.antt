@@ -6,4 +6,4 @@ use Rattle.chr_base.proofs.program.Program.set_atom.Goals as goal
 pub set-requires : goal.set-requires
 set-requires c =
     few_arguments (declarations c.args.self.now) (rules_of c.args.self.now) c.args.name.now
-        (length c.args.args.now) _ c.args.self.now.well_formed c.in-Some.ensures
+    (length c.args.args.now) _ c.args.self.now.well_formed c.in-Some.ensures

@@ -8,7 +8,7 @@ least n x y z a b d = omega arith
 pub returns-clause-fits : goal.returns-clause-fits
 returns-clause-fits c =
     let n : length c.self.inside.alive.items ≡ length c.self.inside.hashes.items =
-        as_many _ _ _ _ _ c.self.invariant.chained in
+    as_many _ _ _ _ _ c.self.invariant.chained in
     let l = length_entries c.self.inside.hashes.items c.self.inside.alive.items n in
     let a = c.self.invariant.chained.as_links in
     let b = slots_len (length c.self.inside.heads.items) c.self.inside.hashes.items in

@@ -14,4 +14,4 @@ returns-then-is_at c = OnTrue_from c.index.result.now _ (λ lives.
     ap (λ x. get_or x.rows c.args.row None) (sym c.self.view_is)
     ∙ entry_is c.self.inside.hashes.items c.self.inside.alive.items c.args.row c.args.hash l many
     (get_or_default c.self.inside.alive.items c.args.row false c.index.result.now here ∙ sym c.index.ensures ∙ lives)
-        at.1)
+    at.1)

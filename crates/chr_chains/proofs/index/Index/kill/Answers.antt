@@ -6,7 +6,7 @@ use Rattle.chr_chains.proofs.index.Index.kill.Goals as goal
 pub index_mut-requires : goal.index_mut-requires
 index_mut-requires c =
     let n : length c.self.inside.alive.items ≡ length c.self.inside.hashes.items =
-        as_many _ _ _ _ _ c.self.invariant.chained in
+    as_many _ _ _ _ _ c.self.invariant.chained in
     let l = length_entries c.self.inside.hashes.items c.self.inside.alive.items n in
     let v = ap (λ x. length x.rows) c.self.view_is in
     let r = c.requires in

@@ -10,9 +10,13 @@ join_seat-requires c =
     let i = c.loop-one.invariant in
     let p = c.in-Some-pop.ensures in
     let q = all_popped (IsOf c.args.self) c.loop-one.seats.items c.pop-in-loop-one.new.self.items c.in-Some-pop.one
-        p.items i.3 in
-    (i.0, ap (λ s. s.name) c.one.view_is ∙ q.1.0 ∙ ap (λ s. s.name) (sym c.self.view_is), c.one.invariant.0,
-        search rules, gathers _ _ _ _ _ i.1)
+    p.items i.3 in (
+      i.0,
+      ap (λ s. s.name) c.one.view_is ∙ q.1.0 ∙ ap (λ s. s.name) (sym c.self.view_is),
+      c.one.invariant.0,
+      search rules,
+      gathers _ _ _ _ _ i.1,
+    )
 
 pub loop-one-preserved : goal.loop-one-preserved
 loop-one-preserved c =
@@ -30,11 +34,22 @@ loop-one-preserved c =
       omega arith,
       omega (arith, p.len, shares),
       q.0,
-      (λ x. omega (arith, i.4 x, ap (λ m. times x m.drawn) me,
-          times_both x c.loop-one.all.me.0.drawn c.one.inside.seat.me.0.drawn, ap (times x) drawn,
-          sum_popped (λ d. times x d.numbers) c.loop-one.seats.items c.pop-in-loop-one.new.self.items one p.items)),
-      omega (arith, i.5, ap (λ m. m.over) me, s.2, ap {B = ℕ} (λ b. cond b 1 0) spent,
-          sum_popped (λ d. cond d.spent 1 0) c.loop-one.seats.items c.pop-in-loop-one.new.self.items one p.items),
+      (λ x. omega (
+        arith,
+        i.4 x,
+        ap (λ m. times x m.drawn) me,
+        times_both x c.loop-one.all.me.0.drawn c.one.inside.seat.me.0.drawn,
+        ap (times x) drawn,
+        sum_popped (λ d. times x d.numbers) c.loop-one.seats.items c.pop-in-loop-one.new.self.items one p.items,
+      )),
+      omega (
+        arith,
+        i.5,
+        ap (λ m. m.over) me,
+        s.2,
+        ap {B = ℕ} (λ b. cond b 1 0) spent,
+        sum_popped (λ d. cond d.spent 1 0) c.loop-one.seats.items c.pop-in-loop-one.new.self.items one p.items,
+      ),
     )
 
 pub free-requires : goal.free-requires
@@ -48,7 +63,7 @@ returns-clause-once c =
     let whole : c.loop-one.all.me.0.shares ≡ c.self.inside.table.shared.key.seats = omega arith in
     let e = settles _ _ _ _ _ whole c.close_with.ensures.values.2 in
     λ x. at_most_once x e.0 _ (sym (i.4 x) ∙ (ap (λ l. times x c.loop-one.all.me.0.drawn + sum_by
-        (λ d. times x d.numbers) l) none ∙ (add-zero (times x c.loop-one.all.me.0.drawn) ∙ e.1 x)))
+    (λ d. times x d.numbers) l) none ∙ (add-zero (times x c.loop-one.all.me.0.drawn) ∙ e.1 x)))
 
 pub returns-clause-whole : goal.returns-clause-whole
 returns-clause-whole c =
@@ -61,4 +76,4 @@ returns-clause-whole c =
     let over : 0 < c.loop-one.all.me.0.over = omega (arith, i.5, ap (λ l. count_by (λ d. d.spent) l) none) in
     let parts : c.self.inside.parts ≡ c.args.self.parts = ap (λ o. o.parts) c.self.view_is in
     just_once x e.0 _ (sym (i.4 x) ∙ (ap (λ l. times x c.loop-one.all.me.0.drawn + sum_by (λ d. times x d.numbers) l)
-        none ∙ (add-zero (times x c.loop-one.all.me.0.drawn) ∙ e.1 x))) (omega (arith, e.2 over, c.self.invariant))
+    none ∙ (add-zero (times x c.loop-one.all.me.0.drawn) ∙ e.1 x))) (omega (arith, e.2 over, c.self.invariant))

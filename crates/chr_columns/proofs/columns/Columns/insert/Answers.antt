@@ -5,4 +5,4 @@ use Rattle.chr_columns.proofs.columns.Columns.insert.Goals as goal
 pub returns-clause-ok : goal.returns-clause-ok
 returns-clause-ok c =
     rw (← c.self.view_is) (inserted_ok c.push_copies.result (stored c.self.inside.rested) c.self.inside.fresh.items
-        c.args.atoms.now c.push_copies.new.items.items c.push_copies.ensures.ok)
+    c.args.atoms.now c.push_copies.new.items.items c.push_copies.ensures.ok)

@@ -7,4 +7,4 @@ pub returns : goal.returns
 returns c =
     let n : c.len.result ≡ length c.self.inside.fresh.items = search rules in
     subst (λ (s : Store). c.len.result ≤ size s) c.self.view_is
-        (fresh_within _ c.self.inside.fresh.items c.len.result n)
+    (fresh_within _ c.self.inside.fresh.items c.len.result n)

@@ -6,10 +6,10 @@ pub returns-clause-lives : goal.returns-clause-lives
 returns-clause-lives c =
     let s = c.args.self.now in
     lives_in_table (rows_but s.tables.now s.fresh.now s.active) c.args._table c.args._index c.below-2.result c.requires
-        c.below-2.ensures.lives
+    c.below-2.ensures.lives
 
 pub returns-then-row-self-clause-lives : goal.returns-then-row-self-clause-lives
 returns-then-row-self-clause-lives c =
     let s = c.args.self.now in
     lives_in_table (rows_but s.tables.now s.fresh.now s.active) c.args._table c.args._index c.below.result c.requires
-        c.below.ensures.lives
+    c.below.ensures.lives

@@ -6,4 +6,4 @@ pub returns-clause-lives : goal.returns-clause-lives
 returns-clause-lives c =
     let s = c.args.self.now in
     lives_in_table (rows_but s.tables.now s.fresh.now s.active) c.args._table c.args._index c.below.result c.requires
-        c.below.ensures.lives
+    c.below.ensures.lives

@@ -7,8 +7,11 @@ use Rattle.chr_columns.proofs.Removals.{all_within, too_few}
 use Rattle.chr_columns.proofs.rested.Rested.has_all.Goals as goal
 
 pub returns : goal.returns
-returns c = (λ _. all_within (stored c.args.self.now) c.args.atoms.now c.args.fresh.now
-    (λ i d h. c.loop-atom.invariant i d (omega arith)), λ _. refl)
+returns c = (
+  λ _. all_within (stored c.args.self.now) c.args.atoms.now c.args.fresh.now
+      (λ i d h. c.loop-atom.invariant i d (omega arith)),
+  λ _. refl,
+)
 
 pub returns-then-count_at_rest-wanted : goal.returns-then-count_at_rest-wanted
 returns-then-count_at_rest-wanted c =

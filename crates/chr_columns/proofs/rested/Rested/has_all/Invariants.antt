@@ -10,4 +10,4 @@ abbrev pub invariant-loop-atom : goal.invariant-loop-atom
 invariant-loop-atom l =
     (k : ℕ) (d : Atom) → k < l.atom-index
     → count_in atom_cmp (get_or l.atoms k d) l.atoms ≤ count (stored l.self) (get_or l.atoms k d) + count_in atom_cmp
-        (get_or l.atoms k d) l.fresh
+    (get_or l.atoms k d) l.fresh

@@ -16,28 +16,28 @@ use Rattle.chr_columns.proofs.rested.Rested.put.Goals as goal
 pub tidy-requires-clause-within : goal.tidy-requires-clause-within
 tidy-requires-clause-within c =
     let t : c.table_of-table.result ≡ table_of_atom c.args.self.now.groups.items c.args.atom.now =
-        c.table_of-table.ensures ∙ (λ i. table_of (c.deref.ensures.value i) c.args.atom.now.symbol
-        (c.len.ensures.value i)) in
+    c.table_of-table.ensures ∙ (λ i. table_of (c.deref.ensures.value i) c.args.atom.now.symbol
+    (c.len.ensures.value i)) in
     let w = has_table _ _ _ c.args.atom.now c.requires.rested.set_up in
     omega (arith, t, w)
 
 pub index_mut-requires : goal.index_mut-requires
 index_mut-requires c =
     let t : c.table_of-table.result ≡ table_of_atom c.tidy.new.self.groups.items c.args.atom.now =
-        c.table_of-table.ensures ∙ (λ i. table_of (c.deref.ensures.value i) c.args.atom.now.symbol
-        (c.len.ensures.value i)) ∙ ap (λ gs. table_of_atom gs.items c.args.atom.now) (sym c.tidy.ensures.groups) in
+    c.table_of-table.ensures ∙ (λ i. table_of (c.deref.ensures.value i) c.args.atom.now.symbol
+    (c.len.ensures.value i)) ∙ ap (λ gs. table_of_atom gs.items c.args.atom.now) (sym c.tidy.ensures.groups) in
     let w = has_table _ _ _ c.args.atom.now c.tidy.ensures.rested.set_up in
     omega (arith, t, w, c.tidy.new.self.tables.tables.ok.0)
 
 pub returns-in_err-insert-clause-rested : goal.returns-in_err-insert-clause-rested
 returns-in_err-insert-clause-rested c =
     let t : c.table_of-table.result ≡ table_of_atom c.tidy.new.self.groups.items c.args.atom.now =
-        c.table_of-table.ensures ∙ (λ i. table_of (c.deref.ensures.value i) c.args.atom.now.symbol
-        (c.len.ensures.value i)) ∙ ap (λ gs. table_of_atom gs.items c.args.atom.now) (sym c.tidy.ensures.groups) in
+    c.table_of-table.ensures ∙ (λ i. table_of (c.deref.ensures.value i) c.args.atom.now.symbol
+    (c.len.ensures.value i)) ∙ ap (λ gs. table_of_atom gs.items c.args.atom.now) (sym c.tidy.ensures.groups) in
     let w = has_table _ _ _ c.args.atom.now c.tidy.ensures.rested.set_up in
     let same = set_same c.tidy.new.self.tables.tables.items c.table_of-table.result c.index_mut.result.now
-        c.insert.new.self (omega (arith, t, w)) c.index_mut.ensures.value c.in_err-insert.ensures.err
-        c.insert.ensures.keys c.insert.ensures.orders in
+    c.insert.new.self (omega (arith, t, w)) c.index_mut.ensures.value c.in_err-insert.ensures.err
+    c.insert.ensures.keys c.insert.ensures.orders in
     record {
       set_up = subst (λ (ts : List Contents). IsSetUp c.tidy.new.self.rules.items c.tidy.new.self.groups.items
           (rows_of ts) (index_columns ts) (length ts)) (sym same) c.tidy.ensures.rested.set_up;
@@ -48,34 +48,34 @@ returns-in_err-insert-clause-rested c =
 pub returns-in_err-insert-clause-err : goal.returns-in_err-insert-clause-err
 returns-in_err-insert-clause-err c =
     let t : c.table_of-table.result ≡ table_of_atom c.tidy.new.self.groups.items c.args.atom.now =
-        c.table_of-table.ensures ∙ (λ i. table_of (c.deref.ensures.value i) c.args.atom.now.symbol
-        (c.len.ensures.value i)) ∙ ap (λ gs. table_of_atom gs.items c.args.atom.now) (sym c.tidy.ensures.groups) in
+    c.table_of-table.ensures ∙ (λ i. table_of (c.deref.ensures.value i) c.args.atom.now.symbol
+    (c.len.ensures.value i)) ∙ ap (λ gs. table_of_atom gs.items c.args.atom.now) (sym c.tidy.ensures.groups) in
     let w = has_table _ _ _ c.args.atom.now c.tidy.ensures.rested.set_up in
     on_err _ c.from_residual.result
     (ap (λ (ts : List Contents). contents (grid ts)) (set_same c.tidy.new.self.tables.tables.items
-        c.table_of-table.result c.index_mut.result.now c.insert.new.self (omega (arith, t, w)) c.index_mut.ensures.value
-        c.in_err-insert.ensures.err c.insert.ensures.keys c.insert.ensures.orders)
+    c.table_of-table.result c.index_mut.result.now c.insert.new.self (omega (arith, t, w)) c.index_mut.ensures.value
+    c.in_err-insert.ensures.err c.insert.ensures.keys c.insert.ensures.orders)
     ∙ c.tidy.ensures.stored)
 
 pub returns-clause-ok : goal.returns-clause-ok
 returns-clause-ok c =
     let t : c.table_of-table.result ≡ table_of_atom c.tidy.new.self.groups.items c.args.atom.now =
-        c.table_of-table.ensures ∙ (λ i. table_of (c.deref.ensures.value i) c.args.atom.now.symbol
-        (c.len.ensures.value i)) ∙ ap (λ gs. table_of_atom gs.items c.args.atom.now) (sym c.tidy.ensures.groups) in
+    c.table_of-table.ensures ∙ (λ i. table_of (c.deref.ensures.value i) c.args.atom.now.symbol
+    (c.len.ensures.value i)) ∙ ap (λ gs. table_of_atom gs.items c.args.atom.now) (sym c.tidy.ensures.groups) in
     let w = has_table _ _ _ c.args.atom.now c.tidy.ensures.rested.set_up in
     stored_put c.tidy.new.self.tables.tables.items c.table_of-table.result c.index_mut.result.now c.insert.new.self
-        c.args.atom.now (omega (arith, t, w)) c.index_mut.ensures.value c.in_ok-insert.ensures.ok c.insert.ensures.keys
+    c.args.atom.now (omega (arith, t, w)) c.index_mut.ensures.value c.in_ok-insert.ensures.ok c.insert.ensures.keys
     ∙ ap (λ s. s ⊕ one c.args.atom.now) c.tidy.ensures.stored
 
 pub returns-clause-rested : goal.returns-clause-rested
 returns-clause-rested c =
     let t : c.table_of-table.result ≡ table_of_atom c.tidy.new.self.groups.items c.args.atom.now =
-        c.table_of-table.ensures ∙ (λ i. table_of (c.deref.ensures.value i) c.args.atom.now.symbol
-        (c.len.ensures.value i)) ∙ ap (λ gs. table_of_atom gs.items c.args.atom.now) (sym c.tidy.ensures.groups) in
+    c.table_of-table.ensures ∙ (λ i. table_of (c.deref.ensures.value i) c.args.atom.now.symbol
+    (c.len.ensures.value i)) ∙ ap (λ gs. table_of_atom gs.items c.args.atom.now) (sym c.tidy.ensures.groups) in
     let w = has_table _ _ _ c.args.atom.now c.tidy.ensures.rested.set_up in
     let more = stored_put c.tidy.new.self.tables.tables.items c.table_of-table.result c.index_mut.result.now
-        c.insert.new.self c.args.atom.now (omega (arith, t, w)) c.index_mut.ensures.value c.in_ok-insert.ensures.ok
-        c.insert.ensures.keys in
+    c.insert.new.self c.args.atom.now (omega (arith, t, w)) c.index_mut.ensures.value c.in_ok-insert.ensures.ok
+    c.insert.ensures.keys in
     record {
       set_up = set_up_put c.tidy.new.self.tables.tables.items c.table_of-table.result c.index_mut.result.now
           c.insert.new.self c.args.atom.now (omega (arith, t, w)) c.index_mut.ensures.value c.in_ok-insert.ensures.ok

@@ -13,4 +13,4 @@ pub returns-then-take_off_end-clause-taken : goal.returns-then-take_off_end-clau
 returns-then-take_off_end-clause-taken c =
     rw c.if-take_off_end.true
     (without_end (stored c.args.self.now) c.args.fresh.now.items c.take_off_end.new.fresh.items c.args.atoms.now
-        c.if-take_off_end.ensures.taken)
+    c.if-take_off_end.ensures.taken)

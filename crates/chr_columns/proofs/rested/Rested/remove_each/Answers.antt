@@ -20,5 +20,5 @@ loop-atom-preserved c = record {
   left =
       c.take_one.ensures.left ∙ ap (λ s. s ⊖ one c.atom-item.result) c.loop-atom.invariant.left
       ∙ less_more (stored c.args.self.now ⊕ store_of c.args.fresh.now.items) c.args.atoms.now c.loop-atom.atom-index
-          c.atom-item.result c.loop-atom-test.true c.atom-item.is;
+      c.atom-item.result c.loop-atom-test.true c.atom-item.is;
 }

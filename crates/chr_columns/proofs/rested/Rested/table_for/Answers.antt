@@ -6,6 +6,6 @@ use Rattle.chr_columns.proofs.rested.Rested.table_for.Goals as goal
 pub returns : goal.returns
 returns c =
     let t : c.table_of.result ≡ table_of_atom c.args.self.now.groups.items c.args.atom.now = c.table_of.ensures
-        ∙ (λ i. table_of (c.deref.ensures.value i) c.args.atom.now.symbol (c.len.ensures.value i)) in
+    ∙ (λ i. table_of (c.deref.ensures.value i) c.args.atom.now.symbol (c.len.ensures.value i)) in
     let w = has_table _ _ _ c.args.atom.now c.requires.set_up in
     record { number = t; there = omega (arith, t, w) }

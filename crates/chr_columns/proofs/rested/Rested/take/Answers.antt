@@ -12,14 +12,14 @@ pub fire-requires-clause-instance : goal.fire-requires-clause-instance
 fire-requires-clause-instance c =
     let found = c.in-Some.ensures.found in
     rw (c.deref.ensures.0, c.deref-2.ensures.0) (subst
-        (λ a. IsReacting c.react.new.self a c.in-Some.occurrence c.react.new.heads.items c.react.new.seats.items)
-        (sym found.active) found)
+    (λ a. IsReacting c.react.new.self a c.in-Some.occurrence c.react.new.heads.items c.react.new.seats.items)
+    (sym found.active) found)
 
 pub fire-requires-clause-standing : goal.fire-requires-clause-standing
 fire-requires-clause-standing c =
     let found = c.in-Some.ensures.found in
     rw c.deref.ensures.0 (subst (λ a. MayGoOn c.react.new.self a c.in-Some.occurrence.standing)
-        (sym found.active) c.in-Some.ensures.standing)
+    (sym found.active) c.in-Some.ensures.standing)
 
 pub returns-clause-fired : goal.returns-clause-fired
 returns-clause-fired c _ =
@@ -31,8 +31,8 @@ returns-clause-fired c _ =
     let active = head c.deref.result.now p in
     let a = ap (λ hs. head hs p) c.deref.ensures.0 ∙ found.active in
     let step = carried_one c.react.new.self.rules.items c.in-Some.occurrence.rule found.rule _ _ found.at
-        (c.fire.ensures.step found.rule found.at) in
+    (c.fire.ensures.step found.rule found.at) in
     let own_step = subst (λ v. Step v.items ((stored c.react.new.self ⊕ f) ⊕ one active) t) c.react.ensures.rules
-        step in
+    step in
     subst (λ x. Step own ((stored c.args.self.now ⊕ f) ⊕ one x) t) a
-        (subst (λ s. Step own ((s ⊕ f) ⊕ one active) t) c.react.ensures.stored own_step)
+    (subst (λ s. Step own ((s ⊕ f) ⊕ one active) t) c.react.ensures.stored own_step)

@@ -24,5 +24,5 @@ loop-k-preserved c = record {
   left =
       c.take_row.ensures.left ∙ ap (λ s. s ⊖ one c.index-atoms-k.result) c.loop-k.invariant.left
       ∙ less_more (stored c.args.self.now ⊕ store_of c.args.fresh.now.items) c.args.atoms.now c.loop-k.k
-          c.index-atoms-k.result c.loop-k-test.true c.index-atoms-k.is;
+      c.index-atoms-k.result c.loop-k-test.true c.index-atoms-k.is;
 }

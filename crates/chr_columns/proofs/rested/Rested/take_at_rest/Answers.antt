@@ -10,7 +10,7 @@ kill_one-requires-clause-lives c =
     let test = c.in-Some.ensures.lookup.0 in
     let within : c.args.seat.table < length c.deref.result.now = grind (arith, nat_tests) in
     ap is_some (row_at c.args.self.now.tables.tables.items c.args.seat.table c.in-Some.table.now
-        (rw c.deref.ensures.value at within) (rw c.deref.ensures.value at c.in-Some.ensures.lookup.1) c.args.seat.row
+    (rw c.deref.ensures.value at within) (rw c.deref.ensures.value at c.in-Some.ensures.lookup.1) c.args.seat.row
     c.in-Some-get.other (sym c.in-Some-get.ensures))
 
 pub returns-clause-taken : goal.returns-clause-taken
@@ -20,5 +20,5 @@ returns-clause-taken c =
     let same = same_is c.args.atom.now c.in-Some-get.other (sym c.is_same.ensures ∙ c.if-not-is_same.false) in
     c.kill_one.ensures.taken c.args.atom.now
     (row_at c.args.self.now.tables.tables.items c.args.seat.table c.in-Some.table.now
-        (rw c.deref.ensures.value at within) (rw c.deref.ensures.value at c.in-Some.ensures.lookup.1) c.args.seat.row
+    (rw c.deref.ensures.value at within) (rw c.deref.ensures.value at c.in-Some.ensures.lookup.1) c.args.seat.row
     c.args.atom.now (sym c.in-Some-get.ensures ∙ ap Some (sym same)))

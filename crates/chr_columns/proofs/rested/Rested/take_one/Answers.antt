@@ -13,4 +13,4 @@ returns-then-not-remove_one-clause-left c =
 pub returns-else-not-remove_one-clause-left : goal.returns-else-not-remove_one-clause-left
 returns-else-not-remove_one-clause-left c =
     less_at_rest (stored c.args.self.now) (stored c.remove_one.new.self)
-        (store_of c.args.fresh.now.items) c.args.atom.now c.if-not-remove_one.ensures.taken
+    (store_of c.args.fresh.now.items) c.args.atom.now c.if-not-remove_one.ensures.taken

@@ -10,5 +10,8 @@ returns-in-Ok-rested-clause-end c =
     let same : c.deref.result.now ≡ weighed_of c.args.self.now = search rules in
     let normal : IsNormalForm (Step (rules_in (weighed_of c.args.self.now))) c.args.lease.part c.in-Ok-rested.end =
     subst (λ w. IsNormalForm (Step (rules_in w)) c.args.lease.part c.in-Ok-rested.end) same c.in-Ok-rested.ensures in
-    rw c.of.ensures.end (record { normal = normal; only =
-        λ u h. c.args.self.now.confluent _ u _ c.has_values.ensures h normal })
+    rw c.of.ensures.end (record {
+      normal = normal;
+      only =
+          λ u h. c.args.self.now.confluent _ u _ c.has_values.ensures h normal;
+    })

@@ -14,8 +14,8 @@ returns-in-Some-Some c coverage rules os o are at =
     let place : a.start + i ≡ c.args.place = omega (arith, from) in
     let within : i < length c.deref.result.now = ltb-true _ _ (sym c.in-Some-Some.ensures.lookup.0) in
     let here : slice_get c.deref.result.now i ≡ Some c.in-Some-Some.field-0.now =
-        slice_get_read _ _ i c.in-Some-Some.field-0.now refl within c.in-Some-Some.ensures.lookup.1 in
+    slice_get_read _ _ i c.in-Some-Some.field-0.now refl within c.in-Some-Some.ensures.lookup.1 in
     let there : slice_get a.numbers.items i ≡ Some (Some c.in-Some-Some.number) =
-        ap (λ xs. slice_get xs i) (sym c.deref.ensures.value) ∙ here ∙ ap Some c.in-Some-Some.field-0-is in
+    ap (λ xs. slice_get xs i) (sym c.deref.ensures.value) ∙ here ∙ ap Some c.in-Some-Some.field-0-is in
     beside (IsNumberOf coverage rules) are.0 (drop a.start os) a.numbers.items i o (Some c.in-Some-Some.number) are.1
-        (at ∙ ap (λ k. get_or os k o) (sym place) ∙ sym (get_or-drop a.start os i o)) there
+    (at ∙ ap (λ k. get_or os k o) (sym place) ∙ sym (get_or-drop a.start os i o)) there

@@ -14,7 +14,7 @@ returns-then-guards_hold-clause-visited c = record {
   goes_on = λ _. passes_one (setting_of c.args.self.now) c.args.values.now c.requires.overlap c.requires.unified
       c.peak.ensures.left c.peak.ensures.right c.requires.cases
       (λ r1 r2 are. OnTrue_at c.if-self.true (c.requires.equal r1 r2 are)) c.args.self.now.passed
-          c.saturating_add-self.result (sym c.if-guards_hold.true ∙ c.guards_hold.ensures)
+      c.saturating_add-self.result (sym c.if-guards_hold.true ∙ c.guards_hold.ensures)
       (λ l. (let e = c.saturating_add-self.ensures in grind (arith, nat_tests)));
   finds = λ e. absurd (true≢false (sym e));
 }
@@ -38,13 +38,13 @@ returns-in_default-clause-visited c = record {
 pub different_ends-requires-clause-left : goal.different_ends-requires-clause-left
 different_ends-requires-clause-left c =
     (applicable c.peak.ensures.left c.peak.ensures.right (setting_of c.args.self.now) c.args.values.now c.in-Some.case
-        c.requires.overlap c.requires.unified c.requires.cases
+    c.requires.overlap c.requires.unified c.requires.cases
     (λ r1 r2 are. sym c.in-Some.is ∙ c.in_ok-case.ensures r1 r2 are)).0
 
 pub different_ends-requires-clause-right : goal.different_ends-requires-clause-right
 different_ends-requires-clause-right c =
     (applicable c.peak.ensures.left c.peak.ensures.right (setting_of c.args.self.now) c.args.values.now c.in-Some.case
-        c.requires.overlap c.requires.unified c.requires.cases
+    c.requires.overlap c.requires.unified c.requires.cases
     (λ r1 r2 are. sym c.in-Some.is ∙ c.in_ok-case.ensures r1 r2 are)).1
 
 pub returns-in_default-2-clause-visited : goal.returns-in_default-2-clause-visited
@@ -53,7 +53,7 @@ returns-in_default-2-clause-visited c = record {
   goes_on = λ _. joins (setting_of c.args.self.now) c.args.values.now c.in-Some.case c.args.self.now.passed
       c.saturating_add-self-in_default-2.result (λ r1 r2 are. sym c.in-Some.is ∙ c.in_ok-case.ensures r1 r2 are)
       (from_none c.in_ok-ends.field-0 _ c.in_default-2.not-Some c.in_ok-ends.ensures.joinable)
-          (λ l. (let e = c.saturating_add-self-in_default-2.ensures in grind (arith, nat_tests)));
+      (λ l. (let e = c.saturating_add-self-in_default-2.ensures in grind (arith, nat_tests)));
   finds = λ e. absurd (true≢false (sym e));
 }
 

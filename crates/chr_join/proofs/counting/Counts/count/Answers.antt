@@ -10,4 +10,4 @@ returns-in_ok-push-clause-known c =
     let entry : Count = record { unified = c.args.unified; number = c.in_ok-number.number } in
     subst (AreCounts c.args.constants.now) (sym c.in_ok-push.ensures.items)
     (All-append is c.args.self.now.entries.items (entry ∷ []) c.requires.known
-        (All-cons is entry [] c.in_ok-number.ensures (All-nil is)))
+    (All-cons is entry [] c.in_ok-number.ensures (All-nil is)))

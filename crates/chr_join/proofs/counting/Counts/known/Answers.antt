@@ -8,5 +8,5 @@ returns-then-has_guards_of c constants are =
     let same = c.has_guards_of.ensures.0 c.if-has_guards_of.true in
     let each = subst (AreCounts constants) (sym c.deref-count-items.ensures.value) are in
     let here = subst (IsCounted constants) (sym c.count-item.is)
-        (each c.loop-count.count-index c.count-item.result c.loop-count-test.true) in
+    (each c.loop-count.count-index c.count-item.result c.loop-count-test.true) in
     same_count constants c.count-item.result.unified c.args.unified.now c.count-item.result.number same.0 same.1 here

@@ -8,4 +8,4 @@ pub returns-in-Some-clause-end : goal.returns-in-Some-clause-end
 returns-in-Some-clause-end c =
     ok_then c.copy.result _ (EndsIn (rules_in c.args.weighed.now) c.args.store)
     (λ end same. subst (EndsIn (rules_in c.args.weighed.now) c.args.store) (sym same)
-        (c.in-Some.ensures (rules_in c.args.weighed.now) c.requires)) c.copy.ensures
+    (c.in-Some.ensures (rules_in c.args.weighed.now) c.requires)) c.copy.ensures

@@ -10,7 +10,7 @@ left : (c : goal.After-lift) → c.lift.new.ends ≡ c.self.inside.ends
 left c =
     lifted c.self.inside.ends c.lay.new.ends c.lift.new.ends c.args.ids.now
     (fresh_begin c.self.inside.ends c.args.ids.now c.self.invariant.disjoint
-        (λ q a. ap (λ rs. covers rs q) c.self.view_is ∙ c.requires q a)) c.lay.ensures.others c.lift.ensures
+    (λ q a. ap (λ rs. covers rs q) c.self.view_is ∙ c.requires q a)) c.lay.ensures.others c.lift.ensures
 
 pub invariant_of-self : goal.invariant_of-self
 invariant_of-self c = rw (left c) c.self.invariant
@@ -27,14 +27,14 @@ laid c = search rules
 pub join_beside-requires : goal.join_beside-requires
 join_beside-requires c =
     laid_disjoint c.self.inside.ends c.args.ids.now c.lay.new.ends c.self.invariant
-        (λ q a. ap (λ rs. covers rs q) c.self.view_is ∙ c.requires q a) (laid c)
+    (λ q a. ap (λ rs. covers rs q) c.self.view_is ∙ c.requires q a) (laid c)
 
 longest : (c : goal.After-join_beside) → AreAsLongAsPossible c.join_beside.new.ends
 longest c =
     let laid : IsLaid c.self.inside.ends c.args.ids.now c.lay.new.ends = search rules in
     joined_longest c.self.inside.ends c.args.ids.now c.lay.new.ends c.self.invariant
-        (λ q a. ap (λ rs. covers rs q) c.self.view_is ∙ c.requires q a) laid c.join_beside.new.ends
-        c.join_beside.ensures
+    (λ q a. ap (λ rs. covers rs q) c.self.view_is ∙ c.requires q a) laid c.join_beside.new.ends
+    c.join_beside.ensures
 
 pub invariant_of-self-2 : goal.invariant_of-self-2
 invariant_of-self-2 c = longest c
@@ -46,6 +46,6 @@ pub returns-clause-covers : goal.returns-clause-covers
 returns-clause-covers c = λ q.
     let laid : IsLaid c.self.inside.ends c.args.ids.now c.lay.new.ends = search rules in
     joined_covers c.self.inside.ends c.args.ids.now c.lay.new.ends c.self.invariant
-        (λ k a. ap (λ rs. covers rs k) c.self.view_is ∙ c.requires k a) laid c.join_beside.new.ends
-        c.join_beside.ensures q
+    (λ k a. ap (λ rs. covers rs k) c.self.view_is ∙ c.requires k a) laid c.join_beside.new.ends
+    c.join_beside.ensures q
     ∙ ap (λ rs. covers rs q || is_among_ends c.args.ids.now q) c.self.view_is

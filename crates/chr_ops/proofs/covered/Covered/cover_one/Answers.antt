@@ -15,7 +15,7 @@ invariant_of-self-in-Some c =
     let put : IsPutIn c.self.inside.ends id c.put_in.new.ends = search rules in
     let next : c.in-Some.number ≡ id.number + 1 = search rules in
     let covered = covered_before c.self.inside.ends id c.self.invariant new c.put_in.new.ends c.join_at.new.ends put
-        (rw next at c.join_at.ensures) in
+    (rw next at c.join_at.ensures) in
     covered.0
 
 pub invariant_of-self-in_default : goal.invariant_of-self-in_default
@@ -34,7 +34,7 @@ returns-in-Some-clause-covers c = λ q.
     let put : IsPutIn c.self.inside.ends id c.put_in.new.ends = search rules in
     let next : c.in-Some.number ≡ id.number + 1 = search rules in
     let covered = covered_before c.self.inside.ends id c.self.invariant new c.put_in.new.ends c.join_at.new.ends put
-        (rw next at c.join_at.ensures) in
+    (rw next at c.join_at.ensures) in
     covered.1 q ∙ ap (λ rs. covers rs q || is_among_ends (id ∷ []) q) c.self.view_is
 
 pub returns-in-Some-clause-apart : goal.returns-in-Some-clause-apart
@@ -44,7 +44,7 @@ returns-in-Some-clause-apart c =
     let put : IsPutIn c.self.inside.ends id c.put_in.new.ends = search rules in
     let next : c.in-Some.number ≡ id.number + 1 = search rules in
     let covered = covered_before c.self.inside.ends id c.self.invariant new c.put_in.new.ends c.join_at.new.ends put
-        (rw next at c.join_at.ensures) in
+    (rw next at c.join_at.ensures) in
     ranges_apart c.join_at.new.ends covered.0
 
 pub returns-in_default-clause-covers : goal.returns-in_default-clause-covers

@@ -15,10 +15,10 @@ returns-then-first-id c =
     let high : id.number ≤ c.in-Some.last = grind (arith, nat_tests, within) in
     sym (ap (λ rs. covers rs id) c.self.view_is)
     ∙ from_last m c.self.invariant.disjoint id c.in-Some.first c.in-Some.last c.in-Some.ensures.there
-        c.in-Some.ensures.up_to same high))
+    c.in-Some.ensures.up_to same high))
     (λ covered. (
     let high = (in_last m c.self.invariant.disjoint id c.in-Some.first c.in-Some.last c.in-Some.ensures.there
-        c.in-Some.ensures.up_to c.in-Some.ensures.last
+    c.in-Some.ensures.up_to c.in-Some.ensures.last
     (ap (λ rs. covers rs id) c.self.view_is ∙ covered)).1 in
     grind (arith, nat_tests, high)))
 
@@ -29,7 +29,7 @@ returns-else-first-id c =
     same_bool _ _ (λ same. absurd (search (rules, same)))
     (λ covered. (
     let same = (in_last m c.self.invariant.disjoint id c.in-Some.first c.in-Some.last c.in-Some.ensures.there
-        c.in-Some.ensures.up_to c.in-Some.ensures.last
+    c.in-Some.ensures.up_to c.in-Some.ensures.last
     (ap (λ rs. covers rs id) c.self.view_is ∙ covered)).0 in
     grind (arith, nat_tests, same)))
 

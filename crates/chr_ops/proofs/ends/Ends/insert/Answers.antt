@@ -6,5 +6,5 @@ use Rattle.chr_ops.proofs.ends.Ends.insert.Goals as goal
 pub returns-clause-ok : goal.returns-clause-ok
 returns-clause-ok c =
     one_inserted c.self.inside.last.entries c.insert.new.self.entries c.args.first c.args.last
-        c.in_ok-insert.ensures.updates.0
+    c.in_ok-insert.ensures.updates.0
     ∙ ap (λ m. map.insert m c.args.first c.args.last) c.self.view_is

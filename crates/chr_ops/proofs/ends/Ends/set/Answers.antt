@@ -17,7 +17,7 @@ returns c = elim c.match-get_mut.branch [
       let after = c.get_mut.follows.lender c.args.last in
       ap the_view w.self-inside-is
       ∙ one_inserted c.self.inside.last.entries after.entries c.args.first c.args.last
-          ((c.get_mut.follows.holds c.args.last).3 (there c)).0
+      ((c.get_mut.follows.holds c.args.last).3 (there c)).0
       ∙ ap (λ m. map.insert m c.args.first c.args.last) c.self.view_is
   | in_default w ↦
       let none : value_at c.self.inside.last.entries c.args.first ≡ None = search rules in

@@ -6,7 +6,7 @@ use Rattle.chr_ops.proofs.entries.Entries.remove.Goals as goal
 pub returns-clause-bag : goal.returns-clause-bag
 returns-clause-bag c =
     c.remove.ensures.value ∙ sym (get_value c.self.inside.bags.entries c.args.id)
-        ∙ ap (λ m. map.get m c.args.id) c.self.view_is
+    ∙ ap (λ m. map.get m c.args.id) c.self.view_is
 
 pub returns-clause-rest : goal.returns-clause-rest
 returns-clause-rest c =

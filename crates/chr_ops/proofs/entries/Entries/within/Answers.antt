@@ -16,4 +16,4 @@ returns c =
     let ends = c.new.ensures.end ∙ c.last.ensures in
     c.range.ensures.between c.new.ensures.exhausted ∙ stands_within c.args.range.now _ _ begins ends es
     ∙ ap (within c.args.range.now) (sym (entries_of es ordered))
-        ∙ ap (λ m. within c.args.range.now (map.entries m)) c.self.view_is
+    ∙ ap (λ m. within c.args.range.now (map.entries m)) c.self.view_is

@@ -10,14 +10,14 @@ returns-in-Ok-clause-no_clash c = subst (λ m. HasNoClash m c.args.ops.now) c.se
 pub invariant_of-self-in-Err : goal.invariant_of-self-in-Err
 invariant_of-self-in-Err c =
     let left = had_back c.self.inside.held c.take_in_covered.new.held c.withdraw.new.held
-        c.take_in_covered.new.fresh.items
+    c.take_in_covered.new.fresh.items
     c.take_in_covered.ensures.back (rw c.deref.ensures.value at c.withdraw.ensures) in
     rw (left, c.in-Err.ensures.uncovered) c.self.invariant
 
 pub returns-clause-err : goal.returns-clause-err
 returns-clause-err c =
     let left = had_back c.self.inside.held c.take_in_covered.new.held c.withdraw.new.held
-        c.take_in_covered.new.fresh.items
+    c.take_in_covered.new.fresh.items
     c.take_in_covered.ensures.back (rw c.deref.ensures.value at c.withdraw.ensures) in
     left ∙ c.self.view_is
 
@@ -27,14 +27,15 @@ returns-clause-clash c = λ id e. subst (λ m. IsFirstClash m c.args.ops.now id)
 
 pub returns-clause-full : goal.returns-clause-full
 returns-clause-full c = λ e.
-    let full = c.in-Err.ensures.full e in
-    (subst (λ m. HasNoClash m c.args.ops.now) c.self.view_is full.0,
-        subst (λ m. IsOverLimit m c.args.ops.now) c.self.view_is full.1)
+    let full = c.in-Err.ensures.full e in (
+      subst (λ m. HasNoClash m c.args.ops.now) c.self.view_is full.0,
+      subst (λ m. IsOverLimit m c.args.ops.now) c.self.view_is full.1,
+    )
 
 pub returns-in-Ok-clause-told : goal.returns-in-Ok-clause-told
 returns-in-Ok-clause-told c =
     ap told_store (c.in-Ok.ensures.ok ∙ ap (λ m. union m c.args.ops.now) c.self.view_is)
-        ∙ told_store-union c.args.self.now c.args.ops.now
+    ∙ told_store-union c.args.self.now c.args.ops.now
 
 pub invariant_of-self : goal.invariant_of-self
 invariant_of-self c = record {

@@ -9,5 +9,5 @@ returns-clause-all c =
     let ids = c.args.ids.now in
     IfOk-weaker c.lacked_of.result _ _ (λ ops found lacks summary just.
     found ∙ ap (λ m. lacked_among m c.other.inside.held ids) c.self.view_is
-        ∙ ap (λ n. lacked_among c.args.self.now n ids) c.other.view_is
+    ∙ ap (λ n. lacked_among c.args.self.now n ids) c.other.view_is
     ∙ among_lacking c.args.self.now c.args.other.now ids summary lacks just) c.lacked_of.ensures

@@ -35,4 +35,4 @@ returns c =
     let w = c.loop-variable.invariant.within in
     let e : c.loop-variable.variable - 1 ≡ length c.args.self.now.terms.items - 1 = omega (arith, n, t, w) in
     c.loop-variable.invariant.items ∙ ap (λ k. filter (λ x. is_variable x (class_in c.args.self.now.terms.items x))
-        (range_with_len 1 k)) e
+    (range_with_len 1 k)) e

@@ -9,7 +9,7 @@ invariant_of-self c =
     let ts = c.args.self.now.terms.items in
     let f = put_term c.args.variable c.args.term in
     let all : c.loop-class.terms.items ≡ map f ts = c.loop-class.invariant
-        ∙ ap (map f) (take_all _ _ (omega arith) ∙ c.as_slice-class-items.ensures.value) in
+    ∙ ap (map f) (take_all _ _ (omega arith) ∙ c.as_slice-class-items.ensures.value) in
     let n : length c.loop-class.terms.items ≡ length ts = ap length all ∙ length-map ts f in
     record {
       few = (let g = c.args.self.now.few in omega (arith, n, g));

@@ -23,4 +23,4 @@ pub returns-clause-rows : goal.returns-clause-rows
 returns-clause-rows c =
     rw (c.kill.ensures.rows, c.kill-2.ensures.rows)
     (pairs_kill c.self.inside.first.rows c.self.inside.second.rows c.args.row
-        ∙ ap (λ x. set x.rows c.args.row None) c.self.view_is)
+    ∙ ap (λ x. set x.rows c.args.row None) c.self.view_is)

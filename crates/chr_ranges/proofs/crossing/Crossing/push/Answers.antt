@@ -39,9 +39,13 @@ push-requires-2-clause-few c =
 
 pub returns-clause-rows : goal.returns-clause-rows
 returns-clause-rows c =
-    rw (c.push.ensures.rows, c.push-2.ensures.rows, to_z-of_z w64 c.args.first c.ranges.first,
-        to_z-of_z w64 c.args.second c.ranges.second)
+    rw (
+      c.push.ensures.rows,
+      c.push-2.ensures.rows,
+      to_z-of_z w64 c.args.first c.ranges.first,
+      to_z-of_z w64 c.args.second c.ranges.second,
+    )
     (pairs_push c.self.inside.first.rows c.self.inside.second.rows c.args.hash c.args.first c.args.second
-        c.self.invariant
+    c.self.invariant
     ∙ ap (λ x. x.rows ++ Some (record { hash = c.args.hash; first = c.args.first; second = c.args.second }) ∷ [])
-        c.self.view_is)
+    c.self.view_is)

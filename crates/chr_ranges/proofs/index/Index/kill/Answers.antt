@@ -9,7 +9,7 @@ invariant_of-self c =
     let size = length_entries c.self.inside.rows.items in
     let r = c.requires in
     index_kill _ _ _ c.args.row c.index_mut.result.now _ c.self.invariant
-        (omega (arith, v, size, r)) c.index_mut.ensures.value refl refl refl
+    (omega (arith, v, size, r)) c.index_mut.ensures.value refl refl refl
 
 pub returns-clause-rows : goal.returns-clause-rows
 returns-clause-rows c = entries_kill c.self.inside.rows.items c.args.row _ refl

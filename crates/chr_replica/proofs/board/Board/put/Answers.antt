@@ -11,7 +11,7 @@ invariant_of-self c =
     let same : c.program.result.now ≡ p = search rules in
     let d = c.args.done in
     sound_after p c.self.inside.state c.put.new.self c.put.result _
-        (λ _ h. c.events_keep_replicas_sound.ensures.put p d.number d.part d.result c.self.inside.state c.put.new.self
-        h)
+    (λ _ h. c.events_keep_replicas_sound.ensures.put p d.number d.part d.result c.self.inside.state c.put.new.self
+    h)
     (subst (λ q. OnOk c.put.result (Puts q c.self.inside.state d.number d.part d.result c.put.new.self)) same
-        c.put.ensures.ok) c.put.ensures.err c.self.invariant
+    c.put.ensures.ok) c.put.ensures.err c.self.invariant

@@ -7,5 +7,5 @@ pub invariant_of-self : goal.invariant_of-self
 invariant_of-self c =
     let p = program_in (arc_value c.self.inside.accepted) in
     sound_after p c.self.inside.state c.recall.new.self c.recall.result _
-        (λ _ h. c.events_keep_replicas_sound.ensures.recall p c.args.number c.self.inside.state c.recall.new.self h)
+    (λ _ h. c.events_keep_replicas_sound.ensures.recall p c.args.number c.self.inside.state c.recall.new.self h)
     c.recall.ensures.ok c.recall.ensures.err c.self.invariant

@@ -15,10 +15,10 @@ invariant_of-self c =
     let t = c.settle.new.self in
     let same : c.weighed.result.now ≡ weighed_of (arc_value c.self.inside.accepted) = search rules in
     sound_either p s t c.settle.result _ _ (λ n h. c.events_keep_replicas_sound.ensures.settle p n s t h)
-        (λ e h. c.events_keep_replicas_sound.ensures.settle p e.steps s t h)
+    (λ e h. c.events_keep_replicas_sound.ensures.settle p e.steps s t h)
     (subst (λ w. IfOk c.settle.result (λ n. Settles (program_of w) s n t)) same c.settle.ensures.ok)
     (subst (λ w. IfErr c.settle.result (λ e. Settles (program_of w) s e.steps t)) same c.settle.ensures.stopped)
-        c.self.invariant
+    c.self.invariant
 
 pub returns-clause-rests : goal.returns-clause-rests
 returns-clause-rests c =

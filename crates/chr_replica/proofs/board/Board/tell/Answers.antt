@@ -11,6 +11,6 @@ invariant_of-self c =
     let p = program_in (arc_value c.self.inside.accepted) in
     let same : c.program.result.now ≡ p = search rules in
     sound_after_tell p c.self.inside.state c.tell.new.self c.args.op c.tell.result
-        c.events_keep_replicas_sound.ensures.tell
+    c.events_keep_replicas_sound.ensures.tell
     (subst (λ q. c.tell.result ≡ Ok added.New → Tells q c.self.inside.state c.args.op c.tell.new.self) same
-        c.tell.ensures.new) c.tell.ensures.kept c.tell.ensures.err c.self.invariant
+    c.tell.ensures.new) c.tell.ensures.kept c.tell.ensures.err c.self.invariant

@@ -7,4 +7,4 @@ use Rattle.chr_replica.proofs.state.State.at_rest.Goals as goal
 pub returns : goal.returns
 returns c =
     subst (λ s. IsTrue c.at_rest.result ↔ IsAtRest (Step (rules_in c.args.weighed.now)) s.pool) c.self.view_is
-        c.at_rest.ensures
+    c.at_rest.ensures

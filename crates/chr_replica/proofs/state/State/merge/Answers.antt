@@ -20,7 +20,7 @@ returns-in-Ok-clause-ok c =
     let fresh_is : c.in_ok-fresh.fresh ≡ sum_of (fresh c.self.inside.ops c.args.ops.now) = search rules in
     let put : c.insert.new.self ≡ c.self.inside.pool ⊕ store_of (bag.items c.in_ok-fresh.fresh) = search rules in
     merges_is c.args.program.now _ _ _ _ _ _ c.in-Ok.count _ c.args.ops.now c.self.view_is declared agree room
-        c.in-Ok.ensures.count joined
+    c.in-Ok.ensures.count joined
     (put ∙ ap (λ s. c.self.inside.pool ⊕ s) (store_of-items c.in_ok-fresh.fresh ∙ fresh_is))
 
 pub returns-clause-refused : goal.returns-clause-refused
@@ -28,8 +28,8 @@ returns-clause-refused c =
     let declared : All (IsDeclared c.args.program.now) c.args.ops.now = search rules in
     let is : c.from.result ≡ refusal_of c.in-Err.fault = search rules in
     rw is (refuses_merge c.args.program.now c.args.self.now c.self.inside.ops c.args.ops.now c.join.result
-        c.in-Err.fault (ap (λ r. r.operations) c.self.view_is) declared c.in-Err.is c.join.ensures.clash
-        c.join.ensures.full)
+    c.in-Err.fault (ap (λ r. r.operations) c.self.view_is) declared c.in-Err.is c.join.ensures.clash
+    c.join.ensures.full)
 
 pub returns-clause-err : goal.returns-clause-err
 returns-clause-err c =
@@ -37,4 +37,4 @@ returns-clause-err c =
     let put : c.insert.new.self ≡ c.self.inside.pool ⊕ store_of (bag.items c.in_ok-fresh.fresh) = search rules in
     let atoms : store_of c.atoms-in-Err.result.now ≡ store_of (bag.items c.in_ok-fresh.fresh) = search rules in
     replica_is _ _ _ _ _ _ _ _ same (put_out c.remove.result c.self.inside.pool _ c.remove.new.self _ _ _ put atoms
-        atoms c.remove.ensures.there c.remove.ensures.taken) refl refl ∙ c.self.view_is
+    atoms c.remove.ensures.there c.remove.ensures.taken) refl refl ∙ c.self.view_is

@@ -19,11 +19,11 @@ returns-clause-ok c =
     let same : AreSame (program_of c.args.done.now.weighed) c.args.program.now = search rules in
     let reached : Reaches (Step (rules_in c.args.done.now.weighed)) c.args.done.now.part c.args.done.now.result =
     subst (Reaches (Step (rules_in c.args.done.now.weighed)) c.args.done.now.part) c.result.ensures.store
-        c.result.ensures.reached in
+    c.result.ensures.reached in
     let put : c.join.new.self ≡ c.self.inside.pool ⊕ store_of (bag.items c.args.done.now.result) = search rules in
     let gone : c.remove.new.self ≡ map.remove c.self.inside.out c.args.done.now.number = search rules in
     puts_is c.args.program.now (program_of c.args.done.now.weighed) _ _ _ c.args.done.now.part c.args.done.now.result _
-        _ _ c.args.done.now.number _ c.self.view_is (out ∙ ap Some part)
+    _ _ c.args.done.now.number _ c.self.view_is (out ∙ ap Some part)
     c.same_programs_reach_alike.ensures same reached put gone
 
 pub join-requires : goal.join-requires
@@ -31,6 +31,6 @@ join-requires c =
     let own : c.rules.result.now ≡ rules_in c.args.done.now.weighed = search rules in
     let atoms : c.atoms-2.result.now ≡ bag.items c.args.done.now.result = search rules in
     let end : store_of c.atoms-2.result.now ≡ c.args.done.now.result = ap store_of atoms
-        ∙ store_of-items c.args.done.now.result in
+    ∙ store_of-items c.args.done.now.result in
     subst (λ (rs : List Rule). IsAtRest (Step rs) (store_of c.atoms-2.result.now)) (sym own)
     (subst (λ (s : Store). IsAtRest (Step (rules_in c.args.done.now.weighed)) s) (sym end) c.requires)

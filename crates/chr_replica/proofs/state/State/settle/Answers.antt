@@ -10,10 +10,10 @@ pub returns-clause-ok : goal.returns-clause-ok
 returns-clause-ok c =
     let few : told_atoms c.args.self.now.operations ≤ MAX_TOLD = search rules in
     IfOk-weaker c.rest.result _ _ (λ n took. settles_is (program_of c.args.weighed.now) n _ _ _ _ _ _ c.self.view_is
-        c.args.weighed.now.lowers c.requires few took) (rw c.arrange.ensures at c.rest.ensures.ok)
+    c.args.weighed.now.lowers c.requires few took) (rw c.arrange.ensures at c.rest.ensures.ok)
 
 pub returns-clause-stopped : goal.returns-clause-stopped
 returns-clause-stopped c =
     let few : told_atoms c.args.self.now.operations ≤ MAX_TOLD = search rules in
     if_err c.rest.result _ _ (λ e took. settles_is (program_of c.args.weighed.now) e.steps _ _ _ _ _ _ c.self.view_is
-        c.args.weighed.now.lowers c.requires few took) (rw c.arrange.ensures at c.rest.ensures.stopped)
+    c.args.weighed.now.lowers c.requires few took) (rw c.arrange.ensures at c.rest.ensures.stopped)

@@ -17,7 +17,7 @@ returns-then-not-has-clause-refused c =
       λ over. omega (arith, next, few, over),
       λ within. (let there : IsWithin (store_of c.atoms.result.now) c.self.inside.pool =
           subst (IsWithin (store_of c.atoms.result.now)) (ap (λ s. s.pool) (sym c.self.view_is))
-              (subst (λ x. IsWithin x c.args.self.now.pool) (sym (items ∙ store_of-items c.args.part.now)) within) in
+          (subst (λ x. IsWithin x c.args.self.now.pool) (sym (items ∙ store_of-items c.args.part.now)) within) in
           absurd (true≢false (sym (c.has.ensures.1 there) ∙ c.if-not-has.true))),
     )
 

@@ -16,4 +16,4 @@ returns-in-Err-clause-same_pool c =
     let put : c.insert.new.self ≡ c.args.pool.now ⊕ store_of (bag.items c.args.op.1) = search rules in
     let atoms : store_of c.atoms-in-Err.result.now ≡ store_of (bag.items c.args.op.1) = search rules in
     put_out c.remove.result c.args.pool.now _ c.remove.new.self _ _ _ put atoms atoms c.remove.ensures.there
-        c.remove.ensures.taken
+    c.remove.ensures.taken

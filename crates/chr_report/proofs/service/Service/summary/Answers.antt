@@ -11,11 +11,11 @@ use Rattle.chr_report.proofs.service.Service.summary.Goals as goal
 pub returns-clause-writable : goal.returns-clause-writable
 returns-clause-writable c =
     happens_written (served c.args.self.now) c.args.self.now.world.replicas c.act.new.self.world.replicas
-        (event.At c.args.replica act.Summary) c.in_ok-answer.answer tt c.in_ok-answer.ensures.happens
+    (event.At c.args.replica act.Summary) c.in_ok-answer.answer tt c.in_ok-answer.ensures.happens
 
 pub returns-clause-answer : goal.returns-clause-answer
 returns-clause-answer c =
     summary_answers (declarations (served c.args.self.now)) (codes "merged ") version.Two
-        (served c.args.self.now) c.args.self.now.world.replicas c.act.new.self.world.replicas c.args.replica
-        c.in_ok-answer.answer
+    (served c.args.self.now) c.args.self.now.world.replicas c.act.new.self.world.replicas c.args.replica
+    c.in_ok-answer.answer
     c.look_into.ensures c.in_ok-answer.ensures.happens

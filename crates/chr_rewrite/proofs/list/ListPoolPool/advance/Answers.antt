@@ -6,7 +6,7 @@ use Rattle.chr_rewrite.proofs.list.ListPoolPool.advance.Goals as goal
 pub loop-steps-preserved : goal.loop-steps-preserved
 loop-steps-preserved c =
     Runs-append (Step c.args.rules.now) c.loop-steps.steps 1 c.args.self.now c.loop-steps.self c.step.new.self
-        c.loop-steps.invariant
+    c.loop-steps.invariant
     (c.step.new.self, rw c.in-Ok-true.field-0-test at c.in-Ok-true.ensures.stepped, refl)
 
 pub returns-in-Ok-false-clause-rests : goal.returns-in-Ok-false-clause-rests

@@ -13,10 +13,14 @@ join_seat-requires g c =
     let s = c.seat.invariant in
     let b = c.into_seat.ensures in
     let r = c.replace-badge.ensures in
-    let t = c.requires.table in
-    (i.0 ∙ sym t.0, b.0 ∙ (ap (λ x. x.table_id) r.value ∙ (s.0 ∙ sym t.0)), b.3, search rules,
-        visits _ _ _ _ (ap (λ m. m.0.keeps) i.1) (ap (λ v. v.sits)
-        (one_view _ _ _ b.2 (ap (λ x. x.views) r.value ∙ s.1))))
+    let t = c.requires.table in (
+      i.0 ∙ sym t.0,
+      b.0 ∙ (ap (λ x. x.table_id) r.value ∙ (s.0 ∙ sym t.0)),
+      b.3,
+      search rules,
+      visits _ _ _ _ (ap (λ m. m.0.keeps) i.1) (ap (λ v. v.sits)
+          (one_view _ _ _ b.2 (ap (λ x. x.views) r.value ∙ s.1))),
+    )
 
 pub append_last-requires-clause-hosts : goal.append_last-requires-clause-hosts
 append_last-requires-clause-hosts g c =
@@ -26,11 +30,15 @@ append_last-requires-clause-hosts g c =
     let j = c.join_seat.ensures in
     let h = c.in_ok-call.ensures.ok in
     let last : last_of no_entry c.call.new.self.entries ≡ h.entry = ap (last_of no_entry) h.after
-        ∙ last_snoc no_entry c.self.inside.book.entries h.entry in
+    ∙ last_snoc no_entry c.self.inside.book.entries h.entry in
     let into : c.into_seat.result.me.0 ≡ sitting c.seat.inside.number (mine_of c.seat.inside.badge.views) =
-        one_view _ _ _ b.2 (ap (λ x. x.views) r.value ∙ s.1) in
-    (search rules, search rules, ap (λ m. m.0.number) j.2 ∙ ap (λ v. v.number) into
-        ∙ sym (ap (λ (e : Entry). e.seat) last ∙ h.seat), search rules)
+    one_view _ _ _ b.2 (ap (λ x. x.views) r.value ∙ s.1) in (
+      search rules,
+      search rules,
+      ap (λ m. m.0.number) j.2 ∙ ap (λ v. v.number) into
+          ∙ sym (ap (λ (e : Entry). e.seat) last ∙ h.seat),
+      search rules,
+    )
 
 pub split_seat-requires : goal.split_seat-requires
 split_seat-requires g c =
@@ -47,12 +55,12 @@ invariant_of-self-2 g c =
     let h = c.in_ok-call.ensures.ok in
     let all = c.self.inside.pass.me.0.all in
     let last : last_of no_entry c.call.new.self.entries ≡ h.entry = ap (last_of no_entry) h.after
-        ∙ last_snoc no_entry c.self.inside.book.entries h.entry in
+    ∙ last_snoc no_entry c.self.inside.book.entries h.entry in
     let base : c.split_seat.new.seat.me.0.all ≡ c.join_seat.new.seat.me.0.all
-        ++ last_of no_entry c.call.new.self.entries ∷ [] = search rules in
+    ++ last_of no_entry c.call.new.self.entries ∷ [] = search rules in
     let more : c.split_seat.new.seat.me.0.all ≡ all ++ h.entry ∷ [] =
-        base ∙ ap (λ l. l ++ last_of no_entry c.call.new.self.entries ∷ []) (ap (λ m. m.0.all) j.2)
-        ∙ ap (λ e. all ++ e ∷ []) last in (
+    base ∙ ap (λ l. l ++ last_of no_entry c.call.new.self.entries ∷ []) (ap (λ m. m.0.all) j.2)
+    ∙ ap (λ e. all ++ e ∷ []) last in (
       search rules,
       search rules,
       h.after ∙ ap (λ l. l ++ h.entry ∷ []) i.2 ∙ append_assoc g.J.Naming.opening.journal all (h.entry ∷ [])
@@ -70,19 +78,19 @@ returns-clause-ok g c =
     let all = c.self.inside.pass.me.0.all in
     let mine = mine_of c.seat.inside.badge.views in
     let last : last_of no_entry c.call.new.self.entries ≡ h.entry = ap (last_of no_entry) h.after
-        ∙ last_snoc no_entry c.self.inside.book.entries h.entry in
+    ∙ last_snoc no_entry c.self.inside.book.entries h.entry in
     let into : c.into_seat.result.me.0 ≡ sitting c.seat.inside.number mine =
-        one_view _ _ _ b.2 (ap (λ x. x.views) r.value ∙ s.1) in
+    one_view _ _ _ b.2 (ap (λ x. x.views) r.value ∙ s.1) in
     let base : c.split_seat.new.seat.me.0.all ≡ c.join_seat.new.seat.me.0.all
-        ++ last_of no_entry c.call.new.self.entries ∷ [] = search rules in
+    ++ last_of no_entry c.call.new.self.entries ∷ [] = search rules in
     let more : c.split_seat.new.seat.me.0.all ≡ all ++ h.entry ∷ [] =
-        base ∙ ap (λ l. l ++ last_of no_entry c.call.new.self.entries ∷ []) (ap (λ m. m.0.all) j.2)
-        ∙ ap (λ e. all ++ e ∷ []) last in
+    base ∙ ap (λ l. l ++ last_of no_entry c.call.new.self.entries ∷ []) (ap (λ m. m.0.all) j.2)
+    ∙ ap (λ e. all ++ e ∷ []) last in
     let base' : mine_of c.into_badge.result.views ≡ c.join_seat.new.seat.me.0.mine
-        ++ last_of no_entry c.call.new.self.entries ∷ [] = search rules in
+    ++ last_of no_entry c.call.new.self.entries ∷ [] = search rules in
     let more' : mine_of c.into_badge.result.views ≡ mine ++ h.entry ∷ [] =
-        base' ∙ ap (λ l. l ++ last_of no_entry c.call.new.self.entries ∷ [])
-        (ap (λ m. m.0.mine) j.2 ∙ ap (λ v. v.mine) into) ∙ ap (λ e. mine ++ e ∷ []) last in (
+    base' ∙ ap (λ l. l ++ last_of no_entry c.call.new.self.entries ∷ [])
+    (ap (λ m. m.0.mine) j.2 ∙ ap (λ v. v.mine) into) ∙ ap (λ e. mine ++ e ∷ []) last in (
       h.entry,
       more ∙ ap (λ l. l ++ h.entry ∷ []) (ap (λ k. k.entries) c.self.view_is),
       more' ∙ ap (λ l. l ++ h.entry ∷ []) (ap (λ k. k.list) c.seat.view_is),

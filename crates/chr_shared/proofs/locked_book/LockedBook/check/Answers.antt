@@ -7,9 +7,14 @@ join_seat-requires g c =
     let i = c.self.invariant in
     let s = c.seat.invariant in
     let b = c.into_seat.ensures in
-    let t = c.requires.table in
-    (i.0 ∙ sym t.0, b.0 ∙ (s.0 ∙ sym t.0), b.3, search rules, visits _ _ _ _ (ap (λ m. m.0.keeps) i.1)
-        (ap (λ v. v.sits) (one_view _ _ _ b.2 s.1)))
+    let t = c.requires.table in (
+      i.0 ∙ sym t.0,
+      b.0 ∙ (s.0 ∙ sym t.0),
+      b.3,
+      search rules,
+      visits _ _ _ _ (ap (λ m. m.0.keeps) i.1)
+          (ap (λ v. v.sits) (one_view _ _ _ b.2 s.1)),
+    )
 
 pub load-requires : goal.load-requires
 load-requires g c =

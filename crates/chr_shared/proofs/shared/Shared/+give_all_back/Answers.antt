@@ -12,10 +12,10 @@ returns-in-Ok-clause-list g t c =
     let first = c.args.seat.now.list in
     let end = c.give_all_back.new.seat.list in
     subst (λ l. (es : List Entry) × (end ≡ first ++ es)
-        × (Returns l es × OnOk c.give_all_back.result (length es ≡ length l)))
+    × (Returns l es × OnOk c.give_all_back.result (length es ≡ length l)))
     (whole all c.in-len1-up.len_at_least)
     (gives_more (get_or all 0 0) (take (length all - 1) (drop 1 all)) first c.give_back.new.seat.list end
-        c.give_all_back.result c.in-Ok.ensures.ok c.give_all_back.ensures.list)
+    c.give_all_back.result c.in-Ok.ensures.ok c.give_all_back.ensures.list)
 
 pub returns-in-Err-clause-list : goal.returns-in-Err-clause-list
 returns-in-Err-clause-list g t c =

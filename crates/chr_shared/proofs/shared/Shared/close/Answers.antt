@@ -24,9 +24,9 @@ returns-clause-seats g c =
     let empty = p.cases.0 in
     let none = none_left c.loop-seat.seats.items (omega (arith, c.loop-seat.seats.ok.0)) in
     let all = i.1 (subst (λ l. All (HasOwn c.into_inner-locked.result.entries) l) (sym none)
-        (All-nil (HasOwn c.into_inner-locked.result.entries))) in
+    (All-nil (HasOwn c.into_inner-locked.result.entries))) in
     let log = dropped g.J.Naming.opening.journal c.into_book.result.entries _ c.into_book.ensures.entries
-        ∙ ap (λ d. d.entries) i.0 in
+    ∙ ap (λ d. d.entries) i.0 in
     subst (λ l. All (HasOwn l) c.args.seats.items) (sym log) all
 
 pub returns-clause-others : goal.returns-clause-others
@@ -37,7 +37,7 @@ returns-clause-others g c =
     let filled = c.args.self.seats_are.1 in
     let some : vec_len c.loop-seat.seats < vec_len c.args.seats = omega (arith, c.requires.all) in
     let log = dropped g.J.Naming.opening.journal c.into_book.result.entries _ c.into_book.ensures.entries
-        ∙ ap (λ d. d.entries) i.0 in
+    ∙ ap (λ d. d.entries) i.0 in
     subst (λ l. All (IsBySeat g.J.Naming.opening.seats) l) (sym log) (i.2 some)
 
 pub returns-clause-receipts : goal.returns-clause-receipts
@@ -47,10 +47,10 @@ returns-clause-receipts g c =
     let empty = p.cases.0 in
     let none = none_left c.loop-seat.seats.items (omega (arith, c.loop-seat.seats.ok.0)) in
     let all = i.1 (subst (λ l. All (HasOwn c.into_inner-locked.result.entries) l) (sym none)
-        (All-nil (HasOwn c.into_inner-locked.result.entries))) in
+    (All-nil (HasOwn c.into_inner-locked.result.entries))) in
     λ k d lt. placed g.J.Naming.opening.journal c.into_book.result.entries c.into_inner-locked.result.entries
-        (c.into_book.ensures.entries ∙ ap (λ d. g.J.Naming.opening.journal ++ d.entries) i.0) c.args.seats.items all _
-        (c.requires.receipts k d lt)
+    (c.into_book.ensures.entries ∙ ap (λ d. g.J.Naming.opening.journal ++ d.entries) i.0) c.args.seats.items all _
+    (c.requires.receipts k d lt)
 
 pub loop-seat-init : goal.loop-seat-init
 loop-seat-init g c = (refl, (λ all. all), λ less. absurd (omega (arith, less)))

@@ -29,9 +29,9 @@ returns-clause-least c =
     let there : c.args.column < length c.self.inside.columns = search rules in
     let at = get_or_default c.self.inside.columns c.args.column c.index-self-column.result [] there in
     least_has c.self.inside.columns c.self.inside.shapes.items c.args.self.now c.self.view_is c.args.column c.args.value
-        (get_or c.self.inside.columns c.args.column c.index-self-column.result) at c.args.from c.first.result
+    (get_or c.self.inside.columns c.args.column c.index-self-column.result) at c.args.from c.first.result
     (subst (λ m. IfSome c.first.result (λ row. row < m)) same c.first.ensures.within)
-        (rw (to_z-of_z w64 c.args.value c.ranges.value) at c.first.ensures.least)
+    (rw (to_z-of_z w64 c.args.value c.ranges.value) at c.first.ensures.least)
 
 pub returns-clause-none : goal.returns-clause-none
 returns-clause-none c =
@@ -41,7 +41,7 @@ returns-clause-none c =
     let there : c.args.column < length c.self.inside.columns = search rules in
     let at = get_or_default c.self.inside.columns c.args.column c.index-self-column.result [] there in
     none_at_all c.self.inside.columns c.self.inside.shapes.items c.args.self.now c.self.view_is c.args.column
-        c.args.value (get_or c.self.inside.columns c.args.column c.index-self-column.result) at c.args.from
-        c.first.result
+    c.args.value (get_or c.self.inside.columns c.args.column c.index-self-column.result) at c.args.from
+    c.first.result
     c.len.result (omega (arith, e, c.self.inside.shapes.ok.0)) (length c.args.self.now) (omega (arith, v, n))
-        (rw (to_z-of_z w64 c.args.value c.ranges.value) at c.first.ensures.none)
+    (rw (to_z-of_z w64 c.args.value c.ranges.value) at c.first.ensures.none)

@@ -25,6 +25,6 @@ returns c a =
     let r = c.requires.within in
     let l : c.args.from < length c.self.inside.shapes.items = omega (arith, v, n, r) in
     atoms_moved c.move_arguments.new.columns c.self.inside.columns c.self.inside.shapes.items c.args.to c.args.from
-        c.index.result.now a l
+    c.index.result.now a l
     c.move_arguments.ensures.moved c.move_arguments.ensures.others c.index.ensures
     ∙ ap (λ xs. set xs c.args.to (get_or xs c.args.from a)) c.self.view_is

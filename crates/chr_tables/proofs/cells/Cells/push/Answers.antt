@@ -11,7 +11,7 @@ returns-in_err-put_arguments-clause-err c =
     on_err _ c.from_residual-in_err-put_arguments.result
     (rw shapes
     (atoms_same _ _ c.len-2.result 0 c.self.inside.shapes.items c.in_err-put_arguments.ensures.before
-        (omega (arith, e, n, c.reserve.new.self.ok.0))
+    (omega (arith, e, n, c.reserve.new.self.ok.0))
     ∙ c.self.view_is))
 
 pub returns-clause-ok : goal.returns-clause-ok
@@ -21,7 +21,7 @@ returns-clause-ok c =
     let n = ap length shapes in
     let count : length c.self.inside.shapes.items ≡ c.len-2.result = omega (arith, e, n, c.reserve.new.self.ok.0) in
     let args = row_is c.put_arguments.new.columns c.len-2.result c.args.atom.now.args.items
-        (rw c.deref.ensures.0 at c.in_ok-put_arguments.ensures.ok) in
+    (rw c.deref.ensures.0 at c.in_ok-put_arguments.ensures.ok) in
     rw (c.push_reserved.ensures.items, shapes)
     (atoms_pushed _ _ c.len-2.result c.self.inside.shapes.items _ _ c.args.atom.now c.in_ok-put_arguments.ensures.before
-        count refl c.len.ensures.value args c.self.view_is)
+    count refl c.len.ensures.value args c.self.view_is)

@@ -13,7 +13,7 @@ returns-in-Crossed-clause-rows c =
     let fits_too : SFits w64 c.argument-in-Crossed-2.result = search rules in
     rw c.in-Crossed.is
     (ap (map (option_map crossed)) c.push-in-Crossed.ensures.rows
-        ∙ map-append (option_map crossed) c.in-Crossed.index.rows _
+    ∙ map-append (option_map crossed) c.in-Crossed.index.rows _
     ∙ (λ i. map (option_map crossed) c.in-Crossed.index.rows ++ Some (record {
       hash = c.args.hash;
       values = (to_z-of_z w64 c.argument-in-Crossed.result fits ∙ c.argument-in-Crossed.ensures) i

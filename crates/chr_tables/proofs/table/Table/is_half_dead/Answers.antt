@@ -17,4 +17,4 @@ returns-then-len-capacity c =
     let a = c.self.invariant.as_alive in
     let len = c.len-then-len-capacity.ensures in
     OnTrue_from _ (2 * length (filter is_some c.args.self.now.rows) ≤ length c.args.self.now.rows)
-        (λ t. (let l = leb-true _ _ t in omega (arith, live, n, e, v, w, m, a, len, l, c.self.inside.alive.ok.0)))
+    (λ t. (let l = leb-true _ _ t in omega (arith, live, n, e, v, w, m, a, len, l, c.self.inside.alive.ok.0)))

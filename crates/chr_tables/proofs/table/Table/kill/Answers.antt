@@ -17,13 +17,13 @@ index_mut-requires c =
 pub invariant_of-self : goal.invariant_of-self
 invariant_of-self c =
     let ways : ways_of c.kill_in.new.indexes ≡ ways_of c.self.inside.indexes.items = c.kill_in.ensures.ways
-        ∙ ap ways_of c.deref_mut.ensures.value in
+    ∙ ap ways_of c.deref_mut.ensures.value in
     let len : length c.kill_in.new.indexes ≡ length c.self.inside.indexes.items =
     sym (length_ways c.kill_in.new.indexes) ∙ ap length ways ∙ length_ways c.self.inside.indexes.items in
     let whole = put_back c.kill_in.new.indexes c.self.inside.indexes.items c.self.inside.indexes.len len
-        (omega (arith, c.self.inside.indexes.ok.0)) in
+    (omega (arith, c.self.inside.indexes.ok.0)) in
     rw whole (table_kill _ _ c.self.inside.indexes.items _ c.args.row c.self.invariant ways
-        (rw c.deref_mut.ensures.value at c.kill_in.ensures.rows)
+    (rw c.deref_mut.ensures.value at c.kill_in.ensures.rows)
     (length-set c.self.inside.alive.items _ _))
 
 pub returns-clause-rows : goal.returns-clause-rows

@@ -8,9 +8,9 @@ first-requires c = index_there c.args.self.now.tables.items c.args.table c.args.
 pub returns-clause-newest : goal.returns-clause-newest
 returns-clause-newest c =
     rw (← table_is c.args.self.now.tables.items c.args.table c.args.index c.index_mut.result.now c.requires
-        c.index_mut.ensures.value) c.first.ensures.newest
+    c.index_mut.ensures.value) c.first.ensures.newest
 
 pub returns-clause-none : goal.returns-clause-none
 returns-clause-none c =
     rw (← table_is c.args.self.now.tables.items c.args.table c.args.index c.index_mut.result.now c.requires
-        c.index_mut.ensures.value) c.first.ensures.none
+    c.index_mut.ensures.value) c.first.ensures.none

@@ -8,9 +8,9 @@ next-requires c = index_there c.args.self.now.tables.items c.args.table c.args.i
 pub returns-clause-newest : goal.returns-clause-newest
 returns-clause-newest c =
     rw (← table_is c.args.self.now.tables.items c.args.table c.args.index c.index_mut.result.now c.requires
-        c.index_mut.ensures.value) c.next.ensures.newest
+    c.index_mut.ensures.value) c.next.ensures.newest
 
 pub returns-clause-none : goal.returns-clause-none
 returns-clause-none c =
     rw (← table_is c.args.self.now.tables.items c.args.table c.args.index c.index_mut.result.now c.requires
-        c.index_mut.ensures.value) c.next.ensures.none
+    c.index_mut.ensures.value) c.next.ensures.none
