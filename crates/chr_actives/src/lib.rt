@@ -5,7 +5,8 @@
 //! computes nothing: its contract is the law.
 #![tactic(auto)]
 
-ghost use Rattle.chr_actives.specs.Laws.{EmptyRests, PartsRest, Absorbs, RemovedReacts, KeptReacts, RowsAreEnough, RowsLeave, SameRulesRest, ApartRest};
+ghost use Rattle.chr_actives.specs.Laws.{EmptyRests, PartsRest, Absorbs, RemovedReacts, KeptReacts, RowsAreEnough};
+ghost use Rattle.chr_actives.specs.Laws.{RowsLeave, SameRulesRest, ApartRest};
 
 /// The empty store is at rest under all rules, since each rule has a head.
 pub fn empty_rests()

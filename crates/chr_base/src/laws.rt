@@ -1,6 +1,8 @@
 //! The laws of stores and of their steps. Each is a function that takes nothing and computes nothing: its contract is
 //! the law.
-ghost use Rattle.chr_base.specs.Laws.{EmptyCounts, NoAtomsAreEmpty, ListCountsItself, ListCountsNoOther, SumCounts, DifferenceCounts, CountsDetermine, ItemsMakeStore, AddIsSum, WithinIsPart, SameProgramsStepAlike, SameProgramsReachAlike, RunsGrow};
+ghost use Rattle.chr_base.specs.Laws.{EmptyCounts, NoAtomsAreEmpty, ListCountsItself, ListCountsNoOther, SumCounts};
+ghost use Rattle.chr_base.specs.Laws.{DifferenceCounts, CountsDetermine, ItemsMakeStore, AddIsSum, WithinIsPart};
+ghost use Rattle.chr_base.specs.Laws.{SameProgramsStepAlike, SameProgramsReachAlike, RunsGrow};
 
 /// A store is a finite multiset of atoms: how often each atom stands in it determines it.
 pub fn bag_is_multiset()

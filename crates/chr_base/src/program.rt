@@ -92,9 +92,11 @@ fn some_paired(weights: &[Weight]) -> bool
 }
 
 impl Program {
-    ghost use Rattle.std.specs.Prelude.{◌≡◌, ◌<◌, ◌≤◌, ◌++◌, ◌↔◌, [], ◌∷◌, IsTrue, Some, None, OnOk, OnErr, IfOk, IfSome, option_map, position, length, slice_get};
+    ghost use Rattle.std.specs.Prelude.{◌≡◌, ◌<◌, ◌≤◌, ◌++◌, ◌↔◌, [], ◌∷◌, IsTrue, Some, None, OnOk, OnErr, IfOk};
+    ghost use Rattle.std.specs.Prelude.{IfSome, option_map, position, length, slice_get};
     ghost use Rattle.std.specs.Bool.{OnTrue, OnFalse};
-    ghost use Rattle.chr_base.specs.ProgramTests.{Declaration, declared, declares, fits, new_declaration, some_paired, with_weight};
+    ghost use Rattle.chr_base.specs.ProgramTests.{Declaration, declared, declares, fits, new_declaration, some_paired};
+    ghost use Rattle.chr_base.specs.ProgramTests.{with_weight};
     ghost use Rattle.chr_base.specs.Programs.{declarations, rules_of, declares_atom, declared_atom};
     ghost use Rattle.chr_base.specs.Names.{is_name};
     ghost use Rattle.chr_base.specs.Sameness.{AreSame};

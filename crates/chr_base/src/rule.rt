@@ -90,8 +90,10 @@ fn same_comparisons(left: &[Comparison], right: &[Comparison]) -> bool
 }
 
 impl Rule {
-    ghost use Rattle.std.specs.Prelude.{◌≡◌, ◌<◌, ◌≤◌, ◌+◌, ◌↔◌, IsTrue, length, get_or, List, [], ◌∷◌, ◌++◌, vec_len, vec_capacity};
-    ghost use Rattle.chr_base.specs.Rules.{heads_of, no_pattern, heads_at, atoms_at, guard_holds, HasInstance, Valuation};
+    ghost use Rattle.std.specs.Prelude.{◌≡◌, ◌<◌, ◌≤◌, ◌+◌, ◌↔◌, IsTrue, length, get_or, List, [], ◌∷◌, ◌++◌, vec_len};
+    ghost use Rattle.std.specs.Prelude.{vec_capacity};
+    ghost use Rattle.chr_base.specs.Rules.{heads_of, no_pattern, heads_at, atoms_at, guard_holds, HasInstance};
+    ghost use Rattle.chr_base.specs.Rules.{Valuation};
     ghost use Rattle.chr_base.specs.working.Bindings.{valued};
     ghost use Rattle.std.specs.Bool.{OnTrue, OnFalse};
     ghost use Rattle.chr_base.specs.Sameness.{parts_of};

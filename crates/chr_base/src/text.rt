@@ -14,9 +14,9 @@ use crate::runs::{print_order, runs_in_print_order};
 use itoa::Buffer;
 use std::alloc::{AllocError, Global};
 
-/// The atoms in the order in which texts of stores have them, one that occurs more than once as often as it does: by the
-/// bytes of the name, then by the number of arguments, then by the arguments as numbers, the first first. Atoms that the
-/// program doesn't declare have no name, and come first.
+/// The atoms in the order in which texts of stores have them, one that occurs more than once as often as it does: by
+/// the bytes of the name, then by the number of arguments, then by the arguments as numbers, the first first. Atoms
+/// that the program doesn't declare have no name, and come first.
 pub fn in_print_order(alloc: Global, program: &Program, bag: &Bag) -> Result<Vec<Atom>, AllocError>
     ensures { IfOk result (λ v. v.items ≡ in_print_order (declarations program.now) bag.now) }
 {

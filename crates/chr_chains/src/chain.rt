@@ -73,7 +73,8 @@ pub(crate) fn live_from(
     ensures size { length links.new ≡ length links.old }
     ensures within { result ≤ row + 1 }
     ensures live { IsLivePlace heads.now hashes.now alive.now (slot_of heads.now hashes.now row) result }
-    ensures none_between { LiesBelow heads.now hashes.now alive.now (slot_of heads.now hashes.now row) (row + 1) result }
+    ensures none_between { LiesBelow heads.now hashes.now alive.now (slot_of heads.now hashes.now row)
+        (row + 1) result }
 {
     if alive[row as usize] {
         return row + 1;

@@ -1,5 +1,6 @@
 //! The index.
-ghost use Rattle.std.specs.Prelude.{◌≡◌, ℕ, ◌+◌, ◌-◌, ◌<◌, ◌≤◌, ◌^◌, ◌∷◌, ◌++◌, [], length, get_or, set, Some, None, OnOk, IfOk, IfSome, IfNone};
+ghost use Rattle.std.specs.Prelude.{◌≡◌, ℕ, ◌+◌, ◌-◌, ◌<◌, ◌≤◌, ◌^◌, ◌∷◌, ◌++◌, [], length, get_or, set, Some, None};
+ghost use Rattle.std.specs.Prelude.{OnOk, IfOk, IfSome, IfNone};
 ghost use Rattle.std.specs.Bool.{OnTrue};
 ghost use Rattle.chr_chains.specs.working.Chained.{IsChained};
 ghost use Rattle.chr_chains.specs.Rows.{HasHash};

@@ -29,8 +29,8 @@ mod parts;
 /// A store that rests in near linear time. Some atoms are at rest under the pool's rules, and sit in rows; the others
 /// are fresh. Contracts see the multiset of both.
 ///
-/// Where a step keeps the newest fresh atom, the pool knows where the search for its partners stands. The next step goes
-/// on there, so that all steps with one atom cost one walk over its partners. Each other change forgets it.
+/// Where a step keeps the newest fresh atom, the pool knows where the search for its partners stands. The next step
+/// goes on there, so that all steps with one atom cost one walk over its partners. Each other change forgets it.
 #[derive(Drop)]
 pub struct Columns {
     rested: Rested,
@@ -172,8 +172,8 @@ impl Columns {
 
     /// Steps of these rules: so many, or fewer where the store is at rest then, or where memory is refused, after which
     /// the steps taken so far stand. Those by the pool's own rules take near constant time each; under other rules it
-    /// makes copies of these, and all atoms become fresh. The rules are compared once. Where they are the pool's own and
-    /// no atom is fresh, no step is looked for, nor memory asked for.
+    /// makes copies of these, and all atoms become fresh. The rules are compared once. Where they are the pool's own
+    /// and no atom is fresh, no step is looked for, nor memory asked for.
     pub fn advance(&mut self, rules: &[Rule], most: u64) -> Result<u64, Stopped>
         ensures ok { IfOk result (λ n. Runs (Step rules.now) n self.old self.new) }
         ensures most { IfOk result (λ n. n ≤ most) }

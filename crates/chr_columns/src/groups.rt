@@ -1,7 +1,8 @@
 //! Which table the atoms of a symbol are in.
 ghost use Rattle.std.specs.Prelude.{◌≡◌, length, IfOk, OnOk};
 ghost use Rattle.chr_base.specs.Rules.{heads_of};
-ghost use Rattle.chr_columns.specs.working.Groups.{table_of, IsGrouped, AreGrouped, AllGrouped, StayGrouped, HaveNoPlans};
+ghost use Rattle.chr_columns.specs.working.Groups.{table_of, IsGrouped, AreGrouped, AllGrouped, StayGrouped};
+ghost use Rattle.chr_columns.specs.working.Groups.{HaveNoPlans};
 
 use chr_base::atom::SymbolId;
 use chr_base::rule::Rule;

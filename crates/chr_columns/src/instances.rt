@@ -109,8 +109,8 @@ fn find_with(
 }
 
 /// An instance of the rule among all atoms, and the different rows in which its heads sit. None only where there is
-/// none. It takes no memory, and tries each atom at the first place, with all others at the other places. Where the first
-/// head has a constant, rows without it are passed over, eight at a time.
+/// none. It takes no memory, and tries each atom at the first place, with all others at the other places. Where the
+/// first head has a constant, rows without it are passed over, eight at a time.
 pub(crate) fn find_among(tables: &[Table], fresh: &[Atom], rule: &Rule) -> Option<Rows>
     requires { length tables.now * 2 ^ 32 + length fresh.now < 2 ^ 64 }
     ensures instance { IfSome result (λ found. HasInstance rule.now found.heads.items) }

@@ -1,5 +1,6 @@
 //! Atoms that are at rest by themselves join the rows, where they share no joining value with what is there.
-ghost use Rattle.std.specs.Prelude.{◌≡◌, ℕ, ℤ, ◌+◌, ◌<◌, ◌≤◌, All, Some, None, get_or, length, map, vec_len, vec_capacity, IfSome, OnOk, OnErr};
+ghost use Rattle.std.specs.Prelude.{◌≡◌, ℕ, ℤ, ◌+◌, ◌<◌, ◌≤◌, All, Some, None, get_or, length, map, vec_len};
+ghost use Rattle.std.specs.Prelude.{vec_capacity, IfSome, OnOk, OnErr};
 ghost use Rattle.chr_base.specs.declared.atom.Atom.{Atom as AtomValue};
 ghost use Rattle.chr_base.specs.FinBag.{◌⊕◌, IsWithin};
 ghost use Rattle.chr_base.specs.Rewriting.{IsAtRest};

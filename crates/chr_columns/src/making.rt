@@ -1,5 +1,6 @@
 //! Plans and indexes are made.
-ghost use Rattle.std.specs.Prelude.{◌≡◌, ℕ, ◌+◌, ◌<◌, List, [], map, length, slice_get, IfOk, OnOk, IfSome, IfNone, Some, None};
+ghost use Rattle.std.specs.Prelude.{◌≡◌, ℕ, ◌+◌, ◌<◌, List, [], map, length, slice_get, IfOk, OnOk, IfSome, IfNone};
+ghost use Rattle.std.specs.Prelude.{Some, None};
 ghost use Rattle.std.specs.Bool.{OnTrue, OnFalse};
 ghost use Rattle.chr_base.specs.declared.rule.Rule.{Rule as RuleValue};
 ghost use Rattle.chr_base.specs.FinBag.{empty};
@@ -7,8 +8,10 @@ ghost use Rattle.chr_base.specs.Rules.{heads_of};
 ghost use Rattle.chr_plans.specs.Plans.{IsPlan, pattern_at, partners_of, columns_of};
 ghost use Rattle.chr_tables.specs.Contents.{rows_of};
 ghost use Rattle.chr_columns.specs.working.Groups.{table_of_pattern, IsGrouped, AreGrouped, AllGrouped};
-ghost use Rattle.chr_columns.specs.working.Resting.{stored, IsRested, AreLookupsIndexed, ArePlanned, HasPlan, HavePlans, AreCovered};
-ghost use Rattle.chr_columns.specs.working.Making.{made_way, made_ways, lists_of, columns_in, StayIndexed, Grows, KeepPlans};
+ghost use Rattle.chr_columns.specs.working.Resting.{stored, IsRested, AreLookupsIndexed, ArePlanned, HasPlan};
+ghost use Rattle.chr_columns.specs.working.Resting.{HavePlans, AreCovered};
+ghost use Rattle.chr_columns.specs.working.Making.{made_way, made_ways, lists_of, columns_in, StayIndexed, Grows};
+ghost use Rattle.chr_columns.specs.working.Making.{KeepPlans};
 
 use crate::groups::{Group, groups_for, table_of};
 use crate::rested::Rested;
@@ -278,8 +281,8 @@ fn copies_of(alloc: Global, rules: &[Rule]) -> Result<Vec<Rule>, AllocError>
     Ok(copies)
 }
 
-/// No atoms, under copies of these rules, with the plans of their head places and the indexes that these want, whose keys
-/// are hashed under the seed. It is refused where memory is, or where there would be `MAX_TABLES` tables.
+/// No atoms, under copies of these rules, with the plans of their head places and the indexes that these want, whose
+/// keys are hashed under the seed. It is refused where memory is, or where there would be `MAX_TABLES` tables.
 pub(crate) fn rested_for(alloc: Global, seed: u64, rules: &[Rule]) -> Result<Rested, AllocError>
     ensures rested { IfOk result IsRested }
     ensures rules { IfOk result (λ r. r.rules.items ≡ rules.now) }

@@ -1,5 +1,6 @@
 //! Atoms are counted and taken out.
-ghost use Rattle.std.specs.Prelude.{◌≡◌, ◌+◌, ◌<◌, ◌≤◌, ◌^◌, ◌↔◌, ◌∷◌, ◌++◌, [], length, get_or, Some, None, IsTrue, is_some, take, IfSome, IfNone};
+ghost use Rattle.std.specs.Prelude.{◌≡◌, ◌+◌, ◌<◌, ◌≤◌, ◌^◌, ◌↔◌, ◌∷◌, ◌++◌, [], length, get_or, Some, None, IsTrue};
+ghost use Rattle.std.specs.Prelude.{is_some, take, IfSome, IfNone};
 ghost use Rattle.std.specs.Bool.{OnTrue, OnFalse};
 ghost use Rattle.chr_base.specs.declared.atom.Atom.{Atom as AtomValue};
 ghost use Rattle.chr_base.specs.Atoms.{atom_cmp};
@@ -152,8 +153,8 @@ impl Rested {
         }
     }
 
-    /// Takes all of these atoms out, at rest or fresh, or none where as a multiset they are not there. It searches what is
-    /// there for each.
+    /// Takes all of these atoms out, at rest or fresh, or none where as a multiset they are not there. It searches what
+    /// is there for each.
     fn remove_each(&mut self, fresh: &mut Vec<Atom>, atoms: &[Atom]) -> bool
         requires { IsRested self.old }
         ensures rested { IsRested self.new }

@@ -2,10 +2,13 @@
 //! the law.
 ghost use Rattle.chr_confluence.specs.laws.Grow.{InstancesGrow, StepsGrow, ReachingGrows};
 ghost use Rattle.chr_confluence.specs.laws.Rising.{StepsRise, ValuesStay, TypesRise};
-ghost use Rattle.chr_confluence.specs.laws.Peaks.{PeaksCommuteOrOverlap, CasesAreMatched, LeftSideIsStep, RightSideIsStep};
+ghost use Rattle.chr_confluence.specs.laws.Peaks.{PeaksCommuteOrOverlap, CasesAreMatched, LeftSideIsStep};
+ghost use Rattle.chr_confluence.specs.laws.Peaks.{RightSideIsStep};
 ghost use Rattle.chr_confluence.specs.laws.Newman.{NormalFormsExist, LocalConfluenceSuffices};
 ghost use Rattle.chr_confluence.specs.laws.Joinability.{ConfluentAreJoinable, JoinableAreConfluent};
-ghost use Rattle.chr_confluence.specs.laws.Cases.{StepsKeepValues, LocallyConfluentAreConfluent, CasesMakeLocallyConfluent, CasesMakeConfluent, DifferentEndsRefute, FailingCaseRefutes};
+ghost use Rattle.chr_confluence.specs.laws.Cases.{StepsKeepValues, LocallyConfluentAreConfluent};
+ghost use Rattle.chr_confluence.specs.laws.Cases.{CasesMakeLocallyConfluent, CasesMakeConfluent, DifferentEndsRefute};
+ghost use Rattle.chr_confluence.specs.laws.Cases.{FailingCaseRefutes};
 ghost use Rattle.chr_confluence.specs.laws.Parts.{PartsReach, PartsDetermine};
 
 /// Monotonicity: a step in a store is a step with the same effect in every larger store, and so goes on a run

@@ -1,6 +1,7 @@
 //! Why the listed cases suffice. Nothing here computes: the contracts are the laws.
 ghost use Rattle.chr_confluence.specs.laws.Unification.{UnifiersExist, OneUnifier, TermsStand};
-ghost use Rattle.chr_confluence.specs.laws.ListedCases.{ListedSuffice, EveryCaseIsListed, ListedAreCases, ListedHaveValues, ListedMakeConfluent, FailingListedRefutes};
+ghost use Rattle.chr_confluence.specs.laws.ListedCases.{ListedSuffice, EveryCaseIsListed, ListedAreCases};
+ghost use Rattle.chr_confluence.specs.laws.ListedCases.{ListedHaveValues, ListedMakeConfluent, FailingListedRefutes};
 
 /// Unification. Equations have a most general unifier, or no unifier. They determine it: each variable goes to the
 /// constant of its class, or else to the first variable of its class. And each term that stands for another variable

@@ -19,13 +19,14 @@ pub struct Peak {
     pub weighed: Weighed,
     /// The first case that fails.
     pub first: Ways,
-    /// Of the cases of its overlap that fail the one with the smallest store, where that is smaller than the first's: it
-    /// has fewer different values, or as many and comes before it. None too where there was no memory to look for it.
+    /// Of the cases of its overlap that fail the one with the smallest store, where that is smaller than the first's:
+    /// it has fewer different values, or as many and comes before it. None too where there was no memory to look for
+    /// it.
     pub smaller: Option<Ways>,
 }
 
-/// The case that fails, with the stores of both sides, and a smaller one. Where memory is refused, the program is handed
-/// back.
+/// The case that fails, with the stores of both sides, and a smaller one. Where memory is refused, the program is
+/// handed back.
 pub(crate) fn peak_of(
     alloc: Global,
     weighed: Weighed,

@@ -167,8 +167,8 @@ impl ToldRule<'_> {
         Ok(write!(out, " = {value}")?)
     }
 
-    /// Adds the values of the variables of one head. They are numbered by first occurrence, so that the next number is a
-    /// variable's that stands here first.
+    /// Adds the values of the variables of one head. They are numbered by first occurrence, so that the next number is
+    /// a variable's that stands here first.
     fn push_head_values(
         &self,
         out: &mut String,

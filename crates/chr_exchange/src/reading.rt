@@ -3,7 +3,8 @@
 ghost use Rattle.serde_json.specs.View.{view as data_of};
 ghost use Rattle.chr_base.specs.Programs.{declarations};
 ghost use Rattle.chr_json.specs.Deltas.{operation_with};
-ghost use Rattle.chr_exchange.specs.Meant.{delta_in, delta_meant, operation_meant, summary_in, summary_meant, Gives, GivesCover};
+ghost use Rattle.chr_exchange.specs.Meant.{delta_in, delta_meant, operation_meant, summary_in, summary_meant, Gives};
+ghost use Rattle.chr_exchange.specs.Meant.{GivesCover};
 
 use crate::fault::MessageFault;
 use crate::named::{declared_operation, declared_operations};
@@ -45,8 +46,8 @@ pub fn op_of(
 }
 
 /// The operations of a delta, in its order, as often as they stand there: of version 2,
-/// `[2,[[origin,[[number,[atom,..]],..]],..]]`, or of version 1, `[[[origin,number],[atom,..]],..]`. An array whose first
-/// element is a number is read as version 2, and every other as version 1.
+/// `[2,[[origin,[[number,[atom,..]],..]],..]]`, or of version 1, `[[[origin,number],[atom,..]],..]`. An array whose
+/// first element is a number is read as version 2, and every other as version 1.
 ///
 /// # Errors
 ///

@@ -1,7 +1,8 @@
 //! The bad clauses of a text.
 ghost use Rattle.std.specs.Prelude.{◌≡◌, ◌≤◌, ◌+◌, IfOk, IfNone, IfSome, length};
 ghost use Rattle.chr_read.specs.ProgramTexts.{IsShort, IsRefusedText};
-ghost use Rattle.chr_faults.specs.BadClauses.{AreBadClauses, AreFaults, AreInOrder, BadClausesAreOne, TellsFirst, IsProgram, TextsHaveBadClauses, apart_from, clause_after, without_clause};
+ghost use Rattle.chr_faults.specs.BadClauses.{AreBadClauses, AreFaults, AreInOrder, BadClausesAreOne, TellsFirst};
+ghost use Rattle.chr_faults.specs.BadClauses.{IsProgram, TextsHaveBadClauses, apart_from, clause_after, without_clause};
 
 use crate::limits::MAX_TOLD_FAULTS;
 use chr_read::{Fault, MAX_TEXT, ReadFault, read};

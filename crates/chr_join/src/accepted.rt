@@ -36,8 +36,8 @@ impl Accepted {
     ghost use Rattle.std.specs.Prelude.{◌≡◌, ℕ, IfOk, IfErr};
     ghost use Rattle.chr_join.specs.AcceptedPrograms.{weighed_of, program_in, coverage_of, cases_of};
 
-    /// A program of whose overlaps no case fails, with the number of all cases. Its seed is `FIXED_SEED`. Where memory is
-    /// refused, the program is handed back.
+    /// A program of whose overlaps no case fails, with the number of all cases. Its seed is `FIXED_SEED`. Where memory
+    /// is refused, the program is handed back.
     pub(crate) fn new(
         alloc: Global,
         weighed: Weighed,
@@ -60,8 +60,8 @@ impl Accepted {
         })
     }
 
-    /// The same, whose stores hash keys under this seed. No answer depends on it; who doesn't know it can't choose facts
-    /// whose keys meet in one place.
+    /// The same, whose stores hash keys under this seed. No answer depends on it; who doesn't know it can't choose
+    /// facts whose keys meet in one place.
     pub fn seeded(mut self, seed: u64) -> Accepted
         ensures weighed { weighed_of result ≡ weighed_of self }
         ensures coverage { coverage_of result ≡ coverage_of self }

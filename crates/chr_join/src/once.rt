@@ -1,5 +1,6 @@
 //! What the verdict on rules is worth. Nothing here computes: the contract is the law.
-ghost use Rattle.chr_join.specs.Once.{AcceptedAreConfluent, AcceptedOnce, NeverBoth, RefusedAreNotConfluent, RefusedOnce, VerdictsExist};
+ghost use Rattle.chr_join.specs.Once.{AcceptedAreConfluent, AcceptedOnce, NeverBoth, RefusedAreNotConfluent};
+ghost use Rattle.chr_join.specs.Once.{RefusedOnce, VerdictsExist};
 ghost use Rattle.chr_join.specs.working.Counting.{JointCasesJoin};
 
 use chr_confluence::laws::peak;

@@ -2,7 +2,8 @@
 
 ghost use Rattle.std.specs.Prelude.{◌≡◌, IfOk};
 ghost use Rattle.serde_json.specs.View.{view as data_of};
-ghost use Rattle.chr_json.specs.Commands.{command_of, command_of_one, command_of_three, command_of_two, lacks_of, merge_of, sync_of, tell_of, version_of};
+ghost use Rattle.chr_json.specs.Commands.{command_of, command_of_one, command_of_three, command_of_two, lacks_of};
+ghost use Rattle.chr_json.specs.Commands.{merge_of, sync_of, tell_of, version_of};
 ghost use Rattle.chr_json.specs.WrittenCommands.{CommandsAreRead};
 ghost use Rattle.chr_json.specs.Reads.{IsSized, command_view};
 ghost use Rattle.chr_json.specs.Texts.{CommandTextsAreSaid};

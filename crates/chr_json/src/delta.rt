@@ -3,7 +3,8 @@
 ghost use Rattle.std.specs.Prelude.{◌≡◌, All, IfOk, OnOk, map};
 ghost use Rattle.serde_json.specs.View.{view as data_of};
 ghost use Rattle.chr_base.specs.Traversals.{each};
-ghost use Rattle.chr_json.specs.Deltas.{all_numbered_of, begins_with_number, delta_of, group_of, groups_of, is_natural, operation_of};
+ghost use Rattle.chr_json.specs.Deltas.{all_numbered_of, begins_with_number, delta_of, group_of, groups_of, is_natural};
+ghost use Rattle.chr_json.specs.Deltas.{operation_of};
 ghost use Rattle.chr_json.specs.Parts.{AddsParts, GivesPart};
 ghost use Rattle.chr_json.specs.Reads.{raw_op_view, IsSizedOperation};
 

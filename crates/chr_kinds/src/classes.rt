@@ -16,7 +16,8 @@ use std::alloc::{AllocError, Global};
 
 /// The first position of a joint variable in the heads of two rules, the second numbered on from the first.
 fn class_position(first: &[(u32, Term)], second: &[(u32, Term)], shift: u8, class: u8) -> u32
-    ensures { result ≡ (if nat_le class shift then first_sort first.now class else first_sort second.now (class - shift)) }
+    ensures { result ≡ (if nat_le class shift then first_sort first.now class else first_sort second.now
+        (class - shift)) }
 {
     if class <= shift {
         first_position(first, class)

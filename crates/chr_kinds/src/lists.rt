@@ -1,5 +1,6 @@
 //! The lists of values at one sort.
-ghost use Rattle.std.specs.Prelude.{◌≡◌, ◌+◌, ◌≤◌, ◌<◌, ◌^◌, ◌++◌, ◌∷◌, [], IfOk, IfSome, IfNone, IsTrue, IsFalse, length, map};
+ghost use Rattle.std.specs.Prelude.{◌≡◌, ◌+◌, ◌≤◌, ◌<◌, ◌^◌, ◌++◌, ◌∷◌, [], IfOk, IfSome, IfNone, IsTrue, IsFalse};
+ghost use Rattle.std.specs.Prelude.{length, map};
 ghost use Rattle.chr_types.specs.OrderTypes.{Rises, AreValues};
 ghost use Rattle.chr_sorts.specs.Sorts.{ordered, equal, free};
 ghost use Rattle.chr_kinds.specs.FinestSorts.{kind_of};

@@ -5,7 +5,8 @@ ghost use Rattle.chr_base.specs.declared.limits.TheConstants.{MAX_ARITY};
 ghost use Rattle.chr_base.specs.Rules.{heads_of};
 ghost use Rattle.chr_sorts.specs.Sorts.{terms_from, sorted_terms, first_sort};
 ghost use Rattle.chr_kinds.specs.FinestSorts.{position_of};
-ghost use Rattle.chr_kinds.specs.working.Notes.{numbering, placed_heads, term_note, comparison_notes, bound_notes, guard_notes, rule_notes};
+ghost use Rattle.chr_kinds.specs.working.Notes.{numbering, placed_heads, term_note, comparison_notes, bound_notes};
+ghost use Rattle.chr_kinds.specs.working.Notes.{guard_notes, rule_notes};
 
 use chr_base::atom::SymbolId;
 use chr_base::limits::MAX_ARITY;

@@ -6,7 +6,8 @@ ghost use Rattle.chr_ops.specs.declared.id.OpId.{OpId as OpIdValue};
 ghost use Rattle.chr_ops.specs.Ids.{id_cmp};
 ghost use Rattle.chr_ops.specs.Summaries.{covers, IsApart};
 ghost use Rattle.chr_ops.specs.working.Joining.{IsWithout};
-ghost use Rattle.chr_ops.specs.working.Covering.{AreAsLongAsPossible, AreDisjoint, AreJoined, EndsRightBefore, IsLaid, IsPutIn, IsSameBut, end_ranges, is_among_ends, is_beside};
+ghost use Rattle.chr_ops.specs.working.Covering.{AreAsLongAsPossible, AreDisjoint, AreJoined, EndsRightBefore, IsLaid};
+ghost use Rattle.chr_ops.specs.working.Covering.{IsPutIn, IsSameBut, end_ranges, is_among_ends, is_beside};
 
 use crate::ends::Ends;
 use crate::id::OpId;
@@ -66,7 +67,8 @@ impl Covered {
     /// Covers an id that is not covered. Where it fails, nothing has changed.
     pub(crate) fn cover_one(&mut self, id: OpId) -> Result<(), AllocError>
         requires { covers self.old id ≡ false }
-        ensures covers { OnOk result ((q : OpIdValue) → covers self.new q ≡ (covers self.old q || is_among_ends (id ∷ []) q)) }
+        ensures covers { OnOk result ((q : OpIdValue) → covers self.new q
+            ≡ (covers self.old q || is_among_ends (id ∷ []) q)) }
         ensures apart { IsApart self.new }
         ensures err { OnErr result (self.new ≡ self.old) }
     {
@@ -80,7 +82,8 @@ impl Covered {
     /// Covers some ids that are not covered. Where it fails, nothing has changed.
     pub(crate) fn cover(&mut self, ids: &[OpId]) -> Result<(), AllocError>
         requires { (id : OpIdValue) → is_among_ends ids.now id ≡ true → covers self.old id ≡ false }
-        ensures covers { OnOk result ((id : OpIdValue) → covers self.new id ≡ (covers self.old id || is_among_ends ids.now id)) }
+        ensures covers { OnOk result ((id : OpIdValue) → covers self.new id
+            ≡ (covers self.old id || is_among_ends ids.now id)) }
         ensures apart { IsApart self.new }
         ensures err { OnErr result (self.new ≡ self.old) }
     {

@@ -1,5 +1,6 @@
 //! Taking operations into a set, and out of it again.
-ghost use Rattle.std.specs.Prelude.{◌≡◌, ℕ, ◌+◌, ◌-◌, ◌^◌, ◌≤◌, ◌↔◌, min, length, [], ◌∷◌, IfOk, IfErr, OnOk, OnErr, IsErrOf, vec_len};
+ghost use Rattle.std.specs.Prelude.{◌≡◌, ℕ, ◌+◌, ◌-◌, ◌^◌, ◌≤◌, ◌↔◌, min, length, [], ◌∷◌, IfOk, IfErr, OnOk, OnErr};
+ghost use Rattle.std.specs.Prelude.{IsErrOf, vec_len};
 ghost use Rattle.std.specs.FinMap as map;
 ghost use Rattle.chr_ops.specs.declared.id.OpId.{OpId as OpIdValue};
 ghost use Rattle.chr_ops.specs.Operations.{Operations, told_atoms, IsHeldOtherwise};

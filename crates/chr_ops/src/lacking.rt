@@ -45,8 +45,8 @@ fn copies(alloc: Global, held: &Entries, ranges: &[IdRange]) -> Result<Vec<Op>, 
     Ok(ops)
 }
 
-/// Copies of the operations of a set whose ids others leave out, in the order of ids, by the ranges of the set's ids. It
-/// costs a walk along both lists of ranges, and what is copied.
+/// Copies of the operations of a set whose ids others leave out, in the order of ids, by the ranges of the set's ids.
+/// It costs a walk along both lists of ranges, and what is copied.
 pub(crate) fn lacked(
     alloc: Global,
     held: &Entries,
@@ -82,8 +82,8 @@ fn ranges_not_held(alloc: Global, held: &Entries, ids: &[OpId]) -> Result<Vec<Id
     Ok(ranges)
 }
 
-/// Copies of the operations of a set whose ids are among these and which another one lacks, in the order of ids. It costs
-/// look-ups for these ids, and what is copied.
+/// Copies of the operations of a set whose ids are among these and which another one lacks, in the order of ids. It
+/// costs look-ups for these ids, and what is copied.
 pub(crate) fn lacked_of(
     alloc: Global,
     held: &Entries,

@@ -87,7 +87,8 @@ impl News {
 
     /// Ids that a giver gained, beyond which a taker lacks nothing of it, where that is known. It takes no memory.
     pub fn since(&self, giver: usize, taker: usize) -> Option<&[OpId]>
-        ensures { IfSome result (λ ids. (m n : Operations) → IsTrueOf self.now giver taker m n → LacksOnly m n ids.now) }
+        ensures { IfSome result (λ ids. (m n : Operations) → IsTrueOf self.now giver taker m n
+            → LacksOnly m n ids.now) }
     {
         self.givers.get(&giver)?.since(taker)
     }

@@ -1,5 +1,6 @@
 //! Operation sets.
-ghost use Rattle.std.specs.Prelude.{◌≡◌, ◌+◌, ◌<◌, ◌≤◌, ◌↔◌, IfErr, IfOk, IsErrOf, List, OnOk, OnErr, Ok, option_copied};
+ghost use Rattle.std.specs.Prelude.{◌≡◌, ◌+◌, ◌<◌, ◌≤◌, ◌↔◌, IfErr, IfOk, IsErrOf, List, OnOk, OnErr, Ok};
+ghost use Rattle.std.specs.Prelude.{option_copied};
 ghost use Rattle.std.specs.FinMap as map;
 ghost use Rattle.chr_base.specs.FinBag.{◌⊕◌};
 ghost use Rattle.chr_base.specs.Stores.{size};
@@ -203,9 +204,9 @@ impl OpSet {
         lacked(alloc, &self.held, &ranges, summary.ranges())
     }
 
-    /// Copies of the operations whose ids are among these and which another set lacks, in the order of ids. Where it lacks
-    /// no others, that is what `lacks` gives by a summary of just its ids. It costs look-ups for these ids, and what is
-    /// copied, however many ranges are held.
+    /// Copies of the operations whose ids are among these and which another set lacks, in the order of ids. Where it
+    /// lacks no others, that is what `lacks` gives by a summary of just its ids. It costs look-ups for these ids, and
+    /// what is copied, however many ranges are held.
     pub fn lacked_among(
         &self,
         alloc: Global,

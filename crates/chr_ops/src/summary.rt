@@ -68,8 +68,8 @@ impl Summary {
     }
 }
 
-/// The laws of summaries: ranges that are as long as possible and in order are determined by the ids that they cover, and
-/// each set has such ranges. So a set has one summary, whoever makes it.
+/// The laws of summaries: ranges that are as long as possible and in order are determined by the ids that they cover,
+/// and each set has such ranges. So a set has one summary, whoever makes it.
 pub fn summaries_are_one()
     ensures ranges { ApartIsOne }
     ensures summaries { SummariesAreOne }

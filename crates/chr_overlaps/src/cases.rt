@@ -1,5 +1,6 @@
 //! The cases of an overlap.
-ghost use Rattle.std.specs.Prelude.{◌≡◌, if◌then◌else◌, ◌+◌, ◌-◌, ◌<◌, ◌≤◌, ◌++◌, ℕ, [], Some, None, IfSome, IfNone, IfOk, IfErr, IsOkAnd, OnOk, length, map, nat_eq, slice_get};
+ghost use Rattle.std.specs.Prelude.{◌≡◌, if◌then◌else◌, ◌+◌, ◌-◌, ◌<◌, ◌≤◌, ◌++◌, ℕ, [], Some, None, IfSome, IfNone};
+ghost use Rattle.std.specs.Prelude.{IfOk, IfErr, IsOkAnd, OnOk, length, map, nat_eq, slice_get};
 ghost use Rattle.std.specs.List.{filter};
 ghost use Rattle.chr_base.specs.declared.rule.Rule.{Rule as RuleValue};
 ghost use Rattle.chr_base.specs.Programs.{rules_of};
@@ -13,7 +14,8 @@ ghost use Rattle.chr_confluence.specs.Representatives.{guards_hold};
 ghost use Rattle.chr_overlaps.specs.CaseLists.{case_at, AreCases, IsTooMany};
 ghost use Rattle.chr_overlaps.specs.OverlapLists.{IsOverlapOf};
 ghost use Rattle.chr_overlaps.specs.Refusals.{IfTooManyTypes};
-ghost use Rattle.chr_overlaps.specs.UnifiedOverlaps.{AreRulesOf, IsUnifiedAt, IsSortedUnifiedAt, HasNoSortedUnifier, HasUnified};
+ghost use Rattle.chr_overlaps.specs.UnifiedOverlaps.{AreRulesOf, IsUnifiedAt, IsSortedUnifiedAt, HasNoSortedUnifier};
+ghost use Rattle.chr_overlaps.specs.UnifiedOverlaps.{HasUnified};
 ghost use Rattle.chr_overlaps.specs.working.Unifiers.{classes_of, IsUnified};
 
 use crate::constants::constants;

@@ -3,7 +3,8 @@ ghost use Rattle.std.specs.Prelude.{◌≡◌, if◌then◌else◌, ◌+◌, ◌
 ghost use Rattle.std.specs.List.{filter, range_with_len, zip};
 ghost use Rattle.chr_base.specs.RuleTests.{is_variable};
 ghost use Rattle.chr_confluence.specs.Overlaps.{renamed_apart};
-ghost use Rattle.chr_confluence.specs.working.Solving.{identity_substitution, class_of, put_term, put_everywhere, unify_terms, solve};
+ghost use Rattle.chr_confluence.specs.working.Solving.{identity_substitution, class_of, put_term, put_everywhere};
+ghost use Rattle.chr_confluence.specs.working.Solving.{unify_terms, solve};
 ghost use Rattle.chr_overlaps.specs.declared.classes.TheConstants.{MAX_JOINT_VARIABLES, TABLE_LEN};
 ghost use Rattle.chr_overlaps.specs.working.Tables.{class_in, is_below, are_below, class_pattern, class_comparison};
 

@@ -101,8 +101,8 @@ fn add_overlaps_of(rules: &[Rule], place: usize, found: &mut Vec<Overlap>) -> Re
     Ok(())
 }
 
-/// The overlaps whose first rule stands at one of these places, counted from 0, by first rule, second rule and matching.
-/// A place where no rule stands has none.
+/// The overlaps whose first rule stands at one of these places, counted from 0, by first rule, second rule and
+/// matching. A place where no rule stands has none.
 pub fn overlaps_of(
     alloc: Global,
     weighed: &Weighed,

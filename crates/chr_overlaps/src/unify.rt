@@ -1,6 +1,7 @@
 //! The heads of two rules, made one at matched places.
 ghost use Rattle.std.specs.List.{zip};
-ghost use Rattle.std.specs.Prelude.{◌≡◌, if◌then◌else◌, ◌+◌, ◌-◌, ◌<◌, ◌≤◌, ◌++◌, IfNone, IfSome, Some, None, get_or, length, map};
+ghost use Rattle.std.specs.Prelude.{◌≡◌, if◌then◌else◌, ◌+◌, ◌-◌, ◌<◌, ◌≤◌, ◌++◌, IfNone, IfSome, Some, None, get_or};
+ghost use Rattle.std.specs.Prelude.{length, map};
 ghost use Rattle.std.specs.Bool.{Decides};
 ghost use Rattle.chr_base.specs.Rules.{guard_holds, heads_of, no_pattern};
 ghost use Rattle.chr_confluence.specs.Representatives.{assignment};
@@ -23,8 +24,8 @@ use chr_types::Beginnings;
 /// The greatest number of comparisons of two guards.
 pub(crate) const MAX_JOINT_COMPARISONS: usize = 2 * MAX_COMPARISONS;
 
-/// The heads and guards of two rules under the most general unifier of matched places: each term is a constant, or the first
-/// variable of its class. The variables of the second rule are numbered on from those of the first.
+/// The heads and guards of two rules under the most general unifier of matched places: each term is a constant, or the
+/// first variable of its class. The variables of the second rule are numbered on from those of the first.
 #[derive(Drop)]
 pub struct Unified {
     pub(crate) classes: Classes,
@@ -58,7 +59,8 @@ impl Unified {
         all_hold(&self.free, values, &self.guards)
     }
 
-    /// Whether the guards of both are the same comparisons of the same free classes, so that they hold at the same values.
+    /// Whether the guards of both are the same comparisons of the same free classes, so that they hold at the same
+    /// values.
     pub fn has_guards_of(&self, other: &Unified) -> bool
         ensures { Decides result ((self.now.free.items ≡ other.now.free.items)
             × (self.now.guards.items ≡ other.now.guards.items)) }

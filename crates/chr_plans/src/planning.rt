@@ -3,7 +3,9 @@ ghost use Rattle.std.specs.Prelude.{◌≡◌, ◌<◌, ◌≤◌, ◌+◌, ◌+
 ghost use Rattle.chr_base.specs.Rules.{heads_of};
 ghost use Rattle.chr_base.specs.RuleTests.{is_variable};
 ghost use Rattle.chr_plans.specs.Plans.{IsPlan};
-ghost use Rattle.chr_plans.specs.Planning.{is_in, column_of, variable_source, direct_source, equal_to, equal_source, term_source, keys_from, key_at, test_of, tests_from, tests_at, is_equal, turned, own_column, limit_by, limit_of, limits_from, MayLimit, AreLongest};
+ghost use Rattle.chr_plans.specs.Planning.{is_in, column_of, variable_source, direct_source, equal_to, equal_source};
+ghost use Rattle.chr_plans.specs.Planning.{term_source, keys_from, key_at, test_of, tests_from, tests_at, is_equal};
+ghost use Rattle.chr_plans.specs.Planning.{turned, own_column, limit_by, limit_of, limits_from, MayLimit, AreLongest};
 ghost use Rattle.chr_plans.specs.working.Choosing.{ArePlaces, IsChoice, longer};
 
 use crate::key::{Key, Limit, Source, Test, order_of};

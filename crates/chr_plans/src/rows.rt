@@ -95,8 +95,8 @@ pub trait Rows {
             HasKey (columns self.old table index) key.now (rows self.old table other) →
             ¬ (LiesIn span.now (rows self.old table other))) };
 
-    /// The given atom becomes that of a live row. It is made where it stays, since an atom that was just made is slow to
-    /// move.
+    /// The given atom becomes that of a live row. It is made where it stays, since an atom that was just made is slow
+    /// to move.
     fn read(&self, table: usize, row: usize, atom: &mut Atom)
         requires { IsTrue (is_some (rows self.now table row)) }
         ensures { rows self.now table row ≡ Some atom.new };

@@ -5,7 +5,8 @@
 //! - **Exchange.** Its removed heads all have the same variables and no symbol twice, but for heads that are repeated,
 //!   and its body has no other variables. So an atom that it removes tells all that it removes with it, and what it
 //!   puts there. What it keeps, no rule removes.
-//! - **Ranking.** It removes an atom that so many others of the same symbol come before, by `<` or `>`, or by `=<`, `>=`
+//! - **Ranking.** It removes an atom that so many others of the same symbol come before, by `<` or `>`, or by `=<`,
+//! `>=`
 //!   or `=:=` where all other arguments are equal. Where they do, so many still come before it after another such atom
 //!   has left.
 //!

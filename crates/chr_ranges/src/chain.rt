@@ -1,7 +1,8 @@
 //! Walks along chains.
 ghost use Rattle.std.specs.Prelude.{◌≡◌, ℕ, ◌+◌, ◌-◌, ◌%◌, ◌<◌, ◌≤◌, ◌^◌, length, get_or, vec_capacity};
 ghost use Rattle.std.specs.Bool.{OnTrue};
-ghost use Rattle.chr_ranges.specs.working.Chained.{row_at, row_slot, IsNewest, IsLink, AreLinked, AreHeads, Passes, IsSought};
+ghost use Rattle.chr_ranges.specs.working.Chained.{row_at, row_slot, IsNewest, IsLink, AreLinked, AreHeads, Passes};
+ghost use Rattle.chr_ranges.specs.working.Chained.{IsSought};
 
 use crate::range::Range;
 use crate::row::{Link, Row};

@@ -1,5 +1,6 @@
 //! Rows that are found by ranges of two values.
-ghost use Rattle.std.specs.Prelude.{◌≡◌, ℕ, ◌+◌, ◌-◌, ◌<◌, ◌≤◌, ◌^◌, ◌∷◌, ◌++◌, [], length, set, Some, None, OnOk, IfOk, IfSome, IfNone};
+ghost use Rattle.std.specs.Prelude.{◌≡◌, ℕ, ◌+◌, ◌-◌, ◌<◌, ◌≤◌, ◌^◌, ◌∷◌, ◌++◌, [], length, set, Some, None, OnOk};
+ghost use Rattle.std.specs.Prelude.{IfOk, IfSome, IfNone};
 ghost use Rattle.chr_ranges.specs.Rows.{IsWanted, IsCrossed};
 
 use crate::index::Index;
@@ -7,9 +8,9 @@ use crate::range::Range;
 use std::alloc::{AllocError, Global};
 use std::marker::Model;
 
-/// Rows that are found by a hash and ranges of two values: an index by each. A look-up goes down in turns by the one and
-/// by the other to the next row that both have, so that what either leaves behind is left behind. Contracts see the hash
-/// and both values of each live row, and for how many rows there is room.
+/// Rows that are found by a hash and ranges of two values: an index by each. A look-up goes down in turns by the one
+/// and by the other to the next row that both have, so that what either leaves behind is left behind. Contracts see the
+/// hash and both values of each live row, and for how many rows there is room.
 #[derive(Drop)]
 pub struct Crossing {
     first: Index,
@@ -33,8 +34,8 @@ impl Model for Crossing {
     ghost invariant = { λ c. AreAsMany c.first.rows c.second.rows };
 }
 
-/// From a place with a value in the first index that its range allows, or 0, down to the newest whose values both ranges
-/// allow, or 0.
+/// From a place with a value in the first index that its range allows, or 0, down to the newest whose values both
+/// ranges allow, or 0.
 fn cross(
     left: &mut Index,
     right: &mut Index,

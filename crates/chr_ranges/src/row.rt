@@ -48,8 +48,10 @@ impl Row {
 
     /// Whether the row lives, has this hash, and a value in the range.
     pub(crate) fn is_wanted(&self, hash: u32, range: &Range) -> bool
-        ensures wanted { OnTrue result ((self.now.alive ≡ true) × (self.now.hash ≡ hash) × IsIn range.now self.now.value) }
-        ensures other { OnFalse result (self.now.alive ≡ true → self.now.hash ≡ hash → IsIn range.now self.now.value → ⊥) }
+        ensures wanted { OnTrue result ((self.now.alive ≡ true) × (self.now.hash ≡ hash)
+            × IsIn range.now self.now.value) }
+        ensures other { OnFalse result (self.now.alive ≡ true → self.now.hash ≡ hash → IsIn range.now self.now.value
+            → ⊥) }
     {
         self.alive && self.hash == hash && range.has(self.value)
     }

@@ -1,7 +1,8 @@
 //! What a clause without faults adds to a program.
 
 ghost use Rattle.std.specs.List.{list_all};
-ghost use Rattle.std.specs.Prelude.{◌≡◌, ◌<◌, ◌++◌, [], ◌∷◌, map, option_map, length, Some, None, Option, OnOk, IfOk, IsTrue, true, false, unwrap_or};
+ghost use Rattle.std.specs.Prelude.{◌≡◌, ◌<◌, ◌++◌, [], ◌∷◌, map, option_map, length, Some, None, Option, OnOk, IfOk};
+ghost use Rattle.std.specs.Prelude.{IsTrue, true, false, unwrap_or};
 ghost use Rattle.chr_base.specs.Programs.{declarations, rules_of};
 ghost use Rattle.chr_base.specs.ProgramTests.{with_weight};
 ghost use Rattle.chr_base.specs.RuleTests.{is_in_bounds, is_rule};

@@ -4,7 +4,8 @@ ghost use Rattle.std.specs.Prelude.{◌≡◌, option_map, map};
 ghost use Rattle.std.specs.List.{list_any};
 ghost use Rattle.chr_syntax.specs.Views.{term_view, atom_view, comparison_view, rule_view};
 ghost use Rattle.chr_read.specs.Faults.{present, is_anonymous, is_named};
-ghost use Rattle.chr_read.specs.working.RuleParts.{stands_in, is_bound, term_unbound, atom_unbound, comparison_unbound, rule_unbound};
+ghost use Rattle.chr_read.specs.working.RuleParts.{stands_in, is_bound, term_unbound, atom_unbound, comparison_unbound};
+ghost use Rattle.chr_read.specs.working.RuleParts.{rule_unbound};
 
 use chr_syntax::{RawAtom, RawComparison, RawRule, RawTerm};
 

@@ -3,7 +3,8 @@
 ghost use Rattle.chr_read.specs.NamesOfForms.{NamesAreNames, NamesAreText};
 ghost use Rattle.chr_read.specs.Numberings.{HeadsAreOneList, OneNumberIsOneVariable};
 ghost use Rattle.chr_read.specs.RoundTrips.{ProgramsComeBack};
-ghost use Rattle.chr_read.specs.ProgramTexts.{MeaningsHavePrograms, ProgramsHaveOneMeaning, RefusedTextsAreNoPrograms, TextsHaveOneFault, TextsHaveSomeAnswer};
+ghost use Rattle.chr_read.specs.ProgramTexts.{MeaningsHavePrograms, ProgramsHaveOneMeaning, RefusedTextsAreNoPrograms};
+ghost use Rattle.chr_read.specs.ProgramTexts.{TextsHaveOneFault, TextsHaveSomeAnswer};
 
 /// The names of each clause are text and names of symbols and rules, so of them only their lengths are limited.
 pub fn names_are_text()

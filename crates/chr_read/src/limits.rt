@@ -4,7 +4,9 @@ ghost use Rattle.std.specs.Prelude.{◌≡◌, ◌+◌, ◌≤◌, nat_lt, optio
 ghost use Rattle.std.specs.List.{list_any};
 ghost use Rattle.chr_syntax.specs.Views.{term_view, atom_view, comparison_view, symbol_view, rule_view};
 ghost use Rattle.chr_read.specs.Faults.{present, symbol_over, atom_over, is_long_variable, is_outside};
-ghost use Rattle.chr_read.specs.working.RuleParts.{parts_of_atom_over, comparison_over, label_over, has_long_lists, parts_over, some_part_over, atom_outside, comparison_outside, rule_outside};
+ghost use Rattle.chr_read.specs.working.RuleParts.{parts_of_atom_over, comparison_over, label_over, has_long_lists};
+ghost use Rattle.chr_read.specs.working.RuleParts.{parts_over, some_part_over, atom_outside, comparison_outside};
+ghost use Rattle.chr_read.specs.working.RuleParts.{rule_outside};
 
 use crate::number::{arity_of, number_of};
 use crate::symbols::is_long;

@@ -2,7 +2,8 @@
 
 ghost use Rattle.std.specs.Prelude.{◌≡◌, ◌==◌, ◌≤◌, length, true, option_map};
 ghost use Rattle.std.specs.List.{list_all, prefix_len};
-ghost use Rattle.chr_read.specs.Numbers.{unsigned, without_zeros, small, arity_of, is_numeral, number_of, second_number_of, weight_outside, checked_weight, as_weight, weight_named_by};
+ghost use Rattle.chr_read.specs.Numbers.{unsigned, without_zeros, small, arity_of, is_numeral, number_of};
+ghost use Rattle.chr_read.specs.Numbers.{second_number_of, weight_outside, checked_weight, as_weight, weight_named_by};
 ghost use Rattle.chr_base.specs.Names.{is_digit};
 ghost use Rattle.chr_base.specs.Weights.{is_weight};
 

@@ -1,6 +1,7 @@
 //! The rule that a rule as written is: symbols by their places, variables by their numbers, digits by their values.
 
-ghost use Rattle.std.specs.Prelude.{◌≡◌, ◌+◌, ◌≤◌, ◌<◌, ◌++◌, map, option_map, length, true, false, IfOk, OnOk, IfSome, IsTrue};
+ghost use Rattle.std.specs.Prelude.{◌≡◌, ◌+◌, ◌≤◌, ◌<◌, ◌++◌, map, option_map, length, true, false, IfOk, OnOk, IfSome};
+ghost use Rattle.std.specs.Prelude.{IsTrue};
 ghost use Rattle.std.specs.List.{list_any};
 ghost use Rattle.chr_base.specs.declared.limits.TheConstants.{MAX_VARIABLES};
 ghost use Rattle.chr_base.specs.Names.{is_label};
@@ -8,7 +9,8 @@ ghost use Rattle.chr_base.specs.Programs.{declarations};
 ghost use Rattle.chr_syntax.specs.Views.{term_view, atom_view, comparison_view, rule_view};
 ghost use Rattle.chr_read.specs.Faults.{present};
 ghost use Rattle.chr_read.specs.working.RuleParts.{parts_of_atom_over, label_over, symbol_of};
-ghost use Rattle.chr_read.specs.Resolving.{met_at, variable_of, resolved_term, after_term, head_terms, after_terms, pattern, heads, after_heads, body_atom, cmp_of, resolved_comparison};
+ghost use Rattle.chr_read.specs.Resolving.{met_at, variable_of, resolved_term, after_term, head_terms, after_terms};
+ghost use Rattle.chr_read.specs.Resolving.{pattern, heads, after_heads, body_atom, cmp_of, resolved_comparison};
 ghost use Rattle.chr_read.specs.working.Views.{names_view};
 
 use crate::binding::is_anonymous;

@@ -6,7 +6,8 @@ ghost use Rattle.std.specs.Str.{is_utf8};
 ghost use Rattle.chr_base.specs.Programs.{declarations};
 ghost use Rattle.chr_syntax.specs.Views.{atom_view, symbol_view, rule_view};
 ghost use Rattle.chr_read.specs.Faults.{is_long, place_of_symbol, is_undeclared, present};
-ghost use Rattle.chr_read.specs.working.RuleParts.{place_of, place_of_atom, any_undeclared, rule_undeclared, is_declared_already};
+ghost use Rattle.chr_read.specs.working.RuleParts.{place_of, place_of_atom, any_undeclared, rule_undeclared};
+ghost use Rattle.chr_read.specs.working.RuleParts.{is_declared_already};
 
 use crate::number::arity_of;
 use chr_base::atom::SymbolId;

@@ -1,9 +1,13 @@
 //! The canonical text of a program.
 
-ghost use Rattle.std.specs.Prelude.{◌≡◌, ◌<◌, ◌++◌, map, option_map, Some, codes, decimal, IfOk, OnOk, string_bytes, length, slice_get, [], ◌∷◌};
+ghost use Rattle.std.specs.Prelude.{◌≡◌, ◌<◌, ◌++◌, map, option_map, Some, codes, decimal, IfOk, OnOk, string_bytes};
+ghost use Rattle.std.specs.Prelude.{length, slice_get, [], ◌∷◌};
 ghost use Rattle.chr_base.specs.Programs.{declarations, rules_of};
 ghost use Rattle.chr_base.specs.Texts.{name_at};
-ghost use Rattle.chr_read.specs.CanonicalTexts.{separated, more, term_text, args_text, pattern_text, patterns_text, cmp_text, comparison_text, label_text, kept_text, guard_text, body_text, rule_clause, symbol_text, declaration_clauses, weight_clauses, ended_clauses, canonical};
+ghost use Rattle.chr_read.specs.CanonicalTexts.{separated, more, term_text, args_text, pattern_text, patterns_text};
+ghost use Rattle.chr_read.specs.CanonicalTexts.{cmp_text, comparison_text, label_text, kept_text, guard_text};
+ghost use Rattle.chr_read.specs.CanonicalTexts.{body_text, rule_clause, symbol_text, declaration_clauses};
+ghost use Rattle.chr_read.specs.CanonicalTexts.{weight_clauses, ended_clauses, canonical};
 ghost use Rattle.chr_read.specs.RoundTrips.{ComesBack};
 ghost use Rattle.chr_read.specs.working.Views.{declared_view};
 

@@ -1,6 +1,7 @@
 //! The laws of replicas. Each is a function that takes nothing and computes nothing: its contract is the law.
 ghost use Rattle.chr_replica.specs.Laws.{FirstIsSound, OneAnswer};
-ghost use Rattle.chr_replica.specs.Laws.{TellKeeps, MergeKeeps, StepKeeps, TakeKeeps, TakePartsKeeps, PutKeeps, RecallKeeps, SettleKeeps};
+ghost use Rattle.chr_replica.specs.Laws.{TellKeeps, MergeKeeps, StepKeeps, TakeKeeps, TakePartsKeeps, PutKeeps};
+ghost use Rattle.chr_replica.specs.Laws.{RecallKeeps, SettleKeeps};
 
 /// The replica that was told nothing is sound, and each event keeps replicas so: what was told reaches the pool with
 /// all leased parts.

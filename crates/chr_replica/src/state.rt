@@ -36,7 +36,8 @@ impl Model for State {
 }
 
 impl State {
-    /// That of the replica that was told nothing. Its pool is made for the program's rules, and hashes keys under the seed.
+    /// That of the replica that was told nothing. Its pool is made for the program's rules, and hashes keys under the
+    /// seed.
     pub(crate) fn new(alloc: Global, seed: u64, program: &Program) -> Result<State, AllocError>
         ensures { IfOk result (λ state. state ≡ first) }
     {

@@ -241,8 +241,8 @@ fn answer_lines<R: Threads + Wait + Sync>(
     Ok(at)
 }
 
-/// Answers all commands, where there are any, after a text. The process is about to end then, and its memory with it, so
-/// the replicas are left as they are: to free a million operations one by one takes time.
+/// Answers all commands, where there are any, after a text. The process is about to end then, and its memory with it,
+/// so the replicas are left as they are: to free a million operations one by one takes time.
 pub(crate) fn answer_commands<R: Threads + Wait + Sync>(
     rt: &R,
     alloc: Global,

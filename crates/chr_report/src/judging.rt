@@ -21,8 +21,8 @@ pub(crate) enum Judged {
     Refused(String),
 }
 
-/// The program, whose stores hash keys under a seed that the system draws, so that nobody can choose facts whose keys meet
-/// in one place. Where it draws none, they keep the one that they have.
+/// The program, whose stores hash keys under a seed that the system draws, so that nobody can choose facts whose keys
+/// meet in one place. Where it draws none, they keep the one that they have.
 fn with_drawn_seed(rt: &impl RandomSource, accepted: Accepted) -> Accepted
     ensures weighed { weighed_of result ≡ weighed_of accepted }
     ensures coverage { coverage_of result ≡ coverage_of accepted }

@@ -125,7 +125,8 @@ pub fn run<R: Read, W: Write>(
     requires writes { has_failed writer.old ≡ false }
     requires limits { IsWithinLimits settings }
     ensures ok { IfOk result (λ status. WritesOutput (R.remaining (inner_of reader.old))
-        (W.contents (inner_of writer.old)) (W.contents (inner_of writer.new)) settings.command (wanted_by settings) status) }
+        (W.contents (inner_of writer.old)) (W.contents (inner_of writer.new)) settings.command
+        (wanted_by settings) status) }
     ensures err { OnErr result (WritesBeginning (R.remaining (inner_of reader.old))
         (W.contents (inner_of writer.old)) (W.contents (inner_of writer.new)) settings.command (wanted_by settings)) }
     // Nothing is left to be read.

@@ -20,7 +20,8 @@ ghost use Rattle.chr_report.specs.Served.{AllAnswered, HasNoFeed};
 ghost use Rattle.chr_report.specs.Written.{WritesOutput, WritesBeginning};
 ghost use Rattle.chr_report.specs.working.Services.{held, served, IsBetweenLines};
 ghost use Rattle.chr_report.specs.working.Serving.{AnswersChunk, AnswersCommands, AnswersInput, AnswersPart};
-ghost use Rattle.chr_report.specs.working.Serving.{AnswersFrontRead, IsCut, SendsAnswer, SendsSome, WritesText, WritesTextPart};
+ghost use Rattle.chr_report.specs.working.Serving.{AnswersFrontRead, IsCut, SendsAnswer, SendsSome, WritesText};
+ghost use Rattle.chr_report.specs.working.Serving.{WritesTextPart};
 
 use crate::answering::answer_line;
 use crate::input::{MOST_TEXT, divided, ended_line, without_return};
@@ -89,8 +90,8 @@ fn send_long<T: Wire>(answers: &mut String, wire: &mut T) -> Result<(), RunFault
     Ok(())
 }
 
-/// Answers the lines that end in this chunk, and keeps what stands after them. Their answers are sent together, as far as
-/// they are not too long to be held.
+/// Answers the lines that end in this chunk, and keeps what stands after them. Their answers are sent together, as far
+/// as they are not too long to be held.
 fn answer_chunk<T: Wire>(
     rt: &(impl Threads + Wait + Sync),
     alloc: Global,

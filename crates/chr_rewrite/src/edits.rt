@@ -1,5 +1,6 @@
 //! Putting atoms into a list and taking them out, whatever their order.
-ghost use Rattle.std.specs.Prelude.{◌≡◌, ◌+◌, ◌<◌, ◌≤◌, ◌++◌, [], ◌∷◌, IfSome, IfNone, IfOk, length, vec_len, vec_capacity, slice_index_or};
+ghost use Rattle.std.specs.Prelude.{◌≡◌, ◌+◌, ◌<◌, ◌≤◌, ◌++◌, [], ◌∷◌, IfSome, IfNone, IfOk, length, vec_len};
+ghost use Rattle.std.specs.Prelude.{vec_capacity, slice_index_or};
 ghost use Rattle.std.specs.Bool.{OnTrue, OnFalse};
 ghost use Rattle.chr_base.specs.declared.atom.Atom.{Atom as AtomValue};
 ghost use Rattle.chr_base.specs.Atoms.{atom_cmp};

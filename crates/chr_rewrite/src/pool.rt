@@ -51,8 +51,8 @@ pub trait Pool {
     fn bag(&self, alloc: Global) -> Result<Bag, AllocError>
         ensures { IfOk result (λ b. b ≡ contents self.now) };
 
-    /// Steps of these rules: so many, or fewer where the pool is at rest then, or where memory is refused, after which the
-    /// steps taken so far stand.
+    /// Steps of these rules: so many, or fewer where the pool is at rest then, or where memory is refused, after which
+    /// the steps taken so far stand.
     fn advance(&mut self, rules: &[Rule], most: u64) -> Result<u64, Stopped>
         ensures ok { IfOk result (λ n. Runs (Step rules.now) n (contents self.old) (contents self.new)) }
         ensures most { IfOk result (λ n. n ≤ most) }

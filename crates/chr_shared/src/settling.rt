@@ -194,8 +194,8 @@ impl<J: Naming> Shared<J> {
     }
 
     /// Calls of the seat: the pool is taken in so many parts, 1 to [`MAX_PARTS`]; so many workers, 1 to
-    /// [`MAX_WORKERS`], rest them with no lock held; what came of each part is put, or the part is recalled where memory
-    /// was refused; and then the pool is rested and shown under one lock.
+    /// [`MAX_WORKERS`], rest them with no lock held; what came of each part is put, or the part is recalled where
+    /// memory was refused; and then the pool is rested and shown under one lock.
     pub fn settle_with<R: Threads + Wait + Sync, G: Gate>(
         &self,
         rt: &R,

@@ -254,8 +254,8 @@ impl<J: Naming> Shared<J> {
     }
 
     /// Ends the sharing. The journal since the opening has, of each seat, just that seat's receipts in their order, and
-    /// no other entries. It takes all seats, in the order of their numbers ([`Shared::has_all`]). Each of the receipts that
-    /// are given stands in the journal, with the act, the reply, the seat and the number that it tells.
+    /// no other entries. It takes all seats, in the order of their numbers ([`Shared::has_all`]). Each of the receipts
+    /// that are given stands in the journal, with the act, the reply, the seat and the number that it tells.
     pub fn close(self, seats: Vec<Seat<J>>, receipts: &[Entry]) -> Book
         requires numbers { AreNumbered seats.items }
         requires all { vec_len seats ≡ J.opening.seats }

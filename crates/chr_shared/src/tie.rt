@@ -1,6 +1,6 @@
 //! The tie of receipts to entries: a table of one word, which never changes, whose views are the lists of the seats and
-//! the journal since the opening. The pass that sees the journal lies under the lock. In a call the caller's badge comes
-//! to it, so that one view holds both lists; the entry is appended to both; and the badge goes back.
+//! the journal since the opening. The pass that sees the journal lies under the lock. In a call the caller's badge
+//! comes to it, so that one view holds both lists; the entry is appended to both; and the badge goes back.
 use atomic_table::{Join, Play, Split, Table, TableRule};
 use chr_acts::Entry;
 use std::alloc::Global;

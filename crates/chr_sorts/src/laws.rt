@@ -1,8 +1,11 @@
 //! The laws of sorts. Each is a function that takes nothing and computes nothing: its contract is the law.
-ghost use Rattle.chr_sorts.specs.laws.Carrying.{ListsHaveImages, ImagesAdd, ImagesAreWithin, ImagesSubtract, StepsAreCarried, RunsAreCarried, JoinsAreCarried};
-ghost use Rattle.chr_sorts.specs.laws.SortedMaps.{SortsStay, SortedStepsAreCarried, SortedRunsAreCarried, SortedJoinsAreCarried};
+ghost use Rattle.chr_sorts.specs.laws.Carrying.{ListsHaveImages, ImagesAdd, ImagesAreWithin, ImagesSubtract};
+ghost use Rattle.chr_sorts.specs.laws.Carrying.{StepsAreCarried, RunsAreCarried, JoinsAreCarried};
+ghost use Rattle.chr_sorts.specs.laws.SortedMaps.{SortsStay, SortedStepsAreCarried, SortedRunsAreCarried};
+ghost use Rattle.chr_sorts.specs.laws.SortedMaps.{SortedJoinsAreCarried};
 ghost use Rattle.chr_sorts.specs.laws.SortedLists.{NewValuesCover, BlocksCover, OrderTypesCover, CombinationsCover};
-ghost use Rattle.chr_sorts.specs.laws.SortedCases.{EveryCaseIsSorted, SortedAreCases, SortedHaveValues, SortedSuffice, SortedMakeConfluent, FailingSortedRefutes};
+ghost use Rattle.chr_sorts.specs.laws.SortedCases.{EveryCaseIsSorted, SortedAreCases, SortedHaveValues, SortedSuffice};
+ghost use Rattle.chr_sorts.specs.laws.SortedCases.{SortedMakeConfluent, FailingSortedRefutes};
 
 /// Images. A map of atoms gives each store an image, atom by atom, with equal ones added up. It carries a step to a
 /// step where it takes each head and body atom of the instance to that of another one whose guard holds; so a map of

@@ -66,7 +66,8 @@ fn run_settings<R: Read, W: Write>(
         RunEnds (R.remaining (reader_of streams.old)) (W.contents (writer_of streams.old))
         (W.contents (writer_of streams.new)) settings.command (wanted_by settings) (exit_status result) }
     ensures explained { settings.command ≡ Explain →
-        ExplanationEnds (coverage_for settings.wide) (R.remaining (reader_of streams.old)) (W.contents (writer_of streams.old))
+        ExplanationEnds (coverage_for settings.wide) (R.remaining (reader_of streams.old))
+        (W.contents (writer_of streams.old))
         (W.contents (writer_of streams.new)) (exit_status result) }
 {
     if settings.command == Verb::Explain {

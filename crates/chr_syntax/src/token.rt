@@ -3,7 +3,8 @@
 ghost use Rattle.std.specs.Prelude.{◌≡◌, ◌≤◌, ◌<◌, Option, map, option_map, IfSome, length};
 ghost use Rattle.std.specs.List.{prefix_len};
 ghost use Rattle.chr_base.specs.Names.{is_digit, is_lower, is_upper, is_word_byte};
-ghost use Rattle.chr_syntax.specs.working.Tokens.{number_len, long_sign, middle_sign, short_sign, sign_at, token_at, tokens_of};
+ghost use Rattle.chr_syntax.specs.working.Tokens.{number_len, long_sign, middle_sign, short_sign, sign_at, token_at};
+ghost use Rattle.chr_syntax.specs.working.Tokens.{tokens_of};
 ghost use Rattle.chr_syntax.specs.working.Views.{token_view};
 ghost use Rattle.chr_syntax.specs.working.Outcomes.{AnswersWith};
 

@@ -1,5 +1,6 @@
 //! The atoms of rows, in columns.
-ghost use Rattle.std.specs.Prelude.{◌≡◌, ℕ, ◌<◌, ◌≤◌, ◌∷◌, ◌++◌, [], get_or, slice_get, length, set, take, pos, Some, OnOk, OnErr, IfSome, IfNone};
+ghost use Rattle.std.specs.Prelude.{◌≡◌, ℕ, ◌<◌, ◌≤◌, ◌∷◌, ◌++◌, [], get_or, slice_get, length, set, take, pos, Some};
+ghost use Rattle.std.specs.Prelude.{OnOk, OnErr, IfSome, IfNone};
 ghost use Rattle.chr_base.specs.declared.limits.TheConstants.{MAX_ARITY};
 ghost use Rattle.chr_tables.specs.working.Cells.{cell_value, arguments, HoldsValues, NoneIs, NoneHasArgument};
 ghost use Rattle.chr_base.specs.declared.atom.Atom.{Atom as AtomValue};

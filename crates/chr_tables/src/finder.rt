@@ -1,5 +1,6 @@
 //! How an index finds rows.
-ghost use Rattle.std.specs.Prelude.{◌≡◌, ℕ, ℤ, ◌+◌, ◌<◌, ◌≤◌, ◌^◌, ◌∷◌, ◌++◌, [], length, set, Some, None, OnOk, IfOk, IfSome, IfNone};
+ghost use Rattle.std.specs.Prelude.{◌≡◌, ℕ, ℤ, ◌+◌, ◌<◌, ◌≤◌, ◌^◌, ◌∷◌, ◌++◌, [], length, set, Some, None, OnOk, IfOk};
+ghost use Rattle.std.specs.Prelude.{IfSome, IfNone};
 ghost use Rattle.chr_plans.specs.Keys.{argument, key_of, columns_by};
 ghost use Rattle.chr_ranges.specs.Rows.{IsIn};
 ghost use Rattle.chr_tables.specs.working.Finders.{order_in, finder_rows, room_in, IsFinderRow};

@@ -5,8 +5,8 @@ ghost use Rattle.chr_tables.specs.Hashes.{mix, mixed, key_hash};
 /// The seed where none is drawn.
 pub const FIXED_SEED: u64 = 0x2545_F491_4F6C_DD1D;
 
-/// The word with its bits mixed, so that a change of any one bit changes each with a chance of about a half: the finalizer
-/// of SplitMix64, which is variant 13 of David Stafford's "Better Bit Mixing".
+/// The word with its bits mixed, so that a change of any one bit changes each with a chance of about a half: the
+/// finalizer of SplitMix64, which is variant 13 of David Stafford's "Better Bit Mixing".
 fn mix(word: u64) -> u64
     ensures { result ≡ mix word }
 {

@@ -1,5 +1,6 @@
 //! The indexes of a table, changed one after another.
-ghost use Rattle.std.specs.Prelude.{◌≡◌, ℕ, ◌+◌, ◌<◌, ◌≤◌, ◌^◌, ◌∷◌, ◌++◌, [], length, map, get_or, set, Some, None, OnOk};
+ghost use Rattle.std.specs.Prelude.{◌≡◌, ℕ, ◌+◌, ◌<◌, ◌≤◌, ◌^◌, ◌∷◌, ◌++◌, [], length, map, get_or, set, Some, None};
+ghost use Rattle.std.specs.Prelude.{OnOk};
 ghost use Rattle.chr_plans.specs.Keys.{key_of};
 ghost use Rattle.chr_tables.specs.Hashes.{key_hash};
 ghost use Rattle.chr_tables.specs.working.Indexes.{keyed_entries, atom_entry, ways_of, rooms_of, no_way, AreIndexed};

@@ -1,5 +1,6 @@
 //! One table.
-ghost use Rattle.std.specs.Prelude.{◌≡◌, ℕ, ◌+◌, ◌*◌, ◌<◌, ◌≤◌, ◌^◌, ◌∷◌, ◌++◌, [], length, filter, count_by, get_or, set, slice_get, Some, None, OnOk, OnErr, IfSome, IfNone, IsTrue, is_some};
+ghost use Rattle.std.specs.Prelude.{◌≡◌, ℕ, ◌+◌, ◌*◌, ◌<◌, ◌≤◌, ◌^◌, ◌∷◌, ◌++◌, [], length, filter, count_by, get_or};
+ghost use Rattle.std.specs.Prelude.{set, slice_get, Some, None, OnOk, OnErr, IfSome, IfNone, IsTrue, is_some};
 ghost use Rattle.std.specs.Bool.{OnTrue, OnFalse};
 ghost use Rattle.chr_base.specs.declared.limits.TheConstants.{MAX_ARITY};
 ghost use Rattle.chr_plans.specs.Rows.{HasKey, LiesIn};
@@ -104,8 +105,9 @@ impl Table {
         self.atoms.len()
     }
 
-    /// One more index, by these columns, of a table without rows. Its number is how many there were. Look-ups leave rows
-    /// behind that lie outside a span by the order's columns. Keys are hashed under the seed, on which no answer depends.
+    /// One more index, by these columns, of a table without rows. Its number is how many there were. Look-ups leave
+    /// rows behind that lie outside a span by the order's columns. Keys are hashed under the seed, on which no answer
+    /// depends.
     pub fn add_index(
         &mut self,
         alloc: Global,
@@ -130,9 +132,9 @@ impl Table {
         Ok(())
     }
 
-    /// The newest row that a look-up of this key and span by an index meets. It meets each live row that has the key and
-    /// lies in the span, and may meet other live rows, whose keys have the same hash; all of them lie in those bands of the
-    /// span whose columns are those of the index's order.
+    /// The newest row that a look-up of this key and span by an index meets. It meets each live row that has the key
+    /// and lies in the span, and may meet other live rows, whose keys have the same hash; all of them lie in those
+    /// bands of the span whose columns are those of the index's order.
     pub fn first(&mut self, index: usize, key: &[i64], span: &Span) -> Option<usize>
         requires { index < length self.old.keys }
         ensures same { self.new ≡ self.old }

@@ -13,8 +13,8 @@ use std::alloc::{AllocError, Global};
 /// Of so many classes a bound on their order types is made in no time.
 const FEW_CLASSES: usize = 8;
 
-/// No fewer than the order types of so many classes, where so many different values are there: a class is equal to one of
-/// these or lies between them. None where that is no number of 64 bits.
+/// No fewer than the order types of so many classes, where so many different values are there: a class is equal to one
+/// of these or lies between them. None where that is no number of 64 bits.
 fn most_types(classes: usize, values: usize) -> Option<usize>
     ensures { IfSome result (λ most. most ≡ most_types classes values) }
 {

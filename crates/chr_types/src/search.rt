@@ -3,7 +3,8 @@
 //! A prefix lacks some values: those between one of its values and the number that this is counted from. They are its
 //! holes. A value is tried only where the holes that are then left fit into the classes that are left, so each prefix
 //! can be completed, and the lists come in lexicographic order.
-ghost use Rattle.std.specs.Prelude.{◌≡◌, ◌≢◌, ◌||◌, ℕ, ℤ, List, ◌+◌, ◌<◌, ◌≤◌, ◌++◌, [], ◌∷◌, cond, OnOk, OnErr, IfOk, IfErr, IsSome, IfSome, IsTrue, ◌↔◌, length, map, vec_len};
+ghost use Rattle.std.specs.Prelude.{◌≡◌, ◌≢◌, ◌||◌, ℕ, ℤ, List, ◌+◌, ◌<◌, ◌≤◌, ◌++◌, [], ◌∷◌, cond, OnOk, OnErr, IfOk};
+ghost use Rattle.std.specs.Prelude.{IfErr, IsSome, IfSome, IsTrue, ◌↔◌, length, map, vec_len};
 ghost use Rattle.chr_types.specs.working.Search.{toward, way, others, has, holes_by, lists_over};
 ghost use Rattle.chr_types.specs.Refusals.{WhereTooMany};
 

@@ -226,8 +226,8 @@ impl Tableau {
         u64::try_from(multiple.checked_neg()?).ok()
     }
 
-    /// How often each of so many rules has to be applied, so that no weights are lowered by all, where this row grows by
-    /// no column.
+    /// How often each of so many rules has to be applied, so that no weights are lowered by all, where this row grows
+    /// by no column.
     pub(crate) fn times(&self, alloc: Global, row: &Row, rules: usize) -> Option<Vec<u64>> {
         let mut times = Vec::with_capacity(alloc, rules).ok()?;
         for rule in 0..rules {

@@ -18,8 +18,8 @@ pub struct PlayStopped {
 }
 
 impl World {
-    /// Lets these events happen, one after the other, and answers each. It goes on after a `settle` that was stopped, as
-    /// after each refusal.
+    /// Lets these events happen, one after the other, and answers each. It goes on after a `settle` that was stopped,
+    /// as after each refusal.
     ///
     /// # Errors
     /// Where memory is refused to an event, with the number of events before it. Those have happened, and no other.

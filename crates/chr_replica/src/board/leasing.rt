@@ -42,9 +42,9 @@ impl Board {
         self.state.take(alloc, part)
     }
 
-    /// Leases the whole pool out in so many parts, 1 to [`MAX_PARTS`], under the next numbers. The sizes of any two parts
-    /// differ by at most one; a part may be empty. Where some argument joins the heads of each rule, the parts are cut in
-    /// the order of that argument, so that atoms which rules can join mostly stand in one part.
+    /// Leases the whole pool out in so many parts, 1 to [`MAX_PARTS`], under the next numbers. The sizes of any two
+    /// parts differ by at most one; a part may be empty. Where some argument joins the heads of each rule, the parts
+    /// are cut in the order of that argument, so that atoms which rules can join mostly stand in one part.
     ///
     /// # Errors
     /// `Full` where the lease numbers don't suffice, `Memory`. Each of them leaves the board as it was.
@@ -82,9 +82,9 @@ impl Board {
         }
     }
 
-    /// The same of a result that is at rest. Where some argument joins the heads of each rule, as one variable that stands
-    /// there in all of them, those of its atoms whose value there is one of the part's, and of no atom that is at rest in
-    /// the pool, are at rest at once: the next settling looks at the others alone.
+    /// The same of a result that is at rest. Where some argument joins the heads of each rule, as one variable that
+    /// stands there in all of them, those of its atoms whose value there is one of the part's, and of no atom that is
+    /// at rest in the pool, are at rest at once: the next settling looks at the others alone.
     ///
     /// # Errors
     /// As [`Board::put`].

@@ -12,7 +12,8 @@ use crate::laws::events_keep_replicas_sound;
 use chr_rewrite::resting::Stopped;
 
 impl Board {
-    /// How many atoms of the pool wait to be looked at by the next settling; the others are at rest. It takes no memory.
+    /// How many atoms of the pool wait to be looked at by the next settling; the others are at rest. It takes no
+    /// memory.
     pub fn waiting(&self) -> usize
         ensures { result ≤ size self.now.replica.pool }
     {

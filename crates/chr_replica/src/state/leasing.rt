@@ -47,8 +47,8 @@ impl State {
         })
     }
 
-    /// Leases the whole pool out in so many parts of even sizes. Where some argument joins the heads of each rule, atoms
-    /// that share it stand in one part, or in parts that follow each other.
+    /// Leases the whole pool out in so many parts of even sizes. Where some argument joins the heads of each rule,
+    /// atoms that share it stand in one part, or in parts that follow each other.
     pub(crate) fn take_parts(
         &mut self,
         alloc: Global,
@@ -100,7 +100,8 @@ impl State {
         Ok(())
     }
 
-    /// Takes back what came of a part and is at rest. Atoms that no rule can join with those at rest here are so at once.
+    /// Takes back what came of a part and is at rest. Atoms that no rule can join with those at rest here are so at
+    /// once.
     pub(crate) fn put_rested(&mut self, program: &Program, done: &Done) -> Result<(), Refusal>
         requires { IsAtRest (Step (rules_in done.now.weighed)) done.now.result }
         ensures ok { OnOk result (
