@@ -1,6 +1,7 @@
 //! Explanations of program texts: a verdict told to a person, in sentences or drawn.
 #![tactic(auto)]
 
+mod drawings;
 mod explanation;
 
 pub use chr_diagnosis::{

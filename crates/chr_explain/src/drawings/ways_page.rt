@@ -1,7 +1,7 @@
 //! Both ways of a case that fails, side by side on a page.
 
-use crate::cards::{Card, Cards};
-use crate::html::push_html;
+use crate::drawings::cards::{Card, Cards};
+use crate::drawings::html::push_html;
 use std::alloc::AllocError;
 
 /// Adds a step, and the store that it leaves.

@@ -1,7 +1,7 @@
 //! Boxes, arrows and text of drawings in SVG. All lengths are whole units, of which a character takes 8.
 
-use crate::html::{push_html, push_html_char};
-use crate::limits::MAX_SVG_CHARACTERS;
+use crate::drawings::html::{push_html, push_html_char};
+use crate::drawings::limits::MAX_SVG_CHARACTERS;
 use std::alloc::AllocError;
 use std::fmt::Write;
 

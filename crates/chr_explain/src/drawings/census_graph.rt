@@ -1,8 +1,8 @@
 //! The rules of an accepted program and their cases, as nodes and edges.
 
-use crate::graph::{Edge, Graph, Meaning, Node};
-use crate::groups::{Group, groups_of, place_of_rule};
-use crate::limits::MAX_TOLD_COPIES;
+use crate::drawings::graph::{Edge, Graph, Meaning, Node};
+use crate::drawings::groups::{Group, groups_of, place_of_rule};
+use crate::drawings::limits::MAX_TOLD_COPIES;
 use chr_diagnosis::{Census, NamedProgram, told_rule};
 use chr_faults::Names;
 use chr_join::Coverage;

@@ -1,9 +1,9 @@
 //! What is to be told of a text, as a drawing in the language of Graphviz.
 
-use crate::graph_drawing::push_graph;
-use crate::graphs::graph_of;
-use crate::label::{Align, push_label};
-use crate::peak_drawing::push_peak_drawing;
+use crate::drawings::graph_drawing::push_graph;
+use crate::drawings::graphs::graph_of;
+use crate::drawings::label::{Align, push_label};
+use crate::drawings::peak_drawing::push_peak_drawing;
 use chr_diagnosis::Diagnosis;
 use chr_faults::Names;
 use chr_sentences::told_text;

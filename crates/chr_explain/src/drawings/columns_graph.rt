@@ -1,6 +1,6 @@
 //! The columns of an overlap with too many cases, as nodes and edges.
 
-use crate::graph::{Edge, Graph, Meaning, Node};
+use crate::drawings::graph::{Edge, Graph, Meaning, Node};
 use chr_base::atom::SymbolId;
 use chr_base::program::Program;
 use chr_base::rule::Rule;

@@ -1,9 +1,9 @@
 //! Which nodes and edges are drawn of what is to be told.
 
-use crate::census_graph::census_graph;
-use crate::columns_graph::columns_graph;
-use crate::cycle_graph::cycle_graph;
-use crate::graph::Graph;
+use crate::drawings::census_graph::census_graph;
+use crate::drawings::columns_graph::columns_graph;
+use crate::drawings::cycle_graph::cycle_graph;
+use crate::drawings::graph::Graph;
 use chr_diagnosis::{Diagnosis, Unlowered};
 use chr_faults::Names;
 use chr_weighing::Weighing;

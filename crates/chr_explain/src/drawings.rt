@@ -1,6 +1,4 @@
 //! A diagnosis as a drawing, and as a page.
-#![tactic(auto)]
-
 mod cards;
 mod census_graph;
 mod columns_graph;
@@ -22,5 +20,5 @@ mod svg;
 mod ways_page;
 mod ways_svg;
 
-pub use drawing::drawn_text;
-pub use page::page_text;
+pub(crate) use drawing::drawn_text;
+pub(crate) use page::page_text;

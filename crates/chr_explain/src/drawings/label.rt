@@ -1,6 +1,6 @@
 //! Labels of nodes and edges in the language of Graphviz.
 
-use crate::limits::MAX_DRAWN_BYTES;
+use crate::drawings::limits::MAX_DRAWN_BYTES;
 use std::alloc::AllocError;
 
 /// Where the lines of a label end: in the middle, or on the left.

@@ -1,6 +1,6 @@
 //! The text of a program on a page, with marks at its faulty places.
 
-use crate::html::push_html_char;
+use crate::drawings::html::push_html_char;
 use chr_diagnosis::Diagnosis;
 use chr_faults::{Span, TextFaults, bad_spans, rule_span, shown};
 use chr_overlaps::Overlap;

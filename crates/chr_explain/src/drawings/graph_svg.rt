@@ -1,9 +1,11 @@
 //! Nodes, one below another, and edges beside them, as a drawing in SVG.
 
-use crate::graph::{Edge, Graph, Meaning, Node};
-use crate::html::push_html;
-use crate::limits::MAX_MARKED_EDGES;
-use crate::svg::{CHARACTER, Frame, MARGIN, push_frame, push_svg, push_svg_text, width_of};
+use crate::drawings::graph::{Edge, Graph, Meaning, Node};
+use crate::drawings::html::push_html;
+use crate::drawings::limits::MAX_MARKED_EDGES;
+use crate::drawings::svg::{
+    CHARACTER, Frame, MARGIN, push_frame, push_svg, push_svg_text, width_of,
+};
 use std::alloc::{AllocError, Global};
 use std::fmt::Write;
 

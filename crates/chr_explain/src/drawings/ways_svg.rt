@@ -1,7 +1,7 @@
 //! Both ways of a case that fails, as a drawing in SVG.
 
-use crate::cards::{Card, Cards};
-use crate::svg::{CHARACTER, Frame, MARGIN, push_box, push_svg, push_svg_text, width_of};
+use crate::drawings::cards::{Card, Cards};
+use crate::drawings::svg::{CHARACTER, Frame, MARGIN, push_box, push_svg, push_svg_text, width_of};
 use std::alloc::{AllocError, Global};
 use std::fmt::Write;
 

@@ -1,14 +1,14 @@
 //! What is to be told of a text, as a page in HTML that stands alone.
 
-use crate::cards::{Cards, cards_of};
-use crate::graph::{Graph, Meaning};
-use crate::graph_svg::push_graph_svg;
-use crate::graphs::graph_of;
-use crate::html::{push_first_line, push_html};
-use crate::listing::push_listing;
-use crate::style::STYLE;
-use crate::ways_page::push_ways;
-use crate::ways_svg::push_ways_svg;
+use crate::drawings::cards::{Cards, cards_of};
+use crate::drawings::graph::{Graph, Meaning};
+use crate::drawings::graph_svg::push_graph_svg;
+use crate::drawings::graphs::graph_of;
+use crate::drawings::html::{push_first_line, push_html};
+use crate::drawings::listing::push_listing;
+use crate::drawings::style::STYLE;
+use crate::drawings::ways_page::push_ways;
+use crate::drawings::ways_svg::push_ways_svg;
 use chr_diagnosis::{Diagnosis, Peak, Proposal};
 use chr_faults::{Names, TextFaults};
 use chr_read::Fault;

@@ -1,6 +1,6 @@
 //! A case that fails, as a drawing in the language of Graphviz.
 
-use crate::label::{Align, push_label};
+use crate::drawings::label::{Align, push_label};
 use chr_base::bag::Bag;
 use chr_base::derivation::Derivation;
 use chr_base::program::Program;

@@ -1,7 +1,7 @@
 //! Nodes and edges in the language of Graphviz.
 
-use crate::graph::{Edge, Graph, Meaning, Node};
-use crate::label::{Align, push_label};
+use crate::drawings::graph::{Edge, Graph, Meaning, Node};
+use crate::drawings::label::{Align, push_label};
 use std::alloc::AllocError;
 use std::fmt::Write;
 
