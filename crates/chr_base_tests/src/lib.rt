@@ -1,4 +1,5 @@
-//! Tests of programs, rules, atoms and bags, in the public words of `chr_base`. There is nothing here but tests.
+//! Tests of programs, order types, rows and weights, in the public words of the crates that have them. There is nothing
+//! here but tests.
 #![tactic(auto)]
 
 #[cfg(test)]

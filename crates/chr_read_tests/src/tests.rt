@@ -1,6 +1,7 @@
 mod arities;
 mod bytes;
 mod canonical;
+mod clauses;
 mod faults;
 mod full_text;
 mod many_digits;
