@@ -1,4 +1,4 @@
-//! Tests of columns, in the public words of `chr_columns`. There is nothing here but tests.
+//! Tests of columns, and of pools, derivations and replays, in the public words of `chr_columns` and `chr_rewrite`.
 #![tactic(auto)]
 
 #[cfg(test)]

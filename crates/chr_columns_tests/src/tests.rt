@@ -1,4 +1,4 @@
-//! Columns whose rows, steps and refused calls are told one by one.
+//! Columns whose rows, steps and refused calls are told one by one, and programs that are rewritten in them.
 mod calls;
 mod firing;
 mod moving;
@@ -6,3 +6,4 @@ mod ordered;
 mod passing;
 mod pool;
 mod refused;
+mod rewriting;

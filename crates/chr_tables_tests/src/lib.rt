@@ -1,4 +1,4 @@
-//! Tests of tables of atoms and searches through them, in the public words of `chr_tables`. There is nothing here but tests.
+//! Tests of plans, of tables of atoms and of searches by plans, in the public words of `chr_plans` and `chr_tables`.
 #![tactic(auto)]
 
 #[cfg(test)]

@@ -1,0 +1,8 @@
+use Rattle.std.proofs.Common.{◌≡◌, length}
+use Rattle.chr_tables_tests.proofs.tests.tables.ordered.kill_some.Given as goal
+
+abbrev pub invariant-loop-row : goal.invariant-loop-row
+invariant-loop-row l = record {
+  keys : l.table.keys ≡ l.fn.table.keys;
+  entries : length l.entries ≡ length l.fn.entries;
+}
