@@ -1,5 +1,5 @@
 //! The longest lines, and the largest operations.
-use crate::tests::compact::{is_compact, is_read_as_by_value};
+use crate::tests::lines::compact::{is_compact, is_read_as_by_value};
 use chr_json::{Command, LineFault, MAX_LINE, read_line};
 use std::alloc::Global;
 use std::process::Abort;

@@ -1,0 +1,536 @@
+//! Texts of messages, with what they mean, and what is written.
+use chr_base::program::Program;
+use chr_exchange::{
+    MessageFault, delta_of, delta_text, delta_text_1, op_of, read_delta, read_summary, summary_of,
+    summary_text,
+};
+use chr_ops::{AddFault, Op, OpId, OpSet};
+use serde_json::Value;
+use std::alloc::Global;
+use std::process::Abort;
+
+/// Declares `min/1`, `a/1`, `b/0` and `r/6`.
+fn four_symbols(rt: &impl Abort, alloc: Global) -> Program {
+    let mut program = Program::empty(alloc);
+    program.declare("min", 1).expect(rt, "memory");
+    program.declare("a", 1).expect(rt, "memory");
+    program.declare("b", 0).expect(rt, "memory");
+    program.declare("r", 6).expect(rt, "memory");
+    program
+}
+
+/// The number of a refusal, as a line answers it.
+fn refused(rt: &impl Abort, alloc: Global, number: u8) -> String {
+    format!(in alloc; "refused {number}").expect(rt, "memory")
+}
+
+/// The operations of a set, as a delta of version 2 and of version 1.
+#[tactic(auto, using(chr_exchange::proofs::Sorting::lacking_different))]
+fn written(rt: &impl Abort, alloc: Global, program: &Program, set: &OpSet) -> (String, String) {
+    let nothing = OpSet::new(alloc).summary(alloc).expect(rt, "memory");
+    let ops = set.lacks(alloc, &nothing).expect(rt, "memory");
+    let new = delta_text(alloc, program, &ops).expect(rt, "memory");
+    let old = delta_text_1(alloc, program, &ops).expect(rt, "memory");
+    (new, old)
+}
+
+/// The set of these operations as a text of version 1, or how two that clash are refused.
+fn joined(rt: &impl Abort, alloc: Global, program: &Program, ops: &[Op]) -> String {
+    let mut set = OpSet::new(alloc);
+    match set.join(alloc, ops) {
+        Err(AddFault::Clash(_)) => refused(rt, alloc, 33),
+        Err(_) => panic!(rt; "not joined"),
+        Ok(_) => written(rt, alloc, program, &set).1,
+    }
+}
+
+/// The operations that a delta's text gives, as a text of version 1, or how it is refused.
+fn delta_answer(rt: &impl Abort, alloc: Global, program: &Program, text: &[u8]) -> String {
+    match read_delta(alloc, program, text) {
+        Ok(ops) => joined(rt, alloc, program, &ops),
+        Err(fault) => refused(rt, alloc, fault.number()),
+    }
+}
+
+/// The text of the summary of a set.
+fn summary_of_set(rt: &impl Abort, alloc: Global, set: &OpSet) -> String {
+    let summary = set.summary(alloc).expect(rt, "memory");
+    summary_text(alloc, &summary).expect(rt, "memory")
+}
+
+/// The summary that a text gives, as its own text, or how it is refused.
+fn summary_answer(rt: &impl Abort, alloc: Global, text: &[u8]) -> String {
+    match read_summary(alloc, text) {
+        Ok(summary) => summary_text(alloc, &summary).expect(rt, "memory"),
+        Err(fault) => refused(rt, alloc, fault.number()),
+    }
+}
+
+/// Compares the answer to each text of a summary.
+fn expect_summaries(rt: &impl Abort, alloc: Global, rows: &[(&str, &str)]) {
+    for (text, answer) in rows {
+        let found = summary_answer(rt, alloc, text.as_bytes());
+        assert!(rt; found.as_str() == *answer, "at {text}: {found}");
+    }
+}
+
+/// Compares the answer to each text of a delta.
+fn expect_deltas(rt: &impl Abort, alloc: Global, rows: &[(&str, &str)]) {
+    let program = four_symbols(rt, alloc);
+    for (text, answer) in rows {
+        let found = delta_answer(rt, alloc, &program, text.as_bytes());
+        assert!(rt; found.as_str() == *answer, "at {text}: {found}");
+    }
+}
+
+/// Compares the refusal of each text of a summary.
+fn expect_refused_summaries(rt: &impl Abort, alloc: Global, texts: &[&str], refusal: &str) {
+    for text in texts {
+        let found = summary_answer(rt, alloc, text.as_bytes());
+        assert!(rt; found.as_str() == refusal, "at {text}: {found}");
+    }
+}
+
+/// Compares the refusal of each text of a delta.
+fn expect_refused_deltas(rt: &impl Abort, alloc: Global, texts: &[&str], refusal: &str) {
+    let program = four_symbols(rt, alloc);
+    for text in texts {
+        let found = delta_answer(rt, alloc, &program, text.as_bytes());
+        assert!(rt; found.as_str() == refusal, "at {text}: {found}");
+    }
+}
+
+#[test]
+fn summaries_are_read_in_any_order(rt: HostRuntime) {
+    expect_summaries(
+        &rt,
+        rt.alloc(),
+        &[
+            ("[]", "[]"),
+            (" [ [ 5 , [ [ 9 , 9 ] ] ] ]\n", "[[5,[[9,9]]]]"),
+            ("[[5,[]]]", "[]"),
+            ("[[5,[]],[4,[[1,1]]],[5,[]]]", "[[4,[[1,1]]]]"),
+            (
+                "[[4294967295,[[0,18446744073709551615]]]]",
+                "[[4294967295,[[0,18446744073709551615]]]]",
+            ),
+            ("[[5,[[1,2],[3,4]]]]", "[[5,[[1,4]]]]"),
+            ("[[5,[[3,4],[1,1]]]]", "[[5,[[1,1],[3,4]]]]"),
+            ("[[5,[[1,9],[2,3],[1,9]]]]", "[[5,[[1,9]]]]"),
+            (
+                "[[5,[[1,1]]],[4,[[2,2]]],[5,[[3,3]]]]",
+                "[[4,[[2,2]]],[5,[[1,1],[3,3]]]]",
+            ),
+            (
+                "[[0,[[18446744073709551615,18446744073709551615],[0,0]]],[1,[[0,0]]]]",
+                "[[0,[[0,0],[18446744073709551615,18446744073709551615]]],[1,[[0,0]]]]",
+            ),
+        ],
+    );
+}
+
+#[test]
+fn other_values_are_no_summaries(rt: HostRuntime) {
+    expect_refused_summaries(
+        &rt,
+        rt.alloc(),
+        &[
+            "null",
+            "1",
+            "\"[]\"",
+            "{}",
+            "[5]",
+            "[[]]",
+            "[[5]]",
+            "[[5,[],[]]]",
+            "[[5,{}]]",
+            "[[5,5]]",
+            "[[\"5\",[]]]",
+            "[[4294967296,[]]]",
+            "[[-1,[]]]",
+            "[[5.0,[]]]",
+            "[[5e0,[]]]",
+            "[[5,[1,2]]]",
+            "[[5,[[]]]]",
+            "[[5,[[1]]]]",
+            "[[5,[[1,2,3]]]]",
+            "[[5,[[1,\"2\"]]]]",
+            "[[5,[[1,2.0]]]]",
+            "[[5,[[1,1e1]]]]",
+            "[[5,[[-1,2]]]]",
+            "[[5,[[1,18446744073709551616]]]]",
+            "[[5,[[10,9]]]]",
+            "[[5,[[9,9]]],[5,[[10,9]]]]",
+            "[[[1,1],[[\"a\",0]]]]",
+            "[2,[]]",
+        ],
+        "refused 31",
+    );
+}
+
+/// Whether the text is no JSON value, and so no summary.
+fn is_no_summary(alloc: Global, text: &[u8]) -> bool {
+    read_summary(alloc, text).err() == Some(MessageFault::BadJson)
+}
+
+/// Whether the text is no JSON value, and so no delta.
+fn is_no_delta(alloc: Global, program: &Program, text: &[u8]) -> bool {
+    read_delta(alloc, program, text).err() == Some(MessageFault::BadJson)
+}
+
+#[test]
+fn other_texts_are_no_summaries(rt: HostRuntime) {
+    let alloc = rt.alloc();
+    assert!(rt; is_no_summary(alloc, b"[[5,[[1,1]]]"));
+    assert!(rt; is_no_summary(alloc, b"[\"\xff\"]"));
+}
+
+#[test]
+fn deltas_of_version_1_are_read(rt: HostRuntime) {
+    expect_deltas(
+        &rt,
+        rt.alloc(),
+        &[
+            ("[]", "[]"),
+            (
+                "[[[5,9],[[\"a\",2],[\"a\",-1]]]]",
+                "[[[5,9],[[\"a\",-1],[\"a\",2]]]]",
+            ),
+            (" [ [ [5 , 9] , [ [\"b\"] ] ] ] ", "[[[5,9],[[\"b\"]]]]"),
+            (
+                "[[[5,10],[[\"a\",0]]],[[5,10],[[\"a\",0]]]]",
+                "[[[5,10],[[\"a\",0]]]]",
+            ),
+            (
+                "[[[5,10],[[\"b\"],[\"a\",0]]],[[5,10],[[\"a\",0],[\"b\"]]]]",
+                "[[[5,10],[[\"a\",0],[\"b\"]]]]",
+            ),
+            ("[[[5,11],[[\"a\",0]]],[[5,11],[[\"a\",1]]]]", "refused 33"),
+            (
+                "[[[5,11],[[\"a\",0]]],[[5,11],[[\"a\",0],[\"a\",0]]]]",
+                "refused 33",
+            ),
+            (
+                "[[[2,1],[[\"b\"]]],[[1,2],[[\"b\"]]],[[1,1],[[\"b\"]]]]",
+                "[[[1,1],[[\"b\"]]],[[1,2],[[\"b\"]]],[[2,1],[[\"b\"]]]]",
+            ),
+            (
+                "[[[4294967295,18446744073709551615],[[\"a\",9223372036854775807],[\"a\",-9223372036854775808]]]]",
+                "[[[4294967295,18446744073709551615],[[\"a\",-9223372036854775808],[\"a\",9223372036854775807]]]]",
+            ),
+            (
+                "[[[1,1],[[\"min\",3],[\"r\",1,2,3,4,5,-6],[\"b\"],[\"a\",10],[\"a\",-10]]]]",
+                "[[[1,1],[[\"a\",-10],[\"a\",10],[\"b\"],[\"min\",3],[\"r\",1,2,3,4,5,-6]]]]",
+            ),
+            (
+                "[[[1,1],[[\"r\",1,2,3,4,5,6],[\"b\"],[\"r\",1,2,3,4,5,-6],[\"b\"],[\"r\",1,2,-3,4,5,9],[\"r\",-1,9,9,9,9,9]]]]",
+                "[[[1,1],[[\"b\"],[\"b\"],[\"r\",-1,9,9,9,9,9],[\"r\",1,2,-3,4,5,9],[\"r\",1,2,3,4,5,-6],[\"r\",1,2,3,4,5,6]]]]",
+            ),
+            (
+                "[[[1,1],[[\"r\",9223372036854775807,1,0,0,0,0],[\"r\",9223372036854775807,0,0,0,0,1],[\"r\",-9223372036854775808,0,0,0,0,1],[\"r\",-9223372036854775808,0,0,0,0,0]]]]",
+                "[[[1,1],[[\"r\",-9223372036854775808,0,0,0,0,0],[\"r\",-9223372036854775808,0,0,0,0,1],[\"r\",9223372036854775807,0,0,0,0,1],[\"r\",9223372036854775807,1,0,0,0,0]]]]",
+            ),
+            ("[[[1,1],[[\"\\u0061\",0]]]]", "[[[1,1],[[\"a\",0]]]]"),
+            ("[[[5,12],[[\"a\"]]]]", "refused 32"),
+            ("[[[5,12],[[\"a\",0,0]]]]", "refused 32"),
+            ("[[[5,12],[[\"r\",1,2,3,4,5,6,7]]]]", "refused 32"),
+            ("[[[5,12],[[\"c\",0]]]]", "refused 32"),
+            ("[[[5,12],[[\"A\",0]]]]", "refused 32"),
+            ("[[[5,12],[[\"\",0]]]]", "refused 32"),
+            ("[[[5,12],[[\"\u{e9}\",0]]]]", "refused 32"),
+            (
+                "[[[1,1],[[\"a\",0]]],[[1,1],[[\"a\",1]]],[[1,2],[[\"c\"]]]]",
+                "refused 32",
+            ),
+            ("[[[1,1],[[\"c\",0]]],[[1],[[\"a\",0]]]]", "refused 31"),
+            ("[[[1,1],[[\"c\",0]]],[[1,2],[[\"a\",0.5]]]]", "refused 31"),
+        ],
+    );
+}
+
+#[test]
+fn deltas_of_version_2_are_read(rt: HostRuntime) {
+    expect_deltas(
+        &rt,
+        rt.alloc(),
+        &[
+            ("[2,[]]", "[]"),
+            ("[2,[[6,[]]]]", "[]"),
+            (
+                "[2,[[5,[[9,[[\"a\",2],[\"a\",-1]]]]],[6,[]]]]",
+                "[[[5,9],[[\"a\",-1],[\"a\",2]]]]",
+            ),
+            (
+                "[2,[[6,[[1,[[\"b\"]]]]],[5,[[2,[[\"b\"]]],[1,[[\"b\"]]]]],[6,[[1,[[\"b\"]]],[0,[[\"b\"]]]]]]]",
+                "[[[5,1],[[\"b\"]]],[[5,2],[[\"b\"]]],[[6,0],[[\"b\"]]],[[6,1],[[\"b\"]]]]",
+            ),
+            ("[2,[[5,[[9,[[\"a\",0]]],[9,[[\"a\",1]]]]]]]", "refused 33"),
+            (
+                "[2,[[5,[[9,[[\"a\",0]]]]],[5,[[9,[[\"b\"]]]]]]]",
+                "refused 33",
+            ),
+            ("[2,[[5,[[9,[[\"c\"]]]]]]]", "refused 32"),
+            ("[2,[[5,[[9,[[\"b\",1]]]]]]]", "refused 32"),
+            ("[2,[[5,[[9,[[\"c\"]]]]],[6,[[1]]]]]", "refused 31"),
+        ],
+    );
+}
+
+#[test]
+fn other_values_are_no_deltas(rt: HostRuntime) {
+    expect_refused_deltas(
+        &rt,
+        rt.alloc(),
+        &[
+            "null",
+            "true",
+            "7",
+            "\"[]\"",
+            "{}",
+            "[null]",
+            "[\"2\",[]]",
+            "[[]]",
+            "[[1,1],[[\"a\",0]]]",
+            "[[[1,1]]]",
+            "[[[1,1],[[\"a\",0]],1]]",
+            "[[[],[[\"a\",0]]]]",
+            "[[[1],[[\"a\",0]]]]",
+            "[[[1,1,1],[[\"a\",0]]]]",
+            "[[[1,-1],[[\"a\",0]]]]",
+            "[[[-1,1],[[\"a\",0]]]]",
+            "[[[1.0,1],[[\"a\",0]]]]",
+            "[[[1,1e0],[[\"a\",0]]]]",
+            "[[[\"1\",1],[[\"a\",0]]]]",
+            "[[[4294967296,1],[[\"a\",0]]]]",
+            "[[[1,18446744073709551616],[[\"a\",0]]]]",
+            "[[[1,1],[]]]",
+            "[[[1,1],{\"a\":0}]]",
+            "[[[1,1],[\"a\",0]]]",
+            "[[[1,1],[[]]]]",
+            "[[[1,1],[[1]]]]",
+            "[[[1,1],[[\"a\",9223372036854775808]]]]",
+            "[[[1,1],[[\"a\",-9223372036854775809]]]]",
+            "[[[1,1],[[\"a\",1.0]]]]",
+            "[[[1,1],[[\"a\",1e2]]]]",
+            "[[[1,1],[[\"a\",-0]]]]",
+            "[[[1,1],[[\"a\",\"1\"]]]]",
+            "[[[1,1],[[\"a\",null]]]]",
+            "[[[1,1],[[\"a\",[1]]]]]",
+            "[2]",
+            "[2,[],[]]",
+            "[2,{}]",
+            "[2,2]",
+            "[3,[]]",
+            "[1,[]]",
+            "[0,[]]",
+            "[-2,[]]",
+            "[2.0,[]]",
+            "[2e0,[]]",
+            "[2.5,[]]",
+            "[2,[[]]]",
+            "[2,[[5]]]",
+            "[2,[[5,[],[]]]]",
+            "[2,[[\"5\",[]]]]",
+            "[2,[[-1,[]]]]",
+            "[2,[[4294967296,[]]]]",
+            "[2,[[5,{}]]]",
+            "[2,[[5,[9]]]]",
+            "[2,[[5,[[9]]]]]",
+            "[2,[[5,[[9,[]]]]]]",
+            "[2,[[5,[[9,[[\"b\"]],1]]]]]",
+            "[2,[[5,[[-9,[[\"b\"]]]]]]]",
+            "[2,[[5,[[9.5,[[\"b\"]]]]]]]",
+            "[2,[[5,[[18446744073709551616,[[\"b\"]]]]]]]",
+            "[2,[[[5,9],[[\"b\"]]]]]",
+            "[[2,[]]]",
+            "[[5,[[9,[[\"b\"]]]]]]",
+        ],
+        "refused 31",
+    );
+}
+
+#[test]
+fn other_texts_are_no_values(rt: HostRuntime) {
+    expect_refused_deltas(
+        &rt,
+        rt.alloc(),
+        &[
+            "",
+            " ",
+            "[",
+            "[]]",
+            "[] []",
+            "[,]",
+            "[[[1,1],[[\"a\",0]],]]",
+            "[[[1,1],[['a',0]]]]",
+            "[[[1,1],[[\"a\",01]]]]",
+            "[[[1,1],[[\"a\",+1]]]]",
+            "[[[1,1],[[\"a\",1.]]]]",
+            "[[[1,1],[[\"a\",1e400]]]]",
+            "[[[1,1],[[\"a\",NaN]]]]",
+            "[2,[[5,[[9,[[\"b]]]]]]]",
+        ],
+        "refused 30",
+    );
+}
+
+/// A bag of so many atoms `b`, as a text of version 1.
+fn delta_of_size(rt: &impl Abort, alloc: Global, atoms: usize) -> String {
+    let mut text = String::from_str(alloc, "[[[1,1],[[\"b\"]").expect(rt, "memory");
+    for _ in 1..atoms {
+        text.push_str(",[\"b\"]").expect(rt, "memory");
+    }
+    text.push_str("]]]").expect(rt, "memory");
+    text
+}
+
+#[test]
+fn operations_have_1_to_64_atoms(rt: HostRuntime) {
+    let alloc = rt.alloc();
+    let full = delta_of_size(&rt, alloc, 64);
+    expect_deltas(&rt, alloc, &[(full.as_str(), full.as_str())]);
+    let more = delta_of_size(&rt, alloc, 65);
+    expect_refused_deltas(&rt, alloc, &[more.as_str()], "refused 31");
+}
+
+const SUMMARY: &str = "[[1,[[4,4]]],[2,[[7,7]]]]";
+
+const DELTA: &str = "[2,[[1,[[4,[[\"min\",2]]]]],[2,[[7,[[\"min\",8],[\"min\",8]]]]]]]";
+
+const DELTA_1: &str = "[[[1,4],[[\"min\",2]]],[[2,7],[[\"min\",8],[\"min\",8]]]]";
+
+/// Told: 1/4 `min(2)`, and 2/7 `min(8)` twice.
+fn two_operations(rt: &impl Abort, alloc: Global, program: &Program) -> OpSet {
+    let text = b"[[[2,7],[[\"min\",8],[\"min\",8]]],[[1,4],[[\"min\",2]]]]";
+    let ops = read_delta(alloc, program, text.as_slice()).expect(rt, "read");
+    let mut set = OpSet::new(alloc);
+    assert!(rt; set.join(alloc, &ops) == Ok(2));
+    set
+}
+
+/// The set is written so, as a delta of version 2 and of version 1.
+fn expect_written(
+    rt: &impl Abort,
+    alloc: Global,
+    program: &Program,
+    set: &OpSet,
+    expected: (&str, &str),
+) {
+    let (new, old) = written(rt, alloc, program, set);
+    assert!(rt; new.as_str() == expected.0, "{new}");
+    assert!(rt; old.as_str() == expected.1, "{old}");
+}
+
+/// The set's summary is written so.
+fn expect_summary(rt: &impl Abort, alloc: Global, set: &OpSet, expected: &str) {
+    let found = summary_of_set(rt, alloc, set);
+    assert!(rt; found.as_str() == expected, "{found}");
+}
+
+#[test]
+fn messages_are_written(rt: HostRuntime) {
+    let alloc = rt.alloc();
+    let program = four_symbols(&rt, alloc);
+    let set = two_operations(&rt, alloc, &program);
+    expect_summary(&rt, alloc, &set, SUMMARY);
+    expect_written(&rt, alloc, &program, &set, (DELTA, DELTA_1));
+}
+
+#[test]
+fn messages_of_nothing_are_written(rt: HostRuntime) {
+    let alloc = rt.alloc();
+    let program = four_symbols(&rt, alloc);
+    let empty = OpSet::new(alloc);
+    expect_summary(&rt, alloc, &empty, "[]");
+    expect_written(&rt, alloc, &program, &empty, ("[2,[]]", "[]"));
+}
+
+/// No proper beginning of the text is a delta.
+fn expect_no_beginning_is_read(rt: &impl Abort, alloc: Global, program: &Program, text: &str) {
+    for i in 0..text.len() {
+        assert!(rt;
+            is_no_delta(alloc, program, &text.as_bytes()[..i]),
+            "at {i}"
+        );
+    }
+}
+
+#[test]
+fn a_beginning_of_a_summary_is_no_value(rt: HostRuntime) {
+    let alloc = rt.alloc();
+    for i in 0..SUMMARY.len() {
+        assert!(rt; is_no_summary(alloc, &SUMMARY.as_bytes()[..i]), "at {i}");
+    }
+}
+
+#[test]
+fn a_beginning_of_a_delta_is_no_value(rt: HostRuntime) {
+    let alloc = rt.alloc();
+    let program = four_symbols(&rt, alloc);
+    expect_no_beginning_is_read(&rt, alloc, &program, DELTA);
+    expect_no_beginning_is_read(&rt, alloc, &program, DELTA_1);
+}
+
+/// The JSON value of a text.
+fn value(rt: &impl Abort, alloc: Global, text: &str) -> Value {
+    Value::from_str(alloc, text).expect(rt, "a value")
+}
+
+/// How many ranges the summary of a value has.
+fn ranges_in(rt: &impl Abort, alloc: Global, text: &str) -> usize {
+    let summary = summary_of(alloc, &value(rt, alloc, text)).expect(rt, "a summary");
+    summary.ranges().len()
+}
+
+/// How many operations the delta of a value has.
+fn operations_in(rt: &impl Abort, alloc: Global, program: &Program, text: &str) -> usize {
+    delta_of(alloc, program, &value(rt, alloc, text))
+        .expect(rt, "a delta")
+        .len()
+}
+
+#[test]
+fn values_of_messages_are_read(rt: HostRuntime) {
+    let alloc = rt.alloc();
+    let program = four_symbols(&rt, alloc);
+    assert!(rt; ranges_in(&rt, alloc, SUMMARY) == 2);
+    assert!(rt; operations_in(&rt, alloc, &program, DELTA) == 2);
+}
+
+/// The operation of the values of an id and atoms, or why there is none.
+fn op_in(rt: &impl Abort, alloc: Global, id: &str, atoms: &str) -> Result<Op, MessageFault> {
+    let program = four_symbols(rt, alloc);
+    let id = value(rt, alloc, id);
+    op_of(alloc, &program, &id, &value(rt, alloc, atoms))
+}
+
+/// Whether there is no such operation, for this cause.
+fn is_no_op(rt: &impl Abort, alloc: Global, id: &str, atoms: &str, fault: MessageFault) -> bool {
+    op_in(rt, alloc, id, atoms).err() == Some(fault)
+}
+
+const ATOMS: &str = "[[\"a\",2],[\"a\",-1]]";
+
+#[test]
+fn values_of_operations_are_read(rt: HostRuntime) {
+    let op = op_in(&rt, rt.alloc(), "[5,9]", ATOMS).expect(&rt, "an operation");
+    let name = OpId {
+        origin: 5,
+        number: 9,
+    };
+    assert!(rt; op.id() == name);
+    assert!(rt; op.bag().len() == 2);
+}
+
+#[test]
+fn values_of_no_operations_are_refused(rt: HostRuntime) {
+    let alloc = rt.alloc();
+    let unknown = "[[\"c\"]]";
+    assert!(rt; is_no_op(&rt, alloc, "[5,9]", unknown, MessageFault::UnknownSymbol));
+    assert!(rt; is_no_op(&rt, alloc, ATOMS, unknown, MessageFault::Shape));
+}
+
+#[test]
+fn want_of_memory_has_a_number(rt: HostRuntime) {
+    assert!(rt; MessageFault::Memory.number() == 99);
+}

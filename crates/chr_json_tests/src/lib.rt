@@ -1,5 +1,0 @@
-//! Tests of command lines. There is nothing here but tests.
-#![tactic(auto)]
-
-#[cfg(test)]
-mod tests;
