@@ -186,7 +186,9 @@ module _ (rows : List (Option Atom)) (r : Rule) (some : 0 < length (heads_of r))
       let e = in_table rows (seat ss 0).table (seat ss 0).row (head heads 0) here in
       let n = (seat ss 0).row in
       let is : at_row n ≡ seat ss 0 = (λ i. record { table = sym e i; row = n }) in
-      let apart = λ (q k : ℕ) (l : q < length heads) (h : k < length heads) (ne : q ≡ k → ⊥) (same : seat ss q ≡ seat ss k). (elim (cases_lt q k) as (λ _. ⊥) [
+      let apart =
+      λ (q k : ℕ) (l : q < length heads) (h : k < length heads) (ne : q ≡ k → ⊥) (same : seat ss q ≡ seat ss k).
+      (elim (cases_lt q k) as (λ _. ⊥) [
         | inl less ↦ w.1.apart q k less h same
         | inr most ↦ w.1.apart k q (omega (arith, most, ne)) l (sym same)
       ]) in

@@ -151,10 +151,11 @@ beside_map f (x ∷ fs) (z ∷ zs) y e i = elim (nat_eq y x) as (λ b. nat_eq y 
 
 beside_own : (w : Valuation) (fs : List ℕ) (y : ℕ) → In y fs → assignment fs (map w fs) y ≡ w y
 beside_own w [] y i = absurd i
-beside_own w (x ∷ fs) y i = elim (nat_eq y x) as (λ b. nat_eq y x ≡ b → cond b (w x) (assignment fs (map w fs) y) ≡ w y) [
-  | true ↦ λ t. ap w (sym (eqb-true y x t))
-  | false ↦ λ t. beside_own w fs y (elim i as (λ _. In y fs) [ inl q ↦ absurd (eqb-false y x t q) | inr j ↦ j ])
-] refl
+beside_own w (x ∷ fs) y i =
+    elim (nat_eq y x) as (λ b. nat_eq y x ≡ b → cond b (w x) (assignment fs (map w fs) y) ≡ w y) [
+      | true ↦ λ t. ap w (sym (eqb-true y x t))
+      | false ↦ λ t. beside_own w fs y (elim i as (λ _. In y fs) [ inl q ↦ absurd (eqb-false y x t q) | inr j ↦ j ])
+    ] refl
 
 pub beside_in : (fs : List ℕ) (zs : List ℤ) (y : ℕ) → length fs ≡ length zs → In y fs → In (assignment fs zs y) zs
 beside_in [] zs y e i = absurd i

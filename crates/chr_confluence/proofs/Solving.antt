@@ -22,10 +22,11 @@ same_variable x y e = cc
 put_value : (v : Valuation) (x : ℕ) (t : Term) → v x ≡ term_value v t → (s : Term) → term_value v (put_term x t s)
     ≡ term_value v s
 put_value v x t h (Constant c) = refl
-put_value v x t h (Variable y) = elim (nat_eq y x) as (λ b. nat_eq y x ≡ b → term_value v (cond b t (Variable y)) ≡ v y) [
-  | true ↦ λ e. sym h ∙ ap v (sym (eqb-true y x e))
-  | false ↦ λ e. refl
-] refl
+put_value v x t h (Variable y) =
+    elim (nat_eq y x) as (λ b. nat_eq y x ≡ b → term_value v (cond b t (Variable y)) ≡ v y) [
+      | true ↦ λ e. sym h ∙ ap v (sym (eqb-true y x e))
+      | false ↦ λ e. refl
+    ] refl
 
 put_own : (x : ℕ) (t : Term) → put_term x t (Variable x) ≡ t
 put_own x t = ap (λ b. cond b t (Variable x)) (eq-eqb x x refl)

@@ -1,4 +1,5 @@
-//! Tests of operations, operation sets and summaries, in the public words of `chr_ops`. There is nothing here but tests.
+//! Tests of operations, operation sets and summaries, in the public words of `chr_ops`. There is nothing here but
+//! tests.
 #![tactic(auto)]
 
 #[cfg(test)]

@@ -44,7 +44,8 @@ follows_means qs m p zero l h = (tt, tt)
 follows_means qs m p (suc k) l h =
     let q : Pattern = get_or qs k no_pattern in
     let parts = and_parts (not (names m (suc k))) (has_same_symbol p q) h in
-    let same = and_parts (nat_eq p.symbol.0 q.symbol.0) (nat_eq (length p.args.items) (length q.args.items)) parts.1 in (
+    let same = and_parts (nat_eq p.symbol.0 q.symbol.0)
+    (nat_eq (length p.args.items) (length q.args.items)) parts.1 in (
       not-true (names m (suc k)) parts.0,
       (
         q,

@@ -94,8 +94,8 @@ fn some_rules_begin_overlaps(rt: HostRuntime) {
     }
 }
 
-/// Places among the overlaps of these rules, each with its overlap's two rules, the free classes of the matched heads, and
-/// those of these with the `=:=` of both guards.
+/// Places among the overlaps of these rules, each with its overlap's two rules, the free classes of the matched heads,
+/// and those of these with the `=:=` of both guards.
 const FREE_CLASSES: [(usize, u32, u32, &[u8], Option<&[u8]>); 3] = [
     (0, 1, 1, &[1, 2, 4], Some(&[1])),
     (5, 1, 2, &[1, 2], Some(&[])),
@@ -167,8 +167,8 @@ fn have_equal_sides(
     are_equal(weighed, &overlap)
 }
 
-/// The matchings of the first rule with its copy are (0,1), (0,2), (1,2), (2,0) and (2,1). Both steps remove one atom where
-/// removed heads are matched, and where the guards make all atoms one.
+/// The matchings of the first rule with its copy are (0,1), (0,2), (1,2), (2,0) and (2,1). Both steps remove one atom
+/// where removed heads are matched, and where the guards make all atoms one.
 #[test]
 fn sides_are_equal(rt: HostRuntime) {
     let alloc = rt.alloc();

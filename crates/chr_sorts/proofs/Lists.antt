@@ -199,22 +199,24 @@ new_block cs v vs rec plain (n ∷ ns) seen differ new l begun none =
     }
 
 next_value : (cs : List ℤ) (v : ℤ) (vs : List ℤ) → BlocksFor cs vs → BlocksFor cs (v ∷ vs)
-next_value cs v vs rec ns seen differ new l begun = elim (has v cs) as (λ b. has v cs ≡ b → Blocks cs ns seen (v ∷ vs)) [
-  | true ↦ λ e. (let i = has_in v cs e in let b = rec ns seen differ new (omega (arith, l)) begun in
-      more_blocks cs ns seen v v vs ns seen b (old_block cs (firsts seen) ns v b.us (inl i) b.blocks) (inl (i, refl))
-      (λ q j. constant_beside cs v q i (b.proper q j)) (λ q j. constant_beside cs v q i (inr (begun.others q j)))
-      (λ q j. j))
-  | false ↦ λ e. elim (find v seen) as (λ _. Blocks cs ns seen (v ∷ vs)) [
-    | inl w ↦ (let b = rec ns seen differ new (omega (arith, l)) begun in
-        let k : (w.0.0, v) ≡ w.0 = λ i. (w.0.0, w.2 i) in
-        more_blocks cs ns seen w.0.0 v vs ns seen b (old_block cs (firsts seen) ns w.0.0 b.us
-        (inr (in_firsts w.0 seen w.1)) b.blocks)
-        (inr ((begun.others w.0 w.1).0, has_not v cs e))
-        (λ q j. subst (λ z. Together z q) (sym k) (turned q w.0 (b.beside q w.0 j w.1)))
-        (λ q j. subst (λ z. Together z q) (sym k) (begun.together w.0 q w.1 j)) (λ q j. j))
-    | inr n ↦ new_block cs v vs rec (has_not v cs e) ns seen differ new l begun n
-  ]
-] refl
+next_value cs v vs rec ns seen differ new l begun =
+    elim (has v cs) as (λ b. has v cs ≡ b → Blocks cs ns seen (v ∷ vs)) [
+      | true ↦ λ e. (let i = has_in v cs e in let b = rec ns seen differ new (omega (arith, l)) begun in
+          more_blocks cs ns seen v v vs ns seen b (old_block cs (firsts seen) ns v b.us (inl i) b.blocks)
+          (inl (i, refl))
+          (λ q j. constant_beside cs v q i (b.proper q j)) (λ q j. constant_beside cs v q i (inr (begun.others q j)))
+          (λ q j. j))
+      | false ↦ λ e. elim (find v seen) as (λ _. Blocks cs ns seen (v ∷ vs)) [
+        | inl w ↦ (let b = rec ns seen differ new (omega (arith, l)) begun in
+            let k : (w.0.0, v) ≡ w.0 = λ i. (w.0.0, w.2 i) in
+            more_blocks cs ns seen w.0.0 v vs ns seen b (old_block cs (firsts seen) ns w.0.0 b.us
+            (inr (in_firsts w.0 seen w.1)) b.blocks)
+            (inr ((begun.others w.0 w.1).0, has_not v cs e))
+            (λ q j. subst (λ z. Together z q) (sym k) (turned q w.0 (b.beside q w.0 j w.1)))
+            (λ q j. subst (λ z. Together z q) (sym k) (begun.together w.0 q w.1 j)) (λ q j. j))
+        | inr n ↦ new_block cs v vs rec (has_not v cs e) ns seen differ new l begun n
+      ]
+    ] refl
 
 blocks_for : (cs vs : List ℤ) → BlocksFor cs vs
 blocks_for cs [] ns seen differ new l begun = record {

@@ -27,13 +27,14 @@ AreInOrder ls = (j : ℕ) (l : Lookup) → j < length ls → get_or ls j l ≡ l
 
 pub in_order_more : (ls : List Lookup) (l : Lookup) → AreInOrder ls → l.table ≡ 0 → l.index ≡ length ls
     → AreInOrder (ls ++ l ∷ [])
-in_order_more ls l before table index j k h here = elim (cases_lt j (length ls)) as (λ _. (k.table ≡ 0) × (k.index ≡ j)) [
-  | inl less ↦ before j k less (sym (get_or_append_left ls (l ∷ []) k j less) ∙ here)
-  | inr most ↦ (let n = length-append ls (l ∷ []) in
-      let i : j ≡ length ls = omega (arith, h, n, most) in
-      let same : l ≡ k = sym (get_or-append_seam ls l [] k) ∙ ap (λ i. get_or (ls ++ l ∷ []) i k) (sym i) ∙ here in
-      (ap (λ (x : Lookup). x.table) (sym same) ∙ table, ap (λ (x : Lookup). x.index) (sym same) ∙ index ∙ sym i))
-]
+in_order_more ls l before table index j k h here =
+    elim (cases_lt j (length ls)) as (λ _. (k.table ≡ 0) × (k.index ≡ j)) [
+      | inl less ↦ before j k less (sym (get_or_append_left ls (l ∷ []) k j less) ∙ here)
+      | inr most ↦ (let n = length-append ls (l ∷ []) in
+          let i : j ≡ length ls = omega (arith, h, n, most) in
+          let same : l ≡ k = sym (get_or-append_seam ls l [] k) ∙ ap (λ i. get_or (ls ++ l ∷ []) i k) (sym i) ∙ here in
+          (ap (λ (x : Lookup). x.table) (sym same) ∙ table, ap (λ (x : Lookup). x.index) (sym same) ∙ index ∙ sym i))
+    ]
 
 pub fits_one : (r : Rule) (ls : List Lookup) (t : Contents) → AreInOrder ls → t.keys ≡ wanted ls
     → FitsTables r ls (rows_of (t ∷ [])) (contents.index_columns (t ∷ []))

@@ -1,4 +1,5 @@
-//! Two shared books of two seats each. At each a seat tells ten operations, while a third thread exchanges by the others.
+//! Two shared books of two seats each. At each a seat tells ten operations, while a third thread exchanges by the
+//! others.
 ghost use Rattle.std.specs.Prelude.{◌≡◌};
 
 use chr_acts::{Book, OpList, Reply};

@@ -1,4 +1,5 @@
-//! Workers rest a book, to which memory may be refused. The leased parts that are out then come back by calls of a seat.
+//! Workers rest a book, to which memory may be refused. The leased parts that are out then come back by calls of a
+//! seat.
 ghost use Rattle.std.specs.Prelude.{◌≡◌};
 
 use crate::tests::calls::only_value;

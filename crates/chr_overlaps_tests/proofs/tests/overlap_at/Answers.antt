@@ -6,4 +6,5 @@ use Rattle.chr_overlaps_tests.proofs.tests.overlap_at.Goals as goal
 pub returns : goal.returns
 returns g c =
     c.in_ok-found.ensures.overlaps.each c.copy.result
-    (subst (λ o. In o c.in_ok-found.found.items) (sym (c.copy.ensures ∙ c.index.ensures)) (in_at c.in_ok-found.found.items c.args.place c.index.result.now (omega arith)))
+    (subst (λ o. In o c.in_ok-found.found.items) (sym (c.copy.ensures ∙ c.index.ensures))
+    (in_at c.in_ok-found.found.items c.args.place c.index.result.now (omega arith)))

@@ -38,8 +38,8 @@ fn multiples_spread_over_the_slots(rt: HostRuntime) {
     }
 }
 
-/// Keys that meet under one seed are apart under another: of 256 numbers whose hashes end in one byte under the fixed one,
-/// as many slots are taken as of numbers that are drawn at random.
+/// Keys that meet under one seed are apart under another: of 256 numbers whose hashes end in one byte under the fixed
+/// one, as many slots are taken as of numbers that are drawn at random.
 #[test]
 fn keys_chosen_for_one_seed_spread_under_another(rt: HostRuntime) {
     let mut is_taken = [false; 256];
