@@ -35,6 +35,7 @@ MAX_README = 8 * 1024
 MAX_COLUMNS = 120
 MAX_CELL = 200
 LEAST_ACCEPTED = 32
+LEAST_SOURCES = 1000
 # a first form is accepted after two explanations at most
 ROUNDS = ("first", "second")
 LEAST_FIRST_FORMS = 32
@@ -43,6 +44,9 @@ BLOCK = re.compile(r"^```([^\n]*)\n(.*?)^```$", re.MULTILINE | re.DOTALL)
 CELL_END = re.compile(r"(?<!\\)\|")
 NAMES = re.compile(r"(`\w+`(, )?)*")
 LINK = re.compile(r"\]\(([^)#]+)\)")
+SOURCES = ("src/**/*.rt", "specs/**/*.antt", "proofs/**/*.antt")
+# a comment, a quote as a character, or a string, whose width is that of what it says
+QUOTED = re.compile(r"""(?://|--)[^\n]*|'\\?"'|"(?:[^"\\]|\\.)*\"""", re.DOTALL)
 # (NAME stands for any)
 QUOTED_FILE = re.compile(r"`((?:docs|examples|tools|python|bench|release)/(?!\S*NAME)[^`\s*{}.]+\.[a-z]+|[A-Z]+\.md)`")
 
@@ -159,6 +163,22 @@ class Documents(unittest.TestCase):
             for file in QUOTED_FILE.findall(text):
                 with self.subTest(f"{name}: {file}"):
                     self.assertTrue(any((place / file).exists() for place in (TOP, folder, TOP / "docs")))
+
+
+def unquoted(text: str) -> str:
+    """The text with its strings empty, in as many lines."""
+    return QUOTED.sub(lambda it: '"' + "\n" * it[0].count("\n") + '"' if it[0].startswith('"') else it[0], text)
+
+
+class Sources(unittest.TestCase):
+    def test_lines(self) -> None:
+        """Lines are as short as those of documents, but for strings, and for the only name of an import."""
+        paths = [path for pattern in SOURCES for path in (TOP / "crates").glob(f"*/{pattern}")]
+        self.assertGreaterEqual(len(paths), LEAST_SOURCES)
+        for path in paths:
+            for number, line in enumerate(unquoted(path.read_text(encoding="utf-8")).split("\n"), 1):
+                if len(line) > MAX_COLUMNS and not (line.startswith("use ") and ", " not in line):
+                    self.fail(f"{path.relative_to(TOP)}: {number}: {len(line)} columns")
 
 
 class Examples(unittest.TestCase):
