@@ -1,5 +1,16 @@
 //! Stores and calls at random, whose ends have to be one.
+mod beside;
+mod calls;
 mod ends;
+mod lists;
 mod one_end;
+mod resting;
+mod stores;
+mod texts;
 mod traits;
 mod two_pools;
+
+/// Adds one where something came.
+fn count(tally: &mut usize, came: bool) {
+    *tally = tally.saturating_add(usize::from(came));
+}

@@ -1,14 +1,13 @@
 //! Stores of confluent programs with up to four heads a rule come to one end in both pools and by the plain derivation.
-use crate::tests::ends::{
-    count, end_in_columns, end_in_list, is_one, list_of, random_store, values_of_rules,
-};
+use crate::tests::count;
+use crate::tests::ends::{end_in_columns, end_in_list};
+use crate::tests::stores::{can_fire, is_one, random_store, values_of_rules};
+use crate::tests::texts::confluent_text;
 use crate::tests::traits::Traits;
 use chr_base::bag::Bag;
 use chr_base::rule::Rule;
 use chr_join::{Coverage, accept};
-use chr_random_programs::confluent::confluent_program_text;
 use chr_rewrite::plain::plain_end;
-use chr_rewrite::pool::Pool;
 use chr_slow_steps::instances::{places, variables};
 use chr_testing::random::Random;
 use chr_testing::texts::weighed_of;
@@ -22,11 +21,6 @@ const TEXTS: usize = 1_800;
 
 /// The number of stores of each program.
 const STORES: usize = 4;
-
-/// Whether the rule has an instance in the store.
-fn can_fire(rt: &impl Abort, alloc: Global, rule: &Rule, store: &Bag) -> bool {
-    list_of(rt, alloc, store).find(rule).is_some()
-}
 
 /// Whether the rule has an instance in one of the stores.
 fn can_fire_somewhere(rt: &impl Abort, alloc: Global, rule: &Rule, stores: &[Bag]) -> bool {
@@ -150,17 +144,13 @@ fn stores(rt: &impl Abort, alloc: Global, random: &mut Random, rules: &[Rule]) -
     stores
 }
 
-fn random_text(rt: &impl Abort, alloc: Global, random: &mut Random) -> String {
-    confluent_program_text(alloc, random).expect(rt, "memory")
-}
-
 #[test]
 fn confluent_programs_have_one_end(rt: HostRuntime) {
     let alloc = rt.alloc();
     let mut random = Random::new(10);
     let mut tally = Tally::default();
     for _ in 0..TEXTS {
-        let text = random_text(&rt, alloc, &mut random);
+        let text = confluent_text(&rt, alloc, &mut random);
         tally.try_text(&rt, alloc, &mut random, &text);
     }
     assert!(rt; tally.programs >= 1_000, "{tally:?}");

@@ -1,5 +1,5 @@
 //! What random rules have, counted.
-use crate::tests::ends::count;
+use crate::tests::count;
 use chr_base::rule::Rule;
 use chr_base::term::{Cmp, Pattern, Term};
 use chr_slow_steps::instances::{head, places};

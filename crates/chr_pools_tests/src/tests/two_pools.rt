@@ -1,12 +1,11 @@
 //! Stores are rested by a pool of columns and by a plain list.
-use crate::tests::ends::{
-    End, count, end_in_columns, end_in_list, is_at_rest, is_one, random_store, values_of_rules,
-};
+use crate::tests::count;
+use crate::tests::ends::{End, end_in_columns, end_in_list};
+use crate::tests::stores::{is_at_rest, is_one, random_store, values_of_rules};
+use crate::tests::texts::{small_text, wide_text};
 use chr_base::bag::Bag;
 use chr_base::rule::Rule;
 use chr_join::{Coverage, accept};
-use chr_random_programs::small::program_text;
-use chr_random_programs::wide::wide_program_text;
 use chr_testing::random::Random;
 use chr_testing::texts::weighed_of;
 use chr_weights::Weighed;
@@ -134,14 +133,6 @@ impl Verdicts {
                 .run(rt, alloc, random, &found.weighed, OF_REFUSED),
         }
     }
-}
-
-fn small_text(rt: &impl Abort, alloc: Global, random: &mut Random) -> String {
-    program_text(alloc, random).expect(rt, "memory")
-}
-
-fn wide_text(rt: &impl Abort, alloc: Global, random: &mut Random) -> String {
-    wide_program_text(alloc, random).expect(rt, "memory")
 }
 
 #[test]

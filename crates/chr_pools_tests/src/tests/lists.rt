@@ -1,49 +1,19 @@
 //! What a plain list, a bag and a search through all steps say.
+use crate::tests::stores::{is_one, list_of, random_store};
 use chr_base::atom::Atom;
 use chr_base::bag::Bag;
 use chr_base::derivation::Step;
 use chr_base::rule::Rule;
-use chr_random_programs::stores::{add_atoms, random_store, values_of_rules};
-use chr_rewrite::list::ListPool;
+use chr_random_programs::stores::add_atoms;
 use chr_rewrite::pool::Pool;
-use chr_rewrite::resting::at_rest;
 use chr_slow_steps::steps::{after_step, steps};
 use chr_testing::random::Random;
-use chr_weights::Weighed;
 use std::alloc::Global;
 use std::process::Abort;
-
-pub fn copied(rt: &impl Abort, alloc: Global, store: &Bag) -> Bag {
-    store.copy(alloc).expect(rt, "memory")
-}
-
-pub fn is_one(store: &Bag, other: &Bag) -> bool {
-    store.is_same(other)
-}
 
 /// Takes these out of the store, where they are all there.
 pub fn taken_out(store: &mut Bag, atoms: &[Atom]) -> bool {
     store.remove_all(atoms)
-}
-
-pub fn unite(rt: &impl Abort, store: &mut Bag, more: &Bag) {
-    store.union(more).expect(rt, "memory");
-}
-
-fn list_of(rt: &impl Abort, alloc: Global, store: &Bag) -> ListPool {
-    let mut list = ListPool::new(alloc);
-    list.insert(store.atoms()).expect(rt, "memory");
-    list
-}
-
-/// Whether no rule has a step in a plain list of these atoms.
-pub fn rests_in_list(rt: &impl Abort, alloc: Global, weighed: &Weighed, store: &Bag) -> bool {
-    at_rest(weighed, &list_of(rt, alloc, store))
-}
-
-/// Whether a plain list has an instance of the rule.
-pub fn has_instance(rt: &impl Abort, alloc: Global, rule: &Rule, store: &Bag) -> bool {
-    list_of(rt, alloc, store).find(rule).is_some()
 }
 
 /// The store after the rule is fired on these heads in a plain list, where they are there.
@@ -62,11 +32,6 @@ pub fn fired_in_list(
     list.bag(alloc).expect(rt, "memory")
 }
 
-/// The values that the stores for these rules are made of.
-pub fn values_of(rt: &impl Abort, alloc: Global, rules: &[Rule]) -> Vec<i64> {
-    values_of_rules(alloc, rules, 1).expect(rt, "memory")
-}
-
 /// The heads of a rule, or none, and some atoms more.
 pub fn more_atoms(
     rt: &impl Abort,
@@ -76,7 +41,7 @@ pub fn more_atoms(
     values: &[i64],
 ) -> Bag {
     let times = random.below(2);
-    random_store(alloc, random, rules, values, times).expect(rt, "memory")
+    random_store(rt, alloc, random, rules, values, times)
 }
 
 /// Up to three atoms of the bag.

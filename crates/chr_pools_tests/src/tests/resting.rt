@@ -1,14 +1,13 @@
 //! Stores of accepted programs end as `rest` ends them, whatever steps are chosen and whatever parts are rested first.
+use crate::tests::ends::end_in_list;
+use crate::tests::stores::{copied, is_one, unite};
+use crate::tests::texts::small_text;
 use chr_base::bag::Bag;
 use chr_base::derivation::{Derivation, Step};
 use chr_base::rule::Rule;
 use chr_join::{Coverage, accept};
-use chr_random_programs::small::program_text;
 use chr_random_programs::stores::{all_instances, parts, store_of_instances, values_of_rules};
-use chr_rewrite::list::ListPool;
-use chr_rewrite::pool::Pool;
 use chr_rewrite::replay::replay;
-use chr_rewrite::resting::rest;
 use chr_slow_steps::instances::Heads;
 use chr_slow_steps::steps::{after_step, steps};
 use chr_testing::random::Random;
@@ -27,20 +26,9 @@ const STORES: usize = 20;
 /// More steps than any store of these tests has weight.
 const MOST_STEPS: usize = 1_000;
 
-fn copied(rt: &impl Abort, alloc: Global, store: &Bag) -> Bag {
-    store.copy(alloc).expect(rt, "memory")
-}
-
-fn is_one(store: &Bag, other: &Bag) -> bool {
-    store.is_same(other)
-}
-
 /// The end of `rest` in a list.
 fn rested(rt: &impl Abort, alloc: Global, weighed: &Weighed, store: &Bag) -> Bag {
-    let mut pool = ListPool::new(alloc);
-    pool.insert(store.atoms()).expect(rt, "memory");
-    rest(weighed, &mut pool).expect(rt, "memory");
-    pool.bag(alloc).expect(rt, "memory")
+    end_in_list(rt, alloc, weighed, store).bag
 }
 
 /// One of the steps that the store has, if it has any.
@@ -94,7 +82,7 @@ fn rested_parts(rt: &impl Abort, alloc: Global, weighed: &Weighed, parts: &[Bag]
     let mut merged = Bag::new(alloc);
     for part in parts {
         let end = rested(rt, alloc, weighed, part);
-        merged.union(&end).expect(rt, "memory");
+        unite(rt, &mut merged, &end);
     }
     merged
 }
@@ -230,18 +218,13 @@ impl Tally {
     }
 }
 
-/// A program's text at random.
-fn random_text(rt: &impl Abort, alloc: Global, random: &mut Random) -> String {
-    program_text(alloc, random).expect(rt, "memory")
-}
-
 #[test]
 fn stores_end_as_rest_ends_them(rt: HostRuntime) {
     let alloc = rt.alloc();
     let mut random = Random::new(6);
     let mut tally = Tally::default();
     for _ in 0..TEXTS {
-        let text = random_text(&rt, alloc, &mut random);
+        let text = small_text(&rt, alloc, &mut random);
         if let Some(weighed) = weighed_of(alloc, &text) {
             tally.add(&rt, alloc, &mut random, weighed);
         }

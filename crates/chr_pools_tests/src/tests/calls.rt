@@ -1,10 +1,6 @@
 //! A pool of columns under calls at random, beside a plain list and a bag.
-mod beside;
-mod lists;
-
 use crate::tests::beside::{Beside, Tally};
-use chr_random_programs::small::program_text;
-use chr_random_programs::wide::wide_program_text;
+use crate::tests::texts::{small_text, wide_text};
 use chr_testing::random::Random;
 use chr_testing::texts::weighed_of;
 use chr_weights::Weighed;
@@ -23,9 +19,9 @@ const CALLS: usize = 40;
 /// A text at random, of rules with up to two heads or with up to four.
 fn text_of(rt: &impl Abort, alloc: Global, random: &mut Random, is_wide: bool) -> String {
     if is_wide {
-        wide_program_text(alloc, random).expect(rt, "memory")
+        wide_text(rt, alloc, random)
     } else {
-        program_text(alloc, random).expect(rt, "memory")
+        small_text(rt, alloc, random)
     }
 }
 

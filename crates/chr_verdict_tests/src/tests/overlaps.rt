@@ -1,11 +1,12 @@
+//! Overlaps by their first rules, their free classes, and whether both sides are equal.
 ghost use Rattle.std.specs.Prelude.{IfOk};
 ghost use Rattle.chr_weights.specs.WeighedPrograms.{rules_in};
 ghost use Rattle.chr_overlaps.specs.OverlapLists.{IsOverlapOf};
 
+use crate::tests::texts;
 use arrayvec::ArrayVec;
 use chr_overlaps::cases::{sorted_unified, unified};
 use chr_overlaps::{Overlap, Unified, has_equal_sides, overlaps, overlaps_of};
-use chr_testing::texts::weighed_of;
 use chr_weights::Weighed;
 use std::alloc::{AllocError, Global};
 use std::process::Abort;
@@ -30,7 +31,7 @@ const RULES: &str = ":- chr_constraint p/1. \
     p(X) \\ p(Y) <=> X =:= Y | true. p(X) <=> X =:= 1 | true. p(X) <=> X =:= 2 | true.";
 
 fn weighed(rt: &impl Abort, alloc: Global) -> Weighed {
-    weighed_of(alloc, RULES).expect(rt, "a program that lowers")
+    texts::weighed(rt, alloc, RULES)
 }
 
 /// The overlap at a place, counted from 0.

@@ -1,6 +1,6 @@
 use Rattle.std.proofs.Common.{arith}
 use Rattle.chr_join.proofs.Lists.{in_at}
-use Rattle.chr_text_tests.proofs.tests.cases.cases_at.Goals as goal
+use Rattle.chr_verdict_tests.proofs.tests.cases.cases_at.Goals as goal
 
 pub cases-requires : goal.cases-requires
 cases-requires g c =

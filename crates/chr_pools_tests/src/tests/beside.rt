@@ -1,8 +1,7 @@
 //! A pool of columns, and what it has to have.
-use crate::tests::lists::{
-    all_steps, copied, fired_in_list, has_instance, is_one, is_step, more_atoms, rests_in_list,
-    some_atoms, taken_out, unite, values_of,
-};
+use crate::tests::count;
+use crate::tests::lists::{all_steps, fired_in_list, is_step, more_atoms, some_atoms, taken_out};
+use crate::tests::stores::{can_fire, copied, is_at_rest, is_one, unite, values_of_rules};
 use chr_base::atom::Atom;
 use chr_base::bag::Bag;
 use chr_base::rule::Rule;
@@ -40,10 +39,6 @@ impl Tally {
         self.steps = self.steps.saturating_add(other.steps);
         self.rests = self.rests.saturating_add(other.rests);
     }
-}
-
-fn count(tally: &mut usize, came: bool) {
-    *tally = tally.saturating_add(usize::from(came));
 }
 
 /// The pool, and what it has to have.
@@ -116,7 +111,7 @@ impl Beside {
         Beside {
             columns: Columns::new(alloc, rules).expect(rt, "memory"),
             bag: Bag::new(alloc),
-            values: values_of(rt, alloc, rules),
+            values: values_of_rules(rt, alloc, rules),
             tally: Tally::default(),
         }
     }
@@ -169,7 +164,7 @@ impl Beside {
         rule: &Rule,
     ) -> Option<Rows> {
         let Some(found) = self.columns.find(rule) else {
-            assert!(rt; !has_instance(rt, alloc, rule, &self.bag), "nothing found");
+            assert!(rt; !can_fire(rt, alloc, rule, &self.bag), "nothing found");
             return None;
         };
         assert!(rt;
@@ -232,7 +227,7 @@ impl Beside {
         rest(weighed, &mut self.columns).expect(rt, "memory");
         self.bag = bag_of(rt, alloc, &self.columns);
         assert!(rt;
-            rests_in_list(rt, alloc, weighed, &self.bag),
+            is_at_rest(rt, alloc, weighed, &self.bag),
             "an end with a step"
         );
     }

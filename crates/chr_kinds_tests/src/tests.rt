@@ -1,3 +1,0 @@
-//! Lists and combinations of values, written out by hand.
-mod combinations;
-mod lists;
