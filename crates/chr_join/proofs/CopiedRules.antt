@@ -20,9 +20,9 @@ use Rattle.chr_confluence.specs.Representatives.{guards_hold}
 use Rattle.chr_confluence.specs.Unifiers.{Substitution, IsMostGeneralUnifier, HasNoUnifier}
 use Rattle.chr_sorts.specs.Sorts.{Sorts}
 use Rattle.chr_sorts.specs.SortedCases.{all_equations}
-use Rattle.chr_kinds.specs.FinestSorts.{AreFinest}
+use Rattle.chr_sorting.specs.FinestSorts.{AreFinest}
 use Rattle.chr_rewrite.specs.Derivations.{LeadsTo}
-use Rattle.chr_kinds.specs.SortedCaseLists.{AreSortedListed}
+use Rattle.chr_sorting.specs.SortedCaseLists.{AreSortedListed}
 use Rattle.chr_overlaps.specs.declared.overlap.Overlap.{Overlap}
 use Rattle.chr_overlaps.specs.declared.cases.Case.{Case}
 use Rattle.chr_overlaps.specs.CaseLists.{case_at}

@@ -12,10 +12,10 @@ use Rattle.chr_sorts.specs.SortedCases.{all_equations, class_sorts}
 use Rattle.chr_overlaps.specs.declared.overlap.Overlap.{Overlap}
 use Rattle.chr_overlaps.specs.declared.cases.Case.{Case}
 use Rattle.chr_overlaps.specs.CaseLists.{case_at}
-use Rattle.chr_kinds.specs.FinestSorts.{AreFinest}
-use Rattle.chr_kinds.specs.SortedCaseLists.{AreCombinations, AreSortedListed, AreSortedCases, HasTooManyCombinations}
-use Rattle.chr_kinds.proofs.OneCombinations.{combinations_one}
-use Rattle.chr_kinds.proofs.OneFinest.{finest_have_one_cases, finest_have_as_many}
+use Rattle.chr_sorting.specs.FinestSorts.{AreFinest}
+use Rattle.chr_sorting.specs.SortedCaseLists.{AreCombinations, AreSortedListed, AreSortedCases, HasTooManyCombinations}
+use Rattle.chr_sorting.proofs.OneCombinations.{combinations_one}
+use Rattle.chr_sorting.proofs.OneFinest.{finest_have_one_cases, finest_have_as_many}
 use Rattle.chr_join.specs.declared.coverage.Coverage.{Coverage}
 use Rattle.chr_join.specs.declared.coverage.Coverage.TheVariants.{Joint, Sorted}
 use Rattle.chr_join.specs.Coverages.{AreCasesBy, IsTooManyBy}

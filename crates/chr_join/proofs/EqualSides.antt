@@ -23,8 +23,8 @@ use Rattle.chr_confluence.specs.laws.Peaks.{LeftSideIsStep, RightSideIsStep}
 use Rattle.chr_sorts.specs.Sorts.{Sorts}
 use Rattle.chr_sorts.specs.SortedCases.{class_sorts}
 use Rattle.chr_sorts.specs.laws.SortedCases.{SortedAreCases}
-use Rattle.chr_kinds.specs.FinestSorts.{AreFinest}
-use Rattle.chr_kinds.specs.SortedCaseLists.{AreCombinations}
+use Rattle.chr_sorting.specs.FinestSorts.{AreFinest}
+use Rattle.chr_sorting.specs.SortedCaseLists.{AreCombinations}
 use Rattle.chr_overlaps.specs.declared.cases.TheConstants.{MAX_TYPES}
 use Rattle.chr_overlaps.specs.declared.overlap.Overlap.{Overlap}
 use Rattle.chr_overlaps.specs.CaseLists.{case_at}

@@ -24,10 +24,10 @@ use Rattle.chr_overlaps.specs.declared.cases.Case.{Case}
 use Rattle.chr_overlaps.specs.OverlapLists.{AreOverlaps, IsOverlapOf}
 use Rattle.chr_overlaps.specs.CaseLists.{case_at}
 use Rattle.chr_overlaps.proofs.OneList.{overlap_listed}
-use Rattle.chr_kinds.specs.FinestSorts.{AreFinest}
-use Rattle.chr_kinds.specs.SortedCaseLists.{AreSortedListed, AreSortedCases}
-use Rattle.chr_kinds.proofs.OneFinest.{finest_have_one_cases}
-use Rattle.chr_kinds.specs.laws.Combinations.{CombinationsStandForAll, CombinationsAreValues}
+use Rattle.chr_sorting.specs.FinestSorts.{AreFinest}
+use Rattle.chr_sorting.specs.SortedCaseLists.{AreSortedListed, AreSortedCases}
+use Rattle.chr_sorting.proofs.OneFinest.{finest_have_one_cases}
+use Rattle.chr_sorting.specs.laws.Combinations.{CombinationsStandForAll, CombinationsAreValues}
 use Rattle.chr_join.specs.declared.refused.Failure.{Failure}
 use Rattle.chr_join.specs.Sides.{IsJoinable}
 use Rattle.chr_join.specs.Explanations.{Explains, IsRefusalBy}

@@ -20,8 +20,8 @@ use Rattle.chr_sorts.specs.SortedCases.{all_equations, class_sorts}
 use Rattle.chr_sorts.specs.laws.SortedCases.{SortedAreCases}
 use Rattle.chr_overlaps.specs.declared.overlap.Overlap.{Overlap}
 use Rattle.chr_overlaps.specs.declared.unify.Unified.{Unified}
-use Rattle.chr_kinds.specs.FinestSorts.{AreFinest}
-use Rattle.chr_kinds.specs.SortedCaseLists.{AreCombinations, MoreCombinationsThan}
+use Rattle.chr_sorting.specs.FinestSorts.{AreFinest}
+use Rattle.chr_sorting.specs.SortedCaseLists.{AreCombinations, MoreCombinationsThan}
 use Rattle.chr_overlaps.specs.declared.cases.Case.{Case}
 use Rattle.chr_types.specs.OrderTypes.{MoreTypesThan}
 use Rattle.chr_types.specs.Representatives.{AreTypes}

@@ -6,9 +6,9 @@ use crate::coverage::Coverage;
 use crate::portions::LEAST_PIECE;
 use crate::refused::Cause;
 use crate::{joint, sorted};
-use chr_kinds::{Sorting, finest_sorts};
 use chr_overlaps::Overlap;
 use chr_overlaps::constants::constants;
+use chr_sorting::{Sorting, finest_sorts};
 use chr_weights::Weighed;
 use std::alloc::{AllocError, Global};
 

@@ -24,8 +24,8 @@ use Rattle.chr_overlaps.specs.OverlapLists.{AreOverlaps}
 use Rattle.chr_overlaps.specs.CaseLists.{AreListed, AreCases, IsTooMany}
 use Rattle.chr_sorts.specs.Sorts.{Sorts, FitRule, Fit}
 use Rattle.chr_sorts.specs.SortedCases.{all_equations}
-use Rattle.chr_kinds.specs.FinestSorts.{AreShort, AreFinest}
-use Rattle.chr_kinds.specs.SortedCaseLists.{AreSortedListed, AreSortedCases, HasTooManyCombinations}
+use Rattle.chr_sorting.specs.FinestSorts.{AreShort, AreFinest}
+use Rattle.chr_sorting.specs.SortedCaseLists.{AreSortedListed, AreSortedCases, HasTooManyCombinations}
 use Rattle.chr_join.specs.declared.coverage.Coverage.{Coverage}
 use Rattle.chr_join.specs.declared.coverage.Coverage.TheVariants.{Joint, Sorted}
 use Rattle.chr_join.specs.declared.refused.Failure.{Failure}

@@ -10,10 +10,10 @@ use chr_base::rule::Rule;
 use chr_diagnosis::{Crowd, NamedProgram, SortedVerdict, Throng};
 use chr_faults::Names;
 use chr_join::Accepted;
-use chr_kinds::{Kind, Sorting, finest_sorts};
 use chr_overlaps::Overlap;
 use chr_overlaps::cases::MAX_TYPES;
 use chr_overlaps::constants::constants;
+use chr_sorting::{Kind, Sorting, finest_sorts};
 use std::alloc::{AllocError, Global};
 use std::fmt::Write;
 

@@ -6,9 +6,9 @@ use chr_base::program::Program;
 use chr_base::rule::Rule;
 use chr_base::term::{Cmp, Comparison, Pattern, Term};
 use chr_diagnosis::sign;
-use chr_kinds::{Sorting, finest_sorts};
 use chr_overlaps::Overlap;
 use chr_sentences::{columns_text, has_head, push_symbol};
+use chr_sorting::{Sorting, finest_sorts};
 use std::alloc::{AllocError, Global};
 
 /// A column of a symbol, counted from 1.

@@ -8,7 +8,7 @@ use Rattle.chr_base.specs.Stores.{Store}
 use Rattle.chr_confluence.specs.Constants.{AreConstants}
 use Rattle.chr_overlaps.specs.declared.overlap.Overlap.{Overlap}
 use Rattle.chr_overlaps.specs.declared.cases.Case.{Case}
-use Rattle.chr_kinds.specs.FinestSorts.{AreFinest, sorts_of}
+use Rattle.chr_sorting.specs.FinestSorts.{AreFinest, sorts_of}
 use Rattle.chr_join.specs.declared.coverage.Coverage.{Coverage}
 use Rattle.chr_join.specs.declared.ahead.Ahead.{Ahead}
 use Rattle.chr_join.specs.declared.lister.Lister.{Lister}

@@ -1,11 +1,11 @@
 //! Combinations of lists.
 ghost use Rattle.std.specs.Prelude.{ℕ};
 ghost use Rattle.chr_types.specs.OrderTypes.{Rises};
-ghost use Rattle.chr_kinds.specs.FinestSorts.{sorts_of};
+ghost use Rattle.chr_sorting.specs.FinestSorts.{sorts_of};
 
 use chr_base::atom::SymbolId;
 use chr_base::program::Program;
-use chr_kinds::{Sorting, finest_sorts, has_more_combinations, visit_combinations};
+use chr_sorting::{Sorting, finest_sorts, has_more_combinations, visit_combinations};
 use chr_testing::texts::program_of;
 use chr_types::Visit;
 use std::alloc::{AllocError, Global};

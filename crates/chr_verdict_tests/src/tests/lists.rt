@@ -2,8 +2,8 @@
 ghost use Rattle.std.specs.Prelude.{IsTrue};
 ghost use Rattle.chr_types.specs.OrderTypes.{Rises};
 
-use chr_kinds::Kind;
-use chr_kinds::lists::lists_at;
+use chr_sorting::Kind;
+use chr_sorting::lists::lists_at;
 use std::alloc::Global;
 use std::process::Abort;
 

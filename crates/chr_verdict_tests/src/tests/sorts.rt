@@ -2,7 +2,7 @@
 use crate::tests::texts::{is_text, push};
 use chr_base::atom::SymbolId;
 use chr_base::program::Program;
-use chr_kinds::{Kind, Sorting, finest_sorts};
+use chr_sorting::{Kind, Sorting, finest_sorts};
 use chr_testing::texts::program_of;
 use std::alloc::Global;
 use std::process::Abort;

@@ -1,7 +1,7 @@
 use Rattle.std.proofs.Common.{subst}
 use Rattle.std.proofs.lemmas.Bool.{OnTrue_at}
-use Rattle.chr_kinds.specs.FinestSorts.{sorts_of}
-use Rattle.chr_kinds.specs.SortedCaseLists.{AreCombinations}
+use Rattle.chr_sorting.specs.FinestSorts.{sorts_of}
+use Rattle.chr_sorting.specs.SortedCaseLists.{AreCombinations}
 use Rattle.chr_join.specs.working.Visits.{Setting}
 use Rattle.chr_join.proofs.EqualSides.{equal_sorted, on_ok}
 use Rattle.chr_join.proofs.Visits.{few_combinations}

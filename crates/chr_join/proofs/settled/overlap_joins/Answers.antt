@@ -1,4 +1,4 @@
-use Rattle.chr_kinds.specs.FinestSorts.{sorts_of}
+use Rattle.chr_sorting.specs.FinestSorts.{sorts_of}
 use Rattle.chr_weights.specs.WeighedPrograms.{rules_in}
 use Rattle.chr_join.proofs.Visits.{no_sorted_cases}
 use Rattle.chr_join.proofs.settled.overlap_joins.Goals as goal

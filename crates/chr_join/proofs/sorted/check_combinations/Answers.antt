@@ -1,8 +1,8 @@
 use Rattle.std.proofs.Common.{refl, subst}
 use Rattle.chr_weights.specs.WeighedPrograms.{rules_in}
 use Rattle.chr_overlaps.proofs.UnifiedOverlaps.{sorted_unified_has}
-use Rattle.chr_kinds.specs.FinestSorts.{sorts_of}
-use Rattle.chr_kinds.specs.SortedCaseLists.{AreCombinations}
+use Rattle.chr_sorting.specs.FinestSorts.{sorts_of}
+use Rattle.chr_sorting.specs.SortedCaseLists.{AreCombinations}
 use Rattle.chr_join.specs.declared.coverage.Coverage.TheVariants.{Sorted}
 use Rattle.chr_join.specs.working.Visits.{Setting}
 use Rattle.chr_join.proofs.Visits.{may_check, few_combinations, sorted_cases, are_sorted_cases, sorted_values}

@@ -1,8 +1,8 @@
 use Rattle.std.proofs.Common.{◌≡◌, sym, subst, ◌∙◌, length}
 use Rattle.chr_weights.specs.WeighedPrograms.{rules_in}
 use Rattle.chr_overlaps.specs.declared.cases.TheConstants.{MAX_TYPES}
-use Rattle.chr_kinds.specs.FinestSorts.{sorts_of}
-use Rattle.chr_kinds.specs.SortedCaseLists.{MoreCombinationsThan}
+use Rattle.chr_sorting.specs.FinestSorts.{sorts_of}
+use Rattle.chr_sorting.specs.SortedCaseLists.{MoreCombinationsThan}
 use Rattle.chr_join.specs.declared.coverage.Coverage.TheVariants.{Sorted}
 use Rattle.chr_join.specs.Coverages.{IsTooManyBy}
 use Rattle.chr_join.specs.Verdicts.{IsFirstBy}

@@ -1,7 +1,0 @@
-use Rattle.std.proofs.Common.{take}
-use Rattle.std.specs.List.{All}
-use Rattle.chr_kinds.specs.working.Notes.{IsBelow}
-use Rattle.chr_kinds.proofs.join.bound.Given as goal
-
-abbrev pub invariant-loop-note : goal.invariant-loop-note
-invariant-loop-note l = All (IsBelow l.bound) (take l.note-index l.notes)

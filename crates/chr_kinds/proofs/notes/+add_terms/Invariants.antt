@@ -1,5 +1,0 @@
-use Rattle.std.proofs.Common.{length}
-use Rattle.chr_kinds.proofs.notes.+add_terms.Given as goal
-
-abbrev pub decreases-add_terms : goal.decreases-add_terms
-decreases-add_terms l = length l.terms.now

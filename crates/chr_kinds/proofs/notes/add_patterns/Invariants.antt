@@ -1,8 +1,0 @@
-use Rattle.std.proofs.Common.{◌≡◌, ◌++◌, take}
-use Rattle.chr_sorts.specs.Sorts.{sorted_terms}
-use Rattle.chr_kinds.specs.working.Notes.{numbering}
-use Rattle.chr_kinds.proofs.notes.add_patterns.Given as goal
-
-abbrev pub invariant-loop-pattern : goal.invariant-loop-pattern
-invariant-loop-pattern l = l.placed.items ≡ l.initial.placed.items ++ sorted_terms numbering
-    (take l.pattern-index l.patterns)

@@ -1,0 +1,33 @@
+//! The laws of finest sorts, of lists at one sort and of their combinations. Nothing here computes: the contract is the
+//! law.
+ghost use Rattle.chr_sorting.specs.laws.FinestSorts.{FinestAreOne, FinestExist, FinestHaveAsMany, FinestHaveOneCases};
+ghost use Rattle.chr_sorting.specs.laws.Combinations.{CombinationsAreOne, CombinationsAreValues};
+ghost use Rattle.chr_sorting.specs.laws.Combinations.{CombinationsStandForAll};
+ghost use Rattle.chr_sorting.specs.laws.Lists.{ListsAreOne, ListsExist};
+
+use chr_sorts::laws::sorted_lists;
+
+/// All combinations of one list at each sort cover: for each list of 64-bit values one of them stands, sort by sort.
+/// They are of 64-bit values, where the sorts' constants are, and there is one list of them, where these rise.
+pub fn combinations()
+    ensures cover { CombinationsStandForAll }
+    ensures values { CombinationsAreValues }
+    ensures one { CombinationsAreOne }
+{
+    sorted_lists();
+}
+
+/// Each program has finest sorts, and these are one: by any two an overlap has the same sorted cases, or too many
+/// combinations.
+pub fn finest()
+    ensures exist { FinestExist }
+    ensures one { FinestAreOne }
+    ensures cases { FinestHaveOneCases }
+    ensures many { FinestHaveAsMany }
+{}
+
+/// At a sort of each kind the lists of so many values have one list, where its constants are rising 64-bit values.
+pub fn lists()
+    ensures exist { ListsExist }
+    ensures one { ListsAreOne }
+{}
