@@ -1,5 +1,5 @@
-//! Random calls of seats at two shared books, in threads of their own, beside a slow replica that replays the journals
-//! of the closed books. There is nothing here but tests.
+//! Tests of random calls of seats at two shared books, whose journals a slow replica replays, and of leases that come
+//! back late, twice, recalled or from another program. There is nothing here but tests.
 #![tactic(auto)]
 
 #[cfg(test)]

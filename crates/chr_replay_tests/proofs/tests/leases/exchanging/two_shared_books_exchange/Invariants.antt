@@ -1,4 +1,4 @@
-use Rattle.chr_replay_tests.proofs.tests.run.Given as goal
+use Rattle.chr_replay_tests.proofs.tests.leases.exchanging.two_shared_books_exchange.Given as goal
 
 abbrev pub ghosts-share-J-Naming : goal.ghosts-share-J-Naming
 ghosts-share-J-Naming g a = record { opening = a.first }

@@ -1,7 +1,7 @@
 //! A seat tells while another one's parts are rested: no lock is held then.
 ghost use Rattle.std.specs.Prelude.{◌≡◌};
 
-use crate::tests::gates::{Holds, waits};
+use crate::tests::threads::gates::{Holds, waits};
 use chr_ops::Op;
 use chr_shared::{Naming, Opening, Seat, Settled, Shared};
 use chr_shared_testing::{MINIMUM, accepted, op, opening, rests_at};

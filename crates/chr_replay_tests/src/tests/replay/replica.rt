@@ -1,5 +1,5 @@
 //! A slow replica of the program of the least value.
-use crate::tests::values::Values;
+use crate::tests::replay::values::Values;
 use chr_acts::{Act, Entry, Reply};
 use chr_join::{Done, Lease};
 use chr_ops::{Added, IdRange, Op, OpId};

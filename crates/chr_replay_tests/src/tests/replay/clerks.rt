@@ -1,5 +1,5 @@
 //! What a thread asks of two shared books, at random.
-use crate::tests::values::VALUES;
+use crate::tests::replay::values::VALUES;
 use chr_acts::{CallFault, OpList, Reply};
 use chr_join::{Accepted, Done};
 use chr_ops::Summary;

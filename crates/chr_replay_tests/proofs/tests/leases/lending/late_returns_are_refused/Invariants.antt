@@ -1,4 +1,4 @@
-use Rattle.chr_seats_tests.proofs.tests.sixteen.sixteen_seats_tell_at_once.Given as goal
+use Rattle.chr_replay_tests.proofs.tests.leases.lending.late_returns_are_refused.Given as goal
 
 abbrev pub ghosts-share : goal.ghosts-share
 ghosts-share g a = record { opening = a.opening }

@@ -1,5 +1,0 @@
-//! Tests of leases that come back late, twice, recalled or from another program. There is nothing here but tests.
-#![tactic(auto)]
-
-#[cfg(test)]
-mod tests;
