@@ -1,4 +1,4 @@
-//! Tests of replicas and of what is leased from them. There is nothing here but tests.
+//! Tests of replicas, of what is leased from them, and of workers that rest them. There is nothing here but tests.
 #![tactic(auto)]
 
 #[cfg(test)]

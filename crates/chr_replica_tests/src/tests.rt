@@ -6,3 +6,4 @@ mod limits;
 mod parts;
 mod steps;
 mod texts;
+mod workers;

@@ -1,4 +1,4 @@
-//! Tests of worlds of replicas. There is nothing here but tests.
+//! Tests of worlds of replicas, to which given or random events happen. There is nothing here but tests.
 #![tactic(auto)]
 
 #[cfg(test)]

@@ -4,13 +4,18 @@ use chr_base::bag::Bag;
 use chr_base::derivation::Step;
 use chr_base::limits::MAX_REPLICAS;
 use chr_base::program::Program;
+use chr_join::Accepted;
 use chr_ops::{Added, Op};
 use chr_replica_testing::{accepted_of, op_of};
 use chr_testing::texts::{step_of, store_of, told};
 use chr_worlds::{Answer, Event, World};
 use std::alloc::Global;
 use std::process::Abort;
+use std::sync::Arc;
 use std::thread::Threads;
+
+/// The shortest route between each two places stays.
+pub const ROUTES: &str = ":- chr_constraint path/3. path(X,Y,D) \\ path(X,Y,E) <=> D =< E | true.";
 
 /// An event. The first number is that of the replica that is asked.
 #[derive(Clone, Copy)]
@@ -49,6 +54,11 @@ pub enum Said {
     Other,
 }
 
+/// The accepted program of a text.
+pub fn accepted(rt: &(impl Abort + Threads + Sync), alloc: Global, text: &str) -> Arc<Accepted> {
+    accepted_of(rt, alloc, text).expect(rt, "an accepted program")
+}
+
 /// A world of so many replicas of the program, 1 to [`MAX_REPLICAS`].
 pub fn world_of(
     rt: &(impl Abort + Threads + Sync),
@@ -56,7 +66,7 @@ pub fn world_of(
     text: &str,
     replicas: u32,
 ) -> World {
-    let program = accepted_of(rt, alloc, text).expect(rt, "an accepted program");
+    let program = accepted(rt, alloc, text);
     assert!(rt; 1 <= replicas && replicas <= MAX_REPLICAS, "{replicas}");
     World::open(alloc, program, replicas).expect(rt, "memory")
 }

@@ -1,7 +1,7 @@
 //! Worlds of two and three replicas.
 ghost use Rattle.std.specs.Prelude.{◌≡◌};
 
-use crate::tests::asking::{Ask, Said, expect_answers, expect_played, world_of};
+use crate::tests::asking::{Ask, ROUTES, Said, expect_answers, expect_played, world_of};
 use chr_acts::Act;
 use chr_ops::Added;
 use chr_replica::Board;
@@ -10,8 +10,6 @@ use chr_worlds::{Event, World};
 use std::alloc::Global;
 use std::process::Abort;
 use std::thread::Threads;
-
-const ROUTES: &str = ":- chr_constraint path/3. path(X,Y,D) \\ path(X,Y,E) <=> D =< E | true.";
 
 /// Three replicas are told routes, one operation each.
 const TOLD: [(Ask, Said); 3] = [

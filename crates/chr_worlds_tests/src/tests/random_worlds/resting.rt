@@ -1,6 +1,6 @@
 //! Stores come to rest by trying each rule on each two places.
-use crate::tests::family::Family;
-use crate::tests::multisets::copies;
+use crate::tests::random_worlds::family::Family;
+use crate::tests::random_worlds::multisets::copies;
 use chr_base::atom::Atom;
 use std::alloc::Global;
 use std::process::Abort;

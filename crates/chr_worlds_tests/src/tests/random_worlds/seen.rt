@@ -1,5 +1,5 @@
 //! How often what is worth a test has happened.
-use crate::tests::model::Expected;
+use crate::tests::random_worlds::model::Expected;
 use chr_ops::Added;
 use chr_replica::Refusal;
 

@@ -1,8 +1,8 @@
 //! Events that are chosen at random, by what the model holds.
-use crate::tests::family::{Family, unknown_atom};
-use crate::tests::model::{Replica, count};
-use crate::tests::multisets::copies;
-use crate::tests::random::Random;
+use crate::tests::random_worlds::family::{Family, unknown_atom};
+use crate::tests::random_worlds::model::{Replica, count};
+use crate::tests::random_worlds::multisets::copies;
+use crate::tests::random_worlds::random::Random;
 use chr_acts::{Act, OpList};
 use chr_base::atom::Atom;
 use chr_base::bag::Bag;

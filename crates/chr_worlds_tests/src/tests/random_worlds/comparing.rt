@@ -1,8 +1,8 @@
 //! What a world answers and what its replicas hold, against the model.
-use crate::tests::family::Family;
-use crate::tests::model::{Expected, Operation, Part, Replica, count};
-use crate::tests::multisets::are_same;
-use crate::tests::resting::is_at_rest;
+use crate::tests::random_worlds::family::Family;
+use crate::tests::random_worlds::model::{Expected, Operation, Part, Replica, count};
+use crate::tests::random_worlds::multisets::are_same;
+use crate::tests::random_worlds::resting::is_at_rest;
 use chr_acts::Reply;
 use chr_join::Lease;
 use chr_replica::Board;

@@ -1,5 +1,5 @@
 //! Programs whose rules each put one atom in the place of two, and what their rules mean.
-use crate::tests::random::Random;
+use crate::tests::random_worlds::random::Random;
 use chr_base::atom::Atom;
 use chr_testing::atoms::atom;
 
@@ -15,8 +15,6 @@ pub enum Family {
     /// The least of one kind of counter stays, and the greatest of the other.
     Counters,
 }
-
-pub const ROUTES: &str = ":- chr_constraint path/3. path(X,Y,D) \\ path(X,Y,E) <=> D =< E | true.";
 
 pub const COUNTERS: &str =
     ":- chr_constraint low/1, high/1. low(X) \\ low(Y) <=> X =< Y | true. high(X) \\ high(Y) <=> X >= Y | true.";

@@ -1,11 +1,11 @@
 //! Boards that were told many atoms, and what they come to.
+use crate::tests::texts::accepted;
 use chr_base::atom::Atom;
 use chr_base::bag::Bag;
-use chr_join::{Accepted, Coverage, accept};
+use chr_join::Accepted;
 use chr_ops::{Op, OpId};
 use chr_replica::Board;
 use chr_testing::atoms::atom;
-use chr_testing::texts::weighed_of;
 use std::alloc::Global;
 use std::process::Abort;
 use std::sync::Arc;
@@ -37,13 +37,6 @@ impl Facts {
             Facts::Mixed => mixed(number),
         }
     }
-}
-
-/// A program, accepted.
-pub fn accepted(rt: &(impl Abort + Threads + Sync), alloc: Global, text: &str) -> Arc<Accepted> {
-    let weighed = weighed_of(alloc, text).expect(rt, "a program that lowers");
-    let accepted = accept(rt, alloc, weighed, Coverage::Joint).ok();
-    Arc::new(alloc, accepted.expect(rt, "accepted")).expect(rt, "memory")
 }
 
 /// The key of the atom of a number.

@@ -1,8 +1,8 @@
 //! Boards are rested.
 ghost use Rattle.std.specs.Prelude.{◌≡◌, ◌≤◌, true};
 
-use crate::tests::gates::{Counts, Holds};
-use crate::tests::making::{Facts, board, leasts, tell};
+use crate::tests::workers::gates::{Counts, Holds};
+use crate::tests::workers::making::{Facts, board, leasts, tell};
 use chr_base::limits::{MAX_PARTS, MAX_WORKERS};
 use chr_replica::Board;
 use chr_workers::{Gate, OpenGate, rest_board};

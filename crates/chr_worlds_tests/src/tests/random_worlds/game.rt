@@ -1,11 +1,12 @@
 //! A world and its model, to which the same events happen.
-use crate::tests::comparing::{is_board_of, is_lease_of, is_reply};
-use crate::tests::family::Family;
-use crate::tests::model::{Expected, Part, Replica, count};
-use crate::tests::multisets::{add, are_same, copies};
-use crate::tests::resting::rested;
-use crate::tests::scene::{Scene, one_of, place_of, replica_of};
-use crate::tests::seen::Seen;
+use crate::tests::asking::answer;
+use crate::tests::random_worlds::comparing::{is_board_of, is_lease_of, is_reply};
+use crate::tests::random_worlds::family::Family;
+use crate::tests::random_worlds::model::{Expected, Part, Replica, count};
+use crate::tests::random_worlds::multisets::{add, are_same, copies};
+use crate::tests::random_worlds::resting::rested;
+use crate::tests::random_worlds::scene::{Scene, one_of, place_of, replica_of};
+use crate::tests::random_worlds::seen::Seen;
 use chr_acts::{Act, Reply};
 use chr_base::bag::Bag;
 use chr_join::{Accepted, Done, Lease};
@@ -31,12 +32,6 @@ pub struct Game {
     pub foreign: Arc<Accepted>,
     pub returns: Vec<Return>,
     pub seen: Seen,
-}
-
-/// What the world answers to the event, with ample memory.
-fn answer(rt: &impl Abort, alloc: Global, world: &mut World, event: &Event) -> Answer {
-    assert!(rt; event.fits(), "it does not fit");
-    world.act(alloc, event).expect(rt, "memory")
 }
 
 /// What the world answers to an act of a replica.

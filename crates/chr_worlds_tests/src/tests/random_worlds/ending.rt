@@ -1,9 +1,9 @@
 //! The end of a world: all leases are recalled, all is exchanged, and all replicas settle.
-use crate::tests::game::{Game, check, sync};
-use crate::tests::model::{Part, Replica, count};
-use crate::tests::multisets::are_same;
-use crate::tests::resting::rested;
-use crate::tests::scene::{Scene, replica_of};
+use crate::tests::random_worlds::game::{Game, check, sync};
+use crate::tests::random_worlds::model::{Part, Replica, count};
+use crate::tests::random_worlds::multisets::are_same;
+use crate::tests::random_worlds::resting::rested;
+use crate::tests::random_worlds::scene::{Scene, replica_of};
 use chr_acts::Act;
 use chr_base::atom::Atom;
 use chr_worlds::World;

@@ -1,7 +1,7 @@
 //! Replicas as plain lists, by the definitions of their events.
-use crate::tests::family::Family;
-use crate::tests::multisets::{add, are_same, copies, without};
-use crate::tests::resting::{is_at_rest, rested};
+use crate::tests::random_worlds::family::Family;
+use crate::tests::random_worlds::multisets::{add, are_same, copies, without};
+use crate::tests::random_worlds::resting::{is_at_rest, rested};
 use chr_base::atom::Atom;
 use chr_base::derivation::Step;
 use chr_join::Done;

@@ -10,16 +10,16 @@ mod resting;
 mod scene;
 mod seen;
 
-use crate::tests::family::{
-    COUNTERS, Family, OTHER_COINS, OTHER_COUNTERS, OTHER_MINIMUM, OTHER_ROUTES, ROUTES,
+use crate::tests::asking::{ROUTES, accepted};
+use crate::tests::random_worlds::family::{
+    COUNTERS, Family, OTHER_COINS, OTHER_COUNTERS, OTHER_MINIMUM, OTHER_ROUTES,
 };
-use crate::tests::game::{Game, check};
-use crate::tests::model::Replica;
-use crate::tests::random::Random;
-use crate::tests::scene::Scene;
-use crate::tests::seen::Seen;
+use crate::tests::random_worlds::game::{Game, check};
+use crate::tests::random_worlds::model::Replica;
+use crate::tests::random_worlds::random::Random;
+use crate::tests::random_worlds::scene::Scene;
+use crate::tests::random_worlds::seen::Seen;
 use chr_join::Accepted;
-use chr_replica_testing::accepted_of;
 use chr_testing::texts::{COINS, MINIMUM};
 use chr_worlds::World;
 use std::alloc::Global;
@@ -32,10 +32,6 @@ const EVENTS: u32 = 40;
 
 /// The worlds of each program. Interpreted they take a hundred times longer.
 const WORLDS: u64 = 1_000;
-
-fn accepted(rt: &(impl Abort + Threads + Sync), alloc: Global, text: &str) -> Arc<Accepted> {
-    accepted_of(rt, alloc, text).expect(rt, "an accepted program")
-}
 
 fn shared(rt: &impl Abort, program: &Arc<Accepted>) -> Arc<Accepted> {
     program.clone().expect(rt, "memory")

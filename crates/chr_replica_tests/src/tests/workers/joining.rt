@@ -1,6 +1,7 @@
 //! Rules whose heads are joined by an argument, and others: parts come to the store of one thread.
-use crate::tests::making::{Facts, accepted, board_of};
-use crate::tests::resting::rest;
+use crate::tests::texts::accepted;
+use crate::tests::workers::making::{Facts, board_of};
+use crate::tests::workers::resting::rest;
 use chr_base::bag::Bag;
 use chr_join::Accepted;
 use chr_replica::Board;
