@@ -239,7 +239,8 @@ impl Service {
         ensures answer { IfOk result (λ reply. AnswersAt (held self.old) replica (AnswersTell op)
             (reply_text (declarations (served self.old)) reply) (held self.new)) }
     {
-        let answer = self.act(alloc, &Event::At(replica, Act::Tell(op)))?;
+        runs_keep_replicas_sound();
+        let answer = self.world.tell(alloc, replica, op)?;
         self.rest_many(alloc, replica)?;
         Ok(Reply::Answered(answer))
     }

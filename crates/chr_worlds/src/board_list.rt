@@ -9,7 +9,9 @@ ghost use Rattle.chr_acts.specs.Events.{Does};
 ghost use Rattle.chr_worlds.specs.Worlds.{Works};
 ghost use Rattle.chr_worlds.specs.working.Boards.{AreLackedAt, AreOf, ChangesAt, ExchangesAt, HoldsAllOf};
 
-use crate::boards::{carry_out_at, lacked, lacked_among, opened, place_of, swap_at, work_at};
+use crate::boards::{
+    carry_out_at, lacked, lacked_among, opened, place_of, swap_at, tell_at, work_at,
+};
 use crate::gained::keep_gained;
 use chr_acts::{Act, OpList, Reply};
 use chr_base::derivation::Step;
@@ -18,6 +20,7 @@ use chr_ops::{News, Op, exchange_laws};
 use chr_replica::Board;
 use std::alloc::{AllocError, Global};
 use std::marker::Model;
+use std::slice::from_ref;
 use std::sync::Arc;
 
 /// Boards in a list. An exchange between two of them looks only at what the giver gained since the taker last held all
@@ -91,6 +94,17 @@ impl BoardList {
         let reply = carry_out_at(alloc, &mut self.boards, place, act)?;
         keep_gained(&mut self.news, place, act, &reply);
         Ok(reply)
+    }
+
+    /// Tells the board at a place an operation. That it may gain it is kept before the operation moves.
+    pub(crate) fn tell(&mut self, alloc: Global, place: usize, op: Op) -> Result<Reply, AllocError>
+        requires { place < length self.old }
+        ensures ok { IfOk result (λ reply.
+            ChangesAt self.old place (λ b t. Does (program_on b) b.replica (Act.Tell op) reply t) self.new) }
+        ensures err { OnErr result (self.new ≡ self.old) }
+    {
+        self.news.gained(place, from_ref(&op));
+        tell_at(alloc, &mut self.boards, place, op)
     }
 
     /// Takes these steps on the part that the board at a place has out under a number, and puts back what comes of it.

@@ -13,7 +13,7 @@ ghost use Rattle.chr_worlds.specs.working.Boards.{AreLacked, AreOf, ChangesAt, I
 use chr_acts::{Act, Reply, carry_out};
 use chr_base::derivation::Step;
 use chr_join::{Accepted, Done, StepFault};
-use chr_ops::{Op, OpId, summaries_are_one};
+use chr_ops::{Added, Op, OpId, summaries_are_one};
 use chr_replica::{Board, Refusal};
 use std::alloc::{AllocError, Global};
 use std::mem::swap;
@@ -63,6 +63,37 @@ pub(crate) fn carry_out_at(
 {
     let board = &mut boards[place];
     carry_out(alloc, board, act)
+}
+
+/// Tells a board an operation, and answers with what is refused. Where memory is refused nothing changes.
+fn tell(alloc: Global, board: &mut Board, op: Op) -> Result<Reply, AllocError>
+    ensures program { board.new.accepted ≡ board.old.accepted }
+    ensures ok { IfOk result (λ reply.
+        Does (program_on board.old) board.old.replica (Act.Tell op) reply board.new.replica) }
+    ensures err { OnErr result (board.new ≡ board.old) }
+{
+    match board.tell(alloc, op) {
+        Ok(Added::New) => Ok(Reply::Told(Added::New)),
+        Ok(Added::Again) => Ok(Reply::Told(Added::Again)),
+        Err(Refusal::Memory) => Err(AllocError),
+        Err(refusal) => Ok(Reply::Refused(refusal)),
+    }
+}
+
+/// Tells the board at a place an operation.
+pub(crate) fn tell_at(
+    alloc: Global,
+    boards: &mut [Board],
+    place: usize,
+    op: Op,
+) -> Result<Reply, AllocError>
+    requires { place < length boards.old }
+    ensures ok { IfOk result (λ reply.
+        ChangesAt boards.old place (λ b t. Does (program_on b) b.replica (Act.Tell op) reply t) boards.new) }
+    ensures err { OnErr result (boards.new ≡ boards.old) }
+{
+    let board = &mut boards[place];
+    tell(alloc, board, op)
 }
 
 /// What comes of the part that the board has out under a number, after these steps.

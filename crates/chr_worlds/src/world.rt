@@ -16,6 +16,7 @@ use chr_base::derivation::Step;
 use chr_base::limits::MAX_REPLICAS;
 use chr_base::program::Program;
 use chr_join::Accepted;
+use chr_ops::Op;
 use chr_replica::{Board, declares, declares_all};
 use std::alloc::{AllocError, Global};
 use std::marker::Model;
@@ -124,6 +125,27 @@ impl World {
                 steps,
             } => self.work(alloc, *replica, *lease, steps),
         }
+    }
+
+    /// Tells a replica an operation, which moves into it. It is the event of [`Act::Tell`], without a copy.
+    ///
+    /// # Errors
+    /// Where memory is refused. The world is as it was.
+    pub fn tell(&mut self, alloc: Global, replica: u64, op: Op) -> Result<Answer, AllocError>
+        ensures program { self.new.accepted ≡ self.old.accepted }
+        ensures happens { IfOk result (λ answer. Happens (shared_program self.old) self.old.replicas
+            (Event.At replica (Act.Tell op)) answer self.new.replicas) }
+        ensures err { OnErr result (self.new ≡ self.old) }
+    {
+        let Some(place) = self.boards.place_of(replica) else {
+            return Ok(if declares(self.accepted.program(), &op) {
+                Answer::NoReplica
+            } else {
+                Answer::UnknownSymbol
+            });
+        };
+        let reply = self.boards.tell(alloc, place, op)?;
+        Ok(Answer::Replied(reply))
     }
 
     /// Asks a replica to do something.

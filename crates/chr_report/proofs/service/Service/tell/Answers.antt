@@ -1,17 +1,27 @@
+use Rattle.std.specs.Prelude.{Ok}
+use Rattle.std.specs.declared.alloc.AllocError.{AllocError}
 use Rattle.chr_acts.specs.declared.act.Act.TheVariants as act
 use Rattle.chr_worlds.specs.declared.event.Event.TheVariants as event
 use Rattle.chr_report.specs.working.Services.{held, served}
+use Rattle.chr_report.proofs.BetweenLines.{act_ready}
 use Rattle.chr_report.proofs.Telling.{told}
 use Rattle.chr_report.proofs.Writable.{happens_written}
 use Rattle.chr_report.proofs.service.Service.tell.Goals as goal
 
+pub rest_many-requires : goal.rest_many-requires
+rest_many-requires c =
+    act_ready {E = AllocError} c.runs_keep_replicas_sound.ensures c.args.self.now.world.accepted
+    c.tell.new.self.accepted c.args.self.now.world.replicas c.tell.new.self.replicas
+    (event.At c.args.replica (act.Tell c.args.op)) (Ok c.in_ok-answer.answer) tt c.tell.ensures.program
+    c.in_ok-answer.ensures.happens c.requires.ready
+
 pub returns-clause-writable : goal.returns-clause-writable
 returns-clause-writable c =
-    happens_written (served c.args.self.now) c.args.self.now.world.replicas c.act.new.self.world.replicas
+    happens_written (served c.args.self.now) c.args.self.now.world.replicas c.tell.new.self.replicas
     (event.At c.args.replica (act.Tell c.args.op)) c.in_ok-answer.answer tt c.in_ok-answer.ensures.happens
 
 pub returns-clause-answer : goal.returns-clause-answer
 returns-clause-answer c =
-    told (served c.args.self.now) c.args.self.now.world.replicas c.act.new.self.world.replicas
+    told (served c.args.self.now) c.args.self.now.world.replicas c.tell.new.self.replicas
     (held c.rest_many.new.self) c.args.replica c.args.op c.in_ok-answer.answer
     c.requires.declared c.in_ok-answer.ensures.happens c.in_ok-rest_many.ensures.operations
