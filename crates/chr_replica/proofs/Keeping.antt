@@ -23,6 +23,7 @@ use Rattle.chr_replica.specs.Leases.{leased_store, stores_sum}
 use Rattle.chr_replica.specs.Replicas.{Replica, IsSound}
 use Rattle.chr_replica.specs.Laws.{FirstIsSound, TellKeeps, MergeKeeps, StepKeeps, TakeKeeps, TakePartsKeeps, PutKeeps}
 use Rattle.chr_replica.specs.Laws.{RecallKeeps, SettleKeeps}
+use Rattle.chr_replica.proofs.DeclaredSets.{none_declared, declared_more, declared_union}
 use Rattle.chr_replica.proofs.LeasedSums.{leased_more, leased_less, leased_parts, nothing_leased, not_out, below_next}
 use Rattle.chr_replica.proofs.LeasedSums.{below_less, below_parts}
 
@@ -66,12 +67,14 @@ pool_on p told s t l h g =
 
 pub first_is_sound : FirstIsSound
 first_is_sound p = record {
+  declared = none_declared p;
   reached = (0, told_store-empty ∙ sym (ap (λ l. bag.empty ⊕ l) nothing_leased ∙ plus_empty bag.empty));
   below = λ k part e. absurd (none-some part (sym (map.get-empty nat_cmp k) ∙ e));
 }
 
 pub tell_keeps : TellKeeps
 tell_keeps p op s t h sound = subst (IsSound p) (sym h.after) (record {
+  declared = declared_more p s.operations op sound.declared h.declared;
   reached = subst (λ m. Reaches (Step (rules_of p)) m ((s.pool ⊕ op.1) ⊕ leased_store s.out))
       (sym (told_store-insert s.operations op.0 op.1 h.new))
       (told_beside p (told_store s.operations) s.pool (leased_store s.out) op.1 sound.reached);
@@ -80,6 +83,7 @@ tell_keeps p op s t h sound = subst (IsSound p) (sym h.after) (record {
 
 pub merge_keeps : MergeKeeps
 merge_keeps p ops n s t h sound = subst (IsSound p) (sym h.after) (record {
+  declared = declared_union p s.operations ops sound.declared h.declared;
   reached = subst (λ m. Reaches (Step (rules_of p)) m ((s.pool ⊕ sum_of (fresh s.operations ops)) ⊕ leased_store s.out))
       (sym (told_store-union s.operations ops))
       (told_beside p (told_store s.operations) s.pool (leased_store s.out)
@@ -89,6 +93,7 @@ merge_keeps p ops n s t h sound = subst (IsSound p) (sym h.after) (record {
 
 pub step_keeps : StepKeeps
 step_keeps p step s t h sound = subst (IsSound p) (sym h.after) (record {
+  declared = sound.declared;
   reached = pool_on p (told_store s.operations) s.pool h.pool (leased_store s.out) sound.reached
       (reaches_after (Step (rules_of p)) s.pool h.pool h.pool (LeadsTo-steps (rules_of p) step s.pool h.pool h.leads)
       (reaches_itself (Step (rules_of p)) h.pool));
@@ -97,12 +102,14 @@ step_keeps p step s t h sound = subst (IsSound p) (sym h.after) (record {
 
 pub settle_keeps : SettleKeeps
 settle_keeps p n s t h sound = subst (IsSound p) (sym h.after) (record {
+  declared = sound.declared;
   reached = pool_on p (told_store s.operations) s.pool h.pool (leased_store s.out) sound.reached (n, h.run);
   below = sound.below;
 })
 
 pub take_keeps : TakeKeeps
 take_keeps p part number s t h sound = subst (IsSound p) (sym h.after) (subst Taken (sym h.numbered) (record {
+  declared = sound.declared;
   reached = subst (FromTold p s) (sym (ap (λ l. (s.pool ⊖ part) ⊕ l)
       (leased_more s.out s.next part (not_out s.out s.next sound.below))
       ∙ part_moves s.pool part (leased_store s.out) h.there)) sound.reached;
@@ -120,6 +127,7 @@ take_keeps p part number s t h sound = subst (IsSound p) (sym h.after) (subst Ta
 
 pub take_parts_keeps : TakePartsKeeps
 take_parts_keeps p n parts s t h sound = subst (IsSound p) (sym h.after) (record {
+  declared = sound.declared;
   reached = subst (FromTold p s) (sym (ap (λ l. bag.empty ⊕ l) (leased_parts parts s.out s.next sound.below)
       ∙ plus_comm bag.empty (leased_store s.out ⊕ stores_sum parts) ∙ plus_empty (leased_store s.out ⊕ stores_sum parts)
       ∙ plus_comm (leased_store s.out) (stores_sum parts) ∙ ap (λ x. x ⊕ leased_store s.out) h.whole)) sound.reached;
@@ -129,6 +137,7 @@ take_parts_keeps p n parts s t h sound = subst (IsSound p) (sym h.after) (record
 
 pub put_keeps : PutKeeps
 put_keeps p number part result s t h sound = subst (IsSound p) (sym h.after) (record {
+  declared = sound.declared;
   reached = reaches_beside p (told_store s.operations) s.pool (leased_store (map.remove s.out number)) part result
       (subst (λ l. FromTold p s (s.pool ⊕ l)) (leased_less s.out number part h.out) sound.reached) h.reached;
   below = below_less s.out number s.next sound.below;

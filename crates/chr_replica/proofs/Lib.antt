@@ -1,6 +1,7 @@
+pub mod DeclaredSets
 pub mod LeasedSums
 mod Keeping
-mod OneAnswer
+pub mod OneAnswer
 mod LeaseLists
 mod PoolRanks
 mod PartsCut

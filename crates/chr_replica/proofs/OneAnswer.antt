@@ -1,5 +1,6 @@
 -- Settled replicas that hold the same operations hold the same store.
-use Rattle.std.proofs.Common.{sym, ap, ◌∙◌, subst}
+use Rattle.std.specs.Prelude.{◌≡◌, Result, Ok, Err, IfOk, OnOk}
+use Rattle.std.proofs.Common.{refl, sym, ap, ◌∙◌, subst}
 use Rattle.chr_base.specs.declared.program.Program.{Program}
 use Rattle.chr_base.specs.FinBag.{◌⊕◌}
 use Rattle.chr_base.specs.Stores.{Store}
@@ -9,6 +10,9 @@ use Rattle.chr_base.specs.Sameness.{AreSame}
 use Rattle.chr_base.specs.Rewriting.{Reaches, IsNormalForm}
 use Rattle.chr_base.proofs.SameSteps.{same_step, same_programs_reach_alike}
 use Rattle.chr_base.proofs.Stores.{plus_empty}
+use Rattle.chr_base.specs.Values.{HasValues}
+use Rattle.chr_confluence.specs.Confluence.{Confluent}
+use Rattle.chr_join.specs.Parts.{IsOnlyNormalForm}
 use Rattle.chr_ops.specs.Operations.{told_store}
 use Rattle.chr_replica.specs.Leases.{leased_store}
 use Rattle.chr_replica.specs.Replicas.{Replica, IsSound, IsSettled}
@@ -24,7 +28,7 @@ same_normal p q same s t h = (
 )
 
 -- a settled replica holds a normal form of what was told
-normal : (p : Program) (s : Replica) → IsSound p s → IsSettled p s → IsNormalForm (Step (rules_of p))
+pub normal : (p : Program) (s : Replica) → IsSound p s → IsSettled p s → IsNormalForm (Step (rules_of p))
     (told_store s.operations) s.pool
 normal p s sound settled = (
   subst (Reaches (Step (rules_of p)) (told_store s.operations))
@@ -43,3 +47,13 @@ one_answer p q s t same confluent values equal sound sound' settled settled' =
       left,
       λ u h. confluent (told_store s.operations) u s.pool values h left,
     )
+
+-- what is shown of a settled replica is the one normal form of what was told
+pub shown_is_only : {E : Type 0} (p : Program) (s : Replica) (r : Result Store E) → OneAnswer → Confluent (rules_of p)
+    → HasValues (told_store s.operations) → IsSound p s → IfOk r (λ bag. bag ≡ s.pool) → OnOk r (IsSettled p s)
+    → IfOk r (IsOnlyNormalForm (rules_of p) (told_store s.operations))
+shown_is_only p s (Ok bag) one confluent values sound same settled =
+    let both = one p p s s (refl, refl) confluent values refl sound sound settled settled in
+    subst (IsOnlyNormalForm (rules_of p) (told_store s.operations)) (sym same)
+    (record { normal = both.1; only = both.2 })
+shown_is_only p s (Err e) one confluent values sound same settled = tt

@@ -5,7 +5,9 @@ use Rattle.chr_base.specs.declared.program.Program.{Program}
 use Rattle.chr_ops.specs.declared.fault.Added.{Added}
 use Rattle.chr_ops.specs.declared.fault.Added.TheVariants as added
 use Rattle.chr_ops.specs.Operations.{Operation}
+use Rattle.chr_join.specs.declared.accepted.Accepted.{Accepted}
 use Rattle.chr_replica.specs.declared.refusal.Refusal.{Refusal}
+use Rattle.chr_replica.specs.Boards.{Held}
 use Rattle.chr_replica.specs.Replicas.{Replica, IsSound, Tells}
 use Rattle.chr_replica.specs.Laws.{TellKeeps}
 
@@ -28,3 +30,8 @@ pub sound_after_tell : (p : Program) (s t : Replica) (op : Operation) (r : Resul
 sound_after_tell p s t op (Ok added.New) keep new kept err sound = keep p op s t (new refl) sound
 sound_after_tell p s t op (Ok added.Again) keep new kept err sound = subst (IsSound p) (sym (kept refl)) sound
 sound_after_tell p s t op (Err e) keep new kept err sound = subst (IsSound p) (sym err) sound
+
+-- a board whose replica is as it was is as it was
+pub same_board : (a : Accepted) (s t : Replica) → s ≡ t → ◌≡◌ {A = Held} (record { accepted = a; replica = s })
+    (record { accepted = a; replica = t })
+same_board a s t e = λ i. record { accepted = a; replica = e i }

@@ -10,6 +10,7 @@ use Rattle.chr_base.specs.Rules.{Step}
 use Rattle.chr_base.specs.Programs.{declarations, rules_of, declares_atom}
 use Rattle.chr_base.specs.Rewriting.{Runs, Reaches, IsAtRest}
 use Rattle.chr_base.specs.Values.{Each}
+use Rattle.chr_ops.specs.declared.id.OpId.{OpId}
 use Rattle.chr_ops.specs.declared.limits.TheConstants.{MAX_TOLD}
 use Rattle.chr_ops.specs.Operations.{Operation, Operations, told_store, told_atoms, sum_of, IsNew}
 use Rattle.chr_ops.specs.Joins.{union, fresh, HasNoClash}
@@ -31,6 +32,10 @@ first = record { operations = map.empty; pool = bag.empty; out = map.empty; next
 -- the program declares the operation's atoms
 abbrev pub IsDeclared : Program → Operation → Type 0
 IsDeclared p op = Each (declares_atom (declarations p)) op.1
+
+-- it declares those of each operation of a set
+abbrev pub AreDeclared : Program → Operations → Type 0
+AreDeclared p m = (id : OpId) (b : Store) → map.get m id ≡ Some b → IsDeclared p (id, b)
 
 -- a new operation joins the operations, and its atoms the pool
 pub record Tells (p : Program) (s : Replica) (op : Operation) (t : Replica) : Type 0 where
@@ -116,8 +121,9 @@ pub record Settles (p : Program) (s : Replica) (n : ℕ) (t : Replica) : Type 0 
   pub run : Runs (Step (rules_of p)) n s.pool pool
   pub after : t ≡ record { operations = s.operations; pool = pool; out = s.out; next = s.next }
 
--- what was told reaches the pool with all leased parts, and no number that is to come is out
+-- what was told is declared, and reaches the pool with all leased parts; no number that is to come is out
 pub record IsSound (p : Program) (s : Replica) : Type 0 where
+  pub declared : AreDeclared p s.operations
   pub reached : Reaches (Step (rules_of p)) (told_store s.operations) (s.pool ⊕ leased_store s.out)
   pub below : AreBelow s.out s.next
 

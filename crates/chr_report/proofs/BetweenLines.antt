@@ -1,32 +1,15 @@
--- Between lines no part of a replica is out, and what it holds is declared.
-use Rattle.std.proofs.Common.{◌≡◌, ℕ, zero, suc, ◌-◌, Bool, true, false, cond, List, [], ◌∷◌, All, refl, sym, ap, ◌∙◌}
-use Rattle.std.proofs.Common.{subst}
-use Rattle.std.specs.Prelude.{Option, Some, None, not, replicate, Result, Ok, Err, IfOk, OnOk}
-use Rattle.std.specs.List.{AllByRecursion}
-use Rattle.std.specs.Option.{option_or}
-use Rattle.std.specs.Ordering.{eq_by_cmp}
+-- Between lines no part of a replica is out.
+use Rattle.std.proofs.Common.{◌≡◌, ℕ, zero, suc, ◌-◌, [], ◌∷◌, All, refl, sym, ap, ◌∙◌, subst}
+use Rattle.std.specs.Prelude.{replicate, Result, Ok, Err, IfOk, OnOk}
 use Rattle.std.specs.FinMap as finite
-use Rattle.std.specs.FinMap.{find}
-use Rattle.std.proofs.lemmas.Option.{none-some}
-use Rattle.std.proofs.lemmas.List.Elements.{All-set, All-filter, All-replicate, All-from_recursion, recursion_from_All}
+use Rattle.std.proofs.lemmas.List.Elements.{All-set, All-replicate}
 use Rattle.chr_base.specs.declared.program.Program.{Program}
-use Rattle.chr_base.specs.Stores.{Store}
-use Rattle.chr_base.specs.Programs.{declarations, declares_atom}
-use Rattle.chr_base.specs.Values.{Each}
 use Rattle.chr_ops.specs.declared.fault.Added.TheVariants as added
-use Rattle.chr_ops.specs.declared.id.OpId.{OpId}
-use Rattle.chr_ops.specs.declared.range.IdRange.{IdRange}
-use Rattle.chr_ops.specs.Ids.{id_cmp}
-use Rattle.chr_ops.specs.Operations.{Operation, Operations}
-use Rattle.chr_ops.specs.Joins.{union}
-use Rattle.chr_ops.specs.Summaries.{covers, lacking}
-use Rattle.chr_ops.proofs.IdOrder.{id_total}
-use Rattle.chr_ops.proofs.EntryLists.{each_entry}
-use Rattle.chr_ops.proofs.Unions.{get-union}
+use Rattle.chr_ops.specs.Summaries.{lacking}
 use Rattle.chr_join.specs.declared.accepted.Accepted.{Accepted}
 use Rattle.chr_join.specs.AcceptedPrograms.{program_in}
 use Rattle.chr_replica.specs.Laws.{FirstIsSound}
-use Rattle.chr_replica.specs.Replicas.{Replica, first, IsDeclared, IsSound}
+use Rattle.chr_replica.specs.Replicas.{Replica, first, IsSound}
 use Rattle.chr_acts.specs.declared.act.Act.{Act}
 use Rattle.chr_acts.specs.declared.act.Act.TheVariants as act
 use Rattle.chr_acts.specs.declared.reply.Reply.{Reply}
@@ -43,76 +26,22 @@ use Rattle.chr_worlds.specs.declared.answer.Answer.{Answer}
 use Rattle.chr_worlds.specs.declared.answer.Answer.TheVariants as answer
 use Rattle.chr_report.specs.working.Services.{operations_held, AreBetweenLines, IsIdle, IsLineAct, IsLineEvent}
 
--- each operation is declared
-abbrev HoldsDeclared : Program → Operations → Type 0
-HoldsDeclared p m = (id : OpId) (b : Store) → finite.get m id ≡ Some b → IsDeclared p (id, b)
-
-declared_more : (p : Program) (m : Operations) (k : OpId) (v : Store) → HoldsDeclared p m
-    → Each (declares_atom (declarations p)) v → HoldsDeclared p (finite.insert m k v)
-declared_more p m k v h g id b e = by (eq_by_cmp id_cmp id k) (sym (finite.get-insert id_total m k v id) ∙ e)
-  where
-    by : (x : Bool) → cond x (Some v) (finite.get m id) ≡ Some b → Each (declares_atom (declarations p)) b
-    by true e = let k : ◌≡◌ {A = Option Store} (Some v) (Some b) = e in let same : v ≡ b = cc in
-        subst (Each (declares_atom (declarations p))) same g
-    by false e = h id b e
-
--- what is found among declared operations is declared
-found_declared : (p : Program) (os : List Operation) (id : OpId) (b : Store) → AllByRecursion (IsDeclared p) os
-    → find id_cmp id os ≡ Some b → Each (declares_atom (declarations p)) b
-found_declared p [] id b h e = absurd (none-some b e)
-found_declared p (o ∷ os) id b h e = by (eq_by_cmp id_cmp id o.0) (found_declared p os id b h.1) e
-  where
-    by : (x : Bool) → (find id_cmp id os ≡ Some b → Each (declares_atom (declarations p)) b)
-        → cond x (Some o.1) (find id_cmp id os) ≡ Some b → Each (declares_atom (declarations p)) b
-    by true later e = let k : ◌≡◌ {A = Option Store} (Some o.1) (Some b) = e in let same : o.1 ≡ b = cc in
-        subst (Each (declares_atom (declarations p))) same h.0
-    by false later e = later e
-
-declared_union : (p : Program) (m : Operations) (os : List Operation) → HoldsDeclared p m → All (IsDeclared p) os
-    → HoldsDeclared p (union m os)
-declared_union p m os h g id b e = by (finite.get m id) refl (sym (get-union m os id) ∙ e)
-  where
-    by : (x : Option Store) → finite.get m id ≡ x → option_or x (find id_cmp id os) ≡ Some b
-        → Each (declares_atom (declarations p)) b
-    by (Some c) f e = h id b (f ∙ e)
-    by None f e = found_declared p os id b (recursion_from_All (IsDeclared p) os g) e
-
--- and so is what a replica lacks
-pub lacking_declared : (p : Program) (s : Replica) (rs : List IdRange) → IsIdle p s
-    → All (IsDeclared p) (lacking s.operations rs)
-lacking_declared p s rs idle =
-    All-filter (λ o. not (covers rs o.0)) (IsDeclared p) (finite.entries s.operations)
-    (All-from_recursion (IsDeclared p) (finite.entries s.operations)
-    (each_entry (Each (declares_atom (declarations p))) s.operations idle.declared))
-
 -- ---- acts of lines
 
-same_idle : (p : Program) (s t : Replica) → t ≡ s → IsIdle p s → IsIdle p t
-same_idle p s t e h = subst (IsIdle p) (sym e) h
+same_idle : (s t : Replica) → t ≡ s → IsIdle s → IsIdle t
+same_idle s t e h = subst IsIdle (sym e) h
 
-does_idle : (p : Program) (s : Replica) (a : Act) (x : Reply) (t : Replica) → IsLineAct a → Does p s a x t → IsIdle p s
-    → IsIdle p t
-does_idle p s a (reply.Refused r) t line d idle = same_idle p s t d.2 idle
-does_idle p s (act.Tell op) (reply.Told added.New) t line d idle =
-    subst (IsIdle p) (sym d.after) (record {
-      out = idle.out;
-      declared =
-          declared_more p s.operations op.0 op.1 idle.declared d.declared;
-    })
-does_idle p s (act.Tell op) (reply.Told added.Again) t line d idle = same_idle p s t d.2 idle
-does_idle p s (act.Merge ops) (reply.Merged n) t line d idle =
-    subst (IsIdle p) (sym d.after) (record {
-      out = idle.out;
-      declared =
-          declared_union p s.operations ops idle.declared d.declared;
-    })
-does_idle p s act.Settle (reply.Settled n) t line d idle =
-    subst (IsIdle p) (sym d.0.after) (record { out = idle.out; declared = idle.declared })
-does_idle p s act.Settle (reply.Stopped n) t line d idle =
-    subst (IsIdle p) (sym d.after) (record { out = idle.out; declared = idle.declared })
-does_idle p s act.Show (reply.Shown bag) t line d idle = same_idle p s t d.2 idle
-does_idle p s act.Summary (reply.Summed rs) t line d idle = same_idle p s t d.1 idle
-does_idle p s (act.Lacks rs) (reply.Lacked ops) t line d idle = same_idle p s t d.1 idle
+does_idle : (p : Program) (s : Replica) (a : Act) (x : Reply) (t : Replica) → IsLineAct a → Does p s a x t → IsIdle s
+    → IsIdle t
+does_idle p s a (reply.Refused r) t line d idle = same_idle s t d.2 idle
+does_idle p s (act.Tell op) (reply.Told added.New) t line d idle = subst IsIdle (sym d.after) idle
+does_idle p s (act.Tell op) (reply.Told added.Again) t line d idle = same_idle s t d.2 idle
+does_idle p s (act.Merge ops) (reply.Merged n) t line d idle = subst IsIdle (sym d.after) idle
+does_idle p s act.Settle (reply.Settled n) t line d idle = subst IsIdle (sym d.0.after) idle
+does_idle p s act.Settle (reply.Stopped n) t line d idle = subst IsIdle (sym d.after) idle
+does_idle p s act.Show (reply.Shown bag) t line d idle = same_idle s t d.2 idle
+does_idle p s act.Summary (reply.Summed rs) t line d idle = same_idle s t d.1 idle
+does_idle p s (act.Lacks rs) (reply.Lacked ops) t line d idle = same_idle s t d.1 idle
 does_idle p s (act.Step step) _ t line d idle = absurd line
 does_idle p s (act.Take part) _ t line d idle = absurd line
 does_idle p s (act.TakeParts n) _ t line d idle = absurd line
@@ -121,23 +50,23 @@ does_idle p s (act.Recall number) _ t line d idle = absurd line
 does_idle p s act.LeastLease _ t line d idle = absurd line
 does_idle p s _ _ t line d idle = absurd d
 
-changes_idle : (p : Program) (w : Replicas) (r : ℕ) (R : Replica → Replica → Type 0) (v : Replicas)
-    → ((s t : Replica) → R s t → IsIdle p s → IsIdle p t) → Changes w r R v → All (IsIdle p) w → All (IsIdle p) v
-changes_idle p w r R v keep h all =
-    subst (All (IsIdle p)) (sym h.world) (All-set (IsIdle p) w (r - 1) h.after
-    (keep h.before h.after h.changed (holds_at (IsIdle p) w r h.before all h.there)) all)
+changes_idle : (w : Replicas) (r : ℕ) (R : Replica → Replica → Type 0) (v : Replicas)
+    → ((s t : Replica) → R s t → IsIdle s → IsIdle t) → Changes w r R v → All IsIdle w → All IsIdle v
+changes_idle w r R v keep h all =
+    subst (All IsIdle) (sym h.world) (All-set IsIdle w (r - 1) h.after
+    (keep h.before h.after h.changed (holds_at IsIdle w r h.before all h.there)) all)
 
 happens_idle : (p : Program) (w : Replicas) (e : Event) (x : Answer) (v : Replicas) → IsLineEvent e → Happens p w e x v
-    → All (IsIdle p) w → All (IsIdle p) v
+    → All IsIdle w → All IsIdle v
 happens_idle p w (event.At r a) (answer.Replied x) v line h all =
-    changes_idle p w r _ v (λ s t. does_idle p s a x t line) h all
-happens_idle p w (event.At r a) answer.UnknownSymbol v line h all = subst (All (IsIdle p)) (sym h.2) all
-happens_idle p w (event.At r a) answer.NoReplica v line h all = subst (All (IsIdle p)) (sym h.2) all
+    changes_idle w r _ v (λ s t. does_idle p s a x t line) h all
+happens_idle p w (event.At r a) answer.UnknownSymbol v line h all = subst (All IsIdle) (sym h.2) all
+happens_idle p w (event.At r a) answer.NoReplica v line h all = subst (All IsIdle) (sym h.2) all
 happens_idle p w (event.Sync a b) (answer.Replied x) v line h all =
-    changes_idle p w b _ v (λ t u g. does_idle p t (act.Merge (lacking (h.0).operations g.summary)) x u tt g.merged) h.2
+    changes_idle w b _ v (λ t u g. does_idle p t (act.Merge (lacking (h.0).operations g.summary)) x u tt g.merged) h.2
     all
 happens_idle p w (event.Sync a b) answer.UnknownSymbol v line h all = absurd h
-happens_idle p w (event.Sync a b) answer.NoReplica v line h all = subst (All (IsIdle p)) (sym h.1) all
+happens_idle p w (event.Sync a b) answer.NoReplica v line h all = subst (All IsIdle) (sym h.1) all
 happens_idle p w (event.Work r number steps) x v line h all = absurd line
 
 -- an event of a line keeps replicas ready
@@ -160,8 +89,8 @@ line_fits (event.At r a) line = act_fits a line
 
 -- the replica of a number
 pub ready_at : (p : Program) (w : Replicas) (r : ℕ) (s : Replica) → AreBetweenLines p w → IsAt w r s → IsSound p s
-    × IsIdle p s
-ready_at p w r s ready there = (holds_at (IsSound p) w r s ready.0 there, holds_at (IsIdle p) w r s ready.1 there)
+    × IsIdle s
+ready_at p w r s ready there = (holds_at (IsSound p) w r s ready.0 there, holds_at IsIdle w r s ready.1 there)
 
 -- ready replicas of an accepted program, which is told by another name
 pub ready_for : (a b : Accepted) (w : Replicas) → b ≡ a → AreBetweenLines (program_in a) w
@@ -178,16 +107,9 @@ act_ready keep a b w v e (Err f) line same h ready = tt
 
 -- ---- replicas that were told nothing
 
-first_is_idle : (p : Program) → IsIdle p first
-first_is_idle p = record {
-  out = refl;
-  declared = λ id b e. absurd
-      (none-some b (sym (finite.get-empty id_cmp id) ∙ e));
-}
-
 pub first_ready : FirstIsSound → (p : Program) (n : ℕ) (w : Replicas) → w ≡ replicate n first → AreBetweenLines p w
 first_ready sound p n w e = subst (AreBetweenLines p) (sym e)
-    (All-replicate (IsSound p) n first (sound p), All-replicate (IsIdle p) n first (first_is_idle p))
+    (All-replicate (IsSound p) n first (sound p), All-replicate IsIdle n first refl)
 
 none_told : (n : ℕ) → operations_held (replicate n first) ≡ replicate n finite.empty
 none_told zero = refl

@@ -32,7 +32,8 @@ use Rattle.chr_report.specs.Answers.{AnswersRefusal, AnswersMerge, AnswersUnion,
 use Rattle.chr_report.specs.declared.reply.Reply.TheVariants as replies
 use Rattle.chr_report.specs.working.ReplyTexts.{replied_text, answer_text, reply_text}
 use Rattle.chr_report.specs.working.Services.{operations_held, AreBetweenLines}
-use Rattle.chr_report.proofs.BetweenLines.{lacking_declared, ready_at}
+use Rattle.chr_replica.proofs.DeclaredSets.{lacking_declared}
+use Rattle.chr_report.proofs.BetweenLines.{ready_at}
 use Rattle.chr_report.proofs.Held.{answers_at, none_answers, held_at, none_held, has_one, there_or_not}
 
 joined : (word : List ℕ) (ops : List Operation) (old new : Operations) (n : ℕ) → told_atoms (union old ops) ≤ MAX_TOLD
@@ -153,4 +154,5 @@ pub synced : (p : Program) (w v : Replicas) (new : List Operations) (a b : ℕ) 
 synced p w v new a b x ready h e =
     let ds = declarations p in
     subst (AnswersBetween (operations_held w) a b (reply_text ds (replies.Synced x))) (sym e)
-    (sync_answers ds version.Two p w v a b x (λ s rs there. lacking_declared p s rs (ready_at p w a s ready there).1) h)
+    (sync_answers ds version.Two p w v a b x (λ s rs there.
+    lacking_declared p s.operations rs (ready_at p w a s ready there).0.declared) h)

@@ -7,10 +7,8 @@ use Rattle.chr_base.specs.Stores.{Store}
 use Rattle.chr_base.specs.declared.program.Program.{Program}
 use Rattle.chr_base.specs.ProgramTests.{Declaration}
 use Rattle.chr_base.specs.Programs.{declarations, rules_of}
-use Rattle.chr_base.specs.FinBag.{◌⊕◌}
 use Rattle.chr_base.specs.Rules.{Step}
-use Rattle.chr_base.specs.Rewriting.{Reaches, IsAtRest, IsNormalForm}
-use Rattle.chr_base.proofs.Stores.{plus_empty}
+use Rattle.chr_base.specs.Rewriting.{IsAtRest, IsNormalForm}
 use Rattle.chr_ops.specs.declared.id.OpId.{OpId}
 use Rattle.chr_ops.specs.declared.range.IdRange.{IdRange}
 use Rattle.chr_ops.specs.Operations.{Operations, operations_of, told_store}
@@ -18,9 +16,8 @@ use Rattle.chr_ops.specs.Summaries.{covers, lacking}
 use Rattle.chr_json.specs.declared.command.DeltaVersion.{DeltaVersion}
 use Rattle.chr_json.specs.declared.command.DeltaVersion.TheVariants as version
 use Rattle.chr_replica.specs.declared.refusal.Refusal.TheVariants as refused
-use Rattle.chr_replica.specs.Leases.{leased_store}
 use Rattle.chr_replica.specs.Replicas.{Replica, IsSound}
-use Rattle.chr_replica.proofs.LeasedSums.{nothing_leased}
+use Rattle.chr_replica.proofs.OneAnswer.{normal}
 use Rattle.chr_acts.specs.declared.act.Act.TheVariants as act
 use Rattle.chr_acts.specs.declared.reply.Reply.{Reply}
 use Rattle.chr_acts.specs.declared.reply.Reply.TheVariants as reply
@@ -36,29 +33,21 @@ use Rattle.chr_report.specs.working.Services.{operations_held, AreBetweenLines, 
 use Rattle.chr_report.proofs.BetweenLines.{ready_at}
 use Rattle.chr_report.proofs.Held.{answers_at, none_answers}
 
--- a replica at rest, of which nothing is out, holds a normal form of what it was told
-normal_form : (p : Program) (s : Replica) → IsSound p s → s.out ≡ map.empty → IsAtRest (Step (rules_of p)) s.pool
-    → IsNormalForm (Step (rules_of p)) (told_store s.operations) s.pool
-normal_form p s sound none rest = (
-  subst (Reaches (Step (rules_of p)) (told_store s.operations))
-      (ap (λ l. s.pool ⊕ leased_store l) none ∙ ap (λ l. s.pool ⊕ l) nothing_leased ∙ plus_empty s.pool) sound.reached,
-  rest,
-)
-
+-- a replica at rest, of which nothing is out, shows a normal form of what it was told
 does_show : (ds : List Declaration) (word : List ℕ) (k : DeltaVersion) (p : Program) (s : Replica) (x : Reply)
-    (t : Replica) → IsSound p s → IsIdle p s → IsAtRest (Step (rules_of p)) s.pool → Does p s act.Show x t
+    (t : Replica) → IsSound p s → IsIdle s → IsAtRest (Step (rules_of p)) s.pool → Does p s act.Show x t
     → AnswersShow ds (rules_of p) s.operations (replied_text ds word k x) t.operations
 does_show ds word k p s (reply.Shown bag) t sound idle rest d = (
   record {
     store = bag;
     normal_form = subst (IsNormalForm (Step (rules_of p)) (told_store s.operations)) (sym d.0)
-        (normal_form p s sound idle.out rest);
+        (normal p s sound (idle, rest));
     text_is = refl;
   },
   ap (λ r. r.operations) d.2,
 )
 does_show ds word k p s (reply.Refused (refused.Leased n)) t sound idle rest d =
-    let e : n ≡ 0 = d.0.0 ∙ ap map.len idle.out ∙ map.len-empty nat_cmp Store in
+    let e : n ≡ 0 = d.0.0 ∙ ap map.len idle ∙ map.len-empty nat_cmp Store in
     let l = d.0.1 in absurd (omega (arith, e, l))
 does_show ds word k p s (reply.Refused refused.NotAtRest) t sound idle rest d = absurd (d.0.1 rest)
 does_show ds word k p s (reply.Refused refused.Memory) t sound idle rest d = absurd (d.1 refl)
@@ -68,7 +57,7 @@ does_show ds word k p s _ t sound idle rest d = absurd d
 -- of replicas at rest
 pub show_answers : (ds : List Declaration) (word : List ℕ) (k : DeltaVersion) (p : Program) (w v : Replicas) (r : ℕ)
     (x : Answer)
-    → ((s : Replica) → IsAt w r s → IsSound p s × IsIdle p s × IsAtRest (Step (rules_of p)) s.pool)
+    → ((s : Replica) → IsAt w r s → IsSound p s × IsIdle s × IsAtRest (Step (rules_of p)) s.pool)
     → Happens p w (event.At r act.Show) x v
     → AnswersAt (operations_held w) r (AnswersShow ds (rules_of p)) (answer_text ds word k x) (operations_held v)
 show_answers ds word k p w v r (answer.Replied x) ready h =

@@ -1,7 +1,6 @@
 -- A replica that comes to rest by workers.
 use Rattle.std.proofs.Common.{◌≡◌, ◌≤◌, ℕ, ◌-◌, inl, inr, length, sym, ap, ◌∙◌, subst}
 use Rattle.std.specs.Prelude.{Option, Result, Ok, Err, OnOk, Some, slice_set}
-use Rattle.std.specs.FinMap as finite
 use Rattle.std.proofs.lemmas.List.{length-set, set-set}
 use Rattle.std.proofs.lemmas.List.Elements.{All-set}
 use Rattle.std.proofs.lemmas.Option.{slice_get_within}
@@ -13,7 +12,6 @@ use Rattle.chr_columns.proofs.Slices.{slice_set_same}
 use Rattle.chr_replica.specs.Replicas.{Replica, IsSettled, IsSound}
 use Rattle.chr_worlds.specs.Worlds.{Replicas, Changes, HasReplica, IsAt}
 use Rattle.chr_report.specs.working.Services.{operations_held, AreBetweenLines, ComesToRest, IsIdle, RestsAt}
-use Rattle.chr_report.proofs.BetweenLines.{ready_at}
 use Rattle.chr_report.proofs.Held.{same_held, has_one}
 
 -- the replica of a number after a change
@@ -33,15 +31,9 @@ rests_held p w v r (inr h) = same_held w v r h.before h.after h.there h.world h.
 pub rests_ready : (p : Program) (w v : Replicas) (r : ℕ) → RestsAt p w r v → AreBetweenLines p w → AreBetweenLines p v
 rests_ready p w v r (inl h) ready = subst (AreBetweenLines p) (sym h.1) ready
 rests_ready p w v r (inr h) ready =
-    let before = ready_at p w r h.before ready h.there in
-    let idle : IsIdle p h.after = record {
-      out = h.changed.settled.0;
-      declared =
-          λ id b e. before.1.declared id b (ap (λ m. finite.get m id) (sym h.changed.operations) ∙ e);
-    } in
     subst (AreBetweenLines p) (sym h.world) (
       All-set (IsSound p) w (r - 1) h.after h.changed.sound ready.0,
-      All-set (IsIdle p) w (r - 1) h.after idle ready.1,
+      All-set IsIdle w (r - 1) h.after h.changed.settled.0 ready.1,
     )
 
 -- and it is at rest

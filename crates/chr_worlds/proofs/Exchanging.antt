@@ -13,10 +13,12 @@ use Rattle.chr_ops.specs.Joins.{union}
 use Rattle.chr_ops.specs.Exchange.{HaveOneBag, ExchangeLaw}
 use Rattle.chr_ops.proofs.IdOrder.{id_total, id_exact}
 use Rattle.chr_ops.proofs.Unions.{get-union}
-use Rattle.chr_replica.specs.Replicas.{Replica}
+use Rattle.chr_replica.specs.Replicas.{Replica, IsSound}
+use Rattle.chr_replica.proofs.DeclaredSets.{lacking_declared}
 use Rattle.chr_acts.specs.declared.reply.Reply.TheVariants as reply
 use Rattle.chr_worlds.specs.Worlds.{Replicas, IsAt, Changes, TakesIn}
-use Rattle.chr_worlds.specs.Laws.{SyncsUnite, SyncsMeet}
+use Rattle.chr_worlds.specs.Laws.{SyncsUnite, SyncsMeet, SyncsAreDeclared}
+use Rattle.chr_worlds.proofs.Keeping.{holds_at}
 
 -- ---- replicas of a number
 
@@ -105,3 +107,8 @@ syncs_meet exchange p w v z a b m n s t s' t' at_a at_b same h g now_a now_b =
         let kept : middle ≡ t' = one_at z b middle t' (same_at v z a b _ middle g.2 (λ e. other (sym e)) in_v) now_b in
         second ∙ ap (λ o. union s.operations (map.entries o)) first ∙ joined_twice s.operations t.operations same
         ∙ sym first ∙ ap (λ r. r.operations) kept
+
+pub syncs_are_declared : SyncsAreDeclared
+syncs_are_declared p w v a b sound h =
+    let taken = (h.2).changed in
+    taken.merged.0 (lacking_declared p (h.0).operations taken.summary (holds_at (IsSound p) w a h.0 sound h.1).declared)

@@ -14,6 +14,7 @@ use Rattle.chr_ops.specs.Operations.{told_store}
 use Rattle.chr_ops.specs.Joins.{union}
 use Rattle.chr_ops.specs.Exchange.{HaveOneBag}
 use Rattle.chr_acts.specs.declared.reply.Reply.TheVariants as reply
+use Rattle.chr_replica.specs.declared.refusal.Refusal.TheVariants as refusal
 use Rattle.chr_replica.specs.Replicas.{Replica, first, IsSound, IsSettled}
 use Rattle.chr_worlds.specs.declared.event.Event.{Event}
 use Rattle.chr_worlds.specs.declared.event.Event.TheVariants as event
@@ -70,3 +71,9 @@ SyncsMeet =
     → HaveOneBag s.operations t.operations → Happens p w (event.Sync a b) (answer.Replied (reply.Merged n)) v
     → Happens p v (event.Sync b a) (answer.Replied (reply.Merged m)) z → IsAt z a s' → IsAt z b t'
     → s'.operations ≡ t'.operations
+
+-- in a world of sound replicas no exchange is refused for an atom that the program does not declare
+abbrev pub SyncsAreDeclared : Type 0
+SyncsAreDeclared =
+    (p : Program) (w v : Replicas) (a b : ℕ) → All (IsSound p) w
+    → ¬ Happens p w (event.Sync a b) (answer.Replied (reply.Refused refusal.UnknownSymbol)) v

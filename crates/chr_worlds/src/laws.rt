@@ -1,5 +1,5 @@
 //! The laws of worlds. Each is a function that takes nothing and computes nothing: its contract is the law.
-ghost use Rattle.chr_worlds.specs.Laws.{RunsKeep, ReplicasAgree, PartsAgree, SyncsUnite, SyncsMeet};
+ghost use Rattle.chr_worlds.specs.Laws.{RunsKeep, ReplicasAgree, PartsAgree, SyncsUnite, SyncsMeet, SyncsAreDeclared};
 
 use chr_confluence::laws::parts;
 use chr_ops::exchange_laws;
@@ -27,10 +27,11 @@ pub fn settled_replicas_agree()
 }
 
 /// An exchange makes the operations of the replica that takes in the union of both. Where no id stands for two bags, an
-/// exchange and then the one in the other direction make both hold the same operations.
+/// exchange and then the one in the other direction make both hold the same operations. None is refused for a symbol.
 pub fn exchanges_unite()
     ensures union { SyncsUnite }
     ensures meet { SyncsMeet }
+    ensures declared { SyncsAreDeclared }
 {
     exchange_laws();
 }

@@ -3,28 +3,35 @@ ghost use Rattle.std.specs.Prelude.{◌≡◌, ◌↔◌, IfErr, IfOk, IsTrue, O
 ghost use Rattle.chr_base.specs.Programs.{rules_of};
 ghost use Rattle.chr_base.specs.Rewriting.{IsAtRest};
 ghost use Rattle.chr_base.specs.Rules.{Step};
+ghost use Rattle.chr_join.specs.Parts.{IsOnlyNormalForm};
+ghost use Rattle.chr_ops.specs.Operations.{told_store};
 ghost use Rattle.chr_ops.specs.Summaries.{CoversJust, lacking};
 ghost use Rattle.chr_replica.specs.Replicas.{IsSettled};
 ghost use Rattle.chr_replica.specs.Refusals.{RefusesShow};
 ghost use Rattle.chr_replica.specs.Boards.{program_on};
 
 use crate::board::Board;
+use crate::laws::one_answer;
 use crate::refusal::Refusal;
 use chr_base::bag::Bag;
 use chr_ops::{Op, Summary};
 use std::alloc::{AllocError, Global};
 
 impl Board {
-    /// The pool, where no lease is out and it is at rest. Where it was rested and nothing has come in since, it is not
-    /// searched again.
+    /// The pool, where no lease is out and it is at rest: the one normal form of what was told. Where it was rested and
+    /// nothing has come in since, it is not searched again.
     ///
     /// # Errors
     /// `Leased` with the number of leases that are out, `NotAtRest`, `Memory`.
     pub fn show(&self, alloc: Global) -> Result<Bag, Refusal>
         ensures pool { IfOk result (λ bag. bag ≡ self.now.replica.pool) }
         ensures settled { OnOk result (IsSettled (program_on self.now) self.now.replica) }
+        ensures only { IfOk result (IsOnlyNormalForm (rules_of (program_on self.now))
+            (told_store self.now.replica.operations)) }
         ensures refused { IfErr result (RefusesShow (program_on self.now) self.now.replica) }
     {
+        one_answer();
+        self.is_sound();
         self.state.show(alloc, self.accepted.weighed())
     }
 

@@ -20,7 +20,7 @@ impl Board {
         self.state.waiting()
     }
 
-    /// Rests the pool, and answers how many steps that took.
+    /// Rests the pool, and answers how many steps that took. A pool at rest stays as it is.
     ///
     /// # Errors
     /// Where memory is refused, with the number of steps taken so far, which stand.
@@ -28,6 +28,8 @@ impl Board {
         ensures program { self.new.accepted ≡ self.old.accepted }
         ensures ok { IfOk result (λ n. Settles (program_on self.old) self.old.replica n self.new.replica) }
         ensures rests { OnOk result (IsAtRest (Step (rules_of (program_on self.old))) self.new.replica.pool) }
+        ensures resting { IsAtRest (Step (rules_of (program_on self.old))) self.old.replica.pool →
+            (self.new ≡ self.old) × IfOk result (λ n. n ≡ 0) × IfErr result (λ e. e.steps ≡ 0) }
         ensures stopped { IfErr result (λ e.
             Settles (program_on self.old) self.old.replica e.steps self.new.replica) }
     {

@@ -20,6 +20,8 @@ impl State {
         requires { IsSound (program_of weighed.now) self.old }
         ensures ok { IfOk result (λ n. Settles (program_of weighed.now) self.old n self.new) }
         ensures rests { OnOk result (IsAtRest (Step (rules_in weighed.now)) self.new.pool) }
+        ensures resting { IsAtRest (Step (rules_in weighed.now)) self.old.pool →
+            (self.new ≡ self.old) × IfOk result (λ n. n ≡ 0) × IfErr result (λ e. e.steps ≡ 0) }
         ensures stopped { IfErr result (λ e. Settles (program_of weighed.now) self.old e.steps self.new) }
     {
         // So few atoms are told that all steps are counted.

@@ -1,15 +1,13 @@
 -- The replicas that answer command lines: what they hold, and what is kept of them from line to line.
-use Rattle.std.specs.Prelude.{◌≡◌, ◌⊎◌, ℕ, Bool, true, false, List, All, map, Some, ⊤}
+use Rattle.std.specs.Prelude.{◌≡◌, ◌⊎◌, ℕ, Bool, true, false, List, All, map, ⊤}
 use Rattle.std.specs.FinMap as finite
 use Rattle.chr_base.specs.declared.program.Program.{Program}
 use Rattle.chr_base.specs.Programs.{rules_of}
-use Rattle.chr_base.specs.Stores.{Store}
 use Rattle.chr_base.specs.Rules.{Step}
 use Rattle.chr_base.specs.Rewriting.{IsAtRest}
-use Rattle.chr_ops.specs.declared.id.OpId.{OpId}
 use Rattle.chr_ops.specs.Operations.{Operations}
 use Rattle.chr_ops.specs.Summaries.{IsApart}
-use Rattle.chr_replica.specs.Replicas.{Replica, IsDeclared, IsSettled, IsSound}
+use Rattle.chr_replica.specs.Replicas.{Replica, IsSettled, IsSound}
 use Rattle.chr_acts.specs.declared.act.Act.{Act}
 use Rattle.chr_acts.specs.declared.act.Act.TheVariants as act
 use Rattle.chr_acts.specs.declared.reply.Reply.TheVariants as reply
@@ -33,13 +31,12 @@ operations_held w = map (λ t. t.operations) w
 abbrev pub held : Service → List Operations
 held s = operations_held s.world.replicas
 
--- between lines no part of a replica is out, and all that it was told is declared
-pub record IsIdle (p : Program) (s : Replica) : Type 0 where
-  pub out : s.out ≡ finite.empty
-  pub declared : (id : OpId) (b : Store) → finite.get s.operations id ≡ Some b → IsDeclared p (id, b)
+-- between lines no part of a replica is out
+abbrev pub IsIdle : Replica → Type 0
+IsIdle s = s.out ≡ finite.empty
 
 abbrev pub AreBetweenLines : Program → Replicas → Type 0
-AreBetweenLines p w = All (IsSound p) w × All (IsIdle p) w
+AreBetweenLines p w = All (IsSound p) w × All IsIdle w
 
 abbrev pub IsBetweenLines : Service → Type 0
 IsBetweenLines s = AreBetweenLines (served s) s.world.replicas

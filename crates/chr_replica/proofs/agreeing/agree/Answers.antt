@@ -14,11 +14,12 @@ returns-clause-pool c =
     c.is_sound.ensures.values c.requires.operations c.is_sound.ensures.sound c.is_sound-2.ensures.sound c.requires.left
     c.requires.right).0
 
-pub returns-clause-normal : goal.returns-clause-normal
-returns-clause-normal c =
+pub returns-clause-only : goal.returns-clause-only
+returns-clause-only c =
     let same : c.weighed.result.now ≡ weighed_of c.args.left.now.accepted = search rules in
     let confluent = subst (λ w. Confluent (rules_in w)) same c.weighed.ensures.confluent in
-    (c.one_answer.ensures (program_on c.args.left.now) (program_on c.args.right.now) c.args.left.now.replica
+    let one = c.one_answer.ensures (program_on c.args.left.now) (program_on c.args.right.now) c.args.left.now.replica
     c.args.right.now.replica c.requires.program confluent
     c.is_sound.ensures.values c.requires.operations c.is_sound.ensures.sound c.is_sound-2.ensures.sound c.requires.left
-    c.requires.right).1
+    c.requires.right in
+    record { normal = one.1; only = one.2 }

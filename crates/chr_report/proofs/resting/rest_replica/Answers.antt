@@ -15,7 +15,7 @@ rest_board-rested-requires-clause-out g c κs within =
     let out = c.swap_board-there.ensures.swapped there in
     subst (λ s. s.out ≡ finite.empty) out.changed.0 (ready_at
     (shared_program c.args.world.now) c.args.world.now.replicas c.args.replica out.before c.requires
-    out.there).1.out
+    out.there).1
 
 pub returns-then-not-there-clause-rests : goal.returns-then-not-there-clause-rests
 returns-then-not-there-clause-rests g c =
