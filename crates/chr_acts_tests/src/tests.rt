@@ -11,6 +11,34 @@ use std::process::Abort;
 use std::sync::Arc;
 use std::thread::Threads;
 
+/// An act, with the values of its atoms.
+#[derive(Clone, Copy)]
+enum Ask {
+    /// To tell these by the operation 1 of origin 1.
+    Tell(&'static [i64]),
+    /// To take the step that keeps the first value and removes the second.
+    Step(i64, i64),
+    Take(&'static [i64]),
+    Recall(u64),
+    Settle,
+    Show,
+    LeastLease,
+}
+
+/// What is replied.
+#[derive(Clone, Copy)]
+enum Said {
+    Told(Added),
+    /// A part is leased out under this number.
+    Leased(u64),
+    Recalled,
+    Settled(u64),
+    /// The store of these values is shown.
+    Shown(&'static [i64]),
+    LeastLease(Option<u64>),
+    Refused(Refusal),
+}
+
 /// The accepted program of the least value.
 fn accepted(rt: &(impl Abort + Threads + Sync), alloc: Global) -> Arc<Accepted> {
     let weighed = weighed_of(alloc, MINIMUM).expect(rt, "a program that lowers");
@@ -23,120 +51,119 @@ fn store(rt: &impl Abort, alloc: Global, values: &[i64]) -> Bag {
     bag_of_values(alloc, values).expect(rt, "memory")
 }
 
-/// The act that tells these values by the operation 1 of origin 1.
-fn tell(rt: &impl Abort, alloc: Global, values: &[i64]) -> Act {
+/// The operation 1 of origin 1, which tells these values.
+fn operation(rt: &impl Abort, alloc: Global, values: &[i64]) -> Op {
     let id = OpId {
         origin: 1,
         number: 1,
     };
-    Act::Tell(Op::of(id, store(rt, alloc, values)).expect(rt, "an operation"))
+    Op::of(id, store(rt, alloc, values)).expect(rt, "an operation")
 }
 
-/// The step of the rule on these two values.
-fn step(kept: i64, removed: i64) -> Act {
-    Act::Step(step_on(1, &[atom(0, &[kept]), atom(0, &[removed])]))
-}
-
-/// The act that leases these values out.
-fn take(rt: &impl Abort, alloc: Global, values: &[i64]) -> Act {
-    Act::Take(store(rt, alloc, values))
-}
-
-/// What the board answers, with ample memory.
-fn answered(rt: &impl Abort, alloc: Global, board: &mut Board, act: Act) -> Reply {
-    assert!(rt; act.fits());
-    carry_out(alloc, board, &act).expect(rt, "memory")
-}
-
-/// What was told, where the reply is to that.
-fn added(reply: &Reply) -> Option<Added> {
-    match reply {
-        Reply::Told(added) => Some(*added),
-        _ => None,
+fn act(rt: &impl Abort, alloc: Global, ask: Ask) -> Act {
+    match ask {
+        Ask::Tell(values) => Act::Tell(operation(rt, alloc, values)),
+        Ask::Step(kept, removed) => Act::Step(step_on(1, &[atom(0, &[kept]), atom(0, &[removed])])),
+        Ask::Take(values) => Act::Take(store(rt, alloc, values)),
+        Ask::Recall(number) => Act::Recall(number),
+        Ask::Settle => Act::Settle,
+        Ask::Show => Act::Show,
+        Ask::LeastLease => Act::LeastLease,
     }
 }
 
-fn is_told(reply: &Reply, expected: Added) -> bool {
-    added(reply) == Some(expected)
-}
-
-fn is_refused(reply: &Reply, expected: Refusal) -> bool {
-    match reply {
-        Reply::Refused(refusal) => *refusal == expected,
+/// Whether this is replied.
+fn is_said(rt: &impl Abort, alloc: Global, reply: &Reply, expected: Said) -> bool {
+    match (reply, expected) {
+        (Reply::Told(added), Said::Told(other)) => *added == other,
+        (Reply::Leased(lease), Said::Leased(number)) => lease.number == number,
+        (Reply::Recalled, Said::Recalled) => true,
+        (Reply::Settled(steps), Said::Settled(other)) => *steps == other,
+        (Reply::Shown(bag), Said::Shown(values)) => bag.is_same(&store(rt, alloc, values)),
+        (Reply::LeastLease(number), Said::LeastLease(other)) => *number == other,
+        (Reply::Refused(refusal), Said::Refused(other)) => *refusal == other,
         _ => false,
     }
 }
 
-/// Whether a part is leased out under this number.
-fn is_leased(reply: &Reply, number: u64) -> bool {
-    match reply {
-        Reply::Leased(lease) => lease.number == number,
-        _ => false,
-    }
+/// What the board replies, with ample memory.
+fn replied(rt: &impl Abort, alloc: Global, board: &mut Board, act: &Act) -> Reply {
+    assert!(rt; act.fits(), "it does not fit");
+    carry_out(alloc, board, act).expect(rt, "memory")
 }
 
-fn is_recalled(reply: &Reply) -> bool {
-    matches!(reply, Reply::Recalled)
-}
-
-fn is_settled(reply: &Reply, expected: u64) -> bool {
-    match reply {
-        Reply::Settled(steps) => *steps == expected,
-        _ => false,
-    }
-}
-
-/// Whether the reply shows the store of these values.
-fn shows(rt: &impl Abort, alloc: Global, reply: &Reply, values: &[i64]) -> bool {
-    match reply {
-        Reply::Shown(bag) => bag.is_same(&store(rt, alloc, values)),
-        _ => false,
-    }
-}
-
-/// A board that was told 5, 3 and 9.
-fn told(rt: &(impl Abort + Threads + Sync), alloc: Global) -> Board {
+/// A new board replies so to these acts, in turn.
+fn expect_replied(rt: &(impl Abort + Threads + Sync), alloc: Global, rows: &[(Ask, Said)]) {
     let mut board = Board::open(alloc, accepted(rt, alloc)).expect(rt, "memory");
-    let act = tell(rt, alloc, &[5, 3, 9]);
-    let reply = answered(rt, alloc, &mut board, act);
-    assert!(rt; is_told(&reply, Added::New));
-    board
+    for (place, (ask, expected)) in rows.iter().enumerate() {
+        let reply = replied(rt, alloc, &mut board, &act(rt, alloc, *ask));
+        assert!(rt; is_said(rt, alloc, &reply, *expected), "act {place}");
+    }
 }
 
-fn refuses(rt: &impl Abort, alloc: Global, board: &mut Board, act: Act, expected: Refusal) -> bool {
-    is_refused(&answered(rt, alloc, board, act), expected)
-}
+const STEPS_AND_LEASES: [(Ask, Said); 5] = [
+    (Ask::Tell(&[5, 3, 9]), Said::Told(Added::New)),
+    (Ask::Step(9, 5), Said::Refused(Refusal::NotThere)),
+    (Ask::Take(&[5, 9]), Said::Leased(1)),
+    (Ask::Show, Said::Refused(Refusal::Leased(1))),
+    (Ask::Recall(1), Said::Recalled),
+];
 
 #[test]
 fn steps_and_leases_are_answered(rt: HostRuntime) {
-    let alloc = rt.alloc();
-    let mut board = told(&rt, alloc);
-    assert!(rt; refuses(&rt, alloc, &mut board, step(9, 5), Refusal::NotThere));
-    let part = take(&rt, alloc, &[5, 9]);
-    assert!(rt; is_leased(&answered(&rt, alloc, &mut board, part), 1));
-    assert!(rt; refuses(&rt, alloc, &mut board, Act::Show, Refusal::Leased(1)));
-    assert!(rt; is_recalled(&answered(&rt, alloc, &mut board, Act::Recall(1))));
+    expect_replied(&rt, rt.alloc(), &STEPS_AND_LEASES);
 }
+
+const SETTLED: [(Ask, Said); 4] = [
+    (Ask::Tell(&[5, 3, 9]), Said::Told(Added::New)),
+    (Ask::Show, Said::Refused(Refusal::NotAtRest)),
+    (Ask::Settle, Said::Settled(2)),
+    (Ask::Show, Said::Shown(&[3])),
+];
 
 #[test]
 fn a_pool_settles_and_is_shown(rt: HostRuntime) {
-    let alloc = rt.alloc();
-    let mut board = told(&rt, alloc);
-    assert!(rt; refuses(&rt, alloc, &mut board, Act::Show, Refusal::NotAtRest));
-    assert!(rt; is_settled(&answered(&rt, alloc, &mut board, Act::Settle), 2));
-    let shown = answered(&rt, alloc, &mut board, Act::Show);
-    assert!(rt; shows(&rt, alloc, &shown, &[3]));
+    expect_replied(&rt, rt.alloc(), &SETTLED);
 }
 
-/// Calls for a seat, with ample memory. The entry has to have this place.
-fn call(rt: &impl Abort, alloc: Global, book: &mut Book, seat: u32, act: Act, expected: u64) {
-    assert!(rt; act.fits());
-    let place = book.call(alloc, seat, act).ok();
-    assert!(rt; place == Some(expected), "at {expected}");
+const LEAST_LEASES: [(Ask, Said); 9] = [
+    (Ask::Tell(&[5, 3, 9]), Said::Told(Added::New)),
+    (Ask::Take(&[5]), Said::Leased(1)),
+    (Ask::Take(&[9]), Said::Leased(2)),
+    (Ask::Recall(7), Said::Refused(Refusal::NoLease(7))),
+    (Ask::LeastLease, Said::LeastLease(Some(1))),
+    (Ask::Recall(1), Said::Recalled),
+    (Ask::LeastLease, Said::LeastLease(Some(2))),
+    (Ask::Recall(2), Said::Recalled),
+    (Ask::LeastLease, Said::LeastLease(None)),
+];
+
+#[test]
+fn the_least_lease_is_told(rt: HostRuntime) {
+    expect_replied(&rt, rt.alloc(), &LEAST_LEASES);
+}
+
+/// The place of the entry of a call, with ample memory.
+fn call(rt: &impl Abort, alloc: Global, book: &mut Book, seat: u32, act: Act) -> u64 {
+    assert!(rt; act.fits(), "it does not fit");
+    book.call(alloc, seat, act).ok().expect(rt, "memory")
 }
 
 fn opened(rt: &(impl Abort + Threads + Sync), alloc: Global) -> Book {
     Book::open(alloc, accepted(rt, alloc)).expect(rt, "memory")
+}
+
+/// A seat's call, and the place of its entry.
+type Call = (u32, Ask, u64);
+
+/// A book of these calls.
+fn book_of(rt: &(impl Abort + Threads + Sync), alloc: Global, calls: &[Call]) -> Book {
+    let mut book = opened(rt, alloc);
+    for (seat, ask, expected) in calls {
+        let place = call(rt, alloc, &mut book, *seat, act(rt, alloc, *ask));
+        assert!(rt; place == *expected, "at {expected}");
+    }
+    book
 }
 
 /// The entry at a place of the book.
@@ -144,38 +171,48 @@ fn entry<'a>(rt: &impl Abort, book: &'a Book, place: u64) -> &'a Entry {
     book.entry(place).expect(rt, "an entry")
 }
 
-/// A book in which the seat 1 told 5, the seat 2 told the same and showed, and the seat 1 recalled the lease 7.
-fn four_calls(rt: &(impl Abort + Threads + Sync), alloc: Global) -> Book {
-    let mut book = opened(rt, alloc);
-    call(rt, alloc, &mut book, 1, tell(rt, alloc, &[5]), 1);
-    call(rt, alloc, &mut book, 2, tell(rt, alloc, &[5]), 2);
-    call(rt, alloc, &mut book, 2, Act::Show, 3);
-    call(rt, alloc, &mut book, 1, Act::Recall(7), 4);
-    book
-}
-
-/// Place, seat, and number of the seat.
-const FOUR: [(u64, u32, u64); 4] = [(1, 1, 1), (2, 2, 1), (3, 2, 2), (4, 1, 2)];
-
-/// Whether the entry at a place has this seat and number.
-fn is_entered(rt: &impl Abort, book: &Book, place: u64, seat: u32, number: u64) -> bool {
-    let entry = entry(rt, book, place);
-    entry.seat == seat && entry.number == number
-}
-
-#[test]
-fn calls_are_entered_in_their_order(rt: HostRuntime) {
-    let book = four_calls(&rt, rt.alloc());
-    assert!(rt; book.entries() == 4);
-    for (place, seat, number) in FOUR {
-        assert!(rt; is_entered(&rt, &book, place, seat, number), "at {place}");
+/// The entries at these places have these seats, and these numbers of their seats.
+fn expect_entered(rt: &impl Abort, book: &Book, rows: &[(u64, u32, u64)]) {
+    for (place, seat, number) in rows {
+        let entry = entry(rt, book, *place);
+        assert!(rt;
+            entry.seat == *seat && entry.number == *number,
+            "at {place}"
+        );
     }
 }
 
-/// The reply at a place of the book.
-fn reply<'a>(rt: &impl Abort, book: &'a Book, place: u64) -> &'a Reply {
-    &entry(rt, book, place).reply
+/// The entries at these places have these replies.
+fn expect_replies(rt: &impl Abort, alloc: Global, book: &Book, rows: &[(u64, Said)]) {
+    for (place, expected) in rows {
+        let reply = &entry(rt, book, *place).reply;
+        assert!(rt; is_said(rt, alloc, reply, *expected), "at {place}");
+    }
 }
+
+const FOUR_CALLS: [Call; 4] = [
+    (1, Ask::Tell(&[5]), 1),
+    (2, Ask::Tell(&[5]), 2),
+    (2, Ask::Show, 3),
+    (1, Ask::Recall(7), 4),
+];
+
+/// Place, seat, and number of the seat.
+const FOUR_ENTRIES: [(u64, u32, u64); 4] = [(1, 1, 1), (2, 2, 1), (3, 2, 2), (4, 1, 2)];
+
+#[test]
+fn calls_are_entered_in_their_order(rt: HostRuntime) {
+    let book = book_of(&rt, rt.alloc(), &FOUR_CALLS);
+    assert!(rt; book.entries() == 4);
+    expect_entered(&rt, &book, &FOUR_ENTRIES);
+}
+
+const FOUR_REPLIES: [(u64, Said); 4] = [
+    (1, Said::Told(Added::New)),
+    (2, Said::Told(Added::Again)),
+    (3, Said::Shown(&[5])),
+    (4, Said::Refused(Refusal::NoLease(7))),
+];
 
 fn is_missing(book: &Book, place: u64) -> bool {
     book.entry(place).is_none()
@@ -184,55 +221,32 @@ fn is_missing(book: &Book, place: u64) -> bool {
 #[test]
 fn calls_are_entered_with_their_replies(rt: HostRuntime) {
     let alloc = rt.alloc();
-    let book = four_calls(&rt, alloc);
-    assert!(rt; is_told(reply(&rt, &book, 1), Added::New));
-    assert!(rt; is_told(reply(&rt, &book, 2), Added::Again));
-    assert!(rt; shows(&rt, alloc, reply(&rt, &book, 3), &[5]));
-    assert!(rt; is_refused(reply(&rt, &book, 4), Refusal::NoLease(7)));
+    let book = book_of(&rt, alloc, &FOUR_CALLS);
+    expect_replies(&rt, alloc, &book, &FOUR_REPLIES);
     assert!(rt; is_missing(&book, 0) && is_missing(&book, 5));
 }
 
-/// A book in which the seat 1 told 5, took it, and recalled its lease twice.
-fn recalled_twice(rt: &(impl Abort + Threads + Sync), alloc: Global) -> Book {
-    let mut book = opened(rt, alloc);
-    call(rt, alloc, &mut book, 1, tell(rt, alloc, &[5]), 1);
-    call(rt, alloc, &mut book, 1, take(rt, alloc, &[5]), 2);
-    call(rt, alloc, &mut book, 1, Act::Recall(1), 3);
-    call(rt, alloc, &mut book, 1, Act::Recall(1), 4);
-    book
-}
+/// A seat tells 5, takes it, and recalls its lease twice.
+const RECALLED_TWICE: [Call; 4] = [
+    (1, Ask::Tell(&[5]), 1),
+    (1, Ask::Take(&[5]), 2),
+    (1, Ask::Recall(1), 3),
+    (1, Ask::Recall(1), 4),
+];
+
+const RECALLED_ONCE: [(u64, Said); 3] = [
+    (2, Said::Leased(1)),
+    (3, Said::Recalled),
+    (4, Said::Refused(Refusal::NoLease(1))),
+];
 
 #[test]
 fn a_call_that_is_repeated_is_entered_with_its_refusal(rt: HostRuntime) {
-    let book = recalled_twice(&rt, rt.alloc());
-    assert!(rt; is_leased(reply(&rt, &book, 2), 1));
-    assert!(rt; is_recalled(reply(&rt, &book, 3)));
-    assert!(rt; is_refused(reply(&rt, &book, 4), Refusal::NoLease(1)));
-    assert!(rt; is_entered(&rt, &book, 4, 1, 4));
-    assert!(rt; book.board().leases() == 0);
-}
-
-/// Whether this is the least lease number that is out.
-fn is_least(reply: &Reply, expected: Option<u64>) -> bool {
-    match reply {
-        Reply::LeastLease(number) => *number == expected,
-        _ => false,
-    }
-}
-
-#[test]
-fn the_least_lease_is_told(rt: HostRuntime) {
     let alloc = rt.alloc();
-    let mut board = told(&rt, alloc);
-    for value in [5, 9] {
-        let part = take(&rt, alloc, &[value]);
-        answered(&rt, alloc, &mut board, part);
-    }
-    for (number, expected) in [(7, Some(1)), (1, Some(2)), (2, None)] {
-        answered(&rt, alloc, &mut board, Act::Recall(number));
-        let reply = answered(&rt, alloc, &mut board, Act::LeastLease);
-        assert!(rt; is_least(&reply, expected), "after {number}");
-    }
+    let book = book_of(&rt, alloc, &RECALLED_TWICE);
+    expect_replies(&rt, alloc, &book, &RECALLED_ONCE);
+    expect_entered(&rt, &book, &[(4, 1, 4)]);
+    assert!(rt; book.board().leases() == 0);
 }
 
 /// The copy of the entry of a seat that asks for the least lease number.
@@ -244,12 +258,12 @@ fn asked(rt: &impl Abort, alloc: Global, book: &mut Book, seat: u32) -> Entry {
 #[test]
 fn a_copy_tells_what_the_entry_tells(rt: HostRuntime) {
     let alloc = rt.alloc();
-    let mut book = recalled_twice(&rt, alloc);
+    let mut book = book_of(&rt, alloc, &RECALLED_TWICE);
     let copy = asked(&rt, alloc, &mut book, 1);
-    assert!(rt; (copy.seat, copy.number) == (1, 5));
-    assert!(rt; is_least(&copy.reply, None));
-    assert!(rt; is_entered(&rt, &book, 5, 1, 5));
-    assert!(rt; is_least(reply(&rt, &book, 5), None));
+    assert!(rt; copy.seat == 1 && copy.number == 5);
+    assert!(rt; is_said(&rt, alloc, &copy.reply, Said::LeastLease(None)));
+    expect_entered(&rt, &book, &[(5, 1, 5)]);
+    expect_replies(&rt, alloc, &book, &[(5, Said::LeastLease(None))]);
 }
 
 #[test]

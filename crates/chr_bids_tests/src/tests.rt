@@ -54,6 +54,16 @@ struct Hall {
     base: i64,
 }
 
+const FIRST_HALL: Hall = Hall {
+    first: 0,
+    base: 100,
+};
+
+const SECOND_HALL: Hall = Hall {
+    first: 10,
+    base: 90,
+};
+
 /// A clerk's thread: one bid for each item. A bid that a messenger brings back is known by its id, and counts once.
 fn clerk<J: Naming, R: Wait>(
     rt: &R,
@@ -88,18 +98,31 @@ fn clerks<J: Naming + Send + Sync, R: Threads + Wait + Sync>(
     thread::map_vec(rt, seats, &work).is_ok()
 }
 
-fn summed(receipt: Receipt) -> Option<Summary> {
-    let Receipt { reply, .. } = receipt;
+/// Which bids a book has, by their ids.
+fn known<J: Naming, R: Wait>(
+    rt: &R,
+    alloc: Global,
+    book: &Shared<J>,
+    seat: &mut Seat<J>,
+) -> Option<Summary> {
+    let Receipt { reply, .. } = book.summary(rt, alloc, seat).ok()?;
     match reply {
         Reply::Summed(ids) => Some(ids),
         _ => None,
     }
 }
 
-fn lacked(receipt: Receipt) -> Option<OpList> {
-    let Receipt { reply, .. } = receipt;
+/// The bids of a book that are not among these.
+fn lacked<J: Naming, R: Wait>(
+    rt: &R,
+    alloc: Global,
+    book: &Shared<J>,
+    seat: &mut Seat<J>,
+    ids: Summary,
+) -> Option<OpList> {
+    let Receipt { reply, .. } = book.lacks(rt, alloc, seat, ids).ok()?;
     match reply {
-        Reply::Lacked(ops) => Some(ops),
+        Reply::Lacked(bids) => Some(bids),
         _ => None,
     }
 }
@@ -113,8 +136,8 @@ fn bring<J: Naming, K: Naming, R: Wait>(
     to: &Shared<K>,
     seat_here: &mut Seat<K>,
 ) -> Option<()> {
-    let ids = summed(to.summary(rt, alloc, seat_here).ok()?)?;
-    let bids = lacked(from.lacks(rt, alloc, seat_there, ids).ok()?)?;
+    let ids = known(rt, alloc, to, seat_here)?;
+    let bids = lacked(rt, alloc, from, seat_there, ids)?;
     to.merge(rt, alloc, seat_here, bids.into_vec()).ok()?;
     Some(())
 }
@@ -135,6 +158,24 @@ fn messenger<J: Naming, K: Naming, R: Wait>(
     }
 }
 
+/// Two workers rest a book in four parts.
+fn settle<J: Naming, R: Threads + Wait + Sync>(
+    rt: &R,
+    alloc: Global,
+    book: &Shared<J>,
+    seat: &mut Seat<J>,
+) -> Settled {
+    book.settle_with(rt, alloc, seat, 2, 4, &OpenGate)
+}
+
+/// A hall's book is opened, and its seats are given out.
+fn opened<J: Naming, R: Abort>(rt: &R, alloc: Global, opening: Opening) -> (Shared<J>, Vec<Seat<J>>)
+    requires { opening ≡ J.opening }
+{
+    let opened = Shared::<J>::open(alloc, opening).ok();
+    opened.expect(rt, "memory")
+}
+
 /// The auction: what both books come to.
 fn auction<J: Naming + Send + Sync, K: Naming + Send + Sync, R: Abort + Threads + Wait + Sync>(
     rt: &R,
@@ -145,39 +186,27 @@ fn auction<J: Naming + Send + Sync, K: Naming + Send + Sync, R: Abort + Threads 
     requires first { first ≡ J.opening }
     requires second { second ≡ K.opening }
 {
-    let opened = Shared::<J>::open(alloc, first).ok();
-    let (one, mut seats) = opened.expect(rt, "memory");
-    let opened = Shared::<K>::open(alloc, second).ok();
-    let (other, mut other_seats) = opened.expect(rt, "memory");
+    let (one, mut seats) = opened::<J, _>(rt, alloc, first);
+    let (other, mut other_seats) = opened::<K, _>(rt, alloc, second);
     let mut here = seats.pop().expect(rt, "a seat");
     let mut there = other_seats.pop().expect(rt, "a seat");
     let mut settling = seats.pop().expect(rt, "a seat");
-    let (one_hall, other_hall) = (
-        Hall {
-            first: 0,
-            base: 100,
-        },
-        Hall {
-            first: 10,
-            base: 90,
-        },
-    );
     join(
         rt,
-        || clerks(rt, alloc, &one, seats, one_hall),
+        || clerks(rt, alloc, &one, seats, FIRST_HALL),
         || {
             join(
                 rt,
-                || one.settle_with(rt, alloc, &mut settling, 2, 4, &OpenGate),
+                || settle(rt, alloc, &one, &mut settling),
                 || messenger(rt, alloc, &one, &mut here, &other, &mut there, 10),
             );
         },
     );
-    clerks(rt, alloc, &other, other_seats, other_hall);
+    clerks(rt, alloc, &other, other_seats, SECOND_HALL);
     messenger(rt, alloc, &one, &mut here, &other, &mut there, 1);
     [
-        one.settle_with(rt, alloc, &mut settling, 2, 4, &OpenGate),
-        other.settle_with(rt, alloc, &mut there, 2, 4, &OpenGate),
+        settle(rt, alloc, &one, &mut settling),
+        settle(rt, alloc, &other, &mut there),
     ]
 }
 

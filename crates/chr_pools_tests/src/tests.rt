@@ -9,6 +9,7 @@ mod stores;
 mod texts;
 mod traits;
 mod two_pools;
+mod verdicts;
 
 /// Adds one where something came.
 fn count(tally: &mut usize, came: bool) {

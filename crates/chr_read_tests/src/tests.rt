@@ -46,6 +46,10 @@ fn outcome_of(rt: &impl Abort, alloc: Global, text: &[u8]) -> Outcome {
     }
 }
 
+fn push_bytes(rt: &impl Abort, bytes: &mut Vec<u8>, more: &[u8]) {
+    bytes.extend_from_slice(more).expect(rt, "memory");
+}
+
 fn push(rt: &impl Abort, text: &mut String, more: &str) {
     text.push_str(more).expect(rt, "memory");
 }

@@ -1,7 +1,7 @@
 //! Calls of boards.
 use crate::pools::EIGHT;
-use crate::printing::{answer, call, print_bag, print_board, print_done};
-use crate::sets::minima;
+use crate::printing::{answer, call, count, print_bag, print_board, print_done};
+use crate::sets::{Minima, minima, operations};
 use chr_base::bag::Bag;
 use chr_ops::Op;
 use chr_replica::{Board, Refusal};
@@ -85,14 +85,13 @@ fn tell(rt: &impl Print, alloc: Global, board: &mut Board) {
     }
 }
 
-fn merge(rt: &impl Print, alloc: Global, board: &mut Board) -> Option<()> {
-    let mut ops = Vec::new(alloc);
-    ops.push(minima(alloc, 1, 2, &[1])?).ok()?;
-    ops.push(minima(alloc, 2, 7, &[7])?).ok()?;
-    ops.push(minima(alloc, 3, 1, &[8, 2])?).ok()?;
+/// Operations of which the board holds the second.
+const MERGED: [Minima; 3] = [(1, 2, &[1]), (2, 7, &[7]), (3, 1, &[8, 2])];
+
+fn merge(rt: &impl Print, alloc: Global, board: &mut Board) {
+    let ops = operations(alloc, &MERGED);
     call(rt);
     answer(rt, board.merge(alloc, &ops).err());
-    Some(())
 }
 
 fn step(rt: &impl Print, alloc: Global, board: &mut Board) {
@@ -150,11 +149,11 @@ fn settle(rt: &impl Print, board: &mut Board) {
     match board.settle() {
         Ok(steps) => {
             answer(rt, None);
-            let _ = println!(rt; "steps {steps}");
+            count(rt, "steps", steps);
         }
         Err(stopped) => {
             answer(rt, Some(Refusal::Memory));
-            let _ = println!(rt; "steps {}", stopped.steps);
+            count(rt, "steps", stopped.steps);
         }
     }
 }
@@ -164,7 +163,7 @@ pub fn make(rt: &(impl Print + Threads + Sync), alloc: Global, made: BoardCall) 
     let mut board = opened(rt, alloc, made)?;
     match made {
         BoardCall::Tell => tell(rt, alloc, &mut board),
-        BoardCall::Merge => drop(merge(rt, alloc, &mut board)),
+        BoardCall::Merge => merge(rt, alloc, &mut board),
         BoardCall::Step => step(rt, alloc, &mut board),
         BoardCall::Take => take(rt, alloc, &mut board),
         BoardCall::TakeParts => take_parts(rt, alloc, &mut board),

@@ -1,6 +1,6 @@
 //! Calls of books.
 use crate::pools::EIGHT;
-use crate::printing::{answer, call, print_lease, print_operation, print_set};
+use crate::printing::{answer, call, count, print_lease, print_operation, print_set, say};
 use crate::sets::minima;
 use chr_acts::{Act, Book, Reply};
 use chr_ops::Op;
@@ -37,18 +37,20 @@ fn opened(rt: &(impl Threads + Sync), alloc: Global, made: BookCall) -> Option<B
 
 /// What the last call was answered, where that is a number of steps.
 fn print_steps(rt: &impl Print, book: &Book) {
-    let _ = match book.entry(book.entries()).map(|entry| &entry.reply) {
-        Some(Reply::Settled(steps)) => println!(rt; "settled {steps}"),
-        Some(Reply::Stopped(steps)) => println!(rt; "stopped {steps}"),
-        _ => Ok(()),
-    };
+    if let Some(entry) = book.entry(book.entries()) {
+        match &entry.reply {
+            Reply::Settled(steps) => count(rt, "settled", *steps),
+            Reply::Stopped(steps) => count(rt, "stopped", *steps),
+            _ => {}
+        }
+    }
 }
 
 /// The act that is handed back.
 fn print_act(rt: &impl Print, alloc: Global, book: &Book, act: &Act) {
     match act {
         Act::Tell(op) => print_operation(rt, alloc, book.board().program().program(), op),
-        Act::Settle => drop(println!(rt; "settle")),
+        Act::Settle => say(rt, "settle"),
         _ => {}
     }
 }
@@ -83,7 +85,7 @@ fn print_pool(rt: &impl Print, alloc: Global, book: &mut Book) -> Option<()> {
 
 /// The number of entries, and all that the board holds.
 fn print_book(rt: &impl Print, alloc: Global, book: &mut Book) {
-    let _ = println!(rt; "entries {}", book.entries());
+    count(rt, "entries", book.entries());
     print_set(
         rt,
         alloc,

@@ -18,6 +18,7 @@ use boards::BoardCall;
 use books::BookCall;
 use parts::PartCall;
 use pools::PoolCall;
+use printing::say;
 use sets::SetCall;
 use std::alloc::Global;
 use std::env;
@@ -81,8 +82,8 @@ fn make_all(rt: &(impl Env + Print + AllocGlobal + Threads + Wait + Sync)) {
     };
     for (name, call) in CALLS {
         if word.is_none() || word.as_deref() == Some(name) {
-            let _ = println!(rt; "{name}");
-            let _ = make(rt, rt.alloc(), call);
+            say(rt, name);
+            make(rt, rt.alloc(), call);
         }
     }
 }

@@ -1,4 +1,5 @@
 //! States and answers are printed.
+use chr_base::atom::Atom;
 use chr_base::bag::Bag;
 use chr_base::program::Program;
 use chr_join::{Done, Lease};
@@ -10,6 +11,34 @@ use std::alloc::Global;
 /// More leases than are out at any board.
 const LEASES: u32 = 8;
 
+/// Prints a line of text.
+pub fn say(rt: &impl Print, text: &str) {
+    let _ = println!(rt; "{text}");
+}
+
+/// Prints a number, after what it is.
+pub fn count(rt: &impl Print, what: &str, number: u64) {
+    let _ = println!(rt; "{what} {number}");
+}
+
+/// Adds an atom that is there so many times: after their number, where it is more than once.
+fn push_atom(
+    alloc: Global,
+    text: &mut String,
+    program: &Program,
+    atom: &Atom,
+    equal: u64,
+) -> Option<()> {
+    if !text.is_empty() {
+        text.push_str(", ").ok()?;
+    }
+    if equal > 1 {
+        write!(text, "{equal} times ").ok()?;
+    }
+    let atom = atoms_text(alloc, program, &[atom.copy()]).ok()?;
+    text.push_str(&atom).ok()
+}
+
 /// The text of a store. Of equal atoms one stands there, after their number.
 fn text_of(alloc: Global, program: &Program, bag: &Bag) -> Option<String> {
     let mut text = String::new(alloc);
@@ -19,16 +48,10 @@ fn text_of(alloc: Global, program: &Program, bag: &Bag) -> Option<String> {
     for atom in bag.atoms() {
         if later.next() == Some(atom) {
             equal = equal.saturating_add(1);
-            continue;
+        } else {
+            push_atom(alloc, &mut text, program, atom, equal)?;
+            equal = 1;
         }
-        let atom = atoms_text(alloc, program, &[atom.copy()]).ok()?;
-        let comma = if text.is_empty() { "" } else { ", " };
-        let more = match equal {
-            1 => format!(in alloc; "{comma}{atom}"),
-            _ => format!(in alloc; "{comma}{equal} times {atom}"),
-        };
-        text.push_str(&more.ok()?).ok()?;
-        equal = 1;
     }
     Some(text)
 }
@@ -48,7 +71,7 @@ pub fn print_lease(rt: &impl Print, alloc: Global, program: &Program, lease: &Le
 
 /// What came of a lease.
 pub fn print_done(rt: &impl Print, alloc: Global, program: &Program, done: &Done) {
-    let _ = println!(rt; "done {}", done.number());
+    count(rt, "done", done.number());
     print_bag(rt, alloc, program, "from", done.part());
     print_bag(rt, alloc, program, "to", done.result());
 }
@@ -60,7 +83,7 @@ pub fn print_operation(rt: &impl Print, alloc: Global, program: &Program, op: &O
 
 /// All operations of a set, and how many atoms they tell.
 pub fn print_set(rt: &impl Print, alloc: Global, program: &Program, set: &OpSet) -> Option<()> {
-    let _ = println!(rt; "told {}", set.told());
+    count(rt, "told", set.told());
     let none = OpSet::new(alloc).summary(alloc).ok()?;
     for op in &set.lacks(alloc, &none).ok()? {
         print_operation(rt, alloc, program, op);
@@ -94,13 +117,18 @@ pub fn print_board(rt: &impl Print, alloc: Global, board: &mut Board) {
 
 /// The call is made next.
 pub fn call(rt: &impl Print) {
-    let _ = println!(rt; "call");
+    say(rt, "call");
 }
 
 /// It was answered so.
 pub fn answer(rt: &impl Print, refusal: Option<Refusal>) {
-    let _ = match refusal {
-        None => println!(rt; "answer done"),
-        Some(refusal) => println!(rt; "answer refused {}", refusal.number()),
-    };
+    match refusal {
+        None => say(rt, "answer done"),
+        Some(refusal) => count(rt, "answer refused", u64::from(refusal.number())),
+    }
+}
+
+/// It was answered so, where nothing but memory may be refused.
+pub fn answer_memory(rt: &impl Print, refused: bool) {
+    answer(rt, if refused { Some(Refusal::Memory) } else { None });
 }

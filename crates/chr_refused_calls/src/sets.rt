@@ -17,6 +17,24 @@ pub fn minima(alloc: Global, origin: u32, number: u64, values: &[i64]) -> Option
     Op::of(OpId { origin, number }, bag_of_values(alloc, values).ok()?)
 }
 
+/// An operation of `min` by its origin, its number and its values.
+pub type Minima = (u32, u64, &'static [i64]);
+
+fn push_op(ops: &mut Vec<Op>, op: Option<Op>) {
+    if let Some(op) = op {
+        let _ = ops.push(op);
+    }
+}
+
+/// Operations of `min`.
+pub fn operations(alloc: Global, rows: &[Minima]) -> Vec<Op> {
+    let mut ops = Vec::new(alloc);
+    for (origin, number, values) in rows {
+        push_op(&mut ops, minima(alloc, *origin, *number, values));
+    }
+    ops
+}
+
 /// The set gets an operation, where there is one.
 fn grow(set: &mut OpSet, op: Option<Op>) {
     if let Some(op) = op {
@@ -32,21 +50,26 @@ fn prepare(alloc: Global, set: &mut OpSet, made: SetCall) {
     }
 }
 
-fn add(rt: &impl Print, alloc: Global, set: &mut OpSet) -> Option<()> {
-    let op = minima(alloc, 3, 1, &[8, 2])?;
-    call(rt);
-    answer(rt, set.add(op).err().map(Refusal::from));
-    Some(())
+fn add(rt: &impl Print, alloc: Global, set: &mut OpSet) {
+    if let Some(op) = minima(alloc, 3, 1, &[8, 2]) {
+        call(rt);
+        match set.add(op) {
+            Ok(_) => answer(rt, None),
+            Err(fault) => answer(rt, Some(Refusal::from(fault))),
+        }
+    }
 }
 
-fn join(rt: &impl Print, alloc: Global, set: &mut OpSet) -> Option<()> {
-    let mut ops = Vec::new(alloc);
-    ops.push(minima(alloc, 1, 2, &[1])?).ok()?;
-    ops.push(minima(alloc, 2, 7, &[9])?).ok()?;
-    ops.push(minima(alloc, 3, 1, &[8, 2])?).ok()?;
+/// Operations of which the set holds the second.
+const JOINED: [Minima; 3] = [(1, 2, &[1]), (2, 7, &[9]), (3, 1, &[8, 2])];
+
+fn join(rt: &impl Print, alloc: Global, set: &mut OpSet) {
+    let ops = operations(alloc, &JOINED);
     call(rt);
-    answer(rt, set.join(alloc, &ops).err().map(Refusal::from));
-    Some(())
+    match set.join(alloc, &ops) {
+        Ok(_) => answer(rt, None),
+        Err(fault) => answer(rt, Some(Refusal::from(fault))),
+    }
 }
 
 pub fn make(rt: &impl Print, alloc: Global, made: SetCall) -> Option<()> {
@@ -57,6 +80,6 @@ pub fn make(rt: &impl Print, alloc: Global, made: SetCall) -> Option<()> {
     match made {
         SetCall::Add => add(rt, alloc, &mut set),
         SetCall::Join => join(rt, alloc, &mut set),
-    };
+    }
     print_set(rt, alloc, &program, &set)
 }

@@ -1,8 +1,8 @@
 //! Boards are rested by workers, and where that is refused memory, recovered.
 use crate::boards::grow;
-use crate::printing::{answer, call, print_bag, print_board, print_leases, print_set};
+use crate::printing::{answer_memory, call, print_bag, print_board, print_leases, print_set};
 use crate::sets::minima;
-use chr_replica::{Board, Refusal};
+use chr_replica::Board;
 use chr_replica_testing::accepted_of;
 use chr_testing::texts::MINIMUM;
 use chr_workers::{OpenGate, rest_board};
@@ -48,7 +48,7 @@ fn rest(rt: &(impl Print + Threads + Wait + Sync), alloc: Global, board: &mut Bo
     if board.least_lease().is_none() {
         call(rt);
         let rested = rest_board(rt, alloc, board, WORKERS, PARTS, &OpenGate);
-        answer(rt, rested.err().map(Refusal::from));
+        answer_memory(rt, rested.is_err());
     }
 }
 

@@ -1,3 +1,4 @@
 //! Shared books whose journals are replayed, and leases that come back.
+mod calls;
 mod leases;
 mod replay;

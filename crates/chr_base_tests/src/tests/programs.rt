@@ -34,8 +34,10 @@ fn three_symbols(rt: &impl Abort, alloc: Global) -> Program {
     program
 }
 
-/// Names with a number of arguments, and the symbol.
-const SYMBOLS: [(&str, usize, Option<SymbolId>); 3] = [
+/// A name with a number of arguments, and the symbol.
+type Named = (&'static str, usize, Option<SymbolId>);
+
+const SYMBOLS: [Named; 3] = [
     ("a", 2, Some(SymbolId(2))),
     ("a", 1, None),
     ("a_name_that_is_longer_than_any_32", 1, None),
@@ -45,13 +47,17 @@ fn symbol_of(program: &Program, name: &str, arity: usize) -> Option<SymbolId> {
     program.symbol(name, arity)
 }
 
+fn expect_symbols(rt: &impl Abort, program: &Program, rows: &[Named]) {
+    for (name, arity, symbol) in rows {
+        assert!(rt; symbol_of(program, name, *arity) == *symbol, "{name}");
+    }
+}
+
 #[test]
 fn symbols(rt: HostRuntime) {
     let program = three_symbols(&rt, rt.alloc());
     assert!(rt; symbols_of(&program) == 3);
-    for (name, arity, symbol) in SYMBOLS {
-        assert!(rt; symbol_of(&program, name, arity) == symbol, "{name}");
-    }
+    expect_symbols(&rt, &program, &SYMBOLS);
 }
 
 /// The name of a declared symbol.
@@ -216,7 +222,9 @@ fn texts(rt: HostRuntime) {
 }
 
 /// Atoms, and the same in the order in which they are printed.
-const PRINTED: [(&[Row], &[Row]); 2] = [
+type Sorted = (&'static [Row], &'static [Row]);
+
+const PRINTED: [Sorted; 2] = [
     (&[], &[]),
     (
         &[(0, &[3]), (2, &[-5, 7]), (0, &[-3]), (1, &[]), (0, &[3])],
@@ -231,12 +239,16 @@ fn expect_order(rt: &impl Abort, alloc: Global, program: &Program, rows: &[Row],
     assert!(rt; found.as_slice() == expected.as_slice());
 }
 
+fn expect_orders(rt: &impl Abort, alloc: Global, program: &Program, rows: &[Sorted]) {
+    for (atoms, sorted) in rows {
+        expect_order(rt, alloc, program, atoms, sorted);
+    }
+}
+
 #[test]
 fn atoms_in_print_order(rt: HostRuntime) {
     let program = three_symbols(&rt, rt.alloc());
-    for (rows, sorted) in PRINTED {
-        expect_order(&rt, rt.alloc(), &program, rows, sorted);
-    }
+    expect_orders(&rt, rt.alloc(), &program, &PRINTED);
 }
 
 /// An atom that isn't declared, since its symbol has no arguments, stands among the declared ones of its name.
@@ -308,7 +320,9 @@ fn rule(cmp: Cmp) -> Rule {
 }
 
 /// A sign, and whether the rule fires where X is below, equal to and above Y.
-const SIGNS: [(Cmp, bool, bool, bool); 6] = [
+type Sign = (Cmp, bool, bool, bool);
+
+const SIGNS: [Sign; 6] = [
     (Cmp::Less, true, false, false),
     (Cmp::AtMost, true, true, false),
     (Cmp::Greater, false, false, true),
@@ -326,14 +340,18 @@ fn fires_at(rule: &Rule, x: i64) -> bool {
     fires(rule, &[atom(0, &[x, x, 3]), atom(1, &[5])])
 }
 
+fn expect_signs(rt: &impl Abort, rows: &[Sign]) {
+    for (cmp, below, equal, above) in rows {
+        let rule = rule(*cmp);
+        assert!(rt; fires_at(&rule, -2) == *below);
+        assert!(rt; fires_at(&rule, 5) == *equal);
+        assert!(rt; fires_at(&rule, 7) == *above);
+    }
+}
+
 #[test]
 fn comparisons(rt: HostRuntime) {
-    for (cmp, below, equal, above) in SIGNS {
-        let rule = rule(cmp);
-        assert!(rt; fires_at(&rule, -2) == below);
-        assert!(rt; fires_at(&rule, 5) == equal);
-        assert!(rt; fires_at(&rule, 7) == above);
-    }
+    expect_signs(&rt, &SIGNS);
 }
 
 /// Whether the head at this place is of this symbol.
@@ -361,12 +379,15 @@ fn fires_on(rt: &impl Abort, alloc: Global, rule: &Rule, rows: &[Row]) -> bool {
     fires(rule, &atoms::atoms(alloc, rows).expect(rt, "memory"))
 }
 
+fn expect_no_instances(rt: &impl Abort, alloc: Global, rule: &Rule, heads: &[&[Row]]) {
+    for rows in heads {
+        assert!(rt; !fires_on(rt, alloc, rule, rows));
+    }
+}
+
 #[test]
 fn instances(rt: HostRuntime) {
-    let rule = rule(Cmp::Less);
-    for rows in UNLIKE {
-        assert!(rt; !fires_on(&rt, rt.alloc(), &rule, rows));
-    }
+    expect_no_instances(&rt, rt.alloc(), &rule(Cmp::Less), &UNLIKE);
 }
 
 /// Whether the rule fires on these heads, with this body.
@@ -415,7 +436,7 @@ fn near(program: &Program, near: u16, name: &str, values: &[i64]) -> Option<Atom
     }
 }
 
-fn is_near(rt: &impl Abort, program: &Program, symbol: u16) {
+fn expect_near(rt: &impl Abort, program: &Program, symbol: u16) {
     assert!(rt; near(program, symbol, "r", &[-1, 4]) == Some(atom(2, &[-1, 4])));
     assert!(rt; near(program, symbol, "r", &[-1]).is_none());
 }
@@ -425,7 +446,9 @@ fn is_same(one: &Program, other: &Program) -> bool {
 }
 
 /// A sign and the weight of `p`, and whether the program is that of `<` with the weight 5.
-const ALIKE: [(Cmp, u64, u64, bool); 4] = [
+type Alike = (Cmp, u64, u64, bool);
+
+const ALIKE: [Alike; 4] = [
     (Cmp::Less, 5, 0, true),
     (Cmp::AtMost, 5, 0, false),
     (Cmp::Less, 6, 0, false),
@@ -457,18 +480,22 @@ fn atoms_of_programs(rt: HostRuntime) {
     assert!(rt; atom_of(&program, "r", &[-1, 4]) == Some(atom(2, &[-1, 4])));
     assert!(rt; atom_of(&program, "r", &[-1]).is_none());
     assert!(rt; atom_of(&program, "s", &[-1, 4]).is_none());
-    for symbol in [0, 2, 3] {
-        is_near(&rt, &program, symbol);
+    expect_near(&rt, &program, 0);
+    expect_near(&rt, &program, 2);
+    expect_near(&rt, &program, 3);
+}
+
+fn expect_alike(rt: &impl Abort, alloc: Global, program: &Program, rows: &[Alike]) {
+    for (cmp, first, second, alike) in rows {
+        let other = one(rt, alloc, *cmp, *first, *second);
+        assert!(rt; is_same(program, &other) == *alike);
     }
 }
 
 #[test]
 fn programs_alike(rt: HostRuntime) {
-    let alloc = rt.alloc();
-    let program = one(&rt, alloc, Cmp::Less, 5, 0);
-    for (cmp, first, second, alike) in ALIKE {
-        assert!(rt; is_same(&program, &one(&rt, alloc, cmp, first, second)) == alike);
-    }
+    let program = one(&rt, rt.alloc(), Cmp::Less, 5, 0);
+    expect_alike(&rt, rt.alloc(), &program, &ALIKE);
 }
 
 #[test]
@@ -503,8 +530,10 @@ fn fewer_arguments_first(rt: HostRuntime) {
     bag.has_values();
 }
 
-/// (left, right, whether the left one is lighter): the first numbers decide, and between equal ones the second.
-const ORDER: [((u64, u64), (u64, u64), bool); 9] = [
+/// Two weights, and whether the first is lighter: the first numbers decide, and between equal ones the second.
+type Order = ((u64, u64), (u64, u64), bool);
+
+const ORDER: [Order; 9] = [
     ((1, 0), (2, 0), true),
     ((2, 0), (1, 0), false),
     ((1, 9), (2, 0), true),
@@ -521,11 +550,15 @@ fn is_lighter(left: (u64, u64), right: (u64, u64)) -> bool {
     weight(left.0, left.1).is_lighter(weight(right.0, right.1))
 }
 
+fn expect_order_of_weights(rt: &impl Abort, rows: &[Order]) {
+    for (left, right, lighter) in rows {
+        assert!(rt; is_lighter(*left, *right) == *lighter);
+    }
+}
+
 #[test]
 fn lighter_weights(rt: HostRuntime) {
-    for (left, right, lighter) in ORDER {
-        assert!(rt; is_lighter(left, right) == lighter);
-    }
+    expect_order_of_weights(&rt, &ORDER);
 }
 
 fn push_weight(rt: &impl Abort, text: &mut String, weight: Weight, is_paired: bool) {

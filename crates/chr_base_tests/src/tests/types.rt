@@ -65,23 +65,29 @@ const REPRESENTATIVES: [Row; 8] = [
 
 /// Asserts that these are the representatives.
 fn expect_types(rt: &impl Abort, found: &[OrderType], expected: &[&[i64]]) {
-    assert_eq!(rt; found.len(), expected.len());
+    assert!(rt; found.len() == expected.len());
     for (one, wanted) in found.iter().zip(expected) {
-        assert_eq!(rt; one.representative(), *wanted);
+        assert!(rt; one.representative() == *wanted);
+    }
+}
+
+fn expect_representatives(rt: &impl Abort, alloc: Global, rows: &[Row]) {
+    for (classes, constants, expected) in rows {
+        let found = types_of(rt, alloc, *classes, constants, LIMIT);
+        expect_types(rt, &found, expected);
     }
 }
 
 #[test]
 fn lists_representatives(rt: HostRuntime) {
-    let alloc = rt.alloc();
-    for (classes, constants, expected) in REPRESENTATIVES {
-        let found = types_of(&rt, alloc, classes, constants, LIMIT);
-        expect_types(&rt, &found, expected);
-    }
+    expect_representatives(&rt, rt.alloc(), &REPRESENTATIVES);
 }
 
-/// The number of classes, constants, and how many order types there are.
-const COUNTS: [(usize, &[i64], usize); 12] = [
+/// The number of classes, constants, and a number of order types.
+type Count = (usize, &'static [i64], usize);
+
+/// As many order types as there are.
+const COUNTS: [Count; 12] = [
     (0, &[], 1),
     (1, &[], 1),
     (2, &[], 3),
@@ -96,17 +102,32 @@ const COUNTS: [(usize, &[i64], usize); 12] = [
     (3, &[i64::MAX - 1], 51),
 ];
 
-#[test]
-fn counts(rt: HostRuntime) {
-    let alloc = rt.alloc();
-    for (classes, constants, number) in COUNTS {
-        let found = types_of(&rt, alloc, classes, constants, LIMIT);
-        assert_eq!(rt; found.len(), number, "at {classes} classes");
+/// Asserts that there are so many, within a limit.
+fn expect_count(
+    rt: &impl Abort,
+    alloc: Global,
+    classes: usize,
+    constants: &[i64],
+    limit: usize,
+    number: usize,
+) {
+    let found = types_of(rt, alloc, classes, constants, limit);
+    assert!(rt; found.len() == number, "at {classes} classes");
+}
+
+fn expect_counts(rt: &impl Abort, alloc: Global, rows: &[Count]) {
+    for (classes, constants, number) in rows {
+        expect_count(rt, alloc, *classes, constants, LIMIT, *number);
     }
 }
 
-/// The number of classes, constants, and a limit that is passed.
-const TOO_MANY: [(usize, &[i64], usize); 14] = [
+#[test]
+fn counts(rt: HostRuntime) {
+    expect_counts(&rt, rt.alloc(), &COUNTS);
+}
+
+/// Numbers of order types that are passed.
+const TOO_MANY: [Count; 14] = [
     (7, &[], 47_292),
     (8, &[], 545_834),
     (0, &[], 0),
@@ -139,17 +160,29 @@ fn is_too_many(
     }
 }
 
+fn expect_too_many(
+    rt: &impl Abort,
+    alloc: Global,
+    classes: usize,
+    constants: &[i64],
+    limit: usize,
+) {
+    let is_refused = is_too_many(rt, alloc, classes, constants, limit);
+    assert!(rt; is_refused, "at {classes} classes");
+}
+
+fn expect_refusals(rt: &impl Abort, alloc: Global, rows: &[Count]) {
+    for (classes, constants, limit) in rows {
+        expect_too_many(rt, alloc, *classes, constants, *limit);
+    }
+}
+
 #[test]
 fn refuses_more_than_the_limit(rt: HostRuntime) {
     let alloc = rt.alloc();
-    for (classes, constants, limit) in TOO_MANY {
-        let is_refused = is_too_many(&rt, alloc, classes, constants, limit);
-        assert!(rt; is_refused, "at {classes} classes");
-    }
-    for (classes, number) in [(7, 47_293), (8, 545_835)] {
-        let found = types_of(&rt, alloc, classes, &[], number);
-        assert_eq!(rt; found.len(), number);
-    }
+    expect_refusals(&rt, alloc, &TOO_MANY);
+    expect_count(&rt, alloc, 7, &[], 47_293, 47_293);
+    expect_count(&rt, alloc, 8, &[], 545_835, 545_835);
 }
 
 /// Every seventh number from 0 on, 3,000 in all.
@@ -163,15 +196,16 @@ fn many_constants(rt: &impl Abort, alloc: Global) -> Vec<i64> {
     constants
 }
 
+/// With many constants these have more order types than the limit.
+const MANY_CLASSES: [usize; 5] = [2, 3, 9, 28, 64];
+
 #[test]
 fn counts_lists_of_constants_first(rt: HostRuntime) {
     let alloc = rt.alloc();
     let constants = many_constants(&rt, alloc);
-    let found = types_of(&rt, alloc, 1, &constants, LIMIT);
-    assert_eq!(rt; found.len(), 6_001);
-    for classes in [2, 3, 9, 28, 64] {
-        let is_refused = is_too_many(&rt, alloc, classes, &constants, LIMIT);
-        assert!(rt; is_refused, "at {classes} classes");
+    expect_count(&rt, alloc, 1, &constants, LIMIT, 6_001);
+    for classes in MANY_CLASSES {
+        expect_too_many(&rt, alloc, classes, &constants, LIMIT);
     }
 }
 
@@ -242,18 +276,27 @@ fn all_lists(rt: &impl Abort, alloc: Global, window: &[i64], classes: usize) -> 
     lists
 }
 
-/// How many of the representatives have the type of the list.
-fn shown(constants: &[i64], types: &[OrderType], list: &[i64]) -> usize {
-    types
-        .iter()
-        .filter(|one| is_same_type(constants, one.representative(), list))
-        .count()
+/// Whether just one of the representatives has the type of the list.
+fn is_shown_once(constants: &[i64], types: &[OrderType], list: &[i64]) -> bool {
+    let mut is_shown = false;
+    for one in types {
+        if is_same_type(constants, one.representative(), list) {
+            if is_shown {
+                return false;
+            }
+            is_shown = true;
+        }
+    }
+    is_shown
 }
 
 fn is_among(lists: &[Vec<i64>], one: &OrderType) -> bool {
-    lists
-        .iter()
-        .any(|list| list.as_slice() == one.representative())
+    for list in lists {
+        if list.as_slice() == one.representative() {
+            return true;
+        }
+    }
+    false
 }
 
 /// Asserts that each list of values near the constants has the type of exactly one representative, and each
@@ -262,7 +305,10 @@ fn expect_definition(rt: &impl Abort, alloc: Global, classes: usize, constants: 
     let lists = all_lists(rt, alloc, &window_of(rt, alloc, constants), classes);
     let found = types_of(rt, alloc, classes, constants, LIMIT);
     for list in lists.iter() {
-        assert_eq!(rt; shown(constants, &found, list), 1, "at {classes} classes");
+        assert!(rt;
+            is_shown_once(constants, &found, list),
+            "at {classes} classes"
+        );
     }
     for one in found.iter() {
         assert!(rt; is_among(&lists, one), "at {classes} classes");
@@ -365,7 +411,9 @@ fn leaves_beginnings(rt: HostRuntime) {
 }
 
 /// The number of classes, constants, a limit, and whether there are more order types.
-const LIMITS: [(usize, &[i64], usize, bool); 5] = [
+type Limit = (usize, &'static [i64], usize, bool);
+
+const LIMITS: [Limit; 5] = [
     (7, &[], 47_293, false),
     (7, &[], 47_292, true),
     (65, &[], usize::MAX, true),
@@ -385,12 +433,16 @@ fn has_more(
     has_more_types(alloc, classes, constants, limit).expect(rt, "memory")
 }
 
+fn expect_limits(rt: &impl Abort, alloc: Global, rows: &[Limit]) {
+    for (classes, constants, limit, expected) in rows {
+        let found = has_more(rt, alloc, *classes, constants, *limit);
+        assert!(rt; found == *expected, "at {classes} classes");
+    }
+}
+
 #[test]
 fn tells_more_than_a_limit(rt: HostRuntime) {
-    for (classes, constants, limit, expected) in LIMITS {
-        let found = has_more(&rt, rt.alloc(), classes, constants, limit);
-        assert!(rt; found == expected, "at {classes} classes");
-    }
+    expect_limits(&rt, rt.alloc(), &LIMITS);
 }
 
 /// Whether the count of the types of two classes stopped at the limit, and how far it came.

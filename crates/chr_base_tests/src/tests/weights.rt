@@ -58,8 +58,10 @@ fn lowered(rt: HostRuntime) {
     assert!(rt; weight_of(&rt, &weighed, &three_atoms(&rt, alloc)) == expected);
 }
 
-/// (weight of `throw`, weight of `head` and `tail`, whether `throw <=> head.` and `throw <=> tail.` lower it)
-const PAIRS: [(&str, &str, bool); 7] = [
+/// The weight of `throw`, that of `head` and `tail`, and whether `throw <=> head.` and `throw <=> tail.` lower it.
+type Pair = (&'static str, &'static str, bool);
+
+const PAIRS: [Pair; 7] = [
     ("1,0", "0,1", true),
     ("0,2", "0,1", true),
     ("1,2", "1,2", false),
@@ -69,14 +71,26 @@ const PAIRS: [(&str, &str, bool); 7] = [
     ("1,1", "1,2", false),
 ];
 
+fn push(rt: &impl Abort, text: &mut String, more: &str) {
+    text.push_str(more).expect(rt, "memory");
+}
+
+/// A weight clause more.
+fn push_weight(rt: &impl Abort, text: &mut String, symbol: &str, weight: &str) {
+    push(rt, text, " :- chr_weight ");
+    push(rt, text, symbol);
+    push(rt, text, " = ");
+    push(rt, text, weight);
+    push(rt, text, ".");
+}
+
 /// The text of the coin with these weights.
 fn text_of(rt: &impl Abort, alloc: Global, throw: &str, side: &str) -> String {
-    let weights = format!(in alloc;
-        ":- chr_weight throw/0 = {throw}. :- chr_weight head/0 = {side}."
-    );
-    let weights = weights.expect(rt, "memory");
-    let text = format!(in alloc; "{COIN} {weights} :- chr_weight tail/0 = {side}.");
-    text.expect(rt, "memory")
+    let mut text = String::from_str(alloc, COIN).expect(rt, "memory");
+    push_weight(rt, &mut text, "throw/0", throw);
+    push_weight(rt, &mut text, "head/0", side);
+    push_weight(rt, &mut text, "tail/0", side);
+    text
 }
 
 fn lowers(rt: &impl Abort, alloc: Global, throw: &str, side: &str) -> bool {
@@ -85,13 +99,16 @@ fn lowers(rt: &impl Abort, alloc: Global, throw: &str, side: &str) -> bool {
     fault_of(program).is_none()
 }
 
-#[test]
-fn pairs(rt: HostRuntime) {
-    let alloc = rt.alloc();
-    for (throw, side, expected) in PAIRS {
+fn expect_lowering(rt: &impl Abort, alloc: Global, rows: &[Pair]) {
+    for (throw, side, expected) in rows {
         assert!(rt;
-            lowers(&rt, alloc, throw, side) == expected,
+            lowers(rt, alloc, throw, side) == *expected,
             "{throw} to {side}"
         );
     }
+}
+
+#[test]
+fn pairs(rt: HostRuntime) {
+    expect_lowering(&rt, rt.alloc(), &PAIRS);
 }

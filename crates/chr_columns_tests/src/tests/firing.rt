@@ -2,8 +2,6 @@
 use crate::tests::pool::{columns_for, has, has_just, put, rule, steps};
 use chr_base::rule::Rule;
 use chr_columns::columns::Columns;
-use chr_testing::atoms::atom;
-use std::alloc::Global;
 use std::process::Abort;
 
 /// A rule that turns the first symbol into the second, and one that turns it into the third.
@@ -24,40 +22,34 @@ const TIES: &str =
     ":- chr_constraint hub/1, link/2, pair/1. hub(X) \\ link(X,Y), link(X,Z) <=> pair(X).";
 
 /// What the first symbol turns into where both rules could fire.
-fn expect_turned(rt: &impl Abort, alloc: Global, rules: &[Rule], symbol: u16) {
-    let mut pool = columns_for(rt, alloc, rules);
-    put(rt, &mut pool, &[atom(0, &[])]);
-    assert!(rt; steps(rt, &mut pool, rules));
-    assert!(rt; has_just(rt, alloc, &pool, &[atom(symbol, &[])]));
+fn expect_turned(rt: &(impl Abort + AllocGlobal), first: &str, second: &str, symbol: u16) {
+    let rules = [rule(rt, first), rule(rt, second)];
+    let mut pool = columns_for(rt, &rules);
+    put(rt, &mut pool, &[(0, &[])]);
+    assert!(rt; steps(rt, &mut pool, &rules));
+    assert!(rt; has_just(rt, &pool, &[(symbol, &[])]));
 }
 
 #[test]
 fn the_first_rule_fires(rt: HostRuntime) {
-    let alloc = rt.alloc();
     let [second, third] = TURNS;
-    let rules = [rule(&rt, alloc, second), rule(&rt, alloc, third)];
-    expect_turned(&rt, alloc, &rules, 1);
-    let rules = [rule(&rt, alloc, third), rule(&rt, alloc, second)];
-    expect_turned(&rt, alloc, &rules, 2);
+    expect_turned(&rt, second, third, 1);
+    expect_turned(&rt, third, second, 2);
 }
+
+const TOLD: [(u16, &[i64]); 4] = [(1, &[1, 2]), (0, &[1, 2, 5]), (0, &[1, 3, 9]), (7, &[4])];
+
+const LEFT: [(u16, &[i64]); 3] = [(0, &[1, 2, 1]), (0, &[1, 3, 9]), (7, &[4])];
 
 #[test]
 fn the_shorter_path_stays(rt: HostRuntime) {
-    let alloc = rt.alloc();
-    let rules = [rule(&rt, alloc, EDGES), rule(&rt, alloc, SHORTER_PATHS)];
-    let mut pool = columns_for(&rt, alloc, &rules);
-    let told = [
-        atom(1, &[1, 2]),
-        atom(0, &[1, 2, 5]),
-        atom(0, &[1, 3, 9]),
-        atom(7, &[4]),
-    ];
-    put(&rt, &mut pool, &told);
+    let rules = [rule(&rt, EDGES), rule(&rt, SHORTER_PATHS)];
+    let mut pool = columns_for(&rt, &rules);
+    put(&rt, &mut pool, &TOLD);
     assert!(rt; steps(&rt, &mut pool, &rules));
     assert!(rt; steps(&rt, &mut pool, &rules));
     assert!(rt; !steps(&rt, &mut pool, &rules));
-    let left = [atom(0, &[1, 2, 1]), atom(0, &[1, 3, 9]), atom(7, &[4])];
-    assert!(rt; has_just(&rt, alloc, &pool, &left));
+    assert!(rt; has_just(&rt, &pool, &LEFT));
 }
 
 /// How many steps there are until the pool is at rest.
@@ -84,70 +76,79 @@ const GRAPH: [(u16, &[i64]); 10] = [
     (2, &[5]),
 ];
 
-fn put_graph(rt: &impl Abort, pool: &mut Columns) {
-    put(rt, pool, &[atom(1, &[0])]);
-    for (symbol, values) in GRAPH {
-        put(rt, pool, &[atom(symbol, values)]);
+fn put_graph(rt: &(impl Abort + AllocGlobal), pool: &mut Columns) {
+    put(rt, pool, &[(1, &[0])]);
+    for row in GRAPH {
+        put(rt, pool, &[row]);
     }
 }
 
+/// Whether a node is seen, once.
+fn is_seen(rt: &(impl Abort + AllocGlobal), pool: &Columns, node: i64) -> bool {
+    has(rt, pool, &[(1, &[node])])
+        && !has(rt, pool, &[(1, &[node]), (1, &[node])])
+        && !has(rt, pool, &[(2, &[node])])
+}
+
 /// These nodes are seen, each once.
-fn expect_seen(rt: &impl Abort, pool: &Columns, nodes: &[i64]) {
+fn expect_seen(rt: &(impl Abort + AllocGlobal), pool: &Columns, nodes: &[i64]) {
     for node in nodes {
-        assert!(rt; has(pool, &[atom(1, &[*node])]), "{node}");
-        assert!(rt;
-            !has(pool, &[atom(1, &[*node]), atom(1, &[*node])]),
-            "{node} twice"
-        );
-        assert!(rt; !has(pool, &[atom(2, &[*node])]), "{node} is unseen");
+        assert!(rt; is_seen(rt, pool, *node), "{node}");
     }
 }
 
 #[test]
 fn a_kept_atom_fires_with_each_partner(rt: HostRuntime) {
-    let alloc = rt.alloc();
-    let rules = [rule(&rt, alloc, REACHES)];
-    let mut pool = columns_for(&rt, alloc, &rules);
+    let rules = [rule(&rt, REACHES)];
+    let mut pool = columns_for(&rt, &rules);
     put_graph(&rt, &mut pool);
-    assert_eq!(rt; steps_to_rest(&rt, &mut pool, &rules), 4);
+    assert!(rt; steps_to_rest(&rt, &mut pool, &rules) == 4);
     expect_seen(&rt, &pool, &[0, 1, 3, 4, 5]);
-    assert!(rt; !has(&pool, &[atom(1, &[2])]));
+    assert!(rt; !has(&rt, &pool, &[(1, &[2])]));
 }
 
 /// After each step of the search from 0 one more edge comes in, and an unseen node.
 #[test]
 fn partners_that_come_later_are_found(rt: HostRuntime) {
-    let alloc = rt.alloc();
-    let rules = [rule(&rt, alloc, REACHES)];
-    let mut pool = columns_for(&rt, alloc, &rules);
+    let rules = [rule(&rt, REACHES)];
+    let mut pool = columns_for(&rt, &rules);
     put_graph(&rt, &mut pool);
     for node in 6..9 {
         assert!(rt; steps(&rt, &mut pool, &rules));
-        put(&rt, &mut pool, &[atom(0, &[0, node]), atom(2, &[node])]);
+        put(&rt, &mut pool, &[(0, &[0, node]), (2, &[node])]);
     }
-    assert_eq!(rt; steps_to_rest(&rt, &mut pool, &rules), 4);
+    assert!(rt; steps_to_rest(&rt, &mut pool, &rules) == 4);
     expect_seen(&rt, &pool, &[0, 1, 3, 4, 5, 6, 7, 8]);
+}
+
+/// A hub, and seven links of it and of another that isn't there.
+fn put_links(rt: &(impl Abort + AllocGlobal), pool: &mut Columns) {
+    put(rt, pool, &[(0, &[1])]);
+    for value in 0..7 {
+        put(rt, pool, &[(1, &[1, value])]);
+        put(rt, pool, &[(1, &[2, value])]);
+    }
+}
+
+/// How many of a hub's seven links are there.
+fn count_links(rt: &(impl Abort + AllocGlobal), pool: &Columns, hub: i64) -> usize {
+    let mut count: usize = 0;
+    for value in 0..7 {
+        if has(rt, pool, &[(1, &[hub, value])]) {
+            count = count.saturating_add(1);
+        }
+    }
+    count
 }
 
 /// The second partner of a step would be the first of the next.
 #[test]
 fn partners_die_while_the_search_stands(rt: HostRuntime) {
-    let alloc = rt.alloc();
-    let rules = [rule(&rt, alloc, TIES)];
-    let mut pool = columns_for(&rt, alloc, &rules);
-    put(&rt, &mut pool, &[atom(0, &[1])]);
-    for value in 0..7 {
-        put(&rt, &mut pool, &[atom(1, &[1, value])]);
-        put(&rt, &mut pool, &[atom(1, &[2, value])]);
-    }
-    assert_eq!(rt; steps_to_rest(&rt, &mut pool, &rules), 3);
-    assert!(rt; has(&pool, &[atom(2, &[1]), atom(2, &[1]), atom(2, &[1])]));
-    let mut left = 0_usize;
-    for value in 0..7 {
-        if has(&pool, &[atom(1, &[1, value])]) {
-            left = left.saturating_add(1);
-        }
-        assert!(rt; has(&pool, &[atom(1, &[2, value])]), "{value}");
-    }
-    assert_eq!(rt; left, 1);
+    let rules = [rule(&rt, TIES)];
+    let mut pool = columns_for(&rt, &rules);
+    put_links(&rt, &mut pool);
+    assert!(rt; steps_to_rest(&rt, &mut pool, &rules) == 3);
+    assert!(rt; has(&rt, &pool, &[(2, &[1]), (2, &[1]), (2, &[1])]));
+    assert!(rt; count_links(&rt, &pool, 2) == 7);
+    assert!(rt; count_links(&rt, &pool, 1) == 1);
 }

@@ -1,12 +1,11 @@
 //! Equal atoms in different rows, and atoms that move to other rows.
 use crate::tests::pool::{
-    PAIRS, atom, atoms_of, columns_for, finds_none, fire_rows, found, has_just, is_rested, put,
-    removes, rule, steps, take_rows,
+    PAIRS, bag_of, columns_for, finds_none, fire_rows, found, has_heads, has_just_values,
+    is_rested, put_values, removes_values, row_of, rule, steps, take_rows,
 };
 use chr_base::rule::Rule;
 use chr_columns::columns::Columns;
 use chr_columns::rows::Rows;
-use std::alloc::Global;
 use std::process::Abort;
 
 const EQUAL_VALUES: &str = ":- chr_constraint item/1. item(X) \\ item(Y) <=> X =:= Y | true.";
@@ -41,26 +40,33 @@ const RESTED: [Rested; 3] = [
 ];
 
 /// The values from 0 to 63, and a second 0. Where wanted, the first of them are at rest, or all.
-fn with_a_second_zero(rt: &impl Abort, alloc: Global, rested: Rested) -> Columns {
-    let mut pool = columns_for(rt, alloc, &[]);
+fn with_a_second_zero(rt: &(impl Abort + AllocGlobal), rested: Rested) -> Columns {
+    let mut pool = columns_for(rt, &[]);
     for value in 0..64 {
-        put(rt, &mut pool, &[atom(value)]);
+        put_values(rt, &mut pool, &[value]);
     }
     settle(rt, &mut pool, rested.first);
-    put(rt, &mut pool, &[atom(0)]);
+    put_values(rt, &mut pool, &[0]);
     settle(rt, &mut pool, rested.all);
     pool
 }
 
-fn expect_zeros(rt: &impl Abort, found: &Rows, rested: Rested) {
-    assert!(rt; found.heads.as_slice() == [atom(0), atom(0)].as_slice());
-    assert!(rt; found.rows.len() == 2 && found.rows[0] != found.rows[1]);
-    assert!(rt; is_rested(found.rows[0]) == rested.first);
-    assert!(rt; is_rested(found.rows[1]) == rested.all);
+fn expect_zeros(rt: &(impl Abort + AllocGlobal), found: &Rows, rested: Rested) {
+    let first = row_of(rt, found, 0);
+    let second = row_of(rt, found, 1);
+    assert!(rt; has_heads(rt, found, &[0, 0]) && found.rows.len() == 2);
+    assert!(rt; first != second);
+    assert!(rt; is_rested(first) == rested.first && is_rested(second) == rested.all);
 }
 
 /// The rule is fired on both zeros, or the second is taken out.
-fn use_zeros(rt: &impl Abort, pool: &mut Columns, rule: &Rule, rested: Rested, fires: bool) {
+fn use_zeros(
+    rt: &(impl Abort + AllocGlobal),
+    pool: &mut Columns,
+    rule: &Rule,
+    rested: Rested,
+    fires: bool,
+) {
     let zeros = found(rt, pool, rule);
     expect_zeros(rt, &zeros, rested);
     if fires {
@@ -70,33 +76,38 @@ fn use_zeros(rt: &impl Abort, pool: &mut Columns, rule: &Rule, rested: Rested, f
     }
 }
 
+/// One zero is left.
+fn expect_one_left(rt: &(impl Abort + AllocGlobal), rule: &Rule, rested: Rested, fires: bool) {
+    let mut pool = with_a_second_zero(rt, rested);
+    use_zeros(rt, &mut pool, rule, rested, fires);
+    assert!(rt; bag_of(rt, &pool).len() == 64);
+    assert!(rt; finds_none(&pool, rule));
+}
+
 #[test]
 fn rows_of_equal_atoms(rt: HostRuntime) {
-    let alloc = rt.alloc();
-    let rule = rule(&rt, alloc, EQUAL_VALUES);
+    let rule = rule(&rt, EQUAL_VALUES);
     for rested in RESTED {
-        for fires in [false, true] {
-            let mut pool = with_a_second_zero(&rt, alloc, rested);
-            use_zeros(&rt, &mut pool, &rule, rested, fires);
-            assert!(rt; atoms_of(&rt, alloc, &pool).atoms().len() == 64);
-            assert!(rt; finds_none(&pool, &rule));
-        }
+        expect_one_left(&rt, &rule, rested, false);
+        expect_one_left(&rt, &rule, rested, true);
     }
 }
 
-/// Heads that sit in other rows by now.
+/// Heads that sit in other rows by now. Where wanted, they were at rest.
+fn expect_moved(rt: &(impl Abort + AllocGlobal), rule: &Rule, rests: bool) {
+    let mut pool = columns_for(rt, &[]);
+    put_values(rt, &mut pool, &[4, 9, 9]);
+    settle(rt, &mut pool, rests);
+    let nines = found(rt, &pool, rule);
+    assert!(rt; removes_values(rt, &mut pool, &[4, 9]));
+    put_values(rt, &mut pool, &[2, 9]);
+    take_rows(rt, &mut pool, rule, &nines);
+    assert!(rt; has_just_values(rt, &pool, &[2]));
+}
+
 #[test]
 fn rows_of_atoms_that_moved(rt: HostRuntime) {
-    let alloc = rt.alloc();
-    let rule = rule(&rt, alloc, PAIRS);
-    for rests in [false, true] {
-        let mut pool = columns_for(&rt, alloc, &[]);
-        put(&rt, &mut pool, &[atom(4), atom(9), atom(9)]);
-        settle(&rt, &mut pool, rests);
-        let nines = found(&rt, &pool, &rule);
-        assert!(rt; removes(&mut pool, &[atom(4), atom(9)]));
-        put(&rt, &mut pool, &[atom(2), atom(9)]);
-        take_rows(&rt, &mut pool, &rule, &nines);
-        assert!(rt; has_just(&rt, alloc, &pool, &[atom(2)]));
-    }
+    let rule = rule(&rt, PAIRS);
+    expect_moved(&rt, &rule, false);
+    expect_moved(&rt, &rule, true);
 }

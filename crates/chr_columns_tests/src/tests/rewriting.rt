@@ -1,5 +1,5 @@
 //! Pools, derivations and replaying, on programs that are given as texts.
-use crate::tests::pool::{atom, columns_for, rule};
+use crate::tests::pool::{atom, atoms_at, columns_for, rule};
 use arrayvec::ArrayVec;
 use chr_base::atom::Atom;
 use chr_base::bag::Bag;
@@ -16,7 +16,6 @@ use chr_rewrite::resting::{at_rest, rest};
 use chr_testing::atoms::{self, bag_of_values};
 use chr_testing::texts::{MINIMUM, weighed_of};
 use chr_weights::{Weighed, weight};
-use std::alloc::Global;
 use std::process::Abort;
 
 const EQUAL: &str = ":- chr_constraint xor/1. xor(X), xor(X) <=> xor(0).";
@@ -26,47 +25,51 @@ const NEUTRAL: &str = ":- chr_constraint xor/1. xor(1) \\ xor(0) <=> true.";
 const EXCLUSIVE: &str =
     ":- chr_constraint xor/1. xor(X), xor(X) <=> xor(0). xor(1) \\ xor(0) <=> true.";
 
-fn weighed(rt: &impl Abort, alloc: Global, text: &str) -> Weighed {
-    weighed_of(alloc, text).expect(rt, "a program that lowers")
+fn weighed(rt: &(impl Abort + AllocGlobal), text: &str) -> Weighed {
+    weighed_of(rt.alloc(), text).expect(rt, "a program that lowers")
 }
 
 /// `min(X) \ min(Y) <=> X =< Y | true.`
-fn least(rt: &impl Abort, alloc: Global) -> Rule {
-    rule(rt, alloc, MINIMUM)
+fn least(rt: &(impl Abort + AllocGlobal)) -> Rule {
+    rule(rt, MINIMUM)
 }
 
 /// The two rules of `EXCLUSIVE`.
-fn exclusive_rules(rt: &impl Abort, alloc: Global) -> [Rule; 2] {
-    [rule(rt, alloc, EQUAL), rule(rt, alloc, NEUTRAL)]
+fn exclusive_rules(rt: &(impl Abort + AllocGlobal)) -> [Rule; 2] {
+    [rule(rt, EQUAL), rule(rt, NEUTRAL)]
 }
 
 /// The atoms of the first symbol at these values.
-fn store(rt: &impl Abort, alloc: Global, values: &[i64]) -> Bag {
-    bag_of_values(alloc, values).expect(rt, "memory")
+fn store(rt: &(impl Abort + AllocGlobal), values: &[i64]) -> Bag {
+    bag_of_values(rt.alloc(), values).expect(rt, "memory")
 }
 
-/// A step of a rule with two heads.
-fn step(rule: u32, first: i64, second: i64) -> Step {
-    atoms::step(rule, &[atom(first), atom(second)])
-}
-
-/// Puts these atoms into the pool.
-fn put<P: Pool>(rt: &impl Abort, pool: &mut P, atoms: &[Atom]) {
+fn insert<P: Pool>(rt: &impl Abort, pool: &mut P, atoms: &[Atom]) {
     pool.insert(atoms).expect(rt, "memory");
 }
 
-/// Whether these atoms, in order, are all that are in the pool.
-fn has_just<P: Pool>(rt: &impl Abort, alloc: Global, pool: &P, atoms: &[Atom]) -> bool {
-    let bag = pool.bag(alloc).expect(rt, "memory");
-    bag.atoms() == atoms
+/// Puts the atoms of these values into the pool.
+fn put<P: Pool>(rt: &(impl Abort + AllocGlobal), pool: &mut P, values: &[i64]) {
+    insert(rt, pool, &atoms_at(rt, values));
 }
 
-fn has<P: Pool>(pool: &P, atoms: &[Atom]) -> bool {
-    pool.has(atoms)
+/// Whether the atoms of these values, in order, are all that is in the store.
+fn is_all(rt: &(impl Abort + AllocGlobal), store: &Bag, values: &[i64]) -> bool {
+    store.atoms() == atoms_at(rt, values).as_slice()
 }
 
-fn removes<P: Pool>(pool: &mut P, atoms: &[Atom]) -> bool {
-    pool.remove(atoms)
+/// Whether the atoms of these values, in order, are all that is in the pool.
+fn has_just<P: Pool>(rt: &(impl Abort + AllocGlobal), pool: &P, values: &[i64]) -> bool {
+    let bag = pool.bag(rt.alloc()).expect(rt, "memory");
+    is_all(rt, &bag, values)
+}
+
+fn has<P: Pool>(rt: &(impl Abort + AllocGlobal), pool: &P, values: &[i64]) -> bool {
+    pool.has(&atoms_at(rt, values))
+}
+
+fn removes<P: Pool>(rt: &(impl Abort + AllocGlobal), pool: &mut P, values: &[i64]) -> bool {
+    pool.remove(&atoms_at(rt, values))
 }
 
 fn finds_none<P: Pool>(pool: &P, rule: &Rule) -> bool {
@@ -91,90 +94,76 @@ fn fire_found<P: Pool>(rt: &impl Abort, pool: &mut P, rule: &Rule) -> ArrayVec<A
 }
 
 /// A pool that is empty takes atoms and lets them go as a multiset does.
-fn call_as_multiset<P: Pool>(rt: &impl Abort, alloc: Global, pool: &mut P) {
-    put(rt, pool, &[atom(9), atom(3), atom(9)]);
-    assert!(rt; has(pool, &[]));
-    assert!(rt; has(pool, &[atom(9), atom(9)]));
-    assert!(rt; !has(pool, &[atom(3), atom(3)]));
-    assert!(rt; !has(pool, &[atom(4)]));
-    assert!(rt; !removes(pool, &[atom(9), atom(4)]));
-    assert!(rt; removes(pool, &[atom(9)]));
-    assert!(rt; has_just(rt, alloc, pool, &[atom(3), atom(9)]));
+fn call_as_multiset<P: Pool>(rt: &(impl Abort + AllocGlobal), pool: &mut P) {
+    put(rt, pool, &[9, 3, 9]);
+    assert!(rt; has(rt, pool, &[]));
+    assert!(rt; has(rt, pool, &[9, 9]));
+    assert!(rt; !has(rt, pool, &[3, 3]));
+    assert!(rt; !has(rt, pool, &[4]));
+    assert!(rt; !removes(rt, pool, &[9, 4]));
+    assert!(rt; removes(rt, pool, &[9]));
+    assert!(rt; has_just(rt, pool, &[3, 9]));
 }
 
 /// Each call of a pool that is empty, and has to answer as a multiset.
-fn call_each<P: Pool>(rt: &impl Abort, alloc: Global, pool: &mut P) {
-    let rule = least(rt, alloc);
+fn call_each<P: Pool>(rt: &(impl Abort + AllocGlobal), pool: &mut P) {
+    let rule = least(rt);
     assert!(rt; finds_none(pool, &rule));
-    call_as_multiset(rt, alloc, pool);
+    call_as_multiset(rt, pool);
     let heads = fire_found(rt, pool, &rule);
-    assert!(rt; heads.as_slice() == [atom(3), atom(9)].as_slice());
+    assert!(rt; heads.as_slice() == atoms_at(rt, &[3, 9]).as_slice());
     assert!(rt; finds_none(pool, &rule));
-    assert!(rt; has_just(rt, alloc, pool, &[atom(3)]));
+    assert!(rt; has_just(rt, pool, &[3]));
 }
 
 #[test]
 fn pools(rt: HostRuntime) {
-    let alloc = rt.alloc();
-    call_each(&rt, alloc, &mut ListPool::new(alloc));
-    call_each(&rt, alloc, &mut columns_for(&rt, alloc, &[]));
-    call_each(
-        &rt,
-        alloc,
-        &mut columns_for(&rt, alloc, &[least(&rt, alloc)]),
-    );
-    call_each(
-        &rt,
-        alloc,
-        &mut columns_for(&rt, alloc, &exclusive_rules(&rt, alloc)),
-    );
+    call_each(&rt, &mut ListPool::new(rt.alloc()));
+    call_each(&rt, &mut columns_for(&rt, &[]));
+    call_each(&rt, &mut columns_for(&rt, &[least(&rt)]));
+    call_each(&rt, &mut columns_for(&rt, &exclusive_rules(&rt)));
 }
 
 /// What is there after the rule is fired on what the pool finds for it.
-fn after_found<P: Pool>(rt: &impl Abort, alloc: Global, pool: &P, rule: &Rule) -> Bag {
+fn after_found<P: Pool>(rt: &(impl Abort + AllocGlobal), pool: &P, rule: &Rule) -> Bag {
     let heads = pool.find(rule).expect(rt, "heads");
-    let before = pool.bag(alloc).expect(rt, "memory");
-    fired(alloc, rule, &heads, &before).expect(rt, "memory")
+    let before = pool.bag(rt.alloc()).expect(rt, "memory");
+    fired(rt.alloc(), rule, &heads, &before).expect(rt, "memory")
 }
 
 #[test]
 fn fires(rt: HostRuntime) {
-    let alloc = rt.alloc();
-    let mut pool = ListPool::new(alloc);
-    put(&rt, &mut pool, &[atom(9), atom(3)]);
-    let after = after_found(&rt, alloc, &pool, &least(&rt, alloc));
-    assert!(rt; after.atoms() == [atom(3)].as_slice());
+    let mut pool = ListPool::new(rt.alloc());
+    put(&rt, &mut pool, &[9, 3]);
+    let after = after_found(&rt, &pool, &least(&rt));
+    assert!(rt; is_all(&rt, &after, &[3]));
+}
+
+/// How many steps the pool takes until it is at rest.
+fn steps_to_rest<P: Pool>(rt: &impl Abort, weighed: &Weighed, pool: &mut P) -> u64 {
+    rest(weighed, pool).expect(rt, "memory")
 }
 
 /// An empty pool takes atoms and comes to rest.
-fn rest_each<P: Pool>(rt: &impl Abort, alloc: Global, pool: &mut P) {
-    let weighed = weighed(rt, alloc, MINIMUM);
+fn rest_each<P: Pool>(rt: &(impl Abort + AllocGlobal), pool: &mut P) {
+    let weighed = weighed(rt, MINIMUM);
     let rules = weighed.program().rules();
     assert!(rt; !steps(rt, pool, rules));
-    put(rt, pool, &[atom(5), atom(3), atom(9), atom(3)]);
+    put(rt, pool, &[5, 3, 9, 3]);
     assert!(rt; !rests(&weighed, pool));
     assert!(rt; steps(rt, pool, rules));
-    assert_eq!(rt; rest(&weighed, pool), Ok(2));
+    assert!(rt; steps_to_rest(rt, &weighed, pool) == 2);
     assert!(rt; rests(&weighed, pool));
     assert!(rt; !steps(rt, pool, rules));
-    assert!(rt; has_just(rt, alloc, pool, &[atom(3)]));
+    assert!(rt; has_just(rt, pool, &[3]));
 }
 
 #[test]
 fn pools_rest(rt: HostRuntime) {
-    let alloc = rt.alloc();
-    rest_each(&rt, alloc, &mut ListPool::new(alloc));
-    rest_each(&rt, alloc, &mut columns_for(&rt, alloc, &[]));
-    rest_each(
-        &rt,
-        alloc,
-        &mut columns_for(&rt, alloc, &[least(&rt, alloc)]),
-    );
-    rest_each(
-        &rt,
-        alloc,
-        &mut columns_for(&rt, alloc, &exclusive_rules(&rt, alloc)),
-    );
+    rest_each(&rt, &mut ListPool::new(rt.alloc()));
+    rest_each(&rt, &mut columns_for(&rt, &[]));
+    rest_each(&rt, &mut columns_for(&rt, &[least(&rt)]));
+    rest_each(&rt, &mut columns_for(&rt, &exclusive_rules(&rt)));
 }
 
 /// Fires the rule on the rows that the pool finds for it.
@@ -184,12 +173,12 @@ fn fire_rows_found(rt: &impl Abort, pool: &mut Columns, rule: &Rule) {
 }
 
 /// Columns for `least` take steps of other rules.
-fn step_by_others(rt: &impl Abort, alloc: Global, pool: &mut Columns) {
-    let others = exclusive_rules(rt, alloc);
-    put(rt, pool, &[atom(2), atom(5), atom(2)]);
-    assert!(rt; has(pool, &[atom(2), atom(2), atom(5)]));
+fn step_by_others(rt: &(impl Abort + AllocGlobal), pool: &mut Columns) {
+    let others = exclusive_rules(rt);
+    put(rt, pool, &[2, 5, 2]);
+    assert!(rt; has(rt, pool, &[2, 2, 5]));
     assert!(rt; steps(rt, pool, &others));
-    assert!(rt; has_just(rt, alloc, pool, &[atom(0), atom(5)]));
+    assert!(rt; has_just(rt, pool, &[0, 5]));
     assert!(rt; !steps(rt, pool, &others));
     assert!(rt; finds_none(pool, &others[0]));
 }
@@ -197,52 +186,60 @@ fn step_by_others(rt: &impl Abort, alloc: Global, pool: &mut Columns) {
 /// `Columns` under its own rules, under others, and again under its own.
 #[test]
 fn columns(rt: HostRuntime) {
-    let alloc = rt.alloc();
-    let own = [least(&rt, alloc)];
-    let mut pool = columns_for(&rt, alloc, &own);
+    let own = [least(&rt)];
+    let mut pool = columns_for(&rt, &own);
     assert!(rt; !steps(&rt, &mut pool, &own));
-    step_by_others(&rt, alloc, &mut pool);
+    step_by_others(&rt, &mut pool);
     fire_rows_found(&rt, &mut pool, &own[0]);
     assert!(rt; !steps(&rt, &mut pool, &own));
-    put(&rt, &mut pool, &[atom(4)]);
+    put(&rt, &mut pool, &[4]);
     assert!(rt; steps(&rt, &mut pool, &own));
     assert!(rt; !steps(&rt, &mut pool, &own));
-    assert!(rt; removes(&mut pool, &[atom(0)]));
-    assert!(rt; !has(&pool, &[atom(0)]));
-    assert!(rt; has_just(&rt, alloc, &pool, &[]));
+    assert!(rt; removes(&rt, &mut pool, &[0]));
+    assert!(rt; !has(&rt, &pool, &[0]));
+    assert!(rt; has_just(&rt, &pool, &[]));
 }
 
-/// The derivation from these values by these steps.
-fn derivation(rt: &impl Abort, alloc: Global, values: &[i64], steps: &[Step]) -> Derivation {
-    let mut taken = Vec::new(alloc);
-    for step in steps {
-        taken.push(step.copy()).expect(rt, "memory");
+/// A step of a rule on two heads: the rule's number, and the values of the heads.
+type Taken = (u32, i64, i64);
+
+/// These steps, in this order.
+fn steps_of(rt: &(impl Abort + AllocGlobal), taken: &[Taken]) -> Vec<Step> {
+    let mut steps = Vec::new(rt.alloc());
+    for (rule, first, second) in taken {
+        let step = atoms::step(*rule, &[atom(*first), atom(*second)]);
+        steps.push(step).expect(rt, "memory");
     }
-    Derivation {
-        start: store(rt, alloc, values),
-        steps: taken,
-    }
+    steps
 }
 
 /// The end of the plain derivation.
-fn plainly_rested(rt: &impl Abort, alloc: Global, weighed: &Weighed, start: &Bag) -> Bag {
-    plain_end(alloc, weighed, start).expect(rt, "memory")
+fn plainly_rested(rt: &(impl Abort + AllocGlobal), weighed: &Weighed, start: &Bag) -> Bag {
+    plain_end(rt.alloc(), weighed, start).expect(rt, "memory")
 }
 
-fn plain_derivation(rt: &impl Abort, alloc: Global, weighed: &Weighed, start: &Bag) -> Derivation {
-    plain_rest(alloc, weighed, start).expect(rt, "memory")
+fn plain_derivation(rt: &(impl Abort + AllocGlobal), weighed: &Weighed, start: &Bag) -> Derivation {
+    plain_rest(rt.alloc(), weighed, start).expect(rt, "memory")
+}
+
+/// Whether the plain derivation from this store starts there and takes these steps.
+fn is_plain(
+    rt: &(impl Abort + AllocGlobal),
+    weighed: &Weighed,
+    start: &Bag,
+    taken: &[Taken],
+) -> bool {
+    let derivation = plain_derivation(rt, weighed, start);
+    derivation.start.is_same(start) && derivation.steps.as_slice() == steps_of(rt, taken).as_slice()
 }
 
 #[test]
 fn plain(rt: HostRuntime) {
-    let alloc = rt.alloc();
-    let weighed = weighed(&rt, alloc, MINIMUM);
-    let start = store(&rt, alloc, &[9, 3, 5]);
-    let derivation = plain_derivation(&rt, alloc, &weighed, &start);
-    assert!(rt; derivation.start.is_same(&start));
-    assert!(rt; derivation.steps.as_slice() == [step(1, 3, 5), step(1, 3, 9)].as_slice());
-    let end = plainly_rested(&rt, alloc, &weighed, &start);
-    assert!(rt; end.atoms() == [atom(3)].as_slice());
+    let weighed = weighed(&rt, MINIMUM);
+    let start = store(&rt, &[9, 3, 5]);
+    assert!(rt; is_plain(&rt, &weighed, &start, &[(1, 3, 5), (1, 3, 9)]));
+    let end = plainly_rested(&rt, &weighed, &start);
+    assert!(rt; is_all(&rt, &end, &[3]));
 }
 
 /// The weight of a store of at most three atoms.
@@ -252,67 +249,74 @@ fn weight_of(rt: &impl Abort, weighed: &Weighed, store: &Bag) -> Weight {
     weight(weighed, store)
 }
 
+const THREE: Weight = Weight {
+    first: 3,
+    second: 0,
+};
+
 #[test]
 fn weights(rt: HostRuntime) {
-    let alloc = rt.alloc();
-    let weighed = weighed(&rt, alloc, MINIMUM);
-    let start = store(&rt, alloc, &[9, 3, 5]);
-    let three = Weight {
-        first: 3,
-        second: 0,
-    };
-    assert_eq!(rt; weight_of(&rt, &weighed, &start), three);
-    let end = plainly_rested(&rt, alloc, &weighed, &start);
-    assert_eq!(rt; weight_of(&rt, &weighed, &end), DEFAULT_WEIGHT);
+    let weighed = weighed(&rt, MINIMUM);
+    let start = store(&rt, &[9, 3, 5]);
+    assert!(rt; weight_of(&rt, &weighed, &start) == THREE);
+    let end = plainly_rested(&rt, &weighed, &start);
+    assert!(rt; weight_of(&rt, &weighed, &end) == DEFAULT_WEIGHT);
 }
 
-/// The end of a derivation, where each step is there.
+/// The end of the derivation from these values by these steps, where each is there.
 fn replay_of(
-    rt: &impl Abort,
-    alloc: Global,
+    rt: &(impl Abort + AllocGlobal),
     weighed: &Weighed,
     values: &[i64],
-    steps: &[Step],
+    taken: &[Taken],
 ) -> Result<Bag, ReplayFault> {
-    replay(alloc, weighed, &derivation(rt, alloc, values, steps))
+    let derivation = Derivation {
+        start: store(rt, values),
+        steps: steps_of(rt, taken),
+    };
+    replay(rt.alloc(), weighed, &derivation)
 }
 
-fn is_all(store: &Bag, atoms: &[Atom]) -> bool {
-    store.atoms() == atoms
+/// The values of a store that comes to rest as `xor(1)`.
+const ONES: [i64; 4] = [0, 1, 1, 1];
+
+/// Ways from there to `xor(1)`, beside the plain one.
+const WAYS: [[Taken; 3]; 2] = [
+    [(1, 1, 1), (2, 1, 0), (2, 1, 0)],
+    [(2, 1, 0), (1, 1, 1), (2, 1, 0)],
+];
+
+const PLAIN: [Taken; 3] = [(1, 1, 1), (1, 0, 0), (2, 1, 0)];
+
+/// The steps lead from `ONES` to `xor(1)`.
+fn expect_replayed(rt: &(impl Abort + AllocGlobal), weighed: &Weighed, taken: &[Taken]) {
+    let end = replay_of(rt, weighed, &ONES, taken).expect(rt, "replayed");
+    assert!(rt; is_all(rt, &end, &[1]));
 }
 
 #[test]
 fn replayed(rt: HostRuntime) {
-    let alloc = rt.alloc();
-    let weighed = weighed(&rt, alloc, EXCLUSIVE);
-    let values = [0, 1, 1, 1];
-    let late = [step(1, 1, 1), step(2, 1, 0), step(2, 1, 0)];
-    let early = [step(2, 1, 0), step(1, 1, 1), step(2, 1, 0)];
-    let plain = [step(1, 1, 1), step(1, 0, 0), step(2, 1, 0)];
-    for steps in [late.as_slice(), early.as_slice(), plain.as_slice()] {
-        let end = replay_of(&rt, alloc, &weighed, &values, steps).expect(&rt, "replayed");
-        assert!(rt; is_all(&end, &[atom(1)]));
+    let weighed = weighed(&rt, EXCLUSIVE);
+    for taken in WAYS {
+        expect_replayed(&rt, &weighed, &taken);
     }
-    let start = store(&rt, alloc, &values);
-    let found = plain_derivation(&rt, alloc, &weighed, &start);
-    assert!(rt; found.steps.as_slice() == plain.as_slice());
+    expect_replayed(&rt, &weighed, &PLAIN);
+    assert!(rt; is_plain(&rt, &weighed, &store(&rt, &ONES), &PLAIN));
 }
+
+/// Steps from `xor(0), xor(1), xor(1)`, and the place of the first that isn't there.
+const NOT_THERE: [(&[Taken], usize); 4] = [
+    (&[(1, 1, 1), (1, 1, 1), (1, 0, 0)], 1),
+    (&[(1, 0, 1)], 0),
+    (&[(2, 1, 0), (3, 1, 1)], 1),
+    (&[(0, 1, 1)], 0),
+];
 
 #[test]
 fn not_there(rt: HostRuntime) {
-    let alloc = rt.alloc();
-    let weighed = weighed(&rt, alloc, EXCLUSIVE);
-    let missing = [step(1, 1, 1), step(1, 1, 1), step(1, 0, 0)];
-    let unlike = [step(1, 0, 1)];
-    let of_no_rule = [step(2, 1, 0), step(3, 1, 1)];
-    let of_rule_zero = [step(0, 1, 1)];
-    for (steps, place) in [
-        (missing.as_slice(), 1),
-        (unlike.as_slice(), 0),
-        (of_no_rule.as_slice(), 1),
-        (of_rule_zero.as_slice(), 0),
-    ] {
-        let fault = replay_of(&rt, alloc, &weighed, &[0, 1, 1], steps).err();
+    let weighed = weighed(&rt, EXCLUSIVE);
+    for (taken, place) in NOT_THERE {
+        let fault = replay_of(&rt, &weighed, &[0, 1, 1], taken).err();
         assert!(rt; fault == Some(ReplayFault::NotThere(place)));
     }
 }

@@ -18,7 +18,7 @@ use std::process::Abort;
 const MAX_ATOMS: usize = 10;
 
 /// How often each thing came.
-#[derive(Clone, Copy, Debug, Default, PartialEq, Eq)]
+#[derive(Clone, Copy, Debug, Default)]
 pub struct Tally {
     pub there: usize,
     pub removed: usize,
@@ -39,6 +39,17 @@ impl Tally {
         self.steps = self.steps.saturating_add(other.steps);
         self.rests = self.rests.saturating_add(other.rests);
     }
+
+    /// Whether each thing came at least as often as in the other one.
+    pub fn is_at_least(&self, other: &Tally) -> bool {
+        self.there >= other.there
+            && self.removed >= other.removed
+            && self.fired >= other.fired
+            && self.taken >= other.taken
+            && self.moved >= other.moved
+            && self.steps >= other.steps
+            && self.rests >= other.rests
+    }
 }
 
 /// The pool, and what it has to have.
@@ -52,11 +63,9 @@ pub struct Beside {
 
 /// Whether no row stands there twice.
 fn are_apart(rows: &[Row]) -> bool {
-    for (i, row) in rows.iter().enumerate() {
-        for (k, other) in rows.iter().enumerate() {
-            if k < i && row == other {
-                return false;
-            }
+    for i in 0..rows.len() {
+        if rows[..i].contains(&rows[i]) {
+            return false;
         }
     }
     true
@@ -69,6 +78,15 @@ fn bag_of(rt: &impl Abort, alloc: Global, columns: &Columns) -> Bag {
 
 fn has_all(columns: &Columns, atoms: &[Atom]) -> bool {
     columns.has(atoms)
+}
+
+/// Takes all of these atoms out, or none where they are not all there.
+fn take_all(columns: &mut Columns, atoms: &[Atom]) -> bool {
+    columns.remove(atoms)
+}
+
+fn instance_of(columns: &Columns, rule: &Rule) -> Option<Rows> {
+    columns.find(rule)
 }
 
 fn takes_step(rt: &impl Abort, columns: &mut Columns, rules: &[Rule]) -> bool {
@@ -132,7 +150,7 @@ impl Beside {
 
     fn remove(&mut self, rt: &impl Abort, alloc: Global, random: &mut Random) {
         let some = some_atoms(rt, alloc, random, &self.bag, &self.values);
-        let removed = self.columns.remove(some.atoms());
+        let removed = take_all(&mut self.columns, some.atoms());
         assert!(rt; removed == taken_out(&mut self.bag, some.atoms()), "remove");
         count(&mut self.tally.removed, removed);
     }
@@ -149,7 +167,7 @@ impl Beside {
         taken_out(&mut others, heads);
         let some = some_atoms(rt, alloc, random, &others, &self.values);
         if taken_out(&mut others, some.atoms()) {
-            self.columns.remove(some.atoms());
+            take_all(&mut self.columns, some.atoms());
             taken_out(&mut self.bag, some.atoms());
             count(&mut self.tally.moved, !some.is_empty());
         }
@@ -163,7 +181,7 @@ impl Beside {
         random: &mut Random,
         rule: &Rule,
     ) -> Option<Rows> {
-        let Some(found) = self.columns.find(rule) else {
+        let Some(found) = instance_of(&self.columns, rule) else {
             assert!(rt; !can_fire(rt, alloc, rule, &self.bag), "nothing found");
             return None;
         };

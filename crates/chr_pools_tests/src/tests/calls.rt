@@ -77,21 +77,36 @@ fn run_sequences(
     all
 }
 
+/// So often each thing comes at least.
+const LEAST: Tally = Tally {
+    there: 200,
+    removed: 200,
+    fired: 40,
+    taken: 40,
+    moved: 10,
+    steps: 150,
+    rests: 200,
+};
+
 #[test]
 fn calls_at_random(rt: HostRuntime) {
     let all = run_sequences(&rt, rt.alloc(), &mut Random::new(9), PROGRAMS, false);
-    assert!(rt; all.there >= 200 && all.removed >= 200, "{all:?}");
-    assert!(rt;
-        all.fired >= 40 && all.taken >= 40 && all.moved >= 10,
-        "{all:?}"
-    );
-    assert!(rt; all.steps >= 150 && all.rests >= 200, "{all:?}");
+    assert!(rt; all.is_at_least(&LEAST), "{all:?}");
 }
+
+/// So often each thing comes at least with up to four heads a rule.
+const LEAST_OF_WIDE: Tally = Tally {
+    there: 50,
+    removed: 50,
+    fired: 10,
+    taken: 10,
+    moved: 0,
+    steps: 20,
+    rests: 50,
+};
 
 #[test]
 fn calls_at_random_with_up_to_four_heads(rt: HostRuntime) {
     let all = run_sequences(&rt, rt.alloc(), &mut Random::new(11), WIDE_PROGRAMS, true);
-    assert!(rt; all.there >= 50 && all.removed >= 50, "{all:?}");
-    assert!(rt; all.fired >= 10 && all.taken >= 10, "{all:?}");
-    assert!(rt; all.steps >= 20 && all.rests >= 50, "{all:?}");
+    assert!(rt; all.is_at_least(&LEAST_OF_WIDE), "{all:?}");
 }

@@ -4,9 +4,9 @@ use crate::tests::ends::{end_in_columns, end_in_list};
 use crate::tests::stores::{can_fire, is_one, random_store, values_of_rules};
 use crate::tests::texts::confluent_text;
 use crate::tests::traits::Traits;
+use crate::tests::verdicts::verdict_on;
 use chr_base::bag::Bag;
 use chr_base::rule::Rule;
-use chr_join::{Coverage, accept};
 use chr_rewrite::plain::plain_end;
 use chr_slow_steps::instances::{places, variables};
 use chr_testing::random::Random;
@@ -34,13 +34,16 @@ fn can_fire_somewhere(rt: &impl Abort, alloc: Global, rule: &Rule, stores: &[Bag
 
 /// Whether the checker looks through the overlaps of the rules in no time.
 fn are_small(rules: &[Rule]) -> bool {
-    rules
-        .iter()
-        .all(|rule| places(rule) <= 2 && variables(rule) <= 2)
+    for rule in rules {
+        if places(rule) > 2 || variables(rule) > 2 {
+            return false;
+        }
+    }
+    true
 }
 
 /// What came of some programs.
-#[derive(Clone, Copy, Debug, Default, PartialEq, Eq)]
+#[derive(Clone, Copy, Debug, Default)]
 struct Tally {
     programs: usize,
     moved: usize,
@@ -55,6 +58,15 @@ fn plainly_rested(rt: &impl Abort, alloc: Global, weighed: &Weighed, store: &Bag
 }
 
 impl Tally {
+    /// Whether there was so much of everything that the trials tell something.
+    fn is_enough(&self) -> bool {
+        self.programs >= 1_000
+            && self.accepted >= 100
+            && self.moved >= 3_000
+            && self.long >= 1_500
+            && self.traits.least() >= 50
+    }
+
     /// Whether one store comes to one end in both pools and by the plain derivation.
     fn has_one_end(
         &mut self,
@@ -106,7 +118,7 @@ impl Tally {
         text: &str,
     ) {
         if are_small(weighed.program().rules()) {
-            let is_accepted = accept(rt, alloc, weighed, Coverage::Joint).is_ok();
+            let is_accepted = verdict_on(rt, alloc, weighed).is_ok();
             assert!(rt; is_accepted, "refused: {text}");
             count(&mut self.accepted, true);
         }
@@ -153,8 +165,5 @@ fn confluent_programs_have_one_end(rt: HostRuntime) {
         let text = confluent_text(&rt, alloc, &mut random);
         tally.try_text(&rt, alloc, &mut random, &text);
     }
-    assert!(rt; tally.programs >= 1_000, "{tally:?}");
-    assert!(rt; tally.accepted >= 100, "{tally:?}");
-    assert!(rt; tally.moved >= 3_000 && tally.long >= 1_500, "{tally:?}");
-    assert!(rt; tally.traits.least() >= 50, "{tally:?}");
+    assert!(rt; tally.is_enough(), "{tally:?}");
 }

@@ -1,11 +1,12 @@
 //! Stores of accepted programs end as `rest` ends them, whatever steps are chosen and whatever parts are rested first.
+use crate::tests::count;
 use crate::tests::ends::end_in_list;
 use crate::tests::stores::{copied, is_one, unite};
 use crate::tests::texts::small_text;
+use crate::tests::verdicts::{Counts, Verdicts, verdict_on};
 use chr_base::bag::Bag;
 use chr_base::derivation::{Derivation, Step};
 use chr_base::rule::Rule;
-use chr_join::{Coverage, accept};
 use chr_random_programs::stores::{all_instances, parts, store_of_instances, values_of_rules};
 use chr_rewrite::replay::replay;
 use chr_slow_steps::instances::Heads;
@@ -137,7 +138,7 @@ fn random_store(
     store_of_instances(alloc, random, values, instances).expect(rt, "memory")
 }
 
-/// Trials with stores of these values and instances.
+/// Counts trials with stores of these values and instances. The program counts where there are steps from some store.
 fn run_trials(
     rt: &impl Abort,
     alloc: Global,
@@ -145,76 +146,43 @@ fn run_trials(
     weighed: &Weighed,
     values: &[i64],
     instances: &[Heads],
-) -> Vec<Trial> {
-    let mut trials = Vec::new(alloc);
+) -> Counts {
+    let mut counts = Counts::default();
+    let mut has_steps = false;
     for _ in 0..STORES {
         let store = random_store(rt, alloc, random, values, instances);
         let trial = run_trial(rt, alloc, random, weighed, &store);
-        trials.push(trial).expect(rt, "memory");
+        has_steps |= trial.steps > 0;
+        count(&mut counts.long, trial.steps > 2);
+        count(&mut counts.torn, !trial.is_one_end);
     }
-    trials
+    count(&mut counts.programs, has_steps);
+    counts
 }
 
-/// Trials with stores of a program, by values in and around its constants.
-fn trials(rt: &impl Abort, alloc: Global, random: &mut Random, weighed: &Weighed) -> Vec<Trial> {
+/// Counts trials with stores of a program, by values in and around its constants.
+fn trials(rt: &impl Abort, alloc: Global, random: &mut Random, weighed: &Weighed) -> Counts {
     let rules = weighed.program().rules();
     let values = values_of_rules(alloc, rules, 2).expect(rt, "memory");
     let instances = all_instances(alloc, rules, &values).expect(rt, "memory");
     run_trials(rt, alloc, random, weighed, &values, &instances)
 }
 
-/// How many trials of a list there were.
-#[derive(Clone, Copy, Debug, Default)]
-struct Counts {
-    programs: usize,
-    long: usize,
-    torn: usize,
-}
-
-fn number_of_long(trials: &[Trial]) -> usize {
-    trials.iter().filter(|trial| trial.steps > 2).count()
-}
-
-fn number_of_torn(trials: &[Trial]) -> usize {
-    trials.iter().filter(|trial| !trial.is_one_end).count()
-}
-
-/// Whether there were steps from some store.
-fn have_steps(trials: &[Trial]) -> bool {
-    trials.iter().any(|trial| trial.steps > 0)
-}
-
-impl Counts {
-    fn add(&mut self, trials: &[Trial]) {
-        self.programs = self
-            .programs
-            .saturating_add(usize::from(have_steps(trials)));
-        self.long = self.long.saturating_add(number_of_long(trials));
-        self.torn = self.torn.saturating_add(number_of_torn(trials));
-    }
-}
-
-/// What came of programs that were accepted, and of those that were refused.
-#[derive(Clone, Copy, Debug, Default)]
-struct Tally {
-    accepted: Counts,
-    refused: Counts,
-}
-
-impl Tally {
-    fn add(
-        &mut self,
-        rt: &(impl Abort + Threads + Sync),
-        alloc: Global,
-        random: &mut Random,
-        weighed: Weighed,
-    ) {
-        match accept(rt, alloc, weighed, Coverage::Joint) {
-            Ok(found) => self
-                .accepted
-                .add(&trials(rt, alloc, random, found.weighed())),
-            Err(found) => self.refused.add(&trials(rt, alloc, random, &found.weighed)),
-        }
+/// Adds what comes of a program's stores.
+fn add_program(
+    rt: &(impl Abort + Threads + Sync),
+    alloc: Global,
+    random: &mut Random,
+    weighed: Weighed,
+    verdicts: &mut Verdicts,
+) {
+    match verdict_on(rt, alloc, weighed) {
+        Ok(found) => verdicts
+            .accepted
+            .add(trials(rt, alloc, random, found.weighed())),
+        Err(found) => verdicts
+            .refused
+            .add(trials(rt, alloc, random, &found.weighed)),
     }
 }
 
@@ -222,15 +190,17 @@ impl Tally {
 fn stores_end_as_rest_ends_them(rt: HostRuntime) {
     let alloc = rt.alloc();
     let mut random = Random::new(6);
-    let mut tally = Tally::default();
+    let mut verdicts = Verdicts::default();
     for _ in 0..TEXTS {
         let text = small_text(&rt, alloc, &mut random);
         if let Some(weighed) = weighed_of(alloc, &text) {
-            tally.add(&rt, alloc, &mut random, weighed);
+            add_program(&rt, alloc, &mut random, weighed, &mut verdicts);
         }
-        assert!(rt; tally.accepted.torn == 0, "{text}");
+        assert!(rt; verdicts.accepted.torn == 0, "{text}");
     }
-    assert!(rt; tally.accepted.programs >= 12, "{tally:?}");
-    assert!(rt; tally.accepted.long >= 300, "{tally:?}");
-    assert!(rt; tally.refused.torn >= 50, "{tally:?}");
+    let Verdicts { accepted, refused } = verdicts;
+    assert!(rt;
+        accepted.programs >= 12 && accepted.long >= 300 && refused.torn >= 50,
+        "{verdicts:?}"
+    );
 }

@@ -15,7 +15,7 @@ const COMPARISONS: [Cmp; 6] = [
 ];
 
 /// How many rules that could fire on some store of theirs have each trait.
-#[derive(Clone, Copy, Debug, Default, PartialEq, Eq)]
+#[derive(Clone, Copy, Debug, Default)]
 pub struct Traits {
     heads: [usize; 4],
     comparisons: [usize; 6],
@@ -31,15 +31,24 @@ fn is_constant(term: &Term) -> bool {
     matches!(term, Term::Constant(_))
 }
 
-fn has_constant(pattern: &Pattern) -> bool {
-    pattern.args.iter().any(is_constant)
+fn has_constant(terms: &[Term]) -> bool {
+    for term in terms {
+        if is_constant(term) {
+            return true;
+        }
+    }
+    false
+}
+
+/// Whether this is a variable that stands among the terms.
+fn is_variable_of(term: &Term, terms: &[Term]) -> bool {
+    !is_constant(term) && terms.contains(term)
 }
 
 /// Whether a variable stands there twice.
-fn repeats(pattern: &Pattern) -> bool {
-    let terms = pattern.args.as_slice();
-    for (i, term) in terms.iter().enumerate() {
-        if !is_constant(term) && terms.iter().take(i).any(|earlier| earlier == term) {
+fn repeats(terms: &[Term]) -> bool {
+    for i in 1..terms.len() {
+        if is_variable_of(&terms[i], &terms[..i]) {
             return true;
         }
     }
@@ -47,36 +56,101 @@ fn repeats(pattern: &Pattern) -> bool {
 }
 
 /// Whether a variable of the one stands in the other.
-fn joins(left: &Pattern, right: &Pattern) -> bool {
-    left.args.iter().any(|term| !is_constant(term) && right.args.iter().any(|other| other == term))
+fn joins(left: &[Term], right: &[Term]) -> bool {
+    for term in left {
+        if is_variable_of(term, right) {
+            return true;
+        }
+    }
+    false
+}
+
+/// Whether the guard has such a comparison.
+fn compares(rule: &Rule, cmp: Cmp) -> bool {
+    for comparison in rule.guard.as_slice() {
+        if comparison.cmp == cmp {
+            return true;
+        }
+    }
+    false
+}
+
+fn least_of(counts: &[usize]) -> usize {
+    let mut least = usize::MAX;
+    for count in counts {
+        least = least.min(*count);
+    }
+    least
+}
+
+/// What a head of a rule has, or one of several heads.
+#[derive(Clone, Copy, Default)]
+struct Marks {
+    constants: bool,
+    repeated: bool,
+    joined: bool,
+    symbols: bool,
+    wide: bool,
+}
+
+impl Marks {
+    /// Those of a head beside the first one.
+    fn beside(first: &Pattern, head: &Pattern) -> Marks {
+        let mut marks = Marks::alone(head);
+        marks.joined = joins(&first.args, &head.args);
+        marks.symbols = first.symbol != head.symbol;
+        marks
+    }
+
+    /// Those of a head by itself.
+    fn alone(head: &Pattern) -> Marks {
+        Marks {
+            constants: has_constant(&head.args),
+            repeated: repeats(&head.args),
+            joined: false,
+            symbols: false,
+            wide: head.args.len() > 2,
+        }
+    }
+
+    fn or(self, other: Marks) -> Marks {
+        Marks {
+            constants: self.constants | other.constants,
+            repeated: self.repeated | other.repeated,
+            joined: self.joined | other.joined,
+            symbols: self.symbols | other.symbols,
+            wide: self.wide | other.wide,
+        }
+    }
+}
+
+/// What the heads of a rule have.
+fn marks_of(rule: &Rule) -> Marks {
+    let Some(first) = head(rule, 0) else {
+        return Marks::default();
+    };
+    let mut marks = Marks::alone(first);
+    for place in 1..places(rule) {
+        if let Some(pattern) = head(rule, place) {
+            marks = marks.or(Marks::beside(first, pattern));
+        }
+    }
+    marks
 }
 
 impl Traits {
     fn add_heads(&mut self, rule: &Rule) {
-        let (mut constants, mut repeated, mut joined, mut symbols, mut wide) = (
-            false, false, false, false, false,
-        );
-        for place in 0..places(rule) {
-            let (Some(first), Some(pattern)) = (head(rule, 0), head(rule, place)) else {
-                continue;
-            };
-            constants = constants || has_constant(pattern);
-            repeated = repeated || repeats(pattern);
-            joined = joined || place > 0 && joins(first, pattern);
-            symbols = symbols || first.symbol != pattern.symbol;
-            wide = wide || pattern.args.len() > 2;
-        }
-        count(&mut self.constants, constants);
-        count(&mut self.repeated, repeated);
-        count(&mut self.joined, joined);
-        count(&mut self.symbols, symbols);
-        count(&mut self.wide, wide);
+        let marks = marks_of(rule);
+        count(&mut self.constants, marks.constants);
+        count(&mut self.repeated, marks.repeated);
+        count(&mut self.joined, marks.joined);
+        count(&mut self.symbols, marks.symbols);
+        count(&mut self.wide, marks.wide);
     }
 
     fn add_guard(&mut self, rule: &Rule) {
         for (i, cmp) in COMPARISONS.iter().enumerate() {
-            let came = rule.guard.iter().any(|comparison| comparison.cmp == *cmp);
-            count(&mut self.comparisons[i], came);
+            count(&mut self.comparisons[i], compares(rule, *cmp));
         }
     }
 
@@ -91,8 +165,6 @@ impl Traits {
 
     /// The least of the numbers.
     pub fn least(&self) -> usize {
-        let heads = self.heads.iter().min().copied().unwrap_or(0);
-        let comparisons = self.comparisons.iter().min().copied().unwrap_or(0);
         let others = [
             self.kept,
             self.constants,
@@ -101,7 +173,8 @@ impl Traits {
             self.symbols,
             self.wide,
         ];
-        let others = others.iter().min().copied().unwrap_or(0);
-        heads.min(comparisons).min(others)
+        least_of(&self.heads)
+            .min(least_of(&self.comparisons))
+            .min(least_of(&others))
     }
 }

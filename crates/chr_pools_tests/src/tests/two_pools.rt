@@ -3,9 +3,9 @@ use crate::tests::count;
 use crate::tests::ends::{End, end_in_columns, end_in_list};
 use crate::tests::stores::{is_at_rest, is_one, random_store, values_of_rules};
 use crate::tests::texts::{small_text, wide_text};
+use crate::tests::verdicts::{Counts, Verdicts, verdict_on};
 use chr_base::bag::Bag;
 use chr_base::rule::Rule;
-use chr_join::{Coverage, accept};
 use chr_testing::random::Random;
 use chr_testing::texts::weighed_of;
 use chr_weights::Weighed;
@@ -25,12 +25,22 @@ fn fewer(rule: &Rule) -> i64 {
     signed(rule.removed.len()).saturating_sub(signed(rule.body.len()))
 }
 
+/// The least and the greatest number of atoms that there are fewer after a step of some rule.
+fn range_of_fewer(rules: &[Rule]) -> (i64, i64) {
+    let mut least = i64::MAX;
+    let mut most = i64::MIN;
+    for rule in rules {
+        least = least.min(fewer(rule));
+        most = most.max(fewer(rule));
+    }
+    (least, most)
+}
+
 /// Whether so many steps can lead from the store to the end, by the numbers of atoms and the greatest weight.
 fn is_plausible(rules: &[Rule], store: &Bag, end: &End) -> bool {
     let steps = i64::try_from(end.steps).unwrap_or(i64::MAX);
     let lost = signed(store.len()).saturating_sub(signed(end.bag.len()));
-    let least = rules.iter().map(fewer).min().unwrap_or(0);
-    let most = rules.iter().map(fewer).max().unwrap_or(0);
+    let (least, most) = range_of_fewer(rules);
     steps <= signed(store.len()).saturating_mul(MAX_WEIGHT)
         && steps.saturating_mul(least) <= lost
         && lost <= steps.saturating_mul(most)
@@ -43,68 +53,55 @@ struct Sizes {
     most: usize,
 }
 
-/// What came of the stores of some programs.
-#[derive(Clone, Copy, Debug, Default)]
-struct Tally {
-    programs: usize,
-    /// Stores with more than two steps.
-    long: usize,
-    /// Stores that came to two ends.
-    torn: usize,
+/// One store in both pools.
+fn rest_in_both(
+    rt: &impl Abort,
+    alloc: Global,
+    weighed: &Weighed,
+    store: &Bag,
+    counts: &mut Counts,
+) {
+    let rules = weighed.program().rules();
+    let columns = end_in_columns(rt, alloc, weighed, store);
+    let list = end_in_list(rt, alloc, weighed, store);
+    let rests = is_at_rest(rt, alloc, weighed, store);
+    assert!(rt;
+        is_at_rest(rt, alloc, weighed, &columns.bag),
+        "an end with a step"
+    );
+    assert!(rt;
+        (columns.steps == 0) == rests,
+        "no step where there is one, or one where there is none"
+    );
+    assert!(rt;
+        is_plausible(rules, store, &columns),
+        "a number of steps in columns that cannot be"
+    );
+    assert!(rt;
+        is_plausible(rules, store, &list),
+        "a number of steps in a list that cannot be"
+    );
+    count(&mut counts.long, columns.steps > 2);
+    count(&mut counts.torn, !is_one(&columns.bag, &list.bag));
 }
 
-impl Tally {
-    /// One store in both pools.
-    fn run_one(&mut self, rt: &impl Abort, alloc: Global, weighed: &Weighed, store: &Bag) {
-        let rules = weighed.program().rules();
-        let columns = end_in_columns(rt, alloc, weighed, store);
-        let list = end_in_list(rt, alloc, weighed, store);
-        let rests = is_at_rest(rt, alloc, weighed, store);
-        assert!(rt;
-            is_at_rest(rt, alloc, weighed, &columns.bag),
-            "an end with a step"
-        );
-        assert!(rt;
-            (columns.steps == 0) == rests,
-            "no step where there is one, or one where there is none"
-        );
-        assert!(rt;
-            is_plausible(rules, store, &columns),
-            "a number of steps in columns that cannot be"
-        );
-        assert!(rt;
-            is_plausible(rules, store, &list),
-            "a number of steps in a list that cannot be"
-        );
-        count(&mut self.long, columns.steps > 2);
-        count(&mut self.torn, !is_one(&columns.bag, &list.bag));
+/// So many stores of a program in both pools, each with less than so many times the heads of a rule.
+fn rest_stores(
+    rt: &impl Abort,
+    alloc: Global,
+    random: &mut Random,
+    weighed: &Weighed,
+    sizes: Sizes,
+) -> Counts {
+    let rules = weighed.program().rules();
+    let values = values_of_rules(rt, alloc, rules);
+    let mut counts = Counts::of_a_program();
+    for _ in 0..sizes.stores {
+        let times = random.below(sizes.most.max(1));
+        let store = random_store(rt, alloc, random, rules, &values, times);
+        rest_in_both(rt, alloc, weighed, &store, &mut counts);
     }
-
-    /// So many stores of a program in both pools, each with less than so many times the heads of a rule.
-    fn run(
-        &mut self,
-        rt: &impl Abort,
-        alloc: Global,
-        random: &mut Random,
-        weighed: &Weighed,
-        sizes: Sizes,
-    ) {
-        let rules = weighed.program().rules();
-        let values = values_of_rules(rt, alloc, rules);
-        for _ in 0..sizes.stores {
-            let times = random.below(sizes.most.max(1));
-            let store = random_store(rt, alloc, random, rules, &values, times);
-            self.run_one(rt, alloc, weighed, &store);
-        }
-        count(&mut self.programs, true);
-    }
-}
-
-/// Programs that were accepted, and those that were refused.
-#[derive(Clone, Copy, Debug, Default)]
-struct Verdicts {
-    accepted: Tally,
-    refused: Tally,
+    counts
 }
 
 const OF_ACCEPTED: Sizes = Sizes {
@@ -116,22 +113,25 @@ const OF_REFUSED: Sizes = Sizes { stores: 3, most: 4 };
 
 const OF_WIDE: Sizes = Sizes { stores: 2, most: 3 };
 
-impl Verdicts {
-    fn run(
-        &mut self,
-        rt: &(impl Abort + Threads + Sync),
-        alloc: Global,
-        random: &mut Random,
-        weighed: Weighed,
-    ) {
-        match accept(rt, alloc, weighed, Coverage::Joint) {
-            Ok(found) => self
-                .accepted
-                .run(rt, alloc, random, found.weighed(), OF_ACCEPTED),
-            Err(found) => self
-                .refused
-                .run(rt, alloc, random, &found.weighed, OF_REFUSED),
-        }
+/// Adds what comes of a program's stores, of which there are more where it is accepted.
+fn add_program(
+    rt: &(impl Abort + Threads + Sync),
+    alloc: Global,
+    random: &mut Random,
+    weighed: Weighed,
+    verdicts: &mut Verdicts,
+) {
+    match verdict_on(rt, alloc, weighed) {
+        Ok(found) => verdicts.accepted.add(rest_stores(
+            rt,
+            alloc,
+            random,
+            found.weighed(),
+            OF_ACCEPTED,
+        )),
+        Err(found) => verdicts
+            .refused
+            .add(rest_stores(rt, alloc, random, &found.weighed, OF_REFUSED)),
     }
 }
 
@@ -143,26 +143,27 @@ fn pools_rest_alike(rt: HostRuntime) {
     for _ in 0..1_000 {
         let text = small_text(&rt, alloc, &mut random);
         if let Some(weighed) = weighed_of(alloc, &text) {
-            verdicts.run(&rt, alloc, &mut random, weighed);
+            add_program(&rt, alloc, &mut random, weighed, &mut verdicts);
         }
         assert!(rt; verdicts.accepted.torn == 0, "{text}");
     }
-    assert!(rt; verdicts.accepted.programs >= 100, "{verdicts:?}");
-    assert!(rt; verdicts.accepted.long >= 200, "{verdicts:?}");
-    assert!(rt; verdicts.refused.torn >= 20, "{verdicts:?}");
+    let Verdicts { accepted, refused } = verdicts;
+    assert!(rt;
+        accepted.programs >= 100 && accepted.long >= 200 && refused.torn >= 20,
+        "{verdicts:?}"
+    );
 }
 
 #[test]
 fn pools_rest_wide_programs(rt: HostRuntime) {
     let alloc = rt.alloc();
     let mut random = Random::new(8);
-    let mut all = Tally::default();
+    let mut all = Counts::default();
     for _ in 0..3_000 {
         let text = wide_text(&rt, alloc, &mut random);
         if let Some(weighed) = weighed_of(alloc, &text) {
-            all.run(&rt, alloc, &mut random, &weighed, OF_WIDE);
+            all.add(rest_stores(&rt, alloc, &mut random, &weighed, OF_WIDE));
         }
     }
-    assert!(rt; all.programs >= 600, "{all:?}");
-    assert!(rt; all.long >= 100, "{all:?}");
+    assert!(rt; all.programs >= 600 && all.long >= 100, "{all:?}");
 }

@@ -1,11 +1,7 @@
 //! Bytes that may not stand in a text, and tokens cut by comments.
-use super::{Outcome, expect_each, outcome_of};
+use super::{Outcome, expect_each, outcome_of, push_bytes};
 use std::alloc::Global;
 use std::process::Abort;
-
-fn push_bytes(rt: &impl Abort, text: &mut Vec<u8>, more: &[u8]) {
-    text.extend_from_slice(more).expect(rt, "memory");
-}
 
 /// Compares the faults of clauses after a declaration, which end the text.
 fn expect_faults_of_bytes(rt: &impl Abort, alloc: Global, rows: &[(&[u8], u8)]) {
@@ -61,14 +57,17 @@ const IN_COMMENTS: [&[u8]; 2] = [
     b":-%\x0b.\nuse_module(%\x80\r\nlibrary%.\n(chr)).%~",
 ];
 
+fn expect_empty_programs(rt: &impl Abort, alloc: Global, texts: &[&[u8]]) {
+    for text in texts {
+        let found = outcome_of(rt, alloc, text);
+        assert!(rt; found == Outcome::Program(0, 0), "{text:?}");
+    }
+}
+
 /// In comments any bytes may stand.
 #[test]
 fn bytes_in_comments(rt: HostRuntime) {
-    let alloc = rt.alloc();
-    for text in IN_COMMENTS {
-        let found = outcome_of(&rt, alloc, text);
-        assert!(rt; found == Outcome::Program(0, 0), "{text:?}");
-    }
+    expect_empty_programs(&rt, rt.alloc(), &IN_COMMENTS);
 }
 
 const COMMENTS_IN_TOKENS: &[&str] = &[

@@ -1,4 +1,5 @@
 //! Clauses as they are written, and the bytes around them. Where memory runs out a test ends.
+use super::push_bytes;
 use chr_syntax::{
     ClauseFault, Comparator, RawAtom, RawClause, RawComparison, RawRule, RawSymbol, RawTerm,
     RestFault, clause_in, next_clause, rest_fault, without_comments,
@@ -6,14 +7,10 @@ use chr_syntax::{
 use std::alloc::Global;
 use std::process::Abort;
 
-fn push(rt: &impl Abort, out: &mut Vec<u8>, bytes: &[u8]) {
-    out.extend_from_slice(bytes).expect(rt, "memory");
-}
-
 /// A mark, and a text after it.
 fn push_marked(rt: &impl Abort, out: &mut Vec<u8>, mark: &[u8], text: &[u8]) {
-    push(rt, out, mark);
-    push(rt, out, text);
+    push_bytes(rt, out, mark);
+    push_bytes(rt, out, text);
 }
 
 fn push_term(rt: &impl Abort, out: &mut Vec<u8>, term: RawTerm<'_>) {
@@ -30,9 +27,9 @@ fn push_terms(rt: &impl Abort, out: &mut Vec<u8>, terms: &[RawTerm<'_>]) {
 }
 
 fn push_atom(rt: &impl Abort, out: &mut Vec<u8>, atom: &RawAtom<'_>) {
-    push(rt, out, atom.name);
+    push_bytes(rt, out, atom.name);
     push_terms(rt, out, &atom.args);
-    push(rt, out, b" ");
+    push_bytes(rt, out, b" ");
 }
 
 fn push_atoms(rt: &impl Abort, out: &mut Vec<u8>, atoms: &[RawAtom<'_>]) {
@@ -54,16 +51,16 @@ fn mark_of(comparator: Comparator) -> &'static [u8] {
 
 fn push_comparison(rt: &impl Abort, out: &mut Vec<u8>, item: &RawComparison<'_>) {
     push_term(rt, out, item.left);
-    push(rt, out, mark_of(item.comparator));
+    push_bytes(rt, out, mark_of(item.comparator));
     push_term(rt, out, item.right);
-    push(rt, out, b" ");
+    push_bytes(rt, out, b" ");
 }
 
 fn push_guard(rt: &impl Abort, out: &mut Vec<u8>, guard: &[Option<RawComparison<'_>>]) {
     for item in guard {
         match item {
             Some(comparison) => push_comparison(rt, out, comparison),
-            None => push(rt, out, b"true "),
+            None => push_bytes(rt, out, b"true "),
         }
     }
 }
@@ -72,7 +69,7 @@ fn push_body(rt: &impl Abort, out: &mut Vec<u8>, body: &[Option<RawAtom<'_>>]) {
     for item in body {
         match item {
             Some(atom) => push_atom(rt, out, atom),
-            None => push(rt, out, b"true "),
+            None => push_bytes(rt, out, b"true "),
         }
     }
 }
@@ -86,20 +83,20 @@ fn push_label(rt: &impl Abort, out: &mut Vec<u8>, label: Option<&[u8]>) {
 fn push_heads(rt: &impl Abort, out: &mut Vec<u8>, rule: &RawRule<'_>) {
     push_label(rt, out, rule.label);
     push_atoms(rt, out, &rule.kept);
-    push(rt, out, b"-");
+    push_bytes(rt, out, b"-");
     push_atoms(rt, out, &rule.removed);
 }
 
 fn push_rule(rt: &impl Abort, out: &mut Vec<u8>, rule: &RawRule<'_>) {
     push_heads(rt, out, rule);
-    push(rt, out, b":");
+    push_bytes(rt, out, b":");
     push_guard(rt, out, &rule.guard);
-    push(rt, out, b"|");
+    push_bytes(rt, out, b"|");
     push_body(rt, out, &rule.body);
 }
 
 fn push_propagation(rt: &impl Abort, out: &mut Vec<u8>, rule: &RawRule<'_>) {
-    push(rt, out, b"*");
+    push_bytes(rt, out, b"*");
     push_rule(rt, out, rule);
 }
 
@@ -135,7 +132,7 @@ fn push_weight(
 /// What was read, a mark before each part.
 fn push_clause(rt: &impl Abort, out: &mut Vec<u8>, clause: &RawClause<'_>) {
     match clause {
-        RawClause::UseModule => push(rt, out, b"module"),
+        RawClause::UseModule => push_bytes(rt, out, b"module"),
         RawClause::Declare(symbols) => push_symbols(rt, out, symbols),
         RawClause::Weight {
             symbol,
@@ -150,8 +147,8 @@ fn push_clause(rt: &impl Abort, out: &mut Vec<u8>, clause: &RawClause<'_>) {
 fn push_fault(rt: &impl Abort, out: &mut Vec<u8>, fault: &ClauseFault) {
     match fault {
         ClauseFault::Memory => panic!(rt; "out of memory"),
-        ClauseFault::BadByte => push(rt, out, b"BadByte"),
-        ClauseFault::Syntax => push(rt, out, b"Syntax"),
+        ClauseFault::BadByte => push_bytes(rt, out, b"BadByte"),
+        ClauseFault::Syntax => push_bytes(rt, out, b"Syntax"),
     }
 }
 
@@ -425,12 +422,15 @@ const BAD_BYTES: [&[u8]; 12] = [
     b"\x80~",
 ];
 
+fn expect_bad_bytes(rt: &impl Abort, alloc: Global, rows: &[&[u8]]) {
+    for bytes in rows {
+        assert!(rt; is_described(rt, alloc, bytes, b"BadByte"), "at {bytes:?}");
+    }
+}
+
 #[test]
 fn bad_bytes(rt: HostRuntime) {
-    let alloc = rt.alloc();
-    for bytes in BAD_BYTES {
-        assert!(rt; is_described(&rt, alloc, bytes, b"BadByte"), "at {bytes:?}");
-    }
+    expect_bad_bytes(&rt, rt.alloc(), &BAD_BYTES);
 }
 
 fn is_without_comments(rt: &impl Abort, alloc: Global, bytes: &[u8], rest: &[u8]) -> bool {
@@ -458,6 +458,12 @@ fn texts(rt: HostRuntime) {
     assert!(rt; next_clause(b"").is_none());
 }
 
+fn expect_without_comments(rt: &impl Abort, alloc: Global, rows: &[(&[u8], &[u8])]) {
+    for (bytes, rest) in rows {
+        assert!(rt; is_without_comments(rt, alloc, bytes, rest), "at {bytes:?}");
+    }
+}
+
 /// Of a comment nothing stays, and the line feed after it does.
 const COMMENTS: [(&[u8], &[u8]); 7] = [
     (b"%", b""),
@@ -471,13 +477,7 @@ const COMMENTS: [(&[u8], &[u8]); 7] = [
 
 #[test]
 fn comments(rt: HostRuntime) {
-    let alloc = rt.alloc();
-    for (bytes, rest) in COMMENTS {
-        assert!(rt;
-            is_without_comments(&rt, alloc, bytes, rest),
-            "at {bytes:?}"
-        );
-    }
+    expect_without_comments(&rt, rt.alloc(), &COMMENTS);
 }
 
 const RESTS: [(&[u8], Option<RestFault>); 11] = [
@@ -498,9 +498,13 @@ fn has_rest_fault(bytes: &[u8], expected: Option<RestFault>) -> bool {
     rest_fault(bytes) == expected
 }
 
+fn expect_rests(rt: &impl Abort, rows: &[(&[u8], Option<RestFault>)]) {
+    for (bytes, fault) in rows {
+        assert!(rt; has_rest_fault(bytes, *fault), "at {bytes:?}");
+    }
+}
+
 #[test]
 fn rests(rt: HostRuntime) {
-    for (bytes, fault) in RESTS {
-        assert!(rt; has_rest_fault(bytes, fault), "at {bytes:?}");
-    }
+    expect_rests(&rt, &RESTS);
 }

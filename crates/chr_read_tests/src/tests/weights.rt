@@ -233,13 +233,16 @@ const WRITTEN: &[(&str, &str)] = &[
     ("1000000,1000000", ":- chr_weight b/0 = 1000000,1000000.\n"),
 ];
 
+fn expect_all_written(rt: &impl Abort, alloc: Global, rows: &[(&str, &str)]) {
+    for (numbers, line) in rows {
+        expect_written(rt, alloc, numbers, line);
+    }
+}
+
 /// The default is not written, and a second number of 0 neither.
 #[test]
 fn written_weights(rt: HostRuntime) {
-    let alloc = rt.alloc();
-    for (numbers, line) in WRITTEN {
-        expect_written(&rt, alloc, numbers, line);
-    }
+    expect_all_written(&rt, rt.alloc(), WRITTEN);
 }
 
 /// Each symbol keeps its own weight, whatever the order of the clauses.

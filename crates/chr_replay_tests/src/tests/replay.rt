@@ -6,7 +6,8 @@ mod receipts;
 mod replica;
 mod values;
 
-use crate::tests::replay::clerks::{Clerk, Side, give, work};
+use crate::tests::calls::opened;
+use crate::tests::replay::clerks::{Clerk, Side, exchange, work};
 use crate::tests::replay::receipts::all_stand_in;
 use crate::tests::replay::replica::Replica;
 use chr_acts::{Book, Reply};
@@ -96,8 +97,8 @@ fn end<J: Naming, K: Naming, R: Abort + Wait>(
     clerks: &mut [Clerk<J, K>],
 ) {
     let clerk = clerks.first_mut().expect(rt, "a thread");
-    give(rt, alloc, one, &mut clerk.one, other, &mut clerk.other);
-    give(rt, alloc, other, &mut clerk.other, one, &mut clerk.one);
+    exchange(rt, alloc, one, &mut clerk.one, other, &mut clerk.other);
+    exchange(rt, alloc, other, &mut clerk.other, one, &mut clerk.one);
     bring_to_rest(rt, alloc, one, &mut clerk.one);
     bring_to_rest(rt, alloc, other, &mut clerk.other);
 }
@@ -152,10 +153,8 @@ fn share<J: Naming + Send + Sync, K: Naming + Send + Sync, R: Abort + Threads + 
     requires first { first ≡ J.opening }
     requires second { second ≡ K.opening }
 {
-    let opened = Shared::<J>::open(alloc, first).ok();
-    let (one, seats) = opened.expect(rt, "memory");
-    let opened = Shared::<K>::open(alloc, second).ok();
-    let (other, others) = opened.expect(rt, "memory");
+    let (one, seats) = opened::<J, _>(rt, alloc, first);
+    let (other, others) = opened::<K, _>(rt, alloc, second);
     let jobs = clerks_of(rt, alloc, seats, others, seed);
     let (here, there) = (&one, &other);
     let work = |clerk: Clerk<J, K>| -> Clerk<J, K> {
@@ -201,8 +200,8 @@ fn run(
     agree
 }
 
-/// Runs with that many seats and up to three more. How many came to the same operations.
-fn runs(rt: &(impl Abort + Threads + Wait + Sync), alloc: Global, least: u32) -> u32 {
+/// Runs with that many seats and up to three more. Enough of them come to the same operations in both books.
+fn check_runs(rt: &(impl Abort + Threads + Wait + Sync), alloc: Global, least: u32) {
     let program = accepted(rt, alloc, MINIMUM).expect(rt, "a program");
     let mut agreed = 0u32;
     for seed in 0..RUNS {
@@ -210,29 +209,25 @@ fn runs(rt: &(impl Abort + Threads + Wait + Sync), alloc: Global, least: u32) ->
         let seed = seed.wrapping_add(u64::from(least) * 1_000);
         agreed = agreed.wrapping_add(u32::from(run(rt, alloc, &program, seats, seed)));
     }
-    agreed
+    assert!(rt; agreed >= 20, "{agreed}");
 }
 
 #[test]
 fn few_seats_replay(rt: HostRuntime) {
-    let agreed = runs(&rt, rt.alloc(), 2);
-    assert!(rt; agreed >= 20, "{agreed}");
+    check_runs(&rt, rt.alloc(), 2);
 }
 
 #[test]
 fn up_to_nine_seats_replay(rt: HostRuntime) {
-    let agreed = runs(&rt, rt.alloc(), 6);
-    assert!(rt; agreed >= 20, "{agreed}");
+    check_runs(&rt, rt.alloc(), 6);
 }
 
 #[test]
 fn up_to_thirteen_seats_replay(rt: HostRuntime) {
-    let agreed = runs(&rt, rt.alloc(), 10);
-    assert!(rt; agreed >= 20, "{agreed}");
+    check_runs(&rt, rt.alloc(), 10);
 }
 
 #[test]
 fn sixteen_seats_replay(rt: HostRuntime) {
-    let agreed = runs(&rt, rt.alloc(), 13);
-    assert!(rt; agreed >= 20, "{agreed}");
+    check_runs(&rt, rt.alloc(), 13);
 }

@@ -8,34 +8,34 @@ use std::alloc::Global;
 use std::process::Abort;
 use std::thread::Threads;
 
+/// The program, number and atoms of an operation.
+type Row = (&'static str, u64, &'static str);
+
 /// A board that was told 5 answers so to an operation, and stays as it is.
 fn answers(
     rt: &(impl Abort + Threads + Sync),
     alloc: Global,
-    op: Op,
+    row: Row,
     expected: Result<Added, Refusal>,
 ) {
+    let (program, number, atoms) = row;
     let mut board = told(rt, alloc, MINIMUM, "min(5)");
-    assert!(rt; tells(alloc, &mut board, op, expected));
+    let op = op(rt, alloc, program, number, atoms);
+    assert!(rt; tells(alloc, &mut board, op, expected), "{atoms}");
     settles(rt, alloc, &mut board, 0, "min(5)");
 }
 
 #[test]
 fn repeats_are_told_again(rt: HostRuntime) {
-    let alloc = rt.alloc();
-    let again = op(&rt, alloc, MINIMUM, 1, "min(5)");
-    answers(&rt, alloc, again, Ok(Added::Again));
+    let again = (MINIMUM, 1, "min(5)");
+    answers(&rt, rt.alloc(), again, Ok(Added::Again));
 }
 
 #[test]
 fn symbols_of_other_programs_are_not_told(rt: HostRuntime) {
-    let alloc = rt.alloc();
-    let unknown = op(&rt, alloc, COINS, 3, "note");
-    answers(&rt, alloc, unknown, Err(Refusal::UnknownSymbol));
+    let unknown = (COINS, 3, "note");
+    answers(&rt, rt.alloc(), unknown, Err(Refusal::UnknownSymbol));
 }
-
-/// The program, number and atoms of an operation.
-type Row = (&'static str, u64, &'static str);
 
 fn ops(rt: &impl Abort, alloc: Global, rows: &[Row]) -> Vec<Op> {
     let mut ops = Vec::new(alloc);

@@ -8,6 +8,7 @@ use chr_replica::{Board, Refusal};
 use chr_testing::texts::{COINS, MINIMUM};
 use std::alloc::Global;
 use std::process::Abort;
+use std::thread::Threads;
 
 /// What a board is asked.
 #[derive(Clone, Copy)]
@@ -92,6 +93,31 @@ fn answers(rt: &impl Abort, alloc: Global, board: &mut Board, rows: &[(Call, Opt
     }
 }
 
+/// A board that was told these atoms, and answers so to these calls, in turn.
+fn board_after(
+    rt: &(impl Abort + Threads + Sync),
+    alloc: Global,
+    atoms: &str,
+    rows: &[(Call, Option<Refusal>)],
+) -> Board {
+    let mut board = told(rt, alloc, MINIMUM, atoms);
+    answers(rt, alloc, &mut board, rows);
+    board
+}
+
+/// Such a board comes to rest in so many steps, and shows this store then.
+fn settles_after(
+    rt: &(impl Abort + Threads + Sync),
+    alloc: Global,
+    atoms: &str,
+    rows: &[(Call, Option<Refusal>)],
+    steps: u64,
+    end: &str,
+) {
+    let mut board = board_after(rt, alloc, atoms, rows);
+    settles(rt, alloc, &mut board, steps, end);
+}
+
 const LATE: [(Call, Option<Refusal>); 5] = [
     (Call::Show, Some(Refusal::NotAtRest)),
     (Call::Take(1, "min(5)"), None),
@@ -102,10 +128,7 @@ const LATE: [(Call, Option<Refusal>); 5] = [
 
 #[test]
 fn a_late_return_is_refused(rt: HostRuntime) {
-    let alloc = rt.alloc();
-    let mut board = told(&rt, alloc, MINIMUM, "min(5), min(3)");
-    answers(&rt, alloc, &mut board, &LATE);
-    settles(&rt, alloc, &mut board, 1, "min(3)");
+    settles_after(&rt, rt.alloc(), "min(5), min(3)", &LATE, 1, "min(3)");
 }
 
 const UNSETTLED: [(Call, Option<Refusal>); 3] = [
@@ -116,9 +139,7 @@ const UNSETTLED: [(Call, Option<Refusal>); 3] = [
 
 #[test]
 fn unsettled_boards_show_nothing(rt: HostRuntime) {
-    let alloc = rt.alloc();
-    let mut board = told(&rt, alloc, MINIMUM, "min(5), min(3)");
-    answers(&rt, alloc, &mut board, &UNSETTLED);
+    board_after(&rt, rt.alloc(), "min(5), min(3)", &UNSETTLED);
 }
 
 const NOT_THERE: [(Call, Option<Refusal>); 1] = [(
@@ -128,10 +149,7 @@ const NOT_THERE: [(Call, Option<Refusal>); 1] = [(
 
 #[test]
 fn only_what_is_there_is_leased(rt: HostRuntime) {
-    let alloc = rt.alloc();
-    let mut board = told(&rt, alloc, MINIMUM, "min(3)");
-    answers(&rt, alloc, &mut board, &NOT_THERE);
-    settles(&rt, alloc, &mut board, 0, "min(3)");
+    settles_after(&rt, rt.alloc(), "min(3)", &NOT_THERE, 0, "min(3)");
 }
 
 const RECALLED_TWICE: [(Call, Option<Refusal>); 3] = [
@@ -142,9 +160,7 @@ const RECALLED_TWICE: [(Call, Option<Refusal>); 3] = [
 
 #[test]
 fn a_lease_is_recalled_once(rt: HostRuntime) {
-    let alloc = rt.alloc();
-    let mut board = told(&rt, alloc, MINIMUM, "min(5), min(3)");
-    answers(&rt, alloc, &mut board, &RECALLED_TWICE);
+    board_after(&rt, rt.alloc(), "min(5), min(3)", &RECALLED_TWICE);
 }
 
 /// Whether so many leases are out, the least of which has this number.
@@ -165,8 +181,7 @@ const TAKEN: [(Call, Option<Refusal>); 1] = [(Call::Take(1, "min(5), min(9)"), N
 #[test]
 fn leases_that_are_out_are_known(rt: HostRuntime) {
     let alloc = rt.alloc();
-    let mut board = told(&rt, alloc, MINIMUM, "min(5), min(3), min(9)");
-    answers(&rt, alloc, &mut board, &TAKEN);
+    let board = board_after(&rt, alloc, "min(5), min(3), min(9)", &TAKEN);
     let part = store(&rt, alloc, MINIMUM, "min(5), min(9)");
     assert!(rt; hands_out(alloc, &board, 1, &part));
     assert!(rt; has_out(&board, 1, Some(1)));
@@ -180,8 +195,7 @@ const PUT: [(Call, Option<Refusal>); 2] = [
 #[test]
 fn what_comes_of_a_lease_is_put(rt: HostRuntime) {
     let alloc = rt.alloc();
-    let mut board = told(&rt, alloc, MINIMUM, "min(5), min(3), min(9)");
-    answers(&rt, alloc, &mut board, &PUT);
+    let mut board = board_after(&rt, alloc, "min(5), min(3), min(9)", &PUT);
     assert!(rt; has_out(&board, 0, None));
     settles(&rt, alloc, &mut board, 1, "min(3)");
 }
@@ -194,10 +208,14 @@ const PUT_TWICE: [(Call, Option<Refusal>); 3] = [
 
 #[test]
 fn a_second_return_is_refused(rt: HostRuntime) {
-    let alloc = rt.alloc();
-    let mut board = told(&rt, alloc, MINIMUM, "min(5), min(3), min(9)");
-    answers(&rt, alloc, &mut board, &PUT_TWICE);
-    settles(&rt, alloc, &mut board, 1, "min(3)");
+    settles_after(
+        &rt,
+        rt.alloc(),
+        "min(5), min(3), min(9)",
+        &PUT_TWICE,
+        1,
+        "min(3)",
+    );
 }
 
 /// The leases of the parts into which the pool is cut.

@@ -1,7 +1,9 @@
 //! A board that is told as many atoms as it may be.
 use crate::tests::boards::{opened, tells};
 use chr_base::bag::Bag;
+use chr_base::limits::{MAX_PARTS, MAX_REPLICAS, MAX_WORKERS};
 use chr_ops::{Added, MAX_OPERATION, MAX_TOLD, Op, OpId};
+use chr_replica::limits::LAST_LEASE;
 use chr_replica::{Board, Limit, Refusal};
 use chr_testing::atoms::atom;
 use std::alloc::Global;
@@ -73,4 +75,21 @@ fn a_full_board_takes_nothing_new(rt: HostRuntime) {
     let held = op_of(&rt, alloc, 7, SIZE);
     merges_none(&rt, alloc, &mut board, new, held);
     is_full(&rt, alloc, &board);
+}
+
+/// The limits that contracts of replicas name, with their numbers.
+const LIMITS: [(u64, u64); 6] = [
+    (MAX_OPERATION as u64, 64),
+    (MAX_TOLD, 1_000_000),
+    (MAX_REPLICAS as u64, 16),
+    (MAX_WORKERS as u64, 16),
+    (MAX_PARTS as u64, 64),
+    (LAST_LEASE, 1_000_000_000_000),
+];
+
+#[test]
+fn limits_have_these_numbers(rt: HostRuntime) {
+    for (limit, number) in &LIMITS {
+        assert!(rt; *limit == *number, "{number}");
+    }
 }

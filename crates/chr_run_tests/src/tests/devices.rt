@@ -1,75 +1,105 @@
 //! Devices that fail, or that take a byte a call.
-use super::{PLAIN, ROOM};
+use super::{PLAIN, room};
 use chr_device::testing::{Drips, FailsAt};
 use chr_report::{RunFault, Status, Watched, run};
-use std::test::Fail;
+use std::alloc::Global;
+use std::process::Abort;
+use std::random::RandomSource;
+use std::sync::Wait;
+use std::thread::Threads;
 
 const INPUT: &[u8] =
     b":- chr_constraint a/0.\n---\n[\"tell\",1,[1,1],[[\"a\"]]]\n[\"show\",1]\nx\n";
 
 const OUTPUT: &[u8] = b"accepted: rules 0, cases 0\ntold\na\nrefused 30\n";
 
-#[test]
-fn a_byte_a_call(rt: HostRuntime) -> Result<(), Fail> {
+/// How a run ended, and what was written.
+#[derive(Drop)]
+struct Ended {
+    result: Result<Status, RunFault>,
+    reader_failed: bool,
+    writer_failed: bool,
+    written: Vec<u8>,
+}
+
+/// How a run ends whose writer takes a byte a call, and fails at this one. At 0 none fails.
+fn dripped(
+    rt: &(impl Abort + RandomSource + Threads + Wait + Sync),
+    alloc: Global,
+    call: u64,
+) -> Ended {
     let mut reader = Watched::of(INPUT);
-    let mut writer = Watched::of(Drips::of(Vec::with_capacity(rt.alloc(), ROOM)?));
-    let status = run(&rt, rt.alloc(), &mut reader, &mut writer, PLAIN)?;
-    assert_eq!(rt; status, Status::Accepted);
-    assert!(rt; !reader.failed());
-    assert!(rt; !writer.failed());
-    assert_eq!(rt; writer.into_inner().into_inner().as_slice(), OUTPUT);
-    Ok(())
+    let mut writer = Watched::of(FailsAt::of(Drips::of(room(rt, alloc)), call));
+    let result = run(rt, alloc, &mut reader, &mut writer, PLAIN);
+    Ended {
+        result,
+        reader_failed: reader.failed(),
+        writer_failed: writer.failed(),
+        written: writer.into_inner().into_inner().into_inner(),
+    }
+}
+
+#[test]
+fn a_byte_a_call(rt: HostRuntime) {
+    let ended = dripped(&rt, rt.alloc(), 0);
+    assert!(rt; ended.result == Ok(Status::Accepted));
+    assert!(rt; !ended.reader_failed);
+    assert!(rt; !ended.writer_failed);
+    assert!(rt; ended.written.as_slice() == OUTPUT);
+}
+
+/// Whether the writer's fault is told after so many bytes, which are written.
+fn fails_after(
+    rt: &(impl Abort + RandomSource + Threads + Wait + Sync),
+    alloc: Global,
+    bytes: usize,
+) -> bool {
+    let ended = dripped(rt, alloc, (bytes as u64).saturating_add(1));
+    ended.result == Err(RunFault::Device)
+        && ended.writer_failed
+        && OUTPUT.get(..bytes) == Some(ended.written.as_slice())
 }
 
 /// A beginning of the output is written.
 #[test]
-fn failing_writers(rt: HostRuntime) -> Result<(), Fail> {
-    for call in 1..=OUTPUT.len() {
-        let mut reader = Watched::of(INPUT);
-        let drips = Drips::of(Vec::with_capacity(rt.alloc(), ROOM)?);
-        let mut writer = Watched::of(FailsAt::of(drips, u64::try_from(call)?));
-        let result = run(&rt, rt.alloc(), &mut reader, &mut writer, PLAIN);
-        if result == Err(RunFault::Memory) {
-            result?;
-        }
-        assert_eq!(rt; result, Err(RunFault::Device), "{call}");
-        assert!(rt; writer.failed());
-        let written = writer.into_inner().into_inner().into_inner();
-        assert_eq!(rt; written.as_slice(), &OUTPUT[..call - 1], "{call}");
+fn failing_writers(rt: HostRuntime) {
+    let alloc = rt.alloc();
+    for bytes in 0..OUTPUT.len() {
+        assert!(rt; fails_after(&rt, alloc, bytes), "after {bytes}");
     }
-    Ok(())
 }
 
 /// All is written before the flush, which is one call more.
 #[test]
-fn failing_flush(rt: HostRuntime) -> Result<(), Fail> {
-    let calls = u64::try_from(OUTPUT.len())?.saturating_add(1);
-    let mut reader = Watched::of(INPUT);
-    let drips = Drips::of(Vec::with_capacity(rt.alloc(), ROOM)?);
-    let mut writer = Watched::of(FailsAt::of(drips, calls));
-    let result = run(&rt, rt.alloc(), &mut reader, &mut writer, PLAIN);
-    if result == Err(RunFault::Memory) {
-        result?;
+fn failing_flush(rt: HostRuntime) {
+    assert!(rt; fails_after(&rt, rt.alloc(), OUTPUT.len()));
+}
+
+/// How a run ends whose reader fails at this call.
+fn unread(
+    rt: &(impl Abort + RandomSource + Threads + Wait + Sync),
+    alloc: Global,
+    call: u64,
+) -> Ended {
+    let mut reader = Watched::of(FailsAt::of(INPUT, call));
+    let mut writer = Watched::of(room(rt, alloc));
+    let result = run(rt, alloc, &mut reader, &mut writer, PLAIN);
+    Ended {
+        result,
+        reader_failed: reader.failed(),
+        writer_failed: writer.failed(),
+        written: writer.into_inner(),
     }
-    assert_eq!(rt; result, Err(RunFault::Device));
-    let written = writer.into_inner().into_inner().into_inner();
-    assert_eq!(rt; written.as_slice(), OUTPUT);
-    Ok(())
 }
 
 /// Nothing is written before all was read.
 #[test]
-fn failing_readers(rt: HostRuntime) -> Result<(), Fail> {
+fn failing_readers(rt: HostRuntime) {
+    let alloc = rt.alloc();
     for call in [1, 2] {
-        let mut reader = Watched::of(FailsAt::of(INPUT, call));
-        let mut writer = Watched::of(Vec::with_capacity(rt.alloc(), ROOM)?);
-        let result = run(&rt, rt.alloc(), &mut reader, &mut writer, PLAIN);
-        if result == Err(RunFault::Memory) {
-            result?;
-        }
-        assert_eq!(rt; result, Err(RunFault::Device), "{call}");
-        assert!(rt; reader.failed());
-        assert!(rt; writer.into_inner().is_empty());
+        let ended = unread(&rt, alloc, call);
+        assert!(rt; ended.result == Err(RunFault::Device), "at call {call}");
+        assert!(rt; ended.reader_failed, "at call {call}");
+        assert!(rt; ended.written.is_empty(), "at call {call}");
     }
-    Ok(())
 }

@@ -1,15 +1,13 @@
 //! Services over memory: lines are answered as they come.
-ghost use Rattle.std.specs.Prelude.{◌≡◌, None, IfOk, false};
-ghost use Rattle.chr_device.specs.Settings.{IsWithinLimits};
+ghost use Rattle.std.specs.Prelude.{None};
 
-use super::{PLAIN, ROOM, outcome};
+use super::{PLAIN, outcome, room};
 use chr_device::testing::{Drips, FailsAt};
-use chr_report::{RunFault, Settings, Status, Streams, Watched, Wire, serve};
-use std::alloc::{AllocError, Global};
+use chr_report::{RunFault, Status, Streams, Watched, Wire, serve};
+use std::alloc::Global;
 use std::process::Abort;
 use std::random::RandomSource;
 use std::sync::Wait;
-use std::test::Fail;
 use std::thread::Threads;
 
 const INPUT: &[u8] =
@@ -34,25 +32,16 @@ struct Peer<'a> {
 
 /// How many line feeds there are.
 fn feeds(bytes: &[u8]) -> usize {
-    bytes.iter().filter(|byte| **byte == b'\n').count()
+    let mut feeds: usize = 0;
+    for byte in bytes {
+        if *byte == b'\n' {
+            feeds = feeds.saturating_add(1);
+        }
+    }
+    feeds
 }
 
 impl<'a> Peer<'a> {
-    /// A peer that was sent nothing, with room for all that a test sends.
-    fn of(alloc: Global, input: &'a [u8], most: usize) -> Result<Peer<'a>, AllocError>
-        ensures { IfOk result (λ peer. peer.failed ≡ false) }
-    {
-        Ok(Peer {
-            rest: input,
-            most,
-            lines: 0,
-            waits: 0,
-            kept_waiting: false,
-            failed: false,
-            sent: Vec::with_capacity(alloc, ROOM)?,
-        })
-    }
-
     /// How many answers the lines have that it gave.
     fn due(&self) -> usize {
         match self.lines.checked_sub(TEXT_LINES) {
@@ -97,131 +86,193 @@ impl<'a> Wire for Peer<'a> {
     }
 }
 
-/// Each whole line is answered before the peer is waited for, however few bytes it gives.
-#[test]
-fn lines_are_answered_at_once(rt: HostRuntime) -> Result<(), Fail> {
-    for most in [1, 2, 3, 7, 64, 4_096] {
-        let mut peer = Peer::of(rt.alloc(), INPUT, most)?;
-        let status = serve(&rt, rt.alloc(), &mut peer, PLAIN)?;
-        assert_eq!(rt; status, Status::Accepted, "{most}");
-        assert!(rt; !peer.kept_waiting, "{most}");
-        assert_eq!(rt; peer.sent.as_slice(), OUTPUT, "{most}");
-        assert_eq!(rt;
-            peer.waits,
-            INPUT.len().div_ceil(most).saturating_add(1),
-            "{most}"
-        );
-    }
-    Ok(())
+/// The status of a service of a peer that gives at most so many bytes a wait, and the peer after it.
+fn served<'a>(
+    rt: &(impl Abort + RandomSource + Threads + Wait + Sync),
+    alloc: Global,
+    input: &'a [u8],
+    most: usize,
+) -> (Status, Peer<'a>) {
+    let mut peer = Peer {
+        rest: input,
+        most,
+        lines: 0,
+        waits: 0,
+        kept_waiting: false,
+        failed: false,
+        sent: room(rt, alloc),
+    };
+    let status = serve(rt, alloc, &mut peer, PLAIN).expect(rt, "a service");
+    (status, peer)
 }
 
-/// What is sent is what a run writes.
-pub(super) fn expect_served(
+/// How many waits give a text of so many bytes, and its end.
+fn waits_for(len: usize, most: usize) -> usize {
+    len.div_ceil(most.max(1)).saturating_add(1)
+}
+
+/// Whether the input is answered as it comes, by so many waits.
+fn is_answered_at_once(
+    rt: &(impl Abort + RandomSource + Threads + Wait + Sync),
+    alloc: Global,
+    most: usize,
+) -> bool {
+    let (status, peer) = served(rt, alloc, INPUT, most);
+    status == Status::Accepted
+        && !peer.kept_waiting
+        && peer.sent.as_slice() == OUTPUT
+        && peer.waits == waits_for(INPUT.len(), most)
+}
+
+/// Each whole line is answered before the peer is waited for, however few bytes it gives.
+#[test]
+fn lines_are_answered_at_once(rt: HostRuntime) {
+    let alloc = rt.alloc();
+    for most in [1, 2, 3, 7, 64, 4_096] {
+        assert!(rt; is_answered_at_once(&rt, alloc, most), "{most} a wait");
+    }
+}
+
+/// The status of a service over a reader and a writer, and all that was sent.
+fn streamed(
     rt: &(impl Abort + RandomSource + Threads + Wait + Sync),
     alloc: Global,
     input: &[u8],
-) -> Result<(), RunFault> {
-    let (status, written) = outcome(rt, alloc, PLAIN, input)?;
+) -> (Status, Vec<u8>) {
     let mut wire = Streams {
         reader: Watched::of(input),
-        writer: Watched::of(Vec::with_capacity(alloc, ROOM)?),
+        writer: Watched::of(room(rt, alloc)),
     };
-    assert_eq!(rt; serve(rt, alloc, &mut wire, PLAIN)?, status);
+    let status = serve(rt, alloc, &mut wire, PLAIN).expect(rt, "a service");
     let Streams { reader: _, writer } = wire;
-    assert_eq!(rt; writer.into_inner(), written);
-    Ok(())
+    (status, writer.into_inner())
 }
 
+/// Whether what is sent is what a run writes.
+fn is_served_as_run(
+    rt: &(impl Abort + RandomSource + Threads + Wait + Sync),
+    alloc: Global,
+    input: &[u8],
+) -> bool {
+    let (status, written) = outcome(rt, alloc, PLAIN, input);
+    let (served, sent) = streamed(rt, alloc, input);
+    served == status && sent == written
+}
+
+const INPUTS: [&str; 14] = [
+    "",
+    "\n",
+    "---",
+    "---\r",
+    "---\n",
+    ":- chr_constraint a/0.",
+    ":- chr_constraint a/0.\n",
+    ":- chr_constraint a/0.\n---",
+    ":- chr_constraint a/0.\n---\n---\n[\"show\",1]\n",
+    "x",
+    "x.\n---\n[\"show\",1]\n",
+    ":- chr_constraint a/0.\na ==> a.\n---\n[\"show\",1]\n",
+    "---\n[\"show\",1]\n\n \t\n[\"show\",1]\r",
+    "---\n[\"show\",2]\n",
+];
+
 #[test]
-fn the_output_is_that_of_a_run(rt: HostRuntime) -> Result<(), Fail> {
-    for input in [
-        "",
-        "\n",
-        "---",
-        "---\r",
-        "---\n",
-        ":- chr_constraint a/0.",
-        ":- chr_constraint a/0.\n",
-        ":- chr_constraint a/0.\n---",
-        ":- chr_constraint a/0.\n---\n---\n[\"show\",1]\n",
-        "x",
-        "x.\n---\n[\"show\",1]\n",
-        ":- chr_constraint a/0.\na ==> a.\n---\n[\"show\",1]\n",
-        "---\n[\"show\",1]\n\n \t\n[\"show\",1]\r",
-        "---\n[\"show\",2]\n",
-    ] {
-        expect_served(&rt, rt.alloc(), input.as_bytes())?;
+fn the_output_is_that_of_a_run(rt: HostRuntime) {
+    let alloc = rt.alloc();
+    for input in INPUTS {
+        assert!(rt; is_served_as_run(&rt, alloc, input.as_bytes()), "{input}");
     }
-    Ok(())
+}
+
+/// Whether the input is refused with this line, after so many waits.
+fn is_refused(
+    rt: &(impl Abort + RandomSource + Threads + Wait + Sync),
+    alloc: Global,
+    input: &[u8],
+    most: usize,
+    waits: usize,
+    line: &[u8],
+) -> bool {
+    let (status, peer) = served(rt, alloc, input, most);
+    status == Status::Refused && peer.waits == waits && peer.sent.as_slice() == line
 }
 
 /// A program that is refused ends it: the rest is not read.
 #[test]
-fn refused_programs_end_it(rt: HostRuntime) -> Result<(), Fail> {
-    let mut peer = Peer::of(rt.alloc(), b"x\n---\n[\"show\",1]\n", 6)?;
-    assert_eq!(rt; serve(&rt, rt.alloc(), &mut peer, PLAIN)?, Status::Refused);
-    assert_eq!(rt; peer.waits, 1);
-    assert_eq!(rt; peer.sent.as_slice(), b"refused 11: clause 1\n".as_slice());
-    Ok(())
+fn refused_programs_end_it(rt: HostRuntime) {
+    let line = b"refused 11: clause 1\n";
+    assert!(rt; is_refused(&rt, rt.alloc(), b"x\n---\n[\"show\",1]\n", 6, 1, line));
+}
+
+/// A comment of so many bytes, which does not end.
+fn comment(rt: &impl Abort, alloc: Global, len: usize) -> Vec<u8> {
+    let mut text = Vec::new(alloc);
+    text.resize(len, b'%').expect(rt, "memory");
+    text
 }
 
 /// A text that is too long is refused before its end was read.
 #[test]
-fn long_texts_are_refused(rt: HostRuntime) -> Result<(), Fail> {
-    let mut text = Vec::new(rt.alloc());
-    text.resize(80_000, b'%')?;
-    let mut peer = Peer::of(rt.alloc(), &text, 4_096)?;
-    assert_eq!(rt; serve(&rt, rt.alloc(), &mut peer, PLAIN)?, Status::Refused);
-    assert_eq!(rt; peer.waits, 17);
-    assert_eq!(rt; peer.sent.as_slice(), b"refused 2\n".as_slice());
-    Ok(())
+fn long_texts_are_refused(rt: HostRuntime) {
+    let text = comment(&rt, rt.alloc(), 80_000);
+    assert!(rt; is_refused(&rt, rt.alloc(), &text, 4_096, 17, b"refused 2\n"));
+}
+
+/// Whether the writer's fault at this call is told, and a beginning of the output is written.
+fn fails_at_write(
+    rt: &(impl Abort + RandomSource + Threads + Wait + Sync),
+    alloc: Global,
+    call: u64,
+) -> bool {
+    let mut wire = Streams {
+        reader: Watched::of(INPUT),
+        writer: Watched::of(FailsAt::of(Drips::of(room(rt, alloc)), call)),
+    };
+    let result = serve(rt, alloc, &mut wire, PLAIN);
+    let Streams { reader: _, writer } = wire;
+    let failed = writer.failed();
+    let written = writer.into_inner().into_inner().into_inner();
+    result == Err(RunFault::Device) && failed && OUTPUT.starts_with(&written)
 }
 
 /// A beginning of the output is written.
 #[test]
-fn failing_writers(rt: HostRuntime) -> Result<(), Fail> {
+fn failing_writers(rt: HostRuntime) {
+    let alloc = rt.alloc();
     for call in 1..=20u64 {
-        let mut wire = Streams {
-            reader: Watched::of(INPUT),
-            writer: Watched::of(FailsAt::of(
-                Drips::of(Vec::with_capacity(rt.alloc(), ROOM)?),
-                call,
-            )),
-        };
-        let result = serve(&rt, rt.alloc(), &mut wire, PLAIN);
-        if result == Err(RunFault::Memory) {
-            result?;
-        }
-        assert_eq!(rt; result, Err(RunFault::Device), "{call}");
-        let Streams { reader: _, writer } = wire;
-        assert!(rt; writer.failed());
-        let written = writer.into_inner().into_inner().into_inner();
-        assert!(rt; OUTPUT.starts_with(&written), "{call}");
+        assert!(rt; fails_at_write(&rt, alloc, call), "at call {call}");
     }
-    Ok(())
 }
+
+/// Whether the reader's fault at this call is told, and this was written before it.
+fn fails_at_read(
+    rt: &(impl Abort + RandomSource + Threads + Wait + Sync),
+    alloc: Global,
+    call: u64,
+    expected: &[u8],
+) -> bool {
+    let mut wire = Streams {
+        reader: Watched::of(FailsAt::of(INPUT, call)),
+        writer: Watched::of(room(rt, alloc)),
+    };
+    let result = serve(rt, alloc, &mut wire, PLAIN);
+    let Streams { reader, writer } = wire;
+    let written = writer.into_inner();
+    result == Err(RunFault::Device) && reader.failed() && written.as_slice() == expected
+}
+
+/// The calls that fail, and what was written before.
+const READS: [(u64, &str); 2] = [
+    (1, ""),
+    (2, "accepted: rules 0, cases 0\ntold\na\nrefused 30\n"),
+];
 
 /// What was read before a read fails is answered.
 #[test]
-fn failing_readers(rt: HostRuntime) -> Result<(), Fail> {
-    for call in [1, 2] {
-        let mut wire = Streams {
-            reader: Watched::of(FailsAt::of(INPUT, call)),
-            writer: Watched::of(Vec::with_capacity(rt.alloc(), ROOM)?),
-        };
-        let result = serve(&rt, rt.alloc(), &mut wire, PLAIN);
-        if result == Err(RunFault::Memory) {
-            result?;
-        }
-        assert_eq!(rt; result, Err(RunFault::Device), "{call}");
-        let Streams { reader, writer } = wire;
-        assert!(rt; reader.failed());
-        let expected = if call == 1 {
-            b"".as_slice()
-        } else {
-            b"accepted: rules 0, cases 0\ntold\na\nrefused 30\n".as_slice()
-        };
-        assert_eq!(rt; writer.into_inner().as_slice(), expected, "{call}");
+fn failing_readers(rt: HostRuntime) {
+    let alloc = rt.alloc();
+    for (call, expected) in READS {
+        let expected = expected.as_bytes();
+        assert!(rt; fails_at_read(&rt, alloc, call, expected), "at call {call}");
     }
-    Ok(())
 }

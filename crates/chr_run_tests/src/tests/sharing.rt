@@ -1,11 +1,10 @@
 //! Runs and services whose stores are rested by several workers: not a byte differs.
-ghost use Rattle.std.specs.Prelude.{◌≤◌};
-ghost use Rattle.chr_base.specs.declared.limits.TheConstants.{MAX_PARTS, MAX_WORKERS};
+ghost use Rattle.chr_device.specs.Settings.{IsWithinLimits};
 
 use super::{PLAIN, outcome};
 use chr_base::limits::{MAX_PARTS, MAX_WORKERS};
-use chr_report::{RunFault, Settings, Status};
-use std::alloc::{AllocError, Global};
+use chr_report::{Settings, Status};
+use std::alloc::Global;
 use std::process::Abort;
 use std::random::RandomSource;
 use std::sync::Wait;
@@ -43,99 +42,128 @@ synced 1
 path(1,2,5), path(1,3,4), path(2,3,1)
 ";
 
-/// The status and the output for an input, with so many workers and parts.
-fn shared(
-    rt: &(impl RandomSource + Threads + Wait + Sync),
-    alloc: Global,
-    workers: u32,
-    parts: u32,
-    input: &[u8],
-) -> Result<(Status, Vec<u8>), RunFault>
-    requires workers { (1 ≤ workers) × (workers ≤ MAX_WORKERS) }
-    requires parts { (1 ≤ parts) × (parts ≤ MAX_PARTS) }
+/// A run of three replicas, with so many workers and parts.
+fn settings(rt: &impl Abort, workers: u32, parts: u32) -> Settings
+    ensures { IsWithinLimits result }
 {
-    let settings = Settings {
+    assert!(rt; 1 <= workers && workers <= MAX_WORKERS, "{workers} workers");
+    assert!(rt; 1 <= parts && parts <= MAX_PARTS, "{parts} parts");
+    Settings {
         replicas: 3,
         workers,
         parts,
         ..PLAIN
-    };
-    outcome(rt, alloc, settings, input)
+    }
 }
 
-/// The exchanges are answered as they are by one worker.
-fn answers_exchanges(
+/// The status and the output for an input, with so many workers and parts.
+fn shared(
     rt: &(impl Abort + RandomSource + Threads + Wait + Sync),
     alloc: Global,
     workers: u32,
     parts: u32,
-) -> Result<(), RunFault>
-    requires workers { (1 ≤ workers) × (workers ≤ MAX_WORKERS) }
-    requires parts { (1 ≤ parts) × (parts ≤ MAX_PARTS) }
-{
-    let (status, text) = shared(rt, alloc, workers, parts, EXCHANGES)?;
-    assert_eq!(rt; status, Status::Accepted);
-    assert!(rt;
-        text.as_slice() == ANSWERS,
-        "{workers} workers, {parts} parts"
-    );
-    Ok(())
+    input: &[u8],
+) -> (Status, Vec<u8>) {
+    outcome(rt, alloc, settings(rt, workers, parts), input)
+}
+
+/// Whether the exchanges are answered as they are by one worker.
+fn are_answered(
+    rt: &(impl Abort + RandomSource + Threads + Wait + Sync),
+    alloc: Global,
+    workers: u32,
+    parts: u32,
+) -> bool {
+    let (status, text) = shared(rt, alloc, workers, parts, EXCHANGES);
+    status == Status::Accepted && text.as_slice() == ANSWERS
+}
+
+const PARTS: [u32; 3] = [1, 3, 64];
+
+/// So many workers answer the exchanges, in any number of parts.
+fn expect_answers(
+    rt: &(impl Abort + RandomSource + Threads + Wait + Sync),
+    alloc: Global,
+    workers: u32,
+) {
+    for parts in PARTS {
+        assert!(rt; are_answered(rt, alloc, workers, parts), "{parts} parts");
+    }
 }
 
 #[test]
-fn one_worker_answers_exchanges(rt: HostRuntime) -> Result<(), RunFault> {
-    answers_exchanges(&rt, rt.alloc(), 1, 1)?;
-    answers_exchanges(&rt, rt.alloc(), 1, 3)?;
-    answers_exchanges(&rt, rt.alloc(), 1, 64)
+fn one_worker_answers_exchanges(rt: HostRuntime) {
+    expect_answers(&rt, rt.alloc(), 1);
 }
 
 #[test]
-fn two_workers_answer_exchanges(rt: HostRuntime) -> Result<(), RunFault> {
-    answers_exchanges(&rt, rt.alloc(), 2, 1)?;
-    answers_exchanges(&rt, rt.alloc(), 2, 3)?;
-    answers_exchanges(&rt, rt.alloc(), 2, 64)
+fn two_workers_answer_exchanges(rt: HostRuntime) {
+    expect_answers(&rt, rt.alloc(), 2);
 }
 
 #[test]
-fn sixteen_workers_answer_exchanges(rt: HostRuntime) -> Result<(), RunFault> {
-    answers_exchanges(&rt, rt.alloc(), 16, 1)?;
-    answers_exchanges(&rt, rt.alloc(), 16, 3)?;
-    answers_exchanges(&rt, rt.alloc(), 16, 64)
+fn sixteen_workers_answer_exchanges(rt: HostRuntime) {
+    expect_answers(&rt, rt.alloc(), 16);
 }
 
 /// How many lines tell routes.
 const LINES: u32 = 400;
 
-/// Lines that tell the first replica routes between 25 pairs of towns, eight a line. Later ones are shorter.
-fn many_routes(alloc: Global) -> Result<String, AllocError> {
-    let mut text = String::from_str(
-        alloc,
-        ":- chr_constraint path/3. path(X,Y,D) \\ path(X,Y,E) <=> D =< E | true.\n---\n",
-    )?;
-    for line in 0..LINES {
-        write!(text, "[\"tell\",1,[1,{line}],[")?;
-        for place in 0..8 {
-            let pair = (line % 64 * 8 + place) % 25;
-            let length = pair + (LINES - 1 - line);
-            let comma = if place == 0 { "" } else { "," };
-            write!(text, "{comma}[\"path\",{},{},{length}]", pair / 5, pair % 5)?;
-        }
-        text.push_str("]]\n")?;
+fn push(rt: &impl Abort, text: &mut String, part: &str) {
+    text.push_str(part).expect(rt, "memory");
+}
+
+/// Adds a number, and what follows it.
+fn push_number(rt: &impl Abort, text: &mut String, number: u32, after: &str) {
+    write!(text, "{number}{after}").expect(rt, "memory");
+}
+
+/// The route at this place of a line, between one of 25 pairs of towns. Those of later lines are shorter.
+fn push_route(rt: &impl Abort, text: &mut String, line: u32, place: u32) {
+    let pair = (line % 64 * 8).saturating_add(place) % 25;
+    let later = (LINES - 1).saturating_sub(line);
+    push(rt, text, "[\"path\",");
+    push_number(rt, text, pair / 5, ",");
+    push_number(rt, text, pair % 5, ",");
+    push_number(rt, text, pair.saturating_add(later), "]");
+}
+
+/// A line that tells the first replica eight routes.
+fn push_line(rt: &impl Abort, text: &mut String, line: u32) {
+    push(rt, text, "[\"tell\",1,[1,");
+    push_number(rt, text, line, "],[");
+    for place in 0..7 {
+        push_route(rt, text, line, place);
+        push(rt, text, ",");
     }
-    text.push_str("[\"show\",1]\n")?;
-    Ok(text)
+    push_route(rt, text, line, 7);
+    push(rt, text, "]]\n");
+}
+
+/// Lines that tell the first replica routes between 25 pairs of towns, eight a line. Later ones are shorter.
+fn many_routes(rt: &impl Abort, alloc: Global) -> String {
+    let mut text = String::new(alloc);
+    push(
+        rt,
+        &mut text,
+        ":- chr_constraint path/3. path(X,Y,D) \\ path(X,Y,E) <=> D =< E | true.\n---\n",
+    );
+    for line in 0..LINES {
+        push_line(rt, &mut text, line);
+    }
+    push(rt, &mut text, "[\"show\",1]\n");
+    text
 }
 
 #[test]
-fn many_routes_are_rested_in_parts(rt: HostRuntime) -> Result<(), RunFault> {
+fn many_routes_are_rested_in_parts(rt: HostRuntime) {
     let alloc = rt.alloc();
-    let input = many_routes(alloc)?;
-    let (_, plain) = shared(&rt, alloc, 1, 1, input.as_bytes())?;
-    let (_, parted) = shared(&rt, alloc, 4, 16, input.as_bytes())?;
+    let input = many_routes(&rt, alloc);
+    let (_, plain) = shared(&rt, alloc, 1, 1, input.as_bytes());
+    let (_, parted) = shared(&rt, alloc, 4, 16, input.as_bytes());
     assert!(rt;
         plain.ends_with(b"path(4,3,23), path(4,4,24)\n"),
         "the shortest routes"
     );
     assert!(rt; parted.as_slice() == plain.as_slice(), "the same bytes");
-    Ok(())
 }

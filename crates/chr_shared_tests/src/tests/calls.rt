@@ -9,7 +9,7 @@ use std::process::Abort;
 use std::sync::Wait;
 
 /// A call.
-#[derive(Clone, Copy)]
+#[derive(Drop)]
 pub enum Call {
     /// The operation of origin 1 with this number and value.
     Tell(u64, i64),
@@ -21,7 +21,7 @@ pub enum Call {
 }
 
 /// What is answered.
-#[derive(Clone, Copy, Debug, PartialEq, Eq)]
+#[derive(Drop)]
 pub enum Said {
     New,
     Again,
@@ -32,7 +32,6 @@ pub enum Said {
     Shown(Option<i64>),
     LeastLease(Option<u64>),
     Refused(u8),
-    Other,
 }
 
 /// The value of the only atom of a store.
@@ -43,18 +42,18 @@ pub fn only_value(store: &Bag) -> Option<i64> {
     }
 }
 
-/// What a reply says.
-pub fn answer_in(reply: &Reply) -> Said {
-    match reply {
-        Reply::Told(Added::New) => Said::New,
-        Reply::Told(Added::Again) => Said::Again,
-        Reply::Leased(lease) => Said::Leased(lease.number),
-        Reply::Recalled => Said::Recalled,
-        Reply::Settled(steps) => Said::Settled(*steps),
-        Reply::Shown(bag) => Said::Shown(only_value(bag)),
-        Reply::LeastLease(number) => Said::LeastLease(*number),
-        Reply::Refused(refusal) => Said::Refused(refusal.number()),
-        _ => Said::Other,
+/// Whether this is what a reply says.
+pub fn says(reply: &Reply, said: &Said) -> bool {
+    match (said, reply) {
+        (Said::New, Reply::Told(Added::New))
+        | (Said::Again, Reply::Told(Added::Again))
+        | (Said::Recalled, Reply::Recalled) => true,
+        (Said::Leased(number), Reply::Leased(lease)) => lease.number == *number,
+        (Said::Settled(count), Reply::Settled(steps)) => steps == count,
+        (Said::Shown(value), Reply::Shown(store)) => only_value(store) == *value,
+        (Said::LeastLease(least), Reply::LeastLease(number)) => number == least,
+        (Said::Refused(number), Reply::Refused(refusal)) => refusal.number() == *number,
+        _ => false,
     }
 }
 
@@ -64,18 +63,18 @@ pub fn receipt<J: Naming, R: Abort + Wait>(
     alloc: Global,
     shared: &Shared<J>,
     seat: &mut Seat<J>,
-    call: Call,
+    call: &Call,
 ) -> Receipt {
     let answered = match call {
         Call::Tell(number, value) => {
-            let op = op(alloc, 1, number, &[value]).expect(rt, "an operation");
+            let op = op(alloc, 1, *number, &[*value]).expect(rt, "an operation");
             shared.tell(rt, alloc, seat, op)
         }
         Call::Take(value) => {
-            let part = store(alloc, &[value]).expect(rt, "memory");
+            let part = store(alloc, &[*value]).expect(rt, "memory");
             shared.take(rt, alloc, seat, part)
         }
-        Call::Recall(number) => shared.recall(rt, alloc, seat, number),
+        Call::Recall(number) => shared.recall(rt, alloc, seat, *number),
         Call::Settle => shared.settle(rt, alloc, seat),
         Call::Show => shared.show(rt, alloc, seat),
         Call::LeastLease => shared.least_lease(rt, alloc, seat),

@@ -2,10 +2,11 @@
 //! seat.
 ghost use Rattle.std.specs.Prelude.{◌≡◌};
 
-use crate::tests::calls::only_value;
+use crate::tests::calls::{Call, only_value, receipt};
+use crate::tests::{opened, prepared};
 use chr_acts::Reply;
 use chr_shared::{Naming, Opening, Seat, Shared};
-use chr_shared_testing::{MINIMUM, accepted, op, opening, shown};
+use chr_shared_testing::shown;
 use chr_workers::OpenGate;
 use std::alloc::Global;
 use std::marker::Brand;
@@ -14,13 +15,7 @@ use std::sync::Wait;
 use std::thread::Threads;
 
 /// Three values are told, each by an operation.
-fn tell<J: Naming, R: Abort + Wait>(rt: &R, alloc: Global, shared: &Shared<J>, seat: &mut Seat<J>) {
-    for (number, value) in [(1, 5), (2, 3), (3, 9)] {
-        let op = op(alloc, 1, number, &[value]).expect(rt, "memory");
-        let told = shared.tell(rt, alloc, seat, op).ok();
-        told.expect(rt, "memory");
-    }
-}
+const TOLD: [Call; 3] = [Call::Tell(1, 5), Call::Tell(2, 3), Call::Tell(3, 9)];
 
 /// The least lease number that is out. A call to which memory was refused is made once more.
 fn least_lease<J: Naming, R: Abort + Wait>(
@@ -80,10 +75,11 @@ fn run<J: Naming + Send + Sync, R: Abort + Threads + Wait + Sync>(
 ) -> Option<i64>
     requires { opening ≡ J.opening }
 {
-    let opened = Shared::<J>::open(alloc, opening).ok();
-    let (shared, mut seats) = opened.expect(rt, "memory");
+    let (shared, mut seats) = opened::<J, _>(rt, alloc, opening);
     let mut seat = seats.pop().expect(rt, "a seat");
-    tell(rt, alloc, &shared, &mut seat);
+    for call in &TOLD {
+        receipt(rt, alloc, &shared, &mut seat, call);
+    }
     let _ = shared.settle_with(rt, alloc, &mut seat, 2, 3, &OpenGate);
     recall_all(rt, alloc, &shared, &mut seat);
     rested(rt, alloc, &shared, &mut seat)
@@ -92,7 +88,6 @@ fn run<J: Naming + Send + Sync, R: Abort + Threads + Wait + Sync>(
 #[test]
 fn parts_come_back_after_a_refusal(rt: HostRuntime) {
     let alloc = rt.alloc();
-    let accepted = accepted(&rt, alloc, MINIMUM).expect(&rt, "a program");
-    let opening = opening(alloc, &accepted, 1).expect(&rt, "memory");
+    let opening = prepared(&rt, alloc, 1);
     assert!(rt; run::<Brand, _>(&rt, alloc, opening) == Some(3));
 }

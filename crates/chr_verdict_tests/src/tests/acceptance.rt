@@ -1,9 +1,10 @@
 //! What `accept` answers.
-use crate::tests::texts::{atoms_text, is_text, overlap_text, push, rested, store, told, weighed};
+use crate::tests::texts::{is_text, push, push_overlap, push_step, rested, store, told, weighed};
 use chr_base::bag::Bag;
-use chr_base::derivation::{Derivation, Step};
+use chr_base::derivation::Derivation;
 use chr_base::program::Program;
 use chr_join::{Accepted, Cause, Coverage, Failure, Refused, TooManyTypes, accept};
+use chr_overlaps::Overlap;
 use chr_rewrite::plain::plain_end;
 use chr_rewrite::replay::replay;
 use chr_testing::texts::MINIMUM;
@@ -12,22 +13,29 @@ use std::alloc::Global;
 use std::process::Abort;
 use std::thread::Threads;
 
+/// The verdict on the program of a text.
+fn verdict(
+    rt: &(impl Abort + Threads + Sync),
+    alloc: Global,
+    text: &str,
+) -> Result<Accepted, Refused> {
+    accept(rt, alloc, weighed(rt, alloc, text), Coverage::Joint)
+}
+
 /// The accepted program of a text.
 fn accepted(rt: &(impl Abort + Threads + Sync), alloc: Global, text: &str) -> Accepted {
-    accept(rt, alloc, weighed(rt, alloc, text), Coverage::Joint)
-        .ok()
-        .expect(rt, "accepted")
+    verdict(rt, alloc, text).ok().expect(rt, "accepted")
 }
 
 /// The refused program of a text, with the cause.
 fn refused(rt: &(impl Abort + Threads + Sync), alloc: Global, text: &str) -> Refused {
-    accept(rt, alloc, weighed(rt, alloc, text), Coverage::Joint)
-        .err()
-        .expect(rt, "refused")
+    verdict(rt, alloc, text).err().expect(rt, "refused")
 }
 
-/// Accepted programs with what is counted of them: symbols, rules and cases.
-const COUNTED: [(&str, (usize, usize, u64)); 3] = [
+/// An accepted program with what is counted of it: symbols, rules and cases.
+type Counted = (&'static str, (usize, usize, u64));
+
+const COUNTED: [Counted; 3] = [
     ("", (0, 0, 0)),
     (
         ":- chr_constraint coin/0, note/0. coin, coin <=> note.",
@@ -44,18 +52,16 @@ fn counted(found: &Accepted) -> (usize, usize, u64) {
     )
 }
 
-#[test]
-fn joinable_cases_are_counted(rt: HostRuntime) {
-    let alloc = rt.alloc();
-    for (text, expected) in COUNTED {
-        let found = counted(&accepted(&rt, alloc, text));
-        assert!(rt; found == expected, "{text}");
+fn expect_counted(rt: &(impl Abort + Threads + Sync), alloc: Global, rows: &[Counted]) {
+    for (text, expected) in rows {
+        let found = counted(&accepted(rt, alloc, text));
+        assert!(rt; found == *expected, "{text}");
     }
 }
 
-fn step_text(rt: &impl Abort, alloc: Global, weighed: &Weighed, step: &Step) -> String {
-    let heads = atoms_text(rt, alloc, weighed, &step.heads);
-    format!(in alloc; "; {} on {heads}", step.rule).expect(rt, "memory")
+#[test]
+fn joinable_cases_are_counted(rt: HostRuntime) {
+    expect_counted(&rt, rt.alloc(), &COUNTED);
 }
 
 /// Where a derivation starts, its steps, and the end that is told.
@@ -68,7 +74,8 @@ fn derivation_text(
 ) -> String {
     let mut text = told(rt, alloc, weighed, &derivation.start);
     for step in &derivation.steps {
-        push(rt, &mut text, &step_text(rt, alloc, weighed, step));
+        push(rt, &mut text, "; ");
+        push_step(rt, alloc, &mut text, weighed, step);
     }
     push(rt, &mut text, "; ");
     push(rt, &mut text, &told(rt, alloc, weighed, end));
@@ -90,6 +97,13 @@ fn replayed(rt: &impl Abort, alloc: Global, weighed: &Weighed, derivation: &Deri
 
 fn is_one(one: &Bag, other: &Bag) -> bool {
     one.is_same(other)
+}
+
+/// An overlap is told so.
+fn is_overlap(rt: &impl Abort, alloc: Global, overlap: &Overlap, expected: &str) {
+    let mut text = String::new(alloc);
+    push_overlap(rt, &mut text, overlap);
+    is_text(rt, &text, expected);
 }
 
 /// A derivation is told so, and replays to the end that is told.
@@ -142,11 +156,7 @@ fn expect_failure(
     expected: &Told,
 ) {
     let (left, right) = (&failure.left, &failure.right);
-    is_text(
-        rt,
-        &overlap_text(rt, alloc, &failure.overlap),
-        expected.overlap,
-    );
+    is_overlap(rt, alloc, &failure.overlap, expected.overlap);
     is_told(rt, alloc, weighed, left, &failure.left_end, expected.left);
     is_told(
         rt,
@@ -169,12 +179,16 @@ fn expect_failing(rt: &(impl Abort + Threads + Sync), alloc: Global, text: &str,
     );
 }
 
+fn expect_all_failing(rt: &(impl Abort + Threads + Sync), alloc: Global, rows: &[(&str, Told)]) {
+    for (text, expected) in rows {
+        expect_failing(rt, alloc, text, expected);
+    }
+}
+
 /// Both derivations start at the store of the case, and replay to the ends that are told.
 #[test]
 fn failing_cases_are_explained(rt: HostRuntime) {
-    for (text, expected) in FAILING {
-        expect_failing(&rt, rt.alloc(), text, &expected);
-    }
+    expect_all_failing(&rt, rt.alloc(), &FAILING);
 }
 
 fn too_many<'a>(rt: &impl Abort, cause: &'a Cause) -> &'a TooManyTypes {
@@ -189,15 +203,16 @@ fn is_program(one: &Program, other: &Program) -> bool {
 }
 
 /// The first overlap shares `q`. It has nine free classes, and these have 7,087,261 order types.
+const NINE_CLASSES: &str = ":- chr_constraint p/4, q/1, s/0. p(A,B,C,D), q(E) <=> s.";
+
 #[test]
 fn too_many_order_types_are_refused(rt: HostRuntime) {
     let alloc = rt.alloc();
-    let text = ":- chr_constraint p/4, q/1, s/0. p(A,B,C,D), q(E) <=> s.";
-    let found = refused(&rt, alloc, text);
+    let found = refused(&rt, alloc, NINE_CLASSES);
     let many = too_many(&rt, &found.cause);
-    is_text(&rt, &overlap_text(&rt, alloc, &many.overlap), "1 1 (0,2)");
-    assert_eq!(rt; many.classes, 9);
-    let given = weighed(&rt, alloc, text);
+    is_overlap(&rt, alloc, &many.overlap, "1 1 (0,2)");
+    assert!(rt; many.classes == 9);
+    let given = weighed(&rt, alloc, NINE_CLASSES);
     assert!(rt; is_program(found.weighed.program(), given.program()));
 }
 

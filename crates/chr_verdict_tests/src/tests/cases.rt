@@ -1,57 +1,41 @@
 //! Overlaps and their cases.
-use crate::tests::texts::{atoms_text, is_text, overlap_text, push, told, weighed};
-use chr_base::derivation::Step;
+ghost use Rattle.chr_weights.specs.WeighedPrograms.{rules_in};
+ghost use Rattle.chr_overlaps.specs.OverlapLists.{IsOverlapOf};
+
+use crate::tests::overlaps::{all_overlaps, overlap_at};
+use crate::tests::texts::{is_text, push, push_number, push_overlap, push_step, told, weighed};
 use chr_base::rule::Rule;
 use chr_overlaps::cases::{Case, MAX_TYPES, cases};
 use chr_overlaps::constants::constants;
-use chr_overlaps::{CaseFault, Overlap, overlaps};
+use chr_overlaps::{CaseFault, Overlap};
 use chr_weights::Weighed;
 use std::alloc::Global;
 use std::process::Abort;
 
-/// The overlap at a place, counted from 0, with its cases.
-fn cases_at(
-    rt: &impl Abort,
-    alloc: Global,
-    weighed: &Weighed,
-    place: usize,
-) -> Result<(Overlap, Vec<Case>), CaseFault> {
-    let found = overlaps(alloc, weighed)?;
-    assert!(rt; place < found.len());
-    let cases = cases(alloc, weighed, &found[place])?;
-    Ok((found[place].copy(), cases))
-}
-
-/// The overlap at a place with its cases, of which there are not too many.
-fn listed_at(
-    rt: &impl Abort,
-    alloc: Global,
-    weighed: &Weighed,
-    place: usize,
-) -> (Overlap, Vec<Case>) {
-    cases_at(rt, alloc, weighed, place)
+/// The cases of an overlap, of which there are not too many.
+fn listed(rt: &impl Abort, alloc: Global, weighed: &Weighed, overlap: &Overlap) -> Vec<Case>
+    requires { IsOverlapOf (rules_in weighed.now) overlap.now }
+{
+    cases(alloc, weighed, overlap)
         .ok()
         .expect(rt, "no more cases than the limit")
 }
 
-/// The number of overlaps.
-fn overlaps_in(rt: &impl Abort, alloc: Global, weighed: &Weighed) -> usize {
-    overlaps(alloc, weighed).expect(rt, "memory").len()
-}
-
 /// The overlap at a place, with the number of its cases.
-fn count_text(rt: &impl Abort, alloc: Global, weighed: &Weighed, place: usize) -> String {
-    let (overlap, cases) = listed_at(rt, alloc, weighed, place);
-    let overlap = overlap_text(rt, alloc, &overlap);
-    format!(in alloc; "{overlap} {}", cases.len()).expect(rt, "memory")
+fn push_count(rt: &impl Abort, alloc: Global, text: &mut String, weighed: &Weighed, place: usize) {
+    let overlap = overlap_at(rt, alloc, weighed, place);
+    let cases = listed(rt, alloc, weighed, &overlap);
+    push_overlap(rt, text, &overlap);
+    push(rt, text, " ");
+    push_number(rt, text, cases.len() as u64);
 }
 
 /// The overlaps of the program's rules, each with the number of its cases.
 fn counts_text(rt: &impl Abort, alloc: Global, weighed: &Weighed) -> String {
     let mut text = String::new(alloc);
-    for place in 0..overlaps_in(rt, alloc, weighed) {
+    for place in 0..all_overlaps(rt, alloc, weighed).len() {
         push(rt, &mut text, if place > 0 { "; " } else { "" });
-        push(rt, &mut text, &count_text(rt, alloc, weighed, place));
+        push_count(rt, alloc, &mut text, weighed, place);
     }
     text
 }
@@ -113,15 +97,18 @@ const OVERLAPS: [(&str, &str); 11] = [
     ),
 ];
 
+fn expect_counts(rt: &impl Abort, alloc: Global, rows: &[(&str, &str)]) {
+    for (text, expected) in rows {
+        let found = counts_text(rt, alloc, &weighed(rt, alloc, text));
+        is_text(rt, &found, expected);
+    }
+}
+
 /// Overlaps come by the first rule, then the second, then the matching. There is a case for each order type at which
 /// both guards hold.
 #[test]
 fn overlaps_have_cases(rt: HostRuntime) {
-    let alloc = rt.alloc();
-    for (text, expected) in OVERLAPS {
-        let found = counts_text(&rt, alloc, &weighed(&rt, alloc, text));
-        is_text(&rt, &found, expected);
-    }
+    expect_counts(&rt, rt.alloc(), &OVERLAPS);
 }
 
 /// The one constant stands in a body alone.
@@ -129,30 +116,31 @@ const CONSTANT_OF_A_BODY: &str =
     ":- chr_constraint p/1, q/2, r/0. :- chr_weight p/1 = 3. :- chr_weight q/2 = 2. \
     p(X) <=> q(X,7). p(X) <=> r. q(X,Y) <=> X =< Y | r.";
 
-fn step_text(rt: &impl Abort, alloc: Global, weighed: &Weighed, step: &Step) -> String {
-    let heads = atoms_text(rt, alloc, weighed, &step.heads);
-    format!(in alloc; "{} on {heads}", step.rule).expect(rt, "memory")
-}
-
-fn case_text(rt: &impl Abort, alloc: Global, weighed: &Weighed, case: &Case) -> String {
-    let store = told(rt, alloc, weighed, &case.store);
-    let left = step_text(rt, alloc, weighed, &case.left);
-    let right = step_text(rt, alloc, weighed, &case.right);
-    format!(in alloc; "; {store}: {left}, {right}").expect(rt, "memory")
+/// The store of a case, and both steps.
+fn push_case(rt: &impl Abort, alloc: Global, text: &mut String, weighed: &Weighed, case: &Case) {
+    push(rt, text, "; ");
+    push(rt, text, &told(rt, alloc, weighed, &case.store));
+    push(rt, text, ": ");
+    push_step(rt, alloc, text, weighed, &case.left);
+    push(rt, text, ", ");
+    push_step(rt, alloc, text, weighed, &case.right);
 }
 
 /// The overlap at a place, counted from 0, and its cases.
 fn cases_text(rt: &impl Abort, alloc: Global, weighed: &Weighed, place: usize) -> String {
-    let (overlap, cases) = listed_at(rt, alloc, weighed, place);
-    let mut text = overlap_text(rt, alloc, &overlap);
-    for case in &cases {
-        push(rt, &mut text, &case_text(rt, alloc, weighed, case));
+    let overlap = overlap_at(rt, alloc, weighed, place);
+    let mut text = String::new(alloc);
+    push_overlap(rt, &mut text, &overlap);
+    for case in &listed(rt, alloc, weighed, &overlap) {
+        push_case(rt, alloc, &mut text, weighed, case);
     }
     text
 }
 
-/// Programs, each with the place of an overlap and its cases.
-const CASES: [(&str, usize, &str); 3] = [
+/// A program, with the place of an overlap and its cases.
+type CasesAt = (&'static str, usize, &'static str);
+
+const CASES: [CasesAt; 3] = [
     (
         ":- chr_constraint p/2, q/1, r/1. :- chr_weight p/2 = 2. p(X,Y) <=> 3 < X, X < Y, Y < 6 | \
         q(X). p(X,Y) <=> 3 < X, X < Y, Y < 6 | r(X).",
@@ -173,14 +161,17 @@ const CASES: [(&str, usize, &str); 3] = [
     ),
 ];
 
+fn expect_cases(rt: &impl Abort, alloc: Global, rows: &[CasesAt]) {
+    for (text, place, expected) in rows {
+        let found = cases_text(rt, alloc, &weighed(rt, alloc, text), *place);
+        is_text(rt, &found, expected);
+    }
+}
+
 /// A case has the matched atoms once, and the step of each rule on its own heads.
 #[test]
 fn cases_have_stores_and_steps(rt: HostRuntime) {
-    let alloc = rt.alloc();
-    for (text, place, expected) in CASES {
-        let found = cases_text(&rt, alloc, &weighed(&rt, alloc, text), place);
-        is_text(&rt, &found, expected);
-    }
+    expect_cases(&rt, rt.alloc(), &CASES);
 }
 
 fn constants_of(rt: &impl Abort, alloc: Global, rules: &[Rule]) -> Vec<i64> {
@@ -196,15 +187,18 @@ fn constants_of_a_body_count(rt: HostRuntime) {
 
 /// The number of cases of the first overlap, or else of its free classes.
 fn first_count(rt: &impl Abort, alloc: Global, weighed: &Weighed) -> Result<usize, usize> {
-    match cases_at(rt, alloc, weighed, 0) {
-        Ok((_, cases)) => Ok(cases.len()),
+    match cases(alloc, weighed, &overlap_at(rt, alloc, weighed, 0)) {
+        Ok(cases) => Ok(cases.len()),
         Err(CaseFault::TooManyTypes { classes }) => Err(classes),
         Err(CaseFault::Memory) => panic!(rt; "out of memory"),
     }
 }
 
+/// A program, with the number of cases of its first overlap, or else of its free classes.
+type Limited = (&'static str, Result<usize, usize>);
+
 /// The first overlap shares `q`. Seven classes without constants have 47,293 order types, and nine have 7,087,261.
-const LIMITED: [(&str, Result<usize, usize>); 2] = [
+const LIMITED: [Limited; 2] = [
     (
         ":- chr_constraint p/3, q/1, s/0. p(A,B,C), q(D) <=> s.",
         Ok(47_293),
@@ -215,12 +209,15 @@ const LIMITED: [(&str, Result<usize, usize>); 2] = [
     ),
 ];
 
+fn expect_limited(rt: &impl Abort, alloc: Global, rows: &[Limited]) {
+    for (text, expected) in rows {
+        let found = first_count(rt, alloc, &weighed(rt, alloc, text));
+        assert!(rt; found == *expected, "{text}");
+    }
+}
+
 #[test]
 fn order_types_are_limited(rt: HostRuntime) {
-    let alloc = rt.alloc();
-    assert_eq!(rt; MAX_TYPES, 50_000);
-    for (text, expected) in LIMITED {
-        let found = first_count(&rt, alloc, &weighed(&rt, alloc, text));
-        assert_eq!(rt; found, expected, "{text}");
-    }
+    assert!(rt; MAX_TYPES == 50_000);
+    expect_limited(&rt, rt.alloc(), &LIMITED);
 }

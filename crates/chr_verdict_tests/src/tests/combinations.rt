@@ -3,6 +3,7 @@ ghost use Rattle.std.specs.Prelude.{ℕ};
 ghost use Rattle.chr_types.specs.OrderTypes.{Rises};
 ghost use Rattle.chr_sorting.specs.FinestSorts.{sorts_of};
 
+use crate::tests::lists::expect_same;
 use chr_base::atom::SymbolId;
 use chr_base::program::Program;
 use chr_sorting::{Sorting, finest_sorts, has_more_combinations, visit_combinations};
@@ -32,14 +33,6 @@ impl Visit for Kept {
     }
 }
 
-/// Asserts that these lists were visited.
-fn expect_kept(rt: &impl Abort, kept: &Kept, expected: &[&[i64]]) {
-    assert_eq!(rt; kept.lists.len(), expected.len());
-    for (list, wanted) in kept.lists.iter().zip(expected) {
-        assert_eq!(rt; list.as_slice(), *wanted);
-    }
-}
-
 fn keeps(alloc: Global, wanted: usize) -> Kept {
     Kept {
         alloc,
@@ -48,18 +41,63 @@ fn keeps(alloc: Global, wanted: usize) -> Kept {
     }
 }
 
+/// How many combinations there are at some classes, how many are wanted, and those that are visited.
+#[derive(Clone, Copy)]
+struct Visited {
+    number: usize,
+    wanted: usize,
+    lists: &'static [&'static [i64]],
+}
+
+/// Whether there are more combinations than the limit.
+fn has_more(
+    rt: &impl Abort,
+    alloc: Global,
+    sorting: &Sorting,
+    classes: &[usize],
+    limit: usize,
+) -> bool
+    requires rise { (k : ℕ) → Rises ((sorts_of sorting.now).constants k) }
+{
+    has_more_combinations(alloc, sorting, classes, limit).expect(rt, "memory")
+}
+
+/// What is visited of the combinations at these classes. The visitor stops where it has those that it wants.
+fn expect_visited(
+    rt: &impl Abort,
+    alloc: Global,
+    sorting: &Sorting,
+    classes: &[usize],
+    expected: Visited,
+)
+    requires rise { (k : ℕ) → Rises ((sorts_of sorting.now).constants k) }
+{
+    let Visited {
+        number,
+        wanted,
+        lists,
+    } = expected;
+    assert!(rt; has_more(rt, alloc, sorting, classes, number.saturating_sub(1)));
+    // the visit may only be asked for where this is so
+    assert!(rt; !has_more_combinations(alloc, sorting, classes, number).expect(rt, "memory"));
+    let mut kept = keeps(alloc, wanted);
+    let stopped = visit_combinations(alloc, sorting, classes, number, &mut kept);
+    assert!(rt; stopped.expect(rt, "memory") == (lists.len() == wanted));
+    expect_same(rt, &kept.lists, lists);
+}
+
+const ONE_OF_FREE_SORTS: Visited = Visited {
+    number: 1,
+    wanted: 2,
+    lists: &[&[0, 0, 1]],
+};
+
 /// Without rules each sort is free, and has one list.
 #[test]
 fn visits_the_one_of_free_sorts(rt: HostRuntime) {
     let alloc = rt.alloc();
     let sorting = finest_sorts(alloc, &Program::empty(alloc)).expect(&rt, "memory");
-    let classes = [0, 8, 0];
-    assert!(rt; has_more_combinations(alloc, &sorting, &classes, 0).expect(&rt, "memory"));
-    assert!(rt; !has_more_combinations(alloc, &sorting, &classes, 1).expect(&rt, "memory"));
-    let mut kept = keeps(alloc, 2);
-    let stopped = visit_combinations(alloc, &sorting, &classes, 1, &mut kept);
-    assert!(rt; !stopped.expect(&rt, "memory"));
-    expect_kept(&rt, &kept, &[&[0, 0, 1]]);
+    expect_visited(&rt, alloc, &sorting, &[0, 8, 0], ONE_OF_FREE_SORTS);
 }
 
 /// The values of `p` are compared by their order, and those of `q` told from each other and from 0.
@@ -71,23 +109,24 @@ fn two_sorts(sorting: &Sorting) -> (usize, usize) {
     (sorting.sort(SymbolId(0), 0), sorting.sort(SymbolId(1), 0))
 }
 
-/// What is visited of the combinations at these classes, of which there are six, up to so many.
-fn expect_visited(
-    rt: &impl Abort,
-    alloc: Global,
-    sorting: &Sorting,
-    classes: &[usize],
-    expected: &[&[i64]],
-)
-    requires rise { (k : ℕ) → Rises ((sorts_of sorting.now).constants k) }
-{
-    assert!(rt; has_more_combinations(alloc, sorting, classes, 5).expect(rt, "memory"));
-    assert!(rt; !has_more_combinations(alloc, sorting, classes, 6).expect(rt, "memory"));
-    let mut kept = keeps(alloc, expected.len());
-    let stopped = visit_combinations(alloc, sorting, classes, 6, &mut kept);
-    assert!(rt; stopped.expect(rt, "memory"));
-    expect_kept(rt, &kept, expected);
-}
+const ALL_SIX: Visited = Visited {
+    number: 6,
+    wanted: 6,
+    lists: &[
+        &[0, 0, 0],
+        &[0, 0, 1],
+        &[0, 1, 0],
+        &[0, 1, 1],
+        &[1, 0, 0],
+        &[1, 1, 0],
+    ],
+};
+
+const TWO_OF_SIX: Visited = Visited {
+    number: 6,
+    wanted: 2,
+    lists: &[&[0, 0, 0], &[0, 0, 1]],
+};
 
 /// Two values of an ordered sort lie in three orders, and one of the other sort is 0 or not.
 #[test]
@@ -96,14 +135,6 @@ fn visits_two_sorts_class_by_class(rt: HostRuntime) {
     let program = program_of(alloc, TWO_SORTS).expect(&rt, "a program");
     let sorting = finest_sorts(alloc, &program).expect(&rt, "memory");
     let (p, q) = two_sorts(&sorting);
-    let all: [&[i64]; 6] = [
-        &[0, 0, 0],
-        &[0, 0, 1],
-        &[0, 1, 0],
-        &[0, 1, 1],
-        &[1, 0, 0],
-        &[1, 1, 0],
-    ];
-    expect_visited(&rt, alloc, &sorting, &[p, q, p], &all);
-    expect_visited(&rt, alloc, &sorting, &[q, p, p], &[&[0, 0, 0], &[0, 0, 1]]);
+    expect_visited(&rt, alloc, &sorting, &[p, q, p], ALL_SIX);
+    expect_visited(&rt, alloc, &sorting, &[q, p, p], TWO_OF_SIX);
 }

@@ -49,7 +49,8 @@ fn expect_more(
 /// A kind, constants and a number of values, with the lists.
 type Row = (Kind, &'static [i64], usize, &'static [&'static [i64]]);
 
-fn expect_same(rt: &impl Abort, found: &[Vec<i64>], expected: &[&[i64]]) {
+/// Asserts that these lists were found.
+pub fn expect_same(rt: &impl Abort, found: &[Vec<i64>], expected: &[&[i64]]) {
     assert_eq!(rt; found.len(), expected.len());
     for (list, wanted) in found.iter().zip(expected) {
         assert_eq!(rt; list.as_slice(), *wanted);
@@ -146,7 +147,9 @@ fn lists_order_types(rt: HostRuntime) {
 }
 
 /// Where there are more lists than the limit: a kind, constants, a number of values, and the limit.
-const MORE: [(Kind, &[i64], usize, usize); 11] = [
+type More = (Kind, &'static [i64], usize, usize);
+
+const MORE: [More; 11] = [
     (Kind::Free, &[], 0, 0),
     (Kind::Free, &[2, 3], 4, 0),
     (Kind::Equal, &[], 0, 0),
@@ -161,11 +164,15 @@ const MORE: [(Kind, &[i64], usize, usize); 11] = [
     (Kind::Ordered, &[], 65, usize::MAX),
 ];
 
+fn expect_all_more(rt: &impl Abort, alloc: Global, rows: &[More]) {
+    for (kind, constants, count, limit) in rows {
+        expect_more(rt, alloc, *kind, constants, *count, *limit);
+    }
+}
+
 #[test]
 fn stops_at_the_limit(rt: HostRuntime) {
-    for (kind, constants, count, limit) in MORE {
-        expect_more(&rt, rt.alloc(), kind, constants, count, limit);
-    }
+    expect_all_more(&rt, rt.alloc(), &MORE);
     let found = lists_of(&rt, rt.alloc(), Kind::Equal, &[], 10, 115_975);
     assert!(rt; found.expect(&rt, "all lists").len() == 115_975);
 }

@@ -3,7 +3,7 @@ ghost use Rattle.std.specs.Prelude.{IfOk};
 ghost use Rattle.chr_weights.specs.WeighedPrograms.{rules_in};
 ghost use Rattle.chr_overlaps.specs.OverlapLists.{IsOverlapOf};
 
-use crate::tests::texts;
+use crate::tests::texts::weighed;
 use arrayvec::ArrayVec;
 use chr_overlaps::cases::{sorted_unified, unified};
 use chr_overlaps::{Overlap, Unified, has_equal_sides, overlaps, overlaps_of};
@@ -22,7 +22,7 @@ fn copied(rt: HostRuntime) {
         matching,
     };
     let copy = overlap.copy();
-    assert_eq!(rt; (copy.first, copy.second), (1, 3));
+    assert!(rt; copy.first == 1 && copy.second == 3);
     assert!(rt; copy.matching.as_slice() == [0, 2].as_slice());
     assert!(rt; copy == overlap);
 }
@@ -30,12 +30,8 @@ fn copied(rt: HostRuntime) {
 const RULES: &str = ":- chr_constraint p/1. \
     p(X) \\ p(Y) <=> X =:= Y | true. p(X) <=> X =:= 1 | true. p(X) <=> X =:= 2 | true.";
 
-fn weighed(rt: &impl Abort, alloc: Global) -> Weighed {
-    texts::weighed(rt, alloc, RULES)
-}
-
-/// The overlap at a place, counted from 0.
-fn overlap_at(
+/// The overlap at a place, where there is memory for all.
+fn found_at(
     rt: &impl Abort,
     alloc: Global,
     weighed: &Weighed,
@@ -48,8 +44,17 @@ fn overlap_at(
     Ok(found[place].copy())
 }
 
+/// The overlap at a place, counted from 0.
+pub fn overlap_at(rt: &impl Abort, alloc: Global, weighed: &Weighed, place: usize) -> Overlap
+    ensures { IsOverlapOf (rules_in weighed.now) result }
+{
+    found_at(rt, alloc, weighed, place).expect(rt, "memory")
+}
+
 /// Places of first rules, from one and up to another, and how many overlaps these rules begin.
-const PORTIONS: [(usize, usize, usize); 8] = [
+type Portion = (usize, usize, usize);
+
+const PORTIONS: [Portion; 8] = [
     (0, 1, 9),
     (1, 2, 2),
     (2, 3, 1),
@@ -60,7 +65,7 @@ const PORTIONS: [(usize, usize, usize); 8] = [
     (2, 1, 0),
 ];
 
-fn all_overlaps(rt: &impl Abort, alloc: Global, weighed: &Weighed) -> Vec<Overlap> {
+pub fn all_overlaps(rt: &impl Abort, alloc: Global, weighed: &Weighed) -> Vec<Overlap> {
     overlaps(alloc, weighed).expect(rt, "memory")
 }
 
@@ -76,28 +81,39 @@ fn overlaps_between(
 
 /// Whether each of these is among all, and its first rule is one of the portion's.
 fn are_of_portion(some: &[Overlap], all: &[Overlap], start: usize, end: usize) -> bool {
-    some.iter().all(|overlap| {
+    for overlap in some {
         let first = overlap.first as usize;
-        start < first && first <= end && all.contains(overlap)
-    })
+        if first <= start || end < first || !all.contains(overlap) {
+            return false;
+        }
+    }
+    true
+}
+
+fn expect_portions(rt: &impl Abort, alloc: Global, weighed: &Weighed, portions: &[Portion]) {
+    let all = all_overlaps(rt, alloc, weighed);
+    for (start, end, number) in portions {
+        let some = overlaps_between(rt, alloc, weighed, *start, *end);
+        assert!(rt; some.len() == *number, "{start} to {end}");
+        assert!(rt;
+            are_of_portion(&some, &all, *start, *end),
+            "{start} to {end}"
+        );
+    }
 }
 
 /// Overlaps that are listed by some of their first rules are those among all that these rules begin.
 #[test]
 fn some_rules_begin_overlaps(rt: HostRuntime) {
     let alloc = rt.alloc();
-    let weighed = weighed(&rt, alloc);
-    let all = all_overlaps(&rt, alloc, &weighed);
-    for (start, end, number) in PORTIONS {
-        let some = overlaps_between(&rt, alloc, &weighed, start, end);
-        assert_eq!(rt; some.len(), number);
-        assert!(rt; are_of_portion(&some, &all, start, end));
-    }
+    expect_portions(&rt, alloc, &weighed(&rt, alloc, RULES), &PORTIONS);
 }
 
 /// Places among the overlaps of these rules, each with its overlap's two rules, the free classes of the matched heads,
 /// and those of these with the `=:=` of both guards.
-const FREE_CLASSES: [(usize, u32, u32, &[u8], Option<&[u8]>); 3] = [
+type FreeClasses = (usize, u32, u32, &'static [u8], Option<&'static [u8]>);
+
+const FREE_CLASSES: [FreeClasses; 3] = [
     (0, 1, 1, &[1, 2, 4], Some(&[1])),
     (5, 1, 2, &[1, 2], Some(&[])),
     (10, 2, 3, &[1], None),
@@ -119,63 +135,63 @@ fn are_free_joined(weighed: &Weighed, overlap: &Overlap, joined: Option<&[u8]>) 
     found.as_ref().map(Unified::free) == joined
 }
 
-fn expect_free(
-    rt: &impl Abort,
-    alloc: Global,
-    weighed: &Weighed,
-    row: (usize, u32, u32, &[u8], Option<&[u8]>),
-) {
+fn expect_free(rt: &impl Abort, alloc: Global, weighed: &Weighed, row: FreeClasses) {
     let (place, first, second, alone, joined) = row;
-    let overlap = overlap_at(rt, alloc, weighed, place).expect(rt, "memory");
-    assert_eq!(rt; (overlap.first, overlap.second), (first, second));
+    let overlap = overlap_at(rt, alloc, weighed, place);
+    assert!(rt; overlap.first == first && overlap.second == second);
     assert!(rt; are_free(weighed, &overlap, alone));
     assert!(rt; are_free_joined(weighed, &overlap, joined));
+}
+
+fn expect_all_free(rt: &impl Abort, alloc: Global, weighed: &Weighed, rows: &[FreeClasses]) {
+    for row in rows {
+        expect_free(rt, alloc, weighed, *row);
+    }
 }
 
 /// What the guards make equal is one class, and where that is two constants there is none.
 #[test]
 fn guards_join_classes(rt: HostRuntime) {
     let alloc = rt.alloc();
-    let weighed = weighed(&rt, alloc);
-    for row in FREE_CLASSES {
-        expect_free(&rt, alloc, &weighed, row);
+    expect_all_free(&rt, alloc, &weighed(&rt, alloc, RULES), &FREE_CLASSES);
+}
+
+/// Whether both sides of an overlap are equal as patterns, once matched heads are made one.
+fn are_equal(weighed: &Weighed, overlap: &Overlap) -> bool
+    requires { IsOverlapOf (rules_in weighed.now) overlap.now }
+{
+    match unified(weighed, overlap) {
+        Some(unified) => has_equal_sides(weighed, overlap, &unified),
+        None => false,
     }
 }
 
-/// Whether both sides of an overlap are equal as patterns, once matched heads are made one, and once the `=:=` of both
-/// guards are solved too.
-fn are_equal(weighed: &Weighed, overlap: &Overlap) -> (bool, bool)
+/// Whether they are equal once the `=:=` of both guards are solved too.
+fn are_equal_joined(weighed: &Weighed, overlap: &Overlap) -> bool
     requires { IsOverlapOf (rules_in weighed.now) overlap.now }
 {
-    let heads = match unified(weighed, overlap) {
+    match sorted_unified(weighed, overlap) {
         Some(unified) => has_equal_sides(weighed, overlap, &unified),
         None => false,
-    };
-    let guards = match sorted_unified(weighed, overlap) {
-        Some(unified) => has_equal_sides(weighed, overlap, &unified),
-        None => false,
-    };
-    (heads, guards)
+    }
 }
 
-fn have_equal_sides(
-    rt: &impl Abort,
-    alloc: Global,
-    weighed: &Weighed,
-    place: usize,
-) -> (bool, bool) {
-    let overlap = overlap_at(rt, alloc, weighed, place).expect(rt, "memory");
-    are_equal(weighed, &overlap)
+/// Whether the sides of each of the first overlaps are equal with heads made one, as is said of it. With guards solved
+/// all are.
+fn expect_sides(rt: &impl Abort, alloc: Global, weighed: &Weighed, expected: &[bool]) {
+    for (place, matched) in expected.iter().enumerate() {
+        let overlap = overlap_at(rt, alloc, weighed, place);
+        assert!(rt; are_equal(weighed, &overlap) == *matched, "at {place}");
+        assert!(rt; are_equal_joined(weighed, &overlap), "at {place}");
+    }
 }
+
+const SIDES: [bool; 5] = [false, true, true, false, false];
 
 /// The matchings of the first rule with its copy are (0,1), (0,2), (1,2), (2,0) and (2,1). Both steps remove one atom
 /// where removed heads are matched, and where the guards make all atoms one.
 #[test]
 fn sides_are_equal(rt: HostRuntime) {
     let alloc = rt.alloc();
-    let weighed = weighed(&rt, alloc);
-    for (place, matched) in [false, true, true, false, false].into_iter().enumerate() {
-        let found = have_equal_sides(&rt, alloc, &weighed, place);
-        assert_eq!(rt; found, (matched, true));
-    }
+    expect_sides(&rt, alloc, &weighed(&rt, alloc, RULES), &SIDES);
 }

@@ -1,10 +1,11 @@
 //! Sorts of positions, with their kinds and constants.
-use crate::tests::texts::{is_text, push};
+use crate::tests::texts::{is_text, push, push_number};
 use chr_base::atom::SymbolId;
 use chr_base::program::Program;
 use chr_sorting::{Kind, Sorting, finest_sorts};
 use chr_testing::texts::program_of;
 use std::alloc::Global;
+use std::fmt::Write;
 use std::process::Abort;
 
 /// The program of a text, whether it lowers or not.
@@ -16,47 +17,42 @@ fn sorting_of(rt: &impl Abort, alloc: Global, program: &Program) -> Sorting {
     finest_sorts(alloc, program).expect(rt, "memory")
 }
 
-/// The number of a sort, its kind's first letter, and its constants.
-fn push_sort(rt: &impl Abort, alloc: Global, text: &mut String, sorting: &Sorting, sort: usize) {
-    let kind = match sorting.kind(sort) {
+/// A kind's first letter.
+fn letter(kind: Kind) -> &'static str {
+    match kind {
         Kind::Ordered => "o",
         Kind::Equal => "e",
         Kind::Free => "f",
-    };
-    push(
-        rt,
-        text,
-        &format!(in alloc; "{sort}{kind}").expect(rt, "memory"),
-    );
-    for constant in sorting.constants(sort) {
-        push(
-            rt,
-            text,
-            &format!(in alloc; " {constant}").expect(rt, "memory"),
-        );
     }
+}
+
+fn push_constants(rt: &impl Abort, text: &mut String, constants: &[i64]) {
+    for constant in constants {
+        write!(text, " {constant}").expect(rt, "memory");
+    }
+}
+
+/// The number of a sort, its kind's first letter, and its constants.
+fn push_sort(rt: &impl Abort, text: &mut String, sorting: &Sorting, sort: usize) {
+    push_number(rt, text, sort as u64);
+    push(rt, text, letter(sorting.kind(sort)));
+    push_constants(rt, text, sorting.constants(sort));
     push(rt, text, ";");
 }
 
 /// The sorts of the first three arguments of a symbol.
-fn push_sorts(
-    rt: &impl Abort,
-    alloc: Global,
-    text: &mut String,
-    sorting: &Sorting,
-    symbol: SymbolId,
-) {
+fn push_sorts(rt: &impl Abort, text: &mut String, sorting: &Sorting, symbol: SymbolId) {
     for argument in 0..3 {
-        push_sort(rt, alloc, text, sorting, sorting.sort(symbol, argument));
+        push_sort(rt, text, sorting, sorting.sort(symbol, argument));
     }
 }
 
-/// The sorts of the first three arguments of the first two symbols.
-fn sorts_text(rt: &impl Abort, alloc: Global, program: &Program) -> String {
-    let sorting = sorting_of(rt, alloc, program);
+/// The sorts of the first three arguments of the first two symbols of a text's program.
+fn sorts_text(rt: &impl Abort, alloc: Global, text: &str) -> String {
+    let sorting = sorting_of(rt, alloc, &program(rt, alloc, text));
     let mut text = String::new(alloc);
-    push_sorts(rt, alloc, &mut text, &sorting, SymbolId(0));
-    push_sorts(rt, alloc, &mut text, &sorting, SymbolId(1));
+    push_sorts(rt, &mut text, &sorting, SymbolId(0));
+    push_sorts(rt, &mut text, &sorting, SymbolId(1));
     text
 }
 
@@ -114,11 +110,13 @@ const SORTS: [(&str, &str); 12] = [
     (":- chr_constraint a/3.", "0f;1f;2f;6f;7f;8f;"),
 ];
 
+fn expect_sorts(rt: &impl Abort, alloc: Global, rows: &[(&str, &str)]) {
+    for (text, expected) in rows {
+        is_text(rt, &sorts_text(rt, alloc, text), expected);
+    }
+}
+
 #[test]
 fn are_the_finest(rt: HostRuntime) {
-    let alloc = rt.alloc();
-    for (text, expected) in SORTS {
-        let found = sorts_text(&rt, alloc, &program(&rt, alloc, text));
-        is_text(&rt, &found, expected);
-    }
+    expect_sorts(&rt, rt.alloc(), &SORTS);
 }

@@ -1,6 +1,7 @@
 //! Programs and stores as texts.
 use chr_base::atom::Atom;
 use chr_base::bag::Bag;
+use chr_base::derivation::Step;
 use chr_overlaps::Overlap;
 use chr_rewrite::list::ListPool;
 use chr_rewrite::pool::Pool;
@@ -8,6 +9,7 @@ use chr_rewrite::resting::rest;
 use chr_testing::texts::{self, weighed_of};
 use chr_weights::Weighed;
 use std::alloc::Global;
+use std::fmt::Write;
 use std::process::Abort;
 
 /// The program of a text, which is one and lowers.
@@ -26,7 +28,7 @@ pub fn told(rt: &impl Abort, alloc: Global, weighed: &Weighed, store: &Bag) -> S
 }
 
 /// The text of atoms in this order.
-pub fn atoms_text(rt: &impl Abort, alloc: Global, weighed: &Weighed, atoms: &[Atom]) -> String {
+fn atoms_text(rt: &impl Abort, alloc: Global, weighed: &Weighed, atoms: &[Atom]) -> String {
     texts::atoms_text(alloc, weighed.program(), atoms).expect(rt, "memory")
 }
 
@@ -34,21 +36,39 @@ pub fn push(rt: &impl Abort, text: &mut String, more: &str) {
     text.push_str(more).expect(rt, "memory");
 }
 
+pub fn push_number(rt: &impl Abort, text: &mut String, number: u64) {
+    write!(text, "{number}").expect(rt, "memory");
+}
+
 /// Asserts that this is the text that is expected.
 pub fn is_text(rt: &impl Abort, found: &str, expected: &str) {
     assert_eq!(rt; found, expected);
 }
 
-/// The text of an overlap: the numbers of its rules, and its matching.
-pub fn overlap_text(rt: &impl Abort, alloc: Global, overlap: &Overlap) -> String {
-    let mut text = format!(in alloc; "{} {} (", overlap.first, overlap.second).expect(rt, "memory");
+/// The numbers of the overlap's rules, and its matching.
+pub fn push_overlap(rt: &impl Abort, text: &mut String, overlap: &Overlap) {
+    push_number(rt, text, u64::from(overlap.first));
+    push(rt, text, " ");
+    push_number(rt, text, u64::from(overlap.second));
+    push(rt, text, " (");
     for (i, entry) in overlap.matching.iter().enumerate() {
-        let mark = if i > 0 { "," } else { "" };
-        let more = format!(in alloc; "{mark}{entry}").expect(rt, "memory");
-        push(rt, &mut text, &more);
+        push(rt, text, if i > 0 { "," } else { "" });
+        push_number(rt, text, u64::from(*entry));
     }
-    push(rt, &mut text, ")");
-    text
+    push(rt, text, ")");
+}
+
+/// The number of the step's rule, and its heads.
+pub fn push_step(
+    rt: &impl Abort,
+    alloc: Global,
+    text: &mut String,
+    weighed: &Weighed,
+    step: &Step,
+) {
+    push_number(rt, text, u64::from(step.rule));
+    push(rt, text, " on ");
+    push(rt, text, &atoms_text(rt, alloc, weighed, &step.heads));
 }
 
 /// The end of `rest`.

@@ -1,13 +1,14 @@
 //! Rows that are found by ranges of two values, compared with a plain scan.
-ghost use Rattle.std.specs.Prelude.{◌≡◌, ◌<◌, ◌≤◌, ◌^◌, length, IfOk};
+ghost use Rattle.std.specs.Prelude.{◌≡◌, ◌<◌, ◌^◌, length};
 
 use chr_ranges::{Crossing, Range};
-use std::alloc::{AllocError, Global};
+use std::alloc::Global;
 use std::process::Abort;
 
-/// A row as it was pushed, and whether it lives.
-#[derive(Clone, Copy, Debug, PartialEq, Eq)]
+/// A row as it was pushed, with its number, and whether it lives.
+#[derive(Clone, Copy)]
 struct Row {
+    number: u32,
     hash: u32,
     first: i64,
     second: i64,
@@ -31,51 +32,49 @@ struct Wanted {
     second: Range,
 }
 
-/// The newest wanted row before this place.
-fn newest_before(rows: &[Row], place: usize, wanted: &Wanted) -> Option<u32> {
+/// The newest wanted row below this number.
+fn newest_below(rows: &[Row], end: u32, wanted: &Wanted) -> Option<u32> {
     let mut newest = None;
-    for (number, row) in rows.iter().enumerate() {
-        if number < place && row.is_wanted(wanted) {
-            newest = u32::try_from(number).ok();
+    for row in rows {
+        if row.number < end && row.is_wanted(wanted) {
+            newest = Some(row.number);
         }
     }
     newest
 }
 
-/// So many rows: hashes that share a slot, the first values ascending, and the second ones in turn.
-fn rows_of(rt: &impl Abort, alloc: Global, count: usize) -> Vec<Row>
+/// Hashes share a slot, first values ascend, and second ones come in turn.
+fn row_of(number: u32) -> Row {
+    Row {
+        number,
+        hash: if number % 5 == 0 { 23 } else { 7 },
+        first: i64::from(number / 4),
+        second: i64::from(number % 13 * 7 % 13),
+        alive: true,
+    }
+}
+
+/// So many rows.
+fn rows_of(rt: &impl Abort, alloc: Global, count: u32) -> Vec<Row>
     ensures { length result.items ≡ count }
 {
     let mut rows = Vec::new(alloc);
     for number in 0..count {
-        let row = Row {
-            hash: if number % 5 == 0 { 23 } else { 7 },
-            first: (number / 4) as i64,
-            second: (number % 13 * 7 % 13) as i64,
-            alive: true,
-        };
-        rows.push(row).expect(rt, "memory");
+        rows.push(row_of(number)).expect(rt, "memory");
     }
     rows
 }
 
-fn crossing_of(alloc: Global, rows: &[Row]) -> Result<Crossing, AllocError>
-    requires { length rows.now < 2 ^ 32 }
-    ensures { IfOk result (λ c. length c.rows ≡ length rows.now) }
-{
-    let mut crossing = Crossing::new(alloc)?;
-    crossing.reserve(rows.len())?;
-    for row in rows {
-        crossing.push(row.hash, row.first, row.second);
-    }
-    Ok(crossing)
-}
-
-fn crossing(rt: &impl Abort, alloc: Global, rows: &[Row]) -> Crossing
+fn crossing_of(rt: &impl Abort, alloc: Global, rows: &[Row]) -> Crossing
     ensures { length result.rows ≡ length rows.now }
 {
     assert!(rt; rows.len() <= 1_000);
-    crossing_of(alloc, rows).expect(rt, "memory")
+    let mut crossing = Crossing::new(alloc).expect(rt, "memory");
+    crossing.reserve(rows.len()).expect(rt, "memory");
+    for row in rows {
+        crossing.push(row.hash, row.first, row.second);
+    }
+    crossing
 }
 
 /// Every third row dies, from the first on.
@@ -98,10 +97,10 @@ fn compare_down(rt: &impl Abort, crossing: &mut Crossing, rows: &[Row], wanted: 
     ensures { crossing.new ≡ crossing.old }
 {
     let mut found = crossing.first(wanted.hash, &wanted.first, &wanted.second);
-    let mut expected = newest_before(rows, rows.len(), wanted);
+    let mut expected = newest_below(rows, u32::MAX, wanted);
     while let Some(row) = found {
         assert!(rt; expected == Some(row), "{row} by {wanted:?}");
-        expected = newest_before(rows, row as usize, wanted);
+        expected = newest_below(rows, row, wanted);
         found = crossing.next(wanted.hash, &wanted.first, &wanted.second, row);
     }
     assert!(rt; expected == None, "by {wanted:?}");
@@ -109,13 +108,13 @@ fn compare_down(rt: &impl Abort, crossing: &mut Crossing, rows: &[Row], wanted: 
 
 /// So is what it meets at each row or below it.
 fn compare_from(rt: &impl Abort, crossing: &mut Crossing, rows: &[Row], wanted: &Wanted)
-    requires { length rows.now < 2 ^ 32 }
     ensures { crossing.new ≡ crossing.old }
 {
-    for row in 0..rows.len() as u32 {
-        let expected = newest_before(rows, row as usize + 1, wanted);
-        let found = crossing.at_or_below(wanted.hash, &wanted.first, &wanted.second, row);
-        assert!(rt; found == expected, "at {row} by {wanted:?}");
+    for row in rows {
+        let number = row.number;
+        let expected = newest_below(rows, number.saturating_add(1), wanted);
+        let found = crossing.at_or_below(wanted.hash, &wanted.first, &wanted.second, number);
+        assert!(rt; found == expected, "at {number} by {wanted:?}");
     }
 }
 
@@ -130,7 +129,6 @@ fn range_by(number: u32, value: i64) -> Range {
 
 /// Both comparisons by each pair of kinds of ranges.
 fn compare_all(rt: &impl Abort, crossing: &mut Crossing, rows: &[Row], hash: u32)
-    requires { length rows.now < 2 ^ 32 }
     ensures { crossing.new ≡ crossing.old }
 {
     for number in 0..16 {
@@ -147,7 +145,7 @@ fn compare_all(rt: &impl Abort, crossing: &mut Crossing, rows: &[Row], hash: u32
 #[test]
 fn as_by_a_plain_scan_while_rows_die(rt: HostRuntime) {
     let mut rows = rows_of(&rt, rt.alloc(), 60);
-    let mut crossing = crossing(&rt, rt.alloc(), &rows);
+    let mut crossing = crossing_of(&rt, rt.alloc(), &rows);
     compare_all(&rt, &mut crossing, &rows, 7);
     kill_some(&mut crossing, &mut rows);
     compare_all(&rt, &mut crossing, &rows, 7);
@@ -157,7 +155,7 @@ fn as_by_a_plain_scan_while_rows_die(rt: HostRuntime) {
 #[test]
 fn forgets_all_rows(rt: HostRuntime) {
     let rows = rows_of(&rt, rt.alloc(), 9);
-    let mut crossing = crossing(&rt, rt.alloc(), &rows);
+    let mut crossing = crossing_of(&rt, rt.alloc(), &rows);
     crossing.clear();
     compare_down(
         &rt,

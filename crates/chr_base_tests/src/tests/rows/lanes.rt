@@ -11,13 +11,18 @@ const KEYS: [i64; ROWS] = [5, 3, -9, 3, 7, 0, 0, 1, 2, 3, 8, 8, 8, 8, 8, 8, 8, 8
 
 const LIMITS: [i64; ROWS] = [5, 4, -9, 2, 7, 0, 0, 1, 2, 3, 8, 8, 8, 8, 8, 8, 8, 9, -5];
 
-/// The least row from `from` on whose key passes.
-fn first_key(cmp: Cmp, value: i64, from: usize) -> Option<usize>
-    requires { from ≤ ROWS }
-{
-    let columns: [&[i64]; 1] = [&KEYS];
+/// The least row from `from` on at which the column's value passes.
+fn first_value(
+    rt: &impl Abort,
+    column: &[i64],
+    cmp: Cmp,
+    value: i64,
+    from: usize,
+) -> Option<usize> {
+    assert!(rt; from <= column.len());
+    let columns: [&[i64]; 1] = [column];
     first_row(
-        ROWS,
+        column.len(),
         &columns,
         &[Test {
             column: 0,
@@ -28,10 +33,9 @@ fn first_key(cmp: Cmp, value: i64, from: usize) -> Option<usize>
     )
 }
 
-/// The same against the limit at the row.
-fn first_by_limit(cmp: Cmp, from: usize) -> Option<usize>
-    requires { from ≤ ROWS }
-{
+/// The least row from `from` on whose key passes against the limit at the row.
+fn first_by_limit(rt: &impl Abort, cmp: Cmp, from: usize) -> Option<usize> {
+    assert!(rt; from <= ROWS);
     let columns: [&[i64]; 2] = [&KEYS, &LIMITS];
     first_row(
         ROWS,
@@ -46,7 +50,9 @@ fn first_by_limit(cmp: Cmp, from: usize) -> Option<usize>
 }
 
 /// A sign, a value, the row to begin at, and the row that is found.
-const BY_VALUE: [(Cmp, i64, usize, Option<usize>); 12] = [
+type ByValue = (Cmp, i64, usize, Option<usize>);
+
+const BY_VALUE: [ByValue; 12] = [
     (Cmp::Equal, 3, 0, Some(1)),
     (Cmp::Equal, 3, 2, Some(3)),
     (Cmp::Equal, 3, 4, Some(9)),
@@ -61,26 +67,24 @@ const BY_VALUE: [(Cmp, i64, usize, Option<usize>); 12] = [
     (Cmp::AtMost, i64::MAX, 7, Some(7)),
 ];
 
-/// A row to begin at, which is one of these rows or their end.
-fn start(rt: &impl Abort, from: usize) -> usize
-    ensures { result ≤ ROWS }
-{
-    assert!(rt; from <= ROWS);
-    from
-}
-
-#[test]
-fn finds_the_least_row_with_a_value(rt: HostRuntime) {
-    for (cmp, value, from, row) in BY_VALUE {
+fn expect_by_value(rt: &impl Abort, rows: &[ByValue]) {
+    for (cmp, value, from, row) in rows {
         assert!(rt;
-            first_key(cmp, value, start(&rt, from)) == row,
+            first_value(rt, &KEYS, *cmp, *value, *from) == *row,
             "{cmp:?} {value} from {from}"
         );
     }
 }
 
+#[test]
+fn finds_the_least_row_with_a_value(rt: HostRuntime) {
+    expect_by_value(&rt, &BY_VALUE);
+}
+
 /// A sign, the row to begin at, and the row that is found.
-const BY_LIMIT: [(Cmp, usize, Option<usize>); 6] = [
+type ByLimit = (Cmp, usize, Option<usize>);
+
+const BY_LIMIT: [ByLimit; 6] = [
     (Cmp::Less, 0, Some(1)),
     (Cmp::Less, 2, Some(17)),
     (Cmp::Greater, 0, Some(3)),
@@ -89,14 +93,18 @@ const BY_LIMIT: [(Cmp, usize, Option<usize>); 6] = [
     (Cmp::Equal, 17, None),
 ];
 
-#[test]
-fn finds_the_least_row_of_two_columns(rt: HostRuntime) {
-    for (cmp, from, row) in BY_LIMIT {
+fn expect_by_limit(rt: &impl Abort, rows: &[ByLimit]) {
+    for (cmp, from, row) in rows {
         assert!(rt;
-            first_by_limit(cmp, start(&rt, from)) == row,
+            first_by_limit(rt, *cmp, *from) == *row,
             "{cmp:?} from {from}"
         );
     }
+}
+
+#[test]
+fn finds_the_least_row_of_two_columns(rt: HostRuntime) {
+    expect_by_limit(&rt, &BY_LIMIT);
 }
 
 #[test]
@@ -135,41 +143,39 @@ fn finds_the_least_row_that_passes_two_tests(rt: HostRuntime) {
 }
 
 /// The least row with 1 in a column.
-fn first_one(values: &[i64]) -> Option<usize> {
-    let columns: [&[i64]; 1] = [values];
-    first_row(
-        values.len(),
-        &columns,
-        &[Test {
-            column: 0,
-            cmp: Cmp::Equal,
-            against: Against::Value(1),
-        }],
-        0,
-    )
+fn first_one(rt: &impl Abort, column: &[i64]) -> Option<usize> {
+    first_value(rt, column, Cmp::Equal, 1, 0)
 }
 
-/// Also where the rows are no multiple of eight.
-#[test]
-fn finds_the_last_row(rt: HostRuntime) {
-    let mut values: [i64; 65] = [0; 65];
-    assert!(rt; first_one(&values[..0]) == None);
-    for rows in [1, 7, 8, 9, 64, 65] {
-        values[rows - 1] = 1;
-        assert!(rt; first_one(&values[..rows]) == Some(rows - 1));
-        values[rows - 1] = 0;
+const MOST_ROWS: usize = 65;
+
+/// The least row with 1, where the last of so many rows alone has it.
+fn first_of_last(rt: &impl Abort, rows: usize) -> Option<usize> {
+    assert!(rt; 0 < rows && rows <= MOST_ROWS);
+    let mut values = [0; MOST_ROWS];
+    values[rows - 1] = 1;
+    first_one(rt, &values[..rows])
+}
+
+/// Numbers of rows, most of which are no multiple of eight, and the last row.
+const LAST: [(usize, usize); 6] = [(1, 0), (7, 6), (8, 7), (9, 8), (64, 63), (65, 64)];
+
+fn expect_last(rt: &impl Abort, rows: &[(usize, usize)]) {
+    for (count, last) in rows {
+        assert!(rt; first_of_last(rt, *count) == Some(*last));
     }
 }
 
 #[test]
+fn finds_the_last_row(rt: HostRuntime) {
+    assert!(rt; first_one(&rt, &[]) == None);
+    expect_last(&rt, &LAST);
+}
+
+const ENDS: [i64; 2] = [i64::MIN, i64::MAX];
+
+#[test]
 fn finds_the_least_value_of_all(rt: HostRuntime) {
-    let values: [i64; 2] = [i64::MIN, i64::MAX];
-    let columns: [&[i64]; 1] = [&values];
-    let test = Test {
-        column: 0,
-        cmp: Cmp::Less,
-        against: Against::Value(i64::MIN + 1),
-    };
-    assert!(rt; first_row(2, &columns, &[test], 0) == Some(0));
-    assert!(rt; first_row(2, &columns, &[test], 1) == None);
+    assert!(rt; first_value(&rt, &ENDS, Cmp::Less, i64::MIN + 1, 0) == Some(0));
+    assert!(rt; first_value(&rt, &ENDS, Cmp::Less, i64::MIN + 1, 1) == None);
 }

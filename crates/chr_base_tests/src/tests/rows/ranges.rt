@@ -1,28 +1,21 @@
 //! Rows that are found by a hash and a range of values.
-ghost use Rattle.std.specs.Prelude.{◌≡◌, ◌<◌, ◌^◌, length, IfOk};
+ghost use Rattle.std.specs.Prelude.{◌≡◌, ◌<◌, length};
 
 use chr_ranges::{Index, Range};
-use std::alloc::{AllocError, Global};
+use std::alloc::Global;
 use std::process::Abort;
 
 /// The index of rows with these hashes and values.
-fn index_of(alloc: Global, rows: &[(u32, i64)]) -> Result<Index, AllocError>
-    requires { length rows.now < 2 ^ 32 }
-    ensures { IfOk result (λ i. length i.rows ≡ length rows.now) }
-{
-    let mut index = Index::new(alloc)?;
-    index.reserve(rows.len())?;
-    for row in rows {
-        index.push(row.0, row.1);
-    }
-    Ok(index)
-}
-
-fn index(rt: &impl Abort, alloc: Global, rows: &[(u32, i64)]) -> Index
+fn index_of(rt: &impl Abort, alloc: Global, rows: &[(u32, i64)]) -> Index
     ensures { length result.rows ≡ length rows.now }
 {
     assert!(rt; rows.len() <= 1_000);
-    index_of(alloc, rows).expect(rt, "memory")
+    let mut index = Index::new(alloc).expect(rt, "memory");
+    index.reserve(rows.len()).expect(rt, "memory");
+    for row in rows {
+        index.push(row.0, row.1);
+    }
+    index
 }
 
 /// The newest row of the hash in the range.
@@ -33,8 +26,8 @@ fn first(index: &mut Index, hash: u32, range: Range) -> Option<u32>
 }
 
 /// The next row after that.
-fn second(index: &mut Index, hash: u32, range: Range, next: Range) -> Option<u32> {
-    let row = index.first(hash, &range)?;
+fn second(rt: &impl Abort, index: &mut Index, hash: u32, range: Range, next: Range) -> Option<u32> {
+    let row = index.first(hash, &range).expect(rt, "a row");
     index.next(hash, &next, row)
 }
 
@@ -60,6 +53,14 @@ fn both(least: i64, most: i64) -> Range {
     at_least(least).at_most(most)
 }
 
+fn between(least: Option<i64>, most: Option<i64>) -> Range {
+    Range {
+        least,
+        most,
+        except: None,
+    }
+}
+
 /// A hash, the ends of a range, and the newest row there.
 type Row = (u32, Option<i64>, Option<i64>, Option<u32>);
 
@@ -67,11 +68,7 @@ fn expect_first(rt: &impl Abort, index: &mut Index, rows: &[Row])
     ensures { index.new ≡ index.old }
 {
     for (hash, least, most, row) in rows {
-        let range = Range {
-            least: *least,
-            most: *most,
-            except: None,
-        };
+        let range = between(*least, *most);
         assert!(rt; first(index, *hash, range) == *row, "{hash} in {range:?}");
     }
 }
@@ -89,12 +86,12 @@ const IN_RANGE: [Row; 8] = [
 
 #[test]
 fn finds_the_newest_row_in_range(rt: HostRuntime) {
-    let mut index = index(&rt, rt.alloc(), &ROWS);
+    let mut index = index_of(&rt, rt.alloc(), &ROWS);
     expect_first(&rt, &mut index, &IN_RANGE);
     let four_to_five = both(4, 9).at_most(5).at_least(-1);
-    for (hash, row) in [(7, Some(0)), (8, Some(4)), (9, None)] {
-        assert!(rt; first(&mut index, hash, four_to_five) == row, "{hash}");
-    }
+    assert!(rt; first(&mut index, 7, four_to_five) == Some(0));
+    assert!(rt; first(&mut index, 8, four_to_five) == Some(4));
+    assert!(rt; first(&mut index, 9, four_to_five) == None);
 }
 
 /// A hash, the least of a range, a row, and the newest row there at that row or below it.
@@ -125,7 +122,7 @@ const AT_OR_BELOW_DEAD: [From; 3] = [(7, 0, 5, Some(2)), (7, 4, 3, Some(0)), (7,
 
 #[test]
 fn goes_on_at_a_row(rt: HostRuntime) {
-    let mut index = index(&rt, rt.alloc(), &ROWS);
+    let mut index = index_of(&rt, rt.alloc(), &ROWS);
     expect_at_or_below(&rt, &mut index, &AT_OR_BELOW);
     kill(&mut index, 3);
     kill(&mut index, 5);
@@ -134,7 +131,7 @@ fn goes_on_at_a_row(rt: HostRuntime) {
 
 #[test]
 fn ranges_are_made_by_their_ends(rt: HostRuntime) {
-    let mut index = index(&rt, rt.alloc(), &ROWS);
+    let mut index = index_of(&rt, rt.alloc(), &ROWS);
     assert!(rt; first(&mut index, 7, at_least(4)) == Some(3));
     assert!(rt; first(&mut index, 7, at_most(3)) == Some(5));
 }
@@ -154,30 +151,47 @@ const ALIKE: [(u32, i64); 9] = [
 
 #[test]
 fn a_range_leaves_out_one_value(rt: HostRuntime) {
-    let mut index = index(&rt, rt.alloc(), &ALIKE);
+    let mut index = index_of(&rt, rt.alloc(), &ALIKE);
     let but_five = Range::default().but(5);
     assert!(rt; first(&mut index, 7, but_five) == Some(2));
-    assert!(rt; second(&mut index, 7, but_five, but_five) == None);
+    assert!(rt; second(&rt, &mut index, 7, but_five, but_five) == None);
     assert!(rt; first(&mut index, 7, but_five.but(6)) == Some(2));
     assert!(rt; first(&mut index, 7, both(5, 6).but(6)) == Some(8));
 }
 
 #[test]
 fn a_range_from_above_to_below_has_nothing(rt: HostRuntime) {
-    let mut index = index(&rt, rt.alloc(), &ROWS);
+    let mut index = index_of(&rt, rt.alloc(), &ROWS);
     let none = both(5, 4);
     assert!(rt; !none.has(4) && !none.has(5));
     assert!(rt; first(&mut index, 7, none) == None);
 }
 
+/// A hash, the ends of the range of the first row and of the next one, and that one.
+type Next = (u32, Ends, Ends, Option<u32>);
+
+type Ends = (Option<i64>, Option<i64>);
+
+fn expect_second(rt: &impl Abort, index: &mut Index, rows: &[Next]) {
+    for (hash, ends, next, row) in rows {
+        let range = between(ends.0, ends.1);
+        let found = second(rt, index, *hash, range, between(next.0, next.1));
+        assert!(rt; found == *row, "{hash} in {range:?}");
+    }
+}
+
+const BELOW: [Next; 4] = [
+    (7, (Some(4), None), (Some(4), None), Some(0)),
+    (7, (Some(4), None), (None, Some(3)), Some(2)),
+    (7, (Some(4), None), (Some(6), None), None),
+    (8, (None, None), (None, None), None),
+];
+
 #[test]
 fn goes_on_below_a_row(rt: HostRuntime) {
-    let mut index = index(&rt, rt.alloc(), &ROWS);
-    assert!(rt; second(&mut index, 7, at_least(4), at_least(4)) == Some(0));
-    assert!(rt; second(&mut index, 7, at_least(4), at_most(3)) == Some(2));
-    assert!(rt; second(&mut index, 7, at_least(4), at_least(6)) == None);
+    let mut index = index_of(&rt, rt.alloc(), &ROWS);
+    expect_second(&rt, &mut index, &BELOW);
     assert!(rt; first(&mut index, 8, Range::default()) == Some(4));
-    assert!(rt; second(&mut index, 8, Range::default(), Range::default()) == None);
 }
 
 const LEFT_WITHOUT_3: [Row; 3] = [
@@ -188,7 +202,7 @@ const LEFT_WITHOUT_3: [Row; 3] = [
 
 #[test]
 fn dead_rows_are_passed_over(rt: HostRuntime) {
-    let mut index = index(&rt, rt.alloc(), &ROWS);
+    let mut index = index_of(&rt, rt.alloc(), &ROWS);
     kill(&mut index, 3);
     expect_first(&rt, &mut index, &LEFT_WITHOUT_3);
     kill(&mut index, 5);
@@ -211,7 +225,7 @@ const AT_THE_ENDS: [Row; 4] = [
 #[test]
 fn the_ends_of_all_values(rt: HostRuntime) {
     let ends = [(1, i64::MIN), (1, 0), (1, i64::MAX)];
-    let mut index = index(&rt, rt.alloc(), &ends);
+    let mut index = index_of(&rt, rt.alloc(), &ends);
     expect_first(&rt, &mut index, &AT_THE_ENDS);
     kill(&mut index, 2);
     expect_first(&rt, &mut index, &[(1, Some(1), None, None)]);
@@ -225,7 +239,7 @@ fn the_ends_of_all_values(rt: HostRuntime) {
 
 /// A thousand rows of one hash and value, and two rows more.
 fn grown(rt: &impl Abort, alloc: Global) -> Index {
-    let mut index = index_of(alloc, &[(5, 10); 1000]).expect(rt, "memory");
+    let mut index = index_of(rt, alloc, &[(5, 10); 1000]);
     index.reserve(1000).expect(rt, "memory");
     index.push(5, 20);
     index.push(6, 10);
@@ -244,6 +258,6 @@ const GROWN: [Row; 5] = [
 fn rows_are_found_after_the_slots_have_grown(rt: HostRuntime) {
     let mut index = grown(&rt, rt.alloc());
     expect_first(&rt, &mut index, &GROWN);
-    assert!(rt; second(&mut index, 5, at_most(10), at_most(10)) == Some(998));
-    assert!(rt; second(&mut index, 5, at_most(10), at_least(11)) == None);
+    assert!(rt; second(&rt, &mut index, 5, at_most(10), at_most(10)) == Some(998));
+    assert!(rt; second(&rt, &mut index, 5, at_most(10), at_least(11)) == None);
 }

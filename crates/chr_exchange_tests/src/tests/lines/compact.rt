@@ -56,15 +56,14 @@ pub fn is_read_as_by_value(rt: &impl Abort, alloc: Global, line: &[u8]) -> bool 
     !is_compact(alloc, &spaced) && is_read_alike(alloc, line, &spaced)
 }
 
-/// The line has to be read as by its value, from its bytes alone or not.
-fn expect_read(rt: &impl Abort, alloc: Global, line: &[u8], compact: bool) {
-    assert!(rt; is_read_as_by_value(rt, alloc, line), "at {line:?}");
-    assert!(rt; is_compact(alloc, line) == compact, "at {line:?}");
+/// Whether the line is read as by its value, from its bytes alone or not.
+fn is_read(rt: &impl Abort, alloc: Global, line: &[u8], compact: bool) -> bool {
+    is_read_as_by_value(rt, alloc, line) && is_compact(alloc, line) == compact
 }
 
 fn expect_all_read(rt: &impl Abort, alloc: Global, lines: &[&str], compact: bool) {
     for line in lines {
-        expect_read(rt, alloc, line.as_bytes(), compact);
+        assert!(rt; is_read(rt, alloc, line.as_bytes(), compact), "at {line}");
     }
 }
 
@@ -128,7 +127,8 @@ const OTHER_BYTES: [&str; 36] = [
 fn other_bytes_are_read_by_value(rt: HostRuntime) {
     let alloc = rt.alloc();
     expect_all_read(&rt, alloc, &OTHER_BYTES, false);
-    expect_read(&rt, alloc, b"[\"tell\",1,[1,7],[[\"\xff\",1]]]", false);
+    let line = b"[\"tell\",1,[1,7],[[\"\xff\",1]]]";
+    assert!(rt; is_read(&rt, alloc, line, false));
 }
 
 const OTHER_SHAPES: [&str; 24] = [
@@ -163,11 +163,13 @@ fn other_shapes_are_read_by_value(rt: HostRuntime) {
     expect_all_read(&rt, rt.alloc(), &OTHER_SHAPES, false);
 }
 
+const CUT: &str = "[\"tell\",10,[2,30],[[\"path\",3,-45],[\"coin\"]]]";
+
 #[test]
 fn cut_tells_are_read_by_value(rt: HostRuntime) {
     let alloc = rt.alloc();
-    let line = b"[\"tell\",10,[2,30],[[\"path\",3,-45],[\"coin\"]]]".as_slice();
-    for len in 0..line.len() {
-        expect_read(&rt, alloc, &line[..len], false);
+    for len in 0..CUT.len() {
+        let line = &CUT.as_bytes()[..len];
+        assert!(rt; is_read(&rt, alloc, line, false), "{len} bytes");
     }
 }

@@ -2,9 +2,9 @@
 //! others.
 ghost use Rattle.std.specs.Prelude.{◌≡◌};
 
-use chr_acts::{Book, OpList, Reply};
-use chr_ops::Summary;
-use chr_shared::{Naming, Opening, Receipt, Seat, Settled, Shared};
+use crate::tests::calls::{give, opened};
+use chr_acts::Book;
+use chr_shared::{Naming, Opening, Seat, Settled, Shared};
 use chr_shared_testing::{MINIMUM, accepted, op, opening, rest_and_close, rests_at};
 use std::alloc::Global;
 use std::marker::Brand;
@@ -29,39 +29,8 @@ fn tell_ten<J: Naming, R: Wait>(
     }
 }
 
-fn summed(receipt: Receipt) -> Option<Summary> {
-    let Receipt { reply, .. } = receipt;
-    match reply {
-        Reply::Summed(ids) => Some(ids),
-        _ => None,
-    }
-}
-
-fn lacked(receipt: Receipt) -> Option<OpList> {
-    let Receipt { reply, .. } = receipt;
-    match reply {
-        Reply::Lacked(ops) => Some(ops),
-        _ => None,
-    }
-}
-
-/// What the giver holds and the taker lacks goes to the taker.
-fn give<J: Naming, K: Naming, R: Wait>(
-    rt: &R,
-    alloc: Global,
-    giver: &Shared<J>,
-    of_giver: &mut Seat<J>,
-    taker: &Shared<K>,
-    of_taker: &mut Seat<K>,
-) -> Option<()> {
-    let ids = summed(taker.summary(rt, alloc, of_taker).ok()?)?;
-    let ops = lacked(giver.lacks(rt, alloc, of_giver, ids).ok()?)?;
-    taker.merge(rt, alloc, of_taker, ops.into_vec()).ok()?;
-    Some(())
-}
-
 /// So many rounds, each into the first book and then into the second.
-fn exchange<J: Naming, K: Naming, R: Wait>(
+fn exchange<J: Naming, K: Naming, R: Abort + Wait>(
     rt: &R,
     alloc: Global,
     first: &Shared<J>,
@@ -71,13 +40,17 @@ fn exchange<J: Naming, K: Naming, R: Wait>(
     rounds: u32,
 ) {
     for _ in 0..rounds {
-        let _ = give(rt, alloc, second, of_second, first, of_first);
-        let _ = give(rt, alloc, first, of_first, second, of_second);
+        give(rt, alloc, second, of_second, first, of_first);
+        give(rt, alloc, first, of_first, second, of_second);
     }
 }
 
 /// The seats tell and exchange at once, and once more after that.
-fn tell_and_exchange<J: Naming + Send + Sync, K: Naming + Send + Sync, R: Threads + Wait + Sync>(
+fn tell_and_exchange<
+    J: Naming + Send + Sync,
+    K: Naming + Send + Sync,
+    R: Abort + Threads + Wait + Sync,
+>(
     rt: &R,
     alloc: Global,
     first: &Shared<J>,
@@ -139,11 +112,9 @@ fn share<J: Naming + Send + Sync, K: Naming + Send + Sync, R: Abort + Threads + 
     requires first { first ≡ J.opening }
     requires second { second ≡ K.opening }
 {
-    let opened = Shared::<J>::open(alloc, first).ok();
-    let (one, seats) = opened.expect(rt, "memory");
+    let (one, seats) = opened::<J, _>(rt, alloc, first);
     let of_one = two_of(rt, seats);
-    let opened = Shared::<K>::open(alloc, second).ok();
-    let (two, seats) = opened.expect(rt, "memory");
+    let (two, seats) = opened::<K, _>(rt, alloc, second);
     let of_two = two_of(rt, seats);
     let (of_one, of_two) = tell_and_exchange(rt, alloc, &one, of_one, &two, of_two);
     [rest(rt, alloc, one, of_one), rest(rt, alloc, two, of_two)]

@@ -2,11 +2,12 @@
 //! even ones recall first, and put too late.
 ghost use Rattle.std.specs.Prelude.{◌≡◌};
 
+use crate::tests::calls::{done_of, opened, receipt};
 use chr_acts::{Book, Entry, Reply};
 use chr_join::{Accepted, Done};
 use chr_ops::{Op, OpId};
 use chr_replica::Refusal;
-use chr_shared::{Naming, Opening, Receipt, Seat, Settled, Shared};
+use chr_shared::{Naming, Opening, Seat, Settled, Shared};
 use chr_shared_testing::{COINS, accepted, coins, opening, rest_and_close, shown};
 use std::alloc::Global;
 use std::marker::Brand;
@@ -15,30 +16,24 @@ use std::sync::Wait;
 use std::thread;
 use std::thread::Threads;
 
-/// What comes of the lease of a receipt, by resting a copy of it.
-fn done_of(alloc: Global, accepted: &Accepted, receipt: &Receipt) -> Option<Done> {
-    let Reply::Leased(lease) = &receipt.reply else {
-        return None;
-    };
-    accepted.rest_part(alloc, lease.copy(alloc).ok()?).ok()
-}
-
 /// Three coins, of which two are leased out and rested.
-fn lend<J: Naming, R: Wait>(
+fn lend<J: Naming, R: Abort + Wait>(
     rt: &R,
     alloc: Global,
     accepted: &Accepted,
     shared: &Shared<J>,
     seat: &mut Seat<J>,
-) -> Option<Done> {
+) -> Done {
     let id = OpId {
         origin: seat.number(),
         number: 1,
     };
-    let op = Op::of(id, coins(alloc, 3)?)?;
-    shared.tell(rt, alloc, seat, op).ok()?;
-    let taken = shared.take(rt, alloc, seat, coins(alloc, 2)?).ok()?;
-    done_of(alloc, accepted, &taken)
+    let three = coins(alloc, 3).expect(rt, "memory");
+    let op = Op::of(id, three).expect(rt, "an operation");
+    receipt(rt, shared.tell(rt, alloc, seat, op));
+    let two = coins(alloc, 2).expect(rt, "memory");
+    let taken = receipt(rt, shared.take(rt, alloc, seat, two));
+    done_of(rt, alloc, accepted, &taken).expect(rt, "a lease")
 }
 
 /// Puts back what came of a lease. Where the seat's number is even, the lease is recalled first.
@@ -55,7 +50,7 @@ fn give_back<J: Naming, R: Wait>(
     let _ = shared.put(rt, alloc, seat, done);
 }
 
-fn lend_and_give_back<J: Naming, R: Wait>(
+fn lend_and_give_back<J: Naming, R: Abort + Wait>(
     rt: &R,
     alloc: Global,
     accepted: &Accepted,
@@ -63,9 +58,8 @@ fn lend_and_give_back<J: Naming, R: Wait>(
     seat: Seat<J>,
 ) -> Seat<J> {
     let mut seat = seat;
-    if let Some(done) = lend(rt, alloc, accepted, shared, &mut seat) {
-        give_back(rt, alloc, shared, &mut seat, done);
-    }
+    let done = lend(rt, alloc, accepted, shared, &mut seat);
+    give_back(rt, alloc, shared, &mut seat, done);
     seat
 }
 
@@ -78,8 +72,7 @@ fn share<J: Naming + Send + Sync, R: Abort + Threads + Wait + Sync>(
 ) -> (Settled, Book)
     requires { opening ≡ J.opening }
 {
-    let opened = Shared::<J>::open(alloc, opening).ok();
-    let (shared, seats) = opened.expect(rt, "memory");
+    let (shared, seats) = opened::<J, _>(rt, alloc, opening);
     let all = &shared;
     let lend = |seat: Seat<J>| -> Seat<J> { lend_and_give_back(rt, alloc, accepted, all, seat) };
     let lent = thread::map_vec(rt, seats, &lend).ok();

@@ -62,10 +62,10 @@ fn all_rested(
 }
 
 /// Puts it back. Where that is refused it is handed back, with the refusal's number.
-fn put(board: &mut Board, done: Done) -> Option<(Done, u8)> {
+fn put(board: &mut Board, done: Done) -> (Option<Done>, Option<u8>) {
     match board.put(done) {
-        Ok(()) => None,
-        Err(not_put) => Some((not_put.done, not_put.refusal.number())),
+        Ok(()) => (None, None),
+        Err(not_put) => (Some(not_put.done), Some(not_put.refusal.number())),
     }
 }
 
@@ -80,9 +80,9 @@ fn put_all(
 ) -> Vec<Done> {
     let mut back = Vec::new(alloc);
     for (done, number) in dones.into_iter().zip(numbers) {
-        let refused = put(board, done);
-        assert!(rt; refused.as_ref().map(|refused| refused.1) == *number);
-        if let Some((done, _)) = refused {
+        let (handed_back, refused) = put(board, done);
+        assert!(rt; refused == *number);
+        if let Some(done) = handed_back {
             back.push(done).expect(rt, "memory");
         }
     }

@@ -1,8 +1,7 @@
 //! What a thread asks of two shared books, at random.
+use crate::tests::calls::{done_of, give, receipt};
 use crate::tests::replay::values::VALUES;
-use chr_acts::{CallFault, OpList, Reply};
 use chr_join::{Accepted, Done};
-use chr_ops::Summary;
 use chr_shared::{Naming, Receipt, Seat, Shared};
 use chr_shared_testing::{op, store};
 use chr_testing::random::Random;
@@ -43,15 +42,17 @@ fn value(random: &mut Random) -> i64 {
     random.below(VALUES) as i64
 }
 
-/// Keeps a receipt.
-fn keep<J: Naming>(
-    rt: &impl Abort,
-    side: &mut Side<J>,
-    answered: Result<Receipt, CallFault>,
-) -> usize {
-    let receipt = answered.ok().expect(rt, "memory");
+fn keep<J: Naming>(rt: &impl Abort, side: &mut Side<J>, receipt: Receipt) {
     side.receipts.push(receipt).expect(rt, "memory");
-    side.receipts.len()
+}
+
+/// Mostly 5, and seldom another value.
+fn mostly_five(random: &mut Random) -> i64 {
+    if random.below(20) == 0 {
+        value(random)
+    } else {
+        5
+    }
 }
 
 /// Tells an operation of the seat. Seldom it stands for a value of its own.
@@ -64,14 +65,9 @@ fn tell<J: Naming, R: Abort + Wait>(
 ) {
     let number = random.below(6);
     let origin = side.seat.number();
-    let odd = if random.below(20) == 0 {
-        value(random)
-    } else {
-        5
-    };
-    let values = [number as i64, odd];
+    let values = [number as i64, mostly_five(random)];
     let op = op(alloc, origin, number as u64, &values).expect(rt, "memory");
-    let told = shared.tell(rt, alloc, &mut side.seat, op);
+    let told = receipt(rt, shared.tell(rt, alloc, &mut side.seat, op));
     keep(rt, side, told);
 }
 
@@ -83,17 +79,8 @@ fn take<J: Naming, R: Abort + Wait>(
     random: &mut Random,
 ) {
     let part = store(alloc, &[value(random)]).expect(rt, "memory");
-    let taken = shared.take(rt, alloc, &mut side.seat, part);
+    let taken = receipt(rt, shared.take(rt, alloc, &mut side.seat, part));
     keep(rt, side, taken);
-}
-
-/// What comes of the lease of a receipt.
-fn done_of(rt: &impl Abort, alloc: Global, accepted: &Accepted, receipt: &Receipt) -> Option<Done> {
-    let Reply::Leased(lease) = &receipt.reply else {
-        return None;
-    };
-    let lease = lease.copy(alloc).expect(rt, "memory");
-    Some(accepted.rest_part(alloc, lease).ok().expect(rt, "memory"))
 }
 
 /// What comes of the first lease of these receipts.
@@ -120,7 +107,7 @@ fn put<J: Naming, R: Abort + Wait>(
     side: &mut Side<J>,
 ) {
     if let Some(done) = first_done(rt, alloc, accepted, &side.receipts) {
-        let was_put = shared.put(rt, alloc, &mut side.seat, done);
+        let was_put = receipt(rt, shared.put(rt, alloc, &mut side.seat, done));
         keep(rt, side, was_put);
     }
 }
@@ -140,7 +127,21 @@ fn ask<J: Naming, R: Abort + Wait>(
         2 => shared.least_lease(rt, alloc, seat),
         _ => shared.recall(rt, alloc, seat, random.below(6) as u64),
     };
-    keep(rt, side, answered);
+    keep(rt, side, receipt(rt, answered));
+}
+
+/// Two workers rest the pool in up to three parts.
+fn rest<J: Naming, R: Threads + Wait + Sync>(
+    rt: &R,
+    alloc: Global,
+    shared: &Shared<J>,
+    side: &mut Side<J>,
+    random: &mut Random,
+) {
+    let parts = random.below(4) as u32;
+    if parts > 0 {
+        let _ = shared.settle_with(rt, alloc, &mut side.seat, 2, parts, &OpenGate);
+    }
 }
 
 /// A call at random.
@@ -156,32 +157,13 @@ fn call<J: Naming, R: Abort + Threads + Wait + Sync>(
         0..=4 => tell(rt, alloc, shared, side, random),
         5 | 6 => take(rt, alloc, shared, side, random),
         7 => put(rt, alloc, accepted, shared, side),
-        8 => {
-            let parts = random.below(4) as u32;
-            if parts > 0 {
-                let _ = shared.settle_with(rt, alloc, &mut side.seat, 2, parts, &OpenGate);
-            }
-        }
+        8 => rest(rt, alloc, shared, side, random),
         _ => ask(rt, alloc, shared, side, random),
     }
 }
 
-fn summed(receipt: &Receipt, alloc: Global) -> Option<Summary> {
-    match &receipt.reply {
-        Reply::Summed(ids) => ids.copy(alloc).ok(),
-        _ => None,
-    }
-}
-
-fn lacked(receipt: &Receipt, alloc: Global) -> Option<OpList> {
-    match &receipt.reply {
-        Reply::Lacked(ops) => ops.copy(alloc).ok(),
-        _ => None,
-    }
-}
-
 /// What the giver holds and the taker lacks goes to the taker.
-pub fn give<J: Naming, K: Naming, R: Abort + Wait>(
+pub fn exchange<J: Naming, K: Naming, R: Abort + Wait>(
     rt: &R,
     alloc: Global,
     giver: &Shared<J>,
@@ -189,19 +171,9 @@ pub fn give<J: Naming, K: Naming, R: Abort + Wait>(
     taker: &Shared<K>,
     to: &mut Side<K>,
 ) {
-    let ids = taker
-        .summary(rt, alloc, &mut to.seat)
-        .ok()
-        .expect(rt, "memory");
-    let asked = summed(&ids, alloc).expect(rt, "a summary");
-    let ops = giver
-        .lacks(rt, alloc, &mut from.seat, asked)
-        .ok()
-        .expect(rt, "memory");
-    let given = lacked(&ops, alloc).expect(rt, "operations");
-    let merged = taker.merge(rt, alloc, &mut to.seat, given.into_vec());
-    keep(rt, to, Ok(ids));
-    keep(rt, from, Ok(ops));
+    let [ids, ops, merged] = give(rt, alloc, giver, &mut from.seat, taker, &mut to.seat);
+    keep(rt, to, ids);
+    keep(rt, from, ops);
     keep(rt, to, merged);
 }
 
@@ -217,8 +189,8 @@ pub fn work<J: Naming, K: Naming, R: Abort + Threads + Wait + Sync>(
     let mut clerk = clerk;
     for _ in 0..clerk.calls {
         match clerk.random.below(6) {
-            0 => give(rt, alloc, one, &mut clerk.one, other, &mut clerk.other),
-            1 => give(rt, alloc, other, &mut clerk.other, one, &mut clerk.one),
+            0 => exchange(rt, alloc, one, &mut clerk.one, other, &mut clerk.other),
+            1 => exchange(rt, alloc, other, &mut clerk.other, one, &mut clerk.one),
             2 | 3 => call(rt, alloc, accepted, one, &mut clerk.one, &mut clerk.random),
             _ => call(
                 rt,

@@ -32,7 +32,12 @@ pub struct Replica {
 
 /// Whether one of the ranges has the id.
 fn covers(ranges: &[IdRange], id: OpId) -> bool {
-    ranges.iter().any(|range| range.has(id))
+    for range in ranges {
+        if range.has(id) {
+            return true;
+        }
+    }
+    false
 }
 
 /// How many ids the ranges have.
@@ -143,14 +148,14 @@ impl Replica {
     /// Whether the parts are as many, even in size, and all of the pool.
     fn take_parts(&mut self, rt: &impl Abort, parts: u32, leases: &[Lease]) -> bool {
         let least = self.pool.len().checked_div(parts).unwrap_or(0);
-        let mut is_even = leases.len() == parts as usize;
         for lease in leases {
             let values = Values::of(&lease.part);
             let above = values.len().wrapping_sub(least);
-            is_even = is_even && above <= 1 && self.pool.has(&values);
-            is_even = self.lease(rt, values, lease) && is_even;
+            if above > 1 || !self.pool.has(&values) || !self.lease(rt, values, lease) {
+                return false;
+            }
         }
-        is_even && self.pool.len() == 0
+        leases.len() == parts as usize && self.pool.len() == 0
     }
 
     /// The part of a number comes back, where it is out.
@@ -240,13 +245,14 @@ impl Replica {
     }
 
     fn least_lease(&self) -> Option<u64> {
-        let mut least = None;
+        // Each number that is out is below the next one.
+        let mut least = self.next;
         for part in &self.out {
-            if least.is_none_or(|number| part.number < number) {
-                least = Some(part.number);
+            if part.number < least {
+                least = part.number;
             }
         }
-        least
+        if least < self.next { Some(least) } else { None }
     }
 
     /// Whether the entry is what the replica does next, which it does then.

@@ -5,7 +5,7 @@ use chr_base::bag::Bag;
 pub const VALUES: usize = 12;
 
 /// How many atoms there are of each value.
-#[derive(Clone, Copy, Debug, PartialEq, Eq)]
+#[derive(Clone, Copy, PartialEq)]
 pub struct Values([u32; VALUES]);
 
 impl Values {

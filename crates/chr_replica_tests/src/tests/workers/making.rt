@@ -21,7 +21,7 @@ const KEYS: u64 = 10;
 const SIZE: u64 = 64;
 
 /// What atoms are told.
-#[derive(Clone, Copy, Debug, PartialEq, Eq)]
+#[derive(Clone, Copy)]
 pub enum Facts {
     /// `best(key,value)`, with few keys.
     Best,
@@ -111,19 +111,22 @@ pub fn board(rt: &(impl Abort + Threads + Sync), alloc: Global, operations: u32)
 }
 
 /// The least value of a key among the atoms of so many operations.
-fn least(key: i64, operations: u32) -> Option<i64> {
-    (0..u64::from(operations) * SIZE)
-        .filter(|number| key_of(*number) == key)
-        .map(value_of)
-        .min()
+fn least(key: i64, operations: u32) -> i64 {
+    let mut least = i64::MAX;
+    for number in 0..u64::from(operations) * SIZE {
+        if key_of(number) == key {
+            least = least.min(value_of(number));
+        }
+    }
+    least
 }
 
 /// The store of the least values.
 pub fn leasts(rt: &impl Abort, alloc: Global, operations: u32) -> Bag {
     let mut bag = Bag::new(alloc);
     for key in 0..KEYS as i64 {
-        let value = least(key, operations).expect(rt, "a value");
-        bag.add(best(key, value)).expect(rt, "memory");
+        let atom = best(key, least(key, operations));
+        bag.add(atom).expect(rt, "memory");
     }
     bag
 }

@@ -44,7 +44,7 @@ pub fn rest<R: Abort + Threads + Wait + Sync, G: Gate>(
 fn shows(rt: &impl Abort, alloc: Global, board: &Board, operations: u32) {
     let shown = board.show(alloc).ok().expect(rt, "a settled board");
     assert!(rt; shown.is_same(&leasts(rt, alloc, operations)));
-    assert_eq!(rt; board.ops().told(), u64::from(operations) * 64);
+    assert!(rt; board.ops().told() == u64::from(operations) * 64);
 }
 
 /// How many workers there are, how many parts, and how often a gate is passed.
@@ -60,25 +60,27 @@ const SHARED: [(u32, u32, u64); 9] = [
     (16, 64, 64),
 ];
 
-/// So many workers come to the store that a plain loop finds. Each part that they rest passes the gate once.
+/// So many workers come to the store that a plain loop finds of what so many operations told. Each part that they rest
+/// passes the gate once.
 fn come_to_the_least<R: Abort + Threads + Wait + Sync>(
     rt: &R,
     alloc: Global,
+    operations: u32,
     workers: u32,
     parts: u32,
     passes: u64,
 ) {
-    let mut board = board(rt, alloc, MANY);
+    let mut board = board(rt, alloc, operations);
     let gate = Counts::new();
     rest(rt, alloc, &mut board, workers, parts, &gate);
-    assert_eq!(rt; gate.passed(), passes, "{workers} workers, {parts} parts");
-    shows(rt, alloc, &board, MANY);
+    assert!(rt; gate.passed() == passes, "{workers} workers, {parts} parts");
+    shows(rt, alloc, &board, operations);
 }
 
 #[test]
 fn workers_come_to_the_least(rt: HostRuntime) {
     for (workers, parts, passes) in SHARED {
-        come_to_the_least(&rt, rt.alloc(), workers, parts, passes);
+        come_to_the_least(&rt, rt.alloc(), MANY, workers, parts, passes);
     }
 }
 
@@ -104,11 +106,7 @@ fn two_workers_rest_two_parts_at_once(rt: HostRuntime) {
 
 #[test]
 fn few_atoms_are_settled_at_once(rt: HostRuntime) {
-    let mut board = board(&rt, rt.alloc(), FEW);
-    let gate = Counts::new();
-    rest(&rt, rt.alloc(), &mut board, 4, 16, &gate);
-    assert_eq!(rt; gate.passed(), 0);
-    shows(&rt, rt.alloc(), &board, FEW);
+    come_to_the_least(&rt, rt.alloc(), FEW, 4, 16, 0);
 }
 
 /// Where the pool was at rest before few atoms came in, it is not cut.
@@ -119,6 +117,6 @@ fn a_pool_at_rest_is_not_cut_again(rt: HostRuntime) {
     tell(&rt, rt.alloc(), &mut board, Facts::Best, MANY);
     let gate = Counts::new();
     rest(&rt, rt.alloc(), &mut board, 4, 16, &gate);
-    assert_eq!(rt; gate.passed(), 0);
+    assert!(rt; gate.passed() == 0);
     shows(&rt, rt.alloc(), &board, MANY + 1);
 }

@@ -1,10 +1,11 @@
 //! Sixteen seats tell ten operations each, in threads of their own, and the first of them rests the book.
 ghost use Rattle.std.specs.Prelude.{◌≡◌};
 
+use crate::tests::{opened, prepared};
 use chr_acts::{Act, Book, Entry, Reply};
 use chr_ops::Added;
 use chr_shared::{Naming, Opening, Seat, Settled, Shared};
-use chr_shared_testing::{MINIMUM, accepted, op, opening, rest_and_close, rests_at};
+use chr_shared_testing::{op, rest_and_close, rests_at};
 use std::alloc::Global;
 use std::marker::Brand;
 use std::process::Abort;
@@ -38,8 +39,7 @@ fn share<J: Naming + Send + Sync, R: Abort + Threads + Wait + Sync>(
 ) -> (Settled, Book)
     requires { opening ≡ J.opening }
 {
-    let opened = Shared::<J>::open(alloc, opening).ok();
-    let (shared, seats) = opened.expect(rt, "memory");
+    let (shared, seats) = opened::<J, _>(rt, alloc, opening);
     let all = &shared;
     let tell = |seat: Seat<J>| -> Seat<J> { tell_ten(rt, alloc, all, seat) };
     let told = thread::map_vec(rt, seats, &tell).ok();
@@ -80,8 +80,7 @@ fn last_of(settled: &Settled) -> Option<(u32, u64)> {
 #[test]
 fn sixteen_seats_tell_at_once(rt: HostRuntime) {
     let alloc = rt.alloc();
-    let accepted = accepted(&rt, alloc, MINIMUM).expect(&rt, "a program");
-    let opening = opening(alloc, &accepted, 16).expect(&rt, "memory");
+    let opening = prepared(&rt, alloc, 16);
     let (settled, book) = share::<Brand, _>(&rt, alloc, opening);
     assert!(rt; rests_at(alloc, &settled, &[11]));
     assert!(rt; book.entries() == 171);

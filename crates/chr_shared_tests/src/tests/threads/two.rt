@@ -1,10 +1,12 @@
 //! A seat tells while another one's parts are rested: no lock is held then.
 ghost use Rattle.std.specs.Prelude.{◌≡◌};
 
+use crate::tests::calls::{Call, receipt};
 use crate::tests::threads::gates::{Holds, waits};
+use crate::tests::{opened, prepared};
 use chr_ops::Op;
 use chr_shared::{Naming, Opening, Seat, Settled, Shared};
-use chr_shared_testing::{MINIMUM, accepted, op, opening, rests_at};
+use chr_shared_testing::{op, rests_at};
 use std::alloc::Global;
 use std::marker::Brand;
 use std::process::Abort;
@@ -27,20 +29,6 @@ fn tell_late<J: Naming, R: Wait>(
     was_held && told
 }
 
-/// Tells a value, by the operation of this number.
-fn tell<J: Naming, R: Abort + Wait>(
-    rt: &R,
-    alloc: Global,
-    shared: &Shared<J>,
-    seat: &mut Seat<J>,
-    number: u64,
-    value: i64,
-) {
-    let op = op(alloc, 1, number, &[value]).expect(rt, "memory");
-    let told = shared.tell(rt, alloc, seat, op).ok();
-    told.expect(rt, "memory");
-}
-
 /// The first seat rests what was told, while the second tells.
 fn share<J: Naming + Send + Sync, R: Abort + Threads + Wait + Sync>(
     rt: &R,
@@ -50,12 +38,11 @@ fn share<J: Naming + Send + Sync, R: Abort + Threads + Wait + Sync>(
 ) -> (Settled, bool)
     requires { opening ≡ J.opening }
 {
-    let opened = Shared::<J>::open(alloc, opening).ok();
-    let (shared, mut seats) = opened.expect(rt, "memory");
+    let (shared, mut seats) = opened::<J, _>(rt, alloc, opening);
     let mut second = seats.pop().expect(rt, "a seat");
     let mut first = seats.pop().expect(rt, "a seat");
-    tell(rt, alloc, &shared, &mut first, 1, 5);
-    tell(rt, alloc, &shared, &mut first, 2, 3);
+    receipt(rt, alloc, &shared, &mut first, &Call::Tell(1, 5));
+    receipt(rt, alloc, &shared, &mut first, &Call::Tell(2, 3));
     let late = op(alloc, 2, 1, &[1]).expect(rt, "memory");
     let all = &shared;
     join(
@@ -68,8 +55,7 @@ fn share<J: Naming + Send + Sync, R: Abort + Threads + Wait + Sync>(
 #[test]
 fn no_lock_is_held_while_parts_are_rested(rt: HostRuntime) {
     let alloc = rt.alloc();
-    let accepted = accepted(&rt, alloc, MINIMUM).expect(&rt, "a program");
-    let opening = opening(alloc, &accepted, 2).expect(&rt, "memory");
+    let opening = prepared(&rt, alloc, 2);
     let gate = Holds::new();
     let (settled, told) = share::<Brand, _>(&rt, alloc, opening, &gate);
     assert!(rt; told);

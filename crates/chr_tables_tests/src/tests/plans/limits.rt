@@ -11,19 +11,17 @@ use chr_testing::atoms::atom;
 use std::process::Abort;
 
 /// The first argument of the first head.
-fn known() -> Source {
-    Source::Argument {
-        place: 0,
-        column: 0,
-    }
-}
+const KNOWN: Source = Source::Argument {
+    place: 0,
+    column: 0,
+};
 
 /// A limit of this column by the first argument of the first head.
 fn by_known(column: usize, cmp: Cmp) -> Limit {
     Limit {
         column,
         cmp,
-        source: known(),
+        source: KNOWN,
     }
 }
 
@@ -131,17 +129,54 @@ fn spans_at_the_ends_of_all_values(rt: HostRuntime) {
     expect_spans(&rt, &AT_THE_ENDS);
 }
 
+/// A limit's sign and source.
+type Bound = (Cmp, Source);
+
+/// A limit of the second column.
+fn second_by(bound: Bound) -> Limit {
+    Limit {
+        column: 1,
+        cmp: bound.0,
+        source: bound.1,
+    }
+}
+
+/// Two limits of the second column, and the ends that they leave.
+const BOTH: [(Bound, Bound, Option<i64>, Option<i64>); 4] = [
+    (
+        (Cmp::Greater, Source::Constant(3)),
+        (Cmp::AtMost, KNOWN),
+        Some(4),
+        Some(7),
+    ),
+    (
+        (Cmp::Less, KNOWN),
+        (Cmp::Less, Source::Constant(4)),
+        None,
+        Some(3),
+    ),
+    (
+        (Cmp::AtLeast, Source::Constant(7)),
+        (Cmp::AtMost, KNOWN),
+        Some(7),
+        Some(7),
+    ),
+    (
+        (Cmp::Greater, KNOWN),
+        (Cmp::AtMost, KNOWN),
+        Some(8),
+        Some(7),
+    ),
+];
+
 #[test]
 fn limits_of_one_column_meet(rt: HostRuntime) {
-    let above = by_constant(1, Cmp::Greater, 3);
-    assert!(rt; span_of_both(above, by_known(1, Cmp::AtMost)) == between(Some(4), Some(7)));
-    let below = by_constant(1, Cmp::Less, 4);
-    assert!(rt; span_of_both(by_known(1, Cmp::Less), below) == between(None, Some(3)));
-    let same = by_constant(1, Cmp::AtLeast, 7);
-    assert!(rt; span_of_both(same, by_known(1, Cmp::AtMost)) == between(Some(7), Some(7)));
-    let none = span_of_both(by_known(1, Cmp::Greater), by_known(1, Cmp::AtMost));
-    assert!(rt; none == between(Some(8), Some(7)));
-    assert!(rt; !none.first.range.has(7) && !none.first.range.has(8));
+    for (first, second, least, most) in BOTH {
+        let span = span_of_both(second_by(first), second_by(second));
+        assert!(rt; span == between(least, most));
+    }
+    let none = range(Some(8), Some(7));
+    assert!(rt; !none.has(7) && !none.has(8));
 }
 
 #[test]
@@ -162,33 +197,38 @@ fn limits_of_two_columns_are_two_bands(rt: HostRuntime) {
     assert!(rt; other.first == above && other.second == below);
 }
 
+/// A limit's column and sign.
+type Part = (usize, Cmp);
+
 /// The order of three limits of these columns, each by this sign.
-fn order_by(limits: [(usize, Cmp); 3]) -> Order {
-    order_of(&limits.map(|(column, cmp)| by_known(column, cmp)))
+fn order_by(first: Part, second: Part, third: Part) -> Order {
+    order_of(&[
+        by_known(first.0, first.1),
+        by_known(second.0, second.1),
+        by_known(third.0, third.1),
+    ])
 }
+
+const LESS: Cmp = Cmp::Less;
+
+const OTHER: Cmp = Cmp::NotEqual;
+
+const GREATER: Cmp = Cmp::Greater;
+
+/// Three limits, and their order.
+const ORDERS: [(Part, Part, Part, Order); 6] = [
+    ((0, LESS), (1, LESS), (2, LESS), Order::ByBoth(0, 1)),
+    ((0, OTHER), (1, LESS), (2, GREATER), Order::ByBoth(1, 2)),
+    ((0, OTHER), (2, LESS), (2, GREATER), Order::ByBoth(2, 0)),
+    ((2, OTHER), (2, LESS), (2, GREATER), Order::By(2)),
+    ((1, OTHER), (1, OTHER), (0, OTHER), Order::ByBoth(1, 0)),
+    ((1, OTHER), (1, OTHER), (1, OTHER), Order::By(1)),
+];
 
 #[test]
 fn orders_come_before_inequalities(rt: HostRuntime) {
-    use Cmp::{Greater, Less, NotEqual};
-    let rows = [
-        ([(0, Less), (1, Less), (2, Less)], Order::ByBoth(0, 1)),
-        (
-            [(0, NotEqual), (1, Less), (2, Greater)],
-            Order::ByBoth(1, 2),
-        ),
-        (
-            [(0, NotEqual), (2, Less), (2, Greater)],
-            Order::ByBoth(2, 0),
-        ),
-        ([(2, NotEqual), (2, Less), (2, Greater)], Order::By(2)),
-        (
-            [(1, NotEqual), (1, NotEqual), (0, NotEqual)],
-            Order::ByBoth(1, 0),
-        ),
-        ([(1, NotEqual), (1, NotEqual), (1, NotEqual)], Order::By(1)),
-    ];
-    for (limits, order) in rows {
-        assert!(rt; order_by(limits) == order, "{order:?}");
+    for (first, second, third, order) in ORDERS {
+        assert!(rt; order_by(first, second, third) == order);
     }
 }
 
@@ -217,20 +257,30 @@ fn limit_by(cmp: Cmp, place: usize, column: usize) -> Limit {
 
 /// The only partner of a plan.
 fn only<'a>(rt: &impl Abort, plan: &'a [Partner]) -> &'a Partner {
-    assert_eq!(rt; plan.len(), 1);
+    assert!(rt; plan.len() == 1);
     partner(rt, plan, 0)
+}
+
+/// Asserts that these are the limits of the only partner of a plan, and of its copy.
+fn expect_limits(rt: &impl Abort, plan: &[Partner], limits: &[Limit]) {
+    let partner = only(rt, plan);
+    assert!(rt; partner.limits.as_slice() == limits);
+    assert!(rt; copied(partner).limits.as_slice() == limits);
+}
+
+/// Asserts that this is the order of the only partner of a plan, and of its copy.
+fn expect_order(rt: &impl Abort, plan: &[Partner], order: Order) {
+    let partner = only(rt, plan);
+    assert!(rt; partner.order == order && copied(partner).order == order);
 }
 
 #[test]
 fn an_order_limits_partners(rt: HostRuntime) {
-    let plan_above = plan(&rt, rt.alloc(), LOWER_ONES, 0);
-    let above = only(&rt, &plan_above);
-    assert!(rt; above.key.is_empty());
-    assert!(rt; above.limits.as_slice() == [limit_by(Cmp::Greater, 0, 0)].as_slice());
-    assert!(rt; copied(above).limits.as_slice() == above.limits.as_slice());
-    let plan_below = plan(&rt, rt.alloc(), LOWER_ONES, 1);
-    let below = only(&rt, &plan_below);
-    assert!(rt; below.limits.as_slice() == [limit_by(Cmp::Less, 1, 0)].as_slice());
+    let above = plan(&rt, rt.alloc(), LOWER_ONES, 0);
+    assert!(rt; only(&rt, &above).key.is_empty());
+    expect_limits(&rt, &above, &[limit_by(Cmp::Greater, 0, 0)]);
+    let below = plan(&rt, rt.alloc(), LOWER_ONES, 1);
+    expect_limits(&rt, &below, &[limit_by(Cmp::Less, 1, 0)]);
 }
 
 const SAME: &str = ":- chr_constraint a/1, b/1. a(X) \\ b(Y) <=> X =\\= Y | true.";
@@ -238,33 +288,40 @@ const SAME: &str = ":- chr_constraint a/1, b/1. a(X) \\ b(Y) <=> X =\\= Y | true
 #[test]
 fn an_inequality_limits_partners(rt: HostRuntime) {
     let plan = plan(&rt, rt.alloc(), SAME, 0);
-    let other = only(&rt, &plan);
-    assert!(rt; other.limits.as_slice() == [limit_by(Cmp::NotEqual, 0, 0)].as_slice());
-    assert!(rt; other.order == Order::By(0) && copied(other).order == Order::By(0));
+    expect_limits(&rt, &plan, &[limit_by(Cmp::NotEqual, 0, 0)]);
+    expect_order(&rt, &plan, Order::By(0));
+}
+
+/// The span that the limits of the only partner of a plan leave under these heads.
+fn only_span(rt: &impl Abort, plan: &[Partner], heads: &[Atom]) -> Span {
+    span_under(heads, &only(rt, plan).limits)
 }
 
 #[test]
 fn both_ends_limit_a_partner(rt: HostRuntime) {
     let plan = plan(&rt, rt.alloc(), WITHIN, 0);
-    let inside = only(&rt, &plan);
     let ends = [limit_by(Cmp::AtLeast, 0, 0), limit_by(Cmp::Less, 0, 1)];
-    assert!(rt; inside.limits.as_slice() == ends.as_slice());
-    let span = span_under(&[atom(0, &[3, 9])], &inside.limits);
+    expect_limits(&rt, &plan, &ends);
+    let span = only_span(&rt, &plan, &[atom(0, &[3, 9])]);
     assert!(rt; span == alone(0, range(Some(3), Some(8))));
 }
+
+/// `X < H`, where `H` is in the second column.
+const BELOW: Limit = Limit {
+    column: 1,
+    cmp: Cmp::Greater,
+    source: Source::Argument {
+        place: 1,
+        column: 0,
+    },
+};
 
 #[test]
 fn both_columns_of_a_partner_are_limited(rt: HostRuntime) {
     let plan = plan(&rt, rt.alloc(), WITHIN, 1);
-    let around = only(&rt, &plan);
-    let above = Limit {
-        column: 1,
-        ..limit_by(Cmp::Greater, 1, 0)
-    };
-    let ends = [limit_by(Cmp::AtMost, 1, 0), above];
-    assert!(rt; around.limits.as_slice() == ends.as_slice());
-    assert!(rt; around.order == Order::ByBoth(0, 1));
-    let span = span_under(&[atom(9, &[]), atom(1, &[5])], &around.limits);
+    expect_limits(&rt, &plan, &[limit_by(Cmp::AtMost, 1, 0), BELOW]);
+    expect_order(&rt, &plan, Order::ByBoth(0, 1));
+    let span = only_span(&rt, &plan, &[atom(9, &[]), atom(1, &[5])]);
     assert!(rt; span.first.range == range(None, Some(5)));
     assert!(rt; span.second.range == range(Some(6), None));
 }
@@ -272,7 +329,6 @@ fn both_columns_of_a_partner_are_limited(rt: HostRuntime) {
 #[test]
 fn what_leaves_one_row_needs_no_limit(rt: HostRuntime) {
     for place in [0, 1] {
-        let plan = plan(&rt, rt.alloc(), LEAST, place);
-        assert!(rt; only(&rt, &plan).limits.is_empty());
+        expect_limits(&rt, &plan(&rt, rt.alloc(), LEAST, place), &[]);
     }
 }

@@ -1,10 +1,11 @@
 //! Dead rows go.
 ghost use Rattle.std.specs.Prelude.{◌≡◌, length};
 
-use crate::tests::tables::{columns, first, get, kill, rows, table};
+use crate::tests::tables::{
+    Found, ROWS, columns, expect_found, has_row, insert, is_dead, kill, len_of, table,
+};
 use chr_plans::key::Order;
 use chr_tables::table::Table;
-use chr_testing::atoms::atom;
 use std::alloc::Global;
 use std::process::Abort;
 
@@ -14,20 +15,12 @@ fn compact(table: &mut Table)
     table.compact();
 }
 
-fn insert(rt: &impl Abort, table: &mut Table, symbol: u16, values: &[i64])
-    ensures { table.new.keys ≡ table.old.keys }
-{
-    table.insert(&atom(symbol, values)).expect(rt, "memory");
-}
-
 /// The table of the six rows, of which three have died and are gone.
 fn compacted(rt: &impl Abort, alloc: Global) -> Table
     ensures { length result.keys ≡ 2 }
 {
-    let mut table = table(rt, alloc, &rows());
-    kill(&mut table, 0);
-    kill(&mut table, 2);
-    kill(&mut table, 5);
+    let mut table = table(rt, alloc, &ROWS);
+    kill(rt, &mut table, &[0, 2, 5]);
     compact(&mut table);
     table
 }
@@ -35,21 +28,21 @@ fn compacted(rt: &impl Abort, alloc: Global) -> Table
 #[test]
 fn live_rows_move_together(rt: HostRuntime) {
     let table = compacted(&rt, rt.alloc());
-    assert_eq!(rt; table.len(), 3);
-    assert!(rt; get(&table, 0) == Some(atom(0, &[1, 5, 3])));
-    assert!(rt; get(&table, 1) == Some(atom(1, &[1])));
-    assert!(rt; get(&table, 2) == Some(atom(0, &[1, 2, 3])));
-    assert!(rt; get(&table, 3) == None);
+    assert!(rt; len_of(&table) == 3);
+    assert!(rt; has_row(&table, 0, 0, &[1, 5, 3]));
+    assert!(rt; has_row(&table, 1, 1, &[1]));
+    assert!(rt; has_row(&table, 2, 0, &[1, 2, 3]));
+    assert!(rt; is_dead(&table, 3));
 }
+
+const MOVED: [Found; 3] = [(0, &[1], Some(2)), (0, &[7], None), (1, &[3, 5], Some(0))];
 
 #[test]
 fn rows_that_moved_are_found(rt: HostRuntime) {
     let mut table = compacted(&rt, rt.alloc());
-    assert!(rt; first(&mut table, 0, &[1]) == Some(2));
-    assert!(rt; first(&mut table, 0, &[7]) == None);
-    assert!(rt; first(&mut table, 1, &[3, 5]) == Some(0));
+    expect_found(&rt, &mut table, &MOVED);
     insert(&rt, &mut table, 0, &[9]);
-    assert!(rt; first(&mut table, 0, &[9]) == Some(3));
+    expect_found(&rt, &mut table, &[(0, &[9], Some(3))]);
 }
 
 /// An empty table with an index by the first argument, in the order of the second.

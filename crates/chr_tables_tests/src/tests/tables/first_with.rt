@@ -1,10 +1,9 @@
 //! Rows found by the value in a column, without an index.
-ghost use Rattle.std.specs.Prelude.{◌≡◌, ◌<◌, length};
+ghost use Rattle.std.specs.Prelude.{◌<◌};
 
-use crate::tests::tables::kill;
+use crate::tests::tables::{insert, kill};
 use chr_base::limits::MAX_ARITY;
 use chr_tables::table::Table;
-use chr_testing::atoms::atom;
 use std::alloc::Global;
 use std::process::Abort;
 
@@ -15,9 +14,7 @@ const ROWS: usize = 70;
 const SOUGHT: i64 = 4;
 
 /// So many rows of two arguments: at these places the second is the sought value, at the others the first is.
-fn table_with(rt: &impl Abort, alloc: Global, places: &[usize]) -> Table
-    ensures { length result.rows ≡ ROWS }
-{
+fn table_with(rt: &impl Abort, alloc: Global, places: &[usize]) -> Table {
     let mut table = Table::new(alloc);
     for row in 0..ROWS {
         let values = if places.contains(&row) {
@@ -25,7 +22,7 @@ fn table_with(rt: &impl Abort, alloc: Global, places: &[usize]) -> Table
         } else {
             [SOUGHT, -1]
         };
-        table.insert(&atom(0, &values)).expect(rt, "memory");
+        insert(rt, &mut table, 0, &values);
     }
     table
 }
@@ -84,15 +81,11 @@ fn one_row_with_the_value(rt: HostRuntime) {
 #[test]
 fn dead_rows_with_the_value(rt: HostRuntime) {
     let mut table = table_with(&rt, rt.alloc(), &PLACES);
-    kill(&mut table, 0);
-    kill(&mut table, 8);
-    kill(&mut table, 63);
+    kill(&rt, &mut table, &[0, 8, 63]);
     assert!(rt; sought(&table, 0) == Some(7));
     assert!(rt; sought(&table, 8) == Some(9));
     assert!(rt; sought(&table, 10) == Some(64));
-    kill(&mut table, 7);
-    kill(&mut table, 9);
-    kill(&mut table, 64);
+    kill(&rt, &mut table, &[7, 9, 64]);
     assert!(rt; sought(&table, 0) == None);
     assert!(rt; first_with(&table, 0, SOUGHT, 7) == Some(10));
 }
@@ -104,10 +97,6 @@ fn no_row_with_the_value(rt: HostRuntime) {
     assert!(rt; first_with(&table, 2, SOUGHT, 0) == None);
     assert!(rt; first_with(&table, 5, 0, 0) == None);
     assert!(rt; first_with(&Table::new(rt.alloc()), 0, 0, 0) == None);
-}
-
-fn insert(rt: &impl Abort, table: &mut Table, symbol: u16, values: &[i64]) {
-    table.insert(&atom(symbol, values)).expect(rt, "memory");
 }
 
 /// Where an atom lacks the argument, it doesn't have 0 there.

@@ -1,12 +1,10 @@
 //! Look-ups in the order of a column, compared with a plain scan of all rows.
-ghost use Rattle.std.specs.Prelude.{◌≡◌, ◌<◌, length};
+ghost use Rattle.std.specs.Prelude.{◌≡◌, length};
 
-use crate::tests::tables::columns;
-use chr_base::atom::Atom;
+use crate::tests::tables::{columns, insert};
 use chr_plans::key::{Band, Order, Span};
 use chr_ranges::Range;
 use chr_tables::table::Table;
-use chr_testing::atoms::atom;
 use std::alloc::Global;
 use std::process::Abort;
 
@@ -17,7 +15,7 @@ const ORDER: usize = 1;
 const SEED: u64 = 1;
 
 /// A row of a table: its atom has these two arguments.
-#[derive(Clone, Copy, Debug, PartialEq, Eq)]
+#[derive(Drop)]
 struct Entry {
     key: i64,
     value: i64,
@@ -25,10 +23,6 @@ struct Entry {
 }
 
 impl Entry {
-    fn atom(&self) -> Atom {
-        atom(0, &[self.key, self.value])
-    }
-
     /// Whether it lives, has this key, where one is given, and a value in the range.
     fn is_wanted(&self, key: &[i64], range: Range) -> bool {
         let has_key = match key.first() {
@@ -91,19 +85,34 @@ fn empty_table(rt: &impl Abort, alloc: Global) -> Table
     table
 }
 
-/// Adds rows for these entries.
-fn add(rt: &impl Abort, table: &mut Table, entries: &[Entry])
-    ensures { table.new.keys ≡ table.old.keys }
+/// The values of rows, with ties.
+const VALUES: [i64; 8] = [5, i64::MIN, 0, i64::MAX, -3, 0, i64::MIN + 1, i64::MAX - 1];
+
+/// The live row with this number: keys 0 and 1, and values in turn.
+fn live_entry(number: usize) -> Entry {
+    Entry {
+        key: if number % 2 == 0 { 0 } else { 1 },
+        value: VALUES[number / 2 % 8],
+        alive: true,
+    }
+}
+
+/// Adds live rows, until there are so many.
+fn grow(rt: &impl Abort, table: &mut Table, entries: &mut Vec<Entry>, count: usize)
+    requires { length table.old.keys ≡ 2 }
+    ensures { length table.new.keys ≡ 2 }
 {
-    for entry in entries {
-        table.insert(&entry.atom()).expect(rt, "memory");
+    for number in entries.len()..count {
+        let entry = live_entry(number);
+        insert(rt, table, 0, &[entry.key, entry.value]);
+        entries.push(entry).expect(rt, "memory");
     }
 }
 
 /// Every third of the rows dies, from the first on.
 fn kill_some(table: &mut Table, entries: &mut [Entry])
-    ensures keys { table.new.keys ≡ table.old.keys }
-    ensures entries { length entries.new ≡ length entries.old }
+    requires { length table.old.keys ≡ 2 }
+    ensures { length table.new.keys ≡ 2 }
 {
     for row in 0..entries.len() {
         if row % 3 == 0 && row < table.len() {
@@ -112,6 +121,9 @@ fn kill_some(table: &mut Table, entries: &mut [Entry])
         }
     }
 }
+
+/// The keys that are looked up, by the first index and by the second, which has no key.
+const KEYS: [(usize, &[i64]); 4] = [(0, &[0]), (0, &[1]), (0, &[2]), (1, &[])];
 
 /// What a look-up meets from the newest row down is what the scan gives.
 fn compare(
@@ -122,18 +134,29 @@ fn compare(
     key: &[i64],
     range: Range,
 )
-    requires { index < length table.old.keys }
-    ensures { table.new ≡ table.old }
+    requires { length table.old.keys ≡ 2 }
+    ensures { length table.new.keys ≡ 2 }
 {
+    assert!(rt; index < 2);
     let span = span_in(range);
     let mut found = table.first(index, key, &span);
     let mut wanted = newest_below(entries, entries.len(), key, range);
     while let Some(row) = found {
-        assert!(rt; wanted == Some(row), "row {row} by {range:?}");
+        assert!(rt; wanted == Some(row), "row {row}");
         wanted = newest_below(entries, row, key, range);
         found = table.next(index, key, &span, row);
     }
-    assert!(rt; wanted == None, "by {range:?}");
+    assert!(rt; wanted.is_none());
+}
+
+/// The same by each key and by none.
+fn compare_keys(rt: &impl Abort, table: &mut Table, entries: &[Entry], range: Range)
+    requires { length table.old.keys ≡ 2 }
+    ensures { length table.new.keys ≡ 2 }
+{
+    for (index, key) in KEYS {
+        compare(rt, table, entries, index, key, range);
+    }
 }
 
 /// Ends of ranges, none among them.
@@ -149,18 +172,14 @@ const ENDS: [Option<i64>; 9] = [
     Some(i64::MAX),
 ];
 
-/// The same for all pairs of ends, those without a value between them too, by each key and by none.
+/// The same for all pairs of ends, those without a value between them too.
 fn compare_all(rt: &impl Abort, table: &mut Table, entries: &[Entry])
     requires { length table.old.keys ≡ 2 }
-    ensures { table.new ≡ table.old }
+    ensures { length table.new.keys ≡ 2 }
 {
     for least in ENDS {
         for most in ENDS {
-            let range = between(least, most);
-            compare(rt, table, entries, 0, &[0], range);
-            compare(rt, table, entries, 0, &[1], range);
-            compare(rt, table, entries, 0, &[2], range);
-            compare(rt, table, entries, 1, &[], range);
+            compare_keys(rt, table, entries, between(least, most));
         }
     }
 }
@@ -168,52 +187,26 @@ fn compare_all(rt: &impl Abort, table: &mut Table, entries: &[Entry])
 /// The same where one value is left out, by a key and by none.
 fn compare_without(rt: &impl Abort, table: &mut Table, entries: &[Entry])
     requires { length table.old.keys ≡ 2 }
-    ensures { table.new ≡ table.old }
+    ensures { length table.new.keys ≡ 2 }
 {
     for value in VALUES {
-        compare(rt, table, entries, 0, &[1], Range::default().but(value));
-        compare(
-            rt,
-            table,
-            entries,
-            1,
-            &[],
-            between(Some(0), None).but(value),
-        );
+        let others = Range::default().but(value);
+        compare(rt, table, entries, 0, &[1], others);
+        let upper_ones = between(Some(0), None).but(value);
+        compare(rt, table, entries, 1, &[], upper_ones);
     }
-}
-
-/// The values of rows, with ties.
-const VALUES: [i64; 8] = [5, i64::MIN, 0, i64::MAX, -3, 0, i64::MIN + 1, i64::MAX - 1];
-
-/// So many live rows: keys 0 and 1, and values in turn.
-fn live_entries(rt: &impl Abort, alloc: Global, count: usize) -> Vec<Entry>
-    ensures { length result.items ≡ count }
-{
-    let mut entries = Vec::new(alloc);
-    for number in 0..count {
-        entries
-            .push(Entry {
-                key: if number % 2 == 0 { 0 } else { 1 },
-                value: VALUES[number / 2 % 8],
-                alive: true,
-            })
-            .expect(rt, "memory");
-    }
-    entries
 }
 
 #[test]
 fn as_by_a_plain_scan_while_slots_grow_and_rows_die(rt: HostRuntime) {
-    let alloc = rt.alloc();
-    let mut entries = live_entries(&rt, alloc, 100);
-    let mut table = empty_table(&rt, alloc);
-    compare_all(&rt, &mut table, &[]);
-    add(&rt, &mut table, &entries[..12]);
-    compare_all(&rt, &mut table, &entries[..12]);
-    kill_some(&mut table, &mut entries[..12]);
-    compare_all(&rt, &mut table, &entries[..12]);
-    add(&rt, &mut table, &entries[12..]);
+    let mut entries = Vec::new(rt.alloc());
+    let mut table = empty_table(&rt, rt.alloc());
+    compare_all(&rt, &mut table, &entries);
+    grow(&rt, &mut table, &mut entries, 12);
+    compare_all(&rt, &mut table, &entries);
+    kill_some(&mut table, &mut entries);
+    compare_all(&rt, &mut table, &entries);
+    grow(&rt, &mut table, &mut entries, 100);
     compare_all(&rt, &mut table, &entries);
     kill_some(&mut table, &mut entries);
     compare_all(&rt, &mut table, &entries);
@@ -221,10 +214,9 @@ fn as_by_a_plain_scan_while_slots_grow_and_rows_die(rt: HostRuntime) {
 
 #[test]
 fn one_value_is_left_out(rt: HostRuntime) {
-    let alloc = rt.alloc();
-    let mut entries = live_entries(&rt, alloc, 40);
-    let mut table = empty_table(&rt, alloc);
-    add(&rt, &mut table, &entries);
+    let mut entries = Vec::new(rt.alloc());
+    let mut table = empty_table(&rt, rt.alloc());
+    grow(&rt, &mut table, &mut entries, 40);
     compare_without(&rt, &mut table, &entries);
     kill_some(&mut table, &mut entries);
     compare_without(&rt, &mut table, &entries);
@@ -239,14 +231,25 @@ fn compare_from(
     key: &[i64],
     range: Range,
 )
-    requires { index < length table.old.keys }
-    ensures { table.new ≡ table.old }
+    requires { length table.old.keys ≡ 2 }
+    ensures { length table.new.keys ≡ 2 }
 {
+    assert!(rt; index < 2);
     let span = span_in(range);
     for row in 0..entries.len() + 1 {
         let wanted = newest_below(entries, row + 1, key, range);
         let found = table.at_or_below(index, key, &span, row);
-        assert!(rt; found == wanted, "at {row} by {range:?}");
+        assert!(rt; found == wanted, "at {row}");
+    }
+}
+
+/// The same by each key and by none.
+fn compare_keys_from(rt: &impl Abort, table: &mut Table, entries: &[Entry], range: Range)
+    requires { length table.old.keys ≡ 2 }
+    ensures { length table.new.keys ≡ 2 }
+{
+    for (index, key) in KEYS {
+        compare_from(rt, table, entries, index, key, range);
     }
 }
 
@@ -259,26 +262,21 @@ const RANGES: [(Option<i64>, Option<i64>); 5] = [
     (Some(6), Some(7)),
 ];
 
-/// The same for these ranges, by each key and by none.
+/// The same for these ranges.
 fn compare_all_from(rt: &impl Abort, table: &mut Table, entries: &[Entry])
     requires { length table.old.keys ≡ 2 }
-    ensures { table.new ≡ table.old }
+    ensures { length table.new.keys ≡ 2 }
 {
     for (least, most) in RANGES {
-        let range = between(least, most);
-        compare_from(rt, table, entries, 0, &[0], range);
-        compare_from(rt, table, entries, 0, &[1], range);
-        compare_from(rt, table, entries, 0, &[2], range);
-        compare_from(rt, table, entries, 1, &[], range);
+        compare_keys_from(rt, table, entries, between(least, most));
     }
 }
 
 #[test]
 fn goes_on_at_each_row(rt: HostRuntime) {
-    let alloc = rt.alloc();
-    let mut entries = live_entries(&rt, alloc, 40);
-    let mut table = empty_table(&rt, alloc);
-    add(&rt, &mut table, &entries);
+    let mut entries = Vec::new(rt.alloc());
+    let mut table = empty_table(&rt, rt.alloc());
+    grow(&rt, &mut table, &mut entries, 40);
     compare_all_from(&rt, &mut table, &entries);
     kill_some(&mut table, &mut entries);
     compare_all_from(&rt, &mut table, &entries);
@@ -290,50 +288,67 @@ fn table_of(rt: &impl Abort, alloc: Global, values: &[i64]) -> Table
 {
     let mut table = empty_table(rt, alloc);
     for value in values {
-        table.insert(&atom(0, &[1, *value])).expect(rt, "memory");
+        insert(rt, &mut table, 0, &[1, *value]);
     }
     table
 }
 
-/// The newest row of the key 1 between these ends.
-fn first_between(table: &mut Table, least: Option<i64>, most: Option<i64>) -> Option<usize>
+/// Ends, and the newest row of the key 1 between them.
+type Found = (Option<i64>, Option<i64>, Option<usize>);
+
+/// Looks each row up.
+fn expect_between(rt: &impl Abort, table: &mut Table, rows: &[Found])
     requires { length table.old.keys ≡ 2 }
-    ensures { table.new ≡ table.old }
 {
-    table.first(0, &[1], &span_in(between(least, most)))
+    for (number, (least, most, row)) in rows.iter().enumerate() {
+        let found = table.first(0, &[1], &span_in(between(*least, *most)));
+        assert!(rt; found == *row, "look-up {number}");
+    }
 }
+
+const BETWEEN_SMALL_ENDS: [Found; 10] = [
+    (None, None, Some(3)),
+    (Some(5), Some(5), Some(2)),
+    (Some(6), Some(6), None),
+    (Some(6), Some(8), Some(3)),
+    (Some(8), None, Some(1)),
+    (Some(9), None, Some(1)),
+    (Some(10), None, None),
+    (None, Some(5), Some(2)),
+    (None, Some(4), None),
+    (Some(7), Some(5), None),
+];
 
 #[test]
 fn both_ends_are_in_the_range(rt: HostRuntime) {
     let mut table = table_of(&rt, rt.alloc(), &[5, 9, 5, 7]);
-    assert!(rt; first_between(&mut table, None, None) == Some(3));
-    assert!(rt; first_between(&mut table, Some(5), Some(5)) == Some(2));
-    assert!(rt; first_between(&mut table, Some(6), Some(6)) == None);
-    assert!(rt; first_between(&mut table, Some(6), Some(8)) == Some(3));
-    assert!(rt; first_between(&mut table, Some(8), None) == Some(1));
-    assert!(rt; first_between(&mut table, Some(9), None) == Some(1));
-    assert!(rt; first_between(&mut table, Some(10), None) == None);
-    assert!(rt; first_between(&mut table, None, Some(5)) == Some(2));
-    assert!(rt; first_between(&mut table, None, Some(4)) == None);
-    assert!(rt; first_between(&mut table, Some(7), Some(5)) == None);
+    expect_between(&rt, &mut table, &BETWEEN_SMALL_ENDS);
 }
+
+const BETWEEN_GREAT_ENDS: [Found; 5] = [
+    (Some(i64::MAX), None, Some(0)),
+    (Some(1), Some(i64::MAX - 1), None),
+    (None, Some(i64::MIN), Some(1)),
+    (Some(i64::MIN + 1), Some(-1), None),
+    (Some(i64::MAX), Some(i64::MIN), None),
+];
 
 #[test]
 fn the_ends_of_all_values(rt: HostRuntime) {
     let mut table = table_of(&rt, rt.alloc(), &[i64::MAX, i64::MIN, 0]);
-    assert!(rt; first_between(&mut table, Some(i64::MAX), None) == Some(0));
-    assert!(rt; first_between(&mut table, Some(1), Some(i64::MAX - 1)) == None);
-    assert!(rt; first_between(&mut table, None, Some(i64::MIN)) == Some(1));
-    assert!(rt; first_between(&mut table, Some(i64::MIN + 1), Some(-1)) == None);
-    assert!(rt; first_between(&mut table, Some(i64::MAX), Some(i64::MIN)) == None);
+    expect_between(&rt, &mut table, &BETWEEN_GREAT_ENDS);
 }
+
+const BESIDE_A_MISSING_ARGUMENT: [Found; 3] = [
+    (Some(0), Some(0), Some(2)),
+    (Some(1), None, Some(0)),
+    (None, Some(-1), Some(1)),
+];
 
 /// An argument that an atom doesn't have counts as 0.
 #[test]
 fn a_missing_argument_is_zero(rt: HostRuntime) {
     let mut table = table_of(&rt, rt.alloc(), &[3, -3]);
-    table.insert(&atom(0, &[1])).expect(&rt, "memory");
-    assert!(rt; first_between(&mut table, Some(0), Some(0)) == Some(2));
-    assert!(rt; first_between(&mut table, Some(1), None) == Some(0));
-    assert!(rt; first_between(&mut table, None, Some(-1)) == Some(1));
+    insert(&rt, &mut table, 0, &[1]);
+    expect_between(&rt, &mut table, &BESIDE_A_MISSING_ARGUMENT);
 }

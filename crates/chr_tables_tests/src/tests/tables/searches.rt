@@ -1,70 +1,28 @@
 //! Searches by plans, compared with a plain walk over all pairs of rows.
-ghost use Rattle.std.specs.Prelude.{◌≡◌, ◌+◌, ◌<◌, ◌≤◌, ◌^◌, length, IfOk};
+ghost use Rattle.std.specs.Prelude.{◌<◌, length, IfOk};
 ghost use Rattle.chr_base.specs.Rules.{heads_of};
 ghost use Rattle.chr_plans.specs.Plans.{IsPlan, FitsTables, partners_of};
 ghost use Rattle.chr_tables.specs.Contents.{rows_of, index_columns};
 
 use super::atom;
 use arrayvec::ArrayVec;
-use chr_base::atom::{Atom, SymbolId};
-use chr_base::limits::{MAX_ARITY, MAX_HEADS};
+use chr_base::atom::Atom;
+use chr_base::limits::MAX_HEADS;
 use chr_base::rule::Rule;
-use chr_base::term::{Cmp, Comparison, Pattern, Term};
 use chr_plans::plan::{Lookup, Plan};
 use chr_plans::planning::plan_of;
 use chr_plans::react::react;
+use chr_plans::rows::Seat;
 use chr_plans::search::find_partners;
 use chr_tables::hash::FIXED_SEED;
 use chr_tables::table::Table;
 use chr_tables::tables::Tables;
+use chr_testing::texts::rule_of;
 use std::alloc::{AllocError, Global};
 use std::process::Abort;
-use std::test::Fail;
 
-fn pattern(symbol: u16, terms: &[Term]) -> Pattern
-    requires { length terms.now ≤ MAX_ARITY }
-    ensures symbol { result.symbol.0 ≡ symbol }
-    ensures args { result.args.items ≡ terms.now }
-{
-    let mut args = ArrayVec::new();
-    for term in terms {
-        args.push(*term);
-    }
-    Pattern {
-        symbol: SymbolId(symbol),
-        args,
-    }
-}
-
-/// `e(X, Y) \ e(Y, Z), e(Z, X) <=> X < Z | e(X, Z)`, where `e` is the first symbol.
-#[tactic(auto, unfolding(chr_base::specs::RuleTests::is_in_bounds))]
-fn triangle() -> Rule
-    ensures { length (heads_of result) ≡ 3 }
-{
-    let x = Term::Variable(1);
-    let y = Term::Variable(2);
-    let z = Term::Variable(3);
-    let mut kept = ArrayVec::new();
-    kept.push(pattern(0, &[x, y]));
-    let mut removed = ArrayVec::new();
-    removed.push(pattern(0, &[y, z]));
-    removed.push(pattern(0, &[z, x]));
-    let mut guard = ArrayVec::new();
-    guard.push(Comparison {
-        left: x,
-        cmp: Cmp::Less,
-        right: z,
-    });
-    let mut body = ArrayVec::new();
-    body.push(pattern(0, &[x, z]));
-    Rule {
-        name: None,
-        kept,
-        removed,
-        guard,
-        body,
-    }
-}
+/// Three edges that make a triangle.
+const TRIANGLE: &str = ":- chr_constraint e/2. e(X, Y) \\ e(Y, Z), e(Z, X) <=> X < Z | e(X, Z).";
 
 /// One table, and look-ups in it.
 #[derive(Drop)]
@@ -106,6 +64,20 @@ fn prepared(alloc: Global, rule: &Rule, place: usize, atoms: &[Atom]) -> Result<
     Ok(Setting { tables, lookups })
 }
 
+/// The same, where there is memory.
+fn set_up(rt: &impl Abort, alloc: Global, rule: &Rule, place: usize, atoms: &[Atom]) -> Setting
+    requires place { place < length (heads_of rule.now) }
+    ensures plan { IsPlan rule.now place (partners_of result.lookups.items) }
+    ensures fits { FitsTables rule.now result.lookups.items
+        (rows_of result.tables.tables.items) (index_columns result.tables.tables.items) }
+{
+    prepared(alloc, rule, place, atoms).expect(rt, "memory")
+}
+
+fn is_live(row: usize) -> bool {
+    row % 3 != 1
+}
+
 /// The heads with the active atom at its place and these two at the other places, in the order of places after it.
 fn heads_round(place: usize, active: &Atom, first: &Atom, second: &Atom) -> [Atom; 3]
     requires { place < 3 }
@@ -122,7 +94,7 @@ fn has_pair(rule: &Rule, place: usize, rows: &[Atom], active: &Atom) -> bool
 {
     for i in 0..rows.len() {
         for j in 0..rows.len() {
-            let live = i % 3 != 1 && j % 3 != 1 && i != j;
+            let live = is_live(i) && is_live(j) && i != j;
             if live && rule.fires(&heads_round(place, active, &rows[i], &rows[j])) {
                 return true;
             }
@@ -131,7 +103,31 @@ fn has_pair(rule: &Rule, place: usize, rows: &[Atom], active: &Atom) -> bool
     false
 }
 
-/// Whether the search by a plan finds partners. Those that it finds make the rule fire, and live in different rows.
+/// The row of the head at this place, counted round.
+fn row_at(rt: &impl Abort, seats: &[Seat], place: usize) -> usize {
+    seats.get(place % 3).expect(rt, "a seat").row
+}
+
+/// The partners that were found for the active atom live in different rows.
+fn expect_partners(
+    rt: &impl Abort,
+    place: usize,
+    rows: &[Atom],
+    active: &Atom,
+    heads: &[Atom],
+    seats: &[Seat],
+)
+    requires { place < 3 }
+{
+    let first = row_at(rt, seats, place + 1);
+    let second = row_at(rt, seats, place + 2);
+    assert!(rt; is_live(first) && is_live(second) && first != second);
+    assert!(rt; first < rows.len() && second < rows.len());
+    let there = heads_round(place, active, &rows[first], &rows[second]);
+    assert!(rt; heads == there.as_slice());
+}
+
+/// Whether the search by a plan finds partners. Those that it finds make the rule fire.
 fn finds_partners(
     rt: &impl Abort,
     alloc: Global,
@@ -139,11 +135,11 @@ fn finds_partners(
     place: usize,
     rows: &[Atom],
     active: &Atom,
-) -> Result<bool, Fail>
-    requires three { length (heads_of rule.now) ≡ 3 }
-    requires place { place < 3 }
+) -> bool
+    requires place { place < length (heads_of rule.now) }
+    requires round { place < 3 }
 {
-    let mut setting = prepared(alloc, rule, place, rows)?;
+    let mut setting = set_up(rt, alloc, rule, place, rows);
     let mut heads = ArrayVec::new();
     let mut seats = ArrayVec::new();
     let found = find_partners(
@@ -158,27 +154,23 @@ fn finds_partners(
     );
     if found {
         assert!(rt; rule.fires(&heads));
-        let first = seats[(place + 1) % 3].row;
-        let second = seats[(place + 2) % 3].row;
-        assert!(rt; first % 3 != 1 && second % 3 != 1 && first != second);
-        assert!(rt; first < rows.len() && second < rows.len());
-        let there = heads_round(place, active, &rows[first], &rows[second]);
-        assert!(rt; heads.as_slice() == there.as_slice());
+        expect_partners(rt, place, rows, active, &heads, &seats);
     }
-    Ok(found)
+    found
 }
 
 /// Whether the rule reacts with the active atom by the one plan of this place.
 fn reacts_at(
+    rt: &impl Abort,
     alloc: Global,
     rule: &Rule,
     place: usize,
     rows: &[Atom],
     active: &Atom,
-) -> Result<bool, AllocError>
+) -> bool
     requires place { place < length (heads_of rule.now) }
 {
-    let setting = prepared(alloc, rule, place, rows)?;
+    let setting = set_up(rt, alloc, rule, place, rows);
     let mut tables = setting.tables;
     let rules = [rule.copy()];
     let plans = [Plan {
@@ -197,13 +189,11 @@ fn reacts_at(
         &mut heads,
         &mut seats,
     );
-    Ok(plan == Some(0))
+    plan == Some(0)
 }
 
 /// Rows `e(X, Y)` that look random, the same for each seed, with values from 0 to 3.
-fn random_rows(alloc: Global, seed: u64) -> Result<Vec<Atom>, AllocError>
-    ensures { IfOk result (λ rows. length rows.items ≡ 12) }
-{
+fn random_rows(rt: &impl Abort, alloc: Global, seed: u64) -> Vec<Atom> {
     let mut state = seed;
     let mut rows = Vec::new(alloc);
     for _ in 0..12_usize {
@@ -212,30 +202,61 @@ fn random_rows(alloc: Global, seed: u64) -> Result<Vec<Atom>, AllocError>
             .wrapping_add(1_442_695_040_888_963_407);
         let left = (state >> 40) % 4;
         let right = (state >> 50) % 4;
-        rows.push(atom(0, &[left as i64, right as i64]))?;
+        let row = atom(0, &[left as i64, right as i64]);
+        rows.push(row).expect(rt, "memory");
     }
-    Ok(rows)
+    rows
 }
 
-#[test]
-fn partners_as_by_a_plain_walk(rt: HostRuntime) -> Result<(), Fail> {
-    let alloc = rt.alloc();
-    let rule = triangle();
-    let mut some = false;
-    let mut none = false;
-    for seed in 0..8 {
-        let rows = random_rows(alloc, seed)?;
-        for place in 0..3 {
-            for code in 0..16 {
-                let active = atom(0, &[code / 4, code % 4]);
-                let found = finds_partners(&rt, alloc, &rule, place, &rows, &active)?;
-                assert_eq!(rt; found, has_pair(&rule, place, &rows, &active));
-                assert_eq!(rt; found, reacts_at(alloc, &rule, place, &rows, &active)?);
-                some = some || found;
-                none = none || !found;
-            }
+/// Whether the active atom has partners: both kinds of search answer as the plain walk.
+fn has_partners(
+    rt: &impl Abort,
+    alloc: Global,
+    rule: &Rule,
+    place: usize,
+    rows: &[Atom],
+    active: &Atom,
+) -> bool
+    requires { place < 3 }
+{
+    assert!(rt; place < rule.places());
+    let found = has_pair(rule, place, rows, active);
+    assert!(rt; finds_partners(rt, alloc, rule, place, rows, active) == found);
+    assert!(rt; reacts_at(rt, alloc, rule, place, rows, active) == found);
+    found
+}
+
+/// For how many of the active atoms `e(X, Y)`, with values from 0 to 3, there are partners at a place.
+fn count_with_partners(
+    rt: &impl Abort,
+    alloc: Global,
+    rule: &Rule,
+    place: usize,
+    rows: &[Atom],
+) -> usize
+    requires { place < 3 }
+{
+    let mut count: usize = 0;
+    for code in 0..16 {
+        let active = atom(0, &[code / 4, code % 4]);
+        if has_partners(rt, alloc, rule, place, rows, &active) {
+            count = count.saturating_add(1);
         }
     }
-    assert!(rt; some && none);
-    Ok(())
+    count
+}
+
+/// Some of the active atoms have partners, and some have none.
+#[test]
+fn partners_as_by_a_plain_walk(rt: HostRuntime) {
+    let rule = rule_of(rt.alloc(), TRIANGLE).expect(&rt, "a rule");
+    let mut count: usize = 0;
+    for seed in 0..8 {
+        let rows = random_rows(&rt, rt.alloc(), seed);
+        for place in 0..3 {
+            let more = count_with_partners(&rt, rt.alloc(), &rule, place, &rows);
+            count = count.saturating_add(more);
+        }
+    }
+    assert!(rt; 0 < count && count < 8 * 3 * 16);
 }

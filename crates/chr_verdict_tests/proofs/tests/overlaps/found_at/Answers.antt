@@ -1,7 +1,7 @@
 use Rattle.std.proofs.Common.{subst, sym, ◌∙◌, arith}
 use Rattle.chr_types.specs.OrderTypes.{In}
 use Rattle.chr_types.proofs.Members.{in_at}
-use Rattle.chr_verdict_tests.proofs.tests.overlaps.overlap_at.Goals as goal
+use Rattle.chr_verdict_tests.proofs.tests.overlaps.found_at.Goals as goal
 
 pub returns : goal.returns
 returns g c =
