@@ -42,7 +42,7 @@ from .log import (
 )
 
 _LOST = (psycopg2.OperationalError, psycopg2.InterfaceError, OSError)
-_CONNECTING = {"connect_timeout": 5, "keepalives_idle": 5, "tcp_user_timeout": 10_000}
+_CONNECTING: dict[str, Any] = {"connect_timeout": 5, "keepalives_idle": 5, "tcp_user_timeout": 10_000}
 _HALF = 2**31
 _NAMED = ("state", "origins", "members", "refused", "names")
 

@@ -46,7 +46,13 @@ _ALL = 2**64 - 1
 
 T = TypeVar("T")
 
-_NEW = {"format": FORMAT, "epoch": FIRST_EPOCH, "generation": 0, "position": "[]", "store": "true"}
+_NEW: dict[str, str | int] = {
+    "format": FORMAT,
+    "epoch": FIRST_EPOCH,
+    "generation": 0,
+    "position": "[]",
+    "store": "true",
+}
 
 # KEYS: lease, state, stream, seal. ARGV: writer, milliseconds, epoch, then number and atoms of each entry
 _APPEND = """
