@@ -1,5 +1,5 @@
 //! What sets gained since others took from them.
-ghost use Rattle.std.specs.Prelude.{◌≡◌, ◌≢◌, ◌≤◌, ◌++◌, ◌⊎◌, ℕ, [], IfSome, OnOk, OnErr, length};
+ghost use Rattle.std.specs.Prelude.{◌≡◌, ◌≢◌, ◌≤◌, ◌++◌, ◌∷◌, ◌⊎◌, ℕ, [], IfSome, OnOk, OnErr, length};
 ghost use Rattle.chr_ops.specs.Operations.{Operations};
 ghost use Rattle.chr_ops.specs.News.{ids_of, GainsOnly, HoldsAll, IsTrueOf, LacksOnly};
 ghost use Rattle.chr_ops.specs.working.Gaining.{GainsOrForgets, Meets, IsSince};
@@ -66,6 +66,16 @@ impl Gains {
         }
     }
 
+    /// Keeps the id of one operation that is gained, likewise.
+    fn gain_one(&mut self, id: OpId)
+        ensures { GainsOrForgets self.old (id ∷ []) self.new }
+    {
+        if self.ids.len() >= MOST_KEPT || self.ids.push(id).is_err() {
+            self.ids.clear();
+            self.met.clear();
+        }
+    }
+
     /// A taker holds all that the giver does. Where memory is refused nothing changes.
     fn meet(&mut self, taker: usize)
         ensures { Meets self.old taker self.new }
@@ -102,6 +112,18 @@ impl News {
     {
         if let Some(gains) = self.givers.get_mut(&giver) {
             gains.gain(ops);
+        }
+    }
+
+    /// A giver gains the operation of an id, as far as it does not hold it.
+    pub fn gained_one(&mut self, giver: usize, id: OpId)
+        ensures giver { (b : ℕ) (m n k : Operations) → IsTrueOf self.old giver b m n → GainsOnly m k (id ∷ [])
+            → IsTrueOf self.new giver b k n }
+        ensures others { (a b : ℕ) (m n : Operations) → a ≢ giver → IsTrueOf self.old a b m n
+            → IsTrueOf self.new a b m n }
+    {
+        if let Some(gains) = self.givers.get_mut(&giver) {
+            gains.gain_one(id);
         }
     }
 

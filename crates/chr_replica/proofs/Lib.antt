@@ -6,4 +6,3 @@ mod LeaseLists
 mod PoolRanks
 mod PartsCut
 mod States
-mod Sound

@@ -1,5 +1,5 @@
 -- Settled replicas that hold the same operations hold the same store.
-use Rattle.std.specs.Prelude.{◌≡◌, Result, Ok, Err, IfOk, OnOk}
+use Rattle.std.specs.Prelude.{◌≡◌}
 use Rattle.std.proofs.Common.{refl, sym, ap, ◌∙◌, subst}
 use Rattle.chr_base.specs.declared.program.Program.{Program}
 use Rattle.chr_base.specs.FinBag.{◌⊕◌}
@@ -49,11 +49,10 @@ one_answer p q s t same confluent values equal sound sound' settled settled' =
     )
 
 -- what is shown of a settled replica is the one normal form of what was told
-pub shown_is_only : {E : Type 0} (p : Program) (s : Replica) (r : Result Store E) → OneAnswer → Confluent (rules_of p)
-    → HasValues (told_store s.operations) → IsSound p s → IfOk r (λ bag. bag ≡ s.pool) → OnOk r (IsSettled p s)
-    → IfOk r (IsOnlyNormalForm (rules_of p) (told_store s.operations))
-shown_is_only p s (Ok bag) one confluent values sound same settled =
+pub shown_is_only : (p : Program) (s : Replica) (shown : Store) → OneAnswer → Confluent (rules_of p)
+    → HasValues (told_store s.operations) → IsSound p s → IsSettled p s → shown ≡ s.pool
+    → IsOnlyNormalForm (rules_of p) (told_store s.operations) shown
+shown_is_only p s shown one confluent values sound settled same =
     let both = one p p s s (refl, refl) confluent values refl sound sound settled settled in
     subst (IsOnlyNormalForm (rules_of p) (told_store s.operations)) (sym same)
     (record { normal = both.1; only = both.2 })
-shown_is_only p s (Err e) one confluent values sound same settled = tt

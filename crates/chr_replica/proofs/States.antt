@@ -1,6 +1,6 @@
 -- What is left of stores and states by the calls of a replica.
-use Rattle.std.specs.Prelude.{◌≡◌, ℕ, ◌+◌, ◌^◌, ◌<◌, ◌≤◌, List, length, All, Bool, true, false, IsTrue, ◌↔◌, Result, Ok}
-use Rattle.std.specs.Prelude.{Err, IfErr, IsErrOf, Some}
+use Rattle.std.specs.Prelude.{◌≡◌, ℕ, ◌+◌, ◌≤◌, List, length, All, Bool, true, false, IsTrue, ◌↔◌, Result, Ok}
+use Rattle.std.specs.Prelude.{Err, IfOk, IfErr, IsErrOf, Some}
 use Rattle.std.specs.Bool.{OnTrue}
 use Rattle.std.specs.List.{list_all}
 use mathlib.Core.Bool.{true≢false}
@@ -14,7 +14,6 @@ use Rattle.chr_base.specs.Values.{Each}
 use Rattle.chr_base.proofs.Each.{each_of_list, list_of_each}
 use Rattle.chr_base.proofs.Stores.{same_store, count_plus, count_minus, store_of-items}
 use Rattle.chr_base.specs.declared.program.Program.{Program}
-use Rattle.chr_base.specs.declared.rule.Rule.{Rule}
 use Rattle.chr_base.specs.declared.derivation.Step.{Step as StepValue}
 use Rattle.chr_base.specs.Programs.{rules_of}
 use Rattle.chr_base.specs.Rules.{Step}
@@ -28,22 +27,24 @@ use Rattle.chr_ops.specs.declared.limits.TheConstants.{MAX_TOLD}
 use Rattle.chr_ops.specs.Operations.{Operation, Operations, told_atoms, sum_of, IsNew}
 use Rattle.chr_ops.specs.Joins.{union, fresh, HasNoClash, IsFirstClash, IsOverLimit}
 use Rattle.chr_base.specs.Stores.{size}
-use Rattle.chr_weights.specs.Weights.{ProgramLowers, store_rank}
+use Rattle.chr_columns.specs.declared.columns.Stopped.{Stopped}
+use Rattle.chr_weights.specs.Weights.{ProgramLowers}
+use Rattle.chr_weights.specs.WeighedPrograms.{program_of}
+use Rattle.chr_weights.specs.declared.weighed.Weighed.{Weighed}
 use Rattle.chr_rewrite.specs.Derivations.{LeadsTo}
 use Rattle.chr_rewrite.specs.Pools.{TookSteps}
 use Rattle.chr_rewrite.proofs.StepCounts.{exact_count}
 use Rattle.chr_replica.specs.declared.limits.TheConstants.{LAST_LEASE}
 use Rattle.chr_replica.specs.Leases.{Leases, stores_sum, with_parts}
 use Rattle.chr_replica.specs.working.Cuts.{IsNear}
+use Rattle.chr_replica.specs.working.States.{replica}
 use Rattle.chr_replica.proofs.PartsCut.{near_even}
+use Rattle.chr_join.specs.declared.accepted.Accepted.{Accepted}
+use Rattle.chr_replica.specs.Boards.{Held}
 use Rattle.chr_replica.specs.Replicas.{Replica, IsDeclared, Tells, Merges, Steps, Takes, TakesParts, Puts, Recalls}
 use Rattle.chr_replica.specs.Replicas.{Settles, IsSound}
 use Rattle.chr_replica.specs.Refusals.{refusal_of, RefusesMerge}
 use Rattle.chr_replica.proofs.PoolRanks.{rank_fits}
-
--- the replica of these parts
-abbrev pub replica : Operations → Store → Leases → ℕ → Replica
-replica m s l k = record { operations = m; pool = s; out = l; next = k }
 
 pub replica_is : (m n : Operations) (s t : Store) (l k : Leases) (a b : ℕ) → m ≡ n → s ≡ t → l ≡ k → a ≡ b
     → replica m s l a ≡ replica n t k b
@@ -67,105 +68,108 @@ put_out false s s' s'' x y z put same again there taken =
 
 -- ---- what each event leaves
 
-pub tells_is : (p : Program) (o o' : Operations) (s s' : Store) (l : Leases) (k : ℕ) (now : Replica) (op : Operation)
-    → replica o s l k ≡ now → IsDeclared p op → IsNew o op → told_atoms o + size op.1 ≤ MAX_TOLD
-    → o' ≡ map.insert o op.0 op.1 → s' ≡ s ⊕ op.1 → Tells p now op (replica o' s' l k)
-tells_is p o o' s s' l k now op e declared new room joined put =
-    subst (λ r. Tells p r op (replica o' s' l k)) e
-    (record { declared = declared; new = new; room = room; after = replica_is o' _ s' _ l l k k joined put refl refl })
+pub tells_is : (p : Program) (o o' : Operations) (s s' : Store) (l : Leases) (k : ℕ) (op : Operation)
+    → IsDeclared p op → IsNew o op → told_atoms o + size op.1 ≤ MAX_TOLD → o' ≡ map.insert o op.0 op.1
+    → s' ≡ s ⊕ op.1 → Tells p (replica o s l k) op (replica o' s' l k)
+tells_is p o o' s s' l k op declared new room joined put = record {
+  declared = declared;
+  new = new;
+  room = room;
+  after = replica_is o' _ s' _ l l k k joined put refl refl;
+}
 
-pub merges_is : (p : Program) (o o' : Operations) (s s' : Store) (l : Leases) (k n : ℕ) (now : Replica)
-    (ops : List Operation) → replica o s l k ≡ now → All (IsDeclared p) ops → HasNoClash o ops
-    → told_atoms o' ≤ MAX_TOLD
-    → n + map.len o ≡ map.len o' → o' ≡ union o ops → s' ≡ s ⊕ sum_of (fresh o ops)
-    → Merges p now ops n (replica o' s' l k)
-merges_is p o o' s s' l k n now ops e declared agree room count joined put =
-    subst (λ r. Merges p r ops n (replica o' s' l k)) e (record {
-      declared = declared;
-      no_clash = agree;
-      room = subst (λ m. told_atoms m ≤ MAX_TOLD) joined room;
-      count = count;
-      after = replica_is o' _ s' _ l l k k joined put refl refl;
-    })
+pub merges_is : (p : Program) (o o' : Operations) (s s' : Store) (l : Leases) (k n : ℕ) (ops : List Operation)
+    → All (IsDeclared p) ops → HasNoClash o ops → told_atoms o' ≤ MAX_TOLD → n + map.len o ≡ map.len o'
+    → o' ≡ union o ops → s' ≡ s ⊕ sum_of (fresh o ops) → Merges p (replica o s l k) ops n (replica o' s' l k)
+merges_is p o o' s s' l k n ops declared agree room count joined put = record {
+  declared = declared;
+  no_clash = agree;
+  room = subst (λ m. told_atoms m ≤ MAX_TOLD) joined room;
+  count = count;
+  after = replica_is o' _ s' _ l l k k joined put refl refl;
+}
 
-pub refuses_merge : (p : Program) (s : Replica) (o : Operations) (ops : List Operation) (r : Result ℕ AddFault)
-    (f : AddFault) → o ≡ s.operations → All (IsDeclared p) ops → r ≡ Err f
-    → ((id : OpId) → IsErrOf r (fault.Clash id) → IsFirstClash o ops id)
-    → (IsErrOf r fault.Full → HasNoClash o ops × IsOverLimit o ops) → RefusesMerge p s ops (refusal_of f)
-refuses_merge p s o ops r (fault.Clash id) same declared e clash full =
-    (declared, subst (λ m. IsFirstClash m ops id) same (clash id e))
-refuses_merge p s o ops r fault.Full same declared e clash full =
-    (declared, subst (λ m. HasNoClash m ops) same ((full e).0), subst (λ m. IsOverLimit m ops) same ((full e).1))
-refuses_merge p s o ops r fault.Memory same declared e clash full = tt
+pub refuses_merge : (p : Program) (s : Replica) (ops : List Operation) (r : Result ℕ AddFault) (f : AddFault)
+    → All (IsDeclared p) ops → r ≡ Err f
+    → ((id : OpId) → IsErrOf r (fault.Clash id) → IsFirstClash s.operations ops id)
+    → (IsErrOf r fault.Full → HasNoClash s.operations ops × IsOverLimit s.operations ops)
+    → RefusesMerge p s ops (refusal_of f)
+refuses_merge p s ops r (fault.Clash id) declared e clash full = (declared, clash id e)
+refuses_merge p s ops r fault.Full declared e clash full = (declared, (full e).0, (full e).1)
+refuses_merge p s ops r fault.Memory declared e clash full = tt
 
-pub steps_is : (p : Program) (rules : List Rule) (st : StepValue) (o : Operations) (s s' : Store) (l : Leases) (k : ℕ)
-    (now : Replica) → replica o s l k ≡ now → rules ≡ rules_of p → LeadsTo rules st s s'
-    → Steps p now st (replica o s' l k)
-steps_is p rules st o s s' l k now e same leads =
-    subst (λ q. Steps p q st (replica o s' l k)) e
-    (record { pool = s'; leads = subst (λ rs. LeadsTo rs st s s') same leads; after = refl })
+pub steps_is : (p : Program) (st : StepValue) (o : Operations) (s s' : Store) (l : Leases) (k : ℕ)
+    → LeadsTo (rules_of p) st s s' → Steps p (replica o s l k) st (replica o s' l k)
+steps_is p st o s s' l k leads = record { pool = s'; leads = leads; after = refl }
 
-pub recalls_is : (o : Operations) (s s' part : Store) (l l' : Leases) (k n : ℕ) (now : Replica) → replica o s l k ≡ now
-    → map.get l n ≡ Some part → s' ≡ s ⊕ store_of (bag.items part) → l' ≡ map.remove l n
-    → Recalls now n (replica o s' l' k)
-recalls_is o s s' part l l' k n now e out put gone =
-    subst (λ r. Recalls r n (replica o s' l' k)) e (record {
-      part = part;
-      out = out;
-      after = replica_is o o s' _ l' _ k k refl (put ∙ ap (λ x. s ⊕ x) (store_of-items part)) gone refl;
-    })
+pub recalls_is : (o : Operations) (s s' part : Store) (l l' : Leases) (k n : ℕ) → map.get l n ≡ Some part
+    → s' ≡ s ⊕ store_of (bag.items part) → l' ≡ map.remove l n → Recalls (replica o s l k) n (replica o s' l' k)
+recalls_is o s s' part l l' k n out put gone = record {
+  part = part;
+  out = out;
+  after = replica_is o o s' _ l' _ k k refl (put ∙ ap (λ x. s ⊕ x) (store_of-items part)) gone refl;
+}
 
-pub settles_is : (p : Program) (n : ℕ) (o : Operations) (s s' : Store) (l : Leases) (k : ℕ) (now : Replica)
-    → replica o s l k ≡ now → ProgramLowers p → IsSound p now → told_atoms now.operations ≤ MAX_TOLD
-    → TookSteps p n s s' → Settles p now n (replica o s' l k)
-settles_is p n o s s' l k now e lowers sound few took =
-    let fits : store_rank p s < 2 ^ 64 = subst (λ r. store_rank p r.pool < 2 ^ 64) (sym e)
-    (rank_fits p now lowers sound few) in
-    subst (λ r. Settles p r n (replica o s' l k)) e (record {
-      pool = s';
-      run = exact_count p n s s' took fits;
-      after =
-          refl;
-    })
+settles_is : (p : Program) (n : ℕ) (o : Operations) (s s' : Store) (l : Leases) (k : ℕ) → ProgramLowers p
+    → IsSound p (replica o s l k) → told_atoms o ≤ MAX_TOLD → TookSteps p n s s'
+    → Settles p (replica o s l k) n (replica o s' l k)
+settles_is p n o s s' l k lowers sound few took = record {
+  pool = s';
+  run = exact_count p n s s' took (rank_fits p (replica o s l k) lowers sound few);
+  after = refl;
+}
 
-pub if_err : {X E : Type 0} (r : Result X E) (P Q : E → Type 0) → ((e : E) → P e → Q e) → IfErr r P → IfErr r Q
-if_err (Ok x) P Q k h = tt
-if_err (Err e) P Q k h = k e h
-
-pub takes_is : (o : Operations) (s s' part : Store) (l l' : Leases) (k k' : ℕ) (now : Replica) → replica o s l k ≡ now
-    → k ≤ LAST_LEASE → IsWithin (store_of (bag.items part)) s → s' ≡ s ⊖ store_of (bag.items part)
-    → l' ≡ map.insert l k part
-    → k' ≡ k + 1 → Takes now part k (replica o s' l' k')
-takes_is o s s' part l l' k k' now e room there out put next =
-    let same = store_of-items part in
-    subst (λ r. Takes r part k (replica o s' l' k')) e (record {
+pub takes_is : (o : Operations) (s s' part : Store) (l l' : Leases) (k k' : ℕ) → k ≤ LAST_LEASE
+    → IsWithin (store_of (bag.items part)) s → s' ≡ s ⊖ store_of (bag.items part) → l' ≡ map.insert l k part
+    → k' ≡ k + 1 → Takes (replica o s l k) part k (replica o s' l' k')
+takes_is o s s' part l l' k k' room there out put next =
+    let same = store_of-items part in record {
       numbered = refl;
       room = room;
       there = subst (λ x. IsWithin x s) same there;
       after = replica_is o o s' _ l' _ k' _ refl (out ∙ ap (λ x. s ⊖ x) same) put next;
-    })
+    }
 
-pub puts_is : (p q : Program) (o : Operations) (s s' part result : Store) (l l' : Leases) (k n : ℕ) (now : Replica)
-    → replica o s l k ≡ now → map.get l n ≡ Some part → SameProgramsReachAlike → AreSame q p
-    → Reaches (Step (rules_of q)) part result → s' ≡ s ⊕ store_of (bag.items result) → l' ≡ map.remove l n
-    → Puts p now n part result (replica o s' l' k)
-puts_is p q o s s' part result l l' k n now e out alike same reached put gone =
-    subst (λ r. Puts p r n part result (replica o s' l' k)) e (record {
-      out = out;
-      reached = (alike q p same part result).0 reached;
-      after = replica_is o o s' _ l' _ k k refl (put ∙ ap (λ x. s ⊕ x) (store_of-items result)) gone refl;
-    })
+pub puts_is : (p q : Program) (o : Operations) (s s' part result : Store) (l l' : Leases) (k n : ℕ)
+    → map.get l n ≡ Some part → SameProgramsReachAlike → AreSame q p → Reaches (Step (rules_of q)) part result
+    → s' ≡ s ⊕ store_of (bag.items result) → l' ≡ map.remove l n
+    → Puts p (replica o s l k) n part result (replica o s' l' k)
+puts_is p q o s s' part result l l' k n out alike same reached put gone = record {
+  out = out;
+  reached = (alike q p same part result).0 reached;
+  after = replica_is o o s' _ l' _ k k refl (put ∙ ap (λ x. s ⊕ x) (store_of-items result)) gone refl;
+}
 
 pub takes_parts_is : (o : Operations) (s s' : Store) (l l' : Leases) (k k' n q : ℕ) (atoms : List Atom)
-    (parts : List Store) (now : Replica) → replica o s l k ≡ now → k + n ≤ LAST_LEASE + 1 → length parts ≡ n
-    → stores_sum parts ≡ store_of atoms
+    (parts : List Store) → k + n ≤ LAST_LEASE + 1 → length parts ≡ n → stores_sum parts ≡ store_of atoms
     → store_of atoms ≡ s → All (IsNear q) parts → s' ≡ bag.empty → l' ≡ with_parts l k parts → k' ≡ k + n
-    → TakesParts now n parts (replica o s' l' k')
-takes_parts_is o s s' l l' k k' n q atoms parts now e room count sum whole near none put next =
-    subst (λ r. TakesParts r n parts (replica o s' l' k')) e (record {
-      room = room;
-      count = count;
-      whole = sum ∙ whole;
-      even = near_even q parts near;
-      after = replica_is o o s' _ l' _ k' _ refl none put next;
-    })
+    → TakesParts (replica o s l k) n parts (replica o s' l' k')
+takes_parts_is o s s' l l' k k' n q atoms parts room count sum whole near none put next = record {
+  room = room;
+  count = count;
+  whole = sum ∙ whole;
+  even = near_even q parts near;
+  after = replica_is o o s' _ l' _ k' _ refl none put next;
+}
+
+-- what comes of resting a pool, whether it was stopped or not
+pub rested_is : (w : Weighed) (o : Operations) (s s' : Store) (l : Leases) (k : ℕ) (r : Result ℕ Stopped)
+    → IsSound (program_of w) (replica o s l k) → told_atoms o ≤ MAX_TOLD
+    → IfOk r (λ n. TookSteps (program_of w) n s s') → IfErr r (λ e. TookSteps (program_of w) e.steps s s')
+    → IfOk r (λ n. Settles (program_of w) (replica o s l k) n (replica o s' l k))
+    × IfErr r (λ e. Settles (program_of w) (replica o s l k) e.steps (replica o s' l k))
+rested_is w o s s' l k (Ok n) sound few ok err = (settles_is (program_of w) n o s s' l k w.lowers sound few ok, tt)
+rested_is w o s s' l k (Err e) sound few ok err =
+    (tt, settles_is (program_of w) e.steps o s s' l k w.lowers sound few err)
+
+-- where a refused call may have changed something
+pub sound_either : {X E : Type 0} (p : Program) (s t : Replica) (r : Result X E) (Q : X → Type 0) (R : E → Type 0)
+    → ((x : X) → Q x → IsSound p s → IsSound p t)
+    → ((e : E) → R e → IsSound p s → IsSound p t) → IfOk r Q → IfErr r R → IsSound p s → IsSound p t
+sound_either p s t (Ok x) Q R keep stop ok err sound = keep x ok sound
+sound_either p s t (Err e) Q R keep stop ok err sound = stop e err sound
+
+-- a board whose replica is as it was is as it was
+pub same_board : (a : Accepted) (s t : Replica) → s ≡ t → ◌≡◌ {A = Held} (record { accepted = a; replica = s })
+    (record { accepted = a; replica = t })
+same_board a s t e = λ i. record { accepted = a; replica = e i }

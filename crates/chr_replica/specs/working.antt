@@ -1,3 +1,4 @@
 -- Words of private contracts and fields.
 pub mod Codes
 pub mod Cuts
+pub mod States

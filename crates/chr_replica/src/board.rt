@@ -7,7 +7,8 @@ ghost use Rattle.chr_replica.specs.Replicas.{first, IsSound};
 ghost use Rattle.chr_replica.specs.Boards.{program_on};
 
 use crate::laws::events_keep_replicas_sound;
-use crate::state::State;
+use crate::leases::Leases;
+use chr_columns::columns::Columns;
 use chr_join::Accepted;
 use chr_ops::{MAX_TOLD, OpSet};
 use std::alloc::{AllocError, Global};
@@ -23,10 +24,12 @@ pub use leasing::NotPut;
 
 /// A replica of an accepted program. Its type keeps that what its operations tell reaches its pool with all leased
 /// parts, and that they tell at most [`MAX_TOLD`] atoms.
-#[derive(Drop)]
 pub struct Board {
     accepted: Arc<Accepted>,
-    state: State,
+    ops: OpSet,
+    pool: Columns,
+    out: Leases,
+    next: u64,
 }
 
 impl Model for Board {
@@ -35,14 +38,28 @@ impl Model for Board {
     ghost use Rattle.chr_replica.specs.Replicas.{IsSound};
     ghost use Rattle.chr_replica.specs.Boards.{Held};
     ghost use Rattle.chr_replica.specs.working.Codes.{coded_held};
+    ghost use Rattle.chr_replica.specs.working.States.{replica};
 
     ghost Value = { Held };
 
     ghost coded = { coded_held };
 
-    ghost view = { λ b. record { accepted = arc_value b.accepted; replica = b.state } };
+    ghost view = { λ b. record { accepted = arc_value b.accepted; replica = replica b.ops b.pool b.out b.next } };
 
-    ghost invariant = { λ b. IsSound (program_in (arc_value b.accepted)) b.state };
+    ghost invariant = { λ b. IsSound (program_in (arc_value b.accepted)) (replica b.ops b.pool b.out b.next) };
+}
+
+/// What is derived would be proved again in each crate that lets a board go.
+impl Drop for Board {
+    fn drop(self) {
+        let Board {
+            accepted: _accepted,
+            ops: _ops,
+            pool: _pool,
+            out: _out,
+            next: _next,
+        } = self;
+    }
 }
 
 impl Board {
@@ -52,8 +69,14 @@ impl Board {
         ensures replica { IfOk result (λ board. board.replica ≡ first) }
     {
         events_keep_replicas_sound();
-        let state = State::new(alloc, accepted.seed(), accepted.program())?;
-        Ok(Board { accepted, state })
+        let pool = Columns::seeded(alloc, accepted.seed(), accepted.program().rules())?;
+        Ok(Board {
+            accepted,
+            ops: OpSet::new(alloc),
+            pool,
+            out: Leases::new(alloc),
+            next: 1,
+        })
     }
 
     /// What its type keeps: its operations' atoms, which are of 64-bit values and no more than [`MAX_TOLD`], reach its
@@ -63,9 +86,8 @@ impl Board {
         ensures values { HasValues (told_store self.now.replica.operations) }
         ensures within { told_atoms self.now.replica.operations ≤ MAX_TOLD }
     {
-        let ops = self.state.ops();
-        ops.told_has_values();
-        let _told = ops.told();
+        self.ops.told_has_values();
+        let _told = self.ops.told();
     }
 
     /// Its program. It takes no memory.
@@ -79,6 +101,6 @@ impl Board {
     pub fn ops(&self) -> &OpSet
         ensures { result.now ≡ self.now.replica.operations }
     {
-        self.state.ops()
+        &self.ops
     }
 }

@@ -10,7 +10,6 @@ pub mod laws;
 mod leases;
 pub mod limits;
 mod refusal;
-mod state;
 
 pub use agreeing::agree;
 pub use board::{Board, NotPut};

@@ -1,12 +1,13 @@
 -- What boards gained, as news keep it, stays true of them.
 use Rattle.std.specs.Prelude.{◌≡◌, ◌≢◌, ℕ, List, [], ◌∷◌, Some, slice_get, slice_set, Result, Ok, Err, IfOk, OnErr}
+use Rattle.std.specs.Prelude.{true, false}
+use mathlib.Core.Bool.{true≢false}
 use Rattle.std.specs.declared.alloc.AllocError.{AllocError}
-use Rattle.std.proofs.Common.{refl, sym, ap, ◌∙◌, subst, inl, inr, ◌<◌, length, get_or, arith}
-use Rattle.std.specs.FinMap as map
+use Rattle.std.proofs.Common.{refl, sym, ap, ◌∙◌, subst, inl, inr}
 use Rattle.std.specs.Option.{option_map}
 use Rattle.std.proofs.lemmas.Bool.Decides.{eqb_tells}
-use Rattle.std.proofs.lemmas.List.{length-map, map-set, set-get_or}
-use Rattle.std.proofs.lemmas.Option.{slice_get-get_or, slice_get-map, slice_get_within, get_or_from_slice_get}
+use Rattle.std.proofs.lemmas.List.{map-set, set-get_or}
+use Rattle.std.proofs.lemmas.Option.{slice_get-map, slice_get_within, get_or_from_slice_get}
 use Rattle.chr_base.specs.declared.derivation.Step.{Step as StepValue}
 use Rattle.chr_base.specs.declared.program.Program.{Program}
 use Rattle.chr_ops.specs.declared.fault.Added.TheVariants as added
@@ -30,8 +31,8 @@ use Rattle.chr_acts.specs.declared.reply.Reply.{Reply}
 use Rattle.chr_acts.specs.declared.reply.Reply.TheVariants as reply
 use Rattle.chr_acts.specs.Events.{Does}
 use Rattle.chr_worlds.specs.Worlds.{Works}
-use Rattle.chr_worlds.specs.working.Boards.{sets_on, IsTrueOn, gained_by, Grows, ChangesAt, AreLacked, ExchangesAt}
-use Rattle.chr_worlds.specs.working.Boards.{HoldsAllOf}
+use Rattle.chr_worlds.specs.working.Boards.{sets_on, IsTrueOn, gained_by, is_told_new, Grows, ChangesAt, AreLacked}
+use Rattle.chr_worlds.specs.working.Boards.{ExchangesAt, HoldsAllOf}
 use Rattle.chr_worlds.proofs.Exchanging.{took_in}
 
 -- ---- what an act gives a replica
@@ -72,13 +73,13 @@ does_grow p s (act.Lacks summary) (reply.Lacked ops) t h = same_replica s t _ h.
 does_grow p s act.LeastLease (reply.LeastLease number) t h = same_replica s t _ h.1
 does_grow p s _ _ t h = absurd h
 
--- nor does a told operation give more, whatever is answered
-tell_grows : (p : Program) (s : Replica) (op : Operation) (x : Reply) (t : Replica) → Does p s (act.Tell op) x t
-    → Grows s.operations (op ∷ []) t.operations
-tell_grows p s op (reply.Told added.New) t h = does_grow p s (act.Tell op) (reply.Told added.New) t h
-tell_grows p s op (reply.Told added.Again) t h = same_replica s t _ h.2
-tell_grows p s op (reply.Refused r) t h = same_replica s t _ h.2
-tell_grows p s op _ t h = absurd h
+-- a told operation that is not new gives none
+tell_alike : (p : Program) (s : Replica) (op : Operation) (x : Reply) (t : Replica) → is_told_new x ≡ false
+    → Does p s (act.Tell op) x t → t.operations ≡ s.operations
+tell_alike p s op (reply.Told added.New) t other h = absurd (true≢false other)
+tell_alike p s op (reply.Told added.Again) t other h = ap (λ r. r.operations) h.2
+tell_alike p s op (reply.Refused r) t other h = ap (λ r. r.operations) h.2
+tell_alike p s op _ t other h = absurd h
 
 works_alike : (p : Program) (s : Replica) (number : ℕ) (steps : List StepValue) (x : Reply) (t : Replica)
     → Works p s number steps x t → t.operations ≡ s.operations
@@ -120,28 +121,26 @@ gained_on v w place a x os is gives others bs cs h right =
     (subst (λ l. GainsOnly h.before.replica.operations h.after.replica.operations (ids_of l)) (sym is) grows.only)
     grows.holds right)
 
--- also of an operation that it may gain, where this is kept before the board is told it
-pub told_on : (v w : News) (place : ℕ) (op : Operation) (os : List Operation) (r : Result Reply AllocError)
-    → os ≡ op ∷ []
-    → ((b : ℕ) (m n k : Operations) → IsTrueOf v place b m n → GainsOnly m k (ids_of os) → IsTrueOf w place b k n)
+-- so is the id of a new operation that it is told
+pub told_on : (v w : News) (place : ℕ) (id : OpId) (op : Operation) (x : Reply) → op.0 ≡ id → is_told_new x ≡ true
+    → ((b : ℕ) (m n k : Operations) → IsTrueOf v place b m n → GainsOnly m k (id ∷ []) → IsTrueOf w place b k n)
     → ((a b : ℕ) (m n : Operations) → a ≢ place → IsTrueOf v a b m n → IsTrueOf w a b m n)
-    → (bs cs : List Held) → place < length bs
-    → IfOk r (λ x. ChangesAt bs place (λ b t. Does (program_on b) b.replica (act.Tell op) x t) cs)
-    → OnErr r (cs ≡ bs) → IsTrueOn v bs → IsTrueOn w cs
-told_on v w place op os (Ok x) is gives others bs cs within ok err right =
-    let s = ok.before.replica.operations in
-    let t = ok.after.replica.operations in
-    let grows = tell_grows (program_on ok.before) ok.before.replica op x ok.after.replica ok.changed in
-    subst (IsTrueOfAll w) (sym (sets_after bs cs place _ ok))
-    (gained_all v w place (ids_of os) (sets_on bs) s t gives others (set_at bs place ok.before ok.there)
-    (subst (λ l. GainsOnly s t (ids_of l)) (sym is) grows.only) grows.holds right)
-told_on v w place op os (Err e) is gives others bs cs within ok err right =
-    let m = get_or (sets_on bs) place map.empty in
-    let n = length-map bs (λ b. b.replica.operations) in
-    let there = slice_get-get_or (sets_on bs) place map.empty (omega (arith, n, within)) in
-    let kept = gained_all v w place (ids_of os) (sets_on bs) m m gives others there (same_gains m (ids_of os))
-    (λ q h. h) right in
-    subst (IsTrueOn w) (sym err) (subst (IsTrueOfAll w) (set_again (sets_on bs) place m m there refl) kept)
+    → (bs cs : List Held) → ChangesAt bs place (λ b t. Does (program_on b) b.replica (act.Tell op) x t) cs
+    → IsTrueOn v bs → IsTrueOn w cs
+told_on v w place id op (reply.Told added.New) same is gives others bs cs h =
+    gained_on v w place (act.Tell op) (reply.Told added.New) (op ∷ []) refl
+    (λ b m n k right grows. gives b m n k right (subst (λ q. GainsOnly m k (q ∷ [])) same grows)) others bs cs h
+told_on v w place id op _ same is gives others bs cs h = absurd (true≢false (sym is))
+
+-- and nothing need be kept of one that is not new
+pub not_told_on : (w : News) (place : ℕ) (op : Operation) (x : Reply) → is_told_new x ≡ false → (bs cs : List Held)
+    → ChangesAt bs place (λ b t. Does (program_on b) b.replica (act.Tell op) x t) cs → IsTrueOn w bs → IsTrueOn w cs
+not_told_on w place op x other bs cs h right =
+    subst (IsTrueOfAll w)
+    (sym (sets_after bs cs place _ h
+    ∙ set_again (sets_on bs) place h.before.replica.operations h.after.replica.operations
+    (set_at bs place h.before h.there)
+    (tell_alike (program_on h.before) h.before.replica op x h.after.replica other h.changed))) right
 
 -- steps on parts that are out change no operations
 pub worked_on : (w : News) (place number : ℕ) (steps : List StepValue) (x : Reply) (bs cs : List Held)

@@ -12,7 +12,7 @@ ghost use Rattle.chr_worlds.specs.working.Boards.{AreLackedAt, AreOf, ChangesAt,
 use crate::boards::{
     carry_out_at, lacked, lacked_among, opened, place_of, swap_at, tell_at, work_at,
 };
-use crate::gained::keep_gained;
+use crate::gained::{keep_gained, keep_told};
 use chr_acts::{Act, OpList, Reply};
 use chr_base::derivation::Step;
 use chr_join::Accepted;
@@ -20,7 +20,6 @@ use chr_ops::{News, Op, exchange_laws};
 use chr_replica::Board;
 use std::alloc::{AllocError, Global};
 use std::marker::Model;
-use std::slice::from_ref;
 use std::sync::Arc;
 
 /// Boards in a list. An exchange between two of them looks only at what the giver gained since the taker last held all
@@ -96,15 +95,17 @@ impl BoardList {
         Ok(reply)
     }
 
-    /// Tells the board at a place an operation. That it may gain it is kept before the operation moves.
+    /// Tells the board at a place an operation.
     pub(crate) fn tell(&mut self, alloc: Global, place: usize, op: Op) -> Result<Reply, AllocError>
         requires { place < length self.old }
         ensures ok { IfOk result (λ reply.
             ChangesAt self.old place (λ b t. Does (program_on b) b.replica (Act.Tell op) reply t) self.new) }
         ensures err { OnErr result (self.new ≡ self.old) }
     {
-        self.news.gained(place, from_ref(&op));
-        tell_at(alloc, &mut self.boards, place, op)
+        let id = op.id();
+        let reply = tell_at(alloc, &mut self.boards, place, op)?;
+        keep_told(&mut self.news, place, id, &reply);
+        Ok(reply)
     }
 
     /// Takes these steps on the part that the board at a place has out under a number, and puts back what comes of it.

@@ -4,7 +4,6 @@ use super::{add, id, lacked, op, own_summary};
 use chr_ops::{News, Op, OpId, OpSet};
 use std::alloc::Global;
 use std::process::Abort;
-use std::slice::from_ref;
 
 /// Operations of one origin with these numbers.
 fn ops_of(rt: &impl Abort, alloc: Global, numbers: &[u64]) -> Vec<Op> {
@@ -19,6 +18,7 @@ fn ops_of(rt: &impl Abort, alloc: Global, numbers: &[u64]) -> Vec<Op> {
 /// What happens to the news.
 enum Call {
     Gained(usize, &'static [u64]),
+    GainedOne(usize, u64),
     Met(usize, usize),
     Forgotten,
 }
@@ -26,6 +26,7 @@ enum Call {
 fn carry_out(rt: &impl Abort, alloc: Global, news: &mut News, call: &Call) {
     match call {
         Call::Gained(giver, numbers) => news.gained(*giver, &ops_of(rt, alloc, numbers)),
+        Call::GainedOne(giver, number) => news.gained_one(*giver, id(1, *number)),
         Call::Met(giver, taker) => news.met(alloc, *giver, *taker),
         Call::Forgotten => news.forget(),
     }
@@ -51,7 +52,7 @@ fn is_known(news: &News, giver: usize, taker: usize, wanted: Option<&[u64]>) -> 
 /// A call, a giver and a taker, and the numbers that are then known of them.
 type Row = (Call, usize, usize, Option<&'static [u64]>);
 
-const ROWS: [Row; 13] = [
+const ROWS: [Row; 16] = [
     (Call::Gained(0, &[1]), 0, 1, None),
     (Call::Met(0, 1), 0, 1, Some(&[])),
     (Call::Gained(0, &[2, 3]), 0, 1, Some(&[2, 3])),
@@ -61,10 +62,13 @@ const ROWS: [Row; 13] = [
     (Call::Gained(0, &[]), 0, 1, Some(&[2, 3, 4])),
     (Call::Met(0, 1), 0, 1, Some(&[])),
     (Call::Gained(0, &[5]), 0, 2, Some(&[4, 5])),
+    (Call::GainedOne(0, 6), 0, 2, Some(&[4, 5, 6])),
+    (Call::GainedOne(1, 6), 0, 1, Some(&[5, 6])),
     (Call::Gained(0, &[6]), 1, 0, None),
     (Call::Forgotten, 0, 1, None),
     (Call::Met(0, 1), 0, 1, Some(&[])),
     (Call::Gained(0, &[7]), 0, 1, Some(&[7])),
+    (Call::GainedOne(0, 8), 0, 1, Some(&[7, 8])),
 ];
 
 #[test]
@@ -78,12 +82,25 @@ fn what_was_gained_is_known_for_each_taker(rt: HostRuntime) {
 }
 
 /// Whether it is known what a giver gained, so many operations since a taker held all.
-fn is_kept(rt: &impl Abort, alloc: Global, count: u64) -> bool {
+fn is_kept(alloc: Global, count: u64) -> bool {
     let mut news = News::new(alloc);
     news.met(alloc, 0, 1);
     for number in 0..count {
-        news.gained(0, from_ref(&op(rt, alloc, id(1, number), &[0])));
+        news.gained_one(0, id(1, number));
     }
+    news.since(0, 1).is_some()
+}
+
+/// The same where they come as one list.
+fn is_list_kept(rt: &impl Abort, alloc: Global, count: u64) -> bool {
+    let mut ops = Vec::new(alloc);
+    for number in 0..count {
+        ops.push(op(rt, alloc, id(1, number), &[0]))
+            .expect(rt, "memory");
+    }
+    let mut news = News::new(alloc);
+    news.met(alloc, 0, 1);
+    news.gained(0, &ops);
     news.since(0, 1).is_some()
 }
 
@@ -93,7 +110,8 @@ const KEPT: [(u64, bool); 4] = [(0, true), (4_096, true), (4_097, false), (9_000
 fn what_is_too_much_to_keep_is_forgotten(rt: HostRuntime) {
     let alloc = rt.alloc();
     for (count, kept) in KEPT {
-        assert!(rt; is_kept(&rt, alloc, count) == kept, "{count}");
+        assert!(rt; is_kept(alloc, count) == kept, "{count}");
+        assert!(rt; is_list_kept(&rt, alloc, count) == kept, "{count} at once");
     }
 }
 
@@ -159,9 +177,8 @@ fn exchange(rt: &impl Abort, alloc: Global, all: &mut Sets, giver: usize, taker:
 /// An operation is told to a set, by its number modulo 3.
 fn tell(rt: &impl Abort, alloc: Global, all: &mut Sets, place: usize, id: OpId) {
     let place = place % 3;
-    let told = op(rt, alloc, id, &[0]);
-    all.news.gained(place, from_ref(&told));
-    add(rt, &mut all.sets[place], told);
+    all.news.gained_one(place, id);
+    add(rt, &mut all.sets[place], op(rt, alloc, id, &[0]));
 }
 
 /// One of some steps that jump about: mostly an operation is told, else two sets exchange.

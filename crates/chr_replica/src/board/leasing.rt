@@ -3,6 +3,7 @@ ghost use Rattle.std.specs.Prelude.{◌≡◌, ◌≤◌, IfErr, IfNone, IfOk, I
 ghost use Rattle.std.specs.FinMap as map;
 ghost use Rattle.chr_base.specs.Rewriting.{IsAtRest};
 ghost use Rattle.chr_base.specs.Rules.{Step};
+ghost use Rattle.chr_base.specs.Sameness.{AreSame};
 ghost use Rattle.chr_weights.specs.WeighedPrograms.{program_of, rules_in};
 ghost use Rattle.chr_replica.specs.Leases.{parts_in, AreNumbered};
 ghost use Rattle.chr_replica.specs.LeastOut.{AreFrom};
@@ -11,10 +12,14 @@ ghost use Rattle.chr_replica.specs.Refusals.{RefusesTake, RefusesTakeParts, Refu
 ghost use Rattle.chr_replica.specs.Boards.{program_on};
 
 use crate::board::Board;
+use crate::cutting::cut;
 use crate::laws::events_keep_replicas_sound;
-use crate::refusal::Refusal;
+use crate::limits::LAST_LEASE;
+use crate::refusal::{Limit, Refusal};
 use chr_base::bag::Bag;
+use chr_base::laws::same_programs_reach_alike;
 use chr_base::limits::MAX_PARTS;
+use chr_columns::columns::Columns;
 use chr_join::{Done, Lease};
 use std::alloc::Global;
 
@@ -39,7 +44,22 @@ impl Board {
         ensures err { OnErr result (self.new ≡ self.old) }
     {
         events_keep_replicas_sound();
-        self.state.take(alloc, part)
+        let number = self.next;
+        if number > LAST_LEASE {
+            return Err(Refusal::Full(Limit::Leases));
+        }
+        if !self.pool.has(part.atoms()) {
+            return Err(Refusal::NotThere);
+        }
+        let kept = part.copy(alloc)?;
+        let given = part.copy(alloc)?;
+        self.out.insert(number, kept)?;
+        self.pool.remove(part.atoms());
+        self.next += 1;
+        Ok(Lease {
+            number,
+            part: given,
+        })
     }
 
     /// Leases the whole pool out in so many parts, 1 to [`MAX_PARTS`], under the next numbers. The sizes of any two
@@ -58,7 +78,39 @@ impl Board {
         ensures err { OnErr result (self.new ≡ self.old) }
     {
         events_keep_replicas_sound();
-        self.state.take_parts(alloc, self.accepted.program(), count)
+        let first = self.next;
+        let next = first.saturating_add(u64::from(count));
+        if next > LAST_LEASE + 1 {
+            return Err(Refusal::Full(Limit::Leases));
+        }
+        let rules = self.accepted.program().rules();
+        let empty = Columns::seeded(alloc, self.pool.seed(), rules)?;
+        let whole = self.pool.arranged(alloc)?;
+        let leases = cut(alloc, &whole, count as usize, first)?;
+        self.out.insert_all(alloc, first, &leases)?;
+        self.pool = empty;
+        self.next = next;
+        Ok(leases)
+    }
+
+    /// Whether what came of a lease may be taken back: its number is out with its part, under this program.
+    fn may_put(&self, done: &Done) -> Result<(), Refusal>
+        ensures part { OnOk result (map.get self.now.replica.out done.now.number ≡ Some done.now.part) }
+        ensures program { OnOk result (AreSame (program_of done.now.weighed) (program_on self.now)) }
+        ensures refused { IfErr result (RefusesPut (program_on self.now) self.now.replica
+            (program_of done.now.weighed) done.now.number done.now.part) }
+    {
+        let number = done.number();
+        let Some(part) = self.out.get(number) else {
+            return Err(Refusal::NoLease(number));
+        };
+        if !part.is_same(done.part()) {
+            return Err(Refusal::NoLease(number));
+        }
+        if !done.program().is_same(self.accepted.program()) {
+            return Err(Refusal::ForeignProgram);
+        }
+        Ok(())
     }
 
     /// Takes back what came of a lease that is out: its result goes into the pool. What is refused is handed back.
@@ -76,10 +128,16 @@ impl Board {
         ensures err { OnErr result (self.new ≡ self.old) }
     {
         events_keep_replicas_sound();
-        match self.state.put(self.accepted.program(), &done) {
-            Ok(()) => Ok(()),
-            Err(refusal) => Err(NotPut { done, refusal }),
+        same_programs_reach_alike();
+        if let Err(refusal) = self.may_put(&done) {
+            return Err(NotPut { done, refusal });
         }
+        if self.pool.insert(done.result().atoms()).is_err() {
+            let refusal = Refusal::Memory;
+            return Err(NotPut { done, refusal });
+        }
+        self.out.remove(done.number());
+        Ok(())
     }
 
     /// The same of a result that is at rest. Where some argument joins the heads of each rule, as one variable that
@@ -99,10 +157,21 @@ impl Board {
         ensures err { OnErr result (self.new ≡ self.old) }
     {
         events_keep_replicas_sound();
-        match self.state.put_rested(self.accepted.program(), &done) {
-            Ok(()) => Ok(()),
-            Err(refusal) => Err(NotPut { done, refusal }),
+        same_programs_reach_alike();
+        if let Err(refusal) = self.may_put(&done) {
+            return Err(NotPut { done, refusal });
         }
+        let rules = done.program().rules();
+        if self
+            .pool
+            .join(rules, done.part().atoms(), done.result().atoms())
+            .is_err()
+        {
+            let refusal = Refusal::Memory;
+            return Err(NotPut { done, refusal });
+        }
+        self.out.remove(done.number());
+        Ok(())
     }
 
     /// Takes the part that is leased out under a number back into the pool as it is. What comes of that lease later is
@@ -117,7 +186,12 @@ impl Board {
         ensures err { OnErr result (self.new ≡ self.old) }
     {
         events_keep_replicas_sound();
-        self.state.recall(number)
+        let Some(part) = self.out.get(number) else {
+            return Err(Refusal::NoLease(number));
+        };
+        self.pool.insert(part.atoms())?;
+        self.out.remove(number);
+        Ok(())
     }
 
     /// A copy of the lease that is out under a number.
@@ -129,14 +203,20 @@ impl Board {
         ensures part { IfOk result (λ lease. map.get self.now.replica.out number ≡ Some lease.part) }
         ensures refused { IfErr result (RefusesRecall self.now.replica number) }
     {
-        self.state.again(alloc, number)
+        let Some(part) = self.out.get(number) else {
+            return Err(Refusal::NoLease(number));
+        };
+        Ok(Lease {
+            number,
+            part: part.copy(alloc)?,
+        })
     }
 
     /// How many leases are out. It takes no memory.
     pub fn leases(&self) -> u64
         ensures { result ≡ map.len self.now.replica.out }
     {
-        self.state.leases()
+        self.out.len() as u64
     }
 
     /// The least lease number that is out. It takes no memory.
@@ -145,6 +225,6 @@ impl Board {
         ensures least { IfSome result (AreFrom self.now.replica.out) }
         ensures none { IfNone result (self.now.replica.out ≡ map.empty) }
     {
-        self.state.least_lease()
+        self.out.least()
     }
 }

@@ -15,6 +15,7 @@ use crate::laws::one_answer;
 use crate::refusal::Refusal;
 use chr_base::bag::Bag;
 use chr_ops::{Op, Summary};
+use chr_rewrite::resting::at_rest;
 use std::alloc::{AllocError, Global};
 
 impl Board {
@@ -32,7 +33,15 @@ impl Board {
     {
         one_answer();
         self.is_sound();
-        self.state.show(alloc, self.accepted.weighed())
+        self.accepted.weighed();
+        let leases = self.out.len();
+        if leases > 0 {
+            return Err(Refusal::Leased(leases as u64));
+        }
+        if !self.at_rest() {
+            return Err(Refusal::NotAtRest);
+        }
+        Ok(self.pool.bag(alloc)?)
     }
 
     /// A summary that covers just the ids of its operations.
@@ -53,6 +62,6 @@ impl Board {
     pub fn at_rest(&self) -> bool
         ensures { IsTrue result ↔ IsAtRest (Step (rules_of (program_on self.now))) self.now.replica.pool }
     {
-        self.state.at_rest(self.accepted.weighed())
+        at_rest(self.accepted.weighed(), &self.pool)
     }
 }

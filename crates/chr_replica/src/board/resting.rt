@@ -9,7 +9,7 @@ ghost use Rattle.chr_replica.specs.Boards.{program_on};
 
 use crate::board::Board;
 use crate::laws::events_keep_replicas_sound;
-use chr_rewrite::resting::Stopped;
+use chr_rewrite::resting::{Stopped, rest};
 
 impl Board {
     /// How many atoms of the pool wait to be looked at by the next settling; the others are at rest. It takes no
@@ -17,7 +17,7 @@ impl Board {
     pub fn waiting(&self) -> usize
         ensures { result ≤ size self.now.replica.pool }
     {
-        self.state.waiting()
+        self.pool.waiting()
     }
 
     /// Rests the pool, and answers how many steps that took. A pool at rest stays as it is.
@@ -34,6 +34,9 @@ impl Board {
             Settles (program_on self.old) self.old.replica e.steps self.new.replica) }
     {
         events_keep_replicas_sound();
-        self.state.settle(self.accepted.weighed())
+        // So few atoms are told that all steps are counted.
+        let _told = self.ops.told();
+        self.pool.arrange();
+        rest(self.accepted.weighed(), &mut self.pool)
     }
 }

@@ -1,16 +1,41 @@
 //! Boards are told operations.
-ghost use Rattle.std.specs.Prelude.{◌≡◌, Ok, IfOk, IfErr, OnOk, OnErr};
-ghost use Rattle.chr_ops.specs.Operations.{IsHeld};
+ghost use Rattle.std.specs.Prelude.{◌≡◌, ◌≤◌, ◌+◌, Ok, IfOk, IfErr, OnOk, OnErr};
+ghost use Rattle.std.specs.FinMap as map;
+ghost use Rattle.chr_base.specs.FinBag.{◌⊕◌};
+ghost use Rattle.chr_base.specs.Stores.{size};
+ghost use Rattle.chr_ops.specs.Operations.{told_atoms, IsNew, IsHeld};
 ghost use Rattle.chr_replica.specs.Replicas.{IsDeclared, Tells, Merges, Steps};
 ghost use Rattle.chr_replica.specs.Refusals.{RefusesTell, RefusesMerge, RefusesStep};
 ghost use Rattle.chr_replica.specs.Boards.{program_on};
 
 use crate::board::Board;
+use crate::declared::{declares, declares_all};
 use crate::laws::events_keep_replicas_sound;
-use crate::refusal::Refusal;
+use crate::refusal::{Limit, Refusal};
 use chr_base::derivation::Step;
-use chr_ops::{Added, Op};
-use std::alloc::Global;
+use chr_columns::columns::Columns;
+use chr_ops::{Added, MAX_TOLD, Op, OpSet};
+use chr_rewrite::replay::take_step;
+use std::alloc::{AllocError, Global};
+
+/// A new operation joins the set, and its atoms the pool.
+fn put_in(ops: &mut OpSet, pool: &mut Columns, op: Op) -> Result<(), AllocError>
+    requires new { IsNew ops.old op }
+    requires room { told_atoms ops.old + size op.1 ≤ MAX_TOLD }
+    ensures ops { OnOk result (ops.new ≡ map.insert ops.old op.0 op.1) }
+    ensures pool { OnOk result (pool.new ≡ pool.old ⊕ op.1) }
+    ensures same_ops { OnErr result (ops.new ≡ ops.old) }
+    ensures same_pool { OnErr result (pool.new ≡ pool.old) }
+{
+    pool.insert(op.bag().atoms())?;
+    match ops.add_new(op) {
+        Ok(()) => Ok(()),
+        Err(back) => {
+            pool.remove(back.bag().atoms());
+            Err(AllocError)
+        }
+    }
+}
 
 impl Board {
     /// Tells an operation. Where it is new its atoms go into the pool; `Again` is answered at the full limit as well.
@@ -29,7 +54,21 @@ impl Board {
         ensures err { OnErr result (self.new ≡ self.old) }
     {
         events_keep_replicas_sound();
-        self.state.tell(self.accepted.program(), op)
+        if !declares(self.accepted.program(), &op) {
+            return Err(Refusal::UnknownSymbol);
+        }
+        if let Some(held) = self.ops.get(op.id()) {
+            return if held.is_same(op.bag()) {
+                Ok(Added::Again)
+            } else {
+                Err(Refusal::Clash(op.id()))
+            };
+        }
+        if op.bag().len() as u64 > MAX_TOLD - self.ops.told() {
+            return Err(Refusal::Full(Limit::Told));
+        }
+        put_in(&mut self.ops, &mut self.pool, op)?;
+        Ok(Added::New)
     }
 
     /// Takes in all of these operations, or none, and answers how many of them are new. The list may repeat an equal
@@ -46,7 +85,22 @@ impl Board {
         ensures err { OnErr result (self.new ≡ self.old) }
     {
         events_keep_replicas_sound();
-        self.state.merge(alloc, self.accepted.program(), ops)
+        if !declares_all(self.accepted.program(), ops) {
+            return Err(Refusal::UnknownSymbol);
+        }
+        let fresh = self.ops.fresh_atoms(alloc, ops)?;
+        self.pool.insert(fresh.atoms())?;
+        match self.ops.join(alloc, ops) {
+            Ok(count) => {
+                // The set's type keeps the limit.
+                let _told = self.ops.told();
+                Ok(count)
+            }
+            Err(fault) => {
+                self.pool.remove(fresh.atoms());
+                Err(Refusal::from(fault))
+            }
+        }
     }
 
     /// Takes a named step in the pool.
@@ -61,6 +115,9 @@ impl Board {
         ensures err { OnErr result (self.new ≡ self.old) }
     {
         events_keep_replicas_sound();
-        self.state.step(self.accepted.program(), step)
+        if !take_step(self.accepted.program().rules(), &mut self.pool, step)? {
+            return Err(Refusal::NotThere);
+        }
+        Ok(())
     }
 }

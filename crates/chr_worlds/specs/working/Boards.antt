@@ -1,5 +1,6 @@
 -- The boards of a world as a list.
-use Rattle.std.specs.Prelude.{◌≡◌, ℕ, List, [], ◌∷◌, ◌++◌, map as each, All, Some, slice_get, slice_set}
+use Rattle.std.specs.Prelude.{◌≡◌, ℕ, List, [], ◌∷◌, ◌++◌, map as each, All, Some, slice_get, slice_set, Bool}
+use Rattle.std.specs.Prelude.{true, false}
 use Rattle.std.specs.FinMap as map
 use Rattle.chr_base.specs.Programs.{rules_of}
 use Rattle.chr_base.specs.declared.derivation.Step.{Step}
@@ -87,6 +88,11 @@ abbrev pub gained_by : Act → Reply → List Operation
 gained_by a (reply.Told added.New) = brought_by a
 gained_by a (reply.Merged n) = brought_by a
 gained_by a _ = []
+
+-- whether a told operation was new
+abbrev pub is_told_new : Reply → Bool
+is_told_new (reply.Told added.New) = true
+is_told_new _ = false
 
 -- the set k holds what m does, and nothing else but operations of the list
 pub record Grows (m : Operations) (ops : List Operation) (k : Operations) : Type 0 where

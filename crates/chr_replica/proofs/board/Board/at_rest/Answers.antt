@@ -12,5 +12,4 @@ pub returns : goal.returns
 returns c =
     let same : c.weighed.result.now ≡ weighed_of (arc_value c.self.inside.accepted) = search rules in
     subst (λ b. IsTrue c.at_rest.result ↔ IsAtRest (Step (rules_of (program_on b))) b.replica.pool) c.self.view_is
-    (subst (λ w. IsTrue c.at_rest.result ↔ IsAtRest (Step (rules_in w)) c.self.inside.state.pool) same
-    c.at_rest.ensures)
+    (subst (λ w. IsTrue c.at_rest.result ↔ IsAtRest (Step (rules_in w)) c.self.inside.pool) same c.at_rest.ensures)

@@ -1,16 +1,24 @@
-use Rattle.std.proofs.Common.{rules, ◌≡◌, Ok, subst}
+use Rattle.std.proofs.Common.{rules, ◌≡◌, ◌≤◌, ◌+◌}
 use Rattle.std.specs.Arc.{arc_value}
+use Rattle.std.specs.FinMap as map
+use Rattle.chr_base.specs.FinBag.{◌⊕◌}
+use Rattle.chr_base.specs.Stores.{size}
 use Rattle.chr_join.specs.AcceptedPrograms.{program_in}
-use Rattle.chr_ops.specs.declared.fault.Added.TheVariants as added
-use Rattle.chr_replica.specs.Replicas.{Tells}
-use Rattle.chr_replica.proofs.Sound.{sound_after_tell}
+use Rattle.chr_ops.specs.declared.limits.TheConstants.{MAX_TOLD}
+use Rattle.chr_ops.specs.Operations.{told_atoms, IsNew}
+use Rattle.chr_replica.specs.Replicas.{IsDeclared}
+use Rattle.chr_replica.proofs.States.{tells_is}
 use Rattle.chr_replica.proofs.board.Board.tell.Goals as goal
 
-pub invariant_of-self : goal.invariant_of-self
-invariant_of-self c =
-    let p = program_in (arc_value c.self.inside.accepted) in
-    let same : c.program.result.now ≡ p = search rules in
-    sound_after_tell p c.self.inside.state c.tell.new.self c.args.op c.tell.result
-    c.events_keep_replicas_sound.ensures.tell
-    (subst (λ q. c.tell.result ≡ Ok added.New → Tells q c.self.inside.state c.args.op c.tell.new.self) same
-    c.tell.ensures.new) c.tell.ensures.kept c.tell.ensures.err c.self.invariant
+pub invariant_of-self-2 : goal.invariant_of-self-2
+invariant_of-self-2 c =
+    let r = c.self.inside in
+    let op = c.args.op in
+    let p = program_in (arc_value r.accepted) in
+    let declared : IsDeclared p op = search rules in
+    let new : IsNew r.ops op = search rules in
+    let room : told_atoms r.ops + size op.1 ≤ MAX_TOLD = search rules in
+    let joined : c.put_in.new.ops ≡ map.insert r.ops op.0 op.1 = search rules in
+    let put : c.put_in.new.pool ≡ r.pool ⊕ op.1 = search rules in
+    c.events_keep_replicas_sound.ensures.tell p op _ _
+    (tells_is p r.ops _ r.pool _ r.out r.next op declared new room joined put) c.self.invariant

@@ -4,7 +4,7 @@ use Rattle.chr_base.specs.FinBag.{◌⊕◌}
 use Rattle.chr_base.specs.Stores.{store_of}
 use Rattle.chr_base.proofs.Stores.{store_of-items}
 use Rattle.chr_replica.proofs.States.{put_out}
-use Rattle.chr_replica.proofs.state.telling.put_in.Goals as goal
+use Rattle.chr_replica.proofs.board.telling.put_in.Goals as goal
 
 pub returns-in-Ok-clause-pool : goal.returns-in-Ok-clause-pool
 returns-in-Ok-clause-pool c =
