@@ -25,11 +25,20 @@ struct Symbol {
 /// weight of numbers up to `MAX_WEIGHT`, not both 0. Their names are a lower-case letter, then letters, digits and
 /// underscores, and no reserved word. It has at most `MAX_RULES` rules, each atom of which is declared with as many
 /// arguments.
-#[derive(Drop)]
 pub struct Program {
     symbols: IndexMap<Symbol, Weight>,
     rules: Vec<Rule>,
     ghost well_formed: { IsTrue (is_program (declarations_in symbols.entries) rules.items) },
+}
+
+/// What is derived would be proved again in each crate that lets a program go.
+impl Drop for Program {
+    fn drop(self) {
+        let Program {
+            symbols: _symbols,
+            rules: _rules,
+        } = self;
+    }
 }
 
 impl Symbol {

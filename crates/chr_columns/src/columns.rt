@@ -31,12 +31,23 @@ mod parts;
 ///
 /// Where a step keeps the newest fresh atom, the pool knows where the search for its partners stands. The next step
 /// goes on there, so that all steps with one atom cost one walk over its partners. Each other change forgets it.
-#[derive(Drop)]
 pub struct Columns {
     rested: Rested,
     fresh: Vec<Atom>,
     standing: Option<Standing>,
     found: Found,
+}
+
+/// What is derived would be proved again in each crate that lets a pool go.
+impl Drop for Columns {
+    fn drop(self) {
+        let Columns {
+            rested: _rested,
+            fresh: _fresh,
+            standing: _standing,
+            found: _found,
+        } = self;
+    }
 }
 
 impl Model for Columns {
