@@ -7,7 +7,7 @@ use Rattle.chr_base.specs.declared.atom.Atom.{Atom}
 use Rattle.chr_base.specs.declared.rule.Rule.{Rule}
 use Rattle.chr_base.specs.FinBag.{empty}
 use Rattle.chr_tables.specs.Contents.{Contents, no_table, rows_of, index_columns}
-use Rattle.chr_actives.specs.Grids.{contents}
+use Rattle.chr_plans.specs.Grids.{contents}
 use Rattle.chr_columns.specs.declared.groups.Group.{Group}
 use Rattle.chr_columns.specs.declared.making.Keys.{Keys}
 use Rattle.chr_columns.specs.working.Making.{lists_of, columns_in}

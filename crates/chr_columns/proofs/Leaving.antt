@@ -12,7 +12,7 @@ use Rattle.chr_base.specs.Rules.{heads_of}
 use Rattle.chr_plans.specs.declared.rows.Seat.{Seat}
 use Rattle.chr_plans.specs.Seats.{seat, no_seat, IsSeated}
 use Rattle.chr_base.specs.declared.atom.Atom.{Atom}
-use Rattle.chr_actives.specs.Grids.{Grid, rows_in, SitIn}
+use Rattle.chr_plans.specs.Grids.{Grid, rows_in, SitIn}
 use Rattle.chr_columns.specs.working.Firing.{kept_others, seats_to}
 use Rattle.chr_columns.proofs.Firings.{sit_removed}
 

@@ -8,8 +8,8 @@ use Rattle.chr_base.specs.declared.atom.Atom.{Atom}
 use Rattle.chr_base.specs.declared.rule.Rule.{Rule}
 use Rattle.chr_base.specs.FinBag.{◌⊕◌}
 use Rattle.chr_tables.specs.Contents.{Contents, no_table, rows_of, index_columns}
-use Rattle.chr_actives.specs.Actives.{one}
-use Rattle.chr_actives.specs.Grids.{Grid, contents, rows_in}
+use Rattle.chr_plans.specs.Actives.{one}
+use Rattle.chr_plans.specs.Grids.{Grid, contents, rows_in}
 use Rattle.chr_columns.specs.declared.groups.Group.{Group}
 use Rattle.chr_columns.specs.working.Groups.{table_of_atom}
 use Rattle.chr_columns.specs.working.Resting.{grid, IsSetUp, ArePlanned}

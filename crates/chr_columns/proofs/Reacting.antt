@@ -13,9 +13,9 @@ use Rattle.chr_plans.specs.Reactions.{FitsPlan, NoneBy, Reacts}
 use Rattle.chr_plans.specs.Seats.{head, IsSeated, NoPartners}
 use Rattle.chr_plans.proofs.Values.{shape_known}
 use Rattle.chr_tables.specs.Contents.{Contents, rows_of, index_columns}
-use Rattle.chr_actives.specs.Actives.{NoInstanceWith}
-use Rattle.chr_actives.specs.Grids.{contents}
-use Rattle.chr_actives.proofs.Around.{rows_are_enough}
+use Rattle.chr_plans.specs.Actives.{NoInstanceWith}
+use Rattle.chr_plans.specs.Grids.{contents}
+use Rattle.chr_plans.proofs.Around.{rows_are_enough}
 use Rattle.chr_columns.specs.declared.groups.Group.{Group}
 use Rattle.chr_columns.specs.working.Groups.{table_of_atom, table_of_pattern}
 use Rattle.chr_columns.specs.working.Resting.{grid, IsSetUp, IsPlanned}

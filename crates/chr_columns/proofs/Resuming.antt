@@ -12,7 +12,7 @@ use Rattle.chr_plans.specs.Reactions.{MayResume}
 use Rattle.chr_plans.specs.Rows.{Tables}
 use Rattle.chr_plans.proofs.Reactions.{OnlyDied, resume_later}
 use Rattle.chr_tables.specs.Contents.{Contents, rows_of}
-use Rattle.chr_actives.specs.Grids.{Grid, rows_in, without_rows}
+use Rattle.chr_plans.specs.Grids.{Grid, rows_in, without_rows}
 use Rattle.chr_columns.specs.declared.groups.Group.{Group}
 use Rattle.chr_columns.specs.declared.rested.Rested.{Rested}
 use Rattle.chr_columns.specs.working.Groups.{table_of_atom}

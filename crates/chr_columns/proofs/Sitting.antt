@@ -12,7 +12,7 @@ use Rattle.chr_base.specs.declared.atom.Atom.{Atom}
 use Rattle.chr_plans.specs.declared.rows.Seat.{Seat}
 use Rattle.chr_plans.specs.Seats.{head, seat, no_seat}
 use Rattle.chr_tables.specs.Contents.{Contents, rows_of}
-use Rattle.chr_actives.specs.Grids.{rows_in, SitIn}
+use Rattle.chr_plans.specs.Grids.{rows_in, SitIn}
 use Rattle.chr_columns.specs.declared.rows.Row.{Row}
 use Rattle.chr_columns.specs.declared.rows.Row.TheVariants.{AtRest, Fresh}
 use Rattle.chr_columns.specs.Rows.{row}

@@ -8,7 +8,7 @@ use Rattle.chr_base.specs.FinBag.{◌⊕◌, ◌⊖◌}
 use Rattle.chr_base.specs.Stores.{Store, store_of, count}
 use Rattle.chr_base.proofs.Sorting.{same_multiset}
 use Rattle.chr_base.proofs.Stores.{same_store, count_plus, count_minus, plus_comm, plus_assoc, store_of-append}
-use Rattle.chr_actives.specs.Actives.{one}
+use Rattle.chr_plans.specs.Actives.{one}
 
 -- an atom left its place, and the last came there
 pub left_place : (xs ys : List Atom) (i : ℕ) (a x : Atom) → i < length xs → a ≡ get_or xs i a → x ≡ get_or xs i x

@@ -9,7 +9,7 @@ use Rattle.chr_base.specs.declared.rule.Rule.{Rule}
 use Rattle.chr_base.specs.FinBag.{◌⊕◌}
 use Rattle.chr_base.specs.Stores.{store_of}
 use Rattle.chr_tables.specs.Contents.{Contents, no_table, rows_of, index_columns}
-use Rattle.chr_actives.specs.Grids.{Grid, contents, live_atoms, rows_in}
+use Rattle.chr_plans.specs.Grids.{Grid, contents, live_atoms, rows_in}
 use Rattle.chr_columns.specs.declared.groups.Group.{Group}
 use Rattle.chr_columns.specs.working.Resting.{grid, IsSetUp, ArePlanned}
 use Rattle.chr_columns.proofs.Stored.{row_is, grid_set, keys_set, same_columns}

@@ -15,15 +15,15 @@ use Rattle.chr_base.proofs.FinBags.{count-of_list}
 use Rattle.chr_base.proofs.Atoms.{atom_total}
 use Rattle.chr_base.proofs.Stores.{count_plus, count_minus, same_store, plus_assoc, store_of-append, weight_plus}
 use Rattle.chr_base.proofs.Stores.{size_weight, size_store_of}
-use Rattle.chr_ranges.specs.declared.range.Range.{Range}
-use Rattle.chr_ranges.specs.Rows.{IsIn}
+use Rattle.chr_indexes.specs.declared.ranges.range.Range.{Range}
+use Rattle.chr_indexes.specs.RangedRows.{IsIn}
 use Rattle.chr_tables.specs.Contents.{Contents, rows_of}
-use Rattle.chr_actives.specs.Actives.{one, NoInstanceWith}
-use Rattle.chr_actives.specs.Grids.{contents}
-use Rattle.chr_actives.specs.Joined.{value_in, HasThere, IsJoined}
-use Rattle.chr_actives.proofs.Actives.{part_rests, no_instance, one_other}
-use Rattle.chr_actives.proofs.Joined.{apart_rests}
-use Rattle.chr_actives.proofs.Rows.{count_contents}
+use Rattle.chr_plans.specs.Actives.{one, NoInstanceWith}
+use Rattle.chr_plans.specs.Grids.{contents}
+use Rattle.chr_plans.specs.Joined.{value_in, HasThere, IsJoined}
+use Rattle.chr_plans.proofs.Actives.{part_rests, no_instance, one_other}
+use Rattle.chr_plans.proofs.Joined.{apart_rests}
+use Rattle.chr_plans.proofs.Rows.{count_contents}
 use Rattle.chr_columns.specs.working.Joining.{IsFree, MayJoin}
 use Rattle.chr_columns.specs.working.Resting.{grid}
 use Rattle.chr_columns.proofs.Listed.{none_in}

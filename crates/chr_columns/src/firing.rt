@@ -8,7 +8,7 @@ ghost use Rattle.chr_base.specs.FinBag.{◌⊕◌};
 ghost use Rattle.chr_base.specs.Stores.{store_of};
 ghost use Rattle.chr_base.specs.Rules.{atoms_at, heads_of, heads_at, HasInstance, Valuation, Step};
 ghost use Rattle.chr_plans.specs.Seats.{seat, head};
-ghost use Rattle.chr_actives.specs.Actives.{one};
+ghost use Rattle.chr_plans.specs.Actives.{one};
 ghost use Rattle.chr_columns.specs.working.Resting.{stored, IsRested, IsReacting, MayGoOn, Stands};
 ghost use Rattle.chr_columns.specs.working.Firing.{coming, leaving_seats};
 

@@ -7,10 +7,10 @@ ghost use Rattle.chr_base.specs.Rewriting.{IsAtRest};
 ghost use Rattle.chr_base.specs.Rules.{Step};
 ghost use Rattle.chr_base.specs.Sameness.{parts_of};
 ghost use Rattle.chr_base.specs.Stores.{store_of};
-ghost use Rattle.chr_ranges.specs.Rows.{IsIn};
+ghost use Rattle.chr_indexes.specs.RangedRows.{IsIn};
 ghost use Rattle.chr_tables.specs.Contents.{rows_of};
-ghost use Rattle.chr_actives.specs.Actives.{one, NoInstanceWith};
-ghost use Rattle.chr_actives.specs.Joined.{value_in, IsJoined};
+ghost use Rattle.chr_plans.specs.Actives.{one, NoInstanceWith};
+ghost use Rattle.chr_plans.specs.Joined.{value_in, IsJoined};
 ghost use Rattle.chr_columns.specs.working.Joining.{IsFree, MayJoin};
 ghost use Rattle.chr_columns.specs.working.Resting.{stored, IsRested};
 
@@ -20,7 +20,7 @@ use crate::same::are_same;
 use chr_base::atom::Atom;
 use chr_base::lists::{push_all, push_copy};
 use chr_base::rule::Rule;
-use chr_ranges::Range;
+use chr_indexes::ranges::Range;
 use chr_tables::table::Table;
 use std::alloc::AllocError;
 

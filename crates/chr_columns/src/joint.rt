@@ -1,7 +1,7 @@
 //! The arguments by which the heads of rules are joined.
 ghost use Rattle.std.specs.Prelude.{◌≡◌, IfSome, All};
 ghost use Rattle.std.specs.Bool.{OnTrue};
-ghost use Rattle.chr_actives.specs.Joined.{column_in, value_in, HasThere, IsJoined};
+ghost use Rattle.chr_plans.specs.Joined.{column_in, value_in, HasThere, IsJoined};
 
 use arrayvec::ArrayVec;
 use chr_base::atom::{Atom, SymbolId};

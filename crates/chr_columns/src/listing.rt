@@ -1,6 +1,6 @@
 //! The atoms in tables, and fresh atoms, as one list.
 ghost use Rattle.std.specs.Prelude.{◌≡◌, ◌+◌, ◌*◌, ◌<◌, ◌≤◌, ◌^◌, ◌++◌, length, get_or, None, IfOk, OnOk, OnErr};
-ghost use Rattle.chr_actives.specs.Grids.{live_atoms};
+ghost use Rattle.chr_plans.specs.Grids.{live_atoms};
 ghost use Rattle.chr_columns.specs.working.Listing.{live_in, rows_in_turn, all_of};
 
 use chr_base::atom::Atom;

@@ -8,8 +8,8 @@ ghost use Rattle.chr_base.specs.FinBag.{◌⊕◌, ◌⊖◌, IsWithin, count_in
 ghost use Rattle.chr_base.specs.Stores.{store_of, count};
 ghost use Rattle.chr_plans.specs.Seats.{atom_in};
 ghost use Rattle.chr_tables.specs.Contents.{rows_of};
-ghost use Rattle.chr_actives.specs.Actives.{one};
-ghost use Rattle.chr_actives.specs.Grids.{live_atoms};
+ghost use Rattle.chr_plans.specs.Actives.{one};
+ghost use Rattle.chr_plans.specs.Grids.{live_atoms};
 ghost use Rattle.chr_columns.specs.working.Groups.{table_of_atom};
 ghost use Rattle.chr_columns.specs.working.Resting.{stored, IsRested};
 

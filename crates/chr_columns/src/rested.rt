@@ -3,8 +3,8 @@ ghost use Rattle.std.specs.Prelude.{◌≡◌, ℕ, ◌<◌, ◌≤◌, length, 
 ghost use Rattle.chr_base.specs.FinBag.{◌⊕◌};
 ghost use Rattle.chr_plans.specs.Seats.{seat, atom_in};
 ghost use Rattle.chr_tables.specs.Contents.{rows_of, index_columns};
-ghost use Rattle.chr_actives.specs.Actives.{one, NoInstanceWith};
-ghost use Rattle.chr_actives.specs.Grids.{without_rows};
+ghost use Rattle.chr_plans.specs.Actives.{one, NoInstanceWith};
+ghost use Rattle.chr_plans.specs.Grids.{without_rows};
 ghost use Rattle.chr_columns.specs.working.Resting.{grid, stored, IsRested, IsReacting, MayGoOn};
 
 use crate::groups::{Group, table_of};

@@ -4,7 +4,7 @@ ghost use Rattle.chr_base.specs.declared.limits.TheConstants.{MAX_BODY};
 ghost use Rattle.chr_base.specs.FinBag.{◌⊕◌};
 ghost use Rattle.chr_base.specs.Stores.{store_of};
 ghost use Rattle.chr_base.specs.Rules.{Step};
-ghost use Rattle.chr_actives.specs.Actives.{one};
+ghost use Rattle.chr_plans.specs.Actives.{one};
 ghost use Rattle.chr_columns.specs.declared.settle.Outcome.TheVariants.{Fired, AtRest};
 ghost use Rattle.chr_columns.specs.working.Resting.{stored, IsRested, MayGoOn, Stands};
 

@@ -4,7 +4,7 @@ ghost use Rattle.std.specs.Bool.{OnTrue, OnFalse};
 ghost use Rattle.chr_base.specs.declared.limits.TheConstants.{MAX_HEADS};
 ghost use Rattle.chr_base.specs.FinBag.{◌⊕◌, ◌⊖◌};
 ghost use Rattle.chr_base.specs.Stores.{store_of};
-ghost use Rattle.chr_actives.specs.Actives.{one};
+ghost use Rattle.chr_plans.specs.Actives.{one};
 ghost use Rattle.chr_columns.specs.working.Resting.{stored, IsRested};
 ghost use Rattle.chr_columns.specs.working.Sitting.{after_move};
 ghost use Rattle.chr_columns.specs.Rows.{row};

@@ -14,12 +14,11 @@ use crate::limits::{MAX_TOLD_FAULTS, MAX_TOLD_SYMBOLS};
 use crate::line::push_line;
 use crate::place::{Place, place_of, place_outside};
 use crate::span::Span;
-use crate::token::placed_tokens;
 use crate::word::{ToldArity, ToldSymbol};
 use chr_base::atom::SymbolId;
 use chr_base::program::Program;
 use chr_read::{MAX_TEXT, ReadFault, read};
-use chr_syntax::without_comments;
+use chr_syntax::{placed_tokens, without_comments};
 use std::alloc::{AllocError, Global};
 use std::fmt::Write;
 

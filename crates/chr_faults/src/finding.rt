@@ -2,15 +2,16 @@
 
 use crate::cause::{Cause, Over, WeightFault};
 use crate::foreign::{foreign_byte, foreign_token};
-use crate::rule::{PlacedAtom, atoms_of, before, first_of, from, is_term, without_label};
+use crate::rule::{PlacedAtom, atoms_of, before, first_of, from, without_label};
 use crate::syntax::stuck_in;
-use crate::token::{Kind, PlacedToken, first_place, placed_tokens};
+use crate::token::{first_place, is_comparison, is_name, is_number, is_sign, is_variable};
 use crate::word::{ToldArity, ToldSymbol};
 use chr_base::limits::{
     MAX_ARITY, MAX_BODY, MAX_COMPARISONS, MAX_HEADS, MAX_NAME, MAX_RULES, MAX_SYMBOLS, MAX_WEIGHT,
 };
 use chr_base::program::Program;
 use chr_read::Fault;
+use chr_syntax::{PlacedToken, Sign, placed_tokens};
 use std::alloc::{AllocError, Global};
 
 /// What is wrong with a clause, and how many of its bytes stand before the place where it is.
@@ -37,12 +38,6 @@ fn bad_byte(clause: &[u8]) -> Option<Finding<'_>> {
     None
 }
 
-/// The first token of this kind.
-fn token_of<'a>(tokens: &[PlacedToken<'a>], kind: Kind) -> Option<PlacedToken<'a>> {
-    let token = tokens.get(first_of(tokens, kind))?;
-    Some(*token)
-}
-
 /// Why the clause has no form.
 fn no_form<'a>(clause: &'a [u8], tokens: &[PlacedToken<'a>]) -> Option<Finding<'a>> {
     if tokens.is_empty() {
@@ -51,7 +46,10 @@ fn no_form<'a>(clause: &'a [u8], tokens: &[PlacedToken<'a>]) -> Option<Finding<'
             at: clause.len(),
         });
     }
-    let unknown = first_of(tokens, Kind::Unknown);
+    let unknown = tokens
+        .iter()
+        .take_while(|token| token.token.is_some())
+        .count();
     if let Some(token) = tokens.get(unknown) {
         return Some(Finding {
             cause: Cause::NoToken(token.word, foreign_byte(tokens, unknown)),
@@ -69,7 +67,7 @@ fn no_form<'a>(clause: &'a [u8], tokens: &[PlacedToken<'a>]) -> Option<Finding<'
 }
 
 fn propagation<'a>(tokens: &[PlacedToken<'a>]) -> Option<Finding<'a>> {
-    let token = token_of(tokens, Kind::Propagate)?;
+    let token = tokens.get(first_of(tokens, Sign::Propagate))?;
     Some(Finding {
         cause: Cause::Propagation,
         at: token.at,
@@ -125,7 +123,7 @@ fn symbols_of<'a>(
     let mut symbols = Vec::new(alloc);
     for (i, token) in tokens.iter().enumerate() {
         if let [slash, digits, ..] = &tokens[i + 1..] {
-            if token.kind == Kind::Name && slash.kind == Kind::Slash {
+            if is_name(token) && is_sign(slash, Sign::Slash) {
                 symbols.push(PlacedSymbol {
                     name: token.word,
                     digits: digits.word,
@@ -187,9 +185,7 @@ fn declared_twice<'a>(program: &Program, symbols: &[PlacedSymbol<'a>]) -> Option
 /// The first name or variable that is too long.
 fn long_word<'a>(tokens: &[PlacedToken<'a>]) -> Option<Finding<'a>> {
     for token in tokens {
-        if MAX_NAME < token.word.len()
-            && (token.kind == Kind::Name || token.kind == Kind::Variable)
-        {
+        if MAX_NAME < token.word.len() && (is_name(token) || is_variable(token)) {
             return Some(Finding {
                 cause: Cause::Over(Over::Word(token.word)),
                 at: token.at,
@@ -231,7 +227,7 @@ fn comparisons_over<'a>(tokens: &[PlacedToken<'a>]) -> Option<Finding<'a>> {
     let mut number = 0;
     let mut found = None;
     for token in tokens {
-        if token.kind == Kind::Comparison {
+        if is_comparison(token) {
             if number == MAX_COMPARISONS {
                 found = Some(token.at);
             }
@@ -258,8 +254,8 @@ fn parts_of<'t, 'a>(
     tokens: &'t [PlacedToken<'a>],
 ) -> Result<Parts<'t, 'a>, AllocError> {
     let rule = without_label(tokens);
-    let left = before(rule, Kind::Simplify);
-    let right = from(rule, Kind::Simplify);
+    let left = before(rule, Sign::Simplify);
+    let right = from(rule, Sign::Simplify);
     Ok(Parts {
         heads: atoms_of(alloc, left)?,
         body: atoms_of(alloc, right)?,
@@ -295,12 +291,12 @@ fn rule_over<'a>(
 fn has_variable(tokens: &[PlacedToken<'_>], name: &[u8]) -> bool {
     tokens
         .iter()
-        .any(|token| token.kind == Kind::Variable && token.word == name)
+        .any(|token| is_variable(token) && token.word == name)
 }
 
 /// Why a token of guard or body has no value.
 fn unbound_cause<'a>(left: &[PlacedToken<'_>], token: &PlacedToken<'a>) -> Option<Cause<'a>> {
-    if token.kind != Kind::Variable {
+    if !is_variable(token) {
         None
     } else if token.word == b"_".as_slice() {
         Some(Cause::Anonymous)
@@ -327,7 +323,7 @@ fn unbound<'a>(parts: &Parts<'_, 'a>) -> Option<Finding<'a>> {
 /// The first number that 64 bits do not hold.
 fn number_outside<'a>(tokens: &[PlacedToken<'a>]) -> Option<Finding<'a>> {
     for token in tokens {
-        if token.kind == Kind::Number && number_of(token.word).is_none() {
+        if is_number(token) && number_of(token.word).is_none() {
             return Some(Finding {
                 cause: Cause::Number(token.word),
                 at: token.at,
@@ -351,7 +347,7 @@ fn is_no_weight(digits: &[u8]) -> bool {
 /// The first number of these that no weight has.
 fn weight_outside<'a>(numbers: &[PlacedToken<'a>]) -> Option<Finding<'a>> {
     for token in numbers {
-        if token.kind == Kind::Number && is_no_weight(token.word) {
+        if is_number(token) && is_no_weight(token.word) {
             return Some(Finding {
                 cause: Cause::Weight(WeightFault::Number(token.word)),
                 at: token.at,
@@ -363,7 +359,7 @@ fn weight_outside<'a>(numbers: &[PlacedToken<'a>]) -> Option<Finding<'a>> {
 
 /// Whether each number of these is 0.
 fn are_zeros(numbers: &[PlacedToken<'_>]) -> bool {
-    numbers.iter().all(|token| token.kind != Kind::Number || number_of(token.word) == Some(0))
+    numbers.iter().all(|token| !is_number(token) || number_of(token.word) == Some(0))
 }
 
 /// What is wrong with the weight of a symbol that is declared, whose numbers 64 bits hold.
@@ -400,7 +396,7 @@ fn in_directive<'a>(
     program: &Program,
 ) -> Result<Option<Finding<'a>>, AllocError> {
     let symbols = symbols_of(alloc, tokens)?;
-    let numbers = from(tokens, Kind::Equals);
+    let numbers = from(tokens, Sign::Equals);
     Ok(match fault {
         Fault::Undeclared => symbol_undeclared(&symbols),
         Fault::DeclaredTwice => declared_twice(program, &symbols),
@@ -430,7 +426,7 @@ fn in_rule<'a>(
 
 fn is_directive(tokens: &[PlacedToken<'_>]) -> bool {
     match tokens {
-        [first, ..] => first.kind == Kind::Directive,
+        [first, ..] => is_sign(first, Sign::Directive),
         [] => false,
     }
 }

@@ -1,9 +1,9 @@
 //! Forms of usual CHR that this language has not, told by name.
 
-use crate::rule::is_term;
 use crate::syntax::{Naming, Side, Stuck, Wanted};
-use crate::token::{Kind, PlacedToken};
+use crate::token::{is_comparison, is_name, is_sign, is_term};
 use crate::word::{ToldBytes, ToldWord};
+use chr_syntax::{PlacedToken, Sign, Token};
 use std::fmt;
 
 /// What usual CHR has in place of a number or a variable.
@@ -93,7 +93,7 @@ impl<'a> Spot<'a> {
     /// Whether an atom may end before the token.
     fn is_after_atom(&self) -> bool {
         match self.before {
-            Some(token) => token.kind == Kind::Name || token.kind == Kind::Close,
+            Some(token) => is_name(&token) || is_sign(&token, Sign::Close),
             None => false,
         }
     }
@@ -102,9 +102,9 @@ impl<'a> Spot<'a> {
     fn is_compared(&self) -> bool {
         match self.after {
             Some(token) => {
-                token.kind == Kind::Comparison
-                    || token.kind == Kind::Equals
-                    || token.kind == Kind::Backslash
+                is_comparison(&token)
+                    || is_sign(&token, Sign::Equals)
+                    || is_sign(&token, Sign::Backslash)
             }
             None => false,
         }
@@ -114,7 +114,7 @@ impl<'a> Spot<'a> {
 /// The word of the directive that these tokens are.
 fn directive_of<'a>(tokens: &[PlacedToken<'a>]) -> Option<&'a [u8]> {
     match tokens {
-        [first, second, ..] => (first.kind == Kind::Directive).then_some(second.word),
+        [first, second, ..] => is_sign(first, Sign::Directive).then_some(second.word),
         _ => None,
     }
 }
@@ -168,9 +168,9 @@ fn operator_of<'a>(token: PlacedToken<'a>) -> Option<&'a [u8]> {
 
 /// What stands after a value.
 fn after_value<'a>(spot: Spot<'a>) -> Option<Foreign<'a>> {
-    match spot.token.kind {
-        Kind::Backslash => spot.is_before(b"=").then_some(sign("\\=", "=\\=")),
-        Kind::Equals => spot.is_before(b">").then_some(sign("=>", ">=")),
+    match spot.token.token {
+        Some(Token::Sign(Sign::Backslash)) => spot.is_before(b"=").then_some(sign("\\=", "=\\=")),
+        Some(Token::Sign(Sign::Equals)) => spot.is_before(b">").then_some(sign("=>", ">=")),
         _ => Some(Foreign::Arithmetic(operator_of(spot.token)?)),
     }
 }
@@ -178,7 +178,7 @@ fn after_value<'a>(spot: Spot<'a>) -> Option<Foreign<'a>> {
 /// What stands in place of an argument.
 fn for_argument<'a>(spot: Spot<'a>) -> Option<Foreign<'a>> {
     let word = spot.token.word;
-    if spot.token.kind != Kind::Name {
+    if !is_name(&spot.token) {
         None
     } else if spot.is_before(b"(") {
         Some(Foreign::Value(ForeignValue::Term(word)))
@@ -190,9 +190,9 @@ fn for_argument<'a>(spot: Spot<'a>) -> Option<Foreign<'a>> {
 /// What stands in place of a comparison's right side.
 fn for_right_side<'a>(spot: Spot<'a>) -> Option<Foreign<'a>> {
     let word = spot.token.word;
-    if spot.token.kind == Kind::Equals {
+    if is_sign(&spot.token, Sign::Equals) {
         spot.is_after(b"<").then_some(sign("<=", "=<"))
-    } else if spot.token.kind != Kind::Name {
+    } else if !is_name(&spot.token) {
         None
     } else if spot.is_before(b"(") {
         Some(Foreign::Call(word))
@@ -204,7 +204,7 @@ fn for_right_side<'a>(spot: Spot<'a>) -> Option<Foreign<'a>> {
 /// What stands in place of a guard's comparison.
 fn for_comparison<'a>(spot: Spot<'a>) -> Option<Foreign<'a>> {
     let word = spot.token.word;
-    if spot.token.kind != Kind::Name {
+    if !is_name(&spot.token) {
         None
     } else if spot.is_before(b"(") {
         Some(Foreign::Call(word))
@@ -227,16 +227,20 @@ fn for_atom<'a>(spot: Spot<'a>) -> Option<Foreign<'a>> {
 
 /// What stands after an atom.
 fn after_atom<'a>(side: Side, spot: Spot<'_>) -> Option<Foreign<'a>> {
-    match (side, spot.token.kind) {
-        (Side::Head, Kind::Equals) => spot.is_before(b">").then_some(sign("=>", "<=>")),
-        (_, Kind::Name) => (spot.token.word == b"pragma".as_slice()).then_some(Foreign::Pragma),
+    match (side, spot.token.token) {
+        (Side::Head, Some(Token::Sign(Sign::Equals))) => spot
+            .is_before(b">")
+            .then_some(sign("=>", "<=>")),
+        (_, Some(Token::Name(_))) => (spot.token.word == b"pragma".as_slice()).then_some(
+            Foreign::Pragma,
+        ),
         _ => None,
     }
 }
 
 /// What stands after a declared name.
-fn after_name<'a>(kind: Kind) -> Option<Foreign<'a>> {
-    (kind == Kind::Open).then_some(Foreign::Directive(ForeignDirective::Modes))
+fn after_name<'a>(token: &PlacedToken<'_>) -> Option<Foreign<'a>> {
+    is_sign(token, Sign::Open).then_some(Foreign::Directive(ForeignDirective::Modes))
 }
 
 /// What stands where the clause wants something else.
@@ -248,7 +252,7 @@ fn in_place_of<'a>(wanted: Wanted, spot: Spot<'a>) -> Option<Foreign<'a>> {
         Wanted::GuardItem => for_comparison(spot),
         Wanted::Item(Side::Body) => for_atom(spot),
         Wanted::AtomNext(side) | Wanted::ItemNext(side) => after_atom(side, spot),
-        Wanted::Slash(Naming::Declare) => after_name(spot.token.kind),
+        Wanted::Slash(Naming::Declare) => after_name(&spot.token),
         _ => None,
     }
 }

@@ -1,8 +1,8 @@
 //! The names that a program's text gives the variables of its rules.
 
 use crate::rule::{before, without_label};
-use crate::token::{Kind, PlacedToken, placed_tokens};
-use chr_syntax::{next_clause, without_comments};
+use crate::token::{is_sign, is_variable};
+use chr_syntax::{PlacedToken, Sign, next_clause, placed_tokens, without_comments};
 use std::alloc::{AllocError, Global};
 
 /// A variable without a name, which is a new one each time.
@@ -49,8 +49,8 @@ fn rule_names(alloc: Global, tokens: &[PlacedToken<'_>]) -> Result<RuleNames, Al
     let mut names = RuleNames {
         names: Vec::new(alloc),
     };
-    for token in before(without_label(tokens), Kind::Simplify) {
-        if token.kind == Kind::Variable {
+    for token in before(without_label(tokens), Sign::Simplify) {
+        if is_variable(token) {
             names.meet(alloc, token.word)?;
         }
     }
@@ -60,7 +60,7 @@ fn rule_names(alloc: Global, tokens: &[PlacedToken<'_>]) -> Result<RuleNames, Al
 /// Whether these are the tokens of a rule, in a text without bad clauses.
 pub(crate) fn is_rule(tokens: &[PlacedToken<'_>]) -> bool {
     match tokens {
-        [first, ..] => first.kind != Kind::Directive,
+        [first, ..] => !is_sign(first, Sign::Directive),
         [] => false,
     }
 }

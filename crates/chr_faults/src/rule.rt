@@ -1,6 +1,7 @@
 //! The parts of a clause that has a form, with their places.
 
-use crate::token::{Kind, PlacedToken};
+use crate::token::{is_name, is_sign, is_term};
+use chr_syntax::{PlacedToken, Sign};
 use std::alloc::{AllocError, Global};
 
 /// An atom of a rule or a symbol of a directive: its name, its number of arguments, and its place in the clause.
@@ -11,29 +12,28 @@ pub(crate) struct PlacedAtom<'a> {
     pub at: usize,
 }
 
-pub(crate) fn is_term(token: &PlacedToken<'_>) -> bool {
-    token.kind == Kind::Variable || token.kind == Kind::Number
+/// The place of this sign among the tokens; their number where there is none.
+pub(crate) fn first_of(tokens: &[PlacedToken<'_>], sign: Sign) -> usize {
+    tokens
+        .iter()
+        .take_while(|token| !is_sign(token, sign))
+        .count()
 }
 
-/// The place of the first token of this kind among the tokens; their number where there is none.
-pub(crate) fn first_of(tokens: &[PlacedToken<'_>], kind: Kind) -> usize {
-    tokens.iter().take_while(|token| token.kind != kind).count()
+/// The tokens before the first such sign: all where there is none.
+pub(crate) fn before<'t, 'a>(tokens: &'t [PlacedToken<'a>], sign: Sign) -> &'t [PlacedToken<'a>] {
+    &tokens[..first_of(tokens, sign).min(tokens.len())]
 }
 
-/// The tokens before the first of this kind: all where there is none.
-pub(crate) fn before<'t, 'a>(tokens: &'t [PlacedToken<'a>], kind: Kind) -> &'t [PlacedToken<'a>] {
-    &tokens[..first_of(tokens, kind).min(tokens.len())]
-}
-
-/// The tokens from the first of this kind on: none where there is none.
-pub(crate) fn from<'t, 'a>(tokens: &'t [PlacedToken<'a>], kind: Kind) -> &'t [PlacedToken<'a>] {
-    &tokens[first_of(tokens, kind).min(tokens.len())..]
+/// The tokens from the first such sign on: none where there is none.
+pub(crate) fn from<'t, 'a>(tokens: &'t [PlacedToken<'a>], sign: Sign) -> &'t [PlacedToken<'a>] {
+    &tokens[first_of(tokens, sign).min(tokens.len())..]
 }
 
 /// A rule without its label.
 pub(crate) fn without_label<'t, 'a>(tokens: &'t [PlacedToken<'a>]) -> &'t [PlacedToken<'a>] {
     match tokens {
-        [_, second, rest @ ..] => if second.kind == Kind::At {
+        [_, second, rest @ ..] => if is_sign(second, Sign::At) {
             rest
         } else {
             tokens
@@ -45,8 +45,8 @@ pub(crate) fn without_label<'t, 'a>(tokens: &'t [PlacedToken<'a>]) -> &'t [Place
 /// How many arguments stand after an atom's name.
 fn arguments(after: &[PlacedToken<'_>]) -> usize {
     match after {
-        [first, rest @ ..] => if first.kind == Kind::Open {
-            before(rest, Kind::Close)
+        [first, rest @ ..] => if is_sign(first, Sign::Open) {
+            before(rest, Sign::Close)
                 .iter()
                 .filter(|token| is_term(token))
                 .count()
@@ -64,7 +64,7 @@ pub(crate) fn atoms_of<'a>(
 ) -> Result<Vec<PlacedAtom<'a>>, AllocError> {
     let mut atoms = Vec::new(alloc);
     for (i, token) in tokens.iter().enumerate() {
-        if token.kind == Kind::Name && token.word != b"true".as_slice() {
+        if is_name(token) && token.word != b"true".as_slice() {
             atoms.push(PlacedAtom {
                 name: token.word,
                 arity: arguments(&tokens[i + 1..]),

@@ -2,8 +2,7 @@
 
 use crate::names::is_rule;
 use crate::place::place_outside;
-use crate::token::{PlacedToken, placed_tokens};
-use chr_syntax::{next_clause, without_comments};
+use chr_syntax::{PlacedToken, next_clause, placed_tokens, without_comments};
 use std::alloc::{AllocError, Global};
 
 /// Where something begins in a text, and where it ends.

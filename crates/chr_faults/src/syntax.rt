@@ -1,7 +1,8 @@
 //! Why a clause has no form: the first token that can't stand where it does.
 
 use crate::rule::first_of;
-use crate::token::{Kind, PlacedToken};
+use crate::token::{is_name, is_sign, is_term};
+use chr_syntax::{PlacedToken, Sign, Token};
 use std::fmt;
 
 /// Whether an atom is a head or stands in a body.
@@ -74,17 +75,17 @@ struct Parting {
 
 /// A backslash parts the heads of a rule with `<=>` alone.
 fn parting_of(tokens: &[PlacedToken<'_>]) -> Parting {
-    let simplify = first_of(tokens, Kind::Simplify);
+    let simplify = first_of(tokens, Sign::Simplify);
     let (arrow, backslash) = if simplify < tokens.len() {
-        (simplify, first_of(tokens, Kind::Backslash))
+        (simplify, first_of(tokens, Sign::Backslash))
     } else {
-        (first_of(tokens, Kind::Propagate), tokens.len())
+        (first_of(tokens, Sign::Propagate), tokens.len())
     };
     let after = &tokens[arrow.min(tokens.len())..];
     Parting {
         backslash,
         arrow,
-        bar: arrow.saturating_add(first_of(after, Kind::Bar)),
+        bar: arrow.saturating_add(first_of(after, Sign::Bar)),
         len: tokens.len(),
     }
 }
@@ -99,11 +100,19 @@ fn after_arrow(parting: Parting) -> Wanted {
 }
 
 /// What comes after an atom and the sign at this place.
-fn after_item(side: Side, kind: Kind, place: usize, parting: Parting) -> Option<Wanted> {
-    match (side, kind) {
-        (_, Kind::Comma) => Some(Wanted::Item(side)),
-        (Side::Head, Kind::Backslash) => (place == parting.backslash).then_some(Wanted::Item(side)),
-        (Side::Head, Kind::Simplify) | (Side::Head, Kind::Propagate) => {
+fn after_item(
+    side: Side,
+    token: &PlacedToken<'_>,
+    place: usize,
+    parting: Parting,
+) -> Option<Wanted> {
+    let Some(Token::Sign(sign)) = token.token else {
+        return None;
+    };
+    match (side, sign) {
+        (_, Sign::Comma) => Some(Wanted::Item(side)),
+        (Side::Head, Sign::Backslash) => (place == parting.backslash).then_some(Wanted::Item(side)),
+        (Side::Head, Sign::Simplify) | (Side::Head, Sign::Propagate) => {
             (place == parting.arrow).then_some(after_arrow(parting))
         }
         _ => None,
@@ -114,12 +123,8 @@ fn is_reserved(word: &[u8]) -> bool {
     word == b"true".as_slice() || word == b"fail".as_slice() || word == b"false".as_slice()
 }
 
-fn is_term(kind: Kind) -> bool {
-    kind == Kind::Variable || kind == Kind::Number
-}
-
 fn is_plain_name(token: &PlacedToken<'_>) -> bool {
-    token.kind == Kind::Name && !is_reserved(token.word)
+    is_name(token) && !is_reserved(token.word)
 }
 
 /// After a token where an item of heads or body was wanted.
@@ -141,18 +146,18 @@ fn after_atom_token(
 ) -> Option<Wanted> {
     match wanted {
         Wanted::Item(side) => after_item_begin(side, token),
-        Wanted::AtomNext(side) => if token.kind == Kind::Open {
+        Wanted::AtomNext(side) => if is_sign(token, Sign::Open) {
             Some(Wanted::Term(side))
         } else {
-            after_item(side, token.kind, place, parting)
+            after_item(side, token, place, parting)
         },
-        Wanted::Term(side) => is_term(token.kind).then_some(Wanted::TermNext(side)),
-        Wanted::TermNext(side) => match token.kind {
-            Kind::Comma => Some(Wanted::Term(side)),
-            Kind::Close => Some(Wanted::ItemNext(side)),
+        Wanted::Term(side) => is_term(token).then_some(Wanted::TermNext(side)),
+        Wanted::TermNext(side) => match token.token {
+            Some(Token::Sign(Sign::Comma)) => Some(Wanted::Term(side)),
+            Some(Token::Sign(Sign::Close)) => Some(Wanted::ItemNext(side)),
             _ => None,
         },
-        Wanted::ItemNext(side) => after_item(side, token.kind, place, parting),
+        Wanted::ItemNext(side) => after_item(side, token, place, parting),
         _ => None,
     }
 }
@@ -163,17 +168,17 @@ fn after_guard_token(
     place: usize,
     parting: Parting,
 ) -> Option<Wanted> {
-    match (wanted, token.kind) {
-        (Wanted::GuardItem, Kind::Name) => (token.word == b"true".as_slice()).then_some(
+    match (wanted, token.token?) {
+        (Wanted::GuardItem, Token::Name(word)) => (word == b"true".as_slice()).then_some(
             Wanted::GuardNext,
         ),
-        (Wanted::GuardItem, kind) => is_term(kind).then_some(Wanted::GuardSign),
-        (Wanted::GuardSign, Kind::Comparison) => Some(Wanted::GuardTerm),
-        (Wanted::GuardTerm, kind) => is_term(kind).then_some(Wanted::GuardNext),
-        (Wanted::GuardNext, Kind::Comma) => Some(Wanted::GuardItem),
-        (Wanted::GuardNext, Kind::Bar) => (place == parting.bar).then_some(Wanted::Item(
-            Side::Body,
-        )),
+        (Wanted::GuardItem, _) => is_term(token).then_some(Wanted::GuardSign),
+        (Wanted::GuardSign, Token::Compare(_)) => Some(Wanted::GuardTerm),
+        (Wanted::GuardTerm, _) => is_term(token).then_some(Wanted::GuardNext),
+        (Wanted::GuardNext, Token::Sign(Sign::Comma)) => Some(Wanted::GuardItem),
+        (Wanted::GuardNext, Token::Sign(Sign::Bar)) => (place == parting.bar).then_some(
+            Wanted::Item(Side::Body),
+        ),
         _ => None,
     }
 }
@@ -212,18 +217,16 @@ fn after_library(place: usize, word: &[u8]) -> Option<Wanted> {
 }
 
 fn after_directive_token(wanted: Wanted, token: &PlacedToken<'_>) -> Option<Wanted> {
-    match (wanted, token.kind) {
-        (Wanted::Directive, Kind::Name) => after_directive(token.word),
-        (Wanted::Symbol(naming), Kind::Name) => is_plain_name(token).then_some(Wanted::Slash(
-            naming,
-        )),
-        (Wanted::Slash(naming), Kind::Slash) => Some(Wanted::Arity(naming)),
-        (Wanted::Arity(naming), Kind::Number) => after_arity(naming, token.word),
-        (Wanted::SymbolNext, Kind::Comma) => Some(Wanted::Symbol(Naming::Declare)),
-        (Wanted::Equals, Kind::Equals) => Some(Wanted::FirstNumber),
-        (Wanted::FirstNumber, Kind::Number) => Some(Wanted::NumberNext),
-        (Wanted::NumberNext, Kind::Comma) => Some(Wanted::SecondNumber),
-        (Wanted::SecondNumber, Kind::Number) => Some(Wanted::End),
+    match (wanted, token.token?) {
+        (Wanted::Directive, Token::Name(word)) => after_directive(word),
+        (Wanted::Symbol(naming), _) => is_plain_name(token).then_some(Wanted::Slash(naming)),
+        (Wanted::Slash(naming), Token::Sign(Sign::Slash)) => Some(Wanted::Arity(naming)),
+        (Wanted::Arity(naming), Token::Number(digits)) => after_arity(naming, digits),
+        (Wanted::SymbolNext, Token::Sign(Sign::Comma)) => Some(Wanted::Symbol(Naming::Declare)),
+        (Wanted::Equals, Token::Sign(Sign::Equals)) => Some(Wanted::FirstNumber),
+        (Wanted::FirstNumber, Token::Number(_)) => Some(Wanted::NumberNext),
+        (Wanted::NumberNext, Token::Sign(Sign::Comma)) => Some(Wanted::SecondNumber),
+        (Wanted::SecondNumber, Token::Number(_)) => Some(Wanted::End),
         (Wanted::Library(place), _) => after_library(place, token.word),
         _ => None,
     }
@@ -232,14 +235,14 @@ fn after_directive_token(wanted: Wanted, token: &PlacedToken<'_>) -> Option<Want
 /// Whether the first token is followed by `@`.
 fn is_labelled(tokens: &[PlacedToken<'_>]) -> bool {
     match tokens {
-        [_, second, ..] => second.kind == Kind::At,
+        [_, second, ..] => is_sign(second, Sign::At),
         _ => false,
     }
 }
 
 /// After the first token of a clause.
 fn after_first(tokens: &[PlacedToken<'_>], token: &PlacedToken<'_>) -> Option<Wanted> {
-    if token.kind == Kind::Directive {
+    if is_sign(token, Sign::Directive) {
         Some(Wanted::Directive)
     } else if !is_plain_name(token) {
         None
@@ -316,7 +319,7 @@ impl Stuck<'_> {
     /// Whether a token was found that is no comparison where one was wanted.
     fn lacks_comparison(&self) -> bool {
         match self.found {
-            Some(token) => self.wanted == Wanted::GuardSign && token.kind == Kind::Equals,
+            Some(token) => self.wanted == Wanted::GuardSign && is_sign(&token, Sign::Equals),
             None => false,
         }
     }

@@ -5,3 +5,7 @@ pub mod Starts
 pub mod Reactions
 pub mod Distinct
 pub mod Making
+pub mod Actives
+pub mod Rows
+pub mod Around
+pub mod Joined

@@ -4,7 +4,7 @@ use Rattle.std.specs.Ordering.{int_cmp}
 use Rattle.chr_base.specs.declared.atom.Atom.{Atom}
 use Rattle.chr_base.specs.Atoms.{no_atom}
 use Rattle.chr_base.specs.Rules.{compares}
-use Rattle.chr_ranges.specs.Rows.{IsIn}
+use Rattle.chr_indexes.specs.RangedRows.{IsIn}
 use Rattle.chr_plans.specs.declared.key.Test.{Test}
 use Rattle.chr_plans.specs.declared.key.Limit.{Limit}
 use Rattle.chr_plans.specs.declared.key.Order.{Order}

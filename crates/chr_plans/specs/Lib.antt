@@ -4,4 +4,8 @@ pub mod Seats
 pub mod Plans
 pub mod Reactions
 pub mod Planning
+pub mod Actives
+pub mod Grids
+pub mod Joined
+pub mod Laws
 pub mod working

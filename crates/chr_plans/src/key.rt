@@ -8,13 +8,13 @@ ghost use Rattle.chr_base.specs.declared.term.Cmp.TheVariants.{Equal};
 ghost use Rattle.chr_plans.specs.declared.key.Source.TheVariants.{Constant};
 ghost use Rattle.chr_plans.specs.declared.key.Order.TheVariants.{Unordered};
 ghost use Rattle.chr_plans.specs.Keys.{argument, source_value, passes, allows, columns_by, IsInBand, Spans};
-ghost use Rattle.chr_ranges.specs.Rows.{IsIn};
+ghost use Rattle.chr_indexes.specs.RangedRows.{IsIn};
 
 use arrayvec::ArrayVec;
 use chr_base::atom::Atom;
 use chr_base::limits::{MAX_ARITY, MAX_COMPARISONS};
 use chr_base::term::Cmp;
-use chr_ranges::Range;
+use chr_indexes::ranges::Range;
 
 /// Where a value of a key comes from.
 #[derive(Clone, Copy, Debug, PartialEq, Eq)]

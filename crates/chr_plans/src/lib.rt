@@ -6,6 +6,7 @@
 //! is only a candidate: whether the heads are an instance is asked of the rule.
 #![tactic(auto)]
 
+pub mod actives;
 pub mod key;
 pub mod plan;
 pub mod planning;

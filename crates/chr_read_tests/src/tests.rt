@@ -5,6 +5,7 @@ mod clauses;
 mod faults;
 mod full_text;
 mod many_digits;
+mod places;
 mod weights;
 
 use chr_base::atom::SymbolId;

@@ -1,5 +1,6 @@
 -- Words of private contracts alone.
 pub mod Answered
+pub mod Obeying
 pub mod Requests
 pub mod Services
 pub mod LinesLeft

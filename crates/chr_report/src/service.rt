@@ -8,9 +8,9 @@ ghost use Rattle.chr_json.specs.Reads.{HasIds};
 ghost use Rattle.chr_replica.specs.Replicas.{IsDeclared};
 ghost use Rattle.chr_worlds.specs.Worlds.{Happens};
 ghost use Rattle.chr_base.specs.declared.limits.TheConstants.{MAX_REPLICAS};
-ghost use Rattle.chr_report.specs.Answers.{AnswersAt, AnswersBetween, AnswersLacks, AnswersMerge, AnswersShow};
-ghost use Rattle.chr_report.specs.Answers.{AnswersSummary, AnswersTell};
-ghost use Rattle.chr_report.specs.working.ReplyTexts.{reply_text, IsWritable};
+ghost use Rattle.chr_report.specs.Answers.{AnswersBetween, AnswersLacks, AnswersMerge, AnswersShow, AnswersSummary};
+ghost use Rattle.chr_report.specs.Answers.{AnswersTell};
+ghost use Rattle.chr_report.specs.working.Obeying.{IsAnswered, IsAnsweredAt};
 ghost use Rattle.chr_report.specs.working.Requests.{AnswersRequest, FitsProgram};
 ghost use Rattle.chr_report.specs.working.Services.{held, served, was_stopped};
 ghost use Rattle.chr_report.specs.working.Services.{AreAtRest, HasLongRanges, IsLineEvent, IsBetweenLines};
@@ -234,10 +234,7 @@ impl Service {
         requires ready { IsBetweenLines self.old }
         requires declared { IsDeclared (served self.old) op }
         ensures ready { OnOk result (IsBetweenLines self.new) }
-        ensures program { self.new.world.accepted ≡ self.old.world.accepted }
-        ensures writable { IfOk result IsWritable }
-        ensures answer { IfOk result (λ reply. AnswersAt (held self.old) replica (AnswersTell op)
-            (reply_text (declarations (served self.old)) reply) (held self.new)) }
+        ensures answered { IsAnsweredAt self.old self.new replica (AnswersTell op) result }
     {
         runs_keep_replicas_sound();
         let answer = self.world.tell(alloc, replica, op)?;
@@ -250,10 +247,7 @@ impl Service {
         requires ready { IsBetweenLines self.old }
         requires declared { All (IsDeclared (served self.old)) ops.items }
         ensures ready { OnOk result (IsBetweenLines self.new) }
-        ensures program { self.new.world.accepted ≡ self.old.world.accepted }
-        ensures writable { IfOk result IsWritable }
-        ensures answer { IfOk result (λ reply. AnswersAt (held self.old) replica (AnswersMerge ops.items)
-            (reply_text (declarations (served self.old)) reply) (held self.new)) }
+        ensures answered { IsAnsweredAt self.old self.new replica (AnswersMerge ops.items) result }
     {
         let answer = self.act(alloc, &Event::At(replica, Act::Merge(OpList::of(ops))))?;
         self.rest_many(alloc, replica)?;
@@ -264,10 +258,7 @@ impl Service {
     fn sync(&mut self, alloc: Global, from: u64, to: u64) -> Result<Reply, AllocError>
         requires { IsBetweenLines self.old }
         ensures ready { OnOk result (IsBetweenLines self.new) }
-        ensures program { self.new.world.accepted ≡ self.old.world.accepted }
-        ensures writable { IfOk result IsWritable }
-        ensures answer { IfOk result (λ reply. AnswersBetween (held self.old) from to
-            (reply_text (declarations (served self.old)) reply) (held self.new)) }
+        ensures answered { IsAnswered self.old self.new (λ held. AnswersBetween held from to) result }
     {
         let answer = self.act(alloc, &Event::Sync(from, to))?;
         self.rest_many(alloc, to)?;
@@ -283,11 +274,8 @@ impl Service {
     ) -> Result<Reply, AllocError>
         requires { IsBetweenLines self.old }
         ensures ready { OnOk result (IsBetweenLines self.new) }
-        ensures program { self.new.world.accepted ≡ self.old.world.accepted }
-        ensures writable { IfOk result IsWritable }
-        ensures answer { IfOk result (λ reply. AnswersAt (held self.old) replica
-            (AnswersShow (declarations (served self.old)) (rules_of (served self.old)))
-            (reply_text (declarations (served self.old)) reply) (held self.new)) }
+        ensures answered { IsAnsweredAt self.old self.new replica
+            (AnswersShow (declarations (served self.old)) (rules_of (served self.old))) result }
     {
         self.settle(rt, alloc, replica)?;
         let answer = self.act(alloc, &Event::At(replica, Act::Show))?;
@@ -298,10 +286,7 @@ impl Service {
     fn summary(&mut self, alloc: Global, replica: u64) -> Result<Reply, AllocError>
         requires { IsBetweenLines self.old }
         ensures ready { OnOk result (IsBetweenLines self.new) }
-        ensures program { self.new.world.accepted ≡ self.old.world.accepted }
-        ensures writable { IfOk result IsWritable }
-        ensures answer { IfOk result (λ reply. AnswersAt (held self.old) replica AnswersSummary
-            (reply_text (declarations (served self.old)) reply) (held self.new)) }
+        ensures answered { IsAnsweredAt self.old self.new replica AnswersSummary result }
     {
         let answer = self.act(alloc, &Event::At(replica, Act::Summary))?;
         look_into(&answer);
@@ -319,11 +304,8 @@ impl Service {
         requires ready { IsBetweenLines self.old }
         requires sized { All HasIds ranges.items }
         ensures ready { OnOk result (IsBetweenLines self.new) }
-        ensures program { self.new.world.accepted ≡ self.old.world.accepted }
-        ensures writable { IfOk result IsWritable }
-        ensures answer { IfOk result (λ reply. AnswersAt (held self.old) replica
-            (AnswersLacks (declarations (served self.old)) ranges.items version)
-            (reply_text (declarations (served self.old)) reply) (held self.new)) }
+        ensures answered { IsAnsweredAt self.old self.new replica
+            (AnswersLacks (declarations (served self.old)) ranges.items version) result }
     {
         let summary = Summary::of(ranges)?;
         let answer = self.act(alloc, &Event::At(replica, Act::Lacks(summary)))?;
@@ -340,11 +322,9 @@ impl Service {
         requires ready { IsBetweenLines self.old }
         requires fits { FitsProgram (served self.old) request }
         ensures ready { OnOk result (IsBetweenLines self.new) }
-        ensures program { self.new.world.accepted ≡ self.old.world.accepted }
-        ensures writable { IfOk result IsWritable }
-        ensures answer { IfOk result (λ reply. AnswersRequest (declarations (served self.old))
-            (rules_of (served self.old)) (held self.old) request
-            (reply_text (declarations (served self.old)) reply) (held self.new)) }
+        ensures answered { IsAnswered self.old self.new
+            (λ held. AnswersRequest (declarations (served self.old)) (rules_of (served self.old)) held request)
+            result }
     {
         match request {
             Request::Tell(replica, op) => self.tell(alloc, replica, op),

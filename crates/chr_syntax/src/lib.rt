@@ -17,3 +17,4 @@ pub use grammar::{
     clauses_are_parted, clauses_have_one_form, comments_are_erased, written_tokens_are_read,
 };
 pub use reading::{clause_in, rest_fault};
+pub use token::{PlacedToken, Sign, Token, placed_tokens};

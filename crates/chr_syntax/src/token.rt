@@ -1,17 +1,20 @@
 //! The tokens of a clause.
 
-ghost use Rattle.std.specs.Prelude.{◌≡◌, ◌≤◌, ◌<◌, Option, map, option_map, IfSome, length};
+ghost use Rattle.std.specs.Prelude.{◌≡◌, ◌≤◌, ◌<◌, ◌+◌, List, Option, Some, map, option_map, drop, length};
+ghost use Rattle.std.specs.Prelude.{IfOk, IfSome};
 ghost use Rattle.std.specs.List.{prefix_len};
 ghost use Rattle.chr_base.specs.Names.{is_digit, is_lower, is_upper, is_word_byte};
 ghost use Rattle.chr_syntax.specs.working.Tokens.{number_len, long_sign, middle_sign, short_sign, sign_at, token_at};
 ghost use Rattle.chr_syntax.specs.working.Tokens.{tokens_of};
-ghost use Rattle.chr_syntax.specs.working.Views.{token_view};
+ghost use Rattle.chr_syntax.specs.Tokens.{Tok};
+ghost use Rattle.chr_syntax.specs.Lexemes.{AreTokens};
+ghost use Rattle.chr_syntax.specs.Views.{token_view, placed_view};
 ghost use Rattle.chr_syntax.specs.working.Outcomes.{AnswersWith};
 
 use crate::bytes::is_layout;
 use crate::clause::Comparator;
 use crate::fault::Stop;
-use std::alloc::Global;
+use std::alloc::{AllocError, Global};
 
 /// A sign that is no comparison. `Equals` is the sign `=`, which no guard may have.
 #[derive(Clone, Copy, Debug, PartialEq, Eq)]
@@ -201,4 +204,56 @@ pub fn tokens_of(alloc: Global, bytes: &[u8]) -> Result<Vec<Token<'_>>, Stop>
         at += n;
     }
     Ok(tokens)
+}
+
+/// What stands at a place of a clause: a token and its bytes, or one byte at which no token begins. `at` is how many
+/// bytes of the clause stand before it.
+#[derive(Clone, Copy, Debug)]
+pub struct PlacedToken<'a> {
+    pub token: Option<Token<'a>>,
+    pub word: &'a [u8],
+    pub at: usize,
+}
+
+/// What stands at a place where no layout is.
+#[tactic(auto, using(crate::proofs::Lexing::rest_whole))]
+fn placed_at(bytes: &[u8], at: usize) -> PlacedToken<'_>
+    requires { at < length bytes.now }
+    ensures value { option_map (λ t. (token_view t, length result.word.now)) result.token
+        ≡ token_at (drop at bytes.now) }
+    ensures some { 0 < length result.word.now }
+    ensures within { at + length result.word.now ≤ length bytes.now }
+{
+    let rest = &bytes[at..];
+    match token_at(rest) {
+        Some((token, n)) => PlacedToken {
+            token: Some(token),
+            word: &rest[..n],
+            at,
+        },
+        None => PlacedToken {
+            token: None,
+            word: &rest[..1],
+            at,
+        },
+    }
+}
+
+/// What stands in a clause without comments, each with its place: its tokens, where it is made of tokens. A byte at
+/// which none begins is passed over as if it were one.
+pub fn placed_tokens(alloc: Global, bytes: &[u8]) -> Result<Vec<PlacedToken<'_>>, AllocError>
+    ensures { IfOk result (λ v. (ts : List Tok) → AreTokens ts bytes.now → map placed_view v.items ≡ map Some ts) }
+{
+    let mut placed = Vec::new(alloc);
+    let mut at = 0;
+    while at < bytes.len() {
+        if is_layout(bytes[at]) {
+            at += 1;
+            continue;
+        }
+        let token = placed_at(bytes, at);
+        at += token.word.len();
+        placed.push(token)?;
+    }
+    Ok(placed)
 }

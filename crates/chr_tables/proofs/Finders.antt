@@ -3,9 +3,9 @@ use Rattle.std.proofs.Common.{◌≡◌, ℕ, ℤ, pos, List, map, get_or, Optio
 use Rattle.std.specs.Prelude.{Some, None, option_map}
 use Rattle.std.proofs.Math.ListN.{get_or-map}
 use Rattle.std.proofs.lemmas.Option.{same_Some}
-use Rattle.chr_chains.specs.Rows.{HasHash, Listed}
-use Rattle.chr_ranges.specs.Rows.{ListedEntries, ListedPairs, IsIn, IsWanted, IsCrossed}
-use Rattle.chr_ranges.specs.declared.range.Range.{Range}
+use Rattle.chr_indexes.specs.HashedRows.{HasHash, Listed}
+use Rattle.chr_indexes.specs.RangedRows.{ListedEntries, ListedPairs, IsIn, IsWanted, IsCrossed}
+use Rattle.chr_indexes.specs.declared.ranges.range.Range.{Range}
 use Rattle.chr_plans.specs.declared.key.Band.{Band}
 use Rattle.chr_plans.specs.declared.key.Span.{Span}
 use Rattle.chr_tables.specs.working.Finders.{Found, hashed, ranged, crossed, IsFinderRow}

@@ -5,7 +5,7 @@ use Rattle.std.specs.Prelude.{Some, None, option_map, IsTrue, is_some}
 use Rattle.std.proofs.lemmas.List.{get_or-map}
 use Rattle.std.proofs.lemmas.Option.{slice_get-get_or, slice_get-map, same_Some}
 use Rattle.chr_base.specs.declared.atom.Atom.{Atom}
-use Rattle.chr_ranges.specs.Rows.{IsIn}
+use Rattle.chr_indexes.specs.RangedRows.{IsIn}
 use Rattle.chr_plans.specs.declared.key.Band.{Band}
 use Rattle.chr_plans.specs.declared.key.Span.{Span}
 use Rattle.chr_plans.specs.Keys.{argument, key_of, IsInBand, Spans}

@@ -2,12 +2,12 @@
 ghost use Rattle.std.specs.Prelude.{◌≡◌, ℕ, ℤ, ◌+◌, ◌<◌, ◌≤◌, ◌^◌, ◌∷◌, ◌++◌, [], length, set, Some, None, OnOk, IfOk};
 ghost use Rattle.std.specs.Prelude.{IfSome, IfNone};
 ghost use Rattle.chr_plans.specs.Keys.{argument, key_of, columns_by};
-ghost use Rattle.chr_ranges.specs.Rows.{IsIn};
+ghost use Rattle.chr_indexes.specs.RangedRows.{IsIn};
 ghost use Rattle.chr_tables.specs.working.Finders.{order_in, finder_rows, room_in, IsFinderRow};
 
 use chr_base::atom::Atom;
+use chr_indexes::ranges::Range;
 use chr_plans::key::{Band, Order, Span};
-use chr_ranges::Range;
 use std::alloc::{AllocError, Global};
 
 /// An argument of an atom, 0 where it has none.
@@ -25,17 +25,17 @@ pub(crate) fn argument(atom: &Atom, column: usize) -> i64
 #[derive(Drop)]
 pub(crate) enum Finder {
     /// By the hash alone.
-    Chained(chr_chains::Index),
+    Chained(chr_indexes::hashes::Index),
     /// And by the values in one column, counted from 0.
     Ranged {
         column: usize,
-        index: chr_ranges::Index,
+        index: chr_indexes::ranges::Index,
     },
     /// And by the values in two columns.
     Crossed {
         first: usize,
         second: usize,
-        index: chr_ranges::Crossing,
+        index: chr_indexes::ranges::Crossing,
     },
 }
 
@@ -58,15 +58,15 @@ impl Finder {
         ensures rows { IfOk result (λ f. finder_rows f ≡ []) }
     {
         match order {
-            Order::Unordered => Ok(Finder::Chained(chr_chains::Index::new(alloc)?)),
+            Order::Unordered => Ok(Finder::Chained(chr_indexes::hashes::Index::new(alloc)?)),
             Order::By(column) => Ok(Finder::Ranged {
                 column,
-                index: chr_ranges::Index::new(alloc)?,
+                index: chr_indexes::ranges::Index::new(alloc)?,
             }),
             Order::ByBoth(first, second) => Ok(Finder::Crossed {
                 first,
                 second,
-                index: chr_ranges::Crossing::new(alloc)?,
+                index: chr_indexes::ranges::Crossing::new(alloc)?,
             }),
         }
     }

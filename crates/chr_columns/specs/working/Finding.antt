@@ -6,7 +6,7 @@ use Rattle.chr_plans.specs.declared.key.Order.TheVariants.{Unordered}
 use Rattle.chr_plans.specs.declared.plan.Lookup.{Lookup}
 use Rattle.chr_plans.specs.Rows.{Tables, Columns}
 use Rattle.chr_tables.specs.Contents.{Contents}
-use Rattle.chr_actives.specs.Grids.{rows_in}
+use Rattle.chr_plans.specs.Grids.{rows_in}
 use Rattle.chr_columns.specs.working.Listing.{rows_in_turn}
 
 -- all rows, but for the one of the active atom

@@ -8,7 +8,7 @@ use Rattle.chr_base.specs.Stores.{Store, store_of}
 use Rattle.chr_plans.specs.declared.rows.Seat.{Seat}
 use Rattle.chr_plans.specs.Plans.{pattern_at}
 use Rattle.chr_plans.specs.Seats.{seat}
-use Rattle.chr_actives.specs.Actives.{one}
+use Rattle.chr_plans.specs.Actives.{one}
 
 -- how many of the heads without the active one are kept
 abbrev pub kept_others : Rule → ℕ → ℕ

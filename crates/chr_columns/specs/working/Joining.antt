@@ -7,9 +7,9 @@ use Rattle.chr_base.specs.Rewriting.{IsAtRest}
 use Rattle.chr_base.specs.Rules.{Step}
 use Rattle.chr_base.specs.Stores.{Store, store_of, count}
 use Rattle.chr_plans.specs.Rows.{Tables}
-use Rattle.chr_ranges.specs.declared.range.Range.{Range}
-use Rattle.chr_ranges.specs.Rows.{IsIn}
-use Rattle.chr_actives.specs.Joined.{value_in}
+use Rattle.chr_indexes.specs.declared.ranges.range.Range.{Range}
+use Rattle.chr_indexes.specs.RangedRows.{IsIn}
+use Rattle.chr_plans.specs.Joined.{value_in}
 
 -- no live row has a value in the range
 abbrev pub IsFree : List ℕ → Range → Tables → Type 0

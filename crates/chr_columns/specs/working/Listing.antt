@@ -5,7 +5,7 @@ use Rattle.chr_base.specs.declared.atom.Atom.{Atom}
 use Rattle.chr_base.specs.FinBag.{◌⊕◌}
 use Rattle.chr_base.specs.Stores.{Store, store_of}
 use Rattle.chr_tables.specs.Contents.{Contents}
-use Rattle.chr_actives.specs.Grids.{live_atoms, contents}
+use Rattle.chr_plans.specs.Grids.{live_atoms, contents}
 use Rattle.chr_columns.specs.working.Resting.{grid}
 
 -- the atoms that live in the tables, table by table

@@ -16,7 +16,7 @@ use Rattle.chr_plans.specs.Plans as plan
 use Rattle.chr_plans.specs.Reactions.{MayResume}
 use Rattle.chr_plans.specs.Seats.{IsSeated, head}
 use Rattle.chr_tables.specs.Contents.{Contents, rows_of, index_columns}
-use Rattle.chr_actives.specs.Grids.{Grid, contents}
+use Rattle.chr_plans.specs.Grids.{Grid, contents}
 use Rattle.chr_columns.specs.declared.groups.Group.{Group}
 use Rattle.chr_columns.specs.declared.rested.Rested.{Rested}
 use Rattle.chr_columns.specs.declared.rested.Occurrence.{Occurrence}

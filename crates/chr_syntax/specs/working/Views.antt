@@ -2,20 +2,12 @@
 use Rattle.std.specs.Borrow.{Bor}
 use Rattle.std.specs.Prelude.{List, Option, false, map, option_map}
 use Rattle.chr_syntax.specs.declared.token.Token.{Token}
-use Rattle.chr_syntax.specs.declared.token.Token.TheVariants as t
 use Rattle.chr_syntax.specs.declared.form.Heads.{Heads}
 use Rattle.chr_syntax.specs.declared.form.Right.{Right}
-use Rattle.chr_syntax.specs.Tokens.{Tok, name, variable, number, compare, sign}
+use Rattle.chr_syntax.specs.Tokens.{Tok}
 use Rattle.chr_syntax.specs.Clauses.{Atom, Comparison}
 use Rattle.chr_syntax.specs.working.Forms.{items}
-use Rattle.chr_syntax.specs.Views.{atom_view, comparison_view}
-
-abbrev pub token_view : Token → Tok
-token_view (t.Name w) = name w.now
-token_view (t.Variable w) = variable w.now
-token_view (t.Number w) = number w.now
-token_view (t.Compare c) = compare c
-token_view (t.Sign x) = sign x
+use Rattle.chr_syntax.specs.Views.{token_view, atom_view, comparison_view}
 
 abbrev pub tokens_view : Bor (List Token) → List Tok
 tokens_view ts = map token_view ts.now

@@ -2,7 +2,7 @@
 use Rattle.std.specs.Prelude.{◌≡◌, ℕ, ℤ, pos, List, [], ◌∷◌, map, get_or, slice_get, Option, Some, None, option_map}
 use Rattle.chr_plans.specs.declared.key.Band.{Band}
 use Rattle.chr_plans.specs.declared.key.Span.{Span}
-use Rattle.chr_ranges.specs.Rows.{Entry, Pair, IsIn}
+use Rattle.chr_indexes.specs.RangedRows.{Entry, Pair, IsIn}
 use Rattle.chr_tables.specs.declared.finder.Finder.{Finder}
 use Rattle.chr_tables.specs.declared.finder.Finder.TheVariants.{Chained, Ranged, Crossed}
 

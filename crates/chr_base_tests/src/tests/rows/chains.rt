@@ -1,7 +1,7 @@
 //! Rows that are found by a hash.
 ghost use Rattle.std.specs.Prelude.{◌≡◌, length};
 
-use chr_chains::Index;
+use chr_indexes::hashes::Index;
 use std::alloc::Global;
 use std::process::Abort;
 

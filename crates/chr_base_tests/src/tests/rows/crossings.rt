@@ -1,7 +1,7 @@
 //! Rows that are found by ranges of two values, compared with a plain scan.
 ghost use Rattle.std.specs.Prelude.{◌≡◌, ◌<◌, ◌^◌, length};
 
-use chr_ranges::{Crossing, Range};
+use chr_indexes::ranges::{Crossing, Range};
 use std::alloc::Global;
 use std::process::Abort;
 

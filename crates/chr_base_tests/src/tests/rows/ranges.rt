@@ -1,7 +1,7 @@
 //! Rows that are found by a hash and a range of values.
 ghost use Rattle.std.specs.Prelude.{◌≡◌, ◌<◌, length};
 
-use chr_ranges::{Index, Range};
+use chr_indexes::ranges::{Index, Range};
 use std::alloc::Global;
 use std::process::Abort;
 

@@ -1,7 +1,7 @@
 use Rattle.std.specs.Prelude.{◌≡◌, ℕ, ℤ, ◌<◌, get_or, Some, None}
 use Rattle.chr_base.specs.declared.atom.Atom.{Atom}
-use Rattle.chr_ranges.specs.Rows.{IsIn}
-use Rattle.chr_actives.specs.Joined.{value_in}
+use Rattle.chr_indexes.specs.RangedRows.{IsIn}
+use Rattle.chr_plans.specs.Joined.{value_in}
 use Rattle.chr_columns.proofs.joining.free_of.Given as goal
 
 abbrev pub invariant-loop-row : goal.invariant-loop-row

@@ -2,8 +2,8 @@ use Rattle.std.proofs.Common.{rules, [], ◌∷◌, length, length-append, refl,
 use Rattle.chr_base.specs.FinBag.{◌⊕◌}
 use Rattle.chr_base.specs.Stores.{store_of}
 use Rattle.chr_base.proofs.Stores.{plus_empty}
-use Rattle.chr_ranges.specs.Rows.{IsIn}
-use Rattle.chr_actives.specs.Joined.{value_in}
+use Rattle.chr_indexes.specs.RangedRows.{IsIn}
+use Rattle.chr_plans.specs.Joined.{value_in}
 use Rattle.chr_columns.specs.working.Resting.{stored}
 use Rattle.chr_columns.proofs.Pools.{inserted, no_store}
 use Rattle.chr_columns.proofs.Together.{none_now, walk_in, walk_on, whole_next}

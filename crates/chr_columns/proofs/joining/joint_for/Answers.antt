@@ -1,6 +1,6 @@
 use Rattle.std.proofs.Common.{All, List, IfSome, subst}
 use Rattle.chr_base.specs.declared.rule.Rule.{Rule}
-use Rattle.chr_actives.specs.Joined.{IsJoined}
+use Rattle.chr_plans.specs.Joined.{IsJoined}
 use Rattle.chr_columns.proofs.joining.joint_for.Goals as goal
 
 pub returns-then-are_same-clause-joined : goal.returns-then-are_same-clause-joined

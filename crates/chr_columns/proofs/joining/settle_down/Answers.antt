@@ -1,7 +1,7 @@
 use Rattle.std.proofs.Common.{[], ◌∷◌, ap, ◌∙◌}
 use Rattle.chr_base.specs.FinBag.{◌⊕◌}
 use Rattle.chr_base.specs.Stores.{store_of}
-use Rattle.chr_actives.specs.Actives.{one}
+use Rattle.chr_plans.specs.Actives.{one}
 use Rattle.chr_columns.specs.working.Resting.{stored}
 use Rattle.chr_columns.proofs.Pools.{inserted}
 use Rattle.chr_columns.proofs.Together.{came_to, came_beside}

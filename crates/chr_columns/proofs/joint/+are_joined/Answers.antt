@@ -1,5 +1,5 @@
 use Rattle.std.proofs.Common.{rules}
-use Rattle.chr_actives.specs.Joined.{IsJoined}
+use Rattle.chr_plans.specs.Joined.{IsJoined}
 use Rattle.chr_columns.proofs.Together.{all_joined}
 use Rattle.chr_columns.proofs.joint.+are_joined.Goals as goal
 

@@ -1,5 +1,5 @@
 use Rattle.std.proofs.Common.{rules, All}
-use Rattle.chr_actives.specs.Joined.{HasThere}
+use Rattle.chr_plans.specs.Joined.{HasThere}
 use Rattle.chr_columns.proofs.Together.{on_joined}
 use Rattle.chr_columns.proofs.joint.joins.Goals as goal
 

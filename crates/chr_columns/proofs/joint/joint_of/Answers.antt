@@ -1,6 +1,6 @@
 use Rattle.std.proofs.Common.{All, subst}
 use Rattle.std.proofs.lemmas.Bool.{OnTrue_at}
-use Rattle.chr_actives.specs.Joined.{IsJoined}
+use Rattle.chr_plans.specs.Joined.{IsJoined}
 use Rattle.chr_columns.proofs.joint.joint_of.Goals as goal
 
 pub returns-then-are_joined : goal.returns-then-are_joined

@@ -1,5 +1,5 @@
 use Rattle.std.proofs.Common.{◌≡◌, ◌++◌, take}
-use Rattle.chr_actives.specs.Grids.{live_atoms}
+use Rattle.chr_plans.specs.Grids.{live_atoms}
 use Rattle.chr_columns.proofs.listing.push_rows.Given as goal
 
 abbrev pub invariant-loop-row : goal.invariant-loop-row

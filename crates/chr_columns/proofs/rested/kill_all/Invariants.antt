@@ -1,6 +1,6 @@
 use Rattle.std.proofs.Common.{◌≡◌, take, map}
 use Rattle.chr_tables.specs.Contents.{Contents}
-use Rattle.chr_actives.specs.Grids.{without_rows}
+use Rattle.chr_plans.specs.Grids.{without_rows}
 use Rattle.chr_columns.specs.working.Resting.{grid}
 use Rattle.chr_columns.proofs.Stored.{AsMany}
 use Rattle.chr_columns.proofs.rested.kill_all.Given as goal

@@ -4,9 +4,9 @@ use arrayvec::ArrayVec;
 use chr_base::atom::Atom;
 use chr_base::limits::MAX_COMPARISONS;
 use chr_base::term::Cmp;
+use chr_indexes::ranges::Range;
 use chr_plans::key::{Band, Limit, Order, Source, Span, order_of, span_of};
 use chr_plans::plan::Partner;
-use chr_ranges::Range;
 use chr_testing::atoms::atom;
 use std::process::Abort;
 

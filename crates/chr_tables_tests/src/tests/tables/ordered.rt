@@ -2,8 +2,8 @@
 ghost use Rattle.std.specs.Prelude.{◌≡◌, length};
 
 use crate::tests::tables::{columns, insert};
+use chr_indexes::ranges::Range;
 use chr_plans::key::{Band, Order, Span};
-use chr_ranges::Range;
 use chr_tables::table::Table;
 use std::alloc::Global;
 use std::process::Abort;

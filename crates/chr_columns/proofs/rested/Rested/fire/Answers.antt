@@ -4,8 +4,8 @@ use Rattle.chr_base.specs.declared.rule.Rule.{Rule}
 use Rattle.chr_base.specs.FinBag.{◌⊕◌}
 use Rattle.chr_base.specs.Stores.{store_of}
 use Rattle.chr_base.specs.Rules.{Step, heads_of}
-use Rattle.chr_actives.specs.Actives.{one}
-use Rattle.chr_actives.specs.Grids.{contents}
+use Rattle.chr_plans.specs.Actives.{one}
+use Rattle.chr_plans.specs.Grids.{contents}
 use Rattle.chr_columns.specs.working.Resting.{grid}
 use Rattle.chr_plans.specs.Seats.{IsSeated, head}
 use Rattle.chr_tables.specs.Contents.{rows_of}

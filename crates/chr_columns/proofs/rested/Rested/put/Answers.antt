@@ -4,9 +4,9 @@ use Rattle.chr_base.specs.Rules.{Step}
 use Rattle.chr_base.specs.Rewriting.{IsAtRest}
 use Rattle.chr_tables.specs.Contents.{Contents, rows_of, index_columns}
 use Rattle.chr_base.specs.FinBag.{◌⊕◌}
-use Rattle.chr_actives.specs.Actives.{one}
-use Rattle.chr_actives.specs.Grids.{contents}
-use Rattle.chr_actives.proofs.Actives.{absorbed}
+use Rattle.chr_plans.specs.Actives.{one}
+use Rattle.chr_plans.specs.Grids.{contents}
+use Rattle.chr_plans.proofs.Actives.{absorbed}
 use Rattle.chr_columns.specs.working.Groups.{table_of, table_of_atom}
 use Rattle.chr_columns.specs.working.Resting.{grid, IsSetUp}
 use Rattle.chr_tables.proofs.Choices.{on_err}

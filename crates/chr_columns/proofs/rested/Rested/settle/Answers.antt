@@ -3,7 +3,7 @@ use Rattle.std.specs.Prelude.{Ok}
 use Rattle.chr_base.specs.FinBag.{◌⊕◌}
 use Rattle.chr_base.specs.Stores.{store_of}
 use Rattle.chr_base.specs.Rules.{Step}
-use Rattle.chr_actives.specs.Actives.{one}
+use Rattle.chr_plans.specs.Actives.{one}
 use Rattle.chr_columns.specs.working.Resting.{stored}
 use Rattle.chr_columns.proofs.Firings.{popped, swap_sides}
 use Rattle.chr_columns.proofs.Resuming.{stood}

@@ -3,7 +3,7 @@ use Rattle.chr_base.specs.FinBag.{◌⊕◌}
 use Rattle.chr_base.specs.Rules.{Step}
 use Rattle.chr_base.specs.Stores.{store_of}
 use Rattle.chr_plans.specs.Seats.{head}
-use Rattle.chr_actives.specs.Actives.{one}
+use Rattle.chr_plans.specs.Actives.{one}
 use Rattle.chr_columns.specs.working.Resting.{stored, IsReacting, MayGoOn}
 use Rattle.chr_columns.proofs.Owning.{carried_one}
 use Rattle.chr_columns.proofs.rested.Rested.take.Goals as goal

@@ -2,7 +2,7 @@ use Rattle.std.proofs.Common.{refl, sym, ap, ◌∙◌, length}
 use Rattle.std.proofs.lemmas.List.{length-map}
 use Rattle.chr_base.specs.FinBag.{◌⊕◌, ◌⊖◌}
 use Rattle.chr_base.specs.Stores.{store_of}
-use Rattle.chr_actives.specs.Actives.{one}
+use Rattle.chr_plans.specs.Actives.{one}
 use Rattle.chr_columns.specs.working.Resting.{stored}
 use Rattle.chr_columns.proofs.Removals.{less_none, less_more}
 use Rattle.chr_columns.proofs.rested.Rested.take_all.Goals as goal

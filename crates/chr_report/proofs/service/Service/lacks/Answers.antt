@@ -7,15 +7,17 @@ use Rattle.chr_report.proofs.Reading.{lacks_answers}
 use Rattle.chr_report.proofs.Writable.{happens_written}
 use Rattle.chr_report.proofs.service.Service.lacks.Goals as goal
 
-pub returns-clause-writable : goal.returns-clause-writable
-returns-clause-writable c =
-    happens_written (served c.args.self.now) c.args.self.now.world.replicas c.act.new.self.world.replicas
-    (event.At c.args.replica (act.Lacks c.in_ok-summary.summary)) c.in_ok-answer.answer tt
-    c.in_ok-answer.ensures.happens
-
-pub returns-clause-answer : goal.returns-clause-answer
-returns-clause-answer c =
-    lacks_answers (declarations (served c.args.self.now)) (codes "merged ") c.args.version
-    (served c.args.self.now) c.args.self.now.world.replicas c.act.new.self.world.replicas c.args.replica
-    c.in_ok-summary.summary c.args.ranges.items c.in_ok-answer.answer c.in_ok-summary.ensures
-    c.in_ok-answer.ensures.happens
+pub returns-clause-answered : goal.returns-clause-answered
+returns-clause-answered c =
+    record {
+      program = c.in_ok-answer.ensures.program;
+      writable =
+          happens_written (served c.args.self.now) c.args.self.now.world.replicas c.act.new.self.world.replicas
+          (event.At c.args.replica (act.Lacks c.in_ok-summary.summary)) c.in_ok-answer.answer tt
+          c.in_ok-answer.ensures.happens;
+      answer =
+          lacks_answers (declarations (served c.args.self.now)) (codes "merged ") c.args.version
+          (served c.args.self.now) c.args.self.now.world.replicas c.act.new.self.world.replicas c.args.replica
+          c.in_ok-summary.summary c.args.ranges.items c.in_ok-answer.answer c.in_ok-summary.ensures
+          c.in_ok-answer.ensures.happens;
+    }

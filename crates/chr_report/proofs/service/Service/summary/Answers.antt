@@ -8,14 +8,16 @@ use Rattle.chr_report.proofs.Reading.{summary_answers}
 use Rattle.chr_report.proofs.Writable.{happens_written}
 use Rattle.chr_report.proofs.service.Service.summary.Goals as goal
 
-pub returns-clause-writable : goal.returns-clause-writable
-returns-clause-writable c =
-    happens_written (served c.args.self.now) c.args.self.now.world.replicas c.act.new.self.world.replicas
-    (event.At c.args.replica act.Summary) c.in_ok-answer.answer tt c.in_ok-answer.ensures.happens
-
-pub returns-clause-answer : goal.returns-clause-answer
-returns-clause-answer c =
-    summary_answers (declarations (served c.args.self.now)) (codes "merged ") version.Two
-    (served c.args.self.now) c.args.self.now.world.replicas c.act.new.self.world.replicas c.args.replica
-    c.in_ok-answer.answer
-    c.look_into.ensures c.in_ok-answer.ensures.happens
+pub returns-clause-answered : goal.returns-clause-answered
+returns-clause-answered c =
+    record {
+      program = c.in_ok-answer.ensures.program;
+      writable =
+          happens_written (served c.args.self.now) c.args.self.now.world.replicas c.act.new.self.world.replicas
+          (event.At c.args.replica act.Summary) c.in_ok-answer.answer tt c.in_ok-answer.ensures.happens;
+      answer =
+          summary_answers (declarations (served c.args.self.now)) (codes "merged ") version.Two
+          (served c.args.self.now) c.args.self.now.world.replicas c.act.new.self.world.replicas c.args.replica
+          c.in_ok-answer.answer
+          c.look_into.ensures c.in_ok-answer.ensures.happens;
+    }

@@ -1,3 +1,4 @@
+use Rattle.std.proofs.Common.{◌∙◌}
 use Rattle.std.specs.Prelude.{Ok}
 use Rattle.std.specs.declared.alloc.AllocError.{AllocError}
 use Rattle.chr_acts.specs.declared.act.Act.TheVariants as act
@@ -15,13 +16,15 @@ rest_many-requires c =
     (event.At c.args.replica (act.Tell c.args.op)) (Ok c.in_ok-answer.answer) tt c.tell.ensures.program
     c.in_ok-answer.ensures.happens c.requires.ready
 
-pub returns-clause-writable : goal.returns-clause-writable
-returns-clause-writable c =
-    happens_written (served c.args.self.now) c.args.self.now.world.replicas c.tell.new.self.replicas
-    (event.At c.args.replica (act.Tell c.args.op)) c.in_ok-answer.answer tt c.in_ok-answer.ensures.happens
-
-pub returns-clause-answer : goal.returns-clause-answer
-returns-clause-answer c =
-    told (served c.args.self.now) c.args.self.now.world.replicas c.tell.new.self.replicas
-    (held c.rest_many.new.self) c.args.replica c.args.op c.in_ok-answer.answer
-    c.requires.declared c.in_ok-answer.ensures.happens c.in_ok-rest_many.ensures.operations
+pub returns-clause-answered : goal.returns-clause-answered
+returns-clause-answered c =
+    record {
+      program = c.in_ok-rest_many.ensures.program ∙ c.tell.ensures.program;
+      writable =
+          happens_written (served c.args.self.now) c.args.self.now.world.replicas c.tell.new.self.replicas
+          (event.At c.args.replica (act.Tell c.args.op)) c.in_ok-answer.answer tt c.in_ok-answer.ensures.happens;
+      answer =
+          told (served c.args.self.now) c.args.self.now.world.replicas c.tell.new.self.replicas
+          (held c.rest_many.new.self) c.args.replica c.args.op c.in_ok-answer.answer
+          c.requires.declared c.in_ok-answer.ensures.happens c.in_ok-rest_many.ensures.operations;
+    }

@@ -1,6 +1,6 @@
 use Rattle.std.proofs.Common.{ℕ, ◌<◌, ◌≤◌}
-use Rattle.chr_chains.specs.Rows.{HasHash}
-use Rattle.chr_ranges.specs.Rows.{IsWanted, IsCrossed}
+use Rattle.chr_indexes.specs.HashedRows.{HasHash}
+use Rattle.chr_indexes.specs.RangedRows.{IsWanted, IsCrossed}
 use Rattle.chr_tables.specs.working.Finders.{IsFinderRow}
 use Rattle.chr_tables.specs.declared.finder.Finder.TheVariants.{Chained, Ranged, Crossed}
 use Rattle.chr_tables.proofs.Choices.{if_some, if_none}

@@ -1,4 +1,0 @@
-pub mod Actives
-pub mod Rows
-pub mod Around
-pub mod Joined

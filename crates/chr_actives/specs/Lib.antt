@@ -1,4 +1,0 @@
-pub mod Actives
-pub mod Grids
-pub mod Joined
-pub mod Laws

@@ -1,0 +1,5 @@
+pub mod HashLinks
+pub mod HashRows
+pub mod RangeLinks
+pub mod EntriesBelow
+pub mod PairsCrossed

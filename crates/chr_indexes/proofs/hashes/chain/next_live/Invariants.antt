@@ -1,0 +1,14 @@
+use Rattle.std.proofs.Common.{◌≡◌, get_or, length}
+use Rattle.chr_indexes.specs.working.HashChains.{IsChained}
+use Rattle.chr_indexes.specs.working.HashEntries.{slots_of}
+use Rattle.chr_indexes.proofs.hashes.chain.next_live.Given as goal
+
+abbrev pub invariant-loop-at : goal.invariant-loop-at
+invariant-loop-at l = record {
+  chained : IsChained (slots_of (length l.heads) l.hashes) l.alive l.links l.heads;
+  size : length l.links ≡ length l.fn.links;
+  at : l.at ≡ get_or l.links l.row 0;
+}
+
+abbrev pub decreases-loop-at : goal.decreases-loop-at
+decreases-loop-at l = l.at

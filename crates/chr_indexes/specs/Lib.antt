@@ -1,0 +1,3 @@
+pub mod HashedRows
+pub mod RangedRows
+pub mod working

@@ -1,0 +1,247 @@
+//! The index.
+ghost use Rattle.std.specs.Prelude.{◌≡◌, ℕ, ◌+◌, ◌-◌, ◌<◌, ◌≤◌, ◌^◌, ◌∷◌, ◌++◌, [], length, get_or, set, Some, None};
+ghost use Rattle.std.specs.Prelude.{OnOk, IfOk, IfSome, IfNone};
+ghost use Rattle.std.specs.Bool.{OnTrue};
+ghost use Rattle.chr_indexes.specs.working.HashChains.{IsChained};
+ghost use Rattle.chr_indexes.specs.HashedRows.{HasHash};
+ghost use Rattle.chr_indexes.specs.working.HashEntries.{slots_of, live_hashes, IsIndex};
+
+use crate::hashes::chain::{first_live, is_at, live_from, next_live, relink, seek};
+use std::alloc::{AllocError, Global};
+use std::marker::Model;
+
+/// Rows that are found by a hash. Contracts see the hash of each live row, and for how many rows there is room.
+#[derive(Drop)]
+pub struct Index {
+    hashes: Vec<u32>,
+    alive: Vec<bool>,
+    links: Vec<u32>,
+    heads: Vec<u32>,
+}
+
+impl Model for Index {
+    ghost use Rattle.std.specs.Prelude.{min, vec_capacity};
+    ghost use Rattle.chr_indexes.specs.HashedRows.{Listed};
+    ghost use Rattle.chr_indexes.specs.working.HashEntries.{listed_code, live_hashes, IsIndex};
+
+    ghost Value = { Listed };
+
+    ghost coded = { listed_code };
+
+    ghost view = { λ b. record {
+      rows = live_hashes b.hashes.items b.alive.items;
+      room = min (vec_capacity b.hashes) (min (vec_capacity b.alive) (vec_capacity b.links));
+    } };
+
+    ghost invariant = { λ b. IsIndex b.hashes.items b.alive.items b.links.items b.heads.items };
+}
+
+impl Index {
+    /// The one of no rows.
+    pub fn new(alloc: Global) -> Result<Index, AllocError>
+        ensures { IfOk result (λ i. i.rows ≡ []) }
+    {
+        Ok(Index {
+            hashes: Vec::new(alloc),
+            alive: Vec::new(alloc),
+            links: Vec::new(alloc),
+            heads: vec![in alloc; 0; 16]?,
+        })
+    }
+
+    /// Makes room for this many rows more. The slots grow with the rows.
+    pub fn reserve(&mut self, more: usize) -> Result<(), AllocError>
+        requires { length self.old.rows + more < 2 ^ 32 }
+        ensures rows { self.new.rows ≡ self.old.rows }
+        ensures ok { OnOk result (length self.old.rows + more ≤ self.new.room) }
+    {
+        self.hashes.reserve(more)?;
+        self.alive.reserve(more)?;
+        self.links.reserve(more)?;
+        let slots = self.heads.len();
+        if slots < self.hashes.len() + more && slots < 0x4000_0000 {
+            self.heads.resize(2 * slots, 0)?;
+            self.heads.fill(0);
+            relink(&self.hashes, &self.alive, &mut self.links, &mut self.heads);
+        }
+        Ok(())
+    }
+
+    /// One more row, for which there is room.
+    pub fn push(&mut self, hash: u32)
+        requires room { length self.old.rows < self.old.room }
+        requires few { length self.old.rows + 1 < 2 ^ 32 }
+        ensures rows { self.new.rows ≡ self.old.rows ++ Some hash ∷ [] }
+        ensures room { self.new.room ≡ self.old.room }
+    {
+        let slot = hash as usize % self.heads.len();
+        let link = self.heads[slot];
+        self.hashes.push_reserved(hash);
+        self.alive.push_reserved(true);
+        self.links.push_reserved(link);
+        self.heads[slot] = self.hashes.len() as u32;
+    }
+
+    /// The number of rows, dead ones among them.
+    pub fn len(&self) -> usize
+        ensures { result ≡ length self.now.rows }
+    {
+        self.hashes.len()
+    }
+
+    /// Forgets all rows. The room stays, and is room for as many.
+    pub fn clear(&mut self)
+        ensures rows { self.new.rows ≡ [] }
+        ensures room { self.new.room ≡ self.old.room }
+        ensures fits { length self.old.rows ≤ self.new.room }
+    {
+        self.hashes.clear();
+        self.alive.clear();
+        self.links.clear();
+        self.heads.fill(0);
+    }
+
+    /// A row dies.
+    pub fn kill(&mut self, row: u32)
+        requires { row < length self.old.rows }
+        ensures rows { self.new.rows ≡ set self.old.rows row None }
+        ensures room { self.new.room ≡ self.old.room }
+    {
+        self.alive[row as usize] = false;
+    }
+
+    /// The newest live row with this hash. Dead rows that are met are taken out of their chain, which no contract sees.
+    pub fn first(&mut self, hash: u32) -> Option<u32>
+        ensures same { self.new ≡ self.old }
+        ensures live { IfSome result (λ row. HasHash self.old.rows hash row) }
+        ensures newest { IfSome result (λ row. (other : ℕ) → HasHash self.old.rows hash other → other ≤ row) }
+        ensures none { IfNone result ((other : ℕ) → ¬ (HasHash self.old.rows hash other)) }
+    {
+        self.first_place(hash).checked_sub(1)
+    }
+
+    /// The newest live row with this hash below this row. It is near where the row lives and has the hash.
+    pub fn next(&mut self, hash: u32, row: u32) -> Option<u32>
+        ensures same { self.new ≡ self.old }
+        ensures below { IfSome result (λ next. next < row) }
+        ensures live { IfSome result (λ next. HasHash self.old.rows hash next) }
+        ensures newest { IfSome result (λ next. (r : ℕ) → r < row → HasHash self.old.rows hash r → r ≤ next) }
+        ensures none { IfNone result ((other : ℕ) → other < row → ¬ (HasHash self.old.rows hash other)) }
+    {
+        self.place_below(hash, row).checked_sub(1)
+    }
+
+    /// The newest live row with this hash at this row or below it. The row itself may be dead, or past the last. It is
+    /// near where the row had the hash.
+    pub fn at_or_below(&mut self, hash: u32, row: u32) -> Option<u32>
+        ensures same { self.new ≡ self.old }
+        ensures at_or_below { IfSome result (λ next. next ≤ row) }
+        ensures live { IfSome result (λ next. HasHash self.old.rows hash next) }
+        ensures newest { IfSome result (λ next. (r : ℕ) → r ≤ row → HasHash self.old.rows hash r → r ≤ next) }
+        ensures none { IfNone result ((other : ℕ) → other ≤ row → ¬ (HasHash self.old.rows hash other)) }
+    {
+        self.place_at_or_below(hash, row).checked_sub(1)
+    }
+
+    /// The place, its number and one, of the newest live row with this hash, or 0.
+    fn first_place(&mut self, hash: u32) -> u32
+        ensures same { self.new ≡ self.old }
+        ensures within { result ≤ length self.old.rows }
+        ensures live { 0 < result → get_or self.old.rows (result - 1) None ≡ Some hash }
+        ensures none_above { (r : ℕ) → get_or self.old.rows r None ≡ Some hash → r < result }
+    {
+        let slot = hash as usize % self.heads.len();
+        let at = first_live(
+            &self.hashes,
+            &self.alive,
+            &self.links,
+            &mut self.heads,
+            slot as u32,
+        );
+        seek(
+            &self.hashes,
+            &self.alive,
+            &mut self.links,
+            &self.heads,
+            hash,
+            at,
+        )
+    }
+
+    /// The same, below a live row with this hash.
+    fn next_place(&mut self, hash: u32, row: u32) -> u32
+        requires { get_or self.old.rows row None ≡ Some hash }
+        ensures same { self.new ≡ self.old }
+        ensures within { result ≤ row }
+        ensures live { 0 < result → get_or self.old.rows (result - 1) None ≡ Some hash }
+        ensures none_between { (r : ℕ) → r < row → get_or self.old.rows r None ≡ Some hash → r < result }
+    {
+        let at = next_live(&self.hashes, &self.alive, &mut self.links, &self.heads, row);
+        seek(
+            &self.hashes,
+            &self.alive,
+            &mut self.links,
+            &self.heads,
+            hash,
+            at,
+        )
+    }
+
+    /// Whether a row lives and has this hash.
+    fn has(&self, hash: u32, row: u32) -> bool
+        ensures { OnTrue result (get_or self.now.rows row None ≡ Some hash) }
+    {
+        is_at(&self.hashes, row, hash) && self.alive[row as usize]
+    }
+
+    /// The same, below any row.
+    fn place_below(&mut self, hash: u32, row: u32) -> u32
+        ensures same { self.new ≡ self.old }
+        ensures within { result ≤ row }
+        ensures live { 0 < result → get_or self.old.rows (result - 1) None ≡ Some hash }
+        ensures none_between { (r : ℕ) → r < row → get_or self.old.rows r None ≡ Some hash → r < result }
+    {
+        if self.has(hash, row) {
+            return self.next_place(hash, row);
+        }
+        if row == 0 {
+            return 0;
+        }
+        self.place_at_or_below(hash, row - 1)
+    }
+
+    /// The same, at any row or below it.
+    fn place_at_or_below(&mut self, hash: u32, row: u32) -> u32
+        ensures same { self.new ≡ self.old }
+        ensures within { result ≤ row + 1 }
+        ensures live { 0 < result → get_or self.old.rows (result - 1) None ≡ Some hash }
+        ensures none_between { (r : ℕ) → r ≤ row → get_or self.old.rows r None ≡ Some hash → r < result }
+    {
+        if !is_at(&self.hashes, row, hash) {
+            return self.down_to(hash, row);
+        }
+        let at = live_from(&self.hashes, &self.alive, &mut self.links, &self.heads, row);
+        seek(
+            &self.hashes,
+            &self.alive,
+            &mut self.links,
+            &self.heads,
+            hash,
+            at,
+        )
+    }
+
+    /// The same, down from the newest row with this hash.
+    fn down_to(&mut self, hash: u32, row: u32) -> u32
+        ensures same { self.new ≡ self.old }
+        ensures within { result ≤ row + 1 }
+        ensures live { 0 < result → get_or self.old.rows (result - 1) None ≡ Some hash }
+        ensures none_between { (r : ℕ) → r ≤ row → get_or self.old.rows r None ≡ Some hash → r < result }
+    {
+        let mut at = self.first_place(hash);
+        while at as u64 > row as u64 + 1 {
+            at = self.next_place(hash, at - 1);
+        }
+        at
+    }
+}

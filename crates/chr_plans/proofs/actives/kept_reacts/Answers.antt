@@ -1,0 +1,5 @@
+use Rattle.chr_plans.proofs.Actives.{kept_reacts}
+use Rattle.chr_plans.proofs.actives.kept_reacts.Goals as goal
+
+pub returns : goal.returns
+returns c = kept_reacts

@@ -1,0 +1,5 @@
+use Rattle.chr_plans.proofs.Actives.{part_rests}
+use Rattle.chr_plans.proofs.actives.parts_rest.Goals as goal
+
+pub returns : goal.returns
+returns c = part_rests

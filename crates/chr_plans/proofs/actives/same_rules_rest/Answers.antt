@@ -1,0 +1,5 @@
+use Rattle.chr_plans.proofs.Actives.{same_rest}
+use Rattle.chr_plans.proofs.actives.same_rules_rest.Goals as goal
+
+pub returns : goal.returns
+returns c = same_rest

@@ -1,3 +1,0 @@
-pub mod Links
-pub mod Entries
-pub mod Pairs

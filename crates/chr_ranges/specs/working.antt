@@ -1,4 +1,0 @@
-pub mod Bounds
-pub mod Chained
-pub mod Entries
-pub mod Pairs

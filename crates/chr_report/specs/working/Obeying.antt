@@ -1,0 +1,22 @@
+-- Replies to what lines ask for.
+use Rattle.std.specs.Prelude.{◌≡◌, ℕ, List, Result, IfOk}
+use Rattle.std.specs.declared.alloc.AllocError.{AllocError}
+use Rattle.chr_base.specs.Programs.{declarations}
+use Rattle.chr_ops.specs.Operations.{Operations}
+use Rattle.chr_report.specs.Answers.{AnswersAt}
+use Rattle.chr_report.specs.declared.reply.Reply.{Reply}
+use Rattle.chr_report.specs.declared.service.Service.{Service}
+use Rattle.chr_report.specs.working.ReplyTexts.{reply_text, IsWritable}
+use Rattle.chr_report.specs.working.Services.{held, served}
+
+-- Replicas of one program reply: R relates what they held, the reply's text, and what they hold then.
+pub record IsAnswered (old new : Service) (R : List Operations → List ℕ → List Operations → Type 0)
+    (reply : Result Reply AllocError) : Type 0 where
+  pub program : new.world.accepted ≡ old.world.accepted
+  pub writable : IfOk reply IsWritable
+  pub answer : IfOk reply (λ r. R (held old) (reply_text (declarations (served old)) r) (held new))
+
+-- the replica of a number replies, where there is one
+abbrev pub IsAnsweredAt : Service → Service → ℕ → (Operations → List ℕ → Operations → Type 0)
+    → Result Reply AllocError → Type 0
+IsAnsweredAt old new r R reply = IsAnswered old new (λ held. AnswersAt held r R) reply
