@@ -30,8 +30,8 @@ use Rattle.chr_plans.specs.Plans.{pattern_at}
 use Rattle.chr_plans.specs.Seats.{head, seat, no_seat, atom_in, IsSeated, IsOther}
 use Rattle.chr_plans.specs.Actives.{one}
 use Rattle.chr_plans.specs.Grids.{Grid, contents, rows_in, without_rows, SitIn}
-use Rattle.chr_plans.proofs.Actives.{removed_reacts, kept_reacts, part_rests}
-use Rattle.chr_plans.proofs.Rows.{rows_leave}
+use Rattle.chr_plans.proofs.ActiveAtoms.{removed_reacts, kept_reacts, part_rests}
+use Rattle.chr_plans.proofs.SeatedRows.{rows_leave}
 use Rattle.chr_columns.specs.declared.groups.Group.{Group}
 use Rattle.chr_columns.specs.working.Resting.{grid, IsSetUp, ArePlanned}
 use Rattle.chr_columns.proofs.Stored.{row_is, rows_are, rows_stay, as_many_left}

@@ -12,7 +12,7 @@ use Rattle.chr_base.proofs.FinBags.{of_list-none}
 use Rattle.chr_base.proofs.Stores.{store_of-append, plus_empty}
 use Rattle.chr_tables.specs.Contents.{Contents}
 use Rattle.chr_plans.specs.Grids.{Grid, live_atoms, contents, rows_in}
-use Rattle.chr_plans.proofs.Rows.{total_in}
+use Rattle.chr_plans.proofs.SeatedRows.{total_in}
 use Rattle.chr_columns.specs.working.Resting.{grid}
 use Rattle.chr_columns.specs.working.Listing.{live_in, rows_in_turn, all_of}
 

@@ -17,7 +17,7 @@ use Rattle.chr_base.proofs.Stores.{store_of-append}
 use Rattle.chr_base.proofs.Steps.{removed_heads, removed_within}
 use Rattle.chr_tables.specs.Contents.{Contents}
 use Rattle.chr_plans.specs.Grids.{contents}
-use Rattle.chr_plans.proofs.Actives.{same_rest}
+use Rattle.chr_plans.proofs.ActiveAtoms.{same_rest}
 use Rattle.chr_columns.specs.declared.settle.Outcome.{Outcome}
 use Rattle.chr_columns.specs.declared.settle.Outcome.TheVariants.{Fired, AtRest}
 use Rattle.chr_columns.specs.working.Resting.{grid}

@@ -19,7 +19,7 @@ use Rattle.chr_plans.specs.Seats.{seat}
 use Rattle.chr_tables.specs.Contents.{Contents, no_table, rows_of, index_columns}
 use Rattle.chr_plans.specs.Actives.{one}
 use Rattle.chr_plans.specs.Grids.{live_atoms, contents, rows_in, without_rows, SitIn}
-use Rattle.chr_plans.proofs.Rows.{count_contents, rows_leave}
+use Rattle.chr_plans.proofs.SeatedRows.{count_contents, rows_leave}
 use Rattle.chr_columns.specs.declared.groups.Group.{Group}
 use Rattle.chr_columns.specs.working.Groups.{table_of_atom}
 use Rattle.chr_columns.specs.working.Resting.{grid, IsSetUp}

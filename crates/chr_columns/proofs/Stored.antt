@@ -18,7 +18,7 @@ use Rattle.chr_plans.specs.Seats.{seat, no_seat}
 use Rattle.chr_tables.specs.Contents.{Contents, no_table, rows_of, index_columns}
 use Rattle.chr_plans.specs.Actives.{one}
 use Rattle.chr_plans.specs.Grids.{Grid, live_atoms, contents, rows_in, without_row, without_rows}
-use Rattle.chr_plans.proofs.Rows.{total_in, count_contents}
+use Rattle.chr_plans.proofs.SeatedRows.{total_in, count_contents}
 use Rattle.chr_columns.specs.working.Resting.{grid}
 
 pub row_is : (ts : List Contents) (t n : ℕ) → rows_in (grid ts) t n ≡ rows_of ts t n

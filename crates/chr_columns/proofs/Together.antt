@@ -21,9 +21,9 @@ use Rattle.chr_tables.specs.Contents.{Contents, rows_of}
 use Rattle.chr_plans.specs.Actives.{one, NoInstanceWith}
 use Rattle.chr_plans.specs.Grids.{contents}
 use Rattle.chr_plans.specs.Joined.{value_in, HasThere, IsJoined}
-use Rattle.chr_plans.proofs.Actives.{part_rests, no_instance, one_other}
+use Rattle.chr_plans.proofs.ActiveAtoms.{part_rests, no_instance, one_other}
 use Rattle.chr_plans.proofs.Joined.{apart_rests}
-use Rattle.chr_plans.proofs.Rows.{count_contents}
+use Rattle.chr_plans.proofs.SeatedRows.{count_contents}
 use Rattle.chr_columns.specs.working.Joining.{IsFree, MayJoin}
 use Rattle.chr_columns.specs.working.Resting.{grid}
 use Rattle.chr_columns.proofs.Listed.{none_in}

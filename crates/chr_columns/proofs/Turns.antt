@@ -21,7 +21,7 @@ use Rattle.chr_plans.specs.Plans.{IsPlan, IsKnown, AreKeys, AreTests, AreLimits,
 use Rattle.chr_plans.specs.Plans.{columns_of}
 use Rattle.chr_plans.specs.Seats.{head, seat, no_seat, atom_in, IsSeated, IsOther, NoPartners}
 use Rattle.chr_plans.specs.Grids.{contents, rows_in, SitIn}
-use Rattle.chr_plans.proofs.Rows.{seated, count_contents, rows_leave}
+use Rattle.chr_plans.proofs.SeatedRows.{seated, count_contents, rows_leave}
 use Rattle.chr_columns.specs.working.Finding.{only_table, only_index, plain, ArePlain, Lives}
 use Rattle.chr_columns.proofs.Stored.{row_stays}
 

@@ -59,6 +59,18 @@ fn stand_under(
     start_over(rested, fresh, rules)
 }
 
+/// A pool at rest keeps room for at most so many fresh atoms. More come at once where sets of operations are merged.
+const MOST_ROOM: usize = 4096;
+
+/// Gives room for fresh atoms back, where none is fresh and there is room for many.
+fn give_room_back(fresh: &mut Vec<Atom>)
+    ensures { fresh.new.items ≡ fresh.old.items }
+{
+    if fresh.is_empty() && fresh.capacity() > MOST_ROOM {
+        *fresh = Vec::new(*fresh.allocator());
+    }
+}
+
 /// Steps under the rules of the rows: so many, or fewer where nothing is fresh any more, or where memory is refused.
 fn advance_own(
     rested: &mut Rested,
@@ -83,7 +95,10 @@ fn advance_own(
     for steps in 0..most {
         match rested.settle(fresh, standing, found) {
             Ok(Outcome::Fired) => {}
-            Ok(Outcome::AtRest) => return Ok(steps),
+            Ok(Outcome::AtRest) => {
+                give_room_back(fresh);
+                return Ok(steps);
+            }
             Err(_) => return Err(Stopped { steps }),
         }
     }

@@ -8,6 +8,7 @@ ghost use Rattle.chr_ops.specs.working.Walks.{within};
 
 use crate::id::OpId;
 use crate::range::IdRange;
+use crate::shared_bag::SharedBag;
 use chr_base::bag::Bag;
 use std::alloc::{AllocFailed, Global};
 use std::collections::{BTreeMap, btree_map};
@@ -16,7 +17,8 @@ use std::marker::Model;
 /// Bags under ids, of each id one.
 #[derive(Drop)]
 pub(crate) struct Entries {
-    bags: BTreeMap<OpId, Bag>,
+    alloc: Global,
+    bags: BTreeMap<OpId, SharedBag>,
 }
 
 impl Model for Entries {
@@ -40,19 +42,30 @@ impl Entries {
         ensures { result ≡ map.empty }
     {
         Entries {
+            alloc,
             bags: BTreeMap::new(alloc),
         }
+    }
+
+    /// What gives memory for them.
+    pub(crate) fn allocator(&self) -> Global {
+        self.alloc
     }
 
     /// The bag of an id. It takes no memory.
     pub(crate) fn get(&self, id: OpId) -> Option<&Bag>
         ensures { option_copied result ≡ map.get self.now id }
     {
-        self.bags.get(&id)
+        let bag = self.bags.get(&id)?;
+        Some(bag.bag())
     }
 
     /// Puts a bag under an id. Where memory is refused, both are handed back.
-    pub(crate) fn insert(&mut self, id: OpId, bag: Bag) -> Result<(), AllocFailed<(OpId, Bag)>>
+    pub(crate) fn insert(
+        &mut self,
+        id: OpId,
+        bag: SharedBag,
+    ) -> Result<(), AllocFailed<(OpId, SharedBag)>>
         ensures ok { OnOk result (self.new ≡ map.insert self.old id bag) }
         ensures handed_back { IfErr result (λ e. e.value ≡ (id, bag)) }
         ensures err { OnErr result (self.new ≡ self.old) }
@@ -62,7 +75,7 @@ impl Entries {
     }
 
     /// Takes out the bag of an id, where there is one.
-    pub(crate) fn remove(&mut self, id: OpId) -> Option<Bag>
+    pub(crate) fn remove(&mut self, id: OpId) -> Option<SharedBag>
         ensures bag { result ≡ map.get self.old id }
         ensures rest { self.new ≡ map.remove self.old id }
     {
@@ -83,7 +96,7 @@ impl Entries {
 /// Ids with their bags, in the order of ids.
 #[derive(Drop)]
 pub(crate) struct Within<'a> {
-    rest: btree_map::Range<'a, OpId, Bag>,
+    rest: btree_map::Range<'a, OpId, SharedBag>,
 }
 
 impl<'a> Model for Within<'a> {
@@ -102,13 +115,13 @@ impl<'a> Model for Within<'a> {
 }
 
 impl<'a> Iterator for Within<'a> {
-    type Item = (OpId, &'a Bag);
+    type Item = (OpId, &'a SharedBag);
 
     ghost next_gives = { TakesFirst operation_entry };
 
     ghost remaining = { λ s. at_most (length s) };
 
-    fn next(&mut self) -> Option<(OpId, &'a Bag)> {
+    fn next(&mut self) -> Option<(OpId, &'a SharedBag)> {
         let (id, bag) = self.rest.next()?;
         Some((*id, bag))
     }

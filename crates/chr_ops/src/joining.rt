@@ -48,8 +48,8 @@ fn take_in(
             Err(AddFault::Clash(id))
         };
     }
-    let bag = op.bag().copy(alloc)?;
-    let atoms = bag.len();
+    let bag = op.share(alloc)?;
+    let atoms = bag.bag().len();
     fresh.push(id)?;
     held.insert(id, bag)?;
     Ok(atoms)

@@ -15,38 +15,33 @@ use crate::range::IdRange;
 use crate::summary::Summary;
 use std::alloc::{AllocError, Global};
 
-/// Adds copies of the operations whose ids a range has, in the order of ids.
-fn push_within(
-    ops: &mut Vec<Op>,
-    alloc: Global,
-    held: &Entries,
-    range: &IdRange,
-) -> Result<(), AllocError>
+/// Adds the operations whose ids a range has, in the order of ids, with the bags that the set shares.
+fn push_within(ops: &mut Vec<Op>, held: &Entries, range: &IdRange) -> Result<(), AllocError>
     requires sized { AreOperationBags held.now }
     requires range { range.now.lo ≤ range.now.hi }
     ensures { OnOk result (ops.new.items ≡ ops.old.items ++ within range.now (map.entries held.now)) }
 {
     for (id, bag) in held.within(range) {
-        ops.push(Op::with_bag(alloc, id, bag)?)?;
+        ops.push(Op::from_shared(id, bag.share()?))?;
     }
     Ok(())
 }
 
-/// Copies of the operations whose ids ranges cover, in the order of ids. It costs a look-up for each range.
-fn copies(alloc: Global, held: &Entries, ranges: &[IdRange]) -> Result<Vec<Op>, AllocError>
+/// The operations whose ids ranges cover, in the order of ids. It costs a look-up for each range.
+fn covered_in(alloc: Global, held: &Entries, ranges: &[IdRange]) -> Result<Vec<Op>, AllocError>
     requires sized { AreOperationBags held.now }
     requires apart { IsApart ranges.now }
     ensures { IfOk result (λ ops. ops.items ≡ covered ranges.now (map.entries held.now)) }
 {
     let mut ops = Vec::new(alloc);
     for range in ranges {
-        push_within(&mut ops, alloc, held, range)?;
+        push_within(&mut ops, held, range)?;
     }
     Ok(ops)
 }
 
-/// Copies of the operations of a set whose ids others leave out, in the order of ids, by the ranges of the set's ids.
-/// It costs a walk along both lists of ranges, and what is copied.
+/// The operations of a set whose ids others leave out, in the order of ids, by the ranges of the set's ids. It costs a
+/// walk along both lists of ranges, and each operation; their bags are shared.
 pub(crate) fn lacked(
     alloc: Global,
     held: &Entries,
@@ -60,7 +55,7 @@ pub(crate) fn lacked(
     ensures { IfOk result (λ ops. ops.items ≡ lacking held.now others.now) }
 {
     let lacked = ranges_outside(alloc, ranges, others)?;
-    copies(alloc, held, &lacked)
+    covered_in(alloc, held, &lacked)
 }
 
 /// Those of these ids that a set does not hold, each as a range of its own.
@@ -82,8 +77,8 @@ fn ranges_not_held(alloc: Global, held: &Entries, ids: &[OpId]) -> Result<Vec<Id
     Ok(ranges)
 }
 
-/// Copies of the operations of a set whose ids are among these and which another one lacks, in the order of ids. It
-/// costs look-ups for these ids, and what is copied.
+/// The operations of a set whose ids are among these and which another one lacks, in the order of ids. It costs
+/// look-ups for these ids, and each operation; their bags are shared.
 pub(crate) fn lacked_of(
     alloc: Global,
     held: &Entries,
@@ -94,5 +89,5 @@ pub(crate) fn lacked_of(
     ensures { IfOk result (λ ops. ops.items ≡ lacked_among held.now other.now ids.now) }
 {
     let wanted = Summary::of(ranges_not_held(alloc, other, ids)?)?;
-    copies(alloc, held, wanted.ranges())
+    covered_in(alloc, held, wanted.ranges())
 }

@@ -17,6 +17,7 @@ mod op;
 mod op_set;
 mod outside;
 mod range;
+mod shared_bag;
 mod summary;
 
 pub use chr_base::limits::MAX_OPERATION;

@@ -1,19 +1,74 @@
 //! Operations.
-ghost use Rattle.std.specs.Prelude.{◌≡◌, ◌≤◌, ◌↔◌, IfOk, IfSome, IsSome};
+ghost use Rattle.std.specs.Prelude.{◌≡◌, ◌≤◌, ◌↔◌, IfErr, IfOk, IfSome, IsSome};
 ghost use Rattle.chr_ops.specs.Operations.{HasOperationSize, IsOperationBag};
+ghost use Rattle.chr_ops.specs.working.Entries.{bag_of};
 ghost use Rattle.chr_base.specs.Values.{HasValues};
 
 use crate::id::OpId;
+use crate::shared_bag::SharedBag;
 use chr_base::bag::Bag;
 use chr_base::limits::MAX_OPERATION;
 use std::alloc::{AllocError, Global};
 use std::marker::Model;
 
-/// An operation: an id, and the bag of 1 to [`MAX_OPERATION`] atoms that it tells.
+/// The bag of an operation: its own, until a set takes it in, or one that it shares.
+#[derive(Drop)]
+enum OpBag {
+    Own(Bag),
+    Shared(SharedBag),
+}
+
+impl OpBag {
+    fn bag(&self) -> &Bag
+        ensures { result.now ≡ bag_of self.now }
+    {
+        match self {
+            OpBag::Own(bag) => bag,
+            OpBag::Shared(shared) => shared.bag(),
+        }
+    }
+
+    /// An equal one. What is shared is shared with it too.
+    fn copy(&self, alloc: Global) -> Result<OpBag, AllocError>
+        ensures { IfOk result (λ copy. bag_of copy ≡ bag_of self.now) }
+    {
+        match self {
+            OpBag::Own(bag) => Ok(OpBag::Own(bag.copy(alloc)?)),
+            OpBag::Shared(shared) => Ok(OpBag::Shared(shared.share()?)),
+        }
+    }
+
+    /// An equal bag to be shared: a copy of an own one.
+    fn share(&self, alloc: Global) -> Result<SharedBag, AllocError>
+        ensures { IfOk result (λ shared. shared ≡ bag_of self.now) }
+    {
+        match self {
+            OpBag::Own(bag) => Ok(SharedBag::of(alloc, bag.copy(alloc)?)?),
+            OpBag::Shared(shared) => shared.share(),
+        }
+    }
+
+    /// The bag, to be shared. Where memory is refused, it is handed back.
+    fn into_shared(self, alloc: Global) -> Result<SharedBag, OpBag>
+        ensures ok { IfOk result (λ shared. shared ≡ bag_of self) }
+        ensures handed_back { IfErr result (λ back. bag_of back ≡ bag_of self) }
+    {
+        match self {
+            OpBag::Shared(shared) => Ok(shared),
+            OpBag::Own(bag) => match SharedBag::of(alloc, bag) {
+                Ok(shared) => Ok(shared),
+                Err(refused) => Err(OpBag::Own(refused.value)),
+            },
+        }
+    }
+}
+
+/// An operation: an id, and the bag of 1 to [`MAX_OPERATION`] atoms that it tells. Sets that hold an operation, and
+/// operations that come of them, share one bag.
 #[derive(Drop)]
 pub struct Op {
     id: OpId,
-    bag: Bag,
+    bag: OpBag,
 }
 
 impl Model for Op {
@@ -22,14 +77,15 @@ impl Model for Op {
     ghost use Rattle.chr_base.specs.working.Codes.{coded_atom};
     ghost use Rattle.chr_ops.specs.working.Codes.{coded_id};
     ghost use Rattle.chr_ops.specs.Operations.{Operation, IsOperationBag};
+    ghost use Rattle.chr_ops.specs.working.Entries.{bag_of};
 
     ghost Value = { Operation };
 
     ghost coded = { coded× coded_id (code coded_atom) };
 
-    ghost view = { λ o. (o.id, o.bag) };
+    ghost view = { λ o. (o.id, bag_of o.bag) };
 
-    ghost invariant = { λ o. IsOperationBag o.bag };
+    ghost invariant = { λ o. IsOperationBag (bag_of o.bag) };
 }
 
 impl Op {
@@ -43,7 +99,10 @@ impl Op {
         bag.has_values();
         let atoms = bag.len();
         if 1 <= atoms && atoms <= MAX_OPERATION {
-            Some(Op { id, bag })
+            Some(Op {
+                id,
+                bag: OpBag::Own(bag),
+            })
         } else {
             None
         }
@@ -61,42 +120,48 @@ impl Op {
         ensures bag { result.now ≡ self.now.1 }
         ensures sized { IsOperationBag self.now.1 }
     {
-        &self.bag
+        self.bag.bag()
     }
 
     /// An equal operation.
     pub fn copy(&self, alloc: Global) -> Result<Op, AllocError>
         ensures { IfOk result (λ op. op ≡ self.now) }
     {
-        let Op { id, bag } = self;
-        Op::with_bag(alloc, *id, bag)
-    }
-
-    /// An operation with a copy of a bag that has the size of one.
-    pub(crate) fn with_bag(alloc: Global, id: OpId, bag: &Bag) -> Result<Op, AllocError>
-        requires { IsOperationBag bag.now }
-        ensures { IfOk result (λ op. op ≡ (id, bag.now)) }
-    {
         Ok(Op {
-            id,
-            bag: bag.copy(alloc)?,
+            id: self.id,
+            bag: self.bag.copy(alloc)?,
         })
     }
 
-    /// An operation of an id and a bag that has the size of one.
-    pub(crate) fn from_parts(id: OpId, bag: Bag) -> Op
+    /// Its bag, to be shared: where it has one of its own, a copy.
+    pub(crate) fn share(&self, alloc: Global) -> Result<SharedBag, AllocError>
+        ensures bag { IfOk result (λ shared. shared ≡ self.now.1) }
+        ensures sized { IsOperationBag self.now.1 }
+    {
+        self.bag.share(alloc)
+    }
+
+    /// The operation of an id and a shared bag that has the size of one.
+    pub(crate) fn from_shared(id: OpId, bag: SharedBag) -> Op
         requires { IsOperationBag bag }
         ensures { result ≡ (id, bag) }
     {
-        Op { id, bag }
+        Op {
+            id,
+            bag: OpBag::Shared(bag),
+        }
     }
 
-    /// Its id and its bag.
-    pub(crate) fn into_parts(self) -> (OpId, Bag)
-        ensures parts { result ≡ self }
+    /// Its id and its bag, to be shared. Where memory is refused, the operation is handed back.
+    pub(crate) fn into_shared(self, alloc: Global) -> Result<(OpId, SharedBag), Op>
+        ensures ok { IfOk result (λ parts. parts ≡ self) }
+        ensures handed_back { IfErr result (λ back. back ≡ self) }
         ensures sized { IsOperationBag self.1 }
     {
         let Op { id, bag } = self;
-        (id, bag)
+        match bag.into_shared(alloc) {
+            Ok(shared) => Ok((id, shared)),
+            Err(bag) => Err(Op { id, bag }),
+        }
     }
 }

@@ -135,15 +135,15 @@ impl OpSet {
         ensures handed_back { IfErr result (λ back. back ≡ op) }
         ensures err { OnErr result (self.new ≡ self.old) }
     {
-        let (id, bag) = op.into_parts();
-        let atoms = bag.len() as u64;
+        let atoms = op.bag().len() as u64;
+        let (id, bag) = op.into_shared(self.held.allocator())?;
         if let Err(refused) = self.held.insert(id, bag) {
             let (id, bag) = refused.value;
-            return Err(Op::from_parts(id, bag));
+            return Err(Op::from_shared(id, bag));
         }
         if self.covered.cover_one(id).is_err() {
             return match self.held.remove(id) {
-                Some(bag) => Err(Op::from_parts(id, bag)),
+                Some(bag) => Err(Op::from_shared(id, bag)),
                 None => unreachable!(),
             };
         }
@@ -196,7 +196,7 @@ impl OpSet {
         Ok(Summary::of_merged(self.covered.ranges(alloc)?))
     }
 
-    /// Copies of the operations whose ids a summary does not cover, in the order of ids.
+    /// The operations whose ids a summary does not cover, in the order of ids. They share their bags with the set.
     pub fn lacks(&self, alloc: Global, summary: &Summary) -> Result<Vec<Op>, AllocError>
         ensures { IfOk result (λ ops. ops.items ≡ lacking self.now summary.now) }
     {

@@ -15,8 +15,8 @@ use Rattle.chr_base.specs.Atoms.{no_atom}
 use Rattle.chr_plans.specs.Seats.{head, seat, no_seat, atom_in, IsSeated}
 use Rattle.chr_plans.specs.Grids.{Grid, contents, rows_in, SitIn}
 use Rattle.chr_plans.specs.Laws.{RowsAreEnough}
-use Rattle.chr_plans.proofs.Actives.{by_places}
-use Rattle.chr_plans.proofs.Rows.{seated, count_contents}
+use Rattle.chr_plans.proofs.ActiveAtoms.{by_places}
+use Rattle.chr_plans.proofs.SeatedRows.{seated, count_contents}
 
 -- an item put in at a place
 abbrev around : {X : Type 0} → ℕ → X → List X → List X

@@ -21,7 +21,7 @@ use Rattle.chr_base.proofs.FinBags.{count-of_list}
 use Rattle.chr_base.proofs.Stores.{count_plus}
 use Rattle.chr_plans.specs.Joined.{column_in, value_in, HasThere, IsJoined, AreApart}
 use Rattle.chr_plans.specs.Laws.{ApartRest}
-use Rattle.chr_plans.proofs.Actives.{no_instance}
+use Rattle.chr_plans.proofs.ActiveAtoms.{no_instance}
 
 -- the value of the variable stands where it stands
 value_there : (v : Valuation) (x : ℕ) (ts : List Term) (n : ℕ) → slice_get ts n ≡ Some (Variable x)

@@ -5,7 +5,7 @@ pub mod Starts
 pub mod Reactions
 pub mod Distinct
 pub mod Making
-pub mod Actives
-pub mod Rows
+pub mod ActiveAtoms
+pub mod SeatedRows
 pub mod Around
 pub mod Joined

@@ -1,7 +1,7 @@
 use Rattle.std.proofs.Common.{◌++◌, List, sym, ap, subst, ◌∙◌}
 use Rattle.chr_base.specs.Stores.{store_of}
 use Rattle.chr_tables.specs.Contents.{Contents, rows_of}
-use Rattle.chr_plans.proofs.Actives.{same_rest}
+use Rattle.chr_plans.proofs.ActiveAtoms.{same_rest}
 use Rattle.chr_columns.specs.working.Joining.{IsFree}
 use Rattle.chr_columns.specs.working.Resting.{stored}
 use Rattle.chr_columns.proofs.Pools.{inserted}

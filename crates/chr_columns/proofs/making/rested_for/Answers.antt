@@ -4,7 +4,7 @@ use Rattle.std.proofs.lemmas.List.{with_items_is}
 use Rattle.chr_base.specs.declared.rule.Rule.{Rule}
 use Rattle.chr_base.specs.Rules.{Step}
 use Rattle.chr_base.specs.Rewriting.{IsAtRest}
-use Rattle.chr_plans.proofs.Actives.{empty_rests}
+use Rattle.chr_plans.proofs.ActiveAtoms.{empty_rests}
 use Rattle.chr_tables.specs.Contents.{rows_of, index_columns}
 use Rattle.chr_columns.specs.declared.groups.Group.{Group}
 use Rattle.chr_columns.specs.working.Making.{lists_of, columns_in}

@@ -23,8 +23,9 @@ loop-steps-preserved c =
 
 pub returns-in-Ok-AtRest-clause-ok : goal.returns-in-Ok-AtRest-clause-ok
 returns-in-Ok-AtRest-clause-ok c =
+    rw c.give_room_back.ensures (
     run_to c.args.rested.now.rules.items c.loop-steps.steps _ _ _ c.loop-steps.invariant.run
-    (c.settle.ensures.same (joined_unfired c.settle.result (c.in-Ok-AtRest.is ∙ ap Ok c.in-Ok-AtRest.field-0-is)))
+    (c.settle.ensures.same (joined_unfired c.settle.result (c.in-Ok-AtRest.is ∙ ap Ok c.in-Ok-AtRest.field-0-is))))
 
 pub returns-in-Err-clause-stopped : goal.returns-in-Err-clause-stopped
 returns-in-Err-clause-stopped c =

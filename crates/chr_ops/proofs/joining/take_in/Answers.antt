@@ -15,7 +15,7 @@ new_id : (c : goal.In_ok-insert) → map.get c.args.held.now c.args.op.now.0 ≡
 new_id c = search rules
 
 inserted : (c : goal.In_ok-insert) → c.insert.new.self ≡ map.insert c.args.held.now c.args.op.now.0 c.args.op.now.1
-inserted c = rw (c.id-id.ensures, c.in_ok-bag.ensures, c.bag-2.ensures.bag) at c.in_ok-insert.ensures.ok
+inserted c = rw (c.id-id.ensures, c.in_ok-bag.ensures.bag) at c.in_ok-insert.ensures.ok
 
 pub returns-clause-ok : goal.returns-clause-ok
 returns-clause-ok c = inserted c ∙ sym (union_new c.args.held.now c.args.op.now (new_id c))
@@ -35,7 +35,7 @@ returns-clause-count c =
 
 pub returns-clause-sized : goal.returns-clause-sized
 returns-clause-sized c = λ h.
-    rw (inserted c) (sized_inserted c.args.held.now c.args.op.now.0 c.args.op.now.1 c.bag-2.ensures.sized h)
+    rw (inserted c) (sized_inserted c.args.held.now c.args.op.now.0 c.args.op.now.1 c.share.ensures.sized h)
 
 pub returns-clause-back : goal.returns-clause-back
 returns-clause-back c = λ m h.

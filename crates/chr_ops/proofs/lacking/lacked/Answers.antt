@@ -11,5 +11,5 @@ returns c =
     let lent : c.deref.result.now ≡ parts = search rules in
     let all = covered_lacking held c.args.ranges.now c.args.others.now parts c.requires.covers
     c.in_ok-lacked.ensures.covers in
-    subst (λ os. IfOk c.copies.result (λ ops. ops.items ≡ os)) (ap (λ rs. covered rs (map.entries held)) lent ∙ all)
-    c.copies.ensures
+    subst (λ os. IfOk c.covered_in.result (λ ops. ops.items ≡ os)) (ap (λ rs. covered rs (map.entries held)) lent ∙ all)
+    c.covered_in.ensures

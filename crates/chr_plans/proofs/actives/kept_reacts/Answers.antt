@@ -1,4 +1,4 @@
-use Rattle.chr_plans.proofs.Actives.{kept_reacts}
+use Rattle.chr_plans.proofs.ActiveAtoms.{kept_reacts}
 use Rattle.chr_plans.proofs.actives.kept_reacts.Goals as goal
 
 pub returns : goal.returns

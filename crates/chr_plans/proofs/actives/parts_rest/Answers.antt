@@ -1,4 +1,4 @@
-use Rattle.chr_plans.proofs.Actives.{part_rests}
+use Rattle.chr_plans.proofs.ActiveAtoms.{part_rests}
 use Rattle.chr_plans.proofs.actives.parts_rest.Goals as goal
 
 pub returns : goal.returns

@@ -1,4 +1,4 @@
-use Rattle.chr_plans.proofs.Rows.{rows_leave}
+use Rattle.chr_plans.proofs.SeatedRows.{rows_leave}
 use Rattle.chr_plans.proofs.actives.rows_leave.Goals as goal
 
 pub returns : goal.returns

@@ -1,4 +1,4 @@
-use Rattle.chr_plans.proofs.Actives.{same_rest}
+use Rattle.chr_plans.proofs.ActiveAtoms.{same_rest}
 use Rattle.chr_plans.proofs.actives.same_rules_rest.Goals as goal
 
 pub returns : goal.returns

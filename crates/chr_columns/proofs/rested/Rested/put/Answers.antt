@@ -6,7 +6,7 @@ use Rattle.chr_tables.specs.Contents.{Contents, rows_of, index_columns}
 use Rattle.chr_base.specs.FinBag.{◌⊕◌}
 use Rattle.chr_plans.specs.Actives.{one}
 use Rattle.chr_plans.specs.Grids.{contents}
-use Rattle.chr_plans.proofs.Actives.{absorbed}
+use Rattle.chr_plans.proofs.ActiveAtoms.{absorbed}
 use Rattle.chr_columns.specs.working.Groups.{table_of, table_of_atom}
 use Rattle.chr_columns.specs.working.Resting.{grid, IsSetUp}
 use Rattle.chr_tables.proofs.Choices.{on_err}

@@ -2,7 +2,7 @@ use Rattle.std.specs.FinMap as map
 use Rattle.chr_ops.specs.working.Walks.{covered}
 use Rattle.chr_ops.proofs.EntryLists.{ids_rise}
 use Rattle.chr_ops.proofs.CoveredLists.{one_apart, copied_more, copied_all}
-use Rattle.chr_ops.proofs.lacking.copies.Goals as goal
+use Rattle.chr_ops.proofs.lacking.covered_in.Goals as goal
 
 pub push_within-requires-clause-range : goal.push_within-requires-clause-range
 push_within-requires-clause-range c = (one_apart c.args.ranges.now c.loop-range.range-index c.loop-range-test.true

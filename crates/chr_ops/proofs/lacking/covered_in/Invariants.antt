@@ -2,7 +2,7 @@ use Rattle.std.proofs.Common.{◌≡◌, ◌++◌, drop}
 use Rattle.std.specs.FinMap as map
 use Rattle.chr_ops.specs.Summaries.{IsApart}
 use Rattle.chr_ops.specs.working.Walks.{covered}
-use Rattle.chr_ops.proofs.lacking.copies.Given as goal
+use Rattle.chr_ops.proofs.lacking.covered_in.Given as goal
 
 abbrev pub invariant-loop-range : goal.invariant-loop-range
 invariant-loop-range l = record {
