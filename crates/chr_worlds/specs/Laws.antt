@@ -10,6 +10,7 @@ use Rattle.chr_base.specs.Rewriting.{IsNormalForm}
 use Rattle.chr_base.specs.Values.{HasValues}
 use Rattle.chr_confluence.specs.Confluence.{Confluent}
 use Rattle.chr_confluence.specs.laws.Parts.{whole, AreRested}
+use Rattle.chr_join.specs.Parts.{IsOnlyNormalForm}
 use Rattle.chr_ops.specs.Operations.{told_store}
 use Rattle.chr_ops.specs.Joins.{union}
 use Rattle.chr_ops.specs.Exchange.{HaveOneBag}
@@ -47,6 +48,13 @@ ReplicasAgree =
     → ComesAbout p s → ComesAbout q t → s.operations ≡ t.operations → IsSettled p s → IsSettled q t
     → (s.pool ≡ t.pool) × IsNormalForm (Step (rules_of p)) (told_store s.operations) s.pool
     × ((u : Store) → IsNormalForm (Step (rules_of p)) (told_store s.operations) u → u ≡ s.pool)
+
+-- Two replicas of a world, by their numbers: where they hold the same operations and have settled they hold the same
+-- store, the one normal form of what was told.
+abbrev pub AgreeAt : Program → Replicas → ℕ → ℕ → Type 0
+AgreeAt p w a b =
+    (s t : Replica) → IsAt w a s → IsAt w b t → s.operations ≡ t.operations → IsSettled p s → IsSettled p t
+    → (s.pool ≡ t.pool) × IsOnlyNormalForm (rules_of p) (told_store s.operations) s.pool
 
 -- Where what was told is cut into parts, each part is rested, and what they come to is rested together, that gives the
 -- store of a settled replica too.

@@ -5,6 +5,7 @@ ghost use Rattle.std.specs.Arc.{arc_value};
 ghost use Rattle.chr_replica.specs.Replicas.{first};
 ghost use Rattle.chr_acts.specs.Acts.{FitsAct};
 ghost use Rattle.chr_worlds.specs.Events.{FitsEvent};
+ghost use Rattle.chr_worlds.specs.Laws.{AgreeAt};
 ghost use Rattle.chr_worlds.specs.Worlds.{AsksUnknown, Changes, Happens, HasReplica, IsAt};
 ghost use Rattle.chr_worlds.specs.Sharing.{shared_program};
 
@@ -17,6 +18,7 @@ use chr_base::limits::MAX_REPLICAS;
 use chr_base::program::Program;
 use chr_join::Accepted;
 use chr_ops::Op;
+use chr_replica::laws::one_answer;
 use chr_replica::{Board, declares, declares_all};
 use std::alloc::{AllocError, Global};
 use std::marker::Model;
@@ -82,6 +84,23 @@ impl World {
     {
         let place = self.boards.place_of(replica)?;
         Some(self.boards.at(place))
+    }
+
+    /// Two of its replicas that hold the same operations and have settled hold the same store: the one normal form of
+    /// what was told. It does nothing but look into their boards, for its contract.
+    pub fn agree(&self, left: u64, right: u64)
+        ensures { AgreeAt (shared_program self.now) self.now.replicas left right }
+    {
+        one_answer();
+        let Some(one) = self.board(left) else {
+            return;
+        };
+        let Some(other) = self.board(right) else {
+            return;
+        };
+        one.is_sound();
+        other.is_sound();
+        self.program().weighed();
     }
 
     /// Exchanges the board of the replica of a number with another one of the world's program, and answers whether

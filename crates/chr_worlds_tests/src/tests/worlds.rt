@@ -64,6 +64,9 @@ fn exchanges_go_round(rt: HostRuntime) {
     let alloc = rt.alloc();
     let mut world = told_routes(&rt, alloc);
     expect_answers(&rt, alloc, &mut world, ROUTES, &ROUND);
+    // So they do by a law, which also may be asked of replicas that are not there.
+    world.agree(1, 3);
+    world.agree(0, 4);
 }
 
 const NOBODY: [(Ask, Said); 5] = [
