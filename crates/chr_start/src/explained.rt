@@ -18,11 +18,14 @@ use std::thread::Threads;
 
 /// How an explanation is to be written: a page has the drawing too, and both have all that there is in any case.
 fn manner_of(style: Style) -> Manner {
-    match (style.html, style.dot, style.all) {
-        (true, _, _) => Manner::Page,
-        (false, true, _) => Manner::Drawing,
-        (false, false, true) => Manner::FullText,
-        (false, false, false) => Manner::Text,
+    if style.html {
+        Manner::Page
+    } else if style.dot {
+        Manner::Drawing
+    } else if style.all {
+        Manner::FullText
+    } else {
+        Manner::Text
     }
 }
 
