@@ -1,8 +1,8 @@
 -- Steps one after another.
 use mathlib.Core.Bool.{true≢false}
 use Rattle.std.proofs.Common.{◌≡◌, ℕ, ◌+◌, ◌<◌, ◌≤◌, false, List, [], map, inl, inr, ◌⊎◌, refl, sym, subst, ◌∙◌, arith}
-use Rattle.std.specs.Bool.{◌==◌, OnTrue, OnFalse}
-use Rattle.std.proofs.lemmas.Bool.{OnTrue_from, OnFalse_from, cases_lt, eqb-true, eq-eqb}
+use Rattle.std.specs.Prelude.{Bool, true, ◌==◌}
+use Rattle.std.proofs.lemmas.Bool.{cases_lt, eqb-true, eq-eqb}
 use Rattle.std.specs.Prelude.{Result, Ok, Err, IfOk, IfErr}
 use Rattle.chr_base.specs.declared.atom.Atom.{Atom}
 use Rattle.chr_base.specs.declared.rule.Rule.{Rule}
@@ -13,6 +13,7 @@ use Rattle.chr_base.specs.Sameness.{parts_of}
 use Rattle.chr_base.specs.Stores.{Store, store_of}
 use Rattle.chr_base.proofs.Rewriting.{Runs-append}
 use Rattle.chr_base.proofs.SameSteps.{same_runs}
+use Rattle.chr_columns.specs.Stepping.{StepsOrStays}
 use Rattle.chr_columns.specs.declared.stepping.Stopped.{Stopped}
 use Rattle.chr_columns.proofs.Pools.{all_rest}
 
@@ -51,16 +52,18 @@ module _ (own rules : List Rule) (e : map parts_of own ≡ map parts_of rules) w
 
 -- at most one step was taken
 module _ (rules : List Rule) (n : ℕ) (s t : Store) (few : n ≤ 1) (h : Runs (Step rules) n s t) where
-  pub one_stepped : OnTrue (n == 1) (Step rules s t)
-  one_stepped = OnTrue_from (n == 1) _ (λ e. (let r : Runs (Step rules) 1 s t =
-      subst (λ m. Runs (Step rules) m s t) (eqb-true n 1 e) h in subst (λ x. Step rules s x) r.2 r.1))
-
-  pub none_rests : (n < 1 → IsAtRest (Step rules) t) → OnFalse (n == 1) (IsAtRest (Step rules) s)
-  none_rests rest = OnFalse_from (n == 1) _ (λ e. by e (cases_lt n 1))
+  pub steps_or_stays : (n < 1 → IsAtRest (Step rules) t) → StepsOrStays rules s t (n == 1)
+  steps_or_stays rest = by (n == 1) refl
     where
-      by : (n == 1) ≡ false → (n < 1) ⊎ (1 ≤ n) → IsAtRest (Step rules) s
-      by e (inl less) =
-          let none : n ≡ 0 = omega (arith, less) in
-          let same : s ≡ t = subst (λ m. Runs (Step rules) m s t) none h in
-          subst (λ x. IsAtRest (Step rules) x) (sym same) (rest less)
-      by e (inr most) = absurd (true≢false (sym (eq-eqb n 1 (omega (arith, few, most))) ∙ e))
+      none : (n == 1) ≡ false → (n < 1) ⊎ (1 ≤ n) → n ≡ 0
+      none e (inl less) = omega (arith, less)
+      none e (inr most) = absurd (true≢false (sym (eq-eqb n 1 (omega (arith, few, most))) ∙ e))
+
+      by : (b : Bool) → (n == 1) ≡ b → StepsOrStays rules s t b
+      by true e =
+          let r : Runs (Step rules) 1 s t = subst (λ m. Runs (Step rules) m s t) (eqb-true n 1 e) h in
+          subst (λ x. Step rules s x) r.2 r.1
+      by false e =
+          let no : n ≡ 0 = none e (cases_lt n 1) in
+          let same : s ≡ t = subst (λ m. Runs (Step rules) m s t) no h in
+          (sym same, subst (λ x. IsAtRest (Step rules) x) (sym same) (rest (omega (arith, no))))

@@ -7,6 +7,7 @@ ghost use Rattle.chr_base.specs.Rewriting.{IsAtRest, Runs};
 ghost use Rattle.chr_base.specs.Rules.{HasInstance, HasNoStep, Step, StepOn};
 ghost use Rattle.chr_base.specs.Stores.{store_of};
 ghost use Rattle.chr_columns.specs.Rows.{AreApart};
+ghost use Rattle.chr_columns.specs.Stepping.{StepsOrStays};
 
 use crate::listing::bag_of;
 use crate::making::rested_for;
@@ -205,9 +206,7 @@ impl Columns {
     /// One step of some rule. False, and nothing changes, where the store is at rest; where memory is refused nothing
     /// changes either. It compares all rules, which `advance` does but once for many steps.
     pub fn step(&mut self, rules: &[Rule]) -> Result<bool, AllocError>
-        ensures stepped { IfOk result (λ stepped. OnTrue stepped (Step rules.now self.old self.new)) }
-        ensures same { IfOk result (λ stepped. OnFalse stepped (self.new ≡ self.old)) }
-        ensures rests { IfOk result (λ stepped. OnFalse stepped (IsAtRest (Step rules.now) self.old)) }
+        ensures step { IfOk result (StepsOrStays rules.now self.old self.new) }
         ensures err { OnErr result (self.new ≡ self.old) }
     {
         match self.advance(rules, 1) {

@@ -133,7 +133,9 @@ over_is r =
     let body = nat_lt MAX_BODY (length (present r.body)) in
     let n : heads ≡ nat_lt MAX_HEADS (length (rule_heads r)) =
     ap (nat_lt MAX_HEADS) (sym (length-append r.kept r.removed)) in
-    let l = label_is r.label in let q = parts_are r in
+    let l = label_is r.label in
+    let q = parts_are r ∙ ap (λ v. list_any atom_over (rule_atoms r) || v)
+    (sym (or-false (list_any is_long_variable (written_terms r)))) in
     or_assoc heads (guard || body) _ ∙ ap (λ b. heads || b) (or_assoc guard body _)
     ∙ λ i. n i || (guard || (body || (l i || q i)))
 

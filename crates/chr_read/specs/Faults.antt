@@ -70,11 +70,10 @@ is_long_variable (number w) = false
 
 -- too many heads, comparisons or atoms in the body, or a part that is too large
 abbrev pub rule_over : Rule → Bool
-rule_over r =
-    nat_lt MAX_HEADS (length (rule_heads r))
-    || (nat_lt MAX_COMPARISONS (length (present r.guard)) || (nat_lt MAX_BODY (length (present r.body))
-    || (list_any is_long (option_to_list r.label) || (list_any atom_over (rule_atoms r)
-    || list_any is_long_variable (written_terms r)))))
+rule_over r = list_any (λ over. over)
+    (nat_lt MAX_HEADS (length (rule_heads r)) ∷ nat_lt MAX_COMPARISONS (length (present r.guard))
+    ∷ nat_lt MAX_BODY (length (present r.body)) ∷ list_any is_long (option_to_list r.label)
+    ∷ list_any atom_over (rule_atoms r) ∷ list_any is_long_variable (written_terms r) ∷ [])
 
 -- ---- variables and numbers
 

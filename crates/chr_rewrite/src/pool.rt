@@ -5,6 +5,7 @@ ghost use Rattle.chr_base.specs.FinBag.{◌⊕◌, ◌⊖◌, IsWithin};
 ghost use Rattle.chr_base.specs.Stores.{Store, store_of};
 ghost use Rattle.chr_base.specs.Rules.{Step, HasInstance, StepOn, HasNoStep};
 ghost use Rattle.chr_base.specs.Rewriting.{IsAtRest, Runs};
+ghost use Rattle.chr_columns.specs.Stepping.{StepsOrStays};
 
 use arrayvec::ArrayVec;
 use chr_base::atom::Atom;
@@ -62,9 +63,6 @@ pub trait Pool {
     /// One step of some rule. False, and nothing changes, where the pool is at rest; where memory is refused nothing
     /// changes either.
     fn step(&mut self, rules: &[Rule]) -> Result<bool, AllocError>
-        ensures stepped { IfOk result (λ stepped.
-            OnTrue stepped (Step rules.now (contents self.old) (contents self.new))) }
-        ensures same { IfOk result (λ stepped. OnFalse stepped (contents self.new ≡ contents self.old)) }
-        ensures rests { IfOk result (λ stepped. OnFalse stepped (IsAtRest (Step rules.now) (contents self.old))) }
+        ensures step { IfOk result (StepsOrStays rules.now (contents self.old) (contents self.new)) }
         ensures err { OnErr result (contents self.new ≡ contents self.old) };
 }

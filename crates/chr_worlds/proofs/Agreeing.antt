@@ -1,6 +1,5 @@
 -- Settled replicas, at the ends of runs, hold the one normal form of what was told.
 use Rattle.std.proofs.Common.{◌≡◌, ℕ, refl, sym, ap, ◌∙◌, subst}
-use Rattle.std.proofs.lemmas.Option.{same_Some}
 use Rattle.chr_base.specs.declared.program.Program.{Program}
 use Rattle.chr_base.specs.Rules.{Step}
 use Rattle.chr_base.specs.Programs.{rules_of}
@@ -14,7 +13,7 @@ use Rattle.chr_replica.specs.Replicas.{Replica, IsSound, IsSettled}
 use Rattle.chr_replica.specs.Laws.{FirstIsSound, OneAnswer}
 use Rattle.chr_worlds.specs.Laws.{RunsKeep, ComesAbout, ReplicasAgree, PartsAgree, AgreeAt}
 use Rattle.chr_worlds.specs.Worlds.{Replicas, IsAt}
-use Rattle.chr_worlds.proofs.Keeping.{holds_at}
+use Rattle.chr_worlds.proofs.Keeping.{holds_at, one_at}
 
 -- a replica that comes about is sound
 comes_sound : RunsKeep → FirstIsSound → (p : Program) (s : Replica) → ComesAbout p s → IsSound p s
@@ -35,9 +34,6 @@ parts_agree agree determine p s ss ts t confluent values hs settled whole rested
     (agree p p s s (refl, refl) confluent values hs hs refl settled settled).1)
 
 -- ---- replicas of one world
-
-one_at : (w : Replicas) (r : ℕ) (s t : Replica) → IsAt w r s → IsAt w r t → s ≡ t
-one_at w r s t h k = same_Some s t (sym h.1 ∙ k.1)
 
 pub agree_at : OneAnswer → (p : Program) (w : Replicas) (a b : ℕ) (s t : Replica) → Confluent (rules_of p)
     → HasValues (told_store s.operations) → IsSound p s → IsSound p t → IsAt w a s → IsAt w b t → AgreeAt p w a b

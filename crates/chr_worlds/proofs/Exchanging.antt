@@ -18,13 +18,9 @@ use Rattle.chr_replica.proofs.DeclaredSets.{lacking_declared}
 use Rattle.chr_acts.specs.declared.reply.Reply.TheVariants as reply
 use Rattle.chr_worlds.specs.Worlds.{Replicas, IsAt, Changes, TakesIn}
 use Rattle.chr_worlds.specs.Laws.{SyncsUnite, SyncsMeet, SyncsAreDeclared}
-use Rattle.chr_worlds.proofs.Keeping.{holds_at}
+use Rattle.chr_worlds.proofs.Keeping.{holds_at, one_at}
 
 -- ---- replicas of a number
-
--- there is one of a number
-one_at : (w : Replicas) (r : ℕ) (s t : Replica) → IsAt w r s → IsAt w r t → s ≡ t
-one_at w r s t h g = let e : ◌≡◌ {A = Option Replica} (Some s) (Some t) = sym h.1 ∙ g.1 in cc
 
 set_here : (w : Replicas) (i : ℕ) (t : Replica) → i < length w → slice_get (slice_set w i t) i ≡ Some t
 set_here [] i t l = absurd (omega (arith, l))

@@ -4,10 +4,9 @@ use Rattle.std.specs.Prelude.{true, false}
 use mathlib.Core.Bool.{true≢false}
 use Rattle.std.specs.declared.alloc.AllocError.{AllocError}
 use Rattle.std.proofs.Common.{refl, sym, ap, ◌∙◌, subst, inl, inr}
-use Rattle.std.specs.Option.{option_map}
 use Rattle.std.proofs.lemmas.Bool.Decides.{eqb_tells}
 use Rattle.std.proofs.lemmas.List.{map-set, set-get_or}
-use Rattle.std.proofs.lemmas.Option.{slice_get-map, slice_get_within, get_or_from_slice_get}
+use Rattle.std.proofs.lemmas.Option.{slice_get_within, get_or_from_slice_get}
 use Rattle.chr_base.specs.declared.derivation.Step.{Step as StepValue}
 use Rattle.chr_base.specs.declared.program.Program.{Program}
 use Rattle.chr_ops.specs.declared.fault.Added.TheVariants as added
@@ -34,6 +33,7 @@ use Rattle.chr_worlds.specs.Worlds.{Works}
 use Rattle.chr_worlds.specs.working.Boards.{sets_on, IsTrueOn, gained_by, is_told_new, Grows, ChangesAt, AreLacked}
 use Rattle.chr_worlds.specs.working.Boards.{ExchangesAt, HoldsAllOf}
 use Rattle.chr_worlds.proofs.Exchanging.{took_in}
+use Rattle.chr_worlds.proofs.Places.{part_at}
 
 -- ---- what an act gives a replica
 
@@ -90,10 +90,9 @@ works_alike p s number steps _ t h = absurd h
 
 -- ---- sets of operations by their places
 
-pub set_at : (bs : List Held) (place : ℕ) (b : Held) → slice_get bs place ≡ Some b
+set_at : (bs : List Held) (place : ℕ) (b : Held) → slice_get bs place ≡ Some b
     → slice_get (sets_on bs) place ≡ Some b.replica.operations
-set_at bs place b there =
-    slice_get-map (λ b. b.replica.operations) bs place ∙ ap (option_map (λ b. b.replica.operations)) there
+set_at bs place b there = part_at (λ b. b.replica.operations) bs place b there
 
 sets_after : (bs cs : List Held) (place : ℕ) (R : Held → Replica → Type 0) (h : ChangesAt bs place R cs)
     → sets_on cs ≡ slice_set (sets_on bs) place h.after.replica.operations

@@ -1,8 +1,8 @@
 -- Along runs replicas stay sound.
 use Rattle.std.specs.Prelude.{ℕ, ◌-◌, List, [], ◌∷◌, All}
-use Rattle.std.proofs.Common.{sym, subst}
+use Rattle.std.proofs.Common.{◌≡◌, sym, ◌∙◌, subst}
 use Rattle.std.proofs.lemmas.List.Elements.{All-set}
-use Rattle.std.proofs.lemmas.Option.{slice_get_within, get_or_from_slice_get}
+use Rattle.std.proofs.lemmas.Option.{same_Some, slice_get_within, get_or_from_slice_get}
 use Rattle.chr_base.specs.declared.derivation.Step.{Step as StepValue}
 use Rattle.chr_base.specs.declared.program.Program.{Program}
 use Rattle.chr_ops.specs.Summaries.{lacking}
@@ -17,6 +17,10 @@ use Rattle.chr_worlds.specs.declared.event.Event.TheVariants as event
 use Rattle.chr_worlds.specs.declared.answer.Answer.{Answer}
 use Rattle.chr_worlds.specs.declared.answer.Answer.TheVariants as answer
 use Rattle.chr_worlds.specs.Worlds.{Replicas, IsAt, Changes, Works, Happens, Runs}
+
+-- there is one replica of a number
+pub one_at : (w : Replicas) (r : ℕ) (s t : Replica) → IsAt w r s → IsAt w r t → s ≡ t
+one_at w r s t h g = same_Some s t (sym h.1 ∙ g.1)
 
 works_keeps : EventsKeep → (p : Program) (s : Replica) (number : ℕ) (steps : List StepValue) (x : Reply) (t : Replica)
     → Works p s number steps x t → IsSound p s → IsSound p t

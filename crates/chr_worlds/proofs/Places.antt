@@ -1,6 +1,6 @@
 -- The boards of a world in a list, and their replicas.
 use Rattle.std.specs.Prelude.{◌≡◌, ℕ, suc, ◌+◌, ◌<◌, List, length, replicate, zero, ◌∷◌, take, drop, ◌++◌, Option, Some}
-use Rattle.std.specs.Prelude.{slice_get, slice_index_or, slice_set, Result, Ok, Err, OnErr}
+use Rattle.std.specs.Prelude.{map as each, slice_get, slice_index_or, slice_set, Result, Ok, Err, OnErr}
 use Rattle.std.proofs.Common.{refl, sym, ap, ◌∙◌, subst, arith}
 use Rattle.std.specs.Option.{option_map}
 use Rattle.std.proofs.lemmas.List.{map-set, set-get_or, take-append-le, take_all}
@@ -33,17 +33,17 @@ pub set_again : {A E : Type 0} (r : Result A E) (bs : List Held) (place : ℕ) (
 set_again (Ok x) bs place d b same = tt
 set_again (Err e) bs place d b same = ap (slice_set bs place) same ∙ set-get_or bs place d
 
--- the replica of a board stands at its place
-pub replica_at : (bs : List Held) (place : ℕ) (b : Held) → slice_get bs place ≡ Some b
-    → slice_get (replicas_on bs) place ≡ Some b.replica
-replica_at bs place b there = slice_get-map (λ b. b.replica) bs place ∙ ap (option_map (λ b. b.replica)) there
+-- what a board has stands at its place
+pub part_at : {A : Type 0} (part : Held → A) (bs : List Held) (place : ℕ) (b : Held) → slice_get bs place ≡ Some b
+    → slice_get (each part bs) place ≡ Some (part b)
+part_at part bs place b there = slice_get-map part bs place ∙ ap (option_map part) there
 
 -- and has the next number
 pub number_at : (bs : List Held) (number place : ℕ) (b : Held) → number ≡ place + 1 → slice_get bs place ≡ Some b
     → IsAt (replicas_on bs) number b.replica
 number_at bs number place b is there = (
   omega (arith, is),
-  ap (slice_get (replicas_on bs)) (omega (arith, is)) ∙ replica_at bs place b there,
+  ap (slice_get (replicas_on bs)) (omega (arith, is)) ∙ part_at (λ b. b.replica) bs place b there,
 )
 
 -- what holds of each board holds of the one at a place

@@ -7,10 +7,9 @@ pub loop-steps-preserved : goal.loop-steps-preserved
 loop-steps-preserved c =
     Runs-append (Step c.args.rules.now) c.loop-steps.steps 1 c.args.self.now c.loop-steps.self c.step.new.self
     c.loop-steps.invariant
-    (c.step.new.self, rw c.in-Ok-true.field-0-test at c.in-Ok-true.ensures.stepped, refl)
+    (c.step.new.self, rw c.in-Ok-true.field-0-test at c.in-Ok-true.ensures.step, refl)
 
 pub returns-in-Ok-false-clause-rests : goal.returns-in-Ok-false-clause-rests
 returns-in-Ok-false-clause-rests c _ =
-    let same = rw c.in-Ok-false.field-0-test at c.in-Ok-false.ensures.same in
-    let rests = rw c.in-Ok-false.field-0-test at c.in-Ok-false.ensures.rests in
-    rw same rests
+    let none = rw c.in-Ok-false.field-0-test at c.in-Ok-false.ensures.step in
+    rw none.0 none.1
