@@ -18,18 +18,14 @@ from pathlib import Path
 
 import workloads
 
-WIDE = ("dominated",)
 CHOSEN = ("routes", "many_keys", "all_keys", "bids", "settings", "dominated", "fours", "falling", "revoked", "pairs")
-LAST_LINE = '["show",1]\n'
 
 
 def written(folder: Path, name: str, count: int) -> tuple[Path, Path]:
     """The input, and the same facts for a program without rules, which are not shown."""
-    lines = list(workloads.lines(name, count, 0))
     whole, told = folder / f"{name}.chr", folder / f"{name}-told.chr"
-    whole.write_text("".join(lines))
-    declared = lines[0].splitlines()[0]
-    told.write_text("".join([f"{declared}\n---\n", *(line for line in lines[1:] if line != LAST_LINE)]))
+    whole.write_text("".join(workloads.lines(name, count, 0)))
+    told.write_text("".join(workloads.reading(name, count)))
     return whole, told
 
 
@@ -58,14 +54,15 @@ def main() -> int:
     print(f"{os.cpu_count()} processors, {said.count} facts, {said.workers} workers, {said.parts} parts")
     with tempfile.TemporaryDirectory() as folder:
         for name in said.only.split(","):
-            wide = ["--wide"] if name in WIDE else []
+            options = workloads.WORKLOADS[name].options()
             settings = [
-                [*wide, "--workers", str(workers), "--parts", str(parts)]
+                [*options, "--workers", str(workers), "--parts", str(parts)]
                 for workers, parts in ((1, 1), (said.workers, said.parts))
             ]
             whole, told = written(Path(folder), name, said.count)
             runs = least(said.program, settings, whole, said.times)
-            rests = [max(run - tell, 0.001) for run, tell in zip(runs, least(said.program, settings, told, said.times), strict=True)]
+            tells = least(said.program, settings, told, said.times)
+            rests = [max(run - tell, 0.001) for run, tell in zip(runs, tells, strict=True)]
             print(
                 f"{name:10} run {runs[0]:6.2f} {runs[1]:6.2f} s, {runs[0] / runs[1]:.2f} times faster;"
                 f" resting {rests[0]:6.2f} {rests[1]:6.2f} s, {rests[0] / rests[1]:.2f}",
