@@ -57,6 +57,7 @@ MANY = (
         for line in operation(1, place, f"{ATOMS} times {values(value)}")
     ),
 )
+SHARED = (*ONE, *operation(1, 2, values(4, 8)), *operation(2, 1, values(6)))
 SHOWN = f"shown: {values(3)}"
 LEASE = f"lease 4: {values(3, 5, 9)}"
 
@@ -141,6 +142,11 @@ TABLE: Mapping[str, Call] = {
     "step_part": unchanged((LEASE,), done(4, values(3, 5, 9), values(3, 9))),
     "rest_board": worked(THREE, values(3, 5, 9)),
     "rest_board_in_parts": worked(MANY, ", ".join(f"{ATOMS} times {values(value)}" for value in VALUES)),
+    "settle_with": Call(
+        SHARED,
+        {DONE: ((f"rested: {values(3)}", *SHARED, SHOWN),), REFUSED: ((*SHARED, SHOWN),)},
+        workers=True,
+    ),
 }
 
 

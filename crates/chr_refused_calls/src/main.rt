@@ -11,6 +11,7 @@ mod books;
 mod parts;
 mod pools;
 mod printing;
+mod seats;
 mod sets;
 mod workers;
 
@@ -35,10 +36,11 @@ enum Call {
     Book(BookCall),
     Part(PartCall),
     Workers(Told),
+    Seats,
 }
 
 /// The calls, in the order in which they are made.
-const CALLS: [(&str, Call); 22] = [
+const CALLS: [(&str, Call); 23] = [
     ("add", Call::Set(SetCall::Add)),
     ("join", Call::Set(SetCall::Join)),
     ("insert", Call::Pool(PoolCall::Insert)),
@@ -61,6 +63,7 @@ const CALLS: [(&str, Call); 22] = [
     ("step_part", Call::Part(PartCall::Step)),
     ("rest_board", Call::Workers(Told::Few)),
     ("rest_board_in_parts", Call::Workers(Told::Many)),
+    ("settle_with", Call::Seats),
 ];
 
 fn make(rt: &(impl Print + Threads + Wait + Sync), alloc: Global, call: Call) -> Option<()> {
@@ -71,6 +74,7 @@ fn make(rt: &(impl Print + Threads + Wait + Sync), alloc: Global, call: Call) ->
         Call::Book(call) => books::make(rt, alloc, call),
         Call::Part(call) => parts::make(rt, alloc, call),
         Call::Workers(told) => workers::make(rt, alloc, told),
+        Call::Seats => seats::make(rt, alloc),
     }
 }
 
