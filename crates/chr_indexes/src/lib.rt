@@ -3,3 +3,4 @@
 
 pub mod hashes;
 pub mod ranges;
+mod slots;

@@ -5,6 +5,8 @@ ghost use Rattle.chr_indexes.specs.working.HashChains.{IsChained};
 ghost use Rattle.chr_indexes.specs.working.HashEntries.{slots_of, slot_of, live_hashes, IsLivePlace, LiesBelow};
 ghost use Rattle.chr_indexes.specs.working.HashEntries.{IsIndex};
 
+use crate::slots::slot_for;
+
 /// A place of a slot, of which no live row of the slot lies at or above. Dead rows on the way are taken out of the
 /// chain.
 pub(crate) fn first_live(
@@ -106,7 +108,7 @@ pub(crate) fn relink(hashes: &[u32], alive: &[bool], links: &mut [u32], heads: &
     ensures links { length links.new ≡ length links.old }
 {
     for i in 0..hashes.len() {
-        let slot = hashes[i] as usize % heads.len();
+        let slot = slot_for(hashes[i], heads.len());
         links[i] = heads[slot];
         heads[slot] = i as u32 + 1;
     }

@@ -7,6 +7,7 @@ ghost use Rattle.chr_indexes.specs.HashedRows.{HasHash};
 ghost use Rattle.chr_indexes.specs.working.HashEntries.{slots_of, live_hashes, IsIndex};
 
 use crate::hashes::chain::{first_live, is_at, live_from, next_live, relink, seek};
+use crate::slots::slot_for;
 use std::alloc::{AllocError, Global};
 use std::marker::Model;
 
@@ -74,7 +75,7 @@ impl Index {
         ensures rows { self.new.rows ≡ self.old.rows ++ Some hash ∷ [] }
         ensures room { self.new.room ≡ self.old.room }
     {
-        let slot = hash as usize % self.heads.len();
+        let slot = slot_for(hash, self.heads.len());
         let link = self.heads[slot];
         self.hashes.push_reserved(hash);
         self.alive.push_reserved(true);
@@ -150,7 +151,7 @@ impl Index {
         ensures live { 0 < result → get_or self.old.rows (result - 1) None ≡ Some hash }
         ensures none_above { (r : ℕ) → get_or self.old.rows r None ≡ Some hash → r < result }
     {
-        let slot = hash as usize % self.heads.len();
+        let slot = slot_for(hash, self.heads.len());
         let at = first_live(
             &self.hashes,
             &self.alive,

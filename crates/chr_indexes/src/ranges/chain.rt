@@ -7,6 +7,7 @@ ghost use Rattle.chr_indexes.specs.working.RangeChains.{IsSought};
 
 use crate::ranges::range::Range;
 use crate::ranges::row::{Link, Row};
+use crate::slots::slot_for;
 
 /// The links of rows, and the newest place of each slot.
 #[derive(Drop)]
@@ -61,7 +62,7 @@ pub(crate) fn join(rows: &[Row], chains: &mut Chains, row: usize)
     ensures linked { AreLinked (length chains.new.heads.items) rows.now chains.new.links.items (row + 1) }
     ensures heads { AreHeads rows.now chains.new.heads.items (row + 1) }
 {
-    let slot = rows[row].hash as usize % chains.heads.len();
+    let slot = slot_for(rows[row].hash, chains.heads.len());
     let link = link_for(rows, chains, row, chains.heads[slot]);
     chains.links[row] = link;
     chains.heads[slot] = row as u32 + 1;

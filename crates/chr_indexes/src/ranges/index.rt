@@ -7,6 +7,7 @@ ghost use Rattle.chr_indexes.specs.RangedRows.{HasEntryHash, IsWanted};
 use crate::ranges::chain::{Chains, is_at, join, relink, seek};
 use crate::ranges::range::Range;
 use crate::ranges::row::{Link, Row};
+use crate::slots::slot_for;
 use std::alloc::{AllocError, Global};
 use std::marker::Model;
 
@@ -146,7 +147,7 @@ impl Index {
         ensures wanted { 0 < result → IsWanted self.old.rows hash range.now (result - 1) }
         ensures none_above { (r : ℕ) → IsWanted self.old.rows hash range.now r → r < result }
     {
-        let from = self.chains.heads[hash as usize % self.chains.heads.len()];
+        let from = self.chains.heads[slot_for(hash, self.chains.heads.len())];
         seek(&self.rows, &mut self.chains, hash, range, from)
     }
 

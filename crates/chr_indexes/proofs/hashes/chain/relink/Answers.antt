@@ -16,15 +16,16 @@ loop-i-preserved c =
     let g = c.loop-i-test.true in
     let m : length (slots_of (length c.args.heads.now) c.args.hashes.now) ≡ length c.args.hashes.now =
     slots_len (length c.args.heads.now) c.args.hashes.now in
-    let s : get_or c.args.hashes.now c.loop-i.i 0 % length c.loop-i.heads
+    let s : c.slot_for-slot.result
     ≡ get_or (slots_of (length c.args.heads.now) c.args.hashes.now) c.loop-i.i 0 =
-    ap (λ n. get_or c.args.hashes.now c.loop-i.i 0 % n) size
+    c.slot_for-slot.ensures ∙ ap (λ n. get_or c.args.hashes.now c.loop-i.i 0 % n) size
     ∙ sym (slot_at (length c.args.heads.now) c.args.hashes.now c.loop-i.i g) in
     record {
       chained = chained_more (slots_of (length c.args.heads.now) c.args.hashes.now) c.args.alive.now c.loop-i.links
-          c.loop-i.heads c.loop-i.i (get_or c.args.hashes.now c.loop-i.i 0 % length c.loop-i.heads)
+          c.loop-i.heads c.loop-i.i c.slot_for-slot.result
           (c.loop-i.i + 1) _ c.loop-i.invariant.chained (omega (arith, g, m)) (omega (arith, la, m))
-          (omega (arith, links, ll, m)) (omega (arith, few, m)) s (omega (arith, size, some)) refl refl;
+          (omega (arith, links, ll, m)) (omega (arith, few, m)) s
+          (omega (arith, size, some, c.slot_for-slot.ensures)) refl refl;
       size = length-set c.loop-i.heads _ _ ∙ size;
       links = length-set c.loop-i.links _ _ ∙ links;
     }

@@ -11,6 +11,7 @@ returns-clause-none_above c = λ r e.
     c.first_live-at.result c.seek.result r (as_many _ _ _ _ _ c.self.invariant.chained)
     (λ q l m live. c.first_live-at.ensures.none_above q (rw c.deref-2.ensures.value l)
     (rw (c.deref.ensures.value, c.deref_mut.ensures.value)
-    (m ∙ ap (λ k. c.args.hash % k) (sym (c.len.ensures ∙ size)))) (rw c.deref-2.ensures.value live))
+    (m ∙ ap (λ k. c.args.hash % k) (sym (c.len.ensures ∙ size)) ∙ sym c.slot_for-slot.ensures))
+    (rw c.deref-2.ensures.value live))
     (rw (c.deref-4.ensures.value, c.deref-5.ensures.value) at c.seek.ensures.none_between)
     (ap (λ x. get_or x.rows r None) c.self.view_is ∙ e)

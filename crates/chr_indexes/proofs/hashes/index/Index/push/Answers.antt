@@ -69,9 +69,9 @@ invariant_of-self c =
     let size : vec_len c.self.inside.heads ≡ length c.self.inside.heads.items =
     omega (arith, c.self.inside.heads.ok.0) in
     rw (c.push_reserved.ensures.items, c.push_reserved-2.ensures.items, c.push_reserved-3.ensures.items)
-    (index_push _ _ _ _ c.args.hash (c.args.hash % c.len.result) _ _ c.self.invariant
-    (ap (λ k. c.args.hash % k) (c.len.ensures ∙ size)) (grind (arith, common_steps)) (omega (arith, e, f))
-    (omega (arith, n, l, v, r)))
+    (index_push _ _ _ _ c.args.hash c.slot_for-slot.result _ _ c.self.invariant
+    (c.slot_for-slot.ensures ∙ ap (λ k. c.args.hash % k) (c.len.ensures ∙ size)) (grind (arith, common_steps))
+    (omega (arith, e, f)) (omega (arith, n, l, v, r)))
 
 pub returns-clause-rows : goal.returns-clause-rows
 returns-clause-rows c =

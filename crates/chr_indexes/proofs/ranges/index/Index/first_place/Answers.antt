@@ -1,4 +1,4 @@
-use Rattle.std.proofs.Common.{◌≡◌, ◌-◌, length, vec_len, arith, ap, ◌∙◌}
+use Rattle.std.proofs.Common.{◌≡◌, ◌-◌, length, get_or, vec_len, arith, ap, ◌∙◌}
 use Rattle.chr_indexes.proofs.EntriesBelow.{wanted_sought, sought_wanted, first_above}
 use Rattle.chr_indexes.proofs.ranges.index.Index.first_place.Goals as goal
 
@@ -17,4 +17,6 @@ returns-clause-none_above c = λ r w.
     (rw c.deref.ensures.value at c.seek.ensures.none_between) r
     (first_above c.self.inside.rows.items c.self.inside.chains.links.items c.self.inside.chains.heads.items c.args.hash
     c.args.range.now c.len.result c.index-from.result.now r
-    c.self.invariant (c.len.ensures ∙ size) c.index-from.ensures s) s
+    c.self.invariant (c.len.ensures ∙ size)
+    (c.index-from.ensures ∙ ap (λ k. get_or c.self.inside.chains.heads.items k c.index-from.result.now)
+    c.slot_for.ensures) s) s
