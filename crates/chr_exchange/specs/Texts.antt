@@ -13,6 +13,7 @@ use Rattle.chr_json.specs.Messages.{summary_data, delta_1_data, delta_2_data}
 use Rattle.chr_ops.specs.declared.range.IdRange.{IdRange}
 use Rattle.chr_ops.specs.Ids.{id_cmp}
 use Rattle.chr_ops.specs.Operations.{Operation, Operations}
+use Rattle.chr_ops.specs.Summaries.{lacking}
 
 -- the text of a summary with these ranges: origins and ranges as they stand there
 abbrev pub summary_text : List IdRange → List ℕ
@@ -28,6 +29,10 @@ spelt ds o = record { id = o.0; atoms = map (spelt_atom ds) (in_print_order ds o
 -- no two of the operations have one id
 abbrev pub HaveDifferentIds : List Operation → Type 0
 HaveDifferentIds os = IsDistinct (eq_by_cmp id_cmp) (map (λ o. o.0) os)
+
+-- so it is with what a set holds beyond some ranges
+abbrev pub LackedIdsDiffer : Type 0
+LackedIdsDiffer = (m : Operations) (rs : List IdRange) → HaveDifferentIds (lacking m rs)
 
 -- the text of a delta of version 2, and of version 1, with the operations of a set in the order of ids
 abbrev pub delta_text : List Declaration → Operations → List ℕ

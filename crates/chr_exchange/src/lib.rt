@@ -15,7 +15,7 @@ mod reading;
 mod writing;
 
 pub use fault::MessageFault;
-pub use laws::messages_are_read_back;
+pub use laws::{lacked_ids_differ, messages_are_read_back};
 pub use named::{declared_operation, declared_operations};
 pub use reading::{delta_of, op_of, read_delta, read_summary, summary_of};
 pub use writing::{delta_text, delta_text_1, summary_text};

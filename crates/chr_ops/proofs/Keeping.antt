@@ -15,7 +15,7 @@ use Rattle.chr_ops.specs.Operations.{Operations, IsOperationBag, told_store}
 use Rattle.std.proofs.Math.Bool.{or-false}
 use Rattle.chr_ops.specs.declared.range.IdRange.{IdRange}
 use Rattle.chr_ops.specs.Summaries.{covers, CoversJust, IsApart}
-use Rattle.chr_ops.specs.working.Covering.{is_among_ends}
+use Rattle.chr_ops.specs.News.{is_one_of}
 use Rattle.chr_ops.specs.working.Joining.{AddsIds, IsWithout}
 use Rattle.chr_ops.proofs.Unions.{ids_inserted, ids_none}
 use Rattle.chr_ops.specs.working.Kept.{IsKept, AreOperationBags}
@@ -46,14 +46,14 @@ sized_inserted m k v sized h q s g = by (eq_by_cmp id_cmp q k) (sym (map.get-ins
 -- one that it does not hold joins it, where there is room
 pub kept_insert : (told : ℕ) (rs ss : List IdRange) (m : Operations) (k : OpId) (v : Store) → IsKept told rs m
     → map.get m k ≡ None → IsOperationBag v → told + size v ≤ MAX_TOLD
-    → IsApart ss → ((q : OpId) → covers ss q ≡ (covers rs q || is_among_ends (k ∷ []) q))
+    → IsApart ss → ((q : OpId) → covers ss q ≡ (covers rs q || is_one_of (k ∷ []) q))
     → IsKept (told + size v) ss (map.insert m k v)
 kept_insert told rs ss m k v h new sized room apart covered = record {
   counted = ap (λ n. n + size v) h.counted ∙ sym (size_inserted m k v new);
   within = room;
   sized = sized_inserted m k v sized h.sized;
   apart = apart;
-  covering = λ q. covered q ∙ ap (λ b. b || is_among_ends (k ∷ []) q) (h.covering q)
+  covering = λ q. covered q ∙ ap (λ b. b || is_one_of (k ∷ []) q) (h.covering q)
       ∙ sym (ids_inserted m m [] k v (ids_none m) q);
 }
 
@@ -73,16 +73,16 @@ put_back m k v new = map.same_map id_total id_exact _ _
 
 -- a new id is not covered
 pub new_uncovered : (rs : List IdRange) (m : Operations) (k q : OpId) → CoversJust rs m → map.get m k ≡ None
-    → is_among_ends (k ∷ []) q ≡ true → covers rs q ≡ false
+    → is_one_of (k ∷ []) q ≡ true → covers rs q ≡ false
 new_uncovered rs m k q just new h = just q ∙ ap is_some
     (ap (map.get m) (same_id q k (sym (or-false (eq_by_cmp id_cmp q k)) ∙ h)) ∙ new)
 
 -- what a map has not is not covered
 pub without_uncovered : (rs : List IdRange) (m n : Operations) (ids : List OpId) (q : OpId) → CoversJust rs m
-    → IsWithout m ids n → is_among_ends ids q ≡ true → covers rs q ≡ false
+    → IsWithout m ids n → is_one_of ids q ≡ true → covers rs q ≡ false
 without_uncovered rs m n ids q just without a = just q ∙ ap is_some (without q ∙ ap (λ b. cond b None (map.get n q)) a)
 
 -- what came is covered
 pub just_more : (rs ss : List IdRange) (m n : Operations) (ids : List OpId) → CoversJust rs m → AddsIds m ids n
-    → ((q : OpId) → covers ss q ≡ (covers rs q || is_among_ends ids q)) → CoversJust ss n
-just_more rs ss m n ids just has covered q = covered q ∙ ap (λ b. b || is_among_ends ids q) (just q) ∙ sym (has q)
+    → ((q : OpId) → covers ss q ≡ (covers rs q || is_one_of ids q)) → CoversJust ss n
+just_more rs ss m n ids just has covered q = covered q ∙ ap (λ b. b || is_one_of ids q) (just q) ∙ sym (has q)

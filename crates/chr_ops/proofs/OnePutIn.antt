@@ -1,16 +1,16 @@
 -- One id that is put in among ranges, and what it touches.
-use Rattle.std.specs.Prelude.{◌≡◌, ℕ, ◌+◌, ◌^◌, ◌<◌, Bool, true, false, ◌||◌, List, [], ◌∷◌, Some, None, cond}
+use Rattle.std.specs.Prelude.{◌≡◌, ℕ, ◌+◌, ◌^◌, ◌<◌, Bool, true, false, ◌||◌, [], ◌∷◌, Some, None, cond}
 use Rattle.std.proofs.Common.{refl, sym, ap, ◌∙◌, arith, subst}
-use mathlib.Core.Bool.{true≢false}
 use Rattle.std.specs.Option.{unwrap_or}
 use Rattle.std.specs.List.{list_any}
 use Rattle.std.specs.Ordering.{eq_by_cmp}
 use Rattle.std.specs.FinMap as map
 use Rattle.chr_ops.specs.declared.id.OpId.{OpId}
 use Rattle.chr_ops.specs.Ids.{id_cmp}
+use Rattle.chr_ops.specs.News.{is_one_of}
 use Rattle.chr_ops.specs.Summaries.{covers}
 use Rattle.chr_ops.specs.working.Covering.{Ends, end_ranges, AreDisjoint, AreAsLongAsPossible, AreJoined}
-use Rattle.chr_ops.specs.working.Covering.{EndsRightBefore, IsLaid, IsPutIn, is_among_ends, is_beside, next_id}
+use Rattle.chr_ops.specs.working.Covering.{EndsRightBefore, IsLaid, IsPutIn, is_beside, next_id}
 use Rattle.chr_ops.proofs.IdOrder.{id_total, id_exact, same_id}
 use Rattle.chr_ops.proofs.RangeJoins.{differs, eq_self, joined_for, joined_twice, none_ends, none_past, touching_joined}
 use Rattle.chr_ops.proofs.RangesLaid.{fresh_begin, joined_covers, joined_longest, laid_disjoint, laid_more, laid_none}
@@ -20,7 +20,7 @@ or_false true = refl
 or_false false = refl
 
 module _ (m : Ends) (id : OpId) (d : AreAsLongAsPossible m) (new : covers (end_ranges m) id ≡ false) where
-  all_new : (q : OpId) → is_among_ends (id ∷ []) q ≡ true → covers (end_ranges m) q ≡ false
+  all_new : (q : OpId) → is_one_of (id ∷ []) q ≡ true → covers (end_ranges m) q ≡ false
   all_new q a = ap (covers (end_ranges m)) (same_id q id (sym (or_false (eq_by_cmp id_cmp q id)) ∙ a)) ∙ new
 
   none_there : map.get m id ≡ None
@@ -103,7 +103,7 @@ module _ (m : Ends) (id : OpId) (d : AreAsLongAsPossible m) (new : covers (end_r
   -- ranges are as long as possible again, and cover it too
   abbrev pub IsCoveredBy : Ends → Type 0
   IsCoveredBy o = AreAsLongAsPossible o
-      × ((q : OpId) → covers (end_ranges o) q ≡ (covers (end_ranges m) q || is_among_ends (id ∷ []) q))
+      × ((q : OpId) → covers (end_ranges o) q ≡ (covers (end_ranges m) q || is_one_of (id ∷ []) q))
 
   covered_after : (n o : Ends) (put : IsPutIn m id n) → AreJoined put.laid (λ q. is_beside q id) o → IsCoveredBy o
   covered_after n o put after =

@@ -4,10 +4,11 @@ ghost use Rattle.std.specs.List.{list_any};
 ghost use Rattle.std.specs.Ordering.{eq_by_cmp};
 ghost use Rattle.chr_ops.specs.declared.id.OpId.{OpId as OpIdValue};
 ghost use Rattle.chr_ops.specs.Ids.{id_cmp};
+ghost use Rattle.chr_ops.specs.News.{is_one_of};
 ghost use Rattle.chr_ops.specs.Summaries.{covers, IsApart};
 ghost use Rattle.chr_ops.specs.working.Joining.{IsWithout};
 ghost use Rattle.chr_ops.specs.working.Covering.{AreAsLongAsPossible, AreDisjoint, AreJoined, EndsRightBefore, IsLaid};
-ghost use Rattle.chr_ops.specs.working.Covering.{IsPutIn, IsSameBut, end_ranges, is_among_ends, is_beside};
+ghost use Rattle.chr_ops.specs.working.Covering.{IsPutIn, IsSameBut, end_ranges, is_beside};
 
 use crate::ends::Ends;
 use crate::id::OpId;
@@ -68,7 +69,7 @@ impl Covered {
     pub(crate) fn cover_one(&mut self, id: OpId) -> Result<(), AllocError>
         requires { covers self.old id ≡ false }
         ensures covers { OnOk result ((q : OpIdValue) → covers self.new q
-            ≡ (covers self.old q || is_among_ends (id ∷ []) q)) }
+            ≡ (covers self.old q || is_one_of (id ∷ []) q)) }
         ensures apart { IsApart self.new }
         ensures err { OnErr result (self.new ≡ self.old) }
     {
@@ -81,9 +82,9 @@ impl Covered {
 
     /// Covers some ids that are not covered. Where it fails, nothing has changed.
     pub(crate) fn cover(&mut self, ids: &[OpId]) -> Result<(), AllocError>
-        requires { (id : OpIdValue) → is_among_ends ids.now id ≡ true → covers self.old id ≡ false }
+        requires { (id : OpIdValue) → is_one_of ids.now id ≡ true → covers self.old id ≡ false }
         ensures covers { OnOk result ((id : OpIdValue) → covers self.new id
-            ≡ (covers self.old id || is_among_ends ids.now id)) }
+            ≡ (covers self.old id || is_one_of ids.now id)) }
         ensures apart { IsApart self.new }
         ensures err { OnErr result (self.new ≡ self.old) }
     {

@@ -1,3 +1,4 @@
 pub mod RefusedWords
+pub mod TakenWords
 pub mod Served
 pub mod VerdictEnds

@@ -1,6 +1,6 @@
 -- Words that gave no settings.
-use Rattle.std.proofs.Common.{◌≡◌, ℕ, List, [], sym, subst, append-nil, inl, refl}
-use Rattle.std.specs.Prelude.{Option, Some, None, Err}
+use Rattle.std.proofs.Common.{◌≡◌, ℕ, List, [], sym, subst, append-nil, inl, inr, refl}
+use Rattle.std.specs.Prelude.{◌≢◌, ◌⊎◌, Option, Some, None, Err, ⊤}
 use Rattle.std.specs.Io.KnownBytes.{Appends}
 use Rattle.chr_device.specs.Settings.{IsOfFault}
 use Rattle.chr_device.specs.Words.{faults_of}
@@ -33,3 +33,13 @@ memory_ends_explanation coverage ws (words.Words e) bytes known status none is t
     absurd (subst (λ ks. IsOfFault ks (words.Words e)) none is).0
 memory_ends_explanation coverage ws words.Memory bytes known status none is told =
     record { outcome = Err run.Memory; status_is = told refl; ok = tt; memory = λ _. appends_nothing known }
+
+abbrev is_words : WordsFault → Type 0
+is_words (words.Words e) = ⊤
+is_words words.Memory = ⊥
+
+-- it is one or the other
+pub status_of_refused : (fault : WordsFault) (status : ℕ) → (fault ≡ words.Memory → status ≡ 4)
+    → (fault ≢ words.Memory → status ≡ 2) → (status ≡ 2) ⊎ (status ≡ 4)
+status_of_refused (words.Words e) status memory other = inl (other (λ is. subst is_words is tt))
+status_of_refused words.Memory status memory other = inr (memory refl)

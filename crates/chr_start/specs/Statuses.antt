@@ -1,11 +1,11 @@
 -- The status that the program ends with, and what it has written then.
-use Rattle.std.specs.Prelude.{◌≡◌, ℕ, List, [], Option, Result, Ok, Err, IfOk, IfSome, IsErrOf, OnErr}
+use Rattle.std.specs.Prelude.{◌≡◌, ◌≢◌, ◌⊎◌, ℕ, List, [], Option, Result, Ok, Err, IfOk, IfSome, IsErrOf, OnErr}
 use Rattle.std.specs.Io.KnownBytes.{Appends}
 use Rattle.chr_device.specs.declared.fault.RunFault.{RunFault}
 use Rattle.chr_device.specs.declared.fault.RunFault.TheVariants.{Device, Memory}
 use Rattle.chr_device.specs.declared.words.Verb.{Verb}
-use Rattle.chr_device.specs.declared.words.Verb.TheVariants.{Check}
-use Rattle.chr_device.specs.Words.{replicas_met, wide_met}
+use Rattle.chr_device.specs.declared.words.Verb.TheVariants.{Check, Explain}
+use Rattle.chr_device.specs.Words.{faults_of, replicas_met, verb_met, wide_met}
 use Rattle.chr_join.specs.declared.coverage.Coverage.{Coverage}
 use Rattle.chr_report.specs.declared.running.Status.{Status}
 use Rattle.chr_report.specs.declared.running.Status.TheVariants.{Accepted, Refused}
@@ -45,3 +45,11 @@ pub record ExplanationEnds (coverage : Coverage) (bytes old new : Option (List �
   pub status_is : status ≡ status_of outcome
   pub ok : IfOk outcome (EndsAsCheck coverage bytes)
   pub memory : IsErrOf outcome Memory → Appends old new []
+
+-- the program, called with these words, ended with this status
+pub record ProgramEnds (words : List (List ℕ)) (bytes old new : Option (List ℕ)) (status : ℕ) : Type 0 where
+  pub taken : faults_of words ≡ [] → verb_met words ≢ Explain
+      → RunEnds bytes old new (verb_met words) (wanted_met words) status
+  pub explained : faults_of words ≡ [] → verb_met words ≡ Explain
+      → ExplanationEnds (coverage_for (wide_met words)) bytes old new status
+  pub refused : faults_of words ≢ [] → (status ≡ 2) ⊎ (status ≡ 4)

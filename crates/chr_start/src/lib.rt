@@ -4,19 +4,19 @@
 //! and that of help go to standard error), 3 where a device failed and 4 for want of memory or of stack.
 #![tactic(auto)]
 
-ghost use Rattle.std.specs.Prelude.{◌≡◌, ◌≢◌, ◌⊎◌, [], false, IfOk, map, string_bytes};
+ghost use Rattle.std.specs.Prelude.{◌≡◌, ◌≢◌, [], false, IfOk, map, string_bytes};
 ghost use Rattle.std.specs.IoError.{error_kind};
 ghost use Rattle.std.specs.Vec.Iter.{into_iter_items};
 ghost use Rattle.std.specs.Process.{exit_status};
 ghost use Rattle.std.specs.declared.io.ErrorKind.TheVariants.{OutOfMemory};
 ghost use Rattle.chr_device.specs.Devices.{has_failed};
 ghost use Rattle.chr_device.specs.Settings.{IsWithinLimits};
-ghost use Rattle.chr_device.specs.Words.{faults_of, verb_met, wide_met};
+ghost use Rattle.chr_device.specs.Words.{faults_of};
 ghost use Rattle.chr_device.specs.declared.words.Verb.TheVariants.{Explain};
 ghost use Rattle.chr_device.specs.declared.words.WordsFault.TheVariants.{Memory};
 ghost use Rattle.chr_report.specs.Wires.{reader_of, writer_of};
 ghost use Rattle.chr_report.specs.Asked.{coverage_for, wanted_by};
-ghost use Rattle.chr_start.specs.Statuses.{status_of, wanted_met, ExplanationEnds, RunEnds};
+ghost use Rattle.chr_start.specs.Statuses.{status_of, ExplanationEnds, ProgramEnds, RunEnds};
 
 mod explained;
 mod stack;
@@ -109,15 +109,8 @@ pub fn run_words<R: Read, W: Write>(
 ) -> ExitCode
     requires reads { has_failed streams.old.reader ≡ false }
     requires writes { has_failed streams.old.writer ≡ false }
-    ensures taken { faults_of (map string_bytes words.now) ≡ [] → verb_met (map string_bytes words.now) ≢ Explain →
-        RunEnds (R.remaining (reader_of streams.old)) (W.contents (writer_of streams.old))
-        (W.contents (writer_of streams.new)) (verb_met (map string_bytes words.now))
-        (wanted_met (map string_bytes words.now)) (exit_status result) }
-    ensures explained { faults_of (map string_bytes words.now) ≡ [] → verb_met (map string_bytes words.now) ≡ Explain →
-        ExplanationEnds (coverage_for (wide_met (map string_bytes words.now))) (R.remaining (reader_of streams.old))
+    ensures ends { ProgramEnds (map string_bytes words.now) (R.remaining (reader_of streams.old))
         (W.contents (writer_of streams.old)) (W.contents (writer_of streams.new)) (exit_status result) }
-    ensures refused { faults_of (map string_bytes words.now) ≢ [] →
-        (exit_status result ≡ 2) ⊎ (exit_status result ≡ 4) }
     ensures untouched { faults_of (map string_bytes words.now) ≢ [] → streams.new ≡ streams.old }
 {
     match read_words(rt.alloc(), words) {

@@ -1,12 +1,12 @@
 -- Ranges of ids that are kept under their first ids.
 use Rattle.std.specs.Prelude.{◌≡◌, ℕ, ◌+◌, ◌^◌, ◌<◌, ◌≤◌, Bool, true, false, ◌||◌, List, [], ◌∷◌, Some, IsSome}
 use Rattle.std.specs.Prelude.{map as each, if◌then◌else◌}
-use Rattle.std.specs.List.{list_any}
 use Rattle.std.specs.Ordering.{eq_by_cmp}
 use Rattle.std.specs.FinMap as map
 use Rattle.chr_ops.specs.declared.id.OpId.{OpId}
 use Rattle.chr_ops.specs.declared.range.IdRange.{IdRange}
 use Rattle.chr_ops.specs.Ids.{id_cmp}
+use Rattle.chr_ops.specs.News.{is_one_of}
 use Rattle.chr_ops.specs.Summaries.{covers}
 
 -- the last number of each range under its first id
@@ -40,18 +40,14 @@ pub record AreAsLongAsPossible (m : Ends) : Type 0 where
   pub disjoint : AreDisjoint m
   pub closed : (q : OpId) → ¬ (IsSeam m q)
 
--- whether an id is one of a list
-abbrev pub is_among_ends : List OpId → OpId → Bool
-is_among_ends ids q = list_any (eq_by_cmp id_cmp q) ids
-
 -- each id of a list is put in as a range of its own, and has a 64-bit number
 pub record IsLaid (m : Ends) (ids : List OpId) (n : Ends) : Type 0 where
-  pub at : (q : OpId) → map.get n q ≡ (if is_among_ends ids q then Some q.number else map.get m q)
-  pub fits : (q : OpId) → is_among_ends ids q ≡ true → q.number < 2 ^ 64
+  pub at : (q : OpId) → map.get n q ≡ (if is_one_of ids q then Some q.number else map.get m q)
+  pub fits : (q : OpId) → is_one_of ids q ≡ true → q.number < 2 ^ 64
 
 -- nothing differs but at the ids of a list
 abbrev pub IsSameBut : Ends → List OpId → Ends → Type 0
-IsSameBut m ids n = (q : OpId) → is_among_ends ids q ≡ false → map.get n q ≡ map.get m q
+IsSameBut m ids n = (q : OpId) → is_one_of ids q ≡ false → map.get n q ≡ map.get m q
 
 -- the id after one
 abbrev pub next_id : OpId → OpId

@@ -1,5 +1,4 @@
-use Rattle.std.proofs.Common.{rules, arith, ◌≡◌, ◌^◌, ◌<◌}
-use Rattle.chr_ops.specs.working.Covering.{IsPutIn}
+use Rattle.std.proofs.Common.{rules, arith, ◌^◌, ◌<◌}
 use Rattle.chr_ops.proofs.OnePutIn.{grown, alone}
 use Rattle.chr_ops.proofs.covered.put_in.Goals as goal
 

@@ -1,6 +1,7 @@
 use Rattle.std.proofs.Common.{rules, ap, ◌∙◌, ◌≡◌, ◌||◌}
 use Rattle.chr_ops.specs.Summaries.{covers}
-use Rattle.chr_ops.specs.working.Covering.{end_ranges, IsLaid, AreAsLongAsPossible, is_among_ends}
+use Rattle.chr_ops.specs.News.{is_one_of}
+use Rattle.chr_ops.specs.working.Covering.{end_ranges, IsLaid, AreAsLongAsPossible}
 use Rattle.chr_ops.proofs.RangeLookups.{ranges_apart}
 use Rattle.chr_ops.proofs.RangesLaid.{lifted, fresh_begin, laid_disjoint, joined_longest, joined_covers}
 use Rattle.chr_ops.proofs.covered.Covered.cover.Goals as goal
@@ -48,4 +49,4 @@ returns-clause-covers c = λ q.
     joined_covers c.self.inside.ends c.args.ids.now c.lay.new.ends c.self.invariant
     (λ k a. ap (λ rs. covers rs k) c.self.view_is ∙ c.requires k a) laid c.join_beside.new.ends
     c.join_beside.ensures q
-    ∙ ap (λ rs. covers rs q || is_among_ends c.args.ids.now q) c.self.view_is
+    ∙ ap (λ rs. covers rs q || is_one_of c.args.ids.now q) c.self.view_is

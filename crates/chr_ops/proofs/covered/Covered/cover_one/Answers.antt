@@ -1,6 +1,7 @@
 use Rattle.std.proofs.Common.{rules, arith, ap, ◌∙◌, ◌≡◌, ◌+◌, ◌^◌, ◌||◌, [], ◌∷◌}
 use Rattle.chr_ops.specs.Summaries.{covers}
-use Rattle.chr_ops.specs.working.Covering.{IsPutIn, is_among_ends}
+use Rattle.chr_ops.specs.News.{is_one_of}
+use Rattle.chr_ops.specs.working.Covering.{IsPutIn}
 use Rattle.chr_ops.proofs.RangeLookups.{ranges_apart}
 use Rattle.chr_ops.proofs.OnePutIn.{covered_before, covered_last}
 use Rattle.chr_ops.proofs.covered.Covered.cover_one.Goals as goal
@@ -35,7 +36,7 @@ returns-in-Some-clause-covers c = λ q.
     let next : c.in-Some.number ≡ id.number + 1 = search rules in
     let covered = covered_before c.self.inside.ends id c.self.invariant new c.put_in.new.ends c.join_at.new.ends put
     (rw next at c.join_at.ensures) in
-    covered.1 q ∙ ap (λ rs. covers rs q || is_among_ends (id ∷ []) q) c.self.view_is
+    covered.1 q ∙ ap (λ rs. covers rs q || is_one_of (id ∷ []) q) c.self.view_is
 
 pub returns-in-Some-clause-apart : goal.returns-in-Some-clause-apart
 returns-in-Some-clause-apart c =
@@ -54,7 +55,7 @@ returns-in_default-clause-covers c = λ q.
     let put : IsPutIn c.self.inside.ends id c.put_in.new.ends = search rules in
     let last : id.number + 1 ≡ 2 ^ 64 = search (rules, arith) in
     let covered = covered_last c.self.inside.ends id c.self.invariant new c.put_in.new.ends put last in
-    covered.1 q ∙ ap (λ rs. covers rs q || is_among_ends (id ∷ []) q) c.self.view_is
+    covered.1 q ∙ ap (λ rs. covers rs q || is_one_of (id ∷ []) q) c.self.view_is
 
 pub returns-in_default-clause-apart : goal.returns-in_default-clause-apart
 returns-in_default-clause-apart c =

@@ -7,7 +7,7 @@ use Rattle.chr_ops.specs.declared.limits.TheConstants.{MAX_TOLD}
 use Rattle.chr_ops.specs.Operations.{IsOperationBag, told_atoms}
 use Rattle.chr_ops.specs.declared.id.OpId.{OpId}
 use Rattle.chr_ops.specs.Summaries.{covers}
-use Rattle.chr_ops.specs.working.Covering.{is_among_ends}
+use Rattle.chr_ops.specs.News.{is_one_of}
 use Rattle.chr_ops.proofs.Keeping.{just_put, kept_insert, put_back}
 use Rattle.chr_ops.proofs.op_set.OpSet.add_new.Goals as goal
 
@@ -76,7 +76,7 @@ invariant_of-self-2 c =
     let room = subst (λ b. c.self.inside.told + size b ≤ MAX_TOLD) (sym told)
     (subst (λ n. n + size c.args.op.1 ≤ MAX_TOLD) (sym counted) c.requires.room) in
     let covers : (q : OpId) → covers c.cover_one.new.self q
-    ≡ (covers c.self.inside.covered q || is_among_ends (id ∷ []) q) = search rules in
+    ≡ (covers c.self.inside.covered q || is_one_of (id ∷ []) q) = search rules in
     rw (atoms, put)
     (kept_insert c.self.inside.told c.self.inside.covered c.cover_one.new.self m id bag c.self.invariant new sized room
     c.cover_one.ensures.apart covers)
