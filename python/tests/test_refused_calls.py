@@ -57,7 +57,6 @@ MANY = (
         for line in operation(1, place, f"{ATOMS} times {values(value)}")
     ),
 )
-SHARED = (*ONE, *operation(1, 2, values(4, 8)), *operation(2, 1, values(6)))
 SHOWN = f"shown: {values(3)}"
 LEASE = f"lease 4: {values(3, 5, 9)}"
 
@@ -90,6 +89,13 @@ def entered(entries: int, steps: int) -> State:
     """What a book holds after so many steps, each of which makes eight atoms of one. A stopped `settle` is entered."""
     pool = counted(a=4 - steps, b=1 + 8 * steps)
     return (f"entries {entries}", "told 5", *operation(1, 1, counted(a=4, b=1)), f"lease 1: {pool}")
+
+
+def by_a_seat(*told: str, shown: str) -> Call:
+    """What was told, an operation each, comes to rest by workers, or else by calls of the seat."""
+    before = tuple(line for number, atoms in enumerate(told, 1) for line in operation(1, number, atoms))
+    rested = (f"rested: {shown}", f"shown: {shown}")
+    return Call(before, {DONE: (rested,), REFUSED: (rested[1:],)}, workers=True)
 
 
 def worked(told: State, whole: str) -> Call:
@@ -142,11 +148,7 @@ TABLE: Mapping[str, Call] = {
     "step_part": unchanged((LEASE,), done(4, values(3, 5, 9), values(3, 9))),
     "rest_board": worked(THREE, values(3, 5, 9)),
     "rest_board_in_parts": worked(MANY, ", ".join(f"{ATOMS} times {values(value)}" for value in VALUES)),
-    "settle_with": Call(
-        SHARED,
-        {DONE: ((f"rested: {values(3)}", *SHARED, SHOWN),), REFUSED: ((*SHARED, SHOWN),)},
-        workers=True,
-    ),
+    "settle_with": by_a_seat("a, b", counted(a=3), counted(a=2, b=1), shown=counted(b=50)),
 }
 
 

@@ -12,7 +12,7 @@ use crate::reply::Reply;
 use chr_base::bag::Bag;
 use chr_base::derivation::Step;
 use chr_join::{Done, Lease};
-use chr_ops::{Added, Op, Summary};
+use chr_ops::{Op, Summary};
 use chr_replica::{Board, Refusal};
 use std::alloc::{AllocError, Global};
 
@@ -24,11 +24,8 @@ fn tell(alloc: Global, board: &mut Board, op: &Op) -> Result<Reply, Refusal>
     ensures refused { IfErr result (RefusesAct (program_on board.old) board.old.replica (Act.Tell op.now)) }
     ensures err { OnErr result (board.new ≡ board.old) }
 {
-    match board.tell(alloc, op.copy(alloc)?) {
-        Ok(Added::New) => Ok(Reply::Told(Added::New)),
-        Ok(Added::Again) => Ok(Reply::Told(Added::Again)),
-        Err(refusal) => Err(refusal),
-    }
+    let added = board.tell(alloc, op.copy(alloc)?)?;
+    Ok(Reply::Told(added))
 }
 
 fn merge(alloc: Global, board: &mut Board, ops: &OpList) -> Result<Reply, Refusal>
@@ -39,10 +36,8 @@ fn merge(alloc: Global, board: &mut Board, ops: &OpList) -> Result<Reply, Refusa
     ensures refused { IfErr result (RefusesAct (program_on board.old) board.old.replica (Act.Merge ops.now)) }
     ensures err { OnErr result (board.new ≡ board.old) }
 {
-    match board.merge(alloc, ops.as_slice()) {
-        Ok(count) => Ok(Reply::Merged(count)),
-        Err(refusal) => Err(refusal),
-    }
+    let count = board.merge(alloc, ops.as_slice())?;
+    Ok(Reply::Merged(count))
 }
 
 fn take_step(board: &mut Board, step: &Step) -> Result<Reply, Refusal>
@@ -53,10 +48,8 @@ fn take_step(board: &mut Board, step: &Step) -> Result<Reply, Refusal>
     ensures refused { IfErr result (RefusesAct (program_on board.old) board.old.replica (Act.Step step.now)) }
     ensures err { OnErr result (board.new ≡ board.old) }
 {
-    match board.step(step) {
-        Ok(()) => Ok(Reply::Stepped),
-        Err(refusal) => Err(refusal),
-    }
+    board.step(step)?;
+    Ok(Reply::Stepped)
 }
 
 fn take(alloc: Global, board: &mut Board, part: &Bag) -> Result<Reply, Refusal>
@@ -66,10 +59,8 @@ fn take(alloc: Global, board: &mut Board, part: &Bag) -> Result<Reply, Refusal>
     ensures refused { IfErr result (RefusesAct (program_on board.old) board.old.replica (Act.Take part.now)) }
     ensures err { OnErr result (board.new ≡ board.old) }
 {
-    match board.take(alloc, part) {
-        Ok(lease) => Ok(Reply::Leased(lease)),
-        Err(refusal) => Err(refusal),
-    }
+    let lease = board.take(alloc, part)?;
+    Ok(Reply::Leased(lease))
 }
 
 fn take_parts(alloc: Global, board: &mut Board, count: u32) -> Result<Reply, Refusal>
@@ -80,10 +71,8 @@ fn take_parts(alloc: Global, board: &mut Board, count: u32) -> Result<Reply, Ref
     ensures refused { IfErr result (RefusesAct (program_on board.old) board.old.replica (Act.TakeParts count)) }
     ensures err { OnErr result (board.new ≡ board.old) }
 {
-    match board.take_parts(alloc, count) {
-        Ok(leases) => Ok(Reply::LeasedParts(LeaseList::of(leases))),
-        Err(refusal) => Err(refusal),
-    }
+    let leases = board.take_parts(alloc, count)?;
+    Ok(Reply::LeasedParts(LeaseList::of(leases)))
 }
 
 fn put(alloc: Global, board: &mut Board, done: &Done) -> Result<Reply, Refusal>
@@ -108,10 +97,8 @@ fn recall(board: &mut Board, number: u64) -> Result<Reply, Refusal>
     ensures refused { IfErr result (RefusesAct (program_on board.old) board.old.replica (Act.Recall number)) }
     ensures err { OnErr result (board.new ≡ board.old) }
 {
-    match board.recall(number) {
-        Ok(()) => Ok(Reply::Recalled),
-        Err(refusal) => Err(refusal),
-    }
+    board.recall(number)?;
+    Ok(Reply::Recalled)
 }
 
 fn settle(board: &mut Board) -> Reply
@@ -130,10 +117,8 @@ fn show(alloc: Global, board: &Board) -> Result<Reply, Refusal>
         Does (program_on board.now) board.now.replica Act.Show reply board.now.replica) }
     ensures refused { IfErr result (RefusesAct (program_on board.now) board.now.replica Act.Show) }
 {
-    match board.show(alloc) {
-        Ok(bag) => Ok(Reply::Shown(bag)),
-        Err(refusal) => Err(refusal),
-    }
+    let bag = board.show(alloc)?;
+    Ok(Reply::Shown(bag))
 }
 
 fn summary(alloc: Global, board: &Board) -> Result<Reply, AllocError>
@@ -231,16 +216,12 @@ fn take_with_copy(alloc: Global, board: &mut Board, part: &Bag) -> Result<(Reply
     ensures err { OnErr result (board.new ≡ board.old) }
 {
     let spare = part.copy(alloc)?;
-    match board.take(alloc, part) {
-        Ok(lease) => {
-            let copy = Lease {
-                number: lease.number,
-                part: spare,
-            };
-            Ok((Reply::Leased(lease), Reply::Leased(copy)))
-        }
-        Err(refusal) => Err(refusal),
-    }
+    let lease = board.take(alloc, part)?;
+    let copy = Lease {
+        number: lease.number,
+        part: spare,
+    };
+    Ok((Reply::Leased(lease), Reply::Leased(copy)))
 }
 
 /// What the board answers to an act, twice, or why it does not take it.

@@ -1,8 +1,10 @@
 //! Acts on boards and calls of books, with the program of the least value. Where memory runs out a test ends.
-use chr_acts::{Act, Book, Entry, Reply, carry_out};
+mod copies;
+
+use chr_acts::{Act, Book, Entry, OpList, Reply, carry_out};
 use chr_base::bag::Bag;
-use chr_join::{Accepted, Coverage, accept};
-use chr_ops::{Added, Op, OpId};
+use chr_join::{Accepted, Coverage, Done, Lease, accept};
+use chr_ops::{Added, IdRange, Op, OpId, Summary};
 use chr_replica::{Board, Refusal};
 use chr_testing::atoms::{atom, bag_of_values, step as step_on};
 use chr_testing::texts::{MINIMUM, weighed_of};
@@ -16,12 +18,19 @@ use std::thread::Threads;
 enum Ask {
     /// To tell these by the operation 1 of origin 1.
     Tell(&'static [i64]),
+    /// To merge operations of origin 2, by their numbers, each of which tells one value.
+    Merge(&'static [(u64, i64)]),
     /// To take the step that keeps the first value and removes the second.
     Step(i64, i64),
     Take(&'static [i64]),
+    TakeParts(u32),
+    /// To put back what comes of a lease of these values under this number.
+    Put(u64, &'static [i64]),
     Recall(u64),
     Settle,
     Show,
+    Summary,
+    Lacks(&'static [IdRange]),
     LeastLease,
 }
 
@@ -29,12 +38,20 @@ enum Ask {
 #[derive(Clone, Copy)]
 enum Said {
     Told(Added),
+    Merged(u64),
+    Stepped,
     /// A part is leased out under this number.
     Leased(u64),
+    /// Parts are, under these.
+    LeasedParts(&'static [u64]),
+    WasPut,
     Recalled,
     Settled(u64),
     /// The store of these values is shown.
     Shown(&'static [i64]),
+    Summed(&'static [IdRange]),
+    /// The operations of these origins and numbers are lacked.
+    Lacked(&'static [(u32, u64)]),
     LeastLease(Option<u64>),
     Refused(Refusal),
 }
@@ -51,35 +68,89 @@ fn store(rt: &impl Abort, alloc: Global, values: &[i64]) -> Bag {
     bag_of_values(alloc, values).expect(rt, "memory")
 }
 
-/// The operation 1 of origin 1, which tells these values.
-fn operation(rt: &impl Abort, alloc: Global, values: &[i64]) -> Op {
-    let id = OpId {
-        origin: 1,
-        number: 1,
-    };
+/// The operation of this origin and number, which tells these values.
+fn operation(rt: &impl Abort, alloc: Global, origin: u32, number: u64, values: &[i64]) -> Op {
+    let id = OpId { origin, number };
     Op::of(id, store(rt, alloc, values)).expect(rt, "an operation")
 }
 
-fn act(rt: &impl Abort, alloc: Global, ask: Ask) -> Act {
+fn operations(rt: &impl Abort, alloc: Global, rows: &[(u64, i64)]) -> OpList {
+    let mut ops = Vec::new(alloc);
+    for (number, value) in rows {
+        ops.push(operation(rt, alloc, 2, *number, &[*value]))
+            .expect(rt, "memory");
+    }
+    OpList::of(ops)
+}
+
+/// What comes of a lease of these values under this number.
+fn done(rt: &(impl Abort + Threads + Sync), alloc: Global, number: u64, values: &[i64]) -> Done {
+    let part = store(rt, alloc, values);
+    let done = accepted(rt, alloc).rest_part(alloc, Lease { number, part });
+    done.ok().expect(rt, "memory")
+}
+
+/// The summary of ranges, none of which is empty.
+fn summary(rt: &impl Abort, alloc: Global, given: &[IdRange]) -> Summary {
+    let mut ranges = Vec::new(alloc);
+    ranges.extend_from_slice(given).expect(rt, "memory");
+    let all = ranges.iter().all(|range| range.lo <= range.hi);
+    assert!(rt; all, "an empty range");
+    Summary::of(ranges).expect(rt, "memory")
+}
+
+fn act(rt: &(impl Abort + Threads + Sync), alloc: Global, ask: Ask) -> Act {
     match ask {
-        Ask::Tell(values) => Act::Tell(operation(rt, alloc, values)),
+        Ask::Tell(values) => Act::Tell(operation(rt, alloc, 1, 1, values)),
+        Ask::Merge(rows) => Act::Merge(operations(rt, alloc, rows)),
         Ask::Step(kept, removed) => Act::Step(step_on(1, &[atom(0, &[kept]), atom(0, &[removed])])),
         Ask::Take(values) => Act::Take(store(rt, alloc, values)),
+        Ask::TakeParts(parts) => Act::TakeParts(parts),
+        Ask::Put(number, values) => Act::Put(done(rt, alloc, number, values)),
         Ask::Recall(number) => Act::Recall(number),
         Ask::Settle => Act::Settle,
         Ask::Show => Act::Show,
+        Ask::Summary => Act::Summary,
+        Ask::Lacks(ranges) => Act::Lacks(summary(rt, alloc, ranges)),
         Ask::LeastLease => Act::LeastLease,
     }
+}
+
+/// Whether the leases have just these numbers, in this order.
+fn have_numbers(leases: &[Lease], numbers: &[u64]) -> bool {
+    let mut all = leases.len() == numbers.len();
+    for (lease, number) in leases.iter().zip(numbers) {
+        all = all && lease.number == *number;
+    }
+    all
+}
+
+/// Whether the operations have just these ids, in this order.
+fn have_ids(ops: &[Op], ids: &[(u32, u64)]) -> bool {
+    let mut all = ops.len() == ids.len();
+    for (op, (origin, number)) in ops.iter().zip(ids) {
+        let id = op.id();
+        all = all && id.origin == *origin && id.number == *number;
+    }
+    all
 }
 
 /// Whether this is replied.
 fn is_said(rt: &impl Abort, alloc: Global, reply: &Reply, expected: Said) -> bool {
     match (reply, expected) {
         (Reply::Told(added), Said::Told(other)) => *added == other,
+        (Reply::Merged(count), Said::Merged(other)) => *count == other,
+        (Reply::Stepped, Said::Stepped) => true,
         (Reply::Leased(lease), Said::Leased(number)) => lease.number == number,
+        (Reply::LeasedParts(leases), Said::LeasedParts(numbers)) => {
+            have_numbers(leases.as_slice(), numbers)
+        }
+        (Reply::WasPut, Said::WasPut) => true,
         (Reply::Recalled, Said::Recalled) => true,
         (Reply::Settled(steps), Said::Settled(other)) => *steps == other,
         (Reply::Shown(bag), Said::Shown(values)) => bag.is_same(&store(rt, alloc, values)),
+        (Reply::Summed(summary), Said::Summed(ranges)) => summary.ranges() == ranges,
+        (Reply::Lacked(ops), Said::Lacked(ids)) => have_ids(ops.as_slice(), ids),
         (Reply::LeastLease(number), Said::LeastLease(other)) => *number == other,
         (Reply::Refused(refusal), Said::Refused(other)) => *refusal == other,
         _ => false,
@@ -141,6 +212,33 @@ const LEAST_LEASES: [(Ask, Said); 9] = [
 #[test]
 fn the_least_lease_is_told(rt: HostRuntime) {
     expect_replied(&rt, rt.alloc(), &LEAST_LEASES);
+}
+
+/// The id of the operation that is told, and those of two that are merged.
+const TOLD: IdRange = IdRange {
+    origin: 1,
+    lo: 1,
+    hi: 1,
+};
+
+const MERGED: IdRange = IdRange {
+    origin: 2,
+    lo: 1,
+    hi: 2,
+};
+
+const SUMMED: [(Ask, Said); 6] = [
+    (Ask::Tell(&[5]), Said::Told(Added::New)),
+    (Ask::Merge(&[(1, 7), (2, 8)]), Said::Merged(2)),
+    (Ask::Summary, Said::Summed(&[TOLD, MERGED])),
+    (Ask::Lacks(&[TOLD]), Said::Lacked(&[(2, 1), (2, 2)])),
+    (Ask::Lacks(&[MERGED, TOLD]), Said::Lacked(&[])),
+    (Ask::Lacks(&[]), Said::Lacked(&[(1, 1), (2, 1), (2, 2)])),
+];
+
+#[test]
+fn ids_are_summed_up_and_what_they_leave_out_is_lacked(rt: HostRuntime) {
+    expect_replied(&rt, rt.alloc(), &SUMMED);
 }
 
 /// The place of the entry of a call, with ample memory.

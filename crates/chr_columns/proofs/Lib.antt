@@ -22,4 +22,4 @@ pub mod OffEnd
 pub mod Tidying
 pub mod Resuming
 pub mod Running
-pub mod Together
+pub mod Local

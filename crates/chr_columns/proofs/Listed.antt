@@ -1,12 +1,12 @@
 -- The atoms in tables as a list, and how often each stands there.
-use Rattle.std.specs.Prelude.{Some, None, Option}
+use Rattle.std.specs.Prelude.{Some, None, Option, Result, Ok, Err, OnOk}
 use Rattle.std.proofs.Common.{◌≡◌, ℕ, zero, suc, ◌+◌, List, [], ◌∷◌, ◌++◌, map, get_or, take, cond, Bool, true, false}
 use Rattle.std.proofs.Common.{refl, sym, ap, ◌∙◌, arith, append_assoc}
 use Rattle.std.specs.Ordering.{eq_by_cmp}
 use Rattle.chr_base.specs.declared.atom.Atom.{Atom}
 use Rattle.chr_base.specs.Atoms.{atom_cmp}
 use Rattle.chr_base.specs.FinBag.{◌⊕◌, count_in}
-use Rattle.chr_base.specs.Stores.{store_of}
+use Rattle.chr_base.specs.Stores.{Store, store_of}
 use Rattle.chr_base.proofs.Atoms.{same_is}
 use Rattle.chr_base.proofs.FinBags.{of_list-none}
 use Rattle.chr_base.proofs.Stores.{store_of-append, plus_empty}
@@ -33,6 +33,14 @@ store_live (t ∷ ts) = store_of-append (live_atoms t.rows) (live_in ts) ∙ ap 
 -- the store of both
 pub store_all : (ts : List Contents) (fresh : List Atom) → store_of (live_in ts ++ fresh) ≡ all_of ts fresh
 store_all ts fresh = store_of-append (live_in ts) fresh ∙ ap (λ s. s ⊕ store_of fresh) (store_live ts)
+
+-- and of what stood before them
+pub pushed_all : {A E : Type 0} (r : Result A E) (ts : List Contents) (fresh xs ys : List Atom) (now : Store)
+    → all_of ts fresh ≡ now → OnOk r (ys ≡ xs ++ live_in ts ++ fresh) → OnOk r (store_of ys ≡ store_of xs ⊕ now)
+pushed_all (Ok x) ts fresh xs ys now is e =
+    ap store_of (e ∙ append_assoc xs (live_in ts) fresh) ∙ store_of-append xs (live_in ts ++ fresh)
+    ∙ ap (λ s. store_of xs ⊕ s) (store_all ts fresh ∙ is)
+pushed_all (Err x) ts fresh xs ys now is e = tt
 
 live_turn : (ts : List Contents) (fresh : List Atom) → live_atoms (rows_in_turn ts fresh) ≡ live_in ts ++ fresh
 live_turn [] fresh = live_fresh fresh

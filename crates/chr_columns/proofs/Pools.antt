@@ -1,5 +1,5 @@
 -- The store of a pool: what is at rest and what is fresh.
-use Rattle.std.proofs.Common.{◌≡◌, List, [], ◌++◌, map, length, drop, arith, sym, ap, subst, ◌∙◌}
+use Rattle.std.proofs.Common.{◌≡◌, ℕ, ◌≤◌, List, [], ◌++◌, map, length, drop, arith, sym, ap, subst, ◌∙◌}
 use Rattle.std.specs.Prelude.{Result, Ok, Err, OnOk, Bool, IsTrue, ◌↔◌}
 use Rattle.std.specs.Bool.{OnTrue}
 use Rattle.std.proofs.lemmas.Bool.{OnTrue_at}
@@ -11,9 +11,9 @@ use Rattle.chr_base.proofs.FinBags.{of_list-none}
 use Rattle.chr_base.specs.Rewriting.{IsAtRest}
 use Rattle.chr_base.specs.Rules.{Step, StepOn, HasInstance, Valuation, heads_at, atoms_at}
 use Rattle.chr_base.specs.Sameness.{parts_of}
-use Rattle.chr_base.specs.Stores.{Store, store_of}
+use Rattle.chr_base.specs.Stores.{Store, store_of, size}
 use Rattle.chr_base.proofs.Stores.{same_store, count_plus, count_minus, within_more, plus_comm, plus_assoc, plus_empty}
-use Rattle.chr_base.proofs.Stores.{store_of-append}
+use Rattle.chr_base.proofs.Stores.{store_of-append, weight_plus, size_weight, size_store_of}
 use Rattle.chr_base.proofs.Steps.{removed_heads, removed_within}
 use Rattle.chr_tables.specs.Contents.{Contents}
 use Rattle.chr_plans.specs.Grids.{contents}
@@ -104,3 +104,12 @@ joined_unfired o e f = absurd (let g : Ok AtRest ≡ Ok Fired = sym e ∙ f in c
 -- where memory was refused none has fired
 pub refused_unfired : {E : Type 0} (o : Result Outcome E) (x : E) → o ≡ Err x → o ≡ Ok Fired → ⊥
 refused_unfired {E} o x e f = absurd (let g : ◌≡◌ {A = Result Outcome E} (Err x) (Ok Fired) = sym e ∙ f in cc)
+
+-- there are at least as many atoms as fresh ones
+pub fresh_within : (s : Store) (xs : List Atom) (n : ℕ) → n ≡ length xs → n ≤ size (s ⊕ store_of xs)
+fresh_within s xs n e =
+    let a = size_weight (s ⊕ store_of xs) in
+    let b = weight_plus (λ _. 1) s (store_of xs) in
+    let c = size_weight (store_of xs) in
+    let d = size_store_of xs in
+    omega (arith, a, b, c, d, e)

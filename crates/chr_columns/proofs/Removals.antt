@@ -137,27 +137,25 @@ less_none s = same_store _ _ (λ q. (let a = count_minus s (store_of []) q in le
     omega (arith, a, b)))
 
 -- whether all are there is told atom by atom
-pub all_within : (s : Store) (xs fresh : List Atom)
-    → ((i : ℕ) (d : Atom) → i < length xs → count_in atom_cmp (get_or xs i d) xs ≤ count s
-    (get_or xs i d) + count_in atom_cmp (get_or xs i d) fresh)
-    → IsWithin (store_of xs) (s ⊕ store_of fresh)
-all_within s xs fresh each q =
-    let both = λ (p : Atom). total-append (λ x. cond (eq_by_cmp atom_cmp p x) 1 0) (items s) fresh in
-    let w = within_each atom_cmp atom_total xs (items s ++ fresh) (λ i d l.
-    (let a = each i d l in let b = both (get_or xs i d) in let e = count-items s (get_or xs i d) in
-    omega (arith, a, b, e))) q in
+pub all_within : (s : Store) (xs : List Atom)
+    → ((i : ℕ) (d : Atom) → i < length xs → count_in atom_cmp (get_or xs i d) xs ≤ count s (get_or xs i d))
+    → IsWithin (store_of xs) s
+all_within s xs each q =
+    let w = within_each atom_cmp atom_total xs (items s) (λ i d l.
+    (let a = each i d l in let e = count-items s (get_or xs i d) in omega (arith, a, e))) q in
     let a = count-of_list atom_total xs q in
-    let b = count_plus s (store_of fresh) q in
-    let d = count-of_list atom_total fresh q in
     let e = count-items s q in
-    let f = both q in
-    omega (arith, w, a, b, d, e, f)
+    omega (arith, w, a, e)
 
-pub too_few : (s : Store) (xs fresh : List Atom) (a : Atom)
-    → count s a + count_in atom_cmp a fresh < count_in atom_cmp a xs → IsWithin (store_of xs) (s ⊕ store_of fresh) → ⊥
-too_few s xs fresh a few w =
+pub too_few : (s : Store) (xs : List Atom) (a : Atom) → ¬ (count_in atom_cmp a xs ≤ count s a)
+    → IsWithin (store_of xs) s → ⊥
+too_few s xs a few w =
     let k = w a in
     let b = count-of_list atom_total xs a in
-    let d = count_plus s (store_of fresh) a in
-    let e = count-of_list atom_total fresh a in
-    absurd (omega (arith, few, k, b, d, e))
+    few (omega (arith, k, b))
+
+-- what is fresh counts beside what is at rest
+pub counted_both : (s : Store) (fresh : List Atom) (a : Atom)
+    → count (s ⊕ store_of fresh) a ≡ count s a + count_in atom_cmp a fresh
+counted_both s fresh a =
+    let b = count_plus s (store_of fresh) a in let d = count-of_list atom_total fresh a in omega (arith, b, d)

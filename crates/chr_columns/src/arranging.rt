@@ -6,10 +6,9 @@ ghost use Rattle.chr_columns.specs.working.Listing.{all_of};
 
 use crate::groups::Group;
 use crate::joint::{Joint, joint_of};
-use crate::listing::push_live;
+use crate::listing::push_stored;
 use crate::rested::Rested;
 use chr_base::atom::Atom;
-use chr_base::lists::push_copies;
 use chr_plans::key::Order;
 use chr_plans::plan::Plan;
 use std::alloc::{AllocError, Global};
@@ -114,8 +113,7 @@ pub(crate) fn arranged(
     ensures { IfOk result (λ atoms. store_of atoms.items ≡ all_of rested.now.tables.tables.items fresh.now) }
 {
     let mut atoms = Vec::with_capacity(alloc, fresh.len())?;
-    push_live(&mut atoms, &rested.tables.tables)?;
-    push_copies(&mut atoms, fresh)?;
+    push_stored(&mut atoms, &rested.tables.tables, fresh)?;
     arrange(rested, &mut atoms);
     Ok(atoms)
 }

@@ -5,11 +5,11 @@ ghost use Rattle.chr_base.specs.FinBag as bag;
 ghost use Rattle.chr_base.specs.FinBag.{◌⊕◌, ◌⊖◌, IsWithin};
 ghost use Rattle.chr_base.specs.Rewriting.{IsAtRest, Runs};
 ghost use Rattle.chr_base.specs.Rules.{HasInstance, HasNoStep, Step, StepOn};
-ghost use Rattle.chr_base.specs.Stores.{store_of};
+ghost use Rattle.chr_base.specs.Stores.{count, store_of};
 ghost use Rattle.chr_columns.specs.Rows.{AreApart};
 ghost use Rattle.chr_columns.specs.Stepping.{StepsOrStays};
 
-use crate::listing::bag_of;
+use crate::listing::{bag_of, push_stored};
 use crate::making::rested_for;
 use crate::own::find_in;
 use crate::rested::{Found, Rested};
@@ -110,6 +110,13 @@ impl Columns {
         self.rested.has_all(&self.fresh, atoms)
     }
 
+    /// Whether so many such atoms are there. It takes no memory.
+    pub fn has_as_often(&self, atom: &Atom, wanted: usize) -> bool
+        ensures { IsTrue result ↔ wanted ≤ count self.now atom.now }
+    {
+        self.rested.has_as_often(&self.fresh, atom, wanted)
+    }
+
     /// Takes all of these atoms out, or none where as a multiset they are not there. It takes no memory.
     pub fn remove(&mut self, atoms: &[Atom]) -> bool
         ensures there { IsTrue result ↔ IsWithin (store_of atoms.now) self.old }
@@ -125,6 +132,14 @@ impl Columns {
         ensures { IfOk result (λ b. b ≡ self.now) }
     {
         bag_of(alloc, &self.rested.tables.tables, &self.fresh)
+    }
+
+    /// Adds copies of the atoms at the end, in whatever order: all of them, or none where memory is refused.
+    pub fn push_atoms(&self, atoms: &mut Vec<Atom>) -> Result<(), AllocError>
+        ensures ok { OnOk result (store_of atoms.new.items ≡ store_of atoms.old.items ⊕ self.now) }
+        ensures err { OnErr result (atoms.new.items ≡ atoms.old.items) }
+    {
+        push_stored(atoms, &self.rested.tables.tables, &self.fresh)
     }
 
     /// An instance of the rule that is there: its heads in place order, and the different rows of this pool in which

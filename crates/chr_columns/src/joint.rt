@@ -1,7 +1,8 @@
-//! The arguments by which the heads of rules are joined.
-ghost use Rattle.std.specs.Prelude.{◌≡◌, IfSome, All};
+//! The arguments by which the atoms of rules hang together.
+ghost use Rattle.std.specs.Prelude.{◌≡◌, All};
 ghost use Rattle.std.specs.Bool.{OnTrue};
-ghost use Rattle.chr_plans.specs.Joined.{column_in, value_in, HasThere, IsJoined};
+ghost use Rattle.chr_base.specs.Rules.{heads_of};
+ghost use Rattle.chr_plans.specs.Joined.{column_in, value_in, HasThere, IsLocal};
 
 use arrayvec::ArrayVec;
 use chr_base::atom::{Atom, SymbolId};
@@ -15,8 +16,8 @@ type Choice = [Option<usize>; MAX_SYMBOLS];
 /// For each symbol, by its number, the column of the argument by which rules are joined, counted from 0: in each of the
 /// rules one variable stands there in all heads. A symbol past the last has the first column.
 #[derive(Drop)]
-pub(crate) struct Joint {
-    pub(crate) columns: ArrayVec<usize, MAX_SYMBOLS>,
+pub struct Joint {
+    pub columns: ArrayVec<usize, MAX_SYMBOLS>,
 }
 
 /// The column of a symbol.
@@ -36,22 +37,22 @@ fn has_there(columns: &[usize], variable: u8, pattern: &Pattern) -> bool
     }
 }
 
-/// Whether the variable stands there in all of these heads.
-fn all_have(columns: &[usize], variable: u8, heads: &[Pattern]) -> bool
-    ensures { OnTrue result (All (HasThere columns.now variable) heads.now) }
+/// Whether the variable stands there in all of these patterns.
+fn all_have(columns: &[usize], variable: u8, patterns: &[Pattern]) -> bool
+    ensures { OnTrue result (All (HasThere columns.now variable) patterns.now) }
 {
-    let [head, heads @ ..] = heads else {
+    let [pattern, patterns @ ..] = patterns else {
         return true;
     };
-    if !has_there(columns, variable, head) {
+    if !has_there(columns, variable, pattern) {
         return false;
     }
-    all_have(columns, variable, heads)
+    all_have(columns, variable, patterns)
 }
 
 /// Whether it stands there in all heads of the rule.
-fn joins(columns: &[usize], variable: u8, rule: &Rule) -> bool
-    ensures { OnTrue result (IsJoined columns.now rule.now) }
+fn heads_have(columns: &[usize], variable: u8, rule: &Rule) -> bool
+    ensures { OnTrue result (All (HasThere columns.now variable) (heads_of rule.now)) }
 {
     if !all_have(columns, variable, &rule.kept) {
         return false;
@@ -59,28 +60,47 @@ fn joins(columns: &[usize], variable: u8, rule: &Rule) -> bool
     all_have(columns, variable, &rule.removed)
 }
 
-/// Whether some variable stands there in all heads.
-fn is_joined(columns: &[usize], rule: &Rule) -> bool
-    ensures { OnTrue result (IsJoined columns.now rule.now) }
-{
+/// The variable that stands there in the first head.
+fn first_variable(columns: &[usize], rule: &Rule) -> Option<u8> {
     let head = rule.head_at(0);
     match head.args.get(column_in(columns, head.symbol)) {
-        Some(Term::Variable(x)) => joins(columns, *x, rule),
-        _ => false,
+        Some(Term::Variable(x)) => Some(*x),
+        _ => None,
     }
 }
 
-/// Whether each of the rules is joined by these columns.
-fn are_joined(columns: &[usize], rules: &[Rule]) -> bool
-    ensures { OnTrue result (All (IsJoined columns.now) rules.now) }
+/// Whether some variable stands there in all heads of each of the rules.
+fn are_joined(columns: &[usize], rules: &[Rule]) -> bool {
+    rules.iter().all(|rule| match first_variable(columns, rule) {
+        Some(variable) => heads_have(columns, variable, rule),
+        None => false,
+    })
+}
+
+/// Whether some variable stands there in all heads, and in all atoms of the body.
+fn is_local(columns: &[usize], rule: &Rule) -> bool
+    ensures { OnTrue result (IsLocal columns.now rule.now) }
+{
+    let Some(variable) = first_variable(columns, rule) else {
+        return false;
+    };
+    if !heads_have(columns, variable, rule) {
+        return false;
+    }
+    all_have(columns, variable, &rule.body)
+}
+
+/// Whether it is so for each of the rules.
+fn are_local(columns: &[usize], rules: &[Rule]) -> bool
+    ensures { OnTrue result (All (IsLocal columns.now) rules.now) }
 {
     let [rule, rules @ ..] = rules else {
         return true;
     };
-    if !is_joined(columns, rule) {
+    if !is_local(columns, rule) {
         return false;
     }
-    are_joined(columns, rules)
+    are_local(columns, rules)
 }
 
 /// The column that is chosen for a symbol.
@@ -119,16 +139,36 @@ fn first_term(choice: &Choice, rule: &Rule) -> Option<Term> {
     None
 }
 
-/// Chooses a column with the variable for each head that has none. Whether all heads have the variable then.
+/// Whether the term is this variable.
+fn is_variable(term: Option<&Term>, variable: u8) -> bool {
+    match term {
+        Some(Term::Variable(x)) => *x == variable,
+        _ => false,
+    }
+}
+
+/// Chooses a column with the variable for a pattern that has none. Whether the variable stands in its column then.
+fn choose_for(choice: &mut Choice, pattern: &Pattern, variable: u8) -> bool {
+    if let Some(column) = chosen(choice, pattern.symbol) {
+        return is_variable(pattern.args.get(column), variable);
+    }
+    let Some(column) = column_of(pattern, variable) else {
+        return false;
+    };
+    choose(choice, pattern.symbol, column);
+    true
+}
+
+/// Chooses a column with the variable for each head and each atom of the body that has none. Whether all heads have one
+/// then.
 fn choose_all(choice: &mut Choice, rule: &Rule, variable: u8) -> bool {
     for place in 0..rule.places() {
-        let head = rule.head_at(place);
-        if chosen(choice, head.symbol).is_none() {
-            let Some(column) = column_of(head, variable) else {
-                return false;
-            };
-            choose(choice, head.symbol, column);
+        if !choose_for(choice, rule.head_at(place), variable) {
+            return false;
         }
+    }
+    for pattern in &rule.body {
+        choose_for(choice, pattern, variable);
     }
     true
 }
@@ -193,9 +233,7 @@ fn columns_of(choice: &Choice) -> ArrayVec<usize, MAX_SYMBOLS> {
 }
 
 /// The columns by which all of these rules are joined, where they are found; none for no rules.
-pub(crate) fn joint_of(rules: &[Rule]) -> Option<Joint>
-    ensures { IfSome result (λ joint. All (IsJoined joint.columns.items) rules.now) }
-{
+pub fn joint_of(rules: &[Rule]) -> Option<Joint> {
     if rules.is_empty() {
         return None;
     }
@@ -209,10 +247,18 @@ pub(crate) fn joint_of(rules: &[Rule]) -> Option<Joint>
 
 impl Joint {
     /// The value by which an atom is joined: its argument in that column, 0 where it has none there.
-    pub(crate) fn value(&self, atom: &Atom) -> i64
+    pub fn value(&self, atom: &Atom) -> i64
         ensures { result ≡ value_in self.now.columns.items atom.now }
     {
         let column = column_in(&self.columns, atom.symbol);
         atom.args.get(column).copied().unwrap_or(0)
+    }
+
+    /// Whether in each of the rules one variable stands in these columns in the atoms of the body too, so that steps
+    /// lead from atoms of one value to atoms of that value.
+    pub fn keeps_values(&self, rules: &[Rule]) -> bool
+        ensures { OnTrue result (All (IsLocal self.now.columns.items) rules.now) }
+    {
+        are_local(&self.columns, rules)
     }
 }

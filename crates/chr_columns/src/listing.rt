@@ -41,13 +41,31 @@ pub(crate) fn push_live(atoms: &mut Vec<Atom>, tables: &[Table]) -> Result<(), A
     Ok(())
 }
 
+/// Adds copies of the atoms that live in the tables at the end, and then of the fresh ones: all of them, or none where
+/// memory is refused.
+pub(crate) fn push_stored(
+    atoms: &mut Vec<Atom>,
+    tables: &[Table],
+    fresh: &[Atom],
+) -> Result<(), AllocError>
+    ensures ok { OnOk result (atoms.new.items ≡ atoms.old.items ++ live_in tables.now ++ fresh.now) }
+    ensures err { OnErr result (atoms.new.items ≡ atoms.old.items) }
+{
+    let before = atoms.len();
+    push_live(atoms, tables)?;
+    if push_copies(atoms, fresh).is_err() {
+        atoms.truncate(before);
+        return Err(AllocError);
+    }
+    Ok(())
+}
+
 /// The atoms in the tables, and the fresh ones, as a bag.
 pub(crate) fn bag_of(alloc: Global, tables: &[Table], fresh: &[Atom]) -> Result<Bag, AllocError>
     ensures { IfOk result (λ b. b ≡ all_of tables.now fresh.now) }
 {
     let mut atoms = Vec::new(alloc);
-    push_live(&mut atoms, tables)?;
-    push_copies(&mut atoms, fresh)?;
+    push_stored(&mut atoms, tables, fresh)?;
     Bag::of(atoms)
 }
 

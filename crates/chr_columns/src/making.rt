@@ -18,6 +18,7 @@ use crate::rested::Rested;
 use arrayvec::ArrayVec;
 use chr_base::limits::MAX_ARITY;
 use chr_base::rule::Rule;
+use chr_plans::constants::has_constants;
 use chr_plans::key::Order;
 use chr_plans::plan::{Lookup, Partner, Plan};
 use chr_plans::planning::plan_of;
@@ -146,6 +147,7 @@ fn plan_for(
     Ok(Plan {
         rule: number,
         place,
+        has_constants: has_constants(rule.head_at(place)),
         lookups,
     })
 }

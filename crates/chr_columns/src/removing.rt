@@ -125,15 +125,22 @@ impl Rested {
         true
     }
 
+    /// Whether so many such atoms are there, at rest or fresh. It takes no memory.
+    pub(crate) fn has_as_often(&self, fresh: &[Atom], atom: &Atom, wanted: usize) -> bool
+        requires { IsRested self.now }
+        ensures { IsTrue result ↔ wanted ≤ count (stored self.now ⊕ store_of fresh.now) atom.now }
+    {
+        let found = count_of(fresh, atom);
+        found >= wanted || self.count_at_rest(atom) >= wanted - found
+    }
+
     /// Whether all of these atoms are there, as a multiset, at rest or fresh. It takes no memory.
     pub(crate) fn has_all(&self, fresh: &[Atom], atoms: &[Atom]) -> bool
         requires { IsRested self.now }
         ensures { IsTrue result ↔ IsWithin (store_of atoms.now) (stored self.now ⊕ store_of fresh.now) }
     {
         for atom in atoms {
-            let wanted = count_of(atoms, atom);
-            let found = count_of(fresh, atom);
-            if found < wanted && self.count_at_rest(atom) < wanted - found {
+            if !self.has_as_often(fresh, atom, count_of(atoms, atom)) {
                 return false;
             }
         }

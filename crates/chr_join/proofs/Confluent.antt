@@ -25,7 +25,7 @@ use Rattle.chr_overlaps.specs.declared.cases.Case.{Case}
 use Rattle.chr_overlaps.specs.OverlapLists.{IsOverlapOf}
 use Rattle.chr_overlaps.specs.CaseLists.{AreCases, AreListed, case_at}
 use Rattle.chr_join.specs.Sides.{IsJoinable, SideEnds}
-use Rattle.chr_join.specs.Verdicts.{HasJoinableCases, IsAccepted}
+use Rattle.chr_join.specs.Verdicts.{HasJoinableCasesBy, IsAccepted}
 use Rattle.chr_join.specs.declared.refused.Failure.{Failure}
 use Rattle.chr_join.specs.declared.refused.Cause.{Cause}
 use Rattle.chr_join.specs.declared.refused.Cause.TheVariants as cause
@@ -87,7 +87,7 @@ accepted_joins laws rules n h i j r1 r2 first second ordered m is =
     by o joinable.1 (subst (λ n. slice_get rules n ≡ Some r1) place1 first)
     (subst (λ n. slice_get rules n ≡ Some r2) place2 second) found.4
   where
-    by : (o : Overlap) {k : ℕ} → HasJoinableCases rules o k → slice_get rules (o.first - 1) ≡ Some r1
+    by : (o : Overlap) {k : ℕ} → HasJoinableCasesBy Joint rules o k → slice_get rules (o.first - 1) ≡ Some r1
         → slice_get rules (o.second - 1) ≡ Some r2 → o.matching.items ≡ m → OverlapIsJoinable rules r1 r2 m
     by o cj f s e =
         let are = cj.listed in

@@ -42,9 +42,9 @@ use Rattle.chr_join.specs.declared.refused.Cause.{Cause}
 use Rattle.chr_join.specs.declared.refused.Cause.TheVariants as cause
 use Rattle.chr_join.specs.declared.refused.Failure.{Failure}
 use Rattle.chr_join.specs.declared.refused.TooManyTypes.{TooManyTypes}
-use Rattle.chr_join.specs.Explanations.{IsSideOf, Explains, ExplainsFirst, IsRefusal}
+use Rattle.chr_join.specs.Explanations.{IsSideOf, Explains, ExplainsFirstBy, IsRefusal}
 use Rattle.chr_join.specs.Sides.{IsJoinable, SideEnds}
-use Rattle.chr_join.specs.Verdicts.{HasJoinableCases, HaveJoinableCases, IsAccepted}
+use Rattle.chr_join.specs.Verdicts.{HasJoinableCasesBy, HaveJoinableCasesBy, IsAccepted}
 use Rattle.chr_join.proofs.CaseSteps.{CaseLaws, case_steps}
 use Rattle.chr_join.proofs.Lists.{picked}
 use Rattle.chr_join.specs.Once.{VerdictsExist}
@@ -190,10 +190,10 @@ module _ (rules : List Rule) (w : Atom → ℕ) (lowers : RulesLower w rules)
       ]
 
   abbrev Refuses : Overlap → Type 0
-  Refuses o = ((f : Failure) × (f.overlap ≡ o) × ExplainsFirst rules f) ⊎ ((n : ℕ) × IsTooMany rules o n)
+  Refuses o = ((f : Failure) × (f.overlap ≡ o) × ExplainsFirstBy Joint rules f) ⊎ ((n : ℕ) × IsTooMany rules o n)
 
   abbrev Joins : Overlap → Type 0
-  Joins o = (n : ℕ) × HasJoinableCases rules o n
+  Joins o = (n : ℕ) × HasJoinableCasesBy Joint rules o n
 
   first_case : (o : Overlap) (cs : List Case) → AreCases rules o cs → FirstOf (IsJoinable rules) (Unjoined o) cs
       → Refuses o
@@ -229,7 +229,7 @@ module _ (rules : List Rule) (w : Atom → ℕ) (lowers : RulesLower w rules)
       by (inr m) = inr (inr m)
 
   -- how many cases all of them have
-  counted : (os : List Overlap) → All Joins os → (n : ℕ) × HaveJoinableCases rules os n
+  counted : (os : List Overlap) → All Joins os → (n : ℕ) × HaveJoinableCasesBy Joint rules os n
   counted [] all = (0, refl)
   counted (o ∷ os) all =
       let h = all 0 o (omega arith) in

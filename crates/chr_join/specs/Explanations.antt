@@ -44,9 +44,6 @@ IsRefusalBy coverage rules (cause.TooManyTypes t) =
 IsRefusalBy coverage rules cause.Memory = ⊤
 
 -- by joint cases
-abbrev pub ExplainsFirst : List Rule → Failure → Type 0
-ExplainsFirst rules f = ExplainsFirstBy Joint rules f
-
 abbrev pub IsRefusal : List Rule → Cause → Type 0
 IsRefusal rules e = IsRefusalBy Joint rules e
 

@@ -43,19 +43,6 @@ pub record IsFirstCaseBy (coverage : Coverage) (rules : List Rule) (o : Overlap)
   pub listed : AreCasesBy coverage rules o (before ++ c ∷ after)
   pub joinable : All (IsJoinable rules) before
 
--- ---- by joint cases
-
-abbrev pub HasJoinableCases : List Rule → Overlap → ℕ → Type 0
-HasJoinableCases rules o n = HasJoinableCasesBy Joint rules o n
-
-abbrev pub HaveJoinableCases : List Rule → List Overlap → ℕ → Type 0
-HaveJoinableCases rules os n = HaveJoinableCasesBy Joint rules os n
-
+-- by joint cases
 abbrev pub IsAccepted : List Rule → ℕ → Type 0
 IsAccepted rules n = IsAcceptedBy Joint rules n
-
-abbrev pub IsFirst : List Rule → Overlap → Type 0
-IsFirst rules o = IsFirstBy Joint rules o
-
-abbrev pub IsFirstCase : List Rule → Overlap → Case → Type 0
-IsFirstCase rules o c = IsFirstCaseBy Joint rules o c

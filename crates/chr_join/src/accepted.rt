@@ -21,13 +21,15 @@ use std::alloc::{AllocFailed, Global};
 use std::sync::Arc;
 
 /// A program that lowers, and of whose overlaps no case fails. So it is confluent: a store of 64-bit values has one
-/// normal form, however the rules are applied. Its stores hash the keys of their atoms under a seed.
+/// normal form, however the rules are applied. Its stores hash the keys of their atoms under a seed, and are kept in so
+/// many pools at most.
 #[derive(Drop)]
 pub struct Accepted {
     weighed: Arc<Weighed>,
     coverage: Coverage,
     cases: u64,
     seed: u64,
+    pools: usize,
     ghost accepted: { ∥ IsAcceptedBy coverage (rules_in (arc_value weighed)) cases ∥₁ },
     ghost confluent: { Confluent (rules_in (arc_value weighed)) } by { Confluent-prop (rules_in (arc_value weighed)) },
 }
@@ -36,8 +38,8 @@ impl Accepted {
     ghost use Rattle.std.specs.Prelude.{◌≡◌, ℕ, IfOk, IfErr};
     ghost use Rattle.chr_join.specs.AcceptedPrograms.{weighed_of, program_in, coverage_of, cases_of};
 
-    /// A program of whose overlaps no case fails, with the number of all cases. Its seed is `FIXED_SEED`. Where memory
-    /// is refused, the program is handed back.
+    /// A program of whose overlaps no case fails, with the number of all cases. Its seed is `FIXED_SEED`, and each of
+    /// its stores is kept in one pool. Where memory is refused, the program is handed back.
     pub(crate) fn new(
         alloc: Global,
         weighed: Weighed,
@@ -57,6 +59,7 @@ impl Accepted {
             coverage,
             cases,
             seed: FIXED_SEED,
+            pools: 1,
         })
     }
 
@@ -74,6 +77,28 @@ impl Accepted {
     /// The seed under which stores hash keys.
     pub fn seed(&self) -> u64 {
         self.seed
+    }
+
+    /// The same, whose stores are kept in so many pools at most, for as many threads. No answer depends on it.
+    pub fn in_pools(mut self, most: usize) -> Accepted
+        ensures weighed { weighed_of result ≡ weighed_of self }
+        ensures coverage { coverage_of result ≡ coverage_of self }
+        ensures cases { cases_of result ≡ cases_of self }
+    {
+        self.pools = most;
+        self
+    }
+
+    /// In how many pools stores are kept at most.
+    pub fn pools(&self) -> usize {
+        self.pools
+    }
+
+    /// The program with its weights, as it is shared.
+    pub fn shared(&self) -> &Arc<Weighed>
+        ensures { arc_value result.now ≡ weighed_of self.now }
+    {
+        &self.weighed
     }
 
     /// The program with its weights.

@@ -31,8 +31,9 @@ value_there v x (t ∷ ts) zero e = let f : t ≡ Variable x =
     (let g : ◌≡◌ {A = Option Term} (Some t) (Some (Variable x)) = e in cc) in ap (term_value v) f
 value_there v x (t ∷ ts) (suc n) e = value_there v x ts n e
 
--- each head has it
-shared_value : (columns : List ℕ) (v : Valuation) (x : ℕ) (ps : List Pattern) → All (HasThere columns x) ps → (q : Atom)
+-- each of these atoms has it
+pub shared_value : (columns : List ℕ) (v : Valuation) (x : ℕ) (ps : List Pattern) → All (HasThere columns x) ps →
+    (q : Atom)
     → 0 < count_in atom_cmp q (atoms_at v ps) → value_in columns q ≡ v x
 shared_value columns v x [] h q l = absurd (omega (arith, l))
 shared_value columns v x (p ∷ ps) h q l = by (eq_by_cmp atom_cmp q (atom_at v p)) refl

@@ -9,3 +9,4 @@ pub mod ActiveAtoms
 pub mod SeatedRows
 pub mod Around
 pub mod Joined
+pub mod RuledOut

@@ -10,7 +10,7 @@ use Rattle.chr_plans.specs.declared.rows.Seat.{Seat}
 use Rattle.chr_plans.specs.declared.plan.Plan.{Plan}
 use Rattle.chr_plans.specs.Rows.{Tables, Columns}
 use Rattle.chr_plans.specs.declared.react.Standing.{Standing}
-use Rattle.chr_plans.specs.Plans.{FirstNoneAbove, first_place}
+use Rattle.chr_plans.specs.Plans.{FirstNoneAbove, first_place, IsPlan, FitsTables, partners_of}
 use Rattle.chr_plans.specs.Seats.{IsSeated, NoPartners, head, seat}
 use Rattle.chr_plans.specs.Reactions.{FitsPlan, NoneBy, NoneAboveBy, MayResume, Reacts, first_row}
 
@@ -26,6 +26,14 @@ module _ (rules : List Rule) (rows : Tables) (columns : Columns) (a : Atom) (pla
   is_rule =
       let f = rw at at fit in
       rw (rule ∙ get_or_from_slice_get rules plan.rule f.0 r f.1) f.1
+
+  -- and the plan is one of it
+  pub fits_here : (plan.place < length (heads_of r)) × IsPlan r plan.place (partners_of plan.lookups.items)
+      × FitsTables r plan.lookups.items rows columns
+  fits_here =
+      let f = rw at at fit in
+      subst (λ x. (plan.place < length (heads_of x)) × IsPlan x plan.place (partners_of plan.lookups.items)
+      × FitsTables x plan.lookups.items rows columns) (sym (same_Some r f.0 (sym is_rule ∙ f.1))) (f.2, f.3, f.4)
 
   pub reacts : (heads : List Atom) (seats : List Seat) → IsSeated r rows plan.place heads seats → head heads plan.place
       ≡ a → length seats ≡ length (heads_of r)

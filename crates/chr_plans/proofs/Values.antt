@@ -34,7 +34,7 @@ abbrev pub term_at : Rule → ℕ → ℕ → Term
 term_at r q c = get_or (pattern_at r q).args.items c no_term
 
 -- the head at a place, and its argument in a column
-head_value : (r : Rule) (v : Valuation) (q : ℕ) → head (heads_at v r) q ≡ atom_at v (pattern_at r q)
+pub head_value : (r : Rule) (v : Valuation) (q : ℕ) → head (heads_at v r) q ≡ atom_at v (pattern_at r q)
 head_value r v q = get_or-map (atom_at v) (heads_of r) q no_pattern
 
 pub argument_value : (r : Rule) (v : Valuation) (hs : List Atom) (q c : ℕ) → heads_at v r ≡ hs → argument (head hs q) c

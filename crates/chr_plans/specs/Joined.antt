@@ -25,6 +25,10 @@ HasThere columns x p = slice_get p.args.items (column_in columns p.symbol) ≡ S
 abbrev pub IsJoined : List ℕ → Rule → Type 0
 IsJoined columns r = (x : ℕ) × All (HasThere columns x) (heads_of r)
 
+-- and in all atoms of its body, so that a step leads from atoms of one value to atoms of that value
+abbrev pub IsLocal : List ℕ → Rule → Type 0
+IsLocal columns r = (x : ℕ) × All (HasThere columns x) (heads_of r) × All (HasThere columns x) r.body.items
+
 -- no atom of the one store has the value of an atom of the other
 abbrev pub AreApart : List ℕ → Store → Store → Type 0
 AreApart columns s t = (a b : Atom) → 0 < count s a → 0 < count t b → ¬ (value_in columns a ≡ value_in columns b)

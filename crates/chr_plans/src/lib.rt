@@ -7,6 +7,7 @@
 #![tactic(auto)]
 
 pub mod actives;
+pub mod constants;
 pub mod key;
 pub mod plan;
 pub mod planning;

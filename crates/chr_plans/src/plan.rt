@@ -64,10 +64,11 @@ pub struct Lookup {
 }
 
 /// The plan of an occurrence: a rule, by its number from 0, a head place of it, and the look-ups of the partners in
-/// order.
+/// order. Where the head there has constants an atom without them has none, and nothing is looked up for it.
 #[derive(Debug, Default, Drop)]
 pub struct Plan {
     pub rule: usize,
     pub place: usize,
+    pub has_constants: bool,
     pub lookups: ArrayVec<Lookup, MAX_HEADS>,
 }

@@ -2,6 +2,7 @@
 ghost use Rattle.std.specs.Prelude.{◌≡◌, ℕ, ◌<◌, length, slice_get, Some, IfSome, IfNone};
 ghost use Rattle.chr_plans.specs.Reactions.{FitsPlan, Reacts, NoneBy, MayResume, first_row};
 
+use crate::constants::is_ruled_out;
 use crate::plan::Plan;
 use crate::rows::{Rows, Seat};
 use crate::search::find_partners;
@@ -92,6 +93,9 @@ pub fn react<R: Rows>(
     for j in first_plan(from)..plans.len() {
         let plan = &plans[j];
         let rule = &rules[plan.rule];
+        if is_ruled_out(plan, rule, active) {
+            continue;
+        }
         let row = row_in(from, j);
         if find_partners(
             rows,

@@ -1,14 +1,12 @@
 //! A seat has its book rested by workers. Where that is refused memory, calls of the seat bring the parts back.
 ghost use Rattle.std.specs.Prelude.{◌≡◌};
 
+use crate::pools::EIGHT;
 use crate::printing::{answer, call, count, print_bag, print_operation};
-use crate::sets::{Minima, operations};
 use chr_acts::{Book, Reply};
 use chr_base::program::Program;
-use chr_ops::OpSet;
-use chr_replica_testing::accepted_of;
+use chr_replica_testing::{accepted_of, op_of};
 use chr_shared::{Naming, Opening, Receipt, Seat, Settled, Shared};
-use chr_testing::texts::MINIMUM;
 use chr_workers::OpenGate;
 use std::alloc::Global;
 use std::marker::Brand;
@@ -19,30 +17,24 @@ const WORKERS: u32 = 2;
 
 const PARTS: u32 = 3;
 
-/// What the seat tells.
-const TOLD: [Minima; 3] = [(1, 1, &[5, 3, 9]), (1, 2, &[8, 4]), (2, 1, &[6])];
+/// What the seat tells. At rest there are eight atoms for each `a`: one that is lost, or comes twice, is seen.
+const TOLD: [&str; 3] = ["a, b", "a, a, a", "a, b, a"];
 
-fn tell<J: Naming>(rt: &impl Wait, alloc: Global, shared: &Shared<J>, seat: &mut Seat<J>) {
-    for op in operations(alloc, &TOLD) {
-        let _ = shared.tell(rt, alloc, seat, op);
-    }
-}
-
-/// All operations of the book.
-fn print_told<J: Naming>(
+fn tell<J: Naming>(
     rt: &(impl Print + Wait),
     alloc: Global,
     program: &Program,
     shared: &Shared<J>,
     seat: &mut Seat<J>,
-) -> Option<()> {
-    let none = OpSet::new(alloc).summary(alloc).ok()?;
-    if let Reply::Lacked(ops) = &shared.lacks(rt, alloc, seat, none).ok()?.reply {
-        for op in ops.as_slice() {
-            print_operation(rt, alloc, program, op);
+) {
+    let mut number = 0u64;
+    for atoms in TOLD {
+        number = number.wrapping_add(1);
+        if let Some(op) = op_of(alloc, EIGHT, number, atoms) {
+            print_operation(rt, alloc, program, &op);
+            let _ = shared.tell(rt, alloc, seat, op);
         }
     }
-    Some(())
 }
 
 /// The store of a receipt, where one was shown.
@@ -69,20 +61,35 @@ fn rest<J: Naming>(
     }
 }
 
-/// The least leases that are out are recalled, one after another, until there is none.
+/// The least lease that is out.
+fn least_lease<J: Naming>(
+    rt: &impl Wait,
+    alloc: Global,
+    shared: &Shared<J>,
+    seat: &mut Seat<J>,
+) -> Option<u64> {
+    let Ok(receipt) = shared.least_lease(rt, alloc, seat) else {
+        return None;
+    };
+    match &receipt.reply {
+        Reply::LeastLease(number) => *number,
+        _ => None,
+    }
+}
+
+/// All leases that are out are recalled.
 fn recall<J: Naming>(
     rt: &(impl Print + Wait),
     alloc: Global,
     shared: &Shared<J>,
     seat: &mut Seat<J>,
-) -> Option<()> {
+) {
     for _ in 0..PARTS {
-        if let Reply::LeastLease(Some(number)) = shared.least_lease(rt, alloc, seat).ok()?.reply {
+        if let Some(number) = least_lease(rt, alloc, shared, seat) {
             count(rt, "lease", number);
             let _ = shared.recall(rt, alloc, seat, number);
         }
     }
-    Some(())
 }
 
 fn show<J: Naming>(
@@ -108,17 +115,15 @@ fn run<J: Naming, R: Print + Threads + Wait + Sync>(
 {
     let (shared, mut seats) = Shared::<J>::open(alloc, opening).ok()?;
     let seat = seats.first_mut()?;
-    tell(rt, alloc, &shared, seat);
-    print_told(rt, alloc, program, &shared, seat);
+    tell(rt, alloc, program, &shared, seat);
     rest(rt, alloc, program, &shared, seat);
     recall(rt, alloc, &shared, seat);
-    print_told(rt, alloc, program, &shared, seat);
     show(rt, alloc, program, &shared, seat);
     Some(())
 }
 
 pub fn make(rt: &(impl Print + Threads + Wait + Sync), alloc: Global) -> Option<()> {
-    let accepted = accepted_of(rt, alloc, MINIMUM)?;
+    let accepted = accepted_of(rt, alloc, EIGHT)?;
     let book = Book::open(alloc, accepted.clone().ok()?).ok()?;
     let opening = Opening::of(alloc, book, 1).ok()?;
     run::<Brand, _>(rt, alloc, accepted.program(), opening)

@@ -7,7 +7,7 @@ use Rattle.std.specs.FinMap as map
 use Rattle.chr_base.specs.declared.program.Program.{Program}
 use Rattle.chr_base.specs.FinBag as bag
 use Rattle.chr_base.specs.FinBag.{◌⊕◌, ◌⊖◌, IsWithin}
-use Rattle.chr_base.specs.Stores.{Store}
+use Rattle.chr_base.specs.Stores.{Store, stores_sum}
 use Rattle.chr_base.specs.Rules.{Step}
 use Rattle.chr_base.specs.Programs.{rules_of}
 use Rattle.chr_base.specs.Rewriting.{Reaches}
@@ -19,7 +19,7 @@ use Rattle.chr_ops.specs.Joins.{fresh}
 use Rattle.chr_ops.proofs.Told.{told_store-insert, told_store-empty}
 use Rattle.chr_ops.proofs.Unions.{told_store-union}
 use Rattle.chr_rewrite.proofs.DerivationLemmas.{LeadsTo-steps}
-use Rattle.chr_replica.specs.Leases.{leased_store, stores_sum}
+use Rattle.chr_replica.specs.Leases.{leased_store}
 use Rattle.chr_replica.specs.Replicas.{Replica, IsSound}
 use Rattle.chr_replica.specs.Laws.{FirstIsSound, TellKeeps, MergeKeeps, StepKeeps, TakeKeeps, TakePartsKeeps, PutKeeps}
 use Rattle.chr_replica.specs.Laws.{RecallKeeps, SettleKeeps}

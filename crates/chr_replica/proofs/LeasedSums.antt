@@ -13,10 +13,10 @@ use Rattle.std.specs.FinMap.{find, put, nat_cmp-IsAntisymmetric}
 use Rattle.std.specs.FinMap.Entries.{by_order}
 use Rattle.chr_base.specs.FinBag as bag
 use Rattle.chr_base.specs.FinBag.{◌⊕◌}
-use Rattle.chr_base.specs.Stores.{Store}
+use Rattle.chr_base.specs.Stores.{Store, stores_sum}
 use Rattle.chr_base.proofs.Stores.{plus_comm, plus_assoc, plus_empty}
 use Rattle.chr_ops.proofs.Told.{swap_front}
-use Rattle.chr_replica.specs.Leases.{Leases, stores_sum, leased_store, with_parts, AreBelow}
+use Rattle.chr_replica.specs.Leases.{Leases, leased_store, with_parts, AreBelow}
 
 -- the parts of entries
 abbrev parts_of : List (ℕ × Store) → List Store

@@ -7,10 +7,10 @@ use Rattle.std.proofs.lemmas.Bool.Decides.{nat_tests}
 use Rattle.chr_base.specs.declared.atom.Atom.{Atom}
 use Rattle.chr_base.specs.FinBag as bag
 use Rattle.chr_base.specs.FinBag.{◌⊕◌}
-use Rattle.chr_base.specs.Stores.{Store, store_of, size, count}
+use Rattle.chr_base.specs.Stores.{Store, store_of, size, count, stores_sum}
 use Rattle.chr_base.proofs.Stores.{store_of-append, plus_assoc, plus_comm, plus_empty, same_store, count_plus}
 use Rattle.chr_base.proofs.Stores.{count_empty, size_store_of}
-use Rattle.chr_replica.specs.Leases.{stores_sum, parts_in, AreEven, AreNumbered}
+use Rattle.chr_replica.specs.Leases.{parts_in, AreEven, AreNumbered}
 use Rattle.chr_join.specs.declared.lease.Lease.{Lease}
 use Rattle.chr_replica.specs.working.Cuts.{IsNear, AreCut}
 

@@ -9,7 +9,7 @@ use Rattle.std.specs.FinMap as map
 use Rattle.chr_base.specs.declared.atom.Atom.{Atom}
 use Rattle.chr_base.specs.FinBag as bag
 use Rattle.chr_base.specs.FinBag.{◌⊕◌, ◌⊖◌, IsWithin}
-use Rattle.chr_base.specs.Stores.{Store, store_of}
+use Rattle.chr_base.specs.Stores.{Store, store_of, stores_sum}
 use Rattle.chr_base.specs.Values.{Each}
 use Rattle.chr_base.proofs.Each.{each_of_list, list_of_each}
 use Rattle.chr_base.proofs.Stores.{same_store, count_plus, count_minus, store_of-items}
@@ -17,7 +17,7 @@ use Rattle.chr_base.specs.declared.program.Program.{Program}
 use Rattle.chr_base.specs.declared.derivation.Step.{Step as StepValue}
 use Rattle.chr_base.specs.Programs.{rules_of}
 use Rattle.chr_base.specs.Rules.{Step}
-use Rattle.chr_base.specs.Rewriting.{Reaches}
+use Rattle.chr_base.specs.Rewriting.{Reaches, IsAtRest}
 use Rattle.chr_base.specs.Sameness.{AreSame}
 use Rattle.chr_base.specs.Laws.{SameProgramsReachAlike}
 use Rattle.chr_ops.specs.declared.id.OpId.{OpId}
@@ -33,11 +33,12 @@ use Rattle.chr_weights.specs.WeighedPrograms.{program_of}
 use Rattle.chr_weights.specs.declared.weighed.Weighed.{Weighed}
 use Rattle.chr_rewrite.specs.Derivations.{LeadsTo}
 use Rattle.chr_rewrite.specs.Pools.{TookSteps}
-use Rattle.chr_rewrite.proofs.StepCounts.{exact_count}
+use Rattle.chr_rewrite.proofs.StepCounts.{exact_count, none_taken}
+use Rattle.chr_shards.specs.Ruled.{Ruled}
 use Rattle.chr_replica.specs.declared.limits.TheConstants.{LAST_LEASE}
-use Rattle.chr_replica.specs.Leases.{Leases, stores_sum, with_parts}
+use Rattle.chr_replica.specs.Leases.{Leases, with_parts}
 use Rattle.chr_replica.specs.working.Cuts.{IsNear}
-use Rattle.chr_replica.specs.working.States.{replica}
+use Rattle.chr_replica.specs.working.States.{replica, IsBoard}
 use Rattle.chr_replica.proofs.PartsCut.{near_even}
 use Rattle.chr_join.specs.declared.accepted.Accepted.{Accepted}
 use Rattle.chr_replica.specs.Boards.{Held}
@@ -58,13 +59,9 @@ each_item p s b e = (
 )
 
 -- atoms that were put in are taken out again
-pub put_out : (b : Bool) (s s' s'' x y z : Store) → s' ≡ s ⊕ x → y ≡ x → z ≡ x → IsTrue b ↔ IsWithin y s'
-    → OnTrue b (s'' ≡ s' ⊖ z) → s'' ≡ s
-put_out true s s' s'' x y z put same again there taken =
-    taken ∙ (λ i. put i ⊖ again i) ∙ same_store _ _ (λ q. simp (count_plus, count_minus) (omega arith))
-put_out false s s' s'' x y z put same again there taken =
-    absurd (true≢false (sym (there.1 (subst (λ w. IsWithin w s') (sym same)
-    (subst (IsWithin x) (sym put) (λ q. simp count_plus (omega arith)))))))
+pub put_out : (s s' s'' x y : Store) → s' ≡ s ⊕ x → y ≡ x → s'' ≡ s' ⊖ y → s'' ≡ s
+put_out s s' s'' x y put again left =
+    left ∙ (λ i. put i ⊖ again i) ∙ same_store _ _ (λ q. simp (count_plus, count_minus) (omega arith))
 
 -- ---- what each event leaves
 
@@ -173,3 +170,20 @@ sound_either p s t (Err e) Q R keep stop ok err sound = stop e err sound
 pub same_board : (a : Accepted) (s t : Replica) → s ≡ t → ◌≡◌ {A = Held} (record { accepted = a; replica = s })
     (record { accepted = a; replica = t })
 same_board a s t e = λ i. record { accepted = a; replica = e i }
+
+-- a pool of the same program and store is the same
+pub same_ruled : (r u : Ruled) → r.weighed ≡ u.weighed → r.store ≡ u.store → r ≡ u
+same_ruled r u e f = λ i. record { weighed = e i; store = f i }
+
+-- a pool at rest stays as it is
+pub stays_where_at_rest : (p : Program) (s t : Store) (r : Result ℕ Stopped) → IsAtRest (Step (rules_of p)) s
+    → IfOk r (λ n. TookSteps p n s t) → IfErr r (λ e. TookSteps p e.steps s t)
+    → (t ≡ s) × IfOk r (λ n. n ≡ 0) × IfErr r (λ e. e.steps ≡ 0)
+stays_where_at_rest p s t (Ok n) rest ok err = let none = none_taken p n s t ok rest in (sym none.1, none.0, tt)
+stays_where_at_rest p s t (Err e) rest ok err =
+    let none = none_taken p e.steps s t err rest in (sym none.1, tt, none.0)
+
+-- steps that were not counted
+pub hastened_is : (p : Program) (o : Operations) (s t : Store) (l : Leases) (k : ℕ) → Reaches (Step (rules_of p)) s t
+    → (n : ℕ) × Settles p (replica o s l k) n (replica o t l k)
+hastened_is p o s t l k h = (h.0, record { pool = t; run = h.1; after = refl })

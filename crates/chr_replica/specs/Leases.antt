@@ -2,19 +2,12 @@
 use Rattle.std.specs.Prelude.{◌≡◌, ℕ, ◌+◌, ◌<◌, ◌≤◌, Some, List, [], ◌∷◌, map, All, ⊤}
 use Rattle.std.specs.Ordering.{nat_cmp}
 use Rattle.std.specs.FinMap as finite
-use Rattle.chr_base.specs.FinBag as bag
-use Rattle.chr_base.specs.FinBag.{◌⊕◌}
-use Rattle.chr_base.specs.Stores.{Store, size}
+use Rattle.chr_base.specs.Stores.{Store, size, stores_sum}
 use Rattle.chr_join.specs.declared.lease.Lease.{Lease}
 
 -- a finite map from lease numbers to parts
 abbrev pub Leases : Type 0
 Leases = finite.FinMap nat_cmp Store
-
--- the sum of stores
-abbrev pub stores_sum : List Store → Store
-stores_sum [] = bag.empty
-stores_sum (s ∷ ss) = s ⊕ stores_sum ss
 
 -- all leased parts together
 abbrev pub leased_store : Leases → Store

@@ -5,7 +5,7 @@ use Rattle.chr_base.specs.declared.program.Program.{Program}
 use Rattle.chr_base.specs.declared.derivation.Step.{Step as StepValue}
 use Rattle.chr_base.specs.FinBag as bag
 use Rattle.chr_base.specs.FinBag.{◌⊕◌, ◌⊖◌, IsWithin}
-use Rattle.chr_base.specs.Stores.{Store, size}
+use Rattle.chr_base.specs.Stores.{Store, size, stores_sum}
 use Rattle.chr_base.specs.Rules.{Step}
 use Rattle.chr_base.specs.Programs.{declarations, rules_of, declares_atom}
 use Rattle.chr_base.specs.Rewriting.{Runs, Reaches, IsAtRest}
@@ -15,7 +15,7 @@ use Rattle.chr_ops.specs.declared.limits.TheConstants.{MAX_TOLD}
 use Rattle.chr_ops.specs.Operations.{Operation, Operations, told_store, told_atoms, sum_of, IsNew}
 use Rattle.chr_ops.specs.Joins.{union, fresh, HasNoClash}
 use Rattle.chr_rewrite.specs.Derivations.{LeadsTo}
-use Rattle.chr_replica.specs.Leases.{Leases, stores_sum, leased_store, with_parts, AreBelow, AreEven}
+use Rattle.chr_replica.specs.Leases.{Leases, leased_store, with_parts, AreBelow, AreEven}
 use Rattle.chr_replica.specs.declared.limits.TheConstants.{LAST_LEASE}
 
 -- its operations, its pool, the parts that are leased out by their numbers, and the next lease number

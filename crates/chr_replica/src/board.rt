@@ -8,9 +8,9 @@ ghost use Rattle.chr_replica.specs.Boards.{program_on};
 
 use crate::laws::events_keep_replicas_sound;
 use crate::leases::Leases;
-use chr_columns::columns::Columns;
 use chr_join::Accepted;
 use chr_ops::{MAX_TOLD, OpSet};
+use chr_shards::Shards;
 use std::alloc::{AllocError, Global};
 use std::marker::Model;
 use std::sync::Arc;
@@ -27,26 +27,24 @@ pub use leasing::NotPut;
 pub struct Board {
     accepted: Arc<Accepted>,
     ops: OpSet,
-    pool: Columns,
+    pool: Shards,
     out: Leases,
     next: u64,
 }
 
 impl Model for Board {
     ghost use Rattle.std.specs.Arc.{arc_value};
-    ghost use Rattle.chr_join.specs.AcceptedPrograms.{program_in};
-    ghost use Rattle.chr_replica.specs.Replicas.{IsSound};
     ghost use Rattle.chr_replica.specs.Boards.{Held};
     ghost use Rattle.chr_replica.specs.working.Codes.{coded_held};
-    ghost use Rattle.chr_replica.specs.working.States.{replica};
+    ghost use Rattle.chr_replica.specs.working.States.{replica, IsBoard};
 
     ghost Value = { Held };
 
     ghost coded = { coded_held };
 
-    ghost view = { λ b. record { accepted = arc_value b.accepted; replica = replica b.ops b.pool b.out b.next } };
+    ghost view = { λ b. record { accepted = arc_value b.accepted; replica = replica b.ops b.pool.store b.out b.next } };
 
-    ghost invariant = { λ b. IsSound (program_in (arc_value b.accepted)) (replica b.ops b.pool b.out b.next) };
+    ghost invariant = { λ b. IsBoard (arc_value b.accepted) b.ops b.pool b.out b.next };
 }
 
 /// What is derived would be proved again in each crate that lets a board go.
@@ -69,7 +67,8 @@ impl Board {
         ensures replica { IfOk result (λ board. board.replica ≡ first) }
     {
         events_keep_replicas_sound();
-        let pool = Columns::seeded(alloc, accepted.seed(), accepted.program().rules())?;
+        let weighed = accepted.shared().clone()?;
+        let pool = Shards::open(alloc, weighed, accepted.seed(), accepted.pools())?;
         Ok(Board {
             accepted,
             ops: OpSet::new(alloc),

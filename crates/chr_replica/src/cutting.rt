@@ -1,7 +1,7 @@
 //! A store is cut into parts of even sizes.
 ghost use Rattle.std.specs.Prelude.{◌≡◌, ◌+◌, ◌<◌, ◌^◌, ◌/◌, length, All, IfOk};
-ghost use Rattle.chr_base.specs.Stores.{store_of, size};
-ghost use Rattle.chr_replica.specs.Leases.{stores_sum, parts_in, AreNumbered};
+ghost use Rattle.chr_base.specs.Stores.{store_of, size, stores_sum};
+ghost use Rattle.chr_replica.specs.Leases.{parts_in, AreNumbered};
 ghost use Rattle.chr_replica.specs.working.Cuts.{IsNear};
 
 use chr_base::atom::Atom;

@@ -8,11 +8,21 @@ use std::alloc::Global;
 use std::sync::Arc;
 use std::thread::Threads;
 
-/// The accepted program of a text, where it is one.
+/// The accepted program of a text, where it is one. Its stores are kept in one pool.
 pub fn accepted_of<R: Threads + Sync>(rt: &R, alloc: Global, text: &str) -> Option<Arc<Accepted>> {
+    accepted_in(rt, alloc, text, 1)
+}
+
+/// The same, whose stores are kept in so many pools at most.
+pub fn accepted_in<R: Threads + Sync>(
+    rt: &R,
+    alloc: Global,
+    text: &str,
+    pools: usize,
+) -> Option<Arc<Accepted>> {
     let weighed = weighed_of(alloc, text)?;
     let accepted = accept(rt, alloc, weighed, Coverage::Joint).ok()?;
-    Arc::new(alloc, accepted).ok()
+    Arc::new(alloc, accepted.in_pools(pools)).ok()
 }
 
 /// The operation of origin 1 and of up to eight atoms that the program of the first text declares.

@@ -191,7 +191,7 @@ pub program_opened : (a : Accepted) (n m : ℕ) (wanted : Wanted) (start : List 
 program_opened a n m wanted start verdict accepted f q g h commands answers answered =
     let rest : AnswersRest (declarations (program_in a)) (rules_of (program_in a)) commands start verdict
     (verdict ++ answers) = record { out = answers; answers = answered; out_is = refl } in
-    program_answered a a commands n m wanted start verdict (verdict ++ answers) accepted refl f q g h rest
+    program_answered a (program_in a) commands n m wanted start verdict (verdict ++ answers) accepted refl f q g h rest
 
 module _ (p : Program) (wanted : Wanted) (start : List Operations) (verdict : List ℕ)
     (opened : IsOpened p wanted start verdict) where

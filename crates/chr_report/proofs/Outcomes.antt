@@ -65,15 +65,16 @@ nothing_to_answer ds rules commands old before e =
     record { out = []; answers = refl; out_is = sym (append-nil before) } in r)
 
 -- the verdict's line and the answers
-pub program_answered : (a b : Accepted) (ls : List (List ℕ)) (n m : ℕ) (wanted : Wanted) (start : List Operations)
-    (before out : List ℕ) → IsAcceptedBy wanted.coverage (rules_of (program_in a)) (cases_of a) → b ≡ a
-    → n ≡ length (rules_of (program_in a)) → m ≡ cases_of a → before ≡ accepted_text n m ++ 10 ∷ []
+pub program_answered : (a : Accepted) (p : Program) (ls : List (List ℕ)) (n m : ℕ) (wanted : Wanted) (start : List
+    Operations)
+    (before out : List ℕ) → IsAcceptedBy wanted.coverage (rules_of (program_in a)) (cases_of a)
+    → p ≡ program_in a → n ≡ length (rules_of (program_in a)) → m ≡ cases_of a → before ≡ accepted_text n m ++ 10 ∷ []
     → start ≡ replicate wanted.replicas finmap.empty
-    → AnswersRest (declarations (program_in b)) (rules_of (program_in b)) ls start before out
+    → AnswersRest (declarations p) (rules_of p) ls start before out
     → IsAnswered (declarations (program_in a)) (rules_of (program_in a)) wanted ls out
-program_answered a b ls n m wanted start before out accepted e f q g h r =
+program_answered a p ls n m wanted start before out accepted e f q g h r =
     let k : AnswersRest (declarations (program_in a)) (rules_of (program_in a)) ls start before out =
-    subst (λ u. AnswersRest (declarations (program_in u)) (rules_of (program_in u)) ls start before out) e r in
+    subst (λ q. AnswersRest (declarations q) (rules_of q) ls start before out) e r in
     record {
       lowers = (weighed_of a).lowers;
       cases = cases_of a;

@@ -146,8 +146,6 @@ pub fn run<R: Read, W: Write>(
         Sharing::from_settings(settings),
         &input,
     )?;
-    match write_whole(writer, output.text.as_bytes()) {
-        Ok(()) => Ok(output.status),
-        Err(fault) => Err(fault),
-    }
+    write_whole(writer, output.text.as_bytes())?;
+    Ok(output.status)
 }

@@ -34,10 +34,11 @@ use std::thread::Threads;
 /// As many told atoms wait at most in a replica's pool, before those of one line more come.
 const MOST_WAITING: u64 = 1024;
 
-/// More than so many wait only where an exchange has brought them at once: then several workers may save time.
+/// Several workers may save time where more than so many wait.
 const WORTH_SHARING: u64 = 16_384;
 
-/// They rest a pool where this part of what its replica was told waits in it, or more: they cut all of it.
+/// A pool that is not kept in several is rested by workers where this part of what its replica was told waits in it, or
+/// more: they cut all of it.
 const LEAST_SHARE: u64 = 4;
 
 /// Replicas that answer command lines. `rested` has for each of them how many atoms it had been told when its pool was
@@ -90,11 +91,11 @@ impl Service {
     ) -> Result<Service, AllocError>
         requires { (1 ≤ replicas) × (replicas ≤ MAX_REPLICAS) }
         ensures ready { IfOk result IsBetweenLines }
-        ensures program { IfOk result (λ service. service.world.accepted ≡ accepted) }
+        ensures program { IfOk result (λ service. served service ≡ program_in accepted) }
         ensures operations { IfOk result (λ service. held service ≡ replicate replicas finite.empty) }
     {
         events_keep_replicas_sound();
-        let accepted = Arc::new(alloc, accepted)?;
+        let accepted = Arc::new(alloc, accepted.in_pools(sharing.workers as usize))?;
         Ok(Service {
             world: World::open(alloc, accepted, replicas)?,
             rested: noughts(alloc, replicas)?,
@@ -128,12 +129,20 @@ impl Service {
         }
     }
 
+    /// Whether a replica's pool is kept in several, which workers rest where they lie.
+    fn is_in_pools(&self, replica: u64) -> bool {
+        match self.world.board(replica) {
+            Some(board) => board.pools() > 1,
+            None => false,
+        }
+    }
+
     /// Whether several workers are asked for, and so much waits in a replica's pool that they may save time.
     fn is_worth_sharing(&self, replica: u64) -> bool {
         let waiting = self.waiting(replica);
         self.sharing.workers > 1
             && waiting > WORTH_SHARING
-            && waiting >= self.told(replica) / LEAST_SHARE
+            && (self.is_in_pools(replica) || waiting >= self.told(replica) / LEAST_SHARE)
     }
 
     /// Notes that a replica's pool is at rest.
@@ -216,21 +225,41 @@ impl Service {
     }
 
     /// Rests a replica's pool where many told atoms wait in it: where rules take them out, they leave memory as they
-    /// come. What an exchange brings at once is left to several workers, where they are asked for, until it is shown.
-    fn rest_many(&mut self, alloc: Global, replica: u64) -> Result<(), AllocError>
+    /// come. Where it is kept in several pools, more are left to wait for the workers; otherwise what an exchange
+    /// brings at once is left to them until it is shown.
+    fn rest_many<R: Threads + Wait + Sync>(
+        &mut self,
+        rt: &R,
+        alloc: Global,
+        replica: u64,
+    ) -> Result<(), AllocError>
         requires { IsBetweenLines self.old }
         ensures ready { OnOk result (IsBetweenLines self.new) }
         ensures program { self.new.world.accepted ≡ self.old.world.accepted }
         ensures operations { OnOk result (held self.new ≡ held self.old) }
     {
-        if self.waiting(replica) > MOST_WAITING && !self.is_worth_sharing(replica) {
+        let worth_sharing = self.is_worth_sharing(replica);
+        if self.is_in_pools(replica) {
+            return if worth_sharing {
+                self.settle_shared(rt, alloc, replica)
+            } else {
+                Ok(())
+            };
+        }
+        if self.waiting(replica) > MOST_WAITING && !worth_sharing {
             return self.settle_alone(alloc, replica);
         }
         Ok(())
     }
 
     /// Tells a replica an operation.
-    fn tell(&mut self, alloc: Global, replica: u64, op: Op) -> Result<Reply, AllocError>
+    fn tell<R: Threads + Wait + Sync>(
+        &mut self,
+        rt: &R,
+        alloc: Global,
+        replica: u64,
+        op: Op,
+    ) -> Result<Reply, AllocError>
         requires ready { IsBetweenLines self.old }
         requires declared { IsDeclared (served self.old) op }
         ensures ready { OnOk result (IsBetweenLines self.new) }
@@ -238,31 +267,64 @@ impl Service {
     {
         runs_keep_replicas_sound();
         let answer = self.world.tell(alloc, replica, op)?;
-        self.rest_many(alloc, replica)?;
+        self.rest_many(rt, alloc, replica)?;
         Ok(Reply::Answered(answer))
     }
 
     /// Merges operations into those of a replica.
-    fn merge(&mut self, alloc: Global, replica: u64, ops: Vec<Op>) -> Result<Reply, AllocError>
+    fn merge<R: Threads + Wait + Sync>(
+        &mut self,
+        rt: &R,
+        alloc: Global,
+        replica: u64,
+        ops: Vec<Op>,
+    ) -> Result<Reply, AllocError>
         requires ready { IsBetweenLines self.old }
         requires declared { All (IsDeclared (served self.old)) ops.items }
         ensures ready { OnOk result (IsBetweenLines self.new) }
         ensures answered { IsAnsweredAt self.old self.new replica (AnswersMerge ops.items) result }
     {
         let answer = self.act(alloc, &Event::At(replica, Act::Merge(OpList::of(ops))))?;
-        self.rest_many(alloc, replica)?;
+        self.rest_many(rt, alloc, replica)?;
         Ok(Reply::Answered(answer))
     }
 
     /// Gives a replica what another holds and it lacks.
-    fn sync(&mut self, alloc: Global, from: u64, to: u64) -> Result<Reply, AllocError>
+    fn sync<R: Threads + Wait + Sync>(
+        &mut self,
+        rt: &R,
+        alloc: Global,
+        from: u64,
+        to: u64,
+    ) -> Result<Reply, AllocError>
         requires { IsBetweenLines self.old }
         ensures ready { OnOk result (IsBetweenLines self.new) }
         ensures answered { IsAnswered self.old self.new (λ held. AnswersBetween held from to) result }
     {
-        let answer = self.act(alloc, &Event::Sync(from, to))?;
-        self.rest_many(alloc, to)?;
+        runs_keep_replicas_sound();
+        let answer = self.world.sync(alloc, from, to)?;
+        self.rest_many(rt, alloc, to)?;
         Ok(Reply::Synced(answer))
+    }
+
+    /// A replica's pool, which several threads put in order where several workers are asked for.
+    fn shown<R: Threads + Wait + Sync>(
+        &mut self,
+        rt: &R,
+        alloc: Global,
+        replica: u64,
+    ) -> Result<Answer, AllocError>
+        requires { IsBetweenLines self.old }
+        ensures ready { OnOk result (IsBetweenLines self.new) }
+        ensures program { self.new.world.accepted ≡ self.old.world.accepted }
+        ensures happens { IfOk result (λ answer.
+            Happens (served self.old) self.old.world.replicas (Event.At replica Act.Show) answer
+            self.new.world.replicas) }
+    {
+        if self.sharing.workers > 1 {
+            return self.world.show_by(rt, alloc, replica);
+        }
+        self.act(alloc, &Event::At(replica, Act::Show))
     }
 
     /// Rests a replica's pool and shows it.
@@ -278,7 +340,7 @@ impl Service {
             (AnswersShow (declarations (served self.old)) (rules_of (served self.old))) result }
     {
         self.settle(rt, alloc, replica)?;
-        let answer = self.act(alloc, &Event::At(replica, Act::Show))?;
+        let answer = self.shown(rt, alloc, replica)?;
         Ok(Reply::Answered(answer))
     }
 
@@ -327,9 +389,9 @@ impl Service {
             result }
     {
         match request {
-            Request::Tell(replica, op) => self.tell(alloc, replica, op),
-            Request::Merge(replica, ops) => self.merge(alloc, replica, ops),
-            Request::Sync(from, to) => self.sync(alloc, from, to),
+            Request::Tell(replica, op) => self.tell(rt, alloc, replica, op),
+            Request::Merge(replica, ops) => self.merge(rt, alloc, replica, ops),
+            Request::Sync(from, to) => self.sync(rt, alloc, from, to),
             Request::Show(replica) => self.show(rt, alloc, replica),
             Request::Summary(replica) => self.summary(alloc, replica),
             Request::Lacks(replica, ranges, version) => {

@@ -135,10 +135,8 @@ impl<J: Naming> Shared<J> {
             return Err(AllocError);
         };
         let rested = cell.lock(rt).take();
-        match self.give_back(rt, alloc, seat, *number, rested) {
-            Ok(()) => self.give_all_back(rt, alloc, seat, rest, more),
-            Err(error) => Err(error),
-        }
+        self.give_back(rt, alloc, seat, *number, rested)?;
+        self.give_all_back(rt, alloc, seat, rest, more)
     }
 
     /// Rests the pool and shows it, under one lock.

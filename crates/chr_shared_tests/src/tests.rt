@@ -6,7 +6,7 @@ mod refusals;
 mod rows;
 mod threads;
 
-use chr_shared::{Naming, Opening, Seat, Shared};
+use chr_shared::{MAX_SEATS, Naming, Opening, Seat, Shared};
 use chr_shared_testing::{MINIMUM, accepted, opening};
 use std::alloc::Global;
 use std::process::Abort;
@@ -24,4 +24,9 @@ fn opened<J: Naming, R: Abort>(rt: &R, alloc: Global, opening: Opening) -> (Shar
 {
     let opened = Shared::<J>::open(alloc, opening).ok();
     opened.expect(rt, "memory")
+}
+
+#[test]
+fn the_most_seats_have_this_number(rt: HostRuntime) {
+    assert!(rt; MAX_SEATS == 16);
 }

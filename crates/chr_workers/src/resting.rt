@@ -11,7 +11,7 @@ ghost use Rattle.chr_workers.specs.Kept.{IsKeptBy};
 
 use crate::gate::Gate;
 use crate::parts::{Parts, rest_parts};
-use crate::returning::{put_results, recall_all, rest};
+use crate::returning::{hasten, put_results, recall_all, rest};
 use chr_base::limits::{MAX_PARTS, MAX_WORKERS};
 use chr_replica::laws::one_answer;
 use chr_replica::{Board, Refusal};
@@ -22,11 +22,15 @@ use std::thread::Threads;
 /// Where so few atoms wait at most, the pool is settled at once: threads would cost more than they save.
 const FEW_ATOMS: u64 = 1024;
 
-/// Whether time can be saved by resting the pool in parts. All of it is cut and put together again, so a good share of
-/// what was told has to wait.
-fn is_worth_cutting(board: &Board, workers: u32, parts: u32) -> bool {
-    let waiting = board.waiting() as u64;
-    workers > 1 && parts > 1 && waiting > FEW_ATOMS && waiting > board.ops().told() / 4
+/// Whether threads may save time.
+fn is_worth_sharing(board: &Board, workers: u32) -> bool {
+    workers > 1 && board.waiting() as u64 > FEW_ATOMS
+}
+
+/// Whether a pool that is not kept in several may be rested in parts. All of it is cut and put together again, so a
+/// good share of what was told has to wait.
+fn is_worth_cutting(board: &Board, parts: u32) -> bool {
+    parts > 1 && board.waiting() as u64 > board.ops().told() / 4
 }
 
 /// Leases the whole pool out in parts, rests them by workers, and puts what came of them. Parts that were refused
@@ -45,7 +49,7 @@ fn rest_in_parts<R: Threads + Wait + Sync, G: Gate>(
     ensures kept { IsKeptBy board.old board.new }
     ensures out { OnOk result (board.new.replica.out ≡ map.empty) }
 {
-    if !is_worth_cutting(board, workers, parts) {
+    if !is_worth_cutting(board, parts) {
         return Ok(());
     }
     let places = Parts::open(alloc, parts, workers)?;
@@ -70,7 +74,32 @@ fn has_the_answer(board: &Board)
     board.program().weighed();
 }
 
-/// Rests the pool in parts, and then what has come back.
+/// Rests by workers what may be: the pools of a board that has several, and else parts that are leased out.
+fn rest_shared<R: Threads + Wait + Sync, G: Gate>(
+    rt: &R,
+    alloc: Global,
+    board: &mut Board,
+    workers: u32,
+    parts: u32,
+    gate: &G,
+) -> Result<(), AllocError>
+    requires out { board.old.replica.out ≡ map.empty }
+    requires workers { (1 ≤ workers) × (workers ≤ MAX_WORKERS) }
+    requires parts { (1 ≤ parts) × (parts ≤ MAX_PARTS) }
+    ensures kept { IsKeptBy board.old board.new }
+    ensures out { OnOk result (board.new.replica.out ≡ map.empty) }
+{
+    if !is_worth_sharing(board, workers) {
+        return Ok(());
+    }
+    if board.pools() == 1 {
+        return rest_in_parts(rt, alloc, board, workers, parts, gate);
+    }
+    hasten(rt, board, workers);
+    Ok(())
+}
+
+/// Rests the pool by workers, and then what is left.
 fn rest_all<R: Threads + Wait + Sync, G: Gate>(
     rt: &R,
     alloc: Global,
@@ -85,14 +114,15 @@ fn rest_all<R: Threads + Wait + Sync, G: Gate>(
     ensures kept { IsKeptBy board.old board.new }
     ensures settled { OnOk result (IsSettled (program_on board.old) board.new.replica) }
 {
-    rest_in_parts(rt, alloc, board, workers, parts, gate)?;
+    rest_shared(rt, alloc, board, workers, parts, gate)?;
     rest(board)
 }
 
 /// Rests a board of which no lease is out. The pool is taken in so many parts, 1 to [`MAX_PARTS`], which so many
 /// workers, 1 to [`MAX_WORKERS`], claim and rest in threads, of which the caller's is one; a worker that cannot be
-/// started is left out. What came of them is put, and the rest is settled. The pool is then the one normal form of what
-/// was told, whatever the workers did.
+/// started is left out. What came of them is put, and the rest is settled. A board that is kept in several pools is not
+/// taken apart: as many threads rest these where they lie. The pool is then the one normal form of what was told,
+/// whatever the workers did.
 ///
 /// It is settled at once where lease numbers are used up, and where parts would save no time: with one worker or one
 /// part, or where few atoms wait to be looked at, as in a board that was at rest before the last ones came in.

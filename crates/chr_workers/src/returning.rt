@@ -1,5 +1,5 @@
 //! Leases that come back to their board.
-ghost use Rattle.std.specs.Prelude.{◌≡◌, OnOk};
+ghost use Rattle.std.specs.Prelude.{◌≡◌, ◌≤◌, OnOk};
 ghost use Rattle.std.specs.FinMap as map;
 ghost use Rattle.chr_base.specs.Rules.{Step};
 ghost use Rattle.chr_base.specs.Programs.{rules_of};
@@ -11,12 +11,13 @@ use crate::parts::Rested;
 use chr_replica::Board;
 use std::alloc::AllocError;
 use std::sync::Mutex;
+use std::thread::Threads;
 
 /// Puts one result, which is at rest, unless it is refused.
 fn put_one(board: &mut Board, rested: Rested)
     ensures { IsKeptBy board.old board.new }
 {
-    let _ = board.put_rested(rested.done);
+    let _ = board.put(rested.done);
 }
 
 /// Puts all results that are there, unless they are refused.
@@ -29,6 +30,15 @@ pub(crate) fn put_results(board: &mut Board, results: Vec<Mutex<Option<Rested>>>
             put_one(board, rested);
         }
     }
+}
+
+/// Takes steps in the pools of a board by so many threads.
+pub(crate) fn hasten<R: Threads + Sync>(rt: &R, board: &mut Board, workers: u32)
+    requires { 1 ≤ workers }
+    ensures kept { IsKeptBy board.old board.new }
+    ensures out { board.new.replica.out ≡ board.old.replica.out }
+{
+    board.hasten(rt, workers as usize);
 }
 
 /// Recalls all leases.

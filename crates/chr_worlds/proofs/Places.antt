@@ -1,6 +1,6 @@
 -- The boards of a world in a list, and their replicas.
 use Rattle.std.specs.Prelude.{◌≡◌, ℕ, suc, ◌+◌, ◌<◌, List, length, replicate, zero, ◌∷◌, take, drop, ◌++◌, Option, Some}
-use Rattle.std.specs.Prelude.{map as each, slice_get, slice_index_or, slice_set, Result, Ok, Err, OnErr}
+use Rattle.std.specs.Prelude.{◌-◌, map as each, slice_get, slice_index_or, slice_set, Result, Ok, Err, OnErr}
 use Rattle.std.proofs.Common.{refl, sym, ap, ◌∙◌, subst, arith}
 use Rattle.std.specs.Option.{option_map}
 use Rattle.std.proofs.lemmas.List.{map-set, set-get_or, take-append-le, take_all}
@@ -72,6 +72,17 @@ replicas_change a bs cs number place R Q is all follows h = record {
   changed = follows h.before h.after.replica (of_program a bs place h.before all h.there) h.changed;
   world = ap replicas_on h.boards ∙ map-set (λ b. b.replica) bs place h.after
       ∙ ap (λ k. slice_set (replicas_on bs) k h.after.replica) (omega (arith, is));
+}
+
+-- a replica that stays as it is
+pub stays_at : (w : List Replica) (r : ℕ) (s : Replica) (R : Replica → Replica → Type 0) → IsAt w r s → R s s
+    → Changes w r R w
+stays_at w r s R here holds = record {
+  before = s;
+  after = s;
+  there = here;
+  changed = holds;
+  world = sym (set-get_or w (r - 1) s) ∙ ap (slice_set w (r - 1)) (get_or_from_slice_get w (r - 1) s s here.1);
 }
 
 -- boards that were told nothing

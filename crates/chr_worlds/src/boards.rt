@@ -18,6 +18,7 @@ use chr_replica::{Board, Refusal};
 use std::alloc::{AllocError, Global};
 use std::mem::swap;
 use std::sync::Arc;
+use std::thread::Threads;
 
 /// So many boards of a program that were told nothing.
 pub(crate) fn opened(
@@ -45,6 +46,22 @@ pub(crate) fn place_of(boards: &[Board], number: u64) -> Option<usize>
         Some(place as usize)
     } else {
         None
+    }
+}
+
+/// Shows a board by threads, which does not change it.
+pub(crate) fn shown_by<R: Threads + Sync>(
+    rt: &R,
+    alloc: Global,
+    board: &Board,
+) -> Result<Reply, AllocError>
+    ensures { IfOk result (λ reply.
+        Does (program_on board.now) board.now.replica Act.Show reply board.now.replica) }
+{
+    match board.show_by(rt, alloc) {
+        Ok(bag) => Ok(Reply::Shown(bag)),
+        Err(Refusal::Memory) => Err(AllocError),
+        Err(refusal) => Ok(Reply::Refused(refusal)),
     }
 }
 

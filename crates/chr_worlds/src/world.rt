@@ -11,6 +11,7 @@ ghost use Rattle.chr_worlds.specs.Sharing.{shared_program};
 
 use crate::answer::Answer;
 use crate::board_list::BoardList;
+use crate::boards::shown_by;
 use crate::event::Event;
 use chr_acts::Act;
 use chr_base::derivation::Step;
@@ -23,6 +24,7 @@ use chr_replica::{Board, declares, declares_all};
 use std::alloc::{AllocError, Global};
 use std::marker::Model;
 use std::sync::Arc;
+use std::thread::Threads;
 
 /// Replicas of one accepted program, which have the numbers 1, 2 and so on. Its type keeps that each is of that
 /// program.
@@ -167,6 +169,46 @@ impl World {
         Ok(Answer::Replied(reply))
     }
 
+    /// A replica takes in what another holds and it lacks. It is the event [`Event::Sync`].
+    ///
+    /// # Errors
+    /// Where memory is refused. The world is as it was.
+    pub fn sync(&mut self, alloc: Global, giver: u64, taker: u64) -> Result<Answer, AllocError>
+        ensures program { self.new.accepted ≡ self.old.accepted }
+        ensures happens { IfOk result (λ answer.
+            Happens (shared_program self.old) self.old.replicas (Event.Sync giver taker) answer self.new.replicas) }
+        ensures err { OnErr result (self.new ≡ self.old) }
+    {
+        let Some(from) = self.boards.place_of(giver) else {
+            return Ok(Answer::NoReplica);
+        };
+        let Some(to) = self.boards.place_of(taker) else {
+            return Ok(Answer::NoReplica);
+        };
+        let reply = self.boards.exchange(alloc, from, to)?;
+        Ok(Answer::Replied(reply))
+    }
+
+    /// Shows a replica's pool, which several threads put in order. It is the event of [`Act::Show`].
+    ///
+    /// # Errors
+    /// Where memory is refused.
+    pub fn show_by<R: Threads + Sync>(
+        &self,
+        rt: &R,
+        alloc: Global,
+        replica: u64,
+    ) -> Result<Answer, AllocError>
+        ensures { IfOk result (λ answer. Happens (shared_program self.now) self.now.replicas
+            (Event.At replica Act.Show) answer self.now.replicas) }
+    {
+        let Some(board) = self.board(replica) else {
+            return Ok(Answer::NoReplica);
+        };
+        let reply = shown_by(rt, alloc, board)?;
+        Ok(Answer::Replied(reply))
+    }
+
     /// Asks a replica to do something.
     fn act_at(&mut self, alloc: Global, replica: u64, act: &Act) -> Result<Answer, AllocError>
         requires { FitsAct act.now }
@@ -204,23 +246,6 @@ impl World {
             return Ok(Answer::NoReplica);
         };
         let reply = self.boards.work(alloc, place, lease, steps)?;
-        Ok(Answer::Replied(reply))
-    }
-
-    /// A replica takes in what another holds and it lacks.
-    fn sync(&mut self, alloc: Global, giver: u64, taker: u64) -> Result<Answer, AllocError>
-        ensures program { self.new.accepted ≡ self.old.accepted }
-        ensures happens { IfOk result (λ answer.
-            Happens (shared_program self.old) self.old.replicas (Event.Sync giver taker) answer self.new.replicas) }
-        ensures err { OnErr result (self.new ≡ self.old) }
-    {
-        let Some(from) = self.boards.place_of(giver) else {
-            return Ok(Answer::NoReplica);
-        };
-        let Some(to) = self.boards.place_of(taker) else {
-            return Ok(Answer::NoReplica);
-        };
-        let reply = self.boards.exchange(alloc, from, to)?;
         Ok(Answer::Replied(reply))
     }
 }

@@ -3,8 +3,8 @@ ghost use Rattle.std.specs.Prelude.{IsTrue};
 ghost use Rattle.chr_types.specs.OrderTypes.{Rises};
 
 use chr_types::{
-    AllLists, Beginnings, LimitedCount, OrderType, TypesFault, Visit, has_more_types, types,
-    visit_types,
+    AllLists, Beginnings, LimitedCount, MAX_CLASSES, OrderType, TypesFault, Visit, has_more_types,
+    types, visit_types,
 };
 use std::alloc::{AllocError, Global};
 use std::process::Abort;
@@ -438,6 +438,11 @@ fn expect_limits(rt: &impl Abort, alloc: Global, rows: &[Limit]) {
         let found = has_more(rt, alloc, *classes, constants, *limit);
         assert!(rt; found == *expected, "at {classes} classes");
     }
+}
+
+#[test]
+fn the_most_classes_have_this_number(rt: HostRuntime) {
+    assert!(rt; MAX_CLASSES == 64);
 }
 
 #[test]

@@ -1,15 +1,10 @@
-//! Pools that are cut into parts, and put together again.
-ghost use Rattle.std.specs.Prelude.{◌≡◌, ◌≤◌, IfOk, OnOk, OnErr};
-ghost use Rattle.chr_base.specs.FinBag.{◌⊕◌};
-ghost use Rattle.chr_base.specs.Rewriting.{IsAtRest};
-ghost use Rattle.chr_base.specs.Rules.{Step};
+//! Pools whose atoms are put in the order of their rules.
+ghost use Rattle.std.specs.Prelude.{◌≡◌, ◌≤◌, IfOk};
 ghost use Rattle.chr_base.specs.Stores.{size, store_of};
 
 use crate::arranging::{arrange, arranged, crossed};
 use crate::columns::Columns;
-use crate::joining::join_in;
 use chr_base::atom::Atom;
-use chr_base::rule::Rule;
 use std::alloc::{AllocError, Global};
 
 /// So few fresh atoms are taken in whatever order they stand: the rows that they meet are not ordered by them.
@@ -40,17 +35,5 @@ impl Columns {
         ensures { IfOk result (λ atoms. store_of atoms.items ≡ self.now) }
     {
         arranged(alloc, &self.rested, &self.fresh)
-    }
-
-    /// Puts atoms in that are at rest under these rules by themselves, and came of a part of the atoms. Where these are
-    /// the pool's rules, and some argument joins the heads of each of them, atoms whose value there is one of the part,
-    /// and of no atom at rest here, are at rest at once; the others are fresh. Where memory is refused nothing changes.
-    pub fn join(&mut self, rules: &[Rule], part: &[Atom], atoms: &[Atom]) -> Result<(), AllocError>
-        requires { IsAtRest (Step rules.now) (store_of atoms.now) }
-        ensures ok { OnOk result (self.new ≡ self.old ⊕ store_of atoms.now) }
-        ensures err { OnErr result (self.new ≡ self.old) }
-    {
-        self.standing = None;
-        join_in(&mut self.rested, &mut self.fresh, rules, part, atoms)
     }
 }

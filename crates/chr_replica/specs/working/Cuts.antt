@@ -2,8 +2,7 @@
 use Rattle.std.specs.Prelude.{◌≡◌, ℕ, ◌+◌, ◌-◌, ◌*◌, ◌≤◌, List, length, All}
 use Rattle.chr_base.specs.declared.atom.Atom.{Atom}
 use Rattle.chr_base.specs.FinBag.{◌⊕◌}
-use Rattle.chr_base.specs.Stores.{Store, store_of, size}
-use Rattle.chr_replica.specs.Leases.{stores_sum}
+use Rattle.chr_base.specs.Stores.{Store, store_of, size, stores_sum}
 
 -- the part has so many atoms or one more
 abbrev pub IsNear : ℕ → Store → Type 0

@@ -1,10 +1,8 @@
 //! Boards lease parts of their pools out, and take them back.
 ghost use Rattle.std.specs.Prelude.{◌≡◌, ◌≤◌, IfErr, IfNone, IfOk, IfSome, IsSome, OnOk, OnErr, Some};
 ghost use Rattle.std.specs.FinMap as map;
-ghost use Rattle.chr_base.specs.Rewriting.{IsAtRest};
-ghost use Rattle.chr_base.specs.Rules.{Step};
 ghost use Rattle.chr_base.specs.Sameness.{AreSame};
-ghost use Rattle.chr_weights.specs.WeighedPrograms.{program_of, rules_in};
+ghost use Rattle.chr_weights.specs.WeighedPrograms.{program_of};
 ghost use Rattle.chr_replica.specs.Leases.{parts_in, AreNumbered};
 ghost use Rattle.chr_replica.specs.LeastOut.{AreFrom};
 ghost use Rattle.chr_replica.specs.Replicas.{Takes, TakesParts, Puts, Recalls};
@@ -19,8 +17,8 @@ use crate::refusal::{Limit, Refusal};
 use chr_base::bag::Bag;
 use chr_base::laws::same_programs_reach_alike;
 use chr_base::limits::MAX_PARTS;
-use chr_columns::columns::Columns;
 use chr_join::{Done, Lease};
+use chr_shards::Shards;
 use std::alloc::Global;
 
 /// What came of a lease and was not taken back, with the cause.
@@ -83,8 +81,8 @@ impl Board {
         if next > LAST_LEASE + 1 {
             return Err(Refusal::Full(Limit::Leases));
         }
-        let rules = self.accepted.program().rules();
-        let empty = Columns::seeded(alloc, self.pool.seed(), rules)?;
+        let weighed = self.accepted.shared().clone()?;
+        let empty = Shards::open(alloc, weighed, self.accepted.seed(), self.accepted.pools())?;
         let whole = self.pool.arranged(alloc)?;
         let leases = cut(alloc, &whole, count as usize, first)?;
         self.out.insert_all(alloc, first, &leases)?;
@@ -133,40 +131,6 @@ impl Board {
             return Err(NotPut { done, refusal });
         }
         if self.pool.insert(done.result().atoms()).is_err() {
-            let refusal = Refusal::Memory;
-            return Err(NotPut { done, refusal });
-        }
-        self.out.remove(done.number());
-        Ok(())
-    }
-
-    /// The same of a result that is at rest. Where some argument joins the heads of each rule, as one variable that
-    /// stands there in all of them, those of its atoms whose value there is one of the part's, and of no atom that is
-    /// at rest in the pool, are at rest at once: the next settling looks at the others alone.
-    ///
-    /// # Errors
-    /// As [`Board::put`].
-    pub fn put_rested(&mut self, done: Done) -> Result<(), NotPut>
-        requires { IsAtRest (Step (rules_in done.weighed)) done.result }
-        ensures program { self.new.accepted ≡ self.old.accepted }
-        ensures ok { OnOk result (
-            Puts (program_on self.old) self.old.replica done.number done.part done.result self.new.replica) }
-        ensures refused { IfErr result (λ e. RefusesPut (program_on self.old) self.old.replica
-            (program_of done.weighed) done.number done.part e.refusal) }
-        ensures handed_back { IfErr result (λ e. e.done ≡ done) }
-        ensures err { OnErr result (self.new ≡ self.old) }
-    {
-        events_keep_replicas_sound();
-        same_programs_reach_alike();
-        if let Err(refusal) = self.may_put(&done) {
-            return Err(NotPut { done, refusal });
-        }
-        let rules = done.program().rules();
-        if self
-            .pool
-            .join(rules, done.part().atoms(), done.result().atoms())
-            .is_err()
-        {
             let refusal = Refusal::Memory;
             return Err(NotPut { done, refusal });
         }

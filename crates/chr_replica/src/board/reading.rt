@@ -15,20 +15,16 @@ use crate::laws::one_answer;
 use crate::refusal::Refusal;
 use chr_base::bag::Bag;
 use chr_ops::{Op, Summary};
-use chr_rewrite::resting::at_rest;
 use std::alloc::{AllocError, Global};
+use std::thread::Threads;
 
 impl Board {
-    /// The pool, where no lease is out and it is at rest: the one normal form of what was told. Where it was rested and
-    /// nothing has come in since, it is not searched again.
-    ///
-    /// # Errors
-    /// `Leased` with the number of leases that are out, `NotAtRest`, `Memory`.
-    pub fn show(&self, alloc: Global) -> Result<Bag, Refusal>
-        ensures pool { IfOk result (λ bag. bag ≡ self.now.replica.pool) }
+    /// Whether the pool may be shown: no lease is out, and it is at rest. Then it is the one normal form of what was
+    /// told.
+    fn may_show(&self) -> Result<(), Refusal>
         ensures settled { OnOk result (IsSettled (program_on self.now) self.now.replica) }
-        ensures only { IfOk result (IsOnlyNormalForm (rules_of (program_on self.now))
-            (told_store self.now.replica.operations)) }
+        ensures only { OnOk result (IsOnlyNormalForm (rules_of (program_on self.now))
+            (told_store self.now.replica.operations) self.now.replica.pool) }
         ensures refused { IfErr result (RefusesShow (program_on self.now) self.now.replica) }
     {
         one_answer();
@@ -41,7 +37,38 @@ impl Board {
         if !self.at_rest() {
             return Err(Refusal::NotAtRest);
         }
+        Ok(())
+    }
+
+    /// The pool, where no lease is out and it is at rest: the one normal form of what was told. Where it was rested and
+    /// nothing has come in since, it is not searched again.
+    ///
+    /// # Errors
+    /// `Leased` with the number of leases that are out, `NotAtRest`, `Memory`.
+    pub fn show(&self, alloc: Global) -> Result<Bag, Refusal>
+        ensures pool { IfOk result (λ bag. bag ≡ self.now.replica.pool) }
+        ensures settled { OnOk result (IsSettled (program_on self.now) self.now.replica) }
+        ensures only { IfOk result (IsOnlyNormalForm (rules_of (program_on self.now))
+            (told_store self.now.replica.operations)) }
+        ensures refused { IfErr result (RefusesShow (program_on self.now) self.now.replica) }
+    {
+        self.may_show()?;
         Ok(self.pool.bag(alloc)?)
+    }
+
+    /// The same as [`Board::show`], where several threads put the pool in order.
+    ///
+    /// # Errors
+    /// As those of [`Board::show`].
+    pub fn show_by<R: Threads + Sync>(&self, rt: &R, alloc: Global) -> Result<Bag, Refusal>
+        ensures pool { IfOk result (λ bag. bag ≡ self.now.replica.pool) }
+        ensures settled { OnOk result (IsSettled (program_on self.now) self.now.replica) }
+        ensures only { IfOk result (IsOnlyNormalForm (rules_of (program_on self.now))
+            (told_store self.now.replica.operations)) }
+        ensures refused { IfErr result (RefusesShow (program_on self.now) self.now.replica) }
+    {
+        self.may_show()?;
+        Ok(self.pool.bag_by(rt, alloc)?)
     }
 
     /// A summary that covers just the ids of its operations.
@@ -62,6 +89,6 @@ impl Board {
     pub fn at_rest(&self) -> bool
         ensures { IsTrue result ↔ IsAtRest (Step (rules_of (program_on self.now))) self.now.replica.pool }
     {
-        at_rest(self.accepted.weighed(), &self.pool)
+        self.pool.at_rest()
     }
 }

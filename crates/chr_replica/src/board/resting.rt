@@ -1,5 +1,5 @@
 //! Boards come to rest.
-ghost use Rattle.std.specs.Prelude.{◌≡◌, ◌≤◌, IfOk, IfErr, OnOk};
+ghost use Rattle.std.specs.Prelude.{◌≡◌, ◌<◌, ◌≤◌, ℕ, IfOk, IfErr, OnOk};
 ghost use Rattle.chr_base.specs.Programs.{rules_of};
 ghost use Rattle.chr_base.specs.Rewriting.{IsAtRest};
 ghost use Rattle.chr_base.specs.Rules.{Step};
@@ -9,7 +9,8 @@ ghost use Rattle.chr_replica.specs.Boards.{program_on};
 
 use crate::board::Board;
 use crate::laws::events_keep_replicas_sound;
-use chr_rewrite::resting::{Stopped, rest};
+use chr_rewrite::resting::Stopped;
+use std::thread::Threads;
 
 impl Board {
     /// How many atoms of the pool wait to be looked at by the next settling; the others are at rest. It takes no
@@ -36,7 +37,22 @@ impl Board {
         events_keep_replicas_sound();
         // So few atoms are told that all steps are counted.
         let _told = self.ops.told();
-        self.pool.arrange();
-        rest(self.accepted.weighed(), &mut self.pool)
+        self.pool.rest()
+    }
+
+    /// Rests the pool by so many threads, where it is kept in several pools, and until memory is refused to one of
+    /// them: [`Board::settle`] then does what is left.
+    pub fn hasten<R: Threads + Sync>(&mut self, rt: &R, threads: usize)
+        requires { 0 < threads }
+        ensures program { self.new.accepted ≡ self.old.accepted }
+        ensures settles { (n : ℕ) × Settles (program_on self.old) self.old.replica n self.new.replica }
+    {
+        events_keep_replicas_sound();
+        self.pool.hasten(rt, threads);
+    }
+
+    /// In how many pools its atoms are kept, each of which a thread can rest by itself. It takes no memory.
+    pub fn pools(&self) -> usize {
+        self.pool.count()
     }
 }

@@ -13,17 +13,17 @@ use crate::declared::{declares, declares_all};
 use crate::laws::events_keep_replicas_sound;
 use crate::refusal::{Limit, Refusal};
 use chr_base::derivation::Step;
-use chr_columns::columns::Columns;
 use chr_ops::{Added, MAX_TOLD, Op, OpSet};
-use chr_rewrite::replay::take_step;
+use chr_shards::Shards;
 use std::alloc::{AllocError, Global};
 
 /// A new operation joins the set, and its atoms the pool.
-fn put_in(ops: &mut OpSet, pool: &mut Columns, op: Op) -> Result<(), AllocError>
+fn put_in(ops: &mut OpSet, pool: &mut Shards, op: Op) -> Result<(), AllocError>
     requires new { IsNew ops.old op }
     requires room { told_atoms ops.old + size op.1 ≤ MAX_TOLD }
     ensures ops { OnOk result (ops.new ≡ map.insert ops.old op.0 op.1) }
-    ensures pool { OnOk result (pool.new ≡ pool.old ⊕ op.1) }
+    ensures weighed { pool.new.weighed ≡ pool.old.weighed }
+    ensures pool { OnOk result (pool.new.store ≡ pool.old.store ⊕ op.1) }
     ensures same_ops { OnErr result (ops.new ≡ ops.old) }
     ensures same_pool { OnErr result (pool.new ≡ pool.old) }
 {
@@ -115,7 +115,7 @@ impl Board {
         ensures err { OnErr result (self.new ≡ self.old) }
     {
         events_keep_replicas_sound();
-        if !take_step(self.accepted.program().rules(), &mut self.pool, step)? {
+        if !self.pool.take_step(step)? {
             return Err(Refusal::NotThere);
         }
         Ok(())

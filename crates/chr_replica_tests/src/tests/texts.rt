@@ -16,6 +16,17 @@ pub fn accepted(rt: &(impl Abort + Threads + Sync), alloc: Global, text: &str) -
     accepted_of(rt, alloc, text).expect(rt, "an accepted program")
 }
 
+/// The same, whose stores are kept in so many pools at most.
+pub fn accepted_in(
+    rt: &(impl Abort + Threads + Sync),
+    alloc: Global,
+    text: &str,
+    pools: usize,
+) -> Arc<Accepted> {
+    let program = chr_replica_testing::accepted_in(rt, alloc, text, pools);
+    program.expect(rt, "an accepted program")
+}
+
 /// The store of up to eight atoms that the program of the first text declares.
 pub fn store(rt: &impl Abort, alloc: Global, program: &str, atoms: &str) -> Bag {
     store_of(alloc, program, atoms).expect(rt, "a store")

@@ -123,6 +123,9 @@ pub fn answer(rt: &impl Abort, alloc: Global, world: &mut World, event: &Event) 
         let op = op.copy(alloc).expect(rt, "memory");
         return world.tell(alloc, *replica, op).expect(rt, "memory");
     }
+    if let Event::Sync(giver, taker) = event {
+        return world.sync(alloc, *giver, *taker).expect(rt, "memory");
+    }
     world.act(alloc, event).expect(rt, "memory")
 }
 
@@ -200,6 +203,23 @@ pub fn expect_answers(
         assert!(rt;
             is_row(rt, alloc, world, text, *ask, *expected),
             "row {place}"
+        );
+    }
+}
+
+/// The replicas of these rows show this by threads.
+pub fn expect_shown(
+    rt: &(impl Abort + Threads + Sync),
+    alloc: Global,
+    world: &World,
+    rows: &[(u64, Said)],
+) {
+    for (replica, expected) in rows {
+        let answer = world.show_by(rt, alloc, *replica).expect(rt, "memory");
+        let program = world.program().program();
+        assert!(rt;
+            is_said(rt, alloc, program, &answer, *expected),
+            "replica {replica}"
         );
     }
 }

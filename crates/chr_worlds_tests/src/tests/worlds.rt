@@ -1,7 +1,9 @@
 //! Worlds of two and three replicas.
 ghost use Rattle.std.specs.Prelude.{◌≡◌};
 
-use crate::tests::asking::{Ask, ROUTES, Said, expect_answers, expect_played, world_of};
+use crate::tests::asking::{
+    Ask, ROUTES, Said, expect_answers, expect_played, expect_shown, world_of,
+};
 use chr_acts::Act;
 use chr_ops::Added;
 use chr_replica::Board;
@@ -67,6 +69,27 @@ fn exchanges_go_round(rt: HostRuntime) {
     // So they do by a law, which also may be asked of replicas that are not there.
     world.agree(1, 3);
     world.agree(0, 4);
+}
+
+/// What is shown by threads of a world in which the first replica alone was rested.
+const SHOWN_BY_THREADS: [(u64, Said); 4] = [
+    (1, Said::Shown("path(1,2,5), path(1,3,4)")),
+    (2, Said::Refused(40)),
+    (3, Said::Shown("path(1,3,9), path(2,3,1)")),
+    (4, Said::Nobody),
+];
+
+#[test]
+fn threads_show_what_one_does(rt: HostRuntime) {
+    let alloc = rt.alloc();
+    let mut world = told_routes(&rt, alloc);
+    let rows = [
+        (Ask::Sync(2, 1), Said::Merged(1)),
+        (Ask::Settle(1), Said::Settled(1)),
+        (Ask::Sync(1, 2), Said::Merged(1)),
+    ];
+    expect_answers(&rt, alloc, &mut world, ROUTES, &rows);
+    expect_shown(&rt, alloc, &world, &SHOWN_BY_THREADS);
 }
 
 const NOBODY: [(Ask, Said); 5] = [

@@ -8,7 +8,6 @@ pub returns : goal.returns
 returns c =
     let tables = c.args.rested.now.tables.tables.items in
     let fresh = c.args.fresh.now in
-    let live : c.push_live.new.atoms.items ≡ live_in tables = c.in_ok-push_live.ensures.ok
-    ∙ (λ i. c.in_ok-atoms.ensures.items i ++ live_in (c.deref.ensures.value i)) in
-    c.arrange.ensures ∙ ap store_of (c.in_ok-push_copies.ensures.ok ∙ ap (λ xs. xs ++ fresh) live)
-    ∙ store_all tables fresh
+    let all : c.push_stored.new.atoms.items ≡ live_in tables ++ fresh = c.in_ok-push_stored.ensures.ok
+    ∙ (λ i. c.in_ok-atoms.ensures.items i ++ live_in (c.deref.ensures.value i) ++ fresh) in
+    c.arrange.ensures ∙ ap store_of all ∙ store_all tables fresh

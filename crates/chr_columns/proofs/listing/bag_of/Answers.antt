@@ -7,9 +7,8 @@ use Rattle.chr_columns.proofs.listing.bag_of.Goals as goal
 
 pub returns : goal.returns
 returns c =
+    let tables = c.args.tables.now in
     let fresh = c.args.fresh.now in
-    let all = c.in_ok-push_copies.ensures.ok
-    ∙ ap (λ xs. xs ++ fresh) (c.in_ok-push_live.ensures.ok
-    ∙ ap (λ xs. xs ++ live_in c.args.tables.now) c.new-atoms.ensures.items) in
-    subst (λ (s : Store). IfOk c.of.result (λ b. b ≡ s)) (ap store_of all ∙ store_all c.args.tables.now fresh)
+    let all = c.in_ok-push_stored.ensures.ok ∙ ap (λ xs. xs ++ live_in tables ++ fresh) c.new-atoms.ensures.items in
+    subst (λ (s : Store). IfOk c.of.result (λ b. b ≡ s)) (ap store_of all ∙ store_all tables fresh)
     c.of.ensures.store

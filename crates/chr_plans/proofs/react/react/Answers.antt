@@ -1,5 +1,5 @@
 use Rattle.std.proofs.Common.{refl, ◌∙◌}
-use Rattle.chr_plans.proofs.Reactions.{reacts, none_more, row_passed, resumes, before_first}
+use Rattle.chr_plans.proofs.Reactions.{reacts, none_more, row_passed, resumes, before_first, fits_here}
 use Rattle.chr_plans.proofs.react.react.Goals as goal
 
 pub returns-then-find_partners-clause-found : goal.returns-then-find_partners-clause-found
@@ -43,3 +43,34 @@ returns-then-find_partners-clause-standing g c =
     c.index-plans-j.result c.index-rules-plan.result
     c.loop-j-test.true c.index-plans-j.is c.index-rules-plan.is (c.requires.fits c.loop-j.j c.loop-j-test.true)
     _ c.loop-j.invariant.none (rw (c.loop-j.invariant.rows, c.deref.ensures.0) at c.if-find_partners.ensures.passed)
+
+pub find_partners-requires-clause-place : goal.find_partners-requires-clause-place
+find_partners-requires-clause-place g c =
+    (fits_here c.args.rules.now _ (g.R.Rows.columns c.args.rows.now) c.args.active.now c.args.plans.now c.loop-j.j
+    c.index-plans-j.result c.index-rules-plan.result c.loop-j-test.true c.index-plans-j.is c.index-rules-plan.is
+    (c.requires.fits c.loop-j.j c.loop-j-test.true)).0
+
+pub find_partners-requires-clause-plan : goal.find_partners-requires-clause-plan
+find_partners-requires-clause-plan g c =
+    rw c.deref.ensures.0 (fits_here c.args.rules.now _ (g.R.Rows.columns c.args.rows.now) c.args.active.now
+    c.args.plans.now c.loop-j.j
+    c.index-plans-j.result c.index-rules-plan.result c.loop-j-test.true c.index-plans-j.is c.index-rules-plan.is
+    (c.requires.fits c.loop-j.j c.loop-j-test.true)).1
+
+pub find_partners-requires-clause-fits : goal.find_partners-requires-clause-fits
+find_partners-requires-clause-fits g c =
+    rw (c.loop-j.invariant.rows, c.loop-j.invariant.columns, c.deref.ensures.0) (fits_here
+    c.args.rules.now _ (g.R.Rows.columns c.args.rows.now) c.args.active.now c.args.plans.now c.loop-j.j
+    c.index-plans-j.result c.index-rules-plan.result c.loop-j-test.true c.index-plans-j.is c.index-rules-plan.is
+    (c.requires.fits c.loop-j.j c.loop-j-test.true)).2
+
+pub loop-j-preserved-then-is_ruled_out : goal.loop-j-preserved-then-is_ruled_out
+loop-j-preserved-then-is_ruled_out g c = record {
+  rows = c.loop-j.invariant.rows;
+  columns = c.loop-j.invariant.columns;
+  tables = c.loop-j.invariant.tables;
+  none = none_more c.args.rules.now _ (g.R.Rows.columns c.args.rows.now) c.args.active.now c.args.plans.now c.loop-j.j
+      c.index-plans-j.result c.index-rules-plan.result
+      c.loop-j-test.true c.index-plans-j.is c.index-rules-plan.is (c.requires.fits c.loop-j.j c.loop-j-test.true)
+      c.loop-j.invariant.none (c.if-is_ruled_out.ensures _);
+}

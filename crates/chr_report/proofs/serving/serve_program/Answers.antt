@@ -47,7 +47,7 @@ converse-requires-clause-prompt g c κs within w line now s =
     let wrote : Appends old mid verdict = subst (Appends old mid) c.as_bytes.ensures.value c.in_ok-send.ensures.ok in
     let read : AnswersFrontRead (declarations (program_in a)) (rules_of (program_in a)) first from
     (W.unread w) line start now mid (W.sent w) =
-    subst (λ x. AnswersFrontRead (declarations (program_in x)) (rules_of (program_in x)) first from
+    subst (λ x. AnswersFrontRead (declarations x) (rules_of x) first from
     (W.unread w) line start now mid (W.sent w)) c.in_ok-service.ensures.program s in
     c.requires.prompt w (subst (λ u. AnswersCommands (Ok (program_in a)) c.args.wanted first u (W.unread w) old
     (W.sent w)) c.in_ok-send.ensures.kept
@@ -74,7 +74,7 @@ returns-clause-ok g c =
     subst (λ u. WritesText (λ answer. answer ≡ Ok (program_in a)) first u c.args.wanted Accepted (Appends old new))
     c.in_ok-send.ensures.kept
     (program_served (program_in a) c.args.wanted start verdict opened first from old mid new wrote
-    (subst (λ x. AnswersInput (declarations (program_in x)) (rules_of (program_in x)) first from start
+    (subst (λ x. AnswersInput (declarations x) (rules_of x) first from start
     (Appends mid new)) c.in_ok-service.ensures.program s))) c.converse.ensures.ok
 
 pub returns-clause-err : goal.returns-clause-err
@@ -97,5 +97,5 @@ returns-clause-err g c =
     subst (λ u. WritesTextPart (λ answer. answer ≡ Ok (program_in a)) first u c.args.wanted old new)
     c.in_ok-send.ensures.kept
     (program_part (program_in a) c.args.wanted start verdict opened first from old mid new wrote
-    (subst (λ x. AnswersInput (declarations (program_in x)) (rules_of (program_in x)) first from start
+    (subst (λ x. AnswersInput (declarations x) (rules_of x) first from start
     (AppendsPart mid new)) c.in_ok-service.ensures.program s))) c.converse.ensures.err

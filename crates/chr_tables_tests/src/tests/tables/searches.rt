@@ -9,6 +9,7 @@ use arrayvec::ArrayVec;
 use chr_base::atom::Atom;
 use chr_base::limits::MAX_HEADS;
 use chr_base::rule::Rule;
+use chr_plans::constants::has_constants;
 use chr_plans::plan::{Lookup, Plan};
 use chr_plans::planning::plan_of;
 use chr_plans::react::react;
@@ -176,6 +177,7 @@ fn reacts_at(
     let plans = [Plan {
         rule: 0,
         place,
+        has_constants: has_constants(rule.head_at(place)),
         lookups: setting.lookups,
     }];
     let mut heads = ArrayVec::new();

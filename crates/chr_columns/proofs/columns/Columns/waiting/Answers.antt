@@ -1,6 +1,6 @@
 use Rattle.std.proofs.Common.{rules, ◌≡◌, ◌≤◌, length, subst}
 use Rattle.chr_base.specs.Stores.{Store, size}
-use Rattle.chr_columns.proofs.Together.{fresh_within}
+use Rattle.chr_columns.proofs.Pools.{fresh_within}
 use Rattle.chr_columns.proofs.columns.Columns.waiting.Goals as goal
 
 pub returns : goal.returns

@@ -1,13 +1,12 @@
-use Rattle.std.proofs.Common.{ℕ, ◌<◌, ◌≤◌, ◌+◌, get_or}
+use Rattle.std.proofs.Common.{ℕ, ◌<◌, ◌≤◌, get_or}
 use Rattle.chr_base.specs.declared.atom.Atom.{Atom}
 use Rattle.chr_base.specs.Atoms.{atom_cmp}
-use Rattle.chr_base.specs.FinBag.{count_in}
-use Rattle.chr_base.specs.Stores.{count}
+use Rattle.chr_base.specs.FinBag.{◌⊕◌, count_in}
+use Rattle.chr_base.specs.Stores.{count, store_of}
 use Rattle.chr_columns.specs.working.Resting.{stored}
 use Rattle.chr_columns.proofs.rested.Rested.has_all.Given as goal
 
 abbrev pub invariant-loop-atom : goal.invariant-loop-atom
 invariant-loop-atom l =
     (k : ℕ) (d : Atom) → k < l.atom-index
-    → count_in atom_cmp (get_or l.atoms k d) l.atoms ≤ count (stored l.self) (get_or l.atoms k d) + count_in atom_cmp
-    (get_or l.atoms k d) l.fresh
+    → count_in atom_cmp (get_or l.atoms k d) l.atoms ≤ count (stored l.self ⊕ store_of l.fresh) (get_or l.atoms k d)

@@ -1,4 +1,4 @@
-use Rattle.std.proofs.Common.{rules, ◌≡◌, Some, subst}
+use Rattle.std.proofs.Common.{rules, ◌≡◌, ◌∙◌, Some, subst}
 use Rattle.std.specs.Arc.{arc_value}
 use Rattle.std.specs.FinMap as map
 use Rattle.chr_base.specs.FinBag as bag
@@ -23,11 +23,15 @@ invariant_of-self-2 c =
     let out : map.get r.out d.number ≡ Some d.part = search rules in
     let same : AreSame (program_of d.weighed) p = search rules in
     let reached : Reaches (Step (rules_in d.weighed)) d.part d.result = search rules in
-    let put : c.insert.new.self ≡ r.pool ⊕ store_of (bag.items d.result) = search rules in
+    let put : c.insert.new.self.store ≡ r.pool.store ⊕ store_of (bag.items d.result) = search rules in
+    let weighed : c.insert.new.self.weighed ≡ r.pool.weighed = search rules in
     let gone : c.remove.new.self ≡ map.remove r.out d.number = search rules in
-    c.events_keep_replicas_sound.ensures.put p d.number d.part d.result _ _
-    (puts_is p (program_of d.weighed) r.ops r.pool _ d.part d.result r.out _ r.next d.number out
-    c.same_programs_reach_alike.ensures same reached put gone) c.self.invariant
+    record {
+      sound = c.events_keep_replicas_sound.ensures.put p d.number d.part d.result _ _
+          (puts_is p (program_of d.weighed) r.ops r.pool.store _ d.part d.result r.out _ r.next d.number out
+          c.same_programs_reach_alike.ensures same reached put gone) c.self.invariant.sound;
+      own = weighed ∙ c.self.invariant.own;
+    }
 
 pub returns-clause-ok : goal.returns-clause-ok
 returns-clause-ok c =
@@ -37,9 +41,9 @@ returns-clause-ok c =
     let out : map.get r.out d.number ≡ Some d.part = search rules in
     let same : AreSame (program_of d.weighed) p = search rules in
     let reached : Reaches (Step (rules_in d.weighed)) d.part d.result = search rules in
-    let put : c.insert.new.self ≡ r.pool ⊕ store_of (bag.items d.result) = search rules in
+    let put : c.insert.new.self.store ≡ r.pool.store ⊕ store_of (bag.items d.result) = search rules in
     let gone : c.remove.new.self ≡ map.remove r.out d.number = search rules in
     subst (λ b. Puts (program_on b) b.replica d.number d.part d.result
-    (replica r.ops c.insert.new.self c.remove.new.self r.next)) c.self.view_is
-    (puts_is p (program_of d.weighed) r.ops r.pool _ d.part d.result r.out _ r.next d.number out
+    (replica r.ops c.insert.new.self.store c.remove.new.self r.next)) c.self.view_is
+    (puts_is p (program_of d.weighed) r.ops r.pool.store _ d.part d.result r.out _ r.next d.number out
     c.same_programs_reach_alike.ensures same reached put gone)

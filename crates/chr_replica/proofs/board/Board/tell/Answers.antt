@@ -1,4 +1,4 @@
-use Rattle.std.proofs.Common.{rules, ◌≡◌, ◌≤◌, ◌+◌}
+use Rattle.std.proofs.Common.{rules, ◌≡◌, ◌∙◌, ◌≤◌, ◌+◌}
 use Rattle.std.specs.Arc.{arc_value}
 use Rattle.std.specs.FinMap as map
 use Rattle.chr_base.specs.FinBag.{◌⊕◌}
@@ -19,6 +19,10 @@ invariant_of-self-2 c =
     let new : IsNew r.ops op = search rules in
     let room : told_atoms r.ops + size op.1 ≤ MAX_TOLD = search rules in
     let joined : c.put_in.new.ops ≡ map.insert r.ops op.0 op.1 = search rules in
-    let put : c.put_in.new.pool ≡ r.pool ⊕ op.1 = search rules in
-    c.events_keep_replicas_sound.ensures.tell p op _ _
-    (tells_is p r.ops _ r.pool _ r.out r.next op declared new room joined put) c.self.invariant
+    let put : c.put_in.new.pool.store ≡ r.pool.store ⊕ op.1 = search rules in
+    let weighed : c.put_in.new.pool.weighed ≡ r.pool.weighed = search rules in
+    record {
+      sound = c.events_keep_replicas_sound.ensures.tell p op _ _
+          (tells_is p r.ops _ r.pool.store _ r.out r.next op declared new room joined put) c.self.invariant.sound;
+      own = weighed ∙ c.self.invariant.own;
+    }

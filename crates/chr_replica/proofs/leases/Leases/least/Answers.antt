@@ -1,5 +1,6 @@
-use Rattle.std.proofs.Common.{◌≡◌, Some, IsSome, sym, ap, subst, ◌∙◌}
+use Rattle.std.proofs.Common.{rules, ◌≡◌, ℕ, Some, IsSome, false, sym, ap, subst, ◌∙◌}
 use Rattle.std.specs.Option.{is_some}
+use Rattle.std.specs.Ordering.{nat_cmp, is_gt}
 use Rattle.std.specs.FinMap as map
 use Rattle.std.proofs.lemmas.Map.Keys.{le_from_not_gt}
 use Rattle.chr_replica.proofs.LeaseLists.{get_part, part_at}
@@ -14,6 +15,8 @@ returns-in-Some-clause-some c =
 
 pub returns-in-Some-clause-least : goal.returns-in-Some-clause-least
 returns-in-Some-clause-least c = λ q out.
+    let k = c.in-Some.number.now in
     let same : map.get c.args.self.now q ≡ part_at c.self.inside.parts.entries q =
     ap (λ m. map.get m q) (sym c.self.view_is) ∙ get_part c.self.inside.parts.entries q in
-    le_from_not_gt c.in-Some.number.now q (c.in-Some.ensures.least q (subst IsSome same out))
+    let least : (p : ℕ) → IsSome (part_at c.self.inside.parts.entries p) → is_gt (nat_cmp k p) ≡ false = search rules in
+    le_from_not_gt k q (least q (subst IsSome same out))

@@ -12,7 +12,7 @@ use Rattle.chr_report.proofs.Writable.{happens_written}
 use Rattle.chr_report.proofs.service.Service.merge.Goals as goal
 
 pub returns-clause-answered : goal.returns-clause-answered
-returns-clause-answered c =
+returns-clause-answered g c =
     let p = served c.args.self.now in
     record {
       program = c.in_ok-rest_many.ensures.program ∙ c.in_ok-answer.ensures.program;

@@ -12,11 +12,11 @@ returns-clause-answered g c =
     record {
       program = c.in_ok-answer.ensures.program ∙ c.in_ok-settle.ensures.program;
       writable =
-          happens_written (served c.settle.new.self) c.settle.new.self.world.replicas c.act.new.self.world.replicas
+          happens_written (served c.settle.new.self) c.settle.new.self.world.replicas c.shown.new.self.world.replicas
           (event.At c.args.replica act.Show) c.in_ok-answer.answer tt c.in_ok-answer.ensures.happens;
       answer =
           shown (served c.args.self.now) (served c.settle.new.self) c.settle.new.self.world.replicas
-          c.act.new.self.world.replicas (held c.args.self.now) c.args.replica c.in_ok-answer.answer
+          c.shown.new.self.world.replicas (held c.args.self.now) c.args.replica c.in_ok-answer.answer
           (ap program_in c.settle.ensures.program) c.in_ok-settle.ensures.ready c.in_ok-settle.ensures.rests
           c.in_ok-answer.ensures.happens c.in_ok-settle.ensures.operations;
     }

@@ -10,14 +10,16 @@ use Rattle.chr_report.proofs.Writable.{happens_written}
 use Rattle.chr_report.proofs.service.Service.tell.Goals as goal
 
 pub rest_many-requires : goal.rest_many-requires
-rest_many-requires c =
-    act_ready {E = AllocError} c.runs_keep_replicas_sound.ensures c.args.self.now.world.accepted
-    c.tell.new.self.accepted c.args.self.now.world.replicas c.tell.new.self.replicas
-    (event.At c.args.replica (act.Tell c.args.op)) (Ok c.in_ok-answer.answer) tt c.tell.ensures.program
-    c.in_ok-answer.ensures.happens c.requires.ready
+rest_many-requires g c = (
+  c.type_bounds.sync-R,
+  act_ready {E = AllocError} c.runs_keep_replicas_sound.ensures c.args.self.now.world.accepted
+      c.tell.new.self.accepted c.args.self.now.world.replicas c.tell.new.self.replicas
+      (event.At c.args.replica (act.Tell c.args.op)) (Ok c.in_ok-answer.answer) tt c.tell.ensures.program
+      c.in_ok-answer.ensures.happens c.requires.ready,
+)
 
 pub returns-clause-answered : goal.returns-clause-answered
-returns-clause-answered c =
+returns-clause-answered g c =
     record {
       program = c.in_ok-rest_many.ensures.program ∙ c.tell.ensures.program;
       writable =

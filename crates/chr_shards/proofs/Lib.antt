@@ -1,0 +1,5 @@
+pub mod Sums
+pub mod Places
+pub mod Instances
+pub mod Steps
+pub mod Rests
