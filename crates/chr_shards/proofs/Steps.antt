@@ -9,22 +9,19 @@ use Rattle.chr_base.specs.declared.rule.Rule.{Rule}
 use Rattle.chr_base.specs.declared.derivation.Step.{Step as StepValue}
 use Rattle.chr_base.specs.FinBag as bag
 use Rattle.chr_base.specs.FinBag.{◌⊕◌, IsWithin}
-use Rattle.chr_base.specs.Rules.{Step, heads_at}
+use Rattle.chr_base.specs.Rules.{heads_at}
 use Rattle.chr_base.specs.Stores.{Store, store_of, stores_sum}
 use Rattle.chr_base.proofs.Steps.{StepBy-grows}
 use Rattle.chr_base.proofs.Stores.{within_more}
 use Rattle.chr_rewrite.specs.Derivations.{IsApplicable, LeadsTo}
 use Rattle.chr_shards.specs.declared.placing.Placing.{Placing}
 use Rattle.chr_shards.specs.working.Placed.{store_at, place_in, LiesAt, AreShards}
+use Rattle.chr_rewrite.proofs.DerivationLemmas.{LeadsTo-steps}
 use Rattle.chr_shards.proofs.Instances.{some_head, home, heads_within, step_stays}
 use Rattle.chr_shards.proofs.Places.{pool_is, lies_before, placed_still}
 use Rattle.chr_shards.proofs.Sums.{apart_from, put_with}
 
--- a named step is a step
-pub leads_step : (rules : List Rule) (st : StepValue) (s t : Store) → LeadsTo rules st s t → Step rules s t
-leads_step rules st s t h = (st.rule - 1, (h.0).rule, (h.1).0, (h.0).named, (h.1).2)
-
--- which goes on in every larger store
+-- a named step goes on in every larger store
 leads_grows : (rules : List Rule) (st : StepValue) (s t x : Store) → LeadsTo rules st s t
     → LeadsTo rules st (s ⊕ x) (t ⊕ x)
 leads_grows rules st s t x h = (
@@ -85,7 +82,7 @@ module _ {E : Type 0} (p : Placing) (rules : List Rule) (ss : List Store) (k : �
 
       by : (r : Result Bool E) → IfOk r (λ b. OnTrue b (LeadsTo rules st s t)) → IfOk r (λ b. OnFalse b (t ≡ s))
           → OnErr r (t ≡ s) → LiesAt p (length ss) k t
-      by (Ok true) taken same err = step_stays p rules ss is k s t before (leads_step rules st s t taken)
+      by (Ok true) taken same err = step_stays p rules ss is k s t before (LeadsTo-steps rules st s t taken)
       by (Ok false) taken same err = stays same
       by (Err e) taken same err = stays err
 
