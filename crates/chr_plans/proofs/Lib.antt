@@ -10,3 +10,5 @@ pub mod SeatedRows
 pub mod Around
 pub mod Joined
 pub mod RuledOut
+pub mod Hopeless
+pub mod Alike

@@ -85,7 +85,7 @@ variable_sound r (p ∷ known) x s e = by (column_of (pattern_at r p).args.items
         )
 
 -- a place that is known
-known_at : (places : List ℕ) (p n q : ℕ) → is_in q (p ∷ take n places) ≡ true → IsKnown places p n q
+pub known_at : (places : List ℕ) (p n q : ℕ) → is_in q (p ∷ take n places) ≡ true → IsKnown places p n q
 known_at places p n q e = by (nat_eq q p) refl e
   where
     by : (b : Bool) → nat_eq q p ≡ b → (b || list_any (nat_eq q) (take n places)) ≡ true → IsKnown places p n q

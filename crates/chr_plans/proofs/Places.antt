@@ -28,6 +28,11 @@ place_is ls j l h e =
     place_of_partner (partners_of ls) j l.partner (omega (arith, n, h)) (partner_is ls j l h e)
 
 -- the places of the first look-ups
+pub looked_take : (ls : List Lookup) (n : ℕ) → looked_in (take n ls) ≡ take n (looked_in ls)
+looked_take ls n =
+    ap places_of (sym (take-map (λ (l : Lookup). l.partner) n ls))
+    ∙ sym (take-map (λ (l : Partner). l.place) n (partners_of ls))
+
 pub places_take : (ls : List Lookup) (n j : ℕ) → j < n → get_or (looked_in (take n ls)) j 0 ≡ get_or (looked_in ls) j 0
 places_take ls n j g =
     ap (λ ps. get_or (places_of ps) j 0) (sym (take-map (λ (l : Lookup). l.partner) n ls))

@@ -1,13 +1,13 @@
 -- Heads with other constants than an atom has.
-use Rattle.std.specs.Prelude.{◌≡◌, ℕ, ℤ, ◌-◌, ◌<◌, ◌≤◌, List, [], ◌∷◌, map, length, get_or, take, drop, Bool}
+use Rattle.std.specs.Prelude.{◌≡◌, ℕ, ℤ, ◌-◌, ◌≤◌, List, [], ◌∷◌, map, length, get_or, take, drop, Bool}
 use Rattle.std.specs.Prelude.{true, false, not}
 use Rattle.std.specs.Bool.{OnTrue, OnFalse}
-use Rattle.std.proofs.Common.{refl, sym, ap, subst, ◌∙◌, arith}
+use Rattle.std.proofs.Common.{sym, ap, ◌∙◌, arith}
 use Rattle.std.proofs.lemmas.List.{take_all}
 use Rattle.chr_base.specs.declared.atom.Atom.{Atom}
 use Rattle.chr_base.specs.declared.rule.Rule.{Rule}
 use Rattle.chr_base.specs.declared.term.Term.{Term}
-use Rattle.chr_base.specs.Rules.{Valuation, heads_at, term_value}
+use Rattle.chr_base.specs.Rules.{Valuation, term_value}
 use Rattle.chr_plans.specs.Plans.{pattern_at}
 use Rattle.chr_plans.specs.Rows.{Tables}
 use Rattle.chr_plans.specs.Seats.{NoPartners, head}

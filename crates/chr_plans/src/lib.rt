@@ -9,6 +9,7 @@
 pub mod actives;
 pub mod constants;
 pub mod key;
+mod missing;
 pub mod plan;
 pub mod planning;
 pub mod react;

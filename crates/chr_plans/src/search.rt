@@ -8,6 +8,7 @@ ghost use Rattle.chr_plans.specs.Rows.{HasKey, LiesIn};
 ghost use Rattle.chr_plans.specs.working.Searching.{AgreeAtKnown, NoneFrom, PastFrom, AreStarted, looked_in};
 
 use crate::key::{Span, key_values, pass, span_of};
+use crate::missing::is_hopeless;
 use crate::plan::Lookup;
 use crate::rows::{Rows, Seat, is_same};
 use arrayvec::ArrayVec;
@@ -100,7 +101,13 @@ fn complete<R: Rows>(
     }
     let key = key_values(heads, &lookup.partner.key);
     let span = span_of(heads, lookup.partner.order, &lookup.partner.limits);
-    let mut next = newest_from(rows, lookup, &key, &span, from);
+    let Some(newest) = newest_from(rows, lookup, &key, &span, from) else {
+        return false;
+    };
+    if is_hopeless(rows, active, lookups, done, heads) {
+        return false;
+    }
+    let mut next = Some(newest);
     while let Some(row) = next {
         let seat = Seat {
             table: lookup.table,

@@ -1,10 +1,17 @@
 -- How far a search has come.
-use Rattle.std.specs.Prelude.{◌≡◌, ℕ, ◌<◌, ◌≤◌, List, length, get_or, Some}
+use Rattle.std.specs.Prelude.{◌≡◌, ℕ, ◌<◌, ◌≤◌, List, ◌∷◌, length, get_or, map, take, Bool, true}
+use Rattle.std.specs.Prelude.{Option, Some, None, IsTrue, is_some}
+use Rattle.std.specs.List.{list_all}
 use Rattle.chr_base.specs.declared.atom.Atom.{Atom}
 use Rattle.chr_base.specs.declared.rule.Rule.{Rule}
+use Rattle.chr_plans.specs.declared.key.Key.{Key}
+use Rattle.chr_plans.specs.declared.key.Source.{Source}
+use Rattle.chr_plans.specs.declared.key.Source.TheVariants.{Constant, Argument}
 use Rattle.chr_plans.specs.declared.plan.Lookup.{Lookup}
 use Rattle.chr_plans.specs.declared.rows.Seat.{Seat}
-use Rattle.chr_plans.specs.Rows.{Tables}
+use Rattle.chr_plans.specs.Keys.{source_value}
+use Rattle.chr_plans.specs.Planning.{is_in}
+use Rattle.chr_plans.specs.Rows.{Tables, Columns, HasKey}
 use Rattle.chr_plans.specs.Seats.{head, seat, atom_in, IsSeated}
 use Rattle.chr_plans.specs.Plans.{IsKnown, partners_of, places_of}
 
@@ -38,3 +45,25 @@ pub record AreStarted (rows : Tables) (places : List ℕ) (n : ℕ) (heads : Lis
   pub there : (j : ℕ) → j < n
       → atom_in rows (seat seats (get_or places j 0)) ≡ Some (head heads (get_or places j 0))
   pub apart : (i j : ℕ) → i < j → j < n → ¬ (seat seats (get_or places i 0) ≡ seat seats (get_or places j 0))
+
+-- the source is a constant, or an argument of a head at one of these places
+abbrev pub is_ready : List ℕ → Source → Bool
+is_ready known (Constant c) = true
+is_ready known (Argument q c) = is_in q known
+
+-- all sources of a key are
+abbrev pub are_ready : List ℕ → List Key → Bool
+are_ready known key = list_all (λ k. is_ready known k.source) key
+
+-- there is the index of a look-up
+abbrev pub IsIndexed : Columns → Option Lookup → Type 0
+IsIndexed columns None = ⊥
+IsIndexed columns (Some l) = IsTrue (is_some (columns l.table l.index))
+
+-- Some look-up finds no row, and its key is known from the active atom and the partners of the first n look-ups.
+abbrev pub IsMissing : Tables → Columns → ℕ → List Lookup → ℕ → List Atom → Type 0
+IsMissing rows columns p lookups n heads =
+    (j : ℕ) × (l : Lookup) × (j < length lookups) × (get_or lookups j l ≡ l)
+    × (are_ready (p ∷ take n (looked_in lookups)) l.partner.key.items ≡ true)
+    × ((row : ℕ) → ¬ HasKey (columns l.table l.index)
+    (map (λ k. source_value heads k.source) l.partner.key.items) (rows l.table row))

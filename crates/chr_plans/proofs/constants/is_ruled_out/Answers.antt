@@ -1,6 +1,5 @@
-use Rattle.std.proofs.Common.{rules, ◌≡◌, ℤ, List, subst}
+use Rattle.std.proofs.Common.{rules, ◌≡◌, subst}
 use Rattle.std.specs.Bool.{OnFalse}
-use Rattle.chr_base.specs.declared.term.Term.{Term}
 use Rattle.chr_plans.specs.Plans.{pattern_at}
 use Rattle.chr_plans.proofs.RuledOut.{Differ, no_partners}
 use Rattle.chr_plans.proofs.constants.is_ruled_out.Goals as goal

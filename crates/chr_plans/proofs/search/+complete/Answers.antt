@@ -6,6 +6,7 @@ use Rattle.chr_plans.specs.Seats.{seat}
 use Rattle.chr_plans.specs.working.Searching.{looked_in}
 use Rattle.chr_base.proofs.Instances.{heads_few}
 use Rattle.chr_plans.proofs.Places.{places_take, partners_len}
+use Rattle.chr_plans.proofs.Hopeless.{all_indexed, none_from}
 use Rattle.chr_plans.proofs.Searches.{IsWanted, bound, below_found, below_next, newest_next, none_next, place_within}
 use Rattle.chr_plans.proofs.Searches.{past_begun, past_found, seat_found, past_next, not_passed, not_taken, not_found}
 use Rattle.chr_plans.proofs.Searches.{seated_all, none_all, started_more, same_deeper}
@@ -30,26 +31,51 @@ returns-then-not-pass-clause-none g t c =
     (g.R.Rows.columns c.args.rows.now) c.args.heads.now c.args.seats.now c.requires.plan c.requires.fits n
     (sym c.index-lookups-done.is) c.if-not-pass.ensures
 
+pub returns-in_default-clause-none : goal.returns-in_default-clause-none
+returns-in_default-clause-none g t c =
+    let n : c.args.done < length c.args.lookups.now = (let a = c.requires.done in let b = c.if-done-lookups.false in
+    omega (arith, a, b)) in
+    let key : c.deref.result.now ≡ map (λ k. source_value c.args.heads.now k.source)
+    c.index-lookups-done.result.partner.key.items = c.deref.ensures.0 ∙ c.key_values-key.ensures in
+    let past = past_begun c.args.rule.now c.args.active c.args.lookups.now c.args.done c.index-lookups-done.result _
+    (g.R.Rows.columns c.args.rows.now) c.args.heads.now c.args.seats.now c.requires.plan c.requires.fits n
+    (sym c.index-lookups-done.is) c.span_of-span.result c.args.from c.newest_from.result
+    c.span_of-span.ensures.all c.requires.passed
+    (below_found _ _ _ c.newest_from.result (rw (← key) c.newest_from.ensures.newest)
+    (rw (← key) c.newest_from.ensures.none)) in
+    λ hs ss s same. (rw c.in_default.is at past) hs ss s same (omega arith)
+
+pub is_hopeless-requires-clause-indexed : goal.is_hopeless-requires-clause-indexed
+is_hopeless-requires-clause-indexed g t c = rw c.newest_from.ensures.columns (all_indexed c.args.rule.now _
+    c.args.lookups.now (g.R.Rows.columns c.args.rows.now) c.requires.fits)
+
+pub returns-then-is_hopeless-clause-none : goal.returns-then-is_hopeless-clause-none
+returns-then-is_hopeless-clause-none g t c =
+    none_from c.args.rule.now _ (g.R.Rows.columns c.args.rows.now) c.args.active c.args.lookups.now c.args.done
+    c.args.heads.now c.args.seats.now c.requires.plan c.requires.fits
+    (rw (c.newest_from.ensures.rows, c.newest_from.ensures.columns) at c.if-is_hopeless.ensures.missing)
+
 pub loop-next-init : goal.loop-next-init
 loop-next-init g t c =
     let n : c.args.done < length c.args.lookups.now = (let a = c.requires.done in let b = c.if-done-lookups.false in
     omega (arith, a, b)) in
     let key : c.deref.result.now ≡ map (λ k. source_value c.args.heads.now k.source)
     c.index-lookups-done.result.partner.key.items = c.deref.ensures.0 ∙ c.key_values-key.ensures in
+    let past = past_begun c.args.rule.now c.args.active c.args.lookups.now c.args.done c.index-lookups-done.result _
+    (g.R.Rows.columns c.args.rows.now) c.args.heads.now c.args.seats.now c.requires.plan c.requires.fits n
+    (sym c.index-lookups-done.is) c.span_of-span.result c.args.from c.newest_from.result
+    c.span_of-span.ensures.all c.requires.passed
+    (below_found _ _ _ c.newest_from.result (rw (← key) c.newest_from.ensures.newest)
+    (rw (← key) c.newest_from.ensures.none)) in
     record {
-      rows = c.newest_from-next.ensures.rows;
-      columns = c.newest_from-next.ensures.columns;
-      tables = c.newest_from-next.ensures.tables;
+      rows = c.is_hopeless.ensures.rows ∙ c.newest_from.ensures.rows;
+      columns = c.is_hopeless.ensures.columns ∙ c.newest_from.ensures.columns;
+      tables = c.is_hopeless.ensures.tables ∙ c.newest_from.ensures.tables;
       heads = c.requires.heads;
       seats = c.requires.seats;
       same = λ k b. (refl, refl);
-      lives = c.newest_from-next.ensures.lives;
-      past = past_begun c.args.rule.now c.args.active c.args.lookups.now c.args.done c.index-lookups-done.result _
-          (g.R.Rows.columns c.args.rows.now) c.args.heads.now c.args.seats.now c.requires.plan c.requires.fits n
-          (sym c.index-lookups-done.is) c.span_of-span.result c.args.from c.newest_from-next.result
-          c.span_of-span.ensures.all c.requires.passed
-          (below_found _ _ _ c.newest_from-next.result (rw (← key) c.newest_from-next.ensures.newest)
-          (rw (← key) c.newest_from-next.ensures.none));
+      lives = rw c.in-Some.is at c.newest_from.ensures.lives;
+      past = rw c.in-Some.is at past;
     }
 
 pub is_taken-requires-clause-places : goal.is_taken-requires-clause-places
@@ -161,8 +187,8 @@ returns-then-complete-clause-passed g t c =
     let s = c.loop-next.invariant.seats in
     past_found c.args.rule.now c.args.active c.args.lookups.now c.args.done c.index-lookups-done.result _
     (g.R.Rows.columns c.args.rows.now) c.args.heads.now c.args.seats.now c.requires.plan c.requires.fits n here _
-    c.in-Some.row
-    (rw c.in-Some.is at c.loop-next.invariant.past)
+    c.in-Some-next.row
+    (rw c.in-Some-next.is at c.loop-next.invariant.past)
     (ap (λ x. x.row) (seat_found c.args.rule.now c.args.active c.args.lookups.now c.args.done
     c.index-lookups-done.result _ (g.R.Rows.columns c.args.rows.now) c.args.heads.now c.args.seats.now
     c.requires.plan c.requires.fits n here _ c.loop-next.heads _ c.loop-next.seats _ _
@@ -172,8 +198,8 @@ pub loop-next-preserved : goal.loop-next-preserved
 loop-next-preserved g t c =
     let n : c.args.done < length c.args.lookups.now = (let a = c.requires.done in let b = c.if-done-lookups.false in
     omega (arith, a, b)) in
-    let key : c.deref-in-Some.result.now ≡ map (λ k. source_value c.args.heads.now k.source)
-    c.index-lookups-done.result.partner.key.items = c.deref-in-Some.ensures.0 ∙ c.key_values-key.ensures in
+    let key : c.deref-in-Some-next.result.now ≡ map (λ k. source_value c.args.heads.now k.source)
+    c.index-lookups-done.result.partner.key.items = c.deref-in-Some-next.ensures.0 ∙ c.key_values-key.ensures in
     let w0 = place_within c.args.rule.now c.args.active c.args.lookups.now c.args.done c.index-lookups-done.result _
     (g.R.Rows.columns c.args.rows.now) c.args.heads.now c.args.seats.now c.requires.plan c.requires.fits n
     (sym c.index-lookups-done.is) in
@@ -220,15 +246,15 @@ loop-next-preserved g t c =
       lives = rw (← rows_now) c.next-next.ensures.lives;
       past = past_next c.args.rule.now c.args.active c.args.lookups.now c.args.done c.index-lookups-done.result _
           (g.R.Rows.columns c.args.rows.now) c.args.heads.now c.args.seats.now c.requires.plan c.requires.fits n
-          (sym c.index-lookups-done.is) c.span_of-span.result c.in-Some.row
+          (sym c.index-lookups-done.is) c.span_of-span.result c.in-Some-next.row
           (bound c.next-next.result) c.span_of-span.ensures.all
           (below_next (λ q. IsWanted (g.R.Rows.columns c.args.rows.now c.index-lookups-done.result.table
           c.index-lookups-done.result.index) (map (λ k. source_value c.args.heads.now k.source)
           c.index-lookups-done.result.partner.key.items) c.span_of-span.result
-          (g.R.Rows.rows c.args.rows.now c.index-lookups-done.result.table q)) c.in-Some.row c.next-next.result
-          (newest_next _ _ c.in-Some.row c.next-next.result
+          (g.R.Rows.rows c.args.rows.now c.index-lookups-done.result.table q)) c.in-Some-next.row c.next-next.result
+          (newest_next _ _ c.in-Some-next.row c.next-next.result
           (rw (← key, ← rows_now, ← columns_now) c.next-next.ensures.newest))
-          (none_next _ _ c.in-Some.row c.next-next.result
+          (none_next _ _ c.in-Some-next.row c.next-next.result
           (rw (← key, ← rows_now, ← columns_now) c.next-next.ensures.none)))
           (elim c.if-not-is_taken.branch [
             | then-not-is_taken+else-complete w ↦ not_found c.args.rule.now c.args.active c.args.lookups.now c.args.done
@@ -247,9 +273,9 @@ loop-next-preserved g t c =
                 (sym same.1 ∙ ap (seat c.loop-next.seats) (sym (places_take c.args.lookups.now c.args.done v.0 g2))
                 ∙ v.2))
           ])
-          (rw c.in-Some.is at c.loop-next.invariant.past);
+          (rw c.in-Some-next.is at c.loop-next.invariant.past);
     }
 
 pub returns-clause-none : goal.returns-clause-none
-returns-clause-none g t c = λ hs ss s same. (rw c.in_default.is at c.loop-next.invariant.past) hs ss s same
+returns-clause-none g t c = λ hs ss s same. (rw c.in_default-next.is at c.loop-next.invariant.past) hs ss s same
     (omega arith)

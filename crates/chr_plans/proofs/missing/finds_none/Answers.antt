@@ -1,0 +1,12 @@
+use Rattle.std.proofs.Common.{◌≡◌, map, ◌∙◌}
+use Rattle.std.proofs.lemmas.Bool.{OnTrue_from}
+use Rattle.chr_plans.specs.Keys.{source_value}
+use Rattle.chr_plans.proofs.Hopeless.{none_found}
+use Rattle.chr_plans.proofs.missing.finds_none.Goals as goal
+
+pub returns-clause-none : goal.returns-clause-none
+returns-clause-none g c = OnTrue_from c.is_none.result _ (λ e other has.
+    (let key : c.deref.result.now ≡ map (λ k. source_value c.args.heads.now k.source)
+    c.args.lookup.now.partner.key.items = c.deref.ensures.0 ∙ c.key_values-key.ensures in
+    none_found _ c.first.result c.is_none.result c.is_none.ensures e c.first.ensures.none other
+    (rw key has) (has.0, has.1, c.whole_span.ensures has.0)))

@@ -1,0 +1,108 @@
+//! Partners that are missing: a look-up whose key is known finds no row, so the look-ups before it are in vain.
+ghost use Rattle.std.specs.Prelude.{◌≡◌, ℕ, ◌<◌, ◌≤◌, ◌∷◌, length, map, slice_get, true, IsTrue, is_some};
+ghost use Rattle.std.specs.List.{list_all};
+ghost use Rattle.std.specs.Bool.{OnTrue};
+ghost use Rattle.chr_base.specs.declared.atom.Atom.{Atom as AtomValue};
+ghost use Rattle.chr_plans.specs.Keys.{source_value, Spans};
+ghost use Rattle.chr_plans.specs.Planning.{is_in};
+ghost use Rattle.chr_plans.specs.Rows.{HasKey};
+ghost use Rattle.chr_plans.specs.working.Searching.{are_ready, is_ready, looked_in, IsIndexed, IsMissing};
+
+use crate::key::{Key, Source, Span, key_values};
+use crate::plan::Lookup;
+use crate::rows::Rows;
+use chr_base::atom::Atom;
+
+/// Whether one of these look-ups looks in the place.
+fn is_looked_in(place: usize, lookups: &[Lookup]) -> bool
+    ensures { result ≡ is_in place (looked_in lookups.now) }
+{
+    let [lookup, lookups @ ..] = lookups else {
+        return false;
+    };
+    place == lookup.partner.place || is_looked_in(place, lookups)
+}
+
+/// Whether a source's value is known from the active atom and the partners of these look-ups.
+fn is_ready(source: Source, active: usize, found: &[Lookup]) -> bool
+    ensures { result ≡ is_ready (active ∷ looked_in found.now) source }
+{
+    match source {
+        Source::Constant(_) => true,
+        Source::Argument { place, column: _ } => place == active || is_looked_in(place, found),
+    }
+}
+
+/// Whether the values of a key are known from the active atom and the partners of these look-ups.
+fn are_ready(keys: &[Key], active: usize, found: &[Lookup]) -> bool
+    ensures { result ≡ are_ready (active ∷ looked_in found.now) keys.now }
+{
+    keys.iter().all(|key| is_ready(key.source, active, found))
+}
+
+/// Whether the partner of the last of these look-ups is the first with which the values of a key are known; where there
+/// is none, the active atom.
+fn become_ready(keys: &[Key], active: usize, found: &[Lookup]) -> bool
+    ensures { OnTrue result (are_ready (active ∷ looked_in found.now) keys.now ≡ true) }
+{
+    if !are_ready(keys, active, found) {
+        return false;
+    }
+    let [before @ .., _last] = found else {
+        return true;
+    };
+    !are_ready(keys, active, before)
+}
+
+/// A span with all atoms.
+fn whole_span() -> Span
+    ensures { (a : AtomValue) → Spans result a }
+{
+    Span::default()
+}
+
+/// Whether no row has the key of a look-up under these heads.
+fn finds_none<R: Rows>(rows: &mut R, lookup: &Lookup, heads: &[Atom]) -> bool
+    requires { IsTrue (is_some (R.columns rows.old lookup.now.table lookup.now.index)) }
+    ensures rows { R.rows rows.new ≡ R.rows rows.old }
+    ensures columns { R.columns rows.new ≡ R.columns rows.old }
+    ensures tables { R.tables rows.new ≡ R.tables rows.old }
+    ensures none { OnTrue result ((other : ℕ) →
+        ¬ (HasKey (R.columns rows.old lookup.now.table lookup.now.index)
+        (map (λ k. source_value heads.now k.source) lookup.now.partner.key.items)
+        (R.rows rows.old lookup.now.table other))) }
+{
+    let key = key_values(heads, &lookup.partner.key);
+    rows.first(lookup.table, lookup.index, &key, &whole_span())
+        .is_none()
+}
+
+/// Whether a look-up after the first ones, whose key is known from the active atom and their partners, finds no row.
+/// Then no row helps the look-up that is next. A look-up is asked once its key is known, and no more further on.
+pub(crate) fn is_hopeless<R: Rows>(
+    rows: &mut R,
+    active: usize,
+    lookups: &[Lookup],
+    done: usize,
+    heads: &[Atom],
+) -> bool
+    requires indexed { (j : ℕ) → j < length lookups.now →
+        IsIndexed (R.columns rows.old) (slice_get lookups.now j) }
+    requires done { done < length lookups.now }
+    ensures rows { R.rows rows.new ≡ R.rows rows.old }
+    ensures columns { R.columns rows.new ≡ R.columns rows.old }
+    ensures tables { R.tables rows.new ≡ R.tables rows.old }
+    ensures missing { OnTrue result
+        (IsMissing (R.rows rows.old) (R.columns rows.old) active lookups.now done heads.now) }
+{
+    let found = &lookups[..done];
+    for later in done + 1..lookups.len() {
+        let lookup = &lookups[later];
+        if become_ready(&lookup.partner.key, active, found) {
+            if finds_none(rows, lookup, heads) {
+                return true;
+            }
+        }
+    }
+    false
+}
