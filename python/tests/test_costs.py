@@ -57,6 +57,8 @@ REACH = (
 UNEQUAL = ":- chr_constraint keep/2, item/2. keep(K,V) \\ item(K,W) <=> V =\\= W | true."
 RECTANGLE = ":- chr_constraint lim/2, pt/2. lim(X,Y) \\ pt(A,B) <=> A > X, B > Y | true."
 RULES = ":- chr_constraint k/2. " + " ".join(f"k({k},X) \\ k({k},X) <=> true." for k in range(64))
+THREES = ":- chr_constraint a/1, b/1, c/1. a(X), b(X), c(X) <=> true."
+FOURS = ":- chr_constraint a/1, b/1, c/1, d/1. a(X), b(X), c(X), d(X) <=> true."
 CROSSED = ":- chr_constraint a/3. " + " ".join(
     f"a(A,B,C) \\ a(A,D,E) <=> B < D, C > E, A > {k} | true." for k in range(4)
 )
@@ -169,6 +171,15 @@ def rules_of_one_symbol(count: int) -> str:
     return shown(RULES, (("k", (key % 64, key * 7919 % (count // 8))) for key in range(count)))
 
 
+def three_heads(count: int) -> str:
+    """All under one key, and of one head there is none, so that no two of the others help."""
+    return shown(THREES, (("ab"[key % 2], (7,)) for key in range(count)))
+
+
+def four_heads(count: int) -> str:
+    return shown(FOURS, (("abc"[key % 3], (7,)) for key in range(count)))
+
+
 def ring(count: int) -> str:
     """Eight replicas are told paths, and exchange them round a ring, twice."""
     chance, lines = random.Random(count), []
@@ -240,6 +251,8 @@ INPUTS = (
     Input(crossed_orders, 20_000, ("run", "--wide")),
     Input(one_limit, 20_000, ("run", "--wide")),
     Input(rules_of_one_symbol, 5_000),
+    Input(three_heads, 20_000),
+    Input(four_heads, 20_000),
     Input(ring, 4_000, ("run", "--replicas", "8")),
     Input(exchanges, 10_000, ("run", "--replicas", "2")),
     Input(exchanges_with_gaps, 10_000, ("run", "--replicas", "2")),

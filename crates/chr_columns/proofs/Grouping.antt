@@ -1,12 +1,28 @@
 -- Groups that are added one by one.
 use Rattle.std.specs.Prelude.{Bool, if◌then◌else◌}
-use Rattle.std.proofs.Common.{◌≡◌, ℕ, suc, ◌<◌, List, [], ◌∷◌, ◌++◌, length, true, false, refl, sym, ap, ◌∙◌, arith}
+use Rattle.std.proofs.Common.{◌≡◌, ℕ, zero, suc, ◌+◌, ◌<◌, ◌≤◌, drop, nat_eq, List, [], ◌∷◌, ◌++◌, length, true, false, refl, sym, ap, ◌∙◌, arith}
 use Rattle.std.proofs.Common.{inl, inr, length-append, eq-eqb}
+use Rattle.std.specs.Cmp.{unsigned_Decides}
+use Rattle.std.proofs.lemmas.Bool.{and_parts}
 use Rattle.chr_base.specs.declared.atom.SymbolId.{SymbolId}
 use Rattle.chr_base.specs.declared.term.Pattern.{Pattern}
 use Rattle.chr_columns.specs.declared.groups.Group.{Group}
-use Rattle.chr_columns.specs.working.Groups.{is_for, table_of, IsGrouped, StayGrouped, HaveNoPlans}
+use Rattle.chr_columns.specs.working.Groups.{is_for, table_of, AreOthers, IsGrouped, StayGrouped, HaveNoPlans}
 use Rattle.chr_columns.proofs.Slices.{slice_more}
+
+-- groups of other symbols are passed over
+pub passed_over : (gs : List Group) (s : SymbolId) (n k : ℕ) → k ≤ length gs → AreOthers gs s.0 k
+    → table_of gs s n ≡ k + table_of (drop k gs) s n
+passed_over gs s n zero l others = omega arith
+passed_over [] s n (suc k) l others = absurd (omega (arith, l))
+passed_over (g ∷ gs) s n (suc k) l others =
+    by (is_for s n g) refl (passed_over gs s n k (omega (arith, l)) (λ j x m at. others (suc j) x (omega (arith, m)) at))
+  where
+    by : (b : Bool) → is_for s n g ≡ b → table_of gs s n ≡ k + table_of (drop k gs) s n
+        → ◌≡◌ {A = ℕ} (if b then 0 else suc (table_of gs s n)) (suc k + table_of (drop k gs) s n)
+    by true e more = absurd (others 0 g (omega arith) refl
+        ((unsigned_Decides g.symbol.0 s.0).0 (and_parts (nat_eq g.symbol.0 s.0) _ e).0))
+    by false e more = omega (arith, more)
 
 -- the group of a symbol is the same when others come after it
 table_left : (gs hs : List Group) (s : SymbolId) (n : ℕ) → table_of gs s n < length gs → table_of (gs ++ hs) s n

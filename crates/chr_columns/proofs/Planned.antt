@@ -49,7 +49,7 @@ grouped_same gs hs p e l =
 pub keep_all : (gs hs ks : List Group) → KeepPlans gs hs → KeepPlans hs ks → KeepPlans gs ks
 keep_all gs hs ks a b = record {
   shapes = b.shapes ∙ a.shapes;
-  plans = λ t i p h. (b.plans t i p (a.plans t i p h));
+  plans = λ t i r p h. (b.plans t i r p (a.plans t i r p h));
 }
 
 planned_same : (rules : List Rule) (gs hs : List Group) (columns : Columns) (p : Plan) → shapes_of hs ≡ shapes_of gs
@@ -88,7 +88,7 @@ module _ (gs : List Group) (t : ℕ) (d k : Group) (plan : Plan) (within : t < l
   pub plan_keeps : KeepPlans gs (set gs t k)
   plan_keeps = record {
     shapes = shapes;
-    plans = λ u i p h. (elim (cases_eq u t) as (λ _. HasPlan (set gs t k) u i p) [
+    plans = λ u i r p h. (elim (cases_eq u t) as (λ _. HasPlan (set gs t k) u i r p) [
       | inl same ↦ (let old : h.0 ≡ g = same_Some h.0 g (sym h.3 ∙ ap (slice_get gs) same ∙ at_t) in (
         k,
         h.1,
@@ -103,8 +103,8 @@ module _ (gs : List Group) (t : ℕ) (d k : Group) (plan : Plan) (within : t < l
     ]);
   }
 
-  pub plan_there : HasPlan (set gs t k) t plan.rule plan.place
-  plan_there = (
+  pub plan_there : (r : Rule) → HasPlan (set gs t k) t plan.rule r plan.place
+  plan_there r = (
     k,
     length g.plans.items,
     plan,
@@ -133,16 +133,36 @@ module _ (gs : List Group) (t : ℕ) (d k : Group) (plan : Plan) (within : t < l
 -- what has plans keeps them
 pub have_kept : (gs hs : List Group) (i : ℕ) (r : Rule) (n : ℕ) → KeepPlans gs hs → HavePlans gs i r n
     → HavePlans hs i r n
-have_kept gs hs i r n keep has p l k = subst (λ t. HasPlan hs t i p)
-    (same_table gs hs (pattern_at r p) (sym keep.shapes)) (keep.plans _ i p (has p l k))
+have_kept gs hs i r n keep has p l k = subst (λ t. HasPlan hs t i r p)
+    (same_table gs hs (pattern_at r p) (sym keep.shapes)) (keep.plans _ i r p (has p l k))
 
 pub have_more : (gs : List Group) (i : ℕ) (r : Rule) (n : ℕ) → HavePlans gs i r (n + 1)
-    → HasPlan gs (table_of_pattern gs (pattern_at r n)) i n → HavePlans gs i r n
-have_more gs i r n has new p l k = elim (cases_lt n p) as (λ _. HasPlan gs (table_of_pattern gs (pattern_at r p)) i p) [
+    → HasPlan gs (table_of_pattern gs (pattern_at r n)) i r n → HavePlans gs i r n
+have_more gs i r n has new p l k = elim (cases_lt n p) as (λ _. HasPlan gs (table_of_pattern gs (pattern_at r p)) i r p) [
   | inl less ↦ has p (omega (arith, less)) k
-  | inr most ↦ subst (λ q. HasPlan gs (table_of_pattern gs (pattern_at r q)) i q)
+  | inr most ↦ subst (λ q. HasPlan gs (table_of_pattern gs (pattern_at r q)) i r q)
       (let e : n ≡ p = omega (arith, l, most) in e) new
 ]
+
+-- the plan of a place serves one that reads like it
+pub have_alike : (gs : List Group) (i : ℕ) (r : Rule) (p q : ℕ) → pattern_at r p ≡ pattern_at r q
+    → HasPlan gs (table_of_pattern gs (pattern_at r q)) i r q
+    → HasPlan gs (table_of_pattern gs (pattern_at r p)) i r p
+have_alike gs i r p q same has = (
+  has.0,
+  has.1,
+  has.2,
+  ap (λ (x : Pattern). slice_get gs (table_of_pattern gs x)) same ∙ has.3,
+  has.4,
+  has.5,
+  same ∙ has.6,
+)
+
+pub keep_same : (gs : List Group) → KeepPlans gs gs
+keep_same gs = record {
+  shapes = refl;
+  plans = λ t i r p h. h;
+}
 
 pub covered_more : (rules : List Rule) (gs hs : List Group) (i : ℕ) (r : Rule) → KeepPlans gs hs → i < length rules
     → r ≡ get_or rules i r → AreCovered rules gs i

@@ -15,6 +15,7 @@ use Rattle.chr_plans.proofs.Values.{shape_known}
 use Rattle.chr_tables.specs.Contents.{Contents, rows_of, index_columns}
 use Rattle.chr_plans.specs.Actives.{NoInstanceWith}
 use Rattle.chr_plans.specs.Grids.{contents}
+use Rattle.chr_plans.proofs.Alike.{alike}
 use Rattle.chr_plans.proofs.Around.{rows_are_enough}
 use Rattle.chr_columns.specs.declared.groups.Group.{Group}
 use Rattle.chr_columns.specs.working.Groups.{table_of_atom, table_of_pattern}
@@ -62,7 +63,10 @@ module _ (rules : List Rule) (groups : List Group) (ts : List Contents)
       let n = none c.0 g c.1 (slice_get_within c.0.plans.items c.1 c.2 c.4) in
       let m : NoneBy rules (rows_of ts) a (Some c.2) = subst (λ o. NoneBy rules (rows_of ts) a o) c.4 n in
       let k : NoPartners r (rows_of ts) c.2.place a = m r (ap (slice_get rules) c.5 ∙ at) in
-      subst (λ q. NoPartners r (rows_of ts) q a) c.6 k heads seats
+      let w = up.plans _ c.0 c.1 c.2 c.3 c.4 in
+      let same : w.0 ≡ r = same_Some w.0 r (sym w.1 ∙ ap (slice_get rules) c.5 ∙ at) in
+      let there : c.2.place < length (heads_of r) = subst (λ (x : Rule). c.2.place < length (heads_of x)) same w.2 in
+      alike r (rows_of ts) p c.2.place a there c.6 k heads seats
       (subst (λ f. IsSeated r f p heads seats) (rows_are ts) seated) is))
 
 -- what a plan finds is an instance of its rule at its place

@@ -38,15 +38,15 @@ only_died ts us ss e t n b h = sym (row_is ts t n) ∙ rows_stay (grid ts) ss t 
 -- where the atom is the last fresh one, its search may go on when rows have died
 pub stands_on : (r r' : Rested) (fresh : List Atom) (a : Atom) (s : Standing) (found : Option Standing) (kept : Type 0)
     → IfSome found (λ x. (x ≡ s) × kept)
-    → (kept → (xs : List Atom) × (fresh ≡ xs ++ a ∷ [])) → r'.rules ≡ r.rules → r'.groups ≡ r.groups
+    → (kept → (xs : List Atom) × (fresh ≡ xs ++ a ∷ [])) → r'.rules ≡ r.rules → r'.directory ≡ r.directory
     → OnlyDied (rows_of r.tables.tables.items) (rows_of r'.tables.tables.items) → MayGoOn r a s → Stands r' fresh found
 stands_on r r' fresh a s None kept is last rules groups died goes = tt
 stands_on r r' fresh a s (Some x) kept is last rules groups died goes = λ xs b e g at. (
     let w = last is.1 in
     let same : a ≡ b = last_same w.0 xs a b (sym w.1 ∙ e) in
-    let here : slice_get r.groups.items (table_of_atom r.groups.items a) ≡ Some g =
-    ap (λ gs. slice_get gs.items (table_of_atom gs.items a)) (sym groups)
-    ∙ ap (λ c. slice_get r'.groups.items (table_of_atom r'.groups.items c)) same ∙ at in
+    let here : slice_get r.directory.groups.items (table_of_atom r.directory.groups.items a) ≡ Some g =
+    ap (λ d. slice_get d.groups.items (table_of_atom d.groups.items a)) (sym groups)
+    ∙ ap (λ c. slice_get r'.directory.groups.items (table_of_atom r'.directory.groups.items c)) same ∙ at in
     let after = rows_of r'.tables.tables.items in
     let later = resume_later r.rules.items (rows_of r.tables.tables.items) after died a g.plans.items s (goes g here) in
     subst (λ y. MayResume r'.rules.items after b g.plans.items y) (sym is.0)

@@ -51,7 +51,7 @@ impl Arrangement {
     fn of(rested: &Rested) -> Arrangement {
         Arrangement {
             joint: joint_of(&rested.rules),
-            crossed: crossed(&rested.groups),
+            crossed: crossed(&rested.directory.groups),
         }
     }
 

@@ -1,10 +1,11 @@
 //! Which table the atoms of a symbol are in.
-ghost use Rattle.std.specs.Prelude.{◌≡◌, length, IfOk, OnOk};
+ghost use Rattle.std.specs.Prelude.{◌≡◌, get_or, length, IfOk, OnOk};
 ghost use Rattle.chr_base.specs.Rules.{heads_of};
 ghost use Rattle.chr_columns.specs.working.Groups.{table_of, IsGrouped, AreGrouped, AllGrouped, StayGrouped};
-ghost use Rattle.chr_columns.specs.working.Groups.{HaveNoPlans};
+ghost use Rattle.chr_columns.specs.working.Groups.{AreOthers, AreStarts, HaveNoPlans};
 
 use chr_base::atom::SymbolId;
+use chr_base::limits::MAX_SYMBOLS;
 use chr_base::rule::Rule;
 use chr_base::term::Pattern;
 use chr_plans::plan::Plan;
@@ -28,6 +29,80 @@ pub(crate) fn table_of(groups: &[Group], symbol: SymbolId, arity: usize) -> usiz
         }
     }
     groups.len()
+}
+
+/// The number of the first group of a symbol, or that of groups where there is none.
+fn first_of(groups: &[Group], symbol: usize) -> usize
+    ensures { AreOthers groups.now symbol result }
+{
+    for (i, group) in groups.iter().enumerate() {
+        if usize::from(group.symbol.0) == symbol {
+            return i;
+        }
+    }
+    groups.len()
+}
+
+/// For each symbol of a program the number of its first group.
+fn starts_of(alloc: Global, groups: &[Group]) -> Result<Vec<usize>, AllocError>
+    ensures { IfOk result (λ starts. AreStarts starts.items groups.now) }
+{
+    let mut starts = Vec::with_capacity(alloc, MAX_SYMBOLS)?;
+    for symbol in 0..MAX_SYMBOLS {
+        starts.push(first_of(groups, symbol))?;
+    }
+    Ok(starts)
+}
+
+/// The number at which the groups of a symbol begin.
+fn start_for(starts: &[usize], symbol: SymbolId) -> usize
+    ensures { result ≡ get_or starts.now symbol.0 0 }
+{
+    let symbol = usize::from(symbol.0);
+    if symbol < starts.len() {
+        starts[symbol]
+    } else {
+        0
+    }
+}
+
+/// What `table_of` tells, sooner where there are many groups.
+fn table_from(starts: &[usize], groups: &[Group], symbol: SymbolId, arity: usize) -> usize
+    requires { AreStarts starts.now groups.now }
+    ensures { result ≡ table_of groups.now symbol arity }
+{
+    let start = start_for(starts, symbol).min(groups.len());
+    for i in start..groups.len() {
+        if groups[i].symbol.0 == symbol.0 && groups[i].arity == arity {
+            return i;
+        }
+    }
+    groups.len()
+}
+
+/// Groups, which are found by their symbols.
+#[derive(Drop)]
+pub(crate) struct Directory {
+    pub(crate) groups: Vec<Group>,
+    pub(crate) starts: Vec<usize>,
+    pub(crate) ghost started: { AreStarts starts.items groups.items },
+}
+
+impl Directory {
+    /// A directory of these groups.
+    pub(crate) fn of(alloc: Global, groups: Vec<Group>) -> Result<Directory, AllocError>
+        ensures { IfOk result (λ directory. directory.groups.items ≡ groups.items) }
+    {
+        let starts = starts_of(alloc, &groups)?;
+        Ok(Directory { groups, starts })
+    }
+
+    /// The table of the atoms with this symbol and number of arguments. What is in no group is in the last table.
+    pub(crate) fn table_of(&self, symbol: SymbolId, arity: usize) -> usize
+        ensures { result ≡ table_of self.now.groups.items symbol arity }
+    {
+        table_from(&self.starts, &self.groups, symbol, arity)
+    }
 }
 
 /// A group for a pattern's atoms, where they have none.

@@ -13,7 +13,7 @@ ghost use Rattle.chr_columns.specs.working.Resting.{HavePlans, AreCovered};
 ghost use Rattle.chr_columns.specs.working.Making.{made_way, made_ways, lists_of, columns_in, StayIndexed, Grows};
 ghost use Rattle.chr_columns.specs.working.Making.{KeepPlans};
 
-use crate::groups::{Group, groups_for, table_of};
+use crate::groups::{Directory, Group, groups_for, table_of};
 use crate::rested::Rested;
 use arrayvec::ArrayVec;
 use chr_base::limits::MAX_ARITY;
@@ -152,7 +152,23 @@ fn plan_for(
     })
 }
 
-/// The plan of a head place of the rule with this number joins the group of its head.
+/// Whether a later head of the rule reads like the one at a place.
+fn is_read_again(rule: &Rule, place: usize) -> bool
+    requires { place < length (heads_of rule.now) }
+    ensures { OnTrue result ((later : ℕ) × (place < later) × (later < length (heads_of rule.now))
+        × (pattern_at rule.now place ≡ pattern_at rule.now later)) }
+{
+    let pattern = rule.head_at(place);
+    for later in place + 1..rule.places() {
+        if rule.head_at(later) == pattern {
+            return true;
+        }
+    }
+    false
+}
+
+/// The plan of a head place of the rule with this number joins the group of its head. Where a later head reads alike
+/// its plan serves both: what partners an atom has at the one place, it has at the other.
 // Not put into its caller, whose frame would hold the room that this one takes.
 #[inline(never)]
 fn add_plan(
@@ -165,14 +181,18 @@ fn add_plan(
     requires place { place < length (heads_of rule.now) }
     requires grouped { IsGrouped groups.old (pattern_at rule.now place) }
     requires tables { length keys.old.items ≡ length groups.old + 1 }
+    requires later { HavePlans groups.old number rule.now (place + 1) }
     ensures tables { length keys.new.items ≡ length groups.new + 1 }
     ensures keep { OnOk result (KeepPlans groups.old groups.new) }
     ensures planned { OnOk result ((rules : List RuleValue) → slice_get rules number ≡ Some rule.now →
         ArePlanned rules groups.old (columns_in keys.old.items) →
         ArePlanned rules groups.new (columns_in keys.new.items)) }
     ensures plan { OnOk result
-        (HasPlan groups.new (table_of_pattern groups.new (pattern_at rule.now place)) number place) }
+        (HasPlan groups.new (table_of_pattern groups.new (pattern_at rule.now place)) number rule.now place) }
 {
+    if is_read_again(rule, place) {
+        return Ok(());
+    }
     let plan = plan_for(keys, groups, rule, number, place)?;
     let pattern = rule.head_at(place);
     let table = table_of(groups, pattern.symbol, pattern.args.len());
@@ -180,7 +200,7 @@ fn add_plan(
     Ok(())
 }
 
-/// The plans of all head places of the rule with this number, the last place first. So an active atom is first asked
+/// The plans of the head places of the rule with this number, the last place first. So an active atom is first asked
 /// whether a rule removes it: where it would also be kept, the rows stay as they are.
 fn add_plans(
     keys: &mut Vec<Keys>,
@@ -299,10 +319,11 @@ pub(crate) fn rested_for(alloc: Global, seed: u64, rules: &[Rule]) -> Result<Res
     let mut keys = no_keys(alloc, count)?;
     add_all_plans(&mut keys, &mut groups, &rules)?;
     let tables = tables_for(alloc, seed, &keys)?;
+    let directory = Directory::of(alloc, groups)?;
     Ok(Rested {
         seed,
         rules,
-        groups,
+        directory,
         tables,
     })
 }

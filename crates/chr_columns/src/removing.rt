@@ -13,7 +13,6 @@ ghost use Rattle.chr_plans.specs.Grids.{live_atoms};
 ghost use Rattle.chr_columns.specs.working.Groups.{table_of_atom};
 ghost use Rattle.chr_columns.specs.working.Resting.{stored, IsRested};
 
-use crate::groups::table_of;
 use crate::rested::{Rested, kill_all};
 use chr_base::atom::Atom;
 use chr_base::lists::{count_of, take_out};
@@ -82,10 +81,10 @@ impl Rested {
     /// The table of an atom, by its number.
     fn table_for(&self, atom: &Atom) -> usize
         requires { IsRested self.now }
-        ensures number { result ≡ table_of_atom self.now.groups.items atom.now }
+        ensures number { result ≡ table_of_atom self.now.directory.groups.items atom.now }
         ensures there { result < length self.now.tables.tables.items }
     {
-        table_of(&self.groups, atom.symbol, atom.args.len())
+        self.directory.table_of(atom.symbol, atom.args.len())
     }
 
     /// How often an atom is among those at rest.

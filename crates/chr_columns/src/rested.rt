@@ -7,7 +7,7 @@ ghost use Rattle.chr_plans.specs.Actives.{one, NoInstanceWith};
 ghost use Rattle.chr_plans.specs.Grids.{without_rows};
 ghost use Rattle.chr_columns.specs.working.Resting.{grid, stored, IsRested, IsReacting, MayGoOn};
 
-use crate::groups::{Group, table_of};
+use crate::groups::Directory;
 use arrayvec::ArrayVec;
 use chr_base::atom::Atom;
 use chr_base::limits::MAX_HEADS;
@@ -23,7 +23,7 @@ use std::alloc::AllocError;
 pub(crate) struct Rested {
     pub(crate) seed: u64,
     pub(crate) rules: Vec<Rule>,
-    pub(crate) groups: Vec<Group>,
+    pub(crate) directory: Directory,
     pub(crate) tables: Tables,
 }
 
@@ -74,8 +74,9 @@ impl Rested {
         ensures standing { IfSome result (λ o. MayGoOn self.new active.now o.standing) }
         ensures none { IfNone result (NoInstanceWith self.old.rules.items (stored self.old) active.now) }
     {
-        let table = table_of(&self.groups, active.symbol, active.args.len());
-        let Some(group) = self.groups.get(table) else {
+        let directory = &self.directory;
+        let table = directory.table_of(active.symbol, active.args.len());
+        let Some(group) = directory.groups.get(table) else {
             return None;
         };
         let Some(found) = react(
@@ -104,7 +105,7 @@ impl Rested {
         requires within { table < length self.old.tables.tables.items }
         ensures rested { IsRested self.new }
         ensures rules { self.new.rules ≡ self.old.rules }
-        ensures groups { self.new.groups ≡ self.old.groups }
+        ensures directory { self.new.directory ≡ self.old.directory }
         ensures stored { stored self.new ≡ stored self.old }
     {
         if self.tables.tables[table].is_half_dead() {
@@ -122,7 +123,7 @@ impl Rested {
         ensures ok { OnOk result (stored self.new ≡ stored self.old ⊕ one atom.now) }
         ensures err { OnErr result (stored self.new ≡ stored self.old) }
     {
-        let table = table_of(&self.groups, atom.symbol, atom.args.len());
+        let table = self.directory.table_of(atom.symbol, atom.args.len());
         self.tidy(table);
         self.tables.tables[table].insert(atom)?;
         Ok(())

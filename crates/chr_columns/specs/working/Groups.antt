@@ -1,5 +1,5 @@
 -- Groups of atoms by symbol and number of arguments.
-use Rattle.std.specs.Prelude.{◌≡◌, ℕ, suc, ◌<◌, List, [], ◌∷◌, map, length, Bool, ◌&&◌, nat_eq, if◌then◌else◌, Some}
+use Rattle.std.specs.Prelude.{◌≡◌, ℕ, suc, ◌<◌, List, get_or, [], ◌∷◌, map, length, Bool, ◌&&◌, nat_eq, if◌then◌else◌, Some}
 use Rattle.std.specs.Prelude.{slice_get}
 use Rattle.chr_base.specs.declared.atom.SymbolId.{SymbolId}
 use Rattle.chr_base.specs.declared.atom.Atom.{Atom}
@@ -46,3 +46,11 @@ StayGrouped before after = (p : Pattern) → IsGrouped before p → IsGrouped af
 -- no group has a plan
 abbrev pub HaveNoPlans : List Group → Type 0
 HaveNoPlans groups = (t : ℕ) (g : Group) → slice_get groups t ≡ Some g → g.plans.items ≡ []
+
+-- none of the first n groups is for the symbol
+abbrev pub AreOthers : List Group → ℕ → ℕ → Type 0
+AreOthers groups symbol n = (j : ℕ) (g : Group) → j < n → slice_get groups j ≡ Some g → ¬ (g.symbol.0 ≡ symbol)
+
+-- for each symbol the number of a group, before which none is for it
+abbrev pub AreStarts : List ℕ → List Group → Type 0
+AreStarts starts groups = (symbol : ℕ) → AreOthers groups symbol (get_or starts symbol 0)

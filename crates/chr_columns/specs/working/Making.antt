@@ -1,5 +1,6 @@
 -- The columns of indexes and the plans, as they are collected.
 use Rattle.std.specs.Prelude.{◌≡◌, ℕ, List, [], map, get_or, slice_get, Some}
+use Rattle.chr_base.specs.declared.rule.Rule.{Rule}
 use Rattle.chr_plans.specs.declared.key.Order.{Order}
 use Rattle.chr_plans.specs.Rows.{Columns}
 use Rattle.chr_columns.specs.declared.groups.Group.{Group}
@@ -33,4 +34,4 @@ Grows before after = (t i : ℕ) (cs : List ℕ) → before t i ≡ Some cs → 
 -- groups for the same atoms, with the plans that there were
 pub record KeepPlans (before after : List Group) : Type 0 where
   pub shapes : shapes_of after ≡ shapes_of before
-  pub plans : (t i p : ℕ) → HasPlan before t i p → HasPlan after t i p
+  pub plans : (t i : ℕ) (r : Rule) (p : ℕ) → HasPlan before t i r p → HasPlan after t i r p

@@ -49,23 +49,24 @@ ArePlanned rules groups columns =
     (t : ℕ) (g : Group) (j : ℕ) (p : Plan) → slice_get groups t ≡ Some g → slice_get g.plans.items j ≡ Some p
     → IsPlanned rules groups columns p
 
--- a plan of this rule and place is in this group
-abbrev pub HasPlan : List Group → ℕ → ℕ → ℕ → Type 0
-HasPlan groups t i p =
+-- a plan of this rule, with this number, is in this group: that of this place, or of one that reads like it
+abbrev pub HasPlan : List Group → ℕ → ℕ → Rule → ℕ → Type 0
+HasPlan groups t i r p =
     (g : Group) × (j : ℕ) × (plan : Plan) × (slice_get groups t ≡ Some g)
-    × (slice_get g.plans.items j ≡ Some plan) × (plan.rule ≡ i) × (plan.place ≡ p)
+    × (slice_get g.plans.items j ≡ Some plan) × (plan.rule ≡ i) × (pattern_at r p ≡ pattern_at r plan.place)
 
 -- the head places of a rule from the nth on have plans in the groups of their heads, and all places of the first n
 -- rules
 abbrev pub HavePlans : List Group → ℕ → Rule → ℕ → Type 0
 HavePlans groups i r n =
-    (p : ℕ) → n ≤ p → p < length (heads_of r) → HasPlan groups (table_of_pattern groups (pattern_at r p)) i p
+    (p : ℕ) → n ≤ p → p < length (heads_of r) → HasPlan groups (table_of_pattern groups (pattern_at r p)) i r p
 
 abbrev pub AreCovered : List Rule → List Group → ℕ → Type 0
 AreCovered rules groups n =
     (i : ℕ) (r : Rule) → i < n → slice_get rules i ≡ Some r → HavePlans groups i r 0
 
--- there is a table for each group and one more, each atom is in its table, and each head place has a plan
+-- there is a table for each group and one more, each atom is in its table, and each head place has a plan,
+-- its own or that of a place that reads like it
 pub record IsSetUp (rules : List Rule) (groups : List Group) (rows : Tables) (columns : Columns)
     (count : ℕ) : Type 0 where
   pub tables : count ≡ length groups + 1
@@ -76,7 +77,7 @@ pub record IsSetUp (rules : List Rule) (groups : List Group) (rows : Tables) (co
 
 -- the atoms are at rest under the rules
 pub record IsRested (r : Rested) : Type 0 where
-  pub set_up : IsSetUp r.rules.items r.groups.items (rows_of r.tables.tables.items)
+  pub set_up : IsSetUp r.rules.items r.directory.groups.items (rows_of r.tables.tables.items)
       (index_columns r.tables.tables.items)
       (length r.tables.tables.items)
   pub rests : IsAtRest (Step r.rules.items) (stored r)
@@ -92,7 +93,7 @@ pub record IsReacting (r : Rested) (a : Atom) (o : Occurrence) (heads : List Ato
 -- the search for partners of the atom may go on there, by the plans of its group
 abbrev pub MayGoOn : Rested → Atom → Standing → Type 0
 MayGoOn r a s =
-    (g : Group) → slice_get r.groups.items (table_of_atom r.groups.items a) ≡ Some g
+    (g : Group) → slice_get r.directory.groups.items (table_of_atom r.directory.groups.items a) ≡ Some g
     → MayResume r.rules.items (rows_of r.tables.tables.items) a g.plans.items s
 
 -- the search for partners of the last fresh atom may go on there

@@ -24,7 +24,7 @@ impl Columns {
     pub fn arrange(&mut self)
         ensures { self.new ≡ self.old }
     {
-        if self.fresh.len() > FEW_ATOMS || crossed(&self.rested.groups).is_some() {
+        if self.fresh.len() > FEW_ATOMS || crossed(&self.rested.directory.groups).is_some() {
             self.standing = None;
             arrange(&self.rested, &mut self.fresh);
         }

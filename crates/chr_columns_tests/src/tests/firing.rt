@@ -52,6 +52,48 @@ fn the_shorter_path_stays(rt: HostRuntime) {
     assert!(rt; has_just(&rt, &pool, &LEFT));
 }
 
+const TRIPLES: &str = ":- chr_constraint a/1, b/1, c/1. a(X), b(X), c(X) <=> true.";
+
+const WITHOUT_THE_LAST: [(u16, &[i64]); 5] = [
+    (0, &[1]),
+    (0, &[1]),
+    (1, &[1]),
+    (1, &[1]),
+    (2, &[2]),
+];
+
+const LEFT_OF_TRIPLES: [(u16, &[i64]); 3] = [(0, &[1]), (1, &[1]), (2, &[2])];
+
+/// A partner that is missing is looked for once, and found when it has come.
+#[test]
+fn a_rule_waits_for_its_last_head(rt: HostRuntime) {
+    let rules = [rule(&rt, TRIPLES)];
+    let mut pool = columns_for(&rt, &rules);
+    put(&rt, &mut pool, &WITHOUT_THE_LAST);
+    assert!(rt; !steps(&rt, &mut pool, &rules));
+    put(&rt, &mut pool, &[(2, &[1])]);
+    assert!(rt; steps(&rt, &mut pool, &rules));
+    assert!(rt; !steps(&rt, &mut pool, &rules));
+    assert!(rt; has_just(&rt, &pool, &LEFT_OF_TRIPLES));
+}
+
+const VOTES: &str = ":- chr_constraint votes/2. votes(C,0), votes(C,0) <=> votes(C,1).";
+
+const CAST: [(u16, &[i64]); 4] = [(0, &[1, 0]), (0, &[2, 0]), (0, &[1, 0]), (0, &[1, 0])];
+
+const COUNTED: [(u16, &[i64]); 3] = [(0, &[1, 0]), (0, &[1, 1]), (0, &[2, 0])];
+
+/// One plan serves both heads: an atom takes another one that is equal, and not itself.
+#[test]
+fn heads_that_read_alike_take_two_atoms(rt: HostRuntime) {
+    let rules = [rule(&rt, VOTES)];
+    let mut pool = columns_for(&rt, &rules);
+    put(&rt, &mut pool, &CAST);
+    assert!(rt; steps(&rt, &mut pool, &rules));
+    assert!(rt; !steps(&rt, &mut pool, &rules));
+    assert!(rt; has_just(&rt, &pool, &COUNTED));
+}
+
 /// How many steps there are until the pool is at rest.
 fn steps_to_rest(rt: &impl Abort, pool: &mut Columns, rules: &[Rule]) -> usize {
     for count in 0..100 {

@@ -3,7 +3,7 @@ use Rattle.chr_plans.specs.Plans.{IsPlan, partners_of, pattern_at}
 use Rattle.chr_columns.specs.working.Groups.{table_of, table_of_pattern}
 use Rattle.chr_columns.specs.working.Making.{columns_in, KeepPlans}
 use Rattle.chr_columns.specs.working.Resting.{IsPlanned}
-use Rattle.chr_columns.proofs.Planned.{plan_keeps, plan_there, planned_more, same_table}
+use Rattle.chr_columns.proofs.Planned.{have_alike, keep_same, plan_keeps, plan_there, planned_more, same_table}
 use Rattle.chr_columns.proofs.making.add_plan.Goals as goal
 
 table_is : (c : goal.In_ok-push) → c.table_of-table.result ≡ table_of_pattern c.args.groups.now
@@ -39,7 +39,7 @@ pub returns-clause-plan : goal.returns-clause-plan
 returns-clause-plan c =
     let p = c.in_ok-plan.plan in
     let h = plan_there c.args.groups.now c.table_of-table.result c.index-groups-table.result _ p
-    (within c) refl refl c.in_ok-push.ensures.items in
+    (within c) refl refl c.in_ok-push.ensures.items c.args.rule.now in
     let keep : KeepPlans c.args.groups.now _ = plan_keeps c.args.groups.now c.table_of-table.result
     c.index-groups-table.result _ p (within c) refl refl c.in_ok-push.ensures.items in (
       h.0,
@@ -49,5 +49,14 @@ returns-clause-plan c =
           ∙ sym (table_is c)) ∙ h.3,
       h.4,
       h.5 ∙ c.in_ok-plan.ensures.rule,
-      h.6 ∙ c.in_ok-plan.ensures.place,
+      ap (pattern_at c.args.rule.now) (sym c.in_ok-plan.ensures.place) ∙ h.6,
     )
+
+pub returns-then-is_read_again-clause-keep : goal.returns-then-is_read_again-clause-keep
+returns-then-is_read_again-clause-keep c = keep_same c.args.groups.now
+
+pub returns-then-is_read_again-clause-plan : goal.returns-then-is_read_again-clause-plan
+returns-then-is_read_again-clause-plan c =
+    let w = c.if-is_read_again.ensures in
+    have_alike c.args.groups.now c.args.number c.args.rule.now c.args.place w.0 w.3
+    (c.requires.later w.0 (let l = w.1 in omega (arith, l)) w.2)

@@ -13,6 +13,12 @@ add_plan-requires-clause-grouped c =
     grouped_same _ _ (pattern_at c.args.rule.now place) c.loop-place.invariant.keep.shapes
     (c.requires.grouped place (omega (arith, n, l, m)))
 
+pub add_plan-requires-clause-later : goal.add_plan-requires-clause-later
+add_plan-requires-clause-later c =
+    let l = c.loop-place-test.true in
+    let next : c.loop-place.place ≡ c.loop-place.place - 1 + 1 = omega (arith, l) in
+    subst (HavePlans _ c.args.number c.args.rule.now) next c.loop-place.invariant.plans
+
 pub loop-place-preserved : goal.loop-place-preserved
 loop-place-preserved c =
     let i = c.args.number in

@@ -24,7 +24,8 @@ returns-clause-rested c =
     let few : length gs < 2 ^ 31 = (let n = c.len-count.ensures in let l = c.if-count-ge-MAX_TABLES.false in
     omega (arith, n, l, many)) in
     record {
-      set_up = subst (λ (x : List Group). IsSetUp rules x (rows_of ts) (index_columns ts) (length ts)) (sym same)
+      set_up = subst (λ (x : List Group). IsSetUp rules x (rows_of ts) (index_columns ts) (length ts))
+          (sym (c.in_ok-directory.ensures ∙ same))
           (set_up_empty rules gs ts c.add_all_plans.new.keys.items c.add_all_plans.ensures.tables few
           c.in_ok-tables.ensures.rows (c.in_ok-tables.ensures.keys ∙ ap (map lists_of) c.deref-3.ensures.value)
           (subst (λ (x : List Rule). ArePlanned x gs (columns_in c.add_all_plans.new.keys.items))

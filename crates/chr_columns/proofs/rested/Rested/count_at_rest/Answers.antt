@@ -8,4 +8,4 @@ returns c =
     c.count_rows.ensures
     ∙ sym (counted_here c.args.self.now.tables.tables.items c.table_for.result c.index.result.now t.there
     c.index.ensures
-    c.args.self.now.rules.items c.args.self.now.groups.items c.args.atom.now t.number c.requires.set_up)
+    c.args.self.now.rules.items c.args.self.now.directory.groups.items c.args.atom.now t.number c.requires.set_up)

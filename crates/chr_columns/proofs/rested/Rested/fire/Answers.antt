@@ -47,7 +47,7 @@ returns-clause-rested c =
     (remove (seats_to c.args.seats.now (length (heads_of r))) p) c.deref.result.now ts at place seated
     (sit_to r p c.args.seats.now place) back in
     record {
-      set_up = left_over c.args.self.now.rules.items c.args.self.now.groups.items ts us
+      set_up = left_over c.args.self.now.rules.items c.args.self.now.directory.groups.items ts us
           (leaving r p c.args.heads.now) c.deref.result.now c.kill_all.ensures.rows c.kill_all.ensures.columns
           c.requires.rested.set_up;
       rests = part_left c.args.self.now.rules.items ts us (leaving r p c.args.heads.now) c.deref.result.now
@@ -78,8 +78,7 @@ returns-clause-standing c =
     stands_on c.args.self.now (record {
       seed = c.args.self.now.seed;
       rules = c.args.self.now.rules;
-      groups =
-          c.args.self.now.groups;
+      directory = c.args.self.now.directory;
       tables = c.kill_all.new.tables;
     }) c.put_fresh.new.fresh.items
     (head c.args.heads.now c.args.o.place) c.args.o.standing c.standing_of-standing.result _

@@ -1,7 +1,7 @@
-use Rattle.std.proofs.Common.{true, refl, sym, subst, ◌∙◌, arith, ◌≤◌}
+use Rattle.std.proofs.Common.{refl, sym, ◌∙◌, arith}
 use mathlib.Core.Bool.{true≢false}
 use Rattle.chr_base.specs.FinBag.{◌⊕◌}
-use Rattle.chr_base.specs.Stores.{store_of, count}
+use Rattle.chr_base.specs.Stores.{store_of}
 use Rattle.chr_columns.specs.working.Resting.{stored}
 use Rattle.chr_columns.proofs.Removals.{all_within, too_few}
 use Rattle.chr_columns.proofs.rested.Rested.has_all.Goals as goal

@@ -19,7 +19,7 @@ returns-clause-rested c =
     let a = lives_atom (atom_in (rows_of ts) s) c.requires.lives in
     let rules = c.args.self.now.rules.items in
     record {
-      set_up = left_over rules c.args.self.now.groups.items ts us (a.0 ∷ [])
+      set_up = left_over rules c.args.self.now.directory.groups.items ts us (a.0 ∷ [])
           (s ∷ []) c.kill_all.ensures.rows c.kill_all.ensures.columns c.requires.rested.set_up;
       rests = part_left rules ts us (a.0 ∷ []) (s ∷ []) c.kill_all.ensures.rows
           (sits_alone ts s a.0 a.1) c.requires.rested.rests;

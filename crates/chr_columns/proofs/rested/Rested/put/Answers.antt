@@ -15,31 +15,31 @@ use Rattle.chr_columns.proofs.rested.Rested.put.Goals as goal
 
 pub tidy-requires-clause-within : goal.tidy-requires-clause-within
 tidy-requires-clause-within c =
-    let t : c.table_of-table.result ≡ table_of_atom c.args.self.now.groups.items c.args.atom.now =
-    c.table_of-table.ensures ∙ (λ i. table_of (c.deref.ensures.value i) c.args.atom.now.symbol
-    (c.len.ensures.value i)) in
+    let t : c.table_of-table.result ≡ table_of_atom c.args.self.now.directory.groups.items c.args.atom.now =
+    c.table_of-table.ensures ∙ ap (table_of c.args.self.now.directory.groups.items c.args.atom.now.symbol)
+    c.len.ensures.value in
     let w = has_table _ _ _ c.args.atom.now c.requires.rested.set_up in
     omega (arith, t, w)
 
 pub index_mut-requires : goal.index_mut-requires
 index_mut-requires c =
-    let t : c.table_of-table.result ≡ table_of_atom c.tidy.new.self.groups.items c.args.atom.now =
-    c.table_of-table.ensures ∙ (λ i. table_of (c.deref.ensures.value i) c.args.atom.now.symbol
-    (c.len.ensures.value i)) ∙ ap (λ gs. table_of_atom gs.items c.args.atom.now) (sym c.tidy.ensures.groups) in
+    let t : c.table_of-table.result ≡ table_of_atom c.tidy.new.self.directory.groups.items c.args.atom.now =
+    c.table_of-table.ensures ∙ ap (table_of c.args.self.now.directory.groups.items c.args.atom.now.symbol)
+    c.len.ensures.value ∙ ap (λ d. table_of_atom d.groups.items c.args.atom.now) (sym c.tidy.ensures.directory) in
     let w = has_table _ _ _ c.args.atom.now c.tidy.ensures.rested.set_up in
     omega (arith, t, w, c.tidy.new.self.tables.tables.ok.0)
 
 pub returns-in_err-insert-clause-rested : goal.returns-in_err-insert-clause-rested
 returns-in_err-insert-clause-rested c =
-    let t : c.table_of-table.result ≡ table_of_atom c.tidy.new.self.groups.items c.args.atom.now =
-    c.table_of-table.ensures ∙ (λ i. table_of (c.deref.ensures.value i) c.args.atom.now.symbol
-    (c.len.ensures.value i)) ∙ ap (λ gs. table_of_atom gs.items c.args.atom.now) (sym c.tidy.ensures.groups) in
+    let t : c.table_of-table.result ≡ table_of_atom c.tidy.new.self.directory.groups.items c.args.atom.now =
+    c.table_of-table.ensures ∙ ap (table_of c.args.self.now.directory.groups.items c.args.atom.now.symbol)
+    c.len.ensures.value ∙ ap (λ d. table_of_atom d.groups.items c.args.atom.now) (sym c.tidy.ensures.directory) in
     let w = has_table _ _ _ c.args.atom.now c.tidy.ensures.rested.set_up in
     let same = set_same c.tidy.new.self.tables.tables.items c.table_of-table.result c.index_mut.result.now
     c.insert.new.self (omega (arith, t, w)) c.index_mut.ensures.value c.in_err-insert.ensures.err
     c.insert.ensures.keys c.insert.ensures.orders in
     record {
-      set_up = subst (λ (ts : List Contents). IsSetUp c.tidy.new.self.rules.items c.tidy.new.self.groups.items
+      set_up = subst (λ (ts : List Contents). IsSetUp c.tidy.new.self.rules.items c.tidy.new.self.directory.groups.items
           (rows_of ts) (index_columns ts) (length ts)) (sym same) c.tidy.ensures.rested.set_up;
       rests = subst (λ (ts : List Contents). IsAtRest (Step c.tidy.new.self.rules.items) (contents (grid ts)))
           (sym same) c.tidy.ensures.rested.rests;
@@ -47,9 +47,9 @@ returns-in_err-insert-clause-rested c =
 
 pub returns-in_err-insert-clause-err : goal.returns-in_err-insert-clause-err
 returns-in_err-insert-clause-err c =
-    let t : c.table_of-table.result ≡ table_of_atom c.tidy.new.self.groups.items c.args.atom.now =
-    c.table_of-table.ensures ∙ (λ i. table_of (c.deref.ensures.value i) c.args.atom.now.symbol
-    (c.len.ensures.value i)) ∙ ap (λ gs. table_of_atom gs.items c.args.atom.now) (sym c.tidy.ensures.groups) in
+    let t : c.table_of-table.result ≡ table_of_atom c.tidy.new.self.directory.groups.items c.args.atom.now =
+    c.table_of-table.ensures ∙ ap (table_of c.args.self.now.directory.groups.items c.args.atom.now.symbol)
+    c.len.ensures.value ∙ ap (λ d. table_of_atom d.groups.items c.args.atom.now) (sym c.tidy.ensures.directory) in
     let w = has_table _ _ _ c.args.atom.now c.tidy.ensures.rested.set_up in
     on_err _ c.from_residual.result
     (ap (λ (ts : List Contents). contents (grid ts)) (set_same c.tidy.new.self.tables.tables.items
@@ -59,9 +59,9 @@ returns-in_err-insert-clause-err c =
 
 pub returns-clause-ok : goal.returns-clause-ok
 returns-clause-ok c =
-    let t : c.table_of-table.result ≡ table_of_atom c.tidy.new.self.groups.items c.args.atom.now =
-    c.table_of-table.ensures ∙ (λ i. table_of (c.deref.ensures.value i) c.args.atom.now.symbol
-    (c.len.ensures.value i)) ∙ ap (λ gs. table_of_atom gs.items c.args.atom.now) (sym c.tidy.ensures.groups) in
+    let t : c.table_of-table.result ≡ table_of_atom c.tidy.new.self.directory.groups.items c.args.atom.now =
+    c.table_of-table.ensures ∙ ap (table_of c.args.self.now.directory.groups.items c.args.atom.now.symbol)
+    c.len.ensures.value ∙ ap (λ d. table_of_atom d.groups.items c.args.atom.now) (sym c.tidy.ensures.directory) in
     let w = has_table _ _ _ c.args.atom.now c.tidy.ensures.rested.set_up in
     stored_put c.tidy.new.self.tables.tables.items c.table_of-table.result c.index_mut.result.now c.insert.new.self
     c.args.atom.now (omega (arith, t, w)) c.index_mut.ensures.value c.in_ok-insert.ensures.ok c.insert.ensures.keys
@@ -69,9 +69,9 @@ returns-clause-ok c =
 
 pub returns-clause-rested : goal.returns-clause-rested
 returns-clause-rested c =
-    let t : c.table_of-table.result ≡ table_of_atom c.tidy.new.self.groups.items c.args.atom.now =
-    c.table_of-table.ensures ∙ (λ i. table_of (c.deref.ensures.value i) c.args.atom.now.symbol
-    (c.len.ensures.value i)) ∙ ap (λ gs. table_of_atom gs.items c.args.atom.now) (sym c.tidy.ensures.groups) in
+    let t : c.table_of-table.result ≡ table_of_atom c.tidy.new.self.directory.groups.items c.args.atom.now =
+    c.table_of-table.ensures ∙ ap (table_of c.args.self.now.directory.groups.items c.args.atom.now.symbol)
+    c.len.ensures.value ∙ ap (λ d. table_of_atom d.groups.items c.args.atom.now) (sym c.tidy.ensures.directory) in
     let w = has_table _ _ _ c.args.atom.now c.tidy.ensures.rested.set_up in
     let more = stored_put c.tidy.new.self.tables.tables.items c.table_of-table.result c.index_mut.result.now
     c.insert.new.self c.args.atom.now (omega (arith, t, w)) c.index_mut.ensures.value c.in_ok-insert.ensures.ok
@@ -80,7 +80,7 @@ returns-clause-rested c =
       set_up = set_up_put c.tidy.new.self.tables.tables.items c.table_of-table.result c.index_mut.result.now
           c.insert.new.self c.args.atom.now (omega (arith, t, w)) c.index_mut.ensures.value c.in_ok-insert.ensures.ok
           c.insert.ensures.keys
-          c.tidy.new.self.rules.items c.tidy.new.self.groups.items t c.tidy.ensures.rested.set_up;
+          c.tidy.new.self.rules.items c.tidy.new.self.directory.groups.items t c.tidy.ensures.rested.set_up;
       rests = subst (IsAtRest (Step c.tidy.new.self.rules.items)) (sym more)
           (absorbed c.tidy.new.self.rules.items _ c.args.atom.now c.tidy.ensures.rested.rests
           (rw (c.tidy.ensures.rules, c.tidy.ensures.stored) c.requires.none));

@@ -10,30 +10,30 @@ use Rattle.chr_columns.proofs.rested.Rested.react.Goals as goal
 
 pub returns-in_default-clause-none : goal.returns-in_default-clause-none
 returns-in_default-clause-none c =
-    none_with c.args.self.now.rules.items c.args.self.now.groups.items c.args.self.now.tables.tables.items
+    none_with c.args.self.now.rules.items c.args.self.now.directory.groups.items c.args.self.now.tables.tables.items
     c.requires.rested.set_up c.args.active.now (λ g e.
     (absurd (let test = c.in_default.ensures.lookup in
-    let t : c.table_of-table.result ≡ table_of_atom c.args.self.now.groups.items c.args.active.now =
-    c.table_of-table.ensures ∙ (λ i. table_of (c.deref.ensures.value i) c.args.active.now.symbol
-    (c.len.ensures.value i)) in
-    let n = ap length c.deref-2.ensures.value in
-    let l = slice_get_within c.args.self.now.groups.items (table_of_atom c.args.self.now.groups.items c.args.active.now)
-    g e in
-    let past : length c.deref-2.result.now ≤ c.table_of-table.result = grind (arith, nat_tests) in
+    let t : c.table_of-table.result ≡ table_of_atom c.args.self.now.directory.groups.items c.args.active.now =
+    c.table_of-table.ensures ∙ ap (table_of c.args.self.now.directory.groups.items c.args.active.now.symbol)
+    c.len.ensures.value in
+    let n = ap length c.deref.ensures.value in
+    let l = slice_get_within c.args.self.now.directory.groups.items (table_of_atom c.args.self.now.directory.groups.items
+    c.args.active.now) g e in
+    let past : length c.deref.result.now ≤ c.table_of-table.result = grind (arith, nat_tests) in
     omega (arith, past, t, n, l))))
 
 pub react-requires-clause-fits : goal.react-requires-clause-fits
 react-requires-clause-fits c =
     let test = c.in-Some.ensures.lookup.0 in
-    let within : c.table_of-table.result < length c.deref-2.result.now = grind (arith, nat_tests) in
-    let t : c.table_of-table.result ≡ table_of_atom c.args.self.now.groups.items c.args.active.now =
-    c.table_of-table.ensures ∙ (λ i. table_of (c.deref.ensures.value i) c.args.active.now.symbol
-    (c.len.ensures.value i)) in
-    let at = group_at c.args.self.now.groups.items c.deref-2.result.now c.args.active.now c.table_of-table.result
-    c.in-Some.group.now c.deref-2.ensures.value t within c.in-Some.ensures.lookup.1 in
-    rw (c.deref-3.ensures.value, c.deref-4.ensures.value)
-    (all_fit c.args.self.now.rules.items c.args.self.now.groups.items _ _ _ c.requires.rested.set_up
-    (table_of_atom c.args.self.now.groups.items c.args.active.now) c.in-Some.group.now at)
+    let within : c.table_of-table.result < length c.deref.result.now = grind (arith, nat_tests) in
+    let t : c.table_of-table.result ≡ table_of_atom c.args.self.now.directory.groups.items c.args.active.now =
+    c.table_of-table.ensures ∙ ap (table_of c.args.self.now.directory.groups.items c.args.active.now.symbol)
+    c.len.ensures.value in
+    let at = group_at c.args.self.now.directory.groups.items c.deref.result.now c.args.active.now c.table_of-table.result
+    c.in-Some.group.now c.deref.ensures.value t within c.in-Some.ensures.lookup.1 in
+    rw (c.deref-2.ensures.value, c.deref-3.ensures.value)
+    (all_fit c.args.self.now.rules.items c.args.self.now.directory.groups.items _ _ _ c.requires.rested.set_up
+    (table_of_atom c.args.self.now.directory.groups.items c.args.active.now) c.in-Some.group.now at)
 
 pub returns-clause-stored : goal.returns-clause-stored
 returns-clause-stored c = same_stored _ _ c.react.ensures.rows
@@ -58,16 +58,16 @@ returns-in_default-react-clause-rested c = record {
 pub returns-in_default-react-clause-none : goal.returns-in_default-react-clause-none
 returns-in_default-react-clause-none c =
     let test = c.in-Some.ensures.lookup.0 in
-    let within : c.table_of-table.result < length c.deref-2.result.now = grind (arith, nat_tests) in
-    let t : c.table_of-table.result ≡ table_of_atom c.args.self.now.groups.items c.args.active.now =
-    c.table_of-table.ensures ∙ (λ i. table_of (c.deref.ensures.value i) c.args.active.now.symbol
-    (c.len.ensures.value i)) in
-    let at = group_at c.args.self.now.groups.items c.deref-2.result.now c.args.active.now c.table_of-table.result
-    c.in-Some.group.now c.deref-2.ensures.value t within c.in-Some.ensures.lookup.1 in
+    let within : c.table_of-table.result < length c.deref.result.now = grind (arith, nat_tests) in
+    let t : c.table_of-table.result ≡ table_of_atom c.args.self.now.directory.groups.items c.args.active.now =
+    c.table_of-table.ensures ∙ ap (table_of c.args.self.now.directory.groups.items c.args.active.now.symbol)
+    c.len.ensures.value in
+    let at = group_at c.args.self.now.directory.groups.items c.deref.result.now c.args.active.now c.table_of-table.result
+    c.in-Some.group.now c.deref.ensures.value t within c.in-Some.ensures.lookup.1 in
     let none : (k : ℕ) → k < length c.in-Some.group.now.plans.items → NoneBy c.args.self.now.rules.items
     (rows_of c.args.self.now.tables.tables.items) c.args.active.now (slice_get c.in-Some.group.now.plans.items k) =
-    rw (c.deref-3.ensures.value, c.deref-4.ensures.value) at c.in_default-react.ensures.none in
-    none_with c.args.self.now.rules.items c.args.self.now.groups.items c.args.self.now.tables.tables.items
+    rw (c.deref-2.ensures.value, c.deref-3.ensures.value) at c.in_default-react.ensures.none in
+    none_with c.args.self.now.rules.items c.args.self.now.directory.groups.items c.args.self.now.tables.tables.items
     c.requires.rested.set_up c.args.active.now (λ g e.
     (subst (λ x. (k : ℕ) → k < length x.plans.items → NoneBy c.args.self.now.rules.items
     (rows_of c.args.self.now.tables.tables.items) c.args.active.now (slice_get x.plans.items k))
@@ -75,29 +75,29 @@ returns-in_default-react-clause-none c =
 
 pub index-plan-requires : goal.index-plan-requires
 index-plan-requires c =
-    let l = is_one _ _ _ c.deref-4.result.now c.in-Some-react.found _ _ c.in-Some-react.ensures.found in
-    let e = ap length c.deref-4.ensures.value in
+    let l = is_one _ _ _ c.deref-3.result.now c.in-Some-react.found _ _ c.in-Some-react.ensures.found in
+    let e = ap length c.deref-3.ensures.value in
     omega (arith, l, e, c.in-Some.group.now.plans.ok.0)
 
 pub returns-clause-found : goal.returns-clause-found
 returns-clause-found c =
     let test = c.in-Some.ensures.lookup.0 in
-    let within : c.table_of-table.result < length c.deref-2.result.now = grind (arith, nat_tests) in
-    let t : c.table_of-table.result ≡ table_of_atom c.args.self.now.groups.items c.args.active.now =
-    c.table_of-table.ensures ∙ (λ i. table_of (c.deref.ensures.value i) c.args.active.now.symbol
-    (c.len.ensures.value i)) in
-    let at = group_at c.args.self.now.groups.items c.deref-2.result.now c.args.active.now c.table_of-table.result
-    c.in-Some.group.now c.deref-2.ensures.value t within c.in-Some.ensures.lookup.1 in
-    let l = is_one _ _ _ c.deref-4.result.now c.in-Some-react.found _ _ c.in-Some-react.ensures.found in
-    let e = ap length c.deref-4.ensures.value in
+    let within : c.table_of-table.result < length c.deref.result.now = grind (arith, nat_tests) in
+    let t : c.table_of-table.result ≡ table_of_atom c.args.self.now.directory.groups.items c.args.active.now =
+    c.table_of-table.ensures ∙ ap (table_of c.args.self.now.directory.groups.items c.args.active.now.symbol)
+    c.len.ensures.value in
+    let at = group_at c.args.self.now.directory.groups.items c.deref.result.now c.args.active.now c.table_of-table.result
+    c.in-Some.group.now c.deref.ensures.value t within c.in-Some.ensures.lookup.1 in
+    let l = is_one _ _ _ c.deref-3.result.now c.in-Some-react.found _ _ c.in-Some-react.ensures.found in
+    let e = ap length c.deref-3.ensures.value in
     let plan = slice_get_read c.in-Some.group.now.plans.items (length c.in-Some.group.now.plans.items)
     c.in-Some-react.found c.index-plan.result.now refl (omega (arith, l, e)) c.index-plan.ensures in
     let found : Reacts c.args.self.now.rules.items (rows_of c.args.self.now.tables.tables.items) c.args.active.now
     (slice_get c.in-Some.group.now.plans.items c.in-Some-react.found) c.react.new.heads.items
     c.react.new.seats.items =
-    rw (c.deref-3.ensures.value, c.deref-4.ensures.value) at c.in-Some-react.ensures.found in
-    let w = reacting c.args.self.now.rules.items c.args.self.now.groups.items _ _ _ c.requires.rested.set_up
-    c.args.active.now (table_of_atom c.args.self.now.groups.items c.args.active.now) c.in-Some-react.found
+    rw (c.deref-2.ensures.value, c.deref-3.ensures.value) at c.in-Some-react.ensures.found in
+    let w = reacting c.args.self.now.rules.items c.args.self.now.directory.groups.items _ _ _ c.requires.rested.set_up
+    c.args.active.now (table_of_atom c.args.self.now.directory.groups.items c.args.active.now) c.in-Some-react.found
     c.in-Some.group.now c.index-plan.result.now c.react.new.heads.items c.react.new.seats.items at plan found in
     record {
       rule = w.0;
@@ -110,12 +110,12 @@ returns-clause-found c =
 pub react-requires-clause-passed : goal.react-requires-clause-passed
 react-requires-clause-passed c =
     let test = c.in-Some.ensures.lookup.0 in
-    let within : c.table_of-table.result < length c.deref-2.result.now = grind (arith, nat_tests) in
-    let t : c.table_of-table.result ≡ table_of_atom c.args.self.now.groups.items c.args.active.now =
-    c.table_of-table.ensures ∙ (λ i. table_of (c.deref.ensures.value i) c.args.active.now.symbol
-    (c.len.ensures.value i)) in
-    let at = group_at c.args.self.now.groups.items c.deref-2.result.now c.args.active.now c.table_of-table.result
-    c.in-Some.group.now c.deref-2.ensures.value t within c.in-Some.ensures.lookup.1 in
-    rw (c.deref-3.ensures.value, c.deref-4.ensures.value)
-    (goes_by c.args.self.now.rules.items c.args.self.now.groups.items _ c.args.active.now c.args.from
+    let within : c.table_of-table.result < length c.deref.result.now = grind (arith, nat_tests) in
+    let t : c.table_of-table.result ≡ table_of_atom c.args.self.now.directory.groups.items c.args.active.now =
+    c.table_of-table.ensures ∙ ap (table_of c.args.self.now.directory.groups.items c.args.active.now.symbol)
+    c.len.ensures.value in
+    let at = group_at c.args.self.now.directory.groups.items c.deref.result.now c.args.active.now c.table_of-table.result
+    c.in-Some.group.now c.deref.ensures.value t within c.in-Some.ensures.lookup.1 in
+    rw (c.deref-2.ensures.value, c.deref-3.ensures.value)
+    (goes_by c.args.self.now.rules.items c.args.self.now.directory.groups.items _ c.args.active.now c.args.from
     c.in-Some.group.now at c.requires.standing)

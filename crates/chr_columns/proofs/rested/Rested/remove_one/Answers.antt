@@ -7,7 +7,7 @@ pub returns-in_default-clause-none : goal.returns-in_default-clause-none
 returns-in_default-clause-none c =
     counted_here c.args.self.now.tables.tables.items c.table_for-table.result c.index.result.now
     c.table_for-table.ensures.there c.index.ensures
-    c.args.self.now.rules.items c.args.self.now.groups.items c.args.atom.now c.table_for-table.ensures.number
+    c.args.self.now.rules.items c.args.self.now.directory.groups.items c.args.atom.now c.table_for-table.ensures.number
     c.requires.set_up
     ∙ c.in_default.ensures.none
 

@@ -17,6 +17,6 @@ returns-then-is_half_dead-clause-rested c =
     record {
       set_up = set_up_tidy c.args.self.now.tables.tables.items c.args.table c.index_mut.result.now c.compact.new.self
           c.requires.within c.index_mut.ensures.value c.compact.ensures.rows c.compact.ensures.keys
-          rules c.args.self.now.groups.items c.requires.rested.set_up;
+          rules c.args.self.now.directory.groups.items c.requires.rested.set_up;
       rests = subst (IsAtRest (Step rules)) (sym same) c.requires.rested.rests;
     }
