@@ -23,6 +23,9 @@ use std::alloc::{AllocError, Global};
 use std::slice;
 use std::thread::Threads;
 
+/// So many runs of atoms that are in order are sooner put together by one thread than sorted by several.
+const MOST_RUNS: usize = 8;
+
 /// So many empty pools of these rules.
 pub(crate) fn empty_pools(
     alloc: Global,
@@ -147,7 +150,45 @@ pub(crate) fn bag_of(alloc: Global, pools: &[Columns]) -> Result<Bag, AllocError
     Bag::of(atoms_of(alloc, pools)?)
 }
 
-/// The same, put in order by several threads.
+/// How many atoms belong before the one in front of them: one less than the runs that are in order.
+fn breaks_in(atoms: &[Atom]) -> usize {
+    let mut breaks: usize = 0;
+    for i in 1..atoms.len() {
+        if atoms[i - 1].is_after(&atoms[i]) {
+            breaks = breaks.saturating_add(1);
+        }
+    }
+    breaks
+}
+
+/// Puts the runs of atoms that are in order together by one thread. Where memory is refused they stay as they are.
+#[tactic(auto, using(chr_base::proofs::Sorting::same_multiset))]
+fn merge_runs(atoms: &mut Vec<Atom>)
+    ensures { store_of atoms.new.items ≡ store_of atoms.old.items }
+{
+    let _ = atoms.sort_by(|left, right| left.order(right));
+}
+
+/// Sorts atoms by several threads.
+fn sort_by_threads<R: Threads + Sync>(rt: &R, atoms: &mut Vec<Atom>)
+    ensures { store_of atoms.new.items ≡ store_of atoms.old.items }
+{
+    par_sort_unstable_by(rt, atoms, |left: &Atom, right: &Atom| left.order(right));
+}
+
+/// Puts atoms in order, as far as memory allows it. The rows of a pool often are, so that those of several pools are few
+/// runs.
+fn put_in_order<R: Threads + Sync>(rt: &R, atoms: &mut Vec<Atom>)
+    ensures { store_of atoms.new.items ≡ store_of atoms.old.items }
+{
+    match breaks_in(atoms) {
+        0 => {}
+        breaks if breaks < MOST_RUNS => merge_runs(atoms),
+        _ => sort_by_threads(rt, atoms),
+    }
+}
+
+/// The same, put in order by several threads where there are many runs.
 pub(crate) fn bag_by<R: Threads + Sync>(
     rt: &R,
     alloc: Global,
@@ -156,11 +197,7 @@ pub(crate) fn bag_by<R: Threads + Sync>(
     ensures { IfOk result (λ b. b ≡ stores_sum pools.now) }
 {
     let mut atoms = atoms_of(alloc, pools)?;
-    par_sort_unstable_by(
-        rt,
-        &mut atoms,
-        |left: &Atom, right: &Atom| left.order(right),
-    );
+    put_in_order(rt, &mut atoms);
     Bag::of(atoms)
 }
 
