@@ -22,3 +22,6 @@ pub mod OneSummary
 pub mod RangesThere
 pub mod Newness
 pub mod NewsOfAll
+pub mod RunSteps
+pub mod RangesGrown
+pub mod RunsCovered

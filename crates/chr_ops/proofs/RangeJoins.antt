@@ -32,7 +32,7 @@ differs a b ne = by (eq_by_cmp id_cmp a b) refl
     by true e = absurd (ne (same_id a b e))
     by false e = refl
 
-some_not_none : {X : Type 0} (o : Option X) (x : X) → o ≡ None → o ≡ Some x → ⊥
+pub some_not_none : {X : Type 0} (o : Option X) (x : X) → o ≡ None → o ≡ Some x → ⊥
 some_not_none o x n s = true≢false (sym (ap is_some s) ∙ ap is_some n)
 
 -- a range joined to the one that begins right behind it

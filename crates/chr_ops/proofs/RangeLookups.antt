@@ -165,7 +165,7 @@ none_below m id d none j (x, at_j, org, touch) =
     let low = (d.fits j x at_j).0 in
     true≢false (sym (ap is_some at_j) ∙ ap is_some (none j (less_from j id org (omega (arith, low, touch)))))
 
-up_to : (k id : OpId) → is_gt (id_cmp k id) ≡ false → (k.origin ≤ id.origin)
+pub up_to : (k id : OpId) → is_gt (id_cmp k id) ≡ false → (k.origin ≤ id.origin)
     × (k.origin ≡ id.origin → k.number ≤ id.number)
 up_to k id h = (grind (arith, nat_tests, h), λ e. grind (arith, nat_tests, h, e))
 

@@ -1,18 +1,22 @@
 //! The ids of a set, as ranges.
-ghost use Rattle.std.specs.Prelude.{◌≡◌, ◌+◌, ◌||◌, All, false, IfOk, IfSome, IfNone, OnOk, OnErr, [], ◌∷◌, true};
+ghost use Rattle.std.specs.Prelude.{◌≡◌, ◌+◌, ◌<◌, ◌≤◌, ◌||◌, false, true, [], ◌∷◌, Some};
+ghost use Rattle.std.specs.Prelude.{IfOk, IfSome, IfNone, OnOk, OnErr};
+ghost use Rattle.std.specs.FinMap as map;
 ghost use Rattle.std.specs.List.{list_any};
 ghost use Rattle.std.specs.Ordering.{eq_by_cmp};
 ghost use Rattle.chr_ops.specs.declared.id.OpId.{OpId as OpIdValue};
 ghost use Rattle.chr_ops.specs.Ids.{id_cmp};
 ghost use Rattle.chr_ops.specs.News.{is_one_of};
-ghost use Rattle.chr_ops.specs.Summaries.{covers, IsApart};
+ghost use Rattle.chr_ops.specs.Summaries.{in_range, covers, IsApart};
+ghost use Rattle.chr_ops.specs.working.Walks.{first_id};
 ghost use Rattle.chr_ops.specs.working.Joining.{IsWithout};
 ghost use Rattle.chr_ops.specs.working.Covering.{AreAsLongAsPossible, AreDisjoint, AreJoined, EndsRightBefore, IsLaid};
-ghost use Rattle.chr_ops.specs.working.Covering.{IsPutIn, IsSameBut, end_ranges, is_beside};
+ghost use Rattle.chr_ops.specs.working.Covering.{IsPutIn, IsSameBut, GainsWithin, end_ranges, first_ids, is_beside};
 
 use crate::ends::Ends;
 use crate::id::OpId;
 use crate::range::IdRange;
+use crate::runs::runs_of;
 use std::alloc::{AllocError, Global};
 use std::marker::Model;
 
@@ -80,21 +84,37 @@ impl Covered {
         Ok(())
     }
 
-    /// Covers some ids that are not covered. Where it fails, nothing has changed.
-    pub(crate) fn cover(&mut self, ids: &[OpId]) -> Result<(), AllocError>
+    /// Covers some ids that are not covered. Where it fails, nothing has changed. Ids that follow each other in the
+    /// list cost about as much as one.
+    pub(crate) fn cover(&mut self, alloc: Global, ids: &[OpId]) -> Result<(), AllocError>
         requires { (id : OpIdValue) → is_one_of ids.now id ≡ true → covers self.old id ≡ false }
         ensures covers { OnOk result ((id : OpIdValue) → covers self.new id
             ≡ (covers self.old id || is_one_of ids.now id)) }
         ensures apart { IsApart self.new }
         ensures err { OnErr result (self.new ≡ self.old) }
     {
-        if let Err(error) = lay(&mut self.ends, ids) {
-            lift(&mut self.ends, ids);
-            return Err(error);
-        }
-        join_beside(&mut self.ends, ids);
-        Ok(())
+        cover_new(&mut self.ends, alloc, ids)
     }
+}
+
+/// Covers some ids that no range has. Where it fails, nothing has changed.
+fn cover_new(ends: &mut Ends, alloc: Global, ids: &[OpId]) -> Result<(), AllocError>
+    requires longest { AreAsLongAsPossible ends.old }
+    requires new { (q : OpIdValue) → is_one_of ids.now q ≡ true → covers (end_ranges ends.old) q ≡ false }
+    ensures longest { AreAsLongAsPossible ends.new }
+    ensures covers { OnOk result ((q : OpIdValue) → covers (end_ranges ends.new) q
+        ≡ (covers (end_ranges ends.old) q || is_one_of ids.now q)) }
+    ensures err { OnErr result (ends.new ≡ ends.old) }
+{
+    let runs = runs_of(alloc, ids)?;
+    // Only the first id of a run may need memory: its range can then reach on along the run without any.
+    if let Err(error) = lay(ends, &runs) {
+        lift(ends, &runs);
+        return Err(error);
+    }
+    join_beside(ends, &runs);
+    cover_runs(ends, &runs);
+    Ok(())
 }
 
 /// Puts an id in that no range has: as the last of the range that ends right before it, or as a range of its own. Where
@@ -112,23 +132,23 @@ fn put_in(ends: &mut Ends, id: OpId) -> Result<(), AllocError>
     Ok(())
 }
 
-/// Puts each of these ids in as a range of its own. Where it fails, some may be in.
-fn lay(ends: &mut Ends, ids: &[OpId]) -> Result<(), AllocError>
-    ensures ok { OnOk result (IsLaid ends.old ids.now ends.new) }
-    ensures others { IsSameBut ends.old ids.now ends.new }
+/// Puts the first id of each of these runs in as a range of its own. Where it fails, some may be in.
+fn lay(ends: &mut Ends, runs: &[IdRange]) -> Result<(), AllocError>
+    ensures ok { OnOk result (IsLaid ends.old (first_ids runs.now) ends.new) }
+    ensures others { IsSameBut ends.old (first_ids runs.now) ends.new }
 {
-    for id in ids {
-        ends.insert(*id, id.number)?;
+    for run in runs {
+        ends.insert(run.first(), run.lo)?;
     }
     Ok(())
 }
 
-/// Takes out the ranges that begin at these ids.
-fn lift(ends: &mut Ends, ids: &[OpId])
-    ensures { IsWithout ends.new ids.now ends.old }
+/// Takes out the ranges that begin where these runs do.
+fn lift(ends: &mut Ends, runs: &[IdRange])
+    ensures { IsWithout ends.new (first_ids runs.now) ends.old }
 {
-    for id in ids {
-        ends.remove(*id);
+    for run in runs {
+        ends.remove(run.first());
     }
 }
 
@@ -171,12 +191,73 @@ fn join_around(ends: &mut Ends, id: OpId)
     }
 }
 
-/// Joins the ranges that touch at one of these ids.
-fn join_beside(ends: &mut Ends, ids: &[OpId])
+/// Joins the ranges that touch at the first id of one of these runs.
+fn join_beside(ends: &mut Ends, runs: &[IdRange])
     requires { AreDisjoint ends.old }
-    ensures { AreJoined ends.old (λ q. list_any (is_beside q) ids.now) ends.new }
+    ensures { AreJoined ends.old (λ q. list_any (is_beside q) (first_ids runs.now)) ends.new }
 {
-    for id in ids {
-        join_around(ends, *id);
+    for run in runs {
+        join_around(ends, run.first());
+    }
+}
+
+/// Lets a range that ends within a run reach on, up to the run's end or to that of the next range, where it meets that
+/// one first. Answers its last number.
+fn reach_on(ends: &mut Ends, first: OpId, last: u64, run: IdRange) -> u64
+    requires longest { AreAsLongAsPossible ends.old }
+    requires there { map.get ends.old first ≡ Some last }
+    requires along { first.origin ≡ run.origin }
+    requires within { (run.lo ≤ last) × (last < run.hi) }
+    ensures gains { GainsWithin ends.old run ends.new }
+    ensures there { map.get ends.new first ≡ Some result }
+    ensures further { last < result }
+{
+    let behind = OpId {
+        number: last + 1,
+        ..first
+    };
+    if let Some((next, end)) = ends.first_from(behind) {
+        if next.origin == first.origin && next.number - 1 <= run.hi {
+            ends.set(first, end);
+            ends.remove(next);
+            return end;
+        }
+    }
+    ends.set(first, run.hi);
+    run.hi
+}
+
+/// Covers a run whose first id is covered.
+fn cover_run(ends: &mut Ends, run: IdRange)
+    requires longest { AreAsLongAsPossible ends.old }
+    requires first { covers (end_ranges ends.old) (first_id run) ≡ true }
+    ensures longest { AreAsLongAsPossible ends.new }
+    ensures covers { (q : OpIdValue) → covers (end_ranges ends.new) q
+        ≡ (covers (end_ranges ends.old) q || in_range run q) }
+{
+    // Where it is that id alone, no look-up is needed.
+    if run.lo == run.hi {
+        return;
+    }
+    let Some((first, end)) = ends.last_up_to(run.first()) else {
+        return;
+    };
+    let mut last = end;
+    while last < run.hi {
+        last = reach_on(ends, first, last, run);
+    }
+}
+
+/// Covers runs whose first ids are covered.
+fn cover_runs(ends: &mut Ends, runs: &[IdRange])
+    requires longest { AreAsLongAsPossible ends.old }
+    requires firsts { (q : OpIdValue) → is_one_of (first_ids runs.now) q ≡ true
+        → covers (end_ranges ends.old) q ≡ true }
+    ensures longest { AreAsLongAsPossible ends.new }
+    ensures covers { (q : OpIdValue) → covers (end_ranges ends.new) q
+        ≡ (covers (end_ranges ends.old) q || covers runs.now q) }
+{
+    for run in runs {
+        cover_run(ends, *run);
     }
 }

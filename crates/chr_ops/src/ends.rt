@@ -73,6 +73,18 @@ impl Ends {
         Some((*first, *last))
     }
 
+    /// The first range that begins at an id or behind it: its first id and its last number.
+    pub(crate) fn first_from(&self, id: OpId) -> Option<(OpId, u64)>
+        ensures there { IfSome result (λ p. map.get self.now p.0 ≡ Some p.1) }
+        ensures from { IfSome result (λ p. is_gt (id_cmp id p.0) ≡ false) }
+        ensures first { IfSome result (λ p. (q : OpIdValue) → is_gt (id_cmp id q) ≡ false → IsSome (map.get self.now q)
+            → is_gt (id_cmp p.0 q) ≡ false) }
+        ensures none { IfNone result ((q : OpIdValue) → is_gt (id_cmp id q) ≡ false → map.get self.now q ≡ None) }
+    {
+        let (first, last) = self.last.range(id..).next()?;
+        Some((*first, *last))
+    }
+
     /// Keeps a range under its first id, in place of one that begins there.
     pub(crate) fn insert(&mut self, first: OpId, last: u64) -> Result<(), AllocError>
         ensures ok { OnOk result (self.new ≡ map.insert self.old first last) }

@@ -152,7 +152,7 @@ pub(crate) fn take_in_covered(
     ensures uncovered { OnErr result (covered.new ≡ covered.old) }
 {
     let told = take_in_room(held, fresh, alloc, ops, told)?;
-    covered.cover(fresh)?;
+    covered.cover(alloc, fresh)?;
     Ok(told)
 }
 

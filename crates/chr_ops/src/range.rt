@@ -55,6 +55,13 @@ impl IdRange {
         self.origin < id.origin || (self.origin == id.origin && self.hi < id.number)
     }
 
+    /// Whether it ends right before an id.
+    pub(crate) fn ends_right_before(&self, id: OpId) -> bool
+        ensures { IsTrue result ↔ ((self.now.origin ≡ id.origin) × (self.now.hi + 1 ≡ id.number)) }
+    {
+        self.origin == id.origin && self.hi < id.number && id.number - self.hi == 1
+    }
+
     /// Whether the other begins in this one or right behind it.
     pub(crate) fn reaches(&self, next: &IdRange) -> bool
         ensures { IsTrue result ↔ ((self.now.origin ≡ next.now.origin) × (next.now.lo ≤ self.now.hi + 1)) }

@@ -7,7 +7,8 @@ use Rattle.chr_ops.specs.declared.id.OpId.{OpId}
 use Rattle.chr_ops.specs.declared.range.IdRange.{IdRange}
 use Rattle.chr_ops.specs.Ids.{id_cmp}
 use Rattle.chr_ops.specs.News.{is_one_of}
-use Rattle.chr_ops.specs.Summaries.{covers}
+use Rattle.chr_ops.specs.Summaries.{in_range, covers}
+use Rattle.chr_ops.specs.working.Walks.{first_id}
 
 -- the last number of each range under its first id
 abbrev pub Ends : Type 0
@@ -40,6 +41,10 @@ pub record AreAsLongAsPossible (m : Ends) : Type 0 where
   pub disjoint : AreDisjoint m
   pub closed : (q : OpId) → ¬ (IsSeam m q)
 
+-- the ids that ranges begin with
+abbrev pub first_ids : List IdRange → List OpId
+first_ids rs = each first_id rs
+
 -- each id of a list is put in as a range of its own, and has a 64-bit number
 pub record IsLaid (m : Ends) (ids : List OpId) (n : Ends) : Type 0 where
   pub at : (q : OpId) → map.get n q ≡ (if is_one_of ids q then Some q.number else map.get m q)
@@ -68,3 +73,9 @@ pub record IsPutIn (m : Ends) (id : OpId) (n : Ends) : Type 0 where
   pub laid : Ends
   pub is : IsLaid m (id ∷ []) laid
   pub joined : AreJoined laid (λ q. eq_by_cmp id_cmp q id) n
+
+-- ranges that are as long as possible cover what others do, and of what those do not cover only ids of a run
+pub record GainsWithin (m : Ends) (run : IdRange) (n : Ends) : Type 0 where
+  pub longest : AreAsLongAsPossible n
+  pub stays : (q : OpId) → covers (end_ranges m) q ≡ true → covers (end_ranges n) q ≡ true
+  pub within : (q : OpId) → covers (end_ranges n) q ≡ true → (covers (end_ranges m) q || in_range run q) ≡ true

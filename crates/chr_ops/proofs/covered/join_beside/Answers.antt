@@ -1,16 +1,16 @@
 use Rattle.std.proofs.Common.{subst}
 use Rattle.std.specs.List.{list_any}
 use Rattle.chr_ops.specs.working.Covering.{AreJoined, is_beside}
-use Rattle.std.proofs.lemmas.List.{take_all}
-use Rattle.chr_ops.proofs.RangesLaid.{joined_more}
+use Rattle.chr_ops.proofs.RunsCovered.{firsts_all, run_joined}
 use Rattle.chr_ops.proofs.covered.join_beside.Goals as goal
 
-pub loop-id-preserved : goal.loop-id-preserved
-loop-id-preserved c =
-    joined_more c.args.ends.now c.loop-id.ends c.join_around.new.ends c.args.ids.now c.loop-id.id-index
-    record { origin = 0; number = 0 } c.loop-id-test.true c.loop-id.invariant c.join_around.ensures
+pub loop-run-preserved : goal.loop-run-preserved
+loop-run-preserved c =
+    run_joined c.args.runs.now c.loop-run.run-index record { origin = 0; lo = 0; hi = 0 } c.first.result
+    c.first.ensures c.loop-run-test.true c.args.ends.now c.loop-run.ends c.join_around.new.ends c.loop-run.invariant
+    c.join_around.ensures
 
 pub returns : goal.returns
 returns c =
-    let all = take_all c.loop-id.id-index c.args.ids.now c.loop-id-test.false in
-    subst (λ xs. AreJoined c.args.ends.now (λ q. list_any (is_beside q) xs) c.loop-id.ends) all c.loop-id.invariant
+    let all = firsts_all c.args.runs.now c.loop-run.run-index c.loop-run-test.false in
+    subst (λ xs. AreJoined c.args.ends.now (λ q. list_any (is_beside q) xs) c.loop-run.ends) all c.loop-run.invariant

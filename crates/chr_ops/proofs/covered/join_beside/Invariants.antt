@@ -1,7 +1,7 @@
 use Rattle.std.proofs.Common.{take}
 use Rattle.std.specs.List.{list_any}
-use Rattle.chr_ops.specs.working.Covering.{AreJoined, is_beside}
+use Rattle.chr_ops.specs.working.Covering.{AreJoined, first_ids, is_beside}
 use Rattle.chr_ops.proofs.covered.join_beside.Given as goal
 
-abbrev pub invariant-loop-id : goal.invariant-loop-id
-invariant-loop-id l = AreJoined l.fn.ends (λ q. list_any (is_beside q) (take l.id-index l.ids)) l.ends
+abbrev pub invariant-loop-run : goal.invariant-loop-run
+invariant-loop-run l = AreJoined l.fn.ends (λ q. list_any (is_beside q) (take l.run-index (first_ids l.runs))) l.ends

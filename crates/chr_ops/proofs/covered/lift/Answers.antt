@@ -1,8 +1,8 @@
-use Rattle.chr_ops.proofs.Unions.{without_removed}
+use Rattle.chr_ops.proofs.RunsCovered.{run_lifted}
 use Rattle.chr_ops.proofs.covered.lift.Goals as goal
 
-pub loop-id-preserved : goal.loop-id-preserved
-loop-id-preserved c =
+pub loop-run-preserved : goal.loop-run-preserved
+loop-run-preserved c =
     rw c.remove.ensures
-    (without_removed c.args.ends.now c.loop-id.ends c.args.ids.now c.loop-id.id-index record { origin = 0; number = 0 }
-    c.loop-id-test.true c.loop-id.invariant)
+    (run_lifted c.args.runs.now c.loop-run.run-index record { origin = 0; lo = 0; hi = 0 } c.first.result
+    c.first.ensures c.loop-run-test.true c.args.ends.now c.loop-run.ends c.loop-run.invariant)

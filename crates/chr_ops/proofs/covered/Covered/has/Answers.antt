@@ -1,7 +1,6 @@
-use Rattle.std.proofs.Common.{rules, arith, ap, sym, ◌∙◌, ◌≡◌, ◌≤◌, true}
+use Rattle.std.proofs.Common.{rules, arith, ap, sym, ◌∙◌, ◌≡◌, ◌≤◌}
 use Rattle.std.proofs.lemmas.Bool.Decides.{nat_tests}
 use Rattle.chr_ops.specs.Summaries.{covers}
-use Rattle.chr_ops.specs.working.Covering.{end_ranges}
 use Rattle.chr_ops.proofs.RangeLookups.{from_last, in_last, in_none, same_bool}
 use Rattle.chr_ops.proofs.covered.Covered.has.Goals as goal
 
