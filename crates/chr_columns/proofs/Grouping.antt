@@ -1,6 +1,7 @@
 -- Groups that are added one by one.
 use Rattle.std.specs.Prelude.{Bool, if◌then◌else◌}
-use Rattle.std.proofs.Common.{◌≡◌, ℕ, zero, suc, ◌+◌, ◌<◌, ◌≤◌, drop, nat_eq, List, [], ◌∷◌, ◌++◌, length, true, false, refl, sym, ap, ◌∙◌, arith}
+use Rattle.std.proofs.Common.{◌≡◌, ℕ, zero, suc, ◌+◌, ◌<◌, ◌≤◌, List, [], ◌∷◌, ◌++◌, length, true, false, refl, sym, ap}
+use Rattle.std.proofs.Common.{◌∙◌, arith, drop, nat_eq}
 use Rattle.std.proofs.Common.{inl, inr, length-append, eq-eqb}
 use Rattle.std.specs.Cmp.{unsigned_Decides}
 use Rattle.std.proofs.lemmas.Bool.{and_parts}
@@ -16,7 +17,8 @@ pub passed_over : (gs : List Group) (s : SymbolId) (n k : ℕ) → k ≤ length 
 passed_over gs s n zero l others = omega arith
 passed_over [] s n (suc k) l others = absurd (omega (arith, l))
 passed_over (g ∷ gs) s n (suc k) l others =
-    by (is_for s n g) refl (passed_over gs s n k (omega (arith, l)) (λ j x m at. others (suc j) x (omega (arith, m)) at))
+    by (is_for s n g) refl
+    (passed_over gs s n k (omega (arith, l)) (λ j x m at. others (suc j) x (omega (arith, m)) at))
   where
     by : (b : Bool) → is_for s n g ≡ b → table_of gs s n ≡ k + table_of (drop k gs) s n
         → ◌≡◌ {A = ℕ} (if b then 0 else suc (table_of gs s n)) (suc k + table_of (drop k gs) s n)

@@ -136,11 +136,15 @@ pub have_kept : (gs hs : List Group) (i : ℕ) (r : Rule) (n : ℕ) → KeepPlan
 have_kept gs hs i r n keep has p l k = subst (λ t. HasPlan hs t i r p)
     (same_table gs hs (pattern_at r p) (sym keep.shapes)) (keep.plans _ i r p (has p l k))
 
+-- a plan for a place is in the group of its head
+abbrev HasOwnPlan : List Group → ℕ → Rule → ℕ → Type 0
+HasOwnPlan gs i r p = HasPlan gs (table_of_pattern gs (pattern_at r p)) i r p
+
 pub have_more : (gs : List Group) (i : ℕ) (r : Rule) (n : ℕ) → HavePlans gs i r (n + 1)
     → HasPlan gs (table_of_pattern gs (pattern_at r n)) i r n → HavePlans gs i r n
-have_more gs i r n has new p l k = elim (cases_lt n p) as (λ _. HasPlan gs (table_of_pattern gs (pattern_at r p)) i r p) [
+have_more gs i r n has new p l k = elim (cases_lt n p) as (λ _. HasOwnPlan gs i r p) [
   | inl less ↦ has p (omega (arith, less)) k
-  | inr most ↦ subst (λ q. HasPlan gs (table_of_pattern gs (pattern_at r q)) i r q)
+  | inr most ↦ subst (HasOwnPlan gs i r)
       (let e : n ≡ p = omega (arith, l, most) in e) new
 ]
 

@@ -176,8 +176,8 @@ fn sort_by_threads<R: Threads + Sync>(rt: &R, atoms: &mut Vec<Atom>)
     par_sort_unstable_by(rt, atoms, |left: &Atom, right: &Atom| left.order(right));
 }
 
-/// Puts atoms in order, as far as memory allows it. The rows of a pool often are, so that those of several pools are few
-/// runs.
+/// Puts atoms in order, as far as memory allows it. The rows of a pool often are in order, so that those of several
+/// pools are few runs.
 fn put_in_order<R: Threads + Sync>(rt: &R, atoms: &mut Vec<Atom>)
     ensures { store_of atoms.new.items ≡ store_of atoms.old.items }
 {

@@ -1,6 +1,6 @@
 -- Groups of atoms by symbol and number of arguments.
-use Rattle.std.specs.Prelude.{◌≡◌, ℕ, suc, ◌<◌, List, get_or, [], ◌∷◌, map, length, Bool, ◌&&◌, nat_eq, if◌then◌else◌, Some}
-use Rattle.std.specs.Prelude.{slice_get}
+use Rattle.std.specs.Prelude.{◌≡◌, ℕ, suc, ◌<◌, List, [], ◌∷◌, map, length, Bool, ◌&&◌, nat_eq, if◌then◌else◌, Some}
+use Rattle.std.specs.Prelude.{get_or, slice_get}
 use Rattle.chr_base.specs.declared.atom.SymbolId.{SymbolId}
 use Rattle.chr_base.specs.declared.atom.Atom.{Atom}
 use Rattle.chr_base.specs.declared.term.Pattern.{Pattern}

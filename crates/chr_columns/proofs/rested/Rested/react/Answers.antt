@@ -17,8 +17,8 @@ returns-in_default-clause-none c =
     c.table_of-table.ensures ∙ ap (table_of c.args.self.now.directory.groups.items c.args.active.now.symbol)
     c.len.ensures.value in
     let n = ap length c.deref.ensures.value in
-    let l = slice_get_within c.args.self.now.directory.groups.items (table_of_atom c.args.self.now.directory.groups.items
-    c.args.active.now) g e in
+    let l = slice_get_within c.args.self.now.directory.groups.items
+    (table_of_atom c.args.self.now.directory.groups.items c.args.active.now) g e in
     let past : length c.deref.result.now ≤ c.table_of-table.result = grind (arith, nat_tests) in
     omega (arith, past, t, n, l))))
 
@@ -29,8 +29,8 @@ react-requires-clause-fits c =
     let t : c.table_of-table.result ≡ table_of_atom c.args.self.now.directory.groups.items c.args.active.now =
     c.table_of-table.ensures ∙ ap (table_of c.args.self.now.directory.groups.items c.args.active.now.symbol)
     c.len.ensures.value in
-    let at = group_at c.args.self.now.directory.groups.items c.deref.result.now c.args.active.now c.table_of-table.result
-    c.in-Some.group.now c.deref.ensures.value t within c.in-Some.ensures.lookup.1 in
+    let at = group_at c.args.self.now.directory.groups.items c.deref.result.now c.args.active.now
+    c.table_of-table.result c.in-Some.group.now c.deref.ensures.value t within c.in-Some.ensures.lookup.1 in
     rw (c.deref-2.ensures.value, c.deref-3.ensures.value)
     (all_fit c.args.self.now.rules.items c.args.self.now.directory.groups.items _ _ _ c.requires.rested.set_up
     (table_of_atom c.args.self.now.directory.groups.items c.args.active.now) c.in-Some.group.now at)
@@ -62,8 +62,8 @@ returns-in_default-react-clause-none c =
     let t : c.table_of-table.result ≡ table_of_atom c.args.self.now.directory.groups.items c.args.active.now =
     c.table_of-table.ensures ∙ ap (table_of c.args.self.now.directory.groups.items c.args.active.now.symbol)
     c.len.ensures.value in
-    let at = group_at c.args.self.now.directory.groups.items c.deref.result.now c.args.active.now c.table_of-table.result
-    c.in-Some.group.now c.deref.ensures.value t within c.in-Some.ensures.lookup.1 in
+    let at = group_at c.args.self.now.directory.groups.items c.deref.result.now c.args.active.now
+    c.table_of-table.result c.in-Some.group.now c.deref.ensures.value t within c.in-Some.ensures.lookup.1 in
     let none : (k : ℕ) → k < length c.in-Some.group.now.plans.items → NoneBy c.args.self.now.rules.items
     (rows_of c.args.self.now.tables.tables.items) c.args.active.now (slice_get c.in-Some.group.now.plans.items k) =
     rw (c.deref-2.ensures.value, c.deref-3.ensures.value) at c.in_default-react.ensures.none in
@@ -86,8 +86,8 @@ returns-clause-found c =
     let t : c.table_of-table.result ≡ table_of_atom c.args.self.now.directory.groups.items c.args.active.now =
     c.table_of-table.ensures ∙ ap (table_of c.args.self.now.directory.groups.items c.args.active.now.symbol)
     c.len.ensures.value in
-    let at = group_at c.args.self.now.directory.groups.items c.deref.result.now c.args.active.now c.table_of-table.result
-    c.in-Some.group.now c.deref.ensures.value t within c.in-Some.ensures.lookup.1 in
+    let at = group_at c.args.self.now.directory.groups.items c.deref.result.now c.args.active.now
+    c.table_of-table.result c.in-Some.group.now c.deref.ensures.value t within c.in-Some.ensures.lookup.1 in
     let l = is_one _ _ _ c.deref-3.result.now c.in-Some-react.found _ _ c.in-Some-react.ensures.found in
     let e = ap length c.deref-3.ensures.value in
     let plan = slice_get_read c.in-Some.group.now.plans.items (length c.in-Some.group.now.plans.items)
@@ -114,8 +114,8 @@ react-requires-clause-passed c =
     let t : c.table_of-table.result ≡ table_of_atom c.args.self.now.directory.groups.items c.args.active.now =
     c.table_of-table.ensures ∙ ap (table_of c.args.self.now.directory.groups.items c.args.active.now.symbol)
     c.len.ensures.value in
-    let at = group_at c.args.self.now.directory.groups.items c.deref.result.now c.args.active.now c.table_of-table.result
-    c.in-Some.group.now c.deref.ensures.value t within c.in-Some.ensures.lookup.1 in
+    let at = group_at c.args.self.now.directory.groups.items c.deref.result.now c.args.active.now
+    c.table_of-table.result c.in-Some.group.now c.deref.ensures.value t within c.in-Some.ensures.lookup.1 in
     rw (c.deref-2.ensures.value, c.deref-3.ensures.value)
     (goes_by c.args.self.now.rules.items c.args.self.now.directory.groups.items _ c.args.active.now c.args.from
     c.in-Some.group.now at c.requires.standing)
