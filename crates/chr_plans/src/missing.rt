@@ -11,6 +11,7 @@ ghost use Rattle.chr_plans.specs.working.Searching.{are_ready, is_ready, looked_
 use crate::key::{Key, Source, Span, key_values};
 use crate::plan::Lookup;
 use crate::rows::Rows;
+use crate::search::newest_from;
 use chr_base::atom::Atom;
 
 /// Whether one of these look-ups looks in the place.
@@ -73,8 +74,7 @@ fn finds_none<R: Rows>(rows: &mut R, lookup: &Lookup, heads: &[Atom]) -> bool
         (R.rows rows.old lookup.now.table other))) }
 {
     let key = key_values(heads, &lookup.partner.key);
-    rows.first(lookup.table, lookup.index, &key, &whole_span())
-        .is_none()
+    newest_from(rows, lookup, &key, &whole_span(), None).is_none()
 }
 
 /// Whether a look-up after the first ones, whose key is known from the active atom and their partners, finds no row.

@@ -33,8 +33,10 @@ fn is_taken(lookups: &[Lookup], seats: &[Seat], row: Seat) -> bool
     false
 }
 
-/// The newest row that a look-up meets; where there is a row to begin at, the newest at it or below it.
-fn newest_from<R: Rows>(
+/// The newest row that a look-up meets; where there is a row to begin at, the newest at it or below it. Two call it, so
+/// it has a call of its own, and what it calls is put into it.
+#[inline(never)]
+pub(crate) fn newest_from<R: Rows>(
     rows: &mut R,
     lookup: &Lookup,
     key: &[i64],
