@@ -32,7 +32,7 @@ then_equal order.Equal = refl
 then_equal order.Greater = refl
 
 -- atoms of one symbol with as many arguments are printed in the order of a bag
-alike_order : (ds : List Declaration) (a b : Atom) → are_alike a b ≡ true → print_cmp ds a b ≡ atom_cmp a b
+pub alike_order : (ds : List Declaration) (a b : Atom) → are_alike a b ≡ true → print_cmp ds a b ≡ atom_cmp a b
 alike_order ds a b h =
     let parts = and_parts _ _ h in
     let symbols : a.symbol.0 ≡ b.symbol.0 = eqb-true _ _ (parts.0) in
@@ -128,7 +128,7 @@ flat_after ds [] = refl
 flat_after ds (r ∷ rs) = flat_map-append (after ds) r.now (flat rs) ∙ ap (λ xs. flat_map (after ds) r.now ++ xs)
     (flat_after ds rs)
 
-joined : (ds : List Declaration) (xs ys : List Atom) → 0 < length xs → atoms_text ds (xs ++ ys) ≡ atoms_text ds xs
+pub joined : (ds : List Declaration) (xs ys : List Atom) → 0 < length xs → atoms_text ds (xs ++ ys) ≡ atoms_text ds xs
     ++ flat_map (after ds) ys
 joined ds [] ys h = absurd (omega (arith, h))
 joined ds (x ∷ xs) ys h = ap (λ bs. atom_text ds x ++ bs) (flat_map-append (after ds) xs ys)

@@ -27,4 +27,5 @@ pub mod Declared
 pub mod Weighing
 pub mod Printing
 pub mod InRuns
+pub mod Printed
 pub mod Made

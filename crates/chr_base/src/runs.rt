@@ -31,7 +31,7 @@ pub(crate) fn print_order(program: &Program, left: &Atom, right: &Atom) -> Order
 }
 
 /// Whether the two have one symbol and as many arguments.
-fn are_alike(left: &Atom, right: &Atom) -> bool
+pub(crate) fn are_alike(left: &Atom, right: &Atom) -> bool
     ensures { result ≡ are_alike left.now right.now }
 {
     left.symbol.0 == right.symbol.0 && left.args.len() == right.args.len()

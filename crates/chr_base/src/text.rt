@@ -1,16 +1,17 @@
 //! Atoms and stores as text.
 ghost use Rattle.std.specs.Prelude.{◌≡◌, ◌++◌, IfOk, OnOk, codes, string_bytes};
 ghost use Rattle.std.specs.Fmt.{signed_decimal};
+ghost use Rattle.std.specs.Ordering.{is_gt};
 ghost use Rattle.std.specs.List.{All, flat_map};
 ghost use Rattle.chr_base.specs.Programs.{declarations};
-ghost use Rattle.chr_base.specs.Texts.{in_print_order, atom_text, atoms_text, store_text};
+ghost use Rattle.chr_base.specs.Texts.{in_print_order, print_cmp, atom_text, atoms_text, store_text};
 ghost use Rattle.chr_base.specs.working.Runs.{IsRun};
 
 use crate::atom::Atom;
 use crate::bag::Bag;
 use crate::lists::push_copies;
 use crate::program::Program;
-use crate::runs::{print_order, runs_in_print_order};
+use crate::runs::{are_alike, print_order, runs_in_print_order};
 use itoa::Buffer;
 use std::alloc::{AllocError, Global};
 
@@ -24,6 +25,17 @@ pub fn in_print_order(alloc: Global, program: &Program, bag: &Bag) -> Result<Vec
     push_copies(&mut atoms, bag.atoms())?;
     atoms.sort_unstable_by(|left, right| print_order(program, left, right));
     Ok(atoms)
+}
+
+/// Whether an atom is printed after another one.
+pub fn is_printed_after(program: &Program, left: &Atom, right: &Atom) -> bool
+    ensures { result ≡ is_gt (print_cmp (declarations program.now) left.now right.now) }
+{
+    if are_alike(left, right) {
+        left.is_after(right)
+    } else {
+        print_order(program, left, right).is_gt()
+    }
 }
 
 fn push_value(out: &mut String, value: i64) -> Result<(), AllocError>
@@ -44,7 +56,8 @@ fn push_more_values(out: &mut String, values: &[i64]) -> Result<(), AllocError>
     Ok(())
 }
 
-fn push_atom(out: &mut String, program: &Program, atom: &Atom) -> Result<(), AllocError>
+/// Adds the text of an atom at the end of a text. Of an atom that the program doesn't declare the name is left out.
+pub fn push_atom(out: &mut String, program: &Program, atom: &Atom) -> Result<(), AllocError>
     ensures { OnOk result (string_bytes out.new
         ≡ string_bytes out.old ++ atom_text (declarations program.now) atom.now) }
 {
