@@ -23,3 +23,5 @@ pub mod Tidying
 pub mod Resuming
 pub mod Running
 pub mod Local
+pub mod Pooled
+pub mod Printed

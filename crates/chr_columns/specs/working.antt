@@ -8,3 +8,4 @@ pub mod Listing
 pub mod Finding
 pub mod Sitting
 pub mod Candidates
+pub mod Printing

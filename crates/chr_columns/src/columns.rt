@@ -26,6 +26,7 @@ use std::alloc::{AllocError, Global};
 use std::marker::Model;
 
 mod parts;
+mod texts;
 
 /// A store that rests in near linear time. Some atoms are at rest under the pool's rules, and sit in rows; the others
 /// are fresh. Contracts see the multiset of both.

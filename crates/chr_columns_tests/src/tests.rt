@@ -7,3 +7,4 @@ mod passing;
 mod pool;
 mod refused;
 mod rewriting;
+mod texts;

@@ -1,0 +1,171 @@
+-- Atoms that are printed one after another, and their text.
+use Rattle.std.proofs.Common.{◌≡◌, ℕ, zero, suc, ◌+◌, ◌-◌, ◌<◌, Bool, true, false, List, [], ◌∷◌, ◌++◌, length, map}
+use Rattle.std.specs.Prelude.{ℤ}
+use Rattle.std.proofs.Common.{set, take, take-suc, get_or, refl, sym, ap, subst, ◌∙◌, append_assoc, arith}
+use Rattle.std.specs.Prelude.{Option, Some, None, Result, Ok, Err, OnOk, slice_get, codes}
+use Rattle.std.specs.Borrow.{Bor}
+use Rattle.std.specs.List.{flat_map}
+use Rattle.std.proofs.lemmas.Grind.{flat_map-append}
+use Rattle.std.proofs.lemmas.List.{append-nil}
+use Rattle.std.specs.Ordering.{is_gt}
+use Rattle.chr_base.specs.declared.atom.Atom.{Atom}
+use Rattle.chr_base.specs.ProgramTests.{Declaration}
+use Rattle.chr_base.specs.Texts.{print_cmp, atoms_text}
+use Rattle.chr_base.proofs.Ordered.{rising_append}
+use Rattle.chr_base.proofs.Printing.{print_total}
+use Rattle.chr_base.specs.FinBag.{empty, ◌⊕◌}
+use Rattle.chr_base.specs.Stores.{Store, store_of}
+use Rattle.chr_base.proofs.Stores.{count_plus, same_store, store_of-append, plus_assoc, plus_comm}
+use Rattle.chr_plans.specs.Grids.{Grid, contents, live_atoms}
+use Rattle.chr_tables.specs.Contents.{Contents}
+use Rattle.chr_columns.specs.declared.flat.Flat.{Flat}
+use Rattle.chr_columns.specs.working.Resting.{grid}
+use Rattle.chr_columns.specs.working.Printing.{flat_atom, flat_atoms, flat_rows, flats_atoms, rows_at}
+use Rattle.chr_columns.specs.working.Printing.{joined_text, IsWritten, Rises}
+
+last_more : (xs : List Atom) (a : Atom) → slice_get (xs ++ a ∷ []) (length (xs ++ a ∷ []) - 1) ≡ Some a
+last_more [] a = refl
+last_more (x ∷ []) a = refl
+last_more (x ∷ y ∷ ys) a =
+    let e : length (x ∷ y ∷ ys ++ a ∷ []) - 1 ≡ suc (length (y ∷ ys ++ a ∷ []) - 1) = omega arith in
+    ap (slice_get (x ∷ y ∷ ys ++ a ∷ [])) e ∙ last_more (y ∷ ys) a
+
+one_there : (a y : Atom) → slice_get (a ∷ []) 0 ≡ Some y → a ≡ y
+one_there a y e = cc
+
+-- one more atom that isn't printed before the last one
+pub rises_more : (ds : List Declaration) (xs : List Atom) (last : Option Atom) (a : Atom) → Rises ds xs last
+    → ((x : Atom) → last ≡ Some x → is_gt (print_cmp ds x a) ≡ false) → Rises ds (xs ++ a ∷ []) (Some a)
+rises_more ds xs last a h after = record {
+  rises = rising_append (print_total ds) xs (a ∷ []) h.rises refl (λ x y k l.
+      subst (λ z. is_gt (print_cmp ds x z) ≡ false) (one_there a y l) (after x (h.last_is ∙ k)));
+  last_is = sym (last_more xs a);
+}
+
+-- no atom yet
+pub none_rise : (ds : List Declaration) → Rises ds [] None
+none_rise ds = record { rises = refl; last_is = refl }
+
+pub none_written : (ds : List Declaration) (start : List ℕ) → IsWritten ds start [] false start
+none_written ds start = record { text_is = sym (append-nil start); some = λ e. absurd (cc); none = λ e. refl }
+
+-- what is left to write where all atoms are
+pub all_written : (ds : List Declaration) (start : List ℕ) (xs : List Atom) (started : Bool) (text new : List ℕ)
+    → IsWritten ds start xs started text → (started ≡ true → new ≡ text)
+    → (started ≡ false → new ≡ text ++ codes "true") → new ≡ start ++ atoms_text ds xs
+all_written ds start [] true text new h some none = absurd (omega (arith, h.some refl))
+all_written ds start (x ∷ xs) true text new h some none = some refl ∙ h.text_is
+all_written ds start xs false text new h some none =
+    none refl ∙ ap (λ t. t ++ codes "true") (h.text_is ∙ ap (λ ys. start ++ joined_text ds ys) (h.none refl))
+    ∙ append_assoc start [] (codes "true") ∙ ap (λ ys. start ++ atoms_text ds ys) (sym (h.none refl))
+
+-- one more list behind others
+pub flat_one : {X : Type 0} (f : X → List Atom) (xs : List X) (x : X) → flat_map f (xs ++ x ∷ []) ≡ flat_map f xs ++ f x
+flat_one f xs x = flat_map-append f xs (x ∷ []) ∙ ap (λ ys. flat_map f xs ++ ys) (append-nil (f x))
+
+take_one : {X : Type 0} (xs : List X) (i : ℕ) (x : X) → i < length xs → x ≡ get_or xs i x → take (i + 1) xs
+    ≡ take i xs ++ x ∷ []
+take_one xs i x l is = (let e : i + 1 ≡ suc i = omega arith in ap (λ n. take n xs) e) ∙ take-suc xs i x l
+    ∙ ap (λ y. take i xs ++ y ∷ []) (sym is)
+
+pub flat_more : {X : Type 0} (f : X → List Atom) (xs : List X) (i : ℕ) (x : X) → i < length xs → x ≡ get_or xs i x
+    → flat_map f (take (i + 1) xs) ≡ flat_map f (take i xs) ++ f x
+flat_more f xs i x l is = ap (flat_map f) (take_one xs i x l is) ∙ flat_one f (take i xs) x
+
+live_rows : (f : Flat) (rows : List (List ℤ)) → live_atoms (map (λ row. Some (flat_atom f row)) rows)
+    ≡ map (flat_atom f) rows
+live_rows f [] = refl
+live_rows f (row ∷ rows) = ap (λ as'. flat_atom f row ∷ as') (live_rows f rows)
+
+pub live_flat : (f : Flat) → live_atoms (flat_rows f) ≡ flat_atoms f
+live_flat f = live_rows f f.rows.items
+
+-- one table more
+contents_one : (tables : Grid) (rows : List (Option Atom)) → contents (tables ++ rows ∷ [])
+    ≡ contents tables ⊕ store_of (live_atoms rows)
+contents_one [] rows = plus_comm (store_of (live_atoms rows)) empty
+contents_one (t ∷ tables) rows = ap (λ s. store_of (live_atoms t) ⊕ s) (contents_one tables rows)
+    ∙ sym (plus_assoc (store_of (live_atoms t)) (contents tables) (store_of (live_atoms rows)))
+
+map_one : (xs : List (Bor Contents)) (x : Bor Contents) → map rows_at (xs ++ x ∷ []) ≡ map rows_at xs ++ x.now.rows ∷ []
+map_one [] x = refl
+map_one (y ∷ ys) x = ap (λ rest. y.now.rows ∷ rest) (map_one ys x)
+
+-- the rows of one table more
+pub rows_more : (tables : List (Bor Contents)) (i : ℕ) (t : Bor Contents) (s : Store) → i < length tables
+    → t ≡ get_or tables i t → s ≡ contents (map rows_at (take i tables)) → s ⊕ store_of (live_atoms t.now.rows)
+    ≡ contents (map rows_at (take (i + 1) tables))
+rows_more tables i t s l is h =
+    let taken : map rows_at (take (i + 1) tables) ≡ map rows_at (take i tables) ++ t.now.rows ∷ [] =
+    ap (map rows_at) (take_one tables i t l is) ∙ map_one (take i tables) t in
+    ap (λ u. u ⊕ store_of (live_atoms t.now.rows)) h ∙ sym (contents_one (map rows_at (take i tables)) t.now.rows)
+    ∙ ap contents (sym taken)
+
+pub contents_more : (tables : List (Bor Contents)) (i : ℕ) (t : Bor Contents) (before : List Atom) (whole : List Atom)
+    → i < length tables → t ≡ get_or tables i t → store_of before ≡ contents (map rows_at (take i tables))
+    → whole ≡ before ++ live_atoms t.now.rows → store_of whole ≡ contents (map rows_at (take (i + 1) tables))
+contents_more tables i t before whole l is h w =
+    ap store_of w ∙ store_of-append before (live_atoms t.now.rows) ∙ rows_more tables i t (store_of before) l is h
+
+-- one atom more in one place
+one_of_two : (s t o : Store) → (s ⊕ o) ⊕ t ≡ (s ⊕ t) ⊕ o
+one_of_two s t o = same_store _ _ (λ q. simp count_plus (omega arith))
+
+pub one_added : (fs : List Flat) (i : ℕ) (f g : Flat) (a : Atom) → i < length fs → f ≡ get_or fs i f
+    → flat_atoms g ≡ flat_atoms f ++ a ∷ [] → store_of (flats_atoms (set fs i g))
+    ≡ store_of (flats_atoms fs) ⊕ store_of (a ∷ [])
+one_added [] i f g a l is e = absurd (omega (arith, l))
+one_added (h ∷ fs) zero f g a l is e =
+    store_of-append (flat_atoms g) (flats_atoms fs)
+    ∙ ap (λ s. s ⊕ store_of (flats_atoms fs)) (ap store_of (e ∙ ap (λ x. flat_atoms x ++ a ∷ []) is)
+    ∙ store_of-append (flat_atoms h) (a ∷ []))
+    ∙ one_of_two (store_of (flat_atoms h)) (store_of (flats_atoms fs)) (store_of (a ∷ []))
+    ∙ ap (λ s. s ⊕ store_of (a ∷ [])) (sym (store_of-append (flat_atoms h) (flats_atoms fs)))
+one_added (h ∷ fs) (suc i) f g a l is e =
+    store_of-append (flat_atoms h) (flats_atoms (set fs i g))
+    ∙ ap (λ s. store_of (flat_atoms h) ⊕ s) (one_added fs i f g a (omega (arith, l)) is e)
+    ∙ sym (plus_assoc (store_of (flat_atoms h)) (store_of (flats_atoms fs)) (store_of (a ∷ [])))
+    ∙ ap (λ s. s ⊕ store_of (a ∷ [])) (sym (store_of-append (flat_atoms h) (flats_atoms fs)))
+
+pub one_added_on : {E : Type 0} (fs : List Flat) (i : ℕ) (f g : Flat) (a : Atom) → i < length fs → f ≡ get_or fs i f
+    → {A : Type 0} (r : Result A E) → OnOk r (flat_atoms g ≡ flat_atoms f ++ a ∷ [])
+    → OnOk r (store_of (flats_atoms (set fs i g)) ≡ store_of (flats_atoms fs) ⊕ store_of (a ∷ []))
+one_added_on fs i f g a l is (Ok x) e = one_added fs i f g a l is e
+one_added_on fs i f g a l is (Err x) e = tt
+
+-- one more atom behind others that joined a store
+pub one_more : (s : Store) (xs : List Atom) (a : Atom) {t : Store} → t ≡ s ⊕ store_of xs → t ⊕ store_of (a ∷ [])
+    ≡ s ⊕ store_of (xs ++ a ∷ [])
+one_more s xs a e = ap (λ u. u ⊕ store_of (a ∷ [])) e ∙ plus_assoc s (store_of xs) (store_of (a ∷ []))
+    ∙ ap (λ u. s ⊕ u) (sym (store_of-append xs (a ∷ [])))
+
+-- the rows of one place in order
+pub one_sorted : (fs : List Flat) (i : ℕ) (f g : Flat) → i < length fs → f ≡ get_or fs i f
+    → store_of (flat_atoms g) ≡ store_of (flat_atoms f) → store_of (flats_atoms (set fs i g))
+    ≡ store_of (flats_atoms fs)
+one_sorted [] i f g l is e = absurd (omega (arith, l))
+one_sorted (h ∷ fs) zero f g l is e =
+    store_of-append (flat_atoms g) (flats_atoms fs)
+    ∙ ap (λ s. s ⊕ store_of (flats_atoms fs)) (e ∙ ap (λ x. store_of (flat_atoms x)) is)
+    ∙ sym (store_of-append (flat_atoms h) (flats_atoms fs))
+one_sorted (h ∷ fs) (suc i) f g l is e =
+    store_of-append (flat_atoms h) (flats_atoms (set fs i g))
+    ∙ ap (λ s. store_of (flat_atoms h) ⊕ s) (one_sorted fs i f g (omega (arith, l)) is e)
+    ∙ sym (store_of-append (flat_atoms h) (flats_atoms fs))
+
+-- one table more behind others
+grid_one : (xs : List Contents) (x : Contents) → grid (xs ++ x ∷ []) ≡ grid xs ++ x.rows ∷ []
+grid_one [] x = refl
+grid_one (y ∷ ys) x = ap (λ rest. y.rows ∷ rest) (grid_one ys x)
+
+pub tables_more : (s : Store) (before : List (Bor Contents)) (tables : List Contents) (i : ℕ) (t : Bor Contents)
+    → i < length tables → t.now ≡ get_or tables i t.now
+    → contents (map rows_at before) ≡ s ⊕ contents (grid (take i tables))
+    → contents (map rows_at (before ++ t ∷ [])) ≡ s ⊕ contents (grid (take (i + 1) tables))
+tables_more s before tables i t l is h =
+    let one = store_of (live_atoms t.now.rows) in
+    let taken : grid (take (i + 1) tables) ≡ grid (take i tables) ++ t.now.rows ∷ [] =
+    ap grid (take_one tables i t.now l is) ∙ grid_one (take i tables) t.now in
+    ap contents (map_one before t) ∙ contents_one (map rows_at before) t.now.rows ∙ ap (λ u. u ⊕ one) h
+    ∙ plus_assoc s (contents (grid (take i tables))) one
+    ∙ ap (λ u. s ⊕ u) (sym (contents_one (grid (take i tables)) t.now.rows) ∙ ap contents (sym taken))

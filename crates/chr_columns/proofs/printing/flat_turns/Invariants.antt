@@ -1,0 +1,6 @@
+use Rattle.std.proofs.Common.{◌≡◌, take}
+use Rattle.chr_columns.specs.working.Printing.{all_atoms, flats_atoms}
+use Rattle.chr_columns.proofs.printing.flat_turns.Given as goal
+
+abbrev pub invariant-loop-flat : goal.invariant-loop-flat
+invariant-loop-flat l = all_atoms l.turns.items ≡ flats_atoms (take l.flat-index l.flats)

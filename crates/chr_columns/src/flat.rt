@@ -1,0 +1,83 @@
+//! Atoms of one symbol, by their arguments alone.
+ghost use Rattle.std.specs.Prelude.{◌≡◌, ◌≤◌, ◌++◌, ◌∷◌, [], None, length, take, get_or, IsTrue, OnOk};
+ghost use Rattle.std.specs.List.Sorted.{IsPermutation};
+ghost use Rattle.chr_columns.specs.declared.flat.TheConstants.{FLAT_ARITY};
+ghost use Rattle.chr_columns.specs.working.Printing.{flat_atoms, flat_rows, has_shape};
+
+use chr_base::atom::{Atom, SymbolId};
+use std::alloc::{AllocError, Global};
+
+/// Atoms that have more arguments are not kept in rows of their own.
+pub(crate) const FLAT_ARITY: usize = 3;
+
+/// Atoms of one symbol and number of arguments. Each has a row: its arguments, and noughts behind them.
+#[derive(Drop)]
+pub(crate) struct Flat {
+    pub(crate) symbol: SymbolId,
+    pub(crate) arity: usize,
+    pub(crate) rows: Vec<[i64; FLAT_ARITY]>,
+}
+
+/// The values, and noughts behind them.
+fn row_of(values: &[i64]) -> [i64; FLAT_ARITY]
+    requires { length values.now ≤ FLAT_ARITY }
+    ensures { take (length values.now) result ≡ values.now }
+{
+    let mut row = [0; FLAT_ARITY];
+    for j in 0..values.len() {
+        row[j] = values[j];
+    }
+    row
+}
+
+impl Flat {
+    /// None yet, of this symbol and number of arguments.
+    pub(crate) fn new(alloc: Global, symbol: SymbolId, arity: usize) -> Flat
+        ensures none { flat_atoms result ≡ [] }
+        ensures symbol { result.symbol ≡ symbol }
+        ensures arity { result.arity ≡ arity }
+    {
+        Flat {
+            symbol,
+            arity,
+            rows: Vec::new(alloc),
+        }
+    }
+
+    /// Whether the atom is of its symbol and number of arguments.
+    pub(crate) fn is_for(&self, atom: &Atom) -> bool
+        ensures { result ≡ has_shape self.now atom.now }
+    {
+        self.symbol.0 == atom.symbol.0 && self.arity == atom.args.len()
+    }
+
+    /// One more, the last. Where memory is refused nothing changes.
+    pub(crate) fn push(&mut self, atom: &Atom) -> Result<(), AllocError>
+        requires shape { IsTrue (has_shape self.old atom.now) }
+        requires few { length atom.now.args.items ≤ FLAT_ARITY }
+        ensures { OnOk result (flat_atoms self.new ≡ flat_atoms self.old ++ atom.now ∷ []) }
+    {
+        self.rows.push(row_of(&atom.args))?;
+        Ok(())
+    }
+
+    /// The atom of a row. A row past the last has none.
+    pub(crate) fn get(&self, row: usize) -> Option<Atom>
+        ensures { result ≡ get_or (flat_rows self.now) row None }
+    {
+        if row >= self.rows.len() {
+            return None;
+        }
+        let values = &self.rows[row];
+        let mut atom = Atom::default();
+        atom.set(self.symbol, &values[..self.arity.min(FLAT_ARITY)]);
+        Some(atom)
+    }
+
+    /// Puts the rows in order.
+    pub(crate) fn sort(&mut self)
+        ensures { IsPermutation (flat_atoms self.old) (flat_atoms self.new) }
+    {
+        self.rows.sort_unstable();
+    }
+}

@@ -1,0 +1,118 @@
+//! The text of a store that is written from the rows of pools.
+use crate::tests::pool::{columns_for, put, removes, rule, steps};
+use chr_base::program::Program;
+use chr_base::rule::Rule;
+use chr_columns::columns::Columns;
+use chr_testing::texts::program_of;
+use std::process::Abort;
+
+/// Symbols are printed in another order than they are declared. Rules have atoms of the first two alone.
+const PROGRAM: &str =
+    ":- chr_constraint b/2, a/1, a/2, none/0, wide/4. a(X), b(X,X), b(X,0) <=> true.";
+
+const START: &str = "1: ";
+
+const IN_ORDER: [(u16, &[i64]); 5] = [
+    (1, &[-7]),
+    (0, &[0, 5]),
+    (0, &[0, 5]),
+    (1, &[2]),
+    (0, &[1, 2]),
+];
+
+const IN_NO_ORDER: [(u16, &[i64]); 5] = [
+    (1, &[2]),
+    (0, &[1, 2]),
+    (0, &[0, 5]),
+    (1, &[-7]),
+    (0, &[0, -3]),
+];
+
+const OF_NO_RULE: [(u16, &[i64]); 4] = [(3, &[]), (2, &[1, 1]), (3, &[]), (2, &[0, 1])];
+
+const WIDE_IN_ORDER: [(u16, &[i64]); 2] = [(4, &[1, 2, 3, 4]), (4, &[1, 2, 3, 5])];
+
+const WIDE_IN_NO_ORDER: [(u16, &[i64]); 2] = [(4, &[1, 2, 3, 5]), (4, &[1, 2, 3, 4])];
+
+fn program(rt: &(impl Abort + AllocGlobal)) -> Program {
+    program_of(rt.alloc(), PROGRAM).expect(rt, "a program")
+}
+
+/// A pool at rest with these atoms, which came in this order.
+fn pool_with(rt: &(impl Abort + AllocGlobal), rules: &[Rule], rows: &[(u16, &[i64])]) -> Columns {
+    let mut pool = columns_for(rt, rules);
+    for place in (0..rows.len()).rev() {
+        put(rt, &mut pool, &rows[place..place + 1]);
+    }
+    assert!(rt; !steps(rt, &mut pool, rules));
+    pool
+}
+
+/// Whether the text of the pools is this one, behind what is there already; where there is none, nothing is added.
+fn are_written(rt: &(impl Abort + AllocGlobal), pools: &[Columns], wanted: Option<&str>) -> bool {
+    let mut out = String::new(rt.alloc());
+    out.push_str(START).expect(rt, "memory");
+    let written = Columns::push_text(rt.alloc(), &program(rt), pools, &mut out).expect(
+        rt, "memory",
+    );
+    let (start, text) = out.as_str().split_at(START.len());
+    written == wanted.is_some() && start == START && text == wanted.unwrap_or("")
+}
+
+/// The same of one pool that these atoms came into, in this order.
+fn is_written(
+    rt: &(impl Abort + AllocGlobal),
+    rows: &[(u16, &[i64])],
+    wanted: Option<&str>,
+) -> bool {
+    let rules = [rule(rt, PROGRAM)];
+    are_written(rt, &[pool_with(rt, &rules, rows)], wanted)
+}
+
+#[test]
+fn rows_in_order(rt: HostRuntime) {
+    assert!(rt; is_written(&rt, &IN_ORDER, Some("a(-7), a(2), b(0,5), b(0,5), b(1,2)")));
+    assert!(rt; is_written(&rt, &WIDE_IN_ORDER, Some("wide(1,2,3,4), wide(1,2,3,5)")));
+    assert!(rt; is_written(&rt, &[], Some("true")));
+}
+
+#[test]
+fn rows_in_no_order(rt: HostRuntime) {
+    assert!(rt;
+        is_written(
+            &rt,
+            &IN_NO_ORDER,
+            Some("a(-7), a(2), b(0,-3), b(0,5), b(1,2)")
+        )
+    );
+    assert!(rt; is_written(&rt, &OF_NO_RULE, Some("a(0,1), a(1,1), none, none")));
+    assert!(rt; is_written(&rt, &[(0, &[2, 2]), (5, &[1])], Some("(1), b(2,2)")));
+}
+
+#[test]
+fn what_has_no_text_here(rt: HostRuntime) {
+    assert!(rt; is_written(&rt, &WIDE_IN_NO_ORDER, None));
+    assert!(rt; is_written(&rt, &[(5, &[3]), (6, &[2]), (5, &[1])], None));
+    let rules = [rule(&rt, PROGRAM)];
+    let mut fresh = pool_with(&rt, &rules, &IN_ORDER);
+    put(&rt, &mut fresh, &[(1, &[3])]);
+    assert!(rt; are_written(&rt, &[fresh], None));
+}
+
+#[test]
+fn rows_that_died(rt: HostRuntime) {
+    let rules = [rule(&rt, PROGRAM)];
+    let mut pool = pool_with(&rt, &rules, &IN_NO_ORDER);
+    assert!(rt; removes(&rt, &mut pool, &[(0, &[0, 5]), (1, &[-7])]));
+    assert!(rt; are_written(&rt, &[pool], Some("a(2), b(0,-3), b(1,2)")));
+}
+
+#[test]
+fn one_store_in_two_pools(rt: HostRuntime) {
+    let rules = [rule(&rt, PROGRAM)];
+    let pools = [
+        pool_with(&rt, &rules, &[(1, &[3]), (0, &[0, 1]), (1, &[1])]),
+        pool_with(&rt, &rules, &[(1, &[2]), (0, &[0, 0])]),
+    ];
+    assert!(rt; are_written(&rt, &pools, Some("a(1), a(2), a(3), b(0,0), b(0,1)")));
+}
