@@ -80,7 +80,7 @@ none_answers w v r R n e =
 
 -- ---- a replica that changes and holds what it held
 
-same_set : {A : Type 0} (xs : List A) (i : ℕ) (x : A) → slice_get xs i ≡ Some x → slice_set xs i x ≡ xs
+pub same_set : {A : Type 0} (xs : List A) (i : ℕ) (x : A) → slice_get xs i ≡ Some x → slice_set xs i x ≡ xs
 same_set xs i x e = ap (λ y. slice_set xs i y) (sym (get_or_from_slice_get xs i x x e)) ∙ set-get_or xs i x
 
 pub same_held : (w v : Replicas) (r : ℕ) (s t : Replica) → IsAt w r s → v ≡ slice_set w (r - 1) t → t.operations

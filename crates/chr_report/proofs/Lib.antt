@@ -17,6 +17,7 @@ pub mod Kept
 pub mod Telling
 pub mod Merging
 pub mod Reading
+pub mod ShownPools
 pub mod Requests
 pub mod Writable
 pub mod OneTextValues

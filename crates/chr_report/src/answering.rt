@@ -22,8 +22,8 @@ use std::mem::forget;
 use std::sync::Wait;
 use std::thread::{Threads, join};
 
-/// Answers what is asked for.
-fn answer_request<R: Threads + Wait + Sync>(
+/// Answers what is asked for by a reply.
+fn answer_by_reply<R: Threads + Wait + Sync>(
     rt: &R,
     alloc: Global,
     service: &mut Service,
@@ -39,6 +39,48 @@ fn answer_request<R: Threads + Wait + Sync>(
 {
     let reply = service.obey(rt, alloc, request)?;
     push_reply(alloc, out, service.program(), &reply)
+}
+
+/// Rests a replica's pool and shows it, from its rows where that can be.
+fn answer_show<R: Threads + Wait + Sync>(
+    rt: &R,
+    alloc: Global,
+    service: &mut Service,
+    replica: u64,
+    out: &mut String,
+) -> Result<(), AllocError>
+    requires { IsBetweenLines service.old }
+    ensures ready { OnOk result (IsBetweenLines service.new) }
+    ensures program { service.new.world.accepted ≡ service.old.world.accepted }
+    ensures answer { OnOk result (AddsReply (declarations (served service.old)) (rules_of (served service.old))
+        (held service.old) (Request.Show replica) (string_bytes out.old) (held service.new) (string_bytes out.new)) }
+{
+    service.settle(rt, alloc, replica)?;
+    if service.push_pool(alloc, replica, out)? {
+        return out.push_str("\n");
+    }
+    answer_by_reply(rt, alloc, service, Request::Show(replica), out)
+}
+
+/// Answers what is asked for.
+fn answer_request<R: Threads + Wait + Sync>(
+    rt: &R,
+    alloc: Global,
+    service: &mut Service,
+    request: Request,
+    out: &mut String,
+) -> Result<(), AllocError>
+    requires ready { IsBetweenLines service.old }
+    requires fits { FitsProgram (served service.old) request }
+    ensures ready { OnOk result (IsBetweenLines service.new) }
+    ensures program { service.new.world.accepted ≡ service.old.world.accepted }
+    ensures answer { OnOk result (AddsReply (declarations (served service.old)) (rules_of (served service.old))
+        (held service.old) request (string_bytes out.old) (held service.new) (string_bytes out.new)) }
+{
+    match request {
+        Request::Show(replica) => answer_show(rt, alloc, service, replica, out),
+        request => answer_by_reply(rt, alloc, service, request, out),
+    }
 }
 
 /// Answers a line, which comes without its end, unless it is blank.

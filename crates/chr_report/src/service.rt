@@ -1,5 +1,6 @@
 //! Replicas that are asked what command lines say.
-ghost use Rattle.std.specs.Prelude.{◌≡◌, ◌≤◌, All, IfOk, OnOk, replicate};
+ghost use Rattle.std.specs.Prelude.{◌≡◌, ◌≤◌, All, IfOk, OnOk, replicate, string_bytes};
+ghost use Rattle.std.specs.Bool.{OnTrue, OnFalse};
 ghost use Rattle.std.specs.Arc.{arc_value};
 ghost use Rattle.std.specs.FinMap as finite;
 ghost use Rattle.chr_join.specs.AcceptedPrograms.{program_in};
@@ -10,7 +11,7 @@ ghost use Rattle.chr_worlds.specs.Worlds.{Happens};
 ghost use Rattle.chr_base.specs.declared.limits.TheConstants.{MAX_REPLICAS};
 ghost use Rattle.chr_report.specs.Answers.{AnswersBetween, AnswersLacks, AnswersMerge, AnswersShow, AnswersSummary};
 ghost use Rattle.chr_report.specs.Answers.{AnswersTell};
-ghost use Rattle.chr_report.specs.working.Obeying.{IsAnswered, IsAnsweredAt};
+ghost use Rattle.chr_report.specs.working.Obeying.{IsAnswered, IsAnsweredAt, ShowsFrom};
 ghost use Rattle.chr_report.specs.working.Requests.{AnswersRequest, FitsProgram};
 ghost use Rattle.chr_report.specs.working.Services.{held, served, was_stopped};
 ghost use Rattle.chr_report.specs.working.Services.{AreAtRest, HasLongRanges, IsLineEvent, IsBetweenLines};
@@ -205,7 +206,7 @@ impl Service {
     }
 
     /// Rests a replica's pool, where there is that replica.
-    fn settle<R: Threads + Wait + Sync>(
+    pub(crate) fn settle<R: Threads + Wait + Sync>(
         &mut self,
         rt: &R,
         alloc: Global,
@@ -342,6 +343,25 @@ impl Service {
         self.settle(rt, alloc, replica)?;
         let answer = self.shown(rt, alloc, replica)?;
         Ok(Reply::Answered(answer))
+    }
+
+    /// Adds the text of a replica's pool at rest, where it can be written from its rows. Else nothing is added.
+    pub(crate) fn push_pool(
+        &self,
+        alloc: Global,
+        replica: u64,
+        out: &mut String,
+    ) -> Result<bool, AllocError>
+        requires ready { IsBetweenLines self.now }
+        requires rests { AreAtRest self.now replica }
+        ensures text { IfOk result (λ shown. OnTrue shown
+            (ShowsFrom self.now replica (string_bytes out.old) (string_bytes out.new))) }
+        ensures same { IfOk result (λ shown. OnFalse shown (out.new ≡ out.old)) }
+    {
+        match self.world.board(replica) {
+            Some(board) => board.push_shown(alloc, out),
+            None => Ok(false),
+        }
     }
 
     /// Tells which ids a replica's operations have.

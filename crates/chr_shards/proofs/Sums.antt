@@ -13,6 +13,7 @@ use Rattle.chr_base.specs.FinBag.{◌⊕◌, ◌⊖◌}
 use Rattle.chr_base.specs.Stores.{Store, store_of, count, size, stores_sum}
 use Rattle.chr_base.proofs.Stores.{count_plus, count_minus, count_empty, same_store, plus_empty, plus_comm, plus_assoc}
 use Rattle.chr_base.proofs.Stores.{size_weight, weight_plus, store_of-append}
+use Rattle.chr_columns.proofs.Pooled.{sum_more}
 use Rattle.chr_shards.specs.working.Placed.{store_at}
 
 -- what no store has the sum has not
@@ -87,27 +88,6 @@ pub empty_at : (n k : ℕ) (q : Atom) → count (store_at (replicate n bag.empty
 empty_at zero k q = count_empty q
 empty_at (suc n) zero q = count_empty q
 empty_at (suc n) (suc k) q = empty_at n k q
-
--- one store more of a list that is walked
-sum_next : (ss : List Store) (k : ℕ) → k < length ss
-    → stores_sum (take (suc k) ss) ≡ stores_sum (take k ss) ⊕ store_at ss k
-sum_next [] k l = absurd (omega (arith, l))
-sum_next (s ∷ ss) zero l = plus_empty s ∙ sym (plus_comm bag.empty s ∙ plus_empty s)
-sum_next (s ∷ ss) (suc k) l = same_store _ _ (λ q. (
-    let a = count_plus s (stores_sum (take (suc k) ss)) q in
-    let b = count_plus s (stores_sum (take k ss)) q in
-    let c = count_plus (s ⊕ stores_sum (take k ss)) (store_at ss k) q in
-    let d = count_plus (stores_sum (take k ss)) (store_at ss k) q in
-    let e : count (stores_sum (take (suc k) ss)) q ≡ count (stores_sum (take k ss) ⊕ store_at ss k) q =
-    ap (λ t. count t q) (sum_next ss k (omega (arith, l))) in
-    omega (arith, a, b, c, d, e)))
-
-pub sum_more : (ss : List Store) (k : ℕ) → k < length ss
-    → stores_sum (take (k + 1) ss) ≡ stores_sum (take k ss) ⊕ store_at ss k
-sum_more ss k l =
-    subst (λ n. stores_sum (take n ss) ≡ stores_sum (take k ss) ⊕ store_at ss k) (let e : suc k ≡ k + 1 = omega
-    arith in e)
-    (sum_next ss k l)
 
 pub size_sum : (s t : Store) → size (s ⊕ t) ≡ size s + size t
 size_sum s t =

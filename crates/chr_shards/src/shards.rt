@@ -1,12 +1,14 @@
 //! Shards.
-ghost use Rattle.std.specs.Prelude.{◌≡◌, ◌<◌, ◌≤◌, ◌↔◌, IfOk, IfErr, IsTrue, OnOk, OnErr};
+ghost use Rattle.std.specs.Prelude.{◌≡◌, ◌<◌, ◌≤◌, ◌↔◌, ◌++◌, IfOk, IfErr, IsTrue, OnOk, OnErr, string_bytes};
 ghost use Rattle.std.specs.Bool.{OnTrue, OnFalse};
 ghost use Rattle.std.specs.Arc.{arc_value};
 ghost use Rattle.chr_base.specs.FinBag as bag;
 ghost use Rattle.chr_base.specs.FinBag.{◌⊕◌, ◌⊖◌, IsWithin};
+ghost use Rattle.chr_base.specs.Programs.{declarations};
 ghost use Rattle.chr_base.specs.Rewriting.{IsAtRest, Reaches};
 ghost use Rattle.chr_base.specs.Rules.{Step as RuleStep};
 ghost use Rattle.chr_base.specs.Stores.{size, store_of, stores_sum};
+ghost use Rattle.chr_base.specs.Texts.{store_text};
 ghost use Rattle.chr_weights.specs.WeighedPrograms.{program_of, rules_in};
 ghost use Rattle.chr_rewrite.specs.Derivations.{IsApplicable, LeadsTo};
 ghost use Rattle.chr_rewrite.specs.Pools.{TookSteps};
@@ -134,6 +136,16 @@ impl Shards {
         ensures { IfOk result (λ b. b ≡ self.now.store) }
     {
         bag_by(rt, alloc, &self.pools)
+    }
+
+    /// Adds the text of the store at the end of a text, as that of its bag is, and without one. False, and nothing is
+    /// added, where pools can't do that (`Columns::push_text`).
+    pub fn push_text(&self, alloc: Global, out: &mut String) -> Result<bool, AllocError>
+        ensures text { IfOk result (λ written. OnTrue written (string_bytes out.new ≡ string_bytes out.old
+            ++ store_text (declarations (program_of self.now.weighed)) self.now.store)) }
+        ensures same { IfOk result (λ written. OnFalse written (out.new ≡ out.old)) }
+    {
+        Columns::push_text(alloc, self.weighed.program(), &self.pools, out)
     }
 
     /// All atoms, those of each pool in the order of the arguments by which the rules join them.

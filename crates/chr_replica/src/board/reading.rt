@@ -1,8 +1,10 @@
 //! What boards show.
-ghost use Rattle.std.specs.Prelude.{◌≡◌, ◌↔◌, IfErr, IfOk, IsTrue, OnOk};
-ghost use Rattle.chr_base.specs.Programs.{rules_of};
+ghost use Rattle.std.specs.Prelude.{◌≡◌, ◌↔◌, ◌++◌, IfErr, IfOk, IsTrue, OnOk, string_bytes};
+ghost use Rattle.std.specs.Bool.{OnTrue, OnFalse};
+ghost use Rattle.chr_base.specs.Programs.{declarations, rules_of};
 ghost use Rattle.chr_base.specs.Rewriting.{IsAtRest};
 ghost use Rattle.chr_base.specs.Rules.{Step};
+ghost use Rattle.chr_base.specs.Texts.{store_text};
 ghost use Rattle.chr_join.specs.Parts.{IsOnlyNormalForm};
 ghost use Rattle.chr_ops.specs.Operations.{told_store};
 ghost use Rattle.chr_ops.specs.Summaries.{CoversJust, lacking};
@@ -69,6 +71,24 @@ impl Board {
     {
         self.may_show()?;
         Ok(self.pool.bag_by(rt, alloc)?)
+    }
+
+    /// Adds the text of the pool that [`Board::show`] gives at the end of a text, without a bag of it. False, and
+    /// nothing is added, where it can't be shown, or its text can't be made so; then [`Board::show`] tells.
+    ///
+    /// # Errors
+    /// Where memory is refused.
+    pub fn push_shown(&self, alloc: Global, out: &mut String) -> Result<bool, AllocError>
+        ensures text { IfOk result (λ shown. OnTrue shown (string_bytes out.new ≡ string_bytes out.old
+            ++ store_text (declarations (program_on self.now)) self.now.replica.pool)) }
+        ensures settled { IfOk result (λ shown. OnTrue shown
+            (IsSettled (program_on self.now) self.now.replica)) }
+        ensures same { IfOk result (λ shown. OnFalse shown (out.new ≡ out.old)) }
+    {
+        match self.may_show() {
+            Ok(()) => self.pool.push_text(alloc, out),
+            Err(_) => Ok(false),
+        }
     }
 
     /// A summary that covers just the ids of its operations.

@@ -1,9 +1,9 @@
 -- Replies to what lines ask for.
-use Rattle.std.specs.Prelude.{◌≡◌, ℕ, List, Result, IfOk}
+use Rattle.std.specs.Prelude.{◌≡◌, ℕ, List, ◌++◌, Result, IfOk}
 use Rattle.std.specs.declared.alloc.AllocError.{AllocError}
-use Rattle.chr_base.specs.Programs.{declarations}
+use Rattle.chr_base.specs.Programs.{declarations, rules_of}
 use Rattle.chr_ops.specs.Operations.{Operations}
-use Rattle.chr_report.specs.Answers.{AnswersAt}
+use Rattle.chr_report.specs.Answers.{AnswersAt, AnswersShow}
 use Rattle.chr_report.specs.declared.reply.Reply.{Reply}
 use Rattle.chr_report.specs.declared.service.Service.{Service}
 use Rattle.chr_report.specs.working.ReplyTexts.{reply_text, IsWritable}
@@ -20,3 +20,9 @@ pub record IsAnswered (old new : Service) (R : List Operations → List ℕ → 
 abbrev pub IsAnsweredAt : Service → Service → ℕ → (Operations → List ℕ → Operations → Type 0)
     → Result Reply AllocError → Type 0
 IsAnsweredAt old new r R reply = IsAnswered old new (λ held. AnswersAt held r R) reply
+
+-- the text of the replica of a number, which stays as it is, has been added
+pub record ShowsFrom (s : Service) (r : ℕ) (before after : List ℕ) : Type 0 where
+  pub text : List ℕ
+  pub answers : AnswersAt (held s) r (AnswersShow (declarations (served s)) (rules_of (served s))) text (held s)
+  pub out_is : after ≡ before ++ text
