@@ -40,6 +40,13 @@ THREAD_ROOMS = (16_000, 66_000, 131_000, 200_000, 300_000)
 MORE_TIMES, MORE_SECONDS = 3.0, 0.1
 """Under each of them a run may take so many times what it takes without, and so many seconds."""
 
+SHOWN = 200_000
+"""So many atoms are shown, and not."""
+
+BYTES_SHOWN = 48
+"""So many bytes more an atom of one argument may take where it is shown, some 11 of its text among them, and 24 where
+the arguments are first put in order. A bag of atoms would take 64 alone."""
+
 LONGEST = 10
 """A run is ended after so many seconds of processor time."""
 
@@ -264,11 +271,12 @@ INPUTS = (
 
 @dataclass(frozen=True)
 class End:
-    """How a run ended, what it wrote, and its processor time."""
+    """How a run ended, what it wrote, its processor time, and the most memory that it had, in KB."""
 
     status: int
     output: bytes
     seconds: float
+    memory: int
 
 
 def run_of(words: Sequence[str], given: str, room: int | None = None) -> End:
@@ -286,7 +294,7 @@ def run_of(words: Sequence[str], given: str, room: int | None = None) -> End:
         _, status, used = os.wait4(started.pid, 0)
         started.returncode = os.waitstatus_to_exitcode(status)
         told.seek(0)
-        return End(started.returncode, told.read(), float(used.ru_utime + used.ru_stime))
+        return End(started.returncode, told.read(), float(used.ru_utime + used.ru_stime), int(used.ru_maxrss))
 
 
 def seconds(of: Input, given: str) -> float:
@@ -326,6 +334,20 @@ class Costs(unittest.TestCase):
         self.assertEqual((ordered.status, disordered.status), (0, 0))
         self.assertEqual(ordered.output.splitlines()[-1], disordered.output.splitlines()[-1])
         self.assertLessEqual(disordered.seconds, DISORDER * max(ordered.seconds, FLOOR))
+
+    def bytes_shown(self, values: Iterable[int]) -> float:
+        """How many bytes of memory an atom takes that is shown."""
+        lines = [PLAIN, "---", *tells(("a", (value,)) for value in values), ""]
+        plain, whole = (run_of(("run",), "\n".join([*lines, end])) for end in ("", '["show",1]\n'))
+        self.assertEqual((plain.status, whole.status), (0, 0))
+        return (whole.memory - plain.memory) * 1024 / SHOWN
+
+    def test_memory_of_what_is_shown(self) -> None:
+        equal = self.bytes_shown([100_000] * SHOWN)
+        apart = self.bytes_shown(range(100_000, 100_000 + SHOWN))
+        self.assertLessEqual(equal, BYTES_SHOWN)
+        self.assertLessEqual(apart, BYTES_SHOWN)
+        print(f"({equal:.0f} and {apart:.0f} bytes an atom)", end=" ", flush=True)
 
 
 class ShortMemory(unittest.TestCase):

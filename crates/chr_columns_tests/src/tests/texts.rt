@@ -52,11 +52,10 @@ fn pool_with(rt: &(impl Abort + AllocGlobal), rules: &[Rule], rows: &[(u16, &[i6
 fn are_written(rt: &(impl Abort + AllocGlobal), pools: &[Columns], wanted: Option<&str>) -> bool {
     let mut out = String::new(rt.alloc());
     out.push_str(START).expect(rt, "memory");
-    let written = Columns::push_text(rt.alloc(), &program(rt), pools, &mut out).expect(
-        rt, "memory",
-    );
-    let (start, text) = out.as_str().split_at(START.len());
-    written == wanted.is_some() && start == START && text == wanted.unwrap_or("")
+    let program = program(rt);
+    let written = Columns::push_text(rt.alloc(), &program, pools, &mut out).expect(rt, "memory");
+    let text = out.as_str().strip_prefix(START);
+    written == wanted.is_some() && text == Some(wanted.unwrap_or(""))
 }
 
 /// The same of one pool that these atoms came into, in this order.
