@@ -271,12 +271,11 @@ INPUTS = (
 
 @dataclass(frozen=True)
 class End:
-    """How a run ended, what it wrote, its processor time, and the most memory that it had, in KB."""
+    """How a run ended, what it wrote, and its processor time."""
 
     status: int
     output: bytes
     seconds: float
-    memory: int
 
 
 def run_of(words: Sequence[str], given: str, room: int | None = None) -> End:
@@ -294,7 +293,13 @@ def run_of(words: Sequence[str], given: str, room: int | None = None) -> End:
         _, status, used = os.wait4(started.pid, 0)
         started.returncode = os.waitstatus_to_exitcode(status)
         told.seek(0)
-        return End(started.returncode, told.read(), float(used.ru_utime + used.ru_stime), int(used.ru_maxrss))
+        return End(started.returncode, told.read(), float(used.ru_utime + used.ru_stime))
+
+
+def most_memory(pid: int) -> int:
+    """The most memory that a process has had up to now, in KB."""
+    with open(f"/proc/{pid}/status", encoding="ascii") as status:
+        return next(int(line.split()[1]) for line in status if line.startswith("VmHWM:"))
 
 
 def seconds(of: Input, given: str) -> float:
@@ -336,11 +341,21 @@ class Costs(unittest.TestCase):
         self.assertLessEqual(disordered.seconds, DISORDER * max(ordered.seconds, FLOOR))
 
     def bytes_shown(self, values: Iterable[int]) -> float:
-        """How many bytes of memory an atom takes that is shown."""
-        lines = [PLAIN, "---", *tells(("a", (value,)) for value in values), ""]
-        plain, whole = (run_of(("run",), "\n".join([*lines, end])) for end in ("", '["show",1]\n'))
-        self.assertEqual((plain.status, whole.status), (0, 0))
-        return (whole.memory - plain.memory) * 1024 / SHOWN
+        """How many bytes of memory a service takes more than ever before, for each atom that it shows."""
+        told = list(tells(("a", (value,)) for value in values))
+        with subprocess.Popen([program_path(), "serve"], stdin=subprocess.PIPE, stdout=subprocess.PIPE) as service:
+            assert service.stdin and service.stdout
+            service.stdin.write("\n".join([PLAIN, "---", *told, ""]).encode())
+            service.stdin.flush()
+            answers = [service.stdout.readline() for _ in ("accepted", *told)]
+            before = most_memory(service.pid)
+            service.stdin.write(b'["show",1]\n')
+            service.stdin.flush()
+            store = service.stdout.readline()
+            after = most_memory(service.pid)
+            service.stdin.close()
+        self.assertEqual((answers[-1], store.count(b"a("), service.wait()), (b"told\n", SHOWN, 0))
+        return (after - before) * 1024 / SHOWN
 
     def test_memory_of_what_is_shown(self) -> None:
         equal = self.bytes_shown([100_000] * SHOWN)
