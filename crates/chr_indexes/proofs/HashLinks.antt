@@ -1,8 +1,7 @@
 -- What a change of one place keeps of a chain.
-use Rattle.std.proofs.Common.{◌≡◌, ℕ, ◌+◌, ◌-◌, ◌<◌, ◌≤◌, ◌≢◌, ◌^◌, ◌⊎◌, inl, inr, List, [], ◌∷◌, ◌++◌, length, get_or}
-use Rattle.std.proofs.Common.{set, Bool, true, false, sym, ap, ◌∙◌, arith, length-append, refl, take}
-use Rattle.std.proofs.lemmas.List.{get_or-set_same, get_or-set_other, length-set, get_or_append_left, take_more}
-use Rattle.std.proofs.lemmas.List.{take_more_set, length-take-le}
+use Rattle.std.proofs.Common.{◌≡◌, ℕ, zero, suc, ◌+◌, ◌-◌, ◌<◌, ◌≤◌, ◌≢◌, ◌^◌, ◌⊎◌, inl, inr, List, [], ◌∷◌, ◌++◌}
+use Rattle.std.proofs.Common.{length, get_or, set, Bool, true, false, sym, ap, ◌∙◌, arith, length-append, refl}
+use Rattle.std.proofs.lemmas.List.{get_or-set_same, get_or-set_other, length-set, get_or_append_left}
 use Rattle.std.proofs.Math.Seq.{get_or-append_seam}
 use Rattle.std.proofs.lemmas.Bool.{cases_lt}
 use Rattle.chr_indexes.specs.working.HashChains.{IsChained}
@@ -26,8 +25,32 @@ at_set xs i j y l = elim (same_or j i) as (λ _. ((j ≡ i) × (get_or (set xs i
     ]
 
 -- a live row is not a dead one
-live_not : (alive : List Bool) (r d : ℕ) → get_or alive r false ≡ true → get_or alive d false ≡ false → r ≢ d
+pub live_not : (alive : List Bool) (r d : ℕ) → get_or alive r false ≡ true → get_or alive d false ≡ false → r ≢ d
 live_not alive r d a b e = let c : true ≡ false = sym a ∙ ap (λ k. get_or alive k false) e ∙ b in cc
+
+-- a row that lives after another died
+lives_before : (alive : List Bool) (r q : ℕ) → get_or (set alive r false) q false ≡ true → get_or alive q false ≡ true
+lives_before [] r q e = e
+lives_before (b ∷ alive) zero zero e = cc
+lives_before (b ∷ alive) zero (suc q) e = e
+lives_before (b ∷ alive) (suc r) zero e = e
+lives_before (b ∷ alive) (suc r) (suc q) e = lives_before alive r q e
+
+-- a row dies
+pub killed : (slots : List ℕ) (alive : List Bool) (links heads : List ℕ) (d : ℕ) → IsChained slots alive links heads
+    → IsChained slots (set alive d false) links heads
+killed slots alive links heads d c = record {
+  as_links = c.as_links;
+  as_alive = length-set alive d false ∙ c.as_alive;
+  few = c.few;
+  in_heads = c.in_heads;
+  first = λ r g live. c.first r g (lives_before alive d r live);
+  next = λ r q g under same live. c.next r q g under same (lives_before alive d q live);
+  first_slot = c.first_slot;
+  next_slot = c.next_slot;
+  first_in = c.first_in;
+  next_in = c.next_in;
+}
 
 -- the newest place of a slot holds a dead row: the place after it takes its part
 pub skip_head : (slots : List ℕ) (alive : List Bool) (links heads : List ℕ) (s h : ℕ)
@@ -219,31 +242,15 @@ pushed slots alive links heads s n x flag c l room en is =
 
 -- no rows, in slots that are all empty
 pub chained_none : (heads : List ℕ) → ((s : ℕ) → get_or heads s 0 ≡ 0) → IsChained [] [] [] heads
-chained_none heads zero = record {
+chained_none heads empty = record {
   as_links = refl;
   as_alive = refl;
   few = omega arith;
   in_heads = λ r g. (absurd (omega (arith, g)));
   first = λ r g live. (absurd (omega (arith, g)));
   next = λ r q g under same live. (absurd (omega (arith, g)));
-  first_slot = λ s g p. (absurd (let z = zero s in omega (arith, z, p)));
+  first_slot = λ s g p. (absurd (let z = empty s in omega (arith, z, p)));
   next_slot = λ r g p. (absurd (omega (arith, g)));
-  first_in = λ s g. (let z = zero s in omega (arith, z));
+  first_in = λ s g. (let z = empty s in omega (arith, z));
   next_in = λ r g. (absurd (omega (arith, g)));
 }
-
--- one more row is chained, of rows that are all there
-pub chained_more : (slots : List ℕ) (alive : List Bool) (links heads : List ℕ) (i s n x : ℕ)
-    → IsChained (take i slots) (take i alive) (take i links) heads → i < length slots → length alive ≡ length slots
-    → length links ≡ length slots → length slots < 2 ^ 32 → s ≡ get_or slots i 0 → s < length heads → n ≡ i + 1
-    → x ≡ get_or heads s 0
-    → IsChained (take (i + 1) slots) (take (i + 1) alive) (take (i + 1) (set links i x)) (set heads s n)
-chained_more slots alive links heads i s n x c g la ll few es sl en is =
-    let ts : take (i + 1) slots ≡ take i slots ++ s ∷ [] = take_more slots i 0 g ∙ ap (λ y. take i slots ++ y ∷ [])
-    (sym es) in
-    let ta : take (i + 1) alive ≡ take i alive ++ get_or alive i false ∷ [] =
-    take_more alive i false (omega (arith, g, la)) in
-    let tl : take (i + 1) (set links i x) ≡ take i links ++ x ∷ [] = take_more_set links i x (omega (arith, g, ll)) in
-    let len : length (take i slots) ≡ i = length-take-le i slots (omega (arith, g)) in
-    rw (ts, ta, tl) (pushed (take i slots) (take i alive) (take i links) heads s n x (get_or alive i false) c sl
-    (omega (arith, len, g, few)) (omega (arith, len, en)) is)

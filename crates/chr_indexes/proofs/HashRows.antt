@@ -3,15 +3,20 @@ use Rattle.std.proofs.Common.{◌≡◌, ℕ, zero, suc, ◌+◌, ◌-◌, ◌%�
 use Rattle.std.proofs.Common.{cond, Bool, true, false, Option, sym, ap, ◌∙◌, arith, refl}
 use Rattle.std.specs.Prelude.{Some, None}
 use Rattle.std.proofs.lemmas.List.{get_or-map, length-set}
-use Rattle.std.proofs.lemmas.List.{map-append}
-use Rattle.chr_indexes.specs.working.HashChains.{IsChained}
-use Rattle.chr_indexes.specs.working.HashEntries.{live_hashes, slots_of, IsIndex}
-use Rattle.chr_indexes.proofs.HashLinks.{pushed}
+use Rattle.std.proofs.lemmas.List.{map-append, map_push, map-set}
+use Rattle.chr_indexes.specs.declared.hashes.row.Row.{Row}
+use Rattle.chr_indexes.specs.working.HashEntries.{hashes_of, flags_of, links_of, live_hashes, slots_of}
+use Rattle.chr_indexes.specs.working.HashEntries.{AreChained, IsIndex}
+use Rattle.chr_indexes.proofs.HashFields.{length_hashes, as_many, field_kept}
+use Rattle.chr_indexes.proofs.HashLinks.{pushed, killed}
 
 pub length_entries : (hs : List ℕ) (bs : List Bool) → length bs ≡ length hs → length (live_hashes hs bs) ≡ length hs
 length_entries [] bs e = refl
 length_entries (h ∷ hs) [] e = absurd (omega (arith, e))
 length_entries (h ∷ hs) (b ∷ bs) e = ap suc (length_entries hs bs (omega (arith, e)))
+
+pub length_rows : (rows : List Row) → length (live_hashes (hashes_of rows) (flags_of rows)) ≡ length rows
+length_rows rows = length_entries (hashes_of rows) (flags_of rows) (as_many rows) ∙ length_hashes rows
 
 some_cond : (b : Bool) (x y : ℕ) → ◌≡◌ {A = Option ℕ} (cond b (Some x) None) (Some y) → (b ≡ true) × (x ≡ y)
 some_cond true x y e = (refl, cc)
@@ -47,6 +52,19 @@ entries_kill (x ∷ hs) (b ∷ bs) zero e = refl
 entries_kill (x ∷ hs) (b ∷ bs) (suc r) e = ap (λ xs. cond b (Some x) None ∷ xs)
     (entries_kill hs bs r (omega (arith, e)))
 
+pub rows_push : (rows : List Row) (x : Row) → x.alive ≡ true
+    → live_hashes (hashes_of (rows ++ x ∷ [])) (flags_of (rows ++ x ∷ []))
+    ≡ live_hashes (hashes_of rows) (flags_of rows) ++ Some x.hash ∷ []
+rows_push rows x lives = rw (map_push (λ (r : Row). r.hash) rows x, map_push (λ (r : Row). r.alive) rows x, lives)
+    (entries_push (hashes_of rows) (flags_of rows) x.hash (as_many rows))
+
+pub rows_kill : (rows : List Row) (r : ℕ) (x none : Row) → x.hash ≡ (get_or rows r none).hash → x.alive ≡ false
+    → live_hashes (hashes_of (set rows r x)) (flags_of (set rows r x))
+    ≡ set (live_hashes (hashes_of rows) (flags_of rows)) r None
+rows_kill rows r x none hash dead =
+    rw (field_kept (λ (y : Row). y.hash) rows r x none hash, map-set (λ (y : Row). y.alive) rows r x, dead)
+    (entries_kill (hashes_of rows) (flags_of rows) r (as_many rows))
+
 -- the slot of a row
 pub slot_at : (n : ℕ) (hs : List ℕ) (r : ℕ) → r < length hs → get_or (slots_of n hs) r 0 ≡ get_or hs r 0 % n
 slot_at n hs r l = get_or-map (λ h. h % n) hs r 0 0 l
@@ -58,18 +76,14 @@ pub slots_len : (n : ℕ) (hs : List ℕ) → length (slots_of n hs) ≡ length 
 slots_len n [] = refl
 slots_len n (h ∷ hs) = ap suc (slots_len n hs)
 
-pub as_many : (n : ℕ) (hs : List ℕ) (bs : List Bool) (links heads : List ℕ) → IsChained (slots_of n hs) bs links heads
-    → length bs ≡ length hs
-as_many n hs bs links heads c = c.as_alive ∙ slots_len n hs
-
 -- a row with this hash lies below the newest live place of its slot, and so below what was sought from there
-pub first_above : (n : ℕ) (hs : List ℕ) (bs : List Bool) (hash at res r : ℕ) → length bs ≡ length hs
-    → ((r : ℕ) → r < length bs → get_or (slots_of n hs) r 0 ≡ hash % n → get_or bs r false ≡ true → r < at)
+pub first_above : (n : ℕ) (hs : List ℕ) (bs : List Bool) (hash at res r : ℕ)
+    → ((r : ℕ) → r < length hs → get_or (slots_of n hs) r 0 ≡ hash % n → get_or bs r false ≡ true → r < at)
     → ((r : ℕ) → r < at → get_or (live_hashes hs bs) r None ≡ Some hash → r < res)
     → get_or (live_hashes hs bs) r None ≡ Some hash → r < res
-first_above n hs bs hash at res r l above between e =
+first_above n hs bs hash at res r above between e =
     let w = entry_of hs bs r hash e in
-    between r (above r (let a = w.0 in omega (arith, a, l)) (slot_at n hs r w.0 ∙ ap (λ h. h % n) w.2) w.1) e
+    between r (above r w.0 (slot_at n hs r w.0 ∙ ap (λ h. h % n) w.2) w.1) e
 
 pub next_above : (n : ℕ) (hs : List ℕ) (bs : List Bool) (hash row at res r : ℕ) → get_or (live_hashes hs bs) row None
     ≡ Some hash
@@ -108,19 +122,47 @@ passed n hs bs hash at to from r p within slot other below above l e =
     below r (omega (arith, a, ne, p)) (slot_at n hs r w.0 ∙ ap (λ h. h % n) w.2 ∙ sym slot) w.1
 
 -- one more row
-pub index_push : (hs : List ℕ) (bs : List Bool) (links heads : List ℕ) (h s x n : ℕ) → IsIndex hs bs links heads
-    → s ≡ h % length heads → x ≡ get_or heads s 0 → n ≡ length hs + 1 → length hs + 1 < 2 ^ 32
-    → IsIndex (hs ++ h ∷ []) (bs ++ true ∷ []) (links ++ x ∷ []) (set heads s n)
-index_push hs bs links heads h s x n i es ex en few =
-    let size : length (set heads s n) ≡ length heads = length-set heads s n in
-    let l : length (slots_of (length heads) hs) ≡ length hs = slots_len (length heads) hs in
+pub chained_push : (n : ℕ) (rows : List Row) (heads : List ℕ) (x : Row) (s m : ℕ) → AreChained n rows heads
+    → s ≡ x.hash % n → s < length heads → x.next ≡ get_or heads s 0 → m ≡ length rows + 1 → length rows + 1 < 2 ^ 32
+    → AreChained n (rows ++ x ∷ []) (set heads s m)
+chained_push n rows heads x s m c es low ex em few =
+    let l : length (slots_of n (hashes_of rows)) ≡ length rows =
+    slots_len n (hashes_of rows) ∙ length_hashes rows in
+    rw (
+      map_push (λ (r : Row). r.hash) rows x,
+      map_push (λ (r : Row). r.alive) rows x,
+      map_push (λ (r : Row). r.next) rows x,
+      slots_push n (hashes_of rows) x.hash,
+      ← es,
+    )
+    (pushed (slots_of n (hashes_of rows)) (flags_of rows) (links_of rows) heads s m x.next x.alive c low
+    (omega (arith, few, l)) (omega (arith, em, l)) ex)
+
+pub index_push : (rows : List Row) (heads : List ℕ) (x : Row) (s m : ℕ) → IsIndex rows heads
+    → s ≡ x.hash % length heads → x.next ≡ get_or heads s 0 → m ≡ length rows + 1 → length rows + 1 < 2 ^ 32
+    → IsIndex (rows ++ x ∷ []) (set heads s m)
+index_push rows heads x s m i es ex em few =
+    let size : length (set heads s m) ≡ length heads = length-set heads s m in
     let a = i.some in
     let b = i.most in
-    let sl : s < length heads = omega (arith, es, a) in
     record {
-      chained = rw (size, slots_push (length heads) hs h, ← es)
-          (pushed (slots_of (length heads) hs) bs links heads s n x true i.chained sl (omega (arith, few, l))
-          (omega (arith, en, l)) ex);
+      chained = rw size (chained_push (length heads) rows heads x s m i.chained es (omega (arith, es, a)) ex em few);
       some = omega (arith, size, a);
       most = omega (arith, size, b);
     }
+
+-- a row dies
+pub index_kill : (rows : List Row) (heads : List ℕ) (r : ℕ) (x none : Row) → IsIndex rows heads
+    → x.hash ≡ (get_or rows r none).hash → x.next ≡ (get_or rows r none).next → x.alive ≡ false
+    → IsIndex (set rows r x) heads
+index_kill rows heads r x none i hash next dead = record {
+  chained = rw (
+    field_kept (λ (y : Row). y.hash) rows r x none hash,
+    map-set (λ (y : Row). y.alive) rows r x,
+    field_kept (λ (y : Row). y.next) rows r x none next,
+    dead,
+  )
+      (killed (slots_of (length heads) (hashes_of rows)) (flags_of rows) (links_of rows) heads r i.chained);
+  some = i.some;
+  most = i.most;
+}

@@ -1,3 +1,4 @@
+pub mod HashFields
 pub mod HashLinks
 pub mod HashRows
 pub mod RangeLinks

@@ -6,5 +6,6 @@
 
 mod chain;
 mod index;
+mod row;
 
 pub use index::Index;

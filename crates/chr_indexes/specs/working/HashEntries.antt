@@ -3,8 +3,19 @@ use Rattle.std.specs.Prelude.{◌≡◌, ℕ, ◌-◌, ◌<◌, ◌^◌, ◌%◌
 use Rattle.std.specs.Prelude.{Option, Some, None}
 use Rattle.std.specs.Coded.{Coded, code_by, coded×, coded_ℕ, coded_list, coded_option}
 use Rattle.std.proofs.Common.{refl}
+use Rattle.chr_indexes.specs.declared.hashes.row.Row.{Row}
 use Rattle.chr_indexes.specs.HashedRows.{Listed}
 use Rattle.chr_indexes.specs.working.HashChains.{IsChained}
+
+-- what each row has in a field of its own
+abbrev pub hashes_of : List Row → List ℕ
+hashes_of rows = map (λ (r : Row). r.hash) rows
+
+abbrev pub flags_of : List Row → List Bool
+flags_of rows = map (λ (r : Row). r.alive) rows
+
+abbrev pub links_of : List Row → List ℕ
+links_of rows = map (λ (r : Row). r.next) rows
 
 -- for each row its hash, or None where the row is dead
 abbrev pub live_hashes : List ℕ → List Bool → List (Option ℕ)
@@ -35,8 +46,12 @@ listed_code =
     code_by (List (Option ℕ) × ℕ) (coded× (coded_list (coded_option coded_ℕ)) coded_ℕ)
     (λ e. (e.rows, e.room)) (λ p. record { rows = p.0; room = p.1 }) (λ _. refl)
 
+-- each row stands in the chain of its slot, of n slots
+abbrev pub AreChained : ℕ → List Row → List ℕ → Type 0
+AreChained n rows heads = IsChained (slots_of n (hashes_of rows)) (flags_of rows) (links_of rows) heads
+
 -- what every index keeps
-pub record IsIndex (hashes : List ℕ) (alive : List Bool) (links heads : List ℕ) : Type 0 where
-  pub chained : IsChained (slots_of (length heads) hashes) alive links heads
+pub record IsIndex (rows : List Row) (heads : List ℕ) : Type 0 where
+  pub chained : AreChained (length heads) rows heads
   pub some : 0 < length heads
   pub most : length heads < 2 ^ 32

@@ -2,11 +2,10 @@
 ghost use Rattle.std.specs.Prelude.{◌≡◌, ℕ, ◌+◌, ◌-◌, ◌<◌, ◌≤◌, ◌^◌, ◌∷◌, ◌++◌, [], length, get_or, set, Some, None};
 ghost use Rattle.std.specs.Prelude.{OnOk, IfOk, IfSome, IfNone};
 ghost use Rattle.std.specs.Bool.{OnTrue};
-ghost use Rattle.chr_indexes.specs.working.HashChains.{IsChained};
 ghost use Rattle.chr_indexes.specs.HashedRows.{HasHash};
-ghost use Rattle.chr_indexes.specs.working.HashEntries.{slots_of, live_hashes, IsIndex};
 
 use crate::hashes::chain::{first_live, is_at, live_from, next_live, relink, seek};
+use crate::hashes::row::Row;
 use crate::slots::slot_for;
 use std::alloc::{AllocError, Global};
 use std::marker::Model;
@@ -14,27 +13,25 @@ use std::marker::Model;
 /// Rows that are found by a hash. Contracts see the hash of each live row, and for how many rows there is room.
 #[derive(Drop)]
 pub struct Index {
-    hashes: Vec<u32>,
-    alive: Vec<bool>,
-    links: Vec<u32>,
+    rows: Vec<Row>,
     heads: Vec<u32>,
 }
 
 impl Model for Index {
-    ghost use Rattle.std.specs.Prelude.{min, vec_capacity};
+    ghost use Rattle.std.specs.Prelude.{vec_capacity};
     ghost use Rattle.chr_indexes.specs.HashedRows.{Listed};
-    ghost use Rattle.chr_indexes.specs.working.HashEntries.{listed_code, live_hashes, IsIndex};
+    ghost use Rattle.chr_indexes.specs.working.HashEntries.{hashes_of, flags_of, listed_code, live_hashes, IsIndex};
 
     ghost Value = { Listed };
 
     ghost coded = { listed_code };
 
     ghost view = { λ b. record {
-      rows = live_hashes b.hashes.items b.alive.items;
-      room = min (vec_capacity b.hashes) (min (vec_capacity b.alive) (vec_capacity b.links));
+      rows = live_hashes (hashes_of b.rows.items) (flags_of b.rows.items);
+      room = vec_capacity b.rows;
     } };
 
-    ghost invariant = { λ b. IsIndex b.hashes.items b.alive.items b.links.items b.heads.items };
+    ghost invariant = { λ b. IsIndex b.rows.items b.heads.items };
 }
 
 impl Index {
@@ -43,9 +40,7 @@ impl Index {
         ensures { IfOk result (λ i. i.rows ≡ []) }
     {
         Ok(Index {
-            hashes: Vec::new(alloc),
-            alive: Vec::new(alloc),
-            links: Vec::new(alloc),
+            rows: Vec::new(alloc),
             heads: vec![in alloc; 0; 16]?,
         })
     }
@@ -56,14 +51,12 @@ impl Index {
         ensures rows { self.new.rows ≡ self.old.rows }
         ensures ok { OnOk result (length self.old.rows + more ≤ self.new.room) }
     {
-        self.hashes.reserve(more)?;
-        self.alive.reserve(more)?;
-        self.links.reserve(more)?;
+        self.rows.reserve(more)?;
         let slots = self.heads.len();
-        if slots < self.hashes.len() + more && slots < 0x4000_0000 {
+        if slots < self.rows.len() + more && slots < 0x4000_0000 {
             self.heads.resize(2 * slots, 0)?;
             self.heads.fill(0);
-            relink(&self.hashes, &self.alive, &mut self.links, &mut self.heads);
+            relink(&mut self.rows, &mut self.heads);
         }
         Ok(())
     }
@@ -76,18 +69,20 @@ impl Index {
         ensures room { self.new.room ≡ self.old.room }
     {
         let slot = slot_for(hash, self.heads.len());
-        let link = self.heads[slot];
-        self.hashes.push_reserved(hash);
-        self.alive.push_reserved(true);
-        self.links.push_reserved(link);
-        self.heads[slot] = self.hashes.len() as u32;
+        let next = self.heads[slot];
+        self.rows.push_reserved(Row {
+            hash,
+            next,
+            alive: true,
+        });
+        self.heads[slot] = self.rows.len() as u32;
     }
 
     /// The number of rows, dead ones among them.
     pub fn len(&self) -> usize
         ensures { result ≡ length self.now.rows }
     {
-        self.hashes.len()
+        self.rows.len()
     }
 
     /// Forgets all rows. The room stays, and is room for as many.
@@ -96,9 +91,7 @@ impl Index {
         ensures room { self.new.room ≡ self.old.room }
         ensures fits { length self.old.rows ≤ self.new.room }
     {
-        self.hashes.clear();
-        self.alive.clear();
-        self.links.clear();
+        self.rows.clear();
         self.heads.fill(0);
     }
 
@@ -108,7 +101,7 @@ impl Index {
         ensures rows { self.new.rows ≡ set self.old.rows row None }
         ensures room { self.new.room ≡ self.old.room }
     {
-        self.alive[row as usize] = false;
+        self.rows[row as usize].alive = false;
     }
 
     /// The newest live row with this hash. Dead rows that are met are taken out of their chain, which no contract sees.
@@ -152,21 +145,8 @@ impl Index {
         ensures none_above { (r : ℕ) → get_or self.old.rows r None ≡ Some hash → r < result }
     {
         let slot = slot_for(hash, self.heads.len());
-        let at = first_live(
-            &self.hashes,
-            &self.alive,
-            &self.links,
-            &mut self.heads,
-            slot as u32,
-        );
-        seek(
-            &self.hashes,
-            &self.alive,
-            &mut self.links,
-            &self.heads,
-            hash,
-            at,
-        )
+        let at = first_live(&self.rows, &mut self.heads, slot as u32);
+        seek(&mut self.rows, &self.heads, hash, at)
     }
 
     /// The same, below a live row with this hash.
@@ -177,22 +157,15 @@ impl Index {
         ensures live { 0 < result → get_or self.old.rows (result - 1) None ≡ Some hash }
         ensures none_between { (r : ℕ) → r < row → get_or self.old.rows r None ≡ Some hash → r < result }
     {
-        let at = next_live(&self.hashes, &self.alive, &mut self.links, &self.heads, row);
-        seek(
-            &self.hashes,
-            &self.alive,
-            &mut self.links,
-            &self.heads,
-            hash,
-            at,
-        )
+        let at = next_live(&mut self.rows, &self.heads, row);
+        seek(&mut self.rows, &self.heads, hash, at)
     }
 
     /// Whether a row lives and has this hash.
     fn has(&self, hash: u32, row: u32) -> bool
         ensures { OnTrue result (get_or self.now.rows row None ≡ Some hash) }
     {
-        is_at(&self.hashes, row, hash) && self.alive[row as usize]
+        is_at(&self.rows, row, hash) && self.rows[row as usize].alive
     }
 
     /// The same, below any row.
@@ -218,18 +191,11 @@ impl Index {
         ensures live { 0 < result → get_or self.old.rows (result - 1) None ≡ Some hash }
         ensures none_between { (r : ℕ) → r ≤ row → get_or self.old.rows r None ≡ Some hash → r < result }
     {
-        if !is_at(&self.hashes, row, hash) {
+        if !is_at(&self.rows, row, hash) {
             return self.down_to(hash, row);
         }
-        let at = live_from(&self.hashes, &self.alive, &mut self.links, &self.heads, row);
-        seek(
-            &self.hashes,
-            &self.alive,
-            &mut self.links,
-            &self.heads,
-            hash,
-            at,
-        )
+        let at = live_from(&mut self.rows, &self.heads, row);
+        seek(&mut self.rows, &self.heads, hash, at)
     }
 
     /// The same, down from the newest row with this hash.

@@ -1,11 +1,10 @@
 use Rattle.std.proofs.Common.{◌≡◌, get_or, length}
-use Rattle.chr_indexes.specs.working.HashChains.{IsChained}
-use Rattle.chr_indexes.specs.working.HashEntries.{slots_of}
+use Rattle.chr_indexes.specs.working.HashEntries.{AreChained}
 use Rattle.chr_indexes.proofs.hashes.chain.first_live.Given as goal
 
 abbrev pub invariant-loop-at : goal.invariant-loop-at
 invariant-loop-at l = record {
-  chained : IsChained (slots_of (length l.fn.heads) l.hashes) l.alive l.links l.heads;
+  chained : AreChained (length l.fn.heads) l.rows l.heads;
   size : length l.heads ≡ length l.fn.heads;
   at : l.at ≡ get_or l.heads l.slot 0;
 }
