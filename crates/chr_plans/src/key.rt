@@ -129,15 +129,19 @@ pub fn value_of(heads: &[Atom], source: Source) -> i64
     }
 }
 
-/// The values of a key under these heads.
-pub fn key_values(heads: &[Atom], key: &ArrayVec<Key, MAX_ARITY>) -> ArrayVec<i64, MAX_ARITY>
-    ensures { result.items ≡ map (λ k. source_value heads.now k.source) key.now.items }
+/// The values become those of a key under these heads. They are written where they stay: a move of what was just
+/// written waits for it.
+pub fn read_key(
+    heads: &[Atom],
+    key: &ArrayVec<Key, MAX_ARITY>,
+    values: &mut ArrayVec<i64, MAX_ARITY>,
+)
+    ensures { values.new.items ≡ map (λ k. source_value heads.now k.source) key.now.items }
 {
-    let mut values = ArrayVec::new();
+    values.clear();
     for part in key.as_slice() {
         values.push(value_of(heads, part.source));
     }
-    values
 }
 
 /// Whether these heads pass a test.
@@ -271,14 +275,20 @@ fn limited_span(heads: &[Atom], order: Order, limits: &[Limit]) -> Span
     }
 }
 
-/// The same, sooner where there is no order, as in most look-ups.
-pub fn span_of(heads: &[Atom], order: Order, limits: &ArrayVec<Limit, MAX_COMPARISONS>) -> Span
-    ensures all { (a : AtomValue) → list_all (allows heads.now a) limits.now.items ≡ true → Spans result a }
-    ensures first { IfSome (slice_get (columns_by order) 0) (λ c. result.first.column ≡ c) }
-    ensures second { IfSome (slice_get (columns_by order) 1) (λ c. result.second.column ≡ c) }
+/// The span becomes such a one, sooner where there is no order, as in most look-ups.
+pub fn read_span(
+    heads: &[Atom],
+    order: Order,
+    limits: &ArrayVec<Limit, MAX_COMPARISONS>,
+    span: &mut Span,
+)
+    ensures all { (a : AtomValue) → list_all (allows heads.now a) limits.now.items ≡ true → Spans span.new a }
+    ensures first { IfSome (slice_get (columns_by order) 0) (λ c. span.new.first.column ≡ c) }
+    ensures second { IfSome (slice_get (columns_by order) 1) (λ c. span.new.second.column ≡ c) }
 {
     if let Order::Unordered = order {
-        return Span::default();
+        *span = Span::default();
+    } else {
+        *span = limited_span(heads, order, limits);
     }
-    limited_span(heads, order, limits)
 }

@@ -8,10 +8,11 @@ ghost use Rattle.chr_plans.specs.Planning.{is_in};
 ghost use Rattle.chr_plans.specs.Rows.{HasKey};
 ghost use Rattle.chr_plans.specs.working.Searching.{are_ready, is_ready, looked_in, IsIndexed, IsMissing};
 
-use crate::key::{Key, Source, Span, key_values};
+use crate::key::{Key, Source, Span, read_key};
 use crate::plan::Lookup;
 use crate::rows::Rows;
 use crate::search::newest_from;
+use arrayvec::ArrayVec;
 use chr_base::atom::Atom;
 
 /// Whether one of these look-ups looks in the place.
@@ -73,7 +74,8 @@ fn finds_none<R: Rows>(rows: &mut R, lookup: &Lookup, heads: &[Atom]) -> bool
         (map (λ k. source_value heads.now k.source) lookup.now.partner.key.items)
         (R.rows rows.old lookup.now.table other))) }
 {
-    let key = key_values(heads, &lookup.partner.key);
+    let mut key = ArrayVec::new();
+    read_key(heads, &lookup.partner.key, &mut key);
     newest_from(rows, lookup, &key, &whole_span(), None).is_none()
 }
 

@@ -7,7 +7,7 @@ ghost use Rattle.chr_plans.specs.Plans.{IsPlan, FitsTables, FirstNoneAbove, firs
 ghost use Rattle.chr_plans.specs.Rows.{HasKey, LiesIn};
 ghost use Rattle.chr_plans.specs.working.Searching.{AgreeAtKnown, NoneFrom, PastFrom, AreStarted, looked_in};
 
-use crate::key::{Span, key_values, pass, span_of};
+use crate::key::{Span, pass, read_key, read_span};
 use crate::missing::is_hopeless;
 use crate::plan::Lookup;
 use crate::rows::{Rows, Seat, is_same};
@@ -33,8 +33,8 @@ fn is_taken(lookups: &[Lookup], seats: &[Seat], row: Seat) -> bool
     false
 }
 
-/// The newest row that a look-up meets; where there is a row to begin at, the newest at it or below it. Two call it, so
-/// it has a call of its own, and what it calls is put into it.
+/// The newest row that a look-up meets; where there is a row to begin at, the newest at it or below it. A call of its
+/// own was no slower than what it calls put into both of its callers, and is shorter.
 #[inline(never)]
 pub(crate) fn newest_from<R: Rows>(
     rows: &mut R,
@@ -101,8 +101,15 @@ fn complete<R: Rows>(
     if !pass(heads, &lookup.partner.tests) {
         return false;
     }
-    let key = key_values(heads, &lookup.partner.key);
-    let span = span_of(heads, lookup.partner.order, &lookup.partner.limits);
+    let mut key = ArrayVec::new();
+    read_key(heads, &lookup.partner.key, &mut key);
+    let mut span = Span::default();
+    read_span(
+        heads,
+        lookup.partner.order,
+        &lookup.partner.limits,
+        &mut span,
+    );
     let Some(newest) = newest_from(rows, lookup, &key, &span, from) else {
         return false;
     };

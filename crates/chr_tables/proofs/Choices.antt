@@ -15,6 +15,10 @@ pub the_one : {X : Type 0} (o : Option X) → is_some o ≡ true → (x : X) × 
 the_one None e = absurd (let f : false ≡ true = e in cc)
 the_one (Some x) e = (x, refl)
 
+pub no_one : {X : Type 0} (o : Option X) → is_some o ≡ false → o ≡ None
+no_one None e = refl
+no_one (Some x) e = absurd (let f : true ≡ false = e in cc)
+
 pub on_err : {A E : Type 0} (P : Type 0) (r : Result A E) → P → OnErr r P
 on_err P (Ok x) h = tt
 on_err P (Err e) h = h

@@ -158,14 +158,6 @@ chosen_rows (a ∷ as') [] = refl
 chosen_rows (a ∷ as') (true ∷ bs) = ap (λ xs. Some a ∷ xs) (chosen_rows as' bs)
 chosen_rows (a ∷ as') (false ∷ bs) = chosen_rows as' bs
 
-pub count_rows : (as' : List Atom) (bs : List Bool) → length bs ≡ length as' → length (filter (λ b. b) bs)
-    ≡ length (filter is_some (live as' bs))
-count_rows [] [] e = refl
-count_rows [] (b ∷ bs) e = absurd (omega (arith, e))
-count_rows (a ∷ as') [] e = refl
-count_rows (a ∷ as') (true ∷ bs) e = ap suc (count_rows as' bs (omega (arith, e)))
-count_rows (a ∷ as') (false ∷ bs) e = count_rows as' bs (omega (arith, e))
-
 pub all_live : (as' : List Atom) (bs : List Bool) → length bs ≡ length as'
     → ((i : ℕ) → i < length bs → get_or bs i true ≡ true) → live as' bs ≡ map (λ a. Some a) as'
 all_live [] bs e h = refl

@@ -1,14 +1,14 @@
 -- Rows that live, and rows of indexes.
-use Rattle.std.proofs.Common.{◌≡◌, ℕ, zero, suc, ◌+◌, ◌<◌, ◌^◌, List, [], ◌∷◌, ◌++◌, map, length, get_or, set, cond}
-use Rattle.std.proofs.Common.{Bool, true, false, Option, refl, sym, ap, ◌∙◌, arith, inl, inr, length-append}
-use Rattle.std.specs.Prelude.{Some, None}
+use Rattle.std.proofs.Common.{◌≡◌, ℕ, zero, suc, ◌+◌, ◌<◌, ◌≤◌, ◌^◌, List, [], ◌∷◌, ◌++◌, map, length, get_or, set}
+use Rattle.std.proofs.Common.{cond, Bool, true, false, Option, refl, sym, ap, ◌∙◌, arith, inl, inr, length-append}
+use Rattle.std.specs.Prelude.{Some, None, filter, is_some, replicate}
 use Rattle.std.proofs.lemmas.Bool.{cases_lt}
 use Rattle.std.proofs.Math.Seq.{get_or-append_seam}
 use Rattle.std.proofs.lemmas.List.{get_or-map, map-set, get_or_past, get_or_append_left, map-append, length-map}
 use Rattle.chr_base.specs.declared.atom.Atom.{Atom}
 use Rattle.chr_tables.specs.declared.indexes.Keyed.{Keyed}
 use Rattle.chr_tables.specs.working.Indexes.{live, Way, no_way, way_of, atom_entry, entry_in, keyed_entries, ways_of}
-use Rattle.chr_tables.specs.working.Indexes.{key_columns, rooms_of, AreIndexed, IsTable}
+use Rattle.chr_tables.specs.working.Indexes.{key_columns, rooms_of, dead_in, AreIndexed, IsTable}
 use Rattle.chr_tables.specs.working.Finders.{Found, order_in, finder_rows, room_in}
 
 pub length_live : (as' : List Atom) (bs : List Bool) → length bs ≡ length as' → length (live as' bs) ≡ length as'
@@ -19,6 +19,10 @@ length_live (a ∷ as') (b ∷ bs) e = ap suc (length_live as' bs (omega (arith,
 some_cond : (b : Bool) (x y : Atom) → ◌≡◌ {A = Option Atom} (cond b (Some x) None) (Some y) → x ≡ y
 some_cond true x y e = cc
 some_cond false x y e = cc
+
+pub some_by : (b : Bool) (a : Atom) → is_some (cond b (Some a) None) ≡ b
+some_by true a = refl
+some_by false a = refl
 
 -- the atom of a row that lives
 pub live_of : (as' : List Atom) (bs : List Bool) (r : ℕ) (a d : Atom) → get_or (live as' bs) r None ≡ Some a
@@ -98,10 +102,10 @@ pub as_many : (rows : List (Option Atom)) (ways : List Way) (entries : List (Lis
 as_many rows ways entries h j l = ap length (h j l) ∙ length-map rows (entry_in (get_or ways j no_way))
 
 -- and no more than a number of 32 bits tells
-pub each_few : (atoms : List Atom) (alive : List Bool) (ks : List Keyed) → IsTable atoms alive ks
+pub each_few : (atoms : List Atom) (alive : List Bool) (dead : ℕ) (ks : List Keyed) → IsTable atoms alive dead ks
     → length atoms + 1 < 2 ^ 32 → (j : ℕ) → j < length ks
     → length (get_or (keyed_entries ks) j []) + 1 < 2 ^ 32
-each_few atoms alive ks t f j l =
+each_few atoms alive dead ks t f j l =
     let m = length_ways ks in
     let n = as_many (live atoms alive) (ways_of ks) (keyed_entries ks) t.indexed j (omega (arith, m, l)) in
     let k = length_live atoms alive t.as_alive in
@@ -122,31 +126,43 @@ indexed_push rows ways entries entries' a h k j l =
     k j l ∙ ap (λ xs. xs ++ Some (atom_entry (get_or ways j no_way) a) ∷ []) (h j l)
     ∙ sym (map-append (entry_in (get_or ways j no_way)) rows (Some a ∷ []))
 
-pub table_same : (atoms : List Atom) (alive : List Bool) (ks ks' : List Keyed) → IsTable atoms alive ks → ways_of ks'
-    ≡ ways_of ks → keyed_entries ks' ≡ keyed_entries ks
-    → IsTable atoms alive ks'
-table_same atoms alive ks ks' t c r = record { as_alive = t.as_alive; few = t.few; indexed = rw (c, r) t.indexed }
+pub table_same : (atoms : List Atom) (alive : List Bool) (dead : ℕ) (ks ks' : List Keyed) → IsTable atoms alive dead ks
+    → ways_of ks' ≡ ways_of ks → keyed_entries ks' ≡ keyed_entries ks
+    → IsTable atoms alive dead ks'
+table_same atoms alive dead ks ks' t c r = record {
+  as_alive = t.as_alive;
+  counted = t.counted;
+  few = t.few;
+  indexed = rw (c, r) t.indexed;
+}
 
-pub table_kill : (atoms : List Atom) (alive : List Bool) (ks ks' : List Keyed) (r : ℕ) → IsTable atoms alive ks
-    → ways_of ks' ≡ ways_of ks
+pub table_kill : (atoms : List Atom) (alive : List Bool) (dead more : ℕ) (ks ks' : List Keyed) (r : ℕ)
+    → IsTable atoms alive dead ks → ways_of ks' ≡ ways_of ks
     → ((j : ℕ) → get_or (keyed_entries ks') j [] ≡ set (get_or (keyed_entries ks) j []) r None)
-    → length (set alive r false) ≡ length alive
-    → IsTable atoms (set alive r false) ks'
-table_kill atoms alive ks ks' r t c k len = record {
+    → length (set alive r false) ≡ length alive → dead_in (set alive r false) ≡ dead_in alive + more
+    → IsTable atoms (set alive r false) (dead + more) ks'
+table_kill atoms alive dead more ks ks' r t c k len died = record {
   as_alive = len ∙ t.as_alive;
+  counted = (let e = t.counted in omega (arith, e, died));
   few = t.few;
   indexed = rw (c, live_kill atoms alive r t.as_alive)
       (indexed_kill (live atoms alive) (ways_of ks) (keyed_entries ks) (keyed_entries ks') r t.indexed k);
 }
 
-pub table_push : (atoms : List Atom) (alive : List Bool) (ks ks' : List Keyed) (a : Atom) → IsTable atoms alive ks
-    → length atoms + 1 < 2 ^ 32 → ways_of ks' ≡ ways_of ks
+dead_push : (bs : List Bool) → dead_in (bs ++ true ∷ []) ≡ dead_in bs
+dead_push [] = refl
+dead_push (true ∷ bs) = dead_push bs
+dead_push (false ∷ bs) = ap suc (dead_push bs)
+
+pub table_push : (atoms : List Atom) (alive : List Bool) (dead : ℕ) (ks ks' : List Keyed) (a : Atom)
+    → IsTable atoms alive dead ks → length atoms + 1 < 2 ^ 32 → ways_of ks' ≡ ways_of ks
     → ((j : ℕ) → j < length ks → get_or (keyed_entries ks') j [] ≡ get_or (keyed_entries ks) j []
     ++ Some (atom_entry (get_or (ways_of ks) j no_way) a) ∷ [])
-    → IsTable (atoms ++ a ∷ []) (alive ++ true ∷ []) ks'
-table_push atoms alive ks ks' a t f c r = record {
+    → IsTable (atoms ++ a ∷ []) (alive ++ true ∷ []) dead ks'
+table_push atoms alive dead ks ks' a t f c r = record {
   as_alive = (let x = length-append atoms (a ∷ []) in let y = length-append alive (true ∷ []) in let z = t.as_alive in
       omega (arith, x, y, z));
+  counted = t.counted ∙ sym (dead_push alive);
   few = (let x = length-append atoms (a ∷ []) in omega (arith, x, f));
   indexed = rw (c, live_push atoms alive a t.as_alive)
       (indexed_push (live atoms alive) (ways_of ks) (keyed_entries ks) (keyed_entries ks') a t.indexed
@@ -154,11 +170,12 @@ table_push atoms alive ks ks' a t f c r = record {
 }
 
 -- one more index, of a table without rows
-pub table_index : (atoms : List Atom) (alive : List Bool) (ks : List Keyed) (k : Keyed) → IsTable atoms alive ks
-    → live atoms alive ≡ [] → finder_rows k.index ≡ []
-    → IsTable atoms alive (ks ++ k ∷ [])
-table_index atoms alive ks k t none empty = record {
+pub table_index : (atoms : List Atom) (alive : List Bool) (dead : ℕ) (ks : List Keyed) (k : Keyed)
+    → IsTable atoms alive dead ks → live atoms alive ≡ [] → finder_rows k.index ≡ []
+    → IsTable atoms alive dead (ks ++ k ∷ [])
+table_index atoms alive dead ks k t none empty = record {
   as_alive = t.as_alive;
+  counted = t.counted;
   few = t.few;
   indexed = λ j l. (rw (none, map-append (λ (x : Keyed). finder_rows x.index) ks (k ∷ []))
       (elim (cases_lt j (length (keyed_entries ks))) as (λ _. get_or (keyed_entries ks ++ finder_rows k.index ∷ []) j []
@@ -176,3 +193,30 @@ table_index atoms alive ks k t none empty = record {
             ]
       ]));
 }
+
+-- a row that is dead is counted once
+pub dead_one : (bs : List Bool) (r : ℕ) → r < length bs → dead_in (set bs r false)
+    ≡ dead_in bs + cond (get_or bs r false) 1 0
+dead_one [] r l = absurd (omega (arith, l))
+dead_one (true ∷ bs) zero l = omega arith
+dead_one (false ∷ bs) zero l = omega arith
+dead_one (true ∷ bs) (suc r) l = dead_one bs r (omega (arith, l))
+dead_one (false ∷ bs) (suc r) l = let h = dead_one bs r (omega (arith, l)) in omega (arith, h)
+
+pub dead_most : (bs : List Bool) → dead_in bs ≤ length bs
+dead_most [] = omega arith
+dead_most (true ∷ bs) = let h = dead_most bs in omega (arith, h)
+dead_most (false ∷ bs) = let h = dead_most bs in omega (arith, h)
+
+pub none_dead : (n : ℕ) → dead_in (replicate n true) ≡ 0
+none_dead zero = refl
+none_dead (suc n) = none_dead n
+
+-- each row lives or is dead
+pub live_or_dead : (as' : List Atom) (bs : List Bool) → length bs ≡ length as'
+    → dead_in bs + length (filter is_some (live as' bs)) ≡ length bs
+live_or_dead [] [] e = refl
+live_or_dead [] (b ∷ bs) e = absurd (omega (arith, e))
+live_or_dead (a ∷ as') [] e = refl
+live_or_dead (a ∷ as') (true ∷ bs) e = let h = live_or_dead as' bs (omega (arith, e)) in omega (arith, h)
+live_or_dead (a ∷ as') (false ∷ bs) e = let h = live_or_dead as' bs (omega (arith, e)) in omega (arith, h)

@@ -21,22 +21,23 @@ pub(crate) struct Keyed {
     pub(crate) index: Finder,
 }
 
-/// The arguments of an atom in these columns.
-fn key_of(columns: &ArrayVec<usize, MAX_ARITY>, atom: &Atom) -> ArrayVec<i64, MAX_ARITY>
-    ensures { result.items ≡ key_of columns.now.items atom.now }
+/// The key becomes the arguments of an atom in these columns, written where they stay.
+fn read_key(columns: &ArrayVec<usize, MAX_ARITY>, atom: &Atom, key: &mut ArrayVec<i64, MAX_ARITY>)
+    ensures { key.new.items ≡ key_of columns.now.items atom.now }
 {
-    let mut key = ArrayVec::new();
+    key.clear();
     for column in columns.as_slice() {
         key.push(argument(atom, *column));
     }
-    key
 }
 
 /// The hash of an atom's key in an index.
 fn hash_of(keyed: &Keyed, atom: &Atom) -> u32
     ensures { result ≡ key_hash keyed.now.seed (key_of keyed.now.columns.items atom.now) }
 {
-    key_hash(keyed.seed, &key_of(&keyed.columns, atom))
+    let mut key = ArrayVec::new();
+    read_key(&keyed.columns, atom, &mut key);
+    key_hash(keyed.seed, &key)
 }
 
 /// A row dies in each index.

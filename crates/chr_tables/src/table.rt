@@ -1,12 +1,13 @@
 //! One table.
-ghost use Rattle.std.specs.Prelude.{◌≡◌, ℕ, ◌+◌, ◌*◌, ◌<◌, ◌≤◌, ◌^◌, ◌∷◌, ◌++◌, [], length, filter, count_by, get_or};
-ghost use Rattle.std.specs.Prelude.{set, slice_get, Some, None, OnOk, OnErr, IfSome, IfNone, IsTrue, is_some};
+ghost use Rattle.std.specs.Prelude.{◌≡◌, ℕ, ◌+◌, ◌*◌, ◌<◌, ◌≤◌, ◌^◌, ◌∷◌, ◌++◌, [], length, filter, get_or};
+ghost use Rattle.std.specs.Prelude.{◌↔◌, set, slice_get, Some, None, OnOk, OnErr, IfSome, IfNone, IsTrue, is_some};
+ghost use Rattle.std.specs.Prelude.{false};
 ghost use Rattle.std.specs.Bool.{OnTrue, OnFalse};
 ghost use Rattle.chr_base.specs.declared.limits.TheConstants.{MAX_ARITY};
 ghost use Rattle.chr_plans.specs.Rows.{HasKey, LiesIn};
 ghost use Rattle.chr_plans.specs.Keys.{columns_by};
 ghost use Rattle.chr_tables.specs.Contents.{HasArgument, LiesBy};
-ghost use Rattle.chr_tables.specs.working.Indexes.{chosen};
+ghost use Rattle.chr_tables.specs.working.Indexes.{chosen, dead_in};
 
 use crate::cells::Cells;
 use crate::finder::Finder;
@@ -26,6 +27,8 @@ pub const MAX_ROWS: usize = 0xFFFF_FFFF;
 pub struct Table {
     atoms: Cells,
     alive: Vec<bool>,
+    /// The number of dead rows.
+    dead: usize,
     indexes: Vec<Keyed>,
 }
 
@@ -35,6 +38,7 @@ impl Drop for Table {
         let Table {
             atoms: _atoms,
             alive: _alive,
+            dead: _dead,
             indexes: _indexes,
         } = self;
     }
@@ -54,7 +58,7 @@ impl Model for Table {
       orders = orders_of t.indexes.items;
     } };
 
-    ghost invariant = { λ t. IsTable t.atoms t.alive.items t.indexes.items };
+    ghost invariant = { λ t. IsTable t.atoms t.alive.items t.dead t.indexes.items };
 }
 
 /// The row that an index has found, if it has found one.
@@ -73,11 +77,15 @@ fn number_of(row: usize) -> u32
     row.min(MAX_ROWS) as u32
 }
 
-/// How many of these rows live.
-fn count_live(alive: &[bool]) -> usize
-    ensures { result ≡ count_by (λ b. b) alive.now }
+/// The flag of a row says that it is dead. It answers how many died: one, or none where it was dead before.
+fn mark_dead(alive: &mut Vec<bool>, row: usize) -> usize
+    requires { row < length alive.old.items }
+    ensures flags { alive.new.items ≡ set alive.old.items row false }
+    ensures count { dead_in alive.new.items ≡ dead_in alive.old.items + result }
 {
-    alive.iter().filter(|is_alive| **is_alive).count()
+    let lived = alive[row];
+    alive[row] = false;
+    if lived { 1 } else { 0 }
 }
 
 /// The atoms of live rows move together, in their order, and the others go.
@@ -103,6 +111,7 @@ impl Table {
         Table {
             atoms: Cells::new(alloc),
             alive: Vec::new(alloc),
+            dead: 0,
             indexes: Vec::new(alloc),
         }
     }
@@ -220,11 +229,25 @@ impl Table {
         self.atoms.read(row, atom);
     }
 
+    /// Whether some row lives. It takes the same time however many are dead.
+    pub fn has_atoms(&self) -> bool
+        ensures { IsTrue result ↔ 0 < length (filter is_some self.now.rows) }
+    {
+        self.dead < self.alive.len()
+    }
+
+    /// Whether a row lives. A row past the last is dead.
+    pub fn lives(&self, row: usize) -> bool
+        ensures { result ≡ is_some (get_or self.now.rows row None) }
+    {
+        row < self.atoms.len() && self.alive[row]
+    }
+
     /// The atom of a row, where the row lives. A row past the last is dead.
     pub fn get(&self, row: usize) -> Option<Atom>
         ensures { result ≡ get_or self.now.rows row None }
     {
-        if row < self.atoms.len() && self.alive[row] {
+        if self.lives(row) {
             Some(self.atoms.atom(row))
         } else {
             None
@@ -273,7 +296,7 @@ impl Table {
         ensures keys { self.new.keys ≡ self.old.keys }
         ensures orders { self.new.orders ≡ self.old.orders }
     {
-        self.alive[row] = false;
+        self.dead += mark_dead(&mut self.alive, row);
         kill_in(&mut self.indexes, row as u32);
     }
 
@@ -281,7 +304,7 @@ impl Table {
     pub fn is_half_dead(&self) -> bool
         ensures { OnTrue result (2 * length (filter is_some self.now.rows) ≤ length self.now.rows) }
     {
-        self.alive.len() == self.alive.capacity() && 2 * count_live(&self.alive) <= self.alive.len()
+        self.alive.len() == self.alive.capacity() && self.alive.len() <= 2 * self.dead
     }
 
     /// Dead rows go, and live ones get new numbers, in their order. It takes no memory.
@@ -294,6 +317,7 @@ impl Table {
         keep_live(&mut self.atoms, &self.alive);
         self.alive.truncate(self.atoms.len());
         self.alive.fill(true);
+        self.dead = 0;
         enter_all(&self.atoms, &mut self.indexes);
     }
 

@@ -1,6 +1,6 @@
 -- What a table keeps: flags of the rows that live, and indexes.
 use Rattle.std.specs.Prelude.{◌≡◌, ℕ, ◌<◌, ◌^◌, List, [], ◌∷◌, length, map, get_or, cond, Bool, Option, Some, None}
-use Rattle.std.specs.Prelude.{option_map}
+use Rattle.std.specs.Prelude.{option_map, suc, true, false}
 use Rattle.std.specs.Coded.{Coded, code_by, coded×, coded_ℕ, coded_list, coded_option}
 use Rattle.std.proofs.Common.{refl}
 use Rattle.chr_base.specs.declared.atom.Atom.{Atom}
@@ -22,6 +22,12 @@ abbrev pub chosen : List Atom → List Bool → List Atom
 chosen [] bs = []
 chosen (a ∷ as') [] = []
 chosen (a ∷ as') (b ∷ bs) = cond b (a ∷ chosen as' bs) (chosen as' bs)
+
+-- how many of the rows with these flags are dead
+abbrev pub dead_in : List Bool → ℕ
+dead_in [] = 0
+dead_in (true ∷ bs) = dead_in bs
+dead_in (false ∷ bs) = suc (dead_in bs)
 
 -- under which seed and by which columns an index finds rows, and by the values in which columns it leaves rows behind
 pub record Way : Type 0 where
@@ -65,8 +71,9 @@ AreIndexed rows ways entries =
     (j : ℕ) → j < length ways → get_or entries j [] ≡ map (entry_in (get_or ways j no_way)) rows
 
 -- what every table keeps
-pub record IsTable (atoms : List Atom) (alive : List Bool) (indexes : List Keyed) : Type 0 where
+pub record IsTable (atoms : List Atom) (alive : List Bool) (dead : ℕ) (indexes : List Keyed) : Type 0 where
   pub as_alive : length alive ≡ length atoms
+  pub counted : dead ≡ dead_in alive
   pub few : length atoms < 2 ^ 32
   pub indexed : AreIndexed (live atoms alive) (ways_of indexes) (keyed_entries indexes)
 

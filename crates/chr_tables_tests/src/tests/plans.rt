@@ -5,7 +5,7 @@ use arrayvec::ArrayVec;
 use chr_base::limits::{MAX_COMPARISONS, MAX_HEADS};
 use chr_base::rule::Rule;
 use chr_base::term::Cmp;
-use chr_plans::key::{Key, Source, Test, key_values, pass, value_of};
+use chr_plans::key::{Key, Source, Test, pass, read_key, value_of};
 use chr_plans::plan::Partner;
 use chr_plans::planning::plan_of;
 use chr_testing::atoms::atom;
@@ -47,8 +47,11 @@ fn values_of_keys(rt: HostRuntime) {
     let mut key = ArrayVec::new();
     key.push(argument(2, 0, 1));
     key.push(constant(0, 4));
-    assert!(rt; key_values(&heads, &key).as_slice() == [-3, 4].as_slice());
-    assert!(rt; key_values(&heads, &ArrayVec::new()).is_empty());
+    let mut values = ArrayVec::new();
+    read_key(&heads, &key, &mut values);
+    assert!(rt; values.as_slice() == [-3, 4].as_slice());
+    read_key(&heads, &ArrayVec::new(), &mut values);
+    assert!(rt; values.is_empty());
 }
 
 /// The test of one comparison, of the first argument of the first head and a constant.

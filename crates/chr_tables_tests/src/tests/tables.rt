@@ -4,6 +4,7 @@ ghost use Rattle.std.specs.Prelude.{◌≡◌, ◌<◌, length};
 mod compacting;
 mod first_with;
 mod hashes;
+mod living;
 mod ordered;
 mod searches;
 

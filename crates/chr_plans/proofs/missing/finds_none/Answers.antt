@@ -7,6 +7,6 @@ use Rattle.chr_plans.proofs.missing.finds_none.Goals as goal
 pub returns-clause-none : goal.returns-clause-none
 returns-clause-none g c = OnTrue_from c.is_none.result _ (λ e other has.
     (let key : c.deref.result.now ≡ map (λ k. source_value c.args.heads.now k.source)
-    c.args.lookup.now.partner.key.items = c.deref.ensures.0 ∙ c.key_values-key.ensures in
+    c.args.lookup.now.partner.key.items = c.deref.ensures.0 ∙ c.read_key.ensures in
     none_found _ c.newest_from.result c.is_none.result c.is_none.ensures e c.newest_from.ensures.none other tt
     (rw key has) (has.0, has.1, c.whole_span.ensures has.0)))

@@ -36,11 +36,11 @@ returns-in_default-clause-none g t c =
     let n : c.args.done < length c.args.lookups.now = (let a = c.requires.done in let b = c.if-done-lookups.false in
     omega (arith, a, b)) in
     let key : c.deref.result.now ≡ map (λ k. source_value c.args.heads.now k.source)
-    c.index-lookups-done.result.partner.key.items = c.deref.ensures.0 ∙ c.key_values-key.ensures in
+    c.index-lookups-done.result.partner.key.items = c.deref.ensures.0 ∙ c.read_key.ensures in
     let past = past_begun c.args.rule.now c.args.active c.args.lookups.now c.args.done c.index-lookups-done.result _
     (g.R.Rows.columns c.args.rows.now) c.args.heads.now c.args.seats.now c.requires.plan c.requires.fits n
-    (sym c.index-lookups-done.is) c.span_of-span.result c.args.from c.newest_from.result
-    c.span_of-span.ensures.all c.requires.passed
+    (sym c.index-lookups-done.is) c.read_span.new.span c.args.from c.newest_from.result
+    c.read_span.ensures.all c.requires.passed
     (below_found _ _ _ c.newest_from.result (rw (← key) c.newest_from.ensures.newest)
     (rw (← key) c.newest_from.ensures.none)) in
     λ hs ss s same. (rw c.in_default.is at past) hs ss s same (omega arith)
@@ -60,11 +60,11 @@ loop-next-init g t c =
     let n : c.args.done < length c.args.lookups.now = (let a = c.requires.done in let b = c.if-done-lookups.false in
     omega (arith, a, b)) in
     let key : c.deref.result.now ≡ map (λ k. source_value c.args.heads.now k.source)
-    c.index-lookups-done.result.partner.key.items = c.deref.ensures.0 ∙ c.key_values-key.ensures in
+    c.index-lookups-done.result.partner.key.items = c.deref.ensures.0 ∙ c.read_key.ensures in
     let past = past_begun c.args.rule.now c.args.active c.args.lookups.now c.args.done c.index-lookups-done.result _
     (g.R.Rows.columns c.args.rows.now) c.args.heads.now c.args.seats.now c.requires.plan c.requires.fits n
-    (sym c.index-lookups-done.is) c.span_of-span.result c.args.from c.newest_from.result
-    c.span_of-span.ensures.all c.requires.passed
+    (sym c.index-lookups-done.is) c.read_span.new.span c.args.from c.newest_from.result
+    c.read_span.ensures.all c.requires.passed
     (below_found _ _ _ c.newest_from.result (rw (← key) c.newest_from.ensures.newest)
     (rw (← key) c.newest_from.ensures.none)) in
     record {
@@ -199,7 +199,7 @@ loop-next-preserved g t c =
     let n : c.args.done < length c.args.lookups.now = (let a = c.requires.done in let b = c.if-done-lookups.false in
     omega (arith, a, b)) in
     let key : c.deref-in-Some-next.result.now ≡ map (λ k. source_value c.args.heads.now k.source)
-    c.index-lookups-done.result.partner.key.items = c.deref-in-Some-next.ensures.0 ∙ c.key_values-key.ensures in
+    c.index-lookups-done.result.partner.key.items = c.deref-in-Some-next.ensures.0 ∙ c.read_key.ensures in
     let w0 = place_within c.args.rule.now c.args.active c.args.lookups.now c.args.done c.index-lookups-done.result _
     (g.R.Rows.columns c.args.rows.now) c.args.heads.now c.args.seats.now c.requires.plan c.requires.fits n
     (sym c.index-lookups-done.is) in
@@ -246,11 +246,11 @@ loop-next-preserved g t c =
       lives = rw (← rows_now) c.next-next.ensures.lives;
       past = past_next c.args.rule.now c.args.active c.args.lookups.now c.args.done c.index-lookups-done.result _
           (g.R.Rows.columns c.args.rows.now) c.args.heads.now c.args.seats.now c.requires.plan c.requires.fits n
-          (sym c.index-lookups-done.is) c.span_of-span.result c.in-Some-next.row
-          (bound c.next-next.result) c.span_of-span.ensures.all
+          (sym c.index-lookups-done.is) c.read_span.new.span c.in-Some-next.row
+          (bound c.next-next.result) c.read_span.ensures.all
           (below_next (λ q. IsWanted (g.R.Rows.columns c.args.rows.now c.index-lookups-done.result.table
           c.index-lookups-done.result.index) (map (λ k. source_value c.args.heads.now k.source)
-          c.index-lookups-done.result.partner.key.items) c.span_of-span.result
+          c.index-lookups-done.result.partner.key.items) c.read_span.new.span
           (g.R.Rows.rows c.args.rows.now c.index-lookups-done.result.table q)) c.in-Some-next.row c.next-next.result
           (newest_next _ _ c.in-Some-next.row c.next-next.result
           (rw (← key, ← rows_now, ← columns_now) c.next-next.ensures.newest))

@@ -5,7 +5,7 @@ use chr_base::atom::Atom;
 use chr_base::limits::MAX_COMPARISONS;
 use chr_base::term::Cmp;
 use chr_indexes::ranges::Range;
-use chr_plans::key::{Band, Limit, Order, Source, Span, order_of, span_of};
+use chr_plans::key::{Band, Limit, Order, Source, Span, order_of, read_span};
 use chr_plans::plan::Partner;
 use chr_testing::atoms::atom;
 use std::process::Abort;
@@ -36,7 +36,9 @@ fn by_constant(column: usize, cmp: Cmp, value: i64) -> Limit {
 
 /// The span that limits leave under these heads.
 fn span_under(heads: &[Atom], limits: &ArrayVec<Limit, MAX_COMPARISONS>) -> Span {
-    span_of(heads, order_of(limits), limits)
+    let mut span = Span::default();
+    read_span(heads, order_of(limits), limits, &mut span);
+    span
 }
 
 /// The span that one limit of the second column leaves, by this value of the first head.

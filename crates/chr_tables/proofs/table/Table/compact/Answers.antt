@@ -2,8 +2,8 @@ use Rattle.std.proofs.Common.{◌≡◌, ℕ, List, Bool, true, map, length, get
 use Rattle.std.specs.Prelude.{Some, filter, is_some, vec_len}
 use Rattle.std.proofs.lemmas.List.{length-replicate, get_or-replicate}
 use Rattle.chr_base.specs.declared.atom.Atom.{Atom}
-use Rattle.chr_tables.specs.working.Indexes.{live, chosen, ways_of, keyed_entries}
-use Rattle.chr_tables.proofs.Lives.{length_live, length_ways, as_many}
+use Rattle.chr_tables.specs.working.Indexes.{live, chosen, dead_in, ways_of, keyed_entries}
+use Rattle.chr_tables.proofs.Lives.{length_live, length_ways, as_many, none_dead}
 use Rattle.chr_tables.proofs.Walks.{put_back}
 use Rattle.chr_tables.proofs.Compacting.{chosen_most, chosen_rows, all_live}
 use Rattle.chr_tables.proofs.table.Table.compact.Goals as goal
@@ -84,6 +84,7 @@ invariant_of-self c =
     let a = c.self.invariant.as_alive in
     let f = c.self.invariant.few in
     rw (whole, whole2) (record {
+      counted = sym (ap dead_in items ∙ none_dead (vec_len c.truncate.new.self));
       as_alive = ap length items ∙ length-replicate _ true ∙ many;
       few = omega (arith, n, most, a, f);
       indexed = rw (flags c.keep_live.new.atoms c.fill.new.self.items _ items many, c.enter_all.ensures.ways)

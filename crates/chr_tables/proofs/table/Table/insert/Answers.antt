@@ -26,14 +26,14 @@ invariant_of-self-2 c =
     let more : length c.self.inside.atoms + 1 < 2 ^ 32 =
     (let t = c.if-len-ge-MAX_ROWS.false in let e = c.len.ensures in omega (arith, t, e)) in
     rw (whole, whole2, c.in_ok-push.ensures.ok, c.push_reserved.ensures.items, c.in_ok-reserve.ensures.items)
-    (table_push _ _ c.reserve_in.new.indexes _ c.args.atom.now (table_same _ _ _ _ c.self.invariant ways rows) more
+    (table_push _ _ _ c.reserve_in.new.indexes _ c.args.atom.now (table_same _ _ _ _ _ c.self.invariant ways rows) more
     ways2 (λ j l. (rw now at (c.push_in.ensures.rows j (let a = ap length now in omega (arith, a, l))))))
 
 pub reserve_in-requires : goal.reserve_in-requires
 reserve_in-requires c =
     let more : length c.self.inside.atoms + 1 < 2 ^ 32 =
     (let t = c.if-len-ge-MAX_ROWS.false in let e = c.len.ensures in omega (arith, t, e)) in
-    rw c.deref_mut.ensures.value (each_few _ _ c.self.inside.indexes.items c.self.invariant more)
+    rw c.deref_mut.ensures.value (each_few _ _ _ c.self.inside.indexes.items c.self.invariant more)
 
 pub push_in-requires-clause-room : goal.push_in-requires-clause-room
 push_in-requires-clause-room c =
@@ -60,7 +60,7 @@ push_in-requires-clause-few c =
     c.self.inside.indexes.len len (omega (arith, c.self.inside.indexes.ok.0)) in
     let more : length c.self.inside.atoms + 1 < 2 ^ 32 =
     (let t = c.if-len-ge-MAX_ROWS.false in let e = c.len.ensures in omega (arith, t, e)) in
-    rw (now, rows) (λ j l. each_few _ _ c.self.inside.indexes.items c.self.invariant more j (omega (arith, len, l)))
+    rw (now, rows) (λ j l. each_few _ _ _ c.self.inside.indexes.items c.self.invariant more j (omega (arith, len, l)))
 
 pub returns-clause-ok : goal.returns-clause-ok
 returns-clause-ok c =
