@@ -1,12 +1,11 @@
 -- Atoms that are printed one after another, and their text.
 use Rattle.std.proofs.Common.{◌≡◌, ℕ, zero, suc, ◌+◌, ◌-◌, ◌<◌, Bool, true, false, List, [], ◌∷◌, ◌++◌, length, map}
 use Rattle.std.specs.Prelude.{ℤ}
-use Rattle.std.proofs.Common.{set, take, take-suc, get_or, refl, sym, ap, subst, ◌∙◌, append_assoc, arith}
-use Rattle.std.specs.Prelude.{Option, Some, None, Result, Ok, Err, OnOk, slice_get, codes}
+use Rattle.std.proofs.Common.{set, take, get_or, refl, sym, ap, subst, ◌∙◌, append_assoc, arith}
+use Rattle.std.specs.Prelude.{Option, Some, None, Result, Ok, Err, OnOk, slice_get, codes, filter, is_some}
 use Rattle.std.specs.Borrow.{Bor}
 use Rattle.std.specs.List.{flat_map}
-use Rattle.std.proofs.lemmas.Grind.{flat_map-append}
-use Rattle.std.proofs.lemmas.List.{append-nil}
+use Rattle.std.proofs.lemmas.List.{append-nil, flat_map_more, nil_from_length, map_more, map_push, take_more}
 use Rattle.std.specs.Ordering.{is_gt}
 use Rattle.chr_base.specs.declared.atom.Atom.{Atom}
 use Rattle.chr_base.specs.ProgramTests.{Declaration}
@@ -15,13 +14,17 @@ use Rattle.chr_base.proofs.Ordered.{rising_append}
 use Rattle.chr_base.proofs.Printing.{print_total}
 use Rattle.chr_base.specs.FinBag.{empty, ◌⊕◌}
 use Rattle.chr_base.specs.Stores.{Store, store_of}
-use Rattle.chr_base.proofs.Stores.{count_plus, same_store, store_of-append, plus_assoc, plus_comm}
+use Rattle.chr_base.specs.Atoms.{atom_cmp}
+use Rattle.chr_base.proofs.FinBags.{of_list-none}
+use Rattle.chr_base.proofs.Stores.{store_of-append, plus_assoc, plus_comm, plus_empty}
 use Rattle.chr_plans.specs.Grids.{Grid, contents, live_atoms}
 use Rattle.chr_tables.specs.Contents.{Contents}
 use Rattle.chr_columns.specs.declared.flat.Flat.{Flat}
 use Rattle.chr_columns.specs.working.Resting.{grid}
 use Rattle.chr_columns.specs.working.Printing.{flat_atom, flat_atoms, flat_rows, flats_atoms, rows_at}
 use Rattle.chr_columns.specs.working.Printing.{joined_text, IsWritten, Rises}
+use Rattle.chr_columns.proofs.Firings.{swap_sides}
+use Rattle.chr_columns.proofs.Tidying.{live_filter}
 
 last_more : (xs : List Atom) (a : Atom) → slice_get (xs ++ a ∷ []) (length (xs ++ a ∷ []) - 1) ≡ Some a
 last_more [] a = refl
@@ -60,17 +63,10 @@ all_written ds start xs false text new h some none =
     ∙ append_assoc start [] (codes "true") ∙ ap (λ ys. start ++ atoms_text ds ys) (sym (h.none refl))
 
 -- one more list behind others
-pub flat_one : {X : Type 0} (f : X → List Atom) (xs : List X) (x : X) → flat_map f (xs ++ x ∷ []) ≡ flat_map f xs ++ f x
-flat_one f xs x = flat_map-append f xs (x ∷ []) ∙ ap (λ ys. flat_map f xs ++ ys) (append-nil (f x))
-
-take_one : {X : Type 0} (xs : List X) (i : ℕ) (x : X) → i < length xs → x ≡ get_or xs i x → take (i + 1) xs
-    ≡ take i xs ++ x ∷ []
-take_one xs i x l is = (let e : i + 1 ≡ suc i = omega arith in ap (λ n. take n xs) e) ∙ take-suc xs i x l
-    ∙ ap (λ y. take i xs ++ y ∷ []) (sym is)
-
 pub flat_more : {X : Type 0} (f : X → List Atom) (xs : List X) (i : ℕ) (x : X) → i < length xs → x ≡ get_or xs i x
     → flat_map f (take (i + 1) xs) ≡ flat_map f (take i xs) ++ f x
-flat_more f xs i x l is = ap (flat_map f) (take_one xs i x l is) ∙ flat_one f (take i xs) x
+flat_more f xs i x l is = ap (flat_map f) (take_more xs i x l) ∙ sym (flat_map_more f [] (take i xs) (get_or xs i x))
+    ∙ ap (λ y. flat_map f (take i xs) ++ f y) (sym is)
 
 live_rows : (f : Flat) (rows : List (List ℤ)) → live_atoms (map (λ row. Some (flat_atom f row)) rows)
     ≡ map (flat_atom f) rows
@@ -87,17 +83,13 @@ contents_one [] rows = plus_comm (store_of (live_atoms rows)) empty
 contents_one (t ∷ tables) rows = ap (λ s. store_of (live_atoms t) ⊕ s) (contents_one tables rows)
     ∙ sym (plus_assoc (store_of (live_atoms t)) (contents tables) (store_of (live_atoms rows)))
 
-map_one : (xs : List (Bor Contents)) (x : Bor Contents) → map rows_at (xs ++ x ∷ []) ≡ map rows_at xs ++ x.now.rows ∷ []
-map_one [] x = refl
-map_one (y ∷ ys) x = ap (λ rest. y.now.rows ∷ rest) (map_one ys x)
-
 -- the rows of one table more
 pub rows_more : (tables : List (Bor Contents)) (i : ℕ) (t : Bor Contents) (s : Store) → i < length tables
     → t ≡ get_or tables i t → s ≡ contents (map rows_at (take i tables)) → s ⊕ store_of (live_atoms t.now.rows)
     ≡ contents (map rows_at (take (i + 1) tables))
 rows_more tables i t s l is h =
     let taken : map rows_at (take (i + 1) tables) ≡ map rows_at (take i tables) ++ t.now.rows ∷ [] =
-    ap (map rows_at) (take_one tables i t l is) ∙ map_one (take i tables) t in
+    map_more rows_at tables i t l ∙ ap (λ u. map rows_at (take i tables) ++ rows_at u ∷ []) (sym is) in
     ap (λ u. u ⊕ store_of (live_atoms t.now.rows)) h ∙ sym (contents_one (map rows_at (take i tables)) t.now.rows)
     ∙ ap contents (sym taken)
 
@@ -108,9 +100,6 @@ contents_more tables i t before whole l is h w =
     ap store_of w ∙ store_of-append before (live_atoms t.now.rows) ∙ rows_more tables i t (store_of before) l is h
 
 -- one atom more in one place
-one_of_two : (s t o : Store) → (s ⊕ o) ⊕ t ≡ (s ⊕ t) ⊕ o
-one_of_two s t o = same_store _ _ (λ q. simp count_plus (omega arith))
-
 pub one_added : (fs : List Flat) (i : ℕ) (f g : Flat) (a : Atom) → i < length fs → f ≡ get_or fs i f
     → flat_atoms g ≡ flat_atoms f ++ a ∷ [] → store_of (flats_atoms (set fs i g))
     ≡ store_of (flats_atoms fs) ⊕ store_of (a ∷ [])
@@ -119,7 +108,7 @@ one_added (h ∷ fs) zero f g a l is e =
     store_of-append (flat_atoms g) (flats_atoms fs)
     ∙ ap (λ s. s ⊕ store_of (flats_atoms fs)) (ap store_of (e ∙ ap (λ x. flat_atoms x ++ a ∷ []) is)
     ∙ store_of-append (flat_atoms h) (a ∷ []))
-    ∙ one_of_two (store_of (flat_atoms h)) (store_of (flats_atoms fs)) (store_of (a ∷ []))
+    ∙ swap_sides (store_of (flat_atoms h)) (store_of (flats_atoms fs)) (store_of (a ∷ []))
     ∙ ap (λ s. s ⊕ store_of (a ∷ [])) (sym (store_of-append (flat_atoms h) (flats_atoms fs)))
 one_added (h ∷ fs) (suc i) f g a l is e =
     store_of-append (flat_atoms h) (flats_atoms (set fs i g))
@@ -153,10 +142,12 @@ one_sorted (h ∷ fs) (suc i) f g l is e =
     ∙ ap (λ s. store_of (flat_atoms h) ⊕ s) (one_sorted fs i f g (omega (arith, l)) is e)
     ∙ sym (store_of-append (flat_atoms h) (flats_atoms fs))
 
--- one table more behind others
-grid_one : (xs : List Contents) (x : Contents) → grid (xs ++ x ∷ []) ≡ grid xs ++ x.rows ∷ []
-grid_one [] x = refl
-grid_one (y ∷ ys) x = ap (λ rest. y.rows ∷ rest) (grid_one ys x)
+-- a table more behind others; one without atoms is left out
+grid_more : (tables : List Contents) (i : ℕ) (t : Contents) → i < length tables → t ≡ get_or tables i t
+    → contents (grid (take (i + 1) tables)) ≡ contents (grid (take i tables)) ⊕ store_of (live_atoms t.rows)
+grid_more tables i t l is =
+    ap contents (map_more (λ (u : Contents). u.rows) tables i t l)
+    ∙ ap (λ u. contents (grid (take i tables) ++ u.rows ∷ [])) (sym is) ∙ contents_one (grid (take i tables)) t.rows
 
 pub tables_more : (s : Store) (before : List (Bor Contents)) (tables : List Contents) (i : ℕ) (t : Bor Contents)
     → i < length tables → t.now ≡ get_or tables i t.now
@@ -164,8 +155,19 @@ pub tables_more : (s : Store) (before : List (Bor Contents)) (tables : List Cont
     → contents (map rows_at (before ++ t ∷ [])) ≡ s ⊕ contents (grid (take (i + 1) tables))
 tables_more s before tables i t l is h =
     let one = store_of (live_atoms t.now.rows) in
-    let taken : grid (take (i + 1) tables) ≡ grid (take i tables) ++ t.now.rows ∷ [] =
-    ap grid (take_one tables i t.now l is) ∙ grid_one (take i tables) t.now in
-    ap contents (map_one before t) ∙ contents_one (map rows_at before) t.now.rows ∙ ap (λ u. u ⊕ one) h
-    ∙ plus_assoc s (contents (grid (take i tables))) one
-    ∙ ap (λ u. s ⊕ u) (sym (contents_one (grid (take i tables)) t.now.rows) ∙ ap contents (sym taken))
+    ap contents (map_push rows_at before t) ∙ contents_one (map rows_at before) t.now.rows ∙ ap (λ u. u ⊕ one) h
+    ∙ plus_assoc s (contents (grid (take i tables))) one ∙ ap (λ u. s ⊕ u) (sym (grid_more tables i t.now l is))
+
+none_live : (rows : List (Option Atom)) → ¬ (0 < length (filter is_some rows)) → live_atoms rows ≡ []
+none_live rows none = sym (live_filter rows)
+    ∙ ap live_atoms (nil_from_length (filter is_some rows) (omega (arith, none)))
+
+pub tables_same : (s : Store) (before : List (Bor Contents)) (tables : List Contents) (i : ℕ) (t : Contents)
+    → i < length tables → t ≡ get_or tables i t → ¬ (0 < length (filter is_some t.rows))
+    → contents (map rows_at before) ≡ s ⊕ contents (grid (take i tables))
+    → contents (map rows_at before) ≡ s ⊕ contents (grid (take (i + 1) tables))
+tables_same s before tables i t l is none h =
+    let rest = contents (grid (take i tables)) in
+    h ∙ ap (λ u. s ⊕ u) (sym (grid_more tables i t l is
+    ∙ ap (λ xs. rest ⊕ store_of xs) (none_live t.rows none) ∙ ap (λ u. rest ⊕ u) (of_list-none atom_cmp)
+    ∙ plus_empty rest))

@@ -14,7 +14,7 @@ use Rattle.chr_columns.specs.declared.groups.Group.{Group}
 use Rattle.chr_columns.specs.working.Resting.{grid, IsSetUp, ArePlanned}
 use Rattle.chr_columns.proofs.Stored.{row_is, grid_set, keys_set, same_columns}
 
-live_filter : (rows : List (Option Atom)) → live_atoms (filter is_some rows) ≡ live_atoms rows
+pub live_filter : (rows : List (Option Atom)) → live_atoms (filter is_some rows) ≡ live_atoms rows
 live_filter [] = refl
 live_filter (None ∷ rows) = live_filter rows
 live_filter (Some a ∷ rows) = ap (λ as'. a ∷ as') (live_filter rows)

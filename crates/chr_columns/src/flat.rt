@@ -1,5 +1,6 @@
 //! Atoms of one symbol, by their arguments alone.
-ghost use Rattle.std.specs.Prelude.{◌≡◌, ◌≤◌, ◌++◌, ◌∷◌, [], None, length, take, get_or, IsTrue, OnOk};
+ghost use Rattle.std.specs.Prelude.{◌≡◌, ◌≤◌, ◌++◌, ◌∷◌, [], None, Some, length, take, get_or, IsTrue, OnOk};
+ghost use Rattle.std.specs.Bool.{OnTrue, OnFalse};
 ghost use Rattle.std.specs.List.Sorted.{IsPermutation};
 ghost use Rattle.chr_columns.specs.declared.flat.TheConstants.{FLAT_ARITY};
 ghost use Rattle.chr_columns.specs.working.Printing.{flat_atoms, flat_rows, has_shape};
@@ -61,17 +62,18 @@ impl Flat {
         Ok(())
     }
 
-    /// The atom of a row. A row past the last has none.
-    pub(crate) fn get(&self, row: usize) -> Option<Atom>
-        ensures { result ≡ get_or (flat_rows self.now) row None }
+    /// The given atom becomes that of a row. A row past the last has none.
+    #[inline(always)]
+    pub(crate) fn read(&self, row: usize, atom: &mut Atom) -> bool
+        ensures there { OnTrue result (get_or (flat_rows self.now) row None ≡ Some atom.new) }
+        ensures none { OnFalse result (get_or (flat_rows self.now) row None ≡ None) }
     {
         if row >= self.rows.len() {
-            return None;
+            return false;
         }
         let values = &self.rows[row];
-        let mut atom = Atom::default();
         atom.set(self.symbol, &values[..self.arity.min(FLAT_ARITY)]);
-        Some(atom)
+        true
     }
 
     /// Puts the rows in order.

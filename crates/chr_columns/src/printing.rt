@@ -40,6 +40,19 @@ pub(crate) struct Turn<'a> {
     first: Option<Atom>,
 }
 
+/// The given atom becomes that of a row of the table, where the row lives.
+#[inline(always)]
+fn read_live(table: &Table, row: usize, atom: &mut Atom) -> bool
+    ensures there { OnTrue result (get_or table.now.rows row None ≡ Some atom.new) }
+    ensures none { OnFalse result (get_or table.now.rows row None ≡ None) }
+{
+    if !table.lives(row) {
+        return false;
+    }
+    table.read(row, atom);
+    true
+}
+
 impl<'a> Source<'a> {
     /// The number of its rows.
     fn len(&self) -> usize
@@ -51,22 +64,24 @@ impl<'a> Source<'a> {
         }
     }
 
-    /// The atom of a row, where one lives there.
-    fn get(&self, row: usize) -> Option<Atom>
-        ensures { result ≡ get_or (turn_rows self.now) row None }
+    /// The given atom becomes that of a row, where one lives there.
+    #[inline(always)]
+    fn read(&self, row: usize, atom: &mut Atom) -> bool
+        ensures there { OnTrue result (get_or (turn_rows self.now) row None ≡ Some atom.new) }
+        ensures none { OnFalse result (get_or (turn_rows self.now) row None ≡ None) }
     {
         match self {
-            Source::Table(table) => table.get(row),
-            Source::Flat(flat) => flat.get(row),
+            Source::Table(table) => read_live(table, row, atom),
+            Source::Flat(flat) => flat.read(row, atom),
         }
     }
 
     /// The first atom.
     fn first(&self) -> Option<Atom> {
+        let mut atom = Atom::default();
         for row in 0..self.len() {
-            let atom = self.get(row);
-            if atom.is_some() {
-                return atom;
+            if self.read(row, &mut atom) {
+                return Some(atom);
             }
         }
         None
@@ -100,17 +115,28 @@ fn comes_after(program: &Program, last: &Option<Atom>, atom: &Atom) -> bool
     }
 }
 
+/// The last atom becomes this one.
+fn keep_last(last: &mut Option<Atom>, atom: &Atom)
+    ensures { last.new ≡ Some atom.now }
+{
+    match last {
+        Some(last) => last.copy_from(atom),
+        None => *last = Some(atom.copy()),
+    }
+}
+
 /// Whether the atoms are in the order in which they are printed, each of them and the last one before them.
 fn follow(program: &Program, last: &mut Option<Atom>, source: &Source) -> bool
     ensures { OnTrue result ((before : List AtomValue) → Rises (declarations program.now) before last.old →
         Rises (declarations program.now) (before ++ live_atoms (turn_rows source.now)) last.new) }
 {
+    let mut atom = Atom::default();
     for row in 0..source.len() {
-        if let Some(atom) = source.get(row) {
+        if source.read(row, &mut atom) {
             if !comes_after(program, last, &atom) {
                 return false;
             }
-            *last = Some(atom);
+            keep_last(last, &atom);
         }
     }
     true
@@ -169,8 +195,9 @@ fn push_source(
         IsWritten (declarations program.now) start (before ++ live_atoms (turn_rows source.now)) started.new
         (string_bytes out.new)) }
 {
+    let mut atom = Atom::default();
     for row in 0..source.len() {
-        if let Some(atom) = source.get(row) {
+        if source.read(row, &mut atom) {
             push_one(out, program, started, &atom)?;
         }
     }
@@ -193,13 +220,15 @@ fn push_turns(out: &mut String, program: &Program, turns: &[Turn]) -> Result<(),
     }
 }
 
-/// Adds all of these tables to others.
+/// Adds those of these tables that have atoms to others. What is in the rest is dead, and isn't gone through.
 pub(crate) fn add_all<'a>(list: &mut Vec<&'a Table>, tables: &'a [Table]) -> Result<(), AllocError>
     ensures { OnOk result
         (contents (map rows_at list.new.items) ≡ contents (map rows_at list.old.items) ⊕ contents (grid tables.now)) }
 {
     for table in tables {
-        list.push(table)?;
+        if table.has_atoms() {
+            list.push(table)?;
+        }
     }
     Ok(())
 }

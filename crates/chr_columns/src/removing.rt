@@ -79,7 +79,7 @@ fn take_off_end(fresh: &mut Vec<Atom>, atoms: &[Atom]) -> bool
 
 impl Rested {
     /// The table of an atom, by its number.
-    fn table_for(&self, atom: &Atom) -> usize
+    pub(crate) fn table_for(&self, atom: &Atom) -> usize
         requires { IsRested self.now }
         ensures number { result ≡ table_of_atom self.now.directory.groups.items atom.now }
         ensures there { result < length self.now.tables.tables.items }

@@ -5,6 +5,7 @@ ghost use Rattle.chr_plans.specs.Seats.{seat, atom_in};
 ghost use Rattle.chr_tables.specs.Contents.{rows_of, index_columns};
 ghost use Rattle.chr_plans.specs.Actives.{one, NoInstanceWith};
 ghost use Rattle.chr_plans.specs.Grids.{without_rows};
+ghost use Rattle.chr_columns.specs.working.Groups.{table_of_atom};
 ghost use Rattle.chr_columns.specs.working.Resting.{grid, stored, IsRested, IsReacting, MayGoOn};
 
 use crate::groups::Directory;
@@ -56,26 +57,28 @@ pub(crate) fn kill_all(tables: &mut Tables, seats: &[Seat])
 }
 
 impl Rested {
-    /// The first instance of a rule with the active atom among its heads and the others in the rows. The search goes on
-    /// where it has stood.
+    /// The first instance of a rule with the active atom, whose table has this number, among its heads and the others
+    /// in the rows. The search goes on where it has stood.
     pub(crate) fn react(
         &mut self,
+        table: usize,
         active: &Atom,
         from: Option<Standing>,
         heads: &mut ArrayVec<Atom, MAX_HEADS>,
         seats: &mut ArrayVec<Seat, MAX_HEADS>,
     ) -> Option<Occurrence>
         requires rested { IsRested self.old }
+        requires table { table ≡ table_of_atom self.old.directory.groups.items active.now }
         requires standing { IfSome from (MayGoOn self.old active.now) }
         ensures rested { IsRested self.new }
         ensures rules { self.new.rules ≡ self.old.rules }
+        ensures directory { self.new.directory ≡ self.old.directory }
         ensures stored { stored self.new ≡ stored self.old }
         ensures found { IfSome result (λ o. IsReacting self.new active.now o heads.new.items seats.new.items) }
         ensures standing { IfSome result (λ o. MayGoOn self.new active.now o.standing) }
         ensures none { IfNone result (NoInstanceWith self.old.rules.items (stored self.old) active.now) }
     {
         let directory = &self.directory;
-        let table = directory.table_of(active.symbol, active.args.len());
         let Some(group) = directory.groups.get(table) else {
             return None;
         };
@@ -113,17 +116,17 @@ impl Rested {
         }
     }
 
-    /// An atom that has no instance with those at rest joins them; or nothing changes, where memory is refused, or
-    /// its table has `MAX_ROWS` rows.
-    pub(crate) fn put(&mut self, atom: &Atom) -> Result<(), AllocError>
+    /// An atom that has no instance with those at rest joins them in its table, which has this number; or nothing
+    /// changes, where memory is refused, or the table has `MAX_ROWS` rows.
+    pub(crate) fn put(&mut self, table: usize, atom: &Atom) -> Result<(), AllocError>
         requires rested { IsRested self.old }
+        requires table { table ≡ table_of_atom self.old.directory.groups.items atom.now }
         requires none { NoInstanceWith self.old.rules.items (stored self.old) atom.now }
         ensures rested { IsRested self.new }
         ensures rules { self.new.rules ≡ self.old.rules }
         ensures ok { OnOk result (stored self.new ≡ stored self.old ⊕ one atom.now) }
         ensures err { OnErr result (stored self.new ≡ stored self.old) }
     {
-        let table = self.directory.table_of(atom.symbol, atom.args.len());
         self.tidy(table);
         self.tables.tables[table].insert(atom)?;
         Ok(())

@@ -1,5 +1,6 @@
 //! Fresh atoms, one after another.
-ghost use Rattle.std.specs.Prelude.{◌≡◌, ◌+◌, ◌≤◌, [], Ok, OnErr, IfSome, vec_len, vec_capacity};
+ghost use Rattle.std.specs.Prelude.{◌≡◌, ◌+◌, ◌<◌, ◌≤◌, ◌++◌, ◌∷◌, [], Ok, OnErr, IfSome, length};
+ghost use Rattle.std.specs.Prelude.{vec_len, vec_capacity};
 ghost use Rattle.chr_base.specs.declared.limits.TheConstants.{MAX_BODY};
 ghost use Rattle.chr_base.specs.FinBag.{◌⊕◌};
 ghost use Rattle.chr_base.specs.Stores.{store_of};
@@ -11,6 +12,7 @@ ghost use Rattle.chr_columns.specs.working.Resting.{stored, IsRested, MayGoOn, S
 use crate::rested::{Found, Rested};
 use chr_base::atom::Atom;
 use chr_base::limits::MAX_BODY;
+use chr_base::lists::push_copy;
 use chr_plans::react::Standing;
 use std::alloc::AllocError;
 
@@ -21,6 +23,19 @@ pub(crate) enum Outcome {
     Fired,
     /// They joined those at rest.
     AtRest,
+}
+
+/// Takes the last fresh atom, which becomes the active one. It is copied, since an atom that was just made is slow to
+/// move.
+fn pop_into(fresh: &mut Vec<Atom>, active: &mut Atom)
+    requires { 0 < length fresh.old.items }
+    ensures items { fresh.old.items ≡ fresh.new.items ++ active.new ∷ [] }
+    ensures shorter { vec_len fresh.new < vec_len fresh.old }
+    ensures capacity { vec_capacity fresh.new ≡ vec_capacity fresh.old }
+{
+    let last = fresh.len() - 1;
+    active.copy_from(&fresh[last]);
+    fresh.truncate(last);
 }
 
 impl Rested {
@@ -47,9 +62,11 @@ impl Rested {
         ensures err { OnErr result (stored self.new ≡ stored self.old) }
         ensures err_same { OnErr result (fresh.new ≡ fresh.old) }
     {
+        let table = self.table_for(active);
         let from = standing.take();
-        let Some(occurrence) = self.react(active, from, &mut found.heads, &mut found.seats) else {
-            self.put(active)?;
+        let heads = &mut found.heads;
+        let Some(occurrence) = self.react(table, active, from, heads, &mut found.seats) else {
+            self.put(table, active)?;
             return Ok(Outcome::AtRest);
         };
         *standing = self.fire(occurrence, &found.heads, &found.seats, fresh);
@@ -75,15 +92,16 @@ impl Rested {
         ensures same { ¬ (result ≡ Ok Fired) →
             stored self.new ⊕ store_of fresh.new.items ≡ stored self.old ⊕ store_of fresh.old.items }
     {
+        let mut active = Atom::default();
         while !fresh.is_empty() {
             fresh.reserve(MAX_BODY + 1)?;
-            let active = fresh.pop().unwrap();
+            pop_into(fresh, &mut active);
             match self.take(&active, fresh, standing, found) {
                 Ok(Outcome::AtRest) => {}
                 Ok(Outcome::Fired) => return Ok(Outcome::Fired),
                 Err(refused) => {
                     *standing = None;
-                    fresh.push_reserved(active);
+                    push_copy(fresh, &active);
                     return Err(refused);
                 }
             }

@@ -1,9 +1,10 @@
-use Rattle.std.proofs.Common.{ap, ◌∙◌}
+use Rattle.std.proofs.Common.{[], sym, ap, ◌∙◌}
+use Rattle.std.proofs.lemmas.List.{flat_map_more}
 use Rattle.chr_base.specs.Atoms.{atom_cmp}
 use Rattle.chr_base.specs.Stores.{store_of}
 use Rattle.chr_base.proofs.FinBags.{of_list-none}
 use Rattle.chr_columns.specs.working.Printing.{all_atoms, turn_atoms}
-use Rattle.chr_columns.proofs.Printed.{flat_one, contents_more}
+use Rattle.chr_columns.proofs.Printed.{contents_more}
 use Rattle.chr_columns.proofs.printing.turns_of.Goals as goal
 
 pub loop-table-init : goal.loop-table-init
@@ -13,4 +14,4 @@ pub loop-table-preserved : goal.loop-table-preserved
 loop-table-preserved c =
     contents_more c.args.tables.now c.loop-table.table-index c.table-item.result (all_atoms c.loop-table.turns.items) _
     c.loop-table-test.true c.table-item.is c.loop-table.invariant
-    (ap all_atoms c.in_ok-push.ensures.items ∙ flat_one turn_atoms c.loop-table.turns.items _)
+    (ap all_atoms c.in_ok-push.ensures.items ∙ sym (flat_map_more turn_atoms [] c.loop-table.turns.items _))

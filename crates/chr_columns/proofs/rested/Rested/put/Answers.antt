@@ -7,7 +7,7 @@ use Rattle.chr_base.specs.FinBag.{◌⊕◌}
 use Rattle.chr_plans.specs.Actives.{one}
 use Rattle.chr_plans.specs.Grids.{contents}
 use Rattle.chr_plans.proofs.ActiveAtoms.{absorbed}
-use Rattle.chr_columns.specs.working.Groups.{table_of, table_of_atom}
+use Rattle.chr_columns.specs.working.Groups.{table_of_atom}
 use Rattle.chr_columns.specs.working.Resting.{grid, IsSetUp}
 use Rattle.chr_tables.proofs.Choices.{on_err}
 use Rattle.chr_columns.proofs.Putting.{has_table, stored_put, set_up_put, set_same}
@@ -15,27 +15,24 @@ use Rattle.chr_columns.proofs.rested.Rested.put.Goals as goal
 
 pub tidy-requires-clause-within : goal.tidy-requires-clause-within
 tidy-requires-clause-within c =
-    let t : c.table_of-table.result ≡ table_of_atom c.args.self.now.directory.groups.items c.args.atom.now =
-    c.table_of-table.ensures ∙ ap (table_of c.args.self.now.directory.groups.items c.args.atom.now.symbol)
-    c.len.ensures.value in
+    let t : c.args.table ≡ table_of_atom c.args.self.now.directory.groups.items c.args.atom.now =
+    c.requires.table in
     let w = has_table _ _ _ c.args.atom.now c.requires.rested.set_up in
     omega (arith, t, w)
 
 pub index_mut-requires : goal.index_mut-requires
 index_mut-requires c =
-    let t : c.table_of-table.result ≡ table_of_atom c.tidy.new.self.directory.groups.items c.args.atom.now =
-    c.table_of-table.ensures ∙ ap (table_of c.args.self.now.directory.groups.items c.args.atom.now.symbol)
-    c.len.ensures.value ∙ ap (λ d. table_of_atom d.groups.items c.args.atom.now) (sym c.tidy.ensures.directory) in
+    let t : c.args.table ≡ table_of_atom c.tidy.new.self.directory.groups.items c.args.atom.now =
+    c.requires.table ∙ ap (λ d. table_of_atom d.groups.items c.args.atom.now) (sym c.tidy.ensures.directory) in
     let w = has_table _ _ _ c.args.atom.now c.tidy.ensures.rested.set_up in
     omega (arith, t, w, c.tidy.new.self.tables.tables.ok.0)
 
 pub returns-in_err-insert-clause-rested : goal.returns-in_err-insert-clause-rested
 returns-in_err-insert-clause-rested c =
-    let t : c.table_of-table.result ≡ table_of_atom c.tidy.new.self.directory.groups.items c.args.atom.now =
-    c.table_of-table.ensures ∙ ap (table_of c.args.self.now.directory.groups.items c.args.atom.now.symbol)
-    c.len.ensures.value ∙ ap (λ d. table_of_atom d.groups.items c.args.atom.now) (sym c.tidy.ensures.directory) in
+    let t : c.args.table ≡ table_of_atom c.tidy.new.self.directory.groups.items c.args.atom.now =
+    c.requires.table ∙ ap (λ d. table_of_atom d.groups.items c.args.atom.now) (sym c.tidy.ensures.directory) in
     let w = has_table _ _ _ c.args.atom.now c.tidy.ensures.rested.set_up in
-    let same = set_same c.tidy.new.self.tables.tables.items c.table_of-table.result c.index_mut.result.now
+    let same = set_same c.tidy.new.self.tables.tables.items c.args.table c.index_mut.result.now
     c.insert.new.self (omega (arith, t, w)) c.index_mut.ensures.value c.in_err-insert.ensures.err
     c.insert.ensures.keys c.insert.ensures.orders in
     record {
@@ -47,37 +44,34 @@ returns-in_err-insert-clause-rested c =
 
 pub returns-in_err-insert-clause-err : goal.returns-in_err-insert-clause-err
 returns-in_err-insert-clause-err c =
-    let t : c.table_of-table.result ≡ table_of_atom c.tidy.new.self.directory.groups.items c.args.atom.now =
-    c.table_of-table.ensures ∙ ap (table_of c.args.self.now.directory.groups.items c.args.atom.now.symbol)
-    c.len.ensures.value ∙ ap (λ d. table_of_atom d.groups.items c.args.atom.now) (sym c.tidy.ensures.directory) in
+    let t : c.args.table ≡ table_of_atom c.tidy.new.self.directory.groups.items c.args.atom.now =
+    c.requires.table ∙ ap (λ d. table_of_atom d.groups.items c.args.atom.now) (sym c.tidy.ensures.directory) in
     let w = has_table _ _ _ c.args.atom.now c.tidy.ensures.rested.set_up in
     on_err _ c.from_residual.result
     (ap (λ (ts : List Contents). contents (grid ts)) (set_same c.tidy.new.self.tables.tables.items
-    c.table_of-table.result c.index_mut.result.now c.insert.new.self (omega (arith, t, w)) c.index_mut.ensures.value
+    c.args.table c.index_mut.result.now c.insert.new.self (omega (arith, t, w)) c.index_mut.ensures.value
     c.in_err-insert.ensures.err c.insert.ensures.keys c.insert.ensures.orders)
     ∙ c.tidy.ensures.stored)
 
 pub returns-clause-ok : goal.returns-clause-ok
 returns-clause-ok c =
-    let t : c.table_of-table.result ≡ table_of_atom c.tidy.new.self.directory.groups.items c.args.atom.now =
-    c.table_of-table.ensures ∙ ap (table_of c.args.self.now.directory.groups.items c.args.atom.now.symbol)
-    c.len.ensures.value ∙ ap (λ d. table_of_atom d.groups.items c.args.atom.now) (sym c.tidy.ensures.directory) in
+    let t : c.args.table ≡ table_of_atom c.tidy.new.self.directory.groups.items c.args.atom.now =
+    c.requires.table ∙ ap (λ d. table_of_atom d.groups.items c.args.atom.now) (sym c.tidy.ensures.directory) in
     let w = has_table _ _ _ c.args.atom.now c.tidy.ensures.rested.set_up in
-    stored_put c.tidy.new.self.tables.tables.items c.table_of-table.result c.index_mut.result.now c.insert.new.self
+    stored_put c.tidy.new.self.tables.tables.items c.args.table c.index_mut.result.now c.insert.new.self
     c.args.atom.now (omega (arith, t, w)) c.index_mut.ensures.value c.in_ok-insert.ensures.ok c.insert.ensures.keys
     ∙ ap (λ s. s ⊕ one c.args.atom.now) c.tidy.ensures.stored
 
 pub returns-clause-rested : goal.returns-clause-rested
 returns-clause-rested c =
-    let t : c.table_of-table.result ≡ table_of_atom c.tidy.new.self.directory.groups.items c.args.atom.now =
-    c.table_of-table.ensures ∙ ap (table_of c.args.self.now.directory.groups.items c.args.atom.now.symbol)
-    c.len.ensures.value ∙ ap (λ d. table_of_atom d.groups.items c.args.atom.now) (sym c.tidy.ensures.directory) in
+    let t : c.args.table ≡ table_of_atom c.tidy.new.self.directory.groups.items c.args.atom.now =
+    c.requires.table ∙ ap (λ d. table_of_atom d.groups.items c.args.atom.now) (sym c.tidy.ensures.directory) in
     let w = has_table _ _ _ c.args.atom.now c.tidy.ensures.rested.set_up in
-    let more = stored_put c.tidy.new.self.tables.tables.items c.table_of-table.result c.index_mut.result.now
+    let more = stored_put c.tidy.new.self.tables.tables.items c.args.table c.index_mut.result.now
     c.insert.new.self c.args.atom.now (omega (arith, t, w)) c.index_mut.ensures.value c.in_ok-insert.ensures.ok
     c.insert.ensures.keys in
     record {
-      set_up = set_up_put c.tidy.new.self.tables.tables.items c.table_of-table.result c.index_mut.result.now
+      set_up = set_up_put c.tidy.new.self.tables.tables.items c.args.table c.index_mut.result.now
           c.insert.new.self c.args.atom.now (omega (arith, t, w)) c.index_mut.ensures.value c.in_ok-insert.ensures.ok
           c.insert.ensures.keys
           c.tidy.new.self.rules.items c.tidy.new.self.directory.groups.items t c.tidy.ensures.rested.set_up;

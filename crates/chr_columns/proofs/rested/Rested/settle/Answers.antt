@@ -11,33 +11,30 @@ use Rattle.chr_columns.proofs.rested.Rested.settle.Goals as goal
 
 pub returns-in-Ok-Fired-clause-fired : goal.returns-in-Ok-Fired-clause-fired
 returns-in-Ok-Fired-clause-fired c _ =
-    let s = stored c.loop-fresh.self in
+    let s = stored c.loop-active.self in
     let t = stored c.take.new.self ⊕ store_of c.take.new.fresh.items in
-    let e = popped s c.reserve.new.self.items c.pop.new.self.items c.unwrap-active.result
-    (rw c.unwrap-active.ensures at c.pop.ensures.items) ∙ ap (λ xs. s ⊕ store_of xs) c.reserve.ensures.items
-    ∙ c.loop-fresh.invariant.same in
+    let e = popped s c.reserve.new.self.items c.pop_into.new.fresh.items c.pop_into.new.active c.pop_into.ensures.items
+    ∙ ap (λ xs. s ⊕ store_of xs) c.reserve.ensures.items ∙ c.loop-active.invariant.same in
     let fired = c.take.ensures.fired (c.in-Ok-Fired.is ∙ ap Ok c.in-Ok-Fired.field-0-is) in
-    let own_step = subst (λ v. Step v.items ((s ⊕ store_of c.pop.new.self.items) ⊕ one c.unwrap-active.result) t)
-    c.loop-fresh.invariant.rules fired in
+    let own_step = subst (λ v. Step v.items ((s ⊕ store_of c.pop_into.new.fresh.items) ⊕ one c.pop_into.new.active) t)
+    c.loop-active.invariant.rules fired in
     subst (λ x. Step c.args.self.now.rules.items x t) e own_step
 
-pub loop-fresh-preserved : goal.loop-fresh-preserved
-loop-fresh-preserved c =
-    let s = stored c.loop-fresh.self in
-    let e = popped s c.reserve.new.self.items c.pop.new.self.items c.unwrap-active.result
-    (rw c.unwrap-active.ensures at c.pop.ensures.items) ∙ ap (λ xs. s ⊕ store_of xs) c.reserve.ensures.items
-    ∙ c.loop-fresh.invariant.same in
+pub loop-active-preserved : goal.loop-active-preserved
+loop-active-preserved c =
+    let s = stored c.loop-active.self in
+    let e = popped s c.reserve.new.self.items c.pop_into.new.fresh.items c.pop_into.new.active c.pop_into.ensures.items
+    ∙ ap (λ xs. s ⊕ store_of xs) c.reserve.ensures.items ∙ c.loop-active.invariant.same in
     let is = c.in-Ok-AtRest.is ∙ ap Ok c.in-Ok-AtRest.field-0-is in
     record {
       rested = c.take.ensures.rested;
-      rules = c.take.ensures.rules ∙ c.loop-fresh.invariant.rules;
+      rules = c.take.ensures.rules ∙ c.loop-active.invariant.rules;
       standing = c.take.ensures.standing;
       same = (λ i. c.take.ensures.joined is i ⊕ store_of (c.take.ensures.joined_same is i).items)
-          ∙ swap_sides s (store_of c.pop.new.self.items) (one c.unwrap-active.result) ∙ e;
+          ∙ swap_sides s (store_of c.pop_into.new.fresh.items) (one c.pop_into.new.active) ∙ e;
     }
 
 pub take-requires-clause-standing : goal.take-requires-clause-standing
 take-requires-clause-standing c =
-    stood c.loop-fresh.self c.loop-fresh.fresh.items c.pop.new.self.items c.unwrap-active.result c.loop-fresh.standing
-    c.loop-fresh.invariant.standing (sym c.reserve.ensures.items
-    ∙ (rw c.unwrap-active.ensures at c.pop.ensures.items))
+    stood c.loop-active.self c.loop-active.fresh.items c.pop_into.new.fresh.items c.pop_into.new.active
+    c.loop-active.standing c.loop-active.invariant.standing (sym c.reserve.ensures.items ∙ c.pop_into.ensures.items)
