@@ -57,7 +57,8 @@ below_from : {X : Type 0} (k : OpId) (es : List (OpId × X)) → AllByRecursion 
 below_from k [] h = tt
 below_from k (e ∷ es) h = both _ _ (subst (λ r. T (is_lt r)) (sym h.0) tt) (below_from k es h.1)
 
-sorted_from : {X : Type 0} (es : List (OpId × X)) → IsStrictlySortedBy id_cmp (keys_of es) → T (is_sorted id_cmp es)
+-- the ids of entries rise, said in two ways
+pub sorted_from : {X : Type 0} (es : List (OpId × X)) → IsStrictlySortedBy id_cmp (keys_of es) → T (is_sorted id_cmp es)
 sorted_from [] h = tt
 sorted_from (e ∷ es) h = both _ _ (below_from e.0 es (sorted_head id_cmp e.0 (keys_of es) h))
     (sorted_from es (sorted_tail id_cmp e.0 (keys_of es) h))
@@ -79,7 +80,7 @@ all_below : {X : Type 0} (k : OpId) (es : List (OpId × X)) → T (below_all id_
 all_below k [] h = tt
 all_below k (e ∷ es) h = (is_less (id_cmp k e.0) (first _ _ h), all_below k es (second _ _ h))
 
-ids_sorted : {X : Type 0} (es : List (OpId × X)) → T (is_sorted id_cmp es) → IsStrictlySortedBy id_cmp (keys_of es)
+pub ids_sorted : {X : Type 0} (es : List (OpId × X)) → T (is_sorted id_cmp es) → IsStrictlySortedBy id_cmp (keys_of es)
 unfolding IsStrictlySortedBy
 ids_sorted [] h = tt
 ids_sorted (e ∷ es) h = (all_below e.0 es (first _ _ h), ids_sorted es (second _ _ h))

@@ -1,10 +1,10 @@
 -- Look-ups in a union.
 use Rattle.std.specs.Prelude.{◌≡◌, ℕ, ◌+◌, List, [], ◌∷◌, ◌++◌, Some, None, Option, Bool, true, false, cond, ◌||◌, ◌<◌}
 use Rattle.std.specs.Prelude.{length}
-use Rattle.std.proofs.Common.{refl, sym, ap, ◌∙◌, get_or, take}
+use Rattle.std.proofs.Common.{refl, sym, ap, ◌∙◌, get_or, take, drop}
 use Rattle.std.specs.Option.{option_or, is_some}
 use Rattle.std.specs.List.{list_any}
-use Rattle.std.proofs.lemmas.List.{take_more}
+use Rattle.std.proofs.lemmas.List.{take_more, drop_more}
 use Rattle.std.proofs.lemmas.List.Folds.{list_any-append}
 use Rattle.std.specs.Ordering.{eq_by_cmp}
 use Rattle.std.specs.FinMap as map
@@ -142,6 +142,20 @@ without_removed before now ids i d there h q =
     ∙ gone (list_any (eq_by_cmp id_cmp q) (take i ids)) (eq_by_cmp id_cmp q k) (map.get before q)
     ∙ ap (λ b. cond b None (map.get before q)) (sym (ap (list_any (eq_by_cmp id_cmp q)) (take_more ids i d there)
     ∙ list_any-append (eq_by_cmp id_cmp q) (take i ids) (k ∷ [])))
+
+all_gone : {X : Type 0} (a b : Bool) (x : Option X) → cond a None (cond b None x) ≡ cond (a || b) None x
+all_gone true b x = refl
+all_gone false b x = refl
+
+-- one before the last ids of a list is taken out after them
+pub without_earlier : {X : Type 0} (before now : map.FinMap id_cmp X) (ids : List OpId) (i : ℕ) (d : OpId)
+    → i < length ids → IsWithout now (drop (i + 1) ids) before → IsWithout (map.remove now (get_or ids i d))
+    (drop i ids) before
+without_earlier before now ids i d there h q =
+    let k = get_or ids i d in
+    map.get-remove id_total now k q ∙ ap (cond (eq_by_cmp id_cmp q k) None) (h q)
+    ∙ all_gone (eq_by_cmp id_cmp q k) (list_any (eq_by_cmp id_cmp q) (drop (i + 1) ids)) (map.get before q)
+    ∙ ap (λ xs. cond (list_any (eq_by_cmp id_cmp q) xs) None (map.get before q)) (sym (drop_more ids i d there))
 
 -- what is without the ids that came is what was there
 pub had_back : {X : Type 0} (m n r : map.FinMap id_cmp X) (ids : List OpId) → IsWithout m ids n → IsWithout r ids n

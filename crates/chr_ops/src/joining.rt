@@ -156,11 +156,13 @@ pub(crate) fn take_in_covered(
     Ok(told)
 }
 
-/// Takes the operations of these ids out.
+/// Takes the operations of these ids out, the last first: what was appended then goes from the end.
 pub(crate) fn withdraw(held: &mut Entries, ids: &[OpId])
     ensures { IsWithout held.new ids.now held.old }
 {
-    for id in ids {
-        held.remove(*id);
+    let mut left = ids.len();
+    while left > 0 {
+        left -= 1;
+        held.remove(ids[left]);
     }
 }

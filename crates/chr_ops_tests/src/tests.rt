@@ -1,5 +1,6 @@
 mod exchange;
 mod news;
+mod orders;
 mod sets;
 
 use chr_base::atom::{Atom, SymbolId};

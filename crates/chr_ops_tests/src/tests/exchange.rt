@@ -5,7 +5,7 @@ use std::alloc::Global;
 use std::process::Abort;
 
 /// Whether the ids of the set that the ranges leave out are just these, in this order.
-fn lacks_just(
+pub(super) fn lacks_just(
     rt: &impl Abort,
     alloc: Global,
     set: &OpSet,
@@ -147,7 +147,12 @@ fn range_by(number: u64, first: u64) -> (u32, u64, u64) {
 }
 
 /// Some such ranges.
-fn ranges_by(rt: &impl Abort, alloc: Global, seed: u64, first: u64) -> Vec<(u32, u64, u64)> {
+pub(super) fn ranges_by(
+    rt: &impl Abort,
+    alloc: Global,
+    seed: u64,
+    first: u64,
+) -> Vec<(u32, u64, u64)> {
     let mut ranges = Vec::new(alloc);
     let mut number = seed;
     for _ in 0..seed % 13 {
@@ -168,7 +173,7 @@ fn is_covered(ranges: &[(u32, u64, u64)], id: (u32, u64)) -> bool {
 }
 
 /// The ids that the ranges leave out, tried one by one.
-fn left_out(
+pub(super) fn left_out(
     rt: &impl Abort,
     alloc: Global,
     ids: &[(u32, u64)],
