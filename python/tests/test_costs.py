@@ -69,6 +69,7 @@ FOURS = ":- chr_constraint a/1, b/1, c/1, d/1. a(X), b(X), c(X), d(X) <=> true."
 CROSSED = ":- chr_constraint a/3. " + " ".join(
     f"a(A,B,C) \\ a(A,D,E) <=> B < D, C > E, A > {k} | true." for k in range(4)
 )
+DRAFTS = ":- chr_constraint draft/1, final/0. final \\ draft(X) <=> true."
 STAIRS = ":- chr_constraint p/2. p(X,Y) \\ p(Z,W) <=> X =< Z, Y =< W | true."
 STEEPER = ":- chr_constraint p/3. p(K,X,A) \\ p(K,Y,B) <=> X < Y, A > B | true."
 HALVES = 16
@@ -220,6 +221,13 @@ def one_merge(count: int) -> str:
     return f'{PLAIN}\n---\n["merge",1,[{delta}]]\n["lacks",1,[]]\n'
 
 
+def refused_merge(count: int) -> str:
+    """All operations of one line are new but the last, whose id stands for another bag, so that all are taken back."""
+    told = "\n".join(f'["tell",1,[1,{number}],[["a",0]]]' for number in range(count))
+    delta = ",".join(f'[[1,{count + number}],[["a",0]]]' for number in range(count))
+    return f'{PLAIN}\n---\n{told}\n["merge",1,[{delta},[[1,0],[["a",1]]]]]\n["summary",1]\n'
+
+
 def halved(count: int) -> str:
     """Few atoms become many, step by step: each of them two lighter ones, sixteen times."""
     names = [f"b{place}/0" for place in range(HALVES + 1)]
@@ -229,6 +237,13 @@ def halved(count: int) -> str:
     return shown(text, [(f"b{HALVES}", ())] * count)
 
 
+def shows_after_deaths(count: int) -> str:
+    """One fact takes all others, and what it leaves is shown again and again."""
+    atoms: list[tuple[str, tuple[int, ...]]] = [("draft", (number,)) for number in range(count)]
+    shows = ['["show",1]'] * (count // 4)
+    return "\n".join([DRAFTS, "---", *tells([*atoms, ("final", ())]), *shows, ""])
+
+
 def long_text(count: int) -> str:
     """Far too long, and read to its end."""
     return "a" * count
@@ -236,12 +251,13 @@ def long_text(count: int) -> str:
 
 @dataclass(frozen=True)
 class Input:
-    """So that its smaller one takes 8 to 90 ms on one processor. No line of the larger one is refused."""
+    """So that its smaller one takes 8 to 90 ms on one processor, and whether a line is refused."""
 
     of: Callable[[int], str]
     size: int
     words: tuple[str, ...] = ("run",)
     status: int = 0
+    refused: bool = False
 
 
 INPUTS = (
@@ -264,7 +280,9 @@ INPUTS = (
     Input(exchanges, 10_000, ("run", "--replicas", "2")),
     Input(exchanges_with_gaps, 10_000, ("run", "--replicas", "2")),
     Input(one_merge, 10_000),
+    Input(refused_merge, 10_000, refused=True),
     Input(halved, 2),
+    Input(shows_after_deaths, 20_000),
     Input(long_text, 20_000_000, ("check",), status=1),
 )
 
@@ -303,9 +321,9 @@ def most_memory(pid: int) -> int:
 
 
 def seconds(of: Input, given: str) -> float:
-    """The processor time of one run, in which no line is refused."""
+    """The processor time of one run, in which a line is refused or none, as is said of it."""
     end = run_of(of.words, given)
-    assert (end.status, b"\nrefused" in end.output) == (of.status, False), of
+    assert (end.status, b"\nrefused" in end.output) == (of.status, of.refused), of
     return end.seconds
 
 
