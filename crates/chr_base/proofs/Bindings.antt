@@ -7,8 +7,8 @@ use Rattle.chr_base.specs.declared.atom.Atom.{Atom}
 use Rattle.chr_base.specs.declared.term.Term.{Term}
 use Rattle.chr_base.specs.declared.term.Pattern.{Pattern}
 use Rattle.chr_base.specs.RuleTests.{numbered, terms_of}
-use Rattle.chr_base.specs.Rules.{Valuation, term_value, atom_at, atoms_at}
-use Rattle.chr_base.specs.working.Bindings.{Binds, Keeps, Refuses, valued}
+use Rattle.chr_base.specs.Rules.{Valuation, term_value, atom_at, atoms_at, valued}
+use Rattle.chr_base.specs.working.Bindings.{Binds, Keeps, Refuses}
 use Rattle.chr_base.proofs.Terms.{first_numbered, then_numbered}
 
 -- ---- terms after terms

@@ -1,6 +1,6 @@
 -- The declarations as the symbol table has them.
 use Rattle.std.proofs.Common.{◌≡◌, ℕ, zero, suc, ◌+◌, ◌<◌, ◌≤◌, Bool, true, false, cond, List, [], ◌∷◌, ◌++◌, length}
-use Rattle.std.proofs.Common.{refl, sym, ap, ◌∙◌, arith, inl, inr, ◌⊎◌, length-append}
+use Rattle.std.proofs.Common.{refl, sym, ap, ◌∙◌, arith, inl, inr, ◌⊎◌, length-append, map}
 use Rattle.std.specs.Prelude.{not, nat_lt, nat_le, nat_eq, position, Option, Some, None, ◌&&◌, ◌||◌, slice_get, IsTrue}
 use Rattle.std.specs.Prelude.{Result, Ok, Err, OnOk, OnErr, option_map, IsSome}
 use Rattle.std.specs.Borrow.{Bor}
@@ -10,6 +10,9 @@ use Rattle.std.specs.Map.{keys_of}
 use mathlib.Core.Bool.{true≢false}
 use Rattle.std.specs.Str.{bytes_eq}
 use Rattle.std.proofs.lemmas.Bool.{eqb-true, eq-eqb, and_from, and_parts}
+use Rattle.std.proofs.lemmas.List.{length-map}
+use Rattle.std.proofs.lemmas.Map.Entries.{length-keys_of}
+use Rattle.std.proofs.lemmas.Option.{slice_get-map}
 use Rattle.std.proofs.lemmas.List.Folds.{list_any-append}
 use Rattle.indexmap.specs.IndexMap.{insert_entry}
 use Rattle.std.proofs.lemmas.Slice.Eq.{bytes_eq-Decides}
@@ -21,32 +24,24 @@ use Rattle.chr_base.specs.declared.term.Pattern.{Pattern}
 use Rattle.std.proofs.lemmas.Bool.Decides.{nat_tests}
 use Rattle.chr_base.specs.declared.program.Symbol.{Symbol}
 use Rattle.chr_base.specs.Names.{is_name}
-use Rattle.chr_base.specs.ProgramTests.{Declaration, declared, declarations_in, declares, is_in_range, is_program}
+use Rattle.chr_base.specs.ProgramTests.{Declaration, declared, declares, is_in_range, is_program}
 use Rattle.chr_base.specs.ProgramTests.{are_distinct, fits, takes, is_declared}
-
-pub length-declarations : (es : List (Symbol × Weight)) → length (declarations_in es) ≡ length es
-length-declarations [] = refl
-length-declarations (e ∷ es) = ap suc (length-declarations es)
-
-pub length-keys : (es : List (Symbol × Weight)) → length (keys_of es) ≡ length es
-length-keys [] = refl
-length-keys (e ∷ es) = ap suc (length-keys es)
 
 -- a key passes the table's test just where its declaration is that of the name and number of arguments
 abbrev pub SameTest : (Symbol → Bool) → List ℕ → ℕ → Type 0
 SameTest test name arity = (k : Symbol) → test k ≡ (bytes_eq name k.name.bytes && nat_eq arity k.arity)
 
 places : (test : Symbol → Bool) (name : List ℕ) (arity : ℕ) → SameTest test name arity → (es : List (Symbol × Weight))
-    → position_or_len test (keys_of es) ≡ position_or_len (declares name arity) (declarations_in es)
+    → position_or_len test (keys_of es) ≡ position_or_len (declares name arity) (map declared es)
 places test name arity same [] = refl
 places test name arity same (e ∷ es) = let h = same e.0 in let more = places test name arity same es in
     λ i. cond (not (h i)) (1 + more i) 0
 
 pub position-keys : (test : Symbol → Bool) (name : List ℕ) (arity : ℕ) → SameTest test name arity
-    → (es : List (Symbol × Weight)) → position test (keys_of es) ≡ position (declares name arity) (declarations_in es)
+    → (es : List (Symbol × Weight)) → position test (keys_of es) ≡ position (declares name arity) (map declared es)
 position-keys test name arity same es =
     let p = places test name arity same es in
-    let l : length (keys_of es) ≡ length (declarations_in es) = length-keys es ∙ sym (length-declarations es) in
+    let l : length (keys_of es) ≡ length (map declared es) = length-keys_of es ∙ sym (length-map es declared) in
     λ i. cond (nat_lt (p i) (l i)) (Some (p i)) None
 
 -- ---- no declaration has a name or a number of arguments that is too long
@@ -197,28 +192,28 @@ place_within p xs i h = by (nat_lt (position_or_len p xs) (length xs)) refl h
     by false e h = absurd (let m : ◌≡◌ {A = Option ℕ} None (Some i) = rw e at h in cc)
 
 pub key_within : (test : Symbol → Bool) (es : List (Symbol × Weight)) (rs : List Rule) (i : ℕ)
-    → IsTrue (is_program (declarations_in es) rs) → position test (keys_of es) ≡ Some i → i < MAX_SYMBOLS
+    → IsTrue (is_program (map declared es) rs) → position test (keys_of es) ≡ Some i → i < MAX_SYMBOLS
 key_within test es rs i h e =
-    let a = place_within test (keys_of es) i e in let b = length-keys es in let c = length-declarations es in let d =
+    let a = place_within test (keys_of es) i e in let b = length-keys_of es in let c = length-map es declared in let d =
     (kept_by _ rs h).symbols in omega (arith, a, b, c, d)
 
 -- the table with one more symbol
 pub declared_last : (test : Symbol → Symbol → Bool) (k : Symbol) (w : Weight) → SameTest (test k) k.name.bytes k.arity
-    → (es : List (Symbol × Weight)) → list_any (declares k.name.bytes k.arity) (declarations_in es) ≡ false
-    → declarations_in (insert_entry test es k w) ≡ declarations_in es ++ declared (k, w) ∷ []
+    → (es : List (Symbol × Weight)) → list_any (declares k.name.bytes k.arity) (map declared es) ≡ false
+    → map declared (insert_entry test es k w) ≡ map declared es ++ declared (k, w) ∷ []
 declared_last test k w same [] h = refl
 declared_last test k w same (e ∷ es) h = by (declares k.name.bytes k.arity (declared e)) refl h
     (declared_last test k w same es)
   where
     by : (b : Bool) → declares k.name.bytes k.arity (declared e) ≡ b
-        → (declares k.name.bytes k.arity (declared e) || list_any (declares k.name.bytes k.arity) (declarations_in es))
+        → (declares k.name.bytes k.arity (declared e) || list_any (declares k.name.bytes k.arity) (map declared es))
         ≡ false
-        → (list_any (declares k.name.bytes k.arity) (declarations_in es) ≡ false
-        → declarations_in (insert_entry test es k w) ≡ declarations_in es ++ declared (k, w) ∷ [])
-        → declarations_in (insert_entry test (e ∷ es) k w) ≡ declared e ∷ (declarations_in es ++ declared (k, w) ∷ [])
+        → (list_any (declares k.name.bytes k.arity) (map declared es) ≡ false
+        → map declared (insert_entry test es k w) ≡ map declared es ++ declared (k, w) ∷ [])
+        → map declared (insert_entry test (e ∷ es) k w) ≡ declared e ∷ (map declared es ++ declared (k, w) ∷ [])
     by true q h more = absurd (let m : true ≡ false = rw q at h in true≢false m)
     by false q h more = let t : test k e.0 ≡ false = same e.0 ∙ q in
-        rw t (ap (λ ds. declared e ∷ ds) (more (let m : list_any (declares k.name.bytes k.arity) (declarations_in es)
+        rw t (ap (λ ds. declared e ∷ ds) (more (let m : list_any (declares k.name.bytes k.arity) (map declared es)
         ≡ false = rw q at h in m)))
 
 distinct_more : (ds : List Declaration) (d : Declaration) → are_distinct ds ≡ true
@@ -293,16 +288,10 @@ after_adding ds cs rs name arity n a (Ok x) p q e f h l w u v new =
     (new_in_range name arity w u v) new
 after_adding ds cs rs name arity n a (Err x) p q e f h l w u v new = rw f h
 
-pub slice_get-declarations : (es : List (Symbol × Weight)) (i : ℕ) → slice_get (declarations_in es) i
-    ≡ option_map declared (slice_get es i)
-slice_get-declarations [] i = refl
-slice_get-declarations (e ∷ es) zero = refl
-slice_get-declarations (e ∷ es) (suc i) = slice_get-declarations es i
-
 -- what the table has at a place is the declaration there
 pub found : (r : Option (Bor Symbol × Bor Weight)) (es : List (Symbol × Weight)) (i : ℕ) → option_map deref_pair r
-    ≡ slice_get es i → option_map (λ p. declared (p.0.now, p.1.now)) r ≡ slice_get (declarations_in es) i
-found r es i h = by r ∙ ap (option_map declared) h ∙ sym (slice_get-declarations es i)
+    ≡ slice_get es i → option_map (λ p. declared (p.0.now, p.1.now)) r ≡ slice_get (map declared es) i
+found r es i h = by r ∙ ap (option_map declared) h ∙ sym (slice_get-map declared es i)
   where
     by : (r : Option (Bor Symbol × Bor Weight)) → option_map (λ p. declared (p.0.now, p.1.now)) r
         ≡ option_map declared (option_map deref_pair r)

@@ -5,9 +5,9 @@ use mathlib.Core.Bool.{true≢false}
 use Rattle.chr_base.specs.declared.atom.Atom.{Atom}
 use Rattle.chr_base.specs.declared.rule.Rule.{Rule}
 use Rattle.chr_base.specs.declared.term.Pattern.{Pattern}
-use Rattle.chr_base.specs.Rules.{HasInstance, Valuation, heads_of, heads_at, atom_at, atoms_at, guard_holds}
+use Rattle.chr_base.specs.Rules.{HasInstance, Valuation, heads_of, heads_at, atom_at, atoms_at, guard_holds, valued}
 use Rattle.chr_base.specs.RuleTests.{numbered, terms_of}
-use Rattle.chr_base.specs.working.Bindings.{Binds, Refuses, valued}
+use Rattle.chr_base.specs.working.Bindings.{Binds, Refuses}
 use Rattle.chr_base.proofs.Instances.{same_on, same_atoms, same_guard, numbered_rule, guard_known, body_known}
 use Rattle.chr_base.proofs.Terms.{terms_of-append, first_numbered}
 use Rattle.chr_base.proofs.Bindings.{binds_then, refuses_then, rest_numbered, cut_iff, comes_out, keeps_none}

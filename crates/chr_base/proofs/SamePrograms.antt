@@ -12,7 +12,7 @@ use Rattle.chr_base.specs.declared.weight.Weight.{Weight}
 use Rattle.chr_base.specs.declared.program.Symbol.{Symbol}
 use Rattle.chr_base.specs.declared.program.Program.{Program}
 use Rattle.chr_base.specs.declared.rule.Rule.{Rule}
-use Rattle.chr_base.specs.ProgramTests.{declared, declarations_in}
+use Rattle.chr_base.specs.ProgramTests.{declared}
 use Rattle.chr_base.specs.Sameness.{AreSame, parts_of}
 use Rattle.chr_base.proofs.SameRules.{both_decide, parts_decide, pattern_decides, comparison_decides}
 
@@ -36,10 +36,6 @@ seen_alike {A} {B} E g d (x ∷ xs) (y ∷ ys) =
           let b : map g xs ≡ map g ys = cc in both.1 (a, b)),
     )
 
-declared_each : (es : List (Symbol × Weight)) → declarations_in es ≡ map declared es
-declared_each [] = refl
-declared_each (e ∷ es) = ap (λ ds. declared e ∷ ds) (declared_each es)
-
 weight_decides : (v w : Weight) → Decides (weight.eq-value.it v w) (v ≡ w)
 weight_decides v w =
     let both = both_decide _ _ (unsigned_Decides v.first w.first) (unsigned_Decides v.second w.second) in (
@@ -61,11 +57,10 @@ rule_decides r s = parts_decide _ _ pattern_decides comparison_decides r s (rule
 
 symbols_decide : (es fs : List (Symbol × Weight)) → Decides
     (pointwise (λ e f. symbol.eq-value.it e.0 f.0 && weight.eq-value.it e.1 f.1) es fs)
-    (declarations_in es ≡ declarations_in fs)
+    (map declared es ≡ map declared fs)
 symbols_decide es fs =
-    let d = seen_alike (λ (e f : Symbol × Weight). symbol.eq-value.it e.0 f.0 && weight.eq-value.it e.1 f.1) declared
-    entry_decides es fs in
-    (λ h. declared_each es ∙ d.0 h ∙ sym (declared_each fs), λ q. d.1 (sym (declared_each es) ∙ q ∙ declared_each fs))
+    seen_alike (λ (e f : Symbol × Weight). symbol.eq-value.it e.0 f.0 && weight.eq-value.it e.1 f.1) declared
+    entry_decides es fs
 
 pub programs_decide : (p q : Program) (es fs : List (Symbol × Weight)) (rs ss : List Rule) (a b : Bool)
     → es ≡ p.symbols.entries → fs ≡ q.symbols.entries → rs ≡ p.rules.items → ss ≡ q.rules.items

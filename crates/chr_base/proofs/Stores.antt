@@ -70,5 +70,16 @@ length_total (x ∷ xs) = let h = length_total xs in omega (arith, h)
 pub size_weight : (s : Store) → size s ≡ weight_of (λ _. 1) s
 size_weight s = length_total (bag.items s) ∙ sym (laws.sum_over-items (λ _. 1) s)
 
+pub size_plus : (s t : Store) → size (s ⊕ t) ≡ size s + size t
+size_plus s t =
+    let a = size_weight (s ⊕ t) in
+    let b = size_weight s in
+    let c = size_weight t in
+    let d = weight_plus (λ _. 1) s t in
+    omega (arith, a, b, c, d)
+
+pub size_empty : size bag.empty ≡ 0
+size_empty = size_weight bag.empty ∙ laws.sum_over-empty atom_cmp (λ _. 1)
+
 pub size_store_of : (xs : List Atom) → size (store_of xs) ≡ length xs
 size_store_of xs = size_weight (store_of xs) ∙ weight_store_of (λ _. 1) xs ∙ sym (length_total xs)

@@ -1,5 +1,5 @@
 -- The declarations with another weight at one place.
-use Rattle.std.proofs.Common.{◌≡◌, ℕ, zero, suc, true, List, [], ◌∷◌, length, refl, ap, ◌∙◌, arith}
+use Rattle.std.proofs.Common.{◌≡◌, ℕ, zero, suc, true, List, [], ◌∷◌, length, map, refl, ap, ◌∙◌, arith}
 use Rattle.std.specs.Prelude.{not, ◌&&◌, ◌||◌, slice_get, IsTrue, Option, Some, None}
 use Rattle.std.specs.Map.{values_of}
 use Rattle.std.specs.List.{list_all, list_any}
@@ -10,12 +10,12 @@ use Rattle.chr_base.specs.declared.weight.Weight.{Weight}
 use Rattle.chr_base.specs.Weights.{is_paired, is_weight}
 use Rattle.chr_base.specs.declared.rule.Rule.{Rule}
 use Rattle.chr_base.specs.declared.term.Pattern.{Pattern}
-use Rattle.chr_base.specs.ProgramTests.{Declaration, declared, declarations_in, with_weight, declares, is_in_range}
+use Rattle.chr_base.specs.ProgramTests.{Declaration, declared, with_weight, declares, is_in_range}
 use Rattle.chr_base.specs.ProgramTests.{is_program, are_distinct, fits, takes, is_declared, some_paired}
 use Rattle.chr_base.proofs.Declared.{kept_by, keep}
 
-pub weighed : (es : List (Symbol × Weight)) (i : ℕ) (w : Weight) → declarations_in (set_value_at es i w)
-    ≡ with_weight (declarations_in es) i w
+pub weighed : (es : List (Symbol × Weight)) (i : ℕ) (w : Weight) → map declared (set_value_at es i w)
+    ≡ with_weight (map declared es) i w
 weighed [] i w = refl
 weighed (e ∷ es) zero w = refl
 weighed (e ∷ es) (suc i) w = ap (λ ds. declared e ∷ ds) (weighed es i w)
@@ -84,12 +84,12 @@ still_program ds cs rs i w e l h =
 
 -- nothing at the place: no weight changes
 pub nothing_there : (es : List (Symbol × Weight)) (i : ℕ) (w : Weight) → None ≡ slice_get (values_of es) i
-    → declarations_in es ≡ with_weight (declarations_in es) i w
+    → map declared es ≡ with_weight (map declared es) i w
 nothing_there [] i w h = refl
 nothing_there (e ∷ es) zero w h = absurd (let m : ◌≡◌ {A = Option Weight} None (Some e.1) = h in cc)
 nothing_there (e ∷ es) (suc i) w h = ap (λ ds. declared e ∷ ds) (nothing_there es i w h)
 
 -- the weights of the entries are those of the declarations
-pub paired_values : (es : List (Symbol × Weight)) → list_any is_paired (values_of es) ≡ some_paired (declarations_in es)
+pub paired_values : (es : List (Symbol × Weight)) → list_any is_paired (values_of es) ≡ some_paired (map declared es)
 paired_values [] = refl
 paired_values (e ∷ es) = ap (λ b. is_paired e.1 || b) (paired_values es)

@@ -25,10 +25,6 @@ new_declaration name arity = record { name = name; arity = arity; weight = defau
 abbrev pub declared : Symbol × Weight → Declaration
 declared e = record { name = e.0.name.bytes; arity = e.0.arity; weight = e.1 }
 
-abbrev pub declarations_in : List (Symbol × Weight) → List Declaration
-declarations_in [] = []
-declarations_in (e ∷ es) = declared e ∷ declarations_in es
-
 -- the declarations, the one at place i with another weight
 abbrev pub with_weight : List Declaration → ℕ → Weight → List Declaration
 with_weight [] i w = []

@@ -1,13 +1,13 @@
 -- What a program is seen as.
-use Rattle.std.specs.Prelude.{ℤ, ℕ, Bool, List, length, slice_get, position, Option, option_map}
+use Rattle.std.specs.Prelude.{ℤ, ℕ, Bool, List, map, length, slice_get, position, Option, option_map}
 use Rattle.chr_base.specs.declared.atom.Atom.{Atom}
 use Rattle.chr_base.specs.declared.rule.Rule.{Rule}
 use Rattle.chr_base.specs.declared.program.Program.{Program}
-use Rattle.chr_base.specs.ProgramTests.{Declaration, declarations_in, takes, declares}
+use Rattle.chr_base.specs.ProgramTests.{Declaration, declared, takes, declares}
 
 -- its declarations, in order
 abbrev pub declarations : Program → List Declaration
-declarations p = declarations_in p.symbols.entries
+declarations p = map declared p.symbols.entries
 
 -- its rules, in order
 abbrev pub rules_of : Program → List Rule

@@ -1,5 +1,5 @@
 -- Instances of rules, and the steps of a program on stores.
-use Rattle.std.specs.Prelude.{◌≡◌, ℕ, ℤ, Bool, ◌&&◌, List, [], ◌++◌, map, length, nat_eq, Some, slice_get, IsTrue, ◌<◌}
+use Rattle.std.specs.Prelude.{◌≡◌, ◌<◌, ◌-◌, ◌&&◌, ℕ, ℤ, pos, Bool, IsTrue, List, [], ◌++◌, map, length, get_or, nat_eq, Some, slice_get}
 use Rattle.std.specs.declared.cmp.Ordering.{Ordering}
 use Rattle.std.specs.Ordering.{int_cmp, is_lt, is_le, is_gt, is_ge, is_eq, is_ne}
 use Rattle.std.specs.List.{list_all}
@@ -17,6 +17,10 @@ use Rattle.chr_base.specs.FinBag.{◌⊕◌, ◌⊖◌, IsWithin, total}
 -- a value for each variable
 abbrev pub Valuation : Type 0
 Valuation = ℕ → ℤ
+
+-- the valuation that gives the variables 1, 2, .. these values, and 0 to those past them
+abbrev pub valued : List ℤ → Valuation
+valued vs x = get_or vs (x - 1) (pos 0)
 
 abbrev pub term_value : Valuation → Term → ℤ
 term_value v (Variable x) = v x

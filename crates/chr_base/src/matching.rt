@@ -3,16 +3,13 @@ ghost use Rattle.std.specs.Prelude.{◌≡◌, ◌<◌, ◌≤◌, ◌+◌, ◌*
 ghost use Rattle.std.specs.Prelude.{vec_capacity};
 ghost use Rattle.std.specs.Bool.{OnTrue, OnFalse};
 ghost use Rattle.chr_base.specs.RuleTests.{numbered, terms_of};
-ghost use Rattle.chr_base.specs.Rules.{atom_at, atoms_at, comparison_holds, term_value};
-ghost use Rattle.chr_base.specs.working.Bindings.{Binds, Refuses, is_new, valued};
+ghost use Rattle.chr_base.specs.Rules.{atom_at, atoms_at, comparison_holds, term_value, valued};
+ghost use Rattle.chr_base.specs.working.Bindings.{Binds, Refuses, is_new};
 
 use crate::atom::Atom;
 use crate::limits::{MAX_ARITY, MAX_VARIABLES};
+use crate::rule::Values;
 use crate::term::{Cmp, Comparison, Pattern, Term};
-use arrayvec::ArrayVec;
-
-/// The values of the variables 1, 2, .. of a rule's heads.
-pub(crate) type Values = ArrayVec<i64, MAX_VARIABLES>;
 
 /// The value of a term, 0 for a variable that has none.
 fn value_of(values: &[i64], term: &Term) -> i64

@@ -1,8 +1,8 @@
 //! Programs: declared symbols with their weights, and rules.
-ghost use Rattle.std.specs.Prelude.{◌≡◌, ◌≤◌, ◌++◌, [], ◌∷◌, IsTrue, None, OnOk, OnErr, position, length};
+ghost use Rattle.std.specs.Prelude.{◌≡◌, ◌≤◌, ◌++◌, [], ◌∷◌, IsTrue, None, OnOk, OnErr, position, length, map};
 ghost use Rattle.std.specs.List.{list_any};
 ghost use Rattle.chr_base.specs.Weights.{is_paired};
-ghost use Rattle.chr_base.specs.ProgramTests.{declarations_in, declares, is_program, new_declaration, with_weight};
+ghost use Rattle.chr_base.specs.ProgramTests.{declared, declares, is_program, new_declaration, with_weight};
 
 use crate::atom::{Atom, SymbolId};
 use crate::limits::{MAX_ARITY, MAX_NAME, MAX_RULES, MAX_SYMBOLS};
@@ -28,7 +28,7 @@ struct Symbol {
 pub struct Program {
     symbols: IndexMap<Symbol, Weight>,
     rules: Vec<Rule>,
-    ghost well_formed: { IsTrue (is_program (declarations_in symbols.entries) rules.items) },
+    ghost well_formed: { IsTrue (is_program (map declared symbols.entries) rules.items) },
 }
 
 /// What is derived would be proved again in each crate that lets a program go.
@@ -73,10 +73,10 @@ impl Symbol {
 
 /// Puts a new symbol last, with the default weight.
 fn add_symbol(symbols: &mut IndexMap<Symbol, Weight>, symbol: Symbol) -> Result<(), AllocError>
-    requires new { position (declares symbol.name.bytes symbol.arity) (declarations_in symbols.old.entries) ≡ None }
-    ensures ok { OnOk result (declarations_in symbols.new.entries
-        ≡ declarations_in symbols.old.entries ++ new_declaration symbol.name.bytes symbol.arity ∷ []) }
-    ensures err { OnErr result (declarations_in symbols.new.entries ≡ declarations_in symbols.old.entries) }
+    requires new { position (declares symbol.name.bytes symbol.arity) (map declared symbols.old.entries) ≡ None }
+    ensures ok { OnOk result (map declared symbols.new.entries
+        ≡ map declared symbols.old.entries ++ new_declaration symbol.name.bytes symbol.arity ∷ []) }
+    ensures err { OnErr result (map declared symbols.new.entries ≡ map declared symbols.old.entries) }
 {
     symbols.insert(symbol, DEFAULT_WEIGHT)?;
     Ok(())
@@ -85,7 +85,7 @@ fn add_symbol(symbols: &mut IndexMap<Symbol, Weight>, symbol: Symbol) -> Result<
 /// Changes the weight at a place.
 #[tactic(auto, using(crate::proofs::Weighing::weighed, crate::proofs::Weighing::nothing_there))]
 fn put_weight(symbols: &mut IndexMap<Symbol, Weight>, place: usize, weight: Weight)
-    ensures { declarations_in symbols.new.entries ≡ with_weight (declarations_in symbols.old.entries) place weight }
+    ensures { map declared symbols.new.entries ≡ with_weight (map declared symbols.old.entries) place weight }
 {
     match symbols.get_index_mut(place) {
         Some(value) => *value = weight,

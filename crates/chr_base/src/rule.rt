@@ -4,8 +4,8 @@ ghost use Rattle.std.specs.Bool.{Decides};
 ghost use Rattle.chr_base.specs.RuleTests.{is_in_bounds, is_rule};
 
 use crate::atom::Atom;
-use crate::limits::{MAX_BODY, MAX_COMPARISONS, MAX_HEADS, MAX_NAME};
-use crate::matching::{Values, bind, holds, instance_of, push_instances};
+use crate::limits::{MAX_BODY, MAX_COMPARISONS, MAX_HEADS, MAX_NAME, MAX_VARIABLES};
+use crate::matching::{bind, holds, instance_of, push_instances};
 use crate::term::{Comparison, Pattern, Term};
 use arrayvec::{ArrayString, ArrayVec};
 
@@ -26,6 +26,9 @@ pub struct Rule {
     pub ghost bounded: { IsTrue (is_in_bounds
         (option_map (λ n. n.bytes) name) (kept.items ++ removed.items) guard.items body.items) },
 }
+
+/// The values of a rule's variables 1, 2 and so on.
+pub type Values = ArrayVec<i64, MAX_VARIABLES>;
 
 /// Copies of these patterns.
 fn copies_of<const CAP: usize>(patterns: &ArrayVec<Pattern, CAP>) -> ArrayVec<Pattern, CAP>
@@ -93,8 +96,7 @@ impl Rule {
     ghost use Rattle.std.specs.Prelude.{◌≡◌, ◌<◌, ◌≤◌, ◌+◌, ◌↔◌, IsTrue, length, get_or, List, [], ◌∷◌, ◌++◌, vec_len};
     ghost use Rattle.std.specs.Prelude.{vec_capacity};
     ghost use Rattle.chr_base.specs.Rules.{heads_of, no_pattern, heads_at, atoms_at, guard_holds, HasInstance};
-    ghost use Rattle.chr_base.specs.Rules.{Valuation};
-    ghost use Rattle.chr_base.specs.working.Bindings.{valued};
+    ghost use Rattle.chr_base.specs.Rules.{Valuation, valued};
     ghost use Rattle.std.specs.Bool.{OnTrue, OnFalse};
     ghost use Rattle.chr_base.specs.Sameness.{parts_of};
 
@@ -147,11 +149,19 @@ impl Rule {
     pub fn fires(&self, heads: &[Atom]) -> bool
         ensures { IsTrue result ↔ HasInstance self.now heads.now }
     {
+        self.fires_by(heads, &mut Values::new())
+    }
+
+    /// The same. Where there is such an instance, the values become those of its variables.
+    pub fn fires_by(&self, heads: &[Atom], values: &mut Values) -> bool
+        ensures fires { IsTrue result ↔ HasInstance self.now heads.now }
+        ensures values { OnTrue result (heads_at (valued values.new.items) self.now ≡ heads.now) }
+    {
         if heads.len() != self.places() {
             return false;
         }
-        let mut values = Values::new();
-        if !self.bind(heads, &mut values) {
+        values.clear();
+        if !self.bind(heads, values) {
             return false;
         }
         self.guard_holds(values.as_slice())
@@ -173,20 +183,14 @@ impl Rule {
         body
     }
 
-    /// Puts the body of the instance with these heads at the end, where there is room for it.
-    pub fn push_body(&self, heads: &[Atom], items: &mut Vec<Atom>)
-        requires instance { HasInstance self.now heads.now }
-        requires room { vec_len items.old + MAX_BODY ≤ vec_capacity items.old }
-        ensures items { (v : Valuation) → heads_at v self.now ≡ heads.now →
-            items.new.items ≡ items.old.items ++ atoms_at v self.now.body.items }
+    /// Puts the body under these values of the variables at the end, where there is room for it.
+    pub fn push_body(&self, values: &[i64], items: &mut Vec<Atom>)
+        requires { vec_len items.old + MAX_BODY ≤ vec_capacity items.old }
+        ensures items { items.new.items ≡ items.old.items ++ atoms_at (valued values.now) self.now.body.items }
         ensures room { vec_len items.new ≤ vec_len items.old + MAX_BODY }
         ensures capacity { vec_capacity items.new ≡ vec_capacity items.old }
     {
-        let mut values = Values::new();
-        // The heads are an instance's, so they bind.
-        if self.bind(heads, &mut values) {
-            push_instances(items, values.as_slice(), self.body.as_slice());
-        }
+        push_instances(items, values, self.body.as_slice());
     }
 
     /// An equal rule. It takes no memory.

@@ -5,7 +5,7 @@ use Rattle.std.proofs.Common.{set, take, get_or, refl, sym, ap, subst, ◌∙◌
 use Rattle.std.specs.Prelude.{Option, Some, None, Result, Ok, Err, OnOk, slice_get, codes, filter, is_some}
 use Rattle.std.specs.Borrow.{Bor}
 use Rattle.std.specs.List.{flat_map}
-use Rattle.std.proofs.lemmas.List.{append-nil, flat_map_more, nil_from_length, map_more, map_push, take_more}
+use Rattle.std.proofs.lemmas.List.{flat_map_more, nil_from_length, map_more, map_push, take_more}
 use Rattle.std.specs.Ordering.{is_gt}
 use Rattle.chr_base.specs.declared.atom.Atom.{Atom}
 use Rattle.chr_base.specs.ProgramTests.{Declaration}
@@ -44,13 +44,6 @@ rises_more ds xs last a h after = record {
       subst (λ z. is_gt (print_cmp ds x z) ≡ false) (one_there a y l) (after x (h.last_is ∙ k)));
   last_is = sym (last_more xs a);
 }
-
--- no atom yet
-pub none_rise : (ds : List Declaration) → Rises ds [] None
-none_rise ds = record { rises = refl; last_is = refl }
-
-pub none_written : (ds : List Declaration) (start : List ℕ) → IsWritten ds start [] false start
-none_written ds start = record { text_is = sym (append-nil start); some = λ e. absurd (cc); none = λ e. refl }
 
 -- what is left to write where all atoms are
 pub all_written : (ds : List Declaration) (start : List ℕ) (xs : List Atom) (started : Bool) (text new : List ℕ)

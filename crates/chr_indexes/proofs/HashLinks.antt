@@ -239,18 +239,3 @@ pushed slots alive links heads s n x flag c l room en is =
             c.next_in r rin in omega (arith, v, a))
       ]);
     }
-
--- no rows, in slots that are all empty
-pub chained_none : (heads : List ℕ) → ((s : ℕ) → get_or heads s 0 ≡ 0) → IsChained [] [] [] heads
-chained_none heads empty = record {
-  as_links = refl;
-  as_alive = refl;
-  few = omega arith;
-  in_heads = λ r g. (absurd (omega (arith, g)));
-  first = λ r g live. (absurd (omega (arith, g)));
-  next = λ r q g under same live. (absurd (omega (arith, g)));
-  first_slot = λ s g p. (absurd (let z = empty s in omega (arith, z, p)));
-  next_slot = λ r g p. (absurd (omega (arith, g)));
-  first_in = λ s g. (let z = empty s in omega (arith, z));
-  next_in = λ r g. (absurd (omega (arith, g)));
-}

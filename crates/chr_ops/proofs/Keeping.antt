@@ -17,9 +17,9 @@ use Rattle.chr_ops.specs.declared.range.IdRange.{IdRange}
 use Rattle.chr_ops.specs.Summaries.{covers, CoversJust, IsApart}
 use Rattle.chr_ops.specs.News.{is_one_of}
 use Rattle.chr_ops.specs.working.Joining.{AddsIds, IsWithout}
+use Rattle.chr_base.proofs.Stores.{size_empty, size_plus}
 use Rattle.chr_ops.proofs.Unions.{ids_inserted, ids_none}
 use Rattle.chr_ops.specs.working.Kept.{IsKept, AreOperationBags}
-use Rattle.chr_ops.proofs.Sizes.{size_plus, size_empty}
 use Rattle.chr_ops.proofs.Told.{told_store-insert, told_store-empty}
 
 pub kept_empty : IsKept 0 [] map.empty

@@ -1,5 +1,4 @@
 pub mod IdOrder
-pub mod Sizes
 pub mod Told
 pub mod EntryLists
 pub mod Keeping

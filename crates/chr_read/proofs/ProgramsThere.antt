@@ -16,7 +16,7 @@ use Rattle.chr_base.specs.declared.program.Symbol.{Symbol as TableSymbol}
 use Rattle.chr_base.specs.declared.rule.Rule as base
 use Rattle.chr_base.specs.declared.weight.Weight.{Weight}
 use Rattle.chr_base.specs.Names.{is_name}
-use Rattle.chr_base.specs.ProgramTests.{Declaration, declarations_in, declares, fits, is_program}
+use Rattle.chr_base.specs.ProgramTests.{Declaration, declared, declares, fits, is_program}
 use Rattle.chr_base.specs.Programs.{declarations, rules_of}
 use Rattle.chr_base.specs.RuleTests.{is_in_bounds, is_rule}
 use Rattle.chr_base.specs.Sameness.{Parts, parts_of}
@@ -51,7 +51,7 @@ entries_of [] = []
 entries_of (d ∷ ds) = (record { name = record { bytes = d.name; spare = [] }; arity = d.arity }, d.weight)
     ∷ entries_of ds
 
-entries_back : (ds : List Declaration) → declarations_in (entries_of ds) ≡ ds
+entries_back : (ds : List Declaration) → map declared (entries_of ds) ≡ ds
 unfolding entries_of
 entries_back [] = refl
 entries_back (d ∷ ds) = ap (λ es. d ∷ es) (entries_back ds)

@@ -12,7 +12,7 @@ use Rattle.chr_base.specs.FinBag as bag
 use Rattle.chr_base.specs.FinBag.{◌⊕◌, ◌⊖◌}
 use Rattle.chr_base.specs.Stores.{Store, store_of, count, size, stores_sum}
 use Rattle.chr_base.proofs.Stores.{count_plus, count_minus, count_empty, same_store, plus_empty, plus_comm, plus_assoc}
-use Rattle.chr_base.proofs.Stores.{size_weight, weight_plus, store_of-append}
+use Rattle.chr_base.proofs.Stores.{size_plus, store_of-append}
 use Rattle.chr_columns.proofs.Pooled.{sum_more}
 use Rattle.chr_shards.specs.working.Placed.{store_at}
 
@@ -89,14 +89,6 @@ empty_at zero k q = count_empty q
 empty_at (suc n) zero q = count_empty q
 empty_at (suc n) (suc k) q = empty_at n k q
 
-pub size_sum : (s t : Store) → size (s ⊕ t) ≡ size s + size t
-size_sum s t =
-    let a = size_weight (s ⊕ t) in
-    let b = weight_plus (λ _. 1) s t in
-    let c = size_weight s in
-    let d = size_weight t in
-    omega (arith, a, b, c, d)
-
 -- the only store
 pub one_sum : (ss : List Store) (s : Store) → 1 ≤ length ss → length ss < 2 → s ≡ get_or ss 0 s → stores_sum ss ≡ s
 one_sum [] s some few here = absurd (omega (arith, some))
@@ -128,7 +120,7 @@ waiting_more ss k s n m w within here before more both =
     let at : store_at ss k ≡ s = get_or_default ss k bag.empty s within ∙ sym here in
     let a : size (stores_sum (take (k + 1) ss)) ≡ size (stores_sum (take k ss) ⊕ store_at ss k) =
     ap size (sum_more ss k within) in
-    let b = size_sum (stores_sum (take k ss)) (store_at ss k) in
+    let b = size_plus (stores_sum (take k ss)) (store_at ss k) in
     let c : size (store_at ss k) ≡ size s = ap size at in
     omega (arith, a, b, c, before, more, both)
 

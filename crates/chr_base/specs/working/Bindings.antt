@@ -1,13 +1,9 @@
 -- The values that a rule's variables get while its heads are matched with atoms.
-use Rattle.std.specs.Prelude.{◌≡◌, ℕ, ℤ, pos, ◌+◌, ◌-◌, ◌<◌, ◌↔◌, Bool, false, List, length, get_or, nat_lt, Some}
+use Rattle.std.specs.Prelude.{◌≡◌, ℕ, ℤ, pos, ◌+◌, ◌<◌, ◌↔◌, Bool, false, List, length, get_or, nat_lt, Some}
 use Rattle.chr_base.specs.declared.term.Term.{Term}
 use Rattle.chr_base.specs.declared.term.Term.TheVariants.{Variable, Constant}
 use Rattle.chr_base.specs.RuleTests.{numbered}
 use Rattle.chr_base.specs.Rules.{Valuation}
-
--- the valuation that gives the variables 1, 2, .. these values, and 0 to those past them
-abbrev pub valued : List ℤ → Valuation
-valued vs x = get_or vs (x - 1) (pos 0)
 
 -- the term is a variable past the first n
 abbrev pub is_new : ℕ → Term → Bool

@@ -1,7 +1,7 @@
 use Rattle.std.proofs.Common.{rules, ◌≡◌, [], length}
 use Rattle.std.proofs.Math.Seq.{set-append_seam}
 use Rattle.chr_base.specs.Rules.{atom_at}
-use Rattle.chr_base.specs.working.Bindings.{valued}
+use Rattle.chr_base.specs.Rules.{valued}
 use Rattle.chr_base.proofs.matching.push_instance.Goals as goal
 
 pub returns-clause-items : goal.returns-clause-items

@@ -1,7 +1,7 @@
 use Rattle.std.proofs.Common.{◌≡◌, ◌++◌, take, vec_len, ◌+◌}
 use Rattle.std.specs.Prelude.{vec_capacity}
 use Rattle.chr_base.specs.Rules.{atoms_at}
-use Rattle.chr_base.specs.working.Bindings.{valued}
+use Rattle.chr_base.specs.Rules.{valued}
 use Rattle.chr_base.proofs.matching.push_instances.Given as goal
 
 abbrev pub invariant-loop-pattern : goal.invariant-loop-pattern

@@ -1,6 +1,6 @@
 use Rattle.std.proofs.Common.{◌≡◌, take, map}
 use Rattle.chr_base.specs.Rules.{term_value}
-use Rattle.chr_base.specs.working.Bindings.{valued}
+use Rattle.chr_base.specs.Rules.{valued}
 use Rattle.chr_base.proofs.matching.set_instance.Given as goal
 
 abbrev pub invariant-loop-term : goal.invariant-loop-term

@@ -1,7 +1,8 @@
 use Rattle.std.proofs.Common.{ap, ◌∙◌, sym, length}
-use Rattle.chr_base.proofs.Declared.{length-declarations}
+use Rattle.std.proofs.lemmas.List.{length-map}
+use Rattle.chr_base.specs.ProgramTests.{declared}
 use Rattle.chr_base.proofs.program.Program.symbols.Goals as goal
 
 pub returns : goal.returns
 returns c = c.len.ensures ∙ ap length c.as_slice.ensures.entries
-    ∙ sym (length-declarations c.args.self.now.symbols.entries)
+    ∙ sym (length-map c.args.self.now.symbols.entries declared)

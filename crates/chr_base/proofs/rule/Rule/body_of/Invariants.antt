@@ -1,6 +1,6 @@
 use Rattle.std.proofs.Common.{◌≡◌, take}
 use Rattle.chr_base.specs.Rules.{atoms_at}
-use Rattle.chr_base.specs.working.Bindings.{valued}
+use Rattle.chr_base.specs.Rules.{valued}
 use Rattle.chr_base.proofs.rule.Rule.body_of.Given as goal
 
 abbrev pub invariant-loop-pattern : goal.invariant-loop-pattern
