@@ -1,10 +1,10 @@
 -- What plans of all places find, and what it says of the store in the tables.
 use Rattle.std.proofs.Common.{◌≡◌, ℕ, ◌<◌, List, length, get_or, refl, sym, ap, subst, ◌∙◌, arith, inl, inr}
-use Rattle.std.specs.Prelude.{Some, slice_get}
+use Rattle.std.specs.Prelude.{ℤ, Some, slice_get}
 use Rattle.std.proofs.lemmas.Option.{slice_get_within, slice_get_cases, slice_get_read, same_Some}
 use Rattle.chr_base.specs.declared.atom.Atom.{Atom}
 use Rattle.chr_base.specs.declared.rule.Rule.{Rule}
-use Rattle.chr_base.specs.Rules.{heads_of}
+use Rattle.chr_base.specs.Rules.{heads_at, heads_of, valued}
 use Rattle.chr_plans.specs.declared.plan.Plan.{Plan}
 use Rattle.chr_plans.specs.declared.rows.Seat.{Seat}
 use Rattle.chr_plans.specs.Rows.{Tables, Columns}
@@ -72,16 +72,16 @@ module _ (rules : List Rule) (groups : List Group) (ts : List Contents)
 -- what a plan finds is an instance of its rule at its place
 pub reacting : (rules : List Rule) (groups : List Group) (rows : Tables) (columns : Columns) (n : ℕ)
     → IsSetUp rules groups rows columns n
-    → (a : Atom) (t j : ℕ) (g : Group) (p : Plan) (heads : List Atom) (seats : List Seat) → slice_get groups t ≡ Some g
-    → slice_get g.plans.items j ≡ Some p
-    → Reacts rules rows a (slice_get g.plans.items j) heads seats
+    → (a : Atom) (t j : ℕ) (g : Group) (p : Plan) (heads : List Atom) (seats : List Seat) (values : List ℤ)
+    → slice_get groups t ≡ Some g → slice_get g.plans.items j ≡ Some p
+    → Reacts rules rows a (slice_get g.plans.items j) heads seats values
     → (r : Rule) × (slice_get rules p.rule ≡ Some r) × (p.place < length (heads_of r))
-    × IsSeated r rows p.place heads seats × (head heads p.place ≡ a)
-reacting rules groups rows columns n up a t j g p heads seats e f h =
-    let k : Reacts rules rows a (Some p) heads seats = subst (λ o. Reacts rules rows a o heads seats) f h in
+    × IsSeated r rows p.place heads seats × (head heads p.place ≡ a) × (heads_at (valued values) r ≡ heads)
+reacting rules groups rows columns n up a t j g p heads seats values e f h =
+    let k : Reacts rules rows a (Some p) heads seats values = subst (λ o. Reacts rules rows a o heads seats values) f h in
     let w = up.plans t g j p e f in
     let same : w.0 ≡ k.0 = same_Some w.0 k.0 (sym w.1 ∙ k.1) in
-    (k.0, k.1, subst (λ (r : Rule). p.place < length (heads_of r)) same w.2, k.2, k.3)
+    (k.0, k.1, subst (λ (r : Rule). p.place < length (heads_of r)) same w.2, k.2, k.3, k.5)
 
 -- rows that were read are set up as they were
 pub same_set_up : (rules : List Rule) (groups : List Group) (ts us : List Contents) → rows_of us ≡ rows_of ts
@@ -103,8 +103,8 @@ group_at groups xs a t g e f l h =
 
 -- a plan that reacts is one of them
 pub is_one : (rules : List Rule) (rows : Tables) (a : Atom) (ps : List Plan) (j : ℕ) (heads : List Atom)
-    (seats : List Seat) → Reacts rules rows a (slice_get ps j) heads seats → j < length ps
-is_one rules rows a ps j heads seats h = elim (slice_get_cases ps j).1 as (λ _. j < length ps) [
+    (seats : List Seat) (values : List ℤ) → Reacts rules rows a (slice_get ps j) heads seats values → j < length ps
+is_one rules rows a ps j heads seats values h = elim (slice_get_cases ps j).1 as (λ _. j < length ps) [
   | inl w ↦ w.1
-  | inr past ↦ absurd (subst (λ o. Reacts rules rows a o heads seats) past.1 h)
+  | inr past ↦ absurd (subst (λ o. Reacts rules rows a o heads seats values) past.1 h)
 ]

@@ -6,13 +6,13 @@ ghost use Rattle.chr_base.specs.declared.limits.TheConstants.{MAX_BODY};
 ghost use Rattle.chr_base.specs.declared.atom.Atom.{Atom as AtomValue};
 ghost use Rattle.chr_base.specs.FinBag.{◌⊕◌};
 ghost use Rattle.chr_base.specs.Stores.{store_of};
-ghost use Rattle.chr_base.specs.Rules.{atoms_at, heads_of, heads_at, HasInstance, Valuation, Step};
+ghost use Rattle.chr_base.specs.Rules.{heads_of, heads_at, valued, Valuation, Step};
 ghost use Rattle.chr_plans.specs.Seats.{seat, head};
 ghost use Rattle.chr_plans.specs.Actives.{one};
 ghost use Rattle.chr_columns.specs.working.Resting.{stored, IsRested, IsReacting, MayGoOn, Stands};
 ghost use Rattle.chr_columns.specs.working.Firing.{coming, leaving_seats};
 
-use crate::rested::{Occurrence, Rested, kill_all};
+use crate::rested::{Found, Occurrence, Rested, kill_all};
 use arrayvec::ArrayVec;
 use chr_base::atom::Atom;
 use chr_base::limits::{MAX_BODY, MAX_HEADS};
@@ -41,33 +41,19 @@ fn leaving_rows(rule: &Rule, place: usize, seats: &[Seat]) -> ArrayVec<Seat, MAX
     rows
 }
 
-/// The body becomes fresh. Where there is none the heads aren't looked at.
-fn push_body(rule: &Rule, heads: &[Atom], fresh: &mut Vec<Atom>)
-    requires instance { HasInstance rule.now heads.now }
-    requires room { vec_len fresh.old + (MAX_BODY + 1) ≤ vec_capacity fresh.old }
-    ensures items { (v : Valuation) → heads_at v rule.now ≡ heads.now →
-        fresh.new.items ≡ fresh.old.items ++ atoms_at v rule.now.body.items }
-    ensures room { vec_len fresh.new < vec_capacity fresh.new }
-{
-    if rule.body.is_empty() {
-        return;
-    }
-    rule.push_body(heads, fresh);
-}
-
-/// The body becomes fresh, and the active atom where it is kept.
-fn put_fresh(rule: &Rule, place: usize, heads: &[Atom], fresh: &mut Vec<Atom>)
+/// The body under the found values becomes fresh, and the active atom where it is kept.
+fn put_fresh(rule: &Rule, place: usize, found: &Found, fresh: &mut Vec<Atom>)
     requires place { place < length (heads_of rule.now) }
-    requires instance { HasInstance rule.now heads.now }
+    requires bound { heads_at (valued found.now.values.items) rule.now ≡ found.now.heads.items }
     requires room { vec_len fresh.old + (MAX_BODY + 1) ≤ vec_capacity fresh.old }
-    ensures store { (v : Valuation) → heads_at v rule.now ≡ heads.now →
+    ensures store { (v : Valuation) → heads_at v rule.now ≡ found.now.heads.items →
         store_of fresh.new.items ≡ store_of fresh.old.items ⊕ coming rule.now place v }
     ensures last { place < length rule.now.kept.items →
-        (xs : List AtomValue) × (fresh.new.items ≡ xs ++ head heads.now place ∷ []) }
+        (xs : List AtomValue) × (fresh.new.items ≡ xs ++ head found.now.heads.items place ∷ []) }
 {
-    push_body(rule, heads, fresh);
+    rule.push_body(&found.values, fresh);
     if place < rule.kept.len() {
-        push_copy(fresh, &heads[place]);
+        push_copy(fresh, &found.heads[place]);
     }
 }
 
@@ -88,24 +74,24 @@ impl Rested {
     pub(crate) fn fire(
         &mut self,
         o: Occurrence,
-        heads: &[Atom],
-        seats: &[Seat],
+        found: &Found,
         fresh: &mut Vec<Atom>,
     ) -> Option<Standing>
         requires rested { IsRested self.old }
-        requires instance { IsReacting self.old (head heads.now o.place) o heads.now seats.now }
-        requires standing { MayGoOn self.old (head heads.now o.place) o.standing }
+        requires instance { IsReacting self.old (head found.now.heads.items o.place) o found.now.heads.items
+            found.now.seats.items found.now.values.items }
+        requires standing { MayGoOn self.old (head found.now.heads.items o.place) o.standing }
         requires room { vec_len fresh.old + (MAX_BODY + 1) ≤ vec_capacity fresh.old }
         ensures rested { IsRested self.new }
         ensures rules { self.new.rules ≡ self.old.rules }
         ensures step { (r : RuleValue) → slice_get self.old.rules.items o.rule ≡ Some r → Step (r ∷ [])
-            ((stored self.old ⊕ store_of fresh.old.items) ⊕ one (head heads.now o.place))
+            ((stored self.old ⊕ store_of fresh.old.items) ⊕ one (head found.now.heads.items o.place))
             (stored self.new ⊕ store_of fresh.new.items) }
         ensures standing { Stands self.new fresh.new.items result }
     {
         let rule = &self.rules[o.rule];
-        let rows = leaving_rows(rule, o.place, seats);
-        put_fresh(rule, o.place, heads, fresh);
+        let rows = leaving_rows(rule, o.place, &found.seats);
+        put_fresh(rule, o.place, found, fresh);
         let standing = standing_of(rule, o);
         kill_all(&mut self.tables, &rows);
         standing

@@ -12,7 +12,7 @@ use crate::groups::Directory;
 use arrayvec::ArrayVec;
 use chr_base::atom::Atom;
 use chr_base::limits::MAX_HEADS;
-use chr_base::rule::Rule;
+use chr_base::rule::{Rule, Values};
 use chr_plans::react::{Standing, react, standing_at};
 use chr_plans::rows::Seat;
 use chr_tables::tables::Tables;
@@ -28,12 +28,13 @@ pub(crate) struct Rested {
     pub(crate) tables: Tables,
 }
 
-/// Room for the heads and the rows of the instance that a search finds, as many as the rule has head places. It is kept
-/// from one search to the next, since to clear it costs as much as a look-up.
+/// Room for the heads and the rows of the instance that a search finds, as many as the rule has head places, and for the
+/// values of the rule's variables. It is kept from one search to the next, since to clear it costs as much as a look-up.
 #[derive(Debug, Default, Drop)]
 pub(crate) struct Found {
     pub(crate) heads: ArrayVec<Atom, MAX_HEADS>,
     pub(crate) seats: ArrayVec<Seat, MAX_HEADS>,
+    pub(crate) values: Values,
 }
 
 /// A head place of a rule, both by their numbers from 0, and where the search stands that has found an instance there.
@@ -64,8 +65,7 @@ impl Rested {
         table: usize,
         active: &Atom,
         from: Option<Standing>,
-        heads: &mut ArrayVec<Atom, MAX_HEADS>,
-        seats: &mut ArrayVec<Seat, MAX_HEADS>,
+        found: &mut Found,
     ) -> Option<Occurrence>
         requires rested { IsRested self.old }
         requires table { table ≡ table_of_atom self.old.directory.groups.items active.now }
@@ -74,7 +74,8 @@ impl Rested {
         ensures rules { self.new.rules ≡ self.old.rules }
         ensures directory { self.new.directory ≡ self.old.directory }
         ensures stored { stored self.new ≡ stored self.old }
-        ensures found { IfSome result (λ o. IsReacting self.new active.now o heads.new.items seats.new.items) }
+        ensures found { IfSome result (λ o.
+            IsReacting self.new active.now o found.new.heads.items found.new.seats.items found.new.values.items) }
         ensures standing { IfSome result (λ o. MayGoOn self.new active.now o.standing) }
         ensures none { IfNone result (NoInstanceWith self.old.rules.items (stored self.old) active.now) }
     {
@@ -82,19 +83,20 @@ impl Rested {
         let Some(group) = directory.groups.get(table) else {
             return None;
         };
-        let Some(found) = react(
+        let Some(number) = react(
             &mut self.tables,
             &self.rules,
             &group.plans,
             from,
             active,
-            heads,
-            seats,
+            &mut found.heads,
+            &mut found.seats,
+            &mut found.values,
         ) else {
             return None;
         };
-        let standing = standing_at(&group.plans, found, seats.as_slice());
-        let plan = &group.plans[found];
+        let standing = standing_at(&group.plans, number, found.seats.as_slice());
+        let plan = &group.plans[number];
         Some(Occurrence {
             rule: plan.rule,
             place: plan.place,

@@ -64,12 +64,11 @@ impl Rested {
     {
         let table = self.table_for(active);
         let from = standing.take();
-        let heads = &mut found.heads;
-        let Some(occurrence) = self.react(table, active, from, heads, &mut found.seats) else {
+        let Some(occurrence) = self.react(table, active, from, found) else {
             self.put(table, active)?;
             return Ok(Outcome::AtRest);
         };
-        *standing = self.fire(occurrence, &found.heads, &found.seats, fresh);
+        *standing = self.fire(occurrence, found, fresh);
         Ok(Outcome::Fired)
     }
 

@@ -1,11 +1,11 @@
 -- What one plan finds, of the plan as it stands in the list.
 use Rattle.std.proofs.Common.{◌≡◌, ℕ, ◌<◌, ◌+◌, List, length, get_or, slice_get, refl, sym, subst, ◌∙◌, arith, inl, inr}
-use Rattle.std.specs.Prelude.{Option, Some, None, IfSome, IfNone}
+use Rattle.std.specs.Prelude.{ℤ, Option, Some, None, IfSome, IfNone}
 use Rattle.std.proofs.lemmas.Bool.{cases_lt}
 use Rattle.std.proofs.lemmas.Option.{slice_get_read, same_Some, get_or_from_slice_get}
 use Rattle.chr_base.specs.declared.atom.Atom.{Atom}
 use Rattle.chr_base.specs.declared.rule.Rule.{Rule}
-use Rattle.chr_base.specs.Rules.{heads_of}
+use Rattle.chr_base.specs.Rules.{heads_at, heads_of, valued}
 use Rattle.chr_plans.specs.declared.rows.Seat.{Seat}
 use Rattle.chr_plans.specs.declared.plan.Plan.{Plan}
 use Rattle.chr_plans.specs.Rows.{Tables, Columns}
@@ -35,10 +35,10 @@ module _ (rules : List Rule) (rows : Tables) (columns : Columns) (a : Atom) (pla
       subst (λ x. (plan.place < length (heads_of x)) × IsPlan x plan.place (partners_of plan.lookups.items)
       × FitsTables x plan.lookups.items rows columns) (sym (same_Some r f.0 (sym is_rule ∙ f.1))) (f.2, f.3, f.4)
 
-  pub reacts : (heads : List Atom) (seats : List Seat) → IsSeated r rows plan.place heads seats → head heads plan.place
-      ≡ a → length seats ≡ length (heads_of r)
-      → Reacts rules rows a (slice_get plans j) heads seats
-  reacts heads seats s h n = rw at (r, is_rule, s, h, n)
+  pub reacts : (heads : List Atom) (seats : List Seat) (values : List ℤ) → IsSeated r rows plan.place heads seats
+      → head heads plan.place ≡ a → length seats ≡ length (heads_of r) → heads_at (valued values) r ≡ heads
+      → Reacts rules rows a (slice_get plans j) heads seats values
+  reacts heads seats values s h n v = rw at (r, is_rule, s, h, n, v)
 
   none_here : NoPartners r rows plan.place a → NoneBy rules rows a (slice_get plans j)
   none_here none = rw at (λ q e. subst (λ x. NoPartners x rows plan.place a) (same_Some r q (sym is_rule ∙ e)) none)

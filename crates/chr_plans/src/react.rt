@@ -9,7 +9,7 @@ use crate::search::find_partners;
 use arrayvec::ArrayVec;
 use chr_base::atom::Atom;
 use chr_base::limits::MAX_HEADS;
-use chr_base::rule::Rule;
+use chr_base::rule::{Rule, Values};
 
 /// Where a search for partners stands: at the plan with this number, and this row of its first partner.
 #[derive(Clone, Copy, Debug, PartialEq, Eq)]
@@ -61,8 +61,8 @@ pub fn standing_at(plans: &[Plan], plan: usize, seats: &[Seat]) -> Standing
     }
 }
 
-/// The first plan, by its number from 0, by which the active atom has partners. Where there is one, `heads` and
-/// `seats` have the instance, as `find_partners` fills them.
+/// The first plan, by its number from 0, by which the active atom has partners. Where there is one, `heads`, `seats`
+/// and `values` have the instance, as `find_partners` fills them.
 ///
 /// A search that has stood somewhere may go on from there, also after rows have died: what it has passed has no
 /// instance. `standing_at` tells where it stands then.
@@ -74,6 +74,7 @@ pub fn react<R: Rows>(
     active: &Atom,
     heads: &mut ArrayVec<Atom, MAX_HEADS>,
     seats: &mut ArrayVec<Seat, MAX_HEADS>,
+    values: &mut Values,
 ) -> Option<usize>
     requires fits { (j : ℕ) → j < length plans.now →
         FitsPlan rules.now (R.rows rows.old) (R.columns rows.old) (slice_get plans.now j) }
@@ -82,7 +83,8 @@ pub fn react<R: Rows>(
     ensures columns { R.columns rows.new ≡ R.columns rows.old }
     ensures tables { R.tables rows.new ≡ R.tables rows.old }
     ensures found { IfSome result (λ j.
-        Reacts rules.now (R.rows rows.old) active.now (slice_get plans.now j) heads.new.items seats.new.items) }
+        Reacts rules.now (R.rows rows.old) active.now (slice_get plans.now j) heads.new.items seats.new.items
+        values.new.items) }
     ensures first { IfSome result (λ j. (k : ℕ) → k < j →
         NoneBy rules.now (R.rows rows.old) active.now (slice_get plans.now k)) }
     ensures standing { IfSome result (λ j. MayResume rules.now (R.rows rows.old) active.now plans.now
@@ -106,6 +108,7 @@ pub fn react<R: Rows>(
             active,
             heads,
             seats,
+            values,
         ) {
             return Some(j);
         }

@@ -1,7 +1,7 @@
 //! The search for the partners of an active atom.
 ghost use Rattle.std.specs.Prelude.{◌≡◌, ℕ, ◌<◌, ◌≤◌, ◌+◌, length, get_or, IfSome, IfNone, IsTrue, is_some};
 ghost use Rattle.std.specs.Bool.{OnTrue, OnFalse};
-ghost use Rattle.chr_base.specs.Rules.{heads_of};
+ghost use Rattle.chr_base.specs.Rules.{heads_at, heads_of, valued};
 ghost use Rattle.chr_plans.specs.Seats.{seat, head, no_seat, IsSeated, NoPartners};
 ghost use Rattle.chr_plans.specs.Plans.{IsPlan, FitsTables, FirstNoneAbove, first_place, partners_of, places_of};
 ghost use Rattle.chr_plans.specs.Rows.{HasKey, LiesIn};
@@ -14,7 +14,7 @@ use crate::rows::{Rows, Seat, is_same};
 use arrayvec::ArrayVec;
 use chr_base::atom::Atom;
 use chr_base::limits::MAX_HEADS;
-use chr_base::rule::Rule;
+use chr_base::rule::{Rule, Values};
 
 /// Whether a partner of these look-ups sits in the row.
 fn is_taken(lookups: &[Lookup], seats: &[Seat], row: Seat) -> bool
@@ -74,6 +74,7 @@ fn complete<R: Rows>(
     from: Option<usize>,
     heads: &mut [Atom],
     seats: &mut [Seat],
+    values: &mut Values,
 ) -> bool
     requires plan { IsPlan rule.now active (partners_of lookups.now) }
     requires fits { FitsTables rule.now lookups.now (R.rows rows.old) (R.columns rows.old) }
@@ -89,13 +90,14 @@ fn complete<R: Rows>(
     ensures lengths { (length heads.new ≡ length heads.old) × (length seats.new ≡ length seats.old) }
     ensures same { AgreeAtKnown (looked_in lookups.now) active done heads.new seats.new heads.old seats.old }
     ensures found { OnTrue result (IsSeated rule.now (R.rows rows.old) active heads.new seats.new) }
+    ensures values { OnTrue result (heads_at (valued values.new.items) rule.now ≡ heads.new) }
     ensures passed { OnTrue result (PastFrom rule.now (R.rows rows.old) active lookups.now done heads.old seats.old
         ((seat seats.new (get_or (looked_in lookups.now) done 0)).row + 1)) }
     ensures none { OnFalse result
         (NoneFrom rule.now (R.rows rows.old) active (looked_in lookups.now) done heads.old seats.old) }
 {
     if done == lookups.len() {
-        return rule.fires(heads);
+        return rule.fires_by(heads, values);
     }
     let lookup = &lookups[done];
     if !pass(heads, &lookup.partner.tests) {
@@ -125,7 +127,17 @@ fn complete<R: Rows>(
         if !is_taken(&lookups[..done], seats, seat) {
             rows.read(lookup.table, row, &mut heads[lookup.partner.place]);
             seats[lookup.partner.place] = seat;
-            if complete(rows, rule, active, lookups, done + 1, None, heads, seats) {
+            if complete(
+                rows,
+                rule,
+                active,
+                lookups,
+                done + 1,
+                None,
+                heads,
+                seats,
+                values,
+            ) {
                 return true;
             }
         }
@@ -167,8 +179,9 @@ fn start(
 }
 
 /// An instance of the rule with the active atom at this head place, counted from 0, and partners in different live
-/// rows. Where there is one, it fills `heads` with its heads in place order, and `seats` with their rows; the seat at
-/// the active place says nothing. Where there is none, both are left with anything.
+/// rows. Where there is one, it fills `heads` with its heads in place order, `seats` with their rows, and `values` with
+/// those of the rule's variables; the seat at the active place says nothing. Where there is none, all three are left
+/// with anything.
 ///
 /// The search goes through the rows of the first partner from the newest down, or from the row `from`, where there is
 /// one. Where it finds an instance, it has passed the rows above that partner's, and may go on from there.
@@ -181,6 +194,7 @@ pub fn find_partners<R: Rows>(
     active: &Atom,
     heads: &mut ArrayVec<Atom, MAX_HEADS>,
     seats: &mut ArrayVec<Seat, MAX_HEADS>,
+    values: &mut Values,
 ) -> bool
     requires place { place < length (heads_of rule.now) }
     requires plan { IsPlan rule.now place (partners_of lookups.now) }
@@ -193,10 +207,11 @@ pub fn find_partners<R: Rows>(
     ensures found { OnTrue result (IsSeated rule.now (R.rows rows.old) place heads.new.items seats.new.items) }
     ensures active { OnTrue result (head heads.new.items place ≡ active.now) }
     ensures seats { length seats.new.items ≡ length (heads_of rule.now) }
+    ensures values { OnTrue result (heads_at (valued values.new.items) rule.now ≡ heads.new.items) }
     ensures passed { OnTrue result (FirstNoneAbove rule.now (R.rows rows.old) place active.now lookups.now
         (seat seats.new.items (first_place lookups.now)).row) }
     ensures none { OnFalse result (NoPartners rule.now (R.rows rows.old) place active.now) }
 {
     start(rule, place, active, heads, seats);
-    complete(rows, rule, place, lookups, 0, from, heads, seats)
+    complete(rows, rule, place, lookups, 0, from, heads, seats, values)
 }

@@ -1,9 +1,9 @@
 -- Atoms at rest in tables, and the plans by which they are found.
 use Rattle.std.specs.Prelude.{◌≡◌, ℕ, ◌+◌, ◌^◌, ◌<◌, ◌≤◌, List, [], ◌∷◌, ◌++◌, length, map, get_or, Option, Some, None}
-use Rattle.std.specs.Prelude.{slice_get, ⊤}
+use Rattle.std.specs.Prelude.{ℤ, slice_get, ⊤}
 use Rattle.chr_base.specs.declared.atom.Atom.{Atom}
 use Rattle.chr_base.specs.declared.rule.Rule.{Rule}
-use Rattle.chr_base.specs.Rules.{Step, heads_of}
+use Rattle.chr_base.specs.Rules.{Step, heads_at, heads_of, valued}
 use Rattle.chr_base.specs.Rewriting.{IsAtRest}
 use Rattle.chr_base.specs.Stores.{Store}
 use Rattle.chr_plans.specs.declared.plan.Lookup.{Lookup}
@@ -82,13 +82,16 @@ pub record IsRested (r : Rested) : Type 0 where
       (length r.tables.tables.items)
   pub rests : IsAtRest (Step r.rules.items) (stored r)
 
--- an instance with the active atom at that place of that rule, and the others in different rows
-pub record IsReacting (r : Rested) (a : Atom) (o : Occurrence) (heads : List Atom) (seats : List Seat) : Type 0 where
+-- an instance with the active atom at that place of that rule, and the others in different rows, by these values of the
+-- rule's variables
+pub record IsReacting (r : Rested) (a : Atom) (o : Occurrence) (heads : List Atom) (seats : List Seat)
+    (values : List ℤ) : Type 0 where
   pub rule : Rule
   pub at : slice_get r.rules.items o.rule ≡ Some rule
   pub within : o.place < length (heads_of rule)
   pub seated : IsSeated rule (rows_of r.tables.tables.items) o.place heads seats
   pub active : head heads o.place ≡ a
+  pub bound : heads_at (valued values) rule ≡ heads
 
 -- the search for partners of the atom may go on there, by the plans of its group
 abbrev pub MayGoOn : Rested → Atom → Standing → Type 0

@@ -13,7 +13,7 @@ returns-then-place-len-clause-store c v e =
     let n = c.len.ensures.value in
     let items = c.push_body.ensures.items v e in
     ap store_of (c.push_copy.ensures.items ∙ (λ i. items i ++ c.index-heads-place.result ∷ []))
-    ∙ come_kept c.args.rule.now c.args.place v c.args.heads.now c.args.fresh.now.items
+    ∙ come_kept c.args.rule.now c.args.place v c.args.found.now.heads.items c.args.fresh.now.items
     (atoms_at v c.args.rule.now.body.items) c.requires.place e refl c.index-heads-place.result
     (omega (arith, l, n)) c.index-heads-place.is
 
@@ -22,14 +22,14 @@ returns-else-place-len-clause-store c v e =
     let l = c.if-place-len.false in
     let n = c.len.ensures.value in
     ap store_of (c.push_body.ensures.items v e)
-    ∙ come_removed c.args.rule.now c.args.place v c.args.heads.now c.args.fresh.now.items
+    ∙ come_removed c.args.rule.now c.args.place v c.args.found.now.heads.items c.args.fresh.now.items
     (atoms_at v c.args.rule.now.body.items) c.requires.place e refl (omega (arith, l, n))
 
 pub returns-then-place-len-clause-last : goal.returns-then-place-len-clause-last
 returns-then-place-len-clause-last c _ =
-    let n = instance_places c.args.rule.now c.args.heads.now c.requires.instance in
+    let n = instance_places c.args.rule.now c.args.found.now.heads.items c.requires.instance in
     let place = c.requires.place in
-    let is = get_or_default c.args.heads.now c.args.place no_atom c.index-heads-place.result (omega (arith, n, place))
+    let is = get_or_default c.args.found.now.heads.items c.args.place no_atom c.index-heads-place.result (omega (arith, n, place))
     ∙ sym c.index-heads-place.is in
     (c.push_body.new.fresh.items, c.push_copy.ensures.items ∙ ap (λ x. c.push_body.new.fresh.items ++ x ∷ []) (sym is))
 

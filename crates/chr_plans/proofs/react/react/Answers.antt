@@ -7,8 +7,8 @@ returns-then-find_partners-clause-found g c =
     reacts c.args.rules.now _ (g.R.Rows.columns c.args.rows.now) c.args.active.now c.args.plans.now c.loop-j.j
     c.index-plans-j.result c.index-rules-plan.result
     c.loop-j-test.true c.index-plans-j.is c.index-rules-plan.is (c.requires.fits c.loop-j.j c.loop-j-test.true)
-    _ _ (rw c.loop-j.invariant.rows at c.if-find_partners.ensures.found) c.if-find_partners.ensures.active
-    c.if-find_partners.ensures.seats
+    _ _ _ (rw c.loop-j.invariant.rows at c.if-find_partners.ensures.found) c.if-find_partners.ensures.active
+    c.if-find_partners.ensures.seats c.if-find_partners.ensures.values
 
 pub loop-j-preserved : goal.loop-j-preserved
 loop-j-preserved g c = record {

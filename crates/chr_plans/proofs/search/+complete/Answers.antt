@@ -14,14 +14,14 @@ use Rattle.chr_plans.proofs.search.+complete.Goals.{then-not-is_taken+else-compl
 use Rattle.chr_plans.proofs.search.+complete.Goals as goal
 
 pub returns-then-done-lookups-clause-found : goal.returns-then-done-lookups-clause-found
-returns-then-done-lookups-clause-found g t c = OnTrue_from c.fires.result _ (λ e.
+returns-then-done-lookups-clause-found g t c = OnTrue_from c.fires_by.result _ (λ e.
     seated_all c.args.rule.now _ c.args.active c.args.lookups.now _ _ c.requires.plan
-    (rw (← c.if-done-lookups.true) c.requires.started) (c.fires.ensures.0 e))
+    (rw (← c.if-done-lookups.true) c.requires.started) (c.fires_by.ensures.fires.0 e))
 
 pub returns-then-done-lookups-clause-none : goal.returns-then-done-lookups-clause-none
-returns-then-done-lookups-clause-none g t c = OnFalse_from c.fires.result _ (λ e.
+returns-then-done-lookups-clause-none g t c = OnFalse_from c.fires_by.result _ (λ e.
     rw c.if-done-lookups.true (none_all c.args.rule.now _ c.args.active c.args.lookups.now _ _ c.requires.plan
-    c.requires.heads (λ h. (let f = c.fires.ensures.1 h in cc))))
+    c.requires.heads (λ h. (let f = c.fires_by.ensures.fires.1 h in cc))))
 
 pub returns-then-not-pass-clause-none : goal.returns-then-not-pass-clause-none
 returns-then-not-pass-clause-none g t c =

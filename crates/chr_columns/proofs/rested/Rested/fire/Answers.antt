@@ -24,12 +24,12 @@ kill_all-requires c =
     let same = rule_is c.args.self.now.rules.items c.args.o.rule is.rule r is.at c.index-rule.ensures in
     let at = is.at ∙ ap Some same in
     let place = subst (λ (x : Rule). p < length (heads_of x)) same is.within in
-    let seated = subst (λ x. IsSeated x (rows_of ts) p c.args.heads.now c.args.seats.now) same is.seated in
+    let seated = subst (λ x. IsSeated x (rows_of ts) p c.args.found.now.heads.items c.args.found.now.seats.items) same is.seated in
     let back = c.deref.ensures.0 ∙ c.leaving_rows-rows.ensures in
-    sit_there ts (leaving r p c.args.heads.now) c.deref.result.now
-    (sit_left c.args.self.now.rules.items c.args.o.rule r p c.args.heads.now c.args.seats.now
-    (remove (seats_to c.args.seats.now (length (heads_of r))) p) c.deref.result.now ts at place seated
-    (sit_to r p c.args.seats.now place) back)
+    sit_there ts (leaving r p c.args.found.now.heads.items) c.deref.result.now
+    (sit_left c.args.self.now.rules.items c.args.o.rule r p c.args.found.now.heads.items c.args.found.now.seats.items
+    (remove (seats_to c.args.found.now.seats.items (length (heads_of r))) p) c.deref.result.now ts at place seated
+    (sit_to r p c.args.found.now.seats.items place) back)
 
 pub returns-clause-rested : goal.returns-clause-rested
 returns-clause-rested c =
@@ -41,16 +41,16 @@ returns-clause-rested c =
     let same = rule_is c.args.self.now.rules.items c.args.o.rule is.rule r is.at c.index-rule.ensures in
     let at = is.at ∙ ap Some same in
     let place = subst (λ (x : Rule). p < length (heads_of x)) same is.within in
-    let seated = subst (λ x. IsSeated x (rows_of ts) p c.args.heads.now c.args.seats.now) same is.seated in
+    let seated = subst (λ x. IsSeated x (rows_of ts) p c.args.found.now.heads.items c.args.found.now.seats.items) same is.seated in
     let back = c.deref.ensures.0 ∙ c.leaving_rows-rows.ensures in
-    let sit = sit_left c.args.self.now.rules.items c.args.o.rule r p c.args.heads.now c.args.seats.now
-    (remove (seats_to c.args.seats.now (length (heads_of r))) p) c.deref.result.now ts at place seated
-    (sit_to r p c.args.seats.now place) back in
+    let sit = sit_left c.args.self.now.rules.items c.args.o.rule r p c.args.found.now.heads.items c.args.found.now.seats.items
+    (remove (seats_to c.args.found.now.seats.items (length (heads_of r))) p) c.deref.result.now ts at place seated
+    (sit_to r p c.args.found.now.seats.items place) back in
     record {
       set_up = left_over c.args.self.now.rules.items c.args.self.now.directory.groups.items ts us
-          (leaving r p c.args.heads.now) c.deref.result.now c.kill_all.ensures.rows c.kill_all.ensures.columns
+          (leaving r p c.args.found.now.heads.items) c.deref.result.now c.kill_all.ensures.rows c.kill_all.ensures.columns
           c.requires.rested.set_up;
-      rests = part_left c.args.self.now.rules.items ts us (leaving r p c.args.heads.now) c.deref.result.now
+      rests = part_left c.args.self.now.rules.items ts us (leaving r p c.args.found.now.heads.items) c.deref.result.now
           c.kill_all.ensures.rows sit c.requires.rested.rests;
     }
 
@@ -64,13 +64,13 @@ returns-clause-step c q standing =
     let same = rule_is c.args.self.now.rules.items c.args.o.rule is.rule r is.at c.index-rule.ensures in
     let at = is.at ∙ ap Some same in
     let place = subst (λ (x : Rule). p < length (heads_of x)) same is.within in
-    let seated = subst (λ x. IsSeated x (rows_of ts) p c.args.heads.now c.args.seats.now) same is.seated in
+    let seated = subst (λ x. IsSeated x (rows_of ts) p c.args.found.now.heads.items c.args.found.now.seats.items) same is.seated in
     let back = c.deref.ensures.0 ∙ c.leaving_rows-rows.ensures in
     let rule : q ≡ r = rule_is c.args.self.now.rules.items c.args.o.rule q r standing c.index-rule.ensures in
-    subst (λ x. Step (x ∷ []) ((contents (grid ts) ⊕ store_of c.args.fresh.now.items) ⊕ one (head c.args.heads.now p))
+    subst (λ x. Step (x ∷ []) ((contents (grid ts) ⊕ store_of c.args.fresh.now.items) ⊕ one (head c.args.found.now.heads.items p))
     (contents (grid us) ⊕ store_of c.put_fresh.new.fresh.items)) (sym rule)
-    (fired (r ∷ []) 0 r p c.args.heads.now c.args.seats.now (remove (seats_to c.args.seats.now (length (heads_of r))) p)
-    c.deref.result.now ts refl place seated (sit_to r p c.args.seats.now place) back
+    (fired (r ∷ []) 0 r p c.args.found.now.heads.items c.args.found.now.seats.items (remove (seats_to c.args.found.now.seats.items (length (heads_of r))) p)
+    c.deref.result.now ts refl place seated (sit_to r p c.args.found.now.seats.items place) back
     us c.args.fresh.now.items c.put_fresh.new.fresh.items c.kill_all.ensures.rows c.put_fresh.ensures.store)
 
 pub returns-clause-standing : goal.returns-clause-standing
@@ -81,7 +81,7 @@ returns-clause-standing c =
       directory = c.args.self.now.directory;
       tables = c.kill_all.new.tables;
     }) c.put_fresh.new.fresh.items
-    (head c.args.heads.now c.args.o.place) c.args.o.standing c.standing_of-standing.result _
+    (head c.args.found.now.heads.items c.args.o.place) c.args.o.standing c.standing_of-standing.result _
     c.standing_of-standing.ensures c.put_fresh.ensures.last
     refl refl (only_died c.args.self.now.tables.tables.items c.kill_all.new.tables.tables.items c.deref.result.now
     c.kill_all.ensures.rows) c.requires.standing

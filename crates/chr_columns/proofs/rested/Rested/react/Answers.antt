@@ -72,7 +72,7 @@ returns-in_default-react-clause-none c =
 
 pub index-plan-requires : goal.index-plan-requires
 index-plan-requires c =
-    let l = is_one _ _ _ c.deref-3.result.now c.in-Some-react.found _ _ c.in-Some-react.ensures.found in
+    let l = is_one _ _ _ c.deref-3.result.now c.in-Some-react.number _ _ _ c.in-Some-react.ensures.found in
     let e = ap length c.deref-3.ensures.value in
     omega (arith, l, e, c.in-Some.group.now.plans.ok.0)
 
@@ -84,23 +84,25 @@ returns-clause-found c =
     c.requires.table in
     let at = group_at c.args.self.now.directory.groups.items c.deref.result.now c.args.active.now
     c.args.table c.in-Some.group.now c.deref.ensures.value t within c.in-Some.ensures.lookup.1 in
-    let l = is_one _ _ _ c.deref-3.result.now c.in-Some-react.found _ _ c.in-Some-react.ensures.found in
+    let l = is_one _ _ _ c.deref-3.result.now c.in-Some-react.number _ _ _ c.in-Some-react.ensures.found in
     let e = ap length c.deref-3.ensures.value in
     let plan = slice_get_read c.in-Some.group.now.plans.items (length c.in-Some.group.now.plans.items)
-    c.in-Some-react.found c.index-plan.result.now refl (omega (arith, l, e)) c.index-plan.ensures in
+    c.in-Some-react.number c.index-plan.result.now refl (omega (arith, l, e)) c.index-plan.ensures in
     let found : Reacts c.args.self.now.rules.items (rows_of c.args.self.now.tables.tables.items) c.args.active.now
-    (slice_get c.in-Some.group.now.plans.items c.in-Some-react.found) c.react.new.heads.items
-    c.react.new.seats.items =
+    (slice_get c.in-Some.group.now.plans.items c.in-Some-react.number) c.react.new.heads.items
+    c.react.new.seats.items c.react.new.values.items =
     rw (c.deref-2.ensures.value, c.deref-3.ensures.value) at c.in-Some-react.ensures.found in
     let w = reacting c.args.self.now.rules.items c.args.self.now.directory.groups.items _ _ _ c.requires.rested.set_up
-    c.args.active.now (table_of_atom c.args.self.now.directory.groups.items c.args.active.now) c.in-Some-react.found
-    c.in-Some.group.now c.index-plan.result.now c.react.new.heads.items c.react.new.seats.items at plan found in
+    c.args.active.now (table_of_atom c.args.self.now.directory.groups.items c.args.active.now) c.in-Some-react.number
+    c.in-Some.group.now c.index-plan.result.now c.react.new.heads.items c.react.new.seats.items
+    c.react.new.values.items at plan found in
     record {
       rule = w.0;
       at = w.1;
       within = w.2;
       seated = rw c.react.ensures.rows w.3;
       active = w.4;
+      bound = w.5;
     }
 
 pub react-requires-clause-passed : goal.react-requires-clause-passed
