@@ -53,12 +53,14 @@ fn push_atom<'a>(
 {
     let rest = after(b"[", text)?;
     let (name, rest) = name(near, rest)?;
-    let mut args = Arguments::new(*found.allocator());
-    let rest = push_arguments(&mut args, rest)?;
+    let last = found.len();
+    let args = Arguments::new(*found.allocator());
     found.push(RawAtom {
         name: CowStr::Borrowed(name),
         args,
     })?;
+    // They are read where they stay: what was just written is slow to move.
+    let rest = push_arguments(&mut found[last].args, rest)?;
     Ok((name, rest))
 }
 

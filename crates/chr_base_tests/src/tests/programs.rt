@@ -6,9 +6,9 @@ ghost use Rattle.chr_base.specs.Weights.{default_weight};
 use arrayvec::ArrayVec;
 use chr_base::atom::{Atom, SymbolId};
 use chr_base::bag::Bag;
-use chr_base::limits::{MAX_ARITY, MAX_WEIGHT};
+use chr_base::limits::{MAX_ARITY, MAX_BODY, MAX_WEIGHT};
 use chr_base::program::Program;
-use chr_base::rule::Rule;
+use chr_base::rule::{Rule, Values};
 use chr_base::term::{Cmp, Comparison, Pattern, Term};
 use chr_base::text::{in_print_order, push_store, store_text};
 use chr_base::weight::{DEFAULT_WEIGHT, Weight};
@@ -390,16 +390,22 @@ fn instances(rt: HostRuntime) {
     expect_no_instances(&rt, rt.alloc(), &rule(Cmp::Less), &UNLIKE);
 }
 
-/// Whether the rule fires on these heads, with this body.
-fn has_body(rule: &Rule, heads: &[Atom], body: &[Atom]) -> bool {
-    rule.fires(heads) && rule.body_of(heads).as_slice() == body
+/// Whether the rule fires on these heads, with this body, which the values of its variables make too.
+fn has_body(rt: &impl Abort, alloc: Global, rule: &Rule, heads: &[Atom], body: &[Atom]) -> bool {
+    let mut values = Values::new();
+    if !rule.fires_by(heads, &mut values) {
+        return false;
+    }
+    let mut pushed = Vec::with_capacity(alloc, MAX_BODY).expect(rt, "memory");
+    rule.push_body(&values, &mut pushed);
+    rule.body_of(heads).as_slice() == body && pushed.as_slice() == body
 }
 
 #[test]
 fn bodies(rt: HostRuntime) {
     let heads = [atom(0, &[2, 2, 3]), atom(1, &[9])];
     let body = [atom(2, &[9, 2]), atom(2, &[8, 2])];
-    assert!(rt; has_body(&rule(Cmp::Less), &heads, &body));
+    assert!(rt; has_body(&rt, rt.alloc(), &rule(Cmp::Less), &heads, &body));
 }
 
 /// `p/3`, `q/1` and `r/2`, with the one rule `two_heads(cmp)`.

@@ -1,14 +1,14 @@
 //! Searches by plans, compared with a plain walk over all pairs of rows.
 ghost use Rattle.std.specs.Prelude.{◌<◌, length, IfOk};
-ghost use Rattle.chr_base.specs.Rules.{heads_of};
+ghost use Rattle.chr_base.specs.Rules.{heads_of, HasInstance};
 ghost use Rattle.chr_plans.specs.Plans.{IsPlan, FitsTables, partners_of};
 ghost use Rattle.chr_tables.specs.Contents.{rows_of, index_columns};
 
 use super::atom;
 use arrayvec::ArrayVec;
 use chr_base::atom::Atom;
-use chr_base::limits::MAX_HEADS;
-use chr_base::rule::Rule;
+use chr_base::limits::{MAX_BODY, MAX_HEADS};
+use chr_base::rule::{Rule, Values};
 use chr_plans::constants::has_constants;
 use chr_plans::plan::{Lookup, Plan};
 use chr_plans::planning::plan_of;
@@ -128,6 +128,15 @@ fn expect_partners(
     assert!(rt; heads == there.as_slice());
 }
 
+/// The values of the rule's variables make the body of the instance with these heads.
+fn expect_body(rt: &impl Abort, alloc: Global, rule: &Rule, heads: &[Atom], values: &Values)
+    requires { HasInstance rule.now heads.now }
+{
+    let mut body = Vec::with_capacity(alloc, MAX_BODY).expect(rt, "memory");
+    rule.push_body(values, &mut body);
+    assert!(rt; body.as_slice() == rule.body_of(heads).as_slice());
+}
+
 /// Whether the search by a plan finds partners. Those that it finds make the rule fire.
 fn finds_partners(
     rt: &impl Abort,
@@ -143,6 +152,7 @@ fn finds_partners(
     let mut setting = set_up(rt, alloc, rule, place, rows);
     let mut heads = ArrayVec::new();
     let mut seats = ArrayVec::new();
+    let mut values = Values::new();
     let found = find_partners(
         &mut setting.tables,
         rule,
@@ -152,9 +162,11 @@ fn finds_partners(
         active,
         &mut heads,
         &mut seats,
+        &mut values,
     );
     if found {
         assert!(rt; rule.fires(&heads));
+        expect_body(rt, alloc, rule, &heads, &values);
         expect_partners(rt, place, rows, active, &heads, &seats);
     }
     found
@@ -190,6 +202,7 @@ fn reacts_at(
         active,
         &mut heads,
         &mut seats,
+        &mut Values::new(),
     );
     plan == Some(0)
 }
