@@ -16,7 +16,7 @@ use crate::rows::{Rows, rows_at};
 use arrayvec::ArrayVec;
 use chr_base::atom::Atom;
 use chr_base::limits::MAX_HEADS;
-use chr_base::rule::Rule;
+use chr_base::rule::{Rule, Values};
 use chr_plans::key::Order;
 use chr_plans::plan::{Lookup, Partner};
 use chr_plans::rows::Seat;
@@ -89,6 +89,7 @@ fn find_with(
     };
     let mut heads = ArrayVec::new();
     let mut seats = ArrayVec::new();
+    let mut values = Values::new();
     if !find_partners(
         &mut everywhere,
         rule,
@@ -98,6 +99,7 @@ fn find_with(
         atom,
         &mut heads,
         &mut seats,
+        &mut values,
     ) {
         return None;
     }

@@ -9,7 +9,7 @@ use Rattle.chr_plans.specs.Grids.{contents}
 use Rattle.chr_columns.specs.working.Resting.{grid}
 use Rattle.chr_plans.specs.Seats.{IsSeated, head}
 use Rattle.chr_tables.specs.Contents.{rows_of}
-use Rattle.chr_columns.specs.working.Firing.{leaving, seats_to}
+use Rattle.chr_columns.specs.working.Firing.{leaving, leaving_seats, seats_to}
 use Rattle.chr_columns.proofs.Firings.{rule_is, sit_there, sit_left, fired, left_over, part_left}
 use Rattle.chr_columns.proofs.Leaving.{sit_to}
 use Rattle.chr_columns.proofs.Resuming.{only_died, stands_on}
@@ -25,10 +25,10 @@ kill_all-requires c =
     let at = is.at ∙ ap Some same in
     let place = subst (λ (x : Rule). p < length (heads_of x)) same is.within in
     let seated = subst (λ x. IsSeated x (rows_of ts) p c.args.found.now.heads.items c.args.found.now.seats.items) same is.seated in
-    let back = c.deref.ensures.0 ∙ c.leaving_rows-rows.ensures in
-    sit_there ts (leaving r p c.args.found.now.heads.items) c.deref.result.now
+    let back = c.deref-2.ensures.0 ∙ c.leaving_rows-rows.ensures ∙ ap (leaving_seats r p) c.deref.ensures.0 in
+    sit_there ts (leaving r p c.args.found.now.heads.items) c.deref-2.result.now
     (sit_left c.args.self.now.rules.items c.args.o.rule r p c.args.found.now.heads.items c.args.found.now.seats.items
-    (remove (seats_to c.args.found.now.seats.items (length (heads_of r))) p) c.deref.result.now ts at place seated
+    (remove (seats_to c.args.found.now.seats.items (length (heads_of r))) p) c.deref-2.result.now ts at place seated
     (sit_to r p c.args.found.now.seats.items place) back)
 
 pub returns-clause-rested : goal.returns-clause-rested
@@ -42,15 +42,15 @@ returns-clause-rested c =
     let at = is.at ∙ ap Some same in
     let place = subst (λ (x : Rule). p < length (heads_of x)) same is.within in
     let seated = subst (λ x. IsSeated x (rows_of ts) p c.args.found.now.heads.items c.args.found.now.seats.items) same is.seated in
-    let back = c.deref.ensures.0 ∙ c.leaving_rows-rows.ensures in
+    let back = c.deref-2.ensures.0 ∙ c.leaving_rows-rows.ensures ∙ ap (leaving_seats r p) c.deref.ensures.0 in
     let sit = sit_left c.args.self.now.rules.items c.args.o.rule r p c.args.found.now.heads.items c.args.found.now.seats.items
-    (remove (seats_to c.args.found.now.seats.items (length (heads_of r))) p) c.deref.result.now ts at place seated
+    (remove (seats_to c.args.found.now.seats.items (length (heads_of r))) p) c.deref-2.result.now ts at place seated
     (sit_to r p c.args.found.now.seats.items place) back in
     record {
       set_up = left_over c.args.self.now.rules.items c.args.self.now.directory.groups.items ts us
-          (leaving r p c.args.found.now.heads.items) c.deref.result.now c.kill_all.ensures.rows c.kill_all.ensures.columns
+          (leaving r p c.args.found.now.heads.items) c.deref-2.result.now c.kill_all.ensures.rows c.kill_all.ensures.columns
           c.requires.rested.set_up;
-      rests = part_left c.args.self.now.rules.items ts us (leaving r p c.args.found.now.heads.items) c.deref.result.now
+      rests = part_left c.args.self.now.rules.items ts us (leaving r p c.args.found.now.heads.items) c.deref-2.result.now
           c.kill_all.ensures.rows sit c.requires.rested.rests;
     }
 
@@ -65,12 +65,12 @@ returns-clause-step c q standing =
     let at = is.at ∙ ap Some same in
     let place = subst (λ (x : Rule). p < length (heads_of x)) same is.within in
     let seated = subst (λ x. IsSeated x (rows_of ts) p c.args.found.now.heads.items c.args.found.now.seats.items) same is.seated in
-    let back = c.deref.ensures.0 ∙ c.leaving_rows-rows.ensures in
+    let back = c.deref-2.ensures.0 ∙ c.leaving_rows-rows.ensures ∙ ap (leaving_seats r p) c.deref.ensures.0 in
     let rule : q ≡ r = rule_is c.args.self.now.rules.items c.args.o.rule q r standing c.index-rule.ensures in
     subst (λ x. Step (x ∷ []) ((contents (grid ts) ⊕ store_of c.args.fresh.now.items) ⊕ one (head c.args.found.now.heads.items p))
     (contents (grid us) ⊕ store_of c.put_fresh.new.fresh.items)) (sym rule)
     (fired (r ∷ []) 0 r p c.args.found.now.heads.items c.args.found.now.seats.items (remove (seats_to c.args.found.now.seats.items (length (heads_of r))) p)
-    c.deref.result.now ts refl place seated (sit_to r p c.args.found.now.seats.items place) back
+    c.deref-2.result.now ts refl place seated (sit_to r p c.args.found.now.seats.items place) back
     us c.args.fresh.now.items c.put_fresh.new.fresh.items c.kill_all.ensures.rows c.put_fresh.ensures.store)
 
 pub returns-clause-standing : goal.returns-clause-standing
@@ -83,5 +83,5 @@ returns-clause-standing c =
     }) c.put_fresh.new.fresh.items
     (head c.args.found.now.heads.items c.args.o.place) c.args.o.standing c.standing_of-standing.result _
     c.standing_of-standing.ensures c.put_fresh.ensures.last
-    refl refl (only_died c.args.self.now.tables.tables.items c.kill_all.new.tables.tables.items c.deref.result.now
+    refl refl (only_died c.args.self.now.tables.tables.items c.kill_all.new.tables.tables.items c.deref-2.result.now
     c.kill_all.ensures.rows) c.requires.standing

@@ -1,4 +1,4 @@
-use Rattle.std.proofs.Common.{sym, ap, subst, ◌∙◌}
+use Rattle.std.proofs.Common.{sym, subst}
 use Rattle.chr_base.specs.FinBag.{◌⊕◌}
 use Rattle.chr_base.specs.Rules.{Step}
 use Rattle.chr_base.specs.Stores.{store_of}
@@ -11,15 +11,14 @@ use Rattle.chr_columns.proofs.rested.Rested.take.Goals as goal
 pub fire-requires-clause-instance : goal.fire-requires-clause-instance
 fire-requires-clause-instance c =
     let found = c.in-Some.ensures.found in
-    rw (c.deref.ensures.0, c.deref-2.ensures.0) (subst
-    (λ a. IsReacting c.react.new.self a c.in-Some.occurrence c.react.new.heads.items c.react.new.seats.items)
-    (sym found.active) found)
+    subst (λ a. IsReacting c.react.new.self a c.in-Some.occurrence c.react.new.found.heads.items
+    c.react.new.found.seats.items c.react.new.found.values.items) (sym found.active) found
 
 pub fire-requires-clause-standing : goal.fire-requires-clause-standing
 fire-requires-clause-standing c =
     let found = c.in-Some.ensures.found in
-    rw c.deref.ensures.0 (subst (λ a. MayGoOn c.react.new.self a c.in-Some.occurrence.standing)
-    (sym found.active) c.in-Some.ensures.standing)
+    subst (λ a. MayGoOn c.react.new.self a c.in-Some.occurrence.standing) (sym found.active)
+    c.in-Some.ensures.standing
 
 pub returns-clause-fired : goal.returns-clause-fired
 returns-clause-fired c _ =
@@ -28,11 +27,10 @@ returns-clause-fired c _ =
     let t = stored c.fire.new.self ⊕ store_of c.fire.new.fresh.items in
     let p = c.in-Some.occurrence.place in
     let own = c.args.self.now.rules.items in
-    let active = head c.deref.result.now p in
-    let a = ap (λ hs. head hs p) c.deref.ensures.0 ∙ found.active in
+    let active = head c.react.new.found.heads.items p in
     let step = carried_one c.react.new.self.rules.items c.in-Some.occurrence.rule found.rule _ _ found.at
     (c.fire.ensures.step found.rule found.at) in
     let own_step = subst (λ v. Step v.items ((stored c.react.new.self ⊕ f) ⊕ one active) t) c.react.ensures.rules
     step in
-    subst (λ x. Step own ((stored c.args.self.now ⊕ f) ⊕ one x) t) a
+    subst (λ x. Step own ((stored c.args.self.now ⊕ f) ⊕ one x) t) found.active
     (subst (λ s. Step own ((s ⊕ f) ⊕ one active) t) c.react.ensures.stored own_step)
