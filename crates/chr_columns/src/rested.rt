@@ -28,8 +28,9 @@ pub(crate) struct Rested {
     pub(crate) tables: Tables,
 }
 
-/// Room for the heads and the rows of the instance that a search finds, as many as the rule has head places, and for the
-/// values of the rule's variables. It is kept from one search to the next, since to clear it costs as much as a look-up.
+/// Room for the heads and the rows of the instance that a search finds, as many as the rule has head places, and for
+/// the values of the rule's variables. It is kept from one search to the next, since to clear it costs as much as a
+/// look-up.
 #[derive(Debug, Default, Drop)]
 pub(crate) struct Found {
     pub(crate) heads: ArrayVec<Atom, MAX_HEADS>,
