@@ -1,5 +1,6 @@
 -- Instances of rules, and the steps of a program on stores.
-use Rattle.std.specs.Prelude.{◌≡◌, ◌<◌, ◌-◌, ◌&&◌, ℕ, ℤ, pos, Bool, IsTrue, List, [], ◌++◌, map, length, get_or, nat_eq, Some, slice_get}
+use Rattle.std.specs.Prelude.{◌≡◌, ◌<◌, ◌-◌, ◌&&◌, ℕ, ℤ, pos, Bool, IsTrue, List, [], ◌++◌, map, length, get_or}
+use Rattle.std.specs.Prelude.{nat_eq, Some, slice_get}
 use Rattle.std.specs.declared.cmp.Ordering.{Ordering}
 use Rattle.std.specs.Ordering.{int_cmp, is_lt, is_le, is_gt, is_ge, is_eq, is_ne}
 use Rattle.std.specs.List.{list_all}
