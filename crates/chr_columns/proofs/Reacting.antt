@@ -78,7 +78,8 @@ pub reacting : (rules : List Rule) (groups : List Group) (rows : Tables) (column
     → (r : Rule) × (slice_get rules p.rule ≡ Some r) × (p.place < length (heads_of r))
     × IsSeated r rows p.place heads seats × (head heads p.place ≡ a) × (heads_at (valued values) r ≡ heads)
 reacting rules groups rows columns n up a t j g p heads seats values e f h =
-    let k : Reacts rules rows a (Some p) heads seats values = subst (λ o. Reacts rules rows a o heads seats values) f h in
+    let k : Reacts rules rows a (Some p) heads seats values =
+    subst (λ o. Reacts rules rows a o heads seats values) f h in
     let w = up.plans t g j p e f in
     let same : w.0 ≡ k.0 = same_Some w.0 k.0 (sym w.1 ∙ k.1) in
     (k.0, k.1, subst (λ (r : Rule). p.place < length (heads_of r)) same w.2, k.2, k.3, k.5)

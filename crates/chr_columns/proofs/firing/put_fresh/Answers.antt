@@ -38,7 +38,8 @@ returns-then-place-len-clause-last c _ =
     let n = ap length (sym c.requires.bound)
     ∙ length-map (heads_of c.args.rule.now) (atom_at (valued c.args.found.now.values.items)) in
     let place = c.requires.place in
-    let is = get_or_default c.args.found.now.heads.items c.args.place no_atom c.index-deref-place.result (omega (arith, n, place))
+    let heads = c.args.found.now.heads.items in
+    let is = get_or_default heads c.args.place no_atom c.index-deref-place.result (omega (arith, n, place))
     ∙ sym (c.index-deref-place.is
     ∙ ap (λ hs. get_or hs c.args.place c.index-deref-place.result) c.deref-then-place-len.ensures.0) in
     (c.push_body.new.items.items, c.push_copy.ensures.items ∙ ap (λ x. c.push_body.new.items.items ++ x ∷ []) (sym is))
