@@ -9,7 +9,7 @@ use Rattle.std.specs.declared.cmp.Ordering.TheVariants.{Less, Equal, Greater}
 use Rattle.std.specs.Ordering.{eq_by_cmp, is_eq, is_lt, match_ordering}
 use Rattle.std.specs.Cmp.{eq_by_cmp_equiv, tied_itself}
 use Rattle.std.specs.Map.{keys_of, remove_entry}
-use Rattle.std.specs.List.{All, AllByRecursion, AllWithin}
+use Rattle.std.specs.List.{All, AllByRecursion, AllWithin, prefix_len}
 use Rattle.std.specs.List.Sorted.{IsStrictlySortedBy, IsPartitionedBy}
 use Rattle.std.specs.BTreeMap.{is_at, insert_entry}
 use Rattle.std.specs.FinMap as map
@@ -25,7 +25,7 @@ use Rattle.chr_ops.specs.declared.range.IdRange.{IdRange}
 use Rattle.chr_ops.specs.Ids.{id_cmp}
 use Rattle.chr_ops.specs.Operations.{Operation, operations_of}
 use Rattle.chr_ops.specs.Summaries.{in_range}
-use Rattle.chr_ops.specs.working.Entries.{Rise, AllBefore, IsPlaceOf, bag_under, count_while, is_before, is_up_to}
+use Rattle.chr_ops.specs.working.Entries.{Rise, AllBefore, IsPlaceOf, bag_under, is_before, is_up_to}
 use Rattle.chr_ops.specs.working.Walks.{first_id, last_id, within}
 use Rattle.chr_ops.proofs.IdOrder.{id_total, id_exact, same_id}
 use Rattle.chr_ops.proofs.EntryLists.{sorted_from, ids_sorted, one_removed, get_value, entries_of}
@@ -53,7 +53,7 @@ down_before id a b h g = grind (arith, nat_tests, h, g)
 pub down_up_to : (id : OpId) → IsDown (is_up_to id)
 down_up_to id a b h g = grind (arith, nat_tests, h, g)
 
-each_at : (P : OpId → Type 0) (os : List Operation) → AllByRecursion P (keys_of os) → (j : ℕ) (d : Operation)
+pub each_at : (P : OpId → Type 0) (os : List Operation) → AllByRecursion P (keys_of os) → (j : ℕ) (d : Operation)
     → j < length os → P (slice_index_or os j d).0
 each_at P [] h j d l = absurd (omega (arith, l))
 each_at P (o ∷ os) h zero d l = h.0
@@ -68,6 +68,18 @@ partitioned p down (o ∷ os) rise zero (suc j) d le l h =
 partitioned p down (o ∷ os) rise (suc i) zero d le l h = absurd (omega (arith, le))
 partitioned p down (o ∷ os) rise (suc i) (suc j) d le l h =
     partitioned p down os (sorted_tail id_cmp o.0 (keys_of os) rise) i j d (omega (arith, le)) (omega (arith, l)) h
+
+-- how many entries stand before the first whose id does not pass, by a clause that computes
+abbrev pub count_while : (OpId → Bool) → List Operation → ℕ
+count_while p [] = 0
+count_while p (o ∷ os) = cond (p o.0) (suc (count_while p os)) 0
+
+pub count_prefix : (p : OpId → Bool) (os : List Operation) → count_while p os ≡ prefix_len (λ o. p o.0) os
+count_prefix p [] = refl
+count_prefix p (o ∷ os) =
+    let rest = count_prefix p os in
+    let one_more : suc (count_while p os) ≡ 1 + prefix_len (λ e. p e.0) os = omega (arith, rest) in
+    ap (λ n. cond (p o.0) n 0) one_more
 
 -- where a test changes is how many pass it first
 pub counted : (p : OpId → Bool) (os : List Operation) (i : ℕ) → i ≤ length os → AllWithin (λ o. p o.0 ≡ true) os 0 i
@@ -94,7 +106,7 @@ all_behind : (id : OpId) (os : List Operation) → AllByRecursion (λ k. id_cmp 
 all_behind id [] h = refl
 all_behind id (o ∷ os) h = ap (λ r. cond (is_eq r) (Some o.1) (bag_under os id)) h.0 ∙ all_behind id os h.1
 
-all_on : (a b : OpId) (os : List Operation) → id_cmp a b ≡ Less → AllByRecursion (λ k. id_cmp b k ≡ Less) (keys_of os)
+pub all_on : (a b : OpId) (os : List Operation) → id_cmp a b ≡ Less → AllByRecursion (λ k. id_cmp b k ≡ Less) (keys_of os)
     → AllByRecursion (λ k. id_cmp a k ≡ Less) (keys_of os)
 all_on a b [] l h = tt
 all_on a b (o ∷ os) l h = (less_on a b o.0 l h.0, all_on a b os l h.1)

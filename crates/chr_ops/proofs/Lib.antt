@@ -25,3 +25,4 @@ pub mod RunSteps
 pub mod RangesGrown
 pub mod RunsCovered
 pub mod Appended
+pub mod IdsInOrder

@@ -1,7 +1,7 @@
 -- Look-ups in a union.
-use Rattle.std.specs.Prelude.{◌≡◌, ℕ, ◌+◌, List, [], ◌∷◌, ◌++◌, Some, None, Option, Bool, true, false, cond, ◌||◌, ◌<◌}
+use Rattle.std.specs.Prelude.{◌≡◌, ℕ, ◌+◌, ◌-◌, ◌≤◌, List, [], ◌∷◌, ◌++◌, Some, None, Option, Bool, true, false, cond, ◌||◌, ◌<◌}
 use Rattle.std.specs.Prelude.{length}
-use Rattle.std.proofs.Common.{refl, sym, ap, ◌∙◌, get_or, take, drop}
+use Rattle.std.proofs.Common.{refl, sym, ap, ◌∙◌, get_or, take, drop, arith}
 use Rattle.std.specs.Option.{option_or, is_some}
 use Rattle.std.specs.List.{list_any}
 use Rattle.std.proofs.lemmas.List.{take_more, drop_more}
@@ -22,7 +22,7 @@ use Rattle.chr_ops.specs.Joins.{union, fresh}
 use Rattle.chr_ops.specs.working.Joining.{AddsIds, IsWithout}
 use Rattle.chr_ops.proofs.Told.{told_store-insert}
 
-or_none : {X : Type 0} (x : Option X) → option_or x None ≡ x
+pub or_none : {X : Type 0} (x : Option X) → option_or x None ≡ x
 or_none None = refl
 or_none (Some x) = refl
 
@@ -148,14 +148,18 @@ all_gone true b x = refl
 all_gone false b x = refl
 
 -- one before the last ids of a list is taken out after them
-pub without_earlier : {X : Type 0} (before now : map.FinMap id_cmp X) (ids : List OpId) (i : ℕ) (d : OpId)
-    → i < length ids → IsWithout now (drop (i + 1) ids) before → IsWithout (map.remove now (get_or ids i d))
-    (drop i ids) before
-without_earlier before now ids i d there h q =
-    let k = get_or ids i d in
-    map.get-remove id_total now k q ∙ ap (cond (eq_by_cmp id_cmp q k) None) (h q)
-    ∙ all_gone (eq_by_cmp id_cmp q k) (list_any (eq_by_cmp id_cmp q) (drop (i + 1) ids)) (map.get before q)
-    ∙ ap (λ xs. cond (list_any (eq_by_cmp id_cmp q) xs) None (map.get before q)) (sym (drop_more ids i d there))
+pub without_earlier : {X : Type 0} (before now next : map.FinMap id_cmp X) (ids : List OpId) (i : ℕ) (d : OpId)
+    → 0 < i → i ≤ length ids → IsWithout now (drop i ids) before → next ≡ map.remove now (get_or ids (i - 1) d)
+    → IsWithout next (drop (i - 1) ids) before
+without_earlier before now next ids i d some inside h taken q =
+    let k = get_or ids (i - 1) d in
+    let there : i - 1 < length ids = omega (arith, some, inside) in
+    let one : i - 1 + 1 ≡ i = omega (arith, some) in
+    ap (λ m. map.get m q) taken ∙ map.get-remove id_total now k q ∙ ap (cond (eq_by_cmp id_cmp q k) None) (h q)
+    ∙ all_gone (eq_by_cmp id_cmp q k) (list_any (eq_by_cmp id_cmp q) (drop i ids)) (map.get before q)
+    ∙ ap (λ n. cond (eq_by_cmp id_cmp q k || list_any (eq_by_cmp id_cmp q) (drop n ids)) None (map.get before q))
+    (sym one)
+    ∙ ap (λ xs. cond (list_any (eq_by_cmp id_cmp q) xs) None (map.get before q)) (sym (drop_more ids (i - 1) d there))
 
 -- what is without the ids that came is what was there
 pub had_back : {X : Type 0} (m n r : map.FinMap id_cmp X) (ids : List OpId) → IsWithout m ids n → IsWithout r ids n

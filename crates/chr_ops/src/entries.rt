@@ -4,10 +4,11 @@ ghost use Rattle.std.specs.Prelude.{length, option_copied};
 ghost use Rattle.std.specs.FinMap as map;
 ghost use Rattle.std.specs.FinMap.Entries.{below_all};
 ghost use Rattle.std.specs.Iterator.{at_most};
+ghost use Rattle.std.specs.List.{prefix_len};
 ghost use Rattle.std.specs.Map.Iter.{TakesFirst};
 ghost use Rattle.chr_ops.specs.Ids.{id_cmp};
 ghost use Rattle.chr_ops.specs.working.Entries.{operation_entry, bag_under, Rise, AllBefore, IsPlaceOf};
-ghost use Rattle.chr_ops.specs.working.Entries.{count_while, is_before, is_up_to};
+ghost use Rattle.chr_ops.specs.working.Entries.{is_before, is_up_to};
 ghost use Rattle.chr_ops.specs.working.Walks.{within};
 
 use crate::id::OpId;
@@ -49,7 +50,7 @@ impl Model for Entries {
 /// The number of ids that come before one.
 fn count_before(appended: &VecDeque<(OpId, SharedBag)>, id: OpId) -> usize
     requires { Rise appended.now.items }
-    ensures { result ≡ count_while (is_before id) appended.now.items }
+    ensures { result ≡ prefix_len (λ e. is_before id e.0) appended.now.items }
 {
     appended.partition_point(|entry| entry.0 < id)
 }
@@ -57,7 +58,7 @@ fn count_before(appended: &VecDeque<(OpId, SharedBag)>, id: OpId) -> usize
 /// The number of ids up to one.
 fn count_up_to(appended: &VecDeque<(OpId, SharedBag)>, id: OpId) -> usize
     requires { Rise appended.now.items }
-    ensures { result ≡ count_while (is_up_to id) appended.now.items }
+    ensures { result ≡ prefix_len (λ e. is_up_to id e.0) appended.now.items }
 {
     appended.partition_point(|entry| entry.0 <= id)
 }
@@ -135,6 +136,8 @@ fn move_all(
     for _ in 0..appended.len() {
         move_first(bags, appended)?;
     }
+    // Nothing is left, so that its room goes back and none is asked for.
+    appended.shrink_to_fit();
     Ok(())
 }
 

@@ -1,31 +1,24 @@
 //! The atoms of operations that are new to a set.
-ghost use Rattle.std.specs.Prelude.{◌≡◌, ◌++◌, ◌||◌, not, IfOk, OnOk};
+ghost use Rattle.std.specs.Prelude.{◌≡◌, ◌||◌, not, IfOk, OnOk};
 ghost use Rattle.std.specs.Ordering.{eq_by_cmp};
-ghost use Rattle.chr_base.specs.FinBag as bag;
 ghost use Rattle.chr_base.specs.Stores.{store_of};
 ghost use Rattle.chr_ops.specs.declared.id.OpId.{OpId as OpIdValue};
 ghost use Rattle.chr_ops.specs.Ids.{id_cmp};
-ghost use Rattle.chr_ops.specs.Operations.{sum_of};
+ghost use Rattle.chr_ops.specs.Operations.{Operations, sum_of};
 ghost use Rattle.chr_ops.specs.Joins.{fresh};
+ghost use Rattle.chr_ops.specs.Summaries.{CoversJust};
+ghost use Rattle.chr_ops.specs.working.Entries.{Rise};
 ghost use Rattle.chr_ops.specs.working.Joining.{is_held_or_seen};
 
+use crate::covered::Covered;
 use crate::entries::Entries;
 use crate::id::OpId;
 use crate::op::Op;
+use crate::rising::ids_rise;
 use chr_base::atom::Atom;
-use chr_base::bag::Bag;
+use chr_base::lists::push_copies;
 use std::alloc::{AllocError, Global};
 use std::collections::BTreeSet;
-
-/// Adds copies of a bag's atoms at the end.
-fn push_atoms(atoms: &mut Vec<Atom>, added: &Bag) -> Result<(), AllocError>
-    ensures { OnOk result (atoms.new.items ≡ atoms.old.items ++ bag.items added.now) }
-{
-    for atom in added.atoms() {
-        atoms.push(atom.copy())?;
-    }
-    Ok(())
-}
 
 /// Whether an id is new to a set and to some ids. From then on it is in one of them.
 fn take_note(held: &Entries, seen: &mut BTreeSet<OpId>, id: OpId) -> Result<bool, AllocError>
@@ -39,20 +32,49 @@ fn take_note(held: &Entries, seen: &mut BTreeSet<OpId>, id: OpId) -> Result<bool
     Ok(seen.insert(id)?)
 }
 
-/// Copies of the atoms of those of these operations that are new to a set, each operation once.
-pub(crate) fn fresh_atoms(
-    alloc: Global,
-    held: &Entries,
-    ops: &[Op],
-) -> Result<Vec<Atom>, AllocError>
+/// Copies of the atoms of those of these operations that are new to a set, each operation once, by a note of each id.
+fn noted_atoms(alloc: Global, held: &Entries, ops: &[Op]) -> Result<Vec<Atom>, AllocError>
     ensures { IfOk result (λ atoms. store_of atoms.items ≡ sum_of (fresh held.now ops.now)) }
 {
     let mut seen = BTreeSet::new(alloc);
     let mut atoms = Vec::new(alloc);
     for op in ops {
         if take_note(held, &mut seen, op.id())? {
-            push_atoms(&mut atoms, op.bag())?;
+            push_copies(&mut atoms, op.bag().atoms())?;
         }
     }
     Ok(atoms)
+}
+
+/// The same of a set whose ids are covered, where the operations come in the order of their ids, so that no note is
+/// needed.
+fn uncovered_atoms(alloc: Global, covered: &Covered, ops: &[Op]) -> Result<Vec<Atom>, AllocError>
+    requires { Rise ops.now }
+    ensures { IfOk result (λ atoms. (m : Operations) → CoversJust covered.now m
+        → store_of atoms.items ≡ sum_of (fresh m ops.now)) }
+{
+    let mut atoms = Vec::with_capacity(alloc, ops.len())?;
+    for op in ops {
+        if !covered.has(op.id()) {
+            push_copies(&mut atoms, op.bag().atoms())?;
+        }
+    }
+    Ok(atoms)
+}
+
+/// Copies of the atoms of those of these operations that are new to a set, each operation once.
+pub(crate) fn fresh_atoms(
+    alloc: Global,
+    held: &Entries,
+    covered: &Covered,
+    ops: &[Op],
+) -> Result<Vec<Atom>, AllocError>
+    requires { CoversJust covered.now held.now }
+    ensures { IfOk result (λ atoms. store_of atoms.items ≡ sum_of (fresh held.now ops.now)) }
+{
+    if ids_rise(ops) {
+        uncovered_atoms(alloc, covered, ops)
+    } else {
+        noted_atoms(alloc, held, ops)
+    }
 }

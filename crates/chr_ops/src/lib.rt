@@ -17,6 +17,7 @@ mod op;
 mod op_set;
 mod outside;
 mod range;
+mod rising;
 mod runs;
 mod shared_bag;
 mod summary;

@@ -225,6 +225,6 @@ impl OpSet {
     pub fn fresh_atoms(&self, alloc: Global, ops: &[Op]) -> Result<Bag, AllocError>
         ensures { IfOk result (λ bag. bag ≡ sum_of (fresh self.now ops.now)) }
     {
-        Bag::of(fresh_atoms(alloc, &self.held, ops)?)
+        Bag::of(fresh_atoms(alloc, &self.held, &self.covered, ops)?)
     }
 }

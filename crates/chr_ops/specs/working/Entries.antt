@@ -1,6 +1,5 @@
 -- The bags of operations, entries in the order of ids, and what the iterator of entries lends.
-use Rattle.std.specs.Prelude.{◌≡◌, ℕ, suc, ◌<◌, Bool, List, [], ◌∷◌, Some, Option, length, slice_index_or}
-use Rattle.std.specs.Prelude.{if◌then◌else◌}
+use Rattle.std.specs.Prelude.{◌≡◌, ℕ, ◌<◌, Bool, List, Some, Option, length, slice_index_or}
 use Rattle.std.specs.Borrow.{Bor}
 use Rattle.std.specs.BTreeMap.{is_at}
 use Rattle.std.specs.List.{AllByRecursion, remove}
@@ -42,11 +41,6 @@ is_before id k = is_lt (id_cmp k id)
 
 abbrev pub is_up_to : OpId → OpId → Bool
 is_up_to id k = is_le (id_cmp k id)
-
--- how many entries stand before the first whose id does not pass
-abbrev pub count_while : (OpId → Bool) → List Operation → ℕ
-count_while p [] = 0
-count_while p (o ∷ os) = if p o.0 then suc (count_while p os) else 0
 
 -- the entry of an id stands at a place
 pub record IsPlaceOf (os : List Operation) (id : OpId) (i : ℕ) : Type 0 where

@@ -1,7 +1,7 @@
-use Rattle.std.proofs.Common.{rules, arith}
+use Rattle.std.proofs.Common.{rules, arith, ◌∙◌}
 use Rattle.std.proofs.lemmas.List.Sorted.{IsPartitionPoint-from_clause}
 use Rattle.chr_ops.specs.working.Entries.{is_up_to}
-use Rattle.chr_ops.proofs.Appended.{counted, down_up_to, partitioned}
+use Rattle.chr_ops.proofs.Appended.{count_prefix, counted, down_up_to, partitioned}
 use Rattle.chr_ops.proofs.entries.count_up_to.Goals as goal
 
 pub returns : goal.returns
@@ -12,4 +12,4 @@ returns c =
     let point = IsPartitionPoint-from_clause (λ o. p o.0) os c.partition_point.result facts.partitioned
     (partitioned p (down_up_to c.args.id) os c.requires) (λ a r f called. search rules) in
     counted p os c.partition_point.result (omega (arith, facts.bound, c.args.appended.now.ok.0))
-    point.0 point.1
+    point.0 point.1 ∙ count_prefix p os

@@ -1,14 +1,37 @@
-use Rattle.std.proofs.Common.{rules, arith, sym, refl, ◌≡◌, Err}
+use Rattle.std.proofs.Common.{rules, arith, ap, sym, refl, ◌∙◌, ◌≡◌, false, Err}
+use Rattle.std.proofs.lemmas.Bool.{false≢true, not-true}
 use Rattle.std.proofs.lemmas.Option.{slice_get_within}
 use Rattle.chr_ops.specs.declared.fault.AddFault.TheVariants.{Clash}
+use Rattle.std.specs.FinMap as map
+use Rattle.chr_ops.specs.Summaries.{covers}
+use Rattle.chr_ops.specs.working.Entries.{Rise}
+use Rattle.chr_ops.proofs.IdsInOrder.{held_before, not_held}
 use Rattle.chr_ops.proofs.Unions.{union_none}
 use Rattle.chr_ops.proofs.JoinSteps.{taken_more, first_clash, no_clash_more}
 use Rattle.chr_ops.proofs.joining.take_all_in.Goals as goal
+use Rattle.chr_ops.proofs.joining.take_all_in.Goals.{then-apart, else-apart}
+
+pub take_in-requires : goal.take_in-requires
+take_in-requires c is_new = elim c.if-apart.branch [
+  | then-apart w ↦
+      let before = c.args.held.now in
+      let ops = c.args.ops.now in
+      let i = c.loop-op.op-index in
+      let o = c.op-item.result in
+      let rise : Rise ops = c.ids_rise-apart.ensures.0 w.if-apart.true in
+      let asked : w.has.result ≡ covers c.args.covered.now o.0 = rw w.id.ensures at w.has.ensures in
+      let uncovered : covers c.args.covered.now o.0 ≡ false =
+      sym asked ∙ not-true w.has.result (sym w.new-is ∙ is_new) in
+      let same : map.get c.loop-op.held o.0 ≡ map.get before o.0 = ap (λ m. map.get m o.0) c.loop-op.invariant.taken
+      ∙ held_before before ops i o rise c.loop-op-test.true c.op-item.is in
+      same ∙ not_held (map.get before o.0) (sym (c.requires.covers o.0) ∙ uncovered)
+  | else-apart w ↦ absurd (false≢true (sym w.if-apart.false ∙ sym w.new-is ∙ is_new))
+]
 
 pub loop-op-init : goal.loop-op-init
 loop-op-init c = record {
   taken = sym (union_none c.args.held.now);
-  told = omega (arith, c.requires, c.ranges.told.fits);
+  told = omega (arith, c.requires.told, c.ranges.told.fits);
   count = refl;
   no_clash = λ j id l. absurd (omega (arith, l));
   sized = λ h. h;

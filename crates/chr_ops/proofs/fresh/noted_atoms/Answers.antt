@@ -9,8 +9,8 @@ use Rattle.chr_ops.specs.declared.id.OpId.{OpId}
 use Rattle.chr_ops.specs.Ids.{id_cmp}
 use Rattle.chr_ops.specs.working.Joining.{is_held_or_seen}
 use Rattle.chr_ops.proofs.FreshSteps.{known_first, known_more, atoms_more, atoms_kept}
-use Rattle.chr_ops.proofs.fresh.fresh_atoms.Goals as goal
-use Rattle.chr_ops.proofs.fresh.fresh_atoms.Goals.{then-branch+in_ok-push_atoms, else-branch}
+use Rattle.chr_ops.proofs.fresh.noted_atoms.Goals as goal
+use Rattle.chr_ops.proofs.fresh.noted_atoms.Goals.{then-branch+in_ok-push_copies, else-branch}
 
 pub loop-op-init : goal.loop-op-init
 loop-op-init c = record {
@@ -31,11 +31,12 @@ loop-op-preserved c =
     rw c.id.ensures at c.in_ok-take_note.ensures.fresh in
     record {
       atoms = elim c.if-branch.branch [
-        | then-branch+in_ok-push_atoms w ↦
+        | then-branch+in_ok-push_copies w ↦
             let new : is_held_or_seen m c.loop-op.seen o.0 ≡ false =
             not-true (is_held_or_seen m c.loop-op.seen o.0) (sym asked ∙ w.if-branch.true) in
             let more : c.if-branch.atoms.items ≡ c.loop-op.atoms.items ++ bag.items o.1 = ap (λ v. v.items) w.atoms-is
-            ∙ w.in_ok-push_atoms.ensures ∙ ap (λ b. c.loop-op.atoms.items ++ bag.items b) w.bag.ensures.bag in
+            ∙ w.in_ok-push_copies.ensures.ok ∙ ap (λ xs. c.loop-op.atoms.items ++ xs) w.atoms.ensures
+            ∙ ap (λ b. c.loop-op.atoms.items ++ bag.items b) w.bag.ensures.bag in
             atoms_more m ops i o c.loop-op-test.true c.op-item.is c.loop-op.atoms.items c.if-branch.atoms.items
             c.loop-op.invariant.atoms (c.loop-op.invariant.known o.0 ∙ new) more
         | else-branch w ↦

@@ -5,7 +5,7 @@ use Rattle.chr_ops.specs.declared.id.OpId.{OpId}
 use Rattle.chr_ops.specs.Operations.{sum_of}
 use Rattle.chr_ops.specs.Joins.{union, fresh}
 use Rattle.chr_ops.specs.working.Joining.{is_held_or_seen}
-use Rattle.chr_ops.proofs.fresh.fresh_atoms.Given as goal
+use Rattle.chr_ops.proofs.fresh.noted_atoms.Given as goal
 
 abbrev pub invariant-loop-op : goal.invariant-loop-op
 invariant-loop-op l =
