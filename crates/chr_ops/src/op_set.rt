@@ -3,7 +3,7 @@ ghost use Rattle.std.specs.Prelude.{◌≡◌, ◌+◌, ◌<◌, ◌≤◌, ◌�
 ghost use Rattle.std.specs.Prelude.{option_copied};
 ghost use Rattle.std.specs.FinMap as map;
 ghost use Rattle.chr_base.specs.FinBag.{◌⊕◌};
-ghost use Rattle.chr_base.specs.Stores.{size};
+ghost use Rattle.chr_base.specs.Stores.{size, store_of};
 ghost use Rattle.chr_base.specs.Values.{HasValues};
 ghost use Rattle.chr_ops.specs.declared.id.OpId.{OpId as OpIdValue};
 ghost use Rattle.chr_ops.specs.declared.range.IdRange.{IdRange as IdRangeValue};
@@ -22,6 +22,7 @@ use crate::lacking::{lacked, lacked_of};
 use crate::limits::MAX_TOLD;
 use crate::op::Op;
 use crate::summary::Summary;
+use chr_base::atom::Atom;
 use chr_base::bag::Bag;
 use std::alloc::{AllocError, Global};
 use std::marker::Model;
@@ -225,6 +226,13 @@ impl OpSet {
     pub fn fresh_atoms(&self, alloc: Global, ops: &[Op]) -> Result<Bag, AllocError>
         ensures { IfOk result (λ bag. bag ≡ sum_of (fresh self.now ops.now)) }
     {
-        Bag::of(fresh_atoms(alloc, &self.held, &self.covered, ops)?)
+        Bag::of(self.fresh_list(alloc, ops)?)
+    }
+
+    /// The same atoms in the order of the list, which costs no sort.
+    pub fn fresh_list(&self, alloc: Global, ops: &[Op]) -> Result<Vec<Atom>, AllocError>
+        ensures { IfOk result (λ atoms. store_of atoms.items ≡ sum_of (fresh self.now ops.now)) }
+    {
+        fresh_atoms(alloc, &self.held, &self.covered, ops)
     }
 }

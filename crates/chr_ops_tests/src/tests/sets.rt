@@ -253,7 +253,9 @@ fn ranges_end_where_they_say(rt: HostRuntime) {
 /// Whether these atoms are those of the operations that the set lacks.
 fn are_fresh(rt: &impl Abort, alloc: Global, set: &OpSet, ops: &[Op], symbols: &[u16]) -> bool {
     let fresh = set.fresh_atoms(alloc, ops).expect(rt, "memory");
-    fresh.is_same(&bag(rt, alloc, symbols))
+    let listed = set.fresh_list(alloc, ops).expect(rt, "memory");
+    let wanted = bag(rt, alloc, symbols);
+    fresh.is_same(&wanted) && Bag::of(listed).expect(rt, "memory").is_same(&wanted)
 }
 
 #[test]
@@ -266,6 +268,32 @@ fn joins_count_new_operations(rt: HostRuntime) {
     assert!(rt; joins(alloc, &mut set, &repeated, Ok(1)));
     assert!(rt; are_fresh(&rt, alloc, &set, &repeated, &[]));
     assert!(rt; tells(&set, 2));
+}
+
+#[test]
+fn joins_in_the_order_of_ids_find_what_is_held(rt: HostRuntime) {
+    let alloc = rt.alloc();
+    let mut set = OpSet::new(alloc);
+    assert!(rt;
+        joins(
+            alloc,
+            &mut set,
+            &ops(&rt, alloc, &[(1, 1, 5), (1, 3, 0)]),
+            Ok(2)
+        )
+    );
+    let rising = ops(
+        &rt,
+        alloc,
+        &[(0, 9, 2), (1, 1, 5), (1, 2, 1), (1, 3, 0), (2, 0, 1)],
+    );
+    assert!(rt; are_fresh(&rt, alloc, &set, &rising, &[1, 1, 2]));
+    assert!(rt; joins(alloc, &mut set, &rising, Ok(3)));
+    assert!(rt; are_fresh(&rt, alloc, &set, &rising, &[]) && tells(&set, 5));
+    let other = ops(&rt, alloc, &[(0, 8, 2), (1, 2, 3), (2, 1, 1)]);
+    assert!(rt; joins(alloc, &mut set, &other, Err(AddFault::Clash(id(1, 2)))));
+    assert!(rt; tells(&set, 5) && is_missing(&set, id(0, 8)));
+    expect_ranges(&rt, alloc, &set, &[(0, 9, 9), (1, 1, 3), (2, 0, 0)]);
 }
 
 /// Whether the set refuses operations since this id stands for two bags.
