@@ -106,7 +106,8 @@ all_behind : (id : OpId) (os : List Operation) → AllByRecursion (λ k. id_cmp 
 all_behind id [] h = refl
 all_behind id (o ∷ os) h = ap (λ r. cond (is_eq r) (Some o.1) (bag_under os id)) h.0 ∙ all_behind id os h.1
 
-pub all_on : (a b : OpId) (os : List Operation) → id_cmp a b ≡ Less → AllByRecursion (λ k. id_cmp b k ≡ Less) (keys_of os)
+pub all_on : (a b : OpId) (os : List Operation) → id_cmp a b ≡ Less
+    → AllByRecursion (λ k. id_cmp b k ≡ Less) (keys_of os)
     → AllByRecursion (λ k. id_cmp a k ≡ Less) (keys_of os)
 all_on a b [] l h = tt
 all_on a b (o ∷ os) l h = (less_on a b o.0 l h.0, all_on a b os l h.1)

@@ -1,6 +1,6 @@
 -- Look-ups in a union.
-use Rattle.std.specs.Prelude.{◌≡◌, ℕ, ◌+◌, ◌-◌, ◌≤◌, List, [], ◌∷◌, ◌++◌, Some, None, Option, Bool, true, false, cond, ◌||◌, ◌<◌}
-use Rattle.std.specs.Prelude.{length}
+use Rattle.std.specs.Prelude.{◌≡◌, ℕ, ◌+◌, ◌-◌, ◌<◌, ◌≤◌, ◌||◌, List, [], ◌∷◌, ◌++◌, Some, None, Option, Bool, true}
+use Rattle.std.specs.Prelude.{false, cond, length}
 use Rattle.std.proofs.Common.{refl, sym, ap, ◌∙◌, get_or, take, drop, arith}
 use Rattle.std.specs.Option.{option_or, is_some}
 use Rattle.std.specs.List.{list_any}
