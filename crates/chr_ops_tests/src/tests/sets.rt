@@ -253,9 +253,8 @@ fn ranges_end_where_they_say(rt: HostRuntime) {
 /// Whether these atoms are those of the operations that the set lacks.
 fn are_fresh(rt: &impl Abort, alloc: Global, set: &OpSet, ops: &[Op], symbols: &[u16]) -> bool {
     let fresh = set.fresh_atoms(alloc, ops).expect(rt, "memory");
-    let listed = set.fresh_list(alloc, ops).expect(rt, "memory");
-    let wanted = bag(rt, alloc, symbols);
-    fresh.is_same(&wanted) && Bag::of(listed).expect(rt, "memory").is_same(&wanted)
+    let fresh = Bag::of(fresh).expect(rt, "memory");
+    fresh.is_same(&bag(rt, alloc, symbols))
 }
 
 #[test]

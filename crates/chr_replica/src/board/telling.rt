@@ -89,7 +89,7 @@ impl Board {
             return Err(Refusal::UnknownSymbol);
         }
         let fresh = self.ops.fresh_atoms(alloc, ops)?;
-        self.pool.insert(fresh.atoms())?;
+        self.pool.insert(&fresh)?;
         match self.ops.join(alloc, ops) {
             Ok(count) => {
                 // The set's type keeps the limit.
@@ -97,7 +97,7 @@ impl Board {
                 Ok(count)
             }
             Err(fault) => {
-                self.pool.remove(fresh.atoms());
+                self.pool.remove(&fresh);
                 Err(Refusal::from(fault))
             }
         }

@@ -1,10 +1,8 @@
 use Rattle.std.specs.Prelude.{IsErrOf}
 use Rattle.std.proofs.Common.{rules, ◌≡◌, ◌≤◌, All, ap, refl, sym, subst, ◌∙◌}
 use Rattle.std.specs.Arc.{arc_value}
-use Rattle.chr_base.specs.FinBag as bag
 use Rattle.chr_base.specs.FinBag.{◌⊕◌}
 use Rattle.chr_base.specs.Stores.{store_of}
-use Rattle.chr_base.proofs.Stores.{store_of-items}
 use Rattle.chr_join.specs.AcceptedPrograms.{program_in}
 use Rattle.chr_ops.specs.declared.limits.TheConstants.{MAX_TOLD}
 use Rattle.chr_ops.specs.Operations.{sum_of, told_atoms}
@@ -26,14 +24,14 @@ invariant_of-self-in-Ok c =
     let joined : c.join.new.self ≡ union r.ops c.args.ops.now = search rules in
     let agree : HasNoClash r.ops c.args.ops.now = search rules in
     let room : told_atoms c.join.new.self ≤ MAX_TOLD = search rules in
-    let fresh_is : c.in_ok-fresh.fresh ≡ sum_of (fresh r.ops c.args.ops.now) = search rules in
-    let put : c.insert.new.self.store ≡ r.pool.store ⊕ store_of (bag.items c.in_ok-fresh.fresh) = search rules in
+    let fresh_is : store_of c.in_ok-fresh.fresh.items ≡ sum_of (fresh r.ops c.args.ops.now) = search rules in
+    let put : c.insert.new.self.store ≡ r.pool.store ⊕ store_of c.in_ok-fresh.fresh.items = search rules in
     let weighed : c.insert.new.self.weighed ≡ r.pool.weighed = search rules in
     record {
       sound = c.events_keep_replicas_sound.ensures.merge p c.args.ops.now c.in-Ok.count _ _
           (merges_is p r.ops _ r.pool.store _ r.out r.next c.in-Ok.count c.args.ops.now declared agree room
           c.in-Ok.ensures.count joined
-          (put ∙ ap (λ s. r.pool.store ⊕ s) (store_of-items c.in_ok-fresh.fresh ∙ fresh_is)))
+          (put ∙ ap (λ s. r.pool.store ⊕ s) fresh_is))
           c.self.invariant.sound;
       own = weighed ∙ c.self.invariant.own;
     }
@@ -46,20 +44,20 @@ returns-in-Ok-clause-ok c =
     let joined : c.join.new.self ≡ union r.ops c.args.ops.now = search rules in
     let agree : HasNoClash r.ops c.args.ops.now = search rules in
     let room : told_atoms c.join.new.self ≤ MAX_TOLD = search rules in
-    let fresh_is : c.in_ok-fresh.fresh ≡ sum_of (fresh r.ops c.args.ops.now) = search rules in
-    let put : c.insert.new.self.store ≡ r.pool.store ⊕ store_of (bag.items c.in_ok-fresh.fresh) = search rules in
+    let fresh_is : store_of c.in_ok-fresh.fresh.items ≡ sum_of (fresh r.ops c.args.ops.now) = search rules in
+    let put : c.insert.new.self.store ≡ r.pool.store ⊕ store_of c.in_ok-fresh.fresh.items = search rules in
     subst (λ b. Merges (program_on b) b.replica c.args.ops.now c.in-Ok.count
     (replica c.join.new.self c.insert.new.self.store r.out r.next)) c.self.view_is
     (merges_is p r.ops _ r.pool.store _ r.out r.next c.in-Ok.count c.args.ops.now declared agree room
-    c.in-Ok.ensures.count joined (put ∙ ap (λ s. r.pool.store ⊕ s) (store_of-items c.in_ok-fresh.fresh ∙ fresh_is)))
+    c.in-Ok.ensures.count joined (put ∙ ap (λ s. r.pool.store ⊕ s) fresh_is))
 
 pub invariant_of-self-in-Err : goal.invariant_of-self-in-Err
 invariant_of-self-in-Err c =
     let r = c.self.inside in
     let p = program_in (arc_value r.accepted) in
     let same : c.join.new.self ≡ r.ops = search rules in
-    let put : c.insert.new.self.store ≡ r.pool.store ⊕ store_of (bag.items c.in_ok-fresh.fresh) = search rules in
-    let atoms : store_of c.atoms-in-Err.result.now ≡ store_of (bag.items c.in_ok-fresh.fresh) = search rules in
+    let put : c.insert.new.self.store ≡ r.pool.store ⊕ store_of c.in_ok-fresh.fresh.items = search rules in
+    let atoms : store_of c.deref-in-Err.result.now ≡ store_of c.in_ok-fresh.fresh.items = search rules in
     let weighed : c.remove.new.self.weighed ≡ r.pool.weighed = search rules in
     record {
       sound = subst (IsSound p) (sym (replica_is _ _ _ _ _ _ _ _ same
@@ -84,7 +82,7 @@ pub returns-clause-err : goal.returns-clause-err
 returns-clause-err c =
     let r = c.self.inside in
     let same : c.join.new.self ≡ r.ops = search rules in
-    let put : c.insert.new.self.store ≡ r.pool.store ⊕ store_of (bag.items c.in_ok-fresh.fresh) = search rules in
-    let atoms : store_of c.atoms-in-Err.result.now ≡ store_of (bag.items c.in_ok-fresh.fresh) = search rules in
+    let put : c.insert.new.self.store ≡ r.pool.store ⊕ store_of c.in_ok-fresh.fresh.items = search rules in
+    let atoms : store_of c.deref-in-Err.result.now ≡ store_of c.in_ok-fresh.fresh.items = search rules in
     same_board (arc_value r.accepted) _ _ (replica_is _ _ _ _ _ _ _ _ same
     (put_out r.pool.store _ c.remove.new.self.store _ _ put atoms c.remove.ensures.left) refl refl) ∙ c.self.view_is
