@@ -1,6 +1,6 @@
 -- Between lines no part of a replica is out.
 use Rattle.std.proofs.Common.{◌≡◌, ℕ, zero, suc, ◌-◌, [], ◌∷◌, All, refl, sym, ap, ◌∙◌, subst}
-use Rattle.std.specs.Prelude.{replicate, Result, Ok, Err, IfOk, OnOk}
+use Rattle.std.specs.Prelude.{replicate, Result, Ok, Err, IfOk, OnOk, ⊤}
 use Rattle.std.specs.FinMap as finite
 use Rattle.std.proofs.lemmas.List.Elements.{All-set, All-replicate}
 use Rattle.chr_base.specs.declared.program.Program.{Program}
@@ -14,19 +14,32 @@ use Rattle.chr_acts.specs.declared.act.Act.{Act}
 use Rattle.chr_acts.specs.declared.act.Act.TheVariants as act
 use Rattle.chr_acts.specs.declared.reply.Reply.{Reply}
 use Rattle.chr_acts.specs.declared.reply.Reply.TheVariants as reply
-use Rattle.chr_acts.specs.Acts.{FitsAct}
 use Rattle.chr_acts.specs.Events.{Does}
 use Rattle.chr_worlds.specs.Worlds.{Replicas, IsAt, Changes, Happens}
 use Rattle.chr_worlds.specs.Laws.{RunsKeep}
 use Rattle.chr_worlds.proofs.Keeping.{holds_at}
-use Rattle.chr_worlds.specs.Events.{FitsEvent}
 use Rattle.chr_worlds.specs.declared.event.Event.{Event}
 use Rattle.chr_worlds.specs.declared.event.Event.TheVariants as event
 use Rattle.chr_worlds.specs.declared.answer.Answer.{Answer}
 use Rattle.chr_worlds.specs.declared.answer.Answer.TheVariants as answer
-use Rattle.chr_report.specs.working.Services.{operations_held, AreBetweenLines, IsIdle, IsLineAct, IsLineEvent}
+use Rattle.chr_report.specs.working.Services.{operations_held, AreBetweenLines, IsIdle}
 
 -- ---- acts of lines
+
+-- what lines ask for: nothing of steps and leases
+abbrev pub IsLineAct : Act → Type 0
+IsLineAct (act.Tell op) = ⊤
+IsLineAct (act.Merge ops) = ⊤
+IsLineAct act.Settle = ⊤
+IsLineAct act.Show = ⊤
+IsLineAct act.Summary = ⊤
+IsLineAct (act.Lacks summary) = ⊤
+IsLineAct _ = ⊥
+
+abbrev pub IsLineEvent : Event → Type 0
+IsLineEvent (event.At r a) = IsLineAct a
+IsLineEvent (event.Sync a b) = ⊤
+IsLineEvent (event.Work r number steps) = ⊥
 
 same_idle : (s t : Replica) → t ≡ s → IsIdle s → IsIdle t
 same_idle s t e h = subst IsIdle (sym e) h
@@ -76,16 +89,6 @@ happens_ready keep p w e x v line h ready = (
   keep p w (e ∷ []) (x ∷ []) v (v, h, refl) ready.0,
   happens_idle p w e x v line h ready.1,
 )
-
--- and fits
-pub line_fits : (e : Event) → IsLineEvent e → FitsEvent e
-line_fits (event.Sync a b) line = tt
-line_fits (event.Work r number steps) line = tt
-line_fits (event.At r a) line = act_fits a line
-  where
-    act_fits : (a : Act) → IsLineAct a → FitsAct a
-    act_fits (act.TakeParts n) line = absurd line
-    act_fits _ line = tt
 
 -- the replica of a number
 pub ready_at : (p : Program) (w : Replicas) (r : ℕ) (s : Replica) → AreBetweenLines p w → IsAt w r s → IsSound p s

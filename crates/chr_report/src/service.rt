@@ -14,13 +14,13 @@ ghost use Rattle.chr_report.specs.Answers.{AnswersTell};
 ghost use Rattle.chr_report.specs.working.Obeying.{IsAnswered, IsAnsweredAt, ShowsFrom};
 ghost use Rattle.chr_report.specs.working.Requests.{AnswersRequest, FitsProgram};
 ghost use Rattle.chr_report.specs.working.Services.{held, served, was_stopped};
-ghost use Rattle.chr_report.specs.working.Services.{AreAtRest, HasLongRanges, IsLineEvent, IsBetweenLines};
+ghost use Rattle.chr_report.specs.working.Services.{AreAtRest, HasLongRanges, IsBetweenLines};
 
 use crate::reply::Reply;
 use crate::request::Request;
 use crate::resting::rest_replica;
 use crate::sharing::Sharing;
-use chr_acts::{Act, OpList, Reply as ActReply};
+use chr_acts::{Act, Reply as ActReply};
 use chr_base::program::Program;
 use chr_join::Accepted;
 use chr_json::DeltaVersion;
@@ -158,28 +158,16 @@ impl Service {
         }
     }
 
-    /// Lets an event of a line happen.
-    fn act(&mut self, alloc: Global, event: &Event) -> Result<Answer, AllocError>
-        requires ready { IsBetweenLines self.old }
-        requires line { IsLineEvent event.now }
-        ensures ready { OnOk result (IsBetweenLines self.new) }
-        ensures program { self.new.world.accepted ≡ self.old.world.accepted }
-        ensures happens { IfOk result (λ answer.
-            Happens (served self.old) self.old.world.replicas event.now answer self.new.world.replicas) }
-    {
-        runs_keep_replicas_sound();
-        self.world.act(alloc, event)
-    }
-
     /// Rests a replica's pool by one worker, where there is that replica.
-    fn settle_alone(&mut self, alloc: Global, replica: u64) -> Result<(), AllocError>
+    fn settle_alone(&mut self, replica: u64) -> Result<(), AllocError>
         requires { IsBetweenLines self.old }
         ensures ready { OnOk result (IsBetweenLines self.new) }
         ensures program { self.new.world.accepted ≡ self.old.world.accepted }
         ensures operations { OnOk result (held self.new ≡ held self.old) }
         ensures rests { OnOk result (AreAtRest self.new replica) }
     {
-        let answer = self.act(alloc, &Event::At(replica, Act::Settle))?;
+        runs_keep_replicas_sound();
+        let answer = self.world.settle(replica);
         if was_stopped(&answer) {
             return Err(AllocError);
         }
@@ -221,7 +209,7 @@ impl Service {
         if self.is_worth_sharing(replica) {
             self.settle_shared(rt, alloc, replica)
         } else {
-            self.settle_alone(alloc, replica)
+            self.settle_alone(replica)
         }
     }
 
@@ -248,7 +236,7 @@ impl Service {
             };
         }
         if self.waiting(replica) > MOST_WAITING && !worth_sharing {
-            return self.settle_alone(alloc, replica);
+            return self.settle_alone(replica);
         }
         Ok(())
     }
@@ -285,7 +273,8 @@ impl Service {
         ensures ready { OnOk result (IsBetweenLines self.new) }
         ensures answered { IsAnsweredAt self.old self.new replica (AnswersMerge ops.items) result }
     {
-        let answer = self.act(alloc, &Event::At(replica, Act::Merge(OpList::of(ops))))?;
+        runs_keep_replicas_sound();
+        let answer = self.world.merge(alloc, replica, &ops)?;
         self.rest_many(rt, alloc, replica)?;
         Ok(Reply::Answered(answer))
     }
@@ -310,22 +299,19 @@ impl Service {
 
     /// A replica's pool, which several threads put in order where several workers are asked for.
     fn shown<R: Threads + Wait + Sync>(
-        &mut self,
+        &self,
         rt: &R,
         alloc: Global,
         replica: u64,
     ) -> Result<Answer, AllocError>
-        requires { IsBetweenLines self.old }
-        ensures ready { OnOk result (IsBetweenLines self.new) }
-        ensures program { self.new.world.accepted ≡ self.old.world.accepted }
-        ensures happens { IfOk result (λ answer.
-            Happens (served self.old) self.old.world.replicas (Event.At replica Act.Show) answer
-            self.new.world.replicas) }
+        ensures { IfOk result (λ answer. Happens (served self.now) self.now.world.replicas
+            (Event.At replica Act.Show) answer self.now.world.replicas) }
     {
         if self.sharing.workers > 1 {
-            return self.world.show_by(rt, alloc, replica);
+            self.world.show_by(rt, alloc, replica)
+        } else {
+            self.world.show(alloc, replica)
         }
-        self.act(alloc, &Event::At(replica, Act::Show))
     }
 
     /// Rests a replica's pool and shows it.
@@ -365,32 +351,28 @@ impl Service {
     }
 
     /// Tells which ids a replica's operations have.
-    fn summary(&mut self, alloc: Global, replica: u64) -> Result<Reply, AllocError>
-        requires { IsBetweenLines self.old }
-        ensures ready { OnOk result (IsBetweenLines self.new) }
-        ensures answered { IsAnsweredAt self.old self.new replica AnswersSummary result }
+    fn summary(&self, alloc: Global, replica: u64) -> Result<Reply, AllocError>
+        ensures { IsAnsweredAt self.now self.now replica AnswersSummary result }
     {
-        let answer = self.act(alloc, &Event::At(replica, Act::Summary))?;
+        let answer = self.world.summary(alloc, replica)?;
         look_into(&answer);
         Ok(Reply::Answered(answer))
     }
 
     /// Tells a replica's operations whose ids the ranges don't cover.
     fn lacks(
-        &mut self,
+        &self,
         alloc: Global,
         replica: u64,
         ranges: Vec<IdRange>,
         version: DeltaVersion,
     ) -> Result<Reply, AllocError>
-        requires ready { IsBetweenLines self.old }
-        requires sized { All HasIds ranges.items }
-        ensures ready { OnOk result (IsBetweenLines self.new) }
-        ensures answered { IsAnsweredAt self.old self.new replica
-            (AnswersLacks (declarations (served self.old)) ranges.items version) result }
+        requires { All HasIds ranges.items }
+        ensures { IsAnsweredAt self.now self.now replica
+            (AnswersLacks (declarations (served self.now)) ranges.items version) result }
     {
         let summary = Summary::of(ranges)?;
-        let answer = self.act(alloc, &Event::At(replica, Act::Lacks(summary)))?;
+        let answer = self.world.lacks(alloc, replica, &summary)?;
         Ok(Reply::Lacked(version, answer))
     }
 

@@ -19,7 +19,7 @@ use Rattle.chr_ops.specs.Operations.{Operation, Operations}
 use Rattle.chr_ops.specs.Joins.{union}
 use Rattle.chr_ops.specs.Summaries.{CoversJust, SummariesExist, lacking}
 use Rattle.chr_ops.proofs.Unions.{union_new}
-use Rattle.chr_ops.proofs.NewsOfAll.{union_gains, union_holds, union_holds_both, same_gains, set_here, set_elsewhere}
+use Rattle.chr_ops.proofs.NewsOfAll.{union_gains, union_holds, union_holds_both, set_here, set_elsewhere}
 use Rattle.chr_ops.proofs.NewsOfAll.{gained_all, met_all}
 use Rattle.chr_replica.specs.Boards.{Held, program_on}
 use Rattle.chr_replica.specs.declared.refusal.Refusal.TheVariants as refusal
@@ -30,48 +30,34 @@ use Rattle.chr_acts.specs.declared.reply.Reply.{Reply}
 use Rattle.chr_acts.specs.declared.reply.Reply.TheVariants as reply
 use Rattle.chr_acts.specs.Events.{Does}
 use Rattle.chr_worlds.specs.Worlds.{Works}
-use Rattle.chr_worlds.specs.working.Boards.{sets_on, IsTrueOn, gained_by, is_told_new, Grows, ChangesAt, AreLacked}
-use Rattle.chr_worlds.specs.working.Boards.{ExchangesAt, HoldsAllOf}
+use Rattle.chr_worlds.specs.working.Boards.{sets_on, IsTrueOn, TellsNothing, is_told_new, Grows, ChangesAt}
+use Rattle.chr_worlds.specs.working.Boards.{AreLacked, ExchangesAt, HoldsAllOf}
 use Rattle.chr_worlds.proofs.Exchanging.{took_in}
 use Rattle.chr_worlds.proofs.Places.{part_at}
 
 -- ---- what an act gives a replica
 
-same_set : (m k : Operations) (os : List Operation) → k ≡ m → Grows m os k
-same_set m k os same =
-    subst (Grows m os) (sym same) (record { only = same_gains m (ids_of os); holds = λ q h. h })
-
-after_same : (s t u : Replica) (os : List Operation) → t ≡ u → u.operations ≡ s.operations
-    → Grows s.operations os t.operations
-after_same s t u os after same = same_set s.operations t.operations os (ap (λ r. r.operations) after ∙ same)
-
-same_replica : (s t : Replica) (os : List Operation) → t ≡ s → Grows s.operations os t.operations
-same_replica s t os same = same_set s.operations t.operations os (ap (λ r. r.operations) same)
-
 united : (m : Operations) (os : List Operation) → Grows m os (union m os)
 united m os = record { only = union_gains m os; holds = union_holds m os }
 
-does_grow : (p : Program) (s : Replica) (a : Act) (x : Reply) (t : Replica) → Does p s a x t
-    → Grows s.operations (gained_by a x) t.operations
-does_grow p s a (reply.Refused r) t h = same_replica s t _ h.2
-does_grow p s (act.Tell op) (reply.Told added.New) t h =
-    subst (Grows s.operations (op ∷ [])) (union_new s.operations op h.new ∙ sym (ap (λ r. r.operations) h.after))
-    (united s.operations (op ∷ []))
-does_grow p s (act.Tell op) (reply.Told added.Again) t h = same_replica s t _ h.2
-does_grow p s (act.Merge ops) (reply.Merged n) t h =
-    subst (Grows s.operations ops) (sym (ap (λ r. r.operations) h.after)) (united s.operations ops)
-does_grow p s (act.Step step) reply.Stepped t h = after_same s t _ _ h.after refl
-does_grow p s (act.Take part) (reply.Leased lease) t h = after_same s t _ _ h.1.after refl
-does_grow p s (act.TakeParts n) (reply.LeasedParts leases) t h = after_same s t _ _ h.1.after refl
-does_grow p s (act.Put done) reply.WasPut t h = after_same s t _ _ h.after refl
-does_grow p s (act.Recall number) reply.Recalled t h = after_same s t _ _ h.after refl
-does_grow p s act.Settle (reply.Settled n) t h = after_same s t _ _ h.0.after refl
-does_grow p s act.Settle (reply.Stopped n) t h = after_same s t _ _ h.after refl
-does_grow p s act.Show (reply.Shown bag) t h = same_replica s t _ h.2
-does_grow p s act.Summary (reply.Summed summary) t h = same_replica s t _ h.1
-does_grow p s (act.Lacks summary) (reply.Lacked ops) t h = same_replica s t _ h.1
-does_grow p s act.LeastLease (reply.LeastLease number) t h = same_replica s t _ h.1
-does_grow p s _ _ t h = absurd h
+-- but for a tell and a merge it gives none
+pub does_alike : (p : Program) (s : Replica) (a : Act) (x : Reply) (t : Replica) → TellsNothing a → Does p s a x t
+    → t.operations ≡ s.operations
+does_alike p s a (reply.Refused r) t none h = ap (λ r. r.operations) h.2
+does_alike p s (act.Tell op) _ t none h = absurd none
+does_alike p s (act.Merge ops) _ t none h = absurd none
+does_alike p s (act.Step step) reply.Stepped t none h = ap (λ r. r.operations) h.after
+does_alike p s (act.Take part) (reply.Leased lease) t none h = ap (λ r. r.operations) h.1.after
+does_alike p s (act.TakeParts n) (reply.LeasedParts leases) t none h = ap (λ r. r.operations) h.1.after
+does_alike p s (act.Put done) reply.WasPut t none h = ap (λ r. r.operations) h.after
+does_alike p s (act.Recall number) reply.Recalled t none h = ap (λ r. r.operations) h.after
+does_alike p s act.Settle (reply.Settled n) t none h = ap (λ r. r.operations) h.0.after
+does_alike p s act.Settle (reply.Stopped n) t none h = ap (λ r. r.operations) h.after
+does_alike p s act.Show (reply.Shown bag) t none h = ap (λ r. r.operations) h.2
+does_alike p s act.Summary (reply.Summed summary) t none h = ap (λ r. r.operations) h.1
+does_alike p s (act.Lacks summary) (reply.Lacked ops) t none h = ap (λ r. r.operations) h.1
+does_alike p s act.LeastLease (reply.LeastLease number) t none h = ap (λ r. r.operations) h.1
+does_alike p s _ _ t none h = absurd h
 
 -- a told operation that is not new gives none
 tell_alike : (p : Program) (s : Replica) (op : Operation) (x : Reply) (t : Replica) → is_told_new x ≡ false
@@ -81,7 +67,15 @@ tell_alike p s op (reply.Told added.Again) t other h = ap (λ r. r.operations) h
 tell_alike p s op (reply.Refused r) t other h = ap (λ r. r.operations) h.2
 tell_alike p s op _ t other h = absurd h
 
-works_alike : (p : Program) (s : Replica) (number : ℕ) (steps : List StepValue) (x : Reply) (t : Replica)
+-- nor does a merge that is refused
+merge_alike : (p : Program) (s : Replica) (ops : List Operation) (x : Reply) (t : Replica)
+    → ((n : ℕ) → x ≢ reply.Merged n) → Does p s (act.Merge ops) x t → t.operations ≡ s.operations
+merge_alike p s ops (reply.Merged n) t other h = absurd (other n refl)
+merge_alike p s ops (reply.Refused r) t other h = ap (λ r. r.operations) h.2
+merge_alike p s ops _ t other h = absurd h
+
+-- nor do steps on parts that are out
+pub works_alike : (p : Program) (s : Replica) (number : ℕ) (steps : List StepValue) (x : Reply) (t : Replica)
     → Works p s number steps x t → t.operations ≡ s.operations
 works_alike p s number steps reply.WasPut t h = ap (λ r. r.operations) h.3.after
 works_alike p s number steps (reply.Refused (refusal.NoLease n)) t h = ap (λ r. r.operations) h.1
@@ -106,58 +100,72 @@ set_again ms place m k there same =
 
 -- ---- news
 
--- what a board gained by an act is kept
-pub gained_on : (v w : News) (place : ℕ) (a : Act) (x : Reply) (os : List Operation) → os ≡ gained_by a x
-    → ((b : ℕ) (m n k : Operations) → IsTrueOf v place b m n → GainsOnly m k (ids_of os) → IsTrueOf w place b k n)
-    → ((a b : ℕ) (m n : Operations) → a ≢ place → IsTrueOf v a b m n → IsTrueOf w a b m n)
-    → (bs cs : List Held) → ChangesAt bs place (λ b t. Does (program_on b) b.replica a x t) cs
-    → IsTrueOn v bs → IsTrueOn w cs
-gained_on v w place a x os is gives others bs cs h right =
-    let grows = does_grow (program_on h.before) h.before.replica a x h.after.replica h.changed in
-    subst (IsTrueOfAll w) (sym (sets_after bs cs place _ h))
-    (gained_all v w place (ids_of os) (sets_on bs) h.before.replica.operations h.after.replica.operations gives others
-    (set_at bs place h.before h.there)
-    (subst (λ l. GainsOnly h.before.replica.operations h.after.replica.operations (ids_of l)) (sym is) grows.only)
-    grows.holds right)
+-- it stays true of boards one of which keeps its operations
+pub stays_true : (w : News) (bs : List Held) (place : ℕ) (b c : Held) → slice_get bs place ≡ Some b
+    → c.replica.operations ≡ b.replica.operations → IsTrueOn w bs → IsTrueOn w (slice_set bs place c)
+stays_true w bs place b c there same right =
+    subst (IsTrueOfAll w)
+    (sym (map-set (λ b. b.replica.operations) bs place c
+    ∙ set_again (sets_on bs) place b.replica.operations c.replica.operations (set_at bs place b there) same)) right
 
--- so is the id of a new operation that it is told
+-- as it does also where it is refused memory
+pub alike_or_not : (R : Reply → Type 0) (r : Result Reply AllocError) (b c : Held)
+    → ((x : Reply) → R x → c.replica.operations ≡ b.replica.operations) → IfOk r R → OnErr r (c ≡ b)
+    → c.replica.operations ≡ b.replica.operations
+alike_or_not R (Ok x) b c same ok err = same x ok
+alike_or_not R (Err e) b c same ok err = ap (λ d. d.replica.operations) err
+
+-- what a board gained is kept
+gained_on : (v w : News) (place : ℕ) (os : List Operation) (ids : List OpId) → ids_of os ≡ ids
+    → ((b : ℕ) (m n k : Operations) → IsTrueOf v place b m n → GainsOnly m k ids → IsTrueOf w place b k n)
+    → ((a b : ℕ) (m n : Operations) → a ≢ place → IsTrueOf v a b m n → IsTrueOf w a b m n)
+    → (bs cs : List Held) (R : Held → Replica → Type 0) (h : ChangesAt bs place R cs)
+    → h.after.replica.operations ≡ union h.before.replica.operations os → IsTrueOn v bs → IsTrueOn w cs
+gained_on v w place os ids is gives others bs cs R h after right =
+    let m = h.before.replica.operations in
+    let grows = subst (Grows m os) (sym after) (united m os) in
+    subst (IsTrueOfAll w) (sym (sets_after bs cs place R h))
+    (gained_all v w place ids (sets_on bs) m h.after.replica.operations gives others (set_at bs place h.before h.there)
+    (subst (GainsOnly m h.after.replica.operations) is grows.only) grows.holds right)
+
+-- the id of a new operation that it is told
 pub told_on : (v w : News) (place : ℕ) (id : OpId) (op : Operation) (x : Reply) → op.0 ≡ id → is_told_new x ≡ true
     → ((b : ℕ) (m n k : Operations) → IsTrueOf v place b m n → GainsOnly m k (id ∷ []) → IsTrueOf w place b k n)
     → ((a b : ℕ) (m n : Operations) → a ≢ place → IsTrueOf v a b m n → IsTrueOf w a b m n)
     → (bs cs : List Held) → ChangesAt bs place (λ b t. Does (program_on b) b.replica (act.Tell op) x t) cs
     → IsTrueOn v bs → IsTrueOn w cs
 told_on v w place id op (reply.Told added.New) same is gives others bs cs h =
-    gained_on v w place (act.Tell op) (reply.Told added.New) (op ∷ []) refl
-    (λ b m n k right grows. gives b m n k right (subst (λ q. GainsOnly m k (q ∷ [])) same grows)) others bs cs h
+    gained_on v w place (op ∷ []) (id ∷ []) (ap (λ q. q ∷ []) same) gives others bs cs _ h
+    (ap (λ r. r.operations) h.changed.after ∙ sym (union_new h.before.replica.operations op h.changed.new))
 told_on v w place id op _ same is gives others bs cs h = absurd (true≢false (sym is))
 
 -- and nothing need be kept of one that is not new
 pub not_told_on : (w : News) (place : ℕ) (op : Operation) (x : Reply) → is_told_new x ≡ false → (bs cs : List Held)
     → ChangesAt bs place (λ b t. Does (program_on b) b.replica (act.Tell op) x t) cs → IsTrueOn w bs → IsTrueOn w cs
 not_told_on w place op x other bs cs h right =
-    subst (IsTrueOfAll w)
-    (sym (sets_after bs cs place _ h
-    ∙ set_again (sets_on bs) place h.before.replica.operations h.after.replica.operations
-    (set_at bs place h.before h.there)
-    (tell_alike (program_on h.before) h.before.replica op x h.after.replica other h.changed))) right
+    subst (IsTrueOn w) (sym h.boards)
+    (stays_true w bs place h.before h.after h.there
+    (tell_alike (program_on h.before) h.before.replica op x h.after.replica other h.changed) right)
 
--- steps on parts that are out change no operations
-pub worked_on : (w : News) (place number : ℕ) (steps : List StepValue) (x : Reply) (bs cs : List Held)
-    → ChangesAt bs place (λ b t. Works (program_on b) b.replica number steps x t) cs → IsTrueOn w bs → IsTrueOn w cs
-worked_on w place number steps x bs cs h right =
-    subst (IsTrueOfAll w)
-    (sym (sets_after bs cs place _ h
-    ∙ set_again (sets_on bs) place h.before.replica.operations h.after.replica.operations
-    (set_at bs place h.before h.there)
-    (works_alike (program_on h.before) h.before.replica number steps x h.after.replica h.changed))) right
+-- the ids of operations that it merged
+pub merged_on : (v w : News) (place n : ℕ) (ops : List Operation) (x : Reply) → x ≡ reply.Merged n
+    → ((b : ℕ) (m n k : Operations) → IsTrueOf v place b m n → GainsOnly m k (ids_of ops) → IsTrueOf w place b k n)
+    → ((a b : ℕ) (m n : Operations) → a ≢ place → IsTrueOf v a b m n → IsTrueOf w a b m n)
+    → (bs cs : List Held) → ChangesAt bs place (λ b t. Does (program_on b) b.replica (act.Merge ops) x t) cs
+    → IsTrueOn v bs → IsTrueOn w cs
+merged_on v w place n ops x is gives others bs cs h =
+    let merges : Does (program_on h.before) h.before.replica (act.Merge ops) (reply.Merged n) h.after.replica =
+    subst (λ x. Does (program_on h.before) h.before.replica (act.Merge ops) x h.after.replica) is h.changed in
+    gained_on v w place ops (ids_of ops) refl gives others bs cs _ h (ap (λ r. r.operations) merges.after)
 
--- also where memory is refused
-pub worked_or_not : (w : News) (place number : ℕ) (steps : List StepValue) (r : Result Reply AllocError)
-    (bs cs : List Held) → IfOk r (λ x. ChangesAt bs place (λ b t. Works (program_on b) b.replica number steps x t) cs)
-    → OnErr r (cs ≡ bs)
+-- and nothing of those that it did not
+pub not_merged_on : (w : News) (place : ℕ) (ops : List Operation) (x : Reply) → ((n : ℕ) → x ≢ reply.Merged n)
+    → (bs cs : List Held) → ChangesAt bs place (λ b t. Does (program_on b) b.replica (act.Merge ops) x t) cs
     → IsTrueOn w bs → IsTrueOn w cs
-worked_or_not w place number steps (Ok x) bs cs ok err right = worked_on w place number steps x bs cs ok right
-worked_or_not w place number steps (Err e) bs cs ok err right = subst (IsTrueOn w) (sym err) right
+not_merged_on w place ops x other bs cs h right =
+    subst (IsTrueOn w) (sym h.boards)
+    (stays_true w bs place h.before h.after h.there
+    (merge_alike (program_on h.before) h.before.replica ops x h.after.replica other h.changed) right)
 
 -- so it is of two boards at their places
 pub true_of : (w : News) (from to : ℕ) (bs : List Held) (giver taker : Held) → IsTrueOn w bs

@@ -27,12 +27,6 @@ pub is_there : (bs : List Held) (place : ℕ) (b : Held) → place < length bs �
 is_there bs place b within read =
     slice_get-get_or bs place b within ∙ ap Some (sym read)
 
--- a board that stayed as it was is written back
-pub set_again : {A E : Type 0} (r : Result A E) (bs : List Held) (place : ℕ) (d b : Held)
-    → OnErr r (b ≡ slice_index_or bs place d) → OnErr r (slice_set bs place b ≡ bs)
-set_again (Ok x) bs place d b same = tt
-set_again (Err e) bs place d b same = ap (slice_set bs place) same ∙ set-get_or bs place d
-
 -- what a board has stands at its place
 pub part_at : {A : Type 0} (part : Held → A) (bs : List Held) (place : ℕ) (b : Held) → slice_get bs place ≡ Some b
     → slice_get (each part bs) place ≡ Some (part b)
@@ -90,22 +84,23 @@ pub untold : (n : ℕ) (b : Held) → replicas_on (replicate n b) ≡ replicate 
 untold zero b = refl
 untold (suc n) b = ap (λ l. b.replica ∷ l) (untold n b)
 
--- the boards are those that a slice of them came to
-pub slice_back : (n : ℕ) (xs ys : List Held) → length xs ≡ length ys → n ≡ length ys
-    → take n (xs ++ drop (length xs) ys) ≡ xs
-slice_back n xs ys same is =
-    take-append-le n xs (drop (length xs) ys) (omega (arith, same, is)) ∙ take_all n xs (omega (arith, same, is))
-
 -- a board of a list that is seen as another one
 pub found_there : (now bs : List Held) (place : ℕ) (b : Held) → bs ≡ now → place < length now
     → b ≡ slice_index_or bs place b → slice_get bs place ≡ Some b
 found_there now bs place b view within read = is_there bs place b (subst (λ l. place < length l) (sym view) within) read
 
--- and one that was changed through a slice of it
-pub changes_back : (now bs bs' cs ds : List Held) (place : ℕ) (R : Held → Replica → Type 0) → bs ≡ now → bs' ≡ bs
-    → ds ≡ cs → ChangesAt bs' place R cs → ChangesAt now place R ds
-changes_back now bs bs' cs ds place R view same back h =
-    subst (ChangesAt now place R) (sym back) (subst (λ es. ChangesAt es place R cs) (same ∙ view) h)
+-- and one that was changed in it
+pub changed_there : (now bs : List Held) (place : ℕ) (b c : Held) (R : Held → Replica → Type 0) → bs ≡ now
+    → place < length now → b ≡ slice_index_or bs place b → c.accepted ≡ b.accepted → R b c.replica
+    → ChangesAt now place R (slice_set bs place c)
+changed_there now bs place b c R view within read program changed = record {
+  before = b;
+  after = c;
+  there = subst (λ l. slice_get l place ≡ Some b) view (found_there now bs place b view within read);
+  program = program;
+  changed = changed;
+  boards = ap (λ l. slice_set l place c) view;
+}
 
 -- what is lacked, by the places of the boards
 pub lacked_at : (now bs : List Held) (from to : ℕ) (giver taker : Held) (ops : List Operation) → bs ≡ now

@@ -8,18 +8,18 @@ ghost use Rattle.chr_acts.specs.Acts.{FitsAct};
 ghost use Rattle.chr_acts.specs.Events.{Does};
 ghost use Rattle.chr_worlds.specs.Worlds.{Works};
 ghost use Rattle.chr_worlds.specs.working.Boards.{AreLackedAt, AreOf, ChangesAt, ExchangesAt, HoldsAllOf};
+ghost use Rattle.chr_worlds.specs.working.Boards.{TellsNothing};
 
-use crate::boards::{
-    carry_out_at, lacked, lacked_among, opened, place_of, swap_at, tell_at, work_at,
-};
-use crate::gained::{keep_gained, keep_told};
-use chr_acts::{Act, OpList, Reply};
+use crate::boards::{lacked, lacked_among, merge, opened, place_of, settle, tell, work};
+use crate::gained::{keep_merged, keep_told};
+use chr_acts::{Act, Reply, carry_out};
 use chr_base::derivation::Step;
 use chr_join::Accepted;
 use chr_ops::{News, Op, exchange_laws};
 use chr_replica::Board;
 use std::alloc::{AllocError, Global};
 use std::marker::Model;
+use std::mem::swap;
 use std::sync::Arc;
 
 /// Boards in a list. An exchange between two of them looks only at what the giver gained since the taker last held all
@@ -77,7 +77,7 @@ impl BoardList {
         &self.boards[place]
     }
 
-    /// Carries an act out on the board at a place.
+    /// Carries an act that tells nothing out on the board at a place.
     pub(crate) fn carry_out(
         &mut self,
         alloc: Global,
@@ -86,13 +86,12 @@ impl BoardList {
     ) -> Result<Reply, AllocError>
         requires place { place < length self.old }
         requires act { FitsAct act.now }
+        requires none { TellsNothing act.now }
         ensures ok { IfOk result (λ reply.
             ChangesAt self.old place (λ b t. Does (program_on b) b.replica act.now reply t) self.new) }
         ensures err { OnErr result (self.new ≡ self.old) }
     {
-        let reply = carry_out_at(alloc, &mut self.boards, place, act)?;
-        keep_gained(&mut self.news, place, act, &reply);
-        Ok(reply)
+        carry_out(alloc, &mut self.boards[place], act)
     }
 
     /// Tells the board at a place an operation.
@@ -103,9 +102,34 @@ impl BoardList {
         ensures err { OnErr result (self.new ≡ self.old) }
     {
         let id = op.id();
-        let reply = tell_at(alloc, &mut self.boards, place, op)?;
+        let reply = tell(alloc, &mut self.boards[place], op)?;
         keep_told(&mut self.news, place, id, &reply);
         Ok(reply)
+    }
+
+    /// Merges operations into those of the board at a place.
+    pub(crate) fn merge(
+        &mut self,
+        alloc: Global,
+        place: usize,
+        ops: &[Op],
+    ) -> Result<Reply, AllocError>
+        requires { place < length self.old }
+        ensures ok { IfOk result (λ reply.
+            ChangesAt self.old place (λ b t. Does (program_on b) b.replica (Act.Merge ops.now) reply t) self.new) }
+        ensures err { OnErr result (self.new ≡ self.old) }
+    {
+        let reply = merge(alloc, &mut self.boards[place], ops)?;
+        keep_merged(&mut self.news, place, ops, &reply);
+        Ok(reply)
+    }
+
+    /// Rests the pool of the board at a place.
+    pub(crate) fn settle(&mut self, place: usize) -> Reply
+        requires { place < length self.old }
+        ensures { ChangesAt self.old place (λ b t. Does (program_on b) b.replica Act.Settle result t) self.new }
+    {
+        settle(&mut self.boards[place])
     }
 
     /// Takes these steps on the part that the board at a place has out under a number, and puts back what comes of it.
@@ -121,7 +145,7 @@ impl BoardList {
             (λ b t. Works (program_on b) b.replica number steps.now reply t) self.new) }
         ensures err { OnErr result (self.new ≡ self.old) }
     {
-        work_at(alloc, &mut self.boards, place, number, steps)
+        work(alloc, &mut self.boards[place], number, steps)
     }
 
     /// Exchanges the board at a place with one of the same program. What was gained before is forgotten.
@@ -132,7 +156,7 @@ impl BoardList {
             (λ b t. (b.replica ≡ board.new.replica) × (t ≡ board.old.replica)) self.new }
         ensures program { board.new.accepted ≡ board.old.accepted }
     {
-        swap_at(&mut self.boards, place, board);
+        swap(&mut self.boards[place], board);
         self.news.forget();
     }
 
@@ -174,7 +198,7 @@ impl BoardList {
     {
         exchange_laws();
         let ops = self.lacked(alloc, giver, taker)?;
-        let reply = self.carry_out(alloc, taker, &Act::Merge(OpList::of(ops)))?;
+        let reply = self.merge(alloc, taker, &ops)?;
         self.keep_met(alloc, giver, taker, &reply);
         Ok(reply)
     }

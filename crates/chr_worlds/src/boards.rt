@@ -5,20 +5,20 @@ ghost use Rattle.std.specs.Arc.{arc_value};
 ghost use Rattle.chr_ops.specs.News.{LacksOnly};
 ghost use Rattle.chr_replica.specs.Boards.{program_on};
 ghost use Rattle.chr_replica.specs.Replicas.{first};
-ghost use Rattle.chr_acts.specs.Acts.{FitsAct};
 ghost use Rattle.chr_acts.specs.Events.{Does};
+ghost use Rattle.chr_base.specs.declared.program.Program.{Program};
+ghost use Rattle.chr_replica.specs.Replicas.{Replica};
 ghost use Rattle.chr_worlds.specs.Worlds.{Works};
-ghost use Rattle.chr_worlds.specs.working.Boards.{AreLacked, AreOf, ChangesAt, IsWorked};
+ghost use Rattle.chr_worlds.specs.working.Boards.{AreLacked, IsShown, IsWorked};
 
-use chr_acts::{Act, Reply, carry_out};
+use chr_acts::{Act, Reply};
+use chr_base::bag::Bag;
 use chr_base::derivation::Step;
 use chr_join::{Accepted, Done, StepFault};
 use chr_ops::{Added, Op, OpId, summaries_are_one};
 use chr_replica::{Board, Refusal};
 use std::alloc::{AllocError, Global};
-use std::mem::swap;
 use std::sync::Arc;
-use std::thread::Threads;
 
 /// So many boards of a program that were told nothing.
 pub(crate) fn opened(
@@ -49,41 +49,20 @@ pub(crate) fn place_of(boards: &[Board], number: u64) -> Option<usize>
     }
 }
 
-/// Shows a board by threads, which does not change it.
-pub(crate) fn shown_by<R: Threads + Sync>(
-    rt: &R,
-    alloc: Global,
-    board: &Board,
-) -> Result<Reply, AllocError>
+/// The reply of a board to a show that came to this.
+pub(crate) fn shown(outcome: Result<Bag, Refusal>) -> Result<Reply, AllocError>
     ensures { IfOk result (λ reply.
-        Does (program_on board.now) board.now.replica Act.Show reply board.now.replica) }
+        (p : Program) (s : Replica) → IsShown p s outcome → Does p s Act.Show reply s) }
 {
-    match board.show_by(rt, alloc) {
+    match outcome {
         Ok(bag) => Ok(Reply::Shown(bag)),
         Err(Refusal::Memory) => Err(AllocError),
         Err(refusal) => Ok(Reply::Refused(refusal)),
     }
 }
 
-/// Carries an act out on the board at a place.
-pub(crate) fn carry_out_at(
-    alloc: Global,
-    boards: &mut [Board],
-    place: usize,
-    act: &Act,
-) -> Result<Reply, AllocError>
-    requires place { place < length boards.old }
-    requires act { FitsAct act.now }
-    ensures ok { IfOk result (λ reply.
-        ChangesAt boards.old place (λ b t. Does (program_on b) b.replica act.now reply t) boards.new) }
-    ensures err { OnErr result (boards.new ≡ boards.old) }
-{
-    let board = &mut boards[place];
-    carry_out(alloc, board, act)
-}
-
 /// Tells a board an operation, and answers with what is refused. Where memory is refused nothing changes.
-fn tell(alloc: Global, board: &mut Board, op: Op) -> Result<Reply, AllocError>
+pub(crate) fn tell(alloc: Global, board: &mut Board, op: Op) -> Result<Reply, AllocError>
     ensures program { board.new.accepted ≡ board.old.accepted }
     ensures ok { IfOk result (λ reply.
         Does (program_on board.old) board.old.replica (Act.Tell op) reply board.new.replica) }
@@ -97,20 +76,29 @@ fn tell(alloc: Global, board: &mut Board, op: Op) -> Result<Reply, AllocError>
     }
 }
 
-/// Tells the board at a place an operation.
-pub(crate) fn tell_at(
-    alloc: Global,
-    boards: &mut [Board],
-    place: usize,
-    op: Op,
-) -> Result<Reply, AllocError>
-    requires { place < length boards.old }
+/// Merges operations into those of a board, likewise.
+pub(crate) fn merge(alloc: Global, board: &mut Board, ops: &[Op]) -> Result<Reply, AllocError>
+    ensures program { board.new.accepted ≡ board.old.accepted }
     ensures ok { IfOk result (λ reply.
-        ChangesAt boards.old place (λ b t. Does (program_on b) b.replica (Act.Tell op) reply t) boards.new) }
-    ensures err { OnErr result (boards.new ≡ boards.old) }
+        Does (program_on board.old) board.old.replica (Act.Merge ops.now) reply board.new.replica) }
+    ensures err { OnErr result (board.new ≡ board.old) }
 {
-    let board = &mut boards[place];
-    tell(alloc, board, op)
+    match board.merge(alloc, ops) {
+        Ok(count) => Ok(Reply::Merged(count)),
+        Err(Refusal::Memory) => Err(AllocError),
+        Err(refusal) => Ok(Reply::Refused(refusal)),
+    }
+}
+
+/// Rests a board's pool. Where memory is refused, the steps up to there stand, and are answered.
+pub(crate) fn settle(board: &mut Board) -> Reply
+    ensures program { board.new.accepted ≡ board.old.accepted }
+    ensures does { Does (program_on board.old) board.old.replica Act.Settle result board.new.replica }
+{
+    match board.settle() {
+        Ok(steps) => Reply::Settled(steps),
+        Err(stopped) => Reply::Stopped(stopped.steps),
+    }
 }
 
 /// What comes of the part that the board has out under a number, after these steps.
@@ -146,7 +134,12 @@ fn put_stepped(alloc: Global, board: &mut Board, number: u64, steps: &[Step]) ->
 }
 
 /// Does so, and answers with what is refused. Where memory is refused nothing changes.
-fn work(alloc: Global, board: &mut Board, number: u64, steps: &[Step]) -> Result<Reply, AllocError>
+pub(crate) fn work(
+    alloc: Global,
+    board: &mut Board,
+    number: u64,
+    steps: &[Step],
+) -> Result<Reply, AllocError>
     ensures program { board.new.accepted ≡ board.old.accepted }
     ensures ok { IfOk result (λ reply.
         Works (program_on board.old) board.old.replica number steps.now reply board.new.replica) }
@@ -157,34 +150,6 @@ fn work(alloc: Global, board: &mut Board, number: u64, steps: &[Step]) -> Result
         Err(Refusal::Memory) => Err(AllocError),
         Err(refusal) => Ok(Reply::Refused(refusal)),
     }
-}
-
-/// Does so at the board at a place.
-pub(crate) fn work_at(
-    alloc: Global,
-    boards: &mut [Board],
-    place: usize,
-    number: u64,
-    steps: &[Step],
-) -> Result<Reply, AllocError>
-    requires { place < length boards.old }
-    ensures ok { IfOk result (λ reply. ChangesAt boards.old place
-        (λ b t. Works (program_on b) b.replica number steps.now reply t) boards.new) }
-    ensures err { OnErr result (boards.new ≡ boards.old) }
-{
-    let board = &mut boards[place];
-    work(alloc, board, number, steps)
-}
-
-/// Exchanges the board at a place with one of the same program.
-pub(crate) fn swap_at(boards: &mut [Board], place: usize, board: &mut Board)
-    requires place { place < length boards.old }
-    requires program { AreOf board.old.accepted boards.old }
-    ensures swapped { ChangesAt boards.old place
-        (λ b t. (b.replica ≡ board.new.replica) × (t ≡ board.old.replica)) boards.new }
-    ensures program { board.new.accepted ≡ board.old.accepted }
-{
-    swap(&mut boards[place], board);
 }
 
 /// What the first board holds and the second lacks.

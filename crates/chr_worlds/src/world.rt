@@ -6,19 +6,19 @@ ghost use Rattle.chr_replica.specs.Replicas.{first};
 ghost use Rattle.chr_acts.specs.Acts.{FitsAct};
 ghost use Rattle.chr_worlds.specs.Events.{FitsEvent};
 ghost use Rattle.chr_worlds.specs.Laws.{AgreeAt};
-ghost use Rattle.chr_worlds.specs.Worlds.{AsksUnknown, Changes, Happens, HasReplica, IsAt};
+ghost use Rattle.chr_worlds.specs.Worlds.{Changes, Happens, HasReplica, IsAt};
 ghost use Rattle.chr_worlds.specs.Sharing.{shared_program};
+ghost use Rattle.chr_worlds.specs.working.Boards.{TellsNothing};
 
 use crate::answer::Answer;
 use crate::board_list::BoardList;
-use crate::boards::shown_by;
+use crate::boards::shown;
 use crate::event::Event;
-use chr_acts::Act;
+use chr_acts::{Act, OpList, Reply};
 use chr_base::derivation::Step;
 use chr_base::limits::MAX_REPLICAS;
-use chr_base::program::Program;
 use chr_join::Accepted;
-use chr_ops::Op;
+use chr_ops::{Op, Summary};
 use chr_replica::laws::one_answer;
 use chr_replica::{Board, declares, declares_all};
 use std::alloc::{AllocError, Global};
@@ -47,17 +47,6 @@ impl Model for World {
     ghost view = { λ w. record { accepted = arc_value w.accepted; replicas = replicas_on w.boards } };
 
     ghost invariant = { λ w. AreOf (arc_value w.accepted) w.boards };
-}
-
-/// Whether the program does not declare an atom of what is asked.
-fn asks_unknown(program: &Program, act: &Act) -> bool
-    ensures { IsTrue result ↔ AsksUnknown program.now act.now }
-{
-    match act {
-        Act::Tell(op) => !declares(program, op),
-        Act::Merge(ops) => !declares_all(program, ops.as_slice()),
-        _ => false,
-    }
 }
 
 impl World {
@@ -169,6 +158,27 @@ impl World {
         Ok(Answer::Replied(reply))
     }
 
+    /// Merges operations into those of a replica. It is the event of [`Act::Merge`], without a list of their own.
+    ///
+    /// # Errors
+    /// Where memory is refused. The world is as it was.
+    pub fn merge(&mut self, alloc: Global, replica: u64, ops: &[Op]) -> Result<Answer, AllocError>
+        ensures program { self.new.accepted ≡ self.old.accepted }
+        ensures happens { IfOk result (λ answer. Happens (shared_program self.old) self.old.replicas
+            (Event.At replica (Act.Merge ops.now)) answer self.new.replicas) }
+        ensures err { OnErr result (self.new ≡ self.old) }
+    {
+        let Some(place) = self.boards.place_of(replica) else {
+            return Ok(if declares_all(self.accepted.program(), ops) {
+                Answer::NoReplica
+            } else {
+                Answer::UnknownSymbol
+            });
+        };
+        let reply = self.boards.merge(alloc, place, ops)?;
+        Ok(Answer::Replied(reply))
+    }
+
     /// A replica takes in what another holds and it lacks. It is the event [`Event::Sync`].
     ///
     /// # Errors
@@ -189,7 +199,35 @@ impl World {
         Ok(Answer::Replied(reply))
     }
 
-    /// Shows a replica's pool, which several threads put in order. It is the event of [`Act::Show`].
+    /// Rests a replica's pool. It is the event of [`Act::Settle`]: where memory is refused, that is the answer, and the
+    /// steps up to there stand.
+    pub fn settle(&mut self, replica: u64) -> Answer
+        ensures program { self.new.accepted ≡ self.old.accepted }
+        ensures happens { Happens (shared_program self.old) self.old.replicas (Event.At replica Act.Settle) result
+            self.new.replicas }
+    {
+        let Some(place) = self.boards.place_of(replica) else {
+            return Answer::NoReplica;
+        };
+        Answer::Replied(self.boards.settle(place))
+    }
+
+    /// Shows a replica's pool. It is the event of [`Act::Show`].
+    ///
+    /// # Errors
+    /// Where memory is refused.
+    pub fn show(&self, alloc: Global, replica: u64) -> Result<Answer, AllocError>
+        ensures { IfOk result (λ answer. Happens (shared_program self.now) self.now.replicas
+            (Event.At replica Act.Show) answer self.now.replicas) }
+    {
+        let Some(board) = self.board(replica) else {
+            return Ok(Answer::NoReplica);
+        };
+        let reply = shown(board.show(alloc))?;
+        Ok(Answer::Replied(reply))
+    }
+
+    /// The same, where several threads put the pool in order.
     ///
     /// # Errors
     /// Where memory is refused.
@@ -205,8 +243,43 @@ impl World {
         let Some(board) = self.board(replica) else {
             return Ok(Answer::NoReplica);
         };
-        let reply = shown_by(rt, alloc, board)?;
+        let reply = shown(board.show_by(rt, alloc))?;
         Ok(Answer::Replied(reply))
+    }
+
+    /// Tells which ids a replica's operations have. It is the event of [`Act::Summary`].
+    ///
+    /// # Errors
+    /// Where memory is refused.
+    pub fn summary(&self, alloc: Global, replica: u64) -> Result<Answer, AllocError>
+        ensures { IfOk result (λ answer. Happens (shared_program self.now) self.now.replicas
+            (Event.At replica Act.Summary) answer self.now.replicas) }
+    {
+        let Some(board) = self.board(replica) else {
+            return Ok(Answer::NoReplica);
+        };
+        let summary = board.summary(alloc)?;
+        Ok(Answer::Replied(Reply::Summed(summary)))
+    }
+
+    /// Tells a replica's operations whose ids a summary does not cover. It is the event of [`Act::Lacks`].
+    ///
+    /// # Errors
+    /// Where memory is refused.
+    pub fn lacks(
+        &self,
+        alloc: Global,
+        replica: u64,
+        summary: &Summary,
+    ) -> Result<Answer, AllocError>
+        ensures { IfOk result (λ answer. Happens (shared_program self.now) self.now.replicas
+            (Event.At replica (Act.Lacks summary.now)) answer self.now.replicas) }
+    {
+        let Some(board) = self.board(replica) else {
+            return Ok(Answer::NoReplica);
+        };
+        let ops = board.lacks(alloc, summary)?;
+        Ok(Answer::Replied(Reply::Lacked(OpList::of(ops))))
     }
 
     /// Asks a replica to do something.
@@ -217,12 +290,33 @@ impl World {
             Happens (shared_program self.old) self.old.replicas (Event.At replica act.now) answer self.new.replicas) }
         ensures err { OnErr result (self.new ≡ self.old) }
     {
+        match act {
+            Act::Tell(op) => self.tell(alloc, replica, op.copy(alloc)?),
+            Act::Merge(ops) => self.merge(alloc, replica, ops.as_slice()),
+            Act::Settle => Ok(self.settle(replica)),
+            Act::Show => self.show(alloc, replica),
+            Act::Summary => self.summary(alloc, replica),
+            Act::Lacks(summary) => self.lacks(alloc, replica, summary),
+            _ => self.step_or_lease(alloc, replica, act),
+        }
+    }
+
+    /// Asks a replica to do something with a step or with leases.
+    fn step_or_lease(
+        &mut self,
+        alloc: Global,
+        replica: u64,
+        act: &Act,
+    ) -> Result<Answer, AllocError>
+        requires act { FitsAct act.now }
+        requires none { TellsNothing act.now }
+        ensures program { self.new.accepted ≡ self.old.accepted }
+        ensures happens { IfOk result (λ answer.
+            Happens (shared_program self.old) self.old.replicas (Event.At replica act.now) answer self.new.replicas) }
+        ensures err { OnErr result (self.new ≡ self.old) }
+    {
         let Some(place) = self.boards.place_of(replica) else {
-            return Ok(if asks_unknown(self.accepted.program(), act) {
-                Answer::UnknownSymbol
-            } else {
-                Answer::NoReplica
-            });
+            return Ok(Answer::NoReplica);
         };
         let reply = self.boards.carry_out(alloc, place, act)?;
         Ok(Answer::Replied(reply))

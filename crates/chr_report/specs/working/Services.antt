@@ -8,13 +8,9 @@ use Rattle.chr_base.specs.Rewriting.{IsAtRest}
 use Rattle.chr_ops.specs.Operations.{Operations}
 use Rattle.chr_ops.specs.Summaries.{IsApart}
 use Rattle.chr_replica.specs.Replicas.{Replica, IsSettled, IsSound}
-use Rattle.chr_acts.specs.declared.act.Act.{Act}
-use Rattle.chr_acts.specs.declared.act.Act.TheVariants as act
 use Rattle.chr_acts.specs.declared.reply.Reply.TheVariants as reply
 use Rattle.chr_worlds.specs.Worlds.{Replicas, Changes, HasReplica, IsAt}
 use Rattle.chr_worlds.specs.Sharing.{shared_program}
-use Rattle.chr_worlds.specs.declared.event.Event.{Event}
-use Rattle.chr_worlds.specs.declared.event.Event.TheVariants as event
 use Rattle.chr_worlds.specs.declared.answer.Answer.{Answer}
 use Rattle.chr_worlds.specs.declared.answer.Answer.TheVariants as answer
 use Rattle.chr_report.specs.declared.service.Service.{Service}
@@ -54,21 +50,6 @@ pub record ComesToRest (p : Program) (s t : Replica) : Type 0 where
 -- so does the replica of a number, and no other changes; or there is none
 abbrev pub RestsAt : Program → Replicas → ℕ → Replicas → Type 0
 RestsAt p w r v = ((¬ HasReplica w r) × (v ≡ w)) ⊎ Changes w r (ComesToRest p) v
-
--- what lines ask for: nothing of steps and leases
-abbrev pub IsLineAct : Act → Type 0
-IsLineAct (act.Tell op) = ⊤
-IsLineAct (act.Merge ops) = ⊤
-IsLineAct act.Settle = ⊤
-IsLineAct act.Show = ⊤
-IsLineAct act.Summary = ⊤
-IsLineAct (act.Lacks summary) = ⊤
-IsLineAct _ = ⊥
-
-abbrev pub IsLineEvent : Event → Type 0
-IsLineEvent (event.At r a) = IsLineAct a
-IsLineEvent (event.Sync a b) = ⊤
-IsLineEvent (event.Work r number steps) = ⊥
 
 -- memory was refused to a pool's rest
 abbrev pub was_stopped : Answer → Bool

@@ -1,9 +1,10 @@
 -- The boards of a world as a list.
 use Rattle.std.specs.Prelude.{◌≡◌, ℕ, List, [], ◌∷◌, ◌++◌, map as each, All, Some, slice_get, slice_set, Bool}
-use Rattle.std.specs.Prelude.{true, false}
+use Rattle.std.specs.Prelude.{true, false, Result, IfErr, IfOk, OnOk, ⊤}
 use Rattle.std.specs.FinMap as map
 use Rattle.chr_base.specs.Programs.{rules_of}
 use Rattle.chr_base.specs.declared.derivation.Step.{Step}
+use Rattle.chr_base.specs.Stores.{Store}
 use Rattle.chr_weights.specs.WeighedPrograms.{program_of}
 use Rattle.chr_join.specs.Parts.{Finished}
 use Rattle.chr_join.specs.declared.accepted.Accepted.{Accepted}
@@ -15,7 +16,9 @@ use Rattle.chr_ops.specs.Operations.{Operation, Operations}
 use Rattle.chr_ops.specs.Summaries.{CoversJust, lacking}
 use Rattle.chr_rewrite.specs.Derivations.{IsDerivation}
 use Rattle.chr_replica.specs.Boards.{Held, program_on}
-use Rattle.chr_replica.specs.Replicas.{Replica}
+use Rattle.chr_replica.specs.declared.refusal.Refusal.{Refusal}
+use Rattle.chr_replica.specs.Refusals.{RefusesShow}
+use Rattle.chr_replica.specs.Replicas.{Replica, IsSettled}
 use Rattle.chr_acts.specs.declared.act.Act.{Act}
 use Rattle.chr_acts.specs.declared.act.Act.TheVariants as act
 use Rattle.chr_acts.specs.declared.reply.Reply.{Reply}
@@ -49,6 +52,12 @@ pub record IsWorked (p : Program) (s : Replica) (number : ℕ) (steps : List Ste
   pub numbered : d.number ≡ number
   pub end : IsDerivation (rules_of p) steps d.part d.result
 
+-- what came of a show of the replica s of the program p: its pool, or why it is not shown
+pub record IsShown (p : Program) (s : Replica) (outcome : Result Store Refusal) : Type 0 where
+  pub pool : IfOk outcome (λ bag. bag ≡ s.pool)
+  pub settled : OnOk outcome (IsSettled p s)
+  pub refused : IfErr outcome (RefusesShow p s)
+
 -- the operations are those of m that n lacks
 pub record AreLacked (m n : Operations) (ops : List Operation) : Type 0 where
   pub summary : List IdRange
@@ -77,17 +86,11 @@ sets_on bs = each (λ b. b.replica.operations) bs
 abbrev pub IsTrueOn : News → List Held → Type 0
 IsTrueOn w bs = IsTrueOfAll w (sets_on bs)
 
--- the operations that an act brings
-abbrev pub brought_by : Act → List Operation
-brought_by (act.Tell op) = op ∷ []
-brought_by (act.Merge ops) = ops
-brought_by _ = []
-
--- those that a replica may have gained by it, with this reply
-abbrev pub gained_by : Act → Reply → List Operation
-gained_by a (reply.Told added.New) = brought_by a
-gained_by a (reply.Merged n) = brought_by a
-gained_by a _ = []
+-- it brings a replica no operations
+abbrev pub TellsNothing : Act → Type 0
+TellsNothing (act.Tell op) = ⊥
+TellsNothing (act.Merge ops) = ⊥
+TellsNothing _ = ⊤
 
 -- whether a told operation was new
 abbrev pub is_told_new : Reply → Bool

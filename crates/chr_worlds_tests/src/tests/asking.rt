@@ -116,16 +116,9 @@ pub fn event(rt: &impl Abort, alloc: Global, text: &str, ask: Ask) -> Event {
     }
 }
 
-/// What the world answers to the event, with ample memory. An operation that is told moves into it.
+/// What the world answers to the event, with ample memory.
 pub fn answer(rt: &impl Abort, alloc: Global, world: &mut World, event: &Event) -> Answer {
     assert!(rt; event.fits(), "it does not fit");
-    if let Event::At(replica, Act::Tell(op)) = event {
-        let op = op.copy(alloc).expect(rt, "memory");
-        return world.tell(alloc, *replica, op).expect(rt, "memory");
-    }
-    if let Event::Sync(giver, taker) = event {
-        return world.sync(alloc, *giver, *taker).expect(rt, "memory");
-    }
     world.act(alloc, event).expect(rt, "memory")
 }
 

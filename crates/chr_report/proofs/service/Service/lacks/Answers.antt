@@ -1,4 +1,4 @@
-use Rattle.std.proofs.Common.{codes}
+use Rattle.std.proofs.Common.{codes, refl}
 use Rattle.chr_base.specs.Programs.{declarations}
 use Rattle.chr_acts.specs.declared.act.Act.TheVariants as act
 use Rattle.chr_worlds.specs.declared.event.Event.TheVariants as event
@@ -7,17 +7,17 @@ use Rattle.chr_report.proofs.Reading.{lacks_answers}
 use Rattle.chr_report.proofs.Writable.{happens_written}
 use Rattle.chr_report.proofs.service.Service.lacks.Goals as goal
 
-pub returns-clause-answered : goal.returns-clause-answered
-returns-clause-answered c =
+pub returns : goal.returns
+returns c =
     record {
-      program = c.in_ok-answer.ensures.program;
+      program = refl;
       writable =
-          happens_written (served c.args.self.now) c.args.self.now.world.replicas c.act.new.self.world.replicas
+          happens_written (served c.args.self.now) c.args.self.now.world.replicas c.args.self.now.world.replicas
           (event.At c.args.replica (act.Lacks c.in_ok-summary.summary)) c.in_ok-answer.answer tt
-          c.in_ok-answer.ensures.happens;
+          c.in_ok-answer.ensures;
       answer =
           lacks_answers (declarations (served c.args.self.now)) (codes "merged ") c.args.version
-          (served c.args.self.now) c.args.self.now.world.replicas c.act.new.self.world.replicas c.args.replica
+          (served c.args.self.now) c.args.self.now.world.replicas c.args.self.now.world.replicas c.args.replica
           c.in_ok-summary.summary c.args.ranges.items c.in_ok-answer.answer c.in_ok-summary.ensures
-          c.in_ok-answer.ensures.happens;
+          c.in_ok-answer.ensures;
     }

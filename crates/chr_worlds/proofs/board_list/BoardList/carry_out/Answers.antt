@@ -1,21 +1,27 @@
-use Rattle.std.proofs.Common.{length, sym, subst, ap, ◌∙◌}
-use Rattle.chr_worlds.specs.working.Boards.{IsTrueOn}
-use Rattle.chr_worlds.proofs.Places.{slice_back, changes_back}
+use Rattle.std.proofs.lemmas.Result.{IfOk-weaker}
+use Rattle.chr_acts.specs.Events.{Does}
+use Rattle.chr_replica.specs.Boards.{program_on}
+use Rattle.chr_worlds.proofs.Gaining.{alike_or_not, does_alike, stays_true}
+use Rattle.chr_worlds.proofs.Places.{changed_there, found_there}
 use Rattle.chr_worlds.proofs.board_list.BoardList.carry_out.Goals as goal
 
-pub invariant_of-self-2 : goal.invariant_of-self-2
-invariant_of-self-2 c =
+pub carry_out-requires : goal.carry_out-requires
+carry_out-requires c = c.requires.act
+
+pub invariant_of-self : goal.invariant_of-self
+invariant_of-self c =
     let bs = c.self.inside.boards.items in
-    let kept = slice_back c.self.inside.boards.len c.carry_out_at.new.boards bs
-    (c.carry_out_at.auto.boards ∙ ap length c.deref_mut.ensures.value) c.self.inside.boards.ok.0 in
-    subst (IsTrueOn c.keep_gained.new.news) (sym kept)
-    (c.keep_gained.ensures c.deref_mut.result.now c.carry_out_at.new.boards c.in_ok-reply.ensures.ok
-    (subst (IsTrueOn c.self.inside.news) (sym c.deref_mut.ensures.value) c.self.invariant))
+    let b = c.index_mut.result.now in
+    let d = c.carry_out.new.board in
+    stays_true c.self.inside.news bs c.args.place b d
+    (found_there c.args.self.now bs c.args.place b c.self.view_is c.requires.place c.index_mut.ensures.value)
+    (alike_or_not _ c.carry_out.result b d
+    (λ x does. does_alike (program_on b) b.replica c.args.act.now x d.replica c.requires.none does)
+    c.carry_out.ensures.ok c.carry_out.ensures.err)
+    c.self.invariant
 
 pub returns-clause-ok : goal.returns-clause-ok
-returns-clause-ok c =
-    let bs = c.self.inside.boards.items in
-    let kept = slice_back c.self.inside.boards.len c.carry_out_at.new.boards bs
-    (c.carry_out_at.auto.boards ∙ ap length c.deref_mut.ensures.value) c.self.inside.boards.ok.0 in
-    changes_back c.args.self.now bs c.deref_mut.result.now c.carry_out_at.new.boards _ c.args.place _ c.self.view_is
-    c.deref_mut.ensures.value kept c.in_ok-reply.ensures.ok
+returns-clause-ok c = IfOk-weaker c.carry_out.result _ _ (λ x does.
+    changed_there c.args.self.now c.self.inside.boards.items c.args.place c.index_mut.result.now c.carry_out.new.board
+    (λ b t. Does (program_on b) b.replica c.args.act.now x t) c.self.view_is c.requires.place
+    c.index_mut.ensures.value c.carry_out.ensures.program does) c.carry_out.ensures.ok

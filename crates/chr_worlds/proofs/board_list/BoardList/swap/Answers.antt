@@ -1,5 +1,5 @@
-use Rattle.std.proofs.Common.{length, ap, ◌∙◌}
-use Rattle.chr_worlds.proofs.Places.{slice_back, changes_back}
+use Rattle.std.proofs.Common.{◌≡◌, sym, ap, ◌∙◌}
+use Rattle.chr_worlds.proofs.Places.{changed_there, found_there, of_program}
 use Rattle.chr_worlds.proofs.board_list.BoardList.swap.Goals as goal
 
 pub invariant_of-self : goal.invariant_of-self
@@ -7,8 +7,14 @@ invariant_of-self c = λ a b m n at_a at_b. c.forget.ensures a b m n
 
 pub returns-clause-swapped : goal.returns-clause-swapped
 returns-clause-swapped c =
+    let now = c.args.self.now in
     let bs = c.self.inside.boards.items in
-    let kept = slice_back c.self.inside.boards.len c.swap_at.new.boards bs
-    (c.swap_at.auto.boards ∙ ap length c.deref_mut.ensures.value) c.self.inside.boards.ok.0 in
-    changes_back c.args.self.now bs c.deref_mut.result.now c.swap_at.new.boards _ c.args.place _ c.self.view_is
-    c.deref_mut.ensures.value kept c.swap_at.ensures.swapped
+    let k = c.args.place in
+    let b = c.index_mut.result.now in
+    let there = found_there now bs k b c.self.view_is c.requires.place c.index_mut.ensures.value in
+    changed_there now bs k b c.swap.new.x
+    (λ b t. (b.replica ≡ c.swap.new.y.replica) × (t ≡ c.args.board.now.replica)) c.self.view_is c.requires.place
+    c.index_mut.ensures.value
+    (ap (λ b. b.accepted) c.swap.ensures.x_after
+    ∙ sym (of_program c.args.board.now.accepted bs k b c.requires.program there))
+    (ap (λ b. b.replica) (sym c.swap.ensures.y_after), ap (λ b. b.replica) c.swap.ensures.x_after)
