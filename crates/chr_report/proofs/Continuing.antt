@@ -13,10 +13,13 @@ use Rattle.chr_ops.specs.Operations.{Operations}
 use Rattle.chr_json.specs.Lines.{is_blank_line}
 use Rattle.chr_report.specs.Lines.{lines, without_return}
 use Rattle.chr_report.specs.declared.answering.Answering.{Answering}
-use Rattle.chr_report.specs.working.Continuing.{last_bytes, left_lines, Continues, GoesOn}
+use Rattle.chr_report.specs.declared.request.Request.{Request}
+use Rattle.chr_report.specs.working.Continuing.{Continues, GoesOn}
+use Rattle.chr_report.specs.working.LinesLeft.{last_bytes, left_lines}
 use Rattle.chr_report.specs.working.Services.{held, served, IsBetweenLines}
 use Rattle.chr_report.specs.Answers.{AnswersAll, AnswersFirst}
-use Rattle.chr_report.specs.working.Answered.{AnswersLine, AddsAnswer, AnswersRest}
+use Rattle.chr_report.specs.working.Answered.{AnswersLine, AddsAnswer, AddsReply, AnswersRest}
+use Rattle.chr_report.specs.working.Requests.{AsksFirst}
 
 pub begins : (ds : List Declaration) (rules : List Rule) (all : List (List ℕ)) (start : List Operations)
     (before : List ℕ) → Continues ds rules all start before all start before
@@ -95,6 +98,24 @@ first_answered text s t left line stripped is split strip ready program answers 
       (subst (λ l. AnswersLine ds rules (held s.service) l (string_bytes s.out) (held t.service) (string_bytes t.out))
       strip answers);
 }
+
+-- so it is by what was known to be asked
+pub known_answered : (text : List ℕ) (s t : Answering) (left : ℕ) (q : Request) → s.left ≡ Some left
+    → AsksFirst (served s.service) text left t.left q
+    → IsBetweenLines t.service → t.service.world.accepted ≡ s.service.world.accepted
+    → AddsReply (declarations (served s.service)) (rules_of (served s.service)) (held s.service) q
+    (string_bytes s.out) (held t.service) (string_bytes t.out)
+    → GoesOn text s t
+known_answered text s t left q is known ready program reply =
+    let rules = rules_of (served s.service) in
+    let answer : AddsAnswer (declarations (served s.service)) rules (held s.service) (without_return known.line)
+    (string_bytes s.out) (held t.service) (string_bytes t.out) = record {
+      text = reply.text;
+      answers = known.asks.answers rules (held s.service) reply.text (held t.service) reply.answers;
+      out_is = reply.out_is;
+    } in
+    first_answered text s t left known.line (without_return known.line) is known.first refl ready program
+    (rw known.spoken answer)
 
 -- nothing is left
 pub all_answered : (text : List ℕ) (s t : Answering) → s.left ≡ Some (length text) → t.left ≡ None → GoesOn text s t

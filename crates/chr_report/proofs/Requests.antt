@@ -68,11 +68,16 @@ second_of_each P (x ∷ xs) [] h = absurd h
 second_of_each P (x ∷ xs) (y ∷ ys) h = All-cons P y ys h.0 (second_of_each P xs ys h.1)
 
 -- one more piece that was read
-pub one_piece : (p : Program) (o : Option (Vec Heard Global)) (more : Vec Heard Global) (lines new : List Heard)
+pub one_piece : (p : Program) (text : List ℕ) (o : Option (Vec Heard Global)) (more : Vec Heard Global) (lines new : List Heard)
     (all rest : List (Option (Vec Heard Global))) → all ≡ o ∷ rest → o ≡ Some more
-    → All (IsHeard p) lines → AreHeard p all → new ≡ lines ++ more.items → All (IsHeard p) new × AreHeard p rest
-one_piece p o more lines new all rest split is before are e =
-    let read = λ (q : Option (Vec Heard Global)). IfSome q (λ ls. All (IsHeard p) ls.items) in
+    → All (IsHeard p text) lines → AreHeard p text all → new ≡ lines ++ more.items → All (IsHeard p text) new × AreHeard p text rest
+one_piece p text o more lines new all rest split is before are e =
+    let read = λ (q : Option (Vec Heard Global)). IfSome q (λ ls. All (IsHeard p text) ls.items) in
     let parts : All read (o ∷ rest) = subst (All read) split are in
     let here : read (Some more) = subst read is (All-head read o rest parts) in
-    (subst (All (IsHeard p)) (sym e) (All-append (IsHeard p) lines more.items before here), All-tail read o rest parts)
+    (subst (All (IsHeard p text)) (sym e) (All-append (IsHeard p text) lines more.items before here), All-tail read o rest parts)
+
+-- what was heard after the first line
+pub rest_heard : (p : Program) (text : List ℕ) (all rest : List Heard) (h : Heard) → all ≡ h ∷ rest
+    → All (IsHeard p text) all → All (IsHeard p text) rest
+rest_heard p text all rest h split are = All-tail (IsHeard p text) h rest (subst (All (IsHeard p text)) split are)

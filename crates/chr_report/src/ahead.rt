@@ -1,10 +1,10 @@
 //! Command lines that several threads read before their turn.
-ghost use Rattle.std.specs.Prelude.{◌≤◌, All, IfOk, IfSome};
+ghost use Rattle.std.specs.Prelude.{◌≡◌, ◌+◌, ◌<◌, ◌≤◌, List, ℕ, All, IfOk, IfSome};
 ghost use Rattle.chr_base.specs.declared.program.Program.{Program as ProgramValue};
-ghost use Rattle.chr_json.specs.Reads.{line_said};
-ghost use Rattle.chr_report.specs.working.Requests.{AreHeard, Asks, IsAhead, IsHeard};
+ghost use Rattle.chr_report.specs.working.LinesLeft.{left_size};
+ghost use Rattle.chr_report.specs.working.Requests.{AreHeard, AsksFirst, IsAhead, IsHeard};
 
-use crate::input::{ended_line, next_line, without_return};
+use crate::input::{ended_line, last_bytes, next_of_last, without_return};
 use crate::request::{Request, request_of};
 use chr_base::program::Program;
 use chr_json::is_blank;
@@ -14,88 +14,102 @@ use std::thread::Threads;
 use std::vec::IntoIter;
 
 /// So many bytes of lines are read ahead at most for each worker, and the rest of the line in which they end.
-const PIECE: usize = 262_144;
+const PIECE: usize = 1_048_576;
 
 /// So many bytes are worth a thread.
 const LEAST_PIECE: usize = 32_768;
 
 /// So many lines of them at most, so that what short lines ask for takes no more memory than that.
-const MOST_LINES: usize = 32_768;
+const MOST_LINES: usize = 65_536;
 
-/// A copy of a line with what it asks for, if that is known.
+/// What the first of a text's last lines asks for, if that is known and the line is not blank: how many bytes are left
+/// of the text at the line's start, and how many after its end.
 #[derive(Drop)]
 pub(crate) struct Heard {
-    pub(crate) line: Vec<u8>,
+    pub(crate) left: usize,
+    pub(crate) more: Option<usize>,
     pub(crate) request: Option<Request>,
 }
 
-/// Whole lines.
-#[derive(Drop)]
-struct Piece<'a> {
-    text: &'a [u8],
+/// Whole lines of a text: how many bytes are left of it where they begin, and how many where they end.
+#[derive(Clone, Copy)]
+struct Piece {
+    from: usize,
+    to: usize,
 }
 
-/// The first lines of a text, about so many bytes, and what comes after them.
-fn first_piece(text: &[u8], size: usize) -> (Piece<'_>, Option<&[u8]>) {
-    let (_, rest) = text.split_at(size.min(text.len()));
-    match ended_line(rest) {
-        Some((_, more)) => {
-            let (piece, _) = text.split_at(text.len() - more.len());
-            (Piece { text: piece }, Some(more))
-        }
-        None => (Piece { text }, None),
+/// The lines that begin where so many bytes are left of a text, about so many bytes of them.
+fn first_piece(text: &[u8], from: usize, size: usize) -> Piece {
+    match ended_line(last_bytes(text, from.saturating_sub(size))) {
+        Some((_, more)) => Piece {
+            from,
+            to: more.len(),
+        },
+        None => Piece { from, to: 0 },
     }
 }
 
-/// The first lines of a text, in as many pieces as there are workers, and how many bytes come after them.
+/// The lines that begin where so many bytes are left of a text, in as many pieces as there are workers, and how many
+/// bytes come after them. They are half of all that is left, where it is not much, so that these are answered while
+/// others are read.
 fn first_pieces(
     alloc: Global,
     text: &[u8],
+    from: usize,
     workers: u32,
-) -> Result<(Vec<Piece<'_>>, usize), AllocError>
+) -> Result<(Vec<Piece>, usize), AllocError>
     requires { 1 ≤ workers }
 {
-    let size = (text.len() / workers as usize).clamp(LEAST_PIECE, PIECE);
+    let size = (from / workers as usize / 2).clamp(LEAST_PIECE, PIECE);
     let mut pieces = Vec::new(alloc);
-    let mut next = Some(text);
+    let mut left = from;
     for _ in 0..workers {
-        let Some(rest) = next else {
+        if left == 0 {
             break;
-        };
-        let (piece, more) = first_piece(rest, size);
+        }
+        let piece = first_piece(text, left, size);
         pieces.push(piece)?;
-        next = more;
+        left = piece.to;
     }
-    Ok((pieces, next.map_or(0, |rest| rest.len())))
+    Ok((pieces, left))
 }
 
-/// What a line asks for, where memory is left.
-fn read_one(alloc: Global, program: &Program, line: &[u8]) -> Result<Heard, AllocError>
-    ensures { IfOk result (IsHeard program.now) }
+/// What the first line of a text's last bytes asks for, so many.
+fn read_one(alloc: Global, program: &Program, text: &[u8], left: usize) -> Heard
+    ensures heard { IsHeard program.now text.now result }
+    ensures shorter { left_size result.more < left + 1 }
 {
-    Ok(Heard {
-        line: line.to_vec(alloc)?,
-        request: request_of(alloc, program, line).ok(),
-    })
+    let (line, more) = next_of_last(text, left);
+    let line = without_return(line);
+    let mut request = None;
+    if !is_blank(line) {
+        request = request_of(alloc, program, line).ok();
+    }
+    Heard {
+        left,
+        more,
+        request,
+    }
 }
 
-/// Reads the lines of a piece that are not blank.
-fn read_piece(alloc: Global, program: &Program, text: &[u8]) -> Result<Vec<Heard>, AllocError>
-    ensures { IfOk result (λ lines. All (IsHeard program.now) lines.items) }
+/// Reads the lines of a piece.
+fn read_piece(
+    alloc: Global,
+    program: &Program,
+    text: &[u8],
+    piece: Piece,
+) -> Result<Vec<Heard>, AllocError>
+    ensures { IfOk result (λ lines. All (IsHeard program.now text.now) lines.items) }
 {
     let mut found = Vec::new(alloc);
-    let mut next = Some(text);
-    while let Some(rest) = next {
-        if found.len() == MOST_LINES {
+    let mut next = Some(piece.from);
+    while let Some(left) = next {
+        if left <= piece.to || found.len() == MOST_LINES {
             break;
         }
-        let (line, more) = next_line(rest);
-        let line = without_return(line);
-        if !is_blank(line) {
-            let heard = read_one(alloc, program, line)?;
-            found.push(heard)?;
-        }
-        next = more;
+        let heard = read_one(alloc, program, text, left);
+        next = heard.more;
+        found.push(heard)?;
     }
     Ok(found)
 }
@@ -105,24 +119,26 @@ fn read_pieces(
     rt: &(impl Threads + Sync),
     alloc: Global,
     program: &Program,
+    text: &[u8],
     pieces: &[Piece],
 ) -> Result<Vec<Option<Vec<Heard>>>, AllocError>
-    ensures { IfOk result (λ found. AreHeard program.now found.items) }
+    ensures { IfOk result (λ found. AreHeard program.now text.now found.items) }
 {
     pieces
         .par_iter()
         .with_min_len(1)
         .map(
             |piece: &Piece| -> Option<Vec<Heard>>
-                ensures { IfSome result (λ lines. All (IsHeard program.entry.now) lines.items) }
-            { read_piece(alloc, program, piece.text).ok() },
+                ensures { IfSome result (λ lines. All (IsHeard program.entry.now text.entry.now) lines.items) }
+            { read_piece(alloc, program, text, *piece).ok() },
         )
         .collect(rt, alloc)
 }
 
 /// The lines of the first pieces, up to one that was not read to its end.
 fn joined(alloc: Global, found: Vec<Option<Vec<Heard>>>) -> Result<Vec<Heard>, AllocError>
-    ensures { IfOk result (λ lines. (p : ProgramValue) → AreHeard p found.items → All (IsHeard p) lines.items) }
+    ensures { IfOk result (λ lines. (p : ProgramValue) (text : List ℕ) → AreHeard p text found.items
+        → All (IsHeard p text) lines.items) }
 {
     let mut lines = Vec::new(alloc);
     for piece in found {
@@ -145,19 +161,20 @@ pub(crate) struct Ahead {
     pub(crate) left: usize,
 }
 
-/// Reads the first lines of a text by so many threads.
+/// Reads the lines that begin where so many bytes are left of a text, as far as so many threads read at once.
 fn read_ahead(
     rt: &(impl Threads + Sync),
     alloc: Global,
     program: &Program,
     text: &[u8],
+    from: usize,
     workers: u32,
 ) -> Result<Ahead, AllocError>
     requires { 1 ≤ workers }
-    ensures { IfOk result (IsAhead program.now) }
+    ensures { IfOk result (IsAhead program.now text.now) }
 {
-    let (pieces, left) = first_pieces(alloc, text, workers)?;
-    let found = read_pieces(rt, alloc, program, &pieces)?;
+    let (pieces, left) = first_pieces(alloc, text, from, workers)?;
+    let found = read_pieces(rt, alloc, program, text, &pieces)?;
     let heard = joined(alloc, found)?.into_iter();
     Ok(Ahead { heard, left })
 }
@@ -165,7 +182,7 @@ fn read_ahead(
 impl Ahead {
     /// Each line is left to be read in its turn.
     pub(crate) fn none(alloc: Global) -> Self
-        ensures { (p : ProgramValue) → IsAhead p result }
+        ensures { (p : ProgramValue) (text : List ℕ) → IsAhead p text result }
     {
         Ahead {
             heard: Vec::new(alloc).into_iter(),
@@ -173,44 +190,41 @@ impl Ahead {
         }
     }
 
-    /// The first lines of a text, read by so many threads. Where memory is refused for that, none is.
+    /// The lines that begin where so many bytes are left of a text, as far as so many threads read at once. Where
+    /// memory is refused for that, none is.
     pub(crate) fn read(
         rt: &(impl Threads + Sync),
         alloc: Global,
         program: &Program,
         text: &[u8],
+        from: usize,
         workers: u32,
     ) -> Self
         requires { 1 ≤ workers }
-        ensures { IsAhead program.now result }
+        ensures { IsAhead program.now text.now result }
     {
-        match read_ahead(rt, alloc, program, text, workers) {
+        match read_ahead(rt, alloc, program, text, from, workers) {
             Ok(ahead) => ahead,
             Err(AllocError) => Ahead::none(alloc),
         }
     }
 
-    /// What the next line asks for, which is not blank and comes without its end.
-    pub(crate) fn request(
-        &mut self,
-        alloc: Global,
-        program: &Program,
-        line: &[u8],
-    ) -> Result<Request, AllocError>
-        requires { IsAhead program.now self.old }
-        ensures ahead { IsAhead program.now self.new }
-        ensures asks { IfOk result (Asks program.now (line_said line.now)) }
+    /// What the next line asks for, and how many bytes come after its end, if that is known of the line at whose start
+    /// so many bytes are left.
+    pub(crate) fn request(&mut self, left: usize) -> Option<(Request, Option<usize>)>
+        ensures ahead { (p : ProgramValue) (text : List ℕ) → IsAhead p text self.old → IsAhead p text self.new }
+        ensures first { IfSome result (λ r. (p : ProgramValue) (text : List ℕ) → IsAhead p text self.old
+            → AsksFirst p text left r.1 r.0) }
     {
-        let Some(heard) = self.heard.next() else {
-            return request_of(alloc, program, line);
-        };
+        let heard = self.heard.next()?;
         let Heard {
-            line: read,
+            left: start,
+            more,
             request,
         } = heard;
         match request {
-            Some(request) if read.as_slice() == line => Ok(request),
-            _ => request_of(alloc, program, line),
+            Some(request) if start == left => Some((request, more)),
+            _ => None,
         }
     }
 }

@@ -1,17 +1,17 @@
 //! Command lines answered one after another.
-ghost use Rattle.std.specs.Prelude.{◌≡◌, ◌+◌, ◌<◌, ◌≤◌, ◌∷◌, IfOk, IsTrue, OnOk, Some, is_some, string_bytes};
+ghost use Rattle.std.specs.Prelude.{◌≡◌, ◌<◌, ◌≤◌, IfOk, IsTrue, OnOk, is_some, string_bytes};
 ghost use Rattle.std.specs.Bool.{OnTrue};
 ghost use Rattle.std.specs.Thread.{IsSync};
 ghost use Rattle.chr_base.specs.Programs.{declarations, rules_of};
-ghost use Rattle.chr_report.specs.Lines.{lines, without_return};
+ghost use Rattle.chr_report.specs.Lines.{lines};
 ghost use Rattle.chr_report.specs.working.Answered.{AddsReply, AnswersLine, AnswersRest};
-ghost use Rattle.chr_report.specs.working.Continuing.{last_bytes, left_lines, left_size, GoesOn};
+ghost use Rattle.chr_report.specs.working.Continuing.{GoesOn};
+ghost use Rattle.chr_report.specs.working.LinesLeft.{left_size, lines_left};
 ghost use Rattle.chr_report.specs.working.Requests.{FitsProgram, IsAhead};
 ghost use Rattle.chr_report.specs.working.Services.{held, served, IsBetweenLines};
-ghost use Rattle.chr_report.specs.working.LinesLeft.{lines_left};
 
 use crate::ahead::Ahead;
-use crate::input::{next_line, without_return};
+use crate::input::{next_of_last, without_return};
 use crate::reply::push_reply;
 use crate::request::{Request, request_of};
 use crate::service::Service;
@@ -104,30 +104,6 @@ pub(crate) fn answer_line<R: Threads + Wait + Sync>(
     answer_request(rt, alloc, service, request, out)
 }
 
-/// Does so for the next line, which may have been read before its turn.
-fn answer_next<R: Threads + Wait + Sync>(
-    rt: &R,
-    alloc: Global,
-    service: &mut Service,
-    line: &[u8],
-    ahead: &mut Ahead,
-    out: &mut String,
-) -> Result<(), AllocError>
-    requires ready { IsBetweenLines service.old }
-    requires ahead { IsAhead (served service.old) ahead.old }
-    ensures ready { OnOk result (IsBetweenLines service.new) }
-    ensures program { service.new.world.accepted ≡ service.old.world.accepted }
-    ensures ahead { IsAhead (served service.old) ahead.new }
-    ensures answer { OnOk result (AnswersLine (declarations (served service.old)) (rules_of (served service.old))
-        (held service.old) line.now (string_bytes out.old) (held service.new) (string_bytes out.new)) }
-{
-    if is_blank(line) {
-        return Ok(());
-    }
-    let request = ahead.request(alloc, service.program(), line)?;
-    answer_request(rt, alloc, service, request, out)
-}
-
 /// Lines of an input that are being answered: by whom, what has been written, and how many bytes of it are left.
 #[derive(Drop)]
 pub(crate) struct Answering {
@@ -148,25 +124,6 @@ impl Answering {
     }
 }
 
-/// The last bytes of a text, so many.
-fn last_bytes(text: &[u8], count: usize) -> &[u8]
-    ensures { result.now ≡ last_bytes count text.now }
-{
-    text.split_at(text.len().saturating_sub(count)).1
-}
-
-/// The first line of a text's last bytes, so many, and how many come after its end.
-fn next_of_last(text: &[u8], left: usize) -> (&[u8], Option<usize>)
-    ensures lines { left_lines text.now (Some left) ≡ result.0.now ∷ left_lines text.now result.1 }
-    ensures shorter { left_size result.1 < left + 1 }
-{
-    let (line, more) = next_line(last_bytes(text, left));
-    match more {
-        Some(rest) => (line, Some(rest.len())),
-        None => (line, None),
-    }
-}
-
 /// Answers the first line that is left, which may have been read before its turn.
 fn answer_first<R: Threads + Wait + Sync>(
     rt: &R,
@@ -176,17 +133,22 @@ fn answer_first<R: Threads + Wait + Sync>(
     ahead: &mut Ahead,
 ) -> Result<(), AllocError>
     requires ready { IsBetweenLines at.old.service }
-    requires ahead { IsAhead (served at.old.service) ahead.old }
-    ensures ahead { IsAhead (served at.old.service) ahead.new }
+    requires ahead { IsAhead (served at.old.service) input.now ahead.old }
+    ensures ahead { IsAhead (served at.old.service) input.now ahead.new }
     ensures answered { OnOk result (GoesOn input.now at.old at.new) }
     ensures shorter { OnOk result (IsTrue (is_some at.old.left) → left_size at.new.left < left_size at.old.left) }
 {
     let Some(left) = at.left else {
         return Ok(());
     };
+    if let Some((request, more)) = ahead.request(left) {
+        answer_request(rt, alloc, &mut at.service, request, &mut at.out)?;
+        at.left = more;
+        return Ok(());
+    }
     let (line, more) = next_of_last(input, left);
     let line = without_return(line);
-    answer_next(rt, alloc, &mut at.service, line, ahead, &mut at.out)?;
+    answer_line(rt, alloc, &mut at.service, line, &mut at.out)?;
     at.left = more;
     Ok(())
 }
@@ -200,7 +162,7 @@ fn answer_heard<R: Threads + Wait + Sync>(
     ahead: Ahead,
 ) -> Result<Answering, AllocError>
     requires ready { IsBetweenLines at.service }
-    requires ahead { IsAhead (served at.service) ahead }
+    requires ahead { IsAhead (served at.service) input.now ahead }
     ensures answered { IfOk result (GoesOn input.now at) }
     ensures shorter { IfOk result (λ later. IsTrue (is_some at.left) → left_size later.left < left_size at.left) }
 {
@@ -224,25 +186,25 @@ fn answer_and_read<R: Threads + Wait + Sync>(
 ) -> Result<(Answering, Ahead), AllocError>
     requires ready { IsBetweenLines at.service }
     requires program { served at.service ≡ program.now }
-    requires ahead { IsAhead program.now ahead }
+    requires ahead { IsAhead program.now input.now ahead }
     ensures answered { IfOk result (λ r. GoesOn input.now at r.0) }
-    ensures ahead { IfOk result (λ r. IsAhead program.now r.1) }
+    ensures ahead { IfOk result (λ r. IsAhead program.now input.now r.1) }
     ensures shorter { IfOk result (λ r. IsTrue (is_some at.left) → left_size r.0.left < left_size at.left) }
 {
     if ahead.left == 0 {
         let at = answer_heard(rt, alloc, input, at, ahead)?;
         return Ok((at, Ahead::none(alloc)));
     }
-    let after = last_bytes(input, ahead.left);
+    let after = ahead.left;
     let readers = at.service.sharing.workers.saturating_sub(1).max(1);
     let (later, answered) = join(
         rt,
         || -> Ahead
             requires { IsSync R.row × (1 ≤ readers) }
-            ensures { IsAhead program.entry.now result }
-        { Ahead::read(rt, alloc, program, after, readers) },
+            ensures { IsAhead program.entry.now input.entry.now result }
+        { Ahead::read(rt, alloc, program, input, after, readers) },
         move || -> Result<Answering, AllocError>
-            requires { IsBetweenLines at.service × IsAhead (served at.service) ahead }
+            requires { IsBetweenLines at.service × IsAhead (served at.service) input.now ahead }
             ensures answered { IfOk result (GoesOn input.entry.now at) }
             ensures shorter { IfOk result (λ later.
                 IsTrue (is_some at.left) → left_size later.left < left_size at.left) }
@@ -268,7 +230,7 @@ fn answer_lines<R: Threads + Wait + Sync>(
     let workers = service.sharing.workers;
     let mut ahead = Ahead::none(alloc);
     if workers > 1 {
-        ahead = Ahead::read(rt, alloc, program, input, workers);
+        ahead = Ahead::read(rt, alloc, program, input, input.len(), workers);
     }
     let mut at = Answering {
         service,

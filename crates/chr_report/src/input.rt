@@ -1,11 +1,11 @@
 //! The program text and the command lines of an input.
-ghost use Rattle.std.specs.Prelude.{◌≡◌, ◌<◌, ◌≤◌, ◌∷◌, ◌++◌, ◌==◌, IfSome, IfNone, length};
+ghost use Rattle.std.specs.Prelude.{◌≡◌, ◌+◌, ◌<◌, ◌≤◌, ◌∷◌, ◌++◌, ◌==◌, IfSome, IfNone, Some, length};
 ghost use Rattle.std.specs.List.{position_or_len};
 ghost use Rattle.chr_report.specs.Lines.{lines, without_return, is_divider, text_of, commands_of};
 ghost use Rattle.chr_report.specs.Outputs.{asked};
 ghost use Rattle.chr_report.specs.Served.{HasNoFeed};
 ghost use Rattle.chr_report.specs.working.Divided.{IsDivided, IsUndivided};
-ghost use Rattle.chr_report.specs.working.LinesLeft.{lines_left};
+ghost use Rattle.chr_report.specs.working.LinesLeft.{last_bytes, left_lines, left_size, lines_left};
 
 use chr_device::Verb;
 use chr_read::MAX_TEXT;
@@ -50,6 +50,25 @@ pub(crate) fn next_line(bytes: &[u8]) -> (&[u8], Option<&[u8]>)
     match ended_line(bytes) {
         Some((line, rest)) => (line, Some(rest)),
         None => (bytes, None),
+    }
+}
+
+/// The last bytes of a text, so many.
+pub(crate) fn last_bytes(text: &[u8], count: usize) -> &[u8]
+    ensures { result.now ≡ last_bytes count text.now }
+{
+    text.split_at(text.len().saturating_sub(count)).1
+}
+
+/// The first line of a text's last bytes, so many, and how many come after its end.
+pub(crate) fn next_of_last(text: &[u8], left: usize) -> (&[u8], Option<usize>)
+    ensures lines { left_lines text.now (Some left) ≡ result.0.now ∷ left_lines text.now result.1 }
+    ensures shorter { left_size result.1 < left + 1 }
+{
+    let (line, more) = next_line(last_bytes(text, left));
+    match more {
+        Some(rest) => (line, Some(rest.len())),
+        None => (line, None),
     }
 }
 

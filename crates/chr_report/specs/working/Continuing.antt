@@ -1,12 +1,12 @@
 -- Lines that are answered one after another.
-use Rattle.std.specs.Prelude.{◌≡◌, ℕ, ◌+◌, ◌-◌, List, [], ◌++◌, length, drop, Option, Some, None, string_bytes}
+use Rattle.std.specs.Prelude.{◌≡◌, ℕ, List, ◌++◌, string_bytes}
 use Rattle.chr_base.specs.declared.rule.Rule.{Rule}
 use Rattle.chr_base.specs.ProgramTests.{Declaration}
 use Rattle.chr_base.specs.Programs.{declarations, rules_of}
 use Rattle.chr_ops.specs.Operations.{Operations}
 use Rattle.chr_report.specs.Answers.{AnswersAll}
 use Rattle.chr_report.specs.declared.answering.Answering.{Answering}
-use Rattle.chr_report.specs.Lines.{lines}
+use Rattle.chr_report.specs.working.LinesLeft.{left_lines}
 use Rattle.chr_report.specs.working.Services.{held, served, IsBetweenLines}
 
 -- with the answers of what is left, the answers so far are those of all lines
@@ -15,15 +15,6 @@ pub record Continues (ds : List Declaration) (rules : List Rule) (all : List (Li
   pub with_rest : (tail : List ℕ) → AnswersAll ds rules ls now tail
       → (whole : List ℕ) × AnswersAll ds rules all start whole × (before ++ whole ≡ out ++ tail)
 
--- the last bytes of a text, so many
-abbrev pub last_bytes : ℕ → List ℕ → List ℕ
-last_bytes n text = drop (length text - n) text
-
--- the lines of a text's last bytes, none where there is no number of them
-abbrev pub left_lines : List ℕ → Option ℕ → List (List ℕ)
-left_lines text None = []
-left_lines text (Some n) = lines (last_bytes n text)
-
 -- some of the lines that were left of a text are answered
 pub record GoesOn (text : List ℕ) (s t : Answering) : Type 0 where
   pub ready : IsBetweenLines t.service
@@ -31,8 +22,3 @@ pub record GoesOn (text : List ℕ) (s t : Answering) : Type 0 where
   pub answered : Continues (declarations (served s.service)) (rules_of (served s.service))
       (left_lines text s.left) (held s.service) (string_bytes s.out)
       (left_lines text t.left) (held t.service) (string_bytes t.out)
-
--- the bytes that are left, and one more where there is a number of them
-abbrev pub left_size : Option ℕ → ℕ
-left_size None = 0
-left_size (Some n) = n + 1

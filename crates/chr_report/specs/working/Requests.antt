@@ -1,5 +1,5 @@
 -- What lines ask for, and lines that were read before their turn.
-use Rattle.std.specs.Prelude.{ℕ, List, All, IfSome, Option, Result, ⊤}
+use Rattle.std.specs.Prelude.{◌≡◌, ℕ, ◌+◌, ◌<◌, false, List, ◌∷◌, All, IfSome, Option, Some, Result, ⊤}
 use Rattle.std.specs.declared.alloc.Global.{Global}
 use Rattle.std.specs.declared.vec.Vec.{Vec}
 use Rattle.std.specs.Vec.Iter.{into_iter_items}
@@ -8,6 +8,7 @@ use Rattle.chr_base.specs.declared.rule.Rule.{Rule}
 use Rattle.chr_base.specs.ProgramTests.{Declaration}
 use Rattle.chr_base.specs.Programs.{declarations}
 use Rattle.chr_json.specs.Commands.{Said}
+use Rattle.chr_json.specs.Lines.{is_blank_line}
 use Rattle.chr_json.specs.Reads.{line_said, HasIds}
 use Rattle.chr_json.specs.declared.fault.LineFault.{LineFault}
 use Rattle.chr_ops.specs.Operations.{Operations}
@@ -18,6 +19,8 @@ use Rattle.chr_report.specs.declared.ahead.Ahead.{Ahead}
 use Rattle.chr_report.specs.declared.ahead.Heard.{Heard}
 use Rattle.chr_report.specs.declared.request.Request.{Request}
 use Rattle.chr_report.specs.declared.request.Request.TheVariants as request
+use Rattle.chr_report.specs.Lines.{without_return}
+use Rattle.chr_report.specs.working.LinesLeft.{left_lines, left_size}
 
 -- the answer to what is asked for
 abbrev pub AnswersRequest :
@@ -46,14 +49,22 @@ pub record Asks (p : Program) (said : Result Said LineFault) (q : Request) : Typ
   pub answers : (rules : List Rule) (old : List Operations) (text : List ℕ) (new : List Operations)
       → AnswersRequest (declarations p) rules old q text new → AnswersRead (declarations p) rules old said text new
 
--- what stands beside the line is what it asks for
-abbrev pub IsHeard : Program → Heard → Type 0
-IsHeard p h = IfSome h.request (Asks p (line_said h.line.items))
+-- the first line of a text's last bytes asks for this, and these lines come after it
+pub record AsksFirst (p : Program) (text : List ℕ) (left : ℕ) (more : Option ℕ) (q : Request) : Type 0 where
+  pub line : List ℕ
+  pub first : left_lines text (Some left) ≡ line ∷ left_lines text more
+  pub spoken : is_blank_line (without_return line) ≡ false
+  pub asks : Asks p (line_said (without_return line)) q
+  pub shorter : left_size more < left + 1
+
+-- what was heard of a text's line is what it asks for
+abbrev pub IsHeard : Program → List ℕ → Heard → Type 0
+IsHeard p text h = IfSome h.request (AsksFirst p text h.left h.more)
 
 -- so it is for the lines of each of these pieces that was read
-abbrev pub AreHeard : Program → List (Option (Vec Heard Global)) → Type 0
-AreHeard p found = All (λ o. IfSome o (λ lines. All (IsHeard p) lines.items)) found
+abbrev pub AreHeard : Program → List ℕ → List (Option (Vec Heard Global)) → Type 0
+AreHeard p text found = All (λ o. IfSome o (λ lines. All (IsHeard p text) lines.items)) found
 
 -- and for each line that was read before its turn
-abbrev pub IsAhead : Program → Ahead → Type 0
-IsAhead p a = All (IsHeard p) (into_iter_items a.heard)
+abbrev pub IsAhead : Program → List ℕ → Ahead → Type 0
+IsAhead p text a = All (IsHeard p text) (into_iter_items a.heard)

@@ -1,8 +1,8 @@
 use Rattle.std.proofs.Common.{◌≡◌, ◌∷◌, ◌++◌, rules}
 use Rattle.chr_report.specs.Lines.{lines}
-use Rattle.chr_report.specs.working.Continuing.{last_bytes}
+use Rattle.chr_report.specs.working.LinesLeft.{last_bytes}
 use Rattle.chr_report.proofs.Continuing.{first_line_left}
-use Rattle.chr_report.proofs.answering.next_of_last.Goals as goal
+use Rattle.chr_report.proofs.input.next_of_last.Goals as goal
 
 pub returns-in-Some-clause-lines : goal.returns-in-Some-clause-lines
 returns-in-Some-clause-lines c =
