@@ -1,6 +1,7 @@
 -- What a line asks for, by the operations that it spells.
 use Rattle.std.proofs.Common.{◌≡◌, ℕ, List, [], ◌∷◌, ◌++◌, All, Vec, Global, sym, subst}
 use Rattle.std.specs.List.{AllZip}
+use Rattle.std.specs.Option.{option_to_list}
 use Rattle.std.proofs.lemmas.List.Elements.{All-append, All-cons, All-head, All-nil, All-tail}
 use Rattle.std.specs.Prelude.{Option, Some, None, IfSome, Ok, option_map}
 use Rattle.std.proofs.lemmas.Option.{none-some}
@@ -67,17 +68,19 @@ second_of_each P [] (y ∷ ys) h = absurd h
 second_of_each P (x ∷ xs) [] h = absurd h
 second_of_each P (x ∷ xs) (y ∷ ys) h = All-cons P y ys h.0 (second_of_each P xs ys h.1)
 
--- one more piece that was read
-pub one_piece : (p : Program) (text : List ℕ) (o : Option (Vec Heard Global)) (more : Vec Heard Global) (lines new : List Heard)
-    (all rest : List (Option (Vec Heard Global))) → all ≡ o ∷ rest → o ≡ Some more
-    → All (IsHeard p text) lines → AreHeard p text all → new ≡ lines ++ more.items → All (IsHeard p text) new × AreHeard p text rest
-one_piece p text o more lines new all rest split is before are e =
-    let read = λ (q : Option (Vec Heard Global)). IfSome q (λ ls. All (IsHeard p text) ls.items) in
-    let parts : All read (o ∷ rest) = subst (All read) split are in
-    let here : read (Some more) = subst read is (All-head read o rest parts) in
-    (subst (All (IsHeard p text)) (sym e) (All-append (IsHeard p text) lines more.items before here), All-tail read o rest parts)
+-- what is taken from a list, and what stays
+pub taken : {A : Type 0} (P : A → Type 0) (o : Option A) (all rest : List A) → all ≡ option_to_list o ++ rest
+    → All P all → IfSome o P × All P rest
+taken P None all rest split are = (tt, subst (All P) split are)
+taken P (Some x) all rest split are =
+    let both = subst (All P) split are in
+    (All-head P x rest both, All-tail P x rest both)
 
--- what was heard after the first line
-pub rest_heard : (p : Program) (text : List ℕ) (all rest : List Heard) (h : Heard) → all ≡ h ∷ rest
-    → All (IsHeard p text) all → All (IsHeard p text) rest
-rest_heard p text all rest h split are = All-tail (IsHeard p text) h rest (subst (All (IsHeard p text)) split are)
+-- the lines of the next piece, and the pieces after it
+pub next_piece : (p : Program) (text : List ℕ) (o : Option (Vec Heard Global)) (lines : Vec Heard Global)
+    (heard : List Heard) (all rest : List (Option (Vec Heard Global))) → all ≡ o ∷ rest → o ≡ Some lines
+    → heard ≡ lines.items → AreHeard p text all → All (IsHeard p text) heard × AreHeard p text rest
+next_piece p text o lines heard all rest split is items are =
+    let read = λ (q : Option (Vec Heard Global)). IfSome q (λ ls. All (IsHeard p text) ls.items) in
+    let parts = taken read (Some o) all rest split are in
+    (subst (All (IsHeard p text)) (sym items) (subst read is parts.0), parts.1)

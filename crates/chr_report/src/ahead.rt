@@ -135,29 +135,12 @@ fn read_pieces(
         .collect(rt, alloc)
 }
 
-/// The lines of the first pieces, up to one that was not read to its end.
-fn joined(alloc: Global, found: Vec<Option<Vec<Heard>>>) -> Result<Vec<Heard>, AllocError>
-    ensures { IfOk result (λ lines. (p : ProgramValue) (text : List ℕ) → AreHeard p text found.items
-        → All (IsHeard p text) lines.items) }
-{
-    let mut lines = Vec::new(alloc);
-    for piece in found {
-        let Some(mut more) = piece else {
-            return Ok(lines);
-        };
-        let is_cut = more.len() == MOST_LINES;
-        lines.append(&mut more)?;
-        if is_cut {
-            return Ok(lines);
-        }
-    }
-    Ok(lines)
-}
-
-/// Lines of a text that were read before their turn, in order, and how many bytes come after all that was looked at.
+/// Lines of a text that were read before their turn, in order: those of a piece, and pieces after it. And how many bytes
+/// come after all that was looked at.
 #[derive(Drop)]
 pub(crate) struct Ahead {
     pub(crate) heard: IntoIter<Heard>,
+    pub(crate) pieces: IntoIter<Option<Vec<Heard>>>,
     pub(crate) left: usize,
 }
 
@@ -175,8 +158,11 @@ fn read_ahead(
 {
     let (pieces, left) = first_pieces(alloc, text, from, workers)?;
     let found = read_pieces(rt, alloc, program, text, &pieces)?;
-    let heard = joined(alloc, found)?.into_iter();
-    Ok(Ahead { heard, left })
+    Ok(Ahead {
+        heard: Vec::new(alloc).into_iter(),
+        pieces: found.into_iter(),
+        left,
+    })
 }
 
 impl Ahead {
@@ -186,6 +172,7 @@ impl Ahead {
     {
         Ahead {
             heard: Vec::new(alloc).into_iter(),
+            pieces: Vec::new(alloc).into_iter(),
             left: 0,
         }
     }
@@ -209,14 +196,43 @@ impl Ahead {
         }
     }
 
+    /// The first lines of a text, if there are several workers.
+    pub(crate) fn first(
+        rt: &(impl Threads + Sync),
+        alloc: Global,
+        program: &Program,
+        text: &[u8],
+        workers: u32,
+    ) -> Self
+        ensures { IsAhead program.now text.now result }
+    {
+        if workers > 1 {
+            return Ahead::read(rt, alloc, program, text, text.len(), workers);
+        }
+        Ahead::none(alloc)
+    }
+
+    /// What was heard of the next line. Nothing is known of a piece to which memory was refused.
+    fn next(&mut self) -> Option<Heard>
+        ensures ahead { (p : ProgramValue) (text : List ℕ) → IsAhead p text self.old → IsAhead p text self.new }
+        ensures heard { (p : ProgramValue) (text : List ℕ) → IsAhead p text self.old → IfSome result (IsHeard p text) }
+    {
+        if let Some(heard) = self.heard.next() {
+            return Some(heard);
+        }
+        let lines = self.pieces.next()??;
+        self.heard = lines.into_iter();
+        self.heard.next()
+    }
+
     /// What the next line asks for, and how many bytes come after its end, if that is known of the line at whose start
     /// so many bytes are left.
     pub(crate) fn request(&mut self, left: usize) -> Option<(Request, Option<usize>)>
         ensures ahead { (p : ProgramValue) (text : List ℕ) → IsAhead p text self.old → IsAhead p text self.new }
-        ensures first { IfSome result (λ r. (p : ProgramValue) (text : List ℕ) → IsAhead p text self.old
-            → AsksFirst p text left r.1 r.0) }
+        ensures first { (p : ProgramValue) (text : List ℕ) → IsAhead p text self.old
+            → IfSome result (λ r. AsksFirst p text left r.1 r.0) }
     {
-        let heard = self.heard.next()?;
+        let heard = self.next()?;
         let Heard {
             left: start,
             more,

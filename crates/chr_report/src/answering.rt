@@ -228,10 +228,7 @@ fn answer_lines<R: Threads + Wait + Sync>(
     let accepted = service.world.program().clone()?;
     let program = accepted.program();
     let workers = service.sharing.workers;
-    let mut ahead = Ahead::none(alloc);
-    if workers > 1 {
-        ahead = Ahead::read(rt, alloc, program, input, input.len(), workers);
-    }
+    let mut ahead = Ahead::first(rt, alloc, program, input, workers);
     let mut at = Answering {
         service,
         out,

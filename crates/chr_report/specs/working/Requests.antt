@@ -66,5 +66,6 @@ abbrev pub AreHeard : Program → List ℕ → List (Option (Vec Heard Global)) 
 AreHeard p text found = All (λ o. IfSome o (λ lines. All (IsHeard p text) lines.items)) found
 
 -- and for each line that was read before its turn
-abbrev pub IsAhead : Program → List ℕ → Ahead → Type 0
-IsAhead p text a = All (IsHeard p text) (into_iter_items a.heard)
+pub record IsAhead (p : Program) (text : List ℕ) (a : Ahead) : Type 0 where
+  pub heard : All (IsHeard p text) (into_iter_items a.heard)
+  pub pieces : AreHeard p text (into_iter_items a.pieces)

@@ -32,3 +32,19 @@ pub returns-in-Some-request-clause-shorter : goal.returns-in-Some-request-clause
 returns-in-Some-request-clause-shorter g c =
     let known = c.in-Some-request.ensures.first (served c.args.at.now.service) c.args.input.now c.requires.ahead in
     λ some. subst (λ l. left_size c.in-Some-request.more < left_size l) (sym c.in-Some.is) known.shorter
+
+pub returns-in_err-answer_request-clause-ahead : goal.returns-in_err-answer_request-clause-ahead
+returns-in_err-answer_request-clause-ahead g c =
+    c.request.ensures.ahead (served c.args.at.now.service) c.args.input.now c.requires.ahead
+
+pub returns-in-Some-request-clause-ahead : goal.returns-in-Some-request-clause-ahead
+returns-in-Some-request-clause-ahead g c =
+    c.request.ensures.ahead (served c.args.at.now.service) c.args.input.now c.requires.ahead
+
+pub returns-in_err-answer_line-clause-ahead : goal.returns-in_err-answer_line-clause-ahead
+returns-in_err-answer_line-clause-ahead g c =
+    c.request.ensures.ahead (served c.args.at.now.service) c.args.input.now c.requires.ahead
+
+pub returns-clause-ahead : goal.returns-clause-ahead
+returns-clause-ahead g c =
+    c.request.ensures.ahead (served c.args.at.now.service) c.args.input.now c.requires.ahead
