@@ -51,9 +51,10 @@ def shortest(all_routes: Iterable[Route]) -> str:
     return ", ".join(f"path({start},{end},{lengths[start, end]})" for start, end in sorted(lengths))
 
 
-# Lines are read ahead in pieces of so many bytes, and so many lines of a piece at most.
-PIECE = 262_144
-MOST_LINES = 32_768
+# Lines are read ahead in pieces of so many bytes, where twice as many are left for each worker, and so many lines of a
+# piece at most.
+PIECE = 1_048_576
+MOST_LINES = 65_536
 MAX_LINE = 1_048_576
 Line = tuple[str, str]
 
@@ -148,7 +149,7 @@ class Workers(unittest.TestCase):
 
     def test_lines_at_cuts(self) -> None:
         """A line ends right before the place where a piece may be cut, there, and right behind it."""
-        after = [told(number) for number in range(40_000)]
+        after = [told(number) for number in range(100_000)]
         for far in range(-2, 3):
             for first in ("x", " "):
                 line = first * (PIECE + far)

@@ -135,8 +135,8 @@ fn read_pieces(
         .collect(rt, alloc)
 }
 
-/// Lines of a text that were read before their turn, in order: those of a piece, and pieces after it. And how many bytes
-/// come after all that was looked at.
+/// Lines of a text that were read before their turn, in order: those of a piece, and the pieces after it. And how many
+/// bytes come after all that was looked at.
 #[derive(Drop)]
 pub(crate) struct Ahead {
     pub(crate) heard: IntoIter<Heard>,
