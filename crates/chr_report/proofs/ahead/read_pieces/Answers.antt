@@ -12,11 +12,11 @@ pub returns : goal.returns
 returns g c =
     let p = c.args.program.now in
     let text = c.args.text.now in
-    let read = λ (piece : Piece) (o : Option (Vec Heard Global)). IfSome o (λ lines. All (IsHeard p text) lines.items) in
+    let read = λ (piece : Piece) (o : Option (Vec Heard Global)). IfSome o (λ ls. All (IsHeard p text) ls.items) in
     let slice = ap (λ it. it.base.slice.now) c.map.ensures.base ∙ ap (λ it. it.slice.now) c.with_min_len.ensures.base
     ∙ c.par_iter.ensures in
     IfOk-then c.collect.result _ _ c.collect.ensures (λ v h.
     let chain = h.1 in
     subst (AreHeard p text) (sym h.2)
-    (second_of_each (λ o. IfSome o (λ lines. All (IsHeard p text) lines.items)) c.args.pieces.now h.0
+    (second_of_each (λ o. IfSome o (λ ls. All (IsHeard p text) ls.items)) c.args.pieces.now h.0
     (slice-AllZip chain.0 c.args.pieces.now (chain.1 ∙ slice) read h.0 (rw c.map.ensures.f at chain.2))))

@@ -13,7 +13,8 @@ returns-in-Some-clause-ahead c = λ p text are. record {
 pub returns-in_err-lines-clause-ahead : goal.returns-in_err-lines-clause-ahead
 returns-in_err-lines-clause-ahead c = λ p text are. record {
   heard = (taken (IsHeard p text) _ _ _ c.next.ensures.items are.heard).1;
-  pieces = (taken (λ o. IfSome o (λ lines. All (IsHeard p text) lines.items)) _ _ _ c.next-2.ensures.items are.pieces).1;
+  pieces =
+      (taken (λ o. IfSome o (λ ls. All (IsHeard p text) ls.items)) _ _ _ c.next-2.ensures.items are.pieces).1;
 }
 
 pub returns-clause-ahead : goal.returns-clause-ahead
