@@ -8,8 +8,8 @@ pub keep_met-requires : goal.keep_met-requires
 keep_met-requires c = λ n is.
     let bs = c.args.self.now in
     let cs = c.merge.new.self in
-    let exchanged = takes_in bs cs c.args.giver c.args.taker c.in_ok-ops.ops.items c.deref.result.now c.in_ok-reply.reply
-    c.in_ok-ops.ensures c.deref.ensures.value c.in_ok-reply.ensures.ok in
+    let exchanged = takes_in bs cs c.args.giver c.args.taker c.in_ok-ops.ops.items c.deref.result.now
+    c.in_ok-reply.reply c.in_ok-ops.ensures c.deref.ensures.value c.in_ok-reply.ensures.ok in
     holds_all c.exchange_laws.ensures.exchange bs cs c.args.giver c.args.taker n
     (subst (λ x. ExchangesAt bs c.args.giver c.args.taker x cs) is exchanged)
 
@@ -17,6 +17,6 @@ pub returns-clause-ok : goal.returns-clause-ok
 returns-clause-ok c =
     let bs = c.args.self.now in
     let cs = c.merge.new.self in
-    let exchanged = takes_in bs cs c.args.giver c.args.taker c.in_ok-ops.ops.items c.deref.result.now c.in_ok-reply.reply
-    c.in_ok-ops.ensures c.deref.ensures.value c.in_ok-reply.ensures.ok in
+    let exchanged = takes_in bs cs c.args.giver c.args.taker c.in_ok-ops.ops.items c.deref.result.now
+    c.in_ok-reply.reply c.in_ok-ops.ensures c.deref.ensures.value c.in_ok-reply.ensures.ok in
     subst (ExchangesAt bs c.args.giver c.args.taker c.in_ok-reply.reply) (sym c.keep_met.ensures) exchanged
