@@ -48,3 +48,7 @@ returns-in_err-answer_line-clause-ahead g c =
 pub returns-clause-ahead : goal.returns-clause-ahead
 returns-clause-ahead g c =
     c.request.ensures.ahead (served c.args.at.now.service) c.args.input.now c.requires.ahead
+
+pub answer_request-requires-clause-fits : goal.answer_request-requires-clause-fits
+answer_request-requires-clause-fits g c =
+    (c.in-Some-request.ensures.first (served c.args.at.now.service) c.args.input.now c.requires.ahead).asks.fits
