@@ -50,5 +50,5 @@ returns-clause-ahead g c =
     c.request.ensures.ahead (served c.args.at.now.service) c.args.input.now c.requires.ahead
 
 pub answer_request-requires-clause-fits : goal.answer_request-requires-clause-fits
-answer_request-requires-clause-fits g c =
+answer_request-requires-clause-fits g c κs within =
     (c.in-Some-request.ensures.first (served c.args.at.now.service) c.args.input.now c.requires.ahead).asks.fits
