@@ -1,9 +1,9 @@
 -- The boards of a world in a list, and their replicas.
-use Rattle.std.specs.Prelude.{◌≡◌, ℕ, suc, ◌+◌, ◌<◌, List, length, replicate, zero, ◌∷◌, take, drop, ◌++◌, Option, Some}
-use Rattle.std.specs.Prelude.{◌-◌, map as each, slice_get, slice_index_or, slice_set, Result, Ok, Err, OnErr}
+use Rattle.std.specs.Prelude.{◌≡◌, ℕ, suc, ◌+◌, ◌<◌, List, length, replicate, zero, ◌∷◌, Option, Some}
+use Rattle.std.specs.Prelude.{◌-◌, map as each, slice_get, slice_index_or, slice_set}
 use Rattle.std.proofs.Common.{refl, sym, ap, ◌∙◌, subst, arith}
 use Rattle.std.specs.Option.{option_map}
-use Rattle.std.proofs.lemmas.List.{map-set, set-get_or, take-append-le, take_all}
+use Rattle.std.proofs.lemmas.List.{map-set, set-get_or}
 use Rattle.std.proofs.lemmas.List.Elements.{All-set}
 use Rattle.std.proofs.lemmas.Option.{slice_get-map, slice_get-get_or, slice_get_within, get_or_from_slice_get}
 use Rattle.chr_join.specs.declared.accepted.Accepted.{Accepted}

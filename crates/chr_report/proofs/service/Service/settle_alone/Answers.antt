@@ -10,20 +10,23 @@ use Rattle.chr_report.proofs.service.Service.settle_alone.Goals as goal
 pub returns-clause-ready : goal.returns-clause-ready
 returns-clause-ready c =
     let w = c.args.self.now.world in
-    let v = c.settle-answer.new.self in
+    let settled = c.settle-answer in
+    let v = settled.new.self in
     subst (λ w. AreBetweenLines (shared_program w) w.replicas) (sym c.note_rest.ensures)
-    (ready_for w.accepted v.accepted v.replicas c.settle-answer.ensures.program
+    (ready_for w.accepted v.accepted v.replicas settled.ensures.program
     (happens_ready c.runs_keep_replicas_sound.ensures (shared_program w) w.replicas
-    (event.At c.args.replica act.Settle) c.settle-answer.result v.replicas tt c.settle-answer.ensures.happens c.requires))
+    (event.At c.args.replica act.Settle) settled.result v.replicas tt settled.ensures.happens c.requires))
 
 pub returns-clause-operations : goal.returns-clause-operations
 returns-clause-operations c =
+    let settled = c.settle-answer in
     ap (λ w. operations_held w.replicas) c.note_rest.ensures
-    ∙ settled_held (served c.args.self.now) c.args.self.now.world.replicas c.settle-answer.new.self.replicas c.args.replica
-    c.settle-answer.result c.settle-answer.ensures.happens
+    ∙ settled_held (served c.args.self.now) c.args.self.now.world.replicas settled.new.self.replicas c.args.replica
+    settled.result settled.ensures.happens
 
 pub returns-clause-rests : goal.returns-clause-rests
 returns-clause-rests c =
-    rested c.args.self.now.world c.settle-answer.new.self c.note_rest.new.self.world c.args.replica c.settle-answer.result
+    let settled = c.settle-answer in
+    rested c.args.self.now.world settled.new.self c.note_rest.new.self.world c.args.replica settled.result
     (sym c.was_stopped.ensures ∙ c.if-was_stopped.false)
-    c.settle-answer.ensures.program c.settle-answer.ensures.happens c.note_rest.ensures
+    settled.ensures.program settled.ensures.happens c.note_rest.ensures
