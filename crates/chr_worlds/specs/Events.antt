@@ -1,5 +1,5 @@
 -- Which events may happen, and lists of events that stop short.
-use Rattle.std.specs.Prelude.{◌≡◌, ℕ, List, take, ⊤}
+use Rattle.std.specs.Prelude.{ℕ, List, take, ⊤}
 use Rattle.chr_base.specs.declared.program.Program.{Program}
 use Rattle.chr_acts.specs.Acts.{FitsAct}
 use Rattle.chr_worlds.specs.declared.answer.Answer.{Answer}
