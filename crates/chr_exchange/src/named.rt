@@ -57,7 +57,8 @@ fn named_atoms(
     Ok(Some(atoms))
 }
 
-/// The operation that is spelt so, which has 1 to 64 atoms. None where the program doesn't declare one of them.
+/// The operation that is spelt so, which has 1 to 64 atoms, ready to be shared. None where the program doesn't declare
+/// one of them.
 pub fn declared_operation(
     alloc: Global,
     program: &Program,
@@ -71,7 +72,10 @@ pub fn declared_operation(
     };
     put_in_order(&mut atoms);
     let bag = Bag::of(atoms)?;
-    Ok(Op::of(raw.id, bag))
+    match Op::of(raw.id, bag) {
+        Some(op) => Ok(Some(op.ready_to_share(alloc)?)),
+        None => Ok(None),
+    }
 }
 
 /// The operations that are spelt so, each of 1 to 64 atoms, in their order. None where the program doesn't declare an

@@ -63,7 +63,7 @@ fn uncovered_atoms(alloc: Global, covered: &Covered, ops: &[Op]) -> Result<Vec<A
 }
 
 /// Copies of the atoms of those of these operations that are new to a set, each operation once.
-pub(crate) fn fresh_atoms(
+pub(crate) fn fresh_list(
     alloc: Global,
     held: &Entries,
     covered: &Covered,

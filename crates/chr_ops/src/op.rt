@@ -133,6 +133,19 @@ impl Op {
         })
     }
 
+    /// The same operation with a bag that sets share, so that one that takes it in needs no memory for that.
+    ///
+    /// # Errors
+    /// Where memory is refused.
+    pub fn ready_to_share(self, alloc: Global) -> Result<Op, AllocError>
+        ensures { IfOk result (λ op. op ≡ self) }
+    {
+        match self.into_shared(alloc) {
+            Ok((id, bag)) => Ok(Op::from_shared(id, bag)),
+            Err(_) => Err(AllocError),
+        }
+    }
+
     /// Its bag, to be shared: where it has one of its own, a copy.
     pub(crate) fn share(&self, alloc: Global) -> Result<SharedBag, AllocError>
         ensures bag { IfOk result (λ shared. shared ≡ self.now.1) }

@@ -15,7 +15,7 @@ ghost use Rattle.chr_ops.specs.Summaries.{CoversJust, lacking};
 use crate::covered::Covered;
 use crate::entries::Entries;
 use crate::fault::{AddFault, Added};
-use crate::fresh::fresh_atoms;
+use crate::fresh::fresh_list;
 use crate::id::OpId;
 use crate::joining::{take_in_covered, withdraw};
 use crate::lacking::{lacked, lacked_of};
@@ -222,10 +222,17 @@ impl OpSet {
     }
 
     /// The atoms of those of a list's operations that are new to the set, each operation once: what a join of the list
-    /// adds to what is told. They stand in the order of the list.
-    pub fn fresh_atoms(&self, alloc: Global, ops: &[Op]) -> Result<Vec<Atom>, AllocError>
+    /// adds to what is told.
+    pub fn fresh_atoms(&self, alloc: Global, ops: &[Op]) -> Result<Bag, AllocError>
+        ensures { IfOk result (λ bag. bag ≡ sum_of (fresh self.now ops.now)) }
+    {
+        Bag::of(self.fresh_list(alloc, ops)?)
+    }
+
+    /// The same atoms in the order of the list, which takes no sort.
+    pub fn fresh_list(&self, alloc: Global, ops: &[Op]) -> Result<Vec<Atom>, AllocError>
         ensures { IfOk result (λ atoms. store_of atoms.items ≡ sum_of (fresh self.now ops.now)) }
     {
-        fresh_atoms(alloc, &self.held, &self.covered, ops)
+        fresh_list(alloc, &self.held, &self.covered, ops)
     }
 }

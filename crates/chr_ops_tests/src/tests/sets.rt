@@ -252,9 +252,10 @@ fn ranges_end_where_they_say(rt: HostRuntime) {
 
 /// Whether these atoms are those of the operations that the set lacks.
 fn are_fresh(rt: &impl Abort, alloc: Global, set: &OpSet, ops: &[Op], symbols: &[u16]) -> bool {
+    let list = set.fresh_list(alloc, ops).expect(rt, "memory");
+    let list = Bag::of(list).expect(rt, "memory");
     let fresh = set.fresh_atoms(alloc, ops).expect(rt, "memory");
-    let fresh = Bag::of(fresh).expect(rt, "memory");
-    fresh.is_same(&bag(rt, alloc, symbols))
+    fresh.is_same(&bag(rt, alloc, symbols)) && list.is_same(&fresh)
 }
 
 #[test]

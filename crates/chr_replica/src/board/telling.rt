@@ -88,7 +88,7 @@ impl Board {
         if !declares_all(self.accepted.program(), ops) {
             return Err(Refusal::UnknownSymbol);
         }
-        let fresh = self.ops.fresh_atoms(alloc, ops)?;
+        let fresh = self.ops.fresh_list(alloc, ops)?;
         self.pool.insert(&fresh)?;
         match self.ops.join(alloc, ops) {
             Ok(count) => {
