@@ -1,5 +1,5 @@
 //! What a replica answers.
-ghost use Rattle.std.specs.Prelude.{◌≡◌, IfOk};
+ghost use Rattle.std.specs.Prelude.{◌≡◌, ◌≢◌, IfOk, OnOk};
 
 use crate::lists::{LeaseList, OpList};
 use chr_base::bag::Bag;
@@ -43,6 +43,20 @@ pub enum Reply {
 
 impl Reply {
     ghost use Rattle.chr_acts.specs.Replies.{TakesNoMemory};
+
+    /// The reply of a board that refuses this. It takes no memory.
+    ///
+    /// # Errors
+    /// Where memory is what was refused: that is no reply.
+    pub fn refused(refusal: Refusal) -> Result<Reply, AllocError>
+        ensures ok { IfOk result (λ reply. reply ≡ Reply.Refused refusal) }
+        ensures refusal { OnOk result (refusal ≢ Refusal.Memory) }
+    {
+        match refusal {
+            Refusal::Memory => Err(AllocError),
+            refusal => Ok(Reply::Refused(refusal)),
+        }
+    }
 
     /// An equal reply.
     pub fn copy(&self, alloc: Global) -> Result<Reply, AllocError>

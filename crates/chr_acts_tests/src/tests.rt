@@ -1,7 +1,9 @@
 //! Acts on boards and calls of books, with the program of the least value. Where memory runs out a test ends.
 mod copies;
 
-use chr_acts::{Act, Book, Entry, OpList, Reply, carry_out};
+use chr_acts::{
+    Act, Book, Entry, OpList, Reply, carry_out, lacks, merge, settle, show, show_by, tell,
+};
 use chr_base::bag::Bag;
 use chr_join::{Accepted, Coverage, Done, Lease, accept};
 use chr_ops::{Added, IdRange, Op, OpId, Summary};
@@ -163,13 +165,69 @@ fn replied(rt: &impl Abort, alloc: Global, board: &mut Board, act: &Act) -> Repl
     carry_out(alloc, board, act).expect(rt, "memory")
 }
 
-/// A new board replies so to these acts, in turn.
+/// What it replies to the call for that act alone, where there is one.
+fn replied_to_call(rt: &impl Abort, alloc: Global, board: &mut Board, act: &Act) -> Reply {
+    assert!(rt; act.fits(), "it does not fit");
+    let reply = match act {
+        Act::Tell(op) => tell(alloc, board, op.copy(alloc).expect(rt, "memory")),
+        Act::Merge(ops) => merge(alloc, board, ops.as_slice()),
+        Act::Settle => Ok(settle(board)),
+        Act::Show => show(alloc, board),
+        Act::Summary => chr_acts::summary(alloc, board),
+        Act::Lacks(ids) => lacks(alloc, board, ids),
+        act => carry_out(alloc, board, act),
+    };
+    reply.expect(rt, "memory")
+}
+
+fn new_board(rt: &(impl Abort + Threads + Sync), alloc: Global) -> Board {
+    Board::open(alloc, accepted(rt, alloc)).expect(rt, "memory")
+}
+
+/// A new board replies so to these acts, in turn, and another to the calls for them.
 fn expect_replied(rt: &(impl Abort + Threads + Sync), alloc: Global, rows: &[(Ask, Said)]) {
-    let mut board = Board::open(alloc, accepted(rt, alloc)).expect(rt, "memory");
+    let mut board = new_board(rt, alloc);
+    let mut called = new_board(rt, alloc);
     for (place, (ask, expected)) in rows.iter().enumerate() {
-        let reply = replied(rt, alloc, &mut board, &act(rt, alloc, *ask));
+        let act = act(rt, alloc, *ask);
+        let reply = replied(rt, alloc, &mut board, &act);
         assert!(rt; is_said(rt, alloc, &reply, *expected), "act {place}");
+        let reply = replied_to_call(rt, alloc, &mut called, &act);
+        assert!(rt; is_said(rt, alloc, &reply, *expected), "call {place}");
     }
+}
+
+/// Whether a show by several threads is replied to so.
+fn is_shown_by_threads(
+    rt: &(impl Abort + Threads + Sync),
+    alloc: Global,
+    board: &Board,
+    expected: Said,
+) -> bool {
+    let reply = show_by(rt, alloc, board).expect(rt, "memory");
+    is_said(rt, alloc, &reply, expected)
+}
+
+#[test]
+fn several_threads_show_what_has_settled(rt: HostRuntime) {
+    let alloc = rt.alloc();
+    let mut board = new_board(&rt, alloc);
+    replied(
+        &rt,
+        alloc,
+        &mut board,
+        &act(&rt, alloc, Ask::Tell(&[5, 3, 9])),
+    );
+    assert!(rt; is_shown_by_threads(&rt, alloc, &board, Said::Refused(Refusal::NotAtRest)));
+    replied(&rt, alloc, &mut board, &Act::Settle);
+    assert!(rt; is_shown_by_threads(&rt, alloc, &board, Said::Shown(&[3])));
+}
+
+#[test]
+fn want_of_memory_is_no_reply(rt: HostRuntime) {
+    assert!(rt; Reply::refused(Refusal::Memory).is_err());
+    let reply = Reply::refused(Refusal::NotAtRest).expect(&rt, "a reply");
+    assert!(rt; is_said(&rt, rt.alloc(), &reply, Said::Refused(Refusal::NotAtRest)));
 }
 
 const STEPS_AND_LEASES: [(Ask, Said); 5] = [

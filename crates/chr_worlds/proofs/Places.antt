@@ -13,6 +13,7 @@ use Rattle.chr_replica.specs.Replicas.{Replica}
 use Rattle.chr_replica.specs.Boards.{program_on}
 use Rattle.chr_ops.specs.Operations.{Operation}
 use Rattle.chr_ops.specs.Summaries.{CoversJust}
+use Rattle.chr_acts.specs.declared.act.Act.{Act}
 use Rattle.chr_acts.specs.declared.act.Act.TheVariants as act
 use Rattle.chr_acts.specs.declared.reply.Reply.{Reply}
 use Rattle.chr_acts.specs.Events.{Does}
@@ -78,6 +79,14 @@ stays_at w r s R here holds = record {
   changed = holds;
   world = sym (set-get_or w (r - 1) s) ∙ ap (slice_set w (r - 1)) (get_or_from_slice_get w (r - 1) s s here.1);
 }
+
+-- what a board answers without a change is the answer of its replica in the world
+pub asked_at : (w : Shared) (r : ℕ) (b : Held) (a : Act) (x : Reply) → IsAt w.replicas r b.replica
+    → b.accepted ≡ w.accepted → Does (program_on b) b.replica a x b.replica
+    → Changes w.replicas r (λ s t. Does (shared_program w) s a x t) w.replicas
+asked_at w r b a x here program does =
+    stays_at w.replicas r b.replica (λ s t. Does (shared_program w) s a x t) here
+    (subst (λ k. Does (program_in k) b.replica a x b.replica) program does)
 
 -- boards that were told nothing
 pub untold : (n : ℕ) (b : Held) → replicas_on (replicate n b) ≡ replicate n b.replica

@@ -10,9 +10,9 @@ ghost use Rattle.chr_worlds.specs.Worlds.{Works};
 ghost use Rattle.chr_worlds.specs.working.Boards.{AreLackedAt, AreOf, ChangesAt, ExchangesAt, HoldsAllOf};
 ghost use Rattle.chr_worlds.specs.working.Boards.{TellsNothing};
 
-use crate::boards::{lacked, lacked_among, merge, opened, place_of, settle, tell, work};
+use crate::boards::{lacked, lacked_among, opened, place_of, work};
 use crate::gained::{keep_merged, keep_told};
-use chr_acts::{Act, Reply, carry_out};
+use chr_acts::{Act, Reply, carry_out, merge, settle, tell};
 use chr_base::derivation::Step;
 use chr_join::Accepted;
 use chr_ops::{News, Op, exchange_laws};

@@ -5,17 +5,13 @@ ghost use Rattle.std.specs.Arc.{arc_value};
 ghost use Rattle.chr_ops.specs.News.{LacksOnly};
 ghost use Rattle.chr_replica.specs.Boards.{program_on};
 ghost use Rattle.chr_replica.specs.Replicas.{first};
-ghost use Rattle.chr_acts.specs.Events.{Does};
-ghost use Rattle.chr_base.specs.declared.program.Program.{Program};
-ghost use Rattle.chr_replica.specs.Replicas.{Replica};
 ghost use Rattle.chr_worlds.specs.Worlds.{Works};
-ghost use Rattle.chr_worlds.specs.working.Boards.{AreLacked, IsShown, IsWorked};
+ghost use Rattle.chr_worlds.specs.working.Boards.{AreLacked, IsWorked};
 
-use chr_acts::{Act, Reply};
-use chr_base::bag::Bag;
+use chr_acts::Reply;
 use chr_base::derivation::Step;
 use chr_join::{Accepted, Done, StepFault};
-use chr_ops::{Added, Op, OpId, summaries_are_one};
+use chr_ops::{Op, OpId, summaries_are_one};
 use chr_replica::{Board, Refusal};
 use std::alloc::{AllocError, Global};
 use std::sync::Arc;
@@ -46,58 +42,6 @@ pub(crate) fn place_of(boards: &[Board], number: u64) -> Option<usize>
         Some(place as usize)
     } else {
         None
-    }
-}
-
-/// The reply of a board to a show that came to this.
-pub(crate) fn shown(outcome: Result<Bag, Refusal>) -> Result<Reply, AllocError>
-    ensures { IfOk result (λ reply.
-        (p : Program) (s : Replica) → IsShown p s outcome → Does p s Act.Show reply s) }
-{
-    match outcome {
-        Ok(bag) => Ok(Reply::Shown(bag)),
-        Err(Refusal::Memory) => Err(AllocError),
-        Err(refusal) => Ok(Reply::Refused(refusal)),
-    }
-}
-
-/// Tells a board an operation, and answers with what is refused. Where memory is refused nothing changes.
-pub(crate) fn tell(alloc: Global, board: &mut Board, op: Op) -> Result<Reply, AllocError>
-    ensures program { board.new.accepted ≡ board.old.accepted }
-    ensures ok { IfOk result (λ reply.
-        Does (program_on board.old) board.old.replica (Act.Tell op) reply board.new.replica) }
-    ensures err { OnErr result (board.new ≡ board.old) }
-{
-    match board.tell(alloc, op) {
-        Ok(Added::New) => Ok(Reply::Told(Added::New)),
-        Ok(Added::Again) => Ok(Reply::Told(Added::Again)),
-        Err(Refusal::Memory) => Err(AllocError),
-        Err(refusal) => Ok(Reply::Refused(refusal)),
-    }
-}
-
-/// Merges operations into those of a board, likewise.
-pub(crate) fn merge(alloc: Global, board: &mut Board, ops: &[Op]) -> Result<Reply, AllocError>
-    ensures program { board.new.accepted ≡ board.old.accepted }
-    ensures ok { IfOk result (λ reply.
-        Does (program_on board.old) board.old.replica (Act.Merge ops.now) reply board.new.replica) }
-    ensures err { OnErr result (board.new ≡ board.old) }
-{
-    match board.merge(alloc, ops) {
-        Ok(count) => Ok(Reply::Merged(count)),
-        Err(Refusal::Memory) => Err(AllocError),
-        Err(refusal) => Ok(Reply::Refused(refusal)),
-    }
-}
-
-/// Rests a board's pool. Where memory is refused, the steps up to there stand, and are answered.
-pub(crate) fn settle(board: &mut Board) -> Reply
-    ensures program { board.new.accepted ≡ board.old.accepted }
-    ensures does { Does (program_on board.old) board.old.replica Act.Settle result board.new.replica }
-{
-    match board.settle() {
-        Ok(steps) => Reply::Settled(steps),
-        Err(stopped) => Reply::Stopped(stopped.steps),
     }
 }
 
@@ -147,8 +91,7 @@ pub(crate) fn work(
 {
     match put_stepped(alloc, board, number, steps) {
         Ok(()) => Ok(Reply::WasPut),
-        Err(Refusal::Memory) => Err(AllocError),
-        Err(refusal) => Ok(Reply::Refused(refusal)),
+        Err(refusal) => Reply::refused(refusal),
     }
 }
 

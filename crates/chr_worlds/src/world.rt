@@ -12,9 +12,8 @@ ghost use Rattle.chr_worlds.specs.working.Boards.{TellsNothing};
 
 use crate::answer::Answer;
 use crate::board_list::BoardList;
-use crate::boards::shown;
 use crate::event::Event;
-use chr_acts::{Act, OpList, Reply};
+use chr_acts::{Act, lacks, show, show_by, summary};
 use chr_base::derivation::Step;
 use chr_base::limits::MAX_REPLICAS;
 use chr_join::Accepted;
@@ -223,7 +222,7 @@ impl World {
         let Some(board) = self.board(replica) else {
             return Ok(Answer::NoReplica);
         };
-        let reply = shown(board.show(alloc))?;
+        let reply = show(alloc, board)?;
         Ok(Answer::Replied(reply))
     }
 
@@ -243,7 +242,7 @@ impl World {
         let Some(board) = self.board(replica) else {
             return Ok(Answer::NoReplica);
         };
-        let reply = shown(board.show_by(rt, alloc))?;
+        let reply = show_by(rt, alloc, board)?;
         Ok(Answer::Replied(reply))
     }
 
@@ -258,8 +257,8 @@ impl World {
         let Some(board) = self.board(replica) else {
             return Ok(Answer::NoReplica);
         };
-        let summary = board.summary(alloc)?;
-        Ok(Answer::Replied(Reply::Summed(summary)))
+        let reply = summary(alloc, board)?;
+        Ok(Answer::Replied(reply))
     }
 
     /// Tells a replica's operations whose ids a summary does not cover. It is the event of [`Act::Lacks`].
@@ -278,8 +277,8 @@ impl World {
         let Some(board) = self.board(replica) else {
             return Ok(Answer::NoReplica);
         };
-        let ops = board.lacks(alloc, summary)?;
-        Ok(Answer::Replied(Reply::Lacked(OpList::of(ops))))
+        let reply = lacks(alloc, board, summary)?;
+        Ok(Answer::Replied(reply))
     }
 
     /// Asks a replica to do something.

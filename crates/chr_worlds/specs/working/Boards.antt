@@ -1,10 +1,9 @@
 -- The boards of a world as a list.
 use Rattle.std.specs.Prelude.{◌≡◌, ℕ, List, [], ◌∷◌, ◌++◌, map as each, All, Some, slice_get, slice_set, Bool}
-use Rattle.std.specs.Prelude.{true, false, Result, IfErr, IfOk, OnOk, ⊤}
+use Rattle.std.specs.Prelude.{true, false, ⊤}
 use Rattle.std.specs.FinMap as map
 use Rattle.chr_base.specs.Programs.{rules_of}
 use Rattle.chr_base.specs.declared.derivation.Step.{Step}
-use Rattle.chr_base.specs.Stores.{Store}
 use Rattle.chr_weights.specs.WeighedPrograms.{program_of}
 use Rattle.chr_join.specs.Parts.{Finished}
 use Rattle.chr_join.specs.declared.accepted.Accepted.{Accepted}
@@ -16,9 +15,7 @@ use Rattle.chr_ops.specs.Operations.{Operation, Operations}
 use Rattle.chr_ops.specs.Summaries.{CoversJust, lacking}
 use Rattle.chr_rewrite.specs.Derivations.{IsDerivation}
 use Rattle.chr_replica.specs.Boards.{Held, program_on}
-use Rattle.chr_replica.specs.declared.refusal.Refusal.{Refusal}
-use Rattle.chr_replica.specs.Refusals.{RefusesShow}
-use Rattle.chr_replica.specs.Replicas.{Replica, IsSettled}
+use Rattle.chr_replica.specs.Replicas.{Replica}
 use Rattle.chr_acts.specs.declared.act.Act.{Act}
 use Rattle.chr_acts.specs.declared.act.Act.TheVariants as act
 use Rattle.chr_acts.specs.declared.reply.Reply.{Reply}
@@ -51,12 +48,6 @@ pub record IsWorked (p : Program) (s : Replica) (number : ℕ) (steps : List Ste
   pub out : map.get s.out number ≡ Some d.part
   pub numbered : d.number ≡ number
   pub end : IsDerivation (rules_of p) steps d.part d.result
-
--- what came of a show of the replica s of the program p: its pool, or why it is not shown
-pub record IsShown (p : Program) (s : Replica) (outcome : Result Store Refusal) : Type 0 where
-  pub pool : IfOk outcome (λ bag. bag ≡ s.pool)
-  pub settled : OnOk outcome (IsSettled p s)
-  pub refused : IfErr outcome (RefusesShow p s)
 
 -- the operations are those of m that n lacks
 pub record AreLacked (m n : Operations) (ops : List Operation) : Type 0 where

@@ -1,14 +1,8 @@
-use Rattle.std.proofs.Common.{refl}
-use Rattle.chr_acts.specs.Events.{Does}
 use Rattle.chr_acts.specs.declared.act.Act.TheVariants as act
-use Rattle.chr_acts.specs.declared.reply.Reply.TheVariants as reply
-use Rattle.chr_worlds.specs.Sharing.{shared_program}
-use Rattle.chr_worlds.proofs.Places.{stays_at}
+use Rattle.chr_worlds.proofs.Places.{asked_at}
 use Rattle.chr_worlds.proofs.world.World.summary.Goals as goal
 
 pub returns : goal.returns
 returns c =
-    let w = c.args.self.now in
-    stays_at w.replicas c.args.replica c.in-Some.board.now.replica
-    (λ s t. Does (shared_program w) s act.Summary (reply.Summed c.in_ok-summary.summary) t) c.in-Some.ensures.replica
-    (c.in_ok-summary.ensures, refl)
+    asked_at c.args.self.now c.args.replica c.in-Some.board.now act.Summary c.in_ok-reply.reply
+    c.in-Some.ensures.replica c.in-Some.ensures.program c.in_ok-reply.ensures
