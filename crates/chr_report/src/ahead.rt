@@ -16,8 +16,11 @@ use std::vec::IntoIter;
 /// So many bytes of lines are read ahead at most for each worker, and the rest of the line in which they end.
 const PIECE: usize = 1_048_576;
 
-/// So many bytes are worth a thread.
+/// So many bytes are worth a thread. No more are read first, since nothing is answered up to then.
 const LEAST_PIECE: usize = 32_768;
+
+/// Pieces have so many times the bytes of those before them at most, so that they are read while those are answered.
+const GROWTH: usize = 2;
 
 /// So many lines of them at most, so that what short lines ask for takes no more memory than that.
 const MOST_LINES: usize = 65_536;
@@ -49,21 +52,29 @@ fn first_piece(text: &[u8], from: usize, size: usize) -> Piece {
     }
 }
 
-/// The lines that begin where so many bytes are left of a text, in as many pieces as there are workers, and how many
-/// bytes come after them. They are half of all that is left, where it is not much, so that these are answered while
-/// others are read.
-fn first_pieces(
+/// Lines of a text that are to be read ahead: how many bytes are left of it where they begin, how many threads read
+/// them, and about how many bytes each of these reads at most.
+#[derive(Clone, Copy)]
+pub(crate) struct Stretch {
+    pub(crate) from: usize,
+    pub(crate) readers: u32,
+    pub(crate) size: usize,
+}
+
+/// A stretch in as many pieces as there are readers, and how many bytes come after them. They are half of all that is
+/// left, where it is not much, so that these are answered while others are read.
+fn pieces_of(
     alloc: Global,
     text: &[u8],
-    from: usize,
-    workers: u32,
+    stretch: Stretch,
 ) -> Result<(Vec<Piece>, usize), AllocError>
-    requires { 1 ≤ workers }
+    requires { 1 ≤ stretch.readers }
 {
-    let size = (from / workers as usize / 2).clamp(LEAST_PIECE, PIECE);
+    let half = stretch.from / stretch.readers as usize / 2;
+    let size = half.min(stretch.size).max(LEAST_PIECE);
     let mut pieces = Vec::new(alloc);
-    let mut left = from;
-    for _ in 0..workers {
+    let mut left = stretch.from;
+    for _ in 0..stretch.readers {
         if left == 0 {
             break;
         }
@@ -136,32 +147,33 @@ fn read_pieces(
 }
 
 /// Lines of a text that were read before their turn, in order: those of a piece, and the pieces after it. And how many
-/// bytes come after all that was looked at.
+/// bytes come after all that was looked at, and about how many a piece has at most.
 #[derive(Drop)]
 pub(crate) struct Ahead {
     pub(crate) heard: IntoIter<Heard>,
     pub(crate) pieces: IntoIter<Option<Vec<Heard>>>,
     pub(crate) left: usize,
+    pub(crate) size: usize,
 }
 
-/// Reads the lines that begin where so many bytes are left of a text, as far as so many threads read at once.
+/// Reads a stretch of lines.
 fn read_ahead(
     rt: &(impl Threads + Sync),
     alloc: Global,
     program: &Program,
     text: &[u8],
-    from: usize,
-    workers: u32,
+    stretch: Stretch,
 ) -> Result<Ahead, AllocError>
-    requires { 1 ≤ workers }
+    requires { 1 ≤ stretch.readers }
     ensures { IfOk result (IsAhead program.now text.now) }
 {
-    let (pieces, left) = first_pieces(alloc, text, from, workers)?;
+    let (pieces, left) = pieces_of(alloc, text, stretch)?;
     let found = read_pieces(rt, alloc, program, text, &pieces)?;
     Ok(Ahead {
         heard: Vec::new(alloc).into_iter(),
         pieces: found.into_iter(),
         left,
+        size: stretch.size,
     })
 }
 
@@ -174,23 +186,22 @@ impl Ahead {
             heard: Vec::new(alloc).into_iter(),
             pieces: Vec::new(alloc).into_iter(),
             left: 0,
+            size: 0,
         }
     }
 
-    /// The lines that begin where so many bytes are left of a text, as far as so many threads read at once. Where
-    /// memory is refused for that, none is.
+    /// A stretch of lines, read before their turn. Where memory is refused for that, none is.
     pub(crate) fn read(
         rt: &(impl Threads + Sync),
         alloc: Global,
         program: &Program,
         text: &[u8],
-        from: usize,
-        workers: u32,
+        stretch: Stretch,
     ) -> Self
-        requires { 1 ≤ workers }
+        requires { 1 ≤ stretch.readers }
         ensures { IsAhead program.now text.now result }
     {
-        match read_ahead(rt, alloc, program, text, from, workers) {
+        match read_ahead(rt, alloc, program, text, stretch) {
             Ok(ahead) => ahead,
             Err(AllocError) => Ahead::none(alloc),
         }
@@ -207,9 +218,25 @@ impl Ahead {
         ensures { IsAhead program.now text.now result }
     {
         if workers > 1 {
-            return Ahead::read(rt, alloc, program, text, text.len(), workers);
+            let stretch = Stretch {
+                from: text.len(),
+                readers: workers,
+                size: LEAST_PIECE,
+            };
+            return Ahead::read(rt, alloc, program, text, stretch);
         }
         Ahead::none(alloc)
+    }
+
+    /// The lines after these, which all workers but one read.
+    pub(crate) fn after(&self, workers: u32) -> Stretch
+        ensures { 1 ≤ result.readers }
+    {
+        Stretch {
+            from: self.left,
+            readers: workers.saturating_sub(1).max(1),
+            size: self.size.saturating_mul(GROWTH).min(PIECE),
+        }
     }
 
     /// What was heard of the next line. Nothing is known of a piece to which memory was refused.

@@ -195,14 +195,13 @@ fn answer_and_read<R: Threads + Wait + Sync>(
         let at = answer_heard(rt, alloc, input, at, ahead)?;
         return Ok((at, Ahead::none(alloc)));
     }
-    let after = ahead.left;
-    let readers = at.service.sharing.workers.saturating_sub(1).max(1);
+    let after = ahead.after(at.service.sharing.workers);
     let (later, answered) = join(
         rt,
         || -> Ahead
-            requires { IsSync R.row × (1 ≤ readers) }
+            requires { IsSync R.row × (1 ≤ after.readers) }
             ensures { IsAhead program.entry.now input.entry.now result }
-        { Ahead::read(rt, alloc, program, input, after, readers) },
+        { Ahead::read(rt, alloc, program, input, after) },
         move || -> Result<Answering, AllocError>
             requires { IsBetweenLines at.service × IsAhead (served at.service) input.now ahead }
             ensures answered { IfOk result (GoesOn input.entry.now at) }

@@ -227,6 +227,9 @@ impl Service {
         ensures program { self.new.world.accepted ≡ self.old.world.accepted }
         ensures operations { OnOk result (held self.new ≡ held self.old) }
     {
+        if self.waiting(replica) <= MOST_WAITING {
+            return Ok(());
+        }
         let worth_sharing = self.is_worth_sharing(replica);
         if self.is_in_pools(replica) {
             return if worth_sharing {
@@ -235,10 +238,10 @@ impl Service {
                 Ok(())
             };
         }
-        if self.waiting(replica) > MOST_WAITING && !worth_sharing {
-            return self.settle_alone(replica);
+        if worth_sharing {
+            return Ok(());
         }
-        Ok(())
+        self.settle_alone(replica)
     }
 
     /// Tells a replica an operation.
