@@ -1,5 +1,5 @@
 -- Runs in pools are runs of the store.
-use Rattle.std.specs.Prelude.{◌≡◌, ℕ, suc, ◌+◌, ◌-◌, ◌^◌, ◌<◌, min, List, [], ◌∷◌, length, get_or}
+use Rattle.std.specs.Prelude.{◌≡◌, ℕ, zero, suc, ◌+◌, ◌-◌, ◌^◌, ◌<◌, min, List, [], ◌∷◌, ◌++◌, length, get_or}
 use Rattle.std.specs.Prelude.{set, All, replicate}
 use Rattle.std.specs.Prelude.{Result, Ok, Err, OnOk}
 use Rattle.std.proofs.Common.{refl, sym, ap, subst, ◌∙◌, arith, inl, inr}
@@ -81,6 +81,22 @@ reach_on rules ss ts k t h within r len = (
         (sym (get_or-set_other ts k i t bag.empty other)) (h.1 i l)
   ]),
 )
+
+-- those of two lists do
+pub reach_both : (rules : List Rule) (ss ts us vs : List Store) → ReachEach rules ss ts → ReachEach rules us vs
+    → ReachEach rules (ss ++ us) (ts ++ vs)
+reach_both rules [] [] us vs g h = h
+reach_both rules [] (t ∷ ts) us vs g h = absurd (let e = g.0 in omega (arith, e))
+reach_both rules (s ∷ ss) [] us vs g h = absurd (let e = g.0 in omega (arith, e))
+reach_both rules (s ∷ ss) (t ∷ ts) us vs g h =
+    let more = reach_both rules ss ts us vs ((let e = g.0 in omega (arith, e)), λ k l. g.1 (suc k) (omega (arith, l)))
+    h in
+    ((let e = more.0 in omega (arith, e)), each more)
+  where
+    each : ReachEach rules (ss ++ us) (ts ++ vs) → (k : ℕ) → k < length (s ∷ (ss ++ us))
+        → Reaches (Step rules) (store_at (s ∷ (ss ++ us)) k) (store_at (t ∷ (ts ++ vs)) k)
+    each more zero l = g.1 0 (omega arith)
+    each more (suc k) l = more.1 k (omega (arith, l))
 
 -- steps that were taken, and then some in one pool
 pub took_in : (p : Program) (n m k : ℕ) (s : Store) (ts : List Store) (i : ℕ) (t : Store) → ProgramLowers p

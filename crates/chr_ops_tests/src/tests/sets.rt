@@ -250,6 +250,17 @@ fn ranges_end_where_they_say(rt: HostRuntime) {
     assert!(rt; !has_number(22));
 }
 
+#[test]
+fn an_operation_that_is_ready_to_be_shared_is_taken_in(rt: HostRuntime) {
+    let alloc = rt.alloc();
+    let told = op(&rt, alloc, id(1, 1), &[5, 6]);
+    let ready = told.ready_to_share(alloc).expect(&rt, "memory");
+    assert!(rt; is_of(&ready, id(1, 1), 2));
+    let mut set = OpSet::new(alloc);
+    add(&rt, &mut set, ready);
+    assert!(rt; has(&rt, alloc, &set, id(1, 1), &[5, 6]));
+}
+
 /// Whether these atoms are those of the operations that the set lacks.
 fn are_fresh(rt: &impl Abort, alloc: Global, set: &OpSet, ops: &[Op], symbols: &[u16]) -> bool {
     let list = set.fresh_list(alloc, ops).expect(rt, "memory");
