@@ -47,6 +47,9 @@ BYTES_SHOWN = 48
 """So many bytes more an atom of one argument may take where it is shown, some 11 of its text among them, and 24 where
 the arguments are first put in order. A bag of atoms would take 64 alone."""
 
+LINES, ROOM_OF_ONE, ROOM_OF_TWO = 80_000, 16_000, 60_000
+"""A run of so many lines of 1,000 bytes gets so many KB of address space."""
+
 LONGEST = 10
 """A run is ended after so many seconds of processor time."""
 
@@ -411,6 +414,16 @@ class ShortMemory(unittest.TestCase):
                         self.assertEqual(fault, "")
         self.assertGreater(refused, 0)
         print(f"({refused} runs ended for want of memory)", end=" ", flush=True)
+
+    def test_a_run_holds_some_lines_alone(self) -> None:
+        """Blank lines, refused ones and a long one, of more bytes than there is room, by one worker and by two."""
+        given = f"{PLAIN}\n---\n" + f"{' ' * 999}\n{'x' * 999}\n" * (LINES // 2) + " " * 10**6
+        wanted = b"accepted: rules 0, cases 0\n" + b"refused 30\n" * (LINES // 2)
+        for workers, room in ((1, ROOM_OF_ONE), (2, ROOM_OF_TWO)):
+            with self.subTest(workers=workers):
+                self.assertLess(room * 1024, len(given))
+                end = run_of(("run", "--workers", str(workers)), given, room)
+                self.assertEqual((end.status, end.output == wanted), (0, True))
 
     def test_verdicts_of_threads_under_limits_of_memory_end_soon(self) -> None:
         words = ("check", "--wide")

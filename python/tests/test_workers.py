@@ -4,6 +4,7 @@ import itertools
 import json
 import random
 import subprocess
+import tempfile
 import unittest
 from collections.abc import Iterable, Iterator
 
@@ -51,9 +52,10 @@ def shortest(all_routes: Iterable[Route]) -> str:
     return ", ".join(f"path({start},{end},{lengths[start, end]})" for start, end in sorted(lengths))
 
 
-# Lines are read ahead in pieces of so many bytes, where twice as many are left for each worker, and so many lines of a
-# piece at most.
-PIECE = 1_048_576
+# So many bytes come from a file at once; lines are read block by block, of so many bytes for each worker at most; and
+# so many lines of a reader's piece of it are read ahead at most.
+READ = 16_384
+BLOCK = 262_144
 MOST_LINES = 65_536
 MAX_LINE = 1_048_576
 Line = tuple[str, str]
@@ -147,20 +149,35 @@ class Workers(unittest.TestCase):
         for count, seed in ((3, 1), (3_000, 2), (150_000, 3)):
             self.expect_read(*ended(mixed(count, seed), seed))
 
+    def test_lines_at_ends_of_blocks(self) -> None:
+        """Lines of a file end at each place where a block may, and up to two bytes before and behind it."""
+        for far in range(-2, 3):
+            given = input_of(())
+            for number in range(1, 200):
+                line, _ = told(number)
+                given += line.ljust(number * READ + far - len(given) - 1) + "\n"
+            for workers in (1, 2, 4, 16):
+                with self.subTest(far=far, workers=workers), tempfile.TemporaryFile() as file:
+                    file.write(given.encode())
+                    file.seek(0)
+                    command = [program_path(), "run", "--workers", str(workers)]
+                    end = subprocess.run(command, stdin=file, capture_output=True, timeout=SECONDS, check=False)
+                    self.assertEqual((end.returncode, end.stdout.decode()), (0, VERDICT + "told\n" * 199))
+
     def test_lines_at_cuts(self) -> None:
-        """A line ends right before the place where a piece may be cut, there, and right behind it."""
+        """A line is a little shorter than a block, as long, and a little longer."""
         after = [told(number) for number in range(100_000)]
         for far in range(-2, 3):
             for first in ("x", " "):
-                line = first * (PIECE + far)
+                line = first * (BLOCK + far)
                 rows_of = [(line, "refused 30\n" if first == "x" else ""), *after]
                 self.expect_read("".join(f"{line}\n" for line, _ in rows_of), "".join(answer for _, answer in rows_of))
 
     def test_long_lines(self) -> None:
-        """Lines that are longer than a piece, up to their limit and past it, between others."""
+        """Lines that are longer than a block, up to their limit and past it, between others."""
         show, shown = '["show",2]', "true\n"
         rows_of = [told(0)]
-        lengths = ((PIECE, shown), (MAX_LINE, shown), (MAX_LINE + 1, "refused 30\n"))
+        lengths = ((BLOCK, shown), (MAX_LINE, shown), (MAX_LINE + 1, "refused 30\n"))
         for number, (length, answer) in enumerate(lengths, 1):
             rows_of += [(show + " " * (length - len(show)), answer), told(number)]
         self.expect_read("".join(f"{line}\n" for line, _ in rows_of), "".join(answer for _, answer in rows_of))
@@ -169,7 +186,7 @@ class Workers(unittest.TestCase):
         """More lines in a piece than are read ahead, and blank ones alone."""
         count = 2 * MOST_LINES + 5
         self.expect_read("x\n" * count + '["show",1]\n', "refused 30\n" * count + "true\n")
-        self.expect_read("\n" * (5 * PIECE) + '["show",1]\n', "true\n")
+        self.expect_read("\n" * (20 * BLOCK) + '["show",1]\n', "true\n")
 
     def test_words(self) -> None:
         """The numbers have limits, and only commands that answer lines take them."""

@@ -27,7 +27,8 @@ use Rattle.chr_report.specs.OneText.{AnswersExist}
 use Rattle.chr_report.specs.Outputs.{IsReadOutput, accepted_text}
 use Rattle.chr_report.specs.working.Answered.{AnswersRest}
 use Rattle.chr_report.specs.working.Serving.{AnswersFront, AnswersChunk, AnswersPart, AnswersFrontRead, AnswersInput}
-use Rattle.chr_report.specs.working.Serving.{IsCut, SendsAnswer, AnswersCommands, WritesText, WritesTextPart}
+use Rattle.chr_report.specs.working.Serving.{IsCut, IsOpened, SendsAnswer, AnswersCommands, WritesText}
+use Rattle.chr_report.specs.working.Serving.{WritesTextPart}
 use Rattle.chr_report.proofs.Feeds.{whole_both}
 use Rattle.chr_report.proofs.Outcomes.{program_answered}
 use Rattle.chr_report.proofs.Pieces.{part_of_whole, part_after, part_of_more, fronts_join, front_is_answered}
@@ -177,12 +178,6 @@ module _ (ds : List Declaration) (rules : List Rule) where
         ended_part first line from to start mid now old middle new s e w
 
 -- ---- a program
-
--- the verdict, and then the answers of any commands
-abbrev pub IsOpened : Program → Wanted → List Operations → List ℕ → Type 0
-IsOpened p wanted start verdict =
-    (commands : List (List ℕ)) (answers : List ℕ) → AnswersAll (declarations p) (rules_of p) commands start answers
-    → IsReadOutput (Ok p) wanted commands status.Accepted (verdict ++ answers)
 
 pub program_opened : (a : Accepted) (n m : ℕ) (wanted : Wanted) (start : List Operations) (verdict : List ℕ)
     → IsAcceptedBy wanted.coverage (rules_of (program_in a)) (cases_of a) → n ≡ length (rules_of (program_in a))

@@ -1,12 +1,16 @@
 -- Bytes without line feeds, and whole lines.
-use Rattle.std.proofs.Common.{◌≡◌, ℕ, suc, ◌+◌, List, [], ◌∷◌, ◌++◌, take, Bool, true, false, not, cond, refl, sym, ap}
-use Rattle.std.proofs.Common.{◌∙◌, arith, subst, inl, inr, append_assoc, append-nil}
-use Rattle.std.specs.Prelude.{◌==◌, ◌||◌}
+use mathlib.Core.Bool.{true≢false}
+use Rattle.std.proofs.Common.{◌≡◌, ℕ, zero, suc, ◌+◌, ◌<◌, List, [], ◌∷◌, ◌++◌, drop, length, take, Bool, true, false}
+use Rattle.std.proofs.Common.{not, cond, refl, sym, ap, ◌∙◌, arith, subst, inl, inr, append_assoc, append-nil}
+use Rattle.std.proofs.lemmas.Bool.{eqb-true}
+use Rattle.std.proofs.lemmas.List.{take_more}
+use Rattle.std.specs.Prelude.{◌==◌, ◌||◌, slice_index}
+use Rattle.memchr.specs.Find.{is_byte, Passes, Nowhere, NoneAfter}
 use Rattle.std.specs.List.{list_any, position_or_len, onto_first}
 use Rattle.chr_report.specs.Lines.{lines, is_divider, text_of, commands_of}
 use Rattle.chr_report.specs.Served.{HasNoFeed, AreWholeLines, has_divider}
 use Rattle.chr_report.specs.working.Divided.{AreText, Divides}
-use Rattle.chr_report.proofs.LineLaws.{text_more, text_ended, commands_later, commands_here}
+use Rattle.chr_report.proofs.LineLaws.{text_more, text_ended, commands_later, commands_here, no_test}
 
 none_at : (b : Bool) (n x : ℕ) (xs : List ℕ) → (x == 10) ≡ b → HasNoFeed (take n xs)
     → HasNoFeed (take (cond (not b) (1 + n) 0) (x ∷ xs))
@@ -43,6 +47,57 @@ whole_ended front line = inr (front ++ line, sym (append_assoc front line (10 �
 pub whole_both : (a b : List ℕ) → AreWholeLines a → AreWholeLines b → AreWholeLines (a ++ b)
 whole_both a b h (inl e) = subst AreWholeLines (sym (ap (λ l. a ++ l) e ∙ append-nil a)) h
 whole_both a b h (inr g) = inr (a ++ g.0, ap (λ l. a ++ l) g.1 ∙ sym (append_assoc a g.0 (10 ∷ [])))
+
+-- what is left of whole lines are whole lines
+abbrev rest_of : List ℕ → List ℕ
+rest_of [] = []
+rest_of (x ∷ xs) = xs
+
+whole_rest : (x : ℕ) (xs : List ℕ) → AreWholeLines (x ∷ xs) → AreWholeLines xs
+whole_rest x xs (inl e) = inl (ap rest_of e)
+whole_rest x xs (inr ([], e)) = inl (ap rest_of e)
+whole_rest x xs (inr (b ∷ bs, e)) = inr (bs, ap rest_of e)
+
+whole_after : (front rest : List ℕ) → AreWholeLines (front ++ rest) → AreWholeLines rest
+whole_after [] rest h = h
+whole_after (x ∷ xs) rest h = whole_after xs rest (whole_rest x (xs ++ rest) h)
+
+some_feed : (bytes : List ℕ) → HasNoFeed (bytes ++ 10 ∷ []) → ⊥
+some_feed [] h = true≢false h.0
+some_feed (x ∷ xs) h = some_feed xs h.1
+
+none_left : (line : List ℕ) → AreWholeLines line → HasNoFeed line → line ≡ []
+none_left line (inl e) h = e
+none_left line (inr (bytes, e)) h = absurd (some_feed bytes (subst HasNoFeed e h))
+
+-- so there are none after them in which no line ends
+pub whole_left : (front line : List ℕ) → AreWholeLines (front ++ line) → HasNoFeed line → line ≡ []
+whole_left front line w h = none_left line (whole_after front line w) h
+
+-- ---- the last line feed
+
+none_from : (text : List ℕ) (n : ℕ) → Nowhere (Passes (is_byte 10) text) n (length text) → HasNoFeed (drop n text)
+none_from [] zero h = tt
+none_from [] (suc n) h = tt
+none_from (x ∷ xs) zero h = (
+  no_test (x == 10) (h 0 (omega arith) (omega arith)),
+  none_from xs zero (λ k low high. h (suc k) (omega arith) (omega (arith, high))),
+)
+none_from (x ∷ xs) (suc n) h = none_from xs n (λ k low high. h (suc k) (omega (arith, low)) (omega (arith, high)))
+
+-- no line ends after the last feed
+pub none_after : (text : List ℕ) (k : ℕ) → NoneAfter (Passes (is_byte 10) text) 0 (length text) k
+    → HasNoFeed (drop (k + 1) text)
+none_after text k h = none_from text (k + 1) h.after
+
+pub none_ends : (text : List ℕ) → Nowhere (Passes (is_byte 10) text) 0 (length text) → HasNoFeed text
+none_ends text h = none_from text 0 h
+
+-- and up to it are whole lines
+pub whole_up_to : (text : List ℕ) (k : ℕ) → k < length text → Passes (is_byte 10) text k
+    → AreWholeLines (take (k + 1) text)
+whole_up_to text k l p =
+    inr (take k text, take_more text k 0 l ∙ ap (λ b. take k text ++ b ∷ []) (eqb-true (slice_index text k) 10 p))
 
 -- ---- program text
 

@@ -42,7 +42,19 @@ long_decides (Some x) (Some y) kept c l u = λ verb wanted status out o.
     (text_too_long kept y u l) in
     too_long_output verb kept x out wanted status here all o
 
+-- all that is held was read
+pub all_consumed : (from to : Option (List ℕ)) (start kept : List ℕ) → start ≡ [] → ReadsOn from to start kept
+    → Consumes from to kept
+all_consumed from to start kept s r = subst (Consumes from to) (sym (r.held ∙ ap (λ b. b ++ r.bytes) s)) r.read
+
 pub beginning_decides : (from to : Option (List ℕ)) (start kept : List ℕ) → start ≡ [] → ReadsOn from to start kept
     → (MAX_TEXT + 4 < length kept) × IsUndivided kept → IfSome from (Decides kept)
-beginning_decides from to start kept s r l = long_decides from to kept
-    (subst (Consumes from to) (sym (r.held ∙ ap (λ b. b ++ r.bytes) s)) r.read) l.0 l.1
+beginning_decides from to start kept s r l =
+    long_decides from to kept (all_consumed from to start kept s r) l.0 l.1
+
+-- an input, or a beginning of it, in which no text has ended
+pub undivided_decides : (from to : Option (List ℕ)) (start kept : List ℕ) → start ≡ [] → ReadsOn from to start kept
+    → IsAtEnd to ⊎ (MAX_TEXT + 4 < length kept) → IsUndivided kept → IfSome from (Decides kept)
+undivided_decides from to start kept s r (inl e) u = all_decide from to kept (all_consumed from to start kept s r) e
+undivided_decides from to start kept s r (inr l) u =
+    long_decides from to kept (all_consumed from to start kept s r) l u

@@ -6,10 +6,11 @@ pub mod BetweenLines
 pub mod Settling
 pub mod Rests
 pub mod Checks
+pub mod Pieces
 pub mod Continuing
+pub mod InBlocks
 pub mod Cutting
 pub mod Outcomes
-pub mod Pieces
 pub mod Conversing
 pub mod Shortened
 pub mod Inputs

@@ -67,7 +67,7 @@ commands_here line ls found = ap (λ b. drop (cond (not b) (1 + position_or_len 
 
 -- ---- where the first line feed stands
 
-no_test : (b : Bool) → ¬ (b ≡ true) → b ≡ false
+pub no_test : (b : Bool) → ¬ (b ≡ true) → b ≡ false
 no_test true h = absurd (h refl)
 no_test false h = refl
 

@@ -30,7 +30,7 @@ use Rattle.chr_report.specs.Outputs.{IsRefusedByOverlaps, accepted_text}
 use Rattle.chr_report.specs.Written.{Writes, WritesOutput, WritesBeginning}
 
 -- what is kept of an input decides what is written for it
-kept_written : (from : Option (List ℕ)) (kept out : List ℕ) (verb : Verb) (wanted : Wanted) (status : Status)
+pub kept_written : (from : Option (List ℕ)) (kept out : List ℕ) (verb : Verb) (wanted : Wanted) (status : Status)
     (IsWritten : List ℕ → Type 0) → IfSome from (Decides kept) → IsOutput verb wanted kept status out → IsWritten out
     → Writes from verb wanted status IsWritten
 kept_written None kept out verb wanted status IsWritten d o w =
@@ -38,23 +38,17 @@ kept_written None kept out verb wanted status IsWritten d o w =
 kept_written (Some x) kept out verb wanted status IsWritten d o w =
     record { input = x; is_read = refl; out = out; is_output = d verb wanted status out o; is_written = w }
 
--- a whole write leaves all
-pub whole_written : (old new bytes : Option (List ℕ)) (verb : Verb) (wanted : Wanted) (kept written out : List ℕ)
-    (status : Status) → IfSome bytes (Decides kept) → IsOutput verb wanted kept status out → written ≡ out
-    → Appends old new written → WritesOutput bytes old new verb wanted status
-whole_written old new bytes verb wanted kept written out status d o e a =
-    kept_written bytes kept out verb wanted status (Appends old new) d o (subst (Appends old new) e a)
-
--- a failed write leaves a beginning
-pub part_written : (old new bytes : Option (List ℕ)) (verb : Verb) (wanted : Wanted) (kept written out : List ℕ)
-    (status : Status) → IfSome bytes (Decides kept) → IsOutput verb wanted kept status out → written ≡ out
-    → AppendsPart old new written → WritesBeginning bytes old new verb wanted
-part_written old new bytes verb wanted kept written out status d o e a =
-    inr (
-      status,
-      kept_written bytes kept out verb wanted status (AppendsPart old new) d o
-          (subst (AppendsPart old new) e a),
-    )
+-- of an output that was made so much is written
+pub output_written : (from : Option (List ℕ)) (verb : Verb) (wanted : Wanted) (status : Status) (text written : List ℕ)
+    (IsWritten : List ℕ → Type 0) → Writes from verb wanted status (Appends (Some []) (Some text)) → written ≡ text
+    → IsWritten written → Writes from verb wanted status IsWritten
+output_written from verb wanted status text written IsWritten w e a = record {
+  input = w.input;
+  is_read = w.is_read;
+  out = w.out;
+  is_output = w.is_output;
+  is_written = subst IsWritten (e ∙ w.is_written) a;
+}
 
 -- no lines, no answers
 pub nothing_to_answer : (ds : List Declaration) (rules : List Rule) (commands : Option (Bor (List ℕ)))

@@ -191,7 +191,7 @@ module _ (ds : List Declaration) (rules : List Rule) where
   -- ---- answers that are held until they are sent together
 
   -- what an answer adds to a text
-  adds : (line before after : List ℕ) (old new : List Operations) → AnswersLine ds rules old line before new after
+  pub adds : (line before after : List ℕ) (old new : List Operations) → AnswersLine ds rules old line before new after
       → (text : List ℕ) × AnswersLine ds rules old line [] new text × (after ≡ before ++ text)
   adds line before after old new g = by (is_blank_line line) refl g
     where

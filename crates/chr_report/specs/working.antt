@@ -10,3 +10,4 @@ pub mod Divided
 pub mod Serving
 pub mod Shortened
 pub mod Continuing
+pub mod Blocks

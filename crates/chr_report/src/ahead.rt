@@ -1,10 +1,9 @@
 //! Command lines that several threads read before their turn.
-ghost use Rattle.std.specs.Prelude.{◌≡◌, ◌+◌, ◌<◌, ◌≤◌, List, ℕ, All, IfOk, IfSome};
+ghost use Rattle.std.specs.Prelude.{◌≡◌, ◌<◌, ◌≤◌, List, ℕ, All, IfOk, IfSome};
 ghost use Rattle.chr_base.specs.declared.program.Program.{Program as ProgramValue};
-ghost use Rattle.chr_report.specs.working.LinesLeft.{left_size};
 ghost use Rattle.chr_report.specs.working.Requests.{AreHeard, AsksFirst, IsAhead, IsHeard};
 
-use crate::input::{ended_line, last_bytes, next_of_last, without_return};
+use crate::input::{first_of_last, last_bytes, without_return};
 use crate::request::{Request, request_of};
 use chr_base::program::Program;
 use chr_json::is_blank;
@@ -13,16 +12,10 @@ use std::alloc::{AllocError, Global};
 use std::thread::Threads;
 use std::vec::IntoIter;
 
-/// So many bytes of lines are read ahead at most for each worker, and the rest of the line in which they end.
-const PIECE: usize = 1_048_576;
+/// So many bytes are worth a thread.
+const LEAST_PIECE: usize = 16_384;
 
-/// So many bytes are worth a thread. No more are read first, since nothing is answered up to then.
-const LEAST_PIECE: usize = 32_768;
-
-/// Pieces have so many times the bytes of those before them at most, so that they are read while those are answered.
-const GROWTH: usize = 2;
-
-/// So many lines of them at most, so that what short lines ask for takes no more memory than that.
+/// So many lines of a piece are read ahead at most, so that what short lines ask for takes no more memory than that.
 const MOST_LINES: usize = 65_536;
 
 /// What the first of a text's last lines asks for, if that is known and the line is not blank: how many bytes are left
@@ -30,7 +23,7 @@ const MOST_LINES: usize = 65_536;
 #[derive(Drop)]
 pub(crate) struct Heard {
     pub(crate) left: usize,
-    pub(crate) more: Option<usize>,
+    pub(crate) more: usize,
     pub(crate) request: Option<Request>,
 }
 
@@ -43,38 +36,20 @@ struct Piece {
 
 /// The lines that begin where so many bytes are left of a text, about so many bytes of them.
 fn first_piece(text: &[u8], from: usize, size: usize) -> Piece {
-    match ended_line(last_bytes(text, from.saturating_sub(size))) {
-        Some((_, more)) => Piece {
-            from,
-            to: more.len(),
-        },
+    match first_of_last(text, from.saturating_sub(size)) {
+        Some((_, to)) => Piece { from, to },
         None => Piece { from, to: 0 },
     }
 }
 
-/// Lines of a text that are to be read ahead: how many bytes are left of it where they begin, how many threads read
-/// them, and about how many bytes each of these reads at most.
-#[derive(Clone, Copy)]
-pub(crate) struct Stretch {
-    pub(crate) from: usize,
-    pub(crate) readers: u32,
-    pub(crate) size: usize,
-}
-
-/// A stretch in as many pieces as there are readers, and how many bytes come after them. They are half of all that is
-/// left, where it is not much, so that these are answered while others are read.
-fn pieces_of(
-    alloc: Global,
-    text: &[u8],
-    stretch: Stretch,
-) -> Result<(Vec<Piece>, usize), AllocError>
-    requires { 1 ≤ stretch.readers }
+/// A text in as many pieces as there are readers, or fewer, where it is short.
+fn pieces_of(alloc: Global, text: &[u8], readers: u32) -> Result<Vec<Piece>, AllocError>
+    requires { 1 ≤ readers }
 {
-    let half = stretch.from / stretch.readers as usize / 2;
-    let size = half.min(stretch.size).max(LEAST_PIECE);
+    let size = text.len().div_ceil(readers as usize).max(LEAST_PIECE);
     let mut pieces = Vec::new(alloc);
-    let mut left = stretch.from;
-    for _ in 0..stretch.readers {
+    let mut left = text.len();
+    for _ in 0..readers {
         if left == 0 {
             break;
         }
@@ -82,25 +57,25 @@ fn pieces_of(
         pieces.push(piece)?;
         left = piece.to;
     }
-    Ok((pieces, left))
+    Ok(pieces)
 }
 
-/// What the first line of a text's last bytes asks for, so many.
-fn read_one(alloc: Global, program: &Program, text: &[u8], left: usize) -> Heard
-    ensures heard { IsHeard program.now text.now result }
-    ensures shorter { left_size result.more < left + 1 }
+/// What the first line of a text's last bytes asks for, so many. None where no line ends in them.
+fn read_one(alloc: Global, program: &Program, text: &[u8], left: usize) -> Option<Heard>
+    ensures heard { IfSome result (IsHeard program.now text.now) }
+    ensures shorter { IfSome result (λ heard. heard.more < left) }
 {
-    let (line, more) = next_of_last(text, left);
+    let (line, more) = first_of_last(text, left)?;
     let line = without_return(line);
     let mut request = None;
     if !is_blank(line) {
         request = request_of(alloc, program, line).ok();
     }
-    Heard {
+    Some(Heard {
         left,
         more,
         request,
-    }
+    })
 }
 
 /// Reads the lines of a piece.
@@ -113,13 +88,12 @@ fn read_piece(
     ensures { IfOk result (λ lines. All (IsHeard program.now text.now) lines.items) }
 {
     let mut found = Vec::new(alloc);
-    let mut next = Some(piece.from);
-    while let Some(left) = next {
-        if left <= piece.to || found.len() == MOST_LINES {
+    let mut left = piece.from;
+    while left > piece.to && found.len() < MOST_LINES {
+        let Some(heard) = read_one(alloc, program, text, left) else {
             break;
-        }
-        let heard = read_one(alloc, program, text, left);
-        next = heard.more;
+        };
+        left = heard.more;
         found.push(heard)?;
     }
     Ok(found)
@@ -146,35 +120,39 @@ fn read_pieces(
         .collect(rt, alloc)
 }
 
-/// Lines of a text that were read before their turn, in order: those of a piece, and the pieces after it. And how many
-/// bytes come after all that was looked at, and about how many a piece has at most.
+/// Lines of a text that were read before their turn, in order: those of a piece, and the pieces after it.
 #[derive(Drop)]
 pub(crate) struct Ahead {
     pub(crate) heard: IntoIter<Heard>,
     pub(crate) pieces: IntoIter<Option<Vec<Heard>>>,
-    pub(crate) left: usize,
-    pub(crate) size: usize,
 }
 
-/// Reads a stretch of lines.
+/// Reads the lines of a text, by so many threads.
 fn read_ahead(
     rt: &(impl Threads + Sync),
     alloc: Global,
     program: &Program,
     text: &[u8],
-    stretch: Stretch,
+    readers: u32,
 ) -> Result<Ahead, AllocError>
-    requires { 1 ≤ stretch.readers }
+    requires { 1 ≤ readers }
     ensures { IfOk result (IsAhead program.now text.now) }
 {
-    let (pieces, left) = pieces_of(alloc, text, stretch)?;
+    let pieces = pieces_of(alloc, text, readers)?;
     let found = read_pieces(rt, alloc, program, text, &pieces)?;
     Ok(Ahead {
         heard: Vec::new(alloc).into_iter(),
         pieces: found.into_iter(),
-        left,
-        size: stretch.size,
     })
+}
+
+/// How many threads read these lines before their turn: all workers but the one that answers, or none, where that would
+/// save no time.
+pub(crate) fn readers_of(text: &[u8], workers: u32) -> u32 {
+    if text.len() < LEAST_PIECE {
+        return 0;
+    }
+    workers.saturating_sub(1)
 }
 
 impl Ahead {
@@ -185,57 +163,23 @@ impl Ahead {
         Ahead {
             heard: Vec::new(alloc).into_iter(),
             pieces: Vec::new(alloc).into_iter(),
-            left: 0,
-            size: 0,
         }
     }
 
-    /// A stretch of lines, read before their turn. Where memory is refused for that, none is.
+    /// The lines of a text, read before their turn by so many threads. Where memory is refused for that, none is.
     pub(crate) fn read(
         rt: &(impl Threads + Sync),
         alloc: Global,
         program: &Program,
         text: &[u8],
-        stretch: Stretch,
+        readers: u32,
     ) -> Self
-        requires { 1 ≤ stretch.readers }
+        requires { 1 ≤ readers }
         ensures { IsAhead program.now text.now result }
     {
-        match read_ahead(rt, alloc, program, text, stretch) {
+        match read_ahead(rt, alloc, program, text, readers) {
             Ok(ahead) => ahead,
             Err(AllocError) => Ahead::none(alloc),
-        }
-    }
-
-    /// The first lines of a text, if there are several workers.
-    pub(crate) fn first(
-        rt: &(impl Threads + Sync),
-        alloc: Global,
-        program: &Program,
-        text: &[u8],
-        workers: u32,
-    ) -> Self
-        ensures { IsAhead program.now text.now result }
-    {
-        if workers > 1 {
-            let stretch = Stretch {
-                from: text.len(),
-                readers: workers,
-                size: LEAST_PIECE,
-            };
-            return Ahead::read(rt, alloc, program, text, stretch);
-        }
-        Ahead::none(alloc)
-    }
-
-    /// The lines after these, which all workers but one read.
-    pub(crate) fn after(&self, workers: u32) -> Stretch
-        ensures { 1 ≤ result.readers }
-    {
-        Stretch {
-            from: self.left,
-            readers: workers.saturating_sub(1).max(1),
-            size: self.size.saturating_mul(GROWTH).min(PIECE),
         }
     }
 
@@ -254,7 +198,7 @@ impl Ahead {
 
     /// What the next line asks for, and how many bytes come after its end, if that is known of the line at whose start
     /// so many bytes are left.
-    pub(crate) fn request(&mut self, left: usize) -> Option<(Request, Option<usize>)>
+    pub(crate) fn request(&mut self, left: usize) -> Option<(Request, usize)>
         ensures ahead { (p : ProgramValue) (text : List ℕ) → IsAhead p text self.old → IsAhead p text self.new }
         ensures first { (p : ProgramValue) (text : List ℕ) → IsAhead p text self.old
             → IfSome result (λ r. AsksFirst p text left r.1 r.0) }

@@ -1,26 +1,25 @@
 //! Command lines answered one after another.
-ghost use Rattle.std.specs.Prelude.{◌≡◌, ◌<◌, ◌≤◌, IfOk, IsTrue, OnOk, is_some, string_bytes};
-ghost use Rattle.std.specs.Bool.{OnTrue};
-ghost use Rattle.std.specs.Thread.{IsSync};
+ghost use Rattle.std.specs.Prelude.{◌≡◌, ◌<◌, ◌≤◌, IfOk, OnOk, string_bytes};
+ghost use Rattle.std.specs.Bool.{OnTrue, OnFalse};
 ghost use Rattle.chr_base.specs.Programs.{declarations, rules_of};
 ghost use Rattle.chr_report.specs.Lines.{lines};
 ghost use Rattle.chr_report.specs.working.Answered.{AddsReply, AnswersLine, AnswersRest};
-ghost use Rattle.chr_report.specs.working.Continuing.{GoesOn};
-ghost use Rattle.chr_report.specs.working.LinesLeft.{left_size, lines_left};
+ghost use Rattle.chr_report.specs.Served.{HasNoFeed};
+ghost use Rattle.chr_report.specs.working.Continuing.{AnswersLines, GoesOn};
+ghost use Rattle.chr_report.specs.working.LinesLeft.{last_bytes, lines_left};
 ghost use Rattle.chr_report.specs.working.Requests.{FitsProgram, IsAhead};
 ghost use Rattle.chr_report.specs.working.Services.{held, served, IsBetweenLines};
 
 use crate::ahead::Ahead;
-use crate::input::{next_of_last, without_return};
+use crate::input::{first_of_last, last_bytes, without_return};
 use crate::reply::push_reply;
 use crate::request::{Request, request_of};
 use crate::service::Service;
-use chr_base::program::Program;
 use chr_json::is_blank;
 use std::alloc::{AllocError, Global};
 use std::mem::forget;
 use std::sync::Wait;
-use std::thread::{Threads, join};
+use std::thread::Threads;
 
 /// Answers what is asked for by a reply.
 fn answer_by_reply<R: Threads + Wait + Sync>(
@@ -104,145 +103,94 @@ pub(crate) fn answer_line<R: Threads + Wait + Sync>(
     answer_request(rt, alloc, service, request, out)
 }
 
-/// Lines of an input that are being answered: by whom, what has been written, and how many bytes of it are left.
+/// Lines of a text that are being answered: by whom, what has been written, and how many bytes of them are left.
 #[derive(Drop)]
 pub(crate) struct Answering {
     pub(crate) service: Service,
     pub(crate) out: String,
-    pub(crate) left: Option<usize>,
+    pub(crate) left: usize,
 }
 
-impl Answering {
-    /// Whether more than so many bytes are left.
-    fn has_more_than(&self, bytes: usize) -> bool
-        ensures { OnTrue result (IsTrue (is_some self.now.left)) }
-    {
-        match self.left {
-            Some(left) => left > bytes,
-            None => false,
-        }
-    }
-}
-
-/// Answers the first line that is left, which may have been read before its turn.
+/// Answers the first line that is left, which may have been read before its turn. False where no line ends in what is
+/// left.
 fn answer_first<R: Threads + Wait + Sync>(
     rt: &R,
     alloc: Global,
-    input: &[u8],
+    text: &[u8],
     at: &mut Answering,
     ahead: &mut Ahead,
-) -> Result<(), AllocError>
+) -> Result<bool, AllocError>
     requires ready { IsBetweenLines at.old.service }
-    requires ahead { IsAhead (served at.old.service) input.now ahead.old }
-    ensures ahead { IsAhead (served at.old.service) input.now ahead.new }
-    ensures answered { OnOk result (GoesOn input.now at.old at.new) }
-    ensures shorter { OnOk result (IsTrue (is_some at.old.left) → left_size at.new.left < left_size at.old.left) }
+    requires ahead { IsAhead (served at.old.service) text.now ahead.old }
+    ensures ahead { IsAhead (served at.old.service) text.now ahead.new }
+    ensures answered { IfOk result (λ answered. OnTrue answered (GoesOn text.now at.old at.new)) }
+    ensures shorter { IfOk result (λ answered. OnTrue answered (at.new.left < at.old.left)) }
+    ensures same { IfOk result (λ answered. OnFalse answered (at.new ≡ at.old)) }
+    ensures none { IfOk result (λ answered. OnFalse answered (HasNoFeed (last_bytes at.old.left text.now))) }
 {
-    let Some(left) = at.left else {
-        return Ok(());
-    };
-    if let Some((request, more)) = ahead.request(left) {
+    if let Some((request, more)) = ahead.request(at.left) {
         answer_request(rt, alloc, &mut at.service, request, &mut at.out)?;
         at.left = more;
-        return Ok(());
+        return Ok(true);
     }
-    let (line, more) = next_of_last(input, left);
+    let Some((line, more)) = first_of_last(text, at.left) else {
+        return Ok(false);
+    };
     let line = without_return(line);
     answer_line(rt, alloc, &mut at.service, line, &mut at.out)?;
     at.left = more;
-    Ok(())
+    Ok(true)
 }
 
-/// Answers the first line that is left, and then all others that were looked at before their turn.
-fn answer_heard<R: Threads + Wait + Sync>(
+/// Answers the lines that end in a text, some of which may have been read before their turn.
+pub(crate) fn answer_lines<R: Threads + Wait + Sync>(
     rt: &R,
     alloc: Global,
-    input: &[u8],
+    text: &[u8],
     at: Answering,
     ahead: Ahead,
 ) -> Result<Answering, AllocError>
     requires ready { IsBetweenLines at.service }
-    requires ahead { IsAhead (served at.service) input.now ahead }
-    ensures answered { IfOk result (GoesOn input.now at) }
-    ensures shorter { IfOk result (λ later. IsTrue (is_some at.left) → left_size later.left < left_size at.left) }
+    requires ahead { IsAhead (served at.service) text.now ahead }
+    ensures { IfOk result (AnswersLines text.now at) }
 {
-    let mut at = at;
-    let mut ahead = ahead;
-    answer_first(rt, alloc, input, &mut at, &mut ahead)?;
-    while at.has_more_than(ahead.left) {
-        answer_first(rt, alloc, input, &mut at, &mut ahead)?;
-    }
-    Ok(at)
-}
-
-/// Answers the lines that were looked at before their turn, while other threads read those after them.
-fn answer_and_read<R: Threads + Wait + Sync>(
-    rt: &R,
-    alloc: Global,
-    program: &Program,
-    input: &[u8],
-    at: Answering,
-    ahead: Ahead,
-) -> Result<(Answering, Ahead), AllocError>
-    requires ready { IsBetweenLines at.service }
-    requires program { served at.service ≡ program.now }
-    requires ahead { IsAhead program.now input.now ahead }
-    ensures answered { IfOk result (λ r. GoesOn input.now at r.0) }
-    ensures ahead { IfOk result (λ r. IsAhead program.now input.now r.1) }
-    ensures shorter { IfOk result (λ r. IsTrue (is_some at.left) → left_size r.0.left < left_size at.left) }
-{
-    if ahead.left == 0 {
-        let at = answer_heard(rt, alloc, input, at, ahead)?;
-        return Ok((at, Ahead::none(alloc)));
-    }
-    let after = ahead.after(at.service.sharing.workers);
-    let (later, answered) = join(
-        rt,
-        || -> Ahead
-            requires { IsSync R.row × (1 ≤ after.readers) }
-            ensures { IsAhead program.entry.now input.entry.now result }
-        { Ahead::read(rt, alloc, program, input, after) },
-        move || -> Result<Answering, AllocError>
-            requires { IsBetweenLines at.service × IsAhead (served at.service) input.now ahead }
-            ensures answered { IfOk result (GoesOn input.entry.now at) }
-            ensures shorter { IfOk result (λ later.
-                IsTrue (is_some at.left) → left_size later.left < left_size at.left) }
-        { answer_heard(rt, alloc, input, at, ahead) },
-    );
-    Ok((answered?, later))
-}
-
-/// Answers all lines of the input.
-fn answer_lines<R: Threads + Wait + Sync>(
-    rt: &R,
-    alloc: Global,
-    service: Service,
-    input: &[u8],
-    out: String,
-) -> Result<Answering, AllocError>
-    requires { IsBetweenLines service }
-    ensures { IfOk result (λ at. AnswersRest (declarations (served service)) (rules_of (served service))
-        (lines input.now) (held service) (string_bytes out) (string_bytes at.out)) }
-{
-    let accepted = service.world.program().clone()?;
-    let program = accepted.program();
-    let workers = service.sharing.workers;
-    let mut ahead = Ahead::first(rt, alloc, program, input, workers);
+    let Answering { service, out, .. } = at;
     let mut at = Answering {
         service,
         out,
-        left: Some(input.len()),
+        left: text.len(),
     };
-    while at.left.is_some() {
-        let (later, next) = answer_and_read(rt, alloc, program, input, at, ahead)?;
-        at = later;
-        ahead = next;
+    let mut ahead = ahead;
+    let mut answered = true;
+    while answered {
+        answered = answer_first(rt, alloc, text, &mut at, &mut ahead)?;
     }
     Ok(at)
 }
 
-/// Answers all commands, where there are any, after a text. The process is about to end then, and its memory with it,
-/// so the replicas are left as they are: to free a million operations one by one takes time.
+/// Answers all lines of a text: those that end in it, and what comes after them as one more.
+pub(crate) fn answer_all<R: Threads + Wait + Sync>(
+    rt: &R,
+    alloc: Global,
+    text: &[u8],
+    at: Answering,
+    ahead: Ahead,
+) -> Result<String, AllocError>
+    requires ready { IsBetweenLines at.service }
+    requires ahead { IsAhead (served at.service) text.now ahead }
+    ensures { IfOk result (λ out. AnswersRest (declarations (served at.service)) (rules_of (served at.service))
+        (lines text.now) (held at.service) (string_bytes at.out) (string_bytes out)) }
+{
+    let mut at = answer_lines(rt, alloc, text, at, ahead)?;
+    let line = without_return(last_bytes(text, at.left));
+    answer_line(rt, alloc, &mut at.service, line, &mut at.out)?;
+    let Answering { service, out, .. } = at;
+    forget(service);
+    Ok(out)
+}
+
+/// Answers all commands that are held, where there are any, after a text. The process is about to end then, and its
+/// memory with it, so the replicas are left as they are: to free a million operations one by one takes time.
 pub(crate) fn answer_commands<R: Threads + Wait + Sync>(
     rt: &R,
     alloc: Global,
@@ -257,7 +205,10 @@ pub(crate) fn answer_commands<R: Threads + Wait + Sync>(
     let Some(input) = commands else {
         return Ok(text);
     };
-    let Answering { service, out, .. } = answer_lines(rt, alloc, service, input, text)?;
-    forget(service);
-    Ok(out)
+    let at = Answering {
+        service,
+        out: text,
+        left: input.len(),
+    };
+    answer_all(rt, alloc, input, at, Ahead::none(alloc))
 }

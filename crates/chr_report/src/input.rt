@@ -1,15 +1,15 @@
 //! The program text and the command lines of an input.
-ghost use Rattle.std.specs.Prelude.{◌≡◌, ◌+◌, ◌<◌, ◌≤◌, ◌∷◌, ◌++◌, ◌==◌, IfSome, IfNone, Some, length};
+ghost use Rattle.std.specs.Prelude.{◌≡◌, ◌<◌, ◌≤◌, ◌∷◌, ◌++◌, ◌==◌, IfSome, IfNone, length, take, drop};
 ghost use Rattle.std.specs.List.{position_or_len};
 ghost use Rattle.chr_report.specs.Lines.{lines, without_return, is_divider, text_of, commands_of};
 ghost use Rattle.chr_report.specs.Outputs.{asked};
-ghost use Rattle.chr_report.specs.Served.{HasNoFeed};
+ghost use Rattle.chr_report.specs.Served.{AreWholeLines, HasNoFeed};
 ghost use Rattle.chr_report.specs.working.Divided.{IsDivided, IsUndivided};
-ghost use Rattle.chr_report.specs.working.LinesLeft.{last_bytes, left_lines, left_size, lines_left};
+ghost use Rattle.chr_report.specs.working.LinesLeft.{last_bytes, lines_left};
 
 use chr_device::Verb;
 use chr_read::MAX_TEXT;
-use memchr::memchr;
+use memchr::{memchr, memrchr};
 
 /// As many bytes are held at most before the program text has ended: what is longer than its limit with no divider in
 /// it is refused, whatever follows. A line that is no longer than the longest divider may become one.
@@ -60,15 +60,26 @@ pub(crate) fn last_bytes(text: &[u8], count: usize) -> &[u8]
     text.split_at(text.len().saturating_sub(count)).1
 }
 
-/// The first line of a text's last bytes, so many, and how many come after its end.
-pub(crate) fn next_of_last(text: &[u8], left: usize) -> (&[u8], Option<usize>)
-    ensures lines { left_lines text.now (Some left) ≡ result.0.now ∷ left_lines text.now result.1 }
-    ensures shorter { left_size result.1 < left + 1 }
+/// The first line of a text's last bytes, so many, and how many come after its end. None where no line ends in them.
+pub(crate) fn first_of_last(text: &[u8], left: usize) -> Option<(&[u8], usize)>
+    ensures some { IfSome result (λ p. last_bytes left text.now ≡ p.0.now ++ 10 ∷ last_bytes p.1 text.now) }
+    ensures unended { IfSome result (λ p. HasNoFeed p.0.now) }
+    ensures shorter { IfSome result (λ p. p.1 < left) }
+    ensures none { IfNone result (HasNoFeed (last_bytes left text.now)) }
 {
-    let (line, more) = next_line(last_bytes(text, left));
-    match more {
-        Some(rest) => (line, Some(rest.len())),
-        None => (line, None),
+    let (line, rest) = ended_line(last_bytes(text, left))?;
+    Some((line, rest.len()))
+}
+
+/// How many bytes of a text are whole lines: all up to its last line feed.
+pub(crate) fn whole_len(text: &[u8]) -> usize
+    ensures within { result ≤ length text.now }
+    ensures whole { AreWholeLines (take result text.now) }
+    ensures unended { HasNoFeed (drop result text.now) }
+{
+    match memrchr(b'\n', text) {
+        Some(place) => place + 1,
+        None => 0,
     }
 }
 

@@ -3,6 +3,8 @@
 
 mod ahead;
 mod answering;
+mod block;
+mod blocks;
 mod input;
 mod judging;
 mod keeping;

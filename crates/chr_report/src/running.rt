@@ -1,28 +1,36 @@
 //! Checks and runs, from the bytes of an input to the bytes of its output.
-ghost use Rattle.std.specs.Prelude.{◌≡◌, ◌≤◌, ◌⊎◌, [], false, true, IfOk, IfSome, IsErrOf, OnErr, OnOk, string_bytes};
+ghost use Rattle.std.specs.Prelude.{◌≡◌, ◌≤◌, ◌⊎◌, [], Ok, Some, false, true, IfOk, IfSome, IsErrOf, OnErr, OnOk};
+ghost use Rattle.std.specs.Prelude.{string_bytes};
+ghost use Rattle.std.specs.Io.KnownBytes.{Appends, IsAtEnd};
 ghost use Rattle.chr_device.specs.Devices.{inner_of, has_failed};
 ghost use Rattle.chr_device.specs.Settings.{IsWithinLimits};
 ghost use Rattle.chr_base.specs.declared.limits.TheConstants.{MAX_REPLICAS};
 ghost use Rattle.chr_device.specs.declared.fault.RunFault.TheVariants.{Device, Memory};
+ghost use Rattle.chr_device.specs.declared.words.Verb.TheVariants.{Run};
 ghost use Rattle.chr_base.specs.Programs.{declarations, rules_of};
 ghost use Rattle.chr_join.specs.AcceptedPrograms.{cases_of};
 ghost use Rattle.chr_join.specs.Verdicts.{IsAcceptedBy};
+ghost use Rattle.chr_read.specs.ProgramTexts.{IsAnswer};
+ghost use Rattle.chr_report.specs.declared.running.Status.TheVariants as status;
 ghost use Rattle.chr_report.specs.declared.running.Status.TheVariants.{Refused};
 ghost use Rattle.chr_report.specs.Asked.{wanted_by};
 ghost use Rattle.chr_report.specs.Outputs.{IsOutput, IsAnswered};
-ghost use Rattle.chr_report.specs.Written.{WritesOutput, WritesBeginning};
+ghost use Rattle.chr_report.specs.Written.{Writes, WritesOutput, WritesBeginning};
 ghost use Rattle.chr_join.specs.AcceptedPrograms.{program_in};
 ghost use Rattle.chr_report.specs.working.LinesLeft.{lines_left};
+ghost use Rattle.chr_report.specs.working.Services.{held, served, IsBetweenLines};
+ghost use Rattle.chr_report.specs.working.Serving.{IsOpened, WritesText};
 
 use crate::answering::answer_commands;
-use crate::input::{asked, split};
+use crate::blocks::answer_input;
+use crate::input::{MOST_TEXT, asked, divided, split};
 use crate::judging::{Judged, judge};
 use crate::keeping::read_input;
 use crate::service::Service;
 use crate::sharing::Sharing;
 use crate::verdict::accepted_line;
 use crate::wanted::Wanted;
-use chr_device::{RunFault, Settings, Verb, Watched, write_whole};
+use chr_device::{RunFault, Settings, Verb, Watched, read_on, read_past, write_whole};
 use chr_join::Accepted;
 use std::alloc::{AllocError, Global};
 use std::io::{Read, Write};
@@ -57,7 +65,26 @@ impl Output {
     }
 }
 
-/// The verdict's line, and the answers of so many replicas, which were told nothing, to the commands.
+/// The verdict's line on an accepted program, and so many replicas of it, which were told nothing.
+pub(crate) fn opening(
+    alloc: Global,
+    accepted: Accepted,
+    wanted: Wanted,
+    sharing: Sharing,
+) -> Result<(String, Service), AllocError>
+    requires replicas { (1 ≤ wanted.replicas) × (wanted.replicas ≤ MAX_REPLICAS) }
+    requires accepted { IsAcceptedBy wanted.coverage (rules_of (program_in accepted)) (cases_of accepted) }
+    ensures ready { IfOk result (λ r. IsBetweenLines r.1) }
+    ensures program { IfOk result (λ r. served r.1 ≡ program_in accepted) }
+    ensures opened { IfOk result (λ r. IsOpened (program_in accepted) wanted (held r.1) (string_bytes r.0)) }
+{
+    let rules = accepted.program().rules().len();
+    let line = accepted_line(alloc, rules, accepted.cases())?;
+    let service = Service::open(alloc, accepted, wanted.replicas, sharing)?;
+    Ok((line, service))
+}
+
+/// The verdict's line, and the answers to the commands that are held.
 fn answer_program(
     rt: &(impl Threads + Wait + Sync),
     alloc: Global,
@@ -71,10 +98,8 @@ fn answer_program(
     ensures { IfOk result (λ s. IsAnswered (declarations (program_in accepted)) (rules_of (program_in accepted))
         wanted (lines_left commands.entry) (string_bytes s)) }
 {
-    let rules = accepted.program().rules().len();
-    let text = accepted_line(alloc, rules, accepted.cases())?;
-    let service = Service::open(alloc, accepted, wanted.replicas, sharing)?;
-    answer_commands(rt, alloc, service, commands, text)
+    let (line, service) = opening(alloc, accepted, wanted, sharing)?;
+    answer_commands(rt, alloc, service, commands, line)
 }
 
 /// The whole output for an input.
@@ -102,10 +127,117 @@ pub(crate) fn output_of(
     }
 }
 
-/// Reads all of the input, of which it holds what decides the output, and then writes that: the verdict on the program
-/// text, and by `Verb::Run` for an accepted program the answer line of each command. What is written does not depend on
-/// the numbers of workers and of parts, by which stores are rested. The replicas of a run are not freed: they
-/// are left to the end of the process.
+/// The verdict's line, and the answers to the commands: the bytes that were read first, and all that come.
+fn answer_read<D: Read>(
+    rt: &(impl Threads + Wait + Sync),
+    alloc: Global,
+    accepted: Accepted,
+    wanted: Wanted,
+    sharing: Sharing,
+    first: &[u8],
+    reader: &mut Watched<D>,
+) -> Result<String, RunFault>
+    requires replicas { (1 ≤ wanted.replicas) × (wanted.replicas ≤ MAX_REPLICAS) }
+    requires accepted { IsAcceptedBy wanted.coverage (rules_of (program_in accepted)) (cases_of accepted) }
+    ensures ok { IfOk result (λ out. WritesText (λ answer. answer ≡ Ok (program_in accepted)) first.now
+        (D.remaining (inner_of reader.old)) wanted status.Accepted (Appends (Some []) (Some (string_bytes out)))) }
+    ensures end { OnOk result (IsAtEnd (D.remaining (inner_of reader.new))) }
+    ensures whole { OnOk result (has_failed reader.new ≡ has_failed reader.old) }
+    ensures device { IsErrOf result Device → has_failed reader.new ≡ true }
+    ensures memory { IsErrOf result Memory → has_failed reader.new ≡ has_failed reader.old }
+{
+    let (line, service) = opening(alloc, accepted, wanted, sharing)?;
+    answer_input(rt, alloc, service, first, reader, line)
+}
+
+/// The output of a run of a program text and of the commands after it, which are read to the end.
+fn output_of_text<D: Read>(
+    rt: &(impl RandomSource + Threads + Wait + Sync),
+    alloc: Global,
+    text: &[u8],
+    wanted: Wanted,
+    sharing: Sharing,
+    first: &[u8],
+    reader: &mut Watched<D>,
+) -> Result<Output, RunFault>
+    requires { (1 ≤ wanted.replicas) × (wanted.replicas ≤ MAX_REPLICAS) }
+    ensures ok { IfOk result (λ o. WritesText (IsAnswer text.now) first.now (D.remaining (inner_of reader.old)) wanted
+        o.status (Appends (Some []) (Some (string_bytes o.text)))) }
+    ensures end { OnOk result (IsAtEnd (D.remaining (inner_of reader.new))) }
+    ensures whole { OnOk result (has_failed reader.new ≡ has_failed reader.old) }
+    ensures device { IsErrOf result Device → has_failed reader.new ≡ true }
+    ensures memory { IsErrOf result Memory → has_failed reader.new ≡ has_failed reader.old }
+{
+    match judge(rt, alloc, text, wanted.coverage)? {
+        Judged::Accepted(accepted) => {
+            let text = answer_read(rt, alloc, accepted, wanted, sharing, first, reader)?;
+            Ok(Output {
+                status: Status::Accepted,
+                text,
+            })
+        }
+        Judged::Refused(line) => {
+            read_past(reader)?;
+            Ok(Output::refused(line))
+        }
+    }
+}
+
+/// The output of a run. Its commands are read while they are answered.
+fn output_of_run<D: Read>(
+    rt: &(impl RandomSource + Threads + Wait + Sync),
+    alloc: Global,
+    reader: &mut Watched<D>,
+    wanted: Wanted,
+    sharing: Sharing,
+) -> Result<Output, RunFault>
+    requires { (1 ≤ wanted.replicas) × (wanted.replicas ≤ MAX_REPLICAS) }
+    ensures ok { IfOk result (λ o. Writes (D.remaining (inner_of reader.old)) Run wanted o.status
+        (Appends (Some []) (Some (string_bytes o.text)))) }
+    ensures end { OnOk result (IsAtEnd (D.remaining (inner_of reader.new))) }
+    ensures whole { OnOk result (has_failed reader.new ≡ has_failed reader.old) }
+    ensures device { IsErrOf result Device → has_failed reader.new ≡ true }
+    ensures memory { IsErrOf result Memory → has_failed reader.new ≡ has_failed reader.old }
+{
+    let mut kept = Vec::new(alloc);
+    read_on(reader, &mut kept, MOST_TEXT)?;
+    if let Some((text, first)) = divided(&kept) {
+        return output_of_text(rt, alloc, text, wanted, sharing, first, reader);
+    }
+    read_past(reader)?;
+    Ok(output_of(rt, alloc, Verb::Run, wanted, sharing, &kept)?)
+}
+
+/// The output of an input, which is read to its end.
+fn output_of_input<D: Read>(
+    rt: &(impl RandomSource + Threads + Wait + Sync),
+    alloc: Global,
+    reader: &mut Watched<D>,
+    verb: Verb,
+    wanted: Wanted,
+    sharing: Sharing,
+) -> Result<Output, RunFault>
+    requires { (1 ≤ wanted.replicas) × (wanted.replicas ≤ MAX_REPLICAS) }
+    ensures ok { IfOk result (λ o. Writes (D.remaining (inner_of reader.old)) verb wanted o.status
+        (Appends (Some []) (Some (string_bytes o.text)))) }
+    ensures end { OnOk result (IsAtEnd (D.remaining (inner_of reader.new))) }
+    ensures whole { OnOk result (has_failed reader.new ≡ has_failed reader.old) }
+    ensures device { IsErrOf result Device → has_failed reader.new ≡ true }
+    ensures memory { IsErrOf result Memory → has_failed reader.new ≡ has_failed reader.old }
+{
+    match verb {
+        Verb::Run => output_of_run(rt, alloc, reader, wanted, sharing),
+        Verb::Check | Verb::Explain | Verb::Serve => {
+            let input = read_input(alloc, reader)?;
+            Ok(output_of(rt, alloc, verb, wanted, sharing, &input)?)
+        }
+    }
+}
+
+/// Reads all of the input, and then writes its output: the verdict on the program text, and by `Verb::Run` for an
+/// accepted program the answer line of each command. Commands are answered as they are read, and not held. What is
+/// written does not depend on the numbers of workers and of parts, by which stores are rested. The replicas of a run
+/// are not freed: they are left to the end of the process.
 ///
 /// # Errors
 ///
@@ -137,14 +269,13 @@ pub fn run<R: Read, W: Write>(
     ensures unread { has_failed reader.new ≡ true → writer.new ≡ writer.old }
     ensures unanswered { IsErrOf result Memory → writer.new ≡ writer.old }
 {
-    let input = read_input(alloc, reader)?;
-    let output = output_of(
+    let output = output_of_input(
         rt,
         alloc,
+        reader,
         settings.command,
         Wanted::from_settings(settings),
         Sharing::from_settings(settings),
-        &input,
     )?;
     write_whole(writer, output.text.as_bytes())?;
     Ok(output.status)

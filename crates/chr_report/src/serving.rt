@@ -27,11 +27,10 @@ use crate::answering::answer_line;
 use crate::input::{MOST_TEXT, divided, ended_line, without_return};
 use crate::judging::{Judged, judge};
 use crate::one_text::answers_exist;
-use crate::running::{Status, output_of};
+use crate::running::{Status, opening, output_of};
 use crate::service::Service;
 use crate::sharing::Sharing;
 use crate::shortening::shorten;
-use crate::verdict::accepted_line;
 use crate::wanted::Wanted;
 use crate::wire::Wire;
 use chr_device::{RunFault, Settings, Verb};
@@ -189,8 +188,7 @@ fn serve_program<T: Wire>(
     ensures memory { IsErrOf result Memory → T.is_broken wire.new ≡ T.is_broken wire.old }
 {
     answers_exist();
-    let line = accepted_line(alloc, accepted.program().rules().len(), accepted.cases())?;
-    let mut service = Service::open(alloc, accepted, wanted.replicas, sharing)?;
+    let (line, mut service) = opening(alloc, accepted, wanted, sharing)?;
     wire.send(line.as_bytes())?;
     converse(rt, alloc, &mut service, first, wire)
 }

@@ -1,5 +1,5 @@
 -- Lines that are left of an input, where any are.
-use Rattle.std.specs.Prelude.{ℕ, ◌+◌, ◌-◌, List, [], length, drop, Option, Some, None}
+use Rattle.std.specs.Prelude.{ℕ, ◌-◌, List, [], length, drop, Option, Some, None}
 use Rattle.std.specs.Borrow.{Bor}
 use Rattle.chr_report.specs.Lines.{lines}
 
@@ -11,13 +11,3 @@ lines_left (Some s) = lines s.now
 -- the last bytes of a text, so many
 abbrev pub last_bytes : ℕ → List ℕ → List ℕ
 last_bytes n text = drop (length text - n) text
-
--- the lines of a text's last bytes, none where there is no number of them
-abbrev pub left_lines : List ℕ → Option ℕ → List (List ℕ)
-left_lines text None = []
-left_lines text (Some n) = lines (last_bytes n text)
-
--- the bytes that are left, and one more where there is a number of them
-abbrev pub left_size : Option ℕ → ℕ
-left_size None = 0
-left_size (Some n) = n + 1

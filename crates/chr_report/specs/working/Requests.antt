@@ -1,5 +1,5 @@
 -- What lines ask for, and lines that were read before their turn.
-use Rattle.std.specs.Prelude.{◌≡◌, ℕ, ◌+◌, ◌<◌, false, List, ◌∷◌, All, IfSome, Option, Some, Result, ⊤}
+use Rattle.std.specs.Prelude.{◌≡◌, ℕ, ◌<◌, false, List, ◌∷◌, ◌++◌, All, IfSome, Option, Result, ⊤}
 use Rattle.std.specs.declared.alloc.Global.{Global}
 use Rattle.std.specs.declared.vec.Vec.{Vec}
 use Rattle.std.specs.Vec.Iter.{into_iter_items}
@@ -20,7 +20,8 @@ use Rattle.chr_report.specs.declared.ahead.Heard.{Heard}
 use Rattle.chr_report.specs.declared.request.Request.{Request}
 use Rattle.chr_report.specs.declared.request.Request.TheVariants as request
 use Rattle.chr_report.specs.Lines.{without_return}
-use Rattle.chr_report.specs.working.LinesLeft.{left_lines, left_size}
+use Rattle.chr_report.specs.Served.{HasNoFeed}
+use Rattle.chr_report.specs.working.LinesLeft.{last_bytes}
 
 -- the answer to what is asked for
 abbrev pub AnswersRequest :
@@ -49,13 +50,14 @@ pub record Asks (p : Program) (said : Result Said LineFault) (q : Request) : Typ
   pub answers : (rules : List Rule) (old : List Operations) (text : List ℕ) (new : List Operations)
       → AnswersRequest (declarations p) rules old q text new → AnswersRead (declarations p) rules old said text new
 
--- the first line of a text's last bytes asks for this, and these lines come after it
-pub record AsksFirst (p : Program) (text : List ℕ) (left : ℕ) (more : Option ℕ) (q : Request) : Type 0 where
+-- the first line of a text's last bytes asks for this, and so many bytes come after its end
+pub record AsksFirst (p : Program) (text : List ℕ) (left more : ℕ) (q : Request) : Type 0 where
   pub line : List ℕ
-  pub first : left_lines text (Some left) ≡ line ∷ left_lines text more
+  pub first : last_bytes left text ≡ line ++ 10 ∷ last_bytes more text
+  pub unended : HasNoFeed line
   pub spoken : is_blank_line (without_return line) ≡ false
   pub asks : Asks p (line_said (without_return line)) q
-  pub shorter : left_size more < left + 1
+  pub shorter : more < left
 
 -- what was heard of a text's line is what it asks for
 abbrev pub IsHeard : Program → List ℕ → Heard → Type 0

@@ -1,10 +1,11 @@
 -- Answers of lines that come piece by piece.
-use Rattle.std.specs.Prelude.{◌≡◌, ℕ, ◌⊎◌, List, [], ◌++◌, Option, IfSome, Result}
+use Rattle.std.specs.Prelude.{◌≡◌, ℕ, ◌⊎◌, List, [], ◌++◌, Option, IfSome, Result, Ok}
 use Rattle.std.specs.Io.KnownBytes.{Appends, Consumes}
 use Rattle.chr_device.specs.Devices.{AppendsPart}
 use Rattle.chr_base.specs.declared.program.Program.{Program}
 use Rattle.chr_base.specs.declared.rule.Rule.{Rule}
 use Rattle.chr_base.specs.ProgramTests.{Declaration}
+use Rattle.chr_base.specs.Programs.{declarations, rules_of}
 use Rattle.chr_ops.specs.Operations.{Operations}
 use Rattle.chr_read.specs.declared.fault.ReadFault.{ReadFault}
 use Rattle.chr_report.specs.declared.running.Status.{Status}
@@ -110,3 +111,9 @@ abbrev pub WritesTextPart :
 WritesTextPart IsAnswered first known wanted old new =
     Appends old new []
     ⊎ ((status : Status) × WritesText IsAnswered first known wanted status (AppendsPart old new))
+
+-- the verdict on an accepted program, and then the answers of any commands
+abbrev pub IsOpened : Program → Wanted → List Operations → List ℕ → Type 0
+IsOpened p wanted start verdict =
+    (commands : List (List ℕ)) (answers : List ℕ) → AnswersAll (declarations p) (rules_of p) commands start answers
+    → IsReadOutput (Ok p) wanted commands Accepted (verdict ++ answers)

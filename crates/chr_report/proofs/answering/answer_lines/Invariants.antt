@@ -1,16 +1,17 @@
-use Rattle.std.specs.Prelude.{Some, length}
+use Rattle.std.specs.Prelude.{◌≡◌, ◌+◌, false, length, if◌then◌else◌}
+use Rattle.chr_report.specs.Served.{HasNoFeed}
 use Rattle.chr_report.specs.working.Continuing.{GoesOn}
-use Rattle.chr_report.specs.working.LinesLeft.{left_size}
+use Rattle.chr_report.specs.working.LinesLeft.{last_bytes}
 use Rattle.chr_report.specs.working.Requests.{IsAhead}
 use Rattle.chr_report.specs.working.Services.{served}
 use Rattle.chr_report.proofs.answering.answer_lines.Given as goal
 
-abbrev pub invariant-loop-program : goal.invariant-loop-program
-invariant-loop-program g l = record {
-  ahead : IsAhead (served l.fn.service) l.fn.input l.ahead;
-  answered : GoesOn l.fn.input (record { service = l.fn.service; out = l.fn.out; left = Some (length l.fn.input) })
-      l.at;
+abbrev pub invariant-loop-answered : goal.invariant-loop-answered
+invariant-loop-answered g l = record {
+  answered : GoesOn l.fn.text (record { service = l.fn.at.service; out = l.fn.at.out; left = length l.fn.text }) l.at;
+  ahead : IsAhead (served l.fn.at.service) l.fn.text l.ahead;
+  last : l.answered ≡ false → HasNoFeed (last_bytes l.at.left l.fn.text);
 }
 
-abbrev pub decreases-loop-program : goal.decreases-loop-program
-decreases-loop-program g l = left_size l.at.left
+abbrev pub decreases-loop-answered : goal.decreases-loop-answered
+decreases-loop-answered g l = l.at.left + (if l.answered then 1 else 0)

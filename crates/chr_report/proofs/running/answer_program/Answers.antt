@@ -1,16 +1,22 @@
-use Rattle.std.proofs.Common.{◌∙◌, ap, length}
-use Rattle.chr_base.specs.Programs.{rules_of}
-use Rattle.rayon.proofs.ListFacts.{IfOk-then}
+use Rattle.std.proofs.Common.{subst, sym}
+use Rattle.std.specs.Prelude.{string_bytes}
+use Rattle.chr_base.specs.Programs.{declarations, rules_of}
+use Rattle.chr_join.specs.AcceptedPrograms.{program_in}
+use Rattle.chr_report.specs.Outputs.{IsAnswered}
+use Rattle.chr_report.specs.working.Answered.{AnswersRest}
 use Rattle.chr_report.specs.working.LinesLeft.{lines_left}
-use Rattle.chr_report.specs.working.Services.{held, served}
-use Rattle.chr_report.proofs.Outcomes.{program_answered}
+use Rattle.chr_report.specs.working.Services.{held}
+use Rattle.chr_report.proofs.Outcomes.{if_ok}
 use Rattle.chr_report.proofs.running.answer_program.Goals as goal
 
 pub returns : goal.returns
 returns g c =
-    IfOk-then c.answer_commands.result _ _ c.answer_commands.ensures (λ out answered.
-    program_answered c.args.accepted (served c.in_ok-service.service)
-    (lines_left c.args.commands) _ _ c.args.wanted (held c.in_ok-service.service) _ _ c.requires.accepted
-    c.in_ok-service.ensures.program (ap length c.rules-rules.ensures
-    ∙ ap (λ p. length (rules_of p)) c.program.ensures) c.cases.ensures.number c.in_ok-text.ensures
-    c.in_ok-service.ensures.operations answered)
+    let p = program_in c.args.accepted in
+    let commands = lines_left c.args.commands in
+    let opened = c.in_ok-line in
+    if_ok c.answer_commands.result (λ out s.
+    let answered : AnswersRest (declarations p) (rules_of p) commands (held opened.service) (string_bytes opened.line)
+    (string_bytes out) = subst (λ q. AnswersRest (declarations q) (rules_of q) commands (held opened.service)
+    (string_bytes opened.line) (string_bytes out)) opened.ensures.program s in
+    subst (IsAnswered (declarations p) (rules_of p) c.args.wanted commands) (sym answered.out_is)
+    (opened.ensures.opened commands answered.out answered.answers)) c.answer_commands.ensures

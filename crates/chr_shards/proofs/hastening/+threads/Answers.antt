@@ -8,7 +8,8 @@ pub hasten_both-here-hasten_by_size-requires : goal.hasten_both-here-hasten_by_s
 hasten_both-here-hasten_by_size-requires g t c κs within = (search rules, (within, (c.requires.0, c.requires.1)))
 
 pub hasten_both-join_mut-requires-after_bounds : goal.hasten_both-join_mut-requires-after_bounds
-hasten_both-join_mut-requires-after_bounds g t c κs within = (tt, (search rules, (λ a m. m, ((search rules, c.requires), search rules))))
+hasten_both-join_mut-requires-after_bounds g t c κs within =
+    (tt, (search rules, (λ a m. m, ((search rules, c.requires), search rules))))
 
 pub hasten_by_size-hasten_both-requires : goal.hasten_by_size-hasten_both-requires
 hasten_by_size-hasten_both-requires g t c κs within =

@@ -1,0 +1,4 @@
+use Rattle.chr_report.proofs.blocks.answer_and_read.Goals as goal
+
+pub returns-then-readers-eq0-clause-ahead : goal.returns-then-readers-eq0-clause-ahead
+returns-then-readers-eq0-clause-ahead g c = c.none.ensures c.args.program.now c.args.next.now
