@@ -55,7 +55,7 @@ def shortest(all_routes: Iterable[Route]) -> str:
 # So many bytes come from a file at once; lines are read block by block, of so many bytes for each worker at most; and
 # so many lines of a reader's piece of it are read ahead at most.
 READ = 16_384
-BLOCK = 262_144
+BLOCK = 1_048_576
 MOST_LINES = 65_536
 MAX_LINE = 1_048_576
 Line = tuple[str, str]

@@ -28,8 +28,8 @@ use std::thread::{Threads, join};
 /// So many bytes are read for each worker first, and then twice as many each time, so that little is waited for.
 const FIRST_SHARE: usize = 16_384;
 
-/// So many at most, so that they are in a cache still when their lines are answered.
-const MOST_SHARE: usize = 262_144;
+/// So many at most: threads are begun for each block, and lines are to be in a cache still when they are answered.
+const MOST_SHARE: usize = 1_048_576;
 
 /// Reads on from the beginning of a line, in a room that holds nothing else then: so many bytes at least, or as many as
 /// there are, and then true.
