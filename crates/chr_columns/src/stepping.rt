@@ -59,8 +59,9 @@ fn stand_under(
     start_over(rested, fresh, rules)
 }
 
-/// A pool at rest keeps room for at most so many fresh atoms. More come at once where sets of operations are merged.
-const MOST_ROOM: usize = 4096;
+/// A pool at rest keeps room for at most so many fresh atoms: as many as wait for several workers, most of which may be
+/// in one pool. More come at once where sets of operations are merged.
+const MOST_ROOM: usize = 16_384;
 
 /// Gives room for fresh atoms back, where none is fresh and there is room for many.
 fn give_room_back(fresh: &mut Vec<Atom>)
