@@ -2,14 +2,12 @@
 use mathlib.Core.Bool.{true≢false}
 use Rattle.std.proofs.Common.{◌≡◌, ℕ, ◌+◌, ◌-◌, ◌<◌, length, take, drop, Bool, false, true, cond, List, [], ◌∷◌, ◌++◌}
 use Rattle.std.proofs.Common.{refl, sym, ap, ◌∙◌}
-use Rattle.std.proofs.Common.{append_assoc, append-nil, length-append, subst, arith, inl, inr}
+use Rattle.std.proofs.Common.{append_assoc, append-nil, length-append, subst, arith}
 use Rattle.std.proofs.lemmas.List.{drop_at, take-append-drop}
 use Rattle.std.specs.Prelude.{Option, None, Some, string_bytes}
 use Rattle.std.specs.Bool.{OnFalse, OnTrue}
 use Rattle.std.specs.Borrow.{Bor}
 use Rattle.chr_base.specs.declared.program.Program.{Program}
-use Rattle.chr_base.specs.declared.rule.Rule.{Rule}
-use Rattle.chr_base.specs.ProgramTests.{Declaration}
 use Rattle.chr_base.specs.Programs.{declarations, rules_of}
 use Rattle.chr_ops.specs.Operations.{Operations}
 use Rattle.chr_report.specs.declared.ahead.Ahead.{Ahead}

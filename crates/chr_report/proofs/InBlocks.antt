@@ -17,8 +17,8 @@ use Rattle.chr_report.specs.Answers.{AnswersAll}
 use Rattle.chr_report.specs.working.Answered.{AnswersRest}
 use Rattle.chr_report.specs.working.Continuing.{AnswersUpTo}
 use Rattle.chr_report.specs.declared.blocks.Blocks.{Blocks}
-use Rattle.chr_report.specs.working.Blocks.{AnswersBoth, AnswersNext, IsReady, lines_of}
-use Rattle.chr_report.specs.working.Services.{held}
+use Rattle.chr_report.specs.working.Blocks.{AnswersBoth, AnswersNext, IsBetweenBlocks, IsReady, begun_of, lines_of}
+use Rattle.chr_report.specs.working.Services.{held, served}
 use Rattle.chr_report.specs.working.Serving.{AnswersFront, AnswersInput}
 use Rattle.chr_report.proofs.Pieces.{front_begins, fronts_join}
 
@@ -132,3 +132,26 @@ module _ (p : Program) (s : Blocks) (first : List ℕ) (from mid to : Option (Li
       (string_bytes s.at.out) so_far cut r after e
       (subst (λ q. AnswersRest (declarations q) (rules_of q) (lines (lines_of s.block ++ s.room.items))
       (held s.at.service) (string_bytes s.at.out) after) is.program a)
+
+-- the lines of a block are answered, and bytes are read on after the next one
+pub goes_on_between : (p : Program) (s t : Blocks) (first : List ℕ) (from mid to : Option (List ℕ))
+    (start : List Operations) (before : List ℕ) → IsReady p s → IsBetweenBlocks p first from mid start before s
+    → AnswersNext s t → t.block.bytes ≡ s.room → ReadsOn mid to (begun_of t.block) t.room.items
+    → IsBetweenBlocks p first from to start before t
+goes_on_between p s t first from mid to start before is b a e r = record {
+  mid = mid;
+  answered = goes_on p s first from b.mid mid start before is b.answered b.read t a e;
+  read = r;
+}
+
+-- all bytes are read, and the lines of the last ones are answered
+pub ends_between : (p : Program) (s : Blocks) (first : List ℕ) (from to : Option (List ℕ)) (start : List Operations)
+    (before after : List ℕ) → IsReady p s → IsBetweenBlocks p first from to start before s → IsAtEnd to
+    → AnswersBoth s after
+    → AnswersInput (declarations p) (rules_of p) first from start (Appends (Some before) (Some after))
+ends_between p s first from to start before after is b e a =
+    ends p s first from b.mid to start before is b.answered b.read after e a
+
+-- a block is ready under the program of those who answer it
+pub ready_itself : (p : Program) (s : Blocks) → IsReady p s → IsReady (served s.at.service) s
+ready_itself p s is = subst (λ q. IsReady q s) (sym is.program) is

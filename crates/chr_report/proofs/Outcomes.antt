@@ -1,11 +1,10 @@
 -- The parts of a run's output put together.
 use Rattle.std.proofs.Common.{◌≡◌, ℕ, List, [], ◌∷◌, ◌++◌, length, refl, sym, ap, ◌∙◌, subst, append_assoc, append-nil}
-use Rattle.std.proofs.Common.{◌⊎◌, inr}
+use Rattle.std.proofs.Common.{◌⊎◌}
 use Rattle.std.specs.Prelude.{Option, None, Some, Result, Ok, Err, IfSome, IfOk, replicate}
 use Rattle.std.specs.Borrow.{Bor}
 use Rattle.std.specs.FinMap as finmap
 use Rattle.std.specs.Io.KnownBytes.{Appends}
-use Rattle.chr_device.specs.Devices.{AppendsPart}
 use Rattle.chr_base.specs.declared.program.Program.{Program}
 use Rattle.chr_base.specs.Programs.{declarations, rules_of}
 use Rattle.chr_join.specs.declared.accepted.Accepted.{Accepted}
@@ -27,7 +26,7 @@ use Rattle.chr_report.specs.working.Answered.{AnswersRest}
 use Rattle.chr_report.specs.working.LinesLeft.{lines_left}
 use Rattle.chr_report.specs.Outputs.{asked, Decides, IsOutput, IsReadOutput, IsAnswered, IsRefusedByWeights}
 use Rattle.chr_report.specs.Outputs.{IsRefusedByOverlaps, accepted_text}
-use Rattle.chr_report.specs.Written.{Writes, WritesOutput, WritesBeginning}
+use Rattle.chr_report.specs.Written.{Writes}
 
 -- what is kept of an input decides what is written for it
 pub kept_written : (from : Option (List ℕ)) (kept out : List ℕ) (verb : Verb) (wanted : Wanted) (status : Status)

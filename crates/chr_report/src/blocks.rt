@@ -1,5 +1,5 @@
 //! Command lines that are read block by block, and answered meanwhile.
-ghost use Rattle.std.specs.Prelude.{◌≡◌, ◌≤◌, Some, true, IfOk, IsErrOf, OnOk, string_bytes};
+ghost use Rattle.std.specs.Prelude.{◌≡◌, ◌≤◌, Some, true, IfOk, IfSome, IsErrOf, OnOk, string_bytes};
 ghost use Rattle.std.specs.Bool.{OnTrue};
 ghost use Rattle.std.specs.Io.KnownBytes.{Appends, IsAtEnd};
 ghost use Rattle.std.specs.Thread.{IsSync};
@@ -9,7 +9,7 @@ ghost use Rattle.chr_device.specs.declared.fault.RunFault.TheVariants.{Device, M
 ghost use Rattle.chr_report.specs.Lines.{lines};
 ghost use Rattle.chr_report.specs.working.Answered.{AnswersRest};
 ghost use Rattle.chr_report.specs.working.Continuing.{AnswersLines};
-ghost use Rattle.chr_report.specs.working.Blocks.{AnswersBoth, AnswersNext, IsReady};
+ghost use Rattle.chr_report.specs.working.Blocks.{AnswersBoth, AnswersNext, IsReady, IsTurn, begun_of, lines_of};
 ghost use Rattle.chr_report.specs.working.Requests.{IsAhead};
 ghost use Rattle.chr_report.specs.working.Services.{held, served, IsBetweenLines};
 ghost use Rattle.chr_report.specs.working.Serving.{AnswersInput};
@@ -22,14 +22,27 @@ use chr_base::program::Program;
 use chr_device::{RunFault, Watched, read_on};
 use std::alloc::{AllocError, Global};
 use std::io::Read;
+use std::mem::replace;
 use std::sync::Wait;
-use std::thread::{Threads, join};
+use std::thread::{Threads, join, join_mut};
 
 /// So many bytes are read for each worker first, and then twice as many each time, so that little is waited for.
 const FIRST_SHARE: usize = 16_384;
 
 /// So many at most: threads are begun for each block, and lines are to be in a cache still when they are answered.
 const MOST_SHARE: usize = 1_048_576;
+
+/// So many where what they tell is rested between blocks: it is to be in a cache then, too.
+const MOST_RESTED_SHARE: usize = 262_144;
+
+/// How many bytes are read for each worker at most.
+fn most_share(service: &Service) -> usize {
+    if service.rests_between() {
+        MOST_RESTED_SHARE
+    } else {
+        MOST_SHARE
+    }
+}
 
 /// Reads on from the beginning of a line, in a room that holds nothing else then: so many bytes at least, or as many as
 /// there are, and then true.
@@ -101,6 +114,15 @@ pub(crate) struct Blocks {
     pub(crate) share: usize,
 }
 
+/// What comes of answering a block's lines: by whom the next ones are answered, and what was read after these, of which
+/// it is known whether it is all.
+#[derive(Drop)]
+pub(crate) struct Turn {
+    pub(crate) at: Answering,
+    pub(crate) room: Vec<u8>,
+    pub(crate) ended: bool,
+}
+
 impl Blocks {
     /// The first bytes, of which nothing is answered.
     fn open(
@@ -136,42 +158,121 @@ impl Blocks {
             .saturating_mul(self.at.service.sharing.workers as usize)
     }
 
-    /// Answers the lines that come next, while those of the bytes in the room are read.
-    fn go_on<R: Threads + Wait + Sync>(
+    /// Answers the lines that come next, and then reads on, in the place of their bytes, from the beginning of a line.
+    fn answer_and_read_on<R: Threads + Wait + Sync, D: Read>(
         self,
         rt: &R,
         alloc: Global,
-        program: &Program,
-    ) -> Result<Blocks, AllocError>
-        requires { IsReady program.now self }
-        ensures ready { IfOk result (IsReady program.now) }
-        ensures answers { IfOk result (AnswersNext self) }
-        ensures bytes { IfOk result (λ blocks. blocks.block.bytes ≡ self.room) }
+        reader: &mut Watched<D>,
+        begun: &[u8],
+        size: usize,
+    ) -> Result<Turn, RunFault>
+        requires { IsReady (served self.at.service) self }
+        ensures turn { IfOk result (λ turn. IsTurn self begun.now (D.remaining (inner_of reader.old))
+            (D.remaining (inner_of reader.new)) turn) }
+        ensures whole { OnOk result (has_failed reader.new ≡ has_failed reader.old) }
+        ensures device { IsErrOf result Device → has_failed reader.new ≡ true }
+        ensures memory { IsErrOf result Memory → has_failed reader.new ≡ has_failed reader.old }
     {
         let Blocks {
             at,
             block,
             ahead,
-            room,
-            share,
+            ..
         } = self;
+        let at = answer_lines(rt, alloc, block.lines(), at, ahead)?;
+        let mut room = block.bytes;
+        let ended = read_after(reader, begun, &mut room, size)?;
+        Ok(Turn { at, room, ended })
+    }
+
+    /// Does so while other threads read the lines of the next block.
+    fn take_turn<R: Threads + Wait + Sync, D: Read>(
+        self,
+        rt: &R,
+        alloc: Global,
+        program: &Program,
+        reader: &mut Watched<D>,
+        next: &Block,
+        size: usize,
+    ) -> Result<(Turn, Ahead), RunFault>
+        requires { IsReady (served self.at.service) self }
+        ensures turn { IfOk result (λ r. IsTurn self (begun_of next.now) (D.remaining (inner_of reader.old))
+            (D.remaining (inner_of reader.new)) r.0) }
+        ensures ahead { IfOk result (λ r. IsAhead program.now (lines_of next.now) r.1) }
+        ensures whole { OnOk result (has_failed reader.new ≡ has_failed reader.old) }
+        ensures device { IsErrOf result Device → has_failed reader.new ≡ true }
+        ensures memory { IsErrOf result Memory → has_failed reader.new ≡ has_failed reader.old }
+    {
+        let (lines, begun) = (next.lines(), next.begun());
+        let readers = readers_of(lines, self.at.service.sharing.workers);
+        if readers == 0 {
+            let turn = self.answer_and_read_on(rt, alloc, reader, begun, size)?;
+            return Ok((turn, Ahead::none(alloc)));
+        }
+        let mut come = Some(self);
+        let mut there = || -> Ahead
+            requires { IsSync R.row × (1 ≤ readers) }
+            ensures { IsAhead program.entry.now lines.entry.now result }
+        { Ahead::read(rt, alloc, program, lines, readers) };
+        let mut here = || -> Result<Turn, RunFault>
+            requires { IfSome come (λ blocks. IsReady (served blocks.at.service) blocks) }
+            ensures turn { IfSome come.entry (λ blocks. IfOk result (λ turn. IsTurn blocks begun.entry.now
+                (D.remaining (inner_of reader.entry.now)) (D.remaining (inner_of reader.exit.now)) turn)) }
+            ensures whole { OnOk result (has_failed reader.exit.now ≡ has_failed reader.entry.now) }
+            ensures device { IsErrOf result Device → has_failed reader.exit.now ≡ true }
+            ensures memory { IsErrOf result Memory → has_failed reader.exit.now ≡ has_failed reader.entry.now }
+        {
+            match come.take() {
+                Some(blocks) => blocks.answer_and_read_on(rt, alloc, reader, begun, size),
+                None => Err(RunFault::Memory),
+            }
+        };
+        let (ahead, turn) = join_mut(rt, &mut there, &mut here);
+        Ok((turn?, ahead))
+    }
+
+    /// Answers the lines that come next, and reads on, while those of the bytes in the room are read. Then it rests
+    /// what they told. True where all bytes are read.
+    fn go_on<R: Threads + Wait + Sync, D: Read>(
+        self,
+        rt: &R,
+        alloc: Global,
+        program: &Program,
+        reader: &mut Watched<D>,
+    ) -> Result<(Blocks, bool), RunFault>
+        requires { IsReady program.now self }
+        ensures ready { IfOk result (λ r. IsReady program.now r.0) }
+        ensures answers { IfOk result (λ r. AnswersNext self r.0) }
+        ensures bytes { IfOk result (λ r. r.0.block.bytes ≡ self.room) }
+        ensures read { IfOk result (λ r. ReadsOn (D.remaining (inner_of reader.old))
+            (D.remaining (inner_of reader.new)) (begun_of r.0.block) r.0.room.items) }
+        ensures end { IfOk result (λ r. OnTrue r.1 (IsAtEnd (D.remaining (inner_of reader.new)))) }
+        ensures whole { OnOk result (has_failed reader.new ≡ has_failed reader.old) }
+        ensures device { IsErrOf result Device → has_failed reader.new ≡ true }
+        ensures memory { IsErrOf result Memory → has_failed reader.new ≡ has_failed reader.old }
+    {
+        let mut blocks = self;
+        let room = replace(&mut blocks.room, Vec::new(alloc));
         let next = Block::of(room);
-        let (at, ahead) = answer_and_read(
-            rt,
-            alloc,
-            program,
-            block.lines(),
-            at,
-            ahead,
-            next.lines(),
-        )?;
-        Ok(Blocks {
+        let most = most_share(&blocks.at.service);
+        blocks.share = blocks.share.saturating_mul(2).min(most);
+        let (share, size) = (blocks.share, blocks.wanted());
+        let (turn, ahead) = blocks.take_turn(rt, alloc, program, reader, &next, size)?;
+        let Turn {
+            mut at,
+            room,
+            ended,
+        } = turn;
+        at.service.rest_between(rt, alloc)?;
+        let blocks = Blocks {
             at,
             block: next,
             ahead,
-            room: block.bytes,
-            share: share.saturating_mul(2).min(MOST_SHARE),
-        })
+            room,
+            share,
+        };
+        Ok((blocks, ended))
     }
 
     /// Answers the lines that come next, and then all in the room.
@@ -222,13 +323,15 @@ pub(crate) fn answer_input<R: Threads + Wait + Sync, D: Read>(
     let accepted = service.world.program().clone()?;
     let program = accepted.program();
     let mut blocks = Blocks::open(alloc, service, first, text)?;
+    let size = blocks.wanted();
+    let mut ended = read_after(reader, blocks.block.begun(), &mut blocks.room, size)?;
     for _turn in 0..u64::MAX {
-        let size = blocks.wanted();
-        let ended = read_after(reader, blocks.block.begun(), &mut blocks.room, size)?;
         if ended {
             return Ok(blocks.end(rt, alloc, program)?);
         }
-        blocks = blocks.go_on(rt, alloc, program)?;
+        let (next, at_end) = blocks.go_on(rt, alloc, program, reader)?;
+        blocks = next;
+        ended = at_end;
     }
     reader.fail();
     Err(RunFault::Device)

@@ -38,9 +38,16 @@ const MOST_WAITING: u64 = 1024;
 /// Several workers may save time where more than so many wait.
 const WORTH_SHARING: u64 = 16_384;
 
+/// As many wait at most for several workers while lines are answered: threads that read others meanwhile would keep the
+/// workers from the processors, so most pools are rested between two blocks of lines.
+const MOST_SHARED: u64 = 3 * WORTH_SHARING;
+
 /// A pool that is not kept in several is rested by workers where this part of what its replica was told waits in it, or
 /// more: they cut all of it.
 const LEAST_SHARE: u64 = 4;
+
+/// Replicas are counted from here.
+const FIRST_REPLICA: u64 = 1;
 
 /// Replicas that answer command lines. `rested` has for each of them how many atoms it had been told when its pool was
 /// rested last.
@@ -227,21 +234,59 @@ impl Service {
         ensures program { self.new.world.accepted ≡ self.old.world.accepted }
         ensures operations { OnOk result (held self.new ≡ held self.old) }
     {
-        if self.waiting(replica) <= MOST_WAITING {
-            return Ok(());
-        }
-        let worth_sharing = self.is_worth_sharing(replica);
+        let waiting = self.waiting(replica);
         if self.is_in_pools(replica) {
-            return if worth_sharing {
+            return if waiting > MOST_SHARED {
                 self.settle_shared(rt, alloc, replica)
             } else {
                 Ok(())
             };
         }
-        if worth_sharing {
+        if waiting <= MOST_WAITING || self.is_worth_sharing(replica) {
             return Ok(());
         }
         self.settle_alone(replica)
+    }
+
+    /// Whether workers rest what replicas were told between two blocks of lines.
+    pub(crate) fn rests_between(&self) -> bool {
+        self.is_in_pools(FIRST_REPLICA)
+    }
+
+    /// Rests a replica's pool by workers, where it is kept in several and so much waits in it that they may save time.
+    fn rest_waiting<R: Threads + Wait + Sync>(
+        &mut self,
+        rt: &R,
+        alloc: Global,
+        replica: u64,
+    ) -> Result<(), AllocError>
+        requires { IsBetweenLines self.old }
+        ensures ready { OnOk result (IsBetweenLines self.new) }
+        ensures program { self.new.world.accepted ≡ self.old.world.accepted }
+        ensures operations { OnOk result (held self.new ≡ held self.old) }
+    {
+        if self.is_in_pools(replica) && self.is_worth_sharing(replica) {
+            return self.settle_shared(rt, alloc, replica);
+        }
+        Ok(())
+    }
+
+    /// Does so with the pools of all replicas.
+    pub(crate) fn rest_between<R: Threads + Wait + Sync>(
+        &mut self,
+        rt: &R,
+        alloc: Global,
+    ) -> Result<(), AllocError>
+        requires { IsBetweenLines self.old }
+        ensures ready { OnOk result (IsBetweenLines self.new) }
+        ensures program { self.new.world.accepted ≡ self.old.world.accepted }
+        ensures operations { OnOk result (held self.new ≡ held self.old) }
+    {
+        let last = self.rested.len() as u64;
+        for replica in FIRST_REPLICA..=last {
+            self.rest_waiting(rt, alloc, replica)?;
+        }
+        Ok(())
     }
 
     /// Tells a replica an operation.

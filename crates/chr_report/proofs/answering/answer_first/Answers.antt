@@ -1,4 +1,3 @@
-use Rattle.std.proofs.Common.{◌<◌, sym, subst}
 use Rattle.chr_report.specs.working.Services.{served}
 use Rattle.chr_report.proofs.Continuing.{first_answered, known_answered}
 use Rattle.chr_report.proofs.answering.answer_first.Goals as goal

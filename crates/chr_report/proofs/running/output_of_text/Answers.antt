@@ -5,7 +5,7 @@ use Rattle.chr_device.specs.Devices.{inner_of}
 use Rattle.chr_join.specs.AcceptedPrograms.{program_in}
 use Rattle.chr_read.specs.ProgramTexts.{IsAnswer}
 use Rattle.chr_report.specs.declared.judging.Judged.TheVariants as judged
-use Rattle.chr_report.specs.declared.running.Status.TheVariants.{Accepted, Refused}
+use Rattle.chr_report.specs.declared.running.Status.TheVariants.{Accepted}
 use Rattle.chr_report.specs.working.Judged.{IsJudgedText}
 use Rattle.chr_report.specs.working.Serving.{WritesText}
 use Rattle.chr_report.proofs.Conversing.{refused_written, text_written}

@@ -1,4 +1,4 @@
-use Rattle.std.proofs.Common.{◌≡◌, [], inr, rules, subst}
+use Rattle.std.proofs.Common.{[], inr, rules, subst}
 use Rattle.std.specs.Prelude.{Some, string_bytes}
 use Rattle.std.specs.Io.KnownBytes.{Appends}
 use Rattle.chr_device.specs.Devices.{AppendsPart, inner_of}

@@ -1,31 +1,31 @@
-use Rattle.std.proofs.Common.{subst}
+use Rattle.std.proofs.Common.{◌∙◌, sym, subst}
+use Rattle.chr_base.specs.Programs.{declarations, rules_of}
 use Rattle.chr_report.specs.working.Blocks.{lines_of}
-use Rattle.chr_report.specs.working.Continuing.{AnswersLines}
-use Rattle.chr_report.specs.working.Requests.{IsAhead}
+use Rattle.chr_report.specs.working.Services.{held, served}
+use Rattle.chr_report.specs.working.Serving.{AnswersFront}
 use Rattle.chr_report.proofs.Continuing.{program_of_both, whole_answered}
 use Rattle.chr_report.proofs.blocks.Blocks.go_on.Goals as goal
 
 pub returns-clause-ready : goal.returns-clause-ready
 returns-clause-ready g c =
     let s = c.args.self in
-    let lines = lines_of s.block in
-    let a : AnswersLines lines s.at c.in_ok-at.at =
-    subst (λ t. AnswersLines t s.at c.in_ok-at.at) c.lines.ensures c.in_ok-at.ensures.answered in
     record {
-      ready = a.0.ready;
-      program = program_of_both s.at.service c.in_ok-at.at.service c.args.program.now a.0.program c.requires.program;
+      ready = c.in_ok-rest_between.ensures.ready;
+      program = program_of_both s.at.service c.rest_between.new.self c.args.program.now
+          (c.in_ok-rest_between.ensures.program ∙ c.in_ok-turn.ensures.turn.answered.0.program) c.requires.program;
       whole = c.of-next.ensures.lines;
-      ahead = subst (λ t. IsAhead c.args.program.now t c.in_ok-at.ahead) c.lines-2.ensures c.in_ok-at.ensures.ahead;
+      ahead = c.in_ok-turn.ensures.ahead;
     }
 
 pub returns-clause-answers : goal.returns-clause-answers
 returns-clause-answers g c =
     let s = c.args.self in
     let lines = lines_of s.block in
-    let a : AnswersLines lines s.at c.in_ok-at.at =
-    subst (λ t. AnswersLines t s.at c.in_ok-at.at) c.lines.ensures c.in_ok-at.ensures.answered in
+    let a = c.in_ok-turn.ensures.turn.answered in
     record {
       out = a.0.out;
-      answers = whole_answered lines s.at c.in_ok-at.at c.requires.whole a;
+      answers = subst (λ h. AnswersFront (declarations (served s.at.service)) (rules_of (served s.at.service)) lines
+          (held s.at.service) a.0.out h) (sym c.in_ok-rest_between.ensures.operations)
+          (whole_answered lines s.at c.in_ok-turn.turn.at c.requires.whole a);
       written = a.0.written;
     }

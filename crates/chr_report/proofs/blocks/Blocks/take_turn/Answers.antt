@@ -1,0 +1,5 @@
+use Rattle.chr_report.specs.working.Blocks.{lines_of}
+use Rattle.chr_report.proofs.blocks.Blocks.take_turn.Goals as goal
+
+pub returns-then-readers-eq0-clause-ahead : goal.returns-then-readers-eq0-clause-ahead
+returns-then-readers-eq0-clause-ahead g c = c.none.ensures c.args.program.now (lines_of c.args.next.now)
