@@ -186,8 +186,8 @@ impl Blocks {
         Ok(Turn { at, room, ended })
     }
 
-    /// Does so while other threads read the lines of the next block.
-    fn take_turn<R: Threads + Wait + Sync, D: Read>(
+    /// Does so while so many other threads read the lines of the next block.
+    fn take_turn_with<R: Threads + Wait + Sync, D: Read>(
         self,
         rt: &R,
         alloc: Global,
@@ -195,8 +195,10 @@ impl Blocks {
         reader: &mut Watched<D>,
         next: &Block,
         size: usize,
+        readers: u32,
     ) -> Result<(Turn, Ahead), RunFault>
-        requires { IsReady (served self.at.service) self }
+        requires ready { IsReady (served self.at.service) self }
+        requires readers { 1 ≤ readers }
         ensures turn { IfOk result (λ r. IsTurn self (begun_of next.now) (D.remaining (inner_of reader.old))
             (D.remaining (inner_of reader.new)) r.0) }
         ensures ahead { IfOk result (λ r. IsAhead program.now (lines_of next.now) r.1) }
@@ -205,11 +207,6 @@ impl Blocks {
         ensures memory { IsErrOf result Memory → has_failed reader.new ≡ has_failed reader.old }
     {
         let (lines, begun) = (next.lines(), next.begun());
-        let readers = readers_of(lines, self.at.service.sharing.workers);
-        if readers == 0 {
-            let turn = self.answer_and_read_on(rt, alloc, reader, begun, size)?;
-            return Ok((turn, Ahead::none(alloc)));
-        }
         let mut come = Some(self);
         let mut there = || -> Ahead
             requires { IsSync R.row × (1 ≤ readers) }
@@ -230,6 +227,52 @@ impl Blocks {
         };
         let (ahead, turn) = join_mut(rt, &mut there, &mut here);
         Ok((turn?, ahead))
+    }
+
+    /// Does so by as many threads as are worth it. One that does nothing is begun before them: of several new threads
+    /// the first may be left to wait behind the one that began it, until that one waits itself.
+    fn take_turn<R: Threads + Wait + Sync, D: Read>(
+        self,
+        rt: &R,
+        alloc: Global,
+        program: &Program,
+        reader: &mut Watched<D>,
+        next: &Block,
+        size: usize,
+    ) -> Result<(Turn, Ahead), RunFault>
+        requires { IsReady (served self.at.service) self }
+        ensures turn { IfOk result (λ r. IsTurn self (begun_of next.now) (D.remaining (inner_of reader.old))
+            (D.remaining (inner_of reader.new)) r.0) }
+        ensures ahead { IfOk result (λ r. IsAhead program.now (lines_of next.now) r.1) }
+        ensures whole { OnOk result (has_failed reader.new ≡ has_failed reader.old) }
+        ensures device { IsErrOf result Device → has_failed reader.new ≡ true }
+        ensures memory { IsErrOf result Memory → has_failed reader.new ≡ has_failed reader.old }
+    {
+        let readers = readers_of(next.lines(), self.at.service.sharing.workers);
+        if readers == 0 {
+            let turn = self.answer_and_read_on(rt, alloc, reader, next.begun(), size)?;
+            return Ok((turn, Ahead::none(alloc)));
+        }
+        let mut come = Some(self);
+        let mut here = || -> Result<(Turn, Ahead), RunFault>
+            requires ready { IfSome come (λ blocks. IsReady (served blocks.at.service) blocks) }
+            requires threads { IsSync R.row × (1 ≤ readers) }
+            ensures turn { IfSome come.entry (λ blocks. IfOk result (λ r. IsTurn blocks (begun_of next.entry.now)
+                (D.remaining (inner_of reader.entry.now)) (D.remaining (inner_of reader.exit.now)) r.0)) }
+            ensures ahead { IfOk result (λ r. IsAhead program.entry.now (lines_of next.entry.now) r.1) }
+            ensures whole { OnOk result (has_failed reader.exit.now ≡ has_failed reader.entry.now) }
+            ensures device { IsErrOf result Device → has_failed reader.exit.now ≡ true }
+            ensures memory { IsErrOf result Memory → has_failed reader.exit.now ≡ has_failed reader.entry.now }
+        {
+            match come.take() {
+                Some(blocks) => {
+                    blocks.take_turn_with(rt, alloc, program, reader, next, size, readers)
+                }
+                None => Err(RunFault::Memory),
+            }
+        };
+        let ((), turned) = join_mut(rt, &mut || (), &mut here);
+        turned
     }
 
     /// Answers the lines that come next, and reads on, while those of the bytes in the room are read. Then it rests
