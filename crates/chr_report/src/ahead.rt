@@ -1,9 +1,11 @@
 //! Command lines that several threads read before their turn.
 ghost use Rattle.std.specs.Prelude.{◌≡◌, ◌<◌, ◌≤◌, List, ℕ, All, IfOk, IfSome};
+ghost use Rattle.std.specs.Thread.{IsSync};
 ghost use Rattle.chr_base.specs.declared.program.Program.{Program as ProgramValue};
 ghost use Rattle.chr_report.specs.working.Requests.{AreHeard, AsksFirst, IsAhead, IsHeard};
 
 use crate::input::{first_of_last, last_bytes, without_return};
+use crate::promptly::promptly;
 use crate::request::{Request, request_of};
 use chr_base::program::Program;
 use chr_json::is_blank;
@@ -128,8 +130,8 @@ pub(crate) struct Ahead {
 }
 
 /// Reads the lines of a text, by so many threads.
-fn read_ahead(
-    rt: &(impl Threads + Sync),
+fn read_ahead<R: Threads + Sync>(
+    rt: &R,
     alloc: Global,
     program: &Program,
     text: &[u8],
@@ -139,7 +141,11 @@ fn read_ahead(
     ensures { IfOk result (IsAhead program.now text.now) }
 {
     let pieces = pieces_of(alloc, text, readers)?;
-    let found = read_pieces(rt, alloc, program, text, &pieces)?;
+    let mut reading = || -> Result<Vec<Option<Vec<Heard>>>, AllocError>
+        requires { IsSync R.row }
+        ensures { IfOk result (λ found. AreHeard program.entry.now text.entry.now found.items) }
+    { read_pieces(rt, alloc, program, text, &pieces) };
+    let found = promptly(rt, &mut reading)?;
     Ok(Ahead {
         heard: Vec::new(alloc).into_iter(),
         pieces: found.into_iter(),

@@ -17,6 +17,7 @@ ghost use Rattle.chr_report.specs.working.Serving.{AnswersInput};
 use crate::ahead::{Ahead, readers_of};
 use crate::answering::{Answering, answer_all, answer_lines};
 use crate::block::Block;
+use crate::promptly::promptly;
 use crate::service::Service;
 use chr_base::program::Program;
 use chr_device::{RunFault, Watched, read_on};
@@ -229,8 +230,7 @@ impl Blocks {
         Ok((turn?, ahead))
     }
 
-    /// Does so by as many threads as are worth it. One that does nothing is begun before them: of several new threads
-    /// the first may be left to wait behind the one that began it, until that one waits itself.
+    /// Does so by as many threads as are worth it.
     fn take_turn<R: Threads + Wait + Sync, D: Read>(
         self,
         rt: &R,
@@ -271,8 +271,7 @@ impl Blocks {
                 None => Err(RunFault::Memory),
             }
         };
-        let ((), turned) = join_mut(rt, &mut || (), &mut here);
-        turned
+        promptly(rt, &mut here)
     }
 
     /// Answers the lines that come next, and reads on, while those of the bytes in the room are read. Then it rests

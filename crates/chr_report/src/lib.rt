@@ -10,6 +10,7 @@ mod judging;
 mod keeping;
 mod laws;
 mod one_text;
+mod promptly;
 mod reply;
 mod request;
 mod resting;

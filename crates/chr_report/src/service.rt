@@ -2,6 +2,7 @@
 ghost use Rattle.std.specs.Prelude.{◌≡◌, ◌≤◌, All, IfOk, OnOk, replicate, string_bytes};
 ghost use Rattle.std.specs.Bool.{OnTrue, OnFalse};
 ghost use Rattle.std.specs.Arc.{arc_value};
+ghost use Rattle.std.specs.Thread.{IsSync};
 ghost use Rattle.std.specs.FinMap as finite;
 ghost use Rattle.chr_join.specs.AcceptedPrograms.{program_in};
 ghost use Rattle.chr_base.specs.Programs.{declarations, rules_of};
@@ -16,6 +17,7 @@ ghost use Rattle.chr_report.specs.working.Requests.{AnswersRequest, FitsProgram}
 ghost use Rattle.chr_report.specs.working.Services.{held, served, was_stopped};
 ghost use Rattle.chr_report.specs.working.Services.{AreAtRest, HasLongRanges, IsBetweenLines};
 
+use crate::promptly::promptly;
 use crate::reply::Reply;
 use crate::request::Request;
 use crate::resting::rest_replica;
@@ -265,10 +267,17 @@ impl Service {
         ensures program { self.new.world.accepted ≡ self.old.world.accepted }
         ensures operations { OnOk result (held self.new ≡ held self.old) }
     {
-        if self.is_in_pools(replica) && self.is_worth_sharing(replica) {
-            return self.settle_shared(rt, alloc, replica);
+        if !self.is_in_pools(replica) || !self.is_worth_sharing(replica) {
+            return Ok(());
         }
-        Ok(())
+        let mut resting = || -> Result<(), AllocError>
+            requires ready { IsBetweenLines self.now }
+            requires threads { IsSync R.row }
+            ensures ready { OnOk result (IsBetweenLines self.exit.now) }
+            ensures program { self.exit.now.world.accepted ≡ self.entry.now.world.accepted }
+            ensures operations { OnOk result (held self.exit.now ≡ held self.entry.now) }
+        { self.settle_shared(rt, alloc, replica) };
+        promptly(rt, &mut resting)
     }
 
     /// Does so with the pools of all replicas.
