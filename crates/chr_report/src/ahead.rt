@@ -20,6 +20,9 @@ const LEAST_PIECE: usize = 16_384;
 /// So many lines of a piece are read ahead at most, so that what short lines ask for takes no more memory than that.
 const MOST_LINES: usize = 65_536;
 
+/// What lines ask for takes about so many times their bytes.
+const ROOM: usize = 3;
+
 /// What the first of a text's last lines asks for, if that is known and the line is not blank: how many bytes are left
 /// of the text at the line's start, and how many after its end.
 #[derive(Drop)]
@@ -80,6 +83,12 @@ fn read_one(alloc: Global, program: &Program, text: &[u8], left: usize) -> Optio
     })
 }
 
+/// Asks for as much memory at once as lines of so many bytes take, and gives it back. An allocator that asks the system
+/// for each page which a thread takes, and has the other threads wait meanwhile, has these pages then.
+fn make_room(alloc: Global, size: usize) {
+    let _room = Vec::<u8>::with_capacity(alloc, size.saturating_mul(ROOM));
+}
+
 /// Reads the lines of a piece.
 fn read_piece(
     alloc: Global,
@@ -89,6 +98,7 @@ fn read_piece(
 ) -> Result<Vec<Heard>, AllocError>
     ensures { IfOk result (λ lines. All (IsHeard program.now text.now) lines.items) }
 {
+    make_room(alloc, piece.from.saturating_sub(piece.to));
     let mut found = Vec::new(alloc);
     let mut left = piece.from;
     while left > piece.to && found.len() < MOST_LINES {
