@@ -52,11 +52,13 @@ def shortest(all_routes: Iterable[Route]) -> str:
     return ", ".join(f"path({start},{end},{lengths[start, end]})" for start, end in sorted(lengths))
 
 
-# So many bytes come from a file at once; lines are read block by block, of so many bytes for each worker at most; and
-# so many lines of a reader's piece of it are read ahead at most.
+# So many bytes come from a file at once; lines are read block by block, of so many bytes for each worker at most; so
+# many lines of a reader's piece of it are read ahead at most; and of a block of so many bytes or more tells are rested
+# by who reads them.
 READ = 16_384
 BLOCK = 1_048_576
 MOST_LINES = 65_536
+LEAST_RESTED = 524_288
 MAX_LINE = 1_048_576
 Line = tuple[str, str]
 
@@ -187,6 +189,56 @@ class Workers(unittest.TestCase):
         count = 2 * MOST_LINES + 5
         self.expect_read("x\n" * count + '["show",1]\n', "refused 30\n" * count + "true\n")
         self.expect_read("\n" * (20 * BLOCK) + '["show",1]\n', "true\n")
+
+    def expect_rested(self, lines: list[str], answers: list[str]) -> None:
+        """So many lines that threads which read them rest what they tell."""
+        given, wanted = input_of(lines), VERDICT + "".join(f"{answer}\n" for answer in answers)
+        self.assertGreater(len(given), 2 * LEAST_RESTED)
+        for workers in (1, 2, 4, 16):
+            with self.subTest(workers=workers):
+                status, output = shared("run", workers, 16, given)
+                self.assertEqual((status, first_apart(output, wanted)), (0, None))
+
+    def test_few_routes_stay(self) -> None:
+        """Routes between few towns, shown in the middle and at the end."""
+        first, second = routes(150_000, 12), routes(150_001, 12)
+        before, after = list(tells(first, 1)), list(tells(second, 1 + len(first)))
+        lines = [*before, '["show",1]', *after, '["show",1]', '["sync",1,2]', '["show",2]']
+        whole = shortest(first + second)
+        answers = ["told"] * len(before) + [shortest(first)] + ["told"] * len(after)
+        self.expect_rested(lines, [*answers, whole, f"synced {len(before) + len(after)}", whole])
+
+    def test_most_routes_stay(self) -> None:
+        """Routes between so many towns that hardly two have the same ends."""
+        told = routes(150_002, 9_000)
+        lines = [*tells(told, 1), '["show",1]']
+        self.expect_rested(lines, ["told"] * (len(lines) - 1) + [shortest(told)])
+
+    def test_some_are_told_again(self) -> None:
+        """Operations that are held, or told twice among new ones, or under the id of another one."""
+        told = routes(200_000, 12)
+        lines = list(tells(told, 1))
+        answers = ["told"] * len(lines)
+        other = json.dumps(["tell", 1, [1, 1], [["path", 0, 0, 0]]])
+        more = ((2_000, lines[1_999], "again"), (2_900, other, "refused 33"), (3_000, lines[0], "again"))
+        for place, line, answer in more:
+            lines.insert(place, line)
+            answers.insert(place, answer)
+        self.expect_rested([*lines, '["show",1]'], [*answers, shortest(told)])
+
+    def test_several_replicas_are_told(self) -> None:
+        """Runs of lines for one replica after another, and for none."""
+        told = routes(250_000, 12)
+        lines = list(tells(told, 1))
+        places = [(place // 700) % 4 + 1 for place in range(len(lines))]
+        told_to = [line.replace('"tell",1', f'"tell",{place}', 1) for line, place in zip(lines, places, strict=True)]
+        answers = ["refused 35" if place > 3 else "told" for place in places]
+        shown = []
+        for replica in (1, 2, 3):
+            mine = [told[start * 64 : start * 64 + 64] for start, place in enumerate(places) if place == replica]
+            told_to.append(f'["show",{replica}]')
+            shown.append(shortest(itertools.chain.from_iterable(mine)))
+        self.expect_rested(told_to, answers + shown)
 
     def test_words(self) -> None:
         """The numbers have limits, and only commands that answer lines take them."""

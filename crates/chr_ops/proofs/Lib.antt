@@ -13,6 +13,7 @@ pub mod OutsideSteps
 pub mod CoveredLists
 pub mod Lacked
 pub mod FreshSteps
+pub mod NewLists
 pub mod RangeLookups
 pub mod RangeJoins
 pub mod RangesLaid

@@ -1,11 +1,12 @@
-//! The atoms of operations that are new to a set.
+//! Operations that are new to a set, and their atoms.
 ghost use Rattle.std.specs.Prelude.{◌≡◌, ◌||◌, not, IfOk, OnOk};
+ghost use Rattle.std.specs.Bool.{OnTrue, OnFalse};
 ghost use Rattle.std.specs.Ordering.{eq_by_cmp};
 ghost use Rattle.chr_base.specs.Stores.{store_of};
 ghost use Rattle.chr_ops.specs.declared.id.OpId.{OpId as OpIdValue};
 ghost use Rattle.chr_ops.specs.Ids.{id_cmp};
 ghost use Rattle.chr_ops.specs.Operations.{Operations, sum_of};
-ghost use Rattle.chr_ops.specs.Joins.{fresh};
+ghost use Rattle.chr_ops.specs.Joins.{fresh, AreNew};
 ghost use Rattle.chr_ops.specs.Summaries.{CoversJust};
 ghost use Rattle.chr_ops.specs.working.Entries.{Rise};
 ghost use Rattle.chr_ops.specs.working.Joining.{is_held_or_seen};
@@ -76,5 +77,51 @@ pub(crate) fn fresh_list(
         uncovered_atoms(alloc, covered, ops)
     } else {
         noted_atoms(alloc, held, ops)
+    }
+}
+
+/// Whether each of these operations is new to a set and those before it, by a note of each id.
+fn are_new_by_notes(alloc: Global, held: &Entries, ops: &[Op]) -> Result<bool, AllocError>
+    ensures new { IfOk result (λ new. OnTrue new (AreNew held.now ops.now)) }
+    ensures not { IfOk result (λ new. OnFalse new (¬ (AreNew held.now ops.now))) }
+{
+    let mut seen = BTreeSet::new(alloc);
+    for op in ops {
+        if !take_note(held, &mut seen, op.id())? {
+            return Ok(false);
+        }
+    }
+    Ok(true)
+}
+
+/// The same of a set whose ids are covered, where the operations come in the order of their ids.
+fn are_uncovered(covered: &Covered, ops: &[Op]) -> bool
+    requires { Rise ops.now }
+    ensures new { (m : Operations) → CoversJust covered.now m → OnTrue result (AreNew m ops.now) }
+    ensures not { (m : Operations) → CoversJust covered.now m → OnFalse result (¬ (AreNew m ops.now)) }
+{
+    for op in ops {
+        if covered.has(op.id()) {
+            return false;
+        }
+    }
+    true
+}
+
+/// Whether each of these operations is new to a set and those before it.
+pub(crate) fn are_new(
+    alloc: Global,
+    held: &Entries,
+    covered: &Covered,
+    ops: &[Op],
+) -> Result<bool, AllocError>
+    requires { CoversJust covered.now held.now }
+    ensures new { IfOk result (λ new. OnTrue new (AreNew held.now ops.now)) }
+    ensures not { IfOk result (λ new. OnFalse new (¬ (AreNew held.now ops.now))) }
+{
+    if ids_rise(ops) {
+        Ok(are_uncovered(covered, ops))
+    } else {
+        are_new_by_notes(alloc, held, ops)
     }
 }

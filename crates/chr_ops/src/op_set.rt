@@ -1,6 +1,7 @@
 //! Operation sets.
 ghost use Rattle.std.specs.Prelude.{◌≡◌, ◌+◌, ◌<◌, ◌≤◌, ◌↔◌, IfErr, IfOk, IsErrOf, List, OnOk, OnErr, Ok};
 ghost use Rattle.std.specs.Prelude.{option_copied};
+ghost use Rattle.std.specs.Bool.{OnTrue, OnFalse};
 ghost use Rattle.std.specs.FinMap as map;
 ghost use Rattle.chr_base.specs.FinBag.{◌⊕◌};
 ghost use Rattle.chr_base.specs.Stores.{size, store_of};
@@ -9,13 +10,13 @@ ghost use Rattle.chr_ops.specs.declared.id.OpId.{OpId as OpIdValue};
 ghost use Rattle.chr_ops.specs.declared.range.IdRange.{IdRange as IdRangeValue};
 ghost use Rattle.chr_ops.specs.News.{lacked_among, LacksOnly};
 ghost use Rattle.chr_ops.specs.Operations.{told_store, told_atoms, sum_of, IsNew, IsHeld, IsHeldOtherwise};
-ghost use Rattle.chr_ops.specs.Joins.{union, fresh, HasNoClash, IsFirstClash, IsOverLimit};
+ghost use Rattle.chr_ops.specs.Joins.{union, fresh, HasNoClash, IsFirstClash, IsOverLimit, AreNew};
 ghost use Rattle.chr_ops.specs.Summaries.{CoversJust, lacking};
 
 use crate::covered::Covered;
 use crate::entries::Entries;
 use crate::fault::{AddFault, Added};
-use crate::fresh::fresh_list;
+use crate::fresh::{are_new, fresh_list};
 use crate::id::OpId;
 use crate::joining::{take_in_covered, withdraw};
 use crate::lacking::{lacked, lacked_of};
@@ -219,6 +220,14 @@ impl OpSet {
             → CoversJust summary other.now → ops.items ≡ lacking self.now summary) }
     {
         lacked_of(alloc, &self.held, &other.held, ids)
+    }
+
+    /// Whether each of these operations is new to the set and those before it.
+    pub fn are_new(&self, alloc: Global, ops: &[Op]) -> Result<bool, AllocError>
+        ensures new { IfOk result (λ new. OnTrue new (AreNew self.now ops.now)) }
+        ensures not { IfOk result (λ new. OnFalse new (¬ (AreNew self.now ops.now))) }
+    {
+        are_new(alloc, &self.held, &self.covered, ops)
     }
 
     /// The atoms of those of a list's operations that are new to the set, each operation once: what a join of the list

@@ -1,5 +1,5 @@
 -- A replica of a program, and the events that change it: one record for each, which ends in the whole replica after it.
-use Rattle.std.specs.Prelude.{◌≡◌, ℕ, ◌+◌, ◌≤◌, List, length, All, Some}
+use Rattle.std.specs.Prelude.{◌≡◌, ℕ, ◌+◌, ◌≤◌, List, [], ◌∷◌, length, All, Some}
 use Rattle.std.specs.FinMap as map
 use Rattle.chr_base.specs.declared.program.Program.{Program}
 use Rattle.chr_base.specs.declared.derivation.Step.{Step as StepValue}
@@ -126,6 +126,18 @@ pub record IsSound (p : Program) (s : Replica) : Type 0 where
   pub declared : AreDeclared p s.operations
   pub reached : Reaches (Step (rules_of p)) (told_store s.operations) (s.pool ⊕ leased_store s.out)
   pub below : AreBelow s.out s.next
+
+-- each of the operations is told, one after the other
+abbrev pub TellsEach : Program → Replica → List Operation → Replica → Type 0
+TellsEach p s [] t = t ≡ s
+TellsEach p s (op ∷ ops) t = (u : Replica) × Tells p s op u × TellsEach p u ops t
+
+-- so they are, and then steps are taken in the pool
+pub record TellsRested (p : Program) (s : Replica) (ops : List Operation) (t : Replica) : Type 0 where
+  pub told : Replica
+  pub tells : TellsEach p s ops told
+  pub count : ℕ
+  pub settles : Settles p told count t
 
 -- no part is out, and the pool is at rest
 abbrev pub IsSettled : Program → Replica → Type 0

@@ -4,7 +4,7 @@ use Rattle.std.proofs.Common.{◌≡◌, ℕ, ◌+◌, ◌-◌, ◌<◌, length,
 use Rattle.std.proofs.Common.{refl, sym, ap, ◌∙◌}
 use Rattle.std.proofs.Common.{append_assoc, append-nil, length-append, subst, arith}
 use Rattle.std.proofs.lemmas.List.{drop_at, take-append-drop}
-use Rattle.std.specs.Prelude.{Option, None, Some, string_bytes}
+use Rattle.std.specs.Prelude.{Option, None, Some, Result, Ok, Err, IfOk, OnOk, string_bytes}
 use Rattle.std.specs.Bool.{OnFalse, OnTrue}
 use Rattle.std.specs.Borrow.{Bor}
 use Rattle.chr_base.specs.declared.program.Program.{Program}
@@ -20,7 +20,8 @@ use Rattle.chr_report.specs.Served.{AreWholeLines, HasNoFeed}
 use Rattle.chr_report.specs.working.Answered.{AnswersLine, AddsAnswer, AddsReply, AnswersRest}
 use Rattle.chr_report.specs.working.Continuing.{AnswersLines, GoesOn}
 use Rattle.chr_report.specs.working.LinesLeft.{last_bytes}
-use Rattle.chr_report.specs.working.Requests.{AsksFirst, IsAhead}
+use Rattle.chr_report.specs.working.Requests.{AsksFirst}
+use Rattle.chr_report.specs.working.Ahead.{IsAhead}
 use Rattle.chr_report.specs.working.Services.{held, served, IsBetweenLines}
 use Rattle.chr_report.specs.working.Serving.{AnswersFront}
 use Rattle.chr_report.proofs.Feeds.{whole_left}
@@ -131,20 +132,25 @@ pub rest_by_program : (s t : Service) (ls : List (List ℕ)) (now : List Operati
 rest_by_program s t ls now before after e r = rw e at r
 
 -- a line is answered, where one ends in what is left
-pub next_answered : (text : List ℕ) (s t u : Answering) (b : Bool) → GoesOn text s t → OnTrue b (GoesOn text t u)
+next_answered : (text : List ℕ) (s t u : Answering) (b : Bool) → GoesOn text s t → OnTrue b (GoesOn text t u)
     → OnFalse b (u ≡ t) → GoesOn text s u
 next_answered text s t u true g h same = goes_further text s t u g h
 next_answered text s t u false g h same = subst (GoesOn text s) (sym same) g
 
-pub none_is_left : (text : List ℕ) (t u : Answering) (b : Bool) → OnFalse b (u ≡ t)
-    → OnFalse b (HasNoFeed (last_bytes t.left text)) → b ≡ false → HasNoFeed (last_bytes u.left text)
-none_is_left text t u true same none e = absurd (true≢false e)
-none_is_left text t u false same none e = subst (λ v. HasNoFeed (last_bytes v.left text)) (sym same) none
+pub next_goes : {E : Type 0} (text : List ℕ) (s t u : Answering) (r : Result Bool E) → GoesOn text s t
+    → IfOk r (λ b. OnTrue b (GoesOn text t u)) → IfOk r (λ b. OnFalse b (u ≡ t)) → OnOk r (GoesOn text s u)
+next_goes text s t u (Ok b) g h same = next_answered text s t u b g h same
+next_goes text s t u (Err e) g h same = tt
 
-pub fewer_left : (t u : Answering) (b c : Bool) → OnTrue b (u.left < t.left) → OnFalse b (u ≡ t) → c ≡ true
+-- what holds where it is not so
+pub where_not : {P : Type 0} (b : Bool) → OnFalse b P → b ≡ false → P
+where_not true h e = absurd (true≢false e)
+where_not false h e = h
+
+pub fewer_left : (t u : Answering) (b c : Bool) → OnTrue b (u.left < t.left) → OnFalse b (u.left ≡ t.left) → c ≡ true
     → u.left + cond b 1 0 < t.left + cond c 1 0
 fewer_left t u true c less same e = rw e (omega (arith, less))
-fewer_left t u false c less same e = let left : u.left ≡ t.left = ap (λ v. v.left) same in rw e (omega (arith, left))
+fewer_left t u false c less same e = rw e (omega (arith, same))
 
 -- and then what comes after the last line feed of a text
 pub all_answered : (text : List ℕ) (s t : Answering) (stripped : List ℕ) (now : List Operations) (out : List ℕ)

@@ -18,6 +18,10 @@ use Rattle.chr_report.specs.working.Services.{operations_held}
 positive : (r : ℕ) → 0 < r → nat_eq r 0 ≡ false
 positive r l = grind (arith, nat_tests)
 
+-- the operations of a number, which are counted from 1
+pub held_as : (old : List Operations) (r : ℕ) → 0 < r → held_by old r ≡ slice_get old (r - 1)
+held_as old r l = ap (λ b. if b then None else slice_get old (r - 1)) (positive r l)
+
 abbrev Here : Replicas → ℕ → Type 0
 Here w i = (s : Replica) × (i < length w) × (slice_get w i ≡ Some s) × (get_or w i s ≡ s)
 
@@ -27,14 +31,14 @@ Past w i = (length w ≤ i) × (slice_get w i ≡ None)
 -- a replica's operations are those of its number
 pub held_at : (w : Replicas) (r : ℕ) (s : Replica) → IsAt w r s → held_by (operations_held w) r ≡ Some s.operations
 held_at w r s h =
-    ap (λ b. if b then None else slice_get (operations_held w) (r - 1)) (positive r h.0)
+    held_as (operations_held w) r h.0
     ∙ slice_get-map (λ t. t.operations) w (r - 1) ∙ ap (option_map (λ t. t.operations)) h.1
 
 -- and where there is none of the number, there are none
 pub none_held : (w : Replicas) (r : ℕ) → ¬ HasReplica w r → held_by (operations_held w) r ≡ None
 none_held w zero n = refl
 none_held w (suc i) n =
-    ap (λ b. if b then None else slice_get (operations_held w) (suc i - 1)) (positive (suc i) (omega arith))
+    held_as (operations_held w) (suc i) (omega arith)
     ∙ slice_get-map (λ t. t.operations) w (suc i - 1)
     ∙ ap (option_map (λ t. t.operations)) (slice_get_past w (suc i - 1) (by (slice_get_cases w (suc i - 1)).1))
   where

@@ -16,6 +16,8 @@ pub mod Shortened
 pub mod Inputs
 pub mod Kept
 pub mod Telling
+pub mod Gathers
+pub mod ToldAhead
 pub mod Merging
 pub mod Reading
 pub mod ShownPools

@@ -35,10 +35,6 @@ pub part_of_more : (old new : Option (List ℕ)) (bs more : List ℕ) → Append
     → AppendsPart old new (bs ++ more)
 part_of_more old new bs more p = (p.0, p.1 ++ more, ap (λ l. l ++ more) p.2 ∙ append_assoc p.0 p.1 more, p.3)
 
-pub on_err : {A E P : Type 0} (r : Result A E) → P → OnErr r P
-on_err (Ok x) p = tt
-on_err (Err e) p = p
-
 pub if_err : {A E P Q : Type 0} (r : Result A E) → (P → Q) → OnErr r P → OnErr r Q
 if_err (Ok x) f p = tt
 if_err (Err e) f p = f p

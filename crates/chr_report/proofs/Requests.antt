@@ -1,5 +1,5 @@
 -- What a line asks for, by the operations that it spells.
-use Rattle.std.proofs.Common.{◌≡◌, ℕ, List, [], ◌∷◌, ◌++◌, All, Vec, Global, sym, subst}
+use Rattle.std.proofs.Common.{◌≡◌, ℕ, List, [], ◌∷◌, ◌++◌, All, Vec, Global, subst}
 use Rattle.std.specs.List.{AllZip}
 use Rattle.std.specs.Option.{option_to_list}
 use Rattle.std.proofs.lemmas.List.Elements.{All-cons, All-head, All-nil, All-tail}
@@ -16,8 +16,7 @@ use Rattle.chr_exchange.specs.Names.{named_atoms, declared_operation, declared_o
 use Rattle.chr_report.specs.Answers.{AnswersAtoms, AnswersOperations, AnswersRefusal}
 use Rattle.chr_report.specs.declared.reply.Refusal.TheVariants as refusal
 use Rattle.chr_report.specs.declared.request.Request.TheVariants as request
-use Rattle.chr_report.specs.declared.ahead.Heard.{Heard}
-use Rattle.chr_report.specs.working.Requests.{AreHeard, Asks, IsHeard}
+use Rattle.chr_report.specs.working.Requests.{Asks}
 use Rattle.chr_report.proofs.Declared.{tell_known, merge_known, spelt_declared, all_spelt_declared}
 
 -- an operation that is spelt with declared names
@@ -75,12 +74,3 @@ taken P None all rest split are = (tt, subst (All P) split are)
 taken P (Some x) all rest split are =
     let both = subst (All P) split are in
     (All-head P x rest both, All-tail P x rest both)
-
--- the lines of the next piece, and the pieces after it
-pub next_piece : (p : Program) (text : List ℕ) (o : Option (Vec Heard Global)) (lines : Vec Heard Global)
-    (heard : List Heard) (all rest : List (Option (Vec Heard Global))) → all ≡ o ∷ rest → o ≡ Some lines
-    → heard ≡ lines.items → AreHeard p text all → All (IsHeard p text) heard × AreHeard p text rest
-next_piece p text o lines heard all rest split is items are =
-    let read = λ (q : Option (Vec Heard Global)). IfSome q (λ ls. All (IsHeard p text) ls.items) in
-    let parts = taken read (Some o) all rest split are in
-    (subst (All (IsHeard p text)) (sym items) (subst read is parts.0), parts.1)

@@ -13,7 +13,7 @@ use Rattle.chr_json.specs.declared.command.DeltaVersion.{DeltaVersion}
 use Rattle.chr_json.specs.declared.command.DeltaVersion.TheVariants as version
 use Rattle.chr_replica.specs.declared.refusal.Refusal.TheVariants as refused
 use Rattle.chr_replica.specs.declared.refusal.Limit.TheVariants as limit
-use Rattle.chr_replica.specs.Replicas.{Replica, IsDeclared}
+use Rattle.chr_replica.specs.Replicas.{Replica, IsDeclared, Tells}
 use Rattle.chr_acts.specs.declared.act.Act.TheVariants as act
 use Rattle.chr_acts.specs.declared.reply.Reply.{Reply}
 use Rattle.chr_acts.specs.declared.reply.Reply.TheVariants as reply
@@ -50,15 +50,20 @@ clash_told op old new held same = record {
   told = λ h _. absurd (no_other _ op.1 h held);
 }
 
-does_tell : (ds : List Declaration) (word : List ℕ) (k : DeltaVersion) (p : Program) (s : Replica) (op : Operation)
-    (x : Reply) (t : Replica) → IsDeclared p op → Does p s (act.Tell op) x t
-    → AnswersTell op s.operations (replied_text ds word k x) t.operations
-does_tell ds word k p s op (reply.Told added.New) t declared d = record {
+-- of a new operation
+pub new_told : (p : Program) (s : Replica) (op : Operation) (t : Replica) → Tells p s op t
+    → AnswersTell op s.operations (codes "told") t.operations
+new_told p s op t d = record {
   again = λ h. absurd (new_unheld s.operations op d.new h);
   clash = λ h. absurd (no_other _ op.1 d.new h);
   full = λ _ l. let room = d.room in absurd (omega (arith, l, room));
   told = λ _ _. (refl, ap (λ r. r.operations) d.after);
 }
+
+does_tell : (ds : List Declaration) (word : List ℕ) (k : DeltaVersion) (p : Program) (s : Replica) (op : Operation)
+    (x : Reply) (t : Replica) → IsDeclared p op → Does p s (act.Tell op) x t
+    → AnswersTell op s.operations (replied_text ds word k x) t.operations
+does_tell ds word k p s op (reply.Told added.New) t declared d = new_told p s op t d
 does_tell ds word k p s op (reply.Told added.Again) t declared d = record {
   again = λ _. (refl, ap (λ r. r.operations) d.2);
   clash = λ h. absurd (no_same _ op.1 d.1 h);

@@ -2,6 +2,8 @@
 pub mod Answered
 pub mod Obeying
 pub mod Requests
+pub mod Gathered
+pub mod Ahead
 pub mod Services
 pub mod LinesLeft
 pub mod ReplyTexts

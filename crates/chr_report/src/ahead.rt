@@ -2,12 +2,17 @@
 ghost use Rattle.std.specs.Prelude.{◌≡◌, ◌<◌, ◌≤◌, List, ℕ, All, IfOk, IfSome};
 ghost use Rattle.std.specs.Thread.{IsSync};
 ghost use Rattle.chr_base.specs.declared.program.Program.{Program as ProgramValue};
-ghost use Rattle.chr_report.specs.working.Requests.{AreHeard, AsksFirst, IsAhead, IsHeard};
+ghost use Rattle.chr_join.specs.AcceptedPrograms.{program_in};
+ghost use Rattle.chr_report.specs.working.Gathered.{AreTells};
+ghost use Rattle.chr_report.specs.working.Requests.{AsksFirst, IsHeard};
+ghost use Rattle.chr_report.specs.working.Ahead.{AreRead, IsAhead, IsRead};
 
+use crate::gathering::{Tells, gather};
 use crate::input::{first_of_last, last_bytes, without_return};
 use crate::promptly::promptly;
 use crate::request::{Request, request_of};
 use chr_base::program::Program;
+use chr_join::Accepted;
 use chr_json::is_blank;
 use rayon::prelude::*;
 use std::alloc::{AllocError, Global};
@@ -18,7 +23,11 @@ use std::vec::IntoIter;
 const LEAST_PIECE: usize = 16_384;
 
 /// So many lines of a piece are read ahead at most, so that what short lines ask for takes no more memory than that.
-const MOST_LINES: usize = 65_536;
+pub(crate) const MOST_LINES: usize = 65_536;
+
+/// Tells are rested by the threads that read them where so many bytes are read together, or more: of fewer, too much
+/// may stay.
+const LEAST_RESTED: usize = 524_288;
 
 /// What lines ask for takes about so many times their bytes.
 const ROOM: usize = 3;
@@ -34,9 +43,23 @@ pub(crate) struct Heard {
 
 /// Whole lines of a text: how many bytes are left of it where they begin, and how many where they end.
 #[derive(Clone, Copy)]
-struct Piece {
-    from: usize,
-    to: usize,
+pub(crate) struct Piece {
+    pub(crate) from: usize,
+    pub(crate) to: usize,
+}
+
+/// By how many threads lines are read before their turn, and whether each of them rests what it reads.
+#[derive(Clone, Copy, Debug, PartialEq, Eq)]
+pub(crate) struct Readers {
+    pub(crate) count: u32,
+    pub(crate) rest: bool,
+}
+
+/// What was read of a piece: tells at its beginning that were rested, and what each line after them asks for.
+#[derive(Drop)]
+pub(crate) struct Read {
+    pub(crate) tells: Option<Tells>,
+    pub(crate) lines: Vec<Heard>,
 }
 
 /// The lines that begin where so many bytes are left of a text, about so many bytes of them.
@@ -66,8 +89,9 @@ fn pieces_of(alloc: Global, text: &[u8], readers: u32) -> Result<Vec<Piece>, All
 }
 
 /// What the first line of a text's last bytes asks for, so many. None where no line ends in them.
-fn read_one(alloc: Global, program: &Program, text: &[u8], left: usize) -> Option<Heard>
+pub(crate) fn read_one(alloc: Global, program: &Program, text: &[u8], left: usize) -> Option<Heard>
     ensures heard { IfSome result (IsHeard program.now text.now) }
+    ensures left { IfSome result (λ heard. heard.left ≡ left) }
     ensures shorter { IfSome result (λ heard. heard.more < left) }
 {
     let (line, more) = first_of_last(text, left)?;
@@ -90,7 +114,7 @@ fn make_room(alloc: Global, size: usize) {
 }
 
 /// Reads the lines of a piece.
-fn read_piece(
+fn read_lines(
     alloc: Global,
     program: &Program,
     text: &[u8],
@@ -98,7 +122,6 @@ fn read_piece(
 ) -> Result<Vec<Heard>, AllocError>
     ensures { IfOk result (λ lines. All (IsHeard program.now text.now) lines.items) }
 {
-    make_room(alloc, piece.from.saturating_sub(piece.to));
     let mut found = Vec::new(alloc);
     let mut left = piece.from;
     while left > piece.to && found.len() < MOST_LINES {
@@ -111,23 +134,48 @@ fn read_piece(
     Ok(found)
 }
 
-/// Reads the lines of pieces, each in a thread. None where memory is refused.
+/// Reads a piece, and rests the tells at its beginning where that is wanted.
+fn read_piece(
+    alloc: Global,
+    accepted: &Accepted,
+    text: &[u8],
+    piece: Piece,
+    rest: bool,
+) -> Result<Read, AllocError>
+    ensures { IfOk result (IsRead (program_in accepted.now) text.now) }
+{
+    make_room(alloc, piece.from.saturating_sub(piece.to));
+    let tells = if rest {
+        gather(alloc, accepted, text, piece)?
+    } else {
+        None
+    };
+    let from = match &tells {
+        Some(tells) => tells.more,
+        None => piece.from,
+    };
+    let lines = read_lines(alloc, accepted.program(), text, Piece { from, ..piece })?;
+    Ok(Read { tells, lines })
+}
+
+/// Reads pieces, each in a thread. None where memory is refused.
 fn read_pieces(
     rt: &(impl Threads + Sync),
     alloc: Global,
-    program: &Program,
+    accepted: &Accepted,
     text: &[u8],
     pieces: &[Piece],
-) -> Result<Vec<Option<Vec<Heard>>>, AllocError>
-    ensures { IfOk result (λ found. AreHeard program.now text.now found.items) }
+    rest: bool,
+) -> Result<Vec<Option<Read>>, AllocError>
+    ensures { IfOk result (λ found. AreRead (program_in accepted.now) text.now found.items) }
 {
     pieces
         .par_iter()
         .with_min_len(1)
         .map(
-            |piece: &Piece| -> Option<Vec<Heard>>
-                ensures { IfSome result (λ lines. All (IsHeard program.entry.now text.entry.now) lines.items) }
-            { read_piece(alloc, program, text, *piece).ok() },
+            |piece: &Piece| -> Option<Read>
+                ensures { IfSome result (IsRead (program_in accepted.entry.now) text.entry.now) }
+            { read_piece(alloc, accepted, text, *piece, rest).ok() },
         )
         .collect(rt, alloc)
 }
@@ -135,40 +183,49 @@ fn read_pieces(
 /// Lines of a text that were read before their turn, in order: those of a piece, and the pieces after it.
 #[derive(Drop)]
 pub(crate) struct Ahead {
+    pub(crate) tells: Option<Tells>,
     pub(crate) heard: IntoIter<Heard>,
-    pub(crate) pieces: IntoIter<Option<Vec<Heard>>>,
+    pub(crate) pieces: IntoIter<Option<Read>>,
 }
 
 /// Reads the lines of a text, by so many threads.
 fn read_ahead<R: Threads + Sync>(
     rt: &R,
     alloc: Global,
-    program: &Program,
+    accepted: &Accepted,
     text: &[u8],
-    readers: u32,
+    readers: Readers,
 ) -> Result<Ahead, AllocError>
-    requires { 1 ≤ readers }
-    ensures { IfOk result (IsAhead program.now text.now) }
+    requires { 1 ≤ readers.count }
+    ensures { IfOk result (IsAhead (program_in accepted.now) text.now) }
 {
-    let pieces = pieces_of(alloc, text, readers)?;
-    let mut reading = || -> Result<Vec<Option<Vec<Heard>>>, AllocError>
+    let pieces = pieces_of(alloc, text, readers.count)?;
+    let mut reading = || -> Result<Vec<Option<Read>>, AllocError>
         requires { IsSync R.row }
-        ensures { IfOk result (λ found. AreHeard program.entry.now text.entry.now found.items) }
-    { read_pieces(rt, alloc, program, text, &pieces) };
+        ensures { IfOk result (λ found. AreRead (program_in accepted.entry.now) text.entry.now found.items) }
+    { read_pieces(rt, alloc, accepted, text, &pieces, readers.rest) };
     let found = promptly(rt, &mut reading)?;
     Ok(Ahead {
+        tells: None,
         heard: Vec::new(alloc).into_iter(),
         pieces: found.into_iter(),
     })
 }
 
-/// How many threads read these lines before their turn: all workers but the one that answers, or none, where that would
-/// save no time.
-pub(crate) fn readers_of(text: &[u8], workers: u32) -> u32 {
-    if text.len() < LEAST_PIECE {
-        return 0;
+impl Readers {
+    /// Who reads lines before their turn: all workers but the one that answers, or none, where that would save no time.
+    /// They rest what they read where that is wanted and the text is long enough.
+    pub(crate) fn of(text: &[u8], workers: u32, rest: bool) -> Readers {
+        let count = if text.len() < LEAST_PIECE {
+            0
+        } else {
+            workers.saturating_sub(1)
+        };
+        Readers {
+            count,
+            rest: rest && text.len() >= LEAST_RESTED,
+        }
     }
-    workers.saturating_sub(1)
 }
 
 impl Ahead {
@@ -177,6 +234,7 @@ impl Ahead {
         ensures { (p : ProgramValue) (text : List ℕ) → IsAhead p text result }
     {
         Ahead {
+            tells: None,
             heard: Vec::new(alloc).into_iter(),
             pieces: Vec::new(alloc).into_iter(),
         }
@@ -186,30 +244,46 @@ impl Ahead {
     pub(crate) fn read(
         rt: &(impl Threads + Sync),
         alloc: Global,
-        program: &Program,
+        accepted: &Accepted,
         text: &[u8],
-        readers: u32,
+        readers: Readers,
     ) -> Self
-        requires { 1 ≤ readers }
-        ensures { IsAhead program.now text.now result }
+        requires { 1 ≤ readers.count }
+        ensures { IsAhead (program_in accepted.now) text.now result }
     {
-        match read_ahead(rt, alloc, program, text, readers) {
+        match read_ahead(rt, alloc, accepted, text, readers) {
             Ok(ahead) => ahead,
             Err(AllocError) => Ahead::none(alloc),
         }
     }
 
-    /// What was heard of the next line. Nothing is known of a piece to which memory was refused.
-    fn next(&mut self) -> Option<Heard>
-        ensures ahead { (p : ProgramValue) (text : List ℕ) → IsAhead p text self.old → IsAhead p text self.new }
-        ensures heard { (p : ProgramValue) (text : List ℕ) → IsAhead p text self.old → IfSome result (IsHeard p text) }
+    /// Goes on to the next piece, where nothing is left of the one before. Nothing is known of a piece to which memory
+    /// was refused.
+    fn turn_over(&mut self)
+        ensures { (p : ProgramValue) (text : List ℕ) → IsAhead p text self.old → IsAhead p text self.new }
     {
-        if let Some(heard) = self.heard.next() {
-            return Some(heard);
+        if self.tells.is_some() || self.heard.len() > 0 {
+            return;
         }
-        let lines = self.pieces.next()??;
-        self.heard = lines.into_iter();
-        self.heard.next()
+        if let Some(Some(read)) = self.pieces.next() {
+            let Read { tells, lines } = read;
+            self.tells = tells;
+            self.heard = lines.into_iter();
+        }
+    }
+
+    /// The tells that were rested, where they come next: so many bytes are left where they begin.
+    pub(crate) fn tells(&mut self, left: usize) -> Option<Tells>
+        ensures ahead { (p : ProgramValue) (text : List ℕ) → IsAhead p text self.old → IsAhead p text self.new }
+        ensures tells { (p : ProgramValue) (text : List ℕ) → IsAhead p text self.old
+            → IfSome result (AreTells p text) }
+        ensures left { IfSome result (λ tells. tells.left ≡ left) }
+    {
+        self.turn_over();
+        if !matches!(&self.tells, Some(tells) if tells.left == left) {
+            return None;
+        }
+        self.tells.take()
     }
 
     /// What the next line asks for, and how many bytes come after its end, if that is known of the line at whose start
@@ -219,7 +293,7 @@ impl Ahead {
         ensures first { (p : ProgramValue) (text : List ℕ) → IsAhead p text self.old
             → IfSome result (λ r. AsksFirst p text left r.1 r.0) }
     {
-        let heard = self.next()?;
+        let heard = self.heard.next()?;
         let Heard {
             left: start,
             more,

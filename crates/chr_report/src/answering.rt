@@ -1,5 +1,5 @@
 //! Command lines answered one after another.
-ghost use Rattle.std.specs.Prelude.{◌≡◌, ◌<◌, ◌≤◌, IfOk, OnOk, string_bytes};
+ghost use Rattle.std.specs.Prelude.{◌≡◌, ◌<◌, ◌≤◌, ◌++◌, IfOk, OnOk, string_bytes};
 ghost use Rattle.std.specs.Bool.{OnTrue, OnFalse};
 ghost use Rattle.chr_base.specs.Programs.{declarations, rules_of};
 ghost use Rattle.chr_report.specs.Lines.{lines};
@@ -7,10 +7,14 @@ ghost use Rattle.chr_report.specs.working.Answered.{AddsReply, AnswersLine, Answ
 ghost use Rattle.chr_report.specs.Served.{HasNoFeed};
 ghost use Rattle.chr_report.specs.working.Continuing.{AnswersLines, GoesOn};
 ghost use Rattle.chr_report.specs.working.LinesLeft.{last_bytes, lines_left};
-ghost use Rattle.chr_report.specs.working.Requests.{FitsProgram, IsAhead};
+ghost use Rattle.chr_report.specs.working.Ahead.{IsAhead};
+ghost use Rattle.chr_report.specs.working.Gathered.{AreTells};
+ghost use Rattle.chr_report.specs.working.ReplyTexts.{told_lines};
+ghost use Rattle.chr_report.specs.working.Requests.{FitsProgram};
 ghost use Rattle.chr_report.specs.working.Services.{held, served, IsBetweenLines};
 
 use crate::ahead::Ahead;
+use crate::gathering::Tells;
 use crate::input::{first_of_last, last_bytes, without_return};
 use crate::reply::push_reply;
 use crate::request::{Request, request_of};
@@ -111,6 +115,60 @@ pub(crate) struct Answering {
     pub(crate) left: usize,
 }
 
+/// Writes so many answers of operations that were new.
+fn push_told(out: &mut String, count: usize) -> Result<(), AllocError>
+    ensures { OnOk result (string_bytes out.new ≡ string_bytes out.old ++ told_lines count) }
+{
+    for _line in 0..count {
+        out.push_str("told\n")?;
+    }
+    Ok(())
+}
+
+/// Answers tells that were rested, where all of them can be told. Else none is, and it is false.
+fn answer_tells<R: Threads + Wait + Sync>(
+    rt: &R,
+    alloc: Global,
+    text: &[u8],
+    at: &mut Answering,
+    tells: &Tells,
+) -> Result<bool, AllocError>
+    requires ready { IsBetweenLines at.old.service }
+    requires tells { AreTells (served at.old.service) text.now tells.now }
+    requires first { tells.now.left ≡ at.old.left }
+    ensures goes { OnOk result (GoesOn text.now at.old at.new) }
+    ensures shorter { IfOk result (λ answered. OnTrue answered (at.new.left < at.old.left)) }
+    ensures left { IfOk result (λ answered. OnFalse answered (at.new.left ≡ at.old.left)) }
+{
+    if !at.service.tell_rested(rt, alloc, tells)? {
+        return Ok(false);
+    }
+    push_told(&mut at.out, tells.ops.len())?;
+    at.left = tells.more;
+    Ok(true)
+}
+
+/// Answers the tells that come next, where they were rested before their turn. Else none is, and it is false.
+fn answer_ahead<R: Threads + Wait + Sync>(
+    rt: &R,
+    alloc: Global,
+    text: &[u8],
+    at: &mut Answering,
+    ahead: &mut Ahead,
+) -> Result<bool, AllocError>
+    requires ready { IsBetweenLines at.old.service }
+    requires ahead { IsAhead (served at.old.service) text.now ahead.old }
+    ensures ahead { IsAhead (served at.old.service) text.now ahead.new }
+    ensures goes { OnOk result (GoesOn text.now at.old at.new) }
+    ensures shorter { IfOk result (λ answered. OnTrue answered (at.new.left < at.old.left)) }
+    ensures left { IfOk result (λ answered. OnFalse answered (at.new.left ≡ at.old.left)) }
+{
+    match ahead.tells(at.left) {
+        Some(tells) => answer_tells(rt, alloc, text, at, &tells),
+        None => Ok(false),
+    }
+}
+
 /// Answers the first line that is left, which may have been read before its turn. False where no line ends in what is
 /// left.
 fn answer_first<R: Threads + Wait + Sync>(
@@ -126,7 +184,7 @@ fn answer_first<R: Threads + Wait + Sync>(
     ensures answered { IfOk result (λ answered. OnTrue answered (GoesOn text.now at.old at.new)) }
     ensures shorter { IfOk result (λ answered. OnTrue answered (at.new.left < at.old.left)) }
     ensures same { IfOk result (λ answered. OnFalse answered (at.new ≡ at.old)) }
-    ensures none { IfOk result (λ answered. OnFalse answered (HasNoFeed (last_bytes at.old.left text.now))) }
+    ensures none { IfOk result (λ answered. OnFalse answered (HasNoFeed (last_bytes at.new.left text.now))) }
 {
     if let Some((request, more)) = ahead.request(at.left) {
         answer_request(rt, alloc, &mut at.service, request, &mut at.out)?;
@@ -140,6 +198,29 @@ fn answer_first<R: Threads + Wait + Sync>(
     answer_line(rt, alloc, &mut at.service, line, &mut at.out)?;
     at.left = more;
     Ok(true)
+}
+
+/// Answers the tells that come next, where they were rested before their turn, and else the first line that is left.
+/// False where no line ends in what is left.
+fn answer_next<R: Threads + Wait + Sync>(
+    rt: &R,
+    alloc: Global,
+    text: &[u8],
+    at: &mut Answering,
+    ahead: &mut Ahead,
+) -> Result<bool, AllocError>
+    requires ready { IsBetweenLines at.old.service }
+    requires ahead { IsAhead (served at.old.service) text.now ahead.old }
+    ensures ahead { OnOk result (IsAhead (served at.old.service) text.now ahead.new) }
+    ensures goes { OnOk result (GoesOn text.now at.old at.new) }
+    ensures shorter { IfOk result (λ answered. OnTrue answered (at.new.left < at.old.left)) }
+    ensures left { IfOk result (λ answered. OnFalse answered (at.new.left ≡ at.old.left)) }
+    ensures none { IfOk result (λ answered. OnFalse answered (HasNoFeed (last_bytes at.new.left text.now))) }
+{
+    if answer_ahead(rt, alloc, text, at, ahead)? {
+        return Ok(true);
+    }
+    answer_first(rt, alloc, text, at, ahead)
 }
 
 /// Answers the lines that end in a text, some of which may have been read before their turn.
@@ -163,7 +244,7 @@ pub(crate) fn answer_lines<R: Threads + Wait + Sync>(
     let mut ahead = ahead;
     let mut answered = true;
     while answered {
-        answered = answer_first(rt, alloc, text, &mut at, &mut ahead)?;
+        answered = answer_next(rt, alloc, text, &mut at, &mut ahead)?;
     }
     Ok(at)
 }

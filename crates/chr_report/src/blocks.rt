@@ -1,31 +1,32 @@
 //! Command lines that are read block by block, and answered meanwhile.
-ghost use Rattle.std.specs.Prelude.{◌≡◌, ◌≤◌, Some, true, IfOk, IfSome, IsErrOf, OnOk, string_bytes};
-ghost use Rattle.std.specs.Bool.{OnTrue};
+ghost use Rattle.std.specs.Prelude.{◌≡◌, ◌<◌, ◌≤◌, Some, true, IfOk, IfSome, IsErrOf, OnOk, string_bytes, vec_len};
+ghost use Rattle.std.specs.Bool.{OnTrue, OnFalse};
 ghost use Rattle.std.specs.Io.KnownBytes.{Appends, IsAtEnd};
 ghost use Rattle.std.specs.Thread.{IsSync};
 ghost use Rattle.chr_base.specs.Programs.{declarations, rules_of};
 ghost use Rattle.chr_device.specs.Devices.{ReadsOn, inner_of, has_failed};
 ghost use Rattle.chr_device.specs.declared.fault.RunFault.TheVariants.{Device, Memory};
 ghost use Rattle.chr_report.specs.Lines.{lines};
+ghost use Rattle.chr_join.specs.AcceptedPrograms.{program_in};
+ghost use Rattle.chr_report.specs.working.Ahead.{IsAhead};
 ghost use Rattle.chr_report.specs.working.Answered.{AnswersRest};
 ghost use Rattle.chr_report.specs.working.Continuing.{AnswersLines};
 ghost use Rattle.chr_report.specs.working.Blocks.{AnswersBoth, AnswersNext, IsReady, IsTurn, begun_of, lines_of};
-ghost use Rattle.chr_report.specs.working.Requests.{IsAhead};
 ghost use Rattle.chr_report.specs.working.Services.{held, served, IsBetweenLines};
 ghost use Rattle.chr_report.specs.working.Serving.{AnswersInput};
 
-use crate::ahead::{Ahead, readers_of};
+use crate::ahead::{Ahead, Readers};
 use crate::answering::{Answering, answer_all, answer_lines};
 use crate::block::Block;
-use crate::promptly::promptly;
+use crate::promptly::join_promptly;
 use crate::service::Service;
-use chr_base::program::Program;
 use chr_device::{RunFault, Watched, read_on};
+use chr_join::Accepted;
 use std::alloc::{AllocError, Global};
 use std::io::Read;
 use std::mem::replace;
 use std::sync::Wait;
-use std::thread::{Threads, join, join_mut};
+use std::thread::{Threads, join};
 
 /// So many bytes are read for each worker first, and then twice as many each time, so that little is waited for.
 const FIRST_SHARE: usize = 16_384;
@@ -38,7 +39,7 @@ const MOST_RESTED_SHARE: usize = 262_144;
 
 /// How many bytes are read for each worker at most.
 fn most_share(service: &Service) -> usize {
-    if service.rests_between() {
+    if service.rests_between() && !service.rests_ahead {
         MOST_RESTED_SHARE
     } else {
         MOST_SHARE
@@ -56,6 +57,7 @@ fn read_after<D: Read>(
     ensures read { OnOk result (ReadsOn (D.remaining (inner_of reader.old)) (D.remaining (inner_of reader.new))
         begun.now room.new.items) }
     ensures end { IfOk result (λ ended. OnTrue ended (IsAtEnd (D.remaining (inner_of reader.new)))) }
+    ensures more { IfOk result (λ ended. OnFalse ended (size < vec_len room.new)) }
     ensures whole { OnOk result (has_failed reader.new ≡ has_failed reader.old) }
     ensures device { IsErrOf result Device → has_failed reader.new ≡ true }
     ensures memory { IsErrOf result Memory → has_failed reader.new ≡ has_failed reader.old }
@@ -73,29 +75,29 @@ fn read_after<D: Read>(
 fn answer_and_read<R: Threads + Wait + Sync>(
     rt: &R,
     alloc: Global,
-    program: &Program,
+    accepted: &Accepted,
     text: &[u8],
     at: Answering,
     ahead: Ahead,
     next: &[u8],
 ) -> Result<(Answering, Ahead), AllocError>
     requires ready { IsBetweenLines at.service }
-    requires program { served at.service ≡ program.now }
-    requires ahead { IsAhead program.now text.now ahead }
+    requires program { served at.service ≡ program_in accepted.now }
+    requires ahead { IsAhead (program_in accepted.now) text.now ahead }
     ensures answered { IfOk result (λ r. AnswersLines text.now at r.0) }
-    ensures ahead { IfOk result (λ r. IsAhead program.now next.now r.1) }
+    ensures ahead { IfOk result (λ r. IsAhead (program_in accepted.now) next.now r.1) }
 {
-    let readers = readers_of(next, at.service.sharing.workers);
-    if readers == 0 {
+    let readers = at.service.readers_of(next);
+    if readers.count == 0 {
         let at = answer_lines(rt, alloc, text, at, ahead)?;
         return Ok((at, Ahead::none(alloc)));
     }
     let (later, answered) = join(
         rt,
         || -> Ahead
-            requires { IsSync R.row × (1 ≤ readers) }
-            ensures { IsAhead program.entry.now next.entry.now result }
-        { Ahead::read(rt, alloc, program, next, readers) },
+            requires { IsSync R.row × (1 ≤ readers.count) }
+            ensures { IsAhead (program_in accepted.entry.now) next.entry.now result }
+        { Ahead::read(rt, alloc, accepted, next, readers) },
         move || -> Result<Answering, AllocError>
             requires { IsBetweenLines at.service × IsAhead (served at.service) text.now ahead }
             ensures { IfOk result (AnswersLines text.entry.now at) }
@@ -187,32 +189,35 @@ impl Blocks {
         Ok(Turn { at, room, ended })
     }
 
-    /// Does so while so many other threads read the lines of the next block.
-    fn take_turn_with<R: Threads + Wait + Sync, D: Read>(
+    /// Does so while other threads read the lines of the next block, if any are worth it.
+    fn take_turn<R: Threads + Wait + Sync, D: Read>(
         self,
         rt: &R,
         alloc: Global,
-        program: &Program,
+        accepted: &Accepted,
         reader: &mut Watched<D>,
         next: &Block,
         size: usize,
-        readers: u32,
     ) -> Result<(Turn, Ahead), RunFault>
-        requires ready { IsReady (served self.at.service) self }
-        requires readers { 1 ≤ readers }
+        requires { IsReady (served self.at.service) self }
         ensures turn { IfOk result (λ r. IsTurn self (begun_of next.now) (D.remaining (inner_of reader.old))
             (D.remaining (inner_of reader.new)) r.0) }
-        ensures ahead { IfOk result (λ r. IsAhead program.now (lines_of next.now) r.1) }
+        ensures ahead { IfOk result (λ r. IsAhead (program_in accepted.now) (lines_of next.now) r.1) }
         ensures whole { OnOk result (has_failed reader.new ≡ has_failed reader.old) }
         ensures device { IsErrOf result Device → has_failed reader.new ≡ true }
         ensures memory { IsErrOf result Memory → has_failed reader.new ≡ has_failed reader.old }
     {
         let (lines, begun) = (next.lines(), next.begun());
+        let readers = self.at.service.readers_of(lines);
+        if readers.count == 0 {
+            let turn = self.answer_and_read_on(rt, alloc, reader, begun, size)?;
+            return Ok((turn, Ahead::none(alloc)));
+        }
         let mut come = Some(self);
         let mut there = || -> Ahead
-            requires { IsSync R.row × (1 ≤ readers) }
-            ensures { IsAhead program.entry.now lines.entry.now result }
-        { Ahead::read(rt, alloc, program, lines, readers) };
+            requires { IsSync R.row × (1 ≤ readers.count) }
+            ensures { IsAhead (program_in accepted.entry.now) lines.entry.now result }
+        { Ahead::read(rt, alloc, accepted, lines, readers) };
         let mut here = || -> Result<Turn, RunFault>
             requires { IfSome come (λ blocks. IsReady (served blocks.at.service) blocks) }
             ensures turn { IfSome come.entry (λ blocks. IfOk result (λ turn. IsTurn blocks begun.entry.now
@@ -226,52 +231,8 @@ impl Blocks {
                 None => Err(RunFault::Memory),
             }
         };
-        let (ahead, turn) = join_mut(rt, &mut there, &mut here);
+        let (ahead, turn) = join_promptly(rt, &mut there, &mut here);
         Ok((turn?, ahead))
-    }
-
-    /// Does so by as many threads as are worth it.
-    fn take_turn<R: Threads + Wait + Sync, D: Read>(
-        self,
-        rt: &R,
-        alloc: Global,
-        program: &Program,
-        reader: &mut Watched<D>,
-        next: &Block,
-        size: usize,
-    ) -> Result<(Turn, Ahead), RunFault>
-        requires { IsReady (served self.at.service) self }
-        ensures turn { IfOk result (λ r. IsTurn self (begun_of next.now) (D.remaining (inner_of reader.old))
-            (D.remaining (inner_of reader.new)) r.0) }
-        ensures ahead { IfOk result (λ r. IsAhead program.now (lines_of next.now) r.1) }
-        ensures whole { OnOk result (has_failed reader.new ≡ has_failed reader.old) }
-        ensures device { IsErrOf result Device → has_failed reader.new ≡ true }
-        ensures memory { IsErrOf result Memory → has_failed reader.new ≡ has_failed reader.old }
-    {
-        let readers = readers_of(next.lines(), self.at.service.sharing.workers);
-        if readers == 0 {
-            let turn = self.answer_and_read_on(rt, alloc, reader, next.begun(), size)?;
-            return Ok((turn, Ahead::none(alloc)));
-        }
-        let mut come = Some(self);
-        let mut here = || -> Result<(Turn, Ahead), RunFault>
-            requires ready { IfSome come (λ blocks. IsReady (served blocks.at.service) blocks) }
-            requires threads { IsSync R.row × (1 ≤ readers) }
-            ensures turn { IfSome come.entry (λ blocks. IfOk result (λ r. IsTurn blocks (begun_of next.entry.now)
-                (D.remaining (inner_of reader.entry.now)) (D.remaining (inner_of reader.exit.now)) r.0)) }
-            ensures ahead { IfOk result (λ r. IsAhead program.entry.now (lines_of next.entry.now) r.1) }
-            ensures whole { OnOk result (has_failed reader.exit.now ≡ has_failed reader.entry.now) }
-            ensures device { IsErrOf result Device → has_failed reader.exit.now ≡ true }
-            ensures memory { IsErrOf result Memory → has_failed reader.exit.now ≡ has_failed reader.entry.now }
-        {
-            match come.take() {
-                Some(blocks) => {
-                    blocks.take_turn_with(rt, alloc, program, reader, next, size, readers)
-                }
-                None => Err(RunFault::Memory),
-            }
-        };
-        promptly(rt, &mut here)
     }
 
     /// Answers the lines that come next, and reads on, while those of the bytes in the room are read. Then it rests
@@ -280,11 +241,11 @@ impl Blocks {
         self,
         rt: &R,
         alloc: Global,
-        program: &Program,
+        accepted: &Accepted,
         reader: &mut Watched<D>,
     ) -> Result<(Blocks, bool), RunFault>
-        requires { IsReady program.now self }
-        ensures ready { IfOk result (λ r. IsReady program.now r.0) }
+        requires { IsReady (program_in accepted.now) self }
+        ensures ready { IfOk result (λ r. IsReady (program_in accepted.now) r.0) }
         ensures answers { IfOk result (λ r. AnswersNext self r.0) }
         ensures bytes { IfOk result (λ r. r.0.block.bytes ≡ self.room) }
         ensures read { IfOk result (λ r. ReadsOn (D.remaining (inner_of reader.old))
@@ -300,7 +261,7 @@ impl Blocks {
         let most = most_share(&blocks.at.service);
         blocks.share = blocks.share.saturating_mul(2).min(most);
         let (share, size) = (blocks.share, blocks.wanted());
-        let (turn, ahead) = blocks.take_turn(rt, alloc, program, reader, &next, size)?;
+        let (turn, ahead) = blocks.take_turn(rt, alloc, accepted, reader, &next, size)?;
         let Turn {
             mut at,
             room,
@@ -322,9 +283,9 @@ impl Blocks {
         self,
         rt: &R,
         alloc: Global,
-        program: &Program,
+        accepted: &Accepted,
     ) -> Result<String, AllocError>
-        requires { IsReady program.now self }
+        requires { IsReady (program_in accepted.now) self }
         ensures { IfOk result (λ out. AnswersBoth self (string_bytes out)) }
     {
         let Blocks {
@@ -334,7 +295,7 @@ impl Blocks {
             room,
             ..
         } = self;
-        let (at, ahead) = answer_and_read(rt, alloc, program, block.lines(), at, ahead, &room)?;
+        let (at, ahead) = answer_and_read(rt, alloc, accepted, block.lines(), at, ahead, &room)?;
         answer_all(rt, alloc, &room, at, ahead)
     }
 }
@@ -363,15 +324,14 @@ pub(crate) fn answer_input<R: Threads + Wait + Sync, D: Read>(
     ensures memory { IsErrOf result Memory → has_failed reader.new ≡ has_failed reader.old }
 {
     let accepted = service.world.program().clone()?;
-    let program = accepted.program();
     let mut blocks = Blocks::open(alloc, service, first, text)?;
     let size = blocks.wanted();
     let mut ended = read_after(reader, blocks.block.begun(), &mut blocks.room, size)?;
     for _turn in 0..u64::MAX {
         if ended {
-            return Ok(blocks.end(rt, alloc, program)?);
+            return Ok(blocks.end(rt, alloc, &accepted)?);
         }
-        let (next, at_end) = blocks.go_on(rt, alloc, program, reader)?;
+        let (next, at_end) = blocks.go_on(rt, alloc, &accepted, reader)?;
         blocks = next;
         ended = at_end;
     }

@@ -5,6 +5,7 @@ mod ahead;
 mod answering;
 mod block;
 mod blocks;
+mod gathering;
 mod input;
 mod judging;
 mod keeping;

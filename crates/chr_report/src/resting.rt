@@ -1,8 +1,11 @@
-//! Replicas rested by several workers.
-ghost use Rattle.std.specs.Prelude.{◌≡◌, OnOk};
+//! Replicas whose boards are worked on by themselves.
+ghost use Rattle.std.specs.Prelude.{◌≡◌, IfOk, OnOk};
+ghost use Rattle.std.specs.Bool.{OnTrue, OnFalse};
 ghost use Rattle.chr_worlds.specs.Sharing.{shared_program};
-ghost use Rattle.chr_report.specs.working.Services.{AreBetweenLines, RestsAt};
+ghost use Rattle.chr_report.specs.working.Gathered.{AreRested};
+ghost use Rattle.chr_report.specs.working.Services.{AreBetweenLines, RestsAt, TellsAt};
 
+use crate::gathering::Tells;
 use crate::sharing::Sharing;
 use chr_replica::Board;
 use chr_workers::{OpenGate, rest_board};
@@ -40,4 +43,28 @@ pub(crate) fn rest_replica<R: Threads + Wait + Sync>(
     );
     world.swap_board(replica, &mut board);
     rested
+}
+
+/// Tells a replica operations that were rested, where there is that replica and they are all new. Else nothing changes.
+pub(crate) fn tell_replica(
+    alloc: Global,
+    world: &mut World,
+    tells: &Tells,
+) -> Result<bool, AllocError>
+    requires between { AreBetweenLines (shared_program world.old) world.old.replicas }
+    requires rested { AreRested (shared_program world.old) tells.now }
+    ensures program { world.new.accepted ≡ world.old.accepted }
+    ensures told { IfOk result (λ told. OnTrue told (TellsAt (shared_program world.old) world.old.replicas
+        tells.now.replica tells.now.ops.items world.new.replicas)) }
+    ensures same { IfOk result (λ told. OnFalse told (world.new.replicas ≡ world.old.replicas)) }
+{
+    let mut board = Board::open(alloc, world.program().clone()?)?;
+    let there = world.swap_board(tells.replica, &mut board);
+    if !there {
+        return Ok(false);
+    }
+    let told = board.tell_rested(alloc, &tells.ops, &tells.rested);
+    board.is_sound();
+    world.swap_board(tells.replica, &mut board);
+    told
 }

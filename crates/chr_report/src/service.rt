@@ -12,15 +12,18 @@ ghost use Rattle.chr_worlds.specs.Worlds.{Happens};
 ghost use Rattle.chr_base.specs.declared.limits.TheConstants.{MAX_REPLICAS};
 ghost use Rattle.chr_report.specs.Answers.{AnswersBetween, AnswersLacks, AnswersMerge, AnswersShow, AnswersSummary};
 ghost use Rattle.chr_report.specs.Answers.{AnswersTell};
-ghost use Rattle.chr_report.specs.working.Obeying.{IsAnswered, IsAnsweredAt, ShowsFrom};
+ghost use Rattle.chr_report.specs.working.Gathered.{AreRested};
+ghost use Rattle.chr_report.specs.working.Obeying.{HoldsMore, IsAnswered, IsAnsweredAt, ShowsFrom};
 ghost use Rattle.chr_report.specs.working.Requests.{AnswersRequest, FitsProgram};
 ghost use Rattle.chr_report.specs.working.Services.{held, served, was_stopped};
 ghost use Rattle.chr_report.specs.working.Services.{AreAtRest, HasLongRanges, IsBetweenLines};
 
+use crate::ahead::Readers;
+use crate::gathering::Tells;
 use crate::promptly::promptly;
 use crate::reply::Reply;
 use crate::request::Request;
-use crate::resting::rest_replica;
+use crate::resting::{rest_replica, tell_replica};
 use crate::sharing::Sharing;
 use chr_acts::{Act, Reply as ActReply};
 use chr_base::program::Program;
@@ -34,8 +37,8 @@ use std::alloc::{AllocError, Global};
 use std::sync::{Arc, Wait};
 use std::thread::Threads;
 
-/// As many told atoms wait at most in a replica's pool, before those of one line more come.
-const MOST_WAITING: u64 = 1024;
+/// As many told atoms wait at most in a pool, before those of one line more come.
+pub(crate) const MOST_WAITING: u64 = 1024;
 
 /// Several workers may save time where more than so many wait.
 const WORTH_SHARING: u64 = 16_384;
@@ -48,16 +51,21 @@ const MOST_SHARED: u64 = 3 * WORTH_SHARING;
 /// more: they cut all of it.
 const LEAST_SHARE: u64 = 4;
 
+/// Tells are rested by the threads that read them as long as no more than one of so many of their atoms stays: what
+/// stays is rested once more.
+const MOST_STAYING: u64 = 4;
+
 /// Replicas are counted from here.
 const FIRST_REPLICA: u64 = 1;
 
-/// Replicas that answer command lines. `rested` has for each of them how many atoms it had been told when its pool was
-/// rested last.
+/// Replicas that answer command lines. `rested` has for each of them how many atoms that it was told don't wait, and
+/// `rests_ahead` whether threads that read tells rest them.
 #[derive(Drop)]
 pub(crate) struct Service {
     pub world: World,
     pub rested: Vec<u64>,
     pub sharing: Sharing,
+    pub rests_ahead: bool,
 }
 
 /// Whether memory was refused to a pool's rest.
@@ -105,11 +113,13 @@ impl Service {
         ensures operations { IfOk result (λ service. held service ≡ replicate replicas finite.empty) }
     {
         events_keep_replicas_sound();
+        let rests_ahead = sharing.workers > 1 && !accepted.program().rules().is_empty();
         let accepted = Arc::new(alloc, accepted.in_pools(sharing.workers as usize))?;
         Ok(Service {
             world: World::open(alloc, accepted, replicas)?,
             rested: noughts(alloc, replicas)?,
             sharing,
+            rests_ahead,
         })
     }
 
@@ -120,6 +130,11 @@ impl Service {
         self.world.program().program()
     }
 
+    /// Who reads these lines before their turn.
+    pub(crate) fn readers_of(&self, text: &[u8]) -> Readers {
+        Readers::of(text, self.sharing.workers, self.rests_ahead)
+    }
+
     /// How many atoms a replica was told, and 0 where there is none.
     fn told(&self, replica: u64) -> u64 {
         match self.world.board(replica) {
@@ -128,7 +143,7 @@ impl Service {
         }
     }
 
-    /// How many of them wait since its pool was rested last.
+    /// How many of them wait to be rested.
     fn waiting(&self, replica: u64) -> u64 {
         let Some(place) = place_of(replica) else {
             return 0;
@@ -155,14 +170,14 @@ impl Service {
             && (self.is_in_pools(replica) || waiting >= self.told(replica) / LEAST_SHARE)
     }
 
-    /// Notes that a replica's pool is at rest.
-    fn note_rest(&mut self, replica: u64)
+    /// Notes that so many atoms of a replica's pool wait.
+    fn note_waiting(&mut self, replica: u64, waiting: u64)
         ensures { self.new.world ≡ self.old.world }
     {
-        let told = self.told(replica);
+        let rested = self.told(replica).saturating_sub(waiting);
         if let Some(place) = place_of(replica) {
-            if let Some(rested) = self.rested.get_mut(place) {
-                *rested = told;
+            if let Some(noted) = self.rested.get_mut(place) {
+                *noted = rested;
             }
         }
     }
@@ -180,7 +195,7 @@ impl Service {
         if was_stopped(&answer) {
             return Err(AllocError);
         }
-        self.note_rest(replica);
+        self.note_waiting(replica, 0);
         Ok(())
     }
 
@@ -198,7 +213,7 @@ impl Service {
         ensures rests { OnOk result (AreAtRest self.new replica) }
     {
         rest_replica(rt, alloc, &mut self.world, replica, self.sharing)?;
-        self.note_rest(replica);
+        self.note_waiting(replica, 0);
         Ok(())
     }
 
@@ -315,6 +330,36 @@ impl Service {
         let answer = self.world.tell(alloc, replica, op)?;
         self.rest_many(rt, alloc, replica)?;
         Ok(Reply::Answered(answer))
+    }
+
+    /// Tells a replica operations that were rested by the thread that read them, where there is that replica and all of
+    /// them may be told. Else the replicas stay as they are, and none is rested so any more.
+    pub(crate) fn tell_rested<R: Threads + Wait + Sync>(
+        &mut self,
+        rt: &R,
+        alloc: Global,
+        tells: &Tells,
+    ) -> Result<bool, AllocError>
+        requires ready { IsBetweenLines self.old }
+        requires rested { AreRested (served self.old) tells.now }
+        ensures ready { OnOk result (IsBetweenLines self.new) }
+        ensures program { self.new.world.accepted ≡ self.old.world.accepted }
+        ensures told { IfOk result (λ told. OnTrue told
+            (HoldsMore (served self.old) (held self.old) tells.now.replica tells.now.ops.items (held self.new))) }
+        ensures same { IfOk result (λ told. OnFalse told (held self.new ≡ held self.old)) }
+    {
+        let (before, waiting) = (self.told(tells.replica), self.waiting(tells.replica));
+        let told = tell_replica(alloc, &mut self.world, tells)?;
+        if !told {
+            self.rests_ahead = false;
+            return Ok(false);
+        }
+        let staying = tells.rested.len() as u64;
+        let came = self.told(tells.replica).saturating_sub(before);
+        self.rests_ahead = staying <= came / MOST_STAYING;
+        self.note_waiting(tells.replica, waiting.saturating_add(staying));
+        self.rest_many(rt, alloc, tells.replica)?;
+        Ok(true)
     }
 
     /// Merges operations into those of a replica.

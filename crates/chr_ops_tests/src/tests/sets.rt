@@ -269,6 +269,38 @@ fn are_fresh(rt: &impl Abort, alloc: Global, set: &OpSet, ops: &[Op], symbols: &
     fresh.is_same(&bag(rt, alloc, symbols)) && list.is_same(&fresh)
 }
 
+/// Whether each of these operations is new to the set and those before it.
+fn are_new(rt: &impl Abort, alloc: Global, set: &OpSet, list: &[(u32, u64, u16)]) -> bool {
+    set.are_new(alloc, &ops(rt, alloc, list))
+        .expect(rt, "memory")
+}
+
+#[test]
+fn lists_are_of_new_operations_or_not(rt: HostRuntime) {
+    let alloc = rt.alloc();
+    let mut set = OpSet::new(alloc);
+    assert!(rt; adds(&rt, alloc, &mut set, id(1, 2), &[5], Ok(Added::New)));
+    let new: [&[(u32, u64, u16)]; 4] = [
+        &[],
+        &[(1, 1, 5), (1, 3, 0), (2, 2, 1)],
+        &[(2, 2, 1), (1, 3, 0), (1, 1, 5)],
+        &[(0, 2, 1)],
+    ];
+    for list in new {
+        assert!(rt; are_new(&rt, alloc, &set, list), "all are new");
+    }
+    let not: [&[(u32, u64, u16)]; 5] = [
+        &[(1, 2, 5)],
+        &[(1, 1, 5), (1, 2, 1)],
+        &[(1, 3, 0), (1, 1, 5), (1, 2, 9)],
+        &[(1, 1, 5), (1, 1, 5)],
+        &[(1, 3, 1), (1, 1, 5), (1, 3, 2)],
+    ];
+    for list in not {
+        assert!(rt; !are_new(&rt, alloc, &set, list), "one is not");
+    }
+}
+
 #[test]
 fn joins_count_new_operations(rt: HostRuntime) {
     let alloc = rt.alloc();

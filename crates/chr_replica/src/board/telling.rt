@@ -1,19 +1,26 @@
 //! Boards are told operations.
-ghost use Rattle.std.specs.Prelude.{◌≡◌, ◌≤◌, ◌+◌, Ok, IfOk, IfErr, OnOk, OnErr};
+ghost use Rattle.std.specs.Prelude.{◌≡◌, ◌≤◌, ◌+◌, ◌⊎◌, false, All, Ok, IfOk, IfErr, OnOk, OnErr};
+ghost use Rattle.std.specs.Bool.{OnTrue, OnFalse};
 ghost use Rattle.std.specs.FinMap as map;
 ghost use Rattle.chr_base.specs.FinBag.{◌⊕◌};
-ghost use Rattle.chr_base.specs.Stores.{size};
-ghost use Rattle.chr_ops.specs.Operations.{told_atoms, IsNew, IsHeld};
-ghost use Rattle.chr_replica.specs.Replicas.{IsDeclared, Tells, Merges, Steps};
+ghost use Rattle.chr_base.specs.Programs.{rules_of};
+ghost use Rattle.chr_base.specs.Rewriting.{Reaches};
+ghost use Rattle.chr_base.specs.Rules.{Step as StepOf};
+ghost use Rattle.chr_base.specs.Stores.{size, store_of};
+ghost use Rattle.chr_ops.specs.Joins.{AreNew, IsOverLimit};
+ghost use Rattle.chr_ops.specs.Operations.{sum_of, told_atoms, IsNew, IsHeld};
+ghost use Rattle.chr_replica.specs.Replicas.{IsDeclared, Tells, TellsRested, Merges, Steps};
 ghost use Rattle.chr_replica.specs.Refusals.{RefusesTell, RefusesMerge, RefusesStep};
 ghost use Rattle.chr_replica.specs.Boards.{program_on};
+ghost use Rattle.chr_ops.specs.declared.fault.AddFault.TheVariants.{Full};
 
 use crate::board::Board;
 use crate::declared::{declares, declares_all};
 use crate::laws::events_keep_replicas_sound;
 use crate::refusal::{Limit, Refusal};
+use chr_base::atom::Atom;
 use chr_base::derivation::Step;
-use chr_ops::{Added, MAX_TOLD, Op, OpSet};
+use chr_ops::{AddFault, Added, MAX_TOLD, Op, OpSet};
 use chr_shards::Shards;
 use std::alloc::{AllocError, Global};
 
@@ -34,6 +41,17 @@ fn put_in(ops: &mut OpSet, pool: &mut Shards, op: Op) -> Result<(), AllocError>
             pool.remove(back.bag().atoms());
             Err(AllocError)
         }
+    }
+}
+
+/// What is answered where new operations don't join the set: false, where it would tell too much.
+fn untold(fault: AddFault) -> Result<bool, AllocError>
+    ensures told { IfOk result (λ told. told ≡ false) }
+    ensures full { OnOk result (fault ≡ Full) }
+{
+    match fault {
+        AddFault::Full => Ok(false),
+        _ => Err(AllocError),
     }
 }
 
@@ -99,6 +117,42 @@ impl Board {
             Err(fault) => {
                 self.pool.remove(&fresh);
                 Err(Refusal::from(fault))
+            }
+        }
+    }
+
+    /// Tells operations that are all new, where some steps have made `rested` of their atoms: that goes into the pool
+    /// in the place of these. False, and nothing changes, where one of them is not new, or where more than
+    /// [`MAX_TOLD`](chr_ops::MAX_TOLD) atoms would be told. It does not look at their atoms.
+    pub fn tell_rested(
+        &mut self,
+        alloc: Global,
+        ops: &[Op],
+        rested: &[Atom],
+    ) -> Result<bool, AllocError>
+        requires declared { All (IsDeclared (program_on self.old)) ops.now }
+        requires reached { Reaches (StepOf (rules_of (program_on self.old))) (sum_of ops.now) (store_of rested.now) }
+        ensures program { self.new.accepted ≡ self.old.accepted }
+        ensures told { IfOk result (λ told. OnTrue told
+            (TellsRested (program_on self.old) self.old.replica ops.now self.new.replica)) }
+        ensures not { IfOk result (λ told. OnFalse told ((¬ (AreNew self.old.replica.operations ops.now))
+            ⊎ IsOverLimit self.old.replica.operations ops.now)) }
+        ensures same { IfOk result (λ told. OnFalse told (self.new ≡ self.old)) }
+        ensures err { OnErr result (self.new ≡ self.old) }
+    {
+        if !self.ops.are_new(alloc, ops)? {
+            return Ok(false);
+        }
+        self.pool.insert(rested)?;
+        match self.ops.join(alloc, ops) {
+            Ok(_count) => {
+                // The set's type keeps the limit.
+                let _told = self.ops.told();
+                Ok(true)
+            }
+            Err(fault) => {
+                self.pool.remove(rested);
+                untold(fault)
             }
         }
     }

@@ -13,7 +13,7 @@ use Rattle.chr_report.specs.Lines.{lines}
 use Rattle.chr_report.specs.Served.{AreWholeLines}
 use Rattle.chr_report.specs.working.Answered.{AnswersRest}
 use Rattle.chr_report.specs.working.Continuing.{AnswersLines, AnswersUpTo}
-use Rattle.chr_report.specs.working.Requests.{IsAhead}
+use Rattle.chr_report.specs.working.Ahead.{IsAhead}
 use Rattle.chr_report.specs.working.Services.{held, served, IsBetweenLines}
 use Rattle.chr_report.specs.working.Serving.{AnswersFront}
 

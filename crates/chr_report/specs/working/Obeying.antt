@@ -1,9 +1,11 @@
 -- Replies to what lines ask for.
-use Rattle.std.specs.Prelude.{◌≡◌, ℕ, List, ◌++◌, Result, IfOk}
+use Rattle.std.specs.Prelude.{◌≡◌, ℕ, ◌-◌, List, ◌++◌, Result, IfOk, Some, slice_set}
 use Rattle.std.specs.declared.alloc.AllocError.{AllocError}
 use Rattle.chr_base.specs.Programs.{declarations, rules_of}
-use Rattle.chr_ops.specs.Operations.{Operations}
-use Rattle.chr_report.specs.Answers.{AnswersAt, AnswersShow}
+use Rattle.chr_base.specs.declared.program.Program.{Program}
+use Rattle.chr_ops.specs.Operations.{Operation, Operations}
+use Rattle.chr_replica.specs.Replicas.{Replica, TellsEach}
+use Rattle.chr_report.specs.Answers.{AnswersAt, AnswersShow, held_by}
 use Rattle.chr_report.specs.declared.reply.Reply.{Reply}
 use Rattle.chr_report.specs.declared.service.Service.{Service}
 use Rattle.chr_report.specs.working.ReplyTexts.{reply_text, IsWritable}
@@ -26,3 +28,12 @@ pub record ShowsFrom (s : Service) (r : ℕ) (before after : List ℕ) : Type 0 
   pub text : List ℕ
   pub answers : AnswersAt (held s) r (AnswersShow (declarations (served s)) (rules_of (served s))) text (held s)
   pub out_is : after ≡ before ++ text
+
+-- the replica of a number, where there is one, is told these operations, one after the other
+pub record HoldsMore (p : Program) (old : List Operations) (r : ℕ) (ops : List Operation) (new : List Operations)
+    : Type 0 where
+  pub before : Replica
+  pub after : Replica
+  pub there : held_by old r ≡ Some before.operations
+  pub tells : TellsEach p before ops after
+  pub others : new ≡ slice_set old (r - 1) after.operations

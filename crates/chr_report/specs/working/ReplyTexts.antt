@@ -1,5 +1,5 @@
 -- The texts of replies.
-use Rattle.std.specs.Prelude.{ℕ, List, [], ◌++◌, codes, ⊤}
+use Rattle.std.specs.Prelude.{ℕ, zero, suc, List, [], ◌∷◌, ◌++◌, codes, ⊤}
 use Rattle.std.specs.Fmt.{decimal}
 use Rattle.chr_base.specs.ProgramTests.{Declaration}
 use Rattle.chr_base.specs.Texts.{store_text}
@@ -61,3 +61,8 @@ IsWritable (reply.Answered x) = HasAnswerText x
 IsWritable (reply.Synced x) = HasAnswerText x
 IsWritable (reply.Lacked v x) = HasAnswerText x
 IsWritable (reply.Refused r) = ⊤
+
+-- so many answers of operations that were new, each with its line feed
+abbrev pub told_lines : ℕ → List ℕ
+told_lines zero = []
+told_lines (suc n) = codes "told" ++ 10 ∷ told_lines n

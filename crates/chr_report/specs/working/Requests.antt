@@ -1,8 +1,5 @@
--- What lines ask for, and lines that were read before their turn.
-use Rattle.std.specs.Prelude.{◌≡◌, ℕ, ◌<◌, false, List, ◌∷◌, ◌++◌, All, IfSome, Option, Result, ⊤}
-use Rattle.std.specs.declared.alloc.Global.{Global}
-use Rattle.std.specs.declared.vec.Vec.{Vec}
-use Rattle.std.specs.Vec.Iter.{into_iter_items}
+-- What lines ask for.
+use Rattle.std.specs.Prelude.{◌≡◌, ℕ, ◌<◌, false, List, ◌∷◌, ◌++◌, All, IfSome, Result, ⊤}
 use Rattle.chr_base.specs.declared.program.Program.{Program}
 use Rattle.chr_base.specs.declared.rule.Rule.{Rule}
 use Rattle.chr_base.specs.ProgramTests.{Declaration}
@@ -15,7 +12,6 @@ use Rattle.chr_ops.specs.Operations.{Operations}
 use Rattle.chr_replica.specs.Replicas.{IsDeclared}
 use Rattle.chr_report.specs.Answers.{AnswersAt, AnswersBetween, AnswersLacks, AnswersMerge, AnswersRead}
 use Rattle.chr_report.specs.Answers.{AnswersRefusal, AnswersShow, AnswersSummary, AnswersTell}
-use Rattle.chr_report.specs.declared.ahead.Ahead.{Ahead}
 use Rattle.chr_report.specs.declared.ahead.Heard.{Heard}
 use Rattle.chr_report.specs.declared.request.Request.{Request}
 use Rattle.chr_report.specs.declared.request.Request.TheVariants as request
@@ -62,12 +58,3 @@ pub record AsksFirst (p : Program) (text : List ℕ) (left more : ℕ) (q : Requ
 -- what was heard of a text's line is what it asks for
 abbrev pub IsHeard : Program → List ℕ → Heard → Type 0
 IsHeard p text h = IfSome h.request (AsksFirst p text h.left h.more)
-
--- so it is for the lines of each of these pieces that was read
-abbrev pub AreHeard : Program → List ℕ → List (Option (Vec Heard Global)) → Type 0
-AreHeard p text found = All (λ o. IfSome o (λ lines. All (IsHeard p text) lines.items)) found
-
--- and for each line that was read before its turn
-pub record IsAhead (p : Program) (text : List ℕ) (a : Ahead) : Type 0 where
-  pub heard : All (IsHeard p text) (into_iter_items a.heard)
-  pub pieces : AreHeard p text (into_iter_items a.pieces)

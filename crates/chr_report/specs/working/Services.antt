@@ -5,9 +5,9 @@ use Rattle.chr_base.specs.declared.program.Program.{Program}
 use Rattle.chr_base.specs.Programs.{rules_of}
 use Rattle.chr_base.specs.Rules.{Step}
 use Rattle.chr_base.specs.Rewriting.{IsAtRest}
-use Rattle.chr_ops.specs.Operations.{Operations}
+use Rattle.chr_ops.specs.Operations.{Operation, Operations}
 use Rattle.chr_ops.specs.Summaries.{IsApart}
-use Rattle.chr_replica.specs.Replicas.{Replica, IsSettled, IsSound}
+use Rattle.chr_replica.specs.Replicas.{Replica, IsSettled, IsSound, TellsRested}
 use Rattle.chr_acts.specs.declared.reply.Reply.TheVariants as reply
 use Rattle.chr_worlds.specs.Worlds.{Replicas, Changes, HasReplica, IsAt}
 use Rattle.chr_worlds.specs.Sharing.{shared_program}
@@ -50,6 +50,15 @@ pub record ComesToRest (p : Program) (s t : Replica) : Type 0 where
 -- so does the replica of a number, and no other changes; or there is none
 abbrev pub RestsAt : Program → Replicas → ℕ → Replicas → Type 0
 RestsAt p w r v = ((¬ HasReplica w r) × (v ≡ w)) ⊎ Changes w r (ComesToRest p) v
+
+-- a replica is told these operations, one after the other, and steps are taken in its pool
+pub record TellsSoundly (p : Program) (ops : List Operation) (s t : Replica) : Type 0 where
+  pub tells : TellsRested p s ops t
+  pub sound : IsSound p t
+
+-- so is the replica of a number, and no other changes
+abbrev pub TellsAt : Program → Replicas → ℕ → List Operation → Replicas → Type 0
+TellsAt p w r ops v = Changes w r (TellsSoundly p ops) v
 
 -- memory was refused to a pool's rest
 abbrev pub was_stopped : Answer → Bool

@@ -106,8 +106,10 @@ fn sixteen_workers_answer_exchanges(rt: HostRuntime) {
     expect_answers(&rt, rt.alloc(), 16);
 }
 
-/// How many lines tell routes.
+/// How many lines tell routes, in a short input, and in one that is rested by who reads it and ends in the same lines.
 const LINES: u32 = 400;
+
+const MANY_LINES: u32 = LINES + 64 * 118;
 
 fn push(rt: &impl Abort, text: &mut String, part: &str) {
     text.push_str(part).expect(rt, "memory");
@@ -118,52 +120,64 @@ fn push_number(rt: &impl Abort, text: &mut String, number: u32, after: &str) {
     write!(text, "{number}{after}").expect(rt, "memory");
 }
 
-/// The route at this place of a line, between one of 25 pairs of towns. Those of later lines are shorter.
-fn push_route(rt: &impl Abort, text: &mut String, line: u32, place: u32) {
+/// The route at this place of a line, between one of 25 pairs of towns. The fewer lines come later, the shorter it is.
+fn push_route(rt: &impl Abort, text: &mut String, line: u32, place: u32, later: u32) {
     let pair = (line % 64 * 8).saturating_add(place) % 25;
-    let later = (LINES - 1).saturating_sub(line);
     push(rt, text, "[\"path\",");
     push_number(rt, text, pair / 5, ",");
     push_number(rt, text, pair % 5, ",");
     push_number(rt, text, pair.saturating_add(later), "]");
 }
 
-/// A line that tells the first replica eight routes.
-fn push_line(rt: &impl Abort, text: &mut String, line: u32) {
+/// A line that tells the first replica eight routes, before so many later ones.
+fn push_line(rt: &impl Abort, text: &mut String, line: u32, later: u32) {
     push(rt, text, "[\"tell\",1,[1,");
     push_number(rt, text, line, "],[");
     for place in 0..7 {
-        push_route(rt, text, line, place);
+        push_route(rt, text, line, place, later);
         push(rt, text, ",");
     }
-    push_route(rt, text, line, 7);
+    push_route(rt, text, line, 7, later);
     push(rt, text, "]]\n");
 }
 
-/// Lines that tell the first replica routes between 25 pairs of towns, eight a line. Later ones are shorter.
-fn many_routes(rt: &impl Abort, alloc: Global) -> String {
+/// So many lines that tell the first replica routes between 25 pairs of towns, eight a line. Later ones are shorter.
+fn many_routes(rt: &impl Abort, alloc: Global, lines: u32) -> String {
     let mut text = String::new(alloc);
     push(
         rt,
         &mut text,
         ":- chr_constraint path/3. path(X,Y,D) \\ path(X,Y,E) <=> D =< E | true.\n---\n",
     );
-    for line in 0..LINES {
-        push_line(rt, &mut text, line);
+    for line in 0..lines {
+        push_line(rt, &mut text, line, (lines - 1).saturating_sub(line));
     }
     push(rt, &mut text, "[\"show\",1]\n");
     text
 }
 
+/// Whether these routes are answered by so many workers as they are by one, which shows the shortest.
+fn are_shared(
+    rt: &(impl Abort + RandomSource + Threads + Wait + Sync),
+    alloc: Global,
+    input: &[u8],
+    workers: u32,
+) -> bool {
+    let (_, plain) = shared(rt, alloc, 1, 1, input);
+    let (_, parted) = shared(rt, alloc, workers, 16, input);
+    plain.ends_with(b"path(4,3,23), path(4,4,24)\n") && parted.as_slice() == plain.as_slice()
+}
+
 #[test]
 fn many_routes_are_rested_in_parts(rt: HostRuntime) {
     let alloc = rt.alloc();
-    let input = many_routes(&rt, alloc);
-    let (_, plain) = shared(&rt, alloc, 1, 1, input.as_bytes());
-    let (_, parted) = shared(&rt, alloc, 4, 16, input.as_bytes());
-    assert!(rt;
-        plain.ends_with(b"path(4,3,23), path(4,4,24)\n"),
-        "the shortest routes"
-    );
-    assert!(rt; parted.as_slice() == plain.as_slice(), "the same bytes");
+    let input = many_routes(&rt, alloc, LINES);
+    assert!(rt; are_shared(&rt, alloc, input.as_bytes(), 4));
+}
+
+#[test]
+fn many_routes_are_rested_by_who_reads_them(rt: HostRuntime) {
+    let alloc = rt.alloc();
+    let input = many_routes(&rt, alloc, MANY_LINES);
+    assert!(rt; are_shared(&rt, alloc, input.as_bytes(), 16));
 }

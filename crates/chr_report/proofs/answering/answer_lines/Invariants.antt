@@ -2,7 +2,7 @@ use Rattle.std.specs.Prelude.{◌≡◌, ◌+◌, false, length, if◌then◌els
 use Rattle.chr_report.specs.Served.{HasNoFeed}
 use Rattle.chr_report.specs.working.Continuing.{GoesOn}
 use Rattle.chr_report.specs.working.LinesLeft.{last_bytes}
-use Rattle.chr_report.specs.working.Requests.{IsAhead}
+use Rattle.chr_report.specs.working.Ahead.{IsAhead}
 use Rattle.chr_report.specs.working.Services.{served}
 use Rattle.chr_report.proofs.answering.answer_lines.Given as goal
 

@@ -1,3 +1,4 @@
+use Rattle.chr_join.specs.AcceptedPrograms.{program_in}
 use Rattle.std.proofs.Common.{◌≡◌, ◌∙◌, rules, sym, subst}
 use Rattle.std.specs.Bool.{OnTrue}
 use Rattle.std.specs.Io.KnownBytes.{IsAtEnd}
@@ -46,7 +47,7 @@ loop-turn-preserved g c =
     let mid = g.D.Read.remaining (inner_of c.loop-turn.reader) in
     let to = g.D.Read.remaining (inner_of c.go_on.new.reader) in
     let next = c.in_ok-next in
-    let same : c.program-program.result.now ≡ p = search rules in
+    let same : program_in c.deref-in-loop-turn.result.now ≡ p = search rules in
     record {
       ready = subst (λ q. IsReady q next.next) same next.ensures.ready;
       between = goes_on_between p c.loop-turn.blocks next.next c.args.first.now from mid to

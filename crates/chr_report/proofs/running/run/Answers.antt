@@ -5,7 +5,7 @@ use Rattle.chr_device.specs.Devices.{AppendsPart, inner_of}
 use Rattle.chr_report.specs.Asked.{wanted_by}
 use Rattle.chr_report.specs.Written.{Writes}
 use Rattle.chr_report.proofs.Outcomes.{output_written}
-use Rattle.chr_report.proofs.Pieces.{on_err}
+use Rattle.chr_replica.proofs.Outcomes.{on_err}
 use Rattle.chr_report.proofs.running.run.Goals as goal
 
 pub returns-clause-ok : goal.returns-clause-ok

@@ -9,7 +9,8 @@ use Rattle.chr_report.specs.working.Answered.{AnswersLine}
 use Rattle.chr_report.specs.working.Services.{held, served}
 use Rattle.chr_report.specs.working.Serving.{AnswersChunk}
 use Rattle.chr_report.proofs.Pieces.{Gathers, chunk_done, gathers_one, gathered_sent, gathered_whole, part_done}
-use Rattle.chr_report.proofs.Pieces.{part_gathered, part_sent, on_err}
+use Rattle.chr_replica.proofs.Outcomes.{on_err}
+use Rattle.chr_report.proofs.Pieces.{part_gathered, part_sent}
 use Rattle.chr_report.proofs.serving.answer_chunk.Goals as goal
 
 pub returns-in_err-extend_from_slice-clause-err : goal.returns-in_err-extend_from_slice-clause-err

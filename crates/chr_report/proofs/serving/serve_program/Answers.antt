@@ -9,7 +9,8 @@ use Rattle.chr_report.specs.working.Services.{held}
 use Rattle.chr_report.specs.working.Serving.{AnswersInput, AnswersFrontRead, AnswersCommands, WritesText}
 use Rattle.chr_report.specs.working.Serving.{WritesTextPart}
 use Rattle.chr_report.proofs.Outcomes.{if_ok}
-use Rattle.chr_report.proofs.Pieces.{on_err, if_err}
+use Rattle.chr_replica.proofs.Outcomes.{on_err}
+use Rattle.chr_report.proofs.Pieces.{if_err}
 use Rattle.chr_report.proofs.Conversing.{program_served, program_part, verdict_part}
 use Rattle.chr_report.proofs.Conversing.{commands_answered}
 use Rattle.chr_report.proofs.serving.serve_program.Goals as goal

@@ -7,7 +7,7 @@ use Rattle.chr_read.specs.ProgramTexts.{IsAnswer}
 use Rattle.chr_report.specs.declared.running.Status.TheVariants.{Refused}
 use Rattle.chr_report.specs.declared.judging.Judged.TheVariants as judged
 use Rattle.chr_report.specs.working.Judged.{IsJudgedText}
-use Rattle.chr_report.proofs.Pieces.{on_err}
+use Rattle.chr_replica.proofs.Outcomes.{on_err}
 use Rattle.chr_report.proofs.Conversing.{refused_written}
 use Rattle.chr_report.proofs.serving.serve_text.Goals as goal
 

@@ -1,11 +1,17 @@
-use Rattle.std.proofs.Common.{subst}
-use Rattle.std.specs.Prelude.{IfSome}
-use Rattle.chr_report.specs.working.Requests.{AsksFirst}
+use Rattle.chr_report.specs.working.Requests.{IsHeard}
+use Rattle.chr_report.proofs.Requests.{taken}
 use Rattle.chr_report.proofs.ahead.Ahead.request.Goals as goal
 
-pub returns-in-Some-clause-first : goal.returns-in-Some-clause-first
-returns-in-Some-clause-first c = λ p text are.
-    let heard = c.in_ok-heard.heard in
-    subst (λ left. AsksFirst p text left heard.more c.in-Some.request) c.if-start-left.true
-    (subst (λ o. IfSome o (AsksFirst p text heard.left heard.more)) c.in-Some.is
-    (c.in_ok-heard.ensures.heard p text are))
+pub returns-in-Some-clause-ahead : goal.returns-in-Some-clause-ahead
+returns-in-Some-clause-ahead c = λ p text are. record {
+  tells = are.tells;
+  heard = (taken (IsHeard p text) _ _ _ c.next.ensures.items are.heard).1;
+  pieces = are.pieces;
+}
+
+pub returns-in_default-clause-ahead : goal.returns-in_default-clause-ahead
+returns-in_default-clause-ahead c = λ p text are. record {
+  tells = are.tells;
+  heard = (taken (IsHeard p text) _ _ _ c.next.ensures.items are.heard).1;
+  pieces = are.pieces;
+}

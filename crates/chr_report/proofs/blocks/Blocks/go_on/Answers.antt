@@ -1,3 +1,4 @@
+use Rattle.chr_join.specs.AcceptedPrograms.{program_in}
 use Rattle.std.proofs.Common.{◌∙◌, sym, subst}
 use Rattle.chr_base.specs.Programs.{declarations, rules_of}
 use Rattle.chr_report.specs.working.Blocks.{lines_of}
@@ -11,7 +12,7 @@ returns-clause-ready g c =
     let s = c.args.self in
     record {
       ready = c.in_ok-rest_between.ensures.ready;
-      program = program_of_both s.at.service c.rest_between.new.self c.args.program.now
+      program = program_of_both s.at.service c.rest_between.new.self (program_in c.args.accepted.now)
           (c.in_ok-rest_between.ensures.program ∙ c.in_ok-turn.ensures.turn.answered.0.program) c.requires.program;
       whole = c.of-next.ensures.lines;
       ahead = c.in_ok-turn.ensures.ahead;

@@ -12,7 +12,7 @@ returns-clause-ready c =
     let w = c.args.self.now.world in
     let settled = c.settle-answer in
     let v = settled.new.self in
-    subst (λ w. AreBetweenLines (shared_program w) w.replicas) (sym c.note_rest.ensures)
+    subst (λ w. AreBetweenLines (shared_program w) w.replicas) (sym c.note_waiting.ensures)
     (ready_for w.accepted v.accepted v.replicas settled.ensures.program
     (happens_ready c.runs_keep_replicas_sound.ensures (shared_program w) w.replicas
     (event.At c.args.replica act.Settle) settled.result v.replicas tt settled.ensures.happens c.requires))
@@ -20,13 +20,13 @@ returns-clause-ready c =
 pub returns-clause-operations : goal.returns-clause-operations
 returns-clause-operations c =
     let settled = c.settle-answer in
-    ap (λ w. operations_held w.replicas) c.note_rest.ensures
+    ap (λ w. operations_held w.replicas) c.note_waiting.ensures
     ∙ settled_held (served c.args.self.now) c.args.self.now.world.replicas settled.new.self.replicas c.args.replica
     settled.result settled.ensures.happens
 
 pub returns-clause-rests : goal.returns-clause-rests
 returns-clause-rests c =
     let settled = c.settle-answer in
-    rested c.args.self.now.world settled.new.self c.note_rest.new.self.world c.args.replica settled.result
+    rested c.args.self.now.world settled.new.self c.note_waiting.new.self.world c.args.replica settled.result
     (sym c.was_stopped.ensures ∙ c.if-was_stopped.false)
-    settled.ensures.program settled.ensures.happens c.note_rest.ensures
+    settled.ensures.program settled.ensures.happens c.note_waiting.ensures

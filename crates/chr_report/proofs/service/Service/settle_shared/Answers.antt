@@ -16,13 +16,13 @@ returns-clause-ready g c =
     let w = c.args.self.now.world.replicas in
     let v = c.rest_replica.new.world.replicas in
     let p = served c.args.self.now in
-    subst (λ u. AreBetweenLines (shared_program u) u.replicas) (sym c.note_rest.ensures)
+    subst (λ u. AreBetweenLines (shared_program u) u.replicas) (sym c.note_waiting.ensures)
     (ready_for c.args.self.now.world.accepted c.rest_replica.new.world.accepted v c.rest_replica.ensures.program
     (rests_ready p w v c.args.replica c.in_ok-rest_replica.ensures.rests c.requires))
 
 pub returns-clause-operations : goal.returns-clause-operations
 returns-clause-operations g c =
-    ap (λ w. operations_held w.replicas) c.note_rest.ensures
+    ap (λ w. operations_held w.replicas) c.note_waiting.ensures
     ∙ rests_held (served c.args.self.now) c.args.self.now.world.replicas c.rest_replica.new.world.replicas
     c.args.replica c.in_ok-rest_replica.ensures.rests
 
@@ -31,7 +31,7 @@ returns-clause-rests g c =
     let w = c.args.self.now.world in
     let v = c.rest_replica.new.world in
     subst (λ u. (t : Replica) → IsAt u.replicas c.args.replica t → IsAtRest (Step (rules_of (shared_program u))) t.pool)
-    (sym c.note_rest.ensures)
+    (sym c.note_waiting.ensures)
     (subst (λ a. (t : Replica) → IsAt v.replicas c.args.replica t → IsAtRest (Step (rules_of (program_in a))) t.pool)
     (sym c.rest_replica.ensures.program)
     (rests_at (shared_program w) w.replicas v.replicas c.args.replica c.in_ok-rest_replica.ensures.rests))

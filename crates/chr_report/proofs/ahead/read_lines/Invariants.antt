@@ -1,6 +1,6 @@
 use Rattle.std.proofs.Common.{All}
 use Rattle.chr_report.specs.working.Requests.{IsHeard}
-use Rattle.chr_report.proofs.ahead.read_piece.Given as goal
+use Rattle.chr_report.proofs.ahead.read_lines.Given as goal
 
 abbrev pub invariant-loop-left : goal.invariant-loop-left
 invariant-loop-left l = All (IsHeard l.program l.text) l.found.items

@@ -1,0 +1,171 @@
+//! Tells that are read together before their turn, and rested by the thread that reads them.
+ghost use Rattle.std.specs.Prelude.{◌≡◌, ◌<◌, ◌⊎◌, [], List, ℕ, IfOk, IfSome, IsTrue, OnOk};
+ghost use Rattle.std.specs.Bool.{OnTrue};
+ghost use Rattle.chr_join.specs.AcceptedPrograms.{program_in};
+ghost use Rattle.chr_base.specs.declared.program.Program.{Program as ProgramValue};
+ghost use Rattle.chr_report.specs.declared.request.Request.TheVariants.{Tell};
+ghost use Rattle.chr_report.specs.working.Requests.{AsksFirst};
+ghost use Rattle.chr_report.specs.working.Gathered.{AreTells, IsGathered};
+
+use crate::ahead::{Heard, MOST_LINES, Piece, read_one};
+use crate::request::Request;
+use crate::service::MOST_WAITING;
+use chr_base::atom::Atom;
+use chr_join::Accepted;
+use chr_ops::Op;
+use chr_shards::Shards;
+use std::alloc::{AllocError, Global};
+
+/// Lines of a text that tell one replica operations: how many bytes are left of the text where they begin and where
+/// they end, the operations, and what comes of their atoms at rest.
+#[derive(Drop)]
+pub(crate) struct Tells {
+    pub(crate) left: usize,
+    pub(crate) more: usize,
+    pub(crate) replica: u64,
+    pub(crate) ops: Vec<Op>,
+    pub(crate) rested: Vec<Atom>,
+}
+
+/// Such lines while they are read, and the pool in which their atoms are rested.
+#[derive(Drop)]
+struct Gathering {
+    left: usize,
+    more: usize,
+    replica: u64,
+    ops: Vec<Op>,
+    pool: Shards,
+}
+
+impl Gathering {
+    /// No line yet, where so many bytes are left.
+    fn open(alloc: Global, accepted: &Accepted, left: usize) -> Result<Gathering, AllocError>
+        ensures gathered { (text : List ℕ) → IfOk result (IsGathered (program_in accepted.now) text) }
+        ensures left { IfOk result (λ gathering. gathering.more ≡ left) }
+    {
+        let weighed = accepted.shared().clone()?;
+        Ok(Gathering {
+            left,
+            more: left,
+            replica: 0,
+            ops: Vec::new(alloc),
+            pool: Shards::open(alloc, weighed, accepted.seed(), 1)?,
+        })
+    }
+
+    /// Whether a tell to this replica may come next: all of them are told to one.
+    fn goes_to(&self, replica: u64) -> bool
+        ensures { IsTrue result → (self.now.ops.items ≡ []) ⊎ (self.now.replica ≡ replica) }
+    {
+        self.ops.is_empty() || self.replica == replica
+    }
+
+    /// Rests the pool.
+    fn rest(&mut self) -> Result<(), AllocError>
+        ensures gathered { (p : ProgramValue) (text : List ℕ) → IsGathered p text self.old
+            → OnOk result (IsGathered p text self.new) }
+        ensures ops { self.new.ops ≡ self.old.ops }
+        ensures more { self.new.more ≡ self.old.more }
+    {
+        match self.pool.rest() {
+            Ok(_steps) => Ok(()),
+            Err(_stopped) => Err(AllocError),
+        }
+    }
+
+    /// Rests it where many atoms wait in it.
+    fn rest_many(&mut self) -> Result<(), AllocError>
+        ensures gathered { (p : ProgramValue) (text : List ℕ) → IsGathered p text self.old
+            → OnOk result (IsGathered p text self.new) }
+        ensures ops { self.new.ops ≡ self.old.ops }
+        ensures more { self.new.more ≡ self.old.more }
+    {
+        if self.pool.waiting() as u64 <= MOST_WAITING {
+            return Ok(());
+        }
+        self.rest()
+    }
+
+    /// One operation more, whose line ends where so many bytes are left.
+    fn push(&mut self, replica: u64, op: Op, more: usize) -> Result<(), AllocError>
+        requires { (self.old.ops.items ≡ []) ⊎ (self.old.replica ≡ replica) }
+        ensures gathered { (p : ProgramValue) (text : List ℕ) → IsGathered p text self.old
+            → AsksFirst p text self.old.more more (Tell replica op) → OnOk result (IsGathered p text self.new) }
+        ensures more { OnOk result (self.new.more ≡ more) }
+    {
+        self.pool.insert(op.bag().atoms())?;
+        self.ops.push(op)?;
+        self.replica = replica;
+        self.more = more;
+        self.rest_many()
+    }
+
+    /// Reads the next line, if it tells that replica an operation. Otherwise it is left to be read again.
+    fn take_line(
+        &mut self,
+        alloc: Global,
+        accepted: &Accepted,
+        text: &[u8],
+    ) -> Result<bool, AllocError>
+        requires { IsGathered (program_in accepted.now) text.now self.old }
+        ensures gathered { OnOk result (IsGathered (program_in accepted.now) text.now self.new) }
+        ensures shorter { IfOk result (λ taken. OnTrue taken (self.new.more < self.old.more)) }
+    {
+        let Some(heard) = read_one(alloc, accepted.program(), text, self.more) else {
+            return Ok(false);
+        };
+        let Heard { more, request, .. } = heard;
+        match request {
+            Some(Request::Tell(replica, op)) if self.goes_to(replica) => {
+                self.push(replica, op, more)?;
+                Ok(true)
+            }
+            _ => Ok(false),
+        }
+    }
+
+    /// All of them, if there are any, at rest.
+    fn rested(self, alloc: Global) -> Result<Option<Tells>, AllocError>
+        ensures { (p : ProgramValue) (text : List ℕ) → IsGathered p text self
+            → IfOk result (λ found. IfSome found (AreTells p text)) }
+    {
+        let mut gathering = self;
+        if gathering.ops.is_empty() {
+            return Ok(None);
+        }
+        gathering.rest()?;
+        let Gathering {
+            left,
+            more,
+            replica,
+            ops,
+            pool,
+        } = gathering;
+        let rested = pool.arranged(alloc)?;
+        Ok(Some(Tells {
+            left,
+            more,
+            replica,
+            ops,
+            rested,
+        }))
+    }
+}
+
+/// Reads the tells at the beginning of a piece, as far as they go to one replica, and rests them.
+pub(crate) fn gather(
+    alloc: Global,
+    accepted: &Accepted,
+    text: &[u8],
+    piece: Piece,
+) -> Result<Option<Tells>, AllocError>
+    ensures { IfOk result (λ found. IfSome found (AreTells (program_in accepted.now) text.now)) }
+{
+    let mut gathering = Gathering::open(alloc, accepted, piece.from)?;
+    while gathering.more > piece.to && gathering.ops.len() < MOST_LINES {
+        if !gathering.take_line(alloc, accepted, text)? {
+            break;
+        }
+    }
+    gathering.rested(alloc)
+}
