@@ -59,6 +59,7 @@ READ = 16_384
 BLOCK = 1_048_576
 MOST_LINES = 65_536
 LEAST_RESTED = 524_288
+MAX_TOLD = 1_000_000
 MAX_LINE = 1_048_576
 Line = tuple[str, str]
 
@@ -239,6 +240,16 @@ class Workers(unittest.TestCase):
             told_to.append(f'["show",{replica}]')
             shown.append(shortest(itertools.chain.from_iterable(mine)))
         self.expect_rested(told_to, answers + shown)
+
+    def test_the_limit_of_told_atoms(self) -> None:
+        """Operations that would pass it are refused, one by one, and smaller ones after them are told."""
+        told = routes(MAX_TOLD + 640, 12)
+        lines = [json.dumps(["tell", 1, [2, 1], [["path", 0, 0, 10**9]]]), *tells(told, 1)]
+        room = (MAX_TOLD - 1) // 64
+        last = json.dumps(["tell", 1, [2, 2], [["path", 0, 0, 10**9]]])
+        shown = shortest([(0, 0, 10**9), *told[: room * 64]])
+        answers = ["told", *["told"] * room, *["refused 34"] * (len(lines) - 1 - room), "told"]
+        self.expect_rested([*lines, last, '["show",1]'], [*answers, shown])
 
     def test_words(self) -> None:
         """The numbers have limits, and only commands that answer lines take them."""
