@@ -52,13 +52,12 @@ def shortest(all_routes: Iterable[Route]) -> str:
     return ", ".join(f"path({start},{end},{lengths[start, end]})" for start, end in sorted(lengths))
 
 
-# So many bytes come from a file at once; lines are read block by block, of so many bytes for each worker at most; so
-# many lines of a reader's piece of it are read ahead at most; and of a block of so many bytes or more tells are rested
-# by who reads them.
+# So many bytes come from a file at once, and are in the first block of lines; so many are in a block at most; so many
+# lines of a block are read ahead at most; and of a block of so many bytes or more tells are rested by who reads them.
 READ = 16_384
-BLOCK = 1_048_576
+BLOCK = 524_288
 MOST_LINES = 65_536
-LEAST_RESTED = 524_288
+LEAST_RESTED = 131_072
 MAX_TOLD = 1_000_000
 MAX_LINE = 1_048_576
 Line = tuple[str, str]
@@ -148,7 +147,7 @@ class Workers(unittest.TestCase):
                 self.assertEqual((status, first_apart(output, VERDICT + answers)), (0, None))
 
     def test_mixed_lines(self) -> None:
-        """Bad, blank and refused lines among others, in several batches of pieces."""
+        """Bad, blank and refused lines among others, in several blocks."""
         for count, seed in ((3, 1), (3_000, 2), (150_000, 3)):
             self.expect_read(*ended(mixed(count, seed), seed))
 
@@ -186,10 +185,10 @@ class Workers(unittest.TestCase):
         self.expect_read("".join(f"{line}\n" for line, _ in rows_of), "".join(answer for _, answer in rows_of))
 
     def test_short_lines(self) -> None:
-        """More lines in a piece than are read ahead, and blank ones alone."""
-        count = 2 * MOST_LINES + 5
+        """More lines in a block than are read ahead, and blank ones alone."""
+        count = 4 * MOST_LINES + 5
         self.expect_read("x\n" * count + '["show",1]\n', "refused 30\n" * count + "true\n")
-        self.expect_read("\n" * (20 * BLOCK) + '["show",1]\n', "true\n")
+        self.expect_read("\n" * (40 * BLOCK) + '["show",1]\n', "true\n")
 
     def expect_rested(self, lines: list[str], answers: list[str]) -> None:
         """So many lines that threads which read them rest what they tell."""

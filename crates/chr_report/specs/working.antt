@@ -12,4 +12,6 @@ pub mod Divided
 pub mod Serving
 pub mod Shortened
 pub mod Continuing
+pub mod BlockLines
+pub mod Readings
 pub mod Blocks

@@ -1,50 +1,53 @@
 //! Command lines that are read block by block, and answered meanwhile.
-ghost use Rattle.std.specs.Prelude.{◌≡◌, ◌<◌, ◌≤◌, Some, true, IfOk, IfSome, IsErrOf, OnOk, string_bytes, vec_len};
+ghost use Rattle.std.specs.Prelude.{◌≡◌, ◌<◌, ◌≤◌, [], ◌∷◌, ◌++◌, All, map, Some, false, true, IfOk, IfSome, IsErrOf};
+ghost use Rattle.std.specs.Prelude.{IsTrue, OnOk};
+ghost use Rattle.std.specs.Prelude.{string_bytes, vec_len};
+ghost use Rattle.std.specs.Arc.{arc_value};
 ghost use Rattle.std.specs.Bool.{OnTrue, OnFalse};
 ghost use Rattle.std.specs.Io.KnownBytes.{Appends, IsAtEnd};
 ghost use Rattle.std.specs.Thread.{IsSync};
 ghost use Rattle.chr_base.specs.Programs.{declarations, rules_of};
 ghost use Rattle.chr_device.specs.Devices.{ReadsOn, inner_of, has_failed};
 ghost use Rattle.chr_device.specs.declared.fault.RunFault.TheVariants.{Device, Memory};
-ghost use Rattle.chr_report.specs.Lines.{lines};
 ghost use Rattle.chr_join.specs.AcceptedPrograms.{program_in};
-ghost use Rattle.chr_report.specs.working.Ahead.{IsAhead};
+ghost use Rattle.chr_report.specs.Lines.{lines};
 ghost use Rattle.chr_report.specs.working.Answered.{AnswersRest};
-ghost use Rattle.chr_report.specs.working.Continuing.{AnswersLines};
-ghost use Rattle.chr_report.specs.working.Blocks.{AnswersBoth, AnswersNext, IsReady, IsTurn, begun_of, lines_of};
+ghost use Rattle.chr_report.specs.working.Blocks.{AnswersFirst, AreWhole, ReadsBlocks, blocks_of, left_of};
+ghost use Rattle.chr_report.specs.working.Readings.{Agree};
 ghost use Rattle.chr_report.specs.working.Services.{held, served, IsBetweenLines};
 ghost use Rattle.chr_report.specs.working.Serving.{AnswersInput};
 
-use crate::ahead::{Ahead, Readers};
+use crate::ahead::Ahead;
 use crate::answering::{Answering, answer_all, answer_lines};
 use crate::block::Block;
-use crate::promptly::join_promptly;
+use crate::readers::{Asking, Done, Task, do_task};
 use crate::service::Service;
+use chr_crew::{Known, beside_crew};
 use chr_device::{RunFault, Watched, read_on};
 use chr_join::Accepted;
+use crossbeam_channel::{Receiver, Sender, bounded};
 use std::alloc::{AllocError, Global};
+use std::collections::VecDeque;
 use std::io::Read;
+use std::marker::Brand;
 use std::mem::replace;
-use std::sync::Wait;
-use std::thread::{Threads, join};
+use std::sync::{Arc, Wait};
+use std::thread::Threads;
 
-/// So many bytes are read for each worker first, and then twice as many each time, so that little is waited for.
-const FIRST_SHARE: usize = 16_384;
+/// So many bytes are in a block first, and then twice as many each time, so that little is waited for.
+const FIRST_BLOCK: usize = 16_384;
 
-/// So many at most: threads are begun for each block, and lines are to be in a cache still when they are answered.
-const MOST_SHARE: usize = 1_048_576;
+/// So many at most: what was read is to be in a cache still when it is answered.
+const MOST_BLOCK: usize = 524_288;
 
-/// So many where what they tell is rested between blocks: it is to be in a cache then, too.
-const MOST_RESTED_SHARE: usize = 262_144;
+/// So many where what they tell is rested by workers between blocks: it is to be in a cache then, too.
+const MOST_RESTED_BLOCK: usize = 262_144;
 
-/// How many bytes are read for each worker at most.
-fn most_share(service: &Service) -> usize {
-    if service.rests_between() && !service.rests_ahead {
-        MOST_RESTED_SHARE
-    } else {
-        MOST_SHARE
-    }
-}
+/// So many blocks for each worker are read, or are to be read, before the first of them is answered.
+const BLOCKS_AHEAD: usize = 4;
+
+/// So many at most, for any number of workers.
+const MOST_AHEAD: usize = 32;
 
 /// Reads on from the beginning of a line, in a room that holds nothing else then: so many bytes at least, or as many as
 /// there are, and then true.
@@ -70,59 +73,60 @@ fn read_after<D: Read>(
     Ok(room.len() <= most)
 }
 
-/// Answers the lines of a text, some of which may have been read before their turn, while other threads read those of
-/// the text after it.
-fn answer_and_read<R: Threads + Wait + Sync>(
-    rt: &R,
-    alloc: Global,
-    accepted: &Accepted,
-    text: &[u8],
-    at: Answering,
-    ahead: Ahead,
-    next: &[u8],
-) -> Result<(Answering, Ahead), AllocError>
-    requires ready { IsBetweenLines at.service }
-    requires program { served at.service ≡ program_in accepted.now }
-    requires ahead { IsAhead (program_in accepted.now) text.now ahead }
-    ensures answered { IfOk result (λ r. AnswersLines text.now at r.0) }
-    ensures ahead { IfOk result (λ r. IsAhead (program_in accepted.now) next.now r.1) }
-{
-    let readers = at.service.readers_of(next);
-    if readers.count == 0 {
-        let at = answer_lines(rt, alloc, text, at, ahead)?;
-        return Ok((at, Ahead::none(alloc)));
+/// The room of a block that is answered, to be read into again.
+fn room_of(alloc: Global, block: Arc<Block>) -> Vec<u8> {
+    match Arc::try_unwrap(block) {
+        Ok(block) => block.bytes,
+        Err(_shared) => Vec::new(alloc),
     }
-    let (later, answered) = join(
-        rt,
-        || -> Ahead
-            requires { IsSync R.row × (1 ≤ readers.count) }
-            ensures { IsAhead (program_in accepted.entry.now) next.entry.now result }
-        { Ahead::read(rt, alloc, accepted, next, readers) },
-        move || -> Result<Answering, AllocError>
-            requires { IsBetweenLines at.service × IsAhead (served at.service) text.now ahead }
-            ensures { IfOk result (AnswersLines text.entry.now at) }
-        { answer_lines(rt, alloc, text, at, ahead) },
-    );
-    Ok((answered?, later))
 }
 
-/// Lines between two reads: by whom they are answered, those that come next and what was heard of them, a room for
-/// those after them, and how many bytes of these are to be read for each worker.
+/// A block that several threads may read.
+fn shared(alloc: Global, block: Block) -> Result<Arc<Block>, AllocError>
+    ensures { IfOk result (λ shared. arc_value shared ≡ block) }
+{
+    Arc::new(alloc, block).map_err(|_refused| AllocError)
+}
+
+/// One block more, after the others.
+fn push_last(blocks: &mut VecDeque<Arc<Block>>, block: Arc<Block>) -> Result<(), AllocError>
+    ensures { OnOk result (map (λ b. arc_value b) blocks.new.items
+        ≡ map (λ b. arc_value b) blocks.old.items ++ arc_value block ∷ []) }
+{
+    blocks.push_back(block)?;
+    Ok(())
+}
+
+/// Rests what was told, where so much waits that workers are to rest it: no thread reads lines then.
+fn rest_told<R: Threads + Wait + Sync, K: Known<Done>>(
+    rt: &R,
+    alloc: Global,
+    asking: &mut Asking<K>,
+    service: &mut Service,
+) -> Result<(), AllocError>
+    requires agree { Agree K.holds (program_in asking.old.accepted.now) }
+    requires ready { IsBetweenLines service.old }
+    ensures ready { OnOk result (IsBetweenLines service.new) }
+    ensures program { service.new.world.accepted ≡ service.old.world.accepted }
+    ensures operations { OnOk result (held service.new ≡ held service.old) }
+    ensures accepted { asking.new.accepted ≡ asking.old.accepted }
+{
+    if !service.is_to_rest() {
+        return Ok(());
+    }
+    asking.take_back(rt, alloc);
+    service.rest_between(rt, alloc)
+}
+
+/// Blocks of lines, in order: by whom they are answered, those that are to be read before their turn, the beginning of
+/// the line after them, a room for more bytes, how many of these are to be read, and whether all are.
 #[derive(Drop)]
 pub(crate) struct Blocks {
     pub(crate) at: Answering,
-    pub(crate) block: Block,
-    pub(crate) ahead: Ahead,
+    pub(crate) blocks: VecDeque<Arc<Block>>,
+    pub(crate) begun: Vec<u8>,
     pub(crate) room: Vec<u8>,
-    pub(crate) share: usize,
-}
-
-/// What comes of answering a block's lines: by whom the next ones are answered, and what was read after these, of which
-/// it is known whether it is all.
-#[derive(Drop)]
-pub(crate) struct Turn {
-    pub(crate) at: Answering,
-    pub(crate) room: Vec<u8>,
+    pub(crate) size: usize,
     pub(crate) ended: bool,
 }
 
@@ -134,170 +138,292 @@ impl Blocks {
         first: &[u8],
         out: String,
     ) -> Result<Blocks, AllocError>
-        requires { IsBetweenLines service }
-        ensures ready { IfOk result (IsReady (served service)) }
         ensures service { IfOk result (λ blocks. blocks.at.service ≡ service) }
         ensures out { IfOk result (λ blocks. blocks.at.out ≡ out) }
-        ensures first { IfOk result (λ blocks. blocks.block.bytes.items ≡ first.now) }
+        ensures first { IfOk result (λ blocks. left_of blocks ≡ first.now) }
+        ensures whole { IfOk result AreWhole }
+        ensures ended { IfOk result (λ blocks. blocks.ended ≡ false) }
     {
-        let mut bytes = Vec::new(alloc);
-        bytes.extend_from_slice(first)?;
+        let mut begun = Vec::new(alloc);
+        begun.extend_from_slice(first)?;
         Ok(Blocks {
             at: Answering {
                 service,
                 out,
                 left: 0,
             },
-            block: Block::of(bytes),
-            ahead: Ahead::none(alloc),
+            blocks: VecDeque::new(alloc),
+            begun,
             room: Vec::new(alloc),
-            share: FIRST_SHARE,
+            size: FIRST_BLOCK,
+            ended: false,
         })
     }
 
-    /// How many bytes are to be read next.
-    fn wanted(&self) -> usize {
-        self.share
-            .saturating_mul(self.at.service.sharing.workers as usize)
-    }
-
-    /// Answers the lines that come next, and then reads on, in the place of their bytes, from the beginning of a line.
-    fn answer_and_read_on<R: Threads + Wait + Sync, D: Read>(
-        self,
-        rt: &R,
-        alloc: Global,
-        reader: &mut Watched<D>,
-        begun: &[u8],
-        size: usize,
-    ) -> Result<Turn, RunFault>
-        requires { IsReady (served self.at.service) self }
-        ensures turn { IfOk result (λ turn. IsTurn self begun.now (D.remaining (inner_of reader.old))
-            (D.remaining (inner_of reader.new)) turn) }
-        ensures whole { OnOk result (has_failed reader.new ≡ has_failed reader.old) }
-        ensures device { IsErrOf result Device → has_failed reader.new ≡ true }
-        ensures memory { IsErrOf result Memory → has_failed reader.new ≡ has_failed reader.old }
-    {
-        let Blocks {
-            at,
-            block,
-            ahead,
-            ..
-        } = self;
-        let at = answer_lines(rt, alloc, block.lines(), at, ahead)?;
-        let mut room = block.bytes;
-        let ended = read_after(reader, begun, &mut room, size)?;
-        Ok(Turn { at, room, ended })
-    }
-
-    /// Does so while other threads read the lines of the next block, if any are worth it.
-    fn take_turn<R: Threads + Wait + Sync, D: Read>(
-        self,
-        rt: &R,
-        alloc: Global,
-        accepted: &Accepted,
-        reader: &mut Watched<D>,
-        next: &Block,
-        size: usize,
-    ) -> Result<(Turn, Ahead), RunFault>
-        requires { IsReady (served self.at.service) self }
-        ensures turn { IfOk result (λ r. IsTurn self (begun_of next.now) (D.remaining (inner_of reader.old))
-            (D.remaining (inner_of reader.new)) r.0) }
-        ensures ahead { IfOk result (λ r. IsAhead (program_in accepted.now) (lines_of next.now) r.1) }
-        ensures whole { OnOk result (has_failed reader.new ≡ has_failed reader.old) }
-        ensures device { IsErrOf result Device → has_failed reader.new ≡ true }
-        ensures memory { IsErrOf result Memory → has_failed reader.new ≡ has_failed reader.old }
-    {
-        let (lines, begun) = (next.lines(), next.begun());
-        let readers = self.at.service.readers_of(lines);
-        if readers.count == 0 {
-            let turn = self.answer_and_read_on(rt, alloc, reader, begun, size)?;
-            return Ok((turn, Ahead::none(alloc)));
+    /// As many blocks are read, or to be read, before the first is answered.
+    fn most(&self) -> usize {
+        match self.at.service.sharing.workers {
+            1 => 1,
+            workers => BLOCKS_AHEAD
+                .saturating_mul(workers as usize)
+                .min(MOST_AHEAD),
         }
-        let mut come = Some(self);
-        let mut there = || -> Ahead
-            requires { IsSync R.row × (1 ≤ readers.count) }
-            ensures { IsAhead (program_in accepted.entry.now) lines.entry.now result }
-        { Ahead::read(rt, alloc, accepted, lines, readers) };
-        let mut here = || -> Result<Turn, RunFault>
-            requires { IfSome come (λ blocks. IsReady (served blocks.at.service) blocks) }
-            ensures turn { IfSome come.entry (λ blocks. IfOk result (λ turn. IsTurn blocks begun.entry.now
-                (D.remaining (inner_of reader.entry.now)) (D.remaining (inner_of reader.exit.now)) turn)) }
-            ensures whole { OnOk result (has_failed reader.exit.now ≡ has_failed reader.entry.now) }
-            ensures device { IsErrOf result Device → has_failed reader.exit.now ≡ true }
-            ensures memory { IsErrOf result Memory → has_failed reader.exit.now ≡ has_failed reader.entry.now }
-        {
-            match come.take() {
-                Some(blocks) => blocks.answer_and_read_on(rt, alloc, reader, begun, size),
-                None => Err(RunFault::Memory),
-            }
-        };
-        let (ahead, turn) = join_promptly(rt, &mut there, &mut here);
-        Ok((turn?, ahead))
     }
 
-    /// Answers the lines that come next, and reads on, while those of the bytes in the room are read. Then it rests
-    /// what they told. True where all bytes are read.
-    fn go_on<R: Threads + Wait + Sync, D: Read>(
-        self,
+    /// How many bytes the next block is to have.
+    fn next_size(&self) -> usize {
+        let most = if self.at.service.rests_between() && !self.at.service.rests_ahead {
+            MOST_RESTED_BLOCK
+        } else {
+            MOST_BLOCK
+        };
+        self.size.saturating_mul(2).min(most)
+    }
+
+    /// Reads one block more.
+    fn read_block<R: Wait, D: Read, K: Known<Done>>(
+        &mut self,
         rt: &R,
         alloc: Global,
-        accepted: &Accepted,
+        asking: &mut Asking<K>,
         reader: &mut Watched<D>,
-    ) -> Result<(Blocks, bool), RunFault>
-        requires { IsReady (program_in accepted.now) self }
-        ensures ready { IfOk result (λ r. IsReady (program_in accepted.now) r.0) }
-        ensures answers { IfOk result (λ r. AnswersNext self r.0) }
-        ensures bytes { IfOk result (λ r. r.0.block.bytes ≡ self.room) }
-        ensures read { IfOk result (λ r. ReadsOn (D.remaining (inner_of reader.old))
-            (D.remaining (inner_of reader.new)) (begun_of r.0.block) r.0.room.items) }
-        ensures end { IfOk result (λ r. OnTrue r.1 (IsAtEnd (D.remaining (inner_of reader.new)))) }
+    ) -> Result<(), RunFault>
+        requires { Agree K.holds (program_in asking.old.accepted.now) }
+        ensures read { OnOk result (ReadsBlocks (D.remaining (inner_of reader.old)) (D.remaining (inner_of reader.new))
+            self.old self.new) }
+        ensures accepted { asking.new.accepted ≡ asking.old.accepted }
         ensures whole { OnOk result (has_failed reader.new ≡ has_failed reader.old) }
         ensures device { IsErrOf result Device → has_failed reader.new ≡ true }
         ensures memory { IsErrOf result Memory → has_failed reader.new ≡ has_failed reader.old }
     {
-        let mut blocks = self;
-        let room = replace(&mut blocks.room, Vec::new(alloc));
-        let next = Block::of(room);
-        let most = most_share(&blocks.at.service);
-        blocks.share = blocks.share.saturating_mul(2).min(most);
-        let (share, size) = (blocks.share, blocks.wanted());
-        let (turn, ahead) = blocks.take_turn(rt, alloc, accepted, reader, &next, size)?;
-        let Turn {
-            mut at,
-            room,
-            ended,
-        } = turn;
-        at.service.rest_between(rt, alloc)?;
-        let blocks = Blocks {
-            at,
-            block: next,
-            ahead,
-            room,
-            share,
-        };
-        Ok((blocks, ended))
+        let mut room = replace(&mut self.room, Vec::new(alloc));
+        self.ended = read_after(reader, &self.begun, &mut room, self.size)?;
+        let block = Block::of(room);
+        self.begun.clear();
+        self.begun.extend_from_slice(block.begun())?;
+        let block = shared(alloc, block)?;
+        asking.ask(rt, alloc, &block, self.at.service.readers())?;
+        push_last(&mut self.blocks, block)?;
+        self.size = self.next_size();
+        Ok(())
     }
 
-    /// Answers the lines that come next, and then all in the room.
-    fn end<R: Threads + Wait + Sync>(
+    /// Reads so many blocks that enough of them wait, or all that are left, where half of them were answered.
+    fn fill<R: Wait, D: Read, K: Known<Done>>(
+        &mut self,
+        rt: &R,
+        alloc: Global,
+        asking: &mut Asking<K>,
+        reader: &mut Watched<D>,
+    ) -> Result<(), RunFault>
+        requires { Agree K.holds (program_in asking.old.accepted.now) }
+        ensures read { OnOk result (ReadsBlocks (D.remaining (inner_of reader.old)) (D.remaining (inner_of reader.new))
+            self.old self.new) }
+        ensures accepted { asking.new.accepted ≡ asking.old.accepted }
+        ensures whole { OnOk result (has_failed reader.new ≡ has_failed reader.old) }
+        ensures device { IsErrOf result Device → has_failed reader.new ≡ true }
+        ensures memory { IsErrOf result Memory → has_failed reader.new ≡ has_failed reader.old }
+    {
+        if self.blocks.len() > self.most() / 2 {
+            return Ok(());
+        }
+        for _block in self.blocks.len()..self.most() {
+            if self.ended {
+                break;
+            }
+            self.read_block(rt, alloc, asking, reader)?;
+        }
+        Ok(())
+    }
+
+    /// Whether all is read, and no block waits.
+    fn is_done(&self) -> bool
+        ensures ended { IsTrue result → self.now.ended ≡ true }
+        ensures blocks { IsTrue result → blocks_of self.now ≡ [] }
+    {
+        self.ended && self.blocks.is_empty()
+    }
+
+    /// Answers the lines of the first block, if there is one.
+    fn answer_first<R: Threads + Wait + Sync, K: Known<Done>>(
         self,
         rt: &R,
         alloc: Global,
-        accepted: &Accepted,
-    ) -> Result<String, AllocError>
-        requires { IsReady (program_in accepted.now) self }
-        ensures { IfOk result (λ out. AnswersBoth self (string_bytes out)) }
+        asking: &mut Asking<K>,
+    ) -> Result<Blocks, AllocError>
+        requires ready { IsBetweenLines self.at.service }
+        requires program { served self.at.service ≡ program_in asking.old.accepted.now }
+        requires whole { AreWhole self }
+        requires agree { Agree K.holds (program_in asking.old.accepted.now) }
+        ensures answers { IfOk result (AnswersFirst self) }
+        ensures accepted { asking.new.accepted ≡ asking.old.accepted }
     {
+        let mut left = self;
+        let Some(block) = left.blocks.pop_front() else {
+            return Ok(left);
+        };
+        let ahead = asking.hear(rt, alloc, &block);
         let Blocks {
             at,
-            block,
-            ahead,
-            room,
+            blocks,
+            begun,
+            size,
+            ended,
             ..
-        } = self;
-        let (at, ahead) = answer_and_read(rt, alloc, accepted, block.lines(), at, ahead, &room)?;
-        answer_all(rt, alloc, &room, at, ahead)
+        } = left;
+        let mut at = answer_lines(rt, alloc, block.lines(), at, ahead)?;
+        rest_told(rt, alloc, asking, &mut at.service)?;
+        let room = room_of(alloc, block);
+        Ok(Blocks {
+            at,
+            blocks,
+            begun,
+            room,
+            size,
+            ended,
+        })
     }
+
+    /// Answers all lines after the last block.
+    fn end<R: Threads + Wait + Sync>(self, rt: &R, alloc: Global) -> Result<String, AllocError>
+        requires { IsBetweenLines self.at.service }
+        ensures { IfOk result (λ out. AnswersRest (declarations (served self.at.service))
+            (rules_of (served self.at.service)) (lines self.begun.items) (held self.at.service)
+            (string_bytes self.at.out) (string_bytes out)) }
+    {
+        let Blocks { at, begun, .. } = self;
+        answer_all(rt, alloc, &begun, at, Ahead::none(alloc))
+    }
+}
+
+/// Answers the lines of the bytes that were read first, and of all that come, after a text.
+fn answer_blocks<R: Threads + Wait + Sync, D: Read, K: Known<Done>>(
+    rt: &R,
+    alloc: Global,
+    asking: &mut Asking<K>,
+    service: Service,
+    first: &[u8],
+    reader: &mut Watched<D>,
+    text: String,
+) -> Result<String, RunFault>
+    requires program { served service ≡ program_in asking.old.accepted.now }
+    requires agree { Agree K.holds (program_in asking.old.accepted.now) }
+    requires ready { IsBetweenLines service }
+    ensures ok { IfOk result (λ out. AnswersInput (declarations (served service)) (rules_of (served service))
+        first.now (D.remaining (inner_of reader.old)) (held service)
+        (Appends (Some (string_bytes text)) (Some (string_bytes out)))) }
+    ensures end { OnOk result (IsAtEnd (D.remaining (inner_of reader.new))) }
+    ensures whole { OnOk result (has_failed reader.new ≡ has_failed reader.old) }
+    ensures device { IsErrOf result Device → has_failed reader.new ≡ true }
+    ensures memory { IsErrOf result Memory → has_failed reader.new ≡ has_failed reader.old }
+{
+    let mut blocks = Blocks::open(alloc, service, first, text)?;
+    for _block in 0..u64::MAX {
+        blocks.fill(rt, alloc, asking, reader)?;
+        if blocks.is_done() {
+            return Ok(blocks.end(rt, alloc)?);
+        }
+        blocks = blocks.answer_first(rt, alloc, asking)?;
+    }
+    reader.fail();
+    Err(RunFault::Device)
+}
+
+/// Does so, and asks other threads by tasks, of which these are left.
+fn answer_asking<R: Threads + Wait + Sync, D: Read, K: Known<Done>>(
+    rt: &R,
+    alloc: Global,
+    accepted: &Accepted,
+    tasks: Sender<Task<K>>,
+    left: &Receiver<Task<K>>,
+    service: Service,
+    first: &[u8],
+    reader: &mut Watched<D>,
+    text: String,
+) -> Result<String, RunFault>
+    requires agree { Agree K.holds (program_in accepted.now) }
+    requires program { served service ≡ program_in accepted.now }
+    requires ready { IsBetweenLines service }
+    ensures ok { IfOk result (λ out. AnswersInput (declarations (served service)) (rules_of (served service))
+        first.now (D.remaining (inner_of reader.old)) (held service)
+        (Appends (Some (string_bytes text)) (Some (string_bytes out)))) }
+    ensures end { OnOk result (IsAtEnd (D.remaining (inner_of reader.new))) }
+    ensures whole { OnOk result (has_failed reader.new ≡ has_failed reader.old) }
+    ensures device { IsErrOf result Device → has_failed reader.new ≡ true }
+    ensures memory { IsErrOf result Memory → has_failed reader.new ≡ has_failed reader.old }
+{
+    let mut asking = Asking {
+        accepted,
+        tasks,
+        left,
+        readings: VecDeque::new(alloc),
+    };
+    let answered = answer_blocks(rt, alloc, &mut asking, service, first, reader, text);
+    asking.leave(rt);
+    answered
+}
+
+/// Does so while other threads read lines before their turn.
+fn answer_beside<R: Threads + Wait + Sync, D: Read, K: Known<Done> + Send>(
+    rt: &R,
+    alloc: Global,
+    accepted: &Accepted,
+    service: Service,
+    first: &[u8],
+    reader: &mut Watched<D>,
+    text: String,
+) -> Result<String, RunFault>
+    requires agree { Agree K.holds (program_in accepted.now) }
+    requires program { served service ≡ program_in accepted.now }
+    requires ready { IsBetweenLines service }
+    ensures ok { IfOk result (λ out. AnswersInput (declarations (served service)) (rules_of (served service))
+        first.now (D.remaining (inner_of reader.old)) (held service)
+        (Appends (Some (string_bytes text)) (Some (string_bytes out)))) }
+    ensures end { OnOk result (IsAtEnd (D.remaining (inner_of reader.new))) }
+    ensures whole { OnOk result (has_failed reader.new ≡ has_failed reader.old) }
+    ensures device { IsErrOf result Device → has_failed reader.new ≡ true }
+    ensures memory { IsErrOf result Memory → has_failed reader.new ≡ has_failed reader.old }
+{
+    let workers = service.sharing.workers as usize;
+    let (tasks, left) = bounded(alloc, MOST_AHEAD)?;
+    if workers == 1 {
+        return answer_asking(
+            rt, alloc, accepted, tasks, &left, service, first, reader, text,
+        );
+    }
+    let task = |task: Task<K>|
+        requires { Agree K.holds (program_in accepted.now) }
+    { do_task(rt, alloc, accepted, task) };
+    let mut come = Some((service, text, tasks));
+    let mut here = || -> Result<String, RunFault>
+        requires ready { IfSome come (λ c. IsBetweenLines c.0) }
+        requires program { IfSome come (λ c. served c.0 ≡ program_in accepted.now) }
+        requires agree { Agree K.holds (program_in accepted.now) }
+        ensures ok { IfSome come.entry (λ c. IfOk result (λ out. AnswersInput (declarations (served c.0))
+            (rules_of (served c.0)) first.entry.now (D.remaining (inner_of reader.entry.now)) (held c.0)
+            (Appends (Some (string_bytes c.1)) (Some (string_bytes out))))) }
+        ensures end { OnOk result (IsAtEnd (D.remaining (inner_of reader.exit.now))) }
+        ensures whole { OnOk result (has_failed reader.exit.now ≡ has_failed reader.entry.now) }
+        ensures device { IsErrOf result Device → has_failed reader.exit.now ≡ true }
+        ensures memory { IsErrOf result Memory → has_failed reader.exit.now ≡ has_failed reader.entry.now }
+    {
+        match come.take() {
+            Some((service, text, tasks)) => {
+                answer_asking(
+                    rt, alloc, accepted, tasks, &left, service, first, reader, text,
+                )
+            }
+            None => Err(RunFault::Memory),
+        }
+    };
+    beside_crew(
+        rt,
+        alloc,
+        workers.saturating_sub(1),
+        &left,
+        &task,
+        &mut here,
+    )
 }
 
 /// Answers the lines of the bytes that were read first, and of all that come, after a text. The process is about to end
@@ -324,17 +450,5 @@ pub(crate) fn answer_input<R: Threads + Wait + Sync, D: Read>(
     ensures memory { IsErrOf result Memory → has_failed reader.new ≡ has_failed reader.old }
 {
     let accepted = service.world.program().clone()?;
-    let mut blocks = Blocks::open(alloc, service, first, text)?;
-    let size = blocks.wanted();
-    let mut ended = read_after(reader, blocks.block.begun(), &mut blocks.room, size)?;
-    for _turn in 0..u64::MAX {
-        if ended {
-            return Ok(blocks.end(rt, alloc, &accepted)?);
-        }
-        let (next, at_end) = blocks.go_on(rt, alloc, &accepted, reader)?;
-        blocks = next;
-        ended = at_end;
-    }
-    reader.fail();
-    Err(RunFault::Device)
+    answer_beside::<R, D, Brand>(rt, alloc, &accepted, service, first, reader, text)
 }

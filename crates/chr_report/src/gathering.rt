@@ -7,7 +7,7 @@ ghost use Rattle.chr_report.specs.declared.request.Request.TheVariants.{Tell};
 ghost use Rattle.chr_report.specs.working.Requests.{AsksFirst};
 ghost use Rattle.chr_report.specs.working.Gathered.{AreTells, IsGathered};
 
-use crate::ahead::{Heard, MOST_LINES, Piece, read_one};
+use crate::ahead::{Heard, MOST_LINES, read_one};
 use crate::request::Request;
 use crate::service::MOST_WAITING;
 use chr_base::atom::Atom;
@@ -152,17 +152,16 @@ impl Gathering {
     }
 }
 
-/// Reads the tells at the beginning of a piece, as far as they go to one replica, and rests them.
+/// Reads the tells at the beginning of a text, as far as they go to one replica, and rests them.
 pub(crate) fn gather(
     alloc: Global,
     accepted: &Accepted,
     text: &[u8],
-    piece: Piece,
 ) -> Result<Option<Tells>, AllocError>
     ensures { IfOk result (λ found. IfSome found (AreTells (program_in accepted.now) text.now)) }
 {
-    let mut gathering = Gathering::open(alloc, accepted, piece.from)?;
-    while gathering.more > piece.to && gathering.ops.len() < MOST_LINES {
+    let mut gathering = Gathering::open(alloc, accepted, text.len())?;
+    while gathering.more > 0 && gathering.ops.len() < MOST_LINES {
         if !gathering.take_line(alloc, accepted, text)? {
             break;
         }

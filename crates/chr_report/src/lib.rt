@@ -12,6 +12,7 @@ mod keeping;
 mod laws;
 mod one_text;
 mod promptly;
+mod readers;
 mod reply;
 mod request;
 mod resting;

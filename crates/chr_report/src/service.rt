@@ -18,9 +18,9 @@ ghost use Rattle.chr_report.specs.working.Requests.{AnswersRequest, FitsProgram}
 ghost use Rattle.chr_report.specs.working.Services.{held, served, was_stopped};
 ghost use Rattle.chr_report.specs.working.Services.{AreAtRest, HasLongRanges, IsBetweenLines};
 
-use crate::ahead::Readers;
 use crate::gathering::Tells;
 use crate::promptly::promptly;
+use crate::readers::Readers;
 use crate::reply::Reply;
 use crate::request::Request;
 use crate::resting::{rest_replica, tell_replica};
@@ -45,7 +45,10 @@ const WORTH_SHARING: u64 = 16_384;
 
 /// As many wait at most for several workers while lines are answered: threads that read others meanwhile would keep the
 /// workers from the processors, so most pools are rested between two blocks of lines.
-const MOST_SHARED: u64 = 3 * WORTH_SHARING;
+const MOST_SHARED: u64 = 4 * WORTH_SHARING;
+
+/// As many wait at most between two blocks of lines.
+const MOST_BETWEEN: u64 = 5 * WORTH_SHARING / 2;
 
 /// A pool that is not kept in several is rested by workers where this part of what its replica was told waits in it, or
 /// more: they cut all of it.
@@ -53,7 +56,7 @@ const LEAST_SHARE: u64 = 4;
 
 /// Tells are rested by the threads that read them as long as no more than one of so many of their atoms stays: what
 /// stays is rested once more.
-const MOST_STAYING: u64 = 4;
+const MOST_STAYING: u64 = 2;
 
 /// Replicas are counted from here.
 const FIRST_REPLICA: u64 = 1;
@@ -130,9 +133,12 @@ impl Service {
         self.world.program().program()
     }
 
-    /// Who reads these lines before their turn.
-    pub(crate) fn readers_of(&self, text: &[u8]) -> Readers {
-        Readers::of(text, self.sharing.workers, self.rests_ahead)
+    /// What other threads do with lines before their turn.
+    pub(crate) fn readers(&self) -> Readers {
+        Readers {
+            read: self.sharing.workers > 1,
+            rest: self.rests_ahead,
+        }
     }
 
     /// How many atoms a replica was told, and 0 where there is none.
@@ -268,6 +274,13 @@ impl Service {
     /// Whether workers rest what replicas were told between two blocks of lines.
     pub(crate) fn rests_between(&self) -> bool {
         self.is_in_pools(FIRST_REPLICA)
+    }
+
+    /// Whether so much waits in a pool that workers are to rest it before more lines are answered.
+    pub(crate) fn is_to_rest(&self) -> bool {
+        let last = self.rested.len() as u64;
+        self.rests_between()
+            && (FIRST_REPLICA..=last).any(|replica| self.waiting(replica) > MOST_BETWEEN)
     }
 
     /// Rests a replica's pool by workers, where it is kept in several and so much waits in it that they may save time.

@@ -6,12 +6,10 @@ pub returns-in-Some-clause-ahead : goal.returns-in-Some-clause-ahead
 returns-in-Some-clause-ahead c = λ p text are. record {
   tells = are.tells;
   heard = (taken (IsHeard p text) _ _ _ c.next.ensures.items are.heard).1;
-  pieces = are.pieces;
 }
 
 pub returns-in_default-clause-ahead : goal.returns-in_default-clause-ahead
 returns-in_default-clause-ahead c = λ p text are. record {
   tells = are.tells;
   heard = (taken (IsHeard p text) _ _ _ c.next.ensures.items are.heard).1;
-  pieces = are.pieces;
 }

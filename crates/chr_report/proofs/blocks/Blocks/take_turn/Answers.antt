@@ -1,6 +1,0 @@
-use Rattle.chr_join.specs.AcceptedPrograms.{program_in}
-use Rattle.chr_report.specs.working.Blocks.{lines_of}
-use Rattle.chr_report.proofs.blocks.Blocks.take_turn.Goals as goal
-
-pub returns-then-readers-eq0-clause-ahead : goal.returns-then-readers-eq0-clause-ahead
-returns-then-readers-eq0-clause-ahead g c = c.none.ensures (program_in c.args.accepted.now) (lines_of c.args.next.now)

@@ -1,0 +1,190 @@
+//! Blocks of command lines that other threads read before their turn.
+ghost use Rattle.std.specs.Prelude.{◌≡◌, IfSome, IsTrue};
+ghost use Rattle.chr_join.specs.AcceptedPrograms.{program_in};
+ghost use Rattle.chr_report.specs.working.Ahead.{IsAhead};
+ghost use Rattle.chr_report.specs.working.BlockLines.{lines_of};
+ghost use Rattle.chr_report.specs.working.Readings.{Agree, IsRead};
+
+use crate::ahead::Ahead;
+use crate::block::Block;
+use chr_crew::{Desk, Inbox, Known, open};
+use chr_join::Accepted;
+use crossbeam_channel::{Receiver, Sender};
+use std::alloc::{AllocError, Global};
+use std::collections::VecDeque;
+use std::sync::{Arc, Wait};
+
+/// Less than so many bytes are no work for another thread.
+const LEAST_READ: usize = 16_384;
+
+/// Tells are rested by the thread that reads them where so many bytes are read, or more: of fewer, too much may stay.
+const LEAST_RESTED: usize = 131_072;
+
+/// Whether other threads read lines before their turn, and whether they rest what these tell.
+#[derive(Clone, Copy, Debug, PartialEq, Eq)]
+pub(crate) struct Readers {
+    pub(crate) read: bool,
+    pub(crate) rest: bool,
+}
+
+/// What was read of a block, unless memory was refused.
+#[derive(Drop)]
+pub(crate) struct Done {
+    pub(crate) block: Arc<Block>,
+    pub(crate) ahead: Option<Ahead>,
+}
+
+/// A block that is to be read, whether its tells are to be rested, and from where what was read is sent.
+#[derive(Drop)]
+pub(crate) struct Task<K: Known<Done>> {
+    pub(crate) block: Arc<Block>,
+    pub(crate) rest: bool,
+    pub(crate) desk: Desk<Done, K>,
+}
+
+/// Whether a block has the lines of another.
+fn has_lines_of(block: &Block, other: &Block) -> bool
+    ensures { IsTrue result → lines_of block.now ≡ lines_of other.now }
+{
+    block.lines() == other.lines()
+}
+
+/// Reads a block.
+fn read_block(alloc: Global, accepted: &Accepted, block: Arc<Block>, rest: bool) -> Done
+    ensures { IsRead (program_in accepted.now) result }
+{
+    let ahead = Ahead::read(alloc, accepted, block.lines(), rest).ok();
+    Done { block, ahead }
+}
+
+/// Does a task.
+pub(crate) fn do_task<K: Known<Done>, R: Wait>(
+    rt: &R,
+    alloc: Global,
+    accepted: &Accepted,
+    task: Task<K>,
+)
+    requires { Agree K.holds (program_in accepted.now) }
+{
+    let Task { block, rest, desk } = task;
+    let mut desk = desk;
+    let done = read_block(alloc, accepted, block, rest);
+    let _heard = desk.send(rt, done);
+}
+
+/// How other threads are asked, and where what they read of the blocks that wait will come, in order, if they were
+/// asked. A task that no thread has begun is taken back.
+#[derive(Drop)]
+pub(crate) struct Asking<'a, K: Known<Done>> {
+    pub(crate) accepted: &'a Accepted,
+    pub(crate) tasks: Sender<Task<K>>,
+    pub(crate) left: &'a Receiver<Task<K>>,
+    pub(crate) readings: VecDeque<Option<Inbox<Done, K>>>,
+}
+
+impl<'a, K: Known<Done>> Asking<'a, K> {
+    /// Asks for the lines of a block, if memory is left for that.
+    fn task<R: Wait>(
+        &self,
+        rt: &R,
+        alloc: Global,
+        block: &Arc<Block>,
+        rest: bool,
+    ) -> Option<Inbox<Done, K>> {
+        let block = Arc::try_clone(block).ok()?;
+        let (desk, inbox) = open(alloc, 1).ok()?;
+        self.tasks.send(rt, Task { block, rest, desk }).ok()?;
+        Some(inbox)
+    }
+
+    /// Has one block more wait. Other threads read it meanwhile if it is long, and rest its tells if that is wanted.
+    pub(crate) fn ask<R: Wait>(
+        &mut self,
+        rt: &R,
+        alloc: Global,
+        block: &Arc<Block>,
+        readers: Readers,
+    ) -> Result<(), AllocError>
+        ensures { self.new.accepted ≡ self.old.accepted }
+    {
+        let len = block.lines().len();
+        let reading = if readers.read && len >= LEAST_READ {
+            self.task(rt, alloc, block, readers.rest && len >= LEAST_RESTED)
+        } else {
+            None
+        };
+        self.readings
+            .push_back(reading)
+            .map_err(|_refused| AllocError)
+    }
+
+    /// What comes of a task. While it isn't there, blocks that no thread has begun are read here.
+    fn done_of<R: Wait>(&self, rt: &R, alloc: Global, inbox: Inbox<Done, K>) -> Option<Done>
+        requires { Agree K.holds (program_in self.now.accepted.now) }
+        ensures { IfSome result K.holds }
+    {
+        let mut inbox = inbox;
+        for _task in rt.forever() {
+            if let Some(done) = inbox.try_recv(rt) {
+                return Some(done);
+            }
+            match self.left.try_recv(rt) {
+                Ok(task) => do_task(rt, alloc, self.accepted, task),
+                Err(_none) => return inbox.recv(rt),
+            }
+        }
+        None
+    }
+
+    /// What was read, if it was read of this block.
+    fn known_of(&self, alloc: Global, block: &Block, done: Done) -> Ahead
+        requires agree { Agree K.holds (program_in self.now.accepted.now) }
+        requires known { K.holds done }
+        ensures { IsAhead (program_in self.now.accepted.now) (lines_of block.now) result }
+    {
+        let Done { block: of, ahead } = done;
+        if !has_lines_of(&of, block) {
+            return Ahead::none(alloc);
+        }
+        match ahead {
+            Some(ahead) => ahead,
+            None => Ahead::none(alloc),
+        }
+    }
+
+    /// What was read of the first block that waits, which waits no longer.
+    pub(crate) fn hear<R: Wait>(&mut self, rt: &R, alloc: Global, block: &Block) -> Ahead
+        requires { Agree K.holds (program_in self.old.accepted.now) }
+        ensures ahead { IsAhead (program_in self.old.accepted.now) (lines_of block.now) result }
+        ensures accepted { self.new.accepted ≡ self.old.accepted }
+    {
+        let Some(Some(inbox)) = self.readings.pop_front() else {
+            return Ahead::none(alloc);
+        };
+        match self.done_of(rt, alloc, inbox) {
+            Some(done) => self.known_of(alloc, block, done),
+            None => Ahead::none(alloc),
+        }
+    }
+
+    /// Reads the blocks that no thread has begun.
+    pub(crate) fn take_back<R: Wait>(&self, rt: &R, alloc: Global)
+        requires { Agree K.holds (program_in self.now.accepted.now) }
+    {
+        for _task in rt.forever() {
+            let Ok(task) = self.left.try_recv(rt) else {
+                return;
+            };
+            do_task(rt, alloc, self.accepted, task);
+        }
+    }
+
+    /// Lets go of the blocks that no thread has begun: where a run ends early they aren't to be read any more.
+    pub(crate) fn leave<R: Wait>(&self, rt: &R) {
+        for _task in rt.forever() {
+            if self.left.try_recv(rt).is_err() {
+                return;
+            }
+        }
+    }
+}
