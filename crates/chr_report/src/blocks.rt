@@ -40,11 +40,14 @@ const FIRST_BLOCK: usize = 16_384;
 /// So many at most: what was read is to be in a cache still when it is answered.
 const MOST_BLOCK: usize = 524_288;
 
-/// So many where what they tell is rested by workers between blocks: it is to be in a cache then, too.
-const MOST_RESTED_BLOCK: usize = 262_144;
+/// So many where threads that read rest nothing: what was told is to be in a cache when it is rested, too.
+const MOST_UNRESTED_BLOCK: usize = 262_144;
 
 /// So many blocks for each worker are read, or are to be read, before the first of them is answered.
-const BLOCKS_AHEAD: usize = 4;
+const BLOCKS_AHEAD: usize = 2;
+
+/// So many where threads that read rest what is told: of few such tasks the last one would be waited for.
+const RESTED_AHEAD: usize = 4;
 
 /// So many at most, for any number of workers.
 const MOST_AHEAD: usize = 32;
@@ -160,22 +163,27 @@ impl Blocks {
         })
     }
 
-    /// As many blocks are read, or to be read, before the first is answered.
+    /// As many blocks are read, or to be read, before the first is answered: fewer while it isn't known whether threads
+    /// that read are to rest what is told, and where they rest nothing. Then others wait for the one that answers.
     fn most(&self) -> usize {
-        match self.at.service.sharing.workers {
-            1 => 1,
-            workers => BLOCKS_AHEAD
-                .saturating_mul(workers as usize)
-                .min(MOST_AHEAD),
+        let workers = self.at.service.sharing.workers as usize;
+        if workers == 1 {
+            return 1;
         }
+        let ahead = if self.at.service.rests_ahead && self.size == MOST_BLOCK {
+            RESTED_AHEAD
+        } else {
+            BLOCKS_AHEAD
+        };
+        ahead.saturating_mul(workers).min(MOST_AHEAD)
     }
 
     /// How many bytes the next block is to have.
     fn next_size(&self) -> usize {
-        let most = if self.at.service.rests_between() && !self.at.service.rests_ahead {
-            MOST_RESTED_BLOCK
-        } else {
+        let most = if self.at.service.rests_ahead {
             MOST_BLOCK
+        } else {
+            MOST_UNRESTED_BLOCK
         };
         self.size.saturating_mul(2).min(most)
     }
