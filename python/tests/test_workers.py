@@ -214,6 +214,23 @@ class Workers(unittest.TestCase):
         lines = [*tells(told, 1), '["show",1]']
         self.expect_rested(lines, ["told"] * (len(lines) - 1) + [shortest(told)])
 
+    def test_stores_of_several_symbols(self) -> None:
+        """Atoms of some symbols, told in no order: symbols are shown by their names, and atoms by their arguments."""
+        rng = random.Random(1)
+        facts: list[tuple[str | int, ...]] = [("zero",), ("zero",)]
+        for number in rng.sample(range(-50_000, 50_000), 60_000):
+            shapes = (("pair", number, -number), ("item", number), ("last", 3, number, 3), ("pair", 0, number))
+            facts.append(shapes[number % 4])
+        text = ":- chr_constraint pair/2, zero/0, item/1, last/3.\nitem(X) \\ item(X) <=> true.\n---\n"
+        for start in range(0, len(facts), 64):
+            text += json.dumps(["tell", 1, [1, start + 1], facts[start : start + 64]]) + "\n"
+        facts.sort(key=lambda fact: (fact[0], fact[1:]))
+        atoms = [f"{name}({','.join(map(str, values))})" if values else name for name, *values in facts]
+        for workers in (1, 2, 4, 16):
+            with self.subTest(workers=workers):
+                status, output = shared("run", workers, 16, text + '["show",1]\n')
+                self.assertEqual((status, first_apart(output.splitlines()[-1], ", ".join(map(str, atoms)))), (0, None))
+
     def test_some_are_told_again(self) -> None:
         """Operations that are held, or told twice among new ones, or under the id of another one."""
         told = routes(200_000, 12)

@@ -25,3 +25,4 @@ pub mod Running
 pub mod Local
 pub mod Pooled
 pub mod Printed
+pub mod Portioned

@@ -1,15 +1,21 @@
 -- Atoms that are printed one after another, and their text.
 use Rattle.std.proofs.Common.{◌≡◌, ℕ, zero, suc, ◌+◌, ◌-◌, ◌<◌, Bool, true, false, List, [], ◌∷◌, ◌++◌, length, map}
 use Rattle.std.specs.Prelude.{ℤ}
-use Rattle.std.proofs.Common.{set, take, get_or, refl, sym, ap, subst, ◌∙◌, append_assoc, arith}
-use Rattle.std.specs.Prelude.{Option, Some, None, Result, Ok, Err, OnOk, slice_get, codes, filter, is_some}
+use Rattle.std.proofs.Common.{set, take, get_or, refl, sym, ap, subst, ◌∙◌, append_assoc, arith, true≢false}
+use Rattle.std.specs.Prelude.{Option, Some, None, Result, Ok, Err, OnOk, IsTrue, slice_get, codes, filter, is_some}
 use Rattle.std.specs.Borrow.{Bor}
-use Rattle.std.specs.List.{flat_map}
-use Rattle.std.proofs.lemmas.List.{flat_map_more, nil_from_length, map_more, map_push, take_more}
+use Rattle.std.specs.List.{All, flat_map}
+use Rattle.std.proofs.lemmas.List.{append-nil, flat_map_more, length-append, length-map, nil_from_length, map_more}
+use Rattle.std.proofs.lemmas.List.{map_push, take_more, take_more_set}
+use Rattle.std.proofs.lemmas.List.Elements.{All-append, All-cons, All-nil}
+use Rattle.std.specs.List.Sorted.{IsPermutation}
+use Rattle.std.proofs.lemmas.List.Sorted.{All-permutation}
 use Rattle.std.specs.Ordering.{is_gt}
 use Rattle.chr_base.specs.declared.atom.Atom.{Atom}
 use Rattle.chr_base.specs.ProgramTests.{Declaration}
-use Rattle.chr_base.specs.Texts.{print_cmp, atoms_text}
+use Rattle.chr_base.specs.FinBag.{is_rising}
+use Rattle.chr_base.specs.Texts.{print_cmp, atom_text, atoms_text}
+use Rattle.chr_base.proofs.InRuns.{joined}
 use Rattle.chr_base.proofs.Ordered.{rising_append}
 use Rattle.chr_base.proofs.Printing.{print_total}
 use Rattle.chr_base.specs.FinBag.{empty, ◌⊕◌}
@@ -22,7 +28,8 @@ use Rattle.chr_tables.specs.Contents.{Contents}
 use Rattle.chr_columns.specs.declared.flat.Flat.{Flat}
 use Rattle.chr_columns.specs.working.Resting.{grid}
 use Rattle.chr_columns.specs.working.Printing.{flat_atom, flat_atoms, flat_rows, flats_atoms, rows_at}
-use Rattle.chr_columns.specs.working.Printing.{joined_text, IsWritten, Rises}
+use Rattle.chr_columns.specs.declared.printing.Turn.{Turn}
+use Rattle.chr_columns.specs.working.Printing.{joined_text, Fit, Fits, IsWritten, IsWrittenOut, Rises}
 use Rattle.chr_columns.proofs.Firings.{swap_sides}
 use Rattle.chr_columns.proofs.Tidying.{live_filter}
 
@@ -164,3 +171,108 @@ tables_same s before tables i t l is none h =
     h ∙ ap (λ u. s ⊕ u) (sym (grid_more tables i t l is
     ∙ ap (λ xs. rest ⊕ store_of xs) (none_live t.rows none) ∙ ap (λ u. rest ⊕ u) (of_list-none atom_cmp)
     ∙ plus_empty rest))
+
+-- the atom of a row, by its place
+row_at : {X : Type 0} (g : X → Atom) (xs : List X) (i : ℕ) → get_or (map (λ x. Some (g x)) xs) i None
+    ≡ slice_get (map g xs) i
+row_at g [] i = refl
+row_at g (x ∷ xs) zero = refl
+row_at g (x ∷ xs) (suc i) = row_at g xs i
+
+pub flat_row : (f : Flat) (i : ℕ) → get_or (flat_rows f) i None ≡ slice_get (flat_atoms f) i
+flat_row f i = row_at (flat_atom f) f.rows.items i
+
+pub as_many_atoms : (f : Flat) → length (flat_atoms f) ≡ length f.rows.items
+as_many_atoms f = length-map f.rows.items (flat_atom f)
+
+-- the last one of both lists is that of the second
+last_of_both : (xs ys : List Atom) (a : Atom) → slice_get ys (length ys - 1) ≡ Some a
+    → slice_get (xs ++ ys) (length (xs ++ ys) - 1) ≡ Some a
+last_of_both [] ys a e = e
+last_of_both (x ∷ xs) [] a e = absurd (let f : ◌≡◌ {A = Option Atom} None (Some a) = e in cc)
+last_of_both (x ∷ xs) (y ∷ ys) a e =
+    let more : 0 < length (xs ++ y ∷ ys) = omega (arith, length-append xs (y ∷ ys)) in
+    let on : length (x ∷ xs ++ y ∷ ys) - 1 ≡ suc (length (xs ++ y ∷ ys) - 1) = omega (arith, more) in
+    ap (slice_get (x ∷ xs ++ y ∷ ys)) on ∙ last_of_both xs (y ∷ ys) a e
+
+-- atoms that rise behind others, of which the first isn't printed before the last one of these
+pub rises_on : (ds : List Declaration) (xs ys : List Atom) (last : Option Atom) (first end : Atom) → Rises ds xs last
+    → IsTrue (is_rising (print_cmp ds) ys) → slice_get ys 0 ≡ Some first → slice_get ys (length ys - 1) ≡ Some end
+    → ((x : Atom) → last ≡ Some x → is_gt (print_cmp ds x first) ≡ false) → Rises ds (xs ++ ys) (Some end)
+rises_on ds xs ys last first end h rise f e after = record {
+  rises = rising_append (print_total ds) xs ys h.rises rise (λ x y k l.
+      let same : first ≡ y = let s : Some first ≡ Some y = sym f ∙ l in cc in
+      subst (λ z. is_gt (print_cmp ds x z) ≡ false) same (after x (h.last_is ∙ k)));
+  last_is = sym (last_of_both xs ys end e);
+}
+
+-- what joins two texts
+joined_both : (ds : List Declaration) (x y : Atom) (xs ys : List Atom) → joined_text ds ((x ∷ xs) ++ y ∷ ys)
+    ≡ joined_text ds (x ∷ xs) ++ codes ", " ++ joined_text ds (y ∷ ys)
+joined_both ds x y xs ys =
+    joined ds (x ∷ xs) (y ∷ ys) (omega arith)
+    ∙ ap (λ t. atoms_text ds (x ∷ xs) ++ t) (append_assoc (codes ", ") (atom_text ds y) _)
+    ∙ sym (append_assoc (atoms_text ds (x ∷ xs)) (codes ", ") (atoms_text ds (y ∷ ys)))
+
+-- a text that is written behind others
+pub written_none : (ds : List Declaration) (start text : List ℕ) (xs ys : List Atom) (started : Bool) → ys ≡ []
+    → IsWritten ds start xs started text → IsWritten ds start (xs ++ ys) started text
+written_none ds start text xs ys started none h =
+    subst (λ zs. IsWritten ds start zs started text) (sym (ap (λ zs. xs ++ zs) none ∙ append-nil xs)) h
+
+pub written_first : (ds : List Declaration) (start text new : List ℕ) (xs ys : List Atom) → 0 < length ys
+    → IsWritten ds start xs false text → new ≡ text ++ joined_text ds ys → IsWritten ds start (xs ++ ys) true new
+written_first ds start text new xs ys more h e =
+    let none = h.none refl in
+    let alone : xs ++ ys ≡ ys = ap (λ zs. zs ++ ys) none in record {
+      text_is = e ∙ ap (λ t. t ++ joined_text ds ys) (h.text_is ∙ ap (λ zs. start ++ joined_text ds zs) none
+          ∙ append-nil start) ∙ ap (λ zs. start ++ joined_text ds zs) (sym alone);
+      some = λ _. rw alone more;
+      none = λ no. absurd (true≢false no);
+    }
+
+pub written_more : (ds : List Declaration) (start text new : List ℕ) (xs ys : List Atom) → 0 < length ys
+    → IsWritten ds start xs true text → new ≡ text ++ codes ", " ++ joined_text ds ys
+    → IsWritten ds start (xs ++ ys) true new
+written_more ds start text new [] ys more h e = absurd (omega (arith, h.some refl))
+written_more ds start text new (x ∷ xs) [] more h e = absurd (omega (arith, more))
+written_more ds start text new (x ∷ xs) (y ∷ ys) more h e = record {
+  text_is = e ∙ ap (λ t. t ++ codes ", " ++ joined_text ds (y ∷ ys)) h.text_is
+      ∙ ap (λ t. t ++ joined_text ds (y ∷ ys)) (append_assoc start (joined_text ds (x ∷ xs)) (codes ", "))
+      ∙ append_assoc start (joined_text ds (x ∷ xs) ++ codes ", ") (joined_text ds (y ∷ ys))
+      ∙ ap (λ t. start ++ t) (sym (joined_both ds x y xs ys));
+  some = λ _. omega (arith, length-append (x ∷ xs) (y ∷ ys));
+  none = λ no. absurd (true≢false no);
+}
+
+-- one turn more
+pub fit_more : (ds : List Declaration) (turns : List Turn) (t : Turn) → Fits ds t.source → Fit ds turns
+    → Fit ds (turns ++ t ∷ [])
+fit_more ds turns t one all =
+    let P : Turn → Type 0 = λ u. Fits ds u.source in
+    All-append P turns (t ∷ []) all (All-cons P t [] one (All-nil P))
+
+-- one more of those that are written out
+pub one_written : (ds : List Declaration) (fs : List Flat) (i : ℕ) (g : Flat) → i < length fs
+    → All (IsWrittenOut ds) (take i fs) → IsWrittenOut ds g → All (IsWrittenOut ds) (take (i + 1) (set fs i g))
+one_written ds fs i g l before one =
+    subst (All (IsWrittenOut ds)) (sym (take_more_set fs i g l))
+    (All-append (IsWrittenOut ds) (take i fs) (g ∷ []) before (All-cons (IsWrittenOut ds) g [] one
+    (All-nil (IsWrittenOut ds))))
+
+-- the atoms of one place stay
+pub one_same : (fs : List Flat) (i : ℕ) (f g : Flat) → i < length fs → f ≡ get_or fs i f
+    → flat_atoms g ≡ flat_atoms f → flats_atoms (set fs i g) ≡ flats_atoms fs
+one_same [] i f g l is e = absurd (omega (arith, l))
+one_same (h ∷ fs) zero f g l is e = ap (λ xs. xs ++ flats_atoms fs) (e ∙ ap flat_atoms is)
+one_same (h ∷ fs) (suc i) f g l is e = ap (λ xs. flat_atoms h ++ xs) (one_same fs i f g (omega (arith, l)) is e)
+
+pub on_ok_then : {A E P Q : Type 0} (r : Result A E) → (P → Q) → OnOk r P → OnOk r Q
+on_ok_then (Ok x) f h = f h
+on_ok_then (Err x) f h = tt
+
+-- turns in another order
+pub fit_shuffled : (ds : List Declaration) (turns sorted shown : List Turn) → IsPermutation turns sorted
+    → shown ≡ sorted → Fit ds turns → Fit ds shown
+fit_shuffled ds turns sorted shown p same all =
+    subst (Fit ds) (sym same) (All-permutation (λ t. Fits ds t.source) turns sorted p all)

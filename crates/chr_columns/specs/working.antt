@@ -9,3 +9,4 @@ pub mod Finding
 pub mod Sitting
 pub mod Candidates
 pub mod Printing
+pub mod Portions

@@ -1,5 +1,6 @@
 //! Atoms of one symbol, by their arguments alone.
-ghost use Rattle.std.specs.Prelude.{◌≡◌, ◌≤◌, ◌++◌, ◌∷◌, [], None, Some, length, take, get_or, IsTrue, OnOk};
+ghost use Rattle.std.specs.Prelude.{◌≡◌, ◌-◌, ◌≤◌, ◌++◌, ◌∷◌, [], None, Some, length, take, get_or, slice_get};
+ghost use Rattle.std.specs.Prelude.{IfNone, IfSome, IsTrue, OnOk};
 ghost use Rattle.std.specs.Bool.{OnTrue, OnFalse};
 ghost use Rattle.std.specs.List.Sorted.{IsPermutation};
 ghost use Rattle.chr_columns.specs.declared.flat.TheConstants.{FLAT_ARITY};
@@ -11,12 +12,14 @@ use std::alloc::{AllocError, Global};
 /// Atoms that have more arguments are not kept in rows of their own.
 pub(crate) const FLAT_ARITY: usize = 3;
 
-/// Atoms of one symbol and number of arguments. Each has a row: its arguments, and noughts behind them.
+/// Atoms of one symbol and number of arguments. Each has a row: its arguments, and noughts behind them. Their text is
+/// empty until it is written.
 #[derive(Drop)]
 pub(crate) struct Flat {
     pub(crate) symbol: SymbolId,
     pub(crate) arity: usize,
     pub(crate) rows: Vec<[i64; FLAT_ARITY]>,
+    pub(crate) text: String,
 }
 
 /// The values, and noughts behind them.
@@ -42,6 +45,7 @@ impl Flat {
             symbol,
             arity,
             rows: Vec::new(alloc),
+            text: String::new(alloc),
         }
     }
 
@@ -74,6 +78,29 @@ impl Flat {
         let values = &self.rows[row];
         atom.set(self.symbol, &values[..self.arity.min(FLAT_ARITY)]);
         true
+    }
+
+    /// The atom of a row.
+    fn atom_at(&self, row: usize) -> Option<Atom>
+        ensures { result ≡ slice_get (flat_atoms self.now) row }
+    {
+        let mut atom = Atom::default();
+        if self.read(row, &mut atom) {
+            Some(atom)
+        } else {
+            None
+        }
+    }
+
+    /// The atoms of the first row and of the last one.
+    pub(crate) fn ends(&self) -> Option<(Atom, Atom)>
+        ensures first { IfSome result (λ ends. slice_get (flat_atoms self.now) 0 ≡ Some ends.0) }
+        ensures last { IfSome result (λ ends.
+            slice_get (flat_atoms self.now) (length (flat_atoms self.now) - 1) ≡ Some ends.1) }
+        ensures none { IfNone result (flat_atoms self.now ≡ []) }
+    {
+        let last = self.rows.len().checked_sub(1)?;
+        Some((self.atom_at(0)?, self.atom_at(last)?))
     }
 
     /// Puts the rows in order.

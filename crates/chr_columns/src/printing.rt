@@ -1,28 +1,33 @@
 //! The text of a store whose atoms sit in tables: they are written from their rows, and no list of them is made.
-ghost use Rattle.std.specs.Prelude.{◌≡◌, ◌++◌, ◌∷◌, [], ◌<◌, ◌≤◌, List, ℕ, None, Some, length, get_or, false};
+ghost use Rattle.std.specs.Prelude.{◌≡◌, ◌++◌, ◌∷◌, [], List, ℕ, ℤ, None, Some, length, get_or, false};
 ghost use Rattle.std.specs.Prelude.{IfOk, IfSome, OnOk, IsTrue, codes, map, string_bytes};
 ghost use Rattle.std.specs.Bool.{OnTrue, OnFalse};
+ghost use Rattle.std.specs.List.{All};
 ghost use Rattle.std.specs.List.Sorted.{IsPermutation};
 ghost use Rattle.std.specs.Ordering.{is_gt};
 ghost use Rattle.chr_base.specs.declared.atom.Atom.{Atom as AtomValue};
 ghost use Rattle.chr_base.specs.FinBag.{◌⊕◌, is_rising};
 ghost use Rattle.chr_base.specs.Programs.{declarations};
+ghost use Rattle.chr_base.specs.ProgramTests.{Declaration};
 ghost use Rattle.chr_base.specs.Stores.{store_of};
 ghost use Rattle.chr_base.specs.Texts.{print_cmp, atom_text, atoms_text, store_text};
 ghost use Rattle.chr_plans.specs.Grids.{contents, live_atoms};
-ghost use Rattle.chr_columns.specs.declared.flat.Flat.{Flat as FlatValue};
-ghost use Rattle.chr_columns.specs.declared.flat.TheConstants.{FLAT_ARITY};
-ghost use Rattle.chr_columns.specs.working.Printing.{turn_rows, turn_atoms, all_atoms, flats_atoms, rows_at};
-ghost use Rattle.chr_columns.specs.working.Printing.{flat_atoms, has_shape, IsWritten, Rises};
+ghost use Rattle.chr_columns.specs.working.Portions.{ArePortions};
+ghost use Rattle.chr_columns.specs.working.Printing.{turn_rows, all_atoms, flat_atoms, flats_atoms, rows_at};
+ghost use Rattle.chr_columns.specs.working.Printing.{Fit, Fits, IsWritten, IsWrittenOut, Rises};
 ghost use Rattle.chr_columns.specs.working.Resting.{grid};
 
-use crate::flat::{FLAT_ARITY, Flat};
+use crate::flat::Flat;
+use crate::flats::{flats_of, sort_each};
+use crate::portions::cuts_of;
+use crate::writing::portions_of;
 use chr_base::atom::Atom;
 use chr_base::program::Program;
 use chr_base::text::{is_printed_after, push_atom};
 use chr_tables::table::Table;
 use std::alloc::{AllocError, Global};
 use std::cmp::Ordering;
+use std::thread::Threads;
 
 /// Where the atoms of a turn are.
 #[derive(Drop)]
@@ -31,6 +36,8 @@ pub(crate) enum Source<'a> {
     Table(&'a Table),
     /// In rows of their own.
     Flat(&'a Flat),
+    /// In rows of their own, which are in order, and whose text is written.
+    Written(&'a Flat),
 }
 
 /// Atoms that are written one after another, and the first of them.
@@ -42,7 +49,7 @@ pub(crate) struct Turn<'a> {
 
 /// The given atom becomes that of a row of the table, where the row lives.
 #[inline(always)]
-fn read_live(table: &Table, row: usize, atom: &mut Atom) -> bool
+pub(crate) fn read_live(table: &Table, row: usize, atom: &mut Atom) -> bool
     ensures there { OnTrue result (get_or table.now.rows row None ≡ Some atom.new) }
     ensures none { OnFalse result (get_or table.now.rows row None ≡ None) }
 {
@@ -60,7 +67,7 @@ impl<'a> Source<'a> {
     {
         match self {
             Source::Table(table) => table.len(),
-            Source::Flat(flat) => flat.rows.len(),
+            Source::Flat(flat) | Source::Written(flat) => flat.rows.len(),
         }
     }
 
@@ -72,7 +79,7 @@ impl<'a> Source<'a> {
     {
         match self {
             Source::Table(table) => read_live(table, row, atom),
-            Source::Flat(flat) => flat.read(row, atom),
+            Source::Flat(flat) | Source::Written(flat) => flat.read(row, atom),
         }
     }
 
@@ -126,7 +133,7 @@ fn keep_last(last: &mut Option<Atom>, atom: &Atom)
 }
 
 /// Whether the atoms are in the order in which they are printed, each of them and the last one before them.
-fn follow(program: &Program, last: &mut Option<Atom>, source: &Source) -> bool
+pub(crate) fn follow_rows(program: &Program, last: &mut Option<Atom>, source: &Source) -> bool
     ensures { OnTrue result ((before : List AtomValue) → Rises (declarations program.now) before last.old →
         Rises (declarations program.now) (before ++ live_atoms (turn_rows source.now)) last.new) }
 {
@@ -142,8 +149,37 @@ fn follow(program: &Program, last: &mut Option<Atom>, source: &Source) -> bool
     true
 }
 
+/// The same of atoms whose text is written: of the first one alone.
+fn follow_written(program: &Program, last: &mut Option<Atom>, flat: &Flat) -> bool
+    requires { IsWrittenOut (declarations program.now) flat.now }
+    ensures { OnTrue result ((before : List AtomValue) → Rises (declarations program.now) before last.old →
+        Rises (declarations program.now) (before ++ flat_atoms flat.now) last.new) }
+{
+    let Some((first, end)) = flat.ends() else {
+        return true;
+    };
+    if !comes_after(program, last, &first) {
+        return false;
+    }
+    *last = Some(end);
+    true
+}
+
+/// The same, wherever the atoms are.
+fn follow(program: &Program, last: &mut Option<Atom>, source: &Source) -> bool
+    requires { Fits (declarations program.now) source.now }
+    ensures { OnTrue result ((before : List AtomValue) → Rises (declarations program.now) before last.old →
+        Rises (declarations program.now) (before ++ live_atoms (turn_rows source.now)) last.new) }
+{
+    match source {
+        Source::Written(flat) => follow_written(program, last, flat),
+        _ => follow_rows(program, last, source),
+    }
+}
+
 /// Whether all atoms are in that order, turn by turn.
 fn are_in_order(program: &Program, turns: &[Turn]) -> bool
+    requires { All (λ t. Fits (declarations program.now) t.source) turns.now }
     ensures { OnTrue result (IsTrue (is_rising (print_cmp (declarations program.now)) (all_atoms turns.now))) }
 {
     let mut last = None;
@@ -184,7 +220,7 @@ fn push_one(
 }
 
 /// Adds the atoms of a source to the text of those before it, if there are some.
-fn push_source(
+pub(crate) fn push_rows(
     out: &mut String,
     program: &Program,
     started: &mut bool,
@@ -204,8 +240,52 @@ fn push_source(
     Ok(())
 }
 
+/// Adds a text behind others.
+fn push_more_text(out: &mut String, text: &str) -> Result<(), AllocError>
+    ensures { OnOk result (string_bytes out.new ≡ string_bytes out.old ++ codes ", " ++ text.now) }
+{
+    out.push_str(", ")?;
+    out.push_str(text)
+}
+
+/// Adds a text that is written to that of the atoms before it, if there are some.
+fn push_written(out: &mut String, started: &mut bool, flat: &Flat) -> Result<(), AllocError>
+    ensures { OnOk result ((ds : List Declaration) (start : List ℕ) (before : List AtomValue) →
+        IsWrittenOut ds flat.now → IsWritten ds start before started.old (string_bytes out.old) →
+        IsWritten ds start (before ++ flat_atoms flat.now) started.new (string_bytes out.new)) }
+{
+    if flat.rows.as_slice().is_empty() {
+        return Ok(());
+    }
+    if *started {
+        return push_more_text(out, flat.text.as_str());
+    }
+    *started = true;
+    out.push_str(flat.text.as_str())
+}
+
+/// Adds the atoms of a source, wherever they are, to the text of those before it, if there are some.
+fn push_source(
+    out: &mut String,
+    program: &Program,
+    started: &mut bool,
+    source: &Source,
+) -> Result<(), AllocError>
+    requires { Fits (declarations program.now) source.now }
+    ensures { OnOk result ((start : List ℕ) (before : List AtomValue) →
+        IsWritten (declarations program.now) start before started.old (string_bytes out.old) →
+        IsWritten (declarations program.now) start (before ++ live_atoms (turn_rows source.now)) started.new
+        (string_bytes out.new)) }
+{
+    match source {
+        Source::Written(flat) => push_written(out, started, flat),
+        _ => push_rows(out, program, started, source),
+    }
+}
+
 /// Adds the atoms of all turns, joined.
 fn push_turns(out: &mut String, program: &Program, turns: &[Turn]) -> Result<(), AllocError>
+    requires { All (λ t. Fits (declarations program.now) t.source) turns.now }
     ensures { OnOk result (string_bytes out.new
         ≡ string_bytes out.old ++ atoms_text (declarations program.now) (all_atoms turns.now)) }
 {
@@ -233,125 +313,79 @@ pub(crate) fn add_all<'a>(list: &mut Vec<&'a Table>, tables: &'a [Table]) -> Res
     Ok(())
 }
 
+/// Adds a turn.
+fn push_turn<'a>(turns: &mut Vec<Turn<'a>>, source: Source<'a>) -> Result<(), AllocError>
+    ensures atoms { OnOk result
+        (all_atoms turns.new.items ≡ all_atoms turns.old.items ++ live_atoms (turn_rows source.entry)) }
+    ensures fit { OnOk result ((ds : List Declaration) →
+        Fits ds source.entry → Fit ds turns.old.items → Fit ds turns.new.items) }
+{
+    let first = source.first();
+    turns.push(Turn { source, first })?;
+    Ok(())
+}
+
 /// A turn for each table.
 fn turns_of<'a>(alloc: Global, tables: &[&'a Table]) -> Result<Vec<Turn<'a>>, AllocError>
-    ensures { IfOk result (λ turns. store_of (all_atoms turns.items) ≡ contents (map rows_at tables.now)) }
+    ensures atoms { IfOk result (λ turns. store_of (all_atoms turns.items) ≡ contents (map rows_at tables.now)) }
+    ensures fit { IfOk result (λ turns. (ds : List Declaration) → Fit ds turns.items) }
 {
     let mut turns = Vec::new(alloc);
     for table in tables {
-        let source = Source::Table(table);
-        let first = source.first();
-        turns.push(Turn { source, first })?;
+        push_turn(&mut turns, Source::Table(table))?;
     }
     Ok(turns)
 }
 
 /// A turn for the atoms of each symbol.
 fn flat_turns<'a>(alloc: Global, flats: &'a [Flat]) -> Result<Vec<Turn<'a>>, AllocError>
-    ensures { IfOk result (λ turns. all_atoms turns.items ≡ flats_atoms flats.now) }
+    ensures atoms { IfOk result (λ turns. all_atoms turns.items ≡ flats_atoms flats.now) }
+    ensures fit { IfOk result (λ turns. (ds : List Declaration) → Fit ds turns.items) }
 {
     let mut turns = Vec::new(alloc);
     for flat in flats {
-        let source = Source::Flat(flat);
-        let first = source.first();
-        turns.push(Turn { source, first })?;
+        push_turn(&mut turns, Source::Flat(flat))?;
     }
     Ok(turns)
 }
 
-/// Which of these are for the atom.
-fn place_for(flats: &[Flat], atom: &Atom) -> Option<usize>
-    ensures within { IfSome result (λ place. place < length flats.now) }
-    ensures shape { IfSome result (λ place. (f : FlatValue) → get_or flats.now place f ≡ f →
-        IsTrue (has_shape f atom.now)) }
+/// Adds a turn for the atoms of each symbol, whose texts are written.
+fn add_written<'a>(turns: &mut Vec<Turn<'a>>, flats: &'a [Flat]) -> Result<(), AllocError>
+    ensures atoms { OnOk result (all_atoms turns.new.items ≡ all_atoms turns.old.items ++ flats_atoms flats.now) }
+    ensures fit { OnOk result ((ds : List Declaration) → All (IsWrittenOut ds) flats.now →
+        Fit ds turns.old.items → Fit ds turns.new.items) }
 {
-    for place in (0..flats.len()).rev() {
-        if flats[place].is_for(atom) {
-            return Some(place);
-        }
+    for flat in flats {
+        push_turn(turns, Source::Written(flat))?;
     }
-    None
-}
-
-/// Adds an atom to those in a place, which are of its symbol.
-fn add_to(flats: &mut Vec<Flat>, place: usize, atom: &Atom) -> Result<(), AllocError>
-    requires within { place < length flats.old.items }
-    requires shape { (f : FlatValue) → get_or flats.old.items place f ≡ f → IsTrue (has_shape f atom.now) }
-    requires few { length atom.now.args.items ≤ FLAT_ARITY }
-    ensures { OnOk result
-        (store_of (flats_atoms flats.new.items) ≡ store_of (flats_atoms flats.old.items) ⊕ store_of (atom.now ∷ [])) }
-{
-    flats[place].push(atom)
-}
-
-/// Adds an atom as the first one of its symbol.
-fn add_new(alloc: Global, flats: &mut Vec<Flat>, atom: &Atom) -> Result<(), AllocError>
-    requires { length atom.now.args.items ≤ FLAT_ARITY }
-    ensures { OnOk result
-        (store_of (flats_atoms flats.new.items) ≡ store_of (flats_atoms flats.old.items) ⊕ store_of (atom.now ∷ [])) }
-{
-    let mut flat = Flat::new(alloc, atom.symbol, atom.args.len());
-    flat.push(atom)?;
-    flats.push(flat)?;
     Ok(())
 }
 
-/// Adds an atom to those of its symbol. False where it has too many arguments for a row of its own.
-fn add(alloc: Global, flats: &mut Vec<Flat>, atom: &Atom) -> Result<bool, AllocError>
-    ensures { IfOk result (λ added. OnTrue added
-        (store_of (flats_atoms flats.new.items) ≡ store_of (flats_atoms flats.old.items) ⊕ store_of (atom.now ∷ []))) }
+/// A turn for the atoms of each symbol in each portion. None where a portion couldn't be written.
+fn portion_turns<'a>(
+    alloc: Global,
+    portions: &'a [Option<Vec<Flat>>],
+) -> Result<Option<Vec<Turn<'a>>>, AllocError>
+    ensures atoms { IfOk result (λ found. IfSome found (λ turns.
+        (ds : List Declaration) (cuts : List ℤ) (atoms : List AtomValue) → ArePortions ds cuts atoms portions.now →
+        store_of (all_atoms turns.items) ≡ store_of atoms)) }
+    ensures fit { IfOk result (λ found. IfSome found (λ turns.
+        (ds : List Declaration) (cuts : List ℤ) (atoms : List AtomValue) → ArePortions ds cuts atoms portions.now →
+        Fit ds turns.items)) }
 {
-    if atom.args.len() > FLAT_ARITY {
-        return Ok(false);
-    }
-    match place_for(flats, atom) {
-        Some(place) => add_to(flats, place, atom)?,
-        None => add_new(alloc, flats, atom)?,
-    }
-    Ok(true)
-}
-
-/// Adds the atoms of a table, each to those of its symbol. False where one has too many arguments.
-fn add_rows(alloc: Global, flats: &mut Vec<Flat>, table: &Table) -> Result<bool, AllocError>
-    ensures { IfOk result (λ added. OnTrue added (store_of (flats_atoms flats.new.items)
-        ≡ store_of (flats_atoms flats.old.items) ⊕ store_of (live_atoms table.now.rows))) }
-{
-    for row in 0..table.len() {
-        if let Some(atom) = table.get(row) {
-            if !add(alloc, flats, &atom)? {
-                return Ok(false);
-            }
+    let mut turns = Vec::new(alloc);
+    for portion in portions {
+        match portion {
+            Some(flats) => add_written(&mut turns, flats)?,
+            None => return Ok(None),
         }
     }
-    Ok(true)
-}
-
-/// The atoms of all tables, symbol by symbol. None where one has too many arguments.
-fn flats_of(alloc: Global, tables: &[&Table]) -> Result<Option<Vec<Flat>>, AllocError>
-    ensures { IfOk result (λ found. IfSome found (λ flats.
-        store_of (flats_atoms flats.items) ≡ contents (map rows_at tables.now))) }
-{
-    let mut flats = Vec::new(alloc);
-    for table in tables {
-        if !add_rows(alloc, &mut flats, table)? {
-            return Ok(None);
-        }
-    }
-    Ok(Some(flats))
-}
-
-/// Puts the atoms of each symbol in order.
-fn sort_each(flats: &mut Vec<Flat>)
-    ensures { store_of (flats_atoms flats.new.items) ≡ store_of (flats_atoms flats.old.items) }
-{
-    for place in 0..flats.len() {
-        flats[place].sort();
-    }
+    Ok(Some(turns))
 }
 
 /// Puts turns in the order of their first atoms.
 fn sort_turns(program: &Program, turns: &mut Vec<Turn>)
-    ensures { store_of (all_atoms turns.new.items) ≡ store_of (all_atoms turns.old.items) }
+    ensures { IsPermutation turns.old.items turns.new.items }
 {
     turns.sort_unstable_by(|left, right| first_order(program, left, right));
 }
@@ -363,6 +397,7 @@ fn push_sorted(
     program: &Program,
     turns: &mut Vec<Turn>,
 ) -> Result<bool, AllocError>
+    requires { Fit (declarations program.now) turns.old.items }
     ensures text { IfOk result (λ written. OnTrue written (string_bytes out.new
         ≡ string_bytes out.old ++ store_text (declarations program.now) (store_of (all_atoms turns.old.items)))) }
     ensures same { IfOk result (λ written. OnFalse written (out.new ≡ out.old)) }
@@ -375,11 +410,52 @@ fn push_sorted(
     Ok(true)
 }
 
-/// Adds the text of the store in these tables. Where their rows are in order it is written from these; else the
-/// arguments of the atoms of each symbol are put in order. False, and nothing is added, where that can't be done: an
-/// atom has too many arguments, or the program doesn't declare some.
-pub(crate) fn push_tables(
+/// Adds the text of the store in these tables by one thread, which puts the atoms of each symbol in order.
+fn push_flats(
     alloc: Global,
+    program: &Program,
+    tables: &[&Table],
+    out: &mut String,
+) -> Result<bool, AllocError>
+    ensures text { IfOk result (λ written. OnTrue written (string_bytes out.new
+        ≡ string_bytes out.old ++ store_text (declarations program.now) (contents (map rows_at tables.now)))) }
+    ensures same { IfOk result (λ written. OnFalse written (out.new ≡ out.old)) }
+{
+    let Some(mut flats) = flats_of(alloc, tables, &[], 0)? else {
+        return Ok(false);
+    };
+    sort_each(&mut flats);
+    let mut turns = flat_turns(alloc, &flats)?;
+    push_sorted(out, program, &mut turns)
+}
+
+/// Adds the text of the store in these tables, which several threads write in portions.
+fn push_portions<R: Threads + Sync>(
+    rt: &R,
+    alloc: Global,
+    program: &Program,
+    tables: &[&Table],
+    cuts: &[i64],
+    out: &mut String,
+) -> Result<bool, AllocError>
+    ensures text { IfOk result (λ written. OnTrue written (string_bytes out.new
+        ≡ string_bytes out.old ++ store_text (declarations program.now) (contents (map rows_at tables.now)))) }
+    ensures same { IfOk result (λ written. OnFalse written (out.new ≡ out.old)) }
+{
+    let portions = portions_of(rt, alloc, program, tables, cuts)?;
+    let Some(mut turns) = portion_turns(alloc, &portions)? else {
+        return Ok(false);
+    };
+    push_sorted(out, program, &mut turns)
+}
+
+/// Adds the text of the store in these tables. Where their rows are in order it is written from these; else the
+/// arguments of the atoms of each symbol are put in order, by so many threads at most. False, and nothing is added,
+/// where that can't be done: an atom has too many arguments, or the program doesn't declare some.
+pub(crate) fn push_tables<R: Threads + Sync>(
+    rt: &R,
+    alloc: Global,
+    threads: usize,
     program: &Program,
     tables: &[&Table],
     out: &mut String,
@@ -392,10 +468,10 @@ pub(crate) fn push_tables(
     if push_sorted(out, program, &mut turns)? {
         return Ok(true);
     }
-    let Some(mut flats) = flats_of(alloc, tables)? else {
-        return Ok(false);
-    };
-    sort_each(&mut flats);
-    let mut turns = flat_turns(alloc, &flats)?;
-    push_sorted(out, program, &mut turns)
+    let cuts = cuts_of(alloc, tables, threads)?;
+    if cuts.is_empty() {
+        push_flats(alloc, program, tables, out)
+    } else {
+        push_portions(rt, alloc, program, tables, &cuts, out)
+    }
 }

@@ -28,10 +28,6 @@ use Rattle.chr_report.proofs.Pieces.{front_begins, fronts_join}
 
 -- ---- bytes
 
--- none is read
-pub reads_none : (from : Option (List ℕ)) (left : List ℕ) → ReadsOn from from left left
-reads_none from left = record { bytes = []; held = sym (append-nil left); read = Consumes-nil from }
-
 -- bytes are read, and then more
 pub reads_both : (from mid to : Option (List ℕ)) (first left more : List ℕ) → ReadsOn from mid first left
     → ReadsOn mid to left more → ReadsOn from to first more
@@ -152,10 +148,6 @@ blocks_both from mid to s t u r q = record {
   whole = λ w. q.whole (r.whole w);
   end = λ e. q.end (r.end e);
 }
-
--- none is read
-pub blocks_none : (from : Option (List ℕ)) (s : Blocks) → ReadsBlocks from from s s
-blocks_none from s = record { at = refl; read = reads_none from (left_of s); whole = λ w. w; end = λ e. e }
 
 module _ (s t : Blocks) (begun : t.begun ≡ s.begun) (ended : t.ended ≡ s.ended) (whole : AreWhole s) where
   -- no block waits

@@ -26,16 +26,12 @@ use Rattle.chr_report.specs.Written.{Writes, WritesOutput, WritesBeginning}
 use Rattle.chr_report.specs.working.Divided.{AreText, Divides, IsDivided, IsUndivided}
 use Rattle.chr_report.specs.working.Serving.{AnswersCommands, WritesText, WritesTextPart}
 use Rattle.chr_report.proofs.Conversing.{some_left}
-use Rattle.chr_report.proofs.Feeds.{no_text, whole_both}
+use Rattle.chr_report.proofs.Feeds.{whole_both}
 use Rattle.chr_report.proofs.LineLaws.{some_line}
 
 -- nothing is written
 pub unwritten : (old new : Option (List ℕ)) → new ≡ old → Appends old new []
 unwritten old new e = subst (λ n. Appends old n []) (sym e) (Appends-nil old)
-
--- nothing is read
-pub nothing_read : (bytes : List ℕ) → bytes ≡ [] → IsUndivided bytes
-nothing_read bytes e = record { front = []; line = []; are = e; begins = no_text; unended = tt }
 
 -- ---- after the divider
 

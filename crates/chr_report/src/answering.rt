@@ -59,7 +59,7 @@ fn answer_show<R: Threads + Wait + Sync>(
         (held service.old) (Request.Show replica) (string_bytes out.old) (held service.new) (string_bytes out.new)) }
 {
     service.settle(rt, alloc, replica)?;
-    if service.push_pool(alloc, replica, out)? {
+    if service.push_pool(rt, alloc, replica, out)? {
         return out.push_str("\n");
     }
     answer_by_reply(rt, alloc, service, Request::Show(replica), out)

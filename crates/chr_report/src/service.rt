@@ -446,9 +446,11 @@ impl Service {
         Ok(Reply::Answered(answer))
     }
 
-    /// Adds the text of a replica's pool at rest, where it can be written from its rows. Else nothing is added.
-    pub(crate) fn push_pool(
+    /// Adds the text of a replica's pool at rest, where it can be written from its rows, by as many threads as workers
+    /// are asked for. Else nothing is added.
+    pub(crate) fn push_pool<R: Threads + Wait + Sync>(
         &self,
+        rt: &R,
         alloc: Global,
         replica: u64,
         out: &mut String,
@@ -460,7 +462,7 @@ impl Service {
         ensures same { IfOk result (λ shown. OnFalse shown (out.new ≡ out.old)) }
     {
         match self.world.board(replica) {
-            Some(board) => board.push_shown(alloc, out),
+            Some(board) => board.push_shown(rt, alloc, self.sharing.workers as usize, out),
             None => Ok(false),
         }
     }

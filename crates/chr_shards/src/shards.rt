@@ -138,14 +138,20 @@ impl Shards {
         bag_by(rt, alloc, &self.pools)
     }
 
-    /// Adds the text of the store at the end of a text, as that of its bag is, and without one. False, and nothing is
-    /// added, where pools can't do that (`Columns::push_text`).
-    pub fn push_text(&self, alloc: Global, out: &mut String) -> Result<bool, AllocError>
+    /// Adds the text of the store at the end of a text, as that of its bag is, and without one, by so many threads at
+    /// most. False, and nothing is added, where pools can't do that (`Columns::push_text`).
+    pub fn push_text<R: Threads + Sync>(
+        &self,
+        rt: &R,
+        alloc: Global,
+        threads: usize,
+        out: &mut String,
+    ) -> Result<bool, AllocError>
         ensures text { IfOk result (λ written. OnTrue written (string_bytes out.new ≡ string_bytes out.old
             ++ store_text (declarations (program_of self.now.weighed)) self.now.store)) }
         ensures same { IfOk result (λ written. OnFalse written (out.new ≡ out.old)) }
     {
-        Columns::push_text(alloc, self.weighed.program(), &self.pools, out)
+        Columns::push_text(rt, alloc, threads, self.weighed.program(), &self.pools, out)
     }
 
     /// All atoms, those of each pool in the order of the arguments by which the rules join them.

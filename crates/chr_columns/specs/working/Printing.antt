@@ -1,8 +1,8 @@
 -- Atoms that are printed one after another, and their text.
 use Rattle.std.specs.Prelude.{◌≡◌, ℕ, ℤ, ◌-◌, ◌<◌, min, Bool, true, false, ◌&&◌, List, [], ◌∷◌, ◌++◌, length, map, take}
-use Rattle.std.specs.Prelude.{nat_eq, IsTrue, Option, Some, slice_get}
+use Rattle.std.specs.Prelude.{nat_eq, IsTrue, Option, Some, slice_get, string_bytes, ⊤}
 use Rattle.std.specs.Borrow.{Bor}
-use Rattle.std.specs.List.{flat_map}
+use Rattle.std.specs.List.{All, flat_map}
 use Rattle.chr_base.specs.declared.atom.Atom.{Atom}
 use Rattle.chr_base.specs.FinBag.{is_rising}
 use Rattle.chr_base.specs.ProgramTests.{Declaration}
@@ -36,6 +36,7 @@ flats_atoms fs = flat_map flat_atoms fs
 abbrev pub turn_rows : Source → List (Option Atom)
 turn_rows (source.Table t) = t.now.rows
 turn_rows (source.Flat f) = flat_rows f.now
+turn_rows (source.Written f) = flat_rows f.now
 
 abbrev pub turn_atoms : Turn → List Atom
 turn_atoms t = live_atoms (turn_rows t.source)
@@ -62,3 +63,17 @@ pub record IsWritten (ds : List Declaration) (start : List ℕ) (atoms : List At
   pub text_is : text ≡ start ++ joined_text ds atoms
   pub some : started ≡ true → 0 < length atoms
   pub none : started ≡ false → atoms ≡ []
+
+-- the atoms are in the order in which they are printed, and that is their text
+pub record IsWrittenOut (ds : List Declaration) (f : Flat) : Type 0 where
+  pub rises : IsTrue (is_rising (print_cmp ds) (flat_atoms f))
+  pub text : string_bytes f.text ≡ joined_text ds (flat_atoms f)
+
+-- what is said to be written out is
+abbrev pub Fits : List Declaration → Source → Type 0
+Fits ds (source.Table t) = ⊤
+Fits ds (source.Flat f) = ⊤
+Fits ds (source.Written f) = IsWrittenOut ds f.now
+
+abbrev pub Fit : List Declaration → List Turn → Type 0
+Fit ds turns = All (λ t. Fits ds t.source) turns

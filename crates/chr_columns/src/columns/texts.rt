@@ -13,6 +13,7 @@ use crate::printing::{add_all, push_tables};
 use chr_base::program::Program;
 use chr_tables::table::Table;
 use std::alloc::{AllocError, Global};
+use std::thread::Threads;
 
 impl Columns {
     /// Adds its tables to others. False where some atoms sit in none of them.
@@ -45,10 +46,13 @@ impl Columns {
     }
 
     /// Adds the text of the store that is kept in these pools at the end of a text, as that of its bag is, and without
-    /// one. False, and nothing is added, where that can't be done: some atoms are fresh; or the rows are in no order,
-    /// and some atoms have more than three arguments, or aren't declared.
-    pub fn push_text(
+    /// one. So many threads at most put atoms in order and write them, where there are many. False, and nothing is
+    /// added, where that can't be done: some atoms are fresh; or the rows are in no order, and some atoms have more
+    /// than three arguments, or aren't declared.
+    pub fn push_text<R: Threads + Sync>(
+        rt: &R,
         alloc: Global,
+        threads: usize,
         program: &Program,
         pools: &[Columns],
         out: &mut String,
@@ -60,6 +64,6 @@ impl Columns {
         let Some(tables) = Columns::tables_of(alloc, pools)? else {
             return Ok(false);
         };
-        push_tables(alloc, program, &tables, out)
+        push_tables(rt, alloc, threads, program, &tables, out)
     }
 }

@@ -1,10 +1,15 @@
 //! The text of a store that is written from the rows of pools.
 use crate::tests::pool::{columns_for, put, removes, rule, steps};
+use chr_base::atom::Atom;
+use chr_base::bag::Bag;
 use chr_base::program::Program;
 use chr_base::rule::Rule;
 use chr_columns::columns::Columns;
-use chr_testing::texts::program_of;
+use chr_testing::atoms::atom;
+use chr_testing::texts::{program_of, told};
 use std::process::Abort;
+use std::slice;
+use std::thread::Threads;
 
 /// Symbols are printed in another order than they are declared. Rules have atoms of the first two alone.
 const PROGRAM: &str =
@@ -48,19 +53,36 @@ fn pool_with(rt: &(impl Abort + AllocGlobal), rules: &[Rule], rows: &[(u16, &[i6
     pool
 }
 
-/// Whether the text of the pools is this one, behind what is there already; where there is none, nothing is added.
-fn are_written(rt: &(impl Abort + AllocGlobal), pools: &[Columns], wanted: Option<&str>) -> bool {
+/// Whether the text that so many threads write of the pools is this one, behind what is there already; where there is
+/// none, nothing is added.
+fn are_written_by<R: Abort + AllocGlobal + Threads + Sync>(
+    rt: &R,
+    threads: usize,
+    pools: &[Columns],
+    wanted: Option<&str>,
+) -> bool {
     let mut out = String::new(rt.alloc());
     out.push_str(START).expect(rt, "memory");
     let program = program(rt);
-    let written = Columns::push_text(rt.alloc(), &program, pools, &mut out).expect(rt, "memory");
+    let written = Columns::push_text(rt, rt.alloc(), threads, &program, pools, &mut out).expect(
+        rt, "memory",
+    );
     let text = out.as_str().strip_prefix(START);
     written == wanted.is_some() && text == Some(wanted.unwrap_or(""))
 }
 
+/// The same by one thread.
+fn are_written<R: Abort + AllocGlobal + Threads + Sync>(
+    rt: &R,
+    pools: &[Columns],
+    wanted: Option<&str>,
+) -> bool {
+    are_written_by(rt, 1, pools, wanted)
+}
+
 /// The same of one pool that these atoms came into, in this order.
-fn is_written(
-    rt: &(impl Abort + AllocGlobal),
+fn is_written<R: Abort + AllocGlobal + Threads + Sync>(
+    rt: &R,
     rows: &[(u16, &[i64])],
     wanted: Option<&str>,
 ) -> bool {
@@ -114,4 +136,57 @@ fn one_store_in_two_pools(rt: HostRuntime) {
         pool_with(&rt, &rules, &[(1, &[2]), (0, &[0, 0])]),
     ];
     assert!(rt; are_written(&rt, &pools, Some("a(1), a(2), a(3), b(0,0), b(0,1)")));
+}
+
+/// So many rows have two pools together that several threads write them.
+const MANY: usize = 24_000;
+
+/// No two of its first multiples have the same rest.
+const APART: usize = 7_919;
+
+/// Atoms of two symbols, of which no rule has an instance. Their values are in no order.
+fn many_atoms(rt: &(impl Abort + AllocGlobal)) -> Vec<Atom> {
+    let mut atoms = Vec::new(rt.alloc());
+    for place in 0..MANY {
+        let value = (place * APART % MANY) as i64;
+        let made = if place % 3 == 0 {
+            atom(0, &[value, -1])
+        } else {
+            atom(1, &[value - 5_000])
+        };
+        atoms.push(made).expect(rt, "memory");
+    }
+    atoms
+}
+
+/// Two pools at rest that share out these atoms.
+fn two_pools(rt: &(impl Abort + AllocGlobal), atoms: &[Atom]) -> [Columns; 2] {
+    let rules = [rule(rt, PROGRAM)];
+    let mut pools = [columns_for(rt, &rules), columns_for(rt, &rules)];
+    for place in 0..atoms.len() {
+        let one = slice::from_ref(&atoms[place]);
+        pools[place % 2].insert(one).expect(rt, "memory");
+    }
+    assert!(rt; !steps(rt, &mut pools[0], &rules) && !steps(rt, &mut pools[1], &rules));
+    pools
+}
+
+#[test]
+fn many_rows_by_several_threads(rt: HostRuntime) {
+    let atoms = many_atoms(&rt);
+    let pools = two_pools(&rt, &atoms);
+    let bag = Bag::of(atoms).expect(&rt, "memory");
+    let text = told(rt.alloc(), &program(&rt), &bag).expect(&rt, "memory");
+    for threads in 1..=3 {
+        assert!(rt; are_written_by(&rt, threads, &pools, Some(text.as_str())));
+    }
+}
+
+#[test]
+fn many_rows_with_one_that_is_wide(rt: HostRuntime) {
+    let mut pools = two_pools(&rt, &many_atoms(&rt));
+    put(&rt, &mut pools[0], &[(4, &[1, 2, 3, 4])]);
+    let rules = [rule(&rt, PROGRAM)];
+    assert!(rt; !steps(&rt, &mut pools[0], &rules));
+    assert!(rt; are_written_by(&rt, 2, &pools, None));
 }

@@ -73,12 +73,19 @@ impl Board {
         Ok(self.pool.bag_by(rt, alloc)?)
     }
 
-    /// Adds the text of the pool that [`Board::show`] gives at the end of a text, without a bag of it. False, and
-    /// nothing is added, where it can't be shown, or its text can't be made so; then [`Board::show`] tells.
+    /// Adds the text of the pool that [`Board::show`] gives at the end of a text, without a bag of it, by so many
+    /// threads at most. False, and nothing is added, where it can't be shown, or its text can't be made so; then
+    /// [`Board::show`] tells.
     ///
     /// # Errors
     /// Where memory is refused.
-    pub fn push_shown(&self, alloc: Global, out: &mut String) -> Result<bool, AllocError>
+    pub fn push_shown<R: Threads + Sync>(
+        &self,
+        rt: &R,
+        alloc: Global,
+        threads: usize,
+        out: &mut String,
+    ) -> Result<bool, AllocError>
         ensures text { IfOk result (λ shown. OnTrue shown (string_bytes out.new ≡ string_bytes out.old
             ++ store_text (declarations (program_on self.now)) self.now.replica.pool)) }
         ensures settled { IfOk result (λ shown. OnTrue shown
@@ -86,7 +93,7 @@ impl Board {
         ensures same { IfOk result (λ shown. OnFalse shown (out.new ≡ out.old)) }
     {
         match self.may_show() {
-            Ok(()) => self.pool.push_text(alloc, out),
+            Ok(()) => self.pool.push_text(rt, alloc, threads, out),
             Err(_) => Ok(false),
         }
     }

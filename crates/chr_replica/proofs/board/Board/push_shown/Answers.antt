@@ -14,7 +14,7 @@ anyway (Ok b) p = OnTrue_from b _ (λ e. p)
 anyway (Err e) p = tt
 
 pub returns-in-Ok-clause-text : goal.returns-in-Ok-clause-text
-returns-in-Ok-clause-text c =
+returns-in-Ok-clause-text g c =
     let written = c.push_text.result in
     let out = string_bytes c.push_text.new.out in
     let old = string_bytes c.args.out.now in
@@ -25,4 +25,4 @@ returns-in-Ok-clause-text c =
     c.push_text.ensures.text)
 
 pub returns-in-Ok-clause-settled : goal.returns-in-Ok-clause-settled
-returns-in-Ok-clause-settled c = anyway c.push_text.result c.in-Ok.ensures.settled
+returns-in-Ok-clause-settled g c = anyway c.push_text.result c.in-Ok.ensures.settled

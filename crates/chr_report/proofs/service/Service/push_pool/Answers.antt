@@ -8,7 +8,7 @@ use Rattle.chr_report.proofs.ShownPools.{known_more, pool_shown}
 use Rattle.chr_report.proofs.service.Service.push_pool.Goals as goal
 
 pub returns-in-Some-clause-text : goal.returns-in-Some-clause-text
-returns-in-Some-clause-text c =
+returns-in-Some-clause-text g c =
     let s = c.args.self.now in
     let t = c.in-Some.board.now.replica in
     let there = c.in-Some.ensures.replica in
