@@ -210,7 +210,7 @@ class Workers(unittest.TestCase):
 
     def test_most_routes_stay(self) -> None:
         """Routes between so many towns that hardly two have the same ends."""
-        told = routes(150_002, 9_000)
+        told = routes(300_002, 9_000)
         lines = [*tells(told, 1), '["show",1]']
         self.expect_rested(lines, ["told"] * (len(lines) - 1) + [shortest(told)])
 

@@ -12,7 +12,6 @@ use chr_base::atom::Atom;
 use chr_plans::key::Order;
 use chr_plans::plan::Plan;
 use std::alloc::{AllocError, Global};
-use std::cmp::Ordering;
 
 /// By what atoms are put in order: the arguments by which rules join them, and the column by whose values, and those of
 /// another, rows are left behind. A row that is left behind takes many with it where rows come in the order of one.
@@ -60,31 +59,24 @@ impl Arrangement {
         self.joint.is_none() && self.crossed.is_none()
     }
 
-    fn by_joint(&self, left: &Atom, right: &Atom) -> Ordering {
-        match &self.joint {
-            Some(joint) => joint.value(left).cmp(&joint.value(right)),
-            None => Ordering::Equal,
-        }
-    }
-
-    fn by_crossed(&self, left: &Atom, right: &Atom) -> Ordering {
-        match self.crossed {
-            Some(column) => argument(left, column).cmp(&argument(right, column)),
-            None => Ordering::Equal,
-        }
-    }
-
-    /// The order by these values, and by that of a bag where they are equal.
-    fn order(&self, left: &Atom, right: &Atom) -> Ordering {
-        self.by_joint(left, right)
-            .then(self.by_crossed(left, right))
-            .then(left.order(right))
+    /// By what an atom is put in order: the value by which rules join it, and that by which rows are left behind; 0 for
+    /// one that there is not.
+    fn key(&self, atom: &Atom) -> (i64, i64) {
+        let joint = match &self.joint {
+            Some(joint) => joint.value(atom),
+            None => 0,
+        };
+        let crossed = match self.crossed {
+            Some(column) => argument(atom, column),
+            None => 0,
+        };
+        (joint, crossed)
     }
 
     /// Whether the atoms are in that order.
     fn is_kept_by(&self, atoms: &[Atom]) -> bool {
         for i in 1..atoms.len() {
-            if self.order(&atoms[i - 1], &atoms[i]).is_gt() {
+            if self.key(&atoms[i - 1]) > self.key(&atoms[i]) {
                 return false;
             }
         }
@@ -101,7 +93,7 @@ pub(crate) fn arrange(rested: &Rested, atoms: &mut Vec<Atom>)
     if arrangement.is_any() || arrangement.is_kept_by(atoms) {
         return;
     }
-    atoms.sort_unstable_by(|left, right| arrangement.order(left, right));
+    let _ = atoms.sort_by_cached_key(|atom| arrangement.key(atom));
 }
 
 /// All atoms, in that order; by tables, where there is none.

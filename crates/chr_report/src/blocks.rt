@@ -100,24 +100,20 @@ fn push_last(blocks: &mut VecDeque<Arc<Block>>, block: Arc<Block>) -> Result<(),
     Ok(())
 }
 
-/// Rests what was told, where so much waits that workers are to rest it: no thread reads lines then.
-fn rest_told<R: Threads + Wait + Sync, K: Known<Done>>(
+/// Rests what was told, where so much waits that workers are to rest it. Threads that read lines go on meanwhile.
+fn rest_told<R: Threads + Wait + Sync>(
     rt: &R,
     alloc: Global,
-    asking: &mut Asking<K>,
     service: &mut Service,
 ) -> Result<(), AllocError>
-    requires agree { Agree K.holds (program_in asking.old.accepted.now) }
-    requires ready { IsBetweenLines service.old }
+    requires { IsBetweenLines service.old }
     ensures ready { OnOk result (IsBetweenLines service.new) }
     ensures program { service.new.world.accepted ≡ service.old.world.accepted }
     ensures operations { OnOk result (held service.new ≡ held service.old) }
-    ensures accepted { asking.new.accepted ≡ asking.old.accepted }
 {
     if !service.is_to_rest() {
         return Ok(());
     }
-    asking.take_back(rt, alloc);
     service.rest_between(rt, alloc)
 }
 
@@ -196,7 +192,6 @@ impl Blocks {
         asking: &mut Asking<K>,
         reader: &mut Watched<D>,
     ) -> Result<(), RunFault>
-        requires { Agree K.holds (program_in asking.old.accepted.now) }
         ensures read { OnOk result (ReadsBlocks (D.remaining (inner_of reader.old)) (D.remaining (inner_of reader.new))
             self.old self.new) }
         ensures accepted { asking.new.accepted ≡ asking.old.accepted }
@@ -224,7 +219,6 @@ impl Blocks {
         asking: &mut Asking<K>,
         reader: &mut Watched<D>,
     ) -> Result<(), RunFault>
-        requires { Agree K.holds (program_in asking.old.accepted.now) }
         ensures read { OnOk result (ReadsBlocks (D.remaining (inner_of reader.old)) (D.remaining (inner_of reader.new))
             self.old self.new) }
         ensures accepted { asking.new.accepted ≡ asking.old.accepted }
@@ -280,7 +274,7 @@ impl Blocks {
             ..
         } = left;
         let mut at = answer_lines(rt, alloc, block.lines(), at, ahead)?;
-        rest_told(rt, alloc, asking, &mut at.service)?;
+        rest_told(rt, alloc, &mut at.service)?;
         let room = room_of(alloc, block);
         Ok(Blocks {
             at,

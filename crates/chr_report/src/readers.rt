@@ -167,18 +167,6 @@ impl<'a, K: Known<Done>> Asking<'a, K> {
         }
     }
 
-    /// Reads the blocks that no thread has begun.
-    pub(crate) fn take_back<R: Wait>(&self, rt: &R, alloc: Global)
-        requires { Agree K.holds (program_in self.now.accepted.now) }
-    {
-        for _task in rt.forever() {
-            let Ok(task) = self.left.try_recv(rt) else {
-                return;
-            };
-            do_task(rt, alloc, self.accepted, task);
-        }
-    }
-
     /// Lets go of the blocks that no thread has begun: where a run ends early they aren't to be read any more.
     pub(crate) fn leave<R: Wait>(&self, rt: &R) {
         for _task in rt.forever() {

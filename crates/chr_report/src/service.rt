@@ -45,10 +45,10 @@ const WORTH_SHARING: u64 = 16_384;
 
 /// As many wait at most for several workers while lines are answered: threads that read others meanwhile would keep the
 /// workers from the processors, so most pools are rested between two blocks of lines.
-const MOST_SHARED: u64 = 4 * WORTH_SHARING;
+const MOST_SHARED: u64 = 16 * WORTH_SHARING;
 
-/// As many wait at most between two blocks of lines.
-const MOST_BETWEEN: u64 = 5 * WORTH_SHARING / 2;
+/// As many wait at most between two blocks of lines: a pool comes into a cache once for all of its atoms that wait.
+const MOST_BETWEEN: u64 = 8 * WORTH_SHARING;
 
 /// A pool that is not kept in several is rested by workers where this part of what its replica was told waits in it, or
 /// more: they cut all of it.
@@ -60,6 +60,13 @@ const MOST_STAYING: u64 = 2;
 
 /// Replicas are counted from here.
 const FIRST_REPLICA: u64 = 1;
+
+/// How operations come to a replica: told by lines, of which more may follow, or brought at once by another one.
+#[derive(Clone, Copy, Debug, PartialEq, Eq)]
+enum Coming {
+    LineByLine,
+    AtOnce,
+}
 
 /// Replicas that answer command lines. `rested` has for each of them how many atoms that it was told don't wait, and
 /// `rests_ahead` whether threads that read tells rest them.
@@ -117,7 +124,7 @@ impl Service {
     {
         events_keep_replicas_sound();
         let rests_ahead = sharing.workers > 1 && !accepted.program().rules().is_empty();
-        let accepted = Arc::new(alloc, accepted.in_pools(sharing.workers as usize))?;
+        let accepted = Arc::new(alloc, accepted.in_pools(sharing.pools()))?;
         Ok(Service {
             world: World::open(alloc, accepted, replicas)?,
             rested: noughts(alloc, replicas)?,
@@ -251,6 +258,7 @@ impl Service {
         rt: &R,
         alloc: Global,
         replica: u64,
+        coming: Coming,
     ) -> Result<(), AllocError>
         requires { IsBetweenLines self.old }
         ensures ready { OnOk result (IsBetweenLines self.new) }
@@ -265,7 +273,8 @@ impl Service {
                 Ok(())
             };
         }
-        if waiting <= MOST_WAITING || self.is_worth_sharing(replica) {
+        let is_left = coming == Coming::AtOnce && self.is_worth_sharing(replica);
+        if waiting <= MOST_WAITING || is_left {
             return Ok(());
         }
         self.settle_alone(replica)
@@ -341,7 +350,7 @@ impl Service {
     {
         runs_keep_replicas_sound();
         let answer = self.world.tell(alloc, replica, op)?;
-        self.rest_many(rt, alloc, replica)?;
+        self.rest_many(rt, alloc, replica, Coming::LineByLine)?;
         Ok(Reply::Answered(answer))
     }
 
@@ -371,7 +380,7 @@ impl Service {
         let came = self.told(tells.replica).saturating_sub(before);
         self.rests_ahead = staying <= came / MOST_STAYING;
         self.note_waiting(tells.replica, waiting.saturating_add(staying));
-        self.rest_many(rt, alloc, tells.replica)?;
+        self.rest_many(rt, alloc, tells.replica, Coming::LineByLine)?;
         Ok(true)
     }
 
@@ -390,7 +399,7 @@ impl Service {
     {
         runs_keep_replicas_sound();
         let answer = self.world.merge(alloc, replica, &ops)?;
-        self.rest_many(rt, alloc, replica)?;
+        self.rest_many(rt, alloc, replica, Coming::AtOnce)?;
         Ok(Reply::Answered(answer))
     }
 
@@ -408,7 +417,7 @@ impl Service {
     {
         runs_keep_replicas_sound();
         let answer = self.world.sync(alloc, from, to)?;
-        self.rest_many(rt, alloc, to)?;
+        self.rest_many(rt, alloc, to, Coming::AtOnce)?;
         Ok(Reply::Synced(answer))
     }
 

@@ -20,7 +20,7 @@ impl Columns {
 
     /// Many fresh atoms are put in the order of the arguments by which the pool's rules join them, for a rest that
     /// comes next: partners are then taken one after another. So are few where plans leave rows behind by two columns.
-    /// The store stays the same. It takes no memory.
+    /// The store stays the same. Where memory is refused the order does, too.
     pub fn arrange(&mut self)
         ensures { self.new ≡ self.old }
     {
