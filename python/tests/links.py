@@ -1062,16 +1062,18 @@ class Leases(Links):
 
     def test_a_lease_that_ran_out(self) -> None:
         """Whoever was stopped for so long that another has its origin tells nothing more."""
-        with patch.object(type(self.link()), "lease_seconds", 0.5):
-            one = self.member(PLAIN, 4)
-            one.tell(("a", 1))
-            with patch.object(type(one.link), "_beat"):
-                time.sleep(0.7)
-                other = self.member(PLAIN, 4)
-                with self.assertRaises(OriginShared):
-                    one.tell(("a", 2))
-                self.assertEqual(other.tell(("a", 3)), Id(4, 2))
-                self.assertEqual(other.show(), (("a", 1), ("a", 3)))
+        link = type(self.link())
+        with patch.object(link, "_beat"):
+            with patch.object(link, "lease_seconds", 0.5):
+                one = self.member(PLAIN, 4)
+                one.tell(("a", 1))
+            time.sleep(0.7)
+            # its lease is a long one, so it is not out when the machine goes on late
+            other = self.member(PLAIN, 4)
+            with self.assertRaises(OriginShared):
+                one.tell(("a", 2))
+            self.assertEqual(other.tell(("a", 3)), Id(4, 2))
+            self.assertEqual(other.show(), (("a", 1), ("a", 3)))
 
     def test_a_live_node_keeps_its_origin(self) -> None:
         with patch("chrrep.link.log._HEARTBEAT", 0.1), patch("chrrep.link.log.Link.lease_seconds", 0.7):

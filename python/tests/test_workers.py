@@ -214,6 +214,12 @@ class Workers(unittest.TestCase):
         lines = [*tells(told, 1), '["show",1]']
         self.expect_rested(lines, ["told"] * (len(lines) - 1) + [shortest(told)])
 
+    def test_the_first_routes_stay(self) -> None:
+        """Routes whose ends all differ, and more between few towns after them: who reads the first rests no more."""
+        told = [(town, town + 1, 1) for town in range(20, 4_020)] + routes(150_003, 12)
+        lines = [*tells(told, 1), '["show",1]']
+        self.expect_rested(lines, ["told"] * (len(lines) - 1) + [shortest(told)])
+
     def test_stores_of_several_symbols(self) -> None:
         """Atoms of some symbols, told in no order: symbols are shown by their names, and atoms by their arguments."""
         rng = random.Random(1)

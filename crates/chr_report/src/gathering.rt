@@ -16,6 +16,12 @@ use chr_ops::Op;
 use chr_shards::Shards;
 use std::alloc::{AllocError, Global};
 
+/// Of more than so many atoms it shows whether it pays to rest them.
+const TRIAL: u64 = 2048;
+
+/// It pays where of so many atoms one takes a step.
+const PAYING: u64 = 256;
+
 /// Lines of a text that tell one replica operations: how many bytes are left of the text where they begin and where
 /// they end, the operations, and what comes of their atoms at rest.
 #[derive(Drop)]
@@ -27,14 +33,16 @@ pub(crate) struct Tells {
     pub(crate) rested: Vec<Atom>,
 }
 
-/// Such lines while they are read, and the pool in which their atoms are rested.
+/// Such lines while they are read, how many atoms they tell, the pool in which these are rested, and by how many steps.
 #[derive(Drop)]
 struct Gathering {
     left: usize,
     more: usize,
     replica: u64,
     ops: Vec<Op>,
+    told: u64,
     pool: Shards,
+    steps: u64,
 }
 
 impl Gathering {
@@ -49,7 +57,9 @@ impl Gathering {
             more: left,
             replica: 0,
             ops: Vec::new(alloc),
+            told: 0,
             pool: Shards::open(alloc, weighed, accepted.seed(), 1)?,
+            steps: 0,
         })
     }
 
@@ -68,7 +78,10 @@ impl Gathering {
         ensures more { self.new.more ≡ self.old.more }
     {
         match self.pool.rest() {
-            Ok(_steps) => Ok(()),
+            Ok(steps) => {
+                self.steps = self.steps.saturating_add(steps);
+                Ok(())
+            }
             Err(_stopped) => Err(AllocError),
         }
     }
@@ -94,10 +107,16 @@ impl Gathering {
         ensures more { OnOk result (self.new.more ≡ more) }
     {
         self.pool.insert(op.bag().atoms())?;
+        self.told = self.told.saturating_add(op.bag().len() as u64);
         self.ops.push(op)?;
         self.replica = replica;
         self.more = more;
         self.rest_many()
+    }
+
+    /// Whether it is in vain to rest more: of many atoms hardly any took a step, and none waits.
+    fn is_in_vain(&self) -> bool {
+        self.told > TRIAL && self.pool.waiting() == 0 && self.steps < self.told / PAYING
     }
 
     /// Reads the next line, if it tells that replica an operation. Otherwise it is left to be read again.
@@ -140,6 +159,7 @@ impl Gathering {
             replica,
             ops,
             pool,
+            ..
         } = gathering;
         let rested = pool.arranged(alloc)?;
         Ok(Some(Tells {
@@ -152,7 +172,8 @@ impl Gathering {
     }
 }
 
-/// Reads the tells at the beginning of a text, as far as they go to one replica, and rests them.
+/// Reads the tells at the beginning of a text, as far as they go to one replica, and rests them, as long as that is not
+/// in vain.
 pub(crate) fn gather(
     alloc: Global,
     accepted: &Accepted,
@@ -162,7 +183,7 @@ pub(crate) fn gather(
 {
     let mut gathering = Gathering::open(alloc, accepted, text.len())?;
     while gathering.more > 0 && gathering.ops.len() < MOST_LINES {
-        if !gathering.take_line(alloc, accepted, text)? {
+        if gathering.is_in_vain() || !gathering.take_line(alloc, accepted, text)? {
             break;
         }
     }

@@ -28,7 +28,7 @@ pub(crate) fn rest_replica<R: Threads + Wait + Sync>(
     ensures rests { OnOk result (
         RestsAt (shared_program world.old) world.old.replicas replica world.new.replicas) }
 {
-    let mut board = Board::open(alloc, world.program().clone()?)?;
+    let mut board = Board::spare(alloc, world.program().clone()?)?;
     let there = world.swap_board(replica, &mut board);
     if !there {
         return Ok(());
@@ -58,7 +58,7 @@ pub(crate) fn tell_replica(
         tells.now.replica tells.now.ops.items world.new.replicas)) }
     ensures same { IfOk result (λ told. OnFalse told (world.new.replicas ≡ world.old.replicas)) }
 {
-    let mut board = Board::open(alloc, world.program().clone()?)?;
+    let mut board = Board::spare(alloc, world.program().clone()?)?;
     let there = world.swap_board(tells.replica, &mut board);
     if !there {
         return Ok(false);

@@ -5,7 +5,7 @@ use Rattle.chr_base.specs.FinBag as bag
 use Rattle.chr_join.specs.AcceptedPrograms.{program_in, weighed_of}
 use Rattle.chr_replica.specs.Replicas.{IsSound}
 use Rattle.chr_replica.proofs.States.{replica_is}
-use Rattle.chr_replica.proofs.board.Board.open.Goals as goal
+use Rattle.chr_replica.proofs.board.Board.in_pools.Goals as goal
 
 pub invariant_of-result : goal.invariant_of-result
 invariant_of-result c =
