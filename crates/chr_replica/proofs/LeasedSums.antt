@@ -131,3 +131,21 @@ without_again m k v h = finite.same_map nat_cmp_total nat_cmp-IsAntisymmetric _ 
         ≡ finite.get m q
     by q true e = sym (ap (finite.get m) (same_number q k e) ∙ h)
     by q false e = refl
+
+-- a part that is put in under another number before one is taken out may be put in after that
+pub taken_before : (m : Leases) (k n : ℕ) (v : Store) → n < k
+    → finite.remove (finite.insert m k v) n ≡ finite.insert (finite.remove m n) k v
+taken_before m k n v less = finite.same_map nat_cmp_total nat_cmp-IsAntisymmetric _ _ (λ q.
+    finite.get-remove nat_cmp_total (finite.insert m k v) n q
+    ∙ ap (cond (eq_by_cmp nat_cmp q n) None) (finite.get-insert nat_cmp_total m k v q)
+    ∙ by q (eq_by_cmp nat_cmp q n) (eq_by_cmp nat_cmp q k) refl refl
+    ∙ sym (finite.get-insert nat_cmp_total (finite.remove m n) k v q
+    ∙ ap (cond (eq_by_cmp nat_cmp q k) (Some v)) (finite.get-remove nat_cmp_total m n q)))
+  where
+    by : (q : ℕ) (a b : Bool) → eq_by_cmp nat_cmp q n ≡ a → eq_by_cmp nat_cmp q k ≡ b
+        → cond a None (cond b (Some v) (finite.get m q)) ≡ cond b (Some v) (cond a None (finite.get m q))
+    by q true true e f = absurd (let same = same_number q n e in let other = same_number q k f in
+        omega (arith, less, same, other))
+    by q true false e f = refl
+    by q false true e f = refl
+    by q false false e f = refl

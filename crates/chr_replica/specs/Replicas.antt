@@ -139,6 +139,20 @@ pub record TellsRested (p : Program) (s : Replica) (ops : List Operation) (t : R
   pub count : ℕ
   pub settles : Settles p told count t
 
+-- so they are, and then a part of the pool is leased out, under the next number
+pub record TellsLeased (p : Program) (s : Replica) (ops : List Operation) (part : Store) (number : ℕ) (t : Replica)
+    : Type 0 where
+  pub rested : Replica
+  pub tells : TellsRested p s ops rested
+  pub takes : Takes rested part number t
+
+-- so they are after the part that was out under a number came back
+pub record TellsLeasedWith (p : Program) (s : Replica) (out : ℕ) (ops : List Operation) (part : Store) (number : ℕ)
+    (t : Replica) : Type 0 where
+  pub back : Replica
+  pub recalls : Recalls s out back
+  pub tells : TellsLeased p back ops part number t
+
 -- no part is out, and the pool is at rest
 abbrev pub IsSettled : Program → Replica → Type 0
 IsSettled p s = (s.out ≡ map.empty) × IsAtRest (Step (rules_of p)) s.pool

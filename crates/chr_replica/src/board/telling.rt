@@ -1,5 +1,6 @@
 //! Boards are told operations.
-ghost use Rattle.std.specs.Prelude.{◌≡◌, ◌≤◌, ◌+◌, ◌⊎◌, false, All, Ok, IfOk, IfErr, OnOk, OnErr};
+ghost use Rattle.std.specs.Prelude.{◌≡◌, ◌<◌, ◌≤◌, ◌+◌, ◌⊎◌, ◌↔◌, false, All, Ok, Some, IfOk, IfErr, IfNone, IfSome};
+ghost use Rattle.std.specs.Prelude.{IsTrue, OnOk, OnErr};
 ghost use Rattle.std.specs.Bool.{OnTrue, OnFalse};
 ghost use Rattle.std.specs.FinMap as map;
 ghost use Rattle.chr_base.specs.FinBag.{◌⊕◌};
@@ -7,9 +8,12 @@ ghost use Rattle.chr_base.specs.Programs.{rules_of};
 ghost use Rattle.chr_base.specs.Rewriting.{Reaches};
 ghost use Rattle.chr_base.specs.Rules.{Step as StepOf};
 ghost use Rattle.chr_base.specs.Stores.{size, store_of};
-ghost use Rattle.chr_ops.specs.Joins.{AreNew, IsOverLimit};
+ghost use Rattle.chr_ops.specs.Joins.{union, AreNew, IsOverLimit};
 ghost use Rattle.chr_ops.specs.Operations.{sum_of, told_atoms, IsNew, IsHeld};
-ghost use Rattle.chr_replica.specs.Replicas.{IsDeclared, Tells, TellsRested, Merges, Steps};
+ghost use Rattle.chr_replica.specs.Leases.{AreBelow};
+ghost use Rattle.chr_replica.specs.Replicas.{IsDeclared, Tells, TellsLeased, TellsLeasedWith, TellsRested, Merges};
+ghost use Rattle.chr_replica.specs.Replicas.{Steps};
+ghost use Rattle.chr_replica.specs.declared.limits.TheConstants.{LAST_LEASE};
 ghost use Rattle.chr_replica.specs.Refusals.{RefusesTell, RefusesMerge, RefusesStep};
 ghost use Rattle.chr_replica.specs.Boards.{program_on};
 ghost use Rattle.chr_ops.specs.declared.fault.AddFault.TheVariants.{Full};
@@ -17,8 +21,11 @@ ghost use Rattle.chr_ops.specs.declared.fault.AddFault.TheVariants.{Full};
 use crate::board::Board;
 use crate::declared::{declares, declares_all};
 use crate::laws::events_keep_replicas_sound;
+use crate::leases::Leases;
+use crate::limits::LAST_LEASE;
 use crate::refusal::{Limit, Refusal};
 use chr_base::atom::Atom;
+use chr_base::bag::Bag;
 use chr_base::derivation::Step;
 use chr_ops::{AddFault, Added, MAX_TOLD, Op, OpSet};
 use chr_shards::Shards;
@@ -52,6 +59,44 @@ fn untold(fault: AddFault) -> Result<bool, AllocError>
     match fault {
         AddFault::Full => Ok(false),
         _ => Err(AllocError),
+    }
+}
+
+/// Operations that are all new join the set, and a part is leased out under the next number. Else nothing changes.
+fn join_leased(
+    alloc: Global,
+    ops: &mut OpSet,
+    out: &mut Leases,
+    next: u64,
+    told: &[Op],
+    part: Bag,
+) -> Result<bool, AllocError>
+    requires { AreBelow out.old next }
+    ensures new { IfOk result (λ joined. OnTrue joined (AreNew ops.old told.now)) }
+    ensures ops { IfOk result (λ joined. OnTrue joined (ops.new ≡ union ops.old told.now)) }
+    ensures within { IfOk result (λ joined. OnTrue joined (told_atoms ops.new ≤ MAX_TOLD)) }
+    ensures leased { IfOk result (λ joined. OnTrue joined (out.new ≡ map.insert out.old next part)) }
+    ensures not { IfOk result (λ joined. OnFalse joined
+        ((¬ (AreNew ops.old told.now)) ⊎ IsOverLimit ops.old told.now)) }
+    ensures same_ops { IfOk result (λ joined. OnFalse joined (ops.new ≡ ops.old)) }
+    ensures same_out { IfOk result (λ joined. OnFalse joined (out.new ≡ out.old)) }
+    ensures err_ops { OnErr result (ops.new ≡ ops.old) }
+    ensures err_out { OnErr result (out.new ≡ out.old) }
+{
+    if !ops.are_new(alloc, told)? {
+        return Ok(false);
+    }
+    out.insert(next, part)?;
+    match ops.join(alloc, told) {
+        Ok(_count) => {
+            // The set's type keeps the limit.
+            let _told = ops.told();
+            Ok(true)
+        }
+        Err(fault) => {
+            out.remove(next);
+            untold(fault)
+        }
     }
 }
 
@@ -155,6 +200,80 @@ impl Board {
                 untold(fault)
             }
         }
+    }
+
+    /// Whether this is the part that is leased out under a number. It takes no memory.
+    pub fn has_leased(&self, number: u64, part: &Bag) -> bool
+        ensures { IsTrue result ↔ (map.get self.now.replica.out number ≡ Some part.now) }
+    {
+        match self.out.get(number) {
+            Some(out) => out.is_same(part),
+            None => false,
+        }
+    }
+
+    /// Tells operations that are all new, where some steps have made `rested` of their atoms: that is leased out,
+    /// under the number that is answered. None, and nothing changes, where one of them is not new, where more than
+    /// [`MAX_TOLD`](chr_ops::MAX_TOLD) atoms would be told, and where the lease numbers are used up. It does not look
+    /// at their atoms.
+    pub fn tell_leased(
+        &mut self,
+        alloc: Global,
+        ops: &[Op],
+        rested: Bag,
+    ) -> Result<Option<u64>, AllocError>
+        requires declared { All (IsDeclared (program_on self.old)) ops.now }
+        requires reached { Reaches (StepOf (rules_of (program_on self.old))) (sum_of ops.now) rested }
+        ensures program { self.new.accepted ≡ self.old.accepted }
+        ensures told { IfOk result (λ found. IfSome found (λ number.
+            TellsLeased (program_on self.old) self.old.replica ops.now rested number self.new.replica)) }
+        ensures none { IfOk result (λ found. IfNone found ((LAST_LEASE < self.old.replica.next)
+            ⊎ (¬ (AreNew self.old.replica.operations ops.now)) ⊎ IsOverLimit self.old.replica.operations ops.now)) }
+        ensures same { IfOk result (λ found. IfNone found (self.new ≡ self.old)) }
+        ensures err { OnErr result (self.new ≡ self.old) }
+    {
+        let number = self.next;
+        if number > LAST_LEASE {
+            return Ok(None);
+        }
+        if !join_leased(alloc, &mut self.ops, &mut self.out, number, ops, rested)? {
+            return Ok(None);
+        }
+        self.next += 1;
+        Ok(Some(number))
+    }
+
+    /// The same, where these steps have taken the part that is out under a number, too, which so comes back. None, and
+    /// nothing changes, also where that part is not out under the number.
+    pub fn tell_leased_with(
+        &mut self,
+        alloc: Global,
+        out: u64,
+        part: &Bag,
+        ops: &[Op],
+        rested: Bag,
+    ) -> Result<Option<u64>, AllocError>
+        requires declared { All (IsDeclared (program_on self.old)) ops.now }
+        requires reached { Reaches (StepOf (rules_of (program_on self.old))) (part.now ⊕ sum_of ops.now) rested }
+        ensures program { self.new.accepted ≡ self.old.accepted }
+        ensures told { IfOk result (λ found. IfSome found (λ number.
+            TellsLeasedWith (program_on self.old) self.old.replica out ops.now rested number self.new.replica)) }
+        ensures none { IfOk result (λ found. IfNone found ((¬ (map.get self.old.replica.out out ≡ Some part.now))
+            ⊎ (LAST_LEASE < self.old.replica.next) ⊎ (¬ (AreNew self.old.replica.operations ops.now))
+            ⊎ IsOverLimit self.old.replica.operations ops.now)) }
+        ensures same { IfOk result (λ found. IfNone found (self.new ≡ self.old)) }
+        ensures err { OnErr result (self.new ≡ self.old) }
+    {
+        let number = self.next;
+        if !self.has_leased(out, part) || number > LAST_LEASE {
+            return Ok(None);
+        }
+        if !join_leased(alloc, &mut self.ops, &mut self.out, number, ops, rested)? {
+            return Ok(None);
+        }
+        self.out.remove(out);
+        self.next += 1;
+        Ok(Some(number))
     }
 
     /// Takes a named step in the pool.
