@@ -220,6 +220,23 @@ class Workers(unittest.TestCase):
         lines = [*tells(told, 1), '["show",1]']
         self.expect_rested(lines, ["told"] * (len(lines) - 1) + [shortest(told)])
 
+    def test_shows_between_routes_that_are_carried_on(self) -> None:
+        """What stays of a block is rested with a later one, unless it was shown in between, or the store was synced."""
+        told, held = routes(250_000, 12), 0
+        lines: list[str] = []
+        answers: list[str] = []
+        for count, line in enumerate(tells(told, 1), 1):
+            lines.append(line)
+            answers.append("told")
+            if count in (400, 1_499, 1_500, 2_800, 3_907):
+                lines.append('["show",1]')
+                answers.append(shortest(told[: 64 * count]))
+            if count in (1_000, 3_000):
+                lines += ['["sync",1,2]', '["show",2]']
+                answers += [f"synced {count - held}", shortest(told[: 64 * count])]
+                held = count
+        self.expect_rested(lines, answers)
+
     def test_stores_of_several_symbols(self) -> None:
         """Atoms of some symbols, told in no order: symbols are shown by their names, and atoms by their arguments."""
         rng = random.Random(1)

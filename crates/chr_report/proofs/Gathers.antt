@@ -1,6 +1,7 @@
 -- Tells that are read one after another, and rested.
 use Rattle.std.proofs.Common.{◌≡◌, ◌≤◌, ◌<◌, ◌+◌, ℕ, arith, length, List, [], ◌∷◌}
-use Rattle.std.proofs.Common.{◌++◌, All, ◌⊎◌, inl, inr, refl, sym, ap, ◌∙◌, subst}
+use Rattle.std.proofs.Common.{◌++◌, All, ◌⊎◌, inl, inr, refl, sym, ap, ◌∙◌, subst, get_or, take}
+use Rattle.std.proofs.lemmas.List.{take_more}
 use Rattle.std.proofs.lemmas.List.Elements.{All-cons, All-nil}
 use Rattle.chr_base.specs.declared.program.Program.{Program}
 use Rattle.chr_base.specs.FinBag as bag
@@ -11,7 +12,7 @@ use Rattle.chr_base.specs.Rules.{Step}
 use Rattle.chr_base.specs.Stores.{Store}
 use Rattle.chr_base.proofs.Rewriting.{reaches_itself, reaches_on}
 use Rattle.chr_base.proofs.Steps.{Reaches-grows}
-use Rattle.chr_base.proofs.Stores.{plus_assoc, plus_comm}
+use Rattle.chr_base.proofs.Stores.{plus_assoc, plus_comm, plus_empty}
 use Rattle.chr_ops.specs.Operations.{Operation, sum_of}
 use Rattle.chr_rewrite.specs.Pools.{TookSteps}
 use Rattle.chr_rewrite.proofs.PoolLemmas.{took_reaches}
@@ -27,11 +28,12 @@ pub nothing_told : (p : Program) (text : List ℕ) (r left : ℕ) (ops : List Op
     → TellFirst p text r left ops left
 nothing_told p text r left ops none = subst (λ os. TellFirst p text r left os left) (sym none) refl
 
-pub nothing_reached : (p : Program) (ops : List Operation) (s : Store) → ops ≡ [] → s ≡ bag.empty
-    → ReachTogether p ops s
-nothing_reached p ops s none empty =
-    subst (λ os. ReachTogether p os s) (sym none)
-    (subst (ReachTogether p []) (sym empty) (reaches_itself (Step (rules_of p)) bag.empty))
+pub nothing_reached : (p : Program) (before : Store) (ops : List Operation) (s : Store) → ops ≡ [] → s ≡ before
+    → ReachTogether p before ops s
+nothing_reached p before ops s none same =
+    subst (λ os. ReachTogether p before os s) (sym none)
+    (subst (λ u. Reaches (Step (rules_of p)) u s) (sym (plus_empty before))
+    (subst (λ u. Reaches (Step (rules_of p)) u s) same (reaches_itself (Step (rules_of p)) s)))
 
 tell_one_more : (p : Program) (text : List ℕ) (r left : ℕ) (ops : List Operation) (mid : ℕ) (op : Operation) (more : ℕ)
     → TellFirst p text r left ops mid → AsksFirst p text mid more (request.Tell r op)
@@ -80,25 +82,38 @@ sum_push : (ops : List Operation) (op : Operation) → sum_of (ops ++ op ∷ [])
 sum_push [] op = plus_comm op.1 bag.empty
 sum_push (o ∷ ops) op = ap (λ s. o.1 ⊕ s) (sum_push ops op) ∙ sym (plus_assoc o.1 (sum_of ops) op.1)
 
+pub sum_more : (ops : List Operation) (i : ℕ) (o : Operation) → i < length ops → o ≡ get_or ops i o
+    → sum_of (take (i + 1) ops) ≡ sum_of (take i ops) ⊕ o.1
+sum_more ops i o there is =
+    ap sum_of (take_more ops i o there ∙ ap (λ y. take i ops ++ y ∷ []) (sym is)) ∙ sum_push (take i ops) o
+
 -- one operation more is put in
-reach_more : (p : Program) (ops : List Operation) (op : Operation) (s t : Store) → t ≡ s ⊕ op.1
-    → ReachTogether p ops s → ReachTogether p (ops ++ op ∷ []) t
-reach_more p ops op s t put h =
-    subst (λ u. Reaches (Step (rules_of p)) (sum_of (ops ++ op ∷ [])) u) (sym put)
-    (subst (λ u. Reaches (Step (rules_of p)) u (s ⊕ op.1)) (sym (sum_push ops op))
-    (Reaches-grows (rules_of p) (sum_of ops) s op.1 h))
+reach_more : (p : Program) (before : Store) (ops : List Operation) (op : Operation) (s t : Store) → t ≡ s ⊕ op.1
+    → ReachTogether p before ops s → ReachTogether p before (ops ++ op ∷ []) t
+reach_more p before ops op s t put h =
+    subst (λ u. Reaches (Step (rules_of p)) (before ⊕ sum_of (ops ++ op ∷ [])) u) (sym put)
+    (subst (λ u. Reaches (Step (rules_of p)) u (s ⊕ op.1))
+    (plus_assoc before (sum_of ops) op.1 ∙ ap (λ u. before ⊕ u) (sym (sum_push ops op)))
+    (Reaches-grows (rules_of p) (before ⊕ sum_of ops) s op.1 h))
+
+-- nothing was carried to them
+pub reach_alone : (p : Program) (before : Store) (ops : List Operation) (s : Store) → before ≡ bag.empty
+    → ReachTogether p before ops s → Reaches (Step (rules_of p)) (sum_of ops) s
+reach_alone p before ops s none h =
+    subst (λ u. Reaches (Step (rules_of p)) u s)
+    (ap (λ b. b ⊕ sum_of ops) none ∙ plus_comm bag.empty (sum_of ops) ∙ plus_empty (sum_of ops)) h
 
 -- steps are taken
-reach_on : (p : Program) (ops : List Operation) (s t : Store) → ReachTogether p ops s
-    → Reaches (Step (rules_of p)) s t → ReachTogether p ops t
-reach_on p ops s t h g = reaches_on (Step (rules_of p)) (sum_of ops) s t h g
+reach_on : (p : Program) (before : Store) (ops : List Operation) (s t : Store) → ReachTogether p before ops s
+    → Reaches (Step (rules_of p)) s t → ReachTogether p before ops t
+reach_on p before ops s t h g = reaches_on (Step (rules_of p)) (before ⊕ sum_of ops) s t h g
 
 -- the pool comes to rest
 pub gathering_rests : (p : Program) (text : List ℕ) (g h : Gathering) (n : ℕ)
     → TookSteps (program_of g.pool.weighed) n g.pool.store h.pool.store → h.pool.weighed ≡ g.pool.weighed
-    → h.left ≡ g.left → h.more ≡ g.more → h.replica ≡ g.replica → h.ops ≡ g.ops → IsGathered p text g
-    → IsGathered p text h
-gathering_rests p text g h n took weighed left more replica ops is =
+    → h.left ≡ g.left → h.more ≡ g.more → h.replica ≡ g.replica → h.ops ≡ g.ops
+    → h.carried.part ≡ g.carried.part → IsGathered p text g → IsGathered p text h
+gathering_rests p text g h n took weighed left more replica ops carried is =
     let steps : TookSteps p n g.pool.store h.pool.store =
     subst (λ q. TookSteps q n g.pool.store h.pool.store) is.own took in
     record {
@@ -107,21 +122,25 @@ gathering_rests p text g h n took weighed left more replica ops is =
           (subst (λ n. TellFirst p text n g.left h.ops.items g.more) (sym replica)
           (subst (λ v. TellFirst p text g.replica g.left v.items g.more) (sym ops) is.lines)));
       own = ap {B = Program} program_of weighed ∙ is.own;
-      reached = subst (λ os. ReachTogether p os h.pool.store) (sym (ap {B = List Operation} (λ v. v.items) ops))
-          (reach_on p g.ops.items g.pool.store h.pool.store is.reached
-          (took_reaches p n g.pool.store h.pool.store steps));
+      reached = subst (λ b. ReachTogether p b h.ops.items h.pool.store) (sym carried)
+          (subst (λ os. ReachTogether p g.carried.part os h.pool.store)
+          (sym (ap {B = List Operation} (λ v. v.items) ops))
+          (reach_on p g.carried.part g.ops.items g.pool.store h.pool.store is.reached
+          (took_reaches p n g.pool.store h.pool.store steps)));
     }
 
 -- one line more is told
 pub gathers_more : (p : Program) (text : List ℕ) (g h : Gathering) (op : Operation)
     → (g.ops.items ≡ []) ⊎ (g.replica ≡ h.replica) → AsksFirst p text g.more h.more (request.Tell h.replica op)
     → h.left ≡ g.left → h.ops.items ≡ g.ops.items ++ op ∷ [] → h.pool.weighed ≡ g.pool.weighed
-    → h.pool.store ≡ g.pool.store ⊕ op.1 → IsGathered p text g → IsGathered p text h
-gathers_more p text g h op to asks left ops weighed put is = record {
+    → h.pool.store ≡ g.pool.store ⊕ op.1 → h.carried.part ≡ g.carried.part → IsGathered p text g
+    → IsGathered p text h
+gathers_more p text g h op to asks left ops weighed put carried is = record {
   lines = subst (λ n. TellFirst p text h.replica n h.ops.items h.more) (sym left)
       (subst (λ os. TellFirst p text h.replica g.left os h.more) (sym ops)
       (tell_more p text g.replica h.replica g.left g.ops.items g.more op h.more to is.lines asks));
   own = ap {B = Program} program_of weighed ∙ is.own;
-  reached = subst (λ os. ReachTogether p os h.pool.store) (sym ops)
-      (reach_more p g.ops.items op g.pool.store h.pool.store put is.reached);
+  reached = subst (λ b. ReachTogether p b h.ops.items h.pool.store) (sym carried)
+      (subst (λ os. ReachTogether p g.carried.part os h.pool.store) (sym ops)
+      (reach_more p g.carried.part g.ops.items op g.pool.store h.pool.store put is.reached));
 }

@@ -155,4 +155,4 @@ synced p w v new a b x ready h e =
     let ds = declarations p in
     subst (AnswersBetween (operations_held w) a b (reply_text ds (replies.Synced x))) (sym e)
     (sync_answers ds version.Two p w v a b x (λ s rs there.
-    lacking_declared p s.operations rs (ready_at p w a s ready there).0.declared) h)
+    lacking_declared p s.operations rs (ready_at p w a s ready there).declared) h)

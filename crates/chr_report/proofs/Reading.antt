@@ -8,7 +8,7 @@ use Rattle.chr_base.specs.declared.program.Program.{Program}
 use Rattle.chr_base.specs.ProgramTests.{Declaration}
 use Rattle.chr_base.specs.Programs.{declarations, rules_of}
 use Rattle.chr_base.specs.Rules.{Step}
-use Rattle.chr_base.specs.Rewriting.{IsAtRest, IsNormalForm}
+use Rattle.chr_base.specs.Rewriting.{IsNormalForm}
 use Rattle.chr_ops.specs.declared.id.OpId.{OpId}
 use Rattle.chr_ops.specs.declared.range.IdRange.{IdRange}
 use Rattle.chr_ops.specs.Operations.{Operations, operations_of, told_store}
@@ -16,7 +16,7 @@ use Rattle.chr_ops.specs.Summaries.{covers, lacking}
 use Rattle.chr_json.specs.declared.command.DeltaVersion.{DeltaVersion}
 use Rattle.chr_json.specs.declared.command.DeltaVersion.TheVariants as version
 use Rattle.chr_replica.specs.declared.refusal.Refusal.TheVariants as refused
-use Rattle.chr_replica.specs.Replicas.{Replica, IsSound}
+use Rattle.chr_replica.specs.Replicas.{Replica, IsSettled, IsSound}
 use Rattle.chr_replica.proofs.OneAnswer.{normal}
 use Rattle.chr_acts.specs.declared.act.Act.TheVariants as act
 use Rattle.chr_acts.specs.declared.reply.Reply.{Reply}
@@ -29,41 +29,41 @@ use Rattle.chr_worlds.specs.declared.answer.Answer.TheVariants as answer
 use Rattle.chr_report.specs.Answers.{delta_text_of, AnswersShow, AnswersSummary, AnswersLacks, AnswersAt}
 use Rattle.chr_report.specs.declared.reply.Reply.TheVariants as replies
 use Rattle.chr_report.specs.working.ReplyTexts.{replied_text, answer_text, reply_text}
-use Rattle.chr_report.specs.working.Services.{operations_held, AreBetweenLines, HasLongRanges, IsIdle}
+use Rattle.chr_report.specs.working.Services.{operations_held, AreBetweenLines, HasLongRanges}
 use Rattle.chr_report.proofs.BetweenLines.{ready_at}
 use Rattle.chr_report.proofs.Held.{answers_at, none_answers}
 
 -- a replica at rest, of which nothing is out, shows a normal form of what it was told
 does_show : (ds : List Declaration) (word : List ℕ) (k : DeltaVersion) (p : Program) (s : Replica) (x : Reply)
-    (t : Replica) → IsSound p s → IsIdle s → IsAtRest (Step (rules_of p)) s.pool → Does p s act.Show x t
+    (t : Replica) → IsSound p s → IsSettled p s → Does p s act.Show x t
     → AnswersShow ds (rules_of p) s.operations (replied_text ds word k x) t.operations
-does_show ds word k p s (reply.Shown bag) t sound idle rest d = (
+does_show ds word k p s (reply.Shown bag) t sound settled d = (
   record {
     store = bag;
     normal_form = subst (IsNormalForm (Step (rules_of p)) (told_store s.operations)) (sym d.0)
-        (normal p s sound (idle, rest));
+        (normal p s sound settled);
     text_is = refl;
   },
   ap (λ r. r.operations) d.2,
 )
-does_show ds word k p s (reply.Refused (refused.Leased n)) t sound idle rest d =
-    let e : n ≡ 0 = d.0.0 ∙ ap map.len idle ∙ map.len-empty nat_cmp Store in
+does_show ds word k p s (reply.Refused (refused.Leased n)) t sound settled d =
+    let e : n ≡ 0 = d.0.0 ∙ ap map.len settled.0 ∙ map.len-empty nat_cmp Store in
     let l = d.0.1 in absurd (omega (arith, e, l))
-does_show ds word k p s (reply.Refused refused.NotAtRest) t sound idle rest d = absurd (d.0.1 rest)
-does_show ds word k p s (reply.Refused refused.Memory) t sound idle rest d = absurd (d.1 refl)
-does_show ds word k p s (reply.Refused _) t sound idle rest d = absurd d.0
-does_show ds word k p s _ t sound idle rest d = absurd d
+does_show ds word k p s (reply.Refused refused.NotAtRest) t sound settled d = absurd (d.0.1 settled.1)
+does_show ds word k p s (reply.Refused refused.Memory) t sound settled d = absurd (d.1 refl)
+does_show ds word k p s (reply.Refused _) t sound settled d = absurd d.0
+does_show ds word k p s _ t sound settled d = absurd d
 
 -- of replicas at rest
 pub show_answers : (ds : List Declaration) (word : List ℕ) (k : DeltaVersion) (p : Program) (w v : Replicas) (r : ℕ)
     (x : Answer)
-    → ((s : Replica) → IsAt w r s → IsSound p s × IsIdle s × IsAtRest (Step (rules_of p)) s.pool)
+    → ((s : Replica) → IsAt w r s → IsSound p s × IsSettled p s)
     → Happens p w (event.At r act.Show) x v
     → AnswersAt (operations_held w) r (AnswersShow ds (rules_of p)) (answer_text ds word k x) (operations_held v)
 show_answers ds word k p w v r (answer.Replied x) ready h =
     let g = ready h.before h.there in
     answers_at w v r (AnswersShow ds (rules_of p)) (replied_text ds word k x) h.before h.after h.there h.world
-    (does_show ds word k p h.before x h.after g.0 g.1 g.2 h.changed)
+    (does_show ds word k p h.before x h.after g.0 g.1 h.changed)
 show_answers ds word k p w v r answer.UnknownSymbol ready h = absurd h.1
 show_answers ds word k p w v r answer.NoReplica ready h = none_answers w v r (AnswersShow ds (rules_of p)) h.0 h.2
 
@@ -114,8 +114,7 @@ lacks_answers ds word k p w v r rs ss answer.NoReplica same h = none_answers w v
 
 -- of ready replicas that were rested, and hold what they held
 pub shown : (p q : Program) (w v : Replicas) (old : List Operations) (r : ℕ) (x : Answer) → q ≡ p → AreBetweenLines q w
-    → ((s : Replica) → IsAt w r s → IsAtRest (Step (rules_of q)) s.pool)
-    → Happens q w (event.At r act.Show) x v → operations_held w ≡ old
+    → ((s : Replica) → IsAt w r s → IsSettled q s) → Happens q w (event.At r act.Show) x v → operations_held w ≡ old
     → AnswersAt old r (AnswersShow (declarations p) (rules_of p)) (reply_text (declarations p) (replies.Answered x))
     (operations_held v)
 shown p q w v old r x same ready rest h e =
@@ -124,4 +123,4 @@ shown p q w v old r x same ready rest h e =
     (subst (λ m. AnswersAt m r (AnswersShow (declarations q) (rules_of q))
     (reply_text (declarations q) (replies.Answered x)) (operations_held v)) e
     (show_answers (declarations q) (codes "merged ") version.Two q w v r x
-    (λ s there. let g = ready_at q w r s ready there in (g.0, g.1, rest s there)) h))
+    (λ s there. (ready_at q w r s ready there, rest s there)) h))

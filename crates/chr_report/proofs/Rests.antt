@@ -11,7 +11,7 @@ use Rattle.chr_base.specs.Rewriting.{IsAtRest}
 use Rattle.chr_columns.proofs.Slices.{slice_set_same}
 use Rattle.chr_replica.specs.Replicas.{Replica, IsSettled, IsSound}
 use Rattle.chr_worlds.specs.Worlds.{Replicas, Changes, HasReplica, IsAt}
-use Rattle.chr_report.specs.working.Services.{operations_held, AreBetweenLines, ComesToRest, IsIdle, RestsAt}
+use Rattle.chr_report.specs.working.Services.{operations_held, AreBetweenLines, ComesToRest, RestsAt}
 use Rattle.chr_report.proofs.Held.{same_held, has_one}
 
 -- the replica of a number after a change
@@ -31,18 +31,14 @@ rests_held p w v r (inr h) = same_held w v r h.before h.after h.there h.world h.
 pub rests_ready : (p : Program) (w v : Replicas) (r : ℕ) → RestsAt p w r v → AreBetweenLines p w → AreBetweenLines p v
 rests_ready p w v r (inl h) ready = subst (AreBetweenLines p) (sym h.1) ready
 rests_ready p w v r (inr h) ready =
-    subst (AreBetweenLines p) (sym h.world) (
-      All-set (IsSound p) w (r - 1) h.after h.changed.sound ready.0,
-      All-set IsIdle w (r - 1) h.after h.changed.settled.0 ready.1,
-    )
+    subst (AreBetweenLines p) (sym h.world) (All-set (IsSound p) w (r - 1) h.after h.changed.sound ready)
 
 -- and it is at rest
-pub rests_at : (p : Program) (w v : Replicas) (r : ℕ) → RestsAt p w r v → (t : Replica) → IsAt v r t
-    → IsAtRest (Step (rules_of p)) t.pool
+pub rests_at : (p : Program) (w v : Replicas) (r : ℕ) → RestsAt p w r v → (t : Replica) → IsAt v r t → IsSettled p t
 rests_at p w v r (inl h) t there = absurd (h.0 (has_one w r t (subst (λ u. IsAt u r t) h.1 there)))
 rests_at p w v r (inr h) t there =
-    subst (λ u. IsAtRest (Step (rules_of p)) u.pool) (changed_at w r h.before h.after t h.there
-    (subst (λ u. IsAt u r t) h.world there)) h.changed.settled.1
+    subst (IsSettled p) (changed_at w r h.before h.after t h.there (subst (λ u. IsAt u r t) h.world there))
+    h.changed.settled
 
 -- there is still a replica of the number after a change
 pub still_there : (w u : Replicas) (r : ℕ) (R : Replica → Replica → Type 0) → Changes w r R u → HasReplica u r

@@ -5,10 +5,8 @@ use Rattle.std.specs.Bool.{OnTrue}
 use Rattle.std.proofs.lemmas.Bool.{OnTrue_from, OnTrue_at}
 use Rattle.chr_base.specs.declared.program.Program.{Program}
 use Rattle.chr_base.specs.Programs.{declarations, rules_of}
-use Rattle.chr_base.specs.Rules.{Step}
-use Rattle.chr_base.specs.Rewriting.{IsAtRest}
 use Rattle.chr_base.specs.Texts.{store_text}
-use Rattle.chr_replica.specs.Replicas.{Replica}
+use Rattle.chr_replica.specs.Replicas.{Replica, IsSettled}
 use Rattle.chr_replica.proofs.OneAnswer.{normal}
 use Rattle.chr_worlds.specs.Worlds.{Replicas, IsAt}
 use Rattle.chr_report.specs.Answers.{AnswersAt, AnswersShow}
@@ -17,15 +15,13 @@ use Rattle.chr_report.proofs.BetweenLines.{ready_at}
 use Rattle.chr_report.proofs.Held.{answers_at, same_set}
 
 -- a replica at rest, of which nothing is out, shows its pool, and stays as it is
-pub pool_shown : (p : Program) (w : Replicas) (r : ℕ) (t : Replica) → AreBetweenLines p w → IsAt w r t
-    → IsAtRest (Step (rules_of p)) t.pool
+pub pool_shown : (p : Program) (w : Replicas) (r : ℕ) (t : Replica) → AreBetweenLines p w → IsAt w r t → IsSettled p t
     → AnswersAt (operations_held w) r (AnswersShow (declarations p) (rules_of p)) (store_text (declarations p) t.pool)
     (operations_held w)
-pool_shown p w r t ready there rest =
-    let g = ready_at p w r t ready there in
+pool_shown p w r t ready there settled =
     answers_at w w r (AnswersShow (declarations p) (rules_of p)) (store_text (declarations p) t.pool) t t there
     (sym (same_set w (r - 1) t there.1))
-    (record { store = t.pool; normal_form = normal p t g.0 (g.1, rest); text_is = refl }, refl)
+    (record { store = t.pool; normal_form = normal p t (ready_at p w r t ready there) settled; text_is = refl }, refl)
 
 -- what is known where a call has done something
 pub known_more : {E : Type 0} (r : Result Bool E) {P Q : Type 0} → (P → Q) → IfOk r (λ b. OnTrue b P)

@@ -1,18 +1,18 @@
 -- Replicas that are told operations which were rested before, and the answers.
 use Rattle.std.proofs.Common.{◌≡◌, ℕ, zero, suc, ◌+◌, ◌-◌, List, [], ◌∷◌, ◌++◌, length, refl, sym, ap, ◌∙◌, subst}
 use Rattle.std.proofs.Common.{append_assoc, append-nil, arith, codes}
-use Rattle.std.specs.Prelude.{Bool, true, false, Some, Result, Ok, Err, IfOk, MatchOption}
+use Rattle.std.specs.Prelude.{Option, Some, None, Result, Ok, Err, IfOk, IfSome, IfNone, OnOk, MatchOption}
 use Rattle.std.specs.Prelude.{slice_get, slice_set, string_bytes}
-use Rattle.std.specs.Bool.{OnTrue, OnFalse}
 use Rattle.std.proofs.lemmas.List.{map-set, set-set}
 use Rattle.std.proofs.lemmas.List.Elements.{All-set}
 use Rattle.std.proofs.lemmas.Option.{none-some, slice_get_within}
 use Rattle.chr_base.specs.declared.program.Program.{Program}
 use Rattle.chr_base.specs.declared.rule.Rule.{Rule}
 use Rattle.chr_base.specs.Programs.{declarations, rules_of}
+use Rattle.chr_base.specs.Stores.{Store}
 use Rattle.chr_columns.proofs.Slices.{slice_set_same}
 use Rattle.chr_ops.specs.Operations.{Operation, Operations}
-use Rattle.chr_replica.specs.Replicas.{Replica, IsSound, TellsEach, TellsRested}
+use Rattle.chr_replica.specs.Replicas.{Replica, IsSound, TellsEach, TellsLeased, TellsLeasedWith, TellsRested}
 use Rattle.chr_worlds.specs.Worlds.{Replicas, Changes}
 use Rattle.chr_report.specs.Answers.{held_by, AnswersAt, AnswersRefusal, AnswersTell, OneAnswers}
 use Rattle.chr_report.specs.Lines.{without_return}
@@ -26,41 +26,63 @@ use Rattle.chr_report.specs.working.LinesLeft.{last_bytes}
 use Rattle.chr_report.specs.working.Obeying.{HoldsMore}
 use Rattle.chr_report.specs.working.ReplyTexts.{told_lines}
 use Rattle.chr_report.specs.working.Requests.{AsksFirst}
-use Rattle.chr_report.specs.working.Services.{held, operations_held, served, AreBetweenLines, IsBetweenLines, IsIdle}
+use Rattle.chr_report.specs.working.Services.{held, operations_held, served, AreBetweenLines, IsBetweenLines}
 use Rattle.chr_report.specs.working.Services.{TellsAt, TellsSoundly}
 use Rattle.chr_report.specs.working.Serving.{AnswersFront}
-use Rattle.chr_report.proofs.BetweenLines.{ready_at}
 use Rattle.chr_report.proofs.Held.{held_as, held_at, same_set}
 use Rattle.chr_report.proofs.Pieces.{front_begins, front_goes_on, fronts_join}
 use Rattle.chr_report.proofs.Telling.{new_told}
 
 -- ---- a replica that is told them
 
-each_out : (p : Program) (s : Replica) (ops : List Operation) (t : Replica) → TellsEach p s ops t → t.out ≡ s.out
-each_out p s [] t h = ap (λ r. r.out) h
-each_out p s (op ∷ ops) t h = each_out p h.0 ops t h.2 ∙ ap (λ r. r.out) h.1.after
+-- what stays of what it was told takes part in no answer
+pub rested_soundly : (p : Program) (ops : List Operation) (s t : Replica) → IsSound p t → TellsRested p s ops t
+    → TellsSoundly p ops s t
+rested_soundly p ops s t sound h = record {
+  start = s;
+  held = refl;
+  told = h.told;
+  tells = h.tells;
+  operations = ap (λ r. r.operations) h.settles.after;
+  sound = sound;
+}
 
-told_idle : (p : Program) (s : Replica) (ops : List Operation) (t : Replica) → TellsRested p s ops t → IsIdle s
-    → IsIdle t
-told_idle p s ops t h idle = ap (λ r. r.out) h.settles.after ∙ each_out p s ops h.told h.tells ∙ idle
+pub leased_soundly : (p : Program) (ops : List Operation) (s t : Replica) (part : Store) (number : ℕ) → IsSound p t
+    → TellsLeased p s ops part number t → TellsSoundly p ops s t
+leased_soundly p ops s t part number sound h = record {
+  start = s;
+  held = refl;
+  told = h.tells.told;
+  tells = h.tells.tells;
+  operations = ap (λ r. r.operations) h.takes.after ∙ ap (λ r. r.operations) h.tells.settles.after;
+  sound = sound;
+}
+
+pub leased_with_soundly : (p : Program) (ops : List Operation) (s t : Replica) (out : ℕ) (part : Store) (number : ℕ)
+    → IsSound p t → TellsLeasedWith p s out ops part number t → TellsSoundly p ops s t
+leased_with_soundly p ops s t out part number sound h = record {
+  start = h.back;
+  held = ap (λ r. r.operations) h.recalls.after;
+  told = h.tells.tells.told;
+  tells = h.tells.tells.tells;
+  operations = ap (λ r. r.operations) h.tells.takes.after ∙ ap (λ r. r.operations) h.tells.tells.settles.after;
+  sound = sound;
+}
 
 pub told_ready : (p : Program) (w : Replicas) (r : ℕ) (ops : List Operation) (v : Replicas) → TellsAt p w r ops v
     → AreBetweenLines p w → AreBetweenLines p v
-told_ready p w r ops v h ready = subst (AreBetweenLines p) (sym h.world) (
-  All-set (IsSound p) w (r - 1) h.after h.changed.sound ready.0,
-  All-set IsIdle w (r - 1) h.after (told_idle p h.before ops h.after h.changed.tells
-      (ready_at p w r h.before ready h.there).1) ready.1,
-)
+told_ready p w r ops v h ready = subst (AreBetweenLines p) (sym h.world)
+    (All-set (IsSound p) w (r - 1) h.after h.changed.sound ready)
 
 pub holds_more : (p : Program) (w : Replicas) (r : ℕ) (ops : List Operation) (v : Replicas) → TellsAt p w r ops v
     → HoldsMore p (operations_held w) r ops (operations_held v)
 holds_more p w r ops v h = record {
-  before = h.before;
-  after = h.changed.tells.told;
-  there = held_at w r h.before h.there;
-  tells = h.changed.tells.tells;
+  before = h.changed.start;
+  after = h.changed.told;
+  there = held_at w r h.before h.there ∙ ap Some (sym h.changed.held);
+  tells = h.changed.tells;
   others = ap operations_held h.world ∙ map-set (λ t. t.operations) w (r - 1) h.after
-      ∙ ap (λ t. slice_set (operations_held w) (r - 1) t.operations) h.changed.tells.settles.after;
+      ∙ ap (λ m. slice_set (operations_held w) (r - 1) m) h.changed.operations;
 }
 
 -- its board is worked on with another one in its place, and comes back
@@ -86,16 +108,26 @@ module _ (w u v : Replicas) (r : ℕ) (spare s again t : Replica) (out : Changes
 
 -- ---- what comes of each case
 
-pub where_true : {E P Q : Type 0} (r : Result Bool E) → (P → Q) → IfOk r (λ b. OnTrue b P) → IfOk r (λ b. OnTrue b Q)
-where_true (Ok true) f h = f h
-where_true (Ok false) f h = tt
-where_true (Err e) f h = tt
+pub some_each : {A : Type 0} {P : A → Type 0} {Q : A → Type 0} (o : Option A) → ((x : A) → P x → Q x) → IfSome o P
+    → IfSome o Q
+some_each (Some x) f h = f x h
+some_each None f h = tt
 
-pub where_false : {E P Q : Type 0} (r : Result Bool E) → (P → Q) → IfOk r (λ b. OnFalse b P)
-    → IfOk r (λ b. OnFalse b Q)
-where_false (Ok true) f h = tt
-where_false (Ok false) f h = f h
-where_false (Err e) f h = tt
+pub where_ok : {E A P Q : Type 0} (r : Result A E) → (P → Q) → OnOk r P → OnOk r Q
+where_ok (Ok x) f h = f h
+where_ok (Err e) f h = tt
+
+pub where_some : {E A P Q : Type 0} (r : Result (Option A) E) → (P → Q) → IfOk r (λ o. IfSome o (λ _. P))
+    → IfOk r (λ o. IfSome o (λ _. Q))
+where_some (Ok (Some x)) f h = f h
+where_some (Ok None) f h = tt
+where_some (Err e) f h = tt
+
+pub where_none : {E A P Q : Type 0} (r : Result (Option A) E) → (P → Q) → IfOk r (λ o. IfNone o P)
+    → IfOk r (λ o. IfNone o Q)
+where_none (Ok (Some x)) f h = tt
+where_none (Ok None) f h = f h
+where_none (Err e) f h = tt
 
 -- ---- the answers
 

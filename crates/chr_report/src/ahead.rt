@@ -6,7 +6,7 @@ ghost use Rattle.chr_report.specs.working.Gathered.{AreTells};
 ghost use Rattle.chr_report.specs.working.Requests.{AsksFirst, IsHeard};
 ghost use Rattle.chr_report.specs.working.Ahead.{IsAhead};
 
-use crate::gathering::{Tells, gather};
+use crate::gathering::{Carried, Tells, gather};
 use crate::input::{first_of_last, last_bytes, without_return};
 use crate::request::{Request, request_of};
 use chr_base::program::Program;
@@ -95,20 +95,19 @@ impl Ahead {
         }
     }
 
-    /// Reads the lines of a text, and rests the tells at its beginning where that is wanted.
+    /// Reads the lines of a text, and rests the tells at its beginning with what is carried, where that is wanted.
     pub(crate) fn read(
         alloc: Global,
         accepted: &Accepted,
         text: &[u8],
-        rest: bool,
+        carried: Option<Carried>,
     ) -> Result<Self, AllocError>
         ensures { IfOk result (IsAhead (program_in accepted.now) text.now) }
     {
         make_room(alloc, text.len());
-        let tells = if rest {
-            gather(alloc, accepted, text)?
-        } else {
-            None
+        let tells = match carried {
+            Some(carried) => gather(alloc, accepted, text, carried)?,
+            None => None,
         };
         let left = match &tells {
             Some(tells) => tells.more,

@@ -20,6 +20,7 @@ ghost use Rattle.chr_report.specs.working.Serving.{AnswersInput};
 use crate::ahead::Ahead;
 use crate::answering::{Answering, answer_all, answer_lines};
 use crate::block::Block;
+use crate::carriage::Carriage;
 use crate::readers::{Asking, Done, Task, do_task};
 use crate::service::Service;
 use chr_crew::{Known, beside_crew};
@@ -159,14 +160,14 @@ impl Blocks {
         })
     }
 
-    /// As many blocks are read, or to be read, before the first is answered: fewer while it isn't known whether threads
-    /// that read are to rest what is told, and where they rest nothing. Then others wait for the one that answers.
+    /// As many blocks are read, or to be read, before the first is answered: fewer where threads that read rest
+    /// nothing. Then others wait for the one that answers.
     fn most(&self) -> usize {
         let workers = self.at.service.sharing.workers as usize;
         if workers == 1 {
             return 1;
         }
-        let ahead = if self.at.service.rests_ahead && self.size == MOST_BLOCK {
+        let ahead = if self.at.service.rests_ahead {
             RESTED_AHEAD
         } else {
             BLOCKS_AHEAD
@@ -275,6 +276,9 @@ impl Blocks {
         } = left;
         let mut at = answer_lines(rt, alloc, block.lines(), at, ahead)?;
         rest_told(rt, alloc, &mut at.service)?;
+        asking
+            .carriage
+            .note(at.service.rests_ahead, at.service.stretch);
         let room = room_of(alloc, block);
         Ok(Blocks {
             at,
@@ -336,6 +340,7 @@ fn answer_asking<R: Threads + Wait + Sync, D: Read, K: Known<Done>>(
     rt: &R,
     alloc: Global,
     accepted: &Accepted,
+    carriage: &Carriage,
     tasks: Sender<Task<K>>,
     left: &Receiver<Task<K>>,
     service: Service,
@@ -356,6 +361,8 @@ fn answer_asking<R: Threads + Wait + Sync, D: Read, K: Known<Done>>(
 {
     let mut asking = Asking {
         accepted,
+        carriage,
+        asked: 0,
         tasks,
         left,
         readings: VecDeque::new(alloc),
@@ -387,15 +394,16 @@ fn answer_beside<R: Threads + Wait + Sync, D: Read, K: Known<Done> + Send>(
     ensures memory { IsErrOf result Memory → has_failed reader.new ≡ has_failed reader.old }
 {
     let workers = service.sharing.workers as usize;
+    let carriage = Carriage::open(alloc, MOST_AHEAD)?;
     let (tasks, left) = bounded(alloc, MOST_AHEAD)?;
     if workers == 1 {
         return answer_asking(
-            rt, alloc, accepted, tasks, &left, service, first, reader, text,
+            rt, alloc, accepted, &carriage, tasks, &left, service, first, reader, text,
         );
     }
     let task = |task: Task<K>|
         requires { Agree K.holds (program_in accepted.now) }
-    { do_task(rt, alloc, accepted, task) };
+    { do_task(rt, alloc, accepted, &carriage, task) };
     let mut come = Some((service, text, tasks));
     let mut here = || -> Result<String, RunFault>
         requires ready { IfSome come (λ c. IsBetweenLines c.0) }
@@ -412,7 +420,7 @@ fn answer_beside<R: Threads + Wait + Sync, D: Read, K: Known<Done> + Send>(
         match come.take() {
             Some((service, text, tasks)) => {
                 answer_asking(
-                    rt, alloc, accepted, tasks, &left, service, first, reader, text,
+                    rt, alloc, accepted, &carriage, tasks, &left, service, first, reader, text,
                 )
             }
             None => Err(RunFault::Memory),

@@ -10,7 +10,7 @@ ghost use Rattle.chr_report.specs.working.Gathered.{AreTells, IsGathered};
 use crate::ahead::{Heard, MOST_LINES, read_one};
 use crate::request::Request;
 use crate::service::MOST_WAITING;
-use chr_base::atom::Atom;
+use chr_base::bag::Bag;
 use chr_join::Accepted;
 use chr_ops::Op;
 use chr_shards::Shards;
@@ -22,15 +22,32 @@ const TRIAL: u64 = 2048;
 /// It pays where of so many atoms one takes a step.
 const PAYING: u64 = 256;
 
+/// As many atoms are carried from block to block at most: each time they are rested once more.
+const MOST_CARRIED: u64 = 4096;
+
+/// Of so many atoms that a block tells one may be carried.
+const CARRYING: u64 = 4;
+
+/// What stays of the atoms of blocks that were read before, and the number of the stretch of blocks in which it may be
+/// carried on: a new one begins where parts that are out come back.
+#[derive(Drop)]
+pub(crate) struct Carried {
+    pub(crate) part: Bag,
+    pub(crate) stretch: u64,
+}
+
 /// Lines of a text that tell one replica operations: how many bytes are left of the text where they begin and where
-/// they end, the operations, and what comes of their atoms at rest.
+/// they end, the operations, and what comes of their atoms and those that were carried, at rest, and whether that is
+/// carried on.
 #[derive(Drop)]
 pub(crate) struct Tells {
     pub(crate) left: usize,
     pub(crate) more: usize,
     pub(crate) replica: u64,
     pub(crate) ops: Vec<Op>,
-    pub(crate) rested: Vec<Atom>,
+    pub(crate) carried: Carried,
+    pub(crate) rested: Bag,
+    pub(crate) goes_on: bool,
 }
 
 /// Such lines while they are read, how many atoms they tell, the pool in which these are rested, and by how many steps.
@@ -41,24 +58,45 @@ struct Gathering {
     replica: u64,
     ops: Vec<Op>,
     told: u64,
+    carried: Carried,
     pool: Shards,
     steps: u64,
 }
 
+/// Whether what stays of so many told atoms is carried on: so many.
+fn may_go_on(told: u64, staying: u64) -> bool {
+    staying <= MOST_CARRIED && staying <= told / CARRYING
+}
+
+impl Tells {
+    /// How many atoms more stay than were carried.
+    pub(crate) fn staying(&self) -> u64 {
+        (self.rested.len() as u64).saturating_sub(self.carried.part.len() as u64)
+    }
+}
+
 impl Gathering {
     /// No line yet, where so many bytes are left.
-    fn open(alloc: Global, accepted: &Accepted, left: usize) -> Result<Gathering, AllocError>
+    fn open(
+        alloc: Global,
+        accepted: &Accepted,
+        left: usize,
+        carried: Carried,
+    ) -> Result<Gathering, AllocError>
         ensures gathered { (text : List ℕ) → IfOk result (IsGathered (program_in accepted.now) text) }
         ensures left { IfOk result (λ gathering. gathering.more ≡ left) }
     {
         let weighed = accepted.shared().clone()?;
+        let mut pool = Shards::open(alloc, weighed, accepted.seed(), 1)?;
+        pool.insert(carried.part.atoms())?;
         Ok(Gathering {
             left,
             more: left,
             replica: 0,
             ops: Vec::new(alloc),
             told: 0,
-            pool: Shards::open(alloc, weighed, accepted.seed(), 1)?,
+            carried,
+            pool,
             steps: 0,
         })
     }
@@ -158,30 +196,36 @@ impl Gathering {
             more,
             replica,
             ops,
+            told,
+            carried,
             pool,
             ..
         } = gathering;
-        let rested = pool.arranged(alloc)?;
+        let rested = pool.bag(alloc)?;
+        let goes_on = may_go_on(told, rested.len() as u64);
         Ok(Some(Tells {
             left,
             more,
             replica,
             ops,
+            carried,
             rested,
+            goes_on,
         }))
     }
 }
 
-/// Reads the tells at the beginning of a text, as far as they go to one replica, and rests them, as long as that is not
-/// in vain.
+/// Reads the tells at the beginning of a text, as far as they go to one replica, and rests them with what is carried,
+/// as long as that is not in vain.
 pub(crate) fn gather(
     alloc: Global,
     accepted: &Accepted,
     text: &[u8],
+    carried: Carried,
 ) -> Result<Option<Tells>, AllocError>
     ensures { IfOk result (λ found. IfSome found (AreTells (program_in accepted.now) text.now)) }
 {
-    let mut gathering = Gathering::open(alloc, accepted, text.len())?;
+    let mut gathering = Gathering::open(alloc, accepted, text.len(), carried)?;
     while gathering.more > 0 && gathering.ops.len() < MOST_LINES {
         if gathering.is_in_vain() || !gathering.take_line(alloc, accepted, text)? {
             break;

@@ -5,6 +5,7 @@ mod ahead;
 mod answering;
 mod block;
 mod blocks;
+mod carriage;
 mod gathering;
 mod input;
 mod judging;

@@ -7,6 +7,8 @@ ghost use Rattle.chr_report.specs.working.Readings.{Agree, IsRead};
 
 use crate::ahead::Ahead;
 use crate::block::Block;
+use crate::carriage::Carriage;
+use crate::gathering::Carried;
 use chr_crew::{Desk, Inbox, Known, open};
 use chr_join::Accepted;
 use crossbeam_channel::{Receiver, Sender};
@@ -34,10 +36,11 @@ pub(crate) struct Done {
     pub(crate) ahead: Option<Ahead>,
 }
 
-/// A block that is to be read, whether its tells are to be rested, and from where what was read is sent.
+/// A block that is to be read, its number, whether its tells are to be rested, and from where what was read is sent.
 #[derive(Drop)]
 pub(crate) struct Task<K: Known<Done>> {
     pub(crate) block: Arc<Block>,
+    pub(crate) number: u64,
     pub(crate) rest: bool,
     pub(crate) desk: Desk<Done, K>,
 }
@@ -49,11 +52,16 @@ fn has_lines_of(block: &Block, other: &Block) -> bool
     block.lines() == other.lines()
 }
 
-/// Reads a block.
-fn read_block(alloc: Global, accepted: &Accepted, block: Arc<Block>, rest: bool) -> Done
+/// Reads a block, and rests its tells with what is carried, if anything is to be rested.
+fn read_block(
+    alloc: Global,
+    accepted: &Accepted,
+    block: Arc<Block>,
+    carried: Option<Carried>,
+) -> Done
     ensures { IsRead (program_in accepted.now) result }
 {
-    let ahead = Ahead::read(alloc, accepted, block.lines(), rest).ok();
+    let ahead = Ahead::read(alloc, accepted, block.lines(), carried).ok();
     Done { block, ahead }
 }
 
@@ -62,21 +70,43 @@ pub(crate) fn do_task<K: Known<Done>, R: Wait>(
     rt: &R,
     alloc: Global,
     accepted: &Accepted,
+    carriage: &Carriage,
     task: Task<K>,
 )
     requires { Agree K.holds (program_in accepted.now) }
 {
-    let Task { block, rest, desk } = task;
+    let Task {
+        block,
+        number,
+        rest,
+        desk,
+    } = task;
     let mut desk = desk;
-    let done = read_block(alloc, accepted, block, rest);
+    let carried = if rest {
+        carriage.take(rt, alloc, number)
+    } else {
+        None
+    };
+    let done = read_block(alloc, accepted, block, carried);
+    if let Some(
+        Ahead {
+            tells: Some(tells),
+            ..
+        },
+    ) = &done.ahead
+    {
+        carriage.give(rt, alloc, number, tells);
+    }
     let _heard = desk.send(rt, done);
 }
 
-/// How other threads are asked, and where what they read of the blocks that wait will come, in order, if they were
-/// asked. A task that no thread has begun is taken back.
+/// How other threads are asked, what is carried from block to block, how many were asked for, and where what is read of
+/// the blocks that wait will come, in order, if they were asked for. A task that no thread has begun is taken back.
 #[derive(Drop)]
 pub(crate) struct Asking<'a, K: Known<Done>> {
     pub(crate) accepted: &'a Accepted,
+    pub(crate) carriage: &'a Carriage,
+    pub(crate) asked: u64,
     pub(crate) tasks: Sender<Task<K>>,
     pub(crate) left: &'a Receiver<Task<K>>,
     pub(crate) readings: VecDeque<Option<Inbox<Done, K>>>,
@@ -93,7 +123,13 @@ impl<'a, K: Known<Done>> Asking<'a, K> {
     ) -> Option<Inbox<Done, K>> {
         let block = Arc::try_clone(block).ok()?;
         let (desk, inbox) = open(alloc, 1).ok()?;
-        self.tasks.send(rt, Task { block, rest, desk }).ok()?;
+        let task = Task {
+            block,
+            number: self.asked,
+            rest,
+            desk,
+        };
+        self.tasks.send(rt, task).ok()?;
         Some(inbox)
     }
 
@@ -108,6 +144,7 @@ impl<'a, K: Known<Done>> Asking<'a, K> {
         ensures { self.new.accepted ≡ self.old.accepted }
     {
         let len = block.lines().len();
+        self.asked = self.asked.wrapping_add(1);
         let reading = if readers.read && len >= LEAST_READ {
             self.task(rt, alloc, block, readers.rest && len >= LEAST_RESTED)
         } else {
@@ -129,7 +166,7 @@ impl<'a, K: Known<Done>> Asking<'a, K> {
                 return Some(done);
             }
             match self.left.try_recv(rt) {
-                Ok(task) => do_task(rt, alloc, self.accepted, task),
+                Ok(task) => do_task(rt, alloc, self.accepted, self.carriage, task),
                 Err(_none) => return inbox.recv(rt),
             }
         }

@@ -1,5 +1,5 @@
 //! Replicas that are asked what command lines say.
-ghost use Rattle.std.specs.Prelude.{◌≡◌, ◌≤◌, All, IfOk, OnOk, replicate, string_bytes};
+ghost use Rattle.std.specs.Prelude.{◌≡◌, ◌≤◌, All, IfOk, IsFalse, OnOk, replicate, string_bytes};
 ghost use Rattle.std.specs.Bool.{OnTrue, OnFalse};
 ghost use Rattle.std.specs.Arc.{arc_value};
 ghost use Rattle.std.specs.Thread.{IsSync};
@@ -16,7 +16,7 @@ ghost use Rattle.chr_report.specs.working.Gathered.{AreRested};
 ghost use Rattle.chr_report.specs.working.Obeying.{HoldsMore, IsAnswered, IsAnsweredAt, ShowsFrom};
 ghost use Rattle.chr_report.specs.working.Requests.{AnswersRequest, FitsProgram};
 ghost use Rattle.chr_report.specs.working.Services.{held, served, was_stopped};
-ghost use Rattle.chr_report.specs.working.Services.{AreAtRest, HasLongRanges, IsBetweenLines};
+ghost use Rattle.chr_report.specs.working.Services.{AreAtRest, AreIdle, HasLongRanges, IsBetweenLines};
 
 use crate::gathering::Tells;
 use crate::promptly::promptly;
@@ -69,13 +69,16 @@ enum Coming {
 }
 
 /// Replicas that answer command lines. `rested` has for each of them how many atoms that it was told don't wait, and
-/// `rests_ahead` whether threads that read tells rest them.
+/// `rests_ahead` whether threads that read tells rest them. `parts` has the numbers of parts that these carry on, and
+/// `stretch` is the number of the stretch of blocks in which they may.
 #[derive(Drop)]
 pub(crate) struct Service {
     pub world: World,
     pub rested: Vec<u64>,
     pub sharing: Sharing,
     pub rests_ahead: bool,
+    pub parts: Vec<u64>,
+    pub stretch: u64,
 }
 
 /// Whether memory was refused to a pool's rest.
@@ -130,6 +133,8 @@ impl Service {
             rested: noughts(alloc, replicas)?,
             sharing,
             rests_ahead,
+            parts: Vec::new(alloc),
+            stretch: 0,
         })
     }
 
@@ -195,13 +200,47 @@ impl Service {
         }
     }
 
+    /// No part is carried on any more.
+    fn forget_parts(&mut self)
+        ensures { self.new.world ≡ self.old.world }
+    {
+        if !self.parts.is_empty() {
+            self.parts.clear();
+            self.stretch = self.stretch.wrapping_add(1);
+        }
+    }
+
+    /// Notes that tells were told of so many atoms, which had been rested, and that so many of them wait: all, where
+    /// what was carried to them was out no more.
+    fn note_rested(&mut self, tells: &Tells, came: u64, more: u64)
+        ensures { self.new.world ≡ self.old.world }
+    {
+        self.rests_ahead = tells.staying() <= came / MOST_STAYING;
+        if more > tells.staying() && tells.carried.stretch == self.stretch {
+            self.forget_parts();
+        }
+    }
+
+    /// Whether a part of a replica is out.
+    fn has_parts_out(&self, replica: u64) -> bool
+        ensures { IsFalse result → AreIdle self.now replica }
+    {
+        let Some(board) = self.world.board(replica) else {
+            return false;
+        };
+        match board.least_lease() {
+            Some(_) => true,
+            None => false,
+        }
+    }
+
     /// Rests a replica's pool by one worker, where there is that replica.
     fn settle_alone(&mut self, replica: u64) -> Result<(), AllocError>
         requires { IsBetweenLines self.old }
         ensures ready { OnOk result (IsBetweenLines self.new) }
         ensures program { self.new.world.accepted ≡ self.old.world.accepted }
         ensures operations { OnOk result (held self.new ≡ held self.old) }
-        ensures rests { OnOk result (AreAtRest self.new replica) }
+        ensures rests { OnOk result (AreIdle self.old replica → AreAtRest self.new replica) }
     {
         runs_keep_replicas_sound();
         let answer = self.world.settle(replica);
@@ -227,6 +266,7 @@ impl Service {
     {
         rest_replica(rt, alloc, &mut self.world, replica, self.sharing)?;
         self.note_waiting(replica, 0);
+        self.forget_parts();
         Ok(())
     }
 
@@ -243,6 +283,9 @@ impl Service {
         ensures operations { OnOk result (held self.new ≡ held self.old) }
         ensures rests { OnOk result (AreAtRest self.new replica) }
     {
+        if self.has_parts_out(replica) {
+            return self.settle_shared(rt, alloc, replica);
+        }
         if self.is_worth_sharing(replica) {
             self.settle_shared(rt, alloc, replica)
         } else {
@@ -371,15 +414,13 @@ impl Service {
         ensures same { IfOk result (λ told. OnFalse told (held self.new ≡ held self.old)) }
     {
         let (before, waiting) = (self.told(tells.replica), self.waiting(tells.replica));
-        let told = tell_replica(alloc, &mut self.world, tells)?;
-        if !told {
+        let Some(more) = tell_replica(alloc, &mut self.world, &mut self.parts, tells)? else {
             self.rests_ahead = false;
             return Ok(false);
-        }
-        let staying = tells.rested.len() as u64;
+        };
         let came = self.told(tells.replica).saturating_sub(before);
-        self.rests_ahead = staying <= came / MOST_STAYING;
-        self.note_waiting(tells.replica, waiting.saturating_add(staying));
+        self.note_waiting(tells.replica, waiting.saturating_add(more));
+        self.note_rested(tells, came, more);
         self.rest_many(rt, alloc, tells.replica, Coming::LineByLine)?;
         Ok(true)
     }

@@ -1,10 +1,11 @@
 -- Tells that were read together, and rested.
 use Rattle.std.specs.Prelude.{◌≡◌, ◌<◌, ℕ, List, [], ◌∷◌, All}
 use Rattle.chr_base.specs.declared.program.Program.{Program}
+use Rattle.chr_base.specs.FinBag.{◌⊕◌}
 use Rattle.chr_base.specs.Programs.{rules_of}
 use Rattle.chr_base.specs.Rewriting.{Reaches}
 use Rattle.chr_base.specs.Rules.{Step}
-use Rattle.chr_base.specs.Stores.{Store, store_of}
+use Rattle.chr_base.specs.Stores.{Store}
 use Rattle.chr_weights.specs.WeighedPrograms.{program_of}
 use Rattle.chr_ops.specs.Operations.{Operation, sum_of}
 use Rattle.chr_replica.specs.Replicas.{IsDeclared}
@@ -19,20 +20,20 @@ TellFirst p text r left [] more = left ≡ more
 TellFirst p text r left (op ∷ ops) more =
     (mid : ℕ) × AsksFirst p text left mid (request.Tell r op) × TellFirst p text r mid ops more
 
--- the atoms of operations reach a store
-abbrev pub ReachTogether : Program → List Operation → Store → Type 0
-ReachTogether p ops s = Reaches (Step (rules_of p)) (sum_of ops) s
+-- a store and the atoms of operations reach another one
+abbrev pub ReachTogether : Program → Store → List Operation → Store → Type 0
+ReachTogether p before ops s = Reaches (Step (rules_of p)) (before ⊕ sum_of ops) s
 
--- so many lines were read, and the pool has what their atoms reach
+-- so many lines were read, and the pool has what their atoms reach with those that are carried
 pub record IsGathered (p : Program) (text : List ℕ) (g : Gathering) : Type 0 where
   pub lines : TellFirst p text g.replica g.left g.ops.items g.more
   pub own : program_of g.pool.weighed ≡ p
-  pub reached : ReachTogether p g.ops.items g.pool.store
+  pub reached : ReachTogether p g.carried.part g.ops.items g.pool.store
 
--- these are operations of the program, whose atoms reach what was rested
+-- these are operations of the program, whose atoms reach what was rested with those that were carried
 pub record AreRested (p : Program) (t : Tells) : Type 0 where
   pub declared : All (IsDeclared p) t.ops.items
-  pub reached : ReachTogether p t.ops.items (store_of t.rested.items)
+  pub reached : ReachTogether p t.carried.part t.ops.items t.rested
 
 -- and lines of the text tell them, one at least
 pub record AreTells (p : Program) (text : List ℕ) (t : Tells) : Type 0 where

@@ -2,12 +2,9 @@
 use Rattle.std.specs.Prelude.{◌≡◌, ◌⊎◌, ℕ, Bool, true, false, List, All, map, ⊤}
 use Rattle.std.specs.FinMap as finite
 use Rattle.chr_base.specs.declared.program.Program.{Program}
-use Rattle.chr_base.specs.Programs.{rules_of}
-use Rattle.chr_base.specs.Rules.{Step}
-use Rattle.chr_base.specs.Rewriting.{IsAtRest}
 use Rattle.chr_ops.specs.Operations.{Operation, Operations}
 use Rattle.chr_ops.specs.Summaries.{IsApart}
-use Rattle.chr_replica.specs.Replicas.{Replica, IsSettled, IsSound, TellsRested}
+use Rattle.chr_replica.specs.Replicas.{Replica, IsSettled, IsSound, TellsEach}
 use Rattle.chr_acts.specs.declared.reply.Reply.TheVariants as reply
 use Rattle.chr_worlds.specs.Worlds.{Replicas, Changes, HasReplica, IsAt}
 use Rattle.chr_worlds.specs.Sharing.{shared_program}
@@ -27,19 +24,24 @@ operations_held w = map (λ t. t.operations) w
 abbrev pub held : Service → List Operations
 held s = operations_held s.world.replicas
 
--- between lines no part of a replica is out
-abbrev pub IsIdle : Replica → Type 0
-IsIdle s = s.out ≡ finite.empty
-
+-- between lines replicas are sound
 abbrev pub AreBetweenLines : Program → Replicas → Type 0
-AreBetweenLines p w = All (IsSound p) w × All IsIdle w
+AreBetweenLines p w = All (IsSound p) w
 
 abbrev pub IsBetweenLines : Service → Type 0
 IsBetweenLines s = AreBetweenLines (served s) s.world.replicas
 
--- the replica of a number, if any, is at rest
+-- no part of a replica is out
+abbrev pub IsIdle : Replica → Type 0
+IsIdle s = s.out ≡ finite.empty
+
+-- none is of the replica of a number, if any
+abbrev pub AreIdle : Service → ℕ → Type 0
+AreIdle s r = (t : Replica) → IsAt s.world.replicas r t → IsIdle t
+
+-- nor is any then, and it is at rest
 abbrev pub AreAtRest : Service → ℕ → Type 0
-AreAtRest s r = (t : Replica) → IsAt s.world.replicas r t → IsAtRest (Step (rules_of (served s))) t.pool
+AreAtRest s r = (t : Replica) → IsAt s.world.replicas r t → IsSettled (served s) t
 
 -- a replica holds what it held, and has come to rest
 pub record ComesToRest (p : Program) (s t : Replica) : Type 0 where
@@ -51,9 +53,13 @@ pub record ComesToRest (p : Program) (s t : Replica) : Type 0 where
 abbrev pub RestsAt : Program → Replicas → ℕ → Replicas → Type 0
 RestsAt p w r v = ((¬ HasReplica w r) × (v ≡ w)) ⊎ Changes w r (ComesToRest p) v
 
--- a replica is told these operations, one after the other, and steps are taken in its pool
+-- a replica is told these operations, one after the other, and what it was told stays what it reaches
 pub record TellsSoundly (p : Program) (ops : List Operation) (s t : Replica) : Type 0 where
-  pub tells : TellsRested p s ops t
+  pub start : Replica
+  pub held : start.operations ≡ s.operations
+  pub told : Replica
+  pub tells : TellsEach p start ops told
+  pub operations : t.operations ≡ told.operations
   pub sound : IsSound p t
 
 -- so is the replica of a number, and no other changes

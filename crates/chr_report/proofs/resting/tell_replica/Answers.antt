@@ -1,9 +1,10 @@
 use Rattle.std.proofs.Common.{◌≡◌, true, rules, ap, subst}
 use Rattle.chr_join.specs.AcceptedPrograms.{program_in}
-use Rattle.chr_replica.specs.Replicas.{IsSound, TellsRested}
 use Rattle.chr_worlds.specs.Sharing.{shared_program}
+use Rattle.chr_report.specs.working.Gathered.{AreRested}
+use Rattle.chr_report.specs.working.Services.{TellsSoundly}
 use Rattle.chr_report.proofs.Rests.{still_there}
-use Rattle.chr_report.proofs.ToldAhead.{same_back, told_back, where_false, where_true}
+use Rattle.chr_report.proofs.ToldAhead.{same_back, told_back, where_none, where_some}
 use Rattle.chr_report.proofs.resting.tell_replica.Goals as goal
 
 pub returns-clause-told : goal.returns-clause-told
@@ -17,16 +18,11 @@ returns-clause-told c =
     let out = c.swap_board-there.ensures.swapped there in
     let back = c.swap_board.ensures.swapped (c.swap_board.ensures.there.1 (still_there w u r _ out)) in
     let same : c.swap_board-there.new.board.accepted ≡ c.args.world.now.accepted = search rules in
-    let kept : c.tell_rested-told.new.self.accepted ≡ c.args.world.now.accepted = search rules in
-    let t = c.tell_rested-told.new.self.replica in
+    let t = c.tell_board-told.new.board.replica in
     let s = c.swap_board-there.new.board.replica in
-    let told_ops : c.deref.result.now ≡ ops = search rules in
-    where_true c.tell_rested-told.result (λ told. told_back w u c.swap_board.new.self.replicas r
-    c.in_ok-board.board.replica s c.swap_board.new.board.replica t out back p ops (record {
-      tells = subst (λ a. TellsRested (program_in a) s ops t) same
-          (subst (λ os. TellsRested (program_in c.swap_board-there.new.board.accepted) s os t) told_ops told);
-      sound = subst (λ a. IsSound (program_in a) t) kept c.is_sound.ensures.sound;
-    })) c.tell_rested-told.ensures.told
+    where_some c.tell_board-told.result (λ told. told_back w u c.swap_board.new.self.replicas r
+    c.in_ok-board.board.replica s c.swap_board.new.board.replica t out back p ops
+    (subst (λ a. TellsSoundly (program_in a) ops s t) same told)) c.tell_board-told.ensures.told
 
 pub returns-clause-same : goal.returns-clause-same
 returns-clause-same c =
@@ -36,6 +32,6 @@ returns-clause-same c =
     let u = c.swap_board-there.new.self.replicas in
     let out = c.swap_board-there.ensures.swapped there in
     let back = c.swap_board.ensures.swapped (c.swap_board.ensures.there.1 (still_there w u r _ out)) in
-    where_false c.tell_rested-told.result (λ same. same_back w u c.swap_board.new.self.replicas r
+    where_none c.tell_board-told.result (λ same. same_back w u c.swap_board.new.self.replicas r
     c.in_ok-board.board.replica c.swap_board-there.new.board.replica c.swap_board.new.board.replica
-    c.tell_rested-told.new.self.replica out back (ap (λ b. b.replica) same)) c.tell_rested-told.ensures.same
+    c.tell_board-told.new.board.replica out back (ap (λ b. b.replica) same)) c.tell_board-told.ensures.same

@@ -14,4 +14,4 @@ returns-clause-gathered c = λ p text is asks.
     let atoms : c.atoms.result.now ≡ bag.items c.args.op.1 = search rules in
     c.rest_many.ensures.gathered p text (gathers_more p text g _ c.args.op c.requires asks refl pushed
     c.insert.ensures.weighed
-    (inserted ∙ ap (λ s. g.pool.store ⊕ s) (ap store_of atoms ∙ store_of-items c.args.op.1)) is)
+    (inserted ∙ ap (λ s. g.pool.store ⊕ s) (ap store_of atoms ∙ store_of-items c.args.op.1)) refl is)

@@ -13,6 +13,6 @@ returns c = λ p text is.
       lines = at_rest.lines;
       rested = record {
         declared = tells_declared p text g.replica g.left g.ops.items g.more at_rest.lines;
-        reached = subst (ReachTogether p g.ops.items) (sym c.in_ok-rested.ensures) at_rest.reached;
+        reached = subst (ReachTogether p g.carried.part g.ops.items) (sym c.in_ok-rested.ensures) at_rest.reached;
       };
     }

@@ -25,8 +25,8 @@ returns-clause-operations c =
     settled.result settled.ensures.happens
 
 pub returns-clause-rests : goal.returns-clause-rests
-returns-clause-rests c =
+returns-clause-rests c = λ idle.
     let settled = c.settle-answer in
     rested c.args.self.now.world settled.new.self c.note_waiting.new.self.world c.args.replica settled.result
     (sym c.was_stopped.ensures ∙ c.if-was_stopped.false)
-    settled.ensures.program settled.ensures.happens c.note_waiting.ensures
+    settled.ensures.program settled.ensures.happens c.note_waiting.ensures idle

@@ -1,11 +1,8 @@
 use Rattle.std.proofs.Common.{sym, ap, ◌∙◌, subst}
-use Rattle.chr_base.specs.Programs.{rules_of}
-use Rattle.chr_base.specs.Rewriting.{IsAtRest}
-use Rattle.chr_base.specs.Rules.{Step}
 use Rattle.chr_join.specs.AcceptedPrograms.{program_in}
 use Rattle.chr_worlds.specs.Sharing.{shared_program}
 use Rattle.chr_worlds.specs.Worlds.{IsAt}
-use Rattle.chr_replica.specs.Replicas.{Replica}
+use Rattle.chr_replica.specs.Replicas.{Replica, IsSettled}
 use Rattle.chr_report.specs.working.Services.{served, operations_held, AreBetweenLines}
 use Rattle.chr_report.proofs.BetweenLines.{ready_for}
 use Rattle.chr_report.proofs.Rests.{rests_held, rests_ready, rests_at}
@@ -16,13 +13,13 @@ returns-clause-ready g c =
     let w = c.args.self.now.world.replicas in
     let v = c.rest_replica.new.world.replicas in
     let p = served c.args.self.now in
-    subst (λ u. AreBetweenLines (shared_program u) u.replicas) (sym c.note_waiting.ensures)
+    subst (λ u. AreBetweenLines (shared_program u) u.replicas) (sym (c.forget_parts.ensures ∙ c.note_waiting.ensures))
     (ready_for c.args.self.now.world.accepted c.rest_replica.new.world.accepted v c.rest_replica.ensures.program
     (rests_ready p w v c.args.replica c.in_ok-rest_replica.ensures.rests c.requires))
 
 pub returns-clause-operations : goal.returns-clause-operations
 returns-clause-operations g c =
-    ap (λ w. operations_held w.replicas) c.note_waiting.ensures
+    ap (λ w. operations_held w.replicas) (c.forget_parts.ensures ∙ c.note_waiting.ensures)
     ∙ rests_held (served c.args.self.now) c.args.self.now.world.replicas c.rest_replica.new.world.replicas
     c.args.replica c.in_ok-rest_replica.ensures.rests
 
@@ -30,8 +27,8 @@ pub returns-clause-rests : goal.returns-clause-rests
 returns-clause-rests g c =
     let w = c.args.self.now.world in
     let v = c.rest_replica.new.world in
-    subst (λ u. (t : Replica) → IsAt u.replicas c.args.replica t → IsAtRest (Step (rules_of (shared_program u))) t.pool)
-    (sym c.note_waiting.ensures)
-    (subst (λ a. (t : Replica) → IsAt v.replicas c.args.replica t → IsAtRest (Step (rules_of (program_in a))) t.pool)
+    subst (λ u. (t : Replica) → IsAt u.replicas c.args.replica t → IsSettled (shared_program u) t)
+    (sym (c.forget_parts.ensures ∙ c.note_waiting.ensures))
+    (subst (λ a. (t : Replica) → IsAt v.replicas c.args.replica t → IsSettled (program_in a) t)
     (sym c.rest_replica.ensures.program)
     (rests_at (shared_program w) w.replicas v.replicas c.args.replica c.in_ok-rest_replica.ensures.rests))

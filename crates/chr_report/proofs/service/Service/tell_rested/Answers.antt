@@ -6,8 +6,8 @@ use Rattle.chr_report.proofs.BetweenLines.{ready_for}
 use Rattle.chr_report.proofs.ToldAhead.{holds_more, told_ready}
 use Rattle.chr_report.proofs.service.Service.tell_rested.Goals as goal
 
-pub returns-then-not-told-clause-ready : goal.returns-then-not-told-clause-ready
-returns-then-not-told-clause-ready g c =
+pub returns-in_default-clause-ready : goal.returns-in_default-clause-ready
+returns-in_default-clause-ready g c =
     let v = c.tell_replica.new.world in
     let same : v.replicas ≡ c.args.self.now.world.replicas = search rules in
     ready_for c.args.self.now.world.accepted v.accepted v.replicas c.tell_replica.ensures.program
@@ -21,7 +21,8 @@ rest_many-requires g c =
     let ops = c.args.tells.now.ops.items in
     let told : TellsAt p w.replicas c.args.tells.now.replica ops v.replicas = search rules in (
       c.type_bounds.sync-R,
-      subst (λ u. AreBetweenLines (shared_program u) u.replicas) (sym c.note_waiting.ensures)
+      subst (λ u. AreBetweenLines (shared_program u) u.replicas)
+          (sym (c.note_rested.ensures ∙ c.note_waiting.ensures))
           (ready_for w.accepted v.accepted v.replicas c.tell_replica.ensures.program
           (told_ready p w.replicas c.args.tells.now.replica ops v.replicas told c.requires.ready)),
     )
@@ -35,5 +36,5 @@ returns-clause-told g c =
     let ops = c.args.tells.now.ops.items in
     let told : TellsAt p w.replicas r ops v.replicas = search rules in
     let same : held c.rest_many.new.self ≡ operations_held v.replicas = c.in_ok-rest_many.ensures.operations
-    ∙ ap (λ u. operations_held u.replicas) c.note_waiting.ensures in
+    ∙ ap (λ u. operations_held u.replicas) (c.note_rested.ensures ∙ c.note_waiting.ensures) in
     subst (HoldsMore p (held c.args.self.now) r ops) (sym same) (holds_more p w.replicas r ops v.replicas told)
