@@ -6,20 +6,22 @@ use Rattle.std.specs.Bool.{◌==◌}
 use Rattle.std.proofs.lemmas.Bool.{eqb-true}
 use Rattle.chr_base.specs.declared.atom.Atom.{Atom}
 use Rattle.chr_base.specs.declared.rule.Rule.{Rule}
+use Rattle.chr_base.specs.Atoms.{atom_cmp}
 use Rattle.chr_base.specs.FinBag.{◌⊕◌}
 use Rattle.chr_base.specs.Rewriting.{IsAtRest}
 use Rattle.chr_base.specs.Rules.{Step, StepBy, HasNoStep}
 use Rattle.chr_base.specs.Stores.{Store, store_of}
+use Rattle.chr_base.proofs.FinBags.{of_list-none}
 use Rattle.chr_base.proofs.Stores.{plus_empty}
 use Rattle.chr_base.proofs.SameSteps.{same_rule}
 use Rattle.chr_columns.specs.working.Own.{IsOwn}
-use Rattle.chr_columns.proofs.Pools.{no_store}
 
 -- under the rules at rest, an own rule has no step
 pub own_rests : (rules : List Rule) (r : Rule) (s : Store) (xs : List Atom) → IsAtRest (Step rules) s → xs ≡ []
     → IsOwn rules r → HasNoStep r (s ⊕ store_of xs)
 own_rests rules r s xs rest none own v t h =
-    let all : s ⊕ store_of xs ≡ s = ap (λ l. s ⊕ store_of l) none ∙ ap (λ x. s ⊕ x) no_store ∙ plus_empty s in
+    let all : s ⊕ store_of xs ≡ s = ap (λ l. s ⊕ store_of l) none ∙ ap (λ x. s ⊕ x) (of_list-none atom_cmp)
+    ∙ plus_empty s in
     rest t (own.0, own.1, v, own.2, same_rule r own.1 v s t (sym own.3) (subst (λ x. StepBy r v x t) all h))
 
 pub nothing_fresh : (b : Bool) (xs : List Atom) → b ≡ true → b ≡ (length xs == 0) → xs ≡ []

@@ -24,12 +24,8 @@ use Rattle.chr_columns.specs.working.Resting.{grid}
 use Rattle.chr_columns.specs.working.Listing.{live_in}
 use Rattle.chr_columns.proofs.Listed.{store_live}
 
--- no atoms are the empty store
-pub no_store : store_of [] ≡ empty
-no_store = of_list-none atom_cmp
-
 pub nothing : (s : Store) (xs : List Atom) → s ≡ empty → xs ≡ [] → s ⊕ store_of xs ≡ empty
-nothing s xs e f = (λ i. e i ⊕ store_of (f i)) ∙ ap (λ t. empty ⊕ t) no_store ∙ plus_empty empty
+nothing s xs e f = (λ i. e i ⊕ store_of (f i)) ∙ ap (λ t. empty ⊕ t) (of_list-none atom_cmp) ∙ plus_empty empty
 
 pub inserted : (s : Store) (xs ys zs : List Atom) → zs ≡ xs ++ ys → s ⊕ store_of zs ≡ (s ⊕ store_of xs) ⊕ store_of ys
 inserted s xs ys zs e = ap (λ l. s ⊕ store_of l) e ∙ ap (λ t. s ⊕ t) (store_of-append xs ys)
@@ -54,7 +50,7 @@ pub all_rest : (own rules : List Rule) (rested before : Store) (xs : List Atom) 
     → IsAtRest (Step own) rested → xs ≡ []
     → rested ⊕ store_of xs ≡ before → IsAtRest (Step rules) before
 all_rest own rules rested before xs e rest none same =
-    let all : rested ≡ before = sym (plus_empty rested) ∙ ap (λ t. rested ⊕ t) (sym no_store)
+    let all : rested ≡ before = sym (plus_empty rested) ∙ ap (λ t. rested ⊕ t) (sym (of_list-none atom_cmp))
     ∙ ap (λ l. rested ⊕ store_of l) (sym none) ∙ same in
     subst (λ s. IsAtRest (Step rules) s) all (same_rest own rules rested e rest)
 

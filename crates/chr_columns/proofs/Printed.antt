@@ -267,10 +267,6 @@ one_same [] i f g l is e = absurd (omega (arith, l))
 one_same (h ∷ fs) zero f g l is e = ap (λ xs. xs ++ flats_atoms fs) (e ∙ ap flat_atoms is)
 one_same (h ∷ fs) (suc i) f g l is e = ap (λ xs. flat_atoms h ++ xs) (one_same fs i f g (omega (arith, l)) is e)
 
-pub on_ok_then : {A E P Q : Type 0} (r : Result A E) → (P → Q) → OnOk r P → OnOk r Q
-on_ok_then (Ok x) f h = f h
-on_ok_then (Err x) f h = tt
-
 -- turns in another order
 pub fit_shuffled : (ds : List Declaration) (turns sorted shown : List Turn) → IsPermutation turns sorted
     → shown ≡ sorted → Fit ds turns → Fit ds shown

@@ -1,6 +1,7 @@
 //! Heads and guards at the values of their classes.
-ghost use Rattle.std.specs.Prelude.{◌≡◌, ◌≤◌, length};
-ghost use Rattle.chr_base.specs.Rules.{term_value, atom_at, atoms_at, comparison_holds, guard_holds};
+ghost use Rattle.std.specs.Prelude.{◌≡◌, ◌≤◌, if◌then◌else◌, length, None, Some};
+ghost use Rattle.std.specs.Ordering.{int_cmp};
+ghost use Rattle.chr_base.specs.Rules.{term_value, atom_at, atoms_at, compares, comparison_holds, guard_holds};
 ghost use Rattle.chr_confluence.specs.Representatives.{assignment};
 ghost use Rattle.chr_overlaps.specs.working.Beginnings.{has_place, is_known, may_hold, all_may_hold};
 
@@ -65,13 +66,12 @@ pub(crate) fn instances(
     atoms
 }
 
-/// Whether a comparison holds, where each class has its value.
-fn holds(classes: &[u8], values: &[i64], comparison: &Comparison) -> bool
-    ensures { result ≡ comparison_holds (assignment classes.now values.now) comparison.now }
+/// Whether two values compare so.
+fn compares(left: i64, cmp: Cmp, right: i64) -> bool
+    ensures { result ≡ compares cmp (int_cmp left right) }
 {
-    let left = value_of(classes, values, &comparison.left);
-    let order = left.cmp(&value_of(classes, values, &comparison.right));
-    match comparison.cmp {
+    let order = left.cmp(&right);
+    match cmp {
         Cmp::Less => order.is_lt(),
         Cmp::AtMost => order.is_le(),
         Cmp::Greater => order.is_gt(),
@@ -79,6 +79,15 @@ fn holds(classes: &[u8], values: &[i64], comparison: &Comparison) -> bool
         Cmp::Equal => order.is_eq(),
         Cmp::NotEqual => order.is_ne(),
     }
+}
+
+/// Whether a comparison holds, where each class has its value.
+fn holds(classes: &[u8], values: &[i64], comparison: &Comparison) -> bool
+    ensures { result ≡ comparison_holds (assignment classes.now values.now) comparison.now }
+{
+    let left = value_of(classes, values, &comparison.left);
+    let right = value_of(classes, values, &comparison.right);
+    compares(left, comparison.cmp, right)
 }
 
 /// Whether all comparisons hold, where each class has its value.
@@ -90,26 +99,32 @@ pub(crate) fn all_hold(classes: &[u8], values: &[i64], comparisons: &[Comparison
         .all(|comparison| holds(classes, values, comparison))
 }
 
-/// Whether the variable is one of the first classes, those that have values.
-fn has_place(classes: &[u8], values: &[i64], variable: u8) -> bool
-    ensures { result ≡ has_place classes.now values.now variable }
+/// The value of a variable, if it is one of the first classes, those that have values.
+fn known_at(classes: &[u8], values: &[i64], variable: u8) -> Option<i64>
+    ensures { result ≡ (if has_place classes.now values.now variable
+        then Some (assignment classes.now values.now variable) else None) }
 {
     let [class, classes @ ..] = classes else {
-        return false;
+        return None;
     };
-    let [_, values @ ..] = values else {
-        return false;
+    let [value, values @ ..] = values else {
+        return None;
     };
-    variable == *class || has_place(classes, values, variable)
+    if variable == *class {
+        Some(*value)
+    } else {
+        known_at(classes, values, variable)
+    }
 }
 
-/// Whether the value of a term is known, where the first classes have values.
-fn is_known(classes: &[u8], values: &[i64], term: &Term) -> bool
-    ensures { result ≡ is_known classes.now values.now term.now }
+/// The value of a term, if it is known, where the first classes have values.
+fn known_value(classes: &[u8], values: &[i64], term: &Term) -> Option<i64>
+    ensures { result ≡ (if is_known classes.now values.now term.now
+        then Some (term_value (assignment classes.now values.now) term.now) else None) }
 {
     match term {
-        Term::Variable(variable) => has_place(classes, values, *variable),
-        Term::Constant(_) => true,
+        Term::Variable(variable) => known_at(classes, values, *variable),
+        Term::Constant(value) => Some(*value),
     }
 }
 
@@ -117,10 +132,12 @@ fn is_known(classes: &[u8], values: &[i64], term: &Term) -> bool
 fn may_hold(classes: &[u8], values: &[i64], comparison: &Comparison) -> bool
     ensures { result ≡ may_hold classes.now values.now comparison.now }
 {
-    if is_known(classes, values, &comparison.left) && is_known(classes, values, &comparison.right) {
-        holds(classes, values, comparison)
-    } else {
-        true
+    let Some(left) = known_value(classes, values, &comparison.left) else {
+        return true;
+    };
+    match known_value(classes, values, &comparison.right) {
+        Some(right) => compares(left, comparison.cmp, right),
+        None => true,
     }
 }
 

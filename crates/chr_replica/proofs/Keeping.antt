@@ -40,9 +40,9 @@ abbrev FromTold : Program → Replica → Store → Type 0
 FromTold p s t = Reaches (Step (rules_of p)) (told_store s.operations) t
 
 -- one part of a store may go on
-reaches_beside : (p : Program) (told s l part result : Store) → Reaches (Step (rules_of p)) told (s ⊕ (l ⊕ part))
+part_goes_on : (p : Program) (told s l part result : Store) → Reaches (Step (rules_of p)) told (s ⊕ (l ⊕ part))
     → Reaches (Step (rules_of p)) part result → Reaches (Step (rules_of p)) told ((s ⊕ result) ⊕ l)
-reaches_beside p told s l part result h g =
+part_goes_on p told s l part result h g =
     let whole : Reaches (Step (rules_of p)) told (part ⊕ (s ⊕ l)) =
     subst (Reaches (Step (rules_of p)) told) (sym (plus_assoc s l part) ∙ plus_comm (s ⊕ l) part) h in
     let more : Reaches (Step (rules_of p)) told (result ⊕ (s ⊕ l)) =
@@ -138,7 +138,7 @@ take_parts_keeps p n parts s t h sound = subst (IsSound p) (sym h.after) (record
 pub put_keeps : PutKeeps
 put_keeps p number part result s t h sound = subst (IsSound p) (sym h.after) (record {
   declared = sound.declared;
-  reached = reaches_beside p (told_store s.operations) s.pool (leased_store (map.remove s.out number)) part result
+  reached = part_goes_on p (told_store s.operations) s.pool (leased_store (map.remove s.out number)) part result
       (subst (λ l. FromTold p s (s.pool ⊕ l)) (leased_less s.out number part h.out) sound.reached) h.reached;
   below = below_less s.out number s.next sound.below;
 })

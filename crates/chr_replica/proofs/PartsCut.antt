@@ -5,11 +5,12 @@ use Rattle.std.proofs.lemmas.List.{length-append}
 use Rattle.std.proofs.lemmas.List.Elements.{All-push, All-get_or, All-from_get_or}
 use Rattle.std.proofs.lemmas.Bool.Decides.{nat_tests}
 use Rattle.chr_base.specs.declared.atom.Atom.{Atom}
+use Rattle.chr_base.specs.Atoms.{atom_cmp}
 use Rattle.chr_base.specs.FinBag as bag
 use Rattle.chr_base.specs.FinBag.{◌⊕◌}
 use Rattle.chr_base.specs.Stores.{Store, store_of, size, count, stores_sum}
-use Rattle.chr_base.proofs.Stores.{store_of-append, plus_assoc, plus_comm, plus_empty, same_store, count_plus}
-use Rattle.chr_base.proofs.Stores.{count_empty, size_store_of}
+use Rattle.chr_base.proofs.FinBags.{of_list-none}
+use Rattle.chr_base.proofs.Stores.{store_of-append, plus_assoc, plus_comm, plus_empty, size_store_of}
 use Rattle.chr_replica.specs.Leases.{parts_in, AreEven, AreNumbered}
 use Rattle.chr_join.specs.declared.lease.Lease.{Lease}
 use Rattle.chr_replica.specs.working.Cuts.{IsNear, AreCut}
@@ -100,10 +101,6 @@ cut_first q more n atoms h =
     All-nil : All (IsNear q) []
     All-nil = search rules
 
-nil_empty : store_of [] ≡ bag.empty
-nil_empty = same_store _ _ (λ q. (let e = ap (λ s. count s q) (store_of-append [] [])
-    ∙ count_plus (store_of []) (store_of []) q in let z = count_empty q in omega (arith, e, z)))
-
 -- all parts are cut
 pub all_cut : (q more n k : ℕ) (atoms rest : List Atom) (parts : List Store) → k ≡ n → more < n
     → AreCut q more n k atoms rest parts → stores_sum parts ≡ store_of atoms
@@ -115,7 +112,7 @@ all_cut q more n k atoms rest parts end less cut = by rest cut.sum none
 
     by : (rs : List Atom) → stores_sum parts ⊕ store_of rs ≡ store_of atoms → length rs ≡ 0 → stores_sum parts
         ≡ store_of atoms
-    by [] h e = sym (ap (λ t. stores_sum parts ⊕ t) nil_empty ∙ plus_empty (stores_sum parts)) ∙ h
+    by [] h e = sym (ap (λ t. stores_sum parts ⊕ t) (of_list-none atom_cmp) ∙ plus_empty (stores_sum parts)) ∙ h
     by (r ∷ rs) h e = absurd (omega (arith, e))
 
 -- sizes that are near one number are even

@@ -2,6 +2,7 @@
 ghost use Rattle.chr_replica.specs.Laws.{FirstIsSound, OneAnswer};
 ghost use Rattle.chr_replica.specs.Laws.{TellKeeps, MergeKeeps, StepKeeps, TakeKeeps, TakePartsKeeps, PutKeeps};
 ghost use Rattle.chr_replica.specs.Laws.{RecallKeeps, SettleKeeps};
+ghost use Rattle.chr_replica.specs.Laws.{TellRestedKeeps, TellLeasedKeeps, TellLeasedWithKeeps};
 
 /// The replica that was told nothing is sound, and each event keeps replicas so: what was told reaches the pool with
 /// all leased parts.
@@ -15,6 +16,9 @@ pub fn events_keep_replicas_sound()
     ensures put { PutKeeps }
     ensures recall { RecallKeeps }
     ensures settle { SettleKeeps }
+    ensures tell_rested { TellRestedKeeps }
+    ensures tell_leased { TellLeasedKeeps }
+    ensures tell_leased_with { TellLeasedWithKeeps }
 {}
 
 /// Replicas of one confluent program that hold the same operations and have settled hold the same store: the one normal

@@ -4,6 +4,7 @@ mod exchanges;
 mod leases;
 mod limits;
 mod parts;
+mod rested;
 mod steps;
 mod texts;
 mod workers;

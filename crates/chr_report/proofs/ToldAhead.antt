@@ -1,7 +1,7 @@
 -- Replicas that are told operations which were rested before, and the answers.
 use Rattle.std.proofs.Common.{◌≡◌, ℕ, zero, suc, ◌+◌, ◌-◌, List, [], ◌∷◌, ◌++◌, length, refl, sym, ap, ◌∙◌, subst}
 use Rattle.std.proofs.Common.{append_assoc, append-nil, arith, codes}
-use Rattle.std.specs.Prelude.{Option, Some, None, Result, Ok, Err, IfOk, IfSome, IfNone, OnOk, MatchOption}
+use Rattle.std.specs.Prelude.{Option, Some, None, IfNone, MatchOption}
 use Rattle.std.specs.Prelude.{slice_get, slice_set, string_bytes}
 use Rattle.std.proofs.lemmas.List.{map-set, set-set}
 use Rattle.std.proofs.lemmas.List.Elements.{All-set}
@@ -106,28 +106,11 @@ module _ (w u v : Replicas) (r : ℕ) (spare s again t : Replica) (out : Changes
   same_back e = came_back ∙ ap (λ x. slice_set w (r - 1) x) (back.changed.1 ∙ e ∙ sym out.changed.0)
       ∙ same_set w (r - 1) out.before out.there.1
 
--- ---- what comes of each case
+-- ---- nothing found
 
-pub some_each : {A : Type 0} {P : A → Type 0} {Q : A → Type 0} (o : Option A) → ((x : A) → P x → Q x) → IfSome o P
-    → IfSome o Q
-some_each (Some x) f h = f x h
-some_each None f h = tt
-
-pub where_ok : {E A P Q : Type 0} (r : Result A E) → (P → Q) → OnOk r P → OnOk r Q
-where_ok (Ok x) f h = f h
-where_ok (Err e) f h = tt
-
-pub where_some : {E A P Q : Type 0} (r : Result (Option A) E) → (P → Q) → IfOk r (λ o. IfSome o (λ _. P))
-    → IfOk r (λ o. IfSome o (λ _. Q))
-where_some (Ok (Some x)) f h = f h
-where_some (Ok None) f h = tt
-where_some (Err e) f h = tt
-
-pub where_none : {E A P Q : Type 0} (r : Result (Option A) E) → (P → Q) → IfOk r (λ o. IfNone o P)
-    → IfOk r (λ o. IfNone o Q)
-where_none (Ok (Some x)) f h = tt
-where_none (Ok None) f h = f h
-where_none (Err e) f h = tt
+pub if_none_then : {A P Q : Type 0} (o : Option A) → (P → Q) → IfNone o P → IfNone o Q
+if_none_then (Some x) f h = tt
+if_none_then None f h = f h
 
 -- ---- the answers
 

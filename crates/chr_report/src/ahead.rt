@@ -49,6 +49,15 @@ pub(crate) fn read_one(alloc: Global, program: &Program, text: &[u8], left: usiz
     })
 }
 
+/// The replica that the first line of a text tells an operation, if that is what it asks for.
+pub(crate) fn first_replica(alloc: Global, program: &Program, text: &[u8]) -> Option<u64> {
+    let Heard { request, .. } = read_one(alloc, program, text, text.len())?;
+    match request {
+        Some(Request::Tell(replica, _op)) => Some(replica),
+        _ => None,
+    }
+}
+
 /// Asks for as much memory at once as lines of so many bytes take, and gives it back. An allocator that asks the system
 /// for each page which a thread takes, and has the other threads wait meanwhile, has these pages then.
 fn make_room(alloc: Global, size: usize) {

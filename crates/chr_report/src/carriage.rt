@@ -8,11 +8,20 @@ use std::alloc::{AllocError, Global};
 use std::sync::Wait;
 use std::sync::atomic::{AtomicBool, AtomicU64, Ordering};
 
-/// What comes of a block, by its number, and may be rested with the tells of a later one.
+/// What comes of the tells of a block, by its number and that of their replica, and may be rested with such tells of a
+/// later block.
 #[derive(Drop)]
 struct Parcel {
     number: u64,
+    replica: u64,
     carried: Carried,
+}
+
+impl Parcel {
+    /// Whether it may be rested with what this block of a stretch tells this replica.
+    fn goes_to(&self, number: u64, replica: u64, stretch: u64) -> bool {
+        self.number < number && self.replica == replica && self.carried.stretch == stretch
+    }
 }
 
 /// Whether it pays that tells are rested by the threads that read them, the number of the stretch of blocks in which
@@ -45,17 +54,21 @@ impl Carriage {
         self.stretch.store(stretch, Ordering::Relaxed);
     }
 
-    /// What is carried to the block of a number, if its tells are to be rested: a part that came of one before it, or
-    /// nothing.
-    pub(crate) fn take<R: Wait>(&self, rt: &R, alloc: Global, number: u64) -> Option<Carried> {
+    /// What is carried to the block of a number, which tells this replica operations, if they are to be rested: a part
+    /// that came of one before it, or nothing.
+    pub(crate) fn take<R: Wait>(
+        &self,
+        rt: &R,
+        alloc: Global,
+        number: u64,
+        replica: u64,
+    ) -> Option<Carried> {
         if !self.pays.load(Ordering::Relaxed) {
             return None;
         }
         let stretch = self.stretch.load(Ordering::Relaxed);
         match self.there.try_recv(rt) {
-            Ok(parcel) if parcel.number < number && parcel.carried.stretch == stretch => {
-                Some(parcel.carried)
-            }
+            Ok(parcel) if parcel.goes_to(number, replica, stretch) => Some(parcel.carried),
             _ => Some(Carried {
                 part: Bag::new(alloc),
                 stretch,
@@ -70,8 +83,12 @@ impl Carriage {
         }
         if let Ok(part) = tells.rested.copy(alloc) {
             let stretch = tells.carried.stretch;
-            let carried = Carried { part, stretch };
-            let _kept = self.here.try_send(rt, Parcel { number, carried });
+            let parcel = Parcel {
+                number,
+                replica: tells.replica,
+                carried: Carried { part, stretch },
+            };
+            let _kept = self.here.try_send(rt, parcel);
         }
     }
 }

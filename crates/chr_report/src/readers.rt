@@ -5,7 +5,7 @@ ghost use Rattle.chr_report.specs.working.Ahead.{IsAhead};
 ghost use Rattle.chr_report.specs.working.BlockLines.{lines_of};
 ghost use Rattle.chr_report.specs.working.Readings.{Agree, IsRead};
 
-use crate::ahead::Ahead;
+use crate::ahead::{Ahead, first_replica};
 use crate::block::Block;
 use crate::carriage::Carriage;
 use crate::gathering::Carried;
@@ -65,6 +65,19 @@ fn read_block(
     Done { block, ahead }
 }
 
+/// What is carried to a block's lines, if they begin with a tell and that is to be rested.
+fn carried_to<R: Wait>(
+    rt: &R,
+    alloc: Global,
+    accepted: &Accepted,
+    carriage: &Carriage,
+    number: u64,
+    lines: &[u8],
+) -> Option<Carried> {
+    let replica = first_replica(alloc, accepted.program(), lines)?;
+    carriage.take(rt, alloc, number, replica)
+}
+
 /// Does a task.
 pub(crate) fn do_task<K: Known<Done>, R: Wait>(
     rt: &R,
@@ -83,7 +96,7 @@ pub(crate) fn do_task<K: Known<Done>, R: Wait>(
     } = task;
     let mut desk = desk;
     let carried = if rest {
-        carriage.take(rt, alloc, number)
+        carried_to(rt, alloc, accepted, carriage, number, block.lines())
     } else {
         None
     };

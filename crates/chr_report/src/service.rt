@@ -200,24 +200,33 @@ impl Service {
         }
     }
 
-    /// No part is carried on any more.
+    /// Begins a new stretch of blocks: no part of those before it is carried on.
+    fn begin_stretch(&mut self)
+        ensures { self.new.world ≡ self.old.world }
+    {
+        self.parts.clear();
+        self.stretch = self.stretch.wrapping_add(1);
+    }
+
+    /// Begins one if parts are carried on: they have come back.
     fn forget_parts(&mut self)
         ensures { self.new.world ≡ self.old.world }
     {
         if !self.parts.is_empty() {
-            self.parts.clear();
-            self.stretch = self.stretch.wrapping_add(1);
+            self.begin_stretch();
         }
     }
 
-    /// Notes that tells were told of so many atoms, which had been rested, and that so many of them wait: all, where
-    /// what was carried to them was out no more.
+    /// Notes that tells were told of so many atoms, which had been rested, and that so many atoms more wait. None does
+    /// where a part was carried to them, unless it was out no more: so is what comes of it then, until a new stretch
+    /// begins.
     fn note_rested(&mut self, tells: &Tells, came: u64, more: u64)
         ensures { self.new.world ≡ self.old.world }
     {
         self.rests_ahead = tells.staying() <= came / MOST_STAYING;
-        if more > tells.staying() && tells.carried.stretch == self.stretch {
-            self.forget_parts();
+        let is_missed = more > 0 && !tells.carried.part.is_empty();
+        if is_missed && tells.carried.stretch == self.stretch {
+            self.begin_stretch();
         }
     }
 

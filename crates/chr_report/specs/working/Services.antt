@@ -53,7 +53,8 @@ pub record ComesToRest (p : Program) (s t : Replica) : Type 0 where
 abbrev pub RestsAt : Program → Replicas → ℕ → Replicas → Type 0
 RestsAt p w r v = ((¬ HasReplica w r) × (v ≡ w)) ⊎ Changes w r (ComesToRest p) v
 
--- a replica is told these operations, one after the other, and what it was told stays what it reaches
+-- A replica is told these operations, one after the other. Then steps and leases change what is kept of them, not the
+-- operations, and it stays sound.
 pub record TellsSoundly (p : Program) (ops : List Operation) (s t : Replica) : Type 0 where
   pub start : Replica
   pub held : start.operations ≡ s.operations

@@ -1,14 +1,15 @@
 use Rattle.std.proofs.Common.{rules, ◌≡◌, ◌++◌, ◌∙◌, ap, sym}
+use Rattle.chr_base.specs.Atoms.{atom_cmp}
 use Rattle.chr_base.specs.FinBag as bag
 use Rattle.chr_base.specs.FinBag.{◌⊕◌}
 use Rattle.chr_base.specs.Stores.{store_of}
+use Rattle.chr_base.proofs.FinBags.{of_list-none}
 use Rattle.chr_base.proofs.Stores.{store_of-append, store_of-items}
-use Rattle.chr_columns.proofs.Pools.{no_store}
 use Rattle.chr_report.proofs.Gathers.{sum_more}
 use Rattle.chr_report.proofs.resting.atoms_of.Goals as goal
 
 pub loop-op-init : goal.loop-op-init
-loop-op-init c = ap store_of c.new-atoms.ensures.items ∙ no_store
+loop-op-init c = ap store_of c.new-atoms.ensures.items ∙ of_list-none atom_cmp
 
 pub loop-op-preserved : goal.loop-op-preserved
 loop-op-preserved c =
