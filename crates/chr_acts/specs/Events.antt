@@ -2,6 +2,7 @@
 use Rattle.std.specs.Prelude.{◌≡◌, ◌≢◌, ℕ, ◌+◌, List, [], ◌∷◌, map, ⊤}
 use Rattle.chr_base.specs.declared.program.Program.{Program}
 use Rattle.chr_base.specs.Programs.{rules_of}
+use Rattle.chr_base.specs.Sameness.{AreSame}
 use Rattle.chr_base.specs.Rules.{Step}
 use Rattle.chr_base.specs.Rewriting.{IsAtRest}
 use Rattle.chr_weights.specs.WeighedPrograms.{program_of}
@@ -44,7 +45,8 @@ Does p s (act.Step step) reply.Stepped t = Steps p s step t
 Does p s (act.Take part) (reply.Leased lease) t = (lease.part ≡ part) × Takes s part lease.number t
 Does p s (act.TakeParts n) (reply.LeasedParts leases) t =
     AreNumbered s.next leases × TakesParts s n (map (λ l. l.part) leases) t
-Does p s (act.Put done) reply.WasPut t = Puts p s done.number done.part done.result t
+Does p s (act.Put done) reply.WasPut t =
+    AreSame (program_of done.weighed) p × Puts p s done.number done.part done.result t
 Does p s (act.Recall number) reply.Recalled t = Recalls s number t
 Does p s act.Settle (reply.Settled n) t = Settles p s n t × IsAtRest (Step (rules_of p)) t.pool
 Does p s act.Settle (reply.Stopped n) t = Settles p s n t

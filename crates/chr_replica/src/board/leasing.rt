@@ -120,6 +120,7 @@ impl Board {
         ensures program { self.new.accepted ≡ self.old.accepted }
         ensures ok { OnOk result (
             Puts (program_on self.old) self.old.replica done.number done.part done.result self.new.replica) }
+        ensures own { OnOk result (AreSame (program_of done.weighed) (program_on self.old)) }
         ensures refused { IfErr result (λ e. RefusesPut (program_on self.old) self.old.replica
             (program_of done.weighed) done.number done.part e.refusal) }
         ensures handed_back { IfErr result (λ e. e.done ≡ done) }
