@@ -1,6 +1,6 @@
 -- Blocks of lines, one after another.
-use Rattle.std.proofs.Common.{◌≡◌, ℕ, ◌<◌, ◌⊎◌, inl, inr, Bool, true, false, leb, leb-true, List, [], ◌∷◌, ◌++◌, All}
-use Rattle.std.proofs.Common.{refl, sym, ap, ◌∙◌, append_assoc, append-nil, arith, subst}
+use Rattle.std.proofs.Common.{◌≡◌, ℕ, true, List, [], ◌∷◌, ◌++◌, All}
+use Rattle.std.proofs.Common.{refl, sym, ap, ◌∙◌, append_assoc, append-nil, subst}
 use Rattle.std.proofs.lemmas.List.Elements.{All-tail}
 use Rattle.std.specs.Bool.{OnTrue}
 use Rattle.std.specs.Prelude.{Option, Some, string_bytes}
@@ -45,20 +45,6 @@ reads_after from to others left more r = record {
   held = ap (λ b. others ++ b) r.held ∙ sym (append_assoc others left r.bytes);
   read = r.read;
 }
-
--- fewer bytes than were wanted were there
-pub end_is_reached : (n m most : ℕ) (to : Option (List ℕ)) → n ≡ m → IsAtEnd to ⊎ (most < m)
-    → OnTrue (leb n most) (IsAtEnd to)
-end_is_reached n m most to e (inl at_end) = by (leb n most)
-  where
-    by : (b : Bool) → OnTrue b (IsAtEnd to)
-    by true = at_end
-    by false = tt
-end_is_reached n m most to e (inr more) = by (leb n most) refl
-  where
-    by : (b : Bool) → leb n most ≡ b → OnTrue b (IsAtEnd to)
-    by true is = let fits = leb-true n most is in absurd (omega (arith, fits, more, e))
-    by false is = tt
 
 -- ---- answers
 

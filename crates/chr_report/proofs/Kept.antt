@@ -1,7 +1,8 @@
 -- What is kept of an input decides its output.
-use Rattle.std.proofs.Common.{◌≡◌, ℕ, ◌+◌, ◌-◌, ◌^◌, ◌<◌, ◌⊎◌, List, [], ◌++◌, length, sym, ap, ◌∙◌, append-nil, subst}
-use Rattle.std.proofs.Common.{inl, inr, arith}
-use Rattle.std.specs.Prelude.{Option, Some, None, IfSome}
+use Rattle.std.proofs.Common.{◌≡◌, ℕ, ◌+◌, ◌-◌, ◌^◌, ◌<◌, List, [], ◌++◌, length, sym, ap, ◌∙◌, append-nil, subst}
+use Rattle.std.proofs.Common.{arith}
+use Rattle.std.specs.Prelude.{Bool, true, false, Option, Some, None, IfSome}
+use Rattle.std.specs.Bool.{OnTrue, OnFalse}
 use Rattle.std.specs.Io.KnownBytes.{Consumes, IsAtEnd}
 use Rattle.chr_device.specs.Devices.{ReadsOn}
 use Rattle.chr_read.specs.declared.reader.TheConstants.{MAX_TEXT}
@@ -25,10 +26,10 @@ both_decide from to next start some kept s r q e =
     (q.held ∙ ap (λ l. l ++ q.bytes) (r.held ∙ ap (λ l. l ++ r.bytes) s)) r.read q.read) e
 
 -- no bytes are more than any number of a word
-pub all_are_read : (next : Option (List ℕ)) (kept : List ℕ) → length kept < 2 ^ 64 → IsAtEnd next
-    ⊎ (2 ^ 64 - 1 < length kept) → IsAtEnd next
-all_are_read next kept l (inl e) = e
-all_are_read next kept l (inr m) = absurd (omega (arith, l, m))
+pub all_are_read : (ended : Bool) (next : Option (List ℕ)) (kept : List ℕ) → length kept < 2 ^ 64
+    → OnTrue ended (IsAtEnd next) → OnFalse ended (2 ^ 64 - 1 < length kept) → IsAtEnd next
+all_are_read true next kept l e m = e
+all_are_read false next kept l e m = absurd (omega (arith, l, m))
 
 -- the beginning of a text that is too long
 long_decides : (from to : Option (List ℕ)) (kept : List ℕ) → Consumes from to kept → MAX_TEXT + 4 < length kept
@@ -52,9 +53,15 @@ pub beginning_decides : (from to : Option (List ℕ)) (start kept : List ℕ) �
 beginning_decides from to start kept s r l =
     long_decides from to kept (all_consumed from to start kept s r) l.0 l.1
 
+-- all of an input
+pub all_kept_decide : (from to : Option (List ℕ)) (start kept : List ℕ) → start ≡ [] → ReadsOn from to start kept
+    → IsAtEnd to → IfSome from (Decides kept)
+all_kept_decide from to start kept s r e = all_decide from to kept (all_consumed from to start kept s r) e
+
 -- an input, or a beginning of it, in which no text has ended
-pub undivided_decides : (from to : Option (List ℕ)) (start kept : List ℕ) → start ≡ [] → ReadsOn from to start kept
-    → IsAtEnd to ⊎ (MAX_TEXT + 4 < length kept) → IsUndivided kept → IfSome from (Decides kept)
-undivided_decides from to start kept s r (inl e) u = all_decide from to kept (all_consumed from to start kept s r) e
-undivided_decides from to start kept s r (inr l) u =
-    long_decides from to kept (all_consumed from to start kept s r) l u
+pub undivided_decides : (ended : Bool) (from to : Option (List ℕ)) (start kept : List ℕ) → start ≡ []
+    → ReadsOn from to start kept → OnTrue ended (IsAtEnd to) → OnFalse ended (MAX_TEXT + 4 < length kept)
+    → IsUndivided kept → IfSome from (Decides kept)
+undivided_decides true from to start kept s r e m u = all_kept_decide from to start kept s r e
+undivided_decides false from to start kept s r e m u =
+    long_decides from to kept (all_consumed from to start kept s r) m u

@@ -53,6 +53,10 @@ const RESTED_AHEAD: usize = 4;
 /// So many at most, for any number of workers.
 const MOST_AHEAD: usize = 32;
 
+/// So many bytes of them wait for each worker, and then no more are read: what comes of a block takes several times its
+/// bytes, and a block of long lines has more of these than others.
+const MOST_WAITING: usize = 1_048_576;
+
 /// Reads on from the beginning of a line, in a room that holds nothing else then: so many bytes at least, or as many as
 /// there are, and then true.
 fn read_after<D: Read>(
@@ -72,9 +76,7 @@ fn read_after<D: Read>(
     room.clear();
     room.extend_from_slice(begun)?;
     // A line is not copied once more for each block that it takes.
-    let most = size.max(begun.len().saturating_mul(2));
-    read_on(reader, room, most)?;
-    Ok(room.len() <= most)
+    read_on(reader, room, size.max(begun.len().saturating_mul(2)))
 }
 
 /// The room of a block that is answered, to be read into again.
@@ -131,18 +133,19 @@ pub(crate) struct Blocks {
 }
 
 impl Blocks {
-    /// The first bytes, of which nothing is answered.
+    /// The first bytes, of which nothing is answered, and whether these are all.
     fn open(
         alloc: Global,
         service: Service,
         first: &[u8],
+        ended: bool,
         out: String,
     ) -> Result<Blocks, AllocError>
         ensures service { IfOk result (λ blocks. blocks.at.service ≡ service) }
         ensures out { IfOk result (λ blocks. blocks.at.out ≡ out) }
         ensures first { IfOk result (λ blocks. left_of blocks ≡ first.now) }
         ensures whole { IfOk result AreWhole }
-        ensures ended { IfOk result (λ blocks. blocks.ended ≡ false) }
+        ensures ended { IfOk result (λ blocks. blocks.ended ≡ ended) }
     {
         let mut begun = Vec::new(alloc);
         begun.extend_from_slice(first)?;
@@ -156,7 +159,7 @@ impl Blocks {
             begun,
             room: Vec::new(alloc),
             size: FIRST_BLOCK,
-            ended: false,
+            ended,
         })
     }
 
@@ -173,6 +176,16 @@ impl Blocks {
             BLOCKS_AHEAD
         };
         ahead.saturating_mul(workers).min(MOST_AHEAD)
+    }
+
+    /// Whether so many bytes wait that some are to be answered before more are read.
+    fn is_full(&self) -> bool {
+        let workers = self.at.service.sharing.workers as usize;
+        let mut waiting = 0usize;
+        for block in &self.blocks {
+            waiting = waiting.saturating_add(block.bytes.len());
+        }
+        waiting >= MOST_WAITING.saturating_mul(workers)
     }
 
     /// How many bytes the next block is to have.
@@ -231,7 +244,7 @@ impl Blocks {
             return Ok(());
         }
         for _block in self.blocks.len()..self.most() {
-            if self.ended {
+            if self.ended || self.is_full() {
                 break;
             }
             self.read_block(rt, alloc, asking, reader)?;
@@ -302,19 +315,22 @@ impl Blocks {
     }
 }
 
-/// Answers the lines of the bytes that were read first, and of all that come, after a text.
+/// Answers the lines of the bytes that were read first, and of all that come, if the input has not ended with those,
+/// after a text.
 fn answer_blocks<R: Threads + Wait + Sync, D: Read, K: Known<Done>>(
     rt: &R,
     alloc: Global,
     asking: &mut Asking<K>,
     service: Service,
     first: &[u8],
+    ended: bool,
     reader: &mut Watched<D>,
     text: String,
 ) -> Result<String, RunFault>
     requires program { served service ≡ program_in asking.old.accepted.now }
     requires agree { Agree K.holds (program_in asking.old.accepted.now) }
     requires ready { IsBetweenLines service }
+    requires end { OnTrue ended (IsAtEnd (D.remaining (inner_of reader.old))) }
     ensures ok { IfOk result (λ out. AnswersInput (declarations (served service)) (rules_of (served service))
         first.now (D.remaining (inner_of reader.old)) (held service)
         (Appends (Some (string_bytes text)) (Some (string_bytes out)))) }
@@ -323,16 +339,15 @@ fn answer_blocks<R: Threads + Wait + Sync, D: Read, K: Known<Done>>(
     ensures device { IsErrOf result Device → has_failed reader.new ≡ true }
     ensures memory { IsErrOf result Memory → has_failed reader.new ≡ has_failed reader.old }
 {
-    let mut blocks = Blocks::open(alloc, service, first, text)?;
-    for _block in 0..u64::MAX {
+    let mut blocks = Blocks::open(alloc, service, first, ended, text)?;
+    for _block in rt.forever() {
         blocks.fill(rt, alloc, asking, reader)?;
         if blocks.is_done() {
             return Ok(blocks.end(rt, alloc)?);
         }
         blocks = blocks.answer_first(rt, alloc, asking)?;
     }
-    reader.fail();
-    Err(RunFault::Device)
+    unreachable!()
 }
 
 /// Does so, and asks other threads by tasks, of which these are left.
@@ -345,12 +360,14 @@ fn answer_asking<R: Threads + Wait + Sync, D: Read, K: Known<Done>>(
     left: &Receiver<Task<K>>,
     service: Service,
     first: &[u8],
+    ended: bool,
     reader: &mut Watched<D>,
     text: String,
 ) -> Result<String, RunFault>
     requires agree { Agree K.holds (program_in accepted.now) }
     requires program { served service ≡ program_in accepted.now }
     requires ready { IsBetweenLines service }
+    requires end { OnTrue ended (IsAtEnd (D.remaining (inner_of reader.old))) }
     ensures ok { IfOk result (λ out. AnswersInput (declarations (served service)) (rules_of (served service))
         first.now (D.remaining (inner_of reader.old)) (held service)
         (Appends (Some (string_bytes text)) (Some (string_bytes out)))) }
@@ -367,7 +384,7 @@ fn answer_asking<R: Threads + Wait + Sync, D: Read, K: Known<Done>>(
         left,
         readings: VecDeque::new(alloc),
     };
-    let answered = answer_blocks(rt, alloc, &mut asking, service, first, reader, text);
+    let answered = answer_blocks(rt, alloc, &mut asking, service, first, ended, reader, text);
     asking.leave(rt);
     answered
 }
@@ -379,12 +396,14 @@ fn answer_beside<R: Threads + Wait + Sync, D: Read, K: Known<Done> + Send>(
     accepted: &Accepted,
     service: Service,
     first: &[u8],
+    ended: bool,
     reader: &mut Watched<D>,
     text: String,
 ) -> Result<String, RunFault>
     requires agree { Agree K.holds (program_in accepted.now) }
     requires program { served service ≡ program_in accepted.now }
     requires ready { IsBetweenLines service }
+    requires end { OnTrue ended (IsAtEnd (D.remaining (inner_of reader.old))) }
     ensures ok { IfOk result (λ out. AnswersInput (declarations (served service)) (rules_of (served service))
         first.now (D.remaining (inner_of reader.old)) (held service)
         (Appends (Some (string_bytes text)) (Some (string_bytes out)))) }
@@ -396,9 +415,9 @@ fn answer_beside<R: Threads + Wait + Sync, D: Read, K: Known<Done> + Send>(
     let workers = service.sharing.workers as usize;
     let carriage = Carriage::open(alloc, MOST_AHEAD)?;
     let (tasks, left) = bounded(alloc, MOST_AHEAD)?;
-    if workers == 1 {
+    if workers == 1 || ended {
         return answer_asking(
-            rt, alloc, accepted, &carriage, tasks, &left, service, first, reader, text,
+            rt, alloc, accepted, &carriage, tasks, &left, service, first, ended, reader, text,
         );
     }
     let task = |task: Task<K>|
@@ -420,7 +439,8 @@ fn answer_beside<R: Threads + Wait + Sync, D: Read, K: Known<Done> + Send>(
         match come.take() {
             Some((service, text, tasks)) => {
                 answer_asking(
-                    rt, alloc, accepted, &carriage, tasks, &left, service, first, reader, text,
+                    rt, alloc, accepted, &carriage, tasks, &left, service, first, false, reader,
+                    text,
                 )
             }
             None => Err(RunFault::Memory),
@@ -436,8 +456,8 @@ fn answer_beside<R: Threads + Wait + Sync, D: Read, K: Known<Done> + Send>(
     )
 }
 
-/// Answers the lines of the bytes that were read first, and of all that come, after a text. The process is about to end
-/// then, and its memory with it, so the replicas are left as they are.
+/// Answers the lines of the bytes that were read first, and of all that come, if the input has not ended with those,
+/// after a text. The process is about to end then, and its memory with it, so the replicas are left as they are.
 ///
 /// # Errors
 ///
@@ -447,10 +467,12 @@ pub(crate) fn answer_input<R: Threads + Wait + Sync, D: Read>(
     alloc: Global,
     service: Service,
     first: &[u8],
+    ended: bool,
     reader: &mut Watched<D>,
     text: String,
 ) -> Result<String, RunFault>
-    requires { IsBetweenLines service }
+    requires ready { IsBetweenLines service }
+    requires end { OnTrue ended (IsAtEnd (D.remaining (inner_of reader.old))) }
     ensures ok { IfOk result (λ out. AnswersInput (declarations (served service)) (rules_of (served service))
         first.now (D.remaining (inner_of reader.old)) (held service)
         (Appends (Some (string_bytes text)) (Some (string_bytes out)))) }
@@ -460,5 +482,5 @@ pub(crate) fn answer_input<R: Threads + Wait + Sync, D: Read>(
     ensures memory { IsErrOf result Memory → has_failed reader.new ≡ has_failed reader.old }
 {
     let accepted = service.world.program().clone()?;
-    answer_beside::<R, D, Brand>(rt, alloc, &accepted, service, first, reader, text)
+    answer_beside::<R, D, Brand>(rt, alloc, &accepted, service, first, ended, reader, text)
 }

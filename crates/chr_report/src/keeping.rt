@@ -12,20 +12,18 @@ use crate::input::{MOST_TEXT, divided};
 use chr_device::{RunFault, Watched, read_on, read_past};
 use std::alloc::Global;
 use std::io::Read;
-
-/// Whether so much is held with no divider in it that its text is refused, whatever follows.
-fn is_too_long(held: &[u8]) -> bool
-    ensures { OnTrue result ((MAX_TEXT + 4 < length held.now) × IsUndivided held.now) }
-{
-    held.len() > MOST_TEXT && divided(held).is_none()
-}
+use std::sync::Wait;
 
 /// Reads all of an input, and keeps what decides its output: of a program text that is too long, a beginning.
 ///
 /// # Errors
 ///
 /// `Device` where a read fails, and `Memory` where no memory was left: then the reader may have been read in part.
-pub fn read_input<R: Read>(alloc: Global, reader: &mut Watched<R>) -> Result<Vec<u8>, RunFault>
+pub fn read_input<R: Read>(
+    rt: &impl Wait,
+    alloc: Global,
+    reader: &mut Watched<R>,
+) -> Result<Vec<u8>, RunFault>
     ensures ok { IfOk result (λ kept. IfSome (R.remaining (inner_of reader.old)) (Decides kept.items)) }
     ensures end { OnOk result (IsAtEnd (R.remaining (inner_of reader.new))) }
     ensures whole { OnOk result (has_failed reader.new ≡ has_failed reader.old) }
@@ -33,11 +31,14 @@ pub fn read_input<R: Read>(alloc: Global, reader: &mut Watched<R>) -> Result<Vec
     ensures memory { IsErrOf result Memory → has_failed reader.new ≡ has_failed reader.old }
 {
     let mut kept = Vec::new(alloc);
-    read_on(reader, &mut kept, MOST_TEXT)?;
-    if is_too_long(&kept) {
-        read_past(reader)?;
+    let ended = read_on(reader, &mut kept, MOST_TEXT)?;
+    if ended {
         return Ok(kept);
     }
-    read_on(reader, &mut kept, usize::MAX)?;
+    let Some(_parts) = divided(&kept) else {
+        read_past(rt, reader)?;
+        return Ok(kept);
+    };
+    let _all = read_on(reader, &mut kept, usize::MAX)?;
     Ok(kept)
 }

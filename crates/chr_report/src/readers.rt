@@ -19,6 +19,10 @@ use std::sync::{Arc, Wait};
 /// Less than so many bytes are no work for another thread.
 const LEAST_READ: usize = 16_384;
 
+/// A block of more bytes has a long line, and what that is read to takes many times its bytes: it is read in its turn,
+/// so that no two threads hold so much at once.
+const MOST_READ: usize = 655_360;
+
 /// Tells are rested by the thread that reads them where so many bytes are read, or more: of fewer, too much may stay.
 const LEAST_RESTED: usize = 131_072;
 
@@ -158,7 +162,7 @@ impl<'a, K: Known<Done>> Asking<'a, K> {
     {
         let len = block.lines().len();
         self.asked = self.asked.wrapping_add(1);
-        let reading = if readers.read && len >= LEAST_READ {
+        let reading = if readers.read && len >= LEAST_READ && len <= MOST_READ {
             self.task(rt, alloc, block, readers.rest && len >= LEAST_RESTED)
         } else {
             None

@@ -1,6 +1,7 @@
 //! Checks and runs, from the bytes of an input to the bytes of its output.
 ghost use Rattle.std.specs.Prelude.{◌≡◌, ◌≤◌, ◌⊎◌, [], Ok, Some, false, true, IfOk, IfSome, IsErrOf, OnErr, OnOk};
 ghost use Rattle.std.specs.Prelude.{string_bytes};
+ghost use Rattle.std.specs.Bool.{OnTrue};
 ghost use Rattle.std.specs.Io.KnownBytes.{Appends, IsAtEnd};
 ghost use Rattle.chr_device.specs.Devices.{inner_of, has_failed};
 ghost use Rattle.chr_device.specs.Settings.{IsWithinLimits};
@@ -127,7 +128,8 @@ pub(crate) fn output_of(
     }
 }
 
-/// The verdict's line, and the answers to the commands: the bytes that were read first, and all that come.
+/// The verdict's line, and the answers to the commands: the bytes that were read first, and all that come, if the input
+/// has not ended with those.
 fn answer_read<D: Read>(
     rt: &(impl Threads + Wait + Sync),
     alloc: Global,
@@ -135,10 +137,12 @@ fn answer_read<D: Read>(
     wanted: Wanted,
     sharing: Sharing,
     first: &[u8],
+    ended: bool,
     reader: &mut Watched<D>,
 ) -> Result<String, RunFault>
     requires replicas { (1 ≤ wanted.replicas) × (wanted.replicas ≤ MAX_REPLICAS) }
     requires accepted { IsAcceptedBy wanted.coverage (rules_of (program_in accepted)) (cases_of accepted) }
+    requires end { OnTrue ended (IsAtEnd (D.remaining (inner_of reader.old))) }
     ensures ok { IfOk result (λ out. WritesText (λ answer. answer ≡ Ok (program_in accepted)) first.now
         (D.remaining (inner_of reader.old)) wanted status.Accepted (Appends (Some []) (Some (string_bytes out)))) }
     ensures end { OnOk result (IsAtEnd (D.remaining (inner_of reader.new))) }
@@ -147,10 +151,25 @@ fn answer_read<D: Read>(
     ensures memory { IsErrOf result Memory → has_failed reader.new ≡ has_failed reader.old }
 {
     let (line, service) = opening(alloc, accepted, wanted, sharing)?;
-    answer_input(rt, alloc, service, first, reader, line)
+    answer_input(rt, alloc, service, first, ended, reader, line)
 }
 
-/// The output of a run of a program text and of the commands after it, which are read to the end.
+/// Reads to the end, where that was not seen yet. What comes is not held.
+fn read_rest<D: Read>(rt: &impl Wait, ended: bool, reader: &mut Watched<D>) -> Result<(), RunFault>
+    requires { OnTrue ended (IsAtEnd (D.remaining (inner_of reader.old))) }
+    ensures end { OnOk result (IsAtEnd (D.remaining (inner_of reader.new))) }
+    ensures whole { OnOk result (has_failed reader.new ≡ has_failed reader.old) }
+    ensures device { IsErrOf result Device → has_failed reader.new ≡ true }
+    ensures memory { IsErrOf result Memory → has_failed reader.new ≡ has_failed reader.old }
+{
+    if ended {
+        return Ok(());
+    }
+    read_past(rt, reader)
+}
+
+/// The output of a run of a program text and of the commands after it, which are read to the end, if the input has not
+/// ended with the bytes that were read first.
 fn output_of_text<D: Read>(
     rt: &(impl RandomSource + Threads + Wait + Sync),
     alloc: Global,
@@ -158,9 +177,11 @@ fn output_of_text<D: Read>(
     wanted: Wanted,
     sharing: Sharing,
     first: &[u8],
+    ended: bool,
     reader: &mut Watched<D>,
 ) -> Result<Output, RunFault>
-    requires { (1 ≤ wanted.replicas) × (wanted.replicas ≤ MAX_REPLICAS) }
+    requires replicas { (1 ≤ wanted.replicas) × (wanted.replicas ≤ MAX_REPLICAS) }
+    requires end { OnTrue ended (IsAtEnd (D.remaining (inner_of reader.old))) }
     ensures ok { IfOk result (λ o. WritesText (IsAnswer text.now) first.now (D.remaining (inner_of reader.old)) wanted
         o.status (Appends (Some []) (Some (string_bytes o.text)))) }
     ensures end { OnOk result (IsAtEnd (D.remaining (inner_of reader.new))) }
@@ -170,14 +191,14 @@ fn output_of_text<D: Read>(
 {
     match judge(rt, alloc, text, wanted.coverage)? {
         Judged::Accepted(accepted) => {
-            let text = answer_read(rt, alloc, accepted, wanted, sharing, first, reader)?;
+            let text = answer_read(rt, alloc, accepted, wanted, sharing, first, ended, reader)?;
             Ok(Output {
                 status: Status::Accepted,
                 text,
             })
         }
         Judged::Refused(line) => {
-            read_past(reader)?;
+            read_rest(rt, ended, reader)?;
             Ok(Output::refused(line))
         }
     }
@@ -200,11 +221,11 @@ fn output_of_run<D: Read>(
     ensures memory { IsErrOf result Memory → has_failed reader.new ≡ has_failed reader.old }
 {
     let mut kept = Vec::new(alloc);
-    read_on(reader, &mut kept, MOST_TEXT)?;
+    let ended = read_on(reader, &mut kept, MOST_TEXT)?;
     if let Some((text, first)) = divided(&kept) {
-        return output_of_text(rt, alloc, text, wanted, sharing, first, reader);
+        return output_of_text(rt, alloc, text, wanted, sharing, first, ended, reader);
     }
-    read_past(reader)?;
+    read_rest(rt, ended, reader)?;
     Ok(output_of(rt, alloc, Verb::Run, wanted, sharing, &kept)?)
 }
 
@@ -228,7 +249,7 @@ fn output_of_input<D: Read>(
     match verb {
         Verb::Run => output_of_run(rt, alloc, reader, wanted, sharing),
         Verb::Check | Verb::Explain | Verb::Serve => {
-            let input = read_input(alloc, reader)?;
+            let input = read_input(rt, alloc, reader)?;
             Ok(output_of(rt, alloc, verb, wanted, sharing, &input)?)
         }
     }

@@ -152,7 +152,7 @@ fn converse<T: Wire>(
     let mut line = Vec::new(alloc);
     answer_chunk(rt, alloc, service, &mut line, first, wire)?;
     let mut chunk = [0u8; CHUNK];
-    for _turn in 0..u64::MAX {
+    for _turn in rt.forever() {
         let n = wire.wait(&mut chunk)?;
         if n == 0 {
             return send_answer(rt, alloc, service, &line, wire);
@@ -160,8 +160,7 @@ fn converse<T: Wire>(
         answer_chunk(rt, alloc, service, &mut line, &chunk[..n], wire)?;
         shorten(&mut line);
     }
-    wire.fail();
-    Err(RunFault::Device)
+    unreachable!()
 }
 
 /// Sends the line of an accepted program, and answers its commands.
@@ -273,7 +272,7 @@ fn serve_wanted<T: Wire>(
 {
     let mut input = Vec::new(alloc);
     let mut chunk = [0u8; CHUNK];
-    for _turn in 0..u64::MAX {
+    for _turn in rt.forever() {
         let n = wire.wait(&mut chunk)?;
         if n == 0 {
             return send_output(rt, alloc, &input, wanted, sharing, wire);
@@ -286,8 +285,7 @@ fn serve_wanted<T: Wire>(
             return send_output(rt, alloc, &input, wanted, sharing, wire);
         }
     }
-    wire.fail();
-    Err(RunFault::Device)
+    unreachable!()
 }
 
 /// Reads the program text, sends the verdict, and then sends the answer line of each command as soon as it has been

@@ -45,12 +45,6 @@ pub trait Wire {
         ensures kept { unread self.new ≡ unread self.old }
         ensures whole { OnOk result (is_broken self.new ≡ is_broken self.old) }
         ensures device { OnErr result ((result ≡ Err Device) × (is_broken self.new ≡ true)) };
-
-    /// Notes that it has failed.
-    fn fail(&mut self)
-        ensures unread { unread self.new ≡ unread self.old }
-        ensures sent { sent self.new ≡ sent self.old }
-        ensures broken { is_broken self.new ≡ true };
 }
 
 /// A reader and a writer. They may be waited for at any time.
@@ -78,9 +72,5 @@ impl<R: Read, W: Write> Wire for Streams<R, W> {
 
     fn send(&mut self, bytes: &[u8]) -> Result<(), RunFault> {
         write_whole(&mut self.writer, bytes)
-    }
-
-    fn fail(&mut self) {
-        self.reader.fail();
     }
 }

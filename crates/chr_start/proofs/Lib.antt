@@ -1,3 +1,4 @@
+pub mod Ended
 pub mod RefusedWords
 pub mod TakenWords
 pub mod Served

@@ -1,7 +1,6 @@
 -- A verdict is that of a check.
 use Rattle.std.proofs.Common.{◌≡◌, ◌++◌, ℕ, List, [], ◌∷◌, length, refl, subst, sym, inl, inr}
-use Rattle.std.specs.Prelude.{◌⊎◌, Option, Some, None, Result, Ok, Err, IfOk, IfSome, IsErrOf}
-use Rattle.std.specs.Io.KnownBytes.{Appends}
+use Rattle.std.specs.Prelude.{◌⊎◌, Option, Some, None, Result, Ok, Err, IfSome}
 use Rattle.chr_base.specs.declared.program.Program.{Program}
 use Rattle.chr_base.specs.ProgramTests.{some_paired}
 use Rattle.chr_base.specs.Programs.{declarations, rules_of}
@@ -13,8 +12,6 @@ use Rattle.chr_weights.specs.Weights.{ProgramLowers}
 use Rattle.chr_read.specs.ProgramTexts.{IsAnswer}
 use Rattle.chr_read.specs.declared.fault.ReadFault.{ReadFault}
 use Rattle.chr_read.specs.declared.fault.ReadFault.TheVariants as fault
-use Rattle.chr_device.specs.declared.fault.RunFault.{RunFault}
-use Rattle.chr_device.specs.declared.fault.RunFault.TheVariants.{Memory}
 use Rattle.chr_device.specs.declared.words.Verb.TheVariants.{Check}
 use Rattle.chr_diagnosis.specs.declared.diagnosis.Verdict.{Verdict}
 use Rattle.chr_diagnosis.specs.declared.diagnosis.Verdict.TheVariants as verdict
@@ -26,7 +23,7 @@ use Rattle.chr_report.specs.Lines.{lines, text_of}
 use Rattle.chr_report.specs.Asked.{replicas_by}
 use Rattle.chr_report.specs.Outputs.{Decides, IsOutput, IsReadOutput, IsRulesOutput, accepted_text, not_lowered_text}
 use Rattle.chr_report.specs.Overlaps.{failure_text, too_many_text}
-use Rattle.chr_start.specs.Statuses.{EndsAsCheck, ExplanationEnds, status_of}
+use Rattle.chr_start.specs.Statuses.{EndsAsCheck}
 use Rattle.chr_start.specs.working.Verdicts.{as_status}
 
 -- what a check writes of a text with this status
@@ -107,10 +104,3 @@ pub verdict_ends : (coverage : Coverage) (bytes : Option (List ℕ)) (text kept 
 verdict_ends coverage bytes text kept v status d is h same =
     let o = checked coverage text kept v is h in kept_ends coverage bytes kept status d
     (o.0, subst (λ s. IsOutput Check (replicas_by coverage 1) kept s o.0) (sym same) o.1)
-
--- an explanation has ended
-pub explanation_ends : (coverage : Coverage) (bytes old new : Option (List ℕ)) (r : Result Status RunFault) (status : ℕ)
-    → status ≡ status_of r → IfOk r (EndsAsCheck coverage bytes)
-    → (IsErrOf r Memory → Appends old new []) → ExplanationEnds coverage bytes old new status
-explanation_ends coverage bytes old new r status ends ok memory =
-    record { outcome = r; status_is = ends; ok = ok; memory = memory }

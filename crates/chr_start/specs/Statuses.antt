@@ -1,17 +1,20 @@
--- The status that the program ends with, and what it has written then.
-use Rattle.std.specs.Prelude.{◌≡◌, ◌≢◌, ◌⊎◌, ℕ, List, [], Option, Result, Ok, Err, IfOk, IfSome, IsErrOf, OnErr}
-use Rattle.std.specs.Io.KnownBytes.{Appends}
+-- The status that the program ends with, what has failed, and what it has written then.
+use Rattle.std.specs.Prelude.{◌≡◌, ◌≢◌, ◌⊎◌, ℕ, Bool, true, false, List, [], Option, Result, Ok, Err}
+use Rattle.std.specs.Prelude.{IfOk, IfSome, IsErrOf, OnErr, OnOk}
+use Rattle.chr_device.specs.Devices.{has_failed}
 use Rattle.chr_device.specs.declared.fault.RunFault.{RunFault}
 use Rattle.chr_device.specs.declared.fault.RunFault.TheVariants.{Device, Memory}
 use Rattle.chr_device.specs.declared.words.Verb.{Verb}
-use Rattle.chr_device.specs.declared.words.Verb.TheVariants.{Check, Explain}
+use Rattle.chr_device.specs.declared.words.Verb.TheVariants.{Check, Explain, Serve}
 use Rattle.chr_device.specs.Words.{faults_of, replicas_met, verb_met, wide_met}
 use Rattle.chr_join.specs.declared.coverage.Coverage.{Coverage}
 use Rattle.chr_report.specs.declared.running.Status.{Status}
 use Rattle.chr_report.specs.declared.running.Status.TheVariants.{Accepted, Refused}
 use Rattle.chr_report.specs.declared.wanted.Wanted.{Wanted}
+use Rattle.chr_report.specs.declared.wire.Streams.{Streams}
 use Rattle.chr_report.specs.Asked.{coverage_for, replicas_by}
 use Rattle.chr_report.specs.Outputs.{IsOutput}
+use Rattle.chr_report.specs.Wires.{is_broken}
 use Rattle.chr_report.specs.Written.{WritesOutput, WritesBeginning}
 
 abbrev pub status_of : Result Status RunFault → ℕ
@@ -24,13 +27,28 @@ status_of (Err Memory) = 4
 abbrev pub wanted_met : List (List ℕ) → Wanted
 wanted_met words = replicas_by (coverage_for (wide_met words)) (replicas_met words)
 
--- a run of this verb, of which this is wanted, ended with this status: after the whole output, or after a beginning of
--- it
-pub record RunEnds (bytes old new : Option (List ℕ)) (verb : Verb) (wanted : Wanted) (status : ℕ) : Type 0 where
-  pub outcome : Result Status RunFault
+-- the status is that of the outcome: a device's fault only where the reader or the writer has failed, and any other
+-- only where neither has
+pub record EndsBy {R W : Type 0} (to : Streams R W) (status : ℕ) (outcome : Result Status RunFault) : Type 0 where
   pub status_is : status ≡ status_of outcome
+  pub whole : OnOk outcome (is_broken to ≡ false)
+  pub device : IsErrOf outcome Device → is_broken to ≡ true
+  pub memory : IsErrOf outcome Memory → is_broken to ≡ false
+
+-- all is written at the end: nothing where the reader failed, and nothing where memory ran out
+pub record WritesLast {R W : Type 0} (from to : Streams R W) (outcome : Result Status RunFault) : Type 0 where
+  pub unread : has_failed to.reader ≡ true → to.writer ≡ from.writer
+  pub unanswered : IsErrOf outcome Memory → to.writer ≡ from.writer
+
+-- a run of this verb, of which this is wanted, ended with this status: after the whole output, or after a beginning of
+-- it, which a service alone may have sent before its end
+pub record RunEnds {R W : Type 0} (from to : Streams R W) (bytes old new : Option (List ℕ)) (verb : Verb)
+    (wanted : Wanted) (status : ℕ) : Type 0 where
+  pub outcome : Result Status RunFault
+  pub ends : EndsBy to status outcome
   pub ok : IfOk outcome (WritesOutput bytes old new verb wanted)
   pub err : OnErr outcome (WritesBeginning bytes old new verb wanted)
+  pub last : verb ≢ Serve → WritesLast from to outcome
 
 -- a check of these bytes by this coverage, where they are known, ends with this status
 abbrev pub EndsAsCheck : Coverage → Option (List ℕ) → Status → Type 0
@@ -38,18 +56,30 @@ EndsAsCheck coverage bytes status =
     (input : List ℕ) × IfSome bytes (λ text. input ≡ text) × (out : List ℕ)
     × IsOutput Check (replicas_by coverage 1) input status out
 
--- an explanation by this coverage ended with this status: where it ended well with that of a check of the same bytes,
--- and where memory ran out nothing was written
-pub record ExplanationEnds (coverage : Coverage) (bytes old new : Option (List ℕ)) (status : ℕ) : Type 0 where
+-- an explanation by this coverage ended with this status: where it ended well with that of a check of the same bytes
+pub record ExplanationEnds {R W : Type 0} (from to : Streams R W) (coverage : Coverage) (bytes : Option (List ℕ))
+    (status : ℕ) : Type 0 where
   pub outcome : Result Status RunFault
-  pub status_is : status ≡ status_of outcome
+  pub ends : EndsBy to status outcome
   pub ok : IfOk outcome (EndsAsCheck coverage bytes)
-  pub memory : IsErrOf outcome Memory → Appends old new []
+  pub last : WritesLast from to outcome
+
+-- words were refused, or could not be had: nothing was read or written
+pub record IsStopped {R W : Type 0} (from to : Streams R W) (status : ℕ) : Type 0 where
+  pub status_is : (status ≡ 2) ⊎ (status ≡ 4)
+  pub untouched : to ≡ from
 
 -- the program, called with these words, ended with this status
-pub record ProgramEnds (words : List (List ℕ)) (bytes old new : Option (List ℕ)) (status : ℕ) : Type 0 where
+pub record ProgramEnds {R W : Type 0} (words : List (List ℕ)) (from to : Streams R W) (bytes old new : Option (List ℕ))
+    (status : ℕ) : Type 0 where
   pub taken : faults_of words ≡ [] → verb_met words ≢ Explain
-      → RunEnds bytes old new (verb_met words) (wanted_met words) status
+      → RunEnds from to bytes old new (verb_met words) (wanted_met words) status
   pub explained : faults_of words ≡ [] → verb_met words ≡ Explain
-      → ExplanationEnds (coverage_for (wide_met words)) bytes old new status
-  pub refused : faults_of words ≢ [] → (status ≡ 2) ⊎ (status ≡ 4)
+      → ExplanationEnds from to (coverage_for (wide_met words)) bytes status
+  pub refused : faults_of words ≢ [] → IsStopped from to status
+
+-- it was stopped before it had words, or ended as it does when it is called with some
+abbrev pub EndsByWords : {R W : Type 0} → Streams R W → Streams R W → Option (List ℕ) → Option (List ℕ)
+    → Option (List ℕ) → ℕ → Type 0
+EndsByWords from to bytes old new status =
+    IsStopped from to status ⊎ ((words : List (List ℕ)) × ProgramEnds words from to bytes old new status)

@@ -1,10 +1,10 @@
 //! The explanation of an input's program text.
 
-ghost use Rattle.std.specs.Prelude.{◌≡◌, [], IfOk, IsErrOf};
-ghost use Rattle.std.specs.Io.KnownBytes.{Appends};
-ghost use Rattle.chr_device.specs.declared.fault.RunFault.TheVariants.{Memory};
+ghost use Rattle.std.specs.Prelude.{◌≡◌, ◌⊎◌, false, true, IfOk, IsErrOf, OnOk};
+ghost use Rattle.chr_device.specs.Devices.{has_failed};
+ghost use Rattle.chr_device.specs.declared.fault.RunFault.TheVariants.{Device, Memory};
 ghost use Rattle.chr_report.specs.Asked.{coverage_for};
-ghost use Rattle.chr_report.specs.Wires.{reader_of, writer_of};
+ghost use Rattle.chr_report.specs.Wires.{reader_of};
 ghost use Rattle.chr_start.specs.Statuses.{EndsAsCheck};
 ghost use Rattle.chr_start.specs.working.Verdicts.{as_status};
 
@@ -14,6 +14,7 @@ use chr_join::Coverage;
 use chr_report::{RunFault, Status, Streams, program_text, read_input};
 use std::alloc::Global;
 use std::io::{Read, Write};
+use std::sync::Wait;
 use std::thread::Threads;
 
 /// How an explanation is to be written: a page has the drawing too, and both have all that there is in any case.
@@ -56,19 +57,25 @@ fn coverage_of(wide: bool) -> Coverage
 /// # Errors
 ///
 /// `Device` where the reader or the writer has failed, and `Memory` where no memory was left: nothing is written then.
-#[tactic(auto, using(crate::proofs::RefusedWords::appends_nothing))]
 pub(crate) fn explain_input<R: Read, W: Write>(
-    rt: &(impl Threads + Sync),
+    rt: &(impl Threads + Wait + Sync),
     alloc: Global,
     streams: &mut Streams<R, W>,
     wide: bool,
     style: Style,
 ) -> Result<Status, RunFault>
+    requires reads { has_failed streams.old.reader ≡ false }
+    requires writes { has_failed streams.old.writer ≡ false }
     ensures ok { IfOk result (EndsAsCheck (coverage_for wide) (R.remaining (reader_of streams.old))) }
-    ensures memory { IsErrOf result Memory → Appends (W.contents (writer_of streams.old))
-        (W.contents (writer_of streams.new)) [] }
+    ensures whole { OnOk result ((has_failed streams.new.reader ≡ false) × (has_failed streams.new.writer ≡ false)) }
+    ensures device { IsErrOf result Device
+        → (has_failed streams.new.reader ≡ true) ⊎ (has_failed streams.new.writer ≡ true) }
+    ensures memory { IsErrOf result Memory
+        → (has_failed streams.new.reader ≡ false) × (has_failed streams.new.writer ≡ false) }
+    ensures unread { has_failed streams.new.reader ≡ true → streams.new.writer ≡ streams.old.writer }
+    ensures unanswered { IsErrOf result Memory → streams.new.writer ≡ streams.old.writer }
 {
-    let input = read_input(alloc, &mut streams.reader)?;
+    let input = read_input(rt, alloc, &mut streams.reader)?;
     let coverage = coverage_of(wide);
     let explanation = explain(rt, alloc, program_text(&input), coverage, manner_of(style))?;
     write_whole(&mut streams.writer, explanation.text.as_bytes())?;

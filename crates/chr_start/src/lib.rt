@@ -4,28 +4,27 @@
 //! and that of help go to standard error), 3 where a device failed and 4 for want of memory or of stack.
 #![tactic(auto)]
 
-ghost use Rattle.std.specs.Prelude.{◌≡◌, ◌≢◌, [], false, IfOk, map, string_bytes};
+ghost use Rattle.std.specs.Prelude.{◌≡◌, ◌≢◌, ◌⊎◌, false, IfOk, map, string_bytes};
 ghost use Rattle.std.specs.IoError.{error_kind};
 ghost use Rattle.std.specs.Vec.Iter.{into_iter_items};
 ghost use Rattle.std.specs.Process.{exit_status};
 ghost use Rattle.std.specs.declared.io.ErrorKind.TheVariants.{OutOfMemory};
 ghost use Rattle.chr_device.specs.Devices.{has_failed};
 ghost use Rattle.chr_device.specs.Settings.{IsWithinLimits};
-ghost use Rattle.chr_device.specs.Words.{faults_of};
-ghost use Rattle.chr_device.specs.declared.words.Verb.TheVariants.{Explain};
+ghost use Rattle.chr_device.specs.declared.words.Verb.TheVariants.{Explain, Serve};
 ghost use Rattle.chr_device.specs.declared.words.WordsFault.TheVariants.{Memory};
 ghost use Rattle.chr_report.specs.Wires.{reader_of, writer_of};
 ghost use Rattle.chr_report.specs.Asked.{coverage_for, wanted_by};
-ghost use Rattle.chr_start.specs.Statuses.{status_of, ExplanationEnds, ProgramEnds, RunEnds};
+ghost use Rattle.chr_start.specs.Statuses.{status_of, EndsByWords, ExplanationEnds, ProgramEnds, RunEnds};
 
 mod explained;
-mod stack;
+mod limits;
 
 use chr_device::{Verb, refusal_text};
 use chr_report::{RunFault, Settings, Status, WordsFault, read_words, run, serve};
 pub use chr_report::{Streams, Watched};
 use explained::explain_input;
-use stack::{ENOUGH_STACK, too_small_stack};
+pub use limits::Limits;
 use std::alloc::{AllocError, Global};
 use std::env::Args;
 use std::fs::Files;
@@ -37,6 +36,9 @@ use std::sync::Wait;
 use std::thread::Threads;
 use std::{env, io};
 
+/// Where too little stack or memory is left.
+const WANT_OF_MEMORY: u8 = 4;
+
 /// The exit status of a run.
 fn exit_code(outcome: Result<Status, RunFault>) -> ExitCode
     ensures { exit_status result ≡ status_of outcome }
@@ -45,12 +47,59 @@ fn exit_code(outcome: Result<Status, RunFault>) -> ExitCode
         Ok(Status::Accepted) => ExitCode::from(0),
         Ok(Status::Refused) => ExitCode::from(1),
         Err(RunFault::Device) => ExitCode::from(3),
-        Err(RunFault::Memory) => ExitCode::from(4),
+        Err(RunFault::Memory) => ExitCode::from(WANT_OF_MEMORY),
     }
 }
 
+/// Writes an explanation.
+fn end_explanation<R: Read, W: Write>(
+    rt: &(impl Threads + Wait + Sync),
+    alloc: Global,
+    streams: &mut Streams<R, W>,
+    settings: Settings,
+) -> ExitCode
+    requires reads { has_failed streams.old.reader ≡ false }
+    requires writes { has_failed streams.old.writer ≡ false }
+    ensures { ExplanationEnds streams.old streams.new (coverage_for settings.wide) (R.remaining (reader_of streams.old))
+        (exit_status result) }
+{
+    exit_code(explain_input(rt, alloc, streams, settings.wide, settings.style))
+}
+
+/// Answers lines as they come.
+fn end_service<R: Read, W: Write>(
+    rt: &(impl RandomSource + Threads + Wait + Sync),
+    alloc: Global,
+    streams: &mut Streams<R, W>,
+    settings: Settings,
+) -> ExitCode
+    requires reads { has_failed streams.old.reader ≡ false }
+    requires writes { has_failed streams.old.writer ≡ false }
+    requires limits { IsWithinLimits settings }
+    ensures { RunEnds streams.old streams.new (R.remaining (reader_of streams.old)) (W.contents (writer_of streams.old))
+        (W.contents (writer_of streams.new)) Serve (wanted_by settings) (exit_status result) }
+{
+    exit_code(serve(rt, alloc, streams, settings))
+}
+
+/// Writes a verdict, and by a run the answers of all lines.
+fn end_run<R: Read, W: Write>(
+    rt: &(impl RandomSource + Threads + Wait + Sync),
+    alloc: Global,
+    streams: &mut Streams<R, W>,
+    settings: Settings,
+) -> ExitCode
+    requires reads { has_failed streams.old.reader ≡ false }
+    requires writes { has_failed streams.old.writer ≡ false }
+    requires limits { IsWithinLimits settings }
+    ensures { RunEnds streams.old streams.new (R.remaining (reader_of streams.old)) (W.contents (writer_of streams.old))
+        (W.contents (writer_of streams.new)) settings.command (wanted_by settings) (exit_status result) }
+{
+    let Streams { reader, writer } = streams;
+    exit_code(run(rt, alloc, reader, writer, settings))
+}
+
 /// Does what these settings ask for.
-#[tactic(auto, using(crate::proofs::Served::service_ends, crate::proofs::VerdictEnds::explanation_ends))]
 // Not put into its caller, whose frame would hold the room that this one takes.
 #[inline(never)]
 fn run_settings<R: Read, W: Write>(
@@ -62,22 +111,17 @@ fn run_settings<R: Read, W: Write>(
     requires reads { has_failed streams.old.reader ≡ false }
     requires writes { has_failed streams.old.writer ≡ false }
     requires limits { IsWithinLimits settings }
-    ensures answered { settings.command ≢ Explain →
-        RunEnds (R.remaining (reader_of streams.old)) (W.contents (writer_of streams.old))
+    ensures answered { settings.command ≢ Explain → RunEnds streams.old streams.new
+        (R.remaining (reader_of streams.old)) (W.contents (writer_of streams.old))
         (W.contents (writer_of streams.new)) settings.command (wanted_by settings) (exit_status result) }
-    ensures explained { settings.command ≡ Explain →
-        ExplanationEnds (coverage_for settings.wide) (R.remaining (reader_of streams.old))
-        (W.contents (writer_of streams.old))
-        (W.contents (writer_of streams.new)) (exit_status result) }
+    ensures explained { settings.command ≡ Explain → ExplanationEnds streams.old streams.new
+        (coverage_for settings.wide) (R.remaining (reader_of streams.old)) (exit_status result) }
 {
-    if settings.command == Verb::Explain {
-        return exit_code(explain_input(rt, alloc, streams, settings.wide, settings.style));
+    match settings.command {
+        Verb::Explain => end_explanation(rt, alloc, streams, settings),
+        Verb::Serve => end_service(rt, alloc, streams, settings),
+        Verb::Check | Verb::Run => end_run(rt, alloc, streams, settings),
     }
-    if settings.command == Verb::Serve {
-        return exit_code(serve(rt, alloc, streams, settings));
-    }
-    let Streams { reader, writer } = streams;
-    exit_code(run(rt, alloc, reader, writer, settings))
 }
 
 /// The exit status for words that gave no settings. What `clap` says of them is told on the standard error, with the
@@ -96,25 +140,27 @@ fn refuse_words(rt: &(impl Eprint + AllocGlobal), words: &[String], fault: &Word
             };
             ExitCode::from(2)
         }
-        WordsFault::Memory => ExitCode::from(4),
+        WordsFault::Memory => ExitCode::from(WANT_OF_MEMORY),
     }
 }
 
 /// Does what the words ask for, of which the first is the program's name, and gives the status to end with. Words that
-/// `clap` refuses are told on the standard error; nothing is read or written then.
+/// `clap` refuses are told on the standard error; nothing is read or written then. Where these limits leave too little
+/// address space for several workers there is one.
 pub fn run_words<R: Read, W: Write>(
     rt: &(impl Eprint + AllocGlobal + RandomSource + Threads + Wait + Sync),
     words: &[String],
+    limits: Limits,
     streams: &mut Streams<R, W>,
 ) -> ExitCode
     requires reads { has_failed streams.old.reader ≡ false }
     requires writes { has_failed streams.old.writer ≡ false }
-    ensures ends { ProgramEnds (map string_bytes words.now) (R.remaining (reader_of streams.old))
-        (W.contents (writer_of streams.old)) (W.contents (writer_of streams.new)) (exit_status result) }
-    ensures untouched { faults_of (map string_bytes words.now) ≢ [] → streams.new ≡ streams.old }
+    ensures ends { ProgramEnds (map string_bytes words.now) streams.old streams.new
+        (R.remaining (reader_of streams.old)) (W.contents (writer_of streams.old))
+        (W.contents (writer_of streams.new)) (exit_status result) }
 {
     match read_words(rt.alloc(), words) {
-        Ok(settings) => run_settings(rt, rt.alloc(), streams, settings),
+        Ok(settings) => run_settings(rt, rt.alloc(), streams, limits.fitting(settings)),
         Err(fault) => refuse_words(rt, words, &fault),
     }
 }
@@ -123,9 +169,10 @@ pub fn run_words<R: Read, W: Write>(
 fn without_words(rt: &impl Eprint, error: &io::Error) -> ExitCode
     ensures memory { error_kind error.now ≡ OutOfMemory → exit_status result ≡ 4 }
     ensures words { error_kind error.now ≢ OutOfMemory → exit_status result ≡ 2 }
+    ensures refused { (exit_status result ≡ 2) ⊎ (exit_status result ≡ 4) }
 {
     if error.kind() == io::ErrorKind::OutOfMemory {
-        return ExitCode::from(4);
+        return ExitCode::from(WANT_OF_MEMORY);
     }
     let _ = eprintln!(rt; "error: a word is not UTF-8");
     ExitCode::from(2)
@@ -148,28 +195,25 @@ fn words(rt: &(impl Env + AllocGlobal)) -> io::Result<Vec<String>> {
     Ok(words_of(rt.alloc(), args)?)
 }
 
-/// The exit status where the stack may have no more bytes than this, which are too few.
-fn without_stack(rt: &impl Eprint, limit: u64) -> ExitCode
-    ensures { exit_status result ≡ 4 }
-{
-    let _ = eprintln!(rt; "error: the stack may have {limit} bytes, and {ENOUGH_STACK} are needed");
-    ExitCode::from(4)
-}
-
 /// Does what the program's words ask for, and gives the status to end with. Where the system allows too little stack
 /// nothing is read or written.
+///
+/// Which words these are, and what the limits of the process are, the system tells: no contract can say that.
 pub fn start<R: Read, W: Write>(
     rt: &(impl Env + Eprint + Files + AllocGlobal + RandomSource + Threads + Wait + Sync),
     streams: &mut Streams<R, W>,
 ) -> ExitCode
     requires reads { has_failed streams.old.reader ≡ false }
     requires writes { has_failed streams.old.writer ≡ false }
+    ensures ends { EndsByWords streams.old streams.new (R.remaining (reader_of streams.old))
+        (W.contents (writer_of streams.old)) (W.contents (writer_of streams.new)) (exit_status result) }
 {
-    if let Some(limit) = too_small_stack(rt) {
-        return without_stack(rt, limit);
+    let limits = Limits::of_process(rt);
+    if limits.has_little_stack() {
+        return ExitCode::from(WANT_OF_MEMORY);
     }
     match words(rt) {
-        Ok(words) => run_words(rt, &words, streams),
+        Ok(words) => run_words(rt, &words, limits, streams),
         Err(error) => without_words(rt, &error),
     }
 }

@@ -4,6 +4,7 @@ use chr_device::{RunFault, Watched, read_on, read_past, write_whole};
 use std::alloc::Global;
 use std::io::Read;
 use std::process::Abort;
+use std::sync::Wait;
 
 /// More than two of the chunks that are read at once, and less than three: three reads give bytes.
 const LENGTH: usize = 2 * 16_384 + 1_000;
@@ -19,7 +20,7 @@ fn text(rt: &impl Abort, alloc: Global) -> Vec<u8> {
 /// The bytes that are held after a read on to none, as far as there are no more than so many.
 fn read(alloc: Global, reader: &mut Watched<impl Read>, most: usize) -> Result<Vec<u8>, RunFault> {
     let mut held = Vec::new(alloc);
-    read_on(reader, &mut held, most)?;
+    let _ended = read_on(reader, &mut held, most)?;
     Ok(held)
 }
 
@@ -66,7 +67,7 @@ fn what_is_held_goes_on(rt: HostRuntime) {
     let text = text(&rt, alloc);
     let mut reader = Watched::of(text.as_slice());
     let mut held = read(alloc, &mut reader, 0).expect(&rt, "some is read");
-    assert!(rt; read_on(&mut reader, &mut held, usize::MAX).is_ok());
+    assert!(rt; read_on(&mut reader, &mut held, usize::MAX) == Ok(true));
     assert!(rt; held == text, "the bytes are the text");
 }
 
@@ -74,7 +75,7 @@ fn what_is_held_goes_on(rt: HostRuntime) {
 fn what_is_passed_is_read_to_the_end(rt: HostRuntime) {
     let text = text(&rt, rt.alloc());
     let mut reader = Watched::of(text.as_slice());
-    assert!(rt; read_past(&mut reader).is_ok());
+    assert!(rt; read_past(&rt, &mut reader).is_ok());
     assert!(rt; !reader.failed());
     assert!(rt; reader.into_inner().is_empty());
 }
@@ -87,9 +88,9 @@ fn is_told(alloc: Global, text: &[u8], call: u64) -> bool {
 }
 
 /// Whether it is so where nothing is held.
-fn is_told_past(text: &[u8], call: u64) -> bool {
+fn is_told_past(rt: &impl Wait, text: &[u8], call: u64) -> bool {
     let mut reader = Watched::of(FailsAt::of(text, call));
-    read_past(&mut reader) == Err(RunFault::Device) && reader.failed()
+    read_past(rt, &mut reader) == Err(RunFault::Device) && reader.failed()
 }
 
 /// Whether all is read before this call, which fails.
@@ -99,9 +100,9 @@ fn is_read_before(alloc: Global, text: &[u8], call: u64) -> bool {
 }
 
 /// Whether all is passed before it.
-fn is_passed_before(text: &[u8], call: u64) -> bool {
+fn is_passed_before(rt: &impl Wait, text: &[u8], call: u64) -> bool {
     let mut reader = Watched::of(FailsAt::of(text, call));
-    read_past(&mut reader).is_ok()
+    read_past(rt, &mut reader).is_ok()
 }
 
 #[test]
@@ -111,10 +112,10 @@ fn a_failed_read_is_told(rt: HostRuntime) {
     // Three reads give bytes, and a fourth finds the end.
     for call in 1..=4u64 {
         assert!(rt; is_told(alloc, &text, call), "at call {call}");
-        assert!(rt; is_told_past(&text, call), "past, at call {call}");
+        assert!(rt; is_told_past(&rt, &text, call), "past, at call {call}");
     }
     assert!(rt; is_read_before(alloc, &text, 5));
-    assert!(rt; is_passed_before(&text, 5));
+    assert!(rt; is_passed_before(&rt, &text, 5));
 }
 
 /// What was written of three bytes when this call failed, which was told.

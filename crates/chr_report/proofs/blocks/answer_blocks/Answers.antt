@@ -29,7 +29,7 @@ loop-block-init g c =
             (subst (λ o. AnswersUpTo (declarations p) (rules_of p) c.args.first.now from from (left_of s) start start
             before (string_bytes o)) (sym e.out)
             (none_answered (declarations p) (rules_of p) c.args.first.now (left_of s) from start before e.first));
-        end = subst (λ b. OnTrue b (IsAtEnd from)) (sym e.ended) tt;
+        end = subst (λ b. OnTrue b (IsAtEnd from)) (sym e.ended) c.requires.end;
       };
       accepted = refl;
       whole = refl;

@@ -20,7 +20,7 @@ returns-in-Some-clause-ok g c =
     let d : IsDivided kept text first = search rules in
     if_ok c.output_of_text.result (λ o w.
     divided_written from to kept text first c.args.wanted o.status (Appends (Some []) (Some (string_bytes o.text)))
-    (all_consumed from to c.new-kept.result.items kept c.new-kept.ensures.items c.in_ok-read_on.ensures.held) d w)
+    (all_consumed from to c.new-kept.result.items kept c.new-kept.ensures.items c.in_ok-ended.ensures.held) d w)
     c.output_of_text.ensures.ok
 
 pub returns-clause-ok : goal.returns-clause-ok
@@ -33,6 +33,6 @@ returns-clause-ok g c =
     let output = c.in_ok-output_of.field-0 in
     let out = string_bytes output.text in
     kept_written from kept out Run c.args.wanted output.status (Appends (Some []) (Some out))
-    (undivided_decides from to c.new-kept.result.items kept c.new-kept.ensures.items c.in_ok-read_on.ensures.held
-    c.in_ok-read_on.ensures.enough undivided)
+    (undivided_decides c.in_ok-ended.ended from to c.new-kept.result.items kept c.new-kept.ensures.items
+    c.in_ok-ended.ensures.held c.in_ok-ended.ensures.end c.in_ok-ended.ensures.more undivided)
     (subst (λ i. IsOutput Run c.args.wanted i output.status out) read c.in_ok-output_of.ensures) refl

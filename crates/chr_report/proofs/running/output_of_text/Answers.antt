@@ -21,8 +21,8 @@ returns-in_ok-text-in-Accepted-clause-ok g c =
     text_written text c.args.first.now known c.args.wanted (Ok (program_in c.in-Accepted.accepted)) Accepted written
     (subst (IsAnswer text) j.2.0 j.1) c.in_ok-text-in-Accepted.ensures.ok
 
-pub returns-in_ok-read_past-in-Refused-clause-ok : goal.returns-in_ok-read_past-in-Refused-clause-ok
-returns-in_ok-read_past-in-Refused-clause-ok g c =
+pub returns-in_ok-read_rest-in-Refused-clause-ok : goal.returns-in_ok-read_rest-in-Refused-clause-ok
+returns-in_ok-read_rest-in-Refused-clause-ok g c =
     let text = c.args.text.now in
     let first = c.args.first.now in
     let known = g.D.Read.remaining (inner_of c.args.reader.now) in

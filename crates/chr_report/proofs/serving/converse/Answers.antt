@@ -163,15 +163,3 @@ loop-turn-preserved g c =
           (c.shorten.ensures.unended c.in_ok-answer_chunk-2.ensures.ok.unended));
       whole = search rules;
     }
-
-pub returns-clause-err : goal.returns-clause-err
-returns-clause-err g c =
-    let W = g.T.Wire in
-    let start = c.args.service.now in
-    let first = c.args.first.now in
-    let from = W.unread c.args.wire.now in
-    let old = W.sent c.args.wire.now in
-    subst (λ n. AnswersInput (declarations (served start)) (rules_of (served start)) first from (held start)
-    (AppendsPart old n)) (sym c.fail.ensures.sent)
-    (stops _ _ c.answers_exist.ensures (weighed_of start.world.accepted).lowers first _ from _
-    (held start) _ old _ c.loop-turn.invariant.answered.read)

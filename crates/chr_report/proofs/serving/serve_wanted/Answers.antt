@@ -60,8 +60,8 @@ pub serve_text-requires-clause-prompt : goal.serve_text-requires-clause-prompt
 serve_text-requires-clause-prompt g c κs within w answer a s =
     let W = g.T.Wire in
     let input = c.extend_from_slice.new.self.items in
-    let text = c.in-Some.text.now in
-    let first = c.in-Some.first.now in
+    let text = c.in-Some-divided.text.now in
+    let first = c.in-Some-divided.first.now in
     let from = W.unread c.args.wire.now in
     let to = W.unread c.wait.new.self in
     let grown : input ≡ c.loop-turn.input.items ++ take c.in_ok-n.n c.wait.new.buf = search rules in
@@ -71,12 +71,12 @@ serve_text-requires-clause-prompt g c κs within w answer a s =
     (divided_answered from to (W.unread w) input text first c.args.wanted answer (W.sent c.wait.new.self) (W.sent w)
     (read_more from _ to _ _ input grown c.loop-turn.invariant.read c.in_ok-n.ensures.bytes.0) d a s))
 
-pub returns-in-Some-clause-ok : goal.returns-in-Some-clause-ok
-returns-in-Some-clause-ok g c =
+pub returns-in-Some-divided-clause-ok : goal.returns-in-Some-divided-clause-ok
+returns-in-Some-divided-clause-ok g c =
     let W = g.T.Wire in
     let input = c.extend_from_slice.new.self.items in
-    let text = c.in-Some.text.now in
-    let first = c.in-Some.first.now in
+    let text = c.in-Some-divided.text.now in
+    let first = c.in-Some-divided.first.now in
     let from = W.unread c.args.wire.now in
     let to = W.unread c.wait.new.self in
     let old = W.sent c.args.wire.now in
@@ -89,12 +89,12 @@ returns-in-Some-clause-ok g c =
     (subst (λ o. WritesText (IsAnswer text) first to c.args.wanted s (Appends o new))
     (c.wait.ensures.kept ∙ c.loop-turn.invariant.nothing) w)) c.serve_text.ensures.ok
 
-pub returns-in-Some-clause-err : goal.returns-in-Some-clause-err
-returns-in-Some-clause-err g c =
+pub returns-in-Some-divided-clause-err : goal.returns-in-Some-divided-clause-err
+returns-in-Some-divided-clause-err g c =
     let W = g.T.Wire in
     let input = c.extend_from_slice.new.self.items in
-    let text = c.in-Some.text.now in
-    let first = c.in-Some.first.now in
+    let text = c.in-Some-divided.text.now in
+    let first = c.in-Some-divided.first.now in
     let from = W.unread c.args.wire.now in
     let to = W.unread c.wait.new.self in
     let old = W.sent c.args.wire.now in
