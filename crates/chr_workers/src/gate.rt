@@ -1,4 +1,5 @@
 //! What workers pass on their way.
+use chr_join::Lease;
 
 /// What a worker passes before it rests a part. It has no say in what comes of the part.
 pub trait Gate: Sync {
@@ -12,4 +13,24 @@ pub struct OpenGate;
 
 impl Gate for OpenGate {
     fn pass(&self, _part: u32) {}
+}
+
+/// A lease with which a gate was passed. [`Passed::by`] alone makes one, and it has nothing to rest a part with: what
+/// asks for such a value comes after the gate.
+#[derive(Drop)]
+pub(crate) struct Passed {
+    lease: Lease,
+}
+
+impl Passed {
+    /// Passes a gate with a lease, whose part has that number.
+    pub(crate) fn by<G: Gate>(gate: &G, part: u32, lease: Lease) -> Passed {
+        gate.pass(part);
+        Passed { lease }
+    }
+
+    /// The lease, which may be rested now.
+    pub(crate) fn into_lease(self) -> Lease {
+        self.lease
+    }
 }

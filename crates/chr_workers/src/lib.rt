@@ -7,9 +7,11 @@
 
 mod gate;
 mod parts;
+mod rested;
 mod resting;
 mod returning;
 
 pub use gate::{Gate, OpenGate};
-pub use parts::{Parts, Rested, rest_parts};
-pub use resting::rest_board;
+pub use parts::{Parts, rest_parts};
+pub use rested::Rested;
+pub use resting::{rest_board, rest_in_parts};

@@ -1,27 +1,17 @@
 //! Parts that are claimed by workers, and rested.
 ghost use Rattle.std.specs.Prelude.{◌≡◌, ◌≤◌, vec_len, All, IfOk};
 ghost use Rattle.chr_base.specs.declared.limits.TheConstants.{MAX_PARTS, MAX_WORKERS};
-ghost use Rattle.chr_base.specs.Rewriting.{IsAtRest};
-ghost use Rattle.chr_base.specs.Rules.{Step};
-ghost use Rattle.chr_weights.specs.WeighedPrograms.{rules_in};
 ghost use Rattle.chr_claims.specs.Seats.{IsOf};
 
-use crate::gate::Gate;
+use crate::gate::{Gate, Passed};
+use crate::rested::Rested;
 use chr_base::limits::{MAX_PARTS, MAX_WORKERS};
 use chr_claims::{ClaimSeat, Claims};
-use chr_join::{Accepted, Done, Lease};
+use chr_join::{Accepted, Lease};
 use std::alloc::{AllocError, Global};
 use std::sync::{Mutex, Wait};
 use std::thread;
 use std::thread::Threads;
-
-/// What came of a lease that was rested: its type keeps that the result is at rest.
-#[derive(Drop)]
-pub struct Rested {
-    /// What is put for the lease.
-    pub done: Done,
-    pub ghost rests: { IsAtRest (Step (rules_in done.weighed)) done.result },
-}
 
 /// A place for each part, which is claimed by its number: the lease that waits there, and what came of it, each under a
 /// lock of its own.
@@ -87,15 +77,7 @@ impl Parts {
     }
 }
 
-/// What comes of a lease that is rested, where memory is not refused.
-fn rest_one(alloc: Global, accepted: &Accepted, lease: Lease) -> Option<Rested> {
-    match accepted.rest_part(alloc, lease) {
-        Ok(done) => Some(Rested { done }),
-        Err(_) => None,
-    }
-}
-
-/// One worker: it claims a part, passes the gate, rests the part outside any lock, and puts down what came of it, as
+/// One worker: it claims a part, passes the gate with it, rests it outside any lock, and puts down what came of it, as
 /// long as there are parts. One whose resting is refused memory is left out.
 fn work<R: Wait, G: Gate>(
     rt: &R,
@@ -113,9 +95,10 @@ fn work<R: Wait, G: Gate>(
             return;
         };
         let part = places.waiting[claim as usize].lock(rt).take();
-        gate.pass(claim + 1);
         if let Some(lease) = part {
-            *places.results[claim as usize].lock(rt) = rest_one(alloc, accepted, lease);
+            let passed = Passed::by(gate, claim + 1, lease);
+            let rested = Rested::of(alloc, accepted, passed);
+            *places.results[claim as usize].lock(rt) = rested;
         }
     }
 }

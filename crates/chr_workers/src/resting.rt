@@ -1,5 +1,5 @@
 //! Boards rested by workers.
-ghost use Rattle.std.specs.Prelude.{◌≡◌, ◌≤◌, OnOk};
+ghost use Rattle.std.specs.Prelude.{◌≡◌, ◌≤◌, ◌⊎◌, IfOk, OnOk};
 ghost use Rattle.std.specs.FinMap as map;
 ghost use Rattle.chr_base.specs.declared.limits.TheConstants.{MAX_PARTS, MAX_WORKERS};
 ghost use Rattle.chr_base.specs.Programs.{rules_of};
@@ -7,6 +7,7 @@ ghost use Rattle.chr_join.specs.Parts.{IsOnlyNormalForm};
 ghost use Rattle.chr_ops.specs.Operations.{told_store};
 ghost use Rattle.chr_replica.specs.Boards.{program_on};
 ghost use Rattle.chr_replica.specs.Replicas.{IsSettled, IsSound};
+ghost use Rattle.chr_workers.specs.InParts.{RestsInParts, LacksNumbers};
 ghost use Rattle.chr_workers.specs.Kept.{IsKeptBy};
 
 use crate::gate::Gate;
@@ -33,34 +34,40 @@ fn is_worth_cutting(board: &Board, parts: u32) -> bool {
     parts > 1 && board.waiting() as u64 > board.ops().told() / 4
 }
 
-/// Leases the whole pool out in parts, rests them by workers, and puts what came of them. Parts that were refused
-/// memory are recalled. Nothing happens where it would save no time, or where the lease numbers don't suffice.
-fn rest_in_parts<R: Threads + Wait + Sync, G: Gate>(
+/// Leases the whole pool of a board out in so many parts, 1 to [`MAX_PARTS`]. So many workers, 1 to [`MAX_WORKERS`],
+/// claim and rest them in threads, of which the caller's is one; a worker that cannot be started is left out. What came
+/// of them is put, and parts whose resting was refused memory are recalled. It answers how many came back rested: none,
+/// and nothing happens, where the lease numbers don't suffice.
+///
+/// # Errors
+/// Where memory is refused. Leases may be out then.
+pub fn rest_in_parts<R: Threads + Wait + Sync, G: Gate>(
     rt: &R,
     alloc: Global,
     board: &mut Board,
     workers: u32,
     parts: u32,
     gate: &G,
-) -> Result<(), AllocError>
+) -> Result<usize, AllocError>
     requires out { board.old.replica.out ≡ map.empty }
     requires workers { (1 ≤ workers) × (workers ≤ MAX_WORKERS) }
     requires parts { (1 ≤ parts) × (parts ≤ MAX_PARTS) }
     ensures kept { IsKeptBy board.old board.new }
     ensures out { OnOk result (board.new.replica.out ≡ map.empty) }
+    ensures rested { IfOk result (λ n.
+        RestsInParts (program_on board.old) board.old.replica parts n board.new.replica
+        ⊎ LacksNumbers board.old.replica parts n board.new.replica) }
 {
-    if !is_worth_cutting(board, parts) {
-        return Ok(());
-    }
     let places = Parts::open(alloc, parts, workers)?;
     let leases = match board.take_parts(alloc, parts) {
         Ok(leases) => leases,
-        Err(Refusal::Memory) => return Err(AllocError),
-        Err(_) => return Ok(()),
+        Err(Refusal::Full(_)) => return Ok(0),
+        Err(_) => return Err(AllocError),
     };
     let results = rest_parts(rt, alloc, board.program(), places, leases, gate);
-    put_results(board, results);
-    recall_all(board)
+    let rested = put_results(board, results);
+    recall_all(board)?;
+    Ok(rested)
 }
 
 /// Looks into a board that has settled, for the contract alone.
@@ -92,10 +99,11 @@ fn rest_shared<R: Threads + Wait + Sync, G: Gate>(
     if !is_worth_sharing(board, workers) {
         return Ok(());
     }
-    if board.pools() == 1 {
-        return rest_in_parts(rt, alloc, board, workers, parts, gate);
+    if board.pools() > 1 {
+        hasten(rt, board, workers);
+    } else if is_worth_cutting(board, parts) {
+        rest_in_parts(rt, alloc, board, workers, parts, gate)?;
     }
-    hasten(rt, board, workers);
     Ok(())
 }
 

@@ -49,27 +49,41 @@ impl Gate for Holds {
     }
 }
 
-/// Counts the parts that pass.
-#[derive(Drop)]
-pub struct Counts {
-    passed: AtomicU64,
+/// The bit of a part, or 0 where that is none of 64.
+fn bit_of(part: u32) -> u64 {
+    1u64.checked_shl(part.wrapping_sub(1)).unwrap_or(0)
 }
 
-impl Counts {
-    pub fn new() -> Counts {
-        Counts {
+/// Notes the parts that pass.
+#[derive(Drop)]
+pub struct Notes {
+    passed: AtomicU64,
+    /// The sum of their bits.
+    bits: AtomicU64,
+}
+
+impl Notes {
+    pub fn new() -> Notes {
+        Notes {
             passed: AtomicU64::new(0),
+            bits: AtomicU64::new(0),
         }
     }
 
-    /// How many parts passed.
-    pub fn passed(&self) -> u64 {
-        self.passed.load(Ordering::SeqCst)
+    /// Whether each part up to this number has passed, once, and no other.
+    pub fn have(&self, parts: u32) -> bool {
+        let mut all = 0u64;
+        for part in 0..parts {
+            all |= bit_of(part.wrapping_add(1));
+        }
+        self.passed.load(Ordering::SeqCst) == u64::from(parts)
+            && self.bits.load(Ordering::SeqCst) == all
     }
 }
 
-impl Gate for Counts {
-    fn pass(&self, _part: u32) {
+impl Gate for Notes {
+    fn pass(&self, part: u32) {
         self.passed.fetch_add(1, Ordering::SeqCst);
+        self.bits.fetch_add(bit_of(part), Ordering::SeqCst);
     }
 }

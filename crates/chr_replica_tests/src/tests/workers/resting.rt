@@ -1,11 +1,11 @@
 //! Boards are rested.
 ghost use Rattle.std.specs.Prelude.{◌≡◌, ◌≤◌, true};
 
-use crate::tests::workers::gates::{Counts, Holds};
+use crate::tests::workers::gates::{Holds, Notes};
 use crate::tests::workers::making::{Facts, board, leasts, tell};
 use chr_base::limits::{MAX_PARTS, MAX_WORKERS};
 use chr_replica::Board;
-use chr_workers::{Gate, OpenGate, rest_board};
+use chr_workers::{Gate, OpenGate, rest_board, rest_in_parts};
 use std::alloc::Global;
 use std::process::Abort;
 use std::sync::Wait;
@@ -16,6 +16,9 @@ const MANY: u32 = 20;
 
 /// So many don't.
 const FEW: u32 = 16;
+
+/// One operation tells so few atoms that they are settled at once, unless parts are asked for.
+const ONE: u32 = 1;
 
 /// Whether a number is one of 1 to a limit.
 fn fits(number: u32, most: u32) -> bool
@@ -47,8 +50,8 @@ fn shows(rt: &impl Abort, alloc: Global, board: &Board, operations: u32) {
     assert!(rt; board.ops().told() == u64::from(operations) * 64);
 }
 
-/// How many workers there are, how many parts, and how often a gate is passed.
-const SHARED: [(u32, u32, u64); 9] = [
+/// How many workers there are, how many parts, and how many of these pass a gate.
+const SHARED: [(u32, u32, u32); 9] = [
     (1, 1, 0),
     (1, 64, 0),
     (2, 1, 0),
@@ -61,19 +64,19 @@ const SHARED: [(u32, u32, u64); 9] = [
 ];
 
 /// So many workers come to the store that a plain loop finds of what so many operations told. Each part that they rest
-/// passes the gate once.
+/// passes the gate once, under its number.
 fn come_to_the_least<R: Abort + Threads + Wait + Sync>(
     rt: &R,
     alloc: Global,
     operations: u32,
     workers: u32,
     parts: u32,
-    passes: u64,
+    passes: u32,
 ) {
     let mut board = board(rt, alloc, operations);
-    let gate = Counts::new();
+    let gate = Notes::new();
     rest(rt, alloc, &mut board, workers, parts, &gate);
-    assert!(rt; gate.passed() == passes, "{workers} workers, {parts} parts");
+    assert!(rt; gate.have(passes), "{workers} workers, {parts} parts");
     shows(rt, alloc, &board, operations);
 }
 
@@ -109,14 +112,25 @@ fn few_atoms_are_settled_at_once(rt: HostRuntime) {
     come_to_the_least(&rt, rt.alloc(), FEW, 4, 16, 0);
 }
 
+/// With ample memory all parts come back rested, so that the workers were of use.
+#[test]
+fn all_parts_come_back_rested(rt: HostRuntime) {
+    let mut board = board(&rt, rt.alloc(), ONE);
+    assert!(rt; board.pools() == 1 && board.least_lease().is_none());
+    let rested = rest_in_parts(&rt, rt.alloc(), &mut board, 2, 4, &OpenGate);
+    assert!(rt; rested.ok() == Some(4));
+    rest(&rt, rt.alloc(), &mut board, 1, 1, &OpenGate);
+    shows(&rt, rt.alloc(), &board, ONE);
+}
+
 /// Where the pool was at rest before few atoms came in, it is not cut.
 #[test]
 fn a_pool_at_rest_is_not_cut_again(rt: HostRuntime) {
     let mut board = board(&rt, rt.alloc(), MANY);
     rest(&rt, rt.alloc(), &mut board, 4, 16, &OpenGate);
     tell(&rt, rt.alloc(), &mut board, Facts::Best, MANY);
-    let gate = Counts::new();
+    let gate = Notes::new();
     rest(&rt, rt.alloc(), &mut board, 4, 16, &gate);
-    assert!(rt; gate.passed() == 0);
+    assert!(rt; gate.have(0));
     shows(&rt, rt.alloc(), &board, MANY + 1);
 }

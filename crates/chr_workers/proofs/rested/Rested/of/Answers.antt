@@ -2,7 +2,7 @@ use Rattle.std.proofs.Common.{sym, subst}
 use Rattle.chr_base.specs.Rewriting.{IsAtRest}
 use Rattle.chr_base.specs.Rules.{Step}
 use Rattle.chr_weights.specs.WeighedPrograms.{rules_in}
-use Rattle.chr_workers.proofs.parts.rest_one.Goals as goal
+use Rattle.chr_workers.proofs.rested.Rested.of.Goals as goal
 
 pub invariant_of-result : goal.invariant_of-result
 invariant_of-result c =
