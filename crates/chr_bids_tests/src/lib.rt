@@ -8,8 +8,9 @@
 //! - A fifth seat settles the first book meanwhile, by two workers: no clerk waits while they rest their parts.
 //! - A messenger with a seat in either hall exchanges bids between the books, whenever and as often as it likes.
 //!
-//! In the end both books hold the same bids, and so they show the same winners: whatever the threads did and however
-//! the books were rested, there is one store that comes of given bids.
+//! In the end both books hold the same bids, and each hall closes its book with the receipt of a last settling. Then
+//! `chr_journals::stores_of_receipts` hands out what both receipts show: whatever the threads did and however the books
+//! were rested, there is one store that comes of given bids, and so the winners are the same.
 #![tactic(auto)]
 
 #[cfg(test)]

@@ -1,13 +1,15 @@
 //! The auction.
-ghost use Rattle.std.specs.Prelude.{◌≡◌};
+ghost use Rattle.std.specs.Prelude.{◌≡◌, Some};
+ghost use Rattle.std.specs.List.{Contains};
 
 use arrayvec::ArrayVec;
-use chr_acts::{OpList, Reply};
+use chr_acts::{Book, OpList, Reply};
 use chr_base::atom::{Atom, SymbolId};
 use chr_base::bag::Bag;
+use chr_journals::stores_of_receipts;
 use chr_ops::{Op, OpId, Summary};
 use chr_shared::{Naming, Opening, Receipt, Seat, Settled, Shared};
-use chr_shared_testing::{accepted, opening, shown};
+use chr_shared_testing::{accepted, opening};
 use chr_workers::OpenGate;
 use std::alloc::Global;
 use std::marker::Brand;
@@ -86,16 +88,17 @@ fn clerk<J: Naming, R: Wait>(
     seat
 }
 
-/// All clerks of a hall at once.
-fn clerks<J: Naming + Send + Sync, R: Threads + Wait + Sync>(
+/// All clerks of a hall at once. Their seats come back.
+fn clerks<J: Naming + Send + Sync, R: Abort + Threads + Wait + Sync>(
     rt: &R,
     alloc: Global,
     book: &Shared<J>,
     seats: Vec<Seat<J>>,
     hall: Hall,
-) -> bool {
+) -> Vec<Seat<J>> {
     let work = |seat: Seat<J>| -> Seat<J> { clerk(rt, alloc, book, seat, hall) };
-    thread::map_vec(rt, seats, &work).is_ok()
+    let seats = thread::map_vec(rt, seats, &work).ok();
+    seats.expect(rt, "memory")
 }
 
 /// Which bids a book has, by their ids.
@@ -158,14 +161,14 @@ fn messenger<J: Naming, K: Naming, R: Wait>(
     }
 }
 
-/// Two workers rest a book in four parts.
+/// Two workers rest a book in four parts. What comes of it is not looked at, since the clerks go on.
 fn settle<J: Naming, R: Threads + Wait + Sync>(
     rt: &R,
     alloc: Global,
     book: &Shared<J>,
     seat: &mut Seat<J>,
-) -> Settled {
-    book.settle_with(rt, alloc, seat, 2, 4, &OpenGate)
+) {
+    let _ = book.settle_with(rt, alloc, seat, 2, 4, &OpenGate);
 }
 
 /// A hall's book is opened, and its seats are given out.
@@ -176,22 +179,66 @@ fn opened<J: Naming, R: Abort>(rt: &R, alloc: Global, opening: Opening) -> (Shar
     opened.expect(rt, "memory")
 }
 
-/// The auction: what both books come to.
+/// The last seat of a hall has the book rested once more. Then its seats are all back, and the book is closed with the
+/// receipt of that, which stands in the book's journal, as the contract says.
+fn closed<J: Naming, R: Abort + Threads + Wait + Sync>(
+    rt: &R,
+    alloc: Global,
+    book: Shared<J>,
+    seats: Vec<Seat<J>>,
+) -> (Receipt, Book)
+    ensures receipt { Contains result.1.entries result.0 }
+    ensures program { Some result.1.board.accepted ≡ J.opening.accepted }
+{
+    let mut seats = seats;
+    let mut last = seats.pop().expect(rt, "a seat");
+    let Settled::Rest(receipt) = book.settle_with(rt, alloc, &mut last, 2, 4, &OpenGate) else {
+        panic!(rt; "no store is shown");
+    };
+    seats.push(last).ok().expect(rt, "memory");
+    if !book.has_all(&seats) {
+        panic!(rt; "a seat is missing");
+    }
+    let book = book.close_with(seats, &receipt);
+    (receipt, book)
+}
+
+/// Both halls close their books, and look at what their last receipts show. It is proved that each of the two stores is
+/// the one normal form of the bids that are held at its receipt's place in its book, and so that they are equal where
+/// these are the same bids. That the messenger has made them the same is not: so the stores are compared.
+fn winners<J: Naming, K: Naming, R: Abort + Threads + Wait + Sync>(
+    rt: &R,
+    alloc: Global,
+    one: (Shared<J>, Vec<Seat<J>>),
+    other: (Shared<K>, Vec<Seat<K>>),
+) -> [Option<i64>; 3]
+    requires { J.opening.accepted ≡ K.opening.accepted }
+{
+    let (receipt, book) = closed(rt, alloc, one.0, one.1);
+    let (other_receipt, other_book) = closed(rt, alloc, other.0, other.1);
+    let stores = stores_of_receipts(&book, &receipt, &other_book, &other_receipt);
+    let (store, other_store) = stores.expect(rt, "two stores");
+    assert!(rt; store.is_same(other_store));
+    [winning(store, 0), winning(store, 1), winning(store, 2)]
+}
+
+/// The auction, and who wins it.
 fn auction<J: Naming + Send + Sync, K: Naming + Send + Sync, R: Abort + Threads + Wait + Sync>(
     rt: &R,
     alloc: Global,
     first: Opening,
     second: Opening,
-) -> [Settled; 2]
+) -> [Option<i64>; 3]
     requires first { first ≡ J.opening }
     requires second { second ≡ K.opening }
+    requires program { first.accepted ≡ second.accepted }
 {
     let (one, mut seats) = opened::<J, _>(rt, alloc, first);
     let (other, mut other_seats) = opened::<K, _>(rt, alloc, second);
     let mut here = seats.pop().expect(rt, "a seat");
     let mut there = other_seats.pop().expect(rt, "a seat");
     let mut settling = seats.pop().expect(rt, "a seat");
-    join(
+    let (mut seats, ()) = join(
         rt,
         || clerks(rt, alloc, &one, seats, FIRST_HALL),
         || {
@@ -202,21 +249,19 @@ fn auction<J: Naming + Send + Sync, K: Naming + Send + Sync, R: Abort + Threads 
             );
         },
     );
-    clerks(rt, alloc, &other, other_seats, SECOND_HALL);
+    let mut other_seats = clerks(rt, alloc, &other, other_seats, SECOND_HALL);
     messenger(rt, alloc, &one, &mut here, &other, &mut there, 1);
-    [
-        settle(rt, alloc, &one, &mut settling),
-        settle(rt, alloc, &other, &mut there),
-    ]
+    for seat in [settling, here] {
+        seats.push(seat).ok().expect(rt, "memory");
+    }
+    other_seats.push(there).ok().expect(rt, "memory");
+    winners(rt, alloc, (one, seats), (other, other_seats))
 }
 
 /// The amount of the one bid that stays for an item.
-fn winning(settled: &Settled, item: i64) -> Option<i64> {
-    let Settled::Rest(receipt) = settled else {
-        return None;
-    };
+fn winning(store: &Bag, item: i64) -> Option<i64> {
     let mut amount = None;
-    for atom in shown(receipt)?.atoms() {
+    for atom in store.atoms() {
         if let [of, offered] = atom.args.as_slice() {
             if *of == item {
                 amount = Some(*offered);
@@ -232,9 +277,6 @@ fn both_halls_know_the_winners(rt: HostRuntime) {
     let accepted = accepted(&rt, alloc, HIGHEST).expect(&rt, "a program");
     let first = opening(alloc, &accepted, 6).expect(&rt, "memory");
     let second = opening(alloc, &accepted, 2).expect(&rt, "memory");
-    for settled in &auction::<Brand, Brand, _>(&rt, alloc, first, second) {
-        assert!(rt; winning(settled, 0) == Some(104));
-        assert!(rt; winning(settled, 1) == Some(112));
-        assert!(rt; winning(settled, 2) == Some(123));
-    }
+    let winners = auction::<Brand, Brand, _>(&rt, alloc, first, second);
+    assert!(rt; winners == [Some(104), Some(112), Some(123)]);
 }

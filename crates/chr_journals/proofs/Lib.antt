@@ -1,2 +1,4 @@
+mod Placing
+mod Showing
 mod Telling
 mod Values

@@ -4,7 +4,6 @@ use Rattle.std.proofs.Common.{refl, sym, ap, ◌∙◌, subst}
 use Rattle.chr_base.specs.declared.program.Program.{Program}
 use Rattle.chr_base.specs.Stores.{Store}
 use Rattle.chr_base.specs.Programs.{rules_of}
-use Rattle.chr_base.specs.Values.{HasValues}
 use Rattle.chr_join.specs.Parts.{IsOnlyNormalForm}
 use Rattle.chr_ops.specs.declared.fault.Added.TheVariants as added
 use Rattle.chr_ops.specs.Operations.{told_store}
@@ -30,7 +29,7 @@ does_holds p s (act.Merge ops) (reply.Merged n) t h = ap (λ r. r.operations) h.
 does_holds p s (act.Step step) reply.Stepped t h = ap (λ r. r.operations) h.after
 does_holds p s (act.Take part) (reply.Leased lease) t h = ap (λ r. r.operations) h.1.after
 does_holds p s (act.TakeParts n) (reply.LeasedParts leases) t h = ap (λ r. r.operations) h.1.after
-does_holds p s (act.Put done) reply.WasPut t h = ap (λ r. r.operations) h.after
+does_holds p s (act.Put done) reply.WasPut t h = ap (λ r. r.operations) h.1.after
 does_holds p s (act.Recall number) reply.Recalled t h = ap (λ r. r.operations) h.after
 does_holds p s act.Settle (reply.Settled n) t h = ap (λ r. r.operations) h.0.after
 does_holds p s act.Settle (reply.Stopped n) t h = ap (λ r. r.operations) h.after

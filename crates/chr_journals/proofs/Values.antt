@@ -1,6 +1,6 @@
 -- Operations only join a replica, so those of a place in its journal have the values that those at the end have.
-use Rattle.std.specs.Prelude.{◌≡◌, ℕ, List, [], ◌∷◌, ◌++◌}
-use Rattle.std.proofs.Common.{arith, sym, ap, subst, ◌∙◌}
+use Rattle.std.specs.Prelude.{◌≡◌, List, [], ◌∷◌, ◌++◌}
+use Rattle.std.proofs.Common.{arith, ap, subst, ◌∙◌}
 use Rattle.chr_base.specs.declared.program.Program.{Program}
 use Rattle.chr_base.specs.FinBag.{◌⊕◌}
 use Rattle.chr_base.specs.Stores.{Store}
@@ -8,7 +8,7 @@ use Rattle.chr_base.specs.Values.{is_value, args_in, HasValues}
 use Rattle.chr_base.proofs.Stores.{count_plus}
 use Rattle.chr_base.proofs.Each.{each_within}
 use Rattle.chr_ops.specs.declared.fault.Added.TheVariants as added
-use Rattle.chr_ops.specs.Operations.{Operations, told_store, sum_of}
+use Rattle.chr_ops.specs.Operations.{told_store, sum_of}
 use Rattle.chr_ops.specs.Joins.{fresh}
 use Rattle.chr_ops.proofs.Told.{told_store-insert}
 use Rattle.chr_ops.proofs.Unions.{told_store-union}
@@ -47,7 +47,7 @@ does_values p s (act.Step step) reply.Stepped t h v = same_values s t (ap (λ r.
 does_values p s (act.Take part) (reply.Leased lease) t h v = same_values s t (ap (λ r. r.operations) h.1.after) v
 does_values p s (act.TakeParts n) (reply.LeasedParts leases) t h v =
     same_values s t (ap (λ r. r.operations) h.1.after) v
-does_values p s (act.Put done) reply.WasPut t h v = same_values s t (ap (λ r. r.operations) h.after) v
+does_values p s (act.Put done) reply.WasPut t h v = same_values s t (ap (λ r. r.operations) h.1.after) v
 does_values p s (act.Recall number) reply.Recalled t h v = same_values s t (ap (λ r. r.operations) h.after) v
 does_values p s act.Settle (reply.Settled n) t h v = same_values s t (ap (λ r. r.operations) h.0.after) v
 does_values p s act.Settle (reply.Stopped n) t h v = same_values s t (ap (λ r. r.operations) h.after) v

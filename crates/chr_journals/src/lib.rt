@@ -1,9 +1,12 @@
 //! What journals tell: which operations are held at each place, and that a store that is shown there is the one normal
-//! form of them. Nothing here computes: each function's contract is a law of journals, or what it says of given books.
+//! form of them. Hardly anything here computes: each function's contract is a law of journals, or what it says of given
+//! books, and of receipts of theirs.
 #![tactic(auto)]
 
 mod books;
 mod laws;
+mod receipts;
 
 pub use books::{shown_stores_agree, shown_stores_are_answers};
 pub use laws::journals_tell;
+pub use receipts::{store_of_receipt, stores_of_receipts};

@@ -5,7 +5,7 @@ use Rattle.std.proofs.Math.Nat.{eq-or-lt_of_le}
 use Rattle.std.proofs.lemmas.List.{get_or_default}
 use Rattle.std.specs.Prelude.{filter}
 use Rattle.std.specs.List.{Contains}
-use Rattle.std.proofs.lemmas.List.Elements.{All-contains, Contains-append_right}
+use Rattle.std.proofs.lemmas.List.Elements.{All-cons, All-contains, All-head, All-nil, All-same, Contains-append_right}
 use Rattle.chr_acts.specs.declared.entry.Entry.{Entry}
 use Rattle.chr_shared.specs.Openings.{SeatView}
 use Rattle.chr_shared.specs.Tie.{of_seat}
@@ -28,6 +28,13 @@ placed journal all log is seats own r h =
     let o : h.0.list ≡ of_seat h.0.number log = All-contains (HasOwn log) seats h.0 own h.1 in
     let inside = contains_filter _ log r (subst (λ l. Contains l r) o h.2) in
     subst (λ l. Contains l r) (sym is) (Contains-append_right journal log r inside)
+
+-- what holds of the one element of a list
+pub all_of_one : {X : Type 0} (P : X → Type 0) (xs : List X) (x : X) → xs ≡ x ∷ [] → P x → All P xs
+all_of_one P xs x is p = All-same P xs (x ∷ []) is (All-cons P x [] p (All-nil P))
+
+pub of_one : {X : Type 0} (P : X → Type 0) (xs : List X) (x : X) → xs ≡ x ∷ [] → All P xs → P x
+of_one P xs x is all = All-head P x [] (subst (All P) is all)
 
 -- seats with the numbers from 1 on, and one more
 pub numbered_more : (seats : List SeatView) (k : ℕ) (x : SeatView) → x ≡ get_or seats k x → k < length seats → x.number

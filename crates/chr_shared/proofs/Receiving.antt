@@ -1,8 +1,10 @@
 -- The receipts of resting a shared book by workers.
 use Rattle.std.proofs.Common.{arith, ◌≡◌, ◌≤◌, ◌-◌, ℕ, suc, List, [], ◌∷◌, ◌++◌, length, take, drop, get_or, refl, sym}
-use Rattle.std.proofs.Common.{ap, ◌∙◌, inl, inr, append_assoc}
+use Rattle.std.proofs.Common.{ap, ◌∙◌, inl, inr, append_assoc, subst, ⊎_elim}
 use Rattle.std.specs.Prelude.{Result, Ok, Err, IfOk, IfErr, OnOk}
+use Rattle.std.specs.List.{Contains}
 use Rattle.std.proofs.lemmas.List.{append-nil, take_rest}
+use Rattle.std.proofs.lemmas.List.Elements.{Contains-append_right, Contains-push}
 use Rattle.chr_join.specs.declared.lease.Lease.{Lease}
 use Rattle.chr_replica.specs.declared.refusal.Refusal.{Refusal}
 use Rattle.chr_replica.specs.declared.refusal.Refusal.TheVariants as refusal
@@ -11,8 +13,8 @@ use Rattle.chr_acts.specs.declared.entry.Entry.{Entry}
 use Rattle.chr_acts.specs.declared.reply.Reply.TheVariants as reply
 use Rattle.chr_shared.specs.declared.settled.Settled.{Settled}
 use Rattle.chr_shared.specs.declared.settled.Settled.TheVariants as settled
-use Rattle.chr_shared.specs.Settling.{AnswersWith, EndsWith, IsEnd, IsReturn, IsTaken, IsUntaken, Returns, StopsTaking}
-use Rattle.chr_shared.specs.Settling.{last_of, numbers_in}
+use Rattle.chr_shared.specs.Settling.{AnswersWith, EndsWith, IsEnd, IsPair, IsReturn, IsShown, IsShownIn, IsTaken}
+use Rattle.chr_shared.specs.Settling.{IsUntaken, Rests, Returns, StopsTaking, last_of, numbers_in}
 
 pub last_snoc : (d : Entry) (xs : List Entry) (e : Entry) → last_of d (xs ++ e ∷ []) ≡ e
 last_snoc d [] e = refl
@@ -110,3 +112,35 @@ ends_with numbers old a b result h g = (
   h.2.0,
   inr (h.2.1, g.2),
 )
+
+not_rest : (shown : Entry) (r : Refusal) → settled.Rest shown ≡ settled.NotRested r → ⊥
+not_rest shown r h = cc
+
+ended : (old new : List Entry) (taken : Entry) (returns tail es : List Entry) (shown : Entry) → new ≡ old ++ es → es
+    ≡ taken ∷ (returns ++ tail) → IsPair tail shown × IsShown shown.reply → IsShownIn new (settled.Rest shown)
+ended old new taken returns tail es shown is list h =
+    let a = h.0.0 in
+    let two : Contains tail shown = subst (λ l. Contains l shown) (sym h.0.3) (Contains-push (a ∷ []) shown) in
+    let all : Contains es shown = subst (λ l. Contains l shown) (sym list)
+    (Contains-append_right (taken ∷ returns) tail shown two) in
+    (subst (λ l. Contains l shown) (sym is) (Contains-append_right old es shown all), h.0.2, h.1)
+
+rests_in : (parts : ℕ) (old new es : List Entry) (shown : Entry) → new ≡ old ++ es → Rests parts es (settled.Rest shown)
+    → IsShownIn new (settled.Rest shown)
+rests_in parts old new es shown is r =
+    ⊎_elim
+    (λ (n : (r.tail ≡ []) × (settled.Rest shown ≡ settled.NotRested refusal.Memory)). absurd (not_rest shown _ n.1))
+    (λ (e : (length r.returns ≡ length (numbers_in r.leases)) × EndsWith (settled.Rest shown) r.tail).
+    ended old new r.taken r.returns r.tail es shown is r.list e.1)
+    r.ends
+
+-- what came to a store is in the list
+pub shown_in : (parts : ℕ) (old new : List Entry) (result : Settled)
+    → ((es : List Entry) × (new ≡ old ++ es) × AnswersWith parts result es) → IsShownIn new result
+shown_in parts old new (settled.NotRested r) h = tt
+shown_in parts old new (settled.Rest shown) h =
+    ⊎_elim
+    (λ (n : (r : Refusal) × (settled.Rest shown ≡ settled.NotRested r) × StopsTaking parts r h.0).
+    absurd (not_rest shown n.0 n.1))
+    (rests_in parts old new h.0 shown h.1)
+    h.2

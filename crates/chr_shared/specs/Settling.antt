@@ -1,5 +1,6 @@
 -- What `settle_with` makes of a seat's receipts.
 use Rattle.std.specs.Prelude.{◌≡◌, ◌⊎◌, ℕ, Bool, true, false, Option, Some, None, List, [], ◌∷◌, ◌++◌, length, map, ⊤}
+use Rattle.std.specs.List.{Contains}
 use Rattle.chr_base.specs.Rewriting.{IsAtRest}
 use Rattle.chr_base.specs.Rules.{Step}
 use Rattle.chr_weights.specs.WeighedPrograms.{rules_in}
@@ -87,6 +88,11 @@ pub record Rests (parts : ℕ) (es : List Entry) (result : Settled) : Type 0 whe
 abbrev pub AnswersWith : ℕ → Settled → List Entry → Type 0
 AnswersWith parts result es =
     ((r : Refusal) × (result ≡ settled.NotRested r) × StopsTaking parts r es) ⊎ Rests parts es result
+
+-- where it came to a store, the list has the receipt, which is that of a show that told a store
+abbrev pub IsShownIn : List Entry → Settled → Type 0
+IsShownIn list (settled.Rest receipt) = Contains list receipt × (receipt.act ≡ act.Show) × IsShown receipt.reply
+IsShownIn list (settled.NotRested _) = ⊤
 
 -- the last of them, if any
 abbrev pub last_of : Entry → List Entry → Entry

@@ -3,6 +3,7 @@
 //! made. [`Shared::close`] gives the book back; its journal since the opening has just the receipts of the seats.
 #![tactic(auto)]
 
+mod laws;
 mod limits;
 mod locked_book;
 mod naming;
@@ -13,6 +14,7 @@ mod shared;
 mod tie;
 
 pub use chr_acts::Entry as Receipt;
+pub use laws::receipts_are_listed;
 pub use limits::MAX_SEATS;
 pub use naming::{Naming, Opening};
 pub use seat::Seat;

@@ -3,7 +3,7 @@ ghost use Rattle.std.specs.Prelude.{◌≡◌, ◌≤◌, ◌++◌, List, IfOk, 
 ghost use Rattle.chr_base.specs.declared.limits.TheConstants.{MAX_PARTS, MAX_WORKERS};
 ghost use Rattle.chr_acts.specs.declared.entry.Entry.{Entry};
 ghost use Rattle.chr_shared.specs.Seats.{GetsAll, GetsOne};
-ghost use Rattle.chr_shared.specs.Settling.{AnswersWith, EndsWith, IsEnd, IsReturn, IsTaken, Returns};
+ghost use Rattle.chr_shared.specs.Settling.{AnswersWith, EndsWith, IsEnd, IsReturn, IsShownIn, IsTaken, Returns};
 ghost use Rattle.chr_shared.specs.Settling.{StopsTaking, numbers_in};
 
 use crate::naming::Naming;
@@ -207,6 +207,7 @@ impl<J: Naming> Shared<J> {
         requires parts { (1 ≤ parts) × (parts ≤ MAX_PARTS) }
         ensures number { seat.new.number ≡ seat.old.number }
         ensures list { GetsAll (AnswersWith parts result) seat.old seat.new }
+        ensures shown { IsShownIn seat.new.list result }
     {
         let Ok(places) = Parts::open(alloc, parts, workers) else {
             return Settled::NotRested(Refusal::Memory);

@@ -18,6 +18,7 @@ use chr_join::Done;
 use chr_ops::{Op, Summary};
 use std::alloc::{AllocError, Global};
 use std::marker::PhantomData;
+use std::slice;
 use std::sync::{Mutex, Wait};
 
 /// A book that threads share.
@@ -274,6 +275,21 @@ impl<J: Naming> Shared<J> {
             locked.check(&table, seat);
         }
         locked.into_book()
+    }
+
+    /// Ends the sharing in the same way, with one receipt: it stands in the journal.
+    pub fn close_with(self, seats: Vec<Seat<J>>, receipt: &Entry) -> Book
+        requires numbers { AreNumbered seats.items }
+        requires all { vec_len seats ≡ J.opening.seats }
+        requires receipt { IsReceiptOf seats.items receipt.now }
+        ensures program { Some result.board.accepted ≡ J.opening.accepted }
+        ensures before { take (length J.opening.journal) result.entries ≡ J.opening.journal }
+        ensures legal { IsLegal (program_on result.board) result.entries result.board.replica }
+        ensures seats { HaveOwn (drop (length J.opening.journal) result.entries) seats.items }
+        ensures receipt { Contains result.entries receipt.now }
+        ensures others { All (IsBySeat J.opening.seats) (drop (length J.opening.journal) result.entries) }
+    {
+        self.close(seats, slice::from_ref(receipt))
     }
 }
 

@@ -2,7 +2,8 @@
 //! operations of a program's first symbol, what was shown, and the end of a book.
 #![tactic(auto)]
 
-ghost use Rattle.std.specs.Prelude.{◌≤◌};
+ghost use Rattle.std.specs.Prelude.{◌≡◌, ◌≤◌, IfSome, Some};
+ghost use Rattle.std.specs.Arc.{arc_value};
 ghost use Rattle.chr_base.specs.declared.limits.TheConstants.{MAX_PARTS, MAX_WORKERS};
 
 use arrayvec::ArrayVec;
@@ -35,7 +36,9 @@ pub fn accepted<R: Threads + Sync>(rt: &R, alloc: Global, text: &str) -> Option<
 }
 
 /// A book of the program that was told nothing, about to be shared by so many seats, at most 16.
-pub fn opening(alloc: Global, accepted: &Arc<Accepted>, seats: u32) -> Option<Opening> {
+pub fn opening(alloc: Global, accepted: &Arc<Accepted>, seats: u32) -> Option<Opening>
+    ensures { IfSome result (λ opening. opening.accepted ≡ Some (arc_value accepted.now)) }
+{
     if seats < 1 || seats > MAX_SEATS {
         return None;
     }
@@ -97,8 +100,8 @@ pub fn rests_at(alloc: Global, settled: &Settled, values: &[i64]) -> bool {
     }
 }
 
-/// The first seat rests the book by so many workers in so many parts, and the book is closed. Nothing where these are
-/// not all its seats.
+/// The first seat rests the book by so many workers in so many parts, and the book is closed with the receipt of that,
+/// where a store was shown. Nothing where these are not all its seats.
 pub fn rest_and_close<J: Naming, R: Threads + Wait + Sync>(
     rt: &R,
     alloc: Global,
@@ -115,8 +118,12 @@ pub fn rest_and_close<J: Naming, R: Threads + Wait + Sync>(
         return None;
     };
     let settled = shared.settle_with(rt, alloc, first, workers, parts, &OpenGate);
-    if shared.has_all(&seats) {
-        return Some((settled, shared.close(seats, &[])));
+    if !shared.has_all(&seats) {
+        return None;
     }
-    None
+    let book = match &settled {
+        Settled::Rest(receipt) => shared.close_with(seats, receipt),
+        Settled::NotRested(_) => shared.close(seats, &[]),
+    };
+    Some((settled, book))
 }

@@ -3,8 +3,10 @@ ghost use Rattle.std.specs.Prelude.{◌≡◌};
 
 use crate::tests::calls::{Call, Said, receipt, says};
 use crate::tests::{opened, prepared};
-use chr_acts::{Book, Entry};
-use chr_shared::{Naming, Opening, Receipt, Seat, Shared};
+use chr_acts::{Book, CallFault, Entry};
+use chr_ops::Op;
+use chr_shared::{Naming, Opening, Receipt, Seat, Shared, receipts_are_listed};
+use chr_shared_testing::op;
 use std::alloc::Global;
 use std::marker::Brand;
 use std::process::Abort;
@@ -91,9 +93,54 @@ const TWO_SEATS: [Row; 4] = [
     (1, Call::Recall(7), 2, Said::Refused(36)),
 ];
 
+/// The operation of both seats.
+fn five(rt: &impl Abort, alloc: Global) -> Op {
+    op(alloc, 1, 1, &[5]).expect(rt, "an operation")
+}
+
+/// The calls of [`TWO_SEATS`], in that order. The book is closed with their receipts.
+fn hand_in<J: Naming, R: Abort + Wait>(
+    rt: &R,
+    alloc: Global,
+    shared: Shared<J>,
+    first: Seat<J>,
+    second: Seat<J>,
+) -> Result<([Receipt; 4], Book), CallFault> {
+    receipts_are_listed();
+    let (mut first, mut second) = (first, second);
+    let new = shared.tell(rt, alloc, &mut first, five(rt, alloc))?;
+    let again = shared.tell(rt, alloc, &mut second, five(rt, alloc))?;
+    let shown = shared.show(rt, alloc, &mut second)?;
+    let refused = shared.recall(rt, alloc, &mut first, 7)?;
+    let seats = vec![in alloc; first, second].expect(rt, "memory");
+    if !shared.has_all(&seats) {
+        panic!(rt; "other seats");
+    }
+    let receipts = [new, again, shown, refused];
+    let book = shared.close(seats, &receipts);
+    Ok((receipts, book))
+}
+
+/// The receipts and the book of two seats.
+fn of_two<J: Naming, R: Abort + Wait>(
+    rt: &R,
+    alloc: Global,
+    opening: Opening,
+) -> ([Receipt; 4], Book)
+    requires { opening ≡ J.opening }
+{
+    let (shared, mut seats) = opened::<J, _>(rt, alloc, opening);
+    let second = seats.pop().expect(rt, "a seat");
+    let first = seats.pop().expect(rt, "a seat");
+    let closed = hand_in(rt, alloc, shared, first, second).ok();
+    closed.expect(rt, "memory")
+}
+
 #[test]
-fn two_seats_have_numbers_of_their_own(rt: HostRuntime) {
-    check(&rt, rt.alloc(), 2, &TWO_SEATS);
+fn two_seats_hand_in_what_they_received(rt: HostRuntime) {
+    let opening = prepared(&rt, rt.alloc(), 2);
+    let (receipts, book) = of_two::<Brand, _>(&rt, rt.alloc(), opening);
+    assert!(rt; are_of(&receipts, &book, &TWO_SEATS));
 }
 
 const LEASES: [Row; 14] = [

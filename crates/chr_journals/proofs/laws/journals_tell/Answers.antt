@@ -1,4 +1,3 @@
-use Rattle.chr_acts.proofs.Keeping.{EventsKeep}
 use Rattle.chr_journals.proofs.Telling.{journals_hold, answers_are_shown, answers_agree}
 use Rattle.chr_journals.proofs.laws.journals_tell.Goals as goal
 
