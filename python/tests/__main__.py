@@ -27,7 +27,7 @@ RUNS = ["test_texts", "test_commands", "test_runs", "test_model", "test_verdicts
 EXPLAINED = ["test_explanations", "test_pages"]
 SHARED = ["test_workers"]
 READERS = ["test_documents"]
-HOSTILE = ["test_devices", "test_memory", "test_stacks", "test_refused_calls", "test_costs"]
+HOSTILE = ["test_devices", "test_memory", "test_stacks", "test_refused_calls", "test_costs", "test_workers_memory"]
 NODES = ["test_node", "test_names", "test_writing", "test_asynchronous"]
 LOGS = ["test_embedded", "test_page", "test_lasting", "test_install", "test_launcher"]
 KINDS = {"node": [*RUNS, *EXPLAINED, *SHARED, *READERS, *HOSTILE, *NODES, *LOGS], "engines": ["test_links"]}
@@ -36,6 +36,7 @@ LONGEST = [
     "test_install",
     "test_launcher",
     "test_costs",
+    "test_workers_memory",
     "test_verdicts",
     "test_memory",
     "test_explanations",

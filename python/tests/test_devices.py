@@ -1,9 +1,10 @@
-"""Devices that fail, and inputs that come byte by byte."""
+"""Devices that fail, inputs that come byte by byte, and inputs that are typed at a terminal."""
 
 import os
 import resource
 import subprocess
 import tempfile
+import termios
 import unittest
 from collections.abc import Callable, Iterator
 from functools import partial
@@ -14,6 +15,12 @@ from chrrep.node import program_path
 from shims import DEVICES, End, made_shim, run_failing, why_not
 
 SECONDS = 60.0
+TYPED_SECONDS = 10.0
+"""So long a command may take to end after an end of input was typed. It takes some milliseconds."""
+
+END_OF_INPUT = b"\x04"
+"""Control and D. At the beginning of a line it ends the input, once: who reads on waits for more to be typed."""
+
 FAULT = 3
 WORDS = (("run", "--replicas", "2"), ("serve", "--replicas", "2"), ("check",), ("explain",))
 ANSWERS = "".join(f"{answer}\n" for _, answer in rows.MINIMA_OF_TWO)
@@ -143,6 +150,52 @@ class Devices(unittest.TestCase):
             process.stdin.close()
             self.assertEqual(answers, OUTPUT.splitlines(keepends=True))
             self.assertEqual(process.wait(SECONDS), 0)
+
+
+def typed(words: tuple[str, ...], keys: bytes) -> tuple[int, bytes] | None:
+    """The status and the output of a command at a terminal on which these keys are typed; None where it waits for
+    more. What is typed is not echoed."""
+    terminal, input = os.openpty()
+    try:
+        modes = termios.tcgetattr(input)
+        modes[3] &= ~termios.ECHO
+        termios.tcsetattr(input, termios.TCSANOW, modes)
+        with subprocess.Popen([program_path(), *words], stdin=input, stdout=subprocess.PIPE) as process:
+            os.write(terminal, keys)
+            try:
+                output, _ = process.communicate(timeout=TYPED_SECONDS)
+            except subprocess.TimeoutExpired:
+                process.kill()
+                return None
+            return process.returncode, output
+    finally:
+        os.close(input)
+        os.close(terminal)
+
+
+class Terminals(unittest.TestCase):
+    """Inputs are shorter than the 4,096 bytes that a terminal holds."""
+
+    commands = (*WORDS, ("run", "--replicas", "2", "--workers", "4"))
+
+    def test_one_end_of_input_ends_a_command(self) -> None:
+        """A program with command lines, a program alone, one that is refused, and nothing."""
+        text = INPUT.partition(b"---\n")[0]
+        for words in self.commands:
+            with self.subTest(words=words):
+                self.assertEqual(typed(words, INPUT + END_OF_INPUT), (0, whole(words)))
+            for given in (text, INPUT.replace(b"<=>", b"==>"), b""):
+                with self.subTest(words=words, given=given):
+                    command = [program_path(), *words]
+                    piped = subprocess.run(command, input=given, capture_output=True, timeout=SECONDS, check=False)
+                    self.assertEqual(piped.returncode, 1 if b"==>" in given else 0)
+                    self.assertEqual(typed(words, given + END_OF_INPUT), (piped.returncode, piped.stdout))
+
+    def test_a_last_line_without_end(self) -> None:
+        """Where a line was begun the first key sends it, and the second one ends the input."""
+        for words in self.commands:
+            with self.subTest(words=words):
+                self.assertEqual(typed(words, INPUT.rstrip(b"\n") + END_OF_INPUT + END_OF_INPUT), (0, whole(words)))
 
 
 def answers_to(given: bytes) -> bytes:
