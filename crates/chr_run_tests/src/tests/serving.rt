@@ -80,10 +80,6 @@ impl<'a> Wire for Peer<'a> {
         }
         Ok(())
     }
-
-    fn fail(&mut self) {
-        self.failed = true;
-    }
 }
 
 /// The status of a service of a peer that gives at most so many bytes a wait, and the peer after it.
