@@ -27,10 +27,11 @@ RUNS = ["test_texts", "test_commands", "test_runs", "test_model", "test_verdicts
 EXPLAINED = ["test_explanations", "test_pages"]
 SHARED = ["test_workers"]
 READERS = ["test_documents"]
+TOOLS = ["test_more_edits"]
 HOSTILE = ["test_devices", "test_memory", "test_stacks", "test_refused_calls", "test_costs", "test_workers_memory"]
 NODES = ["test_node", "test_names", "test_writing", "test_asynchronous"]
 LOGS = ["test_embedded", "test_page", "test_lasting", "test_install", "test_launcher"]
-KINDS = {"node": [*RUNS, *EXPLAINED, *SHARED, *READERS, *HOSTILE, *NODES, *LOGS], "engines": ["test_links"]}
+KINDS = {"node": [*RUNS, *EXPLAINED, *SHARED, *READERS, *TOOLS, *HOSTILE, *NODES, *LOGS], "engines": ["test_links"]}
 
 LONGEST = [
     "test_install",
