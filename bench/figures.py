@@ -1,5 +1,5 @@
 #!/usr/bin/env python3
-"""Times `chrrep run` on inputs of `generate.py` and `workloads.py`, and writes tables of it.
+"""Times `chrrep run` on inputs of `generate.py`, and then of `workloads.py`, and writes a table of each.
 
     figures.py PROGRAM [--count 1000000] [--times 3]
 
@@ -108,8 +108,7 @@ def main() -> int:
     words.add_argument("--times", type=int, default=3)
     said = words.parse_args()
     kinds = (
-        ("generate.py", TEXTS),
-        ("generate.py", LINES),
+        ("generate.py", TEXTS + LINES),
         ("workloads.py", tuple(f"{name} {said.count}" for name in FACTS)),
     )
     with tempfile.TemporaryDirectory() as folder:

@@ -28,8 +28,8 @@ SECONDS = 60.0
 
 # each document with the least number of its commands
 PATHS = {"README.md": 3, "docs/GUIDE.md": 11, "docs/REFERENCE.md": 1, "examples/README.md": 2}
-DOCUMENTS = ("README.md", "CONTRIBUTING.md", "LICENSE.md", "bench/README.md", "examples/README.md") + tuple(
-    f"docs/{path.name}" for path in sorted((TOP / "docs").glob("*.md"))
+DOCUMENTS = ("README.md", "CONTRIBUTING.md", "LICENSE.md", "examples/README.md") + tuple(
+    f"{folder}/{path.name}" for folder in ("bench", "docs") for path in sorted((TOP / folder).glob("*.md"))
 )
 MAX_README = 8 * 1024
 MAX_COLUMNS = 120
