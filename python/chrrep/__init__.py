@@ -12,7 +12,7 @@ other nodes.
 nodes exchange their operations over an engine. Nothing beside the standard library is needed here.
 """
 
-from .node import Node, check, explain
+from .node import ANSWER_SECONDS, Node, check, explain
 from .refusals import (
     BadByte,
     BadLine,
@@ -39,10 +39,12 @@ from .refusals import (
     Unended,
     UnknownSymbol,
     WeightFault,
+    WrongProcess,
 )
 from .texts import Atom, Change, Id, Operation, ProgramText, Summary, Verdict, atoms_of, pieces, store_text
 
 __all__ = [
+    "ANSWER_SECONDS",
     "Atom",
     "BadByte",
     "BadLine",
@@ -76,6 +78,7 @@ __all__ = [
     "UnknownSymbol",
     "Verdict",
     "WeightFault",
+    "WrongProcess",
     "atoms_of",
     "check",
     "explain",

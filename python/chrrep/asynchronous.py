@@ -14,7 +14,7 @@ import asyncio
 import os
 from collections.abc import AsyncIterator, Callable, Iterable
 from concurrent.futures import Future, ThreadPoolExecutor
-from contextlib import asynccontextmanager
+from contextlib import asynccontextmanager, suppress
 from functools import partial
 from types import TracebackType
 from typing import ParamSpec, Self, TypeVar
@@ -22,7 +22,8 @@ from typing import ParamSpec, Self, TypeVar
 from .link.following import LOOK_SECONDS, Watch
 from .link.log import LOG_NAME, PATIENCE, Link, connect
 from .link.member import SNAPSHOT_AFTER, Member
-from .node import Node
+from .node import ANSWER_SECONDS, Node
+from .refusals import WrongProcess
 from .texts import Atom, Change, Id, Operation, ProgramText, Summary, Verdict
 
 __all__ = ["AsyncMember", "AsyncNode", "join"]
@@ -32,13 +33,18 @@ T = TypeVar("T")
 
 
 class Caller:
-    """A thread that makes calls, one after the other."""
+    """A thread that makes the calls of a node or member, one after the other. A fork has no such thread: there they are
+    `WrongProcess`."""
 
-    def __init__(self, name: str) -> None:
-        self._thread = ThreadPoolExecutor(1, name)
+    def __init__(self, what: str, does: str = "calls") -> None:
+        self._what = what
+        self._process = os.getpid()
+        self._thread = ThreadPoolExecutor(1, f"chrrep {what} {does}")
 
     async def call(self, function: Callable[P, T], *args: P.args, **kwargs: P.kwargs) -> T:
         """The result of the call."""
+        if os.getpid() != self._process:
+            raise WrongProcess(self._what)
         return await asyncio.get_running_loop().run_in_executor(self._thread, partial(function, *args, **kwargs))
 
     async def make(self, function: Callable[[], T], undo: Callable[[T], object]) -> T:
@@ -70,11 +76,11 @@ class AsyncNode:
         *,
         chrrep: str | os.PathLike[str] | None = None,
         wide: bool = False,
-        timeout: float | None = None,
+        timeout: float | None = ANSWER_SECONDS,
     ) -> None:
         self._make = partial(Node, program, origin, chrrep=chrrep, wide=wide, timeout=timeout)
         self._made: Node | None = None
-        self._caller = Caller("chrrep node")
+        self._caller = Caller("node")
 
     async def start(self) -> Self:
         """Begins the process. Raises what `Node` raises."""
@@ -142,8 +148,9 @@ class AsyncNode:
 
     async def close(self) -> None:
         """As `Node.close`."""
-        if self._made:
-            await self._caller.call(self._made.close)
+        with suppress(WrongProcess):
+            if self._made:
+                await self._caller.call(self._made.close)
         self._caller.end()
 
     def __repr__(self) -> str:
@@ -164,7 +171,7 @@ class AsyncMember:
     def __init__(self, member: Member, caller: Caller) -> None:
         self.member = member
         self._caller = caller
-        self._waits = Caller("chrrep waits")
+        self._waits = Caller("member", "waits")
 
     @property
     def link(self) -> Link:
@@ -254,11 +261,11 @@ async def join(
     log: str = LOG_NAME,
     patience: float = PATIENCE,
     wide: bool | None = None,
-    timeout: float | None = None,
+    timeout: float | None = ANSWER_SECONDS,
     snapshot_after: int = SNAPSHOT_AFTER,
 ) -> AsyncIterator[AsyncMember]:
     """A member of the log in the engine that the address names, as `chrrep.link.join`; all is closed after."""
-    caller = Caller("chrrep member")
+    caller = Caller("member")
     try:
         link = await caller.make(partial(connect, url, origin, log=log, patience=patience), Link.close)
         try:

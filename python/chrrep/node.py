@@ -7,12 +7,13 @@ import subprocess
 import sys
 import threading
 import weakref
-from collections.abc import Callable, Iterable, Iterator, Sequence
+from collections.abc import Iterable, Iterator, Sequence
 from contextlib import contextmanager, suppress
 from pathlib import Path
 from types import TracebackType
-from typing import NoReturn, Self, TypeVar
+from typing import NoReturn, Self
 
+from .process import Late, Process, end_of
 from .refusals import (
     BadLine,
     NodeDied,
@@ -21,6 +22,7 @@ from .refusals import (
     RefusedProgram,
     Shape,
     UnknownSymbol,
+    WrongProcess,
     raise_refusal,
     raise_verdict,
 )
@@ -49,11 +51,15 @@ from .words import shape_fault, symbol_fault, symbols_of
 _REPLICA = 1
 _NO_REPLICA = 0
 _DELTA_VERSION = 1
-_GRACE = 5.0
-"""Seconds that a program has to end after the end of its input."""
 _LOG = logging.getLogger("chrrep.node")
 
-T = TypeVar("T")
+
+class Unasked(float):
+    """Seconds that hold for answers where nobody has asked for others, and for no verdict, which may take minutes."""
+
+
+ANSWER_SECONDS = Unasked(60)
+"""How long a node may take to answer. A store of a million atoms comes to rest in a second or two."""
 
 
 def program_path(chrrep: str | os.PathLike[str] | None = None) -> str:
@@ -139,9 +145,10 @@ class Node:
     is judged as `check` does with it; nodes of either kind exchange operations.
 
     Raises, as `check` does, what refuses the program. Each call raises `NodeDied` where the process has ended, and a
-    `Refused` where the line is refused, which changes nothing. A call that is interrupted ends the node, and
-    so does one that has no answer after `timeout` seconds, the first for the verdict among them. Calls may come from
-    any thread: one is made at a time. Leaving a `with` closes the node.
+    `Refused` where the line is refused, which changes nothing. A call that is interrupted ends the node, and so does
+    one that has no answer after `timeout` seconds: left out they are `ANSWER_SECONDS`, and the verdict is waited for
+    without a limit; None is no limit at all. Calls may come from any thread: one is made at a time. In a fork of the
+    process that made the node they are `WrongProcess`. Leaving a `with` closes the node.
     """
 
     verdict: Verdict
@@ -154,27 +161,30 @@ class Node:
         *,
         chrrep: str | os.PathLike[str] | None = None,
         wide: bool = False,
-        timeout: float | None = None,
+        timeout: float | None = ANSWER_SECONDS,
     ) -> None:
         self.origin = origin
-        self._timeout = timeout
+        self._timeout = None if isinstance(timeout, Unasked) else timeout
         self._next = 1
         self._lock = threading.RLock()
         self._ended: NodeDied | None = None
+        self._is_forked = False
         self._has_answer = False
         self._store = StoreReader()
         self._text = text = text_bytes(program)
         end = b"---\n" if text.endswith(b"\n") or not text else b"\n---\n"
         words = [program_path(chrrep), "serve", *_options(wide)]
-        self._process = subprocess.Popen(words, stdin=subprocess.PIPE, stdout=subprocess.PIPE)
+        self._process = Process(words)
         # a node that is dropped ends its process too
-        self._dropped = weakref.finalize(self, _end_process, self._process)
+        self._dropped = weakref.finalize(self, self._process.close)
+        _NODES.add(self)
         _LOG.debug("process %d of origin %d begins", self.pid, origin)
         try:
             self.verdict = _judged(self._exchange(text + end), text, chrrep, wide)
         except BaseException as fault:
             self._end(NodeDied("the node never came up"), by_force=not isinstance(fault, Refused))
             raise
+        self._timeout = timeout
 
     @property
     def pid(self) -> int:
@@ -235,7 +245,7 @@ class Node:
         return self._ask("show", _REPLICA)
 
     def __repr__(self) -> str:
-        state = "ended" if self._ended else f"process {self.pid}"
+        state = "another process's" if self._is_forked else "ended" if self._ended else f"process {self.pid}"
         return f"<chrrep.Node of origin {self.origin}, {state}, rules {self.verdict.rules}>"
 
     def __iter__(self) -> Iterator[Atom]:
@@ -272,7 +282,8 @@ class Node:
         with self._lock, self._whole():
             self._take_answer()
             self._has_answer = True
-            self._in_time(lambda: self._send(line))
+            with self._in_time() as end:
+                self._process.send(line, end)
 
     def close(self) -> None:
         """Ends the process, and waits for its end. To close twice is no fault."""
@@ -322,6 +333,8 @@ class Node:
     @contextmanager
     def _whole(self) -> Iterator[None]:
         """Ends the node where an exchange is not seen through."""
+        if self._is_forked:
+            raise WrongProcess("node")
         if self._ended:
             raise NodeDied(self._ended.what, self._ended.status)
         try:
@@ -338,73 +351,47 @@ class Node:
         """Takes the answer to what was sent without waiting for it."""
         if self._has_answer:
             self._has_answer = False
-            answer = self._in_time(self._answer)
+            with self._in_time() as end:
+                answer = self._process.answer(end)
             if not answer.startswith("merged "):
                 raise NodeDied(f"the node didn't take what it was sent: {answer}")
 
     def _exchange(self, sent: bytes) -> str:
         """The answer to what is sent; in time, or the node is ended."""
+        with self._in_time() as end:
+            self._process.send(sent, end)
+            return self._process.answer(end)
 
-        def exchange() -> str:
-            self._send(sent)
-            return self._answer()
-
-        return self._in_time(exchange)
-
-    def _in_time(self, call: Callable[[], T]) -> T:
-        """What an exchange gives; the node is ended where that takes too long."""
-        if self._timeout is None:
-            return call()
-        late = threading.Event()
-
-        def end() -> None:
-            late.set()
-            self._process.kill()
-
-        timer = threading.Timer(self._timeout, end)
-        timer.start()
+    @contextmanager
+    def _in_time(self) -> Iterator[float | None]:
+        """Until when an exchange may go on; the process is ended where it takes longer."""
         try:
-            return call()
-        except NodeDied as died:
-            if late.is_set():
-                raise NodeDied(f"the node gave no answer within {self._timeout} seconds", died.status) from died
-            raise
-        finally:
-            timer.cancel()
-
-    def _send(self, sent: bytes) -> None:
-        assert self._process.stdin
-        # a program that has ended may have answered before
-        with suppress(BrokenPipeError):
-            self._process.stdin.write(sent)
-            self._process.stdin.flush()
-
-    def _answer(self) -> str:
-        assert self._process.stdout
-        answer = self._process.stdout.readline()
-        if not answer.endswith(b"\n"):
-            raise NodeDied("the node died", _status(self._process))
-        return answer[:-1].decode()
+            yield end_of(self._timeout)
+        except Late as late:
+            what = f"the node gave no answer within {self._timeout} seconds"
+            raise NodeDied(what, self._process.kill()) from late
 
     def _end(self, why: NodeDied, by_force: bool = False) -> None:
         self._ended = self._ended or why
-        if by_force:
+        if by_force and not self._is_forked:
             self._process.kill()
         self._dropped()
 
+    def _leave(self) -> None:
+        """In a fork, leaves the node to the process that made it, which alone holds its input open then."""
+        self._is_forked = True
+        # a thread that is not here may have held it
+        self._lock = threading.RLock()
+        self._dropped.detach()
+        self._process.let_go()
 
-def _status(process: subprocess.Popen[bytes]) -> int:
-    """The status of a process that is to end by itself."""
-    try:
-        return process.wait(_GRACE)
-    except subprocess.TimeoutExpired:
-        process.kill()
-        return process.wait()
+
+_NODES: "weakref.WeakSet[Node]" = weakref.WeakSet()
 
 
-def _end_process(process: subprocess.Popen[bytes]) -> None:
-    for pipe in (process.stdin, process.stdout):
-        assert pipe
-        with suppress(OSError):
-            pipe.close()
-    _LOG.debug("process %d ended with status %d", process.pid, _status(process))
+def _leave_nodes() -> None:
+    for node in list(_NODES):
+        node._leave()
+
+
+os.register_at_fork(after_in_child=_leave_nodes)

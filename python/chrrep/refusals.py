@@ -34,6 +34,13 @@ class NodeDied(ChrrepError):
         super().__init__(what)
 
 
+class WrongProcess(ChrrepError):
+    """A fork went on with what only the process that made it may use, and makes its own. Nothing was done."""
+
+    def __init__(self, what: str) -> None:
+        super().__init__(f"this {what} is another process's: a fork makes its own")
+
+
 class Refused(ChrrepError):
     """`refused N`. A refused line has changed nothing."""
 

@@ -13,6 +13,7 @@ import chrrep
 from chrrep import Id, Node
 from chrrep.asynchronous import AsyncNode, join
 from chrrep.link import LogUnusable, NoProgram
+from forks import said_in_fork
 from programs import COINS, PATHS, PLAIN
 
 SECONDS = 60.0
@@ -61,6 +62,14 @@ class Nodes(unittest.IsolatedAsyncioTestCase):
             ids = await asyncio.gather(*(node.tell(("a", value)) for value in range(50)))
             self.assertEqual(ids, [Id(1, number) for number in range(1, 51)])
             self.assertEqual(await node.show(), tuple(("a", value) for value in range(50)))
+
+    async def test_a_fork_has_no_node_of_its_parent(self) -> None:
+        async with AsyncNode(PLAIN, 1) as node:
+            said = said_in_fork(lambda: asyncio.run(node.tell(("a", 1))))
+            self.assertEqual(said, "WrongProcess: this node is another process's: a fork makes its own")
+            self.assertEqual(said_in_fork(lambda: asyncio.run(node.close())), "None")
+            self.assertEqual(await node.tell(("a", 2)), Id(1, 1))
+            self.assertEqual(await node.show(), (("a", 2),))
 
     async def test_a_start_that_is_cancelled_leaves_no_process(self) -> None:
         node = AsyncNode(COINS, 1)

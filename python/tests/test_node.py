@@ -1,6 +1,7 @@
 """Nodes as processes: what they answer, what they refuse, and how they end."""
 
 import gc
+import inspect
 import os
 import random
 import re
@@ -15,10 +16,14 @@ import unittest
 from collections.abc import Callable
 from pathlib import Path
 from typing import Any
+from unittest.mock import patch
 
 import chrrep
-from chrrep import Id, Node, NodeDied, Operation, check, explain, pieces, store_text
+from chrrep import ANSWER_SECONDS, Id, Node, NodeDied, Operation, check, explain, pieces, store_text
+from chrrep.asynchronous import AsyncNode, join
+from chrrep.node import Unasked
 from chrrep.texts import LINE_LIMIT, OperationText
+from forks import Fork, said_in_fork
 from programs import COINS, PATHS, PLAIN, store_of
 
 SECONDS = 20.0
@@ -410,6 +415,51 @@ class Ends(unittest.TestCase):
                         call(node)
                 self.assertFalse(is_running(node.pid))
 
+    def test_a_limit_of_time_costs_no_thread(self) -> None:
+        with Node(PLAIN, 1, timeout=SECONDS) as node, patch.object(threading.Thread, "start") as started:
+            for value in range(10):
+                node.tell(("a", value))
+            node.merge_soon([OperationText(Id(2, 1), '[["a",10]]')])
+            self.assertEqual(node.count("a"), 11)
+            started.assert_not_called()
+
+    def test_an_answer_of_many_readings_comes_in_whole(self) -> None:
+        with Node(PLAIN, 1) as node:
+            node.tell_many([[("a", value)] for value in range(100_000)])
+            self.assertEqual(node.show_text(), ", ".join(f"a({value})" for value in range(100_000)))
+            self.assertEqual(node.show("a", 99_999), (("a", 99_999),))
+
+    def test_a_node_outlives_a_ctrl_c_that_its_user_takes(self) -> None:
+        """What is typed at a terminal is sent to the user's whole group."""
+        script = f"""
+import signal
+from chrrep import Node
+with Node({PLAIN!r}, 1) as node:
+    node.tell(("a", 1))
+    try:
+        print(node.pid, flush=True)
+        signal.pause()
+    except KeyboardInterrupt:
+        print(node.tell(("a", 2)), node.show_text())
+"""
+        with self.user(script, start_new_session=True) as user:
+            assert user.stdout
+            pid = int(user.stdout.readline())
+            os.killpg(user.pid, signal.SIGINT)
+            self.assertEqual(user.stdout.read(), b"Id(origin=1, number=2) a(1), a(2)\n")
+            self.assertEqual(user.wait(SECONDS), 0)
+        self.assertTrue(has_ended(pid))
+
+    def user(self, script: str, **more: Any) -> "subprocess.Popen[bytes]":
+        """A program that uses the package."""
+        return subprocess.Popen(
+            [sys.executable, "-B", "-c", script],
+            stdin=subprocess.PIPE,
+            stdout=subprocess.PIPE,
+            env={**os.environ, "PYTHONPATH": str(Path(chrrep.__file__).resolve().parents[1])},
+            **more,
+        )
+
     def test_a_node_that_is_dropped_ends_its_process(self) -> None:
         node = Node(PLAIN, 1)
         pid = node.pid
@@ -435,13 +485,7 @@ class Ends(unittest.TestCase):
 
     def test_a_node_ends_with_its_user(self) -> None:
         script = f"from chrrep import Node\nnode = Node({PLAIN!r}, 1)\nprint(node.pid, flush=True)\ninput()"
-        path = str(Path(chrrep.__file__).resolve().parents[1])
-        with subprocess.Popen(
-            [sys.executable, "-B", "-c", script],
-            stdin=subprocess.PIPE,
-            stdout=subprocess.PIPE,
-            env={**os.environ, "PYTHONPATH": path},
-        ) as user:
+        with self.user(script) as user:
             assert user.stdout
             pid = int(user.stdout.readline())
             self.assertFalse(has_ended(pid))
@@ -464,6 +508,47 @@ class Ends(unittest.TestCase):
                         told = node.tell(("a", told)).number
                 killer.join()
             self.assertFalse(is_running(node.pid))
+
+
+class Forks(unittest.TestCase):
+    REFUSED = "WrongProcess: this node is another process's: a fork makes its own"
+
+    def test_a_fork_has_no_node_of_its_parent(self) -> None:
+        with Node(PLAIN, 1) as node:
+            node.tell(("a", 1))
+            new = OperationText(Id(2, 1), '[["a",2]]')
+            calls: list[Callable[[], object]] = [node.show, node.summary, lambda: node.tell(("a", 3))]
+            calls += [lambda: node.admit(("a", 3)), lambda: node.merge_soon([new]), lambda: node.merge_texts([new])]
+            for call in calls:
+                self.assertEqual(said_in_fork(call), self.REFUSED)
+            # to close it there does no harm, nor does it to make another
+            self.assertEqual(said_in_fork(node.close), "None")
+            self.assertEqual(said_in_fork(lambda: Node(PLAIN, 2).tell(("a", 1))), "Id(origin=2, number=1)")
+            self.assertIn("another process's", said_in_fork(lambda: node))
+            self.assertEqual(node.tell(("a", 2)), Id(1, 2))
+            self.assertEqual(node.show(), (("a", 1), ("a", 2)))
+
+    def test_a_fork_waits_for_no_thread_of_its_parent(self) -> None:
+        with Node(PLAIN, 1) as node:
+            os.kill(node.pid, signal.SIGSTOP)
+            asking = threading.Thread(target=node.show)
+            asking.start()
+            end = time.monotonic() + SECONDS
+            while node._lock.acquire(blocking=False):
+                node._lock.release()
+                self.assertLess(time.monotonic(), end)
+                time.sleep(0.01)
+            said = said_in_fork(node.show)
+            os.kill(node.pid, signal.SIGCONT)
+            asking.join(SECONDS)
+            self.assertEqual((said, node.show()), (self.REFUSED, ()))
+
+    def test_a_fork_does_not_keep_a_node_from_ending(self) -> None:
+        with self.assertLogs("chrrep", "DEBUG") as logged, Node(PLAIN, 1) as node:
+            with Fork(lambda: 7) as fork:
+                self.assertEqual(fork.said(), "7")
+                node.close()
+        self.assertEqual(logged.output[-1], f"DEBUG:chrrep.node:process {node.pid} ended with status 0")
 
 
 class Stand(unittest.TestCase):
@@ -507,6 +592,19 @@ class Stand(unittest.TestCase):
             with self.assertRaisesRegex(NodeDied, "no answer within 0.2 seconds"):
                 call()
         self.assertEqual(check(PLAIN, timeout=SECONDS).rules, 0)
+
+    def test_answers_have_a_limit_of_time_where_none_is_asked_for(self) -> None:
+        self.assertEqual(ANSWER_SECONDS, 60.0)
+        calls: list[Callable[..., object]] = [Node, AsyncNode, join]
+        for call in calls:
+            self.assertIs(inspect.signature(call).parameters["timeout"].default, ANSWER_SECONDS)
+        # a verdict has none, and may take minutes
+        late = self.program("sleep 1; echo accepted: rules 0, cases 0\nexec sleep 60")
+        with Node(PLAIN, 1, chrrep=late, timeout=Unasked(0.3)) as node:
+            with self.assertRaisesRegex(NodeDied, "no answer within 0.3 seconds"):
+                node.show()
+        with self.assertRaisesRegex(NodeDied, "no answer within 0.3 seconds"):
+            Node(PLAIN, 1, chrrep=late, timeout=0.3)
 
     def test_what_becomes_of_a_process_is_logged(self) -> None:
         with self.assertLogs("chrrep", "DEBUG") as logged, Node(PLAIN, 7) as node:

@@ -1,0 +1,103 @@
+"""A process that answers lines, asked over its standard input and output with an eye on the time."""
+
+import logging
+import os
+import select
+import subprocess
+import time
+from contextlib import suppress
+
+from .refusals import NodeDied
+
+_GRACE = 5.0
+"""Seconds that a program has to end after the end of its input."""
+_PIPE = 65_536
+"""Bytes that a pipe holds, and so the most that one reading finds."""
+_LOG = logging.getLogger("chrrep.node")
+
+
+class Late(Exception):
+    """What was waited for didn't come in time."""
+
+
+class Process:
+    """A running program that answers each line by a line.
+
+    It has a session of its own, so that what is typed at a terminal, as Ctrl-C, is for its user alone. It ends with its
+    input, and so with its user, however that one ends. A call raises `Late` where the clock has passed `end`.
+    """
+
+    def __init__(self, words: list[str]) -> None:
+        self._process = subprocess.Popen(
+            words, stdin=subprocess.PIPE, stdout=subprocess.PIPE, bufsize=0, start_new_session=True
+        )
+        assert self._process.stdin and self._process.stdout
+        self._input, self._output = self._process.stdin.fileno(), self._process.stdout.fileno()
+        # no write is to wait for a program that takes nothing
+        os.set_blocking(self._input, False)
+        self._room, self._answers = select.poll(), select.poll()
+        self._room.register(self._input, select.POLLOUT)
+        self._answers.register(self._output, select.POLLIN)
+        self._rest = b""
+
+    @property
+    def pid(self) -> int:
+        """The id of the process."""
+        return self._process.pid
+
+    def send(self, line: bytes, end: float | None) -> None:
+        """Sends what the program reads; nothing more once that reads no more, since it may have answered before."""
+        left = memoryview(line)
+        with suppress(BrokenPipeError):
+            while left:
+                try:
+                    left = left[os.write(self._input, left):]
+                except BlockingIOError:
+                    _wait_for(self._room, end)
+
+    def answer(self, end: float | None) -> str:
+        """The next line of its output. `NodeDied` where it has ended instead."""
+        parts = [self._rest]
+        while b"\n" not in parts[-1]:
+            _wait_for(self._answers, end)
+            part = os.read(self._output, _PIPE)
+            if not part:
+                raise NodeDied("the node died", self.status())
+            parts.append(part)
+        line, _, self._rest = b"".join(parts).partition(b"\n")
+        return line.decode()
+
+    def status(self) -> int:
+        """The status of a program that is to end by itself."""
+        try:
+            return self._process.wait(_GRACE)
+        except subprocess.TimeoutExpired:
+            return self.kill()
+
+    def kill(self) -> int:
+        """Ends the program at once, and gives its status."""
+        self._process.kill()
+        return self._process.wait()
+
+    def close(self) -> None:
+        """Ends the program by the end of its input, and waits for it."""
+        self.let_go()
+        _LOG.debug("process %d ended with status %d", self.pid, self.status())
+
+    def let_go(self) -> None:
+        """Closes this side of its input and output."""
+        for pipe in (self._process.stdin, self._process.stdout):
+            assert pipe
+            pipe.close()
+
+
+def end_of(seconds: float | None) -> float | None:
+    """When so many seconds from now are over; None where there is no limit."""
+    return None if seconds is None else time.monotonic() + seconds
+
+
+def _wait_for(pipe: select.poll, end: float | None) -> None:
+    """Waits until a pipe is ready. It is looked at once even where the time is over."""
+    left = None if end is None else max(0.0, 1000 * (end - time.monotonic()))
+    if not pipe.poll(left):
+        raise Late
