@@ -13,12 +13,22 @@ from collections.abc import Iterable
 from .refusals import ChrrepError
 from .texts import Atom
 
+_MOST_DIGITS = 19
+"""Digits of a number of 64 bits, at most."""
 _BARE = re.compile(r"[a-z][A-Za-z0-9_]*", re.ASCII)
 _ARGUMENT = r'-?[0-9]+|[a-z][A-Za-z0-9_]*|"(?:[^"\\]|\\.)*"'
 _ARGUMENTS = re.compile(_ARGUMENT, re.ASCII)
 _ATOM = re.compile(
-    rf"\s*([a-z][A-Za-z0-9_]*)\s*(?:\(\s*((?:{_ARGUMENT})(?:\s*,\s*(?:{_ARGUMENT}))*)\s*\))?\s*(,|\Z)", re.ASCII
+    rf"\s*([a-z][A-Za-z0-9_]*)\s*(?:\(\s*((?:{_ARGUMENT})(?:\s*,\s*(?:{_ARGUMENT}))*)\s*\)\s*)?(,|\Z)", re.ASCII
 )
+
+
+class NameFault(ChrrepError, ValueError):
+    """Text that can't be a name: it has a lone surrogate, and so no bytes of UTF-8. Nothing was told."""
+
+    def __init__(self, name: str, place: int) -> None:
+        self.name, self.place = name, place
+        super().__init__(f"character {place} of the name {_cut(name)} is a lone surrogate, which no text has")
 
 
 class NameClash(ChrrepError):
@@ -36,8 +46,12 @@ def check_name(number: int, name: str, other: str) -> None:
 
 
 def number_of(name: str) -> int:
-    """The number that stands for a name. UnicodeEncodeError where it is no text of Unicode."""
-    return int.from_bytes(hashlib.blake2b(name.encode(), digest_size=8).digest(), "big") >> 1
+    """The number that stands for a name. Raises `NameFault`."""
+    try:
+        text = name.encode()
+    except UnicodeEncodeError as fault:
+        raise NameFault(name, fault.start) from fault
+    return int.from_bytes(hashlib.blake2b(text, digest_size=8).digest(), "big") >> 1
 
 
 class Names:
@@ -106,7 +120,19 @@ def _argument_of(text: str) -> str | int:
         # a lone surrogate is no text, and has no number
         number_of(name)
         return name
-    return text if text[0].isalpha() else int(text)
+    return text if text[0].isalpha() else _value_of(text)
+
+
+def _value_of(text: str) -> int:
+    digits = text.lstrip("-0")
+    if len(digits) > _MOST_DIGITS:
+        raise ValueError(f"the number {_cut(text)} does not fit 64 bits")
+    value = int(digits or "0")
+    return -value if text[0] == "-" else value
+
+
+def _cut(text: str) -> str:
+    return repr(text) if len(text) <= 40 else f"{text[:40]!r}.."
 
 
 def _argument_text(argument: str | int) -> str:

@@ -99,7 +99,7 @@ _ID_ROOM = 40
 """Bytes that the id and the brackets of an operation take in a line, at most."""
 
 _ACCEPTED = re.compile(r"accepted: rules (\d+), cases (\d+)")
-_ATOM = re.compile(r"\s*([a-z][A-Za-z0-9_]*)\s*(?:\(\s*(-?\d+(?:\s*,\s*-?\d+)*)\s*\))?\s*(,|\Z)", re.ASCII)
+_ATOM = re.compile(r"\s*([a-z][A-Za-z0-9_]*)\s*(?:\(\s*(-?\d+(?:\s*,\s*-?\d+)*)\s*\)\s*)?(,|\Z)", re.ASCII)
 _DIVIDER = re.compile(rb"^---(?=\r?$)", re.MULTILINE)
 
 

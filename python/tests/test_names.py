@@ -1,10 +1,14 @@
 """Names and their numbers, and lines that have them."""
 
 import unittest
+from collections.abc import Callable
+from functools import partial
 
-from chrrep import Atom
-from chrrep.names import NameClash, Names, named_atoms_of, named_text, number_of, numbered
+from chrrep import Atom, atoms_of
+from chrrep.names import NameClash, NameFault, Names, named_atoms_of, named_text, number_of, numbered
+from forks import said_in_fork
 
+LAYOUT = " " * 1_000_000
 BLANK, BERLIN, SAO_PAULO = 8238016292129134938, 2304797809858572651, 8681097948863336836
 
 
@@ -15,8 +19,20 @@ class Numbers(unittest.TestCase):
         for name, number in rows:
             self.assertEqual(number_of(name), number)
             self.assertLess(number, 2**63)
-        with self.assertRaises(UnicodeEncodeError):
-            number_of("\ud800")
+
+    def test_text_that_is_no_name(self) -> None:
+        """A lone surrogate has no bytes of UTF-8."""
+        said = r"character 2 of the name 'ab\\ud800c' is a lone surrogate"
+        calls: list[Callable[[], object]] = [
+            lambda: number_of("ab\ud800c"),
+            lambda: numbered(("path", 1, "ab\ud800c")),
+            lambda: Names().new_in([("path", "ab\ud800c")]),
+            lambda: named_atoms_of('path("ab\\ud800c")'),
+        ]
+        for call in calls:
+            with self.assertRaisesRegex(NameFault, said) as raised:
+                call()
+            self.assertEqual((raised.exception.name, raised.exception.place), ("ab\ud800c", 2))
 
     def test_atoms_with_names(self) -> None:
         names = Names()
@@ -52,3 +68,21 @@ class Numbers(unittest.TestCase):
         for text in (*texts, 'a("\\q")', 'a("\\ud800")'):
             with self.subTest(text), self.assertRaises(ValueError):
                 named_atoms_of(text)
+
+    def test_numbers_of_any_length(self) -> None:
+        rows = [("7", 7), ("-7", -7), ("0", 0), ("-0", 0), ("0" * 5000 + "12", 12), ("-" + "0" * 5000 + "12", -12)]
+        rows += [(str(value), value) for value in (2**63 - 1, -(2**63), 2**63, 10**19 - 1)]
+        for text, value in rows:
+            self.assertEqual(named_atoms_of(f"a({text})"), (("a", value),))
+        for text in (str(10**19), "-" + "9" * 5000):
+            with self.assertRaisesRegex(ValueError, "^the number '-?[0-9]+'.* does not fit 64 bits$"):
+                named_atoms_of(f"a({text})")
+
+    def test_long_lines_are_read_at_once(self) -> None:
+        """Each place of a line is tried a few times, whatever comes after much layout."""
+        texts = ["a" + LAYOUT + "b", "a(1" + LAYOUT + "b", "a(" + LAYOUT + ")", LAYOUT, "a(1)" + LAYOUT + "b"]
+        for read in (atoms_of, named_atoms_of):
+            for text in texts:
+                # what takes for ever is ended there
+                said = said_in_fork(partial(read, text))
+                self.assertTrue(said.startswith("ValueError: no atom at byte "), (text[:10], said))
