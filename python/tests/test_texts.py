@@ -11,6 +11,7 @@ from unittest.mock import patch
 
 import chrrep
 from chrrep import Atom, Id, Operation, atoms_of, pieces, refusals, store_text
+from chrrep.lines import Lines, text_of
 from chrrep.link.log import Program, has_more, position_of, position_text, program_of, program_text
 from chrrep.stores import StoreReader
 from chrrep.texts import (
@@ -24,6 +25,45 @@ from chrrep.texts import (
     text_bytes,
     verdict_of,
 )
+
+
+class Cuts(unittest.TestCase):
+    """Lines of what comes in pieces."""
+
+    def test_lines_are_those_of_the_whole(self) -> None:
+        chance = random.Random(7)
+        for _ in range(300):
+            whole = b"".join(chance.choices([b"\n", b"a", b"bc", b"\r", b"\xff"], k=chance.randrange(40)))
+            # a piece ends anywhere, and may be empty
+            ends = sorted(chance.choices(range(len(whole) + 1), k=chance.randrange(6)))
+            lines, given = Lines(100), []
+            for start, end in zip([0, *ends], [*ends, len(whole)]):
+                given += lines.cut(whole[start:end])
+            self.assertEqual(given + lines.last(), whole.split(b"\n"))
+
+    def test_a_line_that_is_too_long_is_given_once(self) -> None:
+        lines = Lines(4)
+        self.assertEqual(lines.cut(b"abcd\nabcde\nabcdef\n\nab"), [b"abcd", b"abcde", b"abcde", b""])
+        # at once when it is known to be too long
+        rows = [(b"c", []), (b"d", []), (b"e", [b"abcde"]), (b"fg", []), (b"\nx\n", [b"x"]), (b"12345", [b"12345"])]
+        for piece, given in rows:
+            self.assertEqual(lines.cut(piece), given)
+        self.assertEqual(lines.last(), [])
+        self.assertEqual((lines.cut(b"z"), lines.last(), lines.last()), ([], [b"z"], [b""]))
+
+    def test_what_is_too_long_takes_no_room(self) -> None:
+        lines, piece = Lines(), b"x" * 65_536
+        given = [line for _ in range(500) for line in lines.cut(piece)]
+        self.assertEqual((list(map(len, given)), len(lines._line)), ([LINE_LIMIT + 1], LINE_LIMIT + 1))
+
+    def test_texts_of_lines(self) -> None:
+        self.assertEqual(text_of("S\u00e3o".encode()), "S\u00e3o")
+        for line, place in ((b"a(\xff)", 2), (b"\xc3", 0), (b"abc\xed\xa0\x80", 3)):
+            with self.assertRaisesRegex(ValueError, f"byte {place} of the line is no UTF-8"):
+                text_of(line)
+        self.assertEqual(text_of(b"abcd", 4), "abcd")
+        with self.assertRaisesRegex(ValueError, "a line has at most 4 bytes"):
+            text_of(b"abcde", 4)
 
 
 class Texts(unittest.TestCase):

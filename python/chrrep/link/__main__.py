@@ -15,6 +15,7 @@ from functools import partial
 from pathlib import Path
 
 from .. import Atom, Refused, RefusedProgram
+from ..lines import Lines, text_of
 from ..names import NameClash, named_atoms_of
 from .faults import LogUnusable
 from .log import LOG_NAME, PATIENCE, one_line
@@ -22,9 +23,10 @@ from .member import BATCH, SNAPSHOT_AFTER, Member, join
 from .sqlite import PREFIX
 
 ACCEPTED, REFUSED, FAULT, INTERRUPTED = 0, 1, 3, 130
-_STANDARD_INPUT = 0
+_STANDARD_INPUT, _STANDARD_OUTPUT = 0, 1
 _CHUNK = 65_536
 _LOOK_SECONDS = 0.2
+_WITHOUT_ATOMS = ("", "?")
 
 
 def main(words: list[str] | None = None) -> int:
@@ -130,19 +132,22 @@ def _converse(member: Member) -> None:
         raise failures[0]
 
 
-def _answer(member: Member, lines: list[str]) -> None:
+def _answer(member: Member, lines: list[bytes]) -> None:
     """Answers lines that came at once. Operations that follow each other are told together."""
     tells: list[tuple[Atom, ...]] = []
-    for line in filter(None, map(str.strip, lines)):
-        if line == "?":
-            _tell(member, tells)
-            _say(member.going_over(member.show_text))
-            continue
+    for line in lines:
         try:
-            tells.append(named_atoms_of(line))
+            text = text_of(line).strip()
+            atoms = named_atoms_of(text) if text not in _WITHOUT_ATOMS else ()
         except ValueError as fault:
             _tell(member, tells)
             _say(f"refused: {fault}")
+            continue
+        if atoms:
+            tells.append(atoms)
+        elif text:
+            _tell(member, tells)
+            _say(member.going_over(member.show_text))
     _tell(member, tells)
 
 
@@ -175,19 +180,18 @@ def _say_program(member: Member) -> None:
 
 
 def _say(answer: str) -> None:
-    # as the input is read, whatever the locale is
-    sys.stdout.buffer.write(answer.encode() + b"\n")
-    sys.stdout.buffer.flush()
+    # as the input is read, whatever the locale is; and by the descriptor, which no thread holds as the program ends
+    left = memoryview(answer.encode() + b"\n")
+    while left:
+        left = left[os.write(_STANDARD_OUTPUT, left):]
 
 
-def _lines() -> Iterator[list[str]]:
+def _lines() -> Iterator[list[bytes]]:
     """The input's lines as they come. Read by the descriptor, so that a fault can end the program while it waits."""
-    rest = b""
+    lines = Lines()
     while chunk := os.read(_STANDARD_INPUT, _CHUNK):
-        *whole, rest = (rest + chunk).split(b"\n")
-        yield [line.decode(errors="replace") for line in whole]
-    if rest:
-        yield [rest.decode(errors="replace")]
+        yield lines.cut(chunk)
+    yield lines.last()
 
 
 if __name__ == "__main__":
