@@ -296,7 +296,7 @@ class Ports(Served):
         program = self.room / "coins.chr"
         program.write_text(COINS)
         command = self.command("--page", "0", str(program))
-        assert command.stderr and command.stdin
+        assert command.stderr and command.stdin and command.stdout
         said = [command.stderr.readline().decode() for _ in range(2)]
         found = re.fullmatch(r"chrrep.link: the page is http://127.0.0.1:(\d+)/\n", said[1])
         assert found, said
@@ -310,8 +310,11 @@ class Ports(Served):
         lines = err.decode().splitlines()
         self.assertRegex(lines[-1], f"^chrrep.link: PageUnusable: port {found[1]} of this machine is taken")
         self.assertEqual(len(lines), 2)
-        out, err = command.communicate(b"coin\n?\n", timeout=SECONDS)
-        self.assertEqual((command.returncode, out, err), (0, b"told 1:1\ncoin\n", b""))
+        command.stdin.write(b"coin\n?\n")
+        command.stdin.close()
+        self.assertEqual([command.stdout.readline() for _ in range(2)], [b"told 1:1\n", b"coin\n"])
+        command.terminate()
+        self.assertEqual((command.wait(SECONDS), command.stdout.read(), command.stderr.read()), (143, b"", b""))
         both = self.command("--page", "0", "--upgrade", str(program))
         self.assertEqual((both.wait(SECONDS), both.communicate()[0]), (2, b""))
 

@@ -1,16 +1,28 @@
-"""The command of a node: lines that nobody should send."""
+"""The command of a node: lines that nobody should send, and how it ends."""
 
+import json
+import os
+import re
+import signal
+import sqlite3
+import subprocess
 import sys
+import time
 import unittest
 from collections.abc import Callable
+from contextlib import closing
 from pathlib import Path
 from tempfile import TemporaryDirectory
+from urllib.request import urlopen
 
-from chrrep.link import join
+from chrrep.link import connect, join
 from chrrep.names import NameFault
 from chrrep.texts import LINE_LIMIT
-from kills import SECONDS, Command
+from kills import PACKAGE, SECONDS, Command
 from programs import PATHS
+
+STAYS_UP = 2.0
+"""Seconds that a service is looked at after its input has ended."""
 
 
 class Talks(unittest.TestCase):
@@ -31,6 +43,25 @@ class Talks(unittest.TestCase):
         assert command.process.stdin
         command.process.stdin.write(text)
         command.process.stdin.flush()
+
+    def next_origin(self) -> int:
+        """The origin that a member is allotted now: the first that nobody holds."""
+        with connect(self.url) as link:
+            return link.origin
+
+    def service(self) -> tuple["subprocess.Popen[bytes]", str]:
+        """A node whose input has ended from the start, and its page."""
+        service: subprocess.Popen[bytes] = subprocess.Popen(
+            [*self.words, "--page", "0"],
+            stdin=subprocess.DEVNULL,
+            stdout=subprocess.DEVNULL,
+            stderr=subprocess.PIPE,
+            env={**os.environ, "PYTHONPATH": str(PACKAGE), "PYTHONDONTWRITEBYTECODE": "1"},
+        )
+        self.addCleanup(service.communicate)
+        self.addCleanup(service.kill)
+        assert service.stderr
+        return service, service.stderr.readline().decode().rpartition("the page is ")[2].strip()
 
 
 class Lines(Talks):
@@ -76,3 +107,59 @@ class Lines(Talks):
                 with self.assertRaises(NameFault):
                     call()
             self.assertEqual(member.show(), ())
+
+
+class Ends(Talks):
+    def test_signals_give_the_origin_back(self) -> None:
+        for number, status in ((signal.SIGTERM, 143), (signal.SIGINT, 130)):
+            command = self.command()
+            self.assertRegex(command.ask("path(1,2,3)") or "", "^told 1:[12]$")
+            command.process.send_signal(number)
+            self.assertEqual(command.process.wait(SECONDS), status)
+            self.assertEqual(command.end(), (status, ""))
+            self.assertEqual(self.next_origin(), 1)
+
+    def test_a_signal_before_the_node_is_up(self) -> None:
+        """It waits for a log that another one has locked."""
+        with closing(sqlite3.connect(self.url.removeprefix("sqlite:///"), isolation_level=None)) as locks:
+            locks.execute("PRAGMA journal_mode = WAL")
+            locks.execute("BEGIN IMMEDIATE")
+            command = self.command()
+            self.until(lambda: has_handler(command.process.pid, signal.SIGTERM))
+            command.process.send_signal(signal.SIGTERM)
+            self.assertEqual(command.process.wait(SECONDS), 143)
+            self.assertEqual(command.end(), (143, ""))
+
+    def test_a_service_has_no_input(self) -> None:
+        """With a page a node stays up when its input has ended."""
+        service, url = self.service()
+        assert service.stderr
+        end = time.monotonic() + STAYS_UP
+        while time.monotonic() < end:
+            self.assertIsNone(service.poll())
+            with urlopen(url + "store", timeout=SECONDS) as answer:
+                self.assertEqual(json.load(answer), {"tables": []})
+            time.sleep(0.1)
+        with join(self.url) as other:
+            self.assertEqual(other.origin, 2)
+            other.tell(("path", 1, 2, 3))
+            self.until(lambda: b'["path","1","2","3"]' in self.read(url + "store"))
+        service.terminate()
+        self.assertEqual((service.wait(SECONDS), service.stderr.read()), (143, b""))
+        self.assertEqual(self.next_origin(), 1)
+
+    def read(self, url: str) -> bytes:
+        with urlopen(url, timeout=SECONDS) as answer:
+            return bytes(answer.read())
+
+    def until(self, holds: Callable[[], bool]) -> None:
+        end = time.monotonic() + SECONDS
+        while not holds():
+            self.assertLess(time.monotonic(), end)
+            time.sleep(0.05)
+
+
+def has_handler(pid: int, number: int) -> bool:
+    """Whether a process takes this signal by a handler of its own."""
+    found = re.search("^SigCgt:\\s*([0-9a-f]+)$", Path(f"/proc/{pid}/status").read_text(), re.MULTILINE)
+    return found is not None and bool(int(found[1], 16) >> (number - 1) & 1)

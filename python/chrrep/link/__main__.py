@@ -2,17 +2,20 @@
 
 Standard input has a line of atoms, `path(1,2,7), path(rome,"São Paulo",1)`, for each operation to tell, and the line
 `?` to show the store. Each is answered by a line: `told ORIGIN:NUMBER` once the operation is in the log, the store, or
-what was refused. In between the node follows the log. It ends with its input.
+what was refused. In between the node follows the log. It ends with its input; where it serves a page, with Ctrl-C or a
+SIGTERM.
 """
 
 import argparse
 import os
+import signal
 import sys
 import threading
 from collections.abc import Iterator
-from contextlib import AbstractContextManager, nullcontext
+from contextlib import AbstractContextManager, contextmanager, nullcontext
 from functools import partial
 from pathlib import Path
+from typing import NoReturn
 
 from .. import Atom, Refused, RefusedProgram
 from ..lines import Lines, text_of
@@ -22,20 +25,28 @@ from .log import LOG_NAME, PATIENCE, one_line
 from .member import BATCH, SNAPSHOT_AFTER, Member, join
 from .sqlite import PREFIX
 
-ACCEPTED, REFUSED, FAULT, INTERRUPTED = 0, 1, 3, 130
+ACCEPTED, REFUSED, FAULT, INTERRUPTED, TERMINATED = 0, 1, 3, 130, 143
 _STANDARD_INPUT, _STANDARD_OUTPUT = 0, 1
 _CHUNK = 65_536
 _LOOK_SECONDS = 0.2
 _WITHOUT_ATOMS = ("", "?")
 
 
+class Terminated(BaseException):
+    """The command got a SIGTERM."""
+
+
 def main(words: list[str] | None = None) -> int:
-    """Runs the command, and gives its exit status: 0 at the input's end, 1 for a refused program, 3 for a fault."""
+    """Runs the command, and gives its exit status: 0 at the input's end, 1 for a refused program, 3 for a fault, 130
+    and 143 after Ctrl-C and SIGTERM."""
     settings = _settings(words)
     try:
-        _run(settings)
+        with _raising_terminated():
+            _run(settings)
     except KeyboardInterrupt:
         return INTERRUPTED
+    except Terminated:
+        return TERMINATED
     except RefusedProgram as refusal:
         print(f"chrrep.link: the program is refused: {refusal}", file=sys.stderr)
         return REFUSED
@@ -43,6 +54,24 @@ def main(words: list[str] | None = None) -> int:
         print(f"chrrep.link: {type(fault).__name__}: {one_line(fault)}", file=sys.stderr)
         return FAULT
     return ACCEPTED
+
+
+@contextmanager
+def _raising_terminated() -> Iterator[None]:
+    """Has a SIGTERM end what is done here as Ctrl-C does, so that all is closed."""
+    if threading.current_thread() is not threading.main_thread():
+        # no other thread gets signals
+        yield
+        return
+    before = signal.signal(signal.SIGTERM, _terminate)
+    try:
+        yield
+    finally:
+        signal.signal(signal.SIGTERM, before)
+
+
+def _terminate(*_: object) -> NoReturn:
+    raise Terminated
 
 
 def _settings(words: list[str] | None) -> argparse.Namespace:
@@ -86,7 +115,7 @@ def _run(settings: argparse.Namespace) -> None:
         else:
             member.when_rejoined = partial(_say_program, member)
             with _page(member, settings.page):
-                _converse(member)
+                _converse(member, settings.page is not None)
 
 
 def _page(member: Member, port: int | None) -> AbstractContextManager[object]:
@@ -111,8 +140,8 @@ def _beside(program: Path) -> str:
     return f"{PREFIX}{folder / program.stem}.sqlite"
 
 
-def _converse(member: Member) -> None:
-    """Follows the log until the input has ended, or something has failed."""
+def _converse(member: Member, goes_on: bool) -> None:
+    """Follows the log until the input has ended, if it doesn't go on then, or something has failed."""
     over = threading.Event()
     failures: list[BaseException] = []
 
@@ -122,7 +151,7 @@ def _converse(member: Member) -> None:
                 _answer(member, lines)
         except BaseException as failure:
             failures.append(failure)
-        finally:
+        if failures or not goes_on:
             over.set()
 
     threading.Thread(target=answer_all, daemon=True).start()
