@@ -1,16 +1,20 @@
 """The page: whom it answers, what it tells and shows, and how it looks in a browser."""
 
+import io
 import json
 import os
 import re
 import socket
+import struct
 import subprocess
 import sys
+import threading
 import time
 import unittest
 from collections.abc import Iterator
-from contextlib import ExitStack
+from contextlib import ExitStack, redirect_stderr
 from http.client import HTTPConnection, HTTPResponse
+from http.server import BaseHTTPRequestHandler, ThreadingHTTPServer
 from pathlib import Path
 from tempfile import TemporaryDirectory
 from typing import Any, NamedTuple
@@ -19,6 +23,7 @@ from browser import CHROMIUM, DRIVER, Browser
 from chrrep import Atom, Id
 from chrrep.link import Entry, Heard, Member, PageUnusable, connect, join
 from chrrep.link.page import Page, behind, json_text, members_of, tables_of
+from chrrep.texts import LINE_LIMIT
 from engines import LOOPBACK
 from kills import PACKAGE
 from programs import COINS, MARKED, PATHS
@@ -107,6 +112,73 @@ class Requests(Served):
         self.assertEqual(member.show(), (("path", "berlin", "paris", 1050),))
         # another page has another one
         self.assertNotEqual(self.serve()[1].token, page.token)
+
+    def test_no_other_page_asks(self) -> None:
+        """What a browser asks for on behalf of another page is refused, but for the page itself."""
+        member, page = self.serve()
+        own, port = page.url.removesuffix("/"), page.port
+        other = [{"Sec-Fetch-Site": site} for site in ("cross-site", "same-site", "x", "")]
+        origins = ["http://example.org", "null", "", f"https://127.0.0.1:{port}", f"http://127.0.0.1:{port + 1}"]
+        other += [{"Origin": origin} for origin in (*origins, f"127.0.0.1:{port}", f"{own}.example.org")]
+        other += [{"Sec-Fetch-Site": "cross-site", "Origin": own}, {"Sec-Fetch-Site": "none", "Origin": origins[0]}]
+        for headers in other:
+            for method, path in (("GET", "/events"), ("GET", "/store"), ("POST", "/tell"), ("GET", "/x")):
+                answer = self.ask(page, method, path, b"path(1,2,3)", {"X-Token": page.token, **headers})
+                self.assertEqual((answer.status, answer.body[:10]), (403, b"Only the p"), (headers, path))
+            self.assertEqual(self.ask(page, "GET", "/", headers=headers).status, 200)
+        self.assertEqual((member.show(), page.watcher._lookers), ((), []))
+        ours: list[dict[str, str]] = [{}, {"Sec-Fetch-Site": "same-origin"}, {"Sec-Fetch-Site": "none"}]
+        ours += [{"Origin": own}, {"Origin": f"http://localhost:{port}", "Sec-Fetch-Site": "same-origin"}]
+        for headers in ours:
+            with self.open(page, "GET", "/events", headers=headers) as events:
+                self.assertEqual((events.status, next(events_of(events))[0]), (200, "program"))
+            answer = self.ask(page, "POST", "/tell", b"path(1,2,3)", {"X-Token": page.token, **headers})
+            self.assertEqual(answer.status, 200, headers)
+
+    def test_no_other_page_is_given_anything(self) -> None:
+        _, page = self.serve()
+        rows = [("GET", "/", 200), ("GET", "/store", 200), ("GET", "/events", 200), ("GET", "/x", 404)]
+        rows += [("POST", "/tell", 403), ("PUT", "/tell", 501), ("GET", "/store?find=%ff", 400)]
+        for method, path, status in rows:
+            with self.open(page, method, path) as answer:
+                self.assertEqual(answer.status, status, path)
+                self.assertEqual(answer.headers["Cross-Origin-Resource-Policy"], "same-origin", path)
+                self.assertEqual(answer.headers["X-Content-Type-Options"], "nosniff", path)
+
+    def test_requests_that_are_none(self) -> None:
+        """Each has an answer, and nothing is written on standard error."""
+        _, page = self.serve()
+        host, token = f"Host: 127.0.0.1:{page.port}\r\n", f"X-Token: {page.token}\r\n"
+        rows = [
+            (f"GET http://[bad HTTP/1.1\r\n{host}\r\n", 400),
+            (f"POST http://[bad HTTP/1.1\r\n{host}{token}\r\n", 400),
+            (f"GET /store?find=%ff HTTP/1.1\r\n{host}\r\n", 400),
+            (f"GET /store?find=%C3%A3 HTTP/1.1\r\n{host}\r\n", 200),
+            (f"POST /tell HTTP/1.1\r\n{host}{token}Content-Length: {'7' * 5000}\r\n\r\n", 400),
+            (f"POST /tell HTTP/1.1\r\n{host}{token}Content-Length: {'0' * 5000}\r\n\r\n", 400),
+            (f"POST /tell HTTP/1.1\r\n{host}{token}Content-Length: \u00b2\r\n\r\n", 400),
+        ]
+        with redirect_stderr(io.StringIO()) as said:
+            for request, status in rows:
+                with socket.create_connection((LOOPBACK, page.port), timeout=SECONDS) as connection:
+                    connection.sendall(request.encode("latin-1"))
+                    with connection.makefile("rb") as answer:
+                        self.assertTrue(answer.readline().startswith(f"HTTP/1.0 {status} ".encode()), request[:60])
+                        answer.read()
+            with socket.create_connection((LOOPBACK, page.port), timeout=SECONDS) as connection:
+                # it breaks off in the middle
+                connection.sendall(b"GET / HT")
+                connection.setsockopt(socket.SOL_SOCKET, socket.SO_LINGER, struct.pack("ii", 1, 0))
+            self.assertEqual(self.ask(page, "GET", "/store").status, 200)
+        self.assertEqual(said.getvalue(), "")
+
+    def test_a_line_that_is_too_long_is_answered(self) -> None:
+        _, page = self.serve()
+        for size in (LINE_LIMIT + 1, 6 * LINE_LIMIT):
+            answer = self.tell(page, b"x" * size)
+            said = f"A line has 1 to {LINE_LIMIT} bytes, of UTF-8."
+            self.assertEqual((answer.status, answer.body), (400, said.encode()))
+        self.assertEqual(self.tell(page, b" " * (LINE_LIMIT - 11) + b"path(1,2,3)").body, b"told 1:1")
 
     def test_the_page_runs_no_scripts_but_its_own(self) -> None:
         _, page = self.serve()
@@ -236,10 +308,27 @@ class Events(Served):
             while not looker.empty():
                 looker.get()
             self.assertFalse(page.watcher.is_looking(looker))
+
+    def test_nobody_takes_all_places(self) -> None:
+        _, page = self.serve()
         with ExitStack() as stack:
-            lookers = [stack.enter_context(page.watcher.looking()) for _ in range(17)]
-            self.assertEqual([looker is None for looker in lookers], [False] * 16 + [True])
-            self.assertEqual(self.ask(page, "GET", "/events").status, 503)
+            answers = [stack.enter_context(self.open(page, "GET", "/events")) for _ in range(40)]
+            for answer in answers[-16:]:
+                self.assertEqual((answer.status, next(events_of(answer))[0]), (200, "program"))
+            # who has looked longest is cut off, and may come again
+            for answer in answers[:24]:
+                self.assertEqual([name for name, _ in events_of(answer)], ["program", "members", "told"])
+            self.assertEqual(len(page.watcher._lookers), 16)
+            again = stack.enter_context(self.open(page, "GET", "/events"))
+            self.assertEqual((again.status, next(events_of(again))[0]), (200, "program"))
+
+    def test_lookers_are_told_that_the_page_ends(self) -> None:
+        _, page = self.serve()
+        with self.open(page, "GET", "/events") as answer:
+            events = events_of(answer)
+            self.until(events, "told", None)
+            page.close()
+            self.assertEqual(list(events), [])
 
     def test_a_log_that_goes_away_is_told(self) -> None:
         member, page = self.serve()
@@ -327,7 +416,8 @@ class Ports(Served):
             stdout=subprocess.PIPE,
             stderr=subprocess.PIPE,
         )
-        self.addCleanup(command.wait)
+        # closes its pipes, and waits for it
+        self.addCleanup(command.__exit__, None, None, None)
         self.addCleanup(command.kill)
         return command
 
@@ -371,6 +461,31 @@ class Browsers(Served):
             browser.wait_for("document.getElementById('answer').className == 'bad'")
         self.assertEqual(member.count("path"), 6)
 
+    def test_a_page_that_was_cut_off_connects_again(self) -> None:
+        """After a fault of its node, and after something else has answered in its place."""
+        path, elsewhere = self.room / "log.sqlite", self.room / "elsewhere"
+        with Browser(800, 600) as browser, ExitStack() as first:
+            member = first.enter_context(join(self.url, PATHS))
+            page = first.enter_context(Page(member, 0))
+            member.tell(("path", 1, 2, 3))
+            browser.go(page.url)
+            browser.wait_for(f"{STATE} == 'live' && document.querySelectorAll('#tables td').length == 3")
+            with self.assertLogs("chrrep.link", "WARNING"):
+                path.rename(elsewhere)
+                browser.wait_for(f"{STATE}.includes(\"the log's file is gone\")")
+            elsewhere.rename(path)
+            first.close()
+            with ThreadingHTTPServer((LOOPBACK, page.port), Refusing) as other:
+                Refusing.asked.clear()
+                threading.Thread(target=other.serve_forever).start()
+                self.assertTrue(Refusing.asked.wait(SECONDS))
+                other.shutdown()
+            again = self.stack.enter_context(join(self.url))
+            self.stack.enter_context(Page(again, page.port))
+            browser.wait_for(f"{STATE} == 'live'")
+            again.tell(("path", 4, 5, 6))
+            browser.wait_for("document.querySelectorAll('#tables td').length == 6")
+
     def test_names_are_text_in_a_browser(self) -> None:
         member, page = self.serve()
         member.tell(("path", HOSTILE, "<script>document.title='taken'</script>", 1))
@@ -382,6 +497,21 @@ class Browsers(Served):
             self.assertEqual(browser.run("return document.title"), "chrrep")
 
 
+class Refusing(BaseHTTPRequestHandler):
+    """Something else at the port of a page."""
+
+    asked = threading.Event()
+
+    def do_GET(self) -> None:  # noqa: N802
+        self.send_error(404)
+        if self.path == "/events":
+            self.asked.set()
+
+    def log_message(self, format: str, *words: Any) -> None:
+        pass
+
+
+STATE = "document.getElementById('state').textContent"
 MEMBERS = """[...document.querySelectorAll('#members tr')].slice(1)
     .map(row => [...row.children].map(cell => cell.textContent).join('|'))"""
 ROUTES: list[tuple[str | int, ...]] = [

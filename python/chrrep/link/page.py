@@ -1,13 +1,16 @@
 """A page to look at a member: served on loopback, by the standard library, without a network.
 
 `/` is the page, `/events` what happens as it comes (server-sent events), `/store?find=WORDS` the store as tables, and
-`/tell` takes a line of atoms, from whoever has the token that the page was given.
+`/tell` takes a line of atoms, from whoever has the token that the page was given. What a browser asks for on behalf of
+another page is refused, but for `/`.
 """
 
 import json
 import logging
 import queue
 import secrets
+import socket
+import sys
 import threading
 import time
 from collections import deque
@@ -17,11 +20,11 @@ from http import HTTPStatus
 from http.server import BaseHTTPRequestHandler, ThreadingHTTPServer
 from pathlib import Path
 from typing import Any, NamedTuple
-from urllib.parse import parse_qs, urlsplit
+from urllib.parse import SplitResult, parse_qs, urlsplit
 
 from ..names import NameClash, named_atoms_of, named_text
 from ..refusals import ChrrepError, Refused
-from ..texts import Atom, Change, atoms_of
+from ..texts import LINE_LIMIT, Atom, Change, atoms_of
 from .faults import LinkLost, PageUnusable
 from .log import Entry, Heard, Position, one_line
 from .member import Member
@@ -33,14 +36,17 @@ MARKS = 1000
 """Atoms of a change that are marked at most."""
 
 _HOSTS = ("127.0.0.1", "localhost", "[::1]")
-_LINE_LIMIT = 1_048_576
+_SITES = ("same-origin", "none")
+"""Whom a browser asks for: the page itself, or its user."""
 _LOOKERS = 16
+_QUEUED = 1000
 _PAUSE_SECONDS = 0.1
 _FOLLOW_SECONDS = 0.5
 _MEMBERS_SECONDS = 1.0
 _ALIVE_SECONDS = 10.0
 _SILENT_SECONDS = 10.0
 _FORGOTTEN_SECONDS = 600.0
+_DRAIN_SECONDS = 5.0
 _RECENT = 50
 _PAGE = Path(__file__).with_name("page.html")
 _LOG = logging.getLogger("chrrep.link")
@@ -114,6 +120,9 @@ def members_of(heard: Iterable[Heard], here: int, position: Position, end: Posit
 
 Event = tuple[str, object]
 
+Looker = queue.Queue[Event | None]
+"""What a page has yet to be told. None has it look whether it is still told anything."""
+
 
 class Watcher:
     """Follows a member in a thread, and tells lookers what happens."""
@@ -121,7 +130,7 @@ class Watcher:
     def __init__(self, member: Member) -> None:
         self._member = member
         self._lock = threading.Lock()
-        self._lookers: list[queue.Queue[Event]] = []
+        self._lookers: list[Looker] = []
         self._text = "true"
         self._atoms: tuple[Atom, ...] = ()
         self._new: deque[Entry] = deque(maxlen=10 * _RECENT)
@@ -143,28 +152,32 @@ class Watcher:
             return self._atoms
 
     @contextmanager
-    def looking(self) -> Iterator["queue.Queue[Event] | None"]:
-        """What happens from now on, after all that is there; None where there are too many lookers."""
-        looker: queue.Queue[Event] = queue.Queue(1000)
+    def looking(self) -> Iterator[Looker]:
+        """What happens from now on, after all that is there. Who comes has a place: where none is left, the one who has
+        looked longest is told no more, and may come again."""
+        looker: Looker = queue.Queue(_QUEUED)
         with self._lock:
-            is_one = len(self._lookers) < _LOOKERS
-            if is_one:
-                first = [("program", self._program()), ("members", self._members), ("told", list(self._recent))]
-                for event in first + ([("fault", self._fault)] if self._fault else []):
-                    looker.put(event)
-                self._lookers.append(looker)
+            if len(self._lookers) >= _LOOKERS:
+                self._drop(self._lookers[0])
+            first = [("program", self._program()), ("members", self._members), ("told", list(self._recent))]
+            for event in first + ([("fault", self._fault)] if self._fault else []):
+                looker.put(event)
+            self._lookers.append(looker)
         try:
-            yield looker if is_one else None
+            yield looker
         finally:
             with self._lock, suppress(ValueError):
                 self._lookers.remove(looker)
 
     def close(self) -> None:
-        """Ends the thread."""
+        """Ends the thread, and tells lookers no more."""
         self._over.set()
         self._thread.join()
+        with self._lock:
+            for looker in list(self._lookers):
+                self._drop(looker)
 
-    def is_looking(self, looker: "queue.Queue[Event]") -> bool:
+    def is_looking(self, looker: Looker) -> bool:
         """Whether the looker is told what happens, or has yet to take it. One that was too slow is not told any more:
         it comes again, and begins with all that is there."""
         with self._lock:
@@ -232,7 +245,24 @@ class Watcher:
             try:
                 looker.put_nowait((name, value))
             except queue.Full:
-                self._lookers.remove(looker)
+                self._drop(looker)
+
+    def _drop(self, looker: Looker) -> None:
+        """Tells a looker no more; one that waits finds that out at once."""
+        self._lookers.remove(looker)
+        with suppress(queue.Full):
+            looker.put_nowait(None)
+
+
+def _next_of(looker: Looker) -> bytes:
+    """What a looker is sent next: an event, or what shows whether it is still there."""
+    event = None
+    with suppress(queue.Empty):
+        event = looker.get(timeout=_ALIVE_SECONDS)
+    if event is None:
+        return b": nothing new\n\n"
+    name, value = event
+    return f"event: {name}\ndata: ".encode() + json_text(value) + b"\n\n"
 
 
 def _marks(change: Change) -> object:
@@ -267,6 +297,11 @@ class Page:
         """Whether a request names this machine and port, and no name that someone else has lead here."""
         return (host or "").lower() in {f"{name}:{self.port}" for name in _HOSTS}
 
+    def is_asked(self, site: str | None, origin: str | None) -> bool:
+        """Whether this page asks, or someone who is no browser and says of neither where the request comes from."""
+        is_ours = origin is None or origin.startswith("http://") and self.is_host(origin.removeprefix("http://"))
+        return is_ours and site in (None, *_SITES)
+
     def close(self) -> None:
         """Serves the page no more. To close twice is no fault."""
         self.watcher.close()
@@ -284,6 +319,11 @@ class _Server(ThreadingHTTPServer):
     daemon_threads = True
     page: Page
 
+    def handle_error(self, request: object, client_address: object) -> None:
+        # a connection that broke off is no news
+        level = logging.DEBUG if isinstance(sys.exc_info()[1], OSError) else logging.ERROR
+        _LOG.log(level, "page: a request was not answered", exc_info=True)
+
 
 class _Handler(BaseHTTPRequestHandler):
     server: _Server
@@ -292,49 +332,75 @@ class _Handler(BaseHTTPRequestHandler):
     timeout = 30.0
 
     def do_GET(self) -> None:  # noqa: N802
-        if not self._is_for_us():
+        address = self._address()
+        if address is None:
             return
-        address = urlsplit(self.path)
         if address.path == "/":
             self._send_page()
         elif address.path == "/events":
             self._send_events()
         elif address.path == "/store":
-            self._send_store(parse_qs(address.query).get("find", [""])[0])
+            self._send_store(address.query)
         else:
             self._send(HTTPStatus.NOT_FOUND, "There is no such page.")
 
     def do_POST(self) -> None:  # noqa: N802
-        if not self._is_for_us():
+        address = self._address()
+        if address is None:
             return
-        if urlsplit(self.path).path != "/tell":
+        if address.path != "/tell":
             self._send(HTTPStatus.NOT_FOUND, "There is no such page.")
         elif not secrets.compare_digest(self.headers.get("X-Token", "").encode(), self.server.page.token.encode()):
             self._send(HTTPStatus.FORBIDDEN, "Only the page that this node serves may tell: load it again.")
         else:
             line = self._body()
             if line is None:
-                self._send(HTTPStatus.BAD_REQUEST, f"A line has 1 to {_LINE_LIMIT} bytes, of UTF-8.")
+                self._send(HTTPStatus.BAD_REQUEST, f"A line has 1 to {LINE_LIMIT} bytes, of UTF-8.")
+                self._drain()
             else:
                 self._send(*_told(self.server.page.member, line))
+
+    def send_error(self, code: int, message: str | None = None, explain: str | None = None) -> None:
+        """Says what the base class finds wrong, with the headers of all answers."""
+        self._send(HTTPStatus(code), message or HTTPStatus(code).phrase)
 
     def log_message(self, format: str, *words: Any) -> None:
         _LOG.debug("page: " + format, *words)
 
-    def _is_for_us(self) -> bool:
-        page = self.server.page
-        if page.is_host(self.headers.get("Host")):
-            return True
-        self._send(HTTPStatus.FORBIDDEN, f"This page is {page.url} alone.")
-        return False
+    def _address(self) -> SplitResult | None:
+        """What is asked for; None where that was refused."""
+        page, headers = self.server.page, self.headers
+        if not page.is_host(headers.get("Host")):
+            self._send(HTTPStatus.FORBIDDEN, f"This page is {page.url} alone.")
+            return None
+        try:
+            address = urlsplit(self.path)
+        except ValueError as fault:
+            self._send(HTTPStatus.BAD_REQUEST, f"This is no address: {one_line(fault)}")
+            return None
+        # others may lead to the page, and to nothing else
+        if address.path != "/" and not page.is_asked(headers.get("Sec-Fetch-Site"), headers.get("Origin")):
+            self._send(HTTPStatus.FORBIDDEN, "Only the page that this node serves may ask for this.")
+            return None
+        return address
 
     def _body(self) -> str | None:
         length = self.headers.get("Content-Length", "")
-        if not (length.isascii() and length.isdecimal()) or not 0 < int(length) <= _LINE_LIMIT:
+        is_number = length.isascii() and length.isdecimal() and len(length) <= len(str(LINE_LIMIT))
+        if not is_number or not 0 < int(length) <= LINE_LIMIT:
             return None
         with suppress(UnicodeDecodeError):
             return self.rfile.read(int(length)).decode()
         return None
+
+    def _drain(self) -> None:
+        """Takes what is still sent, for a while: who sends it reads no answer before."""
+        end = time.monotonic() + _DRAIN_SECONDS
+        with suppress(OSError):
+            self.connection.shutdown(socket.SHUT_WR)
+            self.connection.settimeout(_DRAIN_SECONDS)
+            while time.monotonic() < end and self.connection.recv(65_536):
+                pass
 
     def _send_page(self) -> None:
         nonce = secrets.token_urlsafe(16)
@@ -347,7 +413,12 @@ class _Handler(BaseHTTPRequestHandler):
         self._begin(HTTPStatus.OK, "text/html; charset=utf-8", {"Content-Security-Policy": policy})
         self._write(text.encode())
 
-    def _send_store(self, find: str) -> None:
+    def _send_store(self, query: str) -> None:
+        try:
+            find = parse_qs(query, errors="strict").get("find", [""])[0]
+        except ValueError as fault:
+            self._send(HTTPStatus.BAD_REQUEST, f"This is no search: {one_line(fault)}")
+            return
         tables = tables_of(self.server.page.watcher.atoms(), find)
         answer = {"tables": [{**table._asdict(), "rows": [*map(_sent, table.rows)]} for table in tables]}
         self._begin(HTTPStatus.OK, "application/json")
@@ -356,17 +427,9 @@ class _Handler(BaseHTTPRequestHandler):
     def _send_events(self) -> None:
         watcher = self.server.page.watcher
         with watcher.looking() as looker:
-            if looker is None:
-                self._send(HTTPStatus.SERVICE_UNAVAILABLE, "Too many pages are open.")
-                return
             self._begin(HTTPStatus.OK, "text/event-stream")
             while watcher.is_looking(looker):
-                try:
-                    name, value = looker.get(timeout=_ALIVE_SECONDS)
-                    event = f"event: {name}\ndata: ".encode() + json_text(value) + b"\n\n"
-                except queue.Empty:
-                    event = b": nothing new\n\n"
-                if not self._write(event):
+                if not self._write(_next_of(looker)):
                     return
 
     def _send(self, status: HTTPStatus, text: str) -> None:
@@ -378,6 +441,7 @@ class _Handler(BaseHTTPRequestHandler):
         headers = {
             "Content-Type": kind,
             "Cache-Control": "no-store",
+            "Cross-Origin-Resource-Policy": "same-origin",
             "X-Content-Type-Options": "nosniff",
             "Referrer-Policy": "no-referrer",
             **(more or {}),
