@@ -603,8 +603,6 @@ class Stand(unittest.TestCase):
         with Node(PLAIN, 1, chrrep=late, timeout=Unasked(0.3)) as node:
             with self.assertRaisesRegex(NodeDied, "no answer within 0.3 seconds"):
                 node.show()
-        with self.assertRaisesRegex(NodeDied, "no answer within 0.3 seconds"):
-            Node(PLAIN, 1, chrrep=late, timeout=0.3)
 
     def test_what_becomes_of_a_process_is_logged(self) -> None:
         with self.assertLogs("chrrep", "DEBUG") as logged, Node(PLAIN, 7) as node:

@@ -18,6 +18,7 @@ from http.server import BaseHTTPRequestHandler, ThreadingHTTPServer
 from pathlib import Path
 from tempfile import TemporaryDirectory
 from typing import Any, NamedTuple
+from unittest.mock import patch
 
 from browser import CHROMIUM, DRIVER, Browser
 from chrrep import Atom, Id
@@ -123,8 +124,9 @@ class Requests(Served):
         other += [{"Sec-Fetch-Site": "cross-site", "Origin": own}, {"Sec-Fetch-Site": "none", "Origin": origins[0]}]
         for headers in other:
             for method, path in (("GET", "/events"), ("GET", "/store"), ("POST", "/tell"), ("GET", "/x")):
-                answer = self.ask(page, method, path, b"path(1,2,3)", {"X-Token": page.token, **headers})
-                self.assertEqual((answer.status, answer.body[:10]), (403, b"Only the p"), (headers, path))
+                with self.open(page, method, path, b"path(1,2,3)", {"X-Token": page.token, **headers}) as refused:
+                    self.assertEqual(refused.status, 403, (headers, path))
+                    self.assertEqual(refused.read(), b"Only the page that this node serves may ask for this.")
             self.assertEqual(self.ask(page, "GET", "/", headers=headers).status, 200)
         self.assertEqual((member.show(), page.watcher._lookers), ((), []))
         ours: list[dict[str, str]] = [{}, {"Sec-Fetch-Site": "same-origin"}, {"Sec-Fetch-Site": "none"}]
@@ -323,8 +325,9 @@ class Events(Served):
             self.assertEqual((again.status, next(events_of(again))[0]), (200, "program"))
 
     def test_lookers_are_told_that_the_page_ends(self) -> None:
+        """At once, and not when they are looked at the next time."""
         _, page = self.serve()
-        with self.open(page, "GET", "/events") as answer:
+        with patch("chrrep.link.page._ALIVE_SECONDS", 10 * SECONDS), self.open(page, "GET", "/events") as answer:
             events = events_of(answer)
             self.until(events, "told", None)
             page.close()
