@@ -145,10 +145,11 @@ class Node:
     is judged as `check` does with it; nodes of either kind exchange operations.
 
     Raises, as `check` does, what refuses the program. Each call raises `NodeDied` where the process has ended, and a
-    `Refused` where the line is refused, which changes nothing. A call that is interrupted ends the node, and so does
-    one that has no answer after `timeout` seconds: left out they are `ANSWER_SECONDS`, and the verdict is waited for
-    without a limit; None is no limit at all. Calls may come from any thread: one is made at a time. In a fork of the
-    process that made the node they are `WrongProcess`. Leaving a `with` closes the node.
+    `Refused` where the line is refused, which changes nothing. A call that has no answer after `timeout` seconds ends
+    the node: left out they are `ANSWER_SECONDS`, and the verdict is waited for without a limit; None is no limit at
+    all. What a call that is interrupted while it waits, as by Ctrl-C, was telling may be told, and the node goes on;
+    interrupted while it sends or reads, it ends the node. Calls may come from any thread: one is made at a time. In a
+    fork of the process that made the node they are `WrongProcess`. Leaving a `with` closes the node.
     """
 
     verdict: Verdict
@@ -169,7 +170,7 @@ class Node:
         self._lock = threading.RLock()
         self._ended: NodeDied | None = None
         self._is_forked = False
-        self._has_answer = False
+        self._is_sure = False
         self._store = StoreReader()
         self._text = text = text_bytes(program)
         end = b"---\n" if text.endswith(b"\n") or not text else b"\n---\n"
@@ -279,11 +280,10 @@ class Node:
         """Sends operations that the node takes for sure, and doesn't wait for the answer, which the next call takes. So
         the node works beside its user. Numbers of its own origin are not looked at."""
         line = f'["merge",{_REPLICA},{delta_text(delta)}]\n'.encode()
-        with self._lock, self._whole():
-            self._take_answer()
-            self._has_answer = True
-            with self._in_time() as end:
-                self._process.send(line, end)
+        with self._lock, self._whole(), self._in_time() as end:
+            self._settle(end)
+            self._is_sure = True
+            self._process.send(line, end)
 
     def close(self) -> None:
         """Ends the process, and waits for its end. To close twice is no fault."""
@@ -321,7 +321,6 @@ class Node:
             # set before the question: an interrupt leaves a gap, and no number that is used twice
             before, self._next = self._next, max(self._next, following)
             with self._whole():
-                self._take_answer()
                 answer = self._exchange(line.encode())
             try:
                 raise_refusal(answer)
@@ -343,22 +342,24 @@ class Node:
             self._end(died)
             raise
         except BaseException:
-            # its answer would be taken for the next one's
-            self._end(NodeDied("a call was interrupted, and ended the node"), by_force=True)
+            # of what was being sent or read nobody knows how far that came
+            if not self._process.is_waiting:
+                self._end(NodeDied("a call was interrupted, and ended the node"), by_force=True)
             raise
 
-    def _take_answer(self) -> None:
-        """Takes the answer to what was sent without waiting for it."""
-        if self._has_answer:
-            self._has_answer = False
-            with self._in_time() as end:
-                answer = self._process.answer(end)
-            if not answer.startswith("merged "):
+    def _settle(self, end: float | None) -> None:
+        """Sees through what was sent without waiting for its answer, or was interrupted."""
+        self._process.flush(end)
+        while self._process.owed:
+            answer = self._process.answer(end)
+            if self._is_sure and not answer.startswith("merged "):
                 raise NodeDied(f"the node didn't take what it was sent: {answer}")
+            self._is_sure = False
 
     def _exchange(self, sent: bytes) -> str:
         """The answer to what is sent; in time, or the node is ended."""
         with self._in_time() as end:
+            self._settle(end)
             self._process.send(sent, end)
             return self._process.answer(end)
 

@@ -5,7 +5,6 @@ import os
 import select
 import subprocess
 import time
-from contextlib import suppress
 
 from .refusals import NodeDied
 
@@ -24,8 +23,14 @@ class Process:
     """A running program that answers each line by a line.
 
     It has a session of its own, so that what is typed at a terminal, as Ctrl-C, is for its user alone. It ends with its
-    input, and so with its user, however that one ends. A call raises `Late` where the clock has passed `end`.
+    input, and so with its user, however that one ends. A call raises `Late` where the clock has passed `end`. One that
+    is interrupted while `is_waiting` can be taken up again: what is left of the line is sent, and the answer read.
     """
+
+    owed = 0
+    """Answers that have not been read yet."""
+    is_waiting = False
+    """Whether nothing is being sent or read."""
 
     def __init__(self, words: list[str]) -> None:
         self._process = subprocess.Popen(
@@ -38,7 +43,8 @@ class Process:
         self._room, self._answers = select.poll(), select.poll()
         self._room.register(self._input, select.POLLOUT)
         self._answers.register(self._output, select.POLLIN)
-        self._rest = b""
+        self._left = memoryview(b"")
+        self._parts = [b""]
 
     @property
     def pid(self) -> int:
@@ -46,25 +52,36 @@ class Process:
         return self._process.pid
 
     def send(self, line: bytes, end: float | None) -> None:
-        """Sends what the program reads; nothing more once that reads no more, since it may have answered before."""
-        left = memoryview(line)
-        with suppress(BrokenPipeError):
-            while left:
+        """Sends a line, after which one more answer is owed."""
+        self.is_waiting = False
+        self.owed += 1
+        self._left = memoryview(line)
+        self.flush(end)
+
+    def flush(self, end: float | None) -> None:
+        """Sends what is left of a line; nothing more to a program that reads no more, since it may have answered."""
+        self.is_waiting = False
+        try:
+            while self._left:
                 try:
-                    left = left[os.write(self._input, left):]
+                    self._left = self._left[os.write(self._input, self._left):]
                 except BlockingIOError:
-                    _wait_for(self._room, end)
+                    self._wait_for(self._room, end)
+        except BrokenPipeError:
+            self._left = memoryview(b"")
 
     def answer(self, end: float | None) -> str:
         """The next line of its output. `NodeDied` where it has ended instead."""
-        parts = [self._rest]
-        while b"\n" not in parts[-1]:
-            _wait_for(self._answers, end)
+        self.is_waiting = False
+        while b"\n" not in self._parts[-1]:
+            self._wait_for(self._answers, end)
             part = os.read(self._output, _PIPE)
             if not part:
                 raise NodeDied("the node died", self.status())
-            parts.append(part)
-        line, _, self._rest = b"".join(parts).partition(b"\n")
+            self._parts.append(part)
+        line, _, rest = b"".join(self._parts).partition(b"\n")
+        self._parts = [rest]
+        self.owed -= 1
         return line.decode()
 
     def status(self) -> int:
@@ -90,14 +107,16 @@ class Process:
             assert pipe
             pipe.close()
 
+    def _wait_for(self, pipe: select.poll, end: float | None) -> None:
+        """Waits until a pipe is ready. It is looked at once even where the time is over."""
+        left = None if end is None else max(0.0, 1000 * (end - time.monotonic()))
+        self.is_waiting = True
+        is_ready = pipe.poll(left)
+        self.is_waiting = False
+        if not is_ready:
+            raise Late
+
 
 def end_of(seconds: float | None) -> float | None:
     """When so many seconds from now are over; None where there is no limit."""
     return None if seconds is None else time.monotonic() + seconds
-
-
-def _wait_for(pipe: select.poll, end: float | None) -> None:
-    """Waits until a pipe is ready. It is looked at once even where the time is over."""
-    left = None if end is None else max(0.0, 1000 * (end - time.monotonic()))
-    if not pipe.poll(left):
-        raise Late

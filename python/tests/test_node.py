@@ -551,7 +551,7 @@ class Forks(unittest.TestCase):
         self.assertEqual(logged.output[-1], f"DEBUG:chrrep.node:process {node.pid} ended with status 0")
 
 
-class Stand(unittest.TestCase):
+class StandIns(unittest.TestCase):
     """Programs that stand in for a faulty one."""
 
     def program(self, script: str) -> str:
@@ -562,6 +562,8 @@ class Stand(unittest.TestCase):
         path.chmod(path.stat().st_mode | stat.S_IXUSR)
         return str(path)
 
+
+class Stand(StandIns):
     def dies(self, script: str, status: int | None) -> None:
         with self.assertRaises(NodeDied) as raised, Node(PLAIN, 1, chrrep=self.program(script)) as node:
             node.show()
@@ -614,20 +616,80 @@ class Stand(unittest.TestCase):
         with self.assertRaises(FileNotFoundError):
             Node(PLAIN, 1, chrrep="/nowhere/chrrep")
 
-    def test_an_interrupted_call_ends_the_node(self) -> None:
-        class Interrupt(Exception):
-            pass
 
+class Interrupt(Exception):
+    """What a handler of signals raises in the middle of a call."""
+
+
+class Interrupts(StandIns):
+    def setUp(self) -> None:  # noqa: N802
         def interrupt(*_: object) -> None:
             raise Interrupt
 
         before = signal.signal(signal.SIGALRM, interrupt)
         self.addCleanup(signal.signal, signal.SIGALRM, before)
-        # answers once, late: what it says must not be taken for the next answer
-        script = "echo accepted: rules 0, cases 0\nread text; read end; read line; exec sleep 60"
+
+    def interrupt(self, node: Node, call: Callable[[], object]) -> None:
+        """Interrupts a call that waits for a node that is stopped."""
+        os.kill(node.pid, signal.SIGSTOP)
+        self.interrupt_once(node, call)
+        os.kill(node.pid, signal.SIGCONT)
+
+    def interrupt_once(self, node: Node, call: Callable[[], object]) -> None:
+        """Interrupts a call once it waits."""
+
+        def send_signal() -> None:
+            end = time.monotonic() + SECONDS
+            while not node._process.is_waiting and time.monotonic() < end:
+                time.sleep(0.01)
+            signal.pthread_kill(caller, signal.SIGALRM)
+
+        caller = threading.get_ident()
+        node._process.is_waiting = False
+        sender = threading.Thread(target=send_signal)
+        with self.assertRaises(Interrupt):
+            sender.start()
+            call()
+        sender.join()
+
+    def test_a_node_outlives_a_call_that_is_interrupted(self) -> None:
+        """What it answers to that one is not taken for the next answer."""
+        with Node(PLAIN, 1) as node:
+            self.interrupt(node, node.show)
+            self.assertEqual(node.tell(("a", 1)), Id(1, 1))
+            self.interrupt(node, node.summary)
+            self.interrupt(node, node.show)
+            self.assertEqual(node.show(), (("a", 1),))
+            # the number is used, whether it was told or not
+            self.interrupt(node, lambda: node.tell(("a", 2)))
+            self.assertEqual(node.tell(("a", 3)), Id(1, 3))
+            self.assertEqual(node.show(), (("a", 1), ("a", 2), ("a", 3)))
+
+    def test_a_line_that_is_interrupted_is_sent_on(self) -> None:
+        """It is longer than what a pipe holds."""
+        atoms = [("a", value) for value in range(OPERATION_ATOMS)]
+        with Node(PLAIN, 1) as node:
+            self.interrupt(node, lambda: node.tell_many([atoms] * 500))
+            self.assertEqual(node.count("a"), 500 * OPERATION_ATOMS)
+            soon = [OperationText(Id(2, number), '[["a",-1]]') for number in range(9000)]
+            self.interrupt(node, lambda: node.merge_soon(soon))
+            self.assertEqual((node.count("a", -1), node.next_id), (9000, Id(1, 501)))
+
+    def test_an_answer_that_is_interrupted_is_read_on(self) -> None:
+        room = tempfile.TemporaryDirectory()
+        self.addCleanup(room.cleanup)
+        goes_on = Path(room.name) / "goes_on"
+        asked = "echo accepted: rules 0, cases 0\nread text; read end; read line; printf 'a(1), '\n"
+        waits = f"while ! [ -e '{goes_on}' ]; do sleep 0.05; done\n"
+        script = asked + waits + "echo 'a(2)'; read line; echo 'a(3)'; read line"
         with Node(PLAIN, 1, chrrep=self.program(script)) as node:
-            signal.setitimer(signal.ITIMER_REAL, 0.2)
-            with self.assertRaises(Interrupt):
+            self.interrupt_once(node, node.show)
+            goes_on.touch()
+            self.assertEqual(node.show(), (("a", 3),))
+
+    def test_a_call_that_is_interrupted_while_it_reads_ends_the_node(self) -> None:
+        with Node(PLAIN, 1) as node:
+            with patch("chrrep.process.os.read", side_effect=Interrupt), self.assertRaises(Interrupt):
                 node.show()
             self.assertFalse(is_running(node.pid))
             with self.assertRaisesRegex(NodeDied, "interrupted"):
