@@ -65,7 +65,8 @@ def postgres_client(url: str, log: str) -> Callable[[Rows], None]:
 
     def append(rows: Rows) -> None:
         with engine, engine.cursor() as cursor:
-            extras.execute_batch(cursor, f"INSERT INTO {log} VALUES (%s, %s)", rows, page_size=BATCH)
+            # all rows of a batch in one statement
+            extras.execute_values(cursor, f"INSERT INTO {log} VALUES %s", rows, page_size=BATCH)
 
     return append
 
