@@ -12,6 +12,7 @@ _GRACE = 5.0
 """Seconds that a program has to end after the end of its input."""
 _PIPE = 65_536
 """Bytes that a pipe holds, and so the most that one reading finds."""
+_NOTHING = memoryview(b"")
 _LOG = logging.getLogger("chrrep.node")
 
 
@@ -43,7 +44,7 @@ class Process:
         self._room, self._answers = select.poll(), select.poll()
         self._room.register(self._input, select.POLLOUT)
         self._answers.register(self._output, select.POLLIN)
-        self._left = memoryview(b"")
+        self._left = _NOTHING
         self._parts = [b""]
 
     @property
@@ -68,7 +69,8 @@ class Process:
                 except BlockingIOError:
                     self._wait_for(self._room, end)
         except BrokenPipeError:
-            self._left = memoryview(b"")
+            pass
+        self._left = _NOTHING
 
     def answer(self, end: float | None) -> str:
         """The next line of its output. `NodeDied` where it has ended instead."""

@@ -10,6 +10,7 @@ _LEAST, _GREATEST = -(2**63), 2**63 - 1
 _COMMENT = re.compile(rb"%[^\n]*")
 _DECLARATION = re.compile(rb":-\s*chr_constraint\b([^.]*)\.")
 _SYMBOL = re.compile(rb"([a-z]\w*)\s*/\s*(\d+)")
+_SURROGATE = re.compile("[\ud800-\udfff]")
 
 Symbols = dict[str, list[int]]
 """Of each declared name the numbers of arguments that it is declared with."""
@@ -48,6 +49,8 @@ def symbol_fault(atoms: str, symbols: Symbols) -> str | None:
 def _atom_fault(atom: object) -> str | None:
     if not isinstance(atom, list) or not atom or not isinstance(atom[0], str):
         return f"{_shown(atom)} is no atom, which is a name and its arguments"
+    if _SURROGATE.search(atom[0]):
+        return f"the name of {_shown(atom)} has a lone surrogate, which no text has"
     for place, argument in enumerate(atom[1:], 1):
         # a bool is an int of Python
         if type(argument) is not int:

@@ -238,6 +238,7 @@ class Refusals(unittest.TestCase):
             ([(3,)], "(3,) is no atom, which is a name and its arguments"),
             ([()], "() is no atom, which is a name and its arguments"),
             ([7], "7 is no atom, which is a name and its arguments"),
+            ([("a\ud800", 1)], "the name of ('a\\ud800', 1) has a lone surrogate, which no text has"),
             ([("a",)], "'a' is declared with 1 arguments, and not with 0"),
             ([("path", 1, 2)], "'path' is declared with 3 or 1 arguments, and not with 2"),
             ([("a", 1), ("paths", 1, 2, 3)], "no symbol 'paths' is declared: is 'path' meant?"),
