@@ -24,11 +24,11 @@ _ATOM = re.compile(
 
 
 class NameFault(ChrrepError, ValueError):
-    """Text that can't be a name: it has a lone surrogate, and so no bytes of UTF-8. Nothing was told."""
+    """Text that can't be a name: at `place` it has a lone surrogate, and so no bytes of UTF-8. Nothing was told."""
 
-    def __init__(self, name: str, place: int) -> None:
-        self.name, self.place = name, place
-        super().__init__(f"character {place} of the name {_cut(name)} is a lone surrogate, which no text has")
+    def __init__(self, fault: UnicodeEncodeError) -> None:
+        self.name, self.place = fault.object, fault.start
+        super().__init__(str(fault))
 
 
 class NameClash(ChrrepError):
@@ -50,7 +50,7 @@ def number_of(name: str) -> int:
     try:
         text = name.encode()
     except UnicodeEncodeError as fault:
-        raise NameFault(name, fault.start) from fault
+        raise NameFault(fault) from fault
     return int.from_bytes(hashlib.blake2b(text, digest_size=8).digest(), "big") >> 1
 
 
@@ -126,13 +126,10 @@ def _argument_of(text: str) -> str | int:
 def _value_of(text: str) -> int:
     digits = text.lstrip("-0")
     if len(digits) > _MOST_DIGITS:
-        raise ValueError(f"the number {_cut(text)} does not fit 64 bits")
+        shown = text if len(text) <= 40 else f"{text[:38]}.."
+        raise ValueError(f"the number {shown} does not fit 64 bits")
     value = int(digits or "0")
     return -value if text[0] == "-" else value
-
-
-def _cut(text: str) -> str:
-    return repr(text) if len(text) <= 40 else f"{text[:40]!r}.."
 
 
 def _argument_text(argument: str | int) -> str:

@@ -1,5 +1,6 @@
 """Names and their numbers, and lines that have them."""
 
+import re
 import unittest
 from collections.abc import Callable
 from functools import partial
@@ -22,7 +23,7 @@ class Numbers(unittest.TestCase):
 
     def test_text_that_is_no_name(self) -> None:
         """A lone surrogate has no bytes of UTF-8."""
-        said = r"character 2 of the name 'ab\\ud800c' is a lone surrogate"
+        said = r"can't encode character '\\ud800' in position 2: surrogates not allowed"
         calls: list[Callable[[], object]] = [
             lambda: number_of("ab\ud800c"),
             lambda: numbered(("path", 1, "ab\ud800c")),
@@ -74,8 +75,8 @@ class Numbers(unittest.TestCase):
         rows += [(str(value), value) for value in (2**63 - 1, -(2**63), 2**63, 10**19 - 1)]
         for text, value in rows:
             self.assertEqual(named_atoms_of(f"a({text})"), (("a", value),))
-        for text in (str(10**19), "-" + "9" * 5000):
-            with self.assertRaisesRegex(ValueError, "^the number '-?[0-9]+'.* does not fit 64 bits$"):
+        for text, shown in ((str(10**19), str(10**19)), ("-" + "9" * 5000, "-" + "9" * 37 + "..")):
+            with self.assertRaisesRegex(ValueError, f"^the number {re.escape(shown)} does not fit 64 bits$"):
                 named_atoms_of(f"a({text})")
 
     def test_long_lines_are_read_at_once(self) -> None:
