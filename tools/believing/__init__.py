@@ -1,0 +1,1 @@
+"""What has to be believed of a contract: `tools/believe`."""
