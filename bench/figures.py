@@ -3,9 +3,9 @@
 
     figures.py PROGRAM [--count 1000000] [--times 3]
 
-Each input is run so often. A row has the least seconds of a clock, the greatest peak of memory, and the first line that
-was written, which is the verdict. Facts of `workloads.py` are COUNT in number. A peak below that of Python itself, whose
-process becomes that of the program, can't be told.
+Each input is run TIMES times. A row has the least seconds of a clock, the greatest peak of memory, and the first line
+that was written, which is the verdict. Facts of `workloads.py` are COUNT in number. A peak below that of Python itself,
+whose process becomes that of the program, can't be told.
 """
 
 import argparse

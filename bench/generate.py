@@ -14,16 +14,17 @@
     generate.py over                a short program with an overlap of too many order types (it is refused)
     generate.py constants           the same with rules of 2,520 constants beside it (it is refused)
     generate.py copies              a short program of 64 equal rules, with 396 million joint cases
-    generate.py choices             a short program of 62 equal rules of four heads and two more, with two thousand million joint cases
+    generate.py choices             62 equal rules of four heads and two more, with two thousand million joint cases
     generate.py guarded             a short program of 64 rules with guards that all differ, with 99 million order types
     generate.py bodies              63 of these rules with bodies, so that the two sides of a case differ and are rested
     generate.py tells N [--show]    a program without rules, and N operations of one atom each
     generate.py wide N [--show]     a program without rules, and N operations of 64 atoms each
-    generate.py minimum N           a program with one rule, N operations of one atom each, of which one atom stays, and a `show`
-    generate.py renames N           a program with one rule, N operations of one atom each, each of which takes a step, and a `show`
+    generate.py minimum N           one rule, N operations of one atom each, of which one atom stays, and a `show`
+    generate.py renames N           one rule, N operations of one atom each, each of which takes a step, and a `show`
     generate.py paths N             a program with one rule, N operations of one atom each, which all stay, and a `show`
-    generate.py exchange N          for `run --replicas 8`: the same program and N operations told to eight replicas in turn, which exchange
-                                    what they hold twice round, and each shows its summary and the last its store
+    generate.py exchange N          for `run --replicas 8`: the same program and N operations told to eight replicas in
+                                    turn, which exchange what they hold twice round, and each shows its summary and the
+                                    last its store
 
 Of the program texts those above `dominated` have at most 65,536 bytes, and nearly as many.
 """
@@ -67,7 +68,8 @@ def full_rule(label, heads, light, variables):
 
 
 def full_rules(length):
-    """As many rules of full size as the limits allow, with names and variables of so many bytes, and a comment to fill the text."""
+    """As many rules of full size as the limits allow, with names and variables of this length, and a comment to fill
+    the text."""
     symbols = [f"s{k}".ljust(length, "x") for k in range(SYMBOL_LIMIT)]
     variables = [f"V{k}".ljust(length, "x") for k in range(16)]
     text = ":- chr_constraint " + ", ".join(f"{name}/4" for name in symbols) + ".\n"
@@ -100,7 +102,8 @@ def many_constants():
 
 def choices():
     """Rules that take four atoms of any values each, and two by which every store comes to one end."""
-    text = ":- chr_constraint r/1, t/0.\n:- chr_weight r/1 = 2.\n" + "r(A), r(B), r(C), r(D) <=> t.\n" * (RULE_LIMIT - 2)
+    text = ":- chr_constraint r/1, t/0.\n:- chr_weight r/1 = 2.\n"
+    text += "r(A), r(B), r(C), r(D) <=> t.\n" * (RULE_LIMIT - 2)
     return text + "t \\ r(A) <=> true.\nt \\ t <=> true.\n"
 
 
@@ -137,7 +140,7 @@ def with_rule(clauses, atom, count):
 
 
 def exchange(count, replicas=8):
-    """Operations told to replicas in turn, each by an origin of its own, and two rounds of exchanges between neighbours."""
+    """Operations told to replicas in turn, each by an origin of its own, and two rounds of exchanges of neighbours."""
     clauses, path = RULED["paths"]
     yield clauses + "\n---\n"
     for number in range(count):
