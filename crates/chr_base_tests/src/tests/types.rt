@@ -3,8 +3,7 @@ ghost use Rattle.std.specs.Prelude.{IsTrue};
 ghost use Rattle.chr_types.specs.OrderTypes.{Rises};
 
 use chr_types::{
-    AllLists, Beginnings, LimitedCount, MAX_CLASSES, OrderType, TypesFault, Visit, has_more_types,
-    types, visit_types,
+    Beginnings, MAX_CLASSES, OrderType, TypesFault, Visit, has_more_types, types, visit_types,
 };
 use std::alloc::{AllocError, Global};
 use std::process::Abort;
@@ -397,14 +396,10 @@ fn visited(rt: &impl Abort, alloc: Global, most: i64, last: i64) -> (bool, Vec<i
 }
 
 #[test]
-fn visits_up_to_a_stop(rt: HostRuntime) {
+fn visits_admitted_lists_up_to_a_stop(rt: HostRuntime) {
     let (stopped, lists) = visited(&rt, rt.alloc(), i64::MAX, 1);
     assert!(rt; stopped);
     assert!(rt; lists.as_slice() == [0, 0, 0, 1, 1, 0].as_slice());
-}
-
-#[test]
-fn leaves_beginnings(rt: HostRuntime) {
     let (stopped, lists) = visited(&rt, rt.alloc(), 0, 7);
     assert!(rt; !stopped);
     assert!(rt; lists.as_slice() == [0, 0].as_slice());
@@ -441,25 +436,7 @@ fn expect_limits(rt: &impl Abort, alloc: Global, rows: &[Limit]) {
 }
 
 #[test]
-fn the_most_classes_have_this_number(rt: HostRuntime) {
-    assert!(rt; MAX_CLASSES == 64);
-}
-
-#[test]
 fn tells_more_than_a_limit(rt: HostRuntime) {
+    assert!(rt; MAX_CLASSES == 64);
     expect_limits(&rt, rt.alloc(), &LIMITS);
-}
-
-/// Whether the count of the types of two classes stopped at the limit, and how far it came.
-fn counted(rt: &impl Abort, alloc: Global, limit: usize) -> (bool, usize) {
-    let mut count = LimitedCount { found: 0, limit };
-    let stopped = visit_types(alloc, 2, &[], &AllLists, &mut count).expect(rt, "memory");
-    (stopped, count.found)
-}
-
-/// Two classes have three order types where there are no constants: equal ones, and both orders.
-#[test]
-fn counts_up_to_a_limit(rt: HostRuntime) {
-    assert!(rt; counted(&rt, rt.alloc(), 3) == (false, 3));
-    assert!(rt; counted(&rt, rt.alloc(), 2) == (true, 2));
 }

@@ -151,20 +151,3 @@ fn as_by_a_plain_scan_while_rows_die(rt: HostRuntime) {
     compare_all(&rt, &mut crossing, &rows, 7);
     compare_all(&rt, &mut crossing, &rows, 23);
 }
-
-#[test]
-fn forgets_all_rows(rt: HostRuntime) {
-    let rows = rows_of(&rt, rt.alloc(), 9);
-    let mut crossing = crossing_of(&rt, rt.alloc(), &rows);
-    crossing.clear();
-    compare_down(
-        &rt,
-        &mut crossing,
-        &[],
-        &Wanted {
-            hash: 7,
-            first: Range::default(),
-            second: Range::default(),
-        },
-    );
-}

@@ -5,12 +5,6 @@ use chr_base::term::Cmp;
 use chr_lanes::{Against, Test, first_row};
 use std::process::Abort;
 
-const ROWS: usize = 19;
-
-const KEYS: [i64; ROWS] = [5, 3, -9, 3, 7, 0, 0, 1, 2, 3, 8, 8, 8, 8, 8, 8, 8, 8, -4];
-
-const LIMITS: [i64; ROWS] = [5, 4, -9, 2, 7, 0, 0, 1, 2, 3, 8, 8, 8, 8, 8, 8, 8, 9, -5];
-
 /// The least row from `from` on at which the column's value passes.
 fn first_value(
     rt: &impl Abort,
@@ -31,80 +25,6 @@ fn first_value(
         }],
         from,
     )
-}
-
-/// The least row from `from` on whose key passes against the limit at the row.
-fn first_by_limit(rt: &impl Abort, cmp: Cmp, from: usize) -> Option<usize> {
-    assert!(rt; from <= ROWS);
-    let columns: [&[i64]; 2] = [&KEYS, &LIMITS];
-    first_row(
-        ROWS,
-        &columns,
-        &[Test {
-            column: 0,
-            cmp,
-            against: Against::Column(1),
-        }],
-        from,
-    )
-}
-
-/// A sign, a value, the row to begin at, and the row that is found.
-type ByValue = (Cmp, i64, usize, Option<usize>);
-
-const BY_VALUE: [ByValue; 12] = [
-    (Cmp::Equal, 3, 0, Some(1)),
-    (Cmp::Equal, 3, 2, Some(3)),
-    (Cmp::Equal, 3, 4, Some(9)),
-    (Cmp::Equal, 3, 10, None),
-    (Cmp::Less, -4, 0, Some(2)),
-    (Cmp::AtMost, -4, 3, Some(18)),
-    (Cmp::Greater, 7, 0, Some(10)),
-    (Cmp::AtLeast, 7, 5, Some(10)),
-    (Cmp::NotEqual, 8, 10, Some(18)),
-    (Cmp::NotEqual, 8, 19, None),
-    (Cmp::Less, i64::MIN, 0, None),
-    (Cmp::AtMost, i64::MAX, 7, Some(7)),
-];
-
-fn expect_by_value(rt: &impl Abort, rows: &[ByValue]) {
-    for (cmp, value, from, row) in rows {
-        assert!(rt;
-            first_value(rt, &KEYS, *cmp, *value, *from) == *row,
-            "{cmp:?} {value} from {from}"
-        );
-    }
-}
-
-#[test]
-fn finds_the_least_row_with_a_value(rt: HostRuntime) {
-    expect_by_value(&rt, &BY_VALUE);
-}
-
-/// A sign, the row to begin at, and the row that is found.
-type ByLimit = (Cmp, usize, Option<usize>);
-
-const BY_LIMIT: [ByLimit; 6] = [
-    (Cmp::Less, 0, Some(1)),
-    (Cmp::Less, 2, Some(17)),
-    (Cmp::Greater, 0, Some(3)),
-    (Cmp::Greater, 4, Some(18)),
-    (Cmp::NotEqual, 4, Some(17)),
-    (Cmp::Equal, 17, None),
-];
-
-fn expect_by_limit(rt: &impl Abort, rows: &[ByLimit]) {
-    for (cmp, from, row) in rows {
-        assert!(rt;
-            first_by_limit(rt, *cmp, *from) == *row,
-            "{cmp:?} from {from}"
-        );
-    }
-}
-
-#[test]
-fn finds_the_least_row_of_two_columns(rt: HostRuntime) {
-    expect_by_limit(&rt, &BY_LIMIT);
 }
 
 #[test]
