@@ -1,10 +1,6 @@
-mod arities;
-mod bytes;
-mod canonical;
 mod clauses;
 mod faults;
 mod full_text;
-mod many_digits;
 mod places;
 mod weights;
 
@@ -13,7 +9,7 @@ use chr_base::program::Program;
 use chr_base::rule::Rule;
 use chr_base::term::{Cmp, Comparison, Pattern, Term};
 use chr_base::weight::{DEFAULT_WEIGHT, Weight};
-use chr_read::{Fault, ReadFault, read, write};
+use chr_read::{ReadFault, read, write};
 use std::alloc::Global;
 use std::fmt::Write;
 use std::process::Abort;
@@ -93,21 +89,6 @@ fn expect_outcomes(
     }
 }
 
-/// Compares what comes of each text, between these ends, with the one outcome of all.
-fn expect_each(
-    rt: &impl Abort,
-    alloc: Global,
-    before: &str,
-    parts: &[&str],
-    after: &str,
-    expected: Outcome,
-) {
-    for part in parts {
-        let text = joined(rt, alloc, &[before, part, after]);
-        expect_outcome(rt, alloc, &text, expected);
-    }
-}
-
 const PROGRAMS: &[(&str, Outcome)] = &[
     ("", Outcome::Program(0, 0)),
     ("% a. b\n", Outcome::Program(0, 0)),
@@ -159,15 +140,12 @@ fn expect_canonical(rt: &impl Abort, alloc: Global, rows: &[(&str, &str)]) {
 
 /// Compares the fault of a clause after a declaration. The clause after it has the least fault of all.
 fn expect_fault(rt: &impl Abort, alloc: Global, clause: &str, fault: u8) {
-    let declared = ":- chr_constraint a/0, a/1. ";
-    expect_each(
+    let text = joined(
         rt,
         alloc,
-        declared,
-        &[clause],
-        ". \u{7}.",
-        Outcome::Bad(fault, 2),
+        &[":- chr_constraint a/0, a/1. ", clause, ". \u{7}."],
     );
+    expect_outcome(rt, alloc, &text, Outcome::Bad(fault, 2));
 }
 
 /// Compares the faults of clauses after a declaration.
@@ -207,31 +185,6 @@ fn sixty_four(rt: &impl Abort, alloc: Global) -> String {
     let symbols = after_symbols(rt, alloc, ".");
     let rules = repeated(rt, alloc, "a0 <=> true.", 64);
     joined(rt, alloc, &[&symbols, &rules])
-}
-
-const SIXTY_FOUR_SYMBOLS: &[(&str, Outcome)] = &[
-    (".", Outcome::Program(64, 0)),
-    (", b/0.", Outcome::Bad(7, 1)),
-    (". :- chr_constraint b/0.", Outcome::Bad(7, 2)),
-];
-
-#[test]
-fn sixty_four_symbols(rt: HostRuntime) {
-    let alloc = rt.alloc();
-    let symbols = after_symbols(&rt, alloc, "");
-    expect_outcomes(&rt, alloc, symbols.as_str(), SIXTY_FOUR_SYMBOLS, "");
-}
-
-const SIXTY_FOUR_RULES: &[(&str, Outcome)] = &[
-    ("", Outcome::Program(64, 64)),
-    ("a0 <=> true.", Outcome::Bad(7, 66)),
-];
-
-#[test]
-fn sixty_four_rules(rt: HostRuntime) {
-    let alloc = rt.alloc();
-    let rules = sixty_four(&rt, alloc);
-    expect_outcomes(&rt, alloc, rules.as_str(), SIXTY_FOUR_RULES, "");
 }
 
 const THE_LONGEST_TEXT: &[(&str, Outcome)] = &[
@@ -309,33 +262,6 @@ r @ p(X,_) \\ p(Y,-03) <=> true, X >= -5, Y =\\= X | true, q.";
     assert!(rt; weight_at(&rt, &program, 1) == DEFAULT_WEIGHT);
 }
 
-fn are_apart(heads: &[Pattern]) -> bool {
-    let [first, second] = heads else {
-        return false;
-    };
-    is_pattern(first, 0, &[Term::Variable(1), Term::Variable(2)])
-        && is_pattern(second, 0, &[Term::Variable(3), Term::Variable(1)])
-}
-
-fn args_of(program: &Program) -> bool {
-    match program.rules() {
-        [rule] => are_apart(&rule.removed),
-        _ => false,
-    }
-}
-
-#[test]
-fn each_underscore_is_a_variable(rt: HostRuntime) {
-    let text = ":- chr_constraint p/2. p(X,_), p(_,X) <=> true.";
-    assert!(rt; args_of(&program_of(&rt, rt.alloc(), text)));
-}
-
-#[test]
-fn numbers_of_faults(rt: HostRuntime) {
-    assert!(rt; Fault::BadByte.number() == 1);
-    assert!(rt; Fault::Unended.number() == 11);
-}
-
 const CANONICAL_TEXTS: &[(&str, &str)] = &[
     ("", ""),
     ("% nothing\n", ""),
@@ -346,6 +272,14 @@ const CANONICAL_TEXTS: &[(&str, &str)] = &[
     (
         ":-chr_constraint min/1.m@min(X)\\min(Y)<=>X=<Y|true.",
         ":- chr_constraint min/1.\nm @ min(V1) \\ min(V2) <=> V1 =< V2 | true.\n",
+    ),
+    (
+        ":- chr_constraint a/1. a(X) <=> X == 1 | true.",
+        ":- chr_constraint a/1.\na(V1) <=> V1 =:= 1 | true.\n",
+    ),
+    (
+        ":- chr_constraint a/1. a(-9223372036854775808) <=> true.",
+        ":- chr_constraint a/1.\na(-9223372036854775808) <=> true.\n",
     ),
     (
         ":- use_module(library(chr)).\n:- chr_constraint a/1, b/0. a(X) <=> X == 1 | b, true, b. b, b <=> true | b.",
@@ -364,44 +298,4 @@ const CANONICAL_TEXTS: &[(&str, &str)] = &[
 #[test]
 fn canonical_texts(rt: HostRuntime) {
     expect_canonical(&rt, rt.alloc(), CANONICAL_TEXTS);
-}
-
-fn is_same(one: &Program, other: &Program) -> bool {
-    one.is_same(other)
-}
-
-/// Whether the text is that of a program, and its canonical text that of the same, and of no other.
-fn comes_back(rt: &impl Abort, alloc: Global, text: &str) -> bool {
-    let program = program_of(rt, alloc, text);
-    let canonical = canonical_of(rt, alloc, &program);
-    let again = program_of(rt, alloc, &canonical);
-    is_same(&again, &program) && canonical_of(rt, alloc, &again) == canonical
-}
-
-/// Compares each text with what comes back of it.
-fn expect_come_back(rt: &impl Abort, alloc: Global, texts: &[&str]) {
-    for text in texts {
-        assert!(rt; comes_back(rt, alloc, text), "{text}");
-    }
-}
-
-const PROGRAMS_COME_BACK: &[&str] = &[
-    "",
-    ":- chr_constraint coin/0, note/0. coin, coin <=> note.",
-    ":- chr_constraint a/1, b/1. a(X), a(X) <=> b(X).",
-    ":- chr_constraint a/1. a(X) <=> X == 1 | true.",
-    ":- chr_constraint a/1. a(-9223372036854775808) <=> true.",
-    ":- chr_constraint a/1. a(9223372036854775807) <=> true.",
-    ":-chr_constraint min/1.m@min(X)\\min(Y)<=>X=<Y|true.",
-    ":- chr_constraint a/0, a/1, a/2, a/3, a/4, a/5, a/6.",
-    ":- chr_constraint a234567890123456789012345678901x/0. :- chr_weight a234567890123456789012345678901x/0 = 1000000.",
-    ":- chr_constraint a/0. x234567890123456789012345678901y @ a <=> true.",
-    ":- chr_constraint a/2, b/4. a(_,X), b(Y,_,X,Z) \\ a(Z,_), a(_,_) <=> X < Y, Z =\\= 4, 3 >= X | b(X,Y,Z,-5), a(0,0).",
-    ":- chr_constraint e/2. :- chr_weight e/2 = 3. a @ e(X,Y) \\ e(X,Z) <=> Y =< Z | true. a @ e(1,2) <=> true.",
-    ":- chr_constraint truex/0, failing/0. truex @ truex <=> failing, failing, failing, failing, failing, failing, failing, failing.",
-];
-
-#[test]
-fn programs_come_back(rt: HostRuntime) {
-    expect_come_back(&rt, rt.alloc(), PROGRAMS_COME_BACK);
 }

@@ -1,5 +1,5 @@
 //! A program with as many parts as one may have, in a text as long as one may be.
-use super::{comes_back, is_rewritten, joined, push, push_number, push_numbered, repeated};
+use super::{is_rewritten, joined, push, push_number, push_numbered, repeated};
 use std::alloc::Global;
 use std::process::Abort;
 
@@ -159,5 +159,4 @@ fn a_full_program(rt: HostRuntime) {
     let canonical = full_program(&rt, alloc);
     let text = longest(&rt, alloc, &canonical);
     assert!(rt; is_rewritten(&rt, alloc, &text, &canonical));
-    assert!(rt; comes_back(&rt, alloc, &text));
 }
