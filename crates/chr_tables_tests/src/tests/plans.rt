@@ -1,29 +1,16 @@
-//! Keys, tests and plans of rules that are given as texts.
+//! Keys and tests in plans of rules that are given as texts.
 mod limits;
 
 use arrayvec::ArrayVec;
-use chr_base::limits::{MAX_COMPARISONS, MAX_HEADS};
+use chr_base::limits::MAX_HEADS;
 use chr_base::rule::Rule;
 use chr_base::term::Cmp;
-use chr_plans::key::{Key, Source, Test, pass, read_key, value_of};
+use chr_plans::key::{Key, Source, Test};
 use chr_plans::plan::Partner;
 use chr_plans::planning::plan_of;
-use chr_testing::atoms::atom;
 use chr_testing::texts::rule_of;
 use std::alloc::Global;
 use std::process::Abort;
-
-/// Places and columns of arguments, with the value there under the heads that are tried.
-const ARGUMENTS: [(usize, usize, i64); 4] = [(0, 1, -3), (1, 0, 5), (1, 1, 0), (2, 0, 0)];
-
-#[test]
-fn values_of_sources(rt: HostRuntime) {
-    let heads = [atom(0, &[7, -3]), atom(1, &[5])];
-    assert!(rt; value_of(&heads, Source::Constant(-9)) == -9);
-    for (place, column, value) in ARGUMENTS {
-        assert!(rt; value_of(&heads, Source::Argument { place, column }) == value);
-    }
-}
 
 /// A key by an argument of a head.
 fn argument(column: usize, place: usize, of: usize) -> Key {
@@ -38,53 +25,6 @@ fn constant(column: usize, value: i64) -> Key {
     Key {
         column,
         source: Source::Constant(value),
-    }
-}
-
-#[test]
-fn values_of_keys(rt: HostRuntime) {
-    let heads = [atom(0, &[7, -3]), atom(1, &[5])];
-    let mut key = ArrayVec::new();
-    key.push(argument(2, 0, 1));
-    key.push(constant(0, 4));
-    let mut values = ArrayVec::new();
-    read_key(&heads, &key, &mut values);
-    assert!(rt; values.as_slice() == [-3, 4].as_slice());
-    read_key(&heads, &ArrayVec::new(), &mut values);
-    assert!(rt; values.is_empty());
-}
-
-/// The test of one comparison, of the first argument of the first head and a constant.
-fn first_compared(cmp: Cmp, value: i64) -> ArrayVec<Test, MAX_COMPARISONS> {
-    let mut tests = ArrayVec::new();
-    tests.push(Test {
-        left: Source::Argument {
-            place: 0,
-            column: 0,
-        },
-        cmp,
-        right: Source::Constant(value),
-    });
-    tests
-}
-
-/// Comparisons of 7 with a value, and whether it passes.
-const COMPARED: [(Cmp, i64, bool); 7] = [
-    (Cmp::Less, 8, true),
-    (Cmp::Less, 7, false),
-    (Cmp::AtMost, 7, true),
-    (Cmp::Greater, 7, false),
-    (Cmp::AtLeast, 7, true),
-    (Cmp::Equal, -7, false),
-    (Cmp::NotEqual, -7, true),
-];
-
-#[test]
-fn heads_pass_tests(rt: HostRuntime) {
-    let heads = [atom(0, &[7])];
-    assert!(rt; pass(&heads, &ArrayVec::new()));
-    for (cmp, value, passes) in COMPARED {
-        assert!(rt; pass(&heads, &first_compared(cmp, value)) == passes);
     }
 }
 
@@ -125,54 +65,6 @@ fn expect_tests(rt: &impl Abort, plan: &[Partner], number: usize, place: usize, 
 
 fn copied(partner: &Partner) -> Partner {
     partner.copy()
-}
-
-const THREE_HEADS: &str = ":- chr_constraint a/1, b/1, c/3. a(X), b(Y), c(X, Y, 3) <=> a(Y).";
-
-#[test]
-fn the_longest_key_comes_first(rt: HostRuntime) {
-    let longest = [argument(0, 0, 0), constant(2, 3)];
-    let other = [argument(0, 2, 1)];
-    expect_keys(
-        &rt,
-        rt.alloc(),
-        THREE_HEADS,
-        0,
-        &[(2, &longest), (1, &other)],
-    );
-}
-
-/// Asserts that these are the columns of the partner's key.
-fn expect_columns(rt: &impl Abort, plan: &[Partner], number: usize, columns: &[usize]) {
-    assert!(rt; partner(rt, plan, number).columns().as_slice() == columns);
-}
-
-/// Asserts that a copy of the partner has this place, and the same key.
-fn expect_copy(rt: &impl Abort, plan: &[Partner], number: usize, place: usize) {
-    let partner = partner(rt, plan, number);
-    let copy = copied(partner);
-    assert!(rt; copy.place == place);
-    assert!(rt; copy.key.as_slice() == partner.key.as_slice());
-}
-
-#[test]
-fn partners_tell_their_columns_and_are_copied(rt: HostRuntime) {
-    let plan = plan(&rt, rt.alloc(), THREE_HEADS, 0);
-    expect_columns(&rt, &plan, 0, &[0, 2]);
-    expect_copy(&rt, &plan, 0, 2);
-}
-
-#[test]
-fn the_first_place_comes_first(rt: HostRuntime) {
-    let first = [argument(0, 2, 0)];
-    let second = [argument(0, 2, 1)];
-    expect_keys(
-        &rt,
-        rt.alloc(),
-        THREE_HEADS,
-        2,
-        &[(0, &first), (1, &second)],
-    );
 }
 
 const EQUATIONS: &str = ":- chr_constraint a/1, b/2. \

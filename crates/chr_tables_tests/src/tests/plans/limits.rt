@@ -89,12 +89,15 @@ fn expect_spans(rt: &impl Abort, rows: &[Row]) {
     }
 }
 
-const SIGNS: [Row; 5] = [
+/// Where no value is below or above, the one at the end stays, and the rule decides.
+const SIGNS: [Row; 7] = [
     (Cmp::Less, 7, None, Some(6)),
     (Cmp::AtMost, 7, None, Some(7)),
     (Cmp::Greater, 7, Some(8), None),
     (Cmp::AtLeast, 7, Some(7), None),
     (Cmp::Equal, 7, None, None),
+    (Cmp::Less, i64::MIN, None, Some(i64::MIN)),
+    (Cmp::Greater, i64::MAX, Some(i64::MAX), None),
 ];
 
 #[test]
@@ -112,23 +115,6 @@ fn an_inequality_leaves_out_one_value(rt: HostRuntime) {
     assert!(rt; both == alone(1, but_seven.at_least(4)));
     let first = span_of_both(by_constant(1, Cmp::NotEqual, 5), by_known(1, Cmp::NotEqual));
     assert!(rt; first == alone(1, Range::default().but(5)));
-}
-
-/// Where no value is below or above, the one at the end stays, and the rule decides.
-const AT_THE_ENDS: [Row; 8] = [
-    (Cmp::Less, i64::MIN, None, Some(i64::MIN)),
-    (Cmp::Less, i64::MAX, None, Some(i64::MAX - 1)),
-    (Cmp::AtMost, i64::MIN, None, Some(i64::MIN)),
-    (Cmp::AtMost, i64::MAX, None, Some(i64::MAX)),
-    (Cmp::Greater, i64::MIN, Some(i64::MIN + 1), None),
-    (Cmp::Greater, i64::MAX, Some(i64::MAX), None),
-    (Cmp::AtLeast, i64::MIN, Some(i64::MIN), None),
-    (Cmp::AtLeast, i64::MAX, Some(i64::MAX), None),
-];
-
-#[test]
-fn spans_at_the_ends_of_all_values(rt: HostRuntime) {
-    expect_spans(&rt, &AT_THE_ENDS);
 }
 
 /// A limit's sign and source.
@@ -234,14 +220,6 @@ fn orders_come_before_inequalities(rt: HostRuntime) {
     }
 }
 
-#[test]
-fn no_limits_leave_all(rt: HostRuntime) {
-    assert!(rt; order_of(&[]) == Order::Unordered);
-    assert!(rt; span_under(&[atom(0, &[7])], &ArrayVec::new()) == Span::default());
-}
-
-const LOWER_ONES: &str = ":- chr_constraint p/2. p(A, B) \\ p(C, D) <=> A < C | true.";
-
 const WITHIN: &str =
     ":- chr_constraint range/2, at/1. range(L, H) \\ at(X) <=> L =< X, X < H | true.";
 
@@ -276,36 +254,9 @@ fn expect_order(rt: &impl Abort, plan: &[Partner], order: Order) {
     assert!(rt; partner.order == order && copied(partner).order == order);
 }
 
-#[test]
-fn an_order_limits_partners(rt: HostRuntime) {
-    let above = plan(&rt, rt.alloc(), LOWER_ONES, 0);
-    assert!(rt; only(&rt, &above).key.is_empty());
-    expect_limits(&rt, &above, &[limit_by(Cmp::Greater, 0, 0)]);
-    let below = plan(&rt, rt.alloc(), LOWER_ONES, 1);
-    expect_limits(&rt, &below, &[limit_by(Cmp::Less, 1, 0)]);
-}
-
-const SAME: &str = ":- chr_constraint a/1, b/1. a(X) \\ b(Y) <=> X =\\= Y | true.";
-
-#[test]
-fn an_inequality_limits_partners(rt: HostRuntime) {
-    let plan = plan(&rt, rt.alloc(), SAME, 0);
-    expect_limits(&rt, &plan, &[limit_by(Cmp::NotEqual, 0, 0)]);
-    expect_order(&rt, &plan, Order::By(0));
-}
-
 /// The span that the limits of the only partner of a plan leave under these heads.
 fn only_span(rt: &impl Abort, plan: &[Partner], heads: &[Atom]) -> Span {
     span_under(heads, &only(rt, plan).limits)
-}
-
-#[test]
-fn both_ends_limit_a_partner(rt: HostRuntime) {
-    let plan = plan(&rt, rt.alloc(), WITHIN, 0);
-    let ends = [limit_by(Cmp::AtLeast, 0, 0), limit_by(Cmp::Less, 0, 1)];
-    expect_limits(&rt, &plan, &ends);
-    let span = only_span(&rt, &plan, &[atom(0, &[3, 9])]);
-    assert!(rt; span == alone(0, range(Some(3), Some(8))));
 }
 
 /// `X < H`, where `H` is in the second column.

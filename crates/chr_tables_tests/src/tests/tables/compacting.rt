@@ -1,49 +1,10 @@
 //! Dead rows go.
-ghost use Rattle.std.specs.Prelude.{◌≡◌, length};
 
-use crate::tests::tables::{
-    Found, ROWS, columns, expect_found, has_row, insert, is_dead, kill, len_of, table,
-};
+use crate::tests::tables::{columns, insert};
 use chr_plans::key::Order;
 use chr_tables::table::Table;
 use std::alloc::Global;
 use std::process::Abort;
-
-fn compact(table: &mut Table)
-    ensures { table.new.keys ≡ table.old.keys }
-{
-    table.compact();
-}
-
-/// The table of the six rows, of which three have died and are gone.
-fn compacted(rt: &impl Abort, alloc: Global) -> Table
-    ensures { length result.keys ≡ 2 }
-{
-    let mut table = table(rt, alloc, &ROWS);
-    kill(rt, &mut table, &[0, 2, 5]);
-    compact(&mut table);
-    table
-}
-
-#[test]
-fn live_rows_move_together(rt: HostRuntime) {
-    let table = compacted(&rt, rt.alloc());
-    assert!(rt; len_of(&table) == 3);
-    assert!(rt; has_row(&table, 0, 0, &[1, 5, 3]));
-    assert!(rt; has_row(&table, 1, 1, &[1]));
-    assert!(rt; has_row(&table, 2, 0, &[1, 2, 3]));
-    assert!(rt; is_dead(&table, 3));
-}
-
-const MOVED: [Found; 3] = [(0, &[1], Some(2)), (0, &[7], None), (1, &[3, 5], Some(0))];
-
-#[test]
-fn rows_that_moved_are_found(rt: HostRuntime) {
-    let mut table = compacted(&rt, rt.alloc());
-    expect_found(&rt, &mut table, &MOVED);
-    insert(&rt, &mut table, 0, &[9]);
-    expect_found(&rt, &mut table, &[(0, &[9], Some(3))]);
-}
 
 /// An empty table with an index by the first argument, in the order of the second.
 fn ordered_table(rt: &impl Abort, alloc: Global) -> Table {

@@ -2,23 +2,6 @@
 
 use chr_tables::hash::{FIXED_SEED, key_hash};
 
-/// Values with their hash under the fixed seed.
-const HASHES: [(&[i64], u32); 6] = [
-    (&[], 1_332_534_557),
-    (&[0], 3_906_847_889),
-    (&[-1], 2_607_618_405),
-    (&[1, 2], 3_686_209_912),
-    (&[2, 1], 1_420_973_142),
-    (&[i64::MAX, i64::MIN, 0], 456_637_860),
-];
-
-#[test]
-fn hashes_of_keys(rt: HostRuntime) {
-    for (values, hash) in HASHES {
-        assert!(rt; key_hash(FIXED_SEED, values) == hash);
-    }
-}
-
 /// In how many of 256 slots the numbers below 256 lie under a seed, times this factor.
 fn slots_of_multiples(seed: u64, factor: i64) -> usize {
     let mut is_taken = [false; 256];
