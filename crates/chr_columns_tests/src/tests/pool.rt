@@ -57,30 +57,6 @@ pub fn put_values(rt: &(impl Abort + AllocGlobal), pool: &mut Columns, values: &
     insert(rt, pool, &atoms_at(rt, values));
 }
 
-/// Whether these atoms are there.
-pub fn has(rt: &(impl Abort + AllocGlobal), pool: &Columns, rows: &[(u16, &[i64])]) -> bool {
-    pool.has(&atoms_of(rt, rows))
-}
-
-/// Whether the first symbol is there at these values.
-pub fn has_values(rt: &(impl Abort + AllocGlobal), pool: &Columns, values: &[i64]) -> bool {
-    pool.has(&atoms_at(rt, values))
-}
-
-/// Takes these atoms out, if all of them are there.
-pub fn removes(
-    rt: &(impl Abort + AllocGlobal),
-    pool: &mut Columns,
-    rows: &[(u16, &[i64])],
-) -> bool {
-    pool.remove(&atoms_of(rt, rows))
-}
-
-/// Takes the first symbol out at these values, if all of them are there.
-pub fn removes_values(rt: &(impl Abort + AllocGlobal), pool: &mut Columns, values: &[i64]) -> bool {
-    pool.remove(&atoms_at(rt, values))
-}
-
 /// What is there.
 pub fn bag_of(rt: &(impl Abort + AllocGlobal), pool: &Columns) -> Bag {
     pool.bag(rt.alloc()).expect(rt, "memory")
@@ -89,11 +65,6 @@ pub fn bag_of(rt: &(impl Abort + AllocGlobal), pool: &Columns) -> Bag {
 /// Whether these atoms, in order, are all that are there.
 pub fn has_just(rt: &(impl Abort + AllocGlobal), pool: &Columns, rows: &[(u16, &[i64])]) -> bool {
     bag_of(rt, pool).atoms() == atoms_of(rt, rows).as_slice()
-}
-
-/// Whether the first symbol at these values, in order, is all that is there.
-pub fn has_just_values(rt: &(impl Abort + AllocGlobal), pool: &Columns, values: &[i64]) -> bool {
-    bag_of(rt, pool).atoms() == atoms_at(rt, values).as_slice()
 }
 
 /// Whether a step was taken.

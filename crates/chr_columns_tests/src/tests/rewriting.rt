@@ -7,7 +7,6 @@ use chr_base::derivation::{Derivation, Step};
 use chr_base::limits::MAX_HEADS;
 use chr_base::rule::Rule;
 use chr_base::weight::{DEFAULT_WEIGHT, Weight};
-use chr_columns::columns::Columns;
 use chr_rewrite::list::ListPool;
 use chr_rewrite::plain::{fired, plain_end, plain_rest};
 use chr_rewrite::pool::Pool;
@@ -166,40 +165,6 @@ fn pools_rest(rt: HostRuntime) {
     rest_each(&rt, &mut columns_for(&rt, &exclusive_rules(&rt)));
 }
 
-/// Fires the rule on the rows that the pool finds for it.
-fn fire_rows_found(rt: &impl Abort, pool: &mut Columns, rule: &Rule) {
-    let found = pool.find(rule).expect(rt, "rows");
-    pool.fire_rows(rule, &found).expect(rt, "memory");
-}
-
-/// Columns for `least` take steps of other rules.
-fn step_by_others(rt: &(impl Abort + AllocGlobal), pool: &mut Columns) {
-    let others = exclusive_rules(rt);
-    put(rt, pool, &[2, 5, 2]);
-    assert!(rt; has(rt, pool, &[2, 2, 5]));
-    assert!(rt; steps(rt, pool, &others));
-    assert!(rt; has_just(rt, pool, &[0, 5]));
-    assert!(rt; !steps(rt, pool, &others));
-    assert!(rt; finds_none(pool, &others[0]));
-}
-
-/// `Columns` under its own rules, under others, and again under its own.
-#[test]
-fn columns(rt: HostRuntime) {
-    let own = [least(&rt)];
-    let mut pool = columns_for(&rt, &own);
-    assert!(rt; !steps(&rt, &mut pool, &own));
-    step_by_others(&rt, &mut pool);
-    fire_rows_found(&rt, &mut pool, &own[0]);
-    assert!(rt; !steps(&rt, &mut pool, &own));
-    put(&rt, &mut pool, &[4]);
-    assert!(rt; steps(&rt, &mut pool, &own));
-    assert!(rt; !steps(&rt, &mut pool, &own));
-    assert!(rt; removes(&rt, &mut pool, &[0]));
-    assert!(rt; !has(&rt, &pool, &[0]));
-    assert!(rt; has_just(&rt, &pool, &[]));
-}
-
 /// A step of a rule on two heads: the rule's number, and the values of the heads.
 type Taken = (u32, i64, i64);
 
@@ -302,21 +267,4 @@ fn replayed(rt: HostRuntime) {
     }
     expect_replayed(&rt, &weighed, &PLAIN);
     assert!(rt; is_plain(&rt, &weighed, &store(&rt, &ONES), &PLAIN));
-}
-
-/// Steps from `xor(0), xor(1), xor(1)`, and the place of the first that isn't there.
-const NOT_THERE: [(&[Taken], usize); 4] = [
-    (&[(1, 1, 1), (1, 1, 1), (1, 0, 0)], 1),
-    (&[(1, 0, 1)], 0),
-    (&[(2, 1, 0), (3, 1, 1)], 1),
-    (&[(0, 1, 1)], 0),
-];
-
-#[test]
-fn not_there(rt: HostRuntime) {
-    let weighed = weighed(&rt, EXCLUSIVE);
-    for (taken, place) in NOT_THERE {
-        let fault = replay_of(&rt, &weighed, &[0, 1, 1], taken).err();
-        assert!(rt; fault == Some(ReplayFault::NotThere(place)));
-    }
 }

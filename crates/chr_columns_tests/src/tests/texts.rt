@@ -1,5 +1,5 @@
 //! The text of a store that is written from the rows of pools.
-use crate::tests::pool::{columns_for, put, removes, rule, steps};
+use crate::tests::pool::{columns_for, put, rule, steps};
 use chr_base::atom::Atom;
 use chr_base::bag::Bag;
 use chr_base::program::Program;
@@ -120,24 +120,6 @@ fn what_has_no_text_here(rt: HostRuntime) {
     assert!(rt; are_written(&rt, &[fresh], None));
 }
 
-#[test]
-fn rows_that_died(rt: HostRuntime) {
-    let rules = [rule(&rt, PROGRAM)];
-    let mut pool = pool_with(&rt, &rules, &IN_NO_ORDER);
-    assert!(rt; removes(&rt, &mut pool, &[(0, &[0, 5]), (1, &[-7])]));
-    assert!(rt; are_written(&rt, &[pool], Some("a(2), b(0,-3), b(1,2)")));
-}
-
-#[test]
-fn one_store_in_two_pools(rt: HostRuntime) {
-    let rules = [rule(&rt, PROGRAM)];
-    let pools = [
-        pool_with(&rt, &rules, &[(1, &[3]), (0, &[0, 1]), (1, &[1])]),
-        pool_with(&rt, &rules, &[(1, &[2]), (0, &[0, 0])]),
-    ];
-    assert!(rt; are_written(&rt, &pools, Some("a(1), a(2), a(3), b(0,0), b(0,1)")));
-}
-
 /// So many rows have two pools together that several threads write them.
 const MANY: usize = 24_000;
 
@@ -180,13 +162,4 @@ fn many_rows_by_several_threads(rt: HostRuntime) {
     for threads in 1..=3 {
         assert!(rt; are_written_by(&rt, threads, &pools, Some(text.as_str())));
     }
-}
-
-#[test]
-fn many_rows_with_one_that_is_wide(rt: HostRuntime) {
-    let mut pools = two_pools(&rt, &many_atoms(&rt));
-    put(&rt, &mut pools[0], &[(4, &[1, 2, 3, 4])]);
-    let rules = [rule(&rt, PROGRAM)];
-    assert!(rt; !steps(&rt, &mut pools[0], &rules));
-    assert!(rt; are_written_by(&rt, 2, &pools, None));
 }

@@ -1,7 +1,7 @@
-//! Equal atoms in different rows, and atoms that move to other rows.
+//! Equal atoms in different rows.
 use crate::tests::pool::{
-    PAIRS, bag_of, columns_for, finds_none, fire_rows, found, has_heads, has_just_values,
-    is_rested, put_values, removes_values, row_of, rule, steps, take_rows,
+    bag_of, columns_for, finds_none, fire_rows, found, has_heads, is_rested, put_values, row_of,
+    rule, steps, take_rows,
 };
 use chr_base::rule::Rule;
 use chr_columns::columns::Columns;
@@ -91,23 +91,4 @@ fn rows_of_equal_atoms(rt: HostRuntime) {
         expect_one_left(&rt, &rule, rested, false);
         expect_one_left(&rt, &rule, rested, true);
     }
-}
-
-/// Heads that sit in other rows by now. Where wanted, they were at rest.
-fn expect_moved(rt: &(impl Abort + AllocGlobal), rule: &Rule, rests: bool) {
-    let mut pool = columns_for(rt, &[]);
-    put_values(rt, &mut pool, &[4, 9, 9]);
-    settle(rt, &mut pool, rests);
-    let nines = found(rt, &pool, rule);
-    assert!(rt; removes_values(rt, &mut pool, &[4, 9]));
-    put_values(rt, &mut pool, &[2, 9]);
-    take_rows(rt, &mut pool, rule, &nines);
-    assert!(rt; has_just_values(rt, &pool, &[2]));
-}
-
-#[test]
-fn rows_of_atoms_that_moved(rt: HostRuntime) {
-    let rule = rule(&rt, PAIRS);
-    expect_moved(&rt, &rule, false);
-    expect_moved(&rt, &rule, true);
 }
