@@ -8,6 +8,3 @@ mod counter;
 mod law;
 
 pub use counter::{ClaimSeat, Claims};
-
-#[cfg(test)]
-mod tests;

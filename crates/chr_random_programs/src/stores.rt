@@ -1,9 +1,9 @@
 //! Stores of a program's atoms, made at random.
+use crate::instances::{Heads, heads_at, instances, variables};
+use crate::order_types::{constants, values};
 use chr_base::atom::Atom;
 use chr_base::bag::Bag;
 use chr_base::rule::Rule;
-use chr_slow_steps::instances::{Heads, heads_at, instances, variables};
-use chr_slow_steps::order_types::{constants, values};
 use chr_testing::atoms::{add_copies, atom};
 use chr_testing::random::Random;
 use std::alloc::{AllocError, Global};

@@ -1,4 +1,6 @@
-//! Replicas are told, merge, lease out, take back and show, on programs and stores that are given as texts.
+//! Replicas are told, merge, lease out, take back and show, on programs and stores that are given as texts; acts on
+//! them, and books; and workers that rest them.
+mod acts;
 mod boards;
 mod exchanges;
 mod leases;

@@ -1,9 +1,14 @@
-//! Runs and services over memory, and over readers and writers that fail. Where memory runs out a test ends.
+//! Words, devices, kept threads, and runs and services over memory and over readers and writers that fail. Where
+//! memory runs out a test ends.
 ghost use Rattle.chr_device.specs.Settings.{IsWithinLimits};
 
+mod crews;
 mod devices;
+mod refusals;
 mod serving;
 mod sharing;
+mod whole;
+mod words;
 
 use chr_report::{Settings, Status, Style, Verb, Watched, run};
 use std::alloc::Global;

@@ -1,12 +1,13 @@
-//! Calls of seats at shared books, and their receipts; and seats in threads of their own.
+//! Calls of seats at shared books, and their receipts; seats in threads of their own; and an auction as an example.
 ghost use Rattle.std.specs.Prelude.{◌≡◌};
 
+mod auction;
 mod calls;
 mod refusals;
 mod rows;
 mod threads;
 
-use chr_shared::{MAX_SEATS, Naming, Opening, Seat, Shared};
+use chr_shared::{Naming, Opening, Seat, Shared};
 use chr_shared_testing::{MINIMUM, accepted, opening};
 use std::alloc::Global;
 use std::process::Abort;
@@ -24,9 +25,4 @@ fn opened<J: Naming, R: Abort>(rt: &R, alloc: Global, opening: Opening) -> (Shar
 {
     let opened = Shared::<J>::open(alloc, opening).ok();
     opened.expect(rt, "memory")
-}
-
-#[test]
-fn the_most_seats_have_this_number(rt: HostRuntime) {
-    assert!(rt; MAX_SEATS == 16);
 }

@@ -2,4 +2,3 @@
 mod commands;
 mod compact;
 mod faults;
-mod limits;

@@ -95,25 +95,8 @@ fn expect_deltas(rt: &impl Abort, alloc: Global, rows: &[(&str, &str)]) {
     }
 }
 
-/// Compares the refusal of each text of a summary.
-fn expect_refused_summaries(rt: &impl Abort, alloc: Global, texts: &[&str], refusal: &str) {
-    for text in texts {
-        let found = summary_answer(rt, alloc, text.as_bytes());
-        expect_found(rt, text, found.as_str(), refusal);
-    }
-}
-
-/// Compares the refusal of each text of a delta.
-fn expect_refused_deltas(rt: &impl Abort, alloc: Global, texts: &[&str], refusal: &str) {
-    let program = four_symbols(rt, alloc);
-    for text in texts {
-        let found = delta_answer(rt, alloc, &program, text.as_bytes());
-        expect_found(rt, text, found.as_str(), refusal);
-    }
-}
-
-/// Texts of summaries, and the texts that are written of what they mean.
-const SUMMARIES: [(&str, &str); 10] = [
+/// Texts of summaries, and the texts that are written of what they mean, or how they are refused.
+const SUMMARIES: [(&str, &str); 15] = [
     ("[]", "[]"),
     (" [ [ 5 , [ [ 9 , 9 ] ] ] ]\n", "[[5,[[9,9]]]]"),
     ("[[5,[]]]", "[]"),
@@ -133,47 +116,16 @@ const SUMMARIES: [(&str, &str); 10] = [
         "[[0,[[18446744073709551615,18446744073709551615],[0,0]]],[1,[[0,0]]]]",
         "[[0,[[0,0],[18446744073709551615,18446744073709551615]]],[1,[[0,0]]]]",
     ),
+    ("[[5,[[9,9]]],[5,[[10,9]]]]", "refused 31"),
+    ("[[4294967296,[]]]", "refused 31"),
+    ("[[5,[[1,18446744073709551616]]]]", "refused 31"),
+    ("[[5,[[1,2.0]]]]", "refused 31"),
+    ("[2,[]]", "refused 31"),
 ];
 
 #[test]
 fn summaries_are_read_in_any_order(rt: HostRuntime) {
     expect_summaries(&rt, rt.alloc(), &SUMMARIES);
-}
-
-const NO_SUMMARIES: [&str; 28] = [
-    "null",
-    "1",
-    "\"[]\"",
-    "{}",
-    "[5]",
-    "[[]]",
-    "[[5]]",
-    "[[5,[],[]]]",
-    "[[5,{}]]",
-    "[[5,5]]",
-    "[[\"5\",[]]]",
-    "[[4294967296,[]]]",
-    "[[-1,[]]]",
-    "[[5.0,[]]]",
-    "[[5e0,[]]]",
-    "[[5,[1,2]]]",
-    "[[5,[[]]]]",
-    "[[5,[[1]]]]",
-    "[[5,[[1,2,3]]]]",
-    "[[5,[[1,\"2\"]]]]",
-    "[[5,[[1,2.0]]]]",
-    "[[5,[[1,1e1]]]]",
-    "[[5,[[-1,2]]]]",
-    "[[5,[[1,18446744073709551616]]]]",
-    "[[5,[[10,9]]]]",
-    "[[5,[[9,9]]],[5,[[10,9]]]]",
-    "[[[1,1],[[\"a\",0]]]]",
-    "[2,[]]",
-];
-
-#[test]
-fn other_values_are_no_summaries(rt: HostRuntime) {
-    expect_refused_summaries(&rt, rt.alloc(), &NO_SUMMARIES, "refused 31");
 }
 
 /// Whether the text is no JSON value, and so no summary.
@@ -186,15 +138,8 @@ fn is_no_delta(alloc: Global, program: &Program, text: &[u8]) -> bool {
     read_delta(alloc, program, text).err() == Some(MessageFault::BadJson)
 }
 
-#[test]
-fn other_texts_are_no_summaries(rt: HostRuntime) {
-    let alloc = rt.alloc();
-    assert!(rt; is_no_summary(alloc, b"[[5,[[1,1]]]"));
-    assert!(rt; is_no_summary(alloc, b"[\"\xff\"]"));
-}
-
 /// Deltas of version 1, and the texts of version 1 that are written of their operations, or their refusals.
-const DELTAS_1: [(&str, &str); 23] = [
+const DELTAS_1: [(&str, &str); 26] = [
     ("[]", "[]"),
     (
         "[[[5,9],[[\"a\",2],[\"a\",-1]]]]",
@@ -248,15 +193,13 @@ const DELTAS_1: [(&str, &str); 23] = [
     ),
     ("[[[1,1],[[\"c\",0]]],[[1],[[\"a\",0]]]]", "refused 31"),
     ("[[[1,1],[[\"c\",0]]],[[1,2],[[\"a\",0.5]]]]", "refused 31"),
+    ("[[[1,1],[]]]", "refused 31"),
+    ("[[[4294967296,1],[[\"a\",0]]]]", "refused 31"),
+    ("[[[1,1],[[\"a\",9223372036854775808]]]]", "refused 31"),
 ];
 
-#[test]
-fn deltas_of_version_1_are_read(rt: HostRuntime) {
-    expect_deltas(&rt, rt.alloc(), &DELTAS_1);
-}
-
 /// Deltas of version 2, and the same of them.
-const DELTAS_2: [(&str, &str); 9] = [
+const DELTAS_2: [(&str, &str); 14] = [
     ("[2,[]]", "[]"),
     ("[2,[[6,[]]]]", "[]"),
     (
@@ -275,122 +218,17 @@ const DELTAS_2: [(&str, &str); 9] = [
     ("[2,[[5,[[9,[[\"c\"]]]]]]]", "refused 32"),
     ("[2,[[5,[[9,[[\"b\",1]]]]]]]", "refused 32"),
     ("[2,[[5,[[9,[[\"c\"]]]]],[6,[[1]]]]]", "refused 31"),
+    ("[3,[]]", "refused 31"),
+    ("[2]", "refused 31"),
+    ("[2.0,[]]", "refused 31"),
+    ("[2,[[5,[[9,[]]]]]]", "refused 31"),
+    ("[2,[[[5,9],[[\"b\"]]]]]", "refused 31"),
 ];
 
 #[test]
-fn deltas_of_version_2_are_read(rt: HostRuntime) {
+fn deltas_of_both_versions_are_read(rt: HostRuntime) {
+    expect_deltas(&rt, rt.alloc(), &DELTAS_1);
     expect_deltas(&rt, rt.alloc(), &DELTAS_2);
-}
-
-const NO_DELTAS: [&str; 62] = [
-    "null",
-    "true",
-    "7",
-    "\"[]\"",
-    "{}",
-    "[null]",
-    "[\"2\",[]]",
-    "[[]]",
-    "[[1,1],[[\"a\",0]]]",
-    "[[[1,1]]]",
-    "[[[1,1],[[\"a\",0]],1]]",
-    "[[[],[[\"a\",0]]]]",
-    "[[[1],[[\"a\",0]]]]",
-    "[[[1,1,1],[[\"a\",0]]]]",
-    "[[[1,-1],[[\"a\",0]]]]",
-    "[[[-1,1],[[\"a\",0]]]]",
-    "[[[1.0,1],[[\"a\",0]]]]",
-    "[[[1,1e0],[[\"a\",0]]]]",
-    "[[[\"1\",1],[[\"a\",0]]]]",
-    "[[[4294967296,1],[[\"a\",0]]]]",
-    "[[[1,18446744073709551616],[[\"a\",0]]]]",
-    "[[[1,1],[]]]",
-    "[[[1,1],{\"a\":0}]]",
-    "[[[1,1],[\"a\",0]]]",
-    "[[[1,1],[[]]]]",
-    "[[[1,1],[[1]]]]",
-    "[[[1,1],[[\"a\",9223372036854775808]]]]",
-    "[[[1,1],[[\"a\",-9223372036854775809]]]]",
-    "[[[1,1],[[\"a\",1.0]]]]",
-    "[[[1,1],[[\"a\",1e2]]]]",
-    "[[[1,1],[[\"a\",-0]]]]",
-    "[[[1,1],[[\"a\",\"1\"]]]]",
-    "[[[1,1],[[\"a\",null]]]]",
-    "[[[1,1],[[\"a\",[1]]]]]",
-    "[2]",
-    "[2,[],[]]",
-    "[2,{}]",
-    "[2,2]",
-    "[3,[]]",
-    "[1,[]]",
-    "[0,[]]",
-    "[-2,[]]",
-    "[2.0,[]]",
-    "[2e0,[]]",
-    "[2.5,[]]",
-    "[2,[[]]]",
-    "[2,[[5]]]",
-    "[2,[[5,[],[]]]]",
-    "[2,[[\"5\",[]]]]",
-    "[2,[[-1,[]]]]",
-    "[2,[[4294967296,[]]]]",
-    "[2,[[5,{}]]]",
-    "[2,[[5,[9]]]]",
-    "[2,[[5,[[9]]]]]",
-    "[2,[[5,[[9,[]]]]]]",
-    "[2,[[5,[[9,[[\"b\"]],1]]]]]",
-    "[2,[[5,[[-9,[[\"b\"]]]]]]]",
-    "[2,[[5,[[9.5,[[\"b\"]]]]]]]",
-    "[2,[[5,[[18446744073709551616,[[\"b\"]]]]]]]",
-    "[2,[[[5,9],[[\"b\"]]]]]",
-    "[[2,[]]]",
-    "[[5,[[9,[[\"b\"]]]]]]",
-];
-
-#[test]
-fn other_values_are_no_deltas(rt: HostRuntime) {
-    expect_refused_deltas(&rt, rt.alloc(), &NO_DELTAS, "refused 31");
-}
-
-const NO_VALUES: [&str; 14] = [
-    "",
-    " ",
-    "[",
-    "[]]",
-    "[] []",
-    "[,]",
-    "[[[1,1],[[\"a\",0]],]]",
-    "[[[1,1],[['a',0]]]]",
-    "[[[1,1],[[\"a\",01]]]]",
-    "[[[1,1],[[\"a\",+1]]]]",
-    "[[[1,1],[[\"a\",1.]]]]",
-    "[[[1,1],[[\"a\",1e400]]]]",
-    "[[[1,1],[[\"a\",NaN]]]]",
-    "[2,[[5,[[9,[[\"b]]]]]]]",
-];
-
-#[test]
-fn other_texts_are_no_values(rt: HostRuntime) {
-    expect_refused_deltas(&rt, rt.alloc(), &NO_VALUES, "refused 30");
-}
-
-/// A bag of so many atoms `b`, as a text of version 1.
-fn delta_of_size(rt: &impl Abort, alloc: Global, atoms: usize) -> String {
-    let mut text = String::from_str(alloc, "[[[1,1],[[\"b\"]").expect(rt, "memory");
-    for _ in 1..atoms {
-        text.push_str(",[\"b\"]").expect(rt, "memory");
-    }
-    text.push_str("]]]").expect(rt, "memory");
-    text
-}
-
-#[test]
-fn operations_have_1_to_64_atoms(rt: HostRuntime) {
-    let alloc = rt.alloc();
-    let full = delta_of_size(&rt, alloc, 64);
-    expect_deltas(&rt, alloc, &[(full.as_str(), full.as_str())]);
-    let more = delta_of_size(&rt, alloc, 65);
-    expect_refused_deltas(&rt, alloc, &[more.as_str()], "refused 31");
 }
 
 const SUMMARY: &str = "[[1,[[4,4]]],[2,[[7,7]]]]";
@@ -434,12 +272,6 @@ fn messages_are_written(rt: HostRuntime) {
     let set = two_operations(&rt, alloc, &program);
     expect_summary(&rt, alloc, &set, SUMMARY);
     expect_written(&rt, alloc, &program, &set, (DELTA, DELTA_1));
-}
-
-#[test]
-fn messages_of_nothing_are_written(rt: HostRuntime) {
-    let alloc = rt.alloc();
-    let program = four_symbols(&rt, alloc);
     let empty = OpSet::new(alloc);
     expect_summary(&rt, alloc, &empty, "[]");
     expect_written(&rt, alloc, &program, &empty, ("[2,[]]", "[]"));
@@ -504,11 +336,6 @@ fn op_in(rt: &impl Abort, alloc: Global, id: &str, atoms: &str) -> Result<Op, Me
     op_of(alloc, &program, &id, &value(rt, alloc, atoms))
 }
 
-/// Whether there is no such operation, for this cause.
-fn is_no_op(rt: &impl Abort, alloc: Global, id: &str, atoms: &str, fault: MessageFault) -> bool {
-    op_in(rt, alloc, id, atoms).err() == Some(fault)
-}
-
 const ATOMS: &str = "[[\"a\",2],[\"a\",-1]]";
 
 #[test]
@@ -520,17 +347,4 @@ fn values_of_operations_are_read(rt: HostRuntime) {
     };
     assert!(rt; op.id() == name);
     assert!(rt; op.bag().len() == 2);
-}
-
-#[test]
-fn values_of_no_operations_are_refused(rt: HostRuntime) {
-    let alloc = rt.alloc();
-    let unknown = "[[\"c\"]]";
-    assert!(rt; is_no_op(&rt, alloc, "[5,9]", unknown, MessageFault::UnknownSymbol));
-    assert!(rt; is_no_op(&rt, alloc, ATOMS, unknown, MessageFault::Shape));
-}
-
-#[test]
-fn want_of_memory_has_a_number(rt: HostRuntime) {
-    assert!(rt; MessageFault::Memory.number() == 99);
 }

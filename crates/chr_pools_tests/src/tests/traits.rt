@@ -2,7 +2,7 @@
 use crate::tests::count;
 use chr_base::rule::Rule;
 use chr_base::term::{Cmp, Pattern, Term};
-use chr_slow_steps::instances::{head, places};
+use chr_random_programs::instances::{head, places};
 
 /// The comparisons in the order in which they are counted.
 const COMPARISONS: [Cmp; 6] = [

@@ -1,41 +1,15 @@
-//! Boards are told operations, merge those of others, and take named steps.
-use crate::tests::boards::{grow, opened, settles, tells, told};
-use crate::tests::texts::{op, step};
-use chr_ops::{Added, Op, OpId};
+//! Boards are told operations, and merge those of others.
+use crate::tests::boards::{grow, opened, settles, told};
+use crate::tests::texts::op;
+use chr_ops::{Op, OpId};
 use chr_replica::{Board, Refusal};
-use chr_testing::texts::{COINS, MINIMUM};
+use chr_testing::texts::MINIMUM;
 use std::alloc::Global;
 use std::process::Abort;
 use std::thread::Threads;
 
 /// The program, number and atoms of an operation.
 type Row = (&'static str, u64, &'static str);
-
-/// A board that was told 5 answers so to an operation, and stays as it is.
-fn answers(
-    rt: &(impl Abort + Threads + Sync),
-    alloc: Global,
-    row: Row,
-    expected: Result<Added, Refusal>,
-) {
-    let (program, number, atoms) = row;
-    let mut board = told(rt, alloc, MINIMUM, "min(5)");
-    let op = op(rt, alloc, program, number, atoms);
-    assert!(rt; tells(alloc, &mut board, op, expected), "{atoms}");
-    settles(rt, alloc, &mut board, 0, "min(5)");
-}
-
-#[test]
-fn repeats_are_told_again(rt: HostRuntime) {
-    let again = (MINIMUM, 1, "min(5)");
-    answers(&rt, rt.alloc(), again, Ok(Added::Again));
-}
-
-#[test]
-fn symbols_of_other_programs_are_not_told(rt: HostRuntime) {
-    let unknown = (COINS, 3, "note");
-    answers(&rt, rt.alloc(), unknown, Err(Refusal::UnknownSymbol));
-}
 
 fn ops(rt: &impl Abort, alloc: Global, rows: &[Row]) -> Vec<Op> {
     let mut ops = Vec::new(alloc);
@@ -69,61 +43,6 @@ fn merges_with_a_clash_change_nothing(rt: HostRuntime) {
         number: 1,
     };
     refuses(&rt, rt.alloc(), &CLASH, Refusal::Clash(id));
-}
-
-/// An operation whose id stands for another bag, and one of another program.
-const CLASH_AND_UNKNOWN: [Row; 2] = [(MINIMUM, 1, "min(6)"), (COINS, 3, "note")];
-
-#[test]
-fn an_unknown_symbol_comes_before_a_clash(rt: HostRuntime) {
-    refuses(&rt, rt.alloc(), &CLASH_AND_UNKNOWN, Refusal::UnknownSymbol);
-}
-
-/// A new operation, one that is held, and the new one again.
-const ONE_NEW: [Row; 3] = [
-    (MINIMUM, 2, "min(1)"),
-    (MINIMUM, 1, "min(5)"),
-    (MINIMUM, 2, "min(1)"),
-];
-
-#[test]
-fn merges_are_counted(rt: HostRuntime) {
-    let alloc = rt.alloc();
-    let mut board = told(&rt, alloc, MINIMUM, "min(5)");
-    let ops = ops(&rt, alloc, &ONE_NEW);
-    for new in [1, 0] {
-        assert!(rt; merges(alloc, &mut board, &ops, Ok(new)), "{new}");
-    }
-    settles(&rt, alloc, &mut board, 1, "min(1)");
-}
-
-/// Heads of the first rule, in place order, and why the step on them is refused, in turn.
-const STEPS: [(&str, Option<Refusal>); 3] = [
-    ("min(9), min(5)", Some(Refusal::NotThere)),
-    ("min(5), min(9)", None),
-    ("min(5), min(9)", Some(Refusal::NotThere)),
-];
-
-/// Whether the board answers so to the first rule's step on these heads.
-fn steps(
-    rt: &impl Abort,
-    alloc: Global,
-    board: &mut Board,
-    on: &str,
-    expected: Option<Refusal>,
-) -> bool {
-    let step = step(rt, alloc, MINIMUM, 1, on);
-    board.step(&step).err() == expected
-}
-
-#[test]
-fn named_steps_are_taken(rt: HostRuntime) {
-    let alloc = rt.alloc();
-    let mut board = told(&rt, alloc, MINIMUM, "min(5), min(3), min(9)");
-    for (on, expected) in STEPS {
-        assert!(rt; steps(&rt, alloc, &mut board, on, expected), "{on}");
-    }
-    settles(&rt, alloc, &mut board, 1, "min(3)");
 }
 
 /// What the other board lacks of this one's operations.

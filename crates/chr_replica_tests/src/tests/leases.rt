@@ -1,11 +1,10 @@
-//! Boards lease parts out, and take back what comes of them or the parts as they are.
+//! Boards lease parts out, and take back the parts, and nothing that comes of them later.
 use crate::tests::boards::{settles, told};
 use crate::tests::texts::store;
 use chr_base::bag::Bag;
-use chr_base::limits::MAX_PARTS;
 use chr_join::{Done, Lease};
 use chr_replica::{Board, Refusal};
-use chr_testing::texts::{COINS, MINIMUM};
+use chr_testing::texts::MINIMUM;
 use std::alloc::Global;
 use std::process::Abort;
 use std::thread::Threads;
@@ -105,62 +104,20 @@ fn board_after(
     board
 }
 
-/// Such a board comes to rest in so many steps, and shows this store then.
-fn settles_after(
-    rt: &(impl Abort + Threads + Sync),
-    alloc: Global,
-    atoms: &str,
-    rows: &[(Call, Option<Refusal>)],
-    steps: u64,
-    end: &str,
-) {
-    let mut board = board_after(rt, alloc, atoms, rows);
-    settles(rt, alloc, &mut board, steps, end);
-}
-
-const LATE: [(Call, Option<Refusal>); 5] = [
+const LATE: [(Call, Option<Refusal>); 6] = [
     (Call::Show, Some(Refusal::NotAtRest)),
     (Call::Take(1, "min(5)"), None),
     (Call::Show, Some(Refusal::Leased(1))),
     (Call::Recall(1), None),
     (Call::Put, Some(Refusal::NoLease(1))),
+    (Call::Take(2, "min(7)"), Some(Refusal::NotThere)),
 ];
 
 #[test]
 fn a_late_return_is_refused(rt: HostRuntime) {
-    settles_after(&rt, rt.alloc(), "min(5), min(3)", &LATE, 1, "min(3)");
-}
-
-const UNSETTLED: [(Call, Option<Refusal>); 3] = [
-    (Call::Show, Some(Refusal::NotAtRest)),
-    (Call::Take(1, "min(5)"), None),
-    (Call::Show, Some(Refusal::Leased(1))),
-];
-
-#[test]
-fn unsettled_boards_show_nothing(rt: HostRuntime) {
-    board_after(&rt, rt.alloc(), "min(5), min(3)", &UNSETTLED);
-}
-
-const NOT_THERE: [(Call, Option<Refusal>); 1] = [(
-    Call::Take(1, "min(7)"),
-    Some(Refusal::NotThere),
-)];
-
-#[test]
-fn only_what_is_there_is_leased(rt: HostRuntime) {
-    settles_after(&rt, rt.alloc(), "min(3)", &NOT_THERE, 0, "min(3)");
-}
-
-const RECALLED_TWICE: [(Call, Option<Refusal>); 3] = [
-    (Call::Take(1, "min(5)"), None),
-    (Call::Recall(1), None),
-    (Call::Recall(1), Some(Refusal::NoLease(1))),
-];
-
-#[test]
-fn a_lease_is_recalled_once(rt: HostRuntime) {
-    board_after(&rt, rt.alloc(), "min(5), min(3)", &RECALLED_TWICE);
+    let alloc = rt.alloc();
+    let mut board = board_after(&rt, alloc, "min(5), min(3)", &LATE);
+    settles(&rt, alloc, &mut board, 1, "min(3)");
 }
 
 /// Whether so many leases are out, the least of which has this number.
@@ -185,86 +142,4 @@ fn leases_that_are_out_are_known(rt: HostRuntime) {
     let part = store(&rt, alloc, MINIMUM, "min(5), min(9)");
     assert!(rt; hands_out(alloc, &board, 1, &part));
     assert!(rt; has_out(&board, 1, Some(1)));
-}
-
-const PUT: [(Call, Option<Refusal>); 2] = [
-    (Call::Take(1, "min(5), min(9)"), None),
-    (Call::Put, None),
-];
-
-#[test]
-fn what_comes_of_a_lease_is_put(rt: HostRuntime) {
-    let alloc = rt.alloc();
-    let mut board = board_after(&rt, alloc, "min(5), min(3), min(9)", &PUT);
-    assert!(rt; has_out(&board, 0, None));
-    settles(&rt, alloc, &mut board, 1, "min(3)");
-}
-
-const PUT_TWICE: [(Call, Option<Refusal>); 3] = [
-    (Call::Take(1, "min(5), min(9)"), None),
-    (Call::Put, None),
-    (Call::Put, Some(Refusal::NoLease(1))),
-];
-
-#[test]
-fn a_second_return_is_refused(rt: HostRuntime) {
-    settles_after(
-        &rt,
-        rt.alloc(),
-        "min(5), min(3), min(9)",
-        &PUT_TWICE,
-        1,
-        "min(3)",
-    );
-}
-
-/// The leases of the parts into which the pool is cut.
-fn parts(rt: &impl Abort, alloc: Global, board: &mut Board, count: u32) -> Vec<Lease> {
-    assert!(rt; 1 <= count && count <= MAX_PARTS, "{count} parts");
-    board.take_parts(alloc, count).ok().expect(rt, "memory")
-}
-
-fn recall_all(rt: &impl Abort, board: &mut Board, leases: &[Lease]) {
-    for lease in leases {
-        assert!(rt; board.recall(lease.number).is_ok(), "not recalled");
-    }
-}
-
-/// The numbers of atoms of the leases' parts, the least first.
-fn sizes(rt: &impl Abort, alloc: Global, leases: &[Lease]) -> Vec<usize> {
-    let mut sizes = Vec::new(alloc);
-    for lease in leases {
-        sizes.push(lease.part.len()).expect(rt, "memory");
-    }
-    sizes.sort_unstable();
-    sizes
-}
-
-/// Numbers of parts into which a pool of five atoms is cut, and their sizes, the least first.
-const CUTS: [(u32, &[usize]); 3] = [(3, &[1, 2, 2]), (1, &[5]), (7, &[0, 0, 1, 1, 1, 1, 1])];
-
-/// Whether the pool is cut into parts of these sizes. They are all recalled.
-fn is_cut_into(
-    rt: &impl Abort,
-    alloc: Global,
-    board: &mut Board,
-    count: u32,
-    expected: &[usize],
-) -> bool {
-    let leases = parts(rt, alloc, board, count);
-    recall_all(rt, board, &leases);
-    sizes(rt, alloc, &leases).as_slice() == expected
-}
-
-#[test]
-fn parts_are_even(rt: HostRuntime) {
-    let alloc = rt.alloc();
-    let mut board = told(&rt, alloc, COINS, "coin, coin, coin, coin, coin");
-    for (count, expected) in CUTS {
-        assert!(rt;
-            is_cut_into(&rt, alloc, &mut board, count, expected),
-            "{count}"
-        );
-    }
-    settles(&rt, alloc, &mut board, 2, "coin, note, note");
 }

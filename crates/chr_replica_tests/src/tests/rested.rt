@@ -1,5 +1,5 @@
 //! Boards are told operations whose atoms were rested before: what came of these goes into the pool, or is leased out.
-ghost use Rattle.std.specs.Prelude.{◌≡◌, [], ◌∷◌, All};
+ghost use Rattle.std.specs.Prelude.{◌≡◌, [], ◌∷◌};
 ghost use Rattle.chr_base.specs.FinBag.{◌⊕◌};
 ghost use Rattle.chr_base.specs.Programs.{rules_of};
 ghost use Rattle.chr_base.specs.Rewriting.{Reaches};
@@ -7,11 +7,11 @@ ghost use Rattle.chr_base.specs.Rules.{Step};
 ghost use Rattle.chr_replica.specs.Boards.{program_on};
 ghost use Rattle.chr_replica.specs.Replicas.{IsDeclared};
 
-use crate::tests::boards::{opened, settles};
-use crate::tests::texts::{accepted, op, store};
+use crate::tests::boards::settles;
+use crate::tests::texts::{accepted, op};
 use chr_base::bag::Bag;
 use chr_ops::{Added, Op};
-use chr_replica::{Board, Refusal};
+use chr_replica::Board;
 use chr_testing::texts::MINIMUM;
 use std::alloc::Global;
 use std::process::Abort;
@@ -130,34 +130,6 @@ fn what_was_rested_goes_into_the_pool(rt: HostRuntime) {
         !goes_in(&rt, alloc, &mut board, &first, &end),
         "told again"
     );
-    settles(&rt, alloc, &mut board, 0, "min(3)");
-}
-
-#[test]
-fn what_was_rested_is_leased_out(rt: HostRuntime) {
-    let alloc = rt.alloc();
-    let (mut board, mut spare) = twins(&rt, alloc, MINIMUM);
-    let first = op(&rt, alloc, MINIMUM, 1, "min(5), min(3)");
-    tell(&rt, alloc, &mut spare, &first);
-    let part = rested(&rt, alloc, &mut spare, first.bag());
-    assert!(rt;
-        goes_out(&rt, alloc, &mut board, &first, &part) == Some(1),
-        "not leased out"
-    );
-    assert!(rt;
-        goes_out(&rt, alloc, &mut board, &first, &part).is_none(),
-        "told again"
-    );
-    assert!(rt;
-        board.has_leased(1, &store(&rt, alloc, MINIMUM, "min(3)")),
-        "another part"
-    );
-    assert!(rt; !board.has_leased(1, first.bag()), "what was told is out");
-    assert!(rt;
-        board.show(alloc).err() == Some(Refusal::Leased(1)),
-        "shown without the part"
-    );
-    assert!(rt; board.recall(1).is_ok(), "not recalled");
     settles(&rt, alloc, &mut board, 0, "min(3)");
 }
 

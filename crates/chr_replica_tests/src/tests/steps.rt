@@ -53,39 +53,23 @@ fn expect_ends(rt: &(impl Abort + Threads + Sync), alloc: Global, rows: &[Taken]
     }
 }
 
-const NO_STEPS: [Taken; 2] = [
+const ENDS: [Taken; 3] = [
     ("min(5), min(9)", &[], "min(5), min(9)"),
-    ("true", &[], "true"),
-];
-
-#[test]
-fn no_steps_are_taken(rt: HostRuntime) {
-    expect_ends(&rt, rt.alloc(), &NO_STEPS);
-}
-
-const ONE_STEP: [Taken; 2] = [
-    ("min(5), min(9)", &[(1, "min(5), min(9)")], "min(5)"),
     (
         "min(5), min(9), min(3)",
         &[(1, "min(5), min(9)")],
         "min(3), min(5)",
     ),
+    (
+        "min(5), min(9), min(3)",
+        &[(1, "min(5), min(9)"), (1, "min(3), min(5)")],
+        "min(3)",
+    ),
 ];
 
 #[test]
 fn steps_are_taken(rt: HostRuntime) {
-    expect_ends(&rt, rt.alloc(), &ONE_STEP);
-}
-
-const TWO_STEPS: [Taken; 1] = [(
-    "min(5), min(9), min(3)",
-    &[(1, "min(5), min(9)"), (1, "min(3), min(5)")],
-    "min(3)",
-)];
-
-#[test]
-fn steps_are_taken_in_turn(rt: HostRuntime) {
-    expect_ends(&rt, rt.alloc(), &TWO_STEPS);
+    expect_ends(&rt, rt.alloc(), &ENDS);
 }
 
 /// The place of the step that isn't there, where the lease of this part is handed back.
@@ -124,41 +108,20 @@ fn expect_missing(rt: &(impl Abort + Threads + Sync), alloc: Global, rows: &[Mis
     }
 }
 
-/// The heads turned, a rule 0, one atom twice, and one head.
-const FIRST: [Missing; 4] = [
+/// The heads turned, a rule 0, one atom twice, a step twice, and a step on nothing.
+const MISSING: [Missing; 5] = [
     ("min(5), min(9)", &[(1, "min(9), min(5)")], 0),
     ("min(5), min(9)", &[(0, "min(5), min(9)")], 0),
     ("min(5), min(9)", &[(1, "min(5), min(5)")], 0),
-    ("min(5), min(9)", &[(1, "min(5)")], 0),
-];
-
-#[test]
-fn first_steps_that_are_not_there(rt: HostRuntime) {
-    expect_missing(&rt, rt.alloc(), &FIRST);
-}
-
-const ON_NOTHING: [Missing; 1] = [("true", &[(1, "min(5), min(9)"), (1, "min(5), min(9)")], 0)];
-
-#[test]
-fn steps_are_missing_on_the_empty_store(rt: HostRuntime) {
-    expect_missing(&rt, rt.alloc(), &ON_NOTHING);
-}
-
-/// The step twice, and then one of no rule.
-const SECOND: [Missing; 2] = [
     (
         "min(5), min(9)",
         &[(1, "min(5), min(9)"), (1, "min(5), min(9)")],
         1,
     ),
-    (
-        "min(5), min(9)",
-        &[(1, "min(5), min(9)"), (2, "min(5), min(5)")],
-        1,
-    ),
+    ("true", &[(1, "min(5), min(9)")], 0),
 ];
 
 #[test]
-fn second_steps_that_are_not_there(rt: HostRuntime) {
-    expect_missing(&rt, rt.alloc(), &SECOND);
+fn steps_that_are_not_there_are_told(rt: HostRuntime) {
+    expect_missing(&rt, rt.alloc(), &MISSING);
 }

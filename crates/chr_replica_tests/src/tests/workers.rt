@@ -1,4 +1,5 @@
-//! Boards are rested by workers in parts, and come to the store of one worker.
+//! Workers claim parts and rest boards in them, which come to the store of one worker.
+mod claims;
 mod gates;
 mod joining;
 mod making;

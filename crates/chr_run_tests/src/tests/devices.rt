@@ -60,19 +60,13 @@ fn fails_after(
         && OUTPUT.get(..bytes) == Some(ended.written.as_slice())
 }
 
-/// A beginning of the output is written.
+/// A beginning of the output is written, and all of it before the flush, which is one call more.
 #[test]
 fn failing_writers(rt: HostRuntime) {
     let alloc = rt.alloc();
-    for bytes in 0..OUTPUT.len() {
+    for bytes in 0..=OUTPUT.len() {
         assert!(rt; fails_after(&rt, alloc, bytes), "after {bytes}");
     }
-}
-
-/// All is written before the flush, which is one call more.
-#[test]
-fn failing_flush(rt: HostRuntime) {
-    assert!(rt; fails_after(&rt, rt.alloc(), OUTPUT.len()));
 }
 
 /// How a run ends whose reader fails at this call.

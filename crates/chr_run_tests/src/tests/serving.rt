@@ -193,13 +193,6 @@ fn is_refused(
     status == Status::Refused && peer.waits == waits && peer.sent.as_slice() == line
 }
 
-/// A program that is refused ends it: the rest is not read.
-#[test]
-fn refused_programs_end_it(rt: HostRuntime) {
-    let line = b"refused 11: clause 1\n";
-    assert!(rt; is_refused(&rt, rt.alloc(), b"x\n---\n[\"show\",1]\n", 6, 1, line));
-}
-
 /// A comment of so many bytes, which does not end.
 fn comment(rt: &impl Abort, alloc: Global, len: usize) -> Vec<u8> {
     let mut text = Vec::new(alloc);
@@ -207,11 +200,14 @@ fn comment(rt: &impl Abort, alloc: Global, len: usize) -> Vec<u8> {
     text
 }
 
-/// A text that is too long is refused before its end was read.
+/// A program that is refused ends it, and a text that is too long, before its end was read: the rest is not read.
 #[test]
-fn long_texts_are_refused(rt: HostRuntime) {
-    let text = comment(&rt, rt.alloc(), 80_000);
-    assert!(rt; is_refused(&rt, rt.alloc(), &text, 4_096, 17, b"refused 2\n"));
+fn refused_programs_end_it(rt: HostRuntime) {
+    let alloc = rt.alloc();
+    let line = b"refused 11: clause 1\n";
+    assert!(rt; is_refused(&rt, alloc, b"x\n---\n[\"show\",1]\n", 6, 1, line));
+    let text = comment(&rt, alloc, 80_000);
+    assert!(rt; is_refused(&rt, alloc, &text, 4_096, 17, b"refused 2\n"));
 }
 
 /// Whether the writer's fault at this call is told, and a beginning of the output is written.

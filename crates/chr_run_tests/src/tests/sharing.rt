@@ -87,23 +87,18 @@ fn expect_answers(
     workers: u32,
 ) {
     for parts in PARTS {
-        assert!(rt; are_answered(rt, alloc, workers, parts), "{parts} parts");
+        assert!(rt;
+            are_answered(rt, alloc, workers, parts),
+            "{workers} workers, {parts} parts"
+        );
     }
 }
 
 #[test]
-fn one_worker_answers_exchanges(rt: HostRuntime) {
-    expect_answers(&rt, rt.alloc(), 1);
-}
-
-#[test]
-fn two_workers_answer_exchanges(rt: HostRuntime) {
-    expect_answers(&rt, rt.alloc(), 2);
-}
-
-#[test]
-fn sixteen_workers_answer_exchanges(rt: HostRuntime) {
-    expect_answers(&rt, rt.alloc(), 16);
+fn workers_answer_exchanges(rt: HostRuntime) {
+    for workers in [1, 2, 16] {
+        expect_answers(&rt, rt.alloc(), workers);
+    }
 }
 
 /// How many lines tell routes, in a short input, and in one that is rested by who reads it and ends in the same lines.

@@ -1,8 +1,5 @@
 //! Lines that are commands.
-use chr_json::{
-    Arguments, Command, DeltaVersion, RawAtom, RawOp, command_texts_are_said, commands_are_read,
-    is_blank, message_texts_are_read, read_line,
-};
+use chr_json::{Arguments, Command, DeltaVersion, RawAtom, RawOp, read_line};
 use chr_ops::{IdRange, OpId};
 use std::alloc::Global;
 use std::borrow::CowStr;
@@ -39,7 +36,7 @@ const TELL: &str =
     " [\"t\\u0065ll\",1,[4294967295,18446744073709551615],[[\"a\",2],[\"a\",-9223372036854775808]]]\t";
 
 #[test]
-fn tells_are_given(rt: HostRuntime) {
+fn commands_are_given(rt: HostRuntime) {
     let alloc = rt.alloc();
     let tell = Command::Tell {
         replica: 1,
@@ -48,21 +45,12 @@ fn tells_are_given(rt: HostRuntime) {
         atoms: atoms(&rt, alloc, &[2, -9223372036854775808]),
     };
     assert!(rt; is_given(alloc, TELL.as_bytes(), &tell));
-}
-
-#[test]
-fn replicas_are_shown_and_summed(rt: HostRuntime) {
-    let alloc = rt.alloc();
     let show = Command::Show { replica: 0 };
     assert!(rt; is_given(alloc, b"[\"show\",0]", &show));
     let summary = Command::Summary { replica: 2 };
     assert!(rt; is_given(alloc, b"[\"summary\",2]", &summary));
-}
-
-#[test]
-fn exchanges_are_given(rt: HostRuntime) {
     let sync = Command::Sync { from: 3, to: 0 };
-    assert!(rt; is_given(rt.alloc(), b"[\"sync\",3,0]", &sync));
+    assert!(rt; is_given(alloc, b"[\"sync\",3,0]", &sync));
 }
 
 /// Lines that ask what a replica has but the numbers 0 to 9 of the origin 5, with the version of the answer.
@@ -123,20 +111,4 @@ fn merges_are_given(rt: HostRuntime) {
     for line in MERGES {
         assert!(rt; is_given(alloc, line.as_bytes(), &merge), "at {line}");
     }
-}
-
-/// The laws are functions that do nothing.
-#[test]
-fn laws_are_called(_rt: HostRuntime) {
-    commands_are_read();
-    command_texts_are_said();
-    message_texts_are_read();
-}
-
-#[test]
-fn blank_lines_are_seen(rt: HostRuntime) {
-    assert!(rt; is_blank(b""));
-    assert!(rt; is_blank(b" \t "));
-    assert!(rt; !is_blank(b" \r"));
-    assert!(rt; !is_blank(b"[]"));
 }

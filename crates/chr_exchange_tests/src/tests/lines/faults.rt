@@ -1,5 +1,5 @@
-//! Lines that are no commands.
-use chr_json::{LineFault, read_line};
+//! Lines that are no commands, and the longest that is one.
+use chr_json::{Command, LineFault, MAX_LINE, read_line};
 use std::alloc::Global;
 use std::process::Abort;
 
@@ -45,11 +45,6 @@ const NO_COMMANDS: [&str; 28] = [
     "[\"merge\",1,[[[5,9],[]]]]",
 ];
 
-#[test]
-fn other_values_are_no_commands(rt: HostRuntime) {
-    expect_refused(&rt, rt.alloc(), &NO_COMMANDS, LineFault::Shape);
-}
-
 const NO_VALUES: [&str; 5] = [
     "",
     "[\"show\",1",
@@ -59,8 +54,9 @@ const NO_VALUES: [&str; 5] = [
 ];
 
 #[test]
-fn other_bytes_are_no_values(rt: HostRuntime) {
+fn other_lines_are_refused(rt: HostRuntime) {
     let alloc = rt.alloc();
+    expect_refused(&rt, alloc, &NO_COMMANDS, LineFault::Shape);
     expect_refused(&rt, alloc, &NO_VALUES, LineFault::BadLine);
     assert!(rt; is_refused(alloc, b"[\"\xff\",1]", LineFault::BadLine));
 }
@@ -81,4 +77,21 @@ fn values_end_at_their_depth(rt: HostRuntime) {
         let line = nested(&rt, alloc, depth);
         assert!(rt; is_refused(alloc, &line, fault), "{depth} deep");
     }
+}
+
+/// A show, and spaces to so many bytes.
+fn long_show(rt: &impl Abort, alloc: Global, len: usize) -> Vec<u8> {
+    let mut line = Vec::new(alloc);
+    line.extend_from_slice(b"[\"show\",1]").expect(rt, "memory");
+    line.resize(len, b' ').expect(rt, "memory");
+    line
+}
+
+#[test]
+fn lines_end_at_their_limit(rt: HostRuntime) {
+    let alloc = rt.alloc();
+    let last = long_show(&rt, alloc, MAX_LINE);
+    assert!(rt; read_line(alloc, &last) == Ok(Command::Show { replica: 1 }));
+    let long = long_show(&rt, alloc, MAX_LINE + 1);
+    assert!(rt; read_line(alloc, &long).err() == Some(LineFault::BadLine));
 }

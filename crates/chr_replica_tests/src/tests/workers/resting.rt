@@ -85,16 +85,7 @@ fn workers_come_to_the_least(rt: HostRuntime) {
     for (workers, parts, passes) in SHARED {
         come_to_the_least(&rt, rt.alloc(), MANY, workers, parts, passes);
     }
-}
-
-/// A board at rest may be rested again.
-#[test]
-fn boards_are_rested_again(rt: HostRuntime) {
-    let mut board = board(&rt, rt.alloc(), MANY);
-    for _ in 0..2 {
-        rest(&rt, rt.alloc(), &mut board, 4, 16, &OpenGate);
-        shows(&rt, rt.alloc(), &board, MANY);
-    }
+    come_to_the_least(&rt, rt.alloc(), FEW, 4, 16, 0);
 }
 
 /// The gate holds part 1 until part 2 has passed: one worker after the other would use its turns up.
@@ -105,11 +96,6 @@ fn two_workers_rest_two_parts_at_once(rt: HostRuntime) {
     rest(&rt, rt.alloc(), &mut board, 2, 2, &gate);
     assert!(rt; gate.has_seen_both());
     shows(&rt, rt.alloc(), &board, MANY);
-}
-
-#[test]
-fn few_atoms_are_settled_at_once(rt: HostRuntime) {
-    come_to_the_least(&rt, rt.alloc(), FEW, 4, 16, 0);
 }
 
 /// With ample memory all parts come back rested, so that the workers were of use.

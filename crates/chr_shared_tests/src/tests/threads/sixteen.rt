@@ -4,7 +4,7 @@ ghost use Rattle.std.specs.Prelude.{◌≡◌};
 use crate::tests::{opened, prepared};
 use chr_acts::{Act, Book, Entry, Reply};
 use chr_ops::Added;
-use chr_shared::{Naming, Opening, Seat, Settled, Shared};
+use chr_shared::{MAX_SEATS, Naming, Opening, Seat, Settled, Shared};
 use chr_shared_testing::{op, rest_and_close, rests_at};
 use std::alloc::Global;
 use std::marker::Brand;
@@ -80,7 +80,8 @@ fn last_of(settled: &Settled) -> Option<(u32, u64)> {
 #[test]
 fn sixteen_seats_tell_at_once(rt: HostRuntime) {
     let alloc = rt.alloc();
-    let opening = prepared(&rt, alloc, 16);
+    assert!(rt; MAX_SEATS == 16);
+    let opening = prepared(&rt, alloc, MAX_SEATS);
     let (settled, book) = share::<Brand, _>(&rt, alloc, opening);
     assert!(rt; rests_at(alloc, &settled, &[11]));
     assert!(rt; book.entries() == 171);

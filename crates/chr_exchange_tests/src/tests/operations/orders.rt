@@ -154,30 +154,3 @@ fn ids_told_in_any_order_are_held_as_told(rt: HostRuntime) {
         }
     }
 }
-
-/// Whether each id of the origins and numbers that were told stands for what was told.
-fn has_all_as_told(rt: &impl Abort, alloc: Global, told: &Told) -> bool {
-    let mut all = true;
-    for place in 0..256_u64 {
-        all = all && told.has_as_told(rt, alloc, (place / 64) as u32, place % 64);
-    }
-    all
-}
-
-#[test]
-fn each_order_is_followed_by_each(rt: HostRuntime) {
-    let alloc = rt.alloc();
-    for orders in 0..25_u64 {
-        let mut told = Told::none(alloc);
-        for place in 0..96_u64 {
-            let order = if place < 48 { orders / 5 } else { orders % 5 };
-            let (origin, number) = id_in(order, place * 2);
-            assert!(rt;
-                told.tell(&rt, alloc, (origin, number, 0)),
-                "{place} of {orders}"
-            );
-        }
-        assert!(rt; has_all_as_told(&rt, alloc, &told), "orders {orders}");
-        assert!(rt; told.lacks_as_told(&rt, alloc, orders), "orders {orders}");
-    }
-}

@@ -1,4 +1,4 @@
-//! What summaries leave out of sets: at both ends of the numbers, beside ranges that touch, and against a plain filter.
+//! What summaries leave out of sets, against a plain filter.
 use super::{GREATEST, have_ids, lacked, set_of, summary_of};
 use chr_ops::OpSet;
 use std::alloc::Global;
@@ -14,98 +14,6 @@ pub(super) fn lacks_just(
 ) -> bool {
     let summary = summary_of(rt, alloc, ranges);
     have_ids(&lacked(rt, alloc, set, &summary), ids)
-}
-
-/// Some ranges by their origins and both ends, and the ids of a set that they leave out, in order.
-type Row = (&'static [(u32, u64, u64)], &'static [(u32, u64)]);
-
-/// So says each row of the set of these ids.
-fn expect_lacked(rt: &impl Abort, alloc: Global, held: &[(u32, u64)], rows: &[Row]) {
-    let set = set_of(rt, alloc, held);
-    for (place, (ranges, left)) in rows.iter().enumerate() {
-        assert!(rt; lacks_just(rt, alloc, &set, ranges, left), "row {place}");
-    }
-}
-
-const BOTH_ENDS: [(u32, u64); 4] = [(1, 0), (1, 1), (1, GREATEST - 1), (1, GREATEST)];
-
-const LACKED_AT_THE_ENDS: [Row; 7] = [
-    (&[], &[(1, 0), (1, 1), (1, GREATEST - 1), (1, GREATEST)]),
-    (
-        &[(1, 2, GREATEST - 2)],
-        &[(1, 0), (1, 1), (1, GREATEST - 1), (1, GREATEST)],
-    ),
-    (&[(1, 0, 0)], &[(1, 1), (1, GREATEST - 1), (1, GREATEST)]),
-    (
-        &[(1, GREATEST, GREATEST)],
-        &[(1, 0), (1, 1), (1, GREATEST - 1)],
-    ),
-    (&[(1, 0, GREATEST)], &[]),
-    (&[(1, 1, GREATEST - 1)], &[(1, 0), (1, GREATEST)]),
-    (
-        &[(1, 0, 0), (1, GREATEST, GREATEST)],
-        &[(1, 1), (1, GREATEST - 1)],
-    ),
-];
-
-#[test]
-fn what_is_lacked_reaches_both_ends(rt: HostRuntime) {
-    expect_lacked(&rt, rt.alloc(), &BOTH_ENDS, &LACKED_AT_THE_ENDS);
-}
-
-const SIX: [(u32, u64); 6] = [(2, 10), (2, 11), (2, 12), (2, 13), (2, 14), (2, 15)];
-
-/// What ranges beside the six leave out, over their ends, that touch, with holes, and that overlap.
-const LACKED_OF_SIX: [Row; 5] = [
-    (
-        &[(2, 5, 9), (2, 16, 20)],
-        &[(2, 10), (2, 11), (2, 12), (2, 13), (2, 14), (2, 15)],
-    ),
-    (
-        &[(2, 5, 10), (2, 15, 20)],
-        &[(2, 11), (2, 12), (2, 13), (2, 14)],
-    ),
-    (&[(2, 11, 12), (2, 13, 13)], &[(2, 10), (2, 14), (2, 15)]),
-    (
-        &[(2, 12, 12), (2, 14, 14)],
-        &[(2, 10), (2, 11), (2, 13), (2, 15)],
-    ),
-    (
-        &[(2, 14, 20), (2, 9, 10), (1, 0, GREATEST), (2, 8, 11)],
-        &[(2, 12), (2, 13)],
-    ),
-];
-
-const LACKED_OF_NONE: [Row; 1] = [(&[(2, 12, 12), (2, 14, 14)], &[])];
-
-#[test]
-fn what_is_lacked_stands_between_ranges(rt: HostRuntime) {
-    let alloc = rt.alloc();
-    expect_lacked(&rt, alloc, &SIX, &LACKED_OF_SIX);
-    expect_lacked(&rt, alloc, &[], &LACKED_OF_NONE);
-}
-
-const FOUR_ORIGINS: [(u32, u64); 5] = [(0, 7), (1, 7), (1, 9), (3, 7), (4_294_967_295, 7)];
-
-const LACKED_OF_ORIGINS: [Row; 2] = [
-    (
-        &[(1, 0, 8), (2, 0, GREATEST), (3, 8, 9)],
-        &[(0, 7), (1, 9), (3, 7), (4_294_967_295, 7)],
-    ),
-    (
-        &[
-            (4_294_967_295, 7, 7),
-            (0, 0, GREATEST),
-            (3, 0, 7),
-            (1, 7, 9),
-        ],
-        &[],
-    ),
-];
-
-#[test]
-fn what_is_lacked_is_of_its_origin(rt: HostRuntime) {
-    expect_lacked(&rt, rt.alloc(), &FOUR_ORIGINS, &LACKED_OF_ORIGINS);
 }
 
 /// The next of some numbers that jump about.

@@ -1,4 +1,4 @@
-//! Each public call once, and the worked examples of operation sets. Where memory runs out a test ends.
+//! The worked examples of operation sets. Where memory runs out a test ends.
 use super::{
     GREATEST, add, bag, grow, have_ids, id, lacked, op, own_summary, put_in, set_of, summary_of,
 };
@@ -119,36 +119,9 @@ fn has(rt: &impl Abort, alloc: Global, set: &OpSet, id: OpId, symbols: &[u16]) -
     }
 }
 
-fn is_op(id: OpId, bag: Bag) -> bool {
-    Op::of(id, bag).is_some()
-}
-
-#[test]
-fn bags_of_operations_are_neither_empty_nor_large(rt: HostRuntime) {
-    let alloc = rt.alloc();
-    let last = id(4_294_967_295, GREATEST);
-    assert!(rt; !is_op(last, Bag::new(alloc)));
-    assert!(rt; !is_op(last, bag_of_equal(&rt, alloc, 65)));
-}
-
 /// Whether the operation has this id and so many atoms.
 fn is_of(op: &Op, id: OpId, atoms: usize) -> bool {
     op.id() == id && op.bag().len() == atoms
-}
-
-/// Whether a copy of the operation is equal.
-fn is_copied(rt: &impl Abort, alloc: Global, op: &Op) -> bool {
-    let copy = op.copy(alloc).expect(rt, "memory");
-    copy.id() == op.id() && copy.bag().is_same(op.bag())
-}
-
-#[test]
-fn operations_have_up_to_64_atoms(rt: HostRuntime) {
-    let alloc = rt.alloc();
-    let last = id(4_294_967_295, GREATEST);
-    let whole = op_of_equal(&rt, alloc, last, 64);
-    assert!(rt; is_of(&whole, last, 64));
-    assert!(rt; is_copied(&rt, alloc, &whole));
 }
 
 /// Bags that are told under one id in turn, and what is answered.
@@ -182,72 +155,16 @@ const HELD: [(u32, u64); 4] = [(1, GREATEST), (1, 0), (0, 5), (1, 1)];
 const HELD_RANGES: [(u32, u64, u64); 3] = [(0, 5, 5), (1, 0, 1), (1, GREATEST, GREATEST)];
 
 #[test]
-fn summaries_cover_the_set(rt: HostRuntime) {
+fn what_a_summary_leaves_out_is_lacked(rt: HostRuntime) {
     let alloc = rt.alloc();
     let set = set_of(&rt, alloc, &HELD);
     expect_ranges(&rt, alloc, &set, &HELD_RANGES);
     set.told_has_values();
     let summary = own_summary(&rt, alloc, &set);
     assert!(rt; lacked(&rt, alloc, &set, &summary).is_empty());
-}
-
-#[test]
-fn what_a_summary_leaves_out_is_lacked(rt: HostRuntime) {
-    let alloc = rt.alloc();
-    let set = set_of(&rt, alloc, &HELD);
     let middle = summary_of(&rt, alloc, &[(1, 1, 1)]);
     let lacked = lacked(&rt, alloc, &set, &middle);
     assert!(rt; have_ids(&lacked, &[(0, 5), (1, 0), (1, GREATEST)]));
-}
-
-#[test]
-fn an_empty_set_has_no_ranges(rt: HostRuntime) {
-    let alloc = rt.alloc();
-    expect_ranges(&rt, alloc, &OpSet::new(alloc), &[]);
-}
-
-const GIVEN: [(u32, u64, u64); 11] = [
-    (4_294_967_295, 0, GREATEST),
-    (7, 10, 20),
-    (0, GREATEST, GREATEST),
-    (7, 21, 21),
-    (7, 23, 30),
-    (0, 0, 0),
-    (7, 12, 14),
-    (7, 10, 20),
-    (7, 25, 40),
-    (0, 0, 3),
-    (4_294_967_295, 5, 6),
-];
-
-const MERGED: [(u32, u64, u64); 5] = [
-    (0, 0, 3),
-    (0, GREATEST, GREATEST),
-    (7, 10, 21),
-    (7, 23, 40),
-    (4_294_967_295, 0, GREATEST),
-];
-
-#[test]
-fn ranges_merge(rt: HostRuntime) {
-    let summary = summary_of(&rt, rt.alloc(), &GIVEN);
-    assert!(rt; has_ranges(&summary, &MERGED));
-}
-
-/// Whether the range of origin 7 from 10 to 21 has this number of it.
-fn has_number(number: u64) -> bool {
-    let range = IdRange {
-        origin: 7,
-        lo: 10,
-        hi: 21,
-    };
-    range.has(id(7, number))
-}
-
-#[test]
-fn ranges_end_where_they_say(rt: HostRuntime) {
-    assert!(rt; has_number(21));
-    assert!(rt; !has_number(22));
 }
 
 #[test]
@@ -280,25 +197,9 @@ fn lists_are_of_new_operations_or_not(rt: HostRuntime) {
     let alloc = rt.alloc();
     let mut set = OpSet::new(alloc);
     assert!(rt; adds(&rt, alloc, &mut set, id(1, 2), &[5], Ok(Added::New)));
-    let new: [&[(u32, u64, u16)]; 4] = [
-        &[],
-        &[(1, 1, 5), (1, 3, 0), (2, 2, 1)],
-        &[(2, 2, 1), (1, 3, 0), (1, 1, 5)],
-        &[(0, 2, 1)],
-    ];
-    for list in new {
-        assert!(rt; are_new(&rt, alloc, &set, list), "all are new");
-    }
-    let not: [&[(u32, u64, u16)]; 5] = [
-        &[(1, 2, 5)],
-        &[(1, 1, 5), (1, 2, 1)],
-        &[(1, 3, 0), (1, 1, 5), (1, 2, 9)],
-        &[(1, 1, 5), (1, 1, 5)],
-        &[(1, 3, 1), (1, 1, 5), (1, 3, 2)],
-    ];
-    for list in not {
-        assert!(rt; !are_new(&rt, alloc, &set, list), "one is not");
-    }
+    assert!(rt; are_new(&rt, alloc, &set, &[(2, 2, 1), (1, 3, 0), (1, 1, 5)]));
+    assert!(rt; !are_new(&rt, alloc, &set, &[(1, 1, 5), (1, 2, 1)]));
+    assert!(rt; !are_new(&rt, alloc, &set, &[(1, 1, 5), (1, 1, 5)]));
 }
 
 #[test]
@@ -311,32 +212,6 @@ fn joins_count_new_operations(rt: HostRuntime) {
     assert!(rt; joins(alloc, &mut set, &repeated, Ok(1)));
     assert!(rt; are_fresh(&rt, alloc, &set, &repeated, &[]));
     assert!(rt; tells(&set, 2));
-}
-
-#[test]
-fn joins_in_the_order_of_ids_find_what_is_held(rt: HostRuntime) {
-    let alloc = rt.alloc();
-    let mut set = OpSet::new(alloc);
-    assert!(rt;
-        joins(
-            alloc,
-            &mut set,
-            &ops(&rt, alloc, &[(1, 1, 5), (1, 3, 0)]),
-            Ok(2)
-        )
-    );
-    let rising = ops(
-        &rt,
-        alloc,
-        &[(0, 9, 2), (1, 1, 5), (1, 2, 1), (1, 3, 0), (2, 0, 1)],
-    );
-    assert!(rt; are_fresh(&rt, alloc, &set, &rising, &[1, 1, 2]));
-    assert!(rt; joins(alloc, &mut set, &rising, Ok(3)));
-    assert!(rt; are_fresh(&rt, alloc, &set, &rising, &[]) && tells(&set, 5));
-    let other = ops(&rt, alloc, &[(0, 8, 2), (1, 2, 3), (2, 1, 1)]);
-    assert!(rt; joins(alloc, &mut set, &other, Err(AddFault::Clash(id(1, 2)))));
-    assert!(rt; tells(&set, 5) && is_missing(&set, id(0, 8)));
-    expect_ranges(&rt, alloc, &set, &[(0, 9, 9), (1, 1, 3), (2, 0, 0)]);
 }
 
 /// Whether the set refuses operations since this id stands for two bags.
@@ -389,39 +264,8 @@ fn ranges_grow_at_both_ends_and_close_holes(rt: HostRuntime) {
     expect_ranges(&rt, alloc, &set, &[(1, 1, 4)]);
     grow(&rt, alloc, &mut set, id(1, 6));
     expect_ranges(&rt, alloc, &set, &[(1, 1, 4), (1, 6, 6)]);
-}
-
-#[test]
-fn the_greatest_numbers_make_a_range(rt: HostRuntime) {
-    let alloc = rt.alloc();
     let ends = set_of_numbers(&rt, alloc, &[GREATEST, GREATEST - 1]);
     expect_ranges(&rt, alloc, &ends, &[(1, GREATEST - 1, GREATEST)]);
-}
-
-#[test]
-fn ranges_are_of_one_origin(rt: HostRuntime) {
-    let alloc = rt.alloc();
-    let set = set_of(&rt, alloc, &[(2, 0), (1, GREATEST), (3, 1), (3, 0)]);
-    let ranges = &[(1, GREATEST, GREATEST), (2, 0, 0), (3, 0, 1)];
-    expect_ranges(&rt, alloc, &set, ranges);
-}
-
-const MISSING: [(u32, u64, u16); 6] = [
-    (1, 8, 0),
-    (1, 2, 0),
-    (1, 3, 0),
-    (1, 0, 0),
-    (0, 4, 0),
-    (1, 8, 0),
-];
-
-#[test]
-fn a_join_closes_holes(rt: HostRuntime) {
-    let alloc = rt.alloc();
-    let mut set = set_of_numbers(&rt, alloc, &[1, 3, 9]);
-    let ops = ops(&rt, alloc, &MISSING);
-    assert!(rt; joins(alloc, &mut set, &ops, Ok(4)));
-    expect_ranges(&rt, alloc, &set, &[(0, 4, 4), (1, 0, 3), (1, 8, 9)]);
 }
 
 /// Whether the number follows the last range.
@@ -482,25 +326,4 @@ fn ids_in_any_order_make_the_same_ranges(rt: HostRuntime) {
     let set = set_of_numbers(&rt, alloc, &numbers);
     let ranges = plain_ranges(&rt, alloc, &sorted(numbers));
     expect_ranges(&rt, alloc, &set, &ranges);
-}
-
-fn is_at(op: Option<&Op>, id: OpId) -> bool {
-    match op {
-        Some(op) => op.id() == id,
-        None => false,
-    }
-}
-
-/// Whether there are so many operations, the first and the last of which have these ids.
-fn are_from_to(ops: &[Op], count: usize, first: OpId, last: OpId) -> bool {
-    ops.len() == count && is_at(ops.first(), first) && is_at(ops.last(), last)
-}
-
-#[test]
-fn what_ranges_leave_out_is_lacked(rt: HostRuntime) {
-    let alloc = rt.alloc();
-    let set = set_of_numbers(&rt, alloc, &scrambled(&rt, alloc));
-    let held = summary_of(&rt, alloc, &[(1, 1_000, 2_999), (1, 3_998, 4_500)]);
-    let lacked = lacked(&rt, alloc, &set, &held);
-    assert!(rt; are_from_to(&lacked, 1_712, id(1, 1), id(1, 3_996)));
 }

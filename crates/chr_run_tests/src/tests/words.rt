@@ -1,9 +1,23 @@
 //! Words that are taken, and words that are refused.
-use super::list;
 use chr_device::{Settings, Style, Verb, WordsFault, read_words};
 use clap::Error;
 use clap::error::ErrorKind;
 use std::process::Abort;
+
+fn push_word(rt: &(impl Abort + AllocGlobal), list: &mut Vec<String>, word: &str) {
+    let word = String::from_str(rt.alloc(), word).expect(rt, "memory");
+    list.push(word).expect(rt, "memory");
+}
+
+/// `chrrep` with these words after it.
+pub fn list(rt: &(impl Abort + AllocGlobal), words: &[&str]) -> Vec<String> {
+    let mut list = Vec::new(rt.alloc());
+    push_word(rt, &mut list, "chrrep");
+    for word in words {
+        push_word(rt, &mut list, word);
+    }
+    list
+}
 
 /// An explanation as text.
 const TEXT: Style = Style {
@@ -63,26 +77,7 @@ const COMMANDS: [(&[&str], Settings); 8] = [
     (&["explain", "--"], EXPLAIN),
 ];
 
-#[test]
-fn commands_are_taken(rt: HostRuntime) {
-    expect_asked(&rt, &COMMANDS);
-}
-
-const REPLICAS: [(&[&str], Settings); 7] = [
-    (
-        &["run", "--replicas", "1"],
-        Settings {
-            replicas: 1,
-            ..PLAIN
-        },
-    ),
-    (
-        &["run", "--replicas", "2"],
-        Settings {
-            replicas: 2,
-            ..PLAIN
-        },
-    ),
+const REPLICAS: [(&[&str], Settings); 4] = [
     (
         &["run", "--replicas", "16"],
         Settings {
@@ -98,63 +93,22 @@ const REPLICAS: [(&[&str], Settings); 7] = [
         },
     ),
     (
-        &["run", "--replicas", "02"],
+        &["run", "--replicas", "02", "--"],
         Settings {
             replicas: 2,
             ..PLAIN
         },
     ),
     (
-        &["run", "--replicas", "+2"],
-        Settings {
-            replicas: 2,
-            ..PLAIN
-        },
-    ),
-    (
-        &["run", "--replicas", "2", "--"],
-        Settings {
-            replicas: 2,
-            ..PLAIN
-        },
-    ),
-];
-
-#[test]
-fn replicas_are_read(rt: HostRuntime) {
-    expect_asked(&rt, &REPLICAS);
-}
-
-const SERVED: [(&[&str], Settings); 2] = [
-    (
-        &["serve", "--replicas", "2"],
+        &["serve", "--replicas", "+2"],
         Settings {
             replicas: 2,
             ..SERVE
         },
     ),
-    (
-        &["serve", "--replicas=16"],
-        Settings {
-            replicas: 16,
-            ..SERVE
-        },
-    ),
 ];
 
-#[test]
-fn replicas_are_served(rt: HostRuntime) {
-    expect_asked(&rt, &SERVED);
-}
-
-const SHARED: [(&[&str], Settings); 7] = [
-    (
-        &["run", "--workers", "2"],
-        Settings {
-            workers: 2,
-            ..PLAIN
-        },
-    ),
+const SHARED: [(&[&str], Settings); 3] = [
     (
         &["run", "--workers=16"],
         Settings {
@@ -162,70 +116,26 @@ const SHARED: [(&[&str], Settings); 7] = [
             ..PLAIN
         },
     ),
-    (&["run", "--parts", "64"], Settings { parts: 64, ..PLAIN }),
     (
-        &["run", "--workers", "4", "--parts", "16"],
+        &["run", "--parts=64", "--workers", "4", "--"],
         Settings {
             workers: 4,
-            parts: 16,
+            parts: 64,
             ..PLAIN
-        },
-    ),
-    (
-        &["run", "--parts=16", "--workers=4", "--"],
-        Settings {
-            workers: 4,
-            parts: 16,
-            ..PLAIN
-        },
-    ),
-    (
-        &["serve", "--workers", "+2"],
-        Settings {
-            workers: 2,
-            ..SERVE
         },
     ),
     (&["serve", "--parts", "03"], Settings { parts: 3, ..SERVE }),
 ];
 
-#[test]
-fn workers_and_parts_are_read(rt: HostRuntime) {
-    expect_asked(&rt, &SHARED);
-}
-
 const DOT: Style = Style { dot: true, ..TEXT };
 
 const HTML: Style = Style { html: true, ..TEXT };
 
-const ALL: Style = Style { all: true, ..TEXT };
-
-const STYLES: [(&[&str], Settings); 6] = [
-    (
-        &["explain", "--dot"],
-        Settings {
-            style: DOT,
-            ..EXPLAIN
-        },
-    ),
+const STYLES: [(&[&str], Settings); 3] = [
     (
         &["explain", "--html"],
         Settings {
             style: HTML,
-            ..EXPLAIN
-        },
-    ),
-    (
-        &["explain", "--all"],
-        Settings {
-            style: ALL,
-            ..EXPLAIN
-        },
-    ),
-    (
-        &["explain", "--dot", "--all"],
-        Settings {
-            style: Style { all: true, ..DOT },
             ..EXPLAIN
         },
     ),
@@ -245,48 +155,39 @@ const STYLES: [(&[&str], Settings); 6] = [
     ),
 ];
 
-#[test]
-fn styles_are_read(rt: HostRuntime) {
-    expect_asked(&rt, &STYLES);
-}
-
-/// The command, how many replicas, and whether the verdict is wide.
-const WIDE: [(&[&str], Verb, u32, bool); 12] = [
-    (&["check", "--wide"], Verb::Check, 1, true),
-    (&["check", "--wide", "--"], Verb::Check, 1, true),
-    (&["run", "--wide"], Verb::Run, 1, true),
-    (&["serve", "--wide"], Verb::Serve, 1, true),
-    (&["run", "--wide", "--replicas", "2"], Verb::Run, 2, true),
-    (&["run", "--replicas=2", "--wide"], Verb::Run, 2, true),
+const WIDE: [(&[&str], Settings); 3] = [
     (
-        &["serve", "--replicas", "16", "--wide"],
-        Verb::Serve,
-        16,
-        true,
+        &["check", "--wide"],
+        Settings {
+            wide: true,
+            ..CHECK
+        },
     ),
-    (&["run", "--replicas=2"], Verb::Run, 2, false),
-    (&["serve", "--replicas=2"], Verb::Serve, 2, false),
-    (&["explain", "--all"], Verb::Explain, 1, false),
-    (&["explain", "--wide"], Verb::Explain, 1, true),
-    (&["explain", "--wide", "--dot"], Verb::Explain, 1, true),
+    (
+        &["run", "--replicas=2", "--wide"],
+        Settings {
+            wide: true,
+            replicas: 2,
+            ..PLAIN
+        },
+    ),
+    (
+        &["explain", "--wide", "--dot"],
+        Settings {
+            wide: true,
+            style: DOT,
+            ..EXPLAIN
+        },
+    ),
 ];
 
-/// The command, how many replicas, and whether the verdict is wide, where the words are taken.
-fn read_of(rt: &(impl Abort + AllocGlobal), words: &[&str]) -> Option<(Verb, u32, bool)> {
-    match read_words(rt.alloc(), &list(rt, words)) {
-        Ok(settings) => Some((settings.command, settings.replicas, settings.wide)),
-        Err(_) => None,
-    }
-}
-
 #[test]
-fn wide_is_read(rt: HostRuntime) {
-    for (words, command, replicas, wide) in WIDE {
-        assert!(rt;
-            read_of(&rt, words) == Some((command, replicas, wide)),
-            "{words:?}"
-        );
-    }
+fn words_are_taken(rt: HostRuntime) {
+    expect_asked(&rt, &COMMANDS);
+    expect_asked(&rt, &REPLICAS);
+    expect_asked(&rt, &SHARED);
+    expect_asked(&rt, &STYLES);
+    expect_asked(&rt, &WIDE);
 }
 
 /// Whether it is an error of this kind, whose text has the one given.
@@ -336,11 +237,6 @@ const OTHER_WIDE: [(&[&str], ErrorKind, &str); 6] = [
     ),
 ];
 
-#[test]
-fn other_wide_is_refused(rt: HostRuntime) {
-    expect_refused(&rt, &OTHER_WIDE);
-}
-
 const OTHER_WORKERS: [(&[&str], ErrorKind, &str); 8] = [
     (
         &["run", "--workers", "0"],
@@ -384,67 +280,48 @@ const OTHER_WORKERS: [(&[&str], ErrorKind, &str); 8] = [
     ),
 ];
 
-#[test]
-fn other_workers_are_refused(rt: HostRuntime) {
-    expect_refused(&rt, &OTHER_WORKERS);
-}
-
-/// Words after `run`.
-const OTHER_REPLICAS: [(&[&str], ErrorKind, &str); 11] = [
+const OTHER_REPLICAS: [(&[&str], ErrorKind, &str); 8] = [
     (
-        &["--replicas", "0"],
+        &["run", "--replicas", "0"],
         ErrorKind::ValueValidation,
         "0 is not in 1..=16",
     ),
     (
-        &["--replicas", "17"],
+        &["run", "--replicas", "17"],
         ErrorKind::ValueValidation,
         "17 is not in 1..=16",
     ),
     (
-        &["--replicas=-1"],
+        &["run", "--replicas=-1"],
         ErrorKind::ValueValidation,
         "-1 is not in 1..=16",
     ),
-    (&["--replicas", "-1"], ErrorKind::UnknownArgument, "'-1'"),
-    (&["--replicas", "x"], ErrorKind::ValueValidation, "'x'"),
-    (&["--replicas", "2.0"], ErrorKind::ValueValidation, "'2.0'"),
     (
-        &["--replicas", "4294967298"],
+        &["run", "--replicas", "2.0"],
         ErrorKind::ValueValidation,
-        "4294967298 is not in 1..=16",
+        "'2.0'",
     ),
-    (&["--replicas"], ErrorKind::InvalidValue, "--replicas <N>"),
     (
-        &["--replicas", "1", "--replicas", "2"],
+        &["run", "--replicas"],
+        ErrorKind::InvalidValue,
+        "--replicas <N>",
+    ),
+    (
+        &["run", "--replicas", "1", "--replicas", "2"],
         ErrorKind::ArgumentConflict,
         "--replicas <N>",
     ),
-    (&["--replicas", "1", "2"], ErrorKind::UnknownArgument, "'2'"),
     (
-        &["--replica", "2"],
+        &["run", "--replicas", "1", "2"],
+        ErrorKind::UnknownArgument,
+        "'2'",
+    ),
+    (
+        &["run", "--replica", "2"],
         ErrorKind::UnknownArgument,
         "'--replica'",
     ),
 ];
-
-#[test]
-fn other_replicas_are_refused(rt: HostRuntime) {
-    for (options, kind, text) in OTHER_REPLICAS {
-        let words = after_run(&rt, options);
-        assert!(rt; refuses(&rt, &words, kind, text), "{options:?}");
-    }
-}
-
-/// `run` and these words.
-fn after_run<'a>(rt: &(impl Abort + AllocGlobal), options: &[&'a str]) -> Vec<&'a str> {
-    let mut words = Vec::new(rt.alloc());
-    words.push("run").expect(rt, "memory");
-    for option in options {
-        words.push(*option).expect(rt, "memory");
-    }
-    words
-}
 
 const OTHER_WORDS: [(&[&str], ErrorKind, &str); 20] = [
     (&[], ErrorKind::MissingSubcommand, "requires a subcommand"),
@@ -508,4 +385,7 @@ const OTHER_WORDS: [(&[&str], ErrorKind, &str); 20] = [
 #[test]
 fn other_words_are_refused(rt: HostRuntime) {
     expect_refused(&rt, &OTHER_WORDS);
+    expect_refused(&rt, &OTHER_REPLICAS);
+    expect_refused(&rt, &OTHER_WORKERS);
+    expect_refused(&rt, &OTHER_WIDE);
 }

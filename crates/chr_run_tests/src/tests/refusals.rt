@@ -1,5 +1,5 @@
 //! What is told of words that are refused.
-use super::list;
+use super::words::list;
 use chr_device::{WordsFault, read_words, refusal_text};
 use std::process::Abort;
 
@@ -19,7 +19,7 @@ fn ends(rt: &(impl Abort + AllocGlobal), words: &[&str], line: &str) {
     assert!(rt; text.lines().last() == Some(line), "{text}");
 }
 
-const CAUSES: [(&[&str], &str); 11] = [
+const CAUSES: [(&[&str], &str); 13] = [
     (
         &["coins.chr"],
         "The input comes from standard input: chrrep run < coins.chr",
@@ -64,30 +64,17 @@ const CAUSES: [(&[&str], &str); 11] = [
         &["--replicas=3"],
         "Options stand behind the command: chrrep run --replicas=3",
     ),
+    (
+        &["run", "--replicas", "x"],
+        "For more information, try '--help'.",
+    ),
+    (&["weigh"], "For more information, try '--help'."),
 ];
 
 #[test]
 fn causes_are_named(rt: HostRuntime) {
     for (words, line) in CAUSES {
         ends(&rt, words, line);
-    }
-}
-
-const NO_CAUSE: [&[&str]; 8] = [
-    &[],
-    &["weigh"],
-    &["run", "run"],
-    &["run", "--replica", "--replicas", "2"],
-    &["run", "--replica", "3"],
-    &["run", "3"],
-    &["chek", "coins.chr"],
-    &["run", "--replicas", "x"],
-];
-
-#[test]
-fn other_words_have_no_cause(rt: HostRuntime) {
-    for words in NO_CAUSE {
-        ends(&rt, words, "For more information, try '--help'.");
     }
 }
 
@@ -152,51 +139,25 @@ fn help_tells_statuses(rt: HostRuntime) {
     }
 }
 
-/// What the help of a command with `--wide` tells.
-const WIDE_HELP: [&str; 3] = [
-    "--wide",
-    "refused as 22",
-    "Decide by the columns that rules compare: more programs are decided",
-];
-
 /// What is told of these words has the text, or has not.
 fn contains(rt: &(impl Abort + AllocGlobal), words: &[&str], part: &str, expected: bool) {
     let text = told(rt, words);
     assert!(rt; text.contains(part) == expected, "{text}");
 }
 
-/// The help of these commands has the text, or has not.
-fn all_contain(rt: &(impl Abort + AllocGlobal), commands: &[(&[&str], bool)], part: &str) {
-    for (words, expected) in commands {
-        contains(rt, words, part, *expected);
-    }
-}
-
-const WIDE_COMMANDS: [(&[&str], bool); 3] = [
-    (&["check", "--help"], true),
-    (&["run", "--help"], true),
-    (&["serve", "--help"], true),
+/// Words, a text, and whether what is told of them has it.
+const OPTIONS_IN_HELP: [(&[&str], &str, bool); 6] = [
+    (&["check", "--help"], "refused as 22", true),
+    (&["explain", "--help"], "--wide", true),
+    (&["--help"], "--wide", false),
+    (&["serve", "--help"], "--workers <N>", true),
+    (&["run", "--help"], "--parts <N>", true),
+    (&["explain", "--help"], "--parts <N>", false),
 ];
 
 #[test]
-fn help_names_wide(rt: HostRuntime) {
-    for part in WIDE_HELP {
-        all_contain(&rt, &WIDE_COMMANDS, part);
-    }
-    contains(&rt, &["--help"], "--wide", false);
-    contains(&rt, &["explain", "--help"], "--wide", true);
-}
-
-const SHARING_COMMANDS: [(&[&str], bool); 4] = [
-    (&["run", "--help"], true),
-    (&["serve", "--help"], true),
-    (&["check", "--help"], false),
-    (&["explain", "--help"], false),
-];
-
-#[test]
-fn help_names_workers_and_parts(rt: HostRuntime) {
-    for part in ["--workers <N>", "--parts <N>"] {
-        all_contain(&rt, &SHARING_COMMANDS, part);
+fn help_names_options(rt: HostRuntime) {
+    for (words, part, expected) in OPTIONS_IN_HELP {
+        contains(&rt, words, part, expected);
     }
 }

@@ -1,4 +1,4 @@
-use Rattle.chr_bids_tests.proofs.tests.both_halls_know_the_winners.Given as goal
+use Rattle.chr_shared_tests.proofs.tests.auction.both_halls_know_the_winners.Given as goal
 
 abbrev pub ghosts-auction-J-Naming : goal.ghosts-auction-J-Naming
 ghosts-auction-J-Naming g a = record { opening = a.first }

@@ -1,3 +1,4 @@
+//! Operations, sets of them and summaries, in the public words of `chr_ops`.
 mod exchange;
 mod news;
 mod orders;

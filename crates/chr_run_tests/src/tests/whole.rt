@@ -24,20 +24,6 @@ fn read(alloc: Global, reader: &mut Watched<impl Read>, most: usize) -> Result<V
     Ok(held)
 }
 
-#[test]
-fn all_is_read(rt: HostRuntime) {
-    let alloc = rt.alloc();
-    let text = text(&rt, alloc);
-    let mut reader = Watched::of(text.as_slice());
-    let held = read(alloc, &mut reader, usize::MAX).ok();
-    assert!(rt;
-        held.expect(&rt, "it is read") == text,
-        "the bytes are the text"
-    );
-    assert!(rt; !reader.failed());
-    assert!(rt; reader.into_inner().is_empty());
-}
-
 /// How many bytes are held where no more than so many are wanted, and how many are left, by reads of 16,384.
 const HELD: [(usize, usize, usize); 4] = [
     (0, 16_384, 17_384),
@@ -59,25 +45,6 @@ fn no_more_is_read_than_is_wanted(rt: HostRuntime) {
         );
         assert!(rt; reader.into_inner().len() == left, "after {most}");
     }
-}
-
-#[test]
-fn what_is_held_goes_on(rt: HostRuntime) {
-    let alloc = rt.alloc();
-    let text = text(&rt, alloc);
-    let mut reader = Watched::of(text.as_slice());
-    let mut held = read(alloc, &mut reader, 0).expect(&rt, "some is read");
-    assert!(rt; read_on(&mut reader, &mut held, usize::MAX) == Ok(true));
-    assert!(rt; held == text, "the bytes are the text");
-}
-
-#[test]
-fn what_is_passed_is_read_to_the_end(rt: HostRuntime) {
-    let text = text(&rt, rt.alloc());
-    let mut reader = Watched::of(text.as_slice());
-    assert!(rt; read_past(&rt, &mut reader).is_ok());
-    assert!(rt; !reader.failed());
-    assert!(rt; reader.into_inner().is_empty());
 }
 
 /// Whether the fault of this call is told, and kept by the reader.

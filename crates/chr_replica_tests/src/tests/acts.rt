@@ -223,55 +223,6 @@ fn several_threads_show_what_has_settled(rt: HostRuntime) {
     assert!(rt; is_shown_by_threads(&rt, alloc, &board, Said::Shown(&[3])));
 }
 
-#[test]
-fn want_of_memory_is_no_reply(rt: HostRuntime) {
-    assert!(rt; Reply::refused(Refusal::Memory).is_err());
-    let reply = Reply::refused(Refusal::NotAtRest).expect(&rt, "a reply");
-    assert!(rt; is_said(&rt, rt.alloc(), &reply, Said::Refused(Refusal::NotAtRest)));
-}
-
-const STEPS_AND_LEASES: [(Ask, Said); 5] = [
-    (Ask::Tell(&[5, 3, 9]), Said::Told(Added::New)),
-    (Ask::Step(9, 5), Said::Refused(Refusal::NotThere)),
-    (Ask::Take(&[5, 9]), Said::Leased(1)),
-    (Ask::Show, Said::Refused(Refusal::Leased(1))),
-    (Ask::Recall(1), Said::Recalled),
-];
-
-#[test]
-fn steps_and_leases_are_answered(rt: HostRuntime) {
-    expect_replied(&rt, rt.alloc(), &STEPS_AND_LEASES);
-}
-
-const SETTLED: [(Ask, Said); 4] = [
-    (Ask::Tell(&[5, 3, 9]), Said::Told(Added::New)),
-    (Ask::Show, Said::Refused(Refusal::NotAtRest)),
-    (Ask::Settle, Said::Settled(2)),
-    (Ask::Show, Said::Shown(&[3])),
-];
-
-#[test]
-fn a_pool_settles_and_is_shown(rt: HostRuntime) {
-    expect_replied(&rt, rt.alloc(), &SETTLED);
-}
-
-const LEAST_LEASES: [(Ask, Said); 9] = [
-    (Ask::Tell(&[5, 3, 9]), Said::Told(Added::New)),
-    (Ask::Take(&[5]), Said::Leased(1)),
-    (Ask::Take(&[9]), Said::Leased(2)),
-    (Ask::Recall(7), Said::Refused(Refusal::NoLease(7))),
-    (Ask::LeastLease, Said::LeastLease(Some(1))),
-    (Ask::Recall(1), Said::Recalled),
-    (Ask::LeastLease, Said::LeastLease(Some(2))),
-    (Ask::Recall(2), Said::Recalled),
-    (Ask::LeastLease, Said::LeastLease(None)),
-];
-
-#[test]
-fn the_least_lease_is_told(rt: HostRuntime) {
-    expect_replied(&rt, rt.alloc(), &LEAST_LEASES);
-}
-
 /// The id of the operation that is told, and those of two that are merged.
 const TOLD: IdRange = IdRange {
     origin: 1,
@@ -285,18 +236,26 @@ const MERGED: IdRange = IdRange {
     hi: 2,
 };
 
-const SUMMED: [(Ask, Said); 6] = [
-    (Ask::Tell(&[5]), Said::Told(Added::New)),
+/// Acts in turn, with what is replied: each kind but a put and the cut of a pool.
+const ACTS: [(Ask, Said); 13] = [
+    (Ask::Tell(&[5, 3, 9]), Said::Told(Added::New)),
     (Ask::Merge(&[(1, 7), (2, 8)]), Said::Merged(2)),
     (Ask::Summary, Said::Summed(&[TOLD, MERGED])),
     (Ask::Lacks(&[TOLD]), Said::Lacked(&[(2, 1), (2, 2)])),
-    (Ask::Lacks(&[MERGED, TOLD]), Said::Lacked(&[])),
-    (Ask::Lacks(&[]), Said::Lacked(&[(1, 1), (2, 1), (2, 2)])),
+    (Ask::Step(9, 5), Said::Refused(Refusal::NotThere)),
+    (Ask::Take(&[5, 9]), Said::Leased(1)),
+    (Ask::LeastLease, Said::LeastLease(Some(1))),
+    (Ask::Show, Said::Refused(Refusal::Leased(1))),
+    (Ask::Recall(7), Said::Refused(Refusal::NoLease(7))),
+    (Ask::Recall(1), Said::Recalled),
+    (Ask::Show, Said::Refused(Refusal::NotAtRest)),
+    (Ask::Settle, Said::Settled(4)),
+    (Ask::Show, Said::Shown(&[3])),
 ];
 
 #[test]
-fn ids_are_summed_up_and_what_they_leave_out_is_lacked(rt: HostRuntime) {
-    expect_replied(&rt, rt.alloc(), &SUMMED);
+fn acts_and_calls_are_replied_to(rt: HostRuntime) {
+    expect_replied(&rt, rt.alloc(), &ACTS);
 }
 
 /// The place of the entry of a call, with ample memory.
@@ -356,13 +315,6 @@ const FOUR_CALLS: [Call; 4] = [
 /// Place, seat, and number of the seat.
 const FOUR_ENTRIES: [(u64, u32, u64); 4] = [(1, 1, 1), (2, 2, 1), (3, 2, 2), (4, 1, 2)];
 
-#[test]
-fn calls_are_entered_in_their_order(rt: HostRuntime) {
-    let book = book_of(&rt, rt.alloc(), &FOUR_CALLS);
-    assert!(rt; book.entries() == 4);
-    expect_entered(&rt, &book, &FOUR_ENTRIES);
-}
-
 const FOUR_REPLIES: [(u64, Said); 4] = [
     (1, Said::Told(Added::New)),
     (2, Said::Told(Added::Again)),
@@ -370,56 +322,19 @@ const FOUR_REPLIES: [(u64, Said); 4] = [
     (4, Said::Refused(Refusal::NoLease(7))),
 ];
 
-fn is_missing(book: &Book, place: u64) -> bool {
-    book.entry(place).is_none()
-}
-
 #[test]
 fn calls_are_entered_with_their_replies(rt: HostRuntime) {
     let alloc = rt.alloc();
     let book = book_of(&rt, alloc, &FOUR_CALLS);
+    assert!(rt; book.entries() == 4);
+    expect_entered(&rt, &book, &FOUR_ENTRIES);
     expect_replies(&rt, alloc, &book, &FOUR_REPLIES);
-    assert!(rt; is_missing(&book, 0) && is_missing(&book, 5));
-}
-
-/// A seat tells 5, takes it, and recalls its lease twice.
-const RECALLED_TWICE: [Call; 4] = [
-    (1, Ask::Tell(&[5]), 1),
-    (1, Ask::Take(&[5]), 2),
-    (1, Ask::Recall(1), 3),
-    (1, Ask::Recall(1), 4),
-];
-
-const RECALLED_ONCE: [(u64, Said); 3] = [
-    (2, Said::Leased(1)),
-    (3, Said::Recalled),
-    (4, Said::Refused(Refusal::NoLease(1))),
-];
-
-#[test]
-fn a_call_that_is_repeated_is_entered_with_its_refusal(rt: HostRuntime) {
-    let alloc = rt.alloc();
-    let book = book_of(&rt, alloc, &RECALLED_TWICE);
-    expect_replies(&rt, alloc, &book, &RECALLED_ONCE);
-    expect_entered(&rt, &book, &[(4, 1, 4)]);
-    assert!(rt; book.board().leases() == 0);
 }
 
 /// The copy of the entry of a seat that asks for the least lease number.
 fn asked(rt: &impl Abort, alloc: Global, book: &mut Book, seat: u32) -> Entry {
     let entered = book.call_with_copy(alloc, seat, Act::LeastLease);
     entered.ok().expect(rt, "memory")
-}
-
-#[test]
-fn a_copy_tells_what_the_entry_tells(rt: HostRuntime) {
-    let alloc = rt.alloc();
-    let mut book = book_of(&rt, alloc, &RECALLED_TWICE);
-    let copy = asked(&rt, alloc, &mut book, 1);
-    assert!(rt; copy.seat == 1 && copy.number == 5);
-    assert!(rt; is_said(&rt, alloc, &copy.reply, Said::LeastLease(None)));
-    expect_entered(&rt, &book, &[(5, 1, 5)]);
-    expect_replies(&rt, alloc, &book, &[(5, Said::LeastLease(None))]);
 }
 
 #[test]
