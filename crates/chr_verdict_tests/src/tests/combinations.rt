@@ -5,7 +5,6 @@ ghost use Rattle.chr_sorting.specs.FinestSorts.{sorts_of};
 
 use crate::tests::lists::expect_same;
 use chr_base::atom::SymbolId;
-use chr_base::program::Program;
 use chr_sorting::{Sorting, finest_sorts, has_more_combinations, visit_combinations};
 use chr_testing::texts::program_of;
 use chr_types::Visit;
@@ -84,20 +83,6 @@ fn expect_visited(
     let stopped = visit_combinations(alloc, sorting, classes, number, &mut kept);
     assert!(rt; stopped.expect(rt, "memory") == (lists.len() == wanted));
     expect_same(rt, &kept.lists, lists);
-}
-
-const ONE_OF_FREE_SORTS: Visited = Visited {
-    number: 1,
-    wanted: 2,
-    lists: &[&[0, 0, 1]],
-};
-
-/// Without rules each sort is free, and has one list.
-#[test]
-fn visits_the_one_of_free_sorts(rt: HostRuntime) {
-    let alloc = rt.alloc();
-    let sorting = finest_sorts(alloc, &Program::empty(alloc)).expect(&rt, "memory");
-    expect_visited(&rt, alloc, &sorting, &[0, 8, 0], ONE_OF_FREE_SORTS);
 }
 
 /// The values of `p` are compared by their order, and those of `q` told from each other and from 0.

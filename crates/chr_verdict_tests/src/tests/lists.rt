@@ -63,9 +63,7 @@ fn expect_lists(rt: &impl Abort, alloc: Global, row: Row) {
     let limit = expected.len();
     let found = lists_of(rt, alloc, kind, constants, count, limit);
     expect_same(rt, &found.expect(rt, "not more lists"), expected);
-    if limit > 0 {
-        expect_more(rt, alloc, kind, constants, count, limit - 1);
-    }
+    expect_more(rt, alloc, kind, constants, count, limit.saturating_sub(1));
 }
 
 fn expect_all(rt: &impl Abort, alloc: Global, rows: &[Row]) {
@@ -74,105 +72,27 @@ fn expect_all(rt: &impl Abort, alloc: Global, rows: &[Row]) {
     }
 }
 
-const NEW_VALUES: [Row; 4] = [
-    (Kind::Free, &[], 0, &[&[]]),
-    (Kind::Free, &[], 3, &[&[0, 1, 2]]),
+const LISTS: [Row; 5] = [
     (Kind::Free, &[0, 1, 3], 3, &[&[2, 4, 5]]),
-    (Kind::Free, &[i64::MIN, -1, 1, 7, i64::MAX], 2, &[&[0, 2]]),
-];
-
-#[test]
-fn lists_new_values(rt: HostRuntime) {
-    expect_all(&rt, rt.alloc(), &NEW_VALUES);
-}
-
-const BLOCKS: [Row; 4] = [
-    (Kind::Equal, &[], 0, &[&[]]),
-    (Kind::Equal, &[4], 0, &[&[]]),
-    (Kind::Equal, &[], 1, &[&[0]]),
     (
         Kind::Equal,
         &[],
         3,
         &[&[0, 0, 0], &[0, 0, 1], &[0, 1, 0], &[0, 1, 1], &[0, 1, 2]],
     ),
-];
-
-#[test]
-fn lists_blocks(rt: HostRuntime) {
-    expect_all(&rt, rt.alloc(), &BLOCKS);
-}
-
-const BLOCKS_AT_CONSTANTS: [Row; 3] = [
-    (Kind::Equal, &[0], 1, &[&[0], &[1]]),
     (
         Kind::Equal,
         &[1],
         2,
         &[&[0, 0], &[0, 1], &[0, 2], &[1, 0], &[1, 1]],
     ),
-    (
-        Kind::Equal,
-        &[-3, 0],
-        2,
-        &[
-            &[-3, -3],
-            &[-3, 0],
-            &[-3, 1],
-            &[0, -3],
-            &[0, 0],
-            &[0, 1],
-            &[1, -3],
-            &[1, 0],
-            &[1, 1],
-            &[1, 2],
-        ],
-    ),
-];
-
-#[test]
-fn lists_blocks_at_constants(rt: HostRuntime) {
-    expect_all(&rt, rt.alloc(), &BLOCKS_AT_CONSTANTS);
-}
-
-const ORDER_TYPES: [Row; 3] = [
-    (Kind::Ordered, &[], 0, &[&[]]),
     (Kind::Ordered, &[], 2, &[&[0, 0], &[0, 1], &[1, 0]]),
-    (Kind::Ordered, &[3, 5], 1, &[&[2], &[3], &[4], &[5], &[6]]),
+    (Kind::Ordered, &[3, 5], 0, &[&[]]),
 ];
 
+/// Values of a free sort are new and different, those of the second kind lie in blocks, and those of an ordered one in
+/// order types.
 #[test]
-fn lists_order_types(rt: HostRuntime) {
-    expect_all(&rt, rt.alloc(), &ORDER_TYPES);
-}
-
-/// Where there are more lists than the limit: a kind, constants, a number of values, and the limit.
-type More = (Kind, &'static [i64], usize, usize);
-
-const MORE: [More; 11] = [
-    (Kind::Free, &[], 0, 0),
-    (Kind::Free, &[2, 3], 4, 0),
-    (Kind::Equal, &[], 0, 0),
-    (Kind::Equal, &[2, 3], 4, 0),
-    (Kind::Ordered, &[], 0, 0),
-    (Kind::Ordered, &[2, 3], 4, 0),
-    // the ways to put 10 values into blocks are one more
-    (Kind::Equal, &[], 10, 115_974),
-    (Kind::Equal, &[3, 5], 60, 50_000),
-    (Kind::Ordered, &[3, 5], 60, 50_000),
-    (Kind::Equal, &[], 65, usize::MAX),
-    (Kind::Ordered, &[], 65, usize::MAX),
-];
-
-fn expect_all_more(rt: &impl Abort, alloc: Global, rows: &[More]) {
-    for (kind, constants, count, limit) in rows {
-        expect_more(rt, alloc, *kind, constants, *count, *limit);
-    }
-}
-
-#[test]
-fn stops_at_the_limit(rt: HostRuntime) {
-    expect_all_more(&rt, rt.alloc(), &MORE);
-    let found = lists_of(&rt, rt.alloc(), Kind::Equal, &[], 10, 115_975);
-    assert!(rt; found.expect(&rt, "all lists").len() == 115_975);
+fn each_kind_has_its_lists(rt: HostRuntime) {
+    expect_all(&rt, rt.alloc(), &LISTS);
 }

@@ -1,31 +1,14 @@
-//! Overlaps by their first rules, their free classes, and whether both sides are equal.
+//! Overlaps by their first rules, and whether both sides are equal.
 ghost use Rattle.std.specs.Prelude.{IfOk};
 ghost use Rattle.chr_weights.specs.WeighedPrograms.{rules_in};
 ghost use Rattle.chr_overlaps.specs.OverlapLists.{IsOverlapOf};
 
 use crate::tests::texts::weighed;
-use arrayvec::ArrayVec;
 use chr_overlaps::cases::{sorted_unified, unified};
-use chr_overlaps::{Overlap, Unified, has_equal_sides, overlaps, overlaps_of};
+use chr_overlaps::{Overlap, has_equal_sides, overlaps, overlaps_of};
 use chr_weights::Weighed;
 use std::alloc::{AllocError, Global};
 use std::process::Abort;
-
-#[test]
-fn copied(rt: HostRuntime) {
-    let mut matching = ArrayVec::new();
-    matching.push(0);
-    matching.push(2);
-    let overlap = Overlap {
-        first: 1,
-        second: 3,
-        matching,
-    };
-    let copy = overlap.copy();
-    assert!(rt; copy.first == 1 && copy.second == 3);
-    assert!(rt; copy.matching.as_slice() == [0, 2].as_slice());
-    assert!(rt; copy == overlap);
-}
 
 const RULES: &str = ":- chr_constraint p/1. \
     p(X) \\ p(Y) <=> X =:= Y | true. p(X) <=> X =:= 1 | true. p(X) <=> X =:= 2 | true.";
@@ -107,53 +90,6 @@ fn expect_portions(rt: &impl Abort, alloc: Global, weighed: &Weighed, portions: 
 fn some_rules_begin_overlaps(rt: HostRuntime) {
     let alloc = rt.alloc();
     expect_portions(&rt, alloc, &weighed(&rt, alloc, RULES), &PORTIONS);
-}
-
-/// Places among the overlaps of these rules, each with its overlap's two rules, the free classes of the matched heads,
-/// and those of these with the `=:=` of both guards.
-type FreeClasses = (usize, u32, u32, &'static [u8], Option<&'static [u8]>);
-
-const FREE_CLASSES: [FreeClasses; 3] = [
-    (0, 1, 1, &[1, 2, 4], Some(&[1])),
-    (5, 1, 2, &[1, 2], Some(&[])),
-    (10, 2, 3, &[1], None),
-];
-
-/// Whether these are the free classes of the matched heads.
-fn are_free(weighed: &Weighed, overlap: &Overlap, alone: &[u8]) -> bool
-    requires { IsOverlapOf (rules_in weighed.now) overlap.now }
-{
-    let found = unified(weighed, overlap);
-    found.as_ref().map(Unified::free) == Some(alone)
-}
-
-/// Whether these are left once the `=:=` of both guards are solved too.
-fn are_free_joined(weighed: &Weighed, overlap: &Overlap, joined: Option<&[u8]>) -> bool
-    requires { IsOverlapOf (rules_in weighed.now) overlap.now }
-{
-    let found = sorted_unified(weighed, overlap);
-    found.as_ref().map(Unified::free) == joined
-}
-
-fn expect_free(rt: &impl Abort, alloc: Global, weighed: &Weighed, row: FreeClasses) {
-    let (place, first, second, alone, joined) = row;
-    let overlap = overlap_at(rt, alloc, weighed, place);
-    assert!(rt; overlap.first == first && overlap.second == second);
-    assert!(rt; are_free(weighed, &overlap, alone));
-    assert!(rt; are_free_joined(weighed, &overlap, joined));
-}
-
-fn expect_all_free(rt: &impl Abort, alloc: Global, weighed: &Weighed, rows: &[FreeClasses]) {
-    for row in rows {
-        expect_free(rt, alloc, weighed, *row);
-    }
-}
-
-/// What the guards make equal is one class, and where that is two constants there is none.
-#[test]
-fn guards_join_classes(rt: HostRuntime) {
-    let alloc = rt.alloc();
-    expect_all_free(&rt, alloc, &weighed(&rt, alloc, RULES), &FREE_CLASSES);
 }
 
 /// Whether both sides of an overlap are equal as patterns, once matched heads are made one.
