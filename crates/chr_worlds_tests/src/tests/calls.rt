@@ -3,7 +3,7 @@ use crate::tests::asking::{Said, is_said, world_of};
 use chr_acts::{OpList, Reply};
 use chr_ops::{Added, Op, Summary};
 use chr_replica_testing::op_of;
-use chr_testing::texts::{COINS, MINIMUM};
+use chr_testing::texts::MINIMUM;
 use chr_worlds::{Answer, World};
 use std::alloc::Global;
 use std::process::Abort;
@@ -74,40 +74,4 @@ fn what_is_lacked_is_merged_rested_and_shown(rt: HostRuntime) {
     expect_said(&rt, alloc, &world, &settled, Said::Settled(1));
     let shown = world.show(alloc, 2).expect(&rt, "memory");
     expect_said(&rt, alloc, &world, &shown, Said::Shown("min(3)"));
-}
-
-/// An operation of an atom that the program of a minimum doesn't declare.
-fn undeclared(rt: &impl Abort, alloc: Global) -> Op {
-    op(rt, alloc, COINS, 1, "note")
-}
-
-#[test]
-fn calls_on_an_absent_replica_are_answered(rt: HostRuntime) {
-    let alloc = rt.alloc();
-    let mut world = told_world(&rt, alloc);
-    let summary = summary_of(&rt, alloc, &world, 1);
-    let answers = [
-        world.merge(alloc, 3, &[]).expect(&rt, "memory"),
-        world.settle(3),
-        world.show(alloc, 3).expect(&rt, "memory"),
-        world.summary(alloc, 3).expect(&rt, "memory"),
-        world.lacks(alloc, 3, &summary).expect(&rt, "memory"),
-    ];
-    for answer in &answers {
-        expect_said(&rt, alloc, &world, answer, Said::Nobody);
-    }
-    for replica in [1, 3] {
-        let ops = [undeclared(&rt, alloc)];
-        let answer = world.merge(alloc, replica, &ops).expect(&rt, "memory");
-        expect_said(&rt, alloc, &world, &answer, refused(replica));
-    }
-}
-
-/// What is answered to operations that are not declared: by a replica, and where there is none.
-fn refused(replica: u64) -> Said {
-    if replica == 3 {
-        Said::UnknownSymbol
-    } else {
-        Said::Refused(32)
-    }
 }

@@ -2,7 +2,7 @@
 use crate::tests::asking::answer;
 use crate::tests::random_worlds::comparing::{is_board_of, is_lease_of, is_reply};
 use crate::tests::random_worlds::family::Family;
-use crate::tests::random_worlds::model::{Expected, Part, Replica, count};
+use crate::tests::random_worlds::model::{Expected, Part, Replica};
 use crate::tests::random_worlds::multisets::{add, are_same, copies};
 use crate::tests::random_worlds::resting::rested;
 use crate::tests::random_worlds::scene::{Scene, one_of, place_of, replica_of};
