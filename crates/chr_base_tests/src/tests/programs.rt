@@ -1,19 +1,13 @@
 //! Programs, rules, atoms and bags.
-ghost use Rattle.std.specs.Prelude.{◌≡◌, ◌≤◌, [], ◌∷◌, IsTrue, codes, length};
-ghost use Rattle.chr_base.specs.ProgramTests.{fits};
-ghost use Rattle.chr_base.specs.Weights.{default_weight};
-
-use arrayvec::ArrayVec;
-use chr_base::atom::{Atom, SymbolId};
+use chr_base::atom::Atom;
 use chr_base::bag::Bag;
-use chr_base::limits::{MAX_ARITY, MAX_WEIGHT};
 use chr_base::program::Program;
 use chr_base::rule::Rule;
-use chr_base::term::{Cmp, Comparison, Pattern, Term};
 use chr_base::text::{in_print_order, push_store, store_text};
 use chr_base::weight::{DEFAULT_WEIGHT, Weight};
 use chr_testing::atoms::{self, atom, bag};
-use std::alloc::{AllocError, Global};
+use chr_testing::texts::{program_of, rule_of};
+use std::alloc::Global;
 use std::process::Abort;
 
 fn weight(first: u64, second: u64) -> Weight {
@@ -32,13 +26,6 @@ fn three_symbols(rt: &impl Abort, alloc: Global) -> Program {
     program.declare("a", 0).expect(rt, "memory");
     program.declare("a", 2).expect(rt, "memory");
     program
-}
-
-/// Gives a declared symbol a weight whose first number is not 0.
-fn set_weight(rt: &impl Abort, program: &mut Program, symbol: u16, first: u64, second: u64) {
-    assert!(rt; usize::from(symbol) < program.symbols());
-    assert!(rt; 0 < first && first <= MAX_WEIGHT && second <= MAX_WEIGHT);
-    program.set_weight(SymbolId(symbol), Weight { first, second });
 }
 
 /// An atom: its symbol and values.
@@ -160,68 +147,32 @@ fn texts_of_other_atoms(rt: HostRuntime) {
     assert!(rt; text.as_str() == "shown: (4), a(1,9), a(5,6), a(7,0)");
 }
 
-fn pattern(symbol: u16, terms: &[Term]) -> Pattern
-    requires { length terms.now ≤ MAX_ARITY }
-    ensures symbol { result.symbol.0 ≡ symbol }
-    ensures args { result.args.items ≡ terms.now }
-{
-    let mut args = ArrayVec::new();
-    for term in terms {
-        args.push(*term);
-    }
-    Pattern {
-        symbol: SymbolId(symbol),
-        args,
-    }
+/// A rule, but for the sign of its guard.
+const BEFORE_SIGN: &str = ":- chr_constraint p/3, q/1, r/2. p(X,X,3) \\ q(Y) <=> X ";
+
+const AFTER_SIGN: &str = " Y | r(Y,X), r(8,X).";
+
+fn text_with(rt: &impl Abort, alloc: Global, sign: &str) -> String {
+    let mut text = String::from_str(alloc, BEFORE_SIGN).expect(rt, "memory");
+    text.push_str(sign).expect(rt, "memory");
+    text.push_str(AFTER_SIGN).expect(rt, "memory");
+    text
 }
 
-/// `p(X, X, 3) \ q(Y) <=> X cmp Y | r(Y, X), r(8, X)`, where `p`, `q` and `r` are the first, second and third symbol.
-#[tactic(auto, unfolding(chr_base::specs::RuleTests::is_in_bounds))]
-fn two_heads(cmp: Cmp) -> Rule
-    ensures { IsTrue (fits (record { name = codes "p"; arity = 3; weight = default_weight }
-        ∷ record { name = codes "q"; arity = 1; weight = default_weight }
-        ∷ record { name = codes "r"; arity = 2; weight = default_weight }
-        ∷ []) result) }
-{
-    let x = Term::Variable(1);
-    let y = Term::Variable(2);
-    let mut kept = ArrayVec::new();
-    kept.push(pattern(0, &[x, x, Term::Constant(3)]));
-    let mut removed = ArrayVec::new();
-    removed.push(pattern(1, &[y]));
-    let mut guard = ArrayVec::new();
-    guard.push(Comparison {
-        left: x,
-        cmp,
-        right: y,
-    });
-    let mut body = ArrayVec::new();
-    body.push(pattern(2, &[y, x]));
-    body.push(pattern(2, &[Term::Constant(8), x]));
-    Rule {
-        name: None,
-        kept,
-        removed,
-        guard,
-        body,
-    }
-}
-
-/// The same, of which nothing is promised.
-fn rule(cmp: Cmp) -> Rule {
-    two_heads(cmp)
+fn rule_with(rt: &impl Abort, alloc: Global, sign: &str) -> Rule {
+    rule_of(alloc, &text_with(rt, alloc, sign)).expect(rt, "a rule")
 }
 
 /// A sign, and whether the rule fires where X is below, equal to and above Y.
-type Sign = (Cmp, bool, bool, bool);
+type Sign = (&'static str, bool, bool, bool);
 
 const SIGNS: [Sign; 6] = [
-    (Cmp::Less, true, false, false),
-    (Cmp::AtMost, true, true, false),
-    (Cmp::Greater, false, false, true),
-    (Cmp::AtLeast, false, true, true),
-    (Cmp::Equal, false, true, false),
-    (Cmp::NotEqual, true, false, true),
+    ("<", true, false, false),
+    ("=<", true, true, false),
+    (">", false, false, true),
+    (">=", false, true, true),
+    ("=:=", false, true, false),
+    ("=\\=", true, false, true),
 ];
 
 fn fires(rule: &Rule, heads: &[Atom]) -> bool {
@@ -233,9 +184,9 @@ fn fires_at(rule: &Rule, x: i64) -> bool {
     fires(rule, &[atom(0, &[x, x, 3]), atom(1, &[5])])
 }
 
-fn expect_signs(rt: &impl Abort, rows: &[Sign]) {
-    for (cmp, below, equal, above) in rows {
-        let rule = rule(*cmp);
+fn expect_signs(rt: &impl Abort, alloc: Global, rows: &[Sign]) {
+    for (sign, below, equal, above) in rows {
+        let rule = rule_with(rt, alloc, sign);
         assert!(rt; fires_at(&rule, -2) == *below);
         assert!(rt; fires_at(&rule, 5) == *equal);
         assert!(rt; fires_at(&rule, 7) == *above);
@@ -244,28 +195,7 @@ fn expect_signs(rt: &impl Abort, rows: &[Sign]) {
 
 #[test]
 fn comparisons(rt: HostRuntime) {
-    expect_signs(&rt, &SIGNS);
-}
-
-/// `p/3`, `q/1` and `r/2`, with the one rule `two_heads(cmp)`.
-fn one_rule(alloc: Global, cmp: Cmp) -> Result<Program, AllocError> {
-    let mut program = Program::empty(alloc);
-    program.declare("p", 3)?;
-    program.declare("q", 1)?;
-    program.declare("r", 2)?;
-    program.push_rule(two_heads(cmp))?;
-    Ok(program)
-}
-
-/// The same, where `p` has a weight of these numbers.
-fn one(rt: &impl Abort, alloc: Global, cmp: Cmp, first: u64, second: u64) -> Program {
-    let mut program = one_rule(alloc, cmp).expect(rt, "memory");
-    set_weight(rt, &mut program, 0, first, second);
-    program
-}
-
-fn has_rule(program: &Program) -> bool {
-    program.rules() == [rule(Cmp::Less)].as_slice()
+    expect_signs(&rt, rt.alloc(), &SIGNS);
 }
 
 fn is_same(one: &Program, other: &Program) -> bool {
@@ -277,10 +207,11 @@ fn copied(rt: &impl Abort, alloc: Global, program: &Program) -> Program {
 }
 
 #[test]
-fn programs(rt: HostRuntime) {
-    let program = one(&rt, rt.alloc(), Cmp::Less, 5, 0);
-    assert!(rt; has_rule(&program));
-    assert!(rt; is_same(&copied(&rt, rt.alloc(), &program), &program));
+fn programs_are_copied(rt: HostRuntime) {
+    let alloc = rt.alloc();
+    let program = program_of(alloc, &text_with(&rt, alloc, "<")).expect(&rt, "a program");
+    assert!(rt; program.rules().len() == 1);
+    assert!(rt; is_same(&copied(&rt, alloc, &program), &program));
 }
 
 fn push_weight(rt: &impl Abort, text: &mut String, weight: Weight, is_paired: bool) {
