@@ -4,11 +4,7 @@ mod full_text;
 mod places;
 mod weights;
 
-use chr_base::atom::SymbolId;
 use chr_base::program::Program;
-use chr_base::rule::Rule;
-use chr_base::term::{Cmp, Comparison, Pattern, Term};
-use chr_base::weight::{DEFAULT_WEIGHT, Weight};
 use chr_read::{ReadFault, read, write};
 use std::alloc::Global;
 use std::fmt::Write;
@@ -41,10 +37,6 @@ fn outcome_of(rt: &impl Abort, alloc: Global, text: &[u8]) -> Outcome {
         Ok(program) => counted(&program),
         Err(fault) => refused(rt, fault),
     }
-}
-
-fn push_bytes(rt: &impl Abort, bytes: &mut Vec<u8>, more: &[u8]) {
-    bytes.extend_from_slice(more).expect(rt, "memory");
 }
 
 fn push(rt: &impl Abort, text: &mut String, more: &str) {
@@ -197,69 +189,6 @@ fn the_longest_text(rt: HostRuntime) {
     let alloc = rt.alloc();
     let spaces = repeated(&rt, alloc, " ", 65_536);
     expect_outcomes(&rt, alloc, spaces.as_str(), THE_LONGEST_TEXT, "");
-}
-
-/// Whether the pattern is of this symbol at these terms.
-fn is_pattern(pattern: &Pattern, symbol: u16, args: &[Term]) -> bool {
-    pattern.symbol == SymbolId(symbol) && pattern.args.as_slice() == args
-}
-
-/// Whether there is one pattern, of this symbol at these terms.
-fn is_one(patterns: &[Pattern], symbol: u16, args: &[Term]) -> bool {
-    match patterns {
-        [pattern] => is_pattern(pattern, symbol, args),
-        _ => false,
-    }
-}
-
-fn is_comparison(comparison: &Comparison, left: Term, cmp: Cmp, right: Term) -> bool {
-    comparison.left == left && comparison.cmp == cmp && comparison.right == right
-}
-
-fn is_guard(guard: &[Comparison]) -> bool {
-    let [first, second] = guard else {
-        return false;
-    };
-    is_comparison(first, Term::Variable(1), Cmp::AtLeast, Term::Constant(-5))
-        && is_comparison(second, Term::Variable(3), Cmp::NotEqual, Term::Variable(1))
-}
-
-fn has_heads(rule: &Rule) -> bool {
-    is_one(&rule.kept, 0, &[Term::Variable(1), Term::Variable(2)])
-        && is_one(&rule.removed, 0, &[Term::Variable(3), Term::Constant(-3)])
-}
-
-fn has_all_parts(rule: &Rule) -> bool {
-    rule.name.is_some() && has_heads(rule) && is_guard(&rule.guard) && is_one(&rule.body, 1, &[])
-}
-
-fn parts(program: &Program) -> bool {
-    match program.rules() {
-        [rule] => has_all_parts(rule),
-        _ => false,
-    }
-}
-
-/// The weight of the symbol at this place.
-fn weight_at(rt: &impl Abort, program: &Program, place: u16) -> Weight {
-    assert!(rt; usize::from(place) < program.symbols());
-    program.weight_of(SymbolId(place))
-}
-
-#[test]
-fn a_rule_with_all_parts(rt: HostRuntime) {
-    let alloc = rt.alloc();
-    let text = ":- use_module(library(chr)). :- chr_constraint p/2, q/0. :- chr_weight p/2 = 007.
-r @ p(X,_) \\ p(Y,-03) <=> true, X >= -5, Y =\\= X | true, q.";
-    let program = program_of(&rt, alloc, text);
-    assert!(rt; parts(&program));
-    assert!(rt; program.symbols() == 2);
-    let seven = Weight {
-        first: 7,
-        second: 0,
-    };
-    assert!(rt; weight_at(&rt, &program, 0) == seven);
-    assert!(rt; weight_at(&rt, &program, 1) == DEFAULT_WEIGHT);
 }
 
 const CANONICAL_TEXTS: &[(&str, &str)] = &[
