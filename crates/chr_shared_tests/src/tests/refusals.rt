@@ -2,7 +2,7 @@
 //! seat.
 ghost use Rattle.std.specs.Prelude.{◌≡◌};
 
-use crate::tests::calls::{Call, only_value, receipt};
+use crate::tests::calls::{only_value, tell};
 use crate::tests::{opened, prepared};
 use chr_acts::Reply;
 use chr_shared::{Naming, Opening, Seat, Shared};
@@ -14,8 +14,8 @@ use std::process::Abort;
 use std::sync::Wait;
 use std::thread::Threads;
 
-/// Three values are told, each by an operation.
-const TOLD: [Call; 3] = [Call::Tell(1, 5), Call::Tell(2, 3), Call::Tell(3, 9)];
+/// The numbers of three operations, and the value that each tells.
+const TOLD: [(u64, i64); 3] = [(1, 5), (2, 3), (3, 9)];
 
 /// The least lease number that is out. A call to which memory was refused is made once more.
 fn least_lease<J: Naming, R: Abort + Wait>(
@@ -77,8 +77,8 @@ fn run<J: Naming + Send + Sync, R: Abort + Threads + Wait + Sync>(
 {
     let (shared, mut seats) = opened::<J, _>(rt, alloc, opening);
     let mut seat = seats.pop().expect(rt, "a seat");
-    for call in &TOLD {
-        receipt(rt, alloc, &shared, &mut seat, call);
+    for (number, value) in TOLD {
+        tell(rt, alloc, &shared, &mut seat, number, value);
     }
     let _ = shared.settle_with(rt, alloc, &mut seat, 2, 3, &OpenGate);
     recall_all(rt, alloc, &shared, &mut seat);

@@ -1,7 +1,7 @@
 //! A seat tells while another one's parts are rested: no lock is held then.
 ghost use Rattle.std.specs.Prelude.{◌≡◌};
 
-use crate::tests::calls::{Call, receipt};
+use crate::tests::calls::tell;
 use crate::tests::threads::gates::{Holds, waits};
 use crate::tests::{opened, prepared};
 use chr_ops::Op;
@@ -41,8 +41,8 @@ fn share<J: Naming + Send + Sync, R: Abort + Threads + Wait + Sync>(
     let (shared, mut seats) = opened::<J, _>(rt, alloc, opening);
     let mut second = seats.pop().expect(rt, "a seat");
     let mut first = seats.pop().expect(rt, "a seat");
-    receipt(rt, alloc, &shared, &mut first, &Call::Tell(1, 5));
-    receipt(rt, alloc, &shared, &mut first, &Call::Tell(2, 3));
+    tell(rt, alloc, &shared, &mut first, 1, 5);
+    tell(rt, alloc, &shared, &mut first, 2, 3);
     let late = op(alloc, 2, 1, &[1]).expect(rt, "memory");
     let all = &shared;
     join(
