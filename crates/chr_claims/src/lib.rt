@@ -8,3 +8,6 @@ mod counter;
 mod law;
 
 pub use counter::{ClaimSeat, Claims};
+
+#[cfg(test)]
+mod tests;

@@ -1,5 +1,5 @@
-//! Tests of replicas, of what is leased from them, of acts and books, of claims, and of workers that rest replicas.
-//! There is nothing here but tests.
+//! Tests of replicas, of what is leased from them, of acts and books, and of workers that rest replicas. There is
+//! nothing here but tests.
 #![tactic(auto)]
 
 #[cfg(test)]

@@ -1,5 +1,5 @@
-//! Tests of words, devices and kept threads, and of runs and services over readers and writers of memory, in the public
-//! words of `chr_device`, `chr_crew` and `chr_report`. There is nothing here but tests.
+//! Tests of words and devices, and of runs and services over readers and writers of memory, in the public words of
+//! `chr_device` and `chr_report`. There is nothing here but tests.
 #![tactic(auto)]
 
 #[cfg(test)]

@@ -1,8 +1,7 @@
-//! Words, devices, kept threads, and runs and services over memory and over readers and writers that fail. Where
+//! Words, devices, and runs and services over memory and over readers and writers that fail. Where
 //! memory runs out a test ends.
 ghost use Rattle.chr_device.specs.Settings.{IsWithinLimits};
 
-mod crews;
 mod devices;
 mod refusals;
 mod serving;

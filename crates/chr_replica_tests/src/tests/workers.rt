@@ -1,5 +1,4 @@
-//! Workers claim parts and rest boards in them, which come to the store of one worker.
-mod claims;
+//! Workers rest boards in parts, which come to the store of one worker.
 mod gates;
 mod joining;
 mod making;

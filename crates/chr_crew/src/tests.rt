@@ -1,9 +1,7 @@
-//! Channels of messages of which something holds, and threads that are kept.
-use chr_crew::{Desk, Inbox, Known, beside_crew, open};
+use crate::{Desk, Inbox, Known, beside_crew, open};
 use crossbeam_channel::{Receiver, bounded};
 use std::alloc::{AllocError, Global};
 use std::marker::Brand;
-use std::process::Abort;
 use std::sync::Wait;
 use std::thread::Threads;
 
@@ -26,26 +24,26 @@ fn square_that_comes(rt: &impl Wait, digits: &mut Inbox<u64, Digits>) -> Option<
 }
 
 #[test]
-fn what_holds_of_messages_is_known_where_they_come(rt: HostRuntime) {
-    let opened = open::<u64, Digits>(rt.alloc(), 4);
-    let (mut desk, mut inbox) = opened.expect(&rt, "memory");
-    let mut other = desk.another().expect(&rt, "memory");
+fn what_holds_of_messages_is_known_where_they_come(rt: HostRuntime) -> Result<(), AllocError> {
+    let (mut desk, mut inbox) = open::<u64, Digits>(rt.alloc(), 4)?;
+    let mut other = desk.another()?;
     assert!(rt; desk.send(&rt, 3));
     assert!(rt; other.send(&rt, 9));
-    assert!(rt; square_that_comes(&rt, &mut inbox) == Some(9));
-    assert!(rt; square_that_comes(&rt, &mut inbox) == Some(81));
-    assert!(rt; inbox.try_recv(&rt) == None);
+    assert_eq!(rt; square_that_comes(&rt, &mut inbox), Some(9));
+    assert_eq!(rt; square_that_comes(&rt, &mut inbox), Some(81));
+    assert_eq!(rt; inbox.try_recv(&rt), None);
     drop(desk);
     drop(other);
-    assert!(rt; square_that_comes(&rt, &mut inbox) == None);
+    assert_eq!(rt; square_that_comes(&rt, &mut inbox), None);
+    Ok(())
 }
 
 #[test]
-fn a_message_without_an_inbox_is_not_sent(rt: HostRuntime) {
-    let opened = open::<u64, Brand>(rt.alloc(), 1);
-    let (mut desk, inbox) = opened.expect(&rt, "memory");
+fn a_message_without_an_inbox_is_not_sent(rt: HostRuntime) -> Result<(), AllocError> {
+    let (mut desk, inbox) = open::<u64, Brand>(rt.alloc(), 1)?;
     drop(inbox);
     assert!(rt; !desk.send(&rt, 3));
+    Ok(())
 }
 
 /// A number that is to be squared, and where its square goes.
@@ -101,11 +99,14 @@ fn sum_of_squares<R: Threads + Wait + Sync>(
     beside_crew(rt, alloc, threads, &left, &task, &mut here)
 }
 
-/// A crew does the tasks, and where there is none they are left to this thread.
 #[test]
-fn tasks_are_done_beside_a_crew(rt: HostRuntime) {
-    for threads in [3, 0] {
-        let sum = sum_of_squares(&rt, rt.alloc(), threads).expect(&rt, "memory");
-        assert!(rt; sum == 1240, "{threads} threads");
-    }
+fn a_crew_of_three_squares_numbers(rt: HostRuntime) -> Result<(), AllocError> {
+    assert_eq!(rt; sum_of_squares(&rt, rt.alloc(), 3)?, 1240);
+    Ok(())
+}
+
+#[test]
+fn a_crew_of_none_leaves_its_tasks(rt: HostRuntime) -> Result<(), AllocError> {
+    assert_eq!(rt; sum_of_squares(&rt, rt.alloc(), 0)?, 1240);
+    Ok(())
 }

@@ -1,0 +1,17 @@
+use crate::Claims;
+use std::alloc::AllocError;
+
+#[test]
+fn two_seats_claim_three_numbers_in_turn(rt: HostRuntime) -> Result<(), AllocError> {
+    let (claims, mut seats) = Claims::open(rt.alloc(), 3, 2)?;
+    let mut second = seats.pop().expect(&rt, "the second of two seats");
+    let mut first = seats.pop().expect(&rt, "the first of two seats");
+    assert_eq!(rt; claims.next(&mut first), Some(0));
+    assert_eq!(rt; claims.next(&mut second), Some(1));
+    assert_eq!(rt; claims.next(&mut first), Some(2));
+    assert_eq!(rt; claims.next(&mut second), None);
+    assert_eq!(rt; claims.next(&mut first), None);
+    assert_eq!(rt; claims.next(&mut second), None);
+    claims.close(vec![in rt.alloc(); first, second]?);
+    Ok(())
+}
