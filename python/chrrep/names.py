@@ -10,7 +10,7 @@ import json
 import re
 from collections.abc import Iterable
 
-from .refusals import ChrrepError
+from .refusals import ChrrepError, Refused
 from .texts import Atom
 
 _MOST_DIGITS = 19
@@ -32,11 +32,19 @@ class NameFault(ChrrepError, ValueError):
 
 
 class NameClash(ChrrepError):
-    """Two names have one number. Nothing was told."""
+    """Two names have one number. What they stand in was not told."""
 
     def __init__(self, number: int, names: tuple[str, str]) -> None:
         self.number, self.names = number, names
         super().__init__(f"the names {names[0]!r} and {names[1]!r} have one number, {number}: change one of them")
+
+
+class UnkeptName(Refused):
+    """A name that the engine can't keep: PostgreSQL none with a character NUL. What it stands in was not told."""
+
+    def __init__(self, name: str) -> None:
+        self.name = name
+        super().__init__(f"the engine can't keep the name {name[:80]!r}: it has a character NUL")
 
 
 def check_name(number: int, name: str, other: str) -> None:
@@ -68,16 +76,15 @@ class Names:
         for number, name in names:
             check_name(number, name, self._names.setdefault(number, name))
 
-    def new_in(self, atoms: Iterable[Atom]) -> dict[int, str]:
-        """The names among the arguments of atoms that are not known yet. Raises `NameClash`."""
-        new: dict[int, str] = {}
+    def of(self, atoms: Iterable[Atom]) -> dict[int, str]:
+        """The names among the arguments of atoms, each by its number. Raises `NameClash`."""
+        found: dict[int, str] = {}
         for _, *arguments in atoms:
             for name in arguments:
                 if isinstance(name, str):
                     number = number_of(name)
-                    known = self._names.get(number)
-                    check_name(number, name, new.setdefault(number, name) if known is None else known)
-        return new
+                    check_name(number, name, found.setdefault(number, self._names.get(number, name)))
+        return found
 
     def named(self, atoms: Iterable[Atom]) -> tuple[Atom, ...]:
         """The atoms with names in the place of their numbers."""

@@ -4,11 +4,18 @@ import re
 from collections.abc import Callable
 from typing import ClassVar, NoReturn
 
-from .texts import Atom, Weight, atoms_of, numbers_of
+from .texts import Atom, Id, Weight, atoms_of, numbers_of
 
 
 class ChrrepError(Exception):
-    """The base of all exceptions of this package."""
+    """The base of all exceptions of this package.
+
+    One that a tell into a log has raised says what became of its operations: those of the ids `told` are in the log, of
+    those of `unsure` it isn't known, and the others aren't there.
+    """
+
+    told: tuple[Id, ...] = ()
+    unsure: tuple[Id, ...] = ()
 
 
 class NodeDied(ChrrepError):

@@ -19,13 +19,17 @@ from unittest.mock import patch
 import chrrep
 from chrrep import Change, Id, Operation
 from chrrep.link import (
+    Batch,
+    Count,
     Diverged,
     Entry,
     Heard,
+    Lease,
     Link,
     LinkLost,
     Mark,
     Member,
+    Named,
     NewerFormat,
     NoProgram,
     OriginShared,
@@ -34,10 +38,12 @@ from chrrep.link import (
     Program,
     ProgramChanged,
     Reading,
+    Rest,
     SetAside,
     State,
     connect,
 )
+from chrrep.link.log import FORMAT, SEAL_SECONDS
 from chrrep.names import NameClash, named_atoms_of
 from engines import Engine, Server
 from kills import KILLS, SECONDS, Command, Kills, chance_of_stop
@@ -56,9 +62,12 @@ class Jumbled(Link):
         self.origin, self.writer = link.origin, link.writer
         self.seen: list[Entry] = []
 
-    def append(self, entries: Sequence[Entry], epoch: int = 1) -> None:
+    def append(self, batch: Batch) -> None:
         for _ in range(self.chance.randint(1, 2)):
-            self.link.append(entries, epoch)
+            self.link.append(batch)
+
+    def settle(self, entry: Entry) -> bool:
+        return self.link.settle(entry)
 
     def read(self, after: Position, wait: float = 0.0) -> Reading:
         new, generation = self.link.read(after, wait)
@@ -73,20 +82,20 @@ class Jumbled(Link):
     def mark(self) -> Mark:
         return self.link.mark()
 
+    def count(self) -> Count:
+        return self.link.count()
+
     def begin(self, program: Program) -> None:
         self.link.begin(program)
 
     def newest(self) -> dict[int, int]:
         return self.link.newest()
 
-    def keep(self, state: State, is_last: bool = False) -> bool:
-        return self.link.keep(state, is_last)
+    def keep(self, state: State, is_last: bool = False, rest: Rest = Rest()) -> bool:
+        return self.link.keep(state, is_last, rest)
 
-    def name(self, names: Mapping[int, str]) -> dict[int, str]:
-        return self.link.name(names)
-
-    def names(self, start: int = 0) -> list[tuple[int, str]]:
-        return self.link.names(start)
+    def names(self, place: int = 0) -> list[Named]:
+        return self.link.names(place)
 
     def seal(self, seconds: float) -> None:
         self.link.seal(seconds)
@@ -100,10 +109,10 @@ class Jumbled(Link):
     def members(self) -> list[Heard]:
         return self.link.members()
 
-    def _origins(self) -> dict[int, bool]:
+    def _leases(self) -> dict[int, Lease]:
         raise NotImplementedError
 
-    def _hold(self, origin: int, is_allotted: bool) -> bool:
+    def _hold(self, origin: int, is_allotted: bool, until: float | None) -> bool:
         raise NotImplementedError
 
     def _beat(self, position: str) -> None:
@@ -143,6 +152,11 @@ class Links(unittest.TestCase):
     def member(self, program: str | None = None, origin: int | None = None, snapshot_after: int = 100_000) -> Member:
         return self.stack.enter_context(Member(self.link(origin), program, snapshot_after=snapshot_after))
 
+    def put(self, link: Link, entries: Sequence[Entry], epoch: int = 1, names: Mapping[int, str] = {}) -> None:
+        """Appends entries after what the log has of their origin."""
+        before = link.newest().get(link.origin, 0)
+        link.append(Batch(entries, epoch, before, len(entries), names))
+
     def command(self, *options: str) -> Command:
         command = Command(self.engine, self.log, self.program, *options)
         self.stack.callback(command.kill)
@@ -168,18 +182,17 @@ class Logs(Links):
 
     def test_what_is_appended_is_read(self) -> None:
         one, two = self.link(1), self.link(2)
-        self.assertEqual((one.newest(), one.greatest(), one.read({})), ({}, 0, ([], 0)))
+        self.assertEqual((one.newest(), one.read({})), ({}, ([], 0)))
         told = [one.entry(number, [("a", -number), ("b",)]) for number in range(1, 4)]
         for entry in told:
-            one.append([entry])
+            self.put(one, [entry])
         other = two.entry(1, [("a", 2**63 - 1)])
-        two.append([other])
+        self.put(two, [other])
         for link in (one, two):
             self.assertEqual(link.newest(), {1: 3, 2: 1})
             self.assertEqual(sorted(link.read({}).entries), [*told, other])
             self.assertEqual(link.read({1: 2, 2: 1}).entries, told[2:])
             self.assertEqual(link.read({1: 3, 2: 1}).entries, [])
-        self.assertEqual((one.greatest(), two.greatest(), self.link(3).greatest()), (3, 1, 0))
         one.close()
         one.close()
         with self.assertRaises(LinkLost):
@@ -188,38 +201,38 @@ class Logs(Links):
     def test_a_number_is_used_once(self) -> None:
         link = self.link(1)
         first = link.entry(1, [("a", 1)])
-        link.append([first])
-        link.append([first])
+        self.put(link, [first])
+        self.put(link, [first])
         with self.assertRaises(OriginShared) as raised:
-            link.append([first._replace(atoms='[["a",5]]')])
+            self.put(link, [first._replace(atoms='[["a",5]]')])
         self.assertEqual(raised.exception.origin, 1)
-        link.append([link.entry(9, [("a", 9)])])
+        self.put(link, [link.entry(9, [("a", 9)])])
         with self.assertRaises(OriginShared):
-            link.append([link.entry(8, [("a", 8)])])
+            self.put(link, [link.entry(8, [("a", 8)])])
         self.assertEqual(self.ids(), [Id(1, 1), Id(1, 9)])
 
     def test_batches_are_appended_whole_or_not(self) -> None:
         link = self.link(1)
         batch = [link.entry(number, [("a", number)]) for number in range(1, 301)]
-        link.append(batch)
-        link.append(batch)
+        self.put(link, batch)
+        self.put(link, batch)
         for bad in (batch[:150], batch[150:] + [link.entry(301, [("a", 1)])], [link.entry(300, [("a", 0)])]):
             with self.assertRaises(OriginShared):
-                link.append(bad)
+                self.put(link, bad)
         self.assertEqual(self.entries(), batch)
 
     def test_new_origins_are_read_at_once(self) -> None:
         one = self.link(1)
         for origin in (2, 3):
             other = self.link(origin)
-            other.append([other.entry(1, [("a", 1)])])
+            self.put(other, [other.entry(1, [("a", 1)])])
             after = {2: 1} if origin > 2 else {}
             self.assertEqual([entry.id for entry in one.read(after).entries], [Id(origin, 1)])
 
     def test_long_logs_are_read_in_parts(self) -> None:
         links = [self.link(origin) for origin in (1, 2)]
         for link in links:
-            link.append([link.entry(number, [("a", number)]) for number in range(1, 1301)])
+            self.put(link, [link.entry(number, [("a", number)]) for number in range(1, 1301)])
         self.assertEqual(len(links[0].read({}).entries), 2000)
         self.assertEqual(len(self.entries()), 2600)
 
@@ -232,7 +245,7 @@ class Logs(Links):
             begin = time.monotonic()
             thread.start()
             time.sleep(0.3)
-            tells.append([tells.entry(number, [("a", number)])])
+            self.put(tells, [tells.entry(number, [("a", number)])])
             entries = came.get(timeout=SECONDS)
             while not entries:  # an origin's first comes may wake by its name alone
                 entries = waits.read(after).entries
@@ -245,7 +258,7 @@ class Logs(Links):
 
     def test_logs_of_other_names_are_apart(self) -> None:
         link = self.link(1)
-        link.append([link.entry(1, [("a", 1)])])
+        self.put(link, [link.entry(1, [("a", 1)])])
         with connect(self.engine.url, 1, log=self.log + "_") as other:
             self.assertEqual(other.newest(), {})
 
@@ -254,7 +267,7 @@ class Logs(Links):
         self.assertEqual(one.mark(), Mark(1, 0, {}))
         self.assertEqual(one.state(), State(1, None, 0, {}, "true"))
         for link in (one, two):
-            link.append([link.entry(number, [("a", number)]) for number in range(1, 11)])
+            self.put(link, [link.entry(number, [("a", number)]) for number in range(1, 11)])
         first = State(1, Program(PLAIN.encode()), 1, {1: 10, 2: 4}, "a(1), a(2)")
         self.assertTrue(one.keep(first))
         self.assertEqual((two.state(), two.mark()), (first, Mark(1, 1, {1: 10, 2: 4})))
@@ -270,10 +283,10 @@ class Logs(Links):
         self.assertEqual(one.state(), last)
         self.assertEqual(self.ids(), [Id(1, 10), Id(2, 10)])
         with self.assertRaises(ProgramChanged):
-            one.append([one.entry(11, [("a", 1)])])
+            self.put(one, [one.entry(11, [("a", 1)])])
         with self.assertRaises(OriginShared):
-            one.append([one.entry(9, [("a", 1)])], 2)
-        one.append([one.entry(11, [("a", 1)])], 2)
+            self.put(one, [one.entry(9, [("a", 1)])], 2)
+        self.put(one, [one.entry(11, [("a", 1)])], 2)
         self.assertEqual(two.read({1: 10, 2: 10}), ([one.entry(11, [("a", 1)])], 2))
 
     def test_what_is_set_aside_is_kept_once(self) -> None:
@@ -325,7 +338,7 @@ class Origins(Links):
         begin = time.monotonic()
         link = self.link(7)
         self.assertLess(time.monotonic() - begin, 11.0)
-        link.append([link.entry(2, [("path", 1, 2, 4)])])
+        self.put(link, [link.entry(2, [("path", 1, 2, 4)])])
 
 
 class Members(Links):
@@ -466,7 +479,7 @@ class Members(Links):
         self.assertEqual((member.refused, member.link.refused()), (0, []))
 
     def test_a_store_that_is_full(self) -> None:
-        with patch("chrrep.link.replica.TOLD_LIMIT", 300), patch("chrrep.link.replica.ROOM_FOR_OTHERS", 100):
+        with patch.object(Link, "room_limit", 200):
             member = self.member(MARKED)
             for value in range(200):
                 member.tell(("mark", value))
@@ -487,7 +500,7 @@ class Members(Links):
         bad = [Entry(Id(writer.origin, 2 * at + 1), text, writer.writer) for at, text in enumerate(texts)]
         one.tell(("a", 0))
         with self.assertLogs("chrrep.link", "WARNING") as warned:
-            writer.append(sorted(good + bad))
+            self.put(writer, sorted(good + bad))
             other = self.member()
             for member in (one, other):
                 self.assertEqual(member.show(), tuple(("a", value) for value in range(len(texts) + 1)))
@@ -524,8 +537,9 @@ class Members(Links):
         append = member.link.append
         for number in (1, 3):
 
-            def append_and_fail(entries: Sequence[Entry], epoch: int = 1) -> None:
-                append(entries, epoch)
+            def append_and_fail(batch: Batch) -> None:
+                append(batch)
+                batch.is_unsure = True
                 raise LinkLost("its acknowledgement is lost")
 
             with patch.object(member.link, "append", append_and_fail), self.assertRaises(LinkLost):
@@ -545,13 +559,19 @@ class Naming(Links):
     """Text as arguments."""
 
     def test_a_log_keeps_names_once(self) -> None:
-        one, two = self.link(), self.link()
+        one, two = self.link(1), self.link(2)
         self.assertEqual((one.names(), one.names(3)), ([], []))
-        self.assertEqual(one.name({5: "five", 2**63 - 1: "é\n\"'"}), {5: "five", 2**63 - 1: "é\n\"'"})
-        self.assertEqual(two.name({7: "", 5: "other"}), {7: "", 5: "five"})
+        self.put(one, [one.entry(1, [("a", 5)])], names={5: "five", 2**63 - 1: "é\n\"'"})
+        self.put(two, [two.entry(1, [("a", 5)])], names={7: "", 5: "five"})
+        for number, name in ((5, "other"), (7, "seven")):
+            with self.assertRaises(NameClash):
+                self.put(two, [two.entry(2, [("a", number)])], names={9: "nine", number: name})
         for link in (one, two):
-            self.assertEqual(link.names(), [(5, "five"), (2**63 - 1, "é\n\"'"), (7, "")])
-            self.assertEqual((link.names(2), link.names(3)), ([(7, "")], []))
+            self.assertEqual([named[1:] for named in link.names()], [(5, "five"), (2**63 - 1, "é\n\"'"), (7, "")])
+            places = [named.place for named in link.names()]
+            self.assertEqual(places, sorted(places))
+            self.assertEqual(([named[1:] for named in link.names(places[1])], link.names(places[2])), ([(7, "")], []))
+        self.assertEqual(self.ids(), [Id(1, 1), Id(2, 1)])
 
     def test_names_are_shown_where_they_were_told(self) -> None:
         one, other = self.member(PATHS), self.member()
@@ -564,7 +584,7 @@ class Naming(Links):
             self.assertEqual(member.count("path", None, "berlin", 5), 1)
             self.assertEqual(member.count("path", "oslo", None, None), 0)
             self.assertEqual(set(named_atoms_of(member.show_text())), wanted)
-        self.assertEqual([name for _, name in one.link.names()], ["berlin", "São Paulo", "paris"])
+        self.assertEqual([named.name for named in one.link.names()], ["berlin", "São Paulo", "paris"])
         came, went = next(other.changes())
         self.assertEqual((set(came), went), (wanted, ()))
         # a name that is refused with its operation is not kept
@@ -647,10 +667,10 @@ class Programs(Links):
 
     def test_a_log_of_a_later_format(self) -> None:
         self.member(PLAIN).tell(("a", 1))
-        self.engine.set_format(self.log, 2)
-        with self.assertRaisesRegex(NewerFormat, "format 2"):
+        self.engine.set_format(self.log, FORMAT + 1)
+        with self.assertRaisesRegex(NewerFormat, f"format {FORMAT + 1}"):
             self.link()
-        self.engine.set_format(self.log, 1)
+        self.engine.set_format(self.log, FORMAT)
         self.assertEqual(self.member().show(), (("a", 1),))
 
     def test_a_log_of_another_epoch(self) -> None:
@@ -737,8 +757,8 @@ class Upgrades(Links):
         one, two = self.member(MARKED, snapshot_after=1), self.member()
         append = one.link.append
 
-        def append_and_upgrade(entries: Sequence[Entry], epoch: int = 1) -> None:
-            append(entries, epoch)
+        def append_and_upgrade(batch: Batch) -> None:
+            append(batch)
             two.upgrade(self.LONGER)
 
         with patch.object(one.link, "append", append_and_upgrade), self.assertLogs("chrrep.link", "WARNING"):
@@ -771,15 +791,15 @@ class Upgrades(Links):
 
     def test_a_seal_has_others_wait_for_a_while(self) -> None:
         one, two = self.link(1), self.link(2, patience=0.3)
-        one.seal(SECONDS)
+        one.seal(SEAL_SECONDS)
         with self.assertRaisesRegex(LinkLost, "its program is being changed"):
-            two.append([two.entry(1, [("a", 1)])])
-        one.append([one.entry(1, [("a", 1)])])
+            self.put(two, [two.entry(1, [("a", 1)])])
+        self.put(one, [one.entry(1, [("a", 1)])])
         one.seal(0.0)
-        two.append([two.entry(1, [("a", 1)])])
+        self.put(two, [two.entry(1, [("a", 1)])])
         one.seal(0.4)
         patient = self.link(3)
-        patient.append([patient.entry(1, [("a", 1)])])
+        self.put(patient, [patient.entry(1, [("a", 1)])])
         self.assertEqual(self.ids(), [Id(1, 1), Id(2, 1), Id(3, 1)])
 
     def test_a_command_goes_over(self) -> None:
@@ -873,7 +893,7 @@ class Snapshots(Links):
         first.link.close()
         second = self.member(None, 1)
         second.tell(("mark", 4))
-        other.link.append([other.link.entry(1, [("mark", 5)])])
+        self.put(other.link, [other.link.entry(1, [("mark", 5)])])
         early = State(1, Program(MARKED.encode()), 1, {1: 1, other.origin: 1}, "mark(1), mark(5)")
         self.assertTrue(other.link.keep(early))
         self.assertEqual(second.show(), tuple(("mark", value) for value in range(1, 6)))
@@ -914,7 +934,7 @@ class Snapshots(Links):
         self.assertEqual(behind.show(), tuple(("mark", value) for value in (*range(1, 11), 20)))
 
     def test_nodes_are_renewed_before_they_are_full(self) -> None:
-        with patch("chrrep.link.replica.TOLD_LIMIT", 300), patch("chrrep.link.replica.ROOM_FOR_OTHERS", 100):
+        with patch("chrrep.link.replica.TOLD_LIMIT", 300), patch.object(Link, "room_limit", 200):
             one, other = self.member(MARKED), self.member()
             nodes = set()
             for value in range(40):
@@ -945,8 +965,8 @@ class Snapshots(Links):
 
     def test_members_in_threads(self) -> None:
         """Tells and readings of one member from several threads, while others take snapshots and nodes are renewed."""
-        for name, limit in (("TOLD_LIMIT", 800), ("ROOM_FOR_OTHERS", 100)):
-            self.stack.enter_context(patch(f"chrrep.link.replica.{name}", limit))
+        self.stack.enter_context(patch("chrrep.link.replica.TOLD_LIMIT", 800))
+        self.stack.enter_context(patch.object(Link, "room_limit", 700))
         members = [self.member(MARKED, snapshot_after=40) for _ in range(2)]
         before = [member.pid for member in members]
         over = threading.Event()

@@ -15,6 +15,7 @@ from tempfile import TemporaryDirectory
 import links
 from chrrep.link import LinkLost, LogUnusable, connect, join
 from chrrep.link.__main__ import _beside
+from chrrep.link.log import FORMAT
 from engines import Embedded
 from kills import PACKAGE, Command
 from programs import COINS, PATHS, PLAIN
@@ -202,9 +203,9 @@ class DefaultLog(unittest.TestCase):
         self.addCleanup(engine.close)
         with join(engine.url, PATHS) as member:
             member.tell(("path", 1, 2, 3))
-        engine.set_format("chrrep", 2)
-        self.is_refused("NewerFormat: the log has format 2", "--engine", engine.url, self.program)
-        engine.set_format("chrrep", 1)
+        engine.set_format("chrrep", FORMAT + 1)
+        self.is_refused(f"NewerFormat: the log has format {FORMAT + 1}", "--engine", engine.url, self.program)
+        engine.set_format("chrrep", FORMAT)
         whole = engine.path.read_bytes()
         damaged = bytearray(whole)
         damaged[:64] = os.urandom(64)

@@ -38,10 +38,10 @@ class Numbers(unittest.TestCase):
     def test_atoms_with_names(self) -> None:
         names = Names()
         atoms: list[Atom] = [("path", "berlin", 7, ""), ("path", 7, "berlin", -1), ("coin",)]
-        new = names.new_in(atoms)
-        self.assertEqual(new, {BERLIN: "berlin", BLANK: ""})
-        names.learn(new.items())
-        self.assertEqual((names.new_in(atoms), len(names)), ({}, 2))
+        found = names.of(atoms)
+        self.assertEqual((found, len(names)), ({BERLIN: "berlin", BLANK: ""}, 0))
+        names.learn(found.items())
+        self.assertEqual((names.of(atoms), len(names)), (found, 2))
         told = [numbered(atom) for atom in atoms]
         self.assertEqual(told, [("path", BERLIN, 7, BLANK), ("path", 7, BERLIN, -1), ("coin",)])
         self.assertEqual(names.named(told), tuple(atoms))

@@ -69,9 +69,9 @@ class Wound:
         elif name == "PostgresLink":
             plain_rows = link._rows  # type: ignore[attr-defined]
 
-            def rows(engine: Any, query: str, **values: Any) -> Any:
+            def rows(query: str, **values: Any) -> Any:
                 self.die_at_removal(query)
-                return plain_rows(engine, query, **values)
+                return plain_rows(query, **values)
 
             setattr(link, "_rows", rows)
         else:
@@ -94,7 +94,6 @@ class Wound:
 def renew_often() -> None:
     """Has each node renewed after so many atoms beyond what it began with."""
     plain = Replica._go_on_from
-    setattr(replica, "ROOM_FOR_OTHERS", 0)
 
     def go_on_from(self: Replica, store: str) -> None:
         plain(self, store)

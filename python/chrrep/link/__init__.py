@@ -13,7 +13,9 @@ node whose operations go through it.
 
 from .faults import (
     Diverged,
+    Forked,
     LinkLost,
+    LogLost,
     LogUnusable,
     NewerFormat,
     NoProgram,
@@ -23,19 +25,41 @@ from .faults import (
     ProgramChanged,
 )
 from .following import Following, Watch
-from .log import Entry, Heard, Link, Mark, Position, Program, Reading, SetAside, State, connect
+from .log import (
+    Count,
+    Entry,
+    Heard,
+    Lease,
+    Link,
+    Mark,
+    Named,
+    Position,
+    Program,
+    Reading,
+    Rest,
+    SetAside,
+    State,
+    connect,
+)
 from .member import Member, join
+from .telling import Batch
 
 __all__ = [
+    "Batch",
+    "Count",
     "Diverged",
     "Entry",
     "Following",
+    "Forked",
     "Heard",
+    "Lease",
     "Link",
     "LinkLost",
+    "LogLost",
     "LogUnusable",
     "Mark",
     "Member",
+    "Named",
     "NewerFormat",
     "NoProgram",
     "OriginShared",
@@ -45,6 +69,7 @@ __all__ = [
     "Program",
     "ProgramChanged",
     "Reading",
+    "Rest",
     "SetAside",
     "State",
     "Watch",

@@ -6,12 +6,25 @@ from ..refusals import ChrrepError
 
 
 class LinkLost(ChrrepError):
-    """The engine didn't answer for as long as the link was patient, or it has lost operations. Operations that were
-    being appended may be in the log."""
+    """The engine didn't answer for as long as the link was patient, or it has lost what the log had."""
+
+
+class LogLost(LinkLost):
+    """The engine has lost what the log had: nothing is appended to what is there now."""
+
+    def __init__(self, what: str) -> None:
+        super().__init__(f"the engine has lost what the log had: {what}")
 
 
 class LogUnusable(ChrrepError):
     """The log can't be used as it is: its file can't be opened or written, is damaged, or was taken away."""
+
+
+class Forked(ChrrepError):
+    """This process was forked from the one that joined the log: it needs a member of its own."""
+
+    def __init__(self) -> None:
+        super().__init__("this process was forked from the one that joined the log: join it here too")
 
 
 class NewerFormat(ChrrepError):
@@ -22,7 +35,7 @@ class NewerFormat(ChrrepError):
 
 
 class OriginShared(ChrrepError):
-    """Another node has this origin. What that one appended stays; what this node was to append isn't in the log."""
+    """Another node has this origin. What that one appended stays."""
 
     def __init__(self, origin: int) -> None:
         self.origin = origin
@@ -45,7 +58,7 @@ class OtherProgram(ChrrepError):
 
 
 class ProgramChanged(ChrrepError):
-    """The log went over to another program. What this member was to append isn't in the log; a new member goes on."""
+    """The log went over to another program. A new member goes on, or this one by `rejoin`."""
 
     def __init__(self) -> None:
         super().__init__("the log went over to another program: join it again")

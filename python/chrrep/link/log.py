@@ -7,24 +7,31 @@ them. Those that a snapshot stands for are removed, but for the last of each ori
 import itertools
 import json
 import logging
+import os
 import secrets
 import threading
 import time
+import weakref
 from abc import ABC, abstractmethod
 from collections.abc import Callable, Iterable, Iterator, Mapping, Sequence
 from contextlib import suppress
+from functools import partial, wraps
 from types import TracebackType
-from typing import Any, NamedTuple, Self, TypeAlias, TypeVar
+from typing import Any, NamedTuple, ParamSpec, Self, TypeAlias, TypeVar
 from urllib.parse import urlsplit
 
+from ..refusals import Full
 from ..texts import Atom, Id, atoms_text
-from .faults import LinkLost, NewerFormat, OriginShared
+from .faults import Forked, LinkLost, LogLost, LogUnusable, NewerFormat, OriginShared
+from .room import ROOM
+from .telling import Batch
 
 Position: TypeAlias = Mapping[int, int]
 """What has been read of a log: of each origin all operations up to a number. An origin that isn't there has none."""
 
-FORMAT = 1
-"""The format of logs that this version writes, and the last that it reads."""
+FORMAT = 2
+"""The format of logs that this version writes, and the last that it reads. Logs of the one before it, which have no id
+and don't count their room, are changed when they are opened."""
 
 FIRST_EPOCH = 1
 LAST_ORIGIN = 2**32 - 2
@@ -34,9 +41,17 @@ READ_AT_ONCE = 1000
 """Operations of one origin, at most, that one reading gives."""
 
 LOG_NAME = "chrrep"
+LONGEST_LOG_NAME = 200
 PATIENCE = 30.0
-LEASE_SECONDS = 10.0
-"""How long an origin stays a killed node's."""
+LEASE_SECONDS = 8.0
+"""How long an origin is held from each heartbeat on."""
+
+WATCH_SECONDS = 2.0
+"""How long who asks for an origin whose lease is out looks whether it is renewed: its node may have been kept from
+that by what kept all from writing."""
+
+FORGOTTEN_SECONDS = 60.0
+"""How long an allotted origin's lease has to be out before it is allotted again."""
 
 SEAL_SECONDS = 20.0
 """How long a log is sealed while its program is changed; less than the patience of links."""
@@ -46,7 +61,14 @@ _HEARTBEAT = LEASE_SECONDS / 4
 _REPORT_SECONDS = 1.0
 _FIRST_PAUSE = 0.05
 _LONGEST_PAUSE = 1.0
+_PARTING_SECONDS = 1.0
+"""How long a link that is closed waits for the engine to take its origin back, at most."""
+_SLACK_SECONDS = 1.0
+_TRIES = 8
+"""New origins that are tried before it is asked again which there are."""
+_OF_DAMAGED = (ValueError, TypeError, LookupError, AttributeError, ArithmeticError, RecursionError)
 
+P = ParamSpec("P")
 T = TypeVar("T")
 
 
@@ -82,6 +104,52 @@ class Entry(NamedTuple):
     id: Id
     atoms: str
     writer: str
+
+
+class Named(NamedTuple):
+    """A number that has a name, and the place of the name among those of its log."""
+
+    place: int
+    number: int
+    name: str
+
+
+class Count(NamedTuple):
+    """How often something was appended to a log, the generation of its snapshot, and how much of its room is taken by
+    the snapshot and by what was appended since."""
+
+    appends: int = 0
+    generation: int = 0
+    room: int = 0
+
+
+class Rest(NamedTuple):
+    """What is known of a snapshot's store: what it takes of the log's room, and the numbers of names that it doesn't
+    use. It stands for all that was appended up to the count `since`."""
+
+    room: int = 0
+    unused: Sequence[int] = ()
+    since: Count = Count()
+
+
+class Lease(NamedTuple):
+    """How an origin is held: until when by the engine's clock, 0 where it was given back, and how many seconds that is
+    from now on."""
+
+    until: float
+    left: float
+    is_allotted: bool
+
+    @classmethod
+    def of(cls, until: float, now: float, is_allotted: bool, length: float = LEASE_SECONDS) -> "Lease":
+        """One that ends further ahead than a lease is long was taken by a clock that was wrong, and counts for none."""
+        left = until - now
+        return cls(until, left if left <= length + _SLACK_SECONDS else 0.0, is_allotted)
+
+    @property
+    def is_free(self) -> bool:
+        """Whether it was given back, or left so long ago that its node is gone."""
+        return self.until == 0 or self.left < -FORGOTTEN_SECONDS
 
 
 class Reading(NamedTuple):
@@ -124,6 +192,12 @@ def known_format(kept: int) -> None:
         raise NewerFormat(kept)
 
 
+def check_log_name(log: str) -> None:
+    """Raises ValueError where a log can't have this name."""
+    if not log or not log.isprintable() or len(log.encode()) > LONGEST_LOG_NAME:
+        raise ValueError(f"a log's name is 1 to {LONGEST_LOG_NAME} bytes that can be printed, not {log[:80]!r}")
+
+
 def position_text(position: Position) -> str:
     """The position as a log keeps it: JSON."""
     return json.dumps(sorted(position.items()), separators=(",", ":"))
@@ -131,7 +205,27 @@ def position_text(position: Position) -> str:
 
 def position_of(kept: str) -> dict[int, int]:
     """The position that a log keeps."""
-    return {origin: number for origin, number in json.loads(kept)}
+    return {int(origin): int(number) for origin, number in json.loads(kept)}
+
+
+def new_log_id() -> str:
+    """128 random bits for a new log."""
+    return secrets.token_hex(16)
+
+
+def whole(value: object) -> int:
+    """The value, which is a whole number; TypeError where it isn't."""
+    if type(value) is not int:
+        raise TypeError(f"{value!r} is no whole number")
+    return value
+
+
+def is_among(entry: Entry, end: int, found: tuple[str, str] | None) -> bool:
+    """Whether an entry is in a log that has this one, by atoms and writer, at its id, and as the greatest number of
+    its origin this end. Raises `OriginShared` where the log doesn't tell any more."""
+    if found is None and end >= entry.id.number:
+        raise OriginShared(entry.id.origin)
+    return found == (entry.atoms, entry.writer)
 
 
 def one_line(fault: BaseException) -> str:
@@ -151,29 +245,50 @@ class Sealed(Exception):
         super().__init__("its program is being changed")
 
 
+def of_damaged(call: Callable[P, T]) -> Callable[P, T]:
+    """What a call that reads a log raises of something that no link has written is `LogUnusable`."""
+
+    @wraps(call)
+    def reading(*values: P.args, **named: P.kwargs) -> T:
+        try:
+            return call(*values, **named)
+        except _OF_DAMAGED as fault:
+            raise LogUnusable(f"the log is damaged: {type(fault).__name__}: {one_line(fault)}") from fault
+
+    return reading
+
+
 class Link(ABC):
     """A node's way to the log.
 
     The link's origin is its own while it lives: another link that asks for it is refused. Left out, the engine allots
-    one. A link that was killed keeps its origin for `LEASE_SECONDS` at most.
+    one. A link that was killed keeps its origin for `LEASE_SECONDS` and `WATCH_SECONDS` at most.
 
     What was appended is as safe as the engine keeps what it has acknowledged, and its ids stand for it for ever. A lost
-    connection is made again for `patience` seconds, and then `LinkLost` is raised. Calls may come from any thread.
-    Leaving a `with` closes the link.
+    connection is made again for `patience` seconds, and then `LinkLost` is raised. Calls may come from any thread, of
+    the process that made the link (`Forked`). Leaving a `with` closes the link, and so does dropping it.
     """
 
     origin: int
+    log_id: str
+    """What tells this log from others, also from one that stands in its place after the engine has lost it."""
+
     lease_seconds = LEASE_SECONDS
+    room_limit = ROOM
     position: Callable[[], Position]
     """How far the member has read, for others to know. It is told with each heartbeat."""
 
     def __init__(self, patience: float = PATIENCE, log: str = LOG_NAME) -> None:
+        check_log_name(log)
         self.log = log
         self.patience = patience
         self.position = dict
         self.writer = secrets.token_hex(8)
+        self.is_allotted = False
+        self._process = os.getpid()
         self._closing = threading.Event()
         self._is_closed = False
+        self._renewed = time.monotonic()
 
     @abstractmethod
     def state(self) -> State:
@@ -184,17 +299,28 @@ class Link(ABC):
         """The same without its program and store. Raises `NewerFormat`."""
 
     @abstractmethod
+    def count(self) -> Count:
+        """How much was appended to the log by now."""
+
+    @abstractmethod
     def begin(self, program: Program) -> None:
         """Gives the log this program where it has none."""
 
     @abstractmethod
-    def append(self, entries: Sequence[Entry], epoch: int = FIRST_EPOCH) -> None:
-        """Puts entries of the link's own origin and mark into the log, all or none: by rising numbers, which are beyond
-        all of that origin that are there.
+    def append(self, batch: Batch) -> None:
+        """Puts the entries of a batch, of the link's own origin and mark, into the log, all or none: by rising numbers,
+        which are beyond all of that origin that are there. To append again what it appended last changes nothing.
 
-        Raises `OriginShared` where another link has taken the origin or used a number, and `ProgramChanged` where the
-        log's epoch is another; nothing is appended then. To append again what it appended last changes nothing.
+        Raises `OriginShared` where another link has taken the origin or used a number, `ProgramChanged` where the log's
+        epoch is another, `Full` where there is no room, `NameClash`, and `LogLost` where the log is not the one that
+        was joined, or lacks operations of the origin. The batch's `is_unsure` then says whether the entries may be in
+        the log.
         """
+
+    @abstractmethod
+    def settle(self, entry: Entry) -> bool:
+        """Whether the last entry of a batch that may have been appended is in the log. Where it isn't it doesn't come
+        there any more. Raises `OriginShared` where nobody knows."""
 
     @abstractmethod
     def read(self, after: Position, wait: float = 0.0) -> Reading:
@@ -206,22 +332,19 @@ class Link(ABC):
         """The position of the log's end: the greatest number of each origin."""
 
     @abstractmethod
-    def keep(self, state: State, is_last: bool = False) -> bool:
+    def keep(self, state: State, is_last: bool = False, rest: Rest = Rest()) -> bool:
         """Puts the state in the place of the one of the generation before it, and removes the entries that its snapshot
-        stands for, in one step. Nothing is done where the generation before is another; nor, with `is_last`, where the
-        log has entries beyond the snapshot. Says whether it was done."""
+        stands for and the names that nothing uses, in one step. Nothing is done where the generation before is another;
+        nor, with `is_last`, where the log has entries beyond the snapshot. Says whether it was done."""
 
     @abstractmethod
-    def name(self, names: Mapping[int, str]) -> dict[int, str]:
-        """Keeps the names of these numbers, where they have none yet, and gives those that they have."""
-
-    @abstractmethod
-    def names(self, start: int = 0) -> list[tuple[int, str]]:
-        """The numbers that have names and these, in the order in which they came, but for so many first ones."""
+    def names(self, place: int = 0) -> list[Named]:
+        """The names whose places are beyond this one, in their order."""
 
     @abstractmethod
     def seal(self, seconds: float) -> None:
-        """Has others wait for so long before they append anything, or for no longer with 0."""
+        """Has others wait for so long, `SEAL_SECONDS` at most, before they append anything, or for no longer with
+        0."""
 
     @abstractmethod
     def set_aside(self, refused: SetAside) -> None:
@@ -236,16 +359,21 @@ class Link(ABC):
         """The members that hold origins, or did when they were killed, by these, and how far each has read."""
 
     @abstractmethod
-    def _origins(self) -> dict[int, bool]:
-        """The origins that links have had, and whether each was allotted."""
+    def _leases(self) -> dict[int, Lease]:
+        """The origins that links have had, and how each is held."""
 
     @abstractmethod
-    def _hold(self, origin: int, is_allotted: bool) -> bool:
-        """Takes the origin for this link, and says whether it is its own now."""
+    def _hold(self, origin: int, is_allotted: bool, until: float | None) -> bool:
+        """Takes the origin for this link where its lease ends at this time still, or is none, and says whether it is
+        its own now."""
+
+    def _wait_for_writing(self) -> None:
+        """Comes back when the engine takes what is written."""
+        self.count()
 
     @abstractmethod
     def _beat(self, position: str) -> None:
-        """Holds the origin for some time more, and tells the position."""
+        """Holds the origin for some time more, if it is this link's, and tells the position."""
 
     @abstractmethod
     def _let_go(self) -> None:
@@ -255,16 +383,31 @@ class Link(ABC):
         """An entry of the link's own, to be appended."""
         return Entry(Id(self.origin, number), atoms_text(atoms), self.writer)
 
-    def greatest(self) -> int:
-        """The greatest number of the link's own origin, 0 where there is none."""
-        return self.newest().get(self.origin, 0)
+    def check_name(self, name: str) -> None:
+        """Raises `UnkeptName` where the engine can't keep a name."""
+
+    def check_process(self) -> None:
+        """Raises `Forked` in a process that was forked from the link's."""
+        if os.getpid() != self._process:
+            raise Forked
+
+    def take_another_origin(self) -> None:
+        """Goes on with another origin where the engine has allotted this one, which another link has by now."""
+        self.origin = self._allotted()
+        _LOG.warning("another node has the origin: this one goes on as origin %d", self.origin)
 
     def close(self) -> None:
-        """Lets go of the engine. To close twice is no fault."""
+        """Lets go of the engine. To close twice is no fault. In a process that was forked nothing is done."""
         self._closing.set()
-        if not self._is_closed:
+        if not self._is_closed and os.getpid() == self._process:
+            self.patience = min(self.patience, _PARTING_SECONDS)
             self._let_go()
         self._is_closed = True
+
+    def __del__(self) -> None:
+        # one that never came up has nothing to let go of
+        with suppress(Exception):
+            self.close()
 
     def __repr__(self) -> str:
         return f"<chrrep.link.{type(self).__name__} of origin {self.origin}>"
@@ -280,39 +423,68 @@ class Link(ABC):
     def _take_origin(self, origin: int | None) -> None:
         """Takes this origin, or the first that is free, and holds it until the link is closed."""
         self.mark()  # a log of a newer format is left as it is
+        self.is_allotted = origin is None
         self.origin = self._allotted() if origin is None else self._own(origin)
-        threading.Thread(target=self._hold_on, name=f"chrrep origin {self.origin}", daemon=True).start()
+        beat = partial(_hold_on, weakref.ref(self), self._closing)
+        threading.Thread(target=beat, name=f"chrrep origin {self.origin}", daemon=True).start()
 
     def _own(self, origin: int) -> int:
         if not 0 <= origin <= LAST_ORIGIN:
             raise ValueError(f"an origin is 0 to {LAST_ORIGIN}, not {origin}")
         # a killed node's is free after a while
-        end = time.monotonic() + self.lease_seconds
-        while not self._hold(origin, False):
+        end = time.monotonic() + self.lease_seconds + 2 * WATCH_SECONDS
+        while True:
+            lease = self._leases().get(origin)
+            is_left = lease is None or lease.until == 0 or lease.left <= 0 and self._is_left(origin, lease.until)
+            if is_left and self._hold(origin, False, lease.until if lease else None):
+                return origin
             if time.monotonic() > end:
                 raise OriginShared(origin)
             time.sleep(_FIRST_PAUSE)
-        return origin
+
+    def _is_left(self, origin: int, until: float) -> bool:
+        """Whether a lease that is out isn't renewed though it could be by now."""
+        self._wait_for_writing()
+        time.sleep(WATCH_SECONDS)
+        lease = self._leases().get(origin)
+        return lease is not None and lease.until == until
 
     def _allotted(self) -> int:
-        known = self._origins()
-        again = sorted(origin for origin, is_allotted in known.items() if is_allotted)
-        new = (origin for origin in itertools.count(1) if origin not in known)
-        return next(origin for origin in itertools.chain(again, new) if self._hold(origin, True))
+        """An origin that was given back or left long ago, or a new one."""
+        while True:
+            leases = self._leases()
+            again = [(at, lease.until) for at, lease in sorted(leases.items()) if lease.is_allotted and lease.is_free]
+            new = ((at, None) for at in itertools.count(1) if at not in leases)
+            for origin, until in (*again, *itertools.islice(new, _TRIES)):
+                if self._hold(origin, True, until):
+                    return origin
 
-    def _hold_on(self) -> None:
-        beaten, told = time.monotonic(), ""
-        while not self._closing.wait(min(_HEARTBEAT, _REPORT_SECONDS)):
-            position = position_text(self.position())
-            if position == told and time.monotonic() < beaten + _HEARTBEAT:
-                continue
-            # an engine that is away is found out by the next call
+    def _renew(self) -> None:
+        """Holds the origin on where that is due: a thread that is late isn't waited for."""
+        if time.monotonic() > self._renewed + _HEARTBEAT:
             with suppress(Exception):
-                self._beat(position)
-                beaten, told = time.monotonic(), position
+                self._beat(position_text(self.position()))
+                self._renewed = time.monotonic()
 
-    def _patiently(self, call: Callable[[], T], lost: tuple[type[Exception], ...]) -> T:
-        """The call's result, tried again while the engine is away."""
+    def _check_id(self, found: str | None) -> None:
+        """Raises `LogLost` where the log is not the one that was joined."""
+        if found != self.log_id:
+            raise LogLost("what is there now is another log" if found else "nothing is there any more")
+
+    def _full(self, batch: Batch) -> Full:
+        """What is raised where the log has no room for a batch."""
+        return Full(f"the log has no room for what can come to {batch.room} atoms: it holds {self.room_limit}")
+
+    def _check_end(self, end: int, batch: Batch) -> None:
+        """Raises where the origin ends elsewhere in the log than the member knows."""
+        if end < batch.before:
+            raise LogLost(f"operations {end + 1} to {batch.before} of origin {self.origin} are not there any more")
+        if end > batch.before:
+            raise OriginShared(self.origin)
+
+    def _patiently(self, call: Callable[[float], T], lost: tuple[type[Exception], ...]) -> T:
+        """The call's result, tried again while the engine is away. It is told how many seconds are left."""
+        self.check_process()
         end = time.monotonic() + self.patience
         pause = _FIRST_PAUSE
         again: tuple[type[Exception], ...] = (*lost, Sealed)
@@ -320,13 +492,30 @@ class Link(ABC):
             if self._is_closed:
                 raise LinkLost("the link was closed")
             try:
-                return call()
+                return call(max(_FIRST_PAUSE, end - time.monotonic()))
             except again as error:
                 if time.monotonic() + pause > end or self._closing.is_set():
                     raise LinkLost(f"the engine doesn't answer: {one_line(error)}") from error
                 _LOG.info("the engine doesn't answer, and is asked again in %g seconds: %s", pause, one_line(error))
             self._closing.wait(pause)
             pause = min(2 * pause, _LONGEST_PAUSE)
+
+
+def _hold_on(reference: "weakref.ref[Link]", closing: threading.Event) -> None:
+    """Has a link hold its origin until it is closed or dropped."""
+    beaten, told = time.monotonic(), ""
+    while not closing.wait(min(_HEARTBEAT, _REPORT_SECONDS)):
+        link = reference()
+        if link is None:
+            return
+        position = position_text(link.position())
+        if position != told or time.monotonic() >= beaten + _HEARTBEAT:
+            # an engine that is away is found out by the next call
+            with suppress(Exception):
+                link._beat(position)
+                beaten, told = time.monotonic(), position
+                link._renewed = beaten
+        del link
 
 
 def connect(url: str, origin: int | None = None, *, log: str = LOG_NAME, patience: float = PATIENCE) -> Link:
@@ -353,5 +542,13 @@ def connect(url: str, origin: int | None = None, *, log: str = LOG_NAME, patienc
 
 
 def entries_of(rows: Iterable[tuple[Any, ...]]) -> Iterator[Entry]:
-    """The entries of rows that have origin, number, atoms and writer."""
-    return (Entry(Id(origin, number), atoms, writer) for origin, number, atoms, writer in rows)
+    """The entries of rows that have origin, number, atoms and writer. What is no text there is told as text, which no
+    node takes."""
+    for origin, number, atoms, writer in rows:
+        if type(origin) is not int or type(number) is not int:
+            raise ValueError(f"an entry has the id {origin!r}:{number!r}")
+        yield Entry(Id(origin, number), _text_of(atoms), _text_of(writer))
+
+
+def _text_of(kept: object) -> str:
+    return kept if isinstance(kept, str) else repr(kept)

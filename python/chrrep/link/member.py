@@ -2,15 +2,17 @@
 
 import logging
 import os
+import re
 import threading
 import weakref
 from collections.abc import Callable, Iterable, Iterator, Sequence
-from contextlib import contextmanager
+from contextlib import contextmanager, suppress
 from itertools import count, repeat
 from types import TracebackType
-from typing import Self, TypeVar
+from typing import NamedTuple, Self, TypeVar
 
-from ..names import Names, check_name, named_text, number_of, numbered
+from ..names import NameClash, Names, named_text, number_of, numbered
+from ..refusals import Full, NodeDied, Refused, RefusedProgram
 from ..stores import StoreReader
 from ..texts import (
     Atom,
@@ -23,22 +25,36 @@ from ..texts import (
     found_in,
     program_bytes,
 )
-from .faults import Diverged, LinkLost, NoProgram, OriginShared, OtherProgram, ProgramChanged
+from .faults import (
+    Diverged,
+    Forked,
+    LinkLost,
+    LogLost,
+    LogUnusable,
+    NoProgram,
+    OriginShared,
+    OtherProgram,
+    ProgramChanged,
+)
 from .following import Following, Watch
 from .log import (
     LOG_NAME,
     PATIENCE,
     SEAL_SECONDS,
+    Count,
     Entry,
     Link,
     Position,
     Program,
+    Rest,
     SetAside,
     State,
     connect,
     has_more,
+    one_line,
 )
 from .replica import Replica, Running
+from .telling import Batch, Journal, Operations, Tell, tell_of
 
 SNAPSHOT_AFTER = 100_000
 """Told atoms after which a snapshot is taken."""
@@ -49,6 +65,22 @@ BATCH = 1000
 T = TypeVar("T")
 
 _LOG = logging.getLogger("chrrep.link")
+_MOVES = 3
+"""Origins that a call gives up for others, at most."""
+_NUMBER = re.compile(r"-?\d+")
+_NOTHING_APPENDED = (OriginShared, ProgramChanged, LogLost, LogUnusable, LinkLost, Refused, NameClash)
+"""What a link raises of a batch, which says then whether it may be in the log all the same."""
+
+
+class Admitted(NamedTuple):
+    """Operations as they are appended, and these as they were told where they may have names."""
+
+    texts: list[str]
+    told: Operations
+
+    def names(self, at: int, known: Names) -> dict[int, str]:
+        """The names in one batch of them."""
+        return known.of(atom for atoms in self.told[at:at + BATCH] for atom in atoms)
 
 
 class Member:
@@ -80,9 +112,14 @@ class Member:
         self._told_since = 0
         self._last_told = 0
         self._is_sure = True
+        self._unsettled: Tell | None = None
+        self._late: Exception | None = None
+        self._journals = threading.local()
         self._refused = 0
         self._unkept: list[SetAside] = []
         self._names = Names()
+        self._place = 0
+        self._kept_names: set[int] = set()
         self._store = StoreReader(self._names.named)
         self._running = Running(chrrep, timeout)
         self._listeners: list[Callable[[Sequence[Entry]], object]] = []
@@ -126,33 +163,41 @@ class Member:
         `link.refused()` gives all of them."""
         return self._refused
 
-    def tell(self, *atoms: Atom) -> Id:
+    def tell(self, *atoms: Atom, after: BaseException | None = None) -> Id:
         """Appends one operation to the log, has the node told it, and gives its id. Text as an argument is a name.
 
-        Raises what the node would raise of the atoms (`Shape`, `UnknownSymbol`, `Full`, ..), `OriginShared`,
-        `ProgramChanged` and `NameClash`; then nothing was appended or told. After `LinkLost` the operation may be in
-        the log; where it is, it is read from there.
+        Raises what the node would raise of the atoms (`Shape`, `UnknownSymbol`, ..), `Full`, `NameClash`,
+        `OriginShared`, `ProgramChanged`, `LinkLost`, `LogUnusable` and `NodeDied`. Each says by `told` and `unsure`
+        whether the operation is in the log. Told `after` what was raised, the same operation is not told twice.
         """
-        return self.tell_many([atoms])[0]
+        return self.tell_many([atoms], after=after)[0]
 
-    def tell_many(self, tells: Iterable[Iterable[Atom]]) -> list[Id]:
+    def tell_many(self, tells: Iterable[Iterable[Atom]], *, after: BaseException | None = None) -> list[Id]:
         """Tells operations of 1 to 64 atoms each as `tell` does, many at once, and gives their ids.
 
-        Where one of them is refused, none is told. They are appended by `BATCH`, each batch whole or not at all.
+        Where the node refuses one of them, none is told. They are appended by `BATCH`, each batch whole or not at all.
+        What is raised has the ids of those that are `told`, the first ones, and of those that are `unsure`, which
+        follow. `after` it the same operations are told on, and none of them twice.
         """
+        operations = [tuple(atoms) for atoms in tells]
+        self.link.check_process()
         with self._lock:
-            self._make_sure()
-            entries = self._admitted([tuple(atoms) for atoms in tells])
-            for at in range(0, len(entries), BATCH):
-                self._tell(entries[at:at + BATCH])
-            return [entry.id for entry in entries]
+            tell = self._begun(operations, after)
+            try:
+                self._go_on(tell)
+            except BaseException as fault:
+                tell.leave_by(fault)
+                raise
+            return list(tell.told)
 
     def follow(self, wait: float = 0.0) -> int:
         """Reads on in the log, and says how many operations were new. Where there are none it waits for one, up to so
         many seconds.
 
-        Raises `OriginShared` where another node tells operations of this one's origin, and `ProgramChanged`.
+        Raises `OriginShared` where another node tells operations of the origin that this one asked for, and
+        `ProgramChanged`. A member whose origin was allotted takes another.
         """
+        self.link.check_process()
         after = self._held()
         entries, generation = self.link.read(after, wait)
         with self._lock:
@@ -162,16 +207,17 @@ class Member:
             if has_more(after, self._replica.position):
                 return 0
             if any(self._is_of_another(entry) for entry in entries):
-                raise OriginShared(self.origin)
+                self._move()
             return self._read(entries)
 
     def catch_up(self) -> int:
         """Reads all that is in the log by now, and says how many operations were new. Raises `LinkLost` where the log
         has lost some."""
+        self.link.check_process()
         held = self._held()
         newest = self.link.newest()
         if has_more(held, newest):
-            raise LinkLost("operations that were in the log are not there any more")
+            raise LogLost("operations that were in the log are not there any more")
         count = 0
         while True:
             before = self._held()
@@ -224,8 +270,11 @@ class Member:
         It has not where another member was faster. Where the log has a snapshot of this position already, both are
         compared: a difference is `Diverged`.
         """
+        self.link.check_process()
         with self._lock:
             self._told_since = 0
+            # what was appended by then is read before the snapshot is taken
+            count = self.link.count()
             self.catch_up()
             there = self.link.mark()
             if there.epoch != self._epoch:
@@ -233,14 +282,9 @@ class Member:
             if there.position == self._replica.position:
                 self._compare(self.link.state())
                 return True
-            if has_more(there.position, self._replica.position):
+            if there.generation != count.generation or has_more(there.position, self._replica.position):
                 return False
-            state = State(self._epoch, self.program, there.generation + 1, self._held(), self._replica.show())
-            is_kept = self.link.keep(state)
-            if is_kept:
-                self._generation = state.generation
-                _LOG.info("snapshot %d of the log was taken", state.generation)
-            return is_kept
+            return self._keep(count)
 
     def upgrade(self, program: ProgramText, *, wide: bool = False) -> None:
         """Has the log go over to another program, which is told the store at rest of all that is in the log by now.
@@ -248,6 +292,7 @@ class Member:
         Others wait until that is done, and are told `ProgramChanged` then; this member goes on. Nothing has changed
         where the program is refused, or lacks a symbol of the store (`UnknownSymbol`).
         """
+        self.link.check_process()
         new = Replica(Program(program_bytes(program), wide), self._running)
         is_sealed = False
         try:
@@ -279,13 +324,17 @@ class Member:
             return True
 
     def going_over(self, call: Callable[[], T]) -> T:
-        """The call's result, after `rejoin` where the log went over to another program."""
-        while True:
-            try:
-                return call()
-            except ProgramChanged:
-                # another thread may have been faster
-                self.rejoin()
+        """The call's result, after `rejoin` where the log went over to another program. The call is made again then,
+        and what it told before isn't told again, where it tells the same operations in the same order."""
+        with self._journal() as journal:
+            begin = journal.place
+            while True:
+                try:
+                    return call()
+                except ProgramChanged:
+                    # another thread may have been faster
+                    self.rejoin()
+                    journal.place = begin
 
     def listen(self, call: Callable[[Sequence[Entry]], object]) -> None:
         """From now on has the call made with entries that the node is told, as they come. It is not to take long, nor
@@ -297,8 +346,10 @@ class Member:
         return self._names.named(atoms)
 
     def close(self) -> None:
-        """Ends the node. To close twice is no fault."""
-        self._replica.close()
+        """Ends the node. To close twice is no fault. In a process that was forked nothing is done."""
+        with suppress(Forked):
+            self.link.check_process()
+            self._replica.close()
 
     def __repr__(self) -> str:
         return f"<chrrep.link.Member of origin {self.origin}: {self._replica.node!r}>"
@@ -311,64 +362,106 @@ class Member:
     ) -> None:
         self.close()
 
+    @contextmanager
+    def _journal(self) -> Iterator[Journal]:
+        """The journal of the tells that this thread makes."""
+        outer: Journal | None = getattr(self._journals, "open", None)
+        journal = self._journals.open = outer or Journal()
+        try:
+            yield journal
+        finally:
+            self._journals.open = outer
+
+    def _begun(self, operations: Operations, after: BaseException | None) -> Tell:
+        """The tell of operations, or the one that goes on after what was raised."""
+        if after is not None:
+            return tell_of(after, operations)
+        journal: Journal | None = getattr(self._journals, "open", None)
+        return journal.next(operations) if journal else Tell(operations)
+
     def _go_over(self, new: Replica) -> bool:
         """Puts another program and its store into the log, and says whether nothing was appended in the meantime."""
+        count = self.link.count()
         self.catch_up()
         new.begin(self._replica.position, self._replica.show())
-        generation = self.link.mark().generation + 1
-        state = State(self._epoch + 1, new.program, generation, self._held(), new.show())
-        return self.link.keep(state, is_last=True)
+        store = new.show()
+        rest = self._rest(new, store, count)
+        if store.count(", ") >= self.link.room_limit:
+            raise Full(f"the store would have more than {self.link.room_limit} atoms under the new program")
+        state = State(self._epoch + 1, new.program, self.link.mark().generation + 1, self._held(), store)
+        return self.link.keep(state, True, rest)
+
+    def _keep(self, count: Count) -> bool:
+        """Puts the store into the log as its snapshot, and says whether that was done."""
+        store = self._replica.show()
+        rest = self._rest(self._replica, store, count)
+        state = State(self._epoch, self.program, count.generation + 1, self._held(), store)
+        if not self.link.keep(state, False, rest):
+            return False
+        self._generation = state.generation
+        if rest.unused:
+            self._kept_names = {number for _, number, _ in self.link.names()}
+        _LOG.info("snapshot %d of the log was taken", state.generation)
+        return True
+
+    def _rest(self, replica: Replica, store: str, count: Count) -> Rest:
+        """What is known of a store at rest that is to be a snapshot."""
+        self._learn_names()
+        unused = self._kept_names.difference(map(int, _NUMBER.findall(store))) if self._kept_names else ()
+        return Rest(replica.counting.of_store(store), sorted(unused), count)
+
+    def _learn_names(self) -> None:
+        """Takes in the names that have come into the log."""
+        for place, number, name in self.link.names(self._place):
+            self._names.learn([(number, name)])
+            self._kept_names.add(number)
+            self._place = place
 
     def _show(self) -> str:
         """The store at rest of all that is in the log by now, without names, which are known then."""
         self.catch_up()
         # not while another thread renews the node
         with self._lock:
+            self._raise_late()
             text = self._replica.show()
-            self._names.learn(self.link.names(len(self._names)))
+            self._learn_names()
         return text
 
-    def _admitted(self, operations: list[tuple[Atom, ...]]) -> list[Entry]:
-        """The entries of operations, which are not refused and whose names the log has."""
+    def _admitted(self, operations: Operations) -> Admitted:
+        """Operations that the node takes, as they are appended."""
         texts = self._replica.writing.texts(operations)
         if texts is not None:
-            entries = self._entries(texts)
-            self._replica.make_room(entries)
-            return entries
+            return Admitted(texts, [])
         # there are names, or what is to be refused
-        numbers = [[numbered(atom) for atom in atoms] for atoms in operations]
-        entries = self._asked(numbers)
-        self._replica.make_room(entries)
-        self._keep_names(operations)
-        return entries
+        texts = self._asked([[numbered(atom) for atom in atoms] for atoms in operations])
+        for name in self._names.of(atom for atoms in operations for atom in atoms).values():
+            self.link.check_name(name)
+        return Admitted(texts, operations)
 
-    def _asked(self, operations: list[list[Atom]]) -> list[Entry]:
-        """The entries of operations without names, of which the node was asked where it has to be."""
+    def _asked(self, operations: list[list[Atom]]) -> list[str]:
+        """Operations without names as they are appended, of which the node was asked where it has to be."""
         writing = self._replica.writing
         texts = writing.texts(operations)
-        if texts is not None:
-            return self._entries(texts)
-        entries = self._entries(map(atoms_text, operations))
-        self._replica.admit(entries)
-        writing.learn(operations)
-        return entries
+        if texts is None:
+            texts = list(map(atoms_text, operations))
+            self._replica.admit(self._entries(texts))
+            writing.learn(operations)
+        return texts
 
     def _entries(self, texts: Iterable[str]) -> list[Entry]:
         """The entries that this member tells next."""
         ids = map(Id._make, zip(repeat(self.origin), count(self._replica.position.get(self.origin, 0) + 1)))
         return list(map(Entry._make, zip(ids, texts, repeat(self.link.writer))))
 
-    def _keep_names(self, operations: list[tuple[Atom, ...]]) -> None:
-        """Has the log keep the names that operations have, before these are appended."""
-        new = self._names.new_in(atom for atoms in operations for atom in atoms)
-        if not new:
-            return
-        for number, name in self.link.name(new).items():
-            check_name(number, new[number], name)
-        self._names.learn(self.link.names(len(self._names)))
+    def _batch(self, texts: Sequence[str], names: dict[int, str]) -> Batch:
+        """The batch that this member appends next."""
+        before = self._replica.position.get(self.origin, 0)
+        room = sum(map(self._replica.counting.of_written, texts))
+        return Batch(self._entries(texts), self._epoch, before, room, names)
 
     def _take_up(self, replica: Replica, state: State) -> None:
         self._replica, self._epoch, self._generation = replica, state.epoch, state.generation
+        self._late = None
 
     def _replace(self, replica: Replica, state: State) -> None:
         """Goes on with another replica, of what the log has by now."""
@@ -394,26 +487,109 @@ class Member:
         # who had the origin before has told up to there, at most
         return 0 < self._last_told < entry.id.number
 
-    def _make_sure(self) -> None:
-        """Reads what this member has told, where it may not have taken all of that."""
+    def _go_on(self, tell: Tell) -> None:
+        """Tells what is left of the operations of a call."""
+        if not tell.rest:
+            return
+        self._raise_late()
+        self._make_sure(tell)
+        begin, operations = len(tell.told), self._admitted(tell.rest)
+        moves = 0
+        while tell.rest:
+            at = len(tell.told) - begin
+            try:
+                self._append(tell, operations.texts[at:at + BATCH], operations.names(at, self._names))
+            except OriginShared:
+                moves += 1
+                if not self.link.is_allotted or moves > _MOVES:
+                    raise
+                self._leave_origin(tell)
+
+    def _make_sure(self, tell: Tell) -> None:
+        """Finds out what is in the log of what this member was appending, and reads it."""
+        if self._unsettled and self._unsettled is not tell:
+            # where nobody knows any more it stays unsure
+            with suppress(OriginShared):
+                self._settle(self._unsettled)
+        if tell.unsure:
+            self._settle(tell)
+        self._unsettled = None
         if not self._is_sure:
             self.catch_up()
             self._is_sure = True
 
-    def _tell(self, entries: list[Entry]) -> None:
-        self._make_sure()
-        # an earlier operation that was not seen through may have used the number
+    def _settle(self, tell: Tell) -> None:
+        """Finds out whether what is unsure is in the log; from then on it doesn't come there any more."""
+        tell.settle(self.link.settle(tell.unsure[-1]))
+
+    def _leave_origin(self, tell: Tell) -> None:
+        """Goes on with another origin, and finds out first what came into the log under the one before."""
+        if tell.unsure:
+            self._settle(tell)
+        self._move()
         self._is_sure = False
+        self._make_sure(tell)
+
+    def _append(self, tell: Tell, texts: Sequence[str], names: dict[int, str]) -> None:
+        """Appends one batch, and makes room for it in the log where that has to be."""
         try:
-            self.link.append(entries, self._epoch)
-        except (OriginShared, ProgramChanged):
-            self._is_sure = True
+            self._put(tell, texts, names)
+        except Full as fault:
+            self._make_room(fault)
+            self._put(tell, texts, names)
+
+    def _put(self, tell: Tell, texts: Sequence[str], names: dict[int, str]) -> None:
+        """Has the link append a batch, and takes notice of what becomes of it."""
+        batch = self._batch(texts, names)
+        self._is_sure = False
+        tell.unsure, self._unsettled = batch.entries, tell
+        try:
+            self.link.append(batch)
+        except _NOTHING_APPENDED:
+            if not batch.is_unsure:
+                tell.unsure, self._unsettled, self._is_sure = (), None, True
             raise
-        self._last_told = entries[-1].id.number
-        atoms = self._replica.owe(entries)
+        self._take_in(tell, batch)
+
+    def _take_in(self, tell: Tell, batch: Batch) -> None:
+        """Takes notice that a batch is in the log. Nothing of what follows is raised: what was told stays told."""
+        tell.settle(True)
+        self._unsettled = None
+        self._last_told = batch.last.id.number
+        self._told_since += self._replica.owe(batch.entries)
         self._is_sure = True
-        self._hear(entries)
-        self._count(atoms)
+        try:
+            self._names.learn(batch.names.items())
+            self._hear(batch.entries)
+            if self._replica.is_due:
+                self._replica.give()
+            self._keep_where_due()
+        except Exception as fault:
+            self._late = fault
+            _LOG.warning("what was told is in the log, but then: %s", one_line(fault))
+
+    def _raise_late(self) -> None:
+        """Raises what an earlier call found out after it had told its operations."""
+        late = self._late
+        if isinstance(late, NodeDied):
+            raise NodeDied(late.what, late.status)
+        self._late = None
+        if late:
+            raise late
+
+    def _make_room(self, fault: Full) -> None:
+        """Has a snapshot stand for what is in the log; raises the fault where it does that already."""
+        self.catch_up()
+        if self.link.mark().position == self._replica.position:
+            raise fault
+        self.snapshot()
+
+    def _move(self) -> None:
+        """Goes on with another origin. `OriginShared` where this one was asked for."""
+        if not self.link.is_allotted:
+            raise OriginShared(self.origin)
+        self.link.take_another_origin()
+        self._last_told = 0
 
     def _read(self, entries: list[Entry]) -> int:
         """Has the node told what is new of the entries, sets aside what it refuses, and says how many were told."""
@@ -423,7 +599,8 @@ class Member:
         taken = self._replica.take(entries)
         self._unkept += taken.refused
         self._set_aside()
-        self._count(taken.atoms)
+        self._told_since += taken.atoms
+        self._keep_where_due()
         return taken.operations
 
     def _hear(self, entries: Sequence[Entry]) -> None:
@@ -438,15 +615,14 @@ class Member:
             self._refused += 1
             _LOG.warning("entry %d:%d of the log is set aside: %s", *entry.id, reason)
 
-    def _count(self, atoms: int) -> None:
+    def _keep_where_due(self) -> None:
         """Takes a snapshot where so much was told since the last."""
-        self._told_since += atoms
         if self._told_since < self._snapshot_after:
             return
         try:
             self.snapshot()
-        except (LinkLost, OriginShared, ProgramChanged) as fault:
-            # what was told stays told; the next call finds out too
+        except (LinkLost, LogUnusable, OriginShared, ProgramChanged) as fault:
+            # the next call finds out too
             _LOG.warning("no snapshot was taken: %s", fault)
 
     def _meet_snapshot(self) -> None:
@@ -460,7 +636,7 @@ class Member:
                 raise ProgramChanged
             # the member's own may be beyond it, and are read again
             self._is_sure = False
-            self._replica.begin(state.position, state.store)
+            _begin(self._replica, state)
             self._generation = state.generation
             _LOG.info("the node goes on from snapshot %d of the log", state.generation)
         else:
@@ -526,13 +702,32 @@ def _joined(
         if text is not None and text != state.program.text or wide is not None and wide != state.program.is_wide:
             raise OtherProgram(state.program.text if text is None else text, state.program.text)
         if replica is None or replica.program != state.program:
-            other, replica = replica, Replica(state.program, running)
+            other, replica = replica, _replica_of(state.program, running)
             if other:
                 other.close()
-        if state.position:
-            replica.begin(state.position, state.store)
+        _begin(replica, state)
         return replica, state
     except BaseException:
         if replica:
             replica.close()
         raise
+
+
+def _replica_of(program: Program, running: Running) -> Replica:
+    """A node of the program that a log has."""
+    try:
+        return Replica(program, running)
+    except RefusedProgram as refusal:
+        raise LogUnusable(f"the log's program is refused: {one_line(refusal)}") from refusal
+
+
+def _begin(replica: Replica, state: State) -> None:
+    """Has a node go on from the snapshot that a log has."""
+    if not state.position:
+        return
+    try:
+        replica.begin(state.position, state.store)
+    except Full:
+        raise
+    except (ValueError, Refused) as fault:
+        raise LogUnusable(f"the log's snapshot is damaged: {one_line(fault)}") from fault

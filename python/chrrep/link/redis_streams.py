@@ -2,124 +2,233 @@
 
 Each origin has a stream `LOG:ORIGIN`, whose entry `NUMBER-0` is the operation of that number. Redis takes no entry
 whose id isn't beyond the last, so that no number is used twice. The stream `LOG:origins` tells which origins there are,
-the hash `LOG:state` what they go on from, `LOG:lease:ORIGIN` whose an origin is, `LOG:allotted` which were allotted,
-`LOG:members` how far members have read, `LOG:refused` what was set aside, `LOG:names` and `LOG:named` names, and
-`LOG:seal` who has others wait. What changes more than one of them is a script, which Redis runs as a whole.
+the hash `LOG:state` what they go on from, how much of the log's room is taken and who has others wait, `LOG:leases`
+whose an origin is, `LOG:members` how far members have read, `LOG:refused` what was set aside, and `LOG:names`,
+`LOG:places` and `LOG:used` names. What changes more than one of them is a script, which Redis runs as a whole.
 """
 
 import json
-from collections.abc import Callable, Mapping, Sequence
+from collections.abc import Callable, Sequence
 from contextlib import suppress
 from typing import Any, TypeVar
 
 import redis
+from redis.backoff import NoBackoff
+from redis.retry import Retry
 
+from ..names import NameClash
 from ..texts import Id
 from .faults import LogUnusable, OriginShared, ProgramChanged
 from .log import (
     FIRST_EPOCH,
     FORMAT,
     READ_AT_ONCE,
+    SEAL_SECONDS,
+    Count,
     Entry,
     Heard,
+    Lease,
     Link,
     Mark,
+    Named,
     Position,
     Program,
     Reading,
+    Rest,
     Sealed,
     SetAside,
     State,
+    is_among,
     known_format,
+    new_log_id,
+    of_damaged,
     one_line,
     position_of,
     position_text,
     program_of,
     program_text,
 )
+from .telling import Batch
 
 _LOST = (redis.exceptions.ConnectionError, redis.exceptions.TimeoutError, OSError)
 _ANSWER_SECONDS = 10.0
-_LONGEST_WAIT = 5.0
+_TURNS = 4
+"""Answers that a link waits for in vain before its patience is at its end, at least."""
 _ALL = 2**64 - 1
 """Beyond each number."""
 
 T = TypeVar("T")
 
 _NEW: dict[str, str | int] = {
-    "format": FORMAT,
     "epoch": FIRST_EPOCH,
     "generation": 0,
     "position": "[]",
     "store": "true",
+    "room": 0,
+    "appends": 0,
+    "place": 0,
+    "sealed_by": "",
+    "sealed_until": 0,
 }
 
-# KEYS: lease, state, stream, seal. ARGV: writer, milliseconds, epoch, then number and atoms of each entry
-_APPEND = """
-    local holder = redis.call('GET', KEYS[1])
-    if holder and holder ~= ARGV[1] then return 'shared' end
-    if not holder then redis.call('SET', KEYS[1], ARGV[1], 'PX', ARGV[2]) end
-    if (redis.call('HGET', KEYS[2], 'epoch') or ARGV[3]) ~= ARGV[3] then return 'changed' end
-    if (redis.call('GET', KEYS[4]) or ARGV[1]) ~= ARGV[1] then return 'sealed' end
-    local last = redis.call('XREVRANGE', KEYS[3], '+', '-', 'COUNT', 1)[1]
-    local end_id = ARGV[#ARGV - 1] .. '-0'
-    if last and last[1] == end_id then
+_NOW = """
+    local time = redis.call('TIME')
+    local now = time[1] * 1000 + math.floor(time[2] / 1000)
+    local function milliseconds(number) return string.format('%.0f', number) end"""
+_FIELDS = """
+    local function fields(item)
         local held = {}
-        for at = 1, #last[2], 2 do held[last[2][at]] = last[2][at + 1] end
-        return held.atoms == ARGV[#ARGV] and held.writer == ARGV[1] and 'done' or 'shared'
-    end
-    for at = 4, #ARGV, 2 do
-        local added = redis.pcall('XADD', KEYS[3], ARGV[at] .. '-0', 'atoms', ARGV[at + 1], 'writer', ARGV[1])
-        -- the first is refused, or none is
-        if type(added) == 'table' and added.err then return 'shared' end
-    end
-    return 'done'"""
-# KEYS: state, origins. ARGV: name of the log, generation before, whether it is the last, number of the words of the
-# state, these words, then origin and end of the snapshot's position
-_KEEP = """
-    if (redis.call('HGET', KEYS[1], 'generation') or '0') ~= ARGV[2] then return 0 end
-    local words = tonumber(ARGV[4])
-    local ends = {}
-    for at = 5 + words, #ARGV, 2 do ends[ARGV[at]] = ARGV[at + 1] end
-    if ARGV[3] == '1' then
-        for _, item in ipairs(redis.call('XRANGE', KEYS[2], '-', '+')) do
-            local origin = item[2][2]
-            local last = redis.call('XREVRANGE', ARGV[1] .. ':' .. origin, '+', '-', 'COUNT', 1)[1]
-            if last and last[1] ~= (ends[origin] or '') .. '-0' then return 0 end
+        for at = 1, #item[2], 2 do held[item[2][at]] = item[2][at + 1] end
+        return held
+    end"""
+_LEASE = """
+    local function lease(key, origin)
+        local holder, last, allotted, fence =
+            string.match(redis.call('HGET', key, origin) or '', '^(%S+) (%d+) (%d) (%d+)$')
+        return holder, last, allotted, tonumber(fence or 0)
+    end"""
+# KEYS: state, origins, named, places, leases, allotted. ARGV: name of the log, id, fields of a new state
+_OPEN = _FIELDS + f"""
+    local format = tonumber(redis.call('HGET', KEYS[1], 'format') or '1')
+    if format >= {FORMAT} then return end
+    for at = 3, #ARGV, 2 do redis.call('HSETNX', KEYS[1], ARGV[at], ARGV[at + 1]) end
+    local function count(text, sign) return select(2, string.gsub(text, sign, '')) end
+    local store = redis.call('HGET', KEYS[1], 'store')
+    local room = store == 'true' and 0 or count(store, ', ') + 1
+    for _, item in ipairs(redis.call('XRANGE', KEYS[2], '-', '+')) do
+        local origin = fields(item).origin or ''
+        if string.match(origin, '^%d+$') then
+            local allotted = redis.call('SISMEMBER', KEYS[6], origin)
+            redis.call('HSETNX', KEYS[5], origin, '- 0 ' .. allotted .. ' 0')
+            for _, entry in ipairs(redis.call('XRANGE', ARGV[1] .. ':' .. origin, '-', '+')) do
+                room = room + math.max(0, count(fields(entry).atoms or '', '%[') - 1)
+            end
         end
     end
-    redis.call('HSET', KEYS[1], unpack(ARGV, 5, 4 + words))
+    local named = redis.call('LRANGE', KEYS[3], 0, -1)
+    for place, number in ipairs(named) do redis.call('ZADD', KEYS[4], place, number) end
+    redis.call('HSET', KEYS[1], 'format', {FORMAT}, 'id', ARGV[2], 'room', room, 'place', #named)
+    redis.call('DEL', KEYS[3], KEYS[6])"""
+# KEYS: state, leases, stream, names, places, used. ARGV: id, origin, writer, fence, milliseconds of a lease and of a
+# seal, epoch, number before, room, its limit, number of names, number and text of each name, number and atoms of each
+# entry
+_APPEND = _NOW + _FIELDS + _LEASE + """
+    local state = redis.call('HMGET', KEYS[1], 'id', 'epoch', 'sealed_by', 'sealed_until', 'room', 'appends', 'place')
+    if state[1] ~= ARGV[1] then return {'lost', state[1] or ''} end
+    local newest = redis.call('XREVRANGE', KEYS[3], '+', '-', 'COUNT', 1)[1]
+    local last = newest and newest[1] or '0-0'
+    if last == ARGV[#ARGV - 1] .. '-0' then
+        local held = fields(newest)
+        return {held.atoms == ARGV[#ARGV] and held.writer == ARGV[3] and 'done' or 'shared'}
+    end
+    local holder, _, allotted, fence = lease(KEYS[2], ARGV[2])
+    local entries = 12 + 2 * ARGV[11]
+    if holder ~= ARGV[3] or fence ~= tonumber(ARGV[4]) then return {'shared'} end
+    if state[2] ~= ARGV[7] then return {'changed'} end
+    local sealed = tonumber(state[4]) - now
+    if state[3] ~= ARGV[3] and sealed > 0 and sealed <= tonumber(ARGV[6]) then return {'sealed'} end
+    if last ~= ARGV[8] .. '-0' then return {'end', last} end
+    if tonumber(ARGV[entries]) <= tonumber(ARGV[8]) then return {'shared'} end
+    if state[5] + ARGV[9] > tonumber(ARGV[10]) then return {'full'} end
+    local known = {}
+    for at = 12, entries - 1, 2 do
+        known[at] = redis.call('HGET', KEYS[4], ARGV[at])
+        if known[at] and known[at] ~= ARGV[at + 1] then return {'clash', ARGV[at], ARGV[at + 1], known[at]} end
+    end
+    local place = tonumber(state[7])
+    for at = 12, entries - 1, 2 do
+        if not known[at] then
+            place = place + 1
+            redis.call('HSET', KEYS[4], ARGV[at], ARGV[at + 1])
+            redis.call('ZADD', KEYS[5], place, ARGV[at])
+        end
+        redis.call('HSET', KEYS[6], ARGV[at], state[6] + 1)
+    end
+    for at = entries, #ARGV, 2 do
+        redis.call('XADD', KEYS[3], ARGV[at] .. '-0', 'atoms', ARGV[at + 1], 'writer', ARGV[3])
+    end
+    redis.call('HSET', KEYS[1], 'room', state[5] + ARGV[9], 'appends', state[6] + 1, 'place', place)
+    local held = table.concat({ARGV[3], milliseconds(now + ARGV[5]), allotted, fence}, ' ')
+    redis.call('HSET', KEYS[2], ARGV[2], held)
+    return {'done'}"""
+# KEYS: state, leases, stream. ARGV: id, origin, writer, number. The link's appends that are on their way are refused
+_SETTLE = _FIELDS + _LEASE + """
+    local id = redis.call('HGET', KEYS[1], 'id')
+    if id ~= ARGV[1] then return {'lost', id or ''} end
+    local holder, last, allotted, fence = lease(KEYS[2], ARGV[2])
+    if holder == ARGV[3] then
+        fence = fence + 1
+        redis.call('HSET', KEYS[2], ARGV[2], table.concat({holder, last, allotted, fence}, ' '))
+    end
+    local newest = redis.call('XREVRANGE', KEYS[3], '+', '-', 'COUNT', 1)[1]
+    local found = redis.call('XRANGE', KEYS[3], ARGV[4] .. '-0', ARGV[4] .. '-0')[1]
+    local held = found and fields(found) or {}
+    return {'found', fence, newest and newest[1] or '0-0', held.atoms or false, held.writer or false}"""
+# KEYS: state, origins, names, places, used. ARGV: name of the log, id, generation before, whether it is the last, room,
+# room that was counted, appends that were, number of the words of the state, number of unused names, then these words,
+# these names' numbers, and origin and end of the snapshot's position
+_KEEP = _FIELDS + """
+    local state = redis.call('HMGET', KEYS[1], 'id', 'generation', 'room')
+    if state[1] ~= ARGV[2] then return {'lost', state[1] or ''} end
+    if state[2] ~= ARGV[3] then return {'other'} end
+    local names, words = 10 + ARGV[8], tonumber(ARGV[8])
+    local position = names + ARGV[9]
+    local ends = {}
+    for at = position, #ARGV, 2 do ends[ARGV[at]] = ARGV[at + 1] end
+    local room = ARGV[5] + math.max(0, state[3] - ARGV[6])
+    if ARGV[4] == '1' then
+        room = ARGV[5]
+        for _, item in ipairs(redis.call('XRANGE', KEYS[2], '-', '+')) do
+            local origin = fields(item).origin or ''
+            local last = redis.call('XREVRANGE', ARGV[1] .. ':' .. origin, '+', '-', 'COUNT', 1)[1]
+            if last and last[1] ~= (ends[origin] or '') .. '-0' then return {'other'} end
+        end
+    end
+    redis.call('HSET', KEYS[1], 'room', room, unpack(ARGV, 10, 9 + words))
     for origin, last in pairs(ends) do
         redis.call('XTRIM', ARGV[1] .. ':' .. origin, 'MINID', last .. '-0')
     end
-    return 1"""
-# KEYS: names by number, numbers by place. ARGV: number and name of each
-_NAME = """
-    local names = {}
-    for at = 1, #ARGV, 2 do
-        if redis.call('HSETNX', KEYS[1], ARGV[at], ARGV[at + 1]) == 1 then redis.call('RPUSH', KEYS[2], ARGV[at]) end
-        names[#names + 1] = redis.call('HGET', KEYS[1], ARGV[at])
+    for at = names, position - 1 do
+        if tonumber(redis.call('HGET', KEYS[5], ARGV[at]) or '0') <= tonumber(ARGV[7]) then
+            redis.call('HDEL', KEYS[3], ARGV[at])
+            redis.call('HDEL', KEYS[5], ARGV[at])
+            redis.call('ZREM', KEYS[4], ARGV[at])
+        end
     end
-    return names"""
-# KEYS: lease. ARGV: writer, milliseconds
-_HOLD = """
-    local holder = redis.call('GET', KEYS[1])
-    if holder and holder ~= ARGV[1] then return 0 end
-    redis.call('SET', KEYS[1], ARGV[1], 'PX', ARGV[2])
+    return {'done'}"""
+# KEYS: state. ARGV: id, program
+_BEGIN = """
+    local id = redis.call('HGET', KEYS[1], 'id')
+    if id ~= ARGV[1] then return {'lost', id or ''} end
+    redis.call('HSETNX', KEYS[1], 'program', ARGV[2])
+    return {'done'}"""
+# KEYS: state. ARGV: writer, milliseconds
+_SEAL = _NOW + """
+    redis.call('HSET', KEYS[1], 'sealed_by', ARGV[1], 'sealed_until', milliseconds(now + ARGV[2]))"""
+# KEYS: leases. ARGV: origin, writer, whether it is allotted, end of the lease before, milliseconds
+_HOLD = _NOW + _LEASE + """
+    local holder, last, _, fence = lease(KEYS[1], ARGV[1])
+    if holder and holder ~= ARGV[2] and last ~= ARGV[4] then return 0 end
+    local held = table.concat({ARGV[2], milliseconds(now + ARGV[5]), ARGV[3], fence + 1}, ' ')
+    redis.call('HSET', KEYS[1], ARGV[1], held)
+    return fence + 1"""
+# KEYS: leases, members. ARGV: writer, milliseconds, origin, position
+_BEAT = _NOW + _LEASE + """
+    local holder, _, allotted, fence = lease(KEYS[1], ARGV[3])
+    if holder ~= ARGV[1] then return 0 end
+    redis.call('HSET', KEYS[1], ARGV[3], table.concat({holder, milliseconds(now + ARGV[2]), allotted, fence}, ' '))
+    redis.call('HSET', KEYS[2], ARGV[3], time[1] .. ' ' .. ARGV[4])
     return 1"""
-# KEYS: lease, members. ARGV: writer, origin
-_LET_GO = """
-    if redis.call('GET', KEYS[1]) == ARGV[1] then
-        redis.call('DEL', KEYS[1])
+# KEYS: leases, members. ARGV: writer, origin
+_LET_GO = _LEASE + """
+    local holder, _, allotted, fence = lease(KEYS[1], ARGV[2])
+    if holder == ARGV[1] then
+        redis.call('HSET', KEYS[1], ARGV[2], table.concat({holder, 0, allotted, fence}, ' '))
         redis.call('HDEL', KEYS[2], ARGV[2])
     end"""
-# KEYS: lease, members. ARGV: writer, milliseconds, origin, position
-_BEAT = """
-    local holder = redis.call('GET', KEYS[1])
-    if holder and holder ~= ARGV[1] then return 0 end
-    redis.call('SET', KEYS[1], ARGV[1], 'PX', ARGV[2])
-    redis.call('HSET', KEYS[2], ARGV[3], redis.call('TIME')[1] .. ' ' .. ARGV[4])
-    return 1"""
+
+_SCRIPTS = (_OPEN, _APPEND, _SETTLE, _KEEP, _BEGIN, _SEAL, _HOLD, _BEAT, _LET_GO)
+_SEAL_MILLISECONDS = int(SEAL_SECONDS * 1000)
 
 
 class RedisLink(Link):
@@ -130,76 +239,101 @@ class RedisLink(Link):
         super().__init__(patience, log)
         self._known: set[int] = set()
         self._known_until = "0-0"
+        self._fence = 0
+        self._answer_seconds = min(_ANSWER_SECONDS, patience / _TURNS)
         self._engine = redis.Redis.from_url(
             url,
             decode_responses=True,
             encoding_errors="replace",
-            socket_timeout=_ANSWER_SECONDS,
-            socket_connect_timeout=_ANSWER_SECONDS,
+            socket_timeout=self._answer_seconds,
+            socket_connect_timeout=self._answer_seconds,
+            retry=Retry(NoBackoff(), 0),
         )
-        self._append, self._keep, self._name, self._take, self._tell, self._leave = map(
-            self._engine.register_script, (_APPEND, _KEEP, _NAME, _HOLD, _BEAT, _LET_GO)
-        )
+        self._scripts = {script: self._engine.register_script(script) for script in _SCRIPTS}
         try:
+            self._open()
             self._take_origin(origin)
-            self._ask(self._announce)
+            self._announce()
         except BaseException:
             self._let_go()
             raise
 
+    @of_damaged
     def state(self) -> State:
-        format, epoch, program, generation, position, store = self._fields(
-            "format", "epoch", "program", "generation", "position", "store"
+        id, format, epoch, program, generation, position, store = self._fields(
+            "id", "format", "epoch", "program", "generation", "position", "store"
         )
-        known_format(int(format))
+        known_format(int(format or 0))
+        self._check_id(id)
         kept = program_of(program) if program else None
-        return State(int(epoch), kept, int(generation), position_of(position), store)
+        return State(_int(epoch), kept, _int(generation), position_of(_text(position)), _text(store))
 
+    @of_damaged
     def mark(self) -> Mark:
-        format, epoch, generation, position = self._fields("format", "epoch", "generation", "position")
-        known_format(int(format))
-        return Mark(int(epoch), int(generation), position_of(position))
+        id, format, epoch, generation, position = self._fields("id", "format", "epoch", "generation", "position")
+        known_format(int(format or 0))
+        self._check_id(id)
+        return Mark(_int(epoch), _int(generation), position_of(_text(position)))
+
+    @of_damaged
+    def count(self) -> Count:
+        return Count(*map(_int, self._fields("appends", "generation", "room")))
 
     def begin(self, program: Program) -> None:
-        def put() -> None:
-            with self._engine.pipeline() as pipeline:
-                for field, value in (*_NEW.items(), ("program", program_text(program))):
-                    pipeline.hsetnx(self._key("state"), field, value)
-                pipeline.execute()
+        self._said(lambda: self._run(_BEGIN, [self._key("state")], [self.log_id, program_text(program)]))
 
-        self._ask(put)
+    @of_damaged
+    def append(self, batch: Batch) -> None:
+        keys = self._keys("state", "leases", self.origin, "names", "places", "used")
+        fixed = [self.log_id, self.origin, self.writer, self._fence, self._lease_milliseconds, _SEAL_MILLISECONDS]
+        needed = [batch.epoch, batch.before, batch.room, self.room_limit, len(batch.names)]
+        names = [word for pair in batch.names.items() for word in pair]
+        words = [word for entry in batch.entries for word in (entry.id.number, entry.atoms)]
+        batch.is_unsure = False
 
-    def append(self, entries: Sequence[Entry], epoch: int = FIRST_EPOCH) -> None:
-        keys = [self._lease(self.origin), self._key("state"), self._key(self.origin), self._key("seal")]
-        words = [word for entry in entries for word in (entry.id.number, entry.atoms)]
-
-        def add() -> str:
-            said = self._append(keys, [self.writer, self._lease_milliseconds, epoch, *words])
-            if said == "sealed":
+        def add() -> list[str]:
+            before, batch.is_unsure = batch.is_unsure, True
+            said: list[str] = self._run(_APPEND, keys, [*fixed, *needed, *names, *words])
+            batch.is_unsure = before
+            if said[0] == "sealed":
                 raise Sealed
-            return str(said)
+            return said
 
-        said = self._ask(add)
-        if said == "shared":
-            raise OriginShared(self.origin)
-        if said == "changed":
-            raise ProgramChanged
+        said, *more = self._said(add)
+        if said != "done":
+            self._raise_why(batch, said, more)
+        batch.is_unsure = False
 
+    @of_damaged
+    def settle(self, entry: Entry) -> bool:
+        keys = self._keys("state", "leases", entry.id.origin)
+        words = [self.log_id, entry.id.origin, self.writer, entry.id.number]
+        _, fence, last, atoms, writer = self._said(lambda: self._run(_SETTLE, keys, words))
+        if entry.id.origin == self.origin:
+            self._fence = int(fence)
+        found = None if atoms is None or writer is None else (atoms, writer)
+        return is_among(entry, _number_of(last), found)
+
+    @of_damaged
     def read(self, after: Position, wait: float = 0.0) -> Reading:
-        def read() -> Reading:
-            entries = self._read(after, min(wait, _LONGEST_WAIT))
+        self._renew()
+
+        def read() -> tuple[list[Entry], list[str | None]]:
+            entries = self._read(after, min(wait, self._answer_seconds / 2))
             # asked for after the entries: those that were missed were removed by a generation that is told
-            return Reading(entries, int(self._engine.hget(self._key("state"), "generation") or 0))
+            return entries, self._engine.hmget(self._key("state"), "id", "generation")
 
-        return self._ask(read)
+        entries, (id, generation) = self._ask(read)
+        self._check_id(id)
+        return Reading(entries, _int(generation))
 
+    @of_damaged
     def newest(self) -> dict[int, int]:
         return self._ask(self._newest)
 
-    def keep(self, state: State, is_last: bool = False) -> bool:
+    def keep(self, state: State, is_last: bool = False, rest: Rest = Rest()) -> bool:
         assert state.program
         fields: dict[str, Any] = {
-            **_NEW,
             "epoch": state.epoch,
             "program": program_text(state.program),
             "generation": state.generation,
@@ -208,32 +342,31 @@ class RedisLink(Link):
         }
         words = [word for field in fields.items() for word in field]
         ends = [word for end in state.position.items() for word in end]
-        keys = [self._key("state"), self._key("origins")]
-        values = [self.log, state.generation - 1, int(is_last), len(words), *words, *ends]
-        return bool(self._ask(lambda: self._keep(keys, values)))
+        keys = self._keys("state", "origins", "names", "places", "used")
+        counted = [rest.room, rest.since.room, rest.since.appends, len(words), len(rest.unused)]
+        values = [self.log, self.log_id, state.generation - 1, int(is_last), *counted, *words, *rest.unused, *ends]
+        said: str = self._said(lambda: self._run(_KEEP, keys, values))[0]
+        return said == "done"
 
-    def name(self, names: Mapping[int, str]) -> dict[int, str]:
-        keys = [self._key("names"), self._key("named")]
-        words = [word for pair in names.items() for word in pair]
-        return dict(zip(names, self._ask(lambda: self._name(keys, words))))
-
-    def names(self, start: int = 0) -> list[tuple[int, str]]:
-        def ask() -> list[tuple[int, str]]:
-            numbers = self._engine.lrange(self._key("named"), start, -1)
-            found = self._engine.hmget(self._key("names"), numbers) if numbers else []
-            return [(int(number), name) for number, name in zip(numbers, found)]
+    @of_damaged
+    def names(self, place: int = 0) -> list[Named]:
+        def ask() -> list[Named]:
+            found = self._engine.zrangebyscore(self._key("places"), f"({place}", "+inf", withscores=True)
+            names = self._engine.hmget(self._key("names"), [number for number, _ in found]) if found else []
+            # one that was removed in between is used by nothing
+            return [Named(int(at), int(number), name) for (number, at), name in zip(found, names) if name is not None]
 
         return self._ask(ask)
 
     def seal(self, seconds: float) -> None:
-        milliseconds = max(1, int(seconds * 1000))
-        self._ask(lambda: self._engine.set(self._key("seal"), self.writer, px=milliseconds))
+        self._ask(lambda: self._run(_SEAL, [self._key("state")], [self.writer, int(seconds * 1000)]))
 
     def set_aside(self, refused: SetAside) -> None:
         id, atoms, writer = refused.entry
         value = json.dumps([atoms, writer, refused.reason])
         self._ask(lambda: self._engine.hsetnx(self._key("refused"), f"{id.origin}:{id.number}", value))
 
+    @of_damaged
     def refused(self) -> list[SetAside]:
         kept = self._ask(lambda: self._engine.hgetall(self._key("refused")))
         found = []
@@ -243,6 +376,7 @@ class RedisLink(Link):
             found.append(SetAside(Entry(Id(int(origin), int(number)), atoms, writer), reason))
         return sorted(found)
 
+    @of_damaged
     def members(self) -> list[Heard]:
         def ask() -> list[Heard]:
             told, now = self._engine.hgetall(self._key("members")), self._engine.time()[0]
@@ -255,54 +389,92 @@ class RedisLink(Link):
     def _lease_milliseconds(self) -> int:
         return int(self.lease_seconds * 1000)
 
-    def _origins(self) -> dict[int, bool]:
-        def ask() -> dict[int, bool]:
-            self._read({}, 0.0)
-            return {origin: self._engine.sismember(self._key("allotted"), origin) for origin in self._known}
+    def _open(self) -> None:
+        """Makes the log's state, or what it lacks where it is of the format before."""
+        keys = self._keys("state", "origins", "named", "places", "leases", "allotted")
+        words = [self.log, new_log_id(), *(word for pair in _NEW.items() for word in pair)]
+        self._ask(lambda: self._run(_OPEN, keys, words))
+        self.log_id = self._fields("id")[0] or ""
 
-        return self._ask(ask)
+    @of_damaged
+    def _leases(self) -> dict[int, Lease]:
+        def ask() -> tuple[dict[str, str], tuple[int, int]]:
+            return self._engine.hgetall(self._key("leases")), self._engine.time()
 
-    def _hold(self, origin: int, is_allotted: bool) -> bool:
-        def take() -> bool:
-            if not self._take([self._lease(origin)], [self.writer, self._lease_milliseconds]):
-                return False
-            change = self._engine.sadd if is_allotted else self._engine.srem
-            change(self._key("allotted"), origin)
-            return True
+        kept, (seconds, microseconds) = self._ask(ask)
+        leases = {}
+        for origin, value in kept.items():
+            _, until, is_allotted, _ = value.split(" ")
+            now = seconds + microseconds / 1_000_000
+            leases[int(origin)] = Lease.of(int(until) / 1000, now, is_allotted == "1")
+        return leases
 
-        return self._ask(take)
+    def _hold(self, origin: int, is_allotted: bool, until: float | None) -> bool:
+        before = "" if until is None else round(until * 1000)
+        words = [origin, self.writer, int(is_allotted), before, self._lease_milliseconds]
+        fence = int(self._ask(lambda: self._run(_HOLD, self._keys("leases"), words)))
+        if fence:
+            self._fence = fence
+        return fence > 0
 
     def _beat(self, position: str) -> None:
-        keys = [self._lease(self.origin), self._key("members")]
-        self._tell(keys, [self.writer, self._lease_milliseconds, self.origin, position])
+        self._run(_BEAT, self._keys("leases", "members"), [
+            self.writer, self._lease_milliseconds, self.origin, position
+        ])  # fmt: skip
 
     def _let_go(self) -> None:
         with suppress(Exception):
-            self._leave([self._lease(self.origin), self._key("members")], [self.writer, self.origin])
+            self._run(_LET_GO, self._keys("leases", "members"), [self.writer, self.origin])
         self._engine.close()
         self._engine.connection_pool.disconnect()
+
+    def take_another_origin(self) -> None:
+        super().take_another_origin()
+        self._announce()
 
     def _key(self, name: str | int) -> str:
         return f"{self.log}:{name}"
 
-    def _lease(self, origin: int) -> str:
-        return self._key(f"lease:{origin}")
+    def _keys(self, *names: str | int) -> list[str]:
+        return [self._key(name) for name in names]
+
+    def _run(self, script: str, keys: list[str], words: Sequence[object]) -> Any:
+        return self._scripts[script](keys, words)
 
     def _ask(self, call: Callable[[], T]) -> T:
         """The call's result, tried again while Redis is away."""
         try:
-            return self._patiently(call, _LOST)
+            return self._patiently(lambda left: call(), _LOST)
         except redis.exceptions.RedisError as fault:
             raise LogUnusable(f"the log {self.log!r} in Redis can't be used: {one_line(fault)}") from fault
 
-    def _fields(self, *names: str) -> list[str]:
-        found = self._ask(lambda: self._engine.hmget(self._key("state"), names))
-        return [str(_NEW.get(name, "")) if value is None else value for name, value in zip(names, found)]
+    def _said(self, call: Callable[[], Any]) -> Any:
+        """What a script says that looks at the log's id."""
+        said = self._ask(call)
+        if said[0] == "lost":
+            self._check_id(said[1] or None)
+        return said
+
+    def _raise_why(self, batch: Batch, said: str, more: list[str]) -> None:
+        """Raises what keeps a batch from coming into the log."""
+        if said == "end":
+            self._check_end(_number_of(more[0]), batch)
+        elif said == "changed":
+            raise ProgramChanged
+        elif said == "full":
+            raise self._full(batch)
+        elif said == "clash":
+            raise NameClash(int(more[0]), (more[2], more[1]))
+        raise OriginShared(self.origin)
+
+    def _fields(self, *names: str) -> list[str | None]:
+        return self._ask(lambda: self._engine.hmget(self._key("state"), names))
 
     def _announce(self) -> None:
-        self._read({}, 0.0)
+        """Tells the origin to others, who read its stream then."""
+        self._ask(lambda: self._read({}, 0.0))
         if self.origin not in self._known:
-            self._engine.xadd(self._key("origins"), {"origin": self.origin})
+            self._ask(lambda: self._engine.xadd(self._key("origins"), {"origin": self.origin}))
 
     def _read(self, after: Position, wait: float) -> list[Entry]:
         origins = self._key("origins")
@@ -318,7 +490,7 @@ class RedisLink(Link):
                 continue
             origin = int(key.removeprefix(f"{self.log}:"))
             for place, fields in items:
-                id = Id(origin, int(place.partition("-")[0]))
+                id = Id(origin, _number_of(place))
                 entries.append(Entry(id, fields.get("atoms", ""), fields.get("writer", "")))
         if self._known > set(known):
             # those of new origins may be there already
@@ -332,8 +504,24 @@ class RedisLink(Link):
             for origin in known:
                 pipeline.xrevrange(self._key(origin), count=1)
             lasts = pipeline.execute()
-        return {origin: int(last[0][0].partition("-")[0]) for origin, last in zip(known, lasts) if last}
+        return {origin: _number_of(last[0][0]) for origin, last in zip(known, lasts) if last}
 
 
 def _is_number(text: str) -> bool:
     return text.isascii() and text.isdecimal()
+
+
+def _number_of(place: str) -> int:
+    """The number of an entry, of its id in a stream."""
+    return int(place.partition("-")[0])
+
+
+def _int(kept: str | None) -> int:
+    """The whole number of a field; TypeError where it isn't there."""
+    return int(_text(kept))
+
+
+def _text(kept: str | None) -> str:
+    if kept is None:
+        raise TypeError("a field of the state is missing")
+    return kept

@@ -10,10 +10,8 @@ from ..node import Node
 from ..refusals import Full, Refused
 from ..texts import OPERATION_LIMIT, TOLD_LIMIT, Atom, Id, OperationText, Written, atoms_of, atoms_text, text_pieces
 from .log import LAST_ORIGIN, Entry, Position, Program, SetAside
+from .room import Counting
 from .writing import Writing
-
-ROOM_FOR_OTHERS = 100_000
-"""Atoms of the limit that no member fills by what it tells, so that what all tell at once fits in."""
 
 OWED_ATOMS = 2_000
 """Atoms that were told and that the node has yet to be given, at most: it is given many at once."""
@@ -42,6 +40,7 @@ class Replica:
 
     The node holds the operations that it was told, 1,000,000 atoms at most. Before they are too many it is ended, and
     another one goes on from its store at rest: resting parts of a store and merging them gives the store of the whole.
+    That has no more atoms than the log has room for.
     """
 
     def __init__(self, program: Program, running: Running = Running()) -> None:
@@ -49,6 +48,7 @@ class Replica:
         self.position: dict[int, int] = {}
         self.told = 0
         self.writing = Writing()
+        self.counting = Counting(program.text)
         self._owed: list[Entry] = []
         self._owed_atoms = 0
         self._begun_with = 0
@@ -67,30 +67,26 @@ class Replica:
         for part in text_pieces(entries):
             self.node.admit_texts(part)
 
-    def make_room(self, entries: Sequence[Entry]) -> None:
-        """Sees to it that entries can be told. Raises `Full`."""
-        atoms, limit = _count_atoms(entries), TOLD_LIMIT - ROOM_FOR_OTHERS
-        if self.told + self._owed_atoms + atoms > limit:
-            self.give()
-            self._make_room(atoms, limit)
-
     def owe(self, entries: Sequence[Entry]) -> int:
-        """Takes in entries that were admitted and for which there is room, and says how many atoms they have. The node
-        is given them before it is asked for anything."""
+        """Takes in entries that were admitted and are in the log, and says how many atoms they have. The node is given
+        them before it is asked for anything."""
         atoms = _count_atoms(entries)
         self.position[entries[-1].id.origin] = entries[-1].id.number
         self._owed += entries
         self._owed_atoms += atoms
-        if self._owed_atoms >= OWED_ATOMS:
-            self.give()
         return atoms
+
+    @property
+    def is_due(self) -> bool:
+        """Whether the node is to be given what it has yet to be given."""
+        return self._owed_atoms >= OWED_ATOMS
 
     def give(self) -> None:
         """Gives the node what it has yet to be given."""
         while self._owed:
             part = next(text_pieces(self._owed))
             atoms = _count_atoms(part)
-            self._make_room(atoms, TOLD_LIMIT)
+            self._make_room(atoms)
             self.node.merge_soon(part)
             self.told += atoms
             self._owed_atoms -= atoms
@@ -145,7 +141,7 @@ class Replica:
             if self.told + count > TOLD_LIMIT:
                 # what is refused needs no room
                 self.node.admit_texts(part)
-                self._make_room(count, TOLD_LIMIT)
+                self._make_room(count)
             self.node.merge_texts(part)
         except Refused as refusal:
             if len(part) > 1:
@@ -157,13 +153,13 @@ class Replica:
         self.told += count
         return []
 
-    def _make_room(self, atoms: int, limit: int) -> None:
-        """Renews the node where so many atoms more would pass the limit. `Full` where its store alone is so large."""
-        if self.told + atoms > limit and self.told > self._begun_with:
+    def _make_room(self, atoms: int) -> None:
+        """Renews the node where so many atoms more would be too many. `Full` where its store alone is so large."""
+        if self.told + atoms > TOLD_LIMIT and self.told > self._begun_with:
             self._go_on_from(self.node.show_text())
             _LOG.info("a node that was nearly full was renewed: %d atoms are told", self.told)
-        if self.told + atoms > limit:
-            raise Full(f"the store at rest has {self.told} atoms, and {atoms} more would pass {limit}")
+        if self.told + atoms > TOLD_LIMIT:
+            raise Full(f"the store at rest has {self.told} atoms, and {atoms} more would pass {TOLD_LIMIT}")
 
     def _go_on_from(self, store: str) -> None:
         """Puts a node that was told just this store in the place of the node."""
@@ -182,6 +178,8 @@ class Replica:
 
 def _fault_of(entry: Entry) -> str | None:
     """What keeps the text of an entry from being sent as a part of a line; None where nothing does."""
+    if not 0 <= entry.id.origin <= LAST_ORIGIN:
+        return f"no node has the origin {entry.id.origin}"
     try:
         json.loads(entry.atoms)
     except (ValueError, RecursionError) as fault:

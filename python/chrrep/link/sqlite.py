@@ -9,61 +9,90 @@ import os
 import sqlite3
 import threading
 import time
-from collections.abc import Callable, Iterator, Mapping, Sequence
+from collections.abc import Callable, Iterator, Mapping
 from contextlib import contextmanager, suppress
 from typing import Any, TypeAlias, TypeVar
 
+from ..names import check_name
 from .faults import LogUnusable, OriginShared, ProgramChanged
 from .log import (
     FIRST_EPOCH,
     FORMAT,
     READ_AT_ONCE,
+    SEAL_SECONDS,
+    Count,
     Entry,
     Heard,
+    Lease,
     Link,
     Mark,
+    Named,
     Position,
     Program,
     Reading,
+    Rest,
     Sealed,
     SetAside,
     State,
     entries_of,
     has_more,
+    is_among,
     known_format,
+    new_log_id,
+    of_damaged,
     one_line,
     position_of,
     position_text,
     program_of,
     program_text,
+    whole,
 )
+from .telling import Batch
 
 PREFIX = "sqlite:///"
 
 _PAUSE = 0.01
 """Seconds between two looks at the file's version."""
-_BUSY_SECONDS = 5.0
+_BUSY_SECONDS = 1.0
+_RENEWED_SECONDS = 1.0
+"""Seconds that a lease has to have lost before an append renews it."""
 _WAL_BYTES = 16_777_216
 
 _TABLES = """
     CREATE TABLE IF NOT EXISTS logs (
         log TEXT PRIMARY KEY, format INTEGER NOT NULL, epoch INTEGER NOT NULL, generation INTEGER NOT NULL,
-        sealed_by TEXT NOT NULL, sealed_until REAL NOT NULL, position TEXT NOT NULL, program TEXT,
-        store TEXT NOT NULL) WITHOUT ROWID;
+        sealed_by TEXT NOT NULL, sealed_until REAL NOT NULL, position TEXT NOT NULL, program TEXT, store TEXT NOT NULL,
+        id TEXT NOT NULL DEFAULT '', room INTEGER NOT NULL DEFAULT 0, appends INTEGER NOT NULL DEFAULT 0,
+        place INTEGER NOT NULL DEFAULT 0) STRICT, WITHOUT ROWID;
     CREATE TABLE IF NOT EXISTS origins (
         log TEXT, origin INTEGER, allotted INTEGER NOT NULL, writer TEXT NOT NULL, until REAL NOT NULL,
-        PRIMARY KEY (log, origin)) WITHOUT ROWID;
+        PRIMARY KEY (log, origin)) STRICT, WITHOUT ROWID;
     CREATE TABLE IF NOT EXISTS members (
-        log TEXT, origin INTEGER, position TEXT NOT NULL, at REAL NOT NULL, PRIMARY KEY (log, origin)) WITHOUT ROWID;
+        log TEXT, origin INTEGER, position TEXT NOT NULL, at REAL NOT NULL,
+        PRIMARY KEY (log, origin)) STRICT, WITHOUT ROWID;
     CREATE TABLE IF NOT EXISTS entries (
-        log TEXT, origin INTEGER, number INTEGER, atoms TEXT NOT NULL, writer TEXT NOT NULL,
-        PRIMARY KEY (log, origin, number)) WITHOUT ROWID;
+        log TEXT, origin INTEGER CHECK (origin BETWEEN 0 AND 4294967294), number INTEGER CHECK (number > 0),
+        atoms TEXT NOT NULL, writer TEXT NOT NULL, PRIMARY KEY (log, origin, number)) STRICT, WITHOUT ROWID;
     CREATE TABLE IF NOT EXISTS refused (
         log TEXT, origin INTEGER, number INTEGER, atoms TEXT NOT NULL, writer TEXT NOT NULL, reason TEXT NOT NULL,
-        PRIMARY KEY (log, origin, number)) WITHOUT ROWID;
+        PRIMARY KEY (log, origin, number)) STRICT, WITHOUT ROWID;
     CREATE TABLE IF NOT EXISTS names (
-        log TEXT, number INTEGER, name TEXT NOT NULL, place INTEGER NOT NULL,
-        PRIMARY KEY (log, number), UNIQUE (log, place)) WITHOUT ROWID"""
+        log TEXT, number INTEGER, name TEXT NOT NULL, place INTEGER NOT NULL, used INTEGER NOT NULL DEFAULT 0,
+        PRIMARY KEY (log, number), UNIQUE (log, place)) STRICT, WITHOUT ROWID"""
+# what a file of the format before this one lacks
+_NEW_COLUMNS = """
+    ALTER TABLE logs ADD COLUMN id TEXT NOT NULL DEFAULT '';
+    ALTER TABLE logs ADD COLUMN room INTEGER NOT NULL DEFAULT 0;
+    ALTER TABLE logs ADD COLUMN appends INTEGER NOT NULL DEFAULT 0;
+    ALTER TABLE logs ADD COLUMN place INTEGER NOT NULL DEFAULT 0;
+    ALTER TABLE names ADD COLUMN used INTEGER NOT NULL DEFAULT 0;
+    UPDATE logs SET format = 2, id = lower(hex(randomblob(16))),
+        place = coalesce((SELECT max(place) FROM names WHERE log = logs.log), 0),
+        room = (
+            SELECT coalesce(sum(length(atoms) - length(replace(atoms, '[', '')) - 1), 0)
+            FROM entries WHERE log = logs.log)
+            + CASE store WHEN 'true' THEN 0 ELSE 1 + (length(store) - length(replace(store, ', ', ''))) / 2 END
+    WHERE format = 1"""
 # each origin is found from the one before it by the key, so that no more rows are looked at than are given
 _NEWEST = """
     WITH RECURSIVE known(origin) AS (
@@ -76,34 +105,39 @@ _NEWEST = """
 _READ = """
     SELECT origin, number, atoms, writer FROM entries
     WHERE log = :log AND origin = :origin AND number > :number ORDER BY number LIMIT :limit"""
-_LAST = """
-    SELECT number, atoms, writer FROM entries
-    WHERE log = :log AND origin = :origin ORDER BY number DESC LIMIT 1"""
+_END = "SELECT coalesce(max(number), 0) FROM entries WHERE log = :log AND origin = :origin"
+_FIND = "SELECT atoms, writer FROM entries WHERE log = :log AND origin = :origin AND number = :number"
 # twice as fast as a row after the other
-_ADD = "INSERT INTO entries SELECT :log, :origin, key, value, :writer FROM json_each(:rows)"
+_ADD = """
+    INSERT INTO entries (log, origin, number, atoms, writer)
+    SELECT :log, :origin, key, value, :writer FROM json_each(:rows)"""
+_COUNT = """
+    UPDATE logs SET room = room + :room, appends = appends + 1 WHERE log = :log AND room + :room <= :limit"""
 # what keeps a link from appending, and the origin's greatest number
 _STAND = """
-    SELECT epoch, sealed_by, sealed_until,
+    SELECT id, epoch, sealed_by, sealed_until,
         (SELECT writer FROM origins WHERE log = :log AND origin = :origin),
         coalesce((SELECT max(number) FROM entries WHERE log = :log AND origin = :origin), 0)
     FROM logs WHERE log = :log"""
 _HOLD = """
     INSERT INTO origins VALUES (:log, :origin, :allotted, :writer, :until)
     ON CONFLICT DO UPDATE SET allotted = :allotted, writer = :writer, until = :until
-    WHERE until < :now OR writer = :writer"""
+    WHERE until = :before OR writer = :writer"""
 _LEASE = "UPDATE origins SET until = :end WHERE log = :log AND origin = :origin AND writer = :writer"
+_RENEW = _LEASE + " AND until < :soon"
 _LEAVE = "DELETE FROM members WHERE log = :log AND origin = :origin"
 _TELL = "INSERT OR REPLACE INTO members VALUES (:log, :origin, :position, :now)"
 _NAME = """
-    INSERT INTO names
-    SELECT :log, :number, :name, 1 + coalesce((SELECT max(place) FROM names WHERE log = :log), 0)
-    WHERE true ON CONFLICT DO NOTHING"""
+    INSERT INTO names VALUES (:log, :number, :name, :place, :used)
+    ON CONFLICT (log, number) DO UPDATE SET used = :used RETURNING name, place"""
+_FORGET = "DELETE FROM names WHERE log = :log AND used <= :appends AND number IN (SELECT value FROM json_each(:unused))"
 _NEW = """
     INSERT OR IGNORE INTO logs
-        (log, format, epoch, generation, sealed_by, sealed_until, position, program, store)
-    VALUES (?, ?, ?, 0, '', 0.0, '[]', NULL, 'true')"""
+        (log, format, epoch, generation, sealed_by, sealed_until, position, program, store, id)
+    VALUES (?, ?, ?, 0, '', 0.0, '[]', NULL, 'true', ?)"""
 _KEEP = """
-    UPDATE logs SET epoch = :epoch, program = :program, generation = :generation, position = :position, store = :store
+    UPDATE logs SET epoch = :epoch, program = :program, generation = :generation, position = :position, store = :store,
+        room = :room + CASE WHEN :is_last THEN 0 ELSE max(0, room - :counted) END
     WHERE log = :log AND generation = :generation - 1"""
 
 T = TypeVar("T")
@@ -130,56 +164,86 @@ class SqliteLink(Link):
         try:
             self._file = os.stat(self.path)
             self._bell = self._patiently(self._opened, (_Away,))
+            self.log_id = self._ask("SELECT id FROM logs WHERE log = :log")[0][0]
             self._take_origin(origin)
         except BaseException:
             self._let_go()
             raise
 
+    @of_damaged
     def state(self) -> State:
-        columns = "format, epoch, program, generation, position, store"
-        query = f"SELECT {columns} FROM logs WHERE log = :log"
-        format, epoch, program, generation, position, store = self._ask(query)[0]
+        columns = "id, format, epoch, program, generation, position, store"
+        id, format, epoch, program, generation, position, store = self._logs_row(columns)
         known_format(format)
-        return State(epoch, program_of(program) if program else None, generation, position_of(position), store)
+        self._check_id(id)
+        kept = program_of(program) if program else None
+        return State(whole(epoch), kept, whole(generation), position_of(position), str(store))
 
+    @of_damaged
     def mark(self) -> Mark:
-        query = "SELECT format, epoch, generation, position FROM logs WHERE log = :log"
-        format, epoch, generation, position = self._ask(query)[0]
+        id, format, epoch, generation, position = self._logs_row("id, format, epoch, generation, position")
         known_format(format)
-        return Mark(epoch, generation, position_of(position))
+        self._check_id(id)
+        return Mark(whole(epoch), whole(generation), position_of(position))
+
+    @of_damaged
+    def count(self) -> Count:
+        return Count(*map(whole, self._logs_row("appends, generation, room")))
 
     def begin(self, program: Program) -> None:
         text = program_text(program)
         self._ask("UPDATE logs SET program = :program WHERE log = :log AND program IS NULL", program=text)
 
-    def append(self, entries: Sequence[Entry], epoch: int = FIRST_EPOCH) -> None:
-        rows = json.dumps({entry.id.number: entry.atoms for entry in entries})
-        last = (entries[-1].id.number, *entries[-1][1:])
+    @of_damaged
+    def append(self, batch: Batch) -> None:
+        rows = json.dumps({entry.id.number: entry.atoms for entry in batch.entries})
 
         def add(engine: sqlite3.Connection) -> None:
-            if self._checked_end(engine, epoch) < entries[0].id.number:
-                self._rows(engine, _ADD, origin=self.origin, writer=self.writer, rows=rows)
-            elif self._rows(engine, _LAST, origin=self.origin) != [last]:
-                raise OriginShared(self.origin)
+            if self._is_done(engine, batch):
+                return
+            values = {"log": self.log, "room": batch.room, "limit": self.room_limit}
+            if not engine.execute(_COUNT, values).rowcount:
+                raise self._full(batch)
+            self._keep_names(engine, batch.names)
+            self._rows(engine, _ADD, origin=self.origin, writer=self.writer, rows=rows)
+            end = time.time() + self.lease_seconds
+            self._rows(engine, _RENEW, origin=self.origin, writer=self.writer, end=end, soon=end - _RENEWED_SECONDS)
+            # what follows is the commit
+            batch.is_unsure = True
 
+        batch.is_unsure = False
         self._write(add)
+        batch.is_unsure = False
 
+    def settle(self, entry: Entry) -> bool:
+        def look(engine: sqlite3.Connection) -> bool:
+            end = self._rows(engine, _END, origin=entry.id.origin)[0][0]
+            found = self._rows(engine, _FIND, origin=entry.id.origin, number=entry.id.number)
+            return is_among(entry, end, (found[0][0], found[0][1]) if found else None)
+
+        return self._use(look)
+
+    @of_damaged
     def read(self, after: Position, wait: float = 0.0) -> Reading:
         end = time.monotonic() + wait
+        self._renew()
         while True:
             version = self._version()
             entries = self._entries(after)
             left = end - time.monotonic()
             if entries or left <= 0 or self._closing.is_set():
                 # asked for after the entries: those that were missed were removed by a generation that is told
-                return Reading(entries, self._ask("SELECT generation FROM logs WHERE log = :log")[0][0])
+                id, generation = self._logs_row("id, generation")
+                self._check_id(id)
+                return Reading(entries, whole(generation))
             while self._version() == version and time.monotonic() < end and not self._closing.is_set():
                 time.sleep(_PAUSE)
 
+    @of_damaged
     def newest(self) -> dict[int, int]:
-        return {origin: number for origin, number in self._ask(_NEWEST)}
+        return {whole(origin): whole(number) for origin, number in self._ask(_NEWEST)}
 
-    def keep(self, state: State, is_last: bool = False) -> bool:
+    def keep(self, state: State, is_last: bool = False, rest: Rest = Rest()) -> bool:
         assert state.program
         values: dict[str, object] = {
             "log": self.log,
@@ -188,9 +252,13 @@ class SqliteLink(Link):
             "generation": state.generation,
             "position": position_text(state.position),
             "store": state.store,
+            "room": rest.room,
+            "counted": rest.since.room,
+            "is_last": is_last,
         }
 
         def put(engine: sqlite3.Connection) -> bool:
+            self._check_id(self._rows(engine, "SELECT id FROM logs WHERE log = :log")[0][0])
             newest = {origin: number for origin, number in self._rows(engine, _NEWEST)}
             if is_last and has_more(newest, state.position):
                 return False
@@ -198,22 +266,15 @@ class SqliteLink(Link):
                 return False
             ends = [(self.log, *end) for end in state.position.items()]
             engine.executemany("DELETE FROM entries WHERE log = ? AND origin = ? AND number < ?", ends)
+            self._rows(engine, _FORGET, unused=json.dumps(list(rest.unused)), appends=rest.since.appends)
             return True
 
         return self._write(put)
 
-    def name(self, names: Mapping[int, str]) -> dict[int, str]:
-        def put(engine: sqlite3.Connection) -> dict[int, str]:
-            for number, name in names.items():
-                engine.execute(_NAME, {"log": self.log, "number": number, "name": name})
-            query = "SELECT name FROM names WHERE log = :log AND number = :number"
-            return {number: self._rows(engine, query, number=number)[0][0] for number in names}
-
-        return self._write(put)
-
-    def names(self, start: int = 0) -> list[tuple[int, str]]:
-        query = "SELECT number, name FROM names WHERE log = :log AND place > :start ORDER BY place"
-        return [(number, name) for number, name in self._ask(query, start=start)]
+    @of_damaged
+    def names(self, place: int = 0) -> list[Named]:
+        query = "SELECT place, number, name FROM names WHERE log = :log AND place > :place ORDER BY place"
+        return [Named(whole(at), whole(number), str(name)) for at, number, name in self._ask(query, place=place)]
 
     def seal(self, seconds: float) -> None:
         query = "UPDATE logs SET sealed_by = :writer, sealed_until = :end WHERE log = :log"
@@ -223,25 +284,31 @@ class SqliteLink(Link):
         row = (self.log, *refused.entry.id, refused.entry.atoms, refused.entry.writer, refused.reason)
         self._write(lambda engine: engine.execute("INSERT OR IGNORE INTO refused VALUES (?, ?, ?, ?, ?, ?)", row))
 
+    @of_damaged
     def refused(self) -> list[SetAside]:
         columns = "origin, number, atoms, writer, reason"
         rows = self._ask(f"SELECT {columns} FROM refused WHERE log = :log ORDER BY origin, number")
         return [SetAside(entry, row[-1]) for entry, row in zip(entries_of(row[:-1] for row in rows), rows)]
 
+    @of_damaged
     def members(self) -> list[Heard]:
         rows = self._ask("SELECT origin, position, at FROM members WHERE log = :log ORDER BY origin")
         now = time.time()
-        return [Heard(origin, position_of(position), max(0.0, now - at)) for origin, position, at in rows]
+        return [Heard(whole(origin), position_of(position), max(0.0, now - at)) for origin, position, at in rows]
 
-    def _origins(self) -> dict[int, bool]:
-        rows = self._ask("SELECT origin, allotted FROM origins WHERE log = :log")
-        return {origin: bool(allotted) for origin, allotted in rows}
-
-    def _hold(self, origin: int, is_allotted: bool) -> bool:
+    @of_damaged
+    def _leases(self) -> dict[int, Lease]:
+        rows = self._ask("SELECT origin, until, allotted FROM origins WHERE log = :log")
         now = time.time()
-        values: dict[str, object] = {"origin": origin, "allotted": is_allotted, "writer": self.writer, "now": now}
-        values |= {"log": self.log, "until": now + self.lease_seconds}
+        return {whole(origin): Lease.of(float(until), now, bool(allotted)) for origin, until, allotted in rows}
+
+    def _hold(self, origin: int, is_allotted: bool, until: float | None) -> bool:
+        values: dict[str, object] = {"origin": origin, "allotted": is_allotted, "writer": self.writer, "log": self.log}
+        values |= {"before": until, "until": time.time() + self.lease_seconds}
         return self._write(lambda engine: engine.execute(_HOLD, values).rowcount > 0)
+
+    def _wait_for_writing(self) -> None:
+        self._write(lambda engine: None)
 
     def _beat(self, position: str) -> None:
         now = time.time()
@@ -271,35 +338,68 @@ class SqliteLink(Link):
         with self._lock:
             self._engine.close()
 
-    def _opened(self) -> sqlite3.Connection:
+    def _opened(self, left: float) -> sqlite3.Connection:
         """A connection to the file, which has all tables."""
         with self._faults():
             engine = sqlite3.connect(
-                self.path, timeout=min(_BUSY_SECONDS, self.patience), isolation_level=None, check_same_thread=False
+                self.path, timeout=min(_BUSY_SECONDS, left), isolation_level=None, check_same_thread=False
             )
             try:
+                # something else may have written what is no text
+                engine.text_factory = _text_of
                 engine.execute("PRAGMA journal_mode = WAL")
                 engine.execute("PRAGMA synchronous = FULL")
                 engine.execute(f"PRAGMA journal_size_limit = {_WAL_BYTES}")
                 with _transaction(engine):
-                    for table in _TABLES.split(";"):
-                        engine.execute(table)
-                    engine.execute(_NEW, (self.log, FORMAT, FIRST_EPOCH))
+                    self._make_tables(engine)
             except BaseException:
                 engine.close()
                 raise
         return engine
 
-    def _checked_end(self, engine: sqlite3.Connection, epoch: int) -> int:
-        """The greatest number of the link's origin; raises what keeps it from appending."""
-        now, sealed_by, sealed_until, holder, end = self._rows(engine, _STAND, origin=self.origin)[0]
+    def _make_tables(self, engine: sqlite3.Connection) -> None:
+        columns = [name for _, name, *_ in engine.execute("PRAGMA table_info(logs)")]
+        if columns and "id" not in columns:
+            for change in _NEW_COLUMNS.split(";"):
+                engine.execute(change)
+        for table in _TABLES.split(";"):
+            engine.execute(table)
+        engine.execute(_NEW, (self.log, FORMAT, FIRST_EPOCH, new_log_id()))
+
+    def _is_done(self, engine: sqlite3.Connection, batch: Batch) -> bool:
+        """Whether the log has the batch already; raises what keeps it from coming there."""
+        id, epoch, sealed_by, sealed_until, holder, end = self._stand(engine)
+        self._check_id(id)
+        if end >= batch.entries[0].id.number:
+            last = batch.last
+            if end == last.id.number and self._rows(engine, _FIND, origin=self.origin, number=end) == [last[1:]]:
+                return True
+            raise OriginShared(self.origin)
         if holder != self.writer:
             raise OriginShared(self.origin)
-        if now != epoch:
+        if epoch != batch.epoch:
             raise ProgramChanged
-        if sealed_by != self.writer and sealed_until > time.time():
+        # a seal that ends further ahead than one is long was made by a clock that was wrong
+        if sealed_by != self.writer and 0 < sealed_until - time.time() <= SEAL_SECONDS:
             raise Sealed
-        return int(end)
+        self._check_end(end, batch)
+        return False
+
+    def _stand(self, engine: sqlite3.Connection) -> Row:
+        rows = self._rows(engine, _STAND, origin=self.origin)
+        return rows[0] if rows else (None,) * 6
+
+    def _keep_names(self, engine: sqlite3.Connection, names: Mapping[int, str]) -> None:
+        """Has the log keep these names, as used by now. Raises `NameClash`."""
+        if not names:
+            return
+        used, place = self._rows(engine, "SELECT appends, place FROM logs WHERE log = :log")[0]
+        for number, name in names.items():
+            values = {"number": number, "name": name, "place": place + 1, "used": used}
+            kept, at = self._rows(engine, _NAME, **values)[0]
+            check_name(number, name, kept)
+            place = max(place, at)
+        self._rows(engine, "UPDATE logs SET place = :place WHERE log = :log", place=place)
 
     def _entries(self, after: Position) -> list[Entry]:
         def read(engine: sqlite3.Connection) -> list[Entry]:
@@ -310,6 +410,13 @@ class SqliteLink(Link):
             return list(entries_of(rows))
 
         return self._use(read)
+
+    def _logs_row(self, columns: str) -> Row:
+        """What the log's row has in these columns."""
+        rows = self._ask(f"SELECT {columns} FROM logs WHERE log = :log")
+        if not rows:
+            self._check_id(None)
+        return rows[0]
 
     def _rows(self, engine: sqlite3.Connection, query: str, **values: object) -> list[Row]:
         named: dict[str, object] = {"log": self.log, **values}
@@ -328,16 +435,16 @@ class SqliteLink(Link):
         return self._use(whole)
 
     def _use(self, call: Callable[[sqlite3.Connection], T]) -> T:
-        def use() -> T:
-            with self._lock, self._faults():
+        def use(left: float) -> T:
+            with _taken(self._lock, left), self._faults():
                 self._check_file()
                 return call(self._engine)
 
         return self._patiently(use, (_Away,))
 
     def _version(self) -> int:
-        def ask() -> int:
-            with self._bell_lock, self._faults():
+        def ask(left: float) -> int:
+            with _taken(self._bell_lock, left), self._faults():
                 return int(self._bell.execute("PRAGMA data_version").fetchone()[0])
 
         return self._patiently(ask, (_Away,))
@@ -361,6 +468,20 @@ class SqliteLink(Link):
             if kind.startswith(("SQLITE_BUSY", "SQLITE_LOCKED")) or self._closing.is_set():
                 raise _Away(str(fault)) from fault
             raise LogUnusable(f"the log in {self.path} can't be used: {one_line(fault)}") from fault
+
+
+@contextmanager
+def _taken(lock: threading.Lock, seconds: float) -> Iterator[None]:
+    if not lock.acquire(timeout=seconds):
+        raise _Away("another call is made")
+    try:
+        yield
+    finally:
+        lock.release()
+
+
+def _text_of(kept: bytes) -> str:
+    return kept.decode(errors="replace")
 
 
 @contextmanager

@@ -1,0 +1,119 @@
+"""How much of a log's room operations take.
+
+A node is told 1,000,000 atoms at most, and a store at rest may have more atoms than were told: a rule may leave more
+than it takes. So each atom counts as many as the rules can make of it. Then no step makes a store count for more, and
+whatever is at rest of operations has no more atoms than these count for.
+"""
+
+import re
+from collections import Counter
+from collections.abc import Iterable, Mapping
+from typing import NamedTuple, TypeAlias
+
+from ..texts import TOLD_LIMIT
+
+ROOM_FOR_OTHERS = 100_000
+"""Atoms of what a node can be told that members leave free, for what something else writes into the log."""
+
+ROOM = TOLD_LIMIT - ROOM_FOR_OTHERS
+"""What the snapshot of a log and the operations beyond it count for, at most."""
+
+Symbol: TypeAlias = tuple[str, int]
+"""A name, and a number of arguments."""
+
+_COMMENT = re.compile(r"%[^\n]*")
+_RULE_NAME = re.compile(r"^\s*[A-Za-z_]\w*\s*@")
+_ATOM = re.compile(r"\b([a-z]\w*)\s*(?:\(([^()]*)\))?", re.ASCII)
+_WEIGHT = re.compile(r":-\s*chr_weight\s+([a-z]\w*)\s*/\s*(\d+)\s*=\s*(\d+)\s*(?:,\s*(\d+))?", re.ASCII)
+_WRITTEN = re.compile(r'\["([a-z]\w*)"([^\[\]]*)\]', re.ASCII)
+_DEFAULT_WEIGHT = (1, 0)
+
+
+class _Rule(NamedTuple):
+    """What a rule takes, and what it leaves in its place."""
+
+    taken: "Counter[Symbol]"
+    left: "Counter[Symbol]"
+
+    @property
+    def growth(self) -> int:
+        return self.left.total() - self.taken.total()
+
+
+class Counting:
+    """Counts what atoms take of the room under an accepted program."""
+
+    def __init__(self, program: bytes) -> None:
+        self._shares = _shares_of(program.decode(errors="replace"))
+
+    def of_written(self, atoms: str) -> int:
+        """What the atoms of an operation take, which are written as JSON."""
+        count = atoms.count("[") - 1
+        if not self._shares:
+            return count
+        found = ((name, rest.count(",")) for name, rest in _WRITTEN.findall(atoms))
+        return count + self._more(found)
+
+    def of_store(self, store: str) -> int:
+        """What a store takes, as it is printed."""
+        if store == "true":
+            return 0
+        count = store.count(", ") + 1
+        return count + self._more(_symbols_in(store)) if self._shares else count
+
+    def _more(self, symbols: Iterable[Symbol]) -> int:
+        return sum(self._shares.get(symbol, 1) - 1 for symbol in symbols)
+
+
+def _symbols_in(text: str) -> Iterable[Symbol]:
+    for name, arguments in _ATOM.findall(text):
+        yield name, arguments.count(",") + 1 if arguments else 0
+
+
+def _shares_of(program: str) -> dict[Symbol, int]:
+    """How many atoms one of a symbol counts for, where that is more than 1."""
+    clauses = _COMMENT.sub("", program).split(".")
+    rules = [_rule_of(clause) for clause in clauses if "<=>" in clause]
+    if all(rule.growth <= 0 for rule in rules):
+        return {}
+    weights = _weights_of(clauses, rules)
+    most = max(rule.growth for rule in rules)
+    symbols = {symbol for rule in rules for symbol in (*rule.taken, *rule.left)}
+    shares = {symbol: 1 + most * weights.get(symbol, _DEFAULT_WEIGHT[0]) for symbol in symbols}
+    for symbol in sorted(symbols, key=lambda symbol: (shares[symbol], symbol)):
+        shares[symbol] = _least_share(symbol, shares, rules)
+    return {symbol: share for symbol, share in shares.items() if share > 1}
+
+
+def _rule_of(clause: str) -> _Rule:
+    heads, _, body = _RULE_NAME.sub("", clause).partition("<=>")
+    taken = heads.rpartition("\\")[2]
+    left = Counter(_symbols_in(body.rpartition("|")[2]))
+    del left["true", 0]
+    return _Rule(Counter(_symbols_in(taken)), left)
+
+
+def _weights_of(clauses: Iterable[str], rules: list[_Rule]) -> dict[Symbol, int]:
+    """Weights of one number that each rule lowers: of two the first counts for more than the second can grow."""
+    pairs = {symbol: _DEFAULT_WEIGHT for rule in rules for symbol in (*rule.taken, *rule.left)}
+    for clause in clauses:
+        if found := _WEIGHT.search(clause):
+            pairs[found[1], int(found[2])] = int(found[3]), int(found[4] or 0)
+    more = max(_sum(rule.left, pairs, 1) - _sum(rule.taken, pairs, 1) for rule in rules)
+    return {symbol: first * (max(more, 0) + 1) + second for symbol, (first, second) in pairs.items()}
+
+
+def _sum(atoms: "Counter[Symbol]", pairs: Mapping[Symbol, tuple[int, int]], place: int) -> int:
+    return sum(count * pairs[symbol][place] for symbol, count in atoms.items())
+
+
+def _least_share(symbol: Symbol, shares: Mapping[Symbol, int], rules: Iterable[_Rule]) -> int:
+    """The least share of a symbol by which no rule makes a store count for more, where the others keep theirs."""
+    least = 1
+    for rule in rules:
+        net = rule.taken[symbol] - rule.left[symbol]
+        if net > 0:
+            others = rule.left.keys() | rule.taken.keys()
+            lack = sum(shares[other] * (rule.left[other] - rule.taken[other]) for other in others - {symbol})
+            least = max(least, -(-lack // net))
+    return least

@@ -1,0 +1,97 @@
+"""What becomes of operations that are told: what is in the log, what may be there, and what isn't."""
+
+from collections.abc import Mapping, Sequence
+from dataclasses import dataclass
+from typing import TYPE_CHECKING, NamedTuple
+
+from ..texts import Atom, Id
+
+if TYPE_CHECKING:
+    from .log import Entry
+
+Operations = list[tuple[Atom, ...]]
+
+
+@dataclass(slots=True)
+class Batch:
+    """Entries that are appended at once, all or none, and what the log has to be like for that.
+
+    `before` is the greatest number of the origin that the log has, as far as the member knows; `room` is what the
+    entries take of it, and `names` are those of the numbers in them. `is_unsure` says, after an append that raised,
+    whether the entries may be in the log all the same.
+    """
+
+    entries: "Sequence[Entry]"
+    epoch: int
+    before: int
+    room: int
+    names: Mapping[int, str]
+    is_unsure: bool = True
+
+    @property
+    def last(self) -> "Entry":
+        return self.entries[-1]
+
+
+class Outcome(NamedTuple):
+    """Of the operations of a call the first are in the log, by these ids; of those that follow, `unsure`, it isn't
+    known; and the rest is not there."""
+
+    told: tuple[Id, ...]
+    unsure: tuple[Id, ...]
+
+
+class Tell:
+    """The operations of one call, and how far they are told."""
+
+    def __init__(self, operations: Operations) -> None:
+        self.operations = operations
+        self.told: list[Id] = []
+        self.unsure: "Sequence[Entry]" = ()
+
+    @property
+    def rest(self) -> Operations:
+        """The operations that are not known to be in the log."""
+        return self.operations[len(self.told):]
+
+    def settle(self, is_there: bool) -> None:
+        """Takes notice of whether what was unsure is in the log."""
+        if is_there:
+            self.told += [entry.id for entry in self.unsure]
+        self.unsure = ()
+
+    def outcome(self) -> Outcome:
+        return Outcome(tuple(self.told), tuple(entry.id for entry in self.unsure))
+
+    def leave_by(self, fault: BaseException) -> None:
+        """Has an exception say what became of the operations; `tell_of` finds them."""
+        told, unsure = self.outcome()
+        for name, value in (("told", told), ("unsure", unsure), ("tell", self)):
+            setattr(fault, name, value)
+
+
+def tell_of(fault: BaseException, operations: Operations) -> Tell:
+    """The tell that an exception has left. ValueError where it left none, or one of other operations."""
+    tell = getattr(fault, "tell", None)
+    if not isinstance(tell, Tell):
+        raise ValueError(f"{type(fault).__name__} was not raised by a tell") from fault
+    if tell.operations != operations:
+        raise ValueError("a tell goes on with the operations that it began with") from fault
+    return tell
+
+
+class Journal:
+    """The tells of a call that is made again, so that what it told before isn't told again."""
+
+    def __init__(self) -> None:
+        self.place = 0
+        self._tells: list[Tell] = []
+
+    def next(self, operations: Operations) -> Tell:
+        """The tell of these operations, which goes on where the call has told just them at this place before."""
+        known = self._tells[self.place:self.place + 1]
+        if not known or known[0].operations != operations:
+            known = [Tell(operations)]
+            self._tells[self.place:] = known
+        self.place += 1
+        return known[0]
