@@ -32,7 +32,7 @@ SHARED = ["test_workers"]
 READERS = ["test_documents"]
 TOOLS = ["test_more_edits", "test_believe", "test_running"]
 HOSTILE = ["test_devices", "test_memory", "test_stacks", "test_refused_calls", "test_costs", "test_workers_memory"]
-NODES = ["test_node", "test_names", "test_writing", "test_asynchronous"]
+NODES = ["test_node", "test_names", "test_writing", "test_room", "test_asynchronous"]
 LOGS = ["test_embedded", "test_talks", "test_page", "test_lasting", "test_install", "test_launcher"]
 KINDS = {"node": [*RUNS, *EXPLAINED, *SHARED, *READERS, *TOOLS, *HOSTILE, *NODES, *LOGS], "engines": ["test_links"]}
 

@@ -13,10 +13,11 @@ from pathlib import Path
 from tempfile import TemporaryDirectory
 
 import links
+import promises
 from chrrep.link import LinkLost, LogUnusable, connect, join
 from chrrep.link.__main__ import _beside
 from chrrep.link.log import FORMAT
-from engines import Embedded
+from engines import Embedded, Engine
 from kills import PACKAGE, Command
 from programs import COINS, PATHS, PLAIN
 
@@ -28,6 +29,19 @@ LOGS = shutil.ignore_patterns(".chrrep", "log")
 
 class SqliteLinks(links.Everything, links.Leases):
     kind = Embedded
+
+
+class SqlitePromises(promises.Promises):
+    kind = Embedded
+
+    def odd_origins(self) -> list[int]:
+        # new files take no entry of others
+        return []
+
+    def old_engine(self) -> Engine:
+        engine = Embedded()
+        self.addCleanup(engine.close)
+        return engine
 
 
 class Files(unittest.TestCase):

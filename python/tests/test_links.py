@@ -1,7 +1,18 @@
 """Members of logs in Redis and PostgreSQL, which these tests start, stop and end."""
 
+import time
+import unittest
+from collections.abc import Callable
+from contextlib import closing
+
 import links
-from engines import Postgres, Redis
+import promises
+import psycopg2
+from chrrep import Id
+from chrrep.link import LinkLost, Member, join
+from chrrep.names import UnkeptName
+from engines import Postgres, Redis, VolatileRedis
+from programs import PLAIN
 
 
 class RedisLinks(links.Everything, links.Leases, links.Outages):
@@ -10,3 +21,81 @@ class RedisLinks(links.Everything, links.Leases, links.Outages):
 
 class PostgresLinks(links.Everything, links.Outages):
     kind = Postgres
+
+
+class RedisPromises(promises.Promises, promises.Hangs):
+    kind = Redis
+
+    def odd_atoms(self) -> list[str | bytes]:
+        return [b'[["a",1\xff]]', ""]
+
+    def odd_numbers(self) -> dict[str, str]:
+        return {"epoch": "x", "generation": "", "format": "one"}
+
+
+class PostgresPromises(promises.Promises, promises.Hangs):
+    kind = Postgres
+    is_made_anew = True
+
+    def odd_logs(self) -> list[str]:
+        return ["x" * 56, "log:state"]
+
+
+class LostRedis(unittest.TestCase):
+    def test_a_restart_of_a_server_that_keeps_nothing(self) -> None:
+        """It is noticed before anything is acknowledged."""
+        engine = VolatileRedis()
+        self.addCleanup(engine.close)
+        with join(engine.url, PLAIN) as one, join(engine.url) as other:
+            one.tell(("a", 1))
+            other.follow()
+            engine.stop()
+            engine.start()
+            for member in (one, other):
+                with self.assertRaisesRegex(LinkLost, "has lost") as raised:
+                    member.tell(("a", 2))
+                self.assertEqual((raised.exception.told, raised.exception.unsure), ((), ()))
+
+
+class PostgresTables(links.Links):
+    """What is done to single tables."""
+
+    kind = Postgres
+    engine: Postgres
+
+    def test_a_table_that_is_truncated(self) -> None:
+        """Also who has told nothing, and who joins, is told of it."""
+        told, silent = self.member(PLAIN), self.member()
+        told.tell(("a", 1))
+        silent.follow()
+        self.engine.run(f'TRUNCATE "{self.log}"')
+        calls: list[Callable[[], object]] = [
+            lambda: told.tell(("a", 2)), lambda: silent.tell(("a", 3)), silent.show, self.member
+        ]  # fmt: skip
+        for call in calls:
+            with self.assertRaisesRegex(LinkLost, "has lost"):
+                call()
+
+    def test_a_table_that_is_locked(self) -> None:
+        """A tell gives up when it is out of patience, and is not in the log."""
+        member = self.stack.enter_context(Member(self.link(patience=1.0), PLAIN))
+        member.tell(("a", 1))
+        with closing(psycopg2.connect(self.engine.url)) as locks, locks.cursor() as cursor:
+            cursor.execute(f'LOCK TABLE "{self.log}" IN ACCESS EXCLUSIVE MODE')
+            begin = time.monotonic()
+            with self.assertRaises(LinkLost):
+                member.show()
+            with self.assertRaises(LinkLost) as raised:
+                member.tell(("a", 2))
+            self.assertLess(time.monotonic() - begin, 20.0)
+            locks.rollback()
+        self.assertEqual(member.tell(("a", 2), after=raised.exception), Id(member.origin, 2))
+        self.assertEqual(member.show(), (("a", 1), ("a", 2)))
+
+    def test_a_name_with_a_nul(self) -> None:
+        member = self.member(PLAIN)
+        with self.assertRaisesRegex(UnkeptName, "NUL") as raised:
+            member.tell_many([[("a", "x")], [("a", "x\0y")]])
+        self.assertEqual((raised.exception.told, raised.exception.unsure), ((), ()))
+        self.assertEqual((self.ids(), member.link.names()), ([], []))
+        self.assertEqual(member.tell(("a", "x")).number, 1)

@@ -316,7 +316,9 @@ class PostgresLink(Link):
 
     @of_damaged
     def count(self) -> Count:
-        return Count(*map(whole, self._state_row("appends, generation, room")[1:]))
+        id, *counts = self._state_row("appends, generation, room")
+        self._check_id(id)
+        return Count(*map(whole, counts))
 
     def begin(self, program: Program) -> None:
         query = f"UPDATE {{state}} SET program = %(program)s WHERE program IS NULL AND {_ID} = %(id)s"

@@ -277,7 +277,9 @@ class RedisLink(Link):
 
     @of_damaged
     def count(self) -> Count:
-        return Count(*map(_int, self._fields("appends", "generation", "room")))
+        id, *counts = self._fields("id", "appends", "generation", "room")
+        self._check_id(id)
+        return Count(*map(_int, counts))
 
     def begin(self, program: Program) -> None:
         self._said(lambda: self._run(_BEGIN, [self._key("state")], [self.log_id, program_text(program)]))

@@ -188,7 +188,9 @@ class SqliteLink(Link):
 
     @of_damaged
     def count(self) -> Count:
-        return Count(*map(whole, self._logs_row("appends, generation, room")))
+        id, *counts = self._logs_row("id, appends, generation, room")
+        self._check_id(id)
+        return Count(*map(whole, counts))
 
     def begin(self, program: Program) -> None:
         text = program_text(program)
