@@ -88,6 +88,16 @@ class Embedded(Engine):
     def url(self) -> str:
         return f"sqlite:///{self.path}"
 
+    @contextmanager
+    def locked(self) -> Iterator[None]:
+        """A time in which no other writes into the file."""
+        with closing(sqlite3.connect(self.path, timeout=START_SECONDS, isolation_level=None)) as engine:
+            engine.execute("BEGIN IMMEDIATE")
+            try:
+                yield
+            finally:
+                engine.execute("ROLLBACK")
+
     def run(self, *statements: tuple[str, tuple[object, ...]]) -> None:
         with closing(sqlite3.connect(self.path, timeout=START_SECONDS)) as engine, engine:
             for statement, values in statements:

@@ -6,18 +6,23 @@ import select
 import signal
 import subprocess
 import sys
+import threading
 import time
 from collections import Counter
-from collections.abc import Sequence
+from collections.abc import Callable, Sequence
 from contextlib import suppress
+from functools import partial
 from pathlib import Path
+from typing import TypeVar
 
 import chrrep
-from chrrep import Atom, Id, Operation, atoms_of, store_text
-from chrrep.link import connect
-from engines import Engine, Server
-from programs import MARKED, store_of
+from chrrep import Atom, Id, NodeDied, Operation, atoms_of, store_text
+from chrrep.link import LinkLost, Member, OriginShared, connect
+from engines import Embedded, Engine, Server
+from programs import COUNTED, counted, store_of
 from wounded import STEPS
+
+T = TypeVar("T")
 
 SECONDS = 60.0
 """Longer than anything here takes, when the machine is busy."""
@@ -96,12 +101,88 @@ class Command:
         return process.returncode, said.decode()
 
 
+class Teller:
+    """A member here that is not killed, but its node is: it tells on after each exception, so that all that it tells
+    is in the log, each once."""
+
+    PATIENCE = 0.3
+    FIRST = 10**6
+    AT_ONCE = 10
+
+    def __init__(self, engine: Engine, log: str) -> None:
+        self.engine, self.log = engine, log
+        self.sent: list[tuple[Atom, ...]] = []
+        self.raised: Counter[str] = Counter()
+        self.failure: BaseException | None = None
+        self._asked = threading.Semaphore(0)
+        self._over = threading.Event()
+        self._link = self.patiently(lambda: connect(engine.url, log=log, patience=self.PATIENCE))
+        self.member = self.patiently(lambda: Member(self._link, snapshot_after=200))
+        self._thread = threading.Thread(target=self._run)
+        self._thread.start()
+
+    def patiently(self, call: Callable[[], T]) -> T:
+        """The call's result, once the engine is there."""
+        while True:
+            try:
+                return call()
+            except LinkLost:
+                self.raised["joining"] += 1
+
+    def _run(self) -> None:
+        try:
+            while self._asked.acquire() and not self._over.is_set():
+                self.tell([operation(self.FIRST + len(self.sent) + at) for at in range(self.AT_ONCE)])
+        except BaseException as failure:
+            self.failure = failure
+
+    def tell(self, operations: list[tuple[Atom, ...]]) -> None:
+        """Tells operations, and after each exception the same ones on."""
+        self.sent += operations
+        tell = partial(self.member.tell_many, operations)
+        while True:
+            try:
+                self.member.going_over(tell)
+                return
+            except (LinkLost, OriginShared, NodeDied) as fault:
+                self.raised[type(fault).__name__] += 1
+                if isinstance(fault, NodeDied):
+                    self.member.close()
+                    self.member = self.patiently(lambda: Member(self._link, snapshot_after=200))
+                tell = partial(self.member.tell_many, operations, after=fault)
+
+    def ask(self) -> None:
+        """Has it tell some operations more, while others go on."""
+        self._asked.release()
+
+    def kill_node(self) -> None:
+        """Ends the member's node in the middle of what it does."""
+        with suppress(ProcessLookupError):
+            os.kill(self.member.pid, signal.SIGKILL)
+
+    def end(self) -> None:
+        """Stops after what is being told."""
+        self._over.set()
+        self._asked.release()
+        self._thread.join()
+        self.member.close()
+        self._link.close()
+        if self.failure:
+            raise self.failure
+
+
+def operation(mark: int) -> tuple[Atom, ...]:
+    """One of a mark of its own, which is counted."""
+    return (("path", mark % 6, mark % 5, mark * 7919 % 1000), ("mark", mark), ("b0",))
+
+
 class Kills:
     """Three nodes that tell marked operations and are killed, by others or in the middle of what they do; so are those
-    that have the log go over to another program, and the engine where it is a server.
+    that have the log go over to another program, and the engine where it is a server. A file is locked for a while.
 
-    Each operation has a mark of its own. At the end the marks in the store say which operations it has: each that was
-    acknowledged, others once or not at all; and the store is that of one run of just these.
+    Each operation has a mark of its own, and is counted. At the end the marks in the store say which operations it has:
+    each that was acknowledged, and of those that a member told on after each exception all; others once or not at all.
+    The count is their number, and the store is that of one run of just these.
     """
 
     TOLD = 20
@@ -122,17 +203,26 @@ class Kills:
         self.commands.append(self.start("none", self.program))
         assert self.commands[0].ask("?") == "true"
         self.commands += [self.start() for _ in range(2)]
+        teller = Teller(self.engine, self.log)
         try:
             turn = 0
             while self.killed.total() < kills:
+                teller.ask()
                 self.turn(turn)
+                if turn % 6 == 3:
+                    teller.kill_node()
                 turn += 1
-            self.check()
+            teller.end()
+            self.check(teller.sent)
         finally:
+            with suppress(Exception):
+                teller.end()
             for command in self.commands:
                 command.kill()
-        told = ", ".join(f"{count} {step}" for step, count in sorted(self.killed.items()))
-        print(f"({len(self.sent)} operations, killed: {told})", end=" ", flush=True)
+        told, raised = (", ".join(f"{count} {what}" for what, count in sorted(counts.items()))
+                        for counts in (self.killed, teller.raised))  # fmt: skip
+        said = f"{len(self.sent)} and {len(teller.sent)} operations, killed: {told}, raised: {raised}"
+        print(f"({said})", end=" ", flush=True)
 
     def start(self, step: str | None = None, program: Path | None = None) -> Command:
         """A node, which dies of the step or of one by chance, unless something else kills it before."""
@@ -149,15 +239,23 @@ class Kills:
         if turn % 8 == 7:
             self.upgrade()
         time.sleep(self.chance.random() / 50)
-        if turn % 5 == 4 and isinstance(self.engine, Server):
-            self.engine.stop(chance_of_stop(turn))
-            self.engine.start()
-            self.killed["engine"] += 1
+        if turn % 5 == 4:
+            self.take_away(turn)
         self.commands[at].process.kill()
         for dead in range(3):
             # others may have died in the middle of a step
             if dead == at or self.commands[dead].process.poll() is not None:
                 self.bury(dead)
+
+    def take_away(self, turn: int) -> None:
+        """Has the engine away for a while."""
+        if isinstance(self.engine, Server):
+            self.engine.stop(chance_of_stop(turn))
+            self.engine.start()
+            self.killed["engine"] += 1
+        elif isinstance(self.engine, Embedded):
+            with self.engine.locked():
+                time.sleep(3 * Teller.PATIENCE)
 
     def bury(self, at: int) -> None:
         """Takes in what a dead node has said, and starts another."""
@@ -176,7 +274,7 @@ class Kills:
         """Has the log go over to another program of the same rules, by a process that dies of it or is done."""
         self.upgrades += 1
         other = self.program.with_name("other.chr")
-        other.write_text(f"{MARKED}% program {self.upgrades}\n")
+        other.write_text(f"{COUNTED}% program {self.upgrades}\n")
         wounded = (str(HERE / "wounded.py"), self.chance.choice(("upgrade", "upgrade", "snapshot", "none")), "1")
         command = Command(self.engine, self.log, None, "--upgrade", str(other), wounded=wounded)
         status, said = command.end()
@@ -187,8 +285,7 @@ class Kills:
     def tell(self, count: int) -> None:
         for _ in range(count):
             at, mark = self.chance.randrange(3), len(self.sent)
-            path = ("path", self.chance.randrange(6), self.chance.randrange(6), self.chance.randrange(1000))
-            self.sent.append((path, ("mark", mark)))
+            self.sent.append(operation(mark))
             self.asked[at].append(mark)
             # it may be dead by now
             with suppress(BrokenPipeError):
@@ -213,16 +310,19 @@ class Kills:
             self.asked[at] = []
             self.commands[at] = self.start("none")
 
-    def check(self) -> None:
+    def check(self, told: Sequence[tuple[Atom, ...]]) -> None:
+        """Holds the stores to what was acknowledged, and to all that was told on."""
         self.settle()
         texts = [command.ask("?") for command in self.commands]
         store = atoms_of(texts[0] or "")
         marks = Counter(int(atom[1]) for atom in store if atom[0] == "mark")
         assert set(marks.values()) == {1}, [mark for mark, count in marks.items() if count > 1]
-        assert self.acknowledged <= set(marks), self.acknowledged - set(marks)
-        told = [Operation(Id(1, at), self.sent[mark]) for at, mark in enumerate(marks, 1)]
-        wanted = store_text(store_of(MARKED, told))
-        assert texts == [wanted] * 3, texts
+        wanted = self.acknowledged | {int(mark) for _, (_, mark), _ in told}
+        assert wanted <= set(marks), wanted - set(marks)
+        assert set(marks) <= wanted | set(range(len(self.sent))), set(marks) - wanted
+        assert counted(store) == len(marks), (counted(store), len(marks))
+        run = store_text(store_of(COUNTED, [Operation(Id(1, at), operation(mark)) for at, mark in enumerate(marks, 1)]))
+        assert texts == [run] * 3, texts
         with connect(self.engine.url, log=self.log) as link:
             assert not link.refused()
         for command in self.commands:

@@ -47,7 +47,7 @@ from chrrep.link.log import FORMAT, SEAL_SECONDS
 from chrrep.names import NameClash, named_atoms_of
 from engines import Engine, Server
 from kills import KILLS, SECONDS, Command, Kills, chance_of_stop
-from programs import COINS, MARKED, PATHS, PLAIN, store_of
+from programs import COINS, COUNTED, MARKED, PATHS, PLAIN, store_of
 
 STOPPED = "FATAL:  terminating connection due to administrator command\n"
 """What libpq itself writes on standard error where it hears between two requests that PostgreSQL is stopped."""
@@ -1069,7 +1069,7 @@ class Commands(Links):
         self.assertEqual(one.ask("?"), "path(1,1,1)")
 
     def test_nodes_that_are_killed_at_random_moments(self) -> None:
-        self.program.write_text(MARKED)
+        self.program.write_text(COUNTED)
         Kills(self.engine, self.log, self.program, random.Random(KILLS)).run(KILLS)
 
 

@@ -11,6 +11,14 @@ COINS = ":- chr_constraint coin/0, note/0.\ncoin, coin <=> note.\n"
 PATHS = ":- chr_constraint path/3.\nshorter @ path(X,Y,D) \\ path(X,Y,E) <=> D =< E | true.\n"
 MARKED = PATHS + ":- chr_constraint mark/1.\n"
 """No rule takes a mark away, so that the store tells which operations it was told, and how often."""
+BITS = 31
+COUNTED = (
+    MARKED
+    + f":- chr_constraint {', '.join(f'b{bit}/0' for bit in range(BITS))}.\n"
+    + "".join(f"b{bit}, b{bit} <=> b{bit + 1}.\n" for bit in range(BITS - 1))
+)
+"""The same, and what it is told of `b0` is counted in bits, so that a sum tells how many there were."""
+
 PLAIN = ":- chr_constraint a/1.\n"
 
 
@@ -19,6 +27,11 @@ def answers(program: str, lines: Iterable[object], *options: str) -> list[str]:
     text = text_bytes(program) + b"\n---\n" + b"".join(map(line_of, lines))
     ended = subprocess.run([program_path(), "run", *options], input=text, stdout=subprocess.PIPE, check=True)
     return ended.stdout.decode().splitlines()
+
+
+def counted(store: Iterable[Atom]) -> int:
+    """How many `b0` a store of `COUNTED` was told."""
+    return sum(1 << int(str(name)[1:]) for name, *rest in store if not rest)
 
 
 def store_of(program: str, operations: Iterable[Operation]) -> tuple[Atom, ...]:
