@@ -13,7 +13,7 @@ from typing import Any
 from unittest.mock import patch
 
 import chrrep
-from chrrep import Full, Id, NodeDied
+from chrrep import Full, Id, NodeDied, WrongProcess
 from chrrep.link import (
     Batch,
     Diverged,
@@ -346,7 +346,7 @@ class Forks(Links):
             try:
                 call()
             except BaseException as fault:
-                count += type(fault).__name__ == "Forked"
+                count += isinstance(fault, WrongProcess)
         with suppress(BaseException):
             member.close()
             member.link.close()

@@ -24,8 +24,8 @@ from chrrep.link.log import connect
 from chrrep.link.replica import Replica
 
 STEPS = ("append", "snapshot", "trim", "renewal", "none")
-ROOM = 60
-"""Atoms that a node is told before it is renewed."""
+ROOM = 300
+"""Atoms that a node is told before it is renewed, more than are told at once."""
 LONGEST_DELAY = 0.004
 
 

@@ -13,7 +13,6 @@ node whose operations go through it.
 
 from .faults import (
     Diverged,
-    Forked,
     LinkLost,
     LogLost,
     LogUnusable,
@@ -50,7 +49,6 @@ __all__ = [
     "Diverged",
     "Entry",
     "Following",
-    "Forked",
     "Heard",
     "Lease",
     "Link",

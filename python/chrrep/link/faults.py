@@ -20,13 +20,6 @@ class LogUnusable(ChrrepError):
     """The log can't be used as it is: its file can't be opened or written, is damaged, or was taken away."""
 
 
-class Forked(ChrrepError):
-    """This process was forked from the one that joined the log: it needs a member of its own."""
-
-    def __init__(self) -> None:
-        super().__init__("this process was forked from the one that joined the log: join it here too")
-
-
 class NewerFormat(ChrrepError):
     """The log was written by a later version of this package."""
 

@@ -20,9 +20,9 @@ from types import TracebackType
 from typing import Any, NamedTuple, ParamSpec, Self, TypeAlias, TypeVar
 from urllib.parse import urlsplit
 
-from ..refusals import Full
+from ..refusals import Full, WrongProcess
 from ..texts import Atom, Id, atoms_text
-from .faults import Forked, LinkLost, LogLost, LogUnusable, NewerFormat, OriginShared
+from .faults import LinkLost, LogLost, LogUnusable, NewerFormat, OriginShared
 from .room import ROOM
 from .telling import Batch
 
@@ -266,7 +266,7 @@ class Link(ABC):
 
     What was appended is as safe as the engine keeps what it has acknowledged, and its ids stand for it for ever. A lost
     connection is made again for `patience` seconds, and then `LinkLost` is raised. Calls may come from any thread, of
-    the process that made the link (`Forked`). Leaving a `with` closes the link, and so does dropping it.
+    the process that made the link (`WrongProcess`). Leaving a `with` closes the link, and so does dropping it.
     """
 
     origin: int
@@ -387,9 +387,9 @@ class Link(ABC):
         """Raises `UnkeptName` where the engine can't keep a name."""
 
     def check_process(self) -> None:
-        """Raises `Forked` in a process that was forked from the link's."""
+        """Raises `WrongProcess` in a process that was forked from the link's."""
         if os.getpid() != self._process:
-            raise Forked
+            raise WrongProcess("link")
 
     def take_another_origin(self) -> None:
         """Goes on with another origin where the engine has allotted this one, which another link has by now."""

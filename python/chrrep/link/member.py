@@ -12,7 +12,7 @@ from types import TracebackType
 from typing import NamedTuple, Self, TypeVar
 
 from ..names import NameClash, Names, named_text, number_of, numbered
-from ..refusals import Full, NodeDied, Refused, RefusedProgram
+from ..refusals import Full, NodeDied, Refused, RefusedProgram, WrongProcess
 from ..stores import StoreReader
 from ..texts import (
     Atom,
@@ -27,7 +27,6 @@ from ..texts import (
 )
 from .faults import (
     Diverged,
-    Forked,
     LinkLost,
     LogLost,
     LogUnusable,
@@ -347,7 +346,7 @@ class Member:
 
     def close(self) -> None:
         """Ends the node. To close twice is no fault. In a process that was forked nothing is done."""
-        with suppress(Forked):
+        with suppress(WrongProcess):
             self.link.check_process()
             self._replica.close()
 
