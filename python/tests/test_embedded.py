@@ -6,20 +6,22 @@ import sqlite3
 import subprocess
 import sys
 import threading
+import time
 import unittest
 from collections.abc import Callable
 from contextlib import closing
 from pathlib import Path
 from tempfile import TemporaryDirectory
+from unittest.mock import patch
 
 import links
 import promises
-from chrrep.link import LinkLost, LogUnusable, connect, join
+from chrrep.link import Link, LinkLost, LogUnusable, OriginShared, connect, join
 from chrrep.link.__main__ import _beside
 from chrrep.link.log import FORMAT
 from engines import Embedded, Engine
 from kills import PACKAGE, Command
-from programs import COINS, PATHS, PLAIN
+from programs import COINS, MARKED, PATHS, PLAIN
 
 
 NOBODY = 65_534
@@ -119,6 +121,49 @@ class Files(unittest.TestCase):
             self.assertEqual(member.tell(("a", 3)).number, 2)
             release.join()
             self.assertEqual(member.show(), (("a", 1), ("a", 3)))
+
+    def test_what_else_an_older_file_takes(self) -> None:
+        """Entries that are no text or no text of Unicode are set aside, and what has no number is damage."""
+        engine = Embedded()
+        self.addCleanup(engine.close)
+        engine.make_old("chrrep", MARKED, "mark(1)")
+        with join(engine.url) as member:
+            odd: list[tuple[int, object]] = [(3, b'[["mark",9]]'), (4, 7), (5, b"\xff")]
+            for number, atoms in odd:
+                text = "CAST(? AS TEXT)" if number == 5 else "?"
+                engine.run((f"INSERT INTO entries VALUES ('chrrep', 1, ?, {text}, 'x')", (number, atoms)))
+            engine.write_entry("chrrep", 2**32 - 1, 1, '[["mark",10]]')
+            engine.write_entry("chrrep", 7, 1, '[["mark",11]]')
+            with self.assertLogs("chrrep.link", "WARNING"):
+                self.assertEqual(member.show(), (("mark", 1), ("mark", 7), ("mark", 11)))
+            self.assertEqual((member.refused, len(member.link.refused())), (4, 4))
+        engine.run(("INSERT INTO entries VALUES ('chrrep', 'x', 'y', '[]', 'x')", ()))
+        with self.assertRaisesRegex(LogUnusable, "damaged"), join(engine.url):
+            pass
+
+    def test_a_file_that_is_held_longer_than_a_lease(self) -> None:
+        """The live node keeps its origin, also where somebody asks for just that as soon as the file is free."""
+        engine = Embedded()
+        self.addCleanup(engine.close)
+        joined: list[object] = []
+
+        def ask() -> None:
+            try:
+                with connect(engine.url, 4, patience=60.0):
+                    joined.append(4)
+            except OriginShared as fault:
+                joined.append(fault)
+
+        with patch.object(Link, "lease_seconds", 1.0), patch("chrrep.link.log._HEARTBEAT", 0.1):
+            with join(engine.url, PLAIN, origin=4) as member:
+                member.tell(("a", 1))
+                with engine.locked():
+                    asks = threading.Thread(target=ask)
+                    asks.start()
+                    time.sleep(2.5)
+                asks.join()
+                self.assertEqual(member.tell(("a", 2)).origin, 4)
+        self.assertEqual([type(found) for found in joined], [OriginShared])
 
     def test_a_disk_that_is_full(self) -> None:
         with join(self.url, PLAIN) as member:

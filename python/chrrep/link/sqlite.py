@@ -9,7 +9,7 @@ import os
 import sqlite3
 import threading
 import time
-from collections.abc import Callable, Iterator, Mapping
+from collections.abc import Callable, Iterator, Mapping, Sequence
 from contextlib import contextmanager, suppress
 from typing import Any, TypeAlias, TypeVar
 
@@ -111,7 +111,15 @@ _FIND = "SELECT atoms, writer FROM entries WHERE log = :log AND origin = :origin
 _ADD = """
     INSERT INTO entries (log, origin, number, atoms, writer)
     SELECT :log, :origin, key, value, :writer FROM json_each(:rows)"""
+_ADD_ONE = "INSERT INTO entries (log, origin, number, atoms, writer) VALUES (:log, :origin, :number, :atoms, :writer)"
+# asks all that an append asks; where nothing is changed it is looked for why
 _COUNT = """
+    UPDATE logs SET room = room + :room, appends = appends + 1
+    WHERE log = :log AND id = :id AND epoch = :epoch AND room + :room <= :limit
+    AND (sealed_until < :now OR sealed_by = :writer) AND :before < :first
+    AND (SELECT writer FROM origins WHERE log = :log AND origin = :origin) = :writer
+    AND coalesce((SELECT max(number) FROM entries WHERE log = :log AND origin = :origin), 0) = :before"""
+_COUNT_AGAIN = """
     UPDATE logs SET room = room + :room, appends = appends + 1 WHERE log = :log AND room + :room <= :limit"""
 # what keeps a link from appending, and the origin's greatest number
 _STAND = """
@@ -124,7 +132,6 @@ _HOLD = """
     ON CONFLICT DO UPDATE SET allotted = :allotted, writer = :writer, until = :until
     WHERE until = :before OR writer = :writer"""
 _LEASE = "UPDATE origins SET until = :end WHERE log = :log AND origin = :origin AND writer = :writer"
-_RENEW = _LEASE + " AND until < :soon"
 _LEAVE = "DELETE FROM members WHERE log = :log AND origin = :origin"
 _TELL = "INSERT OR REPLACE INTO members VALUES (:log, :origin, :position, :now)"
 _NAME = """
@@ -160,6 +167,7 @@ class SqliteLink(Link):
         self.path = os.path.abspath(url.removeprefix(PREFIX))
         self._lock = threading.Lock()
         self._bell_lock = threading.Lock()
+        self._held_since = 0.0
         self._engine = self._bell = self._patiently(self._opened, (_Away,))
         try:
             self._file = os.stat(self.path)
@@ -198,18 +206,30 @@ class SqliteLink(Link):
 
     @of_damaged
     def append(self, batch: Batch) -> None:
-        rows = json.dumps({entry.id.number: entry.atoms for entry in batch.entries})
+        now = time.time()
+        values: dict[str, object] = {
+            "log": self.log,
+            "id": self.log_id,
+            "origin": self.origin,
+            "writer": self.writer,
+            "epoch": batch.epoch,
+            "room": batch.room,
+            "limit": self.room_limit,
+            "before": batch.before,
+            "first": batch.entries[0].id.number,
+            "now": now,
+        }
 
         def add(engine: sqlite3.Connection) -> None:
-            if self._is_done(engine, batch):
-                return
-            values = {"log": self.log, "room": batch.room, "limit": self.room_limit}
             if not engine.execute(_COUNT, values).rowcount:
-                raise self._full(batch)
+                if self._is_done(engine, batch):
+                    return
+                if not engine.execute(_COUNT_AGAIN, values).rowcount:
+                    raise self._full(batch)
             self._keep_names(engine, batch.names)
-            self._rows(engine, _ADD, origin=self.origin, writer=self.writer, rows=rows)
-            end = time.time() + self.lease_seconds
-            self._rows(engine, _RENEW, origin=self.origin, writer=self.writer, end=end, soon=end - _RENEWED_SECONDS)
+            self._add(engine, batch.entries, values)
+            if now > self._held_since + _RENEWED_SECONDS and self._lease_until(engine, now + self.lease_seconds):
+                self._held_since = now
             # what follows is the commit
             batch.is_unsure = True
 
@@ -347,8 +367,6 @@ class SqliteLink(Link):
                 self.path, timeout=min(_BUSY_SECONDS, left), isolation_level=None, check_same_thread=False
             )
             try:
-                # something else may have written what is no text
-                engine.text_factory = _text_of
                 engine.execute("PRAGMA journal_mode = WAL")
                 engine.execute("PRAGMA synchronous = FULL")
                 engine.execute(f"PRAGMA journal_size_limit = {_WAL_BYTES}")
@@ -387,6 +405,16 @@ class SqliteLink(Link):
         self._check_end(end, batch)
         return False
 
+    def _add(self, engine: sqlite3.Connection, entries: Sequence[Entry], values: dict[str, object]) -> None:
+        """Puts entries into the log, in which they are not."""
+        if len(entries) == 1:
+            id, atoms, _ = entries[0]
+            one: dict[str, object] = {"number": id.number, "atoms": atoms}
+            engine.execute(_ADD_ONE, values | one)
+        else:
+            rows: dict[str, object] = {"rows": json.dumps({entry.id.number: entry.atoms for entry in entries})}
+            engine.execute(_ADD, values | rows)
+
     def _stand(self, engine: sqlite3.Connection) -> Row:
         rows = self._rows(engine, _STAND, origin=self.origin)
         return rows[0] if rows else (None,) * 6
@@ -422,7 +450,12 @@ class SqliteLink(Link):
 
     def _rows(self, engine: sqlite3.Connection, query: str, **values: object) -> list[Row]:
         named: dict[str, object] = {"log": self.log, **values}
-        return engine.execute(query, named).fetchall()
+        try:
+            return engine.execute(query, named).fetchall()
+        except sqlite3.OperationalError as fault:
+            if "decode" not in str(fault):
+                raise
+            return _as_texts(engine, query, named)
 
     def _ask(self, query: str, **values: object) -> list[Row]:
         return self._use(lambda engine: self._rows(engine, query, **values))
@@ -431,16 +464,29 @@ class SqliteLink(Link):
         """The result of a call whose changes are made all at once or not at all."""
 
         def whole(engine: sqlite3.Connection) -> T:
-            with _transaction(engine):
-                return call(engine)
+            engine.execute("BEGIN IMMEDIATE")
+            try:
+                result = call(engine)
+                engine.execute("COMMIT")
+            except BaseException:
+                if engine.in_transaction:
+                    engine.execute("ROLLBACK")
+                raise
+            return result
 
         return self._use(whole)
 
     def _use(self, call: Callable[[sqlite3.Connection], T]) -> T:
         def use(left: float) -> T:
-            with _taken(self._lock, left), self._faults():
+            if not self._lock.acquire(timeout=left):
+                raise _Away("another call is made")
+            try:
                 self._check_file()
                 return call(self._engine)
+            except sqlite3.Error as fault:
+                raise self._fault_of(fault) from fault
+            finally:
+                self._lock.release()
 
         return self._patiently(use, (_Away,))
 
@@ -466,10 +512,13 @@ class SqliteLink(Link):
         try:
             yield
         except sqlite3.Error as fault:
-            kind = getattr(fault, "sqlite_errorname", "")
-            if kind.startswith(("SQLITE_BUSY", "SQLITE_LOCKED")) or self._closing.is_set():
-                raise _Away(str(fault)) from fault
-            raise LogUnusable(f"the log in {self.path} can't be used: {one_line(fault)}") from fault
+            raise self._fault_of(fault) from fault
+
+    def _fault_of(self, fault: sqlite3.Error) -> Exception:
+        kind = getattr(fault, "sqlite_errorname", "")
+        if kind.startswith(("SQLITE_BUSY", "SQLITE_LOCKED")) or self._closing.is_set():
+            return _Away(str(fault))
+        return LogUnusable(f"the log in {self.path} can't be used: {one_line(fault)}")
 
 
 @contextmanager
@@ -480,6 +529,15 @@ def _taken(lock: threading.Lock, seconds: float) -> Iterator[None]:
         yield
     finally:
         lock.release()
+
+
+def _as_texts(engine: sqlite3.Connection, query: str, values: dict[str, object]) -> list[Row]:
+    """The rows of a query where something else has written what is no text."""
+    engine.text_factory = _text_of
+    try:
+        return engine.execute(query, values).fetchall()
+    finally:
+        engine.text_factory = str
 
 
 def _text_of(kept: bytes) -> str:
