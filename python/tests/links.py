@@ -1126,11 +1126,11 @@ class Outages(Links):
         self.assertEqual(self.member().show(), members[0].show())
 
     def test_an_engine_that_stays_away(self) -> None:
-        member = Member(self.link(1, patience=0.5), PLAIN)
-        self.stack.enter_context(member)
+        member = self.member(PLAIN, 1)
         member.tell(("a", 1))
         before = member._replica.show()
         self.engine.stop()
+        member.link.patience = 0.5
         try:
             calls: list[Callable[[], object]] = [
                 lambda: member.tell(("a", 2)), member.follow, member.show, lambda: self.link(2, patience=0.2)
@@ -1141,16 +1141,18 @@ class Outages(Links):
             self.assertEqual(member._replica.show(), before)
         finally:
             self.engine.start()
+            # a busy machine may take long to answer
+            member.link.patience = SECONDS
         self.assertEqual(member.tell(("a", 3)), Id(1, 2))
         self.assertEqual(member.show(), (("a", 1), ("a", 3)))
 
     def test_a_command_whose_engine_is_not_there(self) -> None:
         """At first, or later on: one sentence, and what was acknowledged stays."""
-        command = self.command("--patience", "0.5")
+        command = self.command("--patience", "3")
         self.assertEqual(command.ask("path(1,2,3)"), "told 1:1")
         self.engine.stop()
         try:
-            ends = [command.end(), self.command("--patience", "0.5").end()]
+            ends = [command.end(), self.command("--patience", "1").end()]
         finally:
             self.engine.start()
         for status, told in ends:

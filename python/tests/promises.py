@@ -629,13 +629,15 @@ class Hangs(Links):
 
     def test_an_engine_that_hangs(self) -> None:
         """Each call ends while it hangs, and what was told then is in the log once or not at all."""
-        member = self.stack.enter_context(Member(self.link(patience=1.5), MARKED))
+        # how long an answer is waited for is a part of this
+        member = self.stack.enter_context(Member(self.link(patience=8.0), MARKED))
         member.tell(("mark", 0))
         calls: list[Callable[[], object]] = [
             lambda: member.tell_many(marks(1, 3)), member.show, member.follow, lambda: member.follow(30.0),
             lambda: self.link(patience=1.0), member.link.close,
         ]  # fmt: skip
         faults: list[object] = []
+        member.link.patience = 1.5
         with self.engine.hanging():
             for call in calls[:-1]:
                 faults.append(self.raised_in_time(call))
@@ -663,7 +665,7 @@ class Hangs(Links):
 
         thread = threading.Thread(target=make, daemon=True)
         thread.start()
-        thread.join(30.0)
+        thread.join(60.0)
         self.assertFalse(thread.is_alive())
         return raised[0] if raised else None
 

@@ -85,9 +85,9 @@ class Lasting(unittest.TestCase):
                 store = sorted(member.show(), key=str)
                 generation = link.mark().generation
             with join(url) as fresh:
-                begun = time.monotonic()
                 self.assertEqual(sorted(fresh.show(), key=str), store)
-                self.assertLess(time.monotonic() - begun, 10.0)
+                # it was told a store and what came after it, and not all
+                self.assertLess(fresh._replica.told, 400_000)
         self.assertEqual(store, store_of_all(count))
         self.assertLess(disk, LOG_BYTES)
         self.assertLess(memory, NODE_BYTES)

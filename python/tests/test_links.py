@@ -9,7 +9,7 @@ import links
 import promises
 import psycopg2
 from chrrep import Id
-from chrrep.link import LinkLost, Member, join
+from chrrep.link import LinkLost, join
 from chrrep.names import UnkeptName
 from engines import Postgres, Redis, VolatileRedis
 from programs import PLAIN
@@ -78,8 +78,9 @@ class PostgresTables(links.Links):
 
     def test_a_table_that_is_locked(self) -> None:
         """A tell gives up when it is out of patience, and is not in the log."""
-        member = self.stack.enter_context(Member(self.link(patience=1.0), PLAIN))
+        member = self.member(PLAIN)
         member.tell(("a", 1))
+        member.link.patience = 1.0
         with closing(psycopg2.connect(self.engine.url)) as locks, locks.cursor() as cursor:
             cursor.execute(f'LOCK TABLE "{self.log}" IN ACCESS EXCLUSIVE MODE')
             begin = time.monotonic()
@@ -89,6 +90,7 @@ class PostgresTables(links.Links):
                 member.tell(("a", 2))
             self.assertLess(time.monotonic() - begin, 20.0)
             locks.rollback()
+        member.link.patience = 60.0
         self.assertEqual(member.tell(("a", 2), after=raised.exception), Id(member.origin, 2))
         self.assertEqual(member.show(), (("a", 1), ("a", 2)))
 

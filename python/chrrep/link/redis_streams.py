@@ -52,6 +52,7 @@ from .telling import Batch
 
 _LOST = (redis.exceptions.ConnectionError, redis.exceptions.TimeoutError, OSError)
 _ANSWER_SECONDS = 10.0
+_LEAST_SECONDS = 0.5
 _TURNS = 4
 """Answers that a link waits for in vain before its patience is at its end, at least."""
 _ALL = 2**64 - 1
@@ -240,7 +241,7 @@ class RedisLink(Link):
         self._known: set[int] = set()
         self._known_until = "0-0"
         self._fence = 0
-        self._answer_seconds = min(_ANSWER_SECONDS, patience / _TURNS)
+        self._answer_seconds = min(_ANSWER_SECONDS, max(_LEAST_SECONDS, patience / _TURNS))
         self._engine = redis.Redis.from_url(
             url,
             decode_responses=True,
