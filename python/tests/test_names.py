@@ -27,7 +27,7 @@ class Numbers(unittest.TestCase):
         calls: list[Callable[[], object]] = [
             lambda: number_of("ab\ud800c"),
             lambda: numbered(("path", 1, "ab\ud800c")),
-            lambda: Names().new_in([("path", "ab\ud800c")]),
+            lambda: Names().of([("path", "ab\ud800c")]),
             lambda: named_atoms_of('path("ab\\ud800c")'),
         ]
         for call in calls:

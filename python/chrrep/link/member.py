@@ -12,6 +12,7 @@ from types import TracebackType
 from typing import NamedTuple, Self, TypeVar
 
 from ..names import NameClash, Names, named_text, number_of, numbered
+from ..node import ANSWER_SECONDS
 from ..refusals import Full, NodeDied, Refused, RefusedProgram, WrongProcess
 from ..stores import StoreReader
 from ..texts import (
@@ -87,7 +88,8 @@ class Member:
 
     `program` is what a `Node` takes; left out, it is the log's. The first member gives the log its program, judged by
     sorted cases with `wide`; one that brings another text is `OtherProgram`. `chrrep` names the program to run, and
-    `timeout` is how long the node may take to answer, as for a `Node`; how long the engine may is the link's.
+    `timeout` is how long the node may take to answer, `ANSWER_SECONDS` left out, as for a `Node`; how long the engine
+    may is the link's.
 
     An operation is appended to the log before the node is told it. So what was told is in the log; a member that comes
     back begins with the log's snapshot, reads what came after it, and goes on with the number after its greatest. After
@@ -102,7 +104,7 @@ class Member:
         *,
         wide: bool | None = None,
         chrrep: str | os.PathLike[str] | None = None,
-        timeout: float | None = None,
+        timeout: float | None = ANSWER_SECONDS,
         snapshot_after: int = SNAPSHOT_AFTER,
     ) -> None:
         self.link = link
@@ -659,7 +661,7 @@ def join(
     log: str = LOG_NAME,
     patience: float = PATIENCE,
     wide: bool | None = None,
-    timeout: float | None = None,
+    timeout: float | None = ANSWER_SECONDS,
     snapshot_after: int = SNAPSHOT_AFTER,
 ) -> Iterator[Member]:
     """A member of the log in the engine that the address names, as `connect` and `Member` say; all is closed after."""

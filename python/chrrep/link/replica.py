@@ -6,7 +6,7 @@ import os
 from collections.abc import Iterable, Iterator, Sequence
 from typing import NamedTuple
 
-from ..node import Node
+from ..node import ANSWER_SECONDS, Node
 from ..refusals import Full, Refused
 from ..texts import OPERATION_LIMIT, TOLD_LIMIT, Atom, Id, OperationText, Written, atoms_of, atoms_text, text_pieces
 from .log import LAST_ORIGIN, Entry, Position, Program, SetAside
@@ -32,7 +32,7 @@ class Running(NamedTuple):
     """Which program is run as nodes, and how long these may take to answer."""
 
     chrrep: str | os.PathLike[str] | None = None
-    timeout: float | None = None
+    timeout: float | None = ANSWER_SECONDS
 
 
 class Replica:
