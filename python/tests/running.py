@@ -39,11 +39,12 @@ class Progress:
     """How many of some tests have ended, on one line of a terminal, where each number takes the place of the last."""
 
     def __init__(self, of: int, to: TextIO) -> None:
-        self.of, self.to, self.ended, self.width = of, to, 0, 0
+        self.of, self.to, self.ended, self.failed, self.width = of, to, 0, 0, 0
 
-    def add(self, count: int) -> None:
+    def add(self, count: int, failed: int) -> None:
         self.ended += count
-        self.show(f"{self.ended} of {self.of}")
+        self.failed += failed
+        self.show(f"{self.ended} of {self.of}" + (f", {self.failed} failed" if self.failed else ""))
 
     def show(self, text: str) -> None:
         if self.to.isatty():
@@ -75,15 +76,17 @@ def run_one(name: str) -> Tally:
 
 def run_at_once(tasks: Mapping[str, int], processes: int, is_brief: bool, to: TextIO, terminal: TextIO) -> Tally:
     """Runs tests and modules, each in a process of its own, several at once. A task has a number of tests. What they
-    write is told when they have ended; briefly, only what those write that fail, and beside it how many have ended."""
+    write is told when they have ended; briefly, how many have ended, and at the end what those wrote that failed."""
     whole, progress = Tally(), Progress(sum(tasks.values()), terminal)
+    told: list[str] = []
     with multiprocessing.get_context("fork").Pool(processes, maxtasksperchild=1) as pool:
         for tally in pool.imap_unordered(run_one, tasks):
             whole.add(tally)
-            if tally.failed or not is_brief:
-                progress.clear()
+            if not is_brief:
                 to.write(tally.written)
-            if is_brief:
-                progress.add(tasks[tally.name])
+            else:
+                progress.add(tasks[tally.name], tally.failed)
+                told += [tally.written] if tally.failed else []
     progress.clear()
+    to.write("".join(told))
     return whole

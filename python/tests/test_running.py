@@ -90,7 +90,7 @@ class Running(unittest.TestCase):
         for said in ("said by a good test", "test_well", "it has no machine"):
             self.assertNotIn(said, written)
         told = terminal.getvalue()
-        self.assertIn("5 of 5", told)
+        self.assertIn("5 of 5, 1 failed", told)
         self.assertNotIn("\n", told)
         self.assertEqual(shown(told), "")
         self.assertTrue(told.endswith("\r"))
@@ -104,7 +104,7 @@ class Running(unittest.TestCase):
         """It leaves nothing of a longer one before it."""
         terminal = Terminal()
         progress = Progress(120, terminal)
-        progress.add(119)
+        progress.add(119, 0)
         self.assertEqual(shown(terminal.getvalue()), "119 of 120")
         progress.show("7 of 9")
         self.assertEqual(shown(terminal.getvalue()), "7 of 9")
