@@ -1,0 +1,4 @@
+pub mod Records
+pub mod Laws
+pub mod Checksums
+pub mod Damages
