@@ -100,7 +100,7 @@ class Explanations(unittest.TestCase):
             " `a0/0`, `a1/0`, `a2/0`, `a3/0`, `a4/0`, `a5/0`, `a6/0`, `a7/0`, ..\n"
             "    b <=> true.\n"
             "    ^\n"
-            "    declare it in an earlier clause, as in `:- chr_constraint a/1, b/0.`\n"
+            "    clause 65, which is bad, would declare it: mend that one first\n"
             "A clause after a bad one is read as if the bad one were not there.\n",
         )
 

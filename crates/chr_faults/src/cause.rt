@@ -164,7 +164,7 @@ impl<'a> Cause<'a> {
             Cause::Empty => "remove the full stop, or write a clause before it",
             Cause::Form(stuck, _) => stuck.remedy(),
             Cause::Propagation =>
-                "each rule takes a head: keep the others by `\\`, as in `a(X) \\ b(X) <=> c(X).`",
+                "rules take facts away, and none only adds: see 'What can't be had' in docs/GUIDE.md",
             Cause::Undeclared(_) =>
                 "declare it in an earlier clause, as in `:- chr_constraint a/1, b/0.`",
             Cause::DeclaredTwice(_) => "declare each name once for each number of arguments",

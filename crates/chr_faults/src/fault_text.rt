@@ -8,6 +8,7 @@ ghost use Rattle.chr_faults.specs.Places.{place_outside};
 
 use crate::cause::Cause;
 use crate::clause::{clause_of, clauses_before};
+use crate::declaring::bad_declaration;
 use crate::faults::{BadClause, TextFaults, text_faults};
 use crate::finding::finding_in;
 use crate::limits::{MAX_TOLD_FAULTS, MAX_TOLD_SYMBOLS};
@@ -96,11 +97,26 @@ fn push_cause(
     out.push_str("\n")
 }
 
-/// Adds what would be right.
+/// Adds what would be right of a fault that does not follow of an earlier one.
 fn push_remedy(out: &mut String, cause: &Cause<'_>) -> Result<(), AllocError> {
     match cause.foreign() {
         Some(foreign) => write!(out, "    {foreign}\n"),
         None => write!(out, "    {}\n", cause.remedy()),
+    }
+}
+
+/// The number of an earlier bad clause of which this one's fault follows.
+fn follows_of(
+    alloc: Global,
+    source: Source<'_>,
+    told: BadClause,
+    cause: &Cause<'_>,
+) -> Result<Option<usize>, AllocError> {
+    match cause {
+        Cause::Undeclared(symbol) => {
+            bad_declaration(alloc, source.plain, source.bad, told.number, *symbol)
+        }
+        _ => Ok(None),
     }
 }
 
@@ -123,7 +139,13 @@ fn push_bad(
         &program,
     )?;
     push_line(out, source.text, at)?;
-    push_remedy(out, &finding.cause)
+    match follows_of(alloc, source, told, &finding.cause)? {
+        Some(number) => Ok(write!(
+            out,
+            "    clause {number}, which is bad, would declare it: mend that one first\n"
+        )?),
+        None => push_remedy(out, &finding.cause),
+    }
 }
 
 /// How many bytes the token at a place of a clause has: 1 where none begins there.

@@ -41,8 +41,10 @@ pub(crate) enum Foreign<'a> {
     },
     Negation,
     Alternatives,
-    /// A comparison or an equation in a body.
-    Builtin,
+    /// A comparison in a body.
+    Comparison,
+    /// An equation in a body.
+    Equation,
     Cut,
     Comment,
     Pragma,
@@ -63,6 +65,13 @@ fn sign(usual: &'static str, here: &'static str) -> Foreign<'static> {
 fn is_word(token: Option<PlacedToken<'_>>, word: &[u8]) -> bool {
     match token {
         Some(token) => token.word == word,
+        None => false,
+    }
+}
+
+fn is_sign_at(token: Option<PlacedToken<'_>>, sign: Sign) -> bool {
+    match token {
+        Some(token) => is_sign(&token, sign),
         None => false,
     }
 }
@@ -219,8 +228,11 @@ fn for_atom<'a>(spot: Spot<'a>) -> Option<Foreign<'a>> {
     if !is_term(&spot.token) {
         return None;
     }
+    if is_sign_at(spot.after, Sign::Equals) {
+        return Some(Foreign::Equation);
+    }
     if spot.is_compared() {
-        return Some(Foreign::Builtin);
+        return Some(Foreign::Comparison);
     }
     Some(Foreign::Arithmetic(operator_of(spot.after?)?))
 }
@@ -326,7 +338,7 @@ impl fmt::Display for Foreign<'_> {
             Foreign::Value(value) => write!(f, "{value}"),
             Foreign::Arithmetic(word) => write!(
                 f,
-                "{} is arithmetic, and rules do none: tell what it gives, or carry sums, as in `n(0), n(0) <=> n(1).`",
+                "{} is arithmetic, and rules do none: tell what it gives, as each node its own total, or carry sums ('Sums' in docs/GUIDE.md)",
                 ToldWord(word)
             ),
             Foreign::Call(name) => write!(
@@ -341,8 +353,11 @@ impl fmt::Display for Foreign<'_> {
             Foreign::Alternatives => f.write_str(
                 "`;` and `->` are not read: write a rule for each case, with its guard",
             ),
-            Foreign::Builtin => f.write_str(
-                "a body is atoms alone: write comparisons before `|`, and a value where its variable would stand",
+            Foreign::Comparison => f.write_str(
+                "a body is atoms alone: write comparisons before `|`",
+            ),
+            Foreign::Equation => f.write_str(
+                "facts hold numbers, and nothing makes two of them equal: write a value where its variable would stand, or follow 'New names for old' in docs/GUIDE.md",
             ),
             Foreign::Cut => f.write_str("`!` is not read: leave it out"),
             Foreign::Comment => f.write_str(

@@ -3,6 +3,7 @@
 
 mod cause;
 mod clause;
+mod declaring;
 mod fault_text;
 mod faults;
 mod finding;

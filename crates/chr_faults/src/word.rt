@@ -38,6 +38,22 @@ pub(crate) enum ToldArity<'a> {
     Number(usize),
 }
 
+/// The value of digits, where 64 bits hold it.
+pub(crate) fn number_of(digits: &[u8]) -> Option<u64> {
+    let text = str::from_utf8(digits).ok()?;
+    text.parse::<u64>().ok()
+}
+
+impl ToldArity<'_> {
+    /// The number, where 64 bits hold it.
+    pub(crate) fn number(&self) -> Option<u64> {
+        match self {
+            ToldArity::Digits(digits) => number_of(digits),
+            ToldArity::Number(number) => Some(*number as u64),
+        }
+    }
+}
+
 /// A symbol as a text has it.
 #[derive(Clone, Copy)]
 pub(crate) struct ToldSymbol<'a> {

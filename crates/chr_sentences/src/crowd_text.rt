@@ -38,13 +38,27 @@ pub(crate) fn push_crowd(
     told.push_matched(alloc, out)?;
     write!(
         out,
-        "Their variables have {classes} classes of equal values that no constant binds"
+        "Matched so, they have {classes} variables, whose values may stand in any order"
     )?;
     push_constants(alloc, out, program)?;
-    out.push_str("Judge it with --wide, which looks only at what rules can compare.\nOr narrow ")?;
+    push_sorted(alloc, out, names, crowd)?;
+    push_narrower(alloc, out, told, &crowd.sorted)
+}
+
+/// Tells how to have fewer order types, where the sorted cases don't decide.
+fn push_narrower(
+    alloc: Global,
+    out: &mut String,
+    told: ToldOverlap<'_>,
+    sorted: &SortedVerdict,
+) -> Result<(), AllocError> {
+    match sorted {
+        SortedVerdict::Accepted(_) | SortedVerdict::Fails(_) => return Ok(()),
+        SortedVerdict::TooMany(_) | SortedVerdict::Unknown(_) => {}
+    }
+    out.push_str("Or narrow ")?;
     told.push_widest(alloc, out)?;
-    out.push_str(": write fewer arguments, or constants or one variable twice among them.\n")?;
-    push_sorted(alloc, out, names, crowd)
+    out.push_str(": write fewer arguments, or constants or one variable twice among them.\n")
 }
 
 /// Adds the constants with which free values are compared.
@@ -92,7 +106,7 @@ fn push_accepted(out: &mut String, accepted: &Accepted) -> Result<(), AllocError
     let cases = accepted.cases();
     Ok(write!(
         out,
-        "With --wide this program is accepted: `chrrep check --wide < FILE` tells rules {rules}, cases {cases}.\n"
+        "Judge it with --wide: so it is accepted, and `chrrep check --wide < FILE` tells rules {rules}, cases {cases}.\n"
     )?)
 }
 

@@ -1,5 +1,6 @@
 //! Overlaps of two rules as they are told.
 
+use chr_base::rule::Rule;
 use chr_base::term::{Pattern, Term};
 use chr_diagnosis::{NamedProgram, ToldRule, told_rule};
 use chr_overlaps::Overlap;
@@ -54,7 +55,29 @@ fn widest_place(told: ToldRule<'_>) -> usize {
     widest
 }
 
+/// Whether a rule without kept heads and without a guard takes the fact at this place together with one of another
+/// symbol, and leaves something.
+fn takes_with_another(rule: &Rule, place: usize) -> bool {
+    let Some(taken) = rule.removed.get(place) else {
+        return false;
+    };
+    let has_another = rule.removed.iter().any(|other| other.symbol != taken.symbol);
+    has_another && rule.kept.is_empty() && rule.guard.is_empty() && !rule.body.is_empty()
+}
+
 impl ToldOverlap<'_> {
+    /// Whether one head alone is matched, with the same of its own rule, which takes it together with another fact.
+    pub(crate) fn is_competition(&self) -> bool {
+        let matching = self.overlap.matching.as_slice();
+        let apart = matching.iter().take_while(|entry| **entry == 0).count();
+        let matched = matching.iter().filter(|entry| **entry != 0).count();
+        let is_itself = match matching.get(apart) {
+            Some(entry) => usize::from(*entry) == usize::saturating_add(apart, 1),
+            None => false,
+        };
+        self.is_of_one() && matched == 1 && is_itself && takes_with_another(self.first.rule, apart)
+    }
+
     /// Whether a rule overlaps with itself.
     pub(crate) fn is_of_one(&self) -> bool {
         self.first.number == self.second.number

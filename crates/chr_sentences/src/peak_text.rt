@@ -13,6 +13,10 @@ use std::fmt::Write;
 /// What stands before the smallest store.
 const SMALLER: &str = "The smallest store with which these heads come to two ends";
 
+/// What stands behind a case in which two facts compete for a third one.
+const COMPETITION: &str =
+    "Two facts want one that is there once: let it name which, or tell by a number who comes first ('Reservations' in docs/GUIDE.md).\n";
+
 /// Adds the steps of one side, a line for each, and its end.
 fn push_side(
     alloc: Global,
@@ -128,5 +132,6 @@ pub(crate) fn push_peak(
     out.push_str("Two replicas that took these rules in another order would disagree for ever.\n")?;
     out.push_str(
         "Add a rule that takes one end to the other, or write a guard under which only one of the two steps is possible.\n",
-    )
+    )?;
+    out.push_str(if told.is_competition() { COMPETITION } else { "" })
 }
