@@ -124,12 +124,25 @@ class Files:
         return os.waitstatus_to_exitcode(status), self.contents(1).decode(errors="replace"), self.contents(2)
 
 
-def told_first(verdict: str) -> str:
+def told_first(verdict: str, wide: bool) -> str:
     """A part of the first line of an explanation."""
     words = verdict.replace(":", "").replace(",", "").split()
+    by = " with --wide" * wide
     if words[0] == "accepted":
-        return f"accepted: rules {words[2]}, "
-    return f"clause {words[3]}, fault {words[1]}: " if "clause" in words else f"{words[1]}: "
+        return f"accepted{by}: rules {words[2]}, "
+    if "clause" in words:
+        return f"clause {words[3]}, fault {words[1]}: "
+    return f"{words[1]}{by * (words[1] in ('21', '22'))}: "
+
+
+def explained(files: Files, of: Input, words: Words, line: str) -> Iterator[str]:
+    """What an explanation doesn't do: it has the status of a check by the cases that decide, and tells its line."""
+    wide = of.wide or line.startswith("refused 22")
+    verdict = line if wide == of.wide else files.ended(("check", "--wide"), of.given)[1]
+    end = files.ended(words, of.given)
+    status = 0 if verdict.startswith("accepted") else 1
+    if (end[0], end[2]) != (status, b"") or told_first(verdict, wide) not in end[1].partition("\n")[0]:
+        yield f"explain: {end} of {verdict}"
 
 
 def all_commands(of: Input) -> list[Words]:
@@ -147,11 +160,10 @@ def faults(files: Files, of: Input, commands: list[Words], lines: list[str]) -> 
     """The commands that do not do what is expected."""
     status = 0 if lines[0].startswith("accepted") else 1
     for words in commands:
-        end = files.ended(words, of.given)
         if words[0] == "explain":
-            if (end[0], end[2]) != (status, b"") or told_first(lines[0]) not in end[1].partition("\n")[0]:
-                yield f"explain: {end} of {lines[0]}"
+            yield from explained(files, of, words, lines[0])
             continue
+        end = files.ended(words, of.given)
         output = lines[:1] if words[0] == "check" else lines
         if end != (status, "".join(f"{line}\n" for line in output), b""):
             yield f"{' '.join(words)}: {end} in place of {status}, {output}"

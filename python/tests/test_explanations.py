@@ -16,6 +16,7 @@ from random_programs import program
 from slow_verdict import TooManyTypes, TooSlow, smallest_failing, store_text
 
 TEXTS = Path(__file__).resolve().parent / "explanations"
+EXAMPLES = Path(__file__).resolve().parents[2] / "examples"
 OPTIONS = {
     ".out": (),
     ".all": ("--all",),
@@ -57,13 +58,18 @@ def run(verb: str, text: bytes, *options: str) -> tuple[int, str]:
     return end.returncode, end.stdout.decode()
 
 
+def judging(text: bytes, *options: str) -> tuple[str, ...]:
+    """The options of the check whose verdict is told by these: by sorted cases where they are asked for, or where there
+    are too many joint ones."""
+    return ("--wide",) if "--wide" in options or run("check", text)[1].startswith("refused 22:") else ()
+
+
 class Explanations(unittest.TestCase):
     maxDiff = None
 
     def check(self, text: bytes, told: str, *options: str) -> None:
-        """An explanation ends with the status of a check, by sorted cases where it is by them."""
-        judged = [option for option in options if option == "--wide"]
-        self.assertEqual(run("explain", text, *options), (run("check", text, *judged)[0], told))
+        """An explanation ends with the status of the check whose verdict it tells."""
+        self.assertEqual(run("explain", text, *options), (run("check", text, *judging(text, *options))[0], told))
 
     def test_texts(self) -> None:
         texts = sorted(TEXTS.glob("*.chr"))
@@ -74,6 +80,23 @@ class Explanations(unittest.TestCase):
             for file in told:
                 with self.subTest(file.name):
                     self.check(text.read_bytes(), file.read_text(), *OPTIONS[file.suffix])
+
+    def test_which_cases_decide(self) -> None:
+        """The first line tells it, and the second one what to do where a check without the option is refused 22."""
+        texts = [*sorted(TEXTS.glob("*.chr")), *sorted(EXAMPLES.glob("*.chr"))]
+        crowded = 0
+        for file, options in itertools.product(texts, ((), ("--wide",))):
+            text = file.read_bytes()
+            verdict = run("check", text)[1]
+            with self.subTest(file.name, options=options):
+                first, second, *_ = [*run("explain", text, *options)[1].splitlines(), "", ""]
+                by_clauses = re.match(r"refused (20|\d: clause|1\d: clause|2$)", verdict)
+                wide = not by_clauses and bool(judging(text, *options))
+                self.assertEqual(bool(re.match(r"(accepted|refused 2\d) with --wide: ", first)), wide, first)
+                many = not options and verdict.startswith("refused 22: ")
+                self.assertEqual(second.startswith("Without --wide "), many, second)
+                crowded += many
+        self.assertGreater(crowded, 10)
 
     def test_a_text_that_is_too_long(self) -> None:
         self.assertEqual(run("explain", b" " * MAX_TEXT)[0], 0)
@@ -131,14 +154,15 @@ def pasted(text: str, number: int, rules: str) -> bytes:
 
 class Proposals(unittest.TestCase):
     def test_proposed_rules_are_pasted(self) -> None:
-        """With each of them the text is accepted, by the cases that were asked for."""
+        """With each of them the text is accepted, by the cases that decide of it."""
         told = 0
         for file, options in itertools.product(sorted(TEXTS.glob("*.chr")), ((), ("--wide",))):
             text = file.read_bytes()
             for number, rules in PROPOSED.findall(run("explain", text, *options)[1]):
                 told += 1
                 with self.subTest(file.name, options=options, number=number, rules=rules):
-                    self.assertEqual(run("check", pasted(text.decode(), int(number), rules), *options)[0], 0)
+                    changed = pasted(text.decode(), int(number), rules)
+                    self.assertEqual(run("check", changed, *judging(text, *options))[0], 0)
         self.assertGreater(told, 40)
 
 
@@ -236,7 +260,7 @@ class Drawings(unittest.TestCase):
         for line in (
             '  symbol0 [label="best/6\\nby order 2, 3, 4, 5; by equality 6"];\n',
             '  symbol0 -> symbol0 [label="2 < 2, 3 < 3, 4 < 4, 5 < 5, 6 =\\\\= 6"];\n',
-            '  text [label="refused 22: an overlap has more than 50000 combinations of values\\l',
+            '  text [label="refused 22 with --wide: an overlap has more than 50000 combinations of values\\l',
         ):
             self.assertIn(line, drawn)
         self.assertEqual(drawn.count("-> symbol0"), 1)

@@ -11,9 +11,7 @@ from pathlib import Path
 from tempfile import TemporaryDirectory
 
 from browser import CHROMIUM, DRIVER, Browser
-from test_explanations import TEXTS, run
-
-EXAMPLES = Path(__file__).resolve().parents[2] / "examples"
+from test_explanations import EXAMPLES, TEXTS, judging, run
 
 VOID = frozenset({"br", "meta"})
 """Elements that have no end."""
@@ -155,7 +153,7 @@ class Pages(unittest.TestCase):
         self.assertEqual(listing, shown(text))
         self.assertEqual(told, run("explain", text, "--all", *options)[1])
         self.assertEqual(page.texts["h1"], [told.partition("\n")[0]])
-        verdict = re.match(r"accepted|refused \d+", run("check", text, *options)[1])
+        verdict = re.match(r"accepted|refused \d+", run("check", text, *judging(text, *options))[1])
         assert verdict
         self.assertEqual(page.texts["title"][0], f"chrrep: {verdict[0]}")
 
@@ -284,7 +282,7 @@ class Browsers(unittest.TestCase):
             "pair": (TEXTS / "pairs.chr").read_bytes(),
             "seats": (TEXTS / "second_seats.chr").read_bytes(),
             "cycle": (TEXTS / "swaps.chr").read_bytes(),
-            "columns": (TEXTS / "crowds.chr").read_bytes(),
+            "columns": (TEXTS / "throngs.chr").read_bytes(),
             "faults": (TEXTS / "several.chr").read_bytes(),
             "parity": (TEXTS / "parity.chr").read_bytes(),
             "many": different_rules(40),

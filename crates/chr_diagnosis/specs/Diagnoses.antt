@@ -21,19 +21,16 @@ use Rattle.chr_join.specs.AcceptedPrograms.{program_in, cases_of}
 use Rattle.chr_join.specs.declared.coverage.Coverage.{Coverage}
 use Rattle.chr_join.specs.declared.coverage.Coverage.TheVariants.{Joint, Sorted}
 use Rattle.chr_join.specs.Verdicts.{IsAcceptedBy}
-use Rattle.chr_join.specs.Explanations.{IsRefusal, IsRefusalBy, ReplaysApart}
+use Rattle.chr_join.specs.Explanations.{IsRefusalBy, ReplaysApart}
 use Rattle.chr_read.specs.Meanings.{meaning_of}
 use Rattle.chr_read.specs.ProgramTexts.{IsAnswer}
 use Rattle.chr_diagnosis.specs.declared.limits.TheConstants.{MAX_TOLD_STEPS}
 use Rattle.chr_diagnosis.specs.declared.peak.Peak.{Peak}
 use Rattle.chr_diagnosis.specs.declared.ways.Ways.{Ways}
-use Rattle.chr_diagnosis.specs.declared.sorted.SortedVerdict.{SortedVerdict}
-use Rattle.chr_diagnosis.specs.declared.sorted.Throng.{Throng}
-use Rattle.chr_diagnosis.specs.declared.sorted.SortedVerdict.TheVariants as sorted
+use Rattle.chr_diagnosis.specs.declared.diagnosis.Throng.{Throng}
 use Rattle.chr_diagnosis.specs.declared.diagnosis.Counted.{Counted}
-use Rattle.chr_diagnosis.specs.declared.diagnosis.Crowd.{Crowd}
 use Rattle.chr_diagnosis.specs.declared.diagnosis.Diagnosis.{Diagnosis}
-use Rattle.chr_diagnosis.specs.declared.diagnosis.Diagnosis.TheVariants.{Text, NotLowered, Fails, TooManyTypes}
+use Rattle.chr_diagnosis.specs.declared.diagnosis.Diagnosis.TheVariants.{Text, NotLowered, Fails}
 use Rattle.chr_diagnosis.specs.declared.diagnosis.Diagnosis.TheVariants.{TooManyCombinations, Accepted}
 use Rattle.chr_faults.specs.BadClauses.{IsRefused, AreFaults, TellsFirst}
 
@@ -81,15 +78,6 @@ pub record IsPeakBy (coverage : Coverage) (rules : List Rule) (p : Peak) : Type 
   pub ways : AreWaysOf rules p.first
   pub smaller : IfSome p.smaller (AreSmallerWays rules p.first.failure.overlap)
 
--- what the sorted cases say of a program: that all are joinable, the first that fails, the first overlap of too many
--- combinations of values, or nothing
-abbrev pub IsSortedVerdict : Program → SortedVerdict → Type 0
-IsSortedVerdict p (sorted.Accepted a) = (program_in a ≡ p) × IsAcceptedBy Sorted (rules_of p) (cases_of a)
-IsSortedVerdict p (sorted.Fails k) = (program_of k.weighed ≡ p) × IsPeakBy Sorted (rules_of p) k
-IsSortedVerdict p (sorted.TooMany t) =
-    (program_of t.weighed ≡ p) × IsRefusalBy Sorted (rules_of p) (cause.TooManyTypes t.too_many)
-IsSortedVerdict p (sorted.Unknown w) = program_of w ≡ p
-
 -- The number of the overlap's joint cases, or 0 where it has too many order types. Sorted cases are not counted by
 -- overlaps.
 abbrev pub IsCountedBy : Coverage → List Rule → Counted → Type 0
@@ -102,12 +90,7 @@ pub record AreCountedBy (coverage : Coverage) (rules : List Rule) (counts : List
   pub overlaps : AreOverlaps rules (map (λ c. c.overlap) counts)
   pub each : All (IsCountedBy coverage rules) counts
 
--- the first overlap of too many order types, of which joint cases alone know, and what the sorted cases say
-abbrev pub IsCrowdBy : Coverage → Program → Crowd → Type 0
-IsCrowdBy Joint p c = IsRefusal (rules_of p) (cause.TooManyTypes c.too_many) × IsSortedVerdict p c.sorted
-IsCrowdBy Sorted p c = ⊥
-
--- the first overlap of too many combinations of values, of which sorted cases alone know
+-- The first overlap of too many combinations of values. Where joint cases are too many, nothing is told by them.
 abbrev pub IsThrongBy : Coverage → Program → Throng → Type 0
 IsThrongBy Joint p t = ⊥
 IsThrongBy Sorted p t =
@@ -121,7 +104,6 @@ IsDiagnosisOf coverage p (NotLowered u) = (meaning_of u.program ≡ meaning_of p
     × IsWeighing u.program u.weighing
 IsDiagnosisOf coverage p (Fails k) =
     (program_of k.weighed ≡ p) × ProgramLowers p × IsPeakBy coverage (rules_of p) k
-IsDiagnosisOf coverage p (TooManyTypes c) = ProgramLowers p × IsCrowdBy coverage p c
 IsDiagnosisOf coverage p (TooManyCombinations t) = ProgramLowers p × IsThrongBy coverage p t
 IsDiagnosisOf coverage p (Accepted c) = (program_in c.accepted ≡ p) × ProgramLowers p
     × IsAcceptedBy coverage (rules_of p) (cases_of c.accepted) × AreCountedBy coverage (rules_of p) c.counts.items
@@ -132,8 +114,6 @@ IsDiagnosis coverage text (Text f) = IsRefused text × AreFaults text f × Tells
 IsDiagnosis coverage text (NotLowered u) =
     (p : Program) × IsAnswer text (Ok p) × IsDiagnosisOf coverage p (NotLowered u)
 IsDiagnosis coverage text (Fails k) = (p : Program) × IsAnswer text (Ok p) × IsDiagnosisOf coverage p (Fails k)
-IsDiagnosis coverage text (TooManyTypes c) =
-    (p : Program) × IsAnswer text (Ok p) × IsDiagnosisOf coverage p (TooManyTypes c)
 IsDiagnosis coverage text (TooManyCombinations t) =
     (p : Program) × IsAnswer text (Ok p) × IsDiagnosisOf coverage p (TooManyCombinations t)
 IsDiagnosis coverage text (Accepted c) = (p : Program) × IsAnswer text (Ok p) × IsDiagnosisOf coverage p (Accepted c)

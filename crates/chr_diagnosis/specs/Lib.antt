@@ -1,4 +1,5 @@
 pub mod Verdicts
 pub mod Diagnoses
+pub mod Judgements
 pub mod Proposals
 pub mod working

@@ -47,5 +47,4 @@ verdict_of (diagnosis.Accepted c) = Accepted
 verdict_of (diagnosis.Text f) = Refused
 verdict_of (diagnosis.NotLowered u) = Refused
 verdict_of (diagnosis.Fails p) = Refused
-verdict_of (diagnosis.TooManyTypes c) = Refused
 verdict_of (diagnosis.TooManyCombinations t) = Refused

@@ -1,17 +1,20 @@
 //! What is to be told of a text: why it is refused, or what was accepted.
-ghost use Rattle.std.specs.Prelude.{◌≡◌, IfOk};
+ghost use Rattle.std.specs.Prelude.{◌≡◌, false, true, IfOk, None};
 ghost use Rattle.chr_weights.specs.WeighedPrograms.{program_of, rules_in};
 ghost use Rattle.chr_overlaps.specs.OverlapLists.{IsOverlapOf};
 ghost use Rattle.chr_diagnosis.specs.Verdicts.{verdict_of};
-ghost use Rattle.chr_join.specs.declared.refused.Cause.TheVariants.{Fails, TooManyTypes as HasTooManyTypes};
+ghost use Rattle.chr_join.specs.declared.refused.Cause.TheVariants.{Fails};
 ghost use Rattle.chr_join.specs.declared.coverage.Coverage.{Coverage as CoverageValue};
-ghost use Rattle.chr_join.specs.declared.coverage.Coverage.TheVariants.{Joint};
+ghost use Rattle.chr_join.specs.declared.coverage.Coverage.TheVariants.{Joint, Sorted};
+ghost use Rattle.chr_base.specs.Programs.{rules_of};
+ghost use Rattle.chr_join.specs.AcceptedPrograms.{cases_of, program_in};
+ghost use Rattle.chr_join.specs.Verdicts.{IsAcceptedBy};
 ghost use Rattle.chr_join.specs.Explanations.{IfFails, IsRefusalBy, ReplaysApart};
 ghost use Rattle.chr_faults.specs.BadClauses.{IsRefused};
 ghost use Rattle.chr_diagnosis.specs.Diagnoses.{AreCountedBy, IsCountedBy, IsDiagnosis, IsDiagnosisOf};
+ghost use Rattle.chr_diagnosis.specs.Judgements.{IsChosen, IsJudged, IsJudgedOf};
 
 use crate::peak::{Peak, peak_of};
-use crate::sorted::{SortedVerdict, Throng, sorted_verdict};
 use chr_base::program::Program;
 use chr_faults::{TextFaults, text_faults};
 use chr_join::{Accepted, Cause, Coverage, Failure, Refused, TooManyTypes, accept};
@@ -40,13 +43,12 @@ pub struct Unlowered {
     pub weighing: Weighing,
 }
 
-/// A program with an overlap of too many order types.
+/// A program with an overlap of too many combinations of values.
 #[derive(Drop)]
-pub struct Crowd {
+pub struct Throng {
+    pub weighed: Weighed,
     /// The first such overlap.
     pub too_many: TooManyTypes,
-    /// What the sorted cases say of the program.
-    pub sorted: SortedVerdict,
 }
 
 /// An overlap, and the number of its joint cases, which is 0 where sorted ones were looked at.
@@ -72,12 +74,20 @@ pub enum Diagnosis {
     NotLowered(Unlowered),
     /// Two rules, or a rule twice, lead one store to two ends.
     Fails(Peak),
-    /// An overlap has too many order types.
-    TooManyTypes(Crowd),
     /// An overlap has too many combinations of values.
     TooManyCombinations(Throng),
     /// The program is accepted.
     Accepted(Census),
+}
+
+/// What is to be told of a text, and by which cases.
+#[derive(Drop)]
+pub struct Judged {
+    pub diagnosis: Diagnosis,
+    /// The cases that were looked at.
+    pub coverage: Coverage,
+    /// The first overlap of too many order types, for which sorted cases were looked at though none had asked for them.
+    pub crowd: Option<TooManyTypes>,
 }
 
 impl Diagnosis {
@@ -162,81 +172,177 @@ fn failing_diagnosis(
     }
 }
 
-/// What is to be told of an overlap with too many order types, or combinations of values.
-fn crowd_diagnosis(
-    rt: &(impl Threads + Sync),
+/// What is to be told of an accepted program.
+fn accepted_diagnosis(
     alloc: Global,
-    weighed: Weighed,
-    too_many: TooManyTypes,
-    coverage: Coverage,
-) -> Diagnosis
-    requires { IsRefusalBy coverage (rules_in weighed) (HasTooManyTypes too_many) }
-    ensures { IsDiagnosisOf coverage (program_of weighed) result }
-{
-    match coverage {
-        Coverage::Joint => {
-            let sorted = sorted_verdict(rt, alloc, weighed);
-            Diagnosis::TooManyTypes(Crowd { too_many, sorted })
-        }
-        Coverage::Sorted => Diagnosis::TooManyCombinations(Throng { weighed, too_many }),
-    }
-}
-
-fn refused_diagnosis(
-    rt: &(impl Threads + Sync),
-    alloc: Global,
-    refused: Refused,
+    accepted: Accepted,
     coverage: Coverage,
 ) -> Result<Diagnosis, AllocError>
-    requires first { IsRefusalBy coverage (rules_in refused.weighed) refused.cause }
+    requires { IsAcceptedBy coverage (rules_of (program_in accepted)) (cases_of accepted) }
+    ensures { IfOk result (IsDiagnosisOf coverage (program_in accepted)) }
+{
+    let counts = all_counted(alloc, accepted.weighed(), coverage)?;
+    Ok(Diagnosis::Accepted(Census { accepted, counts }))
+}
+
+/// What is to be told of a program that is refused by sorted cases.
+fn sorted_refusal(alloc: Global, refused: Refused) -> Result<Diagnosis, AllocError>
+    requires first { IsRefusalBy Sorted (rules_in refused.weighed) refused.cause }
     requires replays { IfFails refused.cause (ReplaysApart (rules_in refused.weighed)) }
-    ensures { IfOk result (IsDiagnosisOf coverage (program_of refused.weighed)) }
+    ensures { IfOk result (IsDiagnosisOf Sorted (program_of refused.weighed)) }
 {
     let weighed = refused.weighed;
     match refused.cause {
-        Cause::Fails(failure) => failing_diagnosis(alloc, weighed, failure, coverage),
+        Cause::Fails(failure) => failing_diagnosis(alloc, weighed, failure, Coverage::Sorted),
         Cause::TooManyTypes(too_many) => {
-            Ok(crowd_diagnosis(rt, alloc, weighed, too_many, coverage))
+            Ok(Diagnosis::TooManyCombinations(Throng { weighed, too_many }))
         }
         Cause::Memory => Err(AllocError),
     }
 }
 
-fn weighed_diagnosis(
+/// What is to be told of a program by sorted cases.
+fn sorted_diagnosis(
     rt: &(impl Threads + Sync),
     alloc: Global,
     weighed: Weighed,
-    coverage: Coverage,
 ) -> Result<Diagnosis, AllocError>
-    ensures { IfOk result (IsDiagnosisOf coverage (program_of weighed)) }
+    ensures { IfOk result (IsDiagnosisOf Sorted (program_of weighed)) }
 {
-    match accept(rt, alloc, weighed, coverage) {
-        Ok(accepted) => {
-            let counts = all_counted(alloc, accepted.weighed(), coverage)?;
-            Ok(Diagnosis::Accepted(Census { accepted, counts }))
-        }
-        Err(refused) => refused_diagnosis(rt, alloc, refused, coverage),
+    match accept(rt, alloc, weighed, Coverage::Sorted) {
+        Ok(accepted) => accepted_diagnosis(alloc, accepted, Coverage::Sorted),
+        Err(refused) => sorted_refusal(alloc, refused),
     }
 }
 
-fn program_diagnosis(
+/// What is to be told of a program that is refused by joint cases: where these are too many, what the sorted ones say.
+fn joint_refusal(
+    rt: &(impl Threads + Sync),
+    alloc: Global,
+    refused: Refused,
+) -> Result<Judged, AllocError>
+    requires first { IsRefusalBy Joint (rules_in refused.weighed) refused.cause }
+    requires replays { IfFails refused.cause (ReplaysApart (rules_in refused.weighed)) }
+    ensures { IfOk result (IsJudgedOf false (program_of refused.weighed)) }
+{
+    let weighed = refused.weighed;
+    match refused.cause {
+        Cause::Fails(failure) => {
+            let diagnosis = failing_diagnosis(alloc, weighed, failure, Coverage::Joint)?;
+            Ok(Judged {
+                diagnosis,
+                coverage: Coverage::Joint,
+                crowd: None,
+            })
+        }
+        Cause::TooManyTypes(too_many) => {
+            let diagnosis = sorted_diagnosis(rt, alloc, weighed)?;
+            Ok(Judged {
+                diagnosis,
+                coverage: Coverage::Sorted,
+                crowd: Some(too_many),
+            })
+        }
+        Cause::Memory => Err(AllocError),
+    }
+}
+
+/// What is to be told of a program by joint cases, or where these are too many by sorted ones.
+fn joint_judged(
+    rt: &(impl Threads + Sync),
+    alloc: Global,
+    weighed: Weighed,
+) -> Result<Judged, AllocError>
+    ensures { IfOk result (IsJudgedOf false (program_of weighed)) }
+{
+    match accept(rt, alloc, weighed, Coverage::Joint) {
+        Ok(accepted) => {
+            let diagnosis = accepted_diagnosis(alloc, accepted, Coverage::Joint)?;
+            Ok(Judged {
+                diagnosis,
+                coverage: Coverage::Joint,
+                crowd: None,
+            })
+        }
+        Err(refused) => joint_refusal(rt, alloc, refused),
+    }
+}
+
+/// Which cases are looked at first.
+#[tactic(auto, using(crate::proofs::Verdicts::chosen_wide, crate::proofs::Verdicts::chosen_joint))]
+fn coverage_for(wide: bool) -> Coverage
+    ensures { IsChosen wide result None }
+{
+    if wide {
+        Coverage::Sorted
+    } else {
+        Coverage::Joint
+    }
+}
+
+/// What is told by the cases that are looked at first.
+fn at_once(diagnosis: Diagnosis, wide: bool) -> Judged
+    ensures diagnosis { result.diagnosis ≡ diagnosis }
+    ensures chosen { IsChosen wide result.coverage None }
+    ensures crowd { result.crowd ≡ None }
+{
+    Judged {
+        diagnosis,
+        coverage: coverage_for(wide),
+        crowd: None,
+    }
+}
+
+/// What is to be told of a program by sorted cases alone.
+fn sorted_judged(
+    rt: &(impl Threads + Sync),
+    alloc: Global,
+    weighed: Weighed,
+) -> Result<Judged, AllocError>
+    ensures { IfOk result (IsJudgedOf true (program_of weighed)) }
+{
+    let diagnosis = sorted_diagnosis(rt, alloc, weighed)?;
+    Ok(Judged {
+        diagnosis,
+        coverage: Coverage::Sorted,
+        crowd: None,
+    })
+}
+
+fn weighed_judged(
+    rt: &(impl Threads + Sync),
+    alloc: Global,
+    weighed: Weighed,
+    wide: bool,
+) -> Result<Judged, AllocError>
+    ensures { IfOk result (IsJudgedOf wide (program_of weighed)) }
+{
+    if wide {
+        sorted_judged(rt, alloc, weighed)
+    } else {
+        joint_judged(rt, alloc, weighed)
+    }
+}
+
+fn program_judged(
     rt: &(impl Threads + Sync),
     alloc: Global,
     program: Program,
-    coverage: Coverage,
-) -> Result<Diagnosis, AllocError>
-    ensures { IfOk result (IsDiagnosisOf coverage program) }
+    wide: bool,
+) -> Result<Judged, AllocError>
+    ensures { IfOk result (IsJudgedOf wide program) }
 {
     let copy = program.copy(alloc)?;
     match weigh(program) {
-        Ok(weighed) => weighed_diagnosis(rt, alloc, weighed, coverage),
+        Ok(weighed) => weighed_judged(rt, alloc, weighed, wide),
         Err(fault) => {
             let weighing = find_weights(alloc, &copy);
-            Ok(Diagnosis::NotLowered(Unlowered {
+            let unlowered = Diagnosis::NotLowered(Unlowered {
                 program: copy,
                 fault,
                 weighing,
-            }))
+            });
+            Ok(at_once(unlowered, wide))
         }
     }
 }
@@ -251,21 +357,27 @@ fn text_diagnosis(alloc: Global, text: &[u8]) -> Result<Diagnosis, AllocError>
 }
 
 /// What is to be told of a text: its first bad clauses; or of the program that it is, the first rule that does not
-/// lower the weight, the first cause for which it is refused, of those that the coverage looks for, or what was
-/// accepted.
+/// lower the weight, the first cause for which it is refused, or what was accepted: by sorted cases where `wide`, else by
+/// joint ones, and where an overlap has too many of these, by sorted ones.
 #[tactic(auto, using(crate::proofs::Verdicts::too_long_refused, crate::proofs::Verdicts::bad_refused))]
 pub fn diagnose(
     rt: &(impl Threads + Sync),
     alloc: Global,
     text: &[u8],
-    coverage: Coverage,
-) -> Result<Diagnosis, AllocError>
-    ensures { IfOk result (IsDiagnosis coverage text.now) }
+    wide: bool,
+) -> Result<Judged, AllocError>
+    ensures { IfOk result (IsJudged wide text.now) }
 {
     match read(alloc, text) {
-        Ok(program) => program_diagnosis(rt, alloc, program, coverage),
+        Ok(program) => program_judged(rt, alloc, program, wide),
         Err(ReadFault::Memory) => Err(AllocError),
-        Err(ReadFault::TooLong) => text_diagnosis(alloc, text),
-        Err(ReadFault::Bad { .. }) => text_diagnosis(alloc, text),
+        Err(ReadFault::TooLong) => {
+            let diagnosis = text_diagnosis(alloc, text)?;
+            Ok(at_once(diagnosis, wide))
+        }
+        Err(ReadFault::Bad { .. }) => {
+            let diagnosis = text_diagnosis(alloc, text)?;
+            Ok(at_once(diagnosis, wide))
+        }
     }
 }

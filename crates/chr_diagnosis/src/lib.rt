@@ -10,16 +10,14 @@ mod proposal;
 mod proposing;
 mod rule_text;
 mod smaller;
-mod sorted;
 mod stores;
 mod ways;
 
-pub use diagnosis::{Census, Counted, Crowd, Diagnosis, Unlowered, Verdict, diagnose};
+pub use diagnosis::{Census, Counted, Diagnosis, Judged, Throng, Unlowered, Verdict, diagnose};
 pub use draft_text::sign;
 pub use limits::{MAX_PROPOSALS, MAX_TOLD_STEPS};
 pub use peak::Peak;
 pub use proposal::Proposal;
 pub use proposing::proposals;
 pub use rule_text::{NamedProgram, ToldRule, told_rule};
-pub use sorted::{SortedVerdict, Throng};
 pub use ways::Ways;

@@ -5,8 +5,8 @@ mod drawings;
 mod explanation;
 
 pub use chr_diagnosis::{
-    Census, Counted, Crowd, Diagnosis, MAX_PROPOSALS, MAX_TOLD_STEPS, Peak, Proposal,
-    SortedVerdict, Throng, Unlowered, Verdict, Ways, diagnose,
+    Census, Counted, Diagnosis, Judged, MAX_PROPOSALS, MAX_TOLD_STEPS, Peak, Proposal, Throng,
+    Unlowered, Verdict, Ways, diagnose,
 };
 pub use chr_faults::{
     BadClause, MAX_TOLD_FAULTS, Place, TextFaults, explain_text, line_end, line_start, place_of,

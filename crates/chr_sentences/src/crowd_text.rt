@@ -1,138 +1,31 @@
 //! An overlap with too many cases, as text.
 
 use crate::overlap_text::{ToldOverlap, told_overlap};
-use crate::peak_text::push_peak;
 use crate::symbol_text::push_symbol;
 use chr_base::atom::SymbolId;
 use chr_base::limits::MAX_ARITY;
 use chr_base::program::Program;
 use chr_base::rule::Rule;
-use chr_diagnosis::{Crowd, NamedProgram, SortedVerdict, Throng};
+use chr_diagnosis::{NamedProgram, Throng};
 use chr_faults::Names;
-use chr_join::Accepted;
-use chr_overlaps::Overlap;
-use chr_overlaps::cases::MAX_TYPES;
-use chr_overlaps::constants::constants;
 use chr_sorting::{Kind, Sorting, finest_sorts};
 use std::alloc::{AllocError, Global};
 use std::fmt::Write;
 
-/// Tells of an overlap with too many order types.
-pub(crate) fn push_crowd(
-    alloc: Global,
-    out: &mut String,
-    names: &Names,
-    crowd: &Crowd,
-) -> Result<(), AllocError> {
-    let program = crowd.sorted.program();
-    let overlap = &crowd.too_many.overlap;
-    let classes = crowd.too_many.classes;
-    let Some(told) = told_overlap(NamedProgram { program, names }, overlap) else {
-        return Ok(());
-    };
-    write!(
-        out,
-        "refused 22: an overlap has more than {MAX_TYPES} order types\n"
-    )?;
-    told.push_rules(alloc, out)?;
-    told.push_matched(alloc, out)?;
-    write!(
-        out,
-        "Matched so, they have {classes} variables, whose values may stand in any order"
-    )?;
-    push_constants(alloc, out, program)?;
-    push_sorted(alloc, out, names, crowd)?;
-    push_narrower(alloc, out, told, &crowd.sorted)
-}
-
-/// Tells how to have fewer order types, where the sorted cases don't decide.
-fn push_narrower(
-    alloc: Global,
-    out: &mut String,
-    told: ToldOverlap<'_>,
-    sorted: &SortedVerdict,
-) -> Result<(), AllocError> {
-    match sorted {
-        SortedVerdict::Accepted(_) | SortedVerdict::Fails(_) => return Ok(()),
-        SortedVerdict::TooMany(_) | SortedVerdict::Unknown(_) => {}
-    }
-    out.push_str("Or narrow ")?;
-    told.push_widest(alloc, out)?;
-    out.push_str(": write fewer arguments, or constants or one variable twice among them.\n")
-}
-
-/// Adds the constants with which free values are compared.
-fn push_constants(alloc: Global, out: &mut String, program: &Program) -> Result<(), AllocError> {
-    let constants = constants(alloc, program.rules())?;
-    for (i, constant) in constants.iter().enumerate() {
-        let before = if i == 0 {
-            "; the program's constants are "
-        } else {
-            ", "
-        };
-        write!(out, "{before}{constant}")?;
-    }
-    out.push_str(if constants.is_empty() {
-        "; the program has no constants.\n"
-    } else {
-        ".\n"
-    })
-}
-
-/// Tells what the sorted cases say of the program.
-fn push_sorted(
-    alloc: Global,
-    out: &mut String,
-    names: &Names,
-    crowd: &Crowd,
-) -> Result<(), AllocError> {
-    match &crowd.sorted {
-        SortedVerdict::Accepted(accepted) => push_accepted(out, accepted),
-        SortedVerdict::Fails(peak) => {
-            out.push_str("With --wide this program is ")?;
-            push_peak(alloc, out, names, peak)
-        }
-        SortedVerdict::TooMany(throng) => {
-            out.push_str("With --wide this program is ")?;
-            push_throng(alloc, out, names, throng, Some(&crowd.too_many.overlap))
-        }
-        SortedVerdict::Unknown(_) => Ok(()),
-    }
-}
-
-/// Tells that all sorted cases are joinable.
-fn push_accepted(out: &mut String, accepted: &Accepted) -> Result<(), AllocError> {
-    let rules = accepted.program().rules().len();
-    let cases = accepted.cases();
-    Ok(write!(
-        out,
-        "Judge it with --wide: so it is accepted, and `chrrep check --wide < FILE` tells rules {rules}, cases {cases}.\n"
-    )?)
-}
-
-/// Tells of an overlap with too many combinations of values, where this one was told before it.
+/// Tells of an overlap with too many combinations of values: its rules, and which columns are compared.
 pub(crate) fn push_throng(
     alloc: Global,
     out: &mut String,
     names: &Names,
     throng: &Throng,
-    before: Option<&Overlap>,
 ) -> Result<(), AllocError> {
     let program = throng.weighed.program();
     let overlap = &throng.too_many.overlap;
     let Some(told) = told_overlap(NamedProgram { program, names }, overlap) else {
         return Ok(());
     };
-    let again = before == Some(overlap);
-    let which = if again { "the same" } else { "an" };
-    write!(
-        out,
-        "refused 22: {which} overlap has more than {MAX_TYPES} combinations of values\n"
-    )?;
-    if !again {
-        told.push_rules(alloc, out)?;
-        told.push_matched(alloc, out)?;
-    }
+    told.push_rules(alloc, out)?;
+    told.push_matched(alloc, out)?;
     push_compared(alloc, out, told)?;
     out.push_str("Compare fewer of these columns, or compare them in fewer heads.\n")
 }

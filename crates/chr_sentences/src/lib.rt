@@ -2,6 +2,7 @@
 #![tactic(auto)]
 
 mod crowd_text;
+mod judged_text;
 mod limits;
 mod overlap_text;
 mod pairs;

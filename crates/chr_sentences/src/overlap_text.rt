@@ -1,7 +1,6 @@
 //! Overlaps of two rules as they are told.
 
 use chr_base::rule::Rule;
-use chr_base::term::{Pattern, Term};
 use chr_diagnosis::{NamedProgram, ToldRule, told_rule};
 use chr_overlaps::Overlap;
 use std::alloc::{AllocError, Global};
@@ -29,39 +28,16 @@ pub(crate) fn told_overlap<'a>(
     })
 }
 
-/// How many variables stand in these terms, each counted as often as it stands there.
-fn variables_in(pattern: &Pattern) -> usize {
-    pattern
-        .args
-        .iter()
-        .filter(|term| match term {
-            Term::Variable(_) => true,
-            Term::Constant(_) => false,
-        })
-        .count()
-}
-
-/// The place, counted from 1, of the rule's head with the most variables.
-fn widest_place(told: ToldRule<'_>) -> usize {
-    let mut widest = 1;
-    let mut most = 0;
-    for place in 0..told.rule.places() {
-        let variables = variables_in(told.rule.head_at(place));
-        if most < variables {
-            most = variables;
-            widest = place + 1;
-        }
-    }
-    widest
-}
-
 /// Whether a rule without kept heads and without a guard takes the fact at this place together with one of another
 /// symbol, and leaves something.
 fn takes_with_another(rule: &Rule, place: usize) -> bool {
     let Some(taken) = rule.removed.get(place) else {
         return false;
     };
-    let has_another = rule.removed.iter().any(|other| other.symbol != taken.symbol);
+    let has_another = rule
+        .removed
+        .iter()
+        .any(|other| other.symbol != taken.symbol);
     has_another && rule.kept.is_empty() && rule.guard.is_empty() && !rule.body.is_empty()
 }
 
@@ -109,19 +85,6 @@ impl ToldOverlap<'_> {
                 self.second.push_head(alloc, out, usize::from(*entry))?;
                 write!(out, " of rule {}{}\n", self.second.number, self.again())?;
             }
-        }
-        Ok(())
-    }
-
-    /// Adds the widest head of each rule.
-    pub(crate) fn push_widest(&self, alloc: Global, out: &mut String) -> Result<(), AllocError> {
-        self.first.push_head(alloc, out, widest_place(self.first))?;
-        write!(out, " of rule {}", self.first.number)?;
-        if !self.is_of_one() {
-            out.push_str(" or ")?;
-            self.second
-                .push_head(alloc, out, widest_place(self.second))?;
-            write!(out, " of rule {}", self.second.number)?;
         }
         Ok(())
     }

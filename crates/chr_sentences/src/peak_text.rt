@@ -127,11 +127,14 @@ pub(crate) fn push_peak(
     let Some(told) = told_overlap(source, &peak.first.failure.overlap) else {
         return Ok(());
     };
-    out.push_str("refused 21: one store comes to two ends\n")?;
     push_case(alloc, out, told, source, peak)?;
     out.push_str("Two replicas that took these rules in another order would disagree for ever.\n")?;
     out.push_str(
         "Add a rule that takes one end to the other, or write a guard under which only one of the two steps is possible.\n",
     )?;
-    out.push_str(if told.is_competition() { COMPETITION } else { "" })
+    out.push_str(if told.is_competition() {
+        COMPETITION
+    } else {
+        ""
+    })
 }

@@ -1,15 +1,19 @@
 //! What is to be told of a text, as text.
 
-use crate::crowd_text::{push_crowd, push_throng};
+use crate::crowd_text::push_throng;
+use crate::judged_text::{by_option, push_judged};
 use crate::limits::MAX_TOLD_PAIRS;
 use crate::pairs::{ToldPair, pairs_of, push_numbers};
 use crate::peak_text::push_peak;
 use crate::proposal_text::push_proposals;
 use crate::weighing_text::{push_cycle, push_found};
 use crate::weight_text::{can_lower, push_lowering, push_weights};
-use chr_diagnosis::{Census, Diagnosis, NamedProgram, Proposal, ToldRule, Unlowered, told_rule};
+use chr_diagnosis::{
+    Census, Diagnosis, Judged, NamedProgram, Proposal, ToldRule, Unlowered, told_rule,
+};
 use chr_faults::{Names, faults_told};
 use chr_join::Coverage;
+use chr_overlaps::cases::MAX_TYPES;
 use chr_weighing::{MAX_SEARCH_STEPS, Weighing};
 use chr_weights::NotLowered;
 use std::alloc::{AllocError, Global};
@@ -84,20 +88,25 @@ fn push_unknown(
     )
 }
 
-/// Tells of an accepted program.
+/// Tells the numbers of an accepted program.
+fn push_numbers_of(out: &mut String, census: &Census) -> Result<(), AllocError> {
+    let rules = census.accepted.program().rules().len();
+    let overlaps = census.counts.len();
+    let cases = census.accepted.cases();
+    let by = by_option(census.accepted.coverage());
+    Ok(write!(
+        out,
+        "accepted{by}: rules {rules}, overlaps {overlaps}, cases {cases}\n"
+    )?)
+}
+
+/// Tells what an accepted program is.
 fn push_census(
     alloc: Global,
     out: &mut String,
     census: &Census,
     all: bool,
 ) -> Result<(), AllocError> {
-    let rules = census.accepted.program().rules().len();
-    let overlaps = census.counts.len();
-    let cases = census.accepted.cases();
-    write!(
-        out,
-        "accepted: rules {rules}, overlaps {overlaps}, cases {cases}\n"
-    )?;
     out.push_str("Every store comes to one end, in whatever order the rules are applied.\n")?;
     let pairs = pairs_of(alloc, &census.counts)?;
     if !all && MAX_TOLD_PAIRS < pairs.len() {
@@ -125,20 +134,34 @@ fn push_program(
     alloc: Global,
     out: &mut String,
     names: &Names,
-    diagnosis: &Diagnosis,
+    judged: &Judged,
     proposals: &[Proposal],
     all: bool,
 ) -> Result<(), AllocError> {
-    match diagnosis {
+    match &judged.diagnosis {
         Diagnosis::Text(_) => Ok(()),
         Diagnosis::NotLowered(told) => push_unlowered(alloc, out, names, told),
         Diagnosis::Fails(peak) => {
+            let by = by_option(judged.coverage);
+            write!(out, "refused 21{by}: one store comes to two ends\n")?;
+            push_judged(out, judged)?;
             push_peak(alloc, out, names, peak)?;
-            push_proposals(out, proposals)
+            push_proposals(out, judged.coverage, proposals)
         }
-        Diagnosis::TooManyTypes(crowd) => push_crowd(alloc, out, names, crowd),
-        Diagnosis::TooManyCombinations(throng) => push_throng(alloc, out, names, throng, None),
-        Diagnosis::Accepted(census) => push_census(alloc, out, census, all),
+        Diagnosis::TooManyCombinations(throng) => {
+            let by = by_option(judged.coverage);
+            write!(
+                out,
+                "refused 22{by}: an overlap has more than {MAX_TYPES} combinations of values\n"
+            )?;
+            push_judged(out, judged)?;
+            push_throng(alloc, out, names, throng)
+        }
+        Diagnosis::Accepted(census) => {
+            push_numbers_of(out, census)?;
+            push_judged(out, judged)?;
+            push_census(alloc, out, census, all)
+        }
     }
 }
 
@@ -146,13 +169,13 @@ fn push_program(
 fn program_told(
     alloc: Global,
     text: &[u8],
-    diagnosis: &Diagnosis,
+    judged: &Judged,
     proposals: &[Proposal],
     all: bool,
 ) -> Result<String, AllocError> {
     let names = Names::of(alloc, text)?;
     let mut out = String::new(alloc);
-    push_program(alloc, &mut out, &names, diagnosis, proposals, all)?;
+    push_program(alloc, &mut out, &names, judged, proposals, all)?;
     Ok(out)
 }
 
@@ -160,12 +183,12 @@ fn program_told(
 pub fn told_text(
     alloc: Global,
     text: &[u8],
-    diagnosis: &Diagnosis,
+    judged: &Judged,
     proposals: &[Proposal],
     all: bool,
 ) -> Result<String, AllocError> {
-    match diagnosis {
+    match &judged.diagnosis {
         Diagnosis::Text(faults) => faults_told(alloc, text, faults),
-        _ => program_told(alloc, text, diagnosis, proposals, all),
+        _ => program_told(alloc, text, judged, proposals, all),
     }
 }

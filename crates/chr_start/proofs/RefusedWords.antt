@@ -1,6 +1,6 @@
 -- Words that gave no settings.
 use Rattle.std.proofs.Common.{◌≡◌, ℕ, List, [], sym, subst, append-nil, inl, inr, refl}
-use Rattle.std.specs.Prelude.{◌≢◌, ◌⊎◌, false, Option, Some, None, Result, Err, IsErrOf, ⊤}
+use Rattle.std.specs.Prelude.{◌≢◌, ◌⊎◌, Bool, false, Option, Some, None, Result, Err, IsErrOf, ⊤}
 use Rattle.std.specs.Io.KnownBytes.{Appends}
 use Rattle.chr_device.specs.Settings.{IsOfFault}
 use Rattle.chr_device.specs.Words.{faults_of}
@@ -9,7 +9,6 @@ use Rattle.chr_device.specs.declared.fault.RunFault.TheVariants as run
 use Rattle.chr_device.specs.declared.words.Verb.{Verb}
 use Rattle.chr_device.specs.declared.words.WordsFault.{WordsFault}
 use Rattle.chr_device.specs.declared.words.WordsFault.TheVariants as words
-use Rattle.chr_join.specs.declared.coverage.Coverage.{Coverage}
 use Rattle.chr_report.specs.declared.running.Status.{Status}
 use Rattle.chr_report.specs.declared.wanted.Wanted.{Wanted}
 use Rattle.chr_report.specs.declared.wire.Streams.{Streams}
@@ -50,12 +49,12 @@ module _ {R W : Type 0} (s : Streams R W) (status : ℕ) (whole : is_broken s �
     last = λ _. nothing_written;
   }
 
-  pub memory_ends_explanation : (coverage : Coverage) (ws : List (List ℕ)) (fault : WordsFault)
+  pub memory_ends_explanation : (wide : Bool) (ws : List (List ℕ)) (fault : WordsFault)
       (bytes : Option (List ℕ)) → faults_of ws ≡ [] → IsOfFault (faults_of ws) fault
-      → (fault ≡ words.Memory → status ≡ 4) → ExplanationEnds s s coverage bytes status
-  memory_ends_explanation coverage ws (words.Words e) bytes none is told =
+      → (fault ≡ words.Memory → status ≡ 4) → ExplanationEnds s s wide bytes status
+  memory_ends_explanation wide ws (words.Words e) bytes none is told =
       absurd (subst (λ ks. IsOfFault ks (words.Words e)) none is).0
-  memory_ends_explanation coverage ws words.Memory bytes none is told = record {
+  memory_ends_explanation wide ws words.Memory bytes none is told = record {
     outcome = Err run.Memory;
     ends = memory_told (told refl);
     ok = tt;

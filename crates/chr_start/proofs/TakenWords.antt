@@ -21,7 +21,6 @@ module _ {R W : Type 0} (from to : Streams R W) (words : List (List ℕ)) (s : S
       subst (λ v. RunEnds from to bytes old new v (wanted_met words) status) command
       (subst (λ w. RunEnds from to bytes old new s.command w status) wanted (ends (λ is. other (sym command ∙ is))))
 
-  pub explanation_ends : (s.command ≡ Explain → ExplanationEnds from to (coverage_for s.wide) bytes status)
-      → verb_met words ≡ Explain → ExplanationEnds from to (coverage_for (wide_met words)) bytes status
-  explanation_ends ends is =
-      subst (λ w. ExplanationEnds from to (coverage_for w) bytes status) wide (ends (command ∙ is))
+  pub explanation_ends : (s.command ≡ Explain → ExplanationEnds from to s.wide bytes status)
+      → verb_met words ≡ Explain → ExplanationEnds from to (wide_met words) bytes status
+  explanation_ends ends is = subst (λ w. ExplanationEnds from to w bytes status) wide (ends (command ∙ is))

@@ -1,6 +1,6 @@
 -- The status that the program ends with, what has failed, and what it has written then.
-use Rattle.std.specs.Prelude.{◌≡◌, ◌≢◌, ◌⊎◌, ℕ, Bool, true, false, List, [], Option, Result, Ok, Err}
-use Rattle.std.specs.Prelude.{IfOk, IfSome, IsErrOf, OnErr, OnOk}
+use Rattle.std.specs.Prelude.{◌≡◌, ◌≢◌, ◌⊎◌, ℕ, Bool, true, false, List, [], ◌∷◌, ◌++◌, Option, Result, Ok, Err}
+use Rattle.std.specs.Prelude.{⊤, IfOk, IfSome, IsErrOf, OnErr, OnOk}
 use Rattle.chr_device.specs.Devices.{has_failed}
 use Rattle.chr_device.specs.declared.fault.RunFault.{RunFault}
 use Rattle.chr_device.specs.declared.fault.RunFault.TheVariants.{Device, Memory}
@@ -8,12 +8,15 @@ use Rattle.chr_device.specs.declared.words.Verb.{Verb}
 use Rattle.chr_device.specs.declared.words.Verb.TheVariants.{Check, Explain, Serve}
 use Rattle.chr_device.specs.Words.{faults_of, replicas_met, verb_met, wide_met}
 use Rattle.chr_join.specs.declared.coverage.Coverage.{Coverage}
+use Rattle.chr_join.specs.declared.coverage.Coverage.TheVariants.{Joint, Sorted}
+use Rattle.chr_join.specs.declared.refused.TooManyTypes.{TooManyTypes}
 use Rattle.chr_report.specs.declared.running.Status.{Status}
 use Rattle.chr_report.specs.declared.running.Status.TheVariants.{Accepted, Refused}
 use Rattle.chr_report.specs.declared.wanted.Wanted.{Wanted}
 use Rattle.chr_report.specs.declared.wire.Streams.{Streams}
 use Rattle.chr_report.specs.Asked.{coverage_for, replicas_by}
 use Rattle.chr_report.specs.Outputs.{IsOutput}
+use Rattle.chr_report.specs.Overlaps.{too_many_text}
 use Rattle.chr_report.specs.Wires.{is_broken}
 use Rattle.chr_report.specs.Written.{WritesOutput, WritesBeginning}
 
@@ -50,18 +53,26 @@ pub record RunEnds {R W : Type 0} (from to : Streams R W) (bytes old new : Optio
   pub err : OnErr outcome (WritesBeginning bytes old new verb wanted)
   pub last : verb ≢ Serve → WritesLast from to outcome
 
--- a check of these bytes by this coverage, where they are known, ends with this status
-abbrev pub EndsAsCheck : Coverage → Option (List ℕ) → Status → Type 0
-EndsAsCheck coverage bytes status =
-    (input : List ℕ) × IfSome bytes (λ text. input ≡ text) × (out : List ℕ)
-    × IsOutput Check (replicas_by coverage 1) input status out
+-- sorted cases where they are asked for, or where a check by joint ones writes that an overlap has too many of them
+abbrev pub IsJudgedBy : Bool → List ℕ → Coverage → Type 0
+IsJudgedBy true input coverage = coverage ≡ Sorted
+IsJudgedBy false input Joint = ⊤
+IsJudgedBy false input Sorted =
+    (t : TooManyTypes) × IsOutput Check (replicas_by Joint 1) input Refused (too_many_text t ++ 10 ∷ [])
 
--- an explanation by this coverage ended with this status: where it ended well with that of a check of the same bytes
-pub record ExplanationEnds {R W : Type 0} (from to : Streams R W) (coverage : Coverage) (bytes : Option (List ℕ))
+-- a check of these bytes, where they are known, by the cases by which they are judged, ends with this status
+abbrev pub EndsAsJudged : Bool → Option (List ℕ) → Status → Type 0
+EndsAsJudged wide bytes status =
+    (input : List ℕ) × IfSome bytes (λ text. input ≡ text) × (coverage : Coverage) × IsJudgedBy wide input coverage
+    × (out : List ℕ) × IsOutput Check (replicas_by coverage 1) input status out
+
+-- an explanation, by sorted cases where `wide`, ended with this status: where it ended well with that of a check of the
+-- same bytes
+pub record ExplanationEnds {R W : Type 0} (from to : Streams R W) (wide : Bool) (bytes : Option (List ℕ))
     (status : ℕ) : Type 0 where
   pub outcome : Result Status RunFault
   pub ends : EndsBy to status outcome
-  pub ok : IfOk outcome (EndsAsCheck coverage bytes)
+  pub ok : IfOk outcome (EndsAsJudged wide bytes)
   pub last : WritesLast from to outcome
 
 -- words were refused, or could not be had: nothing was read or written
@@ -75,7 +86,7 @@ pub record ProgramEnds {R W : Type 0} (words : List (List ℕ)) (from to : Strea
   pub taken : faults_of words ≡ [] → verb_met words ≢ Explain
       → RunEnds from to bytes old new (verb_met words) (wanted_met words) status
   pub explained : faults_of words ≡ [] → verb_met words ≡ Explain
-      → ExplanationEnds from to (coverage_for (wide_met words)) bytes status
+      → ExplanationEnds from to (wide_met words) bytes status
   pub refused : faults_of words ≢ [] → IsStopped from to status
 
 -- it was stopped before it had words, or ended as it does when it is called with some

@@ -3,14 +3,12 @@
 ghost use Rattle.std.specs.Prelude.{◌≡◌, ◌⊎◌, false, true, IfOk, IsErrOf, OnOk};
 ghost use Rattle.chr_device.specs.Devices.{has_failed};
 ghost use Rattle.chr_device.specs.declared.fault.RunFault.TheVariants.{Device, Memory};
-ghost use Rattle.chr_report.specs.Asked.{coverage_for};
 ghost use Rattle.chr_report.specs.Wires.{reader_of};
-ghost use Rattle.chr_start.specs.Statuses.{EndsAsCheck};
+ghost use Rattle.chr_start.specs.Statuses.{EndsAsJudged};
 ghost use Rattle.chr_start.specs.working.Verdicts.{as_status};
 
 use chr_device::{Style, write_whole};
 use chr_explain::{Manner, Verdict, explain};
-use chr_join::Coverage;
 use chr_report::{RunFault, Status, Streams, program_text, read_input};
 use std::alloc::Global;
 use std::io::{Read, Write};
@@ -40,19 +38,8 @@ fn status_of(verdict: Verdict) -> Status
     }
 }
 
-/// Which cases a verdict looks at.
-fn coverage_of(wide: bool) -> Coverage
-    ensures { result ≡ coverage_for wide }
-{
-    if wide {
-        Coverage::Sorted
-    } else {
-        Coverage::Joint
-    }
-}
-
-/// Reads all of the input, and writes the explanation of its program text, by sorted cases where `wide`: of a text that
-/// is too long no more is held than tells that it is.
+/// Reads all of the input, and writes the explanation of its program text, by sorted cases where `wide` or where there
+/// are too many joint ones: of a text that is too long no more is held than tells that it is.
 ///
 /// # Errors
 ///
@@ -66,7 +53,7 @@ pub(crate) fn explain_input<R: Read, W: Write>(
 ) -> Result<Status, RunFault>
     requires reads { has_failed streams.old.reader ≡ false }
     requires writes { has_failed streams.old.writer ≡ false }
-    ensures ok { IfOk result (EndsAsCheck (coverage_for wide) (R.remaining (reader_of streams.old))) }
+    ensures ok { IfOk result (EndsAsJudged wide (R.remaining (reader_of streams.old))) }
     ensures whole { OnOk result ((has_failed streams.new.reader ≡ false) × (has_failed streams.new.writer ≡ false)) }
     ensures device { IsErrOf result Device
         → (has_failed streams.new.reader ≡ true) ⊎ (has_failed streams.new.writer ≡ true) }
@@ -76,8 +63,7 @@ pub(crate) fn explain_input<R: Read, W: Write>(
     ensures unanswered { IsErrOf result Memory → streams.new.writer ≡ streams.old.writer }
 {
     let input = read_input(rt, alloc, &mut streams.reader)?;
-    let coverage = coverage_of(wide);
-    let explanation = explain(rt, alloc, program_text(&input), coverage, manner_of(style))?;
+    let explanation = explain(rt, alloc, program_text(&input), wide, manner_of(style))?;
     write_whole(&mut streams.writer, explanation.text.as_bytes())?;
     Ok(status_of(explanation.verdict))
 }

@@ -14,7 +14,7 @@ ghost use Rattle.chr_device.specs.Settings.{IsWithinLimits};
 ghost use Rattle.chr_device.specs.declared.words.Verb.TheVariants.{Explain, Serve};
 ghost use Rattle.chr_device.specs.declared.words.WordsFault.TheVariants.{Memory};
 ghost use Rattle.chr_report.specs.Wires.{reader_of, writer_of};
-ghost use Rattle.chr_report.specs.Asked.{coverage_for, wanted_by};
+ghost use Rattle.chr_report.specs.Asked.{wanted_by};
 ghost use Rattle.chr_start.specs.Statuses.{status_of, EndsByWords, ExplanationEnds, ProgramEnds, RunEnds};
 
 mod explained;
@@ -60,7 +60,7 @@ fn end_explanation<R: Read, W: Write>(
 ) -> ExitCode
     requires reads { has_failed streams.old.reader ≡ false }
     requires writes { has_failed streams.old.writer ≡ false }
-    ensures { ExplanationEnds streams.old streams.new (coverage_for settings.wide) (R.remaining (reader_of streams.old))
+    ensures { ExplanationEnds streams.old streams.new settings.wide (R.remaining (reader_of streams.old))
         (exit_status result) }
 {
     exit_code(explain_input(rt, alloc, streams, settings.wide, settings.style))
@@ -114,8 +114,8 @@ fn run_settings<R: Read, W: Write>(
     ensures answered { settings.command ≢ Explain → RunEnds streams.old streams.new
         (R.remaining (reader_of streams.old)) (W.contents (writer_of streams.old))
         (W.contents (writer_of streams.new)) settings.command (wanted_by settings) (exit_status result) }
-    ensures explained { settings.command ≡ Explain → ExplanationEnds streams.old streams.new
-        (coverage_for settings.wide) (R.remaining (reader_of streams.old)) (exit_status result) }
+    ensures explained { settings.command ≡ Explain → ExplanationEnds streams.old streams.new settings.wide
+        (R.remaining (reader_of streams.old)) (exit_status result) }
 {
     match settings.command {
         Verb::Explain => end_explanation(rt, alloc, streams, settings),

@@ -4,7 +4,7 @@ use crate::drawings::graph_drawing::push_graph;
 use crate::drawings::graphs::graph_of;
 use crate::drawings::label::{Align, push_label};
 use crate::drawings::peak_drawing::push_peak_drawing;
-use chr_diagnosis::Diagnosis;
+use chr_diagnosis::{Diagnosis, Judged};
 use chr_faults::Names;
 use chr_sentences::told_text;
 use std::alloc::{AllocError, Global};
@@ -21,9 +21,9 @@ fn push_told(
     alloc: Global,
     out: &mut String,
     text: &[u8],
-    diagnosis: &Diagnosis,
+    judged: &Judged,
 ) -> Result<(), AllocError> {
-    let told = told_text(alloc, text, diagnosis, &[], false)?;
+    let told = told_text(alloc, text, judged, &[], false)?;
     push_text(out, told.as_str())
 }
 
@@ -32,16 +32,16 @@ fn push_others(
     alloc: Global,
     out: &mut String,
     text: &[u8],
-    diagnosis: &Diagnosis,
+    judged: &Judged,
 ) -> Result<(), AllocError> {
     let names = Names::of(alloc, text)?;
-    let Some(graph) = graph_of(alloc, &names, diagnosis)? else {
-        return push_told(alloc, out, text, diagnosis);
+    let Some(graph) = graph_of(alloc, &names, &judged.diagnosis)? else {
+        return push_told(alloc, out, text, judged);
     };
     if !graph.has_words {
         return push_graph(out, &graph, "");
     }
-    let told = told_text(alloc, text, diagnosis, &[], false)?;
+    let told = told_text(alloc, text, judged, &[], false)?;
     push_graph(out, &graph, told.as_str())
 }
 
@@ -50,20 +50,20 @@ fn push_drawing(
     alloc: Global,
     out: &mut String,
     text: &[u8],
-    diagnosis: &Diagnosis,
+    judged: &Judged,
 ) -> Result<(), AllocError> {
-    match diagnosis {
+    match &judged.diagnosis {
         Diagnosis::Fails(peak) => {
             let names = Names::of(alloc, text)?;
             push_peak_drawing(alloc, out, &names, peak)
         }
-        _ => push_others(alloc, out, text, diagnosis),
+        _ => push_others(alloc, out, text, judged),
     }
 }
 
 /// What is to be told of a text, as a drawing.
-pub fn drawn_text(alloc: Global, text: &[u8], diagnosis: &Diagnosis) -> Result<String, AllocError> {
+pub fn drawn_text(alloc: Global, text: &[u8], judged: &Judged) -> Result<String, AllocError> {
     let mut out = String::new(alloc);
-    push_drawing(alloc, &mut out, text, diagnosis)?;
+    push_drawing(alloc, &mut out, text, judged)?;
     Ok(out)
 }

@@ -34,10 +34,6 @@ pub(crate) fn graph_of(
             Ok(Some(graph))
         }
         Diagnosis::NotLowered(told) => unlowered_graph(alloc, names, told),
-        Diagnosis::TooManyTypes(crowd) => {
-            let program = crowd.sorted.program();
-            columns_graph(alloc, program, &crowd.too_many.overlap)
-        }
         Diagnosis::TooManyCombinations(throng) => {
             let program = throng.weighed.program();
             columns_graph(alloc, program, &throng.too_many.overlap)

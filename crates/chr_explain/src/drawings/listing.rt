@@ -42,7 +42,6 @@ fn spans_of(alloc: Global, text: &[u8], diagnosis: &Diagnosis) -> Result<Vec<Spa
         Diagnosis::Text(faults) => fault_spans(alloc, text, faults),
         Diagnosis::NotLowered(told) => rule_spans(alloc, text, told.fault.rule, told.fault.rule),
         Diagnosis::Fails(peak) => overlap_spans(alloc, text, &peak.first.failure.overlap),
-        Diagnosis::TooManyTypes(crowd) => overlap_spans(alloc, text, &crowd.too_many.overlap),
         Diagnosis::TooManyCombinations(throng) => {
             overlap_spans(alloc, text, &throng.too_many.overlap)
         }

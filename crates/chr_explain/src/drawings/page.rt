@@ -9,7 +9,7 @@ use crate::drawings::listing::push_listing;
 use crate::drawings::style::STYLE;
 use crate::drawings::ways_page::push_ways;
 use crate::drawings::ways_svg::push_ways_svg;
-use chr_diagnosis::{Diagnosis, Peak, Proposal};
+use chr_diagnosis::{Diagnosis, Judged, Peak, Proposal};
 use chr_faults::{Names, TextFaults};
 use chr_read::Fault;
 use chr_sentences::told_text;
@@ -33,7 +33,6 @@ fn push_verdict(out: &mut String, diagnosis: &Diagnosis) -> Result<(), AllocErro
         Diagnosis::Text(faults) => Ok(write!(out, "refused {}", first_fault(faults))?),
         Diagnosis::NotLowered(_) => out.push_str("refused 20"),
         Diagnosis::Fails(_) => out.push_str("refused 21"),
-        Diagnosis::TooManyTypes(_) => out.push_str("refused 22"),
         Diagnosis::TooManyCombinations(_) => out.push_str("refused 22"),
         Diagnosis::Accepted(_) => out.push_str("accepted"),
     }
@@ -126,10 +125,11 @@ fn push_words(out: &mut String, told: &str) -> Result<(), AllocError> {
 pub fn page_text(
     alloc: Global,
     text: &[u8],
-    diagnosis: &Diagnosis,
+    judged: &Judged,
     proposals: &[Proposal],
 ) -> Result<String, AllocError> {
-    let told = told_text(alloc, text, diagnosis, proposals, true)?;
+    let told = told_text(alloc, text, judged, proposals, true)?;
+    let diagnosis = &judged.diagnosis;
     let mut out = String::new(alloc);
     push_head(&mut out, diagnosis, told.as_str())?;
     push_listing(alloc, &mut out, text, diagnosis)?;

@@ -2,7 +2,6 @@ use Rattle.std.proofs.Common.{◌≡◌, ◌∙◌, map, string_bytes, refl}
 use Rattle.std.specs.Prelude.{◌⊎◌}
 use Rattle.std.specs.Process.{exit_status}
 use Rattle.chr_device.specs.Words.{verb_met, wide_met}
-use Rattle.chr_report.specs.Asked.{coverage_for}
 use Rattle.chr_report.specs.Wires.{reader_of, writer_of}
 use Rattle.chr_start.specs.Statuses.{wanted_met}
 use Rattle.chr_start.proofs.Ended.{neither_failed}
@@ -46,7 +45,7 @@ returns-in-Err g c =
             c.in-Err.ensures.refused c.refuse_words.ensures.memory;
         explained =
             λ none is.
-            memory_ends_explanation s _ whole (coverage_for (wide_met words)) words fault bytes none
+            memory_ends_explanation s _ whole (wide_met words) words fault bytes none
             c.in-Err.ensures.refused c.refuse_words.ensures.memory;
         refused =
             λ some.

@@ -1,8 +1,6 @@
 use Rattle.std.proofs.Common.{◌≡◌, rules, subst}
-use Rattle.chr_report.specs.Asked.{coverage_for}
 use Rattle.chr_report.specs.Lines.{lines, text_of}
 use Rattle.chr_report.specs.Wires.{reader_of}
-use Rattle.chr_diagnosis.specs.Verdicts.{IsVerdict}
 use Rattle.chr_start.proofs.VerdictEnds.{verdict_ends}
 use Rattle.chr_start.proofs.explained.explain_input.Goals as goal
 
@@ -11,9 +9,7 @@ returns-clause-ok g c =
     let input = c.in_ok-input.input.items in
     let text = c.program_text.result.now in
     let read : c.deref.result.now ≡ input = search rules in
-    let same : c.coverage_of-coverage.result ≡ coverage_for c.args.wide = c.coverage_of-coverage.ensures in
-    verdict_ends (coverage_for c.args.wide) (g.R.Read.remaining (reader_of c.args.streams.now)) text input
-    c.in_ok-explanation.explanation.verdict c.status_of.result
-    c.in_ok-input.ensures.ok (subst (λ i. text ≡ text_of (lines i)) read c.program_text.ensures)
-    (subst (λ k. IsVerdict k text c.in_ok-explanation.explanation.verdict) same c.in_ok-explanation.ensures.verdict)
-    c.status_of.ensures
+    let told = c.in_ok-explanation.explanation in
+    verdict_ends c.args.wide (g.R.Read.remaining (reader_of c.args.streams.now)) text input told.judged told.verdict
+    c.status_of.result c.in_ok-input.ensures.ok (subst (λ i. text ≡ text_of (lines i)) read c.program_text.ensures)
+    c.in_ok-explanation.ensures.told c.in_ok-explanation.ensures.verdict c.status_of.ensures
