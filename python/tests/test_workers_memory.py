@@ -20,7 +20,7 @@ SECONDS = 60
 ROOMS = (40, 110, 200, 600, None)
 """Limits of a run's address space in MiB. A thread's stack and heap take much of it, and of memory little."""
 
-WORKERS = (4, 16)
+WORKERS = (2, 4, 16)
 RUNS, MORE_RUNS = 2, 6
 """So many runs are made of each kind, and so many more at most, in turns with runs by one worker, until one takes no
 longer than it may: the machine does other work, which takes time of some runs."""
