@@ -357,8 +357,8 @@ fn text_diagnosis(alloc: Global, text: &[u8]) -> Result<Diagnosis, AllocError>
 }
 
 /// What is to be told of a text: its first bad clauses; or of the program that it is, the first rule that does not
-/// lower the weight, the first cause for which it is refused, or what was accepted: by sorted cases where `wide`, else by
-/// joint ones, and where an overlap has too many of these, by sorted ones.
+/// lower the weight, the first cause for which it is refused, or what was accepted: by sorted cases where `wide`, else
+/// by joint ones, and where an overlap has too many of these, by sorted ones.
 #[tactic(auto, using(crate::proofs::Verdicts::too_long_refused, crate::proofs::Verdicts::bad_refused))]
 pub fn diagnose(
     rt: &(impl Threads + Sync),
