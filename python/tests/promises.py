@@ -9,6 +9,7 @@ import weakref
 from collections import Counter
 from collections.abc import Callable, Iterator, Sequence
 from contextlib import contextmanager, suppress
+from functools import partial
 from typing import Any
 from unittest.mock import patch
 
@@ -216,6 +217,19 @@ class Outcomes(Links):
         twice = member.going_over(lambda: [member.tell(("mark", 7)), member.tell(("mark", 7))])
         self.assertEqual(twice[1].number, 5004)
         self.assertEqual(other.going_over(lambda: other.count("mark", 7)), 3)
+
+    def test_going_over_that_fails_tells_nothing_twice(self) -> None:
+        """What is raised where the log's new program can't be taken up says which operations are in the log."""
+        member, other = self.member(MARKED), self.member()
+        operations = marks(0, 5000)
+        tell = partial(self.tell_beside, member, operations, lambda: other.upgrade(LONGER))
+        for kind in (LinkLost, KeyboardInterrupt):
+            with patch.object(member, "rejoin", side_effect=kind("away")):
+                fault = self.raised_by(lambda: member.going_over(tell))
+            self.assertEqual((type(fault), len(fault.told), fault.unsure), (kind, 2000, ()))
+            tell = partial(member.tell_many, operations, after=fault)
+        self.assertEqual(len(member.going_over(tell)), 5000)
+        self.holds([], 5000)
 
     def test_a_full_log_in_the_middle_of_a_tell(self) -> None:
         with patch.object(Link, "room_limit", 2500):

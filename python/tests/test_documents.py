@@ -199,8 +199,8 @@ class Examples(unittest.TestCase):
         self.assertGreaterEqual(accepted, LEAST_ACCEPTED)
 
     def test_first_forms(self) -> None:
-        """What one writes first, and then, is refused, if only without `--wide`, and names the example of that name, which
-        is accepted."""
+        """What one writes first, and then, is refused, if only without `--wide`, and names the example of that name,
+        which is accepted."""
         rounds = [{form.stem.partition("_")[2]: form for form in FIRST_FORMS.glob(f"{it}_*.chr")} for it in ROUNDS]
         self.assertGreaterEqual(len(rounds[0]), LEAST_FIRST_FORMS)
         self.assertLessEqual(rounds[1].keys(), rounds[0].keys())

@@ -54,7 +54,7 @@ from .log import (
     one_line,
 )
 from .replica import Replica, Running
-from .telling import Batch, Journal, Operations, Tell, tell_of
+from .telling import Batch, Journal, Operations, Tell, leave_as, tell_of
 
 SNAPSHOT_AFTER = 100_000
 """Told atoms after which a snapshot is taken."""
@@ -332,9 +332,8 @@ class Member:
             while True:
                 try:
                     return call()
-                except ProgramChanged:
-                    # another thread may have been faster
-                    self.rejoin()
+                except ProgramChanged as changed:
+                    self._rejoin_after(changed)
                     journal.place = begin
 
     def listen(self, call: Callable[[Sequence[Entry]], object]) -> None:
@@ -362,6 +361,15 @@ class Member:
         self, kind: type[BaseException] | None, error: BaseException | None, trace: TracebackType | None
     ) -> None:
         self.close()
+
+    def _rejoin_after(self, changed: ProgramChanged) -> None:
+        """Goes on with the log's program, if another thread was not faster. What is raised says what became of a tell
+        that the change cut off."""
+        try:
+            self.rejoin()
+        except BaseException as fault:
+            leave_as(fault, changed)
+            raise
 
     @contextmanager
     def _journal(self) -> Iterator[Journal]:

@@ -70,6 +70,13 @@ class Tell:
             setattr(fault, name, value)
 
 
+def leave_as(fault: BaseException, before: BaseException) -> None:
+    """Has an exception say what the one before it said of a tell, where that was raised by one."""
+    tell = getattr(before, "tell", None)
+    if isinstance(tell, Tell):
+        tell.leave_by(fault)
+
+
 def tell_of(fault: BaseException, operations: Operations) -> Tell:
     """The tell that an exception has left. ValueError where it left none, or one of other operations."""
     tell = getattr(fault, "tell", None)
