@@ -2,10 +2,12 @@
 ended; and what ./check makes of that on a terminal."""
 
 import io
+import multiprocessing
 import sys
 import unittest
 from pathlib import Path
 from tempfile import TemporaryDirectory
+from unittest.mock import patch
 
 from running import Progress, Tally, run_at_once
 
@@ -65,6 +67,10 @@ class Running(unittest.TestCase):
         (Path(room.name) / "sample_of_tests.py").write_text(SAMPLE)
         sys.path.insert(0, room.name)
         self.addCleanup(sys.path.remove, room.name)
+        # where this test is run by one of several processes itself, that one may begin others all the same
+        changed = patch.dict(getattr(multiprocessing.current_process(), "_config"), daemon=False)
+        changed.start()
+        self.addCleanup(changed.stop)
 
     def ran(self, is_brief: bool, terminal: io.StringIO) -> tuple[Tally, str]:
         written = io.StringIO()
