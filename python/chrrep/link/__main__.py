@@ -12,10 +12,10 @@ import signal
 import sys
 import threading
 from collections.abc import Iterator
-from contextlib import AbstractContextManager, contextmanager, nullcontext
+from contextlib import AbstractContextManager, nullcontext
 from functools import partial
 from pathlib import Path
-from typing import NoReturn
+from typing import Self
 
 from .. import Atom, Refused, RefusedProgram
 from ..lines import Lines, text_of
@@ -41,8 +41,8 @@ def main(words: list[str] | None = None) -> int:
     and 143 after Ctrl-C and SIGTERM."""
     settings = _settings(words)
     try:
-        with _raising_terminated():
-            _run(settings)
+        with Signals() as signals:
+            _run(settings, signals)
     except KeyboardInterrupt:
         return INTERRUPTED
     except Terminated:
@@ -56,22 +56,40 @@ def main(words: list[str] | None = None) -> int:
     return ACCEPTED
 
 
-@contextmanager
-def _raising_terminated() -> Iterator[None]:
-    """Has a SIGTERM end what is done here as Ctrl-C does, so that all is closed."""
-    if threading.current_thread() is not threading.main_thread():
+class Signals:
+    """Ctrl-C and SIGTERM. Until the node is up they are raised where they come. Then they end what goes on, and are
+    raised once that has ended, since an exception in the middle of it could leave a lock held, or get lost. The second
+    one is raised at once."""
+
+    def __init__(self) -> None:
+        self._over: threading.Event | None = None
+        self._noticed: BaseException | None = None
+
+    def end(self, over: threading.Event) -> None:
+        """From now on has the first signal set the event."""
+        self._over = over
+
+    def raise_noticed(self) -> None:
+        if self._noticed:
+            raise self._noticed
+
+    def __enter__(self) -> Self:
         # no other thread gets signals
-        yield
-        return
-    before = signal.signal(signal.SIGTERM, _terminate)
-    try:
-        yield
-    finally:
-        signal.signal(signal.SIGTERM, before)
+        is_main = threading.current_thread() is threading.main_thread()
+        numbers = (signal.SIGINT, signal.SIGTERM) if is_main else ()
+        self._before = {number: signal.signal(number, self._notice) for number in numbers}
+        return self
 
+    def __exit__(self, *_: object) -> None:
+        for number, handler in self._before.items():
+            signal.signal(number, handler)
 
-def _terminate(*_: object) -> NoReturn:
-    raise Terminated
+    def _notice(self, number: int, _: object) -> None:
+        fault = KeyboardInterrupt() if number == signal.SIGINT else Terminated()
+        if self._over is None or self._noticed:
+            raise fault
+        self._noticed = fault
+        self._over.set()
 
 
 def _settings(words: list[str] | None) -> argparse.Namespace:
@@ -102,7 +120,7 @@ def _settings(words: list[str] | None) -> argparse.Namespace:
     return settings
 
 
-def _run(settings: argparse.Namespace) -> None:
+def _run(settings: argparse.Namespace, signals: Signals) -> None:
     engine = settings.engine or _beside(settings.program or settings.upgrade)
     options = {name: getattr(settings, name) for name in ("origin", "log", "patience", "snapshot_after")}
     is_wide = None if settings.upgrade else settings.wide or None
@@ -115,7 +133,7 @@ def _run(settings: argparse.Namespace) -> None:
         else:
             member.when_rejoined = partial(_say_program, member)
             with _page(member, settings.page):
-                _converse(member, settings.page is not None)
+                _converse(member, signals, settings.page is not None)
 
 
 def _page(member: Member, port: int | None) -> AbstractContextManager[object]:
@@ -140,9 +158,11 @@ def _beside(program: Path) -> str:
     return f"{PREFIX}{folder / program.stem}.sqlite"
 
 
-def _converse(member: Member, goes_on: bool) -> None:
-    """Follows the log until the input has ended, if it doesn't go on then, or something has failed."""
+def _converse(member: Member, signals: Signals, goes_on: bool) -> None:
+    """Follows the log until the input has ended, if it doesn't go on then, a signal has come, or something has
+    failed."""
     over = threading.Event()
+    signals.end(over)
     failures: list[BaseException] = []
 
     def answer_all() -> None:
@@ -157,6 +177,7 @@ def _converse(member: Member, goes_on: bool) -> None:
     threading.Thread(target=answer_all, daemon=True).start()
     while not over.is_set():
         member.going_over(lambda: member.follow(_LOOK_SECONDS))
+    signals.raise_noticed()
     if failures:
         raise failures[0]
 
