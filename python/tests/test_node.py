@@ -435,6 +435,8 @@ class Ends(unittest.TestCase):
         script = f"""
 import signal
 from chrrep import Node
+# whoever runs the tests in the background may have had it ignored
+signal.signal(signal.SIGINT, signal.default_int_handler)
 with Node({PLAIN!r}, 1) as node:
     node.tell(("a", 1))
     try:
