@@ -3,6 +3,7 @@
     python3 python/tests [--processes N] [--brief]
                                             those of texts, of nodes and of logs in a file; CHRREP names the program
     python3 python/tests engines            those of logs in Redis and PostgreSQL, which they start on this machine
+    python3 python/tests test_node ..       those of these modules
 
 With several processes each test runs by itself, or each module whose tests share much, as many at once, and what it
 writes is told when it has ended. With --brief only what fails is told, and how many have ended where standard error is
@@ -26,15 +27,8 @@ sys.dont_write_bytecode = True
 from running import run, run_at_once  # noqa: E402
 
 HERE = Path(__file__).resolve().parent
-RUNS = ["test_texts", "test_commands", "test_runs", "test_model", "test_verdicts", "test_lines"]
-EXPLAINED = ["test_explanations", "test_pages"]
-SHARED = ["test_workers"]
-READERS = ["test_documents"]
-TOOLS = ["test_more_edits", "test_believe", "test_running"]
-HOSTILE = ["test_devices", "test_memory", "test_stacks", "test_refused_calls", "test_costs", "test_workers_memory"]
-NODES = ["test_node", "test_names", "test_writing", "test_room", "test_asynchronous"]
-LOGS = ["test_embedded", "test_talks", "test_page", "test_lasting", "test_install", "test_launcher"]
-KINDS = {"node": [*RUNS, *EXPLAINED, *SHARED, *READERS, *TOOLS, *HOSTILE, *NODES, *LOGS], "engines": ["test_links"]}
+ENGINES = ["test_links"]
+"""Modules whose tests start servers of Redis and PostgreSQL."""
 
 LONGEST = [
     "test_install",
@@ -51,6 +45,16 @@ LONGEST = [
 
 WHOLE = ["test_install"]
 """Modules whose tests share what takes longer to make than to test: one process runs all of them."""
+
+
+def modules_of(words: list[str]) -> list[str]:
+    """The modules that these words name: those over engines, those that are given, or all but those over engines."""
+    modules = sorted(it.stem for it in HERE.glob("test_*.py"))
+    if words == ["engines"]:
+        return ENGINES
+    if unknown := [it for it in words if it not in modules]:
+        raise SystemExit(f"tests: there is no module {', '.join(unknown)}: engines, or some of {', '.join(modules)}")
+    return words or [it for it in modules if it not in ENGINES]
 
 
 def names_in(tests: unittest.TestSuite) -> Iterator[str]:
@@ -78,12 +82,12 @@ def tasks_of(tests: unittest.TestSuite) -> dict[str, int]:
 
 def main() -> int:
     words = argparse.ArgumentParser(description=__doc__, formatter_class=argparse.RawDescriptionHelpFormatter)
-    words.add_argument("kind", nargs="?", choices=[*KINDS], default="node")
+    words.add_argument("modules", nargs="*", metavar="MODULE")
     words.add_argument("--processes", type=int, default=1)
     words.add_argument("--brief", action="store_true")
     said = words.parse_args()
     sys.path[:0] = [str(HERE.parent), str(HERE)]
-    tests = unittest.defaultTestLoader.loadTestsFromNames(KINDS[said.kind])
+    tests = unittest.defaultTestLoader.loadTestsFromNames(modules_of(said.modules))
     if said.processes > 1 or said.brief:
         tally = run_at_once(tasks_of(tests), said.processes, said.brief, sys.stdout, sys.stderr)
     else:
